@@ -1,0 +1,3 @@
+-- The definitions of the sorts layer, in the order of document 01.
+pub mod Tree
+pub mod Order
