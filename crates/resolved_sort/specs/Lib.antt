@@ -1,3 +1,8 @@
 -- The definitions of the sorts layer, in the order of document 01.
 pub mod Tree
 pub mod Order
+pub mod Interning
+pub mod Storage
+pub mod Checks
+pub mod Entries
+pub mod Rows

@@ -51,3 +51,40 @@ pub enum Widening {
     Distance { head: u8, interior: u8 },
     Nothing,
 }
+
+// How much of the sort storage is in use: rows, and argument entries.
+pub struct Counts {
+    pub sorts: u16,
+    pub entries: u16,
+}
+
+// What interning a sort, and what join and meet answer: the sort and the counts after it, none (with what was made on
+// the way kept), or no room for a new sort.
+pub enum Joined {
+    At(SortId, Counts),
+    Nothing(Counts),
+    Full,
+}
+
+// What the entries answer. A refusal is the code of the first failing check of document 01; nothing is changed.
+pub enum Compared {
+    Refused(u16),
+    Ordered(PartialOrder),
+}
+
+pub enum Bounded {
+    Refused(u16),
+    Sort(SortId, Counts),
+    Nothing(Counts),
+    NoRoom,
+}
+
+pub enum Measured {
+    Refused(u16),
+    Steps(Widening),
+}
+
+pub enum Materialized {
+    Refused(u16),
+    Answer(bool),
+}

@@ -1,0 +1,53 @@
+-- Interning as the code does it, on rows: a scan for an equal row, else one more row. The law that this is interning by
+-- structure stands in proofs/.
+use mathlib.Core.Bool.{Bool, true, false, cond, _&&_}
+use mathlib.Core.List.{List, [], _∷_}
+use Prim.Native.Nat.{ℕ, zero, suc, _+_, _≤_}
+use lib.ListN.{length}
+use lib.Dec.{eqb, leb, ltb}
+use mathlib.Core.Path.{_≡_}
+use Rattle.resolved_sort.specs.declared.Counts.{Counts}
+use Rattle.resolved_sort.specs.declared.Joined.{Joined}
+use Rattle.resolved_sort.specs.declared.Joined.the-variants.{At, Nothing, Full}
+use Rattle.resolved_sort.specs.Storage.{maxSorts, maxEntries, fullLength, Row, wordsAt, appendRow}
+use Rattle.resolved_sort.specs.Checks.{rowsFine, noTwoEqual}
+use Rattle.resolved_sort.specs.Entries.{Stored}
+
+-- What the checks before a call have shown of the lent words: n sorts and e entries that pass checks 1, 3, 4 and 14.
+pub record Checked (ws : List ℕ) (n e : ℕ) : Type 0 where
+  pub long : fullLength ≤ length ws
+  pub sorts : n ≤ maxSorts
+  pub entries : e ≤ maxEntries
+  pub fine : rowsFine ws n e ≡ true
+  pub differ : noTwoEqual ws n ≡ true
+
+unfoldable pub sameWords : List ℕ → List ℕ → Bool
+sameWords [] [] = true
+sameWords [] (y ∷ ys) = false
+sameWords (x ∷ xs) [] = false
+sameWords (x ∷ xs) (y ∷ ys) = eqb x y && sameWords xs ys
+
+unfoldable pub sameRow : Row → Row → Bool
+sameRow r s = eqb (r .kind) (s .kind) && eqb (r .part) (s .part) && sameWords (r .args) (s .args)
+
+-- the first of the k numbers from i on that p holds of, i + k where there is none
+unfoldable pub firstFrom : (ℕ → Bool) → ℕ → ℕ → ℕ
+firstFrom p zero i = i
+firstFrom p (suc k) i = cond (p i) i (firstFrom p k (i + 1))
+
+-- the first row below n that is equal to r, n where there is none
+unfoldable pub findRow : List ℕ → ℕ → Row → ℕ
+findRow ws n r = firstFrom (λ i. sameRow (wordsAt ws i) r) n 0
+
+abbrev pub storedAt : List ℕ → Joined → Stored
+storedAt ws r = record { words = ws; answer = r }
+
+abbrev pub at : ℕ → ℕ → ℕ → Joined
+at i n e = At (record { 0 = i }) (record { sorts = n; entries = e })
+
+unfoldable pub internRow : List ℕ → ℕ → ℕ → Row → Stored
+internRow ws n e r =
+    cond (ltb (findRow ws n r) n) (storedAt ws (at (findRow ws n r) n e))
+    (cond (ltb n maxSorts && leb (e + length (r .args)) maxEntries)
+    (storedAt (appendRow ws n e r) (at n (n + 1) (e + length (r .args))))
+    (storedAt ws Full))
