@@ -1,0 +1,4 @@
+-- The laws of the sorts layer.
+pub mod Heads
+pub mod Same
+pub mod Order
