@@ -12,6 +12,7 @@ use Rattle.resolved_sort.specs.declared.Sort.{Sort}
 use Rattle.resolved_sort.specs.declared.ComplexSort.{ComplexSort}
 use Rattle.resolved_sort.specs.Tree.{Flat, unit, primitive, def, typevar, family, level, familyOp, levelOp, sameFlat, sameOp}
 use Rattle.resolved_sort.specs.Order.{leLevel, leFlat, leOp, boundFlat, boundOp}
+use Rattle.resolved_sort.proofs.Least.{LeastBound}
 
 -- A level at or beyond another in a direction.
 abbrev pub Reaches : Bool → ℕ → ℕ → Type 0
@@ -51,11 +52,6 @@ eqb-flips m n = go (eqb m n) refl (eqb n m) refl
     go false e true f = absurd (eqb-false m n e (sym (eqb-true n m f)))
     go false e false f = refl
 
--- The least of the bounds of a and b under R; none where they have no bound.
-abbrev pub LeastBound : {A : Type 0} → (A → A → Type 0) → A → A → Option A → Type 0
-LeastBound R a b none = (c : _) → R a c → R b c → ⊥
-LeastBound R a b (some u) = R a u × R b u × ((c : _) → R a c → R b c → R u c)
-
 abbrev pub leHead : {A : Type 0} → (A → ℕ) → (A → ℕ) → Bool → A → A → Bool
 leHead family level up a b = eqb (family a) (family b) && leLevel up (level a) (level b)
 
@@ -92,9 +88,9 @@ module _ {A : Type 0} (family level : A → ℕ) (up : Bool) where
     where
       go : (x : Bool) → eqb (family a) (family b) ≡ x → (y : Bool) → leLevel up (level a) (level b) ≡ y
           → LeastBound (λ a b. leHead family level up a b ≡ true) a b (cond x (some (cond y b a)) none)
-      go false e y f = λ c p q. eqb-false _ _ e (head-exactly a c .0 p .0 ∙ sym (head-exactly b c .0 q .0))
-      go true e true f = (rw (e, f), head-refl b, λ c p q. q)
-      go true e false f = (head-refl a, head-exactly b a .1 (sym (eqb-true _ _ e), reaches-total up _ _ f), λ c p q. p)
+      go false e y f = λ c p. eqb-false _ _ e (head-exactly a c .0 (p .0) .0 ∙ sym (head-exactly b c .0 (p .1) .0))
+      go true e true f = ((rw (e, f), head-refl b), λ c p. p .1)
+      go true e false f = ((head-refl a, head-exactly b a .1 (sym (eqb-true _ _ e), reaches-total up _ _ f)), λ c p. p .0)
 
 -- Family and level determine the head: it can be computed from them.
 number : ℕ → Sort

@@ -1,4 +1,6 @@
 -- The laws of the sorts layer.
+pub mod Least
 pub mod Heads
 pub mod Same
 pub mod Order
+pub mod Bounds
