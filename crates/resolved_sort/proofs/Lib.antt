@@ -1,2 +1,9 @@
+-- The laws of the sorts layer.
 pub mod Examples
+pub mod Least
+pub mod Heads
+pub mod Same
+pub mod Order
+pub mod Bounds
 pub mod Trees
+pub mod Numbers
