@@ -5,5 +5,7 @@ pub mod Heads
 pub mod Same
 pub mod Order
 pub mod Bounds
+pub mod Below
 pub mod Trees
 pub mod Numbers
+pub mod RowTrees
