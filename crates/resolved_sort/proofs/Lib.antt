@@ -9,3 +9,6 @@ pub mod Below
 pub mod Trees
 pub mod Numbers
 pub mod RowTrees
+pub mod Interned
+pub mod Fine
+pub mod Append

@@ -34,7 +34,8 @@ pub record Within (l : ℕ) (r : Row) : Type 0 where
   pub no-run : (r .kind ≡ functionKind → ⊥) → r .args ≡ []
   pub args : AllBelow l (r .args)
 
-by-kind : (P : ℕ → Type 0) → P 0 → P 1 → P 2 → P 3 → P 4 → P 5 → P 6 → P 7 → P 8 → P 9 → P 10 → P 11 → P 12 → P 13 → (k : ℕ) → k ≤ lastKind → P k
+-- case by case over the kinds
+pub by-kind : (P : ℕ → Type 0) → P 0 → P 1 → P 2 → P 3 → P 4 → P 5 → P 6 → P 7 → P 8 → P 9 → P 10 → P 11 → P 12 → P 13 → (k : ℕ) → k ≤ lastKind → P k
 by-kind P p0 p1 p2 p3 p4 p5 p6 p7 p8 p9 p10 p11 p12 p13 zero h = p0
 by-kind P p0 p1 p2 p3 p4 p5 p6 p7 p8 p9 p10 p11 p12 p13 (suc zero) h = p1
 by-kind P p0 p1 p2 p3 p4 p5 p6 p7 p8 p9 p10 p11 p12 p13 (suc (suc zero)) h = p2
@@ -51,7 +52,7 @@ by-kind P p0 p1 p2 p3 p4 p5 p6 p7 p8 p9 p10 p11 p12 p13 (suc (suc (suc (suc (suc
 by-kind P p0 p1 p2 p3 p4 p5 p6 p7 p8 p9 p10 p11 p12 p13 (suc (suc (suc (suc (suc (suc (suc (suc (suc (suc (suc (suc (suc zero))))))))))))) h = p13
 by-kind P p0 p1 p2 p3 p4 p5 p6 p7 p8 p9 p10 p11 p12 p13 (suc (suc (suc (suc (suc (suc (suc (suc (suc (suc (suc (suc (suc (suc k)))))))))))))) h = absurd (omega arith)
 
-abbrev row : ℕ → ℕ → List ℕ → Row
+abbrev pub row : ℕ → ℕ → List ℕ → Row
 row k p xs = record { kind = k; part = p; args = xs }
 
 pub numbers-lookAll : (T : List Tree) (xs : List ℕ) → distinct T ≡ true → AllBelow (length T) xs → numbers T (lookAll T xs) ≡ xs
@@ -150,17 +151,17 @@ below-run ws i s (suc c) h = (
 )
 
 module _ (ws : List ℕ) (e i p s c : ℕ) where
-  abbrev read : ℕ → Row
+  abbrev pub read : ℕ → Row
   read k = row k (cond (ltb k 6) 0 p) (cond (eqb k functionKind) (entriesOf ws s c) [])
 
   abbrev Fine : ℕ → Type 0
   Fine k = partsBelow ws e i (resolved k p (record { start = s; count = c })) ≡ true → Within i (read k)
 
-  plain-within : (k : ℕ) → k < 6 → Within i (row k 0 [])
+  pub plain-within : (k : ℕ) → k < 6 → Within i (row k 0 [])
   unfolding AllBelow
   plain-within k h = record { known = omega arith; plain = λ l. refl; part = λ l m. absurd (omega arith); no-run = λ n. refl; args = tt }
 
-  container-within : (k : ℕ) → 6 ≤ k → k < 11 → ltb p i ≡ true → Within i (row k p [])
+  pub container-within : (k : ℕ) → 6 ≤ k → k < 11 → ltb p i ≡ true → Within i (row k p [])
   unfolding AllBelow
   container-within k h l t = record { known = omega arith; plain = λ l. absurd (omega arith); part = λ l m. ltb-true p i t; no-run = λ n. refl; args = tt }
 
@@ -176,7 +177,7 @@ module _ (ws : List ℕ) (e i p s c : ℕ) where
         args = below-run ws i s c (λ j l. ltb-true _ _ (below-each c (λ j. ltb (entryAt ws (s + j)) i) (u .1) j l));
       }
 
-  named-within : (k : ℕ) → 11 < k → k ≤ 13 → Within i (row k p [])
+  pub named-within : (k : ℕ) → 11 < k → k ≤ 13 → Within i (row k p [])
   unfolding AllBelow
   named-within k h m = record { known = omega arith; plain = λ l. absurd (omega arith); part = λ l m. absurd (omega arith); no-run = λ n. refl; args = tt }
 
@@ -204,3 +205,38 @@ unfolding rowFine
 row-within ws e i h =
     let p = and-eq-true-iff (leb (kindAt ws i) lastKind) (partsBelow ws e i (rowAt ws i)) .0 h in
     fine-within ws e i (partAt ws i) (startAt ws i) (countAt ws i) (kindAt ws i) (leb-true _ _ (p .0)) (p .1)
+
+-- two lists that agree below l give a row with parts below l one sort
+pub lookAll-agrees : (T U : List Tree) (l : ℕ) → ((x : ℕ) → x < l → look T x ≡ look U x) → (xs : List ℕ) → AllBelow l xs → lookAll T xs ≡ lookAll U xs
+unfolding lookAll AllBelow
+lookAll-agrees T U l h [] b = refl
+lookAll-agrees T U l h (x ∷ xs) b = ap₂ arg (h x (b .0)) (lookAll-agrees T U l h xs (b .1))
+
+pub treeOf-agrees : (T U : List Tree) (l : ℕ) → ((x : ℕ) → x < l → look T x ≡ look U x) → (r : Row) → Within l r → treeOf T r ≡ treeOf U r
+unfolding treeOf
+treeOf-agrees T U l h r w =
+    by-kind (λ k. (p : ℕ) (xs : List ℕ) → Within l (row k p xs) → treeOf T (row k p xs) ≡ treeOf U (row k p xs))
+    (λ p xs w. refl)
+    (λ p xs w. refl)
+    (λ p xs w. refl)
+    (λ p xs w. refl)
+    (λ p xs w. refl)
+    (λ p xs w. refl)
+    (λ p xs w. ap (container ComplexSort.List) (h p (w .part (omega arith) (omega arith))))
+    (λ p xs w. ap (container ComplexSort.Set) (h p (w .part (omega arith) (omega arith))))
+    (λ p xs w. ap (container ComplexSort.FSet) (h p (w .part (omega arith) (omega arith))))
+    (λ p xs w. ap (container ComplexSort.Bag) (h p (w .part (omega arith) (omega arith))))
+    (λ p xs w. ap (container ComplexSort.FBag) (h p (w .part (omega arith) (omega arith))))
+    (λ p xs w. ap₂ function (lookAll-agrees T U l h xs (w .args)) (h p (w .part (omega arith) (omega arith))))
+    (λ p xs w. refl)
+    (λ p xs w. refl)
+    (r .kind) (w .known) (r .part) (r .args) w
+
+weaken-all : (l m : ℕ) (xs : List ℕ) → l ≤ m → AllBelow l xs → AllBelow m xs
+unfolding AllBelow
+weaken-all l m [] h b = tt
+weaken-all l m (x ∷ xs) h b = (omega (arith, b .0), weaken-all l m xs h (b .1))
+
+pub within-longer : (l m : ℕ) (r : Row) → l ≤ m → Within l r → Within m r
+within-longer l m r h w =
+    record { known = w .known; plain = w .plain; part = λ a b. omega (arith, w .part a b); no-run = w .no-run; args = weaken-all l m (r .args) h (w .args) }
