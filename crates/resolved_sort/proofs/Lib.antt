@@ -4,3 +4,4 @@ pub mod Heads
 pub mod Same
 pub mod Order
 pub mod Bounds
+pub mod Distance
