@@ -75,7 +75,7 @@ mutual
   distance-of-equal up (container o s) = rw (head-refl familyOp levelOp up o, apart-self up (levelOp o), distance-of-equal up s)
   distance-of-equal up (function ss r) = rw (distances-of-equal (not up) ss, distance-of-equal up r)
 
-  distances-of-equal : (up : Bool) (ss : Trees) → distances up ss ss ≡ some 0
+  pub distances-of-equal : (up : Bool) (ss : Trees) → distances up ss ss ≡ some 0
   distances-of-equal up end = refl
   distances-of-equal up (arg s ss) = rw (distance-of-equal up s, distances-of-equal up ss)
 
@@ -117,7 +117,7 @@ apart-stops : (up : Bool) (l m : ℕ) → l ≤ 3 → m ≤ 3 → apart up l m �
 apart-stops true l m h k = omega arith
 apart-stops false l m h k = omega arith
 
-steps : {h k i j : ℕ} → h ≡ k → i ≡ j → _≡_ {A = Steps} (record { head = h; interior = i }) (record { head = k; interior = j })
+pub steps : {h k i j : ℕ} → h ≡ k → i ≡ j → _≡_ {A = Steps} (record { head = h; interior = i }) (record { head = k; interior = j })
 steps p q = λ i. record { head = p i; interior = q i }
 
 mutual

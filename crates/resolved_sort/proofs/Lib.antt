@@ -5,3 +5,4 @@ pub mod Same
 pub mod Order
 pub mod Bounds
 pub mod Distance
+pub mod Materializable
