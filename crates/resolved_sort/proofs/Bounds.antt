@@ -1,15 +1,15 @@
 -- Join and meet are the least upper and the greatest lower bound, and exist exactly if some bound exists: one law over the
 -- direction. The least bounds of a sort's parts make the sort's; the parts of flat sorts are heads. Assumes nothing.
-use mathlib.Core.Path.{_≡_, refl, sym, ap, ap₂, _∙_}
+use mathlib.Core.Path.{_≡_, refl, _∙_}
 use mathlib.Core.Bool.{Bool, true, false, not}
 use mathlib.Core.Option.{Option, none, some, bind}
 use mathlib.Core.Logic.{_↔_}
-use Prim.Native.Nat.{ℕ, _+_}
+use Prim.Native.Nat.{ℕ}
 use native.Mathlib.Omega.{arith}
 use Rattle.resolved_sort.specs.declared.ComplexSort.{ComplexSort}
 use Rattle.resolved_sort.specs.Tree.{Flat, Tree, flat, container, function, Trees, end, arg, arity}
 use Rattle.resolved_sort.specs.Order.{leFlat, leOp, le, bound, bounds, boundFlat, boundOp, join, meet, map₁}
-use Rattle.resolved_sort.proofs.Least.{Least, LeastBound, least-moves, least-of-same, least-unique, least-of-two, least-of-three}
+use Rattle.resolved_sort.proofs.Least.{LeastBound, least-moves, least-of-same, least-unique, least-of-two, least-of-three}
 use Rattle.resolved_sort.proofs.Heads.{flat-bound, op-bound}
 use Rattle.resolved_sort.proofs.Order.{Le, flats, containers, functions, Les, ends, args, le-exactly, le-refl, le-trans, le-antisym, le-flips}
 

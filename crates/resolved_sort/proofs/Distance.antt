@@ -1,18 +1,18 @@
 -- A distance exists exactly where the first sort is equal to or below the second, is (0, 0) between equal sorts, and is the
 -- exact distance stopped once: stopping at each level equals stopping the whole sum. By the clauses of `distance`; levels are
 -- at most 3, so a head never stops. Assumes nothing.
-use mathlib.Core.Path.{_≡_, refl, sym, ap, ap₂, _∙_}
+use mathlib.Core.Path.{_≡_, refl, ap, ap₂, _∙_}
 use mathlib.Core.Bool.{Bool, true, false, not, _&&_, and-true, false≢true}
 use mathlib.Core.Option.{Option, none, some}
 use mathlib.Core.Logic.{_↔_}
-use Prim.Native.Nat.{ℕ, _+_, _-_, min, _≤_}
+use Prim.Native.Nat.{ℕ, min, _≤_}
 use native.Mathlib.Omega.{arith}
 use Rattle.resolved_sort.specs.declared.Sort.{Sort}
 use Rattle.resolved_sort.specs.declared.ComplexSort.{ComplexSort}
 use Rattle.resolved_sort.specs.Tree.{Flat, unit, primitive, def, typevar, Tree, flat, container, function, Trees, end, arg, family, level, familyOp, levelOp}
-use Rattle.resolved_sort.specs.Order.{leFlat, leOp, le, les, Steps, apart, given, all, sum, most, map₁, map₂, distance, distances}
-use Rattle.resolved_sort.specs.Exact.{total, exact, exacts, stopped}
-use Rattle.resolved_sort.proofs.Heads.{head-refl}
+use Rattle.resolved_sort.specs.Order.{leFlat, leOp, le, les, Steps, apart, given, most, map₁, map₂, distance, distances}
+use Rattle.resolved_sort.specs.Exact.{exact, exacts, stopped}
+use Rattle.resolved_sort.proofs.Heads.{head-refl, head-flips}
 
 -- Where there is an answer.
 abbrev present : {A : Type 0} → Option A → Bool
@@ -61,6 +61,31 @@ mutual
 
 pub distance-exists-exactly : (up : Bool) (s t : Tree) → ((d : Steps) × (distance up s t ≡ some d)) ↔ (le up s t ≡ true)
 distance-exists-exactly up s t = rw (← present-distance up s t) (present-exactly (distance up s t))
+
+-- The two directions are each other's converse.
+apart-flips : (up : Bool) (l m : ℕ) → apart up l m ≡ apart (not up) m l
+apart-flips true l m = refl
+apart-flips false l m = refl
+
+mutual
+  unfolding distance
+
+  pub distance-flips : (up : Bool) (s t : Tree) → distance up s t ≡ distance (not up) t s
+  distance-flips up (flat a) (flat b) = rw (head-flips family level up a b, apart-flips up (level a) (level b))
+  distance-flips up (flat a) (container p t) = refl
+  distance-flips up (flat a) (function ts u) = refl
+  distance-flips up (container o s) (flat b) = refl
+  distance-flips up (container o s) (container p t) = rw (head-flips familyOp levelOp up o p, apart-flips up (levelOp o) (levelOp p), distance-flips up s t)
+  distance-flips up (container o s) (function ts u) = refl
+  distance-flips up (function ss r) (flat b) = refl
+  distance-flips up (function ss r) (container p t) = refl
+  distance-flips up (function ss r) (function ts u) = rw (distances-flip (not up) ss ts, distance-flips up r u)
+
+  pub distances-flip : (up : Bool) (ss ts : Trees) → distances up ss ts ≡ distances (not up) ts ss
+  distances-flip up end end = refl
+  distances-flip up end (arg t ts) = refl
+  distances-flip up (arg s ss) end = refl
+  distances-flip up (arg s ss) (arg t ts) = rw (distance-flips up s t, distances-flip up ss ts)
 
 -- Equal sorts.
 apart-self : (up : Bool) (l : ℕ) → apart up l l ≡ 0
@@ -136,7 +161,7 @@ mutual
   distance-stops-once up (function ss r) (function ts u) =
       rw (distances-stop-once (not up) ss ts, distance-stops-once up r u) (map-map₂ _ (min most) stopped stopped _ (λ n d. steps refl (omega arith)) (exacts (not up) ss ts) (exact up r u))
 
-  distances-stop-once : (up : Bool) (ss ts : Trees) → distances up ss ts ≡ map₁ (min most) (exacts up ss ts)
+  pub distances-stop-once : (up : Bool) (ss ts : Trees) → distances up ss ts ≡ map₁ (min most) (exacts up ss ts)
   distances-stop-once up end end = refl
   distances-stop-once up end (arg t ts) = refl
   distances-stop-once up (arg s ss) end = refl

@@ -3,7 +3,7 @@
 use mathlib.Core.Path.{_≡_, refl, ap}
 use mathlib.Core.Option.{Option, none, some, bind}
 use mathlib.Core.Logic.{_↔_}
-use Rattle.resolved_sort.specs.Order.{map₁, map₂}
+use Rattle.resolved_sort.specs.Order.{map₂}
 
 abbrev pub Least : {A : Type 0} → (A → A → Type 0) → (A → Type 0) → Option A → Type 0
 Least R P none = (c : _) → P c → ⊥

@@ -6,3 +6,4 @@ pub mod Order
 pub mod Bounds
 pub mod Distance
 pub mod Materializable
+pub mod Reference

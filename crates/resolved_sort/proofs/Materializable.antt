@@ -1,14 +1,14 @@
 -- Materializable is a partial order inside "equal to or below", and how far a materializable pair is apart. The test is read
 -- as a relation with a rule for each kind of sort. Assumes nothing.
-use mathlib.Core.Path.{_≡_, refl, sym, ap, ap₂, _∙_}
-use mathlib.Core.Bool.{Bool, true, false, not, _&&_, and-eq-true-iff, false≢true}
-use mathlib.Core.Option.{Option, none, some}
+use mathlib.Core.Path.{_≡_, refl, sym, ap}
+use mathlib.Core.Bool.{Bool, true, false, and-eq-true-iff, false≢true}
+use mathlib.Core.Option.{some}
 use mathlib.Core.Logic.{_↔_}
-use Prim.Native.Nat.{ℕ, _+_, _-_, min}
+use Prim.Native.Nat.{ℕ, _-_}
 use native.Mathlib.Omega.{arith}
 use Rattle.resolved_sort.specs.declared.Sort.{Sort}
 use Rattle.resolved_sort.specs.declared.ComplexSort.{ComplexSort}
-use Rattle.resolved_sort.specs.Tree.{Flat, primitive, Tree, flat, container, function, Trees, end, arg, family, level, familyOp, levelOp, same, sames}
+use Rattle.resolved_sort.specs.Tree.{Flat, primitive, Tree, flat, container, function, Trees, end, arg, family, level, familyOp, levelOp, same}
 use Rattle.resolved_sort.specs.Order.{leFlat, leOp, le, Steps, all, distance, materializable}
 use Rattle.resolved_sort.proofs.Heads.{head-refl, head-trans}
 use Rattle.resolved_sort.proofs.Same.{same-exactly, sames-exactly}
