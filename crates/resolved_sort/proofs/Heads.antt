@@ -52,6 +52,7 @@ eqb-flips m n = go (eqb m n) refl (eqb n m) refl
     go false e true f = absurd (eqb-false m n e (sym (eqb-true n m f)))
     go false e false f = refl
 
+-- `leFlat` and `leOp`, `boundFlat` and `boundOp`, over any heads with families and levels.
 abbrev pub leHead : {A : Type 0} → (A → ℕ) → (A → ℕ) → Bool → A → A → Bool
 leHead family level up a b = eqb (family a) (family b) && leLevel up (level a) (level b)
 

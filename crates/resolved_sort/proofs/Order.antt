@@ -10,6 +10,7 @@ use Rattle.resolved_sort.specs.Tree.{Flat, Tree, flat, container, functi
 use Rattle.resolved_sort.specs.Order.{leFlat, leOp, le, les, order, orderOf}
 use Rattle.resolved_sort.proofs.Heads.{head-refl, head-trans, head-flips, head-antisym, flat-injective, op-injective}
 
+-- The rules: flat sorts by heads, containers by operator and part, functions by arguments the other way and range.
 mutual
   pub data Le : Bool → Tree → Tree → Type 0 where
     flats : {up : Bool} {a b : Flat} → leFlat up a b ≡ true → Le up (flat a) (flat b)
