@@ -1,15 +1,15 @@
 -- Join and meet are the least upper and the greatest lower bound, and exist exactly if some bound exists: one law over the
 -- direction. The least bounds of a sort's parts make the sort's; the parts of flat sorts are heads. Assumes nothing.
-use mathlib.Core.Path.{_≡_, refl, sym, ap, ap₂, _∙_}
+use mathlib.Core.Path.{_≡_, refl, _∙_}
 use mathlib.Core.Bool.{Bool, true, false, not}
 use mathlib.Core.Option.{Option, none, some, bind}
 use mathlib.Core.Logic.{_↔_}
-use Prim.Native.Nat.{ℕ, _+_}
+use Prim.Native.Nat.{ℕ}
 use native.Mathlib.Omega.{arith}
 use Rattle.resolved_sort.specs.declared.ComplexSort.{ComplexSort}
 use Rattle.resolved_sort.specs.Tree.{Flat, Tree, flat, container, function, Trees, end, arg, arity}
 use Rattle.resolved_sort.specs.Order.{leFlat, leOp, le, bound, bounds, boundFlat, boundOp, join, meet, map₁}
-use Rattle.resolved_sort.proofs.Least.{Least, LeastBound, least-moves, least-of-same, least-unique, least-of-two, least-of-three}
+use Rattle.resolved_sort.proofs.Least.{LeastBound, least-moves, least-of-same, least-unique, least-of-two, least-of-three}
 use Rattle.resolved_sort.proofs.Heads.{flat-bound, op-bound}
 use Rattle.resolved_sort.proofs.Order.{Le, flats, containers, functions, Les, ends, args, le-exactly, le-refl, le-trans, le-antisym, le-flips}
 
@@ -73,6 +73,7 @@ mutual
   Les-bound up (arg s ss) (arg t ts) =
       least-of-two (Le up) (Les up) (Les up) arg (λ s t ss ts. args) (beyond-args up) s t ss ts (bound up s t) (bounds up ss ts) (Le-bound up s t) (Les-bound up ss ts)
 
+-- The order as a relation.
 abbrev pub IsLe : Bool → Tree → Tree → Type 0
 IsLe up s t = le up s t ≡ true
 
@@ -127,3 +128,12 @@ module _ (s t : Tree) where
   meet-is-greatest v p q =
       let h = bound-is-least false s t v (le-flips false s v ∙ p) (le-flips false t v ∙ q) in
       (h .0, h .1, le-flips true v (h .0) ∙ h .2)
+
+  pub join-exists-exactly : ((u : Tree) × (join s t ≡ some u)) ↔ ((v : Tree) × (le true s v ≡ true) × (le true t v ≡ true))
+  join-exists-exactly = bound-exists-exactly true s t
+
+  pub meet-exists-exactly : ((u : Tree) × (meet s t ≡ some u)) ↔ ((v : Tree) × (le true v s ≡ true) × (le true v t ≡ true))
+  meet-exists-exactly = (
+    λ h. let k = meet-is-lower (h .0) (h .1) in (h .0, k .0, k .1),
+    λ h. let k = meet-is-greatest (h .0) (h .1) (h .2) in (k .0, k .1),
+  )

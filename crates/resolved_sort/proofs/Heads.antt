@@ -4,9 +4,9 @@ use mathlib.Core.Path.{_≡_, refl, sym, ap, ap₂, _∙_}
 use mathlib.Core.Bool.{Bool, true, false, cond, not, _&&_, and-eq-true-iff}
 use mathlib.Core.Option.{Option, none, some}
 use mathlib.Core.Logic.{_↔_}
-use Prim.Native.Nat.{ℕ, _+_, _*_, _-_, _/_, _%_, _≤_, _<_}
+use Prim.Native.Nat.{ℕ, _+_, _*_, _-_, _/_, _%_, _≤_}
 use native.Mathlib.Omega.{arith}
-use lib.Dec.{eqb, leb}
+use lib.Dec.{eqb}
 use borrow.Author.Tests.{eqb-true, eqb-false, leb-true, leb-false, eq-eqb, ne-eqb, le-leb}
 use Rattle.resolved_sort.specs.declared.Sort.{Sort}
 use Rattle.resolved_sort.specs.declared.ComplexSort.{ComplexSort}
@@ -52,6 +52,7 @@ eqb-flips m n = go (eqb m n) refl (eqb n m) refl
     go false e true f = absurd (eqb-false m n e (sym (eqb-true n m f)))
     go false e false f = refl
 
+-- `leFlat` and `leOp`, `boundFlat` and `boundOp`, over any heads with families and levels.
 abbrev pub leHead : {A : Type 0} → (A → ℕ) → (A → ℕ) → Bool → A → A → Bool
 leHead family level up a b = eqb (family a) (family b) && leLevel up (level a) (level b)
 

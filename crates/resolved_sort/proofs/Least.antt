@@ -1,9 +1,9 @@
 -- The least of what has a property, as an answer that may be none: there is at most one, and how those of two parts, and of
--- three elements, are made. For any order; what each law asks of it is a parameter.
+-- three elements, are made. For any relation; what a law asks of it is a parameter. Assumes nothing else.
 use mathlib.Core.Path.{_≡_, refl, ap}
 use mathlib.Core.Option.{Option, none, some, bind}
 use mathlib.Core.Logic.{_↔_}
-use Rattle.resolved_sort.specs.Order.{map₁, map₂}
+use Rattle.resolved_sort.specs.Order.{map₂}
 
 abbrev pub Least : {A : Type 0} → (A → A → Type 0) → (A → Type 0) → Option A → Type 0
 Least R P none = (c : _) → P c → ⊥
@@ -37,6 +37,7 @@ module _ {A : Type 0} (R : A → A → Type 0) where
       back : (d : A) → R a d × R b d × R c d → R u d × R c d
       back d p = (h .1 d (p .0, p .1), p .2)
 
+-- the same under a relation that says the same
 pub least-moves : {A : Type 0} (R S : A → A → Type 0) → ((a b : A) → S a b ↔ R a b) → (a b : A) (x : Option A) → LeastBound R a b x → LeastBound S a b x
 least-moves R S same a b none h = λ c p. h c (same a c .0 (p .0), same b c .0 (p .1))
 least-moves R S same a b (some u) h =

@@ -10,6 +10,7 @@ use Rattle.resolved_sort.specs.Tree.{Flat, Tree, flat, container, functi
 use Rattle.resolved_sort.specs.Order.{leFlat, leOp, le, les, order, orderOf}
 use Rattle.resolved_sort.proofs.Heads.{head-refl, head-trans, head-flips, head-antisym, flat-injective, op-injective}
 
+-- The rules: flat sorts by heads, containers by operator and part, functions by arguments the other way and range.
 mutual
   pub data Le : Bool → Tree → Tree → Type 0 where
     flats : {up : Bool} {a b : Flat} → leFlat up a b ≡ true → Le up (flat a) (flat b)
@@ -56,12 +57,12 @@ pub le-exactly : (up : Bool) (s t : Tree) → (le up s t ≡ true) ↔ Le up s t
 le-exactly up s t = (to-le up s t, from-le)
 
 mutual
-  Le-refl : (up : Bool) (s : Tree) → Le up s s
+  pub Le-refl : (up : Bool) (s : Tree) → Le up s s
   Le-refl up (flat a) = flats (head-refl family level up a)
   Le-refl up (container o s) = containers (head-refl familyOp levelOp up o) (Le-refl up s)
   Le-refl up (function ss r) = functions (Les-refl (not up) ss) (Le-refl up r)
 
-  Les-refl : (up : Bool) (ss : Trees) → Les up ss ss
+  pub Les-refl : (up : Bool) (ss : Trees) → Les up ss ss
   Les-refl up end = ends
   Les-refl up (arg s ss) = args (Le-refl up s) (Les-refl up ss)
 

@@ -1,8 +1,8 @@
 -- `same` answers true exactly for equal trees: by the clauses of `same`. Assumes nothing.
-use mathlib.Core.Path.{_≡_, refl, sym, ap, ap₂, _∙_}
-use mathlib.Core.Bool.{Bool, true, false, _&&_, and-eq-true-iff}
+use mathlib.Core.Path.{_≡_, refl, ap, ap₂}
+use mathlib.Core.Bool.{true, and-eq-true-iff}
 use mathlib.Core.Logic.{_↔_}
-use Rattle.resolved_sort.specs.Tree.{Tree, flat, container, function, Trees, end, arg, same, sames, sameFlat, sameOp}
+use Rattle.resolved_sort.specs.Tree.{Tree, flat, container, function, Trees, end, arg, same, sames}
 use Rattle.resolved_sort.proofs.Heads.{same-flat, same-op}
 
 mutual

@@ -88,3 +88,23 @@ pub enum Materialized {
     Refused(u16),
     Answer(bool),
 }
+
+// Two rows side by side, as the Rust's `match (self.get(lhs), self.get(rhs))` takes them apart. Functions: with as many
+// arguments on both sides, where the domains start and what the ranges are.
+pub enum Pair {
+    Primitives(Sort, Sort),
+    Containers {
+        lhs_op: ComplexSort,
+        lhs_sub: SortId,
+        rhs_op: ComplexSort,
+        rhs_sub: SortId,
+    },
+    Functions {
+        count: u16,
+        lhs_start: u16,
+        lhs_range: SortId,
+        rhs_start: u16,
+        rhs_range: SortId,
+    },
+    Other,
+}

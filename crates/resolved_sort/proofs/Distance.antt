@@ -1,0 +1,169 @@
+-- A distance exists exactly where the first sort is equal to or below the second, is (0, 0) between equal sorts, and is the
+-- exact distance stopped once: stopping at each level equals stopping the whole sum. By the clauses of `distance`; levels are
+-- at most 3, so a head never stops. Assumes nothing.
+use mathlib.Core.Path.{_≡_, refl, ap, ap₂, _∙_}
+use mathlib.Core.Bool.{Bool, true, false, not, _&&_, and-true, false≢true}
+use mathlib.Core.Option.{Option, none, some}
+use mathlib.Core.Logic.{_↔_}
+use Prim.Native.Nat.{ℕ, min, _≤_}
+use native.Mathlib.Omega.{arith}
+use Rattle.resolved_sort.specs.declared.Sort.{Sort}
+use Rattle.resolved_sort.specs.declared.ComplexSort.{ComplexSort}
+use Rattle.resolved_sort.specs.Tree.{Flat, unit, primitive, def, typevar, Tree, flat, container, function, Trees, end, arg, family, level, familyOp, levelOp}
+use Rattle.resolved_sort.specs.Order.{leFlat, leOp, le, les, Steps, apart, given, most, map₁, map₂, distance, distances}
+use Rattle.resolved_sort.specs.Exact.{exact, exacts, stopped}
+use Rattle.resolved_sort.proofs.Heads.{head-refl, head-flips}
+
+-- Where there is an answer.
+abbrev present : {A : Type 0} → Option A → Bool
+present none = false
+present (some a) = true
+
+present-exactly : {A : Type 0} (x : Option A) → ((a : A) × (x ≡ some a)) ↔ (present x ≡ true)
+present-exactly none = (λ h. let z = h .1 in cc, λ e. absurd (false≢true e))
+present-exactly (some a) = (λ h. refl, λ e. (a, refl))
+
+present-given : {A : Type 0} (b : Bool) (x : Option A) → present (given b x) ≡ (b && present x)
+present-given true x = refl
+present-given false x = refl
+
+present-map₁ : {A B : Type 0} (f : A → B) (x : Option A) → present (map₁ f x) ≡ present x
+present-map₁ f none = refl
+present-map₁ f (some a) = refl
+
+present-map₂ : {A B C : Type 0} (f : A → B → C) (x : Option A) (y : Option B) → present (map₂ f x y) ≡ (present x && present y)
+present-map₂ f none y = refl
+present-map₂ f (some a) none = refl
+present-map₂ f (some a) (some b) = refl
+
+mutual
+  unfolding distance le
+
+  present-distance : (up : Bool) (s t : Tree) → present (distance up s t) ≡ le up s t
+  present-distance up (flat a) (flat b) = present-given (leFlat up a b) _ ∙ and-true (leFlat up a b)
+  present-distance up (flat a) (container p t) = refl
+  present-distance up (flat a) (function ts u) = refl
+  present-distance up (container o s) (flat b) = refl
+  present-distance up (container o s) (container p t) =
+      present-given (leOp up o p) _ ∙ ap (_&&_ (leOp up o p)) (present-map₁ _ (distance up s t) ∙ present-distance up s t)
+  present-distance up (container o s) (function ts u) = refl
+  present-distance up (function ss r) (flat b) = refl
+  present-distance up (function ss r) (container p t) = refl
+  present-distance up (function ss r) (function ts u) =
+      present-map₂ _ (distances (not up) ss ts) (distance up r u) ∙ ap₂ _&&_ (present-distances (not up) ss ts) (present-distance up r u)
+
+  present-distances : (up : Bool) (ss ts : Trees) → present (distances up ss ts) ≡ les up ss ts
+  present-distances up end end = refl
+  present-distances up end (arg t ts) = refl
+  present-distances up (arg s ss) end = refl
+  present-distances up (arg s ss) (arg t ts) =
+      present-map₂ _ (distance up s t) (distances up ss ts) ∙ ap₂ _&&_ (present-distance up s t) (present-distances up ss ts)
+
+pub distance-exists-exactly : (up : Bool) (s t : Tree) → ((d : Steps) × (distance up s t ≡ some d)) ↔ (le up s t ≡ true)
+distance-exists-exactly up s t = rw (← present-distance up s t) (present-exactly (distance up s t))
+
+-- The two directions are each other's converse.
+apart-flips : (up : Bool) (l m : ℕ) → apart up l m ≡ apart (not up) m l
+apart-flips true l m = refl
+apart-flips false l m = refl
+
+mutual
+  unfolding distance
+
+  pub distance-flips : (up : Bool) (s t : Tree) → distance up s t ≡ distance (not up) t s
+  distance-flips up (flat a) (flat b) = rw (head-flips family level up a b, apart-flips up (level a) (level b))
+  distance-flips up (flat a) (container p t) = refl
+  distance-flips up (flat a) (function ts u) = refl
+  distance-flips up (container o s) (flat b) = refl
+  distance-flips up (container o s) (container p t) = rw (head-flips familyOp levelOp up o p, apart-flips up (levelOp o) (levelOp p), distance-flips up s t)
+  distance-flips up (container o s) (function ts u) = refl
+  distance-flips up (function ss r) (flat b) = refl
+  distance-flips up (function ss r) (container p t) = refl
+  distance-flips up (function ss r) (function ts u) = rw (distances-flip (not up) ss ts, distance-flips up r u)
+
+  pub distances-flip : (up : Bool) (ss ts : Trees) → distances up ss ts ≡ distances (not up) ts ss
+  distances-flip up end end = refl
+  distances-flip up end (arg t ts) = refl
+  distances-flip up (arg s ss) end = refl
+  distances-flip up (arg s ss) (arg t ts) = rw (distance-flips up s t, distances-flip up ss ts)
+
+-- Equal sorts.
+apart-self : (up : Bool) (l : ℕ) → apart up l l ≡ 0
+apart-self true l = omega arith
+apart-self false l = omega arith
+
+mutual
+  unfolding distance
+
+  pub distance-of-equal : (up : Bool) (s : Tree) → distance up s s ≡ some (record { head = 0; interior = 0 })
+  distance-of-equal up (flat a) = rw (head-refl family level up a, apart-self up (level a))
+  distance-of-equal up (container o s) = rw (head-refl familyOp levelOp up o, apart-self up (levelOp o), distance-of-equal up s)
+  distance-of-equal up (function ss r) = rw (distances-of-equal (not up) ss, distance-of-equal up r)
+
+  pub distances-of-equal : (up : Bool) (ss : Trees) → distances up ss ss ≡ some 0
+  distances-of-equal up end = refl
+  distances-of-equal up (arg s ss) = rw (distance-of-equal up s, distances-of-equal up ss)
+
+-- Stopping.
+map-given : {A B : Type 0} (f : A → B) (b : Bool) (x : Option A) → given b (map₁ f x) ≡ map₁ f (given b x)
+map-given f true x = refl
+map-given f false x = refl
+
+map-map₁ : {A B C D : Type 0} (F : B → D) (f : A → B) (h : C → D) (G : A → C) → ((a : A) → F (f a) ≡ h (G a)) → (x : Option A) → map₁ F (map₁ f x) ≡ map₁ h (map₁ G x)
+map-map₁ F f h G e none = refl
+map-map₁ F f h G e (some a) = ap some (e a)
+
+map-map₂ : {A A′ B B′ C D : Type 0} (F : A′ → B′ → D) (f : A → A′) (g : B → B′) (h : C → D) (G : A → B → C) → ((a : A) (b : B) → F (f a) (g b) ≡ h (G a b))
+    → (x : Option A) (y : Option B) → map₂ F (map₁ f x) (map₁ g y) ≡ map₁ h (map₂ G x y)
+map-map₂ F f g h G e none y = refl
+map-map₂ F f g h G e (some a) none = refl
+map-map₂ F f g h G e (some a) (some b) = ap some (e a b)
+
+level-small : (a : Flat) → level a ≤ 3
+unfolding level
+level-small unit = omega arith
+level-small (primitive Sort.Bool) = omega arith
+level-small (primitive Sort.Pos) = omega arith
+level-small (primitive Sort.Nat) = omega arith
+level-small (primitive Sort.Int) = omega arith
+level-small (primitive Sort.Real) = omega arith
+level-small (def n) = omega arith
+level-small (typevar n) = omega arith
+
+levelOp-small : (o : ComplexSort) → levelOp o ≤ 3
+unfolding levelOp
+levelOp-small ComplexSort.List = omega arith
+levelOp-small ComplexSort.Set = omega arith
+levelOp-small ComplexSort.FSet = omega arith
+levelOp-small ComplexSort.Bag = omega arith
+levelOp-small ComplexSort.FBag = omega arith
+
+apart-stops : (up : Bool) (l m : ℕ) → l ≤ 3 → m ≤ 3 → apart up l m ≡ min most (apart up l m)
+apart-stops true l m h k = omega arith
+apart-stops false l m h k = omega arith
+
+pub steps : {h k i j : ℕ} → h ≡ k → i ≡ j → _≡_ {A = Steps} (record { head = h; interior = i }) (record { head = k; interior = j })
+steps p q = λ i. record { head = p i; interior = q i }
+
+mutual
+  unfolding distance exact
+
+  pub distance-stops-once : (up : Bool) (s t : Tree) → distance up s t ≡ map₁ stopped (exact up s t)
+  distance-stops-once up (flat a) (flat b) = ap (λ d. given (leFlat up a b) (some d)) (steps (apart-stops up _ _ (level-small a) (level-small b)) refl) ∙ map-given stopped (leFlat up a b) _
+  distance-stops-once up (flat a) (container p t) = refl
+  distance-stops-once up (flat a) (function ts u) = refl
+  distance-stops-once up (container o s) (flat b) = refl
+  distance-stops-once up (container o s) (container p t) =
+      rw (distance-stops-once up s t) (ap (given (leOp up o p)) (map-map₁ _ stopped stopped _ (λ d. steps (apart-stops up _ _ (levelOp-small o) (levelOp-small p)) (omega arith)) (exact up s t)) ∙ map-given stopped (leOp up o p) _)
+  distance-stops-once up (container o s) (function ts u) = refl
+  distance-stops-once up (function ss r) (flat b) = refl
+  distance-stops-once up (function ss r) (container p t) = refl
+  distance-stops-once up (function ss r) (function ts u) =
+      rw (distances-stop-once (not up) ss ts, distance-stops-once up r u) (map-map₂ _ (min most) stopped stopped _ (λ n d. steps refl (omega arith)) (exacts (not up) ss ts) (exact up r u))
+
+  pub distances-stop-once : (up : Bool) (ss ts : Trees) → distances up ss ts ≡ map₁ (min most) (exacts up ss ts)
+  distances-stop-once up end end = refl
+  distances-stop-once up end (arg t ts) = refl
+  distances-stop-once up (arg s ss) end = refl
+  distances-stop-once up (arg s ss) (arg t ts) =
+      rw (distance-stops-once up s t, distances-stop-once up ss ts) (map-map₂ _ stopped (min most) (min most) _ (λ d n. omega arith) (exact up s t) (exacts up ss ts))
