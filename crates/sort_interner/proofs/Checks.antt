@@ -1,0 +1,71 @@
+-- Checks 1 to 3 at each way through their code. Assumes nothing.
+use mathlib.Core.Path.{_≡_, refl, sym, ap, _∙_}
+use mathlib.Core.Logic.{⊎-elim}
+use mathlib.Core.Bool.{Bool, true, false, _&&_, and-false}
+use mathlib.Core.List.{List}
+use Prim.Native.Nat.{ℕ, _+_, _-_, _*_, _<_, _≤_}
+use native.Mathlib.Omega.{arith}
+use lib.ListN.{length, getD}
+use lib.Dec.{leb, ltb, eqb}
+use borrow.Author.Tests.{le-leb, lt-leb, lt-ltb, le-ltb, eq-eqb, ne-eqb, leb-true, leb-false}
+use Rattle.resolved_sort.specs.Storage.{kindAt, entryAt}
+use Rattle.resolved_sort.specs.Checks.{withinLent, fixedSix, allBelow}
+use Rattle.sort_interner.specs.Tests.{ownKind, argBelow}
+use Rattle.sort_interner.proofs.Below as law
+
+leb-same : (a b c d : ℕ) → (a ≤ b → c ≤ d) → (b < a → d < c) → leb a b ≡ leb c d
+leb-same a b c d f g =
+    elim (leb a b) as (λ (t : Bool). leb a b ≡ t → t ≡ leb c d) [
+      | true ↦ λ e. sym (le-leb c d (f (leb-true a b e)))
+      | false ↦ λ e. sym (lt-leb c d (g (leb-false a b e)))
+    ] refl
+
+module _ (ws : List ℕ) (n e : ℕ) where
+  pub many-sorts : 1024 < n → false ≡ withinLent ws n e
+  unfolding withinLent
+  many-sorts h = simp (lt-leb n 1024 h)
+
+  pub many-entries : 4096 < e → false ≡ withinLent ws n e
+  unfolding withinLent
+  many-entries h = simp (lt-leb e 4096 h, and-false)
+
+  pub few-words : length ws < 4 * n → false ≡ withinLent ws n e
+  unfolding withinLent
+  few-words h = simp (lt-leb (4 * n) (length ws) h, and-false)
+
+  module _ (h : n ≤ 1024) (k : e ≤ 4096) (l : 4 * n ≤ length ws) where
+    pub no-entries : e ≡ 0 → true ≡ withinLent ws n e
+    unfolding withinLent
+    no-entries z = simp (le-leb n 1024 h, le-leb e 4096 k, le-leb (4 * n) (length ws) l, le-leb e (length ws - 4096) (omega arith))
+
+    pub some-entries : (e ≡ 0 → ⊥) → leb (4096 + e) (length ws) ≡ withinLent ws n e
+    unfolding withinLent
+    some-entries z =
+        simp (le-leb n 1024 h, le-leb e 4096 k, le-leb (4 * n) (length ws) l, leb-same (4096 + e) (length ws) e (length ws - 4096) (λ x. omega arith) (λ x. omega arith))
+
+module _ (ws : List ℕ) (n : ℕ) where
+  pub six-few : n < 6 → false ≡ fixedSix ws n
+  unfolding fixedSix
+  six-few h = rw (lt-leb 6 n h)
+
+  module _ (i : ℕ) where
+    pub six-more : (w : ℕ) → w ≡ getD ws (4 * i) 0 → w ≡ i → allBelow i (ownKind ws) ≡ true → allBelow (i + 1) (ownKind ws) ≡ true
+    unfolding ownKind
+    six-more w e z h = law.allBelow-more _ i h (eq-eqb (kindAt ws i) i (sym e ∙ z))
+
+    pub six-not : 6 ≤ n → i < 6 → (w : ℕ) → w ≡ getD ws (4 * i) 0 → (w ≡ i → ⊥) → false ≡ fixedSix ws n
+    unfolding fixedSix ownKind
+    six-not m h w e z = rw (le-leb 6 n m) (law.allBelow-not _ 6 i h (ne-eqb (kindAt ws i) i (λ q. z (e ∙ q))))
+
+    pub six-done : 6 ≤ n → i ≤ 6 → 6 ≤ i → allBelow i (ownKind ws) ≡ true → true ≡ fixedSix ws n
+    unfolding fixedSix ownKind
+    six-done m h k e = rw (le-leb 6 n m) (law.allBelow-done _ 6 i h k e)
+
+module _ (ws : List ℕ) (start i j w : ℕ) (e : w ≡ getD ws (4096 + (start + j)) 0) where
+  pub args-more : w < i → allBelow j (argBelow ws start i) ≡ true → allBelow (j + 1) (argBelow ws start i) ≡ true
+  unfolding argBelow
+  args-more z h = law.allBelow-more _ j h (lt-ltb (entryAt ws (start + j)) i (omega arith))
+
+  pub args-not : (count : ℕ) → j < count → i ≤ w → false ≡ allBelow count (argBelow ws start i)
+  unfolding argBelow
+  args-not count h z = law.allBelow-not _ count j h (le-ltb (entryAt ws (start + j)) i (omega arith))

@@ -1,0 +1,4 @@
+pub mod Zeros
+pub mod Apart
+pub mod Below
+pub mod Checks
