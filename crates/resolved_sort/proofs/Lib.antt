@@ -16,3 +16,6 @@ pub mod Fine
 pub mod Append
 pub mod Interned
 pub mod Pairs
+pub mod Grown
+pub mod Kept
+pub mod Stored

@@ -124,6 +124,12 @@ unfolding member
 member-snoc-last [] t = rw (same-refl t)
 member-snoc-last (s ∷ T) t = or-right (same s t) (member (T ++ (t ∷ [])) t) (member-snoc-last T t)
 
+-- a new sort has the list's length for a number
+pub number-snoc : (T : List Tree) (t : Tree) → member T t ≡ false → number (T ++ (t ∷ [])) t ≡ length T
+unfolding number member
+number-snoc [] t m = rw (same-refl t)
+number-snoc (s ∷ T) t m = past-step (same s t) (number (T ++ (t ∷ [])) t) (length T) (member T t) m (number-snoc T t)
+
 pub distinct-snoc : (T : List Tree) (t : Tree) → distinct T ≡ true → member T t ≡ false → distinct (T ++ (t ∷ [])) ≡ true
 unfolding distinct member
 distinct-snoc [] t d m = refl
