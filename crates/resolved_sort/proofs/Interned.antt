@@ -56,7 +56,15 @@ row-same r = rw (eq-eqb (r .kind) (r .kind) refl, eq-eqb (r .part) (r .part) ref
 pub sameRow-exactly : (r s : Row) → (sameRow r s ≡ true) ↔ (r ≡ s)
 sameRow-exactly r s = (rows-equal r s, λ e. rw e (row-same s))
 
-module _ (ws : List ℕ) (n e : ℕ) (k : Checked ws n e) where
+-- what checks 3 and 4 have shown
+pub record Listed (ws : List ℕ) (n e : ℕ) : Type 0 where
+  pub fine : rowsFine ws n e ≡ true
+  pub differ : noTwoEqual ws n ≡ true
+
+pub listed : {ws : List ℕ} {n e : ℕ} → Checked ws n e → Listed ws n e
+listed k = record { fine = k .fine; differ = k .differ }
+
+module _ (ws : List ℕ) (n e : ℕ) (k : Listed ws n e) where
   pub trees-differ : distinct (trees ws n) ≡ true
   unfolding noTwoEqual
   trees-differ = k .differ

@@ -15,7 +15,9 @@ pub mod RowTrees
 pub mod Fine
 pub mod Append
 pub mod Interned
+pub mod Twice
 pub mod Pairs
 pub mod Grown
 pub mod Kept
+pub mod Made
 pub mod Stored

@@ -27,7 +27,7 @@ use Rattle.resolved_sort.proofs.Numbers.{look-injective}
 use Rattle.resolved_sort.proofs.Trees.{length-trees}
 use Rattle.resolved_sort.proofs.RowTrees.{AllBelow, Within, row, read, by-kind}
 use Rattle.resolved_sort.proofs.Fine.{RunInside, run-inside}
-use Rattle.resolved_sort.proofs.Interned.{trees-differ, row-below, look-tree}
+use Rattle.resolved_sort.proofs.Interned.{listed, trees-differ, row-below, look-tree}
 
 -- the sort that a row says, with the sorts of the list given
 unfoldable pub sortOf : List ℕ → List Tree → ResolvedSort → Tree
@@ -93,13 +93,13 @@ module _ (ws : List ℕ) (n e : ℕ) (k : Checked ws n e) where
   -- the sort of a number is what its row says
   pub look-says : (i : ℕ) → i < n → look (trees ws n) i ≡ sortOf ws (trees ws n) (rowAt ws i)
   look-says i h =
-      look-tree ws n e k i h
-      ∙ said ws (trees ws n) e i (partAt ws i) (startAt ws i) (countAt ws i) (kindAt ws i) (row-below ws n e k i h .known)
+      look-tree ws n e (listed k) i h
+      ∙ said ws (trees ws n) e i (partAt ws i) (startAt ws i) (countAt ws i) (kindAt ws i) (row-below ws n e (listed k) i h .known)
 
   pub row-parts : (i : ℕ) → i < n → Below ws e i (rowAt ws i)
   unfolding rowsFine
   row-parts i h =
-      parts-below ws e i (partAt ws i) (startAt ws i) (countAt ws i) (kindAt ws i) (row-below ws n e k i h .known) (row-below ws n e k i h)
+      parts-below ws e i (partAt ws i) (startAt ws i) (countAt ws i) (kindAt ws i) (row-below ws n e (listed k) i h .known) (row-below ws n e (listed k) i h)
       (λ f. let r = run-inside ws e i (below-each n (rowFine ws e) (k .fine) i h) f in (r .short, r .inside))
 
 -- Two sorts that no order relates and that have no bound: heads of different families, or different numbers of arguments.
@@ -217,7 +217,7 @@ module _ (ws : List ℕ) (n e a b : ℕ) where
 
   module _ (k : Checked ws n e) (ha : a < n) (hb : b < n) (d : a ≡ b → ⊥) where
     differ : look (trees ws n) a ≡ look (trees ws n) b → ⊥
-    differ q = d (look-injective (trees ws n) a b (trees-differ ws n e k) (omega (arith, length-trees ws n)) (omega (arith, length-trees ws n)) q)
+    differ q = d (look-injective (trees ws n) a b (trees-differ ws n e (listed k)) (omega (arith, length-trees ws n)) (omega (arith, length-trees ws n)) q)
 
     from-rows : (x : Pair) → Says (rowAt ws a) (rowAt ws b) x → SortsSay x
     unfolding Says SortsSay sortOf Below

@@ -24,7 +24,7 @@ use Rattle.resolved_sort.specs.Rows.{Checked, findRow, storedAt, at, int
 use Rattle.resolved_sort.proofs.Numbers.{number-below, number-past, true-not-false, member-look, number-grows, number-snoc, number-look}
 use Rattle.resolved_sort.proofs.Trees.{length-trees}
 use Rattle.resolved_sort.proofs.RowTrees.{AllBelow, partsIn, members}
-use Rattle.resolved_sort.proofs.Interned.{tests-agree, find-is-number, trees-differ}
+use Rattle.resolved_sort.proofs.Interned.{listed, tests-agree, find-is-number, trees-differ}
 use Rattle.resolved_sort.proofs.Pairs.{sortOf, Below, look-says, row-parts, arity-run}
 use Rattle.resolved_sort.proofs.Append.{length-args}
 use Rattle.resolved_sort.proofs.Grown.{Grown, after-none, more, after-one, length-more}
@@ -35,10 +35,10 @@ module _ (ws : List ℕ) (n e : ℕ) (k : Checked ws n e) (t : Tree) (p : partsI
   T = trees ws n
 
   found : member T t ≡ true → ltb (findRow ws n (rowOf T t)) n ≡ true
-  found m = ap (λ i. ltb i n) (find-is-number ws n e k t p) ∙ lt-ltb _ _ (subst (λ l. number T t < l) (length-trees ws n) (number-below T t m))
+  found m = ap (λ i. ltb i n) (find-is-number ws n e (listed k) t p) ∙ lt-ltb _ _ (subst (λ l. number T t < l) (length-trees ws n) (number-below T t m))
 
   not-found : member T t ≡ false → ltb (findRow ws n (rowOf T t)) n ≡ false
-  not-found m = ap (λ i. ltb i n) (find-is-number ws n e k t p ∙ (number-past T t m ∙ length-trees ws n)) ∙ le-ltb n n (omega arith)
+  not-found m = ap (λ i. ltb i n) (find-is-number ws n e (listed k) t p ∙ (number-past T t m ∙ length-trees ws n)) ∙ le-ltb n n (omega arith)
 
   counts-kept : countsOf (sortsOf ws n e) ≡ record { sorts = n; entries = e }
   counts-kept =
@@ -62,7 +62,7 @@ module _ (ws : List ℕ) (n e : ℕ) (k : Checked ws n e) (t : Tree) (p : partsI
   unfolding stored
   one-found =
       let w = sym (after-none ws n e k) in
-      let f = find-is-number ws n e k t p in
+      let f = find-is-number ws n e (listed k) t p in
       let c = sym counts-kept in
       λ i. record { words = w i; answer = At (record { 0 = f i }) (c i) }
 
