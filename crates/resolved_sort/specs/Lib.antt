@@ -9,3 +9,4 @@ pub mod Checks
 pub mod Entries
 pub mod Rows
 pub mod Pairs
+pub mod Bounds

@@ -108,3 +108,29 @@ pub enum Pair {
     },
     Other,
 }
+
+// Which of two number sorts is farther in a direction; neither where one is no number.
+pub enum Side {
+    Lhs,
+    Rhs,
+    Neither,
+}
+
+// The container constructor of a join or meet: Option<ComplexSort> in the Rust.
+pub enum OpBound {
+    Is(ComplexSort),
+    Nothing,
+}
+
+// How the joins or meets of two domains ended.
+pub enum Found {
+    All(Counts),
+    Nothing(Counts),
+    Full,
+}
+
+// The joins or meets of two domains, where there are all of them.
+pub struct Domain {
+    pub ids: [u16; 16],
+    pub found: Found,
+}
