@@ -27,3 +27,11 @@ allBelow-fails p (suc n) i h e =
 
 pub allBelow-not : (p : ℕ → Bool) (n i : ℕ) → i < n → p i ≡ false → false ≡ allBelow n p
 allBelow-not p n i h e = sym (allBelow-fails p n i h e)
+
+-- as a loop meets them whose test is a call
+module _ (p : ℕ → Bool) (i : ℕ) (b : Bool) (e : b ≡ p i) where
+  pub tested-not : (n : ℕ) → i < n → b ≡ false → false ≡ allBelow n p
+  tested-not n h f = allBelow-not p n i h (sym e ∙ f)
+
+  pub tested-more : b ≡ true → allBelow i p ≡ true → allBelow (i + 1) p ≡ true
+  tested-more f h = allBelow-more p i h (sym e ∙ f)

@@ -8,8 +8,12 @@ use native.Mathlib.Omega.{arith}
 use lib.ListN.{length, getD}
 use lib.Dec.{leb, ltb, eqb}
 use borrow.Author.Tests.{le-leb, lt-leb, lt-ltb, le-ltb, eq-eqb, ne-eqb, leb-true, leb-false}
-use Rattle.resolved_sort.specs.Storage.{kindAt, entryAt}
-use Rattle.resolved_sort.specs.Checks.{withinLent, fixedSix, allBelow}
+use Rattle.resolved_sort.specs.declared.SortId.{SortId}
+use Rattle.resolved_sort.specs.declared.Run.{Run}
+use Rattle.resolved_sort.specs.declared.ResolvedSort.{ResolvedSort}
+use Rattle.resolved_sort.specs.declared.ResolvedSort.the-variants.{Function}
+use Rattle.resolved_sort.specs.Storage.{kindAt, entryAt, rowAt}
+use Rattle.resolved_sort.specs.Checks.{withinLent, fixedSix, allBelow, partsBelow, rowFine}
 use Rattle.sort_interner.specs.Tests.{ownKind, argBelow}
 use Rattle.sort_interner.proofs.Below as law
 
@@ -69,3 +73,30 @@ module _ (ws : List ℕ) (start i j w : ℕ) (e : w ≡ getD ws (4096 + (start +
   pub args-not : (count : ℕ) → j < count → i ≤ w → false ≡ allBelow count (argBelow ws start i)
   unfolding argBelow
   args-not count h z = law.allBelow-not _ count j h (le-ltb (entryAt ws (start + j)) i (omega arith))
+
+module _ (ws : List ℕ) (e i : ℕ) (domain : Run) (range : SortId) where
+  pub many-args : 16 < domain .count → false ≡ partsBelow ws e i (Function domain range)
+  unfolding partsBelow
+  many-args h = rw (lt-leb (domain .count) 16 h)
+
+  pub run-leaves : e < domain .start + domain .count → false ≡ partsBelow ws e i (Function domain range)
+  unfolding partsBelow
+  run-leaves h = simp (lt-leb (domain .start + domain .count) e h, and-false)
+
+  pub range-not-below : i ≤ range .0 → false ≡ partsBelow ws e i (Function domain range)
+  unfolding partsBelow
+  range-not-below h = simp (le-ltb (range .0) i h, and-false)
+
+  pub args-answer : domain .count ≤ 16 → domain .start + domain .count ≤ e → range .0 < i → (b : Bool) → b ≡ allBelow (domain .count) (argBelow ws (domain .start) i)
+      → b ≡ partsBelow ws e i (Function domain range)
+  unfolding partsBelow argBelow
+  args-answer h k l b q = rw (le-leb (domain .count) 16 h, le-leb (domain .start + domain .count) e k, lt-ltb (range .0) i l) q
+
+module _ (ws : List ℕ) (e i w : ℕ) (q : w ≡ getD ws (4 * i) 0) where
+  pub kind-unknown : 13 < w → false ≡ rowFine ws e i
+  unfolding rowFine
+  kind-unknown h = rw (lt-leb (kindAt ws i) 13 (omega arith))
+
+  pub parts-answer : w ≤ 13 → (s : ResolvedSort) → s ≡ rowAt ws i → (b : Bool) → b ≡ partsBelow ws e i s → b ≡ rowFine ws e i
+  unfolding rowFine
+  parts-answer h s f b g = rw (le-leb (kindAt ws i) 13 (omega arith)) (g ∙ ap (partsBelow ws e i) f)

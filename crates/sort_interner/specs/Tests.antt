@@ -3,7 +3,7 @@ use mathlib.Core.Bool.{Bool, not}
 use mathlib.Core.List.{List}
 use Prim.Native.Nat.{ℕ, _+_}
 use lib.Dec.{eqb, ltb}
-use Rattle.resolved_sort.specs.Storage.{kindAt, entryAt, wordsAt}
+use Rattle.resolved_sort.specs.Storage.{kindAt, entryAt, Row, wordsAt}
 use Rattle.resolved_sort.specs.Checks.{allBelow}
 use Rattle.resolved_sort.specs.Rows.{sameRow}
 
@@ -26,3 +26,7 @@ newRow ws j = allBelow j (otherRow ws j)
 -- Check 4 on rows: no two of the first n are the same.
 unfoldable pub noSameRows : List ℕ → ℕ → Bool
 noSameRows ws n = allBelow n (newRow ws)
+
+-- Row i is the row r.
+unfoldable pub isRow : List ℕ → Row → ℕ → Bool
+isRow ws r i = sameRow (wordsAt ws i) r

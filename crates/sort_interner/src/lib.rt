@@ -8,14 +8,15 @@ use resolved_sort::Run;
 use resolved_sort::Sort;
 use resolved_sort::SortId;
 ghost use mathlib.Core.Path.{_≡_};
-ghost use mathlib.Core.List.{List};
-ghost use Prim.Native.Nat.{ℕ, _+_, _*_, _<_, _≤_};
+ghost use mathlib.Core.Bool.{cond};
+ghost use Prim.Native.Nat.{_+_, _≤_};
 ghost use lib.ListN.{length, getD, set, take};
 ghost use lib.Seq.{sets};
-ghost use Rattle.resolved_sort.specs.Storage.{maxSorts, maxEntries, entriesAt, fullLength, resolved, rowAt, entriesOf, Row, wordsAt, kindOp, putRow, appendRow, zeros, givenBack};
+ghost use lib.Dec.{eqb};
+ghost use Rattle.resolved_sort.specs.Storage.{maxSorts, maxEntries, entriesAt, fullLength, functionKind, resolved, rowAt, entriesOf, wordsAt, kindOp, putRow, appendRow, zeros, givenBack};
 ghost use Rattle.resolved_sort.specs.Checks.{withinLent, fixedSix, partsBelow, rowFine, rowsFine, allBelow};
 ghost use Rattle.resolved_sort.specs.Rows.{sameWords, sameRow, findRow, storedAt, internRow};
-ghost use Rattle.sort_interner.specs.Tests.{argBelow, newRow, noSameRows};
+ghost use Rattle.sort_interner.specs.Tests.{argBelow, newRow, noSameRows, isRow};
 
 // The word at i. Past the end it is 0, never what lies there.
 pub fn word(s: &[u16], i: usize) -> u16
@@ -225,4 +226,230 @@ pub fn rows_fine(sorts: &[u16], n: usize, e: usize) -> bool
         i += 1;
     }
     true
+}
+
+// The kind of row i.
+pub fn kind_at(sorts: &[u16], i: u16) -> u16
+    ensures { λ r. ⌜ r ≡ (wordsAt (now (sorts .entry)) i) .kind ⌝ }
+{
+    word(sorts, 4 * (i as usize))
+}
+
+// The part of row i as far as it is looked at: 0 where the kind has none, whatever the word there is.
+pub fn part_at(sorts: &[u16], i: u16) -> u16
+    ensures { λ r. ⌜ r ≡ (wordsAt (now (sorts .entry)) i) .part ⌝ }
+{
+    if kind_at(sorts, i) < 6 {
+        return 0;
+    }
+    word(sorts, 4 * (i as usize) + 1)
+}
+
+// The run of row i as far as it is looked at: empty where the row is no function, whatever the words there are.
+pub fn run_at(sorts: &[u16], i: u16) -> Run
+    ensures { λ r. ⌜ entriesOf (now (sorts .entry)) (r .start) (r .count) ≡ (wordsAt (now (sorts .entry)) i) .args ⌝ }
+{
+    if kind_at(sorts, i) == 11 {
+        let at = 4 * (i as usize);
+        return Run {
+            start: word(sorts, at + 2),
+            count: word(sorts, at + 3),
+        };
+    }
+    Run { start: 0, count: 0 }
+}
+
+// Whether two runs have the same entries. Where they start does not count.
+pub fn same_run(sorts: &[u16], a: Run, b: Run) -> bool
+    ensures { λ r. ⌜ r ≡ sameWords (entriesOf (now (sorts .entry)) (a .start) (a .count)) (entriesOf (now (sorts .entry)) (b .start) (b .count)) ⌝ }
+{
+    let n = a.count;
+    if n != b.count {
+        return false;
+    }
+    let s = a.start as usize;
+    let t = b.start as usize;
+    let mut k: u16 = 0;
+    while k < n {
+        let x = word(sorts, 4096 + (s + (k as usize)));
+        let y = word(sorts, 4096 + (t + (k as usize)));
+        if x != y {
+            return false;
+        }
+        k += 1;
+    }
+    true
+}
+
+// Whether rows i and j are the same sort's: kind, part and the contents of the runs.
+pub fn same_rows(sorts: &[u16], i: u16, j: u16) -> bool
+    ensures { λ r. ⌜ r ≡ sameRow (wordsAt (now (sorts .entry)) i) (wordsAt (now (sorts .entry)) j) ⌝ }
+{
+    if kind_at(sorts, i) != kind_at(sorts, j) {
+        return false;
+    }
+    if part_at(sorts, i) != part_at(sorts, j) {
+        return false;
+    }
+    same_run(sorts, run_at(sorts, i), run_at(sorts, j))
+}
+
+// Whether no row below row j is the same as it.
+pub fn new_row(sorts: &[u16], j: u16) -> bool
+    ensures { λ r. ⌜ r ≡ newRow (now (sorts .entry)) j ⌝ }
+{
+    let mut i: u16 = 0;
+    while i < j {
+        if same_rows(sorts, i, j) {
+            return false;
+        }
+        i += 1;
+    }
+    true
+}
+
+// Check 4 on rows: no two of the first n are the same.
+pub fn no_two_equal_rows(sorts: &[u16], n: usize) -> bool
+    requires { ⌜ n ≤ maxSorts ⌝ }
+    ensures { λ r. ⌜ r ≡ noSameRows (now (sorts .entry)) n ⌝ }
+{
+    let mut j: usize = 0;
+    while j < n {
+        if !new_row(sorts, j as u16) {
+            return false;
+        }
+        j += 1;
+    }
+    true
+}
+
+// Whether a run has the first n of the ids as its entries, and no more.
+pub fn has_args(sorts: &[u16], a: Run, ids: [u16; 16], n: u16) -> bool
+    requires { ⌜ n ≤ 16 ⌝ }
+    ensures { λ r. ⌜ r ≡ sameWords (entriesOf (now (sorts .entry)) (a .start) (a .count)) (take n ids) ⌝ }
+{
+    if a.count != n {
+        return false;
+    }
+    let s = a.start as usize;
+    let mut k: u16 = 0;
+    while k < n {
+        let x = word(sorts, 4096 + (s + (k as usize)));
+        if x != ids[k as usize] {
+            return false;
+        }
+        k += 1;
+    }
+    true
+}
+
+// Whether row i is of this kind, part and arguments.
+pub fn is_row(sorts: &[u16], i: u16, kind: u16, part: u16, ids: [u16; 16], count: u16) -> bool
+    requires { ⌜ count ≤ 16 ⌝ }
+    ensures { λ r. ⌜ r ≡ isRow (now (sorts .entry)) (record { kind = kind; part = part; args = take count ids }) i ⌝ }
+{
+    if kind_at(sorts, i) != kind {
+        return false;
+    }
+    if part_at(sorts, i) != part {
+        return false;
+    }
+    has_args(sorts, run_at(sorts, i), ids, count)
+}
+
+// The first row below n that is of this kind, part and arguments; n where there is none.
+pub fn find_row(sorts: &[u16], n: u16, kind: u16, part: u16, ids: [u16; 16], count: u16) -> u16
+    requires { ⌜ count ≤ 16 ⌝ }
+    ensures { λ r. ⌜ r ≡ findRow (now (sorts .entry)) n (record { kind = kind; part = part; args = take count ids }) ⌝ }
+{
+    let mut i: u16 = 0;
+    while i < n {
+        if is_row(sorts, i, kind, part, ids, count) {
+            return i;
+        }
+        i += 1;
+    }
+    i
+}
+
+// Row i set to four words. The part of it that lies past the end is left out.
+pub fn put_row(sorts: &mut [u16], i: u16, kind: u16, part: u16, start: u16, count: u16)
+    ensures { λ _. ⌜ now (sorts .exit) ≡ putRow (now (sorts .entry)) i kind part start count ⌝ }
+{
+    let at = 4 * (i as usize);
+    put(sorts, at, kind);
+    put(sorts, at + 1, part);
+    put(sorts, at + 2, start);
+    put(sorts, at + 3, count);
+}
+
+// The first n of the ids stored as the entries from e on.
+pub fn put_args(sorts: &mut [u16], e: u16, ids: [u16; 16], n: u16)
+    requires { ⌜ n ≤ 16 ⌝ }
+    ensures { λ _. ⌜ now (sorts .exit) ≡ sets (now (sorts .entry)) (entriesAt + e) (take n ids) ⌝ }
+{
+    let mut i: u16 = 0;
+    while i < n {
+        put(sorts, 4096 + (e as usize) + (i as usize), ids[i as usize]);
+        i += 1;
+    }
+}
+
+// Where a new row's run starts: at the first unused entry for a function, and 0 for every other kind.
+pub fn start_of(kind: u16, e: u16) -> u16
+    ensures { λ r. ⌜ r ≡ cond (eqb kind functionKind) e 0 ⌝ }
+{
+    if kind == 11 { e } else { 0 }
+}
+
+// A row with its arguments appended to n rows and e entries.
+pub fn append_row(
+    sorts: &mut [u16],
+    n: u16,
+    e: u16,
+    kind: u16,
+    part: u16,
+    ids: [u16; 16],
+    count: u16,
+)
+    requires { ⌜ count ≤ 16 ⌝ }
+    ensures { λ _. ⌜ now (sorts .exit) ≡ appendRow (now (sorts .entry)) n e (record { kind = kind; part = part; args = take count ids }) ⌝ }
+{
+    put_row(sorts, n, kind, part, start_of(kind, e), count);
+    put_args(sorts, e, ids, count);
+}
+
+// The row's number: the first row that is the same, else one more row where there is room. Nothing changes where the row
+// is found or there is no room.
+pub fn intern(
+    sorts: &mut [u16],
+    counts: Counts,
+    kind: u16,
+    part: u16,
+    ids: [u16; 16],
+    count: u16,
+) -> Joined
+    requires { ⌜ count ≤ 16 ⌝ }
+    ensures { λ r. ⌜ storedAt (now (sorts .exit)) r ≡ internRow (now (sorts .entry)) (counts .sorts) (counts .entries) (record { kind = kind; part = part; args = take count ids }) ⌝ }
+{
+    let n = counts.sorts;
+    let e = counts.entries;
+    let i = find_row(sorts, n, kind, part, ids, count);
+    if i < n {
+        return Joined::At(SortId(i), counts);
+    }
+    if 1024 <= n {
+        return Joined::Full;
+    }
+    if 4096 < (e as usize) + (count as usize) {
+        return Joined::Full;
+    }
+    append_row(sorts, n, e, kind, part, ids, count);
+    Joined::At(
+        SortId(n),
+        Counts {
+            sorts: n + 1,
+            entries: e + count,
+        },
+    )
 }

@@ -1,0 +1,18 @@
+-- Each return is check 3 of a function's row at the tests that led there. Assumes nothing.
+use borrow.Author.Needs.{needs}
+use Rattle.sort_interner.proofs.Checks as law
+use Rattle.sort_interner.proofs.function_fine.Statement.{statement}
+use Rattle.sort_interner.proofs.function_fine.Tie as tie
+
+pub function-fine-spec : {M : Type 1} → statement M
+function-fine-spec =
+    tie.close
+    (tie.spec
+    (λ c. search law.many-args)
+    (λ c. search needs)
+    (λ c. search needs)
+    (λ c. search needs)
+    (λ c. search law.run-leaves)
+    (λ c. search law.range-not-below)
+    (λ c κs. search needs)
+    (λ c. search law.args-answer))

@@ -1,0 +1,20 @@
+-- Kind and part decide where they differ, else the arguments. Assumes nothing.
+use mathlib.Core.Path.{refl}
+use borrow.Author.Needs.{needs}
+use Rattle.sort_interner.specs.Tests.{isRow}
+use Rattle.sort_interner.proofs.Rows as law
+use Rattle.sort_interner.proofs.is_row.Statement.{statement}
+use Rattle.sort_interner.proofs.is_row.Tie as tie
+
+pub is-row-spec : {M : Type 1} → statement M
+unfolding isRow
+is-row-spec =
+    tie.close
+    (tie.spec
+    (λ c κs. search needs)
+    (λ c. law.other-kind _ _ _ _ (c .before .kind-at .ensures) refl (c .if1 .taken))
+    (λ c κs. search needs)
+    (λ c. law.other-part _ _ _ _ (c .before .before .before .kind-at .ensures) refl _ _ (c .before .part-at .ensures) refl (c .if2 .taken))
+    (λ c κs. search needs)
+    (λ c κs. search needs)
+    (λ c. law.args-decide _ _ _ _ (c .before .before .before .before .before .kind-at .ensures) refl _ _ (c .before .before .before .part-at .ensures) refl (c .before .before .before .before .if1 .left) (c .before .before .if2 .left) _ _ (c .before .run-at .ensures) refl _ (c .has-args .ensures)))
