@@ -90,7 +90,7 @@ entries-are ws (v ∷ vs) s h =
     ap₂ _∷_ (ap (entryAt ws) (sym (add-zero s)) ∙ h 0 (omega arith))
     (entries-are ws vs (s + 1) (λ x l. ap (entryAt ws) (omega arith) ∙ h (suc x) (omega arith)))
 
-entries-agree : (ws us : List ℕ) (s c : ℕ) → ((j : ℕ) → j < c → entryAt ws (s + j) ≡ entryAt us (s + j)) → entriesOf ws s c ≡ entriesOf us s c
+pub entries-agree : (ws us : List ℕ) (s c : ℕ) → ((j : ℕ) → j < c → entryAt ws (s + j) ≡ entryAt us (s + j)) → entriesOf ws s c ≡ entriesOf us s c
 unfolding entriesOf
 entries-agree ws us s zero h = refl
 entries-agree ws us s (suc c) h =

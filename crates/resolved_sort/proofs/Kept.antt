@@ -159,11 +159,11 @@ module _ (ws : List ℕ) (n e : ℕ) where
   unfolding Kept
   itself S t g m = (g, extends-refl S, m)
 
-  container-interned : (q : ComplexSort) (v : Tree) (S : Sorts) → Grown ws n e S → InTree S v → Kept ws n e InTree S (intern (container q v) S)
+  pub container-interned : (q : ComplexSort) (v : Tree) (S : Sorts) → Grown ws n e S → InTree S v → Kept ws n e InTree S (intern (container q v) S)
   unfolding partsIn need
   container-interned q v S g m = intern-kept S g (container q v) m (omega arith)
 
-  function-interned : (vs : Trees) (v : Tree) (S : Sorts) → Grown ws n e S → members (S .trees) vs ≡ true → arity vs ≤ 16 → InTree S v → Kept ws n e InTree S (intern (function vs v) S)
+  pub function-interned : (vs : Trees) (v : Tree) (S : Sorts) → Grown ws n e S → members (S .trees) vs ≡ true → arity vs ≤ 16 → InTree S v → Kept ws n e InTree S (intern (function vs v) S)
   unfolding partsIn need
   function-interned vs v S g m l w = intern-kept S g (function vs v) (and-eq-true-iff (members (S .trees) vs) (member (S .trees) v) .1 (m, w)) l
 

@@ -18,6 +18,9 @@ pub mod Interned
 pub mod Twice
 pub mod Pairs
 pub mod Grown
+pub mod Unchanged
 pub mod Kept
 pub mod Made
+pub mod Reached
 pub mod Stored
+pub mod BoundsCode

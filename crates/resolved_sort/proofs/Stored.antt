@@ -40,7 +40,7 @@ module _ (ws : List ℕ) (n e : ℕ) (k : Checked ws n e) (t : Tree) (p : partsI
   not-found : member T t ≡ false → ltb (findRow ws n (rowOf T t)) n ≡ false
   not-found m = ap (λ i. ltb i n) (find-is-number ws n e (listed k) t p ∙ (number-past T t m ∙ length-trees ws n)) ∙ le-ltb n n (omega arith)
 
-  counts-kept : countsOf (sortsOf ws n e) ≡ record { sorts = n; entries = e }
+  pub counts-kept : countsOf (sortsOf ws n e) ≡ record { sorts = n; entries = e }
   counts-kept =
       let a = length-trees ws n in
       let b : maxEntries - (maxEntries - e) ≡ e = omega (arith, k .entries) in
