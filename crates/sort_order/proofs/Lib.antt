@@ -1,0 +1,3 @@
+-- The laws as the code meets them: premises are the tests and what calls have answered, the conclusion is the definition.
+pub mod Orders
+pub mod Rows

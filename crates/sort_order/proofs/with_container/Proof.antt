@@ -1,0 +1,23 @@
+-- Each arm is the definition's clause. Assumes nothing.
+use Rattle.resolved_sort.specs.Pairs.{withContainer}
+use borrow.Author.Needs.{needs}
+use Rattle.sort_order.proofs.with_container.Statement.{statement}
+use Rattle.sort_order.proofs.with_container.Tie as tie
+
+pub with-container-spec : {M : Type 1} → statement M
+unfolding withContainer
+with-container-spec =
+    tie.close
+    (tie.spec
+    (λ c. search needs)
+    (λ c. search needs)
+    (λ c. search needs)
+    (λ c. search needs)
+    (λ c. search needs)
+    (λ c. search needs)
+    (λ c. cc)
+    (λ c. cc)
+    (λ c. cc)
+    (λ c. cc)
+    (λ c. cc)
+    (λ c. cc))

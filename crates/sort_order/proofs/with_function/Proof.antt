@@ -1,0 +1,24 @@
+-- Each arm is the definition's clause. Assumes nothing.
+use Rattle.resolved_sort.specs.Pairs.{withFunction}
+use borrow.Author.Needs.{needs}
+use Rattle.sort_order.proofs.with_function.Statement.{statement}
+use Rattle.sort_order.proofs.with_function.Tie as tie
+
+pub with-function-spec : {M : Type 1} → statement M
+unfolding withFunction
+with-function-spec =
+    tie.close
+    (tie.spec
+    (λ c. search needs)
+    (λ c. search needs)
+    (λ c. search needs)
+    (λ c. search needs)
+    (λ c κs. search needs)
+    (λ c. search needs)
+    (λ c. search needs)
+    (λ c. cc)
+    (λ c. cc)
+    (λ c. cc)
+    (λ c. cc)
+    (λ c. cc)
+    (λ c. cc))

@@ -1,0 +1,23 @@
+-- Each arm is the definition's clause. Assumes nothing.
+use Rattle.resolved_sort.specs.Pairs.{withPrimitive}
+use borrow.Author.Needs.{needs}
+use Rattle.sort_order.proofs.with_primitive.Statement.{statement}
+use Rattle.sort_order.proofs.with_primitive.Tie as tie
+
+pub with-primitive-spec : {M : Type 1} → statement M
+unfolding withPrimitive
+with-primitive-spec =
+    tie.close
+    (tie.spec
+    (λ c. search needs)
+    (λ c. search needs)
+    (λ c. search needs)
+    (λ c. search needs)
+    (λ c. search needs)
+    (λ c. search needs)
+    (λ c. cc)
+    (λ c. cc)
+    (λ c. cc)
+    (λ c. cc)
+    (λ c. cc)
+    (λ c. cc))

@@ -1,0 +1,36 @@
+-- Answers of an order taken together, and numbers that may be missing.
+use mathlib.Core.Bool.{Bool, true, false, _&&_}
+use mathlib.Core.Option.{Option, none, some}
+use Prim.Native.Nat.{ℕ}
+use lib.Dec.{eqb}
+use Rattle.resolved_sort.specs.declared.Sort.{Sort}
+use Rattle.resolved_sort.specs.declared.PartialOrder.{PartialOrder}
+use Rattle.resolved_sort.specs.declared.PartialOrder.the-variants.{Unrelated, Equal, Below, Above}
+use Rattle.resolved_sort.specs.Tree.{primitive, family, level}
+use Rattle.resolved_sort.specs.Order.{orderOf, given}
+use Rattle.sort_order.specs.declared.Amount.{Amount}
+use Rattle.sort_order.specs.declared.Amount.the-variants.{Of, Nothing}
+
+abbrev pub atMost : PartialOrder → Bool
+atMost Unrelated = false
+atMost Equal = true
+atMost Below = true
+atMost Above = false
+
+abbrev pub atLeast : PartialOrder → Bool
+atLeast Unrelated = false
+atLeast Equal = true
+atLeast Below = false
+atLeast Above = true
+
+-- equal or below in both, equal or above in both
+unfoldable pub combined : PartialOrder → PartialOrder → PartialOrder
+combined l r = orderOf (atMost l && atMost r) (atLeast l && atLeast r)
+
+abbrev pub amountOf : Option ℕ → Amount
+amountOf none = Nothing
+amountOf (some n) = Of n
+
+-- the level of a number sort, none for Bool
+unfoldable pub generality : Sort → Option ℕ
+generality s = given (eqb (family (primitive s)) 2) (some (level (primitive s)))

@@ -1,0 +1,218 @@
+// The order of merc's resolved sorts over lent storage: partial_cmp, widening_distance and is_materializable.
+use resolved_sort::ComplexSort;
+use resolved_sort::Counts;
+use resolved_sort::Pair;
+use resolved_sort::PartialOrder;
+use resolved_sort::ResolvedSort;
+use resolved_sort::Run;
+use resolved_sort::Sort;
+use resolved_sort::SortId;
+use resolved_sort::Widening;
+use sort_interner::get;
+use sort_interner::word;
+ghost use mathlib.Core.Path.{_≡_};
+ghost use mathlib.Core.Bool.{true, false};
+ghost use Prim.Native.Nat.{_+_, _<_};
+ghost use lib.Dec.{leb};
+ghost use Rattle.resolved_sort.specs.Tree.{primitive, flat};
+ghost use Rattle.resolved_sort.specs.Order.{leOp, order, orderOf};
+ghost use Rattle.resolved_sort.specs.Pairs.{withPrimitive, withContainer, withFunction, pairOf, pairAt};
+ghost use Rattle.sort_order.specs.Answers.{combined, amountOf, generality};
+
+// A number that may be missing: Option<u32> and Option<u8> in the Rust.
+pub enum Amount {
+    Of(u8),
+    Nothing,
+}
+
+// The pair that a primitive sort makes with a row. Only another primitive sort makes one.
+pub fn with_primitive(lhs: Sort, rhs: ResolvedSort) -> Pair
+    ensures { λ r. ⌜ r ≡ withPrimitive lhs rhs ⌝ }
+{
+    match rhs {
+        ResolvedSort::Unit => Pair::Other,
+        ResolvedSort::Primitive(sort) => Pair::Primitives(lhs, sort),
+        ResolvedSort::Container { op: _, subsort: _ } => Pair::Other,
+        ResolvedSort::Function {
+            domain: _,
+            range: _,
+        } => Pair::Other,
+        ResolvedSort::Def(_) => Pair::Other,
+        ResolvedSort::TypeVar(_) => Pair::Other,
+    }
+}
+
+// The pair that a container makes with a row. Two containers make one whatever their operators.
+pub fn with_container(lhs_op: ComplexSort, lhs_sub: SortId, rhs: ResolvedSort) -> Pair
+    ensures { λ r. ⌜ r ≡ withContainer «lhs_op» «lhs_sub» rhs ⌝ }
+{
+    match rhs {
+        ResolvedSort::Unit => Pair::Other,
+        ResolvedSort::Primitive(_) => Pair::Other,
+        ResolvedSort::Container { op, subsort } => Pair::Containers {
+            lhs_op,
+            lhs_sub,
+            rhs_op: op,
+            rhs_sub: subsort,
+        },
+        ResolvedSort::Function {
+            domain: _,
+            range: _,
+        } => Pair::Other,
+        ResolvedSort::Def(_) => Pair::Other,
+        ResolvedSort::TypeVar(_) => Pair::Other,
+    }
+}
+
+// The pair of two functions. With different numbers of arguments they make none.
+pub fn functions(lhs: Run, lhs_range: SortId, rhs: Run, rhs_range: SortId) -> Pair
+    ensures { λ r. ⌜ r ≡ withFunction lhs «lhs_range» (ResolvedSort.Function rhs «rhs_range») ⌝ }
+{
+    if lhs.count == rhs.count {
+        Pair::Functions {
+            count: lhs.count,
+            lhs_start: lhs.start,
+            lhs_range,
+            rhs_start: rhs.start,
+            rhs_range,
+        }
+    } else {
+        Pair::Other
+    }
+}
+
+// The pair that a function makes with a row.
+pub fn with_function(lhs: Run, lhs_range: SortId, rhs: ResolvedSort) -> Pair
+    ensures { λ r. ⌜ r ≡ withFunction lhs «lhs_range» rhs ⌝ }
+{
+    match rhs {
+        ResolvedSort::Unit => Pair::Other,
+        ResolvedSort::Primitive(_) => Pair::Other,
+        ResolvedSort::Container { op: _, subsort: _ } => Pair::Other,
+        ResolvedSort::Function { domain, range } => functions(lhs, lhs_range, domain, range),
+        ResolvedSort::Def(_) => Pair::Other,
+        ResolvedSort::TypeVar(_) => Pair::Other,
+    }
+}
+
+// Two rows side by side: the Rust's `match (self.get(lhs), self.get(rhs))`. Any two of different forms are Other.
+pub fn pair(sorts: &[u16], lhs: SortId, rhs: SortId) -> Pair
+    ensures { λ r. ⌜ r ≡ pairAt (now (sorts .entry)) (lhs .0) (rhs .0) ⌝ }
+{
+    let right = get(sorts, rhs);
+    match get(sorts, lhs) {
+        ResolvedSort::Unit => Pair::Other,
+        ResolvedSort::Primitive(sort) => with_primitive(sort, right),
+        ResolvedSort::Container { op, subsort } => with_container(op, subsort, right),
+        ResolvedSort::Function { domain, range } => with_function(domain, range, right),
+        ResolvedSort::Def(_) => Pair::Other,
+        ResolvedSort::TypeVar(_) => Pair::Other,
+    }
+}
+
+// Two orders of independent positions as one. A Below and an Above make Unrelated.
+pub fn combine(lhs: PartialOrder, rhs: PartialOrder) -> PartialOrder
+    ensures { λ r. ⌜ r ≡ combined lhs rhs ⌝ }
+{
+    match lhs {
+        PartialOrder::Unrelated => PartialOrder::Unrelated,
+        PartialOrder::Equal => rhs,
+        PartialOrder::Below => match rhs {
+            PartialOrder::Unrelated => PartialOrder::Unrelated,
+            PartialOrder::Equal => PartialOrder::Below,
+            PartialOrder::Below => PartialOrder::Below,
+            PartialOrder::Above => PartialOrder::Unrelated,
+        },
+        PartialOrder::Above => match rhs {
+            PartialOrder::Unrelated => PartialOrder::Unrelated,
+            PartialOrder::Equal => PartialOrder::Above,
+            PartialOrder::Below => PartialOrder::Unrelated,
+            PartialOrder::Above => PartialOrder::Above,
+        },
+    }
+}
+
+// How general a number sort is, Pos 0 to Real 3. Bool is no number.
+pub fn number_generality(sort: Sort) -> Amount
+    ensures { λ r. ⌜ r ≡ amountOf (generality sort) ⌝ }
+{
+    match sort {
+        Sort::Bool => Amount::Nothing,
+        Sort::Pos => Amount::Of(0),
+        Sort::Nat => Amount::Of(1),
+        Sort::Int => Amount::Of(2),
+        Sort::Real => Amount::Of(3),
+    }
+}
+
+// Two generalities compared: the Rust's u32::partial_cmp, which is never Unrelated.
+pub fn compare(lhs: u8, rhs: u8) -> PartialOrder
+    ensures { λ r. ⌜ r ≡ orderOf (leb lhs rhs) (leb rhs lhs) ⌝ }
+{
+    if lhs < rhs {
+        return PartialOrder::Below;
+    }
+    if rhs < lhs {
+        return PartialOrder::Above;
+    }
+    PartialOrder::Equal
+}
+
+// The order of two primitive sorts. Bool is related to no number.
+pub fn primitive_partial_cmp(lhs: Sort, rhs: Sort) -> PartialOrder
+    ensures { λ r. ⌜ r ≡ order (flat (primitive lhs)) (flat (primitive rhs)) ⌝ }
+{
+    match number_generality(lhs) {
+        Amount::Of(l) => match number_generality(rhs) {
+            Amount::Of(r) => compare(l, r),
+            Amount::Nothing => PartialOrder::Unrelated,
+        },
+        Amount::Nothing => match number_generality(rhs) {
+            Amount::Of(_) => PartialOrder::Unrelated,
+            Amount::Nothing => PartialOrder::Equal,
+        },
+    }
+}
+
+// The order of two container operators, FSet below Set and FBag below Bag. A set and a bag are Unrelated.
+pub fn generic_op_partial_cmp(lhs: ComplexSort, rhs: ComplexSort) -> PartialOrder
+    ensures { λ r. ⌜ r ≡ orderOf (leOp true lhs rhs) (leOp false lhs rhs) ⌝ }
+{
+    match lhs {
+        ComplexSort::List => match rhs {
+            ComplexSort::List => PartialOrder::Equal,
+            ComplexSort::Set => PartialOrder::Unrelated,
+            ComplexSort::FSet => PartialOrder::Unrelated,
+            ComplexSort::Bag => PartialOrder::Unrelated,
+            ComplexSort::FBag => PartialOrder::Unrelated,
+        },
+        ComplexSort::Set => match rhs {
+            ComplexSort::List => PartialOrder::Unrelated,
+            ComplexSort::Set => PartialOrder::Equal,
+            ComplexSort::FSet => PartialOrder::Above,
+            ComplexSort::Bag => PartialOrder::Unrelated,
+            ComplexSort::FBag => PartialOrder::Unrelated,
+        },
+        ComplexSort::FSet => match rhs {
+            ComplexSort::List => PartialOrder::Unrelated,
+            ComplexSort::Set => PartialOrder::Below,
+            ComplexSort::FSet => PartialOrder::Equal,
+            ComplexSort::Bag => PartialOrder::Unrelated,
+            ComplexSort::FBag => PartialOrder::Unrelated,
+        },
+        ComplexSort::Bag => match rhs {
+            ComplexSort::List => PartialOrder::Unrelated,
+            ComplexSort::Set => PartialOrder::Unrelated,
+            ComplexSort::FSet => PartialOrder::Unrelated,
+            ComplexSort::Bag => PartialOrder::Equal,
+            ComplexSort::FBag => PartialOrder::Above,
+        },
+        ComplexSort::FBag => match rhs {
+            ComplexSort::List => PartialOrder::Unrelated,
+            ComplexSort::Set => PartialOrder::Unrelated,
+            ComplexSort::FSet => PartialOrder::Unrelated,
+            ComplexSort::Bag => PartialOrder::Below,
+            ComplexSort::FBag => PartialOrder::Equal,
+        },
+    }
+}
