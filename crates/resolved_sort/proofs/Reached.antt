@@ -11,13 +11,15 @@ use Rattle.resolved_sort.specs.declared.Counts.{Counts}
 use Rattle.resolved_sort.specs.declared.Joined.{Joined}
 use Rattle.resolved_sort.specs.declared.Joined.the-variants.{At, Nothing, Full}
 use Rattle.resolved_sort.specs.Tree.{Tree, Trees}
-use Rattle.resolved_sort.specs.Interning.{Sorts, look, number, member, Outcome, made, nothing, full}
+use Rattle.resolved_sort.specs.Interning.{Sorts, look, number, member, need, Outcome, made, nothing, full, intern}
 use Rattle.resolved_sort.specs.Storage.{maxEntries, trees, sortsOf}
 use Rattle.resolved_sort.specs.Entries.{countsOf, after, Stored, stored}
 use Rattle.resolved_sort.specs.Rows.{Checked, storedAt}
+use Rattle.resolved_sort.specs.Bounds.{internAt}
+use Rattle.resolved_sort.proofs.RowTrees.{partsIn}
 use Rattle.resolved_sort.proofs.Numbers.{look-number, number-below}
-use Rattle.resolved_sort.proofs.Grown.{Grown, after-both, sorts-again}
-use Rattle.resolved_sort.proofs.Kept.{Extends, Kept, InTree}
+use Rattle.resolved_sort.proofs.Grown.{Grown, grown-none, after-both, sorts-again}
+use Rattle.resolved_sort.proofs.Kept.{Extends, Kept, InTree, intern-kept}
 
 no-confusion : _≡_ {A = ℕ} 0 1 → {A : Type 0} → A
 no-confusion e = absurd (omega arith)
@@ -85,3 +87,18 @@ unfolding Kept stored
 stored-again ws n e S g S₀ (made v S′) h = rw (after-both ws n e S S′ g (h .0))
 stored-again ws n e S g S₀ (nothing S′) h = rw (after-both ws n e S S′ g (h .0))
 stored-again ws n e S g S₀ (full S′) h = rw (after-both ws n e S S′ g (h .0))
+
+-- interning after a call
+module _ (ws : List ℕ) (n e : ℕ) (S₀ : Sorts) (O : Outcome Tree) (vs : List ℕ) (c : SortId) (k : Counts) (r : Reached ws n e S₀ O vs c k) where
+  here : Grown (after ws n e (r .sorts)) (length (r .sorts .trees)) (maxEntries - r .sorts .entries) (r .sorts)
+  here =
+      subst (Grown (after ws n e (r .sorts)) (length (r .sorts .trees)) (maxEntries - r .sorts .entries)) (sorts-again ws n e (r .sorts) (r .grown))
+      (grown-none (after ws n e (r .sorts)) (length (r .sorts .trees)) (maxEntries - r .sorts .entries) (r .grown .checked))
+
+  pub intern-after : (t : Tree) → partsIn (r .sorts .trees) t ≡ true → need t ≤ 16 → internAt vs (k .sorts) (k .entries) t ≡ stored ws n e (intern t (r .sorts))
+  unfolding internAt
+  intern-after t p q =
+      ap (λ S. stored vs (k .sorts) (k .entries) (intern t S)) (reached-list ws n e S₀ O vs c k r)
+      ∙ (rw (r .words, r .counted)
+      (stored-again ws n e (r .sorts) (r .grown) (r .sorts) (intern t (r .sorts))
+      (intern-kept (after ws n e (r .sorts)) (length (r .sorts .trees)) (maxEntries - r .sorts .entries) (r .sorts) here t p q)))

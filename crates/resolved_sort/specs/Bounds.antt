@@ -18,8 +18,8 @@ use Rattle.resolved_sort.specs.declared.Found.the-variants.{All, Nothing
 use Rattle.resolved_sort.specs.declared.Domain.{Domain}
 use Rattle.resolved_sort.specs.Tree.{primitive, Tree, container, function, Trees, family, level}
 use Rattle.resolved_sort.specs.Order.{leLevel, boundOp}
-use Rattle.resolved_sort.specs.Interning.{Sorts, look, Outcome, made, nothing, full, intern, make, makes}
-use Rattle.resolved_sort.specs.Storage.{functionKind, kindAt, startAt, countAt, entriesOf, lookAll, numbers, trees, sortsOf}
+use Rattle.resolved_sort.specs.Interning.{Sorts, look, Outcome, made, nothing, full, _then_, where-some, intern, make, makes}
+use Rattle.resolved_sort.specs.Storage.{functionKind, kindAt, partAt, startAt, countAt, entriesOf, lookAll, numbers, trees, sortsOf}
 use Rattle.resolved_sort.specs.Entries.{countsOf, after, Stored, stored}
 use Rattle.resolved_sort.specs.Rows.{Checked}
 
@@ -32,6 +32,12 @@ pub record Asked (ws : List ℕ) (n e a b : ℕ) : Type 0 where
 -- the join or meet of a and b, and what it leaves
 unfoldable pub boundAt : Bool → List ℕ → ℕ → ℕ → ℕ → ℕ → Stored
 boundAt up ws n e a b = stored ws n e (make up (look (trees ws n) a) (look (trees ws n) b) (sortsOf ws n e))
+
+-- the join or meet of two containers of a list, by operators and parts
+unfoldable pub containerAt : Bool → List ℕ → ℕ → ℕ → ComplexSort → ℕ → ComplexSort → ℕ → Stored
+containerAt up ws n e o s p t =
+    stored ws n e
+    (where-some (boundOp up o p) (sortsOf ws n e) (λ q. make up (look (trees ws n) s) (look (trees ws n) t) (sortsOf ws n e) then (λ v S. intern (container q v) S)))
 
 -- a sort of a list interned, and what that leaves
 unfoldable pub internAt : List ℕ → ℕ → ℕ → Tree → Stored
@@ -71,3 +77,10 @@ domainOf ws n e i ids (full S) = storedDomain (after ws n e S) (record { ids = r
 -- the joins or meets of the arguments of a and b from the i-th on
 unfoldable pub boundDomain : Bool → List ℕ → ℕ → ℕ → ℕ → ℕ → ℕ → List ℕ → StoredDomain
 boundDomain up ws n e a b i ids = domainOf ws n e i ids (makes up (argumentsFrom ws n a i) (argumentsFrom ws n b i) (sortsOf ws n e))
+
+-- the join or meet of two functions of a list: the arguments the other way, then the range, then the whole
+unfoldable pub functionAt : Bool → List ℕ → ℕ → ℕ → ℕ → ℕ → Stored
+functionAt up ws n e a b =
+    stored ws n e
+    (makes (not up) (argumentsFrom ws n a 0) (argumentsFrom ws n b 0) (sortsOf ws n e)
+    then (λ vs S. make up (look (trees ws n) (partAt ws a)) (look (trees ws n) (partAt ws b)) S then (λ v S. intern (function vs v) S)))
