@@ -107,7 +107,7 @@ module _ (ws : List ℕ) (C : Counts) (k : Checked ws (C .sorts) (C .entries)) w
   abbrev S : Sorts
   S = sortsOf ws n e
 
-  counts-are : countsOf S ≡ C
+  pub counts-are : countsOf S ≡ C
   counts-are =
       let a = length-trees ws n in
       let b : maxEntries - (maxEntries - e) ≡ e = omega (arith, k .entries) in

@@ -19,7 +19,7 @@ pub record RunInside (ws : List ℕ) (e i : ℕ) : Type 0 where
   pub short : countAt ws i ≤ 16
   pub inside : startAt ws i + countAt ws i ≤ e
 
-run-below : (ws : List ℕ) (i s c : ℕ) → AllBelow i (entriesOf ws s c) → (j : ℕ) → j < c → entryAt ws (s + j) < i
+pub run-below : (ws : List ℕ) (i s c : ℕ) → AllBelow i (entriesOf ws s c) → (j : ℕ) → j < c → entryAt ws (s + j) < i
 unfolding AllBelow entriesOf
 run-below ws i s zero h j l = absurd (omega arith)
 run-below ws i s (suc c) h zero l = subst (λ j. entryAt ws j < i) (sym (add-zero s)) (h .0)

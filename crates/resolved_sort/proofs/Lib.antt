@@ -24,3 +24,4 @@ pub mod Made
 pub mod Reached
 pub mod Stored
 pub mod BoundsCode
+pub mod DomainCode

@@ -147,7 +147,7 @@ functions-say d c r u true q = (refl, ap (λ (k : ℕ). Function (record { start
 functions-say d c r u false q =
     λ ws T n. functions (λ e. eqb-false _ _ q (sym (arity-run ws T (d .start) (d .count)) ∙ (e ∙ arity-run ws T (c .start) (c .count))))
 
-pair-says : (R Q : ResolvedSort) → Says R Q (pairOf R Q)
+pub pair-says : (R Q : ResolvedSort) → Says R Q (pairOf R Q)
 unfolding pairOf withPrimitive withContainer withFunction Says sortOf family
 pair-says UnitRow UnitRow = λ ws T x. absurd (x refl)
 pair-says UnitRow (Primitive m) = λ ws T x. flats {a = unit} {b = primitive m} (λ e. omega (arith, primitive-family m))

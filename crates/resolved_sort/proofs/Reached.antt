@@ -90,7 +90,7 @@ stored-again ws n e S g S₀ (full S′) h = rw (after-both ws n e S S′ g (h .
 
 -- interning after a call
 module _ (ws : List ℕ) (n e : ℕ) (S₀ : Sorts) (O : Outcome Tree) (vs : List ℕ) (c : SortId) (k : Counts) (r : Reached ws n e S₀ O vs c k) where
-  here : Grown (after ws n e (r .sorts)) (length (r .sorts .trees)) (maxEntries - r .sorts .entries) (r .sorts)
+  pub here : Grown (after ws n e (r .sorts)) (length (r .sorts .trees)) (maxEntries - r .sorts .entries) (r .sorts)
   here =
       subst (Grown (after ws n e (r .sorts)) (length (r .sorts .trees)) (maxEntries - r .sorts .entries)) (sorts-again ws n e (r .sorts) (r .grown))
       (grown-none (after ws n e (r .sorts)) (length (r .sorts .trees)) (maxEntries - r .sorts .entries) (r .grown .checked))

@@ -142,7 +142,7 @@ tree-of-row T (function ts u) h =
     ap₂ function (lookAll-numbers T ts (p .0)) (look-number T u (p .1))
 
 -- a row that passes check 3 has its parts below its own number
-below-run : (ws : List ℕ) (i s c : ℕ) → ((j : ℕ) → j < c → entryAt ws (s + j) < i) → AllBelow i (entriesOf ws s c)
+pub below-run : (ws : List ℕ) (i s c : ℕ) → ((j : ℕ) → j < c → entryAt ws (s + j) < i) → AllBelow i (entriesOf ws s c)
 unfolding AllBelow entriesOf
 below-run ws i s zero h = tt
 below-run ws i s (suc c) h = (
@@ -232,7 +232,7 @@ treeOf-agrees T U l h r w =
     (λ p xs w. refl)
     (r .kind) (w .known) (r .part) (r .args) w
 
-weaken-all : (l m : ℕ) (xs : List ℕ) → l ≤ m → AllBelow l xs → AllBelow m xs
+pub weaken-all : (l m : ℕ) (xs : List ℕ) → l ≤ m → AllBelow l xs → AllBelow m xs
 unfolding AllBelow
 weaken-all l m [] h b = tt
 weaken-all l m (x ∷ xs) h b = (omega (arith, b .0), weaken-all l m xs h (b .1))

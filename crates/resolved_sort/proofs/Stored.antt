@@ -97,7 +97,7 @@ module _ (ws : List ℕ) (n e : ℕ) (k : Checked ws n e) where
   member-at : (i : ℕ) → i < n → member (trees ws n) (look (trees ws n) i) ≡ true
   member-at i h = member-look (trees ws n) i (omega (arith, length-trees ws n))
 
-  wholes-below : (m : ℕ) → ((i : ℕ) → i < m → Whole (trees ws n) (look (trees ws n) i)) → (xs : List ℕ) → AllBelow m xs → Wholes (trees ws n) (lookAll (trees ws n) xs)
+  pub wholes-below : (m : ℕ) → ((i : ℕ) → i < m → Whole (trees ws n) (look (trees ws n) i)) → (xs : List ℕ) → AllBelow m xs → Wholes (trees ws n) (lookAll (trees ws n) xs)
   unfolding Wholes lookAll AllBelow
   wholes-below m f [] b = tt
   wholes-below m f (x ∷ xs) b = (f x (b .0), wholes-below m f xs (b .1))
