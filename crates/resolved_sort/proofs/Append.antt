@@ -227,7 +227,7 @@ rowOf-within T (function ts u) h =
     let p = and-eq-true-iff (members T ts) (member T u) .0 h in
     record { known = omega arith; plain = λ l. absurd (omega arith); part = λ l m. number-below T u (p .1); no-run = λ n. absurd (n refl); args = numbers-below T ts (p .0) }
 
-length-numbers : (T : List Tree) (ts : Trees) → length (numbers T ts) ≡ arity ts
+pub length-numbers : (T : List Tree) (ts : Trees) → length (numbers T ts) ≡ arity ts
 unfolding numbers arity
 length-numbers T end = refl
 length-numbers T (arg t ts) = omega (arith, length-numbers T ts)

@@ -133,7 +133,7 @@ part-of-all : (l : ℕ) (ws : List ℕ) (s c i : ℕ) → i ≤ c → AllBelow l
 part-of-all l ws s c i h b = below-run ws l (s + i) (c - i) (λ j q. subst (λ x. entryAt ws x < l) (omega arith) (run-below ws l s c b (i + j) (omega arith)))
 
 -- the rest of the arguments, after the first was made
-number-extends : (S S′ : Sorts) (t : Tree) → Extends S S′ → member (S .trees) t ≡ true → number (S′ .trees) t ≡ number (S .trees) t
+pub number-extends : (S S′ : Sorts) (t : Tree) → Extends S S′ → member (S .trees) t ≡ true → number (S′ .trees) t ≡ number (S .trees) t
 number-extends S S′ t x m = ap (λ T. number T t) (x .1) ∙ number-grows (S .trees) (x .0) t m
 
 domain-glue : (ws : List ℕ) (n e : ℕ) (S : Sorts) → Grown ws n e S → (v : Tree) → member (S .trees) v ≡ true → (c : ℕ) → c ≡ number (S .trees) v → (i : ℕ) (ids : List ℕ) (k : ℕ) (O : Outcome Trees)

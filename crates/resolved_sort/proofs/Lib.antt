@@ -25,3 +25,4 @@ pub mod Reached
 pub mod Stored
 pub mod BoundsCode
 pub mod DomainCode
+pub mod FunctionCode

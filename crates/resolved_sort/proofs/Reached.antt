@@ -21,7 +21,7 @@ use Rattle.resolved_sort.proofs.Numbers.{look-number, number-below}
 use Rattle.resolved_sort.proofs.Grown.{Grown, grown-none, after-both, sorts-again}
 use Rattle.resolved_sort.proofs.Kept.{Extends, Kept, InTree, intern-kept}
 
-no-confusion : _≡_ {A = ℕ} 0 1 → {A : Type 0} → A
+pub no-confusion : _≡_ {A = ℕ} 0 1 → {A : Type 0} → A
 no-confusion e = absurd (omega arith)
 
 -- A call from ws, n, e answered c with counts k and left vs.
