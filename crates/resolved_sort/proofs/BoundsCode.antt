@@ -93,6 +93,12 @@ make-unlike up (function ss r) (function ts u) S n (functions f) =
     when-false (same (function ss r) (function ts u)) _ _ (not-same (function ss r) (function ts u) n _ refl)
     ∙ when-false (eqb (arity ss) (arity ts)) _ _ (ne-eqb (arity ss) (arity ts) f)
 
+-- the answer that a side stands for
+abbrev pub sideAnswer : SortId → SortId → Counts → Side → Joined
+sideAnswer a b C Lhs = At a C
+sideAnswer a b C Rhs = At b C
+sideAnswer a b C Neither = Nothing C
+
 -- the answers of one call
 module _ (ws : List ℕ) (C : Counts) (k : Checked ws (C .sorts) (C .entries)) where
   abbrev n : ℕ
@@ -153,15 +159,10 @@ module _ (ws : List ℕ) (C : Counts) (k : Checked ws (C .sorts) (C .entries)) w
         by-side true false q x er el en = ap (λ y. storedAt ws (x y)) q ∙ (ap (storedAt ws) el ∙ (answer-old a ha ∙ ap (λ t. stored ws n e (made t S)) (o .lhs)))
         by-side false g q x er el en = ap (λ y. storedAt ws (x y)) q ∙ (ap (storedAt ws) en ∙ answer-none)
 
-        abbrev answer : Side → Joined
-        answer Rhs = At b C
-        answer Lhs = At a C
-        answer Neither = Nothing C
-
-        pub bound-number : storedAt ws (answer s) ≡ boundAt up ws n e (a .0) (b .0)
+        pub bound-number : storedAt ws (sideAnswer a b C s) ≡ boundAt up ws n e (a .0) (b .0)
         unfolding boundAt boundFlat
         bound-number =
-            by-side (eqb (family (primitive l)) (family (primitive r))) (leLevel up (level (primitive l)) (level (primitive r))) es answer refl refl refl
+            by-side (eqb (family (primitive l)) (family (primitive r))) (leLevel up (level (primitive l)) (level (primitive r))) es (sideAnswer a b C) refl refl refl
             ∙ ap (stored ws n e) (sym made-number)
 
       module _ (o : ComplexSort) (s : SortId) (p : ComplexSort) (t : SortId) (c : OfContainers ws n e (a .0) (b .0) o s p t) where

@@ -18,13 +18,9 @@ use Rattle.resolved_sort.specs.Tree.{Flat, unit, primitive, def, typevar
 use Rattle.resolved_sort.specs.Interning.{look, number, member, distinct}
 use Rattle.resolved_sort.specs.Storage.{lastKind, functionKind, kindAt, partAt, startAt, countAt, entryAt, entriesOf, Row, wordsAt, resolved, rowAt, lookAll, treeOf, numbers, rowOf, kindFlat, kindOp, partFlat}
 use Rattle.resolved_sort.specs.Checks.{allBelow, partsBelow, rowFine}
+unfoldable pub use Rattle.resolved_sort.specs.Rows.{AllBelow}
 use Rattle.resolved_sort.proofs.Below.{below-each}
 use Rattle.resolved_sort.proofs.Numbers.{look-number, number-look, number-below}
-
--- each number of the list is below l
-unfoldable pub AllBelow : ℕ → List ℕ → Type 0
-AllBelow l [] = Unit {0}
-AllBelow l (x ∷ xs) = (x < l) × AllBelow l xs
 
 -- a row whose parts are numbered below l, with nothing in the words that are not looked at
 pub record Within (l : ℕ) (r : Row) : Type 0 where

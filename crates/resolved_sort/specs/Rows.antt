@@ -2,7 +2,7 @@
 -- structure stands in proofs/.
 use mathlib.Core.Bool.{Bool, true, false, cond, _&&_}
 use mathlib.Core.List.{List, [], _∷_}
-use Prim.Native.Nat.{ℕ, zero, suc, _+_, _≤_}
+use Prim.Native.Nat.{ℕ, zero, suc, _+_, _<_, _≤_}
 use lib.ListN.{length}
 use lib.Dec.{eqb, leb, ltb}
 use mathlib.Core.Path.{_≡_}
@@ -20,6 +20,11 @@ pub record Checked (ws : List ℕ) (n e : ℕ) : Type 0 where
   pub entries : e ≤ maxEntries
   pub fine : rowsFine ws n e ≡ true
   pub differ : noTwoEqual ws n ≡ true
+
+-- each number of the list is below l
+unfoldable pub AllBelow : ℕ → List ℕ → Type 0
+AllBelow l [] = Unit {0}
+AllBelow l (x ∷ xs) = (x < l) × AllBelow l xs
 
 unfoldable pub sameWords : List ℕ → List ℕ → Bool
 sameWords [] [] = true

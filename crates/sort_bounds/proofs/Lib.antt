@@ -1,0 +1,2 @@
+mod Farther
+mod Ways

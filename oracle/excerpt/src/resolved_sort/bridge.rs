@@ -1,0 +1,68 @@
+//! Puts a sort list into a [SortInterner] and reads new sorts out of it.
+
+use lists::memory::Memory;
+use lists::memory::kind;
+use lists::verdict::NewSort;
+use merc_syntax::ComplexSort;
+use merc_syntax::SortId;
+use merc_syntax::TypeVarId;
+
+use super::ResolvedSort;
+use super::ResolvedSortId;
+use super::SortInterner;
+
+/// The containers by kind from [kind::LIST] on.
+const CONTAINERS: [ComplexSort; 5] =
+    [ComplexSort::List, ComplexSort::Set, ComplexSort::FSet, ComplexSort::Bag, ComplexSort::FBag];
+
+pub(crate) fn container(kind: u16) -> ComplexSort {
+    CONTAINERS[usize::from(kind - kind::LIST)]
+}
+
+pub(crate) fn sort_id(number: u16) -> ResolvedSortId {
+    ResolvedSortId::new(usize::from(number))
+}
+
+/// Interns the rows of an accepted list in order, so that numbers of the list are ids here.
+pub(crate) fn load(memory: &Memory) -> SortInterner {
+    let mut sorts = SortInterner::new();
+    for number in sorts.arena.len()..memory.sort_count {
+        let row = memory.sort(number);
+        let id = match row.kind {
+            kind::LIST..=kind::FBAG => sorts.generic(container(row.kind), sort_id(row.part)),
+            kind::FUNCTION => {
+                let domain = memory.sort_arguments(row).iter().map(|&argument| sort_id(argument)).collect();
+                sorts.function(domain, sort_id(row.part))
+            }
+            kind::DEF => sorts.def(SortId::new(usize::from(row.part))),
+            kind::TYPE_VAR => sorts.var(TypeVarId::new(usize::from(row.part))),
+            kind => panic!("an accepted list has no sort {number} of kind {kind}"),
+        };
+        assert_eq!(*id, number, "the rows of an accepted list are distinct sorts");
+    }
+    sorts
+}
+
+/// The sorts from number `first` on, in order of making.
+pub(crate) fn sorts_from(sorts: &SortInterner, first: usize) -> Vec<NewSort> {
+    sorts.arena[first..].iter().map(new_sort).collect()
+}
+
+pub(crate) fn number(id: ResolvedSortId) -> u16 {
+    u16::try_from(*id).expect("sort numbers fit a word")
+}
+
+fn new_sort(sort: &ResolvedSort) -> NewSort {
+    match sort {
+        ResolvedSort::Container { op, subsort } => {
+            let index = CONTAINERS.iter().position(|container| container == op).expect("a known container");
+            NewSort { kind: kind::LIST + index as u16, part: number(*subsort), arguments: Vec::new() }
+        }
+        ResolvedSort::Function { domain, range } => NewSort {
+            kind: kind::FUNCTION,
+            part: number(*range),
+            arguments: domain.iter().map(|&argument| number(argument)).collect(),
+        },
+        other => panic!("no call makes the sort {other:?}"),
+    }
+}

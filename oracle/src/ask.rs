@@ -1,0 +1,68 @@
+//! Puts a question to the excerpt: first the checks, then the counting build and the plain build,
+//! which must agree.
+
+use std::any::Any;
+use std::fmt;
+use std::panic;
+
+use lists::answer::Answer;
+use lists::checks;
+use lists::memory::Memory;
+use lists::question::Question;
+use lists::verdict::Heard;
+use lists::verdict::Tally;
+use merc_counting::ledger;
+use merc_counting::ledger::OutOfRoom;
+
+/// An answer, and what the search did on the way to it.
+pub struct Asked {
+    pub answer: Answer,
+    pub tally: Tally,
+}
+
+/// Why there is no answer.
+#[derive(Debug)]
+pub enum Failure {
+    /// The Rust panicked; the message.
+    Panic(String),
+    /// The two builds differ.
+    Disagreement { plain: Box<Heard>, counting: Box<Heard> },
+}
+
+impl fmt::Display for Failure {
+    fn fmt(&self, f: &mut fmt::Formatter<'_>) -> fmt::Result {
+        match self {
+            Failure::Panic(message) => write!(f, "the Rust panicked: {message}"),
+            Failure::Disagreement { plain, counting } => {
+                write!(f, "the builds differ: plain {plain:?}, counting {counting:?}")
+            }
+        }
+    }
+}
+
+pub fn ask(memory: &Memory, question: Question) -> Result<Asked, Failure> {
+    if let Some(code) = checks::first_failing(memory, question) {
+        return Ok(Asked { answer: Answer::code(code), tally: Tally::default() });
+    }
+    let counted = panic::catch_unwind(|| merc_counting::ask(memory, question));
+    let tally = ledger::end();
+    let counting = match counted {
+        Ok(heard) => heard,
+        Err(thrown) => match thrown.downcast_ref::<OutOfRoom>() {
+            Some(room) => return Ok(Asked { answer: Answer::code(room.code()), tally }),
+            None => return Err(Failure::Panic(message(&*thrown))),
+        },
+    };
+    let plain = panic::catch_unwind(|| merc_plain::ask(memory, question))
+        .map_err(|thrown| Failure::Panic(message(&*thrown)))?;
+    if plain != counting {
+        return Err(Failure::Disagreement { plain: Box::new(plain), counting: Box::new(counting) });
+    }
+    let answer = Answer::heard(&counting, &tally, memory.sort_count);
+    Ok(Asked { answer, tally })
+}
+
+fn message(thrown: &(dyn Any + Send)) -> String {
+    let text = thrown.downcast_ref::<&str>().map(|text| text.to_string());
+    text.or_else(|| thrown.downcast_ref::<String>().cloned()).unwrap_or_else(|| "no message".to_string())
+}

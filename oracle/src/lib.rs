@@ -1,0 +1,6 @@
+//! Asks the excerpt of merc about lists, and makes lists to ask about.
+
+pub mod ask;
+pub mod generate;
+pub mod options;
+mod rng;
