@@ -362,14 +362,14 @@ pub fn find_row(sorts: &[u16], n: u16, kind: u16, part: u16, ids: [u16; 16], cou
     requires { ⌜ count ≤ 16 ⌝ }
     ensures { λ r. ⌜ r ≡ findRow (now (sorts .entry)) n (record { kind = kind; part = part; args = take count ids }) ⌝ }
 {
-    let mut i: u16 = 0;
-    while i < n {
-        if is_row(sorts, i, kind, part, ids, count) {
-            return i;
+    let mut row: u16 = 0;
+    while row < n {
+        if is_row(sorts, row, kind, part, ids, count) {
+            return row;
         }
-        i += 1;
+        row += 1;
     }
-    i
+    row
 }
 
 // Row i set to four words. The part of it that lies past the end is left out.

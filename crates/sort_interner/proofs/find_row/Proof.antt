@@ -11,11 +11,11 @@ use Rattle.sort_interner.proofs.find_row.Statement.{statement}
 use Rattle.sort_interner.proofs.find_row.Tie as tie
 
 abbrev Inv-loop : tie.InvT-loop
-Inv-loop sorts n kind part ids count i₀ i =
-    (i ≤ n) × (findRow sorts n (rowWith kind part ids count) ≡ firstFrom (isRow sorts (rowWith kind part ids count)) (n - i) i)
+Inv-loop sorts n kind part ids count row₀ row =
+    (row ≤ n) × (findRow sorts n (rowWith kind part ids count) ≡ firstFrom (isRow sorts (rowWith kind part ids count)) (n - row) row)
 
 abbrev μ-loop : tie.MeasureT-loop
-μ-loop sorts n kind part ids count i₀ i = n - i
+μ-loop sorts n kind part ids count row₀ row = n - row
 
 pub find-row-spec : {M : Type 1} → statement M
 find-row-spec =
