@@ -1,12 +1,11 @@
 -- What a row's words say as far as they are looked at, and two rows compared, at each way through the code. Assumes nothing.
-use mathlib.Core.Path.{_≡_, refl, sym, ap, ap₂, _∙_}
-use mathlib.Core.Bool.{Bool, true, false, cond, _&&_, and-false}
+use mathlib.Core.Path.{_≡_, sym, ap, ap₂, _∙_}
+use mathlib.Core.Bool.{Bool, false, cond, and-false}
 use mathlib.Core.List.{List, []}
 use Prim.Native.Nat.{ℕ, _+_, _*_, _<_, _≤_}
 use lib.ListN.{getD}
-use lib.Dec.{eqb, ltb}
 use borrow.Author.Tests.{lt-ltb, le-ltb, eq-eqb, ne-eqb}
-use Rattle.resolved_sort.specs.Storage.{kindAt, partAt, startAt, countAt, entriesOf, Row, wordsAt}
+use Rattle.resolved_sort.specs.Storage.{partAt, startAt, countAt, entriesOf, Row, wordsAt}
 use Rattle.resolved_sort.specs.Rows.{sameWords, sameRow}
 
 module _ (ws : List ℕ) (i k : ℕ) (e : k ≡ (wordsAt ws i) .kind) where

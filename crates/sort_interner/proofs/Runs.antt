@@ -1,7 +1,7 @@
 -- Laws of runs of entries: their length and elements, and comparing two lists of words from the front, as the loops that
 -- do so meet it. Assumes nothing.
 use mathlib.Core.Path.{_≡_, refl, sym, ap, _∙_}
-use mathlib.Core.Bool.{Bool, true, false, _&&_, and-false}
+use mathlib.Core.Bool.{Bool, true, false, and-false}
 use mathlib.Core.List.{List, [], _∷_}
 use Prim.Native.Nat.{ℕ, zero, suc, _+_, _<_, _≤_}
 use native.Mathlib.Omega.{arith}
@@ -13,6 +13,9 @@ use lib.Dec.{eqb}
 use borrow.Author.Tests.{eq-eqb, ne-eqb}
 use Rattle.resolved_sort.specs.Storage.{entryAt, entriesOf}
 use Rattle.resolved_sort.specs.Rows.{sameWords}
+
+pub length-given : (ids : List ℕ) (n : ℕ) → length ids ≡ 16 → n ≤ 16 → length (take n ids) ≡ n
+length-given ids n len few = length-take-le n ids (omega arith)
 
 pub length-entriesOf : (ws : List ℕ) (s n : ℕ) → length (entriesOf ws s n) ≡ n
 unfolding entriesOf
@@ -86,19 +89,16 @@ runs-of-other-count ws s t n m f = other-count ws (entriesOf ws t m) s n (λ e. 
 
 -- a run of the lent words and the first n of sixteen words given
 module _ (ws ids : List ℕ) (s n : ℕ) (len : length ids ≡ 16) (few : n ≤ 16) where
-  length-given : length (take n ids) ≡ n
-  length-given = length-take-le n ids (omega arith)
-
   pub args-of-other-count : (m : ℕ) → (m ≡ n → ⊥) → false ≡ sameWords (entriesOf ws s m) (take n ids)
-  args-of-other-count m f = other-count ws (take n ids) s m (λ e. f (e ∙ length-given))
+  args-of-other-count m f = other-count ws (take n ids) s m (λ e. f (e ∙ length-given ids n len few))
 
   module _ (k : ℕ) (inv : sameWords (entriesOf ws s n) (take n ids) ≡ sameFrom k (entriesOf ws s n) (take n ids)) where
     pub args-done : n ≤ k → (m : ℕ) → m ≡ n → true ≡ sameWords (entriesOf ws s m) (take n ids)
-    args-done h m same = rw same (run-done ws (take n ids) s n k length-given _ inv h)
+    args-done h m same = rw same (run-done ws (take n ids) s n k (length-given ids n len few) _ inv h)
 
     module _ (h : k < n) (x : ℕ) (ex : x ≡ entryAt ws (s + k)) where
       pub args-more : x ≡ getD ids k 0 → sameWords (entriesOf ws s n) (take n ids) ≡ sameFrom (k + 1) (entriesOf ws s n) (take n ids)
-      args-more e = run-more ws (take n ids) s n k length-given _ inv h x (getD ids k 0) ex (sym (getD-take n ids k 0 h)) e
+      args-more e = run-more ws (take n ids) s n k (length-given ids n len few) _ inv h x (getD ids k 0) ex (sym (getD-take n ids k 0 h)) e
 
       pub args-not : (x ≡ getD ids k 0 → ⊥) → (m : ℕ) → m ≡ n → false ≡ sameWords (entriesOf ws s m) (take n ids)
-      args-not e m same = rw same (run-not ws (take n ids) s n k length-given _ inv h x (getD ids k 0) ex (sym (getD-take n ids k 0 h)) e)
+      args-not e m same = rw same (run-not ws (take n ids) s n k (length-given ids n len few) _ inv h x (getD ids k 0) ex (sym (getD-take n ids k 0 h)) e)

@@ -1,12 +1,13 @@
 -- A run of stores, one turn after another. Assumes nothing.
-use mathlib.Core.Path.{_≡_, refl, sym, ap, _∙_}
-use mathlib.Core.List.{List, [], _∷_}
+use mathlib.Core.Path.{_≡_, sym, ap, _∙_}
+use mathlib.Core.List.{List}
 use Prim.Native.Nat.{ℕ, suc, _+_, _<_, _≤_}
 use native.Mathlib.Omega.{arith}
 use native.Mathlib.Nat.{add-zero}
 use native.Mathlib.Numerals.{add-one}
 use lib.ListN.{length, getD, take, drop, set, drop-of-length-le}
-use lib.Seq.{sets, drop-cons, getD-take, length-take-le}
+use lib.Seq.{sets, drop-cons, getD-take}
+use Rattle.sort_interner.proofs.Runs.{length-given}
 
 -- the words of xs from i on stored, the first of xs at p
 unfoldable pub setsFrom : ℕ → List ℕ → ℕ → List ℕ → List ℕ
@@ -29,14 +30,11 @@ sets-done i ws p xs h = ap (λ ys. sets ws (p + i) ys) (drop-of-length-le xs h)
 
 -- the first n of sixteen words given
 module _ (ws ids : List ℕ) (p n i : ℕ) (len : length ids ≡ 16) (few : n ≤ 16) (whole : List ℕ) (inv : whole ≡ setsFrom i ws p (take n ids)) where
-  length-given : length (take n ids) ≡ n
-  length-given = length-take-le n ids (omega arith)
-
   pub given-done : n ≤ i → ws ≡ whole
-  given-done h = sym (inv ∙ sets-done i ws p (take n ids) (omega (arith, length-given)))
+  given-done h = sym (inv ∙ sets-done i ws p (take n ids) (omega (arith, length-given ids n len few)))
 
   pub given-more : i < n → (vs : List ℕ) → vs ≡ set ws (p + i) (getD ids i 0) → whole ≡ setsFrom (i + 1) vs p (take n ids)
   given-more h vs e =
-      inv ∙ sets-more i ws p (take n ids) (omega (arith, length-given))
+      inv ∙ sets-more i ws p (take n ids) (omega (arith, length-given ids n len few))
       ∙ ap (λ x. setsFrom (i + 1) (set ws (p + i) x) p (take n ids)) (getD-take n ids i 0 h)
       ∙ ap (λ l. setsFrom (i + 1) l p (take n ids)) (sym e)
