@@ -24,21 +24,21 @@ module _ (kind part : ℕ) (ids : List ℕ) (count : ℕ) (len : length ids ≡ 
   row-appended ws n e s es vs us ev eu = rw (length-given ids count len few, ← es, ← ev) eu
 
   module _ (ws : List ℕ) (c : Counts) (i : ℕ) (found : i ≡ findRow ws (c .sorts) (rowWith kind part ids count)) where
-    pub row-found : i < c .sorts → storedAt ws (At (record { 0 = i }) c) ≡ internRow ws (c .sorts) (c .entries) (rowWith kind part ids count)
+    pub intern-is-found : i < c .sorts → storedAt ws (At (record { 0 = i }) c) ≡ internRow ws (c .sorts) (c .entries) (rowWith kind part ids count)
     unfolding internRow
-    row-found h = rw (← found, lt-ltb i (c .sorts) h)
+    intern-is-found h = rw (← found, lt-ltb i (c .sorts) h)
 
     module _ (none : c .sorts ≤ i) where
-      pub no-row-left : 1024 ≤ c .sorts → storedAt ws Full ≡ internRow ws (c .sorts) (c .entries) (rowWith kind part ids count)
+      pub intern-is-full-by-rows : 1024 ≤ c .sorts → storedAt ws Full ≡ internRow ws (c .sorts) (c .entries) (rowWith kind part ids count)
       unfolding internRow
-      no-row-left h = rw (← found, le-ltb i (c .sorts) none, le-ltb (c .sorts) 1024 h)
+      intern-is-full-by-rows h = rw (← found, le-ltb i (c .sorts) none, le-ltb (c .sorts) 1024 h)
 
       module _ (h : c .sorts < 1024) where
-        pub no-entry-left : 4096 < c .entries + count → storedAt ws Full ≡ internRow ws (c .sorts) (c .entries) (rowWith kind part ids count)
+        pub intern-is-full-by-entries : 4096 < c .entries + count → storedAt ws Full ≡ internRow ws (c .sorts) (c .entries) (rowWith kind part ids count)
         unfolding internRow
-        no-entry-left k = rw (← found, le-ltb i (c .sorts) none, lt-ltb (c .sorts) 1024 h, length-given ids count len few, lt-leb (c .entries + count) 4096 k)
+        intern-is-full-by-entries k = rw (← found, le-ltb i (c .sorts) none, lt-ltb (c .sorts) 1024 h, length-given ids count len few, lt-leb (c .entries + count) 4096 k)
 
-        pub row-made : c .entries + count ≤ 4096 → (vs : List ℕ) → vs ≡ appendRow ws (c .sorts) (c .entries) (rowWith kind part ids count)
+        pub intern-is-appended : c .entries + count ≤ 4096 → (vs : List ℕ) → vs ≡ appendRow ws (c .sorts) (c .entries) (rowWith kind part ids count)
             → storedAt vs (At (record { 0 = c .sorts }) (record { sorts = c .sorts + 1; entries = c .entries + count })) ≡ internRow ws (c .sorts) (c .entries) (rowWith kind part ids count)
         unfolding internRow
-        row-made k vs e = rw (← found, le-ltb i (c .sorts) none, lt-ltb (c .sorts) 1024 h, length-given ids count len few, le-leb (c .entries + count) 4096 k, e)
+        intern-is-appended k vs e = rw (← found, le-ltb i (c .sorts) none, lt-ltb (c .sorts) 1024 h, length-given ids count len few, le-leb (c .entries + count) 4096 k, e)

@@ -23,10 +23,10 @@ find-row-spec =
     (tie.spec
     Inv-loop
     μ-loop
-    (λ c. (omega arith, law.find-start _ _ _))
+    (λ c. (omega arith, law.found-from-start _ _ _))
     (λ c κs. search needs)
-    (λ c. search law.find-here)
+    (λ c. search law.found-here)
     (λ c. omega arith)
     (λ c. omega arith)
-    (λ c. (omega arith, search law.find-later))
-    (λ c. search law.find-none))
+    (λ c. (omega arith, search law.found-from-next))
+    (λ c. search law.found-none))
