@@ -1,12 +1,11 @@
 -- Checks 1 to 3 at each way through their code. Assumes nothing.
 use mathlib.Core.Path.{_≡_, refl, sym, ap, _∙_}
-use mathlib.Core.Logic.{⊎-elim}
-use mathlib.Core.Bool.{Bool, true, false, _&&_, and-false}
+use mathlib.Core.Bool.{Bool, true, false, and-false}
 use mathlib.Core.List.{List}
 use Prim.Native.Nat.{ℕ, _+_, _-_, _*_, _<_, _≤_}
 use native.Mathlib.Omega.{arith}
 use lib.ListN.{length, getD}
-use lib.Dec.{leb, ltb, eqb}
+use lib.Dec.{leb}
 use borrow.Author.Tests.{le-leb, lt-leb, lt-ltb, le-ltb, eq-eqb, ne-eqb, leb-true, leb-false}
 use Rattle.resolved_sort.specs.declared.SortId.{SortId}
 use Rattle.resolved_sort.specs.declared.Run.{Run}
@@ -25,78 +24,78 @@ leb-same a b c d f g =
     ] refl
 
 module _ (ws : List ℕ) (n e : ℕ) where
-  pub many-sorts : 1024 < n → false ≡ withinLent ws n e
+  pub lent-false-by-sorts : 1024 < n → false ≡ withinLent ws n e
   unfolding withinLent
-  many-sorts h = simp (lt-leb n 1024 h)
+  lent-false-by-sorts h = simp (lt-leb n 1024 h)
 
-  pub many-entries : 4096 < e → false ≡ withinLent ws n e
+  pub lent-false-by-entries : 4096 < e → false ≡ withinLent ws n e
   unfolding withinLent
-  many-entries h = simp (lt-leb e 4096 h, and-false)
+  lent-false-by-entries h = simp (lt-leb e 4096 h, and-false)
 
-  pub few-words : length ws < 4 * n → false ≡ withinLent ws n e
+  pub lent-false-by-words : length ws < 4 * n → false ≡ withinLent ws n e
   unfolding withinLent
-  few-words h = simp (lt-leb (4 * n) (length ws) h, and-false)
+  lent-false-by-words h = simp (lt-leb (4 * n) (length ws) h, and-false)
 
   module _ (h : n ≤ 1024) (k : e ≤ 4096) (l : 4 * n ≤ length ws) where
-    pub no-entries : e ≡ 0 → true ≡ withinLent ws n e
+    pub lent-true-without-entries : e ≡ 0 → true ≡ withinLent ws n e
     unfolding withinLent
-    no-entries z = simp (le-leb n 1024 h, le-leb e 4096 k, le-leb (4 * n) (length ws) l, le-leb e (length ws - 4096) (omega arith))
+    lent-true-without-entries z = simp (le-leb n 1024 h, le-leb e 4096 k, le-leb (4 * n) (length ws) l, le-leb e (length ws - 4096) (omega arith))
 
-    pub some-entries : (e ≡ 0 → ⊥) → leb (4096 + e) (length ws) ≡ withinLent ws n e
+    pub lent-is-by-entries : (e ≡ 0 → ⊥) → leb (4096 + e) (length ws) ≡ withinLent ws n e
     unfolding withinLent
-    some-entries z =
+    lent-is-by-entries z =
         simp (le-leb n 1024 h, le-leb e 4096 k, le-leb (4 * n) (length ws) l, leb-same (4096 + e) (length ws) e (length ws - 4096) (λ x. omega arith) (λ x. omega arith))
 
 module _ (ws : List ℕ) (n : ℕ) where
-  pub six-few : n < 6 → false ≡ fixedSix ws n
+  pub six-false-by-count : n < 6 → false ≡ fixedSix ws n
   unfolding fixedSix
-  six-few h = rw (lt-leb 6 n h)
+  six-false-by-count h = rw (lt-leb 6 n h)
 
   module _ (i : ℕ) where
-    pub six-more : (w : ℕ) → w ≡ getD ws (4 * i) 0 → w ≡ i → allBelow i (ownKind ws) ≡ true → allBelow (i + 1) (ownKind ws) ≡ true
+    pub six-passed-one-more : (w : ℕ) → w ≡ getD ws (4 * i) 0 → w ≡ i → allBelow i (ownKind ws) ≡ true → allBelow (i + 1) (ownKind ws) ≡ true
     unfolding ownKind
-    six-more w e z h = law.allBelow-more _ i h (eq-eqb (kindAt ws i) i (sym e ∙ z))
+    six-passed-one-more w e z h = law.allBelow-more _ i h (eq-eqb (kindAt ws i) i (sym e ∙ z))
 
-    pub six-not : 6 ≤ n → i < 6 → (w : ℕ) → w ≡ getD ws (4 * i) 0 → (w ≡ i → ⊥) → false ≡ fixedSix ws n
+    pub six-false-by-kind : 6 ≤ n → i < 6 → (w : ℕ) → w ≡ getD ws (4 * i) 0 → (w ≡ i → ⊥) → false ≡ fixedSix ws n
     unfolding fixedSix ownKind
-    six-not m h w e z = rw (le-leb 6 n m) (law.allBelow-not _ 6 i h (ne-eqb (kindAt ws i) i (λ q. z (e ∙ q))))
+    six-false-by-kind m h w e z = rw (le-leb 6 n m) (law.allBelow-not _ 6 i h (ne-eqb (kindAt ws i) i (λ q. z (e ∙ q))))
 
-    pub six-done : 6 ≤ n → i ≤ 6 → 6 ≤ i → allBelow i (ownKind ws) ≡ true → true ≡ fixedSix ws n
+    pub six-true : 6 ≤ n → i ≤ 6 → 6 ≤ i → allBelow i (ownKind ws) ≡ true → true ≡ fixedSix ws n
     unfolding fixedSix ownKind
-    six-done m h k e = rw (le-leb 6 n m) (law.allBelow-done _ 6 i h k e)
+    six-true m h k e = rw (le-leb 6 n m) (law.allBelow-done _ 6 i h k e)
 
 module _ (ws : List ℕ) (start i j w : ℕ) (e : w ≡ getD ws (4096 + (start + j)) 0) where
-  pub args-more : w < i → allBelow j (argBelow ws start i) ≡ true → allBelow (j + 1) (argBelow ws start i) ≡ true
+  pub args-passed-one-more : w < i → allBelow j (argBelow ws start i) ≡ true → allBelow (j + 1) (argBelow ws start i) ≡ true
   unfolding argBelow
-  args-more z h = law.allBelow-more _ j h (lt-ltb (entryAt ws (start + j)) i (omega arith))
+  args-passed-one-more z h = law.allBelow-more _ j h (lt-ltb (entryAt ws (start + j)) i (omega arith))
 
-  pub args-not : (count : ℕ) → j < count → i ≤ w → false ≡ allBelow count (argBelow ws start i)
+  pub args-false : (count : ℕ) → j < count → i ≤ w → false ≡ allBelow count (argBelow ws start i)
   unfolding argBelow
-  args-not count h z = law.allBelow-not _ count j h (le-ltb (entryAt ws (start + j)) i (omega arith))
+  args-false count h z = law.allBelow-not _ count j h (le-ltb (entryAt ws (start + j)) i (omega arith))
 
 module _ (ws : List ℕ) (e i : ℕ) (domain : Run) (range : SortId) where
-  pub many-args : 16 < domain .count → false ≡ partsBelow ws e i (Function domain range)
+  pub parts-false-by-count : 16 < domain .count → false ≡ partsBelow ws e i (Function domain range)
   unfolding partsBelow
-  many-args h = rw (lt-leb (domain .count) 16 h)
+  parts-false-by-count h = rw (lt-leb (domain .count) 16 h)
 
-  pub run-leaves : e < domain .start + domain .count → false ≡ partsBelow ws e i (Function domain range)
+  pub parts-false-by-run : e < domain .start + domain .count → false ≡ partsBelow ws e i (Function domain range)
   unfolding partsBelow
-  run-leaves h = simp (lt-leb (domain .start + domain .count) e h, and-false)
+  parts-false-by-run h = simp (lt-leb (domain .start + domain .count) e h, and-false)
 
-  pub range-not-below : i ≤ range .0 → false ≡ partsBelow ws e i (Function domain range)
+  pub parts-false-by-range : i ≤ range .0 → false ≡ partsBelow ws e i (Function domain range)
   unfolding partsBelow
-  range-not-below h = simp (le-ltb (range .0) i h, and-false)
+  parts-false-by-range h = simp (le-ltb (range .0) i h, and-false)
 
-  pub args-answer : domain .count ≤ 16 → domain .start + domain .count ≤ e → range .0 < i → (b : Bool) → b ≡ allBelow (domain .count) (argBelow ws (domain .start) i)
+  pub parts-is-by-args : domain .count ≤ 16 → domain .start + domain .count ≤ e → range .0 < i → (b : Bool) → b ≡ allBelow (domain .count) (argBelow ws (domain .start) i)
       → b ≡ partsBelow ws e i (Function domain range)
   unfolding partsBelow argBelow
-  args-answer h k l b q = rw (le-leb (domain .count) 16 h, le-leb (domain .start + domain .count) e k, lt-ltb (range .0) i l) q
+  parts-is-by-args h k l b q = rw (le-leb (domain .count) 16 h, le-leb (domain .start + domain .count) e k, lt-ltb (range .0) i l) q
 
 module _ (ws : List ℕ) (e i w : ℕ) (q : w ≡ getD ws (4 * i) 0) where
-  pub kind-unknown : 13 < w → false ≡ rowFine ws e i
+  pub row-false-by-kind : 13 < w → false ≡ rowFine ws e i
   unfolding rowFine
-  kind-unknown h = rw (lt-leb (kindAt ws i) 13 (omega arith))
+  row-false-by-kind h = rw (lt-leb (kindAt ws i) 13 (omega arith))
 
-  pub parts-answer : w ≤ 13 → (s : ResolvedSort) → s ≡ rowAt ws i → (b : Bool) → b ≡ partsBelow ws e i s → b ≡ rowFine ws e i
+  pub row-is-by-parts : w ≤ 13 → (s : ResolvedSort) → s ≡ rowAt ws i → (b : Bool) → b ≡ partsBelow ws e i s → b ≡ rowFine ws e i
   unfolding rowFine
-  parts-answer h s f b g = rw (le-leb (kindAt ws i) 13 (omega arith)) (g ∙ ap (partsBelow ws e i) f)
+  row-is-by-parts h s f b g = rw (le-leb (kindAt ws i) 13 (omega arith)) (g ∙ ap (partsBelow ws e i) f)

@@ -10,15 +10,15 @@ use Rattle.sort_interner.specs.Tests.{otherRow, newRow}
 use Rattle.sort_interner.proofs.Below as law
 
 module _ (ws : List ℕ) (j i : ℕ) where
-  pub new-done : i ≤ j → j ≤ i → allBelow i (otherRow ws j) ≡ true → true ≡ newRow ws j
+  pub row-is-new : i ≤ j → j ≤ i → allBelow i (otherRow ws j) ≡ true → true ≡ newRow ws j
   unfolding newRow
-  new-done h k e = law.allBelow-done _ j i h k e
+  row-is-new h k e = law.allBelow-done _ j i h k e
 
   module _ (b : Bool) (e : b ≡ sameRow (wordsAt ws i) (wordsAt ws j)) where
-    pub new-not : i < j → b ≡ true → false ≡ newRow ws j
+    pub row-is-not-new : i < j → b ≡ true → false ≡ newRow ws j
     unfolding newRow otherRow
-    new-not h f = law.allBelow-not _ j i h (ap not (sym e ∙ f))
+    row-is-not-new h f = law.allBelow-not _ j i h (ap not (sym e ∙ f))
 
-    pub new-more : b ≡ false → allBelow i (otherRow ws j) ≡ true → allBelow (i + 1) (otherRow ws j) ≡ true
+    pub others-passed-one-more : b ≡ false → allBelow i (otherRow ws j) ≡ true → allBelow (i + 1) (otherRow ws j) ≡ true
     unfolding otherRow
-    new-more f h = law.allBelow-more _ i h (ap not (sym e ∙ f))
+    others-passed-one-more f h = law.allBelow-more _ i h (ap not (sym e ∙ f))

@@ -1,7 +1,7 @@
 -- Laws of runs of entries: their length and elements, and comparing two lists of words from the front, as the loops that
 -- do so meet it. Assumes nothing.
 use mathlib.Core.Path.{_≡_, refl, sym, ap, _∙_}
-use mathlib.Core.Bool.{Bool, true, false, _&&_, and-false}
+use mathlib.Core.Bool.{Bool, true, false, and-false}
 use mathlib.Core.List.{List, [], _∷_}
 use Prim.Native.Nat.{ℕ, zero, suc, _+_, _<_, _≤_}
 use native.Mathlib.Omega.{arith}
@@ -14,6 +14,9 @@ use borrow.Author.Tests.{eq-eqb, ne-eqb}
 use Rattle.resolved_sort.specs.Storage.{entryAt, entriesOf}
 use Rattle.resolved_sort.specs.Rows.{sameWords}
 
+pub length-given : (ids : List ℕ) (n : ℕ) → length ids ≡ 16 → n ≤ 16 → length (take n ids) ≡ n
+length-given ids n len few = length-take-le n ids (omega arith)
+
 pub length-entriesOf : (ws : List ℕ) (s n : ℕ) → length (entriesOf ws s n) ≡ n
 unfolding entriesOf
 length-entriesOf ws s zero = refl
@@ -25,80 +28,77 @@ getD-entriesOf ws s zero k h = absurd (omega arith)
 getD-entriesOf ws s (suc n) zero h = ap (entryAt ws) (sym (add-zero s))
 getD-entriesOf ws s (suc n) (suc k) h = getD-entriesOf ws (s + 1) n k (omega arith) ∙ ap (entryAt ws) (omega arith)
 
-other-length : (xs ys : List ℕ) → (length xs ≡ length ys → ⊥) → false ≡ sameWords xs ys
+words-differ-by-length : (xs ys : List ℕ) → (length xs ≡ length ys → ⊥) → false ≡ sameWords xs ys
 unfolding sameWords
-other-length [] [] f = absurd (f refl)
-other-length [] (y ∷ ys) f = refl
-other-length (x ∷ xs) [] f = refl
-other-length (x ∷ xs) (y ∷ ys) f = rw (← other-length xs ys (λ e. f (ap suc e))) (sym (and-false (eqb x y)))
+words-differ-by-length [] [] f = absurd (f refl)
+words-differ-by-length [] (y ∷ ys) f = refl
+words-differ-by-length (x ∷ xs) [] f = refl
+words-differ-by-length (x ∷ xs) (y ∷ ys) f = rw (← words-differ-by-length xs ys (λ e. f (ap suc e))) (sym (and-false (eqb x y)))
 
-pub other-count : (ws ys : List ℕ) (s n : ℕ) → (n ≡ length ys → ⊥) → false ≡ sameWords (entriesOf ws s n) ys
-other-count ws ys s n f = other-length (entriesOf ws s n) ys (λ e. f (sym (length-entriesOf ws s n) ∙ e))
+run-differs-by-count : (ws ys : List ℕ) (s n : ℕ) → (n ≡ length ys → ⊥) → false ≡ sameWords (entriesOf ws s n) ys
+run-differs-by-count ws ys s n f = words-differ-by-length (entriesOf ws s n) ys (λ e. f (sym (length-entriesOf ws s n) ∙ e))
 
 -- the words from k on are the same
 unfoldable pub sameFrom : ℕ → List ℕ → List ℕ → Bool
 sameFrom k xs ys = sameWords (drop k xs) (drop k ys)
 
-pub same-start : (xs ys : List ℕ) → sameWords xs ys ≡ sameFrom 0 xs ys
+pub words-same-from-start : (xs ys : List ℕ) → sameWords xs ys ≡ sameFrom 0 xs ys
 unfolding sameFrom
-same-start xs ys = refl
+words-same-from-start xs ys = refl
 
-same-done : (xs ys : List ℕ) (k : ℕ) → length xs ≤ k → length ys ≤ k → true ≡ sameFrom k xs ys
+words-same-at-end : (xs ys : List ℕ) (k : ℕ) → length xs ≤ k → length ys ≤ k → true ≡ sameFrom k xs ys
 unfolding sameFrom sameWords
-same-done xs ys k h l = rw (drop-of-length-le xs h, drop-of-length-le ys l)
+words-same-at-end xs ys k h l = rw (drop-of-length-le xs h, drop-of-length-le ys l)
 
 module _ (xs ys : List ℕ) (k : ℕ) (h : k < length xs) (l : k < length ys) where
-  same-more : getD xs k 0 ≡ getD ys k 0 → sameFrom k xs ys ≡ sameFrom (k + 1) xs ys
+  words-same-from-next : getD xs k 0 ≡ getD ys k 0 → sameFrom k xs ys ≡ sameFrom (k + 1) xs ys
   unfolding sameFrom sameWords
-  same-more e = rw (add-one, drop-cons xs k 0 h, drop-cons ys k 0 l, eq-eqb (getD xs k 0) (getD ys k 0) e)
+  words-same-from-next e = rw (add-one, drop-cons xs k 0 h, drop-cons ys k 0 l, eq-eqb (getD xs k 0) (getD ys k 0) e)
 
-  same-not : (getD xs k 0 ≡ getD ys k 0 → ⊥) → false ≡ sameFrom k xs ys
+  words-differ : (getD xs k 0 ≡ getD ys k 0 → ⊥) → false ≡ sameFrom k xs ys
   unfolding sameFrom sameWords
-  same-not e = rw (drop-cons xs k 0 h, drop-cons ys k 0 l, ne-eqb (getD xs k 0) (getD ys k 0) e)
+  words-differ e = rw (drop-cons xs k 0 h, drop-cons ys k 0 l, ne-eqb (getD xs k 0) (getD ys k 0) e)
 
 module _ (ws ys : List ℕ) (s n k : ℕ) (len : length ys ≡ n) (whole : Bool) (inv : whole ≡ sameFrom k (entriesOf ws s n) ys) where
-  pub run-done : n ≤ k → true ≡ whole
-  run-done h = same-done (entriesOf ws s n) ys k (omega (arith, length-entriesOf ws s n)) (omega arith) ∙ sym inv
+  run-same-at-end : n ≤ k → true ≡ whole
+  run-same-at-end h = words-same-at-end (entriesOf ws s n) ys k (omega (arith, length-entriesOf ws s n)) (omega arith) ∙ sym inv
 
   module _ (h : k < n) (x y : ℕ) (ex : x ≡ entryAt ws (s + k)) (ey : y ≡ getD ys k 0) where
-    pub run-more : x ≡ y → whole ≡ sameFrom (k + 1) (entriesOf ws s n) ys
-    run-more e =
-        inv ∙ same-more (entriesOf ws s n) ys k (omega (arith, length-entriesOf ws s n)) (omega arith) (getD-entriesOf ws s n k h ∙ sym ex ∙ e ∙ ey)
+    run-same-from-next : x ≡ y → whole ≡ sameFrom (k + 1) (entriesOf ws s n) ys
+    run-same-from-next e =
+        inv ∙ words-same-from-next (entriesOf ws s n) ys k (omega (arith, length-entriesOf ws s n)) (omega arith) (getD-entriesOf ws s n k h ∙ sym ex ∙ e ∙ ey)
 
-    pub run-not : (x ≡ y → ⊥) → false ≡ whole
-    run-not e =
-        same-not (entriesOf ws s n) ys k (omega (arith, length-entriesOf ws s n)) (omega arith) (λ q. e (ex ∙ sym (getD-entriesOf ws s n k h) ∙ q ∙ sym ey)) ∙ sym inv
+    run-differs : (x ≡ y → ⊥) → false ≡ whole
+    run-differs e =
+        words-differ (entriesOf ws s n) ys k (omega (arith, length-entriesOf ws s n)) (omega arith) (λ q. e (ex ∙ sym (getD-entriesOf ws s n k h) ∙ q ∙ sym ey)) ∙ sym inv
 
 -- two runs of the lent words, of n entries each
 module _ (ws : List ℕ) (s t n k : ℕ) (inv : sameWords (entriesOf ws s n) (entriesOf ws t n) ≡ sameFrom k (entriesOf ws s n) (entriesOf ws t n)) where
-  pub runs-done : n ≤ k → (m : ℕ) → n ≡ m → true ≡ sameWords (entriesOf ws s n) (entriesOf ws t m)
-  runs-done h m same = rw (← same) (run-done ws (entriesOf ws t n) s n k (length-entriesOf ws t n) _ inv h)
+  pub runs-same-at-end : n ≤ k → (m : ℕ) → n ≡ m → true ≡ sameWords (entriesOf ws s n) (entriesOf ws t m)
+  runs-same-at-end h m same = rw (← same) (run-same-at-end ws (entriesOf ws t n) s n k (length-entriesOf ws t n) _ inv h)
 
   module _ (h : k < n) (x y : ℕ) (ex : x ≡ entryAt ws (s + k)) (ey : y ≡ entryAt ws (t + k)) where
-    pub runs-more : x ≡ y → sameWords (entriesOf ws s n) (entriesOf ws t n) ≡ sameFrom (k + 1) (entriesOf ws s n) (entriesOf ws t n)
-    runs-more e = run-more ws (entriesOf ws t n) s n k (length-entriesOf ws t n) _ inv h x y ex (ey ∙ sym (getD-entriesOf ws t n k h)) e
+    pub runs-same-from-next : x ≡ y → sameWords (entriesOf ws s n) (entriesOf ws t n) ≡ sameFrom (k + 1) (entriesOf ws s n) (entriesOf ws t n)
+    runs-same-from-next e = run-same-from-next ws (entriesOf ws t n) s n k (length-entriesOf ws t n) _ inv h x y ex (ey ∙ sym (getD-entriesOf ws t n k h)) e
 
-    pub runs-not : (x ≡ y → ⊥) → (m : ℕ) → n ≡ m → false ≡ sameWords (entriesOf ws s n) (entriesOf ws t m)
-    runs-not e m same = rw (← same) (run-not ws (entriesOf ws t n) s n k (length-entriesOf ws t n) _ inv h x y ex (ey ∙ sym (getD-entriesOf ws t n k h)) e)
+    pub runs-differ : (x ≡ y → ⊥) → (m : ℕ) → n ≡ m → false ≡ sameWords (entriesOf ws s n) (entriesOf ws t m)
+    runs-differ e m same = rw (← same) (run-differs ws (entriesOf ws t n) s n k (length-entriesOf ws t n) _ inv h x y ex (ey ∙ sym (getD-entriesOf ws t n k h)) e)
 
-pub runs-of-other-count : (ws : List ℕ) (s t n m : ℕ) → (n ≡ m → ⊥) → false ≡ sameWords (entriesOf ws s n) (entriesOf ws t m)
-runs-of-other-count ws s t n m f = other-count ws (entriesOf ws t m) s n (λ e. f (e ∙ length-entriesOf ws t m))
+pub runs-differ-by-count : (ws : List ℕ) (s t n m : ℕ) → (n ≡ m → ⊥) → false ≡ sameWords (entriesOf ws s n) (entriesOf ws t m)
+runs-differ-by-count ws s t n m f = run-differs-by-count ws (entriesOf ws t m) s n (λ e. f (e ∙ length-entriesOf ws t m))
 
 -- a run of the lent words and the first n of sixteen words given
 module _ (ws ids : List ℕ) (s n : ℕ) (len : length ids ≡ 16) (few : n ≤ 16) where
-  length-given : length (take n ids) ≡ n
-  length-given = length-take-le n ids (omega arith)
-
-  pub args-of-other-count : (m : ℕ) → (m ≡ n → ⊥) → false ≡ sameWords (entriesOf ws s m) (take n ids)
-  args-of-other-count m f = other-count ws (take n ids) s m (λ e. f (e ∙ length-given))
+  pub args-differ-by-count : (m : ℕ) → (m ≡ n → ⊥) → false ≡ sameWords (entriesOf ws s m) (take n ids)
+  args-differ-by-count m f = run-differs-by-count ws (take n ids) s m (λ e. f (e ∙ length-given ids n len few))
 
   module _ (k : ℕ) (inv : sameWords (entriesOf ws s n) (take n ids) ≡ sameFrom k (entriesOf ws s n) (take n ids)) where
-    pub args-done : n ≤ k → (m : ℕ) → m ≡ n → true ≡ sameWords (entriesOf ws s m) (take n ids)
-    args-done h m same = rw same (run-done ws (take n ids) s n k length-given _ inv h)
+    pub args-same-at-end : n ≤ k → (m : ℕ) → m ≡ n → true ≡ sameWords (entriesOf ws s m) (take n ids)
+    args-same-at-end h m same = rw same (run-same-at-end ws (take n ids) s n k (length-given ids n len few) _ inv h)
 
     module _ (h : k < n) (x : ℕ) (ex : x ≡ entryAt ws (s + k)) where
-      pub args-more : x ≡ getD ids k 0 → sameWords (entriesOf ws s n) (take n ids) ≡ sameFrom (k + 1) (entriesOf ws s n) (take n ids)
-      args-more e = run-more ws (take n ids) s n k length-given _ inv h x (getD ids k 0) ex (sym (getD-take n ids k 0 h)) e
+      pub args-same-from-next : x ≡ getD ids k 0 → sameWords (entriesOf ws s n) (take n ids) ≡ sameFrom (k + 1) (entriesOf ws s n) (take n ids)
+      args-same-from-next e = run-same-from-next ws (take n ids) s n k (length-given ids n len few) _ inv h x (getD ids k 0) ex (sym (getD-take n ids k 0 h)) e
 
-      pub args-not : (x ≡ getD ids k 0 → ⊥) → (m : ℕ) → m ≡ n → false ≡ sameWords (entriesOf ws s m) (take n ids)
-      args-not e m same = rw same (run-not ws (take n ids) s n k length-given _ inv h x (getD ids k 0) ex (sym (getD-take n ids k 0 h)) e)
+      pub args-differ : (x ≡ getD ids k 0 → ⊥) → (m : ℕ) → m ≡ n → false ≡ sameWords (entriesOf ws s m) (take n ids)
+      args-differ e m same = rw same (run-differs ws (take n ids) s n k (length-given ids n len few) _ inv h x (getD ids k 0) ex (sym (getD-take n ids k 0 h)) e)

@@ -1,42 +1,40 @@
 -- A run of stores, one turn after another. Assumes nothing.
-use mathlib.Core.Path.{_≡_, refl, sym, ap, _∙_}
-use mathlib.Core.List.{List, [], _∷_}
+use mathlib.Core.Path.{_≡_, sym, ap, _∙_}
+use mathlib.Core.List.{List}
 use Prim.Native.Nat.{ℕ, suc, _+_, _<_, _≤_}
 use native.Mathlib.Omega.{arith}
 use native.Mathlib.Nat.{add-zero}
 use native.Mathlib.Numerals.{add-one}
 use lib.ListN.{length, getD, take, drop, set, drop-of-length-le}
-use lib.Seq.{sets, drop-cons, getD-take, length-take-le}
+use lib.Seq.{sets, drop-cons, getD-take}
+use Rattle.sort_interner.proofs.Runs.{length-given}
 
 -- the words of xs from i on stored, the first of xs at p
 unfoldable pub setsFrom : ℕ → List ℕ → ℕ → List ℕ → List ℕ
 setsFrom i ws p xs = sets ws (p + i) (drop i xs)
 
-pub sets-start : (ws : List ℕ) (p : ℕ) (xs : List ℕ) → sets ws p xs ≡ setsFrom 0 ws p xs
+pub stored-from-start : (ws : List ℕ) (p : ℕ) (xs : List ℕ) → sets ws p xs ≡ setsFrom 0 ws p xs
 unfolding setsFrom
-sets-start ws p xs = ap (λ q. sets ws q xs) (sym (add-zero p))
+stored-from-start ws p xs = ap (λ q. sets ws q xs) (sym (add-zero p))
 
-sets-more : (i : ℕ) (ws : List ℕ) (p : ℕ) (xs : List ℕ) → i < length xs → setsFrom i ws p xs ≡ setsFrom (i + 1) (set ws (p + i) (getD xs i 0)) p xs
+stored-from-next : (i : ℕ) (ws : List ℕ) (p : ℕ) (xs : List ℕ) → i < length xs → setsFrom i ws p xs ≡ setsFrom (i + 1) (set ws (p + i) (getD xs i 0)) p xs
 unfolding setsFrom
-sets-more i ws p xs h =
+stored-from-next i ws p xs h =
     ap (λ ys. sets ws (p + i) ys) (drop-cons xs i 0 h)
     ∙ ap (λ q. sets (set ws (p + i) (getD xs i 0)) q (drop (suc i) xs)) (omega arith)
     ∙ ap (λ q. sets (set ws (p + i) (getD xs i 0)) (p + (i + 1)) (drop q xs)) (sym (add-one i))
 
-sets-done : (i : ℕ) (ws : List ℕ) (p : ℕ) (xs : List ℕ) → length xs ≤ i → setsFrom i ws p xs ≡ ws
+stored-at-end : (i : ℕ) (ws : List ℕ) (p : ℕ) (xs : List ℕ) → length xs ≤ i → setsFrom i ws p xs ≡ ws
 unfolding setsFrom
-sets-done i ws p xs h = ap (λ ys. sets ws (p + i) ys) (drop-of-length-le xs h)
+stored-at-end i ws p xs h = ap (λ ys. sets ws (p + i) ys) (drop-of-length-le xs h)
 
 -- the first n of sixteen words given
 module _ (ws ids : List ℕ) (p n i : ℕ) (len : length ids ≡ 16) (few : n ≤ 16) (whole : List ℕ) (inv : whole ≡ setsFrom i ws p (take n ids)) where
-  length-given : length (take n ids) ≡ n
-  length-given = length-take-le n ids (omega arith)
+  pub given-stored : n ≤ i → ws ≡ whole
+  given-stored h = sym (inv ∙ stored-at-end i ws p (take n ids) (omega (arith, length-given ids n len few)))
 
-  pub given-done : n ≤ i → ws ≡ whole
-  given-done h = sym (inv ∙ sets-done i ws p (take n ids) (omega (arith, length-given)))
-
-  pub given-more : i < n → (vs : List ℕ) → vs ≡ set ws (p + i) (getD ids i 0) → whole ≡ setsFrom (i + 1) vs p (take n ids)
-  given-more h vs e =
-      inv ∙ sets-more i ws p (take n ids) (omega (arith, length-given))
+  pub given-from-next : i < n → (vs : List ℕ) → vs ≡ set ws (p + i) (getD ids i 0) → whole ≡ setsFrom (i + 1) vs p (take n ids)
+  given-from-next h vs e =
+      inv ∙ stored-from-next i ws p (take n ids) (omega (arith, length-given ids n len few))
       ∙ ap (λ x. setsFrom (i + 1) (set ws (p + i) x) p (take n ids)) (getD-take n ids i 0 h)
       ∙ ap (λ l. setsFrom (i + 1) l p (take n ids)) (sym e)

@@ -1,10 +1,10 @@
 -- Laws of `zeros` as the loop that clears words meets them: nothing left to clear, and one word less. Assumes nothing.
 use mathlib.Core.Path.{_≡_, refl, sym, _∙_}
-use mathlib.Core.List.{List, [], _∷_, _++_, append-assoc}
-use Prim.Native.Nat.{ℕ, zero, suc, _+_, _-_, _<_, _≤_}
+use mathlib.Core.List.{List, append-assoc}
+use Prim.Native.Nat.{ℕ, suc, _+_, _-_, _<_, _≤_}
 use native.Mathlib.Omega.{arith}
 use native.Mathlib.Numerals.{add-one}
-use lib.ListN.{length, take, drop, set, replicate, take-append-drop}
+use lib.ListN.{length, set, take-append-drop}
 use lib.Seq.{take-suc-set, drop-set-lt}
 use Rattle.resolved_sort.specs.Storage.{zeros}
 

@@ -111,7 +111,7 @@ pub fn clear(s: &mut [u16], from: usize, to: usize)
     }
 }
 
-// What 15 leaves: zero past the n rows and the e entries of the entry, and these unchanged.
+// What 15 leaves: zero past the n rows and e entries that the call began with, and these as they are.
 pub fn give_back(sorts: &mut [u16], n: usize, e: usize)
     requires { ⌜ (n ≤ maxSorts) × (e ≤ maxEntries) × (fullLength ≤ length (now sorts)) ⌝ }
     ensures { λ _. ⌜ now (sorts .exit) ≡ givenBack n e (now (sorts .entry)) ⌝ }
@@ -121,7 +121,7 @@ pub fn give_back(sorts: &mut [u16], n: usize, e: usize)
     clear(sorts, 4096 + e, end);
 }
 
-// Check 1: n sorts and e entries are within the ceilings and within what was lent.
+// Check 1: n sorts and e entries are within the ceilings and within what was lent. Neither may be past the slice's end.
 pub fn within_lent(sorts: &[u16], n: usize, e: usize) -> bool
     ensures { λ r. ⌜ r ≡ withinLent (now (sorts .entry)) n e ⌝ }
 {
@@ -140,7 +140,7 @@ pub fn within_lent(sorts: &[u16], n: usize, e: usize) -> bool
     4096 + e <= sorts.len()
 }
 
-// Check 2: the first six rows are there and are of kinds 0 to 5 in order.
+// Check 2: the first six rows are there and are of kinds 0 to 5 in order. Fewer than six rows are refused.
 pub fn fixed_six(sorts: &[u16], n: usize) -> bool
     ensures { λ r. ⌜ r ≡ fixedSix (now (sorts .entry)) n ⌝ }
 {
@@ -189,7 +189,7 @@ pub fn function_fine(sorts: &[u16], e: usize, i: u16, domain: Run, range: SortId
     args_below(sorts, start, count, i)
 }
 
-// Whether the parts of row i, which says sort, are numbered below it.
+// Whether the parts of row i, which says sort, are numbered below it. A part that is row i itself is not.
 pub fn parts_below(sorts: &[u16], e: usize, i: u16, sort: ResolvedSort) -> bool
     ensures { λ r. ⌜ r ≡ partsBelow (now (sorts .entry)) e i sort ⌝ }
 {
@@ -203,7 +203,7 @@ pub fn parts_below(sorts: &[u16], e: usize, i: u16, sort: ResolvedSort) -> bool
     }
 }
 
-// Whether row i is of a known kind and its parts are in order.
+// Whether row i is of a known kind and its parts are below it. Kinds above 13 are unknown.
 pub fn row_fine(sorts: &[u16], e: usize, i: u16) -> bool
     ensures { λ r. ⌜ r ≡ rowFine (now (sorts .entry)) e i ⌝ }
 {
@@ -213,7 +213,7 @@ pub fn row_fine(sorts: &[u16], e: usize, i: u16) -> bool
     parts_below(sorts, e, i, get(sorts, SortId(i)))
 }
 
-// Check 3: each of the n rows is fine.
+// Check 3: each of the n rows is fine. None is left out.
 pub fn rows_fine(sorts: &[u16], n: usize, e: usize) -> bool
     requires { ⌜ n ≤ maxSorts ⌝ }
     ensures { λ r. ⌜ r ≡ rowsFine (now (sorts .entry)) n e ⌝ }
@@ -228,7 +228,7 @@ pub fn rows_fine(sorts: &[u16], n: usize, e: usize) -> bool
     true
 }
 
-// The kind of row i.
+// The kind of row i, known or not.
 pub fn kind_at(sorts: &[u16], i: u16) -> u16
     ensures { λ r. ⌜ r ≡ (wordsAt (now (sorts .entry)) i) .kind ⌝ }
 {
@@ -281,7 +281,7 @@ pub fn same_run(sorts: &[u16], a: Run, b: Run) -> bool
     true
 }
 
-// Whether rows i and j are the same sort's: kind, part and the contents of the runs.
+// Whether rows i and j are the same: kind, part and the contents of the runs. Words not looked at do not count.
 pub fn same_rows(sorts: &[u16], i: u16, j: u16) -> bool
     ensures { λ r. ⌜ r ≡ sameRow (wordsAt (now (sorts .entry)) i) (wordsAt (now (sorts .entry)) j) ⌝ }
 {
@@ -294,7 +294,7 @@ pub fn same_rows(sorts: &[u16], i: u16, j: u16) -> bool
     same_run(sorts, run_at(sorts, i), run_at(sorts, j))
 }
 
-// Whether no row below row j is the same as it.
+// Whether no row below row j is the same as it. Row j itself does not count.
 pub fn new_row(sorts: &[u16], j: u16) -> bool
     ensures { λ r. ⌜ r ≡ newRow (now (sorts .entry)) j ⌝ }
 {
@@ -308,7 +308,7 @@ pub fn new_row(sorts: &[u16], j: u16) -> bool
     true
 }
 
-// Check 4 on rows: no two of the first n are the same.
+// Check 4 on rows: no two of the first n are the same. No pair is left out.
 pub fn no_two_equal_rows(sorts: &[u16], n: usize) -> bool
     requires { ⌜ n ≤ maxSorts ⌝ }
     ensures { λ r. ⌜ r ≡ noSameRows (now (sorts .entry)) n ⌝ }
@@ -343,7 +343,7 @@ pub fn has_args(sorts: &[u16], a: Run, ids: [u16; 16], n: u16) -> bool
     true
 }
 
-// Whether row i is of this kind, part and arguments.
+// Whether row i is of this kind, part and arguments. Words not looked at do not count.
 pub fn is_row(sorts: &[u16], i: u16, kind: u16, part: u16, ids: [u16; 16], count: u16) -> bool
     requires { ⌜ count ≤ 16 ⌝ }
     ensures { λ r. ⌜ r ≡ isRow (now (sorts .entry)) (record { kind = kind; part = part; args = take count ids }) i ⌝ }
@@ -357,19 +357,19 @@ pub fn is_row(sorts: &[u16], i: u16, kind: u16, part: u16, ids: [u16; 16], count
     has_args(sorts, run_at(sorts, i), ids, count)
 }
 
-// The first row below n that is of this kind, part and arguments; n where there is none.
+// The first row below n that is of this kind, part and arguments, never a later one; n where there is none.
 pub fn find_row(sorts: &[u16], n: u16, kind: u16, part: u16, ids: [u16; 16], count: u16) -> u16
     requires { ⌜ count ≤ 16 ⌝ }
     ensures { λ r. ⌜ r ≡ findRow (now (sorts .entry)) n (record { kind = kind; part = part; args = take count ids }) ⌝ }
 {
-    let mut i: u16 = 0;
-    while i < n {
-        if is_row(sorts, i, kind, part, ids, count) {
-            return i;
+    let mut row: u16 = 0;
+    while row < n {
+        if is_row(sorts, row, kind, part, ids, count) {
+            return row;
         }
-        i += 1;
+        row += 1;
     }
-    i
+    row
 }
 
 // Row i set to four words. The part of it that lies past the end is left out.
@@ -383,7 +383,7 @@ pub fn put_row(sorts: &mut [u16], i: u16, kind: u16, part: u16, start: u16, coun
     put(sorts, at + 3, count);
 }
 
-// The first n of the ids stored as the entries from e on.
+// The first n of the ids stored as the entries from e on. The rest of the ids is not stored.
 pub fn put_args(sorts: &mut [u16], e: u16, ids: [u16; 16], n: u16)
     requires { ⌜ n ≤ 16 ⌝ }
     ensures { λ _. ⌜ now (sorts .exit) ≡ sets (now (sorts .entry)) (entriesAt + e) (take n ids) ⌝ }
@@ -402,7 +402,7 @@ pub fn start_of(kind: u16, e: u16) -> u16
     if kind == 11 { e } else { 0 }
 }
 
-// A row with its arguments appended to n rows and e entries.
+// A row with its arguments appended to n rows and e entries. Only a function's row names a start; of others it is 0.
 pub fn append_row(
     sorts: &mut [u16],
     n: u16,

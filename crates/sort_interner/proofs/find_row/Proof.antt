@@ -11,11 +11,11 @@ use Rattle.sort_interner.proofs.find_row.Statement.{statement}
 use Rattle.sort_interner.proofs.find_row.Tie as tie
 
 abbrev Inv-loop : tie.InvT-loop
-Inv-loop sorts n kind part ids count i₀ i =
-    (i ≤ n) × (findRow sorts n (rowWith kind part ids count) ≡ firstFrom (isRow sorts (rowWith kind part ids count)) (n - i) i)
+Inv-loop sorts n kind part ids count row₀ row =
+    (row ≤ n) × (findRow sorts n (rowWith kind part ids count) ≡ firstFrom (isRow sorts (rowWith kind part ids count)) (n - row) row)
 
 abbrev μ-loop : tie.MeasureT-loop
-μ-loop sorts n kind part ids count i₀ i = n - i
+μ-loop sorts n kind part ids count row₀ row = n - row
 
 pub find-row-spec : {M : Type 1} → statement M
 find-row-spec =
@@ -23,10 +23,10 @@ find-row-spec =
     (tie.spec
     Inv-loop
     μ-loop
-    (λ c. (omega arith, law.find-start _ _ _))
+    (λ c. (omega arith, law.found-from-start _ _ _))
     (λ c κs. search needs)
-    (λ c. search law.find-here)
+    (λ c. search law.found-here)
     (λ c. omega arith)
     (λ c. omega arith)
-    (λ c. (omega arith, search law.find-later))
-    (λ c. search law.find-none))
+    (λ c. (omega arith, search law.found-from-next))
+    (λ c. search law.found-none))

@@ -23,13 +23,13 @@ fixed-six-spec =
     (tie.spec
     Inv-loop
     μ-loop
-    (λ c. search check.six-few)
+    (λ c. search check.six-false-by-count)
     (λ c. (omega arith, law.allBelow-zero _))
     (λ c. omega arith)
     (λ c. omega arith)
     (λ c κs. search needs)
-    (λ c. search check.six-not)
+    (λ c. search check.six-false-by-kind)
     (λ c. omega arith)
     (λ c. omega arith)
-    (λ c. (omega arith, search check.six-more))
-    (λ c. search check.six-done))
+    (λ c. (omega arith, search check.six-passed-one-more))
+    (λ c. search check.six-true))

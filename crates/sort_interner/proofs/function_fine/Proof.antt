@@ -8,11 +8,11 @@ pub function-fine-spec : {M : Type 1} → statement M
 function-fine-spec =
     tie.close
     (tie.spec
-    (λ c. search law.many-args)
+    (λ c. search law.parts-false-by-count)
     (λ c. search needs)
     (λ c. search needs)
     (λ c. search needs)
-    (λ c. search law.run-leaves)
-    (λ c. search law.range-not-below)
+    (λ c. search law.parts-false-by-run)
+    (λ c. search law.parts-false-by-range)
     (λ c κs. search needs)
-    (λ c. search law.args-answer))
+    (λ c. search law.parts-is-by-args))

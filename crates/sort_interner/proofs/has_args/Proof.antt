@@ -22,9 +22,9 @@ has-args-spec =
     (tie.spec
     Inv-loop
     μ-loop
-    (λ c. search law.args-of-other-count)
+    (λ c. search law.args-differ-by-count)
     (λ c. search needs)
-    (λ c. (omega arith, law.same-start _ _))
+    (λ c. (omega arith, law.words-same-from-start _ _))
     (λ c. omega arith)
     (λ c. omega arith)
     (λ c. omega arith)
@@ -32,8 +32,8 @@ has-args-spec =
     (λ c. omega arith)
     (λ c. omega arith)
     (λ c. omega arith)
-    (λ c. search law.args-not)
+    (λ c. search law.args-differ)
     (λ c. omega arith)
     (λ c. omega arith)
-    (λ c. (omega arith, search law.args-more))
-    (λ c. search law.args-done))
+    (λ c. (omega arith, search law.args-same-from-next))
+    (λ c. search law.args-same-at-end))

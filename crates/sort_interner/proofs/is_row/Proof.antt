@@ -12,9 +12,9 @@ is-row-spec =
     tie.close
     (tie.spec
     (λ c κs. search needs)
-    (λ c. law.other-kind _ _ _ _ (c .before .kind-at .ensures) refl (c .if1 .taken))
+    (λ c. law.rows-differ-by-kind _ _ _ _ (c .before .kind-at .ensures) refl (c .if1 .taken))
     (λ c κs. search needs)
-    (λ c. law.other-part _ _ _ _ (c .before .before .before .kind-at .ensures) refl _ _ (c .before .part-at .ensures) refl (c .if2 .taken))
+    (λ c. law.rows-differ-by-part _ _ _ _ (c .before .before .before .kind-at .ensures) refl _ _ (c .before .part-at .ensures) refl (c .if2 .taken))
     (λ c κs. search needs)
     (λ c κs. search needs)
-    (λ c. law.args-decide _ _ _ _ (c .before .before .before .before .before .kind-at .ensures) refl _ _ (c .before .before .before .part-at .ensures) refl (c .before .before .before .before .if1 .left) (c .before .before .if2 .left) _ _ (c .before .run-at .ensures) refl _ (c .has-args .ensures)))
+    (λ c. law.rows-same-by-args _ _ _ _ (c .before .before .before .before .before .kind-at .ensures) refl _ _ (c .before .before .before .part-at .ensures) refl (c .before .before .before .before .if1 .left) (c .before .before .if2 .left) _ _ (c .before .run-at .ensures) refl _ (c .has-args .ensures)))

@@ -1,5 +1,4 @@
 -- Each arm's number is the operator's by definition. Assumes nothing.
-use mathlib.Core.Path.{refl}
 use borrow.Author.Needs.{needs}
 use Rattle.resolved_sort.specs.Storage.{kindOp}
 use Rattle.sort_interner.proofs.kind_of_op.Statement.{statement}

@@ -25,8 +25,8 @@ new-row-spec =
     μ-loop
     (λ c. (omega arith, allBelow-zero _))
     (λ c κs. search needs)
-    (λ c. search law.new-not)
+    (λ c. search law.row-is-not-new)
     (λ c. omega arith)
     (λ c. omega arith)
-    (λ c. (omega arith, search law.new-more))
-    (λ c. search law.new-done))
+    (λ c. (omega arith, search law.others-passed-one-more))
+    (λ c. search law.row-is-new))

@@ -9,8 +9,8 @@ part-at-spec =
     tie.close
     (tie.spec
     (λ c κs. search needs)
-    (λ c. search law.part-none)
+    (λ c. search law.part-is-zero)
     (λ c. search needs)
     (λ c. search needs)
     (λ c κs. search needs)
-    (λ c. search law.part-word))
+    (λ c. search law.part-is-word))

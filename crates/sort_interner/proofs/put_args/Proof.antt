@@ -2,7 +2,7 @@
 use mathlib.Core.Path.{_≡_, refl}
 use Prim.Native.Nat.{_+_, _-_, _≤_}
 use native.Mathlib.Omega.{arith}
-use lib.ListN.{length, take, length-set}
+use lib.ListN.{length, take}
 use lib.Seq.{sets}
 use borrow.Author.Needs.{needs}
 use Rattle.sort_interner.proofs.Stores as law
@@ -21,7 +21,7 @@ put-args-spec =
     (tie.spec
     Inv-loop
     μ-loop
-    (λ c. (omega arith, refl, law.sets-start _ _ _))
+    (λ c. (omega arith, refl, law.stored-from-start _ _ _))
     (λ c. omega arith)
     (λ c. omega arith)
     (λ c. omega arith)
@@ -31,6 +31,6 @@ put-args-spec =
     (λ c κs. search needs)
     (λ c. omega arith)
     (λ c. omega arith)
-    (λ c. (omega arith, omega arith, search law.given-more))
+    (λ c. (omega arith, omega arith, search law.given-from-next))
     (λ c. omega arith)
-    (λ c. search law.given-done))
+    (λ c. search law.given-stored))

@@ -10,7 +10,7 @@ row-fine-spec =
     (tie.spec
     (λ c. search needs)
     (λ c κs. search needs)
-    (λ c. search law.kind-unknown)
+    (λ c. search law.row-false-by-kind)
     (λ c κs. search needs)
     (λ c κs. search needs)
-    (λ c. search law.parts-answer))
+    (λ c. search law.row-is-by-parts))

@@ -21,10 +21,10 @@ same-run-spec =
     (tie.spec
     Inv-loop
     μ-loop
-    (λ c. search law.runs-of-other-count)
+    (λ c. search law.runs-differ-by-count)
     (λ c. search needs)
     (λ c. search needs)
-    (λ c. (omega arith, law.same-start _ _))
+    (λ c. (omega arith, law.words-same-from-start _ _))
     (λ c. omega arith)
     (λ c. omega arith)
     (λ c. omega arith)
@@ -33,8 +33,8 @@ same-run-spec =
     (λ c. omega arith)
     (λ c. omega arith)
     (λ c κs. search needs)
-    (λ c. search law.runs-not)
+    (λ c. search law.runs-differ)
     (λ c. omega arith)
     (λ c. omega arith)
-    (λ c. (omega arith, law.runs-more _ _ _ _ (c .before .before .before .before .loop .k) (c .before .before .before .before .loop .inv .1) (c .before .before .before .loop-test .taken) _ _ (c .before .before .word .ensures) (c .before .word2 .ensures) (c .if2 .left)))
-    (λ c. search law.runs-done))
+    (λ c. (omega arith, law.runs-same-from-next _ _ _ _ (c .before .before .before .before .loop .k) (c .before .before .before .before .loop .inv .1) (c .before .before .before .loop-test .taken) _ _ (c .before .before .word .ensures) (c .before .word2 .ensures) (c .if2 .left)))
+    (λ c. search law.runs-same-at-end))

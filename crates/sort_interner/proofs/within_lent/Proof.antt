@@ -8,10 +8,10 @@ pub within-lent-spec : {M : Type 1} → statement M
 within-lent-spec =
     tie.close
     (tie.spec
-    (λ c. search law.many-sorts)
-    (λ c. search law.many-entries)
+    (λ c. search law.lent-false-by-sorts)
+    (λ c. search law.lent-false-by-entries)
     (λ c. search needs)
-    (λ c. search law.few-words)
-    (λ c. search law.no-entries)
+    (λ c. search law.lent-false-by-words)
+    (λ c. search law.lent-true-without-entries)
     (λ c. search needs)
-    (λ c. search law.some-entries))
+    (λ c. search law.lent-is-by-entries))
