@@ -208,10 +208,10 @@ module _ (up : Bool) (ws : List ℕ) (C : Counts) (a b : ℕ) (f : TwoFunctions 
     abbrev y : ℕ
     y = entryAt ws (startAt ws b + i)
 
-    x-below : x < a
+    pub x-below : x < a
     x-below = argument-below ws n e k a (f .asked .lhs) (f .lhs-function) i h
 
-    y-below : y < b
+    pub y-below : y < b
     y-below = argument-below ws n e k b (f .asked .rhs) (f .rhs-function) i (omega (arith, f .as-many))
 
     pub arguments-asked : Asked ws n e x y

@@ -1,0 +1,60 @@
+use Prim.Native.Nat.{ℕ, _<_}
+use borrow.Fn.Kinds.{In}
+use borrow.Fn.PlainCycle.{Measures, is, falls, and}
+use Rattle.sort_bounds.proofs.against.Reads as against
+use Rattle.sort_bounds.proofs.against.Kinds as against-kinds
+use Rattle.sort_bounds.proofs.+against+bound+bound_container+bound_domain+bound_function+join+meet.Lts-against as against-lts
+use Rattle.sort_bounds.proofs.bound.Reads as bound
+use Rattle.sort_bounds.proofs.bound.Kinds as bound-kinds
+use Rattle.sort_bounds.proofs.+against+bound+bound_container+bound_domain+bound_function+join+meet.Lts-bound as bound-lts
+use Rattle.sort_bounds.proofs.bound_container.Reads as bound-container
+use Rattle.sort_bounds.proofs.bound_container.Kinds as bound-container-kinds
+use Rattle.sort_bounds.proofs.+against+bound+bound_container+bound_domain+bound_function+join+meet.Lts-bound_container as bound-container-lts
+use Rattle.sort_bounds.proofs.bound_domain.Reads as bound-domain
+use Rattle.sort_bounds.proofs.bound_domain.Kinds as bound-domain-kinds
+use Rattle.sort_bounds.proofs.+against+bound+bound_container+bound_domain+bound_function+join+meet.Lts-bound_domain as bound-domain-lts
+use Rattle.sort_bounds.proofs.bound_function.Reads as bound-function
+use Rattle.sort_bounds.proofs.bound_function.Kinds as bound-function-kinds
+use Rattle.sort_bounds.proofs.+against+bound+bound_container+bound_domain+bound_function+join+meet.Lts-bound_function as bound-function-lts
+use Rattle.sort_bounds.proofs.join.Reads as join
+use Rattle.sort_bounds.proofs.join.Kinds as join-kinds
+use Rattle.sort_bounds.proofs.+against+bound+bound_container+bound_domain+bound_function+join+meet.Lts-join as join-lts
+use Rattle.sort_bounds.proofs.meet.Reads as meet
+use Rattle.sort_bounds.proofs.meet.Kinds as meet-kinds
+use Rattle.sort_bounds.proofs.+against+bound+bound_container+bound_domain+bound_function+join+meet.Lts-meet as meet-lts
+use Rattle.sort_bounds.proofs.argument.Reads as argument-reads
+use Rattle.sort_bounds.proofs.arguments.Reads as arguments-reads
+use Rattle.sort_bounds.proofs.bound_op.Reads as bound-op-reads
+use Rattle.sort_bounds.proofs.function.Reads as function-reads
+use Rattle.sort_bounds.proofs.generic.Reads as generic-reads
+use Rattle.sort_bounds.proofs.number_side.Reads as number-side-reads
+use Rattle.sort_bounds.proofs.part.Reads as part-reads
+use Rattle.sort_order.proofs.pair.Reads as pair-reads
+use mathlib.Core.Path.{_≡_, refl, sym, _∙_, ap}
+use Prim.Native.Nat.{_+_, _-_, _*_}
+use native.Mathlib.Omega.{arith}
+use borrow.Author.Needs.{needs}
+use Rattle.resolved_sort.proofs.BoundsCode as law
+use Rattle.resolved_sort.proofs.DomainCode as domain
+use Rattle.resolved_sort.proofs.FunctionCode as functions
+use Rattle.sort_bounds.proofs.Ways as way
+use Rattle.sort_bounds.proofs.+against+bound+bound_container+bound_domain+bound_function+join+meet.Proof.Common.{against-at, against-below, bound-at, bound-below, bound-container-at, bound-container-below, bound-domain-at, bound-domain-below, bound-function-at, bound-function-below, join-at, join-below, meet-at, meet-below}
+
+pub part : (M : Type 1) (t : ℕ) → bound-container-lts.Closed (bound-op-reads.Asked, bound-op-reads.Learnt, bound-below t, bound.Post, generic-reads.Asked, generic-reads.Learnt) (bound-container-at t) bound-container.Post M
+part M t =
+    bound-container-lts.spec (bound-op-reads.Asked, bound-op-reads.Learnt, bound-below t, bound.Post, generic-reads.Asked, generic-reads.Learnt) (bound-container-at t) bound-container.Post
+    (λ c κs. search needs)
+    (λ c. search needs)
+    (λ c κs. (omega (arith, c .before .before .before .before .before .before .pre .0), c .before .before .before .before .before .before .pre .1))
+    (λ c. search needs)
+    (λ c κs. (law.container-checked (c .before .before .before .before .before .before .before .before .before .before .before .before .before .args .sorts .now) (c .before .before .before .before .before .before .before .before .before .before .before .before .before .args .counts) (c .before .before .before .before .before .before .before .before .before .before .before .before .before .pre .1 .checked) (c .before .before .before .before .before .before .before .before .before .before .before .before .before .args .up) (c .before .before .before .before .before .before .before .before .before .before .before .before .before .args .lhs-op) (c .before .before .before .before .before .before .before .before .before .before .before .before .before .args .lhs-sub) (c .before .before .before .before .before .before .before .before .before .before .before .before .before .args .rhs-op) (c .before .before .before .before .before .before .before .before .before .before .before .before .before .args .rhs-sub) (c .before .before .before .before .before .before .before .before .before .before .before .before .before .pre .1 .lhs) (c .before .before .before .before .before .before .before .before .before .before .before .before .before .pre .1 .rhs) (c .before .before .before .before .before .before .before .before .before .before .before .bound-op .result) (c .before .before .before .before .before .before .before .before .before .before .before .bound-op .ensures) _ (c .before .before .before .before .before .before .before .before .before .op .given .1) _ (c .before .before .before .before .before .before .bound .result) (c .before .before .before .before .before .before .bound .ensures) _ _ (c .before .before .subsort .given .1), law.container-below (c .before .before .before .before .before .before .before .before .before .before .before .before .before .args .sorts .now) (c .before .before .before .before .before .before .before .before .before .before .before .before .before .args .counts) (c .before .before .before .before .before .before .before .before .before .before .before .before .before .pre .1 .checked) (c .before .before .before .before .before .before .before .before .before .before .before .before .before .args .up) (c .before .before .before .before .before .before .before .before .before .before .before .before .before .args .lhs-op) (c .before .before .before .before .before .before .before .before .before .before .before .before .before .args .lhs-sub) (c .before .before .before .before .before .before .before .before .before .before .before .before .before .args .rhs-op) (c .before .before .before .before .before .before .before .before .before .before .before .before .before .args .rhs-sub) (c .before .before .before .before .before .before .before .before .before .before .before .before .before .pre .1 .lhs) (c .before .before .before .before .before .before .before .before .before .before .before .before .before .pre .1 .rhs) (c .before .before .before .before .before .before .before .before .before .before .before .bound-op .result) (c .before .before .before .before .before .before .before .before .before .before .before .bound-op .ensures) _ (c .before .before .before .before .before .before .before .before .before .op .given .1) _ (c .before .before .before .before .before .before .bound .result) (c .before .before .before .before .before .before .bound .ensures) _ _ (c .before .before .subsort .given .1)))
+    (λ c. search needs)
+    (λ c. search needs)
+    (λ c. search needs)
+    (λ c. c .before .before .generic .kept .0 ∙ c .before .before .before .before .before .before .before .before .before .bound .kept .0)
+    (λ c. law.container-made (c .before .before .before .before .before .before .before .before .before .before .before .before .before .before .before .before .args .sorts .now) (c .before .before .before .before .before .before .before .before .before .before .before .before .before .before .before .before .args .counts) (c .before .before .before .before .before .before .before .before .before .before .before .before .before .before .before .before .pre .1 .checked) (c .before .before .before .before .before .before .before .before .before .before .before .before .before .before .before .before .args .up) (c .before .before .before .before .before .before .before .before .before .before .before .before .before .before .before .before .args .lhs-op) (c .before .before .before .before .before .before .before .before .before .before .before .before .before .before .before .before .args .lhs-sub) (c .before .before .before .before .before .before .before .before .before .before .before .before .before .before .before .before .args .rhs-op) (c .before .before .before .before .before .before .before .before .before .before .before .before .before .before .before .before .args .rhs-sub) (c .before .before .before .before .before .before .before .before .before .before .before .before .before .before .before .before .pre .1 .lhs) (c .before .before .before .before .before .before .before .before .before .before .before .before .before .before .before .before .pre .1 .rhs) (c .before .before .before .before .before .before .before .before .before .before .before .before .before .before .bound-op .result) (c .before .before .before .before .before .before .before .before .before .before .before .before .before .before .bound-op .ensures) _ (c .before .before .before .before .before .before .before .before .before .before .before .before .op .given .1) _ (c .before .before .before .before .before .before .before .before .before .bound .result) (c .before .before .before .before .before .before .before .before .before .bound .ensures) _ _ (c .before .before .before .before .before .subsort .given .1) _ _ (c .before .before .generic .ensures))
+    (λ c. search needs)
+    (λ c. law.container-stops (c .before .before .before .before .before .before .before .before .before .before .before .before .args .sorts .now) (c .before .before .before .before .before .before .before .before .before .before .before .before .args .counts) (c .before .before .before .before .before .before .before .before .before .before .before .before .pre .1 .checked) (c .before .before .before .before .before .before .before .before .before .before .before .before .args .up) (c .before .before .before .before .before .before .before .before .before .before .before .before .args .lhs-op) (c .before .before .before .before .before .before .before .before .before .before .before .before .args .lhs-sub) (c .before .before .before .before .before .before .before .before .before .before .before .before .args .rhs-op) (c .before .before .before .before .before .before .before .before .before .before .before .before .args .rhs-sub) (c .before .before .before .before .before .before .before .before .before .before .before .before .pre .1 .lhs) (c .before .before .before .before .before .before .before .before .before .before .before .before .pre .1 .rhs) (c .before .before .before .before .before .before .before .before .before .before .bound-op .result) (c .before .before .before .before .before .before .before .before .before .before .bound-op .ensures) _ (c .before .before .before .before .before .before .before .before .op .given .1) _ (c .before .before .before .before .before .bound .result) (c .before .before .before .before .before .bound .ensures) _ (c .before .made .given .1))
+    (λ c. search needs)
+    (λ c. law.container-ends (c .before .before .before .before .before .before .before .before .before .before .before .args .sorts .now) (c .before .before .before .before .before .before .before .before .before .before .before .args .counts) (c .before .before .before .before .before .before .before .before .before .before .before .pre .1 .checked) (c .before .before .before .before .before .before .before .before .before .before .before .args .up) (c .before .before .before .before .before .before .before .before .before .before .before .args .lhs-op) (c .before .before .before .before .before .before .before .before .before .before .before .args .lhs-sub) (c .before .before .before .before .before .before .before .before .before .before .before .args .rhs-op) (c .before .before .before .before .before .before .before .before .before .before .before .args .rhs-sub) (c .before .before .before .before .before .before .before .before .before .before .before .pre .1 .lhs) (c .before .before .before .before .before .before .before .before .before .before .before .pre .1 .rhs) (c .before .before .before .before .before .before .before .before .before .bound-op .result) (c .before .before .before .before .before .before .before .before .before .bound-op .ensures) _ (c .before .before .before .before .before .before .before .op .given .1) _ (c .before .before .before .before .bound .result) (c .before .before .before .before .bound .ensures) (c .enum-told .given .1))
+    (λ c. law.container-none (c .before .before .before .before .args .sorts .now) (c .before .before .before .before .args .counts) (c .before .before .before .before .pre .1 .checked) (c .before .before .before .before .args .up) (c .before .before .before .before .args .lhs-op) (c .before .before .before .before .args .lhs-sub) (c .before .before .before .before .args .rhs-op) (c .before .before .before .before .args .rhs-sub) (c .before .before .before .before .pre .1 .lhs) (c .before .before .before .before .pre .1 .rhs) (c .before .before .bound-op .result) (c .before .before .bound-op .ensures) (c .enum-told2 .given .1))
