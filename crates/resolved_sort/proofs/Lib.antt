@@ -16,3 +16,5 @@ pub mod Fine
 pub mod Append
 pub mod Interned
 pub mod Pairs
+pub mod Unlikes
+pub mod Said

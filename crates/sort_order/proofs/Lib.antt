@@ -1,3 +1,5 @@
 -- The laws as the code meets them: premises are the tests and what calls have answered, the conclusion is the definition.
-pub mod Orders
 pub mod Rows
+pub mod Orders
+pub mod Runs
+pub mod OrderCode

@@ -12,12 +12,15 @@ use sort_interner::get;
 use sort_interner::word;
 ghost use mathlib.Core.Path.{_≡_};
 ghost use mathlib.Core.Bool.{true, false};
-ghost use Prim.Native.Nat.{_+_, _<_};
+ghost use Prim.Native.Nat.{_<_};
 ghost use lib.Dec.{leb};
 ghost use Rattle.resolved_sort.specs.Tree.{primitive, flat};
 ghost use Rattle.resolved_sort.specs.Order.{leOp, order, orderOf};
+ghost use Rattle.resolved_sort.specs.Entries.{treeAt};
+ghost use Rattle.resolved_sort.specs.Rows.{Checked};
 ghost use Rattle.resolved_sort.specs.Pairs.{withPrimitive, withContainer, withFunction, pairOf, pairAt};
 ghost use Rattle.sort_order.specs.Answers.{combined, amountOf, generality};
+ghost use Rattle.sort_order.specs.Runs.{argsAt, argsOrder, Runs};
 
 // A number that may be missing: Option<u32> and Option<u8> in the Rust.
 pub enum Amount {
@@ -215,4 +218,60 @@ pub fn generic_op_partial_cmp(lhs: ComplexSort, rhs: ComplexSort) -> PartialOrde
             ComplexSort::FBag => PartialOrder::Equal,
         },
     }
+}
+
+// The order of two sorts of a checked list. Functions go the other way in their arguments.
+pub fn partial_cmp(sorts: &[u16], counts: Counts, lhs: SortId, rhs: SortId) -> PartialOrder
+    requires { ⌜ Checked (now sorts) (counts .sorts) (counts .entries) × (lhs .0 < counts .sorts) × (rhs .0 < counts .sorts) ⌝ }
+    ensures { λ r. ⌜ r ≡ order (treeAt (now (sorts .entry)) (counts .sorts) (lhs .0)) (treeAt (now (sorts .entry)) (counts .sorts) (rhs .0)) ⌝ }
+{
+    if lhs.0 == rhs.0 {
+        return PartialOrder::Equal;
+    }
+    match pair(sorts, lhs, rhs) {
+        Pair::Primitives(l, r) => primitive_partial_cmp(l, r),
+        Pair::Containers {
+            lhs_op,
+            lhs_sub,
+            rhs_op,
+            rhs_sub,
+        } => {
+            let op = generic_op_partial_cmp(lhs_op, rhs_op);
+            combine(op, partial_cmp(sorts, counts, lhs_sub, rhs_sub))
+        }
+        Pair::Functions {
+            count,
+            lhs_start,
+            lhs_range,
+            rhs_start,
+            rhs_range,
+        } => {
+            let domain = domain_cmp(sorts, counts, lhs_start, rhs_start, count);
+            combine(domain, partial_cmp(sorts, counts, lhs_range, rhs_range))
+        }
+        Pair::Other => PartialOrder::Unrelated,
+    }
+}
+
+// The order of two functions by their arguments, as many on both sides: each right argument against its left one.
+pub fn domain_cmp(
+    sorts: &[u16],
+    counts: Counts,
+    lhs_start: u16,
+    rhs_start: u16,
+    count: u16,
+) -> PartialOrder
+    requires { ⌜ Runs (now sorts) (counts .sorts) (counts .entries) «lhs_start» «rhs_start» count ⌝ }
+    ensures { λ r. ⌜ r ≡ argsOrder (argsAt (now (sorts .entry)) (counts .sorts) «lhs_start» count) (argsAt (now (sorts .entry)) (counts .sorts) «rhs_start» count) ⌝ }
+{
+    if count == 0 {
+        return PartialOrder::Equal;
+    }
+    let lhs = word(sorts, 4096 + (lhs_start as usize));
+    let rhs = word(sorts, 4096 + (rhs_start as usize));
+    let first = partial_cmp(sorts, counts, SortId(rhs), SortId(lhs));
+    combine(
+        first,
+        domain_cmp(sorts, counts, lhs_start + 1, rhs_start + 1, count - 1),
+    )
 }
