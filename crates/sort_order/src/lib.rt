@@ -12,14 +12,15 @@ use sort_interner::get;
 use sort_interner::word;
 ghost use mathlib.Core.Path.{_≡_};
 ghost use mathlib.Core.Bool.{true, false};
-ghost use Prim.Native.Nat.{_<_};
+ghost use mathlib.Core.Option.{some};
+ghost use Prim.Native.Nat.{_-_, _<_};
 ghost use lib.Dec.{leb};
 ghost use Rattle.resolved_sort.specs.Tree.{primitive, flat};
-ghost use Rattle.resolved_sort.specs.Order.{leOp, order, orderOf};
-ghost use Rattle.resolved_sort.specs.Entries.{treeAt};
+ghost use Rattle.resolved_sort.specs.Order.{leOp, order, orderOf, given, sum as sumOf, distance, distances};
+ghost use Rattle.resolved_sort.specs.Entries.{treeAt, wideningOf};
 ghost use Rattle.resolved_sort.specs.Rows.{Checked};
 ghost use Rattle.resolved_sort.specs.Pairs.{withPrimitive, withContainer, withFunction, pairOf, pairAt};
-ghost use Rattle.sort_order.specs.Answers.{combined, amountOf, generality};
+ghost use Rattle.sort_order.specs.Answers.{combined, amountOf, generality, opSteps, beneath, more};
 ghost use Rattle.sort_order.specs.Runs.{argsAt, argsOrder, Runs};
 
 // A number that may be missing: Option<u32> and Option<u8> in the Rust.
@@ -274,4 +275,83 @@ pub fn domain_cmp(
         first,
         domain_cmp(sorts, counts, lhs_start + 1, rhs_start + 1, count - 1),
     )
+}
+
+// The sum of two counts of steps, which stops at 255.
+pub fn sum(a: u8, b: u8) -> u8
+    ensures { λ r. ⌜ r ≡ sumOf a b ⌝ }
+{
+    if 255 - a < b { 255 } else { a + b }
+}
+
+// The steps from one generality up to another.
+pub fn number_distance(from: u8, to: u8) -> Widening
+    ensures { λ r. ⌜ r ≡ wideningOf (given (leb from to) (some (record { head = to - from; interior = 0 }))) ⌝ }
+{
+    if from <= to {
+        Widening::Distance {
+            head: to - from,
+            interior: 0,
+        }
+    } else {
+        Widening::Nothing
+    }
+}
+
+// The steps from one primitive sort up to another, all at the head. Down from a wider one there are none.
+pub fn primitive_distance(from: Sort, to: Sort) -> Widening
+    ensures { λ r. ⌜ r ≡ wideningOf (distance true (flat (primitive from)) (flat (primitive to))) ⌝ }
+{
+    match number_generality(from) {
+        Amount::Of(l) => match number_generality(to) {
+            Amount::Of(r) => number_distance(l, r),
+            Amount::Nothing => Widening::Nothing,
+        },
+        Amount::Nothing => match number_generality(to) {
+            Amount::Of(_) => Widening::Nothing,
+            Amount::Nothing => Widening::Distance {
+                head: 0,
+                interior: 0,
+            },
+        },
+    }
+}
+
+// The step from one container operator up to another, 0 or 1. From Set to FSet there is none.
+pub fn op_distance(from: ComplexSort, to: ComplexSort) -> Amount
+    ensures { λ r. ⌜ r ≡ amountOf (opSteps from to) ⌝ }
+{
+    match generic_op_partial_cmp(from, to) {
+        PartialOrder::Unrelated => Amount::Nothing,
+        PartialOrder::Equal => Amount::Of(0),
+        PartialOrder::Below => Amount::Of(1),
+        PartialOrder::Above => Amount::Nothing,
+    }
+}
+
+// The distance of sorts with head steps of their own, with the steps of parts before, and with the distance of a part: the
+// part's head and interior are both interior.
+pub fn within(head: u8, before: u8, part: Widening) -> Widening
+    ensures { λ r. ⌜ r ≡ beneath head before part ⌝ }
+{
+    match part {
+        Widening::Distance {
+            head: part_head,
+            interior,
+        } => Widening::Distance {
+            head,
+            interior: sum(before, sum(part_head, interior)),
+        },
+        Widening::Nothing => Widening::Nothing,
+    }
+}
+
+// The steps of a first argument and those of the rest.
+pub fn plus(first: u8, rest: Amount) -> Amount
+    ensures { λ r. ⌜ r ≡ more first rest ⌝ }
+{
+    match rest {
+        Amount::Of(n) => Amount::Of(sum(first, n)),
+        Amount::Nothing => Amount::Nothing,
+    }
 }
