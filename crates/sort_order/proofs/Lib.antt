@@ -3,3 +3,4 @@ pub mod Rows
 pub mod Orders
 pub mod Runs
 pub mod OrderCode
+pub mod DistanceCode

@@ -355,3 +355,67 @@ pub fn plus(first: u8, rest: Amount) -> Amount
         Amount::Nothing => Amount::Nothing,
     }
 }
+
+// How far a sort of a checked list is below another. Where it is not equal to or below it there is no distance.
+pub fn widening_distance(sorts: &[u16], counts: Counts, from: SortId, to: SortId) -> Widening
+    requires { ⌜ Checked (now sorts) (counts .sorts) (counts .entries) × (from .0 < counts .sorts) × (to .0 < counts .sorts) ⌝ }
+    ensures { λ r. ⌜ r ≡ wideningOf (distance true (treeAt (now (sorts .entry)) (counts .sorts) (from .0)) (treeAt (now (sorts .entry)) (counts .sorts) (to .0))) ⌝ }
+{
+    if from.0 == to.0 {
+        return Widening::Distance {
+            head: 0,
+            interior: 0,
+        };
+    }
+    match pair(sorts, from, to) {
+        Pair::Primitives(l, r) => primitive_distance(l, r),
+        Pair::Containers {
+            lhs_op,
+            lhs_sub,
+            rhs_op,
+            rhs_sub,
+        } => match op_distance(lhs_op, rhs_op) {
+            Amount::Of(head) => within(head, 0, widening_distance(sorts, counts, lhs_sub, rhs_sub)),
+            Amount::Nothing => Widening::Nothing,
+        },
+        Pair::Functions {
+            count,
+            lhs_start,
+            lhs_range,
+            rhs_start,
+            rhs_range,
+        } => match domain_distance(sorts, counts, lhs_start, rhs_start, count) {
+            Amount::Of(n) => within(0, n, widening_distance(sorts, counts, lhs_range, rhs_range)),
+            Amount::Nothing => Widening::Nothing,
+        },
+        Pair::Other => Widening::Nothing,
+    }
+}
+
+// The steps from the arguments of the target up to those of the source, the other way round than the functions go.
+pub fn domain_distance(
+    sorts: &[u16],
+    counts: Counts,
+    from_start: u16,
+    to_start: u16,
+    count: u16,
+) -> Amount
+    requires { ⌜ Runs (now sorts) (counts .sorts) (counts .entries) «from_start» «to_start» count ⌝ }
+    ensures { λ r. ⌜ r ≡ amountOf (distances false (argsAt (now (sorts .entry)) (counts .sorts) «from_start» count) (argsAt (now (sorts .entry)) (counts .sorts) «to_start» count)) ⌝ }
+{
+    if count == 0 {
+        return Amount::Of(0);
+    }
+    let from = word(sorts, 4096 + (from_start as usize));
+    let to = word(sorts, 4096 + (to_start as usize));
+    match widening_distance(sorts, counts, SortId(to), SortId(from)) {
+        Widening::Distance { head, interior } => {
+            let first = sum(head, interior);
+            plus(
+                first,
+                domain_distance(sorts, counts, from_start + 1, to_start + 1, count - 1),
+            )
+        }
+        Widening::Nothing => Amount::Nothing,
+    }
+}
