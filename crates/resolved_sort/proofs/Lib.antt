@@ -18,3 +18,4 @@ pub mod Interned
 pub mod Pairs
 pub mod Unlikes
 pub mod Said
+pub mod SameNumbers

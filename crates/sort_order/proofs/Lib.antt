@@ -4,3 +4,5 @@ pub mod Orders
 pub mod Runs
 pub mod OrderCode
 pub mod DistanceCode
+pub mod Entries
+pub mod MaterializableCode

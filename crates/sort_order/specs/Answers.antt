@@ -26,6 +26,12 @@ atLeast Equal = true
 atLeast Below = false
 atLeast Above = true
 
+abbrev pub isBelow : PartialOrder → Bool
+isBelow Unrelated = false
+isBelow Equal = false
+isBelow Below = true
+isBelow Above = false
+
 -- equal or below in both, equal or above in both
 unfoldable pub combined : PartialOrder → PartialOrder → PartialOrder
 combined l r = orderOf (atMost l && atMost r) (atLeast l && atLeast r)

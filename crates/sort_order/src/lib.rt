@@ -16,11 +16,12 @@ ghost use mathlib.Core.Option.{some};
 ghost use Prim.Native.Nat.{_-_, _<_};
 ghost use lib.Dec.{leb};
 ghost use Rattle.resolved_sort.specs.Tree.{primitive, flat};
-ghost use Rattle.resolved_sort.specs.Order.{leOp, order, orderOf, given, sum as sumOf, distance, distances};
+ghost use Rattle.resolved_sort.specs.Order.{leOp, order, orderOf, given, sum as sumOf, distance, distances, materializable};
+ghost use Rattle.resolved_sort.specs.Storage.{entriesOf};
 ghost use Rattle.resolved_sort.specs.Entries.{treeAt, wideningOf};
-ghost use Rattle.resolved_sort.specs.Rows.{Checked};
+ghost use Rattle.resolved_sort.specs.Rows.{Checked, sameWords};
 ghost use Rattle.resolved_sort.specs.Pairs.{withPrimitive, withContainer, withFunction, pairOf, pairAt};
-ghost use Rattle.sort_order.specs.Answers.{combined, amountOf, generality, opSteps, beneath, more};
+ghost use Rattle.sort_order.specs.Answers.{isBelow, combined, amountOf, generality, opSteps, beneath, more};
 ghost use Rattle.sort_order.specs.Runs.{argsAt, argsOrder, Runs};
 
 // A number that may be missing: Option<u32> and Option<u8> in the Rust.
@@ -417,5 +418,71 @@ pub fn domain_distance(
             )
         }
         Widening::Nothing => Amount::Nothing,
+    }
+}
+
+// Whether an order says Below: not where it says Equal.
+pub fn is_below(order: PartialOrder) -> bool
+    ensures { λ r. ⌜ r ≡ isBelow order ⌝ }
+{
+    match order {
+        PartialOrder::Unrelated => false,
+        PartialOrder::Equal => false,
+        PartialOrder::Below => true,
+        PartialOrder::Above => false,
+    }
+}
+
+// Whether two runs of arguments have the same sort numbers in the same order.
+pub fn same_arguments(sorts: &[u16], from_start: u16, to_start: u16, count: u16) -> bool
+    ensures { λ r. ⌜ r ≡ sameWords (entriesOf (now (sorts .entry)) «from_start» count) (entriesOf (now (sorts .entry)) «to_start» count) ⌝ }
+{
+    let mut i: u16 = 0;
+    while i < count {
+        let from = word(sorts, 4096 + ((from_start as usize) + (i as usize)));
+        let to = word(sorts, 4096 + ((to_start as usize) + (i as usize)));
+        if from != to {
+            return false;
+        }
+        i += 1;
+    }
+    true
+}
+
+// Whether the language has a coercion from one sort of a checked list to another. Below is not enough: parts and arguments
+// are the same sorts.
+pub fn is_materializable(sorts: &[u16], counts: Counts, from: SortId, to: SortId) -> bool
+    requires { ⌜ Checked (now sorts) (counts .sorts) (counts .entries) × (from .0 < counts .sorts) × (to .0 < counts .sorts) ⌝ }
+    ensures { λ r. ⌜ r ≡ materializable (treeAt (now (sorts .entry)) (counts .sorts) (from .0)) (treeAt (now (sorts .entry)) (counts .sorts) (to .0)) ⌝ }
+{
+    if from.0 == to.0 {
+        return true;
+    }
+    match pair(sorts, from, to) {
+        Pair::Primitives(l, r) => is_below(primitive_partial_cmp(l, r)),
+        Pair::Containers {
+            lhs_op,
+            lhs_sub,
+            rhs_op,
+            rhs_sub,
+        } => {
+            if lhs_sub.0 != rhs_sub.0 {
+                return false;
+            }
+            is_below(generic_op_partial_cmp(lhs_op, rhs_op))
+        }
+        Pair::Functions {
+            count,
+            lhs_start,
+            lhs_range,
+            rhs_start,
+            rhs_range,
+        } => {
+            if !same_arguments(sorts, lhs_start, rhs_start, count) {
+                return false;
+            }
+            is_materializable(sorts, counts, lhs_range, rhs_range)
+        }
+        Pair::Other => false,
     }
 }
