@@ -9,9 +9,8 @@ use Rattle.resolved_sort.specs.declared.Sort.{Sort}
 use Rattle.resolved_sort.specs.declared.ComplexSort.{ComplexSort}
 use Rattle.resolved_sort.specs.declared.Pair.{Pair}
 use Rattle.resolved_sort.specs.declared.Pair.the-variants.{Primitives, Containers, Functions, Other}
-use Rattle.resolved_sort.specs.Tree.{Tree, arg}
 use Rattle.resolved_sort.specs.Interning.{look}
-use Rattle.resolved_sort.specs.Storage.{entryAt, entriesOf, lookAll, trees}
+use Rattle.resolved_sort.specs.Storage.{entryAt, entriesOf, trees}
 use Rattle.resolved_sort.specs.Rows.{Checked}
 use Rattle.resolved_sort.specs.Pairs.{pairAt}
 use Rattle.resolved_sort.proofs.RowTrees.{AllBelow}

@@ -1,14 +1,13 @@
 -- Sorts that have nothing in common are not related, have no distance and do not materialize. By the cases of `Unlike`, and
 -- for functions by induction on the arguments. Assumes nothing.
-use mathlib.Core.Path.{_≡_, refl, sym, ap, _∙_}
+use mathlib.Core.Path.{_≡_, refl, ap, _∙_}
 use mathlib.Core.Bool.{Bool, true, false, not, _&&_, and-false}
 use mathlib.Core.Option.{Option, none, some}
 use Prim.Native.Nat.{ℕ, _+_}
-use native.Mathlib.Omega.{arith}
 use borrow.Author.Tests.{ne-eqb}
 use Rattle.resolved_sort.specs.declared.PartialOrder.the-variants.{Unrelated}
 use Rattle.resolved_sort.specs.Tree.{Tree, Trees, end, arg, arity}
-use Rattle.resolved_sort.specs.Order.{le, les, order, orderOf, Steps, distance, materializable}
+use Rattle.resolved_sort.specs.Order.{le, les, order, Steps, distance, materializable}
 use Rattle.resolved_sort.proofs.Numbers.{true-not-false}
 use Rattle.resolved_sort.proofs.Distance.{distance-exists-exactly}
 use Rattle.resolved_sort.proofs.Materializable.{materializable-below}

@@ -11,7 +11,7 @@ use Rattle.resolved_sort.specs.declared.Sort.{Sort}
 use Rattle.resolved_sort.specs.declared.ComplexSort.{ComplexSort}
 use Rattle.resolved_sort.specs.declared.Widening.{Widening}
 use Rattle.resolved_sort.specs.declared.Widening.the-variants.{Distance, Nothing as NoDistance}
-use Rattle.resolved_sort.specs.Tree.{primitive, Tree, flat, container, function, Trees, arg, levelOp}
+use Rattle.resolved_sort.specs.Tree.{primitive, flat, levelOp}
 use Rattle.resolved_sort.specs.Order.{leOp, Steps, given, map₁, map₂, sum, all, distance, distances}
 use Rattle.resolved_sort.specs.Storage.{entryAt, entriesOf, lookAll}
 use Rattle.resolved_sort.specs.Entries.{treeAt, wideningOf}

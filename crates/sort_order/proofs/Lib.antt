@@ -2,6 +2,7 @@
 pub mod Rows
 pub mod Orders
 pub mod Runs
+pub mod Falls
 pub mod OrderCode
 pub mod DistanceCode
 pub mod Entries

@@ -11,7 +11,7 @@ use Rattle.resolved_sort.specs.declared.SortId.{SortId}
 use Rattle.resolved_sort.specs.declared.Sort.{Sort}
 use Rattle.resolved_sort.specs.declared.ComplexSort.{ComplexSort}
 use Rattle.resolved_sort.specs.declared.PartialOrder.{PartialOrder}
-use Rattle.resolved_sort.specs.Tree.{primitive, Tree, flat, container, function, Trees, familyOp, levelOp, same, sames}
+use Rattle.resolved_sort.specs.Tree.{primitive, Tree, flat, container, familyOp, levelOp}
 use Rattle.resolved_sort.specs.Order.{leOp, le, order, orderOf, materializable}
 use Rattle.resolved_sort.specs.Storage.{entriesOf}
 use Rattle.resolved_sort.specs.Entries.{treeAt}

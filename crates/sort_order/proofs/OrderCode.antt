@@ -1,7 +1,7 @@
 -- The order as `partial_cmp` and `domain_cmp` meet it: by what the pair says of the two sorts, and by first argument and
 -- rest. Assumes nothing.
-use mathlib.Core.Path.{_≡_, refl, sym, ap, ap₂, _∙_}
-use mathlib.Core.Bool.{Bool, true, false, _&&_}
+use mathlib.Core.Path.{_≡_, sym, ap, ap₂, _∙_}
+use mathlib.Core.Bool.{true, false}
 use mathlib.Core.List.{List}
 use Prim.Native.Nat.{ℕ, _+_, _-_}
 use Rattle.resolved_sort.specs.declared.SortId.{SortId}
@@ -9,7 +9,7 @@ use Rattle.resolved_sort.specs.declared.Sort.{Sort}
 use Rattle.resolved_sort.specs.declared.ComplexSort.{ComplexSort}
 use Rattle.resolved_sort.specs.declared.PartialOrder.{PartialOrder}
 use Rattle.resolved_sort.specs.declared.PartialOrder.the-variants.{Unrelated, Equal}
-use Rattle.resolved_sort.specs.Tree.{primitive, Tree, flat, container, function, Trees, end, arg}
+use Rattle.resolved_sort.specs.Tree.{primitive, Tree, flat, container, function, Trees, arg}
 use Rattle.resolved_sort.specs.Order.{leOp, le, les, order, orderOf}
 use Rattle.resolved_sort.specs.Storage.{entryAt, entriesOf, lookAll}
 use Rattle.resolved_sort.specs.Entries.{treeAt}

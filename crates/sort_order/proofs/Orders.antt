@@ -2,7 +2,7 @@
 -- container operators by their order. Assumes nothing.
 use mathlib.Core.Path.{_≡_, refl, ap, _∙_}
 use mathlib.Core.Bool.{Bool, true, false, _&&_}
-use mathlib.Core.Option.{Option, none, some}
+use mathlib.Core.Option.{some}
 use Prim.Native.Nat.{ℕ, _-_}
 use lib.Dec.{eqb, leb}
 use Rattle.resolved_sort.specs.declared.Sort.{Sort}

@@ -1,11 +1,11 @@
 -- The runs of two functions are in order, and stay so past their first entries. Assumes nothing.
-use mathlib.Core.Path.{_≡_, ap, subst, _∙_}
+use mathlib.Core.Path.{_≡_, subst}
 use mathlib.Core.List.{List}
 use Prim.Native.Nat.{ℕ, _+_, _-_, _<_}
 use native.Mathlib.Omega.{arith}
 use Rattle.resolved_sort.specs.declared.SortId.{SortId}
 use Rattle.resolved_sort.specs.Tree.{arg}
-use Rattle.resolved_sort.specs.Storage.{entryAt, lookAll, trees}
+use Rattle.resolved_sort.specs.Storage.{entryAt, lookAll}
 use Rattle.resolved_sort.specs.Entries.{treeAt}
 use Rattle.resolved_sort.specs.Rows.{Checked}
 use Rattle.resolved_sort.proofs.Pairs.{OfFunctions}

@@ -20,7 +20,7 @@ ghost use Rattle.resolved_sort.specs.Order.{leOp, order, orderOf, given, sum as
 ghost use Rattle.resolved_sort.specs.Storage.{entriesOf};
 ghost use Rattle.resolved_sort.specs.Entries.{treeAt, wideningOf};
 ghost use Rattle.resolved_sort.specs.Rows.{Checked, sameWords};
-ghost use Rattle.resolved_sort.specs.Pairs.{withPrimitive, withContainer, withFunction, pairOf, pairAt};
+ghost use Rattle.resolved_sort.specs.Pairs.{withPrimitive, withContainer, withFunction, pairAt};
 ghost use Rattle.sort_order.specs.Answers.{isBelow, combined, amountOf, generality, opSteps, beneath, more};
 ghost use Rattle.sort_order.specs.Runs.{argsAt, argsOrder, Runs};
 

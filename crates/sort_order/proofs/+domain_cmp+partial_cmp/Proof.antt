@@ -1,13 +1,11 @@
--- Each answer is what the pair says of the two sorts, by a law. The measure falls with the numbers of the parts; a run
--- counts by its highest entry, and then by its length. Assumes nothing.
-use Prim.Native.Nat.{ℕ, _+_, _*_, _<_}
+-- Each answer is what the pair says of the two sorts, by a law, and each call falls by a law. Assumes nothing.
+use Prim.Native.Nat.{ℕ, _<_}
 use native.Mathlib.Omega.{arith}
 use borrow.Author.Needs.{needs}
 use borrow.Fn.Kinds.{In}
 use borrow.Fn.PlainCycle.{Measures, is, falls, and}
-use Rattle.resolved_sort.specs.Storage.{entriesOf}
 use Rattle.resolved_sort.proofs.Said as said
-use Rattle.sort_order.proofs.Runs as runs
+use Rattle.sort_order.proofs.Falls as falling
 use Rattle.sort_order.proofs.OrderCode as code
 use Rattle.sort_order.proofs.domain_cmp.Reads as domain-cmp
 use Rattle.sort_order.proofs.domain_cmp.Kinds as domain-cmp-kinds
@@ -24,11 +22,10 @@ use Rattle.sort_order.proofs.+domain_cmp+partial_cmp.{statement}
 use Rattle.sort_order.proofs.+domain_cmp+partial_cmp.Tie.{close}
 
 abbrev μ-domain-cmp : Measures 1 domain-cmp-kinds.ps ℕ
-μ-domain-cmp κs a =
-    (said.topOf (entriesOf (a .0 .now) (a .1 .1 .0) (a .1 .1 .1 .1 .0)) + said.topOf (entriesOf (a .0 .now) (a .1 .1 .1 .0) (a .1 .1 .1 .1 .0))) * 18 + a .1 .1 .1 .1 .0
+μ-domain-cmp κs a = falling.runsLeft (a .0 .now) (a .1 .1 .0) (a .1 .1 .1 .0) (a .1 .1 .1 .1 .0)
 
 abbrev μ-partial-cmp : Measures 1 partial-cmp-kinds.ps ℕ
-μ-partial-cmp κs a = ((a .1 .1 .0) .0 + (a .1 .1 .1 .0) .0) * 18 + 17
+μ-partial-cmp κs a = falling.pairLeft ((a .1 .1 .0) .0) ((a .1 .1 .1 .0) .0)
 
 abbrev domain-cmp-at : ℕ → In 1 domain-cmp-kinds.ps
 domain-cmp-at t = and 1 domain-cmp-kinds.ps (is 1 domain-cmp-kinds.ps μ-domain-cmp t) domain-cmp.Pre
@@ -50,11 +47,11 @@ part-domain-cmp M t =
     (λ c κs. search needs)
     (λ c. omega arith)
     (λ c κs. search needs)
-    (λ c κs. let x = runs.lhs-first (c .before .before .if1 .left) (c .before .before .before .before .pre .1) in let y = runs.rhs-first (c .before .before .if1 .left) (c .before .before .before .before .pre .1) in let p = said.first-below-top (c .before .before .before .before .args .sorts .now) (c .before .before .before .before .args .lhs-start) (c .before .before .before .before .args .count) (c .before .before .if1 .left) in let q = said.first-below-top (c .before .before .before .before .args .sorts .now) (c .before .before .before .before .args .rhs-start) (c .before .before .before .before .args .count) (c .before .before .if1 .left) in (omega arith, (c .before .before .before .before .pre .1 .checked, omega arith, omega arith)))
+    (λ c κs. falling.first-falls (c .before .before .before .before .pre .0) (c .before .before .if1 .left) (c .before .before .before .before .pre .1) (c .before .word .ensures) (c .word2 .ensures))
     (λ c. omega (arith, c .before .before .before .before .before .pre .1 .checked .entries))
     (λ c. omega (arith, c .before .before .before .before .before .pre .1 .checked .entries))
     (λ c. omega arith)
-    (λ c κs. (omega (arith, said.rest-below-top (c .before .before .before .before .before .args .sorts .now) (c .before .before .before .before .before .args .lhs-start) (c .before .before .before .before .before .args .count) (c .before .before .before .if1 .left), said.rest-below-top (c .before .before .before .before .before .args .sorts .now) (c .before .before .before .before .before .args .rhs-start) (c .before .before .before .before .before .args .count) (c .before .before .before .if1 .left)), runs.runs-rest (c .before .before .before .if1 .left) (c .before .before .before .before .before .pre .1)))
+    (λ c κs. falling.rest-falls (c .before .before .before .before .before .pre .0) (c .before .before .before .if1 .left) (c .before .before .before .before .before .pre .1))
     (λ c κs. search needs)
     (λ c. code.args-of-more (c .before .before .before .before .before .before .before .args .sorts .now) (c .before .before .before .before .before .before .before .args .counts .sorts) (c .before .before .before .before .before .before .before .args .lhs-start) (c .before .before .before .before .before .before .before .args .rhs-start) (c .before .before .before .before .before .before .before .args .count) (c .before .before .before .before .before .if1 .left) (c .before .before .before .before .word .ensures) (c .before .before .before .word2 .ensures) (c .before .before .partial-cmp .ensures) (c .before .domain-cmp .ensures) (c .combine .ensures))
 
@@ -67,11 +64,11 @@ part-partial-cmp M t =
     (λ c κs. search needs)
     (λ c. search needs)
     (λ c κs. search needs)
-    (λ c κs. let h = said.containers-said (c .before .before .before .before .before .before .before .before .before .pre .1 .0) (c .before .before .before .before .before .before .before .before .before .pre .1 .1) (c .before .before .before .before .before .before .before .before .before .pre .1 .2) (c .before .before .before .before .before .if1 .left) (c .before .before .before .before .pair .ensures) (c .before .before .lhs-op .given .1) in (omega arith, (c .before .before .before .before .before .before .before .before .before .pre .1 .0, omega arith, omega arith)))
+    (λ c κs. falling.parts-fall (c .before .before .before .before .before .before .before .before .before .pre .0) (c .before .before .before .before .before .before .before .before .before .pre .1 .0) (c .before .before .before .before .before .before .before .before .before .pre .1 .1) (c .before .before .before .before .before .before .before .before .before .pre .1 .2) (said.containers-said (c .before .before .before .before .before .before .before .before .before .pre .1 .0) (c .before .before .before .before .before .before .before .before .before .pre .1 .1) (c .before .before .before .before .before .before .before .before .before .pre .1 .2) (c .before .before .before .before .before .if1 .left) (c .before .before .before .before .pair .ensures) (c .before .before .lhs-op .given .1)))
     (λ c κs. search needs)
     (λ c. search needs)
-    (λ c κs. let h = said.functions-said (c .before .before .before .before .before .before .before .before .pre .1 .0) (c .before .before .before .before .before .before .before .before .pre .1 .1) (c .before .before .before .before .before .before .before .before .pre .1 .2) (c .before .before .before .before .if1 .left) (c .before .before .before .pair .ensures) (c .before .count .given .1) in (omega (arith, said.top-below _ _ (h .lhs-args), said.top-below _ _ (h .rhs-args)), runs.runs-of-functions (c .before .before .before .before .before .before .before .before .pre .1 .0) (c .before .before .before .before .before .before .before .before .pre .1 .1) (c .before .before .before .before .before .before .before .before .pre .1 .2) h))
-    (λ c κs. let h = said.functions-said (c .before .before .before .before .before .before .before .before .before .pre .1 .0) (c .before .before .before .before .before .before .before .before .before .pre .1 .1) (c .before .before .before .before .before .before .before .before .before .pre .1 .2) (c .before .before .before .before .before .if1 .left) (c .before .before .before .before .pair .ensures) (c .before .before .count .given .1) in (omega arith, (c .before .before .before .before .before .before .before .before .before .pre .1 .0, omega arith, omega arith)))
+    (λ c κs. falling.domains-fall (c .before .before .before .before .before .before .before .before .pre .0) (c .before .before .before .before .before .before .before .before .pre .1 .0) (c .before .before .before .before .before .before .before .before .pre .1 .1) (c .before .before .before .before .before .before .before .before .pre .1 .2) (said.functions-said (c .before .before .before .before .before .before .before .before .pre .1 .0) (c .before .before .before .before .before .before .before .before .pre .1 .1) (c .before .before .before .before .before .before .before .before .pre .1 .2) (c .before .before .before .before .if1 .left) (c .before .before .before .pair .ensures) (c .before .count .given .1)))
+    (λ c κs. falling.ranges-fall (c .before .before .before .before .before .before .before .before .before .pre .0) (c .before .before .before .before .before .before .before .before .before .pre .1 .0) (c .before .before .before .before .before .before .before .before .before .pre .1 .1) (c .before .before .before .before .before .before .before .before .before .pre .1 .2) (said.functions-said (c .before .before .before .before .before .before .before .before .before .pre .1 .0) (c .before .before .before .before .before .before .before .before .before .pre .1 .1) (c .before .before .before .before .before .before .before .before .before .pre .1 .2) (c .before .before .before .before .before .if1 .left) (c .before .before .before .before .pair .ensures) (c .before .before .count .given .1)))
     (λ c κs. search needs)
     (λ c. search needs)
     (λ c. code.order-of-primitive (c .before .before .before .before .before .before .before .before .before .args .sorts .now) (c .before .before .before .before .before .before .before .before .before .args .counts .sorts) (said.primitives-said (c .before .before .before .before .before .before .before .before .before .pre .1 .0) (c .before .before .before .before .before .before .before .before .before .pre .1 .1) (c .before .before .before .before .before .before .before .before .before .pre .1 .2) (c .before .before .before .before .before .if1 .left) (c .before .before .before .before .pair .ensures) (c .before .before .l .given .1)) (c .primitive-partial-cmp .ensures))

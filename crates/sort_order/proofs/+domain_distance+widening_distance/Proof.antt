@@ -1,13 +1,11 @@
--- Each answer is what the pair says of the two sorts, by a law. The measure falls with the numbers of the parts; a run
--- counts by its highest entry, and then by its length. Assumes nothing.
-use Prim.Native.Nat.{ℕ, _+_, _*_, _<_}
+-- Each answer is what the pair says of the two sorts, by a law, and each call falls by a law. Assumes nothing.
+use Prim.Native.Nat.{ℕ, _<_}
 use native.Mathlib.Omega.{arith}
 use borrow.Author.Needs.{needs}
 use borrow.Fn.Kinds.{In}
 use borrow.Fn.PlainCycle.{Measures, is, falls, and}
-use Rattle.resolved_sort.specs.Storage.{entriesOf}
 use Rattle.resolved_sort.proofs.Said as said
-use Rattle.sort_order.proofs.Runs as runs
+use Rattle.sort_order.proofs.Falls as falling
 use Rattle.sort_order.proofs.DistanceCode as code
 use Rattle.sort_order.proofs.domain_distance.Reads as domain-distance
 use Rattle.sort_order.proofs.domain_distance.Kinds as domain-distance-kinds
@@ -26,11 +24,10 @@ use Rattle.sort_order.proofs.+domain_distance+widening_distance.{statem
 use Rattle.sort_order.proofs.+domain_distance+widening_distance.Tie.{close}
 
 abbrev μ-domain-distance : Measures 1 domain-distance-kinds.ps ℕ
-μ-domain-distance κs a =
-    (said.topOf (entriesOf (a .0 .now) (a .1 .1 .0) (a .1 .1 .1 .1 .0)) + said.topOf (entriesOf (a .0 .now) (a .1 .1 .1 .0) (a .1 .1 .1 .1 .0))) * 18 + a .1 .1 .1 .1 .0
+μ-domain-distance κs a = falling.runsLeft (a .0 .now) (a .1 .1 .0) (a .1 .1 .1 .0) (a .1 .1 .1 .1 .0)
 
 abbrev μ-widening-distance : Measures 1 widening-distance-kinds.ps ℕ
-μ-widening-distance κs a = ((a .1 .1 .0) .0 + (a .1 .1 .1 .0) .0) * 18 + 17
+μ-widening-distance κs a = falling.pairLeft ((a .1 .1 .0) .0) ((a .1 .1 .1 .0) .0)
 
 abbrev domain-distance-at : ℕ → In 1 domain-distance-kinds.ps
 domain-distance-at t = and 1 domain-distance-kinds.ps (is 1 domain-distance-kinds.ps μ-domain-distance t) domain-distance.Pre
@@ -52,13 +49,13 @@ part-domain-distance M t =
     (λ c κs. search needs)
     (λ c. omega arith)
     (λ c κs. search needs)
-    (λ c κs. let x = runs.lhs-first (c .before .before .if1 .left) (c .before .before .before .before .pre .1) in let y = runs.rhs-first (c .before .before .if1 .left) (c .before .before .before .before .pre .1) in let p = said.first-below-top (c .before .before .before .before .args .sorts .now) (c .before .before .before .before .args .from-start) (c .before .before .before .before .args .count) (c .before .before .if1 .left) in let q = said.first-below-top (c .before .before .before .before .args .sorts .now) (c .before .before .before .before .args .to-start) (c .before .before .before .before .args .count) (c .before .before .if1 .left) in (omega arith, (c .before .before .before .before .pre .1 .checked, omega arith, omega arith)))
+    (λ c κs. falling.first-falls (c .before .before .before .before .pre .0) (c .before .before .if1 .left) (c .before .before .before .before .pre .1) (c .before .word .ensures) (c .word2 .ensures))
     (λ c. search needs)
     (λ c κs. search needs)
     (λ c. omega (arith, c .before .before .before .before .before .before .before .if1 .left, c .before .before .before .before .before .before .before .before .before .pre .1 .lhs-run, c .before .before .before .before .before .before .before .before .before .pre .1 .rhs-run, c .before .before .before .before .before .before .before .before .before .pre .1 .checked .entries))
     (λ c. omega (arith, c .before .before .before .before .before .before .before .if1 .left, c .before .before .before .before .before .before .before .before .before .pre .1 .lhs-run, c .before .before .before .before .before .before .before .before .before .pre .1 .rhs-run, c .before .before .before .before .before .before .before .before .before .pre .1 .checked .entries))
     (λ c. omega (arith, c .before .before .before .before .before .before .before .if1 .left))
-    (λ c κs. (omega (arith, c .before .before .before .before .before .before .before .if1 .left, c .before .before .before .before .before .before .before .before .before .pre .0, said.rest-below-top (c .before .before .before .before .before .before .before .before .before .args .sorts .now) (c .before .before .before .before .before .before .before .before .before .args .from-start) (c .before .before .before .before .before .before .before .before .before .args .count) (c .before .before .before .before .before .before .before .if1 .left), said.rest-below-top (c .before .before .before .before .before .before .before .before .before .args .sorts .now) (c .before .before .before .before .before .before .before .before .before .args .to-start) (c .before .before .before .before .before .before .before .before .before .args .count) (c .before .before .before .before .before .before .before .if1 .left)), runs.runs-rest (c .before .before .before .before .before .before .before .if1 .left) (c .before .before .before .before .before .before .before .before .before .pre .1)))
+    (λ c κs. falling.rest-falls (c .before .before .before .before .before .before .before .before .before .pre .0) (c .before .before .before .before .before .before .before .if1 .left) (c .before .before .before .before .before .before .before .before .before .pre .1))
     (λ c κs. search needs)
     (λ c. search needs)
     (λ c. code.distances-of-more (c .before .before .before .before .before .before .before .before .before .before .before .args .sorts .now) (c .before .before .before .before .before .before .before .before .before .before .before .args .counts .sorts) (c .before .before .before .before .before .before .before .before .before .before .before .args .from-start) (c .before .before .before .before .before .before .before .before .before .before .before .args .to-start) (c .before .before .before .before .before .before .before .before .before .before .before .args .count) (c .before .before .before .before .before .before .before .before .before .if1 .left) (c .before .before .before .before .before .before .before .before .word .ensures) (c .before .before .before .before .before .before .before .word2 .ensures) (c .before .before .before .before .before .before .widening-distance .ensures) (c .before .before .before .before .head .given .1) (c .before .before .sum .ensures) (c .before .domain-distance .ensures) (c .plus .ensures))
@@ -74,13 +71,13 @@ part-widening-distance M t =
     (λ c. search needs)
     (λ c κs. search needs)
     (λ c. search needs)
-    (λ c κs. let h = said.containers-said (c .before .before .before .before .before .before .before .before .before .before .before .before .pre .1 .0) (c .before .before .before .before .before .before .before .before .before .before .before .before .pre .1 .1) (c .before .before .before .before .before .before .before .before .before .before .before .before .pre .1 .2) (c .before .before .before .before .before .before .before .before .if1 .left) (c .before .before .before .before .before .before .before .pair .ensures) (c .before .before .before .before .before .lhs-op .given .1) in (omega (arith, c .before .before .before .before .before .before .before .before .before .before .before .before .pre .0), (c .before .before .before .before .before .before .before .before .before .before .before .before .pre .1 .0, omega (arith, c .before .before .before .before .before .before .before .before .before .before .before .before .pre .1 .1), omega (arith, c .before .before .before .before .before .before .before .before .before .before .before .before .pre .1 .2))))
+    (λ c κs. falling.parts-fall (c .before .before .before .before .before .before .before .before .before .before .before .before .pre .0) (c .before .before .before .before .before .before .before .before .before .before .before .before .pre .1 .0) (c .before .before .before .before .before .before .before .before .before .before .before .before .pre .1 .1) (c .before .before .before .before .before .before .before .before .before .before .before .before .pre .1 .2) (said.containers-said (c .before .before .before .before .before .before .before .before .before .before .before .before .pre .1 .0) (c .before .before .before .before .before .before .before .before .before .before .before .before .pre .1 .1) (c .before .before .before .before .before .before .before .before .before .before .before .before .pre .1 .2) (c .before .before .before .before .before .before .before .before .if1 .left) (c .before .before .before .before .before .before .before .pair .ensures) (c .before .before .before .before .before .lhs-op .given .1)))
     (λ c κs. search needs)
     (λ c. search needs)
     (λ c. search needs)
-    (λ c κs. let h = said.functions-said (c .before .before .before .before .before .before .before .before .pre .1 .0) (c .before .before .before .before .before .before .before .before .pre .1 .1) (c .before .before .before .before .before .before .before .before .pre .1 .2) (c .before .before .before .before .if1 .left) (c .before .before .before .pair .ensures) (c .before .count .given .1) in (omega (arith, c .before .before .before .before .before .before .before .before .pre .0, said.top-below _ _ (h .lhs-args), said.top-below _ _ (h .rhs-args)), runs.runs-of-functions (c .before .before .before .before .before .before .before .before .pre .1 .0) (c .before .before .before .before .before .before .before .before .pre .1 .1) (c .before .before .before .before .before .before .before .before .pre .1 .2) h))
+    (λ c κs. falling.domains-fall (c .before .before .before .before .before .before .before .before .pre .0) (c .before .before .before .before .before .before .before .before .pre .1 .0) (c .before .before .before .before .before .before .before .before .pre .1 .1) (c .before .before .before .before .before .before .before .before .pre .1 .2) (said.functions-said (c .before .before .before .before .before .before .before .before .pre .1 .0) (c .before .before .before .before .before .before .before .before .pre .1 .1) (c .before .before .before .before .before .before .before .before .pre .1 .2) (c .before .before .before .before .if1 .left) (c .before .before .before .pair .ensures) (c .before .count .given .1)))
     (λ c. search needs)
-    (λ c κs. let h = said.functions-said (c .before .before .before .before .before .before .before .before .before .before .before .before .pre .1 .0) (c .before .before .before .before .before .before .before .before .before .before .before .before .pre .1 .1) (c .before .before .before .before .before .before .before .before .before .before .before .before .pre .1 .2) (c .before .before .before .before .before .before .before .before .if1 .left) (c .before .before .before .before .before .before .before .pair .ensures) (c .before .before .before .before .before .count .given .1) in (omega (arith, c .before .before .before .before .before .before .before .before .before .before .before .before .pre .0), (c .before .before .before .before .before .before .before .before .before .before .before .before .pre .1 .0, omega (arith, c .before .before .before .before .before .before .before .before .before .before .before .before .pre .1 .1), omega (arith, c .before .before .before .before .before .before .before .before .before .before .before .before .pre .1 .2))))
+    (λ c κs. falling.ranges-fall (c .before .before .before .before .before .before .before .before .before .before .before .before .pre .0) (c .before .before .before .before .before .before .before .before .before .before .before .before .pre .1 .0) (c .before .before .before .before .before .before .before .before .before .before .before .before .pre .1 .1) (c .before .before .before .before .before .before .before .before .before .before .before .before .pre .1 .2) (said.functions-said (c .before .before .before .before .before .before .before .before .before .before .before .before .pre .1 .0) (c .before .before .before .before .before .before .before .before .before .before .before .before .pre .1 .1) (c .before .before .before .before .before .before .before .before .before .before .before .before .pre .1 .2) (c .before .before .before .before .before .before .before .before .if1 .left) (c .before .before .before .before .before .before .before .pair .ensures) (c .before .before .before .before .before .count .given .1)))
     (λ c κs. search needs)
     (λ c. search needs)
     (λ c. search needs)

@@ -1,12 +1,11 @@
--- Each answer is what the pair says of the two sorts, by a law. The measure falls with the numbers of the ranges. Assumes
--- nothing.
-use Prim.Native.Nat.{ℕ, _+_, _<_}
-use native.Mathlib.Omega.{arith}
+-- Each answer is what the pair says of the two sorts, by a law, and the call falls by a law. Assumes nothing.
+use Prim.Native.Nat.{ℕ, _<_}
 use borrow.Author.Needs.{needs}
 use borrow.Author.Tests.{not-true, not-false}
 use borrow.Fn.Kinds.{In}
 use borrow.Fn.PlainCycle.{Measures, is, falls, and}
 use Rattle.resolved_sort.proofs.Said as said
+use Rattle.sort_order.proofs.Falls as falling
 use Rattle.sort_order.proofs.MaterializableCode as code
 use Rattle.sort_order.proofs.is_materializable.Reads as is-materializable
 use Rattle.sort_order.proofs.is_materializable.Kinds as is-materializable-kinds
@@ -20,7 +19,7 @@ use Rattle.sort_order.proofs.+is_materializable.{statement}
 use Rattle.sort_order.proofs.+is_materializable.Tie.{close}
 
 abbrev μ-is-materializable : Measures 1 is-materializable-kinds.ps ℕ
-μ-is-materializable κs a = (a .1 .1 .0) .0 + (a .1 .1 .1 .0) .0
+μ-is-materializable κs a = falling.pairLeft ((a .1 .1 .0) .0) ((a .1 .1 .1 .0) .0)
 
 abbrev is-materializable-at : ℕ → In 1 is-materializable-kinds.ps
 is-materializable-at t = and 1 is-materializable-kinds.ps (is 1 is-materializable-kinds.ps μ-is-materializable t) is-materializable.Pre
@@ -43,7 +42,7 @@ part-is-materializable M t =
     (λ c. search needs)
     (λ c κs. search needs)
     (λ c. code.not-materializable-functions (c .before .before .before .before .before .before .before .before .before .before .args .sorts .now) (c .before .before .before .before .before .before .before .before .before .before .args .counts .sorts) (c .before .before .before .before .before .before .before .before .before .before .pre .1 .0) (c .before .before .before .before .before .before .before .before .before .before .pre .1 .1) (c .before .before .before .before .before .before .before .before .before .before .pre .1 .2) (c .before .before .before .before .before .before .if1 .left) (said.functions-said (c .before .before .before .before .before .before .before .before .before .before .pre .1 .0) (c .before .before .before .before .before .before .before .before .before .before .pre .1 .1) (c .before .before .before .before .before .before .before .before .before .before .pre .1 .2) (c .before .before .before .before .before .before .if1 .left) (c .before .before .before .before .before .pair .ensures) (c .before .before .before .count .given .1)) (c .before .same-arguments .ensures) (not-true _ (c .if3 .taken)))
-    (λ c κs. let h = said.functions-said (c .before .before .before .before .before .before .before .before .before .before .pre .1 .0) (c .before .before .before .before .before .before .before .before .before .before .pre .1 .1) (c .before .before .before .before .before .before .before .before .before .before .pre .1 .2) (c .before .before .before .before .before .before .if1 .left) (c .before .before .before .before .before .pair .ensures) (c .before .before .before .count .given .1) in (omega (arith, c .before .before .before .before .before .before .before .before .before .before .pre .0), (c .before .before .before .before .before .before .before .before .before .before .pre .1 .0, omega (arith, c .before .before .before .before .before .before .before .before .before .before .pre .1 .1), omega (arith, c .before .before .before .before .before .before .before .before .before .before .pre .1 .2))))
+    (λ c κs. falling.ranges-fall (c .before .before .before .before .before .before .before .before .before .before .pre .0) (c .before .before .before .before .before .before .before .before .before .before .pre .1 .0) (c .before .before .before .before .before .before .before .before .before .before .pre .1 .1) (c .before .before .before .before .before .before .before .before .before .before .pre .1 .2) (said.functions-said (c .before .before .before .before .before .before .before .before .before .before .pre .1 .0) (c .before .before .before .before .before .before .before .before .before .before .pre .1 .1) (c .before .before .before .before .before .before .before .before .before .before .pre .1 .2) (c .before .before .before .before .before .before .if1 .left) (c .before .before .before .before .before .pair .ensures) (c .before .before .before .count .given .1)))
     (λ c. search needs)
     (λ c. code.materializable-of-primitive (c .before .before .before .before .before .before .before .before .before .before .args .sorts .now) (c .before .before .before .before .before .before .before .before .before .before .args .counts .sorts) (c .before .before .before .before .before .before .before .before .before .before .pre .1 .0) (c .before .before .before .before .before .before .before .before .before .before .pre .1 .1) (c .before .before .before .before .before .before .before .before .before .before .pre .1 .2) (c .before .before .before .before .before .before .if1 .left) (said.primitives-said (c .before .before .before .before .before .before .before .before .before .before .pre .1 .0) (c .before .before .before .before .before .before .before .before .before .before .pre .1 .1) (c .before .before .before .before .before .before .before .before .before .before .pre .1 .2) (c .before .before .before .before .before .before .if1 .left) (c .before .before .before .before .before .pair .ensures) (c .before .before .before .l .given .1)) (c .before .primitive-partial-cmp .ensures) (c .is-below .ensures))
     (λ c. code.materializable-of-containers (c .before .before .before .before .before .before .before .before .before .before .before .before .before .args .sorts .now) (c .before .before .before .before .before .before .before .before .before .before .before .before .before .args .counts .sorts) (c .before .before .before .before .before .before .before .before .before .before .before .before .before .pre .1 .0) (c .before .before .before .before .before .before .before .before .before .before .before .before .before .pre .1 .1) (c .before .before .before .before .before .before .before .before .before .before .before .before .before .pre .1 .2) (c .before .before .before .before .before .before .before .before .before .if1 .left) (said.containers-said (c .before .before .before .before .before .before .before .before .before .before .before .before .before .pre .1 .0) (c .before .before .before .before .before .before .before .before .before .before .before .before .before .pre .1 .1) (c .before .before .before .before .before .before .before .before .before .before .before .before .before .pre .1 .2) (c .before .before .before .before .before .before .before .before .before .if1 .left) (c .before .before .before .before .before .before .before .before .pair .ensures) (c .before .before .before .before .before .before .lhs-op .given .1)) (c .before .before .if2 .left) (c .before .generic-op-partial-cmp .ensures) (c .is-below2 .ensures))

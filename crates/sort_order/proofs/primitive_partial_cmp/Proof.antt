@@ -1,5 +1,5 @@
 -- The four arms are the clauses of the order by generality. Assumes nothing.
-use mathlib.Core.Path.{refl, sym, _∙_}
+use mathlib.Core.Path.{_∙_}
 use borrow.Author.Needs.{needs}
 use Rattle.sort_order.proofs.Orders.{order-of-primitives}
 use Rattle.sort_order.proofs.primitive_partial_cmp.Statement.{statement}
