@@ -47,7 +47,7 @@ part-domain-cmp M t =
     (λ c κs. search needs)
     (λ c. omega arith)
     (λ c κs. search needs)
-    (λ c κs. falling.first-falls (c .before .before .before .before .pre .0) (c .before .before .if1 .left) (c .before .before .before .before .pre .1) (c .before .word .ensures) (c .word2 .ensures))
+    (λ c κs. let h = falling.first-falls (c .before .before .before .before .pre .0) (c .before .before .if1 .left) (c .before .before .before .before .pre .1) (c .before .word .ensures) (c .word2 .ensures) in (omega (arith, h .0), (h .1 .0, omega (arith, h .1 .1, h .1 .2), omega (arith, h .1 .1, h .1 .2))))
     (λ c. omega (arith, c .before .before .before .before .before .pre .1 .checked .entries))
     (λ c. omega (arith, c .before .before .before .before .before .pre .1 .checked .entries))
     (λ c. omega arith)
