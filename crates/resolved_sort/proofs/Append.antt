@@ -99,6 +99,7 @@ entries-agree ws us s (suc c) h =
 
 -- Storage that reads the same below n rows and e entries.
 pub record Agrees (ws us : List ℕ) (n e : ℕ) : Type 0 where
+  pub words : (i : ℕ) → i < 4 * n → getD us i 0 ≡ getD ws i 0
   pub kinds : (i : ℕ) → i < n → kindAt us i ≡ kindAt ws i
   pub parts : (i : ℕ) → i < n → partAt us i ≡ partAt ws i
   pub starts : (i : ℕ) → i < n → startAt us i ≡ startAt ws i
@@ -132,6 +133,10 @@ module _ (ws us : List ℕ) where
   trees-agree zero h = trees-none ws us
   trees-agree (suc m) h = trees-step ws us m (trees-agree m (λ i l. h i (omega arith))) (h m (omega arith))
 
+pub length-appendRow : (ws : List ℕ) (n e : ℕ) (r : Row) → length (appendRow ws n e r) ≡ length ws
+unfolding appendRow
+length-appendRow ws n e r = length-sets (putRow ws n (r .kind) (r .part) (cond (eqb (r .kind) functionKind) e 0) (length (r .args))) (entriesAt + e) (r .args) ∙ length-putRow ws n (r .kind) (r .part) _ (length (r .args))
+
 -- one more row, where there is room for it
 module _ (ws : List ℕ) (n e : ℕ) (r : Row) (long : fullLength ≤ length ws) (room : n < maxSorts) (space : e + length (r .args) ≤ maxEntries) where
   abbrev new : List ℕ
@@ -153,6 +158,7 @@ module _ (ws : List ℕ) (n e : ℕ) (r : Row) (long : fullLength ≤ length ws)
   pub append-agrees : Agrees ws new n e
   append-agrees =
       record {
+        words = λ i h. unchanged i (omega arith) (λ x. omega arith) (λ x. omega arith) (λ x. omega arith) (λ x. omega arith);
         kinds = λ i h. unchanged (4 * i) (omega arith) (λ x. omega arith) (λ x. omega arith) (λ x. omega arith) (λ x. omega arith);
         parts = λ i h. unchanged (4 * i + 1) (omega arith) (λ x. omega arith) (λ x. omega arith) (λ x. omega arith) (λ x. omega arith);
         starts = λ i h. unchanged (4 * i + 2) (omega arith) (λ x. omega arith) (λ x. omega arith) (λ x. omega arith) (λ x. omega arith);

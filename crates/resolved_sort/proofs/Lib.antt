@@ -17,6 +17,9 @@ pub mod Append
 pub mod Interned
 pub mod Twice
 pub mod Pairs
+pub mod Unlikes
+pub mod Said
+pub mod SameNumbers
 pub mod Grown
 pub mod Unchanged
 pub mod Kept
@@ -26,3 +29,4 @@ pub mod Stored
 pub mod BoundsCode
 pub mod DomainCode
 pub mod FunctionCode
+pub mod GivenBack

@@ -13,21 +13,27 @@ use Rattle.resolved_sort.specs.Rows.{Checked}
 use Rattle.resolved_sort.proofs.Numbers.{look-grows}
 use Rattle.resolved_sort.proofs.Trees.{length-trees}
 use Rattle.resolved_sort.proofs.RowTrees.{AllBelow, lookAll-agrees}
-use Rattle.resolved_sort.proofs.Append.{Agrees, append-agrees, length-new, length-args, entries-agree}
+use Rattle.resolved_sort.proofs.Append.{Agrees, append-agrees, length-appendRow, length-new, length-args, entries-agree}
 use Rattle.resolved_sort.proofs.Grown.{Grown, needs}
 
 agrees-refl : (ws : List ℕ) (n e : ℕ) → Agrees ws ws n e
-agrees-refl ws n e = record { kinds = λ i h. refl; parts = λ i h. refl; starts = λ i h. refl; counts = λ i h. refl; entries = λ j h. refl }
+agrees-refl ws n e = record { words = λ i h. refl; kinds = λ i h. refl; parts = λ i h. refl; starts = λ i h. refl; counts = λ i h. refl; entries = λ j h. refl }
 
 agrees-trans : (ws us vs : List ℕ) (n m e d : ℕ) → n ≤ m → e ≤ d → Agrees ws us n e → Agrees us vs m d → Agrees ws vs n e
 agrees-trans ws us vs n m e d h l a b =
     record {
+      words = λ i q. b .words i (omega arith) ∙ a .words i q;
       kinds = λ i q. b .kinds i (omega arith) ∙ a .kinds i q;
       parts = λ i q. b .parts i (omega arith) ∙ a .parts i q;
       starts = λ i q. b .starts i (omega arith) ∙ a .starts i q;
       counts = λ i q. b .counts i (omega arith) ∙ a .counts i q;
       entries = λ j q. b .entries j (omega arith) ∙ a .entries j q;
     }
+
+length-written : (ws : List ℕ) (T : List Tree) (e : ℕ) (xs : List Tree) → length (written ws T e xs) ≡ length ws
+unfolding written
+length-written ws T e [] = refl
+length-written ws T e (x ∷ xs) = length-written (append ws T e x) (T ++ (x ∷ [])) (e + need x) xs ∙ length-appendRow ws (length T) e (rowOf T x)
 
 written-agrees : (ws : List ℕ) (T : List Tree) (e : ℕ) (xs : List Tree) → fullLength ≤ length ws → length T + length xs ≤ maxSorts → e + needs xs ≤ maxEntries
     → Agrees ws (written ws T e xs) (length T) e
@@ -53,6 +59,9 @@ module _ (ws : List ℕ) (n e : ℕ) (k : Checked ws n e) (S : Sorts) (g : Grown
       subst (λ l. Agrees ws (after ws n e S) l e) (length-trees ws n)
       (written-agrees ws (trees ws n) e (drop n (S .trees)) (k .long)
       (omega (arith, length-trees ws n, length-drop n (S .trees), g .checked .sorts, longer)) (omega (arith, g .used, g .checked .entries)))
+
+  pub length-after : length (after ws n e S) ≡ length ws
+  length-after = length-written ws (trees ws n) e (drop n (S .trees))
 
   -- old numbers keep their sorts
   pub look-unchanged : (i : ℕ) → i < n → look (trees (after ws n e S) (length (S .trees))) i ≡ look (trees ws n) i

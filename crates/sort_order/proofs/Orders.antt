@@ -1,16 +1,21 @@
--- Answers taken together, by their cases. Assumes nothing.
-use mathlib.Core.Path.{_≡_, refl, ap₂, _∙_}
+-- Answers taken together, by their cases; and the order and the distance of primitive sorts by their generalities, and of
+-- container operators by their order. Assumes nothing.
+use mathlib.Core.Path.{_≡_, refl, ap, _∙_}
 use mathlib.Core.Bool.{Bool, true, false, _&&_}
-use mathlib.Core.Option.{Option, none, some}
-use lib.Dec.{leb}
+use mathlib.Core.Option.{some}
+use Prim.Native.Nat.{ℕ, _-_}
+use lib.Dec.{eqb, leb}
 use Rattle.resolved_sort.specs.declared.Sort.{Sort}
+use Rattle.resolved_sort.specs.declared.ComplexSort.{ComplexSort}
 use Rattle.resolved_sort.specs.declared.PartialOrder.{PartialOrder}
 use Rattle.resolved_sort.specs.declared.PartialOrder.the-variants.{Unrelated, Equal, Below, Above}
-use Rattle.resolved_sort.specs.Tree.{primitive, flat, family, level}
-use Rattle.resolved_sort.specs.Order.{order, orderOf, le}
+use Rattle.resolved_sort.specs.declared.Widening.{Widening}
+use Rattle.resolved_sort.specs.Tree.{primitive, flat, family, level, familyOp, levelOp}
+use Rattle.resolved_sort.specs.Order.{leOp, le, order, orderOf, given, distance}
+use Rattle.resolved_sort.specs.Entries.{wideningOf}
 use Rattle.sort_order.specs.declared.Amount.{Amount}
 use Rattle.sort_order.specs.declared.Amount.the-variants.{Of, Nothing}
-use Rattle.sort_order.specs.Answers.{combined, amountOf, generality}
+use Rattle.sort_order.specs.Answers.{combined, amountOf, generality, opSteps}
 
 pub combined-equal : (o : PartialOrder) → o ≡ combined Equal o
 unfolding combined
@@ -38,41 +43,74 @@ combined-orders false false true false = refl
 combined-orders false false false true = refl
 combined-orders false false false false = refl
 
--- The order of two primitive sorts, by their generalities.
-abbrev pub byAmount : Amount → Amount → PartialOrder
-byAmount (Of a) (Of b) = orderOf (leb a b) (leb b a)
-byAmount (Of a) Nothing = Unrelated
-byAmount Nothing (Of b) = Unrelated
-byAmount Nothing Nothing = Equal
+-- Family and level of a primitive sort, by its generality.
+abbrev familyBy : Amount → ℕ
+familyBy (Of n) = 2
+familyBy Nothing = 1
 
-primitives-by-amount : (l r : Sort) → byAmount (amountOf (generality l)) (amountOf (generality r)) ≡ order (flat (primitive l)) (flat (primitive r))
-unfolding generality order le family level
-primitives-by-amount Sort.Bool Sort.Bool = refl
-primitives-by-amount Sort.Bool Sort.Pos = refl
-primitives-by-amount Sort.Bool Sort.Nat = refl
-primitives-by-amount Sort.Bool Sort.Int = refl
-primitives-by-amount Sort.Bool Sort.Real = refl
-primitives-by-amount Sort.Pos Sort.Bool = refl
-primitives-by-amount Sort.Pos Sort.Pos = refl
-primitives-by-amount Sort.Pos Sort.Nat = refl
-primitives-by-amount Sort.Pos Sort.Int = refl
-primitives-by-amount Sort.Pos Sort.Real = refl
-primitives-by-amount Sort.Nat Sort.Bool = refl
-primitives-by-amount Sort.Nat Sort.Pos = refl
-primitives-by-amount Sort.Nat Sort.Nat = refl
-primitives-by-amount Sort.Nat Sort.Int = refl
-primitives-by-amount Sort.Nat Sort.Real = refl
-primitives-by-amount Sort.Int Sort.Bool = refl
-primitives-by-amount Sort.Int Sort.Pos = refl
-primitives-by-amount Sort.Int Sort.Nat = refl
-primitives-by-amount Sort.Int Sort.Int = refl
-primitives-by-amount Sort.Int Sort.Real = refl
-primitives-by-amount Sort.Real Sort.Bool = refl
-primitives-by-amount Sort.Real Sort.Pos = refl
-primitives-by-amount Sort.Real Sort.Nat = refl
-primitives-by-amount Sort.Real Sort.Int = refl
-primitives-by-amount Sort.Real Sort.Real = refl
+abbrev levelBy : Amount → ℕ
+levelBy (Of n) = n
+levelBy Nothing = 0
 
-pub order-of-primitives : (l r : Sort) (x y : Amount) (o : PartialOrder) → x ≡ amountOf (generality l) → y ≡ amountOf (generality r) → o ≡ byAmount x y
-    → o ≡ order (flat (primitive l)) (flat (primitive r))
-order-of-primitives l r x y o e f g = g ∙ (ap₂ byAmount e f ∙ primitives-by-amount l r)
+heads-by-amount : (s : Sort) → (family (primitive s) ≡ familyBy (amountOf (generality s))) × (level (primitive s) ≡ levelBy (amountOf (generality s)))
+unfolding generality family level
+heads-by-amount Sort.Bool = (refl, refl)
+heads-by-amount Sort.Pos = (refl, refl)
+heads-by-amount Sort.Nat = (refl, refl)
+heads-by-amount Sort.Int = (refl, refl)
+heads-by-amount Sort.Real = (refl, refl)
+
+-- The order and the distance of two primitive sorts, by their generalities.
+abbrev pub orderBy : Amount → Amount → PartialOrder
+orderBy x y =
+    orderOf (eqb (familyBy x) (familyBy y) && leb (levelBy x) (levelBy y)) (eqb (familyBy x) (familyBy y) && leb (levelBy y) (levelBy x))
+
+abbrev pub distanceBy : Amount → Amount → Widening
+distanceBy x y = wideningOf (given (eqb (familyBy x) (familyBy y) && leb (levelBy x) (levelBy y)) (some (record { head = levelBy y - levelBy x; interior = 0 })))
+
+module _ (l r : Sort) {x y : Amount} (e : x ≡ amountOf (generality l)) (f : y ≡ amountOf (generality r)) where
+  pub order-of-primitives : {o : PartialOrder} → o ≡ orderBy x y → o ≡ order (flat (primitive l)) (flat (primitive r))
+  unfolding order le
+  order-of-primitives g = g ∙ rw (e, f, heads-by-amount l .0, heads-by-amount l .1, heads-by-amount r .0, heads-by-amount r .1)
+
+  pub distance-of-primitives : {w : Widening} → w ≡ distanceBy x y → w ≡ wideningOf (distance true (flat (primitive l)) (flat (primitive r)))
+  unfolding distance
+  distance-of-primitives g = g ∙ rw (e, f, heads-by-amount l .0, heads-by-amount l .1, heads-by-amount r .0, heads-by-amount r .1)
+
+-- The steps of two container operators, by their order.
+abbrev pub stepsBy : PartialOrder → Amount
+stepsBy Unrelated = Nothing
+stepsBy Equal = Of 0
+stepsBy Below = Of 1
+stepsBy Above = Nothing
+
+steps-by-order : (o p : ComplexSort) → stepsBy (orderOf (leOp true o p) (leOp false o p)) ≡ amountOf (opSteps o p)
+unfolding opSteps familyOp levelOp
+steps-by-order ComplexSort.List ComplexSort.List = refl
+steps-by-order ComplexSort.List ComplexSort.Set = refl
+steps-by-order ComplexSort.List ComplexSort.FSet = refl
+steps-by-order ComplexSort.List ComplexSort.Bag = refl
+steps-by-order ComplexSort.List ComplexSort.FBag = refl
+steps-by-order ComplexSort.Set ComplexSort.List = refl
+steps-by-order ComplexSort.Set ComplexSort.Set = refl
+steps-by-order ComplexSort.Set ComplexSort.FSet = refl
+steps-by-order ComplexSort.Set ComplexSort.Bag = refl
+steps-by-order ComplexSort.Set ComplexSort.FBag = refl
+steps-by-order ComplexSort.FSet ComplexSort.List = refl
+steps-by-order ComplexSort.FSet ComplexSort.Set = refl
+steps-by-order ComplexSort.FSet ComplexSort.FSet = refl
+steps-by-order ComplexSort.FSet ComplexSort.Bag = refl
+steps-by-order ComplexSort.FSet ComplexSort.FBag = refl
+steps-by-order ComplexSort.Bag ComplexSort.List = refl
+steps-by-order ComplexSort.Bag ComplexSort.Set = refl
+steps-by-order ComplexSort.Bag ComplexSort.FSet = refl
+steps-by-order ComplexSort.Bag ComplexSort.Bag = refl
+steps-by-order ComplexSort.Bag ComplexSort.FBag = refl
+steps-by-order ComplexSort.FBag ComplexSort.List = refl
+steps-by-order ComplexSort.FBag ComplexSort.Set = refl
+steps-by-order ComplexSort.FBag ComplexSort.FSet = refl
+steps-by-order ComplexSort.FBag ComplexSort.Bag = refl
+steps-by-order ComplexSort.FBag ComplexSort.FBag = refl
+
+pub steps-of-ops : (o p : ComplexSort) {x : PartialOrder} {y : Amount} → x ≡ orderOf (leOp true o p) (leOp false o p) → y ≡ stepsBy x → y ≡ amountOf (opSteps o p)
+steps-of-ops o p e g = g ∙ (ap stepsBy e ∙ steps-by-order o p)

@@ -1,13 +1,16 @@
--- Answers of an order taken together, and numbers that may be missing.
+-- Answers of an order taken together, numbers that may be missing, and distances of parts.
 use mathlib.Core.Bool.{Bool, true, false, _&&_}
 use mathlib.Core.Option.{Option, none, some}
-use Prim.Native.Nat.{ℕ}
+use Prim.Native.Nat.{ℕ, _-_}
 use lib.Dec.{eqb}
 use Rattle.resolved_sort.specs.declared.Sort.{Sort}
+use Rattle.resolved_sort.specs.declared.ComplexSort.{ComplexSort}
 use Rattle.resolved_sort.specs.declared.PartialOrder.{PartialOrder}
 use Rattle.resolved_sort.specs.declared.PartialOrder.the-variants.{Unrelated, Equal, Below, Above}
-use Rattle.resolved_sort.specs.Tree.{primitive, family, level}
-use Rattle.resolved_sort.specs.Order.{orderOf, given}
+use Rattle.resolved_sort.specs.declared.Widening.{Widening}
+use Rattle.resolved_sort.specs.declared.Widening.the-variants.{Distance, Nothing as NoDistance}
+use Rattle.resolved_sort.specs.Tree.{primitive, family, level, levelOp}
+use Rattle.resolved_sort.specs.Order.{leOp, orderOf, given, sum}
 use Rattle.sort_order.specs.declared.Amount.{Amount}
 use Rattle.sort_order.specs.declared.Amount.the-variants.{Of, Nothing}
 
@@ -23,6 +26,12 @@ atLeast Equal = true
 atLeast Below = false
 atLeast Above = true
 
+abbrev pub isBelow : PartialOrder → Bool
+isBelow Unrelated = false
+isBelow Equal = false
+isBelow Below = true
+isBelow Above = false
+
 -- equal or below in both, equal or above in both
 unfoldable pub combined : PartialOrder → PartialOrder → PartialOrder
 combined l r = orderOf (atMost l && atMost r) (atLeast l && atLeast r)
@@ -34,3 +43,17 @@ amountOf (some n) = Of n
 -- the level of a number sort, none for Bool
 unfoldable pub generality : Sort → Option ℕ
 generality s = given (eqb (family (primitive s)) 2) (some (level (primitive s)))
+
+-- the step from one container operator up to another
+unfoldable pub opSteps : ComplexSort → ComplexSort → Option ℕ
+opSteps o p = given (leOp true o p) (some (levelOp p - levelOp o))
+
+-- h head steps, and beneath them n steps and those of a part
+unfoldable pub beneath : ℕ → ℕ → Widening → Widening
+beneath h n (Distance x y) = Distance h (sum n (sum x y))
+beneath h n NoDistance = NoDistance
+
+-- the steps of a first argument and of the rest
+unfoldable pub more : ℕ → Amount → Amount
+more n (Of m) = Of (sum n m)
+more n Nothing = Nothing

@@ -1,2 +1,3 @@
 -- What the contracts of this crate cite beside the definitions of the sorts layer.
 pub mod Answers
+pub mod Runs

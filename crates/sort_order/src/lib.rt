@@ -12,12 +12,17 @@ use sort_interner::get;
 use sort_interner::word;
 ghost use mathlib.Core.Path.{_≡_};
 ghost use mathlib.Core.Bool.{true, false};
-ghost use Prim.Native.Nat.{_+_, _<_};
+ghost use mathlib.Core.Option.{some};
+ghost use Prim.Native.Nat.{_-_, _<_};
 ghost use lib.Dec.{leb};
 ghost use Rattle.resolved_sort.specs.Tree.{primitive, flat};
-ghost use Rattle.resolved_sort.specs.Order.{leOp, order, orderOf};
-ghost use Rattle.resolved_sort.specs.Pairs.{withPrimitive, withContainer, withFunction, pairOf, pairAt};
-ghost use Rattle.sort_order.specs.Answers.{combined, amountOf, generality};
+ghost use Rattle.resolved_sort.specs.Order.{leOp, order, orderOf, given, sum as sumOf, distance, distances, materializable};
+ghost use Rattle.resolved_sort.specs.Storage.{entriesOf};
+ghost use Rattle.resolved_sort.specs.Entries.{treeAt, wideningOf};
+ghost use Rattle.resolved_sort.specs.Rows.{Checked, sameWords};
+ghost use Rattle.resolved_sort.specs.Pairs.{withPrimitive, withContainer, withFunction, pairAt};
+ghost use Rattle.sort_order.specs.Answers.{isBelow, combined, amountOf, generality, opSteps, beneath, more};
+ghost use Rattle.sort_order.specs.Runs.{argsAt, argsOrder, Runs};
 
 // A number that may be missing: Option<u32> and Option<u8> in the Rust.
 pub enum Amount {
@@ -214,5 +219,270 @@ pub fn generic_op_partial_cmp(lhs: ComplexSort, rhs: ComplexSort) -> PartialOrde
             ComplexSort::Bag => PartialOrder::Below,
             ComplexSort::FBag => PartialOrder::Equal,
         },
+    }
+}
+
+// The order of two sorts of a checked list. Functions go the other way in their arguments.
+pub fn partial_cmp(sorts: &[u16], counts: Counts, lhs: SortId, rhs: SortId) -> PartialOrder
+    requires { ⌜ Checked (now sorts) (counts .sorts) (counts .entries) × (lhs .0 < counts .sorts) × (rhs .0 < counts .sorts) ⌝ }
+    ensures { λ r. ⌜ r ≡ order (treeAt (now (sorts .entry)) (counts .sorts) (lhs .0)) (treeAt (now (sorts .entry)) (counts .sorts) (rhs .0)) ⌝ }
+{
+    if lhs.0 == rhs.0 {
+        return PartialOrder::Equal;
+    }
+    match pair(sorts, lhs, rhs) {
+        Pair::Primitives(l, r) => primitive_partial_cmp(l, r),
+        Pair::Containers {
+            lhs_op,
+            lhs_sub,
+            rhs_op,
+            rhs_sub,
+        } => {
+            let op = generic_op_partial_cmp(lhs_op, rhs_op);
+            combine(op, partial_cmp(sorts, counts, lhs_sub, rhs_sub))
+        }
+        Pair::Functions {
+            count,
+            lhs_start,
+            lhs_range,
+            rhs_start,
+            rhs_range,
+        } => {
+            let domain = domain_cmp(sorts, counts, lhs_start, rhs_start, count);
+            combine(domain, partial_cmp(sorts, counts, lhs_range, rhs_range))
+        }
+        Pair::Other => PartialOrder::Unrelated,
+    }
+}
+
+// The order of two functions by their arguments, as many on both sides: each right argument against its left one.
+pub fn domain_cmp(
+    sorts: &[u16],
+    counts: Counts,
+    lhs_start: u16,
+    rhs_start: u16,
+    count: u16,
+) -> PartialOrder
+    requires { ⌜ Runs (now sorts) (counts .sorts) (counts .entries) «lhs_start» «rhs_start» count ⌝ }
+    ensures { λ r. ⌜ r ≡ argsOrder (argsAt (now (sorts .entry)) (counts .sorts) «lhs_start» count) (argsAt (now (sorts .entry)) (counts .sorts) «rhs_start» count) ⌝ }
+{
+    if count == 0 {
+        return PartialOrder::Equal;
+    }
+    let lhs = word(sorts, 4096 + (lhs_start as usize));
+    let rhs = word(sorts, 4096 + (rhs_start as usize));
+    let first = partial_cmp(sorts, counts, SortId(rhs), SortId(lhs));
+    combine(
+        first,
+        domain_cmp(sorts, counts, lhs_start + 1, rhs_start + 1, count - 1),
+    )
+}
+
+// The sum of two counts of steps, which stops at 255.
+pub fn sum(a: u8, b: u8) -> u8
+    ensures { λ r. ⌜ r ≡ sumOf a b ⌝ }
+{
+    if 255 - a < b { 255 } else { a + b }
+}
+
+// The steps from one generality up to another.
+pub fn number_distance(from: u8, to: u8) -> Widening
+    ensures { λ r. ⌜ r ≡ wideningOf (given (leb from to) (some (record { head = to - from; interior = 0 }))) ⌝ }
+{
+    if from <= to {
+        Widening::Distance {
+            head: to - from,
+            interior: 0,
+        }
+    } else {
+        Widening::Nothing
+    }
+}
+
+// The steps from one primitive sort up to another, all at the head. Down from a wider one there are none.
+pub fn primitive_distance(from: Sort, to: Sort) -> Widening
+    ensures { λ r. ⌜ r ≡ wideningOf (distance true (flat (primitive from)) (flat (primitive to))) ⌝ }
+{
+    match number_generality(from) {
+        Amount::Of(l) => match number_generality(to) {
+            Amount::Of(r) => number_distance(l, r),
+            Amount::Nothing => Widening::Nothing,
+        },
+        Amount::Nothing => match number_generality(to) {
+            Amount::Of(_) => Widening::Nothing,
+            Amount::Nothing => Widening::Distance {
+                head: 0,
+                interior: 0,
+            },
+        },
+    }
+}
+
+// The step from one container operator up to another, 0 or 1. From Set to FSet there is none.
+pub fn op_distance(from: ComplexSort, to: ComplexSort) -> Amount
+    ensures { λ r. ⌜ r ≡ amountOf (opSteps from to) ⌝ }
+{
+    match generic_op_partial_cmp(from, to) {
+        PartialOrder::Unrelated => Amount::Nothing,
+        PartialOrder::Equal => Amount::Of(0),
+        PartialOrder::Below => Amount::Of(1),
+        PartialOrder::Above => Amount::Nothing,
+    }
+}
+
+// The distance of sorts with head steps of their own, with the steps of parts before, and with the distance of a part: the
+// part's head and interior are both interior.
+pub fn within(head: u8, before: u8, part: Widening) -> Widening
+    ensures { λ r. ⌜ r ≡ beneath head before part ⌝ }
+{
+    match part {
+        Widening::Distance {
+            head: part_head,
+            interior,
+        } => Widening::Distance {
+            head,
+            interior: sum(before, sum(part_head, interior)),
+        },
+        Widening::Nothing => Widening::Nothing,
+    }
+}
+
+// The steps of a first argument and those of the rest.
+pub fn plus(first: u8, rest: Amount) -> Amount
+    ensures { λ r. ⌜ r ≡ more first rest ⌝ }
+{
+    match rest {
+        Amount::Of(n) => Amount::Of(sum(first, n)),
+        Amount::Nothing => Amount::Nothing,
+    }
+}
+
+// How far a sort of a checked list is below another. Where it is not equal to or below it there is no distance.
+pub fn widening_distance(sorts: &[u16], counts: Counts, from: SortId, to: SortId) -> Widening
+    requires { ⌜ Checked (now sorts) (counts .sorts) (counts .entries) × (from .0 < counts .sorts) × (to .0 < counts .sorts) ⌝ }
+    ensures { λ r. ⌜ r ≡ wideningOf (distance true (treeAt (now (sorts .entry)) (counts .sorts) (from .0)) (treeAt (now (sorts .entry)) (counts .sorts) (to .0))) ⌝ }
+{
+    if from.0 == to.0 {
+        return Widening::Distance {
+            head: 0,
+            interior: 0,
+        };
+    }
+    match pair(sorts, from, to) {
+        Pair::Primitives(l, r) => primitive_distance(l, r),
+        Pair::Containers {
+            lhs_op,
+            lhs_sub,
+            rhs_op,
+            rhs_sub,
+        } => match op_distance(lhs_op, rhs_op) {
+            Amount::Of(head) => within(head, 0, widening_distance(sorts, counts, lhs_sub, rhs_sub)),
+            Amount::Nothing => Widening::Nothing,
+        },
+        Pair::Functions {
+            count,
+            lhs_start,
+            lhs_range,
+            rhs_start,
+            rhs_range,
+        } => match domain_distance(sorts, counts, lhs_start, rhs_start, count) {
+            Amount::Of(n) => within(0, n, widening_distance(sorts, counts, lhs_range, rhs_range)),
+            Amount::Nothing => Widening::Nothing,
+        },
+        Pair::Other => Widening::Nothing,
+    }
+}
+
+// The steps from the arguments of the target up to those of the source, the other way round than the functions go.
+pub fn domain_distance(
+    sorts: &[u16],
+    counts: Counts,
+    from_start: u16,
+    to_start: u16,
+    count: u16,
+) -> Amount
+    requires { ⌜ Runs (now sorts) (counts .sorts) (counts .entries) «from_start» «to_start» count ⌝ }
+    ensures { λ r. ⌜ r ≡ amountOf (distances false (argsAt (now (sorts .entry)) (counts .sorts) «from_start» count) (argsAt (now (sorts .entry)) (counts .sorts) «to_start» count)) ⌝ }
+{
+    if count == 0 {
+        return Amount::Of(0);
+    }
+    let from = word(sorts, 4096 + (from_start as usize));
+    let to = word(sorts, 4096 + (to_start as usize));
+    match widening_distance(sorts, counts, SortId(to), SortId(from)) {
+        Widening::Distance { head, interior } => {
+            let first = sum(head, interior);
+            plus(
+                first,
+                domain_distance(sorts, counts, from_start + 1, to_start + 1, count - 1),
+            )
+        }
+        Widening::Nothing => Amount::Nothing,
+    }
+}
+
+// Whether an order says Below: not where it says Equal.
+pub fn is_below(order: PartialOrder) -> bool
+    ensures { λ r. ⌜ r ≡ isBelow order ⌝ }
+{
+    match order {
+        PartialOrder::Unrelated => false,
+        PartialOrder::Equal => false,
+        PartialOrder::Below => true,
+        PartialOrder::Above => false,
+    }
+}
+
+// Whether two runs of arguments have the same sort numbers in the same order.
+pub fn same_arguments(sorts: &[u16], from_start: u16, to_start: u16, count: u16) -> bool
+    ensures { λ r. ⌜ r ≡ sameWords (entriesOf (now (sorts .entry)) «from_start» count) (entriesOf (now (sorts .entry)) «to_start» count) ⌝ }
+{
+    let mut i: u16 = 0;
+    while i < count {
+        let from = word(sorts, 4096 + ((from_start as usize) + (i as usize)));
+        let to = word(sorts, 4096 + ((to_start as usize) + (i as usize)));
+        if from != to {
+            return false;
+        }
+        i += 1;
+    }
+    true
+}
+
+// Whether the language has a coercion from one sort of a checked list to another. Below is not enough: parts and arguments
+// are the same sorts.
+pub fn is_materializable(sorts: &[u16], counts: Counts, from: SortId, to: SortId) -> bool
+    requires { ⌜ Checked (now sorts) (counts .sorts) (counts .entries) × (from .0 < counts .sorts) × (to .0 < counts .sorts) ⌝ }
+    ensures { λ r. ⌜ r ≡ materializable (treeAt (now (sorts .entry)) (counts .sorts) (from .0)) (treeAt (now (sorts .entry)) (counts .sorts) (to .0)) ⌝ }
+{
+    if from.0 == to.0 {
+        return true;
+    }
+    match pair(sorts, from, to) {
+        Pair::Primitives(l, r) => is_below(primitive_partial_cmp(l, r)),
+        Pair::Containers {
+            lhs_op,
+            lhs_sub,
+            rhs_op,
+            rhs_sub,
+        } => {
+            if lhs_sub.0 != rhs_sub.0 {
+                return false;
+            }
+            is_below(generic_op_partial_cmp(lhs_op, rhs_op))
+        }
+        Pair::Functions {
+            count,
+            lhs_start,
+            lhs_range,
+            rhs_start,
+            rhs_range,
+        } => {
+            if !same_arguments(sorts, lhs_start, rhs_start, count) {
+                return false;
+            }
+            is_materializable(sorts, counts, lhs_range, rhs_range)
+        }
+        Pair::Other => false,
     }
 }

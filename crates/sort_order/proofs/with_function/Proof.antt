@@ -1,4 +1,5 @@
 -- Each arm is the definition's clause. Assumes nothing.
+use mathlib.Core.Path.{_∙_}
 use Rattle.resolved_sort.specs.Pairs.{withFunction}
 use borrow.Author.Needs.{needs}
 use Rattle.sort_order.proofs.with_function.Statement.{statement}
@@ -16,9 +17,9 @@ with-function-spec =
     (λ c κs. search needs)
     (λ c. search needs)
     (λ c. search needs)
-    (λ c. cc)
-    (λ c. cc)
-    (λ c. cc)
-    (λ c. cc)
-    (λ c. cc)
-    (λ c. cc))
+    (λ c. rw (c .enum-told .given .1))
+    (λ c. rw (c .enum-told2 .given .1))
+    (λ c. rw (c .enum-told3 .given .1))
+    (λ c. c .functions .ensures ∙ rw (c .before .before .rhs .given .1))
+    (λ c. rw (c .enum-told4 .given .1))
+    (λ c. rw (c .enum-told5 .given .1)))
