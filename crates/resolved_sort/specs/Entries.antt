@@ -18,6 +18,8 @@ use Rattle.resolved_sort.specs.declared.Measured.{Measured}
 use Rattle.resolved_sort.specs.declared.Measured.the-variants.{Refused as NotMeasured, Steps as StepsOf}
 use Rattle.resolved_sort.specs.declared.Materialized.{Materialized}
 use Rattle.resolved_sort.specs.declared.Materialized.the-variants.{Refused as NotMaterialized, Answer}
+use Rattle.resolved_sort.specs.declared.Tested.{Tested}
+use Rattle.resolved_sort.specs.declared.Tested.the-variants.{Refused, Passed}
 use Rattle.resolved_sort.specs.Tree.{Tree}
 use Rattle.resolved_sort.specs.Order.{order, Steps, distance, materializable}
 use Rattle.resolved_sort.specs.Interning.{Sorts, look, number, Outcome, made, nothing, full, make}
@@ -46,6 +48,11 @@ codeMeasured (StepsOf d) = 0
 unfoldable pub codeMaterialized : Materialized → ℕ
 codeMaterialized (NotMaterialized c) = c
 codeMaterialized (Answer b) = 0
+
+-- what the checks of a call found
+abbrev pub testedOf : Option ℕ → Tested
+testedOf none = Passed
+testedOf (some c) = Refused c
 
 -- refused with the first failing check, else answered
 abbrev pub orElse : {A : Type 0} → Option ℕ → (ℕ → A) → A → A

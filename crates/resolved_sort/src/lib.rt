@@ -134,3 +134,9 @@ pub struct Domain {
     pub ids: [u16; 16],
     pub found: Found,
 }
+
+// What the checks of a call found: the code of the first that fails, or none.
+pub enum Tested {
+    Refused(u16),
+    Passed,
+}

@@ -1,0 +1,248 @@
+-- The first failing check, as the tests of an entry find it one after another, and what it means that none fails.
+-- Assumes nothing.
+use mathlib.Core.Path.{_≡_, refl, sym, _∙_, ap, subst}
+use mathlib.Core.Bool.{Bool, true, false, not, cond, _&&_, and-eq-true-iff}
+use mathlib.Core.List.{List, [], _∷_, _++_}
+use mathlib.Core.Option.{Option, none, some}
+use Prim.Native.Nat.{ℕ, _-_, _*_, _<_, _≤_}
+use native.Mathlib.Omega.{arith}
+use lib.ListN.{length}
+use lib.Dec.{leb, ltb}
+use borrow.Author.Tests.{not-true, not-false, ltb-true, leb-true, lt-ltb, le-ltb, le-leb, lt-leb}
+use Rattle.resolved_sort.specs.declared.Tested.{Tested}
+use Rattle.resolved_sort.specs.declared.Tested.the-variants.{Refused, Passed}
+use Rattle.resolved_sort.specs.declared.Counts.{Counts}
+use Rattle.resolved_sort.specs.declared.Joined.{Joined}
+use Rattle.resolved_sort.specs.declared.Joined.the-variants.{At, Nothing, Full}
+use Rattle.resolved_sort.specs.declared.Bounded.{Bounded}
+use Rattle.resolved_sort.specs.declared.Bounded.the-variants.{Refused as NotBounded, Sort, Nothing as NoBound, NoRoom}
+use Rattle.resolved_sort.specs.Tree.{Tree}
+use Rattle.resolved_sort.specs.Interning.{look, Outcome, made, nothing, full, make}
+use Rattle.resolved_sort.specs.Storage.{maxSorts, maxEntries, fullLength, entriesAt, givenBack, trees, sortsOf}
+use Rattle.resolved_sort.specs.Checks.{withinLent, fixedSix, rowsFine, noTwoEqual, inList, atCeiling, Check, firstFailing, sortChecks, pairChecks}
+use Rattle.resolved_sort.specs.Entries.{testedOf, orElse, treeAt, after, Stored, stored, Left, left, leftBy, bounded}
+use Rattle.resolved_sort.specs.Rows.{Checked, storedAt}
+use Rattle.resolved_sort.specs.Bounds.{Asked, boundAt}
+use Rattle.resolved_sort.proofs.Twice.{rows-differ-exactly}
+use Rattle.resolved_sort.proofs.Grown.{grown-none}
+use Rattle.resolved_sort.proofs.Kept.{Kept, InTree, make-kept}
+use Rattle.resolved_sort.proofs.Stored.{look-whole}
+use Rattle.resolved_sort.proofs.GivenBack.{made-is-given-back}
+use Rattle.sort_interner.specs.Tests.{noSameRows, newRow, otherRow}
+use Rattle.sort_entries.specs.Kept.{keptOrGivenBack}
+
+-- one check after another
+first-fails : (c : Check) (cs : List Check) → c .passes ≡ false → firstFailing (c ∷ cs) ≡ some (c .code)
+unfolding firstFailing
+first-fails c cs e = rw e
+
+first-passes : (c : Check) (cs : List Check) → c .passes ≡ true → firstFailing (c ∷ cs) ≡ firstFailing cs
+unfolding firstFailing
+first-passes c cs e = rw e
+
+by-first : (b : Bool) (x y : Option ℕ) (c : ℕ) (f : ℕ) → cond b x (some f) ≡ some c → (x ≡ some c → y ≡ some c) → cond b y (some f) ≡ some c
+by-first true x y c f e h = h e
+by-first false x y c f e h = e
+
+append-fails : (xs ys : List Check) (c : ℕ) → firstFailing xs ≡ some c → firstFailing (xs ++ ys) ≡ some c
+unfolding firstFailing
+append-fails [] ys c e = let z : _≡_ {A = ℕ} 0 1 = cc in absurd (omega arith)
+append-fails (x ∷ xs) ys c e = by-first (x .passes) (firstFailing xs) (firstFailing (xs ++ ys)) c (x .code) e (append-fails xs ys c)
+
+by-passing : (b : Bool) (x y z : Option ℕ) (f : ℕ) → cond b x (some f) ≡ none → (x ≡ none → y ≡ z) → cond b y (some f) ≡ z
+by-passing true x y z f e h = h e
+by-passing false x y z f e h = let w : _≡_ {A = ℕ} 0 1 = cc in absurd (omega arith)
+
+append-passes : (xs ys : List Check) → firstFailing xs ≡ none → firstFailing (xs ++ ys) ≡ firstFailing ys
+unfolding firstFailing
+append-passes [] ys e = refl
+append-passes (x ∷ xs) ys e = by-passing (x .passes) (firstFailing xs) (firstFailing (xs ++ ys)) (firstFailing ys) (x .code) e (append-passes xs ys)
+
+both : (b : Bool) (x : Option ℕ) (f : ℕ) → cond b x (some f) ≡ none → (b ≡ true) × (x ≡ none)
+both true x f e = (refl, e)
+both false x f e = let w : _≡_ {A = ℕ} 0 1 = cc in absurd (omega arith)
+
+cons-passes : (c : Check) (cs : List Check) → firstFailing (c ∷ cs) ≡ none → (c .passes ≡ true) × (firstFailing cs ≡ none)
+unfolding firstFailing
+cons-passes c cs e = both (c .passes) (firstFailing cs) (c .code) e
+
+-- what was tested is what the definition says
+refused-is : (x : Option ℕ) (t : Tested) (c : ℕ) → t ≡ testedOf x → t ≡ Refused c → x ≡ some c
+refused-is none t c e r = let z : Passed ≡ Refused c = sym e ∙ r in let w : _≡_ {A = ℕ} 0 1 = cc in absurd (omega arith)
+refused-is (some d) t c e r = let z : Refused d ≡ Refused c = sym e ∙ r in cc
+
+passed-is : (x : Option ℕ) (t : Tested) → t ≡ testedOf x → t ≡ Passed → x ≡ none
+passed-is none t e r = refl
+passed-is (some d) t e r = let z : Refused d ≡ Passed = sym e ∙ r in let w : _≡_ {A = ℕ} 0 1 = cc in absurd (omega arith)
+
+-- checks 1 to 4
+module _ (ws : List ℕ) (n e : ℕ) where
+  abbrev one : Check
+  one = record { code = 1; passes = withinLent ws n e }
+
+  abbrev two : Check
+  two = record { code = 2; passes = fixedSix ws n }
+
+  abbrev three : Check
+  three = record { code = 3; passes = rowsFine ws n e }
+
+  abbrev four : Check
+  four = record { code = 4; passes = noTwoEqual ws n }
+
+  -- the tests' flags: b negated is what an `if` tests
+  passing : (b x : Bool) → b ≡ x → not b ≡ false → x ≡ true
+  passing b x e h = sym e ∙ not-false b h
+
+  failing : (b x : Bool) → b ≡ x → not b ≡ true → x ≡ false
+  failing b x e h = sym e ∙ not-true b h
+
+  module _ (b₁ : Bool) (e₁ : b₁ ≡ withinLent ws n e) where
+    pub fails-1 : not b₁ ≡ true → Refused 1 ≡ testedOf (firstFailing (sortChecks ws n e))
+    unfolding sortChecks
+    fails-1 h = ap testedOf (sym (first-fails one _ (failing b₁ _ e₁ h)))
+
+    module _ (h₁ : not b₁ ≡ false) where
+      pub few-sorts : n ≤ maxSorts
+      unfolding withinLent
+      few-sorts =
+          leb-true n maxSorts
+          (and-eq-true-iff (leb n maxSorts) (leb e maxEntries) .0
+          (and-eq-true-iff (leb n maxSorts && leb e maxEntries) (leb (4 * n) (length ws)) .0
+          (and-eq-true-iff (leb n maxSorts && leb e maxEntries && leb (4 * n) (length ws)) (leb e (length ws - entriesAt)) .0 (passing b₁ _ e₁ h₁) .0) .0) .0)
+
+      past-1 : firstFailing (sortChecks ws n e) ≡ firstFailing (two ∷ three ∷ four ∷ [])
+      unfolding sortChecks
+      past-1 = first-passes one _ (passing b₁ _ e₁ h₁)
+
+      module _ (b₂ : Bool) (e₂ : b₂ ≡ fixedSix ws n) where
+        pub fails-2 : not b₂ ≡ true → Refused 2 ≡ testedOf (firstFailing (sortChecks ws n e))
+        fails-2 h = ap testedOf (sym (past-1 ∙ first-fails two _ (failing b₂ _ e₂ h)))
+
+        module _ (h₂ : not b₂ ≡ false) (b₃ : Bool) (e₃ : b₃ ≡ rowsFine ws n e) where
+          past-2 : firstFailing (sortChecks ws n e) ≡ firstFailing (three ∷ four ∷ [])
+          past-2 = past-1 ∙ first-passes two _ (passing b₂ _ e₂ h₂)
+
+          pub fails-3 : not b₃ ≡ true → Refused 3 ≡ testedOf (firstFailing (sortChecks ws n e))
+          fails-3 h = ap testedOf (sym (past-2 ∙ first-fails three _ (failing b₃ _ e₃ h)))
+
+          module _ (h₃ : not b₃ ≡ false) (b₄ : Bool) (e₄ : b₄ ≡ noSameRows ws n) where
+            past-3 : firstFailing (sortChecks ws n e) ≡ firstFailing (four ∷ [])
+            past-3 = past-2 ∙ first-passes three _ (passing b₃ _ e₃ h₃)
+
+            by-structure : b₄ ≡ noTwoEqual ws n
+            unfolding noSameRows newRow otherRow
+            by-structure = e₄ ∙ rows-differ-exactly ws e n (passing b₃ _ e₃ h₃)
+
+            pub fails-4 : not b₄ ≡ true → Refused 4 ≡ testedOf (firstFailing (sortChecks ws n e))
+            fails-4 h = ap testedOf (sym (past-3 ∙ first-fails four _ (failing b₄ _ by-structure h)))
+
+            pub passes-4 : not b₄ ≡ false → Passed ≡ testedOf (firstFailing (sortChecks ws n e))
+            unfolding firstFailing
+            passes-4 h = ap testedOf (sym (past-3 ∙ first-passes four [] (passing b₄ _ by-structure h)))
+
+-- checks 12 and 14
+module _ (ws : List ℕ) (n e a b : ℕ) (t : Tested) (et : t ≡ testedOf (firstFailing (sortChecks ws n e))) where
+  abbrev twelve : Check
+  twelve = record { code = 12; passes = inList n a && inList n b }
+
+  abbrev fourteen : Check
+  fourteen = record { code = 14; passes = atCeiling ws }
+
+  pub sorts-fail : (c : ℕ) → t ≡ Refused c → Refused c ≡ testedOf (firstFailing (pairChecks ws n e a b))
+  unfolding pairChecks
+  sorts-fail c r = ap testedOf (sym (append-fails (sortChecks ws n e) (twelve ∷ fourteen ∷ []) c (refused-is _ t c et r)))
+
+  module _ (p : t ≡ Passed) where
+    past-sorts : firstFailing (pairChecks ws n e a b) ≡ firstFailing (twelve ∷ fourteen ∷ [])
+    unfolding pairChecks
+    past-sorts = append-passes (sortChecks ws n e) (twelve ∷ fourteen ∷ []) (passed-is _ t et p)
+
+    pub lhs-fails : n ≤ a → Refused 12 ≡ testedOf (firstFailing (pairChecks ws n e a b))
+    unfolding inList
+    lhs-fails h = ap testedOf (sym (past-sorts ∙ first-fails twelve _ (rw (le-ltb a n h))))
+
+    module _ (ha : a < n) where
+      pub rhs-fails : n ≤ b → Refused 12 ≡ testedOf (firstFailing (pairChecks ws n e a b))
+      unfolding inList
+      rhs-fails h = ap testedOf (sym (past-sorts ∙ first-fails twelve _ (rw (lt-ltb a n ha, le-ltb b n h))))
+
+      module _ (hb : b < n) where
+        past-12 : firstFailing (pairChecks ws n e a b) ≡ firstFailing (fourteen ∷ [])
+        unfolding inList
+        past-12 = past-sorts ∙ first-passes twelve _ (rw (lt-ltb a n ha, lt-ltb b n hb))
+
+        pub length-fails : length ws < fullLength → Refused 14 ≡ testedOf (firstFailing (pairChecks ws n e a b))
+        unfolding atCeiling
+        length-fails h = ap testedOf (sym (past-12 ∙ first-fails fourteen _ (lt-leb fullLength (length ws) h)))
+
+        pub all-pass : fullLength ≤ length ws → Passed ≡ testedOf (firstFailing (pairChecks ws n e a b))
+        unfolding atCeiling firstFailing
+        all-pass h = ap testedOf (sym (past-12 ∙ first-passes fourteen [] (le-leb fullLength (length ws) h)))
+
+-- what it means that no check fails
+module _ (ws : List ℕ) (n e a b : ℕ) (x : firstFailing (pairChecks ws n e a b) ≡ none) where
+  chain : (withinLent ws n e ≡ true) × (rowsFine ws n e ≡ true) × (noTwoEqual ws n ≡ true) × ((inList n a && inList n b) ≡ true) × (atCeiling ws ≡ true)
+  unfolding pairChecks sortChecks
+  chain =
+      let c₁ = cons-passes _ _ x in
+      let c₂ = cons-passes _ _ (c₁ .1) in
+      let c₃ = cons-passes _ _ (c₂ .1) in
+      let c₄ = cons-passes _ _ (c₃ .1) in
+      let c₅ = cons-passes _ _ (c₄ .1) in
+      let c₆ = cons-passes _ _ (c₅ .1) in
+      (c₁ .0, c₃ .0, c₄ .0, c₅ .0, c₆ .0)
+
+  within : (n ≤ maxSorts) × (e ≤ maxEntries)
+  unfolding withinLent
+  within =
+      let p = and-eq-true-iff (leb n maxSorts && leb e maxEntries && leb (4 * n) (length ws)) (leb e (length ws - entriesAt)) .0 (chain .0) in
+      let q = and-eq-true-iff (leb n maxSorts && leb e maxEntries) (leb (4 * n) (length ws)) .0 (p .0) in
+      let r = and-eq-true-iff (leb n maxSorts) (leb e maxEntries) .0 (q .0) in
+      (leb-true n maxSorts (r .0), leb-true e maxEntries (r .1))
+
+  pub sorts-asked : Asked ws n e a b
+  unfolding inList atCeiling
+  sorts-asked =
+      let i = and-eq-true-iff (ltb a n) (ltb b n) .0 (chain .3) in
+      record {
+        checked = record { long = leb-true fullLength (length ws) (chain .4); sorts = within .0; entries = within .1; fine = chain .1; differ = chain .2 };
+        lhs = ltb-true a n (i .0);
+        rhs = ltb-true b n (i .1);
+      }
+
+-- the answers of an entry
+module _ (ws : List ℕ) (n e a b : ℕ) (t : Tested) (et : t ≡ testedOf (firstFailing (pairChecks ws n e a b))) where
+  pub refused-with : {A : Type 0} (f : ℕ → A) (r : A) (c : ℕ) → t ≡ Refused c → f c ≡ orElse (firstFailing (pairChecks ws n e a b)) f r
+  refused-with f r c h = rw (refused-is (firstFailing (pairChecks ws n e a b)) t c et h)
+
+  pub answered : {A : Type 0} (f : ℕ → A) (r : A) → t ≡ Passed → r ≡ orElse (firstFailing (pairChecks ws n e a b)) f r
+  answered f r h = rw (passed-is (firstFailing (pairChecks ws n e a b)) t et h)
+
+  pub none-fails : t ≡ Passed → firstFailing (pairChecks ws n e a b) ≡ none
+  none-fails h = passed-is _ t et h
+
+  pub asked : t ≡ Passed → Asked ws n e a b
+  asked h = sorts-asked ws n e a b (passed-is _ t et h)
+
+-- join and meet: what was made stays where they answered, and is given back where room ended
+module _ (up : Bool) (ws : List ℕ) (n e a b : ℕ) (k : Asked ws n e a b) where
+  abbrev outcome : Outcome Tree
+  outcome = make up (treeAt ws n a) (treeAt ws n b) (sortsOf ws n e)
+
+  outcome-kept : Kept ws n e InTree (sortsOf ws n e) outcome
+  outcome-kept =
+      make-kept ws n e up (treeAt ws n a) (treeAt ws n b) (sortsOf ws n e) (grown-none ws n e (k .checked))
+      (look-whole ws n e (k .checked) a (k .lhs)) (look-whole ws n e (k .checked) b (k .rhs))
+
+  by-outcome : (O : Outcome Tree) → Kept ws n e InTree (sortsOf ws n e) O
+      → keptOrGivenBack ((stored ws n e O) .words) n e ((stored ws n e O) .answer) ≡ leftBy ws n e (stored ws n e O) ((stored ws n e O) .answer)
+  unfolding Kept stored keptOrGivenBack leftBy
+  by-outcome (made v S) h = refl
+  by-outcome (nothing S) h = refl
+  by-outcome (full S) h = ap (λ us. left us NoRoom) (made-is-given-back ws n e (k .checked) S (h .0))
+
+  pub bound-answered : (vs : List ℕ) (j : Joined) → storedAt vs j ≡ boundAt up ws n e a b → (us : List ℕ) (r : Bounded) → left us r ≡ keptOrGivenBack vs n e j
+      → firstFailing (pairChecks ws n e a b) ≡ none → left us r ≡ bounded up ws n e a b
+  unfolding boundAt bounded
+  bound-answered vs j q us r g x =
+      g ∙ (ap (λ s. keptOrGivenBack (s .words) n e (s .answer)) q ∙ (by-outcome outcome outcome-kept ∙ rw x))

@@ -1,0 +1,13 @@
+-- What an entry answers and leaves after join or meet.
+use mathlib.Core.List.{List}
+use Prim.Native.Nat.{ℕ}
+use Rattle.resolved_sort.specs.declared.Joined.{Joined}
+use Rattle.resolved_sort.specs.declared.Joined.the-variants.{At, Nothing, Full}
+use Rattle.resolved_sort.specs.declared.Bounded.the-variants.{Sort, Nothing as NoBound, NoRoom}
+use Rattle.resolved_sort.specs.Storage.{givenBack}
+use Rattle.resolved_sort.specs.Entries.{Left, left}
+
+unfoldable pub keptOrGivenBack : List ℕ → ℕ → ℕ → Joined → Left
+keptOrGivenBack ws n e (At s k) = left ws (Sort s k)
+keptOrGivenBack ws n e (Nothing k) = left ws (NoBound k)
+keptOrGivenBack ws n e Full = left (givenBack n e ws) NoRoom

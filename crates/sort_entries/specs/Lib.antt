@@ -1,0 +1,3 @@
+-- What the contracts of this crate cite beside the definitions of the sorts layer.
+pub mod Kept
+pub mod Packed

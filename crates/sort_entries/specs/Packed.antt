@@ -1,0 +1,50 @@
+-- The answers of the entries as one number, for callers in other languages: the code in the lowest 8 bits, above it the
+-- values of an answer. A refusal and "no room" have nothing above the code.
+use mathlib.Core.Bool.{Bool, true, false}
+use Prim.Native.Nat.{ℕ, _+_, _*_, _^_}
+use Rattle.resolved_sort.specs.declared.PartialOrder.{PartialOrder}
+use Rattle.resolved_sort.specs.declared.PartialOrder.the-variants.{Unrelated, Equal, Below, Above}
+use Rattle.resolved_sort.specs.declared.Widening.{Widening}
+use Rattle.resolved_sort.specs.declared.Widening.the-variants.{Distance, Nothing as NoDistance}
+use Rattle.resolved_sort.specs.declared.Compared.{Compared}
+use Rattle.resolved_sort.specs.declared.Compared.the-variants.{Refused as NotCompared, Ordered}
+use Rattle.resolved_sort.specs.declared.Bounded.{Bounded}
+use Rattle.resolved_sort.specs.declared.Bounded.the-variants.{Refused as NotBounded, Sort, Nothing as NoBound, NoRoom}
+use Rattle.resolved_sort.specs.declared.Measured.{Measured}
+use Rattle.resolved_sort.specs.declared.Measured.the-variants.{Refused as NotMeasured, Steps}
+use Rattle.resolved_sort.specs.declared.Materialized.{Materialized}
+use Rattle.resolved_sort.specs.declared.Materialized.the-variants.{Refused as NotMaterialized, Answer}
+
+-- 0 unrelated, 1 equal, 2 below, 3 above
+abbrev pub orderCode : PartialOrder → ℕ
+orderCode Unrelated = 0
+orderCode Equal = 1
+orderCode Below = 2
+orderCode Above = 3
+
+-- bits 8 to 15: the order
+abbrev pub packCompared : Compared → ℕ
+packCompared (NotCompared c) = c
+packCompared (Ordered o) = orderCode o * 256
+
+-- bits 8 to 15: 1 where there is a distance; 16 to 23 its head, 24 to 31 its interior
+abbrev pub packWidening : Widening → ℕ
+packWidening (Distance h i) = 256 + h * 65536 + i * 16777216
+packWidening NoDistance = 0
+
+abbrev pub packMeasured : Measured → ℕ
+packMeasured (NotMeasured c) = c
+packMeasured (Steps d) = packWidening d
+
+-- bits 8 to 15: 1 for yes
+abbrev pub packMaterialized : Materialized → ℕ
+packMaterialized (NotMaterialized c) = c
+packMaterialized (Answer true) = 256
+packMaterialized (Answer false) = 0
+
+-- bits 8 to 15: 1 where there is a sort; 16 to 31 its number, 32 to 47 the sorts and 48 to 63 the entries after the call
+abbrev pub packBounded : Bounded → ℕ
+packBounded (NotBounded c) = c
+packBounded (Sort s k) = 256 + s .0 * 65536 + k .sorts * 4294967296 + k .entries * 281474976710656
+packBounded (NoBound k) = k .sorts * 4294967296 + k .entries * 281474976710656
+packBounded NoRoom = 15

@@ -1,0 +1,204 @@
+// The entries of the sorts layer. Each takes the lent sort storage and its counts, tests them itself, and has no
+// `requires`: whatever a caller hands in, the answer and the storage at exit are the defined ones.
+use resolved_sort::Bounded;
+use resolved_sort::Compared;
+use resolved_sort::Counts;
+use resolved_sort::Joined;
+use resolved_sort::Materialized;
+use resolved_sort::Measured;
+use resolved_sort::PartialOrder;
+use resolved_sort::SortId;
+use resolved_sort::Tested;
+use resolved_sort::Widening;
+use sort_interner::fixed_six;
+use sort_interner::give_back;
+use sort_interner::no_two_equal_rows;
+use sort_interner::rows_fine;
+use sort_interner::within_lent;
+ghost use mathlib.Core.Path.{_≡_};
+ghost use mathlib.Core.Bool.{true, false};
+ghost use Prim.Native.Nat.{ℕ, _+_, _*_, _<_, _≤_};
+ghost use lib.ListN.{length};
+ghost use Rattle.resolved_sort.specs.Storage.{maxSorts, maxEntries, fullLength};
+ghost use Rattle.resolved_sort.specs.Checks.{firstFailing, pairChecks, sortChecks};
+ghost use Rattle.resolved_sort.specs.Entries.{testedOf, compared, measured, materialized, bounded, left};
+ghost use Rattle.sort_entries.specs.Kept.{keptOrGivenBack};
+ghost use Rattle.sort_entries.specs.Packed.{packCompared, packMeasured, packMaterialized, packBounded};
+
+// Checks 1 to 4: the first that fails.
+pub fn test_sorts(sorts: &[u16], sort_count: usize, entry_count: usize) -> Tested
+    ensures { λ r. ⌜ r ≡ testedOf (firstFailing (sortChecks (now (sorts .entry)) «sort_count» «entry_count»)) ⌝ }
+{
+    if !within_lent(sorts, sort_count, entry_count) {
+        return Tested::Refused(1);
+    }
+    if !fixed_six(sorts, sort_count) {
+        return Tested::Refused(2);
+    }
+    if !rows_fine(sorts, sort_count, entry_count) {
+        return Tested::Refused(3);
+    }
+    if !no_two_equal_rows(sorts, sort_count) {
+        return Tested::Refused(4);
+    }
+    Tested::Passed
+}
+
+// Checks 1 to 4, 12 and 14 of a question about two sorts: the first that fails.
+pub fn test_pair(
+    sorts: &[u16],
+    sort_count: usize,
+    entry_count: usize,
+    lhs: SortId,
+    rhs: SortId,
+) -> Tested
+    ensures { λ r. ⌜ r ≡ testedOf (firstFailing (pairChecks (now (sorts .entry)) «sort_count» «entry_count» (lhs .0) (rhs .0))) ⌝ }
+{
+    match test_sorts(sorts, sort_count, entry_count) {
+        Tested::Refused(code) => Tested::Refused(code),
+        Tested::Passed => {
+            if sort_count <= (lhs.0 as usize) {
+                return Tested::Refused(12);
+            }
+            if sort_count <= (rhs.0 as usize) {
+                return Tested::Refused(12);
+            }
+            if sorts.len() < 8192 {
+                return Tested::Refused(14);
+            }
+            Tested::Passed
+        }
+    }
+}
+
+// The order of two sorts.
+pub fn partial_cmp(
+    sorts: &[u16],
+    sort_count: usize,
+    entry_count: usize,
+    lhs: SortId,
+    rhs: SortId,
+) -> Compared
+    ensures { λ r. ⌜ r ≡ compared (now (sorts .entry)) «sort_count» «entry_count» (lhs .0) (rhs .0) ⌝ }
+{
+    match test_pair(sorts, sort_count, entry_count, lhs, rhs) {
+        Tested::Refused(code) => Compared::Refused(code),
+        Tested::Passed => {
+            let counts = Counts {
+                sorts: sort_count as u16,
+                entries: entry_count as u16,
+            };
+            Compared::Ordered(sort_order::partial_cmp(sorts, counts, lhs, rhs))
+        }
+    }
+}
+
+// How far the first sort is below the second.
+pub fn widening_distance(
+    sorts: &[u16],
+    sort_count: usize,
+    entry_count: usize,
+    from: SortId,
+    to: SortId,
+) -> Measured
+    ensures { λ r. ⌜ r ≡ measured (now (sorts .entry)) «sort_count» «entry_count» (from .0) (to .0) ⌝ }
+{
+    match test_pair(sorts, sort_count, entry_count, from, to) {
+        Tested::Refused(code) => Measured::Refused(code),
+        Tested::Passed => {
+            let counts = Counts {
+                sorts: sort_count as u16,
+                entries: entry_count as u16,
+            };
+            Measured::Steps(sort_order::widening_distance(sorts, counts, from, to))
+        }
+    }
+}
+
+// Whether the first sort converts into the second.
+pub fn is_materializable(
+    sorts: &[u16],
+    sort_count: usize,
+    entry_count: usize,
+    from: SortId,
+    to: SortId,
+) -> Materialized
+    ensures { λ r. ⌜ r ≡ materialized (now (sorts .entry)) «sort_count» «entry_count» (from .0) (to .0) ⌝ }
+{
+    match test_pair(sorts, sort_count, entry_count, from, to) {
+        Tested::Refused(code) => Materialized::Refused(code),
+        Tested::Passed => {
+            let counts = Counts {
+                sorts: sort_count as u16,
+                entries: entry_count as u16,
+            };
+            Materialized::Answer(sort_order::is_materializable(sorts, counts, from, to))
+        }
+    }
+}
+
+// What an entry answers after join or meet: an answered one keeps what was made, one that ran out of room gives it back.
+fn kept_or_given_back(
+    sorts: &mut [u16],
+    sort_count: usize,
+    entry_count: usize,
+    joined: Joined,
+) -> Bounded
+    requires { ⌜ («sort_count» ≤ maxSorts) × («entry_count» ≤ maxEntries) × (fullLength ≤ length (now sorts)) ⌝ }
+    ensures { λ r. ⌜ left (now (sorts .exit)) r ≡ keptOrGivenBack (now (sorts .entry)) «sort_count» «entry_count» joined ⌝ }
+{
+    match joined {
+        Joined::At(id, made) => Bounded::Sort(id, made),
+        Joined::Nothing(made) => Bounded::Nothing(made),
+        Joined::Full => {
+            give_back(sorts, sort_count, entry_count);
+            Bounded::NoRoom
+        }
+    }
+}
+
+// The least common supersort of two sorts.
+pub fn join(
+    sorts: &mut [u16],
+    sort_count: usize,
+    entry_count: usize,
+    lhs: SortId,
+    rhs: SortId,
+) -> Bounded
+    ensures { λ r. ⌜ left (now (sorts .exit)) r ≡ bounded true (now (sorts .entry)) «sort_count» «entry_count» (lhs .0) (rhs .0) ⌝ }
+{
+    match test_pair(sorts, sort_count, entry_count, lhs, rhs) {
+        Tested::Refused(code) => Bounded::Refused(code),
+        Tested::Passed => {
+            let counts = Counts {
+                sorts: sort_count as u16,
+                entries: entry_count as u16,
+            };
+            let joined = sort_bounds::join(sorts, counts, lhs, rhs);
+            kept_or_given_back(sorts, sort_count, entry_count, joined)
+        }
+    }
+}
+
+// The greatest common subsort of two sorts.
+pub fn meet(
+    sorts: &mut [u16],
+    sort_count: usize,
+    entry_count: usize,
+    lhs: SortId,
+    rhs: SortId,
+) -> Bounded
+    ensures { λ r. ⌜ left (now (sorts .exit)) r ≡ bounded false (now (sorts .entry)) «sort_count» «entry_count» (lhs .0) (rhs .0) ⌝ }
+{
+    match test_pair(sorts, sort_count, entry_count, lhs, rhs) {
+        Tested::Refused(code) => Bounded::Refused(code),
+        Tested::Passed => {
+            let counts = Counts {
+                sorts: sort_count as u16,
+                entries: entry_count as u16,
+            };
+            let joined = sort_bounds::meet(sorts, counts, lhs, rhs);
+            kept_or_given_back(sorts, sort_count, entry_count, joined)
+        }
+    }
+}
