@@ -10,16 +10,18 @@ use borrow.Author.Tests.{eqb-true, eq-eqb}
 use Rattle.resolved_sort.specs.Tree.{same, sames}
 use Rattle.resolved_sort.specs.Interning.{look}
 use Rattle.resolved_sort.specs.Storage.{lookAll, trees}
+use Rattle.resolved_sort.specs.Checks.{noTwoEqual}
 use Rattle.resolved_sort.specs.Rows.{Checked, sameWords}
 use Rattle.resolved_sort.proofs.Same.{same-exactly}
 use Rattle.resolved_sort.proofs.Numbers.{look-injective}
 use Rattle.resolved_sort.proofs.Trees.{length-trees}
 use Rattle.resolved_sort.proofs.RowTrees.{AllBelow}
-use Rattle.resolved_sort.proofs.Interned.{listed, tests-agree, trees-differ}
+use Rattle.resolved_sort.proofs.Interned.{tests-agree}
 
 module _ {ws : List ℕ} {n e : ℕ} (k : Checked ws n e) where
   pub number-of-tree : {a b : ℕ} → a < n → b < n → look (trees ws n) a ≡ look (trees ws n) b → a ≡ b
-  number-of-tree {a} {b} ha hb q = look-injective (trees ws n) a b (trees-differ ws n e (listed k)) (omega (arith, length-trees ws n)) (omega (arith, length-trees ws n)) q
+  unfolding noTwoEqual
+  number-of-tree {a} {b} ha hb q = look-injective (trees ws n) a b (k .differ) (omega (arith, length-trees ws n)) (omega (arith, length-trees ws n)) q
 
   pub same-by-number : {a b : ℕ} → a < n → b < n → same (look (trees ws n) a) (look (trees ws n) b) ≡ eqb a b
   same-by-number {a} {b} ha hb =

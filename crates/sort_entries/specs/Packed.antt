@@ -2,6 +2,8 @@
 -- values of an answer. A refusal and "no room" have nothing above the code.
 use mathlib.Core.Bool.{Bool, true, false}
 use Prim.Native.Nat.{ℕ, _+_, _*_, _^_}
+use mathlib.Core.List.{List}
+use Rattle.resolved_sort.specs.Entries.{Left}
 use Rattle.resolved_sort.specs.declared.PartialOrder.{PartialOrder}
 use Rattle.resolved_sort.specs.declared.PartialOrder.the-variants.{Unrelated, Equal, Below, Above}
 use Rattle.resolved_sort.specs.declared.Widening.{Widening}
@@ -48,3 +50,14 @@ packBounded (NotBounded c) = c
 packBounded (Sort s k) = 256 + s .0 * 65536 + k .sorts * 4294967296 + k .entries * 281474976710656
 packBounded (NoBound k) = k .sorts * 4294967296 + k .entries * 281474976710656
 packBounded NoRoom = 15
+
+-- the storage at exit, and the packed answer
+pub record Packed : Type 0 where
+  pub words : List ℕ
+  pub result : ℕ
+
+abbrev pub packed : List ℕ → ℕ → Packed
+packed ws r = record { words = ws; result = r }
+
+abbrev pub packLeft : Left → Packed
+packLeft l = packed (l .words) (packBounded (l .answer))

@@ -23,7 +23,7 @@ ghost use Rattle.resolved_sort.specs.Storage.{maxSorts, maxEntries, fullLength}
 ghost use Rattle.resolved_sort.specs.Checks.{firstFailing, pairChecks, sortChecks};
 ghost use Rattle.resolved_sort.specs.Entries.{testedOf, compared, measured, materialized, bounded, left};
 ghost use Rattle.sort_entries.specs.Kept.{keptOrGivenBack};
-ghost use Rattle.sort_entries.specs.Packed.{packCompared, packMeasured, packMaterialized, packBounded};
+ghost use Rattle.sort_entries.specs.Packed.{packCompared, packMeasured, packMaterialized, packBounded, packed, packLeft};
 
 // Checks 1 to 4: the first that fails.
 pub fn test_sorts(sorts: &[u16], sort_count: usize, entry_count: usize) -> Tested
@@ -201,4 +201,127 @@ pub fn meet(
             kept_or_given_back(sorts, sort_count, entry_count, joined)
         }
     }
+}
+// The code of document 01 and the values of an answer as one number, for callers in other languages.
+fn pack_compared(answer: Compared) -> u64
+    ensures { λ r. ⌜ r ≡ packCompared answer ⌝ }
+{
+    match answer {
+        Compared::Refused(code) => code as u64,
+        Compared::Ordered(order) => match order {
+            PartialOrder::Unrelated => 0,
+            PartialOrder::Equal => 256,
+            PartialOrder::Below => 512,
+            PartialOrder::Above => 768,
+        },
+    }
+}
+
+fn pack_measured(answer: Measured) -> u64
+    ensures { λ r. ⌜ r ≡ packMeasured answer ⌝ }
+{
+    match answer {
+        Measured::Refused(code) => code as u64,
+        Measured::Steps(widening) => match widening {
+            Widening::Distance { head, interior } => 256
+                + (head as u64) * 65536
+                + (interior as u64) * 16777216,
+            Widening::Nothing => 0,
+        },
+    }
+}
+
+fn pack_materialized(answer: Materialized) -> u64
+    ensures { λ r. ⌜ r ≡ packMaterialized answer ⌝ }
+{
+    match answer {
+        Materialized::Refused(code) => code as u64,
+        Materialized::Answer(yes) => {
+            if yes {
+                return 256;
+            }
+            0
+        }
+    }
+}
+
+fn pack_bounded(answer: Bounded) -> u64
+    ensures { λ r. ⌜ r ≡ packBounded answer ⌝ }
+{
+    match answer {
+        Bounded::Refused(code) => code as u64,
+        Bounded::Sort(id, counts) => 256
+            + (id.0 as u64) * 65536
+            + (counts.sorts as u64) * 4294967296
+            + (counts.entries as u64) * 281474976710656,
+        Bounded::Nothing(counts) => (counts.sorts as u64) * 4294967296
+            + (counts.entries as u64) * 281474976710656,
+        Bounded::NoRoom => 15,
+    }
+}
+
+// The entries for callers in other languages: a slice is a pointer and a length, sorts are numbers, and the answer is packed.
+#[no_mangle]
+pub extern "C" fn sort_partial_cmp(
+    sorts: &[u16],
+    sort_count: usize,
+    entry_count: usize,
+    lhs: u16,
+    rhs: u16,
+) -> u64
+    ensures { λ r. ⌜ r ≡ packCompared (compared (now (sorts .entry)) «sort_count» «entry_count» lhs rhs) ⌝ }
+{
+    pack_compared(partial_cmp(sorts, sort_count, entry_count, SortId(lhs), SortId(rhs)))
+}
+
+#[no_mangle]
+pub extern "C" fn sort_widening_distance(
+    sorts: &[u16],
+    sort_count: usize,
+    entry_count: usize,
+    from: u16,
+    to: u16,
+) -> u64
+    ensures { λ r. ⌜ r ≡ packMeasured (measured (now (sorts .entry)) «sort_count» «entry_count» from to) ⌝ }
+{
+    pack_measured(widening_distance(sorts, sort_count, entry_count, SortId(from), SortId(to)))
+}
+
+#[no_mangle]
+pub extern "C" fn sort_is_materializable(
+    sorts: &[u16],
+    sort_count: usize,
+    entry_count: usize,
+    from: u16,
+    to: u16,
+) -> u64
+    ensures { λ r. ⌜ r ≡ packMaterialized (materialized (now (sorts .entry)) «sort_count» «entry_count» from to) ⌝ }
+{
+    pack_materialized(is_materializable(sorts, sort_count, entry_count, SortId(from), SortId(to)))
+}
+
+#[no_mangle]
+pub extern "C" fn sort_join(
+    sorts: &mut [u16],
+    sort_count: usize,
+    entry_count: usize,
+    lhs: u16,
+    rhs: u16,
+) -> u64
+    ensures { λ r. ⌜ packed (now (sorts .exit)) r ≡ packLeft (bounded true (now (sorts .entry)) «sort_count» «entry_count» lhs rhs) ⌝ }
+{
+    pack_bounded(join(sorts, sort_count, entry_count, SortId(lhs), SortId(rhs)))
+}
+
+#[no_mangle]
+pub extern "C" fn sort_meet(
+    sorts: &mut [u16],
+    sort_count: usize,
+    entry_count: usize,
+    lhs: u16,
+    rhs: u16,
+) -> u64
+    ensures { λ r. ⌜ packed (now (sorts .exit)) r ≡ packLeft (bounded false (now (sorts .entry)) «sort_count» «entry_count» lhs rhs) ⌝ }
+{
+    pack_bounded(meet(sorts, sort_count, entry_count, SortId(lhs), SortId(rhs)))
 }
