@@ -1,0 +1,4 @@
+-- Sort text and the pair program, in the order of document 01.
+pub mod Tokens
+pub mod Parse
+pub mod Text
