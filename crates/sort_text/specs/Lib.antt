@@ -2,3 +2,6 @@
 pub mod Tokens
 pub mod Parse
 pub mod Text
+pub mod Reading
+pub mod Writing
+pub mod PairProgram
