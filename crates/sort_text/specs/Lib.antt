@@ -3,5 +3,6 @@ pub mod Tokens
 pub mod Parse
 pub mod Text
 pub mod Reading
+pub mod Postfix
 pub mod Writing
 pub mod PairProgram
