@@ -1,2 +1,4 @@
 pub mod Examples
 pub mod Suffix
+pub mod Progress
+pub mod Depth

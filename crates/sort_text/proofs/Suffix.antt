@@ -140,7 +140,7 @@ alone-suffix (arg t none) at bs h = suffix-refl bs
 alone-suffix (arg t (arg u us)) at bs h = h
 
 module _ (f : List ℕ → Parsed) (g : Leaves f) where
-  bracketed-suffix : (o : ComplexSort) (at bs : List ℕ) (n : Next) → Suffix at bs → Suffix (after at n) bs → Suffix (left (bracketed f o at n)) bs
+  pub bracketed-suffix : (o : ComplexSort) (at bs : List ℕ) (n : Next) → Suffix at bs → Suffix (after at n) bs → Suffix (left (bracketed f o at n)) bs
   unfolding bracketed
   bracketed-suffix o at bs (open-bracket cs) h k =
       then-suffix (f cs) _ bs (suffix-trans (left (f cs)) cs bs (g cs) k) (λ t ds. closing-suffix o t (skip ds) ds (next isLetter ds) (skip-suffix ds) (next-suffix isLetter ds))
