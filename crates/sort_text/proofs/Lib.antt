@@ -2,3 +2,4 @@ pub mod Examples
 pub mod Suffix
 pub mod Progress
 pub mod Depth
+pub mod Grammar
