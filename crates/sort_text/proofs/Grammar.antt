@@ -24,7 +24,7 @@ mutual
 
   pub data Operands : List ℕ → Trees → List ℕ → Type 0 where
     first : {bs cs : List ℕ} {t : Tree} → Operand bs t cs → Operands bs (arg t none) cs
-    another : {bs cs ds es : List ℕ} {ts : Trees} {t : Tree} → Operands bs ts cs → next isLetter cs ≡ hash ds → Operand ds t es → Operands bs (snoc ts t) es
+    another : {bs cs ds es : List ℕ} {ts us : Trees} {t : Tree} → Operands bs ts cs → next isLetter cs ≡ hash ds → Operand ds t es → us ≡ snoc ts t → Operands bs us es
 
 -- a reader of sorts
 abbrev pub Reads : (List ℕ → Parsed) → Type 0
@@ -40,12 +40,12 @@ two-alone P (arg x (arg y ts)) t u at cs = tt
 snoc-alone : {bs cs : List ℕ} {ts : Trees} → Operands bs ts cs → (P : Tree → List ℕ → Type 0) (u : Tree) (at ds : List ℕ) → IfRead P (alone (snoc ts u) at ds)
 unfolding alone snoc
 snoc-alone (first h) P u at ds = tt
-snoc-alone (another {ts = ts} {t = t} h e k) P u at ds = two-alone P ts t u at ds
+snoc-alone (another {ts = ts} {t = t} h e k i) P u at ds = rw i (two-alone P ts t u at ds)
 
 alone-read : {bs cs : List ℕ} {ts : Trees} → Operands bs ts cs → (at : List ℕ) → IfRead (SortOf bs) (alone ts at cs)
 unfolding alone
 alone-read (first h) at = one-operand h
-alone-read {bs} {cs} (another {t = t} h e k) at = snoc-alone h (SortOf bs) t at cs
+alone-read {bs} {cs} (another {t = t} h e k i) at = rw i (snoc-alone h (SortOf bs) t at cs)
 
 pub arity-snoc : (ts : Trees) (t : Tree) → arity (snoc ts t) ≡ arity ts + 1
 unfolding arity snoc
@@ -112,7 +112,7 @@ module _ (f : List ℕ → Parsed) (g : Reads f) where
   rest-read {cs = cs} zero a b = restAt-read a (omega arith) (skip cs) _ (next isLetter cs) refl (λ ds e. tt)
   rest-read {bs} {cs} (suc k) {ts} a b =
       restAt-read a (omega arith) (skip cs) _ (next isLetter cs) refl
-      (λ ds e. then-if-read (Operand ds) (SortOf bs) (operand f ds) _ (operand-read ds) (λ t es h. rest-read k (another a e h) (omega (arith, arity-snoc ts t))))
+      (λ ds e. then-if-read (Operand ds) (SortOf bs) (operand f ds) _ (operand-read ds) (λ t es h. rest-read k (another a e h refl) (omega (arith, arity-snoc ts t))))
 
   step-read : (bs : List ℕ) → IfRead (SortOf bs) (operand f bs then (λ t cs. rest f 15 (arg t none) cs))
   unfolding arity

@@ -3,3 +3,5 @@ pub mod Suffix
 pub mod Progress
 pub mod Depth
 pub mod Grammar
+pub mod Readable
+pub mod Read
