@@ -5,3 +5,4 @@ pub mod Depth
 pub mod Grammar
 pub mod Readable
 pub mod Read
+pub mod RoundTrip
