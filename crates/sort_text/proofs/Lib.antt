@@ -6,3 +6,5 @@ pub mod Grammar
 pub mod Readable
 pub mod Read
 pub mod RoundTrip
+pub mod Words
+pub mod Length
