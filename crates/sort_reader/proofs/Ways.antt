@@ -9,7 +9,7 @@ use native.Mathlib.Omega.{arith}
 use native.Mathlib.Numerals.{add-one}
 use native.Mathlib.Decide.{ℕ-discrete}
 use lib.ListN.{length, getD, drop, take, set, length-set, drop-of-length-le, length-take, length-drop}
-use lib.Seq.{drop-cons, take-suc, getD-set-same, getD-set-other, getD-drop, getD-take}
+use lib.Seq.{drop-cons, take-suc, take-suc-set, getD-set-same, getD-set-other, getD-drop, getD-take}
 use lib.Dec.{leb, ltb}
 use borrow.Author.Tests.{lt-ltb, le-ltb}
 use Rattle.resolved_sort.specs.declared.SortId.{SortId}
@@ -33,7 +33,7 @@ use Rattle.resolved_sort.proofs.Reached.{Reached, reached, stopped, ended, reac
 use Rattle.resolved_sort.proofs.BoundsCode.{answer-old, answer-none, members-below}
 use Rattle.resolved_sort.proofs.Pairs.{arity-lookAll}
 use native.Mathlib.Nat.{add-zero}
-use Rattle.sort_text.specs.Postfix.{Short, sixth, opOf, over, Taken, taken, takeArguments, applied, mapping, stepOn, top, steps}
+use Rattle.sort_text.specs.Postfix.{Short, sixth, opOf, over, Taken, taken, short, takeArguments, applied, mapping, stepOn, top, steps}
 use Rattle.sort_text.proofs.Stores.{then-then, append, append-end}
 use Rattle.sort_text.proofs.Running.{InStack, HasSix, stack-extends, six-extends, steps-kept}
 use Rattle.sort_reader.specs.Run.{stackOf, runAt, Running, GoesOn, goOn, argumentsOf}
@@ -102,6 +102,12 @@ takes-numbers T ids base (suc k) us h =
     ∙ (ap (λ ts. append ts us) (lookAll-snoc T (take k (drop base ids)) (getD (drop base ids) k 0))
     ∙ (append-snoc (lookAll T (take k (drop base ids))) us (look T (getD (drop base ids) k 0))
     ∙ ap (λ x. append (lookAll T (take k (drop base ids))) (arg (look T x) us)) (getD-drop base ids k 0)))))))
+
+takes-short : (T : List Tree) (ids : List ℕ) (d k : ℕ) (us : Trees) → d < k → takeArguments k us (stackOf T ids d) ≡ short
+unfolding takeArguments stackOf
+takes-short T ids d zero us h = absurd (omega arith)
+takes-short T ids zero (suc k) us h = refl
+takes-short T ids (suc d) (suc k) us h = takes-short T ids d k (arg (look T (getD ids d 0)) us) (omega arith)
 
 takes-all : (T : List Tree) (ids : List ℕ) (base k : ℕ) → base + k ≤ length ids
     → takeArguments k end (stackOf T ids (base + k)) ≡ taken (lookAll T (take k (drop base ids))) (stackOf T ids base)
@@ -194,9 +200,14 @@ module _ (ws : List ℕ) (C : Counts) (ops : List ℕ) (i : ℕ) (ids : List ℕ
     module _ (l : op < 6) where
       pub pushed : Running ws n e ops (i + 1) (set ids depth op) (depth + 1)
       pushed =
-          record { checked = q .checked; has-six = q .has-six; six = q .six
-          ; numbers = λ j m. set-below ids depth op n (omega (arith, len, q .room)) (omega (arith, q .has-six)) (q .numbers) j m (ℕ-discrete j depth)
-          ; room = omega (arith, q .room); steps-left = short-left .1 }
+          record {
+            checked = q .checked;
+            has-six = q .has-six;
+            six = q .six;
+            numbers = λ j m. set-below ids depth op n (omega (arith, len, q .room)) (omega (arith, q .has-six)) (q .numbers) j m (ℕ-discrete j depth);
+            room = omega (arith, q .room);
+            steps-left = short-left .1;
+          }
 
       pub push-goes-on : (vs : List ℕ) (r : Joined) → storedAt vs r ≡ runAt ws n e later (set ids depth op) (depth + 1) → storedAt vs r ≡ whole
       unfolding runAt
@@ -227,11 +238,15 @@ module _ (ws : List ℕ) (C : Counts) (ops : List ℕ) (i : ℕ) (ids : List ℕ
 
         next : Running vs (K .sorts) (K .entries) ops (i + 1) (set ids base (c .0)) (base + 1)
         next =
-            record { checked = reached-checked ws n e S (intern t S) vs c K there; has-six = omega (arith, q .has-six, more)
-            ; six = λ k l. look-there k (omega (arith, q .has-six)) ∙ q .six k l
-            ; numbers = λ j m. set-below ids base (c .0) (K .sorts) (omega (arith, len, q .room)) (reached-below ws n e S (intern t S) vs c K there)
-            (λ j l. omega (arith, q .numbers j (omega arith), more)) j m (ℕ-discrete j base)
-            ; room = omega (arith, q .room); steps-left = short-left .1 }
+            record {
+              checked = reached-checked ws n e S (intern t S) vs c K there;
+              has-six = omega (arith, q .has-six, more);
+              six = λ k l. look-there k (omega (arith, q .has-six)) ∙ q .six k l;
+              numbers = λ j m. set-below ids base (c .0) (K .sorts) (omega (arith, len, q .room)) (reached-below ws n e S (intern t S) vs c K there)
+                  (λ j l. omega (arith, q .numbers j (omega arith), more)) j m (ℕ-discrete j base);
+              room = omega (arith, q .room);
+              steps-left = short-left .1;
+            }
 
         on-stack : runAt vs (K .sorts) (K .entries) later (set ids base (c .0)) (base + 1)
             ≡ stored vs (K .sorts) (K .entries) (steps later (there .sort ∷ stackOf T ids base) (there .sorts))
@@ -365,4 +380,41 @@ module _ (ws : List ℕ) (C : Counts) (ops : List ℕ) (i : ℕ) (ids : List ℕ
       function-gone-on vs = gone-on arrow base (omega arith) function-parts function-few function-is vs
 
     pub too-few : 11 ≤ op → (depth ≡ 0 → ⊥) → (k : ℕ) → k ≡ argumentsOf op → depth ≤ k → storedAt ws (Nothing C) ≡ whole
-    too-few l z k ek h = ?tf
+    too-few l z k ek h =
+        answer-none ws C (q .checked)
+        ∙ sym (whole-is ∙ (ap (λ st. stored ws n e (stepOn op st S then (λ st S. steps later st S))) (stack-cons (depth - 1) (omega arith))
+        ∙ ap (λ O. stored ws n e (O then (λ st S. steps later st S)))
+        (map-step op (look T (getD ids (depth - 1) 0)) (stackOf T ids (depth - 1)) S l
+        ∙ ap (λ x. applied (look T (getD ids (depth - 1) 0)) x S)
+        (ap (λ j. takeArguments j end (stackOf T ids (depth - 1))) (sym ek) ∙ takes-short T ids (depth - 1) k end (omega arith)))))
+
+-- copying the numbers of a stack
+pub copied-none : (xs ys : List ℕ) → take 0 xs ≡ take 0 ys
+copied-none xs ys = refl
+
+pub copied-one : (out ids : List ℕ) (base j v : ℕ) → take j out ≡ take j (drop base ids) → j < length out → base + j < length ids → v ≡ getD ids (base + j) 0
+    → take (j + 1) (set out j v) ≡ take (j + 1) (drop base ids)
+copied-one out ids base j v e h l f =
+    let m : j < length (drop base ids) = omega (arith, length-drop base ids) in
+    ap (λ k. take k (set out j v)) (add-one j)
+    ∙ (take-suc-set out j v h ∙ (ap₂ (λ xs x. xs ++ (x ∷ [])) e (f ∙ sym (getD-drop base ids j 0))
+    ∙ (sym (take-suc (drop base ids) j 0 m) ∙ ap (λ k. take k (drop base ids)) (sym (add-one j)))))
+
+-- what going on asks and answers, by what was made
+pub going-at : (vs ops : List ℕ) (i : ℕ) (ids : List ℕ) (base : ℕ) (j : Joined) → GoesOn vs ops i ids base j → (c : SortId) (K : Counts) → j ≡ At c K
+    → Running vs (K .sorts) (K .entries) ops (i + 1) (set ids base (c .0)) (base + 1)
+unfolding GoesOn
+going-at vs ops i ids base j g c K e = subst (GoesOn vs ops i ids base) e g
+
+pub gone-at : (vs ops : List ℕ) (i : ℕ) (ids : List ℕ) (base : ℕ) (j : Joined) (c : SortId) (K : Counts) → j ≡ At c K
+    → runAt vs (K .sorts) (K .entries) (drop (i + 1) ops) (set ids base (c .0)) (base + 1) ≡ goOn vs ops i ids base j
+unfolding goOn
+gone-at vs ops i ids base j c K e = ap (goOn vs ops i ids base) (sym e)
+
+pub gone-none : (vs ops : List ℕ) (i : ℕ) (ids : List ℕ) (base : ℕ) (j : Joined) (K : Counts) → j ≡ Nothing K → storedAt vs (Nothing K) ≡ goOn vs ops i ids base j
+unfolding goOn
+gone-none vs ops i ids base j K e = ap (goOn vs ops i ids base) (sym e)
+
+pub gone-full : (vs ops : List ℕ) (i : ℕ) (ids : List ℕ) (base : ℕ) (j : Joined) → j ≡ Full → storedAt vs Full ≡ goOn vs ops i ids base j
+unfolding goOn
+gone-full vs ops i ids base j e = ap (goOn vs ops i ids base) (sym e)

@@ -51,7 +51,14 @@ fn argument_count(step: u8) -> u16
 }
 
 // Carries out the steps from the i-th on, and answers the sort that is then on top of the stack.
-pub fn run_from(sorts: &mut [u16], counts: Counts, steps: &[u8], i: usize, ids: [u16; 256], depth: usize) -> Joined
+pub fn run_from(
+    sorts: &mut [u16],
+    counts: Counts,
+    steps: &[u8],
+    i: usize,
+    ids: [u16; 256],
+    depth: usize,
+) -> Joined
     requires { ⌜ Running (now sorts) (counts .sorts) (counts .entries) (now steps) i ids depth ⌝ }
     ensures { λ r. ⌜ storedAt (now (sorts .exit)) r ≡ runAt (now (sorts .entry)) (counts .sorts) (counts .entries) (drop i (now (steps .entry))) ids depth ⌝ }
 {
@@ -78,7 +85,15 @@ pub fn run_from(sorts: &mut [u16], counts: Counts, steps: &[u8], i: usize, ids: 
 }
 
 // A function step: the numbers below the top of the stack are its arguments, the top its range.
-fn run_function(sorts: &mut [u16], counts: Counts, steps: &[u8], i: usize, ids: [u16; 256], depth: usize, step: u8) -> Joined
+fn run_function(
+    sorts: &mut [u16],
+    counts: Counts,
+    steps: &[u8],
+    i: usize,
+    ids: [u16; 256],
+    depth: usize,
+    step: u8,
+) -> Joined
     requires { ⌜ Running (now sorts) (counts .sorts) (counts .entries) (now steps) i ids depth × (i < length (now steps)) × (step ≡ getD (now steps) i 0) × (11 ≤ step) × (0 < depth) ⌝ }
     ensures { λ r. ⌜ storedAt (now (sorts .exit)) r ≡ runAt (now (sorts .entry)) (counts .sorts) (counts .entries) (drop i (now (steps .entry))) ids depth ⌝ }
 {
@@ -93,7 +108,14 @@ fn run_function(sorts: &mut [u16], counts: Counts, steps: &[u8], i: usize, ids: 
 }
 
 // Goes on with a sort that was made on top of the stack at base, if one was.
-fn go_on(sorts: &mut [u16], made: Joined, steps: &[u8], i: usize, ids: [u16; 256], base: usize) -> Joined
+fn go_on(
+    sorts: &mut [u16],
+    made: Joined,
+    steps: &[u8],
+    i: usize,
+    ids: [u16; 256],
+    base: usize,
+) -> Joined
     requires { ⌜ GoesOn (now sorts) (now steps) i ids base made × (base < 256) × (i < length (now steps)) ⌝ }
     ensures { λ r. ⌜ storedAt (now (sorts .exit)) r ≡ goOn (now (sorts .entry)) (now (steps .entry)) i ids base made ⌝ }
 {
