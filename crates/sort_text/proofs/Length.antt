@@ -103,7 +103,7 @@ map₂-if-some P Q R f no-tree y h i k = tt
 map₂-if-some P Q R f (some a) no-tree h i k = tt
 map₂-if-some P Q R f (some a) (some b) h i k = k a b h i
 
-any : {A : Type 0} (x : Option A) → IfSome (λ a. Unit {0}) x
+pub any : {A : Type 0} (x : Option A) → IfSome (λ a. Unit {0}) x
 any no-tree = tt
 any (some a) = tt
 

@@ -8,3 +8,4 @@ pub mod Read
 pub mod RoundTrip
 pub mod Words
 pub mod Length
+pub mod Sizes
