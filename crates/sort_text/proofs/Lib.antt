@@ -9,3 +9,4 @@ pub mod RoundTrip
 pub mod Words
 pub mod Length
 pub mod Sizes
+pub mod ReadableBounds
