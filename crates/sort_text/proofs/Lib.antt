@@ -10,3 +10,5 @@ pub mod Words
 pub mod Length
 pub mod Sizes
 pub mod ReadableBounds
+pub mod Stores
+pub mod Running

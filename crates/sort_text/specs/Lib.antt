@@ -2,3 +2,7 @@
 pub mod Tokens
 pub mod Parse
 pub mod Text
+pub mod Reading
+pub mod Postfix
+pub mod Writing
+pub mod PairProgram
