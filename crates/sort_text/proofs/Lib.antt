@@ -4,7 +4,7 @@ pub mod Progress
 pub mod Depth
 pub mod Grammar
 pub mod Readable
-pub mod Read
+pub mod ReadSorts
 pub mod RoundTrip
 pub mod Words
 pub mod Length

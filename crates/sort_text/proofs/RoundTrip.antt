@@ -16,7 +16,7 @@ use Rattle.sort_text.specs.Parse.{Parsed, parsed, stuck, _then_, sameByt
 use Rattle.sort_text.specs.Text.{some, flatWritable, writable, between, arrow, text, texts, more}
 use Rattle.sort_text.proofs.Depth.{sort-is}
 use Rattle.sort_text.proofs.Readable.{isFunction, readable, arguments, few, noFunctionArgument, and-left, and-right, function-readable, argument-readable, parts-readable}
-use Rattle.sort_text.proofs.Read.{line-readable}
+use Rattle.sort_text.proofs.ReadSorts.{line-readable}
 
 -- a word of letters before what starts with no letter is one token
 abbrev pub noLetter : List ℕ → Bool
@@ -129,17 +129,17 @@ rest-ends t nothing = refl
 rest-ends t bracket = refl
 
 -- the text of a sort, and of an operand, read
-abbrev pub Read : Tree → Type 0
-Read t = (rs : List ℕ) → Ending rs → sort (text t ++ rs) ≡ parsed t rs
+abbrev pub ReadsBack : Tree → Type 0
+ReadsBack t = (rs : List ℕ) → Ending rs → sort (text t ++ rs) ≡ parsed t rs
 
-abbrev pub ReadOperand : Tree → Type 0
-ReadOperand t = (rs : List ℕ) → noLetter rs ≡ true → operand sort (text t ++ rs) ≡ parsed t rs
+abbrev pub OperandReadsBack : Tree → Type 0
+OperandReadsBack t = (rs : List ℕ) → noLetter rs ≡ true → operand sort (text t ++ rs) ≡ parsed t rs
 
 -- an operand alone is a sort
-operand-sort : (t : Tree) → ReadOperand t → Read t
+operand-sort : (t : Tree) → OperandReadsBack t → ReadsBack t
 operand-sort t h rs e = sort-is (text t ++ rs) ∙ (ap (λ p. p then (λ u cs. rest sort 15 (arg u none) cs)) (h rs (ending-no-letter e)) ∙ rest-ends t e)
 
-operand-flat : (a : Flat) → flatWritable a ≡ true → ReadOperand (flat a)
+operand-flat : (a : Flat) → flatWritable a ≡ true → OperandReadsBack (flat a)
 unfolding operand operandAt operandOf text
 operand-flat unit w rs n = cc
 operand-flat (primitive s) w rs n =
@@ -161,7 +161,7 @@ operand-over o bs =
     ap (operandAt sort (skip (opWord o ++ (40 ∷ bs)))) (next-opWord o (40 ∷ bs) refl)
     ∙ (ap (λ m. operandOf sort (skip (opWord o ++ (40 ∷ bs))) m (40 ∷ bs)) (meaning-opWord o) ∙ opens o (skip (40 ∷ bs)) bs)
 
-operand-container : (o : ComplexSort) (t : Tree) → Read t → ReadOperand (container o t)
+operand-container : (o : ComplexSort) (t : Tree) → ReadsBack t → OperandReadsBack (container o t)
 unfolding text
 operand-container o t h rs n =
     ap (operand sort) (append-assoc (opWord o) (40 ∷ (text t ++ (41 ∷ []))) rs ∙ ap (λ x. opWord o ++ (40 ∷ x)) (append-assoc (text t) (41 ∷ []) rs))
@@ -213,7 +213,7 @@ no-function e = let z : _≡_ {A = ℕ} 0 1 = cc in absurd (omega arith)
 mutual
   unfolding readable arguments text texts more arity snocs
 
-  sort-text : (t : Tree) → readable t ≡ true → Read t
+  sort-text : (t : Tree) → readable t ≡ true → ReadsBack t
   sort-text (flat a) h = operand-sort (flat a) (operand-flat a h)
   sort-text (container o t) h = operand-sort (container o t) (operand-container o t (sort-text t h))
   sort-text (function ts r) h =
@@ -221,7 +221,7 @@ mutual
       λ rs e. ap sort (append-assoc (texts ts) (arrow ++ text r) rs) ∙ (sort-is (texts ts ++ (arrow ++ (text r ++ rs)))
       ∙ operands-text ts (p .0) (p .2) (leb-true (arity ts) 16 (p .1)) r rs (sort-text r (p .3) rs e))
 
-  operand-text : (t : Tree) → not (isFunction t) ≡ true → readable t ≡ true → ReadOperand t
+  operand-text : (t : Tree) → not (isFunction t) ≡ true → readable t ≡ true → OperandReadsBack t
   operand-text (flat a) n h = operand-flat a h
   operand-text (container o t) n h = operand-container o t (sort-text t h)
   operand-text (function ts r) n h = no-function n
