@@ -12,3 +12,5 @@ pub mod Sizes
 pub mod ReadableBounds
 pub mod Stores
 pub mod Running
+pub mod PairRoom
+pub mod PairLength

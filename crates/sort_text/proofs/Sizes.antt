@@ -130,7 +130,7 @@ by-test : {A : Type 0} (P : Outcome A → Type 0) (b : Bool) (x y : Outcome A) �
 by-test P true x y p q = p
 by-test P false x y p q = q
 
-made-within : {A : Type 0} (In : A → Type 0) (k j : ℕ) (a : A) (S : Sorts) → In a → Within In k j S (made a S)
+pub made-within : {A : Type 0} (In : A → Type 0) (k j : ℕ) (a : A) (S : Sorts) → In a → Within In k j S (made a S)
 unfolding Within
 made-within In k j a S h = (h, spent-none k j S)
 
