@@ -14,3 +14,4 @@ pub mod Stores
 pub mod Running
 pub mod PairRoom
 pub mod PairLength
+pub mod Exactly

@@ -1,7 +1,8 @@
 -- Reading the text of a sort gives that sort, for the sorts that a line can spell: by induction on the sort, with the equation that
 -- `sort` satisfies. Nothing is said of functions as arguments. Assumes nothing.
 use mathlib.Core.Path.{_≡_, refl, sym, _∙_, ap, ap₂}
-use mathlib.Core.Bool.{Bool, true, false, cond, not, _&&_, _||_}
+use mathlib.Core.Bool.{Bool, true, false, cond, not, _&&_}
+use mathlib.Core.Logic.{_↔_}
 use mathlib.Core.List.{List, [], _∷_, _++_, append-assoc, append-nil}
 use Prim.Native.Nat.{ℕ, zero, suc, _+_, _≤_, _<_}
 use native.Mathlib.Omega.{arith}
@@ -276,3 +277,7 @@ text-injective s t h k e =
 -- What is read reads the same from its text.
 pub read-again : (bs cs : List ℕ) (t : Tree) → line bs ≡ parsed t cs → line (text t) ≡ parsed t []
 read-again bs cs t e = line-of-text t (line-readable bs cs t e)
+
+-- The sorts that some line spells are the readable ones.
+pub spelled-exactly : (t : Tree) → (readable t ≡ true) ↔ ((bs : List ℕ) × (line bs ≡ parsed t []))
+spelled-exactly t = (λ h. (text t, line-of-text t h), λ p. line-readable (p .0) [] t (p .1))
