@@ -1,20 +1,19 @@
 -- Bounds for buffers: with four letters for every word, the text of a sort, and of a join or meet of it with another sort, stays
 -- below twice the line that it was read from. By induction on the sort and on its derivation. Assumes nothing.
-use mathlib.Core.Path.{_≡_, refl, sym, _∙_, ap, ap₂, subst}
-use mathlib.Core.Bool.{Bool, true, false, cond, not}
-use mathlib.Core.List.{List, [], _∷_, _++_}
+use mathlib.Core.Path.{_≡_, refl, ap, subst}
+use mathlib.Core.Bool.{Bool, not}
+use mathlib.Core.List.{List}
 use mathlib.Core.Option.{Option, some, none as no-tree}
-use Prim.Native.Nat.{ℕ, _+_, _*_, _≤_, _<_}
+use Prim.Native.Nat.{ℕ, _+_, _*_, _≤_}
 use native.Mathlib.Omega.{arith}
 use lib.ListN.{length, length-append}
-use Rattle.resolved_sort.specs.declared.ComplexSort.{ComplexSort}
 use Rattle.resolved_sort.specs.Tree.{Flat, unit, primitive, def, typevar, Tree, flat, container, function, Trees, end as none, arg}
 use Rattle.resolved_sort.specs.Order.{boundFlat, boundOp, map₁, map₂, bound, bounds}
 use Rattle.sort_text.specs.Tokens.{isLetter}
-use Rattle.sort_text.specs.Parse.{parsed, sortWord, opWord, snoc, sort, line}
-use Rattle.sort_text.specs.Text.{flatText, between, arrow, text, texts, more}
+use Rattle.sort_text.specs.Parse.{parsed, snoc, line}
+use Rattle.sort_text.specs.Text.{flatText, text, texts, more}
 use Rattle.sort_text.proofs.Progress.{word-takes, open-bracket-takes, close-bracket-takes, hash-takes, arrow-takes}
-use Rattle.sort_text.proofs.Grammar.{Operand, basic-sort, container-of, SortOf, one-operand, function-of, Operands, first, another, sort-derived, line-derived}
+use Rattle.sort_text.proofs.Grammar.{Operand, basic-sort, container-of, SortOf, one-operand, function-of, Operands, first, another, line-derived}
 use Rattle.sort_text.proofs.Words.{sortWord-length, opWord-length, basic-long, over-long}
 
 -- the length of the text, were every word of four letters

@@ -1,18 +1,17 @@
 -- The line that a pair prints has at most 815 bytes, whatever the two lines are: the texts of join and meet by their bounds, and the
 -- rest by its clauses. Assumes nothing.
-use mathlib.Core.Path.{_≡_, refl, sym, _∙_, ap}
+use mathlib.Core.Path.{_≡_, refl}
 use mathlib.Core.Bool.{Bool, true, false, cond}
-use mathlib.Core.List.{List, [], _∷_, _++_}
+use mathlib.Core.List.{List, [], _∷_}
 use mathlib.Core.Option.{Option, none, some}
-use Prim.Native.Nat.{ℕ, _+_, _*_, _≤_, _/_, _%_}
+use Prim.Native.Nat.{ℕ, _+_, _≤_, _/_, _%_}
 use native.Mathlib.Omega.{arith}
 use lib.ListN.{length, length-append}
 use lib.Dec.{ltb}
 use borrow.Author.Tests.{leb-true}
 use Rattle.resolved_sort.specs.Tree.{Tree}
-use Rattle.resolved_sort.specs.Order.{bound, order, join, meet, Steps, distance, materializable}
+use Rattle.resolved_sort.specs.Order.{bound, Steps, distance, materializable}
 use Rattle.sort_text.specs.Parse.{Parsed, parsed, stuck, line}
-use Rattle.sort_text.specs.Text.{text}
 use Rattle.sort_text.specs.Reading.{shortLine}
 use Rattle.sort_text.specs.PairProgram.{decimal, sortOrNone, stepsOrNone, yesOrNo, answer, Line, good, wrong, read, lineOf, withFirst, withSecond, single, pair}
 use Rattle.sort_text.proofs.Suffix.{suffix-length, left, line-suffix}

@@ -1,19 +1,19 @@
 -- A pair never runs out of room (15): storing a sort makes at most as many sorts and entries as it has nodes, and a line of 200 bytes
 -- has at most 200 nodes. By the clauses of `store`. Assumes nothing.
-use mathlib.Core.Path.{_≡_, refl, sym, _∙_, ap, ap₂, subst}
+use mathlib.Core.Path.{_≡_, refl, sym, ap, ap₂, subst}
 use mathlib.Core.Bool.{Bool, true, false}
-use mathlib.Core.List.{List, []}
+use mathlib.Core.List.{List}
 use Prim.Native.Nat.{ℕ, _+_, _≤_, _<_}
 use native.Mathlib.Omega.{arith}
 use lib.ListN.{length}
 use Rattle.resolved_sort.specs.declared.ComplexSort.{ComplexSort}
 use Rattle.resolved_sort.specs.Tree.{Flat, Tree, flat, container, function, Trees, end as none, arg, arity}
-use Rattle.resolved_sort.specs.Interning.{Sorts, need, Outcome, made, nothing, full, _then_, intern, make}
+use Rattle.resolved_sort.specs.Interning.{Sorts, need, Outcome, made, nothing, full, intern, make}
 use Rattle.sort_text.specs.Parse.{parsed, line}
 use Rattle.sort_text.specs.Reading.{store, stores}
 use Rattle.sort_text.proofs.Readable.{size, sizes}
 use Rattle.sort_text.proofs.ReadSorts.{line-nodes}
-use Rattle.sort_text.proofs.Sizes.{entriesOf, entriesIn, entries-below-size, Spent, Within, within-more, within-weaker, within-then, intern-within, made-within, AnyTree, make-within}
+use Rattle.sort_text.proofs.Sizes.{entriesOf, entriesIn, entries-below-size, Spent, Within, within-more, within-then, intern-within, made-within, AnyTree, make-within}
 
 abbrev pub Is : {A : Type 0} → A → A → Type 0
 Is t u = u ≡ t

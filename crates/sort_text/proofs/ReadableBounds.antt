@@ -1,12 +1,11 @@
 -- A join or meet of two sorts that a line can spell is one that a line can spell: at each place it has a word of one of the two. So it
 -- has a text, and its text reads back. By the clauses of `bound`. Assumes nothing.
-use mathlib.Core.Path.{_≡_, refl, sym, _∙_, ap}
-use mathlib.Core.Bool.{Bool, true, false, cond, not, _&&_}
+use mathlib.Core.Path.{_≡_, refl, _∙_, ap}
+use mathlib.Core.Bool.{Bool, true, false, cond, not}
 use mathlib.Core.List.{List, []}
-use mathlib.Core.Option.{Option, some, none as no-tree}
+use mathlib.Core.Option.{some, none as no-tree}
 use Prim.Native.Nat.{ℕ, _+_}
 use lib.Dec.{eqb, leb}
-use Rattle.resolved_sort.specs.declared.ComplexSort.{ComplexSort}
 use Rattle.resolved_sort.specs.Tree.{Flat, Tree, flat, container, function, Trees, end as none, arg, arity, family, level}
 use Rattle.resolved_sort.specs.Order.{leLevel, boundFlat, boundOp, bound, bounds}
 use Rattle.sort_text.specs.Parse.{parsed, line, maxArguments}

@@ -1,8 +1,8 @@
 -- Room for joins and meets: a join or meet has as many nodes as its first sort, makes at most that many sorts and entries, and never
 -- runs out of room where that much is left. By the clauses of `bound` and `make`. Assumes nothing.
-use mathlib.Core.Path.{_≡_, refl, sym, _∙_, ap, subst}
-use mathlib.Core.Bool.{Bool, true, false, cond, not, _&&_}
-use mathlib.Core.List.{List, [], _∷_, _++_}
+use mathlib.Core.Path.{_≡_, refl, ap, subst}
+use mathlib.Core.Bool.{Bool, true, false, cond, not}
+use mathlib.Core.List.{[], _∷_, _++_}
 use mathlib.Core.Option.{Option, some, none as no-tree}
 use Prim.Native.Nat.{ℕ, _+_, _-_, _≤_, _<_}
 use native.Mathlib.Omega.{arith}
@@ -10,7 +10,7 @@ use lib.ListN.{length, length-append}
 use lib.Dec.{eqb, leb, ltb}
 use borrow.Author.Tests.{lt-ltb, le-leb}
 use Rattle.resolved_sort.specs.declared.ComplexSort.{ComplexSort}
-use Rattle.resolved_sort.specs.Tree.{Flat, Tree, flat, container, function, Trees, end as none, arg, arity, same}
+use Rattle.resolved_sort.specs.Tree.{Tree, flat, container, function, Trees, end as none, arg, arity, same}
 use Rattle.resolved_sort.specs.Order.{boundFlat, boundOp, bound, bounds}
 use Rattle.resolved_sort.specs.Interning.{Sorts, member, need, Outcome, made, nothing, full, _then_, where-some, fits, intern, make, makes}
 use Rattle.resolved_sort.proofs.Numbers.{true-not-false}
