@@ -4,7 +4,7 @@ pub mod Progress
 pub mod Depth
 pub mod Grammar
 pub mod Readable
-pub mod ReadSorts
+pub mod WhatIsRead
 pub mod RoundTrip
 pub mod Words
 pub mod Length

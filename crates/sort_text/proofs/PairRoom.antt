@@ -12,7 +12,7 @@ use Rattle.resolved_sort.specs.Interning.{Sorts, need, Outcome, made, nothing, 
 use Rattle.sort_text.specs.Parse.{parsed, line}
 use Rattle.sort_text.specs.Reading.{store, stores}
 use Rattle.sort_text.proofs.Readable.{size, sizes}
-use Rattle.sort_text.proofs.ReadSorts.{line-nodes}
+use Rattle.sort_text.proofs.WhatIsRead.{line-nodes}
 use Rattle.sort_text.proofs.Sizes.{entriesOf, entriesIn, entries-below-size, Spent, Within, within-more, within-then, intern-within, made-within, AnyTree, make-within}
 
 abbrev pub Is : {A : Type 0} → A → A → Type 0

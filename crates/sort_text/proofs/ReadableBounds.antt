@@ -11,7 +11,7 @@ use Rattle.resolved_sort.specs.Order.{leLevel, boundFlat, boundOp, bound, bound
 use Rattle.sort_text.specs.Parse.{parsed, line, maxArguments}
 use Rattle.sort_text.specs.Text.{some as has, flatWritable, writable, text}
 use Rattle.sort_text.proofs.Readable.{isFunction, readable, arguments, function-readable, readable-function, argument-readable, readable-argument, readable-parts}
-use Rattle.sort_text.proofs.ReadSorts.{line-readable}
+use Rattle.sort_text.proofs.WhatIsRead.{line-readable}
 use Rattle.sort_text.proofs.RoundTrip.{line-of-text}
 use Rattle.sort_text.proofs.Length.{IfSome, map₁-if-some, map₂-if-some, any, if-some-is}
 

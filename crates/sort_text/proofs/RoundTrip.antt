@@ -16,7 +16,7 @@ use Rattle.sort_text.specs.Parse.{parsed, _then_, sameBytes, sortWord, o
 use Rattle.sort_text.specs.Text.{some, flatWritable, writable, between, arrow, text, texts, more}
 use Rattle.sort_text.proofs.Depth.{sort-is}
 use Rattle.sort_text.proofs.Readable.{isFunction, readable, arguments, few, noFunctionArgument, and-left, and-right, function-readable, argument-readable, parts-readable}
-use Rattle.sort_text.proofs.ReadSorts.{line-readable}
+use Rattle.sort_text.proofs.WhatIsRead.{line-readable}
 
 -- a word of letters before what starts with no letter is one token
 abbrev pub noLetter : List ℕ → Bool
