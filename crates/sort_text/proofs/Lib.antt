@@ -1,4 +1,6 @@
 pub mod Examples
+pub mod Stores
+pub mod Running
 pub mod Suffix
 pub mod Progress
 pub mod Depth
@@ -8,10 +10,8 @@ pub mod WhatIsRead
 pub mod RoundTrip
 pub mod Words
 pub mod Length
+pub mod Exactly
 pub mod Sizes
 pub mod ReadableBounds
-pub mod Stores
-pub mod Running
 pub mod PairRoom
 pub mod PairLength
-pub mod Exactly

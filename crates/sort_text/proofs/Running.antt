@@ -13,28 +13,23 @@ use Rattle.resolved_sort.specs.Interning.{Sorts, member, Outcome, made, nothing
 use Rattle.resolved_sort.proofs.RowTrees.{members}
 use Rattle.resolved_sort.proofs.Grown.{Grown}
 use Rattle.resolved_sort.proofs.Kept.{Extends, extends-refl, member-extends, Kept, InTree, kept-then, container-interned, function-interned}
-use Rattle.sort_text.specs.Postfix.{sixth, opOf, over, Taken, taken, short, takeArguments, applied, mapping, stepOn, top, steps}
+use Rattle.sort_text.specs.Postfix.{Short, sixth, opOf, over, Taken, taken, short, takeArguments, applied, mapping, stepOn, top, steps}
 
 -- the sorts of a stack are in the list
 unfoldable pub InStack : Sorts → List Tree → Type 0
 InStack S [] = Unit {0}
 InStack S (t ∷ st) = (member (S .trees) t ≡ true) × InStack S st
 
--- no step makes a function of more than 16 arguments
-unfoldable pub Short : List ℕ → Type 0
-Short [] = Unit {0}
-Short (op ∷ ops) = (op ≤ 32) × Short ops
-
 -- the fixed six are in the list
 abbrev pub HasSix : Sorts → Type 0
 HasSix S = (k : ℕ) → k < 6 → member (S .trees) (sixth k) ≡ true
 
-stack-extends : (S S′ : Sorts) (st : List Tree) → Extends S S′ → InStack S st → InStack S′ st
+pub stack-extends : (S S′ : Sorts) (st : List Tree) → Extends S S′ → InStack S st → InStack S′ st
 unfolding InStack
 stack-extends S S′ [] x h = tt
 stack-extends S S′ (t ∷ st) x h = (member-extends S S′ t x (h .0), stack-extends S S′ st x (h .1))
 
-six-extends : (S S′ : Sorts) → Extends S S′ → HasSix S → HasSix S′
+pub six-extends : (S S′ : Sorts) → Extends S S′ → HasSix S → HasSix S′
 six-extends S S′ x h k l = member-extends S S′ (sixth k) x (h k l)
 
 -- the arguments that are taken off a stack, and what is left

@@ -112,11 +112,11 @@ unfoldable pub pushes : Trees → List Tree → List Tree
 pushes end st = st
 pushes (arg t ts) st = pushes ts (t ∷ st)
 
-unfoldable append : Trees → Trees → Trees
+unfoldable pub append : Trees → Trees → Trees
 append end us = us
 append (arg t ts) us = arg t (append ts us)
 
-append-end : (ts : Trees) → append ts end ≡ ts
+pub append-end : (ts : Trees) → append ts end ≡ ts
 unfolding append
 append-end end = refl
 append-end (arg t ts) = ap (arg t) (append-end ts)

@@ -2,7 +2,7 @@
 -- carries them out on a stack, so that a line which is no sort stores nothing.
 use mathlib.Core.Bool.{Bool, true, false, cond}
 use mathlib.Core.List.{List, [], _∷_, _++_}
-use Prim.Native.Nat.{ℕ, zero, suc, _+_, _-_}
+use Prim.Native.Nat.{ℕ, zero, suc, _+_, _-_, _≤_}
 use lib.ListN.{length, getD}
 use lib.Dec.{leb, ltb}
 use Rattle.resolved_sort.specs.declared.Sort.{Sort}
@@ -67,3 +67,8 @@ top (t ∷ st) S = made t S
 unfoldable pub steps : List ℕ → List Tree → Sorts → Outcome Tree
 steps [] st S = top st S
 steps (op ∷ ops) st S = stepOn op st S then (λ st S. steps ops st S)
+
+-- no step makes a function of more than 16 arguments
+unfoldable pub Short : List ℕ → Type 0
+Short [] = Unit {0}
+Short (op ∷ ops) = (op ≤ 32) × Short ops
