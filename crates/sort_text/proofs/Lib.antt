@@ -15,3 +15,4 @@ pub mod Sizes
 pub mod ReadableBounds
 pub mod PairRoom
 pub mod PairLength
+pub mod LineSteps

@@ -9,6 +9,7 @@ use lib.ListN.{length}
 use Rattle.resolved_sort.specs.declared.ComplexSort.{ComplexSort}
 use Rattle.resolved_sort.specs.Tree.{Flat, Tree, flat, container, function, Trees, end as none, arg, arity}
 use Rattle.resolved_sort.specs.Interning.{Sorts, need, Outcome, made, nothing, full, intern, make}
+use Rattle.resolved_sort.specs.Storage.{sortsOf}
 use Rattle.sort_text.specs.Parse.{parsed, line}
 use Rattle.sort_text.specs.Reading.{store, stores}
 use Rattle.sort_text.proofs.Readable.{size, sizes}
@@ -88,22 +89,32 @@ make-fits up s t S p q =
     within-fits AnyTree (size s) (size s) S (make up s t S)
     (within-more AnyTree (size s) (entriesOf s) (size s) (size s) S (make up s t S) (omega arith) (omega arith) (make-within up s t S p (omega arith)))
 
--- Both sorts of a pair stored, then their join, then their meet: each fits where 800 sorts and 800 entries are free. The fixed six
--- leave 1,018 and 4,096.
+-- Both sorts of a pair stored, then their join, then their meet, each from what the one before leaves: none finds room ended.
+abbrev pub twoStored : Tree → Tree → Sorts → Sorts
+twoStored s t S = listAfter (store t (listAfter (store s S)))
+
+pub record PairFits (s t : Tree) (S : Sorts) : Type 0 where
+  pub first : isFull (store s S) ≡ false
+  pub second : isFull (store t (listAfter (store s S))) ≡ false
+  pub join : isFull (make true s t (twoStored s t S)) ≡ false
+  pub meet : isFull (make false s t (listAfter (make true s t (twoStored s t S)))) ≡ false
+
+-- 800 sorts and 800 entries are room enough.
 pub pair-fits : (bs cs bs′ cs′ : List ℕ) (s t : Tree) (S : Sorts) → length bs ≤ 200 → length bs′ ≤ 200 → line bs ≡ parsed s cs → line bs′ ≡ parsed t cs′
-    → 800 ≤ S .rows → 800 ≤ S .entries
-    → (isFull (store s S) ≡ false)
-    × (isFull (store t (listAfter (store s S))) ≡ false)
-    × (isFull (make true s t (listAfter (store t (listAfter (store s S))))) ≡ false)
-    × (isFull (make false s t (listAfter (make true s t (listAfter (store t (listAfter (store s S))))))) ≡ false)
+    → 800 ≤ S .rows → 800 ≤ S .entries → PairFits s t S
 pair-fits bs cs bs′ cs′ s t S l l′ e e′ p q =
     let m = line-nodes bs cs s e in
     let m′ = line-nodes bs′ cs′ t e′ in
     let S₁ = listAfter (store s S) in
     let a = store-fits s S (omega arith) (omega arith) in
-    let S₂ = listAfter (store t S₁) in
+    let S₂ = twoStored s t S in
     let b = store-fits t S₁ (omega (arith, a .1)) (omega (arith, a .1)) in
     let S₃ = listAfter (make true s t S₂) in
     let c = make-fits true s t S₂ (omega (arith, a .1, b .1)) (omega (arith, a .1, b .1)) in
     let d = make-fits false s t S₃ (omega (arith, a .1, b .1, c .1)) (omega (arith, a .1, b .1, c .1)) in
-    (a .0, b .0, c .0, d .0)
+    record { first = a .0; second = b .0; join = c .0; meet = d .0 }
+
+-- The fixed six sorts leave 1,018 sorts and 4,096 entries, so a pair always fits.
+pub pair-fits-from-six : (bs cs bs′ cs′ ws : List ℕ) (s t : Tree) → length bs ≤ 200 → length bs′ ≤ 200 → line bs ≡ parsed s cs → line bs′ ≡ parsed t cs′
+    → PairFits s t (sortsOf ws 6 0)
+pair-fits-from-six bs cs bs′ cs′ ws s t l l′ e e′ = pair-fits bs cs bs′ cs′ s t (sortsOf ws 6 0) l l′ e e′ (omega arith) (omega arith)
