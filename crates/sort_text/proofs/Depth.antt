@@ -1,14 +1,14 @@
 -- The length of a line is depth enough: each call of the reader is made on fewer bytes, so readers that agree on shorter lists
 -- make the same of a line, and `sort` satisfies its own equation. By the clauses of the definitions. Assumes nothing.
-use mathlib.Core.Path.{_≡_, refl, sym, _∙_, ap}
-use mathlib.Core.List.{List, [], _∷_}
-use Prim.Native.Nat.{ℕ, zero, suc, _+_, _≤_, _<_}
+use mathlib.Core.Path.{_≡_, refl, _∙_, ap}
+use mathlib.Core.List.{List}
+use Prim.Native.Nat.{ℕ, zero, suc, _≤_, _<_}
 use native.Mathlib.Omega.{arith}
 use lib.ListN.{length}
 use Rattle.resolved_sort.specs.declared.ComplexSort.{ComplexSort}
 use Rattle.resolved_sort.specs.Tree.{Tree, function, Trees, end as none, arg}
 use Rattle.sort_text.specs.Tokens.{isLetter, Next, end, word, open-bracket, close-bracket, hash, arrow, bad, skip, next}
-use Rattle.sort_text.specs.Parse.{Parsed, parsed, stuck, _then_, Meaning, basic, over, unknown, meaning, closing, bracketed, operandOf, operandAt, operand, snoc, alone, restAt, rest, sortTo, sort}
+use Rattle.sort_text.specs.Parse.{Parsed, parsed, stuck, _then_, Meaning, basic, over, unknown, meaning, closing, bracketed, operandOf, operandAt, operand, snoc, restAt, rest, sortTo, sort}
 use Rattle.sort_text.proofs.Suffix.{suffix-length, left, Leaves, operand-suffix, sortTo-suffix}
 use Rattle.sort_text.proofs.Progress.{word-takes, open-bracket-takes, hash-takes, arrow-takes}
 

@@ -1,14 +1,14 @@
 -- The grammar as derivations: what each answer of the reader rests on, so that a law of read sorts goes by induction on how they
 -- were read. A sort that is read has a derivation, by the clauses of the definitions. Assumes nothing.
-use mathlib.Core.Path.{_≡_, refl, sym, _∙_, ap, subst}
-use mathlib.Core.List.{List, [], _∷_}
-use Prim.Native.Nat.{ℕ, zero, suc, _+_, _≤_, _<_}
+use mathlib.Core.Path.{_≡_, refl}
+use mathlib.Core.List.{List, []}
+use Prim.Native.Nat.{ℕ, zero, suc, _+_, _≤_}
 use native.Mathlib.Omega.{arith}
 use Rattle.resolved_sort.specs.declared.Sort.{Sort}
 use Rattle.resolved_sort.specs.declared.ComplexSort.{ComplexSort}
 use Rattle.resolved_sort.specs.Tree.{primitive, Tree, flat, container, function, Trees, end as none, arg, arity}
 use Rattle.sort_text.specs.Tokens.{isLetter, Next, end, word, open-bracket, close-bracket, hash, arrow, bad, skip, next}
-use Rattle.sort_text.specs.Parse.{Parsed, parsed, stuck, _then_, Meaning, basic, over, unknown, meaning, closing, bracketed, operandOf, operandAt, operand, snoc, alone, restAt, rest, sortTo, sort, ending, line}
+use Rattle.sort_text.specs.Parse.{Parsed, parsed, _then_, Meaning, basic, over, unknown, meaning, closing, bracketed, operandOf, operandAt, operand, snoc, alone, restAt, rest, sortTo, sort, ending, line}
 use Rattle.sort_text.proofs.Progress.{IfRead, then-if-read, read}
 
 -- the sort, operand or operands that the bytes begin with, and the bytes after it

@@ -1,20 +1,21 @@
 -- Bounds for buffers: with four letters for every word, the text of a sort, and of a join or meet of it with another sort, stays
 -- below twice the line that it was read from. By induction on the sort and on its derivation. Assumes nothing.
-use mathlib.Core.Path.{_≡_, refl, sym, _∙_, ap, ap₂, subst}
+use mathlib.Core.Path.{_≡_, refl, ap, subst}
 use mathlib.Core.Bool.{Bool, true, false, cond, not}
-use mathlib.Core.List.{List, [], _∷_, _++_}
+use mathlib.Core.List.{List}
 use mathlib.Core.Option.{Option, some, none as no-tree}
-use Prim.Native.Nat.{ℕ, _+_, _*_, _≤_, _<_}
+use Prim.Native.Nat.{ℕ, _+_, _*_, _≤_}
 use native.Mathlib.Omega.{arith}
 use lib.ListN.{length, length-append}
+use lib.Dec.{eqb}
 use Rattle.resolved_sort.specs.declared.ComplexSort.{ComplexSort}
-use Rattle.resolved_sort.specs.Tree.{Flat, unit, primitive, def, typevar, Tree, flat, container, function, Trees, end as none, arg}
-use Rattle.resolved_sort.specs.Order.{boundFlat, boundOp, map₁, map₂, bound, bounds}
+use Rattle.resolved_sort.specs.Tree.{Flat, unit, primitive, def, typevar, Tree, flat, container, function, Trees, end as none, arg, family, level, familyOp, levelOp}
+use Rattle.resolved_sort.specs.Order.{leLevel, boundFlat, boundOp, map₁, map₂, bound, bounds}
 use Rattle.sort_text.specs.Tokens.{isLetter}
-use Rattle.sort_text.specs.Parse.{parsed, sortWord, opWord, snoc, sort, line}
-use Rattle.sort_text.specs.Text.{flatText, between, arrow, text, texts, more}
+use Rattle.sort_text.specs.Parse.{parsed, opWord, snoc, line}
+use Rattle.sort_text.specs.Text.{flatText, text, texts, more}
 use Rattle.sort_text.proofs.Progress.{word-takes, open-bracket-takes, close-bracket-takes, hash-takes, arrow-takes}
-use Rattle.sort_text.proofs.Grammar.{Operand, basic-sort, container-of, SortOf, one-operand, function-of, Operands, first, another, sort-derived, line-derived}
+use Rattle.sort_text.proofs.Grammar.{Operand, basic-sort, container-of, SortOf, one-operand, function-of, Operands, first, another, line-derived}
 use Rattle.sort_text.proofs.Words.{sortWord-length, opWord-length, basic-long, over-long}
 
 -- the length of the text, were every word of four letters
@@ -103,7 +104,7 @@ map₂-if-some P Q R f no-tree y h i k = tt
 map₂-if-some P Q R f (some a) no-tree h i k = tt
 map₂-if-some P Q R f (some a) (some b) h i k = k a b h i
 
-any : {A : Type 0} (x : Option A) → IfSome (λ a. Unit {0}) x
+pub any : {A : Type 0} (x : Option A) → IfSome (λ a. Unit {0}) x
 any no-tree = tt
 any (some a) = tt
 
@@ -146,6 +147,74 @@ bound-wide up s t u e = if-some-is (λ v. wide v ≡ wide s) (bound up s t) u (w
 -- The text of a join or meet is at most twice the line of either sort.
 pub line-bound-length : (bs cs : List ℕ) (s t u : Tree) (up : Bool) → line bs ≡ parsed s cs → bound up s t ≡ some u → length (text u) + 2 ≤ 2 * length bs
 line-bound-length bs cs s t u up e h = omega (arith, line-wide bs cs s e, bound-wide up s t u h, text-length u)
+
+-- Of any two sorts: at each place the text has a word of one of the two.
+flat-either : (a b : Flat) (f l : Bool) → IfSome (λ c. length (flatText c) ≤ length (flatText a) + length (flatText b)) (cond f (some (cond l b a)) no-tree)
+flat-either a b true true = omega arith
+flat-either a b true false = omega arith
+flat-either a b false l = tt
+
+op-either : (o p : ComplexSort) (f l : Bool) → IfSome (λ q. length (opWord q) ≤ length (opWord o) + length (opWord p)) (cond f (some (cond l p o)) no-tree)
+op-either o p true true = omega arith
+op-either o p true false = omega arith
+op-either o p false l = tt
+
+flat-bound-text : (up : Bool) (a b : Flat) → IfSome (λ c. length (flatText c) ≤ length (flatText a) + length (flatText b)) (boundFlat up a b)
+unfolding boundFlat
+flat-bound-text up a b = flat-either a b (eqb (family a) (family b)) (leLevel up (level a) (level b))
+
+op-bound-text : (up : Bool) (o p : ComplexSort) → IfSome (λ q. length (opWord q) ≤ length (opWord o) + length (opWord p)) (boundOp up o p)
+unfolding boundOp
+op-bound-text up o p = op-either o p (eqb (familyOp o) (familyOp p)) (leLevel up (levelOp o) (levelOp p))
+
+-- no longer than both texts
+abbrev Both : Tree → Tree → Tree → Type 0
+Both s t u = length (text u) ≤ length (text s) + length (text t)
+
+abbrev BothAll : Trees → Trees → Trees → Type 0
+BothAll ss ts us = (length (texts us) ≤ length (texts ss) + length (texts ts)) × (length (more us) ≤ length (more ss) + length (more ts))
+
+container-both : (o p q : ComplexSort) (s t v : Tree) → length (opWord q) ≤ length (opWord o) + length (opWord p) → Both s t v → Both (container o s) (container p t) (container q v)
+unfolding text
+container-both o p q s t v h k = simp length-append (omega arith)
+
+function-both : (ss ts vs : Trees) (r u v : Tree) → BothAll ss ts vs → Both r u v → Both (function ss r) (function ts u) (function vs v)
+unfolding text
+function-both ss ts vs r u v h k = simp length-append (omega arith)
+
+argument-both : (s t v : Tree) (ss ts vs : Trees) → Both s t v → BothAll ss ts vs → BothAll (arg s ss) (arg t ts) (arg v vs)
+unfolding texts more
+argument-both s t v ss ts vs h k = (simp length-append (omega (arith, h, k)), simp length-append (omega (arith, h, k)))
+
+mutual
+  unfolding bound bounds text texts more
+
+  both-if-bound : (up : Bool) (s t : Tree) → IfSome (Both s t) (bound up s t)
+  both-if-bound up (flat a) (flat b) =
+      map₁-if-some (λ c. length (flatText c) ≤ length (flatText a) + length (flatText b)) (Both (flat a) (flat b)) flat (boundFlat up a b) (flat-bound-text up a b) (λ c h. h)
+  both-if-bound up (flat a) (container p t) = tt
+  both-if-bound up (flat a) (function ts u) = tt
+  both-if-bound up (container o s) (flat b) = tt
+  both-if-bound up (container o s) (container p t) =
+      map₂-if-some (λ q. length (opWord q) ≤ length (opWord o) + length (opWord p)) (Both s t) (Both (container o s) (container p t)) container (boundOp up o p) (bound up s t)
+      (op-bound-text up o p) (both-if-bound up s t) (λ q v h k. container-both o p q s t v h k)
+  both-if-bound up (container o s) (function ts u) = tt
+  both-if-bound up (function ss r) (flat b) = tt
+  both-if-bound up (function ss r) (container p t) = tt
+  both-if-bound up (function ss r) (function ts u) =
+      map₂-if-some (BothAll ss ts) (Both r u) (Both (function ss r) (function ts u)) function (bounds (not up) ss ts) (bound up r u) (boths-if-bound (not up) ss ts) (both-if-bound up r u)
+      (λ vs v h k. function-both ss ts vs r u v h k)
+
+  boths-if-bound : (up : Bool) (ss ts : Trees) → IfSome (BothAll ss ts) (bounds up ss ts)
+  boths-if-bound up none none = omega arith
+  boths-if-bound up none (arg t ts) = tt
+  boths-if-bound up (arg s ss) none = tt
+  boths-if-bound up (arg s ss) (arg t ts) =
+      map₂-if-some (Both s t) (BothAll ss ts) (BothAll (arg s ss) (arg t ts)) arg (bound up s t) (bounds up ss ts) (both-if-bound up s t) (boths-if-bound up ss ts)
+      (λ v vs h k. argument-both s t v ss ts vs h k)
+
+pub bound-text-length : (up : Bool) (s t u : Tree) → bound up s t ≡ some u → length (text u) ≤ length (text s) + length (text t)
+bound-text-length up s t u e = if-some-is (Both s t) (bound up s t) u (both-if-bound up s t) e
 
 -- For lines of at most 200 bytes.
 pub text-below-400 : (bs cs : List ℕ) (t : Tree) → length bs ≤ 200 → line bs ≡ parsed t cs → length (text t) ≤ 398

@@ -10,3 +10,9 @@ pub mod WhatIsRead
 pub mod RoundTrip
 pub mod Words
 pub mod Length
+pub mod Exactly
+pub mod Sizes
+pub mod ReadableBounds
+pub mod PairRoom
+pub mod PairLength
+pub mod LineSteps

@@ -1,16 +1,15 @@
 -- Reading goes on: every token but the end and a bad one takes its bytes, so an operand or a sort takes at least one byte of the
 -- line. By the clauses of the definitions. Assumes nothing.
-use mathlib.Core.Path.{_≡_, refl, sym, _∙_, ap, subst}
+use mathlib.Core.Path.{_≡_, refl, ap, subst}
 use mathlib.Core.Bool.{Bool, true, false, cond}
-use mathlib.Core.List.{List, [], _∷_, _++_}
+use mathlib.Core.List.{List, [], _∷_}
 use Prim.Native.Nat.{ℕ, zero, suc, _+_, _≤_, _<_}
 use native.Mathlib.Omega.{arith}
 use lib.ListN.{length, length-append}
 use lib.Dec.{eqb}
-use Rattle.resolved_sort.specs.declared.ComplexSort.{ComplexSort}
-use Rattle.resolved_sort.specs.Tree.{Tree, Trees, end as none, arg}
+use Rattle.resolved_sort.specs.Tree.{Tree, end as none, arg}
 use Rattle.sort_text.specs.Tokens.{isLetter, Next, end, word, open-bracket, close-bracket, hash, arrow, bad, run, past, skip, dash, start, nextAt, next}
-use Rattle.sort_text.specs.Parse.{Parsed, parsed, stuck, _then_, Meaning, basic, over, unknown, meaning, closing, bracketed, operandOf, operandAt, operand, rest, sortTo, sort, line}
+use Rattle.sort_text.specs.Parse.{Parsed, parsed, stuck, _then_, Meaning, basic, over, unknown, meaning, bracketed, operandOf, operandAt, operand, rest, sortTo, sort}
 use Rattle.sort_text.proofs.Suffix.{after, suffix-length, skip-suffix, next-suffix, run-past, left, Leaves, bracketed-suffix, rest-suffix, sortTo-suffix}
 
 -- the bytes of a token, and 1 for a token that is there

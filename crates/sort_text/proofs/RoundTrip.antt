@@ -1,18 +1,18 @@
 -- Reading the text of a sort gives that sort, for the sorts that a line can spell: by induction on the sort, with the equation that
 -- `sort` satisfies. Nothing is said of functions as arguments. Assumes nothing.
 use mathlib.Core.Path.{_≡_, refl, sym, _∙_, ap, ap₂}
-use mathlib.Core.Bool.{Bool, true, false, cond, not, _&&_, _||_}
+use mathlib.Core.Bool.{Bool, true, false, cond, not, _&&_}
+use mathlib.Core.Logic.{_↔_}
 use mathlib.Core.List.{List, [], _∷_, _++_, append-assoc, append-nil}
-use Prim.Native.Nat.{ℕ, zero, suc, _+_, _≤_, _<_}
+use Prim.Native.Nat.{ℕ, zero, suc, _≤_}
 use native.Mathlib.Omega.{arith}
-use lib.ListN.{length}
-use lib.Dec.{eqb, leb}
+use lib.Dec.{eqb}
 use borrow.Author.Tests.{not-true, leb-true}
 use Rattle.resolved_sort.specs.declared.Sort.{Sort}
 use Rattle.resolved_sort.specs.declared.ComplexSort.{ComplexSort}
 use Rattle.resolved_sort.specs.Tree.{Flat, unit, primitive, def, typevar, Tree, flat, container, function, Trees, end as none, arg, arity}
-use Rattle.sort_text.specs.Tokens.{isLetter, Next, end, word, open-bracket, close-bracket, hash, arrow as arrow-token, bad, run, past, skip, start, nextAt, next}
-use Rattle.sort_text.specs.Parse.{Parsed, parsed, stuck, _then_, sameBytes, sortWord, opWord, Meaning, basic, over, unknown, meaning, closing, bracketed, operandOf, operandAt, operand, snoc, alone, restAt, rest, sort, ending, line, maxArguments}
+use Rattle.sort_text.specs.Tokens.{isLetter, Next, word, run, past, skip, start, nextAt, next}
+use Rattle.sort_text.specs.Parse.{parsed, _then_, sameBytes, sortWord, opWord, basic, over, meaning, closing, bracketed, operandOf, operandAt, operand, snoc, alone, restAt, rest, sort, ending, line}
 use Rattle.sort_text.specs.Text.{some, flatWritable, writable, between, arrow, text, texts, more}
 use Rattle.sort_text.proofs.Depth.{sort-is}
 use Rattle.sort_text.proofs.Readable.{isFunction, readable, arguments, few, noFunctionArgument, and-left, and-right, function-readable, argument-readable, parts-readable}
@@ -129,17 +129,17 @@ rest-ends t nothing = refl
 rest-ends t bracket = refl
 
 -- the text of a sort, and of an operand, read
-abbrev pub Read : Tree → Type 0
-Read t = (rs : List ℕ) → Ending rs → sort (text t ++ rs) ≡ parsed t rs
+abbrev pub ReadsBack : Tree → Type 0
+ReadsBack t = (rs : List ℕ) → Ending rs → sort (text t ++ rs) ≡ parsed t rs
 
-abbrev pub ReadOperand : Tree → Type 0
-ReadOperand t = (rs : List ℕ) → noLetter rs ≡ true → operand sort (text t ++ rs) ≡ parsed t rs
+abbrev pub OperandReadsBack : Tree → Type 0
+OperandReadsBack t = (rs : List ℕ) → noLetter rs ≡ true → operand sort (text t ++ rs) ≡ parsed t rs
 
 -- an operand alone is a sort
-operand-sort : (t : Tree) → ReadOperand t → Read t
+operand-sort : (t : Tree) → OperandReadsBack t → ReadsBack t
 operand-sort t h rs e = sort-is (text t ++ rs) ∙ (ap (λ p. p then (λ u cs. rest sort 15 (arg u none) cs)) (h rs (ending-no-letter e)) ∙ rest-ends t e)
 
-operand-flat : (a : Flat) → flatWritable a ≡ true → ReadOperand (flat a)
+operand-flat : (a : Flat) → flatWritable a ≡ true → OperandReadsBack (flat a)
 unfolding operand operandAt operandOf text
 operand-flat unit w rs n = cc
 operand-flat (primitive s) w rs n =
@@ -161,7 +161,7 @@ operand-over o bs =
     ap (operandAt sort (skip (opWord o ++ (40 ∷ bs)))) (next-opWord o (40 ∷ bs) refl)
     ∙ (ap (λ m. operandOf sort (skip (opWord o ++ (40 ∷ bs))) m (40 ∷ bs)) (meaning-opWord o) ∙ opens o (skip (40 ∷ bs)) bs)
 
-operand-container : (o : ComplexSort) (t : Tree) → Read t → ReadOperand (container o t)
+operand-container : (o : ComplexSort) (t : Tree) → ReadsBack t → OperandReadsBack (container o t)
 unfolding text
 operand-container o t h rs n =
     ap (operand sort) (append-assoc (opWord o) (40 ∷ (text t ++ (41 ∷ []))) rs ∙ ap (λ x. opWord o ++ (40 ∷ x)) (append-assoc (text t) (41 ∷ []) rs))
@@ -213,7 +213,7 @@ no-function e = let z : _≡_ {A = ℕ} 0 1 = cc in absurd (omega arith)
 mutual
   unfolding readable arguments text texts more arity snocs
 
-  sort-text : (t : Tree) → readable t ≡ true → Read t
+  sort-text : (t : Tree) → readable t ≡ true → ReadsBack t
   sort-text (flat a) h = operand-sort (flat a) (operand-flat a h)
   sort-text (container o t) h = operand-sort (container o t) (operand-container o t (sort-text t h))
   sort-text (function ts r) h =
@@ -221,7 +221,7 @@ mutual
       λ rs e. ap sort (append-assoc (texts ts) (arrow ++ text r) rs) ∙ (sort-is (texts ts ++ (arrow ++ (text r ++ rs)))
       ∙ operands-text ts (p .0) (p .2) (leb-true (arity ts) 16 (p .1)) r rs (sort-text r (p .3) rs e))
 
-  operand-text : (t : Tree) → not (isFunction t) ≡ true → readable t ≡ true → ReadOperand t
+  operand-text : (t : Tree) → not (isFunction t) ≡ true → readable t ≡ true → OperandReadsBack t
   operand-text (flat a) n h = operand-flat a h
   operand-text (container o t) n h = operand-container o t (sort-text t h)
   operand-text (function ts r) n h = no-function n
@@ -276,3 +276,7 @@ text-injective s t h k e =
 -- What is read reads the same from its text.
 pub read-again : (bs cs : List ℕ) (t : Tree) → line bs ≡ parsed t cs → line (text t) ≡ parsed t []
 read-again bs cs t e = line-of-text t (line-readable bs cs t e)
+
+-- The sorts that some line spells are the readable ones.
+pub spelled-exactly : (t : Tree) → (readable t ≡ true) ↔ ((bs : List ℕ) × (line bs ≡ parsed t []))
+spelled-exactly t = (λ h. (text t, line-of-text t h), λ p. line-readable (p .0) [] t (p .1))

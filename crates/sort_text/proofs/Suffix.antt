@@ -1,11 +1,12 @@
 -- What reading leaves is an end of the line: each token, operand and sort takes bytes from the front. By the clauses of the
 -- definitions, and by induction on the depth. Assumes nothing.
-use mathlib.Core.Path.{_≡_, refl, sym, _∙_, ap}
+use mathlib.Core.Path.{_≡_, refl, sym, _∙_, ap, ap₂, subst}
 use mathlib.Core.Bool.{Bool, true, false, cond}
 use mathlib.Core.List.{List, [], _∷_, _++_, append-assoc, append-nil}
-use Prim.Native.Nat.{ℕ, zero, suc, _+_, _≤_}
+use Prim.Native.Nat.{ℕ, zero, suc, _-_, _≤_}
 use native.Mathlib.Omega.{arith}
-use lib.ListN.{length, length-append}
+use lib.ListN.{length, drop, length-append}
+use lib.Seq.{drop-append-seam}
 use lib.Dec.{eqb}
 use Rattle.resolved_sort.specs.declared.ComplexSort.{ComplexSort}
 use Rattle.resolved_sort.specs.Tree.{Tree, Trees, end as none, arg}
@@ -205,3 +206,12 @@ sort-suffix bs = sortTo-suffix (suc (length bs)) bs
 pub line-suffix : Leaves line
 unfolding line
 line-suffix bs = then-suffix (sort bs) _ bs (sort-suffix bs) (λ t cs. ending-suffix t (skip cs) cs (next isLetter cs) (skip-suffix cs))
+
+-- The unread end is what is left of the line from its place on.
+pub suffix-drop : (cs bs : List ℕ) → Suffix cs bs → drop (length bs - length cs) bs ≡ cs
+suffix-drop cs bs p =
+    let e : length bs - length cs ≡ length (p .front) = omega (arith, simp length-append at (ap length (p .whole))) in
+    ap₂ drop e (p .whole) ∙ drop-append-seam (p .front) cs
+
+pub unread-end : (bs cs : List ℕ) → line bs ≡ stuck cs → drop (length bs - length cs) bs ≡ cs
+unread-end bs cs e = suffix-drop cs bs (subst (λ p. Suffix (left p) bs) e (line-suffix bs))

@@ -1,14 +1,13 @@
 -- What is read: a line that is read is read to its end, its sort is one that a line can spell, and the sort has no more nodes than
 -- the line has bytes. (Exactly one tree: `line` is a function.) By induction on the derivation. Assumes nothing.
-use mathlib.Core.Path.{_≡_, refl, ap}
-use mathlib.Core.Bool.{Bool, true, false, not, _&&_}
+use mathlib.Core.Path.{_≡_, refl}
+use mathlib.Core.Bool.{true, not}
 use mathlib.Core.List.{List, []}
 use Prim.Native.Nat.{ℕ, _+_, _≤_}
 use native.Mathlib.Omega.{arith}
 use lib.ListN.{length}
-use lib.Dec.{leb}
 use borrow.Author.Tests.{le-leb}
-use Rattle.resolved_sort.specs.Tree.{Tree, flat, container, function, Trees, end as none, arg, arity}
+use Rattle.resolved_sort.specs.Tree.{Tree, Trees, end as none, arg, arity}
 use Rattle.sort_text.specs.Tokens.{isLetter}
 use Rattle.sort_text.specs.Parse.{parsed, snoc, sort, line}
 use Rattle.sort_text.specs.Text.{some, writable}
