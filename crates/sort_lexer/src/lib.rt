@@ -1,0 +1,141 @@
+// Tokens of a line of sort text, over the line's bytes and a position. A position past the end counts as the end, so no
+// function here has a precondition.
+use resolved_sort::ComplexSort;
+use resolved_sort::Sort;
+ghost use mathlib.Core.Path.{_≡_};
+ghost use Prim.Native.Nat.{_-_};
+ghost use lib.ListN.{take, drop};
+ghost use Rattle.sort_text.specs.Tokens.{isLetter, skip, past};
+ghost use Rattle.sort_text.specs.Parse.{sameBytes, meaning};
+ghost use Rattle.sort_lexer.specs.Lexeme.{place, lexemeOf};
+ghost use Rattle.sort_lexer.specs.Meant.{meant};
+
+// A token of a line: a longest run of letters, `(`, `)`, `#`, `->`; any other byte starts a token that cannot follow.
+pub enum Token {
+    End,
+    Word,
+    Open,
+    Close,
+    Hash,
+    Arrow,
+    Bad,
+}
+
+// A token, where it starts, and the position after it: for End and Bad where they start.
+pub struct Lexeme {
+    pub token: Token,
+    pub at: usize,
+    pub next: usize,
+}
+
+// What a word says: a basic sort, a container, or nothing.
+pub enum Meaning {
+    Basic(Sort),
+    Over(ComplexSort),
+    Unknown,
+}
+
+// A byte of a word: A to Z and a to z, and no byte above 127.
+pub fn is_letter(b: u8) -> bool
+    ensures { λ r. ⌜ r ≡ isLetter b ⌝ }
+{
+    if b < 65 {
+        return false;
+    }
+    if b <= 90 {
+        return true;
+    }
+    if b < 97 {
+        return false;
+    }
+    b <= 122
+}
+
+// The first position from `at` on that has no space.
+pub fn skip_spaces(line: &[u8], at: usize) -> usize
+    ensures { λ r. ⌜ r ≡ place (now (line .entry)) (skip (drop at (now (line .entry)))) ⌝ }
+{
+    let mut i = at;
+    while i < line.len() {
+        if line[i] != 32 {
+            return i;
+        }
+        i += 1;
+    }
+    line.len()
+}
+
+// The end of the run of letters from `at` on.
+pub fn word_end(line: &[u8], at: usize) -> usize
+    ensures { λ r. ⌜ r ≡ place (now (line .entry)) (past isLetter (drop at (now (line .entry)))) ⌝ }
+{
+    let mut i = at;
+    while i < line.len() {
+        if is_letter(line[i]) {
+            i += 1;
+        } else {
+            return i;
+        }
+    }
+    line.len()
+}
+
+// The token that starts at `at` or after spaces there.
+pub fn token_at(line: &[u8], at: usize) -> Lexeme
+    ensures { λ r. ⌜ r ≡ lexemeOf (now (line .entry)) at ⌝ }
+{
+    let from = skip_spaces(line, at);
+    if line.len() <= from {
+        return Lexeme {
+            token: Token::End,
+            at: from,
+            next: from,
+        };
+    }
+    let b = line[from];
+    if is_letter(b) {
+        let to = word_end(line, from + 1);
+        return Lexeme {
+            token: Token::Word,
+            at: from,
+            next: to,
+        };
+    }
+    if b == 40 {
+        return Lexeme {
+            token: Token::Open,
+            at: from,
+            next: from + 1,
+        };
+    }
+    if b == 41 {
+        return Lexeme {
+            token: Token::Close,
+            at: from,
+            next: from + 1,
+        };
+    }
+    if b == 35 {
+        return Lexeme {
+            token: Token::Hash,
+            at: from,
+            next: from + 1,
+        };
+    }
+    if b == 45 {
+        if from + 1 < line.len() {
+            if line[from + 1] == 62 {
+                return Lexeme {
+                    token: Token::Arrow,
+                    at: from,
+                    next: from + 2,
+                };
+            }
+        }
+    }
+    Lexeme {
+        token: Token::Bad,
+        at: from,
+        next: from,
+    }
+}
