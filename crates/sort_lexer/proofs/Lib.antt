@@ -1,3 +1,5 @@
 pub mod Places
 pub mod Runs
 pub mod Tokens
+pub mod Parts
+pub mod Compare

@@ -8,7 +8,7 @@ ghost use lib.ListN.{take, drop};
 ghost use Rattle.sort_text.specs.Tokens.{isLetter, skip, past};
 ghost use Rattle.sort_text.specs.Parse.{sameBytes, meaning};
 ghost use Rattle.sort_lexer.specs.Lexeme.{place, lexemeOf};
-ghost use Rattle.sort_lexer.specs.Meant.{meant};
+ghost use Rattle.sort_lexer.specs.Meant.{meant, containerMeaning};
 
 // A token of a line: a longest run of letters, `(`, `)`, `#`, `->`; any other byte starts a token that cannot follow.
 pub enum Token {
@@ -138,4 +138,99 @@ pub fn token_at(line: &[u8], at: usize) -> Lexeme
         at: from,
         next: from,
     }
+}
+
+// The end of the caller's own line that starts at `at`; past the end it is empty.
+pub fn unread(line: &[u8], at: usize) -> &[u8]
+    ensures { λ r. ⌜ now r ≡ drop at (now (line .entry)) ⌝ }
+{
+    if at <= line.len() {
+        &line[at..]
+    } else {
+        let end = line.len();
+        &line[end..]
+    }
+}
+
+// The bytes of the line from `from` to `to`, as far as it has them.
+pub fn between(line: &[u8], from: usize, to: usize) -> &[u8]
+    ensures { λ r. ⌜ now r ≡ take (to - from) (drop from (now (line .entry))) ⌝ }
+{
+    let rest = unread(line, from);
+    if from <= to {
+        let n = to - from;
+        if n <= rest.len() {
+            return &rest[..n];
+        }
+        return rest;
+    }
+    &rest[..0]
+}
+
+// Two lists of bytes are the same.
+pub fn same_bytes(a: &[u8], b: &[u8]) -> bool
+    ensures { λ r. ⌜ r ≡ sameBytes (now (a .entry)) (now (b .entry)) ⌝ }
+{
+    if a.len() != b.len() {
+        return false;
+    }
+    let mut i = 0;
+    while i < a.len() {
+        if a[i] != b[i] {
+            return false;
+        }
+        i += 1;
+    }
+    true
+}
+
+// The container that a word names.
+pub fn container_word(w: &[u8]) -> Meaning
+    ensures { λ r. ⌜ r ≡ meant (containerMeaning (now (w .entry))) ⌝ }
+{
+    if same_bytes(w, b"List") {
+        return Meaning::Over(ComplexSort::List);
+    }
+    if same_bytes(w, b"Set") {
+        return Meaning::Over(ComplexSort::Set);
+    }
+    if same_bytes(w, b"FSet") {
+        return Meaning::Over(ComplexSort::FSet);
+    }
+    if same_bytes(w, b"Bag") {
+        return Meaning::Over(ComplexSort::Bag);
+    }
+    if same_bytes(w, b"FBag") {
+        return Meaning::Over(ComplexSort::FBag);
+    }
+    Meaning::Unknown
+}
+
+// The basic sort or the container that a word names.
+pub fn meaning_of(w: &[u8]) -> Meaning
+    ensures { λ r. ⌜ r ≡ meant (meaning (now (w .entry))) ⌝ }
+{
+    if same_bytes(w, b"Bool") {
+        return Meaning::Basic(Sort::Bool);
+    }
+    if same_bytes(w, b"Pos") {
+        return Meaning::Basic(Sort::Pos);
+    }
+    if same_bytes(w, b"Nat") {
+        return Meaning::Basic(Sort::Nat);
+    }
+    if same_bytes(w, b"Int") {
+        return Meaning::Basic(Sort::Int);
+    }
+    if same_bytes(w, b"Real") {
+        return Meaning::Basic(Sort::Real);
+    }
+    container_word(w)
+}
+
+// What the word from `from` to `to` says.
+pub fn word_meaning(line: &[u8], from: usize, to: usize) -> Meaning
+    ensures { λ r. ⌜ r ≡ meant (meaning (take (to - from) (drop from (now (line .entry))))) ⌝ }
+{
+    meaning_of(between(line, from, to))
 }
