@@ -3,3 +3,4 @@ pub mod Runs
 pub mod Tokens
 pub mod Parts
 pub mod Compare
+pub mod Lexemes

@@ -2,7 +2,7 @@
 -- for its place.
 use mathlib.Core.List.{List}
 use Prim.Native.Nat.{ℕ, _-_}
-use lib.ListN.{length, drop}
+use lib.ListN.{length, take, drop}
 use Rattle.sort_text.specs.Tokens.{isLetter, Next, end, word, open-bracket, close-bracket, hash, arrow, bad, skip, next}
 use Rattle.sort_lexer.specs.declared.Token.{Token}
 use Rattle.sort_lexer.specs.declared.Token.the-variants.{End, Word, Open, Close, Hash, Arrow, Bad}
@@ -24,3 +24,26 @@ lexeme line bs bad = record { token = Bad; at = place line bs; next = place line
 
 unfoldable pub lexemeOf : List ℕ → ℕ → Lexeme
 lexemeOf line at = lexeme line (skip (drop at line)) (next isLetter (drop at line))
+
+-- the bytes that a token with its positions stands for
+unfoldable pub saidBy : List ℕ → Token → ℕ → ℕ → Next
+saidBy line End i j = end
+saidBy line Word i j = word (take (j - i) (drop i line)) (drop j line)
+saidBy line Open i j = open-bracket (drop j line)
+saidBy line Close i j = close-bracket (drop j line)
+saidBy line Hash i j = hash (drop j line)
+saidBy line Arrow i j = arrow (drop j line)
+saidBy line Bad i j = bad
+
+abbrev pub said : List ℕ → Lexeme → Next
+said line r = saidBy line (r .token) (r .at) (r .next)
+
+-- how many bytes a token has at least; Bad goes no further
+abbrev pub least : Token → ℕ
+least End = 0
+least Word = 1
+least Open = 1
+least Close = 1
+least Hash = 1
+least Arrow = 2
+least Bad = 0
