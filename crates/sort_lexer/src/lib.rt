@@ -234,3 +234,30 @@ pub fn word_meaning(line: &[u8], from: usize, to: usize) -> Meaning
 {
     meaning_of(between(line, from, to))
 }
+
+// A line and a position in it.
+pub struct Reader<'a> {
+    pub line: &'a [u8],
+    pub at: usize,
+}
+
+// A reader at the start of a line.
+pub fn new<'a>(line: &'a [u8]) -> Reader<'a>
+    ensures { λ r. ⌜ (r .line ≡ line .entry) × (r .at ≡ 0) ⌝ }
+{
+    Reader { line, at: 0 }
+}
+
+// The token at a reader's position.
+pub fn next_token<'a>(r: Reader<'a>) -> Lexeme
+    ensures { λ s. ⌜ s ≡ lexemeOf (now (r .entry .line)) (r .entry .at) ⌝ }
+{
+    token_at(r.line, r.at)
+}
+
+// The first token of a line.
+pub fn first_token(line: &[u8]) -> Lexeme
+    ensures { λ r. ⌜ r ≡ lexemeOf (now (line .entry)) 0 ⌝ }
+{
+    next_token(new(line))
+}
