@@ -13,7 +13,7 @@ use Rattle.sort_lexer.specs.declared.Token.{Token}
 use Rattle.sort_lexer.specs.declared.Token.the-variants.{End, Word, Open, Close, Hash, Arrow, Bad}
 use Rattle.sort_lexer.specs.declared.Lexeme.{Lexeme}
 use Rattle.sort_lexer.specs.Lexeme.{place, lexeme, lexemeOf, saidBy, said, least}
-use Rattle.sort_lexer.proofs.Places.{run-then-past, length-past, drop-place-past, place-past-after}
+use Rattle.sort_lexer.proofs.Places.{run-then-past, length-past, drop-place-past, left-without-spaces, skip-goes-on}
 
 -- bs is an end of l
 abbrev Ends : List ℕ → List ℕ → Type 0
@@ -100,12 +100,10 @@ module _ (l : List ℕ) (at : ℕ) (r : Lexeme) (e : r ≡ lexemeOf l at) where
   starts-at-place = ap (λ (x : Lexeme). x .at) e ∙ right-next isLetter l at .starts
 
   pub starts-without-spaces : drop (r .at) l ≡ skip (drop at l)
-  unfolding skip
-  starts-without-spaces = ap (λ (i : ℕ). drop i l) starts-at-place ∙ drop-place-past (eqb 32) l at
+  starts-without-spaces = left-without-spaces l at (r .at) starts-at-place
 
   pub starts-no-earlier : at ≤ length l → at ≤ r .at
-  unfolding skip
-  starts-no-earlier h = omega (arith, starts-at-place, place-past-after (eqb 32) l at h)
+  starts-no-earlier = skip-goes-on l at (r .at) starts-at-place
 
   pub next-is-said : next isLetter (drop at l) ≡ said l r
   unfolding lexemeOf

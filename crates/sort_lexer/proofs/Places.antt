@@ -6,7 +6,8 @@ use Prim.Native.Nat.{ℕ, _+_, _-_, _<_, _≤_}
 use native.Mathlib.Omega.{arith}
 use lib.ListN.{length, take, drop, length-append, length-drop, take-append-drop}
 use lib.Seq.{drop-at, take-at}
-use Rattle.sort_text.specs.Tokens.{run, past}
+use lib.Dec.{eqb}
+use Rattle.sort_text.specs.Tokens.{run, past, skip}
 use Rattle.sort_lexer.specs.Lexeme.{place}
 
 chosen-then-left : (q : Bool) (b : ℕ) (r s bs : List ℕ) → r ++ s ≡ bs → cond q (b ∷ r) [] ++ cond q s (b ∷ bs) ≡ b ∷ bs
@@ -35,8 +36,32 @@ drop-place-past p l i =
 pub place-past-after : (p : ℕ → Bool) (l : List ℕ) (i : ℕ) → i ≤ length l → i ≤ place l (past p (drop i l))
 place-past-after p l i h = omega (arith, length-past p (drop i l), length-drop i l)
 
--- the bytes from i to the place after the run are the run
-pub take-run : (p : ℕ → Bool) (l : List ℕ) (i : ℕ) → i ≤ length l → take (place l (past p (drop i l)) - i) (drop i l) ≡ run p (drop i l)
-take-run p l i h =
-    sym (ap (take (place l (past p (drop i l)) - i)) (run-then-past p (drop i l)))
-    ∙ take-at (run p (drop i l)) (past p (drop i l)) (place l (past p (drop i l)) - i) (omega (arith, length-past p (drop i l), length-drop i l))
+-- r: the position after the run of bytes from i on
+module _ (p : ℕ → Bool) (l : List ℕ) (i r : ℕ) (e : r ≡ place l (past p (drop i l))) where
+  pub left-after-run : drop r l ≡ past p (drop i l)
+  left-after-run = ap (λ (j : ℕ). drop j l) e ∙ drop-place-past p l i
+
+  pub bytes-of-run : take (r - i) (drop i l) ≡ run p (drop i l)
+  bytes-of-run =
+      sym (ap (take (r - i)) (run-then-past p (drop i l)))
+      ∙ take-at (run p (drop i l)) (past p (drop i l)) (r - i) (omega (arith, length-past p (drop i l), length-drop i l))
+
+  pub run-goes-on : i ≤ length l → i ≤ r
+  run-goes-on h = omega (arith, place-past-after p l i h)
+
+  pub run-stays-within : r ≤ length l
+  run-stays-within = omega arith
+
+-- r: the first position from i on that has no space
+module _ (l : List ℕ) (i r : ℕ) (e : r ≡ place l (skip (drop i l))) where
+  pub left-without-spaces : drop r l ≡ skip (drop i l)
+  unfolding skip
+  left-without-spaces = left-after-run (eqb 32) l i r e
+
+  pub skip-goes-on : i ≤ length l → i ≤ r
+  unfolding skip
+  skip-goes-on = run-goes-on (eqb 32) l i r e
+
+  pub skip-stays-within : r ≤ length l
+  unfolding skip
+  skip-stays-within = run-stays-within (eqb 32) l i r e

@@ -14,7 +14,7 @@ use Rattle.sort_lexer.specs.declared.Token.{Token}
 use Rattle.sort_lexer.specs.declared.Token.the-variants.{End, Word, Open, Close, Hash, Arrow, Bad}
 use Rattle.sort_lexer.specs.declared.Lexeme.{Lexeme}
 use Rattle.sort_lexer.specs.Lexeme.{place, lexeme, lexemeOf}
-use Rattle.sort_lexer.proofs.Places.{place-drop, drop-place-past}
+use Rattle.sort_lexer.proofs.Places.{place-drop, left-without-spaces}
 
 -- the token that a byte starts, by the byte
 module _ (p : ℕ → Bool) (b : ℕ) (bs : List ℕ) where
@@ -48,20 +48,19 @@ found t i j = record { token = t; at = i; next = j }
 
 -- from: the first position from `at` on that has no space
 module _ (l : List ℕ) (at from : ℕ) (skipped : from ≡ place l (skip (drop at l))) where
-  left-without-spaces : skip (drop at l) ≡ drop from l
-  unfolding skip
-  left-without-spaces = sym (rw skipped (drop-place-past (eqb 32) l at))
+  without-spaces : skip (drop at l) ≡ drop from l
+  without-spaces = sym (left-without-spaces l at from skipped)
 
   pub no-token-left : length l ≤ from → found End from from ≡ lexemeOf l at
   unfolding lexeme lexemeOf next
-  no-token-left h = sym (ap (λ (bs : List ℕ). lexeme l bs (nextAt isLetter bs)) (left-without-spaces ∙ drop-of-length-le l h) ∙ ap (λ (i : ℕ). found End i i) (omega (arith, ap length left-without-spaces, length-drop from l)))
+  no-token-left h = sym (ap (λ (bs : List ℕ). lexeme l bs (nextAt isLetter bs)) (without-spaces ∙ drop-of-length-le l h) ∙ ap (λ (i : ℕ). found End i i) (omega (arith, ap length without-spaces, length-drop from l)))
 
   module _ (h : from < length l) where
     token-from : (n : Next) → start isLetter (getD l from 0) (drop (from + 1) l) ≡ n → lexemeOf l at ≡ lexeme l (drop from l) n
     unfolding lexemeOf next
     token-from n e =
-        let first : skip (drop at l) ≡ getD l from 0 ∷ drop (from + 1) l = left-without-spaces ∙ rw (add-one, drop-cons l from 0 h) in
-        ap (lexeme l (skip (drop at l))) (ap (nextAt isLetter) first ∙ e) ∙ ap (λ (bs : List ℕ). lexeme l bs n) left-without-spaces
+        let first : skip (drop at l) ≡ getD l from 0 ∷ drop (from + 1) l = without-spaces ∙ rw (add-one, drop-cons l from 0 h) in
+        ap (lexeme l (skip (drop at l))) (ap (nextAt isLetter) first ∙ e) ∙ ap (λ (bs : List ℕ). lexeme l bs n) without-spaces
 
     -- of places that are positions of the line
     at-positions : (t : Token) (j : ℕ) → j ≤ length l → found t (place l (drop from l)) (place l (drop j l)) ≡ found t from j
