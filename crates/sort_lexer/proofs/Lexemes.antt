@@ -113,7 +113,7 @@ module _ (l : List ℕ) (at : ℕ) (r : Lexeme) (e : r ≡ lexemeOf l at) where
   unfolding lexemeOf
   ends-within = rw e (right-next isLetter l at .within)
 
-  goes-on : r .at + least (r .token) ≤ r .next
+  pub goes-on : r .at + least (r .token) ≤ r .next
   unfolding lexemeOf
   goes-on = rw (starts-at-place, e) (right-next isLetter l at .goes)
 
@@ -124,7 +124,7 @@ module _ (l : List ℕ) (at : ℕ) (r : Lexeme) (e : r ≡ lexemeOf l at) where
     pub goes-at-least-from : at ≤ length l → at + least t ≤ r .next
     goes-at-least-from h = omega (arith, goes-at-least, starts-no-earlier h)
 
-    next-is : next isLetter (drop at l) ≡ saidBy l t (r .at) (r .next)
+    pub next-is : next isLetter (drop at l) ≡ saidBy l t (r .at) (r .next)
     next-is = next-is-said ∙ ap (λ (u : Token). saidBy l u (r .at) (r .next)) f
 
   pub next-is-end : r .token ≡ End → next isLetter (drop at l) ≡ end

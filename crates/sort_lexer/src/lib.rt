@@ -185,7 +185,7 @@ pub fn same_bytes(a: &[u8], b: &[u8]) -> bool
 }
 
 // The container that a word names.
-pub fn container_word(w: &[u8]) -> Meaning
+fn container_word(w: &[u8]) -> Meaning
     ensures { λ r. ⌜ r ≡ meant (containerMeaning (now (w .entry))) ⌝ }
 {
     if same_bytes(w, b"List") {
@@ -207,7 +207,7 @@ pub fn container_word(w: &[u8]) -> Meaning
 }
 
 // The basic sort or the container that a word names.
-pub fn meaning_of(w: &[u8]) -> Meaning
+fn meaning_of(w: &[u8]) -> Meaning
     ensures { λ r. ⌜ r ≡ meant (meaning (now (w .entry))) ⌝ }
 {
     if same_bytes(w, b"Bool") {
