@@ -1,52 +1,25 @@
+-- By the token that follows. Assumes nothing.
 use borrow.Author.Needs.{needs}
+use mathlib.Core.Path.{_≡_, refl, sym, _∙_, ap}
+use mathlib.Core.List.{[], _∷_}
+use Prim.Native.Nat.{_+_, _-_, _*_, _≤_}
+use native.Mathlib.Omega.{arith}
+use lib.ListN.{length, length-set}
+use Rattle.sort_lexer.specs.declared.Token.the-variants.{End, Word, Open, Close, Hash, Arrow, Bad}
+use Rattle.sort_lexer.proofs.Tags.{no-other-token}
+use Rattle.sort_recogniser.proofs.Ways as way
 use Rattle.sort_recogniser.proofs.closing.Statement.{statement}
 use Rattle.sort_recogniser.proofs.closing.Tie as tie
-use Rattle.sort_recogniser.proofs.closing.Reads as reads
-use Rattle.sort_recogniser.proofs.closing.Lts as lts
-use Rattle.sort_lexer.proofs.token_at.Reads as token-at-reads
-use Rattle.sort_recogniser.proofs.step_of_op.Reads as step-of-op-reads
-
--- src/lib.rt:56:9
-token-at-requires : tie.Need-token-at-requires
-token-at-requires c κs = search needs
-
--- src/lib.rt:60:22
-enum-told : tie.Need-enum-told
-enum-told c = search needs
-
--- src/lib.rt:60:22
-step-of-op-requires : tie.Need-step-of-op-requires
-step-of-op-requires c κs = search needs
-
--- src/lib.rt:60:13
-slice-write-out : tie.Need-slice-write-out
-slice-write-out c = ?
-
--- src/lib.rt:61:42
-add-t11 : tie.Need-add-t11
-add-t11 c = search needs
-
--- src/lib.rt:52:1
-same-length : tie.Need-same-length
-same-length c = search needs
-
--- src/lib.rt:52:1
-returns : tie.Need-returns
-returns c = ?
-
--- src/lib.rt:52:1
-returns-2 : tie.Need-returns-2
-returns-2 c = ?
 
 pub closing-spec : {M : Type 1} → statement M
 closing-spec =
     tie.close
     (tie.spec
-    token-at-requires
-    enum-told
-    step-of-op-requires
-    slice-write-out
-    add-t11
-    same-length
-    returns
-    returns-2)
+    (λ c κs. search needs)
+    (λ c. search needs)
+    (λ c κs. search needs)
+    (λ c. let g = way.later (c .before .before .before .before .before .before .args .line .now) (c .before .before .before .before .before .before .args .at) (c .before .before .before .before .before .before .pre .0) (c .before .before .before .before .before .before .args .out .now) (c .before .before .before .before .before .before .args .n) (c .before .before .before .before .before .before .pre .1) (c .before .before .before .token-at .result) (c .before .before .before .token-at .ensures) Close (c .before .enum-told .given .1) in let d = way.later-within (c .before .before .before .before .before .before .args .line .now) (c .before .before .before .before .before .before .args .at) (c .before .before .before .before .before .before .pre .0) (c .before .before .before .before .before .before .args .out .now) (c .before .before .before .before .before .before .args .n) (c .before .before .before .before .before .before .pre .1) (c .before .before .before .token-at .result) (c .before .before .before .token-at .ensures) in omega (arith, g, d, c .before .before .before .before .before .before .pre .1))
+    (λ c. search needs)
+    (λ c. search needs)
+    (λ c. way.closing-done (c .before .before .before .before .before .before .args .line .now) (c .before .before .before .before .before .before .args .at) (c .before .before .before .before .before .before .pre .0) (c .before .before .before .before .before .before .args .out .now) (c .before .before .before .before .before .before .args .n) (c .before .before .before .before .before .before .pre .1) (c .before .before .before .token-at .result) (c .before .before .before .token-at .ensures) (c .before .enum-told .given .1) _ _ (c .step-of-op .ensures))
+    (λ c. way.closing-stuck (c .before .before .before .before .args .line .now) (c .before .before .before .before .args .at) (c .before .before .before .before .pre .0) (c .before .before .before .before .args .out .now) (c .before .before .before .before .args .n) (c .before .before .before .before .pre .1) (c .before .token-at .result) (c .before .token-at .ensures) (no-other-token (0 ∷ 1 ∷ 2 ∷ 4 ∷ 5 ∷ 6 ∷ []) (c .before .token-at .result .token) Close (c .match .keys2) tt) _))
