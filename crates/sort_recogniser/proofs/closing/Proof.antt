@@ -1,0 +1,25 @@
+-- By the token that follows. Assumes nothing.
+use borrow.Author.Needs.{needs}
+use mathlib.Core.Path.{_≡_, refl, sym, _∙_, ap}
+use mathlib.Core.List.{[], _∷_}
+use Prim.Native.Nat.{_+_, _-_, _*_, _≤_}
+use native.Mathlib.Omega.{arith}
+use lib.ListN.{length, length-set}
+use Rattle.sort_lexer.specs.declared.Token.the-variants.{End, Word, Open, Close, Hash, Arrow, Bad}
+use Rattle.sort_lexer.proofs.Tags.{no-other-token}
+use Rattle.sort_recogniser.proofs.Ways as way
+use Rattle.sort_recogniser.proofs.closing.Statement.{statement}
+use Rattle.sort_recogniser.proofs.closing.Tie as tie
+
+pub closing-spec : {M : Type 1} → statement M
+closing-spec =
+    tie.close
+    (tie.spec
+    (λ c κs. search needs)
+    (λ c. search needs)
+    (λ c κs. search needs)
+    (λ c. let g = way.later (c .before .before .before .before .before .before .args .line .now) (c .before .before .before .before .before .before .args .at) (c .before .before .before .before .before .before .pre .0) (c .before .before .before .before .before .before .args .out .now) (c .before .before .before .before .before .before .args .n) (c .before .before .before .before .before .before .pre .1) (c .before .before .before .token-at .result) (c .before .before .before .token-at .ensures) Close (c .before .enum-told .given .1) in let d = way.later-within (c .before .before .before .before .before .before .args .line .now) (c .before .before .before .before .before .before .args .at) (c .before .before .before .before .before .before .pre .0) (c .before .before .before .before .before .before .args .out .now) (c .before .before .before .before .before .before .args .n) (c .before .before .before .before .before .before .pre .1) (c .before .before .before .token-at .result) (c .before .before .before .token-at .ensures) in omega (arith, g, d, c .before .before .before .before .before .before .pre .1))
+    (λ c. search needs)
+    (λ c. search needs)
+    (λ c. way.closing-done (c .before .before .before .before .before .before .args .line .now) (c .before .before .before .before .before .before .args .at) (c .before .before .before .before .before .before .pre .0) (c .before .before .before .before .before .before .args .out .now) (c .before .before .before .before .before .before .args .n) (c .before .before .before .before .before .before .pre .1) (c .before .before .before .token-at .result) (c .before .before .before .token-at .ensures) (c .before .enum-told .given .1) _ _ (c .step-of-op .ensures))
+    (λ c. way.closing-stuck (c .before .before .before .before .args .line .now) (c .before .before .before .before .args .at) (c .before .before .before .before .pre .0) (c .before .before .before .before .args .out .now) (c .before .before .before .before .args .n) (c .before .before .before .before .pre .1) (c .before .token-at .result) (c .before .token-at .ensures) (no-other-token (0 ∷ 1 ∷ 2 ∷ 4 ∷ 5 ∷ 6 ∷ []) (c .before .token-at .result .token) Close (c .match .keys2) tt) _))

@@ -1,0 +1,28 @@
+-- A sort, and by the token after it. Assumes nothing.
+use borrow.Author.Needs.{needs}
+use mathlib.Core.Path.{_≡_, refl, sym, _∙_, ap}
+use mathlib.Core.List.{[], _∷_}
+use Prim.Native.Nat.{_+_, _-_, _*_, _≤_}
+use native.Mathlib.Omega.{arith}
+use lib.ListN.{length, length-set}
+use Rattle.sort_lexer.specs.declared.Token.the-variants.{End, Word, Open, Close, Hash, Arrow, Bad}
+use Rattle.sort_lexer.proofs.Tags.{no-other-token}
+use Rattle.sort_recogniser.proofs.Ways as way
+use Rattle.sort_recogniser.proofs.recognise.Statement.{statement}
+use Rattle.sort_recogniser.proofs.recognise.Tie as tie
+
+pub recognise-spec : {M : Type 1} → statement M
+recognise-spec =
+    tie.close
+    (tie.spec
+    (λ c κs. (omega arith, omega (arith, c .before .before .before .pre)))
+    (λ c. search needs)
+    (λ c κs. search needs)
+    (λ c. search needs)
+    (λ c. search needs)
+    (λ c. search needs)
+    (λ c. way.line-done (c .before .before .before .before .before .before .before .before .before .before .before .before .args .line .now) _ (c .before .before .before .before .before .before .before .before .before .before .before .before .args .out .now) _ (c .before .before .before .before .before .before .before .before .sort .ensures) _ _ (c .before .before .before .before .p .given .1) (c .before .before .token-at .result) (c .before .before .token-at .ensures) (c .enum-told .given .1))
+    (λ c. search needs)
+    (λ c. way.line-stuck (c .before .before .before .before .before .before .before .before .before .before .before .args .line .now) _ (c .before .before .before .before .before .before .before .before .before .before .before .args .out .now) _ (c .before .before .before .before .before .before .before .sort .ensures) _ _ (c .before .before .before .p .given .1) (c .before .token-at .result) (c .before .token-at .ensures) (no-other-token (1 ∷ 2 ∷ 3 ∷ 4 ∷ 5 ∷ 6 ∷ []) (c .before .token-at .result .token) End (c .match2 .keys2) tt))
+    (λ c. search needs)
+    (λ c. way.line-passes (c .before .before .before .before .before .before .before .before .before .args .line .now) _ (c .before .before .before .before .before .before .before .before .before .args .out .now) _ (c .before .before .before .before .before .sort .ensures) _ (c .before .p2 .given .1)))

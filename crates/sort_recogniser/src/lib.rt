@@ -1,0 +1,163 @@
+// Recognising a line as a sort: nothing is stored, the steps of the sort are written into a buffer, parts first.
+use resolved_sort::ComplexSort;
+use resolved_sort::Sort;
+use sort_lexer::Lexeme;
+use sort_lexer::Meaning;
+use sort_lexer::Token;
+use sort_lexer::token_at;
+use sort_lexer::word_meaning;
+ghost use mathlib.Core.Path.{_≡_};
+ghost use mathlib.Core.List.{[]};
+ghost use Prim.Native.Nat.{ℕ, _+_, _-_, _<_, _≤_};
+ghost use lib.ListN.{length, drop, take};
+ghost use Rattle.resolved_sort.specs.Tree.{primitive};
+ghost use Rattle.resolved_sort.specs.Storage.{kindFlat, kindOp};
+ghost use Rattle.sort_text.specs.Tokens.{isLetter, skip, next};
+ghost use Rattle.sort_text.specs.Parse as Parse;
+ghost use Rattle.sort_recogniser.specs.Says.{Says, SaysClosing, SaysRest};
+
+// The position after a sort and the number of steps written; or where the first token stands that cannot follow.
+pub enum Recognised {
+    Done(usize, usize),
+    Stuck(usize),
+}
+
+// The step of a basic sort.
+fn step_of_sort(sort: Sort) -> u8
+    ensures { λ r. ⌜ r ≡ kindFlat (primitive sort) ⌝ }
+{
+    match sort {
+        Sort::Bool => 1,
+        Sort::Pos => 2,
+        Sort::Nat => 3,
+        Sort::Int => 4,
+        Sort::Real => 5,
+    }
+}
+
+// The step of a container.
+fn step_of_op(op: ComplexSort) -> u8
+    ensures { λ r. ⌜ r ≡ kindOp op ⌝ }
+{
+    match op {
+        ComplexSort::List => 6,
+        ComplexSort::Set => 7,
+        ComplexSort::FSet => 8,
+        ComplexSort::Bag => 9,
+        ComplexSort::FBag => 10,
+    }
+}
+
+// `)` after the sort in brackets.
+fn closing(line: &[u8], at: usize, out: &mut [u8], n: usize, op: ComplexSort) -> Recognised
+    requires { ⌜ (at ≤ length (now line)) × (n + (length (now line) - at) ≤ length (now out)) ⌝ }
+    ensures { λ r. ⌜ SaysClosing (now (line .entry)) at (now (out .entry)) n op (now (out .exit)) r ⌝ }
+{
+    let found = token_at(line, at);
+    let token = found.token;
+    match token {
+        Token::Close => {
+            out[n] = step_of_op(op);
+            Recognised::Done(found.next, n + 1)
+        }
+        _ => Recognised::Stuck(found.at),
+    }
+}
+
+// The operands so far are k: `#` and another operand, `->` and the range, or the end of the sort.
+fn rest(line: &[u8], at: usize, out: &mut [u8], n: usize, k: u8) -> Recognised
+    requires { ⌜ (at ≤ length (now line)) × (n + (length (now line) - at) ≤ length (now out)) × (1 ≤ k) × (k ≤ 16) ⌝ }
+    ensures { λ r. ⌜ SaysRest (now (line .entry)) at (now (out .entry)) n k (now (out .exit)) r ⌝ }
+{
+    let found = token_at(line, at);
+    let token = found.token;
+    match token {
+        Token::Hash => {
+            if k == 16 {
+                return Recognised::Stuck(found.at);
+            }
+            match operand(line, found.next, out, n) {
+                Recognised::Done(p, m) => rest(line, p, out, m, k + 1),
+                Recognised::Stuck(p) => Recognised::Stuck(p),
+            }
+        }
+        Token::Arrow => match sort(line, found.next, out, n) {
+            Recognised::Done(p, m) => {
+                out[m] = 16 + k;
+                Recognised::Done(p, m + 1)
+            }
+            Recognised::Stuck(p) => Recognised::Stuck(p),
+        },
+        _ => {
+            if k == 1 {
+                return Recognised::Done(at, n);
+            }
+            Recognised::Stuck(found.at)
+        }
+    }
+}
+
+// `(` after a container word, the sort in it, and `)`.
+fn bracketed(line: &[u8], at: usize, out: &mut [u8], n: usize, op: ComplexSort) -> Recognised
+    requires { ⌜ (at ≤ length (now line)) × (n + (length (now line) - at) ≤ length (now out)) ⌝ }
+    ensures { λ r. ⌜ Says (now (line .entry)) at (n + (length (now (line .entry)) - at)) (take n (now (out .entry))) (Parse.bracketed Parse.sort op (skip (drop at (now (line .entry)))) (next isLetter (drop at (now (line .entry))))) (now (out .exit)) r ⌝ }
+{
+    let found = token_at(line, at);
+    let token = found.token;
+    match token {
+        Token::Open => match sort(line, found.next, out, n) {
+            Recognised::Done(p, m) => closing(line, p, out, m, op),
+            Recognised::Stuck(p) => Recognised::Stuck(p),
+        },
+        _ => Recognised::Stuck(found.at),
+    }
+}
+
+// An operand: a basic sort, or a container over a sort in brackets.
+fn operand(line: &[u8], at: usize, out: &mut [u8], n: usize) -> Recognised
+    requires { ⌜ (at ≤ length (now line)) × (n + (length (now line) - at) ≤ length (now out)) ⌝ }
+    ensures { λ r. ⌜ Says (now (line .entry)) (at + 1) (n + (length (now (line .entry)) - at)) (take n (now (out .entry))) (Parse.operand Parse.sort (drop at (now (line .entry)))) (now (out .exit)) r ⌝ }
+{
+    let found = token_at(line, at);
+    let token = found.token;
+    match token {
+        Token::Word => match word_meaning(line, found.at, found.next) {
+            Meaning::Basic(s) => {
+                out[n] = step_of_sort(s);
+                Recognised::Done(found.next, n + 1)
+            }
+            Meaning::Over(op) => bracketed(line, found.next, out, n, op),
+            Meaning::Unknown => Recognised::Stuck(found.at),
+        },
+        _ => Recognised::Stuck(found.at),
+    }
+}
+
+// A sort: operands, and what comes after them.
+fn sort(line: &[u8], at: usize, out: &mut [u8], n: usize) -> Recognised
+    requires { ⌜ (at ≤ length (now line)) × (n + (length (now line) - at) ≤ length (now out)) ⌝ }
+    ensures { λ r. ⌜ Says (now (line .entry)) (at + 1) (n + (length (now (line .entry)) - at)) (take n (now (out .entry))) (Parse.sort (drop at (now (line .entry)))) (now (out .exit)) r ⌝ }
+{
+    match operand(line, at, out, n) {
+        Recognised::Done(p, m) => rest(line, p, out, m, 1),
+        Recognised::Stuck(p) => Recognised::Stuck(p),
+    }
+}
+
+// A line: a sort and nothing but spaces after it.
+pub fn recognise(line: &[u8], out: &mut [u8]) -> Recognised
+    requires { ⌜ length (now line) ≤ length (now out) ⌝ }
+    ensures { λ r. ⌜ Says (now (line .entry)) 0 (length (now (line .entry))) [] (Parse.line (now (line .entry))) (now (out .exit)) r ⌝ }
+{
+    match sort(line, 0, out, 0) {
+        Recognised::Done(p, m) => {
+            let found = token_at(line, p);
+            let token = found.token;
+            match token {
+                Token::End => Recognised::Done(line.len(), m),
+                _ => Recognised::Stuck(found.at),
+            }
+        }
+        Recognised::Stuck(p) => Recognised::Stuck(p),
+    }
+}
