@@ -55,6 +55,13 @@ module _ (zs ws : List ℕ) (s c : ℕ) where
       e ∙ ap₂ (λ (a b : ℕ). runSize zs (entriesOf ws a b)) p m
 
 -- the loop over the sorts
+pub no-sort : (ws zs : List ℕ) → zs ≡ sizesTo ws zs 0
+unfolding sizesTo
+no-sort ws zs = refl
+
+pub all-sorts : (ws zs₀ zs : List ℕ) (i n : ℕ) → zs ≡ sizesTo ws zs₀ i → i ≡ n → zs ≡ sizesTo ws zs₀ n
+all-sorts ws zs₀ zs i n e h = e ∙ ap (sizesTo ws zs₀) h
+
 pub one-sort-more : (ws zs₀ zs : List ℕ) (i size : ℕ) (row : ResolvedSort) → zs ≡ sizesTo ws zs₀ i → row ≡ rowAt ws i → size ≡ rowSize ws zs row
     → set zs i size ≡ sizesTo ws zs₀ (i + 1)
 unfolding sizesTo

@@ -108,7 +108,10 @@ fn row_size(sorts: &[u16], sizes: &[usize], row: ResolvedSort) -> usize
     match row {
         ResolvedSort::Unit => 0,
         ResolvedSort::Primitive(sort) => word_size(sort),
-        ResolvedSort::Container { op, subsort } => join_sizes(op_size(op), size_at(sizes, subsort.0)),
+        ResolvedSort::Container { op, subsort } => join_sizes(
+            op_size(op),
+            size_at(sizes, subsort.0),
+        ),
         ResolvedSort::Function { domain, range } => {
             let arguments = arguments_size(sorts, sizes, domain.start, domain.count);
             join_sizes(arguments, join_sizes(4, size_at(sizes, range.0)))

@@ -14,4 +14,4 @@ argument-size-spec =
     (λ c. search needs)
     (λ c κs. search needs)
     (λ c κs. search needs)
-    (λ c. c .size-at .ensures ∙ ap (λ (x : ℕ). getD (c .before .before .args .sizes .now) x 0) (c .before .word .ensures)))
+    (λ c. c .size-at .ensures ∙ ap (λ (x : ℕ). getD (c .before .before .before .before .args .sizes .now) x 0) (c .before .word .ensures)))
