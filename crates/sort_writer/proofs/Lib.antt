@@ -3,3 +3,5 @@ pub mod Rows
 pub mod Sizes
 pub mod Fills
 pub mod Puts
+pub mod Texts
+pub mod Checks

@@ -16,11 +16,11 @@ use Rattle.sort_text.specs.Parse.{sortWord, opWord}
 use Rattle.sort_text.specs.Text.{some, flatWritable, flatText, writable, writables, text, texts, more, between, arrow, argument}
 use Rattle.sort_writer.specs.Sizes.{most, capped, sizeIf, sized, sizedAll, joined}
 
-capped-short : (n : ℕ) → n ≤ most → capped n ≡ n
+pub capped-short : (n : ℕ) → n ≤ most → capped n ≡ n
 unfolding capped
 capped-short n h = rw (le-leb n most h)
 
-capped-long : (n : ℕ) → most ≤ n → capped n ≡ most
+pub capped-long : (n : ℕ) → most ≤ n → capped n ≡ most
 unfolding capped
 capped-long n h = go (decLe n most)
   where
@@ -102,7 +102,7 @@ function-length : (ts : Trees) (r : Tree) → length (text (function ts r)) ≡ 
 unfolding text
 function-length ts r = simp length-append (omega arith)
 
-text-some : (t : Tree) → writable t ≡ true → 0 < length (text t)
+pub text-some : (t : Tree) → writable t ≡ true → 0 < length (text t)
 unfolding writable text
 text-some (flat unit) e = let z : _≡_ {A = ℕ} 0 1 = cc in absurd (omega arith)
 text-some (flat (primitive s)) e = word-length s .0

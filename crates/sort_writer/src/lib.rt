@@ -3,7 +3,6 @@
 use resolved_sort::ComplexSort;
 use resolved_sort::Counts;
 use resolved_sort::ResolvedSort;
-use resolved_sort::Run;
 use resolved_sort::Sort;
 use resolved_sort::SortId;
 use resolved_sort::Tested;
@@ -16,10 +15,11 @@ ghost use mathlib.Core.List.{[], _∷_, _++_};
 ghost use Prim.Native.Nat.{ℕ, _+_, _<_, _≤_};
 ghost use lib.ListN.{length, getD, replicate};
 ghost use Rattle.resolved_sort.specs.Storage.{maxSorts, entryAt, entriesOf, rowAt};
-ghost use Rattle.resolved_sort.specs.Entries.{treeAt};
+ghost use Rattle.resolved_sort.specs.Checks.{firstFailing};
+ghost use Rattle.resolved_sort.specs.Entries.{testedOf, treeAt};
 ghost use Rattle.sort_text.specs.Parse.{sortWord, opWord};
 ghost use Rattle.sort_text.specs.Text.{text, texts};
-ghost use Rattle.sort_text.specs.Writing.{writeLeft, writing};
+ghost use Rattle.sort_text.specs.Writing.{writeChecks, writeLeft, writing};
 ghost use Rattle.sort_writer.specs.Sizes.{joined, runSize, rowSize, sizesTo};
 ghost use Rattle.sort_writer.specs.Puts.{Put, argsAt, SortRoom, RunRoom};
 ghost use Rattle.sort_writer.specs.Packed.{packWritten, packed, packLeft};
@@ -184,4 +184,128 @@ fn put_op(op: ComplexSort, out: &mut [u8], at: usize) -> usize
         ComplexSort::Bag => put_bytes(b"Bag(", out, at),
         ComplexSort::FBag => put_bytes(b"FBag(", out, at),
     }
+}
+
+// The text of a sort of a checked list that has room from a place on; the place behind it.
+fn put_sort(sorts: &[u16], counts: Counts, id: SortId, out: &mut [u8], at: usize) -> usize
+    requires { ⌜ SortRoom (now sorts) (counts .sorts) (counts .entries) (id .0) (now out) at ⌝ }
+    ensures { λ r. ⌜ Put (now (out .entry)) at (text (treeAt (now (sorts .entry)) (counts .sorts) (id .0))) (now (out .exit)) r ⌝ }
+{
+    match get(sorts, id) {
+        ResolvedSort::Unit => at,
+        ResolvedSort::Primitive(sort) => put_word(sort, out, at),
+        ResolvedSort::Container { op, subsort } => {
+            let inside = put_op(op, out, at);
+            let bracket = put_sort(sorts, counts, subsort, out, inside);
+            put_bytes(b")", out, bracket)
+        }
+        ResolvedSort::Function { domain, range } => {
+            let arrow = put_arguments(sorts, counts, domain.start, domain.count, out, at);
+            let result = put_bytes(b" -> ", out, arrow);
+            put_sort(sorts, counts, range, out, result)
+        }
+        ResolvedSort::Def(_) => at,
+        ResolvedSort::TypeVar(_) => at,
+    }
+}
+
+// The texts of a run of arguments with ` # ` between them, left to right. Nothing stands after the last.
+fn put_arguments(
+    sorts: &[u16],
+    counts: Counts,
+    start: u16,
+    count: u16,
+    out: &mut [u8],
+    at: usize,
+) -> usize
+    requires { ⌜ RunRoom (now sorts) (counts .sorts) (counts .entries) start count (now out) at ⌝ }
+    ensures { λ r. ⌜ Put (now (out .entry)) at (texts (argsAt (now (sorts .entry)) (counts .sorts) start count)) (now (out .exit)) r ⌝ }
+{
+    if count == 0 {
+        return at;
+    }
+    let first = word(sorts, 4096 + (start as usize));
+    let behind = put_sort(sorts, counts, SortId(first), out, at);
+    if count == 1 {
+        return behind;
+    }
+    let next = put_bytes(b" # ", out, behind);
+    put_arguments(sorts, counts, start + 1, count - 1, out, next)
+}
+
+// Checks 1 to 4, 12, 13 and 14 of writing a sort: the first that fails.
+fn test_write(
+    sorts: &[u16],
+    sort_count: usize,
+    entry_count: usize,
+    id: SortId,
+    out: &[u8],
+) -> Tested
+    ensures { λ r. ⌜ r ≡ testedOf (firstFailing (writeChecks (now (sorts .entry)) «sort_count» «entry_count» (id .0) (now (out .entry)))) ⌝ }
+{
+    match test_sorts(sorts, sort_count, entry_count) {
+        Tested::Refused(code) => Tested::Refused(code),
+        Tested::Passed => {
+            if sort_count <= (id.0 as usize) {
+                return Tested::Refused(12);
+            }
+            let size = text_size(sorts, sort_count, id);
+            if size == 0 {
+                return Tested::Refused(13);
+            }
+            if sorts.len() < 8192 {
+                return Tested::Refused(14);
+            }
+            if out.len() < size {
+                return Tested::Refused(14);
+            }
+            Tested::Passed
+        }
+    }
+}
+
+// The text of a sort in the lent buffer, and its length. Not one byte is written on a refusal, and none past the text.
+pub fn write(
+    sorts: &[u16],
+    sort_count: usize,
+    entry_count: usize,
+    id: SortId,
+    out: &mut [u8],
+) -> Written
+    ensures { λ r. ⌜ writeLeft (now (out .exit)) r ≡ writing (now (sorts .entry)) «sort_count» «entry_count» (id .0) (now (out .entry)) ⌝ }
+{
+    match test_write(sorts, sort_count, entry_count, id, out) {
+        Tested::Refused(code) => Written::Refused(code),
+        Tested::Passed => {
+            let counts = Counts {
+                sorts: sort_count as u16,
+                entries: entry_count as u16,
+            };
+            Written::Text(put_sort(sorts, counts, id, out, 0))
+        }
+    }
+}
+
+// An answer as one number: the length of the text, or 2^63 and the code of a refusal.
+fn pack_written(answer: Written) -> u64
+    ensures { λ r. ⌜ r ≡ packWritten answer ⌝ }
+{
+    match answer {
+        Written::Refused(code) => 9223372036854775808 + (code as u64),
+        Written::Text(length) => length as u64,
+    }
+}
+
+// The writer for callers in other languages: a slice is a pointer and a length, and the answer is packed.
+#[no_mangle]
+pub extern "C" fn sort_write(
+    sorts: &[u16],
+    sort_count: usize,
+    entry_count: usize,
+    id: u16,
+    out: &mut [u8],
+) -> u64
+    ensures { λ r. ⌜ packed (now (out .exit)) r ≡ packLeft (writing (now (sorts .entry)) «sort_count» «entry_count» id (now (out .entry))) ⌝ }
+{
+    pack_written(write(sorts, sort_count, entry_count, SortId(id), out))
 }
