@@ -32,11 +32,11 @@ use Rattle.sort_interner.specs.Tests.{noSameRows, newRow, otherRow}
 use Rattle.sort_entries.specs.Kept.{keptOrGivenBack}
 
 -- one check after another
-first-fails : (c : Check) (cs : List Check) → c .passes ≡ false → firstFailing (c ∷ cs) ≡ some (c .code)
+pub first-fails : (c : Check) (cs : List Check) → c .passes ≡ false → firstFailing (c ∷ cs) ≡ some (c .code)
 unfolding firstFailing
 first-fails c cs e = rw e
 
-first-passes : (c : Check) (cs : List Check) → c .passes ≡ true → firstFailing (c ∷ cs) ≡ firstFailing cs
+pub first-passes : (c : Check) (cs : List Check) → c .passes ≡ true → firstFailing (c ∷ cs) ≡ firstFailing cs
 unfolding firstFailing
 first-passes c cs e = rw e
 
@@ -44,7 +44,7 @@ by-first : (b : Bool) (x y : Option ℕ) (c : ℕ) (f : ℕ) → cond b x (some 
 by-first true x y c f e h = h e
 by-first false x y c f e h = e
 
-append-fails : (xs ys : List Check) (c : ℕ) → firstFailing xs ≡ some c → firstFailing (xs ++ ys) ≡ some c
+pub append-fails : (xs ys : List Check) (c : ℕ) → firstFailing xs ≡ some c → firstFailing (xs ++ ys) ≡ some c
 unfolding firstFailing
 append-fails [] ys c e = let z : _≡_ {A = ℕ} 0 1 = cc in absurd (omega arith)
 append-fails (x ∷ xs) ys c e = by-first (x .passes) (firstFailing xs) (firstFailing (xs ++ ys)) c (x .code) e (append-fails xs ys c)
@@ -53,7 +53,7 @@ by-passing : (b : Bool) (x y z : Option ℕ) (f : ℕ) → cond b x (some f) ≡
 by-passing true x y z f e h = h e
 by-passing false x y z f e h = let w : _≡_ {A = ℕ} 0 1 = cc in absurd (omega arith)
 
-append-passes : (xs ys : List Check) → firstFailing xs ≡ none → firstFailing (xs ++ ys) ≡ firstFailing ys
+pub append-passes : (xs ys : List Check) → firstFailing xs ≡ none → firstFailing (xs ++ ys) ≡ firstFailing ys
 unfolding firstFailing
 append-passes [] ys e = refl
 append-passes (x ∷ xs) ys e = by-passing (x .passes) (firstFailing xs) (firstFailing (xs ++ ys)) (firstFailing ys) (x .code) e (append-passes xs ys)
@@ -62,16 +62,16 @@ both : (b : Bool) (x : Option ℕ) (f : ℕ) → cond b x (some f) ≡ none → 
 both true x f e = (refl, e)
 both false x f e = let w : _≡_ {A = ℕ} 0 1 = cc in absurd (omega arith)
 
-cons-passes : (c : Check) (cs : List Check) → firstFailing (c ∷ cs) ≡ none → (c .passes ≡ true) × (firstFailing cs ≡ none)
+pub cons-passes : (c : Check) (cs : List Check) → firstFailing (c ∷ cs) ≡ none → (c .passes ≡ true) × (firstFailing cs ≡ none)
 unfolding firstFailing
 cons-passes c cs e = both (c .passes) (firstFailing cs) (c .code) e
 
 -- what was tested is what the definition says
-refused-is : (x : Option ℕ) (t : Tested) (c : ℕ) → t ≡ testedOf x → t ≡ Refused c → x ≡ some c
+pub refused-is : (x : Option ℕ) (t : Tested) (c : ℕ) → t ≡ testedOf x → t ≡ Refused c → x ≡ some c
 refused-is none t c e r = let z : Passed ≡ Refused c = sym e ∙ r in let w : _≡_ {A = ℕ} 0 1 = cc in absurd (omega arith)
 refused-is (some d) t c e r = let z : Refused d ≡ Refused c = sym e ∙ r in cc
 
-passed-is : (x : Option ℕ) (t : Tested) → t ≡ testedOf x → t ≡ Passed → x ≡ none
+pub passed-is : (x : Option ℕ) (t : Tested) → t ≡ testedOf x → t ≡ Passed → x ≡ none
 passed-is none t e r = refl
 passed-is (some d) t e r = let z : Refused d ≡ Passed = sym e ∙ r in let w : _≡_ {A = ℕ} 0 1 = cc in absurd (omega arith)
 

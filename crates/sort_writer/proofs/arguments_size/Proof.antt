@@ -1,0 +1,34 @@
+-- The loop's invariant: the size so far is that of the arguments from the j-th on. Assumes nothing.
+use mathlib.Core.Path.{_≡_}
+use Prim.Native.Nat.{_+_, _-_, _<_}
+use native.Mathlib.Omega.{arith}
+use borrow.Author.Needs.{needs}
+use Rattle.resolved_sort.specs.Storage.{entriesOf}
+use Rattle.sort_writer.specs.Sizes.{runSize}
+use Rattle.sort_writer.proofs.Fills as law
+use Rattle.sort_writer.proofs.arguments_size.Statement.{statement}
+use Rattle.sort_writer.proofs.arguments_size.Tie as tie
+
+abbrev Inv-loop : tie.InvT-loop
+Inv-loop sorts sizes start count j₀ size₀ j size = (j < count) × (size ≡ runSize sizes (entriesOf sorts (start + j) (count - j)))
+
+abbrev μ-loop : tie.MeasureT-loop
+μ-loop sorts sizes start count j₀ size₀ j size = j
+
+pub arguments-size-spec : {M : Type 1} → statement M
+arguments-size-spec =
+    tie.close
+    (tie.spec
+    Inv-loop
+    μ-loop
+    (λ c. law.no-arguments (c .before .before .before .args .sizes .now) (c .before .before .before .args .sorts .now) (c .before .before .before .args .start) (c .before .before .before .args .count) (c .if1 .taken))
+    (λ c. omega arith)
+    (λ c κs. search needs)
+    (λ c. (omega arith, law.last-argument (c .before .before .before .before .args .sizes .now) (c .before .before .before .before .args .sorts .now) (c .before .before .before .before .args .start) (c .before .before .before .before .args .count) (c .before .before .before .before .args .count - 1) _ (omega arith) (c .argument-size .ensures)))
+    (λ c. omega arith)
+    (λ c κs. search needs)
+    (λ c κs. search needs)
+    (λ c κs. search needs)
+    (λ c. omega arith)
+    (λ c. (omega arith, law.one-argument-more (c .before .before .before .before .before .before .before .before .before .args .sizes .now) (c .before .before .before .before .before .before .before .before .before .args .sorts .now) (c .before .before .before .before .before .before .before .before .before .args .start) (c .before .before .before .before .before .before .before .before .before .args .count) (c .before .before .before .before .loop .j) (c .before .before .before .before .loop .j - 1) _ _ _ _ (omega arith) (c .before .before .before .before .loop .inv .0) (c .before .before .before .before .loop .inv .1) (c .before .before .argument-size2 .ensures) (c .before .join-sizes .ensures) (c .join-sizes2 .ensures)))
+    (λ c. law.all-arguments (c .before .before .before .before .before .before .args .sizes .now) (c .before .before .before .before .before .before .args .sorts .now) (c .before .before .before .before .before .before .args .start) (c .before .before .before .before .before .before .args .count) (c .before .loop .j) _ (omega arith) (c .before .loop .inv .1)))

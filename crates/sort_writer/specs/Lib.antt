@@ -1,0 +1,4 @@
+-- What the contracts of this crate cite beside the definitions of sort text.
+pub mod Sizes
+pub mod Puts
+pub mod Packed

@@ -1,0 +1,22 @@
+-- The answer of the writer as one number, for callers in other languages: the length of the text, which is below 2^63; or
+-- 2^63 and the code of a refusal.
+use mathlib.Core.List.{List}
+use Prim.Native.Nat.{ℕ, _+_}
+use Rattle.sort_text.specs.declared.Written.{Written}
+use Rattle.sort_text.specs.declared.Written.the-variants.{Refused, Text}
+use Rattle.sort_text.specs.Writing.{WriteLeft}
+
+abbrev pub packWritten : Written → ℕ
+packWritten (Refused c) = 9223372036854775808 + c
+packWritten (Text n) = n
+
+-- the buffer at exit, and the packed answer
+pub record PackedWrite : Type 0 where
+  pub bytes : List ℕ
+  pub result : ℕ
+
+abbrev pub packed : List ℕ → ℕ → PackedWrite
+packed bs r = record { bytes = bs; result = r }
+
+abbrev pub packLeft : WriteLeft → PackedWrite
+packLeft l = packed (l .bytes) (packWritten (l .answer))

@@ -1,0 +1,33 @@
+-- Bytes put into a buffer one after another.
+use mathlib.Core.Path.{_≡_}
+use mathlib.Core.List.{List, _++_}
+use Prim.Native.Nat.{ℕ, _+_, _<_, _≤_}
+use lib.ListN.{length}
+use lib.Seq.{sets}
+use Rattle.resolved_sort.specs.Tree.{Trees}
+use Rattle.resolved_sort.specs.Storage.{entryAt, entriesOf, lookAll, trees}
+use Rattle.resolved_sort.specs.Entries.{treeAt}
+use Rattle.resolved_sort.specs.Rows.{Checked}
+use Rattle.sort_text.specs.Text.{text, texts}
+
+-- The bytes bs stand in the buffer from `at` on, the rest is as it was, and the next byte goes behind them.
+pub record Put (out : List ℕ) (at : ℕ) (bs : List ℕ) (left : List ℕ) (next : ℕ) : Type 0 where
+  pub bytes : left ≡ sets out at bs
+  pub behind : next ≡ at + length bs
+
+-- the sorts of the c entries from s on
+abbrev pub argsAt : List ℕ → ℕ → ℕ → ℕ → Trees
+argsAt ws n s c = lookAll (trees ws n) (entriesOf ws s c)
+
+-- a sort of a checked list whose text has room from `at` on
+pub record SortRoom (ws : List ℕ) (n e a : ℕ) (out : List ℕ) (at : ℕ) : Type 0 where
+  pub checked : Checked ws n e
+  pub below : a < n
+  pub room : at + length (text (treeAt ws n a)) ≤ length out
+
+-- a run of arguments in a checked list whose texts have room from `at` on
+pub record RunRoom (ws : List ℕ) (n e s c : ℕ) (out : List ℕ) (at : ℕ) : Type 0 where
+  pub checked : Checked ws n e
+  pub inside : s + c ≤ e
+  pub args : (j : ℕ) → j < c → entryAt ws (s + j) < n
+  pub room : at + length (texts (argsAt ws n s c)) ≤ length out
