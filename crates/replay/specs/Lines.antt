@@ -15,6 +15,7 @@ use Rattle.replay.specs.declared.Place.{Place}
 use Rattle.replay.specs.declared.Verdict.{Verdict}
 use Rattle.replay.specs.declared.Verdict.the-variants.{Quiet, Agrees, Differs, NotOfForm}
 use Rattle.replay.specs.declared.Step.{Step}
+use Rattle.replay.specs.declared.Tally.{Tally}
 use Rattle.replay.specs.Numbers.{fieldsOf}
 
 -- L, r, a, c, d, m, j, k
@@ -134,3 +135,14 @@ stepOf ws line p =
     cond (eqb (length line) 0) (stepped ws (notOfForm p))
     (cond (eqb (getD line 0 0) 35) (stepped ws (step p Quiet))
     (cond ((fieldsOf line) .good) (byLetter (letterOf (getD line 0 0)) ws (fieldsOf line) p) (stepped ws (notOfForm p))))
+
+-- one more, up to the largest number of 64 bits
+unfoldable pub oneMore : ℕ → ℕ
+oneMore n = cond (ltb n 18446744073709551615) (n + 1) n
+
+-- the counts after a line
+unfoldable pub countedOf : Tally → Verdict → Tally
+countedOf t Quiet = record { lines = oneMore (t .lines); questions = t .questions; differ = t .differ }
+countedOf t Agrees = record { lines = oneMore (t .lines); questions = oneMore (t .questions); differ = t .differ }
+countedOf t (Differs got) = record { lines = oneMore (t .lines); questions = oneMore (t .questions); differ = oneMore (t .differ) }
+countedOf t NotOfForm = record { lines = oneMore (t .lines); questions = t .questions; differ = oneMore (t .differ) }

@@ -13,7 +13,7 @@ ghost use mathlib.Core.Path.{_≡_};
 ghost use Prim.Native.Nat.{ℕ, _+_, _*_, _≤_};
 ghost use lib.ListN.{length};
 ghost use Rattle.replay.specs.Numbers.{numberAt, endedOf, fieldsOf, noFields};
-ghost use Rattle.replay.specs.Lines.{letterOf, complete as isComplete, kept, storeFrom, stepped, keepOf, beginOf, rowOf, argumentsOf, answerOf, questionOf, stepOf, notOfForm, started};
+ghost use Rattle.replay.specs.Lines.{letterOf, complete as isComplete, kept, storeFrom, stepped, keepOf, beginOf, rowOf, argumentsOf, answerOf, questionOf, stepOf, notOfForm, started, oneMore, countedOf};
 
 // A number that stands at a position of a line: its value, and the position past its digits.
 pub enum Number {
@@ -65,6 +65,14 @@ pub enum Verdict {
 pub struct Step {
     pub place: Place,
     pub verdict: Verdict,
+}
+
+// How many lines were read, how many of them were questions, and how many lines do not agree. Each stops at the
+// largest number.
+pub struct Tally {
+    pub lines: u64,
+    pub questions: u64,
+    pub differ: u64,
 }
 
 // The number at a position of a line, by its decimal digits.
@@ -169,7 +177,7 @@ fn letter_of(letter: u8) -> Letter
 }
 
 // Whether all rows and entries of the list were read.
-fn complete(place: Place) -> bool
+pub fn complete(place: Place) -> bool
     ensures { λ r. ⌜ r ≡ isComplete place ⌝ }
 {
     if place.rows == place.sorts {
@@ -367,6 +375,45 @@ fn answer(list: &[u16; 8192], question: Question, fields: Fields, place: Place) 
     Step {
         place,
         verdict: Verdict::Differs(got),
+    }
+}
+
+// One more, but for the largest number.
+fn one_more(n: u64) -> u64
+    ensures { λ r. ⌜ r ≡ oneMore n ⌝ }
+{
+    if n < 18446744073709551615 {
+        return n + 1;
+    }
+    n
+}
+
+// The counts after a line. A line that is not of the form counts as one that differs.
+pub fn counted(tally: Tally, verdict: Verdict) -> Tally
+    ensures { λ r. ⌜ r ≡ countedOf tally verdict ⌝ }
+{
+    let lines = one_more(tally.lines);
+    match verdict {
+        Verdict::Quiet => Tally {
+            lines,
+            questions: tally.questions,
+            differ: tally.differ,
+        },
+        Verdict::Agrees => Tally {
+            lines,
+            questions: one_more(tally.questions),
+            differ: tally.differ,
+        },
+        Verdict::Differs(_) => Tally {
+            lines,
+            questions: one_more(tally.questions),
+            differ: one_more(tally.differ),
+        },
+        Verdict::NotOfForm => Tally {
+            lines,
+            questions: tally.questions,
+            differ: one_more(tally.differ),
+        },
     }
 }
 
