@@ -1,6 +1,10 @@
 // Reads recorded answers about sorts from standard input and asks the proved entries again. It names each line whose
 // answer differs, with the answer that it got, and each line that is not of the form, and at the end it says how many
 // questions there were and how many lines differ.
+//
+// Its file stdin is a copy, byte for byte, of oracle/recorded/sorts.txt, the recorded answers of the excerpt of merc:
+// `cp oracle/recorded/sorts.txt crates/replay_sorts/stdin`. Its first lines say how they were made, and the lines have
+// the form that the crate replay states.
 use libc::STDIN_FILENO;
 use libc::STDOUT_FILENO;
 use replay::Place;
