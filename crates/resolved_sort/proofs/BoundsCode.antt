@@ -244,7 +244,7 @@ module _ (ws : List ℕ) (C : Counts) (k : Checked ws (C .sorts) (C .entries)) w
       ap (λ j. internRow ws n e (record { kind = kindOp o; part = j; args = [] })) (sym (number-at s h))
       ∙ internRow-interns ws n e k (container o (look T s)) (member-at s h)
 
-  members-below : (xs : List ℕ) → AllBelow n xs → members T (lookAll T xs) ≡ true
+  pub members-below : (xs : List ℕ) → AllBelow n xs → members T (lookAll T xs) ≡ true
   unfolding members lookAll AllBelow
   members-below [] b = refl
   members-below (x ∷ xs) b = and-eq-true-iff (member T (look T x)) (members T (lookAll T xs)) .1 (member-at x (b .0), members-below xs (b .1))

@@ -126,7 +126,7 @@ unfolding entriesOf
 length-entries ws s zero = refl
 length-entries ws s (suc c) = ap suc (length-entries ws (s + 1) c)
 
-arity-lookAll : (T : List Tree) (xs : List ℕ) → arity (lookAll T xs) ≡ length xs
+pub arity-lookAll : (T : List Tree) (xs : List ℕ) → arity (lookAll T xs) ≡ length xs
 unfolding arity lookAll
 arity-lookAll T [] = refl
 arity-lookAll T (x ∷ xs) = omega (arith, arity-lookAll T xs)

@@ -1,0 +1,148 @@
+-- The grammar as derivations: what each answer of the reader rests on, so that a law of read sorts goes by induction on how they
+-- were read. A sort that is read has a derivation, by the clauses of the definitions. Assumes nothing.
+use mathlib.Core.Path.{_≡_, refl}
+use mathlib.Core.List.{List, []}
+use Prim.Native.Nat.{ℕ, zero, suc, _+_, _≤_}
+use native.Mathlib.Omega.{arith}
+use Rattle.resolved_sort.specs.declared.Sort.{Sort}
+use Rattle.resolved_sort.specs.declared.ComplexSort.{ComplexSort}
+use Rattle.resolved_sort.specs.Tree.{primitive, Tree, flat, container, function, Trees, end as none, arg, arity}
+use Rattle.sort_text.specs.Tokens.{isLetter, Next, end, word, open-bracket, close-bracket, hash, arrow, bad, skip, next}
+use Rattle.sort_text.specs.Parse.{Parsed, parsed, _then_, Meaning, basic, over, unknown, meaning, closing, bracketed, operandOf, operandAt, operand, snoc, alone, restAt, rest, sortTo, sort, ending, line}
+use Rattle.sort_text.proofs.Progress.{IfRead, then-if-read, read}
+
+-- the sort, operand or operands that the bytes begin with, and the bytes after it
+mutual
+  pub data Operand : List ℕ → Tree → List ℕ → Type 0 where
+    basic-sort : {bs w cs : List ℕ} {s : Sort} → next isLetter bs ≡ word w cs → meaning w ≡ basic s → Operand bs (flat (primitive s)) cs
+    container-of : {bs w cs ds es fs : List ℕ} {o : ComplexSort} {t : Tree} → next isLetter bs ≡ word w cs → meaning w ≡ over o
+        → next isLetter cs ≡ open-bracket ds → SortOf ds t es → next isLetter es ≡ close-bracket fs → Operand bs (container o t) fs
+
+  pub data SortOf : List ℕ → Tree → List ℕ → Type 0 where
+    one-operand : {bs cs : List ℕ} {t : Tree} → Operand bs t cs → SortOf bs t cs
+    function-of : {bs cs ds es : List ℕ} {ts : Trees} {r : Tree} → Operands bs ts cs → arity ts ≤ 16 → next isLetter cs ≡ arrow ds → SortOf ds r es → SortOf bs (function ts r) es
+
+  pub data Operands : List ℕ → Trees → List ℕ → Type 0 where
+    first : {bs cs : List ℕ} {t : Tree} → Operand bs t cs → Operands bs (arg t none) cs
+    another : {bs cs ds es : List ℕ} {ts us : Trees} {t : Tree} → Operands bs ts cs → next isLetter cs ≡ hash ds → Operand ds t es → us ≡ snoc ts t → Operands bs us es
+
+-- a reader of sorts
+abbrev pub Reads : (List ℕ → Parsed) → Type 0
+Reads f = (bs : List ℕ) → IfRead (SortOf bs) (f bs)
+
+-- two operands alone are no sort
+two-alone : (P : Tree → List ℕ → Type 0) (ts : Trees) (t u : Tree) (at cs : List ℕ) → IfRead P (alone (snoc (snoc ts t) u) at cs)
+unfolding alone snoc
+two-alone P none t u at cs = tt
+two-alone P (arg x none) t u at cs = tt
+two-alone P (arg x (arg y ts)) t u at cs = tt
+
+snoc-alone : {bs cs : List ℕ} {ts : Trees} → Operands bs ts cs → (P : Tree → List ℕ → Type 0) (u : Tree) (at ds : List ℕ) → IfRead P (alone (snoc ts u) at ds)
+unfolding alone snoc
+snoc-alone (first h) P u at ds = tt
+snoc-alone (another {ts = ts} {t = t} h e k i) P u at ds = rw i (two-alone P ts t u at ds)
+
+alone-read : {bs cs : List ℕ} {ts : Trees} → Operands bs ts cs → (at : List ℕ) → IfRead (SortOf bs) (alone ts at cs)
+unfolding alone
+alone-read (first h) at = one-operand h
+alone-read {bs} {cs} (another {t = t} h e k i) at = rw i (snoc-alone h (SortOf bs) t at cs)
+
+pub arity-snoc : (ts : Trees) (t : Tree) → arity (snoc ts t) ≡ arity ts + 1
+unfolding arity snoc
+arity-snoc none t = refl
+arity-snoc (arg s ts) t = rw (arity-snoc ts t)
+
+closing-read : (bs : List ℕ) {w cs ds es : List ℕ} {o : ComplexSort} {t : Tree} → next isLetter bs ≡ word w cs → meaning w ≡ over o → next isLetter cs ≡ open-bracket ds → SortOf ds t es
+    → (at : List ℕ) (n : Next) → next isLetter es ≡ n → IfRead (Operand bs) (closing o t at n)
+unfolding closing
+closing-read bs a b c d at (close-bracket fs) e = container-of a b c d e
+closing-read bs a b c d at end e = tt
+closing-read bs a b c d at (word w fs) e = tt
+closing-read bs a b c d at (open-bracket fs) e = tt
+closing-read bs a b c d at (hash fs) e = tt
+closing-read bs a b c d at (arrow fs) e = tt
+closing-read bs a b c d at bad e = tt
+
+module _ (f : List ℕ → Parsed) (g : Reads f) where
+  bracketed-read : (bs : List ℕ) {w cs : List ℕ} {o : ComplexSort} → next isLetter bs ≡ word w cs → meaning w ≡ over o
+      → (at : List ℕ) (n : Next) → next isLetter cs ≡ n → IfRead (Operand bs) (bracketed f o at n)
+  unfolding bracketed
+  bracketed-read bs a b at (open-bracket ds) e =
+      then-if-read (SortOf ds) (Operand bs) (f ds) _ (g ds) (λ t es h. closing-read bs a b e h (skip es) (next isLetter es) refl)
+  bracketed-read bs a b at end e = tt
+  bracketed-read bs a b at (word w ds) e = tt
+  bracketed-read bs a b at (close-bracket ds) e = tt
+  bracketed-read bs a b at (hash ds) e = tt
+  bracketed-read bs a b at (arrow ds) e = tt
+  bracketed-read bs a b at bad e = tt
+
+  operandOf-read : (bs : List ℕ) {w cs : List ℕ} → next isLetter bs ≡ word w cs → (at : List ℕ) (m : Meaning) → meaning w ≡ m → IfRead (Operand bs) (operandOf f at m cs)
+  unfolding operandOf
+  operandOf-read bs a at (basic s) e = basic-sort a e
+  operandOf-read bs {cs = cs} a at (over o) e = bracketed-read bs a e (skip cs) (next isLetter cs) refl
+  operandOf-read bs a at unknown e = tt
+
+  operandAt-read : (bs at : List ℕ) (n : Next) → next isLetter bs ≡ n → IfRead (Operand bs) (operandAt f at n)
+  unfolding operandAt
+  operandAt-read bs at (word w cs) e = operandOf-read bs e at (meaning w) refl
+  operandAt-read bs at end e = tt
+  operandAt-read bs at (open-bracket cs) e = tt
+  operandAt-read bs at (close-bracket cs) e = tt
+  operandAt-read bs at (hash cs) e = tt
+  operandAt-read bs at (arrow cs) e = tt
+  operandAt-read bs at bad e = tt
+
+  pub operand-read : (bs : List ℕ) → IfRead (Operand bs) (operand f bs)
+  unfolding operand
+  operand-read bs = operandAt-read bs (skip bs) (next isLetter bs) refl
+
+  restAt-read : {bs cs : List ℕ} {ts : Trees} → Operands bs ts cs → arity ts ≤ 16 → (at : List ℕ) (m : List ℕ → Parsed) (n : Next) → next isLetter cs ≡ n
+      → ((ds : List ℕ) → next isLetter cs ≡ hash ds → IfRead (SortOf bs) (m ds)) → IfRead (SortOf bs) (restAt f ts at cs m n)
+  unfolding restAt
+  restAt-read a b at m (hash ds) e k = k ds e
+  restAt-read {bs} a b at m (arrow ds) e k = then-if-read (SortOf ds) (SortOf bs) (f ds) _ (g ds) (λ r es h. function-of a b e h)
+  restAt-read a b at m end e k = alone-read a at
+  restAt-read a b at m (word w ds) e k = alone-read a at
+  restAt-read a b at m (open-bracket ds) e k = alone-read a at
+  restAt-read a b at m (close-bracket ds) e k = alone-read a at
+  restAt-read a b at m bad e k = alone-read a at
+
+  pub rest-read : {bs cs : List ℕ} (k : ℕ) {ts : Trees} → Operands bs ts cs → arity ts + k ≡ 16 → IfRead (SortOf bs) (rest f k ts cs)
+  unfolding rest
+  rest-read {cs = cs} zero a b = restAt-read a (omega arith) (skip cs) _ (next isLetter cs) refl (λ ds e. tt)
+  rest-read {bs} {cs} (suc k) {ts} a b =
+      restAt-read a (omega arith) (skip cs) _ (next isLetter cs) refl
+      (λ ds e. then-if-read (Operand ds) (SortOf bs) (operand f ds) _ (operand-read ds) (λ t es h. rest-read k (another a e h refl) (omega (arith, arity-snoc ts t))))
+
+  step-read : (bs : List ℕ) → IfRead (SortOf bs) (operand f bs then (λ t cs. rest f 15 (arg t none) cs))
+  unfolding arity
+  step-read bs = then-if-read (Operand bs) (SortOf bs) (operand f bs) _ (operand-read bs) (λ t cs h. rest-read 15 (first h) (omega arith))
+
+pub sortTo-reads : (d : ℕ) → Reads (sortTo d)
+unfolding sortTo
+sortTo-reads zero bs = tt
+sortTo-reads (suc d) bs = step-read (sortTo d) (sortTo-reads d) bs
+
+-- What is read was derived.
+pub sort-derived : (bs cs : List ℕ) (t : Tree) → sort bs ≡ parsed t cs → SortOf bs t cs
+unfolding sort
+sort-derived bs cs t e = read (SortOf bs) (sort bs) t cs (sortTo-reads _ bs) e
+
+-- a sort of a line, with what is left after it: spaces only
+abbrev pub LineOf : List ℕ → Tree → List ℕ → Type 0
+LineOf bs t cs = (ds : List ℕ) × SortOf bs t ds × (next isLetter ds ≡ end) × (cs ≡ [])
+
+ending-read : {bs cs : List ℕ} {t : Tree} → SortOf bs t cs → (at : List ℕ) (n : Next) → next isLetter cs ≡ n → IfRead (LineOf bs) (ending t at n)
+unfolding ending
+ending-read {cs} h at end e = (cs, h, e, refl)
+ending-read h at (word w ds) e = tt
+ending-read h at (open-bracket ds) e = tt
+ending-read h at (close-bracket ds) e = tt
+ending-read h at (hash ds) e = tt
+ending-read h at (arrow ds) e = tt
+ending-read h at bad e = tt
+
+pub line-derived : (bs cs : List ℕ) (t : Tree) → line bs ≡ parsed t cs → LineOf bs t cs
+unfolding line sort
+line-derived bs cs t e =
+    read (LineOf bs) (line bs) t cs (then-if-read (SortOf bs) (LineOf bs) (sort bs) _ (sortTo-reads _ bs) (λ u ds h. ending-read h (skip ds) (next isLetter ds) refl)) e

@@ -1,0 +1,120 @@
+-- A pair never runs out of room (15): storing a sort makes at most as many sorts and entries as it has nodes, and a line of 200 bytes
+-- has at most 200 nodes. By the clauses of `store`. Assumes nothing.
+use mathlib.Core.Path.{_≡_, refl, sym, ap, ap₂, subst}
+use mathlib.Core.Bool.{Bool, true, false}
+use mathlib.Core.List.{List}
+use Prim.Native.Nat.{ℕ, _+_, _≤_, _<_}
+use native.Mathlib.Omega.{arith}
+use lib.ListN.{length}
+use Rattle.resolved_sort.specs.declared.ComplexSort.{ComplexSort}
+use Rattle.resolved_sort.specs.Tree.{Flat, Tree, flat, container, function, Trees, end as none, arg, arity}
+use Rattle.resolved_sort.specs.Interning.{Sorts, need, Outcome, made, nothing, full, intern, make}
+use Rattle.resolved_sort.specs.Storage.{sortsOf}
+use Rattle.sort_text.specs.Parse.{parsed, line}
+use Rattle.sort_text.specs.Reading.{store, stores}
+use Rattle.sort_text.proofs.Readable.{size, sizes}
+use Rattle.sort_text.proofs.WhatIsRead.{line-nodes}
+use Rattle.sort_text.proofs.Sizes.{entriesOf, entriesIn, entries-below-size, Spent, Within, within-more, within-then, intern-within, made-within, AnyTree, make-within}
+
+abbrev pub Is : {A : Type 0} → A → A → Type 0
+Is t u = u ≡ t
+
+-- interning what is equal to t
+interned-as : (t u : Tree) (j : ℕ) (S : Sorts) → u ≡ t → need t ≡ j → 0 < S .rows → j ≤ S .entries → Within (Is t) 1 j S (intern u S)
+interned-as t u j S e n p q =
+    subst (λ v. Within (Is t) 1 j S (intern v S)) (sym e)
+    (subst (λ i. Within (Is t) 1 i S (intern t S)) n (intern-within t S p (omega arith)))
+
+flat-need : (a : Flat) → need (flat a) ≡ 0
+unfolding need
+flat-need a = refl
+
+container-need : (o : ComplexSort) (t : Tree) → need (container o t) ≡ 0
+unfolding need
+container-need o t = refl
+
+function-need : (ts : Trees) (r : Tree) → need (function ts r) ≡ arity ts
+unfolding need
+function-need ts r = refl
+
+mutual
+  unfolding store stores size sizes entriesOf entriesIn
+
+  -- Storing a sort stores that sort, with at most one more sort for each of its nodes.
+  pub store-within : (t : Tree) (S : Sorts) → size t ≤ S .rows → entriesOf t ≤ S .entries → Within (Is t) (size t) (entriesOf t) S (store t S)
+  store-within (flat a) S p q = interned-as (flat a) (flat a) 0 S refl (flat-need a) p q
+  store-within (container o t) S p q =
+      within-more (Is (container o t)) (size t + 1) (entriesOf t + 0) (size t + 1) (entriesOf t) S _ (omega arith) (omega arith)
+      (within-then (Is t) (Is (container o t)) (size t) (entriesOf t) 1 0 S (store t S) _ (store-within t S (omega arith) q)
+      (λ u S₁ e x. interned-as (container o t) (container o u) 0 S₁ (ap (container o) e) (container-need o t) (omega (arith, x)) (omega arith)))
+  store-within (function ts r) S p q =
+      within-more (Is (function ts r)) (sizes ts + (size r + 1)) (entriesIn ts + (entriesOf r + arity ts)) (sizes ts + size r + 1) (entriesIn ts + entriesOf r + arity ts) S _ (omega arith) (omega arith)
+      (within-then (Is ts) (Is (function ts r)) (sizes ts) (entriesIn ts) (size r + 1) (entriesOf r + arity ts) S (stores ts S) _ (stores-within ts S (omega arith) (omega arith))
+      (λ us S₁ d x. within-then (Is r) (Is (function ts r)) (size r) (entriesOf r) 1 (arity ts) S₁ (store r S₁) _ (store-within r S₁ (omega (arith, x)) (omega (arith, x)))
+      (λ v S₂ e y. interned-as (function ts r) (function us v) (arity ts) S₂ (ap₂ function d e) (function-need ts r) (omega (arith, x, y)) (omega (arith, x, y)))))
+
+  pub stores-within : (ts : Trees) (S : Sorts) → sizes ts ≤ S .rows → entriesIn ts ≤ S .entries → Within (Is ts) (sizes ts) (entriesIn ts) S (stores ts S)
+  stores-within none S p q = made-within (Is none) 0 0 none S refl
+  stores-within (arg t ts) S p q =
+      within-then (Is t) (Is (arg t ts)) (size t) (entriesOf t) (sizes ts) (entriesIn ts) S (store t S) _ (store-within t S (omega arith) (omega arith))
+      (λ u S₁ d x. within-more (Is (arg t ts)) (sizes ts + 0) (entriesIn ts + 0) (sizes ts) (entriesIn ts) S₁ _ (omega arith) (omega arith)
+      (within-then (Is ts) (Is (arg t ts)) (sizes ts) (entriesIn ts) 0 0 S₁ (stores ts S₁) _ (stores-within ts S₁ (omega (arith, x)) (omega (arith, x)))
+      (λ us S₂ e y. made-within (Is (arg t ts)) 0 0 (arg u us) S₂ (ap₂ arg d e))))
+
+-- the list that an outcome leaves, and whether room had ended
+unfoldable pub listAfter : {A : Type 0} → Outcome A → Sorts
+listAfter (made a S) = S
+listAfter (nothing S) = S
+listAfter (full S) = S
+
+unfoldable pub isFull : {A : Type 0} → Outcome A → Bool
+isFull (made a S) = false
+isFull (nothing S) = false
+isFull (full S) = true
+
+pub within-fits : {A : Type 0} (In : A → Type 0) (k j : ℕ) (S : Sorts) (O : Outcome A) → Within In k j S O → (isFull O ≡ false) × Spent k j S (listAfter O)
+unfolding Within isFull listAfter
+within-fits In k j S (made a S′) h = (refl, h .1)
+within-fits In k j S (nothing S′) h = (refl, h)
+within-fits In k j S (full S′) h = absurd h
+
+pub store-fits : (t : Tree) (S : Sorts) → size t ≤ S .rows → size t ≤ S .entries → (isFull (store t S) ≡ false) × Spent (size t) (size t) S (listAfter (store t S))
+store-fits t S p q =
+    let l = entries-below-size t in
+    within-fits (Is t) (size t) (size t) S (store t S) (within-more (Is t) (size t) (entriesOf t) (size t) (size t) S (store t S) (omega arith) (omega arith) (store-within t S p (omega arith)))
+
+pub make-fits : (up : Bool) (s t : Tree) (S : Sorts) → size s ≤ S .rows → size s ≤ S .entries → (isFull (make up s t S) ≡ false) × Spent (size s) (size s) S (listAfter (make up s t S))
+make-fits up s t S p q =
+    let l = entries-below-size s in
+    within-fits AnyTree (size s) (size s) S (make up s t S)
+    (within-more AnyTree (size s) (entriesOf s) (size s) (size s) S (make up s t S) (omega arith) (omega arith) (make-within up s t S p (omega arith)))
+
+-- Both sorts of a pair stored, then their join, then their meet, each from what the one before leaves: none finds room ended.
+abbrev pub twoStored : Tree → Tree → Sorts → Sorts
+twoStored s t S = listAfter (store t (listAfter (store s S)))
+
+pub record PairFits (s t : Tree) (S : Sorts) : Type 0 where
+  pub first : isFull (store s S) ≡ false
+  pub second : isFull (store t (listAfter (store s S))) ≡ false
+  pub join : isFull (make true s t (twoStored s t S)) ≡ false
+  pub meet : isFull (make false s t (listAfter (make true s t (twoStored s t S)))) ≡ false
+
+-- 800 sorts and 800 entries are room enough.
+pub pair-fits : (bs cs bs′ cs′ : List ℕ) (s t : Tree) (S : Sorts) → length bs ≤ 200 → length bs′ ≤ 200 → line bs ≡ parsed s cs → line bs′ ≡ parsed t cs′
+    → 800 ≤ S .rows → 800 ≤ S .entries → PairFits s t S
+pair-fits bs cs bs′ cs′ s t S l l′ e e′ p q =
+    let m = line-nodes bs cs s e in
+    let m′ = line-nodes bs′ cs′ t e′ in
+    let S₁ = listAfter (store s S) in
+    let a = store-fits s S (omega arith) (omega arith) in
+    let S₂ = twoStored s t S in
+    let b = store-fits t S₁ (omega (arith, a .1)) (omega (arith, a .1)) in
+    let S₃ = listAfter (make true s t S₂) in
+    let c = make-fits true s t S₂ (omega (arith, a .1, b .1)) (omega (arith, a .1, b .1)) in
+    let d = make-fits false s t S₃ (omega (arith, a .1, b .1, c .1)) (omega (arith, a .1, b .1, c .1)) in
+    record { first = a .0; second = b .0; join = c .0; meet = d .0 }
+
+-- The fixed six sorts leave 1,018 sorts and 4,096 entries, so a pair always fits.
+pub pair-fits-from-six : (bs cs bs′ cs′ ws : List ℕ) (s t : Tree) → length bs ≤ 200 → length bs′ ≤ 200 → line bs ≡ parsed s cs → line bs′ ≡ parsed t cs′
+    → PairFits s t (sortsOf ws 6 0)
+pair-fits-from-six bs cs bs′ cs′ ws s t l l′ e e′ = pair-fits bs cs bs′ cs′ s t (sortsOf ws 6 0) l l′ e e′ (omega arith) (omega arith)

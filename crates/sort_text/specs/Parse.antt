@@ -1,0 +1,148 @@
+-- Reading a line as a sort: "`#` binds tighter than `->`, arrows group to the right"; "round brackets stand only after a container
+-- word"; at most 16 arguments. Where the line is no sort, what is left of it from the first token that cannot follow.
+use mathlib.Core.Bool.{Bool, true, false, cond, _&&_}
+use mathlib.Core.List.{List, [], _∷_, _++_}
+use Prim.Native.Nat.{ℕ, zero, suc}
+use lib.ListN.{length}
+use lib.Dec.{eqb}
+use Rattle.resolved_sort.specs.declared.Sort.{Sort}
+use Rattle.resolved_sort.specs.declared.ComplexSort.{ComplexSort}
+use Rattle.resolved_sort.specs.Tree.{primitive, Tree, flat, container, function, Trees, end as none, arg}
+use Rattle.sort_text.specs.Tokens.{isLetter, Next, end, word, open-bracket, close-bracket, hash, arrow, bad, skip, next}
+
+-- a sort and what is left of the line after it, or what is left from the first token that cannot follow
+pub data Parsed : Type 0 where
+  parsed : Tree → List ℕ → Parsed
+  stuck : List ℕ → Parsed
+
+abbrev pub _then_ : Parsed → (Tree → List ℕ → Parsed) → Parsed
+(parsed t bs) then k = k t bs
+(stuck bs) then k = stuck bs
+
+infixl 20 _then_
+unfoldable pub sameBytes : List ℕ → List ℕ → Bool
+sameBytes [] [] = true
+sameBytes [] (c ∷ cs) = false
+sameBytes (b ∷ bs) [] = false
+sameBytes (b ∷ bs) (c ∷ cs) = eqb b c && sameBytes bs cs
+
+-- the words of mCRL2 spelling
+unfoldable pub sortWord : Sort → List ℕ
+sortWord Sort.Bool = 66 ∷ 111 ∷ 111 ∷ 108 ∷ []
+sortWord Sort.Pos = 80 ∷ 111 ∷ 115 ∷ []
+sortWord Sort.Nat = 78 ∷ 97 ∷ 116 ∷ []
+sortWord Sort.Int = 73 ∷ 110 ∷ 116 ∷ []
+sortWord Sort.Real = 82 ∷ 101 ∷ 97 ∷ 108 ∷ []
+
+unfoldable pub opWord : ComplexSort → List ℕ
+opWord ComplexSort.List = 76 ∷ 105 ∷ 115 ∷ 116 ∷ []
+opWord ComplexSort.Set = 83 ∷ 101 ∷ 116 ∷ []
+opWord ComplexSort.FSet = 70 ∷ 83 ∷ 101 ∷ 116 ∷ []
+opWord ComplexSort.Bag = 66 ∷ 97 ∷ 103 ∷ []
+opWord ComplexSort.FBag = 70 ∷ 66 ∷ 97 ∷ 103 ∷ []
+
+pub data Meaning : Type 0 where
+  basic : Sort → Meaning
+  over : ComplexSort → Meaning
+  unknown : Meaning
+
+unfoldable pub meaning : List ℕ → Meaning
+meaning w =
+    cond (sameBytes w (sortWord Sort.Bool)) (basic Sort.Bool)
+    (cond (sameBytes w (sortWord Sort.Pos)) (basic Sort.Pos)
+    (cond (sameBytes w (sortWord Sort.Nat)) (basic Sort.Nat)
+    (cond (sameBytes w (sortWord Sort.Int)) (basic Sort.Int)
+    (cond (sameBytes w (sortWord Sort.Real)) (basic Sort.Real)
+    (cond (sameBytes w (opWord ComplexSort.List)) (over ComplexSort.List)
+    (cond (sameBytes w (opWord ComplexSort.Set)) (over ComplexSort.Set)
+    (cond (sameBytes w (opWord ComplexSort.FSet)) (over ComplexSort.FSet)
+    (cond (sameBytes w (opWord ComplexSort.Bag)) (over ComplexSort.Bag)
+    (cond (sameBytes w (opWord ComplexSort.FBag)) (over ComplexSort.FBag) unknown)))))))))
+
+-- `)` after the sort in brackets
+unfoldable pub closing : ComplexSort → Tree → List ℕ → Next → Parsed
+closing o t at (close-bracket bs) = parsed (container o t) bs
+closing o t at end = stuck at
+closing o t at (word w bs) = stuck at
+closing o t at (open-bracket bs) = stuck at
+closing o t at (hash bs) = stuck at
+closing o t at (arrow bs) = stuck at
+closing o t at bad = stuck at
+
+-- `(` after a container word, the sort in it, and `)`
+unfoldable pub bracketed : (List ℕ → Parsed) → ComplexSort → List ℕ → Next → Parsed
+bracketed sort o at (open-bracket bs) = sort bs then (λ t cs. closing o t (skip cs) (next isLetter cs))
+bracketed sort o at end = stuck at
+bracketed sort o at (word w bs) = stuck at
+bracketed sort o at (close-bracket bs) = stuck at
+bracketed sort o at (hash bs) = stuck at
+bracketed sort o at (arrow bs) = stuck at
+bracketed sort o at bad = stuck at
+
+unfoldable pub operandOf : (List ℕ → Parsed) → List ℕ → Meaning → List ℕ → Parsed
+operandOf sort at (basic s) bs = parsed (flat (primitive s)) bs
+operandOf sort at (over o) bs = bracketed sort o (skip bs) (next isLetter bs)
+operandOf sort at unknown bs = stuck at
+
+-- an operand: a basic sort, or a container over a sort in brackets
+unfoldable pub operandAt : (List ℕ → Parsed) → List ℕ → Next → Parsed
+operandAt sort at (word w bs) = operandOf sort at (meaning w) bs
+operandAt sort at end = stuck at
+operandAt sort at (open-bracket bs) = stuck at
+operandAt sort at (close-bracket bs) = stuck at
+operandAt sort at (hash bs) = stuck at
+operandAt sort at (arrow bs) = stuck at
+operandAt sort at bad = stuck at
+
+unfoldable pub operand : (List ℕ → Parsed) → List ℕ → Parsed
+operand sort bs = operandAt sort (skip bs) (next isLetter bs)
+
+unfoldable pub snoc : Trees → Tree → Trees
+snoc none t = arg t none
+snoc (arg s ss) t = arg s (snoc ss t)
+
+-- one operand alone is a sort; several are the arguments of a function and want an arrow
+unfoldable pub alone : Trees → List ℕ → List ℕ → Parsed
+alone none at bs = stuck at
+alone (arg t none) at bs = parsed t bs
+alone (arg t (arg u us)) at bs = stuck at
+
+-- after the operands ts: `#` and what comes then, `->` and the range, or the end of the sort
+unfoldable pub restAt : (List ℕ → Parsed) → Trees → List ℕ → List ℕ → (List ℕ → Parsed) → Next → Parsed
+restAt sort ts at bs more (hash cs) = more cs
+restAt sort ts at bs more (arrow cs) = sort cs then (λ r ds. parsed (function ts r) ds)
+restAt sort ts at bs more end = alone ts at bs
+restAt sort ts at bs more (word w cs) = alone ts at bs
+restAt sort ts at bs more (open-bracket cs) = alone ts at bs
+restAt sort ts at bs more (close-bracket cs) = alone ts at bs
+restAt sort ts at bs more bad = alone ts at bs
+
+-- of operands k more may come; a seventeenth argument's `#` cannot follow
+unfoldable pub rest : (List ℕ → Parsed) → ℕ → Trees → List ℕ → Parsed
+rest sort zero ts bs = restAt sort ts (skip bs) bs (λ cs. stuck (skip bs)) (next isLetter bs)
+rest sort (suc k) ts bs = restAt sort ts (skip bs) bs (λ cs. operand sort cs then (λ t ds. rest sort k (snoc ts t) ds)) (next isLetter bs)
+
+abbrev pub maxArguments : ℕ
+maxArguments = 16
+
+-- a sort, read to a depth of brackets and arrows
+unfoldable pub sortTo : ℕ → List ℕ → Parsed
+sortTo zero bs = stuck bs
+sortTo (suc d) bs = operand (sortTo d) bs then (λ t cs. rest (sortTo d) 15 (arg t none) cs)
+
+-- Each bracket and arrow takes a byte of the line, so its length is depth enough.
+unfoldable pub sort : List ℕ → Parsed
+sort bs = sortTo (suc (length bs)) bs
+
+-- after the sort of a line nothing but spaces
+unfoldable pub ending : Tree → List ℕ → Next → Parsed
+ending t at end = parsed t []
+ending t at (word w bs) = stuck at
+ending t at (open-bracket bs) = stuck at
+ending t at (close-bracket bs) = stuck at
+ending t at (hash bs) = stuck at
+ending t at (arrow bs) = stuck at
+ending t at bad = stuck at
+
+unfoldable pub line : List ℕ → Parsed
+line bs = sort bs then (λ t cs. ending t (skip cs) (next isLetter cs))

@@ -1,0 +1,74 @@
+-- A sort as a list of steps, parts first: the order in which a line's sorts are stored. Recognising a line writes the steps, storing
+-- carries them out on a stack, so that a line which is no sort stores nothing.
+use mathlib.Core.Bool.{Bool, true, false, cond}
+use mathlib.Core.List.{List, [], _∷_, _++_}
+use Prim.Native.Nat.{ℕ, zero, suc, _+_, _-_, _≤_}
+use lib.ListN.{length, getD}
+use lib.Dec.{leb, ltb}
+use Rattle.resolved_sort.specs.declared.Sort.{Sort}
+use Rattle.resolved_sort.specs.declared.ComplexSort.{ComplexSort}
+use Rattle.resolved_sort.specs.Tree.{unit, primitive, Tree, flat, container, function, Trees, end, arg, arity}
+use Rattle.resolved_sort.specs.Interning.{Sorts, Outcome, made, nothing, full, _then_, intern}
+use Rattle.resolved_sort.specs.Storage.{kindFlat, kindOp}
+
+-- The steps: 0 to 5 the fixed six sorts, 6 to 10 a container over the sort before, 16 + k a function of the k sorts before the
+-- range before.
+unfoldable mutual
+  pub postfix : Tree → List ℕ
+  postfix (flat a) = kindFlat a ∷ []
+  postfix (container o t) = postfix t ++ (kindOp o ∷ [])
+  postfix (function ts r) = postfixes ts ++ (postfix r ++ ((16 + arity ts) ∷ []))
+
+  pub postfixes : Trees → List ℕ
+  postfixes end = []
+  postfixes (arg t ts) = postfix t ++ postfixes ts
+
+-- the sorts of the steps 0 to 5, and the operators of the steps 6 to 10
+abbrev pub sixth : ℕ → Tree
+sixth k = getD (flat unit ∷ flat (primitive Sort.Bool) ∷ flat (primitive Sort.Pos) ∷ flat (primitive Sort.Nat) ∷ flat (primitive Sort.Int) ∷ []) k (flat (primitive Sort.Real))
+
+abbrev pub opOf : ℕ → ComplexSort
+opOf k = getD (ComplexSort.List ∷ ComplexSort.Set ∷ ComplexSort.FSet ∷ ComplexSort.Bag ∷ []) k ComplexSort.FBag
+
+-- A stack of sorts, the last one first.
+abbrev pub over : ComplexSort → List Tree → Sorts → Outcome (List Tree)
+over o [] S = nothing S
+over o (t ∷ st) S = intern (container o t) S then (λ u S. made (u ∷ st) S)
+
+-- the k sorts on top, the deepest first, as arguments in front of ts; what is below them
+pub data Taken : Type 0 where
+  taken : Trees → List Tree → Taken
+  short : Taken
+
+unfoldable pub takeArguments : ℕ → Trees → List Tree → Taken
+takeArguments zero ts st = taken ts st
+takeArguments (suc k) ts [] = short
+takeArguments (suc k) ts (t ∷ st) = takeArguments k (arg t ts) st
+
+abbrev pub applied : Tree → Taken → Sorts → Outcome (List Tree)
+applied r short S = nothing S
+applied r (taken ts st) S = intern (function ts r) S then (λ u S. made (u ∷ st) S)
+
+abbrev pub mapping : ℕ → List Tree → Sorts → Outcome (List Tree)
+mapping k [] S = nothing S
+mapping k (r ∷ st) S = applied r (takeArguments k end st) S
+
+-- one step
+unfoldable pub stepOn : ℕ → List Tree → Sorts → Outcome (List Tree)
+stepOn op st S =
+    cond (ltb op 6) (made (sixth op ∷ st) S)
+    (cond (ltb op 11) (over (opOf (op - 6)) st S) (mapping (op - 16) st S))
+
+-- the sort on top when all steps are done
+abbrev pub top : List Tree → Sorts → Outcome Tree
+top [] S = nothing S
+top (t ∷ st) S = made t S
+
+unfoldable pub steps : List ℕ → List Tree → Sorts → Outcome Tree
+steps [] st S = top st S
+steps (op ∷ ops) st S = stepOn op st S then (λ st S. steps ops st S)
+
+-- no step makes a function of more than 16 arguments
+unfoldable pub Short : List ℕ → Type 0
+Short [] = Unit {0}
+Short (op ∷ ops) = (op ≤ 32) × Short ops

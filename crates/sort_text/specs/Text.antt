@@ -1,0 +1,59 @@
+-- Writing a sort: "the writer joins argument texts by ` # `, then ` -> ` and the range". Unit, Def, TypeVar and functions without
+-- arguments have no text (13).
+use mathlib.Core.Bool.{Bool, true, false, _&&_}
+use mathlib.Core.List.{List, [], _∷_, _++_}
+use Prim.Native.Nat.{ℕ}
+use Rattle.resolved_sort.specs.Tree.{Flat, unit, primitive, def, typevar, Tree, flat, container, function, Trees, end, arg}
+use Rattle.sort_text.specs.Parse.{sortWord, opWord}
+
+abbrev pub some : Trees → Bool
+some end = false
+some (arg t ts) = true
+
+abbrev pub flatWritable : Flat → Bool
+flatWritable unit = false
+flatWritable (primitive s) = true
+flatWritable (def n) = false
+flatWritable (typevar n) = false
+
+unfoldable mutual
+  pub writable : Tree → Bool
+  writable (flat a) = flatWritable a
+  writable (container o t) = writable t
+  writable (function ts r) = some ts && writables ts && writable r
+
+  pub writables : Trees → Bool
+  writables end = true
+  writables (arg t ts) = writable t && writables ts
+
+-- the bytes ` # ` and ` -> `
+abbrev pub between : List ℕ
+between = 32 ∷ 35 ∷ 32 ∷ []
+
+abbrev pub arrow : List ℕ
+arrow = 32 ∷ 45 ∷ 62 ∷ 32 ∷ []
+
+abbrev pub flatText : Flat → List ℕ
+flatText unit = []
+flatText (primitive s) = sortWord s
+flatText (def n) = []
+flatText (typevar n) = []
+
+-- The text of an argument, from that of the sort. (A later request puts brackets around functions here.)
+abbrev pub argument : Tree → List ℕ → List ℕ
+argument t bs = bs
+
+unfoldable mutual
+  pub text : Tree → List ℕ
+  text (flat a) = flatText a
+  text (container o t) = opWord o ++ (40 ∷ (text t ++ (41 ∷ [])))
+  text (function ts r) = texts ts ++ (arrow ++ text r)
+
+  -- the arguments of a function, joined
+  pub texts : Trees → List ℕ
+  texts end = []
+  texts (arg t ts) = argument t (text t) ++ more ts
+
+  pub more : Trees → List ℕ
+  more end = []
+  more (arg t ts) = between ++ (argument t (text t) ++ more ts)
