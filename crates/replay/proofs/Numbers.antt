@@ -1,7 +1,7 @@
--- Reading digits from left to right comes to the value of all of them; reading numbers one by one to the numbers of the
+-- Reading digits from left to right comes to the value of all of them; reading numbers one by one to the numbers of
+-- the
 -- line. Assumes nothing.
-use mathlib.Core.Path.{_≡_, refl, sym, ap, _∙_}
-use mathlib.Core.Bool.{true, false}
+use mathlib.Core.Path.{_≡_, refl, ap, _∙_}
 use mathlib.Core.List.{List, [], _∷_}
 use Prim.Native.Nat.{ℕ, zero, suc, _+_, _*_, _-_, _<_, _≤_}
 use native.Mathlib.Numerals.{add-one}
@@ -9,10 +9,8 @@ use native.Mathlib.Omega.{arith}
 use lib.ListN.{length, getD, set, drop, drop-of-length-le}
 use lib.Seq.{drop-cons}
 use borrow.Author.Tests.{lt-ltb, le-ltb, le-leb, lt-leb, eq-eqb, ne-eqb}
-use Rattle.replay.specs.declared.Number.{Number}
 use Rattle.replay.specs.declared.Number.the-variants.{Is, Nothing}
-use Rattle.replay.specs.declared.Fields.{Fields}
-use Rattle.replay.specs.Numbers.{isDigit, digits, valueAfter, tooLarge, numberOf, numberAt, endedOf, noFields, allRead, afterNumber, fieldsFrom, fieldsOf}
+use Rattle.replay.specs.Numbers.{isDigit, digits, valueAfter, tooLarge, numberOf, numberAt, endedOf, noFields, allRead, afterNumber, fieldsFrom}
 
 pub digits-end : (line : List ℕ) (i : ℕ) → length line ≤ i → digits (drop i line) ≡ []
 unfolding digits

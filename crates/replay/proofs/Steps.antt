@@ -1,5 +1,5 @@
 -- What comes of a line, by the tests on its way. Assumes nothing.
-use mathlib.Core.Path.{_≡_, refl, sym, ap, _∙_}
+use mathlib.Core.Path.{_≡_, sym, _∙_}
 use mathlib.Core.Bool.{Bool, true, false, not}
 use mathlib.Core.List.{List}
 use Prim.Native.Nat.{ℕ, _+_, _*_, _<_, _≤_}
@@ -13,7 +13,7 @@ use Rattle.replay.specs.declared.Place.{Place}
 use Rattle.replay.specs.declared.Verdict.the-variants.{Quiet, Agrees, Differs}
 use Rattle.replay.specs.declared.Step.{Step}
 use Rattle.replay.specs.Numbers.{fieldsOf}
-use Rattle.replay.specs.Lines.{letterOf, complete, step, notOfForm, Kept, kept, storeFrom, Stepped, stepped, keepOf, beginOf, rowOf, argumentsOf, answerOf, questionOf, byLetter, stepOf}
+use Rattle.replay.specs.Lines.{letterOf, complete, step, notOfForm, kept, storeFrom, Stepped, stepped, keepOf, beginOf, rowOf, argumentsOf, answerOf, questionOf, byLetter, stepOf}
 
 pub other-letter :
     (b : ℕ) → (b ≡ 76 → ⊥) → (b ≡ 114 → ⊥) → (b ≡ 97 → ⊥) → (b ≡ 99 → ⊥) → (b ≡ 100 → ⊥) → (b ≡ 109 → ⊥) → (b ≡ 106 → ⊥) → (b ≡ 107 → ⊥)

@@ -1,4 +1,5 @@
--- The loop's invariant: reading from here on comes to the numbers of the line. The measure is the room left. Assumes nothing.
+-- The loop's invariant: reading from here on comes to the numbers of the line. The measure is the room left.
+-- Assumes nothing.
 use Prim.Native.Nat.{_-_, _≤_}
 use borrow.Author.Needs.{needs}
 use lib.ListN.{length, length-set}

@@ -1,5 +1,6 @@
--- The loop's invariant: the digits left continue the value read. The measure is what is left of the line. Assumes nothing.
-use Prim.Native.Nat.{_-_, _+_}
+-- The loop's invariant: the digits left continue the value read. The measure is what is left of the line.
+-- Assumes nothing.
+use Prim.Native.Nat.{_-_}
 use borrow.Author.Needs.{needs}
 use lib.ListN.{length}
 use mathlib.Core.Path.{_∙_}

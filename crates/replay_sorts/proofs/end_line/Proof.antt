@@ -1,4 +1,5 @@
--- The part of the line's buffer that is lent is as long as the line. What `read` and `write` answer is what the C library's contracts say; nothing else is assumed.
+-- The part of the line's buffer that is lent is as long as the line.
+-- What `read` and `write` answer is what the C library's contracts say; nothing else is assumed.
 use borrow.Author.Needs.{needs}
 use lib.Seq.{length-take-le}
 use mathlib.Core.Path.{sym}

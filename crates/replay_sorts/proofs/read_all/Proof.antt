@@ -1,4 +1,5 @@
--- The invariant: the buffer keeps its length. The measure is the number of turns left. What `read` and `write` answer is what the C library's contracts say; nothing else is assumed.
+-- The invariant: the buffer keeps its length. The measure is the number of turns left.
+-- What `read` and `write` answer is what the C library's contracts say; nothing else is assumed.
 use borrow.Author.Needs.{needs}
 use lib.ListN.{length}
 use mathlib.Core.Path.{_≡_, refl, _∙_}

@@ -1,4 +1,5 @@
--- The invariant: the index is within the bytes, and the buffer keeps its length. The measure is what is left. What `read` and `write` answer is what the C library's contracts say; nothing else is assumed.
+-- The invariant: the index is within the bytes, and the buffer keeps its length. The measure is what is left.
+-- What `read` and `write` answer is what the C library's contracts say; nothing else is assumed.
 use Prim.Native.Nat.{_-_, _≤_}
 use borrow.Author.Needs.{needs}
 use lib.ListN.{length}
