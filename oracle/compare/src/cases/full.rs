@@ -79,3 +79,22 @@ fn fill_entries(draft: &mut Draft) {
     }
     draft.entries.resize(count, u16::MAX);
 }
+
+#[cfg(test)]
+mod tests {
+    use crate::cases::*;
+
+    fn counts(class: Class) -> impl Iterator<Item = (usize, usize)> {
+        let cases = Cases::new(class, 1);
+        (0..500)
+            .map(move |index| cases.case(index).expect("a random class has no end").memory)
+            .map(|memory| (memory.sort_count, memory.entry_count))
+    }
+
+    #[test]
+    fn full_lists_are_full() {
+        assert!(counts(Class::FullRows).all(|(sorts, _)| (1_022..=1_024).contains(&sorts)));
+        assert!(counts(Class::FullRows).any(|(_, entries)| (4_080..=4_096).contains(&entries)));
+        assert!(counts(Class::FullEntries).all(|(_, entries)| (4_080..=4_096).contains(&entries)));
+    }
+}
