@@ -1,14 +1,15 @@
 #!/bin/bash
 # Compares the proved sorts layer with the excerpt of merc, in short: under a minute once the library is built.
-# The library is proved and built first where it is not there or older than the crates (about 3 minutes).
+# The library is proved and built first where it is not there or older than its crates (about 3 minutes).
 set -euo pipefail
 cd "$(dirname "$0")"
 library=../target/staticlib/libsort_entries.a
+sources=(../crates/{resolved_sort,sort_interner,sort_order,sort_bounds,sort_entries})
 
 step() { echo "== $1"; }
 compare() { target/release/oracle-compare --class "$1" --seed 7 --from "$2" --count "$3"; }
 
-if [ ! -f "$library" ] || [ -n "$(find ../crates ../crates.txt -newer "$library" -print -quit)" ]; then
+if [ ! -f "$library" ] || [ -n "$(find "${sources[@]}" -newer "$library" -print -quit)" ]; then
     step "the proved library"
     (cd .. && rt staticlib sort_entries)
 fi
