@@ -3,4 +3,4 @@
 pub mod ask;
 pub mod generate;
 pub mod options;
-mod rng;
+pub mod rng;

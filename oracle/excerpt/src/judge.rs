@@ -6,17 +6,15 @@ use lists::verdict::End;
 use lists::verdict::Heard;
 use lists::verdict::Reply;
 
+use crate::Lattice;
 use crate::SortInterner;
 use crate::Unifier;
 use crate::inference;
-use crate::resolved_sort;
-use crate::resolved_sort::bridge::number;
-use crate::resolved_sort::bridge::sort_id;
 use crate::unification;
 
 /// Asks about a list that no check before the search refuses.
 pub fn ask(memory: &Memory, question: Question) -> Heard {
-    let mut sorts = resolved_sort::bridge::load(memory);
+    let mut lattice = Lattice::load(memory);
     let mut unifier = match question {
         Question::Solve | Question::Unify(..) => unification::bridge::load(memory),
         _ => Unifier::new(),
@@ -24,17 +22,11 @@ pub fn ask(memory: &Memory, question: Question) -> Heard {
     #[cfg(feature = "counting")]
     crate::ledger::begin(memory);
     let reply = match question {
-        Question::Solve => Reply::Solve(inference::bridge::solve(&mut sorts, &mut unifier, memory)),
-        Question::Unify(lhs, rhs) => Reply::Unify(unify(&sorts, &mut unifier, memory, lhs, rhs)),
-        Question::PartialCmp(lhs, rhs) => Reply::Order(sorts.partial_cmp(sort_id(lhs), sort_id(rhs))),
-        Question::Join(lhs, rhs) => Reply::Bound(sorts.join(sort_id(lhs), sort_id(rhs)).map(number)),
-        Question::Meet(lhs, rhs) => Reply::Bound(sorts.meet(sort_id(lhs), sort_id(rhs)).map(number)),
-        Question::WideningDistance(from, to) => Reply::Distance(sorts.widening_distance(sort_id(from), sort_id(to))),
-        Question::IsMaterializable(from, to) => {
-            Reply::Materializable(sorts.is_materializable(sort_id(from), sort_id(to)))
-        }
+        Question::Solve => Reply::Solve(inference::bridge::solve(&mut lattice.sorts, &mut unifier, memory)),
+        Question::Unify(lhs, rhs) => Reply::Unify(unify(&lattice.sorts, &mut unifier, memory, lhs, rhs)),
+        _ => lattice.ask(question),
     };
-    Heard { reply, new: resolved_sort::bridge::sorts_from(&sorts, memory.sort_count) }
+    Heard { reply, new: lattice.sorts_from(memory.sort_count) }
 }
 
 fn unify(sorts: &SortInterner, unifier: &mut Unifier, memory: &Memory, lhs: u16, rhs: u16) -> Option<Vec<End>> {

@@ -7,8 +7,8 @@ use crate::memory::target;
 use crate::read::Words;
 use crate::verdict::End;
 use crate::verdict::Heard;
-use crate::verdict::NewSort;
 use crate::verdict::Reply;
+use crate::verdict::Shape;
 use crate::verdict::Tally;
 use crate::verdict::Verdict;
 use crate::write::place_word;
@@ -152,7 +152,7 @@ fn choice_words(choices: &[(u16, u16)]) -> Vec<String> {
     choices.iter().map(|(expression, position)| format!("e{expression} {position}")).collect()
 }
 
-fn new_words(first: usize, new: &[NewSort]) -> Vec<String> {
+fn new_words(first: usize, new: &[Shape]) -> Vec<String> {
     let numbered = new.iter().enumerate();
     numbered.map(|(index, sort)| format!("s{} {}", first + index, shape_words(sort))).collect()
 }

@@ -177,6 +177,11 @@ pub struct Memory {
 }
 
 impl Memory {
+    /// A list of sorts alone: rows, and entries from their fixed place on.
+    pub fn of_sorts(sorts: Vec<u16>, sort_count: usize, entry_count: usize) -> Memory {
+        Memory { sorts, sort_count, entry_count, ..Memory::default() }
+    }
+
     pub fn sort(&self, number: usize) -> Row {
         Row::of(&self.sorts[number * ROW..][..ROW])
     }
@@ -199,12 +204,12 @@ impl Memory {
 
     /// The arguments of a function sort whose run is inside its list.
     pub fn sort_arguments(&self, row: Row) -> &[u16] {
-        &self.sorts[ENTRIES_AT + usize::from(row.start)..][..usize::from(row.count)]
+        run(&self.sorts, ENTRIES_AT, row)
     }
 
     /// The arguments of a function node whose run is inside its list.
     pub fn node_arguments(&self, row: Row) -> &[u16] {
-        &self.nodes[NODE_ENTRIES_AT + usize::from(row.start)..][..usize::from(row.count)]
+        run(&self.nodes, NODE_ENTRIES_AT, row)
     }
 
     pub fn constraints(&self) -> impl Iterator<Item = &[u16]> {
@@ -224,5 +229,13 @@ impl Memory {
 
     pub fn disjunctions(&self) -> usize {
         self.constraints().filter(|row| row[0] == constraint::DISJUNCTION).count()
+    }
+}
+
+/// The run of a row. An empty one needs no words: the slice may end before the entries.
+fn run(words: &[u16], entries_at: usize, row: Row) -> &[u16] {
+    match row.count {
+        0 => &[],
+        count => &words[entries_at + usize::from(row.start)..][..usize::from(count)],
     }
 }

@@ -2,9 +2,9 @@
 
 use std::cmp::Ordering;
 
-/// A sort that a call made, by its parts.
-#[derive(Clone, Debug, Eq, PartialEq)]
-pub struct NewSort {
+/// A sort by its kind and the numbers of its parts.
+#[derive(Clone, Debug, Eq, Hash, PartialEq)]
+pub struct Shape {
     pub kind: u16,
     pub part: u16,
     pub arguments: Vec<u16>,
@@ -88,5 +88,5 @@ pub enum Reply {
 #[derive(Clone, Debug, Eq, PartialEq)]
 pub struct Heard {
     pub reply: Reply,
-    pub new: Vec<NewSort>,
+    pub new: Vec<Shape>,
 }

@@ -9,7 +9,7 @@ use crate::memory::*;
 use crate::question::Question;
 use crate::read::CONTAINERS;
 use crate::read::FIXED_SORTS;
-use crate::verdict::NewSort;
+use crate::verdict::Shape;
 
 /// Words on one line of a long run.
 const PER_LINE: usize = 16;
@@ -42,7 +42,7 @@ fn function_words(arguments: &[u16], range: u16, name: fn(u16) -> String) -> Str
 }
 
 /// A sort that a call made, in the words of a `sort` line.
-pub fn shape_words(sort: &NewSort) -> String {
+pub fn shape_words(sort: &Shape) -> String {
     match sort.kind {
         kind::FUNCTION => function_words(&sort.arguments, sort.part, sort_word),
         kind::LIST..=kind::FBAG => format!("{} {}", container_word(sort.kind), sort_word(sort.part)),

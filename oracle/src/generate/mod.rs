@@ -14,6 +14,8 @@ use lists::question::Question;
 
 use crate::rng::Rng;
 
+pub use random::of_sorts;
+
 /// Kinds of lists that can be made.
 #[derive(Clone, Copy, Debug, Eq, PartialEq)]
 pub enum Class {

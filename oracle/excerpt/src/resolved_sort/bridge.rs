@@ -1,15 +1,19 @@
-//! Puts a sort list into a [SortInterner] and reads new sorts out of it.
+//! Puts a sort list into a [SortInterner] and reads sorts out of it.
 
 use lists::memory::Memory;
 use lists::memory::kind;
-use lists::verdict::NewSort;
+use lists::verdict::Shape;
 use merc_syntax::ComplexSort;
+use merc_syntax::Sort;
 use merc_syntax::SortId;
 use merc_syntax::TypeVarId;
 
 use super::ResolvedSort;
 use super::ResolvedSortId;
 use super::SortInterner;
+
+/// The primitive sorts by kind from [kind::BOOL] on.
+const PRIMITIVES: [Sort; 5] = [Sort::Bool, Sort::Pos, Sort::Nat, Sort::Int, Sort::Real];
 
 /// The containers by kind from [kind::LIST] on.
 const CONTAINERS: [ComplexSort; 5] =
@@ -44,25 +48,34 @@ pub(crate) fn load(memory: &Memory) -> SortInterner {
 }
 
 /// The sorts from number `first` on, in order of making.
-pub(crate) fn sorts_from(sorts: &SortInterner, first: usize) -> Vec<NewSort> {
-    sorts.arena[first..].iter().map(new_sort).collect()
+pub(crate) fn sorts_from(sorts: &SortInterner, first: usize) -> Vec<Shape> {
+    sorts.arena[first..].iter().map(shape).collect()
 }
 
 pub(crate) fn number(id: ResolvedSortId) -> u16 {
-    u16::try_from(*id).expect("sort numbers fit a word")
+    word(*id)
 }
 
-fn new_sort(sort: &ResolvedSort) -> NewSort {
+fn word(index: usize) -> u16 {
+    u16::try_from(index).expect("sort numbers fit a word")
+}
+
+fn shape(sort: &ResolvedSort) -> Shape {
+    let plain = |kind, part| Shape { kind, part, arguments: Vec::new() };
     match sort {
-        ResolvedSort::Container { op, subsort } => {
-            let index = CONTAINERS.iter().position(|container| container == op).expect("a known container");
-            NewSort { kind: kind::LIST + index as u16, part: number(*subsort), arguments: Vec::new() }
-        }
-        ResolvedSort::Function { domain, range } => NewSort {
+        ResolvedSort::Unit => plain(kind::UNIT, 0),
+        ResolvedSort::Primitive(sort) => plain(kind::BOOL + position(&PRIMITIVES, sort), 0),
+        ResolvedSort::Container { op, subsort } => plain(kind::LIST + position(&CONTAINERS, op), number(*subsort)),
+        ResolvedSort::Function { domain, range } => Shape {
             kind: kind::FUNCTION,
             part: number(*range),
             arguments: domain.iter().map(|&argument| number(argument)).collect(),
         },
-        other => panic!("no call makes the sort {other:?}"),
+        ResolvedSort::Def(id) => plain(kind::DEF, word(**id)),
+        ResolvedSort::TypeVar(id) => plain(kind::TYPE_VAR, word(**id)),
     }
+}
+
+fn position<T: PartialEq>(all: &[T], one: &T) -> u16 {
+    all.iter().position(|other| other == one).map(word).expect("every one is listed")
 }

@@ -1,0 +1,11 @@
+//! Compares the proved sorts layer with the excerpt of merc: the same lists and questions in one
+//! process, the answer and all lent memory at exit.
+
+pub mod cases;
+pub mod compare;
+pub mod draft;
+pub mod expected;
+pub mod junk;
+pub mod options;
+pub mod port;
+pub mod text;
