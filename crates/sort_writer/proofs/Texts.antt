@@ -3,7 +3,7 @@
 -- length. Assumes nothing.
 use mathlib.Core.Path.{_≡_, refl, sym, _∙_, ap, subst}
 use mathlib.Core.List.{List, [], _∷_, _++_, append-nil}
-use Prim.Native.Nat.{ℕ, zero, suc, _+_, _-_, _*_, _<_, _≤_}
+use Prim.Native.Nat.{ℕ, _+_, _-_, _*_, _<_, _≤_}
 use native.Mathlib.Omega.{arith}
 use lib.ListN.{length, length-append}
 use lib.Seq.{append-snoc}
@@ -13,15 +13,14 @@ use Rattle.resolved_sort.specs.declared.ComplexSort.{ComplexSort}
 use Rattle.resolved_sort.specs.declared.Run.{Run}
 use Rattle.resolved_sort.specs.declared.ResolvedSort.{ResolvedSort}
 use Rattle.resolved_sort.specs.declared.ResolvedSort.the-variants.{Unit as UnitRow, Primitive, Container, Function, Def, TypeVar}
-use Rattle.resolved_sort.specs.Tree.{Tree, container, function, Trees, end, arg}
+use Rattle.resolved_sort.specs.Tree.{Tree, Trees, arg}
 use Rattle.resolved_sort.specs.Storage.{entryAt, entriesOf, rowAt, lookAll, trees}
 use Rattle.resolved_sort.specs.Entries.{treeAt}
-use Rattle.resolved_sort.specs.Rows.{AllBelow}
 use Rattle.resolved_sort.proofs.Interned.{listed}
 use Rattle.resolved_sort.proofs.Pairs.{sortOf, Below}
 use Rattle.resolved_sort.proofs.Said.{entry-below, first-entry, topOf, top-below, first-below-top, rest-below-top}
 use Rattle.sort_text.specs.Parse.{sortWord, opWord}
-use Rattle.sort_text.specs.Text.{flatText, text, texts, more, between, arrow, argument}
+use Rattle.sort_text.specs.Text.{text, texts, more, between, arrow}
 use Rattle.sort_writer.specs.Puts.{Put, argsAt, SortRoom, RunRoom}
 use Rattle.sort_writer.proofs.Rows.{row-says, row-parts}
 use Rattle.sort_writer.proofs.Puts.{put-none, put-then, put-as, put-length}
