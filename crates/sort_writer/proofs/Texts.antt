@@ -179,9 +179,9 @@ texts-of : (t : Tree) (ts : Trees) → texts (arg t ts) ≡ text t ++ more ts
 unfolding text
 texts-of t ts = refl
 
-more-texts : (ws : List ℕ) (n s c : ℕ) → (c ≡ 0 → ⊥) → (c ≡ 1 → ⊥) → texts (argsAt ws n s c) ≡ text (treeAt ws n (entryAt ws s)) ++ (between ++ texts (argsAt ws n (s + 1) (c - 1)))
+more-texts : (ws : List ℕ) (n s c : ℕ) → (c ≡ 0 → ⊥) → 1 < c → texts (argsAt ws n s c) ≡ text (treeAt ws n (entryAt ws s)) ++ (between ++ texts (argsAt ws n (s + 1) (c - 1)))
 more-texts ws n s c h g =
-    let f = args-by-first ws n (s + 1) (c - 1) (λ z. g (omega (arith, h))) in
+    let f = args-by-first ws n (s + 1) (c - 1) (λ z. omega arith) in
     ap texts (args-by-first ws n s c h)
     ∙ (texts-of _ _
     ∙ ap (λ bs. text (treeAt ws n (entryAt ws s)) ++ bs) (ap more f ∙ (more-of-some _ _ ∙ ap (λ ts. between ++ texts ts) (sym f))))
@@ -203,10 +203,10 @@ module _ {ws : List ℕ} {n e s c : ℕ} {out : List ℕ} {at : ℕ} (k : RunRoo
         )
 
     module _ {mid : List ℕ} {p : ℕ} (f : Put out at (text (treeAt ws n x)) mid p) where
-      pub one-put : c ≡ 1 → Put out at (texts (argsAt ws n s c)) mid p
-      one-put z = put-as (ap (λ (i : ℕ). text (treeAt ws n i)) q ∙ sym (one-text ws n s c z)) f
+      pub one-put : c ≤ 1 → Put out at (texts (argsAt ws n s c)) mid p
+      one-put z = put-as (ap (λ (i : ℕ). text (treeAt ws n i)) q ∙ sym (one-text ws n s c (omega (arith, h)))) f
 
-      module _ (g : c ≡ 1 → ⊥) where
+      module _ (g : 1 < c) where
         abbrev rest-text : List ℕ
         rest-text = texts (argsAt ws n (s + 1) (c - 1))
 
