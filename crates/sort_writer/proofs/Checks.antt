@@ -1,28 +1,26 @@
 -- The checks of writing, as the tests find the first that fails, and what it means that none fails. Assumes nothing.
-use mathlib.Core.Path.{_≡_, refl, sym, _∙_, ap, ap₂, subst}
+use mathlib.Core.Path.{_≡_, refl, sym, _∙_, ap, ap₂}
 use mathlib.Core.Bool.{Bool, true, false, cond, _&&_, and-eq-true-iff}
 use mathlib.Core.List.{List, [], _∷_, _++_}
 use mathlib.Core.Option.{Option, none, some}
-use Prim.Native.Nat.{ℕ, _+_, _-_, _*_, _<_, _≤_}
+use Prim.Native.Nat.{ℕ, _-_, _*_, _<_, _≤_}
 use native.Mathlib.Omega.{arith}
 use native.Mathlib.Decide.{decLe}
 use native.Mathlib.Nat.{zero-add}
 use lib.ListN.{length, getD, drop, replicate, length-replicate}
 use lib.Seq.{sets-eq}
-use lib.Dec.{leb, ltb}
+use lib.Dec.{leb}
 use borrow.Author.Tests.{ltb-true, leb-true, lt-ltb, le-ltb, le-leb, lt-leb}
 use Rattle.resolved_sort.specs.declared.Tested.{Tested}
 use Rattle.resolved_sort.specs.declared.Tested.the-variants.{Refused, Passed}
 use Rattle.resolved_sort.specs.Storage.{maxSorts, maxEntries, fullLength, entriesAt}
-use Rattle.resolved_sort.specs.Checks.{Check, firstFailing, sortChecks, withinLent, fixedSix, rowsFine, noTwoEqual, inList, atCeiling}
+use Rattle.resolved_sort.specs.Checks.{Check, firstFailing, sortChecks, withinLent, rowsFine, noTwoEqual, inList, atCeiling}
 use Rattle.resolved_sort.specs.Entries.{testedOf, orElse, treeAt}
-use Rattle.resolved_sort.specs.Rows.{Checked}
 use Rattle.resolved_sort.proofs.Interned.{Listed}
 use Rattle.sort_entries.proofs.Laws.{first-fails, first-passes, append-fails, append-passes, cons-passes, refused-is, passed-is}
-use Rattle.sort_text.specs.declared.Written.{Written}
 use Rattle.sort_text.specs.declared.Written.the-variants.{Refused as NotWritten, Text}
 use Rattle.sort_text.specs.Text.{writable, text}
-use Rattle.sort_text.specs.Writing.{writeChecks, WriteLeft, writeLeft, writing}
+use Rattle.sort_text.specs.Writing.{writeChecks, writeLeft, writing}
 use Rattle.sort_writer.specs.Sizes.{most, capped, sizeIf, sized, sizesTo}
 use Rattle.sort_writer.specs.Puts.{Put, SortRoom}
 use Rattle.sort_writer.proofs.Sizes.{capped-short, capped-long, text-some}
@@ -193,3 +191,14 @@ module _ (ws : List ℕ) (n e a : ℕ) (out : List ℕ) (t : Tested) (et : t ≡
 
         length-is : r ≡ length (text (treeAt ws n a))
         length-is = h .behind ∙ zero-add (length (text (treeAt ws n a)))
+
+-- a text that was written fits the buffer, so its length is below 2^63 and no packed refusal
+pub text-fits : (ws : List ℕ) (n e a : ℕ) (out : List ℕ) (l : ℕ) → (writing ws n e a out) .answer ≡ Text l → l ≤ length out
+unfolding writing
+text-fits ws n e a out l h = go (firstFailing (writeChecks ws n e a out)) refl h
+  where
+    go : (x : Option ℕ) → firstFailing (writeChecks ws n e a out) ≡ x
+        → (orElse x (λ c. writeLeft out (NotWritten c)) (writeLeft (text (treeAt ws n a) ++ drop (length (text (treeAt ws n a))) out) (Text (length (text (treeAt ws n a)))))) .answer ≡ Text l
+        → l ≤ length out
+    go none e₁ q = let z : length (text (treeAt ws n a)) ≡ l = cc in omega (arith, has-room ws n e a out Passed (ap testedOf (sym e₁)) refl .room)
+    go (some c) e₁ q = let z : _≡_ {A = ℕ} 0 1 = cc in absurd (omega arith)

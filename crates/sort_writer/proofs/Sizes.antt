@@ -1,19 +1,19 @@
 -- Sizes of texts: two texts one after the other have the size of both, and the size of a sort comes from those of its parts.
 -- A sort that has a text has a byte of it at least, so that 0 tells that there is none. Assumes nothing.
-use mathlib.Core.Path.{_≡_, refl, sym, _∙_, ap, ap₂, subst}
+use mathlib.Core.Path.{_≡_, refl, sym, _∙_, ap, ap₂}
 use mathlib.Core.Bool.{Bool, true, false, cond, _&&_, and-eq-true-iff}
-use mathlib.Core.List.{List, [], _∷_, _++_}
-use Prim.Native.Nat.{ℕ, zero, suc, _+_, _-_, _<_, _≤_}
+use mathlib.Core.List.{List}
+use Prim.Native.Nat.{ℕ, _+_, _<_, _≤_}
 use native.Mathlib.Omega.{arith}
 use native.Mathlib.Decide.{decLe}
-use lib.ListN.{length, getD, length-append}
-use lib.Dec.{eqb, leb}
+use lib.ListN.{length, length-append}
+use lib.Dec.{leb}
 use borrow.Author.Tests.{ne-eqb, eq-eqb, le-leb, lt-leb}
 use Rattle.resolved_sort.specs.declared.Sort.{Sort}
 use Rattle.resolved_sort.specs.declared.ComplexSort.{ComplexSort}
 use Rattle.resolved_sort.specs.Tree.{Flat, unit, primitive, def, typevar, Tree, flat, container, function, Trees, end, arg}
 use Rattle.sort_text.specs.Parse.{sortWord, opWord}
-use Rattle.sort_text.specs.Text.{some, flatWritable, flatText, writable, writables, text, texts, more, between, arrow, argument}
+use Rattle.sort_text.specs.Text.{some, flatWritable, writable, writables, text, texts, more}
 use Rattle.sort_writer.specs.Sizes.{most, capped, sizeIf, sized, sizedAll, joined}
 
 pub capped-short : (n : ℕ) → n ≤ most → capped n ≡ n

@@ -3,7 +3,7 @@
 -- length. Assumes nothing.
 use mathlib.Core.Path.{_≡_, refl, sym, _∙_, ap, subst}
 use mathlib.Core.List.{List, [], _∷_, _++_, append-nil}
-use Prim.Native.Nat.{ℕ, zero, suc, _+_, _-_, _*_, _<_, _≤_}
+use Prim.Native.Nat.{ℕ, _+_, _-_, _*_, _<_, _≤_}
 use native.Mathlib.Omega.{arith}
 use lib.ListN.{length, length-append}
 use lib.Seq.{append-snoc}
@@ -13,15 +13,14 @@ use Rattle.resolved_sort.specs.declared.ComplexSort.{ComplexSort}
 use Rattle.resolved_sort.specs.declared.Run.{Run}
 use Rattle.resolved_sort.specs.declared.ResolvedSort.{ResolvedSort}
 use Rattle.resolved_sort.specs.declared.ResolvedSort.the-variants.{Unit as UnitRow, Primitive, Container, Function, Def, TypeVar}
-use Rattle.resolved_sort.specs.Tree.{Tree, container, function, Trees, end, arg}
+use Rattle.resolved_sort.specs.Tree.{Tree, Trees, arg}
 use Rattle.resolved_sort.specs.Storage.{entryAt, entriesOf, rowAt, lookAll, trees}
 use Rattle.resolved_sort.specs.Entries.{treeAt}
-use Rattle.resolved_sort.specs.Rows.{AllBelow}
 use Rattle.resolved_sort.proofs.Interned.{listed}
 use Rattle.resolved_sort.proofs.Pairs.{sortOf, Below}
 use Rattle.resolved_sort.proofs.Said.{entry-below, first-entry, topOf, top-below, first-below-top, rest-below-top}
 use Rattle.sort_text.specs.Parse.{sortWord, opWord}
-use Rattle.sort_text.specs.Text.{flatText, text, texts, more, between, arrow, argument}
+use Rattle.sort_text.specs.Text.{text, texts, more, between, arrow}
 use Rattle.sort_writer.specs.Puts.{Put, argsAt, SortRoom, RunRoom}
 use Rattle.sort_writer.proofs.Rows.{row-says, row-parts}
 use Rattle.sort_writer.proofs.Puts.{put-none, put-then, put-as, put-length}
@@ -180,9 +179,9 @@ texts-of : (t : Tree) (ts : Trees) → texts (arg t ts) ≡ text t ++ more ts
 unfolding text
 texts-of t ts = refl
 
-more-texts : (ws : List ℕ) (n s c : ℕ) → (c ≡ 0 → ⊥) → (c ≡ 1 → ⊥) → texts (argsAt ws n s c) ≡ text (treeAt ws n (entryAt ws s)) ++ (between ++ texts (argsAt ws n (s + 1) (c - 1)))
+more-texts : (ws : List ℕ) (n s c : ℕ) → (c ≡ 0 → ⊥) → 1 < c → texts (argsAt ws n s c) ≡ text (treeAt ws n (entryAt ws s)) ++ (between ++ texts (argsAt ws n (s + 1) (c - 1)))
 more-texts ws n s c h g =
-    let f = args-by-first ws n (s + 1) (c - 1) (λ z. g (omega (arith, h))) in
+    let f = args-by-first ws n (s + 1) (c - 1) (λ z. omega arith) in
     ap texts (args-by-first ws n s c h)
     ∙ (texts-of _ _
     ∙ ap (λ bs. text (treeAt ws n (entryAt ws s)) ++ bs) (ap more f ∙ (more-of-some _ _ ∙ ap (λ ts. between ++ texts ts) (sym f))))
@@ -204,10 +203,10 @@ module _ {ws : List ℕ} {n e s c : ℕ} {out : List ℕ} {at : ℕ} (k : RunRoo
         )
 
     module _ {mid : List ℕ} {p : ℕ} (f : Put out at (text (treeAt ws n x)) mid p) where
-      pub one-put : c ≡ 1 → Put out at (texts (argsAt ws n s c)) mid p
-      one-put z = put-as (ap (λ (i : ℕ). text (treeAt ws n i)) q ∙ sym (one-text ws n s c z)) f
+      pub one-put : c ≤ 1 → Put out at (texts (argsAt ws n s c)) mid p
+      one-put z = put-as (ap (λ (i : ℕ). text (treeAt ws n i)) q ∙ sym (one-text ws n s c (omega (arith, h)))) f
 
-      module _ (g : c ≡ 1 → ⊥) where
+      module _ (g : 1 < c) where
         abbrev rest-text : List ℕ
         rest-text = texts (argsAt ws n (s + 1) (c - 1))
 

@@ -1,6 +1,5 @@
 -- By the arms, each size is the one that the row says. Assumes nothing.
 use mathlib.Core.Path.{_∙_, ap, ap₂, sym}
-use Prim.Native.Nat.{ℕ}
 use borrow.Author.Needs.{needs}
 use Rattle.sort_writer.specs.Sizes.{joined, rowSize}
 use Rattle.sort_writer.proofs.row_size.Statement.{statement}
