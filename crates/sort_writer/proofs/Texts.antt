@@ -1,6 +1,5 @@
--- Putting the text of a sort by what its row says, and the texts of arguments by the first and the rest: each call has room
--- and falls, and what was put is the text. Parts have lower numbers; a run counts by its highest entry and then by its
--- length. Assumes nothing.
+-- The text of a sort put by what its row says, arguments by the first and the rest: each call has room and falls, parts by
+-- number, a run by its highest entry and then by its length; and what was put is the text. Assumes nothing.
 use mathlib.Core.Path.{_≡_, refl, sym, _∙_, ap, subst}
 use mathlib.Core.List.{List, [], _∷_, _++_, append-nil}
 use Prim.Native.Nat.{ℕ, _+_, _-_, _*_, _<_, _≤_}
