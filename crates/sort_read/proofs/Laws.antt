@@ -196,7 +196,7 @@ module _ (ws : List ℕ) (n e : ℕ) (bs : List ℕ) (q : Passes ws n e bs) wher
           → keptOrNoRoom ((stored ws n e O) .words) n e ((stored ws n e O) .answer) ≡ storedBy ws n e (stored ws n e O) ((stored ws n e O) .answer)
       unfolding Kept stored keptOrNoRoom storedBy
       by-outcome (made v S) h = refl
-      by-outcome (nothing S) h = refl
+      by-outcome (nothing S) h = ap (λ us. readLeft us NoRoom) (made-is-given-back ws n e (q .checked) S (h .0))
       by-outcome (full S) h = ap (λ us. readLeft us NoRoom) (made-is-given-back ws n e (q .checked) S (h .0))
 
       pub read-stored : (ids vs : List ℕ) (j : Joined) → storedAt vs j ≡ runAt ws n e (drop 0 (take m out)) ids 0 → (us : List ℕ) (a : Read) → readLeft us a ≡ keptOrNoRoom vs n e j

@@ -20,5 +20,5 @@ pub record Passes (ws : List ℕ) (n e : ℕ) (bs : List ℕ) : Type 0 where
 
 unfoldable pub keptOrNoRoom : List ℕ → ℕ → ℕ → Joined → ReadLeft
 keptOrNoRoom ws n e (At s k) = readLeft ws (Sort s k)
-keptOrNoRoom ws n e (Nothing k) = readLeft ws NoRoom
+keptOrNoRoom ws n e (Nothing k) = readLeft (givenBack n e ws) NoRoom
 keptOrNoRoom ws n e Full = readLeft (givenBack n e ws) NoRoom

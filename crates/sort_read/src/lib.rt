@@ -44,7 +44,10 @@ fn kept_or_no_room(sorts: &mut [u16], sort_count: usize, entry_count: usize, sto
 {
     match stored {
         Joined::At(id, counts) => Read::Sort(id, counts),
-        Joined::Nothing(_) => Read::NoRoom,
+        Joined::Nothing(_) => {
+            give_back(sorts, sort_count, entry_count);
+            Read::NoRoom
+        }
         Joined::Full => {
             give_back(sorts, sort_count, entry_count);
             Read::NoRoom

@@ -54,7 +54,7 @@ readLeft ws r = record { words = ws; answer = r }
 -- A line that is no sort stores nothing, also where there is no room.
 unfoldable pub storedBy : List ℕ → ℕ → ℕ → Stored → Joined → ReadLeft
 storedBy ws n e r (At s k) = readLeft (r .words) (Sort s k)
-storedBy ws n e r (Nothing k) = readLeft (r .words) NoRoom
+storedBy ws n e r (Nothing k) = readLeft (givenBack n e ws) NoRoom
 storedBy ws n e r Full = readLeft (givenBack n e ws) NoRoom
 
 unfoldable pub readAs : List ℕ → ℕ → ℕ → List ℕ → Parsed → ReadLeft

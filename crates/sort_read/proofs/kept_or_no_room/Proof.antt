@@ -14,9 +14,11 @@ kept-or-no-room-spec =
     (tie.spec
     (λ c. search needs)
     (λ c. search needs)
+    (λ c κs. c .before .before .before .before .pre)
     (λ c. search needs)
     (λ c κs. c .before .before .before .before .pre)
     (λ c. rw (c .before .stored .given .1))
-    (λ c. rw (c .enum-told .given .1))
     (λ c. search needs)
-    (λ c. rw (c .before .before .before .before .enum-told2 .given .1) (ap (λ us. readLeft us NoRoom) (c .before .before .give-back .ensures))))
+    (λ c. rw (c .before .before .before .before .enum-told .given .1) (ap (λ us. readLeft us NoRoom) (c .before .before .give-back .ensures)))
+    (λ c. search needs)
+    (λ c. rw (c .before .before .before .before .enum-told2 .given .1) (ap (λ us. readLeft us NoRoom) (c .before .before .give-back2 .ensures))))

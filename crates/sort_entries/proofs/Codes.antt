@@ -1,0 +1,90 @@
+-- Document 01's number of each outcome: the first failing check's, 15 where room ended, else 0; and the packed answer is that number with
+-- the values above it. By the cases of the first failing check and of the answers. Assumes nothing.
+use mathlib.Core.Path.{_≡_, refl}
+use mathlib.Core.Bool.{Bool, true, false}
+use mathlib.Core.List.{List}
+use mathlib.Core.Option.{Option, none, some}
+use Prim.Native.Nat.{ℕ, _+_, _*_}
+use native.Mathlib.Omega.{arith}
+use Rattle.resolved_sort.specs.declared.PartialOrder.{PartialOrder}
+use Rattle.resolved_sort.specs.declared.Widening.{Widening}
+use Rattle.resolved_sort.specs.declared.Widening.the-variants.{Distance, Nothing as NoDistance}
+use Rattle.resolved_sort.specs.declared.Joined.{Joined}
+use Rattle.resolved_sort.specs.declared.Joined.the-variants.{At, Nothing, Full}
+use Rattle.resolved_sort.specs.declared.Compared.{Compared}
+use Rattle.resolved_sort.specs.declared.Compared.the-variants.{Refused as NotCompared, Ordered}
+use Rattle.resolved_sort.specs.declared.Bounded.{Bounded}
+use Rattle.resolved_sort.specs.declared.Bounded.the-variants.{Refused as NotBounded, Sort, Nothing as NoBound, NoRoom}
+use Rattle.resolved_sort.specs.declared.Measured.{Measured}
+use Rattle.resolved_sort.specs.declared.Measured.the-variants.{Refused as NotMeasured, Steps}
+use Rattle.resolved_sort.specs.declared.Materialized.{Materialized}
+use Rattle.resolved_sort.specs.declared.Materialized.the-variants.{Refused as NotMaterialized, Answer}
+use Rattle.resolved_sort.specs.Interning.{make}
+use Rattle.resolved_sort.specs.Storage.{sortsOf}
+use Rattle.resolved_sort.specs.Checks.{firstFailing, pairChecks}
+use Rattle.resolved_sort.specs.Entries.{treeAt, codeCompared, codeBounded, codeMeasured, codeMaterialized, orElse, Stored, stored, Left, left, leftBy, compared, measured, materialized, bounded}
+use Rattle.sort_entries.specs.Packed.{orderCode, packCompared, packMeasured, packMaterialized, packBounded}
+
+-- 15 where room ended
+abbrev pub roomCode : Joined → ℕ
+roomCode (At s k) = 0
+roomCode (Nothing k) = 0
+roomCode Full = 15
+
+compared-by : (x : Option ℕ) (o : PartialOrder) → codeCompared (orElse x NotCompared (Ordered o)) ≡ orElse x (λ c. c) 0
+unfolding codeCompared
+compared-by none o = refl
+compared-by (some c) o = refl
+
+measured-by : (x : Option ℕ) (d : Widening) → codeMeasured (orElse x NotMeasured (Steps d)) ≡ orElse x (λ c. c) 0
+unfolding codeMeasured
+measured-by none d = refl
+measured-by (some c) d = refl
+
+materialized-by : (x : Option ℕ) (b : Bool) → codeMaterialized (orElse x NotMaterialized (Answer b)) ≡ orElse x (λ c. c) 0
+unfolding codeMaterialized
+materialized-by none b = refl
+materialized-by (some c) b = refl
+
+left-code : (ws : List ℕ) (n e : ℕ) (r : Stored) (j : Joined) → codeBounded ((leftBy ws n e r j) .answer) ≡ roomCode j
+unfolding leftBy codeBounded
+left-code ws n e r (At s k) = refl
+left-code ws n e r (Nothing k) = refl
+left-code ws n e r Full = refl
+
+bounded-by : (x : Option ℕ) (ws : List ℕ) (n e : ℕ) (r : Stored) → codeBounded ((orElse x (λ c. left ws (NotBounded c)) (leftBy ws n e r (r .answer))) .answer) ≡ orElse x (λ c. c) (roomCode (r .answer))
+unfolding codeBounded
+bounded-by none ws n e r = left-code ws n e r (r .answer)
+bounded-by (some c) ws n e r = refl
+
+module _ (ws : List ℕ) (n e a b : ℕ) where
+  pub code-of-compared : codeCompared (compared ws n e a b) ≡ orElse (firstFailing (pairChecks ws n e a b)) (λ c. c) 0
+  unfolding compared
+  code-of-compared = compared-by (firstFailing (pairChecks ws n e a b)) _
+
+  pub code-of-measured : codeMeasured (measured ws n e a b) ≡ orElse (firstFailing (pairChecks ws n e a b)) (λ c. c) 0
+  unfolding measured
+  code-of-measured = measured-by (firstFailing (pairChecks ws n e a b)) _
+
+  pub code-of-materialized : codeMaterialized (materialized ws n e a b) ≡ orElse (firstFailing (pairChecks ws n e a b)) (λ c. c) 0
+  unfolding materialized
+  code-of-materialized = materialized-by (firstFailing (pairChecks ws n e a b)) _
+
+  pub code-of-bounded : (up : Bool) → codeBounded ((bounded up ws n e a b) .answer)
+      ≡ orElse (firstFailing (pairChecks ws n e a b)) (λ c. c) (roomCode ((stored ws n e (make up (treeAt ws n a) (treeAt ws n b) (sortsOf ws n e))) .answer))
+  unfolding bounded
+  code-of-bounded up = bounded-by (firstFailing (pairChecks ws n e a b)) ws n e _
+
+-- the values above the code
+abbrev pub boundedValues : Bounded → ℕ
+boundedValues (NotBounded c) = 0
+boundedValues (Sort s k) = 1 + s .0 * 256 + k .sorts * 16777216 + k .entries * 1099511627776
+boundedValues (NoBound k) = k .sorts * 16777216 + k .entries * 1099511627776
+boundedValues NoRoom = 0
+
+pub bounded-packed : (r : Bounded) → packBounded r ≡ codeBounded r + 256 * boundedValues r
+unfolding codeBounded
+bounded-packed (NotBounded c) = omega arith
+bounded-packed (Sort s k) = omega arith
+bounded-packed (NoBound k) = omega arith
+bounded-packed NoRoom = refl
