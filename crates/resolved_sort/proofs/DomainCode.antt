@@ -136,7 +136,7 @@ part-of-all l ws s c i h b = below-run ws l (s + i) (c - i) (λ j q. subst (λ x
 pub number-extends : (S S′ : Sorts) (t : Tree) → Extends S S′ → member (S .trees) t ≡ true → number (S′ .trees) t ≡ number (S .trees) t
 number-extends S S′ t x m = ap (λ T. number T t) (x .1) ∙ number-grows (S .trees) (x .0) t m
 
-domain-glue : (ws : List ℕ) (n e : ℕ) (S : Sorts) → Grown ws n e S → (v : Tree) → member (S .trees) v ≡ true → (c : ℕ) → c ≡ number (S .trees) v → (i : ℕ) (ids : List ℕ) (k : ℕ) (O : Outcome Trees)
+pub domain-glue : (ws : List ℕ) (n e : ℕ) (S : Sorts) → Grown ws n e S → (v : Tree) → member (S .trees) v ≡ true → (c : ℕ) → c ≡ number (S .trees) v → (i : ℕ) (ids : List ℕ) (k : ℕ) (O : Outcome Trees)
     → Kept (after ws n e S) (length (S .trees)) (maxEntries - S .entries) (InTrees k) S O
     → domainOf (after ws n e S) (length (S .trees)) (maxEntries - S .entries) (i + 1) (set ids i c) O ≡ domainOf ws n e i ids (O then (λ vs S. made (arg v vs) S))
 unfolding Kept domainOf numbers

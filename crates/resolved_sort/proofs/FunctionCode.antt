@@ -48,7 +48,7 @@ pub record ReachedAll (ws : List ℕ) (n e : ℕ) (S₀ : Sorts) (k : ℕ) (O : 
   pub inside : members (sorts .trees) args ≡ true
   pub as-many : arity args ≡ k
 
-reached-all : (ws : List ℕ) (n e : ℕ) (S₀ : Sorts) (k : ℕ) (O : Outcome Trees) → Kept ws n e (InTrees k) S₀ O
+pub reached-all : (ws : List ℕ) (n e : ℕ) (S₀ : Sorts) (k : ℕ) (O : Outcome Trees) → Kept ws n e (InTrees k) S₀ O
     → (vs : List ℕ) (d : Domain) (K : Counts) → storedDomain vs d ≡ domainOf ws n e 0 (replicate 16 0) O → d .found ≡ All K → ReachedAll ws n e S₀ k O vs d K
 unfolding Kept domainOf
 reached-all ws n e S₀ k (made ts S) h vs d K q z =
@@ -57,14 +57,14 @@ reached-all ws n e S₀ k (made ts S) h vs d K q z =
 reached-all ws n e S₀ k (nothing S) h vs d K q z = let a : All K ≡ NotAll (countsOf S) = sym z ∙ ap (λ r. r .domain .found) q in no-confusion (cc)
 reached-all ws n e S₀ k (full S) h vs d K q z = let a : All K ≡ NoRoom = sym z ∙ ap (λ r. r .domain .found) q in no-confusion (cc)
 
-stopped-all : (ws : List ℕ) (n e : ℕ) (O : Outcome Trees) (vs : List ℕ) (d : Domain) (K : Counts) → storedDomain vs d ≡ domainOf ws n e 0 (replicate 16 0) O → d .found ≡ NotAll K
+pub stopped-all : (ws : List ℕ) (n e : ℕ) (O : Outcome Trees) (vs : List ℕ) (d : Domain) (K : Counts) → storedDomain vs d ≡ domainOf ws n e 0 (replicate 16 0) O → d .found ≡ NotAll K
     → (S : Sorts) × (O ≡ nothing S) × (vs ≡ after ws n e S) × (K ≡ countsOf S)
 unfolding domainOf
 stopped-all ws n e (made ts S) vs d K q z = let a : NotAll K ≡ All (countsOf S) = sym z ∙ ap (λ r. r .domain .found) q in no-confusion (cc)
 stopped-all ws n e (nothing S) vs d K q z = let a : NotAll K ≡ NotAll (countsOf S) = sym z ∙ ap (λ r. r .domain .found) q in (S, refl, ap (λ r. r .words) q, cc)
 stopped-all ws n e (full S) vs d K q z = let a : NotAll K ≡ NoRoom = sym z ∙ ap (λ r. r .domain .found) q in no-confusion (cc)
 
-ended-all : (ws : List ℕ) (n e : ℕ) (O : Outcome Trees) (vs : List ℕ) (d : Domain) → storedDomain vs d ≡ domainOf ws n e 0 (replicate 16 0) O → d .found ≡ NoRoom
+pub ended-all : (ws : List ℕ) (n e : ℕ) (O : Outcome Trees) (vs : List ℕ) (d : Domain) → storedDomain vs d ≡ domainOf ws n e 0 (replicate 16 0) O → d .found ≡ NoRoom
     → (S : Sorts) × (O ≡ full S) × (vs ≡ after ws n e S)
 unfolding domainOf
 ended-all ws n e (made ts S) vs d q z = let a : NoRoom ≡ All (countsOf S) = sym z ∙ ap (λ r. r .domain .found) q in no-confusion (cc)
@@ -77,15 +77,15 @@ first-ids xs h =
     ap (take (length xs)) (sets-eq xs (replicate 16 0) 0 (omega (arith, length-replicate {A = ℕ} 16 0)))
     ∙ take-append-seam xs _
 
-stored-nothing : (ws : List ℕ) (n e : ℕ) (S : Sorts) (vs : List ℕ) (K : Counts) → vs ≡ after ws n e S → K ≡ countsOf S → storedAt vs (Nothing K) ≡ stored ws n e (nothing S)
+pub stored-nothing : (ws : List ℕ) (n e : ℕ) (S : Sorts) (vs : List ℕ) (K : Counts) → vs ≡ after ws n e S → K ≡ countsOf S → storedAt vs (Nothing K) ≡ stored ws n e (nothing S)
 unfolding stored
 stored-nothing ws n e S vs K w c = λ j. record { words = w j; answer = Nothing (c j) }
 
-stored-full : (ws : List ℕ) (n e : ℕ) (S : Sorts) (vs : List ℕ) → vs ≡ after ws n e S → storedAt vs Full ≡ stored ws n e (full S)
+pub stored-full : (ws : List ℕ) (n e : ℕ) (S : Sorts) (vs : List ℕ) → vs ≡ after ws n e S → storedAt vs Full ≡ stored ws n e (full S)
 unfolding stored
 stored-full ws n e S vs w = λ j. record { words = w j; answer = Full }
 
-numbers-extend : (S S′ : Sorts) (ts : Trees) → Extends S S′ → members (S .trees) ts ≡ true → numbers (S′ .trees) ts ≡ numbers (S .trees) ts
+pub numbers-extend : (S S′ : Sorts) (ts : Trees) → Extends S S′ → members (S .trees) ts ≡ true → numbers (S′ .trees) ts ≡ numbers (S .trees) ts
 unfolding numbers members
 numbers-extend S S′ end x m = refl
 numbers-extend S S′ (arg t ts) x m =

@@ -44,7 +44,7 @@ intern-by t S S′ true c = refl
 intern-by t S S′ false true = refl
 intern-by t S S′ false false = tt
 
-intern-answers : (t : Tree) (S : Sorts) → Answers (some t) (intern t S)
+pub intern-answers : (t : Tree) (S : Sorts) → Answers (some t) (intern t S)
 unfolding intern
 intern-answers t S = intern-by t S _ (member (S .trees) t) (fits t S)
 

@@ -179,7 +179,7 @@ fn against(sorts: &mut [u16], counts: Counts, up: bool, lhs: SortId, rhs: SortId
 }
 
 // Join (up) or meet of two sorts. Equal numbers are equal sorts, and make nothing.
-fn bound(sorts: &mut [u16], counts: Counts, up: bool, lhs: SortId, rhs: SortId) -> Joined
+pub fn bound(sorts: &mut [u16], counts: Counts, up: bool, lhs: SortId, rhs: SortId) -> Joined
     requires { ⌜ Asked (now sorts) (counts .sorts) (counts .entries) (lhs .0) (rhs .0) ⌝ }
     ensures { λ r. ⌜ storedAt (now (sorts .exit)) r ≡ boundAt up (now (sorts .entry)) (counts .sorts) (counts .entries) (lhs .0) (rhs .0) ⌝ }
 {

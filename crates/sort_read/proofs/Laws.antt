@@ -105,7 +105,7 @@ module _ (ws : List ℕ) (n e : ℕ) (bs : List ℕ) (t : Tested) (et : t ≡ te
         }
 
 -- the fixed six
-tree-of-six : (T : List Tree) (r : Row) (k : ℕ) → k < 6 → r .kind ≡ k → treeOf T r ≡ sixth k
+pub tree-of-six : (T : List Tree) (r : Row) (k : ℕ) → k < 6 → r .kind ≡ k → treeOf T r ≡ sixth k
 unfolding treeOf
 tree-of-six T r zero l e = rw e
 tree-of-six T r (suc zero) l e = rw e
@@ -135,6 +135,15 @@ module _ (ws : List ℕ) (n e : ℕ) (bs : List ℕ) (q : Passes ws n e bs) wher
   primitives-in Sorts.Sort.Nat = six-in 3 (omega arith)
   primitives-in Sorts.Sort.Int = six-in 4 (omega arith)
   primitives-in Sorts.Sort.Real = six-in 5 (omega arith)
+
+  -- what a sort of the line stores
+  module _ (cs : List ℕ) (t : Tree) (is : line bs ≡ parsed t cs) where
+    store-is : steps (postfix t) [] (sortsOf ws n e) ≡ store t (sortsOf ws n e)
+    store-is = steps-are-store t (line-writable bs cs t is) (sortsOf ws n e) primitives-in
+
+    pub store-kept : Kept ws n e InTree (sortsOf ws n e) (store t (sortsOf ws n e))
+    unfolding InStack
+    store-kept = subst (Kept ws n e InTree (sortsOf ws n e)) store-is (steps-kept ws n e (postfix t) [] (sortsOf ws n e) (line-steps-short bs cs t is) (grown-none ws n e (q .checked)) six-in tt)
 
   -- a line that is no sort
   not-a-sort-at : (P : Parsed) (out : List ℕ) (p : ℕ) → Says bs 0 (length bs) [] P out (Stuck p) → readLeft ws (NotASort p) ≡ readAs ws n e bs P
@@ -181,16 +190,9 @@ module _ (ws : List ℕ) (n e : ℕ) (bs : List ℕ) (q : Passes ws n e bs) wher
             steps-left = subst Short (sym (it .written)) short-steps;
           }
 
-      store-is : steps (postfix (it .sort)) [] (sortsOf ws n e) ≡ store (it .sort) (sortsOf ws n e)
-      store-is = steps-are-store (it .sort) (line-writable bs (it .left) (it .sort) (it .is)) (sortsOf ws n e) primitives-in
-
-      store-kept : Kept ws n e InTree (sortsOf ws n e) (store (it .sort) (sortsOf ws n e))
-      unfolding InStack
-      store-kept = subst (Kept ws n e InTree (sortsOf ws n e)) store-is (steps-kept ws n e (postfix (it .sort)) [] (sortsOf ws n e) short-steps (grown-none ws n e (q .checked)) six-in tt)
-
       run-is : (ids : List ℕ) → runAt ws n e (drop 0 (take m out)) ids 0 ≡ stored ws n e (store (it .sort) (sortsOf ws n e))
       unfolding runAt stackOf
-      run-is ids = ap (λ ops. stored ws n e (steps ops [] (sortsOf ws n e))) (it .written) ∙ ap (stored ws n e) store-is
+      run-is ids = ap (λ ops. stored ws n e (steps ops [] (sortsOf ws n e))) (it .written) ∙ ap (stored ws n e) (store-is (it .left) (it .sort) (it .is))
 
       by-outcome : (O : Outcome Tree) → Kept ws n e InTree (sortsOf ws n e) O
           → keptOrNoRoom ((stored ws n e O) .words) n e ((stored ws n e O) .answer) ≡ storedBy ws n e (stored ws n e O) ((stored ws n e O) .answer)
@@ -203,4 +205,4 @@ module _ (ws : List ℕ) (n e : ℕ) (bs : List ℕ) (q : Passes ws n e bs) wher
           → readLeft us a ≡ readAs ws n e bs (line bs)
       unfolding readAs
       read-stored ids vs j f us a g =
-          g ∙ (ap (λ x. keptOrNoRoom (x .words) n e (x .answer)) (f ∙ run-is ids) ∙ (by-outcome (store (it .sort) (sortsOf ws n e)) store-kept ∙ sym (ap (readAs ws n e bs) (it .is))))
+          g ∙ (ap (λ x. keptOrNoRoom (x .words) n e (x .answer)) (f ∙ run-is ids) ∙ (by-outcome (store (it .sort) (sortsOf ws n e)) (store-kept (it .left) (it .sort) (it .is)) ∙ sym (ap (readAs ws n e bs) (it .is))))

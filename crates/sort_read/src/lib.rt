@@ -56,7 +56,7 @@ fn kept_or_no_room(sorts: &mut [u16], sort_count: usize, entry_count: usize, sto
 }
 
 // A line that passed the tests.
-fn read_line(sorts: &mut [u16], sort_count: usize, entry_count: usize, line: &[u8]) -> Read
+pub fn read_line(sorts: &mut [u16], sort_count: usize, entry_count: usize, line: &[u8]) -> Read
     requires { ⌜ Passes (now sorts) «sort_count» «entry_count» (now line) ⌝ }
     ensures { λ r. ⌜ readLeft (now (sorts .exit)) r ≡ readAs (now (sorts .entry)) «sort_count» «entry_count» (now (line .entry)) (lineOf (now (line .entry))) ⌝ }
 {

@@ -79,7 +79,7 @@ pair-length first second = first-length (lineOf first) (lineOf second) (line-sma
 
 single-by : (l : Line) → Small l → length (single l) ≤ 203
 single-by (good t) h = omega arith
-single-by (wrong bs) h = h
+single-by (wrong bs) h = omega (arith, h)
 
 pub single-length : (l : List ℕ) → length (single (lineOf l)) ≤ 203
 single-length l = single-by (lineOf l) (line-small l)

@@ -1,14 +1,14 @@
 -- A pair never runs out of room (15): storing a sort makes at most as many sorts and entries as it has nodes, and a line of 200 bytes
 -- has at most 200 nodes. By the clauses of `store`. Assumes nothing.
 use mathlib.Core.Path.{_≡_, refl, sym, ap, ap₂, subst}
-use mathlib.Core.Bool.{Bool, true, false}
-use mathlib.Core.List.{List}
-use Prim.Native.Nat.{ℕ, _+_, _≤_, _<_}
+use mathlib.Core.Bool.{Bool, true, false, cond}
+use mathlib.Core.List.{List, [], _∷_, _++_}
+use Prim.Native.Nat.{ℕ, _+_, _-_, _≤_, _<_}
 use native.Mathlib.Omega.{arith}
 use lib.ListN.{length}
 use Rattle.resolved_sort.specs.declared.ComplexSort.{ComplexSort}
 use Rattle.resolved_sort.specs.Tree.{Flat, Tree, flat, container, function, Trees, end as none, arg, arity}
-use Rattle.resolved_sort.specs.Interning.{Sorts, need, Outcome, made, nothing, full, intern, make}
+use Rattle.resolved_sort.specs.Interning.{Sorts, member, need, Outcome, made, nothing, full, _then_, fits, intern, make}
 use Rattle.resolved_sort.specs.Storage.{sortsOf}
 use Rattle.sort_text.specs.Parse.{parsed, line}
 use Rattle.sort_text.specs.Reading.{store, stores}
@@ -60,6 +60,39 @@ mutual
       (λ u S₁ d x. within-more (Is (arg t ts)) (sizes ts + 0) (entriesIn ts + 0) (sizes ts) (entriesIn ts) S₁ _ (omega arith) (omega arith)
       (within-then (Is ts) (Is (arg t ts)) (sizes ts) (entriesIn ts) 0 0 S₁ (stores ts S₁) _ (stores-within ts S₁ (omega (arith, x)) (omega (arith, x)))
       (λ us S₂ e y. made-within (Is (arg t ts)) 0 0 (arg u us) S₂ (ap₂ arg d e))))
+
+-- Storing a sort always comes to that sort, or to the end of room.
+unfoldable pub Makes : {A : Type 0} → Outcome A → Type 0
+Makes (made a S) = Unit {0}
+Makes (nothing S) = ⊥
+Makes (full S) = Unit {0}
+
+makes-then : {A B : Type 0} (O : Outcome A) (k : A → Sorts → Outcome B) → Makes O → ((a : A) (S : Sorts) → Makes (k a S)) → Makes (O then k)
+unfolding Makes
+makes-then (made a S) k h f = f a S
+makes-then (nothing S) k h f = h
+makes-then (full S) k h f = tt
+
+intern-makes : (t : Tree) (S : Sorts) → Makes (intern t S)
+unfolding intern Makes
+intern-makes t S = by (member (S .trees) t) (fits t S)
+  where
+    by : (b c : Bool) → Makes (cond b (made t S) (cond c (made t (record { trees = S .trees ++ (t ∷ []); rows = S .rows - 1; entries = S .entries - need t })) (full S)))
+    by true c = tt
+    by false true = tt
+    by false false = tt
+
+mutual
+  unfolding store stores Makes
+
+  pub store-makes : (t : Tree) (S : Sorts) → Makes (store t S)
+  store-makes (flat a) S = intern-makes (flat a) S
+  store-makes (container o t) S = makes-then (store t S) _ (store-makes t S) (λ u S₁. intern-makes (container o u) S₁)
+  store-makes (function ts r) S = makes-then (stores ts S) _ (stores-make ts S) (λ us S₁. makes-then (store r S₁) _ (store-makes r S₁) (λ v S₂. intern-makes (function us v) S₂))
+
+  stores-make : (ts : Trees) (S : Sorts) → Makes (stores ts S)
+  stores-make none S = tt
+  stores-make (arg t ts) S = makes-then (store t S) _ (store-makes t S) (λ u S₁. makes-then (stores ts S₁) _ (stores-make ts S₁) (λ us S₂. tt))
 
 -- the list that an outcome leaves, and whether room had ended
 unfoldable pub listAfter : {A : Type 0} → Outcome A → Sorts

@@ -2,7 +2,7 @@
 -- word"; at most 16 arguments. Where the line is no sort, what is left of it from the first token that cannot follow.
 use mathlib.Core.Bool.{Bool, true, false, cond, _&&_}
 use mathlib.Core.List.{List, [], _∷_, _++_}
-use Prim.Native.Nat.{ℕ, zero, suc}
+use Prim.Native.Nat.{ℕ, zero, suc, _-_}
 use lib.ListN.{length}
 use lib.Dec.{eqb}
 use Rattle.resolved_sort.specs.declared.Sort.{Sort}
@@ -128,7 +128,7 @@ maxArguments = 16
 -- a sort, read to a depth of brackets and arrows
 unfoldable pub sortTo : ℕ → List ℕ → Parsed
 sortTo zero bs = stuck bs
-sortTo (suc d) bs = operand (sortTo d) bs then (λ t cs. rest (sortTo d) 15 (arg t none) cs)
+sortTo (suc d) bs = operand (sortTo d) bs then (λ t cs. rest (sortTo d) (maxArguments - 1) (arg t none) cs)
 
 -- Each bracket and arrow takes a byte of the line, so its length is depth enough.
 unfoldable pub sort : List ℕ → Parsed

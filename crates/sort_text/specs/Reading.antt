@@ -51,12 +51,12 @@ pub record ReadLeft : Type 0 where
 abbrev pub readLeft : List ℕ → Read → ReadLeft
 readLeft ws r = record { words = ws; answer = r }
 
--- A line that is no sort stores nothing, also where there is no room.
 unfoldable pub storedBy : List ℕ → ℕ → ℕ → Stored → Joined → ReadLeft
 storedBy ws n e r (At s k) = readLeft (r .words) (Sort s k)
 storedBy ws n e r (Nothing k) = readLeft (givenBack n e ws) NoRoom
 storedBy ws n e r Full = readLeft (givenBack n e ws) NoRoom
 
+-- A line that is no sort stores nothing, also where there is no room.
 unfoldable pub readAs : List ℕ → ℕ → ℕ → List ℕ → Parsed → ReadLeft
 readAs ws n e bs (parsed t cs) = let r : Stored = stored ws n e (store t (sortsOf ws n e)) in storedBy ws n e r (r .answer)
 readAs ws n e bs (stuck cs) = readLeft ws (NotASort (length bs - length cs))

@@ -6,9 +6,7 @@ use mathlib.Core.Option.{Option, none, some}
 use Prim.Native.Nat.{ℕ, _-_, _*_, _<_, _≤_}
 use native.Mathlib.Omega.{arith}
 use native.Mathlib.Decide.{decLe}
-use native.Mathlib.Nat.{zero-add}
 use lib.ListN.{length, getD, drop, replicate, length-replicate}
-use lib.Seq.{sets-eq}
 use lib.Dec.{leb}
 use borrow.Author.Tests.{ltb-true, leb-true, lt-ltb, le-ltb, le-leb, lt-leb}
 use Rattle.resolved_sort.specs.declared.Tested.{Tested}
@@ -23,6 +21,7 @@ use Rattle.sort_text.specs.Text.{writable, text}
 use Rattle.sort_text.specs.Writing.{writeChecks, writeLeft, writing}
 use Rattle.sort_writer.specs.Sizes.{most, capped, sizeIf, sized, sizesTo}
 use Rattle.sort_writer.specs.Puts.{Put, SortRoom}
+use Rattle.sort_writer.proofs.Puts.{put-front}
 use Rattle.sort_writer.proofs.Sizes.{capped-short, capped-long, text-some}
 use Rattle.sort_writer.proofs.Fills.{sizes-right}
 
@@ -181,16 +180,7 @@ module _ (ws : List ℕ) (n e a : ℕ) (out : List ℕ) (t : Tested) (et : t ≡
 
     pub answered : {left : List ℕ} {r : ℕ} → Put out 0 (text (treeAt ws n a)) left r → writeLeft left (Text r) ≡ writing ws n e a out
     unfolding writing
-    answered {left} {r} h = rw none-fails (ap₂ (λ (l : List ℕ) (i : ℕ). writeLeft l (Text i)) bytes-are length-is)
-      where
-        bytes-are : left ≡ text (treeAt ws n a) ++ drop (length (text (treeAt ws n a))) out
-        bytes-are =
-            h .bytes
-            ∙ (sets-eq (text (treeAt ws n a)) out 0 (has-room .room)
-            ∙ ap (λ (i : ℕ). text (treeAt ws n a) ++ drop i out) (zero-add (length (text (treeAt ws n a)))))
-
-        length-is : r ≡ length (text (treeAt ws n a))
-        length-is = h .behind ∙ zero-add (length (text (treeAt ws n a)))
+    answered h = rw none-fails (put-front (omega (arith, has-room .room)) h)
 
 -- a text that was written fits the buffer, so its length is below 2^63 and no packed refusal
 pub text-fits : (ws : List ℕ) (n e a : ℕ) (out : List ℕ) (l : ℕ) → (writing ws n e a out) .answer ≡ Text l → l ≤ length out

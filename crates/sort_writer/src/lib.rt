@@ -146,7 +146,7 @@ fn text_size(sorts: &[u16], n: usize, id: SortId) -> usize
 }
 
 // Bytes put into the buffer from a place on; the place behind them. No other byte changes.
-fn put_bytes(bytes: &[u8], out: &mut [u8], at: usize) -> usize
+pub fn put_bytes(bytes: &[u8], out: &mut [u8], at: usize) -> usize
     requires { ⌜ at + length (now bytes) ≤ length (now out) ⌝ }
     ensures { λ r. ⌜ Put (now (out .entry)) at (now (bytes .entry)) (now (out .exit)) r ⌝ }
 {
@@ -187,7 +187,7 @@ fn put_op(op: ComplexSort, out: &mut [u8], at: usize) -> usize
 }
 
 // The text of a sort of a checked list that has room from a place on; the place behind it.
-fn put_sort(sorts: &[u16], counts: Counts, id: SortId, out: &mut [u8], at: usize) -> usize
+pub fn put_sort(sorts: &[u16], counts: Counts, id: SortId, out: &mut [u8], at: usize) -> usize
     requires { ⌜ SortRoom (now sorts) (counts .sorts) (counts .entries) (id .0) (now out) at ⌝ }
     ensures { λ r. ⌜ Put (now (out .entry)) at (text (treeAt (now (sorts .entry)) (counts .sorts) (id .0))) (now (out .exit)) r ⌝ }
 {

@@ -1,0 +1,32 @@
+-- What the entries of this crate leave in the lent buffer, and what they answer: the line of output with its LF, and its length; 14 where
+-- the buffer has no room for every line of output.
+use mathlib.Core.Bool.{cond}
+use mathlib.Core.List.{List, [], _∷_, _++_}
+use Prim.Native.Nat.{ℕ}
+use lib.ListN.{length, drop}
+use lib.Dec.{leb}
+use Rattle.resolved_sort.specs.declared.Widening.{Widening}
+use Rattle.resolved_sort.specs.declared.Widening.the-variants.{Distance, Nothing}
+use Rattle.sort_text.specs.declared.Written.{Written}
+use Rattle.sort_text.specs.declared.Written.the-variants.{Refused, Text}
+use Rattle.sort_text.specs.Writing.{WriteLeft, writeLeft}
+use Rattle.sort_text.specs.PairProgram.{noneText, decimal, Line, lineOf, pair, single}
+use Rattle.pair_line.specs.Room.{lineRoom}
+
+-- `stepsOrNone` of what the code answers
+abbrev pub stepsText : Widening → List ℕ
+stepsText Nothing = noneText
+stepsText (Distance head interior) = decimal head ++ (32 ∷ decimal interior)
+
+abbrev pub withLf : List ℕ → List ℕ
+withLf bs = bs ++ (10 ∷ [])
+
+unfoldable pub lineLeft : List ℕ → List ℕ → WriteLeft
+lineLeft bs out = cond (leb lineRoom (length out)) (writeLeft (bs ++ drop (length bs) out) (Text (length bs))) (writeLeft out (Refused 14))
+
+-- a pair, and a line alone at the end of the input
+abbrev pub pairLeft : List ℕ → List ℕ → List ℕ → WriteLeft
+pairLeft first second out = lineLeft (withLf (pair first second)) out
+
+abbrev pub singleLeft : List ℕ → List ℕ → WriteLeft
+singleLeft l out = lineLeft (withLf (single (lineOf l))) out

@@ -1,0 +1,3 @@
+-- What the contracts of this crate cite beside the definitions of the pair program.
+pub mod Room
+pub mod Answers

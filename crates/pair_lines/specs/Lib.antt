@@ -1,0 +1,3 @@
+-- The pair program byte by byte, and what the functions of this crate leave.
+pub mod ByteByByte
+pub mod Held
