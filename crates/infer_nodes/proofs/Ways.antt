@@ -1,0 +1,394 @@
+-- Where bindings lead, and whether a variable occurs: what the code meets, by the equations of `follow` and `occurs` on checked lists. Ranks fall
+-- from a variable to what it is bound to and from a node to its parts. Assumes nothing.
+use mathlib.Core.Path.{_≡_, refl, ap, sym, _∙_, subst}
+use mathlib.Core.List.{List, [], _∷_, _++_}
+use mathlib.Core.Option.{Option, none, some}
+use mathlib.Core.Bool.{Bool, true, false, cond, _&&_, and-eq-true-iff}
+use Prim.Native.Nat.{ℕ, zero, suc, _+_, _-_, _*_, _<_, _≤_, max}
+use native.Mathlib.Omega.{arith}
+use lib.ListN.{length, getD}
+use lib.Dec.{eqb, ltb, leb}
+use borrow.Author.Tests.{ltb-true, ltb-false, leb-true, lt-ltb, le-ltb, ne-eqb, eq-eqb}
+use Rattle.resolved_sort.specs.declared.Run.{Run}
+use Rattle.resolved_sort.specs.declared.ComplexSort.{ComplexSort}
+use Rattle.resolved_sort.specs.declared.ResolvedSort.{ResolvedSort}
+use Rattle.resolved_sort.specs.declared.ResolvedSort.the-variants.{Unit as UnitRow, Primitive, Container, Function as SortFunction, Def, TypeVar}
+use Rattle.resolved_sort.specs.Storage.{maxSorts, rowAt}
+use Rattle.resolved_sort.specs.Checks.{allBelow}
+use Rattle.resolved_sort.proofs.Below.{below-each}
+use Rattle.resolved_sort.proofs.Numbers.{true-not-false}
+use Rattle.unification.specs.declared.Lengths.{Lengths}
+use Rattle.unification.specs.declared.InferSortId.{InferSortId}
+use Rattle.unification.specs.declared.SortVar.{SortVar}
+use Rattle.unification.specs.declared.InferSort.{InferSort}
+use Rattle.unification.specs.declared.InferSort.the-variants.{Generic, Function, Var}
+use Rattle.unification.specs.Term.{Head, containerHead, functionHead, Shape, variable, over}
+use Rattle.unification.specs.Nodes.{nodeKindAt, nodePartAt, nodeStartAt, nodeCountAt, nodeEntryAt, nodeEntriesOf, opOfKind, inferred, nodeAt, sortShape, nodeShape, isSort, isPlace, shapeAt, Binds, binding, freeWord, bindingOf, bindsOf}
+use Rattle.unification.specs.NodeChecks.{nodePartsFine, bindingFine, bindingsFine}
+use Rattle.unification.specs.Unify.{Occurs, absent, present, unknown, or-else, ofTest, followBound, followAt, follow, occursAny, occursBound, occursAt, occurs, deep}
+use Rattle.unification.specs.Acyclic.{One, first, later}
+use Rattle.unification.specs.Checked.{listsOf, graphOf, Ready, Placed}
+use Rattle.unification.proofs.Exact.{follow-end}
+use Rattle.unification.proofs.Rank.{highest, rank, Ranked, rank-var, rank-over, none-some}
+use Rattle.unification.proofs.Numbering.{numbered-ranked}
+use Rattle.unification.proofs.Enough.{follow-eq, follow-some, occurs-eq, occurs-known}
+use Rattle.unification.proofs.Lists.{lower, scoped, sort-parts, sort-parts-fine, sort-no-variable, node-parts, node-parts-fine}
+use Rattle.unification.proofs.Theorem.{deep-enough}
+use Rattle.infer_nodes.specs.Bound.{boundAt, RunPlaced}
+use Rattle.infer_nodes.proofs.Shapes.{at-sort, at-node, node-below, shape-of-node, parts-fine, shape-of-variable, variable-in-list}
+
+abbrev ops : List ComplexSort
+ops = ComplexSort.List ∷ ComplexSort.Set ∷ ComplexSort.FSet ∷ ComplexSort.Bag ∷ []
+
+differ : {A : Type 0} → _≡_ {A = ℕ} 0 1 → A
+differ e = absurd (omega arith)
+
+-- bindings as words
+pub length-binds : (bs : List ℕ) (n : ℕ) → length (bindsOf bs n) ≡ n
+unfolding bindsOf
+length-binds bs zero = refl
+length-binds [] (suc n) = omega (arith, length-binds [] n)
+length-binds (w ∷ bs) (suc n) = omega (arith, length-binds bs n)
+
+pub binding-word : (bs : List ℕ) (n v : ℕ) → v < n → binding (bindsOf bs n) v ≡ bindingOf (getD bs v 0)
+unfolding bindsOf
+binding-word bs zero v l = absurd (omega (arith, l))
+binding-word [] (suc n) zero l = refl
+binding-word [] (suc n) (suc v) l = binding-word [] n v (omega (arith, l)) ∙ refl
+binding-word (w ∷ bs) (suc n) zero l = refl
+binding-word (w ∷ bs) (suc n) (suc v) l = binding-word bs n v (omega (arith, l))
+
+bound-is-place : (n m : ℕ) (B : Binds) (v q : ℕ) → bindingsFine n m B ≡ true → binding B v ≡ some q → isPlace n m q ≡ true
+unfolding bindingsFine
+bound-is-place n m [] v q f e = differ (cc)
+bound-is-place n m (b ∷ B) zero q f e = subst (λ x. bindingFine n m x ≡ true) e (and-eq-true-iff (bindingFine n m b) (bindingsFine n m B) .0 f .0)
+bound-is-place n m (b ∷ B) (suc v) q f e = bound-is-place n m B v q (and-eq-true-iff (bindingFine n m b) (bindingsFine n m B) .0 f .1) e
+
+sort-bound : (ws : List ℕ) (r : ResolvedSort) (B : Binds) → boundAt (sortShape ws r) B ≡ none
+unfolding sortShape
+sort-bound ws UnitRow B = refl
+sort-bound ws (Primitive s) B = refl
+sort-bound ws (Container op s) B = refl
+sort-bound ws (SortFunction d r) B = refl
+sort-bound ws (Def n) B = refl
+sort-bound ws (TypeVar n) B = refl
+
+or-absent : (x : Occurs) → or-else x absent ≡ x
+or-absent absent = refl
+or-absent present = refl
+or-absent unknown = refl
+
+-- bindings were followed from p to `end`, which is bound to `next` or is an end
+pub record Following (shape : ℕ → Shape) (B : Binds) (k : Lengths) (p end next : ℕ) : Type 0 where
+  pub same : follow shape deep B p ≡ follow shape deep B end
+  pub placed : Placed k end
+  pub bound : bindingOf next ≡ boundAt (shape end) B
+
+-- a node by its kind
+pub op-first : (kind : ℕ) → kind ≤ 6 → ComplexSort.List ≡ opOfKind kind
+op-first kind l = ap (λ (j : ℕ). getD ops j ComplexSort.FBag) (let z : 0 ≡ kind - 6 = omega (arith, l) in z)
+
+pub op-at : (j kind : ℕ) → kind ≡ 6 + j → getD ops j ComplexSort.FBag ≡ opOfKind kind
+op-at j kind e = ap (λ (i : ℕ). getD ops i ComplexSort.FBag) (let z : j ≡ kind - 6 = omega (arith, e) in z)
+
+past-ops : (j : ℕ) → 4 ≤ j → ComplexSort.FBag ≡ getD ops j ComplexSort.FBag
+past-ops zero l = absurd (omega (arith, l))
+past-ops (suc zero) l = absurd (omega (arith, l))
+past-ops (suc (suc zero)) l = absurd (omega (arith, l))
+past-ops (suc (suc (suc zero))) l = absurd (omega (arith, l))
+past-ops (suc (suc (suc (suc j)))) l = refl
+
+pub op-last : (kind : ℕ) → 10 ≤ kind → ComplexSort.FBag ≡ opOfKind kind
+op-last kind l = past-ops (kind - 6) (omega (arith, l))
+
+module _ (ns : List ℕ) (i kind part : ℕ) (ek : kind ≡ nodeKindAt ns i) (ep : part ≡ nodePartAt ns i) where
+  pub says-function : (start count : ℕ) → start ≡ nodeStartAt ns i → count ≡ nodeCountAt ns i → kind ≡ 11 → Function (record { start = start; count = count }) (record { 0 = part }) ≡ nodeAt ns i
+  unfolding inferred
+  says-function start count es ec e = rw (sym ek, sym ep, sym es, sym ec, eq-eqb kind 11 e)
+
+  pub says-generic : (op : ComplexSort) → op ≡ opOfKind kind → (kind ≡ 11 → ⊥) → kind < 11 → Generic op (record { 0 = part }) ≡ nodeAt ns i
+  unfolding inferred
+  says-generic op eo d l = rw (sym ek, sym ep, ne-eqb kind 11 d, lt-ltb kind 11 l) (ap (λ x. Generic x (record { 0 = part })) eo)
+
+  pub says-variable : (kind ≡ 11 → ⊥) → 11 ≤ kind → Var (record { 0 = part }) ≡ nodeAt ns i
+  unfolding inferred
+  says-variable d l = rw (sym ek, sym ep, ne-eqb kind 11 d, le-ltb kind 11 l)
+
+module _ (ws ns bs : List ℕ) (k : Lengths) (q : Ready ws ns bs k) where
+  abbrev shape : ℕ → Shape
+  shape = graphOf ws ns k
+
+  abbrev B : Binds
+  B = bindsOf bs (k .variables)
+
+  pub ranked : Ranked shape deep B
+  ranked =
+      numbered-ranked shape 3072 (lower ws (k .sorts) (k .entries) ns (k .nodes) (k .arguments) (k .variables) (q .nodes)) (k .variables) B (q .binds .numbered) deep
+      (deep-enough ws (k .sorts) (k .entries) ns (k .nodes) (k .arguments) (k .variables) (q .nodes))
+
+  abbrev pub ρ : ℕ → ℕ
+  ρ = rank shape deep B
+
+  -- what the variable at a place is bound to
+  pub sort-not-bound : (p : ℕ) → Placed k p → p < maxSorts → none ≡ boundAt (shape p) B
+  sort-not-bound p e l = sym (ap (λ s. boundAt s B) (at-sort ws ns k (q .nodes) p e l) ∙ sort-bound ws (rowAt ws p) B)
+
+  module _ (p : ℕ) (e : Placed k p) (l : maxSorts ≤ p) (r : InferSort) (i : r ≡ nodeAt ns (p - maxSorts)) where
+    pub generic-not-bound : (op : ComplexSort) (s : InferSortId) → r ≡ Generic op s → none ≡ boundAt (shape p) B
+    unfolding nodeShape
+    generic-not-bound op s x = sym (ap (λ y. boundAt y B) (shape-of-node ws ns k (q .nodes) p e l r i ∙ ap (nodeShape ns) x))
+
+    pub function-not-bound : (d : Run) (s : InferSortId) → r ≡ Function d s → none ≡ boundAt (shape p) B
+    unfolding nodeShape
+    function-not-bound d s x = sym (ap (λ y. boundAt y B) (shape-of-node ws ns k (q .nodes) p e l r i ∙ ap (nodeShape ns) x))
+
+    module _ (u : SortVar) (x : r ≡ Var u) where
+      pub variable-bound : bindingOf (getD bs (u .0) 0) ≡ boundAt (shape p) B
+      variable-bound = sym (ap (λ y. boundAt y B) (shape-of-variable ws ns k (q .nodes) p e l r i u x) ∙ binding-word bs (k .variables) (u .0) (variable-in-list ws ns k (q .nodes) p e l r i u x))
+
+  -- following
+  pub begun : (p next : ℕ) → Placed k p → bindingOf next ≡ boundAt (shape p) B → Following shape B k p p next
+  begun p next e b = record { same = refl; placed = e; bound = b }
+
+  module _ (p end next : ℕ) (f : Following shape B k p end next) where
+    some-next : (next ≡ freeWord → ⊥) → some next ≡ boundAt (shape end) B
+    some-next d = sym (ap (λ b. cond b none (some next)) (ne-eqb next freeWord d)) ∙ f .bound
+
+    step-by : (s : Shape) → shape end ≡ s → some next ≡ boundAt s B → (v : ℕ) × ((shape end ≡ variable v) × (binding B v ≡ some next))
+    step-by (variable v) x e = (v, (x, sym e))
+    step-by (over h ps) x e = none-some next (sym e)
+
+    module _ (d : next ≡ freeWord → ⊥) where
+      step : (v : ℕ) × ((shape end ≡ variable v) × (binding B v ≡ some next))
+      step = step-by (shape end) refl (some-next d)
+
+      pub next-placed : Placed k next
+      next-placed = bound-is-place (k .sorts) (k .nodes) B (step .0) next (q .binds .places) (step .1 .1)
+
+      pub next-lower : ρ next < ρ end
+      next-lower = omega (arith, rank-var shape deep B ranked end (step .0) next (step .1 .0) (step .1 .1))
+
+      goes-on : follow shape deep B end ≡ follow shape deep B next
+      goes-on = follow-eq shape deep B ranked end ∙ rw (step .1 .0) (rw (step .1 .1))
+
+      pub one-further : (then : ℕ) → bindingOf then ≡ boundAt (shape next) B → Following shape B k p next then
+      one-further then b = record { same = f .same ∙ goes-on; placed = next-placed; bound = b }
+
+    ends-by : (s : Shape) → shape end ≡ s → none ≡ boundAt s B → followAt shape s B end (follow shape deep B) ≡ some end
+    ends-by (variable v) x e = rw (sym e)
+    ends-by (over h ps) x e = refl
+
+    pub ends-here : next ≡ freeWord → follow shape deep B p ≡ some end
+    ends-here e =
+        let z : none ≡ boundAt (shape end) B = sym (ap (λ b. cond b none (some next)) (eq-eqb next freeWord e)) ∙ f .bound in
+        f .same ∙ (follow-eq shape deep B ranked end ∙ ends-by (shape end) refl z)
+
+  -- the end of a place
+  follow-placed : (j p r : ℕ) → Placed k p → follow shape j B p ≡ some r → Placed k r
+  unfolding follow
+  follow-placed zero p r e f = none-some r f
+  follow-placed (suc j) p r e f = go (shape p) refl f (follow-placed j)
+    where
+      bound : (v : ℕ) (o : Option ℕ) → binding B v ≡ o → followBound shape o p (follow shape j B) ≡ some r → ((x r : ℕ) → Placed k x → follow shape j B x ≡ some r → Placed k r) → Placed k r
+      bound v none b f ih = let z : p ≡ r = cc in subst (Placed k) z e
+      bound v (some x) b f ih = ih x r (bound-is-place (k .sorts) (k .nodes) B v x (q .binds .places) b) f
+
+      go : (s : Shape) → shape p ≡ s → followAt shape s B p (follow shape j B) ≡ some r → ((x r : ℕ) → Placed k x → follow shape j B x ≡ some r → Placed k r) → Placed k r
+      go (variable v) s f ih = bound v (binding B v) refl f ih
+      go (over h ps) s f ih = let z : p ≡ r = cc in subst (Placed k) z e
+
+  follow-occurs : (u j p r : ℕ) → follow shape j B p ≡ some r → occurs shape deep B u p ≡ occurs shape deep B u r
+  unfolding follow
+  follow-occurs u zero p r f = none-some r f
+  follow-occurs u (suc j) p r f = go (shape p) refl f (follow-occurs u j)
+    where
+      bound : (v : ℕ) (o : Option ℕ) → shape p ≡ variable v → binding B v ≡ o → followBound shape o p (follow shape j B) ≡ some r
+          → ((x r : ℕ) → follow shape j B x ≡ some r → occurs shape deep B u x ≡ occurs shape deep B u r) → occurs shape deep B u p ≡ occurs shape deep B u r
+      bound v none s b f ih = let z : p ≡ r = cc in ap (occurs shape deep B u) z
+      bound v (some x) s b f ih = occurs-eq shape deep B ranked u p ∙ (rw s (rw b (ih x r f)))
+
+      go : (s : Shape) → shape p ≡ s → followAt shape s B p (follow shape j B) ≡ some r → ((x r : ℕ) → follow shape j B x ≡ some r → occurs shape deep B u x ≡ occurs shape deep B u r)
+          → occurs shape deep B u p ≡ occurs shape deep B u r
+      go (variable v) s f ih = bound v (binding B v) s refl f ih
+      go (over h ps) s f ih = let z : p ≡ r = cc in ap (occurs shape deep B u) z
+
+  -- a sort holds no variable
+  any-absent : (f : ℕ → Occurs) (ps : List ℕ) → ((x : ℕ) → One x ps → f x ≡ absent) → occursAny shape f ps ≡ absent
+  any-absent f [] h = refl
+  any-absent f (p ∷ ps) h = let a = h p (first ps) in let b = any-absent f ps (λ x o. h x (later p ps o)) in rw a b
+
+  pub sort-placed : (p : ℕ) → p < k .sorts → Placed k p
+  unfolding isPlace
+  sort-placed p l = rw (lt-ltb p maxSorts (omega (arith, l, q .nodes .sorts .sorts)), lt-ltb p (k .sorts) l)
+
+  sort-shape-of : (p : ℕ) → p < k .sorts → shape p ≡ sortShape ws (rowAt ws p)
+  sort-shape-of p l = at-sort ws ns k (q .nodes) p (sort-placed p l) (omega (arith, l, q .nodes .sorts .sorts))
+
+  sort-absent : (u j p : ℕ) → p < j → p < k .sorts → occurs shape deep B u p ≡ absent
+  sort-absent u zero p l m = absurd (omega (arith, l))
+  sort-absent u (suc j) p l m = occurs-eq shape deep B ranked u p ∙ go (shape p) (sort-shape-of p m) (sort-absent u j)
+    where
+      go : (s : Shape) → s ≡ sortShape ws (rowAt ws p) → ((x : ℕ) → x < j → x < k .sorts → occurs shape deep B u x ≡ absent) → occursAt shape s B u (occurs shape deep B u) ≡ absent
+      go (variable v) s ih = sort-no-variable ws v (rowAt ws p) (sym s)
+      go (over h ps) s ih = any-absent (occurs shape deep B u) ps (λ x o. let y = sort-parts ws (k .entries) p (rowAt ws p) (sort-parts-fine ws (k .sorts) (k .entries) ns (k .nodes) (k .arguments) (k .variables) (q .nodes) p m) x h ps (sym s) o in ih x (omega (arith, l, y)) (omega (arith, m, y)))
+
+  pub placed-sort-below : (p : ℕ) → Placed k p → p < maxSorts → p < k .sorts
+  unfolding isPlace
+  placed-sort-below p e l = let x : cond true (ltb p (k .sorts)) (ltb (p - maxSorts) (k .nodes)) ≡ true = subst (λ b. cond b (ltb p (k .sorts)) (ltb (p - maxSorts) (k .nodes)) ≡ true) (lt-ltb p maxSorts l) e in ltb-true p (k .sorts) x
+
+  -- places among the parts of a node
+  pub place-wider : (i x : ℕ) → i ≤ k .nodes → isPlace (k .sorts) i x ≡ true → Placed k x
+  unfolding isPlace
+  place-wider i x l e = go (isSort x) refl e
+    where
+      go : (b : Bool) → isSort x ≡ b → cond b (ltb x (k .sorts)) (ltb (x - maxSorts) i) ≡ true → cond b (ltb x (k .sorts)) (ltb (x - maxSorts) (k .nodes)) ≡ true
+      go true s e = e
+      go false s e = lt-ltb (x - maxSorts) (k .nodes) (omega (arith, ltb-true (x - maxSorts) i e, l))
+
+  pub one-highest : (g : ℕ → ℕ) (ps : List ℕ) (x : ℕ) → One x ps → suc (g x) ≤ highest g ps
+  one-highest g _ x (first ps) = omega arith
+  one-highest g _ x (later p ps o) = omega (arith, one-highest g ps x o)
+
+  last-of : (xs : List ℕ) (y : ℕ) → One y (xs ++ (y ∷ []))
+  last-of [] y = first []
+  last-of (x ∷ xs) y = later x (xs ++ (y ∷ [])) (last-of xs y)
+
+  highest-front : (g : ℕ → ℕ) (xs ys : List ℕ) → highest g xs ≤ highest g (xs ++ ys)
+  highest-front g [] ys = omega arith
+  highest-front g (x ∷ xs) ys = omega (arith, highest-front g xs ys)
+
+  any-last : (f : ℕ → Occurs) (xs : List ℕ) (y : ℕ) → occursAny shape f (xs ++ (y ∷ [])) ≡ or-else (occursAny shape f xs) (f y)
+  any-last f [] y = or-absent (f y)
+  any-last f (x ∷ xs) y = ap (or-else (f x)) (any-last f xs y) ∙ assoc (f x) (occursAny shape f xs) (f y)
+    where
+      assoc : (a b c : Occurs) → or-else a (or-else b c) ≡ or-else (or-else a b) c
+      assoc absent b c = refl
+      assoc present b c = refl
+      assoc unknown b c = refl
+
+  -- the occurs check, at the end of a place
+  module _ (u p end : ℕ) (e : Placed k p) (f : follow shape deep B p ≡ some end) where
+    pub end-placed : Placed k end
+    end-placed = follow-placed deep p end e f
+
+    pub end-rank : ρ end ≤ ρ p
+    end-rank =
+        let x = follow-some shape deep B ranked deep p (ranked .short p) in
+        let y : some end ≡ some (x .0) = sym f ∙ x .1 in
+        let z : end ≡ x .0 = cc in
+        omega (arith, x .2, ap ρ z)
+
+    same-there : occurs shape deep B u p ≡ occurs shape deep B u end
+    same-there = follow-occurs u deep p end f
+
+    pub occurs-in-sort : end < maxSorts → occurs shape deep B u p ≡ absent
+    occurs-in-sort l = same-there ∙ sort-absent u (suc end) end (omega arith) (placed-sort-below end end-placed l)
+
+    module _ (l : maxSorts ≤ end) (r : InferSort) (i : r ≡ nodeAt ns (end - maxSorts)) where
+      pub occurs-at-variable : (v : SortVar) → r ≡ Var v → occurs shape deep B u p ≡ ofTest (eqb u (v .0))
+      occurs-at-variable v x =
+          let s = shape-of-variable ws ns k (q .nodes) end end-placed l r i v x in
+          same-there ∙ (occurs-eq shape deep B ranked u end ∙ (rw s (rw (follow-end shape B deep p end (v .0) f s))))
+
+      module _ (op : ComplexSort) (s : InferSortId) (x : r ≡ Generic op s) where
+        pub generic-shape : shape end ≡ over (containerHead op) (s .0 ∷ [])
+        unfolding nodeShape
+        generic-shape = shape-of-node ws ns k (q .nodes) end end-placed l r i ∙ ap (nodeShape ns) x
+
+        pub subsort-placed : Placed k (s .0)
+        unfolding nodePartsFine
+        subsort-placed =
+            place-wider (end - maxSorts) (s .0) (omega (arith, node-below ws ns k (q .nodes) end end-placed l))
+            (subst (λ y. nodePartsFine ns (k .arguments) (k .sorts) (k .variables) (end - maxSorts) y ≡ true) x (parts-fine ws ns k (q .nodes) end end-placed l r i))
+
+        pub subsort-lower : ρ (s .0) < ρ p
+        subsort-lower = omega (arith, end-rank, rank-over shape deep B ranked end (containerHead op) (s .0 ∷ []) generic-shape)
+
+        pub occurs-in-subsort : (b : Bool) → occurs shape deep B u (s .0) ≡ ofTest b → occurs shape deep B u p ≡ ofTest b
+        occurs-in-subsort b y = same-there ∙ (occurs-eq shape deep B ranked u end ∙ rw generic-shape (or-absent (occurs shape deep B u (s .0)) ∙ y))
+
+      module _ (d : Run) (s : InferSortId) (x : r ≡ Function d s) where
+        abbrev args : List ℕ
+        args = nodeEntriesOf ns (d .start) (d .count)
+
+        pub function-shape : shape end ≡ over (functionHead (d .count)) (args ++ (s .0 ∷ []))
+        unfolding nodeShape
+        function-shape = shape-of-node ws ns k (q .nodes) end end-placed l r i ∙ ap (nodeShape ns) x
+
+        abbrev part-test : ℕ → Bool
+        part-test j = isPlace (k .sorts) (end - maxSorts) (nodeEntryAt ns (d .start + j))
+
+        function-fine : (leb (d .count) 16 && leb (d .start + d .count) (k .arguments) && isPlace (k .sorts) (end - maxSorts) (s .0) && allBelow (d .count) part-test) ≡ true
+        unfolding nodePartsFine
+        function-fine = subst (λ y. nodePartsFine ns (k .arguments) (k .sorts) (k .variables) (end - maxSorts) y ≡ true) x (parts-fine ws ns k (q .nodes) end end-placed l r i)
+
+        two : ((leb (d .count) 16 && leb (d .start + d .count) (k .arguments) && isPlace (k .sorts) (end - maxSorts) (s .0)) ≡ true) × (allBelow (d .count) part-test ≡ true)
+        two = and-eq-true-iff (leb (d .count) 16 && leb (d .start + d .count) (k .arguments) && isPlace (k .sorts) (end - maxSorts) (s .0)) (allBelow (d .count) part-test) .0 function-fine
+
+        pub run-placed : RunPlaced ns k (d .start) (d .count)
+        run-placed =
+            let a = and-eq-true-iff (leb (d .count) 16 && leb (d .start + d .count) (k .arguments)) (isPlace (k .sorts) (end - maxSorts) (s .0)) .0 (two .0) in
+            let b = and-eq-true-iff (leb (d .count) 16) (leb (d .start + d .count) (k .arguments)) .0 (a .0) in
+            record {
+              places = λ j h. place-wider (end - maxSorts) (nodeEntryAt ns (d .start + j)) (omega (arith, node-below ws ns k (q .nodes) end end-placed l)) (below-each (d .count) part-test (two .1) j h);
+              short = leb-true (d .count) 16 (b .0);
+              inside = leb-true (d .start + d .count) (k .arguments) (b .1);
+            }
+
+        pub range-placed : Placed k (s .0)
+        range-placed =
+            let a = and-eq-true-iff (leb (d .count) 16 && leb (d .start + d .count) (k .arguments)) (isPlace (k .sorts) (end - maxSorts) (s .0)) .0 (two .0) in
+            place-wider (end - maxSorts) (s .0) (omega (arith, node-below ws ns k (q .nodes) end end-placed l)) (a .1)
+
+        function-rank : ρ end ≡ highest ρ (args ++ (s .0 ∷ []))
+        function-rank = rank-over shape deep B ranked end (functionHead (d .count)) (args ++ (s .0 ∷ [])) function-shape
+
+        pub run-lower : highest ρ args ≤ ρ p
+        run-lower = omega (arith, end-rank, function-rank, highest-front ρ args (s .0 ∷ []))
+
+        pub range-lower : ρ (s .0) < ρ p
+        range-lower = omega (arith, end-rank, function-rank, one-highest ρ (args ++ (s .0 ∷ [])) (s .0) (last-of args (s .0)))
+
+        by-parts : occurs shape deep B u p ≡ or-else (occursAny shape (occurs shape deep B u) args) (occurs shape deep B u (s .0))
+        by-parts = same-there ∙ (occurs-eq shape deep B ranked u end ∙ rw function-shape (any-last (occurs shape deep B u) args (s .0)))
+
+        pub occurs-in-domain : (b : Bool) → occursAny shape (occurs shape deep B u) args ≡ ofTest b → b ≡ true → occurs shape deep B u p ≡ ofTest true
+        occurs-in-domain b y z = by-parts ∙ ap (λ o. or-else o (occurs shape deep B u (s .0))) (y ∙ ap ofTest z)
+
+        pub occurs-in-range : (b c : Bool) → occursAny shape (occurs shape deep B u) args ≡ ofTest b → b ≡ false → occurs shape deep B u (s .0) ≡ ofTest c → occurs shape deep B u p ≡ ofTest c
+        occurs-in-range b c y z w = by-parts ∙ (ap (λ o. or-else o (occurs shape deep B u (s .0))) (y ∙ ap ofTest z) ∙ w)
+
+  -- a run of arguments
+  module _ (u s c : ℕ) (r : RunPlaced ns k s c) where
+    pub none-in-run : c ≡ 0 → occursAny shape (occurs shape deep B u) (nodeEntriesOf ns s c) ≡ absent
+    unfolding nodeEntriesOf
+    none-in-run e = rw e
+
+    module _ (d : 0 < c) where
+      pub one-and-rest : nodeEntriesOf ns s c ≡ nodeEntryAt ns s ∷ nodeEntriesOf ns (s + 1) (c - 1)
+      unfolding nodeEntriesOf
+      one-and-rest = ap (nodeEntriesOf ns s) (let z : c ≡ suc (c - 1) = omega (arith, d) in z)
+
+      pub first-placed : Placed k (nodeEntryAt ns s)
+      first-placed = subst (λ (x : ℕ). Placed k (nodeEntryAt ns x)) (omega arith) (r .places 0 d)
+
+      pub rest-placed : RunPlaced ns k (s + 1) (c - 1)
+      rest-placed =
+          record {
+            places = λ j h. subst (λ (x : ℕ). Placed k (nodeEntryAt ns x)) (omega arith) (r .places (j + 1) (omega (arith, h)));
+            short = omega (arith, r .short);
+            inside = omega (arith, r .inside, d);
+          }
+
+      pub first-lower : suc (ρ (nodeEntryAt ns s)) ≤ highest ρ (nodeEntriesOf ns s c)
+      first-lower = rw one-and-rest (omega arith)
+
+      pub rest-lower : highest ρ (nodeEntriesOf ns (s + 1) (c - 1)) ≤ highest ρ (nodeEntriesOf ns s c)
+      rest-lower = rw one-and-rest (omega arith)
+
+      pub in-first : (b : Bool) → occurs shape deep B u (nodeEntryAt ns s) ≡ ofTest b → b ≡ true → occursAny shape (occurs shape deep B u) (nodeEntriesOf ns s c) ≡ ofTest true
+      in-first b y z = rw one-and-rest (ap (λ o. or-else o (occursAny shape (occurs shape deep B u) (nodeEntriesOf ns (s + 1) (c - 1)))) (y ∙ ap ofTest z))
+
+      pub in-rest : (b e : Bool) → occurs shape deep B u (nodeEntryAt ns s) ≡ ofTest b → b ≡ false → occursAny shape (occurs shape deep B u) (nodeEntriesOf ns (s + 1) (c - 1)) ≡ ofTest e
+          → occursAny shape (occurs shape deep B u) (nodeEntriesOf ns s c) ≡ ofTest e
+      in-rest b e y z w = rw one-and-rest (ap (λ o. or-else o (occursAny shape (occurs shape deep B u) (nodeEntriesOf ns (s + 1) (c - 1)))) (y ∙ ap ofTest z) ∙ w)

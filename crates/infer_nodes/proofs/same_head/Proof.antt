@@ -1,0 +1,16 @@
+-- Kinds, then numbers. Assumes nothing.
+use Rattle.infer_nodes.proofs.Parts as law
+use borrow.Author.Needs.{needs}
+use Rattle.infer_nodes.proofs.same_head.Statement.{statement}
+use Rattle.infer_nodes.proofs.same_head.Tie as tie
+
+pub same-head-spec : {M : Type 1} → statement M
+same-head-spec =
+    tie.close
+    (tie.spec
+    (λ c κs. (c .before .before .pre .0, c .before .before .pre .1))
+    (λ c κs. (c .before .before .before .pre .0, c .before .before .before .pre .2))
+    (λ c. law.other-kind _ _ _ _ (c .before .before .kind-at .ensures) (c .before .kind-at2 .ensures) (c .if1 .taken))
+    (λ c κs. (c .before .before .before .before .before .pre .0, c .before .before .before .before .before .pre .1))
+    (λ c κs. (c .before .before .before .before .before .before .pre .0, c .before .before .before .before .before .before .pre .2))
+    (λ c. law.by-number _ _ _ _ (c .before .before .before .before .kind-at .ensures) (c .before .before .before .kind-at2 .ensures) _ _ (c .before .before .if1 .left) (c .before .number-at .ensures) (c .number-at2 .ensures)))

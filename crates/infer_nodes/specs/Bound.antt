@@ -1,0 +1,19 @@
+-- What the variable at a place is bound to, and runs of arguments that are places.
+use mathlib.Core.Path.{_≡_}
+use mathlib.Core.List.{List}
+use mathlib.Core.Option.{Option, none, some}
+use Prim.Native.Nat.{ℕ, _+_, _<_, _≤_}
+use Rattle.unification.specs.declared.Lengths.{Lengths}
+use Rattle.unification.specs.Term.{Shape, variable, over}
+use Rattle.unification.specs.Nodes.{nodeEntryAt, Binds, binding}
+use Rattle.unification.specs.Checked.{Placed}
+
+abbrev pub boundAt : Shape → Binds → Option ℕ
+boundAt (variable v) B = binding B v
+boundAt (over h ps) B = none
+
+-- the c arguments from s on are places, and no more than 16
+pub record RunPlaced (ns : List ℕ) (k : Lengths) (s c : ℕ) : Type 0 where
+  pub places : (j : ℕ) → j < c → Placed k (nodeEntryAt ns (s + j))
+  pub short : c ≤ 16
+  pub inside : s + c ≤ k .arguments

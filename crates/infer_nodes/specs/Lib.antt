@@ -1,0 +1,3 @@
+-- What the contracts of this crate cite beside the definitions of the unifier.
+pub mod Bound
+pub mod Parts

@@ -1,0 +1,193 @@
+-- At its depth strictRelated meets its own equation. The range of the function at the end of a place has a lower rank than the place, and is asked
+-- about in the lists as they were given, before anything is made; so past the rank of a place more depth changes nothing. From the equation: the
+-- answer by what stands at the end. Assumes nothing.
+use mathlib.Core.Path.{_≡_, refl, ap, sym, _∙_, subst}
+use mathlib.Core.List.{List, [], _∷_, _++_}
+use mathlib.Core.Option.{some}
+use mathlib.Core.Bool.{Bool, true, false, cond}
+use Prim.Native.Nat.{ℕ, zero, suc, _+_, _-_, _<_, _≤_}
+use native.Mathlib.Omega.{arith}
+use lib.ListN.{length, getD, take, length-append}
+use lib.Seq.{take-at, getD-at}
+use borrow.Author.Tests.{lt-ltb, le-ltb}
+use Rattle.resolved_sort.specs.declared.Run.{Run}
+use Rattle.resolved_sort.specs.declared.ComplexSort.{ComplexSort}
+use Rattle.resolved_sort.specs.declared.SortId.{SortId}
+use Rattle.resolved_sort.specs.declared.ResolvedSort.{ResolvedSort}
+use Rattle.resolved_sort.specs.declared.ResolvedSort.the-variants.{Unit as UnitRow, Primitive, Container, Function as SortFunction, Def, TypeVar}
+use Rattle.resolved_sort.specs.Tree.{Flat}
+use Rattle.resolved_sort.specs.Storage.{maxSorts, entriesOf, rowAt}
+use Rattle.unification.specs.declared.Lengths.{Lengths}
+use Rattle.unification.specs.declared.InferSortId.{InferSortId}
+use Rattle.unification.specs.declared.InferSort.{InferSort}
+use Rattle.unification.specs.declared.InferSort.the-variants.{Generic, Function, Var}
+use Rattle.unification.specs.Term.{flatHead, containerHead, functionHead, strayHead, Shape, variable, over}
+use Rattle.unification.specs.Nodes.{nodeEntriesOf, nodeAt, sortShape, nodeShape, Lists, isSort, isPlace, shapeAt, Binds, bindsOf}
+use Rattle.unification.specs.Unify.{follow, deep}
+use Rattle.unification.specs.Checked.{graphOf, Ready}
+use Rattle.unification.specs.Related.{relatedContainer}
+use Rattle.unification.specs.Making.{Lent, graph, Makes, made, no-list, _and-then_, relatedOver, pushFunctions, relatedPlaces, relatedShape, relatedEnd, relatedTo, strictRelated}
+use Rattle.unification.proofs.Rank.{highest, rank, Ranked, rank-over}
+use Rattle.unification.proofs.Numbering.{numbered-ranked}
+use Rattle.unification.proofs.Enough.{follow-some}
+use Rattle.unification.proofs.Lists.{length-entries, lower}
+use Rattle.unification.proofs.Theorem.{deep-enough}
+
+differ : {A : Type 0} → _≡_ {A = ℕ} 0 1 → A
+differ e = absurd (omega arith)
+
+-- The parts of a function: as many arguments as its head says, and then the range.
+pub length-node-entries : (ns : List ℕ) (s c : ℕ) → length (nodeEntriesOf ns s c) ≡ c
+unfolding nodeEntriesOf
+length-node-entries ns s zero = refl
+length-node-entries ns s (suc c) = omega (arith, length-node-entries ns (s + 1) c)
+
+one-more : (xs ps : List ℕ) (x c n : ℕ) → length xs ≡ c → c ≡ n → xs ++ (x ∷ []) ≡ ps → length ps ≡ suc n
+one-more xs ps x c n l e i = sym (ap length i) ∙ (length-append xs (x ∷ []) ∙ omega (arith, l, e))
+
+sort-function-parts : (ws : List ℕ) (r : ResolvedSort) (n : ℕ) (ps : List ℕ) → sortShape ws r ≡ over (functionHead n) ps → length ps ≡ suc n
+unfolding sortShape
+sort-function-parts ws UnitRow n ps e = differ (cc)
+sort-function-parts ws (Primitive s) n ps e = differ (cc)
+sort-function-parts ws (Container op s) n ps e = differ (cc)
+sort-function-parts ws (SortFunction d r) n ps e =
+    one-more (entriesOf ws (d .start) (d .count)) ps (r .0) (d .count) n (length-entries ws (d .start) (d .count)) (cc) (cc)
+sort-function-parts ws (Def x) n ps e = differ (cc)
+sort-function-parts ws (TypeVar x) n ps e = differ (cc)
+
+node-function-parts : (ns : List ℕ) (r : InferSort) (n : ℕ) (ps : List ℕ) → nodeShape ns r ≡ over (functionHead n) ps → length ps ≡ suc n
+unfolding nodeShape
+node-function-parts ns (Generic op s) n ps e = differ (cc)
+node-function-parts ns (Function d r) n ps e =
+    one-more (nodeEntriesOf ns (d .start) (d .count)) ps (r .0) (d .count) n (length-node-entries ns (d .start) (d .count)) (cc) (cc)
+node-function-parts ns (Var v) n ps e = differ (cc)
+
+pub function-parts : (L : Lists) (q n : ℕ) (ps : List ℕ) → shapeAt L q ≡ over (functionHead n) ps → length ps ≡ suc n
+unfolding shapeAt
+function-parts L q n ps e = go (isPlace (L .sort-count) (L .node-count) q) (isSort q) e
+  where
+    go : (a b : Bool) → cond a (cond b (sortShape (L .sorts) (rowAt (L .sorts) q)) (nodeShape (L .nodes) (nodeAt (L .nodes) (q - maxSorts)))) (over (strayHead q) []) ≡ over (functionHead n) ps → length ps ≡ suc n
+    go true true e = sort-function-parts (L .sorts) (rowAt (L .sorts) q) n ps e
+    go true false e = node-function-parts (L .nodes) (nodeAt (L .nodes) (q - maxSorts)) n ps e
+    go false b e = differ (cc)
+
+getD-highest : (g : ℕ → ℕ) (ps : List ℕ) (n : ℕ) → n < length ps → g (getD ps n 0) < highest g ps
+getD-highest g [] n l = absurd (omega (arith, l))
+getD-highest g (p ∷ ps) zero l = omega arith
+getD-highest g (p ∷ ps) (suc n) l = omega (arith, getD-highest g ps n (omega (arith, l)))
+
+-- ranks are bounded in lists that passed their checks
+pub ready-ranked : (ws ns bs : List ℕ) (k : Lengths) → Ready ws ns bs k → Ranked (graphOf ws ns k) deep (bindsOf bs (k .variables))
+ready-ranked ws ns bs k q =
+    numbered-ranked (graphOf ws ns k) 3072 (lower ws (k .sorts) (k .entries) ns (k .nodes) (k .arguments) (k .variables) (q .nodes)) (k .variables) (bindsOf bs (k .variables))
+    (q .binds .numbered) deep (deep-enough ws (k .sorts) (k .entries) ns (k .nodes) (k .arguments) (k .variables) (q .nodes))
+
+module _ (W : Lent) (B : Binds) (A : Ranked (graph W) deep B) where
+  abbrev ρ : ℕ → ℕ
+  ρ = rank (graph W) deep B
+
+  -- the range of a function has a lower rank
+  pub range-lower : (q n : ℕ) (ps : List ℕ) → graph W q ≡ over (functionHead n) ps → ρ (getD ps n 0) < ρ q
+  range-lower q n ps s =
+      omega (arith, rank-over (graph W) deep B A q (functionHead n) ps s, getD-highest ρ ps n (omega (arith, function-parts _ q n ps s)))
+
+  -- and the end of a place no higher one
+  pub end-no-higher : (p q : ℕ) → follow (graph W) deep B p ≡ some q → ρ q ≤ ρ p
+  end-no-higher p q e =
+      let x = follow-some (graph W) deep B A deep p (A .short p) in
+      let y : some q ≡ some (x .0) = sym e ∙ x .1 in
+      let z : q ≡ x .0 = cc in
+      omega (arith, x .2, ap ρ z)
+
+  module _ (up : Bool) where
+    agree : (f g : ℕ → Lent → Makes (List ℕ)) (q : ℕ) → ((r : ℕ) → ρ r < ρ q → f r W ≡ g r W) → (b : Bool) (s : Shape) → graph W q ≡ s → relatedShape up f b s W ≡ relatedShape up g b s W
+    agree f g q h b (variable v) e = refl
+    agree f g q h b (over (flatHead a) ps) e = refl
+    agree f g q h b (over (containerHead o) ps) e = refl
+    agree f g q h b (over (functionHead n) ps) e = ap (λ (x : Makes (List ℕ)). x and-then (pushFunctions (take n ps))) (h (getD ps n 0) (range-lower q n ps e))
+    agree f g q h b (over (strayHead x) ps) e = refl
+
+    stable : (k p : ℕ) → ρ p < k → relatedTo up B (suc k) p W ≡ relatedTo up B k p W
+    unfolding relatedTo
+    stable zero p l = absurd (omega (arith, l))
+    stable (suc k) p l =
+        let x = follow-some (graph W) deep B A deep p (A .short p) in
+        rw (x .1) (agree (relatedTo up B (suc k)) (relatedTo up B k) (x .0) (λ r m. stable k r (omega (arith, l, m, x .2))) (isSort (x .0)) (graph W (x .0)) refl)
+
+    at-depth : (k p : ℕ) → ρ p < k → relatedTo up B k p W ≡ relatedEnd up (relatedTo up B k) (follow (graph W) deep B p) W
+    unfolding relatedTo
+    at-depth k p l = sym (stable k p l)
+
+    pub related-eq : (p : ℕ) → strictRelated up B p W ≡ relatedEnd up (strictRelated up B) (follow (graph W) deep B p) W
+    unfolding strictRelated
+    related-eq p = at-depth deep p (A .short p)
+
+-- The same for lists that passed their checks, by what stands at the end q of a place p.
+module _ (W : Lent) (bs : List ℕ) (R : Ready (W .sorts) (W .nodes) bs (W .lengths)) where
+  abbrev bound : Binds
+  bound = bindsOf bs (W .lengths .variables)
+
+  abbrev ranked : Ranked (graph W) deep bound
+  ranked = ready-ranked (W .sorts) (W .nodes) bs (W .lengths) R
+
+  pub related-equation : (up : Bool) (p : ℕ) → strictRelated up bound p W ≡ relatedEnd up (strictRelated up bound) (follow (graph W) deep bound p) W
+  related-equation up p = related-eq W bound ranked up p
+
+  module _ (up : Bool) (p q : ℕ) (e : follow (graph W) deep bound p ≡ some q) where
+    pub related-at : (s : Shape) → graph W q ≡ s → strictRelated up bound p W ≡ relatedShape up (strictRelated up bound) (isSort q) s W
+    related-at s i = related-equation up p ∙ rw e (rw i)
+
+    pub no-list-at-variable : (v : ℕ) → graph W q ≡ variable v → strictRelated up bound p W ≡ no-list W
+    no-list-at-variable v i = related-at (variable v) i
+
+    pub places-at-flat : (a : Flat) (ps : List ℕ) → graph W q ≡ over (flatHead a) ps → strictRelated up bound p W ≡ made (relatedPlaces up a) W
+    places-at-flat a ps i = related-at (over (flatHead a) ps) i
+
+    -- a container
+    module _ (o : ComplexSort) (s : ℕ) (i : graph W q ≡ over (containerHead o) (s ∷ [])) where
+      pub made-at-sort-container : q < maxSorts → strictRelated up bound p W ≡ relatedOver (relatedContainer up o) true s W
+      made-at-sort-container l = related-at (over (containerHead o) (s ∷ [])) i ∙ ap (λ (b : Bool). relatedOver (relatedContainer up o) b s W) (lt-ltb q maxSorts l)
+
+      pub made-at-node-container : maxSorts ≤ q → strictRelated up bound p W ≡ relatedOver (relatedContainer up o) false s W
+      made-at-node-container l = related-at (over (containerHead o) (s ∷ [])) i ∙ ap (λ (b : Bool). relatedOver (relatedContainer up o) b s W) (le-ltb q maxSorts l)
+
+    -- a function
+    module _ (n : ℕ) (ps : List ℕ) (i : graph W q ≡ over (functionHead n) ps) where
+      pub range-lower-than-place : rank (graph W) deep bound (getD ps n 0) < rank (graph W) deep bound p
+      range-lower-than-place = omega (arith, range-lower W bound ranked q n ps i, end-no-higher W bound ranked p q e)
+
+      pub made-at-function : strictRelated up bound p W ≡ (strictRelated up bound (getD ps n 0) W and-then (pushFunctions (take n ps)))
+      made-at-function = related-at (over (functionHead n) ps) i
+
+    -- a function by its arguments and its range
+    module _ (n : ℕ) (xs : List ℕ) (r : ℕ) (m : length xs ≡ n) (i : graph W q ≡ over (functionHead n) (xs ++ (r ∷ []))) where
+      last : getD (xs ++ (r ∷ [])) n 0 ≡ r
+      last = getD-at xs r [] 0 n m
+
+      pub range-lower-than : rank (graph W) deep bound r < rank (graph W) deep bound p
+      range-lower-than = subst (λ (x : ℕ). rank (graph W) deep bound x < rank (graph W) deep bound p) last (range-lower-than-place n (xs ++ (r ∷ [])) i)
+
+      pub made-over-range : strictRelated up bound p W ≡ (strictRelated up bound r W and-then (pushFunctions xs))
+      made-over-range =
+          made-at-function n (xs ++ (r ∷ [])) i
+          ∙ (ap (λ (x : ℕ). strictRelated up bound x W and-then (pushFunctions (take n (xs ++ (r ∷ []))))) last
+          ∙ ap (λ (ys : List ℕ). strictRelated up bound r W and-then (pushFunctions ys)) (take-at xs (r ∷ []) n m))
+
+    -- and by its row
+    module _ (d : Run) (r : SortId) (i : graph W q ≡ sortShape (W .sorts) (SortFunction d r)) where
+      pub made-at-sort-function : strictRelated up bound p W ≡ (strictRelated up bound (r .0) W and-then (pushFunctions (entriesOf (W .sorts) (d .start) (d .count))))
+      unfolding sortShape
+      made-at-sort-function = made-over-range (d .count) (entriesOf (W .sorts) (d .start) (d .count)) (r .0) (length-entries (W .sorts) (d .start) (d .count)) i
+
+      pub sort-range-lower : rank (graph W) deep bound (r .0) < rank (graph W) deep bound p
+      unfolding sortShape
+      sort-range-lower = range-lower-than (d .count) (entriesOf (W .sorts) (d .start) (d .count)) (r .0) (length-entries (W .sorts) (d .start) (d .count)) i
+
+    module _ (d : Run) (r : InferSortId) (i : graph W q ≡ nodeShape (W .nodes) (Function d r)) where
+      pub made-at-node-function : strictRelated up bound p W ≡ (strictRelated up bound (r .0) W and-then (pushFunctions (nodeEntriesOf (W .nodes) (d .start) (d .count))))
+      unfolding nodeShape
+      made-at-node-function = made-over-range (d .count) (nodeEntriesOf (W .nodes) (d .start) (d .count)) (r .0) (length-node-entries (W .nodes) (d .start) (d .count)) i
+
+      pub node-range-lower : rank (graph W) deep bound (r .0) < rank (graph W) deep bound p
+      unfolding nodeShape
+      node-range-lower = range-lower-than (d .count) (nodeEntriesOf (W .nodes) (d .start) (d .count)) (r .0) (length-node-entries (W .nodes) (d .start) (d .count)) i

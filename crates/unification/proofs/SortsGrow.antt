@@ -1,0 +1,121 @@
+-- More sorts: a list of sorts that has grown by interning reads as before below its old lengths, so that old rows keep their shapes, and what was a
+-- place is a place among more sorts. Assumes nothing.
+use mathlib.Core.Path.{_≡_, refl, ap, _∙_}
+use mathlib.Core.List.{List, [], _∷_, _++_}
+use mathlib.Core.Bool.{true, _&&_, and-eq-true-iff}
+use Prim.Native.Nat.{ℕ, _+_, _-_, _<_, _≤_}
+use native.Mathlib.Omega.{arith}
+use lib.ListN.{length}
+use lib.Dec.{eqb, leb, ltb}
+use borrow.Author.Tests.{leb-true, le-leb}
+use Rattle.resolved_sort.specs.declared.ResolvedSort.{ResolvedSort}
+use Rattle.resolved_sort.specs.declared.ResolvedSort.the-variants.{Unit as UnitRow, Primitive, Container, Function as SortFunction, Def, TypeVar}
+use Rattle.resolved_sort.specs.Interning.{Sorts}
+use Rattle.resolved_sort.specs.Storage.{maxEntries, kindAt, resolved, rowAt}
+use Rattle.resolved_sort.specs.Entries.{after}
+use Rattle.resolved_sort.specs.Checks.{allBelow, fixedSix, partsBelow}
+use Rattle.resolved_sort.proofs.Below.{below-each, each-below}
+use Rattle.resolved_sort.proofs.Append.{Agrees, entries-agree}
+use Rattle.resolved_sort.proofs.Grown.{Grown}
+use Rattle.resolved_sort.proofs.Unchanged.{longer, unchanged, look-unchanged}
+use Rattle.unification.specs.Term.{functionHead, over}
+use Rattle.unification.specs.Nodes.{sortShape}
+use Rattle.unification.specs.NodeChecks.{nodeFine, nodesFine}
+use Rattle.unification.specs.declared.Lengths.{Lengths}
+use Rattle.unification.specs.Checked.{Ready}
+use Rattle.unification.specs.Making.{Lent}
+use Rattle.unification.proofs.Lists.{sort-parts-fine}
+use Rattle.unification.proofs.Grows.{CheckedLent, Grows, rows-same, node-fine-longer, ready-grown}
+
+-- the lists with the sorts S
+abbrev pub withMoreSorts : Lent → Sorts → Lent
+withMoreSorts W S =
+    record {
+      sorts = after (W .sorts) (W .lengths .sorts) (W .lengths .entries) S;
+      nodes = W .nodes;
+      lengths =
+          record {
+            sorts = length (S .trees);
+            entries = maxEntries - S .entries;
+            nodes = W .lengths .nodes;
+            arguments = W .lengths .arguments;
+            variables = W .lengths .variables;
+          };
+    }
+
+module _ (ws us : List ℕ) (n e : ℕ) (a : Agrees ws us n e) where
+  row-same : (i : ℕ) → i < n → rowAt us i ≡ rowAt ws i
+  row-same i l =
+      let k = a .kinds i l in
+      let p = a .parts i l in
+      let s = a .starts i l in
+      let c = a .counts i l in
+      λ j. resolved (k j) (p j) (record { start = s j; count = c j })
+
+  -- a row whose run is inside the entries has the same shape
+  sort-shape : (i : ℕ) (r : ResolvedSort) → partsBelow ws e i r ≡ true → sortShape us r ≡ sortShape ws r
+  unfolding partsBelow sortShape
+  sort-shape i UnitRow f = refl
+  sort-shape i (Primitive s) f = refl
+  sort-shape i (Container op s) f = refl
+  sort-shape i (SortFunction domain range) f =
+      let x = and-eq-true-iff (leb (domain .count) 16 && leb (domain .start + domain .count) e && ltb (range .0) i) _ .0 f in
+      let y = and-eq-true-iff (leb (domain .count) 16 && leb (domain .start + domain .count) e) (ltb (range .0) i) .0 (x .0) in
+      let z = and-eq-true-iff (leb (domain .count) 16) (leb (domain .start + domain .count) e) .0 (y .0) in
+      let l = leb-true (domain .start + domain .count) e (z .1) in
+      ap (λ xs. over (functionHead (domain .count)) (xs ++ (range .0 ∷ []))) (entries-agree us ws (domain .start) (domain .count) (λ j h. a .entries (domain .start + j) (omega (arith, l, h))))
+  sort-shape i (Def x) f = refl
+  sort-shape i (TypeVar x) f = refl
+
+  fixed-six-same : (m : ℕ) → n ≤ m → fixedSix ws n ≡ true → fixedSix us m ≡ true
+  unfolding fixedSix
+  fixed-six-same m l f =
+      let x = and-eq-true-iff (leb 6 n) (allBelow 6 (λ i. eqb (kindAt ws i) i)) .0 f in
+      let y = leb-true 6 n (x .0) in
+      rw (le-leb 6 m (omega (arith, y, l)))
+      (each-below 6 (λ i. eqb (kindAt us i) i) (λ i h. ap (λ k. eqb k i) (a .kinds i (omega (arith, y, h))) ∙ below-each 6 (λ i. eqb (kindAt ws i) i) (x .1) i h))
+
+module _ (W : Lent) (c : CheckedLent W) (S : Sorts) (g : Grown (W .sorts) (W .lengths .sorts) (W .lengths .entries) S) where
+  abbrev n : ℕ
+  n = W .lengths .sorts
+
+  abbrev more : n ≤ length (S .trees)
+  more = longer (W .sorts) n (W .lengths .entries) (c .sorts) S g
+
+  abbrev old : Agrees (W .sorts) (after (W .sorts) n (W .lengths .entries) S) n (W .lengths .entries)
+  old = unchanged (W .sorts) n (W .lengths .entries) (c .sorts) S g
+
+  pub sorts-grow : Grows W (withMoreSorts W S)
+  unfolding nodesFine
+  sorts-grow =
+      record {
+        checked =
+            record {
+              sorts = g .checked;
+              long = c .long;
+              nodes = c .nodes;
+              entries = c .entries;
+              variables = c .variables;
+              fine =
+                  each-below (W .lengths .nodes) (nodeFine (W .nodes) (W .lengths .arguments) (length (S .trees)) (W .lengths .variables))
+                  (node-fine-longer (W .nodes) (W .nodes) (W .lengths .nodes) (W .lengths .arguments) (record { rows = λ j l. refl; entries = λ j l. refl }) n (W .lengths .variables) (c .fine)
+                  (W .lengths .arguments) (length (S .trees)) (omega arith) more);
+            };
+        sorts = more;
+        nodes = omega arith;
+        variables = refl;
+        same =
+            rows-same W (withMoreSorts W S) more (omega arith)
+            (λ i l. ap (sortShape (after (W .sorts) n (W .lengths .entries) S)) (row-same (W .sorts) _ n (W .lengths .entries) old i l)
+            ∙ sort-shape (W .sorts) _ n (W .lengths .entries) old i (rowAt (W .sorts) i) (sort-parts-fine (W .sorts) n (W .lengths .entries) (W .nodes) (W .lengths .nodes) (W .lengths .arguments) (W .lengths .variables) c i l))
+            (λ i l. refl);
+        looks = look-unchanged (W .sorts) n (W .lengths .entries) (c .sorts) S g;
+        fixed = fixed-six-same (W .sorts) _ n (W .lengths .entries) old (length (S .trees)) more;
+      }
+
+-- The same for lists given apart: ready again, and each place a place.
+pub ready-with-more-sorts : (ws ns bs : List ℕ) (k : Lengths) → Ready ws ns bs k → (S : Sorts) → Grown ws (k .sorts) (k .entries) S
+    → Ready (after ws (k .sorts) (k .entries) S) ns bs (record { sorts = length (S .trees); entries = maxEntries - S .entries; nodes = k .nodes; arguments = k .arguments; variables = k .variables })
+ready-with-more-sorts ws ns bs k r S g =
+    let W : Lent = record { sorts = ws; nodes = ns; lengths = k } in
+    ready-grown W (withMoreSorts W S) bs r (sorts-grow W (r .nodes) S g)

@@ -1,0 +1,52 @@
+-- Robinson's theorem for the lists that pass their checks: the depths of the definition are enough for the ceilings. Assumes nothing.
+use mathlib.Core.Path.{_≡_, refl}
+use mathlib.Core.Bool.{Bool, true, false}
+use mathlib.Core.List.{List}
+use mathlib.Core.Logic.{_↔_}
+use Prim.Native.Nat.{ℕ, suc, _+_, _*_, _<_, _≤_}
+use native.Mathlib.Omega.{arith}
+use lib.ListN.{length}
+use Rattle.unification.specs.Nodes.{shapeAt, Binds}
+use Rattle.unification.specs.Unify.{Unifies, deep, deeper, unifyTo, unify}
+use Rattle.unification.specs.Acyclic.{Acyclic, acyclic}
+use Rattle.unification.specs.NodeChecks.{bindingsFine}
+use Rattle.unification.specs.Checked.{NodesChecked, listsOf, BindsChecked}
+use Rattle.unification.specs.Solutions.{Robinson}
+use Rattle.unification.proofs.Lists.{lower, scoped, apart}
+use Rattle.unification.proofs.Settles.{acyclic-numbered}
+use Rattle.unification.proofs.Cycle.{Cyclic, refused-cyclic}
+use Rattle.unification.proofs.Solved.{robinson, numbered-acyclic}
+
+module _ (ws : List ℕ) (n e : ℕ) (ns : List ℕ) (m d v : ℕ) (c : NodesChecked ws n e ns m d v) where
+  pub deep-enough : suc v * 3073 + 3072 < deep
+  deep-enough = omega (arith, c .variables)
+
+  pub deeper-enough : suc v * deep ≤ deeper
+  deeper-enough = omega (arith, c .variables)
+
+  -- "Unification is proved against Robinson": every answer of unify on checked lists.
+  pub unify-is-robinson : (B : Binds) → BindsChecked (listsOf ws n ns m) v B → (l r : ℕ) → Robinson (shapeAt (listsOf ws n ns m)) B l r (unify (shapeAt (listsOf ws n ns m)) B l r)
+  unfolding unify
+  unify-is-robinson B b l r =
+      robinson (shapeAt (listsOf ws n ns m)) 3072 (lower ws n e ns m d v c) v (scoped ws n e ns m d v c) deep deep-enough (apart ws n e ns m d v c) deeper deeper-enough B (b .numbered) (b .many) l r
+
+  -- Bindings that pass check 7: no variable reaches itself.
+  pub check-7-acyclic : (B : Binds) → acyclic ns m B ≡ true → Acyclic (shapeAt (listsOf ws n ns m)) B
+  check-7-acyclic B a =
+      numbered-acyclic (shapeAt (listsOf ws n ns m)) 3072 (lower ws n e ns m d v c) v (scoped ws n e ns m d v c) deep deep-enough B (acyclic-numbered ws n e ns m d v c B a)
+
+  -- Check 7 passes exactly where no variable reaches itself, and refuses exactly where one does.
+  pub check-7-exactly : (B : Binds) → length B ≡ v → bindingsFine n m B ≡ true
+      → ((acyclic ns m B ≡ true) ↔ Acyclic (shapeAt (listsOf ws n ns m)) B) × ((acyclic ns m B ≡ false) ↔ Cyclic (shapeAt (listsOf ws n ns m)) B)
+  check-7-exactly B l f = ((check-7-acyclic B, passes (acyclic ns m B) refl), (refused-cyclic ws n e ns m d v c B l f, refuses (acyclic ns m B) refl))
+    where
+      passes : (b : Bool) → acyclic ns m B ≡ b → Acyclic (shapeAt (listsOf ws n ns m)) B → b ≡ true
+      passes true a h = refl
+      passes false a h = let r = refused-cyclic ws n e ns m d v c B l f a in absurd (h (r .0) (r .1) (r .2) (r .3))
+
+      refuses : (b : Bool) → acyclic ns m B ≡ b → Cyclic (shapeAt (listsOf ws n ns m)) B → b ≡ false
+      refuses true a r = absurd (check-7-acyclic B a (r .0) (r .1) (r .2) (r .3))
+      refuses false a r = refl
+
+  pub binds-checked : (B : Binds) → length B ≡ v → bindingsFine n m B ≡ true → acyclic ns m B ≡ true → BindsChecked (listsOf ws n ns m) v B
+  binds-checked B l f a = record { many = l; places = f; numbered = acyclic-numbered ws n e ns m d v c B a }

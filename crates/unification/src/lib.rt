@@ -1,0 +1,85 @@
+// The unifier of merc's unification.rs: the types that definitions, contracts and code speak of.
+use resolved_sort::ComplexSort;
+use resolved_sort::Run;
+use resolved_sort::SortId;
+
+// A place, the Rust's InferSortId: an interned sort (below 1,024) or a node. The port has no Resolved node.
+pub struct InferSortId(pub u16);
+
+// The number of an inference node.
+pub struct NodeId(pub u16);
+
+// The number of a unification variable.
+pub struct SortVar(pub u16);
+
+// What a node says. Its parts are places, and the domain of a function is a run of places where the Rust has a Vec.
+pub enum InferSort {
+    Generic {
+        op: ComplexSort,
+        subsort: InferSortId,
+    },
+    Function {
+        domain: Run,
+        range: InferSortId,
+    },
+    Var(SortVar),
+}
+
+// What unify answers as an entry.
+pub enum Unified {
+    Refused(u16),
+    Yes,
+    No,
+}
+
+// How much of the lent lists is in use: sorts and their argument entries, nodes and their argument entries, and variables.
+pub struct Lengths {
+    pub sorts: u16,
+    pub entries: u16,
+    pub nodes: u16,
+    pub arguments: u16,
+    pub variables: u16,
+}
+
+// How a try of unify ended, with how many variables are on the trail then.
+pub enum Tried {
+    Yes(u16),
+    No(u16),
+}
+
+// The variable that stands at a place, where one does.
+pub enum VarAt {
+    Is(SortVar),
+    Nothing,
+}
+
+// What stands for a variable that is free: a sort of the list, or nothing.
+pub enum Default {
+    Is(SortId),
+    Nothing,
+}
+
+// Whether a node was made: its place and the lengths then, or no room.
+pub enum Pushed {
+    At(u16, Lengths),
+    Full,
+}
+
+// At most three places.
+pub struct Three {
+    pub ids: [u16; 3],
+    pub count: u16,
+}
+
+// How listing the strictly related sorts ended, with the lengths then: so many places, no list, or no room with its code.
+pub enum Listed {
+    These(u16, Lengths),
+    NoList(Lengths),
+    Full(u16, Lengths),
+}
+
+// The strictly wider or narrower sorts of a place, nearest first.
+pub struct Related {
+    pub ids: [u16; 3],
+    pub listed: Listed,
+}

@@ -1,0 +1,63 @@
+-- The measures of the cycle.
+use Prim.Native.Nat.{ℕ, _<_}
+use borrow.Fn.Kinds.{In}
+use borrow.Fn.PlainCycle.{Measures, is, falls, and}
+use Rattle.unifier.proofs.unify.Reads as unify
+use Rattle.unifier.proofs.unify.Kinds as unify-kinds
+use Rattle.unifier.proofs.+unify+unify_from+unify_parts.Lts-unify as unify-lts
+use Rattle.unifier.proofs.unify_from.Reads as unify-from
+use Rattle.unifier.proofs.unify_from.Kinds as unify-from-kinds
+use Rattle.unifier.proofs.+unify+unify_from+unify_parts.Lts-unify_from as unify-from-lts
+use Rattle.unifier.proofs.unify_parts.Reads as unify-parts
+use Rattle.unifier.proofs.unify_parts.Kinds as unify-parts-kinds
+use Rattle.unifier.proofs.+unify+unify_from+unify_parts.Lts-unify_parts as unify-parts-lts
+use Rattle.infer_nodes.proofs.part.Reads as part-reads
+use Rattle.infer_nodes.proofs.part_count.Reads as part-count-reads
+use Rattle.infer_nodes.proofs.same_head.Reads as same-head-reads
+use Rattle.infer_nodes.proofs.shallow_normalize.Reads as shallow-normalize-reads
+use Rattle.infer_nodes.proofs.variable_at.Reads as variable-at-reads
+use Rattle.unifier.proofs.bind.Reads as bind-reads
+use Rattle.unifier.proofs.bind_variables.Reads as bind-variables-reads
+use Rattle.unifier.proofs.both_sorts.Reads as both-sorts-reads
+use borrow.Author.Needs.{needs}
+use mathlib.Core.Path.{_≡_, refl, sym, ap, _∙_}
+use Prim.Native.Nat.{_+_, _-_, _*_}
+use native.Mathlib.Omega.{arith}
+use borrow.Author.Tests.{not-true, not-false}
+use Rattle.unification.specs.Nodes.{bindsOf}
+use Rattle.unification.specs.Unify.{deep}
+use Rattle.unification.specs.Checked.{graphOf}
+use Rattle.unification.specs.Trail.{frees}
+use Rattle.unification.proofs.Rank.{rank}
+use Rattle.unifier.proofs.Steps as law
+
+abbrev pub μ-unify : Measures 4 unify-kinds.ps ℕ
+μ-unify κs a = (frees (bindsOf (a .1 .1 .0 .now) (a .1 .1 .1 .1 .0 .variables)) * deep + rank (graphOf (a .0 .now) (a .1 .0 .now) (a .1 .1 .1 .1 .0)) deep (bindsOf (a .1 .1 .0 .now) (a .1 .1 .1 .1 .0 .variables)) (a .1 .1 .1 .1 .1 .1 .0 .0)) * 131072 + 100000
+
+abbrev pub μ-unify-from : Measures 4 unify-from-kinds.ps ℕ
+μ-unify-from κs a = (frees (bindsOf (a .1 .1 .0 .now) (a .1 .1 .1 .1 .0 .variables)) * deep + rank (graphOf (a .0 .now) (a .1 .0 .now) (a .1 .1 .1 .1 .0)) deep (bindsOf (a .1 .1 .0 .now) (a .1 .1 .1 .1 .0 .variables)) (a .1 .1 .1 .1 .1 .1 .0 .0)) * 131072 + (a .1 .1 .1 .1 .1 .1 .1 .1 .1 .0 - a .1 .1 .1 .1 .1 .1 .1 .1 .0)
+
+abbrev pub μ-unify-parts : Measures 4 unify-parts-kinds.ps ℕ
+μ-unify-parts κs a = (frees (bindsOf (a .1 .1 .0 .now) (a .1 .1 .1 .1 .0 .variables)) * deep + rank (graphOf (a .0 .now) (a .1 .0 .now) (a .1 .1 .1 .1 .0)) deep (bindsOf (a .1 .1 .0 .now) (a .1 .1 .1 .1 .0 .variables)) (a .1 .1 .1 .1 .1 .1 .0 .0)) * 131072 + 90000
+
+abbrev pub unify-at : ℕ → In 4 unify-kinds.ps
+unify-at t = and 4 unify-kinds.ps (is 4 unify-kinds.ps μ-unify t) unify.Pre
+
+abbrev pub unify-below : ℕ → In 4 unify-kinds.ps
+unify-below t = and 4 unify-kinds.ps (falls 4 unify-kinds.ps _<_ μ-unify t) unify.Pre
+
+abbrev pub unify-from-at : ℕ → In 4 unify-from-kinds.ps
+unify-from-at t =
+    and 4 unify-from-kinds.ps (is 4 unify-from-kinds.ps μ-unify-from t) unify-from.Pre
+
+abbrev pub unify-from-below : ℕ → In 4 unify-from-kinds.ps
+unify-from-below t =
+    and 4 unify-from-kinds.ps (falls 4 unify-from-kinds.ps _<_ μ-unify-from t) unify-from.Pre
+
+abbrev pub unify-parts-at : ℕ → In 4 unify-parts-kinds.ps
+unify-parts-at t =
+    and 4 unify-parts-kinds.ps (is 4 unify-parts-kinds.ps μ-unify-parts t) unify-parts.Pre
+
+abbrev pub unify-parts-below : ℕ → In 4 unify-parts-kinds.ps
+unify-parts-below t =
+    and 4 unify-parts-kinds.ps (falls 4 unify-parts-kinds.ps _<_ μ-unify-parts t) unify-parts.Pre

@@ -1,0 +1,299 @@
+-- Each way of unify: the equation of the definition at the ends of both sides, with what the code has found there. Assumes nothing.
+use mathlib.Core.Path.{_≡_, refl, ap, ap₂, sym, _∙_, subst}
+use mathlib.Core.List.{List, [], _∷_, _++_}
+use mathlib.Core.Option.{Option, none, some}
+use mathlib.Core.Bool.{Bool, true, false, _&&_}
+use mathlib.Core.Logic.{_⊎_, inl, inr}
+use Prim.Native.Nat.{ℕ, zero, suc, _+_, _-_, _*_, _<_, _≤_}
+use native.Mathlib.Omega.{arith}
+use native.Mathlib.Nat.{mul-le-mul-right}
+use native.Mathlib.Numerals.{add-one}
+use lib.ListN.{length, getD, drop, length-drop, drop-of-length-le}
+use lib.Seq.{drop-cons}
+use lib.Dec.{eqb, ltb}
+use borrow.Author.Tests.{eq-eqb, ne-eqb, ltb-true, lt-ltb, le-ltb}
+use Rattle.resolved_sort.specs.Storage.{maxSorts, rowAt}
+use Rattle.resolved_sort.proofs.Numbers.{true-not-false}
+use Rattle.unification.specs.declared.Lengths.{Lengths}
+use Rattle.unification.specs.declared.SortVar.{SortVar}
+use Rattle.unification.specs.declared.VarAt.{VarAt}
+use Rattle.unification.specs.declared.VarAt.the-variants.{Is, Nothing}
+use Rattle.unification.specs.declared.Tried.{Tried}
+use Rattle.unification.specs.declared.Tried.the-variants.{Yes, No}
+use Rattle.unification.specs.Term.{Head, Shape, variable, over, headOf, partsOf, kindHead, numberHead, sameHead}
+use Rattle.unification.specs.Nodes.{isSort, isPlace, Binds, binding, bindsOf}
+use Rattle.unification.specs.Unify.{Unifies, yes-with, no-way, too-deep, and-then, Occurs, absent, ofTest, follow, occurs, bindUnless, unifyAll, unifyHeads, unifyVariables, unifyShapes, unifyApart, unifyEnds, unifyFollowed, unifyTo, unify, deep, deeper}
+use Rattle.unification.specs.Acyclic.{One, first, later}
+use Rattle.unification.specs.Checked.{graphOf, Ready, Placed}
+use Rattle.unification.specs.Trail.{frees, Tries}
+use Rattle.unification.proofs.Exact.{follow-end}
+use Rattle.unification.proofs.Rank.{highest, rank, Ranked, rank-over}
+use Rattle.unification.proofs.Numbering.{numbered-ranked}
+use Rattle.unification.proofs.Enough.{follow-some}
+use Rattle.unification.proofs.Lists.{lower, scoped, Place, is-sort, is-node, is-stray, place, sort-parts, sort-parts-fine, sort-no-variable, node-parts, node-parts-fine}
+use Rattle.unification.proofs.Robinson.{Next, Kept, unify-kept}
+use Rattle.unification.proofs.Equations.{unify-eq}
+use Rattle.unification.proofs.Theorem.{deep-enough, deeper-enough}
+use Rattle.infer_nodes.specs.Parts.{NodesReady, varAt}
+use Rattle.infer_nodes.proofs.Ways.{ranked, end-placed, end-rank, sort-placed, place-wider, one-highest}
+use Rattle.infer_nodes.proofs.Parts.{same-count}
+use Rattle.unifier.specs.Trying.{Trying, Free, Alike, Solid, Stands}
+use Rattle.unifier.proofs.Tries.{tries-as, binds-nothing, no-try, then-no, then-on, trying-on}
+
+differ : {A : Type 0} → _≡_ {A = ℕ} 0 1 → A
+differ e = absurd (omega arith)
+
+-- what stands at a place, by what was found there
+is-variable : (s : Shape) (v : SortVar) → Is v ≡ varAt s → s ≡ variable (v .0)
+is-variable (variable u) v e = let z : v .0 ≡ u = cc in ap variable (sym z)
+is-variable (over h ps) v e = differ (cc)
+
+is-solid : (s : Shape) → Nothing ≡ varAt s → s ≡ over (headOf s) (partsOf s)
+is-solid (variable u) e = differ (cc)
+is-solid (over h ps) e = refl
+
+module _ (ws ns bs ts : List ℕ) (k : Lengths) (c : ℕ) (t : Trying ws ns bs ts k c) where
+  abbrev shape : ℕ → Shape
+  shape = graphOf ws ns k
+
+  abbrev B : Binds
+  B = bindsOf bs (k .variables)
+
+  abbrev q : Ready ws ns bs k
+  q = t .ready
+
+  unify-step : (l r : ℕ) → unify shape B l r ≡ unifyFollowed shape deep (unify shape) B (follow shape deep B l) (follow shape deep B r)
+  unfolding unify
+  unify-step l r =
+      unify-eq shape 3072 (lower ws (k .sorts) (k .entries) ns (k .nodes) (k .arguments) (k .variables) (q .nodes)) (k .variables)
+      (scoped ws (k .sorts) (k .entries) ns (k .nodes) (k .arguments) (k .variables) (q .nodes)) deep (deep-enough ws (k .sorts) (k .entries) ns (k .nodes) (k .arguments) (k .variables) (q .nodes))
+      deeper (deeper-enough ws (k .sorts) (k .entries) ns (k .nodes) (k .arguments) (k .variables) (q .nodes)) B l r (q .binds .many) (q .binds .numbered)
+
+  variable-is-no-sort : (p u : ℕ) → shape p ≡ variable u → isSort p ≡ false
+  variable-is-no-sort p u s = go (place ws (k .sorts) (k .entries) ns (k .nodes) (k .arguments) (k .variables) (q .nodes) p)
+    where
+      go : Place ws (k .sorts) (k .entries) ns (k .nodes) (k .arguments) (k .variables) (q .nodes) p → isSort p ≡ false
+      go (is-sort a l g) = sort-no-variable ws u (rowAt ws p) (sym g ∙ s)
+      go (is-node i l x g) = le-ltb p maxSorts (omega (arith, x))
+      go (is-stray z g) = let y : over _ [] ≡ variable u = sym g ∙ s in differ (cc)
+
+  module _ (l r l′ r′ : ℕ) (pl : Placed k l) (pr : Placed k r) (fl : follow shape deep B l ≡ some l′) (fr : follow shape deep B r ≡ some r′) where
+    at-ends : unify shape B l r ≡ unifyEnds shape (eqb l′ r′) deep (unify shape) B l′ r′
+    at-ends = unify-step l r ∙ rw (fl, fr)
+
+    pub same-end : l′ ≡ r′ → Tries ws ns k (unify shape B l r) bs ts c bs ts (Yes c)
+    same-end e = tries-as ws ns k (yes-with B) (unify shape B l r) bs ts c bs ts (Yes c) (sym (at-ends ∙ rw (eq-eqb l′ r′ e))) (binds-nothing ws ns k bs ts c q)
+
+    pub left-end-placed : Placed k l′
+    left-end-placed = end-placed ws ns bs k q 0 l l′ pl fl
+
+    pub right-end-placed : Placed k r′
+    right-end-placed = end-placed ws ns bs k q 0 r r′ pr fr
+
+    pub left-end-rank : rank shape deep B l′ ≤ rank shape deep B l
+    left-end-rank = end-rank ws ns bs k q 0 l l′ pl fl
+
+    module _ (d : l′ ≡ r′ → ⊥) where
+      apart : unify shape B l r ≡ unifyApart shape (isSort l′ && isSort r′) deep (unify shape) B l′ r′
+      apart = at-ends ∙ rw (ne-eqb l′ r′ d)
+
+      and-false : (a b : Bool) → b ≡ false → (a && b) ≡ false
+      and-false true b e = e
+      and-false false b e = refl
+
+      left-free : (v : SortVar) → Is v ≡ varAt (shape l′) → Free bs k (v .0)
+      left-free v x = let s = is-variable (shape l′) v x in record { listed = scoped ws (k .sorts) (k .entries) ns (k .nodes) (k .arguments) (k .variables) (q .nodes) l′ (v .0) s; free = follow-end shape B deep l l′ (v .0) fl s }
+
+      right-free : (u : SortVar) → Is u ≡ varAt (shape r′) → Free bs k (u .0)
+      right-free u x = let s = is-variable (shape r′) u x in record { listed = scoped ws (k .sorts) (k .entries) ns (k .nodes) (k .arguments) (k .variables) (q .nodes) r′ (u .0) s; free = follow-end shape B deep r r′ (u .0) fr s }
+
+      module _ (v : SortVar) (xv : Is v ≡ varAt (shape l′)) where
+        no-sort-left : (isSort l′ && isSort r′) ≡ false
+        no-sort-left = rw (variable-is-no-sort l′ (v .0) (is-variable (shape l′) v xv))
+
+        module _ (u : SortVar) (xu : Is u ≡ varAt (shape r′)) where
+          pub two-variables : Trying ws ns bs ts k c × Free bs k (v .0) × Free bs k (u .0) × Placed k r′ × Stands ws ns k r′ (u .0)
+          two-variables = (t, left-free v xv, right-free u xu, right-end-placed, record { stands = is-variable (shape r′) u xu })
+
+          pub variables-tried : (bs₁ ts₁ : List ℕ) (a : Tried) → Tries ws ns k (unifyVariables shape (eqb (v .0) (u .0)) B (v .0) r′) bs ts c bs₁ ts₁ a → Tries ws ns k (unify shape B l r) bs ts c bs₁ ts₁ a
+          variables-tried bs₁ ts₁ a = tries-as ws ns k _ _ bs ts c bs₁ ts₁ a (sym (apart ∙ rw no-sort-left (rw (is-variable (shape l′) v xv, is-variable (shape r′) u xu))))
+
+        module _ (xr : Nothing ≡ varAt (shape r′)) where
+          pub left-variable : Trying ws ns bs ts k c × Free bs k (v .0) × Placed k r′
+          left-variable = (t, left-free v xv, right-end-placed)
+
+          pub left-tried : (bs₁ ts₁ : List ℕ) (a : Tried) → Tries ws ns k (bindUnless shape (occurs shape deep B (v .0) r′) B (v .0) r′) bs ts c bs₁ ts₁ a → Tries ws ns k (unify shape B l r) bs ts c bs₁ ts₁ a
+          left-tried bs₁ ts₁ a = tries-as ws ns k _ _ bs ts c bs₁ ts₁ a (sym (apart ∙ rw no-sort-left (rw (is-variable (shape l′) v xv) (rw (is-solid (shape r′) xr)))))
+
+      module _ (xl : Nothing ≡ varAt (shape l′)) where
+        module _ (u : SortVar) (xu : Is u ≡ varAt (shape r′)) where
+          no-sort-right : (isSort l′ && isSort r′) ≡ false
+          no-sort-right = and-false (isSort l′) (isSort r′) (variable-is-no-sort r′ (u .0) (is-variable (shape r′) u xu))
+
+          pub right-variable : Trying ws ns bs ts k c × Free bs k (u .0) × Placed k l′
+          right-variable = (t, right-free u xu, left-end-placed)
+
+          pub right-tried : (bs₁ ts₁ : List ℕ) (a : Tried) → Tries ws ns k (bindUnless shape (occurs shape deep B (u .0) l′) B (u .0) l′) bs ts c bs₁ ts₁ a → Tries ws ns k (unify shape B l r) bs ts c bs₁ ts₁ a
+          right-tried bs₁ ts₁ a = tries-as ws ns k _ _ bs ts c bs₁ ts₁ a (sym (apart ∙ rw no-sort-right (rw (is-variable (shape r′) u xu) (rw (is-solid (shape l′) xl)))))
+
+        module _ (xr : Nothing ≡ varAt (shape r′)) where
+          pub left-solid : Solid ws ns k l′
+          left-solid = record { placed = left-end-placed; solid = is-solid (shape l′) xl }
+
+          pub right-solid : Solid ws ns k r′
+          right-solid = record { placed = right-end-placed; solid = is-solid (shape r′) xr }
+
+          pub parts-tried : (bs₁ ts₁ : List ℕ) (a : Tried) → Tries ws ns k (unifyApart shape (isSort l′ && isSort r′) deep (unify shape) B l′ r′) bs ts c bs₁ ts₁ a → Tries ws ns k (unify shape B l r) bs ts c bs₁ ts₁ a
+          parts-tried bs₁ ts₁ a = tries-as ws ns k _ _ bs ts c bs₁ ts₁ a (sym apart)
+
+  -- two ends at which no variable stands
+  module _ (l r : ℕ) (sl : Solid ws ns k l) (sr : Solid ws ns k r) where
+    abbrev whole : Unifies
+    whole = unifyApart shape (isSort l && isSort r) deep (unify shape) B l r
+
+    pub two-sorts : (b : Bool) → b ≡ (isSort l && isSort r) → b ≡ true → Tries ws ns k whole bs ts c bs ts (No c)
+    two-sorts b e x = tries-as ws ns k no-way whole bs ts c bs ts (No c) (sym (ap (λ y. unifyApart shape y deep (unify shape) B l r) (sym e ∙ x))) (no-try ws ns k bs ts c q)
+
+    module _ (b : Bool) (e : b ≡ (isSort l && isSort r)) (x : b ≡ false) where
+      by-heads : whole ≡ unifyHeads shape (sameHead (headOf (shape l)) (headOf (shape r))) (unify shape) B (partsOf (shape l)) (partsOf (shape r))
+      by-heads =
+          ap (λ y. unifyApart shape y deep (unify shape) B l r) (sym e ∙ x)
+          ∙ ap₂ (λ (y z : Shape). unifyShapes shape deep (unify shape) B l y r z) (sl .solid) (sr .solid)
+
+      module _ (h : Bool) (eh : h ≡ sameHead (headOf (shape l)) (headOf (shape r))) where
+        pub other-heads : h ≡ false → Tries ws ns k whole bs ts c bs ts (No c)
+        other-heads y =
+            tries-as ws ns k no-way whole bs ts c bs ts (No c)
+            (sym (by-heads ∙ ap (λ z. unifyHeads shape z (unify shape) B (partsOf (shape l)) (partsOf (shape r))) (sym eh ∙ y))) (no-try ws ns k bs ts c q)
+
+        module _ (y : h ≡ true) where
+          pub alike : (n : ℕ) → n ≡ length (partsOf (shape l)) → Alike ws ns k l r 0 n
+          alike n en =
+              record {
+                left = sl .placed;
+                right = sr .placed;
+                same = sym eh ∙ y;
+                many = en;
+                as-many = en ∙ same-count ws ns k (q .nodes) l r (sl .placed) (sr .placed) (sym eh ∙ y);
+                within = omega arith;
+              }
+
+          pub same-heads : (bs₁ ts₁ : List ℕ) (a : Tried) → Tries ws ns k (unifyAll shape (unify shape) B (drop 0 (partsOf (shape l))) (drop 0 (partsOf (shape r)))) bs ts c bs₁ ts₁ a → Tries ws ns k whole bs ts c bs₁ ts₁ a
+          same-heads bs₁ ts₁ a =
+              tries-as ws ns k _ _ bs ts c bs₁ ts₁ a (sym (by-heads ∙ ap (λ z. unifyHeads shape z (unify shape) B (partsOf (shape l)) (partsOf (shape r))) (sym eh ∙ y)))
+
+  -- parts are places of lower rank
+  part-placed : (p x : ℕ) (h : Head) (ps : List ℕ) → Placed k p → shape p ≡ over h ps → One x ps → Placed k x
+  part-placed p x h ps e s o = go (place ws (k .sorts) (k .entries) ns (k .nodes) (k .arguments) (k .variables) (q .nodes) p)
+    where
+      go : Place ws (k .sorts) (k .entries) ns (k .nodes) (k .arguments) (k .variables) (q .nodes) p → Placed k x
+      go (is-sort a l g) =
+          let y = sort-parts ws (k .entries) p (rowAt ws p) (sort-parts-fine ws (k .sorts) (k .entries) ns (k .nodes) (k .arguments) (k .variables) (q .nodes) p l) x h ps (sym g ∙ s) o in
+          sort-placed ws ns bs k q x (omega (arith, y, l))
+      go (is-node i l z g) =
+          place-wider ws ns bs k q i x (omega (arith, l))
+          (node-parts ns (k .arguments) (k .sorts) (k .variables) i _ (q .nodes .sorts .sorts) (node-parts-fine ws (k .sorts) (k .entries) ns (k .nodes) (k .arguments) (k .variables) (q .nodes) i l) x h ps (sym g ∙ s) o)
+      go (is-stray z g) = absurd (true-not-false (isPlace (k .sorts) (k .nodes) p) e z)
+
+  one-at : (ps : List ℕ) (i : ℕ) → i < length ps → One (getD ps i 0) ps
+  one-at [] i l = absurd (omega (arith, l))
+  one-at (p ∷ ps) zero l = first ps
+  one-at (p ∷ ps) (suc i) l = later p ps (one-at ps i (omega (arith, l)))
+
+  by-parts : (s : Shape) (i : ℕ) → i < length (partsOf s) → s ≡ over (headOf s) (partsOf s)
+  by-parts (variable v) i l = absurd (omega (arith, l))
+  by-parts (over h ps) i l = refl
+
+  -- the parts of two sorts, from the i-th on
+  module _ (l r i n : ℕ) (a : Alike ws ns k l r i n) where
+    abbrev ps : List ℕ
+    ps = partsOf (shape l)
+
+    abbrev qs : List ℕ
+    qs = partsOf (shape r)
+
+    abbrev rest : Unifies
+    rest = unifyAll shape (unify shape) B (drop i ps) (drop i qs)
+
+    pub all-parts : i ≡ n → Tries ws ns k rest bs ts c bs ts (Yes c)
+    all-parts e =
+        tries-as ws ns k (yes-with B) rest bs ts c bs ts (Yes c)
+        (sym (ap₂ (λ (xs ys : List ℕ). unifyAll shape (unify shape) B xs ys) (drop-of-length-le ps {i = i} (omega (arith, e, a .many))) (drop-of-length-le qs {i = i} (omega (arith, e, a .as-many)))))
+        (binds-nothing ws ns k bs ts c q)
+
+    module _ (d : i ≡ n → ⊥) where
+      left-inside : i < length ps
+      left-inside = omega (arith, a .within, a .many, d)
+
+      right-inside : i < length qs
+      right-inside = omega (arith, a .within, a .as-many, d)
+
+      pub left-part : NodesReady ws ns k × Placed k l × (i < length ps)
+      left-part = (q .nodes, a .left, left-inside)
+
+      pub right-part : NodesReady ws ns k × Placed k r × (i < length qs)
+      right-part = (q .nodes, a .right, right-inside)
+
+      module _ (x y : ℕ) (ex : x ≡ getD ps i 0) (ey : y ≡ getD qs i 0) where
+        abbrev one-x : One x ps
+        one-x = subst (λ (z : ℕ). One z ps) (sym ex) (one-at ps i left-inside)
+
+        pub left-placed : Placed k x
+        left-placed = part-placed l x (headOf (shape l)) ps (a .left) (by-parts (shape l) i left-inside) one-x
+
+        pub right-placed : Placed k y
+        right-placed = part-placed r y (headOf (shape r)) qs (a .right) (by-parts (shape r) i right-inside) (subst (λ (z : ℕ). One z qs) (sym ey) (one-at qs i right-inside))
+
+        pub part-lower : rank shape deep B x < rank shape deep B l
+        part-lower = omega (arith, rank-over shape deep B (ranked ws ns bs k q) l (headOf (shape l)) ps (by-parts (shape l) i left-inside), one-highest ws ns bs k q (rank shape deep B) ps x one-x)
+
+        parts-split : rest ≡ and-then (unify shape B x y) (λ C. unifyAll shape (unify shape) C (drop (i + 1) ps) (drop (i + 1) qs))
+        parts-split =
+            ap₂ (λ (xs ys : List ℕ). unifyAll shape (unify shape) B xs ys)
+            (drop-cons ps i 0 left-inside ∙ ap₂ (λ (z j : ℕ). z ∷ drop j ps) (sym ex) (sym (add-one i)))
+            (drop-cons qs i 0 right-inside ∙ ap₂ (λ (z j : ℕ). z ∷ drop j qs) (sym ey) (sym (add-one i)))
+
+        module _ (bs₁ ts₁ : List ℕ) where
+          pub part-fails : (m : ℕ) (z : Tried) → z ≡ No m → Tries ws ns k (unify shape B x y) bs ts c bs₁ ts₁ z → Tries ws ns k rest bs ts c bs₁ ts₁ (No m)
+          part-fails m z e u =
+              tries-as ws ns k _ _ bs ts c bs₁ ts₁ (No m) (sym parts-split)
+              (then-no ws ns k (unify shape B x y) (λ C. unifyAll shape (unify shape) C (drop (i + 1) ps) (drop (i + 1) qs)) bs ts c bs₁ ts₁ m (subst (Tries ws ns k (unify shape B x y) bs ts c bs₁ ts₁) e u))
+
+          module _ (m : ℕ) (z : Tried) (e : z ≡ Yes m) (u : Tries ws ns k (unify shape B x y) bs ts c bs₁ ts₁ z) where
+            abbrev yes-tried : Tries ws ns k (unify shape B x y) bs ts c bs₁ ts₁ (Yes m)
+            yes-tried = subst (Tries ws ns k (unify shape B x y) bs ts c bs₁ ts₁) e u
+
+            pub go-on : length ts₁ ≡ length ts → Trying ws ns bs₁ ts₁ k m × Alike ws ns k l r (i + 1) n
+            go-on lt = (
+              trying-on ws ns k (unify shape B x y) bs ts c bs₁ ts₁ m t lt yes-tried,
+              record { left = a .left; right = a .right; same = a .same; many = a .many; as-many = a .as-many; within = omega (arith, a .within, d) },
+            )
+
+            pub parts-follow : (bs₂ ts₂ : List ℕ) (w : Tried) → Tries ws ns k (unifyAll shape (unify shape) (bindsOf bs₁ (k .variables)) (drop (i + 1) ps) (drop (i + 1) qs)) bs₁ ts₁ m bs₂ ts₂ w → Tries ws ns k rest bs ts c bs₂ ts₂ w
+            parts-follow bs₂ ts₂ w s =
+                tries-as ws ns k _ _ bs ts c bs₂ ts₂ w (sym parts-split)
+                (then-on ws ns k (unify shape B x y) (λ C. unifyAll shape (unify shape) C (drop (i + 1) ps) (drop (i + 1) qs)) bs ts c bs₁ ts₁ m yes-tried bs₂ ts₂ w s)
+
+            next-by : (U : Unifies) → Kept shape (k .variables) B U → U ≡ yes-with (bindsOf bs₁ (k .variables)) → Next shape (k .variables) B (bindsOf bs₁ (k .variables))
+            next-by (yes-with C) n′ s = let w : C ≡ bindsOf bs₁ (k .variables) = cc in subst (Next shape (k .variables) B) w n′
+            next-by no-way n′ s = differ (cc)
+            next-by too-deep n′ s = differ (cc)
+
+            next : Next shape (k .variables) B (bindsOf bs₁ (k .variables))
+            unfolding unify
+            next =
+                next-by (unify shape B x y)
+                (unify-kept shape 3072 (lower ws (k .sorts) (k .entries) ns (k .nodes) (k .arguments) (k .variables) (q .nodes)) (k .variables)
+                (scoped ws (k .sorts) (k .entries) ns (k .nodes) (k .arguments) (k .variables) (q .nodes)) deep
+                (deep-enough ws (k .sorts) (k .entries) ns (k .nodes) (k .arguments) (k .variables) (q .nodes)) deeper B x y (q .binds .many) (q .binds .numbered))
+                (yes-tried .says)
+
+            -- fewer variables are free, or the bindings are as before
+            pub work-falls : frees (bindsOf bs₁ (k .variables)) * deep + rank shape deep (bindsOf bs₁ (k .variables)) l ≤ frees B * deep + rank shape deep B l
+            work-falls = go (next .fewer)
+              where
+                go : (bindsOf bs₁ (k .variables) ≡ B) ⊎ (frees (bindsOf bs₁ (k .variables)) < frees B) → frees (bindsOf bs₁ (k .variables)) * deep + rank shape deep (bindsOf bs₁ (k .variables)) l ≤ frees B * deep + rank shape deep B l
+                go (inl j) = rw j (omega arith)
+                go (inr j) =
+                    let s = ranked ws ns bs₁ k (yes-tried .ready) .short l in
+                    omega (arith, s, mul-le-mul-right deep j)
