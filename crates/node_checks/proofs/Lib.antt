@@ -1,0 +1,2 @@
+-- The checks as the code meets them, test by test.
+pub mod Laws

@@ -1,0 +1,37 @@
+-- The invariant: every argument passed is a place. Assumes nothing.
+use Prim.Native.Nat.{_-_, _≤_}
+use Rattle.node_checks.specs.Tests.{argPlaced}
+use Rattle.resolved_sort.specs.Checks.{allBelow}
+use Rattle.sort_interner.proofs.Below as below
+use Rattle.unification.specs.Nodes.{isPlace}
+use borrow.Author.Needs.{needs}
+use borrow.Author.Tests.{not-true, not-false}
+use mathlib.Core.Bool.{true}
+use mathlib.Core.Path.{_≡_, refl, sym, ap, _∙_}
+use native.Mathlib.Omega.{arith}
+use Rattle.node_checks.proofs.arguments_placed.Statement.{statement}
+use Rattle.node_checks.proofs.arguments_placed.Tie as tie
+
+abbrev Inv-loop : tie.InvT-loop
+Inv-loop nodes n i start count j₀ j = (j ≤ count) × (allBelow j (argPlaced nodes n i start) ≡ true)
+
+abbrev μ-loop : tie.MeasureT-loop
+μ-loop nodes n i start count j₀ j = count - j
+
+pub arguments-placed-spec : {M : Type 1} → statement M
+arguments-placed-spec =
+    tie.close
+    (tie.spec
+    Inv-loop
+    μ-loop
+    (λ c. (omega arith, below.allBelow-zero _))
+    (λ c. omega arith)
+    (λ c. omega arith)
+    (λ c. omega arith)
+    (λ c κs. search needs)
+    (λ c κs. search needs)
+    (λ c. below.tested-not (argPlaced (c .before .before .before .before .before .before .args .nodes .now) (c .before .before .before .before .before .before .args .n) (c .before .before .before .before .before .before .args .i) (c .before .before .before .before .before .before .args .start)) (c .before .before .before .before .loop .j) (c .before .is-place .result) (c .before .is-place .ensures ∙ ap (isPlace (c .before .before .before .before .before .before .args .n) (c .before .before .before .before .before .before .args .i)) (c .before .before .word .ensures)) (c .before .before .before .before .before .before .args .count) (c .before .before .before .loop-test .taken) (not-true _ (c .if1 .taken)))
+    (λ c. omega arith)
+    (λ c. omega arith)
+    (λ c. (omega arith, below.tested-more (argPlaced (c .before .before .before .before .before .before .args .nodes .now) (c .before .before .before .before .before .before .args .n) (c .before .before .before .before .before .before .args .i) (c .before .before .before .before .before .before .args .start)) (c .before .before .before .before .loop .j) (c .before .is-place .result) (c .before .is-place .ensures ∙ ap (isPlace (c .before .before .before .before .before .before .args .n) (c .before .before .before .before .before .before .args .i)) (c .before .before .word .ensures)) (not-false _ (c .if1 .left)) (c .before .before .before .before .loop .inv .1)))
+    (λ c. below.allBelow-done _ _ (c .before .loop .j) (omega arith) (omega arith) (c .before .loop .inv .1)))

@@ -1,0 +1,289 @@
+-- The first failing check of unify, as its tests find it one after another; what it means that none fails; and what a try leaves behind.
+-- Assumes nothing.
+use mathlib.Core.Path.{_≡_, refl, ap, ap₂, sym, _∙_, subst}
+use mathlib.Core.List.{List, [], _∷_, _++_}
+use mathlib.Core.Option.{Option, none, some}
+use mathlib.Core.Bool.{Bool, true, false, not, cond, _&&_, and-eq-true-iff}
+use Prim.Native.Nat.{ℕ, zero, suc, _+_, _-_, _*_, _<_, _≤_}
+use native.Mathlib.Omega.{arith}
+use lib.ListN.{length, take, drop, replicate, take-append-drop}
+use lib.Dec.{eqb, leb, ltb}
+use borrow.Author.Tests.{not-true, not-false, leb-true, le-leb, lt-leb, eqb-true}
+use Rattle.resolved_sort.specs.declared.Tested.{Tested}
+use Rattle.resolved_sort.specs.declared.Tested.the-variants.{Refused, Passed}
+use Rattle.resolved_sort.specs.Storage.{maxSorts, maxEntries, entriesAt, fullLength}
+use Rattle.resolved_sort.specs.Checks.{withinLent, fixedSix, rowsFine, noTwoEqual, atCeiling, Check, firstFailing, sortChecks}
+use Rattle.resolved_sort.specs.Entries.{testedOf, orElse}
+use Rattle.sort_entries.proofs.Laws.{first-fails, first-passes, append-fails, append-passes, cons-passes, refused-is, passed-is}
+use Rattle.unification.specs.declared.Lengths.{Lengths}
+use Rattle.unification.specs.declared.Tried.{Tried}
+use Rattle.unification.specs.declared.Tried.the-variants.{Yes as TriedYes, No as TriedNo}
+use Rattle.unification.specs.declared.Unified.{Unified}
+use Rattle.unification.specs.declared.Unified.the-variants.{Refused as NotUnified, Yes, No}
+use Rattle.unification.specs.Nodes.{maxNodes, maxNodeEntries, maxVars, nodeEntriesAt, fullNodes, isPlace, shapeAt, freeWord, Binds, bindingOf, bindsOf}
+use Rattle.unification.specs.Unify.{Unifies, yes-with, no-way, unify}
+use Rattle.unification.specs.Acyclic.{acyclic}
+use Rattle.unification.specs.NodeChecks.{nodesWithinLent, bindingsWithinLent, nodesFine, bindingsFine, nodeChecks, placeChecks, unifyChecks}
+use Rattle.unification.specs.Checked.{NodesChecked, listsOf, graphOf, Ready, Placed}
+use Rattle.unification.specs.Trail.{undo, frees, freesAt, Tries}
+use Rattle.unification.specs.UnifyEntry.{wordOf, wordsOf, Left, left, leftBy, unifyEntry, packUnified, packLeft}
+use Rattle.unification.proofs.Theorem.{binds-checked}
+use Rattle.infer_nodes.proofs.Ways.{length-binds}
+use Rattle.unifier.specs.Trying.{Trying}
+
+-- one test: b, negated, is what an `if` asks, and x what the check says
+module _ (b x : Bool) (e : b ≡ x) (code : ℕ) (cs : List Check) where
+  abbrev check : Check
+  check = record { code = code; passes = x }
+
+  pub fails : not b ≡ true → Refused code ≡ testedOf (firstFailing (check ∷ cs))
+  fails h = ap testedOf (sym (first-fails check cs (sym e ∙ not-true b h)))
+
+  pub passes : not b ≡ false → (t : Tested) → t ≡ testedOf (firstFailing cs) → t ≡ testedOf (firstFailing (check ∷ cs))
+  passes h t y = y ∙ ap testedOf (sym (first-passes check cs (sym e ∙ not-false b h)))
+
+pub none-left : Passed ≡ testedOf (firstFailing [])
+unfolding firstFailing
+none-left = refl
+
+-- tests one after another: those of cs have been found to come to t
+module _ (cs ds : List Check) (t : Tested) (e : t ≡ testedOf (firstFailing cs)) where
+  pub first-refuses : (c : ℕ) → t ≡ Refused c → Refused c ≡ testedOf (firstFailing (cs ++ ds))
+  first-refuses c r = ap testedOf (sym (append-fails cs ds c (refused-is _ t c e r)))
+
+  pub second-decides : t ≡ Passed → (u : Tested) → u ≡ testedOf (firstFailing ds) → u ≡ testedOf (firstFailing (cs ++ ds))
+  second-decides p u y = y ∙ ap testedOf (sym (append-passes cs ds (passed-is _ t e p)))
+
+-- 12 and 14, each two tests
+module _ (x y : Bool) where
+  pub first-of-two : not x ≡ true → not (x && y) ≡ true
+  first-of-two h = ap (λ z. not (z && y)) (not-true x h)
+
+  pub second-of-two : not x ≡ false → not y ≡ true → not (x && y) ≡ true
+  second-of-two h k = ap₂ (λ a b. not (a && b)) (not-false x h) (not-true y k)
+
+  pub both-of-two : not x ≡ false → not y ≡ false → not (x && y) ≡ false
+  both-of-two h k = ap₂ (λ a b. not (a && b)) (not-false x h) (not-false y k)
+
+module _ (ws : List ℕ) (n : ℕ) (ns : List ℕ) (m l r : ℕ) where
+  abbrev fourteen : Check
+  fourteen = record { code = 14; passes = atCeiling ws && leb fullNodes (length ns) }
+
+  abbrev places : List Check
+  places = placeChecks ws n ns m l r
+
+  module _ (x y : Bool) (ex : x ≡ isPlace n m l) (ey : y ≡ isPlace n m r) where
+    same-places : (x && y) ≡ (isPlace n m l && isPlace n m r)
+    same-places = ap₂ (λ (a b : Bool). a && b) ex ey
+
+    pub rhs-stray : not x ≡ false → not y ≡ true → Refused 12 ≡ testedOf (firstFailing places)
+    unfolding placeChecks
+    rhs-stray h k = fails (x && y) _ same-places 12 _ (second-of-two x y h k)
+
+    module _ (h : not x ≡ false) (k : not y ≡ false) where
+      past-12 : (t : Tested) → t ≡ testedOf (firstFailing (fourteen ∷ [])) → t ≡ testedOf (firstFailing places)
+      unfolding placeChecks
+      past-12 t z = passes (x && y) _ same-places 12 _ (both-of-two x y h k) t z
+
+      pub sorts-short : length ws < fullLength → Refused 14 ≡ testedOf (firstFailing places)
+      unfolding atCeiling
+      sorts-short q = past-12 (Refused 14) (ap testedOf (sym (first-fails fourteen [] (rw (lt-leb fullLength (length ws) q)))))
+
+      module _ (q : fullLength ≤ length ws) where
+        pub nodes-short : length ns < fullNodes → Refused 14 ≡ testedOf (firstFailing places)
+        unfolding atCeiling
+        nodes-short z = past-12 (Refused 14) (ap testedOf (sym (first-fails fourteen [] (rw (le-leb fullLength (length ws) q, lt-leb fullNodes (length ns) z)))))
+
+        pub all-in-place : fullNodes ≤ length ns → Passed ≡ testedOf (firstFailing places)
+        unfolding atCeiling firstFailing
+        all-in-place z = past-12 Passed (ap testedOf (sym (first-passes fourteen [] (rw (le-leb fullLength (length ws) q, le-leb fullNodes (length ns) z)))))
+
+  pub lhs-stray : (x : Bool) → x ≡ isPlace n m l → not x ≡ true → Refused 12 ≡ testedOf (firstFailing places)
+  unfolding placeChecks
+  lhs-stray x ex h = fails (x && isPlace n m r) _ (ap (λ z. z && isPlace n m r) ex) 12 _ (first-of-two x (isPlace n m r) h)
+
+-- check 1, three tests, and then the rest
+module _ (ws : List ℕ) (n e : ℕ) (ns : List ℕ) (m d : ℕ) (bs : List ℕ) (v l r : ℕ) where
+  abbrev all : List Check
+  all = unifyChecks ws n e ns m d bs v l r
+
+  abbrev rest : List Check
+  rest = nodeChecks ns m d n bs v ++ placeChecks ws n ns m l r
+
+  module _ (a : Bool) (ea : a ≡ withinLent ws n e) where
+    pub sorts-outside : not a ≡ true → Refused 1 ≡ testedOf (firstFailing all)
+    unfolding unifyChecks
+    sorts-outside h = fails _ _ refl 1 _ (ap (λ z. not (z && nodesWithinLent ns m d && bindingsWithinLent bs v)) (sym ea ∙ not-true a h))
+
+    module _ (ha : not a ≡ false) (b : Bool) (eb : b ≡ nodesWithinLent ns m d) where
+      pub nodes-outside : not b ≡ true → Refused 1 ≡ testedOf (firstFailing all)
+      unfolding unifyChecks
+      nodes-outside h = fails _ _ refl 1 _ (ap₂ (λ y z. not (y && z && bindingsWithinLent bs v)) (sym ea ∙ not-false a ha) (sym eb ∙ not-true b h))
+
+      module _ (hb : not b ≡ false) (c : Bool) (ec : c ≡ bindingsWithinLent bs v) where
+        two-within : (withinLent ws n e && nodesWithinLent ns m d) ≡ true
+        two-within = ap₂ (λ (y z : Bool). y && z) (sym ea ∙ not-false a ha) (sym eb ∙ not-false b hb)
+
+        pub bindings-outside : not c ≡ true → Refused 1 ≡ testedOf (firstFailing all)
+        unfolding unifyChecks
+        bindings-outside h = fails _ _ refl 1 _ (ap₂ (λ (y z : Bool). not (y && z)) two-within (sym ec ∙ not-true c h))
+
+        module _ (hc : not c ≡ false) where
+          pub ceilings : (m ≤ maxNodes) × (v ≤ maxVars)
+          unfolding nodesWithinLent bindingsWithinLent
+          ceilings =
+              let p = and-eq-true-iff (leb m maxNodes && leb d maxNodeEntries && leb (4 * m) (length ns)) (leb d (length ns - nodeEntriesAt)) .0 (sym eb ∙ not-false b hb) .0 in
+              let q = and-eq-true-iff (leb m maxNodes && leb d maxNodeEntries) (leb (4 * m) (length ns)) .0 p .0 in
+              let u = and-eq-true-iff (leb m maxNodes) (leb d maxNodeEntries) .0 q .0 in
+              let w = and-eq-true-iff (leb v maxVars) (leb v (length bs)) .0 (sym ec ∙ not-false c hc) .0 in
+              (leb-true m maxNodes u, leb-true v maxVars w)
+
+          abbrev sorted : List Check
+          sorted = record { code = 2; passes = fixedSix ws n } ∷ record { code = 3; passes = rowsFine ws n e } ∷ record { code = 4; passes = noTwoEqual ws n } ∷ []
+
+          past-1 : (t : Tested) → t ≡ testedOf (firstFailing (sorted ++ rest)) → t ≡ testedOf (firstFailing all)
+          unfolding unifyChecks
+          past-1 t z = passes _ _ refl 1 _ (ap₂ (λ (y z : Bool). not (y && z)) two-within (sym ec ∙ not-false c hc)) t z
+
+          module _ (t : Tested) (et : t ≡ testedOf (firstFailing (sortChecks ws n e))) where
+            by-sorts : t ≡ testedOf (firstFailing sorted)
+            unfolding sortChecks
+            by-sorts = et ∙ ap testedOf (first-passes _ sorted (sym ea ∙ not-false a ha))
+
+            pub sorts-refused : (code : ℕ) → t ≡ Refused code → Refused code ≡ testedOf (firstFailing all)
+            sorts-refused code x = past-1 (Refused code) (first-refuses sorted rest t by-sorts code x)
+
+            pub rest-decides : t ≡ Passed → (u : Tested) → u ≡ testedOf (firstFailing rest) → u ≡ testedOf (firstFailing all)
+            rest-decides p u y = past-1 u (second-decides sorted rest t by-sorts p u y)
+
+  -- no check fails
+  module _ (x : firstFailing all ≡ none) where
+    chain : (withinLent ws n e ≡ true) × (nodesWithinLent ns m d ≡ true) × (bindingsWithinLent bs v ≡ true) × (rowsFine ws n e ≡ true) × (noTwoEqual ws n ≡ true) × (nodesFine ns m d n v ≡ true)
+        × (bindingsFine n m (bindsOf bs v) ≡ true) × (acyclic ns m (bindsOf bs v) ≡ true) × (isPlace n m l ≡ true) × (isPlace n m r ≡ true) × (atCeiling ws ≡ true) × (leb fullNodes (length ns) ≡ true)
+    unfolding unifyChecks nodeChecks placeChecks
+    chain =
+        let c₁ = cons-passes _ _ x in
+        let c₂ = cons-passes _ _ (c₁ .1) in
+        let c₃ = cons-passes _ _ (c₂ .1) in
+        let c₄ = cons-passes _ _ (c₃ .1) in
+        let c₅ = cons-passes _ _ (c₄ .1) in
+        let c₆ = cons-passes _ _ (c₅ .1) in
+        let c₇ = cons-passes _ _ (c₆ .1) in
+        let c₈ = cons-passes _ _ (c₇ .1) in
+        let c₉ = cons-passes _ _ (c₈ .1) in
+        let w = and-eq-true-iff (withinLent ws n e && nodesWithinLent ns m d) (bindingsWithinLent bs v) .0 (c₁ .0) in
+        let u = and-eq-true-iff (withinLent ws n e) (nodesWithinLent ns m d) .0 (w .0) in
+        let p = and-eq-true-iff (isPlace n m l) (isPlace n m r) .0 (c₈ .0) in
+        let f = and-eq-true-iff (atCeiling ws) (leb fullNodes (length ns)) .0 (c₉ .0) in
+        (u .0, u .1, w .1, c₃ .0, c₄ .0, c₅ .0, c₆ .0, c₇ .0, p .0, p .1, f .0, f .1)
+
+    pub sort-counts : (n ≤ maxSorts) × (e ≤ maxEntries)
+    unfolding withinLent
+    sort-counts =
+        let p = and-eq-true-iff (leb n maxSorts && leb e maxEntries && leb (4 * n) (length ws)) (leb e (length ws - entriesAt)) .0 (chain .0) .0 in
+        let q = and-eq-true-iff (leb n maxSorts && leb e maxEntries) (leb (4 * n) (length ws)) .0 p .0 in
+        let u = and-eq-true-iff (leb n maxSorts) (leb e maxEntries) .0 q in
+        (leb-true n maxSorts (u .0), leb-true e maxEntries (u .1))
+
+    pub node-counts : (m ≤ maxNodes) × (d ≤ maxNodeEntries)
+    unfolding nodesWithinLent
+    node-counts =
+        let p = and-eq-true-iff (leb m maxNodes && leb d maxNodeEntries && leb (4 * m) (length ns)) (leb d (length ns - nodeEntriesAt)) .0 (chain .1) .0 in
+        let q = and-eq-true-iff (leb m maxNodes && leb d maxNodeEntries) (leb (4 * m) (length ns)) .0 p .0 in
+        let u = and-eq-true-iff (leb m maxNodes) (leb d maxNodeEntries) .0 q in
+        (leb-true m maxNodes (u .0), leb-true d maxNodeEntries (u .1))
+
+    pub var-counts : (v ≤ maxVars) × (v ≤ length bs)
+    unfolding bindingsWithinLent
+    var-counts = let u = and-eq-true-iff (leb v maxVars) (leb v (length bs)) .0 (chain .2) in (leb-true v maxVars (u .0), leb-true v (length bs) (u .1))
+
+    checked : NodesChecked ws n e ns m d v
+    unfolding atCeiling
+    checked =
+        record {
+          sorts = record { long = leb-true fullLength (length ws) (chain .10); sorts = sort-counts .0; entries = sort-counts .1; fine = chain .3; differ = chain .4 };
+          long = leb-true fullNodes (length ns) (chain .11);
+          nodes = node-counts .0;
+          entries = node-counts .1;
+          variables = var-counts .0;
+          fine = chain .5;
+        }
+
+    pub ready : Ready ws ns bs (record { sorts = n; entries = e; nodes = m; arguments = d; variables = v })
+    ready = record { nodes = checked; binds = binds-checked ws n e ns m d v checked (bindsOf bs v) (length-binds bs v) (chain .6) (chain .7); long = var-counts .1 }
+
+    pub lhs-placed : isPlace n m l ≡ true
+    lhs-placed = chain .8
+
+    pub rhs-placed : isPlace n m r ≡ true
+    rhs-placed = chain .9
+
+-- the words of bindings
+word-of-binding : (w : ℕ) → wordOf (bindingOf w) ≡ w
+word-of-binding w = go (eqb w freeWord) refl
+  where
+    go : (b : Bool) → eqb w freeWord ≡ b → wordOf (cond b none (some w)) ≡ w
+    go true x = sym (eqb-true w freeWord x)
+    go false x = refl
+
+words-of-binds : (bs : List ℕ) (v : ℕ) → v ≤ length bs → wordsOf (bindsOf bs v) ≡ take v bs
+unfolding wordsOf bindsOf
+words-of-binds bs zero l = refl
+words-of-binds [] (suc v) l = absurd (omega (arith, l))
+words-of-binds (w ∷ bs) (suc v) l = ap₂ (λ (x : ℕ) (xs : List ℕ). x ∷ xs) (word-of-binding w) (words-of-binds bs v (omega (arith, l)))
+
+-- a try on an empty trail
+frees-few : (B : Binds) → frees B ≤ length B
+frees-few [] = omega arith
+frees-few (none ∷ B) = omega (arith, frees-few B)
+frees-few (some q ∷ B) = omega (arith, frees-few B)
+
+module _ (ws ns bs : List ℕ) (k : Lengths) (q : Ready ws ns bs k) where
+  pub trying : (ts : List ℕ) → length ts ≡ 512 → Trying ws ns bs ts k 0
+  trying ts e = record { ready = q; room = omega (arith, frees-few (bindsOf bs (k .variables)), length-binds bs (k .variables), q .nodes .variables, e); short = omega (arith, e) }
+
+  module _ (U : Unifies) (ts bs₁ ts₁ : List ℕ) (t : Tried) (x : Tries ws ns k U bs ts 0 bs₁ ts₁ t) where
+    pub yes-leaves : (c : ℕ) → t ≡ TriedYes c → left bs₁ Yes ≡ leftBy bs (k .variables) U
+    unfolding leftBy
+    yes-leaves c e = sym (ap (leftBy bs (k .variables)) (answer c e) ∙ ap (λ xs. left xs Yes) words)
+      where
+        answer : (c : ℕ) → t ≡ TriedYes c → U ≡ yes-with (bindsOf bs₁ (k .variables))
+        answer c e = x .says ∙ rw e
+
+        words : wordsOf (bindsOf bs₁ (k .variables)) ++ drop (k .variables) bs ≡ bs₁
+        words =
+            ap₂ (λ (xs ys : List ℕ). xs ++ ys) (words-of-binds bs₁ (k .variables) (x .ready .long)) (sym (x .past))
+            ∙ take-append-drop (k .variables) bs₁
+
+    module _ (c : ℕ) (e : t ≡ TriedNo c) where
+      pub trail-long : length ts₁ ≡ 512 → (0 ≤ c) × (c ≤ length ts₁)
+      trail-long g = (omega arith, omega (arith, g, ends, frees-few (bindsOf bs (k .variables)), length-binds bs (k .variables), q .nodes .variables))
+        where
+          ends : c + frees (bindsOf bs₁ (k .variables)) ≡ 0 + frees (bindsOf bs (k .variables))
+          ends = subst (λ z. Tries ws ns k U bs ts 0 bs₁ ts₁ z) e x .spent
+
+      pub no-leaves : (bs₂ : List ℕ) → bs₂ ≡ undo ts₁ 0 (c - 0) bs₁ → left bs₂ No ≡ leftBy bs (k .variables) U
+      unfolding leftBy
+      no-leaves bs₂ u = sym (ap (leftBy bs (k .variables)) (y .says) ∙ ap (λ xs. left xs No) (sym (u ∙ y .undone)))
+        where
+          y : Tries ws ns k U bs ts 0 bs₁ ts₁ (TriedNo c)
+          y = subst (λ z. Tries ws ns k U bs ts 0 bs₁ ts₁ z) e x
+
+-- the entry, by what the checks found
+module _ (ws : List ℕ) (n e : ℕ) (ns : List ℕ) (m d : ℕ) (bs : List ℕ) (v l r : ℕ) (t : Tested) (et : t ≡ testedOf (firstFailing (unifyChecks ws n e ns m d bs v l r))) where
+  abbrev refuse : ℕ → Left
+  refuse c = left bs (NotUnified c)
+
+  pub refused : (c : ℕ) → t ≡ Refused c → left bs (NotUnified c) ≡ unifyEntry ws n e ns m d bs v l r
+  unfolding unifyEntry
+  refused c x =
+      sym (ap (λ o. orElse o refuse (leftBy bs v (unify (shapeAt (listsOf ws n ns m)) (bindsOf bs v) l r))) (refused-is (firstFailing (unifyChecks ws n e ns m d bs v l r)) t c et x))
+
+  module _ (p : t ≡ Passed) where
+    pub none-fails : firstFailing (unifyChecks ws n e ns m d bs v l r) ≡ none
+    none-fails = passed-is (firstFailing (unifyChecks ws n e ns m d bs v l r)) t et p
+
+    pub answered : (bs₁ : List ℕ) (u : Unified) → left bs₁ u ≡ leftBy bs v (unify (shapeAt (listsOf ws n ns m)) (bindsOf bs v) l r) → left bs₁ u ≡ unifyEntry ws n e ns m d bs v l r
+    unfolding unifyEntry
+    answered bs₁ u x =
+        x ∙ sym (ap (λ o. orElse o refuse (leftBy bs v (unify (shapeAt (listsOf ws n ns m)) (bindsOf bs v) l r))) none-fails)
