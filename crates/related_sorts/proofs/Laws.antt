@@ -1,0 +1,225 @@
+-- What the definition makes, as the code meets it. Assumes nothing.
+use mathlib.Core.Path.{_≡_, refl, ap, ap₂, sym, _∙_, subst}
+use mathlib.Core.List.{List, [], _∷_, _++_, append-nil, append-assoc}
+use mathlib.Core.Option.{Option, none, some}
+use mathlib.Core.Bool.{Bool, true, false, cond, _&&_}
+use Prim.Native.Nat.{ℕ, zero, suc, _+_, _-_, _<_, _≤_}
+use native.Mathlib.Omega.{arith}
+use native.Mathlib.Numerals.{add-one}
+use lib.ListN.{length, getD, set, take, drop, drop-of-length-le, length-set}
+use lib.Seq.{sets, drop-cons, take-suc, take-suc-set, take-all, length-take-le, getD-take}
+use lib.Dec.{eqb, leb, ltb}
+use borrow.Author.Tests.{lt-ltb, le-ltb, le-leb, lt-leb}
+use Rattle.resolved_sort.specs.declared.ComplexSort.{ComplexSort}
+use Rattle.resolved_sort.specs.declared.SortId.{SortId}
+use Rattle.resolved_sort.specs.declared.Counts.{Counts}
+use Rattle.resolved_sort.specs.declared.OpBound.{OpBound}
+use Rattle.resolved_sort.specs.declared.OpBound.the-variants.{Is, Nothing as NoOp}
+use Rattle.resolved_sort.specs.declared.Joined.{Joined}
+use Rattle.resolved_sort.specs.declared.Joined.the-variants.{At as JoinedAt, Nothing as JoinedNothing, Full as JoinedFull}
+use Rattle.resolved_sort.specs.Tree.{Tree, container}
+use Rattle.resolved_sort.specs.Interning.{look, member, made as made-sort, full, fits, intern}
+use Rattle.resolved_sort.specs.Storage.{maxSorts, functionKind, Row, kindOp, putRow, trees, sortsOf}
+use Rattle.resolved_sort.specs.Entries.{Stored, stored}
+use Rattle.resolved_sort.specs.Rows.{Checked, storedAt}
+use Rattle.resolved_sort.specs.Bounds.{internAt, opBound}
+use Rattle.resolved_sort.proofs.Grown.{after-none, more}
+use Rattle.sort_interner.proofs.Runs.{length-given}
+use Rattle.unification.specs.declared.Lengths.{Lengths}
+use Rattle.unification.specs.declared.Pushed.{Pushed}
+use Rattle.unification.specs.declared.Pushed.the-variants.{At, Full as NoRoom}
+use Rattle.unification.specs.declared.Listed.{Listed}
+use Rattle.unification.specs.declared.Listed.the-variants.{These, NoList, Full}
+use Rattle.unification.specs.declared.Related.{Related}
+use Rattle.unification.specs.Nodes.{maxNodes, maxNodeEntries, nodeEntriesAt}
+use Rattle.unification.specs.Related.{relatedContainer}
+use Rattle.unification.specs.Making.{Lent, Makes, made, no-list, no-room, _and-then_, only, withSorts, pushNode, appendNode, internContainer, relatedOver, pushFunctions}
+use Rattle.unification.specs.Resolve.{withCounts}
+use Rattle.related_sorts.specs.Outcome.{lent, row, pushed, relatedBy, related, RangesBy, Ranges}
+
+-- one more node
+module _ (ws ns : List ℕ) (k : Lengths) (kind part : ℕ) (ids : List ℕ) (count : ℕ) (len : length ids ≡ 16) (few : count ≤ 16) where
+  abbrev W : Lent
+  W = lent ws ns k
+
+  abbrev r : Row
+  r = row kind part (take count ids)
+
+  many : length (take count ids) ≡ count
+  many = length-given ids count len few
+
+  pub no-row : maxNodes ≤ k .nodes → pushed ws ns k NoRoom ≡ pushNode r W
+  unfolding pushNode
+  no-row l = rw (le-ltb (k .nodes) maxNodes l)
+
+  module _ (l : k .nodes < maxNodes) where
+    pub no-entries : maxNodeEntries < k .arguments + count → pushed ws ns k NoRoom ≡ pushNode r W
+    unfolding pushNode
+    no-entries h = rw (lt-ltb (k .nodes) maxNodes l, many, lt-leb (k .arguments + count) maxNodeEntries h)
+
+    pub node-made : k .arguments + count ≤ maxNodeEntries → (start : ℕ) → start ≡ cond (eqb kind functionKind) (k .arguments) 0 → (ns₁ ns₂ : List ℕ)
+        → ns₁ ≡ putRow ns (k .nodes) kind part start count → ns₂ ≡ sets ns₁ (4096 + (4096 + k .arguments)) (take count ids)
+        → pushed ws ns₂ k (At (1024 + k .nodes) (record { sorts = k .sorts; entries = k .entries; nodes = k .nodes + 1; arguments = k .arguments + count; variables = k .variables })) ≡ pushNode r W
+    unfolding pushNode appendNode
+    node-made h start es ns₁ ns₂ e₁ e₂ =
+        rw (lt-ltb (k .nodes) maxNodes l, many, le-leb (k .arguments + count) maxNodeEntries h)
+        (ap
+        (λ ms. made (1024 + k .nodes) (lent ws ms (record { sorts = k .sorts; entries = k .entries; nodes = k .nodes + 1; arguments = k .arguments + count; variables = k .variables })))
+        (e₂ ∙ ap₂ (λ (xs : List ℕ) (j : ℕ). sets xs j (take count ids)) (e₁ ∙ ap (λ (s : ℕ). putRow ns (k .nodes) kind part s count) es) (let z : 4096 + (4096 + k .arguments) ≡ nodeEntriesAt + k .arguments = omega arith in z)))
+
+-- the parts of a place, one after another
+pub one-more-part : (ps ids : List ℕ) (i : ℕ) → i < length ids → i < length ps → take i ids ≡ take i ps → (x : ℕ) → x ≡ getD ps i 0 → take (i + 1) (set ids i x) ≡ take (i + 1) ps
+one-more-part ps ids i l m e x y =
+    ap (λ (j : ℕ). take j (set ids i x)) (add-one i)
+    ∙ (take-suc-set ids i x l ∙ (ap₂ (λ (xs : List ℕ) (z : ℕ). xs ++ (z ∷ [])) e y ∙ (sym (take-suc ps i 0 m) ∙ ap (λ (j : ℕ). take j ps) (sym (add-one i)))))
+
+pub parts-stored : (ps ids : List ℕ) (i n : ℕ) → i ≡ n → take i ids ≡ take i ps → take n ids ≡ take n ps
+parts-stored ps ids i n e x = subst (λ (j : ℕ). take j ids ≡ take j ps) e x
+
+-- functions over ranges, from the i-th on
+module _ (ws : List ℕ) (xs : List ℕ) (ranges : List ℕ) (n : ℕ) (three : length ranges ≡ 3) (few : n ≤ 3) where
+  abbrev rest : ℕ → List ℕ
+  rest i = drop i (take n ranges)
+
+  abbrev from : List ℕ → Lengths → ℕ → List ℕ → Makes (List ℕ)
+  from ns k i ids = pushFunctions xs (rest i) (lent ws ns k) and-then (λ ps W. made (take i ids ++ ps) W)
+
+  long : length (take n ranges) ≡ n
+  long = length-take-le n ranges (omega (arith, three, few))
+
+  pub all-pushed : (ns : List ℕ) (k : Lengths) (i : ℕ) (ids : List ℕ) → i ≡ n → related ws ns (record { ids = ids; listed = These n k }) ≡ from ns k i ids
+  unfolding pushFunctions
+  all-pushed ns k i ids e =
+      sym (ap (λ (ys : List ℕ). pushFunctions xs ys (lent ws ns k) and-then (λ ps W. made (take i ids ++ ps) W)) (drop-of-length-le (take n ranges) {i = i} (omega (arith, long, e)))
+      ∙ (ap (λ ys. made ys (lent ws ns k)) (append-nil (take i ids)) ∙ ap (λ (j : ℕ). made (take j ids) (lent ws ns k)) e))
+
+  module _ (ns : List ℕ) (k : Lengths) (i : ℕ) (ids : List ℕ) (l : i < n) (ns₁ : List ℕ) (p : Pushed) (e : pushed ws ns₁ k p ≡ pushNode (row functionKind (getD ranges i 0) xs) (lent ws ns k)) where
+    one-and-rest : rest i ≡ getD ranges i 0 ∷ rest (i + 1)
+    one-and-rest =
+        drop-cons (take n ranges) i 0 (omega (arith, l, long))
+        ∙ ap₂ (λ (x j : ℕ). x ∷ drop j (take n ranges)) (getD-take n ranges i 0 l) (sym (add-one i))
+
+    step : from ns k i ids ≡ (pushed ws ns₁ k p and-then (λ q W. pushFunctions xs (rest (i + 1)) W and-then (λ ps W. made (q ∷ ps) W)) and-then (λ ps W. made (take i ids ++ ps) W))
+    unfolding pushFunctions
+    step =
+        ap (λ (ys : List ℕ). pushFunctions xs ys (lent ws ns k) and-then (λ ps W. made (take i ids ++ ps) W)) one-and-rest
+        ∙ ap (λ O. O and-then (λ q W. pushFunctions xs (rest (i + 1)) W and-then (λ ps W. made (q ∷ ps) W)) and-then (λ ps W. made (take i ids ++ ps) W)) (sym e)
+
+    pub push-ends : p ≡ NoRoom → (zs : List ℕ) → related ws ns₁ (record { ids = zs; listed = Full 16 k }) ≡ from ns k i ids
+    push-ends z zs =
+        sym (step ∙ ap (λ y. pushed ws ns₁ k y and-then (λ q W. pushFunctions xs (rest (i + 1)) W and-then (λ ps W. made (q ∷ ps) W)) and-then (λ ps W. made (take i ids ++ ps) W)) z)
+
+    pub push-goes-on : (q : ℕ) (k′ : Lengths) → p ≡ At q k′ → i < length ids → (ids′ : List ℕ) → ids′ ≡ set ids i q → (ns₂ : List ℕ) (a : Related) → related ws ns₂ a ≡ from ns₁ k′ (i + 1) ids′
+        → related ws ns₂ a ≡ from ns k i ids
+    push-goes-on q k′ z h ids′ ei ns₂ a u =
+        u
+        ∙ (ap (λ (ys : List ℕ). pushFunctions xs (rest (i + 1)) (lent ws ns₁ k′) and-then (λ ps W. made (ys ++ ps) W)) firsts
+        ∙ (go (pushFunctions xs (rest (i + 1)) (lent ws ns₁ k′))
+        ∙ sym (step ∙ ap (λ y. pushed ws ns₁ k y and-then (λ q W. pushFunctions xs (rest (i + 1)) W and-then (λ ps W. made (q ∷ ps) W)) and-then (λ ps W. made (take i ids ++ ps) W)) z)))
+      where
+        firsts : take (i + 1) ids′ ≡ take i ids ++ (q ∷ [])
+        firsts = ap₂ (λ (j : ℕ) (ys : List ℕ). take j ys) (add-one i) ei ∙ take-suc-set ids i q h
+
+        go : (O : Makes (List ℕ)) → (O and-then (λ ps W. made ((take i ids ++ (q ∷ [])) ++ ps) W)) ≡ (O and-then (λ ps W. made (q ∷ ps) W) and-then (λ ps W. made (take i ids ++ ps) W))
+        go (made ps W) = ap (λ ys. made ys W) (append-assoc (take i ids) (q ∷ []) ps)
+        go (no-list W) = refl
+        go (no-room c W) = refl
+
+-- over the related ranges
+module _ (ws ns : List ℕ) (a : Related) (xs : List ℕ) where
+  pub no-ranges : (k : Lengths) → a .listed ≡ NoList k → (zs : List ℕ) → related ws ns (record { ids = zs; listed = NoList k }) ≡ (related ws ns a and-then pushFunctions xs)
+  no-ranges k e zs = sym (ap (λ y. relatedBy ws ns (a .ids) y and-then pushFunctions xs) e)
+
+  pub no-room-for-ranges : (c : ℕ) (k : Lengths) → a .listed ≡ Full c k → (zs : List ℕ) → related ws ns (record { ids = zs; listed = Full c k }) ≡ (related ws ns a and-then pushFunctions xs)
+  no-room-for-ranges c k e zs = sym (ap (λ y. relatedBy ws ns (a .ids) y and-then pushFunctions xs) e)
+
+  module _ (n : ℕ) (k : Lengths) (e : a .listed ≡ These n k) where
+    pub few-ranges : Ranges a → n ≤ 3
+    few-ranges r = subst RangesBy e r
+
+    pub ranges-pushed : (ids ns₁ : List ℕ) (b : Related) → related ws ns₁ b ≡ (pushFunctions xs (drop 0 (take n (a .ids))) (lent ws ns k) and-then (λ ps W. made (take 0 ids ++ ps) W))
+        → related ws ns₁ b ≡ (related ws ns a and-then pushFunctions xs)
+    ranges-pushed ids ns₁ b u = u ∙ (go (pushFunctions xs (take n (a .ids)) (lent ws ns k)) ∙ sym (ap (λ y. relatedBy ws ns (a .ids) y and-then pushFunctions xs) e))
+      where
+        go : (O : Makes (List ℕ)) → (O and-then (λ ps W. made ps W)) ≡ O
+        go (made ps W) = refl
+        go (no-list W) = refl
+        go (no-room c W) = refl
+
+-- interning that found no room has changed nothing, and it never answers that there is none
+module _ (ws : List ℕ) (n e : ℕ) (k : Checked ws n e) (t : Tree) (ws₁ : List ℕ) where
+  full-by : (a b : Bool) → storedAt ws₁ JoinedFull ≡ stored ws n e (cond a (made-sort t (sortsOf ws n e)) (cond b (made-sort t (more ws n e t)) (full (sortsOf ws n e)))) → ws₁ ≡ ws
+  unfolding stored
+  full-by true b x = absurd (let y = ap (λ (r : Stored). r .answer) x in let z : _≡_ {A = ℕ} 0 1 = cc in omega arith)
+  full-by false true x = absurd (let y = ap (λ (r : Stored). r .answer) x in let z : _≡_ {A = ℕ} 0 1 = cc in omega arith)
+  full-by false false x = ap (λ (r : Stored). r .words) x ∙ after-none ws n e k
+
+  pub full-unchanged : storedAt ws₁ JoinedFull ≡ internAt ws n e t → ws₁ ≡ ws
+  unfolding internAt intern
+  full-unchanged x = full-by (member (trees ws n) t) (fits t (sortsOf ws n e)) x
+
+  none-by : {A : Type 0} (K : Counts) (a b : Bool) → storedAt ws₁ (JoinedNothing K) ≡ stored ws n e (cond a (made-sort t (sortsOf ws n e)) (cond b (made-sort t (more ws n e t)) (full (sortsOf ws n e)))) → A
+  unfolding stored
+  none-by K true b x = absurd (let y = ap (λ (r : Stored). r .answer) x in let z : _≡_ {A = ℕ} 0 1 = cc in omega arith)
+  none-by K false true x = absurd (let y = ap (λ (r : Stored). r .answer) x in let z : _≡_ {A = ℕ} 0 1 = cc in omega arith)
+  none-by K false false x = absurd (let y = ap (λ (r : Stored). r .answer) x in let z : _≡_ {A = ℕ} 0 1 = cc in omega arith)
+
+  pub never-none : {A : Type 0} (K : Counts) → storedAt ws₁ (JoinedNothing K) ≡ internAt ws n e t → A
+  unfolding internAt intern
+  never-none K x = none-by K (member (trees ws n) t) (fits t (sortsOf ws n e)) x
+
+-- containers
+module _ (up : Bool) (o : ComplexSort) (b : OpBound) (e : b ≡ opBound (relatedContainer up o)) where
+  op-is : (x : Option ComplexSort) (q : ComplexSort) → opBound x ≡ Is q → x ≡ some q
+  op-is none q z = absurd (let w : _≡_ {A = ℕ} 0 1 = cc in omega arith)
+  op-is (some p) q z = cc
+
+  op-none : (x : Option ComplexSort) → opBound x ≡ NoOp → x ≡ none
+  op-none none z = refl
+  op-none (some p) z = absurd (let w : _≡_ {A = ℕ} 0 1 = cc in omega arith)
+
+  pub no-container : b ≡ NoOp → (sort : Bool) (s : ℕ) (ws ns : List ℕ) (k : Lengths) (a : Related) → a ≡ record { ids = 0 ∷ 0 ∷ 0 ∷ []; listed = These 0 k }
+      → related ws ns a ≡ relatedOver (relatedContainer up o) sort s (lent ws ns k)
+  no-container z sort s ws ns k a y = ap (related ws ns) y ∙ sym (ap (λ x. relatedOver x sort s (lent ws ns k)) (op-none (relatedContainer up o) (sym e ∙ z)))
+
+  module _ (q : ComplexSort) (z : b ≡ Is q) (s : ℕ) (ws ns : List ℕ) (k : Lengths) where
+    is-some : relatedContainer up o ≡ some q
+    is-some = op-is (relatedContainer up o) q (sym e ∙ z)
+
+    -- of a sort
+    module _ (c : Counts) (ec : c ≡ record { sorts = k .sorts; entries = k .entries }) (ws₁ : List ℕ) (j : Joined)
+        (ej : storedAt ws₁ j ≡ internAt ws (c .sorts) (c .entries) (container q (look (trees ws (c .sorts)) s))) where
+      interned : internAt ws (k .sorts) (k .entries) (container q (look (trees ws (k .sorts)) s)) ≡ storedAt ws₁ j
+      interned = sym (ej ∙ ap (λ (y : Counts). internAt ws (y .sorts) (y .entries) (container q (look (trees ws (y .sorts)) s))) ec)
+
+      sort-of : relatedOver (relatedContainer up o) true s (lent ws ns k) ≡ (withSorts (lent ws ns k) (storedAt ws₁ j) j and-then only)
+      unfolding internContainer
+      sort-of = ap (λ x. relatedOver x true s (lent ws ns k)) is-some ∙ ap (λ (r : Stored). withSorts (lent ws ns k) r (r .answer) and-then only) interned
+
+      pub container-interned : (id : SortId) (K : Counts) → j ≡ JoinedAt id K → (k′ : Lengths) → k′ ≡ withCounts k K → (a : Related) → a ≡ record { ids = id .0 ∷ 0 ∷ 0 ∷ []; listed = These 1 k′ }
+          → related ws₁ ns a ≡ relatedOver (relatedContainer up o) true s (lent ws ns k)
+      container-interned id K x k′ ek a y =
+          ap (related ws₁ ns) y ∙ (ap (λ (l : Lengths). made (id .0 ∷ []) (lent ws₁ ns l)) ek ∙ sym (sort-of ∙ ap (λ w. withSorts (lent ws ns k) (storedAt ws₁ j) w and-then only) x))
+
+      module _ (ck : Checked ws (k .sorts) (k .entries)) where
+        pub no-room-for-sort : j ≡ JoinedFull → (zs : List ℕ) → related ws₁ ns (record { ids = zs; listed = Full 15 k }) ≡ relatedOver (relatedContainer up o) true s (lent ws ns k)
+        no-room-for-sort x zs =
+            ap (λ (ys : List ℕ). no-room 15 (lent ys ns k)) (full-unchanged ws (k .sorts) (k .entries) ck (container q (look (trees ws (k .sorts)) s)) ws₁ (ap (storedAt ws₁) (sym x) ∙ sym interned))
+            ∙ sym (sort-of ∙ ap (λ w. withSorts (lent ws ns k) (storedAt ws₁ j) w and-then only) x)
+
+        pub always-interned : (K : Counts) → j ≡ JoinedNothing K → (a : Related) → related ws₁ ns a ≡ relatedOver (relatedContainer up o) true s (lent ws ns k)
+        always-interned K x a = never-none ws (k .sorts) (k .entries) ck (container q (look (trees ws (k .sorts)) s)) ws₁ K (ap (storedAt ws₁) (sym x) ∙ sym interned)
+
+    -- of a node
+    module _ (ns₁ : List ℕ) (p : Pushed) (kind : ℕ) (ek : kind ≡ kindOp q) (xs : List ℕ) (none-there : xs ≡ []) (ep : pushed ws ns₁ k p ≡ pushNode (row kind s xs) (lent ws ns k)) where
+      node-of : relatedOver (relatedContainer up o) false s (lent ws ns k) ≡ (pushed ws ns₁ k p and-then only)
+      node-of =
+          ap (λ x. relatedOver x false s (lent ws ns k)) is-some
+          ∙ (ap₂ (λ (c : ℕ) (ys : List ℕ). pushNode (row c s ys) (lent ws ns k) and-then only) (sym ek) (sym none-there) ∙ ap (λ O. O and-then only) (sym ep))
+
+      pub container-pushed : (c : ℕ) (k′ : Lengths) → p ≡ At c k′ → (a : Related) → a ≡ record { ids = c ∷ 0 ∷ 0 ∷ []; listed = These 1 k′ }
+          → related ws ns₁ a ≡ relatedOver (relatedContainer up o) false s (lent ws ns k)
+      container-pushed c k′ x a y = ap (related ws ns₁) y ∙ sym (node-of ∙ ap (λ w. pushed ws ns₁ k w and-then only) x)
+
+      pub no-room-for-container : p ≡ NoRoom → (zs : List ℕ) → related ws ns₁ (record { ids = zs; listed = Full 16 k }) ≡ relatedOver (relatedContainer up o) false s (lent ws ns k)
+      no-room-for-container x zs = sym (node-of ∙ ap (λ w. pushed ws ns₁ k w and-then only) x)

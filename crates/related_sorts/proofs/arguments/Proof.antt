@@ -1,0 +1,33 @@
+-- The invariant: the parts passed are stored. Assumes nothing.
+use Prim.Native.Nat.{_-_, _≤_}
+use Rattle.related_sorts.proofs.Laws as law
+use Rattle.unification.specs.Checked.{graphOf}
+use Rattle.unification.specs.Term.{partsOf}
+use borrow.Author.Needs.{needs}
+use lib.ListN.{length, take, length-set}
+use mathlib.Core.Path.{_≡_, refl, sym, ap, ap₂, subst, _∙_}
+use native.Mathlib.Omega.{arith}
+use Rattle.related_sorts.proofs.arguments.Statement.{statement}
+use Rattle.related_sorts.proofs.arguments.Tie as tie
+
+abbrev Inv-loop : tie.InvT-loop
+Inv-loop sorts nodes lengths id count ids₀ i₀ ids i = (i ≤ count) × (length ids ≡ 16) × (take i ids ≡ take i (partsOf (graphOf sorts nodes lengths (id .0))))
+
+abbrev μ-loop : tie.MeasureT-loop
+μ-loop sorts nodes lengths id count ids₀ i₀ ids i = count - i
+
+pub arguments-spec : {M : Type 1} → statement M
+arguments-spec =
+    tie.close
+    (tie.spec
+    Inv-loop
+    μ-loop
+    (λ c. (omega arith, refl, refl))
+    (λ c κs. (c .before .before .before .before .pre .nodes, c .before .before .before .before .pre .placed, omega (arith, c .loop-test .taken, c .before .before .before .before .pre .many)))
+    (λ c. omega arith)
+    (λ c. omega (arith, c .before .loop-test .taken, c .before .before .before .before .before .pre .few))
+    (λ c. omega (arith, c .before .loop-test .taken, c .before .before .before .before .before .pre .few))
+    (λ c. omega (arith, c .before .loop-test .taken, c .before .before .before .before .before .pre .few))
+    (λ c. omega (arith, c .before .loop-test .taken))
+    (λ c. (omega (arith, c .before .loop-test .taken), length-set (c .before .before .loop .ids) (c .before .before .loop .i) _ ∙ c .before .before .loop .inv .1, law.one-more-part _ (c .before .before .loop .ids) (c .before .before .loop .i) (omega (arith, c .before .loop-test .taken, c .before .before .before .before .before .pre .few, c .before .before .loop .inv .1)) (omega (arith, c .before .loop-test .taken, c .before .before .before .before .before .pre .many)) (c .before .before .loop .inv .2) _ (c .part .ensures)))
+    (λ c. law.parts-stored _ _ (c .before .loop .i) (c .before .before .before .before .args .count) (omega (arith, c .loop-test .left, c .before .loop .inv .0)) (c .before .loop .inv .2)))

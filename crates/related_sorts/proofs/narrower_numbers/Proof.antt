@@ -1,0 +1,34 @@
+-- By the sort. Assumes nothing.
+use Rattle.resolved_sort.specs.Storage.{kindFlat}
+use Rattle.resolved_sort.specs.Tree.{primitive}
+use Rattle.resolved_sort.specs.declared.Sort.{Sort}
+use Rattle.unification.specs.Making.{relatedPlaces}
+use Rattle.unification.specs.Related.{relatedNumbers}
+use Rattle.unification.specs.declared.Three.{Three}
+use borrow.Author.Needs.{needs}
+use lib.ListN.{take}
+use mathlib.Core.Bool.{false}
+use mathlib.Core.Path.{_≡_, refl, sym, ap, ap₂, subst, _∙_}
+use Rattle.related_sorts.proofs.narrower_numbers.Statement.{statement}
+use Rattle.related_sorts.proofs.narrower_numbers.Tie as tie
+
+pub narrower-numbers-spec : {M : Type 1} → statement M
+unfolding relatedNumbers kindFlat
+narrower-numbers-spec =
+    tie.close
+    (tie.spec
+    (λ c. search needs)
+    (λ c κs. search needs)
+    (λ c. search needs)
+    (λ c κs. search needs)
+    (λ c. search needs)
+    (λ c κs. search needs)
+    (λ c. search needs)
+    (λ c κs. search needs)
+    (λ c. search needs)
+    (λ c κs. search needs)
+    (λ c. ap (λ (t : Three). take (t .count) (t .ids)) (c .three .ensures) ∙ sym (ap (λ (s : Sort). relatedPlaces false (primitive s)) (c .before .enum-told .given .1)))
+    (λ c. ap (λ (t : Three). take (t .count) (t .ids)) (c .three2 .ensures) ∙ sym (ap (λ (s : Sort). relatedPlaces false (primitive s)) (c .before .enum-told2 .given .1)))
+    (λ c. ap (λ (t : Three). take (t .count) (t .ids)) (c .three3 .ensures) ∙ sym (ap (λ (s : Sort). relatedPlaces false (primitive s)) (c .before .enum-told3 .given .1)))
+    (λ c. ap (λ (t : Three). take (t .count) (t .ids)) (c .three4 .ensures) ∙ sym (ap (λ (s : Sort). relatedPlaces false (primitive s)) (c .before .enum-told4 .given .1)))
+    (λ c. ap (λ (t : Three). take (t .count) (t .ids)) (c .three5 .ensures) ∙ sym (ap (λ (s : Sort). relatedPlaces false (primitive s)) (c .before .enum-told5 .given .1))))

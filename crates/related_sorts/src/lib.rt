@@ -1,0 +1,327 @@
+// The sorts strictly wider or narrower than the sort at a place: from merc's unification.rs, strict_related_sorts, related_numbers
+// and related_container. Up is the Rust's Direction::Super. Nodes and sorts made for it are appended, inner ones first.
+use infer_nodes::counts_of;
+use infer_nodes::node;
+use infer_nodes::part;
+use infer_nodes::part_count;
+use infer_nodes::shallow_normalize;
+use infer_nodes::with_counts;
+use resolved_sort::ComplexSort;
+use resolved_sort::Joined;
+use resolved_sort::OpBound;
+use resolved_sort::ResolvedSort;
+use resolved_sort::Sort;
+use resolved_sort::SortId;
+use sort_bounds::generic;
+use sort_interner::get;
+use sort_interner::kind_of_op;
+use sort_interner::put_args;
+use sort_interner::put_row;
+use sort_interner::start_of;
+use unification::InferSort;
+use unification::InferSortId;
+use unification::Lengths;
+use unification::Listed;
+use unification::NodeId;
+use unification::Pushed;
+use unification::Related;
+use unification::Three;
+ghost use mathlib.Core.Path.{_≡_};
+ghost use mathlib.Core.Bool.{true, false};
+ghost use mathlib.Core.List.{[], _∷_, _++_};
+ghost use Prim.Native.Nat.{ℕ, _+_, _<_, _≤_};
+ghost use lib.ListN.{length, take, drop};
+ghost use Rattle.resolved_sort.specs.Tree.{primitive};
+ghost use Rattle.resolved_sort.specs.Storage.{maxSorts};
+ghost use Rattle.resolved_sort.specs.Bounds.{opBound};
+ghost use Rattle.resolved_sort.specs.Rows.{Checked};
+ghost use Rattle.unification.specs.Term.{partsOf};
+ghost use Rattle.unification.specs.Nodes.{bindsOf};
+ghost use Rattle.unification.specs.Checked.{graphOf, Ready, Placed};
+ghost use Rattle.unification.specs.Related.{relatedContainer};
+ghost use Rattle.unification.specs.Making.{made, _and-then_, pushNode, relatedOver, pushFunctions, relatedPlaces, strictRelated};
+ghost use Rattle.related_sorts.specs.Outcome.{lent, pushed, related, row, IsFunction, FunctionAt, Ranges, Relates};
+
+// The numbers strictly above or below `sort`, in ascending distance.
+fn related_numbers(sort: Sort, up: bool) -> Three
+    ensures { λ r. ⌜ take (r .count) (r .ids) ≡ relatedPlaces up (primitive sort) ⌝ }
+{
+    if up {
+        return wider_numbers(sort);
+    }
+    narrower_numbers(sort)
+}
+
+fn wider_numbers(sort: Sort) -> Three
+    ensures { λ r. ⌜ take (r .count) (r .ids) ≡ relatedPlaces true (primitive sort) ⌝ }
+{
+    match sort {
+        Sort::Bool => three(0, 0, 0, 0),
+        Sort::Pos => three(3, 4, 5, 3),
+        Sort::Nat => three(4, 5, 0, 2),
+        Sort::Int => three(5, 0, 0, 1),
+        Sort::Real => three(0, 0, 0, 0),
+    }
+}
+
+fn narrower_numbers(sort: Sort) -> Three
+    ensures { λ r. ⌜ take (r .count) (r .ids) ≡ relatedPlaces false (primitive sort) ⌝ }
+{
+    match sort {
+        Sort::Bool => three(0, 0, 0, 0),
+        Sort::Pos => three(0, 0, 0, 0),
+        Sort::Nat => three(2, 0, 0, 1),
+        Sort::Int => three(3, 2, 0, 2),
+        Sort::Real => three(4, 3, 2, 3),
+    }
+}
+
+fn three(a: u16, b: u16, c: u16, count: u16) -> Three
+    ensures { λ r. ⌜ r ≡ record { ids = a ∷ b ∷ c ∷ []; count = count } ⌝ }
+{
+    let mut ids = [0u16; 3];
+    ids[0] = a;
+    ids[1] = b;
+    ids[2] = c;
+    Three { ids, count }
+}
+
+// The container constructor strictly above or below `op` in the finiteness ordering `FSet <= Set`, `FBag <= Bag`.
+fn related_container(op: ComplexSort, up: bool) -> OpBound
+    ensures { λ r. ⌜ r ≡ opBound (relatedContainer up op) ⌝ }
+{
+    if up {
+        return match op {
+            ComplexSort::List => OpBound::Nothing,
+            ComplexSort::Set => OpBound::Nothing,
+            ComplexSort::FSet => OpBound::Is(ComplexSort::Set),
+            ComplexSort::Bag => OpBound::Nothing,
+            ComplexSort::FBag => OpBound::Is(ComplexSort::Bag),
+        };
+    }
+    match op {
+        ComplexSort::List => OpBound::Nothing,
+        ComplexSort::Set => OpBound::Is(ComplexSort::FSet),
+        ComplexSort::FSet => OpBound::Nothing,
+        ComplexSort::Bag => OpBound::Is(ComplexSort::FBag),
+        ComplexSort::FBag => OpBound::Nothing,
+    }
+}
+
+// One more node, where there is room.
+fn push(
+    sorts: &[u16],
+    nodes: &mut [u16],
+    lengths: Lengths,
+    kind: u16,
+    part: u16,
+    ids: [u16; 16],
+    count: u16,
+) -> Pushed
+    requires { ⌜ count ≤ 16 ⌝ }
+    ensures { λ r. ⌜ pushed (now (sorts .entry)) (now (nodes .exit)) lengths r ≡ pushNode (row kind part (take count ids)) (lent (now (sorts .entry)) (now (nodes .entry)) lengths) ⌝ }
+{
+    let n = lengths.nodes;
+    let e = lengths.arguments;
+    if 2048 <= n {
+        return Pushed::Full;
+    }
+    if 4096 < (e as usize) + (count as usize) {
+        return Pushed::Full;
+    }
+    put_row(nodes, n, kind, part, start_of(kind, e), count);
+    put_args(nodes, 4096 + e, ids, count);
+    Pushed::At(
+        1024 + n,
+        Lengths {
+            sorts: lengths.sorts,
+            entries: lengths.entries,
+            nodes: n + 1,
+            arguments: e + count,
+            variables: lengths.variables,
+        },
+    )
+}
+
+// The first count parts of the sort at a place.
+fn arguments(
+    sorts: &[u16],
+    nodes: &[u16],
+    lengths: Lengths,
+    id: InferSortId,
+    count: u16,
+) -> [u16; 16]
+    requires { ⌜ IsFunction (now sorts) (now nodes) lengths (id .0) count ⌝ }
+    ensures { λ r. ⌜ take count r ≡ take count (partsOf (graphOf (now (sorts .entry)) (now (nodes .entry)) lengths (id .0))) ⌝ }
+{
+    let mut ids = [0u16; 16];
+    let mut i: u16 = 0;
+    while i < count {
+        ids[i as usize] = part(sorts, nodes, lengths, id, i).0;
+        i += 1;
+    }
+    ids
+}
+
+// Functions of the same arguments over each of the targets from the i-th on; the ids before it are those made already.
+fn push_functions(
+    sorts: &[u16],
+    nodes: &mut [u16],
+    lengths: Lengths,
+    targets: [u16; 3],
+    n: u16,
+    i: u16,
+    ids: [u16; 3],
+    domain: [u16; 16],
+    count: u16,
+) -> Related
+    requires { ⌜ (count ≤ 16) × (i ≤ n) × (n ≤ 3) ⌝ }
+    ensures { λ r. ⌜ related (now (sorts .entry)) (now (nodes .exit)) r ≡ (pushFunctions (take count domain) (drop i (take n targets)) (lent (now (sorts .entry)) (now (nodes .entry)) lengths) and-then (λ ps W. made (take i ids ++ ps) W)) ⌝ }
+{
+    if i == n {
+        return Related {
+            ids,
+            listed: Listed::These(n, lengths),
+        };
+    }
+    match push(
+        sorts,
+        nodes,
+        lengths,
+        11,
+        targets[i as usize],
+        domain,
+        count,
+    ) {
+        Pushed::At(place, then) => {
+            let mut next = ids;
+            next[i as usize] = place;
+            push_functions(sorts, nodes, then, targets, n, i + 1, next, domain, count)
+        }
+        Pushed::Full => Related {
+            ids: [0u16; 3],
+            listed: Listed::Full(16, lengths),
+        },
+    }
+}
+
+// The functions over the ranges found, where there is a list of them.
+fn over_ranges(
+    sorts: &[u16],
+    nodes: &mut [u16],
+    found: Related,
+    domain: [u16; 16],
+    count: u16,
+) -> Related
+    requires { ⌜ Ranges found × (count ≤ 16) ⌝ }
+    ensures { λ r. ⌜ related (now (sorts .entry)) (now (nodes .exit)) r ≡ (related (now (sorts .entry)) (now (nodes .entry)) found and-then pushFunctions (take count domain)) ⌝ }
+{
+    let ids = found.ids;
+    let listed = found.listed;
+    match listed {
+        Listed::These(n, lengths) => push_functions(
+            sorts,
+            nodes,
+            lengths,
+            ids,
+            n,
+            0,
+            [0u16; 3],
+            domain,
+            count,
+        ),
+        Listed::NoList(lengths) => Related {
+            ids: [0u16; 3],
+            listed: Listed::NoList(lengths),
+        },
+        Listed::Full(code, lengths) => Related {
+            ids: [0u16; 3],
+            listed: Listed::Full(code, lengths),
+        },
+    }
+}
+
+// One place.
+fn only(place: u16, lengths: Lengths) -> Related
+    ensures { λ r. ⌜ r ≡ record { ids = place ∷ 0 ∷ 0 ∷ []; listed = Listed.These 1 lengths } ⌝ }
+{
+    let mut ids = [0u16; 3];
+    ids[0] = place;
+    Related {
+        ids,
+        listed: Listed::These(1, lengths),
+    }
+}
+
+// No places.
+fn none(lengths: Lengths) -> Related
+    ensures { λ r. ⌜ r ≡ record { ids = 0 ∷ 0 ∷ 0 ∷ []; listed = Listed.These 0 lengths } ⌝ }
+{
+    Related {
+        ids: [0u16; 3],
+        listed: Listed::These(0, lengths),
+    }
+}
+
+// A container of the list: the related one is interned.
+fn related_generic(
+    sorts: &mut [u16],
+    nodes: &[u16],
+    lengths: Lengths,
+    op: ComplexSort,
+    subsort: SortId,
+    up: bool,
+) -> Related
+    requires { ⌜ Checked (now sorts) (lengths .sorts) (lengths .entries) × (subsort .0 < lengths .sorts) ⌝ }
+    ensures { λ r. ⌜ related (now (sorts .exit)) (now (nodes .entry)) r ≡ relatedOver (relatedContainer up op) true (subsort .0) (lent (now (sorts .entry)) (now (nodes .entry)) lengths) ⌝ }
+{
+    match related_container(op, up) {
+        OpBound::Is(related_op) => {
+            match generic(sorts, counts_of(lengths), related_op, subsort) {
+                Joined::At(id, made) => only(id.0, with_counts(lengths, made)),
+                Joined::Nothing(_) => Related {
+                    ids: [0u16; 3],
+                    listed: Listed::NoList(lengths),
+                },
+                Joined::Full => Related {
+                    ids: [0u16; 3],
+                    listed: Listed::Full(15, lengths),
+                },
+            }
+        }
+        OpBound::Nothing => none(lengths),
+    }
+}
+
+// A container node: the related one is a node.
+fn push_generic(
+    sorts: &[u16],
+    nodes: &mut [u16],
+    lengths: Lengths,
+    op: ComplexSort,
+    subsort: InferSortId,
+    up: bool,
+) -> Related
+    ensures { λ r. ⌜ related (now (sorts .entry)) (now (nodes .exit)) r ≡ relatedOver (relatedContainer up op) false (subsort .0) (lent (now (sorts .entry)) (now (nodes .entry)) lengths) ⌝ }
+{
+    match related_container(op, up) {
+        OpBound::Is(related_op) => {
+            match push(
+                sorts,
+                nodes,
+                lengths,
+                kind_of_op(related_op),
+                subsort.0,
+                [0u16; 16],
+                0,
+            ) {
+                Pushed::At(place, then) => only(place, then),
+                Pushed::Full => Related {
+                    ids: [0u16; 3],
+                    listed: Listed::Full(16, lengths),
+                },
+            }
+        }
+        OpBound::Nothing => none(lengths),
+    }
+}

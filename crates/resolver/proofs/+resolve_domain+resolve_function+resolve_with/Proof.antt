@@ -1,0 +1,13 @@
+mod Common
+mod Resolve_domain
+mod Resolve_function
+mod Resolve_with
+use Rattle.resolver.proofs.+resolve_domain+resolve_function+resolve_with.{statement}
+use Rattle.resolver.proofs.+resolve_domain+resolve_function+resolve_with.Tie.{close}
+use Rattle.resolver.proofs.+resolve_domain+resolve_function+resolve_with.Proof.Common as common
+use Rattle.resolver.proofs.+resolve_domain+resolve_function+resolve_with.Proof.Resolve_domain as part-resolve-domain
+use Rattle.resolver.proofs.+resolve_domain+resolve_function+resolve_with.Proof.Resolve_function as part-resolve-function
+use Rattle.resolver.proofs.+resolve_domain+resolve_function+resolve_with.Proof.Resolve_with as part-resolve-with
+
+pub +resolve-domain+resolve-function+resolve-with-spec : {M : Type 1} → statement M
++resolve-domain+resolve-function+resolve-with-spec {M} = close common.μ-resolve-domain common.μ-resolve-function common.μ-resolve-with (part-resolve-domain.part M) (part-resolve-function.part M) (part-resolve-with.part M)
