@@ -110,4 +110,13 @@ for options in "--class other" "--seed x" "--count" "--size 9" "--size 0" "--cou
 done
 echo "$(grep -cv '^#' bad-lines.txt) bad lines and the bad options were refused"
 
+step "the pair program, its comparison with itself and with wrong ones"
+cargo test --release --offline --quiet -p pairs > "$work/out" || { cat "$work/out"; fail "tests of pairs"; }
+./compare_pairs.sh --pairs 5000 "$bin/oracle-pairs" > "$work/out" || { cat "$work/out"; fail "compare_pairs.sh"; }
+tail -n 1 "$work/out"
+
+step "unify: its judges, the stand-in and wrong ones"
+./compare_unify.sh --stand-in --questions 50000 > "$work/out" || { cat "$work/out"; fail "compare_unify.sh"; }
+tail -n 1 "$work/out"
+
 echo "test: all passed"

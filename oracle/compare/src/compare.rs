@@ -2,15 +2,15 @@
 
 use std::ops::Range;
 
+use common::guard::GUARD;
+use common::guard::guarded;
+use common::guard::same_words;
 use lists::memory::*;
 use lists::question::Question;
 use lists::verdict::Shape;
 
 use crate::expected::Expected;
 use crate::expected::expected;
-
-/// Words before and after the lent slice that no call may change.
-const GUARD: usize = 64;
 
 /// Asks about the words of a range of a buffer; see [crate::port::ask].
 pub type Ask = fn(&mut [u16], Range<usize>, &Memory, Question) -> u64;
@@ -23,30 +23,12 @@ pub fn compare(ask: Ask, memory: &Memory, question: Question) -> Result<Expected
     if answer != expected.packed() {
         return Err(format!("the answer is {answer:#x}, expected {:#x}: {expected:?}", expected.packed()));
     }
-    same_words(&buffer, &guarded(&expected.exit(memory)))?;
+    same_words("the lent slice", &buffer, &guarded(&expected.exit(memory)))?;
     if let Expected::Bound { sorts, entries, .. } = &expected {
         let words = buffer[GUARD..][..memory.sorts.len()].to_vec();
         same_sorts(&Memory::of_sorts(words, sorts.len(), *entries), sorts)?;
     }
     Ok(expected)
-}
-
-fn guarded(words: &[u16]) -> Vec<u16> {
-    let guard = |from: usize| (from..from + GUARD).map(|index| 0xa5a5 ^ index as u16);
-    let mut buffer = Vec::with_capacity(words.len() + 2 * GUARD);
-    buffer.extend(guard(0));
-    buffer.extend_from_slice(words);
-    buffer.extend(guard(GUARD));
-    buffer
-}
-
-fn same_words(found: &[u16], expected: &[u16]) -> Result<(), String> {
-    if found == expected {
-        return Ok(());
-    }
-    let at = (0..expected.len()).find(|&at| found[at] != expected[at]).expect("the lengths are the same");
-    let word = at as isize - GUARD as isize;
-    Err(format!("at exit word {word} of the lent slice is {}, expected {}", found[at], expected[at]))
 }
 
 /// The port's list against merc's arena, row by row.
@@ -70,12 +52,12 @@ fn shape(list: &Memory, number: usize) -> Shape {
 
 #[cfg(test)]
 mod tests {
+    use common::draft::Draft;
+    use common::junk::Junk;
     use lists::memory::kind::*;
     use oracle::rng::Rng;
 
     use super::*;
-    use crate::draft::Draft;
-    use crate::junk::Junk;
     use crate::port;
 
     /// Joins of FSet(Nat) # Bool -> Bool and Set(Pos) # Pos -> Bool: FSet(Pos) is made, then there is none.

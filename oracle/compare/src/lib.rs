@@ -3,9 +3,6 @@
 
 pub mod cases;
 pub mod compare;
-pub mod draft;
 pub mod expected;
-pub mod junk;
-pub mod options;
 pub mod port;
 pub mod text;

@@ -5,14 +5,14 @@ use std::collections::BTreeMap;
 use std::process::ExitCode;
 use std::time::Instant;
 
+use common::options;
+use common::options::Failure;
+use common::options::Options;
 use compare::cases::Case;
 use compare::cases::Cases;
 use compare::cases::Class;
 use compare::compare::compare;
 use compare::expected::Expected;
-use compare::options;
-use compare::options::Failure;
-use compare::options::Options;
 use compare::port;
 use lists::memory::ENTRIES_AT;
 use lists::memory::Memory;

@@ -3,11 +3,11 @@
 
 use std::process::ExitCode;
 
+use common::options;
+use common::options::Failure;
+use common::options::Options;
 use compare::cases::sample;
 use compare::expected::expected;
-use compare::options;
-use compare::options::Failure;
-use compare::options::Options;
 use compare::text::list_text;
 use compare::text::question_text;
 

@@ -3,17 +3,15 @@
 //! Each call is timed alone and from the same state: the port is handed the same counts again, and
 //! for merc the list is put in anew, outside the time, before each call.
 
-use std::arch::x86_64::_mm_lfence;
-use std::arch::x86_64::_rdtsc;
 use std::hint::black_box;
 use std::process::ExitCode;
-use std::time::Duration;
-use std::time::Instant;
 
+use common::clock::Clock;
+use common::clock::median;
+use common::options;
+use common::options::Failure;
+use common::options::Options;
 use compare::cases::timed;
-use compare::options;
-use compare::options::Failure;
-use compare::options::Options;
 use compare::port;
 use lists::memory::Memory;
 use merc_plain::Lattice;
@@ -31,7 +29,7 @@ fn run(options: &Options) -> Result<(), Failure> {
     }
     let seed = options.number("seed")?;
     let questions = options.number("questions")? as usize;
-    let clock = Clock::new();
+    let clock = Clock::calibrated();
     println!("| sorts | question | questions | {} |", COLUMNS.map(|(name, _)| name).join(" | "));
     println!("|{}", "---|".repeat(3 + COLUMNS.len()));
     for (sorts, repeats) in SIZES {
@@ -111,75 +109,17 @@ fn times(clock: &Clock, seed: u64, sorts: usize, questions: usize, repeats: usiz
     let lists = (0..).map(|index| timed(seed, index, sorts));
     let asked =
         lists.flat_map(|(memory, pairs)| pairs.into_iter().map(move |pair| (memory.clone(), pair)).collect::<Vec<_>>());
-    asked.take(questions).map(|(memory, pair)| clock.question(&memory, pair, repeats, kind)).collect()
+    asked.take(questions).map(|(memory, pair)| question(clock, &memory, pair, repeats, kind)).collect()
 }
 
-fn median(mut values: Vec<f64>) -> f64 {
-    values.sort_unstable_by(f64::total_cmp);
-    values[values.len() / 2]
-}
-
-/// The mean of the middle half. A tick of the clock may be longer than a call: the mean of many
-/// calls is finer than their median.
-fn middle(mut values: Vec<f64>) -> f64 {
-    values.sort_unstable_by(f64::total_cmp);
-    let quarter = values.len() / 4;
-    let half = &values[quarter..values.len() - quarter];
-    half.iter().sum::<f64>() / half.len() as f64
-}
-
-/// Counts the processor's ticks.
-struct Clock {
-    ticks_per_ns: f64,
-    /// What an empty call takes.
-    overhead: f64,
-}
-
-impl Clock {
-    fn new() -> Clock {
-        let mut clock = Clock { ticks_per_ns: ticks_per_ns(), overhead: 0.0 };
-        clock.overhead = clock.time(10_000, || (), |()| ());
-        clock
+fn question(clock: &Clock, memory: &Memory, (lhs, rhs): (u16, u16), repeats: usize, kind: Kind) -> Times {
+    let mut words = memory.sorts.clone();
+    let (rows, entries) = (memory.sort_count, memory.entry_count);
+    let load = || Lattice::load(black_box(memory));
+    Times {
+        port: clock.time(repeats, || (), |()| (kind.port)(&mut words, rows, entries, lhs, rhs)),
+        checks: clock.time(repeats, || (), |()| port::partial_cmp(&memory.sorts, rows, entries, lhs, lhs)),
+        merc: clock.time(repeats, load, |lattice| (kind.merc)(lattice, lhs, rhs)),
+        load: clock.time(repeats, || (), |()| load()),
     }
-
-    fn question(&self, memory: &Memory, (lhs, rhs): (u16, u16), repeats: usize, kind: Kind) -> Times {
-        let mut words = memory.sorts.clone();
-        let (rows, entries) = (memory.sort_count, memory.entry_count);
-        let load = || Lattice::load(black_box(memory));
-        Times {
-            port: self.time(repeats, || (), |()| (kind.port)(&mut words, rows, entries, lhs, rhs)),
-            checks: self.time(repeats, || (), |()| port::partial_cmp(&memory.sorts, rows, entries, lhs, lhs)),
-            merc: self.time(repeats, load, |lattice| (kind.merc)(lattice, lhs, rhs)),
-            load: self.time(repeats, || (), |()| load()),
-        }
-    }
-
-    /// The time of a call in nanoseconds, without those of making its state and of dropping its result.
-    fn time<S, T>(&self, repeats: usize, state: impl Fn() -> S, mut call: impl FnMut(&mut S) -> T) -> f64 {
-        let times = (0..repeats).map(|_| {
-            let mut state = state();
-            let start = ticks();
-            let result = black_box(call(&mut state));
-            let end = ticks();
-            drop(result);
-            (end - start) as f64 / self.ticks_per_ns
-        });
-        middle(times.collect()) - self.overhead
-    }
-}
-
-fn ticks() -> u64 {
-    // SAFETY: every x86-64 processor has these instructions.
-    unsafe {
-        _mm_lfence();
-        let ticks = _rdtsc();
-        _mm_lfence();
-        ticks
-    }
-}
-
-fn ticks_per_ns() -> f64 {
-    let (start, first) = (Instant::now(), ticks());
-    while start.elapsed() < Duration::from_millis(100) {}
-    (ticks() - first) as f64 / start.elapsed().as_nanos() as f64
 }

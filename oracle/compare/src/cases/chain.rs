@@ -1,12 +1,12 @@
 //! Two sorts that are built side by side, one step of nesting at a time, so that their distance is
 //! known while they grow.
 
+use common::draft::Draft;
+use common::draft::Way;
+use common::junk::Junk;
 use lists::memory::*;
 
 use crate::cases::Case;
-use crate::draft::Draft;
-use crate::draft::Way;
-use crate::junk::Junk;
 
 #[derive(Clone, Copy)]
 struct Chain {

@@ -1,5 +1,8 @@
 //! Lists with one or two faults, each planted so that its check, and none before it, fails.
 
+use common::draft::Draft;
+use common::draft::put_row;
+use common::junk::Junk;
 use lists::checks;
 use lists::memory::*;
 use lists::question::Question;
@@ -7,9 +10,6 @@ use oracle::rng::Rng;
 
 use crate::cases::Case;
 use crate::cases::add_sorts;
-use crate::draft::Draft;
-use crate::draft::put_row;
-use crate::junk::Junk;
 
 /// The checks of a question about two sorts.
 const CODES: [u16; 6] = [1, 2, 3, 4, 12, 14];

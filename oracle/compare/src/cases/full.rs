@@ -1,14 +1,14 @@
 //! Lists that are full, or nearly so.
 
+use common::draft::Draft;
+use common::junk;
+use common::junk::Junk;
 use lists::memory::*;
 use lists::question::Question;
 
 use crate::cases::Case;
 use crate::cases::add_sorts;
 use crate::cases::of_sorts;
-use crate::draft::Draft;
-use crate::junk;
-use crate::junk::Junk;
 
 /// 1,022 to 1,024 sorts; of these lists some have 4,080 to 4,096 entries.
 pub fn rows(mut draft: Draft, junk: &Junk) -> Case {

@@ -8,13 +8,12 @@ mod sample;
 mod timed;
 mod words;
 
+use common::draft::Draft;
+use common::junk::Junk;
 use lists::memory::Memory;
 use lists::question::Question;
 use lists::verdict::Shape;
 use oracle::rng::Rng;
-
-use crate::draft::Draft;
-use crate::junk::Junk;
 
 pub use oracle::generate::of_sorts;
 pub use sample::sample;

@@ -1,11 +1,11 @@
 //! Every pair of the small sorts.
 
+use common::draft::Draft;
+use common::junk::Junk;
 use lists::memory::kind;
 use lists::verdict::Shape;
 
 use crate::cases::Case;
-use crate::draft::Draft;
-use crate::junk::Junk;
 
 /// A basic sort has size 1, a container one more than its part, a function one more than its
 /// arguments, of which there is one at least, and its range together.

@@ -1,5 +1,7 @@
 //! The cases of the recorded sample, which a program that has no generator reads.
 
+use common::draft::Draft;
+use common::junk::Junk;
 use lists::memory::*;
 use lists::verdict::Shape;
 use oracle::rng::Rng;
@@ -7,10 +9,8 @@ use oracle::rng::Rng;
 use crate::cases::Case;
 use crate::cases::Cases;
 use crate::cases::Class;
-use crate::draft::Draft;
 use crate::expected::Expected;
 use crate::expected::expected;
-use crate::junk::Junk;
 
 /// No list of the sample has more sorts.
 const MOST_SORTS: usize = 60;

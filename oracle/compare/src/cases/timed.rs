@@ -1,12 +1,12 @@
 //! Lists of a given number of sorts, to take times on.
 
+use common::draft::Draft;
+use common::junk::Junk;
 use lists::memory::*;
 use oracle::rng::Rng;
 
 use crate::cases::LARGEST;
 use crate::cases::full::pad;
-use crate::draft::Draft;
-use crate::junk::Junk;
 
 /// A list of `sorts` sorts and pairs of it to ask about: mostly relatives; of the fixed six alone,
 /// any two that differ.

@@ -1,13 +1,13 @@
 //! Lists with a few words, counts or lengths changed at random. Some are still accepted.
 
+use common::draft::Draft;
+use common::junk;
+use common::junk::Junk;
 use lists::memory::*;
 use oracle::rng::Rng;
 
 use crate::cases::Case;
 use crate::cases::add_sorts;
-use crate::draft::Draft;
-use crate::junk;
-use crate::junk::Junk;
 
 pub fn changed(rng: &mut Rng, junk: &Junk) -> Case {
     let mut draft = Draft::new(rng);

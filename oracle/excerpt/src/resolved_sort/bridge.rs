@@ -60,7 +60,7 @@ fn word(index: usize) -> u16 {
     u16::try_from(index).expect("sort numbers fit a word")
 }
 
-fn shape(sort: &ResolvedSort) -> Shape {
+pub(crate) fn shape(sort: &ResolvedSort) -> Shape {
     let plain = |kind, part| Shape { kind, part, arguments: Vec::new() };
     match sort {
         ResolvedSort::Unit => plain(kind::UNIT, 0),

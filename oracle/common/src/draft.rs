@@ -59,6 +59,10 @@ impl<'a> Draft<'a> {
         self.sizes[usize::from(sort)]
     }
 
+    pub fn shape(&self, sort: u16) -> &Shape {
+        &self.shapes[usize::from(sort)]
+    }
+
     // Sorts by their parts: the number of an equal one, or one more row.
 
     pub fn plain(&mut self, kind: u16, part: u16) -> u16 {
@@ -74,7 +78,10 @@ impl<'a> Draft<'a> {
             return number;
         }
         let number = self.rows.len() as u16;
-        let start = if shape.kind == kind::FUNCTION { self.run(&shape.arguments) } else { 0 };
+        let start = match shape.kind {
+            kind::FUNCTION => run(self.rng, &mut self.entries, &shape.arguments),
+            _ => 0,
+        };
         self.rows.push(Row { kind: shape.kind, part: shape.part, start, count: shape.arguments.len() as u16 });
         self.sizes.push(self.size_of(&shape));
         self.numbers.insert(shape.clone(), number);
@@ -88,30 +95,6 @@ impl<'a> Draft<'a> {
             _ => 0,
         };
         1 + part + shape.arguments.iter().map(|&argument| self.size(argument)).sum::<usize>()
-    }
-
-    /// The start of a run with these entries: one that is there, or the end of the list, which has
-    /// some of them or none. Now and then a stray entry comes before it.
-    fn run(&mut self, arguments: &[u16]) -> u16 {
-        if arguments.is_empty() {
-            return self.rng.between(0, self.entries.len()) as u16;
-        }
-        let shared = self.entries.windows(arguments.len()).position(|run| run == arguments);
-        if let Some(start) = shared.filter(|_| self.rng.chance(60)) {
-            return start as u16;
-        }
-        if self.rng.chance(25) {
-            self.entries.push(u16::MAX);
-        }
-        let overlap = match self.rng.chance(60) {
-            true => {
-                (0..arguments.len()).rev().find(|&length| self.entries.ends_with(&arguments[..length])).unwrap_or(0)
-            }
-            false => 0,
-        };
-        let start = self.entries.len() - overlap;
-        self.entries.extend(&arguments[overlap..]);
-        start as u16
     }
 
     /// A sort of a table whose parts are sorts of that table, parts stored first.
@@ -178,7 +161,7 @@ impl<'a> Draft<'a> {
         if way == Way::Like && self.rng.chance(6) {
             return self.rng.between(kind::UNIT.into(), kind::REAL.into()) as u16;
         }
-        let shape = self.shapes[usize::from(sort)].clone();
+        let shape = self.shape(sort).clone();
         match shape.kind {
             kind::POS..=kind::REAL => self.number(shape.kind, way),
             kind::LIST..=kind::FBAG => {
@@ -270,6 +253,28 @@ impl<'a> Draft<'a> {
         words[ENTRIES_AT..][..self.entries.len()].copy_from_slice(&self.entries);
         Memory::of_sorts(words, self.rows.len(), self.entries.len())
     }
+}
+
+/// The start of a run with these arguments in a list of entries: one that is there, or the end of the
+/// list, which has some of them or none. Now and then a stray entry comes before it.
+pub fn run(rng: &mut Rng, entries: &mut Vec<u16>, arguments: &[u16]) -> u16 {
+    if arguments.is_empty() {
+        return rng.between(0, entries.len()) as u16;
+    }
+    let shared = entries.windows(arguments.len()).position(|run| run == arguments);
+    if let Some(start) = shared.filter(|_| rng.chance(60)) {
+        return start as u16;
+    }
+    if rng.chance(25) {
+        entries.push(u16::MAX);
+    }
+    let overlap = match rng.chance(60) {
+        true => (0..arguments.len()).rev().find(|&length| entries.ends_with(&arguments[..length])).unwrap_or(0),
+        false => 0,
+    };
+    let start = entries.len() - overlap;
+    entries.extend(&arguments[overlap..]);
+    start as u16
 }
 
 /// Writes the words of a row that its kind uses.

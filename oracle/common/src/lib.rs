@@ -1,0 +1,8 @@
+//! What the comparisons of the port with the excerpt share: lists of sorts under construction, junk
+//! in unused words, guard words, times of calls, options.
+
+pub mod clock;
+pub mod draft;
+pub mod guard;
+pub mod junk;
+pub mod options;
