@@ -1,0 +1,8 @@
+-- The solver, in the order of document 01.
+pub mod Constraints
+pub mod Measure
+pub mod Search
+pub mod Names
+pub mod SolveChecks
+pub mod SolveEntry
+pub mod Typing

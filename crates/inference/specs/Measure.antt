@@ -1,0 +1,29 @@
+-- The measure: "256 measure components (one per Sub, per Lit, per Join source)". Measures compare from the front; the first components that
+-- differ decide.
+use mathlib.Core.Bool.{Bool, true, false, cond}
+use mathlib.Core.List.{List, [], _∷_}
+use mathlib.Core.Option.{Option, none, some}
+use Prim.Native.Nat.{ℕ}
+use lib.Dec.{ltb}
+use lib.ListN.{length, take}
+
+abbrev pub Components : Type 0
+Components = List ℕ
+
+pub data Ranking : Type 0 where
+  smaller equal greater : Ranking
+
+unfoldable pub compare : Components → Components → Ranking
+compare [] [] = equal
+compare [] (y ∷ ys) = smaller
+compare (x ∷ xs) [] = greater
+compare (x ∷ xs) (y ∷ ys) = cond (ltb x y) smaller (cond (ltb y x) greater (compare xs ys))
+
+abbrev pub isGreater : Ranking → Bool
+isGreater smaller = false
+isGreater equal = false
+isGreater greater = true
+
+-- "a prefix greater than the incumbent's is dropped": compared with as many components of the incumbent
+unfoldable pub worse : Components → Components → Bool
+worse xs best = isGreater (compare xs (take (length xs) best))

@@ -1,0 +1,130 @@
+-- The solver's outcome for every call: the first failing check, or what the search comes to, with all lent memory as it is then.
+use mathlib.Core.Bool.{Bool, true, false}
+use mathlib.Core.List.{List, [], _∷_, _++_}
+use mathlib.Core.Option.{Option, none, some}
+use Prim.Native.Nat.{ℕ, zero, suc, _+_, _*_}
+use lib.ListN.{length, getD, drop, replicate}
+use Rattle.resolved_sort.specs.declared.Counts.{Counts}
+use Rattle.resolved_sort.specs.Storage.{zeros, givenBack}
+use Rattle.resolved_sort.specs.Checks.{firstFailing}
+use Rattle.resolved_sort.specs.Entries.{orElse}
+use Rattle.unification.specs.Nodes.{nodeEntriesAt, bindsOf}
+use Rattle.unification.specs.Making.{Lent}
+use Rattle.inference.specs.declared.Outputs.{Outputs}
+use Rattle.inference.specs.declared.Solved.{Solved}
+use Rattle.inference.specs.declared.Solved.the-variants.{Refused, NoRoom, NoTyping, Ambiguous, Typing}
+use Rattle.inference.specs.Constraints.{overloadAt, BaseName, baseNameAt, rowsFrom, Problem}
+use Rattle.inference.specs.Measure.{Components}
+use Rattle.inference.specs.Search.{Choice, Path, Candidate, World, Out, found, missed, ended, solve}
+use Rattle.inference.specs.Names.{nameOf, nameKind, nameSort}
+use Rattle.inference.specs.SolveChecks.{Call, given, solveChecks}
+
+-- the words of a list in use, one by one
+abbrev pub wordsAt : List ℕ → ℕ → List ℕ
+wordsAt xs n = rowsFrom (λ i. getD xs i 0) 0 n
+
+abbrev pub problemOf : Call → Problem
+problemOf I =
+    record {
+      constraints = given I;
+      overloads = rowsFrom (overloadAt (I .overloads)) 0 (I .rows .overloads);
+      sources = wordsAt (I .sources) (I .rows .sources);
+      exprs = wordsAt (I .exprs) (I .rows .exprs);
+      default = I .default;
+    }
+
+abbrev pub baseNamesOf : Call → List BaseName
+baseNamesOf I = rowsFrom (baseNameAt (I .names)) 0 (I .rows .names)
+
+-- where the search begins: the bindings given, no component, no choice, no incumbent
+abbrev pub start : Call → Path
+start I = record { binds = bindsOf (I .binds) (I .lengths .variables); measure = []; choices = [] }
+
+abbrev pub lentOf : Call → Lent
+lentOf I = record { sorts = I .sorts; nodes = I .nodes; lengths = I .lengths }
+
+-- with Met and meet for what is kept of the leaves
+abbrev pub searched : (Met : Type 0) → (Components → Met → Met) → Met → Call → Out Met
+searched Met meet m I = solve Met meet (problemOf I) (given I) (start I) (record { lent = lentOf I; best = none; met = m })
+
+-- What a call leaves: its answer, all lent memory but the rows of choices, and the choices that are handed out, in some order.
+pub record Left : Type 0 where
+  pub answer : Solved
+  pub sorts : List ℕ
+  pub nodes : List ℕ
+  pub binds : List ℕ
+  pub scratch : List ℕ
+  pub typing : List ℕ
+  pub measure : List ℕ
+  pub choices : List Choice
+
+-- "Scratch is zero after 15 to 18 and 0", "node rows past the entry length zero", "bindings as at entry"
+unfoldable pub nodesGivenBack : ℕ → ℕ → List ℕ → List ℕ
+nodesGivenBack m d ns = zeros (nodeEntriesAt + d) (length ns) (zeros (4 * m) nodeEntriesAt ns)
+
+abbrev pub cleared : List ℕ → List ℕ
+cleared xs = replicate (length xs) 0
+
+abbrev pub leftWith : Call → Solved → List ℕ → List ℕ → List ℕ → List Choice → Left
+leftWith I r ws ts ms cs =
+    record {
+      answer = r;
+      sorts = ws;
+      nodes = nodesGivenBack (I .lengths .nodes) (I .lengths .arguments) (I .nodes);
+      binds = I .binds;
+      scratch = cleared (I .scratch);
+      typing = ts;
+      measure = ms;
+      choices = cs;
+    }
+
+-- "1 to 14 .. change no lent memory"
+abbrev pub refused : Call → ℕ → Left
+refused I c = record { answer = Refused c; sorts = I .sorts; nodes = I .nodes; binds = I .binds; scratch = I .scratch; typing = I .typing; measure = I .measure; choices = [] }
+
+-- the rows of expressions: sort, kind of name, sort of name
+unfoldable pub typingRows : Call → List Choice → ℕ → List ℕ → List ℕ
+typingRows I cs x [] = []
+typingRows I cs x (s ∷ ss) =
+    s ∷ nameKind (nameOf (problemOf I) (baseNamesOf I) cs x) ∷ nameSort (nameOf (problemOf I) (baseNamesOf I) cs x) ∷ typingRows I cs (x + 1) ss
+
+-- "0 leaves output rows past its counts untouched"
+abbrev pub over : List ℕ → List ℕ → List ℕ
+over xs old = xs ++ drop (length xs) old
+
+abbrev pub countsIn : Lent → Counts
+countsIn W = record { sorts = W .lengths .sorts; entries = W .lengths .entries }
+
+abbrev pub typed : Call → Lent → Candidate → Left
+typed I W c =
+    leftWith I (Typing (record { counts = countsIn W; components = length (c .measure); choices = length (c .choices) })) (W .sorts)
+    (over (typingRows I (c .choices) 0 (c .sorts)) (I .typing)) (over (c .measure) (I .measure)) (c .choices)
+
+abbrev pub judgedBy : Call → Lent → Candidate → Bool → Left
+judgedBy I W c true = leftWith I (Ambiguous (countsIn W)) (W .sorts) (I .typing) (I .measure) []
+judgedBy I W c false = typed I W c
+
+-- "0, 17 and 18 keep new sorts in order of first making .. 17 and 18 leave outputs untouched"
+abbrev pub judged : Call → Lent → Option Candidate → Left
+judged I W none = leftWith I (NoTyping (countsIn W)) (W .sorts) (I .typing) (I .measure) []
+judged I W (some c) = judgedBy I W c (c .duplicate)
+
+-- "15 and 16 give back sorts and nodes: rows past the entry lengths are zero, bindings as at entry, outputs untouched."
+abbrev pub verdict : {Met : Type 0} → Call → Out Met → Left
+verdict I (found w) = judged I (w .lent) (w .best)
+verdict I (missed w) = judged I (w .lent) (w .best)
+verdict I (ended c w) = leftWith I (NoRoom c) (givenBack (I .lengths .sorts) (I .lengths .entries) (I .sorts)) (I .typing) (I .measure) []
+
+abbrev pub nothingMet : Components → Unit {0} → Unit {0}
+nothingMet m u = tt
+
+unfoldable pub solveEntry : Call → Left
+solveEntry I = orElse (firstFailing (solveChecks I)) (refused I) (verdict I (searched (Unit {0}) nothingMet tt I))
+
+-- document 01's number of each answer
+unfoldable pub codeSolved : Solved → ℕ
+codeSolved (Refused c) = c
+codeSolved (NoRoom c) = c
+codeSolved (NoTyping k) = 17
+codeSolved (Ambiguous k) = 18
+codeSolved (Typing o) = 0
