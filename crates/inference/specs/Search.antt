@@ -22,7 +22,7 @@ use Rattle.unification.specs.Nodes.{Binds}
 use Rattle.unification.specs.Unify.{Unifies, yes-with, no-way, too-deep, deep, follow, unify}
 use Rattle.unification.specs.Related.{each}
 use Rattle.unification.specs.Resolve.{value, termResolved, withCounts}
-use Rattle.unification.specs.Making.{Lent, graph, Makes, made, no-list, no-room, _and-then_, internContainer, strictRelated}
+use Rattle.unification.specs.Making.{Lent, graph, Makes, made, no-list, no-room, _and-then_, withNodesOf, internContainer, strictRelated}
 use Rattle.inference.specs.declared.LitKind.{LitKind}
 use Rattle.inference.specs.declared.LitKind.the-variants.{Positive, Natural}
 use Rattle.inference.specs.declared.Overload.{Overload}
@@ -160,22 +160,6 @@ pub record World (Met : Type 0) : Type 0 where
 pub data Out (Met : Type 0) : Type 0 where
   found missed : World Met → Out Met
   ended : ℕ → World Met → Out Met
-
--- "Nodes made for a widening are given back when its tries are over, and that room is used again."
-abbrev pub withNodesOf : Lent → Lent → Lent
-withNodesOf U W =
-    record {
-      sorts = W .sorts;
-      nodes = W .nodes;
-      lengths =
-          record {
-            sorts = W .lengths .sorts;
-            entries = W .lengths .entries;
-            nodes = U .lengths .nodes;
-            arguments = U .lengths .arguments;
-            variables = W .lengths .variables;
-          };
-    }
 
 module _ {Met : Type 0} where
   abbrev pub lending : World Met → Lent → World Met

@@ -16,10 +16,10 @@ use Rattle.resolved_sort.proofs.RowTrees.{AllBelow, lookAll-agrees}
 use Rattle.resolved_sort.proofs.Append.{Agrees, append-agrees, length-appendRow, length-new, length-args, entries-agree}
 use Rattle.resolved_sort.proofs.Grown.{Grown, needs}
 
-agrees-refl : (ws : List ℕ) (n e : ℕ) → Agrees ws ws n e
+pub agrees-refl : (ws : List ℕ) (n e : ℕ) → Agrees ws ws n e
 agrees-refl ws n e = record { words = λ i h. refl; kinds = λ i h. refl; parts = λ i h. refl; starts = λ i h. refl; counts = λ i h. refl; entries = λ j h. refl }
 
-agrees-trans : (ws us vs : List ℕ) (n m e d : ℕ) → n ≤ m → e ≤ d → Agrees ws us n e → Agrees us vs m d → Agrees ws vs n e
+pub agrees-trans : (ws us vs : List ℕ) (n m e d : ℕ) → n ≤ m → e ≤ d → Agrees ws us n e → Agrees us vs m d → Agrees ws vs n e
 agrees-trans ws us vs n m e d h l a b =
     record {
       words = λ i q. b .words i (omega arith) ∙ a .words i q;

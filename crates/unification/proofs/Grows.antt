@@ -8,12 +8,14 @@ use mathlib.Core.Logic.{_↔_}
 use Prim.Native.Nat.{ℕ, zero, suc, _+_, _-_, _*_, _<_, _≤_}
 use native.Mathlib.Omega.{arith}
 use native.Mathlib.Nat.{add-zero}
-use lib.ListN.{getD}
+use lib.ListN.{length, getD}
 use lib.Dec.{leb, ltb}
 use borrow.Author.Tests.{ltb-true, leb-true, lt-ltb, le-leb}
 use Rattle.resolved_sort.specs.Interning.{look}
 use Rattle.resolved_sort.specs.Storage.{maxSorts, rowAt, trees}
 use Rattle.resolved_sort.specs.Checks.{fixedSix}
+use Rattle.resolved_sort.proofs.Append.{Agrees}
+use Rattle.resolved_sort.proofs.Unchanged.{agrees-refl, agrees-trans}
 use Rattle.resolved_sort.proofs.Below.{below-each, each-below}
 use Rattle.resolved_sort.proofs.Numbers.{true-not-false}
 use Rattle.unification.specs.declared.InferSort.{InferSort}
@@ -26,7 +28,7 @@ use Rattle.unification.specs.NodeChecks.{nodePartsFine, nodeKindFine, no
 use Rattle.unification.specs.Checked.{NodesChecked, listsOf, BindsChecked, Ready, Placed}
 use Rattle.unification.specs.Solutions.{termAt, Respects}
 use Rattle.unification.specs.Resolve.{value}
-use Rattle.unification.specs.Making.{Lent, graph}
+use Rattle.unification.specs.Making.{Lent, graph, withNodesOf}
 use Rattle.unification.proofs.Rank.{rank}
 use Rattle.unification.proofs.Lists.{sort-parts, sort-parts-fine, node-parts, node-parts-fine, sort-is-place, Place, is-sort, is-node, is-stray, place}
 use Rattle.unification.proofs.Cycle.{bound-is-place}
@@ -42,12 +44,22 @@ ReadyLent W bs = Ready (W .sorts) (W .nodes) bs (W .lengths)
 abbrev pub PlacedIn : Lent → ℕ → Type 0
 PlacedIn W = Placed (W .lengths)
 
+-- node storage that reads the same below m rows and d entries
+pub record NodesAgree (ns ns′ : List ℕ) (m d : ℕ) : Type 0 where
+  pub rows : (j : ℕ) → j < 4 * m → getD ns′ j 0 ≡ getD ns j 0
+  pub entries : (j : ℕ) → j < d → nodeEntryAt ns′ j ≡ nodeEntryAt ns j
+
 -- W has grown to W′: lists that pass their checks again, with all that W has under its old numbers
 pub record Grows (W W′ : Lent) : Type 0 where
   pub checked : CheckedLent W′
   pub sorts : W .lengths .sorts ≤ W′ .lengths .sorts
+  pub entries : W .lengths .entries ≤ W′ .lengths .entries
   pub nodes : W .lengths .nodes ≤ W′ .lengths .nodes
+  pub arguments : W .lengths .arguments ≤ W′ .lengths .arguments
   pub variables : W′ .lengths .variables ≡ W .lengths .variables
+  pub sort-words : Agrees (W .sorts) (W′ .sorts) (W .lengths .sorts) (W .lengths .entries)
+  pub node-words : NodesAgree (W .nodes) (W′ .nodes) (W .lengths .nodes) (W .lengths .arguments)
+  pub as-long : (length (W′ .sorts) ≡ length (W .sorts)) × (length (W′ .nodes) ≡ length (W .nodes))
   pub same : (p : ℕ) → PlacedIn W p → graph W′ p ≡ graph W p
   pub looks : (i : ℕ) → i < W .lengths .sorts → look (trees (W′ .sorts) (W′ .lengths .sorts)) i ≡ look (trees (W .sorts) (W .lengths .sorts)) i
   pub fixed : fixedSix (W .sorts) (W .lengths .sorts) ≡ true → fixedSix (W′ .sorts) (W′ .lengths .sorts) ≡ true
@@ -93,11 +105,6 @@ rows-same W W′ l k a b p e = rw (e, place-longer (W .lengths .sorts) (W′ .le
         ≡ cond s (sortShape (W .sorts) (rowAt (W .sorts) p)) (nodeShape (W .nodes) (nodeAt (W .nodes) (p - maxSorts)))
     go true s e = a p (sort-below (W .lengths .sorts) (W .lengths .nodes) p s e)
     go false s e = b (p - maxSorts) (node-below (W .lengths .sorts) (W .lengths .nodes) p s e)
-
--- node storage that reads the same below m rows and d entries
-pub record NodesAgree (ns ns′ : List ℕ) (m d : ℕ) : Type 0 where
-  pub rows : (j : ℕ) → j < 4 * m → getD ns′ j 0 ≡ getD ns j 0
-  pub entries : (j : ℕ) → j < d → nodeEntryAt ns′ j ≡ nodeEntryAt ns j
 
 node-entries-agree : (ns ns′ : List ℕ) (s c : ℕ) → ((j : ℕ) → j < c → nodeEntryAt ns′ (s + j) ≡ nodeEntryAt ns (s + j)) → nodeEntriesOf ns′ s c ≡ nodeEntriesOf ns s c
 unfolding nodeEntriesOf
@@ -192,7 +199,21 @@ module _ (W : Lent) (c : CheckedLent W) where
       go (is-stray z f) = absurd (true-not-false (isPlace n m p) x z)
 
   pub grows-refl : Grows W W
-  grows-refl = record { checked = c; sorts = omega arith; nodes = omega arith; variables = refl; same = λ p x. refl; looks = λ i l. refl; fixed = λ f. f }
+  grows-refl =
+      record {
+        checked = c;
+        sorts = omega arith;
+        entries = omega arith;
+        nodes = omega arith;
+        arguments = omega arith;
+        variables = refl;
+        sort-words = agrees-refl (W .sorts) n (W .lengths .entries);
+        node-words = record { rows = λ j l. refl; entries = λ j l. refl };
+        as-long = (refl, refl);
+        same = λ p x. refl;
+        looks = λ i l. refl;
+        fixed = λ f. f;
+      }
 
   module _ (W′ : Lent) (g : Grows W W′) where
     pub placed-grown : (p : ℕ) → PlacedIn W p → PlacedIn W′ p
@@ -240,8 +261,17 @@ module _ (W : Lent) (c : CheckedLent W) where
       record {
         checked = h .checked;
         sorts = omega (arith, g .sorts, h .sorts);
+        entries = omega (arith, g .entries, h .entries);
         nodes = omega (arith, g .nodes, h .nodes);
+        arguments = omega (arith, g .arguments, h .arguments);
         variables = h .variables ∙ g .variables;
+        sort-words = agrees-trans (W .sorts) (W′ .sorts) (W″ .sorts) n (W′ .lengths .sorts) (W .lengths .entries) (W′ .lengths .entries) (g .sorts) (g .entries) (g .sort-words) (h .sort-words);
+        node-words =
+            record {
+              rows = λ j l. h .node-words .rows j (omega (arith, l, g .nodes)) ∙ g .node-words .rows j l;
+              entries = λ j l. h .node-words .entries j (omega (arith, l, g .arguments)) ∙ g .node-words .entries j l;
+            };
+        as-long = (h .as-long .0 ∙ g .as-long .0, h .as-long .1 ∙ g .as-long .1);
         same = λ p x. h .same p (placed-grown W′ g p x) ∙ g .same p x;
         looks = λ i l. h .looks i (omega (arith, l, g .sorts)) ∙ g .looks i l;
         fixed = λ f. h .fixed (g .fixed f);
@@ -256,4 +286,35 @@ ready-grown W W′ bs r g =
           subst (λ v. BindsChecked (listsOf (W′ .sorts) (W′ .lengths .sorts) (W′ .nodes) (W′ .lengths .nodes)) v (bindsOf bs v)) (sym (g .variables))
           (binds-grown W (r .nodes) W′ g (bindsOf bs (W .lengths .variables)) (ready-names W bs r) (r .binds));
       long = omega (arith, r .long, g .variables);
+    }
+
+-- Nodes given back: what has grown has grown, with as many nodes as there were.
+pub given-back-grows : (W W′ : Lent) → CheckedLent W → Grows W W′ → Grows W (withNodesOf W W′)
+unfolding nodesFine shapeAt
+given-back-grows W W′ c g =
+    record {
+      checked =
+          record {
+            sorts = g .checked .sorts;
+            long = g .checked .long;
+            nodes = c .nodes;
+            entries = c .entries;
+            variables = g .checked .variables;
+            fine =
+                subst (λ v. nodesFine (W′ .nodes) (W .lengths .nodes) (W .lengths .arguments) (W′ .lengths .sorts) v ≡ true) (sym (g .variables))
+                (each-below (W .lengths .nodes) (nodeFine (W′ .nodes) (W .lengths .arguments) (W′ .lengths .sorts) (W .lengths .variables))
+                (node-fine-longer (W .nodes) (W′ .nodes) (W .lengths .nodes) (W .lengths .arguments) (g .node-words) (W .lengths .sorts) (W .lengths .variables) (c .fine) (W .lengths .arguments) (W′ .lengths .sorts) (omega arith) (g .sorts)));
+          };
+      sorts = g .sorts;
+      entries = g .entries;
+      nodes = omega arith;
+      arguments = omega arith;
+      variables = g .variables;
+      sort-words = g .sort-words;
+      node-words = g .node-words;
+      as-long = g .as-long;
+      same =
+          λ p x. (rw (place-longer (W .lengths .sorts) (W′ .lengths .sorts) (W .lengths .nodes) (W′ .lengths .nodes) p (g .sorts) (g .nodes) x, place-longer (W .lengths .sorts) (W′ .lengths .sorts) (W .lengths .nodes) (W .lengths .nodes) p (g .sorts) (omega arith) x) refl) ∙ g .same p x;
+      looks = g .looks;
+      fixed = g .fixed;
     }

@@ -16,6 +16,7 @@ use Rattle.resolved_sort.specs.declared.ComplexSort.{ComplexSort}
 use Rattle.resolved_sort.specs.declared.Run.{Run}
 use Rattle.resolved_sort.specs.Storage.{maxSorts, functionKind, Row, kindOp, putRow}
 use Rattle.resolved_sort.proofs.Below.{each-below}
+use Rattle.resolved_sort.proofs.Unchanged.{agrees-refl}
 use Rattle.resolved_sort.proofs.Append.{getD-sets-before, getD-sets-at, length-putRow, putRow-other, putRow-kind, putRow-part, putRow-start, putRow-count}
 use Rattle.unification.specs.declared.Lengths.{Lengths}
 use Rattle.unification.specs.declared.InferSort.{InferSort}
@@ -176,8 +177,13 @@ module _ (W : Lent) (c : CheckedLent W) (r : Row) (s : Shape) (f : FineRow (W .l
               fine = each-below (m + 1) (nodeFine (newNodes ns m d r) (d + length (r .args)) (k .sorts) (k .variables)) (λ i l. fine-at i l (ℕ-discrete i m));
             };
         sorts = omega arith;
+        entries = omega arith;
         nodes = omega arith;
+        arguments = omega arith;
         variables = refl;
+        sort-words = agrees-refl (W .sorts) (k .sorts) (k .entries);
+        node-words = old-same ns m d r (c .long) room space;
+        as-long = (refl, length-new ns m d r (c .long) room space);
         same = rows-same W (appendNode W r) (omega arith) (omega arith) (λ i l. refl)
             (node-shape-same ns (newNodes ns m d r) m d (old-same ns m d r (c .long) room space) (k .sorts) (k .variables) (c .fine));
         looks = λ i l. refl;

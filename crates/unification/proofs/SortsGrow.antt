@@ -17,7 +17,7 @@ use Rattle.resolved_sort.specs.Checks.{allBelow, fixedSix, partsBelow}
 use Rattle.resolved_sort.proofs.Below.{below-each, each-below}
 use Rattle.resolved_sort.proofs.Append.{Agrees, entries-agree}
 use Rattle.resolved_sort.proofs.Grown.{Grown}
-use Rattle.resolved_sort.proofs.Unchanged.{longer, unchanged, look-unchanged}
+use Rattle.resolved_sort.proofs.Unchanged.{longer, entries-longer, unchanged, length-after, look-unchanged}
 use Rattle.unification.specs.Term.{functionHead, over}
 use Rattle.unification.specs.Nodes.{sortShape}
 use Rattle.unification.specs.NodeChecks.{nodeFine, nodesFine}
@@ -102,8 +102,13 @@ module _ (W : Lent) (c : CheckedLent W) (S : Sorts) (g : Grown (W .sorts) (W .le
                   (W .lengths .arguments) (length (S .trees)) (omega arith) more);
             };
         sorts = more;
+        entries = entries-longer (W .sorts) n (W .lengths .entries) (c .sorts) S g;
         nodes = omega arith;
+        arguments = omega arith;
         variables = refl;
+        sort-words = old;
+        node-words = record { rows = λ j l. refl; entries = λ j l. refl };
+        as-long = (length-after (W .sorts) n (W .lengths .entries) (c .sorts) S g, refl);
         same =
             rows-same W (withMoreSorts W S) more (omega arith)
             (λ i l. ap (sortShape (after (W .sorts) n (W .lengths .entries) S)) (row-same (W .sorts) _ n (W .lengths .entries) old i l)

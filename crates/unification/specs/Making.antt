@@ -31,6 +31,22 @@ pub record Lent : Type 0 where
 abbrev pub graph : Lent → ℕ → Shape
 graph W = graphOf (W .sorts) (W .nodes) (W .lengths)
 
+-- "Nodes made for a widening are given back when its tries are over, and that room is used again."
+abbrev pub withNodesOf : Lent → Lent → Lent
+withNodesOf U W =
+    record {
+      sorts = W .sorts;
+      nodes = W .nodes;
+      lengths =
+          record {
+            sorts = W .lengths .sorts;
+            entries = W .lengths .entries;
+            nodes = U .lengths .nodes;
+            arguments = U .lengths .arguments;
+            variables = W .lengths .variables;
+          };
+    }
+
 -- What making comes to: an answer, no list, or no room with its code, each with the lists as they then are.
 pub data Makes (A : Type 0) : Type 0 where
   made : A → Lent → Makes A
