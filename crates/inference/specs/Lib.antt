@@ -6,3 +6,4 @@ pub mod Names
 pub mod SolveChecks
 pub mod SolveEntry
 pub mod Typing
+pub mod Components

@@ -17,12 +17,7 @@ use Rattle.resolved_sort.specs.Order.{leFlat, leOp, Steps, apart, materializabl
 use Rattle.resolved_sort.specs.Exact.{total, exact, exacts}
 use Rattle.resolved_sort.proofs.Heads.{leHead, Reaches, head-exactly, head-refl, head-flips, flat-injective, op-injective}
 use Rattle.resolved_sort.proofs.Materializable.{Materializes, number, operator, range, materializable-exactly}
-use Rattle.unification.specs.Related.{relatedNumbers, relatedContainer, each, related}
-
--- u is the i-th of a list, from 0
-pub data Member {A : Type 0} : A → ℕ → List A → Type 0 where
-  first : {u : A} {xs : List A} → Member u zero (u ∷ xs)
-  later : {u x : A} {i : ℕ} {xs : List A} → Member u i xs → Member u (suc i) (x ∷ xs)
+use Rattle.unification.specs.Related.{relatedNumbers, relatedContainer, each, related, Member, first, later}
 
 -- u is materializable from t (up true), or t from u
 abbrev pub reaches : Bool → Tree → Tree → Bool

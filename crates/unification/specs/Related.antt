@@ -3,6 +3,7 @@
 use mathlib.Core.Bool.{Bool, true, false}
 use mathlib.Core.List.{List, [], _∷_}
 use mathlib.Core.Option.{Option, none, some}
+use Prim.Native.Nat.{ℕ, zero, suc}
 use Rattle.resolved_sort.specs.declared.Sort.{Sort}
 use Rattle.resolved_sort.specs.declared.ComplexSort.{ComplexSort}
 use Rattle.resolved_sort.specs.Tree.{Flat, unit, primitive, def, typevar, Tree, flat, container, function, Trees}
@@ -47,3 +48,8 @@ unfoldable pub related : Bool → Tree → List Tree
 related up (flat a) = relatedFlat up a
 related up (container o s) = overPart (relatedContainer up o) s
 related up (function ts r) = each (function ts) (related up r)
+
+-- u is the i-th of a list, from 0
+pub data Member {A : Type 0} : A → ℕ → List A → Type 0 where
+  first : {u : A} {xs : List A} → Member u zero (u ∷ xs)
+  later : {u x : A} {i : ℕ} {xs : List A} → Member u i xs → Member u (suc i) (x ∷ xs)

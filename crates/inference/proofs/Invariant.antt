@@ -1,0 +1,194 @@
+-- What holds all through a search, and what each way of going on keeps. On a branch: the lists have grown from those given; the bindings pass their
+-- checks; whatever respects them respects the given ones; and every assignment that respects them meets the constraints passed so far, with the
+-- components of the measure. Of the incumbent: one assignment for its whole typing. A way of going on that leaves the lists grown, with as many
+-- nodes as before, and the incumbent so, keeps this. Assumes nothing.
+use mathlib.Core.Path.{_≡_, refl, sym, subst, _∙_, ap}
+use mathlib.Core.Bool.{Bool, true, false}
+use mathlib.Core.List.{List, [], _∷_, _++_}
+use mathlib.Core.Option.{Option, none, some}
+use Prim.Native.Nat.{ℕ, zero, suc, _<_, _≤_}
+use native.Mathlib.Omega.{arith}
+use Rattle.resolved_sort.specs.Tree.{Tree}
+use Rattle.resolved_sort.specs.Rows.{AllBelow}
+use Rattle.unification.specs.Term.{Term, termOf}
+use Rattle.unification.specs.Nodes.{Binds}
+use Rattle.unification.specs.Unify.{Unifies, yes-with, no-way, too-deep, unify}
+use Rattle.unification.specs.Checked.{listsOf, BindsChecked}
+use Rattle.unification.specs.Solutions.{Respects, Equates}
+use Rattle.unification.specs.Making.{Lent, graph, Makes, made, no-list, no-room, withNodesOf}
+use Rattle.unification.proofs.Grows.{CheckedLent, PlacedIn, Grows, grows-refl, grows-trans, given-back-grows, respects-grown, binds-grown}
+use Rattle.unification.proofs.MakingGrows.{MadeFrom}
+use Rattle.unification.proofs.Answers.{BindsIn, binds-name, Agreeing, yes-agrees}
+use Rattle.inference.specs.declared.Constraint.{Constraint}
+use Rattle.inference.specs.Constraints.{Problem}
+use Rattle.inference.specs.Measure.{Components}
+use Rattle.inference.specs.Search.{Choice, Path, Candidate, World, Out, found, missed, ended, lending, orElse, andAlso, says, onYes, unifying, onMade, givenBack, sortIn, Next}
+use Rattle.inference.specs.Typing.{Assignment, Typed, all-typed, and-typed}
+use Rattle.inference.specs.Components.{Costing}
+
+-- what is claimed of the choices on a branch, an assignment and the measure
+abbrev pub Claim : Type 1
+Claim = List Choice → Assignment → Components → Type 0
+
+-- an assignment as terms
+abbrev pub terms : Assignment → ℕ → Term
+terms ρ v = termOf (ρ v)
+
+abbrev BindsCheckedAt : Lent → ℕ → Binds → Type 0
+BindsCheckedAt W v B = BindsChecked (listsOf (W .sorts) (W .lengths .sorts) (W .nodes) (W .lengths .nodes)) v B
+
+pub all-below-more : (n m : ℕ) → n ≤ m → (xs : List ℕ) → AllBelow n xs → AllBelow m xs
+unfolding AllBelow
+all-below-more n m l [] a = tt
+all-below-more n m l (x ∷ xs) a = (omega (arith, l, a .0), all-below-more n m l xs (a .1))
+
+module _ (W₀ : Lent) (B₀ : Binds) (P : Problem) where
+  -- the constraints with their components, of the places and sorts given
+  abbrev pub Cost : List Choice → Assignment → List Constraint → Components → Type 0
+  Cost choices ρ cs ns = Costing (graph W₀) (sortIn W₀) P choices ρ cs ns
+
+  -- on a branch, where what is claimed of choices, assignment and measure holds of every assignment that respects the bindings
+  pub record Sound (W : Lent) (e : Path) (Q : Claim) : Type 0 where
+    pub grown : Grows W₀ W
+    pub binds : BindsIn W (e .binds)
+    pub refines : (σ : ℕ → Term) → Respects (graph W) (e .binds) σ → Respects (graph W₀) B₀ σ
+    pub costs : (ρ : Assignment) → Respects (graph W) (e .binds) (terms ρ) → Q (e .choices) ρ (e .measure)
+
+  -- an incumbent that holds together
+  pub record Fine (W : Lent) (c : Candidate) : Type 0 where
+    pub numbers : AllBelow (W .lengths .sorts) (c .sorts)
+    pub assignment : Assignment
+    pub respects : Respects (graph W₀) B₀ (terms assignment)
+    pub typed : Typed (graph W₀) (sortIn W) assignment (P .exprs) (c .sorts)
+    pub costs : Cost (c .choices) assignment (P .constraints) (c .measure)
+
+  unfoldable pub FineBest : Lent → Option Candidate → Type 0
+  FineBest W none = Unit {0}
+  FineBest W (some c) = Fine W c
+
+  module _ (Met : Type 0) where
+    -- what a branch leaves: lists grown, as many nodes as before, a fine incumbent
+    pub record Went (W : Lent) (w : World Met) : Type 0 where
+      pub grows : Grows W (w .lent)
+      pub nodes : w .lent .lengths .nodes ≡ W .lengths .nodes
+      pub arguments : w .lent .lengths .arguments ≡ W .lengths .arguments
+      pub best : FineBest (w .lent) (w .best)
+
+    unfoldable pub Leaves : Lent → Out Met → Type 0
+    Leaves W (found w) = Went W w
+    Leaves W (missed w) = Went W w
+    Leaves W (ended c w) = Unit {0}
+
+    -- a way of going on where Q is claimed
+    abbrev pub Goes : Claim → (Path → World Met → Out Met) → Type 0
+    Goes Q k = (e : Path) (w : World Met) → Sound (w .lent) e Q → FineBest (w .lent) (w .best) → Leaves (w .lent) (k e w)
+
+    -- a branch that leaves the lists so, seen from before
+    pub went-from : (W : Lent) → CheckedLent W → (W′ : Lent) → Grows W W′ → W′ .lengths .nodes ≡ W .lengths .nodes → W′ .lengths .arguments ≡ W .lengths .arguments
+        → (w : World Met) → Went W′ w → Went W w
+    went-from W c W′ g n a w x = record { grows = grows-trans W c W′ (w .lent) g (x .grows); nodes = x .nodes ∙ n; arguments = x .arguments ∙ a; best = x .best }
+
+    pub leaves-from : (W : Lent) → CheckedLent W → (W′ : Lent) → Grows W W′ → W′ .lengths .nodes ≡ W .lengths .nodes → W′ .lengths .arguments ≡ W .lengths .arguments
+        → (o : Out Met) → Leaves W′ o → Leaves W o
+    unfolding Leaves
+    leaves-from W c W′ g n a (found w) x = went-from W c W′ g n a w x
+    leaves-from W c W′ g n a (missed w) x = went-from W c W′ g n a w x
+    leaves-from W c W′ g n a (ended b w) x = tt
+
+    -- "where nothing was found, what else"
+    pub or-else-leaves : (W : Lent) → CheckedLent W → (o : Out Met) (f : World Met → Out Met) → Leaves W o → ((w : World Met) → Went W w → Leaves (w .lent) (f w)) → Leaves W (orElse o f)
+    unfolding Leaves
+    or-else-leaves W c (found w) f x y = x
+    or-else-leaves W c (missed w) f x y = leaves-from W c (w .lent) (x .grows) (x .nodes) (x .arguments) (f w) (y w x)
+    or-else-leaves W c (ended b w) f x y = tt
+
+    pub and-also-leaves : (W : Lent) → CheckedLent W → (o : Out Met) (b : Bool) (f : Bool → World Met → Out Met) → Leaves W o
+        → ((b : Bool) (w : World Met) → Went W w → Leaves (w .lent) (f b w)) → Leaves W (andAlso o b f)
+    unfolding Leaves
+    and-also-leaves W c (found w) b f x y = leaves-from W c (w .lent) (x .grows) (x .nodes) (x .arguments) (f true w) (y true w x)
+    and-also-leaves W c (missed w) b f x y = leaves-from W c (w .lent) (x .grows) (x .nodes) (x .arguments) (f b w) (y b w x)
+    and-also-leaves W c (ended d w) b f x y = tt
+
+    pub stays : (w : World Met) → CheckedLent (w .lent) → FineBest (w .lent) (w .best) → Went (w .lent) w
+    stays w c f = record { grows = grows-refl (w .lent) c; nodes = refl; arguments = refl; best = f }
+
+    pub says-leaves : (b : Bool) (w : World Met) → CheckedLent (w .lent) → FineBest (w .lent) (w .best) → Leaves (w .lent) (says b w)
+    unfolding Leaves
+    says-leaves true w c f = stays w c f
+    says-leaves false w c f = stays w c f
+
+    pub missed-leaves : (w : World Met) → CheckedLent (w .lent) → FineBest (w .lent) (w .best) → Leaves (w .lent) (missed w)
+    unfolding Leaves
+    missed-leaves w c f = stays w c f
+
+    -- an incumbent does not look at nodes
+    pub fine-with-nodes : (W W′ : Lent) (b : Option Candidate) → FineBest W′ b → FineBest (withNodesOf W W′) b
+    unfolding FineBest
+    fine-with-nodes W W′ none f = tt
+    fine-with-nodes W W′ (some c) f = record { numbers = f .numbers; assignment = f .assignment; respects = f .respects; typed = f .typed; costs = f .costs }
+
+    back : (W : Lent) → CheckedLent W → (W′ : Lent) → Grows W W′ → (w : World Met) → Went W′ w → Went W (lending w (withNodesOf W (w .lent)))
+    back W c W′ g w x =
+        record { grows = given-back-grows W (w .lent) c (grows-trans W c W′ (w .lent) g (x .grows)); nodes = refl; arguments = refl; best = fine-with-nodes W (w .lent) (w .best) (x .best) }
+
+    -- "Nodes made for a widening are given back"
+    pub given-back-leaves : (W : Lent) → CheckedLent W → (W′ : Lent) → Grows W W′ → (o : Out Met) → Leaves W′ o → Leaves W (givenBack W o)
+    unfolding Leaves
+    given-back-leaves W c W′ g (found w) x = back W c W′ g w x
+    given-back-leaves W c W′ g (missed w) x = back W c W′ g w x
+    given-back-leaves W c W′ g (ended b w) x = tt
+
+  -- A branch goes on soundly on lists that have grown.
+  pub sound-grown : (W W′ : Lent) (e : Path) (Q : Claim) → CheckedLent W₀ → Sound W e Q → Grows W W′ → Sound W′ e Q
+  sound-grown W W′ e Q c₀ s g =
+      let c = s .grown .checked in
+      let b = binds-name W (e .binds) (s .binds) in
+      let back : (σ : ℕ → Term) → Respects (graph W′) (e .binds) σ → Respects (graph W) (e .binds) σ = λ σ r. respects-grown W c W′ g (e .binds) b σ .1 r in
+      record {
+        grown = grows-trans W₀ c₀ W W′ (s .grown) g;
+        binds = subst (λ v. BindsCheckedAt W′ v (e .binds)) (sym (g .variables)) (binds-grown W c W′ g (e .binds) b (s .binds));
+        refines = λ σ r. s .refines σ (back σ r);
+        costs = λ ρ r. s .costs ρ (back (terms ρ) r);
+      }
+
+  pub typed-grown : (W W′ : Lent) → Grows W W′ → (ρ : Assignment) (ps ss : List ℕ) → AllBelow (W .lengths .sorts) ss → Typed (graph W₀) (sortIn W) ρ ps ss → Typed (graph W₀) (sortIn W′) ρ ps ss
+  unfolding AllBelow
+  typed-grown W W′ g ρ _ _ a all-typed = all-typed
+  typed-grown W W′ g ρ _ _ a (and-typed p s ps ss h t) = and-typed p s ps ss (h ∙ ap termOf (sym (g .looks s (a .0)))) (typed-grown W W′ g ρ ps ss (a .1) t)
+
+  -- and so is an incumbent
+  pub fine-grown : (W W′ : Lent) → Grows W W′ → (b : Option Candidate) → FineBest W b → FineBest W′ b
+  unfolding FineBest
+  fine-grown W W′ g none f = tt
+  fine-grown W W′ g (some c) f =
+      record {
+        numbers = all-below-more (W .lengths .sorts) (W′ .lengths .sorts) (g .sorts) (c .sorts) (f .numbers);
+        assignment = f .assignment;
+        respects = f .respects;
+        typed = typed-grown W W′ g (f .assignment) (P .exprs) (c .sorts) (f .numbers) (f .typed);
+        costs = f .costs;
+      }
+
+  -- On from a yes: what is claimed of the new path holds of every assignment that respects the new bindings, since it respected the old ones and makes
+  -- the two places equal.
+  pub sound-on : (W : Lent) (e : Path) (Q : Claim) → Sound W e Q → (l r : ℕ) (C : Binds) → Agreeing W (e .binds) l r C → (ms : Components) (cs : List Choice) (R : Claim)
+      → ((ρ : Assignment) → Respects (graph W) C (terms ρ) → Equates (graph W) (terms ρ) l r → Q (e .choices) ρ (e .measure) → R cs ρ ms)
+      → Sound W (record { binds = C; measure = ms; choices = cs }) R
+  sound-on W e Q s l r C a ms cs R f =
+      record {
+        grown = s .grown;
+        binds = a .binds;
+        refines = λ σ x. s .refines σ (a .before σ x);
+        costs = λ ρ x. f ρ x (a .equal (terms ρ) x) (s .costs ρ (a .before (terms ρ) x));
+      }
+
+  module _ (Met : Type 0) where
+    pub unifying-leaves : (e : Path) (w : World Met) (Q : Claim) → Sound (w .lent) e Q → FineBest (w .lent) (w .best) → (l r : ℕ) → PlacedIn (w .lent) l → PlacedIn (w .lent) r
+        → (k : Binds → World Met → Out Met) → ((C : Binds) → Agreeing (w .lent) (e .binds) l r C → Leaves Met (w .lent) (k C w)) → Leaves Met (w .lent) (unifying (e .binds) l r k w)
+    unfolding unifying
+    unifying-leaves e w Q s f l r x y k h = go (unify (graph (w .lent)) (e .binds) l r) refl
+      where
+        go : (U : Unifies) → unify (graph (w .lent)) (e .binds) l r ≡ U → Leaves Met (w .lent) (onYes U k w)
+        go (yes-with C) q = h C (yes-agrees (w .lent) (s .grown .checked) (e .binds) (s .binds) l r x y C q)
+        go no-way q = missed-leaves Met w (s .grown .checked) f
+        go too-deep q = missed-leaves Met w (s .grown .checked) f

@@ -1,0 +1,71 @@
+-- What a yes of unify gives whoever goes on from it: bindings that pass their checks again, under which the two places are equal and whatever
+-- respects them respected the bindings before. By Robinson's theorem and by the places that bindings name. Assumes nothing.
+use mathlib.Core.Path.{_≡_, refl, subst, _∙_}
+use mathlib.Core.Bool.{Bool, true, _&&_, and-eq-true-iff}
+use mathlib.Core.List.{List, [], _∷_}
+use mathlib.Core.Option.{Option, none, some}
+use Prim.Native.Nat.{ℕ, zero, suc}
+use lib.ListN.{length}
+use Rattle.unification.specs.Term.{Term, Shape}
+use Rattle.unification.specs.Nodes.{isPlace, Binds, binding}
+use Rattle.unification.specs.NodeChecks.{bindingFine, bindingsFine}
+use Rattle.unification.specs.Unify.{Unifies, yes-with, unify, deep, deeper}
+use Rattle.unification.specs.Checked.{listsOf, BindsChecked}
+use Rattle.unification.specs.Solutions.{Respects, Equates, Robinson, says-yes}
+use Rattle.unification.specs.Making.{Lent, graph}
+use Rattle.unification.proofs.Lists.{lower, scoped}
+use Rattle.unification.proofs.Robinson.{Next, Kept, unify-kept}
+use Rattle.unification.proofs.Theorem.{deep-enough, unify-is-robinson}
+use Rattle.unification.proofs.Agree.{Names, unify-names}
+use Rattle.unification.proofs.Grows.{CheckedLent, PlacedIn, grows-refl, agree-grown}
+use Rattle.unification.proofs.ResolvedPlaces.{bound-is-place}
+
+-- bindings that passed their checks, over the lists W
+abbrev pub BindsIn : Lent → Binds → Type 0
+BindsIn W B = BindsChecked (listsOf (W .sorts) (W .lengths .sorts) (W .nodes) (W .lengths .nodes)) (W .lengths .variables) B
+
+pub binds-name : (W : Lent) (B : Binds) → BindsIn W B → Names (PlacedIn W) B
+binds-name W B b v q e = bound-is-place (W .lengths .sorts) (W .lengths .nodes) B v q (b .places) e
+
+pub named-is-fine : (n m : ℕ) (B : Binds) → ((v q : ℕ) → binding B v ≡ some q → isPlace n m q ≡ true) → bindingsFine n m B ≡ true
+unfolding bindingsFine
+named-is-fine n m [] h = refl
+named-is-fine n m (b ∷ B) h = and-eq-true-iff (bindingFine n m b) (bindingsFine n m B) .1 (one b (λ q e. h zero q e), named-is-fine n m B (λ v q e. h (suc v) q e))
+  where
+    one : (o : Option ℕ) → ((q : ℕ) → o ≡ some q → isPlace n m q ≡ true) → bindingFine n m o ≡ true
+    one none g = refl
+    one (some q) g = g q refl
+
+-- C is a yes for l and r from the bindings B
+pub record Agreeing (W : Lent) (B : Binds) (l r : ℕ) (C : Binds) : Type 0 where
+  pub binds : BindsIn W C
+  pub before : (σ : ℕ → Term) → Respects (graph W) C σ → Respects (graph W) B σ
+  pub equal : (σ : ℕ → Term) → Respects (graph W) C σ → Equates (graph W) σ l r
+
+module _ (W : Lent) (c : CheckedLent W) (B : Binds) (b : BindsIn W B) (l r : ℕ) (x : PlacedIn W l) (y : PlacedIn W r) where
+  robinson : Robinson (graph W) B l r (unify (graph W) B l r)
+  robinson = unify-is-robinson (W .sorts) (W .lengths .sorts) (W .lengths .entries) (W .nodes) (W .lengths .nodes) (W .lengths .arguments) (W .lengths .variables) c B b l r
+
+  kept : Kept (graph W) (W .lengths .variables) B (unify (graph W) B l r)
+  unfolding unify
+  kept =
+      unify-kept (graph W) 3072 (lower (W .sorts) (W .lengths .sorts) (W .lengths .entries) (W .nodes) (W .lengths .nodes) (W .lengths .arguments) (W .lengths .variables) c) (W .lengths .variables)
+      (scoped (W .sorts) (W .lengths .sorts) (W .lengths .entries) (W .nodes) (W .lengths .nodes) (W .lengths .arguments) (W .lengths .variables) c) deep
+      (deep-enough (W .sorts) (W .lengths .sorts) (W .lengths .entries) (W .nodes) (W .lengths .nodes) (W .lengths .arguments) (W .lengths .variables) c) deeper B l r (b .many) (b .numbered)
+
+  names : (C : Binds) → unify (graph W) B l r ≡ yes-with C → Names (PlacedIn W) C
+  unfolding unify
+  names C e = unify-names (PlacedIn W) (graph W) (graph W) (agree-grown W c W (grows-refl W c)) B (binds-name W B b) deep deeper l r C x y e
+
+  solutions : (C : Binds) → Robinson (graph W) B l r (yes-with C) → ((σ : ℕ → Term) → Respects (graph W) C σ → Respects (graph W) B σ × Equates (graph W) σ l r)
+  solutions C (says-yes _ f g a s) = f
+
+  pub yes-agrees : (C : Binds) → unify (graph W) B l r ≡ yes-with C → Agreeing W B l r C
+  yes-agrees C e =
+      let f = solutions C (subst (Robinson (graph W) B l r) e robinson) in
+      let k : Next (graph W) (W .lengths .variables) B C = subst (Kept (graph W) (W .lengths .variables) B) e kept in
+      record {
+        binds = record { many = k .long ∙ b .many; places = named-is-fine (W .lengths .sorts) (W .lengths .nodes) C (names C e); numbered = k .numbering };
+        before = λ σ s. f σ s .0;
+        equal = λ σ s. f σ s .1;
+      }
