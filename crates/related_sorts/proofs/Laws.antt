@@ -30,12 +30,17 @@ use Rattle.unification.specs.declared.Pushed.{Pushed}
 use Rattle.unification.specs.declared.Pushed.the-variants.{At, Full as NoRoom}
 use Rattle.unification.specs.declared.Listed.{Listed}
 use Rattle.unification.specs.declared.Listed.the-variants.{These, NoList, Full}
+use Rattle.unification.specs.declared.Three.{Three}
 use Rattle.unification.specs.declared.Related.{Related}
 use Rattle.unification.specs.Nodes.{maxNodes, maxNodeEntries, nodeEntriesAt}
 use Rattle.unification.specs.Related.{relatedContainer}
 use Rattle.unification.specs.Making.{Lent, Makes, made, no-list, no-room, _and-then_, only, withSorts, pushNode, appendNode, internContainer, relatedOver, pushFunctions}
 use Rattle.unification.specs.Resolve.{withCounts}
-use Rattle.related_sorts.specs.Outcome.{lent, row, pushed, relatedBy, related, RangesBy, Ranges}
+use Rattle.related_sorts.specs.Outcome.{lent, row, pushed, relatedBy, related, AreThese, RangesBy, Ranges, Relates}
+
+-- numbers
+pub are-these : (r t : Three) → r ≡ t → (ps : List ℕ) → take (t .count) (t .ids) ≡ ps → t .count ≤ 3 → AreThese r ps
+are-these r t e ps x l = record { says = ap (λ (y : Three). take (y .count) (y .ids)) e ∙ x; few = subst (λ (y : Three). y .count ≤ 3) (sym e) l }
 
 -- one more node
 module _ (ws ns : List ℕ) (k : Lengths) (kind part : ℕ) (ids : List ℕ) (count : ℕ) (len : length ids ≡ 16) (few : count ≤ 16) where
@@ -76,6 +81,10 @@ one-more-part ps ids i l m e x y =
 pub parts-stored : (ps ids : List ℕ) (i n : ℕ) → i ≡ n → take i ids ≡ take i ps → take n ids ≡ take n ps
 parts-stored ps ids i n e x = subst (λ (j : ℕ). take j ids ≡ take j ps) e x
 
+-- an answer to one making is that to an equal one
+pub relates-as : (ws ns : List ℕ) (a : Related) {O P : Makes (List ℕ)} → Relates ws ns a O → O ≡ P → Relates ws ns a P
+relates-as ws ns a r e = record { says = r .says ∙ e; few = r .few }
+
 -- functions over ranges, from the i-th on
 module _ (ws : List ℕ) (xs : List ℕ) (ranges : List ℕ) (n : ℕ) (three : length ranges ≡ 3) (few : n ≤ 3) where
   abbrev rest : ℕ → List ℕ
@@ -87,11 +96,15 @@ module _ (ws : List ℕ) (xs : List ℕ) (ranges : List ℕ) (n : ℕ) (three : 
   long : length (take n ranges) ≡ n
   long = length-take-le n ranges (omega (arith, three, few))
 
-  pub all-pushed : (ns : List ℕ) (k : Lengths) (i : ℕ) (ids : List ℕ) → i ≡ n → related ws ns (record { ids = ids; listed = These n k }) ≡ from ns k i ids
+  pub all-pushed : (ns : List ℕ) (k : Lengths) (i : ℕ) (ids : List ℕ) → i ≡ n → Relates ws ns (record { ids = ids; listed = These n k }) (from ns k i ids)
   unfolding pushFunctions
   all-pushed ns k i ids e =
-      sym (ap (λ (ys : List ℕ). pushFunctions xs ys (lent ws ns k) and-then (λ ps W. made (take i ids ++ ps) W)) (drop-of-length-le (take n ranges) {i = i} (omega (arith, long, e)))
-      ∙ (ap (λ ys. made ys (lent ws ns k)) (append-nil (take i ids)) ∙ ap (λ (j : ℕ). made (take j ids) (lent ws ns k)) e))
+      record {
+        says =
+            sym (ap (λ (ys : List ℕ). pushFunctions xs ys (lent ws ns k) and-then (λ ps W. made (take i ids ++ ps) W)) (drop-of-length-le (take n ranges) {i = i} (omega (arith, long, e)))
+            ∙ (ap (λ ys. made ys (lent ws ns k)) (append-nil (take i ids)) ∙ ap (λ (j : ℕ). made (take j ids) (lent ws ns k)) e));
+        few = few;
+      }
 
   module _ (ns : List ℕ) (k : Lengths) (i : ℕ) (ids : List ℕ) (l : i < n) (ns₁ : List ℕ) (p : Pushed) (e : pushed ws ns₁ k p ≡ pushNode (row functionKind (getD ranges i 0) xs) (lent ws ns k)) where
     one-and-rest : rest i ≡ getD ranges i 0 ∷ rest (i + 1)
@@ -105,15 +118,19 @@ module _ (ws : List ℕ) (xs : List ℕ) (ranges : List ℕ) (n : ℕ) (three : 
         ap (λ (ys : List ℕ). pushFunctions xs ys (lent ws ns k) and-then (λ ps W. made (take i ids ++ ps) W)) one-and-rest
         ∙ ap (λ O. O and-then (λ q W. pushFunctions xs (rest (i + 1)) W and-then (λ ps W. made (q ∷ ps) W)) and-then (λ ps W. made (take i ids ++ ps) W)) (sym e)
 
-    pub push-ends : p ≡ NoRoom → (zs : List ℕ) → related ws ns₁ (record { ids = zs; listed = Full 16 k }) ≡ from ns k i ids
+    pub push-ends : p ≡ NoRoom → (zs : List ℕ) → Relates ws ns₁ (record { ids = zs; listed = Full 16 k }) (from ns k i ids)
     push-ends z zs =
-        sym (step ∙ ap (λ y. pushed ws ns₁ k y and-then (λ q W. pushFunctions xs (rest (i + 1)) W and-then (λ ps W. made (q ∷ ps) W)) and-then (λ ps W. made (take i ids ++ ps) W)) z)
+        record {
+          says =
+              sym (step ∙ ap (λ y. pushed ws ns₁ k y and-then (λ q W. pushFunctions xs (rest (i + 1)) W and-then (λ ps W. made (q ∷ ps) W)) and-then (λ ps W. made (take i ids ++ ps) W)) z);
+          few = tt;
+        }
 
-    pub push-goes-on : (q : ℕ) (k′ : Lengths) → p ≡ At q k′ → i < length ids → (ids′ : List ℕ) → ids′ ≡ set ids i q → (ns₂ : List ℕ) (a : Related) → related ws ns₂ a ≡ from ns₁ k′ (i + 1) ids′
-        → related ws ns₂ a ≡ from ns k i ids
+    pub push-goes-on : (q : ℕ) (k′ : Lengths) → p ≡ At q k′ → i < length ids → (ids′ : List ℕ) → ids′ ≡ set ids i q → (ns₂ : List ℕ) (a : Related) → Relates ws ns₂ a (from ns₁ k′ (i + 1) ids′)
+        → Relates ws ns₂ a (from ns k i ids)
     push-goes-on q k′ z h ids′ ei ns₂ a u =
-        u
-        ∙ (ap (λ (ys : List ℕ). pushFunctions xs (rest (i + 1)) (lent ws ns₁ k′) and-then (λ ps W. made (ys ++ ps) W)) firsts
+        relates-as ws ns₂ a u
+        (ap (λ (ys : List ℕ). pushFunctions xs (rest (i + 1)) (lent ws ns₁ k′) and-then (λ ps W. made (ys ++ ps) W)) firsts
         ∙ (go (pushFunctions xs (rest (i + 1)) (lent ws ns₁ k′))
         ∙ sym (step ∙ ap (λ y. pushed ws ns₁ k y and-then (λ q W. pushFunctions xs (rest (i + 1)) W and-then (λ ps W. made (q ∷ ps) W)) and-then (λ ps W. made (take i ids ++ ps) W)) z)))
       where
@@ -127,19 +144,19 @@ module _ (ws : List ℕ) (xs : List ℕ) (ranges : List ℕ) (n : ℕ) (three : 
 
 -- over the related ranges
 module _ (ws ns : List ℕ) (a : Related) (xs : List ℕ) where
-  pub no-ranges : (k : Lengths) → a .listed ≡ NoList k → (zs : List ℕ) → related ws ns (record { ids = zs; listed = NoList k }) ≡ (related ws ns a and-then pushFunctions xs)
-  no-ranges k e zs = sym (ap (λ y. relatedBy ws ns (a .ids) y and-then pushFunctions xs) e)
+  pub no-ranges : (k : Lengths) → a .listed ≡ NoList k → (zs : List ℕ) → Relates ws ns (record { ids = zs; listed = NoList k }) (related ws ns a and-then pushFunctions xs)
+  no-ranges k e zs = record { says = sym (ap (λ y. relatedBy ws ns (a .ids) y and-then pushFunctions xs) e); few = tt }
 
-  pub no-room-for-ranges : (c : ℕ) (k : Lengths) → a .listed ≡ Full c k → (zs : List ℕ) → related ws ns (record { ids = zs; listed = Full c k }) ≡ (related ws ns a and-then pushFunctions xs)
-  no-room-for-ranges c k e zs = sym (ap (λ y. relatedBy ws ns (a .ids) y and-then pushFunctions xs) e)
+  pub no-room-for-ranges : (c : ℕ) (k : Lengths) → a .listed ≡ Full c k → (zs : List ℕ) → Relates ws ns (record { ids = zs; listed = Full c k }) (related ws ns a and-then pushFunctions xs)
+  no-room-for-ranges c k e zs = record { says = sym (ap (λ y. relatedBy ws ns (a .ids) y and-then pushFunctions xs) e); few = tt }
 
   module _ (n : ℕ) (k : Lengths) (e : a .listed ≡ These n k) where
     pub few-ranges : Ranges a → n ≤ 3
     few-ranges r = subst RangesBy e r
 
-    pub ranges-pushed : (ids ns₁ : List ℕ) (b : Related) → related ws ns₁ b ≡ (pushFunctions xs (drop 0 (take n (a .ids))) (lent ws ns k) and-then (λ ps W. made (take 0 ids ++ ps) W))
-        → related ws ns₁ b ≡ (related ws ns a and-then pushFunctions xs)
-    ranges-pushed ids ns₁ b u = u ∙ (go (pushFunctions xs (take n (a .ids)) (lent ws ns k)) ∙ sym (ap (λ y. relatedBy ws ns (a .ids) y and-then pushFunctions xs) e))
+    pub ranges-pushed : (ids ns₁ : List ℕ) (b : Related) → Relates ws ns₁ b (pushFunctions xs (drop 0 (take n (a .ids))) (lent ws ns k) and-then (λ ps W. made (take 0 ids ++ ps) W))
+        → Relates ws ns₁ b (related ws ns a and-then pushFunctions xs)
+    ranges-pushed ids ns₁ b u = relates-as ws ns₁ b u (go (pushFunctions xs (take n (a .ids)) (lent ws ns k)) ∙ sym (ap (λ y. relatedBy ws ns (a .ids) y and-then pushFunctions xs) e))
       where
         go : (O : Makes (List ℕ)) → (O and-then (λ ps W. made ps W)) ≡ O
         go (made ps W) = refl
@@ -168,6 +185,13 @@ module _ (ws : List ℕ) (n e : ℕ) (k : Checked ws n e) (t : Tree) (ws₁ : Li
   unfolding internAt intern
   never-none K x = none-by K (member (trees ws n) t) (fits t (sortsOf ws n e)) x
 
+-- no place, and one
+pub no-places : (ws ns : List ℕ) (k : Lengths) (a : Related) → a ≡ record { ids = 0 ∷ 0 ∷ 0 ∷ []; listed = These 0 k } → Relates ws ns a (made [] (lent ws ns k))
+no-places ws ns k a y = record { says = ap (related ws ns) y; few = subst Ranges (sym y) (omega arith) }
+
+one-place : (ws ns : List ℕ) (p : ℕ) (k : Lengths) (a : Related) → a ≡ record { ids = p ∷ 0 ∷ 0 ∷ []; listed = These 1 k } → Relates ws ns a (made (p ∷ []) (lent ws ns k))
+one-place ws ns p k a y = record { says = ap (related ws ns) y; few = subst Ranges (sym y) (omega arith) }
+
 -- containers
 module _ (up : Bool) (o : ComplexSort) (b : OpBound) (e : b ≡ opBound (relatedContainer up o)) where
   op-is : (x : Option ComplexSort) (q : ComplexSort) → opBound x ≡ Is q → x ≡ some q
@@ -179,8 +203,8 @@ module _ (up : Bool) (o : ComplexSort) (b : OpBound) (e : b ≡ opBound (related
   op-none (some p) z = absurd (let w : _≡_ {A = ℕ} 0 1 = cc in omega arith)
 
   pub no-container : b ≡ NoOp → (sort : Bool) (s : ℕ) (ws ns : List ℕ) (k : Lengths) (a : Related) → a ≡ record { ids = 0 ∷ 0 ∷ 0 ∷ []; listed = These 0 k }
-      → related ws ns a ≡ relatedOver (relatedContainer up o) sort s (lent ws ns k)
-  no-container z sort s ws ns k a y = ap (related ws ns) y ∙ sym (ap (λ x. relatedOver x sort s (lent ws ns k)) (op-none (relatedContainer up o) (sym e ∙ z)))
+      → Relates ws ns a (relatedOver (relatedContainer up o) sort s (lent ws ns k))
+  no-container z sort s ws ns k a y = relates-as ws ns a (no-places ws ns k a y) (sym (ap (λ x. relatedOver x sort s (lent ws ns k)) (op-none (relatedContainer up o) (sym e ∙ z))))
 
   module _ (q : ComplexSort) (z : b ≡ Is q) (s : ℕ) (ws ns : List ℕ) (k : Lengths) where
     is-some : relatedContainer up o ≡ some q
@@ -197,17 +221,18 @@ module _ (up : Bool) (o : ComplexSort) (b : OpBound) (e : b ≡ opBound (related
       sort-of = ap (λ x. relatedOver x true s (lent ws ns k)) is-some ∙ ap (λ (r : Stored). withSorts (lent ws ns k) r (r .answer) and-then only) interned
 
       pub container-interned : (id : SortId) (K : Counts) → j ≡ JoinedAt id K → (k′ : Lengths) → k′ ≡ withCounts k K → (a : Related) → a ≡ record { ids = id .0 ∷ 0 ∷ 0 ∷ []; listed = These 1 k′ }
-          → related ws₁ ns a ≡ relatedOver (relatedContainer up o) true s (lent ws ns k)
+          → Relates ws₁ ns a (relatedOver (relatedContainer up o) true s (lent ws ns k))
       container-interned id K x k′ ek a y =
-          ap (related ws₁ ns) y ∙ (ap (λ (l : Lengths). made (id .0 ∷ []) (lent ws₁ ns l)) ek ∙ sym (sort-of ∙ ap (λ w. withSorts (lent ws ns k) (storedAt ws₁ j) w and-then only) x))
+          relates-as ws₁ ns a (one-place ws₁ ns (id .0) k′ a y) (ap (λ (l : Lengths). made (id .0 ∷ []) (lent ws₁ ns l)) ek ∙ sym (sort-of ∙ ap (λ w. withSorts (lent ws ns k) (storedAt ws₁ j) w and-then only) x))
 
       module _ (ck : Checked ws (k .sorts) (k .entries)) where
-        pub no-room-for-sort : j ≡ JoinedFull → (zs : List ℕ) → related ws₁ ns (record { ids = zs; listed = Full 15 k }) ≡ relatedOver (relatedContainer up o) true s (lent ws ns k)
+        pub no-room-for-sort : j ≡ JoinedFull → (zs : List ℕ) → Relates ws₁ ns (record { ids = zs; listed = Full 15 k }) (relatedOver (relatedContainer up o) true s (lent ws ns k))
         no-room-for-sort x zs =
-            ap (λ (ys : List ℕ). no-room 15 (lent ys ns k)) (full-unchanged ws (k .sorts) (k .entries) ck (container q (look (trees ws (k .sorts)) s)) ws₁ (ap (storedAt ws₁) (sym x) ∙ sym interned))
-            ∙ sym (sort-of ∙ ap (λ w. withSorts (lent ws ns k) (storedAt ws₁ j) w and-then only) x)
+            relates-as ws₁ ns (record { ids = zs; listed = Full 15 k }) (record { says = refl; few = tt })
+            (ap (λ (ys : List ℕ). no-room 15 (lent ys ns k)) (full-unchanged ws (k .sorts) (k .entries) ck (container q (look (trees ws (k .sorts)) s)) ws₁ (ap (storedAt ws₁) (sym x) ∙ sym interned))
+            ∙ sym (sort-of ∙ ap (λ w. withSorts (lent ws ns k) (storedAt ws₁ j) w and-then only) x))
 
-        pub always-interned : (K : Counts) → j ≡ JoinedNothing K → (a : Related) → related ws₁ ns a ≡ relatedOver (relatedContainer up o) true s (lent ws ns k)
+        pub always-interned : (K : Counts) → j ≡ JoinedNothing K → (a : Related) → Relates ws₁ ns a (relatedOver (relatedContainer up o) true s (lent ws ns k))
         always-interned K x a = never-none ws (k .sorts) (k .entries) ck (container q (look (trees ws (k .sorts)) s)) ws₁ K (ap (storedAt ws₁) (sym x) ∙ sym interned)
 
     -- of a node
@@ -218,8 +243,8 @@ module _ (up : Bool) (o : ComplexSort) (b : OpBound) (e : b ≡ opBound (related
           ∙ (ap₂ (λ (c : ℕ) (ys : List ℕ). pushNode (row c s ys) (lent ws ns k) and-then only) (sym ek) (sym none-there) ∙ ap (λ O. O and-then only) (sym ep))
 
       pub container-pushed : (c : ℕ) (k′ : Lengths) → p ≡ At c k′ → (a : Related) → a ≡ record { ids = c ∷ 0 ∷ 0 ∷ []; listed = These 1 k′ }
-          → related ws ns₁ a ≡ relatedOver (relatedContainer up o) false s (lent ws ns k)
-      container-pushed c k′ x a y = ap (related ws ns₁) y ∙ sym (node-of ∙ ap (λ w. pushed ws ns₁ k w and-then only) x)
+          → Relates ws ns₁ a (relatedOver (relatedContainer up o) false s (lent ws ns k))
+      container-pushed c k′ x a y = relates-as ws ns₁ a (one-place ws ns₁ c k′ a y) (sym (node-of ∙ ap (λ w. pushed ws ns₁ k w and-then only) x))
 
-      pub no-room-for-container : p ≡ NoRoom → (zs : List ℕ) → related ws ns₁ (record { ids = zs; listed = Full 16 k }) ≡ relatedOver (relatedContainer up o) false s (lent ws ns k)
-      no-room-for-container x zs = sym (node-of ∙ ap (λ w. pushed ws ns₁ k w and-then only) x)
+      pub no-room-for-container : p ≡ NoRoom → (zs : List ℕ) → Relates ws ns₁ (record { ids = zs; listed = Full 16 k }) (relatedOver (relatedContainer up o) false s (lent ws ns k))
+      no-room-for-container x zs = record { says = sym (node-of ∙ ap (λ w. pushed ws ns₁ k w and-then only) x); few = tt }

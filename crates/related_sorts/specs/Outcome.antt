@@ -9,6 +9,7 @@ use Rattle.unification.specs.declared.Pushed.{Pushed}
 use Rattle.unification.specs.declared.Pushed.the-variants.{At, Full as NoRoom}
 use Rattle.unification.specs.declared.Listed.{Listed}
 use Rattle.unification.specs.declared.Listed.the-variants.{These, NoList, Full}
+use Rattle.unification.specs.declared.Three.{Three}
 use Rattle.unification.specs.declared.Related.{Related}
 use Rattle.unification.specs.Term.{functionHead, over, partsOf}
 use Rattle.unification.specs.Checked.{NodesChecked, graphOf, Placed}
@@ -31,6 +32,11 @@ relatedBy ws ns ids (Full c k) = no-room c (lent ws ns k)
 
 abbrev pub related : List ℕ → List ℕ → Related → Makes (List ℕ)
 related ws ns r = relatedBy ws ns (r .ids) (r .listed)
+
+-- these places, at most three
+pub record AreThese (r : Three) (ps : List ℕ) : Type 0 where
+  pub says : take (r .count) (r .ids) ≡ ps
+  pub few : r .count ≤ 3
 
 -- a function of n arguments stands at p
 pub record IsFunction (ws ns : List ℕ) (k : Lengths) (p n : ℕ) : Type 0 where

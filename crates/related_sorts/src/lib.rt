@@ -40,11 +40,11 @@ ghost use Rattle.unification.specs.Nodes.{bindsOf};
 ghost use Rattle.unification.specs.Checked.{graphOf, Ready, Placed};
 ghost use Rattle.unification.specs.Related.{relatedContainer};
 ghost use Rattle.unification.specs.Making.{made, _and-then_, pushNode, relatedOver, pushFunctions, relatedPlaces, strictRelated};
-ghost use Rattle.related_sorts.specs.Outcome.{lent, pushed, related, row, IsFunction, FunctionAt, Ranges, Relates};
+ghost use Rattle.related_sorts.specs.Outcome.{lent, pushed, related, row, AreThese, IsFunction, FunctionAt, Ranges, Relates};
 
 // The numbers strictly above or below `sort`, in ascending distance.
 fn related_numbers(sort: Sort, up: bool) -> Three
-    ensures { λ r. ⌜ take (r .count) (r .ids) ≡ relatedPlaces up (primitive sort) ⌝ }
+    ensures { λ r. ⌜ AreThese r (relatedPlaces up (primitive sort)) ⌝ }
 {
     if up {
         return wider_numbers(sort);
@@ -53,7 +53,7 @@ fn related_numbers(sort: Sort, up: bool) -> Three
 }
 
 fn wider_numbers(sort: Sort) -> Three
-    ensures { λ r. ⌜ take (r .count) (r .ids) ≡ relatedPlaces true (primitive sort) ⌝ }
+    ensures { λ r. ⌜ AreThese r (relatedPlaces true (primitive sort)) ⌝ }
 {
     match sort {
         Sort::Bool => three(0, 0, 0, 0),
@@ -65,7 +65,7 @@ fn wider_numbers(sort: Sort) -> Three
 }
 
 fn narrower_numbers(sort: Sort) -> Three
-    ensures { λ r. ⌜ take (r .count) (r .ids) ≡ relatedPlaces false (primitive sort) ⌝ }
+    ensures { λ r. ⌜ AreThese r (relatedPlaces false (primitive sort)) ⌝ }
 {
     match sort {
         Sort::Bool => three(0, 0, 0, 0),
@@ -176,7 +176,7 @@ fn push_functions(
     count: u16,
 ) -> Related
     requires { ⌜ (count ≤ 16) × (i ≤ n) × (n ≤ 3) ⌝ }
-    ensures { λ r. ⌜ related (now (sorts .entry)) (now (nodes .exit)) r ≡ (pushFunctions (take count domain) (drop i (take n targets)) (lent (now (sorts .entry)) (now (nodes .entry)) lengths) and-then (λ ps W. made (take i ids ++ ps) W)) ⌝ }
+    ensures { λ r. ⌜ Relates (now (sorts .entry)) (now (nodes .exit)) r (pushFunctions (take count domain) (drop i (take n targets)) (lent (now (sorts .entry)) (now (nodes .entry)) lengths) and-then (λ ps W. made (take i ids ++ ps) W)) ⌝ }
 {
     if i == n {
         return Related {
@@ -214,7 +214,7 @@ fn over_ranges(
     count: u16,
 ) -> Related
     requires { ⌜ Ranges found × (count ≤ 16) ⌝ }
-    ensures { λ r. ⌜ related (now (sorts .entry)) (now (nodes .exit)) r ≡ (related (now (sorts .entry)) (now (nodes .entry)) found and-then pushFunctions (take count domain)) ⌝ }
+    ensures { λ r. ⌜ Relates (now (sorts .entry)) (now (nodes .exit)) r (related (now (sorts .entry)) (now (nodes .entry)) found and-then pushFunctions (take count domain)) ⌝ }
 {
     let ids = found.ids;
     let listed = found.listed;
@@ -273,7 +273,7 @@ fn related_generic(
     up: bool,
 ) -> Related
     requires { ⌜ Checked (now sorts) (lengths .sorts) (lengths .entries) × (subsort .0 < lengths .sorts) ⌝ }
-    ensures { λ r. ⌜ related (now (sorts .exit)) (now (nodes .entry)) r ≡ relatedOver (relatedContainer up op) true (subsort .0) (lent (now (sorts .entry)) (now (nodes .entry)) lengths) ⌝ }
+    ensures { λ r. ⌜ Relates (now (sorts .exit)) (now (nodes .entry)) r (relatedOver (relatedContainer up op) true (subsort .0) (lent (now (sorts .entry)) (now (nodes .entry)) lengths)) ⌝ }
 {
     match related_container(op, up) {
         OpBound::Is(related_op) => {
@@ -302,7 +302,7 @@ fn push_generic(
     subsort: InferSortId,
     up: bool,
 ) -> Related
-    ensures { λ r. ⌜ related (now (sorts .entry)) (now (nodes .exit)) r ≡ relatedOver (relatedContainer up op) false (subsort .0) (lent (now (sorts .entry)) (now (nodes .entry)) lengths) ⌝ }
+    ensures { λ r. ⌜ Relates (now (sorts .entry)) (now (nodes .exit)) r (relatedOver (relatedContainer up op) false (subsort .0) (lent (now (sorts .entry)) (now (nodes .entry)) lengths)) ⌝ }
 {
     match related_container(op, up) {
         OpBound::Is(related_op) => {
@@ -324,4 +324,119 @@ fn push_generic(
         }
         OpBound::Nothing => none(lengths),
     }
+}
+
+// The strict supersorts of `id` in ascending distance (`Pos` yields `[Nat, Int, Real]`), or no list for an unbound variable, whose
+// supersorts cannot be enumerated. Only the head constructor is widened: `Nat` has supersorts, `List(Nat)` has none.
+pub fn strict_super_sorts(
+    sorts: &mut [u16],
+    nodes: &mut [u16],
+    binds: &[u16],
+    lengths: Lengths,
+    id: InferSortId,
+) -> Related
+    requires { ⌜ Ready (now sorts) (now nodes) (now binds) lengths × Placed lengths (id .0) ⌝ }
+    ensures { λ r. ⌜ Relates (now (sorts .exit)) (now (nodes .exit)) r (strictRelated true (bindsOf (now (binds .entry)) (lengths .variables)) (id .0) (lent (now (sorts .entry)) (now (nodes .entry)) lengths)) ⌝ }
+{
+    strict_related_sorts(sorts, nodes, binds, lengths, id, true)
+}
+
+// The strict subsorts of `id` in ascending distance (`Real` yields `[Int, Nat, Pos]`), or no list for an unbound variable.
+pub fn strict_sub_sorts(
+    sorts: &mut [u16],
+    nodes: &mut [u16],
+    binds: &[u16],
+    lengths: Lengths,
+    id: InferSortId,
+) -> Related
+    requires { ⌜ Ready (now sorts) (now nodes) (now binds) lengths × Placed lengths (id .0) ⌝ }
+    ensures { λ r. ⌜ Relates (now (sorts .exit)) (now (nodes .exit)) r (strictRelated false (bindsOf (now (binds .entry)) (lengths .variables)) (id .0) (lent (now (sorts .entry)) (now (nodes .entry)) lengths)) ⌝ }
+{
+    strict_related_sorts(sorts, nodes, binds, lengths, id, false)
+}
+
+fn strict_related_sorts(
+    sorts: &mut [u16],
+    nodes: &mut [u16],
+    binds: &[u16],
+    lengths: Lengths,
+    id: InferSortId,
+    up: bool,
+) -> Related
+    requires { ⌜ Ready (now sorts) (now nodes) (now binds) lengths × Placed lengths (id .0) ⌝ }
+    ensures { λ r. ⌜ Relates (now (sorts .exit)) (now (nodes .exit)) r (strictRelated up (bindsOf (now (binds .entry)) (lengths .variables)) (id .0) (lent (now (sorts .entry)) (now (nodes .entry)) lengths)) ⌝ }
+{
+    let end = shallow_normalize(sorts, nodes, binds, lengths, id);
+    if end.0 < 1024 {
+        return related_sort(sorts, nodes, binds, lengths, end, up);
+    }
+    match node(nodes, NodeId(end.0 - 1024)) {
+        InferSort::Generic { op, subsort } => push_generic(sorts, nodes, lengths, op, subsort, up),
+        InferSort::Function {
+            domain: _,
+            range: _,
+        } => related_function(sorts, nodes, binds, lengths, end, up),
+        InferSort::Var(_) => Related {
+            ids: [0u16; 3],
+            listed: Listed::NoList(lengths),
+        },
+    }
+}
+
+// An interned sort.
+fn related_sort(
+    sorts: &mut [u16],
+    nodes: &mut [u16],
+    binds: &[u16],
+    lengths: Lengths,
+    id: InferSortId,
+    up: bool,
+) -> Related
+    requires { ⌜ Ready (now sorts) (now nodes) (now binds) lengths × Placed lengths (id .0) × (id .0 < maxSorts) ⌝ }
+    ensures { λ r. ⌜ Relates (now (sorts .exit)) (now (nodes .exit)) r (strictRelated up (bindsOf (now (binds .entry)) (lengths .variables)) (id .0) (lent (now (sorts .entry)) (now (nodes .entry)) lengths)) ⌝ }
+{
+    match get(sorts, SortId(id.0)) {
+        ResolvedSort::Unit => none(lengths),
+        ResolvedSort::Primitive(sort) => {
+            let numbers = related_numbers(sort, up);
+            let ids = numbers.ids;
+            Related {
+                ids,
+                listed: Listed::These(numbers.count, lengths),
+            }
+        }
+        ResolvedSort::Container { op, subsort } => related_generic(
+            sorts,
+            nodes,
+            lengths,
+            op,
+            subsort,
+            up,
+        ),
+        ResolvedSort::Function {
+            domain: _,
+            range: _,
+        } => related_function(sorts, nodes, binds, lengths, id, up),
+        ResolvedSort::Def(_) => none(lengths),
+        ResolvedSort::TypeVar(_) => none(lengths),
+    }
+}
+
+// A function value coerces to a wider range at the same domain by eta-expansion.
+fn related_function(
+    sorts: &mut [u16],
+    nodes: &mut [u16],
+    binds: &[u16],
+    lengths: Lengths,
+    id: InferSortId,
+    up: bool,
+) -> Related
+    requires { ⌜ Ready (now sorts) (now nodes) (now binds) lengths × Placed lengths (id .0) × FunctionAt (now sorts) (now nodes) lengths (id .0) ⌝ }
+    ensures { λ r. ⌜ Relates (now (sorts .exit)) (now (nodes .exit)) r (strictRelated up (bindsOf (now (binds .entry)) (lengths .variables)) (id .0) (lent (now (sorts .entry)) (now (nodes .entry)) lengths)) ⌝ }
+{
+    let count = part_count(sorts, nodes, lengths, id) - 1;
+    let domain = arguments(sorts, nodes, lengths, id, count);
+    let range = part(sorts, nodes, lengths, id, count);
+    let found = strict_related_sorts(sorts, nodes, binds, lengths, range, up);
+    over_ranges(sorts, nodes, found, domain, count)
 }

@@ -1,6 +1,7 @@
 -- By the direction. Assumes nothing.
 use Rattle.resolved_sort.specs.Tree.{primitive}
 use Rattle.unification.specs.Making.{relatedPlaces}
+use Rattle.related_sorts.specs.Outcome.{AreThese}
 use borrow.Author.Needs.{needs}
 use mathlib.Core.Bool.{Bool}
 use mathlib.Core.Path.{_≡_, refl, sym, ap, ap₂, subst, _∙_}
@@ -12,6 +13,6 @@ related-numbers-spec =
     tie.close
     (tie.spec
     (λ c κs. search needs)
-    (λ c. c .wider-numbers .ensures ∙ ap (λ (u : Bool). relatedPlaces u (primitive (c .before .before .args .sort))) (sym (c .before .if1 .taken)))
+    (λ c. subst (λ (u : Bool). AreThese (c .wider-numbers .result) (relatedPlaces u (primitive (c .before .before .args .sort)))) (sym (c .before .if1 .taken)) (c .wider-numbers .ensures))
     (λ c κs. search needs)
-    (λ c. c .narrower-numbers .ensures ∙ ap (λ (u : Bool). relatedPlaces u (primitive (c .before .before .args .sort))) (sym (c .before .if1 .left))))
+    (λ c. subst (λ (u : Bool). AreThese (c .narrower-numbers .result) (relatedPlaces u (primitive (c .before .before .args .sort)))) (sym (c .before .if1 .left)) (c .narrower-numbers .ensures)))

@@ -4,9 +4,9 @@ use Rattle.resolved_sort.specs.Tree.{primitive}
 use Rattle.resolved_sort.specs.declared.Sort.{Sort}
 use Rattle.unification.specs.Making.{relatedPlaces}
 use Rattle.unification.specs.Related.{relatedNumbers}
-use Rattle.unification.specs.declared.Three.{Three}
+use Rattle.related_sorts.proofs.Laws as law
 use borrow.Author.Needs.{needs}
-use lib.ListN.{take}
+use native.Mathlib.Omega.{arith}
 use mathlib.Core.Bool.{true}
 use mathlib.Core.Path.{_≡_, refl, sym, ap, ap₂, subst, _∙_}
 use Rattle.related_sorts.proofs.wider_numbers.Statement.{statement}
@@ -27,8 +27,8 @@ wider-numbers-spec =
     (λ c κs. search needs)
     (λ c. search needs)
     (λ c κs. search needs)
-    (λ c. ap (λ (t : Three). take (t .count) (t .ids)) (c .three .ensures) ∙ sym (ap (λ (s : Sort). relatedPlaces true (primitive s)) (c .before .enum-told .given .1)))
-    (λ c. ap (λ (t : Three). take (t .count) (t .ids)) (c .three2 .ensures) ∙ sym (ap (λ (s : Sort). relatedPlaces true (primitive s)) (c .before .enum-told2 .given .1)))
-    (λ c. ap (λ (t : Three). take (t .count) (t .ids)) (c .three3 .ensures) ∙ sym (ap (λ (s : Sort). relatedPlaces true (primitive s)) (c .before .enum-told3 .given .1)))
-    (λ c. ap (λ (t : Three). take (t .count) (t .ids)) (c .three4 .ensures) ∙ sym (ap (λ (s : Sort). relatedPlaces true (primitive s)) (c .before .enum-told4 .given .1)))
-    (λ c. ap (λ (t : Three). take (t .count) (t .ids)) (c .three5 .ensures) ∙ sym (ap (λ (s : Sort). relatedPlaces true (primitive s)) (c .before .enum-told5 .given .1))))
+    (λ c. law.are-these _ _ (c .three .ensures) _ (sym (ap (λ (s : Sort). relatedPlaces true (primitive s)) (c .before .enum-told .given .1))) (omega arith))
+    (λ c. law.are-these _ _ (c .three2 .ensures) _ (sym (ap (λ (s : Sort). relatedPlaces true (primitive s)) (c .before .enum-told2 .given .1))) (omega arith))
+    (λ c. law.are-these _ _ (c .three3 .ensures) _ (sym (ap (λ (s : Sort). relatedPlaces true (primitive s)) (c .before .enum-told3 .given .1))) (omega arith))
+    (λ c. law.are-these _ _ (c .three4 .ensures) _ (sym (ap (λ (s : Sort). relatedPlaces true (primitive s)) (c .before .enum-told4 .given .1))) (omega arith))
+    (λ c. law.are-these _ _ (c .three5 .ensures) _ (sym (ap (λ (s : Sort). relatedPlaces true (primitive s)) (c .before .enum-told5 .given .1))) (omega arith)))
