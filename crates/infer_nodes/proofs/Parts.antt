@@ -10,7 +10,6 @@ use lib.Seq.{getD-append-seam}
 use lib.Dec.{eqb, leb, ltb}
 use borrow.Author.Tests.{ltb-true, ltb-false, leb-true, leb-false, eqb-true, lt-ltb, le-ltb, le-leb, lt-leb, eq-eqb, ne-eqb}
 use Rattle.resolved_sort.specs.declared.Run.{Run}
-use Rattle.resolved_sort.specs.declared.ComplexSort.{ComplexSort}
 use Rattle.resolved_sort.specs.declared.ResolvedSort.{ResolvedSort}
 use Rattle.resolved_sort.specs.declared.ResolvedSort.the-variants.{Unit as UnitRow, Primitive, Container, Function as SortFunction, Def, TypeVar}
 use Rattle.resolved_sort.specs.Storage.{maxSorts, kindAt, partAt, startAt, countAt, entryAt, entriesOf, resolved, rowAt, kindFlat, partFlat, kindOp}
@@ -20,10 +19,8 @@ use Rattle.resolved_sort.proofs.Numbers.{true-not-false}
 use Rattle.resolved_sort.proofs.RowTrees.{by-kind}
 use Rattle.resolved_sort.proofs.Fine.{run-inside}
 use Rattle.unification.specs.declared.Lengths.{Lengths}
-use Rattle.unification.specs.declared.InferSort.{InferSort}
-use Rattle.unification.specs.declared.InferSort.the-variants.{Generic, Function, Var}
+use Rattle.unification.specs.declared.InferSort.the-variants.{Function}
 use Rattle.unification.specs.declared.SortVar.{SortVar}
-use Rattle.unification.specs.declared.VarAt.{VarAt}
 use Rattle.unification.specs.declared.VarAt.the-variants.{Is, Nothing}
 use Rattle.unification.specs.Term.{Head, Shape, variable, over, headOf, partsOf, kindHead, numberHead, sameHead}
 use Rattle.unification.specs.Nodes.{nodeKindAt, nodePartAt, nodeStartAt, nodeCountAt, nodeEntryAt, nodeEntriesOf, inferred, nodeAt, sortShape, nodeShape, isPlace}

@@ -4,11 +4,11 @@ use mathlib.Core.Path.{_≡_, refl, ap, sym, _∙_, subst}
 use mathlib.Core.List.{List, [], _∷_, _++_}
 use mathlib.Core.Option.{Option, none, some}
 use mathlib.Core.Bool.{Bool, true, false, cond, _&&_, and-eq-true-iff}
-use Prim.Native.Nat.{ℕ, zero, suc, _+_, _-_, _*_, _<_, _≤_, max}
+use Prim.Native.Nat.{ℕ, zero, suc, _+_, _-_, _<_, _≤_}
 use native.Mathlib.Omega.{arith}
 use lib.ListN.{length, getD}
 use lib.Dec.{eqb, ltb, leb}
-use borrow.Author.Tests.{ltb-true, ltb-false, leb-true, lt-ltb, le-ltb, ne-eqb, eq-eqb}
+use borrow.Author.Tests.{ltb-true, leb-true, lt-ltb, le-ltb, ne-eqb, eq-eqb}
 use Rattle.resolved_sort.specs.declared.Run.{Run}
 use Rattle.resolved_sort.specs.declared.ComplexSort.{ComplexSort}
 use Rattle.resolved_sort.specs.declared.ResolvedSort.{ResolvedSort}
@@ -16,26 +16,25 @@ use Rattle.resolved_sort.specs.declared.ResolvedSort.the-variants.{Unit as Unit
 use Rattle.resolved_sort.specs.Storage.{maxSorts, rowAt}
 use Rattle.resolved_sort.specs.Checks.{allBelow}
 use Rattle.resolved_sort.proofs.Below.{below-each}
-use Rattle.resolved_sort.proofs.Numbers.{true-not-false}
 use Rattle.unification.specs.declared.Lengths.{Lengths}
 use Rattle.unification.specs.declared.InferSortId.{InferSortId}
 use Rattle.unification.specs.declared.SortVar.{SortVar}
 use Rattle.unification.specs.declared.InferSort.{InferSort}
 use Rattle.unification.specs.declared.InferSort.the-variants.{Generic, Function, Var}
-use Rattle.unification.specs.Term.{Head, containerHead, functionHead, Shape, variable, over}
-use Rattle.unification.specs.Nodes.{nodeKindAt, nodePartAt, nodeStartAt, nodeCountAt, nodeEntryAt, nodeEntriesOf, opOfKind, inferred, nodeAt, sortShape, nodeShape, isSort, isPlace, shapeAt, Binds, binding, freeWord, bindingOf, bindsOf}
+use Rattle.unification.specs.Term.{containerHead, functionHead, Shape, variable, over}
+use Rattle.unification.specs.Nodes.{nodeKindAt, nodePartAt, nodeStartAt, nodeCountAt, nodeEntryAt, nodeEntriesOf, opOfKind, inferred, nodeAt, sortShape, nodeShape, isSort, isPlace, Binds, binding, freeWord, bindingOf, bindsOf}
 use Rattle.unification.specs.NodeChecks.{nodePartsFine, bindingFine, bindingsFine}
-use Rattle.unification.specs.Unify.{Occurs, absent, present, unknown, or-else, ofTest, followBound, followAt, follow, occursAny, occursBound, occursAt, occurs, deep}
+use Rattle.unification.specs.Unify.{Occurs, absent, present, unknown, or-else, ofTest, followBound, followAt, follow, occursAny, occursAt, occurs, deep}
 use Rattle.unification.specs.Acyclic.{One, first, later}
-use Rattle.unification.specs.Checked.{listsOf, graphOf, Ready, Placed}
+use Rattle.unification.specs.Checked.{graphOf, Ready, Placed}
 use Rattle.unification.proofs.Exact.{follow-end}
 use Rattle.unification.proofs.Rank.{highest, rank, Ranked, rank-var, rank-over, none-some}
 use Rattle.unification.proofs.Numbering.{numbered-ranked}
-use Rattle.unification.proofs.Enough.{follow-eq, follow-some, occurs-eq, occurs-known}
-use Rattle.unification.proofs.Lists.{lower, scoped, sort-parts, sort-parts-fine, sort-no-variable, node-parts, node-parts-fine}
+use Rattle.unification.proofs.Enough.{follow-eq, follow-some, occurs-eq}
+use Rattle.unification.proofs.Lists.{lower, sort-parts, sort-parts-fine, sort-no-variable}
 use Rattle.unification.proofs.Theorem.{deep-enough}
 use Rattle.infer_nodes.specs.Bound.{boundAt, RunPlaced}
-use Rattle.infer_nodes.proofs.Shapes.{at-sort, at-node, node-below, shape-of-node, parts-fine, shape-of-variable, variable-in-list}
+use Rattle.infer_nodes.proofs.Shapes.{at-sort, node-below, shape-of-node, parts-fine, shape-of-variable, variable-in-list}
 
 abbrev ops : List ComplexSort
 ops = ComplexSort.List ∷ ComplexSort.Set ∷ ComplexSort.FSet ∷ ComplexSort.Bag ∷ []

@@ -2,22 +2,20 @@
 -- to its parts. Assumes nothing.
 use mathlib.Core.Path.{_≡_, refl, ap, ap₂, sym, _∙_, subst}
 use mathlib.Core.List.{List, [], _∷_, _++_}
-use mathlib.Core.Option.{Option, none, some}
-use mathlib.Core.Bool.{Bool, true, false}
-use Prim.Native.Nat.{ℕ, zero, suc, _+_, _-_, _*_, _<_, _≤_}
+use mathlib.Core.Option.{Option, some}
+use Prim.Native.Nat.{ℕ, zero, suc, _+_, _-_, _<_, _≤_}
 use native.Mathlib.Omega.{arith}
-use lib.ListN.{length, set, take, replicate}
+use lib.ListN.{set, take, replicate}
 use Rattle.resolved_sort.specs.declared.ComplexSort.{ComplexSort}
 use Rattle.resolved_sort.specs.declared.SortId.{SortId}
 use Rattle.resolved_sort.specs.declared.Run.{Run}
 use Rattle.resolved_sort.specs.declared.Counts.{Counts}
 use Rattle.resolved_sort.specs.declared.Joined.{Joined}
 use Rattle.resolved_sort.specs.declared.Joined.the-variants.{At, Nothing, Full}
-use Rattle.resolved_sort.specs.declared.Found.{Found}
 use Rattle.resolved_sort.specs.declared.Found.the-variants.{All, Nothing as NotAll, Full as NoRoom}
 use Rattle.resolved_sort.specs.declared.Domain.{Domain}
 use Rattle.resolved_sort.specs.Tree.{Tree, container, function}
-use Rattle.resolved_sort.specs.Interning.{Sorts, look, made, nothing}
+use Rattle.resolved_sort.specs.Interning.{Sorts, look}
 use Rattle.resolved_sort.specs.Storage.{maxSorts, trees, sortsOf, lookAll}
 use Rattle.resolved_sort.specs.Entries.{countsOf, after, stored}
 use Rattle.resolved_sort.specs.Rows.{Checked, AllBelow, storedAt}
@@ -36,13 +34,13 @@ use Rattle.unification.specs.declared.InferSortId.{InferSortId}
 use Rattle.unification.specs.declared.SortVar.{SortVar}
 use Rattle.unification.specs.declared.InferSort.{InferSort}
 use Rattle.unification.specs.declared.InferSort.the-variants.{Generic, Function, Var}
-use Rattle.unification.specs.Term.{Head, containerHead, functionHead, Term, var, app, Terms, no-part, part, Shape, variable, over}
+use Rattle.unification.specs.Term.{containerHead, functionHead, Term, var, app, Terms, no-part, part, over}
 use Rattle.unification.specs.Nodes.{nodeEntryAt, nodeEntriesOf, nodeAt, Binds, bindsOf}
 use Rattle.unification.specs.Unify.{follow, deep}
 use Rattle.unification.specs.Acyclic.{One, first, later}
-use Rattle.unification.specs.Checked.{NodesChecked, graphOf, Ready, Placed}
+use Rattle.unification.specs.Checked.{graphOf, Ready, Placed}
 use Rattle.unification.specs.Solutions.{termsAt}
-use Rattle.unification.specs.Resolve.{value, resolveTerm, resolveArguments, freeSort, DefaultBelow, defaultOf, defaultIn, valueIn, termResolved, argumentsResolved, withCounts}
+use Rattle.unification.specs.Resolve.{resolveTerm, resolveArguments, freeSort, DefaultBelow, defaultOf, defaultIn, valueIn, termResolved, argumentsResolved, withCounts}
 use Rattle.unification.proofs.Exact.{size, sizes}
 use Rattle.unification.proofs.Lists.{none-of}
 use Rattle.unification.proofs.ResolvedSorts.{count, Formed, AllFormed, DefaultIn}

@@ -1,21 +1,19 @@
 -- Binding a free variable to a sort in which it does not occur keeps the numbering of variables: the variables in which the bound one occurs
 -- are numbered anew, above all others. Assumes nothing.
 use mathlib.Core.Path.{_≡_, refl, ap, sym, _∙_, subst}
-use mathlib.Core.List.{List, [], _∷_}
-use mathlib.Core.Option.{Option, none, some}
-use mathlib.Core.Bool.{Bool, true, false}
-use Prim.Native.Nat.{ℕ, zero, suc, _+_, _*_, _<_, _≤_}
+use mathlib.Core.List.{List}
+use mathlib.Core.Option.{none, some}
+use Prim.Native.Nat.{ℕ, suc, _+_, _*_, _<_}
 use native.Mathlib.Omega.{arith}
 use native.Mathlib.Decide.{ℕ-discrete}
-use lib.Dec.{eqb}
-use lib.ListN.{length, getD, set}
+use lib.ListN.{length, set}
 use lib.Seq.{getD-set-same, getD-set-other}
 use borrow.Author.Tests.{eq-eqb}
 use Rattle.unification.specs.Term.{Head, Shape, variable, over}
 use Rattle.unification.specs.Nodes.{Binds, binding}
 use Rattle.unification.specs.Acyclic.{One, first, later, Stands, at, within, Numbering}
-use Rattle.unification.specs.Unify.{Occurs, unknown, absent, present, or-else, ofTest, occursAny, occursBound, occursAt, occurs}
-use Rattle.unification.proofs.Rank.{Ranked, none-some}
+use Rattle.unification.specs.Unify.{Occurs, unknown, absent, present, or-else, ofTest, occursAny, occursBound, occurs}
+use Rattle.unification.proofs.Rank.{Ranked}
 use Rattle.unification.proofs.Numbering.{numbered, Lower, numbered-ranked}
 use Rattle.unification.proofs.Enough.{occurs-eq, occurs-known}
 

@@ -1,14 +1,13 @@
 -- Depth enough: where ranks are below the depth, following comes to an end, the occurs check answers, and both meet their own equations; and
 -- whatever the free variables stand for, there is a model. Assumes nothing.
-use mathlib.Core.Path.{_≡_, refl, ap, sym, _∙_, subst}
+use mathlib.Core.Path.{_≡_, refl, ap, sym, _∙_}
 use mathlib.Core.List.{List, [], _∷_}
 use mathlib.Core.Option.{Option, none, some}
 use mathlib.Core.Bool.{Bool, true, false}
-use Prim.Native.Nat.{ℕ, zero, suc, _+_, _*_, _<_, _≤_, max}
+use Prim.Native.Nat.{ℕ, zero, suc, _<_, _≤_}
 use native.Mathlib.Omega.{arith}
 use lib.Dec.{eqb}
-use lib.ListN.{length}
-use Rattle.unification.specs.Term.{Head, Term, app, Terms, no-part, part, Shape, variable, over}
+use Rattle.unification.specs.Term.{Term, app, Shape, variable, over}
 use Rattle.unification.specs.Nodes.{Binds, binding}
 use Rattle.unification.specs.Unify.{Occurs, unknown, absent, present, or-else, ofTest, followBound, followAt, follow, occursAny, occursBound, occursAt, occurs}
 use Rattle.unification.specs.Solutions.{termsAt, valueBound, valueAt, valueTo}

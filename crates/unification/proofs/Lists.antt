@@ -4,28 +4,27 @@ use mathlib.Core.Path.{_≡_, refl, ap, ap₂, sym, _∙_, subst}
 use mathlib.Core.List.{List, [], _∷_, _++_}
 use mathlib.Core.Bool.{Bool, true, false, cond, _&&_, and-eq-true-iff}
 use mathlib.Core.Logic.{_⊎_, inl, inr}
-use Prim.Native.Nat.{ℕ, zero, suc, _+_, _-_, _*_, _<_, _≤_}
+use Prim.Native.Nat.{ℕ, zero, suc, _+_, _-_, _<_, _≤_}
 use native.Mathlib.Omega.{arith}
-use lib.ListN.{length, getD}
+use lib.ListN.{length}
 use lib.Dec.{eqb, leb, ltb}
 use borrow.Author.Tests.{ltb-true, ltb-false, leb-true, lt-ltb}
 use Rattle.resolved_sort.specs.declared.Run.{Run}
 use Rattle.resolved_sort.specs.declared.ResolvedSort.{ResolvedSort}
 use Rattle.resolved_sort.specs.declared.ResolvedSort.the-variants.{Unit as UnitRow, Primitive, Container, Function as SortFunction, Def, TypeVar}
-use Rattle.resolved_sort.specs.Tree.{Flat, Tree, flat, container, function, Trees, end, arg, arity}
-use Rattle.resolved_sort.specs.Interning.{look, distinct}
-use Rattle.resolved_sort.specs.Storage.{maxSorts, kindAt, partAt, startAt, countAt, entryAt, entriesOf, resolved, rowAt, wordsAt, lookAll, treeOf, trees}
+use Rattle.resolved_sort.specs.Tree.{Tree, flat, container, function, Trees, end, arg, arity}
+use Rattle.resolved_sort.specs.Interning.{look}
+use Rattle.resolved_sort.specs.Storage.{maxSorts, kindAt, partAt, startAt, countAt, entryAt, entriesOf, resolved, rowAt, lookAll, treeOf, trees}
 use Rattle.resolved_sort.specs.Checks.{allBelow, partsBelow, rowFine, rowsFine}
-use Rattle.resolved_sort.specs.Rows.{Checked}
 use Rattle.resolved_sort.proofs.Below.{below-each}
 use Rattle.resolved_sort.proofs.Numbers.{true-not-false, look-injective}
 use Rattle.resolved_sort.proofs.Trees.{length-trees}
-use Rattle.resolved_sort.proofs.RowTrees.{by-kind, row-within}
+use Rattle.resolved_sort.proofs.RowTrees.{by-kind}
 use Rattle.resolved_sort.proofs.Interned.{listed, trees-differ, look-tree}
 use Rattle.unification.specs.declared.InferSort.{InferSort}
 use Rattle.unification.specs.declared.InferSort.the-variants.{Generic, Function, Var}
-use Rattle.unification.specs.Term.{Head, flatHead, containerHead, functionHead, strayHead, Term, var, app, Terms, no-part, part, Shape, variable, over, termOf, termsOf}
-use Rattle.unification.specs.Nodes.{nodeKindAt, nodeEntryAt, nodeEntriesOf, nodeAt, sortShape, nodeShape, Lists, isSort, isPlace, shapeAt, Binds, binding}
+use Rattle.unification.specs.Term.{Head, functionHead, strayHead, Term, app, Terms, no-part, part, Shape, variable, over, termOf, termsOf}
+use Rattle.unification.specs.Nodes.{nodeKindAt, nodeEntryAt, nodeEntriesOf, nodeAt, sortShape, nodeShape, Lists, isSort, isPlace, shapeAt}
 use Rattle.unification.specs.NodeChecks.{nodePartsFine, nodeKindFine, nodeFine, nodesFine}
 use Rattle.unification.specs.Acyclic.{One, first, later}
 use Rattle.unification.specs.Checked.{NodesChecked, listsOf}

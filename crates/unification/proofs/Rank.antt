@@ -1,20 +1,14 @@
 -- The rank of a place: the longest way down from it through parts and bindings. Where each variable has a number that falls to the variables of
 -- what it is bound to, ranks are bounded, and binding a variable after the occurs check leaves such numbers. Assumes nothing.
-use mathlib.Core.Path.{_≡_, refl, ap, sym, _∙_, subst}
+use mathlib.Core.Path.{_≡_, refl, ap, sym, _∙_}
 use mathlib.Core.List.{List, [], _∷_}
 use mathlib.Core.Option.{Option, none, some}
-use mathlib.Core.Bool.{Bool, true, false, cond}
-use Prim.Native.Nat.{ℕ, zero, suc, _+_, _*_, _-_, _<_, _≤_, max}
+use Prim.Native.Nat.{ℕ, zero, suc, _<_, max}
 use native.Mathlib.Omega.{arith}
-use native.Mathlib.Nat.{mul-le-mul-right}
-use native.Mathlib.Decide.{ℕ-discrete}
-use lib.Dec.{eqb, ltb}
-use lib.ListN.{length, getD, set, length-set}
-use lib.Seq.{getD-set-same, getD-set-other}
+use lib.ListN.{length, set}
 use Rattle.unification.specs.Term.{Head, Shape, variable, over}
 use Rattle.unification.specs.Nodes.{Binds, binding}
 use Rattle.unification.specs.Trail.{freesAt, frees}
-use Rattle.unification.specs.Acyclic.{One, first, later}
 
 abbrev pub highest : (ℕ → ℕ) → List ℕ → ℕ
 highest g [] = 0

@@ -1,7 +1,7 @@
 -- Robinson's theorem: where variables are numbered, unify answers at the depths given; a no says that no terms for the variables respect the
 -- bindings and make the two sides equal; a yes leaves bindings that exactly these respect, numbered again. By the laws of exactness and of
 -- binding. The calls of unify end because free variables get fewer, or else ranks fall. Assumes nothing.
-use mathlib.Core.Path.{_≡_, refl, ap, sym, _∙_, subst}
+use mathlib.Core.Path.{_≡_, refl, ap, _∙_}
 use mathlib.Core.List.{List, [], _∷_}
 use mathlib.Core.Option.{Option, none, some}
 use mathlib.Core.Bool.{Bool, true, false, _&&_}
@@ -11,13 +11,13 @@ use native.Mathlib.Nat.{mul-le-mul-right}
 use native.Mathlib.Omega.{arith}
 use lib.Dec.{eqb}
 use lib.ListN.{length, set, length-set}
-use Rattle.unification.specs.Term.{Head, Term, Shape, variable, over, sameHead}
+use Rattle.unification.specs.Term.{Shape, variable, over, sameHead}
 use Rattle.unification.specs.Nodes.{isSort, Binds, binding}
 use Rattle.unification.specs.Acyclic.{Numbering}
 use Rattle.unification.specs.Trail.{frees}
 use Rattle.unification.specs.Unify.{Unifies, too-deep, no-way, yes-with, and-then, Occurs, unknown, absent, present, follow, occurs, bindUnless, unifyAll, unifyHeads, unifyVariables, unifyShapes, unifyApart, unifyEnds, unifyFollowed, unifyTo}
-use Rattle.unification.proofs.Exact.{Model, Exact, Apart, follow-end, unify-exact}
-use Rattle.unification.proofs.Rank.{highest, rank, Ranked, rank-var, rank-over, frees-set}
+use Rattle.unification.proofs.Exact.{follow-end}
+use Rattle.unification.proofs.Rank.{highest, rank, Ranked, rank-over, frees-set}
 use Rattle.unification.proofs.Numbering.{Lower, numbered-ranked}
 use Rattle.unification.proofs.Enough.{follow-some, occurs-eq, occurs-known}
 use Rattle.unification.proofs.Binding.{binding-numbered}

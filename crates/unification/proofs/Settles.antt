@@ -2,8 +2,8 @@
 -- is bound to. Assumes nothing.
 use mathlib.Core.Path.{_≡_, refl, ap, sym, _∙_, subst}
 use mathlib.Core.List.{List, [], _∷_, _++_}
-use mathlib.Core.Option.{Option, none, some}
-use mathlib.Core.Bool.{Bool, true, false, cond, _&&_, and-eq-true-iff}
+use mathlib.Core.Option.{some}
+use mathlib.Core.Bool.{Bool, true, false, cond, and-eq-true-iff}
 use Prim.Native.Nat.{ℕ, zero, suc, _+_, _-_, _<_, _≤_}
 use native.Mathlib.Omega.{arith}
 use lib.ListN.{length, getD, replicate, length-append, length-replicate}
@@ -12,8 +12,8 @@ use lib.Dec.{ltb}
 use borrow.Author.Tests.{ltb-true, lt-ltb}
 use Rattle.resolved_sort.specs.Storage.{maxSorts, rowAt}
 use Rattle.resolved_sort.proofs.Numbers.{true-not-false}
-use Rattle.unification.specs.Term.{Head, strayHead, Shape, variable, over}
-use Rattle.unification.specs.Nodes.{nodeAt, sortShape, nodeShape, Lists, isSort, isPlace, shapeAt, Binds, binding}
+use Rattle.unification.specs.Term.{strayHead, variable, over}
+use Rattle.unification.specs.Nodes.{nodeAt, nodeShape, Lists, isSort, isPlace, shapeAt, Binds, binding}
 use Rattle.unification.specs.Acyclic.{One, first, later, Stands, at, within, Numbering, placeSettled, allSettled, shapeSettled, nodesSettled, bindingSettled, varsSettled, rounds, all, acyclic}
 use Rattle.unification.specs.Checked.{NodesChecked, listsOf}
 use Rattle.unification.proofs.Numbering.{numbered}

@@ -1,21 +1,21 @@
 -- Robinson's theorem over the terms of places: a solution of the bindings is a model, and what a model gives a place is the term that stands
 -- there with the variables' terms put in. Assumes nothing.
-use mathlib.Core.Path.{_≡_, refl, ap, sym, _∙_, subst}
+use mathlib.Core.Path.{_≡_, refl, ap, sym, _∙_}
 use mathlib.Core.List.{List, [], _∷_}
-use mathlib.Core.Option.{Option, none, some}
+use mathlib.Core.Option.{none, some}
 use Prim.Native.Nat.{ℕ, zero, suc, _+_, _*_, _<_, _≤_}
 use native.Mathlib.Omega.{arith}
 use lib.ListN.{length}
-use Rattle.unification.specs.Term.{Head, Term, var, app, Terms, no-part, part, Shape, variable, over, put, puts}
+use Rattle.unification.specs.Term.{Term, app, Shape, variable, over, put, puts}
 use Rattle.unification.specs.Nodes.{Binds, binding}
 use Rattle.unification.specs.Unify.{Unifies, too-deep, no-way, yes-with, unifyTo}
 use Rattle.unification.specs.Acyclic.{One, first, later, Reaches, here, inside, beyond, Acyclic, Numbering}
-use Rattle.unification.specs.Solutions.{termsAt, termOfShape, termTo, termAt, valueBound, valueTo, Respects, Equates, Robinson, says-no, says-yes}
+use Rattle.unification.specs.Solutions.{termsAt, termOfShape, termTo, termAt, valueBound, valueTo, Respects, Robinson, says-no, says-yes}
 use Rattle.unification.proofs.Exact.{shapeVal, Model, Exact, Apart, unify-exact}
 use Rattle.unification.proofs.Rank.{highest, rank, Ranked, rank-var, rank-over}
 use Rattle.unification.proofs.Numbering.{Lower, numbered-ranked}
 use Rattle.unification.proofs.Enough.{model}
-use Rattle.unification.proofs.Robinson.{Next, Kept, unify-kept}
+use Rattle.unification.proofs.Robinson.{Kept, unify-kept}
 use Rattle.unification.proofs.Equations.{unify-answers}
 
 module _ (shape : ℕ → Shape) (K : ℕ) (lower : Lower shape K) where

@@ -7,7 +7,7 @@ use Prim.Native.Nat.{ℕ, suc, _+_, _*_, _<_, _≤_}
 use native.Mathlib.Omega.{arith}
 use lib.ListN.{length}
 use Rattle.unification.specs.Nodes.{shapeAt, Binds}
-use Rattle.unification.specs.Unify.{Unifies, deep, deeper, unifyTo, unify}
+use Rattle.unification.specs.Unify.{deep, deeper, unify}
 use Rattle.unification.specs.Acyclic.{Acyclic, acyclic}
 use Rattle.unification.specs.NodeChecks.{bindingsFine}
 use Rattle.unification.specs.Checked.{NodesChecked, listsOf, BindsChecked}

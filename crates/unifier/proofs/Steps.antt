@@ -1,35 +1,32 @@
 -- Each way of unify: the equation of the definition at the ends of both sides, with what the code has found there. Assumes nothing.
 use mathlib.Core.Path.{_≡_, refl, ap, ap₂, sym, _∙_, subst}
-use mathlib.Core.List.{List, [], _∷_, _++_}
-use mathlib.Core.Option.{Option, none, some}
+use mathlib.Core.List.{List, [], _∷_}
+use mathlib.Core.Option.{some}
 use mathlib.Core.Bool.{Bool, true, false, _&&_}
 use mathlib.Core.Logic.{_⊎_, inl, inr}
-use Prim.Native.Nat.{ℕ, zero, suc, _+_, _-_, _*_, _<_, _≤_}
+use Prim.Native.Nat.{ℕ, zero, suc, _+_, _*_, _<_, _≤_}
 use native.Mathlib.Omega.{arith}
 use native.Mathlib.Nat.{mul-le-mul-right}
 use native.Mathlib.Numerals.{add-one}
-use lib.ListN.{length, getD, drop, length-drop, drop-of-length-le}
+use lib.ListN.{length, getD, drop, drop-of-length-le}
 use lib.Seq.{drop-cons}
-use lib.Dec.{eqb, ltb}
-use borrow.Author.Tests.{eq-eqb, ne-eqb, ltb-true, lt-ltb, le-ltb}
+use lib.Dec.{eqb}
+use borrow.Author.Tests.{eq-eqb, ne-eqb, le-ltb}
 use Rattle.resolved_sort.specs.Storage.{maxSorts, rowAt}
 use Rattle.resolved_sort.proofs.Numbers.{true-not-false}
 use Rattle.unification.specs.declared.Lengths.{Lengths}
 use Rattle.unification.specs.declared.SortVar.{SortVar}
-use Rattle.unification.specs.declared.VarAt.{VarAt}
 use Rattle.unification.specs.declared.VarAt.the-variants.{Is, Nothing}
 use Rattle.unification.specs.declared.Tried.{Tried}
 use Rattle.unification.specs.declared.Tried.the-variants.{Yes, No}
-use Rattle.unification.specs.Term.{Head, Shape, variable, over, headOf, partsOf, kindHead, numberHead, sameHead}
-use Rattle.unification.specs.Nodes.{isSort, isPlace, Binds, binding, bindsOf}
-use Rattle.unification.specs.Unify.{Unifies, yes-with, no-way, too-deep, and-then, Occurs, absent, ofTest, follow, occurs, bindUnless, unifyAll, unifyHeads, unifyVariables, unifyShapes, unifyApart, unifyEnds, unifyFollowed, unifyTo, unify, deep, deeper}
+use Rattle.unification.specs.Term.{Head, Shape, variable, over, headOf, partsOf, sameHead}
+use Rattle.unification.specs.Nodes.{isSort, isPlace, Binds, bindsOf}
+use Rattle.unification.specs.Unify.{Unifies, yes-with, no-way, too-deep, and-then, follow, occurs, bindUnless, unifyAll, unifyHeads, unifyVariables, unifyShapes, unifyApart, unifyEnds, unifyFollowed, unify, deep, deeper}
 use Rattle.unification.specs.Acyclic.{One, first, later}
 use Rattle.unification.specs.Checked.{graphOf, Ready, Placed}
 use Rattle.unification.specs.Trail.{frees, Tries}
 use Rattle.unification.proofs.Exact.{follow-end}
-use Rattle.unification.proofs.Rank.{highest, rank, Ranked, rank-over}
-use Rattle.unification.proofs.Numbering.{numbered-ranked}
-use Rattle.unification.proofs.Enough.{follow-some}
+use Rattle.unification.proofs.Rank.{rank, rank-over}
 use Rattle.unification.proofs.Lists.{lower, scoped, Place, is-sort, is-node, is-stray, place, sort-parts, sort-parts-fine, sort-no-variable, node-parts, node-parts-fine}
 use Rattle.unification.proofs.Robinson.{Next, Kept, unify-kept}
 use Rattle.unification.proofs.Equations.{unify-eq}

@@ -1,23 +1,21 @@
 -- A try, step by step: one that binds nothing, one that binds a variable, and one after another. Assumes nothing.
-use mathlib.Core.Path.{_≡_, refl, ap, ap₂, sym, _∙_, subst}
-use mathlib.Core.List.{List, [], _∷_, _++_}
-use mathlib.Core.Option.{Option, none, some}
-use mathlib.Core.Bool.{Bool, true, false, cond, _&&_, and-eq-true-iff}
-use mathlib.Core.Logic.{_⊎_, inl, inr}
-use Prim.Native.Nat.{ℕ, zero, suc, _+_, _-_, _*_, _<_, _≤_}
+use mathlib.Core.Path.{_≡_, refl, ap, sym, _∙_}
+use mathlib.Core.List.{List}
+use mathlib.Core.Option.{some}
+use mathlib.Core.Bool.{Bool, true, false}
+use Prim.Native.Nat.{ℕ, suc, _+_, _-_, _<_, _≤_}
 use native.Mathlib.Omega.{arith}
 use lib.ListN.{length, getD, set, take, length-set}
 use lib.Seq.{getD-set-same, take-set-le, take-take, drop-set-lt}
 use lib.Dec.{eqb}
 use borrow.Author.Tests.{eq-eqb, ne-eqb}
-use Rattle.resolved_sort.specs.Storage.{maxSorts}
 use Rattle.unification.specs.declared.Lengths.{Lengths}
 use Rattle.unification.specs.declared.Tried.{Tried}
 use Rattle.unification.specs.declared.Tried.the-variants.{Yes, No}
-use Rattle.unification.specs.Nodes.{freeWord, Binds, binding, bindsOf}
-use Rattle.unification.specs.Unify.{Unifies, yes-with, no-way, too-deep, and-then, Occurs, absent, ofTest, occurs, bindUnless, unifyVariables, deep}
+use Rattle.unification.specs.Nodes.{freeWord, Binds, bindsOf}
+use Rattle.unification.specs.Unify.{Unifies, yes-with, no-way, and-then, absent, ofTest, occurs, bindUnless, unifyVariables, deep}
 use Rattle.unification.specs.Checked.{graphOf, Ready, Placed}
-use Rattle.unification.specs.Trail.{undo, frees, countOf, answerOf, Tries}
+use Rattle.unification.specs.Trail.{undo, frees, countOf, Tries}
 use Rattle.unification.proofs.Rank.{frees-set}
 use Rattle.unification.proofs.Binding.{binding-numbered}
 use Rattle.unification.proofs.Enough.{occurs-eq}

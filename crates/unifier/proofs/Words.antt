@@ -1,16 +1,14 @@
 -- Bindings as words, and the trail: a binding is a word set, and undoing sets it free again. Assumes nothing.
-use mathlib.Core.Path.{_≡_, refl, ap, ap₂, sym, _∙_, subst}
-use mathlib.Core.List.{List, [], _∷_, _++_}
-use mathlib.Core.Option.{Option, none, some}
-use mathlib.Core.Bool.{Bool, true, false, cond, _&&_, and-eq-true-iff}
-use Prim.Native.Nat.{ℕ, zero, suc, _+_, _-_, _<_, _≤_}
+use mathlib.Core.Path.{_≡_, refl, ap, sym, _∙_}
+use mathlib.Core.List.{List, [], _∷_}
+use mathlib.Core.Option.{none, some}
+use mathlib.Core.Bool.{Bool, true, false, cond, and-eq-true-iff}
+use Prim.Native.Nat.{ℕ, zero, suc, _+_, _<_, _≤_}
 use native.Mathlib.Omega.{arith}
-use native.Mathlib.Decide.{ℕ-discrete}
 use lib.ListN.{length, getD, set, take}
-use lib.Seq.{set-set, set-getD, getD-take, getD-set-same, getD-set-other, take-set-le}
+use lib.Seq.{set-set, set-getD, getD-take}
 use lib.Dec.{eqb}
-use borrow.Author.Tests.{eqb-true, eqb-false, ne-eqb}
-use Rattle.resolved_sort.proofs.Numbers.{true-not-false}
+use borrow.Author.Tests.{eqb-true, ne-eqb}
 use Rattle.unification.specs.Nodes.{isPlace, freeWord, Binds, binding, bindingOf, bindsOf}
 use Rattle.unification.specs.NodeChecks.{bindingFine, bindingsFine}
 use Rattle.unification.specs.Trail.{undo}

@@ -2,12 +2,12 @@
 -- Assumes nothing.
 use mathlib.Core.Path.{_≡_, refl, ap, ap₂, sym, _∙_, subst}
 use mathlib.Core.List.{List, [], _∷_, _++_}
-use mathlib.Core.Option.{Option, none, some}
+use mathlib.Core.Option.{none, some}
 use mathlib.Core.Bool.{Bool, true, false, not, cond, _&&_, and-eq-true-iff}
 use Prim.Native.Nat.{ℕ, zero, suc, _+_, _-_, _*_, _<_, _≤_}
 use native.Mathlib.Omega.{arith}
-use lib.ListN.{length, take, drop, replicate, take-append-drop}
-use lib.Dec.{eqb, leb, ltb}
+use lib.ListN.{length, take, drop, take-append-drop}
+use lib.Dec.{eqb, leb}
 use borrow.Author.Tests.{not-true, not-false, leb-true, le-leb, lt-leb, eqb-true}
 use Rattle.resolved_sort.specs.declared.Tested.{Tested}
 use Rattle.resolved_sort.specs.declared.Tested.the-variants.{Refused, Passed}
@@ -21,12 +21,12 @@ use Rattle.unification.specs.declared.Tried.the-variants.{Yes as TriedYes, No a
 use Rattle.unification.specs.declared.Unified.{Unified}
 use Rattle.unification.specs.declared.Unified.the-variants.{Refused as NotUnified, Yes, No}
 use Rattle.unification.specs.Nodes.{maxNodes, maxNodeEntries, maxVars, nodeEntriesAt, fullNodes, isPlace, shapeAt, freeWord, Binds, bindingOf, bindsOf}
-use Rattle.unification.specs.Unify.{Unifies, yes-with, no-way, unify}
+use Rattle.unification.specs.Unify.{Unifies, yes-with, unify}
 use Rattle.unification.specs.Acyclic.{acyclic}
 use Rattle.unification.specs.NodeChecks.{nodesWithinLent, bindingsWithinLent, nodesFine, bindingsFine, nodeChecks, placeChecks, unifyChecks}
-use Rattle.unification.specs.Checked.{NodesChecked, listsOf, graphOf, Ready, Placed}
-use Rattle.unification.specs.Trail.{undo, frees, freesAt, Tries}
-use Rattle.unification.specs.UnifyEntry.{wordOf, wordsOf, Left, left, leftBy, unifyEntry, packUnified, packLeft}
+use Rattle.unification.specs.Checked.{NodesChecked, listsOf, Ready}
+use Rattle.unification.specs.Trail.{undo, frees, Tries}
+use Rattle.unification.specs.UnifyEntry.{wordOf, wordsOf, Left, left, leftBy, unifyEntry}
 use Rattle.unification.proofs.Theorem.{binds-checked}
 use Rattle.infer_nodes.proofs.Ways.{length-binds}
 use Rattle.unifier.specs.Trying.{Trying}
