@@ -2,7 +2,7 @@
 use mathlib.Core.Path.{_≡_, refl, ap, ap₂, sym, _∙_, subst}
 use mathlib.Core.List.{List, [], _∷_, _++_}
 use mathlib.Core.Option.{none, some}
-use mathlib.Core.Bool.{Bool, true, false, cond, _&&_}
+use mathlib.Core.Bool.{Bool, true, false, cond, _&&_, and-true, and-assoc}
 use Prim.Native.Nat.{ℕ, zero, suc, _+_, _-_, _<_, _≤_}
 use native.Mathlib.Omega.{arith}
 use native.Mathlib.Numerals.{add-one}
@@ -62,18 +62,10 @@ module _ (ns : List ℕ) (ms : List Bool) (s c : ℕ) where
     run-ends l = sym (p .left ∙ ap (λ (x : ℕ). allSettled ms (nodeEntriesOf ns (s + j) x)) (let z : c - j ≡ 0 = omega (arith, l) in z))
 
 -- a node
-and-true : (b : Bool) → (b && true) ≡ b
-and-true true = refl
-and-true false = refl
-
 settled-last : (ms : List Bool) (xs : List ℕ) (y : ℕ) → allSettled ms (xs ++ (y ∷ [])) ≡ (allSettled ms xs && placeSettled ms y)
 unfolding allSettled
 settled-last ms [] y = and-true (placeSettled ms y)
-settled-last ms (x ∷ xs) y = ap (λ z. placeSettled ms x && z) (settled-last ms xs y) ∙ assoc (placeSettled ms x) (allSettled ms xs) (placeSettled ms y)
-  where
-    assoc : (a b c : Bool) → (a && (b && c)) ≡ (a && b && c)
-    assoc true b c = refl
-    assoc false b c = refl
+settled-last ms (x ∷ xs) y = ap (λ z. placeSettled ms x && z) (settled-last ms xs y) ∙ sym (and-assoc (placeSettled ms x) (allSettled ms xs) (placeSettled ms y))
 
 module _ (ns : List ℕ) (vs ms : List Bool) (i : ℕ) (r : InferSort) (e : r ≡ nodeAt ns i) where
   abbrev whole : Bool

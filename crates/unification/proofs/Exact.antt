@@ -12,11 +12,13 @@ use borrow.Author.Tests.{eqb-true, eqb-false}
 use lib.ListN.{length, set, length-set}
 use lib.Seq.{getD-set-same, getD-set-other}
 use Rattle.resolved_sort.proofs.Numbers.{true-not-false}
+use Rattle.resolved_sort.proofs.Reached.{no-confusion}
 use Rattle.unification.specs.Term.{Head, Term, var, app, Terms, no-part, part, Shape, variable, over, sameHead}
 use Rattle.unification.specs.Nodes.{isSort, Binds, binding}
 use Rattle.unification.specs.Solutions.{termsAt}
 use Rattle.unification.proofs.Heads.{same-head-true, same-head-refl}
-use Rattle.unification.specs.Unify.{Unifies, too-deep, no-way, yes-with, and-then, Occurs, unknown, absent, present, or-else, ofTest, followBound, followAt, follow, occursAny, occursBound, occursAt, occurs, bindUnless, unifyAll, unifyHeads, unifyVariables, unifyShapes, unifyApart, unifyEnds, unifyFollowed, unifyTo}
+use Rattle.unification.proofs.Follow.{follow-holds, follow-end}
+use Rattle.unification.specs.Unify.{Unifies, too-deep, no-way, yes-with, and-then, Occurs, unknown, absent, present, or-else, ofTest, follow, occursAny, occursBound, occursAt, occurs, bindUnless, unifyAll, unifyHeads, unifyVariables, unifyShapes, unifyApart, unifyEnds, unifyFollowed, unifyTo}
 
 unfoldable mutual
   pub size : Term → ℕ
@@ -45,37 +47,8 @@ Exact shape B E (yes-with B′) = (length B′ ≡ length B)
     × ((σ val : ℕ → Term) → Model shape B σ val → E val → Model shape B′ σ val)
 
 -- following bindings
-
 pub follow-value : (shape : ℕ → Shape) (B : Binds) (σ val : ℕ → Term) → Model shape B σ val → (k p q : ℕ) → follow shape k B p ≡ some q → val p ≡ val q
-unfolding follow
-follow-value shape B σ val M zero p q e = cc
-follow-value shape B σ val M (suc k) p q e = go (shape p) refl e (λ q′ e′. follow-value shape B σ val M k q′ q e′)
-  where
-    bound : (o : Option ℕ) (v : ℕ) → shape p ≡ variable v → binding B v ≡ o → followBound shape o p (follow shape k B) ≡ some q
-        → ((q′ : ℕ) → follow shape k B q′ ≡ some q → val q′ ≡ val q) → val p ≡ val q
-    bound none v s l e ih = cc
-    bound (some q′) v s l e ih = M .isval p ∙ (rw s (M .sat v q′ l)) ∙ ih q′ e
-
-    go : (s : Shape) → shape p ≡ s → followAt shape s B p (follow shape k B) ≡ some q
-        → ((q′ : ℕ) → follow shape k B q′ ≡ some q → val q′ ≡ val q) → val p ≡ val q
-    go (variable v) s e ih = bound (binding B v) v s refl e ih
-    go (over h ps) s e ih = cc
-
--- following ends at a free variable or at no variable
-pub follow-end : (shape : ℕ → Shape) (B : Binds) (k p q v : ℕ) → follow shape k B p ≡ some q → shape q ≡ variable v → binding B v ≡ none
-unfolding follow
-follow-end shape B zero p q v e s = absurd (let z : _≡_ {A = ℕ} 0 1 = cc in omega arith)
-follow-end shape B (suc k) p q v e s = go (shape p) refl e (λ q′ e′. follow-end shape B k q′ q v e′ s)
-  where
-    bound : (o : Option ℕ) (w : ℕ) → shape p ≡ variable w → binding B w ≡ o → followBound shape o p (follow shape k B) ≡ some q
-        → ((q′ : ℕ) → follow shape k B q′ ≡ some q → binding B v ≡ none) → binding B v ≡ none
-    bound none w sp l e ih = cc
-    bound (some q′) w sp l e ih = ih q′ e
-
-    go : (t : Shape) → shape p ≡ t → followAt shape t B p (follow shape k B) ≡ some q
-        → ((q′ : ℕ) → follow shape k B q′ ≡ some q → binding B v ≡ none) → binding B v ≡ none
-    go (variable w) sp e ih = bound (binding B w) w sp refl e ih
-    go (over h ps) sp e ih = cc
+follow-value shape B σ val M = follow-holds shape B (λ p q. val p ≡ val q) (λ p i. refl) (λ p v r q s b h. M .isval p ∙ (rw s (M .sat v r b)) ∙ h)
 
 -- a binding
 
@@ -108,11 +81,11 @@ bind-exact shape B v l r lt free s = (length-set B v (some r), down, up)
 occurs-any-size : (shape : ℕ → Shape) (σ val : ℕ → Term) (v : ℕ) (f : ℕ → Occurs) → ((p : ℕ) → f p ≡ present → size (σ v) ≤ size (val p))
     → (ps : List ℕ) → occursAny shape f ps ≡ present → size (σ v) ≤ sizes (termsAt val ps)
 unfolding size
-occurs-any-size shape σ val v f ih [] e = absurd (let z : _≡_ {A = ℕ} 0 1 = cc in omega arith)
+occurs-any-size shape σ val v f ih [] e = no-confusion (cc)
 occurs-any-size shape σ val v f ih (p ∷ ps) e = go (f p) refl e (occurs-any-size shape σ val v f ih ps)
   where
     go : (a : Occurs) → f p ≡ a → or-else a (occursAny shape f ps) ≡ present → (occursAny shape f ps ≡ present → size (σ v) ≤ sizes (termsAt val ps)) → size (σ v) ≤ size (val p) + sizes (termsAt val ps)
-    go unknown fp e h = absurd (let z : _≡_ {A = ℕ} 0 1 = cc in omega arith)
+    go unknown fp e h = no-confusion (cc)
     go absent fp e h = let a = h e in omega arith
     go present fp e h = let a = ih p fp in omega arith
 
@@ -125,11 +98,11 @@ occurs-over shape σ val iv v p h ps s le =
 
 yes-of : (b : Bool) → ofTest b ≡ present → T b
 yes-of true e = tt
-yes-of false e = absurd (let z : _≡_ {A = ℕ} 0 1 = cc in omega arith)
+yes-of false e = no-confusion (cc)
 
 occurs-size : (shape : ℕ → Shape) (B : Binds) (σ val : ℕ → Term) → Model shape B σ val → (k v p : ℕ) → occurs shape k B v p ≡ present → size (σ v) ≤ size (val p)
 unfolding occurs
-occurs-size shape B σ val M zero v p e = absurd (let z : _≡_ {A = ℕ} 0 1 = cc in omega arith)
+occurs-size shape B σ val M zero v p e = no-confusion (cc)
 occurs-size shape B σ val M (suc k) v p e = go (shape p) refl e (λ q e′. occurs-size shape B σ val M k v q e′)
   where
     bound : (o : Option ℕ) (w : ℕ) → shape p ≡ variable w → binding B w ≡ o → occursBound shape o v w (occurs shape k B v) ≡ present
@@ -154,7 +127,7 @@ occurs-size shape B σ val M (suc k) v p e = go (shape p) refl e (λ q e′. occ
 occurs-strict : (shape : ℕ → Shape) (B : Binds) (σ val : ℕ → Term) → Model shape B σ val → (k v p : ℕ) (h : Head) (ps : List ℕ) → shape p ≡ over h ps
     → occurs shape k B v p ≡ present → size (σ v) < size (val p)
 unfolding occurs
-occurs-strict shape B σ val M zero v p h ps s e = absurd (let z : _≡_ {A = ℕ} 0 1 = cc in omega arith)
+occurs-strict shape B σ val M zero v p h ps s e = no-confusion (cc)
 occurs-strict shape B σ val M (suc k) v p h ps s e =
     occurs-over shape σ val (M .isval) v p h ps s (occurs-any-size shape σ val v (occurs shape k B v) (occurs-size shape B σ val M k v) ps
     (rw s at e))
@@ -172,8 +145,8 @@ list-law : (shape : ℕ → Shape) (f : Binds → ℕ → ℕ → Unifies) (n : 
     → ((B : Binds) (a b : ℕ) → length B ≡ n → Exact shape B (λ val. val a ≡ val b) (f B a b))
     → (xs ys : List ℕ) (B : Binds) → length B ≡ n → Exact shape B (λ val. termsAt val xs ≡ termsAt val ys) (unifyAll shape f B xs ys)
 list-law shape f n ih [] [] B len = (refl, (λ σ val M. (M, refl)), λ σ val M e. M)
-list-law shape f n ih [] (y ∷ ys) B len = λ σ val M e. let z : _≡_ {A = ℕ} 0 1 = cc in omega arith
-list-law shape f n ih (x ∷ xs) [] B len = λ σ val M e. let z : _≡_ {A = ℕ} 0 1 = cc in omega arith
+list-law shape f n ih [] (y ∷ ys) B len = λ σ val M e. no-confusion (cc)
+list-law shape f n ih (x ∷ xs) [] B len = λ σ val M e. no-confusion (cc)
 list-law shape f n ih (x ∷ xs) (y ∷ ys) B len = go (f B x y) (ih B x y len) (list-law shape f n ih xs ys)
   where
     then : (B′ : Binds) → Exact shape B (λ val. val x ≡ val y) (yes-with B′) → (r : Unifies) → Exact shape B′ (λ val. termsAt val xs ≡ termsAt val ys) r

@@ -1,5 +1,9 @@
 pub mod Examples
 pub mod Heads
+pub mod Parts
+pub mod Places
+pub mod Rows
+pub mod Follow
 pub mod Exact
 pub mod Rank
 pub mod Numbering

@@ -14,6 +14,7 @@ use Rattle.resolved_sort.specs.Interning.{Sorts, look, Outcome, made as interne
 use Rattle.resolved_sort.specs.Storage.{maxSorts, functionKind, kindOp, Row, trees, sortsOf}
 use Rattle.resolved_sort.specs.Entries.{Stored, stored}
 use Rattle.resolved_sort.specs.Bounds.{internAt}
+use Rattle.resolved_sort.proofs.Reached.{no-confusion}
 use Rattle.unification.specs.Nodes.{maxNodes, maxNodeEntries}
 use Rattle.unification.specs.Making.{Lent, Makes, made, no-list, no-room, _and-then_, appendNode, pushNode, withSorts, internContainer, only, relatedOver, pushFunctions}
 
@@ -42,9 +43,9 @@ unfolding intern
 intern-not-nothing t S S′ e = go (member (S .trees) t) (fits t S) e
   where
     go : (a b : Bool) → cond a (interned t S) (cond b (interned t (record { trees = S .trees ++ (t ∷ []); rows = S .rows - 1; entries = S .entries - need t })) (full S)) ≡ nothing S′ → ⊥
-    go true b e = let z : _≡_ {A = ℕ} 0 1 = cc in omega arith
-    go false true e = let z : _≡_ {A = ℕ} 0 1 = cc in omega arith
-    go false false e = let z : _≡_ {A = ℕ} 0 1 = cc in omega arith
+    go true b e = no-confusion (cc)
+    go false true e = no-confusion (cc)
+    go false false e = no-confusion (cc)
 
 module _ (N : Lent → Type 0) (C : ℕ → Lent → Type 0) where
   pub each-node : (P : ℕ → Lent → Type 0) (r : Row) (W : Lent) → P (maxSorts + W .lengths .nodes) (appendNode W r) → C 16 W → Each P N C (pushNode r W)

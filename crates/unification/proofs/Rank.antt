@@ -6,9 +6,11 @@ use mathlib.Core.Option.{Option, none, some}
 use Prim.Native.Nat.{ℕ, zero, suc, _<_, max}
 use native.Mathlib.Omega.{arith}
 use lib.ListN.{length, set}
+use Rattle.resolved_sort.proofs.Reached.{no-confusion}
 use Rattle.unification.specs.Term.{Head, Shape, variable, over}
 use Rattle.unification.specs.Nodes.{Binds, binding}
 use Rattle.unification.specs.Trail.{freesAt, frees}
+use Rattle.unification.specs.Acyclic.{One, first, later}
 
 abbrev pub highest : (ℕ → ℕ) → List ℕ → ℕ
 highest g [] = 0
@@ -31,12 +33,14 @@ rank shape (suc k) B p = rankAt (rank shape k B) B (shape p)
 pub record Ranked (shape : ℕ → Shape) (w : ℕ) (B : Binds) : Type 0 where
   pub short : (p : ℕ) → rank shape w B p < w
 
-highest-agrees : (g g′ : ℕ → ℕ) (m : ℕ) → ((q : ℕ) → g q < m → g′ q ≡ g q) → (ps : List ℕ) → highest g ps < suc m → highest g′ ps ≡ highest g ps
-highest-agrees g g′ m h [] lt = refl
-highest-agrees g g′ m h (p ∷ ps) lt =
-    let a = h p (omega arith) in
-    let b = highest-agrees g g′ m h ps (omega arith) in
-    omega arith
+-- each part is below the rank of its list, and functions that agree on each part agree on the list
+pub one-highest : (g : ℕ → ℕ) (ps : List ℕ) (q : ℕ) → One q ps → g q < highest g ps
+one-highest g _ q (first ps) = omega arith
+one-highest g _ q (later p ps o) = omega (arith, one-highest g ps q o)
+
+pub highest-agree : (f g : ℕ → ℕ) (ps : List ℕ) → ((q : ℕ) → One q ps → f q ≡ g q) → highest f ps ≡ highest g ps
+highest-agree f g [] h = refl
+highest-agree f g (p ∷ ps) h = let a = h p (first ps) in let b = highest-agree f g ps (λ q o. h q (later p ps o)) in cc
 
 stable : (shape : ℕ → Shape) (B : Binds) (k p : ℕ) → rank shape k B p < k → rank shape (suc k) B p ≡ rank shape k B p
 unfolding rank
@@ -51,7 +55,7 @@ stable shape B (suc k) p lt = go (shape p) lt (stable shape B k)
     go : (s : Shape) → rankAt (rank shape k B) B s < suc k → ((q : ℕ) → rank shape k B q < k → rank shape (suc k) B q ≡ rank shape k B q)
         → rankAt (rank shape (suc k) B) B s ≡ rankAt (rank shape k B) B s
     go (variable v) lt ih = bound (binding B v) lt ih
-    go (over h ps) lt ih = highest-agrees (rank shape k B) (rank shape (suc k) B) k ih ps lt
+    go (over h ps) lt ih = highest-agree (rank shape (suc k) B) (rank shape k B) ps (λ q o. ih q (omega (arith, lt, one-highest (rank shape k B) ps q o)))
 
 -- the rank by its children
 pub rank-eq : (shape : ℕ → Shape) (w : ℕ) (B : Binds) → Ranked shape w B → (p : ℕ) → rank shape w B p ≡ rankAt (rank shape w B) B (shape p)
@@ -65,7 +69,7 @@ pub rank-over : (shape : ℕ → Shape) (w : ℕ) (B : Binds) → Ranked shape w
 rank-over shape w B A p h ps s = rank-eq shape w B A p ∙ rw s
 
 pub none-some : {A : Type 0} (x : ℕ) → _≡_ {A = Option ℕ} none (some x) → A
-none-some x e = absurd (let z : _≡_ {A = ℕ} 0 1 = cc in omega arith)
+none-some x e = no-confusion (cc)
 
 pub frees-set : (B : Binds) (v r : ℕ) → v < length B → binding B v ≡ none → suc (frees (set B v (some r))) ≡ frees B
 frees-set [] v r lt free = absurd (omega arith)

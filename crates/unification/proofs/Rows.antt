@@ -1,6 +1,6 @@
 -- Rows that passed their checks: their parts are lower, their variables are in the list, and their heads stand over as many parts as they should. By the
 -- kinds of rows; a function of sorts and one of nodes pass the same tests, each with its own test for a part. Assumes nothing.
-use mathlib.Core.Path.{_≡_, refl, sym, subst}
+use mathlib.Core.Path.{_≡_, sym, subst}
 use mathlib.Core.List.{List, [], _∷_, _++_}
 use mathlib.Core.Bool.{Bool, true, _&&_, and-eq-true-iff}
 use Prim.Native.Nat.{ℕ, _+_, _<_, _≤_}

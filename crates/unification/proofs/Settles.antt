@@ -12,15 +12,15 @@ use lib.Dec.{ltb}
 use borrow.Author.Tests.{ltb-true, lt-ltb}
 use Rattle.resolved_sort.specs.Storage.{maxSorts, rowAt}
 use Rattle.resolved_sort.proofs.Numbers.{true-not-false}
+use Rattle.resolved_sort.proofs.Reached.{no-confusion}
 use Rattle.unification.specs.Term.{strayHead, variable, over}
 use Rattle.unification.specs.Nodes.{nodeAt, nodeShape, Lists, isSort, isPlace, shapeAt, Binds, binding}
 use Rattle.unification.specs.Acyclic.{One, first, later, Stands, at, within, Numbering, placeSettled, allSettled, shapeSettled, nodesSettled, bindingSettled, varsSettled, rounds, all, acyclic}
 use Rattle.unification.specs.Checked.{NodesChecked, listsOf}
 use Rattle.unification.proofs.Numbering.{numbered}
-use Rattle.unification.proofs.Lists.{none-of, sort-parts, sort-parts-fine, sort-no-variable, node-parts, node-parts-fine, Place, is-sort, is-node, is-stray, place, scoped}
-
-differ : {A : Type 0} → _≡_ {A = ℕ} 0 1 → A
-differ e = absurd (omega arith)
+use Rattle.unification.proofs.Parts.{none-of}
+use Rattle.unification.proofs.Rows.{sort-parts, sort-no-variable, node-parts}
+use Rattle.unification.proofs.Lists.{sort-parts-fine, node-parts-fine, Place, is-sort, is-node, is-stray, place, scoped}
 
 all-one : (ms : List Bool) (q : ℕ) (ps : List ℕ) → One q ps → allSettled ms ps ≡ true → placeSettled ms q ≡ true
 unfolding allSettled
@@ -59,9 +59,9 @@ node-is ns vs m i l =
     ap (λ (x : ℕ). getD (nodesSettled ns vs x) i false) (let z : m ≡ suc i + (m - suc i) = omega (arith, l) in z)
     ∙ (node-longer ns vs (m - suc i) (suc i) i (omega arith) ∙ node-last ns vs i)
 
-pub place-longer : (ns : List ℕ) (vs : List Bool) (n m i q : ℕ) → i ≤ m → isPlace n i q ≡ true → placeSettled (nodesSettled ns vs i) q ≡ placeSettled (nodesSettled ns vs m) q
+pub settled-longer : (ns : List ℕ) (vs : List Bool) (n m i q : ℕ) → i ≤ m → isPlace n i q ≡ true → placeSettled (nodesSettled ns vs i) q ≡ placeSettled (nodesSettled ns vs m) q
 unfolding isPlace
-place-longer ns vs n m i q l e = go (isSort q) refl e
+settled-longer ns vs n m i q l e = go (isSort q) refl e
   where
     go : (b : Bool) → isSort q ≡ b → cond b (ltb q n) (ltb (q - maxSorts) i) ≡ true
         → cond b true (getD (nodesSettled ns vs i) (q - maxSorts) false) ≡ cond b true (getD (nodesSettled ns vs m) (q - maxSorts) false)
@@ -87,7 +87,7 @@ var-is ms (b ∷ B) zero l = refl
 var-is ms (b ∷ B) (suc v) l = var-is ms B v (omega (arith, l))
 
 bound-inside : (B : Binds) (v q : ℕ) → binding B v ≡ some q → v < length B
-bound-inside [] v q e = differ (cc)
+bound-inside [] v q e = no-confusion (cc)
 bound-inside (b ∷ B) zero q e = omega arith
 bound-inside (b ∷ B) (suc v) q e = omega (arith, bound-inside B v q e)
 
@@ -134,7 +134,7 @@ module _ (ws : List ℕ) (n e : ℕ) (ns : List ℕ) (m d v : ℕ) (c : NodesChe
       go (is-node i l x g) =
           let y : nodeShape ns (nodeAt ns i) ≡ variable u = sym g ∙ s in
           sym (ap (shapeSettled (rounds ns m B k) (nodesSettled ns (rounds ns m B k) i)) y) ∙ (sym (node-is ns (rounds ns m B k) m i l) ∙ (node-flag (flags k) p i x ∙ f))
-      go (is-stray z g) = let y : over (strayHead p) [] ≡ variable u = sym g ∙ s in differ (cc)
+      go (is-stray z g) = let y : over (strayHead p) [] ≡ variable u = sym g ∙ s in no-confusion (cc)
   stands-settled k u _ (within p q h ps s o t) f = stands-settled k u q t (go (place ws n e ns m d v c p))
     where
       go : Place ws n e ns m d v c p → placeSettled (flags k) q ≡ true
@@ -142,7 +142,7 @@ module _ (ws : List ℕ) (n e : ℕ) (ns : List ℕ) (m d v : ℕ) (c : NodesChe
       go (is-node i l x g) =
           let y : nodeShape ns (nodeAt ns i) ≡ over h ps = sym g ∙ s in
           let z = sym (ap (shapeSettled (rounds ns m B k) (nodesSettled ns (rounds ns m B k) i)) y) ∙ (sym (node-is ns (rounds ns m B k) m i l) ∙ (node-flag (flags k) p i x ∙ f)) in
-          sym (place-longer ns (rounds ns m B k) n m i q (omega (arith, l)) (node-parts ns d n v i (nodeAt ns i) (c .sorts .sorts) (node-parts-fine ws n e ns m d v c i l) q h ps y o))
+          sym (settled-longer ns (rounds ns m B k) n m i q (omega (arith, l)) (node-parts ns d n v i (nodeAt ns i) (node-parts-fine ws n e ns m d v c i l) q h ps y o))
           ∙ all-one (nodesSettled ns (rounds ns m B k) i) q ps o z
       go (is-stray z g) = none-of q ps o (let y : over (strayHead p) [] ≡ over h ps = sym g ∙ s in let w : ps ≡ [] = cc in w)
 

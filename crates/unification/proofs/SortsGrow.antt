@@ -2,11 +2,11 @@
 -- place is a place among more sorts. Assumes nothing.
 use mathlib.Core.Path.{_≡_, refl, ap, _∙_}
 use mathlib.Core.List.{List, [], _∷_, _++_}
-use mathlib.Core.Bool.{true, _&&_, and-eq-true-iff}
+use mathlib.Core.Bool.{true, and-eq-true-iff}
 use Prim.Native.Nat.{ℕ, _+_, _-_, _<_, _≤_}
 use native.Mathlib.Omega.{arith}
 use lib.ListN.{length}
-use lib.Dec.{eqb, leb, ltb}
+use lib.Dec.{eqb, leb}
 use borrow.Author.Tests.{leb-true, le-leb}
 use Rattle.resolved_sort.specs.declared.ResolvedSort.{ResolvedSort}
 use Rattle.resolved_sort.specs.declared.ResolvedSort.the-variants.{Unit as UnitRow, Primitive, Container, Function as SortFunction, Def, TypeVar}
@@ -25,6 +25,7 @@ use Rattle.unification.specs.declared.Lengths.{Lengths}
 use Rattle.unification.specs.Checked.{Ready}
 use Rattle.unification.specs.Making.{Lent}
 use Rattle.unification.proofs.Lists.{sort-parts-fine}
+use Rattle.unification.proofs.Rows.{sort-function-fine}
 use Rattle.unification.proofs.Grows.{CheckedLent, Grows, rows-same, node-fine-longer, ready-grown}
 
 -- the lists with the sorts S
@@ -54,15 +55,12 @@ module _ (ws us : List ℕ) (n e : ℕ) (a : Agrees ws us n e) where
 
   -- a row whose run is inside the entries has the same shape
   sort-shape : (i : ℕ) (r : ResolvedSort) → partsBelow ws e i r ≡ true → sortShape us r ≡ sortShape ws r
-  unfolding partsBelow sortShape
+  unfolding sortShape
   sort-shape i UnitRow f = refl
   sort-shape i (Primitive s) f = refl
   sort-shape i (Container op s) f = refl
   sort-shape i (SortFunction domain range) f =
-      let x = and-eq-true-iff (leb (domain .count) 16 && leb (domain .start + domain .count) e && ltb (range .0) i) _ .0 f in
-      let y = and-eq-true-iff (leb (domain .count) 16 && leb (domain .start + domain .count) e) (ltb (range .0) i) .0 (x .0) in
-      let z = and-eq-true-iff (leb (domain .count) 16) (leb (domain .start + domain .count) e) .0 (y .0) in
-      let l = leb-true (domain .start + domain .count) e (z .1) in
+      let l = sort-function-fine ws e i domain (range .0) f .inside in
       ap (λ xs. over (functionHead (domain .count)) (xs ++ (range .0 ∷ []))) (entries-agree us ws (domain .start) (domain .count) (λ j h. a .entries (domain .start + j) (omega (arith, l, h))))
   sort-shape i (Def x) f = refl
   sort-shape i (TypeVar x) f = refl

@@ -19,9 +19,10 @@ use Rattle.unification.specs.Trail.{undo, frees, countOf, Tries}
 use Rattle.unification.proofs.Rank.{frees-set}
 use Rattle.unification.proofs.Binding.{binding-numbered}
 use Rattle.unification.proofs.Enough.{occurs-eq}
-use Rattle.infer_nodes.proofs.Ways.{length-binds, ranked}
-use Rattle.unification.proofs.Lists.{lower, scoped, place-below}
-use Rattle.unification.proofs.Theorem.{deep-enough}
+use Rattle.infer_nodes.proofs.Ways.{length-binds}
+use Rattle.unification.proofs.Lists.{lower, scoped}
+use Rattle.unification.proofs.Places.{place-below}
+use Rattle.unification.proofs.Theorem.{deep-enough, ready-ranked}
 use Rattle.unifier.specs.Trying.{Trying, Free, Stands}
 use Rattle.unifier.proofs.Words.{binds-set, freed, places-set, undo-split, undo-front}
 
@@ -156,7 +157,7 @@ module _ (ws ns : List ℕ) (k : Lengths) where
 
       module _ (d : v ≡ u → ⊥) where
         other-absent : occurs (graphOf ws ns k) deep old v w ≡ absent
-        other-absent = occurs-eq (graphOf ws ns k) deep old (ranked ws ns bs k (t .ready)) v w ∙ rw (s .stands) (rw (g .free) (ap ofTest (ne-eqb v u d)))
+        other-absent = occurs-eq (graphOf ws ns k) deep old (ready-ranked ws ns bs k (t .ready)) v w ∙ rw (s .stands) (rw (g .free) (ap ofTest (ne-eqb v u d)))
 
         pub room-for-variable : (v < length bs) × (c < length ts)
         room-for-variable = bind-room bs ts c t v w f p other-absent

@@ -20,7 +20,7 @@ use Rattle.unification.specs.declared.Tried.{Tried}
 use Rattle.unification.specs.declared.Tried.the-variants.{Yes as TriedYes, No as TriedNo}
 use Rattle.unification.specs.declared.Unified.{Unified}
 use Rattle.unification.specs.declared.Unified.the-variants.{Refused as NotUnified, Yes, No}
-use Rattle.unification.specs.Nodes.{maxNodes, maxNodeEntries, maxVars, nodeEntriesAt, fullNodes, isPlace, shapeAt, freeWord, Binds, bindingOf, bindsOf}
+use Rattle.unification.specs.Nodes.{maxNodes, maxNodeEntries, maxVars, nodeEntriesAt, fullNodes, isPlace, shapeAt, freeWord, bindingOf, bindsOf}
 use Rattle.unification.specs.Unify.{Unifies, yes-with, unify}
 use Rattle.unification.specs.Acyclic.{acyclic}
 use Rattle.unification.specs.NodeChecks.{nodesWithinLent, bindingsWithinLent, nodesFine, bindingsFine, nodeChecks, placeChecks, unifyChecks}
@@ -28,6 +28,7 @@ use Rattle.unification.specs.Checked.{NodesChecked, listsOf, Ready}
 use Rattle.unification.specs.Trail.{undo, frees, Tries}
 use Rattle.unification.specs.UnifyEntry.{wordOf, wordsOf, Left, left, leftBy, unifyEntry}
 use Rattle.unification.proofs.Theorem.{binds-checked}
+use Rattle.unification.proofs.Equations.{frees-few}
 use Rattle.infer_nodes.proofs.Ways.{length-binds}
 use Rattle.unifier.specs.Trying.{Trying}
 
@@ -233,11 +234,6 @@ words-of-binds [] (suc v) l = absurd (omega (arith, l))
 words-of-binds (w ∷ bs) (suc v) l = ap₂ (λ (x : ℕ) (xs : List ℕ). x ∷ xs) (word-of-binding w) (words-of-binds bs v (omega (arith, l)))
 
 -- a try on an empty trail
-frees-few : (B : Binds) → frees B ≤ length B
-frees-few [] = omega arith
-frees-few (none ∷ B) = omega (arith, frees-few B)
-frees-few (some q ∷ B) = omega (arith, frees-few B)
-
 module _ (ws ns bs : List ℕ) (k : Lengths) (q : Ready ws ns bs k) where
   pub trying : (ts : List ℕ) → length ts ≡ 512 → Trying ws ns bs ts k 0
   trying ts e = record { ready = q; room = omega (arith, frees-few (bindsOf bs (k .variables)), length-binds bs (k .variables), q .nodes .variables, e); short = omega (arith, e) }
