@@ -13,6 +13,7 @@ use Rattle.resolved_sort.specs.declared.Run.{Run}
 use Rattle.resolved_sort.specs.declared.ComplexSort.{ComplexSort}
 use Rattle.resolved_sort.specs.declared.ResolvedSort.{ResolvedSort}
 use Rattle.resolved_sort.specs.Storage.{maxSorts, rowAt}
+use Rattle.resolved_sort.proofs.Reached.{no-confusion}
 use Rattle.unification.specs.declared.Lengths.{Lengths}
 use Rattle.unification.specs.declared.InferSortId.{InferSortId}
 use Rattle.unification.specs.declared.SortVar.{SortVar}
@@ -24,7 +25,7 @@ use Rattle.unification.specs.NodeChecks.{nodePartsFine}
 use Rattle.unification.specs.Unify.{Occurs, absent, present, unknown, or-else, ofTest, followAt, follow, occursAny, occursAt, occurs, deep}
 use Rattle.unification.specs.Acyclic.{One, first, later}
 use Rattle.unification.specs.Checked.{graphOf, Ready, Placed}
-use Rattle.unification.proofs.Rank.{highest, rank, Ranked, rank-var, rank-over, none-some, one-highest}
+use Rattle.unification.proofs.Rank.{highest, rank, Ranked, rank-var, rank-over, one-highest}
 use Rattle.unification.proofs.Parts.{one-last}
 use Rattle.unification.proofs.Places.{sort-is-place, sort-below, node-below, place-longer, bound-is-place}
 use Rattle.unification.proofs.Rows.{FunctionFine, node-function-fine, sort-parts, sort-no-variable}
@@ -141,7 +142,7 @@ module _ (ws ns bs : List ℕ) (k : Lengths) (q : Ready ws ns bs k) where
 
     step-by : (s : Shape) → shape end ≡ s → some next ≡ boundAt s B → (v : ℕ) × ((shape end ≡ variable v) × (binding B v ≡ some next))
     step-by (variable v) x e = (v, (x, sym e))
-    step-by (over h ps) x e = none-some next (sym e)
+    step-by (over h ps) x e = no-confusion (cc)
 
     module _ (d : next ≡ freeWord → ⊥) where
       step : (v : ℕ) × ((shape end ≡ variable v) × (binding B v ≡ some next))

@@ -141,13 +141,13 @@ exact-move shape B E F to back no-way x = λ σ val M e. x σ val M (back σ val
 exact-move shape B E F to back (yes-with B′) x =
     (x .0, (λ σ val M. let m = x .1 σ val M in (m .0, to σ val (m .0) (m .1))), λ σ val M e. x .2 σ val M (back σ val M e))
 
-list-law : (shape : ℕ → Shape) (f : Binds → ℕ → ℕ → Unifies) (n : ℕ)
+list-exact : (shape : ℕ → Shape) (f : Binds → ℕ → ℕ → Unifies) (n : ℕ)
     → ((B : Binds) (a b : ℕ) → length B ≡ n → Exact shape B (λ val. val a ≡ val b) (f B a b))
     → (xs ys : List ℕ) (B : Binds) → length B ≡ n → Exact shape B (λ val. termsAt val xs ≡ termsAt val ys) (unifyAll shape f B xs ys)
-list-law shape f n ih [] [] B len = (refl, (λ σ val M. (M, refl)), λ σ val M e. M)
-list-law shape f n ih [] (y ∷ ys) B len = λ σ val M e. no-confusion (cc)
-list-law shape f n ih (x ∷ xs) [] B len = λ σ val M e. no-confusion (cc)
-list-law shape f n ih (x ∷ xs) (y ∷ ys) B len = go (f B x y) (ih B x y len) (list-law shape f n ih xs ys)
+list-exact shape f n ih [] [] B len = (refl, (λ σ val M. (M, refl)), λ σ val M e. M)
+list-exact shape f n ih [] (y ∷ ys) B len = λ σ val M e. no-confusion (cc)
+list-exact shape f n ih (x ∷ xs) [] B len = λ σ val M e. no-confusion (cc)
+list-exact shape f n ih (x ∷ xs) (y ∷ ys) B len = go (f B x y) (ih B x y len) (list-exact shape f n ih xs ys)
   where
     then : (B′ : Binds) → Exact shape B (λ val. val x ≡ val y) (yes-with B′) → (r : Unifies) → Exact shape B′ (λ val. termsAt val xs ≡ termsAt val ys) r
         → Exact shape B (λ val. termsAt val (x ∷ xs) ≡ termsAt val (y ∷ ys)) r
@@ -163,9 +163,9 @@ list-law shape f n ih (x ∷ xs) (y ∷ ys) B len = go (f B x y) (ih B x y len) 
     go no-way h t = λ σ val M e. h σ val M (cc)
     go (yes-with B′) h t = then B′ h (unifyAll shape f B′ xs ys) (t B′ (h .0 ∙ len))
 
-bind-law : (shape : ℕ → Shape) (k : ℕ) (B : Binds) (v l r : ℕ) (h : Head) (ps : List ℕ) → v < length B → binding B v ≡ none → shape l ≡ variable v → shape r ≡ over h ps
+bind-unless-exact : (shape : ℕ → Shape) (k : ℕ) (B : Binds) (v l r : ℕ) (h : Head) (ps : List ℕ) → v < length B → binding B v ≡ none → shape l ≡ variable v → shape r ≡ over h ps
     → Exact shape B (λ val. val l ≡ val r) (bindUnless shape (occurs shape k B v r) B v r)
-bind-law shape k B v l r h ps lt free sl sr = go (occurs shape k B v r) refl
+bind-unless-exact shape k B v l r h ps lt free sl sr = go (occurs shape k B v r) refl
   where
     go : (a : Occurs) → occurs shape k B v r ≡ a → Exact shape B (λ val. val l ≡ val r) (bindUnless shape a B v r)
     go unknown o = tt
@@ -176,9 +176,9 @@ bind-law shape k B v l r h ps lt free sl sr = go (occurs shape k B v r) refl
         let c : size (val l) ≡ size (val r) = ap size e in
         omega arith
 
-vars-law : (shape : ℕ → Shape) (B : Binds) (v w l r : ℕ) → v < length B → binding B v ≡ none → shape l ≡ variable v → shape r ≡ variable w
+variables-exact : (shape : ℕ → Shape) (B : Binds) (v w l r : ℕ) → v < length B → binding B v ≡ none → shape l ≡ variable v → shape r ≡ variable w
     → Exact shape B (λ val. val l ≡ val r) (unifyVariables shape (eqb v w) B v r)
-vars-law shape B v w l r lt free sl sr = go (eqb v w) refl
+variables-exact shape B v w l r lt free sl sr = go (eqb v w) refl
   where
     go : (b : Bool) → eqb v w ≡ b → Exact shape B (λ val. val l ≡ val r) (unifyVariables shape b B v r)
     go true e = (
@@ -194,11 +194,11 @@ vars-law shape B v w l r lt free sl sr = go (eqb v w) refl
     )
     go false e = bind-exact shape B v l r lt free sl
 
-heads-law : (shape : ℕ → Shape) (f : Binds → ℕ → ℕ → Unifies) (n : ℕ)
+heads-exact : (shape : ℕ → Shape) (f : Binds → ℕ → ℕ → Unifies) (n : ℕ)
     → ((B : Binds) (a b : ℕ) → length B ≡ n → Exact shape B (λ val. val a ≡ val b) (f B a b))
     → (B : Binds) → length B ≡ n → (l r : ℕ) (h h′ : Head) (ps ps′ : List ℕ) → shape l ≡ over h ps → shape r ≡ over h′ ps′
     → Exact shape B (λ val. val l ≡ val r) (unifyHeads shape (sameHead h h′) f B ps ps′)
-heads-law shape f n ih B len l r h h′ ps ps′ sl sr = go (sameHead h h′) refl
+heads-exact shape f n ih B len l r h h′ ps ps′ sl sr = go (sameHead h h′) refl
   where
     at-l : (σ val : ℕ → Term) → Model shape B σ val → val l ≡ app h (termsAt val ps)
     at-l σ val M = M .isval l ∙ rw sl
@@ -212,37 +212,37 @@ heads-law shape f n ih B len l r h h′ ps ps′ sl sr = go (sameHead h h′) re
         exact-move shape B (λ val. termsAt val ps ≡ termsAt val ps′) (λ val. val l ≡ val r)
         (λ σ val M q. cc (i, at-l σ val M, at-r σ val M))
         (λ σ val M q. cc (at-l σ val M, at-r σ val M))
-        (unifyAll shape f B ps ps′) (list-law shape f n ih ps ps′ B len)
+        (unifyAll shape f B ps ps′) (list-exact shape f n ih ps ps′ B len)
     go false e = λ σ val M q.
         let i : h ≡ h′ = cc (at-l σ val M, at-r σ val M) in
         true-not-false (sameHead h h′) (rw i (same-head-refl h′)) e
 
-ends-law : (shape : ℕ → Shape) (k : ℕ) (f : Binds → ℕ → ℕ → Unifies) (n : ℕ) → ((p v : ℕ) → shape p ≡ variable v → v < n)
+shapes-exact : (shape : ℕ → Shape) (k : ℕ) (f : Binds → ℕ → ℕ → Unifies) (n : ℕ) → ((p v : ℕ) → shape p ≡ variable v → v < n)
     → ((B : Binds) (a b : ℕ) → length B ≡ n → Exact shape B (λ val. val a ≡ val b) (f B a b))
     → (B : Binds) → length B ≡ n → (l r : ℕ) (s t : Shape) → shape l ≡ s → shape r ≡ t
     → ((v : ℕ) → shape l ≡ variable v → binding B v ≡ none) → ((v : ℕ) → shape r ≡ variable v → binding B v ≡ none)
     → Exact shape B (λ val. val l ≡ val r) (unifyShapes shape k f B l s r t)
-ends-law shape k f n scoped ih B len l r (variable v) (variable w) sl sr fl fr = vars-law shape B v w l r (rw len (scoped l v sl)) (fl v sl) sl sr
-ends-law shape k f n scoped ih B len l r (variable v) (over h ps) sl sr fl fr = bind-law shape k B v l r h ps (rw len (scoped l v sl)) (fl v sl) sl sr
-ends-law shape k f n scoped ih B len l r (over h ps) (variable w) sl sr fl fr =
+shapes-exact shape k f n scoped ih B len l r (variable v) (variable w) sl sr fl fr = variables-exact shape B v w l r (rw len (scoped l v sl)) (fl v sl) sl sr
+shapes-exact shape k f n scoped ih B len l r (variable v) (over h ps) sl sr fl fr = bind-unless-exact shape k B v l r h ps (rw len (scoped l v sl)) (fl v sl) sl sr
+shapes-exact shape k f n scoped ih B len l r (over h ps) (variable w) sl sr fl fr =
     exact-move shape B (λ val. val r ≡ val l) (λ val. val l ≡ val r) (λ σ val M e. sym e) (λ σ val M e. sym e) (bindUnless shape (occurs shape k B w l) B w l)
-    (bind-law shape k B w r l h ps (rw len (scoped r w sr)) (fr w sr) sr sl)
-ends-law shape k f n scoped ih B len l r (over h ps) (over h′ ps′) sl sr fl fr = heads-law shape f n ih B len l r h h′ ps ps′ sl sr
+    (bind-unless-exact shape k B w r l h ps (rw len (scoped r w sr)) (fr w sr) sr sl)
+shapes-exact shape k f n scoped ih B len l r (over h ps) (over h′ ps′) sl sr fl fr = heads-exact shape f n ih B len l r h h′ ps ps′ sl sr
 
 -- two sorts with different numbers have different terms
 abbrev pub Apart : (ℕ → Shape) → Type 0
 Apart shape = (l r : ℕ) → isSort l ≡ true → isSort r ≡ true → (l ≡ r → ⊥) → (σ val : ℕ → Term) → ((p : ℕ) → val p ≡ shapeVal σ val (shape p)) → val l ≡ val r → ⊥
 
 module _ (shape : ℕ → Shape) (apart : Apart shape) (n : ℕ) (scoped : (p v : ℕ) → shape p ≡ variable v → v < n) where
-  same-end-law : (k : ℕ) (f : Binds → ℕ → ℕ → Unifies) → ((B : Binds) (a b : ℕ) → length B ≡ n → Exact shape B (λ val. val a ≡ val b) (f B a b))
+  ends-exact : (k : ℕ) (f : Binds → ℕ → ℕ → Unifies) → ((B : Binds) (a b : ℕ) → length B ≡ n → Exact shape B (λ val. val a ≡ val b) (f B a b))
       → (B : Binds) → length B ≡ n → (l r : ℕ)
       → ((v : ℕ) → shape l ≡ variable v → binding B v ≡ none) → ((v : ℕ) → shape r ≡ variable v → binding B v ≡ none)
       → Exact shape B (λ val. val l ≡ val r) (unifyEnds shape (eqb l r) k f B l r)
-  same-end-law k f ih B len l r fl fr = go (eqb l r) refl
+  ends-exact k f ih B len l r fl fr = go (eqb l r) refl
     where
       differ : (b : Bool) → (isSort l && isSort r) ≡ b → (l ≡ r → ⊥) → Exact shape B (λ val. val l ≡ val r) (unifyApart shape b k f B l r)
       differ true e d = λ σ val M q. let s = and-eq-true-iff (isSort l) (isSort r) .0 e in apart l r (s .0) (s .1) d σ val (M .isval) q
-      differ false e d = ends-law shape k f n scoped ih B len l r (shape l) (shape r) refl refl fl fr
+      differ false e d = shapes-exact shape k f n scoped ih B len l r (shape l) (shape r) refl refl fl fr
 
       go : (b : Bool) → eqb l r ≡ b → Exact shape B (λ val. val l ≡ val r) (unifyEnds shape b k f B l r)
       go true e = (refl, (λ σ val M. (M, ap val (eqb-true l r e))), λ σ val M q. M)
@@ -264,4 +264,4 @@ module _ (shape : ℕ → Shape) (apart : Apart shape) (n : ℕ) (scoped : (p v 
           (λ σ val M q. cc (follow-value shape B σ val M w l l′ el, follow-value shape B σ val M w r r′ er))
           (λ σ val M q. cc (follow-value shape B σ val M w l l′ el, follow-value shape B σ val M w r r′ er))
           (unifyEnds shape (eqb l′ r′) w (unifyTo shape w k) B l′ r′)
-          (same-end-law w (unifyTo shape w k) ih B len l′ r′ (λ v. follow-end shape B w l l′ v el) (λ v. follow-end shape B w r r′ v er))
+          (ends-exact w (unifyTo shape w k) ih B len l′ r′ (λ v. follow-end shape B w l l′ v el) (λ v. follow-end shape B w r r′ v er))

@@ -14,7 +14,8 @@ use Rattle.unification.specs.Unify.{Unifies, yes-with, no-way, unifyTo}
 use Rattle.unification.specs.Unify as Unify
 use Rattle.unification.specs.Acyclic as Acyclic
 
-row : ℕ → ℕ → ℕ → ℕ → List ℕ → List ℕ
+-- one row, in front of others
+unfoldable pub row : ℕ → ℕ → ℕ → ℕ → List ℕ → List ℕ
 row kind part start count ws = kind ∷ part ∷ start ∷ count ∷ ws
 
 sorts : List ℕ

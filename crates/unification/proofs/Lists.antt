@@ -5,7 +5,6 @@ use mathlib.Core.List.{List, [], _∷_, _++_}
 use mathlib.Core.Bool.{Bool, true, false, cond, and-eq-true-iff}
 use Prim.Native.Nat.{ℕ, zero, suc, _+_, _-_, _<_, _≤_}
 use native.Mathlib.Omega.{arith}
-use lib.ListN.{length}
 use lib.Dec.{eqb, leb, ltb}
 use borrow.Author.Tests.{ltb-true, ltb-false, leb-true}
 use Rattle.resolved_sort.specs.declared.Run.{Run}
@@ -16,6 +15,7 @@ use Rattle.resolved_sort.specs.Checks.{partsBelow, rowFine, rowsFine}
 use Rattle.resolved_sort.proofs.Below.{below-each}
 use Rattle.resolved_sort.proofs.Numbers.{true-not-false, look-injective}
 use Rattle.resolved_sort.proofs.Trees.{length-trees}
+use Rattle.resolved_sort.proofs.Pairs.{arity-lookAll}
 use Rattle.resolved_sort.proofs.RowTrees.{by-kind}
 use Rattle.resolved_sort.proofs.Interned.{listed, trees-differ, look-tree}
 use Rattle.resolved_sort.proofs.Reached.{no-confusion}
@@ -40,11 +40,6 @@ unfolding termsOf lookAll
 parts-looked T [] r = refl
 parts-looked T (x ∷ xs) r = ap (part (sortValue T x)) (parts-looked T xs r)
 
-arity-looked : (T : List Tree) (xs : List ℕ) → arity (lookAll T xs) ≡ length xs
-unfolding arity lookAll
-arity-looked T [] = refl
-arity-looked T (x ∷ xs) = omega (arith, arity-looked T xs)
-
 module _ (ws : List ℕ) (T : List Tree) (σ : ℕ → Term) (part start count : ℕ) where
   abbrev run : Run
   run = record { start = start; count = count }
@@ -57,7 +52,7 @@ module _ (ws : List ℕ) (T : List Tree) (σ : ℕ → Term) (part start count :
   function-says : SaysTheSame 11
   unfolding treeOf termOf sortShape resolved
   function-says =
-      ap₂ (λ (h : Head) (us : Terms). app h us) (ap functionHead (arity-looked T (entriesOf ws start count) ∙ length-entries ws start count)) (parts-looked T (entriesOf ws start count) part)
+      ap₂ (λ (h : Head) (us : Terms). app h us) (ap functionHead (arity-lookAll T (entriesOf ws start count) ∙ length-entries ws start count)) (parts-looked T (entriesOf ws start count) part)
 
   row-says : (k : ℕ) → k ≤ 13 → SaysTheSame k
   unfolding treeOf termOf sortShape resolved

@@ -1,5 +1,5 @@
--- The rank of a place: the longest way down from it through parts and bindings. Where each variable has a number that falls to the variables of
--- what it is bound to, ranks are bounded, and binding a variable after the occurs check leaves such numbers. Assumes nothing.
+-- The rank of a place: the longest way down from it through parts and bindings, cut at a depth. Where no way is as long as the depth, more depth changes
+-- nothing, and so the rank is found from the parts or from what the variable is bound to. And binding a free variable leaves one fewer free. Assumes nothing.
 use mathlib.Core.Path.{_≡_, refl, ap, sym, _∙_}
 use mathlib.Core.List.{List, [], _∷_}
 use mathlib.Core.Option.{Option, none, some}
@@ -68,16 +68,13 @@ rank-var shape w B A p v q s l = rank-eq shape w B A p ∙ rw s (rw l)
 pub rank-over : (shape : ℕ → Shape) (w : ℕ) (B : Binds) → Ranked shape w B → (p : ℕ) (h : Head) (ps : List ℕ) → shape p ≡ over h ps → rank shape w B p ≡ highest (rank shape w B) ps
 rank-over shape w B A p h ps s = rank-eq shape w B A p ∙ rw s
 
-pub none-some : {A : Type 0} (x : ℕ) → _≡_ {A = Option ℕ} none (some x) → A
-none-some x e = no-confusion (cc)
-
 pub frees-set : (B : Binds) (v r : ℕ) → v < length B → binding B v ≡ none → suc (frees (set B v (some r))) ≡ frees B
 frees-set [] v r lt free = absurd (omega arith)
 frees-set (o ∷ B) zero r lt free = go o free
   where
     go : (x : Option ℕ) → x ≡ none → suc (frees B) ≡ freesAt x (frees B)
     go none e = refl
-    go (some q) e = none-some q (sym e)
+    go (some q) e = no-confusion (cc)
 frees-set (o ∷ B) (suc v) r lt free = go o (frees-set B v r (omega arith) free)
   where
     go : (x : Option ℕ) → suc (frees (set B v (some r))) ≡ frees B → suc (freesAt x (frees (set B v (some r)))) ≡ freesAt x (frees B)

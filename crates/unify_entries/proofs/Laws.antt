@@ -103,6 +103,13 @@ module _ (ws : List ℕ) (n : ℕ) (ns : List ℕ) (m l r : ℕ) where
   unfolding placeChecks
   lhs-stray x ex h = fails (x && isPlace n m r) _ (ap (λ z. z && isPlace n m r) ex) 12 _ (first-of-two x (isPlace n m r) h)
 
+-- counts that check 1 passed are within their ceilings
+two-ceilings : (n top e end : ℕ) (x y : Bool) → (leb n top && leb e end && x && y) ≡ true → (n ≤ top) × (e ≤ end)
+two-ceilings n top e end x y f =
+    let p = and-eq-true-iff (leb n top && leb e end && x) y .0 f .0 in
+    let u = and-eq-true-iff (leb n top) (leb e end) .0 (and-eq-true-iff (leb n top && leb e end) x .0 p .0) in
+    (leb-true n top (u .0), leb-true e end (u .1))
+
 -- check 1, three tests, and then the rest
 module _ (ws : List ℕ) (n e : ℕ) (ns : List ℕ) (m d : ℕ) (bs : List ℕ) (v l r : ℕ) where
   abbrev all : List Check
@@ -133,11 +140,8 @@ module _ (ws : List ℕ) (n e : ℕ) (ns : List ℕ) (m d : ℕ) (bs : List ℕ)
           pub ceilings : (m ≤ maxNodes) × (v ≤ maxVars)
           unfolding nodesWithinLent bindingsWithinLent
           ceilings =
-              let p = and-eq-true-iff (leb m maxNodes && leb d maxNodeEntries && leb (4 * m) (length ns)) (leb d (length ns - nodeEntriesAt)) .0 (sym eb ∙ not-false b hb) .0 in
-              let q = and-eq-true-iff (leb m maxNodes && leb d maxNodeEntries) (leb (4 * m) (length ns)) .0 p .0 in
-              let u = and-eq-true-iff (leb m maxNodes) (leb d maxNodeEntries) .0 q .0 in
               let w = and-eq-true-iff (leb v maxVars) (leb v (length bs)) .0 (sym ec ∙ not-false c hc) .0 in
-              (leb-true m maxNodes u, leb-true v maxVars w)
+              (two-ceilings m maxNodes d maxNodeEntries (leb (4 * m) (length ns)) (leb d (length ns - nodeEntriesAt)) (sym eb ∙ not-false b hb) .0, leb-true v maxVars w)
 
           abbrev sorted : List Check
           sorted = record { code = 2; passes = fixedSix ws n } ∷ record { code = 3; passes = rowsFine ws n e } ∷ record { code = 4; passes = noTwoEqual ws n } ∷ []
@@ -180,19 +184,11 @@ module _ (ws : List ℕ) (n e : ℕ) (ns : List ℕ) (m d : ℕ) (bs : List ℕ)
 
     pub sort-counts : (n ≤ maxSorts) × (e ≤ maxEntries)
     unfolding withinLent
-    sort-counts =
-        let p = and-eq-true-iff (leb n maxSorts && leb e maxEntries && leb (4 * n) (length ws)) (leb e (length ws - entriesAt)) .0 (chain .0) .0 in
-        let q = and-eq-true-iff (leb n maxSorts && leb e maxEntries) (leb (4 * n) (length ws)) .0 p .0 in
-        let u = and-eq-true-iff (leb n maxSorts) (leb e maxEntries) .0 q in
-        (leb-true n maxSorts (u .0), leb-true e maxEntries (u .1))
+    sort-counts = two-ceilings n maxSorts e maxEntries (leb (4 * n) (length ws)) (leb e (length ws - entriesAt)) (chain .0)
 
     pub node-counts : (m ≤ maxNodes) × (d ≤ maxNodeEntries)
     unfolding nodesWithinLent
-    node-counts =
-        let p = and-eq-true-iff (leb m maxNodes && leb d maxNodeEntries && leb (4 * m) (length ns)) (leb d (length ns - nodeEntriesAt)) .0 (chain .1) .0 in
-        let q = and-eq-true-iff (leb m maxNodes && leb d maxNodeEntries) (leb (4 * m) (length ns)) .0 p .0 in
-        let u = and-eq-true-iff (leb m maxNodes) (leb d maxNodeEntries) .0 q in
-        (leb-true m maxNodes (u .0), leb-true d maxNodeEntries (u .1))
+    node-counts = two-ceilings m maxNodes d maxNodeEntries (leb (4 * m) (length ns)) (leb d (length ns - nodeEntriesAt)) (chain .1)
 
     pub var-counts : (v ≤ maxVars) × (v ≤ length bs)
     unfolding bindingsWithinLent
