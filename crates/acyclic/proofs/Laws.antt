@@ -8,7 +8,7 @@ use native.Mathlib.Omega.{arith}
 use native.Mathlib.Numerals.{add-one}
 use lib.ListN.{length, getD, take, drop, set, replicate, drop-of-length-le}
 use lib.Seq.{drop-cons, take-suc, take-suc-set, take-all}
-use borrow.Author.Tests.{lt-ltb, le-ltb, eq-eqb, ne-eqb}
+use borrow.Author.Tests.{eq-eqb, ne-eqb}
 use Rattle.resolved_sort.specs.declared.Run.{Run}
 use Rattle.resolved_sort.specs.declared.ComplexSort.{ComplexSort}
 use Rattle.unification.specs.declared.InferSortId.{InferSortId}
@@ -17,15 +17,15 @@ use Rattle.unification.specs.declared.InferSort.{InferSort}
 use Rattle.unification.specs.declared.InferSort.the-variants.{Generic, Function, Var}
 use Rattle.unification.specs.Nodes.{nodeEntryAt, nodeEntriesOf, nodeAt, nodeShape, freeWord, bindingOf, bindsOf}
 use Rattle.unification.specs.Acyclic.{placeSettled, allSettled, shapeSettled, nodesSettled, bindingSettled, varsSettled, rounds, all, acyclic}
-use Rattle.unification.proofs.Settles.{var-is, length-vars}
+use Rattle.unification.proofs.Settles.{var-is, length-vars, sort-settled, node-flag}
 use Rattle.infer_nodes.proofs.Ways.{binding-word, length-binds}
 
 -- a place, a binding
-pub sort-settled : (ms : List Bool) (p : ℕ) → p < 1024 → true ≡ placeSettled ms p
-sort-settled ms p l = sym (rw (lt-ltb p 1024 l))
+pub sort-is-settled : (ms : List Bool) (p : ℕ) → p < 1024 → true ≡ placeSettled ms p
+sort-is-settled ms p l = sym (sort-settled ms p l)
 
-pub node-flag : (ms : List Bool) (p : ℕ) → 1024 ≤ p → (r : Bool) → r ≡ getD ms (p - 1024) false → r ≡ placeSettled ms p
-node-flag ms p l r x = x ∙ sym (rw (le-ltb p 1024 l))
+pub flag-settles : (ms : List Bool) (p : ℕ) → 1024 ≤ p → (r : Bool) → r ≡ getD ms (p - 1024) false → r ≡ placeSettled ms p
+flag-settles ms p l r x = x ∙ node-flag ms p (p - 1024) (omega (arith, l))
 
 pub free-settled : (ms : List Bool) (w : ℕ) → w ≡ freeWord → true ≡ bindingSettled ms (bindingOf w)
 free-settled ms w e = sym (ap (λ b. bindingSettled ms (cond b none (some w))) (eq-eqb w freeWord e))

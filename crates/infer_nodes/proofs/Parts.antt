@@ -26,7 +26,7 @@ use Rattle.unification.specs.NodeChecks.{nodeKindFine, nodePartsFine, nodeFine}
 use Rattle.unification.specs.Checked.{graphOf, Placed}
 use Rattle.unification.proofs.Parts.{Runs, sort-runs, node-runs, run-length}
 use Rattle.unification.proofs.Places.{sort-below, node-below}
-use Rattle.unification.proofs.Rows.{node-function-fine, sort-no-variable}
+use Rattle.unification.proofs.Rows.{node-function-fine, sort-no-variable, node-fine-parts}
 use Rattle.unification.proofs.Lists.{sort-fine, node-fine}
 use Rattle.infer_nodes.specs.Parts.{NodesReady, varAt, numberIn, countIn, partIn, SmallCount}
 use Rattle.infer_nodes.proofs.Shapes.{at-sort, at-node}
@@ -253,10 +253,9 @@ module _ (ws ns : List ℕ) (k : Lengths) (q : NodesReady ws ns k) (p : ℕ) (e 
     node-is-fine = node-fine ws (k .sorts) (k .entries) ns (k .nodes) (k .arguments) (k .variables) q j (node-below (k .sorts) (k .nodes) p l e)
 
     says-node : Says s (nodeEntryAt ns) (nodeKindAt ns j) (nodePartAt ns j) (nodeStartAt ns j) (nodeCountAt ns j)
-    unfolding nodeFine
     says-node =
         subst (λ x. Says x (nodeEntryAt ns) (nodeKindAt ns j) (nodePartAt ns j) (nodeStartAt ns j) (nodeCountAt ns j)) (sym (at-node ws ns k q p e l))
-        (node-says ns (nodePartAt ns j) (nodeStartAt ns j) (nodeCountAt ns j) (nodeKindAt ns j) (and-eq-true-iff (nodeKindFine (nodeKindAt ns j)) (nodePartsFine ns (k .arguments) (k .sorts) (k .variables) j (nodeAt ns j)) .0 node-is-fine .0))
+        (node-says ns (nodePartAt ns j) (nodeStartAt ns j) (nodeCountAt ns j) (nodeKindAt ns j) (node-fine-parts ns (k .arguments) (k .sorts) (k .variables) j node-is-fine .0))
 
     pub kind-of-node : (r : ℕ) → r ≡ getD ns (4 * j) 0 → r ≡ kindHead (headOf s)
     kind-of-node r x = x ∙ says-node .kind
@@ -270,10 +269,9 @@ module _ (ws ns : List ℕ) (k : Lengths) (q : NodesReady ws ns k) (p : ℕ) (e 
     count-of-node r x = x ∙ says-node .many
 
     pub small-node : SmallCount ns (4 * j)
-    unfolding nodeFine
     small-node f =
         function-small ns (k .arguments) (k .sorts) (k .variables) j f
-        (and-eq-true-iff (nodeKindFine (nodeKindAt ns j)) (nodePartsFine ns (k .arguments) (k .sorts) (k .variables) j (nodeAt ns j)) .0 node-is-fine .1)
+        (node-fine-parts ns (k .arguments) (k .sorts) (k .variables) j node-is-fine .1)
 
     pub part-of-node : (i r : ℕ) → i < length (partsOf s) → r ≡ partIn ns 8192 (4 * j) i → r ≡ getD (partsOf s) i 0
     unfolding partIn

@@ -12,7 +12,6 @@ use borrow.Author.Tests.{ltb-true, ltb-false}
 use Rattle.resolved_sort.specs.Interning.{look}
 use Rattle.resolved_sort.specs.Storage.{maxSorts, rowAt, trees}
 use Rattle.resolved_sort.specs.Checks.{fixedSix}
-use Rattle.resolved_sort.proofs.Below.{below-each}
 use Rattle.unification.specs.declared.InferSort.{InferSort}
 use Rattle.unification.specs.declared.InferSort.the-variants.{Generic, Function, Var}
 use Rattle.unification.specs.Term.{Head, functionHead, Term, var, over}
@@ -26,7 +25,7 @@ use Rattle.unification.specs.Resolve.{value}
 use Rattle.unification.specs.Making.{Lent, graph}
 use Rattle.unification.proofs.Rank.{rank}
 use Rattle.unification.proofs.Places.{sort-below, node-below, place-longer, bound-is-place, bindings-longer}
-use Rattle.unification.proofs.Rows.{node-function-fine, fine-tests}
+use Rattle.unification.proofs.Rows.{node-function-fine, fine-tests, node-fine-parts, nodes-fine-each}
 use Rattle.unification.proofs.Lists.{part-is-place}
 use Rattle.unification.proofs.Agree.{Agree, Names, term-agrees, follow-agrees, rank-agrees, value-agrees, numbering-agrees, respects-agrees, unify-agrees}
 
@@ -114,21 +113,16 @@ module _ (ns ns′ : List ℕ) (m d : ℕ) (a : NodesAgree ns ns′ m d) where
 
   -- old nodes stay fine, and keep their shapes
   module _ (n v : ℕ) (f : nodesFine ns m d n v ≡ true) where
-    fine-at : (i : ℕ) → i < m → nodeFine ns d n v i ≡ true
-    unfolding nodesFine
-    fine-at i l = below-each m (nodeFine ns d n v) f i l
-
     pub node-fine-longer : (d′ n′ : ℕ) → d ≤ d′ → n ≤ n′ → (i : ℕ) → i < m → nodeFine ns′ d′ n′ v i ≡ true
     unfolding nodeFine
     node-fine-longer d′ n′ k l i h =
-        let x = and-eq-true-iff (nodeKindFine (nodeKindAt ns i)) (nodePartsFine ns d n v i (nodeAt ns i)) .0 (fine-at i h) in
+        let x = node-fine-parts ns d n v i (nodes-fine-each ns m d n v f i h) in
         and-eq-true-iff (nodeKindFine (nodeKindAt ns′ i)) (nodePartsFine ns′ d′ n′ v i (nodeAt ns′ i)) .1
         (ap nodeKindFine (kind-same i h) ∙ x .0, ap (nodePartsFine ns′ d′ n′ v i) (node-same i h) ∙ parts-fine-longer n v i d′ n′ k l (nodeAt ns i) (x .1))
 
     pub node-shape-same : (i : ℕ) → i < m → nodeShape ns′ (nodeAt ns′ i) ≡ nodeShape ns (nodeAt ns i)
-    unfolding nodeFine
     node-shape-same i h =
-        let x = and-eq-true-iff (nodeKindFine (nodeKindAt ns i)) (nodePartsFine ns d n v i (nodeAt ns i)) .0 (fine-at i h) in
+        let x = node-fine-parts ns d n v i (nodes-fine-each ns m d n v f i h) in
         ap (nodeShape ns′) (node-same i h) ∙ parts-shape n v i (nodeAt ns i) (x .1)
 
 -- the bindings of checked lists name places

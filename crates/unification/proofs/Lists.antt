@@ -20,8 +20,8 @@ use Rattle.resolved_sort.proofs.RowTrees.{by-kind}
 use Rattle.resolved_sort.proofs.Interned.{listed, trees-differ, look-tree}
 use Rattle.resolved_sort.proofs.Reached.{no-confusion}
 use Rattle.unification.specs.Term.{Head, functionHead, strayHead, Term, app, Terms, no-part, part, Shape, variable, over, termOf, termsOf}
-use Rattle.unification.specs.Nodes.{nodeKindAt, nodeAt, sortShape, nodeShape, Lists, isSort, isPlace, shapeAt}
-use Rattle.unification.specs.NodeChecks.{nodePartsFine, nodeKindFine, nodeFine, nodesFine}
+use Rattle.unification.specs.Nodes.{nodeAt, sortShape, nodeShape, Lists, isSort, isPlace, shapeAt}
+use Rattle.unification.specs.NodeChecks.{nodePartsFine, nodeFine}
 use Rattle.unification.specs.Acyclic.{One}
 use Rattle.unification.specs.Checked.{NodesChecked, listsOf}
 use Rattle.unification.specs.Solutions.{termsAt}
@@ -29,7 +29,7 @@ use Rattle.unification.proofs.Exact.{shapeVal, Apart}
 use Rattle.unification.proofs.Numbering.{Lower}
 use Rattle.unification.proofs.Parts.{none-of, termsAt-agree}
 use Rattle.unification.proofs.Places.{sort-is-place, place-below, place-longer}
-use Rattle.unification.proofs.Rows.{sort-parts, node-parts, node-variable, sort-no-variable, length-entries, ShapeFormed, sort-formed, node-formed}
+use Rattle.unification.proofs.Rows.{sort-parts, node-parts, node-variable, sort-no-variable, length-entries, ShapeFormed, sort-formed, node-formed, node-fine-parts, nodes-fine-each}
 
 -- the sort of a row and its shape say the same
 abbrev sortValue : List Tree → ℕ → Term
@@ -98,16 +98,14 @@ module _ (ws : List ℕ) (n e : ℕ) (ns : List ℕ) (m d v : ℕ) (c : NodesChe
   sort-fine p l = below-each n (rowFine ws e) (c .sorts .fine) p l
 
   pub node-fine : (i : ℕ) → i < m → nodeFine ns d n v i ≡ true
-  unfolding nodesFine
-  node-fine i l = below-each m (nodeFine ns d n v) (c .fine) i l
+  node-fine = nodes-fine-each ns m d n v (c .fine)
 
   pub sort-parts-fine : (p : ℕ) → p < n → partsBelow ws e p (rowAt ws p) ≡ true
   unfolding rowFine
   sort-parts-fine p l = and-eq-true-iff (leb (kindAt ws p) 13) (partsBelow ws e p (rowAt ws p)) .0 (sort-fine p l) .1
 
   pub node-parts-fine : (i : ℕ) → i < m → nodePartsFine ns d n v i (nodeAt ns i) ≡ true
-  unfolding nodeFine
-  node-parts-fine i l = and-eq-true-iff (nodeKindFine (nodeKindAt ns i)) (nodePartsFine ns d n v i (nodeAt ns i)) .0 (node-fine i l) .1
+  node-parts-fine i l = node-fine-parts ns d n v i (node-fine i l) .1
 
   -- what stands at a place: a sort of the list, a node of the list, or nothing
   pub data Place (p : ℕ) : Type 0 where

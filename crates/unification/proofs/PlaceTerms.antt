@@ -1,19 +1,17 @@
 -- What the places of checked lists stand for, by their shapes: the shapes are those of rows that passed their checks, the fixed sorts have their kinds
 -- as numbers, and a place stands for what its end stands for. Assumes nothing.
 use mathlib.Core.Path.{_≡_, ap, sym, _∙_}
-use mathlib.Core.Bool.{Bool, true, and-eq-true-iff}
+use mathlib.Core.Bool.{Bool, true}
 use mathlib.Core.List.{List, []}
 use mathlib.Core.Option.{some}
-use Prim.Native.Nat.{ℕ, suc, _<_, _≤_}
+use Prim.Native.Nat.{ℕ, suc, _<_}
 use native.Mathlib.Omega.{arith}
-use lib.Dec.{eqb, leb}
-use borrow.Author.Tests.{eqb-true, ltb-true, leb-true, lt-ltb}
+use borrow.Author.Tests.{ltb-true, lt-ltb}
 use Rattle.resolved_sort.specs.declared.Sort.{Sort}
 use Rattle.resolved_sort.specs.Tree.{primitive, flat}
 use Rattle.resolved_sort.specs.Interning.{look}
-use Rattle.resolved_sort.specs.Storage.{maxSorts, kindAt, partAt, startAt, countAt, resolved, rowAt, kindFlat, trees}
-use Rattle.resolved_sort.specs.Checks.{allBelow, fixedSix}
-use Rattle.resolved_sort.proofs.Below.{below-each}
+use Rattle.resolved_sort.specs.Storage.{maxSorts, partAt, startAt, countAt, resolved, rowAt, kindFlat, trees}
+use Rattle.resolved_sort.specs.Checks.{fixedSix}
 use Rattle.resolved_sort.proofs.Numbers.{true-not-false}
 use Rattle.unification.specs.Term.{Head, flatHead, Term, over, termOf, put}
 use Rattle.unification.specs.Nodes.{sortShape, isSort, isPlace, shapeAt, Binds}
@@ -24,7 +22,7 @@ use Rattle.unification.specs.Making.{Lent, graph}
 use Rattle.unification.proofs.Exact.{shapeVal, follow-value}
 use Rattle.unification.proofs.Numbering.{Lower}
 use Rattle.unification.proofs.Places.{sort-is-place}
-use Rattle.unification.proofs.Rows.{sort-parts, ShapeFormed}
+use Rattle.unification.proofs.Rows.{sort-parts, ShapeFormed, fixed-six-kinds}
 use Rattle.unification.proofs.Lists.{sort-parts-fine, Place, is-sort, is-node, is-stray, place, lower, sort-value, place-formed}
 use Rattle.unification.proofs.Solved.{value-by-shape, model-of}
 use Rattle.unification.proofs.Grows.{CheckedLent, PlacedIn}
@@ -85,22 +83,14 @@ module _ (W : Lent) (c : CheckedLent W) where
   sort-term σ p l = sort-value ws n e ns m d v c σ (termIn W σ) (term-by-shape σ) (suc p) p (omega arith) l
 
   module _ (six : fixedSix ws n ≡ true) where
-    six-sorts : 6 ≤ n
-    unfolding fixedSix
-    six-sorts = leb-true 6 n (and-eq-true-iff (leb 6 n) (allBelow 6 (λ i. eqb (kindAt ws i) i)) .0 six .0)
-
-    fixed-kind : (i : ℕ) → i < 6 → kindAt ws i ≡ i
-    unfolding fixedSix
-    fixed-kind i l = eqb-true (kindAt ws i) i (below-each 6 (λ i. eqb (kindAt ws i) i) (and-eq-true-iff (leb 6 n) (allBelow 6 (λ i. eqb (kindAt ws i) i)) .0 six .1) i l)
-
     fixed-placed : (i : ℕ) → i < 6 → PlacedIn W i
-    fixed-placed i l = sort-placed i (omega (arith, l, six-sorts))
+    fixed-placed i l = sort-placed i (omega (arith, l, fixed-six-kinds ws n six .0))
 
     fixed-shape : (i : ℕ) → i < 6 → graph W i ≡ sortShape ws (resolved i (partAt ws i) (record { start = startAt ws i; count = countAt ws i }))
     unfolding shapeAt
     fixed-shape i l =
         rw (fixed-placed i l, lt-ltb i maxSorts (omega (arith, l)))
-        (ap (λ k. sortShape ws (resolved k (partAt ws i) (record { start = startAt ws i; count = countAt ws i }))) (fixed-kind i l))
+        (ap (λ k. sortShape ws (resolved k (partAt ws i) (record { start = startAt ws i; count = countAt ws i }))) (fixed-six-kinds ws n six .1 i l))
 
     -- a primitive sort has its kind as its number
     pub primitive-placed : (s : Sort) → PlacedIn W (kindFlat (primitive s))

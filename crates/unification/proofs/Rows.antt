@@ -5,22 +5,22 @@ use mathlib.Core.List.{List, [], _∷_, _++_}
 use mathlib.Core.Bool.{Bool, true, _&&_, and-eq-true-iff}
 use Prim.Native.Nat.{ℕ, _+_, _<_, _≤_}
 use lib.ListN.{length}
-use lib.Dec.{leb, ltb}
-use borrow.Author.Tests.{ltb-true, leb-true, le-leb}
+use lib.Dec.{leb, ltb, eqb}
+use borrow.Author.Tests.{ltb-true, leb-true, le-leb, eqb-true}
 use Rattle.resolved_sort.specs.declared.Run.{Run}
 use Rattle.resolved_sort.specs.declared.ComplexSort.{ComplexSort}
 use Rattle.resolved_sort.specs.declared.ResolvedSort.{ResolvedSort}
 use Rattle.resolved_sort.specs.declared.ResolvedSort.the-variants.{Unit as UnitRow, Primitive, Container, Function as SortFunction, Def, TypeVar}
 use Rattle.resolved_sort.specs.Tree.{Flat, unit, primitive, def, typevar}
-use Rattle.resolved_sort.specs.Storage.{entryAt, entriesOf}
-use Rattle.resolved_sort.specs.Checks.{allBelow, partsBelow}
+use Rattle.resolved_sort.specs.Storage.{entryAt, entriesOf, kindAt}
+use Rattle.resolved_sort.specs.Checks.{allBelow, partsBelow, fixedSix}
 use Rattle.resolved_sort.proofs.Below.{below-each, each-below}
 use Rattle.resolved_sort.proofs.Reached.{no-confusion}
 use Rattle.unification.specs.declared.InferSort.{InferSort}
 use Rattle.unification.specs.declared.InferSort.the-variants.{Generic, Function, Var}
 use Rattle.unification.specs.Term.{Head, flatHead, containerHead, functionHead, Shape, variable, over}
-use Rattle.unification.specs.Nodes.{nodeEntryAt, nodeEntriesOf, sortShape, nodeShape, isPlace}
-use Rattle.unification.specs.NodeChecks.{nodePartsFine}
+use Rattle.unification.specs.Nodes.{nodeEntryAt, nodeEntriesOf, sortShape, nodeShape, isPlace, nodeKindAt, nodeAt}
+use Rattle.unification.specs.NodeChecks.{nodePartsFine, nodeKindFine, nodeFine, nodesFine}
 use Rattle.unification.specs.Acyclic.{One}
 use Rattle.unification.proofs.Parts.{none-of, one-of-one, sort-runs, node-runs, run-length, each-of-function}
 
@@ -59,6 +59,22 @@ sort-function-fine ws e i domain range = tests-fine (λ q. ltb q i) (entryAt ws)
 pub node-function-fine : (ns : List ℕ) (d n v i : ℕ) (domain : Run) (range : ℕ) → nodePartsFine ns d n v i (Function domain (record { 0 = range })) ≡ true → FunctionFine (isPlace n i) (nodeEntryAt ns) d domain range
 unfolding nodePartsFine
 node-function-fine ns d n v i domain range = tests-fine (isPlace n i) (nodeEntryAt ns) d domain range
+
+-- the six fixed sorts have their numbers as kinds
+pub fixed-six-kinds : (ws : List ℕ) (n : ℕ) → fixedSix ws n ≡ true → (6 ≤ n) × ((i : ℕ) → i < 6 → kindAt ws i ≡ i)
+unfolding fixedSix
+fixed-six-kinds ws n f =
+    let x = and-eq-true-iff (leb 6 n) (allBelow 6 (λ i. eqb (kindAt ws i) i)) .0 f in
+    (leb-true 6 n (x .0), λ i l. eqb-true (kindAt ws i) i (below-each 6 (λ i. eqb (kindAt ws i) i) (x .1) i l))
+
+-- a node passed: its kind is known, and its parts are fine
+pub node-fine-parts : (ns : List ℕ) (d n v i : ℕ) → nodeFine ns d n v i ≡ true → (nodeKindFine (nodeKindAt ns i) ≡ true) × (nodePartsFine ns d n v i (nodeAt ns i) ≡ true)
+unfolding nodeFine
+node-fine-parts ns d n v i f = and-eq-true-iff (nodeKindFine (nodeKindAt ns i)) (nodePartsFine ns d n v i (nodeAt ns i)) .0 f
+
+pub nodes-fine-each : (ns : List ℕ) (m d n v : ℕ) → nodesFine ns m d n v ≡ true → (i : ℕ) → i < m → nodeFine ns d n v i ≡ true
+unfolding nodesFine
+nodes-fine-each ns m d n v f = below-each m (nodeFine ns d n v) f
 
 -- parts of a sort, and of a node
 pub sort-parts : (ws : List ℕ) (e i : ℕ) (r : ResolvedSort) → partsBelow ws e i r ≡ true → (q : ℕ) (h : Head) (ps : List ℕ) → sortShape ws r ≡ over h ps → One q ps → q < i

@@ -9,7 +9,7 @@ use native.Mathlib.Omega.{arith}
 use lib.ListN.{length, getD, replicate, length-append, length-replicate}
 use lib.Seq.{getD-append-seam}
 use lib.Dec.{ltb}
-use borrow.Author.Tests.{ltb-true, lt-ltb}
+use borrow.Author.Tests.{ltb-true, lt-ltb, le-ltb}
 use Rattle.resolved_sort.specs.Storage.{maxSorts, rowAt}
 use Rattle.resolved_sort.proofs.Numbers.{true-not-false}
 use Rattle.resolved_sort.proofs.Reached.{no-confusion}
@@ -71,13 +71,12 @@ settled-longer ns vs n m i q l e = go (isSort q) refl e
         (ap (λ (x : ℕ). getD (nodesSettled ns vs x) (q - maxSorts) false) (let z : m ≡ i + (m - i) = omega (arith, l) in z)
         ∙ node-longer ns vs (m - i) i (q - maxSorts) (ltb-true (q - maxSorts) i e))
 
--- a node's place is settled as its flag says
+-- a sort is settled, and a node's place is settled as its flag says
+pub sort-settled : (ms : List Bool) (q : ℕ) → q < maxSorts → placeSettled ms q ≡ true
+sort-settled ms q l = rw (lt-ltb q maxSorts l)
+
 pub node-flag : (ms : List Bool) (p i : ℕ) → p ≡ maxSorts + i → getD ms i false ≡ placeSettled ms p
-node-flag ms p i x = go (isSort p) refl
-  where
-    go : (b : Bool) → isSort p ≡ b → getD ms i false ≡ cond b true (getD ms (p - maxSorts) false)
-    go true s = absurd (omega (arith, ltb-true p maxSorts s, x))
-    go false s = ap (λ (j : ℕ). getD ms j false) (omega (arith, x))
+node-flag ms p i x = rw (le-ltb p maxSorts (omega (arith, x))) (ap (λ (j : ℕ). getD ms j false) (omega (arith, x)))
 
 -- variables
 pub var-is : (ms : List Bool) (B : Binds) (v : ℕ) → v < length B → getD (varsSettled ms B) v false ≡ bindingSettled ms (binding B v)
@@ -122,9 +121,6 @@ module _ (ws : List ℕ) (n e : ℕ) (ns : List ℕ) (m d v : ℕ) (c : NodesChe
   abbrev flags : ℕ → List Bool
   flags k = nodesSettled ns (rounds ns m B k) m
 
-  sort-flag : (ms : List Bool) (q : ℕ) → q < maxSorts → placeSettled ms q ≡ true
-  sort-flag ms q l = rw (lt-ltb q maxSorts l)
-
   -- what stands in a settled sort is settled
   stands-settled : (k u p : ℕ) → Stands (shapeAt L) u p → placeSettled (flags k) p ≡ true → settled k u ≡ true
   stands-settled k u _ (at p s) f = go (place ws n e ns m d v c p)
@@ -138,7 +134,7 @@ module _ (ws : List ℕ) (n e : ℕ) (ns : List ℕ) (m d v : ℕ) (c : NodesChe
   stands-settled k u _ (within p q h ps s o t) f = stands-settled k u q t (go (place ws n e ns m d v c p))
     where
       go : Place ws n e ns m d v c p → placeSettled (flags k) q ≡ true
-      go (is-sort a l g) = sort-flag (flags k) q (omega (arith, sort-parts ws e p (rowAt ws p) (sort-parts-fine ws n e ns m d v c p l) q h ps (sym g ∙ s) o, l, c .sorts .sorts))
+      go (is-sort a l g) = sort-settled (flags k) q (omega (arith, sort-parts ws e p (rowAt ws p) (sort-parts-fine ws n e ns m d v c p l) q h ps (sym g ∙ s) o, l, c .sorts .sorts))
       go (is-node i l x g) =
           let y : nodeShape ns (nodeAt ns i) ≡ over h ps = sym g ∙ s in
           let z = sym (ap (shapeSettled (rounds ns m B k) (nodesSettled ns (rounds ns m B k) i)) y) ∙ (sym (node-is ns (rounds ns m B k) m i l) ∙ (node-flag (flags k) p i x ∙ f)) in

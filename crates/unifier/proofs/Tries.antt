@@ -131,6 +131,9 @@ module _ (ws ns : List ℕ) (k : Lengths) where
     abbrev checked : Unifies
     checked = bindUnless (graphOf ws ns k) (occurs (graphOf ws ns k) deep old v w) old v w
 
+    set-yes : (U : Unifies) → occurs (graphOf ws ns k) deep old v w ≡ absent → yes-with (set old v (some w)) ≡ U → (bs₁ ts₁ : List ℕ) → bs₁ ≡ set bs v w → ts₁ ≡ set ts c v → Tries ws ns k U bs ts c bs₁ ts₁ (Yes (c + 1))
+    set-yes U o e bs₁ ts₁ y z = rw (y, z) (tries-as (yes-with (set old v (some w))) U bs ts c (set bs v w) (set ts c v) (Yes (c + 1)) e (one-bound bs ts c t v w f p o))
+
     module _ (b : Bool) (e : occurs (graphOf ws ns k) deep old v w ≡ ofTest b) where
       pub occurs-no : b ≡ true → Tries ws ns k checked bs ts c bs ts (No c)
       occurs-no x = tries-as no-way checked bs ts c bs ts (No c) (sym (ap (λ o. bindUnless (graphOf ws ns k) o old v w) (e ∙ ap ofTest x))) (no-try bs ts c (t .ready))
@@ -143,10 +146,7 @@ module _ (ws ns : List ℕ) (k : Lengths) where
         room-to-bind = bind-room bs ts c t v w f p is-absent
 
         pub bound-yes : (bs₁ ts₁ : List ℕ) → bs₁ ≡ set bs v w → ts₁ ≡ set ts c v → Tries ws ns k checked bs ts c bs₁ ts₁ (Yes (c + 1))
-        bound-yes bs₁ ts₁ y z =
-            rw (y, z)
-            (tries-as (yes-with (set old v (some w))) checked bs ts c (set bs v w) (set ts c v) (Yes (c + 1)) (sym (ap (λ o. bindUnless (graphOf ws ns k) o old v w) is-absent))
-            (one-bound bs ts c t v w f p is-absent))
+        bound-yes = set-yes checked is-absent (sym (ap (λ o. bindUnless (graphOf ws ns k) o old v w) is-absent))
 
     module _ (u : ℕ) (g : Free bs k u) (s : Stands ws ns k w u) where
       abbrev variables : Unifies
@@ -163,10 +163,7 @@ module _ (ws ns : List ℕ) (k : Lengths) where
         room-for-variable = bind-room bs ts c t v w f p other-absent
 
         pub variable-yes : (bs₁ ts₁ : List ℕ) → bs₁ ≡ set bs v w → ts₁ ≡ set ts c v → Tries ws ns k variables bs ts c bs₁ ts₁ (Yes (c + 1))
-        variable-yes bs₁ ts₁ y z =
-            rw (y, z)
-            (tries-as (yes-with (set old v (some w))) variables bs ts c (set bs v w) (set ts c v) (Yes (c + 1)) (sym (ap (λ b. unifyVariables (graphOf ws ns k) b old v w) (ne-eqb v u d)))
-            (one-bound bs ts c t v w f p other-absent))
+        variable-yes = set-yes variables other-absent (sym (ap (λ b. unifyVariables (graphOf ws ns k) b old v w) (ne-eqb v u d)))
 
 -- undoing, one at a time
 module _ (ts : List ℕ) (base count : ℕ) where
