@@ -1,32 +1,31 @@
 -- Rounds of settling, as the code meets them. Assumes nothing.
 use mathlib.Core.Path.{_≡_, refl, ap, ap₂, sym, _∙_, subst}
 use mathlib.Core.List.{List, [], _∷_, _++_}
-use mathlib.Core.Option.{Option, none, some}
-use mathlib.Core.Bool.{Bool, true, false, cond, _&&_}
+use mathlib.Core.Option.{none, some}
+use mathlib.Core.Bool.{Bool, true, false, cond, _&&_, and-true, and-assoc}
 use Prim.Native.Nat.{ℕ, zero, suc, _+_, _-_, _<_, _≤_}
 use native.Mathlib.Omega.{arith}
 use native.Mathlib.Numerals.{add-one}
-use lib.ListN.{length, getD, take, drop, set, replicate, length-set, drop-of-length-le}
+use lib.ListN.{length, getD, take, drop, set, replicate, drop-of-length-le}
 use lib.Seq.{drop-cons, take-suc, take-suc-set, take-all}
-use lib.Dec.{eqb, ltb}
-use borrow.Author.Tests.{lt-ltb, le-ltb, eq-eqb, ne-eqb}
+use borrow.Author.Tests.{eq-eqb, ne-eqb}
 use Rattle.resolved_sort.specs.declared.Run.{Run}
 use Rattle.resolved_sort.specs.declared.ComplexSort.{ComplexSort}
 use Rattle.unification.specs.declared.InferSortId.{InferSortId}
 use Rattle.unification.specs.declared.SortVar.{SortVar}
 use Rattle.unification.specs.declared.InferSort.{InferSort}
 use Rattle.unification.specs.declared.InferSort.the-variants.{Generic, Function, Var}
-use Rattle.unification.specs.Nodes.{nodeEntryAt, nodeEntriesOf, nodeAt, nodeShape, freeWord, Binds, binding, bindingOf, bindsOf}
+use Rattle.unification.specs.Nodes.{nodeEntryAt, nodeEntriesOf, nodeAt, nodeShape, freeWord, bindingOf, bindsOf}
 use Rattle.unification.specs.Acyclic.{placeSettled, allSettled, shapeSettled, nodesSettled, bindingSettled, varsSettled, rounds, all, acyclic}
-use Rattle.unification.proofs.Settles.{var-is, length-vars}
+use Rattle.unification.proofs.Settles.{var-is, length-vars, sort-settled, node-flag}
 use Rattle.infer_nodes.proofs.Ways.{binding-word, length-binds}
 
 -- a place, a binding
-pub sort-settled : (ms : List Bool) (p : ℕ) → p < 1024 → true ≡ placeSettled ms p
-sort-settled ms p l = sym (rw (lt-ltb p 1024 l))
+pub sort-is-settled : (ms : List Bool) (p : ℕ) → p < 1024 → true ≡ placeSettled ms p
+sort-is-settled ms p l = sym (sort-settled ms p l)
 
-pub node-flag : (ms : List Bool) (p : ℕ) → 1024 ≤ p → (r : Bool) → r ≡ getD ms (p - 1024) false → r ≡ placeSettled ms p
-node-flag ms p l r x = x ∙ sym (rw (le-ltb p 1024 l))
+pub flag-settles : (ms : List Bool) (p : ℕ) → 1024 ≤ p → (r : Bool) → r ≡ getD ms (p - 1024) false → r ≡ placeSettled ms p
+flag-settles ms p l r x = x ∙ node-flag ms p (p - 1024) (omega (arith, l))
 
 pub free-settled : (ms : List Bool) (w : ℕ) → w ≡ freeWord → true ≡ bindingSettled ms (bindingOf w)
 free-settled ms w e = sym (ap (λ b. bindingSettled ms (cond b none (some w))) (eq-eqb w freeWord e))
@@ -63,18 +62,10 @@ module _ (ns : List ℕ) (ms : List Bool) (s c : ℕ) where
     run-ends l = sym (p .left ∙ ap (λ (x : ℕ). allSettled ms (nodeEntriesOf ns (s + j) x)) (let z : c - j ≡ 0 = omega (arith, l) in z))
 
 -- a node
-and-true : (b : Bool) → (b && true) ≡ b
-and-true true = refl
-and-true false = refl
-
 settled-last : (ms : List Bool) (xs : List ℕ) (y : ℕ) → allSettled ms (xs ++ (y ∷ [])) ≡ (allSettled ms xs && placeSettled ms y)
 unfolding allSettled
 settled-last ms [] y = and-true (placeSettled ms y)
-settled-last ms (x ∷ xs) y = ap (λ z. placeSettled ms x && z) (settled-last ms xs y) ∙ assoc (placeSettled ms x) (allSettled ms xs) (placeSettled ms y)
-  where
-    assoc : (a b c : Bool) → (a && (b && c)) ≡ (a && b && c)
-    assoc true b c = refl
-    assoc false b c = refl
+settled-last ms (x ∷ xs) y = ap (λ z. placeSettled ms x && z) (settled-last ms xs y) ∙ sym (and-assoc (placeSettled ms x) (allSettled ms xs) (placeSettled ms y))
 
 module _ (ns : List ℕ) (vs ms : List Bool) (i : ℕ) (r : InferSort) (e : r ≡ nodeAt ns i) where
   abbrev whole : Bool

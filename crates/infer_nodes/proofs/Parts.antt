@@ -10,27 +10,26 @@ use lib.Seq.{getD-append-seam}
 use lib.Dec.{eqb, leb, ltb}
 use borrow.Author.Tests.{ltb-true, ltb-false, leb-true, leb-false, eqb-true, lt-ltb, le-ltb, le-leb, lt-leb, eq-eqb, ne-eqb}
 use Rattle.resolved_sort.specs.declared.Run.{Run}
-use Rattle.resolved_sort.specs.declared.ComplexSort.{ComplexSort}
 use Rattle.resolved_sort.specs.declared.ResolvedSort.{ResolvedSort}
-use Rattle.resolved_sort.specs.declared.ResolvedSort.the-variants.{Unit as UnitRow, Primitive, Container, Function as SortFunction, Def, TypeVar}
 use Rattle.resolved_sort.specs.Storage.{maxSorts, kindAt, partAt, startAt, countAt, entryAt, entriesOf, resolved, rowAt, kindFlat, partFlat, kindOp}
-use Rattle.resolved_sort.specs.Checks.{partsBelow, rowFine, rowsFine}
-use Rattle.resolved_sort.proofs.Below.{below-each}
+use Rattle.resolved_sort.specs.Checks.{partsBelow, rowFine}
 use Rattle.resolved_sort.proofs.Numbers.{true-not-false}
 use Rattle.resolved_sort.proofs.RowTrees.{by-kind}
 use Rattle.resolved_sort.proofs.Fine.{run-inside}
 use Rattle.unification.specs.declared.Lengths.{Lengths}
-use Rattle.unification.specs.declared.InferSort.{InferSort}
-use Rattle.unification.specs.declared.InferSort.the-variants.{Generic, Function, Var}
+use Rattle.unification.specs.declared.InferSort.the-variants.{Function}
 use Rattle.unification.specs.declared.SortVar.{SortVar}
-use Rattle.unification.specs.declared.VarAt.{VarAt}
 use Rattle.unification.specs.declared.VarAt.the-variants.{Is, Nothing}
 use Rattle.unification.specs.Term.{Head, Shape, variable, over, headOf, partsOf, kindHead, numberHead, sameHead}
-use Rattle.unification.specs.Nodes.{nodeKindAt, nodePartAt, nodeStartAt, nodeCountAt, nodeEntryAt, nodeEntriesOf, inferred, nodeAt, sortShape, nodeShape, isPlace}
-use Rattle.unification.specs.NodeChecks.{nodeKindFine, nodePartsFine, nodeFine, nodesFine}
+use Rattle.unification.specs.Nodes.{nodeKindAt, nodePartAt, nodeStartAt, nodeCountAt, nodeEntryAt, nodeEntriesOf, inferred, nodeAt, sortShape, nodeShape}
+use Rattle.unification.specs.NodeChecks.{nodeKindFine, nodePartsFine, nodeFine}
 use Rattle.unification.specs.Checked.{graphOf, Placed}
+use Rattle.unification.proofs.Parts.{Runs, sort-runs, node-runs, run-length}
+use Rattle.unification.proofs.Places.{sort-below, node-below}
+use Rattle.unification.proofs.Rows.{node-function-fine, sort-no-variable, node-fine-parts}
+use Rattle.unification.proofs.Lists.{sort-fine, node-fine}
 use Rattle.infer_nodes.specs.Parts.{NodesReady, varAt, numberIn, countIn, partIn, SmallCount}
-use Rattle.infer_nodes.proofs.Shapes.{at-sort, at-node, node-below}
+use Rattle.infer_nodes.proofs.Shapes.{at-sort, at-node}
 
 -- the functions on a row of words
 module _ (ws : List ℕ) (row kind : ℕ) (e : kind ≡ getD ws row 0) where
@@ -75,21 +74,17 @@ module _ (ws : List ℕ) (row kind : ℕ) (e : kind ≡ getD ws row 0) where
   part-only at i r d x = x ∙ rw (sym e, ne-eqb kind 11 d)
 
 -- a run and the range behind it
-module _ (entry : ℕ → ℕ) (entries : ℕ → ℕ → List ℕ) (none : (s : ℕ) → entries s zero ≡ []) (more : (s c : ℕ) → entries s (suc c) ≡ entry s ∷ entries (s + 1) c) where
-  run-length : (s c : ℕ) → length (entries s c) ≡ c
-  run-length s zero = ap length (none s)
-  run-length s (suc c) = ap length (more s c) ∙ omega (arith, run-length (s + 1) c)
-
+module _ (entry : ℕ → ℕ) (entries : ℕ → ℕ → List ℕ) (R : Runs entry entries) where
   pub all-length : (s c r : ℕ) → length (entries s c ++ (r ∷ [])) ≡ c + 1
-  all-length s c r = length-append (entries s c) (r ∷ []) ∙ omega (arith, run-length s c)
+  all-length s c r = length-append (entries s c) (r ∷ []) ∙ omega (arith, run-length entry entries R s c)
 
   pub argument-of : (c s i r : ℕ) → i < c → getD (entries s c ++ (r ∷ [])) i 0 ≡ entry (s + i)
   argument-of zero s i r l = absurd (omega (arith, l))
-  argument-of (suc c) s zero r l = ap (λ xs. getD (xs ++ (r ∷ [])) 0 0) (more s c) ∙ ap entry (let z : s ≡ s + 0 = omega arith in z)
-  argument-of (suc c) s (suc i) r l = ap (λ xs. getD (xs ++ (r ∷ [])) (suc i) 0) (more s c) ∙ (argument-of c (s + 1) i r (omega (arith, l)) ∙ ap entry (let z : s + 1 + i ≡ s + suc i = omega arith in z))
+  argument-of (suc c) s zero r l = ap (λ xs. getD (xs ++ (r ∷ [])) 0 0) (R .more s c) ∙ ap entry (let z : s ≡ s + 0 = omega arith in z)
+  argument-of (suc c) s (suc i) r l = ap (λ xs. getD (xs ++ (r ∷ [])) (suc i) 0) (R .more s c) ∙ (argument-of c (s + 1) i r (omega (arith, l)) ∙ ap entry (let z : s + 1 + i ≡ s + suc i = omega arith in z))
 
   pub range-of : (s c r : ℕ) → getD (entries s c ++ (r ∷ [])) c 0 ≡ r
-  range-of s c r = ap (λ (j : ℕ). getD (entries s c ++ (r ∷ [])) j 0) (sym (run-length s c)) ∙ getD-append-seam (entries s c) r [] 0
+  range-of s c r = ap (λ (j : ℕ). getD (entries s c ++ (r ∷ [])) j 0) (sym (run-length entry entries R s c)) ∙ getD-append-seam (entries s c) r [] 0
 
 -- what a row of these words says of head and parts
 abbrev numberBy : ℕ → ℕ → ℕ → ℕ
@@ -112,22 +107,22 @@ one-part entry part x e zero l = e
 one-part entry part x e (suc i) l = absurd (omega (arith, l))
 
 -- a function
-module _ (entry : ℕ → ℕ) (entries : ℕ → ℕ → List ℕ) (none : (s : ℕ) → entries s zero ≡ []) (more : (s c : ℕ) → entries s (suc c) ≡ entry s ∷ entries (s + 1) c) (part start count : ℕ) where
+module _ (entry : ℕ → ℕ) (entries : ℕ → ℕ → List ℕ) (R : Runs entry entries) (part start count : ℕ) where
   abbrev ps : List ℕ
   ps = entries start count ++ (part ∷ [])
 
   function-each : (i : ℕ) (b : Bool) → ltb i count ≡ b → i < length ps → cond b (entry (start + i)) part ≡ getD ps i 0
-  function-each i true e l = sym (argument-of entry entries none more count start i part (ltb-true i count e))
+  function-each i true e l = sym (argument-of entry entries R count start i part (ltb-true i count e))
   function-each i false e l =
-      let j : i ≡ count = omega (arith, ltb-false i count e, l, all-length entry entries none more start count part) in
-      sym (ap (λ (x : ℕ). getD ps x 0) j ∙ range-of entry entries none more start count part)
+      let j : i ≡ count = omega (arith, ltb-false i count e, l, all-length entry entries R start count part) in
+      sym (ap (λ (x : ℕ). getD ps x 0) j ∙ range-of entry entries R start count part)
 
   pub function-says : (s : Shape) → kindHead (headOf s) ≡ 11 → numberHead (headOf s) ≡ count → partsOf s ≡ ps → Says s entry 11 part start count
   function-says s k n p =
       record {
         kind = sym k;
         number = sym n;
-        many = sym (ap length p ∙ all-length entry entries none more start count part);
+        many = sym (ap length p ∙ all-length entry entries R start count part);
         each = λ i l. function-each i (ltb i count) refl (subst (λ xs. i < length xs) p l) ∙ sym (ap (λ xs. getD xs i 0) p);
       }
 
@@ -156,7 +151,7 @@ module _ (ws : List ℕ) (part start count : ℕ) where
       (record { kind = refl; number = refl; many = refl; each = λ i l. one-part (entryAt ws) part part refl i l })
       (record { kind = refl; number = refl; many = refl; each = λ i l. one-part (entryAt ws) part part refl i l })
       (record { kind = refl; number = refl; many = refl; each = λ i l. one-part (entryAt ws) part part refl i l })
-      (function-says (entryAt ws) (entriesOf ws) (λ s. refl) (λ s c. refl) part start count (sortShape ws (resolved 11 part run)) refl refl refl)
+      (function-says (entryAt ws) (entriesOf ws) (sort-runs ws) part start count (sortShape ws (resolved 11 part run)) refl refl refl)
       (record { kind = refl; number = refl; many = refl; each = λ i l. no-parts i l })
       (record { kind = refl; number = refl; many = refl; each = λ i l. no-parts i l })
 
@@ -176,7 +171,7 @@ module _ (ws : List ℕ) (part start count : ℕ) where
       (λ e. record { kind = refl; number = refl; many = refl; each = λ i l. one-part (nodeEntryAt ws) part part refl i l })
       (λ e. record { kind = refl; number = refl; many = refl; each = λ i l. one-part (nodeEntryAt ws) part part refl i l })
       (λ e. record { kind = refl; number = refl; many = refl; each = λ i l. one-part (nodeEntryAt ws) part part refl i l })
-      (λ e. function-says (nodeEntryAt ws) (nodeEntriesOf ws) (λ s. refl) (λ s c. refl) part start count (nodeShape ws (inferred 11 part run)) refl refl refl)
+      (λ e. function-says (nodeEntryAt ws) (nodeEntriesOf ws) (node-runs ws) part start count (nodeShape ws (inferred 11 part run)) refl refl refl)
       (λ e. unknown-kind e) (λ e. unknown-kind e)
 
   variable-says : NodeSays 14
@@ -198,35 +193,26 @@ module _ (ws : List ℕ) (part start count : ℕ) where
       go false e (no i) = λ f. not-known k (leb-false k 13 e) i f
 
 sort-no-var : (ws : List ℕ) (r : ResolvedSort) → varAt (sortShape ws r) ≡ Nothing
-unfolding sortShape
-sort-no-var ws UnitRow = refl
-sort-no-var ws (Primitive s) = refl
-sort-no-var ws (Container op s) = refl
-sort-no-var ws (SortFunction d r) = refl
-sort-no-var ws (Def n) = refl
-sort-no-var ws (TypeVar n) = refl
+sort-no-var ws r = go (sortShape ws r) refl
+  where
+    go : (s : Shape) → sortShape ws r ≡ s → varAt s ≡ Nothing
+    go (variable v) e = sort-no-variable ws v r e
+    go (over h ps) e = refl
 
 function-small : (ns : List ℕ) (d n v j : ℕ) → nodeKindAt ns j ≡ 11 → nodePartsFine ns d n v j (nodeAt ns j) ≡ true → nodeCountAt ns j ≤ 16
-unfolding inferred nodePartsFine
+unfolding inferred
 function-small ns d n v j f x =
     let run : Run = record { start = nodeStartAt ns j; count = nodeCountAt ns j } in
     let y : nodePartsFine ns d n v j (Function run (record { 0 = nodePartAt ns j })) ≡ true = subst (λ (m : ℕ). nodePartsFine ns d n v j (inferred m (nodePartAt ns j) run) ≡ true) f x in
-    let a = and-eq-true-iff (leb (nodeCountAt ns j) 16 && leb (nodeStartAt ns j + nodeCountAt ns j) d && isPlace n j (nodePartAt ns j)) _ .0 y in
-    let b = and-eq-true-iff (leb (nodeCountAt ns j) 16 && leb (nodeStartAt ns j + nodeCountAt ns j) d) (isPlace n j (nodePartAt ns j)) .0 (a .0) in
-    leb-true (nodeCountAt ns j) 16 (and-eq-true-iff (leb (nodeCountAt ns j) 16) (leb (nodeStartAt ns j + nodeCountAt ns j) d) .0 (b .0) .0)
+    node-function-fine ns d n v j run (nodePartAt ns j) y .short
 
 -- at a place
 module _ (ws ns : List ℕ) (k : Lengths) (q : NodesReady ws ns k) (p : ℕ) (e : Placed k p) where
   abbrev s : Shape
   s = graphOf ws ns k p
 
-  sort-below : p < maxSorts → p < k .sorts
-  unfolding isPlace
-  sort-below l = let x : cond true (ltb p (k .sorts)) (ltb (p - maxSorts) (k .nodes)) ≡ true = subst (λ b. cond b (ltb p (k .sorts)) (ltb (p - maxSorts) (k .nodes)) ≡ true) (lt-ltb p maxSorts l) e in ltb-true p (k .sorts) x
-
   row-is-fine : p < maxSorts → rowFine ws (k .entries) p ≡ true
-  unfolding rowsFine
-  row-is-fine l = below-each (k .sorts) (rowFine ws (k .entries)) (q .sorts .fine) p (sort-below l)
+  row-is-fine l = sort-fine ws (k .sorts) (k .entries) ns (k .nodes) (k .arguments) (k .variables) q p (sort-below (k .sorts) (k .nodes) p l e)
 
   module _ (l : p < maxSorts) where
     says-sort : Says s (entryAt ws) (kindAt ws p) (partAt ws p) (startAt ws p) (countAt ws p)
@@ -264,14 +250,12 @@ module _ (ws ns : List ℕ) (k : Lengths) (q : NodesReady ws ns k) (p : ℕ) (e 
     j = p - maxSorts
 
     node-is-fine : nodeFine ns (k .arguments) (k .sorts) (k .variables) j ≡ true
-    unfolding nodesFine
-    node-is-fine = below-each (k .nodes) (nodeFine ns (k .arguments) (k .sorts) (k .variables)) (q .fine) j (node-below ws ns k q p e l)
+    node-is-fine = node-fine ws (k .sorts) (k .entries) ns (k .nodes) (k .arguments) (k .variables) q j (node-below (k .sorts) (k .nodes) p l e)
 
     says-node : Says s (nodeEntryAt ns) (nodeKindAt ns j) (nodePartAt ns j) (nodeStartAt ns j) (nodeCountAt ns j)
-    unfolding nodeFine
     says-node =
         subst (λ x. Says x (nodeEntryAt ns) (nodeKindAt ns j) (nodePartAt ns j) (nodeStartAt ns j) (nodeCountAt ns j)) (sym (at-node ws ns k q p e l))
-        (node-says ns (nodePartAt ns j) (nodeStartAt ns j) (nodeCountAt ns j) (nodeKindAt ns j) (and-eq-true-iff (nodeKindFine (nodeKindAt ns j)) (nodePartsFine ns (k .arguments) (k .sorts) (k .variables) j (nodeAt ns j)) .0 node-is-fine .0))
+        (node-says ns (nodePartAt ns j) (nodeStartAt ns j) (nodeCountAt ns j) (nodeKindAt ns j) (node-fine-parts ns (k .arguments) (k .sorts) (k .variables) j node-is-fine .0))
 
     pub kind-of-node : (r : ℕ) → r ≡ getD ns (4 * j) 0 → r ≡ kindHead (headOf s)
     kind-of-node r x = x ∙ says-node .kind
@@ -285,17 +269,16 @@ module _ (ws ns : List ℕ) (k : Lengths) (q : NodesReady ws ns k) (p : ℕ) (e 
     count-of-node r x = x ∙ says-node .many
 
     pub small-node : SmallCount ns (4 * j)
-    unfolding nodeFine
     small-node f =
         function-small ns (k .arguments) (k .sorts) (k .variables) j f
-        (and-eq-true-iff (nodeKindFine (nodeKindAt ns j)) (nodePartsFine ns (k .arguments) (k .sorts) (k .variables) j (nodeAt ns j)) .0 node-is-fine .1)
+        (node-fine-parts ns (k .arguments) (k .sorts) (k .variables) j node-is-fine .1)
 
     pub part-of-node : (i r : ℕ) → i < length (partsOf s) → r ≡ partIn ns 8192 (4 * j) i → r ≡ getD (partsOf s) i 0
     unfolding partIn
     part-of-node i r m x = x ∙ says-node .each i m
 
     pub node-row : 4 * j ≤ 8192
-    node-row = omega (arith, node-below ws ns k q p e l, q .nodes)
+    node-row = omega (arith, node-below (k .sorts) (k .nodes) p l e, q .nodes)
 
 -- a node that is no variable, and one that is
 pub node-not-variable : (s : Shape) (h : Head) (ps : List ℕ) → s ≡ over h ps → Nothing ≡ varAt s

@@ -2,46 +2,42 @@
 -- from a variable to what it is bound to and from a node to its parts. Assumes nothing.
 use mathlib.Core.Path.{_≡_, refl, ap, sym, _∙_, subst}
 use mathlib.Core.List.{List, [], _∷_, _++_}
-use mathlib.Core.Option.{Option, none, some}
-use mathlib.Core.Bool.{Bool, true, false, cond, _&&_, and-eq-true-iff}
-use Prim.Native.Nat.{ℕ, zero, suc, _+_, _-_, _*_, _<_, _≤_, max}
+use mathlib.Core.Option.{none, some}
+use mathlib.Core.Bool.{Bool, true, false, cond}
+use Prim.Native.Nat.{ℕ, zero, suc, _+_, _-_, _<_, _≤_}
 use native.Mathlib.Omega.{arith}
 use lib.ListN.{length, getD}
-use lib.Dec.{eqb, ltb, leb}
-use borrow.Author.Tests.{ltb-true, ltb-false, leb-true, lt-ltb, le-ltb, ne-eqb, eq-eqb}
+use lib.Dec.{eqb}
+use borrow.Author.Tests.{lt-ltb, le-ltb, ne-eqb, eq-eqb}
 use Rattle.resolved_sort.specs.declared.Run.{Run}
 use Rattle.resolved_sort.specs.declared.ComplexSort.{ComplexSort}
 use Rattle.resolved_sort.specs.declared.ResolvedSort.{ResolvedSort}
-use Rattle.resolved_sort.specs.declared.ResolvedSort.the-variants.{Unit as UnitRow, Primitive, Container, Function as SortFunction, Def, TypeVar}
 use Rattle.resolved_sort.specs.Storage.{maxSorts, rowAt}
-use Rattle.resolved_sort.specs.Checks.{allBelow}
-use Rattle.resolved_sort.proofs.Below.{below-each}
-use Rattle.resolved_sort.proofs.Numbers.{true-not-false}
+use Rattle.resolved_sort.proofs.Reached.{no-confusion}
 use Rattle.unification.specs.declared.Lengths.{Lengths}
 use Rattle.unification.specs.declared.InferSortId.{InferSortId}
 use Rattle.unification.specs.declared.SortVar.{SortVar}
 use Rattle.unification.specs.declared.InferSort.{InferSort}
 use Rattle.unification.specs.declared.InferSort.the-variants.{Generic, Function, Var}
-use Rattle.unification.specs.Term.{Head, containerHead, functionHead, Shape, variable, over}
-use Rattle.unification.specs.Nodes.{nodeKindAt, nodePartAt, nodeStartAt, nodeCountAt, nodeEntryAt, nodeEntriesOf, opOfKind, inferred, nodeAt, sortShape, nodeShape, isSort, isPlace, shapeAt, Binds, binding, freeWord, bindingOf, bindsOf}
-use Rattle.unification.specs.NodeChecks.{nodePartsFine, bindingFine, bindingsFine}
-use Rattle.unification.specs.Unify.{Occurs, absent, present, unknown, or-else, ofTest, followBound, followAt, follow, occursAny, occursBound, occursAt, occurs, deep}
+use Rattle.unification.specs.Term.{containerHead, functionHead, Shape, variable, over}
+use Rattle.unification.specs.Nodes.{nodeKindAt, nodePartAt, nodeStartAt, nodeCountAt, nodeEntryAt, nodeEntriesOf, opOfKind, inferred, nodeAt, sortShape, nodeShape, isPlace, Binds, binding, freeWord, bindingOf, bindsOf}
+use Rattle.unification.specs.NodeChecks.{nodePartsFine}
+use Rattle.unification.specs.Unify.{Occurs, absent, present, unknown, or-else, ofTest, followAt, follow, occursAny, occursAt, occurs, deep}
 use Rattle.unification.specs.Acyclic.{One, first, later}
-use Rattle.unification.specs.Checked.{listsOf, graphOf, Ready, Placed}
-use Rattle.unification.proofs.Exact.{follow-end}
-use Rattle.unification.proofs.Rank.{highest, rank, Ranked, rank-var, rank-over, none-some}
-use Rattle.unification.proofs.Numbering.{numbered-ranked}
-use Rattle.unification.proofs.Enough.{follow-eq, follow-some, occurs-eq, occurs-known}
-use Rattle.unification.proofs.Lists.{lower, scoped, sort-parts, sort-parts-fine, sort-no-variable, node-parts, node-parts-fine}
-use Rattle.unification.proofs.Theorem.{deep-enough}
+use Rattle.unification.specs.Checked.{graphOf, Ready, Placed}
+use Rattle.unification.proofs.Rank.{highest, rank, Ranked, rank-var, rank-over, one-highest}
+use Rattle.unification.proofs.Parts.{one-last}
+use Rattle.unification.proofs.Places.{sort-is-place, sort-below, node-below, place-longer, bound-is-place}
+use Rattle.unification.proofs.Rows.{FunctionFine, node-function-fine, sort-parts, sort-no-variable}
+use Rattle.unification.proofs.Follow.{follow-holds, follow-end, follow-names}
+use Rattle.unification.proofs.Theorem.{ready-ranked}
+use Rattle.unification.proofs.Enough.{follow-eq, occurs-eq, end-no-higher}
+use Rattle.unification.proofs.Lists.{sort-parts-fine}
 use Rattle.infer_nodes.specs.Bound.{boundAt, RunPlaced}
-use Rattle.infer_nodes.proofs.Shapes.{at-sort, at-node, node-below, shape-of-node, parts-fine, shape-of-variable, variable-in-list}
+use Rattle.infer_nodes.proofs.Shapes.{at-sort, shape-of-node, parts-fine, shape-of-variable, variable-in-list}
 
 abbrev ops : List ComplexSort
 ops = ComplexSort.List ∷ ComplexSort.Set ∷ ComplexSort.FSet ∷ ComplexSort.Bag ∷ []
-
-differ : {A : Type 0} → _≡_ {A = ℕ} 0 1 → A
-differ e = absurd (omega arith)
 
 -- bindings as words
 pub length-binds : (bs : List ℕ) (n : ℕ) → length (bindsOf bs n) ≡ n
@@ -58,20 +54,12 @@ binding-word [] (suc n) (suc v) l = binding-word [] n v (omega (arith, l)) ∙ r
 binding-word (w ∷ bs) (suc n) zero l = refl
 binding-word (w ∷ bs) (suc n) (suc v) l = binding-word bs n v (omega (arith, l))
 
-bound-is-place : (n m : ℕ) (B : Binds) (v q : ℕ) → bindingsFine n m B ≡ true → binding B v ≡ some q → isPlace n m q ≡ true
-unfolding bindingsFine
-bound-is-place n m [] v q f e = differ (cc)
-bound-is-place n m (b ∷ B) zero q f e = subst (λ x. bindingFine n m x ≡ true) e (and-eq-true-iff (bindingFine n m b) (bindingsFine n m B) .0 f .0)
-bound-is-place n m (b ∷ B) (suc v) q f e = bound-is-place n m B v q (and-eq-true-iff (bindingFine n m b) (bindingsFine n m B) .0 f .1) e
-
 sort-bound : (ws : List ℕ) (r : ResolvedSort) (B : Binds) → boundAt (sortShape ws r) B ≡ none
-unfolding sortShape
-sort-bound ws UnitRow B = refl
-sort-bound ws (Primitive s) B = refl
-sort-bound ws (Container op s) B = refl
-sort-bound ws (SortFunction d r) B = refl
-sort-bound ws (Def n) B = refl
-sort-bound ws (TypeVar n) B = refl
+sort-bound ws r B = go (sortShape ws r) refl
+  where
+    go : (s : Shape) → sortShape ws r ≡ s → boundAt s B ≡ none
+    go (variable v) e = sort-no-variable ws v r e
+    go (over h ps) e = refl
 
 or-absent : (x : Occurs) → or-else x absent ≡ x
 or-absent absent = refl
@@ -121,12 +109,10 @@ module _ (ws ns bs : List ℕ) (k : Lengths) (q : Ready ws ns bs k) where
   abbrev B : Binds
   B = bindsOf bs (k .variables)
 
-  pub ranked : Ranked shape deep B
-  ranked =
-      numbered-ranked shape 3072 (lower ws (k .sorts) (k .entries) ns (k .nodes) (k .arguments) (k .variables) (q .nodes)) (k .variables) B (q .binds .numbered) deep
-      (deep-enough ws (k .sorts) (k .entries) ns (k .nodes) (k .arguments) (k .variables) (q .nodes))
+  abbrev ranked : Ranked shape deep B
+  ranked = ready-ranked ws ns bs k q
 
-  abbrev pub ρ : ℕ → ℕ
+  abbrev ρ : ℕ → ℕ
   ρ = rank shape deep B
 
   -- what the variable at a place is bound to
@@ -156,7 +142,7 @@ module _ (ws ns bs : List ℕ) (k : Lengths) (q : Ready ws ns bs k) where
 
     step-by : (s : Shape) → shape end ≡ s → some next ≡ boundAt s B → (v : ℕ) × ((shape end ≡ variable v) × (binding B v ≡ some next))
     step-by (variable v) x e = (v, (x, sym e))
-    step-by (over h ps) x e = none-some next (sym e)
+    step-by (over h ps) x e = no-confusion (cc)
 
     module _ (d : next ≡ freeWord → ⊥) where
       step : (v : ℕ) × ((shape end ≡ variable v) × (binding B v ≡ some next))
@@ -184,45 +170,21 @@ module _ (ws ns bs : List ℕ) (k : Lengths) (q : Ready ws ns bs k) where
         f .same ∙ (follow-eq shape deep B ranked end ∙ ends-by (shape end) refl z)
 
   -- the end of a place
-  follow-placed : (j p r : ℕ) → Placed k p → follow shape j B p ≡ some r → Placed k r
-  unfolding follow
-  follow-placed zero p r e f = none-some r f
-  follow-placed (suc j) p r e f = go (shape p) refl f (follow-placed j)
-    where
-      bound : (v : ℕ) (o : Option ℕ) → binding B v ≡ o → followBound shape o p (follow shape j B) ≡ some r → ((x r : ℕ) → Placed k x → follow shape j B x ≡ some r → Placed k r) → Placed k r
-      bound v none b f ih = let z : p ≡ r = cc in subst (Placed k) z e
-      bound v (some x) b f ih = ih x r (bound-is-place (k .sorts) (k .nodes) B v x (q .binds .places) b) f
+  pub end-is-placed : (p end : ℕ) → Placed k p → follow shape deep B p ≡ some end → Placed k end
+  end-is-placed = follow-names shape B (Placed k) (λ v x. bound-is-place (k .sorts) (k .nodes) B v x (q .binds .places)) deep
 
-      go : (s : Shape) → shape p ≡ s → followAt shape s B p (follow shape j B) ≡ some r → ((x r : ℕ) → Placed k x → follow shape j B x ≡ some r → Placed k r) → Placed k r
-      go (variable v) s f ih = bound v (binding B v) refl f ih
-      go (over h ps) s f ih = let z : p ≡ r = cc in subst (Placed k) z e
-
-  follow-occurs : (u j p r : ℕ) → follow shape j B p ≡ some r → occurs shape deep B u p ≡ occurs shape deep B u r
-  unfolding follow
-  follow-occurs u zero p r f = none-some r f
-  follow-occurs u (suc j) p r f = go (shape p) refl f (follow-occurs u j)
-    where
-      bound : (v : ℕ) (o : Option ℕ) → shape p ≡ variable v → binding B v ≡ o → followBound shape o p (follow shape j B) ≡ some r
-          → ((x r : ℕ) → follow shape j B x ≡ some r → occurs shape deep B u x ≡ occurs shape deep B u r) → occurs shape deep B u p ≡ occurs shape deep B u r
-      bound v none s b f ih = let z : p ≡ r = cc in ap (occurs shape deep B u) z
-      bound v (some x) s b f ih = occurs-eq shape deep B ranked u p ∙ (rw s (rw b (ih x r f)))
-
-      go : (s : Shape) → shape p ≡ s → followAt shape s B p (follow shape j B) ≡ some r → ((x r : ℕ) → follow shape j B x ≡ some r → occurs shape deep B u x ≡ occurs shape deep B u r)
-          → occurs shape deep B u p ≡ occurs shape deep B u r
-      go (variable v) s f ih = bound v (binding B v) s refl f ih
-      go (over h ps) s f ih = let z : p ≡ r = cc in ap (occurs shape deep B u) z
+  follow-occurs : (u p end : ℕ) → follow shape deep B p ≡ some end → occurs shape deep B u p ≡ occurs shape deep B u end
+  follow-occurs u =
+      follow-holds shape B (λ p end. occurs shape deep B u p ≡ occurs shape deep B u end) (λ p i. refl)
+      (λ p v r end s b h. occurs-eq shape deep B ranked u p ∙ (rw s (rw b h))) deep
 
   -- a sort holds no variable
   any-absent : (f : ℕ → Occurs) (ps : List ℕ) → ((x : ℕ) → One x ps → f x ≡ absent) → occursAny shape f ps ≡ absent
   any-absent f [] h = refl
   any-absent f (p ∷ ps) h = let a = h p (first ps) in let b = any-absent f ps (λ x o. h x (later p ps o)) in rw a b
 
-  pub sort-placed : (p : ℕ) → p < k .sorts → Placed k p
-  unfolding isPlace
-  sort-placed p l = rw (lt-ltb p maxSorts (omega (arith, l, q .nodes .sorts .sorts)), lt-ltb p (k .sorts) l)
-
   sort-shape-of : (p : ℕ) → p < k .sorts → shape p ≡ sortShape ws (rowAt ws p)
-  sort-shape-of p l = at-sort ws ns k (q .nodes) p (sort-placed p l) (omega (arith, l, q .nodes .sorts .sorts))
+  sort-shape-of p l = at-sort ws ns k (q .nodes) p (sort-is-place (k .sorts) (k .nodes) p (q .nodes .sorts .sorts) l) (omega (arith, l, q .nodes .sorts .sorts))
 
   sort-absent : (u j p : ℕ) → p < j → p < k .sorts → occurs shape deep B u p ≡ absent
   sort-absent u zero p l m = absurd (omega (arith, l))
@@ -232,26 +194,9 @@ module _ (ws ns bs : List ℕ) (k : Lengths) (q : Ready ws ns bs k) where
       go (variable v) s ih = sort-no-variable ws v (rowAt ws p) (sym s)
       go (over h ps) s ih = any-absent (occurs shape deep B u) ps (λ x o. let y = sort-parts ws (k .entries) p (rowAt ws p) (sort-parts-fine ws (k .sorts) (k .entries) ns (k .nodes) (k .arguments) (k .variables) (q .nodes) p m) x h ps (sym s) o in ih x (omega (arith, l, y)) (omega (arith, m, y)))
 
-  pub placed-sort-below : (p : ℕ) → Placed k p → p < maxSorts → p < k .sorts
-  unfolding isPlace
-  placed-sort-below p e l = let x : cond true (ltb p (k .sorts)) (ltb (p - maxSorts) (k .nodes)) ≡ true = subst (λ b. cond b (ltb p (k .sorts)) (ltb (p - maxSorts) (k .nodes)) ≡ true) (lt-ltb p maxSorts l) e in ltb-true p (k .sorts) x
-
   -- places among the parts of a node
-  pub place-wider : (i x : ℕ) → i ≤ k .nodes → isPlace (k .sorts) i x ≡ true → Placed k x
-  unfolding isPlace
-  place-wider i x l e = go (isSort x) refl e
-    where
-      go : (b : Bool) → isSort x ≡ b → cond b (ltb x (k .sorts)) (ltb (x - maxSorts) i) ≡ true → cond b (ltb x (k .sorts)) (ltb (x - maxSorts) (k .nodes)) ≡ true
-      go true s e = e
-      go false s e = lt-ltb (x - maxSorts) (k .nodes) (omega (arith, ltb-true (x - maxSorts) i e, l))
-
-  pub one-highest : (g : ℕ → ℕ) (ps : List ℕ) (x : ℕ) → One x ps → suc (g x) ≤ highest g ps
-  one-highest g _ x (first ps) = omega arith
-  one-highest g _ x (later p ps o) = omega (arith, one-highest g ps x o)
-
-  last-of : (xs : List ℕ) (y : ℕ) → One y (xs ++ (y ∷ []))
-  last-of [] y = first []
-  last-of (x ∷ xs) y = later x (xs ++ (y ∷ [])) (last-of xs y)
+  among-fewer : (i x : ℕ) → i ≤ k .nodes → isPlace (k .sorts) i x ≡ true → Placed k x
+  among-fewer i x = place-longer (k .sorts) (k .sorts) i (k .nodes) x (omega arith)
 
   highest-front : (g : ℕ → ℕ) (xs ys : List ℕ) → highest g xs ≤ highest g (xs ++ ys)
   highest-front g [] ys = omega arith
@@ -268,21 +213,17 @@ module _ (ws ns bs : List ℕ) (k : Lengths) (q : Ready ws ns bs k) where
 
   -- the occurs check, at the end of a place
   module _ (u p end : ℕ) (e : Placed k p) (f : follow shape deep B p ≡ some end) where
-    pub end-placed : Placed k end
-    end-placed = follow-placed deep p end e f
+    end-placed : Placed k end
+    end-placed = end-is-placed p end e f
 
-    pub end-rank : ρ end ≤ ρ p
-    end-rank =
-        let x = follow-some shape deep B ranked deep p (ranked .short p) in
-        let y : some end ≡ some (x .0) = sym f ∙ x .1 in
-        let z : end ≡ x .0 = cc in
-        omega (arith, x .2, ap ρ z)
+    end-rank : ρ end ≤ ρ p
+    end-rank = end-no-higher shape deep B ranked deep p end f
 
     same-there : occurs shape deep B u p ≡ occurs shape deep B u end
-    same-there = follow-occurs u deep p end f
+    same-there = follow-occurs u p end f
 
     pub occurs-in-sort : end < maxSorts → occurs shape deep B u p ≡ absent
-    occurs-in-sort l = same-there ∙ sort-absent u (suc end) end (omega arith) (placed-sort-below end end-placed l)
+    occurs-in-sort l = same-there ∙ sort-absent u (suc end) end (omega arith) (sort-below (k .sorts) (k .nodes) end l end-placed)
 
     module _ (l : maxSorts ≤ end) (r : InferSort) (i : r ≡ nodeAt ns (end - maxSorts)) where
       pub occurs-at-variable : (v : SortVar) → r ≡ Var v → occurs shape deep B u p ≡ ofTest (eqb u (v .0))
@@ -298,7 +239,7 @@ module _ (ws ns bs : List ℕ) (k : Lengths) (q : Ready ws ns bs k) where
         pub subsort-placed : Placed k (s .0)
         unfolding nodePartsFine
         subsort-placed =
-            place-wider (end - maxSorts) (s .0) (omega (arith, node-below ws ns k (q .nodes) end end-placed l))
+            among-fewer (end - maxSorts) (s .0) (omega (arith, node-below (k .sorts) (k .nodes) end l end-placed))
             (subst (λ y. nodePartsFine ns (k .arguments) (k .sorts) (k .variables) (end - maxSorts) y ≡ true) x (parts-fine ws ns k (q .nodes) end end-placed l r i))
 
         pub subsort-lower : ρ (s .0) < ρ p
@@ -315,30 +256,20 @@ module _ (ws ns bs : List ℕ) (k : Lengths) (q : Ready ws ns bs k) where
         unfolding nodeShape
         function-shape = shape-of-node ws ns k (q .nodes) end end-placed l r i ∙ ap (nodeShape ns) x
 
-        abbrev part-test : ℕ → Bool
-        part-test j = isPlace (k .sorts) (end - maxSorts) (nodeEntryAt ns (d .start + j))
+        function-fine : FunctionFine (isPlace (k .sorts) (end - maxSorts)) (nodeEntryAt ns) (k .arguments) d (s .0)
+        function-fine =
+            node-function-fine ns (k .arguments) (k .sorts) (k .variables) (end - maxSorts) d (s .0)
+            (subst (λ y. nodePartsFine ns (k .arguments) (k .sorts) (k .variables) (end - maxSorts) y ≡ true) x (parts-fine ws ns k (q .nodes) end end-placed l r i))
 
-        function-fine : (leb (d .count) 16 && leb (d .start + d .count) (k .arguments) && isPlace (k .sorts) (end - maxSorts) (s .0) && allBelow (d .count) part-test) ≡ true
-        unfolding nodePartsFine
-        function-fine = subst (λ y. nodePartsFine ns (k .arguments) (k .sorts) (k .variables) (end - maxSorts) y ≡ true) x (parts-fine ws ns k (q .nodes) end end-placed l r i)
-
-        two : ((leb (d .count) 16 && leb (d .start + d .count) (k .arguments) && isPlace (k .sorts) (end - maxSorts) (s .0)) ≡ true) × (allBelow (d .count) part-test ≡ true)
-        two = and-eq-true-iff (leb (d .count) 16 && leb (d .start + d .count) (k .arguments) && isPlace (k .sorts) (end - maxSorts) (s .0)) (allBelow (d .count) part-test) .0 function-fine
+        part-placed : (y : ℕ) → isPlace (k .sorts) (end - maxSorts) y ≡ true → Placed k y
+        part-placed y = among-fewer (end - maxSorts) y (omega (arith, node-below (k .sorts) (k .nodes) end l end-placed))
 
         pub run-placed : RunPlaced ns k (d .start) (d .count)
         run-placed =
-            let a = and-eq-true-iff (leb (d .count) 16 && leb (d .start + d .count) (k .arguments)) (isPlace (k .sorts) (end - maxSorts) (s .0)) .0 (two .0) in
-            let b = and-eq-true-iff (leb (d .count) 16) (leb (d .start + d .count) (k .arguments)) .0 (a .0) in
-            record {
-              places = λ j h. place-wider (end - maxSorts) (nodeEntryAt ns (d .start + j)) (omega (arith, node-below ws ns k (q .nodes) end end-placed l)) (below-each (d .count) part-test (two .1) j h);
-              short = leb-true (d .count) 16 (b .0);
-              inside = leb-true (d .start + d .count) (k .arguments) (b .1);
-            }
+            record { places = λ j h. part-placed (nodeEntryAt ns (d .start + j)) (function-fine .each-fits j h); short = function-fine .short; inside = function-fine .inside }
 
         pub range-placed : Placed k (s .0)
-        range-placed =
-            let a = and-eq-true-iff (leb (d .count) 16 && leb (d .start + d .count) (k .arguments)) (isPlace (k .sorts) (end - maxSorts) (s .0)) .0 (two .0) in
-            place-wider (end - maxSorts) (s .0) (omega (arith, node-below ws ns k (q .nodes) end end-placed l)) (a .1)
+        range-placed = part-placed (s .0) (function-fine .range-fits)
 
         function-rank : ρ end ≡ highest ρ (args ++ (s .0 ∷ []))
         function-rank = rank-over shape deep B ranked end (functionHead (d .count)) (args ++ (s .0 ∷ [])) function-shape
@@ -347,7 +278,7 @@ module _ (ws ns bs : List ℕ) (k : Lengths) (q : Ready ws ns bs k) where
         run-lower = omega (arith, end-rank, function-rank, highest-front ρ args (s .0 ∷ []))
 
         pub range-lower : ρ (s .0) < ρ p
-        range-lower = omega (arith, end-rank, function-rank, one-highest ρ (args ++ (s .0 ∷ [])) (s .0) (last-of args (s .0)))
+        range-lower = omega (arith, end-rank, function-rank, one-highest ρ (args ++ (s .0 ∷ [])) (s .0) (one-last args (s .0)))
 
         by-parts : occurs shape deep B u p ≡ or-else (occursAny shape (occurs shape deep B u) args) (occurs shape deep B u (s .0))
         by-parts = same-there ∙ (occurs-eq shape deep B ranked u end ∙ rw function-shape (any-last (occurs shape deep B u) args (s .0)))

@@ -1,7 +1,6 @@
 -- What the variable at a place is bound to, and runs of arguments that are places.
-use mathlib.Core.Path.{_≡_}
 use mathlib.Core.List.{List}
-use mathlib.Core.Option.{Option, none, some}
+use mathlib.Core.Option.{Option, none}
 use Prim.Native.Nat.{ℕ, _+_, _<_, _≤_}
 use Rattle.unification.specs.declared.Lengths.{Lengths}
 use Rattle.unification.specs.Term.{Shape, variable, over}

@@ -1,14 +1,14 @@
 -- Checks 1, 5 and 6, test by test. Assumes nothing.
-use mathlib.Core.Path.{_≡_, refl, ap, ap₂, sym, _∙_, subst}
-use mathlib.Core.List.{List, [], _∷_}
-use mathlib.Core.Option.{Option, none, some}
-use mathlib.Core.Bool.{Bool, true, false, cond, _&&_, and-false, and-eq-true-iff}
-use Prim.Native.Nat.{ℕ, zero, suc, _+_, _-_, _*_, _<_, _≤_}
+use mathlib.Core.Path.{_≡_, refl, ap, ap₂, sym, _∙_}
+use mathlib.Core.List.{List}
+use mathlib.Core.Option.{none, some}
+use mathlib.Core.Bool.{Bool, true, false, cond, _&&_, and-false}
+use Prim.Native.Nat.{ℕ, _+_, _-_, _*_, _<_, _≤_}
 use native.Mathlib.Omega.{arith}
 use native.Mathlib.Numerals.{add-one}
 use lib.ListN.{length, getD, drop, drop-of-length-le}
 use lib.Seq.{drop-cons}
-use lib.Dec.{eqb, leb, ltb}
+use lib.Dec.{leb, ltb}
 use borrow.Author.Tests.{leb-true, leb-false, lt-leb, le-leb, lt-ltb, le-ltb, eq-eqb, ne-eqb}
 use Rattle.resolved_sort.specs.declared.Run.{Run}
 use Rattle.resolved_sort.specs.declared.ComplexSort.{ComplexSort}
@@ -17,8 +17,8 @@ use Rattle.unification.specs.declared.InferSortId.{InferSortId}
 use Rattle.unification.specs.declared.SortVar.{SortVar}
 use Rattle.unification.specs.declared.InferSort.{InferSort}
 use Rattle.unification.specs.declared.InferSort.the-variants.{Generic, Function, Var}
-use Rattle.unification.specs.Nodes.{nodeKindAt, nodeAt, isSort, isPlace, freeWord, Binds, binding, bindingOf, bindsOf}
-use Rattle.unification.specs.NodeChecks.{nodesWithinLent, bindingsWithinLent, nodePartsFine, nodeKindFine, nodeFine, nodesFine, bindingFine, bindingsFine}
+use Rattle.unification.specs.Nodes.{nodeKindAt, nodeAt, isPlace, freeWord, Binds, bindingOf, bindsOf}
+use Rattle.unification.specs.NodeChecks.{nodesWithinLent, bindingsWithinLent, nodePartsFine, nodeKindFine, nodeFine, bindingFine, bindingsFine}
 use Rattle.infer_nodes.proofs.Ways.{binding-word, length-binds}
 use Rattle.node_checks.specs.Tests.{argPlaced}
 

@@ -2,22 +2,20 @@
 -- to its parts. Assumes nothing.
 use mathlib.Core.Path.{_≡_, refl, ap, ap₂, sym, _∙_, subst}
 use mathlib.Core.List.{List, [], _∷_, _++_}
-use mathlib.Core.Option.{Option, none, some}
-use mathlib.Core.Bool.{Bool, true, false}
-use Prim.Native.Nat.{ℕ, zero, suc, _+_, _-_, _*_, _<_, _≤_}
+use mathlib.Core.Option.{Option, some}
+use Prim.Native.Nat.{ℕ, suc, _+_, _-_, _<_, _≤_}
 use native.Mathlib.Omega.{arith}
-use lib.ListN.{length, set, take, replicate}
+use lib.ListN.{set, take, replicate}
 use Rattle.resolved_sort.specs.declared.ComplexSort.{ComplexSort}
 use Rattle.resolved_sort.specs.declared.SortId.{SortId}
 use Rattle.resolved_sort.specs.declared.Run.{Run}
 use Rattle.resolved_sort.specs.declared.Counts.{Counts}
 use Rattle.resolved_sort.specs.declared.Joined.{Joined}
 use Rattle.resolved_sort.specs.declared.Joined.the-variants.{At, Nothing, Full}
-use Rattle.resolved_sort.specs.declared.Found.{Found}
 use Rattle.resolved_sort.specs.declared.Found.the-variants.{All, Nothing as NotAll, Full as NoRoom}
 use Rattle.resolved_sort.specs.declared.Domain.{Domain}
 use Rattle.resolved_sort.specs.Tree.{Tree, container, function}
-use Rattle.resolved_sort.specs.Interning.{Sorts, look, made, nothing}
+use Rattle.resolved_sort.specs.Interning.{Sorts, look}
 use Rattle.resolved_sort.specs.Storage.{maxSorts, trees, sortsOf, lookAll}
 use Rattle.resolved_sort.specs.Entries.{countsOf, after, stored}
 use Rattle.resolved_sort.specs.Rows.{Checked, AllBelow, storedAt}
@@ -36,17 +34,19 @@ use Rattle.unification.specs.declared.InferSortId.{InferSortId}
 use Rattle.unification.specs.declared.SortVar.{SortVar}
 use Rattle.unification.specs.declared.InferSort.{InferSort}
 use Rattle.unification.specs.declared.InferSort.the-variants.{Generic, Function, Var}
-use Rattle.unification.specs.Term.{Head, containerHead, functionHead, Term, var, app, Terms, no-part, part, Shape, variable, over}
+use Rattle.unification.specs.Term.{containerHead, functionHead, Term, var, app, Terms, no-part, part, over}
 use Rattle.unification.specs.Nodes.{nodeEntryAt, nodeEntriesOf, nodeAt, Binds, bindsOf}
 use Rattle.unification.specs.Unify.{follow, deep}
-use Rattle.unification.specs.Acyclic.{One, first, later}
-use Rattle.unification.specs.Checked.{NodesChecked, graphOf, Ready, Placed}
+use Rattle.unification.specs.Checked.{graphOf, Ready, Placed}
 use Rattle.unification.specs.Solutions.{termsAt}
-use Rattle.unification.specs.Resolve.{value, resolveTerm, resolveArguments, freeSort, DefaultBelow, defaultOf, defaultIn, valueIn, termResolved, argumentsResolved, withCounts}
+use Rattle.unification.specs.Resolve.{resolveTerm, resolveArguments, freeSort, DefaultBelow, defaultOf, defaultIn, valueIn, termResolved, argumentsResolved, withCounts}
 use Rattle.unification.proofs.Exact.{size, sizes}
-use Rattle.unification.proofs.Lists.{none-of}
+use Rattle.unification.proofs.Parts.{node-runs, each-of-run}
+use Rattle.unification.proofs.Places.{sort-below}
+use Rattle.unification.proofs.Rows.{length-node-entries}
+use Rattle.unification.proofs.SortsGrow.{ready-with-more-sorts}
 use Rattle.unification.proofs.ResolvedSorts.{count, Formed, AllFormed, DefaultIn}
-use Rattle.unification.proofs.ResolvedPlaces.{length-node-entries, count-terms, terms-formed, value-formed, sort-place-is-found}
+use Rattle.unification.proofs.ResolvedPlaces.{count-terms, terms-formed, value-formed, sort-place-is-found}
 use Rattle.unification.proofs.Resolved.{value-followed}
 use Rattle.unification.proofs.ResolvedCode as code
 use Rattle.infer_nodes.specs.Bound.{RunPlaced}
@@ -58,14 +58,6 @@ free-is c x s e = sym (ap (freeSort c) e)
 
 pub free-none : (c : Counts) (x : Default) → x ≡ NoDefault → Nothing c ≡ freeSort c x
 free-none c x e = sym (ap (freeSort c) e)
-
--- entries of a run, one by one
-entry-of-run : (ns : List ℕ) (s c : ℕ) (P : ℕ → Type 0) → ((j : ℕ) → j < c → P (nodeEntryAt ns (s + j))) → (p : ℕ) → One p (nodeEntriesOf ns s c) → P p
-unfolding nodeEntriesOf
-entry-of-run ns s zero P h p o = none-of p [] o refl
-entry-of-run ns s (suc c) P h _ (first ps) = subst (λ (x : ℕ). P (nodeEntryAt ns x)) (let z : s + 0 ≡ s = omega arith in z) (h 0 (omega arith))
-entry-of-run ns s (suc c) P h p (later q ps o) =
-    entry-of-run ns (s + 1) c P (λ j l. subst (λ (x : ℕ). P (nodeEntryAt ns x)) (let z : s + (j + 1) ≡ s + 1 + j = omega arith in z) (h (j + 1) (omega (arith, l)))) p o
 
 sizes-last : (f : ℕ → Term) (xs : List ℕ) (y : ℕ) → sizes (termsAt f (xs ++ (y ∷ []))) ≡ sizes (termsAt f xs) + size (f y)
 unfolding sizes
@@ -108,7 +100,7 @@ module _ (ws ns bs : List ℕ) (k : Lengths) (q : Ready ws ns bs k) (x : Default
   formed p i = value-formed ws n e ns (k .nodes) (k .arguments) (k .variables) (q .nodes) B (q .binds) p i
 
   run-formed : (s c : ℕ) → RunPlaced ns k s c → AllFormed (termsAt val (nodeEntriesOf ns s c))
-  run-formed s c r = terms-formed val (nodeEntriesOf ns s c) (λ p o. formed p (entry-of-run ns s c (Placed k) (r .places) p o))
+  run-formed s c r = terms-formed val (nodeEntriesOf ns s c) (λ p o. formed p (each-of-run (nodeEntryAt ns) (nodeEntriesOf ns) (node-runs ns) (Placed k) s c (r .places) p o))
 
   run-count : (s c : ℕ) → count (termsAt val (nodeEntriesOf ns s c)) ≡ c
   run-count s c = count-terms val (nodeEntriesOf ns s c) ∙ length-node-entries ns s c
@@ -116,12 +108,12 @@ module _ (ws ns bs : List ℕ) (k : Lengths) (q : Ready ws ns bs k) (x : Default
   -- by what stands at the end
   module _ (p end : ℕ) (i : Placed k p) (f : follow (graphOf ws ns k) deep B p ≡ some end) where
     end-placed : Placed k end
-    end-placed = ways.end-placed ws ns bs k q 0 p end i f
+    end-placed = ways.end-is-placed ws ns bs k q p end i f
 
     pub sort-found : end < maxSorts → (c : Counts) → c ≡ C → storedAt ws (At (record { 0 = end }) c) ≡ termResolved ws k x (val p)
     unfolding termResolved
     sort-found l c y =
-        let b = ways.placed-sort-below ws ns bs k q end end-placed l in
+        let b = sort-below (k .sorts) (k .nodes) end l end-placed in
         ap (λ z. storedAt ws (At (record { 0 = end }) z)) y
         ∙ (answer-old ws C checked (record { 0 = end }) b
         ∙ ap (stored ws n e)
@@ -208,13 +200,7 @@ module _ (ws ns bs : List ℕ) (k : Lengths) (q : Ready ws ns bs k) (x : Default
   -- from the lists that a call has left
   module _ (S₁ : Sorts) (g : Grown ws n e S₁) (vs : List ℕ) (K : Counts) (w : vs ≡ after ws n e S₁) (c : K ≡ countsOf S₁) (k′ : Lengths) (ek : k′ ≡ withCounts k K) where
     ready-left : Ready vs ns bs k′
-    ready-left =
-        rw ek
-        (record {
-          nodes = code.left-nodes ws n e ns (k .nodes) (k .arguments) (k .variables) (q .nodes) B (q .binds) S₁ g vs K w c;
-          binds = code.left-binds ws n e ns (k .nodes) (k .arguments) (k .variables) (q .nodes) B (q .binds) S₁ g vs K w c;
-          long = q .long;
-        })
+    ready-left = rw (ek, w, c) (ready-with-more-sorts ws ns bs k q S₁ g)
 
     more-sorts : n ≤ K .sorts
     more-sorts = omega (arith, longer ws n e checked S₁ g, ap (λ (y : Counts). y .sorts) c)
@@ -245,7 +231,7 @@ module _ (ws ns bs : List ℕ) (k : Lengths) (q : Ready ws ns bs k) (x : Default
     values-left : (s m : ℕ) → RunPlaced ns k s m → termsAt (valueIn vs ns bs k′) (nodeEntriesOf ns s m) ≡ termsAt val (nodeEntriesOf ns s m)
     values-left s m r =
         rw ek
-        (code.left-values ws n e ns (k .nodes) (k .arguments) (k .variables) (q .nodes) B (q .binds) S₁ g vs K w c (nodeEntriesOf ns s m) (λ p o. entry-of-run ns s m (Placed k) (r .places) p o))
+        (code.left-values ws n e ns (k .nodes) (k .arguments) (k .variables) (q .nodes) B (q .binds) S₁ g vs K w c (nodeEntriesOf ns s m) (λ p o. each-of-run (nodeEntryAt ns) (nodeEntriesOf ns) (node-runs ns) (Placed k) s m (r .places) p o))
 
     resolved-left : (p : ℕ) → Placed k p → termResolved vs k′ x (valueIn vs ns bs k′ p) ≡ stored vs (K .sorts) (K .entries) (resolveTerm X (val p) (sortsOf vs (K .sorts) (K .entries)))
     unfolding termResolved

@@ -7,15 +7,17 @@ use mathlib.Core.Option.{Option, none, some}
 use mathlib.Core.Bool.{Bool, true, false, _&&_}
 use mathlib.Core.Logic.{_↔_}
 use Prim.Native.Nat.{ℕ, zero, suc}
-use native.Mathlib.Omega.{arith}
 use lib.Dec.{eqb}
 use lib.ListN.{set}
+use Rattle.resolved_sort.proofs.Reached.{no-confusion}
 use Rattle.unification.specs.Term.{Head, Term, app, Shape, variable, over, sameHead, put}
 use Rattle.unification.specs.Nodes.{isSort, Binds, binding}
-use Rattle.unification.specs.Unify.{Unifies, yes-with, no-way, too-deep, and-then, Occurs, absent, present, unknown, followBound, followAt, follow, occursAny, occursBound, occursAt, occurs, bindUnless, unifyAll, unifyHeads, unifyVariables, unifyShapes, unifyApart, unifyEnds, unifyFollowed, unifyTo}
+use Rattle.unification.specs.Unify.{Unifies, yes-with, no-way, too-deep, and-then, Occurs, absent, present, unknown, followBound, followAt, follow, occursBound, occursAt, occurs, bindUnless, unifyAll, unifyHeads, unifyVariables, unifyShapes, unifyApart, unifyEnds, unifyFollowed, unifyTo}
 use Rattle.unification.specs.Acyclic.{One, first, later, Stands, at, within, Numbering}
-use Rattle.unification.specs.Solutions.{termsAt, termOfShape, termTo, valueBound, valueAt, valueTo, Respects}
-use Rattle.unification.proofs.Rank.{highest, rankBound, rankAt, rank, none-some}
+use Rattle.unification.specs.Solutions.{termOfShape, termTo, valueBound, valueAt, valueTo, Respects}
+use Rattle.unification.proofs.Rank.{rankBound, rankAt, rank, highest-agree}
+use Rattle.unification.proofs.Parts.{termsAt-agree, occursAny-agree}
+use Rattle.unification.proofs.Follow.{follow-names}
 
 -- the places of P have their parts in P, and the same shape in both graphs
 pub record Agree (P : ℕ → Type 0) (shape shape′ : ℕ → Shape) : Type 0 where
@@ -25,14 +27,6 @@ pub record Agree (P : ℕ → Type 0) (shape shape′ : ℕ → Shape) : Type 0 
 -- the bindings name only places of P
 abbrev pub Names : (ℕ → Type 0) → Binds → Type 0
 Names P B = (v q : ℕ) → binding B v ≡ some q → P q
-
-terms-agree : (f g : ℕ → Term) (ps : List ℕ) → ((q : ℕ) → One q ps → f q ≡ g q) → termsAt f ps ≡ termsAt g ps
-terms-agree f g [] h = refl
-terms-agree f g (p ∷ ps) h = let a = h p (first ps) in let b = terms-agree f g ps (λ q o. h q (later p ps o)) in cc
-
-highest-agree : (f g : ℕ → ℕ) (ps : List ℕ) → ((q : ℕ) → One q ps → f q ≡ g q) → highest f ps ≡ highest g ps
-highest-agree f g [] h = refl
-highest-agree f g (p ∷ ps) h = let a = h p (first ps) in let b = highest-agree f g ps (λ q o. h q (later p ps o)) in cc
 
 module _ (P : ℕ → Type 0) (shape shape′ : ℕ → Shape) (A : Agree P shape shape′) where
   -- the same the other way round
@@ -46,7 +40,7 @@ module _ (P : ℕ → Type 0) (shape shape′ : ℕ → Shape) (A : Agree P shap
     where
       go : (s : Shape) → shape p ≡ s → ((q : ℕ) → P q → termTo shape′ k q ≡ termTo shape k q) → termOfShape (termTo shape′ k) s ≡ termOfShape (termTo shape k) s
       go (variable v) e ih = refl
-      go (over h ps) e ih = ap (app h) (terms-agree (termTo shape′ k) (termTo shape k) ps (λ q o. ih q (A .parts p q h ps x e o)))
+      go (over h ps) e ih = ap (app h) (termsAt-agree (termTo shape′ k) (termTo shape k) ps (λ q o. ih q (A .parts p q h ps x e o)))
 
   pub stands-agrees : (u p : ℕ) → P p → Stands shape′ u p → Stands shape u p
   stands-agrees u _ x (at p s) = at p (sym (A .same p x) ∙ s)
@@ -68,20 +62,6 @@ module _ (P : ℕ → Type 0) (shape shape′ : ℕ → Shape) (A : Agree P shap
         go : (s : Shape) → ((q : ℕ) → P q → follow shape′ k B q ≡ follow shape k B q) → followAt shape′ s B p (follow shape′ k B) ≡ followAt shape s B p (follow shape k B)
         go (variable v) ih = bound (binding B v) v refl ih
         go (over h ps) ih = refl
-
-    -- the end that is reached is a place of P
-    pub follow-names : (k p q : ℕ) → P p → follow shape k B p ≡ some q → P q
-    unfolding follow
-    follow-names zero p q x e = none-some q e
-    follow-names (suc k) p q x e = go (shape p) e (follow-names k)
-      where
-        bound : (o : Option ℕ) (v : ℕ) → binding B v ≡ o → followBound shape o p (follow shape k B) ≡ some q → ((p q : ℕ) → P p → follow shape k B p ≡ some q → P q) → P q
-        bound none v i e ih = subst P (let z : p ≡ q = cc in z) x
-        bound (some r) v i e ih = ih r q (b v r i) e
-
-        go : (s : Shape) → followAt shape s B p (follow shape k B) ≡ some q → ((p q : ℕ) → P p → follow shape k B p ≡ some q → P q) → P q
-        go (variable v) e ih = bound (binding B v) v refl e ih
-        go (over h ps) e ih = subst P (let z : p ≡ q = cc in z) x
 
     pub rank-agrees : (k p : ℕ) → P p → rank shape′ k B p ≡ rank shape k B p
     unfolding rank
@@ -108,11 +88,7 @@ module _ (P : ℕ → Type 0) (shape shape′ : ℕ → Shape) (A : Agree P shap
 
         go : (s : Shape) → shape p ≡ s → ((q : ℕ) → P q → valueTo shape′ B d k q ≡ valueTo shape B d k q) → valueAt B d (valueTo shape′ B d k) s ≡ valueAt B d (valueTo shape B d k) s
         go (variable v) e ih = bound (binding B v) v refl ih
-        go (over h ps) e ih = ap (app h) (terms-agree (valueTo shape′ B d k) (valueTo shape B d k) ps (λ q o. ih q (A .parts p q h ps x e o)))
-
-    any-agrees : (f g : ℕ → Occurs) (ps : List ℕ) → ((q : ℕ) → One q ps → f q ≡ g q) → occursAny shape′ f ps ≡ occursAny shape g ps
-    any-agrees f g [] h = refl
-    any-agrees f g (p ∷ ps) h = let a = h p (first ps) in let c = any-agrees f g ps (λ q o. h q (later p ps o)) in cc
+        go (over h ps) e ih = ap (app h) (termsAt-agree (valueTo shape′ B d k) (valueTo shape B d k) ps (λ q o. ih q (A .parts p q h ps x e o)))
 
     pub occurs-agrees : (u k p : ℕ) → P p → occurs shape′ k B u p ≡ occurs shape k B u p
     unfolding occurs
@@ -127,7 +103,7 @@ module _ (P : ℕ → Type 0) (shape shape′ : ℕ → Shape) (A : Agree P shap
         go : (s : Shape) → shape p ≡ s → ((q : ℕ) → P q → occurs shape′ k B u q ≡ occurs shape k B u q)
             → occursAt shape′ s B u (occurs shape′ k B u) ≡ occursAt shape s B u (occurs shape k B u)
         go (variable v) e ih = bound (binding B v) v refl ih
-        go (over h ps) e ih = any-agrees (occurs shape′ k B u) (occurs shape k B u) ps (λ q o. ih q (A .parts p q h ps x e o))
+        go (over h ps) e ih = occursAny-agree shape shape′ (occurs shape′ k B u) (occurs shape k B u) ps (λ q o. ih q (A .parts p q h ps x e o))
 
     -- numbers of variables stay, and so do the solutions of the bindings
     pub numbering-agrees : (n : ℕ) → Numbering shape n B → Numbering shape′ n B
@@ -144,10 +120,10 @@ module _ (P : ℕ → Type 0) (shape shape′ : ℕ → Shape) (A : Agree P shap
   Alike a′ a = (a′ ≡ a) × ((C : Binds) → a ≡ yes-with C → Names P C)
 
   no-alike : Alike no-way no-way
-  no-alike = (refl, λ C e. let z : _≡_ {A = ℕ} 0 1 = cc in absurd (omega arith))
+  no-alike = (refl, λ C e. no-confusion (cc))
 
   deep-alike : Alike too-deep too-deep
-  deep-alike = (refl, λ C e. let z : _≡_ {A = ℕ} 0 1 = cc in absurd (omega arith))
+  deep-alike = (refl, λ C e. no-confusion (cc))
 
   yes-alike : (B : Binds) → Names P B → Alike (yes-with B) (yes-with B)
   yes-alike B b = (refl, λ C e. subst (Names P) (let z : B ≡ C = cc in z) b)
@@ -187,7 +163,7 @@ module _ (P : ℕ → Type 0) (shape shape′ : ℕ → Shape) (A : Agree P shap
   unify-alike w zero B l r b x y = deep-alike
   unify-alike w (suc k) B l r b x y =
       rw (follow-agrees B b w l x, follow-agrees B b w r y)
-      (followed (follow shape w B l) (follow shape w B r) (λ q e. follow-names B b w l q x e) (λ q e. follow-names B b w r q y e) (unify-alike w k))
+      (followed (follow shape w B l) (follow shape w B r) (λ q e. follow-names shape B P b w l q x e) (λ q e. follow-names shape B P b w r q y e) (unify-alike w k))
     where
       heads : (h : Bool) (ps qs : List ℕ) → ((q : ℕ) → One q ps → P q) → ((q : ℕ) → One q qs → P q) → Answers (unifyTo shape′ w k) (unifyTo shape w k)
           → Alike (unifyHeads shape′ h (unifyTo shape′ w k) B ps qs) (unifyHeads shape h (unifyTo shape w k) B ps qs)

@@ -18,7 +18,7 @@ use Rattle.unification.proofs.Robinson.{Next, Kept, unify-kept}
 use Rattle.unification.proofs.Theorem.{deep-enough, unify-is-robinson}
 use Rattle.unification.proofs.Agree.{Names, unify-names}
 use Rattle.unification.proofs.Grows.{CheckedLent, PlacedIn, grows-refl, agree-grown}
-use Rattle.unification.proofs.ResolvedPlaces.{bound-is-place}
+use Rattle.unification.proofs.Places.{bound-is-place}
 
 -- bindings that passed their checks, over the lists W
 abbrev pub BindsIn : Lent → Binds → Type 0

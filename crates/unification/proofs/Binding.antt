@@ -1,26 +1,22 @@
 -- Binding a free variable to a sort in which it does not occur keeps the numbering of variables: the variables in which the bound one occurs
 -- are numbered anew, above all others. Assumes nothing.
 use mathlib.Core.Path.{_≡_, refl, ap, sym, _∙_, subst}
-use mathlib.Core.List.{List, [], _∷_}
-use mathlib.Core.Option.{Option, none, some}
-use mathlib.Core.Bool.{Bool, true, false}
-use Prim.Native.Nat.{ℕ, zero, suc, _+_, _*_, _<_, _≤_}
+use mathlib.Core.List.{List}
+use mathlib.Core.Option.{none, some}
+use Prim.Native.Nat.{ℕ, suc, _+_, _*_, _<_}
 use native.Mathlib.Omega.{arith}
 use native.Mathlib.Decide.{ℕ-discrete}
-use lib.Dec.{eqb}
-use lib.ListN.{length, getD, set}
+use lib.ListN.{length, set}
 use lib.Seq.{getD-set-same, getD-set-other}
 use borrow.Author.Tests.{eq-eqb}
+use Rattle.resolved_sort.proofs.Reached.{no-confusion}
 use Rattle.unification.specs.Term.{Head, Shape, variable, over}
 use Rattle.unification.specs.Nodes.{Binds, binding}
 use Rattle.unification.specs.Acyclic.{One, first, later, Stands, at, within, Numbering}
-use Rattle.unification.specs.Unify.{Occurs, unknown, absent, present, or-else, ofTest, occursAny, occursBound, occursAt, occurs}
-use Rattle.unification.proofs.Rank.{Ranked, none-some}
+use Rattle.unification.specs.Unify.{Occurs, unknown, absent, present, or-else, ofTest, occursAny, occursBound, occurs}
+use Rattle.unification.proofs.Rank.{Ranked}
 use Rattle.unification.proofs.Numbering.{numbered, Lower, numbered-ranked}
 use Rattle.unification.proofs.Enough.{occurs-eq, occurs-known}
-
-differ : {A : Type 0} → _≡_ {A = ℕ} 0 1 → A
-differ e = absurd (omega arith)
 
 -- in a list of parts
 any-absent : (shape : ℕ → Shape) (f : ℕ → Occurs) (q : ℕ) (ps : List ℕ) → One q ps → occursAny shape f ps ≡ absent → f q ≡ absent
@@ -28,14 +24,14 @@ any-absent shape f q _ (first ps) e = go (f q) refl e
   where
     go : (a : Occurs) → f q ≡ a → or-else a (occursAny shape f ps) ≡ absent → f q ≡ absent
     go absent i e = i
-    go present i e = differ (cc)
-    go unknown i e = differ (cc)
+    go present i e = no-confusion (cc)
+    go unknown i e = no-confusion (cc)
 any-absent shape f q _ (later p ps o) e = go (f p) e (any-absent shape f q ps o)
   where
     go : (a : Occurs) → or-else a (occursAny shape f ps) ≡ absent → (occursAny shape f ps ≡ absent → f q ≡ absent) → f q ≡ absent
     go absent e k = k e
-    go present e k = differ (cc)
-    go unknown e k = differ (cc)
+    go present e k = no-confusion (cc)
+    go unknown e k = no-confusion (cc)
 
 any-present : (shape : ℕ → Shape) (f : ℕ → Occurs) → ((p : ℕ) → f p ≡ unknown → ⊥) → (q : ℕ) (ps : List ℕ) → One q ps → f q ≡ present → occursAny shape f ps ≡ present
 any-present shape f known q _ (first ps) e = rw e

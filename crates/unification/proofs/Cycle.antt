@@ -4,24 +4,24 @@
 use mathlib.Core.Path.{_≡_, refl, sym, _∙_, subst}
 use mathlib.Core.List.{List, [], _∷_}
 use mathlib.Core.Option.{Option, none, some}
-use mathlib.Core.Bool.{Bool, true, false, cond, _&&_, and-eq-true-iff}
+use mathlib.Core.Bool.{Bool, true, false, _&&_}
 use mathlib.Core.Logic.{_⊎_, inl, inr, ⊎-elim}
-use Prim.Native.Nat.{ℕ, zero, suc, _+_, _-_, _<_, _≤_}
+use Prim.Native.Nat.{ℕ, zero, suc, _+_, _<_}
 use native.Mathlib.Omega.{arith}
 use native.Mathlib.Decide.{ℕ-discrete}
 use lib.ListN.{length, getD}
-use lib.Dec.{ltb}
-use borrow.Author.Tests.{ltb-true, lt-ltb}
 use Rattle.resolved_sort.specs.Storage.{maxSorts}
 use Rattle.resolved_sort.proofs.Numbers.{true-not-false}
 use Rattle.unification.specs.Term.{Shape, variable, over}
-use Rattle.unification.specs.Nodes.{nodeAt, nodeShape, isSort, isPlace, shapeAt, Binds, binding}
-use Rattle.unification.specs.NodeChecks.{bindingFine, bindingsFine}
+use Rattle.unification.specs.Nodes.{nodeAt, nodeShape, isPlace, shapeAt, Binds, binding}
+use Rattle.unification.specs.NodeChecks.{bindingsFine}
 use Rattle.unification.specs.Acyclic.{One, first, later, Reaches, here, inside, beyond, Stands, at, within, placeSettled, allSettled, shapeSettled, nodesSettled, bindingSettled, rounds, all, acyclic}
 use Rattle.unification.specs.Checked.{NodesChecked, listsOf}
 use Rattle.unification.proofs.Numbering.{stands-scoped}
-use Rattle.unification.proofs.Lists.{node-parts, node-parts-fine, Place, is-sort, is-node, is-stray, place, place-below, scoped}
-use Rattle.unification.proofs.Settles.{node-flag, node-is, place-longer, var-is, length-rounds}
+use Rattle.unification.proofs.Places.{place-below, place-longer, bound-is-place}
+use Rattle.unification.proofs.Rows.{node-parts}
+use Rattle.unification.proofs.Lists.{node-parts-fine, Place, is-sort, is-node, is-stray, place, scoped}
+use Rattle.unification.proofs.Settles.{node-flag, node-is, var-is, length-rounds, settled-longer}
 
 -- some variable reaches itself
 abbrev pub Cyclic : (ℕ → Shape) → Binds → Type 0
@@ -85,22 +85,6 @@ one-false [] e = absurd (true-not-false true refl e)
 one-false (true ∷ xs) e = let r = one-false xs e in (suc (r .0), omega (arith, r .1), r .2)
 one-false (false ∷ xs) e = (0, omega arith, refl)
 
--- what a variable is bound to is a place
-pub bound-is-place : (n m : ℕ) (B : Binds) (x q : ℕ) → bindingsFine n m B ≡ true → binding B x ≡ some q → isPlace n m q ≡ true
-unfolding bindingsFine
-bound-is-place n m [] x q f e = let z : _≡_ {A = ℕ} 0 1 = cc in absurd (omega arith)
-bound-is-place n m (b ∷ B) zero q f e = rw e at (and-eq-true-iff (bindingFine n m b) (bindingsFine n m B) .0 f .0)
-bound-is-place n m (b ∷ B) (suc x) q f e = bound-is-place n m B x q (and-eq-true-iff (bindingFine n m b) (bindingsFine n m B) .0 f .1) e
-
--- a place among fewer nodes is a place
-pub place-among-more : (n i m q : ℕ) → i ≤ m → isPlace n i q ≡ true → isPlace n m q ≡ true
-unfolding isPlace
-place-among-more n i m q l e = go (isSort q) refl e
-  where
-    go : (b : Bool) → isSort q ≡ b → cond b (ltb q n) (ltb (q - maxSorts) i) ≡ true → cond b (ltb q n) (ltb (q - maxSorts) m) ≡ true
-    go true s e = e
-    go false s e = lt-ltb (q - maxSorts) m (omega (arith, ltb-true (q - maxSorts) i e, l))
-
 -- what stands at a place is reached, and so is what a variable that is reached reaches
 module _ (shape : ℕ → Shape) (B : Binds) where
   stands-reaches : (u p : ℕ) → Stands shape u p → Reaches shape B u p
@@ -145,9 +129,9 @@ module _ (ws : List ℕ) (n e : ℕ) (ns : List ℕ) (m d v : ℕ) (c : NodesChe
       node i j x (variable u) g y z ih = (u, at p g, z)
       node i j x (over h ps) g y z ih =
           let r = one-open (nodesSettled ns (rounds ns m B k) i) ps z in
-          let a = node-parts ns d n v i (nodeAt ns i) (c .sorts .sorts) (node-parts-fine ws n e ns m d v c i j) (r .0) h ps y (r .1) in
+          let a = node-parts ns d n v i (nodeAt ns i) (node-parts-fine ws n e ns m d v c i j) (r .0) h ps y (r .1) in
           let b = place-below n i (r .0) (c .sorts .sorts) a in
-          let t = ih (r .0) (omega (arith, b, x, l)) (place-among-more n i m (r .0) (omega (arith, j)) a) (sym (place-longer ns (rounds ns m B k) n m i (r .0) (omega (arith, j)) a) ∙ r .2) in
+          let t = ih (r .0) (omega (arith, b, x, l)) (place-longer n n i m (r .0) (omega arith) (omega (arith, j)) a) (sym (settled-longer ns (rounds ns m B k) n m i (r .0) (omega (arith, j)) a) ∙ r .2) in
           (t .0, within p (r .0) h ps g (r .1) (t .1), t .2)
 
       go : Place ws n e ns m d v c p → OpenBelow k w → Open k p

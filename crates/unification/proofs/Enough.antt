@@ -1,19 +1,21 @@
 -- Depth enough: where ranks are below the depth, following comes to an end, the occurs check answers, and both meet their own equations; and
 -- whatever the free variables stand for, there is a model. Assumes nothing.
-use mathlib.Core.Path.{_≡_, refl, ap, sym, _∙_, subst}
+use mathlib.Core.Path.{_≡_, refl, ap, sym, _∙_}
 use mathlib.Core.List.{List, [], _∷_}
 use mathlib.Core.Option.{Option, none, some}
 use mathlib.Core.Bool.{Bool, true, false}
-use Prim.Native.Nat.{ℕ, zero, suc, _+_, _*_, _<_, _≤_, max}
+use Prim.Native.Nat.{ℕ, zero, suc, _<_, _≤_}
 use native.Mathlib.Omega.{arith}
 use lib.Dec.{eqb}
-use lib.ListN.{length}
-use Rattle.unification.specs.Term.{Head, Term, app, Terms, no-part, part, Shape, variable, over}
+use Rattle.resolved_sort.proofs.Reached.{no-confusion}
+use Rattle.unification.specs.Term.{Term, app, Shape, variable, over}
 use Rattle.unification.specs.Nodes.{Binds, binding}
 use Rattle.unification.specs.Unify.{Occurs, unknown, absent, present, or-else, ofTest, followBound, followAt, follow, occursAny, occursBound, occursAt, occurs}
-use Rattle.unification.specs.Solutions.{termsAt, valueBound, valueAt, valueTo}
+use Rattle.unification.specs.Solutions.{valueBound, valueAt, valueTo}
 use Rattle.unification.proofs.Exact.{shapeVal, Model}
-use Rattle.unification.proofs.Rank.{highest, rank, Ranked, rank-var, rank-over}
+use Rattle.unification.proofs.Rank.{highest, rank, Ranked, rank-var, rank-over, one-highest}
+use Rattle.unification.proofs.Parts.{termsAt-agree, occursAny-agree}
+use Rattle.unification.proofs.Follow.{follow-holds}
 
 module _ (shape : ℕ → Shape) (w : ℕ) (B : Binds) (A : Ranked shape w B) where
   -- a walk comes to an end, no higher than it began
@@ -37,6 +39,10 @@ module _ (shape : ℕ → Shape) (w : ℕ) (B : Binds) (A : Ranked shape w B) wh
       go (variable v) s ih = bound (binding B v) v s refl ih
       go (over h ps) s ih = (p, refl, omega arith)
 
+  -- the end of a place has no higher rank
+  pub end-no-higher : (k p q : ℕ) → follow shape k B p ≡ some q → rank shape w B q ≤ rank shape w B p
+  end-no-higher = follow-holds shape B (λ p q. rank shape w B q ≤ rank shape w B p) (λ p i. omega arith) (λ p v r q s b h. omega (arith, h, rank-var shape w B A p v r s b))
+
   follow-stable : (k p : ℕ) → rank shape w B p < k → follow shape (suc k) B p ≡ follow shape k B p
   unfolding follow
   follow-stable zero p lt = absurd (omega arith)
@@ -57,12 +63,12 @@ module _ (shape : ℕ → Shape) (w : ℕ) (B : Binds) (A : Ranked shape w B) wh
   follow-eq p = sym (follow-stable w p (A .short p))
 
   any-known : (f : ℕ → Occurs) (k : ℕ) → ((q : ℕ) → rank shape w B q < k → f q ≡ unknown → ⊥) → (ps : List ℕ) → highest (rank shape w B) ps < suc k → occursAny shape f ps ≡ unknown → ⊥
-  any-known f k ih [] lt e = let z : _≡_ {A = ℕ} 0 1 = cc in omega arith
+  any-known f k ih [] lt e = no-confusion (cc)
   any-known f k ih (p ∷ ps) lt e = go (f p) refl e (any-known f k ih ps (omega arith))
     where
       go : (a : Occurs) → f p ≡ a → or-else a (occursAny shape f ps) ≡ unknown → (occursAny shape f ps ≡ unknown → ⊥) → ⊥
       go unknown fp e h = ih p (omega arith) fp
-      go present fp e h = let z : _≡_ {A = ℕ} 0 1 = cc in omega arith
+      go present fp e h = no-confusion (cc)
       go absent fp e h = h e
 
   pub occurs-known : (v k p : ℕ) → rank shape w B p < k → occurs shape k B v p ≡ unknown → ⊥
@@ -71,8 +77,8 @@ module _ (shape : ℕ → Shape) (w : ℕ) (B : Binds) (A : Ranked shape w B) wh
   occurs-known v (suc k) p lt e = go (shape p) refl e (occurs-known v k)
     where
       test : (b : Bool) → ofTest b ≡ unknown → ⊥
-      test true e = let z : _≡_ {A = ℕ} 0 1 = cc in omega arith
-      test false e = let z : _≡_ {A = ℕ} 0 1 = cc in omega arith
+      test true e = no-confusion (cc)
+      test false e = no-confusion (cc)
 
       bound : (o : Option ℕ) (u : ℕ) → shape p ≡ variable u → binding B u ≡ o → occursBound shape o v u (occurs shape k B v) ≡ unknown
           → ((q : ℕ) → rank shape w B q < k → occurs shape k B v q ≡ unknown → ⊥) → ⊥
@@ -84,10 +90,6 @@ module _ (shape : ℕ → Shape) (w : ℕ) (B : Binds) (A : Ranked shape w B) wh
       go (over h ps) s e ih = let r = rank-over shape w B A p h ps s in any-known (occurs shape k B v) k ih ps (omega arith) e
 
   -- past the rank more fuel changes nothing, so at w the definition meets its own equation
-  any-same : (f g : ℕ → Occurs) (k : ℕ) → ((q : ℕ) → rank shape w B q < k → f q ≡ g q) → (ps : List ℕ) → highest (rank shape w B) ps < suc k → occursAny shape f ps ≡ occursAny shape g ps
-  any-same f g k ih [] lt = refl
-  any-same f g k ih (p ∷ ps) lt = let a = ih p (omega arith) in let b = any-same f g k ih ps (omega arith) in cc
-
   occurs-stable : (v k p : ℕ) → rank shape w B p < k → occurs shape (suc k) B v p ≡ occurs shape k B v p
   unfolding occurs
   occurs-stable v zero p lt = absurd (omega arith)
@@ -101,15 +103,11 @@ module _ (shape : ℕ → Shape) (w : ℕ) (B : Binds) (A : Ranked shape w B) wh
       go : (s : Shape) → shape p ≡ s → ((q : ℕ) → rank shape w B q < k → occurs shape (suc k) B v q ≡ occurs shape k B v q)
           → occursAt shape s B v (occurs shape (suc k) B v) ≡ occursAt shape s B v (occurs shape k B v)
       go (variable u) s ih = bound (binding B u) u s refl ih
-      go (over h ps) s ih = let e = rank-over shape w B A p h ps s in any-same (occurs shape (suc k) B v) (occurs shape k B v) k ih ps (omega arith)
+      go (over h ps) s ih = let e = rank-over shape w B A p h ps s in occursAny-agree shape shape (occurs shape (suc k) B v) (occurs shape k B v) ps (λ q o. ih q (omega (arith, e, lt, one-highest (rank shape w B) ps q o)))
 
   pub occurs-eq : (v p : ℕ) → occurs shape w B v p ≡ occursAt shape (shape p) B v (occurs shape w B v)
   unfolding occurs
   occurs-eq v p = sym (occurs-stable v w p (A .short p))
-
-  values-agree : (g g′ : ℕ → Term) (m : ℕ) → ((q : ℕ) → rank shape w B q < m → g q ≡ g′ q) → (ps : List ℕ) → highest (rank shape w B) ps < suc m → termsAt g ps ≡ termsAt g′ ps
-  values-agree g g′ m h [] lt = refl
-  values-agree g g′ m h (p ∷ ps) lt = let a = h p (omega arith) in let b = values-agree g g′ m h ps (omega arith) in cc
 
   value-stable : (d : ℕ → Term) (k p : ℕ) → rank shape w B p < k → valueTo shape B d (suc k) p ≡ valueTo shape B d k p
   unfolding valueTo
@@ -123,7 +121,7 @@ module _ (shape : ℕ → Shape) (w : ℕ) (B : Binds) (A : Ranked shape w B) wh
 
       go : (s : Shape) → shape p ≡ s → ((q : ℕ) → rank shape w B q < k → valueTo shape B d (suc k) q ≡ valueTo shape B d k q) → valueAt B d (valueTo shape B d (suc k)) s ≡ valueAt B d (valueTo shape B d k) s
       go (variable v) s ih = bound (binding B v) v s refl ih
-      go (over h ps) s ih = let e = rank-over shape w B A p h ps s in ap (app h) (values-agree (valueTo shape B d (suc k)) (valueTo shape B d k) k ih ps (omega arith))
+      go (over h ps) s ih = let e = rank-over shape w B A p h ps s in ap (app h) (termsAt-agree (valueTo shape B d (suc k)) (valueTo shape B d k) ps (λ q o. ih q (omega (arith, e, lt, one-highest (rank shape w B) ps q o))))
 
   -- what a place stands for, by its shape
   pub value-eq : (d : ℕ → Term) (p : ℕ) → valueTo shape B d w p ≡ valueAt B d (valueTo shape B d w) (shape p)

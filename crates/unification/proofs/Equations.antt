@@ -1,5 +1,5 @@
 -- Unify at depth enough meets its own equation: deeper answers are the same. Assumes nothing.
-use mathlib.Core.Path.{_≡_, refl, ap, sym, _∙_, subst}
+use mathlib.Core.Path.{_≡_, refl, _∙_}
 use mathlib.Core.List.{List, [], _∷_}
 use mathlib.Core.Option.{Option, none, some}
 use mathlib.Core.Bool.{Bool, true, false, _&&_}
@@ -86,19 +86,19 @@ module _ (shape : ℕ → Shape) (K : ℕ) (lower : Lower shape K) (n : ℕ) (sc
           same-end true c = refl
           same-end false c = apart (isSort l′ && isSort r′)
 
+  -- the depth is enough
+  covered : (x : ℕ) → suc n * w ≤ x → (B : Binds) (l : ℕ) → length B ≡ n → Numbering shape n B → frees B * w + rank shape w B l < x
+  covered x h B l len F =
+      let a = frees-few B in
+      let b : frees B * w ≤ n * w = mul-le-mul-right w (omega arith) in
+      let s = ranks B F .short l in
+      omega arith
+
   -- the equation that a program follows
   pub unify-eq : (x : ℕ) → suc n * w ≤ x → (B : Binds) (l r : ℕ) → length B ≡ n → Numbering shape n B
       → unifyTo shape w x B l r ≡ unifyFollowed shape w (unifyTo shape w x) B (follow shape w B l) (follow shape w B r)
   unfolding unifyTo
-  unify-eq x h B l r len F =
-      let a = frees-few B in
-      let b : frees B * w ≤ n * w = mul-le-mul-right w (omega arith) in
-      let s = ranks B F .short l in
-      unify-agrees (suc x) x B l r len F (omega arith) (omega arith)
+  unify-eq x h B l r len F = unify-agrees (suc x) x B l r len F (omega (arith, covered x h B l len F)) (covered x h B l len F)
 
   pub unify-answers : (x : ℕ) → suc n * w ≤ x → (B : Binds) (l r : ℕ) → length B ≡ n → Numbering shape n B → unifyTo shape w x B l r ≡ too-deep → ⊥
-  unify-answers x h B l r len F =
-      let a = frees-few B in
-      let b : frees B * w ≤ n * w = mul-le-mul-right w (omega arith) in
-      let s = ranks B F .short l in
-      unify-known shape K lower n scoped w deep x B l r len F (omega arith)
+  unify-answers x h B l r len F = unify-known shape K lower n scoped w deep x B l r len F (covered x h B l len F)

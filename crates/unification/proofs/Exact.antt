@@ -1,23 +1,24 @@
 -- What the unifier's answers mean: every answer is exact. A yes has exactly the models of the bindings at which the two sides are equal, and at
 -- a no there is none. At every depth; by the clauses of unify, and for the occurs check by the size of terms. Assumes nothing.
-use mathlib.Core.Path.{_≡_, refl, ap, sym, _∙_, subst}
+use mathlib.Core.Path.{_≡_, refl, ap, sym, _∙_}
 use mathlib.Core.List.{List, [], _∷_}
 use mathlib.Core.Option.{Option, none, some}
 use mathlib.Core.Bool.{Bool, true, false, _&&_, and-eq-true-iff}
-use mathlib.Core.Logic.{_⊎_, inl, inr, ⊎-elim}
 use Prim.Native.Nat.{ℕ, zero, suc, _+_, _<_, _≤_}
 use native.Mathlib.Omega.{arith}
 use native.Mathlib.Decide.{ℕ-discrete}
 use lib.Dec.{eqb, eqb→eq, T}
 use borrow.Author.Tests.{eqb-true, eqb-false}
-use lib.ListN.{length, getD, set, length-set}
+use lib.ListN.{length, set, length-set}
 use lib.Seq.{getD-set-same, getD-set-other}
 use Rattle.resolved_sort.proofs.Numbers.{true-not-false}
+use Rattle.resolved_sort.proofs.Reached.{no-confusion}
 use Rattle.unification.specs.Term.{Head, Term, var, app, Terms, no-part, part, Shape, variable, over, sameHead}
 use Rattle.unification.specs.Nodes.{isSort, Binds, binding}
 use Rattle.unification.specs.Solutions.{termsAt}
 use Rattle.unification.proofs.Heads.{same-head-true, same-head-refl}
-use Rattle.unification.specs.Unify.{Unifies, too-deep, no-way, yes-with, and-then, Occurs, unknown, absent, present, or-else, ofTest, followBound, followAt, follow, occursAny, occursBound, occursAt, occurs, bindUnless, unifyAll, unifyHeads, unifyVariables, unifyShapes, unifyApart, unifyEnds, unifyFollowed, unifyTo}
+use Rattle.unification.proofs.Follow.{follow-holds, follow-end}
+use Rattle.unification.specs.Unify.{Unifies, too-deep, no-way, yes-with, and-then, Occurs, unknown, absent, present, or-else, ofTest, follow, occursAny, occursBound, occursAt, occurs, bindUnless, unifyAll, unifyHeads, unifyVariables, unifyShapes, unifyApart, unifyEnds, unifyFollowed, unifyTo}
 
 unfoldable mutual
   pub size : Term → ℕ
@@ -46,37 +47,8 @@ Exact shape B E (yes-with B′) = (length B′ ≡ length B)
     × ((σ val : ℕ → Term) → Model shape B σ val → E val → Model shape B′ σ val)
 
 -- following bindings
-
 pub follow-value : (shape : ℕ → Shape) (B : Binds) (σ val : ℕ → Term) → Model shape B σ val → (k p q : ℕ) → follow shape k B p ≡ some q → val p ≡ val q
-unfolding follow
-follow-value shape B σ val M zero p q e = cc
-follow-value shape B σ val M (suc k) p q e = go (shape p) refl e (λ q′ e′. follow-value shape B σ val M k q′ q e′)
-  where
-    bound : (o : Option ℕ) (v : ℕ) → shape p ≡ variable v → binding B v ≡ o → followBound shape o p (follow shape k B) ≡ some q
-        → ((q′ : ℕ) → follow shape k B q′ ≡ some q → val q′ ≡ val q) → val p ≡ val q
-    bound none v s l e ih = cc
-    bound (some q′) v s l e ih = M .isval p ∙ (rw s (M .sat v q′ l)) ∙ ih q′ e
-
-    go : (s : Shape) → shape p ≡ s → followAt shape s B p (follow shape k B) ≡ some q
-        → ((q′ : ℕ) → follow shape k B q′ ≡ some q → val q′ ≡ val q) → val p ≡ val q
-    go (variable v) s e ih = bound (binding B v) v s refl e ih
-    go (over h ps) s e ih = cc
-
--- following ends at a free variable or at no variable
-pub follow-end : (shape : ℕ → Shape) (B : Binds) (k p q v : ℕ) → follow shape k B p ≡ some q → shape q ≡ variable v → binding B v ≡ none
-unfolding follow
-follow-end shape B zero p q v e s = absurd (let z : _≡_ {A = ℕ} 0 1 = cc in omega arith)
-follow-end shape B (suc k) p q v e s = go (shape p) refl e (λ q′ e′. follow-end shape B k q′ q v e′ s)
-  where
-    bound : (o : Option ℕ) (w : ℕ) → shape p ≡ variable w → binding B w ≡ o → followBound shape o p (follow shape k B) ≡ some q
-        → ((q′ : ℕ) → follow shape k B q′ ≡ some q → binding B v ≡ none) → binding B v ≡ none
-    bound none w sp l e ih = cc
-    bound (some q′) w sp l e ih = ih q′ e
-
-    go : (t : Shape) → shape p ≡ t → followAt shape t B p (follow shape k B) ≡ some q
-        → ((q′ : ℕ) → follow shape k B q′ ≡ some q → binding B v ≡ none) → binding B v ≡ none
-    go (variable w) sp e ih = bound (binding B w) w sp refl e ih
-    go (over h ps) sp e ih = cc
+follow-value shape B σ val M = follow-holds shape B (λ p q. val p ≡ val q) (λ p i. refl) (λ p v r q s b h. M .isval p ∙ (rw s (M .sat v r b)) ∙ h)
 
 -- a binding
 
@@ -109,11 +81,11 @@ bind-exact shape B v l r lt free s = (length-set B v (some r), down, up)
 occurs-any-size : (shape : ℕ → Shape) (σ val : ℕ → Term) (v : ℕ) (f : ℕ → Occurs) → ((p : ℕ) → f p ≡ present → size (σ v) ≤ size (val p))
     → (ps : List ℕ) → occursAny shape f ps ≡ present → size (σ v) ≤ sizes (termsAt val ps)
 unfolding size
-occurs-any-size shape σ val v f ih [] e = absurd (let z : _≡_ {A = ℕ} 0 1 = cc in omega arith)
+occurs-any-size shape σ val v f ih [] e = no-confusion (cc)
 occurs-any-size shape σ val v f ih (p ∷ ps) e = go (f p) refl e (occurs-any-size shape σ val v f ih ps)
   where
     go : (a : Occurs) → f p ≡ a → or-else a (occursAny shape f ps) ≡ present → (occursAny shape f ps ≡ present → size (σ v) ≤ sizes (termsAt val ps)) → size (σ v) ≤ size (val p) + sizes (termsAt val ps)
-    go unknown fp e h = absurd (let z : _≡_ {A = ℕ} 0 1 = cc in omega arith)
+    go unknown fp e h = no-confusion (cc)
     go absent fp e h = let a = h e in omega arith
     go present fp e h = let a = ih p fp in omega arith
 
@@ -126,11 +98,11 @@ occurs-over shape σ val iv v p h ps s le =
 
 yes-of : (b : Bool) → ofTest b ≡ present → T b
 yes-of true e = tt
-yes-of false e = absurd (let z : _≡_ {A = ℕ} 0 1 = cc in omega arith)
+yes-of false e = no-confusion (cc)
 
 occurs-size : (shape : ℕ → Shape) (B : Binds) (σ val : ℕ → Term) → Model shape B σ val → (k v p : ℕ) → occurs shape k B v p ≡ present → size (σ v) ≤ size (val p)
 unfolding occurs
-occurs-size shape B σ val M zero v p e = absurd (let z : _≡_ {A = ℕ} 0 1 = cc in omega arith)
+occurs-size shape B σ val M zero v p e = no-confusion (cc)
 occurs-size shape B σ val M (suc k) v p e = go (shape p) refl e (λ q e′. occurs-size shape B σ val M k v q e′)
   where
     bound : (o : Option ℕ) (w : ℕ) → shape p ≡ variable w → binding B w ≡ o → occursBound shape o v w (occurs shape k B v) ≡ present
@@ -155,7 +127,7 @@ occurs-size shape B σ val M (suc k) v p e = go (shape p) refl e (λ q e′. occ
 occurs-strict : (shape : ℕ → Shape) (B : Binds) (σ val : ℕ → Term) → Model shape B σ val → (k v p : ℕ) (h : Head) (ps : List ℕ) → shape p ≡ over h ps
     → occurs shape k B v p ≡ present → size (σ v) < size (val p)
 unfolding occurs
-occurs-strict shape B σ val M zero v p h ps s e = absurd (let z : _≡_ {A = ℕ} 0 1 = cc in omega arith)
+occurs-strict shape B σ val M zero v p h ps s e = no-confusion (cc)
 occurs-strict shape B σ val M (suc k) v p h ps s e =
     occurs-over shape σ val (M .isval) v p h ps s (occurs-any-size shape σ val v (occurs shape k B v) (occurs-size shape B σ val M k v) ps
     (rw s at e))
@@ -169,13 +141,13 @@ exact-move shape B E F to back no-way x = λ σ val M e. x σ val M (back σ val
 exact-move shape B E F to back (yes-with B′) x =
     (x .0, (λ σ val M. let m = x .1 σ val M in (m .0, to σ val (m .0) (m .1))), λ σ val M e. x .2 σ val M (back σ val M e))
 
-list-law : (shape : ℕ → Shape) (f : Binds → ℕ → ℕ → Unifies) (n : ℕ)
+list-exact : (shape : ℕ → Shape) (f : Binds → ℕ → ℕ → Unifies) (n : ℕ)
     → ((B : Binds) (a b : ℕ) → length B ≡ n → Exact shape B (λ val. val a ≡ val b) (f B a b))
     → (xs ys : List ℕ) (B : Binds) → length B ≡ n → Exact shape B (λ val. termsAt val xs ≡ termsAt val ys) (unifyAll shape f B xs ys)
-list-law shape f n ih [] [] B len = (refl, (λ σ val M. (M, refl)), λ σ val M e. M)
-list-law shape f n ih [] (y ∷ ys) B len = λ σ val M e. let z : _≡_ {A = ℕ} 0 1 = cc in omega arith
-list-law shape f n ih (x ∷ xs) [] B len = λ σ val M e. let z : _≡_ {A = ℕ} 0 1 = cc in omega arith
-list-law shape f n ih (x ∷ xs) (y ∷ ys) B len = go (f B x y) (ih B x y len) (list-law shape f n ih xs ys)
+list-exact shape f n ih [] [] B len = (refl, (λ σ val M. (M, refl)), λ σ val M e. M)
+list-exact shape f n ih [] (y ∷ ys) B len = λ σ val M e. no-confusion (cc)
+list-exact shape f n ih (x ∷ xs) [] B len = λ σ val M e. no-confusion (cc)
+list-exact shape f n ih (x ∷ xs) (y ∷ ys) B len = go (f B x y) (ih B x y len) (list-exact shape f n ih xs ys)
   where
     then : (B′ : Binds) → Exact shape B (λ val. val x ≡ val y) (yes-with B′) → (r : Unifies) → Exact shape B′ (λ val. termsAt val xs ≡ termsAt val ys) r
         → Exact shape B (λ val. termsAt val (x ∷ xs) ≡ termsAt val (y ∷ ys)) r
@@ -191,9 +163,9 @@ list-law shape f n ih (x ∷ xs) (y ∷ ys) B len = go (f B x y) (ih B x y len) 
     go no-way h t = λ σ val M e. h σ val M (cc)
     go (yes-with B′) h t = then B′ h (unifyAll shape f B′ xs ys) (t B′ (h .0 ∙ len))
 
-bind-law : (shape : ℕ → Shape) (k : ℕ) (B : Binds) (v l r : ℕ) (h : Head) (ps : List ℕ) → v < length B → binding B v ≡ none → shape l ≡ variable v → shape r ≡ over h ps
+bind-unless-exact : (shape : ℕ → Shape) (k : ℕ) (B : Binds) (v l r : ℕ) (h : Head) (ps : List ℕ) → v < length B → binding B v ≡ none → shape l ≡ variable v → shape r ≡ over h ps
     → Exact shape B (λ val. val l ≡ val r) (bindUnless shape (occurs shape k B v r) B v r)
-bind-law shape k B v l r h ps lt free sl sr = go (occurs shape k B v r) refl
+bind-unless-exact shape k B v l r h ps lt free sl sr = go (occurs shape k B v r) refl
   where
     go : (a : Occurs) → occurs shape k B v r ≡ a → Exact shape B (λ val. val l ≡ val r) (bindUnless shape a B v r)
     go unknown o = tt
@@ -204,9 +176,9 @@ bind-law shape k B v l r h ps lt free sl sr = go (occurs shape k B v r) refl
         let c : size (val l) ≡ size (val r) = ap size e in
         omega arith
 
-vars-law : (shape : ℕ → Shape) (B : Binds) (v w l r : ℕ) → v < length B → binding B v ≡ none → shape l ≡ variable v → shape r ≡ variable w
+variables-exact : (shape : ℕ → Shape) (B : Binds) (v w l r : ℕ) → v < length B → binding B v ≡ none → shape l ≡ variable v → shape r ≡ variable w
     → Exact shape B (λ val. val l ≡ val r) (unifyVariables shape (eqb v w) B v r)
-vars-law shape B v w l r lt free sl sr = go (eqb v w) refl
+variables-exact shape B v w l r lt free sl sr = go (eqb v w) refl
   where
     go : (b : Bool) → eqb v w ≡ b → Exact shape B (λ val. val l ≡ val r) (unifyVariables shape b B v r)
     go true e = (
@@ -222,11 +194,11 @@ vars-law shape B v w l r lt free sl sr = go (eqb v w) refl
     )
     go false e = bind-exact shape B v l r lt free sl
 
-heads-law : (shape : ℕ → Shape) (f : Binds → ℕ → ℕ → Unifies) (n : ℕ)
+heads-exact : (shape : ℕ → Shape) (f : Binds → ℕ → ℕ → Unifies) (n : ℕ)
     → ((B : Binds) (a b : ℕ) → length B ≡ n → Exact shape B (λ val. val a ≡ val b) (f B a b))
     → (B : Binds) → length B ≡ n → (l r : ℕ) (h h′ : Head) (ps ps′ : List ℕ) → shape l ≡ over h ps → shape r ≡ over h′ ps′
     → Exact shape B (λ val. val l ≡ val r) (unifyHeads shape (sameHead h h′) f B ps ps′)
-heads-law shape f n ih B len l r h h′ ps ps′ sl sr = go (sameHead h h′) refl
+heads-exact shape f n ih B len l r h h′ ps ps′ sl sr = go (sameHead h h′) refl
   where
     at-l : (σ val : ℕ → Term) → Model shape B σ val → val l ≡ app h (termsAt val ps)
     at-l σ val M = M .isval l ∙ rw sl
@@ -240,37 +212,37 @@ heads-law shape f n ih B len l r h h′ ps ps′ sl sr = go (sameHead h h′) re
         exact-move shape B (λ val. termsAt val ps ≡ termsAt val ps′) (λ val. val l ≡ val r)
         (λ σ val M q. cc (i, at-l σ val M, at-r σ val M))
         (λ σ val M q. cc (at-l σ val M, at-r σ val M))
-        (unifyAll shape f B ps ps′) (list-law shape f n ih ps ps′ B len)
+        (unifyAll shape f B ps ps′) (list-exact shape f n ih ps ps′ B len)
     go false e = λ σ val M q.
         let i : h ≡ h′ = cc (at-l σ val M, at-r σ val M) in
         true-not-false (sameHead h h′) (rw i (same-head-refl h′)) e
 
-ends-law : (shape : ℕ → Shape) (k : ℕ) (f : Binds → ℕ → ℕ → Unifies) (n : ℕ) → ((p v : ℕ) → shape p ≡ variable v → v < n)
+shapes-exact : (shape : ℕ → Shape) (k : ℕ) (f : Binds → ℕ → ℕ → Unifies) (n : ℕ) → ((p v : ℕ) → shape p ≡ variable v → v < n)
     → ((B : Binds) (a b : ℕ) → length B ≡ n → Exact shape B (λ val. val a ≡ val b) (f B a b))
     → (B : Binds) → length B ≡ n → (l r : ℕ) (s t : Shape) → shape l ≡ s → shape r ≡ t
     → ((v : ℕ) → shape l ≡ variable v → binding B v ≡ none) → ((v : ℕ) → shape r ≡ variable v → binding B v ≡ none)
     → Exact shape B (λ val. val l ≡ val r) (unifyShapes shape k f B l s r t)
-ends-law shape k f n scoped ih B len l r (variable v) (variable w) sl sr fl fr = vars-law shape B v w l r (rw len (scoped l v sl)) (fl v sl) sl sr
-ends-law shape k f n scoped ih B len l r (variable v) (over h ps) sl sr fl fr = bind-law shape k B v l r h ps (rw len (scoped l v sl)) (fl v sl) sl sr
-ends-law shape k f n scoped ih B len l r (over h ps) (variable w) sl sr fl fr =
+shapes-exact shape k f n scoped ih B len l r (variable v) (variable w) sl sr fl fr = variables-exact shape B v w l r (rw len (scoped l v sl)) (fl v sl) sl sr
+shapes-exact shape k f n scoped ih B len l r (variable v) (over h ps) sl sr fl fr = bind-unless-exact shape k B v l r h ps (rw len (scoped l v sl)) (fl v sl) sl sr
+shapes-exact shape k f n scoped ih B len l r (over h ps) (variable w) sl sr fl fr =
     exact-move shape B (λ val. val r ≡ val l) (λ val. val l ≡ val r) (λ σ val M e. sym e) (λ σ val M e. sym e) (bindUnless shape (occurs shape k B w l) B w l)
-    (bind-law shape k B w r l h ps (rw len (scoped r w sr)) (fr w sr) sr sl)
-ends-law shape k f n scoped ih B len l r (over h ps) (over h′ ps′) sl sr fl fr = heads-law shape f n ih B len l r h h′ ps ps′ sl sr
+    (bind-unless-exact shape k B w r l h ps (rw len (scoped r w sr)) (fr w sr) sr sl)
+shapes-exact shape k f n scoped ih B len l r (over h ps) (over h′ ps′) sl sr fl fr = heads-exact shape f n ih B len l r h h′ ps ps′ sl sr
 
 -- two sorts with different numbers have different terms
 abbrev pub Apart : (ℕ → Shape) → Type 0
 Apart shape = (l r : ℕ) → isSort l ≡ true → isSort r ≡ true → (l ≡ r → ⊥) → (σ val : ℕ → Term) → ((p : ℕ) → val p ≡ shapeVal σ val (shape p)) → val l ≡ val r → ⊥
 
 module _ (shape : ℕ → Shape) (apart : Apart shape) (n : ℕ) (scoped : (p v : ℕ) → shape p ≡ variable v → v < n) where
-  same-end-law : (k : ℕ) (f : Binds → ℕ → ℕ → Unifies) → ((B : Binds) (a b : ℕ) → length B ≡ n → Exact shape B (λ val. val a ≡ val b) (f B a b))
+  ends-exact : (k : ℕ) (f : Binds → ℕ → ℕ → Unifies) → ((B : Binds) (a b : ℕ) → length B ≡ n → Exact shape B (λ val. val a ≡ val b) (f B a b))
       → (B : Binds) → length B ≡ n → (l r : ℕ)
       → ((v : ℕ) → shape l ≡ variable v → binding B v ≡ none) → ((v : ℕ) → shape r ≡ variable v → binding B v ≡ none)
       → Exact shape B (λ val. val l ≡ val r) (unifyEnds shape (eqb l r) k f B l r)
-  same-end-law k f ih B len l r fl fr = go (eqb l r) refl
+  ends-exact k f ih B len l r fl fr = go (eqb l r) refl
     where
       differ : (b : Bool) → (isSort l && isSort r) ≡ b → (l ≡ r → ⊥) → Exact shape B (λ val. val l ≡ val r) (unifyApart shape b k f B l r)
       differ true e d = λ σ val M q. let s = and-eq-true-iff (isSort l) (isSort r) .0 e in apart l r (s .0) (s .1) d σ val (M .isval) q
-      differ false e d = ends-law shape k f n scoped ih B len l r (shape l) (shape r) refl refl fl fr
+      differ false e d = shapes-exact shape k f n scoped ih B len l r (shape l) (shape r) refl refl fl fr
 
       go : (b : Bool) → eqb l r ≡ b → Exact shape B (λ val. val l ≡ val r) (unifyEnds shape b k f B l r)
       go true e = (refl, (λ σ val M. (M, ap val (eqb-true l r e))), λ σ val M q. M)
@@ -292,4 +264,4 @@ module _ (shape : ℕ → Shape) (apart : Apart shape) (n : ℕ) (scoped : (p v 
           (λ σ val M q. cc (follow-value shape B σ val M w l l′ el, follow-value shape B σ val M w r r′ er))
           (λ σ val M q. cc (follow-value shape B σ val M w l l′ el, follow-value shape B σ val M w r r′ er))
           (unifyEnds shape (eqb l′ r′) w (unifyTo shape w k) B l′ r′)
-          (same-end-law w (unifyTo shape w k) ih B len l′ r′ (λ v. follow-end shape B w l l′ v el) (λ v. follow-end shape B w r r′ v er))
+          (ends-exact w (unifyTo shape w k) ih B len l′ r′ (λ v. follow-end shape B w l l′ v el) (λ v. follow-end shape B w r r′ v er))

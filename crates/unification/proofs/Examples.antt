@@ -1,9 +1,9 @@
 -- Unify and check 7 computed on small lists. Nodes 0 to 3 are the variables 0 to 3 (places 1024 to 1027); sort 6 is List(Nat), sort 7 is
 -- Nat # Pos -> Bool. Assumes nothing.
 use mathlib.Core.Path.{_≡_, refl}
-use mathlib.Core.Bool.{Bool, true, false}
+use mathlib.Core.Bool.{true, false}
 use mathlib.Core.List.{List, [], _∷_, _++_, map}
-use mathlib.Core.Option.{Option, none, some}
+use mathlib.Core.Option.{none, some}
 use Prim.Native.Nat.{ℕ}
 use lib.ListN.{replicate}
 use Rattle.resolved_sort.specs.Storage as Storage
@@ -14,7 +14,8 @@ use Rattle.unification.specs.Unify.{Unifies, yes-with, no-way, unifyTo}
 use Rattle.unification.specs.Unify as Unify
 use Rattle.unification.specs.Acyclic as Acyclic
 
-row : ℕ → ℕ → ℕ → ℕ → List ℕ → List ℕ
+-- one row, in front of others
+unfoldable pub row : ℕ → ℕ → ℕ → ℕ → List ℕ → List ℕ
 row kind part start count ws = kind ∷ part ∷ start ∷ count ∷ ws
 
 sorts : List ℕ

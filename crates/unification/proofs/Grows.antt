@@ -2,36 +2,34 @@
 -- that what the law of agreeing graphs says holds of all places; checked bindings stay checked. Assumes nothing.
 use mathlib.Core.Path.{_≡_, refl, ap, ap₂, sym, _∙_, subst}
 use mathlib.Core.List.{List, [], _∷_, _++_}
-use mathlib.Core.Option.{Option, none, some}
-use mathlib.Core.Bool.{Bool, true, false, cond, _&&_, and-eq-true-iff}
+use mathlib.Core.Bool.{Bool, true, false, cond, and-eq-true-iff}
 use mathlib.Core.Logic.{_↔_}
 use Prim.Native.Nat.{ℕ, zero, suc, _+_, _-_, _*_, _<_, _≤_}
 use native.Mathlib.Omega.{arith}
 use native.Mathlib.Nat.{add-zero}
 use lib.ListN.{length, getD}
-use lib.Dec.{leb, ltb}
-use borrow.Author.Tests.{ltb-true, leb-true, lt-ltb, le-leb}
+use borrow.Author.Tests.{ltb-true, ltb-false}
 use Rattle.resolved_sort.specs.Interning.{look}
 use Rattle.resolved_sort.specs.Storage.{maxSorts, rowAt, trees}
 use Rattle.resolved_sort.specs.Checks.{fixedSix}
 use Rattle.resolved_sort.proofs.Append.{Agrees}
 use Rattle.resolved_sort.proofs.Unchanged.{agrees-refl, agrees-trans}
-use Rattle.resolved_sort.proofs.Below.{below-each, each-below}
-use Rattle.resolved_sort.proofs.Numbers.{true-not-false}
+use Rattle.resolved_sort.proofs.Below.{each-below}
 use Rattle.unification.specs.declared.InferSort.{InferSort}
 use Rattle.unification.specs.declared.InferSort.the-variants.{Generic, Function, Var}
 use Rattle.unification.specs.Term.{Head, functionHead, Term, var, over}
 use Rattle.unification.specs.Nodes.{nodeKindAt, nodeEntryAt, nodeEntriesOf, inferred, nodeAt, sortShape, nodeShape, isSort, isPlace, shapeAt, Binds, bindsOf}
 use Rattle.unification.specs.Unify.{follow, unify, deep, deeper}
 use Rattle.unification.specs.Acyclic.{One}
-use Rattle.unification.specs.NodeChecks.{nodePartsFine, nodeKindFine, nodeFine, nodesFine, bindingFine, bindingsFine}
+use Rattle.unification.specs.NodeChecks.{nodePartsFine, nodeKindFine, nodeFine, nodesFine}
 use Rattle.unification.specs.Checked.{NodesChecked, listsOf, BindsChecked, Ready, Placed}
 use Rattle.unification.specs.Solutions.{termAt, Respects}
 use Rattle.unification.specs.Resolve.{value}
 use Rattle.unification.specs.Making.{Lent, graph, withNodesOf}
 use Rattle.unification.proofs.Rank.{rank}
-use Rattle.unification.proofs.Lists.{sort-parts, sort-parts-fine, node-parts, node-parts-fine, sort-is-place, Place, is-sort, is-node, is-stray, place}
-use Rattle.unification.proofs.Cycle.{bound-is-place}
+use Rattle.unification.proofs.Places.{sort-below, node-below, place-longer, bound-is-place, bindings-longer}
+use Rattle.unification.proofs.Rows.{node-function-fine, fine-tests, node-fine-parts, nodes-fine-each}
+use Rattle.unification.proofs.Lists.{part-is-place}
 use Rattle.unification.proofs.Agree.{Agree, Names, term-agrees, follow-agrees, rank-agrees, value-agrees, numbering-agrees, respects-agrees, unify-agrees}
 
 -- lists that passed their checks; and bindings with them
@@ -64,34 +62,6 @@ pub record Grows (W W′ : Lent) : Type 0 where
   pub looks : (i : ℕ) → i < W .lengths .sorts → look (trees (W′ .sorts) (W′ .lengths .sorts)) i ≡ look (trees (W .sorts) (W .lengths .sorts)) i
   pub fixed : fixedSix (W .sorts) (W .lengths .sorts) ≡ true → fixedSix (W′ .sorts) (W′ .lengths .sorts) ≡ true
 
--- a place among fewer sorts and nodes is a place
-pub place-longer : (n n′ m m′ p : ℕ) → n ≤ n′ → m ≤ m′ → isPlace n m p ≡ true → isPlace n′ m′ p ≡ true
-unfolding isPlace
-place-longer n n′ m m′ p l k e = go (isSort p) e
-  where
-    go : (b : Bool) → cond b (ltb p n) (ltb (p - maxSorts) m) ≡ true → cond b (ltb p n′) (ltb (p - maxSorts) m′) ≡ true
-    go true e = lt-ltb p n′ (omega (arith, ltb-true p n e, l))
-    go false e = lt-ltb (p - maxSorts) m′ (omega (arith, ltb-true (p - maxSorts) m e, k))
-
-pub sort-below : (n m p : ℕ) → isSort p ≡ true → isPlace n m p ≡ true → p < n
-unfolding isPlace
-sort-below n m p s e = ltb-true p n (rw s at e)
-
-pub node-below : (n m p : ℕ) → isSort p ≡ false → isPlace n m p ≡ true → p - maxSorts < m
-unfolding isPlace
-node-below n m p s e = ltb-true (p - maxSorts) m (rw s at e)
-
-pub bindings-longer : (n n′ m m′ : ℕ) (B : Binds) → n ≤ n′ → m ≤ m′ → bindingsFine n m B ≡ true → bindingsFine n′ m′ B ≡ true
-unfolding bindingsFine
-bindings-longer n n′ m m′ [] l k e = refl
-bindings-longer n n′ m m′ (b ∷ B) l k e =
-    let a = and-eq-true-iff (bindingFine n m b) (bindingsFine n m B) .0 e in
-    and-eq-true-iff (bindingFine n′ m′ b) (bindingsFine n′ m′ B) .1 (go b (a .0), bindings-longer n n′ m m′ B l k (a .1))
-  where
-    go : (b : Option ℕ) → bindingFine n m b ≡ true → bindingFine n′ m′ b ≡ true
-    go none e = refl
-    go (some q) e = place-longer n n′ m m′ q l k e
-
 -- old rows that read the same have the same shape
 pub rows-same : (W W′ : Lent) → W .lengths .sorts ≤ W′ .lengths .sorts → W .lengths .nodes ≤ W′ .lengths .nodes
     → ((i : ℕ) → i < W .lengths .sorts → sortShape (W′ .sorts) (rowAt (W′ .sorts) i) ≡ sortShape (W .sorts) (rowAt (W .sorts) i))
@@ -103,8 +73,8 @@ rows-same W W′ l k a b p e = rw (e, place-longer (W .lengths .sorts) (W′ .le
     go : (s : Bool) → isSort p ≡ s → isPlace (W .lengths .sorts) (W .lengths .nodes) p ≡ true
         → cond s (sortShape (W′ .sorts) (rowAt (W′ .sorts) p)) (nodeShape (W′ .nodes) (nodeAt (W′ .nodes) (p - maxSorts)))
         ≡ cond s (sortShape (W .sorts) (rowAt (W .sorts) p)) (nodeShape (W .nodes) (nodeAt (W .nodes) (p - maxSorts)))
-    go true s e = a p (sort-below (W .lengths .sorts) (W .lengths .nodes) p s e)
-    go false s e = b (p - maxSorts) (node-below (W .lengths .sorts) (W .lengths .nodes) p s e)
+    go true s e = a p (sort-below (W .lengths .sorts) (W .lengths .nodes) p (ltb-true p maxSorts s) e)
+    go false s e = b (p - maxSorts) (node-below (W .lengths .sorts) (W .lengths .nodes) p (ltb-false p maxSorts s) e)
 
 node-entries-agree : (ns ns′ : List ℕ) (s c : ℕ) → ((j : ℕ) → j < c → nodeEntryAt ns′ (s + j) ≡ nodeEntryAt ns (s + j)) → nodeEntriesOf ns′ s c ≡ nodeEntriesOf ns s c
 unfolding nodeEntriesOf
@@ -126,13 +96,10 @@ module _ (ns ns′ : List ℕ) (m d : ℕ) (a : NodesAgree ns ns′ m d) where
 
   module _ (n v i : ℕ) where
     parts-shape : (r : InferSort) → nodePartsFine ns d n v i r ≡ true → nodeShape ns′ r ≡ nodeShape ns r
-    unfolding nodePartsFine nodeShape
+    unfolding nodeShape
     parts-shape (Generic op x) f = refl
     parts-shape (Function domain range) f =
-        let x = and-eq-true-iff (leb (domain .count) 16 && leb (domain .start + domain .count) d && isPlace n i (range .0)) _ .0 f in
-        let y = and-eq-true-iff (leb (domain .count) 16 && leb (domain .start + domain .count) d) (isPlace n i (range .0)) .0 (x .0) in
-        let z = and-eq-true-iff (leb (domain .count) 16) (leb (domain .start + domain .count) d) .0 (y .0) in
-        let l = leb-true (domain .start + domain .count) d (z .1) in
+        let l = node-function-fine ns d n v i domain (range .0) f .inside in
         ap (λ xs. over (functionHead (domain .count)) (xs ++ (range .0 ∷ [])))
         (node-entries-agree ns ns′ (domain .start) (domain .count) (λ j h. a .entries (domain .start + j) (omega (arith, l, h))))
     parts-shape (Var u) f = refl
@@ -141,33 +108,29 @@ module _ (ns ns′ : List ℕ) (m d : ℕ) (a : NodesAgree ns ns′ m d) where
     unfolding nodePartsFine
     parts-fine-longer d′ n′ k l (Generic op x) f = place-longer n n′ i i (x .0) l (omega arith) f
     parts-fine-longer d′ n′ k l (Function domain range) f =
-        let x = and-eq-true-iff (leb (domain .count) 16 && leb (domain .start + domain .count) d && isPlace n i (range .0)) _ .0 f in
-        let y = and-eq-true-iff (leb (domain .count) 16 && leb (domain .start + domain .count) d) (isPlace n i (range .0)) .0 (x .0) in
-        let z = and-eq-true-iff (leb (domain .count) 16) (leb (domain .start + domain .count) d) .0 (y .0) in
-        let s = leb-true (domain .start + domain .count) d (z .1) in
-        rw (z .0, le-leb (domain .start + domain .count) d′ (omega (arith, s, k)), place-longer n n′ i i (range .0) l (omega arith) (y .1))
-        (each-below (domain .count) (λ j. isPlace n′ i (nodeEntryAt ns′ (domain .start + j)))
-        (λ j h. ap (isPlace n′ i) (a .entries (domain .start + j) (omega (arith, s, h)))
-        ∙ place-longer n n′ i i (nodeEntryAt ns (domain .start + j)) l (omega arith) (below-each (domain .count) (λ j. isPlace n i (nodeEntryAt ns (domain .start + j))) (x .1) j h)))
+        let x = node-function-fine ns d n v i domain (range .0) f in
+        fine-tests (isPlace n′ i) (nodeEntryAt ns′) d′ domain (range .0)
+        (record {
+          short = x .short;
+          inside = omega (arith, x .inside, k);
+          range-fits = place-longer n n′ i i (range .0) l (omega arith) (x .range-fits);
+          each-fits = λ j h. ap (isPlace n′ i) (a .entries (domain .start + j) (omega (arith, x .inside, h)))
+              ∙ place-longer n n′ i i (nodeEntryAt ns (domain .start + j)) l (omega arith) (x .each-fits j h);
+        })
     parts-fine-longer d′ n′ k l (Var u) f = f
 
   -- old nodes stay fine, and keep their shapes
   module _ (n v : ℕ) (f : nodesFine ns m d n v ≡ true) where
-    fine-at : (i : ℕ) → i < m → nodeFine ns d n v i ≡ true
-    unfolding nodesFine
-    fine-at i l = below-each m (nodeFine ns d n v) f i l
-
     pub node-fine-longer : (d′ n′ : ℕ) → d ≤ d′ → n ≤ n′ → (i : ℕ) → i < m → nodeFine ns′ d′ n′ v i ≡ true
     unfolding nodeFine
     node-fine-longer d′ n′ k l i h =
-        let x = and-eq-true-iff (nodeKindFine (nodeKindAt ns i)) (nodePartsFine ns d n v i (nodeAt ns i)) .0 (fine-at i h) in
+        let x = node-fine-parts ns d n v i (nodes-fine-each ns m d n v f i h) in
         and-eq-true-iff (nodeKindFine (nodeKindAt ns′ i)) (nodePartsFine ns′ d′ n′ v i (nodeAt ns′ i)) .1
         (ap nodeKindFine (kind-same i h) ∙ x .0, ap (nodePartsFine ns′ d′ n′ v i) (node-same i h) ∙ parts-fine-longer n v i d′ n′ k l (nodeAt ns i) (x .1))
 
     pub node-shape-same : (i : ℕ) → i < m → nodeShape ns′ (nodeAt ns′ i) ≡ nodeShape ns (nodeAt ns i)
-    unfolding nodeFine
     node-shape-same i h =
-        let x = and-eq-true-iff (nodeKindFine (nodeKindAt ns i)) (nodePartsFine ns d n v i (nodeAt ns i)) .0 (fine-at i h) in
+        let x = node-fine-parts ns d n v i (nodes-fine-each ns m d n v f i h) in
         ap (nodeShape ns′) (node-same i h) ∙ parts-shape n v i (nodeAt ns i) (x .1)
 
 -- the bindings of checked lists name places
@@ -181,22 +144,8 @@ module _ (W : Lent) (c : CheckedLent W) where
   abbrev m : ℕ
   m = W .lengths .nodes
 
-  abbrev PlaceOf : ℕ → Type 0
-  PlaceOf = Place (W .sorts) n (W .lengths .entries) (W .nodes) m (W .lengths .arguments) (W .lengths .variables) c
-
-  -- the parts of a place are places
   pub parts-placed : (p q : ℕ) (h : Head) (ps : List ℕ) → PlacedIn W p → graph W p ≡ over h ps → One q ps → PlacedIn W q
-  parts-placed p q h ps x s o = go (place (W .sorts) n (W .lengths .entries) (W .nodes) m (W .lengths .arguments) (W .lengths .variables) c p)
-    where
-      go : PlaceOf p → PlacedIn W q
-      go (is-sort a l f) =
-          let b = sort-parts (W .sorts) (W .lengths .entries) p (rowAt (W .sorts) p) (sort-parts-fine (W .sorts) n (W .lengths .entries) (W .nodes) m (W .lengths .arguments) (W .lengths .variables) c p l) q h ps (sym f ∙ s) o in
-          sort-is-place (W .sorts) n (W .lengths .entries) (W .nodes) m (W .lengths .arguments) (W .lengths .variables) c q (omega (arith, b, l))
-      go (is-node i l y f) =
-          place-longer n n i m q (omega arith) (omega (arith, l))
-          (node-parts (W .nodes) (W .lengths .arguments) n (W .lengths .variables) i (nodeAt (W .nodes) i) (c .sorts .sorts)
-          (node-parts-fine (W .sorts) n (W .lengths .entries) (W .nodes) m (W .lengths .arguments) (W .lengths .variables) c i l) q h ps (sym f ∙ s) o)
-      go (is-stray z f) = absurd (true-not-false (isPlace n m p) x z)
+  parts-placed = part-is-place (W .sorts) n (W .lengths .entries) (W .nodes) m (W .lengths .arguments) (W .lengths .variables) c
 
   pub grows-refl : Grows W W
   grows-refl =

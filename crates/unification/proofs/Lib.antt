@@ -1,5 +1,10 @@
-pub mod Examples
+-- The laws of the unifier. Parts, places, rows and following; then ranks, numbers of variables and the theorem; then lists that grow, resolve and the related
+-- sorts; and small cases computed.
 pub mod Heads
+pub mod Parts
+pub mod Places
+pub mod Rows
+pub mod Follow
 pub mod Exact
 pub mod Rank
 pub mod Numbering
@@ -13,22 +18,23 @@ pub mod Settles
 pub mod Cycle
 pub mod Theorem
 pub mod Denotes
-pub mod Wider
-pub mod ResolvedSorts
-pub mod ResolvedPlaces
-pub mod Resolved
-pub mod ResolvedCode
-pub mod ResolvedExamples
-pub mod MakingExamples
-pub mod RelatedEq
-pub mod Outcomes
-pub mod NoList
-pub mod Room
 pub mod Agree
 pub mod Grows
 pub mod SortsGrow
 pub mod NodesGrow
+pub mod Outcomes
 pub mod MakingGrows
+pub mod ResolvedSorts
+pub mod ResolvedPlaces
+pub mod Resolved
+pub mod ResolvedCode
+pub mod Wider
+pub mod RelatedEq
+pub mod NoList
+pub mod Room
 pub mod PlaceTerms
 pub mod RelatedPlaces
 pub mod Answers
+pub mod Examples
+pub mod ResolvedExamples
+pub mod MakingExamples

@@ -22,16 +22,13 @@ use Rattle.unification.specs.Unify as Unify
 use Rattle.unification.specs.Related as Related
 use Rattle.unification.specs.Making.{Lent, Makes, made, no-list, no-room, strictRelated, relatedTo}
 use Rattle.unification.specs.Making as Making
+use Rattle.unification.proofs.Examples.{row}
 
 abbrev up : Bool
 up = true
 
 abbrev down : Bool
 down = false
-
--- one row, in front of others
-row : ℕ → ℕ → ℕ → ℕ → List ℕ → List ℕ
-row kind part start count ws = kind ∷ part ∷ start ∷ count ∷ ws
 
 -- rows and entries at their places, zeros between
 storage : ℕ → List ℕ → List ℕ → List ℕ

@@ -25,14 +25,13 @@ use Rattle.unification.specs.Nodes.{maxNodes, maxNodeEntries}
 use Rattle.unification.specs.Acyclic.{One, first, later}
 use Rattle.unification.specs.Making.{Lent, graph, Makes, made, no-list, no-room, _and-then_, appendNode, pushNode, withSorts, internContainer, pushFunctions}
 use Rattle.unification.proofs.Grows.{CheckedLent, PlacedIn, Grows, placed-grown, grows-refl, grows-trans}
+use Rattle.unification.proofs.Outcomes.{Each, each-weaker}
 use Rattle.unification.proofs.SortsGrow.{sorts-grow}
 use Rattle.unification.proofs.NodesGrow.{FineRow, function-row, node-grows, new-node-placed, new-node-shape}
 
 -- The lists that making leaves have grown from W, and what is made is so.
 unfoldable pub MadeFrom : {A : Type 0} → (Lent → A → Type 0) → Lent → Makes A → Type 0
-MadeFrom In W (made a W′) = Grows W W′ × In W′ a
-MadeFrom In W (no-list W′) = Grows W W′
-MadeFrom In W (no-room c W′) = Grows W W′
+MadeFrom In W = Each (λ a W′. Grows W W′ × In W′ a) (λ W′. Grows W W′) (λ c W′. Grows W W′)
 
 pub made-before : {A : Type 0} (In : Lent → A → Type 0) (W W′ : Lent) → CheckedLent W → Grows W W′ → (O : Makes A) → MadeFrom In W′ O → MadeFrom In W O
 unfolding MadeFrom
@@ -50,9 +49,7 @@ made-then In On W c (no-room e W′) f h k = h
 
 pub made-so : {A : Type 0} (In On : Lent → A → Type 0) (W : Lent) (O : Makes A) → MadeFrom In W O → ((a : A) (W′ : Lent) → Grows W W′ → In W′ a → On W′ a) → MadeFrom On W O
 unfolding MadeFrom
-made-so In On W (made a W′) h k = (h .0, k a W′ (h .0) (h .1))
-made-so In On W (no-list W′) h k = h
-made-so In On W (no-room e W′) h k = h
+made-so In On W O h k = each-weaker _ _ (λ W′. Grows W W′) (λ c W′. Grows W W′) O (λ a W′ x. (x .0, k a W′ (x .0) (x .1))) h
 
 -- what is made, by the equation that a call answers
 pub made-grows : {A : Type 0} (In : Lent → A → Type 0) (W W′ : Lent) (a : A) (O : Makes A) → MadeFrom In W O → O ≡ made a W′ → Grows W W′ × In W′ a

@@ -2,7 +2,7 @@
 -- no list by itself, and a function has none exactly where its range, which has a lower rank and is asked first, has none. Assumes nothing.
 use mathlib.Core.Path.{_≡_, refl, sym, _∙_, subst}
 use mathlib.Core.List.{List}
-use mathlib.Core.Option.{Option, none, some}
+use mathlib.Core.Option.{none, some}
 use mathlib.Core.Bool.{Bool}
 use mathlib.Core.Logic.{_↔_}
 use Prim.Native.Nat.{ℕ, zero, suc, _<_, _≤_}
@@ -10,33 +10,21 @@ use native.Mathlib.Omega.{arith}
 use lib.ListN.{length, getD, take}
 use Rattle.unification.specs.Term.{Head, flatHead, containerHead, functionHead, strayHead, Shape, variable, over}
 use Rattle.unification.specs.Nodes.{isSort, Binds, binding, bindsOf}
-use Rattle.unification.specs.Unify.{followBound, followAt, follow, deep}
+use Rattle.unification.specs.Unify.{follow, deep}
 use Rattle.unification.specs.Checked.{Ready}
 use Rattle.unification.specs.Related.{relatedContainer}
 use Rattle.unification.specs.Making.{Lent, graph, Makes, made, no-list, no-room, _and-then_, relatedOver, pushFunctions, relatedShape, relatedTo, strictRelated}
 use Rattle.unification.specs.FinalRange.{FreeEnd, free, bound, range}
-use Rattle.unification.proofs.Exact.{follow-end}
-use Rattle.unification.proofs.Rank.{rank, Ranked, none-some}
+use Rattle.unification.proofs.Rank.{rank, Ranked}
+use Rattle.unification.proofs.Follow.{follow-holds, follow-end}
 use Rattle.unification.proofs.Enough.{follow-some, follow-eq}
 use Rattle.unification.proofs.Outcomes.{Each, Any, each-weaker, each-over, each-functions}
-use Rattle.unification.proofs.RelatedEq.{ready-ranked, range-lower, related-eq}
+use Rattle.unification.proofs.RelatedEq.{range-lower, related-eq}
+use Rattle.unification.proofs.Theorem.{ready-ranked}
 
 -- A place is so exactly if its end is.
 free-from-end : (shape : ℕ → Shape) (B : Binds) (k p q : ℕ) → follow shape k B p ≡ some q → FreeEnd shape B q → FreeEnd shape B p
-unfolding follow
-free-from-end shape B zero p q e h = none-some q e
-free-from-end shape B (suc k) p q e h = go (shape p) refl e (λ x i. free-from-end shape B k x q i h)
-  where
-    here : some p ≡ some q → FreeEnd shape B p
-    here e = let z : q ≡ p = cc in subst (FreeEnd shape B) z h
-
-    variables : (v : ℕ) (o : Option ℕ) → shape p ≡ variable v → binding B v ≡ o → followBound shape o p (follow shape k B) ≡ some q → ((x : ℕ) → follow shape k B x ≡ some q → FreeEnd shape B x) → FreeEnd shape B p
-    variables v none s b e ih = here e
-    variables v (some x) s b e ih = bound p v x s b (ih x e)
-
-    go : (s : Shape) → shape p ≡ s → followAt shape s B p (follow shape k B) ≡ some q → ((x : ℕ) → follow shape k B x ≡ some q → FreeEnd shape B x) → FreeEnd shape B p
-    go (variable v) s e ih = variables v (binding B v) s refl e ih
-    go (over h ps) s e ih = here e
+free-from-end shape B = follow-holds shape B (λ p q. FreeEnd shape B q → FreeEnd shape B p) (λ p i h. h) (λ p v r q s b ih h. bound p v r s b (ih h))
 
 module _ (shape : ℕ → Shape) (w : ℕ) (B : Binds) (A : Ranked shape w B) where
   variable-ends : (p v : ℕ) → shape p ≡ variable v → binding B v ≡ none → follow shape w B p ≡ some p

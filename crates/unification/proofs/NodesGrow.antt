@@ -4,14 +4,14 @@ use mathlib.Core.Path.{_≡_, refl, ap, ap₂, sym, _∙_}
 use mathlib.Core.Bool.{true, cond, _&&_}
 use mathlib.Core.Logic.{_≢_}
 use mathlib.Core.List.{List, [], _∷_, _++_}
-use Prim.Native.Nat.{ℕ, zero, suc, _+_, _-_, _*_, _<_, _≤_}
+use Prim.Native.Nat.{ℕ, suc, _+_, _-_, _*_, _<_, _≤_}
 use native.Mathlib.Omega.{arith}
 use native.Mathlib.Nat.{add-zero}
 use native.Mathlib.Decide.{ℕ-discrete}
 use lib.ListN.{length, getD}
 use lib.Seq.{sets, length-sets}
 use lib.Dec.{eqb}
-use borrow.Author.Tests.{lt-ltb, le-ltb, le-leb}
+use borrow.Author.Tests.{lt-ltb, le-ltb}
 use Rattle.resolved_sort.specs.declared.ComplexSort.{ComplexSort}
 use Rattle.resolved_sort.specs.declared.Run.{Run}
 use Rattle.resolved_sort.specs.Storage.{maxSorts, functionKind, Row, kindOp, putRow}
@@ -23,21 +23,18 @@ use Rattle.unification.specs.declared.InferSort.{InferSort}
 use Rattle.unification.specs.Term.{containerHead, functionHead, Shape, over}
 use Rattle.unification.specs.Nodes.{maxNodes, maxNodeEntries, nodeEntriesAt, fullNodes, nodeKindAt, nodePartAt, nodeStartAt, nodeCountAt, nodeEntryAt, nodeEntriesOf, inferred, nodeAt, nodeShape, isPlace, shapeAt}
 use Rattle.unification.specs.NodeChecks.{nodePartsFine, nodeKindFine, nodeFine, nodesFine}
-use Rattle.unification.specs.Acyclic.{One, first, later}
+use Rattle.unification.specs.Acyclic.{One}
 use Rattle.unification.specs.Checked.{Placed}
 use Rattle.unification.specs.Making.{Lent, graph, appendNode}
 use Rattle.unification.proofs.Grows.{CheckedLent, PlacedIn, Grows, rows-same, NodesAgree, node-fine-longer, node-shape-same}
+use Rattle.unification.proofs.Parts.{one-at}
+use Rattle.unification.proofs.Rows.{fine-tests}
 
 -- A row with its parts among the places, and its shape: a container of a place, or a function of at most 16.
 pub data FineRow (k : Lengths) : Row → Shape → Type 0 where
   container-row : (o : ComplexSort) (p : ℕ) → Placed k p → FineRow k (record { kind = kindOp o; part = p; args = [] }) (over (containerHead o) (p ∷ []))
   function-row : (xs : List ℕ) (p : ℕ) → length xs ≤ 16 → ((q : ℕ) → One q xs → Placed k q) → Placed k p
       → FineRow k (record { kind = functionKind; part = p; args = xs }) (over (functionHead (length xs)) (xs ++ (p ∷ [])))
-
-pub one-at : (xs : List ℕ) (j : ℕ) → j < length xs → One (getD xs j 0) xs
-one-at [] j l = absurd (omega (arith, l))
-one-at (x ∷ xs) zero l = first xs
-one-at (x ∷ xs) (suc j) l = later x xs (one-at xs j (omega (arith, l)))
 
 -- the entries from s on are what stands there
 node-entries-are : (ns vs : List ℕ) (s : ℕ) → ((j : ℕ) → j < length vs → nodeEntryAt ns (s + j) ≡ getD vs j 0) → nodeEntriesOf ns s (length vs) ≡ vs
@@ -128,7 +125,7 @@ function-fine : (ns : List ℕ) (e n v i p s c : ℕ) → c ≤ 16 → s + c ≤
     → (nodeKindFine functionKind && nodePartsFine ns e n v i (inferred functionKind p (record { start = s; count = c }))) ≡ true
 unfolding nodeKindFine nodePartsFine inferred
 function-fine ns e n v i p s c few inside y x =
-    rw (le-leb c 16 few, le-leb (s + c) e inside, y) (each-below c (λ j. isPlace n i (nodeEntryAt ns (s + j))) x)
+    fine-tests (isPlace n i) (nodeEntryAt ns) e (record { start = s; count = c }) p (record { short = few; inside = inside; range-fits = y; each-fits = x })
 
 new-row-fine : (ns : List ℕ) (k : Lengths) (r : Row) (s : Shape) → FineRow k r s → fullNodes ≤ length ns → k .nodes < maxNodes → k .arguments + length (r .args) ≤ maxNodeEntries
     → nodeFine (newNodes ns (k .nodes) (k .arguments) r) (k .arguments + length (r .args)) (k .sorts) (k .variables) (k .nodes) ≡ true

@@ -1,19 +1,21 @@
 -- What holds of each outcome of making: P of an answer, N of no list, C of no room. Through one making and then another, and of each thing that is
 -- made by its own outcomes; a node and a container of sorts never come to no list. Assumes nothing.
-use mathlib.Core.Path.{_≡_, refl, ap}
-use mathlib.Core.List.{List, [], _∷_, _++_}
+use mathlib.Core.Path.{_≡_, refl, ap, subst}
+use mathlib.Core.List.{List, [], _∷_}
 use mathlib.Core.Option.{Option, none, some}
 use mathlib.Core.Bool.{Bool, true, false, cond, _&&_}
-use Prim.Native.Nat.{ℕ, suc, _+_, _-_, _≤_}
+use Prim.Native.Nat.{ℕ, suc, _+_, _≤_}
 use native.Mathlib.Omega.{arith}
 use lib.ListN.{length}
 use lib.Dec.{leb, ltb}
 use Rattle.resolved_sort.specs.declared.ComplexSort.{ComplexSort}
 use Rattle.resolved_sort.specs.Tree.{Tree, container}
-use Rattle.resolved_sort.specs.Interning.{Sorts, look, Outcome, made as interned, nothing, full, member, need, fits, intern}
+use Rattle.resolved_sort.specs.Interning.{Sorts, look, Outcome, made as interned, nothing, full, intern}
 use Rattle.resolved_sort.specs.Storage.{maxSorts, functionKind, kindOp, Row, trees, sortsOf}
 use Rattle.resolved_sort.specs.Entries.{Stored, stored}
 use Rattle.resolved_sort.specs.Bounds.{internAt}
+use Rattle.resolved_sort.proofs.Made.{Answers, intern-answers}
+use Rattle.resolved_sort.proofs.Reached.{no-confusion}
 use Rattle.unification.specs.Nodes.{maxNodes, maxNodeEntries}
 use Rattle.unification.specs.Making.{Lent, Makes, made, no-list, no-room, _and-then_, appendNode, pushNode, withSorts, internContainer, only, relatedOver, pushFunctions}
 
@@ -38,13 +40,8 @@ each-weaker P Q N C (no-list W) f h = h
 each-weaker P Q N C (no-room c W) f h = h
 
 intern-not-nothing : (t : Tree) (S S′ : Sorts) → intern t S ≡ nothing S′ → ⊥
-unfolding intern
-intern-not-nothing t S S′ e = go (member (S .trees) t) (fits t S) e
-  where
-    go : (a b : Bool) → cond a (interned t S) (cond b (interned t (record { trees = S .trees ++ (t ∷ []); rows = S .rows - 1; entries = S .entries - need t })) (full S)) ≡ nothing S′ → ⊥
-    go true b e = let z : _≡_ {A = ℕ} 0 1 = cc in omega arith
-    go false true e = let z : _≡_ {A = ℕ} 0 1 = cc in omega arith
-    go false false e = let z : _≡_ {A = ℕ} 0 1 = cc in omega arith
+unfolding Answers
+intern-not-nothing t S S′ e = let z : some t ≡ none = subst (Answers (some t)) e (intern-answers t S) in no-confusion (cc)
 
 module _ (N : Lent → Type 0) (C : ℕ → Lent → Type 0) where
   pub each-node : (P : ℕ → Lent → Type 0) (r : Row) (W : Lent) → P (maxSorts + W .lengths .nodes) (appendNode W r) → C 16 W → Each P N C (pushNode r W)

@@ -1,73 +1,31 @@
 -- What the places of checked lists stand for, by their shapes: the shapes are those of rows that passed their checks, the fixed sorts have their kinds
 -- as numbers, and a place stands for what its end stands for. Assumes nothing.
-use mathlib.Core.Path.{_≡_, refl, ap, sym, _∙_, subst}
-use mathlib.Core.Bool.{Bool, true, _&&_, and-eq-true-iff}
-use mathlib.Core.List.{List, [], _∷_, _++_}
+use mathlib.Core.Path.{_≡_, ap, sym, _∙_}
+use mathlib.Core.Bool.{Bool, true}
+use mathlib.Core.List.{List, []}
 use mathlib.Core.Option.{some}
-use Prim.Native.Nat.{ℕ, zero, suc, _+_, _<_, _≤_}
+use Prim.Native.Nat.{ℕ, suc, _<_}
 use native.Mathlib.Omega.{arith}
-use lib.ListN.{length}
-use lib.Dec.{eqb, leb, ltb}
-use borrow.Author.Tests.{eqb-true, ltb-true, leb-true, lt-ltb}
+use borrow.Author.Tests.{ltb-true, lt-ltb}
 use Rattle.resolved_sort.specs.declared.Sort.{Sort}
-use Rattle.resolved_sort.specs.declared.ComplexSort.{ComplexSort}
-use Rattle.resolved_sort.specs.declared.ResolvedSort.{ResolvedSort}
-use Rattle.resolved_sort.specs.declared.ResolvedSort.the-variants.{Unit as UnitRow, Primitive, Container, Function as SortFunction, Def, TypeVar}
-use Rattle.resolved_sort.specs.Tree.{Flat, unit, primitive, def, typevar, flat}
+use Rattle.resolved_sort.specs.Tree.{primitive, flat}
 use Rattle.resolved_sort.specs.Interning.{look}
-use Rattle.resolved_sort.specs.Storage.{maxSorts, kindAt, partAt, startAt, countAt, entriesOf, resolved, rowAt, kindFlat, trees}
-use Rattle.resolved_sort.specs.Checks.{allBelow, fixedSix, partsBelow}
-use Rattle.resolved_sort.proofs.Below.{below-each}
+use Rattle.resolved_sort.specs.Storage.{maxSorts, partAt, startAt, countAt, resolved, rowAt, kindFlat, trees}
+use Rattle.resolved_sort.specs.Checks.{fixedSix}
 use Rattle.resolved_sort.proofs.Numbers.{true-not-false}
-use Rattle.unification.specs.declared.InferSort.{InferSort}
-use Rattle.unification.specs.declared.InferSort.the-variants.{Generic, Function, Var}
-use Rattle.unification.specs.Term.{Head, flatHead, containerHead, functionHead, Term, Shape, variable, over, termOf, put}
-use Rattle.unification.specs.Nodes.{nodeEntriesOf, nodeAt, sortShape, nodeShape, isSort, isPlace, shapeAt, Binds}
-use Rattle.unification.specs.NodeChecks.{nodePartsFine}
+use Rattle.unification.specs.Term.{Head, flatHead, Term, over, termOf, put}
+use Rattle.unification.specs.Nodes.{sortShape, isSort, isPlace, shapeAt, Binds}
 use Rattle.unification.specs.Unify.{follow}
 use Rattle.unification.specs.Acyclic.{One}
 use Rattle.unification.specs.Solutions.{termAt, Respects}
 use Rattle.unification.specs.Making.{Lent, graph}
 use Rattle.unification.proofs.Exact.{shapeVal, follow-value}
 use Rattle.unification.proofs.Numbering.{Lower}
-use Rattle.unification.proofs.Lists.{sort-parts, sort-parts-fine, node-parts-fine, length-entries, sort-is-place, Place, is-sort, is-node, is-stray, place, lower, sort-value}
+use Rattle.unification.proofs.Places.{sort-is-place}
+use Rattle.unification.proofs.Rows.{sort-parts, ShapeFormed, fixed-six-kinds}
+use Rattle.unification.proofs.Lists.{sort-parts-fine, Place, is-sort, is-node, is-stray, place, lower, sort-value, place-formed}
 use Rattle.unification.proofs.Solved.{value-by-shape, model-of}
 use Rattle.unification.proofs.Grows.{CheckedLent, PlacedIn}
-
--- The shapes at places: a flat sort has no parts, a container one, a function its arguments, at most 16, and its range.
-pub data Formed : Shape → Type 0 where
-  variable-formed : (v : ℕ) → Formed (variable v)
-  flat-formed : (a : Flat) → Formed (over (flatHead a) [])
-  container-formed : (o : ComplexSort) (s : ℕ) → Formed (over (containerHead o) (s ∷ []))
-  function-formed : (n : ℕ) (xs : List ℕ) (r : ℕ) → length xs ≡ n → n ≤ 16 → Formed (over (functionHead n) (xs ++ (r ∷ [])))
-
-length-node-entries : (ns : List ℕ) (s c : ℕ) → length (nodeEntriesOf ns s c) ≡ c
-unfolding nodeEntriesOf
-length-node-entries ns s zero = refl
-length-node-entries ns s (suc c) = omega (arith, length-node-entries ns (s + 1) c)
-
-sort-formed : (ws : List ℕ) (e i : ℕ) (r : ResolvedSort) → partsBelow ws e i r ≡ true → Formed (sortShape ws r)
-unfolding partsBelow sortShape
-sort-formed ws e i UnitRow f = flat-formed unit
-sort-formed ws e i (Primitive s) f = flat-formed (primitive s)
-sort-formed ws e i (Container op s) f = container-formed op (s .0)
-sort-formed ws e i (SortFunction domain range) f =
-    let x = and-eq-true-iff (leb (domain .count) 16 && leb (domain .start + domain .count) e && ltb (range .0) i) _ .0 f in
-    let y = and-eq-true-iff (leb (domain .count) 16 && leb (domain .start + domain .count) e) (ltb (range .0) i) .0 (x .0) in
-    let z = and-eq-true-iff (leb (domain .count) 16) (leb (domain .start + domain .count) e) .0 (y .0) in
-    function-formed (domain .count) (entriesOf ws (domain .start) (domain .count)) (range .0) (length-entries ws (domain .start) (domain .count)) (leb-true (domain .count) 16 (z .0))
-sort-formed ws e i (Def n) f = flat-formed (def n)
-sort-formed ws e i (TypeVar n) f = flat-formed (typevar n)
-
-node-formed : (ns : List ℕ) (d n v i : ℕ) (r : InferSort) → nodePartsFine ns d n v i r ≡ true → Formed (nodeShape ns r)
-unfolding nodePartsFine nodeShape
-node-formed ns d n v i (Generic op s) f = container-formed op (s .0)
-node-formed ns d n v i (Function domain range) f =
-    let x = and-eq-true-iff (leb (domain .count) 16 && leb (domain .start + domain .count) d && isPlace n i (range .0)) _ .0 f in
-    let y = and-eq-true-iff (leb (domain .count) 16 && leb (domain .start + domain .count) d) (isPlace n i (range .0)) .0 (x .0) in
-    let z = and-eq-true-iff (leb (domain .count) 16) (leb (domain .start + domain .count) d) .0 (y .0) in
-    function-formed (domain .count) (nodeEntriesOf ns (domain .start) (domain .count)) (range .0) (length-node-entries ns (domain .start) (domain .count)) (leb-true (domain .count) 16 (z .0))
-node-formed ns d n v i (Var u) f = variable-formed (u .0)
 
 -- what a place stands for, with σ for the variables
 abbrev pub termIn : Lent → (ℕ → Term) → ℕ → Term
@@ -95,13 +53,8 @@ module _ (W : Lent) (c : CheckedLent W) where
   abbrev v : ℕ
   v = W .lengths .variables
 
-  pub placed-formed : (p : ℕ) → PlacedIn W p → Formed (graph W p)
-  placed-formed p x = go (place ws n e ns m d v c p)
-    where
-      go : Place ws n e ns m d v c p → Formed (graph W p)
-      go (is-sort a l f) = subst Formed (sym f) (sort-formed ws e p (rowAt ws p) (sort-parts-fine ws n e ns m d v c p l))
-      go (is-node i l y f) = subst Formed (sym f) (node-formed ns d n v i (nodeAt ns i) (node-parts-fine ws n e ns m d v c i l))
-      go (is-stray z f) = absurd (true-not-false (isPlace n m p) x z)
+  pub placed-formed : (p : ℕ) → PlacedIn W p → ShapeFormed (graph W p)
+  placed-formed = place-formed ws n e ns m d v c
 
   -- the parts of a sort are sorts
   pub sort-part-below : (p q : ℕ) (h : Head) (ps : List ℕ) → isSort p ≡ true → PlacedIn W p → graph W p ≡ over h ps → One q ps → q < n
@@ -113,7 +66,7 @@ module _ (W : Lent) (c : CheckedLent W) where
       go (is-stray z g) = absurd (true-not-false (isPlace n m p) x z)
 
   pub sort-placed : (p : ℕ) → p < n → PlacedIn W p
-  sort-placed p l = sort-is-place ws n e ns m d v c p l
+  sort-placed p l = sort-is-place n m p (c .sorts .sorts) l
 
   lower-graph : Lower (graph W) 3072
   lower-graph = lower ws n e ns m d v c
@@ -130,22 +83,14 @@ module _ (W : Lent) (c : CheckedLent W) where
   sort-term σ p l = sort-value ws n e ns m d v c σ (termIn W σ) (term-by-shape σ) (suc p) p (omega arith) l
 
   module _ (six : fixedSix ws n ≡ true) where
-    six-sorts : 6 ≤ n
-    unfolding fixedSix
-    six-sorts = leb-true 6 n (and-eq-true-iff (leb 6 n) (allBelow 6 (λ i. eqb (kindAt ws i) i)) .0 six .0)
-
-    fixed-kind : (i : ℕ) → i < 6 → kindAt ws i ≡ i
-    unfolding fixedSix
-    fixed-kind i l = eqb-true (kindAt ws i) i (below-each 6 (λ i. eqb (kindAt ws i) i) (and-eq-true-iff (leb 6 n) (allBelow 6 (λ i. eqb (kindAt ws i) i)) .0 six .1) i l)
-
     fixed-placed : (i : ℕ) → i < 6 → PlacedIn W i
-    fixed-placed i l = sort-is-place ws n e ns m d v c i (omega (arith, l, six-sorts))
+    fixed-placed i l = sort-placed i (omega (arith, l, fixed-six-kinds ws n six .0))
 
     fixed-shape : (i : ℕ) → i < 6 → graph W i ≡ sortShape ws (resolved i (partAt ws i) (record { start = startAt ws i; count = countAt ws i }))
     unfolding shapeAt
     fixed-shape i l =
         rw (fixed-placed i l, lt-ltb i maxSorts (omega (arith, l)))
-        (ap (λ k. sortShape ws (resolved k (partAt ws i) (record { start = startAt ws i; count = countAt ws i }))) (fixed-kind i l))
+        (ap (λ k. sortShape ws (resolved k (partAt ws i) (record { start = startAt ws i; count = countAt ws i }))) (fixed-six-kinds ws n six .1 i l))
 
     -- a primitive sort has its kind as its number
     pub primitive-placed : (s : Sort) → PlacedIn W (kindFlat (primitive s))

@@ -1,16 +1,12 @@
--- The rank of a place: the longest way down from it through parts and bindings. Where each variable has a number that falls to the variables of
--- what it is bound to, ranks are bounded, and binding a variable after the occurs check leaves such numbers. Assumes nothing.
-use mathlib.Core.Path.{_≡_, refl, ap, sym, _∙_, subst}
+-- The rank of a place: the longest way down from it through parts and bindings, cut at a depth. Where no way is as long as the depth, more depth changes
+-- nothing, and so the rank is found from the parts or from what the variable is bound to. And binding a free variable leaves one fewer free. Assumes nothing.
+use mathlib.Core.Path.{_≡_, refl, ap, sym, _∙_}
 use mathlib.Core.List.{List, [], _∷_}
 use mathlib.Core.Option.{Option, none, some}
-use mathlib.Core.Bool.{Bool, true, false, cond}
-use Prim.Native.Nat.{ℕ, zero, suc, _+_, _*_, _-_, _<_, _≤_, max}
+use Prim.Native.Nat.{ℕ, zero, suc, _<_, max}
 use native.Mathlib.Omega.{arith}
-use native.Mathlib.Nat.{mul-le-mul-right}
-use native.Mathlib.Decide.{ℕ-discrete}
-use lib.Dec.{eqb, ltb}
-use lib.ListN.{length, getD, set, length-set}
-use lib.Seq.{getD-set-same, getD-set-other}
+use lib.ListN.{length, set}
+use Rattle.resolved_sort.proofs.Reached.{no-confusion}
 use Rattle.unification.specs.Term.{Head, Shape, variable, over}
 use Rattle.unification.specs.Nodes.{Binds, binding}
 use Rattle.unification.specs.Trail.{freesAt, frees}
@@ -37,12 +33,14 @@ rank shape (suc k) B p = rankAt (rank shape k B) B (shape p)
 pub record Ranked (shape : ℕ → Shape) (w : ℕ) (B : Binds) : Type 0 where
   pub short : (p : ℕ) → rank shape w B p < w
 
-highest-agrees : (g g′ : ℕ → ℕ) (m : ℕ) → ((q : ℕ) → g q < m → g′ q ≡ g q) → (ps : List ℕ) → highest g ps < suc m → highest g′ ps ≡ highest g ps
-highest-agrees g g′ m h [] lt = refl
-highest-agrees g g′ m h (p ∷ ps) lt =
-    let a = h p (omega arith) in
-    let b = highest-agrees g g′ m h ps (omega arith) in
-    omega arith
+-- each part is below the rank of its list, and functions that agree on each part agree on the list
+pub one-highest : (g : ℕ → ℕ) (ps : List ℕ) (q : ℕ) → One q ps → g q < highest g ps
+one-highest g _ q (first ps) = omega arith
+one-highest g _ q (later p ps o) = omega (arith, one-highest g ps q o)
+
+pub highest-agree : (f g : ℕ → ℕ) (ps : List ℕ) → ((q : ℕ) → One q ps → f q ≡ g q) → highest f ps ≡ highest g ps
+highest-agree f g [] h = refl
+highest-agree f g (p ∷ ps) h = let a = h p (first ps) in let b = highest-agree f g ps (λ q o. h q (later p ps o)) in cc
 
 stable : (shape : ℕ → Shape) (B : Binds) (k p : ℕ) → rank shape k B p < k → rank shape (suc k) B p ≡ rank shape k B p
 unfolding rank
@@ -57,7 +55,7 @@ stable shape B (suc k) p lt = go (shape p) lt (stable shape B k)
     go : (s : Shape) → rankAt (rank shape k B) B s < suc k → ((q : ℕ) → rank shape k B q < k → rank shape (suc k) B q ≡ rank shape k B q)
         → rankAt (rank shape (suc k) B) B s ≡ rankAt (rank shape k B) B s
     go (variable v) lt ih = bound (binding B v) lt ih
-    go (over h ps) lt ih = highest-agrees (rank shape k B) (rank shape (suc k) B) k ih ps lt
+    go (over h ps) lt ih = highest-agree (rank shape (suc k) B) (rank shape k B) ps (λ q o. ih q (omega (arith, lt, one-highest (rank shape k B) ps q o)))
 
 -- the rank by its children
 pub rank-eq : (shape : ℕ → Shape) (w : ℕ) (B : Binds) → Ranked shape w B → (p : ℕ) → rank shape w B p ≡ rankAt (rank shape w B) B (shape p)
@@ -70,16 +68,13 @@ rank-var shape w B A p v q s l = rank-eq shape w B A p ∙ rw s (rw l)
 pub rank-over : (shape : ℕ → Shape) (w : ℕ) (B : Binds) → Ranked shape w B → (p : ℕ) (h : Head) (ps : List ℕ) → shape p ≡ over h ps → rank shape w B p ≡ highest (rank shape w B) ps
 rank-over shape w B A p h ps s = rank-eq shape w B A p ∙ rw s
 
-pub none-some : {A : Type 0} (x : ℕ) → _≡_ {A = Option ℕ} none (some x) → A
-none-some x e = absurd (let z : _≡_ {A = ℕ} 0 1 = cc in omega arith)
-
 pub frees-set : (B : Binds) (v r : ℕ) → v < length B → binding B v ≡ none → suc (frees (set B v (some r))) ≡ frees B
 frees-set [] v r lt free = absurd (omega arith)
 frees-set (o ∷ B) zero r lt free = go o free
   where
     go : (x : Option ℕ) → x ≡ none → suc (frees B) ≡ freesAt x (frees B)
     go none e = refl
-    go (some q) e = none-some q (sym e)
+    go (some q) e = no-confusion (cc)
 frees-set (o ∷ B) (suc v) r lt free = go o (frees-set B v r (omega arith) free)
   where
     go : (x : Option ℕ) → suc (frees (set B v (some r))) ≡ frees B → suc (freesAt x (frees (set B v (some r)))) ≡ freesAt x (frees B)

@@ -5,7 +5,7 @@ use mathlib.Core.Path.{_≡_, refl, ap, sym, _∙_, subst}
 use mathlib.Core.List.{List, [], _∷_, _++_}
 use mathlib.Core.Option.{some}
 use mathlib.Core.Bool.{Bool, true, false, cond}
-use Prim.Native.Nat.{ℕ, zero, suc, _+_, _-_, _<_, _≤_}
+use Prim.Native.Nat.{ℕ, zero, suc, _-_, _<_, _≤_}
 use native.Mathlib.Omega.{arith}
 use lib.ListN.{length, getD, take, length-append}
 use lib.Seq.{take-at, getD-at}
@@ -17,50 +17,42 @@ use Rattle.resolved_sort.specs.declared.ResolvedSort.{ResolvedSort}
 use Rattle.resolved_sort.specs.declared.ResolvedSort.the-variants.{Unit as UnitRow, Primitive, Container, Function as SortFunction, Def, TypeVar}
 use Rattle.resolved_sort.specs.Tree.{Flat}
 use Rattle.resolved_sort.specs.Storage.{maxSorts, entriesOf, rowAt}
-use Rattle.unification.specs.declared.Lengths.{Lengths}
+use Rattle.resolved_sort.proofs.Reached.{no-confusion}
 use Rattle.unification.specs.declared.InferSortId.{InferSortId}
 use Rattle.unification.specs.declared.InferSort.{InferSort}
 use Rattle.unification.specs.declared.InferSort.the-variants.{Generic, Function, Var}
 use Rattle.unification.specs.Term.{flatHead, containerHead, functionHead, strayHead, Shape, variable, over}
 use Rattle.unification.specs.Nodes.{nodeEntriesOf, nodeAt, sortShape, nodeShape, Lists, isSort, isPlace, shapeAt, Binds, bindsOf}
 use Rattle.unification.specs.Unify.{follow, deep}
-use Rattle.unification.specs.Checked.{graphOf, Ready}
+use Rattle.unification.specs.Checked.{Ready}
 use Rattle.unification.specs.Related.{relatedContainer}
 use Rattle.unification.specs.Making.{Lent, graph, Makes, made, no-list, _and-then_, relatedOver, pushFunctions, relatedPlaces, relatedShape, relatedEnd, relatedTo, strictRelated}
-use Rattle.unification.proofs.Rank.{highest, rank, Ranked, rank-over}
-use Rattle.unification.proofs.Numbering.{numbered-ranked}
-use Rattle.unification.proofs.Enough.{follow-some}
-use Rattle.unification.proofs.Lists.{length-entries, lower}
-use Rattle.unification.proofs.Theorem.{deep-enough}
-
-differ : {A : Type 0} → _≡_ {A = ℕ} 0 1 → A
-differ e = absurd (omega arith)
+use Rattle.unification.proofs.Rank.{rank, Ranked, rank-over, one-highest}
+use Rattle.unification.proofs.Enough.{follow-some, end-no-higher}
+use Rattle.unification.proofs.Parts.{one-at}
+use Rattle.unification.proofs.Rows.{length-entries, length-node-entries}
+use Rattle.unification.proofs.Theorem.{ready-ranked}
 
 -- The parts of a function: as many arguments as its head says, and then the range.
-pub length-node-entries : (ns : List ℕ) (s c : ℕ) → length (nodeEntriesOf ns s c) ≡ c
-unfolding nodeEntriesOf
-length-node-entries ns s zero = refl
-length-node-entries ns s (suc c) = omega (arith, length-node-entries ns (s + 1) c)
-
 one-more : (xs ps : List ℕ) (x c n : ℕ) → length xs ≡ c → c ≡ n → xs ++ (x ∷ []) ≡ ps → length ps ≡ suc n
 one-more xs ps x c n l e i = sym (ap length i) ∙ (length-append xs (x ∷ []) ∙ omega (arith, l, e))
 
 sort-function-parts : (ws : List ℕ) (r : ResolvedSort) (n : ℕ) (ps : List ℕ) → sortShape ws r ≡ over (functionHead n) ps → length ps ≡ suc n
 unfolding sortShape
-sort-function-parts ws UnitRow n ps e = differ (cc)
-sort-function-parts ws (Primitive s) n ps e = differ (cc)
-sort-function-parts ws (Container op s) n ps e = differ (cc)
+sort-function-parts ws UnitRow n ps e = no-confusion (cc)
+sort-function-parts ws (Primitive s) n ps e = no-confusion (cc)
+sort-function-parts ws (Container op s) n ps e = no-confusion (cc)
 sort-function-parts ws (SortFunction d r) n ps e =
     one-more (entriesOf ws (d .start) (d .count)) ps (r .0) (d .count) n (length-entries ws (d .start) (d .count)) (cc) (cc)
-sort-function-parts ws (Def x) n ps e = differ (cc)
-sort-function-parts ws (TypeVar x) n ps e = differ (cc)
+sort-function-parts ws (Def x) n ps e = no-confusion (cc)
+sort-function-parts ws (TypeVar x) n ps e = no-confusion (cc)
 
 node-function-parts : (ns : List ℕ) (r : InferSort) (n : ℕ) (ps : List ℕ) → nodeShape ns r ≡ over (functionHead n) ps → length ps ≡ suc n
 unfolding nodeShape
-node-function-parts ns (Generic op s) n ps e = differ (cc)
+node-function-parts ns (Generic op s) n ps e = no-confusion (cc)
 node-function-parts ns (Function d r) n ps e =
     one-more (nodeEntriesOf ns (d .start) (d .count)) ps (r .0) (d .count) n (length-node-entries ns (d .start) (d .count)) (cc) (cc)
-node-function-parts ns (Var v) n ps e = differ (cc)
+node-function-parts ns (Var v) n ps e = no-confusion (cc)
 
 pub function-parts : (L : Lists) (q n : ℕ) (ps : List ℕ) → shapeAt L q ≡ over (functionHead n) ps → length ps ≡ suc n
 unfolding shapeAt
@@ -69,18 +61,7 @@ function-parts L q n ps e = go (isPlace (L .sort-count) (L .node-count) q) (isSo
     go : (a b : Bool) → cond a (cond b (sortShape (L .sorts) (rowAt (L .sorts) q)) (nodeShape (L .nodes) (nodeAt (L .nodes) (q - maxSorts)))) (over (strayHead q) []) ≡ over (functionHead n) ps → length ps ≡ suc n
     go true true e = sort-function-parts (L .sorts) (rowAt (L .sorts) q) n ps e
     go true false e = node-function-parts (L .nodes) (nodeAt (L .nodes) (q - maxSorts)) n ps e
-    go false b e = differ (cc)
-
-getD-highest : (g : ℕ → ℕ) (ps : List ℕ) (n : ℕ) → n < length ps → g (getD ps n 0) < highest g ps
-getD-highest g [] n l = absurd (omega (arith, l))
-getD-highest g (p ∷ ps) zero l = omega arith
-getD-highest g (p ∷ ps) (suc n) l = omega (arith, getD-highest g ps n (omega (arith, l)))
-
--- ranks are bounded in lists that passed their checks
-pub ready-ranked : (ws ns bs : List ℕ) (k : Lengths) → Ready ws ns bs k → Ranked (graphOf ws ns k) deep (bindsOf bs (k .variables))
-ready-ranked ws ns bs k q =
-    numbered-ranked (graphOf ws ns k) 3072 (lower ws (k .sorts) (k .entries) ns (k .nodes) (k .arguments) (k .variables) (q .nodes)) (k .variables) (bindsOf bs (k .variables))
-    (q .binds .numbered) deep (deep-enough ws (k .sorts) (k .entries) ns (k .nodes) (k .arguments) (k .variables) (q .nodes))
+    go false b e = no-confusion (cc)
 
 module _ (W : Lent) (B : Binds) (A : Ranked (graph W) deep B) where
   abbrev ρ : ℕ → ℕ
@@ -89,15 +70,7 @@ module _ (W : Lent) (B : Binds) (A : Ranked (graph W) deep B) where
   -- the range of a function has a lower rank
   pub range-lower : (q n : ℕ) (ps : List ℕ) → graph W q ≡ over (functionHead n) ps → ρ (getD ps n 0) < ρ q
   range-lower q n ps s =
-      omega (arith, rank-over (graph W) deep B A q (functionHead n) ps s, getD-highest ρ ps n (omega (arith, function-parts _ q n ps s)))
-
-  -- and the end of a place no higher one
-  pub end-no-higher : (p q : ℕ) → follow (graph W) deep B p ≡ some q → ρ q ≤ ρ p
-  end-no-higher p q e =
-      let x = follow-some (graph W) deep B A deep p (A .short p) in
-      let y : some q ≡ some (x .0) = sym e ∙ x .1 in
-      let z : q ≡ x .0 = cc in
-      omega (arith, x .2, ap ρ z)
+      omega (arith, rank-over (graph W) deep B A q (functionHead n) ps s, one-highest ρ ps (getD ps n 0) (one-at ps n (omega (arith, function-parts _ q n ps s))))
 
   module _ (up : Bool) where
     agree : (f g : ℕ → Lent → Makes (List ℕ)) (q : ℕ) → ((r : ℕ) → ρ r < ρ q → f r W ≡ g r W) → (b : Bool) (s : Shape) → graph W q ≡ s → relatedShape up f b s W ≡ relatedShape up g b s W
@@ -154,7 +127,7 @@ module _ (W : Lent) (bs : List ℕ) (R : Ready (W .sorts) (W .nodes) bs (W .leng
     -- a function
     module _ (n : ℕ) (ps : List ℕ) (i : graph W q ≡ over (functionHead n) ps) where
       pub range-lower-than-place : rank (graph W) deep bound (getD ps n 0) < rank (graph W) deep bound p
-      range-lower-than-place = omega (arith, range-lower W bound ranked q n ps i, end-no-higher W bound ranked p q e)
+      range-lower-than-place = omega (arith, range-lower W bound ranked q n ps i, end-no-higher (graph W) deep bound ranked deep p q e)
 
       pub made-at-function : strictRelated up bound p W ≡ (strictRelated up bound (getD ps n 0) W and-then (pushFunctions (take n ps)))
       made-at-function = related-at (over (functionHead n) ps) i

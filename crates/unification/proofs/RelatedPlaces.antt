@@ -15,6 +15,7 @@ use Rattle.resolved_sort.specs.Tree.{Flat, unit, primitive, def, typevar, Tree,
 use Rattle.resolved_sort.specs.Interning.{look}
 use Rattle.resolved_sort.specs.Storage.{kindFlat, kindOp, trees}
 use Rattle.resolved_sort.specs.Checks.{fixedSix}
+use Rattle.resolved_sort.proofs.Reached.{no-confusion}
 use Rattle.unification.specs.Term.{flatHead, containerHead, functionHead, Term, app, Terms, no-part, part, Shape, over, termOf, termsOf, put}
 use Rattle.unification.specs.Nodes.{isSort, Binds, bindsOf}
 use Rattle.unification.specs.Unify.{follow, deep}
@@ -23,33 +24,32 @@ use Rattle.unification.specs.Solutions.{termsAt, termAt, Respects}
 use Rattle.unification.specs.Related.{relatedNumbers, relatedContainer, each, overPart, related}
 use Rattle.unification.specs.Making.{Lent, graph, Makes, made, _and-then_, pushNode, internContainer, only, relatedOver, pushFunctions, relatedPlaces, relatedShape, relatedEnd, relatedTo, strictRelated}
 use Rattle.unification.proofs.Exact.{shapeVal}
-use Rattle.unification.proofs.Lists.{none-of, one-of-one}
-use Rattle.unification.proofs.Agree.{Names, follow-names}
-use Rattle.unification.proofs.Grows.{CheckedLent, ReadyLent, PlacedIn, Grows, ready-names, parts-placed, grows-refl, grows-trans, placed-grown, agree-grown, term-grown}
+use Rattle.unification.proofs.Parts.{none-of, one-of-one, one-last, one-front}
+use Rattle.unification.proofs.Rows.{ShapeFormed, variable-formed, flat-formed, container-formed, function-formed}
+use Rattle.unification.proofs.Follow.{follow-names}
+use Rattle.unification.proofs.Agree.{Names}
+use Rattle.unification.proofs.Grows.{CheckedLent, ReadyLent, PlacedIn, Grows, ready-names, parts-placed, grows-refl, grows-trans, placed-grown, term-grown}
 use Rattle.unification.proofs.NodesGrow.{container-row}
 use Rattle.unification.proofs.MakingGrows.{MadeFrom, made-then, made-so, made-grows, AllPlaced, HasShape, push-grows, IsSort, container-grows, Functions, no-function, one-function, functions-grow}
-use Rattle.unification.proofs.PlaceTerms.{sort-placed, Formed, variable-formed, flat-formed, container-formed, function-formed, termIn, placed-formed, sort-part-below, term-by-shape, term-at-end, sort-term, primitive-placed, primitive-term}
-
-differ : {A : Type 0} → _≡_ {A = ℕ} 0 1 → A
-differ e = absurd (omega arith)
+use Rattle.unification.proofs.PlaceTerms.{sort-placed, termIn, placed-formed, sort-part-below, term-by-shape, term-at-end, sort-term, primitive-placed, primitive-term}
 
 -- the sort of a term with a known head
 flat-tree : (a : Flat) (us : Terms) (t : Tree) → app (flatHead a) us ≡ termOf t → t ≡ flat a
 unfolding termOf
 flat-tree a us (flat b) e = let z : b ≡ a = cc in ap flat z
-flat-tree a us (container o t) e = differ (cc)
-flat-tree a us (function ts r) e = differ (cc)
+flat-tree a us (container o t) e = no-confusion (cc)
+flat-tree a us (function ts r) e = no-confusion (cc)
 
 container-tree : (o : ComplexSort) (x : Term) (t : Tree) → app (containerHead o) (part x no-part) ≡ termOf t → (u : Tree) × (t ≡ container o u) × (x ≡ termOf u)
 unfolding termOf
-container-tree o x (flat b) e = differ (cc)
+container-tree o x (flat b) e = no-confusion (cc)
 container-tree o x (container p u) e = let z : p ≡ o = cc in let y : x ≡ termOf u = cc in (u, ap (λ q. container q u) z, y)
-container-tree o x (function ts r) e = differ (cc)
+container-tree o x (function ts r) e = no-confusion (cc)
 
 function-tree : (n : ℕ) (us : Terms) (t : Tree) → app (functionHead n) us ≡ termOf t → (ts : Trees) × (u : Tree) × (t ≡ function ts u) × (arity ts ≡ n) × (us ≡ termsOf ts (part (termOf u) no-part))
 unfolding termOf
-function-tree n us (flat b) e = differ (cc)
-function-tree n us (container p u) e = differ (cc)
+function-tree n us (flat b) e = no-confusion (cc)
+function-tree n us (container p u) e = no-confusion (cc)
 function-tree n us (function ts u) e = let z : arity ts ≡ n = cc in let y : us ≡ termsOf ts (part (termOf u) no-part) = cc in (ts, u, refl, z, y)
 
 -- Arguments and a range: what the range stands for, and that another range may be put in its place.
@@ -88,14 +88,6 @@ module _ (W : Lent) (c : CheckedLent W) (six : fixedSix (W .sorts) (W .lengths .
   flat-terms up (def n) σ = refl
   flat-terms up (typevar n) σ = refl
 
-one-last : (xs : List ℕ) (r : ℕ) → One r (xs ++ (r ∷ []))
-one-last [] r = first []
-one-last (x ∷ xs) r = later x (xs ++ (r ∷ [])) (one-last xs r)
-
-one-front : (q : ℕ) (xs ys : List ℕ) → One q xs → One q (xs ++ ys)
-one-front q _ ys (first xs) = first (xs ++ ys)
-one-front q _ ys (later x xs o) = later x (xs ++ ys) (one-front q xs ys o)
-
 one-placed : (W : Lent) (p : ℕ) → PlacedIn W p → AllPlaced W (p ∷ [])
 one-placed W p x q o = subst (PlacedIn W) (sym (one-of-one q p (p ∷ []) o refl)) x
 
@@ -111,8 +103,8 @@ module _ (W W₁ W₂ : Lent) (c : CheckedLent W) (g : Grows W W₁) (h : Grows 
       → each (termIn W₂ σ) ps ≡ each termOf (each (function ts) us)
   unfolding termOf
   functions-terms _ _ y no-function [] e = refl
-  functions-terms _ _ y no-function (u ∷ us) e = differ (cc)
-  functions-terms _ _ y (one-function r p rs ps z s f) [] e = differ (cc)
+  functions-terms _ _ y no-function (u ∷ us) e = no-confusion (cc)
+  functions-terms _ _ y (one-function r p rs ps z s f) [] e = no-confusion (cc)
   functions-terms _ _ y (one-function r p rs ps z s f) (u ∷ us) e =
       let i : termIn W₁ σ r ≡ termOf u = cc in
       let j : each (termIn W₁ σ) rs ≡ each termOf us = cc in
@@ -196,7 +188,7 @@ module _ (W : Lent) (c : CheckedLent W) (six : fixedSix (W .sorts) (W .lengths .
   related-made zero p x = grows-refl W c
   related-made (suc k) p x = ends (follow (graph W) deep B p) refl (related-made k)
     where
-      shapes : (q : ℕ) → PlacedIn W q → (s : Shape) → graph W q ≡ s → Formed s → ((r : ℕ) → PlacedIn W r → MadeFrom (Answer r) W (relatedTo up B k r W))
+      shapes : (q : ℕ) → PlacedIn W q → (s : Shape) → graph W q ≡ s → ShapeFormed s → ((r : ℕ) → PlacedIn W r → MadeFrom (Answer r) W (relatedTo up B k r W))
           → MadeFrom (Answer q) W (relatedShape up (relatedTo up B k) (isSort q) s W)
       shapes q y _ f (variable-formed v) ih = grows-refl W c
       shapes q y _ f (flat-formed a) ih = (grows-refl W c, at-flat q y a f)
@@ -208,7 +200,7 @@ module _ (W : Lent) (c : CheckedLent W) (six : fixedSix (W .sorts) (W .lengths .
       ends : (o : Option ℕ) → follow (graph W) deep B p ≡ o → ((r : ℕ) → PlacedIn W r → MadeFrom (Answer r) W (relatedTo up B k r W)) → MadeFrom (Answer p) W (relatedEnd up (relatedTo up B k) o W)
       ends none f ih = grows-refl W c
       ends (some q) f ih =
-          let y = follow-names (PlacedIn W) (graph W) (graph W) (agree-grown W c W (grows-refl W c)) B b deep p q x f in
+          let y = follow-names (graph W) B (PlacedIn W) b deep p q x f in
           made-so (Answer q) (Answer p) W (relatedShape up (relatedTo up B k) (isSort q) (graph W q) W) (shapes q y (graph W q) refl (placed-formed W c q y) ih)
           (λ qs W′ g h. (h .0, λ σ r t e. h .1 σ r t (sym (term-at-end W c B σ r deep p q f) ∙ e)))
 

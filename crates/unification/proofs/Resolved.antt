@@ -20,15 +20,16 @@ use Rattle.unification.specs.Checked.{NodesChecked, listsOf, BindsChecke
 use Rattle.unification.specs.Solutions.{termsAt, valueBound, valueAt, valueTo, termAt, Respects}
 use Rattle.unification.specs.Resolve.{value, firsts, treeOver, resolveTerm, resolveTerms, resolve, resolveOrDefault}
 use Rattle.unification.proofs.Exact.{shapeVal, follow-value}
-use Rattle.unification.proofs.Rank.{highest, rank, Ranked, rank-var, rank-over}
+use Rattle.unification.proofs.Rank.{highest, rank, Ranked, rank-var, rank-over, one-highest}
+use Rattle.unification.proofs.Parts.{puts-agree}
 use Rattle.unification.proofs.Numbering.{Lower}
 use Rattle.unification.proofs.Enough.{model}
 use Rattle.unification.proofs.Enough as Enough
 use Rattle.unification.proofs.Solved.{value-by-shape, solution}
 use Rattle.unification.proofs.Lists.{lower, scoped}
-use Rattle.unification.proofs.Theorem.{deep-enough}
+use Rattle.unification.proofs.Theorem.{deep-enough, checked-ranked}
 use Rattle.unification.proofs.ResolvedSorts.{count, HeadOver, Formed, AllFormed, firsts-arity}
-use Rattle.unification.proofs.ResolvedPlaces.{ranked, value-formed}
+use Rattle.unification.proofs.ResolvedPlaces.{value-formed}
 
 -- the variable v stands in a term
 unfoldable mutual
@@ -283,11 +284,6 @@ module _ (shape : ℕ → Shape) (w : ℕ) (B : Binds) (A : Ranked shape w B) wh
     abbrev now : ℕ → Term
     now p = put σ (termAt shape p)
 
-    puts-agree : (k : ℕ) (ps : List ℕ) → highest ρ ps < suc k → ((q : ℕ) → ρ q < k → put σ (val q) ≡ now q) → puts σ (termsAt val ps) ≡ termsAt now ps
-    unfolding puts
-    puts-agree k [] l ih = refl
-    puts-agree k (p ∷ ps) l ih = ap₂ part (ih p (omega (arith, l))) (puts-agree k ps (omega (arith, l)) ih)
-
     put-value-to : (k p : ℕ) → ρ p < k → put σ (val p) ≡ now p
     unfolding put
     put-value-to zero p l = absurd (omega (arith, l))
@@ -299,7 +295,7 @@ module _ (shape : ℕ → Shape) (w : ℕ) (B : Binds) (A : Ranked shape w B) wh
 
         go : (s : Shape) → shape p ≡ s → ((q : ℕ) → ρ q < k → put σ (val q) ≡ now q) → put σ (valueAt B var val s) ≡ shapeVal σ now s
         go (variable u) s ih = bound u (binding B u) s refl ih
-        go (over h ps) s ih = ap (app h) (puts-agree k ps (omega (arith, l, rank-over shape w B A p h ps s)) ih)
+        go (over h ps) s ih = ap (app h) (puts-agree σ val now ps (λ q o. ih q (omega (arith, l, rank-over shape w B A p h ps s, one-highest ρ ps q o))))
 
     pub put-value : (p : ℕ) → put σ (val p) ≡ now p
     put-value p = put-value-to w p (A .short p)
@@ -367,7 +363,7 @@ module _ (ws : List ℕ) (n e : ℕ) (ns : List ℕ) (m d v : ℕ) (c : NodesChe
   graph = shapeAt (listsOf ws n ns m)
 
   abbrev A : Ranked graph deep B
-  A = ranked ws n e ns m d v c B b
+  A = checked-ranked ws n e ns m d v c B b
 
   -- the term of a place by its shape
   pub value-eq : (p : ℕ) → value graph B p ≡ valueAt B var (value graph B) (graph p)

@@ -3,8 +3,8 @@
 use mathlib.Core.Path.{_≡_, refl, sym, _∙_, ap, ap₂, subst}
 use mathlib.Core.Bool.{true, and-eq-true-iff}
 use mathlib.Core.List.{List, [], _∷_, _++_}
-use mathlib.Core.Option.{Option, none, some}
-use Prim.Native.Nat.{ℕ, zero, suc, _+_, _-_, _<_, _≤_}
+use mathlib.Core.Option.{Option, some}
+use Prim.Native.Nat.{ℕ, suc, _+_, _-_, _<_, _≤_}
 use native.Mathlib.Omega.{arith}
 use lib.ListN.{length, getD, take, set, replicate, length-append}
 use Rattle.resolved_sort.specs.declared.SortId.{SortId}
@@ -30,14 +30,17 @@ use Rattle.resolved_sort.proofs.DomainCode.{domain-glue}
 use Rattle.resolved_sort.proofs.FunctionCode.{ReachedAll, reached-all, stopped-all, ended-all, first-ids, stored-nothing, stored-full, numbers-extend}
 use Rattle.resolved_sort.proofs.Unchanged.{look-unchanged}
 use Rattle.unification.specs.Term.{Head, containerHead, functionHead, Term, var, app, Terms, no-part, part, Shape, variable, over}
-use Rattle.unification.specs.Nodes.{isPlace, shapeAt, Binds, binding}
-use Rattle.unification.specs.Unify.{deep, followBound, followAt, follow}
-use Rattle.unification.specs.Acyclic.{One, first, later}
+use Rattle.unification.specs.Nodes.{isPlace, shapeAt, Binds}
+use Rattle.unification.specs.Unify.{deep, follow}
+use Rattle.unification.specs.Acyclic.{One}
 use Rattle.unification.specs.Checked.{NodesChecked, listsOf, BindsChecked}
 use Rattle.unification.specs.Solutions.{termsAt, valueBound, valueAt}
 use Rattle.unification.specs.Resolve.{value, firsts, treeOver, resolveTerm, resolveTerms, resolveArguments}
-use Rattle.unification.proofs.Exact.{follow-end}
-use Rattle.unification.proofs.ResolvedPlaces.{bound-is-place, ShapeOver, count-terms, terms-formed, part-is-place, place-over, value-formed, place-there, nodes-checked-there, binds-checked-there, value-there}
+use Rattle.unification.proofs.ResolvedPlaces.{ShapeOver, count-terms, terms-formed, place-over, value-formed, place-there, value-there}
+use Rattle.unification.proofs.Parts.{termsAt-agree}
+use Rattle.unification.proofs.Places.{bound-is-place}
+use Rattle.unification.proofs.Follow.{follow-end, follow-names}
+use Rattle.unification.proofs.Lists.{part-is-place}
 use Rattle.unification.proofs.Resolved.{value-eq, value-followed}
 use Rattle.unification.proofs.ResolvedSorts.{count, Formed, AllFormed, DefaultIn, default-extends, resolve-kept, grown-there, listed, firsts-listed, last-listed}
 
@@ -403,22 +406,15 @@ module _ (ws : List ℕ) (C : Counts) (k : Checked ws (C .sorts) (C .entries)) (
 -- places in what a call has left
 module _ (ws : List ℕ) (n e : ℕ) (ns : List ℕ) (m d v : ℕ) (c : NodesChecked ws n e ns m d v) (B : Binds) (b : BindsChecked (listsOf ws n ns m) v B)
     (S : Sorts) (g : Grown ws n e S) (vs : List ℕ) (K : Counts) (w : vs ≡ after ws n e S) (q : K ≡ countsOf S) where
-  pub left-nodes : NodesChecked vs (K .sorts) (K .entries) ns m d v
-  left-nodes = rw (w, q) (nodes-checked-there ws n e ns m d v c S g)
-
-  pub left-binds : BindsChecked (listsOf vs (K .sorts) ns m) v B
-  left-binds = rw (w, q) (binds-checked-there ws n e ns m d v c S g B b)
-
   pub left-place : (p : ℕ) → isPlace n m p ≡ true → isPlace (K .sorts) m p ≡ true
   left-place p i = rw q (place-there ws n e ns m d v c S g p i)
 
   pub left-value : (p : ℕ) → isPlace n m p ≡ true → value (shapeAt (listsOf vs (K .sorts) ns m)) B p ≡ value (shapeAt (listsOf ws n ns m)) B p
-  left-value p i = rw (w, q) (value-there ws n e ns m d v c S g B b var deep p i)
+  left-value p i = rw (w, q) (value-there ws n e ns m d v c S g B b p i)
 
   pub left-values : (ps : List ℕ) → ((p : ℕ) → One p ps → isPlace n m p ≡ true)
       → termsAt (value (shapeAt (listsOf vs (K .sorts) ns m)) B) ps ≡ termsAt (value (shapeAt (listsOf ws n ns m)) B) ps
-  left-values [] f = refl
-  left-values (p ∷ ps) f = ap₂ part (left-value p (f p (first ps))) (left-values ps (λ y o. f y (later p ps o)))
+  left-values ps f = termsAt-agree _ _ ps (λ p o. left-value p (f p o))
 
   -- and sorts: old numbers keep their sorts
   pub left-look : (j : ℕ) → j < n → look (trees vs (K .sorts)) j ≡ look (trees ws n) j
@@ -438,22 +434,8 @@ module _ (ws : List ℕ) (n e : ℕ) (ns : List ℕ) (m d v : ℕ) (c : NodesChe
   abbrev val : ℕ → Term
   val p = value graph B p
 
-  pub followed-is-place : (k p q : ℕ) → isPlace n m p ≡ true → follow graph k B p ≡ some q → isPlace n m q ≡ true
-  unfolding follow
-  followed-is-place zero p q i f = absurd (let z : _≡_ {A = ℕ} 0 1 = cc in omega arith)
-  followed-is-place (suc k) p q i f = go (graph p) f (followed-is-place k)
-    where
-      itself : some p ≡ some q → isPlace n m q ≡ true
-      itself z = let y : p ≡ q = cc in subst (λ x. isPlace n m x ≡ true) y i
-
-      bound : (u : ℕ) (o : Option ℕ) → binding B u ≡ o → followBound graph o p (follow graph k B) ≡ some q
-          → ((p q : ℕ) → isPlace n m p ≡ true → follow graph k B p ≡ some q → isPlace n m q ≡ true) → isPlace n m q ≡ true
-      bound u none y z ih = itself z
-      bound u (some r) y z ih = ih r q (bound-is-place n m B u r (b .places) y) z
-
-      go : (s : Shape) → followAt graph s B p (follow graph k B) ≡ some q → ((p q : ℕ) → isPlace n m p ≡ true → follow graph k B p ≡ some q → isPlace n m q ≡ true) → isPlace n m q ≡ true
-      go (variable u) z ih = bound u (binding B u) refl z ih
-      go (over h ps) z ih = itself z
+  followed-is-place : (k p q : ℕ) → isPlace n m p ≡ true → follow graph k B p ≡ some q → isPlace n m q ≡ true
+  followed-is-place = follow-names graph B (λ p. isPlace n m p ≡ true) (λ u q. bound-is-place n m B u q (b .places))
 
   module _ (p q : ℕ) (f : follow graph deep B p ≡ some q) where
     end-value : (s : Shape) → graph q ≡ s → val p ≡ valueAt B var val s

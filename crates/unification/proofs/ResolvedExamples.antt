@@ -18,9 +18,7 @@ use Rattle.unification.specs.Nodes as Nodes
 use Rattle.unification.specs.Solutions as Solutions
 use Rattle.unification.specs.Resolve.{resolve, resolveOrDefault}
 use Rattle.unification.specs.Resolve as Resolve
-
-row : ℕ → ℕ → ℕ → ℕ → List ℕ → List ℕ
-row kind part start count ws = kind ∷ part ∷ start ∷ count ∷ ws
+use Rattle.unification.proofs.Examples.{row}
 
 sorts : List ℕ
 sorts = row 0 0 0 0 (row 1 0 0 0 (row 2 0 0 0 (row 3 0 0 0 (row 4 0 0 0 (row 5 0 0 0 [])))))

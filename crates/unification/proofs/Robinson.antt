@@ -1,7 +1,7 @@
 -- Robinson's theorem: where variables are numbered, unify answers at the depths given; a no says that no terms for the variables respect the
 -- bindings and make the two sides equal; a yes leaves bindings that exactly these respect, numbered again. By the laws of exactness and of
 -- binding. The calls of unify end because free variables get fewer, or else ranks fall. Assumes nothing.
-use mathlib.Core.Path.{_≡_, refl, ap, sym, _∙_, subst}
+use mathlib.Core.Path.{_≡_, refl, ap, _∙_}
 use mathlib.Core.List.{List, [], _∷_}
 use mathlib.Core.Option.{Option, none, some}
 use mathlib.Core.Bool.{Bool, true, false, _&&_}
@@ -11,19 +11,17 @@ use native.Mathlib.Nat.{mul-le-mul-right}
 use native.Mathlib.Omega.{arith}
 use lib.Dec.{eqb}
 use lib.ListN.{length, set, length-set}
-use Rattle.unification.specs.Term.{Head, Term, Shape, variable, over, sameHead}
+use Rattle.resolved_sort.proofs.Reached.{no-confusion}
+use Rattle.unification.specs.Term.{Shape, variable, over, sameHead}
 use Rattle.unification.specs.Nodes.{isSort, Binds, binding}
 use Rattle.unification.specs.Acyclic.{Numbering}
 use Rattle.unification.specs.Trail.{frees}
 use Rattle.unification.specs.Unify.{Unifies, too-deep, no-way, yes-with, and-then, Occurs, unknown, absent, present, follow, occurs, bindUnless, unifyAll, unifyHeads, unifyVariables, unifyShapes, unifyApart, unifyEnds, unifyFollowed, unifyTo}
-use Rattle.unification.proofs.Exact.{Model, Exact, Apart, follow-end, unify-exact}
-use Rattle.unification.proofs.Rank.{highest, rank, Ranked, rank-var, rank-over, frees-set}
+use Rattle.unification.proofs.Rank.{highest, rank, Ranked, rank-over, frees-set}
+use Rattle.unification.proofs.Follow.{follow-end}
 use Rattle.unification.proofs.Numbering.{Lower, numbered-ranked}
 use Rattle.unification.proofs.Enough.{follow-some, occurs-eq, occurs-known}
 use Rattle.unification.proofs.Binding.{binding-numbered}
-
-differ : {A : Type 0} → _≡_ {A = ℕ} 0 1 → A
-differ e = absurd (omega arith)
 
 -- What a yes leaves: numbered bindings, of the same length, and either the same or with fewer free.
 pub record Next (shape : ℕ → Shape) (n : ℕ) (B C : Binds) : Type 0 where
@@ -136,15 +134,15 @@ module _ (shape : ℕ → Shape) (K : ℕ) (lower : Lower shape K) (n : ℕ) (sc
       → (B : Binds) (m : ℕ)
       → ((C : Binds) → length C ≡ n → Next shape n B C → (a b : ℕ) → rank shape w B a < m → f C a b ≡ too-deep → ⊥)
       → (xs ys : List ℕ) (C : Binds) → length C ≡ n → Next shape n B C → highest (rank shape w B) xs < suc m → unifyAll shape f C xs ys ≡ too-deep → ⊥
-  list-known f kept B m ih [] [] C len N lt e = differ (cc)
-  list-known f kept B m ih [] (y ∷ ys) C len N lt e = differ (cc)
-  list-known f kept B m ih (x ∷ xs) [] C len N lt e = differ (cc)
+  list-known f kept B m ih [] [] C len N lt e = no-confusion (cc)
+  list-known f kept B m ih [] (y ∷ ys) C len N lt e = no-confusion (cc)
+  list-known f kept B m ih (x ∷ xs) [] C len N lt e = no-confusion (cc)
   list-known f kept B m ih (x ∷ xs) (y ∷ ys) C len N lt e = go (f C x y) refl (kept C x y len (N .numbering)) e (list-known f kept B m ih xs ys)
     where
       go : (r : Unifies) → f C x y ≡ r → Kept shape n C r → and-then r (λ D. unifyAll shape f D xs ys) ≡ too-deep
           → ((D : Binds) → length D ≡ n → Next shape n B D → highest (rank shape w B) xs < suc m → unifyAll shape f D xs ys ≡ too-deep → ⊥) → ⊥
       go too-deep i z e t = ih C len N x y (omega arith) i
-      go no-way i z e t = differ (cc)
+      go no-way i z e t = no-confusion (cc)
       go (yes-with D) i z e t = t D (z .long ∙ len) (next-trans shape n B C D N z) (omega arith) e
 
   pub depth-left : (B C : Binds) → Numbering shape n B → Next shape n B C → (a m k : ℕ) → rank shape w B a < m → frees B * w + m < suc k → frees C * w + rank shape w C a < k
@@ -172,18 +170,18 @@ module _ (shape : ℕ → Shape) (K : ℕ) (lower : Lower shape K) (n : ℕ) (sc
     where
       bind : (v q : ℕ) → rank shape w B q < w → (a : Occurs) → occurs shape w B v q ≡ a → bindUnless shape a B v q ≡ too-deep → ⊥
       bind v q lt unknown o e = occurs-known shape w B (ranks B F) v w q lt o
-      bind v q lt present o e = differ (cc)
-      bind v q lt absent o e = differ (cc)
+      bind v q lt present o e = no-confusion (cc)
+      bind v q lt absent o e = no-confusion (cc)
 
       vars : (b : Bool) (v q : ℕ) → unifyVariables shape b B v q ≡ too-deep → ⊥
-      vars true v q e = differ (cc)
-      vars false v q e = differ (cc)
+      vars true v q e = no-confusion (cc)
+      vars false v q e = no-confusion (cc)
 
       heads : (b : Bool) (ps ps′ : List ℕ) → highest (rank shape w B) ps < suc (rank shape w B l) → unifyHeads shape b (unifyTo shape w k) B ps ps′ ≡ too-deep
           → ((C : Binds) → length C ≡ n → Next shape n B C → (a b : ℕ) → rank shape w B a < rank shape w B l → unifyTo shape w k C a b ≡ too-deep → ⊥) → ⊥
       heads true ps ps′ lt e ih =
           list-known (unifyTo shape w k) (unify-kept k) B (rank shape w B l) ih ps ps′ B len (next-refl shape n B F) lt e
-      heads false ps ps′ lt e ih = differ (cc)
+      heads false ps ps′ lt e ih = no-confusion (cc)
 
       ends : (l′ r′ : ℕ) → rank shape w B l′ ≤ rank shape w B l → rank shape w B r′ ≤ rank shape w B r → (s t : Shape) → shape l′ ≡ s → shape r′ ≡ t
           → unifyShapes shape w (unifyTo shape w k) B l′ s r′ t ≡ too-deep
@@ -200,11 +198,11 @@ module _ (shape : ℕ → Shape) (K : ℕ) (lower : Lower shape K) (n : ℕ) (sc
       apart : (l′ r′ : ℕ) → rank shape w B l′ ≤ rank shape w B l → rank shape w B r′ ≤ rank shape w B r → (c : Bool)
           → unifyApart shape c w (unifyTo shape w k) B l′ r′ ≡ too-deep
           → ((C : Binds) → length C ≡ n → Next shape n B C → (a b : ℕ) → rank shape w B a < rank shape w B l → unifyTo shape w k C a b ≡ too-deep → ⊥) → ⊥
-      apart l′ r′ ll lr true e ih = differ (cc)
+      apart l′ r′ ll lr true e ih = no-confusion (cc)
       apart l′ r′ ll lr false e ih = ends l′ r′ ll lr (shape l′) (shape r′) refl refl e ih
 
       same-ends : (l′ r′ : ℕ) → rank shape w B l′ ≤ rank shape w B l → rank shape w B r′ ≤ rank shape w B r → (b : Bool)
           → unifyEnds shape b w (unifyTo shape w k) B l′ r′ ≡ too-deep
           → ((C : Binds) → length C ≡ n → Next shape n B C → (a b : ℕ) → rank shape w B a < rank shape w B l → unifyTo shape w k C a b ≡ too-deep → ⊥) → ⊥
-      same-ends l′ r′ ll lr true e ih = differ (cc)
+      same-ends l′ r′ ll lr true e ih = no-confusion (cc)
       same-ends l′ r′ ll lr false e ih = apart l′ r′ ll lr (isSort l′ && isSort r′) e ih

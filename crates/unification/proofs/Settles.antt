@@ -2,25 +2,25 @@
 -- is bound to. Assumes nothing.
 use mathlib.Core.Path.{_≡_, refl, ap, sym, _∙_, subst}
 use mathlib.Core.List.{List, [], _∷_, _++_}
-use mathlib.Core.Option.{Option, none, some}
-use mathlib.Core.Bool.{Bool, true, false, cond, _&&_, and-eq-true-iff}
+use mathlib.Core.Option.{some}
+use mathlib.Core.Bool.{Bool, true, false, cond, and-eq-true-iff}
 use Prim.Native.Nat.{ℕ, zero, suc, _+_, _-_, _<_, _≤_}
 use native.Mathlib.Omega.{arith}
 use lib.ListN.{length, getD, replicate, length-append, length-replicate}
 use lib.Seq.{getD-append-seam}
 use lib.Dec.{ltb}
-use borrow.Author.Tests.{ltb-true, lt-ltb}
+use borrow.Author.Tests.{ltb-true, lt-ltb, le-ltb}
 use Rattle.resolved_sort.specs.Storage.{maxSorts, rowAt}
 use Rattle.resolved_sort.proofs.Numbers.{true-not-false}
-use Rattle.unification.specs.Term.{Head, strayHead, Shape, variable, over}
-use Rattle.unification.specs.Nodes.{nodeAt, sortShape, nodeShape, Lists, isSort, isPlace, shapeAt, Binds, binding}
+use Rattle.resolved_sort.proofs.Reached.{no-confusion}
+use Rattle.unification.specs.Term.{strayHead, variable, over}
+use Rattle.unification.specs.Nodes.{nodeAt, nodeShape, Lists, isSort, isPlace, shapeAt, Binds, binding}
 use Rattle.unification.specs.Acyclic.{One, first, later, Stands, at, within, Numbering, placeSettled, allSettled, shapeSettled, nodesSettled, bindingSettled, varsSettled, rounds, all, acyclic}
 use Rattle.unification.specs.Checked.{NodesChecked, listsOf}
 use Rattle.unification.proofs.Numbering.{numbered}
-use Rattle.unification.proofs.Lists.{none-of, sort-parts, sort-parts-fine, sort-no-variable, node-parts, node-parts-fine, Place, is-sort, is-node, is-stray, place, scoped}
-
-differ : {A : Type 0} → _≡_ {A = ℕ} 0 1 → A
-differ e = absurd (omega arith)
+use Rattle.unification.proofs.Parts.{none-of}
+use Rattle.unification.proofs.Rows.{sort-parts, sort-no-variable, node-parts}
+use Rattle.unification.proofs.Lists.{sort-parts-fine, node-parts-fine, Place, is-sort, is-node, is-stray, place, scoped}
 
 all-one : (ms : List Bool) (q : ℕ) (ps : List ℕ) → One q ps → allSettled ms ps ≡ true → placeSettled ms q ≡ true
 unfolding allSettled
@@ -59,9 +59,9 @@ node-is ns vs m i l =
     ap (λ (x : ℕ). getD (nodesSettled ns vs x) i false) (let z : m ≡ suc i + (m - suc i) = omega (arith, l) in z)
     ∙ (node-longer ns vs (m - suc i) (suc i) i (omega arith) ∙ node-last ns vs i)
 
-pub place-longer : (ns : List ℕ) (vs : List Bool) (n m i q : ℕ) → i ≤ m → isPlace n i q ≡ true → placeSettled (nodesSettled ns vs i) q ≡ placeSettled (nodesSettled ns vs m) q
+pub settled-longer : (ns : List ℕ) (vs : List Bool) (n m i q : ℕ) → i ≤ m → isPlace n i q ≡ true → placeSettled (nodesSettled ns vs i) q ≡ placeSettled (nodesSettled ns vs m) q
 unfolding isPlace
-place-longer ns vs n m i q l e = go (isSort q) refl e
+settled-longer ns vs n m i q l e = go (isSort q) refl e
   where
     go : (b : Bool) → isSort q ≡ b → cond b (ltb q n) (ltb (q - maxSorts) i) ≡ true
         → cond b true (getD (nodesSettled ns vs i) (q - maxSorts) false) ≡ cond b true (getD (nodesSettled ns vs m) (q - maxSorts) false)
@@ -71,13 +71,12 @@ place-longer ns vs n m i q l e = go (isSort q) refl e
         (ap (λ (x : ℕ). getD (nodesSettled ns vs x) (q - maxSorts) false) (let z : m ≡ i + (m - i) = omega (arith, l) in z)
         ∙ node-longer ns vs (m - i) i (q - maxSorts) (ltb-true (q - maxSorts) i e))
 
--- a node's place is settled as its flag says
+-- a sort is settled, and a node's place is settled as its flag says
+pub sort-settled : (ms : List Bool) (q : ℕ) → q < maxSorts → placeSettled ms q ≡ true
+sort-settled ms q l = rw (lt-ltb q maxSorts l)
+
 pub node-flag : (ms : List Bool) (p i : ℕ) → p ≡ maxSorts + i → getD ms i false ≡ placeSettled ms p
-node-flag ms p i x = go (isSort p) refl
-  where
-    go : (b : Bool) → isSort p ≡ b → getD ms i false ≡ cond b true (getD ms (p - maxSorts) false)
-    go true s = absurd (omega (arith, ltb-true p maxSorts s, x))
-    go false s = ap (λ (j : ℕ). getD ms j false) (omega (arith, x))
+node-flag ms p i x = rw (le-ltb p maxSorts (omega (arith, x))) (ap (λ (j : ℕ). getD ms j false) (omega (arith, x)))
 
 -- variables
 pub var-is : (ms : List Bool) (B : Binds) (v : ℕ) → v < length B → getD (varsSettled ms B) v false ≡ bindingSettled ms (binding B v)
@@ -87,7 +86,7 @@ var-is ms (b ∷ B) zero l = refl
 var-is ms (b ∷ B) (suc v) l = var-is ms B v (omega (arith, l))
 
 bound-inside : (B : Binds) (v q : ℕ) → binding B v ≡ some q → v < length B
-bound-inside [] v q e = differ (cc)
+bound-inside [] v q e = no-confusion (cc)
 bound-inside (b ∷ B) zero q e = omega arith
 bound-inside (b ∷ B) (suc v) q e = omega (arith, bound-inside B v q e)
 
@@ -122,9 +121,6 @@ module _ (ws : List ℕ) (n e : ℕ) (ns : List ℕ) (m d v : ℕ) (c : NodesChe
   abbrev flags : ℕ → List Bool
   flags k = nodesSettled ns (rounds ns m B k) m
 
-  sort-flag : (ms : List Bool) (q : ℕ) → q < maxSorts → placeSettled ms q ≡ true
-  sort-flag ms q l = rw (lt-ltb q maxSorts l)
-
   -- what stands in a settled sort is settled
   stands-settled : (k u p : ℕ) → Stands (shapeAt L) u p → placeSettled (flags k) p ≡ true → settled k u ≡ true
   stands-settled k u _ (at p s) f = go (place ws n e ns m d v c p)
@@ -134,15 +130,15 @@ module _ (ws : List ℕ) (n e : ℕ) (ns : List ℕ) (m d v : ℕ) (c : NodesChe
       go (is-node i l x g) =
           let y : nodeShape ns (nodeAt ns i) ≡ variable u = sym g ∙ s in
           sym (ap (shapeSettled (rounds ns m B k) (nodesSettled ns (rounds ns m B k) i)) y) ∙ (sym (node-is ns (rounds ns m B k) m i l) ∙ (node-flag (flags k) p i x ∙ f))
-      go (is-stray z g) = let y : over (strayHead p) [] ≡ variable u = sym g ∙ s in differ (cc)
+      go (is-stray z g) = let y : over (strayHead p) [] ≡ variable u = sym g ∙ s in no-confusion (cc)
   stands-settled k u _ (within p q h ps s o t) f = stands-settled k u q t (go (place ws n e ns m d v c p))
     where
       go : Place ws n e ns m d v c p → placeSettled (flags k) q ≡ true
-      go (is-sort a l g) = sort-flag (flags k) q (omega (arith, sort-parts ws e p (rowAt ws p) (sort-parts-fine ws n e ns m d v c p l) q h ps (sym g ∙ s) o, l, c .sorts .sorts))
+      go (is-sort a l g) = sort-settled (flags k) q (omega (arith, sort-parts ws e p (rowAt ws p) (sort-parts-fine ws n e ns m d v c p l) q h ps (sym g ∙ s) o, l, c .sorts .sorts))
       go (is-node i l x g) =
           let y : nodeShape ns (nodeAt ns i) ≡ over h ps = sym g ∙ s in
           let z = sym (ap (shapeSettled (rounds ns m B k) (nodesSettled ns (rounds ns m B k) i)) y) ∙ (sym (node-is ns (rounds ns m B k) m i l) ∙ (node-flag (flags k) p i x ∙ f)) in
-          sym (place-longer ns (rounds ns m B k) n m i q (omega (arith, l)) (node-parts ns d n v i (nodeAt ns i) (c .sorts .sorts) (node-parts-fine ws n e ns m d v c i l) q h ps y o))
+          sym (settled-longer ns (rounds ns m B k) n m i q (omega (arith, l)) (node-parts ns d n v i (nodeAt ns i) (node-parts-fine ws n e ns m d v c i l) q h ps y o))
           ∙ all-one (nodesSettled ns (rounds ns m B k) i) q ps o z
       go (is-stray z g) = none-of q ps o (let y : over (strayHead p) [] ≡ over h ps = sym g ∙ s in let w : ps ≡ [] = cc in w)
 

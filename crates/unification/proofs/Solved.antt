@@ -1,46 +1,37 @@
 -- Robinson's theorem over the terms of places: a solution of the bindings is a model, and what a model gives a place is the term that stands
 -- there with the variables' terms put in. Assumes nothing.
-use mathlib.Core.Path.{_≡_, refl, ap, sym, _∙_, subst}
-use mathlib.Core.List.{List, [], _∷_}
-use mathlib.Core.Option.{Option, none, some}
+use mathlib.Core.Path.{_≡_, refl, ap, sym, _∙_}
+use mathlib.Core.Option.{none, some}
 use Prim.Native.Nat.{ℕ, zero, suc, _+_, _*_, _<_, _≤_}
 use native.Mathlib.Omega.{arith}
 use lib.ListN.{length}
-use Rattle.unification.specs.Term.{Head, Term, var, app, Terms, no-part, part, Shape, variable, over, put, puts}
+use Rattle.unification.specs.Term.{Term, app, Shape, variable, over, put}
 use Rattle.unification.specs.Nodes.{Binds, binding}
 use Rattle.unification.specs.Unify.{Unifies, too-deep, no-way, yes-with, unifyTo}
-use Rattle.unification.specs.Acyclic.{One, first, later, Reaches, here, inside, beyond, Acyclic, Numbering}
-use Rattle.unification.specs.Solutions.{termsAt, termOfShape, termTo, termAt, valueBound, valueTo, Respects, Equates, Robinson, says-no, says-yes}
+use Rattle.unification.specs.Acyclic.{Reaches, here, inside, beyond, Acyclic, Numbering}
+use Rattle.unification.specs.Solutions.{termOfShape, termTo, termAt, valueBound, valueTo, Respects, Robinson, says-no, says-yes}
 use Rattle.unification.proofs.Exact.{shapeVal, Model, Exact, Apart, unify-exact}
-use Rattle.unification.proofs.Rank.{highest, rank, Ranked, rank-var, rank-over}
+use Rattle.unification.proofs.Rank.{rank, Ranked, rank-var, rank-over, one-highest}
+use Rattle.unification.proofs.Parts.{termsAt-agree, puts-agree}
 use Rattle.unification.proofs.Numbering.{Lower, numbered-ranked}
 use Rattle.unification.proofs.Enough.{model}
-use Rattle.unification.proofs.Robinson.{Next, Kept, unify-kept}
+use Rattle.unification.proofs.Robinson.{Kept, unify-kept}
 use Rattle.unification.proofs.Equations.{unify-answers}
 
 module _ (shape : ℕ → Shape) (K : ℕ) (lower : Lower shape K) where
   -- the term of a place does not depend on the depth, once it is above the number
-  terms-agree : (f g : ℕ → Term) (ps : List ℕ) → ((q : ℕ) → One q ps → f q ≡ g q) → termsAt f ps ≡ termsAt g ps
-  terms-agree f g [] h = refl
-  terms-agree f g (p ∷ ps) h = let a = h p (first ps) in let b = terms-agree f g ps (λ q o. h q (later p ps o)) in cc
-
-  deep-enough : (k j p : ℕ) → p < k → p < j → termTo shape k p ≡ termTo shape j p
+  same-at-depth : (k j p : ℕ) → p < k → p < j → termTo shape k p ≡ termTo shape j p
   unfolding termTo
-  deep-enough zero j p l m = absurd (omega (arith, l))
-  deep-enough (suc k) zero p l m = absurd (omega (arith, m))
-  deep-enough (suc k) (suc j) p l m = go (shape p) refl (deep-enough k j)
+  same-at-depth zero j p l m = absurd (omega (arith, l))
+  same-at-depth (suc k) zero p l m = absurd (omega (arith, m))
+  same-at-depth (suc k) (suc j) p l m = go (shape p) refl (same-at-depth k j)
     where
       go : (s : Shape) → shape p ≡ s → ((q : ℕ) → q < k → q < j → termTo shape k q ≡ termTo shape j q) → termOfShape (termTo shape k) s ≡ termOfShape (termTo shape j) s
       go (variable v) e ih = refl
-      go (over h ps) e ih = ap (app h) (terms-agree (termTo shape k) (termTo shape j) ps (λ q o. let x = lower p q h ps e o in ih q (omega (arith, l, x .0)) (omega (arith, m, x .0))))
+      go (over h ps) e ih = ap (app h) (termsAt-agree (termTo shape k) (termTo shape j) ps (λ q o. let x = lower p q h ps e o in ih q (omega (arith, l, x .0)) (omega (arith, m, x .0))))
 
   abbrev pub value : (ℕ → Term) → ℕ → Term
   value σ p = put σ (termAt shape p)
-
-  values-put : (σ : ℕ → Term) (f : ℕ → Term) (ps : List ℕ) → ((q : ℕ) → One q ps → put σ (f q) ≡ value σ q) → puts σ (termsAt f ps) ≡ termsAt (value σ) ps
-  unfolding puts
-  values-put σ f [] h = refl
-  values-put σ f (p ∷ ps) h = let a = h p (first ps) in let b = values-put σ f ps (λ q o. h q (later p ps o)) in cc
 
   -- what a place stands for, by its shape
   pub value-by-shape : (σ : ℕ → Term) (p : ℕ) → value σ p ≡ shapeVal σ (value σ) (shape p)
@@ -50,7 +41,7 @@ module _ (shape : ℕ → Shape) (K : ℕ) (lower : Lower shape K) where
       go : (s : Shape) → shape p ≡ s → put σ (termOfShape (termTo shape p) s) ≡ shapeVal σ (value σ) s
       go (variable v) e = refl
       go (over h ps) e =
-          ap (app h) (values-put σ (termTo shape p) ps (λ q o. ap (put σ) (deep-enough p (suc q) q (lower p q h ps e o .0) (omega arith))))
+          ap (app h) (puts-agree σ (termTo shape p) (value σ) ps (λ q o. ap (put σ) (same-at-depth p (suc q) q (lower p q h ps e o .0) (omega arith))))
 
   pub model-of : (B : Binds) (σ : ℕ → Term) → Respects shape B σ → Model shape B σ (value σ)
   model-of B σ r = record { isval = value-by-shape σ; sat = r }
@@ -59,10 +50,6 @@ module _ (shape : ℕ → Shape) (K : ℕ) (lower : Lower shape K) where
   respects-of B σ m = m .sat
 
   -- a model gives each place that term
-  termsAt-agree : (val g : ℕ → Term) (ps : List ℕ) → ((q : ℕ) → One q ps → val q ≡ g q) → termsAt val ps ≡ termsAt g ps
-  termsAt-agree val g [] h = refl
-  termsAt-agree val g (p ∷ ps) h = let a = h p (first ps) in let b = termsAt-agree val g ps (λ q o. h q (later p ps o)) in cc
-
   value-of-model : (B : Binds) (σ val : ℕ → Term) → Model shape B σ val → (k p : ℕ) → p < k → val p ≡ value σ p
   value-of-model B σ val m zero p l = absurd (omega (arith, l))
   value-of-model B σ val m (suc k) p l = m .isval p ∙ (go (shape p) refl (value-of-model B σ val m k) ∙ sym (value-by-shape σ p))
@@ -75,10 +62,6 @@ module _ (shape : ℕ → Shape) (K : ℕ) (lower : Lower shape K) where
   respects-model B σ val m v q e = m .sat v q e ∙ value-of-model B σ val m (suc q) q (omega arith)
 
   -- numbered variables do not reach themselves: ranks fall
-  one-below : (g : ℕ → ℕ) (ps : List ℕ) (q : ℕ) → One q ps → g q < highest g ps
-  one-below g _ q (first ps) = omega arith
-  one-below g _ q (later p ps o) = omega (arith, one-below g ps q o)
-
   module _ (n : ℕ) (scoped : (p v : ℕ) → shape p ≡ variable v → v < n) (w : ℕ) (deep : suc n * suc K + K < w) where
     module _ (B : Binds) (N : Numbering shape n B) where
       abbrev A : Ranked shape w B
@@ -90,7 +73,7 @@ module _ (shape : ℕ → Shape) (K : ℕ) (lower : Lower shape K) where
       -- what v is bound to stands no lower than what v occurs in
       reaches-down : (v q p : ℕ) → binding B v ≡ some q → Reaches shape B v p → ρ q < ρ p
       reaches-down v q _ e (here p s) = omega (arith, rank-var shape w B A p v q s e)
-      reaches-down v q _ e (inside p r h ps s o t) = omega (arith, reaches-down v q r e t, rank-over shape w B A p h ps s, one-below ρ ps r o)
+      reaches-down v q _ e (inside p r h ps s o t) = omega (arith, reaches-down v q r e t, rank-over shape w B A p h ps s, one-highest ρ ps r o)
       reaches-down v q _ e (beyond p u r s b t) = omega (arith, reaches-down v q r e t, rank-var shape w B A p u r s b)
 
       pub numbered-acyclic : Acyclic shape B

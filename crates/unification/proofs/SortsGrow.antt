@@ -2,19 +2,19 @@
 -- place is a place among more sorts. Assumes nothing.
 use mathlib.Core.Path.{_≡_, refl, ap, _∙_}
 use mathlib.Core.List.{List, [], _∷_, _++_}
-use mathlib.Core.Bool.{true, _&&_, and-eq-true-iff}
+use mathlib.Core.Bool.{true}
 use Prim.Native.Nat.{ℕ, _+_, _-_, _<_, _≤_}
 use native.Mathlib.Omega.{arith}
 use lib.ListN.{length}
-use lib.Dec.{eqb, leb, ltb}
-use borrow.Author.Tests.{leb-true, le-leb}
+use lib.Dec.{eqb}
+use borrow.Author.Tests.{le-leb, eq-eqb}
 use Rattle.resolved_sort.specs.declared.ResolvedSort.{ResolvedSort}
 use Rattle.resolved_sort.specs.declared.ResolvedSort.the-variants.{Unit as UnitRow, Primitive, Container, Function as SortFunction, Def, TypeVar}
 use Rattle.resolved_sort.specs.Interning.{Sorts}
 use Rattle.resolved_sort.specs.Storage.{maxEntries, kindAt, resolved, rowAt}
 use Rattle.resolved_sort.specs.Entries.{after}
-use Rattle.resolved_sort.specs.Checks.{allBelow, fixedSix, partsBelow}
-use Rattle.resolved_sort.proofs.Below.{below-each, each-below}
+use Rattle.resolved_sort.specs.Checks.{fixedSix, partsBelow}
+use Rattle.resolved_sort.proofs.Below.{each-below}
 use Rattle.resolved_sort.proofs.Append.{Agrees, entries-agree}
 use Rattle.resolved_sort.proofs.Grown.{Grown}
 use Rattle.resolved_sort.proofs.Unchanged.{longer, entries-longer, unchanged, length-after, look-unchanged}
@@ -25,6 +25,7 @@ use Rattle.unification.specs.declared.Lengths.{Lengths}
 use Rattle.unification.specs.Checked.{Ready}
 use Rattle.unification.specs.Making.{Lent}
 use Rattle.unification.proofs.Lists.{sort-parts-fine}
+use Rattle.unification.proofs.Rows.{sort-function-fine, fixed-six-kinds}
 use Rattle.unification.proofs.Grows.{CheckedLent, Grows, rows-same, node-fine-longer, ready-grown}
 
 -- the lists with the sorts S
@@ -54,15 +55,12 @@ module _ (ws us : List ℕ) (n e : ℕ) (a : Agrees ws us n e) where
 
   -- a row whose run is inside the entries has the same shape
   sort-shape : (i : ℕ) (r : ResolvedSort) → partsBelow ws e i r ≡ true → sortShape us r ≡ sortShape ws r
-  unfolding partsBelow sortShape
+  unfolding sortShape
   sort-shape i UnitRow f = refl
   sort-shape i (Primitive s) f = refl
   sort-shape i (Container op s) f = refl
   sort-shape i (SortFunction domain range) f =
-      let x = and-eq-true-iff (leb (domain .count) 16 && leb (domain .start + domain .count) e && ltb (range .0) i) _ .0 f in
-      let y = and-eq-true-iff (leb (domain .count) 16 && leb (domain .start + domain .count) e) (ltb (range .0) i) .0 (x .0) in
-      let z = and-eq-true-iff (leb (domain .count) 16) (leb (domain .start + domain .count) e) .0 (y .0) in
-      let l = leb-true (domain .start + domain .count) e (z .1) in
+      let l = sort-function-fine ws e i domain (range .0) f .inside in
       ap (λ xs. over (functionHead (domain .count)) (xs ++ (range .0 ∷ []))) (entries-agree us ws (domain .start) (domain .count) (λ j h. a .entries (domain .start + j) (omega (arith, l, h))))
   sort-shape i (Def x) f = refl
   sort-shape i (TypeVar x) f = refl
@@ -70,10 +68,8 @@ module _ (ws us : List ℕ) (n e : ℕ) (a : Agrees ws us n e) where
   fixed-six-same : (m : ℕ) → n ≤ m → fixedSix ws n ≡ true → fixedSix us m ≡ true
   unfolding fixedSix
   fixed-six-same m l f =
-      let x = and-eq-true-iff (leb 6 n) (allBelow 6 (λ i. eqb (kindAt ws i) i)) .0 f in
-      let y = leb-true 6 n (x .0) in
-      rw (le-leb 6 m (omega (arith, y, l)))
-      (each-below 6 (λ i. eqb (kindAt us i) i) (λ i h. ap (λ k. eqb k i) (a .kinds i (omega (arith, y, h))) ∙ below-each 6 (λ i. eqb (kindAt ws i) i) (x .1) i h))
+      let x = fixed-six-kinds ws n f in
+      rw (le-leb 6 m (omega (arith, x .0, l))) (each-below 6 (λ i. eqb (kindAt us i) i) (λ i h. eq-eqb (kindAt us i) i (a .kinds i (omega (arith, x .0, h)) ∙ x .1 i h)))
 
 module _ (W : Lent) (c : CheckedLent W) (S : Sorts) (g : Grown (W .sorts) (W .lengths .sorts) (W .lengths .entries) S) where
   abbrev n : ℕ

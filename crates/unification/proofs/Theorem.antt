@@ -6,12 +6,15 @@ use mathlib.Core.Logic.{_↔_}
 use Prim.Native.Nat.{ℕ, suc, _+_, _*_, _<_, _≤_}
 use native.Mathlib.Omega.{arith}
 use lib.ListN.{length}
-use Rattle.unification.specs.Nodes.{shapeAt, Binds}
-use Rattle.unification.specs.Unify.{Unifies, deep, deeper, unifyTo, unify}
+use Rattle.unification.specs.declared.Lengths.{Lengths}
+use Rattle.unification.specs.Nodes.{shapeAt, Binds, bindsOf}
+use Rattle.unification.specs.Unify.{deep, deeper, unify}
 use Rattle.unification.specs.Acyclic.{Acyclic, acyclic}
 use Rattle.unification.specs.NodeChecks.{bindingsFine}
-use Rattle.unification.specs.Checked.{NodesChecked, listsOf, BindsChecked}
+use Rattle.unification.specs.Checked.{NodesChecked, listsOf, BindsChecked, graphOf, Ready}
 use Rattle.unification.specs.Solutions.{Robinson}
+use Rattle.unification.proofs.Rank.{Ranked}
+use Rattle.unification.proofs.Numbering.{numbered-ranked}
 use Rattle.unification.proofs.Lists.{lower, scoped, apart}
 use Rattle.unification.proofs.Settles.{acyclic-numbered}
 use Rattle.unification.proofs.Cycle.{Cyclic, refused-cyclic}
@@ -23,6 +26,10 @@ module _ (ws : List ℕ) (n e : ℕ) (ns : List ℕ) (m d v : ℕ) (c : NodesChe
 
   pub deeper-enough : suc v * deep ≤ deeper
   deeper-enough = omega (arith, c .variables)
+
+  -- ranks are bounded
+  pub checked-ranked : (B : Binds) → BindsChecked (listsOf ws n ns m) v B → Ranked (shapeAt (listsOf ws n ns m)) deep B
+  checked-ranked B b = numbered-ranked (shapeAt (listsOf ws n ns m)) 3072 (lower ws n e ns m d v c) v B (b .numbered) deep deep-enough
 
   -- "Unification is proved against Robinson": every answer of unify on checked lists.
   pub unify-is-robinson : (B : Binds) → BindsChecked (listsOf ws n ns m) v B → (l r : ℕ) → Robinson (shapeAt (listsOf ws n ns m)) B l r (unify (shapeAt (listsOf ws n ns m)) B l r)
@@ -50,3 +57,6 @@ module _ (ws : List ℕ) (n e : ℕ) (ns : List ℕ) (m d v : ℕ) (c : NodesChe
 
   pub binds-checked : (B : Binds) → length B ≡ v → bindingsFine n m B ≡ true → acyclic ns m B ≡ true → BindsChecked (listsOf ws n ns m) v B
   binds-checked B l f a = record { many = l; places = f; numbered = acyclic-numbered ws n e ns m d v c B a }
+
+pub ready-ranked : (ws ns bs : List ℕ) (k : Lengths) → Ready ws ns bs k → Ranked (graphOf ws ns k) deep (bindsOf bs (k .variables))
+ready-ranked ws ns bs k q = checked-ranked ws (k .sorts) (k .entries) ns (k .nodes) (k .arguments) (k .variables) (q .nodes) (bindsOf bs (k .variables)) (q .binds)

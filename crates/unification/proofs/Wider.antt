@@ -5,18 +5,20 @@
 use mathlib.Core.Path.{_≡_, refl, ap, sym, _∙_, subst}
 use mathlib.Core.Bool.{Bool, true, false, cond, not}
 use mathlib.Core.List.{List, [], _∷_}
-use mathlib.Core.Option.{some}
+use mathlib.Core.Option.{some, Option, none}
 use mathlib.Core.Logic.{_↔_, _≢_}
-use Prim.Native.Nat.{ℕ, zero, suc, _+_, _-_, _<_, _≤_}
+use Prim.Native.Nat.{ℕ, zero, suc, _+_, _-_, _<_, _≤_, min}
 use native.Mathlib.Omega.{arith}
 use lib.ListN.{length}
 use Rattle.resolved_sort.specs.declared.Sort.{Sort}
 use Rattle.resolved_sort.specs.declared.ComplexSort.{ComplexSort}
-use Rattle.resolved_sort.specs.Tree.{Flat, unit, primitive, def, typevar, Tree, flat, container, function, Trees, end, arg, family, level, familyOp, levelOp}
-use Rattle.resolved_sort.specs.Order.{leFlat, leOp, Steps, apart, materializable}
-use Rattle.resolved_sort.specs.Exact.{total, exact, exacts}
-use Rattle.resolved_sort.proofs.Heads.{leHead, Reaches, head-exactly, head-refl, head-flips, flat-injective, op-injective}
+use Rattle.resolved_sort.specs.Tree.{Flat, unit, primitive, def, typevar, Tree, flat, container, function, Trees, family, level, familyOp, levelOp}
+use Rattle.resolved_sort.specs.Order.{leFlat, leOp, Steps, apart, materializable, map₁, most}
+use Rattle.resolved_sort.specs.Exact.{total, exact, exacts, stopped}
+use Rattle.resolved_sort.proofs.Heads.{leHead, Reaches, head-exactly, head-flips, flat-injective, op-injective}
 use Rattle.resolved_sort.proofs.Materializable.{Materializes, number, operator, range, materializable-exactly}
+use Rattle.resolved_sort.proofs.Distance.{distance-of-equal, distances-of-equal, distance-stops-once, distances-stop-once}
+use Rattle.resolved_sort.proofs.Reached.{no-confusion}
 use Rattle.unification.specs.Related.{relatedNumbers, relatedContainer, each, related, Member, first, later}
 
 -- u is materializable from t (up true), or t from u
@@ -175,21 +177,23 @@ none-away up _ _ (containers o p s _ h e) =
 none-away up _ _ (functions ss r u _ h) = ap (function ss) (none-away up r u h)
 
 -- Steps, and the distance without stopping.
-apart-self : (up : Bool) (l : ℕ) → apart up l l ≡ 0
-apart-self true l = omega arith
-apart-self false l = omega arith
+exact-of-equal : (up : Bool) (s : Tree) → exact up s s ≡ some (record { head = 0; interior = 0 })
+exact-of-equal up s = go (exact up s s) (sym (distance-stops-once up s s) ∙ distance-of-equal up s)
+  where
+    go : (o : Option Steps) → map₁ stopped o ≡ some (record { head = 0; interior = 0 }) → o ≡ some (record { head = 0; interior = 0 })
+    go none e = no-confusion (cc)
+    go (some d) e =
+        let z : stopped d ≡ record { head = 0; interior = 0 } = cc in
+        let h : d .head ≡ 0 = omega (arith, ap (λ (x : Steps). x .head) z) in
+        let i : d .interior ≡ 0 = omega (arith, ap (λ (x : Steps). x .interior) z) in
+        λ j. some (record { head = h j; interior = i j })
 
-mutual
-  unfolding exact
-
-  exact-of-equal : (up : Bool) (s : Tree) → exact up s s ≡ some (record { head = 0; interior = 0 })
-  exact-of-equal up (flat a) = rw (head-refl family level up a, apart-self up (level a))
-  exact-of-equal up (container o s) = rw (head-refl familyOp levelOp up o, apart-self up (levelOp o), exact-of-equal up s)
-  exact-of-equal up (function ss r) = rw (exacts-of-equal (not up) ss, exact-of-equal up r)
-
-  exacts-of-equal : (up : Bool) (ss : Trees) → exacts up ss ss ≡ some 0
-  exacts-of-equal up end = refl
-  exacts-of-equal up (arg s ss) = rw (exact-of-equal up s, exacts-of-equal up ss)
+exacts-of-equal : (up : Bool) (ss : Trees) → exacts up ss ss ≡ some 0
+exacts-of-equal up ss = go (exacts up ss ss) (sym (distances-stop-once up ss ss) ∙ distances-of-equal up ss)
+  where
+    go : (o : Option ℕ) → map₁ (min most) o ≡ some 0 → o ≡ some 0
+    go none e = no-confusion (cc)
+    go (some n) e = let z : min most n ≡ 0 = cc in ap some (omega (arith, z))
 
 -- k steps apart, by the distance without stopping
 abbrev pub Distant : Bool → Tree → Tree → ℕ → Type 0

@@ -16,7 +16,7 @@ use Rattle.resolved_sort.specs.Storage.{maxSorts, functionKind, Row, kindFlat, 
 use Rattle.resolved_sort.specs.Entries.{Stored}
 use Rattle.resolved_sort.specs.Bounds.{internAt}
 use Rattle.unification.specs.declared.Lengths.{Lengths}
-use Rattle.unification.specs.Term.{Head, flatHead, containerHead, functionHead, strayHead, Shape, variable, over}
+use Rattle.unification.specs.Term.{flatHead, containerHead, functionHead, strayHead, Shape, variable, over}
 use Rattle.unification.specs.Nodes.{maxNodes, maxNodeEntries, nodeEntriesAt, isSort, Binds}
 use Rattle.unification.specs.Unify.{follow, deep}
 use Rattle.unification.specs.Checked.{graphOf}

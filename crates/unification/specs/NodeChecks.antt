@@ -1,11 +1,10 @@
 -- Checks 1, 5, 6, 7, 12 and 14 over nodes, bindings and places, each true where the check passes.
-use mathlib.Core.Bool.{Bool, true, false, cond, _&&_}
+use mathlib.Core.Bool.{Bool, true, cond, _&&_}
 use mathlib.Core.List.{List, [], _∷_, _++_}
 use mathlib.Core.Option.{Option, none, some}
 use Prim.Native.Nat.{ℕ, _+_, _-_, _*_}
 use lib.ListN.{length}
 use lib.Dec.{eqb, leb, ltb}
-use Rattle.resolved_sort.specs.Storage.{maxSorts, lastKind}
 use Rattle.resolved_sort.specs.Checks.{allBelow, withinLent, fixedSix, rowsFine, noTwoEqual, atCeiling, Check}
 use Rattle.unification.specs.declared.InferSort.{InferSort}
 use Rattle.unification.specs.declared.InferSort.the-variants.{Generic, Function, Var}

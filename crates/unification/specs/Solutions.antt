@@ -5,7 +5,7 @@ use mathlib.Core.Option.{Option, none, some}
 use Prim.Native.Nat.{ℕ, zero, suc}
 use Rattle.unification.specs.Term.{strayHead, Term, var, app, Terms, no-part, part, Shape, variable, over, put}
 use Rattle.unification.specs.Nodes.{Binds, binding}
-use Rattle.unification.specs.Unify.{Unifies, yes-with, no-way, too-deep}
+use Rattle.unification.specs.Unify.{Unifies, yes-with, no-way}
 use Rattle.unification.specs.Acyclic.{Acyclic}
 
 -- a shape, with terms for the places under it
@@ -51,7 +51,7 @@ module _ (shape : ℕ → Shape) where
   -- Robinson's theorem about an answer. A no: nothing that respects the bindings equates the two sides. A yes: what respects the new bindings is
   -- exactly what respects the old ones and equates the two sides, so they are the most general solution; no variable reaches itself; and
   -- whatever the variables still free stand for, there is a solution.
-  pub data Robinson (B : Binds) (l r : ℕ) : Unifies → Type 1 where
+  pub data Robinson (B : Binds) (l r : ℕ) : Unifies → Type 0 where
     says-no : ((σ : ℕ → Term) → Respects B σ → Equates σ l r → ⊥) → Robinson B l r no-way
     says-yes : (C : Binds) → ((σ : ℕ → Term) → Respects C σ → Respects B σ × Equates σ l r) → ((σ : ℕ → Term) → Respects B σ → Equates σ l r → Respects C σ)
         → Acyclic shape C → ((free : ℕ → Term) → (σ : ℕ → Term) × (Respects C σ × ((v : ℕ) → binding C v ≡ none → σ v ≡ free v))) → Robinson B l r (yes-with C)

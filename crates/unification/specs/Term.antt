@@ -1,6 +1,6 @@
 -- Terms: sorts that may hold inference variables. And what stands at a place: one shape for sorts and nodes.
 use mathlib.Core.Bool.{Bool, _&&_}
-use mathlib.Core.List.{List, [], _∷_}
+use mathlib.Core.List.{List, []}
 use Prim.Native.Nat.{ℕ}
 use lib.Dec.{eqb}
 use Rattle.resolved_sort.specs.declared.ComplexSort.{ComplexSort}

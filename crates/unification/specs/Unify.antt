@@ -1,12 +1,12 @@
 -- "Unify descends through containers, functions and bindings to any depth, with the occurs check before a binding." Each definition is one
 -- step over the call below it, and goes to a depth; a law says which depth is enough.
-use mathlib.Core.Bool.{Bool, true, false, cond, _&&_}
+use mathlib.Core.Bool.{Bool, true, false, _&&_}
 use mathlib.Core.List.{List, [], _∷_}
 use mathlib.Core.Option.{Option, none, some}
 use Prim.Native.Nat.{ℕ, zero, suc, _^_}
 use lib.Dec.{eqb}
 use lib.ListN.{set}
-use Rattle.unification.specs.Term.{Head, Shape, variable, over, sameHead}
+use Rattle.unification.specs.Term.{Shape, variable, over, sameHead}
 use Rattle.unification.specs.Nodes.{isSort, Binds, binding}
 
 -- what unify comes to: the bindings of a yes, a no, or that the depth was not enough

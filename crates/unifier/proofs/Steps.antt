@@ -1,55 +1,52 @@
 -- Each way of unify: the equation of the definition at the ends of both sides, with what the code has found there. Assumes nothing.
 use mathlib.Core.Path.{_≡_, refl, ap, ap₂, sym, _∙_, subst}
-use mathlib.Core.List.{List, [], _∷_, _++_}
-use mathlib.Core.Option.{Option, none, some}
+use mathlib.Core.List.{List, [], _∷_}
+use mathlib.Core.Option.{some}
 use mathlib.Core.Bool.{Bool, true, false, _&&_}
 use mathlib.Core.Logic.{_⊎_, inl, inr}
-use Prim.Native.Nat.{ℕ, zero, suc, _+_, _-_, _*_, _<_, _≤_}
+use Prim.Native.Nat.{ℕ, _+_, _*_, _<_, _≤_}
 use native.Mathlib.Omega.{arith}
 use native.Mathlib.Nat.{mul-le-mul-right}
 use native.Mathlib.Numerals.{add-one}
-use lib.ListN.{length, getD, drop, length-drop, drop-of-length-le}
+use lib.ListN.{length, getD, drop, drop-of-length-le}
 use lib.Seq.{drop-cons}
-use lib.Dec.{eqb, ltb}
-use borrow.Author.Tests.{eq-eqb, ne-eqb, ltb-true, lt-ltb, le-ltb}
+use lib.Dec.{eqb}
+use borrow.Author.Tests.{eq-eqb, ne-eqb, le-ltb}
 use Rattle.resolved_sort.specs.Storage.{maxSorts, rowAt}
-use Rattle.resolved_sort.proofs.Numbers.{true-not-false}
+use Rattle.resolved_sort.proofs.Reached.{no-confusion}
 use Rattle.unification.specs.declared.Lengths.{Lengths}
 use Rattle.unification.specs.declared.SortVar.{SortVar}
-use Rattle.unification.specs.declared.VarAt.{VarAt}
 use Rattle.unification.specs.declared.VarAt.the-variants.{Is, Nothing}
 use Rattle.unification.specs.declared.Tried.{Tried}
 use Rattle.unification.specs.declared.Tried.the-variants.{Yes, No}
-use Rattle.unification.specs.Term.{Head, Shape, variable, over, headOf, partsOf, kindHead, numberHead, sameHead}
-use Rattle.unification.specs.Nodes.{isSort, isPlace, Binds, binding, bindsOf}
-use Rattle.unification.specs.Unify.{Unifies, yes-with, no-way, too-deep, and-then, Occurs, absent, ofTest, follow, occurs, bindUnless, unifyAll, unifyHeads, unifyVariables, unifyShapes, unifyApart, unifyEnds, unifyFollowed, unifyTo, unify, deep, deeper}
-use Rattle.unification.specs.Acyclic.{One, first, later}
+use Rattle.unification.specs.Term.{Head, Shape, variable, over, headOf, partsOf, sameHead}
+use Rattle.unification.specs.Nodes.{isSort, Binds, bindsOf}
+use Rattle.unification.specs.Unify.{Unifies, yes-with, no-way, too-deep, and-then, follow, occurs, bindUnless, unifyAll, unifyHeads, unifyVariables, unifyShapes, unifyApart, unifyEnds, unifyFollowed, unify, deep, deeper}
+use Rattle.unification.specs.Acyclic.{One}
 use Rattle.unification.specs.Checked.{graphOf, Ready, Placed}
 use Rattle.unification.specs.Trail.{frees, Tries}
-use Rattle.unification.proofs.Exact.{follow-end}
-use Rattle.unification.proofs.Rank.{highest, rank, Ranked, rank-over}
-use Rattle.unification.proofs.Numbering.{numbered-ranked}
-use Rattle.unification.proofs.Enough.{follow-some}
-use Rattle.unification.proofs.Lists.{lower, scoped, Place, is-sort, is-node, is-stray, place, sort-parts, sort-parts-fine, sort-no-variable, node-parts, node-parts-fine}
+use Rattle.unification.proofs.Rank.{rank, rank-over, one-highest}
+use Rattle.unification.proofs.Parts.{one-at}
+use Rattle.unification.proofs.Rows.{sort-no-variable}
+use Rattle.unification.proofs.Follow.{follow-end}
+use Rattle.unification.proofs.Enough.{end-no-higher}
+use Rattle.unification.proofs.Lists.{lower, scoped, Place, is-sort, is-node, is-stray, place, part-is-place}
 use Rattle.unification.proofs.Robinson.{Next, Kept, unify-kept}
 use Rattle.unification.proofs.Equations.{unify-eq}
-use Rattle.unification.proofs.Theorem.{deep-enough, deeper-enough}
+use Rattle.unification.proofs.Theorem.{deep-enough, deeper-enough, ready-ranked}
 use Rattle.infer_nodes.specs.Parts.{NodesReady, varAt}
-use Rattle.infer_nodes.proofs.Ways.{ranked, end-placed, end-rank, sort-placed, place-wider, one-highest}
+use Rattle.infer_nodes.proofs.Ways.{end-is-placed}
 use Rattle.infer_nodes.proofs.Parts.{same-count}
 use Rattle.unifier.specs.Trying.{Trying, Free, Alike, Solid, Stands}
 use Rattle.unifier.proofs.Tries.{tries-as, binds-nothing, no-try, then-no, then-on, trying-on}
 
-differ : {A : Type 0} → _≡_ {A = ℕ} 0 1 → A
-differ e = absurd (omega arith)
-
 -- what stands at a place, by what was found there
 is-variable : (s : Shape) (v : SortVar) → Is v ≡ varAt s → s ≡ variable (v .0)
 is-variable (variable u) v e = let z : v .0 ≡ u = cc in ap variable (sym z)
-is-variable (over h ps) v e = differ (cc)
+is-variable (over h ps) v e = no-confusion (cc)
 
 is-solid : (s : Shape) → Nothing ≡ varAt s → s ≡ over (headOf s) (partsOf s)
-is-solid (variable u) e = differ (cc)
+is-solid (variable u) e = no-confusion (cc)
 is-solid (over h ps) e = refl
 
 module _ (ws ns bs ts : List ℕ) (k : Lengths) (c : ℕ) (t : Trying ws ns bs ts k c) where
@@ -75,7 +72,7 @@ module _ (ws ns bs ts : List ℕ) (k : Lengths) (c : ℕ) (t : Trying ws ns bs t
       go : Place ws (k .sorts) (k .entries) ns (k .nodes) (k .arguments) (k .variables) (q .nodes) p → isSort p ≡ false
       go (is-sort a l g) = sort-no-variable ws u (rowAt ws p) (sym g ∙ s)
       go (is-node i l x g) = le-ltb p maxSorts (omega (arith, x))
-      go (is-stray z g) = let y : over _ [] ≡ variable u = sym g ∙ s in differ (cc)
+      go (is-stray z g) = let y : over _ [] ≡ variable u = sym g ∙ s in no-confusion (cc)
 
   module _ (l r l′ r′ : ℕ) (pl : Placed k l) (pr : Placed k r) (fl : follow shape deep B l ≡ some l′) (fr : follow shape deep B r ≡ some r′) where
     at-ends : unify shape B l r ≡ unifyEnds shape (eqb l′ r′) deep (unify shape) B l′ r′
@@ -85,13 +82,13 @@ module _ (ws ns bs ts : List ℕ) (k : Lengths) (c : ℕ) (t : Trying ws ns bs t
     same-end e = tries-as ws ns k (yes-with B) (unify shape B l r) bs ts c bs ts (Yes c) (sym (at-ends ∙ rw (eq-eqb l′ r′ e))) (binds-nothing ws ns k bs ts c q)
 
     pub left-end-placed : Placed k l′
-    left-end-placed = end-placed ws ns bs k q 0 l l′ pl fl
+    left-end-placed = end-is-placed ws ns bs k q l l′ pl fl
 
     pub right-end-placed : Placed k r′
-    right-end-placed = end-placed ws ns bs k q 0 r r′ pr fr
+    right-end-placed = end-is-placed ws ns bs k q r r′ pr fr
 
     pub left-end-rank : rank shape deep B l′ ≤ rank shape deep B l
-    left-end-rank = end-rank ws ns bs k q 0 l l′ pl fl
+    left-end-rank = end-no-higher shape deep B (ready-ranked ws ns bs k q) deep l l′ fl
 
     module _ (d : l′ ≡ r′ → ⊥) where
       apart : unify shape B l r ≡ unifyApart shape (isSort l′ && isSort r′) deep (unify shape) B l′ r′
@@ -184,21 +181,7 @@ module _ (ws ns bs ts : List ℕ) (k : Lengths) (c : ℕ) (t : Trying ws ns bs t
 
   -- parts are places of lower rank
   part-placed : (p x : ℕ) (h : Head) (ps : List ℕ) → Placed k p → shape p ≡ over h ps → One x ps → Placed k x
-  part-placed p x h ps e s o = go (place ws (k .sorts) (k .entries) ns (k .nodes) (k .arguments) (k .variables) (q .nodes) p)
-    where
-      go : Place ws (k .sorts) (k .entries) ns (k .nodes) (k .arguments) (k .variables) (q .nodes) p → Placed k x
-      go (is-sort a l g) =
-          let y = sort-parts ws (k .entries) p (rowAt ws p) (sort-parts-fine ws (k .sorts) (k .entries) ns (k .nodes) (k .arguments) (k .variables) (q .nodes) p l) x h ps (sym g ∙ s) o in
-          sort-placed ws ns bs k q x (omega (arith, y, l))
-      go (is-node i l z g) =
-          place-wider ws ns bs k q i x (omega (arith, l))
-          (node-parts ns (k .arguments) (k .sorts) (k .variables) i _ (q .nodes .sorts .sorts) (node-parts-fine ws (k .sorts) (k .entries) ns (k .nodes) (k .arguments) (k .variables) (q .nodes) i l) x h ps (sym g ∙ s) o)
-      go (is-stray z g) = absurd (true-not-false (isPlace (k .sorts) (k .nodes) p) e z)
-
-  one-at : (ps : List ℕ) (i : ℕ) → i < length ps → One (getD ps i 0) ps
-  one-at [] i l = absurd (omega (arith, l))
-  one-at (p ∷ ps) zero l = first ps
-  one-at (p ∷ ps) (suc i) l = later p ps (one-at ps i (omega (arith, l)))
+  part-placed = part-is-place ws (k .sorts) (k .entries) ns (k .nodes) (k .arguments) (k .variables) (q .nodes)
 
   by-parts : (s : Shape) (i : ℕ) → i < length (partsOf s) → s ≡ over (headOf s) (partsOf s)
   by-parts (variable v) i l = absurd (omega (arith, l))
@@ -245,7 +228,7 @@ module _ (ws ns bs ts : List ℕ) (k : Lengths) (c : ℕ) (t : Trying ws ns bs t
         right-placed = part-placed r y (headOf (shape r)) qs (a .right) (by-parts (shape r) i right-inside) (subst (λ (z : ℕ). One z qs) (sym ey) (one-at qs i right-inside))
 
         pub part-lower : rank shape deep B x < rank shape deep B l
-        part-lower = omega (arith, rank-over shape deep B (ranked ws ns bs k q) l (headOf (shape l)) ps (by-parts (shape l) i left-inside), one-highest ws ns bs k q (rank shape deep B) ps x one-x)
+        part-lower = omega (arith, rank-over shape deep B (ready-ranked ws ns bs k q) l (headOf (shape l)) ps (by-parts (shape l) i left-inside), one-highest (rank shape deep B) ps x one-x)
 
         parts-split : rest ≡ and-then (unify shape B x y) (λ C. unifyAll shape (unify shape) C (drop (i + 1) ps) (drop (i + 1) qs))
         parts-split =
@@ -276,8 +259,8 @@ module _ (ws ns bs ts : List ℕ) (k : Lengths) (c : ℕ) (t : Trying ws ns bs t
 
             next-by : (U : Unifies) → Kept shape (k .variables) B U → U ≡ yes-with (bindsOf bs₁ (k .variables)) → Next shape (k .variables) B (bindsOf bs₁ (k .variables))
             next-by (yes-with C) n′ s = let w : C ≡ bindsOf bs₁ (k .variables) = cc in subst (Next shape (k .variables) B) w n′
-            next-by no-way n′ s = differ (cc)
-            next-by too-deep n′ s = differ (cc)
+            next-by no-way n′ s = no-confusion (cc)
+            next-by too-deep n′ s = no-confusion (cc)
 
             next : Next shape (k .variables) B (bindsOf bs₁ (k .variables))
             unfolding unify
@@ -295,5 +278,5 @@ module _ (ws ns bs ts : List ℕ) (k : Lengths) (c : ℕ) (t : Trying ws ns bs t
                 go : (bindsOf bs₁ (k .variables) ≡ B) ⊎ (frees (bindsOf bs₁ (k .variables)) < frees B) → frees (bindsOf bs₁ (k .variables)) * deep + rank shape deep (bindsOf bs₁ (k .variables)) l ≤ frees B * deep + rank shape deep B l
                 go (inl j) = rw j (omega arith)
                 go (inr j) =
-                    let s = ranked ws ns bs₁ k (yes-tried .ready) .short l in
+                    let s = ready-ranked ws ns bs₁ k (yes-tried .ready) .short l in
                     omega (arith, s, mul-le-mul-right deep j)

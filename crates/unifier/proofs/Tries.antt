@@ -1,29 +1,28 @@
 -- A try, step by step: one that binds nothing, one that binds a variable, and one after another. Assumes nothing.
-use mathlib.Core.Path.{_≡_, refl, ap, ap₂, sym, _∙_, subst}
-use mathlib.Core.List.{List, [], _∷_, _++_}
-use mathlib.Core.Option.{Option, none, some}
-use mathlib.Core.Bool.{Bool, true, false, cond, _&&_, and-eq-true-iff}
-use mathlib.Core.Logic.{_⊎_, inl, inr}
-use Prim.Native.Nat.{ℕ, zero, suc, _+_, _-_, _*_, _<_, _≤_}
+use mathlib.Core.Path.{_≡_, refl, ap, sym, _∙_}
+use mathlib.Core.List.{List}
+use mathlib.Core.Option.{some}
+use mathlib.Core.Bool.{Bool, true, false}
+use Prim.Native.Nat.{ℕ, suc, _+_, _-_, _<_, _≤_}
 use native.Mathlib.Omega.{arith}
 use lib.ListN.{length, getD, set, take, length-set}
 use lib.Seq.{getD-set-same, take-set-le, take-take, drop-set-lt}
 use lib.Dec.{eqb}
 use borrow.Author.Tests.{eq-eqb, ne-eqb}
-use Rattle.resolved_sort.specs.Storage.{maxSorts}
 use Rattle.unification.specs.declared.Lengths.{Lengths}
 use Rattle.unification.specs.declared.Tried.{Tried}
 use Rattle.unification.specs.declared.Tried.the-variants.{Yes, No}
-use Rattle.unification.specs.Nodes.{freeWord, Binds, binding, bindsOf}
-use Rattle.unification.specs.Unify.{Unifies, yes-with, no-way, too-deep, and-then, Occurs, absent, ofTest, occurs, bindUnless, unifyVariables, deep}
+use Rattle.unification.specs.Nodes.{freeWord, Binds, bindsOf}
+use Rattle.unification.specs.Unify.{Unifies, yes-with, no-way, and-then, absent, ofTest, occurs, bindUnless, unifyVariables, deep}
 use Rattle.unification.specs.Checked.{graphOf, Ready, Placed}
-use Rattle.unification.specs.Trail.{undo, frees, countOf, answerOf, Tries}
+use Rattle.unification.specs.Trail.{undo, frees, countOf, Tries}
 use Rattle.unification.proofs.Rank.{frees-set}
 use Rattle.unification.proofs.Binding.{binding-numbered}
 use Rattle.unification.proofs.Enough.{occurs-eq}
-use Rattle.infer_nodes.proofs.Ways.{length-binds, ranked}
-use Rattle.unification.proofs.Lists.{lower, scoped, place-below}
-use Rattle.unification.proofs.Theorem.{deep-enough}
+use Rattle.infer_nodes.proofs.Ways.{length-binds}
+use Rattle.unification.proofs.Lists.{lower, scoped}
+use Rattle.unification.proofs.Places.{place-below}
+use Rattle.unification.proofs.Theorem.{deep-enough, ready-ranked}
 use Rattle.unifier.specs.Trying.{Trying, Free, Stands}
 use Rattle.unifier.proofs.Words.{binds-set, freed, places-set, undo-split, undo-front}
 
@@ -132,6 +131,9 @@ module _ (ws ns : List ℕ) (k : Lengths) where
     abbrev checked : Unifies
     checked = bindUnless (graphOf ws ns k) (occurs (graphOf ws ns k) deep old v w) old v w
 
+    set-yes : (U : Unifies) → occurs (graphOf ws ns k) deep old v w ≡ absent → yes-with (set old v (some w)) ≡ U → (bs₁ ts₁ : List ℕ) → bs₁ ≡ set bs v w → ts₁ ≡ set ts c v → Tries ws ns k U bs ts c bs₁ ts₁ (Yes (c + 1))
+    set-yes U o e bs₁ ts₁ y z = rw (y, z) (tries-as (yes-with (set old v (some w))) U bs ts c (set bs v w) (set ts c v) (Yes (c + 1)) e (one-bound bs ts c t v w f p o))
+
     module _ (b : Bool) (e : occurs (graphOf ws ns k) deep old v w ≡ ofTest b) where
       pub occurs-no : b ≡ true → Tries ws ns k checked bs ts c bs ts (No c)
       occurs-no x = tries-as no-way checked bs ts c bs ts (No c) (sym (ap (λ o. bindUnless (graphOf ws ns k) o old v w) (e ∙ ap ofTest x))) (no-try bs ts c (t .ready))
@@ -144,10 +146,7 @@ module _ (ws ns : List ℕ) (k : Lengths) where
         room-to-bind = bind-room bs ts c t v w f p is-absent
 
         pub bound-yes : (bs₁ ts₁ : List ℕ) → bs₁ ≡ set bs v w → ts₁ ≡ set ts c v → Tries ws ns k checked bs ts c bs₁ ts₁ (Yes (c + 1))
-        bound-yes bs₁ ts₁ y z =
-            rw (y, z)
-            (tries-as (yes-with (set old v (some w))) checked bs ts c (set bs v w) (set ts c v) (Yes (c + 1)) (sym (ap (λ o. bindUnless (graphOf ws ns k) o old v w) is-absent))
-            (one-bound bs ts c t v w f p is-absent))
+        bound-yes = set-yes checked is-absent (sym (ap (λ o. bindUnless (graphOf ws ns k) o old v w) is-absent))
 
     module _ (u : ℕ) (g : Free bs k u) (s : Stands ws ns k w u) where
       abbrev variables : Unifies
@@ -158,16 +157,13 @@ module _ (ws ns : List ℕ) (k : Lengths) where
 
       module _ (d : v ≡ u → ⊥) where
         other-absent : occurs (graphOf ws ns k) deep old v w ≡ absent
-        other-absent = occurs-eq (graphOf ws ns k) deep old (ranked ws ns bs k (t .ready)) v w ∙ rw (s .stands) (rw (g .free) (ap ofTest (ne-eqb v u d)))
+        other-absent = occurs-eq (graphOf ws ns k) deep old (ready-ranked ws ns bs k (t .ready)) v w ∙ rw (s .stands) (rw (g .free) (ap ofTest (ne-eqb v u d)))
 
         pub room-for-variable : (v < length bs) × (c < length ts)
         room-for-variable = bind-room bs ts c t v w f p other-absent
 
         pub variable-yes : (bs₁ ts₁ : List ℕ) → bs₁ ≡ set bs v w → ts₁ ≡ set ts c v → Tries ws ns k variables bs ts c bs₁ ts₁ (Yes (c + 1))
-        variable-yes bs₁ ts₁ y z =
-            rw (y, z)
-            (tries-as (yes-with (set old v (some w))) variables bs ts c (set bs v w) (set ts c v) (Yes (c + 1)) (sym (ap (λ b. unifyVariables (graphOf ws ns k) b old v w) (ne-eqb v u d)))
-            (one-bound bs ts c t v w f p other-absent))
+        variable-yes = set-yes variables other-absent (sym (ap (λ b. unifyVariables (graphOf ws ns k) b old v w) (ne-eqb v u d)))
 
 -- undoing, one at a time
 module _ (ts : List ℕ) (base count : ℕ) where

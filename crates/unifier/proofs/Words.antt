@@ -1,23 +1,19 @@
 -- Bindings as words, and the trail: a binding is a word set, and undoing sets it free again. Assumes nothing.
-use mathlib.Core.Path.{_≡_, refl, ap, ap₂, sym, _∙_, subst}
-use mathlib.Core.List.{List, [], _∷_, _++_}
-use mathlib.Core.Option.{Option, none, some}
-use mathlib.Core.Bool.{Bool, true, false, cond, _&&_, and-eq-true-iff}
-use Prim.Native.Nat.{ℕ, zero, suc, _+_, _-_, _<_, _≤_}
+use mathlib.Core.Path.{_≡_, refl, ap, sym, _∙_}
+use mathlib.Core.List.{List, [], _∷_}
+use mathlib.Core.Option.{none, some}
+use mathlib.Core.Bool.{Bool, true, false, cond, and-eq-true-iff}
+use Prim.Native.Nat.{ℕ, zero, suc, _+_, _<_, _≤_}
 use native.Mathlib.Omega.{arith}
-use native.Mathlib.Decide.{ℕ-discrete}
 use lib.ListN.{length, getD, set, take}
-use lib.Seq.{set-set, set-getD, getD-take, getD-set-same, getD-set-other, take-set-le}
+use lib.Seq.{set-set, set-getD, getD-take}
 use lib.Dec.{eqb}
-use borrow.Author.Tests.{eqb-true, eqb-false, ne-eqb}
-use Rattle.resolved_sort.proofs.Numbers.{true-not-false}
+use borrow.Author.Tests.{eqb-true, ne-eqb}
+use Rattle.resolved_sort.proofs.Reached.{no-confusion}
 use Rattle.unification.specs.Nodes.{isPlace, freeWord, Binds, binding, bindingOf, bindsOf}
 use Rattle.unification.specs.NodeChecks.{bindingFine, bindingsFine}
 use Rattle.unification.specs.Trail.{undo}
 use Rattle.infer_nodes.proofs.Ways.{binding-word}
-
-differ : {A : Type 0} → _≡_ {A = ℕ} 0 1 → A
-differ e = absurd (omega arith)
 
 -- a word set is a binding
 pub binds-set : (bs : List ℕ) (n v w : ℕ) → v < n → n ≤ length bs → (w ≡ freeWord → ⊥) → bindsOf (set bs v w) n ≡ set (bindsOf bs n) v (some w)
@@ -29,7 +25,7 @@ binds-set (x ∷ bs) (suc n) (suc v) w l m d = ap (λ ys. bindingOf x ∷ ys) (b
 
 free-word-by : (w : ℕ) (b : Bool) → eqb w freeWord ≡ b → cond b none (some w) ≡ none → w ≡ freeWord
 free-word-by w true e f = eqb-true w freeWord e
-free-word-by w false e f = differ (cc)
+free-word-by w false e f = no-confusion (cc)
 
 -- a free variable's word
 pub free-word : (bs : List ℕ) (n v : ℕ) → v < n → binding (bindsOf bs n) v ≡ none → getD bs v 0 ≡ freeWord

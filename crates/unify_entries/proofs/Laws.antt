@@ -2,12 +2,12 @@
 -- Assumes nothing.
 use mathlib.Core.Path.{_≡_, refl, ap, ap₂, sym, _∙_, subst}
 use mathlib.Core.List.{List, [], _∷_, _++_}
-use mathlib.Core.Option.{Option, none, some}
+use mathlib.Core.Option.{none, some}
 use mathlib.Core.Bool.{Bool, true, false, not, cond, _&&_, and-eq-true-iff}
 use Prim.Native.Nat.{ℕ, zero, suc, _+_, _-_, _*_, _<_, _≤_}
 use native.Mathlib.Omega.{arith}
-use lib.ListN.{length, take, drop, replicate, take-append-drop}
-use lib.Dec.{eqb, leb, ltb}
+use lib.ListN.{length, take, drop, take-append-drop}
+use lib.Dec.{eqb, leb}
 use borrow.Author.Tests.{not-true, not-false, leb-true, le-leb, lt-leb, eqb-true}
 use Rattle.resolved_sort.specs.declared.Tested.{Tested}
 use Rattle.resolved_sort.specs.declared.Tested.the-variants.{Refused, Passed}
@@ -20,14 +20,15 @@ use Rattle.unification.specs.declared.Tried.{Tried}
 use Rattle.unification.specs.declared.Tried.the-variants.{Yes as TriedYes, No as TriedNo}
 use Rattle.unification.specs.declared.Unified.{Unified}
 use Rattle.unification.specs.declared.Unified.the-variants.{Refused as NotUnified, Yes, No}
-use Rattle.unification.specs.Nodes.{maxNodes, maxNodeEntries, maxVars, nodeEntriesAt, fullNodes, isPlace, shapeAt, freeWord, Binds, bindingOf, bindsOf}
-use Rattle.unification.specs.Unify.{Unifies, yes-with, no-way, unify}
+use Rattle.unification.specs.Nodes.{maxNodes, maxNodeEntries, maxVars, nodeEntriesAt, fullNodes, isPlace, shapeAt, freeWord, bindingOf, bindsOf}
+use Rattle.unification.specs.Unify.{Unifies, yes-with, unify}
 use Rattle.unification.specs.Acyclic.{acyclic}
 use Rattle.unification.specs.NodeChecks.{nodesWithinLent, bindingsWithinLent, nodesFine, bindingsFine, nodeChecks, placeChecks, unifyChecks}
-use Rattle.unification.specs.Checked.{NodesChecked, listsOf, graphOf, Ready, Placed}
-use Rattle.unification.specs.Trail.{undo, frees, freesAt, Tries}
-use Rattle.unification.specs.UnifyEntry.{wordOf, wordsOf, Left, left, leftBy, unifyEntry, packUnified, packLeft}
+use Rattle.unification.specs.Checked.{NodesChecked, listsOf, Ready}
+use Rattle.unification.specs.Trail.{undo, frees, Tries}
+use Rattle.unification.specs.UnifyEntry.{wordOf, wordsOf, Left, left, leftBy, unifyEntry}
 use Rattle.unification.proofs.Theorem.{binds-checked}
+use Rattle.unification.proofs.Equations.{frees-few}
 use Rattle.infer_nodes.proofs.Ways.{length-binds}
 use Rattle.unifier.specs.Trying.{Trying}
 
@@ -102,6 +103,13 @@ module _ (ws : List ℕ) (n : ℕ) (ns : List ℕ) (m l r : ℕ) where
   unfolding placeChecks
   lhs-stray x ex h = fails (x && isPlace n m r) _ (ap (λ z. z && isPlace n m r) ex) 12 _ (first-of-two x (isPlace n m r) h)
 
+-- counts that check 1 passed are within their ceilings
+two-ceilings : (n top e end : ℕ) (x y : Bool) → (leb n top && leb e end && x && y) ≡ true → (n ≤ top) × (e ≤ end)
+two-ceilings n top e end x y f =
+    let p = and-eq-true-iff (leb n top && leb e end && x) y .0 f .0 in
+    let u = and-eq-true-iff (leb n top) (leb e end) .0 (and-eq-true-iff (leb n top && leb e end) x .0 p .0) in
+    (leb-true n top (u .0), leb-true e end (u .1))
+
 -- check 1, three tests, and then the rest
 module _ (ws : List ℕ) (n e : ℕ) (ns : List ℕ) (m d : ℕ) (bs : List ℕ) (v l r : ℕ) where
   abbrev all : List Check
@@ -132,11 +140,8 @@ module _ (ws : List ℕ) (n e : ℕ) (ns : List ℕ) (m d : ℕ) (bs : List ℕ)
           pub ceilings : (m ≤ maxNodes) × (v ≤ maxVars)
           unfolding nodesWithinLent bindingsWithinLent
           ceilings =
-              let p = and-eq-true-iff (leb m maxNodes && leb d maxNodeEntries && leb (4 * m) (length ns)) (leb d (length ns - nodeEntriesAt)) .0 (sym eb ∙ not-false b hb) .0 in
-              let q = and-eq-true-iff (leb m maxNodes && leb d maxNodeEntries) (leb (4 * m) (length ns)) .0 p .0 in
-              let u = and-eq-true-iff (leb m maxNodes) (leb d maxNodeEntries) .0 q .0 in
               let w = and-eq-true-iff (leb v maxVars) (leb v (length bs)) .0 (sym ec ∙ not-false c hc) .0 in
-              (leb-true m maxNodes u, leb-true v maxVars w)
+              (two-ceilings m maxNodes d maxNodeEntries (leb (4 * m) (length ns)) (leb d (length ns - nodeEntriesAt)) (sym eb ∙ not-false b hb) .0, leb-true v maxVars w)
 
           abbrev sorted : List Check
           sorted = record { code = 2; passes = fixedSix ws n } ∷ record { code = 3; passes = rowsFine ws n e } ∷ record { code = 4; passes = noTwoEqual ws n } ∷ []
@@ -179,19 +184,11 @@ module _ (ws : List ℕ) (n e : ℕ) (ns : List ℕ) (m d : ℕ) (bs : List ℕ)
 
     pub sort-counts : (n ≤ maxSorts) × (e ≤ maxEntries)
     unfolding withinLent
-    sort-counts =
-        let p = and-eq-true-iff (leb n maxSorts && leb e maxEntries && leb (4 * n) (length ws)) (leb e (length ws - entriesAt)) .0 (chain .0) .0 in
-        let q = and-eq-true-iff (leb n maxSorts && leb e maxEntries) (leb (4 * n) (length ws)) .0 p .0 in
-        let u = and-eq-true-iff (leb n maxSorts) (leb e maxEntries) .0 q in
-        (leb-true n maxSorts (u .0), leb-true e maxEntries (u .1))
+    sort-counts = two-ceilings n maxSorts e maxEntries (leb (4 * n) (length ws)) (leb e (length ws - entriesAt)) (chain .0)
 
     pub node-counts : (m ≤ maxNodes) × (d ≤ maxNodeEntries)
     unfolding nodesWithinLent
-    node-counts =
-        let p = and-eq-true-iff (leb m maxNodes && leb d maxNodeEntries && leb (4 * m) (length ns)) (leb d (length ns - nodeEntriesAt)) .0 (chain .1) .0 in
-        let q = and-eq-true-iff (leb m maxNodes && leb d maxNodeEntries) (leb (4 * m) (length ns)) .0 p .0 in
-        let u = and-eq-true-iff (leb m maxNodes) (leb d maxNodeEntries) .0 q in
-        (leb-true m maxNodes (u .0), leb-true d maxNodeEntries (u .1))
+    node-counts = two-ceilings m maxNodes d maxNodeEntries (leb (4 * m) (length ns)) (leb d (length ns - nodeEntriesAt)) (chain .1)
 
     pub var-counts : (v ≤ maxVars) × (v ≤ length bs)
     unfolding bindingsWithinLent
@@ -233,11 +230,6 @@ words-of-binds [] (suc v) l = absurd (omega (arith, l))
 words-of-binds (w ∷ bs) (suc v) l = ap₂ (λ (x : ℕ) (xs : List ℕ). x ∷ xs) (word-of-binding w) (words-of-binds bs v (omega (arith, l)))
 
 -- a try on an empty trail
-frees-few : (B : Binds) → frees B ≤ length B
-frees-few [] = omega arith
-frees-few (none ∷ B) = omega (arith, frees-few B)
-frees-few (some q ∷ B) = omega (arith, frees-few B)
-
 module _ (ws ns bs : List ℕ) (k : Lengths) (q : Ready ws ns bs k) where
   pub trying : (ts : List ℕ) → length ts ≡ 512 → Trying ws ns bs ts k 0
   trying ts e = record { ready = q; room = omega (arith, frees-few (bindsOf bs (k .variables)), length-binds bs (k .variables), q .nodes .variables, e); short = omega (arith, e) }

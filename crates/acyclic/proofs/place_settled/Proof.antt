@@ -9,7 +9,7 @@ pub place-settled-spec : {M : Type 1} → statement M
 place-settled-spec =
     tie.close
     (tie.spec
-    (λ c. law.sort-settled (c .before .before .args .flags .now) (c .before .before .args .place) (c .if1 .taken))
+    (λ c. law.sort-is-settled (c .before .before .args .flags .now) (c .before .before .args .place) (c .if1 .taken))
     (λ c. search needs)
     (λ c κs. search needs)
-    (λ c. law.node-flag (c .before .before .before .args .flags .now) (c .before .before .before .args .place) (c .before .if1 .left) _ (c .flag .ensures)))
+    (λ c. law.flag-settles (c .before .before .before .args .flags .now) (c .before .before .before .args .place) (c .before .if1 .left) _ (c .flag .ensures)))
