@@ -11,7 +11,6 @@ use Rattle.resolved_sort.specs.Tree.{Tree}
 use Rattle.unification.specs.Term.{Term, var, app, Terms, no-part, part, Shape, variable, over, termOf, put, puts}
 use Rattle.unification.specs.Nodes.{Binds, binding}
 use Rattle.unification.specs.Unify.{deep}
-use Rattle.unification.specs.Checked.{listsOf, BindsChecked}
 use Rattle.unification.specs.Solutions.{termOfShape, termTo, termAt, Respects}
 use Rattle.unification.specs.Resolve.{value, treeOver}
 use Rattle.unification.specs.Making.{Lent, graph}
@@ -23,10 +22,7 @@ use Rattle.unification.proofs.ResolvedSorts.{count, HeadOver, Formed, A
 use Rattle.unification.proofs.ResolvedPlaces.{ShapeOver, count-terms, terms-formed, place-over, ranked, value-formed}
 use Rattle.unification.proofs.Resolved.{Has, OneHas, termsFor, count-for, head-term, count-puts, stands-free, put-place}
 use Rattle.unification.proofs.Grows.{CheckedLent, PlacedIn, parts-placed}
-
--- bindings that passed their checks with the lists
-abbrev pub CheckedBinds : Lent → Binds → Type 0
-CheckedBinds W B = BindsChecked (listsOf (W .sorts) (W .lengths .sorts) (W .nodes) (W .lengths .nodes)) (W .lengths .variables) B
+use Rattle.unification.proofs.BindsGrow.{CheckedBinds}
 
 -- a term that is a sort's
 abbrev pub SortTerm : Term → Type 0

@@ -32,3 +32,7 @@ pub mod MakingGrows
 pub mod PlaceTerms
 pub mod RelatedPlaces
 pub mod Assignments
+pub mod BindsGrow
+pub mod SortsLeft
+pub mod ResolveAnswers
+pub mod BoundAnswers
