@@ -1,6 +1,5 @@
 -- Bindings that passed their checks name places, and pass them again in lists that have grown. By the growth of lists. Assumes nothing.
-use mathlib.Core.Path.{_≡_, sym, subst}
-use Prim.Native.Nat.{ℕ}
+use mathlib.Core.Path.{sym, subst}
 use Rattle.unification.specs.Nodes.{Binds}
 use Rattle.unification.specs.Checked.{listsOf, BindsChecked}
 use Rattle.unification.specs.Making.{Lent}

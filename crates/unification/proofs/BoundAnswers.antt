@@ -1,6 +1,6 @@
 -- Join and meet of two sorts of the lent lists: what the call answers is the join or meet of the two, it answers none exactly where there is none, and
 -- the lists have grown. By the laws of making. Assumes nothing.
-use mathlib.Core.Path.{_≡_, refl, subst}
+use mathlib.Core.Path.{_≡_, subst}
 use mathlib.Core.Bool.{Bool}
 use mathlib.Core.List.{List}
 use mathlib.Core.Option.{none, some}
@@ -10,7 +10,7 @@ use Rattle.resolved_sort.specs.declared.Counts.{Counts}
 use Rattle.resolved_sort.specs.declared.Joined.the-variants.{At, Nothing, Full}
 use Rattle.resolved_sort.specs.Tree.{Tree}
 use Rattle.resolved_sort.specs.Order.{bound}
-use Rattle.resolved_sort.specs.Interning.{Sorts, look, Outcome, make}
+use Rattle.resolved_sort.specs.Interning.{look, Outcome, make}
 use Rattle.resolved_sort.specs.Storage.{trees, sortsOf}
 use Rattle.resolved_sort.specs.Rows.{storedAt}
 use Rattle.resolved_sort.specs.Bounds.{boundAt}

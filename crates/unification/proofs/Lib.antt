@@ -36,3 +36,4 @@ pub mod BindsGrow
 pub mod SortsLeft
 pub mod ResolveAnswers
 pub mod BoundAnswers
+pub mod MostGeneral

@@ -1,7 +1,7 @@
 -- What resolve and resolve_or_default hand back: a number of lists that have grown, whose sort is what the place stands for under every assignment that
 -- respects the bindings (and, with a default, gives it to each free variable); none only where a free variable is reached, and with a default never.
 -- By the laws of `resolveTerm` and of the list that it leaves. Assumes nothing.
-use mathlib.Core.Path.{_≡_, refl, sym, _∙_}
+use mathlib.Core.Path.{_≡_, sym, _∙_}
 use mathlib.Core.List.{List}
 use mathlib.Core.Option.{none, some}
 use Prim.Native.Nat.{ℕ, _<_}
@@ -10,7 +10,7 @@ use Rattle.resolved_sort.specs.declared.SortId.{SortId}
 use Rattle.resolved_sort.specs.declared.Counts.{Counts}
 use Rattle.resolved_sort.specs.declared.Joined.the-variants.{At, Nothing as NotFound, Full}
 use Rattle.resolved_sort.specs.Tree.{Tree}
-use Rattle.resolved_sort.specs.Interning.{Sorts, look, Outcome, nothing, full}
+use Rattle.resolved_sort.specs.Interning.{Sorts, look, nothing, full}
 use Rattle.resolved_sort.specs.Storage.{trees, sortsOf}
 use Rattle.resolved_sort.specs.Entries.{Stored}
 use Rattle.resolved_sort.specs.Rows.{storedAt}
