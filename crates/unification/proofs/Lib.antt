@@ -37,3 +37,6 @@ pub mod SortsLeft
 pub mod ResolveAnswers
 pub mod BoundAnswers
 pub mod MostGeneral
+pub mod UpToNames
+pub mod RelatedBinds
+pub mod StandsAlike
