@@ -13,12 +13,12 @@ use Rattle.resolved_sort.specs.Rows.{AllBelow}
 use Rattle.unification.specs.Term.{Term, termOf}
 use Rattle.unification.specs.Nodes.{Binds}
 use Rattle.unification.specs.Unify.{Unifies, yes-with, no-way, too-deep, unify}
-use Rattle.unification.specs.Checked.{listsOf, BindsChecked}
 use Rattle.unification.specs.Solutions.{Respects, Equates}
 use Rattle.unification.specs.Making.{Lent, graph, Makes, made, no-list, no-room, withNodesOf}
-use Rattle.unification.proofs.Grows.{CheckedLent, PlacedIn, Grows, grows-refl, grows-trans, given-back-grows, respects-grown, binds-grown}
+use Rattle.unification.proofs.Grows.{CheckedLent, PlacedIn, Grows, grows-refl, grows-trans, given-back-grows, respects-grown}
 use Rattle.unification.proofs.MakingGrows.{MadeFrom}
-use Rattle.unification.proofs.Answers.{BindsIn, binds-name, Agreeing, yes-agrees}
+use Rattle.unification.proofs.BindsGrow.{CheckedBinds, binds-name-places, checked-binds-grown}
+use Rattle.unification.proofs.Answers.{Agreeing, yes-agrees}
 use Rattle.inference.specs.declared.Constraint.{Constraint}
 use Rattle.inference.specs.Constraints.{Problem}
 use Rattle.inference.specs.Measure.{Components}
@@ -34,9 +34,6 @@ Claim = List Choice → Assignment → Components → Type 0
 abbrev pub terms : Assignment → ℕ → Term
 terms ρ v = termOf (ρ v)
 
-abbrev BindsCheckedAt : Lent → ℕ → Binds → Type 0
-BindsCheckedAt W v B = BindsChecked (listsOf (W .sorts) (W .lengths .sorts) (W .nodes) (W .lengths .nodes)) v B
-
 pub all-below-more : (n m : ℕ) → n ≤ m → (xs : List ℕ) → AllBelow n xs → AllBelow m xs
 unfolding AllBelow
 all-below-more n m l [] a = tt
@@ -50,7 +47,7 @@ module _ (W₀ : Lent) (B₀ : Binds) (P : Problem) where
   -- on a branch, where what is claimed of choices, assignment and measure holds of every assignment that respects the bindings
   pub record Sound (W : Lent) (e : Path) (Q : Claim) : Type 0 where
     pub grown : Grows W₀ W
-    pub binds : BindsIn W (e .binds)
+    pub binds : CheckedBinds W (e .binds)
     pub refines : (σ : ℕ → Term) → Respects (graph W) (e .binds) σ → Respects (graph W₀) B₀ σ
     pub costs : (ρ : Assignment) → Respects (graph W) (e .binds) (terms ρ) → Q (e .choices) ρ (e .measure)
 
@@ -142,11 +139,11 @@ module _ (W₀ : Lent) (B₀ : Binds) (P : Problem) where
   pub sound-grown : (W W′ : Lent) (e : Path) (Q : Claim) → CheckedLent W₀ → Sound W e Q → Grows W W′ → Sound W′ e Q
   sound-grown W W′ e Q c₀ s g =
       let c = s .grown .checked in
-      let b = binds-name W (e .binds) (s .binds) in
+      let b = binds-name-places W (e .binds) (s .binds) in
       let back : (σ : ℕ → Term) → Respects (graph W′) (e .binds) σ → Respects (graph W) (e .binds) σ = λ σ r. respects-grown W c W′ g (e .binds) b σ .1 r in
       record {
         grown = grows-trans W₀ c₀ W W′ (s .grown) g;
-        binds = subst (λ v. BindsCheckedAt W′ v (e .binds)) (sym (g .variables)) (binds-grown W c W′ g (e .binds) b (s .binds));
+        binds = checked-binds-grown W W′ (e .binds) c (s .binds) g;
         refines = λ σ r. s .refines σ (back σ r);
         costs = λ ρ r. s .costs ρ (back (terms ρ) r);
       }

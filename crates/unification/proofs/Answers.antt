@@ -10,7 +10,6 @@ use Rattle.unification.specs.Term.{Term, Shape}
 use Rattle.unification.specs.Nodes.{isPlace, Binds, binding}
 use Rattle.unification.specs.NodeChecks.{bindingFine, bindingsFine}
 use Rattle.unification.specs.Unify.{Unifies, yes-with, unify, deep, deeper}
-use Rattle.unification.specs.Checked.{listsOf, BindsChecked}
 use Rattle.unification.specs.Solutions.{Respects, Equates, Robinson, says-yes}
 use Rattle.unification.specs.Making.{Lent, graph}
 use Rattle.unification.proofs.Lists.{lower, scoped}
@@ -18,14 +17,7 @@ use Rattle.unification.proofs.Robinson.{Next, Kept, unify-kept}
 use Rattle.unification.proofs.Theorem.{deep-enough, unify-is-robinson}
 use Rattle.unification.proofs.Agree.{Names, unify-names}
 use Rattle.unification.proofs.Grows.{CheckedLent, PlacedIn, grows-refl, agree-grown}
-use Rattle.unification.proofs.Places.{bound-is-place}
-
--- bindings that passed their checks, over the lists W
-abbrev pub BindsIn : Lent → Binds → Type 0
-BindsIn W B = BindsChecked (listsOf (W .sorts) (W .lengths .sorts) (W .nodes) (W .lengths .nodes)) (W .lengths .variables) B
-
-pub binds-name : (W : Lent) (B : Binds) → BindsIn W B → Names (PlacedIn W) B
-binds-name W B b v q e = bound-is-place (W .lengths .sorts) (W .lengths .nodes) B v q (b .places) e
+use Rattle.unification.proofs.BindsGrow.{CheckedBinds, binds-name-places}
 
 pub named-is-fine : (n m : ℕ) (B : Binds) → ((v q : ℕ) → binding B v ≡ some q → isPlace n m q ≡ true) → bindingsFine n m B ≡ true
 unfolding bindingsFine
@@ -38,11 +30,11 @@ named-is-fine n m (b ∷ B) h = and-eq-true-iff (bindingFine n m b) (bindingsFin
 
 -- C is a yes for l and r from the bindings B
 pub record Agreeing (W : Lent) (B : Binds) (l r : ℕ) (C : Binds) : Type 0 where
-  pub binds : BindsIn W C
+  pub binds : CheckedBinds W C
   pub before : (σ : ℕ → Term) → Respects (graph W) C σ → Respects (graph W) B σ
   pub equal : (σ : ℕ → Term) → Respects (graph W) C σ → Equates (graph W) σ l r
 
-module _ (W : Lent) (c : CheckedLent W) (B : Binds) (b : BindsIn W B) (l r : ℕ) (x : PlacedIn W l) (y : PlacedIn W r) where
+module _ (W : Lent) (c : CheckedLent W) (B : Binds) (b : CheckedBinds W B) (l r : ℕ) (x : PlacedIn W l) (y : PlacedIn W r) where
   robinson : Robinson (graph W) B l r (unify (graph W) B l r)
   robinson = unify-is-robinson (W .sorts) (W .lengths .sorts) (W .lengths .entries) (W .nodes) (W .lengths .nodes) (W .lengths .arguments) (W .lengths .variables) c B b l r
 
@@ -55,7 +47,7 @@ module _ (W : Lent) (c : CheckedLent W) (B : Binds) (b : BindsIn W B) (l r : ℕ
 
   names : (C : Binds) → unify (graph W) B l r ≡ yes-with C → Names (PlacedIn W) C
   unfolding unify
-  names C e = unify-names (PlacedIn W) (graph W) (graph W) (agree-grown W c W (grows-refl W c)) B (binds-name W B b) deep deeper l r C x y e
+  names C e = unify-names (PlacedIn W) (graph W) (graph W) (agree-grown W c W (grows-refl W c)) B (binds-name-places W B b) deep deeper l r C x y e
 
   solutions : (C : Binds) → Robinson (graph W) B l r (yes-with C) → ((σ : ℕ → Term) → Respects (graph W) C σ → Respects (graph W) B σ × Equates (graph W) σ l r)
   solutions C (says-yes _ f g a s) = f

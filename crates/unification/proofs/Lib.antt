@@ -34,7 +34,16 @@ pub mod NoList
 pub mod Room
 pub mod PlaceTerms
 pub mod RelatedPlaces
-pub mod Answers
 pub mod Examples
 pub mod ResolvedExamples
 pub mod MakingExamples
+pub mod Assignments
+pub mod BindsGrow
+pub mod SortsLeft
+pub mod ResolveAnswers
+pub mod BoundAnswers
+pub mod MostGeneral
+pub mod UpToNames
+pub mod RelatedBinds
+pub mod StandsAlike
+pub mod Answers

@@ -62,7 +62,7 @@ module _ (ws : List ℕ) (T : List Tree) (σ : ℕ → Term) (part start count :
 mutual
   unfolding termOf termsOf arity
 
-  term-injective : (t u : Tree) → termOf t ≡ termOf u → t ≡ u
+  pub term-injective : (t u : Tree) → termOf t ≡ termOf u → t ≡ u
   term-injective (flat a) (flat b) e = let z : a ≡ b = cc in ap flat z
   term-injective (flat a) (container p u) e = no-confusion (cc)
   term-injective (flat a) (function us q) e = no-confusion (cc)

@@ -46,10 +46,10 @@ module _ (shape : ℕ → Shape) (w : ℕ) (B : Binds) (A : Ranked shape w B) wh
 
 module _ (W : Lent) (B : Binds) (A : Ranked (graph W) deep B) (up : Bool) where
   -- no list only for such a place, and then with the lists as they were
-  abbrev Free : ℕ → Lent → Type 0
+  abbrev pub Free : ℕ → Lent → Type 0
   Free p W′ = FreeEnd (graph W) B p × (W′ ≡ W)
 
-  abbrev OnlyFree : ℕ → Makes (List ℕ) → Type 0
+  abbrev pub OnlyFree : ℕ → Makes (List ℕ) → Type 0
   OnlyFree p x = Each Any (Free p) Any x
 
   -- by the outcome for the range
@@ -70,7 +70,7 @@ module _ (W : Lent) (B : Binds) (A : Ranked (graph W) deep B) (up : Bool) where
       functions p (getD ps n 0) (take n ps) (λ x. free-from-end (graph W) B deep p q e (range q n ps s x)) (f (getD ps n 0) W) (h (getD ps n 0) (range-lower W B A q n ps s))
   shapes p q e f h b (over (strayHead x) ps) s = tt
 
-  only-free : (k p : ℕ) → rank (graph W) deep B p < k → OnlyFree p (relatedTo up B k p W)
+  pub only-free : (k p : ℕ) → rank (graph W) deep B p < k → OnlyFree p (relatedTo up B k p W)
   unfolding relatedTo
   only-free zero p l = absurd (omega (arith, l))
   only-free (suc k) p l =
@@ -78,7 +78,7 @@ module _ (W : Lent) (B : Binds) (A : Ranked (graph W) deep B) (up : Bool) where
       rw (x .1) (shapes p (x .0) (x .1) (relatedTo up B k) (λ r m. only-free k r (omega (arith, l, m, x .2))) (isSort (x .0)) (graph W (x .0)) refl)
 
   -- and such a place has none
-  has-none : (p : ℕ) → FreeEnd (graph W) B p → strictRelated up B p W ≡ no-list W
+  pub has-none : (p : ℕ) → FreeEnd (graph W) B p → strictRelated up B p W ≡ no-list W
   has-none _ (free p v s b) = related-eq W B A up p ∙ rw (variable-ends (graph W) deep B A p v s b) (rw s)
   has-none _ (bound p v q s b h) =
       related-eq W B A up p ∙ (rw (binding-followed (graph W) deep B A p v q s b) (sym (related-eq W B A up q)) ∙ has-none q h)

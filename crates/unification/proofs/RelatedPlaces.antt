@@ -118,7 +118,7 @@ StandForRelated up B W p W′ qs =
     AllPlaced W′ qs × ((σ : ℕ → Term) → Respects (graph W) B σ → (t : Tree) → termIn W σ p ≡ termOf t → each (termIn W′ σ) qs ≡ each termOf (related up t))
 
 module _ (W : Lent) (c : CheckedLent W) (six : fixedSix (W .sorts) (W .lengths .sorts) ≡ true) (up : Bool) (B : Binds) (b : Names (PlacedIn W) B) where
-  abbrev Answer : ℕ → Lent → List ℕ → Type 0
+  abbrev pub Answer : ℕ → Lent → List ℕ → Type 0
   Answer = StandForRelated up B W
 
   -- by the shape at the end
@@ -183,7 +183,7 @@ module _ (W : Lent) (c : CheckedLent W) (six : fixedSix (W .sorts) (W .lengths .
               functions-terms W W₁ W₂ c g k σ xs y (i .0) l (j .1) rs ps (h .0) a (related up (i .1)) (h .1 σ R (i .1) (j .0)) ∙ ap (λ u. each termOf (related up u)) (sym (i .2)),
         )))
 
-  related-made : (k p : ℕ) → PlacedIn W p → MadeFrom (Answer p) W (relatedTo up B k p W)
+  pub related-made : (k p : ℕ) → PlacedIn W p → MadeFrom (Answer p) W (relatedTo up B k p W)
   unfolding MadeFrom relatedTo
   related-made zero p x = grows-refl W c
   related-made (suc k) p x = ends (follow (graph W) deep B p) refl (related-made k)

@@ -74,11 +74,11 @@ unfolding intern
 intern-says P N t S h = intern-by P N t S _ (member (S .trees) t) (fits t S) h
 
 -- the terms of sorts, and the term of a head over sorts
-unfoldable termsFor : List Tree → Terms
+unfoldable pub termsFor : List Tree → Terms
 termsFor [] = no-part
 termsFor (u ∷ us) = part (termOf u) (termsFor us)
 
-count-for : (us : List Tree) → count (termsFor us) ≡ length us
+pub count-for : (us : List Tree) → count (termsFor us) ≡ length us
 unfolding count termsFor
 count-for [] = refl
 count-for (u ∷ us) = ap suc (count-for us)
@@ -90,7 +90,7 @@ function-terms zero (u ∷ []) l = refl
 function-terms zero (u ∷ w ∷ us) l = absurd (omega arith)
 function-terms (suc k) (u ∷ us) l = ap (part (termOf u)) (function-terms k us (omega arith))
 
-head-term : (h : Head) (us : List Tree) → HeadOver h (length us) → app h (termsFor us) ≡ termOf (treeOver h us)
+pub head-term : (h : Head) (us : List Tree) → HeadOver h (length us) → app h (termsFor us) ≡ termOf (treeOver h us)
 unfolding termsFor termOf treeOver
 head-term (flatHead a) [] o = refl
 head-term (flatHead a) (u ∷ us) o = absurd (omega arith)
@@ -101,7 +101,7 @@ head-term (functionHead k) us o =
     ap₂ (λ (h : Head) (ts : Terms). app h ts) (ap functionHead (sym (firsts-arity k us (omega (arith, o .0))))) (function-terms k us (o .0))
 head-term (strayHead x) us o = absurd o
 
-count-puts : (σ : ℕ → Term) (ts : Terms) → count (puts σ ts) ≡ count ts
+pub count-puts : (σ : ℕ → Term) (ts : Terms) → count (puts σ ts) ≡ count ts
 unfolding count puts
 count-puts σ no-part = refl
 count-puts σ (part t ts) = ap suc (count-puts σ ts)
@@ -373,7 +373,7 @@ module _ (ws : List ℕ) (n e : ℕ) (ns : List ℕ) (m d v : ℕ) (c : NodesChe
   pub value-followed : (p q : ℕ) → follow graph deep B p ≡ some q → value graph B p ≡ value graph B q
   value-followed p q f = value-follows graph deep B A deep p q f
 
-  put-place : (σ : ℕ → Term) → Respects graph B σ → (p : ℕ) → put σ (value graph B p) ≡ put σ (termAt graph p)
+  pub put-place : (σ : ℕ → Term) → Respects graph B σ → (p : ℕ) → put σ (value graph B p) ≡ put σ (termAt graph p)
   put-place σ r p = put-value graph deep B A 3072 (lower ws n e ns m d v c) σ r p
 
   module _ (p : ℕ) (S : Sorts) where

@@ -50,7 +50,7 @@ module _ (shape : ℕ → Shape) (K : ℕ) (lower : Lower shape K) where
   respects-of B σ m = m .sat
 
   -- a model gives each place that term
-  value-of-model : (B : Binds) (σ val : ℕ → Term) → Model shape B σ val → (k p : ℕ) → p < k → val p ≡ value σ p
+  pub value-of-model : (B : Binds) (σ val : ℕ → Term) → Model shape B σ val → (k p : ℕ) → p < k → val p ≡ value σ p
   value-of-model B σ val m zero p l = absurd (omega (arith, l))
   value-of-model B σ val m (suc k) p l = m .isval p ∙ (go (shape p) refl (value-of-model B σ val m k) ∙ sym (value-by-shape σ p))
     where
@@ -58,7 +58,7 @@ module _ (shape : ℕ → Shape) (K : ℕ) (lower : Lower shape K) where
       go (variable v) e ih = refl
       go (over h ps) e ih = ap (app h) (termsAt-agree val (value σ) ps (λ q o. ih q (omega (arith, l, lower p q h ps e o .0))))
 
-  respects-model : (B : Binds) (σ val : ℕ → Term) → Model shape B σ val → Respects shape B σ
+  pub respects-model : (B : Binds) (σ val : ℕ → Term) → Model shape B σ val → Respects shape B σ
   respects-model B σ val m v q e = m .sat v q e ∙ value-of-model B σ val m (suc q) q (omega arith)
 
   -- numbered variables do not reach themselves: ranks fall

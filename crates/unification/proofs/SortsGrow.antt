@@ -10,14 +10,16 @@ use lib.Dec.{eqb}
 use borrow.Author.Tests.{le-leb, eq-eqb}
 use Rattle.resolved_sort.specs.declared.ResolvedSort.{ResolvedSort}
 use Rattle.resolved_sort.specs.declared.ResolvedSort.the-variants.{Unit as UnitRow, Primitive, Container, Function as SortFunction, Def, TypeVar}
-use Rattle.resolved_sort.specs.Interning.{Sorts}
+use Rattle.resolved_sort.specs.Interning.{Sorts, look}
 use Rattle.resolved_sort.specs.Storage.{maxEntries, kindAt, resolved, rowAt}
 use Rattle.resolved_sort.specs.Entries.{after}
 use Rattle.resolved_sort.specs.Checks.{fixedSix, partsBelow}
+use Rattle.resolved_sort.specs.Rows.{Checked}
 use Rattle.resolved_sort.proofs.Below.{each-below}
-use Rattle.resolved_sort.proofs.Append.{Agrees, entries-agree}
+use Rattle.resolved_sort.proofs.Trees.{look-longer}
+use Rattle.resolved_sort.proofs.Append.{Agrees, entries-agree, rows-agree, trees-agree}
 use Rattle.resolved_sort.proofs.Grown.{Grown}
-use Rattle.resolved_sort.proofs.Unchanged.{longer, entries-longer, unchanged, length-after, look-unchanged}
+use Rattle.resolved_sort.proofs.Unchanged.{longer, entries-longer, unchanged, length-after}
 use Rattle.unification.specs.Term.{functionHead, over}
 use Rattle.unification.specs.Nodes.{sortShape}
 use Rattle.unification.specs.NodeChecks.{nodeFine, nodesFine}
@@ -28,21 +30,18 @@ use Rattle.unification.proofs.Lists.{sort-parts-fine}
 use Rattle.unification.proofs.Rows.{sort-function-fine, fixed-six-kinds}
 use Rattle.unification.proofs.Grows.{CheckedLent, Grows, rows-same, node-fine-longer, ready-grown}
 
+-- the lists with other words for the sorts, of which n sorts and e entries count
+abbrev pub withSortWords : Lent → List ℕ → ℕ → ℕ → Lent
+withSortWords W us n e =
+    record {
+      sorts = us;
+      nodes = W .nodes;
+      lengths = record { sorts = n; entries = e; nodes = W .lengths .nodes; arguments = W .lengths .arguments; variables = W .lengths .variables };
+    }
+
 -- the lists with the sorts S
 abbrev pub withMoreSorts : Lent → Sorts → Lent
-withMoreSorts W S =
-    record {
-      sorts = after (W .sorts) (W .lengths .sorts) (W .lengths .entries) S;
-      nodes = W .nodes;
-      lengths =
-          record {
-            sorts = length (S .trees);
-            entries = maxEntries - S .entries;
-            nodes = W .lengths .nodes;
-            arguments = W .lengths .arguments;
-            variables = W .lengths .variables;
-          };
-    }
+withMoreSorts W S = withSortWords W (after (W .sorts) (W .lengths .sorts) (W .lengths .entries) S) (length (S .trees)) (maxEntries - S .entries)
 
 module _ (ws us : List ℕ) (n e : ℕ) (a : Agrees ws us n e) where
   row-same : (i : ℕ) → i < n → rowAt us i ≡ rowAt ws i
@@ -71,48 +70,53 @@ module _ (ws us : List ℕ) (n e : ℕ) (a : Agrees ws us n e) where
       let x = fixed-six-kinds ws n f in
       rw (le-leb 6 m (omega (arith, x .0, l))) (each-below 6 (λ i. eqb (kindAt us i) i) (λ i h. eq-eqb (kindAt us i) i (a .kinds i (omega (arith, x .0, h)) ∙ x .1 i h)))
 
-module _ (W : Lent) (c : CheckedLent W) (S : Sorts) (g : Grown (W .sorts) (W .lengths .sorts) (W .lengths .entries) S) where
+-- words that read as before below the old lengths
+module _ (W : Lent) (c : CheckedLent W) (us : List ℕ) (n′ e′ : ℕ) (k : Checked us n′ e′) (more : W .lengths .sorts ≤ n′) (used : W .lengths .entries ≤ e′) (as-long : length us ≡ length (W .sorts)) (old : Agrees (W .sorts) us (W .lengths .sorts) (W .lengths .entries)) where
   abbrev n : ℕ
   n = W .lengths .sorts
 
-  abbrev more : n ≤ length (S .trees)
-  more = longer (W .sorts) n (W .lengths .entries) (c .sorts) S g
+  abbrev e : ℕ
+  e = W .lengths .entries
 
-  abbrev old : Agrees (W .sorts) (after (W .sorts) n (W .lengths .entries) S) n (W .lengths .entries)
-  old = unchanged (W .sorts) n (W .lengths .entries) (c .sorts) S g
-
-  pub sorts-grow : Grows W (withMoreSorts W S)
+  pub agreeing-sorts-grow : Grows W (withSortWords W us n′ e′)
   unfolding nodesFine
-  sorts-grow =
+  agreeing-sorts-grow =
       record {
         checked =
             record {
-              sorts = g .checked;
+              sorts = k;
               long = c .long;
               nodes = c .nodes;
               entries = c .entries;
               variables = c .variables;
               fine =
-                  each-below (W .lengths .nodes) (nodeFine (W .nodes) (W .lengths .arguments) (length (S .trees)) (W .lengths .variables))
+                  each-below (W .lengths .nodes) (nodeFine (W .nodes) (W .lengths .arguments) n′ (W .lengths .variables))
                   (node-fine-longer (W .nodes) (W .nodes) (W .lengths .nodes) (W .lengths .arguments) (record { rows = λ j l. refl; entries = λ j l. refl }) n (W .lengths .variables) (c .fine)
-                  (W .lengths .arguments) (length (S .trees)) (omega arith) more);
+                  (W .lengths .arguments) n′ (omega arith) more);
             };
         sorts = more;
-        entries = entries-longer (W .sorts) n (W .lengths .entries) (c .sorts) S g;
+        entries = used;
         nodes = omega arith;
         arguments = omega arith;
         variables = refl;
         sort-words = old;
         node-words = record { rows = λ j l. refl; entries = λ j l. refl };
-        as-long = (length-after (W .sorts) n (W .lengths .entries) (c .sorts) S g, refl);
+        as-long = (as-long, refl);
         same =
-            rows-same W (withMoreSorts W S) more (omega arith)
-            (λ i l. ap (sortShape (after (W .sorts) n (W .lengths .entries) S)) (row-same (W .sorts) _ n (W .lengths .entries) old i l)
-            ∙ sort-shape (W .sorts) _ n (W .lengths .entries) old i (rowAt (W .sorts) i) (sort-parts-fine (W .sorts) n (W .lengths .entries) (W .nodes) (W .lengths .nodes) (W .lengths .arguments) (W .lengths .variables) c i l))
+            rows-same W (withSortWords W us n′ e′) more (omega arith)
+            (λ i l. ap (sortShape us) (row-same (W .sorts) us n e old i l)
+            ∙ sort-shape (W .sorts) us n e old i (rowAt (W .sorts) i) (sort-parts-fine (W .sorts) n e (W .nodes) (W .lengths .nodes) (W .lengths .arguments) (W .lengths .variables) c i l))
             (λ i l. refl);
-        looks = look-unchanged (W .sorts) n (W .lengths .entries) (c .sorts) S g;
-        fixed = fixed-six-same (W .sorts) _ n (W .lengths .entries) old (length (S .trees)) more;
+        looks = λ i l. look-longer us n n′ i l more ∙ ap (λ T. look T i) (trees-agree (W .sorts) us n (rows-agree (W .sorts) us n e old (c .sorts .fine)));
+        fixed = fixed-six-same (W .sorts) us n e old n′ more;
       }
+
+module _ (W : Lent) (c : CheckedLent W) (S : Sorts) (g : Grown (W .sorts) (W .lengths .sorts) (W .lengths .entries) S) where
+  pub sorts-grow : Grows W (withMoreSorts W S)
+  sorts-grow =
+      agreeing-sorts-grow W c (after (W .sorts) (W .lengths .sorts) (W .lengths .entries) S) (length (S .trees)) (maxEntries - S .entries) (g .checked)
+      (longer (W .sorts) (W .lengths .sorts) (W .lengths .entries) (c .sorts) S g) (entries-longer (W .sorts) (W .lengths .sorts) (W .lengths .entries) (c .sorts) S g)
+      (length-after (W .sorts) (W .lengths .sorts) (W .lengths .entries) (c .sorts) S g) (unchanged (W .sorts) (W .lengths .sorts) (W .lengths .entries) (c .sorts) S g)
 
 -- The same for lists given apart: ready again, and each place a place.
 pub ready-with-more-sorts : (ws ns bs : List ℕ) (k : Lengths) → Ready ws ns bs k → (S : Sorts) → Grown ws (k .sorts) (k .entries) S

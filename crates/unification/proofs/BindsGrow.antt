@@ -1,0 +1,19 @@
+-- Bindings that passed their checks name places, and pass them again in lists that have grown. By the growth of lists. Assumes nothing.
+use mathlib.Core.Path.{sym, subst}
+use Rattle.unification.specs.Nodes.{Binds}
+use Rattle.unification.specs.Checked.{listsOf, BindsChecked}
+use Rattle.unification.specs.Making.{Lent}
+use Rattle.unification.proofs.Places.{bound-is-place}
+use Rattle.unification.proofs.Agree.{Names}
+use Rattle.unification.proofs.Grows.{CheckedLent, PlacedIn, Grows, binds-grown}
+
+-- bindings of as many variables as the lists have, that passed their checks with them
+abbrev pub CheckedBinds : Lent → Binds → Type 0
+CheckedBinds W B = BindsChecked (listsOf (W .sorts) (W .lengths .sorts) (W .nodes) (W .lengths .nodes)) (W .lengths .variables) B
+
+pub binds-name-places : (W : Lent) (B : Binds) → CheckedBinds W B → Names (PlacedIn W) B
+binds-name-places W B b u q e = bound-is-place (W .lengths .sorts) (W .lengths .nodes) B u q (b .places) e
+
+pub checked-binds-grown : (W W′ : Lent) (B : Binds) → CheckedLent W → CheckedBinds W B → Grows W W′ → CheckedBinds W′ B
+checked-binds-grown W W′ B c b g =
+    subst (λ v. BindsChecked (listsOf (W′ .sorts) (W′ .lengths .sorts) (W′ .nodes) (W′ .lengths .nodes)) v B) (sym (g .variables)) (binds-grown W c W′ g B (binds-name-places W B b) b)
