@@ -156,10 +156,7 @@ module _ (ws : List ℕ) (n e : ℕ) where
       (λ us S₂ g₂ x₂ h. one-kept u (count ts) S₁ S₂ m g₂ x₂ us h))
 
 -- what a call has left, by the words and the counts that it gave back
-pub left-checked : (ws : List ℕ) (n e : ℕ) (S : Sorts) → Grown ws n e S → (vs : List ℕ) (K : Counts) → vs ≡ after ws n e S → K ≡ countsOf S → Checked vs (K .sorts) (K .entries)
-left-checked ws n e S g vs K w c = rw (w, c) (g .checked)
-
-pub left-reads : (ws : List ℕ) (n e : ℕ) (S : Sorts) → Grown ws n e S → (vs : List ℕ) (K : Counts) → vs ≡ after ws n e S → K ≡ countsOf S → sortsOf vs (K .sorts) (K .entries) ≡ S
+left-reads : (ws : List ℕ) (n e : ℕ) (S : Sorts) → Grown ws n e S → (vs : List ℕ) (K : Counts) → vs ≡ after ws n e S → K ≡ countsOf S → sortsOf vs (K .sorts) (K .entries) ≡ S
 left-reads ws n e S g vs K w c = rw (w, c) (sorts-again ws n e S g)
 
 -- calls from the words ws with the counts C
@@ -235,9 +232,6 @@ module _ (ws : List ℕ) (C : Counts) (k : Checked ws (C .sorts) (C .entries)) (
       pub part-below : c .0 < K .sorts
       part-below = reached-below ws n e S one vs c K part-reached
 
-      pub part-default : DefaultIn x (sortsOf vs (K .sorts) (K .entries))
-      part-default = subst (DefaultIn x) (sym (reached-list ws n e S one vs c K part-reached)) (default-extends x S S′ (part-reached .extends) i)
-
       -- a container is interned over it
       pub container-made : (o : ComplexSort) (us : List ℕ) (w : Joined) → storedAt us w ≡ internAt vs (K .sorts) (K .entries) (container o (look (trees vs (K .sorts)) (c .0)))
           → storedAt us w ≡ stored ws n e (resolveTerm x (app (containerHead o) (part t no-part)) S)
@@ -310,14 +304,8 @@ module _ (ws : List ℕ) (C : Counts) (k : Checked ws (C .sorts) (C .entries)) (
         default-here : DefaultIn x S₁
         default-here = default-extends x S S₁ (arguments-reached .extends) i
 
-        pub arguments-checked : Checked vs (K .sorts) (K .entries)
-        arguments-checked = left-checked ws n e S₁ (arguments-reached .grown) vs K (arguments-reached .words) (arguments-reached .counted)
-
         arguments-list : sortsOf vs (K .sorts) (K .entries) ≡ S₁
         arguments-list = left-reads ws n e S₁ (arguments-reached .grown) vs K (arguments-reached .words) (arguments-reached .counted)
-
-        pub arguments-default : DefaultIn x (sortsOf vs (K .sorts) (K .entries))
-        arguments-default = subst (DefaultIn x) (sym arguments-list) default-here
 
         range-kept : Kept w₁ n₁ e₁ InTree S₁ (range S₁)
         range-kept = resolve-kept w₁ n₁ e₁ x t S₁ grown-here default-here f

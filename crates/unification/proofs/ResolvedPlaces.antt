@@ -1,5 +1,5 @@
 -- The places of checked lists under resolve: the term of a place is formed as it should be, the term of a sort is that of its tree, and a list of
--- sorts that has grown leaves places, checks and terms as they were. By the shapes of places, and by the growth of lists. Assumes nothing.
+-- sorts that has grown leaves places and terms as they were. By the shapes of places, and by the growth of lists. Assumes nothing.
 use mathlib.Core.Path.{_≡_, refl, sym, _∙_, ap, subst}
 use mathlib.Core.Bool.{true}
 use mathlib.Core.List.{List, [], _∷_}
@@ -28,7 +28,7 @@ use Rattle.unification.proofs.Rows.{ShapeFormed, variable-formed, flat-
 use Rattle.unification.proofs.Lists.{part-is-place, place-formed, sort-value}
 use Rattle.unification.proofs.Theorem.{checked-ranked}
 use Rattle.unification.proofs.Agree.{Names}
-use Rattle.unification.proofs.Grows.{PlacedIn, Grows, placed-grown, value-grown, binds-grown}
+use Rattle.unification.proofs.Grows.{PlacedIn, Grows, placed-grown, value-grown}
 use Rattle.unification.proofs.SortsGrow.{withMoreSorts, sorts-grow}
 use Rattle.unification.proofs.ResolvedSorts.{count, HeadOver, Formed, AllFormed, DefaultIn, sort-is-found, resolve-again}
 
@@ -92,7 +92,7 @@ module _ (ws : List ℕ) (n e : ℕ) (ns : List ℕ) (m d v : ℕ) (c : NodesChe
         ∙ sort-is-found ws n e S g x (look (trees ws n) p)
         (subst (λ T. member T (look (trees ws n) p) ≡ true) (sym (g .prefix)) (member-grows (trees ws n) _ (look (trees ws n) p) (member-look (trees ws n) p (omega (arith, l, length-trees ws n)))))
 
--- A list of sorts that has grown: places of before are places, all is still checked, and places stand for what they stood for.
+-- A list of sorts that has grown: places of before are places, and stand for what they stood for.
 module _ (ws : List ℕ) (n e : ℕ) (ns : List ℕ) (m d v : ℕ) (c : NodesChecked ws n e ns m d v) (S : Sorts) (g : Grown ws n e S) where
   abbrev there : Lists
   there = listsOf (after ws n e S) (length (S .trees)) ns m
@@ -106,15 +106,9 @@ module _ (ws : List ℕ) (n e : ℕ) (ns : List ℕ) (m d v : ℕ) (c : NodesChe
   pub place-there : (p : ℕ) → isPlace n m p ≡ true → isPlace (length (S .trees)) m p ≡ true
   place-there = placed-grown before c (withMoreSorts before S) grows
 
-  pub nodes-checked-there : NodesChecked (after ws n e S) (length (S .trees)) (maxEntries - S .entries) ns m d v
-  nodes-checked-there = grows .checked
-
   module _ (B : Binds) (b : BindsChecked (listsOf ws n ns m) v B) where
     names : Names (PlacedIn before) B
     names u q = bound-is-place n m B u q (b .places)
-
-    pub binds-checked-there : BindsChecked there v B
-    binds-checked-there = binds-grown before c (withMoreSorts before S) grows B names b
 
     -- a place stands for what it stood for
     pub value-there : (p : ℕ) → isPlace n m p ≡ true → value (shapeAt there) B p ≡ value (shapeAt (listsOf ws n ns m)) B p

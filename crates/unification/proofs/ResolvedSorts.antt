@@ -10,7 +10,7 @@ use native.Mathlib.Omega.{arith}
 use native.Mathlib.Numerals.{add-one}
 use lib.ListN.{length, getD}
 use Rattle.resolved_sort.specs.Tree.{unit, Tree, flat, container, function, Trees, end, arg, arity}
-use Rattle.resolved_sort.specs.Interning.{Sorts, look, number, member, need, Outcome, made, _then_, intern}
+use Rattle.resolved_sort.specs.Interning.{Sorts, look, number, member, need, made, _then_, intern}
 use Rattle.resolved_sort.specs.Storage.{maxEntries, trees, sortsOf}
 use Rattle.resolved_sort.specs.Entries.{after, stored}
 use Rattle.resolved_sort.proofs.Numbers.{look-number, number-below}
@@ -134,12 +134,6 @@ module _ (ws : List ℕ) (n e : ℕ) (S : Sorts) (g : Grown ws n e S) where
 
   pub grown-there : Grown words-then sorts-then entries-then S
   grown-there = subst (Grown words-then sorts-then entries-then) (sorts-again ws n e S g) (grown-none words-then sorts-then entries-then (g .checked))
-
-  pub stored-then : {A : Type 0} (O : Outcome A) (k : A → Sorts → Outcome Tree) (a : A) → O ≡ made a S → Kept words-then sorts-then entries-then InTree S (k a S)
-      → stored ws n e (O then k) ≡ stored words-then sorts-then entries-then (k a (sortsOf words-then sorts-then entries-then))
-  stored-then O k a q h =
-      ap (λ P. stored ws n e (P then k)) q
-      ∙ (sym (stored-again ws n e S g S (k a S) h) ∙ ap (λ U. stored words-then sorts-then entries-then (k a U)) (sym (sorts-again ws n e S g)))
 
   pub resolve-again : (d : Option Tree) (t : Term) → DefaultIn d S → Formed t
       → stored ws n e (resolveTerm d t S) ≡ stored words-then sorts-then entries-then (resolveTerm d t (sortsOf words-then sorts-then entries-then))
