@@ -1,3 +1,4 @@
 pub mod Situations
 pub mod Invariant
 pub mod MakingSorts
+pub mod Joining
