@@ -21,8 +21,9 @@ cargo build --release --offline --quiet -p compare
 step "wrong ports are found"
 cargo test --release --offline --quiet -p compare --lib
 
-step "the recorded sample is what the excerpt answers"
+step "the recorded sample is what the excerpt answers, and what the gate replays"
 target/release/oracle-sample --seed 1 | cmp - recorded/sorts.txt
+cmp recorded/sorts.txt ../crates/replay_sorts/stdin
 
 step "comparison"
 compare pairs 850000 40000

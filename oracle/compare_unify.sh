@@ -50,8 +50,9 @@ cargo test --release --offline --quiet -p unify "${features[@]}" --lib
 step "wrong stand-ins are found by random lists"
 target/release/oracle-unify-faults --seed "$seed"
 
-step "the recorded sample is what the excerpt answers"
+step "the recorded sample is what the excerpt answers, and what the gate replays"
 target/release/oracle-unify-sample --seed 1 | cmp - recorded/unify.txt
+cmp recorded/unify.txt ../crates/replay_unify/stdin
 
 step "comparison"
 total=0

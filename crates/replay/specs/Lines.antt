@@ -13,7 +13,7 @@ use Rattle.replay.specs.declared.Letter.{Letter}
 use Rattle.replay.specs.declared.Letter.the-variants.{List as NewList, Row, Arguments, Asks, Other}
 use Rattle.replay.specs.declared.Place.{Place}
 use Rattle.replay.specs.declared.Verdict.{Verdict}
-use Rattle.replay.specs.declared.Verdict.the-variants.{Quiet, Agrees, Differs, NotOfForm}
+use Rattle.replay.specs.declared.Verdict.the-variants.{Quiet, Agrees, Differs, BindsOther, NotOfForm}
 use Rattle.replay.specs.declared.Step.{Step}
 use Rattle.replay.specs.declared.Tally.{Tally}
 use Rattle.replay.specs.Numbers.{fieldsOf}
@@ -145,4 +145,5 @@ unfoldable pub countedOf : Tally → Verdict → Tally
 countedOf t Quiet = record { lines = oneMore (t .lines); questions = t .questions; differ = t .differ }
 countedOf t Agrees = record { lines = oneMore (t .lines); questions = oneMore (t .questions); differ = t .differ }
 countedOf t (Differs got) = record { lines = oneMore (t .lines); questions = oneMore (t .questions); differ = oneMore (t .differ) }
+countedOf t (BindsOther variable) = record { lines = oneMore (t .lines); questions = oneMore (t .questions); differ = oneMore (t .differ) }
 countedOf t NotOfForm = record { lines = oneMore (t .lines); questions = t .questions; differ = oneMore (t .differ) }

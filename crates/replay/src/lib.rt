@@ -54,11 +54,13 @@ pub struct Place {
     pub filled: u16,
 }
 
-// What came of a line: nothing to say, an answer as recorded, another answer, or no line of the form.
+// What came of a line: nothing to say, an answer as recorded, another answer, another binding of a variable than the one
+// recorded, or no line of the form.
 pub enum Verdict {
     Quiet,
     Agrees,
     Differs(u64),
+    BindsOther(u16),
     NotOfForm,
 }
 
@@ -115,7 +117,7 @@ fn ended(value: u64, at: usize, end: usize) -> Number
 }
 
 // The numbers of a line after its letter: at most 16, each after one space.
-fn fields_of(line: &[u8]) -> Fields
+pub fn fields_of(line: &[u8]) -> Fields
     ensures { λ r. ⌜ r ≡ fieldsOf (now (line .entry)) ⌝ }
 {
     let mut values = [0u64; 16];
@@ -197,7 +199,7 @@ fn not_of_form(place: Place) -> Step
 }
 
 // Numbers stored as the words from a word on, up to the first that is no word.
-fn store(list: &mut [u16], base: usize, values: [u64; 16], count: usize) -> bool
+pub fn store(list: &mut [u16], base: usize, values: [u64; 16], count: usize) -> bool
     requires { ⌜ (base ≤ 1048576) × (count ≤ 16) ⌝ }
     ensures { λ r. ⌜ kept (now (list .exit)) r ≡ storeFrom count (now (list .entry)) base values 0 ⌝ }
 {
@@ -405,6 +407,11 @@ pub fn counted(tally: Tally, verdict: Verdict) -> Tally
             differ: tally.differ,
         },
         Verdict::Differs(_) => Tally {
+            lines,
+            questions: one_more(tally.questions),
+            differ: one_more(tally.differ),
+        },
+        Verdict::BindsOther(_) => Tally {
             lines,
             questions: one_more(tally.questions),
             differ: one_more(tally.differ),

@@ -31,6 +31,15 @@ enum-told-4 c = search needs
 one-more-requires-5 : tie.Need-one-more-requires-5
 one-more-requires-5 c κs = search needs
 
+one-more-requires-6 : tie.Need-one-more-requires-6
+one-more-requires-6 c κs = search needs
+
+enum-told-5 : tie.Need-enum-told-5
+enum-told-5 c = search needs
+
+one-more-requires-7 : tie.Need-one-more-requires-7
+one-more-requires-7 c κs = search needs
+
 returns : tie.Need-returns
 unfolding countedOf
 returns c = rw (c .enum-told .given .1, c .before .before .one-more .ensures)
@@ -45,7 +54,11 @@ returns-3 c = rw (c .before .before .enum-told3 .given .1, c .before .before .be
 
 returns-4 : tie.Need-returns-4
 unfolding countedOf
-returns-4 c = rw (c .before .enum-told4 .given .1, c .before .before .before .one-more .ensures, c .one-more5 .ensures)
+returns-4 c = rw (c .before .before .enum-told4 .given .1, c .before .before .before .before .one-more .ensures, c .before .one-more5 .ensures, c .one-more6 .ensures)
+
+returns-5 : tie.Need-returns-5
+unfolding countedOf
+returns-5 c = rw (c .before .enum-told5 .given .1, c .before .before .before .one-more .ensures, c .one-more7 .ensures)
 
 pub counted-spec : {M : Type 1} → statement M
 counted-spec =
@@ -60,7 +73,11 @@ counted-spec =
     one-more-requires-4
     enum-told-4
     one-more-requires-5
+    one-more-requires-6
+    enum-told-5
+    one-more-requires-7
     returns
     returns-2
     returns-3
-    returns-4)
+    returns-4
+    returns-5)

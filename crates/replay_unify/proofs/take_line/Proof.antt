@@ -1,16 +1,16 @@
--- The part of the line's buffer that is lent is as long as the line.
--- What `read` and `write` answer is what the C library's contracts say; nothing else is assumed.
-use borrow.Author.Needs.{needs}
+-- The part of the line's memory that is lent is as long as the line.
+-- What `write` answers is what the C library's contract says; nothing else is assumed.
 use lib.Seq.{length-take-le}
 use mathlib.Core.Path.{sym}
-use Rattle.replay_sorts.proofs.end_line.Statement.{statement}
-use Rattle.replay_sorts.proofs.end_line.Tie as tie
+use borrow.Author.Needs.{needs}
+use Rattle.replay_unify.proofs.take_line.Statement.{statement}
+use Rattle.replay_unify.proofs.take_line.Tie as tie
 
 counted-requires : tie.Need-counted-requires
 counted-requires c κs = search needs
 
-say-bad-requires : tie.Need-say-bad-requires
-say-bad-requires c κs = search needs
+say-requires : tie.Need-say-requires
+say-requires c κs = search needs
 
 returns : tie.Need-returns
 returns c = search needs
@@ -27,22 +27,22 @@ counted-requires-2 c κs = search needs
 slice-aggregate-say : tie.Need-slice-aggregate-say
 slice-aggregate-say c = sym (length-take-le _ _ (c .before .before .before .before .before .before .if1 .left))
 
-say-requires : tie.Need-say-requires
-say-requires c κs = search needs
+say-requires-2 : tie.Need-say-requires-2
+say-requires-2 c κs = search needs
 
 returns-2 : tie.Need-returns-2
 returns-2 c = search needs
 
-pub end-line-spec : {M : Type 1} → statement M
-end-line-spec =
+pub take-line-spec : {M : Type 1} → statement M
+take-line-spec =
     tie.close
     (tie.spec
     counted-requires
-    say-bad-requires
+    say-requires
     returns
     slice-aggregate-replay-line
     replay-line-requires
     counted-requires-2
     slice-aggregate-say
-    say-requires
+    say-requires-2
     returns-2)

@@ -1,0 +1,74 @@
+-- The loop's invariant: the bindings before the index are those recorded. The measure is how many are left. Assumes nothing.
+use Prim.Native.Nat.{ℕ, _+_, _-_, _<_, _≤_}
+use borrow.Author.Count.{below-more}
+use borrow.Author.Needs.{needs}
+use lib.ListN.{getD}
+use mathlib.Core.Path.{_≡_}
+use native.Mathlib.Omega.{arith}
+use Rattle.replay_nodes.proofs.judge.Statement.{statement}
+use Rattle.replay_nodes.proofs.judge.Tie as tie
+
+abbrev Inv-loop : tie.InvT-loop
+Inv-loop words bindings got recorded i₀ i = (i ≤ 512) × ((k : ℕ) → k < i → getD bindings k 0 ≡ getD words (20992 + k) 0)
+
+abbrev μ-loop : tie.MeasureT-loop
+μ-loop words bindings got recorded i₀ i = 512 - i
+
+returns : tie.Need-returns Inv-loop μ-loop
+returns c = λ e. absurd (let z : _≡_ {A = ℕ} 0 1 = cc in omega arith)
+
+loop-holds : tie.Need-loop-holds Inv-loop μ-loop
+loop-holds c = (omega arith, λ k l. absurd (omega (arith, l)))
+
+mul-if2 : tie.Need-mul-if2 Inv-loop μ-loop
+mul-if2 c = omega arith
+
+element-copy-out-if2 : tie.Need-element-copy-out-if2 Inv-loop μ-loop
+element-copy-out-if2 c = omega arith
+
+add-if2 : tie.Need-add-if2 Inv-loop μ-loop
+add-if2 c = omega arith
+
+mul-if2-2 : tie.Need-mul-if2-2 Inv-loop μ-loop
+mul-if2-2 c = omega arith
+
+element-copy-out-if2-2 : tie.Need-element-copy-out-if2-2 Inv-loop μ-loop
+element-copy-out-if2-2 c = omega arith
+
+cast-t17 : tie.Need-cast-t17 Inv-loop μ-loop
+cast-t17 c = omega arith
+
+returns-2 : tie.Need-returns-2 Inv-loop μ-loop
+returns-2 c = λ e. absurd (let z : _≡_ {A = ℕ} 0 1 = cc in omega arith)
+
+add-i : tie.Need-add-i Inv-loop μ-loop
+add-i c = omega arith
+
+loop-less : tie.Need-loop-less Inv-loop μ-loop
+loop-less c = omega arith
+
+loop-again : tie.Need-loop-again Inv-loop μ-loop
+loop-again c = (omega arith, below-more _ _ (c .before .before .before .before .loop .inv .1) (c .if2 .left))
+
+returns-3 : tie.Need-returns-3 Inv-loop μ-loop
+returns-3 c = λ e. (c .before .before .if1 .left, λ k l. c .before .loop .inv .1 k (omega (arith, l, c .loop-test .left)))
+
+pub judge-spec : {M : Type 1} → statement M
+judge-spec =
+    tie.close
+    (tie.spec
+    Inv-loop
+    μ-loop
+    returns
+    loop-holds
+    mul-if2
+    element-copy-out-if2
+    add-if2
+    mul-if2-2
+    element-copy-out-if2-2
+    cast-t17
+    returns-2
+    add-i
+    loop-less
+    loop-again
+    returns-3)

@@ -1,0 +1,97 @@
+// Reads recorded answers about unify from standard input and asks the proved entry again. It names each line whose answer or
+// whose bindings differ and each line that is not of the form, and at the end it says how many questions there were and how
+// many lines differ.
+//
+// Its file stdin is a copy, byte for byte, of oracle/recorded/unify.txt, with the answers of the excerpt of merc and the
+// bindings of a model of document 01: `cp oracle/recorded/unify.txt crates/replay_unify/stdin`. Its first lines say how they
+// were made.
+use replay::Tally;
+use replay::Verdict;
+use replay::counted;
+use replay_input::Found;
+use replay_input::finish;
+use replay_input::next_line;
+use replay_input::no_input;
+use replay_input::say;
+use replay_nodes::Place;
+use replay_nodes::complete;
+use replay_nodes::replay_line;
+use replay_nodes::start;
+
+// How far the list was read, the counts, and how the search for the last line ended.
+struct State {
+    place: Place,
+    tally: Tally,
+    found: Found,
+}
+
+// A line of the input, of so many bytes. Of one that is longer than its memory it is known that it is not of the form.
+fn take_line(words: &mut [u16; 21504], line: &[u8], length: usize, state: State) -> State {
+    let place = state.place;
+    let before = state.tally;
+    if line.len() < length {
+        let tally = counted(before, Verdict::NotOfForm);
+        say(tally.lines, line, Verdict::NotOfForm);
+        return State {
+            place,
+            tally,
+            found: Found::Line,
+        };
+    }
+    let step = replay_line(words, &line[..length], place);
+    let verdict = step.verdict;
+    let next = step.place;
+    let tally = counted(before, verdict);
+    say(tally.lines, &line[..length], verdict);
+    State {
+        place: next,
+        tally,
+        found: Found::Line,
+    }
+}
+
+// All lines; the turns count down as in next_line.
+fn replay_all(words: &mut [u16; 21504], buffer: &mut [u8], line: &mut [u8], state: State) -> State {
+    let mut current = state;
+    let mut read = no_input();
+    let mut turns = u64::MAX;
+    while turns > 0 {
+        read = next_line(buffer, line, read);
+        let found = read.found;
+        match found {
+            Found::Line => {}
+            _ => {
+                let place = current.place;
+                let tally = current.tally;
+                return State {
+                    place,
+                    tally,
+                    found,
+                };
+            }
+        }
+        current = take_line(words, line, read.length, current);
+        turns -= 1;
+    }
+    current
+}
+
+fn main() {
+    let mut words = [0u16; 21504];
+    let mut buffer = io::buffer();
+    let mut line = [0u8; 256];
+    let tally = Tally {
+        lines: 0,
+        questions: 0,
+        differ: 0,
+    };
+    let state = State {
+        place: start(),
+        tally,
+        found: Found::Nothing,
+    };
+    let end = replay_all(&mut words, &mut buffer, &mut line, state);
+    let place = end.place;
+    let found = end.found;
+    finish(end.tally, found, complete(place));
+}
