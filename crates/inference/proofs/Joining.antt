@@ -47,6 +47,10 @@ module _ (W₀ : Lent) (B₀ : Binds) (P : Problem) (c₀ : CheckedLent W₀) (M
   pub given-term : (W : Lent) → Grows W₀ W → (p : ℕ) → PlacedIn W₀ p → (σ : ℕ → Term) → put σ (termAt (graph W) p) ≡ put σ (termAt (graph W₀) p)
   given-term W g p x σ = ap (put σ) (term-grown W₀ c₀ W g p x)
 
+  pub still-placed : (W : Lent) → Grows W₀ W → (ps : List ℕ) → All (PlacedIn W₀) ps → All (PlacedIn W) ps
+  still-placed W g _ none-left = none-left
+  still-placed W g _ (and-all p ps i is) = and-all p ps (placed-grown W₀ c₀ W g p i) (still-placed W g ps is)
+
   -- sources that agree, under an assignment that respects the bindings
   heads-stand : (W : Lent) → Grows W₀ W → (B : Binds) (W′ : Lent) (choices : List Choice) (ρ : Assignment) → Respects (graph W) B (terms ρ) → (u : Tree) (ps ss : List ℕ) (ns : Components)
       → All (PlacedIn W₀) ps → StandAll W B Nothing W′ ps ss → HeadsAre u (each (sortIn W′) ss) ns → Heads (graph W₀) (sortIn W₀) P choices ρ u ps (each (sortIn W′) ss) ns
@@ -57,10 +61,6 @@ module _ (W₀ : Lent) (B₀ : Binds) (P : Problem) (c₀ : CheckedLent W₀) (M
   module _ (ss : List ℕ) (t : ℕ) (placed : All (PlacedIn W₀) ss) (at : PlacedIn W₀ t) (Q R : Claim)
       (claim : (ch : List Choice) (ρ : Assignment) (ms : Components) (s u : Tree) (us : List Tree) (ns : Components) → Q ch ρ ms → Has (graph W₀) ρ t u
       → Heads (graph W₀) (sortIn W₀) P ch ρ u ss (s ∷ us) ns → joins s us ≡ some u → R ch ρ (ms ++ ns)) where
-    still : (W : Lent) → Grows W₀ W → (ps : List ℕ) → All (PlacedIn W₀) ps → All (PlacedIn W) ps
-    still W g _ none-left = none-left
-    still W g _ (and-all p ps i is) = and-all p ps (placed-grown W₀ c₀ W g p i) (still W g ps is)
-
     -- the first sort and the others
     claimed : (ch : List Choice) (ρ : Assignment) (ms : Components) (u : Tree) (ts : List Tree) (ns : Components) → Q ch ρ ms → Has (graph W₀) ρ t u
         → Heads (graph W₀) (sortIn W₀) P ch ρ u ss ts ns → JoinsTo ts u → R ch ρ (ms ++ ns)
@@ -70,7 +70,7 @@ module _ (W₀ : Lent) (B₀ : Binds) (P : Problem) (c₀ : CheckedLent W₀) (M
     pub joining-goes : (k : Next Met meet P) → Goes W₀ B₀ P Met R k → Goes W₀ B₀ P Met Q (sequence Met meet P ss t k) → Goes W₀ B₀ P Met Q (joining Met meet P ss t k)
     unfolding joining
     joining-goes k goes seq e w s b =
-        on-made-leaves (Agree (w .lent) (e .binds) ss) e w Q s b (joinOf (e .binds) ss (w .lent)) (join-of-makes (w .lent) (s .grown .checked) (e .binds) (s .binds) ss (still (w .lent) (s .grown) ss placed)) _ _
+        on-made-leaves (Agree (w .lent) (e .binds) ss) e w Q s b (joinOf (e .binds) ss (w .lent)) (join-of-makes (w .lent) (s .grown .checked) (e .binds) (s .binds) ss (still-placed (w .lent) (s .grown) ss placed)) _ _
         (λ a v g s′ b′ q.
         or-else-leaves W₀ B₀ P Met (v .lent) (s′ .grown .checked) _ _
         (unifying-leaves W₀ B₀ P Met e v Q s′ b′ t (a .sort) (placed-grown W₀ c₀ (v .lent) (s′ .grown) t at) (sort-placed (v .lent) (s′ .grown .checked) (a .sort) (q .agreed .number)) _

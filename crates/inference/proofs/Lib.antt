@@ -2,3 +2,4 @@ pub mod Situations
 pub mod Invariant
 pub mod MakingSorts
 pub mod Joining
+pub mod Leaf
