@@ -32,13 +32,15 @@ use Rattle.unification.specs.Acyclic.{first}
 use Rattle.unification.specs.Checked.{graphOf, Ready, Placed}
 use Rattle.unification.specs.Related.{relatedContainer}
 use Rattle.unification.specs.Making.{Lent, Makes, made, _and-then_, relatedOver, pushFunctions, relatedPlaces, relatedEnd, strictRelated}
-use Rattle.unification.proofs.Exact.{follow-end}
+use Rattle.unification.proofs.Follow.{follow-end}
 use Rattle.unification.proofs.Rank.{rank}
-use Rattle.unification.proofs.Enough.{follow-eq}
-use Rattle.unification.proofs.RelatedEq.{function-parts, ready-ranked, related-equation, no-list-at-variable, places-at-flat, made-at-sort-container, made-at-node-container, range-lower-than-place, made-at-function}
+use Rattle.unification.proofs.Theorem.{ready-ranked}
+use Rattle.unification.proofs.Enough.{follow-eq, end-no-higher}
+use Rattle.unification.proofs.RelatedEq.{function-parts, related-equation, no-list-at-variable, places-at-flat, made-at-sort-container, made-at-node-container, range-lower-than-place, made-at-function}
 use Rattle.unification.proofs.Grows.{parts-placed}
-use Rattle.unification.proofs.NodesGrow.{one-at}
-use Rattle.unification.proofs.PlaceTerms.{Formed, variable-formed, flat-formed, container-formed, function-formed, placed-formed, sort-part-below}
+use Rattle.unification.proofs.Parts.{one-at}
+use Rattle.unification.proofs.PlaceTerms.{placed-formed, sort-part-below}
+use Rattle.unification.proofs.Rows.{ShapeFormed, variable-formed, flat-formed, container-formed, function-formed}
 use Rattle.infer_nodes.specs.Parts.{NodesReady}
 use Rattle.infer_nodes.proofs.Shapes.{at-sort, shape-of-variable}
 use Rattle.infer_nodes.proofs.Ways as ways
@@ -46,7 +48,7 @@ use Rattle.related_sorts.specs.Outcome.{lent, related, AreThese, IsFunct
 use Rattle.related_sorts.proofs.Laws.{relates-as, no-places}
 
 -- a function has at most 16 arguments
-few-arguments : (s : Shape) → Formed s → (n : ℕ) (ps : List ℕ) → s ≡ over (functionHead n) ps → n ≤ 16
+few-arguments : (s : Shape) → ShapeFormed s → (n : ℕ) (ps : List ℕ) → s ≡ over (functionHead n) ps → n ≤ 16
 few-arguments _ (function-formed m xs r l h) n ps e = let z : m ≡ n = cc in omega (arith, h, z)
 few-arguments _ (variable-formed v) n ps e = absurd (let z : _≡_ {A = ℕ} 0 1 = cc in omega arith)
 few-arguments _ (flat-formed a) n ps e = absurd (let z : _≡_ {A = ℕ} 0 1 = cc in omega arith)
@@ -128,10 +130,10 @@ module _ (ws ns bs : List ℕ) (k : Lengths) (q : Ready ws ns bs k) (up : Bool) 
   -- the end of a place
   module _ (p end : ℕ) (i : Placed k p) (f : follow shape deep B p ≡ some end) where
     pub end-placed : Placed k end
-    end-placed = ways.end-placed ws ns bs k q 0 p end i f
+    end-placed = ways.end-is-placed ws ns bs k q p end i f
 
     pub end-rank : rank shape deep B end ≤ rank shape deep B p
-    end-rank = ways.end-rank ws ns bs k q 0 p end i f
+    end-rank = end-no-higher shape deep B (ready-ranked ws ns bs k q) deep p end f
 
     end-of-end : follow shape deep B end ≡ some end
     end-of-end = go (shape end) refl

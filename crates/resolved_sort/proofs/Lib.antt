@@ -30,3 +30,4 @@ pub mod BoundsCode
 pub mod DomainCode
 pub mod FunctionCode
 pub mod GivenBack
+pub mod FirstFailing

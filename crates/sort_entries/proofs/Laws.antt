@@ -23,6 +23,7 @@ use Rattle.resolved_sort.specs.Checks.{withinLent, fixedSix, rowsFine, noTwoEqu
 use Rattle.resolved_sort.specs.Entries.{testedOf, orElse, treeAt, after, Stored, stored, Left, left, leftBy, bounded}
 use Rattle.resolved_sort.specs.Rows.{Checked, storedAt}
 use Rattle.resolved_sort.specs.Bounds.{Asked, boundAt}
+use Rattle.resolved_sort.proofs.FirstFailing.{first-fails, first-passes, append-fails, append-passes, cons-passes}
 use Rattle.resolved_sort.proofs.Twice.{rows-differ-exactly}
 use Rattle.resolved_sort.proofs.Grown.{grown-none}
 use Rattle.resolved_sort.proofs.Kept.{Kept, InTree, make-kept}
@@ -30,41 +31,6 @@ use Rattle.resolved_sort.proofs.Stored.{look-whole}
 use Rattle.resolved_sort.proofs.GivenBack.{made-is-given-back}
 use Rattle.sort_interner.specs.Tests.{noSameRows, newRow, otherRow}
 use Rattle.sort_entries.specs.Kept.{keptOrGivenBack}
-
--- one check after another
-pub first-fails : (c : Check) (cs : List Check) → c .passes ≡ false → firstFailing (c ∷ cs) ≡ some (c .code)
-unfolding firstFailing
-first-fails c cs e = rw e
-
-pub first-passes : (c : Check) (cs : List Check) → c .passes ≡ true → firstFailing (c ∷ cs) ≡ firstFailing cs
-unfolding firstFailing
-first-passes c cs e = rw e
-
-by-first : (b : Bool) (x y : Option ℕ) (c : ℕ) (f : ℕ) → cond b x (some f) ≡ some c → (x ≡ some c → y ≡ some c) → cond b y (some f) ≡ some c
-by-first true x y c f e h = h e
-by-first false x y c f e h = e
-
-pub append-fails : (xs ys : List Check) (c : ℕ) → firstFailing xs ≡ some c → firstFailing (xs ++ ys) ≡ some c
-unfolding firstFailing
-append-fails [] ys c e = let z : _≡_ {A = ℕ} 0 1 = cc in absurd (omega arith)
-append-fails (x ∷ xs) ys c e = by-first (x .passes) (firstFailing xs) (firstFailing (xs ++ ys)) c (x .code) e (append-fails xs ys c)
-
-by-passing : (b : Bool) (x y z : Option ℕ) (f : ℕ) → cond b x (some f) ≡ none → (x ≡ none → y ≡ z) → cond b y (some f) ≡ z
-by-passing true x y z f e h = h e
-by-passing false x y z f e h = let w : _≡_ {A = ℕ} 0 1 = cc in absurd (omega arith)
-
-pub append-passes : (xs ys : List Check) → firstFailing xs ≡ none → firstFailing (xs ++ ys) ≡ firstFailing ys
-unfolding firstFailing
-append-passes [] ys e = refl
-append-passes (x ∷ xs) ys e = by-passing (x .passes) (firstFailing xs) (firstFailing (xs ++ ys)) (firstFailing ys) (x .code) e (append-passes xs ys)
-
-both : (b : Bool) (x : Option ℕ) (f : ℕ) → cond b x (some f) ≡ none → (b ≡ true) × (x ≡ none)
-both true x f e = (refl, e)
-both false x f e = let w : _≡_ {A = ℕ} 0 1 = cc in absurd (omega arith)
-
-pub cons-passes : (c : Check) (cs : List Check) → firstFailing (c ∷ cs) ≡ none → (c .passes ≡ true) × (firstFailing cs ≡ none)
-unfolding firstFailing
-cons-passes c cs e = both (c .passes) (firstFailing cs) (c .code) e
 
 -- what was tested is what the definition says
 pub refused-is : (x : Option ℕ) (t : Tested) (c : ℕ) → t ≡ testedOf x → t ≡ Refused c → x ≡ some c

@@ -25,7 +25,8 @@ use Rattle.resolved_sort.proofs.Trees.{length-trees, look-row}
 use Rattle.resolved_sort.proofs.Grown.{grown-none}
 use Rattle.resolved_sort.proofs.Kept.{Kept, InTree}
 use Rattle.resolved_sort.proofs.GivenBack.{made-is-given-back}
-use Rattle.sort_entries.proofs.Laws.{first-fails, first-passes, append-fails, append-passes, cons-passes, refused-is, passed-is}
+use Rattle.resolved_sort.proofs.FirstFailing.{first-fails, first-passes, append-fails, append-passes, cons-passes}
+use Rattle.sort_entries.proofs.Laws.{refused-is, passed-is}
 use Rattle.sort_text.specs.declared.Read.{Read}
 use Rattle.sort_text.specs.declared.Read.the-variants.{Refused as NotRead, NotASort, Sort, NoRoom}
 use Rattle.sort_text.specs.Parse.{Parsed, parsed, stuck, line}

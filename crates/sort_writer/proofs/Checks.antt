@@ -15,7 +15,8 @@ use Rattle.resolved_sort.specs.Storage.{maxSorts, maxEntries, fullLength, entri
 use Rattle.resolved_sort.specs.Checks.{Check, firstFailing, sortChecks, withinLent, rowsFine, noTwoEqual, inList, atCeiling}
 use Rattle.resolved_sort.specs.Entries.{testedOf, orElse, treeAt}
 use Rattle.resolved_sort.proofs.Interned.{Listed}
-use Rattle.sort_entries.proofs.Laws.{first-fails, first-passes, append-fails, append-passes, cons-passes, refused-is, passed-is}
+use Rattle.resolved_sort.proofs.FirstFailing.{first-fails, first-passes, append-fails, append-passes, cons-passes}
+use Rattle.sort_entries.proofs.Laws.{refused-is, passed-is}
 use Rattle.sort_text.specs.declared.Written.the-variants.{Refused as NotWritten, Text}
 use Rattle.sort_text.specs.Text.{writable, text}
 use Rattle.sort_text.specs.Writing.{writeChecks, writeLeft, writing}

@@ -14,7 +14,8 @@ use Rattle.resolved_sort.specs.declared.Tested.the-variants.{Refused, Passed}
 use Rattle.resolved_sort.specs.Storage.{maxSorts, maxEntries, entriesAt, fullLength}
 use Rattle.resolved_sort.specs.Checks.{withinLent, fixedSix, rowsFine, noTwoEqual, atCeiling, Check, firstFailing, sortChecks}
 use Rattle.resolved_sort.specs.Entries.{testedOf, orElse}
-use Rattle.sort_entries.proofs.Laws.{first-fails, first-passes, append-fails, append-passes, cons-passes, refused-is, passed-is}
+use Rattle.resolved_sort.proofs.FirstFailing.{first-fails, first-passes, append-fails, append-passes, cons-passes}
+use Rattle.sort_entries.proofs.Laws.{refused-is, passed-is}
 use Rattle.unification.specs.declared.Lengths.{Lengths}
 use Rattle.unification.specs.declared.Tried.{Tried}
 use Rattle.unification.specs.declared.Tried.the-variants.{Yes as TriedYes, No as TriedNo}
