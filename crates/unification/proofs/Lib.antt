@@ -11,6 +11,8 @@ pub mod Solved
 pub mod Lists
 pub mod Settles
 pub mod Cycle
+pub mod BindingWords
+pub mod BoundStays
 pub mod Theorem
 pub mod Denotes
 pub mod Wider
