@@ -33,3 +33,4 @@ pub mod NodesGrow
 pub mod MakingGrows
 pub mod PlaceTerms
 pub mod RelatedPlaces
+pub mod WiderReference
