@@ -1,14 +1,10 @@
 -- What a yes of unify gives whoever goes on from it: bindings that pass their checks again, under which the two places are equal and whatever
 -- respects them respected the bindings before. By Robinson's theorem and by the places that bindings name. Assumes nothing.
 use mathlib.Core.Path.{_≡_, refl, subst, _∙_}
-use mathlib.Core.Bool.{Bool, true, _&&_, and-eq-true-iff}
-use mathlib.Core.List.{List, [], _∷_}
-use mathlib.Core.Option.{Option, none, some}
 use Prim.Native.Nat.{ℕ, zero, suc}
 use lib.ListN.{length}
 use Rattle.unification.specs.Term.{Term, Shape}
 use Rattle.unification.specs.Nodes.{isPlace, Binds, binding}
-use Rattle.unification.specs.NodeChecks.{bindingFine, bindingsFine}
 use Rattle.unification.specs.Unify.{Unifies, yes-with, unify, deep, deeper}
 use Rattle.unification.specs.Solutions.{Respects, Equates, Robinson, says-yes}
 use Rattle.unification.specs.Making.{Lent, graph}
@@ -17,16 +13,8 @@ use Rattle.unification.proofs.Robinson.{Next, Kept, unify-kept}
 use Rattle.unification.proofs.Theorem.{deep-enough, unify-is-robinson}
 use Rattle.unification.proofs.Agree.{Names, unify-names}
 use Rattle.unification.proofs.Grows.{CheckedLent, PlacedIn, grows-refl, agree-grown}
+use Rattle.unification.proofs.BindingWords.{named-places-fine}
 use Rattle.unification.proofs.BindsGrow.{CheckedBinds, binds-name-places}
-
-pub named-is-fine : (n m : ℕ) (B : Binds) → ((v q : ℕ) → binding B v ≡ some q → isPlace n m q ≡ true) → bindingsFine n m B ≡ true
-unfolding bindingsFine
-named-is-fine n m [] h = refl
-named-is-fine n m (b ∷ B) h = and-eq-true-iff (bindingFine n m b) (bindingsFine n m B) .1 (one b (λ q e. h zero q e), named-is-fine n m B (λ v q e. h (suc v) q e))
-  where
-    one : (o : Option ℕ) → ((q : ℕ) → o ≡ some q → isPlace n m q ≡ true) → bindingFine n m o ≡ true
-    one none g = refl
-    one (some q) g = g q refl
 
 -- C is a yes for l and r from the bindings B
 pub record Agreeing (W : Lent) (B : Binds) (l r : ℕ) (C : Binds) : Type 0 where
@@ -57,7 +45,7 @@ module _ (W : Lent) (c : CheckedLent W) (B : Binds) (b : CheckedBinds W B) (l r 
       let f = solutions C (subst (Robinson (graph W) B l r) e robinson) in
       let k : Next (graph W) (W .lengths .variables) B C = subst (Kept (graph W) (W .lengths .variables) B) e kept in
       record {
-        binds = record { many = k .long ∙ b .many; places = named-is-fine (W .lengths .sorts) (W .lengths .nodes) C (names C e); numbered = k .numbering };
+        binds = record { many = k .long ∙ b .many; places = named-places-fine (W .lengths .sorts) (W .lengths .nodes) C (names C e); numbered = k .numbering };
         before = λ σ s. f σ s .0;
         equal = λ σ s. f σ s .1;
       }

@@ -16,6 +16,8 @@ pub mod Solved
 pub mod Lists
 pub mod Settles
 pub mod Cycle
+pub mod BindingWords
+pub mod BoundStays
 pub mod Theorem
 pub mod Denotes
 pub mod Agree
@@ -47,3 +49,4 @@ pub mod UpToNames
 pub mod RelatedBinds
 pub mod StandsAlike
 pub mod Answers
+pub mod WiderReference

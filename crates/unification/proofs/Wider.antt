@@ -30,11 +30,11 @@ member-below [] i l = absurd (omega (arith, l))
 member-below (x ∷ xs) zero l = (x, first)
 member-below (x ∷ xs) (suc i) l = let r = member-below xs i (omega (arith, l)) in (r .0, later (r .1))
 
-member-each : {A B : Type 0} (f : A → B) {x : A} {i : ℕ} {xs : List A} → Member x i xs → Member (f x) i (each f xs)
+pub member-each : {A B : Type 0} (f : A → B) {x : A} {i : ℕ} {xs : List A} → Member x i xs → Member (f x) i (each f xs)
 member-each f first = first
 member-each f (later h) = later (member-each f h)
 
-each-member : {A B : Type 0} (f : A → B) (u : B) (i : ℕ) (xs : List A) → Member u i (each f xs) → (x : A) × (u ≡ f x) × Member x i xs
+pub each-member : {A B : Type 0} (f : A → B) (u : B) (i : ℕ) (xs : List A) → Member u i (each f xs) → (x : A) × (u ≡ f x) × Member x i xs
 each-member f u i (x ∷ xs) first = (x, refl, first)
 each-member f u i (x ∷ xs) (later h) = let r = each-member f u _ xs h in (r .0, r .1, later (r .2))
 

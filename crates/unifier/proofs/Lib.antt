@@ -2,3 +2,4 @@
 pub mod Words
 pub mod Tries
 pub mod Steps
+pub mod TrailVariables

@@ -2,13 +2,13 @@
 -- Assumes nothing.
 use mathlib.Core.Path.{_≡_, refl, ap, ap₂, sym, _∙_, subst}
 use mathlib.Core.List.{List, [], _∷_, _++_}
-use mathlib.Core.Option.{none, some}
-use mathlib.Core.Bool.{Bool, true, false, not, cond, _&&_, and-eq-true-iff}
-use Prim.Native.Nat.{ℕ, zero, suc, _+_, _-_, _*_, _<_, _≤_}
+use mathlib.Core.Option.{none}
+use mathlib.Core.Bool.{Bool, true, false, not, _&&_, and-eq-true-iff}
+use Prim.Native.Nat.{ℕ, _+_, _-_, _*_, _<_, _≤_}
 use native.Mathlib.Omega.{arith}
-use lib.ListN.{length, take, drop, take-append-drop}
-use lib.Dec.{eqb, leb}
-use borrow.Author.Tests.{not-true, not-false, leb-true, le-leb, lt-leb, eqb-true}
+use lib.ListN.{length, drop, take-append-drop}
+use lib.Dec.{leb}
+use borrow.Author.Tests.{not-true, not-false, leb-true, le-leb, lt-leb}
 use Rattle.resolved_sort.specs.declared.Tested.{Tested}
 use Rattle.resolved_sort.specs.declared.Tested.the-variants.{Refused, Passed}
 use Rattle.resolved_sort.specs.Storage.{maxSorts, maxEntries, entriesAt, fullLength}
@@ -21,15 +21,16 @@ use Rattle.unification.specs.declared.Tried.{Tried}
 use Rattle.unification.specs.declared.Tried.the-variants.{Yes as TriedYes, No as TriedNo}
 use Rattle.unification.specs.declared.Unified.{Unified}
 use Rattle.unification.specs.declared.Unified.the-variants.{Refused as NotUnified, Yes, No}
-use Rattle.unification.specs.Nodes.{maxNodes, maxNodeEntries, maxVars, nodeEntriesAt, fullNodes, isPlace, shapeAt, freeWord, bindingOf, bindsOf}
+use Rattle.unification.specs.Nodes.{maxNodes, maxNodeEntries, maxVars, nodeEntriesAt, fullNodes, isPlace, shapeAt, bindsOf}
 use Rattle.unification.specs.Unify.{Unifies, yes-with, unify}
 use Rattle.unification.specs.Acyclic.{acyclic}
 use Rattle.unification.specs.NodeChecks.{nodesWithinLent, bindingsWithinLent, nodesFine, bindingsFine, nodeChecks, placeChecks, unifyChecks}
 use Rattle.unification.specs.Checked.{NodesChecked, listsOf, Ready}
 use Rattle.unification.specs.Trail.{undo, frees, Tries}
-use Rattle.unification.specs.UnifyEntry.{wordOf, wordsOf, Left, left, leftBy, unifyEntry}
-use Rattle.unification.proofs.Theorem.{binds-checked}
+use Rattle.unification.specs.UnifyEntry.{wordsOf, Left, left, leftBy, unifyEntry}
+use Rattle.unification.proofs.BindingWords.{words-of-binds}
 use Rattle.unification.proofs.Equations.{frees-few}
+use Rattle.unification.proofs.Theorem.{binds-checked}
 use Rattle.infer_nodes.proofs.Ways.{length-binds}
 use Rattle.unifier.specs.Trying.{Trying}
 
@@ -164,7 +165,7 @@ module _ (ws : List ℕ) (n e : ℕ) (ns : List ℕ) (m d : ℕ) (bs : List ℕ)
 
   -- no check fails
   module _ (x : firstFailing all ≡ none) where
-    chain : (withinLent ws n e ≡ true) × (nodesWithinLent ns m d ≡ true) × (bindingsWithinLent bs v ≡ true) × (rowsFine ws n e ≡ true) × (noTwoEqual ws n ≡ true) × (nodesFine ns m d n v ≡ true)
+    pub chain : (withinLent ws n e ≡ true) × (nodesWithinLent ns m d ≡ true) × (bindingsWithinLent bs v ≡ true) × (rowsFine ws n e ≡ true) × (noTwoEqual ws n ≡ true) × (nodesFine ns m d n v ≡ true)
         × (bindingsFine n m (bindsOf bs v) ≡ true) × (acyclic ns m (bindsOf bs v) ≡ true) × (isPlace n m l ≡ true) × (isPlace n m r ≡ true) × (atCeiling ws ≡ true) × (leb fullNodes (length ns) ≡ true)
     unfolding unifyChecks nodeChecks placeChecks
     chain =
@@ -215,20 +216,6 @@ module _ (ws : List ℕ) (n e : ℕ) (ns : List ℕ) (m d : ℕ) (bs : List ℕ)
 
     pub rhs-placed : isPlace n m r ≡ true
     rhs-placed = chain .9
-
--- the words of bindings
-word-of-binding : (w : ℕ) → wordOf (bindingOf w) ≡ w
-word-of-binding w = go (eqb w freeWord) refl
-  where
-    go : (b : Bool) → eqb w freeWord ≡ b → wordOf (cond b none (some w)) ≡ w
-    go true x = sym (eqb-true w freeWord x)
-    go false x = refl
-
-words-of-binds : (bs : List ℕ) (v : ℕ) → v ≤ length bs → wordsOf (bindsOf bs v) ≡ take v bs
-unfolding wordsOf bindsOf
-words-of-binds bs zero l = refl
-words-of-binds [] (suc v) l = absurd (omega (arith, l))
-words-of-binds (w ∷ bs) (suc v) l = ap₂ (λ (x : ℕ) (xs : List ℕ). x ∷ xs) (word-of-binding w) (words-of-binds bs v (omega (arith, l)))
 
 -- a try on an empty trail
 module _ (ws ns bs : List ℕ) (k : Lengths) (q : Ready ws ns bs k) where

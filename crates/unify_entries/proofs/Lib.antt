@@ -1,2 +1,4 @@
--- The laws that the proofs of the code cite.
+-- The laws that the proofs of the code cite, and the laws about the entry itself.
 pub mod Laws
+pub mod EntryRobinson
+pub mod Codes

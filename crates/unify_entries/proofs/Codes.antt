@@ -1,0 +1,101 @@
+-- Document 01's number of unify's answer: the first failing check's, else 0 for a yes and for a no. The packed answer is that number, with 256
+-- for a yes; as the checks have the numbers 1 to 14, it tells a no, a yes and every refusal apart. By the cases of the first failing check
+-- and of the answers. Assumes nothing.
+use mathlib.Core.Path.{_≡_, refl, ap, subst}
+use mathlib.Core.Bool.{Bool, true, false, cond}
+use mathlib.Core.List.{List, [], _∷_}
+use mathlib.Core.Option.{Option, none, some}
+use Prim.Native.Nat.{ℕ, _+_, _*_, _≤_}
+use native.Mathlib.Omega.{arith}
+use Rattle.resolved_sort.specs.Checks.{Check, firstFailing}
+use Rattle.resolved_sort.specs.Entries.{orElse}
+use Rattle.unification.specs.declared.Unified.{Unified}
+use Rattle.unification.specs.declared.Unified.the-variants.{Refused, Yes, No}
+use Rattle.unification.specs.Nodes.{shapeAt, bindsOf}
+use Rattle.unification.specs.Unify.{Unifies, yes-with, no-way, too-deep, unify}
+use Rattle.unification.specs.NodeChecks.{nodeChecks, placeChecks, unifyChecks}
+use Rattle.unification.specs.Checked.{listsOf}
+use Rattle.unification.specs.UnifyEntry.{Left, left, leftBy, unifyEntry, codeUnified, packUnified}
+
+-- the numbers of checks
+abbrev pub Numbered : ℕ → Type 0
+Numbered c = (1 ≤ c) × (c ≤ 14)
+
+abbrev AllNumbered : List Check → Type 0
+AllNumbered [] = Unit {0}
+AllNumbered (c ∷ cs) = Numbered (c .code) × AllNumbered cs
+
+failing-numbered : (cs : List Check) (c : ℕ) → AllNumbered cs → firstFailing cs ≡ some c → Numbered c
+unfolding firstFailing
+failing-numbered [] c h e = let z : _≡_ {A = ℕ} 0 1 = cc in absurd (omega arith)
+failing-numbered (k ∷ cs) c h e = go (k .passes) e (failing-numbered cs c (h .1))
+  where
+    go : (b : Bool) → cond b (firstFailing cs) (some (k .code)) ≡ some c → (firstFailing cs ≡ some c → Numbered c) → Numbered c
+    go true e ih = ih e
+    go false e ih = let z : k .code ≡ c = cc in subst Numbered z (h .0)
+
+-- a refusal has the number of a check
+abbrev pub Told : Unified → Type 0
+Told (Refused c) = Numbered c
+Told Yes = Unit {0}
+Told No = Unit {0}
+
+left-told : (bs : List ℕ) (v : ℕ) (a : Unifies) → (codeUnified ((leftBy bs v a) .answer) ≡ 0) × Told ((leftBy bs v a) .answer)
+unfolding leftBy codeUnified
+left-told bs v (yes-with C) = (refl, tt)
+left-told bs v no-way = (refl, tt)
+left-told bs v too-deep = (refl, tt)
+
+module _ (ws : List ℕ) (n e : ℕ) (ns : List ℕ) (m d : ℕ) (bs : List ℕ) (v l r : ℕ) where
+  abbrev failing : Option ℕ
+  failing = firstFailing (unifyChecks ws n e ns m d bs v l r)
+
+  abbrev answered : Left
+  answered = leftBy bs v (unify (shapeAt (listsOf ws n ns m)) (bindsOf bs v) l r)
+
+  pub code-of-unified : codeUnified ((unifyEntry ws n e ns m d bs v l r) .answer) ≡ orElse failing (λ c. c) 0
+  unfolding unifyEntry codeUnified
+  code-of-unified = go failing
+    where
+      go : (o : Option ℕ) → codeUnified ((orElse o (λ c. left bs (Refused c)) answered) .answer) ≡ orElse o (λ c. c) 0
+      go none = left-told bs v (unify (shapeAt (listsOf ws n ns m)) (bindsOf bs v) l r) .0
+      go (some c) = refl
+
+  pub refused-by-number : (c : ℕ) → failing ≡ some c → Numbered c
+  unfolding unifyChecks nodeChecks placeChecks
+  refused-by-number c x = failing-numbered (unifyChecks ws n e ns m d bs v l r) c
+      ((omega arith, omega arith), ((omega arith, omega arith), ((omega arith, omega arith), ((omega arith, omega arith), ((omega arith, omega arith), ((omega arith, omega arith), ((omega arith, omega arith), ((omega arith, omega arith), ((omega arith, omega arith), tt)))))))))
+      x
+
+  pub entry-told : Told ((unifyEntry ws n e ns m d bs v l r) .answer)
+  unfolding unifyEntry
+  entry-told = go failing refl
+    where
+      go : (o : Option ℕ) → failing ≡ o → Told ((orElse o (λ c. left bs (Refused c)) answered) .answer)
+      go none x = left-told bs v (unify (shapeAt (listsOf ws n ns m)) (bindsOf bs v) l r) .1
+      go (some c) x = refused-by-number c x
+
+-- 1 for a yes
+abbrev pub yesUnified : Unified → ℕ
+yesUnified (Refused c) = 0
+yesUnified Yes = 1
+yesUnified No = 0
+
+pub unified-packed : (u : Unified) → packUnified u ≡ codeUnified u + 256 * yesUnified u
+unfolding packUnified codeUnified
+unified-packed (Refused c) = omega arith
+unified-packed Yes = refl
+unified-packed No = refl
+
+-- the packed answer tells the answers apart
+pub packed-tells : (u w : Unified) → Told u → Told w → packUnified u ≡ packUnified w → u ≡ w
+unfolding packUnified
+packed-tells (Refused c) (Refused k) x y e = ap Refused e
+packed-tells (Refused c) Yes x y e = absurd (omega (arith, x .1, e))
+packed-tells (Refused c) No x y e = absurd (omega (arith, x .0, e))
+packed-tells Yes (Refused k) x y e = absurd (omega (arith, y .1, e))
+packed-tells Yes Yes x y e = refl
+packed-tells Yes No x y e = absurd (omega (arith, e))
+packed-tells No (Refused k) x y e = absurd (omega (arith, y .0, e))
+packed-tells No Yes x y e = absurd (omega (arith, e))
+packed-tells No No x y e = refl

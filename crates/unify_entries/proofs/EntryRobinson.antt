@@ -1,0 +1,136 @@
+-- Robinson's theorem about the entry, whatever it is given: a refusal names the first failing check and leaves the words; a no means that there is
+-- no solution, and leaves the words; a yes leaves words whose bindings are the most general solution, with the words past the variables as they
+-- were, and these words pass every check again. Checks that pass make the lists and bindings those of `unify-is-robinson`, so depth never
+-- ends; the bindings of a yes name places, all below 65,535, so the words left hold exactly them. Assumes nothing.
+use mathlib.Core.Path.{_≡_, refl, ap, sym, _∙_, subst}
+use mathlib.Core.List.{List, _++_}
+use mathlib.Core.Option.{Option, none, some}
+use mathlib.Core.Bool.{true}
+use Prim.Native.Nat.{ℕ, _+_, _<_}
+use native.Mathlib.Omega.{arith}
+use lib.ListN.{length, drop, length-append, length-drop}
+use lib.Seq.{drop-at}
+use Rattle.resolved_sort.specs.Checks.{firstFailing}
+use Rattle.resolved_sort.specs.Entries.{orElse}
+use Rattle.unification.specs.declared.Unified.{Unified}
+use Rattle.unification.specs.declared.Unified.the-variants.{Refused, Yes, No}
+use Rattle.unification.specs.Term.{Term, Shape}
+use Rattle.unification.specs.Nodes.{shapeAt, freeWord, Binds, binding, bindsOf}
+use Rattle.unification.specs.Unify.{Unifies, yes-with, no-way, unify, deep, deeper}
+use Rattle.unification.specs.Acyclic.{acyclic}
+use Rattle.unification.specs.NodeChecks.{bindingsWithinLent, bindingsFine, nodeChecks, unifyChecks}
+use Rattle.unification.specs.Checked.{listsOf, Ready}
+use Rattle.unification.specs.Solutions.{Respects, Equates, Robinson, says-no, says-yes}
+use Rattle.unification.specs.Making.{Lent}
+use Rattle.unification.specs.UnifyEntry.{wordsOf, Left, left, leftBy, unifyEntry}
+use Rattle.unification.proofs.Lists.{place-below}
+use Rattle.unification.proofs.Agree.{Names, unify-names}
+use Rattle.unification.proofs.Grows.{PlacedIn, ready-names, parts-placed}
+use Rattle.unification.proofs.BindingWords.{length-words, binds-of-words, named-places-fine}
+use Rattle.unification.proofs.BoundStays.{as-many-variables}
+use Rattle.unification.proofs.Theorem.{unify-is-robinson, check-7-exactly}
+use Rattle.infer_nodes.proofs.Ways.{length-binds}
+use Rattle.unify_entries.proofs.Laws.{chain, ready, lhs-placed, rhs-placed}
+
+module _ (ws : List ℕ) (n e : ℕ) (ns : List ℕ) (m d : ℕ) (bs : List ℕ) (v l r : ℕ) where
+  -- the answer to the checks
+  abbrev pub failing : Option ℕ
+  failing = firstFailing (unifyChecks ws n e ns m d bs v l r)
+
+  -- A refusal: the first failing check, and the words as given.
+  pub record LeftRefused (vs : List ℕ) (c : ℕ) : Type 1 where
+    pub first : failing ≡ some c
+    pub given : vs ≡ bs
+
+  -- A no: the words as given, and nothing that respects their bindings makes the two places equal.
+  pub record LeftNo (vs : List ℕ) : Type 1 where
+    pub passed : failing ≡ none
+    pub given : vs ≡ bs
+    pub no-solution : (σ : ℕ → Term) → Respects (shapeAt (listsOf ws n ns m)) (bindsOf bs v) σ → Equates (shapeAt (listsOf ws n ns m)) σ l r → ⊥
+
+  -- A yes: the bindings in the words are Robinson's, the words past the variables are as given, and the words pass all checks.
+  pub record LeftYes (vs : List ℕ) : Type 1 where
+    pub passed : failing ≡ none
+    pub solved : Robinson (shapeAt (listsOf ws n ns m)) (bindsOf bs v) l r (yes-with (bindsOf vs v))
+    pub long : length vs ≡ length bs
+    pub past : drop v vs ≡ drop v bs
+    pub again : firstFailing (unifyChecks ws n e ns m d vs v l r) ≡ none
+
+  abbrev pub LeftSays : List ℕ → Unified → Type 1
+  LeftSays vs (Refused c) = LeftRefused vs c
+  LeftSays vs No = LeftNo vs
+  LeftSays vs Yes = LeftYes vs
+
+  module _ (f : failing ≡ none) where
+    abbrev shape : ℕ → Shape
+    shape = shapeAt (listsOf ws n ns m)
+
+    abbrev B : Binds
+    B = bindsOf bs v
+
+    abbrev lent : Lent
+    lent = record { sorts = ws; nodes = ns; lengths = record { sorts = n; entries = e; nodes = m; arguments = d; variables = v } }
+
+    checked : Ready ws ns bs (lent .lengths)
+    checked = ready ws n e ns m d bs v l r f
+
+    is-robinson : Robinson shape B l r (unify shape B l r)
+    is-robinson = unify-is-robinson ws n e ns m d v (checked .nodes) B (checked .binds) l r
+
+    names : (C : Binds) → unify shape B l r ≡ yes-with C → Names (PlacedIn lent) C
+    unfolding unify
+    names C y =
+        unify-names (PlacedIn lent) shape shape (record { parts = parts-placed lent (checked .nodes); same = λ p x. refl }) B (ready-names lent bs checked) deep deeper l r C
+        (lhs-placed ws n e ns m d bs v l r f) (rhs-placed ws n e ns m d bs v l r f) y
+
+    module _ (C : Binds) (y : unify shape B l r ≡ yes-with C) where
+      abbrev words : List ℕ
+      words = wordsOf C ++ drop v bs
+
+      many : length C ≡ v
+      many = as-many-variables shape B l r C y ∙ length-binds bs v
+
+      below : (u q : ℕ) → binding C u ≡ some q → q < freeWord
+      below u q x = omega (arith, place-below n m q (checked .nodes .sorts .sorts) (names C y u q x), checked .nodes .nodes)
+
+      held : bindsOf words v ≡ C
+      held = subst (λ (k : ℕ). bindsOf words k ≡ C) many (binds-of-words C (drop v bs) below)
+
+      as-long : length words ≡ length bs
+      as-long = omega (arith, length-append (wordsOf C) (drop v bs), length-words C, many, length-drop v bs, checked .long)
+
+      rest : drop v words ≡ drop v bs
+      rest = drop-at (wordsOf C) (drop v bs) v (length-words C ∙ many)
+
+      fine : bindingsFine n m C ≡ true
+      fine = named-places-fine n m C (names C y)
+
+      solved-by : Robinson shape B l r (yes-with C)
+      solved-by = subst (Robinson shape B l r) y is-robinson
+
+      settled : acyclic ns m C ≡ true
+      settled = go C solved-by many fine
+        where
+          go : (C : Binds) → Robinson shape B l r (yes-with C) → length C ≡ v → bindingsFine n m C ≡ true → acyclic ns m C ≡ true
+          go C (says-yes _ sound complete a solution) k p = check-7-exactly ws n e ns m d v (checked .nodes) C k p .0 .1 a
+
+      same-checks : unifyChecks ws n e ns m d words v l r ≡ unifyChecks ws n e ns m d bs v l r
+      unfolding unifyChecks nodeChecks bindingsWithinLent
+      same-checks = rw (held, as-long, fine, settled, chain ws n e ns m d bs v l r f .6, chain ws n e ns m d bs v l r f .7)
+
+      left-yes : LeftYes words
+      left-yes = record { passed = f; solved = rw held solved-by; long = as-long; past = rest; again = ap firstFailing same-checks ∙ f }
+
+    by-answer : (a : Unifies) → unify shape B l r ≡ a → Robinson shape B l r a → (vs : List ℕ) (u : Unified) → left vs u ≡ leftBy bs v a → LeftSays vs u
+    unfolding leftBy
+    by-answer (yes-with C) y x vs u w = subst (λ (z : Left). LeftSays (z .words) (z .answer)) (sym w) (left-yes C y)
+    by-answer no-way y (says-no h) vs u w = subst (λ (z : Left). LeftSays (z .words) (z .answer)) (sym w) (record { passed = f; given = refl; no-solution = h })
+
+  -- Whatever lists, bindings and places the entry is given: what its answer and the words that it leaves say.
+  pub entry-is-robinson : (vs : List ℕ) (u : Unified) → left vs u ≡ unifyEntry ws n e ns m d bs v l r → LeftSays vs u
+  unfolding unifyEntry
+  entry-is-robinson vs u w = go failing refl w
+    where
+      go : (o : Option ℕ) → failing ≡ o → left vs u ≡ orElse o (λ c. left bs (Refused c)) (leftBy bs v (unify (shapeAt (listsOf ws n ns m)) (bindsOf bs v) l r)) → LeftSays vs u
+      go none f w = by-answer f (unify (shapeAt (listsOf ws n ns m)) (bindsOf bs v) l r) refl (is-robinson f) vs u w
+      go (some c) f w = subst (λ (z : Left). LeftSays (z .words) (z .answer)) (sym w) (record { first = f; given = refl })
