@@ -18,7 +18,8 @@ use Rattle.unification.specs.declared.InferSort.the-variants.{Generic, Function
 use Rattle.unification.specs.Nodes.{nodeEntryAt, nodeEntriesOf, nodeAt, nodeShape, freeWord, bindingOf, bindsOf}
 use Rattle.unification.specs.Acyclic.{placeSettled, allSettled, shapeSettled, nodesSettled, bindingSettled, varsSettled, rounds, all, acyclic}
 use Rattle.unification.proofs.Settles.{var-is, length-vars, sort-settled, node-flag}
-use Rattle.infer_nodes.proofs.Ways.{binding-word, length-binds}
+use Rattle.unification.proofs.Passed.{length-binds}
+use Rattle.infer_nodes.proofs.Ways.{binding-word}
 
 -- a place, a binding
 pub sort-is-settled : (ms : List Bool) (p : ℕ) → p < 1024 → true ≡ placeSettled ms p

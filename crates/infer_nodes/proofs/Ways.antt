@@ -40,12 +40,6 @@ abbrev ops : List ComplexSort
 ops = ComplexSort.List ∷ ComplexSort.Set ∷ ComplexSort.FSet ∷ ComplexSort.Bag ∷ []
 
 -- bindings as words
-pub length-binds : (bs : List ℕ) (n : ℕ) → length (bindsOf bs n) ≡ n
-unfolding bindsOf
-length-binds bs zero = refl
-length-binds [] (suc n) = omega (arith, length-binds [] n)
-length-binds (w ∷ bs) (suc n) = omega (arith, length-binds bs n)
-
 pub binding-word : (bs : List ℕ) (n v : ℕ) → v < n → binding (bindsOf bs n) v ≡ bindingOf (getD bs v 0)
 unfolding bindsOf
 binding-word bs zero v l = absurd (omega (arith, l))

@@ -19,7 +19,8 @@ use Rattle.unification.specs.declared.InferSort.{InferSort}
 use Rattle.unification.specs.declared.InferSort.the-variants.{Generic, Function, Var}
 use Rattle.unification.specs.Nodes.{nodeKindAt, nodeAt, isPlace, freeWord, Binds, bindingOf, bindsOf}
 use Rattle.unification.specs.NodeChecks.{nodesWithinLent, bindingsWithinLent, nodePartsFine, nodeKindFine, nodeFine, bindingFine, bindingsFine}
-use Rattle.infer_nodes.proofs.Ways.{binding-word, length-binds}
+use Rattle.unification.proofs.Passed.{length-binds}
+use Rattle.infer_nodes.proofs.Ways.{binding-word}
 use Rattle.node_checks.specs.Tests.{argPlaced}
 
 -- check 1

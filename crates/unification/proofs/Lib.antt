@@ -19,6 +19,7 @@ pub mod Cycle
 pub mod BindingWords
 pub mod BoundStays
 pub mod Theorem
+pub mod Passed
 pub mod Denotes
 pub mod Agree
 pub mod Grows

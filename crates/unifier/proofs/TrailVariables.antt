@@ -13,9 +13,9 @@ use Rattle.unification.specs.declared.Tried.{Tried}
 use Rattle.unification.specs.Nodes.{maxVars, freeWord, Binds, binding, bindingOf, bindsOf}
 use Rattle.unification.specs.Unify.{Unifies}
 use Rattle.unification.specs.Trail.{undo, frees, countOf, Tries}
-use Rattle.unification.proofs.Rank.{none-some}
+use Rattle.resolved_sort.proofs.Reached.{no-confusion}
 use Rattle.unification.proofs.Equations.{frees-few}
-use Rattle.infer_nodes.proofs.Ways.{length-binds}
+use Rattle.unification.proofs.Passed.{length-binds}
 
 -- The trail ts from c on, up to d, and the bindings before it, B, and after it, C, of v variables.
 pub record OnTrail (ts : List ℕ) (c d v : ℕ) (B C : Binds) : Type 0 where
@@ -37,10 +37,10 @@ set-before : (B : Binds) (x u q : ℕ) → binding (set B x none) u ≡ some q �
 set-before B x u q e = (apart, sym (getD-set-other B x u none none apart) ∙ e)
   where
     apart : u ≡ x → ⊥
-    apart i = none-some q (sym (free-there B x) ∙ (ap (binding (set B x none)) (sym i) ∙ e))
+    apart i = let z : none ≡ some q = (sym (free-there B x) ∙ (ap (binding (set B x none)) (sym i) ∙ e)) in no-confusion cc
 
 bound-below : (B : Binds) (x q : ℕ) → binding B x ≡ some q → x < length B
-bound-below [] x q e = none-some q e
+bound-below [] x q e = let z : none ≡ some q = e in no-confusion cc
 bound-below (o ∷ B) zero q e = omega arith
 bound-below (o ∷ B) (suc x) q e = omega (arith, bound-below B x q e)
 
@@ -83,7 +83,7 @@ module _ (ts : List ℕ) (base : ℕ) where
     where
       go : (o : Option ℕ) → binding (freed n B) u ≡ o → o ≡ none
       go none i = refl
-      go (some q) i = none-some q (sym e ∙ bound-before n B u q i)
+      go (some q) i = let z : none ≡ some q = (sym e ∙ bound-before n B u q i) in no-confusion cc
 
   freed-there : (n : ℕ) (B : Binds) (i : ℕ) → i < n → binding (freed n B) (at i) ≡ none
   freed-there zero B i l = absurd (omega (arith, l))
@@ -95,7 +95,7 @@ module _ (ts : List ℕ) (base : ℕ) where
 
   -- what undoing frees is on the trail
   found : (n : ℕ) (B : Binds) (u q : ℕ) → binding (freed n B) u ≡ none → binding B u ≡ some q → (i : ℕ) × (i < n) × (at i ≡ u)
-  found zero B u q f e = none-some q (sym f ∙ e)
+  found zero B u q f e = let z : none ≡ some q = (sym f ∙ e) in no-confusion cc
   found (suc n) B u q f e = go (ℕ-discrete u (at n)) (found n (set B (at n) none) u q f)
     where
       go : Dec (u ≡ at n) → (binding (set B (at n) none) u ≡ some q → (i : ℕ) × (i < n) × (at i ≡ u)) → (i : ℕ) × (i < suc n) × (at i ≡ u)

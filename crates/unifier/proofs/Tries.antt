@@ -19,7 +19,7 @@ use Rattle.unification.specs.Trail.{undo, frees, countOf, Tries}
 use Rattle.unification.proofs.Rank.{frees-set}
 use Rattle.unification.proofs.Binding.{binding-numbered}
 use Rattle.unification.proofs.Enough.{occurs-eq}
-use Rattle.infer_nodes.proofs.Ways.{length-binds}
+use Rattle.unification.proofs.Passed.{length-binds}
 use Rattle.unification.proofs.Lists.{lower, scoped}
 use Rattle.unification.proofs.Places.{place-below}
 use Rattle.unification.proofs.Theorem.{deep-enough, ready-ranked}

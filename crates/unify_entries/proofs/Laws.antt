@@ -31,7 +31,8 @@ use Rattle.unification.specs.UnifyEntry.{wordsOf, Left, left, leftBy, unifyEntr
 use Rattle.unification.proofs.BindingWords.{words-of-binds}
 use Rattle.unification.proofs.Equations.{frees-few}
 use Rattle.unification.proofs.Theorem.{binds-checked}
-use Rattle.infer_nodes.proofs.Ways.{length-binds}
+use Rattle.unification.proofs.Passed.{length-binds, two-ceilings, passed-ready}
+use Rattle.unification.proofs.Passed as passed
 use Rattle.unifier.specs.Trying.{Trying}
 
 -- one test: b, negated, is what an `if` asks, and x what the check says
@@ -106,12 +107,6 @@ module _ (ws : List ℕ) (n : ℕ) (ns : List ℕ) (m l r : ℕ) where
   lhs-stray x ex h = fails (x && isPlace n m r) _ (ap (λ z. z && isPlace n m r) ex) 12 _ (first-of-two x (isPlace n m r) h)
 
 -- counts that check 1 passed are within their ceilings
-two-ceilings : (n top e end : ℕ) (x y : Bool) → (leb n top && leb e end && x && y) ≡ true → (n ≤ top) × (e ≤ end)
-two-ceilings n top e end x y f =
-    let p = and-eq-true-iff (leb n top && leb e end && x) y .0 f .0 in
-    let u = and-eq-true-iff (leb n top) (leb e end) .0 (and-eq-true-iff (leb n top && leb e end) x .0 p .0) in
-    (leb-true n top (u .0), leb-true e end (u .1))
-
 -- check 1, three tests, and then the rest
 module _ (ws : List ℕ) (n e : ℕ) (ns : List ℕ) (m d : ℕ) (bs : List ℕ) (v l r : ℕ) where
   abbrev all : List Check
@@ -185,31 +180,16 @@ module _ (ws : List ℕ) (n e : ℕ) (ns : List ℕ) (m d : ℕ) (bs : List ℕ)
         (u .0, u .1, w .1, c₃ .0, c₄ .0, c₅ .0, c₆ .0, c₇ .0, p .0, p .1, f .0, f .1)
 
     pub sort-counts : (n ≤ maxSorts) × (e ≤ maxEntries)
-    unfolding withinLent
-    sort-counts = two-ceilings n maxSorts e maxEntries (leb (4 * n) (length ws)) (leb e (length ws - entriesAt)) (chain .0)
+    sort-counts = passed.sort-counts ws n e ns m d bs v (chain .0) (chain .1) (chain .2)
 
     pub node-counts : (m ≤ maxNodes) × (d ≤ maxNodeEntries)
-    unfolding nodesWithinLent
-    node-counts = two-ceilings m maxNodes d maxNodeEntries (leb (4 * m) (length ns)) (leb d (length ns - nodeEntriesAt)) (chain .1)
+    node-counts = passed.node-counts ws n e ns m d bs v (chain .0) (chain .1) (chain .2)
 
     pub var-counts : (v ≤ maxVars) × (v ≤ length bs)
-    unfolding bindingsWithinLent
-    var-counts = let u = and-eq-true-iff (leb v maxVars) (leb v (length bs)) .0 (chain .2) in (leb-true v maxVars (u .0), leb-true v (length bs) (u .1))
-
-    checked : NodesChecked ws n e ns m d v
-    unfolding atCeiling
-    checked =
-        record {
-          sorts = record { long = leb-true fullLength (length ws) (chain .10); sorts = sort-counts .0; entries = sort-counts .1; fine = chain .3; differ = chain .4 };
-          long = leb-true fullNodes (length ns) (chain .11);
-          nodes = node-counts .0;
-          entries = node-counts .1;
-          variables = var-counts .0;
-          fine = chain .5;
-        }
+    var-counts = passed.var-counts ws n e ns m d bs v (chain .0) (chain .1) (chain .2)
 
     pub ready : Ready ws ns bs (record { sorts = n; entries = e; nodes = m; arguments = d; variables = v })
-    ready = record { nodes = checked; binds = binds-checked ws n e ns m d v checked (bindsOf bs v) (length-binds bs v) (chain .6) (chain .7); long = var-counts .1 }
+    ready = passed-ready ws n e ns m d bs v (chain .0) (chain .1) (chain .2) (chain .3) (chain .4) (chain .5) (chain .6) (chain .7) (chain .10) (chain .11)
 
     pub lhs-placed : isPlace n m l ≡ true
     lhs-placed = chain .8
