@@ -23,13 +23,13 @@ use Rattle.unification.specs.Checked.{listsOf, Ready}
 use Rattle.unification.specs.Solutions.{Respects, Equates, Robinson, says-no, says-yes}
 use Rattle.unification.specs.Making.{Lent}
 use Rattle.unification.specs.UnifyEntry.{wordsOf, Left, left, leftBy, unifyEntry}
-use Rattle.unification.proofs.Lists.{place-below}
+use Rattle.unification.proofs.Places.{place-below}
 use Rattle.unification.proofs.Agree.{Names, unify-names}
 use Rattle.unification.proofs.Grows.{PlacedIn, ready-names, parts-placed}
 use Rattle.unification.proofs.BindingWords.{length-words, binds-of-words, named-places-fine}
 use Rattle.unification.proofs.BoundStays.{as-many-variables}
 use Rattle.unification.proofs.Theorem.{unify-is-robinson, check-7-exactly}
-use Rattle.infer_nodes.proofs.Ways.{length-binds}
+use Rattle.unification.proofs.Passed.{length-binds}
 use Rattle.unify_entries.proofs.Laws.{chain, ready, lhs-placed, rhs-placed}
 
 module _ (ws : List ℕ) (n e : ℕ) (ns : List ℕ) (m d : ℕ) (bs : List ℕ) (v l r : ℕ) where
