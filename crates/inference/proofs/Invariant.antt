@@ -180,6 +180,11 @@ module _ (W₀ : Lent) (B₀ : Binds) (P : Problem) where
       }
 
   module _ (Met : Type 0) where
+    -- what goes on where R is claimed goes on where Q is, which says more
+    pub weaker-goes : (Q R : Claim) → ((ch : List Choice) (ρ : Assignment) (ms : Components) → Q ch ρ ms → R ch ρ ms) → (k : Path → World Met → Out Met) → Goes Met R k → Goes Met Q k
+    weaker-goes Q R h k g e w s f =
+        g e w (record { grown = s .grown; binds = s .binds; refines = s .refines; costs = λ ρ r. h (e .choices) ρ (e .measure) (s .costs ρ r) }) f
+
     pub unifying-leaves : (e : Path) (w : World Met) (Q : Claim) → Sound (w .lent) e Q → FineBest (w .lent) (w .best) → (l r : ℕ) → PlacedIn (w .lent) l → PlacedIn (w .lent) r
         → (k : Binds → World Met → Out Met) → ((C : Binds) → Agreeing (w .lent) (e .binds) l r C → Leaves Met (w .lent) (k C w)) → Leaves Met (w .lent) (unifying (e .binds) l r k w)
     unfolding unifying

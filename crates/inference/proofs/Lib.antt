@@ -3,3 +3,4 @@ pub mod Invariant
 pub mod MakingSorts
 pub mod Joining
 pub mod Leaf
+pub mod Widening

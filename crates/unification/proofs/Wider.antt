@@ -156,14 +156,15 @@ away-wider (flats a b _ h e) = number h
 away-wider (containers o p s _ h e) = operator h
 away-wider (functions ss r u _ h) = range (away-wider h)
 
-away-narrower : {t u : Tree} {k : ℕ} → Away false t u k → Materializes u t
-away-narrower (flats a b _ h e) = number (sym (head-flips family level false a b) ∙ h)
-away-narrower (containers o p s _ h e) = operator (sym (head-flips familyOp levelOp false o p) ∙ h)
-away-narrower (functions ss r u _ h) = range (away-narrower h)
+-- the same steps, seen from the other end
+away-turned : {t u : Tree} {k : ℕ} → Away false t u k → Away true u t k
+away-turned (flats a b k h e) = flats b a k (sym (head-flips family level false a b) ∙ h) e
+away-turned (containers o p s k h e) = containers p o s k (sym (head-flips familyOp levelOp false o p) ∙ h) e
+away-turned (functions ss r u k h) = functions ss u r k (away-turned h)
 
 away-exactly : (up : Bool) (t u : Tree) → (reaches up t u ≡ true) ↔ ((k : ℕ) × Away up t u k)
 away-exactly true t u = (λ e. materializes-away (materializable-exactly t u .0 e) .0, λ r. materializable-exactly t u .1 (away-wider (r .1)))
-away-exactly false t u = (λ e. materializes-away (materializable-exactly u t .0 e) .1, λ r. materializable-exactly u t .1 (away-narrower (r .1)))
+away-exactly false t u = (λ e. materializes-away (materializable-exactly u t .0 e) .1, λ r. materializable-exactly u t .1 (away-wider (away-turned (r .1))))
 
 -- No steps: the sort itself.
 no-steps : (up : Bool) (l m : ℕ) → Reaches up l m → apart up l m ≡ 0 → l ≡ m
@@ -218,6 +219,10 @@ nearest-first up t u i = (λ h. let a = member-away up t u i h in (away-exactly 
     back h =
         let a = away-exactly up t u .0 (h .0) in
         away-member up t u i (subst (Away up t u) (one-distance up t u (a .0) (suc i) (away-distant up t u (a .0) (a .1)) (h .1)) (a .1))
+
+-- Where a sort is the i-th narrower one of another, that is the i-th wider one of it.
+pub narrower-is-wider : (s t : Tree) (i : ℕ) → Member s i (related false t) → Member t i (related true s)
+narrower-is-wider s t i h = away-member true s t i (away-turned (member-away false t s i h))
 
 -- The list holds exactly what is materializable in the direction, except the sort itself.
 pub related-exactly : (up : Bool) (t u : Tree) → ((i : ℕ) × Member u i (related up t)) ↔ ((reaches up t u ≡ true) × (t ≢ u))
