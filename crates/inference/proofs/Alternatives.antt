@@ -1,23 +1,35 @@
--- A Disjunction keeps what holds all through a search, whichever overload is taken: the places that an alternative makes equal have the same sort under
--- every assignment that respects the new bindings. By what making two places equal leaves, one alternative after another. Assumes nothing.
+-- A Disjunction and a Comprehension keep what holds all through a search, whichever alternative is taken: the places that an alternative makes equal
+-- have the same sort under every assignment that respects the new bindings, and that sort is an overload's or a reading's. By what making two places
+-- equal leaves, one alternative after another; a container that was interned is a sort of the lists that have grown. Assumes nothing.
 use mathlib.Core.Path.{_≡_, refl, sym, subst, _∙_, ap}
 use mathlib.Core.Bool.{Bool, true, false}
 use mathlib.Core.List.{List, [], _∷_, _++_}
 use mathlib.Core.Option.{Option, none, some}
-use Prim.Native.Nat.{ℕ, zero, suc, _+_, _<_, _≤_}
+use Prim.Native.Nat.{ℕ, suc, _+_, _<_}
 use native.Mathlib.Omega.{arith}
 use native.Mathlib.Nat.{add-zero}
 use lib.ListN.{length, getD, take, drop, length-take}
 use lib.Seq.{getD-take, getD-drop}
 use Rattle.resolved_sort.specs.declared.Run.{Run}
-use Rattle.resolved_sort.specs.Tree.{Tree}
+use Rattle.resolved_sort.specs.declared.Sort.{Sort}
+use Rattle.resolved_sort.specs.declared.ComplexSort.{ComplexSort}
+use Rattle.resolved_sort.specs.declared.Joined.{Joined}
+use Rattle.resolved_sort.specs.declared.Joined.the-variants.{At, Nothing, Full}
+use Rattle.resolved_sort.specs.Tree.{Tree, primitive, flat, container}
+use Rattle.resolved_sort.specs.Interning.{look}
+use Rattle.resolved_sort.specs.Storage.{kindFlat, trees}
+use Rattle.resolved_sort.specs.Entries.{Stored}
+use Rattle.resolved_sort.specs.Bounds.{internAt}
 use Rattle.resolved_sort.specs.Checks.{fixedSix}
 use Rattle.unification.specs.declared.InferSortId.{InferSortId}
-use Rattle.unification.specs.Term.{put}
+use Rattle.unification.specs.Term.{termOf, put}
 use Rattle.unification.specs.Nodes.{Binds}
 use Rattle.unification.specs.Solutions.{Equates}
-use Rattle.unification.specs.Making.{Lent, graph}
-use Rattle.unification.proofs.Grows.{CheckedLent, PlacedIn, Grows, placed-grown, term-grown}
+use Rattle.unification.specs.Making.{Lent, graph, Makes, made, no-list, no-room, withSorts, internContainer}
+use Rattle.unification.proofs.Grows.{CheckedLent, PlacedIn, Grows, placed-grown, term-grown, grows-trans}
+use Rattle.unification.proofs.Outcomes.{Each}
+use Rattle.unification.proofs.MakingGrows.{MadeFrom, IsSort, container-grows}
+use Rattle.unification.proofs.PlaceTerms.{sort-placed, sort-term, primitive-placed, primitive-term}
 use Rattle.unification.proofs.Assignments.{place-has-a-sort}
 use Rattle.inference.specs.declared.ExprId.{ExprId}
 use Rattle.inference.specs.declared.Overload.{Overload}
@@ -25,14 +37,43 @@ use Rattle.inference.specs.declared.NameTarget.the-variants.{Variable}
 use Rattle.inference.specs.declared.Constraint.the-variants.{Disjunction}
 use Rattle.inference.specs.Constraints.{Problem}
 use Rattle.inference.specs.Measure.{Components}
-use Rattle.inference.specs.Search.{Choice, Path, World, Out, unifying, chosen, everyOverload, step}
+use Rattle.inference.specs.Search.{sortIn, Choice, Path, bound, chosen, Reading, readings, World, Out, missed, lending, andAlso, unifying, onMade, everyReading, everyOverload, step}
 use Rattle.inference.specs.Names.{overloadIn}
-use Rattle.inference.specs.Typing.{Assignment, Has}
-use Rattle.inference.proofs.Invariant.{Claim, terms, Sound, FineBest, Leaves, Goes, and-also-leaves, says-leaves, sound-grown, sound-on, unifying-leaves}
+use Rattle.inference.specs.Typing.{Assignment, Has, Read, as-set, as-bag, as-bag-of-pos}
+use Rattle.inference.proofs.Invariant.{Claim, terms, Sound, FineBest, Leaves, Goes, leaves-from, and-also-leaves, says-leaves, missed-leaves, sound-grown, fine-grown, sound-on, unifying-leaves}
 
 at-position : (R : Claim) (x i j : ℕ) → i ≡ j → (ch : List Choice) (ρ : Assignment) (ms : Components)
     → R (ch ++ (record { expr = x; position = i } ∷ [])) ρ ms → R (ch ++ (record { expr = x; position = j } ∷ [])) ρ ms
 at-position R x i j e ch ρ ms h = subst (λ n. R (ch ++ (record { expr = x; position = n } ∷ [])) ρ ms) e h
+
+-- making that leaves as many nodes as there were, and as many arguments
+unfoldable pub SameNodes : {A : Type 0} → Lent → Makes A → Type 0
+SameNodes W =
+    Each (λ a W′. (W′ .lengths .nodes ≡ W .lengths .nodes) × (W′ .lengths .arguments ≡ W .lengths .arguments))
+    (λ W′. (W′ .lengths .nodes ≡ W .lengths .nodes) × (W′ .lengths .arguments ≡ W .lengths .arguments)) (λ c W′. Unit {0})
+
+-- interning makes no node
+pub container-keeps-nodes : (W : Lent) (o : ComplexSort) (s : ℕ) → SameNodes W (internContainer o s W)
+unfolding SameNodes internContainer
+container-keeps-nodes W o s = go (internAt (W .sorts) (W .lengths .sorts) (W .lengths .entries) (container o (look (trees (W .sorts) (W .lengths .sorts)) s)))
+  where
+    by : (r : Stored) (j : Joined) → SameNodes W (withSorts W r j)
+    by r (At id k) = (refl, refl)
+    by r (Nothing k) = (refl, refl)
+    by r Full = tt
+
+    go : (r : Stored) → SameNodes W (withSorts W r (r .answer))
+    go r = by r (r .answer)
+
+module _ (W₀ : Lent) (B₀ : Binds) (P : Problem) (Met : Type 0) where
+  -- on with what was made, where making leaves as many nodes
+  pub on-made-leaves : {A : Type 0} (In : Lent → A → Type 0) (w : World Met) → CheckedLent (w .lent) → (O : Makes A) → MadeFrom In (w .lent) O → SameNodes (w .lent) O
+      → (k : A → World Met → Out Met) (f : World Met → Out Met) → ((a : A) (W : Lent) → Grows (w .lent) W → In W a → Leaves W₀ B₀ P Met W (k a (lending w W)))
+      → ((W : Lent) → Grows (w .lent) W → Leaves W₀ B₀ P Met W (f (lending w W))) → Leaves W₀ B₀ P Met (w .lent) (onMade O k f w)
+  unfolding MadeFrom SameNodes Leaves
+  on-made-leaves In w c (made a W) m n k f on else = leaves-from W₀ B₀ P Met (w .lent) c W (m .0) (n .0) (n .1) (k a (lending w W)) (on a W (m .0) (m .1))
+  on-made-leaves In w c (no-list W) m n k f on else = leaves-from W₀ B₀ P Met (w .lent) c W m (n .0) (n .1) (f (lending w W)) (else W m)
+  on-made-leaves In w c (no-room a W) m n k f on else = tt
 
 module _
     (W₀ : Lent) (B₀ : Binds) (P : Problem) (c₀ : CheckedLent W₀) (six : fixedSix (W₀ .sorts) (W₀ .lengths .sorts) ≡ true)
@@ -60,6 +101,15 @@ module _
         equal-leaves (placed-grown W₀ c₀ (w .lent) g l x) (placed-grown W₀ c₀ (w .lent) g r y) ms cs R
         (λ ρ i q. let t = place-has-a-sort (w .lent) (g .checked) ρ l (placed-grown W₀ c₀ (w .lent) g l x) in
         h ρ (t .0) q (has-given (w .lent) g ρ l x (t .0) (t .1)) (has-given (w .lent) g ρ r y (t .0) (sym i ∙ t .1)))
+
+  -- one of the places given and a primitive sort
+  primitive-leaves : (e : Path) (w : World Met) (Q : Claim) → Sound W₀ B₀ P (w .lent) e Q → FineBest W₀ B₀ P (w .lent) (w .best) → (p : ℕ) → PlacedIn W₀ p → (s : Sort)
+      → (ms : Components) (cs : List Choice) (R : Claim) → ((ρ : Assignment) → Q (e .choices) ρ (e .measure) → Has (graph W₀) ρ p (flat (primitive s)) → R cs ρ ms)
+      → (k : Binds → World Met → Out Met)
+      → ((C : Binds) → Sound W₀ B₀ P (w .lent) (record { binds = C; measure = ms; choices = cs }) R → Leaves W₀ B₀ P Met (w .lent) (k C w))
+      → Leaves W₀ B₀ P Met (w .lent) (unifying (e .binds) p (kindFlat (primitive s)) k w)
+  primitive-leaves e w Q S f p x s ms cs R h =
+      given-leaves e w Q S f p (kindFlat (primitive s)) x (primitive-placed W₀ c₀ six s) ms cs R (λ ρ t q u v. h ρ q (u ∙ (sym v ∙ primitive-term W₀ c₀ six (terms ρ) s)))
 
   -- Every overload. The overload at position j of the list is at position i + j of the choice.
   module _ (x p : ℕ) (y : PlacedIn W₀ p) (Q R : Claim) (k : Path → World Met → Out Met) (on : Goes W₀ B₀ P Met R k) (d : Overload) where
@@ -100,3 +150,46 @@ module _
 
       same : (j : ℕ) → j < run .count → getD os j d ≡ overloadIn (P .overloads) run j
       same j l = getD-take (run .count) (drop (run .start) (P .overloads)) j d l ∙ getD-drop (run .start) (P .overloads) j d
+
+  -- Every reading: the body has the sort of the reading, and the node that of its container over the element.
+  module _
+      (body node element : ℕ) (x : PlacedIn W₀ body) (y : PlacedIn W₀ node) (l : element < W₀ .lengths .sorts) (Q R : Claim)
+      (h : (ch : List Choice) (ρ : Assignment) (ms : Components) (s t : Tree) → Q ch ρ ms → Has (graph W₀) ρ body s → Has (graph W₀) ρ node t
+      → Read (graph W₀) (sortIn W₀) P ch ρ (sortIn W₀ element) s t → R ch ρ ms) (k : Path → World Met → Out Met) (on : Goes W₀ B₀ P Met R k) where
+    reading-goes : (s : Sort) (o : ComplexSort) → ((ch : List Choice) (ρ : Assignment) → Read (graph W₀) (sortIn W₀) P ch ρ (sortIn W₀ element) (flat (primitive s)) (container o (sortIn W₀ element)))
+        → (rs : List Reading) → ((b : Bool) → Goes W₀ B₀ P Met Q (everyReading Met meet P rs body node element b k)) → (b : Bool)
+        → Goes W₀ B₀ P Met Q (everyReading Met meet P (record { body = kindFlat (primitive s); op = o } ∷ rs) body node element b k)
+    unfolding everyReading
+    reading-goes s o z rs ih b e w S f =
+        on-made-leaves W₀ B₀ P Met (IsSort (container o (look (trees (w .lent .sorts) (w .lent .lengths .sorts)) element))) w c (internContainer o element (w .lent))
+        (container-grows (w .lent) c o element (omega (arith, l, S .grown .sorts))) (container-keeps-nodes (w .lent) o element) _ missed made-goes
+        (λ W g. missed-leaves W₀ B₀ P Met (lending w W) (g .checked) (fine-grown W₀ B₀ P (w .lent) W g (w .best) f))
+      where
+        c : CheckedLent (w .lent)
+        c = S .grown .checked
+
+        made-goes : (a : ℕ) (W : Lent) → Grows (w .lent) W → IsSort (container o (look (trees (w .lent .sorts) (w .lent .lengths .sorts)) element)) W a
+            → Leaves W₀ B₀ P Met W (andAlso (unifying (e .binds) body (kindFlat (primitive s)) (λ C. unifying C node a (λ D. k (bound e D))) (lending w W)) b
+            (λ b. everyReading Met meet P rs body node element b k e))
+        made-goes a W g i =
+            let G = grows-trans W₀ c₀ (w .lent) W (S .grown) g in
+            let S₁ = sound-grown W₀ B₀ P (w .lent) W e Q c₀ S g in
+            let f₁ = fine-grown W₀ B₀ P (w .lent) W g (w .best) f in
+            let M : Claim = λ ch ρ ms. Q ch ρ ms × Has (graph W₀) ρ body (flat (primitive s)) in
+            and-also-leaves W₀ B₀ P Met W (g .checked) (unifying (e .binds) body (kindFlat (primitive s)) (λ C. unifying C node a (λ D. k (bound e D))) (lending w W)) b
+            (λ b. everyReading Met meet P rs body node element b k e)
+            (primitive-leaves e (lending w W) Q S₁ f₁ body x s (e .measure) (e .choices) M (λ ρ q u. (q, u)) (λ C. unifying C node a (λ D. k (bound e D)))
+            (λ C S₂. equal-leaves (bound e C) (lending w W) M S₂ f₁ node a (placed-grown W₀ c₀ W G node y) (sort-placed W (g .checked) a (i .0)) (e .measure) (e .choices) R
+            (λ ρ j m. h (e .choices) ρ (e .measure) (flat (primitive s)) (container o (sortIn W₀ element)) (m .0) (m .1)
+            (has-given W G ρ node y (container o (sortIn W₀ element)) (j ∙ (sort-term W (g .checked) (terms ρ) a (i .0) ∙ ap termOf (i .1 ∙ ap (container o) (S .grown .looks element l)))))
+            (z (e .choices) ρ)) (λ D. k (bound e D)) (λ D S₃. on (bound e D) (lending w W) S₃ f₁)))
+            (λ b w′ u. ih b e w′ (sound-grown W₀ B₀ P W (w′ .lent) e Q c₀ S₁ (u .grows)) (u .best))
+
+    pub comprehension-goes : Goes W₀ B₀ P Met Q (everyReading Met meet P readings body node element false k)
+    unfolding everyReading kindFlat
+    comprehension-goes =
+        reading-goes Sort.Bool ComplexSort.Set (λ ch ρ. as-set) (drop 1 readings)
+        (reading-goes Sort.Nat ComplexSort.Bag (λ ch ρ. as-bag) (drop 2 readings)
+        (reading-goes Sort.Pos ComplexSort.Bag (λ ch ρ. as-bag-of-pos) []
+        (λ b e w s f. says-leaves W₀ B₀ P Met b w (s .grown .checked) f)))
+        false
