@@ -1,6 +1,7 @@
--- A Disjunction and a Comprehension keep what holds all through a search, whichever alternative is taken: the places that an alternative makes equal
--- have the same sort under every assignment that respects the new bindings, and that sort is an overload's or a reading's. By what making two places
--- equal leaves, one alternative after another; a container that was interned is a sort of the lists that have grown. Assumes nothing.
+-- A Disjunction, a Comprehension and a literal keep what holds all through a search, whichever alternative is taken: the places that an alternative
+-- makes equal have the same sort under every assignment that respects the new bindings, and that sort is an overload's, a reading's or a number sort.
+-- By what making two places equal leaves, one alternative after another; a container that was interned is a sort of the lists that have grown, and a
+-- place whose end is a number sort has that sort. Assumes nothing.
 use mathlib.Core.Path.{_≡_, refl, sym, subst, _∙_, ap}
 use mathlib.Core.Bool.{Bool, true, false}
 use mathlib.Core.List.{List, [], _∷_, _++_}
@@ -15,32 +16,39 @@ use Rattle.resolved_sort.specs.declared.Sort.{Sort}
 use Rattle.resolved_sort.specs.declared.ComplexSort.{ComplexSort}
 use Rattle.resolved_sort.specs.declared.Joined.{Joined}
 use Rattle.resolved_sort.specs.declared.Joined.the-variants.{At, Nothing, Full}
-use Rattle.resolved_sort.specs.Tree.{Tree, primitive, flat, container}
+use Rattle.resolved_sort.specs.Tree.{Flat, unit, primitive, def, typevar, Tree, flat, container}
 use Rattle.resolved_sort.specs.Interning.{look}
 use Rattle.resolved_sort.specs.Storage.{kindFlat, trees}
 use Rattle.resolved_sort.specs.Entries.{Stored}
 use Rattle.resolved_sort.specs.Bounds.{internAt}
 use Rattle.resolved_sort.specs.Checks.{fixedSix}
 use Rattle.unification.specs.declared.InferSortId.{InferSortId}
-use Rattle.unification.specs.Term.{termOf, put}
+use Rattle.unification.specs.Term.{flatHead, Shape, over, termOf, put}
 use Rattle.unification.specs.Nodes.{Binds}
+use Rattle.unification.specs.Unify.{follow, deep}
 use Rattle.unification.specs.Solutions.{Equates}
 use Rattle.unification.specs.Making.{Lent, graph, Makes, made, no-list, no-room, withSorts, internContainer}
+use Rattle.unification.proofs.Exact.{shapeVal}
+use Rattle.unification.proofs.Rows.{ShapeFormed, variable-formed, flat-formed, container-formed, function-formed}
+use Rattle.unification.proofs.Follow.{follow-names}
 use Rattle.unification.proofs.Grows.{CheckedLent, PlacedIn, Grows, placed-grown, term-grown, grows-trans}
+use Rattle.unification.proofs.BindsGrow.{binds-name-places}
 use Rattle.unification.proofs.Outcomes.{Each}
 use Rattle.unification.proofs.MakingGrows.{MadeFrom, IsSort, container-grows}
-use Rattle.unification.proofs.PlaceTerms.{sort-placed, sort-term, primitive-placed, primitive-term}
+use Rattle.unification.proofs.PlaceTerms.{termIn, placed-formed, sort-placed, term-by-shape, term-at-end, sort-term, primitive-placed, primitive-term}
 use Rattle.unification.proofs.Assignments.{place-has-a-sort}
 use Rattle.inference.specs.declared.ExprId.{ExprId}
+use Rattle.inference.specs.declared.LitKind.{LitKind}
+use Rattle.inference.specs.declared.LitKind.the-variants.{Positive, Natural}
 use Rattle.inference.specs.declared.Overload.{Overload}
 use Rattle.inference.specs.declared.NameTarget.the-variants.{Variable}
 use Rattle.inference.specs.declared.Constraint.the-variants.{Disjunction}
 use Rattle.inference.specs.Constraints.{Problem}
 use Rattle.inference.specs.Measure.{Components}
-use Rattle.inference.specs.Search.{sortIn, Choice, Path, bound, chosen, Reading, readings, World, Out, missed, lending, andAlso, unifying, onMade, everyReading, everyOverload, step}
+use Rattle.inference.specs.Search.{sortIn, Choice, Path, bound, measured, chosen, Try, litComponent, fromNat, litTries, Reading, readings, World, Out, missed, lending, andAlso, unifying, onMade, firstFound, atSort, literalAt, literalEnd, literal, everyReading, everyOverload, step}
 use Rattle.inference.specs.Names.{overloadIn}
 use Rattle.inference.specs.Typing.{Assignment, Has, Read, as-set, as-bag, as-bag-of-pos}
-use Rattle.inference.proofs.Invariant.{Claim, terms, Sound, FineBest, Leaves, Goes, leaves-from, and-also-leaves, says-leaves, missed-leaves, sound-grown, fine-grown, sound-on, unifying-leaves}
+use Rattle.inference.proofs.Invariant.{Claim, terms, Sound, FineBest, Leaves, Goes, leaves-from, or-else-leaves, and-also-leaves, says-leaves, missed-leaves, sound-grown, fine-grown, sound-on, unifying-leaves}
 
 at-position : (R : Claim) (x i j : ℕ) → i ≡ j → (ch : List Choice) (ρ : Assignment) (ms : Components)
     → R (ch ++ (record { expr = x; position = i } ∷ [])) ρ ms → R (ch ++ (record { expr = x; position = j } ∷ [])) ρ ms
@@ -193,3 +201,79 @@ module _
         (reading-goes Sort.Pos ComplexSort.Bag (λ ch ρ. as-bag-of-pos) []
         (λ b e w s f. says-leaves W₀ B₀ P Met b w (s .grown .checked) f)))
         false
+
+  -- A literal: at a number sort the place has that sort, whatever the assignment; at a free place one number sort after another.
+  module _
+      (kind : LitKind) (p : ℕ) (x : PlacedIn W₀ p) (Q R : Claim)
+      (h : (ch : List Choice) (ρ : Assignment) (ms : Components) (s : Sort) (g : ℕ) → Q ch ρ ms → Has (graph W₀) ρ p (flat (primitive s)) → litComponent kind s ≡ some g
+      → R ch ρ (ms ++ (g ∷ []))) (k : Path → World Met → Out Met) (on : Goes W₀ B₀ P Met R k) where
+    -- one try, and if it found nothing the others
+    try-goes : (s : Sort) (g : ℕ) → litComponent kind s ≡ some g → (ts : List Try) → Goes W₀ B₀ P Met Q (firstFound Met meet P ts k)
+        → Goes W₀ B₀ P Met Q (firstFound Met meet P (record { left = p; right = kindFlat (primitive s); component = g } ∷ ts) k)
+    unfolding firstFound
+    try-goes s g i ts ih e w S f =
+        or-else-leaves W₀ B₀ P Met (w .lent) (S .grown .checked) (unifying (e .binds) p (kindFlat (primitive s)) (λ C. k (measured e (g ∷ []) C)) w) (firstFound Met meet P ts k e)
+        (primitive-leaves e w Q S f p x s (e .measure ++ (g ∷ [])) (e .choices) R (λ ρ q u. h (e .choices) ρ (e .measure) s g q u i) (λ C. k (measured e (g ∷ []) C))
+        (λ C z. on (measured e (g ∷ []) C) w z f))
+        (λ w′ u. ih e w′ (sound-grown W₀ B₀ P (w .lent) (w′ .lent) e Q c₀ S (u .grows)) (u .best))
+
+    -- where each number sort from Nat on has its component
+    from-nat-goes : litComponent kind Sort.Nat ≡ some 1 → litComponent kind Sort.Int ≡ some 2 → litComponent kind Sort.Real ≡ some 3
+        → Goes W₀ B₀ P Met Q (firstFound Met meet P (fromNat p) k)
+    unfolding firstFound kindFlat
+    from-nat-goes i j l =
+        try-goes Sort.Nat 1 i (drop 1 (fromNat p)) (try-goes Sort.Int 2 j (drop 2 (fromNat p)) (try-goes Sort.Real 3 l [] (λ e w s f. missed-leaves W₀ B₀ P Met w (s .grown .checked) f)))
+
+    tries-go : (kind′ : LitKind) → kind ≡ kind′ → Goes W₀ B₀ P Met Q (firstFound Met meet P (litTries kind′ p) k)
+    unfolding kindFlat litComponent
+    tries-go Positive i = try-goes Sort.Pos 0 (ap (λ z. litComponent z Sort.Pos) i) (fromNat p)
+        (from-nat-goes (ap (λ z. litComponent z Sort.Nat) i) (ap (λ z. litComponent z Sort.Int) i) (ap (λ z. litComponent z Sort.Real) i))
+    tries-go Natural i = from-nat-goes (ap (λ z. litComponent z Sort.Nat) i) (ap (λ z. litComponent z Sort.Int) i) (ap (λ z. litComponent z Sort.Real) i)
+
+    -- on a branch, by the end of the place
+    module _ (e : Path) (w : World Met) (S : Sound W₀ B₀ P (w .lent) e Q) (f : FineBest W₀ B₀ P (w .lent) (w .best)) where
+      abbrev W : Lent
+      W = w .lent
+
+      nothing-found : Leaves W₀ B₀ P Met W (missed w)
+      nothing-found = missed-leaves W₀ B₀ P Met w (S .grown .checked) f
+
+      module _ (q : ℕ) (i : follow (graph W) deep (e .binds) p ≡ some q) where
+        at-sort : (s : Sort) → graph W q ≡ over (flatHead (primitive s)) [] → (o : Option ℕ) → litComponent kind s ≡ o → Leaves W₀ B₀ P Met W (atSort Met meet P o k e w)
+        unfolding termOf
+        at-sort s j none l = nothing-found
+        at-sort s j (some g) l =
+            let c = S .grown .checked in
+            on (measured e (g ∷ []) (e .binds)) w
+            (record {
+              grown = S .grown;
+              binds = S .binds;
+              refines = S .refines;
+              costs = λ ρ r. h (e .choices) ρ (e .measure) s g (S .costs ρ r)
+                  (has-given W (S .grown) ρ p x (flat (primitive s))
+                  (term-at-end W c (e .binds) (terms ρ) r deep p q i ∙ (term-by-shape W c (terms ρ) q ∙ ap (shapeVal (terms ρ) (termIn W (terms ρ))) j)))
+                  l;
+            })
+            f
+
+        at-flat : (a : Flat) → graph W q ≡ over (flatHead a) [] → Leaves W₀ B₀ P Met W (literalAt Met meet P kind p (over (flatHead a) []) k e w)
+        at-flat unit j = nothing-found
+        at-flat (primitive s) j = at-sort s j (litComponent kind s) refl
+        at-flat (def n) j = nothing-found
+        at-flat (typevar n) j = nothing-found
+
+        at-shape : (s : Shape) → graph W q ≡ s → ShapeFormed s → Leaves W₀ B₀ P Met W (literalAt Met meet P kind p s k e w)
+        at-shape _ j (variable-formed v) = tries-go kind refl e w S f
+        at-shape _ j (flat-formed a) = at-flat a j
+        at-shape _ j (container-formed o s) = nothing-found
+        at-shape _ j (function-formed n xs r len few) = nothing-found
+
+      at-end : (o : Option ℕ) → follow (graph W) deep (e .binds) p ≡ o → Leaves W₀ B₀ P Met W (literalEnd Met meet P kind p o k e w)
+      at-end none i = nothing-found
+      at-end (some q) i =
+          at-shape q i (graph W q) refl
+          (placed-formed W (S .grown .checked) q (follow-names (graph W) (e .binds) (PlacedIn W) (binds-name-places W (e .binds) (S .binds)) deep p q (placed-grown W₀ c₀ W (S .grown) p x) i))
+
+    pub literal-goes : Goes W₀ B₀ P Met Q (literal Met meet P kind p k)
+    unfolding literal
+    literal-goes e w S f = at-end e w S f (follow (graph (w .lent)) deep (e .binds) p) refl
