@@ -4,3 +4,4 @@ pub mod MakingSorts
 pub mod Joining
 pub mod Leaf
 pub mod Widening
+pub mod Alternatives
