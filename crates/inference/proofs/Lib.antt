@@ -5,3 +5,4 @@ pub mod Joining
 pub mod Leaf
 pub mod Widening
 pub mod Alternatives
+pub mod Accepted

@@ -54,16 +54,20 @@ module _ (I : Call) where
   listed s = ltb s (I .lengths .sorts)
 
   -- 1. "A given list is above its ceiling or longer than the storage lent for it." Base names have no ceiling.
+  unfoldable pub rowsWithinLent : Bool
+  rowsWithinLent =
+      leb (I .rows .exprs) maxExprs && leb (I .rows .exprs) (length (I .exprs))
+      && leb (3 * I .rows .names) (length (I .names))
+      && leb (I .rows .constraints) maxConstraints && leb (5 * I .rows .constraints) (length (I .constraints))
+      && leb (I .rows .overloads) maxOverloads && leb (3 * I .rows .overloads) (length (I .overloads))
+      && leb (I .rows .sources) maxSources && leb (I .rows .sources) (length (I .sources))
+
   unfoldable pub allWithinLent : Bool
   allWithinLent =
       withinLent (I .sorts) (I .lengths .sorts) (I .lengths .entries)
       && nodesWithinLent (I .nodes) (I .lengths .nodes) (I .lengths .arguments)
       && bindingsWithinLent (I .binds) (I .lengths .variables)
-      && leb (I .rows .exprs) maxExprs && leb (I .rows .exprs) (length (I .exprs))
-      && leb (3 * I .rows .names) (length (I .names))
-      && leb (I .rows .constraints) maxConstraints && leb (5 * I .rows .constraints) (length (I .constraints))
-      && leb (I .rows .overloads) maxOverloads && leb (3 * I .rows .overloads) (length (I .overloads))
-      && leb (I .rows .sources) maxSources && leb (I .rows .sources) (length (I .sources))
+      && rowsWithinLent
 
   -- a name target: its kind is 1, 2 or 3, and an operation's sort is in the list
   unfoldable pub targetFine : ℕ → ℕ → Bool
@@ -146,13 +150,15 @@ components [] = 0
 components (c ∷ cs) = componentsOf c + components cs
 
 -- 14. "An output or the scratch is too short", with sorts and nodes at their ceilings
-unfoldable pub longEnough : Call → Bool
-longEnough I =
-    atCeiling (I .sorts) && leb fullNodes (length (I .nodes))
-    && leb scratchWords (length (I .scratch))
+unfoldable pub outputsLong : Call → Bool
+outputsLong I =
+    leb scratchWords (length (I .scratch))
     && leb (3 * I .rows .exprs) (length (I .typing))
     && leb (components (given I)) (length (I .measure))
     && leb (2 * length (disjunctions (given I))) (length (I .choices))
+
+unfoldable pub longEnough : Call → Bool
+longEnough I = atCeiling (I .sorts) && leb fullNodes (length (I .nodes)) && outputsLong I
 
 abbrev pub keys : Call → List ℕ
 keys I = rowsFrom (λ i. getD (I .names) (3 * i) 0) 0 (I .rows .names)

@@ -1,0 +1,194 @@
+-- What the checks of the solver say of a call that passes them: lists and bindings that are ready, with the fixed six sorts; a default of the list; and
+-- expressions and constraints whose places, sorts and runs are those of the lists. The checks, taken apart. Assumes nothing.
+use mathlib.Core.Path.{_≡_, refl, sym, ap, subst, _∙_}
+use mathlib.Core.Bool.{Bool, true, false, cond, _&&_, and-eq-true-iff}
+use mathlib.Core.List.{List, [], _∷_, _++_}
+use mathlib.Core.Option.{Option, none, some}
+use Prim.Native.Nat.{ℕ, zero, suc, _+_, _*_, _<_, _≤_}
+use native.Mathlib.Omega.{arith}
+use native.Mathlib.Nat.{add-zero}
+use lib.Dec.{eqb, leb, ltb}
+use lib.ListN.{length, getD, take, drop}
+use borrow.Author.Tests.{ltb-true, leb-true}
+use Rattle.resolved_sort.specs.declared.Run.{Run}
+use Rattle.resolved_sort.specs.declared.SortId.{SortId}
+use Rattle.resolved_sort.specs.Checks.{allBelow, firstFailing, withinLent, fixedSix, rowsFine, noTwoEqual, atCeiling}
+use Rattle.resolved_sort.proofs.Below.{below-each}
+use Rattle.resolved_sort.proofs.FirstFailing.{cons-passes}
+use Rattle.unification.specs.declared.InferSortId.{InferSortId}
+use Rattle.unification.specs.Nodes.{fullNodes, isPlace, bindsOf}
+use Rattle.unification.specs.NodeChecks.{nodesWithinLent, bindingsWithinLent, nodesFine, bindingsFine, nodeChecks}
+use Rattle.unification.specs.Acyclic.{acyclic}
+use Rattle.unification.specs.Checked.{Ready}
+use Rattle.unification.specs.Making.{Lent}
+use Rattle.unification.proofs.Grows.{PlacedIn}
+use Rattle.unification.proofs.Passed.{passed-ready}
+use Rattle.inference.specs.declared.ExprId.{ExprId}
+use Rattle.inference.specs.declared.LitKind.{LitKind}
+use Rattle.inference.specs.declared.Overload.{Overload}
+use Rattle.inference.specs.declared.Constraint.{Constraint}
+use Rattle.inference.specs.declared.Constraint.the-variants.{Sub, Lit, Disjunction, Comprehension, Join}
+use Rattle.inference.specs.Constraints.{constraintAt, overloadAt, rowsFrom, Problem}
+use Rattle.inference.specs.Names.{overloadIn}
+use Rattle.inference.specs.SolveChecks.{Call, given, rowsWithinLent, allWithinLent, exprsFine, namesFine, overloadFine, targetFine, runFine, constraintFine, constraintsFine, outputsLong, longEnough, solveChecks}
+use Rattle.inference.specs.SolveEntry.{problemOf, lentOf}
+use Rattle.inference.specs.Typing.{All, none-left, and-all}
+
+-- Rows one after another.
+pub length-rows : {A : Type 0} (row : ℕ → A) (i n : ℕ) → length (rowsFrom row i n) ≡ n
+unfolding rowsFrom
+length-rows row i zero = refl
+length-rows row i (suc n) = omega (arith, length-rows row (i + 1) n)
+
+pub row-in : {A : Type 0} (row : ℕ → A) (d : A) (i n j : ℕ) → j < n → getD (rowsFrom row i n) j d ≡ row (i + j)
+unfolding rowsFrom
+row-in row d i zero j l = absurd (omega (arith, l))
+row-in row d i (suc n) zero l = ap row (sym (add-zero i))
+row-in row d i (suc n) (suc j) l = row-in row d (i + 1) n j (omega (arith, l)) ∙ ap row (omega arith)
+
+pub all-rows : {A : Type 0} (R : A → Type 0) (row : ℕ → A) (i n : ℕ) → ((j : ℕ) → j < n → R (row (i + j))) → All R (rowsFrom row i n)
+unfolding rowsFrom
+all-rows R row i zero h = none-left
+all-rows R row i (suc n) h =
+    and-all (row i) (rowsFrom row (i + 1) n) (subst (λ (j : ℕ). R (row j)) (add-zero i) (h 0 (omega arith)))
+    (all-rows R row (i + 1) n (λ j l. subst (λ (x : ℕ). R (row x)) (omega arith) (h (suc j) (omega (arith, l)))))
+
+take-rows : {A : Type 0} (row : ℕ → A) (i n c : ℕ) → c ≤ n → take c (rowsFrom row i n) ≡ rowsFrom row i c
+unfolding rowsFrom
+take-rows row i n zero l = refl
+take-rows row i zero (suc c) l = absurd (omega (arith, l))
+take-rows row i (suc n) (suc c) l = ap (λ xs. row i ∷ xs) (take-rows row (i + 1) n c (omega (arith, l)))
+
+-- a run inside a list of rows
+pub run-rows : {A : Type 0} (row : ℕ → A) (s i n c : ℕ) → s + c ≤ n → take c (drop s (rowsFrom row i n)) ≡ rowsFrom row (i + s) c
+unfolding rowsFrom
+run-rows row zero i n c l = take-rows row i n c (omega (arith, l)) ∙ ap (λ (j : ℕ). rowsFrom row j c) (sym (add-zero i))
+run-rows row (suc s) i zero c l = absurd (omega (arith, l))
+run-rows row (suc s) i (suc n) c l = run-rows row s (i + 1) n c (omega (arith, l)) ∙ ap (λ (j : ℕ). rowsFrom row j c) (omega arith)
+
+-- and from the first on
+pub row-at : {A : Type 0} (row : ℕ → A) (d : A) (n j : ℕ) → j < n → getD (rowsFrom row 0 n) j d ≡ row j
+row-at row d n j l = row-in row d 0 n j l ∙ ap row (omega arith)
+
+pub all-rows-at : {A : Type 0} (R : A → Type 0) (row : ℕ → A) (n : ℕ) → ((j : ℕ) → j < n → R (row j)) → All R (rowsFrom row 0 n)
+all-rows-at R row n h = all-rows R row 0 n (λ j l. subst (λ (x : ℕ). R (row x)) (omega arith) (h j l))
+
+pub run-at : {A : Type 0} (row : ℕ → A) (n s c : ℕ) → s + c ≤ n → take c (drop s (rowsFrom row 0 n)) ≡ rowsFrom row s c
+run-at row n s c l = run-rows row s 0 n c l ∙ ap (λ (j : ℕ). rowsFrom row j c) (omega arith)
+
+-- A constraint whose places and sorts are those of the lists W.
+pub data Listed (W : Lent) (P : Problem) : Constraint → Type 0 where
+  sub-listed : (l r : InferSortId) → PlacedIn W (l .0) → PlacedIn W (r .0) → Listed W P (Sub l r)
+  lit-listed : (p : InferSortId) (kind : LitKind) → PlacedIn W (p .0) → Listed W P (Lit p kind)
+  disjunction-listed : (x : ExprId) (p : InferSortId) (run : Run) → PlacedIn W (p .0) → ((i : ℕ) → i < run .count → PlacedIn W (overloadIn (P .overloads) run i .sort .0))
+      → Listed W P (Disjunction x p run)
+  comprehension-listed : (body node : InferSortId) (element : SortId) → PlacedIn W (body .0) → PlacedIn W (node .0) → element .0 < W .lengths .sorts
+      → Listed W P (Comprehension body node element)
+  join-listed : (run : Run) (t : InferSortId) → PlacedIn W (t .0) → All (PlacedIn W) (take (run .count) (drop (run .start) (P .sources))) → Listed W P (Join run t)
+
+module _ (I : Call) where
+  abbrev W : Lent
+  W = lentOf I
+
+  abbrev P : Problem
+  P = problemOf I
+
+  abbrev placedAt : ℕ → Bool
+  placedAt p = isPlace (I .lengths .sorts) (I .lengths .nodes) p
+
+  abbrev placedIn : ℕ → Bool
+  placedIn j = placedAt (getD (I .sources) j 0)
+
+  overload-placed : (run : Run) → runFine I (I .rows .overloads) (overloadFine I) run ≡ true → (i : ℕ) → i < run .count → PlacedIn W (overloadIn (P .overloads) run i .sort .0)
+  unfolding overloadFine
+  overload-placed run f i l =
+      let x = and-eq-true-iff (leb (run .start + run .count) (I .rows .overloads)) _ .0 f in
+      let s = leb-true (run .start + run .count) (I .rows .overloads) (x .0) in
+      let y = below-each (run .count) (λ j. overloadFine I (run .start + j)) (x .1) i l in
+      let z = and-eq-true-iff (targetFine I (getD (I .overloads) (3 * (run .start + i)) 0) (getD (I .overloads) (3 * (run .start + i) + 1) 0)) _ .0 y in
+      subst (λ (o : Overload). PlacedIn W (o .sort .0)) (sym (row-at (overloadAt (I .overloads)) _ (I .rows .overloads) (run .start + i) (omega (arith, s, l)))) (z .1)
+
+  sources-placed : (run : Run) → runFine I (I .rows .sources) (λ j. placedIn j) run ≡ true → All (PlacedIn W) (take (run .count) (drop (run .start) (P .sources)))
+  sources-placed run f =
+      let x = and-eq-true-iff (leb (run .start + run .count) (I .rows .sources)) _ .0 f in
+      let s = leb-true (run .start + run .count) (I .rows .sources) (x .0) in
+      subst (All (PlacedIn W)) (sym (run-at (λ i. getD (I .sources) i 0) (I .rows .sources) (run .start) (run .count) s))
+      (all-rows (PlacedIn W) (λ i. getD (I .sources) i 0) (run .start) (run .count) (λ j l. below-each (run .count) (λ j. placedIn (run .start + j)) (x .1) j l))
+
+  listed-by : (b : ℕ) (c : Constraint) → constraintFine I b c ≡ true → Listed W P c
+  listed-by b (Sub l r) f = let x = and-eq-true-iff (placedAt (l .0)) (placedAt (r .0)) .0 f in sub-listed l r (x .0) (x .1)
+  listed-by b (Lit p kind) f = lit-listed p kind (and-eq-true-iff (placedAt (p .0)) (leb b 1) .0 f .0)
+  listed-by b (Disjunction x p run) f =
+      let y = and-eq-true-iff (ltb (x .0) (I .rows .exprs) && placedAt (p .0)) (runFine I (I .rows .overloads) (overloadFine I) run) .0 f in
+      let z = and-eq-true-iff (ltb (x .0) (I .rows .exprs)) (placedAt (p .0)) .0 (y .0) in
+      disjunction-listed x p run (z .1) (overload-placed run (y .1))
+  listed-by b (Comprehension body node element) f =
+      let x = and-eq-true-iff (placedAt (body .0) && placedAt (node .0)) (ltb (element .0) (I .lengths .sorts)) .0 f in
+      let y = and-eq-true-iff (placedAt (body .0)) (placedAt (node .0)) .0 (x .0) in
+      comprehension-listed body node element (y .0) (y .1) (ltb-true (element .0) (I .lengths .sorts) (x .1))
+  listed-by b (Join run t) f =
+      let x = and-eq-true-iff (placedAt (t .0)) (runFine I (I .rows .sources) (λ j. placedIn j) run) .0 f in
+      join-listed run t (x .0) (sources-placed run (x .1))
+
+  constraint-listed : constraintsFine I ≡ true → (j : ℕ) → j < I .rows .constraints → Listed W P (constraintAt (I .constraints) j)
+  unfolding constraintsFine
+  constraint-listed f j l =
+      let x = below-each (I .rows .constraints) (λ i. leb (getD (I .constraints) (5 * i) 0) 4 && constraintFine I (getD (I .constraints) (5 * i + 2) 0) (constraintAt (I .constraints) i)) f j l in
+      listed-by (getD (I .constraints) (5 * j + 2) 0) (constraintAt (I .constraints) j)
+      (and-eq-true-iff (leb (getD (I .constraints) (5 * j) 0) 4) (constraintFine I (getD (I .constraints) (5 * j + 2) 0) (constraintAt (I .constraints) j)) .0 x .1)
+
+  within : allWithinLent I ≡ true
+      → (withinLent (I .sorts) (I .lengths .sorts) (I .lengths .entries) ≡ true) × (nodesWithinLent (I .nodes) (I .lengths .nodes) (I .lengths .arguments) ≡ true)
+      × (bindingsWithinLent (I .binds) (I .lengths .variables) ≡ true)
+  unfolding allWithinLent
+  within f =
+      let a = withinLent (I .sorts) (I .lengths .sorts) (I .lengths .entries) in
+      let b = nodesWithinLent (I .nodes) (I .lengths .nodes) (I .lengths .arguments) in
+      let c = bindingsWithinLent (I .binds) (I .lengths .variables) in
+      let x = and-eq-true-iff (a && b && c) (rowsWithinLent I) .0 f in
+      let y = and-eq-true-iff (a && b) c .0 (x .0) in
+      let z = and-eq-true-iff a b .0 (y .0) in
+      (z .0, z .1, y .1)
+
+  long : longEnough I ≡ true → (atCeiling (I .sorts) ≡ true) × (leb fullNodes (length (I .nodes)) ≡ true)
+  unfolding longEnough
+  long f =
+      let x = and-eq-true-iff (atCeiling (I .sorts) && leb fullNodes (length (I .nodes))) (outputsLong I) .0 f in
+      and-eq-true-iff (atCeiling (I .sorts)) (leb fullNodes (length (I .nodes))) .0 (x .0)
+
+  -- A call that no check refuses.
+  pub record Accepted : Type 0 where
+    pub ready : Ready (I .sorts) (I .nodes) (I .binds) (I .lengths)
+    pub six : fixedSix (I .sorts) (I .lengths .sorts) ≡ true
+    pub default : I .default < I .lengths .sorts
+    pub exprs : All (PlacedIn W) (P .exprs)
+    pub constraints : All (Listed W P) (P .constraints)
+
+  pub accepted : firstFailing (solveChecks I) ≡ none → Accepted
+  unfolding solveChecks nodeChecks allWithinLent exprsFine constraintsFine longEnough
+  accepted x =
+      let c₁ = cons-passes _ _ x in
+      let c₂ = cons-passes _ _ (c₁ .1) in
+      let c₃ = cons-passes _ _ (c₂ .1) in
+      let c₄ = cons-passes _ _ (c₃ .1) in
+      let c₅ = cons-passes _ _ (c₄ .1) in
+      let c₆ = cons-passes _ _ (c₅ .1) in
+      let c₇ = cons-passes _ _ (c₆ .1) in
+      let c₈ = cons-passes _ _ (c₇ .1) in
+      let c₉ = cons-passes _ _ (c₈ .1) in
+      let c₁₀ = cons-passes _ _ (c₉ .1) in
+      let c₁₁ = cons-passes _ _ (c₁₀ .1) in
+      let c₁₂ = cons-passes _ _ (c₁₁ .1) in
+      let c₁₄ = cons-passes _ _ (c₁₂ .1) in
+      let w = within (c₁ .0) in
+      let l = long (c₁₄ .0) in
+      let e = and-eq-true-iff (exprsFine I) (namesFine I) .0 (c₈ .0) in
+      record {
+        ready =
+            passed-ready (I .sorts) (I .lengths .sorts) (I .lengths .entries) (I .nodes) (I .lengths .nodes) (I .lengths .arguments) (I .binds) (I .lengths .variables) (w .0) (w .1) (w .2) (c₃ .0) (c₄ .0) (c₅ .0)
+            (c₆ .0) (c₇ .0) (l .0) (l .1);
+        six = c₂ .0;
+        default = ltb-true (I .default) (I .lengths .sorts) (c₁₂ .0);
+        exprs = all-rows-at (PlacedIn W) (λ i. getD (I .exprs) i 0) (I .rows .exprs) (λ j m. below-each (I .rows .exprs) (λ i. placedAt (getD (I .exprs) i 0)) (e .0) j m);
+        constraints = all-rows-at (Listed W P) (constraintAt (I .constraints)) (I .rows .constraints) (constraint-listed (c₉ .0));
+      }
