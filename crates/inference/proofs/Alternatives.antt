@@ -163,8 +163,8 @@ module _
   module _
       (body node element : ℕ) (x : PlacedIn W₀ body) (y : PlacedIn W₀ node) (l : element < W₀ .lengths .sorts) (Q R : Claim)
       (h : (ch : List Choice) (ρ : Assignment) (ms : Components) (s t : Tree) → Q ch ρ ms → Has (graph W₀) ρ body s → Has (graph W₀) ρ node t
-      → Read (graph W₀) (sortIn W₀) P ch ρ (sortIn W₀ element) s t → R ch ρ ms) (k : Path → World Met → Out Met) (on : Goes W₀ B₀ P Met R k) where
-    reading-goes : (s : Sort) (o : ComplexSort) → ((ch : List Choice) (ρ : Assignment) → Read (graph W₀) (sortIn W₀) P ch ρ (sortIn W₀ element) (flat (primitive s)) (container o (sortIn W₀ element)))
+      → Read (sortIn W₀ element) s t → R ch ρ ms) (k : Path → World Met → Out Met) (on : Goes W₀ B₀ P Met R k) where
+    reading-goes : (s : Sort) (o : ComplexSort) → ((ch : List Choice) (ρ : Assignment) → Read (sortIn W₀ element) (flat (primitive s)) (container o (sortIn W₀ element)))
         → (rs : List Reading) → ((b : Bool) → Goes W₀ B₀ P Met Q (everyReading Met meet P rs body node element b k)) → (b : Bool)
         → Goes W₀ B₀ P Met Q (everyReading Met meet P (record { body = kindFlat (primitive s); op = o } ∷ rs) body node element b k)
     unfolding everyReading

@@ -52,18 +52,18 @@ module _ (W₀ : Lent) (B₀ : Binds) (P : Problem) (c₀ : CheckedLent W₀) (M
   still-placed W g _ (and-all p ps i is) = and-all p ps (placed-grown W₀ c₀ W g p i) (still-placed W g ps is)
 
   -- sources that agree, under an assignment that respects the bindings
-  heads-stand : (W : Lent) → Grows W₀ W → (B : Binds) (W′ : Lent) (choices : List Choice) (ρ : Assignment) → Respects (graph W) B (terms ρ) → (u : Tree) (ps ss : List ℕ) (ns : Components)
-      → All (PlacedIn W₀) ps → StandAll W B Nothing W′ ps ss → HeadsAre u (each (sortIn W′) ss) ns → Heads (graph W₀) (sortIn W₀) P choices ρ u ps (each (sortIn W′) ss) ns
-  heads-stand W g B W′ choices ρ r u _ _ _ i all-stand no-heads-are = no-heads
-  heads-stand W g B W′ choices ρ r u _ _ _ (and-all _ _ i is) (and-stands p s ps ss l f t) (and-head-is _ d _ ns m q h) =
-      and-head p (sortIn W′ s) d ps (each (sortIn W′) ss) ns (sym (given-term W g p i (terms ρ)) ∙ f (terms ρ) r tt) m q (heads-stand W g B W′ choices ρ r u ps ss ns is t h)
+  heads-stand : (W : Lent) → Grows W₀ W → (B : Binds) (W′ : Lent) (ρ : Assignment) → Respects (graph W) B (terms ρ) → (u : Tree) (ps ss : List ℕ) (ns : Components)
+      → All (PlacedIn W₀) ps → StandAll W B Nothing W′ ps ss → HeadsAre u (each (sortIn W′) ss) ns → Heads (graph W₀) ρ u ps (each (sortIn W′) ss) ns
+  heads-stand W g B W′ ρ r u _ _ _ i all-stand no-heads-are = no-heads
+  heads-stand W g B W′ ρ r u _ _ _ (and-all _ _ i is) (and-stands p s ps ss l f t) (and-head-is _ d _ ns m q h) =
+      and-head p (sortIn W′ s) d ps (each (sortIn W′) ss) ns (sym (given-term W g p i (terms ρ)) ∙ f (terms ρ) r tt) m q (heads-stand W g B W′ ρ r u ps ss ns is t h)
 
   module _ (ss : List ℕ) (t : ℕ) (placed : All (PlacedIn W₀) ss) (at : PlacedIn W₀ t) (Q R : Claim)
       (claim : (ch : List Choice) (ρ : Assignment) (ms : Components) (s u : Tree) (us : List Tree) (ns : Components) → Q ch ρ ms → Has (graph W₀) ρ t u
-      → Heads (graph W₀) (sortIn W₀) P ch ρ u ss (s ∷ us) ns → joins s us ≡ some u → R ch ρ (ms ++ ns)) where
+      → Heads (graph W₀) ρ u ss (s ∷ us) ns → joins s us ≡ some u → R ch ρ (ms ++ ns)) where
     -- the first sort and the others
     claimed : (ch : List Choice) (ρ : Assignment) (ms : Components) (u : Tree) (ts : List Tree) (ns : Components) → Q ch ρ ms → Has (graph W₀) ρ t u
-        → Heads (graph W₀) (sortIn W₀) P ch ρ u ss ts ns → JoinsTo ts u → R ch ρ (ms ++ ns)
+        → Heads (graph W₀) ρ u ss ts ns → JoinsTo ts u → R ch ρ (ms ++ ns)
     claimed ch ρ ms u [] ns q h x j = absurd j
     claimed ch ρ ms u (s ∷ us) ns q h x j = claim ch ρ ms s u us ns q h x j
 
@@ -81,7 +81,7 @@ module _ (W₀ : Lent) (B₀ : Binds) (P : Problem) (c₀ : CheckedLent W₀) (M
         let r′ = respects-grown (w .lent) (s .grown .checked) (v .lent) (g .grows) (e .binds) (binds-name-places (w .lent) (e .binds) (s .binds)) (terms ρ) .1 (y .before (terms ρ) r) in
         claimed (e .choices) ρ (e .measure) (sortIn (v .lent) (a .sort)) (each (sortIn (q .lists)) (q .sorts)) (a .components) cl
         (sym (given-term (v .lent) (s′ .grown) t at (terms ρ)) ∙ (eq ∙ sort-term (v .lent) (s′ .grown .checked) (terms ρ) (a .sort) (q .agreed .number)))
-        (heads-stand (w .lent) (s .grown) (e .binds) (q .lists) (e .choices) ρ r′ (sortIn (v .lent) (a .sort)) ss (q .sorts) (a .components) placed (q .stand) (q .agreed .heads)) (q .agreed .joined)))
+        (heads-stand (w .lent) (s .grown) (e .binds) (q .lists) ρ r′ (sortIn (v .lent) (a .sort)) ss (q .sorts) (a .components) placed (q .stand) (q .agreed .heads)) (q .agreed .joined)))
         b′))
         (λ v′ x. seq e v′ (sound-grown W₀ B₀ P (v .lent) (v′ .lent) e Q c₀ s′ (x .grows)) (x .best)))
         (λ v s′ b′. seq e v s′ b′)

@@ -6,3 +6,4 @@ pub mod Leaf
 pub mod Widening
 pub mod Alternatives
 pub mod Accepted
+pub mod Steps

@@ -185,7 +185,7 @@ module _ (W₀ : Lent) (B₀ : Binds) (P : Problem) (c₀ : CheckedLent W₀) (M
 
     -- whatever the sources add, R holds with it
     abbrev Adding : ℕ → Claim → List ℕ → Claim
-    Adding t R ss ch ρ ms = (u : Tree) (ns : Components) → Has (graph W₀) ρ t u → Sequence (graph W₀) (sortIn W₀) P ch ρ u ss ns → R ch ρ (ms ++ ns)
+    Adding t R ss ch ρ ms = (u : Tree) (ns : Components) → Has (graph W₀) ρ t u → Sequence (graph W₀) ρ u ss ns → R ch ρ (ms ++ ns)
 
     sources-go : (ss : List ℕ) (t : ℕ) → All (PlacedIn W₀) ss → PlacedIn W₀ t → (R : Claim) (k : Next Met meet P) → Goes W₀ B₀ P Met R k → Goes W₀ B₀ P Met (Adding t R ss) (sequence Met meet P ss t k)
     unfolding sequence
@@ -199,7 +199,7 @@ module _ (W₀ : Lent) (B₀ : Binds) (P : Problem) (c₀ : CheckedLent W₀) (M
 
     -- From Q to R by a Join's sources one after another, where R holds with whatever they add.
     pub sequence-goes : (ss : List ℕ) (t : ℕ) → All (PlacedIn W₀) ss → PlacedIn W₀ t → (Q R : Claim)
-        → ((ch : List Choice) (ρ : Assignment) (ms : Components) (u : Tree) (ns : Components) → Q ch ρ ms → Has (graph W₀) ρ t u → Sequence (graph W₀) (sortIn W₀) P ch ρ u ss ns → R ch ρ (ms ++ ns))
+        → ((ch : List Choice) (ρ : Assignment) (ms : Components) (u : Tree) (ns : Components) → Q ch ρ ms → Has (graph W₀) ρ t u → Sequence (graph W₀) ρ u ss ns → R ch ρ (ms ++ ns))
         → (k : Next Met meet P) → Goes W₀ B₀ P Met R k → Goes W₀ B₀ P Met Q (sequence Met meet P ss t k)
     sequence-goes ss t xs y Q R h k g =
         weaker-goes W₀ B₀ P Met Q (Adding t R ss) (λ ch ρ ms q u ns. h ch ρ ms u ns q) (sequence Met meet P ss t k) (sources-go ss t xs y R k g)
