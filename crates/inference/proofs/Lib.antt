@@ -7,3 +7,4 @@ pub mod Widening
 pub mod Alternatives
 pub mod Accepted
 pub mod Steps
+pub mod Together

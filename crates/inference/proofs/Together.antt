@@ -1,0 +1,187 @@
+-- Demand 3: a typing comes with one assignment under which the whole list holds together, and under which each component of its measure is what document
+-- 01 says. A call that no check refuses starts the search soundly, with nothing passed; so the incumbent that it ends with is fine; and what is handed out is
+-- the incumbent. Assumes nothing.
+use mathlib.Core.Path.{_≡_, refl, sym, subst, ap, _∙_}
+use mathlib.Core.Bool.{Bool, true, false}
+use mathlib.Core.List.{List, [], _∷_, _++_}
+use mathlib.Core.Option.{Option, none, some}
+use Prim.Native.Nat.{ℕ, zero, suc, _+_, _*_, _<_}
+use native.Mathlib.Omega.{arith}
+use lib.ListN.{length, getD, take, drop}
+use Rattle.resolved_sort.specs.declared.Sort.{Sort}
+use Rattle.resolved_sort.specs.Tree.{Tree}
+use Rattle.resolved_sort.specs.Order.{Steps, materializable}
+use Rattle.resolved_sort.specs.Checks.{firstFailing}
+use Rattle.resolved_sort.specs.Entries.{orElse, treeAt}
+use Rattle.resolved_sort.proofs.Materializable.{materializable-refl}
+use Rattle.resolved_sort.proofs.Reached.{no-confusion}
+use Rattle.unification.specs.Term.{put, termOf}
+use Rattle.unification.specs.Nodes.{Binds, binding, bindsOf}
+use Rattle.unification.specs.Related.{related, Member}
+use Rattle.unification.specs.Solutions.{termAt}
+use Rattle.unification.specs.Making.{Lent, graph}
+use Rattle.unification.proofs.Grows.{grows-refl}
+use Rattle.unification.proofs.Wider.{nearest-first}
+use Rattle.inference.specs.declared.LitKind.{LitKind}
+use Rattle.inference.specs.declared.LitKind.the-variants.{Positive, Natural}
+use Rattle.inference.specs.declared.Constraint.{Constraint}
+use Rattle.inference.specs.declared.Outputs.{Outputs}
+use Rattle.inference.specs.declared.Solved.{Solved}
+use Rattle.inference.specs.declared.Solved.the-variants.{Refused, NoRoom, NoTyping, Ambiguous, Typing}
+use Rattle.inference.specs.Constraints.{rowsFrom, Problem}
+use Rattle.inference.specs.Measure.{Components}
+use Rattle.inference.specs.Search.{Choice, Candidate, World, Out, found, missed, ended, sortIn, litComponent, solve}
+use Rattle.inference.specs.Typing.{Assignment, Has, admits, All, none-left, and-all, Into, Typed, all-typed, and-typed, Meets, meets-sub, meets-lit, meets-join, HoldsTogether}
+use Rattle.inference.specs.Components.{Widened, equal-to, wider-by, Heads, no-heads, and-head, Sequence, no-source, and-source, Costs, sub-costs, lit-costs, disjunction-costs, comprehension-costs, agreed-costs, sequence-costs, Costing, nothing-costs, and-costs}
+use Rattle.inference.specs.SolveChecks.{Call, solveChecks}
+use Rattle.inference.specs.SolveEntry.{problemOf, start, lentOf, searched, Left, refused, typingRows, countsIn, judged, judgedBy, verdict, nothingMet, solveEntry}
+use Rattle.inference.proofs.Invariant.{Cost, Sound, Fine, FineBest, Went, Leaves}
+use Rattle.inference.proofs.Accepted.{Accepted, accepted, length-rows}
+use Rattle.inference.proofs.Steps.{Passed, solve-goes}
+
+-- what is met at a cost is met
+pub widened-materializes : (s t : Tree) (n : ℕ) → Widened s t n → materializable s t ≡ true
+widened-materializes s _ _ equal-to = materializable-refl s
+widened-materializes s _ _ (wider-by t i m) = nearest-first true s t i .0 m .0
+
+pub admitted : (kind : LitKind) (s : Sort) (g : ℕ) → litComponent kind s ≡ some g → admits kind s ≡ true
+unfolding litComponent
+admitted Positive Sort.Bool g e = no-confusion cc
+admitted Natural Sort.Bool g e = no-confusion cc
+admitted Positive Sort.Pos g e = refl
+admitted Natural Sort.Pos g e = no-confusion cc
+admitted Positive Sort.Nat g e = refl
+admitted Natural Sort.Nat g e = refl
+admitted Positive Sort.Int g e = refl
+admitted Natural Sort.Int g e = refl
+admitted Positive Sort.Real g e = refl
+admitted Natural Sort.Real g e = refl
+
+module _ (W₀ : Lent) (B₀ : Binds) (P : Problem) (ch : List Choice) (ρ : Assignment) where
+  heads-into : (t : Tree) (ps : List ℕ) (ss : List Tree) (ns : Components) → Heads (graph W₀) ρ t ps ss ns → All (Into (graph W₀) ρ t) ps
+  heads-into t _ _ _ no-heads = none-left
+  heads-into t _ _ _ (and-head p s d ps ss ns h m e x) = and-all p ps (record { sort = s; has = h; into = m }) (heads-into t ps ss ns x)
+
+  sequence-into : (t : Tree) (ps : List ℕ) (ns : Components) → Sequence (graph W₀) ρ t ps ns → All (Into (graph W₀) ρ t) ps
+  sequence-into t _ _ no-source = none-left
+  sequence-into t _ _ (and-source p s n ps ns h w x) = and-all p ps (record { sort = s; has = h; into = widened-materializes s t n w }) (sequence-into t ps ns x)
+
+  costs-meet : (c : Constraint) (ns : Components) → Costs (graph W₀) (sortIn W₀) P ch ρ c ns → Meets (graph W₀) (sortIn W₀) P ch ρ c
+  costs-meet _ _ (sub-costs l r s t n h g w) = meets-sub l r t g (record { sort = s; has = h; into = widened-materializes s t n w })
+  costs-meet _ _ (lit-costs p kind s g h e) = meets-lit p kind s h (admitted kind s g e)
+  costs-meet _ _ (disjunction-costs x p run m) = m
+  costs-meet _ _ (comprehension-costs b n e m) = m
+  costs-meet _ _ (agreed-costs run t s u us ns h g j) = meets-join run t u h (heads-into u _ (s ∷ us) ns g)
+  costs-meet _ _ (sequence-costs run t u ns h q) = meets-join run t u h (sequence-into u _ ns q)
+
+  all-met : (cs : List Constraint) (ns : Components) → Cost W₀ B₀ P ch ρ cs ns → All (Meets (graph W₀) (sortIn W₀) P ch ρ) cs
+  all-met _ _ nothing-costs = none-left
+  all-met _ _ (and-costs c cs ns ms x y) = and-all c cs (costs-meet c ns x) (all-met cs ms y)
+
+-- the rows of expressions, read back
+typed-long : (W₀ : Lent) (look : ℕ → Tree) (ρ : Assignment) (ps ss : List ℕ) → Typed (graph W₀) look ρ ps ss → length ss ≡ length ps
+typed-long W₀ look ρ _ _ all-typed = refl
+typed-long W₀ look ρ _ _ (and-typed p s ps ss h t) = ap suc (typed-long W₀ look ρ ps ss t)
+
+sort-row : (I : Call) (cs : List Choice) (x : ℕ) (ss rest : List ℕ) (i : ℕ) → i < length ss → getD (typingRows I cs x ss ++ rest) (3 * i) 0 ≡ getD ss i 0
+unfolding typingRows
+sort-row I cs x [] rest i l = absurd (omega (arith, l))
+sort-row I cs x (s ∷ ss) rest zero l = refl
+sort-row I cs x (s ∷ ss) rest (suc i) l =
+    let e : 3 * suc i ≡ suc (suc (suc (3 * i))) = omega arith in ap (λ j. getD (typingRows I cs x (s ∷ ss) ++ rest) j 0) e ∙ sort-row I cs (x + 1) ss rest i (omega (arith, l))
+
+rows-are : (ss : List ℕ) (row : ℕ → ℕ) (i n : ℕ) → n ≡ length ss → ((j : ℕ) → j < length ss → row (i + j) ≡ getD ss j 0) → rowsFrom row i n ≡ ss
+unfolding rowsFrom
+rows-are [] row i zero e h = refl
+rows-are [] row i (suc n) e h = absurd (omega (arith, e))
+rows-are (s ∷ ss) row i zero e h = absurd (omega (arith, e))
+rows-are (s ∷ ss) row i (suc n) e h =
+    let a : row i ≡ s = ap row (omega arith) ∙ h 0 (omega arith) in
+    let b : rowsFrom row (i + 1) n ≡ ss = rows-are ss row (i + 1) n (omega (arith, e)) (λ j l. ap row (omega arith) ∙ h (suc j) (omega (arith, l))) in
+    cc
+
+take-front : (xs ys : List ℕ) → take (length xs) (xs ++ ys) ≡ xs
+take-front [] ys = refl
+take-front (x ∷ xs) ys = ap (λ zs. x ∷ zs) (take-front xs ys)
+
+module _ (I : Call) where
+  abbrev W₀ : Lent
+  W₀ = lentOf I
+
+  abbrev B₀ : Binds
+  B₀ = bindsOf (I .binds) (I .lengths .variables)
+
+  abbrev P : Problem
+  P = problemOf I
+
+  -- The search of a call that is accepted leaves a fine incumbent.
+  pub search-leaves : Accepted I → (Met : Type 0) (meet : Components → Met → Met) (m : Met) → Leaves W₀ B₀ P Met W₀ (searched Met meet m I)
+  unfolding FineBest
+  search-leaves A Met meet m =
+      solve-goes W₀ B₀ P (A .ready .nodes) (A .six) Met meet (A .default) (A .exprs) (P .constraints) [] refl (A .constraints) (start I) (record { lent = W₀; best = none; met = m })
+      (record { grown = grows-refl W₀ (A .ready .nodes); binds = A .ready .binds; refines = λ σ r. r; costs = λ ρ r. nothing-costs }) tt
+
+  -- the sorts, the measure and the choices that a call hands out
+  abbrev pub sortsOut : Left → List ℕ
+  sortsOut L = rowsFrom (λ i. getD (L .typing) (3 * i) 0) 0 (I .rows .exprs)
+
+  abbrev pub measureOut : Left → Outputs → Components
+  measureOut L o = take (o .components) (L .measure)
+
+  -- What a typing comes with: it holds together, and its components are those of its constraints, under one assignment.
+  pub record Explained (L : Left) (o : Outputs) : Type 0 where
+    pub together : HoldsTogether (graph W₀) (sortIn W₀) (treeAt (L .sorts) (o .counts .sorts)) B₀ P (sortsOut L) (L .choices)
+    pub components : Costing (graph W₀) (sortIn W₀) P (L .choices) (together .assignment) (P .constraints) (measureOut L o)
+
+  explained : (W : Lent) (c : Candidate) → Fine W₀ B₀ P W c → (o : Outputs) → judgedBy I W c false .answer ≡ Typing o → Explained (judgedBy I W c false) o
+  explained W c f o e =
+      let q : o ≡ record { counts = countsIn W; components = length (c .measure); choices = length (c .choices) } = cc in
+      let x : o .counts .sorts ≡ W .lengths .sorts = ap (λ (z : Outputs). z .counts .sorts) q in
+      let y : o .components ≡ length (c .measure) = ap (λ (z : Outputs). z .components) q in
+      let many : length (c .sorts) ≡ I .rows .exprs = typed-long W₀ (sortIn W) (f .assignment) (P .exprs) (c .sorts) (f .typed) ∙ length-rows (λ i. getD (I .exprs) i 0) 0 (I .rows .exprs) in
+      let ss : sortsOut (judgedBy I W c false) ≡ c .sorts =
+      rows-are (c .sorts) (λ i. getD (judgedBy I W c false .typing) (3 * i) 0) 0 (I .rows .exprs) (sym many)
+      (λ j l. ap (λ (i : ℕ). getD (judgedBy I W c false .typing) (3 * i) 0) (omega arith) ∙ sort-row I (c .choices) 0 (c .sorts) _ j l) in
+      let ms : measureOut (judgedBy I W c false) o ≡ c .measure = ap (λ (n : ℕ). take n (judgedBy I W c false .measure)) y ∙ take-front (c .measure) _ in
+      record {
+        together =
+            record {
+              assignment = f .assignment;
+              bound = λ v p r. sym (f .respects v p r);
+              typed =
+                  subst (λ (n : ℕ). Typed (graph W₀) (treeAt (W .sorts) n) (f .assignment) (P .exprs) (sortsOut (judgedBy I W c false))) (sym x)
+                  (subst (λ zs. Typed (graph W₀) (sortIn W) (f .assignment) (P .exprs) zs) (sym ss) (f .typed));
+              meets = all-met W₀ B₀ P (c .choices) (f .assignment) (P .constraints) (c .measure) (f .costs);
+            };
+        components = subst (λ ns. Costing (graph W₀) (sortIn W₀) P (c .choices) (f .assignment) (P .constraints) ns) (sym ms) (f .costs);
+      }
+
+  by-candidate : (W : Lent) (c : Candidate) → Fine W₀ B₀ P W c → (o : Outputs) (b : Bool) → judgedBy I W c b .answer ≡ Typing o → Explained (judgedBy I W c b) o
+  by-candidate W c f o true e = no-confusion cc
+  by-candidate W c f o false e = explained W c f o e
+
+  by-best : (W : Lent) (b : Option Candidate) → FineBest W₀ B₀ P W b → (o : Outputs) → judged I W b .answer ≡ Typing o → Explained (judged I W b) o
+  unfolding FineBest
+  by-best W none f o e = no-confusion cc
+  by-best W (some c) f o e = by-candidate W c f o (c .duplicate) e
+
+  by-verdict : (O : Out (Unit {0})) → Leaves W₀ B₀ P (Unit {0}) W₀ O → (o : Outputs) → verdict I O .answer ≡ Typing o → Explained (verdict I O) o
+  unfolding Leaves
+  by-verdict (found w) l o e = by-best (w .lent) (w .best) (l .best) o e
+  by-verdict (missed w) l o e = by-best (w .lent) (w .best) (l .best) o e
+  by-verdict (ended d w) l o e = no-confusion cc
+
+  -- Every typing is explained: no premise but code 0.
+  pub every-typing-is-explained : (o : Outputs) → solveEntry I .answer ≡ Typing o → Explained (solveEntry I) o
+  unfolding solveEntry
+  every-typing-is-explained o = go (firstFailing (solveChecks I)) refl
+    where
+      go : (x : Option ℕ) → firstFailing (solveChecks I) ≡ x → orElse x (refused I) (verdict I (searched (Unit {0}) nothingMet tt I)) .answer ≡ Typing o
+          → Explained (orElse x (refused I) (verdict I (searched (Unit {0}) nothingMet tt I))) o
+      go none q e = by-verdict (searched (Unit {0}) nothingMet tt I) (search-leaves (accepted I q) (Unit {0}) nothingMet tt) o e
+      go (some d) q e = no-confusion cc
+
+  -- Demand 3.
+  pub typing-holds-together : (o : Outputs) → solveEntry I .answer ≡ Typing o
+      → HoldsTogether (graph W₀) (sortIn W₀) (treeAt (solveEntry I .sorts) (o .counts .sorts)) B₀ P (sortsOut (solveEntry I)) (solveEntry I .choices)
+  typing-holds-together o e = every-typing-is-explained o e .together
