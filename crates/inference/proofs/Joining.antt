@@ -31,17 +31,17 @@ module _ (W₀ : Lent) (B₀ : Binds) (P : Problem) (c₀ : CheckedLent W₀) (M
   leaves-after W W′ c g o x = leaves-from W₀ B₀ P Met W c W′ (g .grows) (g .nodes) (g .arguments) o x
 
   -- on with what was made, where only sorts were
-  pub on-made-leaves : {A : Type 0} (In : Lent → A → Type 0) (e : Path) (w : World Met) (Q : Claim) → Sound W₀ B₀ P (w .lent) e Q → FineBest W₀ B₀ P (w .lent) (w .best)
-      → (O : Makes A) → MadeSorts In (w .lent) O → (k : A → World Met → Out Met) (f : World Met → Out Met)
+  pub on-made-leaves : {A : Type 0} (In : Lent → A → Type 0) (N : Type 0) (e : Path) (w : World Met) (Q : Claim) → Sound W₀ B₀ P (w .lent) e Q → FineBest W₀ B₀ P (w .lent) (w .best)
+      → (O : Makes A) → MadeSorts In N (w .lent) O → (k : A → World Met → Out Met) (f : World Met → Out Met)
       → ((a : A) (v : World Met) → SortsOnly (w .lent) (v .lent) → Sound W₀ B₀ P (v .lent) e Q → FineBest W₀ B₀ P (v .lent) (v .best) → In (v .lent) a → leave (v .lent) (k a v))
       → ((v : World Met) → Sound W₀ B₀ P (v .lent) e Q → FineBest W₀ B₀ P (v .lent) (v .best) → leave (v .lent) (f v)) → leave (w .lent) (onMade O k f w)
   unfolding MadeSorts Leaves
-  on-made-leaves In e w Q s b (made a W′) m k f x y =
+  on-made-leaves In N e w Q s b (made a W′) m k f x y =
       leaves-after (w .lent) W′ (s .grown .checked) (m .0) (k a (lending w W′))
       (x a (lending w W′) (m .0) (sound-grown W₀ B₀ P (w .lent) W′ e Q c₀ s (m .0 .grows)) (fine-grown W₀ B₀ P (w .lent) W′ (m .0 .grows) (w .best) b) (m .1))
-  on-made-leaves In e w Q s b (no-list W′) m k f x y =
-      leaves-after (w .lent) W′ (s .grown .checked) m (f (lending w W′)) (y (lending w W′) (sound-grown W₀ B₀ P (w .lent) W′ e Q c₀ s (m .grows)) (fine-grown W₀ B₀ P (w .lent) W′ (m .grows) (w .best) b))
-  on-made-leaves In e w Q s b (no-room c W′) m k f x y = tt
+  on-made-leaves In N e w Q s b (no-list W′) m k f x y =
+      leaves-after (w .lent) W′ (s .grown .checked) (m .0) (f (lending w W′)) (y (lending w W′) (sound-grown W₀ B₀ P (w .lent) W′ e Q c₀ s (m .0 .grows)) (fine-grown W₀ B₀ P (w .lent) W′ (m .0 .grows) (w .best) b))
+  on-made-leaves In N e w Q s b (no-room c W′) m k f x y = tt
 
   -- places of the given lists have the same term in all that grew from them
   pub given-term : (W : Lent) → Grows W₀ W → (p : ℕ) → PlacedIn W₀ p → (σ : ℕ → Term) → put σ (termAt (graph W) p) ≡ put σ (termAt (graph W₀) p)
@@ -70,7 +70,7 @@ module _ (W₀ : Lent) (B₀ : Binds) (P : Problem) (c₀ : CheckedLent W₀) (M
     pub joining-goes : (k : Next Met meet P) → Goes W₀ B₀ P Met R k → Goes W₀ B₀ P Met Q (sequence Met meet P ss t k) → Goes W₀ B₀ P Met Q (joining Met meet P ss t k)
     unfolding joining
     joining-goes k goes seq e w s b =
-        on-made-leaves (Agree (w .lent) (e .binds) ss) e w Q s b (joinOf (e .binds) ss (w .lent)) (join-of-makes (w .lent) (s .grown .checked) (e .binds) (s .binds) ss (still-placed (w .lent) (s .grown) ss placed)) _ _
+        on-made-leaves (Agree (w .lent) (e .binds) ss) (Unit {0}) e w Q s b (joinOf (e .binds) ss (w .lent)) (join-of-makes (w .lent) (s .grown .checked) (e .binds) (s .binds) ss (still-placed (w .lent) (s .grown) ss placed)) _ _
         (λ a v g s′ b′ q.
         or-else-leaves W₀ B₀ P Met (v .lent) (s′ .grown .checked) _ _
         (unifying-leaves W₀ B₀ P Met e v Q s′ b′ t (a .sort) (placed-grown W₀ c₀ (v .lent) (s′ .grown) t at) (sort-placed (v .lent) (s′ .grown .checked) (a .sort) (q .agreed .number)) _

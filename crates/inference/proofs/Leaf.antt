@@ -43,7 +43,7 @@ module _ (W₀ : Lent) (B₀ : Binds) (P : Problem) (c₀ : CheckedLent W₀) (b
         let x = Is (record { 0 = P .default }) in
         let l : P .default < W .lengths .sorts = omega (arith, below, s .grown .sorts) in
         let a = sorts-extend W c (e .binds) (s .binds) (λ u. sortIn W (P .default)) in
-        on-made-leaves W₀ B₀ P c₀ Met meet (λ W′ ss. StandAll W (e .binds) x W′ (P .exprs) ss) e w AllPassed s b (resolveAll x (e .binds) (P .exprs) W)
+        on-made-leaves W₀ B₀ P c₀ Met meet (λ W′ ss. StandAll W (e .binds) x W′ (P .exprs) ss) ⊥ e w AllPassed s b (resolveAll x (e .binds) (P .exprs) W)
         (resolve-all-makes W c (e .binds) (s .binds) x l (P .exprs) (still-placed W₀ B₀ P c₀ Met meet W (s .grown) (P .exprs) placed) W (sorts-only-refl W c)) _ _
         (λ ss v g s′ b′ t.
         record {

@@ -46,48 +46,65 @@ sorts-only-refl W c = record { grows = grows-refl W c; nodes = refl; arguments =
 pub sorts-only-trans : (W W′ W″ : Lent) → CheckedLent W → SortsOnly W W′ → SortsOnly W′ W″ → SortsOnly W W″
 sorts-only-trans W W′ W″ c g h = record { grows = grows-trans W c W′ W″ (g .grows) (h .grows); nodes = h .nodes ∙ g .nodes; arguments = h .arguments ∙ g .arguments }
 
--- only sorts were made, and what is made is so
-unfoldable pub MadeSorts : {A : Type 0} → (Lent → A → Type 0) → Lent → Makes A → Type 0
-MadeSorts In W (made a W′) = SortsOnly W W′ × In W′ a
-MadeSorts In W (no-list W′) = SortsOnly W W′
-MadeSorts In W (no-room c W′) = SortsOnly W W′
+-- only sorts were made, and what is made is so; none only if N; no room is 15
+unfoldable pub MadeSorts : {A : Type 0} → (Lent → A → Type 0) → Type 0 → Lent → Makes A → Type 0
+MadeSorts In N W (made a W′) = SortsOnly W W′ × In W′ a
+MadeSorts In N W (no-list W′) = SortsOnly W W′ × N
+MadeSorts In N W (no-room c W′) = SortsOnly W W′ × (c ≡ 15)
 
 -- one after the other
-pub sorts-then : {A B : Type 0} (In : Lent → A → Type 0) (On : Lent → B → Type 0) (W : Lent) → CheckedLent W → (O : Makes A) (f : A → Lent → Makes B) → MadeSorts In W O
-    → ((a : A) (W′ : Lent) → SortsOnly W W′ → In W′ a → MadeSorts On W′ (f a W′)) → MadeSorts On W (O and-then f)
+pub sorts-then : {A B : Type 0} (In : Lent → A → Type 0) (On : Lent → B → Type 0) (N : Type 0) (W : Lent) → CheckedLent W → (O : Makes A) (f : A → Lent → Makes B) → MadeSorts In N W O
+    → ((a : A) (W′ : Lent) → SortsOnly W W′ → In W′ a → MadeSorts On N W′ (f a W′)) → MadeSorts On N W (O and-then f)
 unfolding MadeSorts
-sorts-then In On W c (made a W′) f h k = after (f a W′) (k a W′ (h .0) (h .1))
+sorts-then In On N W c (made a W′) f h k = after (f a W′) (k a W′ (h .0) (h .1))
   where
-    after : (Q : Makes _) → MadeSorts On W′ Q → MadeSorts On W Q
+    after : (Q : Makes _) → MadeSorts On N W′ Q → MadeSorts On N W Q
     after (made b W″) x = (sorts-only-trans W W′ W″ c (h .0) (x .0), x .1)
-    after (no-list W″) x = sorts-only-trans W W′ W″ c (h .0) x
-    after (no-room d W″) x = sorts-only-trans W W′ W″ c (h .0) x
-sorts-then In On W c (no-list W′) f h k = h
-sorts-then In On W c (no-room d W′) f h k = h
+    after (no-list W″) x = (sorts-only-trans W W′ W″ c (h .0) (x .0), x .1)
+    after (no-room d W″) x = (sorts-only-trans W W′ W″ c (h .0) (x .0), x .1)
+sorts-then In On N W c (no-list W′) f h k = h
+sorts-then In On N W c (no-room d W′) f h k = h
 
-sorts-so : {A : Type 0} (In On : Lent → A → Type 0) (W : Lent) (O : Makes A) → MadeSorts In W O → ((a : A) (W′ : Lent) → SortsOnly W W′ → In W′ a → On W′ a) → MadeSorts On W O
+sorts-so : {A : Type 0} (In On : Lent → A → Type 0) (N : Type 0) (W : Lent) (O : Makes A) → MadeSorts In N W O → ((a : A) (W′ : Lent) → SortsOnly W W′ → In W′ a → On W′ a) → MadeSorts On N W O
 unfolding MadeSorts
-sorts-so In On W (made a W′) h k = (h .0, k a W′ (h .0) (h .1))
-sorts-so In On W (no-list W′) h k = h
-sorts-so In On W (no-room d W′) h k = h
+sorts-so In On N W (made a W′) h k = (h .0, k a W′ (h .0) (h .1))
+sorts-so In On N W (no-list W′) h k = h
+sorts-so In On N W (no-room d W′) h k = h
+
+-- none, whatever the reason
+some-none : {A : Type 0} (In : Lent → A → Type 0) (N : Type 0) (W : Lent) (O : Makes A) → MadeSorts In N W O → MadeSorts In (Unit {0}) W O
+unfolding MadeSorts
+some-none In N W (made a W′) h = h
+some-none In N W (no-list W′) h = (h .0, tt)
+some-none In N W (no-room d W′) h = h
 
 -- a call that makes sorts, by what it leaves
-makes-sort : (T : Tree → Type 0) (N : Type 0) (W : Lent) (r : Stored) (j : Joined) → Leaves T N W (r .words) j → MadeSorts (SortWith T) W (makesSort W r j)
+makes-sort : (T : Tree → Type 0) (N : Type 0) (W : Lent) (r : Stored) (j : Joined) → Leaves T N W (r .words) j → MadeSorts (SortWith T) N W (makesSort W r j)
 unfolding Leaves MadeSorts
 makes-sort T N W r (At id k) h = (record { grows = h .0; nodes = refl; arguments = refl }, h .1)
-makes-sort T N W r (NotThere k) h = record { grows = h .0; nodes = refl; arguments = refl }
-makes-sort T N W r Full h = record { grows = h .0; nodes = refl; arguments = refl }
+makes-sort T N W r (NotThere k) h = (record { grows = h .0; nodes = refl; arguments = refl }, h .1)
+makes-sort T N W r Full h = (record { grows = h .0; nodes = refl; arguments = refl }, refl)
+
+-- there is no default
+abbrev pub NoDefault : Default → Type 0
+NoDefault (Is d) = ⊥
+NoDefault Nothing = Unit {0}
 
 module _ (W : Lent) (c : CheckedLent W) where
-  pub join-makes : (a b : ℕ) → a < W .lengths .sorts → b < W .lengths .sorts → MadeSorts (SortWith (λ u. join (sortIn W a) (sortIn W b) ≡ some u)) W (joinIn a b W)
+  pub join-makes : (a b : ℕ) → a < W .lengths .sorts → b < W .lengths .sorts → MadeSorts (SortWith (λ u. join (sortIn W a) (sortIn W b) ≡ some u)) (Unit {0}) W (joinIn a b W)
   unfolding joinIn
   join-makes a b x y =
-      makes-sort (λ u. join (sortIn W a) (sortIn W b) ≡ some u) (join (sortIn W a) (sortIn W b) ≡ none) W (boundAt true (W .sorts) (W .lengths .sorts) (W .lengths .entries) a b) _ (bound-leaves W c true a b x y)
+      some-none (SortWith (λ u. join (sortIn W a) (sortIn W b) ≡ some u)) (join (sortIn W a) (sortIn W b) ≡ none) W _
+      (makes-sort (λ u. join (sortIn W a) (sortIn W b) ≡ some u) (join (sortIn W a) (sortIn W b) ≡ none) W (boundAt true (W .sorts) (W .lengths .sorts) (W .lengths .entries) a b) _ (bound-leaves W c true a b x y))
 
   module _ (B : Binds) (b : CheckedBinds W B) where
-    pub resolve-makes : (x : Default) → DefaultBelow (W .lengths .sorts) x → (p : ℕ) → PlacedIn W p → MadeSorts (SortWith (AlwaysStandsFor W B x p)) W (resolveIn x B p W)
+    pub resolve-makes : (x : Default) → DefaultBelow (W .lengths .sorts) x → (p : ℕ) → PlacedIn W p → MadeSorts (SortWith (AlwaysStandsFor W B x p)) (NoDefault x) W (resolveIn x B p W)
     unfolding resolveIn
-    resolve-makes x l p i = makes-sort (AlwaysStandsFor W B x p) (ReachesFree W B x p) W (termResolved (W .sorts) (W .lengths) x (value (graph W) B p)) _ (resolve-leaves W c B b p i x l)
+    resolve-makes x l p i = without x (makes-sort (AlwaysStandsFor W B x p) (ReachesFree W B x p) W (termResolved (W .sorts) (W .lengths) x (value (graph W) B p)) _ (resolve-leaves W c B b p i x l))
+      where
+        without : (y : Default) → MadeSorts (SortWith (AlwaysStandsFor W B x p)) (ReachesFree W B y p) W (resolveIn x B p W) → MadeSorts (SortWith (AlwaysStandsFor W B x p)) (NoDefault y) W (resolveIn x B p W)
+        without (Is d) h = h
+        without Nothing h = some-none (SortWith (AlwaysStandsFor W B x p)) (ReachesFree W B Nothing p) W (resolveIn x B p W) h
 
 -- the sorts of numbers in lists that grew
 pub looks-grown : (W W′ : Lent) → Grows W W′ → (ss : List ℕ) → AllBelow (W .lengths .sorts) ss → each (sortIn W′) ss ≡ each (sortIn W) ss
@@ -97,15 +114,15 @@ looks-grown W W′ g (s ∷ ss) a = let x = g .looks s (a .0) in let y = looks-g
 
 -- The join of a sort with others, one after another.
 pub joins-make : (bs : List ℕ) (W : Lent) → CheckedLent W → (a : ℕ) → a < W .lengths .sorts → AllBelow (W .lengths .sorts) bs
-    → MadeSorts (SortWith (λ u. joins (sortIn W a) (each (sortIn W) bs) ≡ some u)) W (joinAll a bs W)
+    → MadeSorts (SortWith (λ u. joins (sortIn W a) (each (sortIn W) bs) ≡ some u)) (Unit {0}) W (joinAll a bs W)
 unfolding MadeSorts joinAll joins AllBelow
 joins-make [] W c a x y = (sorts-only-refl W c, (x, refl))
 joins-make (b ∷ bs) W c a x y =
-    sorts-then (SortWith (λ u. join (sortIn W a) (sortIn W b) ≡ some u)) (SortWith (λ u. joins (sortIn W a) (each (sortIn W) (b ∷ bs)) ≡ some u)) W c (joinIn a b W) (λ j W′. joinAll j bs W′)
+    sorts-then (SortWith (λ u. join (sortIn W a) (sortIn W b) ≡ some u)) (SortWith (λ u. joins (sortIn W a) (each (sortIn W) (b ∷ bs)) ≡ some u)) (Unit {0}) W c (joinIn a b W) (λ j W′. joinAll j bs W′)
     (join-makes W c a b x (y .0))
     (λ j W′ g h.
     let z : each (sortIn W′) bs ≡ each (sortIn W) bs = looks-grown W W′ (g .grows) bs (y .1) in
-    sorts-so (SortWith (λ u. joins (sortIn W′ j) (each (sortIn W′) bs) ≡ some u)) (SortWith (λ u. joins (sortIn W a) (each (sortIn W) (b ∷ bs)) ≡ some u)) W′ (joinAll j bs W′)
+    sorts-so (SortWith (λ u. joins (sortIn W′ j) (each (sortIn W′) bs) ≡ some u)) (SortWith (λ u. joins (sortIn W a) (each (sortIn W) (b ∷ bs)) ≡ some u)) (Unit {0}) W′ (joinAll j bs W′)
     (joins-make bs W′ (g .grows .checked) j (h .0) (all-below-more (W .lengths .sorts) (W′ .lengths .sorts) (g .grows .sorts) bs (y .1)))
     (λ i W″ g′ h′. (h′ .0, ap (λ o. where-there o (λ u. joins u (each (sortIn W) bs))) (h .1) ∙ (ap (joins (sortIn W′ j)) (sym z) ∙ h′ .1))))
 
@@ -138,15 +155,15 @@ module _ (W : Lent) (c : CheckedLent W) (B : Binds) (b : CheckedBinds W B) (x : 
   stands-before W′ g p i t f σ r h =
       ap (put σ) (sym (term-grown W c W′ g p i)) ∙ f σ (respects-grown W c W′ g B (binds-name-places W B b) σ .0 r) (free-grown W W′ B x l g σ h)
 
-  pub resolve-all-makes : (ps : List ℕ) → All (PlacedIn W) ps → (W₁ : Lent) → SortsOnly W W₁ → MadeSorts (λ W′ ss. StandAll W B x W′ ps ss) W₁ (resolveAll x B ps W₁)
+  pub resolve-all-makes : (ps : List ℕ) → All (PlacedIn W) ps → (W₁ : Lent) → SortsOnly W W₁ → MadeSorts (λ W′ ss. StandAll W B x W′ ps ss) (NoDefault x) W₁ (resolveAll x B ps W₁)
   unfolding resolveAll MadeSorts
   resolve-all-makes [] i W₁ g = (sorts-only-refl W₁ (g .grows .checked), all-stand)
   resolve-all-makes (p ∷ ps) (and-all _ _ i is) W₁ g =
-      sorts-then (SortWith (AlwaysStandsFor W₁ B x p)) (λ W′ ss. StandAll W B x W′ (p ∷ ps) ss) W₁ (g .grows .checked) (resolveIn x B p W₁) _
+      sorts-then (SortWith (AlwaysStandsFor W₁ B x p)) (λ W′ ss. StandAll W B x W′ (p ∷ ps) ss) (NoDefault x) W₁ (g .grows .checked) (resolveIn x B p W₁) _
       (resolve-makes W₁ (g .grows .checked) B (checked-binds-grown W W₁ B c b (g .grows)) x (default-grown x (W .lengths .sorts) (W₁ .lengths .sorts) (g .grows .sorts) l) p (placed-grown W c W₁ (g .grows) p i))
       (λ s W₂ h f.
       let gh : SortsOnly W W₂ = sorts-only-trans W W₁ W₂ c g h in
-      sorts-then (λ W′ ss. StandAll W B x W′ ps ss) (λ W′ ss. StandAll W B x W′ (p ∷ ps) ss) W₂ (h .grows .checked) (resolveAll x B ps W₂) _ (resolve-all-makes ps is W₂ gh)
+      sorts-then (λ W′ ss. StandAll W B x W′ ps ss) (λ W′ ss. StandAll W B x W′ (p ∷ ps) ss) (NoDefault x) W₂ (h .grows .checked) (resolveAll x B ps W₂) _ (resolve-all-makes ps is W₂ gh)
       (λ ss W₃ k t. (
         sorts-only-refl W₃ (k .grows .checked),
         and-stands p s ps ss (omega (arith, f .0, k .grows .sorts)) (stands-before W₁ (g .grows) p i (sortIn W₃ s) (λ σ r y. f .1 σ r y ∙ ap termOf (sym (k .grows .looks s (f .0))))) t,
@@ -175,16 +192,16 @@ heads-are W j (s ∷ ss) f =
     subst (λ o. HeadsAre (sortIn W j) (each (sortIn W) (s ∷ ss)) (headOf o ∷ each (λ s. headOf (distance true (sortIn W s) (sortIn W j))) ss)) (sym (d .1))
     (and-head-is (sortIn W s) (d .0) (each (sortIn W) ss) (each (λ s. headOf (distance true (sortIn W s) (sortIn W j))) ss) (x .0) (d .1) (heads-are W j ss (x .1)))
 
-pub agreed-makes : (ss : List ℕ) (W : Lent) → CheckedLent W → AllBelow (W .lengths .sorts) ss → MadeSorts (IsAgreed (each (sortIn W) ss)) W (agreed ss W)
+pub agreed-makes : (ss : List ℕ) (W : Lent) → CheckedLent W → AllBelow (W .lengths .sorts) ss → MadeSorts (IsAgreed (each (sortIn W) ss)) (Unit {0}) W (agreed ss W)
 unfolding agreed MadeSorts AllBelow
-agreed-makes [] W c a = sorts-only-refl W c
+agreed-makes [] W c a = (sorts-only-refl W c, tt)
 agreed-makes (s ∷ ss) W c a =
-    sorts-then (SortWith (λ u. joins (sortIn W s) (each (sortIn W) ss) ≡ some u)) (IsAgreed (each (sortIn W) (s ∷ ss))) W c (joinAll s ss W) (λ j W′. agreedBy W′ (s ∷ ss) j)
+    sorts-then (SortWith (λ u. joins (sortIn W s) (each (sortIn W) ss) ≡ some u)) (IsAgreed (each (sortIn W) (s ∷ ss))) (Unit {0}) W c (joinAll s ss W) (λ j W′. agreedBy W′ (s ∷ ss) j)
     (joins-make ss W c s (a .0) (a .1))
     (λ j W′ g h. by W′ g j h (allInto W′ j (s ∷ ss)) refl)
   where
     by : (W′ : Lent) → SortsOnly W W′ → (j : ℕ) → SortWith (λ u. joins (sortIn W s) (each (sortIn W) ss) ≡ some u) W′ j → (q : Bool) → allInto W′ j (s ∷ ss) ≡ q
-        → MadeSorts (IsAgreed (each (sortIn W) (s ∷ ss))) W′ (cond q (made (record { sort = j; components = each (λ s. headOf (distance true (sortIn W′ s) (sortIn W′ j))) (s ∷ ss) }) W′) (no-list W′))
+        → MadeSorts (IsAgreed (each (sortIn W) (s ∷ ss))) (Unit {0}) W′ (cond q (made (record { sort = j; components = each (λ s. headOf (distance true (sortIn W′ s) (sortIn W′ j))) (s ∷ ss) }) W′) (no-list W′))
     by W′ g j h true f = (
       sorts-only-refl W′ (g .grows .checked),
       record {
@@ -193,7 +210,7 @@ agreed-makes (s ∷ ss) W c a =
         heads = subst (λ ts. HeadsAre (sortIn W′ j) ts (each (λ s. headOf (distance true (sortIn W′ s) (sortIn W′ j))) (s ∷ ss))) (looks-grown W W′ (g .grows) (s ∷ ss) a) (heads-are W′ j (s ∷ ss) f);
       },
     )
-    by W′ g j h false f = sorts-only-refl W′ (g .grows .checked)
+    by W′ g j h false f = (sorts-only-refl W′ (g .grows .checked), tt)
 
 -- The sources of a Join: each stands for a sort, and these agree.
 pub record Agree (W : Lent) (B : Binds) (ps : List ℕ) (W′ : Lent) (a : Agreed) : Type 0 where
@@ -202,10 +219,10 @@ pub record Agree (W : Lent) (B : Binds) (ps : List ℕ) (W′ : Lent) (a : Agree
   pub stand : StandAll W B Nothing lists ps sorts
   pub agreed : IsAgreed (each (sortIn lists) sorts) W′ a
 
-pub join-of-makes : (W : Lent) (c : CheckedLent W) (B : Binds) (b : CheckedBinds W B) (ps : List ℕ) → All (PlacedIn W) ps → MadeSorts (Agree W B ps) W (joinOf B ps W)
+pub join-of-makes : (W : Lent) (c : CheckedLent W) (B : Binds) (b : CheckedBinds W B) (ps : List ℕ) → All (PlacedIn W) ps → MadeSorts (Agree W B ps) (Unit {0}) W (joinOf B ps W)
 unfolding joinOf
 join-of-makes W c B b ps i =
-    sorts-then (λ W′ ss. StandAll W B Nothing W′ ps ss) (Agree W B ps) W c (resolveAll Nothing B ps W) agreed (resolve-all-makes W c B b Nothing tt ps i W (sorts-only-refl W c))
+    sorts-then (λ W′ ss. StandAll W B Nothing W′ ps ss) (Agree W B ps) (Unit {0}) W c (resolveAll Nothing B ps W) agreed (resolve-all-makes W c B b Nothing tt ps i W (sorts-only-refl W c))
     (λ ss W′ g t.
-    sorts-so (IsAgreed (each (sortIn W′) ss)) (Agree W B ps) W′ (agreed ss W′) (agreed-makes ss W′ (g .grows .checked) (stand-below W B Nothing W′ ps ss t))
+    sorts-so (IsAgreed (each (sortIn W′) ss)) (Agree W B ps) (Unit {0}) W′ (agreed ss W′) (agreed-makes ss W′ (g .grows .checked) (stand-below W B Nothing W′ ps ss t))
     (λ a W″ h q. record { lists = W′; sorts = ss; stand = t; agreed = q }))
