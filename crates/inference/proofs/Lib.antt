@@ -8,3 +8,4 @@ pub mod Alternatives
 pub mod Accepted
 pub mod Steps
 pub mod Together
+pub mod NoConstraints
