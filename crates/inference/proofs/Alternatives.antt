@@ -81,7 +81,7 @@ module _ (W₀ : Lent) (B₀ : Binds) (P : Problem) (Met : Type 0) where
   unfolding MadeFrom SameNodes Leaves
   on-made-leaves In w c (made a W) m n k f on else = leaves-from W₀ B₀ P Met (w .lent) c W (m .0) (n .0) (n .1) (k a (lending w W)) (on a W (m .0) (m .1))
   on-made-leaves In w c (no-list W) m n k f on else = leaves-from W₀ B₀ P Met (w .lent) c W m (n .0) (n .1) (f (lending w W)) (else W m)
-  on-made-leaves In w c (no-room a W) m n k f on else = tt
+  on-made-leaves In w c (no-room a W) m n k f on else = m
 
 module _
     (W₀ : Lent) (B₀ : Binds) (P : Problem) (c₀ : CheckedLent W₀) (six : fixedSix (W₀ .sorts) (W₀ .lengths .sorts) ≡ true)

@@ -64,7 +64,7 @@ module _ (W₀ : Lent) (B₀ : Binds) (P : Problem) where
   FineBest W (some c) = Fine W c
 
   module _ (Met : Type 0) where
-    -- what a branch leaves: lists grown, as many nodes as before, a fine incumbent
+    -- what a branch leaves: lists grown, as many nodes as before, a fine incumbent; lists grown where room ended
     pub record Went (W : Lent) (w : World Met) : Type 0 where
       pub grows : Grows W (w .lent)
       pub nodes : w .lent .lengths .nodes ≡ W .lengths .nodes
@@ -74,7 +74,7 @@ module _ (W₀ : Lent) (B₀ : Binds) (P : Problem) where
     unfoldable pub Leaves : Lent → Out Met → Type 0
     Leaves W (found w) = Went W w
     Leaves W (missed w) = Went W w
-    Leaves W (ended c w) = Unit {0}
+    Leaves W (ended c w) = Grows W (w .lent)
 
     -- a way of going on where Q is claimed
     abbrev pub Goes : Claim → (Path → World Met → Out Met) → Type 0
@@ -90,21 +90,21 @@ module _ (W₀ : Lent) (B₀ : Binds) (P : Problem) where
     unfolding Leaves
     leaves-from W c W′ g n a (found w) x = went-from W c W′ g n a w x
     leaves-from W c W′ g n a (missed w) x = went-from W c W′ g n a w x
-    leaves-from W c W′ g n a (ended b w) x = tt
+    leaves-from W c W′ g n a (ended b w) x = grows-trans W c W′ (w .lent) g x
 
     -- "where nothing was found, what else"
     pub or-else-leaves : (W : Lent) → CheckedLent W → (o : Out Met) (f : World Met → Out Met) → Leaves W o → ((w : World Met) → Went W w → Leaves (w .lent) (f w)) → Leaves W (orElse o f)
     unfolding Leaves
     or-else-leaves W c (found w) f x y = x
     or-else-leaves W c (missed w) f x y = leaves-from W c (w .lent) (x .grows) (x .nodes) (x .arguments) (f w) (y w x)
-    or-else-leaves W c (ended b w) f x y = tt
+    or-else-leaves W c (ended b w) f x y = x
 
     pub and-also-leaves : (W : Lent) → CheckedLent W → (o : Out Met) (b : Bool) (f : Bool → World Met → Out Met) → Leaves W o
         → ((b : Bool) (w : World Met) → Went W w → Leaves (w .lent) (f b w)) → Leaves W (andAlso o b f)
     unfolding Leaves
     and-also-leaves W c (found w) b f x y = leaves-from W c (w .lent) (x .grows) (x .nodes) (x .arguments) (f true w) (y true w x)
     and-also-leaves W c (missed w) b f x y = leaves-from W c (w .lent) (x .grows) (x .nodes) (x .arguments) (f b w) (y b w x)
-    and-also-leaves W c (ended d w) b f x y = tt
+    and-also-leaves W c (ended d w) b f x y = x
 
     pub stays : (w : World Met) → CheckedLent (w .lent) → FineBest (w .lent) (w .best) → Went (w .lent) w
     stays w c f = record { grows = grows-refl (w .lent) c; nodes = refl; arguments = refl; best = f }
@@ -133,7 +133,7 @@ module _ (W₀ : Lent) (B₀ : Binds) (P : Problem) where
     unfolding Leaves
     given-back-leaves W c W′ g (found w) x = back W c W′ g w x
     given-back-leaves W c W′ g (missed w) x = back W c W′ g w x
-    given-back-leaves W c W′ g (ended b w) x = tt
+    given-back-leaves W c W′ g (ended b w) x = grows-trans W c W′ (w .lent) g x
 
   -- A branch goes on soundly on lists that have grown.
   pub sound-grown : (W W′ : Lent) (e : Path) (Q : Claim) → CheckedLent W₀ → Sound W e Q → Grows W W′ → Sound W′ e Q

@@ -41,7 +41,7 @@ module _ (W₀ : Lent) (B₀ : Binds) (P : Problem) (c₀ : CheckedLent W₀) (M
       (x a (lending w W′) (m .0) (sound-grown W₀ B₀ P (w .lent) W′ e Q c₀ s (m .0 .grows)) (fine-grown W₀ B₀ P (w .lent) W′ (m .0 .grows) (w .best) b) (m .1))
   on-made-leaves In N e w Q s b (no-list W′) m k f x y =
       leaves-after (w .lent) W′ (s .grown .checked) (m .0) (f (lending w W′)) (y (lending w W′) (sound-grown W₀ B₀ P (w .lent) W′ e Q c₀ s (m .0 .grows)) (fine-grown W₀ B₀ P (w .lent) W′ (m .0 .grows) (w .best) b))
-  on-made-leaves In N e w Q s b (no-room c W′) m k f x y = tt
+  on-made-leaves In N e w Q s b (no-room c W′) m k f x y = m .0 .grows
 
   -- places of the given lists have the same term in all that grew from them
   pub given-term : (W : Lent) → Grows W₀ W → (p : ℕ) → PlacedIn W₀ p → (σ : ℕ → Term) → put σ (termAt (graph W) p) ≡ put σ (termAt (graph W₀) p)

@@ -152,7 +152,7 @@ module _ (W₀ : Lent) (B₀ : Binds) (P : Problem) (c₀ : CheckedLent W₀) (M
             → (else : Next Met meet P) → Leaves W₀ B₀ P Met (w .lent) (else e w)
             → Leaves W₀ B₀ P Met (w .lent)
             (onMade (strictRelated up (e .binds) p (w .lent)) (λ ps v. givenBack (w .lent) (firstFound Met meet P (tries ps) k e v)) (else e) w)
-        unfolding Leaves
+        unfolding Leaves MadeFrom
         listed-leaves up p at tries lead else o =
             go (strictRelated up (e .binds) p (w .lent)) refl
             (related-makes (w .lent) (s .grown .checked) (e .binds) (s .binds) up p (s .grown .fixed six) (placed-grown W₀ c₀ (w .lent) (s .grown) p at))
@@ -165,7 +165,7 @@ module _ (W₀ : Lent) (B₀ : Binds) (P : Problem) (c₀ : CheckedLent W₀) (M
                 (first-found-goes e Q R k goes (tries ps) (lending w W′) (sound-grown W₀ B₀ P (w .lent) W′ e Q c₀ s (g .0)) (fine-grown W₀ B₀ P (w .lent) W′ (g .0) (w .best) f) (lead ps W′ (g .0) (g .1)))
             go (no-list W′) i m =
                 subst (λ U. Leaves W₀ B₀ P Met (w .lent) (else e (lending w U))) (sym (no-list-is-free (w .lent) (s .grown .checked) (e .binds) (s .binds) up p W′ i .1)) o
-            go (no-room b W′) i m = tt
+            go (no-room b W′) i m = m
 
         narrower-leaves : Leaves W₀ B₀ P Met (w .lent) (narrower Met meet P l r k e w)
         narrower-leaves = listed-leaves false r y (narrowerTries l 1) (narrower-lead (w .lent) s) (λ e. missed) (missed-leaves W₀ B₀ P Met w (s .grown .checked) f)
