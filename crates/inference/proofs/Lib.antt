@@ -9,3 +9,4 @@ pub mod Accepted
 pub mod Steps
 pub mod Together
 pub mod NoConstraints
+pub mod ListsLeft

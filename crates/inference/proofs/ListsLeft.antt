@@ -1,0 +1,93 @@
+-- What a call that is accepted leaves of the lent lists. After 0, 17 and 18 the sorts have grown: the given ones stand as they were, new ones follow them,
+-- and no two are equal, so that each was made once. Where the search stands at its end there are as many nodes as were given, with the words that they had.
+-- By what the search leaves. Assumes nothing.
+use mathlib.Core.Path.{_≡_, refl, sym, subst, ap, _∙_}
+use mathlib.Core.Bool.{Bool, true, false}
+use mathlib.Core.List.{List, []}
+use mathlib.Core.Option.{Option, none, some}
+use Prim.Native.Nat.{ℕ, _≤_}
+use lib.ListN.{length}
+use Rattle.resolved_sort.specs.declared.Counts.{Counts}
+use Rattle.resolved_sort.specs.Rows.{Checked}
+use Rattle.resolved_sort.specs.Checks.{firstFailing}
+use Rattle.resolved_sort.specs.Entries.{orElse}
+use Rattle.resolved_sort.proofs.Append.{Agrees}
+use Rattle.resolved_sort.proofs.Reached.{no-confusion}
+use Rattle.unification.specs.Nodes.{bindsOf}
+use Rattle.unification.specs.Making.{Lent}
+use Rattle.unification.proofs.Grows.{Grows, NodesAgree}
+use Rattle.inference.specs.declared.Outputs.{Outputs}
+use Rattle.inference.specs.declared.Solved.{Solved}
+use Rattle.inference.specs.declared.Solved.the-variants.{Refused, NoRoom, NoTyping, Ambiguous, Typing}
+use Rattle.inference.specs.Measure.{Components}
+use Rattle.inference.specs.Search.{Candidate, World, Out, found, missed, ended}
+use Rattle.inference.specs.SolveChecks.{Call, solveChecks}
+use Rattle.inference.specs.SolveEntry.{Left, problemOf, lentOf, refused, judged, judgedBy, verdict, searched, nothingMet, countsIn, solveEntry}
+use Rattle.inference.proofs.Invariant.{Went, Leaves}
+use Rattle.inference.proofs.Accepted.{accepted}
+use Rattle.inference.proofs.Together.{search-leaves}
+
+-- the counts that an answer gives of a list that is kept
+abbrev pub countsOf : Solved → Option Counts
+countsOf (Refused c) = none
+countsOf (NoRoom c) = none
+countsOf (NoTyping k) = some k
+countsOf (Ambiguous k) = some k
+countsOf (Typing o) = some (o .counts)
+
+module _ (I : Call) where
+  -- the sorts of ws, of which k counts, have grown from those given
+  pub record SortsGrown (ws : List ℕ) (k : Counts) : Type 0 where
+    pub old : Agrees (I .sorts) ws (I .lengths .sorts) (I .lengths .entries)
+    pub more : I .lengths .sorts ≤ k .sorts
+    pub more-entries : I .lengths .entries ≤ k .entries
+    pub checked : Checked ws (k .sorts) (k .entries)
+    pub as-long : length ws ≡ length (I .sorts)
+
+  grown : (W : Lent) → Grows (lentOf I) W → SortsGrown (W .sorts) (countsIn W)
+  grown W g = record { old = g .sort-words; more = g .sorts; more-entries = g .entries; checked = g .checked .sorts; as-long = g .as-long .0 }
+
+  by-candidate : (W : Lent) (c : Candidate) (b : Bool) → Grows (lentOf I) W → (k : Counts) → countsOf (judgedBy I W c b .answer) ≡ some k → SortsGrown (judgedBy I W c b .sorts) k
+  by-candidate W c true g k e = let q : countsIn W ≡ k = cc in subst (SortsGrown (W .sorts)) q (grown W g)
+  by-candidate W c false g k e = let q : countsIn W ≡ k = cc in subst (SortsGrown (W .sorts)) q (grown W g)
+
+  by-best : (W : Lent) (b : Option Candidate) → Grows (lentOf I) W → (k : Counts) → countsOf (judged I W b .answer) ≡ some k → SortsGrown (judged I W b .sorts) k
+  by-best W none g k e = let q : countsIn W ≡ k = cc in subst (SortsGrown (W .sorts)) q (grown W g)
+  by-best W (some c) g k e = by-candidate W c (c .duplicate) g k e
+
+  -- After 0, 17 and 18 the sorts have grown.
+  pub sorts-only-grow : (k : Counts) → countsOf (solveEntry I .answer) ≡ some k → SortsGrown (solveEntry I .sorts) k
+  unfolding solveEntry Leaves
+  sorts-only-grow k = go (firstFailing (solveChecks I)) refl
+    where
+      ends : (O : Out (Unit {0})) → Leaves (lentOf I) (bindsOf (I .binds) (I .lengths .variables)) (problemOf I) (Unit {0}) (lentOf I) O → countsOf (verdict I O .answer) ≡ some k → SortsGrown (verdict I O .sorts) k
+      ends (found w) l e = by-best (w .lent) (w .best) (l .grows) k e
+      ends (missed w) l e = by-best (w .lent) (w .best) (l .grows) k e
+      ends (ended d w) l e = no-confusion cc
+
+      go : (x : Option ℕ) → firstFailing (solveChecks I) ≡ x → countsOf (orElse x (refused I) (verdict I (searched (Unit {0}) nothingMet tt I)) .answer) ≡ some k
+          → SortsGrown (orElse x (refused I) (verdict I (searched (Unit {0}) nothingMet tt I)) .sorts) k
+      go none q e = ends (searched (Unit {0}) nothingMet tt I) (search-leaves I (accepted I q) (Unit {0}) nothingMet tt) e
+      go (some d) q e = no-confusion cc
+
+  -- where the search stands at its end: as many nodes as given, with their words; and given words also where room ended
+  pub record ListsKept (W : Lent) : Type 0 where
+    pub sorts : Agrees (I .sorts) (W .sorts) (I .lengths .sorts) (I .lengths .entries)
+    pub nodes : NodesAgree (I .nodes) (W .nodes) (I .lengths .nodes) (I .lengths .arguments)
+
+  abbrev pub Ends : {Met : Type 0} → Out Met → Type 0
+  Ends (found w) = ListsKept (w .lent) × (w .lent .lengths .nodes ≡ I .lengths .nodes) × (w .lent .lengths .arguments ≡ I .lengths .arguments)
+  Ends (missed w) = ListsKept (w .lent) × (w .lent .lengths .nodes ≡ I .lengths .nodes) × (w .lent .lengths .arguments ≡ I .lengths .arguments)
+  Ends (ended c w) = ListsKept (w .lent)
+
+  kept : (W : Lent) → Grows (lentOf I) W → ListsKept W
+  kept W g = record { sorts = g .sort-words; nodes = g .node-words }
+
+  pub search-gives-nodes-back : firstFailing (solveChecks I) ≡ none → (Met : Type 0) (meet : Components → Met → Met) (m : Met) → Ends (searched Met meet m I)
+  unfolding Leaves
+  search-gives-nodes-back f Met meet m = go (searched Met meet m I) (search-leaves I (accepted I f) Met meet m)
+    where
+      go : (O : Out Met) → Leaves (lentOf I) (bindsOf (I .binds) (I .lengths .variables)) (problemOf I) Met (lentOf I) O → Ends O
+      go (found w) l = (kept (w .lent) (l .grows), l .nodes, l .arguments)
+      go (missed w) l = (kept (w .lent) (l .grows), l .nodes, l .arguments)
+      go (ended d w) l = kept (w .lent) l
