@@ -1,2 +1,3 @@
 pub mod Situations
 pub mod Invariant
+pub mod Measures
