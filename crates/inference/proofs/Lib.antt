@@ -1,3 +1,4 @@
 pub mod Situations
 pub mod Invariant
 pub mod Measures
+pub mod Forgets
