@@ -2,3 +2,4 @@ pub mod Situations
 pub mod Invariant
 pub mod Measures
 pub mod Forgets
+pub mod Branches
