@@ -18,7 +18,7 @@ use Rattle.resolved_sort.specs.Order.{distance}
 use Rattle.resolved_sort.specs.Entries.{Stored}
 use Rattle.resolved_sort.specs.Bounds.{boundAt}
 use Rattle.unification.specs.declared.Default.{Default}
-use Rattle.unification.specs.declared.Default.the-variants.{Nothing}
+use Rattle.unification.specs.declared.Default.the-variants.{Is, Nothing}
 use Rattle.unification.specs.Term.{flatHead, containerHead, functionHead, strayHead, Shape, variable, over}
 use Rattle.unification.specs.Nodes.{Binds}
 use Rattle.unification.specs.Unify.{Unifies, yes-with, no-way, too-deep, deep, follow, unify}
@@ -35,17 +35,17 @@ use Rattle.inference.specs.declared.Overload.{Overload}
 use Rattle.inference.specs.declared.Constraint.{Constraint}
 use Rattle.inference.specs.declared.Constraint.the-variants.{Sub, Lit, Disjunction, Comprehension, Join}
 use Rattle.inference.specs.Constraints.{Problem}
-use Rattle.inference.specs.Measure.{Components}
-use Rattle.inference.specs.Search.{makesSort, resolveIn, joinIn, resolveAll, Agreed, joinAll, sortIn, headOf, allInto, agreed, joinOf, Choice, Path, bound, measured, chosen, Try, widerTries, narrowerTries, litComponent, litTries, Reading, readings, World, Out, found, missed, ended, lending, orElse, andAlso, says, onYes, unifying, onMade, givenBack, firstFound, narrower, wider, widening, atSort, literalAt, literalEnd, literal, everyReading, everyOverload, sequence, joining, step, leaf, dominatedBy, unlessDominated, solve}
+use Rattle.inference.specs.Measure.{Components, Ranking, smaller, equal, greater, compare}
+use Rattle.inference.specs.Search.{makesSort, resolveIn, joinIn, resolveAll, Agreed, joinAll, sortIn, headOf, allInto, agreed, joinOf, Choice, Path, Candidate, bound, measured, chosen, Try, widerTries, narrowerTries, litComponent, litTries, Reading, readings, World, Out, found, missed, ended, lending, orElse, andAlso, says, onYes, unifying, onMade, givenBack, firstFound, narrower, wider, widening, atSort, literalAt, literalEnd, literal, everyReading, everyOverload, sequence, joining, step, keeping, replace, marked, leafBy, leafOver, leaf, dominatedBy, unlessDominated, solve}
 
 -- Room that ends is that of sorts or that of nodes.
 abbrev pub Ends : ℕ → Type 0
 Ends c = (c ≡ 15) ⊎ (c ≡ 16)
 
-abbrev pub EndsIn : ℕ → Lent → Type 0
+abbrev EndsIn : ℕ → Lent → Type 0
 EndsIn c W = Ends c
 
-abbrev pub Perhaps : Lent → Type 0
+abbrev Perhaps : Lent → Type 0
 Perhaps W = Unit {0}
 
 -- what is made, of which it is known where room ends
@@ -68,7 +68,7 @@ unfolding joinIn
 join-in-ends a b W = sort-ends W (boundAt true (W .sorts) (W .lengths .sorts) (W .lengths .entries) a b) (boundAt true (W .sorts) (W .lengths .sorts) (W .lengths .entries) a b .answer)
 
 -- as many sorts as there are places
-pub one-sort-each : (x : Default) (B : Binds) (ps : List ℕ) (W : Lent) → Each (λ ss W. length ss ≡ length ps) Perhaps EndsIn (resolveAll x B ps W)
+one-sort-each : (x : Default) (B : Binds) (ps : List ℕ) (W : Lent) → Each (λ ss W. length ss ≡ length ps) Perhaps EndsIn (resolveAll x B ps W)
 unfolding resolveAll
 one-sort-each x B [] W = refl
 one-sort-each x B (p ∷ ps) W =
@@ -135,6 +135,10 @@ adds-after e e′ e″ n m l K L M a b s f =
       fine = f (a .more) (b .more) (a .fine) (b .fine);
     }
 
+-- what is kept of a leaf with the sorts ss
+abbrev pub newcomer : Path → List ℕ → Candidate
+newcomer e ss = record { measure = e .measure; sorts = ss; choices = e .choices; duplicate = false }
+
 -- What a constraint has chosen: a disjunction one of its overloads, the others nothing.
 unfoldable pub Chooses : Constraint → List Choice → Type 0
 Chooses (Sub l r) ks = NoChoice ks
@@ -175,7 +179,7 @@ module _ (Met : Type 0) (meet : Components → Met → Met) (P : Problem) (Went 
   goes-after u v x (missed w) y = after u v w false false x y
   goes-after u v x (ended c w) y = y
 
-  pub missed-goes : (w : World Met) (W : Lent) → Goes Went w (missed (lending w W))
+  missed-goes : (w : World Met) (W : Lent) → Goes Went w (missed (lending w W))
   unfolding Goes
   missed-goes w W = stays w W
 
@@ -207,7 +211,7 @@ module _ (Met : Type 0) (meet : Components → Met → Met) (P : Problem) (Went 
       go no-way = missed-goes w (w .lent)
       go too-deep = missed-goes w (w .lent)
 
-  pub on-made-goes : {A : Type 0} (In : A → Lent → Type 0) (N : Lent → Type 0) (m : Makes A) → Each In N EndsIn m → (u w : World Met) (k : A → World Met → Out Met) (g : World Met → Out Met)
+  on-made-goes : {A : Type 0} (In : A → Lent → Type 0) (N : Lent → Type 0) (m : Makes A) → Each In N EndsIn m → (u w : World Met) (k : A → World Met → Out Met) (g : World Met → Out Met)
       → ((a : A) (W : Lent) → In a W → Goes Went u (k a (lending w W))) → ((W : Lent) → N W → Goes Went u (g (lending w W))) → Goes Went u (onMade m k g w)
   unfolding Goes
   on-made-goes In N (made a W) h u w k g x y = x a W h
@@ -340,6 +344,31 @@ module _ (Met : Type 0) (meet : Components → Met → Met) (P : Problem) (Went 
       go : (b : Bool) → Goes Went w (cond b (missed w) (k e w))
       go true = missed-goes w (w .lent)
       go false = h w
+
+  -- A leaf: the first, and then one smaller than the incumbent, equal or greater. Where not all of its sorts are made it is not met.
+  module _ (e : Path) (w : World Met) where
+    replace-goes : ((ss : List ℕ) (W : Lent) → Went w true (keeping Met meet P (lending w W) (e .measure) (newcomer e ss))) → Goes Went w (replace Met meet P e w)
+    unfolding Goes
+    replace-goes h =
+        on-made-goes (λ ss W. length ss ≡ length (P .exprs)) Perhaps (resolveAll (Is (record { 0 = P .default })) (e .binds) (P .exprs) (w .lent))
+        (one-sort-each (Is (record { 0 = P .default })) (e .binds) (P .exprs) (w .lent)) w w _ missed (λ ss W i. h ss W) (λ W i. missed-goes w W)
+
+    pub leaf-goes : (w .best ≡ none → (ss : List ℕ) (W : Lent) → Went w true (keeping Met meet P (lending w W) (e .measure) (newcomer e ss)))
+        → ((c : Candidate) → w .best ≡ some c → compare (e .measure) (c .measure) ≡ smaller → (ss : List ℕ) (W : Lent)
+        → Went w true (keeping Met meet P (lending w W) (e .measure) (newcomer e ss)))
+        → ((c : Candidate) → w .best ≡ some c → compare (e .measure) (c .measure) ≡ equal → Went w true (keeping Met meet P w (e .measure) (marked Met meet P c)))
+        → ((c : Candidate) → w .best ≡ some c → compare (e .measure) (c .measure) ≡ greater → Went w true (keeping Met meet P w (e .measure) c)) → Goes Went w (leaf Met meet P e w)
+    unfolding leaf Goes
+    leaf-goes first less same more = go (w .best) refl
+      where
+        by : (c : Candidate) → w .best ≡ some c → (r : Ranking) → compare (e .measure) (c .measure) ≡ r → Goes Went w (leafBy Met meet P r c e w)
+        by c q smaller i = replace-goes (less c q i)
+        by c q equal i = same c q i
+        by c q greater i = more c q i
+
+        go : (b : Option Candidate) → w .best ≡ b → Goes Went w (leafOver Met meet P b e w)
+        go none q = replace-goes (first q)
+        go (some c) q = by c q (compare (e .measure) (c .measure)) refl
 
   -- What holds of every leaf that the search reaches holds of the search.
   pub search-goes : (cs : List Constraint) (e : Path) → ((e′ : Path) → Adds e (width P cs) (Choosing cs) e′ → From (leaf Met meet P e′)) → From (solve Met meet P cs e)
