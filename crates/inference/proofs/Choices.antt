@@ -248,35 +248,35 @@ module _ (P : Problem) (bs : List BaseName) (ks : List Choice) (choosing : Choos
   others-keep-base-names x a = rw (not-chosen P x ks (ap (among x) (choices-in-order (P .constraints) ks choosing) ∙ a))
 
 -- what a call leaves that hands out a typing
-pub record Typed (I : Call) (left : Left) : Type 0 where
+pub record IsTyping (I : Call) (left : Left) : Type 0 where
   pub lent : Lent
   pub candidate : Candidate
   pub is : left ≡ typed I lent candidate
   pub fits : Fits (problemOf I) (given I) candidate
 
-judged-typed : (I : Call) (W : Lent) (b : Option Candidate) → FitsBest (problemOf I) (given I) b → codeSolved (judged I W b .answer) ≡ 0 → Typed I (judged I W b)
+judged-typed : (I : Call) (W : Lent) (b : Option Candidate) → FitsBest (problemOf I) (given I) b → codeSolved (judged I W b .answer) ≡ 0 → IsTyping I (judged I W b)
 unfolding FitsBest codeSolved
 judged-typed I W none f q = absurd (omega (arith, q))
 judged-typed I W (some c) f q = go (c .duplicate) q
   where
-    go : (b : Bool) → codeSolved (judgedBy I W c b .answer) ≡ 0 → Typed I (judgedBy I W c b)
+    go : (b : Bool) → codeSolved (judgedBy I W c b .answer) ≡ 0 → IsTyping I (judgedBy I W c b)
     go true q = absurd (omega (arith, q))
     go false q = record { lent = W; candidate = c; is = refl; fits = f }
 
 searched-typed : (I : Call) (Met : Type 0) (w : World Met) → FitsBest (problemOf I) (given I) (w .best) → (o : Out Met) → Goes (λ u (b : Bool) v. FitsBest (problemOf I) (given I) (u .best) → FitsBest (problemOf I) (given I) (v .best)) w o
-    → codeSolved (verdict I o .answer) ≡ 0 → Typed I (verdict I o)
+    → codeSolved (verdict I o .answer) ≡ 0 → IsTyping I (verdict I o)
 unfolding Goes codeSolved
 searched-typed I Met w f (found v) x q = judged-typed I (v .lent) (v .best) (x f) q
 searched-typed I Met w f (missed v) x q = judged-typed I (v .lent) (v .best) (x f) q
 searched-typed I Met w f (ended c v) (inl i) q = absurd (omega (arith, i, q))
 searched-typed I Met w f (ended c v) (inr i) q = absurd (omega (arith, i, q))
 
-pub code-0-typed : (I : Call) → codeSolved (solveEntry I .answer) ≡ 0 → Typed I (solveEntry I)
+pub code-0-typed : (I : Call) → codeSolved (solveEntry I .answer) ≡ 0 → IsTyping I (solveEntry I)
 unfolding solveEntry FitsBest
 code-0-typed I q = go (firstFailing (solveChecks I)) (code-0-passes I q) q
   where
     go : (o : Option ℕ) → o ≡ none → codeSolved (orElse o (refused I) (verdict I (searched (Unit {0}) nothingMet tt I)) .answer) ≡ 0
-        → Typed I (orElse o (refused I) (verdict I (searched (Unit {0}) nothingMet tt I)))
+        → IsTyping I (orElse o (refused I) (verdict I (searched (Unit {0}) nothingMet tt I)))
     go none e q =
         searched-typed I (Unit {0}) (record { lent = lentOf I; best = none; met = tt }) tt (searched (Unit {0}) nothingMet tt I)
         (search-fits (Unit {0}) nothingMet (problemOf I) (given I) (start I .binds) (record { lent = lentOf I; best = none; met = tt })) q
@@ -301,7 +301,7 @@ pub record Named (I : Call) (left : Left) : Type 0 where
 pub names-and-choices : (I : Call) → codeSolved (solveEntry I .answer) ≡ 0 → Named I (solveEntry I)
 names-and-choices I q = subst (Named I) (sym (t .is)) named
   where
-    t : Typed I (solveEntry I)
+    t : IsTyping I (solveEntry I)
     t = code-0-typed I q
 
     passes : firstFailing (solveChecks I) ≡ none

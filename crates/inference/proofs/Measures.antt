@@ -112,7 +112,7 @@ smaller-is-at-most xs ys e = ap isGreater e
 pub at-most-self : (xs : Components) → AtMost xs xs
 at-most-self xs = ap isGreater (compare-self xs)
 
--- and one that is smaller stays so below what is at most as large
+-- what is smaller than one is smaller than all that this is at most
 pub smaller-below : (xs ys zs : Components) → compare xs ys ≡ smaller → AtMost ys zs → compare xs zs ≡ smaller
 smaller-below xs ys zs e a = go (at-most-is-smaller-or-one ys zs a)
   where
