@@ -10,3 +10,10 @@ pub mod Steps
 pub mod Together
 pub mod NoConstraints
 pub mod ListsLeft
+pub mod Members
+pub mod Measures
+pub mod Forgets
+pub mod Branches
+pub mod LeavesMet
+pub mod Passes
+pub mod Choices

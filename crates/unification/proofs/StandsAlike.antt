@@ -125,7 +125,7 @@ module _ (W : Lent) (c : CheckedLent W) (B : Binds) (b : CheckedBinds W B) (p : 
   pub covers-exactly : Covers (graph W) B p (graph W′) B′ p′ ↔ Instance (value (graph W) B p) (value (graph W′) B′ p′)
   covers-exactly = (to-instance, from-instance)
 
-length-each : {A D : Type 0} (f : A → D) (xs : List A) → length (each f xs) ≡ length xs
+pub length-each : {A D : Type 0} (f : A → D) (xs : List A) → length (each f xs) ≡ length xs
 length-each f [] = refl
 length-each f (x ∷ xs) = ap suc (length-each f xs)
 
