@@ -149,7 +149,7 @@ comprehension : ℕ → ℕ → ℕ → List ℕ → List ℕ
 comprehension body node element cs = 3 ∷ body ∷ node ∷ element ∷ 0 ∷ cs
 
 join : ℕ → ℕ → ℕ → List ℕ → List ℕ
-join t start count cs = 4 ∷ t ∷ 0 ∷ start ∷ count ∷ cs
+join t start count cs = 4 ∷ t ∷ start ∷ count ∷ 0 ∷ cs
 
 -- one free expression with the variable 0, and constraints
 alone : List ℕ → Given
