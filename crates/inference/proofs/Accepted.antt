@@ -32,49 +32,8 @@ use Rattle.inference.specs.Constraints.{constraintAt, overloadAt, rowsFr
 use Rattle.inference.specs.Names.{overloadIn}
 use Rattle.inference.specs.SolveChecks.{Call, given, rowsWithinLent, allWithinLent, exprsFine, namesFine, overloadFine, targetFine, runFine, constraintFine, constraintsFine, outputsLong, longEnough, solveChecks}
 use Rattle.inference.specs.SolveEntry.{problemOf, lentOf}
-use Rattle.inference.specs.Typing.{All, none-left, and-all}
-
--- Rows one after another.
-pub length-rows : {A : Type 0} (row : ℕ → A) (i n : ℕ) → length (rowsFrom row i n) ≡ n
-unfolding rowsFrom
-length-rows row i zero = refl
-length-rows row i (suc n) = omega (arith, length-rows row (i + 1) n)
-
-pub row-in : {A : Type 0} (row : ℕ → A) (d : A) (i n j : ℕ) → j < n → getD (rowsFrom row i n) j d ≡ row (i + j)
-unfolding rowsFrom
-row-in row d i zero j l = absurd (omega (arith, l))
-row-in row d i (suc n) zero l = ap row (sym (add-zero i))
-row-in row d i (suc n) (suc j) l = row-in row d (i + 1) n j (omega (arith, l)) ∙ ap row (omega arith)
-
-pub all-rows : {A : Type 0} (R : A → Type 0) (row : ℕ → A) (i n : ℕ) → ((j : ℕ) → j < n → R (row (i + j))) → All R (rowsFrom row i n)
-unfolding rowsFrom
-all-rows R row i zero h = none-left
-all-rows R row i (suc n) h =
-    and-all (row i) (rowsFrom row (i + 1) n) (subst (λ (j : ℕ). R (row j)) (add-zero i) (h 0 (omega arith)))
-    (all-rows R row (i + 1) n (λ j l. subst (λ (x : ℕ). R (row x)) (omega arith) (h (suc j) (omega (arith, l)))))
-
-take-rows : {A : Type 0} (row : ℕ → A) (i n c : ℕ) → c ≤ n → take c (rowsFrom row i n) ≡ rowsFrom row i c
-unfolding rowsFrom
-take-rows row i n zero l = refl
-take-rows row i zero (suc c) l = absurd (omega (arith, l))
-take-rows row i (suc n) (suc c) l = ap (λ xs. row i ∷ xs) (take-rows row (i + 1) n c (omega (arith, l)))
-
--- a run inside a list of rows
-pub run-rows : {A : Type 0} (row : ℕ → A) (s i n c : ℕ) → s + c ≤ n → take c (drop s (rowsFrom row i n)) ≡ rowsFrom row (i + s) c
-unfolding rowsFrom
-run-rows row zero i n c l = take-rows row i n c (omega (arith, l)) ∙ ap (λ (j : ℕ). rowsFrom row j c) (sym (add-zero i))
-run-rows row (suc s) i zero c l = absurd (omega (arith, l))
-run-rows row (suc s) i (suc n) c l = run-rows row s (i + 1) n c (omega (arith, l)) ∙ ap (λ (j : ℕ). rowsFrom row j c) (omega arith)
-
--- and from the first on
-pub row-at : {A : Type 0} (row : ℕ → A) (d : A) (n j : ℕ) → j < n → getD (rowsFrom row 0 n) j d ≡ row j
-row-at row d n j l = row-in row d 0 n j l ∙ ap row (omega arith)
-
-pub all-rows-at : {A : Type 0} (R : A → Type 0) (row : ℕ → A) (n : ℕ) → ((j : ℕ) → j < n → R (row j)) → All R (rowsFrom row 0 n)
-all-rows-at R row n h = all-rows R row 0 n (λ j l. subst (λ (x : ℕ). R (row x)) (omega arith) (h j l))
-
-pub run-at : {A : Type 0} (row : ℕ → A) (n s c : ℕ) → s + c ≤ n → take c (drop s (rowsFrom row 0 n)) ≡ rowsFrom row s c
-run-at row n s c l = run-rows row s 0 n c l ∙ ap (λ (j : ℕ). rowsFrom row j c) (omega arith)
+use Rattle.inference.specs.Typing.{All}
+use Rattle.inference.proofs.Members.{all-rows, row-at, all-rows-at, run-at}
 
 -- A constraint whose places and sorts are those of the lists W.
 pub data Listed (W : Lent) (P : Problem) : Constraint → Type 0 where

@@ -21,7 +21,7 @@ use Rattle.inference.specs.Constraints.{constraintAt, Problem}
 use Rattle.inference.specs.Typing.{All, In, here, there}
 use Rattle.inference.specs.SolveChecks.{Call, placed, constraintFine, constraintsFine, given, disjunctions, noTwo, keys, solveChecks}
 use Rattle.inference.specs.SolveEntry.{problemOf, refused, searched, verdict, nothingMet, solveEntry, codeSolved}
-use Rattle.inference.proofs.Members.{in-cases, not-in-nothing, length-rows, all-rows}
+use Rattle.inference.proofs.Members.{in-cases, not-in-nothing, length-rows, all-rows-at}
 
 pub every-check-passes : (cs : List Check) → firstFailing cs ≡ none → (c : Check) → In c cs → c .passes ≡ true
 unfolding firstFailing
@@ -98,10 +98,10 @@ fine-fits I b (Join run t) h =
 pub sources-fit : (I : Call) → constraintsFine I ≡ true → All (SourcesFit (problemOf I)) (given I)
 unfolding constraintsFine
 sources-fit I h =
-    all-rows (SourcesFit (problemOf I)) (constraintAt (I .constraints)) 0 (I .rows .constraints)
+    all-rows-at (SourcesFit (problemOf I)) (constraintAt (I .constraints)) (I .rows .constraints)
     (λ j l.
     let b : ℕ = getD (I .constraints) (5 * j + 2) 0 in
     fine-fits I b (constraintAt (I .constraints) j)
     (and-eq-true-iff (leb (getD (I .constraints) (5 * j) 0) 4) (constraintFine I b (constraintAt (I .constraints) j)) .0
-    (below-each (I .rows .constraints) (λ i. leb (getD (I .constraints) (5 * i) 0) 4 && constraintFine I (getD (I .constraints) (5 * i + 2) 0) (constraintAt (I .constraints) i)) h j (omega (arith, l)))
+    (below-each (I .rows .constraints) (λ i. leb (getD (I .constraints) (5 * i) 0) 4 && constraintFine I (getD (I .constraints) (5 * i + 2) 0) (constraintAt (I .constraints) i)) h j l)
     .1))

@@ -8,6 +8,7 @@ use mathlib.Core.Option.{Option, none, some}
 use Prim.Native.Nat.{ℕ, zero, suc, _+_, _*_, _<_}
 use native.Mathlib.Omega.{arith}
 use lib.ListN.{length, getD, take, drop}
+use lib.Seq.{take-append-seam}
 use Rattle.resolved_sort.specs.declared.Sort.{Sort}
 use Rattle.resolved_sort.specs.Tree.{Tree}
 use Rattle.resolved_sort.specs.Order.{Steps, materializable}
@@ -35,8 +36,9 @@ use Rattle.inference.specs.Typing.{Assignment, Has, admits, All, none-le
 use Rattle.inference.specs.Components.{Widened, equal-to, wider-by, Heads, no-heads, and-head, Sequence, no-source, and-source, Costs, sub-costs, lit-costs, disjunction-costs, comprehension-costs, agreed-costs, sequence-costs, Costing, nothing-costs, and-costs}
 use Rattle.inference.specs.SolveChecks.{Call, solveChecks}
 use Rattle.inference.specs.SolveEntry.{problemOf, start, lentOf, searched, Left, refused, typingRows, countsIn, judged, judgedBy, verdict, nothingMet, solveEntry}
+use Rattle.inference.proofs.Members.{length-rows}
 use Rattle.inference.proofs.Invariant.{Cost, Sound, Fine, FineBest, Went, Leaves}
-use Rattle.inference.proofs.Accepted.{Accepted, accepted, length-rows}
+use Rattle.inference.proofs.Accepted.{Accepted, accepted}
 use Rattle.inference.proofs.Steps.{Passed, solve-goes}
 
 -- what is met at a cost is met
@@ -100,10 +102,6 @@ rows-are (s ∷ ss) row i (suc n) e h =
     let b : rowsFrom row (i + 1) n ≡ ss = rows-are ss row (i + 1) n (omega (arith, e)) (λ j l. ap row (omega arith) ∙ h (suc j) (omega (arith, l))) in
     cc
 
-take-front : (xs ys : List ℕ) → take (length xs) (xs ++ ys) ≡ xs
-take-front [] ys = refl
-take-front (x ∷ xs) ys = ap (λ zs. x ∷ zs) (take-front xs ys)
-
 module _ (I : Call) where
   abbrev W₀ : Lent
   W₀ = lentOf I
@@ -142,7 +140,7 @@ module _ (I : Call) where
       let ss : sortsOut (judgedBy I W c false) ≡ c .sorts =
       rows-are (c .sorts) (λ i. getD (judgedBy I W c false .typing) (3 * i) 0) 0 (I .rows .exprs) (sym many)
       (λ j l. ap (λ (i : ℕ). getD (judgedBy I W c false .typing) (3 * i) 0) (omega arith) ∙ sort-row I (c .choices) 0 (c .sorts) _ j l) in
-      let ms : measureOut (judgedBy I W c false) o ≡ c .measure = ap (λ (n : ℕ). take n (judgedBy I W c false .measure)) y ∙ take-front (c .measure) _ in
+      let ms : measureOut (judgedBy I W c false) o ≡ c .measure = ap (λ (n : ℕ). take n (judgedBy I W c false .measure)) y ∙ take-append-seam (c .measure) _ in
       record {
         together =
             record {
