@@ -1,24 +1,21 @@
 -- What the checks of the solver say of a call that passes them: lists and bindings that are ready, with the fixed six sorts; a default of the list; and
 -- expressions and constraints whose places, sorts and runs are those of the lists. The checks, taken apart. Assumes nothing.
-use mathlib.Core.Path.{_≡_, refl, sym, ap, subst, _∙_}
-use mathlib.Core.Bool.{Bool, true, false, cond, _&&_, and-eq-true-iff}
-use mathlib.Core.List.{List, [], _∷_, _++_}
-use mathlib.Core.Option.{Option, none, some}
-use Prim.Native.Nat.{ℕ, zero, suc, _+_, _*_, _<_, _≤_}
+use mathlib.Core.Path.{_≡_, sym, subst}
+use mathlib.Core.Bool.{Bool, true, _&&_, and-eq-true-iff}
+use mathlib.Core.Option.{none}
+use Prim.Native.Nat.{ℕ, _+_, _*_, _<_}
 use native.Mathlib.Omega.{arith}
-use native.Mathlib.Nat.{add-zero}
-use lib.Dec.{eqb, leb, ltb}
+use lib.Dec.{leb, ltb}
 use lib.ListN.{length, getD, take, drop}
 use borrow.Author.Tests.{ltb-true, leb-true}
 use Rattle.resolved_sort.specs.declared.Run.{Run}
 use Rattle.resolved_sort.specs.declared.SortId.{SortId}
-use Rattle.resolved_sort.specs.Checks.{allBelow, firstFailing, withinLent, fixedSix, rowsFine, noTwoEqual, atCeiling}
+use Rattle.resolved_sort.specs.Checks.{firstFailing, withinLent, fixedSix, atCeiling}
 use Rattle.resolved_sort.proofs.Below.{below-each}
 use Rattle.resolved_sort.proofs.FirstFailing.{cons-passes}
 use Rattle.unification.specs.declared.InferSortId.{InferSortId}
-use Rattle.unification.specs.Nodes.{fullNodes, isPlace, bindsOf}
-use Rattle.unification.specs.NodeChecks.{nodesWithinLent, bindingsWithinLent, nodesFine, bindingsFine, nodeChecks}
-use Rattle.unification.specs.Acyclic.{acyclic}
+use Rattle.unification.specs.Nodes.{fullNodes, isPlace}
+use Rattle.unification.specs.NodeChecks.{nodesWithinLent, bindingsWithinLent, nodeChecks}
 use Rattle.unification.specs.Checked.{Ready}
 use Rattle.unification.specs.Making.{Lent}
 use Rattle.unification.proofs.Grows.{PlacedIn}
@@ -28,9 +25,9 @@ use Rattle.inference.specs.declared.LitKind.{LitKind}
 use Rattle.inference.specs.declared.Overload.{Overload}
 use Rattle.inference.specs.declared.Constraint.{Constraint}
 use Rattle.inference.specs.declared.Constraint.the-variants.{Sub, Lit, Disjunction, Comprehension, Join}
-use Rattle.inference.specs.Constraints.{constraintAt, overloadAt, rowsFrom, Problem}
+use Rattle.inference.specs.Constraints.{constraintAt, overloadAt, Problem}
 use Rattle.inference.specs.Names.{overloadIn}
-use Rattle.inference.specs.SolveChecks.{Call, given, rowsWithinLent, allWithinLent, exprsFine, namesFine, overloadFine, targetFine, runFine, constraintFine, constraintsFine, outputsLong, longEnough, solveChecks}
+use Rattle.inference.specs.SolveChecks.{Call, rowsWithinLent, allWithinLent, exprsFine, namesFine, overloadFine, targetFine, runFine, constraintFine, constraintsFine, outputsLong, longEnough, solveChecks}
 use Rattle.inference.specs.SolveEntry.{problemOf, lentOf}
 use Rattle.inference.specs.Typing.{All}
 use Rattle.inference.proofs.Members.{all-rows, row-at, all-rows-at, run-at}

@@ -3,6 +3,7 @@ pub mod Invariant
 pub mod MakingSorts
 pub mod Joining
 pub mod Leaf
+pub mod Tries
 pub mod Widening
 pub mod Alternatives
 pub mod Accepted

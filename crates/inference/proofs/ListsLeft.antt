@@ -1,9 +1,9 @@
 -- What a call that is accepted leaves of the lent lists. After 0, 17 and 18 the sorts have grown: the given ones stand as they were, new ones follow them,
 -- and no two are equal, so that each was made once. Where the search stands at its end there are as many nodes as were given, with the words that they had.
 -- By what the search leaves. Assumes nothing.
-use mathlib.Core.Path.{_≡_, refl, sym, subst, ap, _∙_}
+use mathlib.Core.Path.{_≡_, refl, subst}
 use mathlib.Core.Bool.{Bool, true, false}
-use mathlib.Core.List.{List, []}
+use mathlib.Core.List.{List}
 use mathlib.Core.Option.{Option, none, some}
 use Prim.Native.Nat.{ℕ, _≤_}
 use lib.ListN.{length}
@@ -16,14 +16,13 @@ use Rattle.resolved_sort.proofs.Reached.{no-confusion}
 use Rattle.unification.specs.Nodes.{bindsOf}
 use Rattle.unification.specs.Making.{Lent}
 use Rattle.unification.proofs.Grows.{Grows, NodesAgree}
-use Rattle.inference.specs.declared.Outputs.{Outputs}
 use Rattle.inference.specs.declared.Solved.{Solved}
 use Rattle.inference.specs.declared.Solved.the-variants.{Refused, NoRoom, NoTyping, Ambiguous, Typing}
 use Rattle.inference.specs.Measure.{Components}
-use Rattle.inference.specs.Search.{Candidate, World, Out, found, missed, ended}
+use Rattle.inference.specs.Search.{Candidate, Out, found, missed, ended}
 use Rattle.inference.specs.SolveChecks.{Call, solveChecks}
-use Rattle.inference.specs.SolveEntry.{Left, problemOf, lentOf, refused, judged, judgedBy, verdict, searched, nothingMet, countsIn, solveEntry}
-use Rattle.inference.proofs.Invariant.{Went, Leaves}
+use Rattle.inference.specs.SolveEntry.{problemOf, lentOf, refused, judged, judgedBy, verdict, searched, nothingMet, countsIn, solveEntry}
+use Rattle.inference.proofs.Invariant.{Leaves}
 use Rattle.inference.proofs.Accepted.{accepted}
 use Rattle.inference.proofs.Together.{search-leaves}
 
@@ -61,8 +60,8 @@ module _ (I : Call) where
   sorts-only-grow k = go (firstFailing (solveChecks I)) refl
     where
       ends : (O : Out (Unit {0})) → Leaves (lentOf I) (bindsOf (I .binds) (I .lengths .variables)) (problemOf I) (Unit {0}) (lentOf I) O → countsOf (verdict I O .answer) ≡ some k → SortsGrown (verdict I O .sorts) k
-      ends (found w) l e = by-best (w .lent) (w .best) (l .grows) k e
-      ends (missed w) l e = by-best (w .lent) (w .best) (l .grows) k e
+      ends (found w) l e = by-best (w .lent) (w .best) (l .only .grows) k e
+      ends (missed w) l e = by-best (w .lent) (w .best) (l .only .grows) k e
       ends (ended d w) l e = no-confusion cc
 
       go : (x : Option ℕ) → firstFailing (solveChecks I) ≡ x → countsOf (orElse x (refused I) (verdict I (searched (Unit {0}) nothingMet tt I)) .answer) ≡ some k
@@ -88,6 +87,6 @@ module _ (I : Call) where
   search-gives-nodes-back f Met meet m = go (searched Met meet m I) (search-leaves I (accepted I f) Met meet m)
     where
       go : (O : Out Met) → Leaves (lentOf I) (bindsOf (I .binds) (I .lengths .variables)) (problemOf I) Met (lentOf I) O → Ends O
-      go (found w) l = (kept (w .lent) (l .grows), l .nodes, l .arguments)
-      go (missed w) l = (kept (w .lent) (l .grows), l .nodes, l .arguments)
+      go (found w) l = (kept (w .lent) (l .only .grows), l .only .nodes, l .only .arguments)
+      go (missed w) l = (kept (w .lent) (l .only .grows), l .only .nodes, l .only .arguments)
       go (ended d w) l = kept (w .lent) l

@@ -1,9 +1,9 @@
 -- Every constraint goes on soundly, so the whole search does: by induction over the constraints, each of which adds its components to what was passed.
 -- Assumes nothing.
-use mathlib.Core.Path.{_≡_, refl, sym, subst, ap, _∙_}
+use mathlib.Core.Path.{_≡_, sym, subst, _∙_}
 use mathlib.Core.Bool.{Bool, true, false, cond}
 use mathlib.Core.List.{List, [], _∷_, _++_, append-assoc, append-nil}
-use Prim.Native.Nat.{ℕ, _<_}
+use Prim.Native.Nat.{_<_}
 use lib.ListN.{take, drop}
 use Rattle.resolved_sort.specs.Checks.{fixedSix}
 use Rattle.unification.specs.Nodes.{Binds}
@@ -13,9 +13,9 @@ use Rattle.inference.specs.declared.Constraint.{Constraint}
 use Rattle.inference.specs.declared.Constraint.the-variants.{Sub, Lit, Disjunction, Comprehension, Join}
 use Rattle.inference.specs.Constraints.{Problem}
 use Rattle.inference.specs.Measure.{Components}
-use Rattle.inference.specs.Search.{Choice, Path, World, Out, Next, sortIn, step, solve, leaf, dominatedBy, missed, sequence, joining}
-use Rattle.inference.specs.Typing.{Assignment, All, none-left, and-all, In, here, there, Meets, meets-sub, meets-lit, meets-disjunction, meets-comprehension, meets-join}
-use Rattle.inference.specs.Components.{Costs, sub-costs, lit-costs, disjunction-costs, comprehension-costs, agreed-costs, sequence-costs, Costing, nothing-costs, and-costs}
+use Rattle.inference.specs.Search.{Choice, Path, World, Next, sortIn, step, solve, leaf, dominatedBy, missed}
+use Rattle.inference.specs.Typing.{Assignment, All, and-all, here, Meets, meets-sub, meets-lit, meets-disjunction, meets-comprehension, meets-join}
+use Rattle.inference.specs.Components.{Costs, sub-costs, lit-costs, disjunction-costs, comprehension-costs, agreed-costs, sequence-costs, nothing-costs, and-costs}
 use Rattle.inference.proofs.Members.{in-left, in-right}
 use Rattle.inference.proofs.Invariant.{Claim, Cost, Sound, FineBest, Leaves, Goes, missed-leaves, weaker-goes}
 use Rattle.inference.proofs.Joining.{joining-goes}

@@ -7,19 +7,16 @@ use mathlib.Core.List.{List, [], _∷_, _++_}
 use mathlib.Core.Option.{Option, none, some}
 use Prim.Native.Nat.{ℕ, zero, suc, _+_, _*_, _<_}
 use native.Mathlib.Omega.{arith}
-use lib.ListN.{length, getD, take, drop}
+use lib.ListN.{length, getD, take}
 use lib.Seq.{take-append-seam}
 use Rattle.resolved_sort.specs.declared.Sort.{Sort}
 use Rattle.resolved_sort.specs.Tree.{Tree}
-use Rattle.resolved_sort.specs.Order.{Steps, materializable}
+use Rattle.resolved_sort.specs.Order.{materializable}
 use Rattle.resolved_sort.specs.Checks.{firstFailing}
 use Rattle.resolved_sort.specs.Entries.{orElse, treeAt}
 use Rattle.resolved_sort.proofs.Materializable.{materializable-refl}
 use Rattle.resolved_sort.proofs.Reached.{no-confusion}
-use Rattle.unification.specs.Term.{put, termOf}
-use Rattle.unification.specs.Nodes.{Binds, binding, bindsOf}
-use Rattle.unification.specs.Related.{related, Member}
-use Rattle.unification.specs.Solutions.{termAt}
+use Rattle.unification.specs.Nodes.{Binds, bindsOf}
 use Rattle.unification.specs.Making.{Lent, graph}
 use Rattle.unification.proofs.Grows.{grows-refl}
 use Rattle.unification.proofs.Wider.{nearest-first}
@@ -27,19 +24,18 @@ use Rattle.inference.specs.declared.LitKind.{LitKind}
 use Rattle.inference.specs.declared.LitKind.the-variants.{Positive, Natural}
 use Rattle.inference.specs.declared.Constraint.{Constraint}
 use Rattle.inference.specs.declared.Outputs.{Outputs}
-use Rattle.inference.specs.declared.Solved.{Solved}
-use Rattle.inference.specs.declared.Solved.the-variants.{Refused, NoRoom, NoTyping, Ambiguous, Typing}
+use Rattle.inference.specs.declared.Solved.the-variants.{Typing}
 use Rattle.inference.specs.Constraints.{rowsFrom, Problem}
 use Rattle.inference.specs.Measure.{Components}
-use Rattle.inference.specs.Search.{Choice, Candidate, World, Out, found, missed, ended, sortIn, litComponent, solve}
-use Rattle.inference.specs.Typing.{Assignment, Has, admits, All, none-left, and-all, Into, Typed, all-typed, and-typed, Meets, meets-sub, meets-lit, meets-join, HoldsTogether}
+use Rattle.inference.specs.Search.{Choice, Candidate, Out, found, missed, ended, sortIn, litComponent}
+use Rattle.inference.specs.Typing.{Assignment, admits, All, none-left, and-all, Into, Typed, all-typed, and-typed, Meets, meets-sub, meets-lit, meets-join, HoldsTogether}
 use Rattle.inference.specs.Components.{Widened, equal-to, wider-by, Heads, no-heads, and-head, Sequence, no-source, and-source, Costs, sub-costs, lit-costs, disjunction-costs, comprehension-costs, agreed-costs, sequence-costs, Costing, nothing-costs, and-costs}
 use Rattle.inference.specs.SolveChecks.{Call, solveChecks}
 use Rattle.inference.specs.SolveEntry.{problemOf, start, lentOf, searched, Left, refused, typingRows, countsIn, judged, judgedBy, verdict, nothingMet, solveEntry}
 use Rattle.inference.proofs.Members.{length-rows}
-use Rattle.inference.proofs.Invariant.{Cost, Sound, Fine, FineBest, Went, Leaves}
+use Rattle.inference.proofs.Invariant.{Cost, Fine, FineBest, Leaves}
 use Rattle.inference.proofs.Accepted.{Accepted, accepted}
-use Rattle.inference.proofs.Steps.{Passed, solve-goes}
+use Rattle.inference.proofs.Steps.{solve-goes}
 
 -- what is met at a cost is met
 pub widened-materializes : (s t : Tree) (n : ℕ) → Widened s t n → materializable s t ≡ true
