@@ -18,3 +18,4 @@ pub mod Branches
 pub mod LeavesMet
 pub mod Passes
 pub mod Choices
+pub mod Clauses

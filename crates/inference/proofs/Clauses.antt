@@ -1,0 +1,81 @@
+-- What each clause of demand 3 rules out, under an assignment under which places have the sorts named: a place has one sort, so that whatever meets a
+-- constraint meets it with these. Assumes nothing.
+use mathlib.Core.Path.{_≡_, refl, sym, _∙_}
+use mathlib.Core.Bool.{true, false}
+use mathlib.Core.List.{List, [], _∷_}
+use Prim.Native.Nat.{ℕ, _<_}
+use lib.ListN.{take, drop}
+use Rattle.resolved_sort.specs.declared.Run.{Run}
+use Rattle.resolved_sort.specs.declared.SortId.{SortId}
+use Rattle.resolved_sort.specs.declared.Sort.{Sort}
+use Rattle.resolved_sort.specs.declared.ComplexSort.{ComplexSort}
+use Rattle.resolved_sort.specs.Tree.{Tree, primitive, flat, container}
+use Rattle.resolved_sort.specs.Order.{materializable}
+use Rattle.resolved_sort.proofs.Numbers.{true-not-false}
+use Rattle.resolved_sort.proofs.Reached.{no-confusion}
+use Rattle.unification.specs.declared.InferSortId.{InferSortId}
+use Rattle.unification.specs.Term.{Shape}
+use Rattle.unification.proofs.Lists.{term-injective}
+use Rattle.inference.specs.declared.ExprId.{ExprId}
+use Rattle.inference.specs.declared.LitKind.{LitKind}
+use Rattle.inference.specs.declared.LitKind.the-variants.{Positive, Natural}
+use Rattle.inference.specs.declared.Constraint.the-variants.{Sub, Lit, Disjunction, Comprehension, Join}
+use Rattle.inference.specs.Constraints.{Problem}
+use Rattle.inference.specs.Search.{Choice}
+use Rattle.inference.specs.Names.{overloadIn}
+use Rattle.inference.specs.Typing.{Assignment, Has, All, and-all, In, here, there, Read, as-set, as-bag, as-bag-of-pos, Into, Meets, meets-sub, meets-lit, meets-disjunction, meets-comprehension, meets-join}
+
+module _ (shape : ℕ → Shape) (look : ℕ → Tree) (P : Problem) (σ : Assignment) where
+  pub one-sort : (p : ℕ) (s t : Tree) → Has shape σ p s → Has shape σ p t → s ≡ t
+  one-sort p s t h g = term-injective s t (sym h ∙ g)
+
+  -- a source that is not materializable into the target
+  pub not-into : (p : ℕ) (s t : Tree) → Has shape σ p s → materializable s t ≡ false → Into shape σ t p → ⊥
+  not-into p s t h f i = let q = one-sort p s (i .sort) h (i .has) in true-not-false (materializable s t) (rw q (i .into)) f
+
+  module _ (ch : List Choice) where
+    pub sub-rules-out : (l r : InferSortId) (s t : Tree) → Has shape σ (l .0) s → Has shape σ (r .0) t → materializable s t ≡ false → Meets shape look P ch σ (Sub l r) → ⊥
+    sub-rules-out l r s t h g f (meets-sub _ _ u k i) = let q = one-sort (r .0) t u g k in not-into (l .0) s u h (rw q at f) i
+
+    -- a literal that is no number
+    pub literal-is-a-number : (p : InferSortId) (kind : LitKind) → Has shape σ (p .0) (flat (primitive Sort.Bool)) → Meets shape look P ch σ (Lit p kind) → ⊥
+    literal-is-a-number p Positive h (meets-lit _ _ Sort.Bool g a) = no-confusion cc
+    literal-is-a-number p Natural h (meets-lit _ _ Sort.Bool g a) = no-confusion cc
+    literal-is-a-number p kind h (meets-lit _ _ Sort.Pos g a) = let q = one-sort (p .0) _ _ h g in no-confusion cc
+    literal-is-a-number p kind h (meets-lit _ _ Sort.Nat g a) = let q = one-sort (p .0) _ _ h g in no-confusion cc
+    literal-is-a-number p kind h (meets-lit _ _ Sort.Int g a) = let q = one-sort (p .0) _ _ h g in no-confusion cc
+    literal-is-a-number p kind h (meets-lit _ _ Sort.Real g a) = let q = one-sort (p .0) _ _ h g in no-confusion cc
+
+    -- Pos for "0"
+    pub zero-is-not-pos : (p : InferSortId) → Has shape σ (p .0) (flat (primitive Sort.Pos)) → Meets shape look P ch σ (Lit p Natural) → ⊥
+    zero-is-not-pos p h (meets-lit _ _ Sort.Bool g a) = no-confusion cc
+    zero-is-not-pos p h (meets-lit _ _ Sort.Pos g a) = no-confusion cc
+    zero-is-not-pos p h (meets-lit _ _ Sort.Nat g a) = let q = one-sort (p .0) _ _ h g in no-confusion cc
+    zero-is-not-pos p h (meets-lit _ _ Sort.Int g a) = let q = one-sort (p .0) _ _ h g in no-confusion cc
+    zero-is-not-pos p h (meets-lit _ _ Sort.Real g a) = let q = one-sort (p .0) _ _ h g in no-confusion cc
+
+    -- body and comprehension that go together
+    pub comprehension-reads : (body node : InferSortId) (element : SortId) (s t : Tree) → Has shape σ (body .0) s → Has shape σ (node .0) t
+        → Meets shape look P ch σ (Comprehension body node element) → Read (look (element .0)) s t
+    comprehension-reads body node element s t h g (meets-comprehension _ _ _ s′ t′ h′ g′ r) =
+        let p = one-sort (body .0) s s′ h h′ in let q = one-sort (node .0) t t′ g g′ in rw (p, q) r
+
+    -- a Join one of whose sources is not materializable into the target
+    pub join-rules-out : (run : Run) (t : InferSortId) (u : Tree) → Has shape σ (t .0) u → (p : ℕ) (s : Tree) → In p (take (run .count) (drop (run .start) (P .sources))) → Has shape σ p s
+        → materializable s u ≡ false → Meets shape look P ch σ (Join run t) → ⊥
+    join-rules-out run t u h p s i g f (meets-join _ _ u′ h′ a) = go (take (run .count) (drop (run .start) (P .sources))) i a
+      where
+        go : (ps : List ℕ) → In p ps → All (Into shape σ u′) ps → ⊥
+        go _ (here ps) (and-all _ _ x xs) = let q = one-sort (t .0) u u′ h h′ in not-into p s u′ g (rw q at f) x
+        go _ (there y ps j) (and-all _ _ x xs) = go ps j xs
+
+    -- an overload chosen that has another sort: where every choice for the expression names position i
+    pub disjunction-rules-out : (x : ExprId) (p : InferSortId) (run : Run) (i : ℕ) (s t : Tree) → ((j : ℕ) → In (record { expr = x .0; position = j }) ch → j ≡ i) → Has shape σ (p .0) s
+        → Has shape σ (overloadIn (P .overloads) run i .sort .0) t → (s ≡ t → ⊥) → Meets shape look P ch σ (Disjunction x p run) → ⊥
+    disjunction-rules-out x p run i s t only h g f (meets-disjunction _ _ _ j u m l h′ g′) =
+        let q = only j m in
+        f (one-sort (p .0) s u h h′ ∙ one-sort (overloadIn (P .overloads) run i .sort .0) u t (rw (sym q) g′) g)
+
+    -- a disjunction without a choice
+    pub disjunction-has-a-choice : (x : ExprId) (p : InferSortId) (run : Run) → ((j : ℕ) → In (record { expr = x .0; position = j }) ch → ⊥) → Meets shape look P ch σ (Disjunction x p run) → ⊥
+    disjunction-has-a-choice x p run none (meets-disjunction _ _ _ j u m l h g) = none j m
