@@ -16,6 +16,5 @@ pub mod Measures
 pub mod Forgets
 pub mod Branches
 pub mod LeavesMet
-pub mod Passes
 pub mod Choices
 pub mod Clauses

@@ -78,7 +78,7 @@ module _ (W₀ : Lent) (B₀ : Binds) (P : Problem) where
     step-goes done _ (comprehension-listed body node element x y l) k g =
         comprehension-goes W₀ B₀ P c₀ six Met meet (body .0) (node .0) (element .0) x y l (Passed done) (Passed (done ++ (Comprehension body node element ∷ [])))
         (λ ch ρ ms s t q h j r. and-free ch ρ done ms (Comprehension body node element) q (comprehension-costs body node element (meets-comprehension body node element s t h j r))) k g
-    step-goes done _ (join-listed run t x a) k g =
+    step-goes done _ (join-listed run t x f a) k g =
         let ss = take (run .count) (drop (run .start) (P .sources)) in
         let Q = Passed done in
         let R = Passed (done ++ (Join run t ∷ [])) in

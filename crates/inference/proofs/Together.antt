@@ -12,8 +12,7 @@ use lib.Seq.{take-append-seam}
 use Rattle.resolved_sort.specs.declared.Sort.{Sort}
 use Rattle.resolved_sort.specs.Tree.{Tree}
 use Rattle.resolved_sort.specs.Order.{materializable}
-use Rattle.resolved_sort.specs.Checks.{firstFailing}
-use Rattle.resolved_sort.specs.Entries.{orElse, treeAt}
+use Rattle.resolved_sort.specs.Entries.{treeAt}
 use Rattle.resolved_sort.proofs.Materializable.{materializable-refl}
 use Rattle.resolved_sort.proofs.Reached.{no-confusion}
 use Rattle.unification.specs.Nodes.{Binds, bindsOf}
@@ -30,11 +29,11 @@ use Rattle.inference.specs.Measure.{Components}
 use Rattle.inference.specs.Search.{Choice, Candidate, Out, found, missed, ended, sortIn, litComponent}
 use Rattle.inference.specs.Typing.{Assignment, admits, All, none-left, and-all, Into, Typed, all-typed, and-typed, Meets, meets-sub, meets-lit, meets-join, HoldsTogether}
 use Rattle.inference.specs.Components.{Widened, equal-to, wider-by, Heads, no-heads, and-head, Sequence, no-source, and-source, Costs, sub-costs, lit-costs, disjunction-costs, comprehension-costs, agreed-costs, sequence-costs, Costing, nothing-costs, and-costs}
-use Rattle.inference.specs.SolveChecks.{Call, solveChecks}
-use Rattle.inference.specs.SolveEntry.{problemOf, start, lentOf, searched, Left, refused, typingRows, countsIn, judged, judgedBy, verdict, nothingMet, solveEntry}
+use Rattle.inference.specs.SolveChecks.{Call}
+use Rattle.inference.specs.SolveEntry.{problemOf, start, lentOf, searched, Left, typingRows, countsIn, judged, judgedBy, verdict, nothingMet, solveEntry}
 use Rattle.inference.proofs.Members.{length-rows}
 use Rattle.inference.proofs.Invariant.{Cost, Fine, FineBest, Leaves}
-use Rattle.inference.proofs.Accepted.{Accepted, accepted}
+use Rattle.inference.proofs.Accepted.{Accepted, refused-or-searched}
 use Rattle.inference.proofs.Steps.{solve-goes}
 
 -- what is met at a cost is met
@@ -167,13 +166,9 @@ module _ (I : Call) where
 
   -- Every typing is explained: no premise but code 0.
   pub every-typing-is-explained : (o : Outputs) → solveEntry I .answer ≡ Typing o → Explained (solveEntry I) o
-  unfolding solveEntry
-  every-typing-is-explained o = go (firstFailing (solveChecks I)) refl
-    where
-      go : (x : Option ℕ) → firstFailing (solveChecks I) ≡ x → orElse x (refused I) (verdict I (searched (Unit {0}) nothingMet tt I)) .answer ≡ Typing o
-          → Explained (orElse x (refused I) (verdict I (searched (Unit {0}) nothingMet tt I))) o
-      go none q e = by-verdict (searched (Unit {0}) nothingMet tt I) (search-leaves (accepted I q) (Unit {0}) nothingMet tt) o e
-      go (some d) q e = no-confusion cc
+  every-typing-is-explained o =
+      refused-or-searched I (λ L. L .answer ≡ Typing o → Explained L o) (λ c l e. no-confusion cc)
+      (λ A. by-verdict (searched (Unit {0}) nothingMet tt I) (search-leaves A (Unit {0}) nothingMet tt) o)
 
   -- Demand 3.
   pub typing-holds-together : (o : Outputs) → solveEntry I .answer ≡ Typing o
