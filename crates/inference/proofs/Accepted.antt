@@ -1,24 +1,25 @@
--- What the checks of the solver say of a call that passes them: lists and bindings that are ready, with the fixed six sorts; a default of the list; and
--- expressions and constraints whose places, sorts and runs are those of the lists. The checks, taken apart. Assumes nothing.
-use mathlib.Core.Path.{_≡_, refl, sym, ap, subst, _∙_}
+-- What the checks of the solver say of a call that passes them: lists and bindings that are ready, with the fixed six sorts; a default of the list;
+-- expressions and constraints whose places, sorts and runs are those of the lists; and one disjunction for an expression. The checks, taken apart. So a
+-- call is refused, with the code of a check, or it is accepted and searched. Assumes nothing.
+use mathlib.Core.Path.{_≡_, refl, sym, subst}
 use mathlib.Core.Bool.{Bool, true, false, cond, _&&_, and-eq-true-iff}
-use mathlib.Core.List.{List, [], _∷_, _++_}
+use mathlib.Core.List.{List, [], _∷_}
 use mathlib.Core.Option.{Option, none, some}
-use Prim.Native.Nat.{ℕ, zero, suc, _+_, _*_, _<_, _≤_}
+use Prim.Native.Nat.{ℕ, _+_, _*_, _<_, _≤_}
 use native.Mathlib.Omega.{arith}
-use native.Mathlib.Nat.{add-zero}
-use lib.Dec.{eqb, leb, ltb}
+use lib.Dec.{leb, ltb}
 use lib.ListN.{length, getD, take, drop}
 use borrow.Author.Tests.{ltb-true, leb-true}
 use Rattle.resolved_sort.specs.declared.Run.{Run}
 use Rattle.resolved_sort.specs.declared.SortId.{SortId}
-use Rattle.resolved_sort.specs.Checks.{allBelow, firstFailing, withinLent, fixedSix, rowsFine, noTwoEqual, atCeiling}
+use Rattle.resolved_sort.specs.Checks.{Check, firstFailing, withinLent, fixedSix, atCeiling}
+use Rattle.resolved_sort.specs.Entries.{orElse}
 use Rattle.resolved_sort.proofs.Below.{below-each}
+use Rattle.resolved_sort.proofs.Reached.{no-confusion}
 use Rattle.resolved_sort.proofs.FirstFailing.{cons-passes}
 use Rattle.unification.specs.declared.InferSortId.{InferSortId}
-use Rattle.unification.specs.Nodes.{fullNodes, isPlace, bindsOf}
-use Rattle.unification.specs.NodeChecks.{nodesWithinLent, bindingsWithinLent, nodesFine, bindingsFine, nodeChecks}
-use Rattle.unification.specs.Acyclic.{acyclic}
+use Rattle.unification.specs.Nodes.{fullNodes, isPlace}
+use Rattle.unification.specs.NodeChecks.{nodesWithinLent, bindingsWithinLent, nodeChecks}
 use Rattle.unification.specs.Checked.{Ready}
 use Rattle.unification.specs.Making.{Lent}
 use Rattle.unification.proofs.Grows.{PlacedIn}
@@ -28,53 +29,29 @@ use Rattle.inference.specs.declared.LitKind.{LitKind}
 use Rattle.inference.specs.declared.Overload.{Overload}
 use Rattle.inference.specs.declared.Constraint.{Constraint}
 use Rattle.inference.specs.declared.Constraint.the-variants.{Sub, Lit, Disjunction, Comprehension, Join}
-use Rattle.inference.specs.Constraints.{constraintAt, overloadAt, rowsFrom, Problem}
+use Rattle.inference.specs.Constraints.{constraintAt, overloadAt, Problem}
 use Rattle.inference.specs.Names.{overloadIn}
-use Rattle.inference.specs.SolveChecks.{Call, given, rowsWithinLent, allWithinLent, exprsFine, namesFine, overloadFine, targetFine, runFine, constraintFine, constraintsFine, outputsLong, longEnough, solveChecks}
-use Rattle.inference.specs.SolveEntry.{problemOf, lentOf}
-use Rattle.inference.specs.Typing.{All, none-left, and-all}
+use Rattle.inference.specs.SolveChecks.{Call, given, disjunctions, noTwo, keys, rowsWithinLent, allWithinLent, exprsFine, namesFine, overloadFine, targetFine, runFine, constraintFine, constraintsFine, outputsLong, longEnough, solveChecks}
+use Rattle.inference.specs.SolveEntry.{problemOf, lentOf, Left, searched, refused, verdict, nothingMet, solveEntry}
+use Rattle.inference.specs.Typing.{All}
+use Rattle.inference.proofs.Members.{length-rows, all-rows, row-at, all-rows-at, run-at}
 
--- Rows one after another.
-pub length-rows : {A : Type 0} (row : ℕ → A) (i n : ℕ) → length (rowsFrom row i n) ≡ n
-unfolding rowsFrom
-length-rows row i zero = refl
-length-rows row i (suc n) = omega (arith, length-rows row (i + 1) n)
+-- a refusal is the code of a check, and these are not 0
+abbrev above0 : List Check → Bool
+above0 [] = true
+above0 (c ∷ cs) = ltb 0 (c .code) && above0 cs
 
-pub row-in : {A : Type 0} (row : ℕ → A) (d : A) (i n j : ℕ) → j < n → getD (rowsFrom row i n) j d ≡ row (i + j)
-unfolding rowsFrom
-row-in row d i zero j l = absurd (omega (arith, l))
-row-in row d i (suc n) zero l = ap row (sym (add-zero i))
-row-in row d i (suc n) (suc j) l = row-in row d (i + 1) n j (omega (arith, l)) ∙ ap row (omega arith)
+refusal-above-0 : (cs : List Check) → above0 cs ≡ true → (n : ℕ) → firstFailing cs ≡ some n → 0 < n
+unfolding firstFailing
+refusal-above-0 [] a n e = no-confusion (cc)
+refusal-above-0 (d ∷ cs) a n e = go (d .passes) e (refusal-above-0 cs (both .1) n)
+  where
+    both : (ltb 0 (d .code) ≡ true) × (above0 cs ≡ true)
+    both = and-eq-true-iff (ltb 0 (d .code)) (above0 cs) .0 a
 
-pub all-rows : {A : Type 0} (R : A → Type 0) (row : ℕ → A) (i n : ℕ) → ((j : ℕ) → j < n → R (row (i + j))) → All R (rowsFrom row i n)
-unfolding rowsFrom
-all-rows R row i zero h = none-left
-all-rows R row i (suc n) h =
-    and-all (row i) (rowsFrom row (i + 1) n) (subst (λ (j : ℕ). R (row j)) (add-zero i) (h 0 (omega arith)))
-    (all-rows R row (i + 1) n (λ j l. subst (λ (x : ℕ). R (row x)) (omega arith) (h (suc j) (omega (arith, l)))))
-
-take-rows : {A : Type 0} (row : ℕ → A) (i n c : ℕ) → c ≤ n → take c (rowsFrom row i n) ≡ rowsFrom row i c
-unfolding rowsFrom
-take-rows row i n zero l = refl
-take-rows row i zero (suc c) l = absurd (omega (arith, l))
-take-rows row i (suc n) (suc c) l = ap (λ xs. row i ∷ xs) (take-rows row (i + 1) n c (omega (arith, l)))
-
--- a run inside a list of rows
-pub run-rows : {A : Type 0} (row : ℕ → A) (s i n c : ℕ) → s + c ≤ n → take c (drop s (rowsFrom row i n)) ≡ rowsFrom row (i + s) c
-unfolding rowsFrom
-run-rows row zero i n c l = take-rows row i n c (omega (arith, l)) ∙ ap (λ (j : ℕ). rowsFrom row j c) (sym (add-zero i))
-run-rows row (suc s) i zero c l = absurd (omega (arith, l))
-run-rows row (suc s) i (suc n) c l = run-rows row s (i + 1) n c (omega (arith, l)) ∙ ap (λ (j : ℕ). rowsFrom row j c) (omega arith)
-
--- and from the first on
-pub row-at : {A : Type 0} (row : ℕ → A) (d : A) (n j : ℕ) → j < n → getD (rowsFrom row 0 n) j d ≡ row j
-row-at row d n j l = row-in row d 0 n j l ∙ ap row (omega arith)
-
-pub all-rows-at : {A : Type 0} (R : A → Type 0) (row : ℕ → A) (n : ℕ) → ((j : ℕ) → j < n → R (row j)) → All R (rowsFrom row 0 n)
-all-rows-at R row n h = all-rows R row 0 n (λ j l. subst (λ (x : ℕ). R (row x)) (omega arith) (h j l))
-
-pub run-at : {A : Type 0} (row : ℕ → A) (n s c : ℕ) → s + c ≤ n → take c (drop s (rowsFrom row 0 n)) ≡ rowsFrom row s c
-run-at row n s c l = run-rows row s 0 n c l ∙ ap (λ (j : ℕ). rowsFrom row j c) (omega arith)
+    go : (b : Bool) → cond b (firstFailing cs) (some (d .code)) ≡ some n → (firstFailing cs ≡ some n → 0 < n) → 0 < n
+    go true e h = h e
+    go false e h = let z : d .code ≡ n = cc in omega (arith, ltb-true 0 (d .code) (both .0), z)
 
 -- A constraint whose places and sorts are those of the lists W.
 pub data Listed (W : Lent) (P : Problem) : Constraint → Type 0 where
@@ -84,7 +61,8 @@ pub data Listed (W : Lent) (P : Problem) : Constraint → Type 0 where
       → Listed W P (Disjunction x p run)
   comprehension-listed : (body node : InferSortId) (element : SortId) → PlacedIn W (body .0) → PlacedIn W (node .0) → element .0 < W .lengths .sorts
       → Listed W P (Comprehension body node element)
-  join-listed : (run : Run) (t : InferSortId) → PlacedIn W (t .0) → All (PlacedIn W) (take (run .count) (drop (run .start) (P .sources))) → Listed W P (Join run t)
+  join-listed : (run : Run) (t : InferSortId) → PlacedIn W (t .0) → run .start + run .count ≤ length (P .sources)
+      → All (PlacedIn W) (take (run .count) (drop (run .start) (P .sources))) → Listed W P (Join run t)
 
 module _ (I : Call) where
   abbrev W : Lent
@@ -108,12 +86,15 @@ module _ (I : Call) where
       let z = and-eq-true-iff (targetFine I (getD (I .overloads) (3 * (run .start + i)) 0) (getD (I .overloads) (3 * (run .start + i) + 1) 0)) _ .0 y in
       subst (λ (o : Overload). PlacedIn W (o .sort .0)) (sym (row-at (overloadAt (I .overloads)) _ (I .rows .overloads) (run .start + i) (omega (arith, s, l)))) (z .1)
 
-  sources-placed : (run : Run) → runFine I (I .rows .sources) (λ j. placedIn j) run ≡ true → All (PlacedIn W) (take (run .count) (drop (run .start) (P .sources)))
+  sources-placed : (run : Run) → runFine I (I .rows .sources) (λ j. placedIn j) run ≡ true
+      → (run .start + run .count ≤ length (P .sources)) × All (PlacedIn W) (take (run .count) (drop (run .start) (P .sources)))
   sources-placed run f =
       let x = and-eq-true-iff (leb (run .start + run .count) (I .rows .sources)) _ .0 f in
-      let s = leb-true (run .start + run .count) (I .rows .sources) (x .0) in
-      subst (All (PlacedIn W)) (sym (run-at (λ i. getD (I .sources) i 0) (I .rows .sources) (run .start) (run .count) s))
-      (all-rows (PlacedIn W) (λ i. getD (I .sources) i 0) (run .start) (run .count) (λ j l. below-each (run .count) (λ j. placedIn (run .start + j)) (x .1) j l))
+      let s = leb-true (run .start + run .count) (I .rows .sources) (x .0) in (
+        omega (arith, s, length-rows (λ i. getD (I .sources) i 0) 0 (I .rows .sources)),
+        subst (All (PlacedIn W)) (sym (run-at (λ i. getD (I .sources) i 0) (I .rows .sources) (run .start) (run .count) s))
+            (all-rows (PlacedIn W) (λ i. getD (I .sources) i 0) (run .start) (run .count) (λ j l. below-each (run .count) (λ j. placedIn (run .start + j)) (x .1) j l)),
+      )
 
   listed-by : (b : ℕ) (c : Constraint) → constraintFine I b c ≡ true → Listed W P c
   listed-by b (Sub l r) f = let x = and-eq-true-iff (placedAt (l .0)) (placedAt (r .0)) .0 f in sub-listed l r (x .0) (x .1)
@@ -128,7 +109,8 @@ module _ (I : Call) where
       comprehension-listed body node element (y .0) (y .1) (ltb-true (element .0) (I .lengths .sorts) (x .1))
   listed-by b (Join run t) f =
       let x = and-eq-true-iff (placedAt (t .0)) (runFine I (I .rows .sources) (λ j. placedIn j) run) .0 f in
-      join-listed run t (x .0) (sources-placed run (x .1))
+      let y = sources-placed run (x .1) in
+      join-listed run t (x .0) (y .0) (y .1)
 
   constraint-listed : constraintsFine I ≡ true → (j : ℕ) → j < I .rows .constraints → Listed W P (constraintAt (I .constraints) j)
   unfolding constraintsFine
@@ -163,6 +145,7 @@ module _ (I : Call) where
     pub default : I .default < I .lengths .sorts
     pub exprs : All (PlacedIn W) (P .exprs)
     pub constraints : All (Listed W P) (P .constraints)
+    pub one-disjunction-each : noTwo (disjunctions (P .constraints)) ≡ true
 
   pub accepted : firstFailing (solveChecks I) ≡ none → Accepted
   unfolding solveChecks nodeChecks allWithinLent exprsFine constraintsFine longEnough
@@ -191,4 +174,22 @@ module _ (I : Call) where
         default = ltb-true (I .default) (I .lengths .sorts) (c₁₂ .0);
         exprs = all-rows-at (PlacedIn W) (λ i. getD (I .exprs) i 0) (I .rows .exprs) (λ j m. below-each (I .rows .exprs) (λ i. placedAt (getD (I .exprs) i 0)) (e .0) j m);
         constraints = all-rows-at (Listed W P) (constraintAt (I .constraints)) (I .rows .constraints) (constraint-listed (c₉ .0));
+        one-disjunction-each = and-eq-true-iff (noTwo (disjunctions (given I))) (noTwo (keys I)) .0 (c₁₀ .0) .0;
       }
+
+  codes-above-0 : above0 (solveChecks I) ≡ true
+  unfolding solveChecks nodeChecks
+  codes-above-0 = refl
+
+  -- By the first check that fails, or where none does.
+  pub refused-or-searched : (T : Left → Type 0) → ((c : ℕ) → 0 < c → T (refused I c)) → (Accepted → T (verdict I (searched (Unit {0}) nothingMet tt I))) → T (solveEntry I)
+  unfolding solveEntry
+  refused-or-searched T r a = go (firstFailing (solveChecks I)) refl
+    where
+      go : (x : Option ℕ) → firstFailing (solveChecks I) ≡ x → T (orElse x (refused I) (verdict I (searched (Unit {0}) nothingMet tt I)))
+      go none q = a (accepted q)
+      go (some c) q = r c (refusal-above-0 (solveChecks I) codes-above-0 c q)
+
+  pub passed-is-searched : firstFailing (solveChecks I) ≡ none → solveEntry I ≡ verdict I (searched (Unit {0}) nothingMet tt I)
+  unfolding solveEntry
+  passed-is-searched e = rw e

@@ -14,27 +14,20 @@ use lib.Seq.{getD-take, getD-drop}
 use Rattle.resolved_sort.specs.declared.Run.{Run}
 use Rattle.resolved_sort.specs.declared.Sort.{Sort}
 use Rattle.resolved_sort.specs.declared.ComplexSort.{ComplexSort}
-use Rattle.resolved_sort.specs.declared.Joined.{Joined}
-use Rattle.resolved_sort.specs.declared.Joined.the-variants.{At, Nothing, Full}
 use Rattle.resolved_sort.specs.Tree.{Flat, unit, primitive, def, typevar, Tree, flat, container}
-use Rattle.resolved_sort.specs.Interning.{look}
-use Rattle.resolved_sort.specs.Storage.{kindFlat, trees}
-use Rattle.resolved_sort.specs.Entries.{Stored}
-use Rattle.resolved_sort.specs.Bounds.{internAt}
+use Rattle.resolved_sort.specs.Storage.{kindFlat}
 use Rattle.resolved_sort.specs.Checks.{fixedSix}
 use Rattle.unification.specs.declared.InferSortId.{InferSortId}
-use Rattle.unification.specs.Term.{flatHead, Shape, over, termOf, put}
+use Rattle.unification.specs.Term.{flatHead, Shape, over, termOf}
 use Rattle.unification.specs.Nodes.{Binds}
 use Rattle.unification.specs.Unify.{follow, deep}
-use Rattle.unification.specs.Solutions.{Equates}
-use Rattle.unification.specs.Making.{Lent, graph, Makes, made, no-list, no-room, withSorts, internContainer}
+use Rattle.unification.specs.Making.{Lent, graph, internContainer}
 use Rattle.unification.proofs.Exact.{shapeVal}
 use Rattle.unification.proofs.Rows.{ShapeFormed, variable-formed, flat-formed, container-formed, function-formed}
 use Rattle.unification.proofs.Follow.{follow-names}
-use Rattle.unification.proofs.Grows.{CheckedLent, PlacedIn, Grows, placed-grown, term-grown, grows-trans}
+use Rattle.unification.proofs.Grows.{CheckedLent, PlacedIn, placed-grown}
 use Rattle.unification.proofs.BindsGrow.{binds-name-places}
-use Rattle.unification.proofs.Outcomes.{Each}
-use Rattle.unification.proofs.MakingGrows.{MadeFrom, IsSort, container-grows}
+use Rattle.unification.proofs.MakingGrows.{IsSort}
 use Rattle.unification.proofs.PlaceTerms.{termIn, placed-formed, sort-placed, term-by-shape, term-at-end, sort-term, primitive-placed, primitive-term}
 use Rattle.unification.proofs.Assignments.{place-has-a-sort}
 use Rattle.inference.specs.declared.ExprId.{ExprId}
@@ -45,70 +38,31 @@ use Rattle.inference.specs.declared.NameTarget.the-variants.{Variable}
 use Rattle.inference.specs.declared.Constraint.the-variants.{Disjunction}
 use Rattle.inference.specs.Constraints.{Problem}
 use Rattle.inference.specs.Measure.{Components}
-use Rattle.inference.specs.Search.{sortIn, Choice, Path, bound, measured, chosen, Try, litComponent, fromNat, litTries, Reading, readings, World, Out, missed, lending, andAlso, unifying, onMade, firstFound, atSort, literalAt, literalEnd, literal, everyReading, everyOverload, step}
+use Rattle.inference.specs.Search.{sortIn, Choice, Path, bound, measured, chosen, litComponent, fromNat, litTries, Reading, readings, World, Out, missed, unifying, atSort, literalAt, literalEnd, literal, everyReading, everyOverload, step}
 use Rattle.inference.specs.Names.{overloadIn}
-use Rattle.inference.specs.Typing.{Assignment, Has, Read, as-set, as-bag, as-bag-of-pos}
-use Rattle.inference.proofs.Invariant.{Claim, terms, Sound, FineBest, Leaves, Goes, leaves-from, or-else-leaves, and-also-leaves, says-leaves, missed-leaves, sound-grown, fine-grown, sound-on, unifying-leaves}
+use Rattle.inference.specs.Typing.{Assignment, Has, All, none-left, and-all, Read, as-set, as-bag, as-bag-of-pos}
+use Rattle.inference.proofs.Invariant.{Claim, terms, Sound, FineBest, Leaves, Goes, same-sort, equal-have-one-sort, and-also-leaves, says-leaves, missed-leaves, unifying-leaves}
+use Rattle.inference.proofs.MakingSorts.{container-makes, on-made-leaves}
+use Rattle.inference.proofs.Tries.{Leads, first-found-leaves}
 
 at-position : (R : Claim) (x i j : ℕ) → i ≡ j → (ch : List Choice) (ρ : Assignment) (ms : Components)
     → R (ch ++ (record { expr = x; position = i } ∷ [])) ρ ms → R (ch ++ (record { expr = x; position = j } ∷ [])) ρ ms
 at-position R x i j e ch ρ ms h = subst (λ n. R (ch ++ (record { expr = x; position = n } ∷ [])) ρ ms) e h
 
--- making that leaves as many nodes as there were, and as many arguments
-unfoldable pub SameNodes : {A : Type 0} → Lent → Makes A → Type 0
-SameNodes W =
-    Each (λ a W′. (W′ .lengths .nodes ≡ W .lengths .nodes) × (W′ .lengths .arguments ≡ W .lengths .arguments))
-    (λ W′. (W′ .lengths .nodes ≡ W .lengths .nodes) × (W′ .lengths .arguments ≡ W .lengths .arguments)) (λ c W′. Unit {0})
-
--- interning makes no node
-pub container-keeps-nodes : (W : Lent) (o : ComplexSort) (s : ℕ) → SameNodes W (internContainer o s W)
-unfolding SameNodes internContainer
-container-keeps-nodes W o s = go (internAt (W .sorts) (W .lengths .sorts) (W .lengths .entries) (container o (look (trees (W .sorts) (W .lengths .sorts)) s)))
-  where
-    by : (r : Stored) (j : Joined) → SameNodes W (withSorts W r j)
-    by r (At id k) = (refl, refl)
-    by r (Nothing k) = (refl, refl)
-    by r Full = tt
-
-    go : (r : Stored) → SameNodes W (withSorts W r (r .answer))
-    go r = by r (r .answer)
-
-module _ (W₀ : Lent) (B₀ : Binds) (P : Problem) (Met : Type 0) where
-  -- on with what was made, where making leaves as many nodes
-  pub on-made-leaves : {A : Type 0} (In : Lent → A → Type 0) (w : World Met) → CheckedLent (w .lent) → (O : Makes A) → MadeFrom In (w .lent) O → SameNodes (w .lent) O
-      → (k : A → World Met → Out Met) (f : World Met → Out Met) → ((a : A) (W : Lent) → Grows (w .lent) W → In W a → Leaves W₀ B₀ P Met W (k a (lending w W)))
-      → ((W : Lent) → Grows (w .lent) W → Leaves W₀ B₀ P Met W (f (lending w W))) → Leaves W₀ B₀ P Met (w .lent) (onMade O k f w)
-  unfolding MadeFrom SameNodes Leaves
-  on-made-leaves In w c (made a W) m n k f on else = leaves-from W₀ B₀ P Met (w .lent) c W (m .0) (n .0) (n .1) (k a (lending w W)) (on a W (m .0) (m .1))
-  on-made-leaves In w c (no-list W) m n k f on else = leaves-from W₀ B₀ P Met (w .lent) c W m (n .0) (n .1) (f (lending w W)) (else W m)
-  on-made-leaves In w c (no-room a W) m n k f on else = m
-
 module _
     (W₀ : Lent) (B₀ : Binds) (P : Problem) (c₀ : CheckedLent W₀) (six : fixedSix (W₀ .sorts) (W₀ .lengths .sorts) ≡ true)
     (Met : Type 0) (meet : Components → Met → Met) where
-  -- a place given stands for the same on lists that have grown
-  has-given : (W : Lent) → Grows W₀ W → (ρ : Assignment) (p : ℕ) → PlacedIn W₀ p → (t : Tree) → Has (graph W) ρ p t → Has (graph W₀) ρ p t
-  has-given W g ρ p x t h = ap (put (terms ρ)) (sym (term-grown W₀ c₀ W g p x)) ∙ h
-
-  -- two places made equal, and on from there
-  module _ (e : Path) (w : World Met) (Q : Claim) (s : Sound W₀ B₀ P (w .lent) e Q) (f : FineBest W₀ B₀ P (w .lent) (w .best)) (l r : ℕ) where
-    equal-leaves : PlacedIn (w .lent) l → PlacedIn (w .lent) r → (ms : Components) (cs : List Choice) (R : Claim)
-        → ((ρ : Assignment) → Equates (graph (w .lent)) (terms ρ) l r → Q (e .choices) ρ (e .measure) → R cs ρ ms) → (k : Binds → World Met → Out Met)
-        → ((C : Binds) → Sound W₀ B₀ P (w .lent) (record { binds = C; measure = ms; choices = cs }) R → Leaves W₀ B₀ P Met (w .lent) (k C w))
-        → Leaves W₀ B₀ P Met (w .lent) (unifying (e .binds) l r k w)
-    equal-leaves x y ms cs R h k on =
-        unifying-leaves W₀ B₀ P Met e w Q s f l r x y k (λ C a. on C (sound-on W₀ B₀ P (w .lent) e Q s l r C a ms cs R (λ ρ z. h ρ)))
-
-    -- two of the places given: they have a sort, the same
-    given-leaves : PlacedIn W₀ l → PlacedIn W₀ r → (ms : Components) (cs : List Choice) (R : Claim)
-        → ((ρ : Assignment) (t : Tree) → Q (e .choices) ρ (e .measure) → Has (graph W₀) ρ l t → Has (graph W₀) ρ r t → R cs ρ ms) → (k : Binds → World Met → Out Met)
-        → ((C : Binds) → Sound W₀ B₀ P (w .lent) (record { binds = C; measure = ms; choices = cs }) R → Leaves W₀ B₀ P Met (w .lent) (k C w))
-        → Leaves W₀ B₀ P Met (w .lent) (unifying (e .binds) l r k w)
-    given-leaves x y ms cs R h =
-        let g = s .grown in
-        equal-leaves (placed-grown W₀ c₀ (w .lent) g l x) (placed-grown W₀ c₀ (w .lent) g r y) ms cs R
-        (λ ρ i q. let t = place-has-a-sort (w .lent) (g .checked) ρ l (placed-grown W₀ c₀ (w .lent) g l x) in
-        h ρ (t .0) q (has-given (w .lent) g ρ l x (t .0) (t .1)) (has-given (w .lent) g ρ r y (t .0) (sym i ∙ t .1)))
+  -- two of the places given, made equal: they have a sort, the same
+  given-leaves : (e : Path) (w : World Met) (Q : Claim) → Sound W₀ B₀ P (w .lent) e Q → FineBest W₀ B₀ P (w .lent) (w .best) → (l r : ℕ) → PlacedIn W₀ l → PlacedIn W₀ r
+      → (ms : Components) (cs : List Choice) (R : Claim)
+      → ((ρ : Assignment) (t : Tree) → Q (e .choices) ρ (e .measure) → Has (graph W₀) ρ l t → Has (graph W₀) ρ r t → R cs ρ ms) → (k : Binds → World Met → Out Met)
+      → ((C : Binds) → Sound W₀ B₀ P (w .lent) (record { binds = C; measure = ms; choices = cs }) R → Leaves W₀ B₀ P Met (w .lent) (k C w))
+      → Leaves W₀ B₀ P Met (w .lent) (unifying (e .binds) l r k w)
+  given-leaves e w Q s f l r x y ms cs R h =
+      let g = s .grown in
+      unifying-leaves W₀ B₀ P Met e w Q s f l r (placed-grown W₀ c₀ (w .lent) g l x) (placed-grown W₀ c₀ (w .lent) g r y) ms cs R
+      (λ ρ _ i q. let t = place-has-a-sort W₀ c₀ ρ l x in
+      h ρ (t .0) q (t .1) (equal-have-one-sort W₀ c₀ (w .lent) g ρ l r (t .0) x y i (t .1)))
 
   -- one of the places given and a primitive sort
   primitive-leaves : (e : Path) (w : World Met) (Q : Claim) → Sound W₀ B₀ P (w .lent) e Q → FineBest W₀ B₀ P (w .lent) (w .best) → (p : ℕ) → PlacedIn W₀ p → (s : Sort)
@@ -128,13 +82,12 @@ module _
     unfolding everyOverload
     every-overload-goes [] i a h b e w s f = says-leaves W₀ B₀ P Met b w (s .grown .checked) f
     every-overload-goes (o ∷ os) i a h b e w s f =
-        and-also-leaves W₀ B₀ P Met (w .lent) (s .grown .checked) (unifying (e .binds) p (o .sort .0) (λ C. k (chosen e x i C)) w) b (λ b. everyOverload Met meet P x p os (i + 1) b k e)
+        and-also-leaves W₀ B₀ P Met e w Q s c₀ _ b (λ b. everyOverload Met meet P x p os (i + 1) b k e)
         (given-leaves e w Q s f p (o .sort .0) y (a 0 (omega arith)) (e .measure) (e .choices ++ (record { expr = x; position = i } ∷ [])) R
         (λ ρ t q u v. at-position R x (i + 0) i (add-zero i) (e .choices) ρ (e .measure) (h 0 (omega arith) (e .choices) ρ (e .measure) t q u v)) (λ C. k (chosen e x i C))
         (λ C z. on (chosen e x i C) w z f))
-        (λ b w′ z. every-overload-goes os (i + 1) (λ j l. a (suc j) (omega (arith, l)))
-        (λ j l ch ρ ms t q u v. at-position R x (i + suc j) (i + 1 + j) (omega arith) ch ρ ms (h (suc j) (omega (arith, l)) ch ρ ms t q u v)) b e w′
-        (sound-grown W₀ B₀ P (w .lent) (w′ .lent) e Q c₀ s (z .grows)) (z .best))
+        (λ b v _ s′ f′. every-overload-goes os (i + 1) (λ j l. a (suc j) (omega (arith, l)))
+        (λ j l ch ρ ms t q u v. at-position R x (i + suc j) (i + 1 + j) (omega arith) ch ρ ms (h (suc j) (omega (arith, l)) ch ρ ms t q u v)) b e v s′ f′)
 
   pub disjunction-goes : (x : ExprId) (p : InferSortId) (run : Run) → PlacedIn W₀ (p .0) → ((i : ℕ) → i < run .count → PlacedIn W₀ (overloadIn (P .overloads) run i .sort .0)) → (Q R : Claim)
       → ((ch : List Choice) (ρ : Assignment) (ms : Components) (i : ℕ) (t : Tree) → Q ch ρ ms → i < run .count → Has (graph W₀) ρ (p .0) t
@@ -164,41 +117,31 @@ module _
       (body node element : ℕ) (x : PlacedIn W₀ body) (y : PlacedIn W₀ node) (l : element < W₀ .lengths .sorts) (Q R : Claim)
       (h : (ch : List Choice) (ρ : Assignment) (ms : Components) (s t : Tree) → Q ch ρ ms → Has (graph W₀) ρ body s → Has (graph W₀) ρ node t
       → Read (sortIn W₀ element) s t → R ch ρ ms) (k : Path → World Met → Out Met) (on : Goes W₀ B₀ P Met R k) where
-    reading-goes : (s : Sort) (o : ComplexSort) → ((ch : List Choice) (ρ : Assignment) → Read (sortIn W₀ element) (flat (primitive s)) (container o (sortIn W₀ element)))
+    reading-goes : (s : Sort) (o : ComplexSort) → Read (sortIn W₀ element) (flat (primitive s)) (container o (sortIn W₀ element))
         → (rs : List Reading) → ((b : Bool) → Goes W₀ B₀ P Met Q (everyReading Met meet P rs body node element b k)) → (b : Bool)
         → Goes W₀ B₀ P Met Q (everyReading Met meet P (record { body = kindFlat (primitive s); op = o } ∷ rs) body node element b k)
     unfolding everyReading
     reading-goes s o z rs ih b e w S f =
-        on-made-leaves W₀ B₀ P Met (IsSort (container o (look (trees (w .lent .sorts) (w .lent .lengths .sorts)) element))) w c (internContainer o element (w .lent))
-        (container-grows (w .lent) c o element (omega (arith, l, S .grown .sorts))) (container-keeps-nodes (w .lent) o element) _ missed made-goes
-        (λ W g. missed-leaves W₀ B₀ P Met (lending w W) (g .checked) (fine-grown W₀ B₀ P (w .lent) W g (w .best) f))
-      where
-        c : CheckedLent (w .lent)
-        c = S .grown .checked
-
-        made-goes : (a : ℕ) (W : Lent) → Grows (w .lent) W → IsSort (container o (look (trees (w .lent .sorts) (w .lent .lengths .sorts)) element)) W a
-            → Leaves W₀ B₀ P Met W (andAlso (unifying (e .binds) body (kindFlat (primitive s)) (λ C. unifying C node a (λ D. k (bound e D))) (lending w W)) b
-            (λ b. everyReading Met meet P rs body node element b k e))
-        made-goes a W g i =
-            let G = grows-trans W₀ c₀ (w .lent) W (S .grown) g in
-            let S₁ = sound-grown W₀ B₀ P (w .lent) W e Q c₀ S g in
-            let f₁ = fine-grown W₀ B₀ P (w .lent) W g (w .best) f in
-            let M : Claim = λ ch ρ ms. Q ch ρ ms × Has (graph W₀) ρ body (flat (primitive s)) in
-            and-also-leaves W₀ B₀ P Met W (g .checked) (unifying (e .binds) body (kindFlat (primitive s)) (λ C. unifying C node a (λ D. k (bound e D))) (lending w W)) b
-            (λ b. everyReading Met meet P rs body node element b k e)
-            (primitive-leaves e (lending w W) Q S₁ f₁ body x s (e .measure) (e .choices) M (λ ρ q u. (q, u)) (λ C. unifying C node a (λ D. k (bound e D)))
-            (λ C S₂. equal-leaves (bound e C) (lending w W) M S₂ f₁ node a (placed-grown W₀ c₀ W G node y) (sort-placed W (g .checked) a (i .0)) (e .measure) (e .choices) R
-            (λ ρ j m. h (e .choices) ρ (e .measure) (flat (primitive s)) (container o (sortIn W₀ element)) (m .0) (m .1)
-            (has-given W G ρ node y (container o (sortIn W₀ element)) (j ∙ (sort-term W (g .checked) (terms ρ) a (i .0) ∙ ap termOf (i .1 ∙ ap (container o) (S .grown .looks element l)))))
-            (z (e .choices) ρ)) (λ D. k (bound e D)) (λ D S₃. on (bound e D) (lending w W) S₃ f₁)))
-            (λ b w′ u. ih b e w′ (sound-grown W₀ B₀ P W (w′ .lent) e Q c₀ S₁ (u .grows)) (u .best))
+        let M : Claim = λ ch ρ ms. Q ch ρ ms × Has (graph W₀) ρ body (flat (primitive s)) in
+        on-made-leaves W₀ B₀ P c₀ Met (IsSort (container o (sortIn (w .lent) element))) (Unit {0}) e w Q S f (internContainer o element (w .lent))
+        (container-makes (w .lent) (S .grown .checked) o element (omega (arith, l, S .grown .sorts))) _ missed
+        (λ a v g S₁ f₁ i. and-also-leaves W₀ B₀ P Met e v Q S₁ c₀ _ b (λ b. everyReading Met meet P rs body node element b k e)
+        (primitive-leaves e v Q S₁ f₁ body x s (e .measure) (e .choices) M (λ ρ q u. (q, u)) (λ C. unifying C node a (λ D. k (bound e D)))
+        (λ C S₂. unifying-leaves W₀ B₀ P Met (bound e C) v M S₂ f₁ node a (placed-grown W₀ c₀ (v .lent) (S₁ .grown) node y) (sort-placed (v .lent) (S₁ .grown .checked) a (i .0))
+        (e .measure) (e .choices) R
+        (λ ρ _ j m. h (e .choices) ρ (e .measure) (flat (primitive s)) (container o (sortIn W₀ element)) (m .0) (m .1)
+        (same-sort W₀ c₀ (v .lent) (S₁ .grown) ρ node (container o (sortIn W₀ element)) y .0
+        (j ∙ (sort-term (v .lent) (S₁ .grown .checked) (terms ρ) a (i .0) ∙ ap termOf (i .1 ∙ ap (container o) (S .grown .looks element l)))))
+        z) (λ D. k (bound e D)) (λ D S₃. on (bound e D) v S₃ f₁)))
+        (λ b v′ _ s′ f′. ih b e v′ s′ f′))
+        (λ v S₁ f₁. missed-leaves W₀ B₀ P Met v (S₁ .grown .checked) f₁)
 
     pub comprehension-goes : Goes W₀ B₀ P Met Q (everyReading Met meet P readings body node element false k)
     unfolding everyReading kindFlat
     comprehension-goes =
-        reading-goes Sort.Bool ComplexSort.Set (λ ch ρ. as-set) (drop 1 readings)
-        (reading-goes Sort.Nat ComplexSort.Bag (λ ch ρ. as-bag) (drop 2 readings)
-        (reading-goes Sort.Pos ComplexSort.Bag (λ ch ρ. as-bag-of-pos) []
+        reading-goes Sort.Bool ComplexSort.Set as-set (drop 1 readings)
+        (reading-goes Sort.Nat ComplexSort.Bag as-bag (drop 2 readings)
+        (reading-goes Sort.Pos ComplexSort.Bag as-bag-of-pos []
         (λ b e w s f. says-leaves W₀ B₀ P Met b w (s .grown .checked) f)))
         false
 
@@ -207,33 +150,31 @@ module _
       (kind : LitKind) (p : ℕ) (x : PlacedIn W₀ p) (Q R : Claim)
       (h : (ch : List Choice) (ρ : Assignment) (ms : Components) (s : Sort) (g : ℕ) → Q ch ρ ms → Has (graph W₀) ρ p (flat (primitive s)) → litComponent kind s ≡ some g
       → R ch ρ (ms ++ (g ∷ []))) (k : Path → World Met → Out Met) (on : Goes W₀ B₀ P Met R k) where
-    -- one try, and if it found nothing the others
-    try-goes : (s : Sort) (g : ℕ) → litComponent kind s ≡ some g → (ts : List Try) → Goes W₀ B₀ P Met Q (firstFound Met meet P ts k)
-        → Goes W₀ B₀ P Met Q (firstFound Met meet P (record { left = p; right = kindFlat (primitive s); component = g } ∷ ts) k)
-    unfolding firstFound
-    try-goes s g i ts ih e w S f =
-        or-else-leaves W₀ B₀ P Met (w .lent) (S .grown .checked) (unifying (e .binds) p (kindFlat (primitive s)) (λ C. k (measured e (g ∷ []) C)) w) (firstFound Met meet P ts k e)
-        (primitive-leaves e w Q S f p x s (e .measure ++ (g ∷ [])) (e .choices) R (λ ρ q u. h (e .choices) ρ (e .measure) s g q u i) (λ C. k (measured e (g ∷ []) C))
-        (λ C z. on (measured e (g ∷ []) C) w z f))
-        (λ w′ u. ih e w′ (sound-grown W₀ B₀ P (w .lent) (w′ .lent) e Q c₀ S (u .grows)) (u .best))
-
-    -- where each number sort from Nat on has its component
-    from-nat-goes : litComponent kind Sort.Nat ≡ some 1 → litComponent kind Sort.Int ≡ some 2 → litComponent kind Sort.Real ≡ some 3
-        → Goes W₀ B₀ P Met Q (firstFound Met meet P (fromNat p) k)
-    unfolding firstFound kindFlat
-    from-nat-goes i j l =
-        try-goes Sort.Nat 1 i (drop 1 (fromNat p)) (try-goes Sort.Int 2 j (drop 2 (fromNat p)) (try-goes Sort.Real 3 l [] (λ e w s f. missed-leaves W₀ B₀ P Met w (s .grown .checked) f)))
-
-    tries-go : (kind′ : LitKind) → kind ≡ kind′ → Goes W₀ B₀ P Met Q (firstFound Met meet P (litTries kind′ p) k)
-    unfolding kindFlat litComponent
-    tries-go Positive i = try-goes Sort.Pos 0 (ap (λ z. litComponent z Sort.Pos) i) (fromNat p)
-        (from-nat-goes (ap (λ z. litComponent z Sort.Nat) i) (ap (λ z. litComponent z Sort.Int) i) (ap (λ z. litComponent z Sort.Real) i))
-    tries-go Natural i = from-nat-goes (ap (λ z. litComponent z Sort.Nat) i) (ap (λ z. litComponent z Sort.Int) i) (ap (λ z. litComponent z Sort.Real) i)
-
     -- on a branch, by the end of the place
     module _ (e : Path) (w : World Met) (S : Sound W₀ B₀ P (w .lent) e Q) (f : FineBest W₀ B₀ P (w .lent) (w .best)) where
       abbrev W : Lent
       W = w .lent
+
+      -- at a number sort that has a component for the kind
+      sort-leads : (s : Sort) (g : ℕ) → litComponent kind s ≡ some g → Leads W e Q R (record { left = p; right = kindFlat (primitive s); component = g })
+      sort-leads s g i =
+          let y = primitive-placed W₀ c₀ six s in
+          record {
+            left = placed-grown W₀ c₀ W (S .grown) p x;
+            right = placed-grown W₀ c₀ W (S .grown) (kindFlat (primitive s)) y;
+            so =
+                λ ρ _ j q. h (e .choices) ρ (e .measure) s g q
+                (equal-have-one-sort W₀ c₀ W (S .grown) ρ (kindFlat (primitive s)) p (flat (primitive s)) y x (sym j) (primitive-term W₀ c₀ six (terms ρ) s)) i;
+          }
+
+      from-nat-lead : All (Leads W e Q R) (fromNat p)
+      unfolding kindFlat litComponent
+      from-nat-lead = and-all _ _ (sort-leads Sort.Nat 1 refl) (and-all _ _ (sort-leads Sort.Int 2 refl) (and-all _ _ (sort-leads Sort.Real 3 refl) none-left))
+
+      tries-lead : (kind′ : LitKind) → kind ≡ kind′ → All (Leads W e Q R) (litTries kind′ p)
+      unfolding kindFlat litComponent
+      tries-lead Positive i = and-all _ _ (sort-leads Sort.Pos 0 (ap (λ z. litComponent z Sort.Pos) i)) from-nat-lead
+      tries-lead Natural i = from-nat-lead
 
       nothing-found : Leaves W₀ B₀ P Met W (missed w)
       nothing-found = missed-leaves W₀ B₀ P Met w (S .grown .checked) f
@@ -250,7 +191,7 @@ module _
               binds = S .binds;
               refines = S .refines;
               costs = λ ρ r. h (e .choices) ρ (e .measure) s g (S .costs ρ r)
-                  (has-given W (S .grown) ρ p x (flat (primitive s))
+                  (same-sort W₀ c₀ W (S .grown) ρ p (flat (primitive s)) x .0
                   (term-at-end W c (e .binds) (terms ρ) r deep p q i ∙ (term-by-shape W c (terms ρ) q ∙ ap (shapeVal (terms ρ) (termIn W (terms ρ))) j)))
                   l;
             })
@@ -263,7 +204,7 @@ module _
         at-flat (typevar n) j = nothing-found
 
         at-shape : (s : Shape) → graph W q ≡ s → ShapeFormed s → Leaves W₀ B₀ P Met W (literalAt Met meet P kind p s k e w)
-        at-shape _ j (variable-formed v) = tries-go kind refl e w S f
+        at-shape _ j (variable-formed v) = first-found-leaves W₀ B₀ P c₀ Met meet e Q R k on (litTries kind p) w S f (tries-lead kind refl)
         at-shape _ j (flat-formed a) = at-flat a j
         at-shape _ j (container-formed o s) = nothing-found
         at-shape _ j (function-formed n xs r len few) = nothing-found

@@ -13,8 +13,6 @@ use lib.Dec.{eqb}
 use lib.ListN.{length, drop, length-take, length-drop}
 use borrow.Author.Tests.{eqb-true, eqb-false, eq-eqb, ne-eqb, not-true}
 use Rattle.resolved_sort.specs.declared.Run.{Run}
-use Rattle.resolved_sort.specs.Checks.{firstFailing}
-use Rattle.resolved_sort.specs.Entries.{orElse}
 use Rattle.resolved_sort.proofs.Reached.{no-confusion}
 use Rattle.unification.specs.declared.InferSortId.{InferSortId}
 use Rattle.unification.specs.Nodes.{Binds}
@@ -29,10 +27,10 @@ use Rattle.inference.specs.Measure.{Components}
 use Rattle.inference.specs.Search.{Choice, Path, Candidate, World, Out, found, missed, ended, lending, leaf, solve}
 use Rattle.inference.specs.Names.{runFor, overloadIn, targetIn, chosenName, baseName, nameOf}
 use Rattle.inference.specs.Typing.{All, none-left, and-all, In, here, there}
-use Rattle.inference.specs.SolveChecks.{Call, given, disjunctionFor, disjunctions, among, noTwo, componentsOf, components, solveChecks}
-use Rattle.inference.specs.SolveEntry.{problemOf, baseNamesOf, start, lentOf, searched, Left, typingRows, over, countsIn, typed, judgedBy, judged, verdict, nothingMet, refused, solveEntry, codeSolved}
+use Rattle.inference.specs.SolveChecks.{Call, given, disjunctionFor, disjunctions, among, noTwo, componentsOf, components}
+use Rattle.inference.specs.SolveEntry.{problemOf, baseNamesOf, start, lentOf, searched, Left, typingRows, over, countsIn, typed, judgedBy, judged, verdict, nothingMet, solveEntry, codeSolved}
 use Rattle.inference.proofs.Members.{not-in-nothing, in-cases, first-in, in-right}
-use Rattle.inference.proofs.Passes.{code-0-passes, constraints-pass, one-disjunction-each, SourcesFit, sources-fit}
+use Rattle.inference.proofs.Accepted.{Listed, sub-listed, lit-listed, disjunction-listed, comprehension-listed, join-listed, Accepted, refused-or-searched}
 use Rattle.inference.proofs.Branches.{newcomer, NoChoice, Chooses, Choosing, none-to-choose, and-chooses, widthOf, width, Goes, leaf-goes, search-goes}
 
 -- a candidate with the components and choices of the constraints
@@ -72,19 +70,19 @@ module _ (Met : Type 0) (meet : Components → Met → Met) (P : Problem) (cs : 
       search-goes Met meet P Fitting stays after cs (record { binds = B; measure = []; choices = [] })
       (λ e a. leaf-fits e (ap length (a .measure) ∙ a .many) (subst (Choosing cs) (sym (a .choices)) (a .fine)))
 
--- as many components as check 11 counts, where the sources of each Join are in their list
-width-of-one : (P : Problem) (c : Constraint) → SourcesFit P c → widthOf P c ≡ componentsOf c
-unfolding SourcesFit widthOf
-width-of-one P (Sub l r) f = refl
-width-of-one P (Lit p kind) f = refl
-width-of-one P (Disjunction x p run) f = refl
-width-of-one P (Comprehension body node element) f = refl
-width-of-one P (Join run t) f = omega (arith, f, length-take (run .count) (drop (run .start) (P .sources)), length-drop (run .start) (P .sources))
+-- as many components as check 11 counts, since the sources of each Join are in their list
+width-of-one : (W : Lent) (P : Problem) (c : Constraint) → Listed W P c → widthOf P c ≡ componentsOf c
+unfolding widthOf
+width-of-one W P _ (sub-listed l r x y) = refl
+width-of-one W P _ (lit-listed p kind x) = refl
+width-of-one W P _ (disjunction-listed e p run x y) = refl
+width-of-one W P _ (comprehension-listed body node element x y l) = refl
+width-of-one W P _ (join-listed run t x f a) = omega (arith, f, length-take (run .count) (drop (run .start) (P .sources)), length-drop (run .start) (P .sources))
 
-pub width-is-components : (P : Problem) (cs : List Constraint) → All (SourcesFit P) cs → width P cs ≡ components cs
+pub width-is-components : (W : Lent) (P : Problem) (cs : List Constraint) → All (Listed W P) cs → width P cs ≡ components cs
 unfolding width components
-width-is-components P _ none-left = refl
-width-is-components P _ (and-all c cs f a) = ap₂ _+_ (width-of-one P c f) (width-is-components P cs a)
+width-is-components W P _ none-left = refl
+width-is-components W P _ (and-all c cs f a) = ap₂ _+_ (width-of-one W P c f) (width-is-components W P cs a)
 
 abbrev pub exprOf : Choice → ℕ
 exprOf k = k .expr
@@ -249,38 +247,36 @@ module _ (P : Problem) (bs : List BaseName) (ks : List Choice) (choosing : Choos
 
 -- what a call leaves that hands out a typing
 pub record IsTyping (I : Call) (left : Left) : Type 0 where
+  pub accepted : Accepted I
   pub lent : Lent
   pub candidate : Candidate
   pub is : left ≡ typed I lent candidate
   pub fits : Fits (problemOf I) (given I) candidate
 
-judged-typed : (I : Call) (W : Lent) (b : Option Candidate) → FitsBest (problemOf I) (given I) b → codeSolved (judged I W b .answer) ≡ 0 → IsTyping I (judged I W b)
-unfolding FitsBest codeSolved
-judged-typed I W none f q = absurd (omega (arith, q))
-judged-typed I W (some c) f q = go (c .duplicate) q
-  where
-    go : (b : Bool) → codeSolved (judgedBy I W c b .answer) ≡ 0 → IsTyping I (judgedBy I W c b)
-    go true q = absurd (omega (arith, q))
-    go false q = record { lent = W; candidate = c; is = refl; fits = f }
+module _ (I : Call) (A : Accepted I) where
+  judged-typed : (W : Lent) (b : Option Candidate) → FitsBest (problemOf I) (given I) b → codeSolved (judged I W b .answer) ≡ 0 → IsTyping I (judged I W b)
+  unfolding FitsBest codeSolved
+  judged-typed W none f q = absurd (omega (arith, q))
+  judged-typed W (some c) f q = go (c .duplicate) q
+    where
+      go : (b : Bool) → codeSolved (judgedBy I W c b .answer) ≡ 0 → IsTyping I (judgedBy I W c b)
+      go true q = absurd (omega (arith, q))
+      go false q = record { accepted = A; lent = W; candidate = c; is = refl; fits = f }
 
-searched-typed : (I : Call) (Met : Type 0) (w : World Met) → FitsBest (problemOf I) (given I) (w .best) → (o : Out Met) → Goes (λ u (b : Bool) v. FitsBest (problemOf I) (given I) (u .best) → FitsBest (problemOf I) (given I) (v .best)) w o
-    → codeSolved (verdict I o .answer) ≡ 0 → IsTyping I (verdict I o)
-unfolding Goes codeSolved
-searched-typed I Met w f (found v) x q = judged-typed I (v .lent) (v .best) (x f) q
-searched-typed I Met w f (missed v) x q = judged-typed I (v .lent) (v .best) (x f) q
-searched-typed I Met w f (ended c v) (inl i) q = absurd (omega (arith, i, q))
-searched-typed I Met w f (ended c v) (inr i) q = absurd (omega (arith, i, q))
+  searched-typed : (Met : Type 0) (w : World Met) → FitsBest (problemOf I) (given I) (w .best) → (o : Out Met)
+      → Goes (λ u (b : Bool) v. FitsBest (problemOf I) (given I) (u .best) → FitsBest (problemOf I) (given I) (v .best)) w o → codeSolved (verdict I o .answer) ≡ 0 → IsTyping I (verdict I o)
+  unfolding Goes codeSolved
+  searched-typed Met w f (found v) x q = judged-typed (v .lent) (v .best) (x f) q
+  searched-typed Met w f (missed v) x q = judged-typed (v .lent) (v .best) (x f) q
+  searched-typed Met w f (ended c v) (inl i) q = absurd (omega (arith, i, q))
+  searched-typed Met w f (ended c v) (inr i) q = absurd (omega (arith, i, q))
 
 pub code-0-typed : (I : Call) → codeSolved (solveEntry I .answer) ≡ 0 → IsTyping I (solveEntry I)
-unfolding solveEntry FitsBest
-code-0-typed I q = go (firstFailing (solveChecks I)) (code-0-passes I q) q
-  where
-    go : (o : Option ℕ) → o ≡ none → codeSolved (orElse o (refused I) (verdict I (searched (Unit {0}) nothingMet tt I)) .answer) ≡ 0
-        → IsTyping I (orElse o (refused I) (verdict I (searched (Unit {0}) nothingMet tt I)))
-    go none e q =
-        searched-typed I (Unit {0}) (record { lent = lentOf I; best = none; met = tt }) tt (searched (Unit {0}) nothingMet tt I)
-        (search-fits (Unit {0}) nothingMet (problemOf I) (given I) (start I .binds) (record { lent = lentOf I; best = none; met = tt })) q
-    go (some n) e q = no-confusion (cc)
+unfolding FitsBest codeSolved
+code-0-typed I =
+    let w : World (Unit {0}) = record { lent = lentOf I; best = none; met = tt } in
+    refused-or-searched I (λ left. codeSolved (left .answer) ≡ 0 → IsTyping I left) (λ c l q. absurd (omega (arith, l, q)))
+    (λ A. searched-typed I A (Unit {0}) w tt (searched (Unit {0}) nothingMet tt I) (search-fits (Unit {0}) nothingMet (problemOf I) (given I) (start I .binds) w))
 
 -- Measure, choices and names as handed out: how many components and choices; the choices in the order of the constraints, one for each disjunction;
 -- and the rows with the names.
@@ -304,9 +300,6 @@ names-and-choices I q = subst (Named I) (sym (t .is)) named
     t : IsTyping I (solveEntry I)
     t = code-0-typed I q
 
-    passes : firstFailing (solveChecks I) ≡ none
-    passes = code-0-passes I q
-
     named : Named I (typed I (t .lent) (t .candidate))
     named =
         record {
@@ -315,11 +308,11 @@ names-and-choices I q = subst (Named I) (sym (t .is)) named
           measure = t .candidate .measure;
           measure-handed-out = refl;
           handed-out = refl;
-          component-count = t .fits .components ∙ width-is-components (problemOf I) (given I) (sources-fit I (constraints-pass I passes));
+          component-count = t .fits .components ∙ width-is-components (lentOf I) (problemOf I) (given I) (t .accepted .constraints);
           choice-count = refl;
           in-order = choices-in-order (given I) (t .candidate .choices) (t .fits .choices);
-          chosen = disjunction-named (problemOf I) (baseNamesOf I) (t .candidate .choices) (t .fits .choices) (one-disjunction-each I passes);
-          others = others-keep-base-names (problemOf I) (baseNamesOf I) (t .candidate .choices) (t .fits .choices) (one-disjunction-each I passes);
+          chosen = disjunction-named (problemOf I) (baseNamesOf I) (t .candidate .choices) (t .fits .choices) (t .accepted .one-disjunction-each);
+          others = others-keep-base-names (problemOf I) (baseNamesOf I) (t .candidate .choices) (t .fits .choices) (t .accepted .one-disjunction-each);
           sorts = t .candidate .sorts;
           rows = refl;
         }

@@ -1,15 +1,14 @@
 -- What each clause of demand 3 rules out, under an assignment under which places have the sorts named: a place has one sort, so that whatever meets a
 -- constraint meets it with these. Assumes nothing.
-use mathlib.Core.Path.{_≡_, refl, sym, _∙_}
-use mathlib.Core.Bool.{true, false}
-use mathlib.Core.List.{List, [], _∷_}
-use Prim.Native.Nat.{ℕ, _<_}
+use mathlib.Core.Path.{_≡_, sym, _∙_}
+use mathlib.Core.Bool.{false}
+use mathlib.Core.List.{List}
+use Prim.Native.Nat.{ℕ}
 use lib.ListN.{take, drop}
 use Rattle.resolved_sort.specs.declared.Run.{Run}
 use Rattle.resolved_sort.specs.declared.SortId.{SortId}
 use Rattle.resolved_sort.specs.declared.Sort.{Sort}
-use Rattle.resolved_sort.specs.declared.ComplexSort.{ComplexSort}
-use Rattle.resolved_sort.specs.Tree.{Tree, primitive, flat, container}
+use Rattle.resolved_sort.specs.Tree.{Tree, primitive, flat}
 use Rattle.resolved_sort.specs.Order.{materializable}
 use Rattle.resolved_sort.proofs.Numbers.{true-not-false}
 use Rattle.resolved_sort.proofs.Reached.{no-confusion}
@@ -23,7 +22,7 @@ use Rattle.inference.specs.declared.Constraint.the-variants.{Sub, Lit, D
 use Rattle.inference.specs.Constraints.{Problem}
 use Rattle.inference.specs.Search.{Choice}
 use Rattle.inference.specs.Names.{overloadIn}
-use Rattle.inference.specs.Typing.{Assignment, Has, All, and-all, In, here, there, Read, as-set, as-bag, as-bag-of-pos, Into, Meets, meets-sub, meets-lit, meets-disjunction, meets-comprehension, meets-join}
+use Rattle.inference.specs.Typing.{Assignment, Has, All, and-all, In, here, there, Read, Into, Meets, meets-sub, meets-lit, meets-disjunction, meets-comprehension, meets-join}
 
 module _ (shape : ℕ → Shape) (look : ℕ → Tree) (P : Problem) (σ : Assignment) where
   pub one-sort : (p : ℕ) (s t : Tree) → Has shape σ p s → Has shape σ p t → s ≡ t

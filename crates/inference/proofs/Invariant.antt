@@ -1,29 +1,29 @@
 -- What holds all through a search, and what each way of going on keeps. On a branch: the lists have grown from those given; the bindings pass their
 -- checks; whatever respects them respects the given ones; and every assignment that respects them meets the constraints passed so far, with the
--- components of the measure. Of the incumbent: one assignment for its whole typing. A way of going on that leaves the lists grown, with as many
--- nodes as before, and the incumbent so, keeps this. Assumes nothing.
-use mathlib.Core.Path.{_≡_, refl, sym, subst, _∙_, ap}
+-- components of the measure. Of the incumbent: one assignment for its whole typing. A way of going on that leaves the lists grown by sorts only, and
+-- the incumbent so, keeps this. Assumes nothing.
+use mathlib.Core.Path.{_≡_, refl, sym, _∙_, ap}
 use mathlib.Core.Bool.{Bool, true, false}
-use mathlib.Core.List.{List, [], _∷_, _++_}
+use mathlib.Core.List.{List, [], _∷_}
 use mathlib.Core.Option.{Option, none, some}
-use Prim.Native.Nat.{ℕ, zero, suc, _<_, _≤_}
+use mathlib.Core.Logic.{_↔_}
+use Prim.Native.Nat.{ℕ, _≤_}
 use native.Mathlib.Omega.{arith}
 use Rattle.resolved_sort.specs.Tree.{Tree}
 use Rattle.resolved_sort.specs.Rows.{AllBelow}
-use Rattle.unification.specs.Term.{Term, termOf}
+use Rattle.unification.specs.Term.{Term, termOf, put}
 use Rattle.unification.specs.Nodes.{Binds}
 use Rattle.unification.specs.Unify.{Unifies, yes-with, no-way, too-deep, unify}
 use Rattle.unification.specs.Solutions.{Respects, Equates}
-use Rattle.unification.specs.Making.{Lent, graph, Makes, made, no-list, no-room, withNodesOf}
-use Rattle.unification.proofs.Grows.{CheckedLent, PlacedIn, Grows, grows-refl, grows-trans, given-back-grows, respects-grown}
-use Rattle.unification.proofs.MakingGrows.{MadeFrom}
+use Rattle.unification.specs.Making.{Lent, graph, withNodesOf}
+use Rattle.unification.proofs.Grows.{CheckedLent, PlacedIn, Grows, grows-refl, grows-trans, given-back-grows, placed-grown, term-grown, respects-grown}
 use Rattle.unification.proofs.BindsGrow.{CheckedBinds, binds-name-places, checked-binds-grown}
 use Rattle.unification.proofs.Answers.{Agreeing, yes-agrees}
 use Rattle.inference.specs.declared.Constraint.{Constraint}
 use Rattle.inference.specs.Constraints.{Problem}
 use Rattle.inference.specs.Measure.{Components}
-use Rattle.inference.specs.Search.{Choice, Path, Candidate, World, Out, found, missed, ended, lending, orElse, andAlso, says, onYes, unifying, onMade, givenBack, sortIn, Next}
-use Rattle.inference.specs.Typing.{Assignment, Typed, all-typed, and-typed}
+use Rattle.inference.specs.Search.{Choice, Path, Candidate, World, Out, found, missed, ended, lending, orElse, andAlso, says, onYes, unifying, givenBack, sortIn}
+use Rattle.inference.specs.Typing.{Assignment, Has, All, none-left, and-all, Typed, all-typed, and-typed}
 use Rattle.inference.specs.Components.{Costing}
 
 -- what is claimed of the choices on a branch, an assignment and the measure
@@ -38,6 +38,30 @@ pub all-below-more : (n m : ℕ) → n ≤ m → (xs : List ℕ) → AllBelow n 
 unfolding AllBelow
 all-below-more n m l [] a = tt
 all-below-more n m l (x ∷ xs) a = (omega (arith, l, a .0), all-below-more n m l xs (a .1))
+
+-- the lists have grown by sorts only
+pub record SortsOnly (W W′ : Lent) : Type 0 where
+  pub grows : Grows W W′
+  pub nodes : W′ .lengths .nodes ≡ W .lengths .nodes
+  pub arguments : W′ .lengths .arguments ≡ W .lengths .arguments
+
+pub sorts-only-refl : (W : Lent) → CheckedLent W → SortsOnly W W
+sorts-only-refl W c = record { grows = grows-refl W c; nodes = refl; arguments = refl }
+
+pub sorts-only-trans : (W W′ W″ : Lent) → CheckedLent W → SortsOnly W W′ → SortsOnly W′ W″ → SortsOnly W W″
+sorts-only-trans W W′ W″ c g h = record { grows = grows-trans W c W′ W″ (g .grows) (h .grows); nodes = h .nodes ∙ g .nodes; arguments = h .arguments ∙ g .arguments }
+
+-- Places of the lists given, in lists that have grown: they are places, and have the sort that they had.
+module _ (W₀ : Lent) (c₀ : CheckedLent W₀) (W : Lent) (g : Grows W₀ W) where
+  pub still-placed : (ps : List ℕ) → All (PlacedIn W₀) ps → All (PlacedIn W) ps
+  still-placed _ none-left = none-left
+  still-placed _ (and-all p ps i is) = and-all p ps (placed-grown W₀ c₀ W g p i) (still-placed ps is)
+
+  pub same-sort : (ρ : Assignment) (p : ℕ) (t : Tree) → PlacedIn W₀ p → Has (graph W) ρ p t ↔ Has (graph W₀) ρ p t
+  same-sort ρ p t x = let y = ap (put (terms ρ)) (term-grown W₀ c₀ W g p x) in (λ h. sym y ∙ h, λ h. y ∙ h)
+
+  pub equal-have-one-sort : (ρ : Assignment) (l r : ℕ) (t : Tree) → PlacedIn W₀ l → PlacedIn W₀ r → Equates (graph W) (terms ρ) l r → Has (graph W₀) ρ l t → Has (graph W₀) ρ r t
+  equal-have-one-sort ρ l r t x y q h = same-sort ρ r t y .0 (sym q ∙ same-sort ρ l t x .1 h)
 
 module _ (W₀ : Lent) (B₀ : Binds) (P : Problem) where
   -- the constraints with their components, of the places and sorts given
@@ -64,11 +88,9 @@ module _ (W₀ : Lent) (B₀ : Binds) (P : Problem) where
   FineBest W (some c) = Fine W c
 
   module _ (Met : Type 0) where
-    -- what a branch leaves: lists grown, as many nodes as before, a fine incumbent; lists grown where room ended
+    -- what a branch leaves: lists grown by sorts only, a fine incumbent; lists grown where room ended
     pub record Went (W : Lent) (w : World Met) : Type 0 where
-      pub grows : Grows W (w .lent)
-      pub nodes : w .lent .lengths .nodes ≡ W .lengths .nodes
-      pub arguments : w .lent .lengths .arguments ≡ W .lengths .arguments
+      pub only : SortsOnly W (w .lent)
       pub best : FineBest (w .lent) (w .best)
 
     unfoldable pub Leaves : Lent → Out Met → Type 0
@@ -80,34 +102,15 @@ module _ (W₀ : Lent) (B₀ : Binds) (P : Problem) where
     abbrev pub Goes : Claim → (Path → World Met → Out Met) → Type 0
     Goes Q k = (e : Path) (w : World Met) → Sound (w .lent) e Q → FineBest (w .lent) (w .best) → Leaves (w .lent) (k e w)
 
-    -- a branch that leaves the lists so, seen from before
-    pub went-from : (W : Lent) → CheckedLent W → (W′ : Lent) → Grows W W′ → W′ .lengths .nodes ≡ W .lengths .nodes → W′ .lengths .arguments ≡ W .lengths .arguments
-        → (w : World Met) → Went W′ w → Went W w
-    went-from W c W′ g n a w x = record { grows = grows-trans W c W′ (w .lent) g (x .grows); nodes = x .nodes ∙ n; arguments = x .arguments ∙ a; best = x .best }
-
-    pub leaves-from : (W : Lent) → CheckedLent W → (W′ : Lent) → Grows W W′ → W′ .lengths .nodes ≡ W .lengths .nodes → W′ .lengths .arguments ≡ W .lengths .arguments
-        → (o : Out Met) → Leaves W′ o → Leaves W o
+    -- a branch on lists grown by sorts only, seen from before
+    pub leaves-from : (W : Lent) → CheckedLent W → (W′ : Lent) → SortsOnly W W′ → (o : Out Met) → Leaves W′ o → Leaves W o
     unfolding Leaves
-    leaves-from W c W′ g n a (found w) x = went-from W c W′ g n a w x
-    leaves-from W c W′ g n a (missed w) x = went-from W c W′ g n a w x
-    leaves-from W c W′ g n a (ended b w) x = grows-trans W c W′ (w .lent) g x
-
-    -- "where nothing was found, what else"
-    pub or-else-leaves : (W : Lent) → CheckedLent W → (o : Out Met) (f : World Met → Out Met) → Leaves W o → ((w : World Met) → Went W w → Leaves (w .lent) (f w)) → Leaves W (orElse o f)
-    unfolding Leaves
-    or-else-leaves W c (found w) f x y = x
-    or-else-leaves W c (missed w) f x y = leaves-from W c (w .lent) (x .grows) (x .nodes) (x .arguments) (f w) (y w x)
-    or-else-leaves W c (ended b w) f x y = x
-
-    pub and-also-leaves : (W : Lent) → CheckedLent W → (o : Out Met) (b : Bool) (f : Bool → World Met → Out Met) → Leaves W o
-        → ((b : Bool) (w : World Met) → Went W w → Leaves (w .lent) (f b w)) → Leaves W (andAlso o b f)
-    unfolding Leaves
-    and-also-leaves W c (found w) b f x y = leaves-from W c (w .lent) (x .grows) (x .nodes) (x .arguments) (f true w) (y true w x)
-    and-also-leaves W c (missed w) b f x y = leaves-from W c (w .lent) (x .grows) (x .nodes) (x .arguments) (f b w) (y b w x)
-    and-also-leaves W c (ended d w) b f x y = x
+    leaves-from W c W′ g (found w) x = record { only = sorts-only-trans W W′ (w .lent) c g (x .only); best = x .best }
+    leaves-from W c W′ g (missed w) x = record { only = sorts-only-trans W W′ (w .lent) c g (x .only); best = x .best }
+    leaves-from W c W′ g (ended b w) x = grows-trans W c W′ (w .lent) (g .grows) x
 
     pub stays : (w : World Met) → CheckedLent (w .lent) → FineBest (w .lent) (w .best) → Went (w .lent) w
-    stays w c f = record { grows = grows-refl (w .lent) c; nodes = refl; arguments = refl; best = f }
+    stays w c f = record { only = sorts-only-refl (w .lent) c; best = f }
 
     pub says-leaves : (b : Bool) (w : World Met) → CheckedLent (w .lent) → FineBest (w .lent) (w .best) → Leaves (w .lent) (says b w)
     unfolding Leaves
@@ -126,7 +129,10 @@ module _ (W₀ : Lent) (B₀ : Binds) (P : Problem) where
 
     back : (W : Lent) → CheckedLent W → (W′ : Lent) → Grows W W′ → (w : World Met) → Went W′ w → Went W (lending w (withNodesOf W (w .lent)))
     back W c W′ g w x =
-        record { grows = given-back-grows W (w .lent) c (grows-trans W c W′ (w .lent) g (x .grows)); nodes = refl; arguments = refl; best = fine-with-nodes W (w .lent) (w .best) (x .best) }
+        record {
+          only = record { grows = given-back-grows W (w .lent) c (grows-trans W c W′ (w .lent) g (x .only .grows)); nodes = refl; arguments = refl };
+          best = fine-with-nodes W (w .lent) (w .best) (x .best);
+        }
 
     -- "Nodes made for a widening are given back"
     pub given-back-leaves : (W : Lent) → CheckedLent W → (W′ : Lent) → Grows W W′ → (o : Out Met) → Leaves W′ o → Leaves W (givenBack W o)
@@ -166,31 +172,52 @@ module _ (W₀ : Lent) (B₀ : Binds) (P : Problem) where
         costs = f .costs;
       }
 
-  -- On from a yes: what is claimed of the new path holds of every assignment that respects the new bindings, since it respected the old ones and makes
-  -- the two places equal.
-  pub sound-on : (W : Lent) (e : Path) (Q : Claim) → Sound W e Q → (l r : ℕ) (C : Binds) → Agreeing W (e .binds) l r C → (ms : Components) (cs : List Choice) (R : Claim)
-      → ((ρ : Assignment) → Respects (graph W) C (terms ρ) → Equates (graph W) (terms ρ) l r → Q (e .choices) ρ (e .measure) → R cs ρ ms)
-      → Sound W (record { binds = C; measure = ms; choices = cs }) R
-  sound-on W e Q s l r C a ms cs R f =
-      record {
-        grown = s .grown;
-        binds = a .binds;
-        refines = λ σ x. s .refines σ (a .before σ x);
-        costs = λ ρ x. f ρ x (a .equal (terms ρ) x) (s .costs ρ (a .before (terms ρ) x));
-      }
-
   module _ (Met : Type 0) where
     -- what goes on where R is claimed goes on where Q is, which says more
     pub weaker-goes : (Q R : Claim) → ((ch : List Choice) (ρ : Assignment) (ms : Components) → Q ch ρ ms → R ch ρ ms) → (k : Path → World Met → Out Met) → Goes Met R k → Goes Met Q k
     weaker-goes Q R h k g e w s f =
         g e w (record { grown = s .grown; binds = s .binds; refines = s .refines; costs = λ ρ r. h (e .choices) ρ (e .measure) (s .costs ρ r) }) f
 
-    pub unifying-leaves : (e : Path) (w : World Met) (Q : Claim) → Sound (w .lent) e Q → FineBest (w .lent) (w .best) → (l r : ℕ) → PlacedIn (w .lent) l → PlacedIn (w .lent) r
-        → (k : Binds → World Met → Out Met) → ((C : Binds) → Agreeing (w .lent) (e .binds) l r C → Leaves Met (w .lent) (k C w)) → Leaves Met (w .lent) (unifying (e .binds) l r k w)
-    unfolding unifying
-    unifying-leaves e w Q s f l r x y k h = go (unify (graph (w .lent)) (e .binds) l r) refl
-      where
-        go : (U : Unifies) → unify (graph (w .lent)) (e .binds) l r ≡ U → Leaves Met (w .lent) (onYes U k w)
-        go (yes-with C) q = h C (yes-agrees (w .lent) (s .grown .checked) (e .binds) (s .binds) l r x y C q)
-        go no-way q = missed-leaves Met w (s .grown .checked) f
-        go too-deep q = missed-leaves Met w (s .grown .checked) f
+    module _ (e : Path) (w : World Met) (Q : Claim) (s : Sound (w .lent) e Q) where
+      -- what goes on from e after a branch
+      abbrev pub After : (World Met → Out Met) → Type 0
+      After f = (v : World Met) → Grows (w .lent) (v .lent) → Sound (v .lent) e Q → FineBest (v .lent) (v .best) → Leaves Met (v .lent) (f v)
+
+      after-leaves : CheckedLent W₀ → (f : World Met → Out Met) → After f → (v : World Met) → Went Met (w .lent) v → Leaves Met (w .lent) (f v)
+      after-leaves c₀ f y v x =
+          leaves-from Met (w .lent) (s .grown .checked) (v .lent) (x .only) (f v) (y v (x .only .grows) (sound-grown (w .lent) (v .lent) e Q c₀ s (x .only .grows)) (x .best))
+
+      -- "where nothing was found, what else"
+      pub or-else-leaves : CheckedLent W₀ → (o : Out Met) (f : World Met → Out Met) → Leaves Met (w .lent) o → After f → Leaves Met (w .lent) (orElse o f)
+      unfolding Leaves
+      or-else-leaves c₀ (found v) f x y = x
+      or-else-leaves c₀ (missed v) f x y = after-leaves c₀ f y v x
+      or-else-leaves c₀ (ended b v) f x y = x
+
+      pub and-also-leaves : CheckedLent W₀ → (o : Out Met) (b : Bool) (f : Bool → World Met → Out Met) → Leaves Met (w .lent) o → ((b : Bool) → After (f b)) → Leaves Met (w .lent) (andAlso o b f)
+      unfolding Leaves
+      and-also-leaves c₀ (found v) b f x y = after-leaves c₀ (f true) (y true) v x
+      and-also-leaves c₀ (missed v) b f x y = after-leaves c₀ (f b) (y b) v x
+      and-also-leaves c₀ (ended d v) b f x y = x
+
+      -- Two places made equal, and on from there, where R is claimed of every assignment that makes them equal.
+      pub unifying-leaves : FineBest (w .lent) (w .best) → (l r : ℕ) → PlacedIn (w .lent) l → PlacedIn (w .lent) r → (ms : Components) (cs : List Choice) (R : Claim)
+          → ((ρ : Assignment) → Respects (graph (w .lent)) (e .binds) (terms ρ) → Equates (graph (w .lent)) (terms ρ) l r → Q (e .choices) ρ (e .measure) → R cs ρ ms)
+          → (k : Binds → World Met → Out Met) → ((C : Binds) → Sound (w .lent) (record { binds = C; measure = ms; choices = cs }) R → Leaves Met (w .lent) (k C w))
+          → Leaves Met (w .lent) (unifying (e .binds) l r k w)
+      unfolding unifying
+      unifying-leaves f l r x y ms cs R h k on = go (unify (graph (w .lent)) (e .binds) l r) refl
+        where
+          sound-on : (C : Binds) → Agreeing (w .lent) (e .binds) l r C → Sound (w .lent) (record { binds = C; measure = ms; choices = cs }) R
+          sound-on C a =
+              record {
+                grown = s .grown;
+                binds = a .binds;
+                refines = λ σ z. s .refines σ (a .before σ z);
+                costs = λ ρ z. h ρ (a .before (terms ρ) z) (a .equal (terms ρ) z) (s .costs ρ (a .before (terms ρ) z));
+              }
+
+          go : (U : Unifies) → unify (graph (w .lent)) (e .binds) l r ≡ U → Leaves Met (w .lent) (onYes U k w)
+          go (yes-with C) q = on C (sound-on C (yes-agrees (w .lent) (s .grown .checked) (e .binds) (s .binds) l r x y C q))
+          go no-way q = missed-leaves Met w (s .grown .checked) f
+          go too-deep q = missed-leaves Met w (s .grown .checked) f

@@ -22,6 +22,7 @@ use Rattle.inference.specs.Search.{Path, Candidate, World, Out, found, m
 use Rattle.inference.specs.Typing.{All, none-left, and-all, In, here, there}
 use Rattle.inference.specs.SolveChecks.{Call, given, solveChecks}
 use Rattle.inference.specs.SolveEntry.{problemOf, start, lentOf, Left, over, countsIn, judgedBy, judged, verdict, solveEntry, codeSolved}
+use Rattle.inference.proofs.Accepted.{passed-is-searched}
 use Rattle.inference.proofs.Members.{not-in-nothing, in-all, all-weaker}
 use Rattle.inference.proofs.Measures.{compare-self, equal-are-one, AtMost, smaller-is-at-most, at-most-self, smaller-below, at-most-each-other-are-one, greater-mirrored}
 use Rattle.inference.proofs.Forgets.{history, history-has-the-verdict}
@@ -242,15 +243,10 @@ searched-by-leaves I w k (missed v) x f s = judged-by-leaves I (v .lent) (v .met
 searched-by-leaves I w k (ended c v) (inl i) f s = absurd (f i)
 searched-by-leaves I w k (ended c v) (inr i) f s = absurd (s i)
 
--- what a call leaves that passes its checks
-pub passed-is-searched : (I : Call) → firstFailing (solveChecks I) ≡ none → solveEntry I ≡ verdict I (history I)
-unfolding solveEntry
-passed-is-searched I e = rw e (sym (history-has-the-verdict I))
-
 pub verdict-by-leaves : (I : Call) → firstFailing (solveChecks I) ≡ none → (codeOf (solveEntry I) ≡ 15 → ⊥) → (codeOf (solveEntry I) ≡ 16 → ⊥) → ByLeaves I (solveEntry I) (leavesMet I)
 unfolding Kept
 verdict-by-leaves I e f s =
-    let i = passed-is-searched I e in
+    let i = passed-is-searched I e ∙ sym (history-has-the-verdict I) in
     subst (λ left. ByLeaves I left (leavesMet I)) (sym i)
     (searched-by-leaves I (record { lent = lentOf I; best = none; met = [] }) refl (history I) (search-meets (problemOf I) (given I) (start I) (record { lent = lentOf I; best = none; met = [] }))
     (λ q. f (ap codeOf i ∙ q)) (λ q. s (ap codeOf i ∙ q)))

@@ -3,6 +3,7 @@ pub mod Invariant
 pub mod MakingSorts
 pub mod Joining
 pub mod Leaf
+pub mod Tries
 pub mod Widening
 pub mod Alternatives
 pub mod Accepted
@@ -15,7 +16,6 @@ pub mod Measures
 pub mod Forgets
 pub mod Branches
 pub mod LeavesMet
-pub mod Passes
 pub mod Choices
 pub mod Clauses
 pub mod Compared

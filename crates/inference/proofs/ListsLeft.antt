@@ -1,30 +1,28 @@
 -- What a call that is accepted leaves of the lent lists. After 0, 17 and 18 the sorts have grown: the given ones stand as they were, new ones follow them,
 -- and no two are equal, so that each was made once. Where the search stands at its end there are as many nodes as were given, with the words that they had.
 -- By what the search leaves. Assumes nothing.
-use mathlib.Core.Path.{_≡_, refl, sym, subst, ap, _∙_}
+use mathlib.Core.Path.{_≡_, subst}
 use mathlib.Core.Bool.{Bool, true, false}
-use mathlib.Core.List.{List, []}
+use mathlib.Core.List.{List}
 use mathlib.Core.Option.{Option, none, some}
 use Prim.Native.Nat.{ℕ, _≤_}
 use lib.ListN.{length}
 use Rattle.resolved_sort.specs.declared.Counts.{Counts}
 use Rattle.resolved_sort.specs.Rows.{Checked}
 use Rattle.resolved_sort.specs.Checks.{firstFailing}
-use Rattle.resolved_sort.specs.Entries.{orElse}
 use Rattle.resolved_sort.proofs.Append.{Agrees}
 use Rattle.resolved_sort.proofs.Reached.{no-confusion}
 use Rattle.unification.specs.Nodes.{bindsOf}
 use Rattle.unification.specs.Making.{Lent}
 use Rattle.unification.proofs.Grows.{Grows, NodesAgree}
-use Rattle.inference.specs.declared.Outputs.{Outputs}
 use Rattle.inference.specs.declared.Solved.{Solved}
 use Rattle.inference.specs.declared.Solved.the-variants.{Refused, NoRoom, NoTyping, Ambiguous, Typing}
 use Rattle.inference.specs.Measure.{Components}
-use Rattle.inference.specs.Search.{Candidate, World, Out, found, missed, ended}
+use Rattle.inference.specs.Search.{Candidate, Out, found, missed, ended}
 use Rattle.inference.specs.SolveChecks.{Call, solveChecks}
-use Rattle.inference.specs.SolveEntry.{Left, problemOf, lentOf, refused, judged, judgedBy, verdict, searched, nothingMet, countsIn, solveEntry}
-use Rattle.inference.proofs.Invariant.{Went, Leaves}
-use Rattle.inference.proofs.Accepted.{accepted}
+use Rattle.inference.specs.SolveEntry.{problemOf, lentOf, judged, judgedBy, verdict, searched, nothingMet, countsIn, solveEntry}
+use Rattle.inference.proofs.Invariant.{Leaves}
+use Rattle.inference.proofs.Accepted.{accepted, refused-or-searched}
 use Rattle.inference.proofs.Together.{search-leaves}
 
 -- the counts that an answer gives of a list that is kept
@@ -57,18 +55,15 @@ module _ (I : Call) where
 
   -- After 0, 17 and 18 the sorts have grown.
   pub sorts-only-grow : (k : Counts) → countsOf (solveEntry I .answer) ≡ some k → SortsGrown (solveEntry I .sorts) k
-  unfolding solveEntry Leaves
-  sorts-only-grow k = go (firstFailing (solveChecks I)) refl
+  unfolding Leaves
+  sorts-only-grow k =
+      refused-or-searched I (λ L. countsOf (L .answer) ≡ some k → SortsGrown (L .sorts) k) (λ c l e. no-confusion cc)
+      (λ A. ends (searched (Unit {0}) nothingMet tt I) (search-leaves I A (Unit {0}) nothingMet tt))
     where
       ends : (O : Out (Unit {0})) → Leaves (lentOf I) (bindsOf (I .binds) (I .lengths .variables)) (problemOf I) (Unit {0}) (lentOf I) O → countsOf (verdict I O .answer) ≡ some k → SortsGrown (verdict I O .sorts) k
-      ends (found w) l e = by-best (w .lent) (w .best) (l .grows) k e
-      ends (missed w) l e = by-best (w .lent) (w .best) (l .grows) k e
+      ends (found w) l e = by-best (w .lent) (w .best) (l .only .grows) k e
+      ends (missed w) l e = by-best (w .lent) (w .best) (l .only .grows) k e
       ends (ended d w) l e = no-confusion cc
-
-      go : (x : Option ℕ) → firstFailing (solveChecks I) ≡ x → countsOf (orElse x (refused I) (verdict I (searched (Unit {0}) nothingMet tt I)) .answer) ≡ some k
-          → SortsGrown (orElse x (refused I) (verdict I (searched (Unit {0}) nothingMet tt I)) .sorts) k
-      go none q e = ends (searched (Unit {0}) nothingMet tt I) (search-leaves I (accepted I q) (Unit {0}) nothingMet tt) e
-      go (some d) q e = no-confusion cc
 
   -- where the search stands at its end: as many nodes as given, with their words; and given words also where room ended
   pub record ListsKept (W : Lent) : Type 0 where
@@ -88,6 +83,6 @@ module _ (I : Call) where
   search-gives-nodes-back f Met meet m = go (searched Met meet m I) (search-leaves I (accepted I f) Met meet m)
     where
       go : (O : Out Met) → Leaves (lentOf I) (bindsOf (I .binds) (I .lengths .variables)) (problemOf I) Met (lentOf I) O → Ends O
-      go (found w) l = (kept (w .lent) (l .grows), l .nodes, l .arguments)
-      go (missed w) l = (kept (w .lent) (l .grows), l .nodes, l .arguments)
+      go (found w) l = (kept (w .lent) (l .only .grows), l .only .nodes, l .only .arguments)
+      go (missed w) l = (kept (w .lent) (l .only .grows), l .only .nodes, l .only .arguments)
       go (ended d w) l = kept (w .lent) l

@@ -1,50 +1,41 @@
 -- What resolving places and joining sorts leave of the lent lists: only sorts were made, and what is answered stands for what was asked, under every
--- assignment that respects the bindings. One call after another, by the growth of lists. Assumes nothing.
+-- assignment that respects the bindings. One call after another, by the growth of lists. So what goes on with what was made goes on soundly. Assumes
+-- nothing.
 use mathlib.Core.Path.{_≡_, refl, sym, subst, ap, _∙_}
-use mathlib.Core.Bool.{Bool, true, false, cond, _&&_, and-eq-true-iff}
+use mathlib.Core.Bool.{Bool, true, false, cond, and-eq-true-iff}
 use mathlib.Core.List.{List, [], _∷_}
-use mathlib.Core.Option.{Option, none, some}
+use mathlib.Core.Option.{none, some}
 use Prim.Native.Nat.{ℕ, _<_, _≤_}
 use native.Mathlib.Omega.{arith}
 use Rattle.resolved_sort.specs.declared.Joined.{Joined}
 use Rattle.resolved_sort.specs.declared.Joined.the-variants.{At, Nothing as NotThere, Full}
-use Rattle.resolved_sort.specs.Tree.{Tree}
-use Rattle.resolved_sort.specs.Order.{bound as boundOf, join, Steps, distance, materializable}
+use Rattle.resolved_sort.specs.declared.ComplexSort.{ComplexSort}
+use Rattle.resolved_sort.specs.Tree.{Tree, container}
+use Rattle.resolved_sort.specs.Order.{join, Steps, distance, materializable}
 use Rattle.resolved_sort.specs.Rows.{AllBelow}
 use Rattle.resolved_sort.specs.Entries.{Stored}
-use Rattle.resolved_sort.specs.Bounds.{boundAt}
+use Rattle.resolved_sort.specs.Bounds.{boundAt, internAt}
 use Rattle.resolved_sort.proofs.Distance.{distance-exists-exactly}
 use Rattle.resolved_sort.proofs.Materializable.{materializable-below}
 use Rattle.unification.specs.declared.Default.{Default}
 use Rattle.unification.specs.declared.Default.the-variants.{Is, Nothing}
 use Rattle.unification.specs.Term.{Term, termOf, put}
-use Rattle.unification.specs.Nodes.{Binds, binding}
+use Rattle.unification.specs.Nodes.{Binds}
 use Rattle.unification.specs.Related.{each}
 use Rattle.unification.specs.Resolve.{value, DefaultBelow, termResolved}
-use Rattle.unification.specs.Solutions.{termAt, Respects}
-use Rattle.unification.specs.Making.{Lent, graph, Makes, made, no-list, no-room, _and-then_}
-use Rattle.unification.proofs.Grows.{CheckedLent, PlacedIn, Grows, grows-refl, grows-trans, placed-grown, term-grown, respects-grown}
+use Rattle.unification.specs.Making.{Lent, graph, Makes, made, no-list, no-room, _and-then_, withSorts, internContainer}
+use Rattle.unification.proofs.Grows.{CheckedLent, PlacedIn, Grows, placed-grown, term-grown, respects-grown}
 use Rattle.unification.proofs.BindsGrow.{CheckedBinds, binds-name-places, checked-binds-grown}
-use Rattle.unification.proofs.SortsLeft.{SortWith, Leaves}
+use Rattle.unification.proofs.MakingGrows.{MadeFrom, IsSort, container-grows}
+use Rattle.unification.proofs.SortsLeft.{SortWith, Leaves as LeavesSorts}
 use Rattle.unification.proofs.ResolveAnswers.{FreeHave, AlwaysStandsFor, ReachesFree, resolve-leaves}
 use Rattle.unification.proofs.BoundAnswers.{bound-leaves}
-use Rattle.inference.specs.Search.{makesSort, resolveIn, joinIn, resolveAll, Agreed, joinAll, sortIn, headOf, allInto, agreedBy, agreed, joinOf}
+use Rattle.inference.specs.Constraints.{Problem}
+use Rattle.inference.specs.Search.{Path, World, Out, lending, onMade, makesSort, resolveIn, joinIn, resolveAll, Agreed, joinAll, sortIn, headOf, allInto, agreedBy, agreed, joinOf}
 use Rattle.inference.specs.Measure.{Components}
 use Rattle.inference.specs.Typing.{All, and-all}
 use Rattle.inference.specs.Components.{where-there, joins}
-use Rattle.inference.proofs.Invariant.{all-below-more}
-
--- the lists have grown by sorts only
-pub record SortsOnly (W W′ : Lent) : Type 0 where
-  pub grows : Grows W W′
-  pub nodes : W′ .lengths .nodes ≡ W .lengths .nodes
-  pub arguments : W′ .lengths .arguments ≡ W .lengths .arguments
-
-pub sorts-only-refl : (W : Lent) → CheckedLent W → SortsOnly W W
-sorts-only-refl W c = record { grows = grows-refl W c; nodes = refl; arguments = refl }
-
-pub sorts-only-trans : (W W′ W″ : Lent) → CheckedLent W → SortsOnly W W′ → SortsOnly W′ W″ → SortsOnly W W″
-sorts-only-trans W W′ W″ c g h = record { grows = grows-trans W c W′ W″ (g .grows) (h .grows); nodes = h .nodes ∙ g .nodes; arguments = h .arguments ∙ g .arguments }
+use Rattle.inference.proofs.Invariant.{Claim, SortsOnly, sorts-only-refl, sorts-only-trans, Sound, FineBest, Leaves, leaves-from, sound-grown, fine-grown, all-below-more}
 
 -- only sorts were made, and what is made is so; none only if N; no room is 15
 unfoldable pub MadeSorts : {A : Type 0} → (Lent → A → Type 0) → Type 0 → Lent → Makes A → Type 0
@@ -79,11 +70,24 @@ some-none In N W (no-list W′) h = (h .0, tt)
 some-none In N W (no-room d W′) h = h
 
 -- a call that makes sorts, by what it leaves
-makes-sort : (T : Tree → Type 0) (N : Type 0) (W : Lent) (r : Stored) (j : Joined) → Leaves T N W (r .words) j → MadeSorts (SortWith T) N W (makesSort W r j)
-unfolding Leaves MadeSorts
+makes-sort : (T : Tree → Type 0) (N : Type 0) (W : Lent) (r : Stored) (j : Joined) → LeavesSorts T N W (r .words) j → MadeSorts (SortWith T) N W (makesSort W r j)
+unfolding LeavesSorts MadeSorts
 makes-sort T N W r (At id k) h = (record { grows = h .0; nodes = refl; arguments = refl }, h .1)
 makes-sort T N W r (NotThere k) h = (record { grows = h .0; nodes = refl; arguments = refl }, h .1)
 makes-sort T N W r Full h = (record { grows = h .0; nodes = refl; arguments = refl }, refl)
+
+-- a container that is interned
+pub container-makes : (W : Lent) → CheckedLent W → (o : ComplexSort) (s : ℕ) → s < W .lengths .sorts → MadeSorts (IsSort (container o (sortIn W s))) (Unit {0}) W (internContainer o s W)
+unfolding MadeSorts MadeFrom internContainer
+container-makes W c o s l = go (internAt (W .sorts) (W .lengths .sorts) (W .lengths .entries) (container o (sortIn W s))) (container-grows W c o s l)
+  where
+    by : (r : Stored) (j : Joined) → MadeFrom (IsSort (container o (sortIn W s))) W (withSorts W r j) → MadeSorts (IsSort (container o (sortIn W s))) (Unit {0}) W (withSorts W r j)
+    by r (At id k) m = (record { grows = m .0; nodes = refl; arguments = refl }, m .1)
+    by r (NotThere k) m = (record { grows = m; nodes = refl; arguments = refl }, tt)
+    by r Full m = (record { grows = m; nodes = refl; arguments = refl }, refl)
+
+    go : (r : Stored) → MadeFrom (IsSort (container o (sortIn W s))) W (withSorts W r (r .answer)) → MadeSorts (IsSort (container o (sortIn W s))) (Unit {0}) W (withSorts W r (r .answer))
+    go r = by r (r .answer)
 
 -- there is no default
 abbrev pub NoDefault : Default → Type 0
@@ -226,3 +230,18 @@ join-of-makes W c B b ps i =
     (λ ss W′ g t.
     sorts-so (IsAgreed (each (sortIn W′) ss)) (Agree W B ps) (Unit {0}) W′ (agreed ss W′) (agreed-makes ss W′ (g .grows .checked) (stand-below W B Nothing W′ ps ss t))
     (λ a W″ h q. record { lists = W′; sorts = ss; stand = t; agreed = q }))
+
+-- On with what was made, where only sorts were.
+module _ (W₀ : Lent) (B₀ : Binds) (P : Problem) (c₀ : CheckedLent W₀) (Met : Type 0) where
+  pub on-made-leaves : {A : Type 0} (In : Lent → A → Type 0) (N : Type 0) (e : Path) (w : World Met) (Q : Claim) → Sound W₀ B₀ P (w .lent) e Q → FineBest W₀ B₀ P (w .lent) (w .best)
+      → (O : Makes A) → MadeSorts In N (w .lent) O → (k : A → World Met → Out Met) (f : World Met → Out Met)
+      → ((a : A) (v : World Met) → Grows (w .lent) (v .lent) → Sound W₀ B₀ P (v .lent) e Q → FineBest W₀ B₀ P (v .lent) (v .best) → In (v .lent) a → Leaves W₀ B₀ P Met (v .lent) (k a v))
+      → ((v : World Met) → Sound W₀ B₀ P (v .lent) e Q → FineBest W₀ B₀ P (v .lent) (v .best) → Leaves W₀ B₀ P Met (v .lent) (f v)) → Leaves W₀ B₀ P Met (w .lent) (onMade O k f w)
+  unfolding MadeSorts Leaves
+  on-made-leaves In N e w Q s b (made a W′) m k f x y =
+      leaves-from W₀ B₀ P Met (w .lent) (s .grown .checked) W′ (m .0) (k a (lending w W′))
+      (x a (lending w W′) (m .0 .grows) (sound-grown W₀ B₀ P (w .lent) W′ e Q c₀ s (m .0 .grows)) (fine-grown W₀ B₀ P (w .lent) W′ (m .0 .grows) (w .best) b) (m .1))
+  on-made-leaves In N e w Q s b (no-list W′) m k f x y =
+      leaves-from W₀ B₀ P Met (w .lent) (s .grown .checked) W′ (m .0) (f (lending w W′))
+      (y (lending w W′) (sound-grown W₀ B₀ P (w .lent) W′ e Q c₀ s (m .0 .grows)) (fine-grown W₀ B₀ P (w .lent) W′ (m .0 .grows) (w .best) b))
+  on-made-leaves In N e w Q s b (no-room c W′) m k f x y = m .0 .grows

@@ -1,10 +1,11 @@
--- What is in a list, and what holds of all in it. By induction on the list. Assumes nothing.
-use mathlib.Core.Path.{_≡_, refl, subst}
+-- What is in a list, what holds of all in it, and lists of rows that are read one by one. By induction on the list. Assumes nothing.
+use mathlib.Core.Path.{_≡_, refl, sym, ap, subst, _∙_}
 use mathlib.Core.List.{List, [], _∷_, _++_}
 use mathlib.Core.Logic.{_⊎_, inl, inr}
-use Prim.Native.Nat.{ℕ, zero, suc, _+_, _<_}
+use Prim.Native.Nat.{ℕ, zero, suc, _+_, _<_, _≤_}
 use native.Mathlib.Omega.{arith}
-use lib.ListN.{length}
+use native.Mathlib.Nat.{add-zero}
+use lib.ListN.{length, getD, take, drop}
 use Rattle.inference.specs.Constraints.{rowsFrom}
 use Rattle.inference.specs.Typing.{All, none-left, and-all, In, here, there}
 
@@ -23,6 +24,10 @@ module _ {A : Type 0} where
   in-right x [] ys i = i
   in-right x (z ∷ xs) ys i = there z (xs ++ ys) (in-right x xs ys i)
 
+  pub in-left : (x : A) (xs ys : List A) → In x xs → In x (xs ++ ys)
+  in-left x _ ys (here xs) = here (xs ++ ys)
+  in-left x _ ys (there y xs i) = there y (xs ++ ys) (in-left x xs ys i)
+
   pub in-all : (P : A → Type 0) (x : A) (xs : List A) → All P xs → In x xs → P x
   in-all P x _ (and-all _ xs p a) (here _) = p
   in-all P x _ (and-all y xs p a) (there _ _ i) = in-all P x xs a i
@@ -37,7 +42,38 @@ module _ {A : Type 0} where
   length-rows row i zero = refl
   length-rows row i (suc n) = omega (arith, length-rows row (i + 1) n)
 
-  pub all-rows : (P : A → Type 0) (row : ℕ → A) (i n : ℕ) → ((j : ℕ) → j < i + n → P (row j)) → All P (rowsFrom row i n)
+  row-in : (row : ℕ → A) (d : A) (i n j : ℕ) → j < n → getD (rowsFrom row i n) j d ≡ row (i + j)
   unfolding rowsFrom
-  all-rows P row i zero h = none-left
-  all-rows P row i (suc n) h = and-all (row i) (rowsFrom row (i + 1) n) (h i (omega arith)) (all-rows P row (i + 1) n (λ j l. h j (omega (arith, l))))
+  row-in row d i zero j l = absurd (omega (arith, l))
+  row-in row d i (suc n) zero l = ap row (sym (add-zero i))
+  row-in row d i (suc n) (suc j) l = row-in row d (i + 1) n j (omega (arith, l)) ∙ ap row (omega arith)
+
+  pub all-rows : (R : A → Type 0) (row : ℕ → A) (i n : ℕ) → ((j : ℕ) → j < n → R (row (i + j))) → All R (rowsFrom row i n)
+  unfolding rowsFrom
+  all-rows R row i zero h = none-left
+  all-rows R row i (suc n) h =
+      and-all (row i) (rowsFrom row (i + 1) n) (subst (λ (j : ℕ). R (row j)) (add-zero i) (h 0 (omega arith)))
+      (all-rows R row (i + 1) n (λ j l. subst (λ (x : ℕ). R (row x)) (omega arith) (h (suc j) (omega (arith, l)))))
+
+  take-rows : (row : ℕ → A) (i n c : ℕ) → c ≤ n → take c (rowsFrom row i n) ≡ rowsFrom row i c
+  unfolding rowsFrom
+  take-rows row i n zero l = refl
+  take-rows row i zero (suc c) l = absurd (omega (arith, l))
+  take-rows row i (suc n) (suc c) l = ap (λ xs. row i ∷ xs) (take-rows row (i + 1) n c (omega (arith, l)))
+
+  -- a run inside a list of rows
+  run-rows : (row : ℕ → A) (s i n c : ℕ) → s + c ≤ n → take c (drop s (rowsFrom row i n)) ≡ rowsFrom row (i + s) c
+  unfolding rowsFrom
+  run-rows row zero i n c l = take-rows row i n c (omega (arith, l)) ∙ ap (λ (j : ℕ). rowsFrom row j c) (sym (add-zero i))
+  run-rows row (suc s) i zero c l = absurd (omega (arith, l))
+  run-rows row (suc s) i (suc n) c l = run-rows row s (i + 1) n c (omega (arith, l)) ∙ ap (λ (j : ℕ). rowsFrom row j c) (omega arith)
+
+  -- and from the first on
+  pub row-at : (row : ℕ → A) (d : A) (n j : ℕ) → j < n → getD (rowsFrom row 0 n) j d ≡ row j
+  row-at row d n j l = row-in row d 0 n j l ∙ ap row (omega arith)
+
+  pub all-rows-at : (R : A → Type 0) (row : ℕ → A) (n : ℕ) → ((j : ℕ) → j < n → R (row j)) → All R (rowsFrom row 0 n)
+  all-rows-at R row n h = all-rows R row 0 n (λ j l. subst (λ (x : ℕ). R (row x)) (omega arith) (h j l))
+
+  pub run-at : (row : ℕ → A) (n s c : ℕ) → s + c ≤ n → take c (drop s (rowsFrom row 0 n)) ≡ rowsFrom row s c
+  run-at row n s c l = run-rows row s 0 n c l ∙ ap (λ (j : ℕ). rowsFrom row j c) (omega arith)

@@ -1,26 +1,25 @@
 -- An accepted list without constraints has a typing, unless room for sorts ends: its one leaf is met at once, nothing is before it, and with a default
 -- each place has a sort. Assumes nothing.
-use mathlib.Core.Path.{_≡_, refl, sym, subst, ap, _∙_}
+use mathlib.Core.Path.{_≡_, refl, sym, subst, ap}
 use mathlib.Core.Bool.{false}
-use mathlib.Core.List.{List, [], _∷_}
-use mathlib.Core.Option.{Option, none, some}
+use mathlib.Core.List.{List, []}
+use mathlib.Core.Option.{none}
 use mathlib.Core.Logic.{_⊎_, inl, inr}
 use Prim.Native.Nat.{ℕ}
 use Rattle.resolved_sort.specs.Checks.{firstFailing}
-use Rattle.resolved_sort.specs.Entries.{orElse}
 use Rattle.unification.specs.declared.Default.the-variants.{Is}
-use Rattle.unification.specs.Nodes.{bindsOf}
 use Rattle.unification.specs.Making.{Lent, Makes, made, no-list, no-room}
 use Rattle.inference.specs.declared.Constraint.{Constraint}
 use Rattle.inference.specs.declared.Outputs.{Outputs}
 use Rattle.inference.specs.declared.Solved.{Solved}
 use Rattle.inference.specs.declared.Solved.the-variants.{NoRoom, Typing}
 use Rattle.inference.specs.Constraints.{constraintAt, rowsFrom, Problem}
-use Rattle.inference.specs.Search.{World, Out, found, missed, keeping, onMade, resolveAll, leaf, replace, solve}
+use Rattle.inference.specs.Search.{World, found, missed, keeping, onMade, resolveAll, leaf, solve}
 use Rattle.inference.specs.SolveChecks.{Call, given, solveChecks}
-use Rattle.inference.specs.SolveEntry.{problemOf, start, lentOf, searched, refused, verdict, nothingMet, solveEntry}
-use Rattle.inference.proofs.Accepted.{Accepted, accepted}
-use Rattle.inference.proofs.MakingSorts.{MadeSorts, StandAll, sorts-only-refl, resolve-all-makes}
+use Rattle.inference.specs.SolveEntry.{Left, problemOf, start, lentOf, verdict, nothingMet, solveEntry}
+use Rattle.inference.proofs.Accepted.{Accepted, accepted, passed-is-searched}
+use Rattle.inference.proofs.Invariant.{sorts-only-refl}
+use Rattle.inference.proofs.MakingSorts.{MadeSorts, StandAll, resolve-all-makes}
 
 module _ (I : Call) where
   abbrev W : Lent
@@ -55,7 +54,6 @@ module _ (I : Call) where
   none-given e = ap (rowsFrom (constraintAt (I .constraints)) 0) e
 
   pub no-constraints-is-a-typing : firstFailing (solveChecks I) ≡ none → I .rows .constraints ≡ 0 → TypingOr15 (solveEntry I .answer)
-  unfolding solveEntry
   no-constraints-is-a-typing f e =
-      subst (λ (x : Option ℕ). TypingOr15 (orElse x (refused I) (verdict I (searched (Unit {0}) nothingMet tt I)) .answer)) (sym f)
+      subst (λ (L : Left). TypingOr15 (L .answer)) (sym (passed-is-searched I f))
       (subst (λ (cs : List Constraint). TypingOr15 (verdict I (solve (Unit {0}) nothingMet P cs (start I) first-world) .answer)) (sym (none-given e)) (one-leaf (accepted I f)))

@@ -1,13 +1,12 @@
 -- The 11 starred situations of document 01, as one list with its 13 runs, computed by the definition that the solver's contract cites: code, sorts of
 -- the expressions and measure. By computation. Assumes nothing.
 use mathlib.Core.Path.{_≡_, refl}
-use mathlib.Core.Bool.{Bool, true, false}
+use mathlib.Core.Bool.{Bool}
 use mathlib.Core.List.{List, [], _∷_, _++_, map}
 use Prim.Native.Nat.{ℕ, _+_, _*_, _-_, _/_}
 use lib.ListN.{length, replicate, take, getD}
 use Rattle.resolved_sort.specs.declared.Sort.{Sort}
-use Rattle.resolved_sort.specs.declared.ComplexSort.{ComplexSort}
-use Rattle.resolved_sort.specs.Tree.{Tree, flat, primitive, container, function, Trees, end, arg}
+use Rattle.resolved_sort.specs.Tree.{Tree, flat, primitive, function, end, arg}
 use Rattle.resolved_sort.specs.Tree as Tree
 use Rattle.resolved_sort.specs.Order as Order
 use Rattle.resolved_sort.specs.Interning as Interning
@@ -30,7 +29,6 @@ use Rattle.inference.specs.declared.Solved.the-variants.{Refused, NoRoom
 use Rattle.inference.specs.Constraints as Constraints
 use Rattle.inference.specs.Measure as Measure
 use Rattle.inference.specs.Search as Search
-use Rattle.inference.specs.Names as Names
 use Rattle.inference.specs.SolveChecks.{Call}
 use Rattle.inference.specs.SolveChecks as SolveChecks
 use Rattle.inference.specs.SolveEntry.{Left, solveEntry, codeSolved}

@@ -1,9 +1,9 @@
 -- Every constraint goes on soundly, so the whole search does: by induction over the constraints, each of which adds its components to what was passed.
 -- Assumes nothing.
-use mathlib.Core.Path.{_≡_, refl, sym, subst, ap, _∙_}
+use mathlib.Core.Path.{_≡_, sym, subst, _∙_}
 use mathlib.Core.Bool.{Bool, true, false, cond}
-use mathlib.Core.List.{List, [], _∷_, _++_}
-use Prim.Native.Nat.{ℕ, _<_}
+use mathlib.Core.List.{List, [], _∷_, _++_, append-assoc, append-nil}
+use Prim.Native.Nat.{_<_}
 use lib.ListN.{take, drop}
 use Rattle.resolved_sort.specs.Checks.{fixedSix}
 use Rattle.unification.specs.Nodes.{Binds}
@@ -13,9 +13,10 @@ use Rattle.inference.specs.declared.Constraint.{Constraint}
 use Rattle.inference.specs.declared.Constraint.the-variants.{Sub, Lit, Disjunction, Comprehension, Join}
 use Rattle.inference.specs.Constraints.{Problem}
 use Rattle.inference.specs.Measure.{Components}
-use Rattle.inference.specs.Search.{Choice, Path, World, Out, Next, sortIn, step, solve, leaf, dominatedBy, missed, sequence, joining}
-use Rattle.inference.specs.Typing.{Assignment, All, none-left, and-all, In, here, there, Meets, meets-sub, meets-lit, meets-disjunction, meets-comprehension, meets-join}
-use Rattle.inference.specs.Components.{Costs, sub-costs, lit-costs, disjunction-costs, comprehension-costs, agreed-costs, sequence-costs, Costing, nothing-costs, and-costs}
+use Rattle.inference.specs.Search.{Choice, Path, World, Next, sortIn, step, solve, leaf, dominatedBy, missed}
+use Rattle.inference.specs.Typing.{Assignment, All, and-all, here, Meets, meets-sub, meets-lit, meets-disjunction, meets-comprehension, meets-join}
+use Rattle.inference.specs.Components.{Costs, sub-costs, lit-costs, disjunction-costs, comprehension-costs, agreed-costs, sequence-costs, nothing-costs, and-costs}
+use Rattle.inference.proofs.Members.{in-left, in-right}
 use Rattle.inference.proofs.Invariant.{Claim, Cost, Sound, FineBest, Leaves, Goes, missed-leaves, weaker-goes}
 use Rattle.inference.proofs.Joining.{joining-goes}
 use Rattle.inference.proofs.Leaf.{leaf-goes}
@@ -23,28 +24,12 @@ use Rattle.inference.proofs.Widening.{widening-goes, sequence-goes}
 use Rattle.inference.proofs.Alternatives.{disjunction-goes, comprehension-goes, literal-goes}
 use Rattle.inference.proofs.Accepted.{Listed, sub-listed, lit-listed, disjunction-listed, comprehension-listed, join-listed}
 
-append-nil : {A : Type 0} (xs : List A) → xs ++ [] ≡ xs
-append-nil [] = refl
-append-nil (x ∷ xs) = ap (λ ys. x ∷ ys) (append-nil xs)
-
-append-assoc : {A : Type 0} (xs ys zs : List A) → (xs ++ ys) ++ zs ≡ xs ++ (ys ++ zs)
-append-assoc [] ys zs = refl
-append-assoc (x ∷ xs) ys zs = ap (λ us. x ∷ us) (append-assoc xs ys zs)
-
-in-front : {A : Type 0} (x : A) (xs ys : List A) → In x xs → In x (xs ++ ys)
-in-front x _ ys (here xs) = here (xs ++ ys)
-in-front x _ ys (there y xs i) = there y (xs ++ ys) (in-front x xs ys i)
-
-in-last : {A : Type 0} (x : A) (xs : List A) → In x (xs ++ (x ∷ []))
-in-last x [] = here []
-in-last x (y ∷ xs) = there y (xs ++ (x ∷ [])) (in-last x xs)
-
 module _ (W₀ : Lent) (B₀ : Binds) (P : Problem) where
   -- what is met stays met when there are more choices
   more-meets : (ch xs : List Choice) (ρ : Assignment) (c : Constraint) → Meets (graph W₀) (sortIn W₀) P ch ρ c → Meets (graph W₀) (sortIn W₀) P (ch ++ xs) ρ c
   more-meets ch xs ρ _ (meets-sub l r t h i) = meets-sub l r t h i
   more-meets ch xs ρ _ (meets-lit p kind s h a) = meets-lit p kind s h a
-  more-meets ch xs ρ _ (meets-disjunction x p run i t m l h g) = meets-disjunction x p run i t (in-front _ ch xs m) l h g
+  more-meets ch xs ρ _ (meets-disjunction x p run i t m l h g) = meets-disjunction x p run i t (in-left _ ch xs m) l h g
   more-meets ch xs ρ _ (meets-comprehension b n e s t h g r) = meets-comprehension b n e s t h g r
   more-meets ch xs ρ _ (meets-join run t u h a) = meets-join run t u h a
 
@@ -89,11 +74,11 @@ module _ (W₀ : Lent) (B₀ : Binds) (P : Problem) where
         disjunction-goes W₀ B₀ P c₀ six Met meet x p run y o (Passed done) (Passed (done ++ (Disjunction x p run ∷ [])))
         (λ ch ρ ms i t q l h j.
         and-free (ch ++ (record { expr = x .0; position = i } ∷ [])) ρ done ms (Disjunction x p run) (more-choices ch (record { expr = x .0; position = i } ∷ []) ρ done ms q)
-        (disjunction-costs x p run (meets-disjunction x p run i t (in-last (record { expr = x .0; position = i }) ch) l h j))) k g
+        (disjunction-costs x p run (meets-disjunction x p run i t (in-right _ ch _ (here [])) l h j))) k g
     step-goes done _ (comprehension-listed body node element x y l) k g =
         comprehension-goes W₀ B₀ P c₀ six Met meet (body .0) (node .0) (element .0) x y l (Passed done) (Passed (done ++ (Comprehension body node element ∷ [])))
         (λ ch ρ ms s t q h j r. and-free ch ρ done ms (Comprehension body node element) q (comprehension-costs body node element (meets-comprehension body node element s t h j r))) k g
-    step-goes done _ (join-listed run t x a) k g =
+    step-goes done _ (join-listed run t x f a) k g =
         let ss = take (run .count) (drop (run .start) (P .sources)) in
         let Q = Passed done in
         let R = Passed (done ++ (Join run t ∷ [])) in

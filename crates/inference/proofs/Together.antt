@@ -7,18 +7,15 @@ use mathlib.Core.List.{List, [], _∷_, _++_}
 use mathlib.Core.Option.{Option, none, some}
 use Prim.Native.Nat.{ℕ, zero, suc, _+_, _*_, _<_}
 use native.Mathlib.Omega.{arith}
-use lib.ListN.{length, getD, take, drop}
+use lib.ListN.{length, getD, take}
+use lib.Seq.{take-append-seam}
 use Rattle.resolved_sort.specs.declared.Sort.{Sort}
 use Rattle.resolved_sort.specs.Tree.{Tree}
-use Rattle.resolved_sort.specs.Order.{Steps, materializable}
-use Rattle.resolved_sort.specs.Checks.{firstFailing}
-use Rattle.resolved_sort.specs.Entries.{orElse, treeAt}
+use Rattle.resolved_sort.specs.Order.{materializable}
+use Rattle.resolved_sort.specs.Entries.{treeAt}
 use Rattle.resolved_sort.proofs.Materializable.{materializable-refl}
 use Rattle.resolved_sort.proofs.Reached.{no-confusion}
-use Rattle.unification.specs.Term.{put, termOf}
-use Rattle.unification.specs.Nodes.{Binds, binding, bindsOf}
-use Rattle.unification.specs.Related.{related, Member}
-use Rattle.unification.specs.Solutions.{termAt}
+use Rattle.unification.specs.Nodes.{Binds, bindsOf}
 use Rattle.unification.specs.Making.{Lent, graph}
 use Rattle.unification.proofs.Grows.{grows-refl}
 use Rattle.unification.proofs.Wider.{nearest-first}
@@ -26,18 +23,18 @@ use Rattle.inference.specs.declared.LitKind.{LitKind}
 use Rattle.inference.specs.declared.LitKind.the-variants.{Positive, Natural}
 use Rattle.inference.specs.declared.Constraint.{Constraint}
 use Rattle.inference.specs.declared.Outputs.{Outputs}
-use Rattle.inference.specs.declared.Solved.{Solved}
-use Rattle.inference.specs.declared.Solved.the-variants.{Refused, NoRoom, NoTyping, Ambiguous, Typing}
+use Rattle.inference.specs.declared.Solved.the-variants.{Typing}
 use Rattle.inference.specs.Constraints.{rowsFrom, Problem}
 use Rattle.inference.specs.Measure.{Components}
-use Rattle.inference.specs.Search.{Choice, Candidate, World, Out, found, missed, ended, sortIn, litComponent, solve}
-use Rattle.inference.specs.Typing.{Assignment, Has, admits, All, none-left, and-all, Into, Typed, all-typed, and-typed, Meets, meets-sub, meets-lit, meets-join, HoldsTogether}
+use Rattle.inference.specs.Search.{Choice, Candidate, Out, found, missed, ended, sortIn, litComponent}
+use Rattle.inference.specs.Typing.{Assignment, admits, All, none-left, and-all, Into, Typed, all-typed, and-typed, Meets, meets-sub, meets-lit, meets-join, HoldsTogether}
 use Rattle.inference.specs.Components.{Widened, equal-to, wider-by, Heads, no-heads, and-head, Sequence, no-source, and-source, Costs, sub-costs, lit-costs, disjunction-costs, comprehension-costs, agreed-costs, sequence-costs, Costing, nothing-costs, and-costs}
-use Rattle.inference.specs.SolveChecks.{Call, solveChecks}
-use Rattle.inference.specs.SolveEntry.{problemOf, start, lentOf, searched, Left, refused, typingRows, countsIn, judged, judgedBy, verdict, nothingMet, solveEntry}
-use Rattle.inference.proofs.Invariant.{Cost, Sound, Fine, FineBest, Went, Leaves}
-use Rattle.inference.proofs.Accepted.{Accepted, accepted, length-rows}
-use Rattle.inference.proofs.Steps.{Passed, solve-goes}
+use Rattle.inference.specs.SolveChecks.{Call}
+use Rattle.inference.specs.SolveEntry.{problemOf, start, lentOf, searched, Left, typingRows, countsIn, judged, judgedBy, verdict, nothingMet, solveEntry}
+use Rattle.inference.proofs.Members.{length-rows}
+use Rattle.inference.proofs.Invariant.{Cost, Fine, FineBest, Leaves}
+use Rattle.inference.proofs.Accepted.{Accepted, refused-or-searched}
+use Rattle.inference.proofs.Steps.{solve-goes}
 
 -- what is met at a cost is met
 pub widened-materializes : (s t : Tree) (n : ℕ) → Widened s t n → materializable s t ≡ true
@@ -100,10 +97,6 @@ rows-are (s ∷ ss) row i (suc n) e h =
     let b : rowsFrom row (i + 1) n ≡ ss = rows-are ss row (i + 1) n (omega (arith, e)) (λ j l. ap row (omega arith) ∙ h (suc j) (omega (arith, l))) in
     cc
 
-take-front : (xs ys : List ℕ) → take (length xs) (xs ++ ys) ≡ xs
-take-front [] ys = refl
-take-front (x ∷ xs) ys = ap (λ zs. x ∷ zs) (take-front xs ys)
-
 module _ (I : Call) where
   abbrev W₀ : Lent
   W₀ = lentOf I
@@ -142,7 +135,7 @@ module _ (I : Call) where
       let ss : sortsOut (judgedBy I W c false) ≡ c .sorts =
       rows-are (c .sorts) (λ i. getD (judgedBy I W c false .typing) (3 * i) 0) 0 (I .rows .exprs) (sym many)
       (λ j l. ap (λ (i : ℕ). getD (judgedBy I W c false .typing) (3 * i) 0) (omega arith) ∙ sort-row I (c .choices) 0 (c .sorts) _ j l) in
-      let ms : measureOut (judgedBy I W c false) o ≡ c .measure = ap (λ (n : ℕ). take n (judgedBy I W c false .measure)) y ∙ take-front (c .measure) _ in
+      let ms : measureOut (judgedBy I W c false) o ≡ c .measure = ap (λ (n : ℕ). take n (judgedBy I W c false .measure)) y ∙ take-append-seam (c .measure) _ in
       record {
         together =
             record {
@@ -173,13 +166,9 @@ module _ (I : Call) where
 
   -- Every typing is explained: no premise but code 0.
   pub every-typing-is-explained : (o : Outputs) → solveEntry I .answer ≡ Typing o → Explained (solveEntry I) o
-  unfolding solveEntry
-  every-typing-is-explained o = go (firstFailing (solveChecks I)) refl
-    where
-      go : (x : Option ℕ) → firstFailing (solveChecks I) ≡ x → orElse x (refused I) (verdict I (searched (Unit {0}) nothingMet tt I)) .answer ≡ Typing o
-          → Explained (orElse x (refused I) (verdict I (searched (Unit {0}) nothingMet tt I))) o
-      go none q e = by-verdict (searched (Unit {0}) nothingMet tt I) (search-leaves (accepted I q) (Unit {0}) nothingMet tt) o e
-      go (some d) q e = no-confusion cc
+  every-typing-is-explained o =
+      refused-or-searched I (λ L. L .answer ≡ Typing o → Explained L o) (λ c l e. no-confusion cc)
+      (λ A. by-verdict (searched (Unit {0}) nothingMet tt I) (search-leaves A (Unit {0}) nothingMet tt) o)
 
   -- Demand 3.
   pub typing-holds-together : (o : Outputs) → solveEntry I .answer ≡ Typing o

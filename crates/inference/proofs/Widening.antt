@@ -1,23 +1,21 @@
--- Widenings keep what holds all through a search. A try that goes on has made its two places equal, so that under every assignment that respects the
--- new bindings the claim of what comes next holds with its component. Of a widening: the places are equal; or the right side is the i-th of the
--- places that stand for the wider sorts of the left side; or the left side is the i-th narrower sort of the right, which then is the i-th wider sort of
--- the left. A Join's sources go one after another, each leaving the claim that whatever the rest adds is what is wanted. Assumes nothing.
-use mathlib.Core.Path.{_≡_, refl, ap, sym, subst, _∙_}
+-- Widenings keep what holds all through a search, by tries: the places are equal; or the right side is the i-th of the places that stand for the wider
+-- sorts of the left side; or the left side is the i-th narrower sort of the right, which then is the i-th wider sort of the left. A Join's sources go
+-- one after another, each leaving the claim that whatever the rest adds is what is wanted. Assumes nothing.
+use mathlib.Core.Path.{_≡_, refl, sym, subst, _∙_}
 use mathlib.Core.Bool.{Bool, true, false}
 use mathlib.Core.List.{List, [], _∷_, _++_, append-assoc, append-nil}
-use mathlib.Core.Logic.{_↔_}
 use Prim.Native.Nat.{ℕ, suc, _+_}
 use native.Mathlib.Omega.{arith}
 use Rattle.resolved_sort.specs.Tree.{Tree}
 use Rattle.resolved_sort.specs.Checks.{fixedSix}
-use Rattle.unification.specs.Term.{put, termOf}
+use Rattle.unification.specs.Term.{termOf}
 use Rattle.unification.specs.Nodes.{Binds}
 use Rattle.unification.specs.Acyclic.{One, first as at-first, later as at-later}
-use Rattle.unification.specs.Solutions.{Respects, Equates}
+use Rattle.unification.specs.Solutions.{Respects}
 use Rattle.unification.specs.Related.{related, Member, first, later}
 use Rattle.unification.specs.Making.{Lent, graph, Makes, made, no-list, no-room, strictRelated}
 use Rattle.unification.proofs.Lists.{term-injective}
-use Rattle.unification.proofs.Grows.{CheckedLent, PlacedIn, Grows, grows-trans, placed-grown, term-grown, respects-grown}
+use Rattle.unification.proofs.Grows.{CheckedLent, PlacedIn, Grows, grows-trans, placed-grown, respects-grown}
 use Rattle.unification.proofs.BindsGrow.{binds-name-places}
 use Rattle.unification.proofs.MakingGrows.{MadeFrom, made-grows}
 use Rattle.unification.proofs.Wider.{member-each, each-member, narrower-is-wider}
@@ -27,10 +25,11 @@ use Rattle.unification.proofs.RelatedBinds.{no-list-is-free, related-makes}
 use Rattle.unification.proofs.Assignments.{place-has-a-sort}
 use Rattle.inference.specs.Constraints.{Problem}
 use Rattle.inference.specs.Measure.{Components}
-use Rattle.inference.specs.Search.{Choice, Path, Try, World, missed, lending, measured, unifying, onMade, givenBack, widerTries, narrowerTries, sortIn, Next, firstFound, wider, narrower, widening, sequence}
+use Rattle.inference.specs.Search.{Choice, Path, Try, World, missed, lending, onMade, givenBack, widerTries, narrowerTries, Next, firstFound, wider, narrower, widening, sequence}
 use Rattle.inference.specs.Typing.{Assignment, Has, All, none-left, and-all}
 use Rattle.inference.specs.Components.{Widened, equal-to, wider-by, Sequence, no-source, and-source}
-use Rattle.inference.proofs.Invariant.{Claim, terms, Sound, FineBest, Leaves, Goes, or-else-leaves, missed-leaves, given-back-leaves, sound-grown, fine-grown, sound-on, unifying-leaves, weaker-goes}
+use Rattle.inference.proofs.Tries.{Leads, try-leaves, first-found-leaves}
+use Rattle.inference.proofs.Invariant.{Claim, terms, Sound, FineBest, Leaves, Goes, same-sort, equal-have-one-sort, or-else-leaves, missed-leaves, given-back-leaves, sound-grown, fine-grown, weaker-goes}
 
 -- the tries of a list of places: one for each place, with its position in the component
 wider-each : (In : Try → Type 0) (r i : ℕ) (ps : List ℕ) → ((j p n : ℕ) → Member p j ps → n ≡ i + j → In (record { left = p; right = r; component = n })) → All In (widerTries r i ps)
@@ -45,52 +44,7 @@ member-is-one : {p j : ℕ} {ps : List ℕ} → Member p j ps → One p ps
 member-is-one first = at-first _
 member-is-one (later m) = at-later _ _ (member-is-one m)
 
--- A try of places of the lists, under which Q becomes R with its component.
-pub record Leads (W : Lent) (e : Path) (Q R : Claim) (t : Try) : Type 0 where
-  pub left : PlacedIn W (t .left)
-  pub right : PlacedIn W (t .right)
-  pub so : (ρ : Assignment) → Respects (graph W) (e .binds) (terms ρ) → Equates (graph W) (terms ρ) (t .left) (t .right) → Q (e .choices) ρ (e .measure)
-      → R (e .choices) ρ (e .measure ++ (t .component ∷ []))
-
 module _ (W₀ : Lent) (B₀ : Binds) (P : Problem) (c₀ : CheckedLent W₀) (Met : Type 0) (meet : Components → Met → Met) where
-  module _ (e : Path) (Q R : Claim) where
-    -- and so on lists that have grown
-    pub lead-grown : (W W′ : Lent) → Sound W₀ B₀ P W e Q → Grows W W′ → (ts : List Try) → All (Leads W e Q R) ts → All (Leads W′ e Q R) ts
-    lead-grown W W′ s g _ none-left = none-left
-    lead-grown W W′ s g _ (and-all t ts x xs) =
-        let c = s .grown .checked in
-        and-all t ts
-        (record {
-          left = placed-grown W c W′ g (t .left) (x .left);
-          right = placed-grown W c W′ g (t .right) (x .right);
-          so =
-              λ ρ r q. x .so ρ (respects-grown W c W′ g (e .binds) (binds-name-places W (e .binds) (s .binds)) (terms ρ) .1 r)
-              (ap (put (terms ρ)) (sym (term-grown W c W′ g (t .left) (x .left))) ∙ (q ∙ ap (put (terms ρ)) (term-grown W c W′ g (t .right) (x .right))));
-        })
-        (lead-grown W W′ s g ts xs)
-
-    module _ (k : Next Met meet P) (g : Goes W₀ B₀ P Met R k) where
-      try-leaves : (w : World Met) → Sound W₀ B₀ P (w .lent) e Q → FineBest W₀ B₀ P (w .lent) (w .best) → (t : Try) → Leads (w .lent) e Q R t
-          → Leaves W₀ B₀ P Met (w .lent) (unifying (e .binds) (t .left) (t .right) (λ C. k (measured e (t .component ∷ []) C)) w)
-      try-leaves w s f t x =
-          unifying-leaves W₀ B₀ P Met e w Q s f (t .left) (t .right) (x .left) (x .right) (λ C. k (measured e (t .component ∷ []) C))
-          (λ C a. g (measured e (t .component ∷ []) C) w
-          (sound-on W₀ B₀ P (w .lent) e Q s (t .left) (t .right) C a (e .measure ++ (t .component ∷ [])) (e .choices) R (λ ρ r. x .so ρ (a .before (terms ρ) r))) f)
-
-      -- "It stops at the first try that found."
-      pub first-found-goes : (ts : List Try) (w : World Met) → Sound W₀ B₀ P (w .lent) e Q → FineBest W₀ B₀ P (w .lent) (w .best) → All (Leads (w .lent) e Q R) ts
-          → Leaves W₀ B₀ P Met (w .lent) (firstFound Met meet P ts k e w)
-      unfolding firstFound
-      first-found-goes [] w s f none-left = missed-leaves W₀ B₀ P Met w (s .grown .checked) f
-      first-found-goes (t ∷ ts) w s f (and-all _ _ x xs) =
-          or-else-leaves W₀ B₀ P Met (w .lent) (s .grown .checked) (unifying (e .binds) (t .left) (t .right) (λ C. k (measured e (t .component ∷ []) C)) w) (firstFound Met meet P ts k e)
-          (try-leaves w s f t x)
-          (λ w′ went. first-found-goes ts w′ (sound-grown W₀ B₀ P (w .lent) (w′ .lent) e Q c₀ s (went .grows)) (went .best) (lead-grown (w .lent) (w′ .lent) s (went .grows) ts xs))
-
-  -- a place of the lists given has the sort that it has in lists grown from them
-  same-sort : (W : Lent) → Grows W₀ W → (ρ : Assignment) (p : ℕ) (t : Tree) → PlacedIn W₀ p → Has (graph W) ρ p t ↔ Has (graph W₀) ρ p t
-  same-sort W g ρ p t x = let y = ap (put (terms ρ)) (term-grown W₀ c₀ W g p x) in (λ h. sym y ∙ h, λ h. y ∙ h)
-
   -- The i-th of the places listed as wider (or narrower) than p stands for the i-th sort wider (narrower) than that of p.
   module _ (e : Path) (Q : Claim) (W : Lent) (s : Sound W₀ B₀ P W e Q) (up : Bool) (p : ℕ) (x : PlacedIn W₀ p) (qs : List ℕ) (W′ : Lent) (g : Grows W W′) (a : StandForRelated up (e .binds) W p W′ qs) where
     related-sort : (ρ : Assignment) → Respects (graph W′) (e .binds) (terms ρ) → (j q : ℕ) → Member q j qs
@@ -98,7 +52,7 @@ module _ (W₀ : Lent) (B₀ : Binds) (P : Problem) (c₀ : CheckedLent W₀) (M
     related-sort ρ r j q m =
         let t = place-has-a-sort W₀ c₀ ρ p x in
         let before = respects-grown W (s .grown .checked) W′ g (e .binds) (binds-name-places W (e .binds) (s .binds)) (terms ρ) .1 r in
-        let same = a .1 (terms ρ) before (t .0) (same-sort W (s .grown) ρ p (t .0) x .1 (t .1)) in
+        let same = a .1 (terms ρ) before (t .0) (same-sort W₀ c₀ W (s .grown) ρ p (t .0) x .1 (t .1)) in
         let u = each-member termOf (termIn W′ (terms ρ) q) j (related up (t .0)) (subst (Member (termIn W′ (terms ρ) q) j) same (member-each (termIn W′ (terms ρ)) m)) in
         (t .0, u .0, (t .1, u .1, u .2))
 
@@ -114,7 +68,7 @@ module _ (W₀ : Lent) (B₀ : Binds) (P : Problem) (c₀ : CheckedLent W₀) (M
               right = placed-grown W₀ c₀ W (s .grown) r y;
               so =
                   λ ρ _ q z. let t = place-has-a-sort W₀ c₀ ρ l x in
-                  h (e .choices) ρ (e .measure) (t .0) (t .0) 0 z (t .1) (same-sort W (s .grown) ρ r (t .0) y .0 (sym q ∙ same-sort W (s .grown) ρ l (t .0) x .1 (t .1))) equal-to;
+                  h (e .choices) ρ (e .measure) (t .0) (t .0) 0 z (t .1) (equal-have-one-sort W₀ c₀ W (s .grown) ρ l r (t .0) x y q (t .1)) equal-to;
             }
 
         module _ (ps : List ℕ) (W′ : Lent) (g : Grows W W′) where
@@ -129,7 +83,7 @@ module _ (W₀ : Lent) (B₀ : Binds) (P : Problem) (c₀ : CheckedLent W₀) (M
                 right = placed-grown W₀ c₀ W′ all-grown r y;
                 so =
                     λ ρ v q z. let b = related-sort e Q W s true l x ps W′ g a ρ v j p m in
-                    h (e .choices) ρ (e .measure) (b .0) (b .1) n z (b .2 .0) (same-sort W′ all-grown ρ r (b .1) y .0 (sym q ∙ b .2 .1))
+                    h (e .choices) ρ (e .measure) (b .0) (b .1) n z (b .2 .0) (same-sort W₀ c₀ W′ all-grown ρ r (b .1) y .0 (sym q ∙ b .2 .1))
                     (subst (Widened (b .0) (b .1)) (omega (arith, i)) (wider-by (b .1) j (b .2 .2)));
               })
 
@@ -141,7 +95,7 @@ module _ (W₀ : Lent) (B₀ : Binds) (P : Problem) (c₀ : CheckedLent W₀) (M
                 right = a .0 p (member-is-one m);
                 so =
                     λ ρ v q z. let b = related-sort e Q W s false r y ps W′ g a ρ v j p m in
-                    h (e .choices) ρ (e .measure) (b .1) (b .0) n z (same-sort W′ all-grown ρ l (b .1) x .0 (q ∙ b .2 .1)) (b .2 .0)
+                    h (e .choices) ρ (e .measure) (b .1) (b .0) n z (same-sort W₀ c₀ W′ all-grown ρ l (b .1) x .0 (q ∙ b .2 .1)) (b .2 .0)
                     (subst (Widened (b .1) (b .0)) (omega (arith, i)) (wider-by (b .0) j (narrower-is-wider (b .1) (b .0) j (b .2 .2))));
               })
 
@@ -162,7 +116,7 @@ module _ (W₀ : Lent) (B₀ : Binds) (P : Problem) (c₀ : CheckedLent W₀) (M
             go (made ps W′) i m =
                 let g = made-grows (StandForRelated up (e .binds) (w .lent) p) (w .lent) W′ ps (made ps W′) m refl in
                 given-back-leaves W₀ B₀ P Met (w .lent) (s .grown .checked) W′ (g .0) (firstFound Met meet P (tries ps) k e (lending w W′))
-                (first-found-goes e Q R k goes (tries ps) (lending w W′) (sound-grown W₀ B₀ P (w .lent) W′ e Q c₀ s (g .0)) (fine-grown W₀ B₀ P (w .lent) W′ (g .0) (w .best) f) (lead ps W′ (g .0) (g .1)))
+                (first-found-leaves W₀ B₀ P c₀ Met meet e Q R k goes (tries ps) (lending w W′) (sound-grown W₀ B₀ P (w .lent) W′ e Q c₀ s (g .0)) (fine-grown W₀ B₀ P (w .lent) W′ (g .0) (w .best) f) (lead ps W′ (g .0) (g .1)))
             go (no-list W′) i m =
                 subst (λ U. Leaves W₀ B₀ P Met (w .lent) (else e (lending w U))) (sym (no-list-is-free (w .lent) (s .grown .checked) (e .binds) (s .binds) up p W′ i .1)) o
             go (no-room b W′) i m = m
@@ -179,9 +133,9 @@ module _ (W₀ : Lent) (B₀ : Binds) (P : Problem) (c₀ : CheckedLent W₀) (M
         → (k : Next Met meet P) → Goes W₀ B₀ P Met R k → Goes W₀ B₀ P Met Q (widening Met meet P l r k)
     unfolding widening
     widening-goes l r x y Q R h k g e w s f =
-        or-else-leaves W₀ B₀ P Met (w .lent) (s .grown .checked) _ (wider Met meet P l r k e)
-        (try-leaves e Q R k g w s f (record { left = l; right = r; component = 0 }) (equal-leads l r x y Q R h k g e (w .lent) s))
-        (λ w′ went. wider-leaves l r x y Q R h k g e w′ (sound-grown W₀ B₀ P (w .lent) (w′ .lent) e Q c₀ s (went .grows)) (went .best))
+        or-else-leaves W₀ B₀ P Met e w Q s c₀ _ (wider Met meet P l r k e)
+        (try-leaves W₀ B₀ P c₀ Met meet e Q R k g w s f (record { left = l; right = r; component = 0 }) (equal-leads l r x y Q R h k g e (w .lent) s))
+        (λ v _ s′ f′. wider-leaves l r x y Q R h k g e v s′ f′)
 
     -- whatever the sources add, R holds with it
     abbrev Adding : ℕ → Claim → List ℕ → Claim

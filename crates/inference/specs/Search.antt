@@ -3,21 +3,20 @@
 use mathlib.Core.Bool.{Bool, true, false, cond, _&&_}
 use mathlib.Core.List.{List, [], _∷_, _++_}
 use mathlib.Core.Option.{Option, none, some}
-use Prim.Native.Nat.{ℕ, zero, suc, _+_}
-use lib.ListN.{getD, take, drop}
+use Prim.Native.Nat.{ℕ, _+_}
+use lib.ListN.{take, drop}
 use Rattle.resolved_sort.specs.declared.Sort.{Sort}
 use Rattle.resolved_sort.specs.declared.ComplexSort.{ComplexSort}
-use Rattle.resolved_sort.specs.declared.Counts.{Counts}
 use Rattle.resolved_sort.specs.declared.Joined.{Joined}
 use Rattle.resolved_sort.specs.declared.Joined.the-variants.{At, Nothing as NotThere, Full}
-use Rattle.resolved_sort.specs.Tree.{Tree, Flat, unit, primitive, def, typevar}
+use Rattle.resolved_sort.specs.Tree.{Tree, unit, primitive, def, typevar}
 use Rattle.resolved_sort.specs.Order.{Steps, distance, materializable}
 use Rattle.resolved_sort.specs.Entries.{Stored, treeAt}
 use Rattle.resolved_sort.specs.Bounds.{boundAt}
 use Rattle.unification.specs.declared.Lengths.{Lengths}
 use Rattle.unification.specs.declared.Default.{Default}
 use Rattle.unification.specs.declared.Default.the-variants.{Is, Nothing}
-use Rattle.unification.specs.Term.{Head, flatHead, containerHead, functionHead, strayHead, Shape, variable, over}
+use Rattle.unification.specs.Term.{flatHead, containerHead, functionHead, strayHead, Shape, variable, over}
 use Rattle.unification.specs.Nodes.{Binds}
 use Rattle.unification.specs.Unify.{Unifies, yes-with, no-way, too-deep, deep, follow, unify}
 use Rattle.unification.specs.Related.{each}

@@ -1,7 +1,7 @@
 -- Checks 8 to 12 and 14 of the solver, each true where the check passes, and the checks of its call in order.
 use mathlib.Core.Bool.{Bool, true, false, cond, not, _&&_}
 use mathlib.Core.List.{List, [], _∷_, _++_}
-use Prim.Native.Nat.{ℕ, zero, suc, _+_, _*_}
+use Prim.Native.Nat.{ℕ, _+_, _*_}
 use lib.Dec.{eqb, leb, ltb}
 use lib.ListN.{length, getD}
 use Rattle.resolved_sort.specs.declared.Run.{Run}
@@ -10,7 +10,6 @@ use Rattle.unification.specs.declared.Lengths.{Lengths}
 use Rattle.unification.specs.Nodes.{fullNodes, isPlace}
 use Rattle.unification.specs.NodeChecks.{nodesWithinLent, bindingsWithinLent, nodeChecks}
 use Rattle.inference.specs.declared.Rows.{Rows}
-use Rattle.inference.specs.declared.LitKind.{LitKind}
 use Rattle.inference.specs.declared.Constraint.{Constraint}
 use Rattle.inference.specs.declared.Constraint.the-variants.{Sub, Lit, Disjunction, Comprehension, Join}
 use Rattle.inference.specs.Constraints.{maxExprs, maxConstraints, maxOverloads, maxSources, maxComponents, constraintAt, rowsFrom}

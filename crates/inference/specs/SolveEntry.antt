@@ -2,7 +2,7 @@
 use mathlib.Core.Bool.{Bool, true, false}
 use mathlib.Core.List.{List, [], _∷_, _++_}
 use mathlib.Core.Option.{Option, none, some}
-use Prim.Native.Nat.{ℕ, zero, suc, _+_, _*_}
+use Prim.Native.Nat.{ℕ, _+_, _*_}
 use lib.ListN.{length, getD, drop, replicate}
 use Rattle.resolved_sort.specs.declared.Counts.{Counts}
 use Rattle.resolved_sort.specs.Storage.{zeros, givenBack}
@@ -10,12 +10,11 @@ use Rattle.resolved_sort.specs.Checks.{firstFailing}
 use Rattle.resolved_sort.specs.Entries.{orElse}
 use Rattle.unification.specs.Nodes.{nodeEntriesAt, bindsOf}
 use Rattle.unification.specs.Making.{Lent}
-use Rattle.inference.specs.declared.Outputs.{Outputs}
 use Rattle.inference.specs.declared.Solved.{Solved}
 use Rattle.inference.specs.declared.Solved.the-variants.{Refused, NoRoom, NoTyping, Ambiguous, Typing}
 use Rattle.inference.specs.Constraints.{overloadAt, BaseName, baseNameAt, rowsFrom, Problem}
 use Rattle.inference.specs.Measure.{Components}
-use Rattle.inference.specs.Search.{Choice, Path, Candidate, World, Out, found, missed, ended, solve}
+use Rattle.inference.specs.Search.{Choice, Path, Candidate, Out, found, missed, ended, solve}
 use Rattle.inference.specs.Names.{nameOf, nameKind, nameSort}
 use Rattle.inference.specs.SolveChecks.{Call, given, solveChecks}
 

@@ -3,7 +3,7 @@
 use mathlib.Core.Path.{_≡_}
 use mathlib.Core.Bool.{Bool, true, false}
 use mathlib.Core.List.{List, [], _∷_}
-use mathlib.Core.Option.{Option, none, some}
+use mathlib.Core.Option.{some}
 use Prim.Native.Nat.{ℕ, _<_}
 use lib.ListN.{take, drop}
 use Rattle.resolved_sort.specs.declared.Run.{Run}
