@@ -29,6 +29,7 @@ use Rattle.inference.specs.declared.Solved.the-variants.{Refused, NoRoom
 use Rattle.inference.specs.Constraints as Constraints
 use Rattle.inference.specs.Measure as Measure
 use Rattle.inference.specs.Search as Search
+use Rattle.inference.specs.Names as Names
 use Rattle.inference.specs.SolveChecks.{Call}
 use Rattle.inference.specs.SolveChecks as SolveChecks
 use Rattle.inference.specs.SolveEntry.{Left, solveEntry, codeSolved}
