@@ -28,8 +28,9 @@ use Rattle.inference.specs.Search.{Choice, Path, Candidate, World, Out, 
 use Rattle.inference.specs.Names.{runFor, overloadIn, targetIn, chosenName, baseName, nameOf}
 use Rattle.inference.specs.Typing.{All, none-left, and-all, In, here, there}
 use Rattle.inference.specs.SolveChecks.{Call, given, disjunctionFor, disjunctions, among, noTwo, componentsOf, components}
-use Rattle.inference.specs.SolveEntry.{problemOf, baseNamesOf, start, lentOf, searched, Left, typingRows, over, countsIn, typed, judgedBy, judged, verdict, nothingMet, solveEntry, codeSolved}
+use Rattle.inference.specs.SolveEntry.{problemOf, baseNamesOf, start, lentOf, searched, Left, over, countsIn, typed, judgedBy, judged, verdict, nothingMet, solveEntry, codeSolved, choicesOut}
 use Rattle.inference.proofs.Members.{not-in-nothing, in-cases, first-in, in-right}
+use Rattle.inference.proofs.HandedOut.{choices-read}
 use Rattle.inference.proofs.Accepted.{Listed, sub-listed, lit-listed, disjunction-listed, comprehension-listed, join-listed, Accepted, refused-or-searched}
 use Rattle.inference.proofs.Branches.{newcomer, NoChoice, Chooses, Choosing, none-to-choose, and-chooses, widthOf, width, Goes, leaf-goes, search-goes}
 
@@ -278,41 +279,42 @@ code-0-typed I =
     refused-or-searched I (λ left. codeSolved (left .answer) ≡ 0 → IsTyping I left) (λ c l q. absurd (omega (arith, l, q)))
     (λ A. searched-typed I A (Unit {0}) w tt (searched (Unit {0}) nothingMet tt I) (search-fits (Unit {0}) nothingMet (problemOf I) (given I) (start I .binds) w))
 
--- Measure, choices and names as handed out: how many components and choices; the choices in the order of the constraints, one for each disjunction;
--- and the rows with the names.
-pub record Named (I : Call) (left : Left) : Type 0 where
-  pub outputs : Outputs
-  pub answer : left .answer ≡ Typing outputs
+-- Measure and choices as handed out, ks being the choices: how many components and choices there are; the choices in the order of the constraints, one for
+-- each disjunction; and the names that they give.
+pub record Named (I : Call) (left : Left) (o : Outputs) (ks : List Choice) : Type 0 where
   pub measure : Components
   pub measure-handed-out : left .measure ≡ over measure (I .measure)
-  pub handed-out : outputs .components ≡ length measure
+  pub handed-out : o .components ≡ length measure
   pub component-count : length measure ≡ components (given I)
-  pub choice-count : outputs .choices ≡ length (left .choices)
-  pub in-order : map exprOf (left .choices) ≡ disjunctions (given I)
-  pub chosen : (x : ExprId) (p : InferSortId) (run : Run) → In (Disjunction x p run) (given I) → ChosenFor (problemOf I) (baseNamesOf I) (left .choices) x run
-  pub others : (x : ℕ) → among x (disjunctions (given I)) ≡ false → nameOf (problemOf I) (baseNamesOf I) (left .choices) x ≡ baseName (baseNamesOf I) x
-  pub sorts : List ℕ
-  pub rows : left .typing ≡ over (typingRows I (left .choices) 0 sorts) (I .typing)
+  pub choice-count : o .choices ≡ length ks
+  pub in-order : map exprOf ks ≡ disjunctions (given I)
+  pub once : (x i j : ℕ) → In (choice x i) ks → In (choice x j) ks → i ≡ j
+  pub chosen : (x : ExprId) (p : InferSortId) (run : Run) → In (Disjunction x p run) (given I) → ChosenFor (problemOf I) (baseNamesOf I) ks x run
+  pub others : (x : ℕ) → among x (disjunctions (given I)) ≡ false → nameOf (problemOf I) (baseNamesOf I) ks x ≡ baseName (baseNamesOf I) x
 
-pub names-and-choices : (I : Call) → codeSolved (solveEntry I .answer) ≡ 0 → Named I (solveEntry I)
-names-and-choices I q = subst (Named I) (sym (t .is)) named
+pub names-and-choices : (I : Call) (o : Outputs) → solveEntry I .answer ≡ Typing o → Named I (solveEntry I) o (choicesOut (solveEntry I) o)
+unfolding codeSolved
+names-and-choices I o e = named (solveEntry I) (t .is) e
   where
     t : IsTyping I (solveEntry I)
-    t = code-0-typed I q
+    t = code-0-typed I (ap codeSolved e)
 
-    named : Named I (typed I (t .lent) (t .candidate))
-    named =
-        record {
-          outputs = record { counts = countsIn (t .lent); components = length (t .candidate .measure); choices = length (t .candidate .choices) };
-          answer = refl;
+    named : (L : Left) → L ≡ typed I (t .lent) (t .candidate) → L .answer ≡ Typing o → Named I L o (choicesOut L o)
+    named L i a =
+        let ks = t .candidate .choices in
+        let b : typed I (t .lent) (t .candidate) .answer ≡ Typing o = ap (λ (z : Left). z .answer) (sym i) ∙ a in
+        let q : o ≡ record { counts = countsIn (t .lent); components = length (t .candidate .measure); choices = length (t .candidate .choices) } = cc in
+        let r : choicesOut L o ≡ ks = ap (λ (z : Left). choicesOut z o) i ∙ (ap (λ (z : Outputs). choicesOut (typed I (t .lent) (t .candidate)) z) q ∙ choices-read (t .candidate .choices) _) in
+        let two : noTwo (map exprOf ks) ≡ true = ap noTwo (choices-in-order (given I) ks (t .fits .choices)) ∙ t .accepted .one-disjunction-each in
+        subst (Named I L o) (sym r)
+        (record {
           measure = t .candidate .measure;
-          measure-handed-out = refl;
-          handed-out = refl;
+          measure-handed-out = ap (λ (z : Left). z .measure) i;
+          handed-out = ap (λ (z : Outputs). z .components) q;
           component-count = t .fits .components ∙ width-is-components (lentOf I) (problemOf I) (given I) (t .accepted .constraints);
-          choice-count = refl;
-          in-order = choices-in-order (given I) (t .candidate .choices) (t .fits .choices);
-          chosen = disjunction-named (problemOf I) (baseNamesOf I) (t .candidate .choices) (t .fits .choices) (t .accepted .one-disjunction-each);
-          others = others-keep-base-names (problemOf I) (baseNamesOf I) (t .candidate .choices) (t .fits .choices) (t .accepted .one-disjunction-each);
-          sorts = t .candidate .sorts;
-          rows = refl;
-        }
+          choice-count = ap (λ (z : Outputs). z .choices) q;
+          in-order = choices-in-order (given I) ks (t .fits .choices);
+          once = λ x m n. one-choice x m n ks two;
+          chosen = disjunction-named (problemOf I) (baseNamesOf I) ks (t .fits .choices) (t .accepted .one-disjunction-each);
+          others = others-keep-base-names (problemOf I) (baseNamesOf I) ks (t .fits .choices) (t .accepted .one-disjunction-each);
+        })

@@ -8,7 +8,7 @@ use Rattle.resolved_sort.specs.declared.Counts.{Counts}
 use Rattle.inference.specs.declared.Solved.{Solved}
 use Rattle.inference.specs.declared.Solved.the-variants.{Refused, NoRoom, NoTyping, Ambiguous, Typing}
 use Rattle.inference.specs.Search.{Choice}
-use Rattle.inference.specs.SolveEntry.{Left, codeSolved}
+use Rattle.inference.specs.SolveEntry.{Left, codeSolved, measureOut, choicesOut}
 use Rattle.inference.proofs.Situations.{Given, solved, row, sub, lit, disjunction, comprehension, join}
 
 given : List ℕ → List ℕ → List ℕ → List ℕ → List ℕ → List ℕ → List ℕ → List ℕ → List ℕ → List ℕ → ℕ → Given
@@ -55,7 +55,7 @@ outcomeBy G L (Refused c) = outcome c [] [] [] [] []
 outcomeBy G L (NoRoom c) = outcome c [] [] [] [] []
 outcomeBy G L (NoTyping k) = keeping G L k [] [] []
 outcomeBy G L (Ambiguous k) = keeping G L k [] [] []
-outcomeBy G L (Typing o) = keeping G L (o .counts) (take (3 * length (G .exprs)) (L .typing)) (take (o .components) (L .measure)) (L .choices)
+outcomeBy G L (Typing o) = keeping G L (o .counts) (take (3 * length (G .exprs)) (L .typing)) (measureOut L o) (choicesOut L o)
 
 pub outcomeOf : Given → Outcome
 outcomeOf G = outcomeBy G (solved G) (solved G .answer)

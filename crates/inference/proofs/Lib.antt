@@ -8,6 +8,7 @@ pub mod Widening
 pub mod Alternatives
 pub mod Accepted
 pub mod Steps
+pub mod HandedOut
 pub mod Together
 pub mod NoConstraints
 pub mod ListsLeft

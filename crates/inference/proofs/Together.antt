@@ -12,10 +12,11 @@ use lib.Seq.{take-append-seam}
 use Rattle.resolved_sort.specs.declared.Sort.{Sort}
 use Rattle.resolved_sort.specs.Tree.{Tree}
 use Rattle.resolved_sort.specs.Order.{materializable}
+use Rattle.resolved_sort.specs.Rows.{AllBelow}
 use Rattle.resolved_sort.specs.Entries.{treeAt}
 use Rattle.resolved_sort.proofs.Materializable.{materializable-refl}
 use Rattle.resolved_sort.proofs.Reached.{no-confusion}
-use Rattle.unification.specs.Nodes.{Binds, bindsOf}
+use Rattle.unification.specs.Nodes.{Binds, binding, bindsOf}
 use Rattle.unification.specs.Making.{Lent, graph}
 use Rattle.unification.proofs.Grows.{grows-refl}
 use Rattle.unification.proofs.Wider.{nearest-first}
@@ -27,12 +28,15 @@ use Rattle.inference.specs.declared.Solved.the-variants.{Typing}
 use Rattle.inference.specs.Constraints.{rowsFrom, Problem}
 use Rattle.inference.specs.Measure.{Components}
 use Rattle.inference.specs.Search.{Choice, Candidate, Out, found, missed, ended, sortIn, litComponent}
-use Rattle.inference.specs.Typing.{Assignment, admits, All, none-left, and-all, Into, Typed, all-typed, and-typed, Meets, meets-sub, meets-lit, meets-join, HoldsTogether}
+use Rattle.inference.specs.Typing.{Assignment, Has, admits, All, none-left, and-all, Into, Typed, all-typed, and-typed, Meets, meets-sub, meets-lit, meets-join, HoldsTogether}
 use Rattle.inference.specs.Components.{Widened, equal-to, wider-by, Heads, no-heads, and-head, Sequence, no-source, and-source, Costs, sub-costs, lit-costs, disjunction-costs, comprehension-costs, agreed-costs, sequence-costs, Costing, nothing-costs, and-costs}
 use Rattle.inference.specs.SolveChecks.{Call}
-use Rattle.inference.specs.SolveEntry.{problemOf, start, lentOf, searched, Left, typingRows, countsIn, judged, judgedBy, verdict, nothingMet, solveEntry}
+use Rattle.inference.specs.Names.{nameOf, nameKind, nameSort}
+use Rattle.inference.specs.SolveEntry.{problemOf, baseNamesOf, start, lentOf, searched, Left, countsIn, judged, judgedBy, verdict, nothingMet, solveEntry, sortsOut, measureOut, choicesOut}
 use Rattle.inference.proofs.Members.{length-rows}
 use Rattle.inference.proofs.Invariant.{Cost, Fine, FineBest, Leaves}
+use Rattle.inference.proofs.HandedOut.{sort-row, kind-row, name-row, rows-are, choices-read}
+use Rattle.inference.proofs.Choices.{names-and-choices}
 use Rattle.inference.proofs.Accepted.{Accepted, refused-or-searched}
 use Rattle.inference.proofs.Steps.{solve-goes}
 
@@ -75,27 +79,10 @@ module _ (W₀ : Lent) (B₀ : Binds) (P : Problem) (ch : List Choice) (ρ : Ass
   all-met _ _ nothing-costs = none-left
   all-met _ _ (and-costs c cs ns ms x y) = and-all c cs (costs-meet c ns x) (all-met cs ms y)
 
--- the rows of expressions, read back
+-- as many sorts as places
 typed-long : (W₀ : Lent) (look : ℕ → Tree) (ρ : Assignment) (ps ss : List ℕ) → Typed (graph W₀) look ρ ps ss → length ss ≡ length ps
 typed-long W₀ look ρ _ _ all-typed = refl
 typed-long W₀ look ρ _ _ (and-typed p s ps ss h t) = ap suc (typed-long W₀ look ρ ps ss t)
-
-sort-row : (I : Call) (cs : List Choice) (x : ℕ) (ss rest : List ℕ) (i : ℕ) → i < length ss → getD (typingRows I cs x ss ++ rest) (3 * i) 0 ≡ getD ss i 0
-unfolding typingRows
-sort-row I cs x [] rest i l = absurd (omega (arith, l))
-sort-row I cs x (s ∷ ss) rest zero l = refl
-sort-row I cs x (s ∷ ss) rest (suc i) l =
-    let e : 3 * suc i ≡ suc (suc (suc (3 * i))) = omega arith in ap (λ j. getD (typingRows I cs x (s ∷ ss) ++ rest) j 0) e ∙ sort-row I cs (x + 1) ss rest i (omega (arith, l))
-
-rows-are : (ss : List ℕ) (row : ℕ → ℕ) (i n : ℕ) → n ≡ length ss → ((j : ℕ) → j < length ss → row (i + j) ≡ getD ss j 0) → rowsFrom row i n ≡ ss
-unfolding rowsFrom
-rows-are [] row i zero e h = refl
-rows-are [] row i (suc n) e h = absurd (omega (arith, e))
-rows-are (s ∷ ss) row i zero e h = absurd (omega (arith, e))
-rows-are (s ∷ ss) row i (suc n) e h =
-    let a : row i ≡ s = ap row (omega arith) ∙ h 0 (omega arith) in
-    let b : rowsFrom row (i + 1) n ≡ ss = rows-are ss row (i + 1) n (omega (arith, e)) (λ j l. ap row (omega arith) ∙ h (suc j) (omega (arith, l))) in
-    cc
 
 module _ (I : Call) where
   abbrev W₀ : Lent
@@ -114,39 +101,42 @@ module _ (I : Call) where
       solve-goes W₀ B₀ P (A .ready .nodes) (A .six) Met meet (A .default) (A .exprs) (P .constraints) [] refl (A .constraints) (start I) (record { lent = W₀; best = none; met = m })
       (record { grown = grows-refl W₀ (A .ready .nodes); binds = A .ready .binds; refines = λ σ r. r; costs = λ ρ r. nothing-costs }) tt
 
-  -- the sorts, the measure and the choices that a call hands out
-  abbrev pub sortsOut : Left → List ℕ
-  sortsOut L = rowsFrom (λ i. getD (L .typing) (3 * i) 0) 0 (I .rows .exprs)
-
-  abbrev pub measureOut : Left → Outputs → Components
-  measureOut L o = take (o .components) (L .measure)
-
-  -- What a typing comes with: it holds together, and its components are those of its constraints, under one assignment.
+  -- What a typing comes with: one assignment under which it holds together, and under which its components are those of its constraints; and the names in
+  -- its rows.
   pub record Explained (L : Left) (o : Outputs) : Type 0 where
-    pub together : HoldsTogether (graph W₀) (sortIn W₀) (treeAt (L .sorts) (o .counts .sorts)) B₀ P (sortsOut L) (L .choices)
-    pub components : Costing (graph W₀) (sortIn W₀) P (L .choices) (together .assignment) (P .constraints) (measureOut L o)
+    pub assignment : Assignment
+    pub bound : (v q : ℕ) → binding B₀ v ≡ some q → Has (graph W₀) assignment q (assignment v)
+    pub typed : Typed (graph W₀) (treeAt (L .sorts) (o .counts .sorts)) assignment (P .exprs) (sortsOut I L)
+    pub listed : AllBelow (o .counts .sorts) (sortsOut I L)
+    pub components : Costing (graph W₀) (sortIn W₀) P (choicesOut L o) assignment (P .constraints) (measureOut L o)
+    pub names : (x : ℕ) → x < I .rows .exprs
+        → (getD (L .typing) (3 * x + 1) 0 ≡ nameKind (nameOf P (baseNamesOf I) (choicesOut L o) x)) × (getD (L .typing) (3 * x + 2) 0 ≡ nameSort (nameOf P (baseNamesOf I) (choicesOut L o) x))
 
   explained : (W : Lent) (c : Candidate) → Fine W₀ B₀ P W c → (o : Outputs) → judgedBy I W c false .answer ≡ Typing o → Explained (judgedBy I W c false) o
   explained W c f o e =
+      let L : Left = judgedBy I W c false in
       let q : o ≡ record { counts = countsIn W; components = length (c .measure); choices = length (c .choices) } = cc in
       let x : o .counts .sorts ≡ W .lengths .sorts = ap (λ (z : Outputs). z .counts .sorts) q in
-      let y : o .components ≡ length (c .measure) = ap (λ (z : Outputs). z .components) q in
       let many : length (c .sorts) ≡ I .rows .exprs = typed-long W₀ (sortIn W) (f .assignment) (P .exprs) (c .sorts) (f .typed) ∙ length-rows (λ i. getD (I .exprs) i 0) 0 (I .rows .exprs) in
-      let ss : sortsOut (judgedBy I W c false) ≡ c .sorts =
-      rows-are (c .sorts) (λ i. getD (judgedBy I W c false .typing) (3 * i) 0) 0 (I .rows .exprs) (sym many)
-      (λ j l. ap (λ (i : ℕ). getD (judgedBy I W c false .typing) (3 * i) 0) (omega arith) ∙ sort-row I (c .choices) 0 (c .sorts) _ j l) in
-      let ms : measureOut (judgedBy I W c false) o ≡ c .measure = ap (λ (n : ℕ). take n (judgedBy I W c false .measure)) y ∙ take-append-seam (c .measure) _ in
+      let ss : sortsOut I L ≡ c .sorts =
+      rows-are 0 (c .sorts) (λ i. getD (L .typing) (3 * i) 0) 0 (I .rows .exprs) (sym many)
+      (λ j l. ap (λ (i : ℕ). getD (L .typing) i 0) (omega arith) ∙ sort-row I (c .choices) 0 (c .sorts) _ j l) in
+      let ms : measureOut L o ≡ c .measure = ap (λ (z : Outputs). measureOut L z) q ∙ take-append-seam (c .measure) _ in
+      let ks : choicesOut L o ≡ c .choices = ap (λ (z : Outputs). choicesOut L z) q ∙ choices-read (c .choices) _ in
       record {
-        together =
-            record {
-              assignment = f .assignment;
-              bound = λ v p r. sym (f .respects v p r);
-              typed =
-                  subst (λ (n : ℕ). Typed (graph W₀) (treeAt (W .sorts) n) (f .assignment) (P .exprs) (sortsOut (judgedBy I W c false))) (sym x)
-                  (subst (λ zs. Typed (graph W₀) (sortIn W) (f .assignment) (P .exprs) zs) (sym ss) (f .typed));
-              meets = all-met W₀ B₀ P (c .choices) (f .assignment) (P .constraints) (c .measure) (f .costs);
-            };
-        components = subst (λ ns. Costing (graph W₀) (sortIn W₀) P (c .choices) (f .assignment) (P .constraints) ns) (sym ms) (f .costs);
+        assignment = f .assignment;
+        bound = λ v p r. sym (f .respects v p r);
+        typed =
+            subst (λ (n : ℕ). Typed (graph W₀) (treeAt (W .sorts) n) (f .assignment) (P .exprs) (sortsOut I L)) (sym x)
+            (subst (λ zs. Typed (graph W₀) (sortIn W) (f .assignment) (P .exprs) zs) (sym ss) (f .typed));
+        listed = subst (λ (n : ℕ). AllBelow n (sortsOut I L)) (sym x) (subst (AllBelow (W .lengths .sorts)) (sym ss) (f .numbers));
+        components =
+            subst (λ ns. Costing (graph W₀) (sortIn W₀) P (choicesOut L o) (f .assignment) (P .constraints) ns) (sym ms)
+            (subst (λ zs. Costing (graph W₀) (sortIn W₀) P zs (f .assignment) (P .constraints) (c .measure)) (sym ks) (f .costs));
+        names =
+            λ y l. subst (λ zs. (getD (L .typing) (3 * y + 1) 0 ≡ nameKind (nameOf P (baseNamesOf I) zs y)) × (getD (L .typing) (3 * y + 2) 0 ≡ nameSort (nameOf P (baseNamesOf I) zs y))) (sym ks)
+            (kind-row I (c .choices) 0 (c .sorts) _ y (omega (arith, l, many)) ∙ ap (λ z. nameKind (nameOf P (baseNamesOf I) (c .choices) z)) (omega arith),
+            name-row I (c .choices) 0 (c .sorts) _ y (omega (arith, l, many)) ∙ ap (λ z. nameSort (nameOf P (baseNamesOf I) (c .choices) z)) (omega arith));
       }
 
   by-candidate : (W : Lent) (c : Candidate) → Fine W₀ B₀ P W c → (o : Outputs) (b : Bool) → judgedBy I W c b .answer ≡ Typing o → Explained (judgedBy I W c b) o
@@ -172,5 +162,14 @@ module _ (I : Call) where
 
   -- Demand 3.
   pub typing-holds-together : (o : Outputs) → solveEntry I .answer ≡ Typing o
-      → HoldsTogether (graph W₀) (sortIn W₀) (treeAt (solveEntry I .sorts) (o .counts .sorts)) B₀ P (sortsOut (solveEntry I)) (solveEntry I .choices)
-  typing-holds-together o e = every-typing-is-explained o e .together
+      → HoldsTogether (graph W₀) (sortIn W₀) (treeAt (solveEntry I .sorts) (o .counts .sorts)) (o .counts .sorts) B₀ P (sortsOut I (solveEntry I)) (choicesOut (solveEntry I) o)
+  typing-holds-together o e =
+      let x = every-typing-is-explained o e in
+      record {
+        assignment = x .assignment;
+        bound = x .bound;
+        typed = x .typed;
+        listed = x .listed;
+        meets = all-met W₀ B₀ P (choicesOut (solveEntry I) o) (x .assignment) (P .constraints) (measureOut (solveEntry I) o) (x .components);
+        once = names-and-choices I o e .once;
+      }

@@ -3,13 +3,14 @@ use mathlib.Core.Bool.{Bool, true, false}
 use mathlib.Core.List.{List, [], _∷_, _++_}
 use mathlib.Core.Option.{Option, none, some}
 use Prim.Native.Nat.{ℕ, _+_, _*_}
-use lib.ListN.{length, getD, drop, replicate}
+use lib.ListN.{length, getD, take, drop, replicate}
 use Rattle.resolved_sort.specs.declared.Counts.{Counts}
 use Rattle.resolved_sort.specs.Storage.{zeros, givenBack}
 use Rattle.resolved_sort.specs.Checks.{firstFailing}
 use Rattle.resolved_sort.specs.Entries.{orElse}
 use Rattle.unification.specs.Nodes.{nodeEntriesAt, bindsOf}
 use Rattle.unification.specs.Making.{Lent}
+use Rattle.inference.specs.declared.Outputs.{Outputs}
 use Rattle.inference.specs.declared.Solved.{Solved}
 use Rattle.inference.specs.declared.Solved.the-variants.{Refused, NoRoom, NoTyping, Ambiguous, Typing}
 use Rattle.inference.specs.Constraints.{overloadAt, BaseName, baseNameAt, rowsFrom, Problem}
@@ -46,7 +47,7 @@ lentOf I = record { sorts = I .sorts; nodes = I .nodes; lengths = I .lengths }
 abbrev pub searched : (Met : Type 0) → (Components → Met → Met) → Met → Call → Out Met
 searched Met meet m I = solve Met meet (problemOf I) (given I) (start I) (record { lent = lentOf I; best = none; met = m })
 
--- What a call leaves: its answer, all lent memory but the rows of choices, and the choices that are handed out, in some order.
+-- What a call leaves: its answer, and all lent memory.
 pub record Left : Type 0 where
   pub answer : Solved
   pub sorts : List ℕ
@@ -55,7 +56,7 @@ pub record Left : Type 0 where
   pub scratch : List ℕ
   pub typing : List ℕ
   pub measure : List ℕ
-  pub choices : List Choice
+  pub choices : List ℕ
 
 -- "Scratch is zero after 15 to 18 and 0", "node rows past the entry length zero", "bindings as at entry"
 unfoldable pub nodesGivenBack : ℕ → ℕ → List ℕ → List ℕ
@@ -64,7 +65,7 @@ nodesGivenBack m d ns = zeros (nodeEntriesAt + d) (length ns) (zeros (4 * m) nod
 abbrev pub cleared : List ℕ → List ℕ
 cleared xs = replicate (length xs) 0
 
-abbrev pub leftWith : Call → Solved → List ℕ → List ℕ → List ℕ → List Choice → Left
+abbrev pub leftWith : Call → Solved → List ℕ → List ℕ → List ℕ → List ℕ → Left
 leftWith I r ws ts ms cs =
     record {
       answer = r;
@@ -79,13 +80,18 @@ leftWith I r ws ts ms cs =
 
 -- "1 to 14 .. change no lent memory"
 abbrev pub refused : Call → ℕ → Left
-refused I c = record { answer = Refused c; sorts = I .sorts; nodes = I .nodes; binds = I .binds; scratch = I .scratch; typing = I .typing; measure = I .measure; choices = [] }
+refused I c = record { answer = Refused c; sorts = I .sorts; nodes = I .nodes; binds = I .binds; scratch = I .scratch; typing = I .typing; measure = I .measure; choices = I .choices }
 
 -- the rows of expressions: sort, kind of name, sort of name
 unfoldable pub typingRows : Call → List Choice → ℕ → List ℕ → List ℕ
 typingRows I cs x [] = []
 typingRows I cs x (s ∷ ss) =
     s ∷ nameKind (nameOf (problemOf I) (baseNamesOf I) cs x) ∷ nameSort (nameOf (problemOf I) (baseNamesOf I) cs x) ∷ typingRows I cs (x + 1) ss
+
+-- the rows of choices: expression and position, in the order of the constraints
+unfoldable pub choiceRows : List Choice → List ℕ
+choiceRows [] = []
+choiceRows (k ∷ ks) = k .expr ∷ k .position ∷ choiceRows ks
 
 -- "0 leaves output rows past its counts untouched"
 abbrev pub over : List ℕ → List ℕ → List ℕ
@@ -97,22 +103,22 @@ countsIn W = record { sorts = W .lengths .sorts; entries = W .lengths .entries }
 abbrev pub typed : Call → Lent → Candidate → Left
 typed I W c =
     leftWith I (Typing (record { counts = countsIn W; components = length (c .measure); choices = length (c .choices) })) (W .sorts)
-    (over (typingRows I (c .choices) 0 (c .sorts)) (I .typing)) (over (c .measure) (I .measure)) (c .choices)
+    (over (typingRows I (c .choices) 0 (c .sorts)) (I .typing)) (over (c .measure) (I .measure)) (over (choiceRows (c .choices)) (I .choices))
 
 abbrev pub judgedBy : Call → Lent → Candidate → Bool → Left
-judgedBy I W c true = leftWith I (Ambiguous (countsIn W)) (W .sorts) (I .typing) (I .measure) []
+judgedBy I W c true = leftWith I (Ambiguous (countsIn W)) (W .sorts) (I .typing) (I .measure) (I .choices)
 judgedBy I W c false = typed I W c
 
 -- "0, 17 and 18 keep new sorts in order of first making .. 17 and 18 leave outputs untouched"
 abbrev pub judged : Call → Lent → Option Candidate → Left
-judged I W none = leftWith I (NoTyping (countsIn W)) (W .sorts) (I .typing) (I .measure) []
+judged I W none = leftWith I (NoTyping (countsIn W)) (W .sorts) (I .typing) (I .measure) (I .choices)
 judged I W (some c) = judgedBy I W c (c .duplicate)
 
 -- "15 and 16 give back sorts and nodes: rows past the entry lengths are zero, bindings as at entry, outputs untouched."
 abbrev pub verdict : {Met : Type 0} → Call → Out Met → Left
 verdict I (found w) = judged I (w .lent) (w .best)
 verdict I (missed w) = judged I (w .lent) (w .best)
-verdict I (ended c w) = leftWith I (NoRoom c) (givenBack (I .lengths .sorts) (I .lengths .entries) (I .sorts)) (I .typing) (I .measure) []
+verdict I (ended c w) = leftWith I (NoRoom c) (givenBack (I .lengths .sorts) (I .lengths .entries) (I .sorts)) (I .typing) (I .measure) (I .choices)
 
 abbrev pub nothingMet : Components → Unit {0} → Unit {0}
 nothingMet m u = tt
@@ -127,3 +133,16 @@ codeSolved (NoRoom c) = c
 codeSolved (NoTyping k) = 17
 codeSolved (Ambiguous k) = 18
 codeSolved (Typing o) = 0
+
+-- What a caller reads of a typing: the sorts and names of the expressions, the measure, and the choices.
+abbrev pub sortsOut : Call → Left → List ℕ
+sortsOut I L = rowsFrom (λ i. getD (L .typing) (3 * i) 0) 0 (I .rows .exprs)
+
+abbrev pub measureOut : Left → Outputs → Components
+measureOut L o = take (o .components) (L .measure)
+
+abbrev pub choiceAt : List ℕ → ℕ → Choice
+choiceAt ws i = record { expr = getD ws (2 * i) 0; position = getD ws (2 * i + 1) 0 }
+
+abbrev pub choicesOut : Left → Outputs → List Choice
+choicesOut L o = rowsFrom (choiceAt (L .choices)) 0 (o .choices)

@@ -12,6 +12,7 @@ use Rattle.resolved_sort.specs.declared.Sort.{Sort}
 use Rattle.resolved_sort.specs.declared.ComplexSort.{ComplexSort}
 use Rattle.resolved_sort.specs.Tree.{Tree, primitive, flat, container}
 use Rattle.resolved_sort.specs.Order.{materializable}
+use Rattle.resolved_sort.specs.Rows.{AllBelow}
 use Rattle.unification.specs.declared.InferSortId.{InferSortId}
 use Rattle.unification.specs.Term.{Shape, put, termOf}
 use Rattle.unification.specs.Nodes.{Binds, binding}
@@ -80,9 +81,12 @@ pub data Typed (shape : ℕ → Shape) (look : ℕ → Tree) (σ : Assignment) :
   and-typed : (p s : ℕ) (ps ss : List ℕ) → Has shape σ p (look s) → Typed shape look σ ps ss → Typed shape look σ (p ∷ ps) (s ∷ ss)
 
 -- The claim over the whole list: one assignment, under which each given binding holds, each sort handed out is that of its expression's place, and
--- each constraint is met. Sorts of the lists given are looked up by `given`, those handed out by `left`.
-pub record HoldsTogether (shape : ℕ → Shape) (given left : ℕ → Tree) (B : Binds) (P : Problem) (sorts : List ℕ) (choices : List Choice) : Type 0 where
+-- each constraint is met; the sorts handed out are of the list of `count` sorts that is left, and the choice list names one overload for an expression.
+-- Sorts of the list given are looked up by `given`, those handed out by `left`.
+pub record HoldsTogether (shape : ℕ → Shape) (given left : ℕ → Tree) (count : ℕ) (B : Binds) (P : Problem) (sorts : List ℕ) (choices : List Choice) : Type 0 where
   pub assignment : Assignment
   pub bound : (v q : ℕ) → binding B v ≡ some q → Has shape assignment q (assignment v)
   pub typed : Typed shape left assignment (P .exprs) sorts
+  pub listed : AllBelow count sorts
   pub meets : All (Meets shape given P choices assignment) (P .constraints)
+  pub once : (x i j : ℕ) → In (record { expr = x; position = i }) choices → In (record { expr = x; position = j }) choices → i ≡ j

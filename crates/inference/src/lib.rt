@@ -52,10 +52,10 @@ pub enum Constraint {
     },
 }
 
-// How many rows the lists beside sorts, nodes and bindings have.
+// How many rows the lists beside sorts, nodes and bindings have. Base names have no ceiling.
 pub struct Rows {
     pub exprs: u16,
-    pub names: u16,
+    pub names: usize,
     pub constraints: u16,
     pub overloads: u16,
     pub sources: u16,
