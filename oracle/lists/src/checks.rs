@@ -316,8 +316,7 @@ fn node_storage_full(m: &Memory) -> bool {
 
 fn outputs_full(m: &Memory) -> bool {
     m.scratch >= SCRATCH
-        && m.out_sorts >= m.expr_count
-        && m.out_names >= 2 * m.expr_count
+        && m.out_typing >= 3 * m.expr_count
         && m.out_measure >= m.components()
         && m.out_choices >= 2 * m.disjunctions()
 }

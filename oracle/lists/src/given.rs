@@ -44,14 +44,13 @@ pub enum Lent {
     Overloads,
     Sources,
     Scratch,
-    OutSorts,
-    OutNames,
+    OutTyping,
     OutMeasure,
     OutChoices,
 }
 
 impl Lent {
-    pub const ALL: [(Lent, &'static str); 13] = [
+    pub const ALL: [(Lent, &'static str); 12] = [
         (Lent::Sorts, "sorts"),
         (Lent::Nodes, "nodes"),
         (Lent::Bindings, "bindings"),
@@ -61,8 +60,7 @@ impl Lent {
         (Lent::Overloads, "overloads"),
         (Lent::Sources, "sources"),
         (Lent::Scratch, "scratch"),
-        (Lent::OutSorts, "out-sorts"),
-        (Lent::OutNames, "out-names"),
+        (Lent::OutTyping, "out-typing"),
         (Lent::OutMeasure, "out-measure"),
         (Lent::OutChoices, "out-choices"),
     ];
@@ -197,8 +195,7 @@ impl Given {
             false => (0, 0),
         };
         memory.scratch = self.length(Lent::Scratch, SCRATCH);
-        memory.out_sorts = self.length(Lent::OutSorts, memory.expr_count);
-        memory.out_names = self.length(Lent::OutNames, 2 * memory.expr_count);
+        memory.out_typing = self.length(Lent::OutTyping, 3 * memory.expr_count);
         memory.out_measure = self.length(Lent::OutMeasure, components);
         memory.out_choices = self.length(Lent::OutChoices, 2 * disjunctions);
     }

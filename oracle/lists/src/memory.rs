@@ -168,8 +168,7 @@ pub struct Memory {
     pub source_count: usize,
     pub default: u16,
     pub scratch: usize,
-    pub out_sorts: usize,
-    pub out_names: usize,
+    pub out_typing: usize,
     pub out_measure: usize,
     pub out_choices: usize,
     /// For the counting oracle; the port has the document's.

@@ -391,8 +391,7 @@ impl Damage<'_> {
             (Lent::Sorts, SORT_STORAGE),
             (Lent::Nodes, NODE_STORAGE),
             (Lent::Scratch, SCRATCH),
-            (Lent::OutSorts, memory.expr_count),
-            (Lent::OutNames, 2 * memory.expr_count),
+            (Lent::OutTyping, 3 * memory.expr_count),
             (Lent::OutMeasure, memory.components()),
             (Lent::OutChoices, 2 * memory.disjunctions()),
         ];
