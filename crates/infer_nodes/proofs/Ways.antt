@@ -6,7 +6,7 @@ use mathlib.Core.Option.{none, some}
 use mathlib.Core.Bool.{Bool, true, false, cond}
 use Prim.Native.Nat.{ℕ, zero, suc, _+_, _-_, _<_, _≤_}
 use native.Mathlib.Omega.{arith}
-use lib.ListN.{length, getD}
+use lib.ListN.{getD}
 use lib.Dec.{eqb}
 use borrow.Author.Tests.{lt-ltb, le-ltb, ne-eqb, eq-eqb}
 use Rattle.resolved_sort.specs.declared.Run.{Run}
@@ -65,6 +65,12 @@ pub record Following (shape : ℕ → Shape) (B : Binds) (k : Lengths) (p end ne
   pub same : follow shape deep B p ≡ follow shape deep B end
   pub placed : Placed k end
   pub bound : bindingOf next ≡ boundAt (shape end) B
+
+-- of the c arguments from s on, those before `at` do not hold the variable u; `left` of them are left
+pub record Searching (shape : ℕ → Shape) (B : Binds) (ns : List ℕ) (k : Lengths) (u s c at left : ℕ) : Type 0 where
+  pub same : occursAny shape (occurs shape deep B u) (nodeEntriesOf ns s c) ≡ occursAny shape (occurs shape deep B u) (nodeEntriesOf ns at left)
+  pub run : RunPlaced ns k at left
+  pub lower : highest (rank shape deep B) (nodeEntriesOf ns at left) ≤ highest (rank shape deep B) (nodeEntriesOf ns s c)
 
 -- a node by its kind
 pub op-first : (kind : ℕ) → kind ≤ 6 → ComplexSort.List ≡ opOfKind kind
@@ -285,9 +291,8 @@ module _ (ws ns bs : List ℕ) (k : Lengths) (q : Ready ws ns bs k) where
 
   -- a run of arguments
   module _ (u s c : ℕ) (r : RunPlaced ns k s c) where
-    pub none-in-run : c ≡ 0 → occursAny shape (occurs shape deep B u) (nodeEntriesOf ns s c) ≡ absent
-    unfolding nodeEntriesOf
-    none-in-run e = rw e
+    pub search-begins : Searching shape B ns k u s c s c
+    search-begins = record { same = refl; run = r; lower = omega arith }
 
     module _ (d : 0 < c) where
       pub one-and-rest : nodeEntriesOf ns s c ≡ nodeEntryAt ns s ∷ nodeEntriesOf ns (s + 1) (c - 1)
@@ -305,15 +310,45 @@ module _ (ws ns bs : List ℕ) (k : Lengths) (q : Ready ws ns bs k) where
             inside = omega (arith, r .inside, d);
           }
 
-      pub first-lower : suc (ρ (nodeEntryAt ns s)) ≤ highest ρ (nodeEntriesOf ns s c)
-      first-lower = rw one-and-rest (omega arith)
+  -- a search through a run
+  module _ (u s c at left : ℕ) (g : Searching shape B ns k u s c at left) where
+    abbrev any : List ℕ → Occurs
+    any = occursAny shape (occurs shape deep B u)
 
-      pub rest-lower : highest ρ (nodeEntriesOf ns (s + 1) (c - 1)) ≤ highest ρ (nodeEntriesOf ns s c)
-      rest-lower = rw one-and-rest (omega arith)
+    pub none-in-run : left ≡ 0 → any (nodeEntriesOf ns s c) ≡ absent
+    unfolding nodeEntriesOf
+    none-in-run e = g .same ∙ rw e
 
-      pub in-first : (b : Bool) → occurs shape deep B u (nodeEntryAt ns s) ≡ ofTest b → b ≡ true → occursAny shape (occurs shape deep B u) (nodeEntriesOf ns s c) ≡ ofTest true
-      in-first b y z = rw one-and-rest (ap (λ o. or-else o (occursAny shape (occurs shape deep B u) (nodeEntriesOf ns (s + 1) (c - 1)))) (y ∙ ap ofTest z))
+    module _ (d : left ≡ 0 → ⊥) (x : ℕ) (e : x ≡ nodeEntryAt ns at) where
+      some-left : 0 < left
+      some-left = omega (arith, d)
 
-      pub in-rest : (b e : Bool) → occurs shape deep B u (nodeEntryAt ns s) ≡ ofTest b → b ≡ false → occursAny shape (occurs shape deep B u) (nodeEntriesOf ns (s + 1) (c - 1)) ≡ ofTest e
-          → occursAny shape (occurs shape deep B u) (nodeEntriesOf ns s c) ≡ ofTest e
-      in-rest b e y z w = rw one-and-rest (ap (λ o. or-else o (occursAny shape (occurs shape deep B u) (nodeEntriesOf ns (s + 1) (c - 1)))) (y ∙ ap ofTest z) ∙ w)
+      abbrev others : List ℕ
+      others = nodeEntriesOf ns (at + 1) (left - 1)
+
+      one-and-others : nodeEntriesOf ns at left ≡ x ∷ others
+      one-and-others = one-and-rest u at left (g .run) some-left ∙ ap (λ (y : ℕ). y ∷ others) (sym e)
+
+      pub one-placed : Placed k x
+      one-placed = subst (Placed k) (sym e) (first-placed u at left (g .run) some-left)
+
+      pub one-lower : ρ x < highest ρ (nodeEntriesOf ns s c)
+      one-lower = let y : ρ x < highest ρ (nodeEntriesOf ns at left) = rw one-and-others (omega arith) in omega (arith, y, g .lower)
+
+      pub more-inside : at + 1 ≤ k .arguments
+      more-inside = omega (arith, g .run .inside, d)
+
+      module _ (b : Bool) (o : occurs shape deep B u x ≡ ofTest b) where
+        one-then-others : any (nodeEntriesOf ns s c) ≡ or-else (ofTest b) (any others)
+        one-then-others = g .same ∙ (ap any one-and-others ∙ ap (λ y. or-else y (any others)) o)
+
+        pub in-one : b ≡ true → any (nodeEntriesOf ns s c) ≡ ofTest true
+        in-one z = one-then-others ∙ rw z
+
+        pub search-goes-on : b ≡ false → Searching shape B ns k u s c (at + 1) (left - 1)
+        search-goes-on z =
+            record {
+              same = one-then-others ∙ rw z;
+              run = rest-placed u at left (g .run) some-left;
+              lower = let w : highest ρ others ≤ highest ρ (nodeEntriesOf ns at left) = rw one-and-others (omega arith) in omega (arith, w, g .lower);
+            }

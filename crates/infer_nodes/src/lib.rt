@@ -180,14 +180,17 @@ fn occurs_any(
     requires { ⌜ Ready (now sorts) (now nodes) (now binds) lengths × RunPlaced (now nodes) lengths start count ⌝ }
     ensures { λ r. ⌜ occursAny (graphOf (now (sorts .entry)) (now (nodes .entry)) lengths) (occursIn (graphOf (now (sorts .entry)) (now (nodes .entry)) lengths) deep (bindsOf (now (binds .entry)) (lengths .variables)) (var .0)) (nodeEntriesOf (now (nodes .entry)) start count) ≡ ofTest r ⌝ }
 {
-    if count == 0 {
-        return false;
+    let mut at = start;
+    let mut left = count;
+    while left != 0 {
+        let first = argument(nodes, at);
+        if occurs(sorts, nodes, binds, lengths, var, first) {
+            return true;
+        }
+        at += 1;
+        left -= 1;
     }
-    let first = argument(nodes, start);
-    if occurs(sorts, nodes, binds, lengths, var, first) {
-        return true;
-    }
-    occurs_any(sorts, nodes, binds, lengths, var, start + 1, count - 1)
+    false
 }
 
 // The variable that stands at a place, where one does.

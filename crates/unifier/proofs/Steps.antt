@@ -38,7 +38,7 @@ use Rattle.unification.proofs.Theorem.{deep-enough, deeper-enough, ready-ranked
 use Rattle.infer_nodes.specs.Parts.{NodesReady, varAt}
 use Rattle.infer_nodes.proofs.Ways.{end-is-placed}
 use Rattle.infer_nodes.proofs.Parts.{same-count}
-use Rattle.unifier.specs.Trying.{Trying, Free, Alike, Solid, Stands}
+use Rattle.unifier.specs.Trying.{Trying, Free, Solid, Stands}
 use Rattle.unifier.proofs.Tries.{tries-as, binds-nothing, no-try, then-no, then-on, trying-on}
 
 -- what stands at a place, by what was found there
@@ -49,6 +49,26 @@ is-variable (over h ps) v e = no-confusion (cc)
 is-solid : (s : Shape) → Nothing ≡ varAt s → s ≡ over (headOf s) (partsOf s)
 is-solid (variable u) e = no-confusion (cc)
 is-solid (over h ps) e = refl
+
+-- two places of as many parts
+pub record Alike (ws ns : List ℕ) (k : Lengths) (l r n : ℕ) : Type 0 where
+  pub left : Placed k l
+  pub right : Placed k r
+  pub many : n ≡ length (partsOf (graphOf ws ns k l))
+  pub as-many : n ≡ length (partsOf (graphOf ws ns k r))
+
+-- what a try at a place may take: free variables first, then the rank
+abbrev pub workOf : List ℕ → List ℕ → List ℕ → Lengths → ℕ → ℕ
+workOf ws ns bs k p = frees (bindsOf bs (k .variables)) * deep + rank (graphOf ws ns k) deep (bindsOf bs (k .variables)) p
+
+-- of a try of U, the parts before the i-th of two places are unified: what the parts from there on come to is what U comes to
+pub record Unifying (ws ns : List ℕ) (k : Lengths) (l r n : ℕ) (U : Unifies) (bs₀ ts₀ : List ℕ) (c₀ : ℕ) (bs ts : List ℕ) (c i : ℕ) : Type 0 where
+  pub trying : Trying ws ns bs ts k c
+  pub alike : Alike ws ns k l r n
+  pub rest : (bs₁ ts₁ : List ℕ) (w : Tried) → Tries ws ns k (unifyAll (graphOf ws ns k) (unify (graphOf ws ns k)) (bindsOf bs (k .variables)) (drop i (partsOf (graphOf ws ns k l))) (drop i (partsOf (graphOf ws ns k r)))) bs ts c bs₁ ts₁ w → Tries ws ns k U bs₀ ts₀ c₀ bs₁ ts₁ w
+  pub work : workOf ws ns bs k l ≤ workOf ws ns bs₀ k l
+  pub same-binds : length bs ≡ length bs₀
+  pub same-trail : length ts ≡ length ts₀
 
 module _ (ws ns bs ts : List ℕ) (k : Lengths) (c : ℕ) (t : Trying ws ns bs ts k c) where
   abbrev shape : ℕ → Shape
@@ -165,20 +185,19 @@ module _ (ws ns bs ts : List ℕ) (k : Lengths) (c : ℕ) (t : Trying ws ns bs t
             (sym (by-heads ∙ ap (λ z. unifyHeads shape z (unify shape) B (partsOf (shape l)) (partsOf (shape r))) (sym eh ∙ y))) (no-try ws ns k bs ts c q)
 
         module _ (y : h ≡ true) where
-          pub alike : (n : ℕ) → n ≡ length (partsOf (shape l)) → Alike ws ns k l r 0 n
-          alike n en =
-              record {
-                left = sl .placed;
-                right = sr .placed;
-                same = sym eh ∙ y;
-                many = en;
-                as-many = en ∙ same-count ws ns k (q .nodes) l r (sl .placed) (sr .placed) (sym eh ∙ y);
-                within = omega arith;
-              }
+          same-heads : whole ≡ unifyAll shape (unify shape) B (partsOf (shape l)) (partsOf (shape r))
+          same-heads = by-heads ∙ ap (λ z. unifyHeads shape z (unify shape) B (partsOf (shape l)) (partsOf (shape r))) (sym eh ∙ y)
 
-          pub same-heads : (bs₁ ts₁ : List ℕ) (a : Tried) → Tries ws ns k (unifyAll shape (unify shape) B (drop 0 (partsOf (shape l))) (drop 0 (partsOf (shape r)))) bs ts c bs₁ ts₁ a → Tries ws ns k whole bs ts c bs₁ ts₁ a
-          same-heads bs₁ ts₁ a =
-              tries-as ws ns k _ _ bs ts c bs₁ ts₁ a (sym (by-heads ∙ ap (λ z. unifyHeads shape z (unify shape) B (partsOf (shape l)) (partsOf (shape r))) (sym eh ∙ y)))
+          pub parts-begin : (n : ℕ) → n ≡ length (partsOf (shape l)) → Unifying ws ns k l r n whole bs ts c bs ts c 0
+          parts-begin n en =
+              record {
+                trying = t;
+                alike = record { left = sl .placed; right = sr .placed; many = en; as-many = en ∙ same-count ws ns k (q .nodes) l r (sl .placed) (sr .placed) (sym eh ∙ y) };
+                rest = λ bs₁ ts₁ w. tries-as ws ns k _ _ bs ts c bs₁ ts₁ w (sym same-heads);
+                work = omega arith;
+                same-binds = refl;
+                same-trail = refl;
+              }
 
   -- parts are places of lower rank
   part-placed : (p x : ℕ) (h : Head) (ps : List ℕ) → Placed k p → shape p ≡ over h ps → One x ps → Placed k x
@@ -188,8 +207,8 @@ module _ (ws ns bs ts : List ℕ) (k : Lengths) (c : ℕ) (t : Trying ws ns bs t
   by-parts (variable v) i l = absurd (omega (arith, l))
   by-parts (over h ps) i l = refl
 
-  -- the parts of two sorts, from the i-th on
-  module _ (l r i n : ℕ) (a : Alike ws ns k l r i n) where
+  -- the parts of two sorts, of which those before the i-th are unified
+  module _ (l r n : ℕ) (U : Unifies) (bs₀ ts₀ : List ℕ) (c₀ i : ℕ) (g : Unifying ws ns k l r n U bs₀ ts₀ c₀ bs ts c i) where
     abbrev ps : List ℕ
     ps = partsOf (shape l)
 
@@ -199,66 +218,63 @@ module _ (ws ns bs ts : List ℕ) (k : Lengths) (c : ℕ) (t : Trying ws ns bs t
     abbrev rest : Unifies
     rest = unifyAll shape (unify shape) B (drop i ps) (drop i qs)
 
-    pub all-parts : i ≡ n → Tries ws ns k rest bs ts c bs ts (Yes c)
+    pub all-parts : n ≤ i → Tries ws ns k U bs₀ ts₀ c₀ bs ts (Yes c)
     all-parts e =
-        tries-as ws ns k (yes-with B) rest bs ts c bs ts (Yes c)
-        (sym (ap₂ (λ (xs ys : List ℕ). unifyAll shape (unify shape) B xs ys) (drop-of-length-le ps {i = i} (omega (arith, e, a .many))) (drop-of-length-le qs {i = i} (omega (arith, e, a .as-many)))))
-        (binds-nothing ws ns k bs ts c q)
+        g .rest bs ts (Yes c)
+        (tries-as ws ns k (yes-with B) rest bs ts c bs ts (Yes c)
+        (sym (ap₂ (λ (xs ys : List ℕ). unifyAll shape (unify shape) B xs ys) (drop-of-length-le ps {i = i} (omega (arith, e, g .alike .many))) (drop-of-length-le qs {i = i} (omega (arith, e, g .alike .as-many)))))
+        (binds-nothing ws ns k bs ts c q))
 
-    module _ (d : i ≡ n → ⊥) where
+    module _ (d : i < n) where
       left-inside : i < length ps
-      left-inside = omega (arith, a .within, a .many, d)
+      left-inside = omega (arith, g .alike .many, d)
 
       right-inside : i < length qs
-      right-inside = omega (arith, a .within, a .as-many, d)
+      right-inside = omega (arith, g .alike .as-many, d)
 
       pub left-part : NodesReady ws ns k × Placed k l × (i < length ps)
-      left-part = (q .nodes, a .left, left-inside)
+      left-part = (q .nodes, g .alike .left, left-inside)
 
       pub right-part : NodesReady ws ns k × Placed k r × (i < length qs)
-      right-part = (q .nodes, a .right, right-inside)
+      right-part = (q .nodes, g .alike .right, right-inside)
 
       module _ (x y : ℕ) (ex : x ≡ getD ps i 0) (ey : y ≡ getD qs i 0) where
         abbrev one-x : One x ps
         one-x = subst (λ (z : ℕ). One z ps) (sym ex) (one-at ps i left-inside)
 
         pub left-placed : Placed k x
-        left-placed = part-placed l x (headOf (shape l)) ps (a .left) (by-parts (shape l) i left-inside) one-x
+        left-placed = part-placed l x (headOf (shape l)) ps (g .alike .left) (by-parts (shape l) i left-inside) one-x
 
         pub right-placed : Placed k y
-        right-placed = part-placed r y (headOf (shape r)) qs (a .right) (by-parts (shape r) i right-inside) (subst (λ (z : ℕ). One z qs) (sym ey) (one-at qs i right-inside))
+        right-placed = part-placed r y (headOf (shape r)) qs (g .alike .right) (by-parts (shape r) i right-inside) (subst (λ (z : ℕ). One z qs) (sym ey) (one-at qs i right-inside))
 
-        pub part-lower : rank shape deep B x < rank shape deep B l
-        part-lower = omega (arith, rank-over shape deep B (ready-ranked ws ns bs k q) l (headOf (shape l)) ps (by-parts (shape l) i left-inside), one-highest (rank shape deep B) ps x one-x)
+        pub part-lower : workOf ws ns bs k x < workOf ws ns bs₀ k l
+        part-lower =
+            omega (arith, g .work, rank-over shape deep B (ready-ranked ws ns bs k q) l (headOf (shape l)) ps (by-parts (shape l) i left-inside), one-highest (rank shape deep B) ps x one-x)
 
-        parts-split : rest ≡ and-then (unify shape B x y) (λ C. unifyAll shape (unify shape) C (drop (i + 1) ps) (drop (i + 1) qs))
+        others : Binds → Unifies
+        others C = unifyAll shape (unify shape) C (drop (i + 1) ps) (drop (i + 1) qs)
+
+        parts-split : and-then (unify shape B x y) others ≡ rest
+        unfolding others
         parts-split =
-            ap₂ (λ (xs ys : List ℕ). unifyAll shape (unify shape) B xs ys)
+            sym
+            (ap₂ (λ (xs ys : List ℕ). unifyAll shape (unify shape) B xs ys)
             (drop-cons ps i 0 left-inside ∙ ap₂ (λ (z j : ℕ). z ∷ drop j ps) (sym ex) (sym (add-one i)))
-            (drop-cons qs i 0 right-inside ∙ ap₂ (λ (z j : ℕ). z ∷ drop j qs) (sym ey) (sym (add-one i)))
+            (drop-cons qs i 0 right-inside ∙ ap₂ (λ (z j : ℕ). z ∷ drop j qs) (sym ey) (sym (add-one i))))
 
         module _ (bs₁ ts₁ : List ℕ) where
-          pub part-fails : (m : ℕ) (z : Tried) → z ≡ No m → Tries ws ns k (unify shape B x y) bs ts c bs₁ ts₁ z → Tries ws ns k rest bs ts c bs₁ ts₁ (No m)
+          pub part-fails : (m : ℕ) (z : Tried) → z ≡ No m → Tries ws ns k (unify shape B x y) bs ts c bs₁ ts₁ z → Tries ws ns k U bs₀ ts₀ c₀ bs₁ ts₁ (No m)
           part-fails m z e u =
-              tries-as ws ns k _ _ bs ts c bs₁ ts₁ (No m) (sym parts-split)
-              (then-no ws ns k (unify shape B x y) (λ C. unifyAll shape (unify shape) C (drop (i + 1) ps) (drop (i + 1) qs)) bs ts c bs₁ ts₁ m (subst (Tries ws ns k (unify shape B x y) bs ts c bs₁ ts₁) e u))
+              g .rest bs₁ ts₁ (No m)
+              (tries-as ws ns k _ _ bs ts c bs₁ ts₁ (No m) parts-split
+              (then-no ws ns k (unify shape B x y) others bs ts c bs₁ ts₁ m (subst (Tries ws ns k (unify shape B x y) bs ts c bs₁ ts₁) e u)))
 
           module _ (m : ℕ) (z : Tried) (e : z ≡ Yes m) (u : Tries ws ns k (unify shape B x y) bs ts c bs₁ ts₁ z) where
             abbrev yes-tried : Tries ws ns k (unify shape B x y) bs ts c bs₁ ts₁ (Yes m)
             yes-tried = subst (Tries ws ns k (unify shape B x y) bs ts c bs₁ ts₁) e u
 
-            pub go-on : length ts₁ ≡ length ts → Trying ws ns bs₁ ts₁ k m × Alike ws ns k l r (i + 1) n
-            go-on lt = (
-              trying-on ws ns k (unify shape B x y) bs ts c bs₁ ts₁ m t lt yes-tried,
-              record { left = a .left; right = a .right; same = a .same; many = a .many; as-many = a .as-many; within = omega (arith, a .within, d) },
-            )
-
-            pub parts-follow : (bs₂ ts₂ : List ℕ) (w : Tried) → Tries ws ns k (unifyAll shape (unify shape) (bindsOf bs₁ (k .variables)) (drop (i + 1) ps) (drop (i + 1) qs)) bs₁ ts₁ m bs₂ ts₂ w → Tries ws ns k rest bs ts c bs₂ ts₂ w
-            parts-follow bs₂ ts₂ w s =
-                tries-as ws ns k _ _ bs ts c bs₂ ts₂ w (sym parts-split)
-                (then-on ws ns k (unify shape B x y) (λ C. unifyAll shape (unify shape) C (drop (i + 1) ps) (drop (i + 1) qs)) bs ts c bs₁ ts₁ m yes-tried bs₂ ts₂ w s)
-
-            next-by : (U : Unifies) → Kept shape (k .variables) B U → U ≡ yes-with (bindsOf bs₁ (k .variables)) → Next shape (k .variables) B (bindsOf bs₁ (k .variables))
+            next-by : (X : Unifies) → Kept shape (k .variables) B X → X ≡ yes-with (bindsOf bs₁ (k .variables)) → Next shape (k .variables) B (bindsOf bs₁ (k .variables))
             next-by (yes-with C) n′ s = let w : C ≡ bindsOf bs₁ (k .variables) = cc in subst (Next shape (k .variables) B) w n′
             next-by no-way n′ s = no-confusion (cc)
             next-by too-deep n′ s = no-confusion (cc)
@@ -273,11 +289,23 @@ module _ (ws ns bs ts : List ℕ) (k : Lengths) (c : ℕ) (t : Trying ws ns bs t
                 (yes-tried .says)
 
             -- fewer variables are free, or the bindings are as before
-            pub work-falls : frees (bindsOf bs₁ (k .variables)) * deep + rank shape deep (bindsOf bs₁ (k .variables)) l ≤ frees B * deep + rank shape deep B l
+            work-falls : workOf ws ns bs₁ k l ≤ workOf ws ns bs k l
             work-falls = go (next .fewer)
               where
-                go : (bindsOf bs₁ (k .variables) ≡ B) ⊎ (frees (bindsOf bs₁ (k .variables)) < frees B) → frees (bindsOf bs₁ (k .variables)) * deep + rank shape deep (bindsOf bs₁ (k .variables)) l ≤ frees B * deep + rank shape deep B l
+                go : (bindsOf bs₁ (k .variables) ≡ B) ⊎ (frees (bindsOf bs₁ (k .variables)) < frees B) → workOf ws ns bs₁ k l ≤ workOf ws ns bs k l
                 go (inl j) = rw j (omega arith)
                 go (inr j) =
                     let s = ready-ranked ws ns bs₁ k (yes-tried .ready) .short l in
                     omega (arith, s, mul-le-mul-right deep j)
+
+            pub parts-go-on : length bs₁ ≡ length bs → length ts₁ ≡ length ts → Unifying ws ns k l r n U bs₀ ts₀ c₀ bs₁ ts₁ m (i + 1)
+            unfolding others
+            parts-go-on lb lt =
+                record {
+                  trying = trying-on ws ns k (unify shape B x y) bs ts c bs₁ ts₁ m t lt yes-tried;
+                  alike = g .alike;
+                  rest = λ bs₂ ts₂ w s. g .rest bs₂ ts₂ w (tries-as ws ns k _ _ bs ts c bs₂ ts₂ w parts-split (then-on ws ns k (unify shape B x y) others bs ts c bs₁ ts₁ m yes-tried bs₂ ts₂ w s));
+                  work = omega (arith, g .work, work-falls);
+                  same-binds = lb ∙ g .same-binds;
+                  same-trail = lt ∙ g .same-trail;
+                }

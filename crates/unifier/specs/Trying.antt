@@ -5,11 +5,10 @@ use mathlib.Core.Option.{none}
 use Prim.Native.Nat.{ℕ, _+_, _<_, _≤_}
 use lib.ListN.{length}
 use Rattle.unification.specs.declared.Lengths.{Lengths}
-use Rattle.unification.specs.Term.{variable, over, headOf, partsOf, sameHead}
+use Rattle.unification.specs.Term.{variable, over, headOf, partsOf}
 use Rattle.unification.specs.Nodes.{binding, bindsOf}
 use Rattle.unification.specs.Trail.{frees}
 use Rattle.unification.specs.Checked.{graphOf, Ready, Placed}
-use mathlib.Core.Bool.{true}
 
 pub record Trying (ws ns bs ts : List ℕ) (k : Lengths) (c : ℕ) : Type 0 where
   pub ready : Ready ws ns bs k
@@ -20,15 +19,6 @@ pub record Trying (ws ns bs ts : List ℕ) (k : Lengths) (c : ℕ) : Type 0 wher
 pub record Free (bs : List ℕ) (k : Lengths) (v : ℕ) : Type 0 where
   pub listed : v < k .variables
   pub free : binding (bindsOf bs (k .variables)) v ≡ none
-
--- two places of the same head, of which the parts from i on are left
-pub record Alike (ws ns : List ℕ) (k : Lengths) (l r i n : ℕ) : Type 0 where
-  pub left : Placed k l
-  pub right : Placed k r
-  pub same : sameHead (headOf (graphOf ws ns k l)) (headOf (graphOf ws ns k r)) ≡ true
-  pub many : n ≡ length (partsOf (graphOf ws ns k l))
-  pub as-many : n ≡ length (partsOf (graphOf ws ns k r))
-  pub within : i ≤ n
 
 -- a place at which no variable stands
 pub record Solid (ws ns : List ℕ) (k : Lengths) (p : ℕ) : Type 0 where

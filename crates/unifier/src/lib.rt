@@ -15,14 +15,13 @@ use unification::VarAt;
 ghost use mathlib.Core.Path.{_≡_};
 ghost use mathlib.Core.Bool.{_&&_};
 ghost use Prim.Native.Nat.{ℕ, _+_, _-_, _<_, _≤_};
-ghost use lib.ListN.{length, set, drop};
+ghost use lib.ListN.{length, set};
 ghost use lib.Dec.{eqb};
-ghost use Rattle.unification.specs.Term.{partsOf};
 ghost use Rattle.unification.specs.Nodes.{isSort, bindsOf};
-ghost use Rattle.unification.specs.Unify.{occurs as occursIn, bindUnless, unifyVariables, unifyAll, unifyApart, unify as unifyOf, deep};
+ghost use Rattle.unification.specs.Unify.{occurs as occursIn, bindUnless, unifyVariables, unifyApart, unify as unifyOf, deep};
 ghost use Rattle.unification.specs.Checked.{graphOf, Placed};
 ghost use Rattle.unification.specs.Trail.{undo as undoOf, Tries};
-ghost use Rattle.unifier.specs.Trying.{Trying, Free, Alike, Solid, Stands};
+ghost use Rattle.unifier.specs.Trying.{Trying, Free, Solid, Stands};
 
 // Binds a variable, and puts it on the trail.
 fn put_binding(binds: &mut [u16], trail: &mut [u16], count: u16, var: SortVar, value: InferSortId)
@@ -141,7 +140,8 @@ pub fn unify(
     }
 }
 
-// Two ends that are no variables. Interning is canonical, so two interned sorts are equal exactly when their numbers are.
+// Two ends that are no variables. Interning is canonical, so two interned sorts are equal exactly when their numbers are. Parts are
+// unified left to right: arguments, and the range of a function last.
 fn unify_parts(
     sorts: &[u16],
     nodes: &[u16],
@@ -162,32 +162,18 @@ fn unify_parts(
         return Tried::No(count);
     }
     let n = part_count(sorts, nodes, lengths, l);
-    unify_from(sorts, nodes, binds, trail, lengths, count, l, r, 0, n)
-}
-
-// The parts of two sorts from the i-th on, left to right: arguments, and the range of a function last.
-fn unify_from(
-    sorts: &[u16],
-    nodes: &[u16],
-    binds: &mut [u16],
-    trail: &mut [u16],
-    lengths: Lengths,
-    count: u16,
-    l: InferSortId,
-    r: InferSortId,
-    i: u16,
-    n: u16,
-) -> Tried
-    requires { ⌜ Trying (now sorts) (now nodes) (now binds) (now trail) lengths count × Alike (now sorts) (now nodes) lengths (l .0) (r .0) i n ⌝ }
-    ensures { λ t. ⌜ Tries (now (sorts .entry)) (now (nodes .entry)) lengths (unifyAll (graphOf (now (sorts .entry)) (now (nodes .entry)) lengths) (unifyOf (graphOf (now (sorts .entry)) (now (nodes .entry)) lengths)) (bindsOf (now (binds .entry)) (lengths .variables)) (drop i (partsOf (graphOf (now (sorts .entry)) (now (nodes .entry)) lengths (l .0)))) (drop i (partsOf (graphOf (now (sorts .entry)) (now (nodes .entry)) lengths (r .0))))) (now (binds .entry)) (now (trail .entry)) count (now (binds .exit)) (now (trail .exit)) t ⌝ }
-{
-    if i == n {
-        return Tried::Yes(count);
+    let mut done = count;
+    let mut i = 0;
+    while i < n {
+        let p = part(sorts, nodes, lengths, l, i);
+        let q = part(sorts, nodes, lengths, r, i);
+        match unify(sorts, nodes, binds, trail, lengths, done, p, q) {
+            Tried::Yes(more) => {
+                done = more;
+                i += 1;
+            }
+            Tried::No(more) => return Tried::No(more),
+        }
     }
-    let p = part(sorts, nodes, lengths, l, i);
-    let q = part(sorts, nodes, lengths, r, i);
-    match unify(sorts, nodes, binds, trail, lengths, count, p, q) {
-        Tried::Yes(more) => unify_from(sorts, nodes, binds, trail, lengths, more, l, r, i + 1, n),
-        Tried::No(more) => Tried::No(more),
-    }
+    Tried::Yes(done)
 }

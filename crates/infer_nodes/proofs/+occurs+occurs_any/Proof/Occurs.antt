@@ -30,7 +30,7 @@ part M t =
     (λ c. search needs)
     (λ c κs. (omega (arith, c .before .before .before .before .before .before .before .before .before .before .before .pre .0, law.subsort-lower (c .before .before .before .before .before .before .before .before .before .before .before .args .sorts .now) (c .before .before .before .before .before .before .before .before .before .before .before .args .nodes .now) (c .before .before .before .before .before .before .before .before .before .before .before .args .binds .now) (c .before .before .before .before .before .before .before .before .before .before .before .args .lengths) (c .before .before .before .before .before .before .before .before .before .before .before .pre .1 .0) (c .before .before .before .before .before .before .before .before .before .before .before .args .var .0) (c .before .before .before .before .before .before .before .before .before .before .before .args .id .0) _ (c .before .before .before .before .before .before .before .before .before .before .before .pre .1 .1) (c .before .before .before .before .before .before .before .shallow-normalize .ensures) (c .before .before .before .before .before .if1 .left) _ (c .before .before .before .node .ensures) _ _ (c .before .subsort .given .1)), (c .before .before .before .before .before .before .before .before .before .before .before .pre .1 .0, law.subsort-placed (c .before .before .before .before .before .before .before .before .before .before .before .args .sorts .now) (c .before .before .before .before .before .before .before .before .before .before .before .args .nodes .now) (c .before .before .before .before .before .before .before .before .before .before .before .args .binds .now) (c .before .before .before .before .before .before .before .before .before .before .before .args .lengths) (c .before .before .before .before .before .before .before .before .before .before .before .pre .1 .0) (c .before .before .before .before .before .before .before .before .before .before .before .args .var .0) (c .before .before .before .before .before .before .before .before .before .before .before .args .id .0) _ (c .before .before .before .before .before .before .before .before .before .before .before .pre .1 .1) (c .before .before .before .before .before .before .before .shallow-normalize .ensures) (c .before .before .before .before .before .if1 .left) _ (c .before .before .before .node .ensures) _ _ (c .before .subsort .given .1))))
     (λ c. search needs)
-    (λ c κs. (omega (arith, c .before .before .before .before .before .before .before .before .before .before .before .pre .0, law.run-lower (c .before .before .before .before .before .before .before .before .before .before .before .args .sorts .now) (c .before .before .before .before .before .before .before .before .before .before .before .args .nodes .now) (c .before .before .before .before .before .before .before .before .before .before .before .args .binds .now) (c .before .before .before .before .before .before .before .before .before .before .before .args .lengths) (c .before .before .before .before .before .before .before .before .before .before .before .pre .1 .0) (c .before .before .before .before .before .before .before .before .before .before .before .args .var .0) (c .before .before .before .before .before .before .before .before .before .before .before .args .id .0) _ (c .before .before .before .before .before .before .before .before .before .before .before .pre .1 .1) (c .before .before .before .before .before .before .before .shallow-normalize .ensures) (c .before .before .before .before .before .if1 .left) _ (c .before .before .before .node .ensures) _ _ (c .before .domain .given .1), law.run-placed (c .before .before .before .before .before .before .before .before .before .before .before .args .sorts .now) (c .before .before .before .before .before .before .before .before .before .before .before .args .nodes .now) (c .before .before .before .before .before .before .before .before .before .before .before .args .binds .now) (c .before .before .before .before .before .before .before .before .before .before .before .args .lengths) (c .before .before .before .before .before .before .before .before .before .before .before .pre .1 .0) (c .before .before .before .before .before .before .before .before .before .before .before .args .var .0) (c .before .before .before .before .before .before .before .before .before .before .before .args .id .0) _ (c .before .before .before .before .before .before .before .before .before .before .before .pre .1 .1) (c .before .before .before .before .before .before .before .shallow-normalize .ensures) (c .before .before .before .before .before .if1 .left) _ (c .before .before .before .node .ensures) _ _ (c .before .domain .given .1) .short), (c .before .before .before .before .before .before .before .before .before .before .before .pre .1 .0, law.run-placed (c .before .before .before .before .before .before .before .before .before .before .before .args .sorts .now) (c .before .before .before .before .before .before .before .before .before .before .before .args .nodes .now) (c .before .before .before .before .before .before .before .before .before .before .before .args .binds .now) (c .before .before .before .before .before .before .before .before .before .before .before .args .lengths) (c .before .before .before .before .before .before .before .before .before .before .before .pre .1 .0) (c .before .before .before .before .before .before .before .before .before .before .before .args .var .0) (c .before .before .before .before .before .before .before .before .before .before .before .args .id .0) _ (c .before .before .before .before .before .before .before .before .before .before .before .pre .1 .1) (c .before .before .before .before .before .before .before .shallow-normalize .ensures) (c .before .before .before .before .before .if1 .left) _ (c .before .before .before .node .ensures) _ _ (c .before .domain .given .1))))
+    (λ c κs. (omega (arith, c .before .before .before .before .before .before .before .before .before .before .before .pre .0, law.run-lower (c .before .before .before .before .before .before .before .before .before .before .before .args .sorts .now) (c .before .before .before .before .before .before .before .before .before .before .before .args .nodes .now) (c .before .before .before .before .before .before .before .before .before .before .before .args .binds .now) (c .before .before .before .before .before .before .before .before .before .before .before .args .lengths) (c .before .before .before .before .before .before .before .before .before .before .before .pre .1 .0) (c .before .before .before .before .before .before .before .before .before .before .before .args .var .0) (c .before .before .before .before .before .before .before .before .before .before .before .args .id .0) _ (c .before .before .before .before .before .before .before .before .before .before .before .pre .1 .1) (c .before .before .before .before .before .before .before .shallow-normalize .ensures) (c .before .before .before .before .before .if1 .left) _ (c .before .before .before .node .ensures) _ _ (c .before .domain .given .1)), (c .before .before .before .before .before .before .before .before .before .before .before .pre .1 .0, law.run-placed (c .before .before .before .before .before .before .before .before .before .before .before .args .sorts .now) (c .before .before .before .before .before .before .before .before .before .before .before .args .nodes .now) (c .before .before .before .before .before .before .before .before .before .before .before .args .binds .now) (c .before .before .before .before .before .before .before .before .before .before .before .args .lengths) (c .before .before .before .before .before .before .before .before .before .before .before .pre .1 .0) (c .before .before .before .before .before .before .before .before .before .before .before .args .var .0) (c .before .before .before .before .before .before .before .before .before .before .before .args .id .0) _ (c .before .before .before .before .before .before .before .before .before .before .before .pre .1 .1) (c .before .before .before .before .before .before .before .shallow-normalize .ensures) (c .before .before .before .before .before .if1 .left) _ (c .before .before .before .node .ensures) _ _ (c .before .domain .given .1))))
     (λ c. law.occurs-in-domain (c .before .before .before .before .before .before .before .before .before .before .before .before .before .args .sorts .now) (c .before .before .before .before .before .before .before .before .before .before .before .before .before .args .nodes .now) (c .before .before .before .before .before .before .before .before .before .before .before .before .before .args .binds .now) (c .before .before .before .before .before .before .before .before .before .before .before .before .before .args .lengths) (c .before .before .before .before .before .before .before .before .before .before .before .before .before .pre .1 .0) (c .before .before .before .before .before .before .before .before .before .before .before .before .before .args .var .0) (c .before .before .before .before .before .before .before .before .before .before .before .before .before .args .id .0) _ (c .before .before .before .before .before .before .before .before .before .before .before .before .before .pre .1 .1) (c .before .before .before .before .before .before .before .before .before .shallow-normalize .ensures) (c .before .before .before .before .before .before .before .if1 .left) _ (c .before .before .before .before .before .node .ensures) _ _ (c .before .before .before .domain .given .1) (c .before .occurs-any .result) (c .before .occurs-any .ensures) (c .if2 .taken))
     (λ c κs. (omega (arith, c .before .before .before .before .before .before .before .before .before .before .before .before .before .pre .0, law.range-lower (c .before .before .before .before .before .before .before .before .before .before .before .before .before .args .sorts .now) (c .before .before .before .before .before .before .before .before .before .before .before .before .before .args .nodes .now) (c .before .before .before .before .before .before .before .before .before .before .before .before .before .args .binds .now) (c .before .before .before .before .before .before .before .before .before .before .before .before .before .args .lengths) (c .before .before .before .before .before .before .before .before .before .before .before .before .before .pre .1 .0) (c .before .before .before .before .before .before .before .before .before .before .before .before .before .args .var .0) (c .before .before .before .before .before .before .before .before .before .before .before .before .before .args .id .0) _ (c .before .before .before .before .before .before .before .before .before .before .before .before .before .pre .1 .1) (c .before .before .before .before .before .before .before .before .before .shallow-normalize .ensures) (c .before .before .before .before .before .before .before .if1 .left) _ (c .before .before .before .before .before .node .ensures) _ _ (c .before .before .before .domain .given .1)), (c .before .before .before .before .before .before .before .before .before .before .before .before .before .pre .1 .0, law.range-placed (c .before .before .before .before .before .before .before .before .before .before .before .before .before .args .sorts .now) (c .before .before .before .before .before .before .before .before .before .before .before .before .before .args .nodes .now) (c .before .before .before .before .before .before .before .before .before .before .before .before .before .args .binds .now) (c .before .before .before .before .before .before .before .before .before .before .before .before .before .args .lengths) (c .before .before .before .before .before .before .before .before .before .before .before .before .before .pre .1 .0) (c .before .before .before .before .before .before .before .before .before .before .before .before .before .args .var .0) (c .before .before .before .before .before .before .before .before .before .before .before .before .before .args .id .0) _ (c .before .before .before .before .before .before .before .before .before .before .before .before .before .pre .1 .1) (c .before .before .before .before .before .before .before .before .before .shallow-normalize .ensures) (c .before .before .before .before .before .before .before .if1 .left) _ (c .before .before .before .before .before .node .ensures) _ _ (c .before .before .before .domain .given .1))))
     (λ c. search needs)

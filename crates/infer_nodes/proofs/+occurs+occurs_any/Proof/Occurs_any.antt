@@ -19,16 +19,26 @@ use Rattle.unification.specs.Unify.{occurs, deep}
 use Rattle.unification.specs.Checked.{graphOf, Placed}
 use Rattle.unification.proofs.Rank.{highest, rank}
 use Rattle.infer_nodes.proofs.Ways as law
+use Rattle.infer_nodes.proofs.Ways.{Searching}
 use Rattle.infer_nodes.proofs.+occurs+occurs_any.Proof.Common.{occurs-at, occurs-below, occurs-any-at, occurs-any-below}
 
-pub part : (M : Type 1) (t : ℕ) → occurs-any-lts.Closed (argument-reads.Asked, argument-reads.Learnt, occurs-below t, occurs.Post, occurs-any-below t, occurs-any.Post) (occurs-any-at t) occurs-any.Post M
+abbrev Inv-loop : occurs-any-lts.InvT-loop
+Inv-loop sorts nodes binds lengths var start count at₀ left₀ at left = Searching (graphOf sorts nodes lengths) (bindsOf binds (lengths .variables)) nodes lengths (var .0) at₀ left₀ at left
+
+abbrev μ-loop : occurs-any-lts.MeasureT-loop
+μ-loop sorts nodes binds lengths var start count at₀ left₀ at left = left
+
+pub part : (M : Type 1) (t : ℕ) → occurs-any-lts.Closed (argument-reads.Asked, argument-reads.Learnt, occurs-below t, occurs.Post) (occurs-any-at t) occurs-any.Post M
 part M t =
-    occurs-any-lts.spec (argument-reads.Asked, argument-reads.Learnt, occurs-below t, occurs.Post, occurs-any-below t, occurs-any.Post) (occurs-any-at t) occurs-any.Post
-    (λ c. law.none-in-run (c .before .before .before .before .args .sorts .now) (c .before .before .before .before .args .nodes .now) (c .before .before .before .before .args .binds .now) (c .before .before .before .before .args .lengths) (c .before .before .before .before .pre .1 .0) (c .before .before .before .before .args .var .0) (c .before .before .before .before .args .start) (c .before .before .before .before .args .count) (c .before .before .before .before .pre .1 .1) (c .if1 .taken))
+    occurs-any-lts.spec (argument-reads.Asked, argument-reads.Learnt, occurs-below t, occurs.Post) (occurs-any-at t) occurs-any.Post
+    Inv-loop
+    μ-loop
+    (λ c. law.search-begins (c .before .before .before .args .sorts .now) (c .before .before .before .args .nodes .now) (c .before .before .before .args .binds .now) (c .before .before .before .args .lengths) (c .before .before .before .pre .1 .0) _ _ _ (c .before .before .before .pre .1 .1))
     (λ c κs. search needs)
-    (λ c κs. (omega (arith, c .before .before .before .before .before .pre .0, law.first-lower (c .before .before .before .before .before .args .sorts .now) (c .before .before .before .before .before .args .nodes .now) (c .before .before .before .before .before .args .binds .now) (c .before .before .before .before .before .args .lengths) (c .before .before .before .before .before .pre .1 .0) (c .before .before .before .before .before .args .var .0) (c .before .before .before .before .before .args .start) (c .before .before .before .before .before .args .count) (c .before .before .before .before .before .pre .1 .1) (omega (arith, c .before .if1 .left)), ap (rank (graphOf (c .before .before .before .before .before .args .sorts .now) (c .before .before .before .before .before .args .nodes .now) (c .before .before .before .before .before .args .lengths)) deep (bindsOf (c .before .before .before .before .before .args .binds .now) (c .before .before .before .before .before .args .lengths .variables))) (c .argument .ensures)), (c .before .before .before .before .before .pre .1 .0, subst (Placed (c .before .before .before .before .before .args .lengths)) (sym (c .argument .ensures)) (law.first-placed (c .before .before .before .before .before .args .sorts .now) (c .before .before .before .before .before .args .nodes .now) (c .before .before .before .before .before .args .binds .now) (c .before .before .before .before .before .args .lengths) (c .before .before .before .before .before .pre .1 .0) (c .before .before .before .before .before .args .var .0) (c .before .before .before .before .before .args .start) (c .before .before .before .before .before .args .count) (c .before .before .before .before .before .pre .1 .1) (omega (arith, c .before .if1 .left))))))
-    (λ c. law.in-first (c .before .before .before .before .before .before .before .args .sorts .now) (c .before .before .before .before .before .before .before .args .nodes .now) (c .before .before .before .before .before .before .before .args .binds .now) (c .before .before .before .before .before .before .before .args .lengths) (c .before .before .before .before .before .before .before .pre .1 .0) (c .before .before .before .before .before .before .before .args .var .0) (c .before .before .before .before .before .before .before .args .start) (c .before .before .before .before .before .before .before .args .count) (c .before .before .before .before .before .before .before .pre .1 .1) (omega (arith, c .before .before .before .if1 .left)) (c .before .occurs .result) (ap (occurs (graphOf (c .before .before .before .before .before .before .before .args .sorts .now) (c .before .before .before .before .before .before .before .args .nodes .now) (c .before .before .before .before .before .before .before .args .lengths)) deep (bindsOf (c .before .before .before .before .before .before .before .args .binds .now) (c .before .before .before .before .before .before .before .args .lengths .variables)) (c .before .before .before .before .before .before .before .args .var .0)) (sym (c .before .before .argument .ensures)) ∙ c .before .occurs .ensures) (c .if2 .taken))
-    (λ c. omega (arith, c .before .before .before .before .before .before .before .pre .1 .1 .inside, c .before .before .before .before .before .before .before .pre .1 .1 .short, c .before .before .before .if1 .left, c .before .before .before .before .before .before .before .pre .1 .0 .nodes .entries))
-    (λ c. omega (arith, c .before .before .before .if1 .left))
-    (λ c κs. (omega (arith, c .before .before .before .before .before .before .before .pre .0, law.rest-lower (c .before .before .before .before .before .before .before .args .sorts .now) (c .before .before .before .before .before .before .before .args .nodes .now) (c .before .before .before .before .before .before .before .args .binds .now) (c .before .before .before .before .before .before .before .args .lengths) (c .before .before .before .before .before .before .before .pre .1 .0) (c .before .before .before .before .before .before .before .args .var .0) (c .before .before .before .before .before .before .before .args .start) (c .before .before .before .before .before .before .before .args .count) (c .before .before .before .before .before .before .before .pre .1 .1) (omega (arith, c .before .before .before .if1 .left)), c .before .before .before .if1 .left), (c .before .before .before .before .before .before .before .pre .1 .0, law.rest-placed (c .before .before .before .before .before .before .before .args .sorts .now) (c .before .before .before .before .before .before .before .args .nodes .now) (c .before .before .before .before .before .before .before .args .binds .now) (c .before .before .before .before .before .before .before .args .lengths) (c .before .before .before .before .before .before .before .pre .1 .0) (c .before .before .before .before .before .before .before .args .var .0) (c .before .before .before .before .before .before .before .args .start) (c .before .before .before .before .before .before .before .args .count) (c .before .before .before .before .before .before .before .pre .1 .1) (omega (arith, c .before .before .before .if1 .left)))))
-    (λ c. law.in-rest (c .before .before .before .before .before .before .before .before .args .sorts .now) (c .before .before .before .before .before .before .before .before .args .nodes .now) (c .before .before .before .before .before .before .before .before .args .binds .now) (c .before .before .before .before .before .before .before .before .args .lengths) (c .before .before .before .before .before .before .before .before .pre .1 .0) (c .before .before .before .before .before .before .before .before .args .var .0) (c .before .before .before .before .before .before .before .before .args .start) (c .before .before .before .before .before .before .before .before .args .count) (c .before .before .before .before .before .before .before .before .pre .1 .1) (omega (arith, c .before .before .before .before .if1 .left)) (c .before .before .occurs .result) (c .occurs-any .result) (ap (occurs (graphOf (c .before .before .before .before .before .before .before .before .args .sorts .now) (c .before .before .before .before .before .before .before .before .args .nodes .now) (c .before .before .before .before .before .before .before .before .args .lengths)) deep (bindsOf (c .before .before .before .before .before .before .before .before .args .binds .now) (c .before .before .before .before .before .before .before .before .args .lengths .variables)) (c .before .before .before .before .before .before .before .before .args .var .0)) (sym (c .before .before .before .argument .ensures)) ∙ c .before .before .occurs .ensures) (c .before .if2 .left) (c .occurs-any .ensures))
+    (λ c κs. (omega (arith, c .before .before .before .before .before .before .pre .0, law.one-lower (c .before .before .before .before .before .before .args .sorts .now) (c .before .before .before .before .before .before .args .nodes .now) (c .before .before .before .before .before .before .args .binds .now) (c .before .before .before .before .before .before .args .lengths) (c .before .before .before .before .before .before .pre .1 .0) _ _ _ _ _ (c .before .before .loop .inv) (c .before .loop-test .taken) _ (c .argument .ensures)), (c .before .before .before .before .before .before .pre .1 .0, law.one-placed (c .before .before .before .before .before .before .args .sorts .now) (c .before .before .before .before .before .before .args .nodes .now) (c .before .before .before .before .before .before .args .binds .now) (c .before .before .before .before .before .before .args .lengths) (c .before .before .before .before .before .before .pre .1 .0) _ _ _ _ _ (c .before .before .loop .inv) (c .before .loop-test .taken) _ (c .argument .ensures))))
+    (λ c. law.in-one (c .before .before .before .before .before .before .before .before .args .sorts .now) (c .before .before .before .before .before .before .before .before .args .nodes .now) (c .before .before .before .before .before .before .before .before .args .binds .now) (c .before .before .before .before .before .before .before .before .args .lengths) (c .before .before .before .before .before .before .before .before .pre .1 .0) _ _ _ _ _ (c .before .before .before .before .loop .inv) (c .before .before .before .loop-test .taken) _ (c .before .before .argument .ensures) (c .before .occurs .result) (c .before .occurs .ensures) (c .if1 .taken))
+    (λ c. omega (arith, law.more-inside (c .before .before .before .before .before .before .before .before .args .sorts .now) (c .before .before .before .before .before .before .before .before .args .nodes .now) (c .before .before .before .before .before .before .before .before .args .binds .now) (c .before .before .before .before .before .before .before .before .args .lengths) (c .before .before .before .before .before .before .before .before .pre .1 .0) _ _ _ _ _ (c .before .before .before .before .loop .inv) (c .before .before .before .loop-test .taken) _ (c .before .before .argument .ensures), c .before .before .before .before .before .before .before .before .pre .1 .0 .nodes .entries))
+    (λ c. omega (arith, c .before .before .before .loop-test .taken))
+    (λ c. omega (arith, c .before .before .before .loop-test .taken))
+    (λ c. law.search-goes-on (c .before .before .before .before .before .before .before .before .args .sorts .now) (c .before .before .before .before .before .before .before .before .args .nodes .now) (c .before .before .before .before .before .before .before .before .args .binds .now) (c .before .before .before .before .before .before .before .before .args .lengths) (c .before .before .before .before .before .before .before .before .pre .1 .0) _ _ _ _ _ (c .before .before .before .before .loop .inv) (c .before .before .before .loop-test .taken) _ (c .before .before .argument .ensures) (c .before .occurs .result) (c .before .occurs .ensures) (c .if1 .left))
+    (λ c. law.none-in-run (c .before .before .before .before .before .args .sorts .now) (c .before .before .before .before .before .args .nodes .now) (c .before .before .before .before .before .args .binds .now) (c .before .before .before .before .before .args .lengths) (c .before .before .before .before .before .pre .1 .0) _ _ _ _ _ (c .before .loop .inv) (c .loop-test .left))

@@ -4,13 +4,10 @@ use borrow.Fn.Kinds.{In}
 use borrow.Fn.PlainCycle.{Measures, is, falls, and}
 use Rattle.unifier.proofs.unify.Reads as unify
 use Rattle.unifier.proofs.unify.Kinds as unify-kinds
-use Rattle.unifier.proofs.+unify+unify_from+unify_parts.Lts-unify as unify-lts
-use Rattle.unifier.proofs.unify_from.Reads as unify-from
-use Rattle.unifier.proofs.unify_from.Kinds as unify-from-kinds
-use Rattle.unifier.proofs.+unify+unify_from+unify_parts.Lts-unify_from as unify-from-lts
+use Rattle.unifier.proofs.+unify+unify_parts.Lts-unify as unify-lts
 use Rattle.unifier.proofs.unify_parts.Reads as unify-parts
 use Rattle.unifier.proofs.unify_parts.Kinds as unify-parts-kinds
-use Rattle.unifier.proofs.+unify+unify_from+unify_parts.Lts-unify_parts as unify-parts-lts
+use Rattle.unifier.proofs.+unify+unify_parts.Lts-unify_parts as unify-parts-lts
 use Rattle.infer_nodes.proofs.part.Reads as part-reads
 use Rattle.infer_nodes.proofs.part_count.Reads as part-count-reads
 use Rattle.infer_nodes.proofs.same_head.Reads as same-head-reads
@@ -30,29 +27,19 @@ use Rattle.unification.specs.Checked.{graphOf}
 use Rattle.unification.specs.Trail.{frees}
 use Rattle.unification.proofs.Rank.{rank}
 use Rattle.unifier.proofs.Steps as law
+use Rattle.unifier.proofs.Steps.{workOf}
 
 abbrev pub μ-unify : Measures 4 unify-kinds.ps ℕ
-μ-unify κs a = (frees (bindsOf (a .1 .1 .0 .now) (a .1 .1 .1 .1 .0 .variables)) * deep + rank (graphOf (a .0 .now) (a .1 .0 .now) (a .1 .1 .1 .1 .0)) deep (bindsOf (a .1 .1 .0 .now) (a .1 .1 .1 .1 .0 .variables)) (a .1 .1 .1 .1 .1 .1 .0 .0)) * 131072 + 100000
-
-abbrev pub μ-unify-from : Measures 4 unify-from-kinds.ps ℕ
-μ-unify-from κs a = (frees (bindsOf (a .1 .1 .0 .now) (a .1 .1 .1 .1 .0 .variables)) * deep + rank (graphOf (a .0 .now) (a .1 .0 .now) (a .1 .1 .1 .1 .0)) deep (bindsOf (a .1 .1 .0 .now) (a .1 .1 .1 .1 .0 .variables)) (a .1 .1 .1 .1 .1 .1 .0 .0)) * 131072 + (a .1 .1 .1 .1 .1 .1 .1 .1 .1 .0 - a .1 .1 .1 .1 .1 .1 .1 .1 .0)
+μ-unify κs a = workOf (a .0 .now) (a .1 .0 .now) (a .1 .1 .0 .now) (a .1 .1 .1 .1 .0) (a .1 .1 .1 .1 .1 .1 .0 .0) * 2 + 1
 
 abbrev pub μ-unify-parts : Measures 4 unify-parts-kinds.ps ℕ
-μ-unify-parts κs a = (frees (bindsOf (a .1 .1 .0 .now) (a .1 .1 .1 .1 .0 .variables)) * deep + rank (graphOf (a .0 .now) (a .1 .0 .now) (a .1 .1 .1 .1 .0)) deep (bindsOf (a .1 .1 .0 .now) (a .1 .1 .1 .1 .0 .variables)) (a .1 .1 .1 .1 .1 .1 .0 .0)) * 131072 + 90000
+μ-unify-parts κs a = workOf (a .0 .now) (a .1 .0 .now) (a .1 .1 .0 .now) (a .1 .1 .1 .1 .0) (a .1 .1 .1 .1 .1 .1 .0 .0) * 2
 
 abbrev pub unify-at : ℕ → In 4 unify-kinds.ps
 unify-at t = and 4 unify-kinds.ps (is 4 unify-kinds.ps μ-unify t) unify.Pre
 
 abbrev pub unify-below : ℕ → In 4 unify-kinds.ps
 unify-below t = and 4 unify-kinds.ps (falls 4 unify-kinds.ps _<_ μ-unify t) unify.Pre
-
-abbrev pub unify-from-at : ℕ → In 4 unify-from-kinds.ps
-unify-from-at t =
-    and 4 unify-from-kinds.ps (is 4 unify-from-kinds.ps μ-unify-from t) unify-from.Pre
-
-abbrev pub unify-from-below : ℕ → In 4 unify-from-kinds.ps
-unify-from-below t =
-    and 4 unify-from-kinds.ps (falls 4 unify-from-kinds.ps _<_ μ-unify-from t) unify-from.Pre
 
 abbrev pub unify-parts-at : ℕ → In 4 unify-parts-kinds.ps
 unify-parts-at t =

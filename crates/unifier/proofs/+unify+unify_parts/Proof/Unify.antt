@@ -3,13 +3,10 @@ use borrow.Fn.Kinds.{In}
 use borrow.Fn.PlainCycle.{Measures, is, falls, and}
 use Rattle.unifier.proofs.unify.Reads as unify
 use Rattle.unifier.proofs.unify.Kinds as unify-kinds
-use Rattle.unifier.proofs.+unify+unify_from+unify_parts.Lts-unify as unify-lts
-use Rattle.unifier.proofs.unify_from.Reads as unify-from
-use Rattle.unifier.proofs.unify_from.Kinds as unify-from-kinds
-use Rattle.unifier.proofs.+unify+unify_from+unify_parts.Lts-unify_from as unify-from-lts
+use Rattle.unifier.proofs.+unify+unify_parts.Lts-unify as unify-lts
 use Rattle.unifier.proofs.unify_parts.Reads as unify-parts
 use Rattle.unifier.proofs.unify_parts.Kinds as unify-parts-kinds
-use Rattle.unifier.proofs.+unify+unify_from+unify_parts.Lts-unify_parts as unify-parts-lts
+use Rattle.unifier.proofs.+unify+unify_parts.Lts-unify_parts as unify-parts-lts
 use Rattle.infer_nodes.proofs.part.Reads as part-reads
 use Rattle.infer_nodes.proofs.part_count.Reads as part-count-reads
 use Rattle.infer_nodes.proofs.same_head.Reads as same-head-reads
@@ -29,7 +26,7 @@ use Rattle.unification.specs.Checked.{graphOf}
 use Rattle.unification.specs.Trail.{frees}
 use Rattle.unification.proofs.Rank.{rank}
 use Rattle.unifier.proofs.Steps as law
-use Rattle.unifier.proofs.+unify+unify_from+unify_parts.Proof.Common.{unify-at, unify-below, unify-from-at, unify-from-below, unify-parts-at, unify-parts-below}
+use Rattle.unifier.proofs.+unify+unify_parts.Proof.Common.{unify-at, unify-below, unify-parts-at, unify-parts-below}
 
 pub part : (M : Type 1) (t : ℕ) → unify-lts.Closed (shallow-normalize-reads.Asked, shallow-normalize-reads.Learnt, variable-at-reads.Asked, variable-at-reads.Learnt, bind-variables-reads.Asked, bind-variables-reads.Learnt, bind-reads.Asked, bind-reads.Learnt, unify-parts-below t, unify-parts.Post) (unify-at t) unify.Post M
 part M t =

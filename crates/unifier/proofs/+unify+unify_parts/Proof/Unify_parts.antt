@@ -1,0 +1,64 @@
+use Prim.Native.Nat.{ℕ, _<_}
+use borrow.Fn.Kinds.{In}
+use borrow.Fn.PlainCycle.{Measures, is, falls, and}
+use Rattle.unifier.proofs.unify.Reads as unify
+use Rattle.unifier.proofs.unify.Kinds as unify-kinds
+use Rattle.unifier.proofs.+unify+unify_parts.Lts-unify as unify-lts
+use Rattle.unifier.proofs.unify_parts.Reads as unify-parts
+use Rattle.unifier.proofs.unify_parts.Kinds as unify-parts-kinds
+use Rattle.unifier.proofs.+unify+unify_parts.Lts-unify_parts as unify-parts-lts
+use Rattle.infer_nodes.proofs.part.Reads as part-reads
+use Rattle.infer_nodes.proofs.part_count.Reads as part-count-reads
+use Rattle.infer_nodes.proofs.same_head.Reads as same-head-reads
+use Rattle.infer_nodes.proofs.shallow_normalize.Reads as shallow-normalize-reads
+use Rattle.infer_nodes.proofs.variable_at.Reads as variable-at-reads
+use Rattle.unifier.proofs.bind.Reads as bind-reads
+use Rattle.unifier.proofs.bind_variables.Reads as bind-variables-reads
+use Rattle.unifier.proofs.both_sorts.Reads as both-sorts-reads
+use borrow.Author.Needs.{needs}
+use mathlib.Core.Path.{_≡_, refl, sym, ap, _∙_}
+use mathlib.Core.Bool.{_&&_}
+use Prim.Native.Nat.{_+_, _-_, _*_}
+use native.Mathlib.Omega.{arith}
+use borrow.Author.Tests.{not-true, not-false}
+use Rattle.unification.specs.Nodes.{isSort, bindsOf}
+use Rattle.unification.specs.Unify.{unifyApart, unify as unifyOf, deep}
+use Rattle.unification.specs.Checked.{graphOf}
+use Rattle.unification.specs.Trail.{frees}
+use Rattle.unification.proofs.Rank.{rank}
+use Rattle.unifier.proofs.Steps as law
+use Rattle.unifier.proofs.Steps.{Unifying}
+use Rattle.unifier.proofs.+unify+unify_parts.Proof.Common.{unify-at, unify-below, unify-parts-at, unify-parts-below}
+
+abbrev Inv-loop : unify-parts-lts.InvT-loop
+Inv-loop sorts nodes binds₀ trail₀ lengths count l r n done₀ i₀ binds trail done i =
+    Unifying sorts nodes lengths (l .0) (r .0) n (unifyApart (graphOf sorts nodes lengths) (isSort (l .0) && isSort (r .0)) deep (unifyOf (graphOf sorts nodes lengths)) (bindsOf binds₀ (lengths .variables)) (l .0) (r .0)) binds₀ trail₀ done₀ binds trail done i
+
+abbrev μ-loop : unify-parts-lts.MeasureT-loop
+μ-loop sorts nodes binds₀ trail₀ lengths count l r n done₀ i₀ binds trail done i = n - i
+
+pub part : (M : Type 1) (t : ℕ) → unify-parts-lts.Closed (both-sorts-reads.Asked, both-sorts-reads.Learnt, same-head-reads.Asked, same-head-reads.Learnt, part-count-reads.Asked, part-count-reads.Learnt, part-reads.Asked, part-reads.Learnt, unify-below t, unify.Post) (unify-parts-at t) unify-parts.Post M
+part M t =
+    unify-parts-lts.spec (both-sorts-reads.Asked, both-sorts-reads.Learnt, same-head-reads.Asked, same-head-reads.Learnt, part-count-reads.Asked, part-count-reads.Learnt, part-reads.Asked, part-reads.Learnt, unify-below t, unify.Post) (unify-parts-at t) unify-parts.Post
+    Inv-loop
+    μ-loop
+    (λ c κs. search needs)
+    (λ c. law.two-sorts (c .before .before .before .before .before .before .args .sorts .now) (c .before .before .before .before .before .before .args .nodes .now) (c .before .before .before .before .before .before .args .binds .now) (c .before .before .before .before .before .before .args .trail .now) (c .before .before .before .before .before .before .args .lengths) (c .before .before .before .before .before .before .args .count) (c .before .before .before .before .before .before .pre .1 .0) (c .before .before .before .before .before .before .args .l .0) (c .before .before .before .before .before .before .args .r .0) (c .before .before .before .before .before .before .pre .1 .1) (c .before .before .before .before .before .before .pre .1 .2) _ (c .before .both-sorts .ensures) (c .if1 .taken))
+    (λ c κs. (c .before .before .before .before .before .before .pre .1 .0 .ready .nodes, c .before .before .before .before .before .before .pre .1 .1 .placed, c .before .before .before .before .before .before .pre .1 .2 .placed))
+    (λ c. law.other-heads (c .before .before .before .before .before .before .before .before .args .sorts .now) (c .before .before .before .before .before .before .before .before .args .nodes .now) (c .before .before .before .before .before .before .before .before .args .binds .now) (c .before .before .before .before .before .before .before .before .args .trail .now) (c .before .before .before .before .before .before .before .before .args .lengths) (c .before .before .before .before .before .before .before .before .args .count) (c .before .before .before .before .before .before .before .before .pre .1 .0) (c .before .before .before .before .before .before .before .before .args .l .0) (c .before .before .before .before .before .before .before .before .args .r .0) (c .before .before .before .before .before .before .before .before .pre .1 .1) (c .before .before .before .before .before .before .before .before .pre .1 .2) _ (c .before .before .before .both-sorts .ensures) (c .before .before .if1 .left) _ (c .before .same-head .ensures) (not-true (c .before .same-head .result) (c .if2 .taken)))
+    (λ c κs. (c .before .before .before .before .before .before .before .before .pre .1 .0 .ready .nodes, c .before .before .before .before .before .before .before .before .pre .1 .1 .placed))
+    (λ c. law.parts-begin (c .before .before .before .before .before .before .before .before .before .args .sorts .now) (c .before .before .before .before .before .before .before .before .before .args .nodes .now) (c .before .before .before .before .before .before .before .before .before .args .binds .now) (c .before .before .before .before .before .before .before .before .before .args .trail .now) (c .before .before .before .before .before .before .before .before .before .args .lengths) (c .before .before .before .before .before .before .before .before .before .args .count) (c .before .before .before .before .before .before .before .before .before .pre .1 .0) (c .before .before .before .before .before .before .before .before .before .args .l .0) (c .before .before .before .before .before .before .before .before .before .args .r .0) (c .before .before .before .before .before .before .before .before .before .pre .1 .1) (c .before .before .before .before .before .before .before .before .before .pre .1 .2) _ (c .before .before .before .before .both-sorts .ensures) (c .before .before .before .if1 .left) _ (c .before .before .same-head .ensures) (not-false (c .before .before .same-head .result) (c .before .if2 .left)) _ (c .part-count .ensures))
+    (λ c κs. law.left-part _ _ _ _ _ _ (c .before .loop .inv .trying) _ _ _ _ _ _ _ _ (c .before .loop .inv) (c .loop-test .taken))
+    (λ c κs. law.right-part _ _ _ _ _ _ (c .before .before .loop .inv .trying) _ _ _ _ _ _ _ _ (c .before .before .loop .inv) (c .before .loop-test .taken))
+    (λ c κs. (omega (arith, c .before .before .before .before .before .before .before .before .before .before .before .before .before .before .before .pre .0, law.part-lower _ _ _ _ _ _ (c .before .before .before .before .before .loop .inv .trying) _ _ _ _ _ _ _ _ (c .before .before .before .before .before .loop .inv) (c .before .before .before .before .loop-test .taken) _ _ (c .before .before .before .part .ensures) (c .before .before .part2 .ensures)), (c .before .before .before .before .before .loop .inv .trying, law.left-placed _ _ _ _ _ _ (c .before .before .before .before .before .loop .inv .trying) _ _ _ _ _ _ _ _ (c .before .before .before .before .before .loop .inv) (c .before .before .before .before .loop-test .taken) _ _ (c .before .before .before .part .ensures) (c .before .before .part2 .ensures), law.right-placed _ _ _ _ _ _ (c .before .before .before .before .before .loop .inv .trying) _ _ _ _ _ _ _ _ (c .before .before .before .before .before .loop .inv) (c .before .before .before .before .loop-test .taken) _ _ (c .before .before .before .part .ensures) (c .before .before .part2 .ensures))))
+    (λ c. c .match .keys1)
+    (λ c. omega (arith, c .before .before .before .before .before .before .before .before .before .before .before .before .loop-test .taken, c .before .before .before .before .before .before .before .before .before .before .before .before .before .before .part-count .ok))
+    (λ c. omega (arith, c .before .before .before .before .before .before .before .before .before .before .before .before .loop-test .taken))
+    (λ c. law.parts-go-on _ _ _ _ _ _ (c .before .before .before .before .before .before .before .before .before .before .before .before .before .loop .inv .trying) _ _ _ _ _ _ _ _ (c .before .before .before .before .before .before .before .before .before .before .before .before .before .loop .inv) (c .before .before .before .before .before .before .before .before .before .before .before .before .loop-test .taken) _ _ (c .before .before .before .before .before .before .before .before .before .before .before .part .ensures) (c .before .before .before .before .before .before .before .before .before .before .part2 .ensures) _ _ _ _ (c .before .more .given .1) (c .before .before .before .before .before .before .before .unify .ensures) (c .before .before .before .before .before .before .before .unify .kept .1 .1 .0) (c .before .before .before .before .before .before .before .unify .kept .1 .1 .1 .0))
+    (λ c. c .match .keys2)
+    (λ c. c .before .before .before .before .before .before .before .unify .kept .1 .1 .0 ∙ c .before .before .before .before .before .before .before .before .before .before .before .before .before .loop .inv .same-binds)
+    (λ c. c .before .before .before .before .before .before .before .unify .kept .1 .1 .1 .0 ∙ c .before .before .before .before .before .before .before .before .before .before .before .before .before .loop .inv .same-trail)
+    (λ c. law.part-fails _ _ _ _ _ _ (c .before .before .before .before .before .before .before .before .before .before .before .before .before .loop .inv .trying) _ _ _ _ _ _ _ _ (c .before .before .before .before .before .before .before .before .before .before .before .before .before .loop .inv) (c .before .before .before .before .before .before .before .before .before .before .before .before .loop-test .taken) _ _ (c .before .before .before .before .before .before .before .before .before .before .before .part .ensures) (c .before .before .before .before .before .before .before .before .before .before .part2 .ensures) _ _ _ _ (c .before .more2 .given .1) (c .before .before .before .before .before .before .before .unify .ensures))
+    (λ c. c .before .loop .inv .same-binds)
+    (λ c. c .before .loop .inv .same-trail)
+    (λ c. law.all-parts _ _ _ _ _ _ (c .before .loop .inv .trying) _ _ _ _ _ _ _ _ (c .before .loop .inv) (c .loop-test .left))
