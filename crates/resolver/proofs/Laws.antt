@@ -19,7 +19,7 @@ use Rattle.resolved_sort.specs.Interning.{Sorts, look}
 use Rattle.resolved_sort.specs.Storage.{maxSorts, trees, sortsOf, lookAll}
 use Rattle.resolved_sort.specs.Entries.{countsOf, after, stored}
 use Rattle.resolved_sort.specs.Rows.{Checked, AllBelow, storedAt}
-use Rattle.resolved_sort.specs.Bounds.{internAt, storedDomain, domainOf}
+use Rattle.resolved_sort.specs.Bounds.{internAt, StoredDomain, storedDomain, domainOf}
 use Rattle.resolved_sort.proofs.Numbers.{member-look}
 use Rattle.resolved_sort.proofs.Trees.{length-trees}
 use Rattle.resolved_sort.proofs.Grown.{Grown, grown-none}
@@ -310,15 +310,15 @@ module _ (ws ns bs : List ℕ) (k : Lengths) (q : Ready ws ns bs k) (x : Default
           pub rest-same : sizes (termsAt (valueIn vs ns bs k′) (nodeEntriesOf ns (s + 1) (m - 1))) ≡ sizes rest
           rest-same = ap sizes (values-left (reached .sorts) (reached .grown) vs K (reached .words) (reached .counted) k′ ek (s + 1) (m - 1) rest-run)
 
-          pub arguments-made : (us : List ℕ) (d : Domain) (ids′ : List ℕ) → ids′ ≡ set ids t (c .0)
-              → storedDomain us d ≡ argumentsResolved vs k′ x (termsAt (valueIn vs ns bs k′) (nodeEntriesOf ns (s + 1) (m - 1))) (t + 1) ids′
-              → storedDomain us d ≡ argumentsResolved ws k x run t ids
+          pub arguments-made : argumentsResolved vs k′ x (termsAt (valueIn vs ns bs k′) (nodeEntriesOf ns (s + 1) (m - 1))) (t + 1) (set ids t (c .0)) ≡ argumentsResolved ws k x run t ids
           unfolding argumentsResolved
-          arguments-made us d ids′ ei u =
-              code.arguments-made ws C checked X default-in (val a) (formed a first-here) vs w ew′ c K z rest (run-formed (s + 1) (m - 1) rest-run) t ids us d
-              (u ∙ (arguments-left (reached .sorts) (reached .grown) vs K (reached .words) (reached .counted) k′ ek (s + 1) (m - 1) rest-run (t + 1) ids′
-              ∙ ap (λ ys. domainOf vs (K .sorts) (K .entries) (t + 1) ys (resolveArguments X rest (sortsOf vs (K .sorts) (K .entries)))) ei))
+          arguments-made =
+              code.arguments-made ws C checked X default-in (val a) (formed a first-here) vs w ew′ c K z rest (run-formed (s + 1) (m - 1) rest-run) t ids (there .words) (there .domain)
+              (arguments-left (reached .sorts) (reached .grown) vs K (reached .words) (reached .counted) k′ ek (s + 1) (m - 1) rest-run (t + 1) (set ids t (c .0)))
               ∙ back
+            where
+              there : StoredDomain
+              there = argumentsResolved vs k′ x (termsAt (valueIn vs ns bs k′) (nodeEntriesOf ns (s + 1) (m - 1))) (t + 1) (set ids t (c .0))
 
   -- a function
   module _ (s m g : ℕ) (r : RunPlaced ns k s m) (i : Placed k g) where

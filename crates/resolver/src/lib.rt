@@ -6,8 +6,6 @@ use infer_nodes::node;
 use infer_nodes::shallow_normalize;
 use infer_nodes::with_counts;
 use resolved_sort::Counts;
-use resolved_sort::Domain;
-use resolved_sort::Found;
 use resolved_sort::Joined;
 use resolved_sort::Run;
 use resolved_sort::SortId;
@@ -20,14 +18,13 @@ use unification::Lengths;
 use unification::NodeId;
 ghost use mathlib.Core.Path.{_≡_};
 ghost use mathlib.Core.List.{[], _∷_, _++_};
-ghost use Prim.Native.Nat.{ℕ, _+_, _<_, _≤_};
+ghost use Prim.Native.Nat.{_<_};
 ghost use Rattle.resolved_sort.specs.Rows.{storedAt};
-ghost use Rattle.resolved_sort.specs.Bounds.{storedDomain};
-ghost use Rattle.unification.specs.Term.{functionHead, var, app};
+ghost use Rattle.unification.specs.Term.{functionHead, app};
 ghost use Rattle.unification.specs.Nodes.{nodeEntriesOf};
 ghost use Rattle.unification.specs.Checked.{Ready, Placed};
 ghost use Rattle.unification.specs.Solutions.{termsAt};
-ghost use Rattle.unification.specs.Resolve.{freeSort, DefaultBelow, valueIn, termResolved, argumentsResolved};
+ghost use Rattle.unification.specs.Resolve.{freeSort, DefaultBelow, valueIn, termResolved};
 ghost use Rattle.infer_nodes.specs.Bound.{RunPlaced};
 
 // Extracts the resolved sort denoted by `id`, or nothing when a free variable remains, i.e. the sort is underdetermined.
@@ -110,7 +107,8 @@ fn resolve_with(
     }
 }
 
-// A function: its arguments, then its range, then the whole.
+// A function: its arguments, left to right, then its range, then the whole. One loop goes through the arguments, so that a level of
+// nesting costs one call of this function, as in merc.
 fn resolve_function(
     sorts: &mut [u16],
     nodes: &[u16],
@@ -125,78 +123,28 @@ fn resolve_function(
 {
     let start = domain.start;
     let count = domain.count;
-    let resolved = resolve_domain(
-        sorts,
-        nodes,
-        binds,
-        lengths,
-        default,
-        start,
-        count,
-        0,
-        [0u16; 16],
-    );
-    let ids = resolved.ids;
-    let found = resolved.found;
-    match found {
-        Found::All(made) => {
-            let then = with_counts(lengths, made);
-            match resolve_with(sorts, nodes, binds, then, default, range) {
-                Joined::At(id, then_made) => function(sorts, then_made, ids, count, id),
-                Joined::Nothing(then_made) => Joined::Nothing(then_made),
-                Joined::Full => Joined::Full,
+    let mut ids = [0u16; 16];
+    let mut here = lengths;
+    let mut i = 0u16;
+    while i < count {
+        let next = argument(nodes, start + i);
+        match resolve_with(sorts, nodes, binds, here, default, next) {
+            Joined::At(id, made) => {
+                ids[i as usize] = id.0;
+                here = with_counts(here, made);
+            }
+            Joined::Nothing(made) => {
+                return Joined::Nothing(made);
+            }
+            Joined::Full => {
+                return Joined::Full;
             }
         }
-        Found::Nothing(made) => Joined::Nothing(made),
-        Found::Full => Joined::Full,
+        i += 1;
     }
-}
-
-// A run of arguments, left to right, stored from the i-th of the ids on; the ids before it are those made already.
-fn resolve_domain(
-    sorts: &mut [u16],
-    nodes: &[u16],
-    binds: &[u16],
-    lengths: Lengths,
-    default: Default,
-    start: u16,
-    count: u16,
-    i: u16,
-    ids: [u16; 16],
-) -> Domain
-    requires { ⌜ Ready (now sorts) (now nodes) (now binds) lengths × DefaultBelow (lengths .sorts) default × RunPlaced (now nodes) lengths start count × (i + count ≤ 16) ⌝ }
-    ensures { λ r. ⌜ storedDomain (now (sorts .exit)) r ≡ argumentsResolved (now (sorts .entry)) lengths default (termsAt (valueIn (now (sorts .entry)) (now (nodes .entry)) (now (binds .entry)) lengths) (nodeEntriesOf (now (nodes .entry)) start count)) i ids ⌝ }
-{
-    if count == 0 {
-        return Domain {
-            ids,
-            found: Found::All(counts_of(lengths)),
-        };
-    }
-    let first = argument(nodes, start);
-    match resolve_with(sorts, nodes, binds, lengths, default, first) {
-        Joined::At(id, made) => {
-            let mut next = ids;
-            next[i as usize] = id.0;
-            resolve_domain(
-                sorts,
-                nodes,
-                binds,
-                with_counts(lengths, made),
-                default,
-                start + 1,
-                count - 1,
-                i + 1,
-                next,
-            )
-        }
-        Joined::Nothing(made) => Domain {
-            ids: [0u16; 16],
-            found: Found::Nothing(made),
-        },
-        Joined::Full => Domain {
-            ids: [0u16; 16],
-            found: Found::Full,
-        },
+    match resolve_with(sorts, nodes, binds, here, default, range) {
+        Joined::At(id, made) => function(sorts, made, ids, count, id),
+        Joined::Nothing(made) => Joined::Nothing(made),
+        Joined::Full => Joined::Full,
     }
 }

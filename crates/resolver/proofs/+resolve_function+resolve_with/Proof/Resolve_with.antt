@@ -1,35 +1,18 @@
-use Prim.Native.Nat.{ℕ, _<_}
-use borrow.Fn.Kinds.{In}
-use borrow.Fn.PlainCycle.{Measures, is, falls, and}
-use Rattle.resolver.proofs.resolve_domain.Reads as resolve-domain
-use Rattle.resolver.proofs.resolve_domain.Kinds as resolve-domain-kinds
-use Rattle.resolver.proofs.+resolve_domain+resolve_function+resolve_with.Lts-resolve_domain as resolve-domain-lts
+-- By what stands at the end of the place: each answer is a law of Laws. Assumes nothing.
+use Prim.Native.Nat.{ℕ}
 use Rattle.resolver.proofs.resolve_function.Reads as resolve-function
-use Rattle.resolver.proofs.resolve_function.Kinds as resolve-function-kinds
-use Rattle.resolver.proofs.+resolve_domain+resolve_function+resolve_with.Lts-resolve_function as resolve-function-lts
 use Rattle.resolver.proofs.resolve_with.Reads as resolve-with
-use Rattle.resolver.proofs.resolve_with.Kinds as resolve-with-kinds
-use Rattle.resolver.proofs.+resolve_domain+resolve_function+resolve_with.Lts-resolve_with as resolve-with-lts
-use Rattle.infer_nodes.proofs.argument.Reads as argument-reads
+use Rattle.resolver.proofs.+resolve_function+resolve_with.Lts-resolve_with as resolve-with-lts
 use Rattle.infer_nodes.proofs.node.Reads as node-reads
 use Rattle.infer_nodes.proofs.shallow_normalize.Reads as shallow-normalize-reads
 use Rattle.infer_nodes.proofs.counts_of.Reads as counts-of-reads
 use Rattle.resolver.proofs.free_sort.Reads as free-sort-reads
-use Rattle.infer_nodes.proofs.with_counts.Reads as with-counts-reads
-use Rattle.sort_bounds.proofs.function.Reads as function-reads
 use Rattle.sort_bounds.proofs.generic.Reads as generic-reads
 use borrow.Author.Needs.{needs}
-use mathlib.Core.Path.{_≡_, refl, sym, ap, subst, _∙_}
-use mathlib.Core.List.{[], _∷_, _++_}
-use Prim.Native.Nat.{_+_, _*_}
+use mathlib.Core.Path.{_∙_}
 use native.Mathlib.Omega.{arith}
-use Rattle.unification.specs.Term.{functionHead, app}
-use Rattle.unification.specs.Nodes.{nodeEntriesOf}
-use Rattle.unification.specs.Solutions.{termsAt}
-use Rattle.unification.specs.Resolve.{valueIn}
-use Rattle.unification.proofs.Exact.{size, sizes}
 use Rattle.resolver.proofs.Laws as law
-use Rattle.resolver.proofs.+resolve_domain+resolve_function+resolve_with.Proof.Common.{resolve-domain-at, resolve-domain-below, resolve-function-at, resolve-function-below, resolve-with-at, resolve-with-below}
+use Rattle.resolver.proofs.+resolve_function+resolve_with.Proof.Common.{resolve-function-below, resolve-with-at, resolve-with-below}
 
 pub part : (M : Type 1) (t : ℕ) → resolve-with-lts.Closed (shallow-normalize-reads.Asked, shallow-normalize-reads.Learnt, counts-of-reads.Asked, counts-of-reads.Learnt, node-reads.Asked, node-reads.Learnt, resolve-with-below t, resolve-with.Post, generic-reads.Asked, generic-reads.Learnt, resolve-function-below t, resolve-function.Post, free-sort-reads.Asked, free-sort-reads.Learnt) (resolve-with-at t) resolve-with.Post M
 part M t =
