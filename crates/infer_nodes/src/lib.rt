@@ -1,4 +1,4 @@
-// Inference nodes in lent storage, and where bindings lead: from merc's unification.rs, shallow_normalize, head and occurs.
+// Inference nodes in lent storage, and where bindings lead: from merc's unification.rs, shallow_normalize and occurs.
 use resolved_sort::ComplexSort;
 use resolved_sort::Counts;
 use resolved_sort::Run;

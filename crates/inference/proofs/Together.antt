@@ -134,9 +134,10 @@ module _ (I : Call) where
             subst (λ ns. Costing (graph W₀) (sortIn W₀) P (choicesOut L o) (f .assignment) (P .constraints) ns) (sym ms)
             (subst (λ zs. Costing (graph W₀) (sortIn W₀) P zs (f .assignment) (P .constraints) (c .measure)) (sym ks) (f .costs));
         names =
-            λ y l. subst (λ zs. (getD (L .typing) (3 * y + 1) 0 ≡ nameKind (nameOf P (baseNamesOf I) zs y)) × (getD (L .typing) (3 * y + 2) 0 ≡ nameSort (nameOf P (baseNamesOf I) zs y))) (sym ks)
-            (kind-row I (c .choices) 0 (c .sorts) _ y (omega (arith, l, many)) ∙ ap (λ z. nameKind (nameOf P (baseNamesOf I) (c .choices) z)) (omega arith),
-            name-row I (c .choices) 0 (c .sorts) _ y (omega (arith, l, many)) ∙ ap (λ z. nameSort (nameOf P (baseNamesOf I) (c .choices) z)) (omega arith));
+            λ y l. subst (λ zs. (getD (L .typing) (3 * y + 1) 0 ≡ nameKind (nameOf P (baseNamesOf I) zs y)) × (getD (L .typing) (3 * y + 2) 0 ≡ nameSort (nameOf P (baseNamesOf I) zs y))) (sym ks) (
+              kind-row I (c .choices) 0 (c .sorts) _ y (omega (arith, l, many)) ∙ ap (λ z. nameKind (nameOf P (baseNamesOf I) (c .choices) z)) (omega arith),
+              name-row I (c .choices) 0 (c .sorts) _ y (omega (arith, l, many)) ∙ ap (λ z. nameSort (nameOf P (baseNamesOf I) (c .choices) z)) (omega arith),
+            );
       }
 
   by-candidate : (W : Lent) (c : Candidate) → Fine W₀ B₀ P W c → (o : Outputs) (b : Bool) → judgedBy I W c b .answer ≡ Typing o → Explained (judgedBy I W c b) o

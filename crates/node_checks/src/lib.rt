@@ -1,4 +1,4 @@
-// Checks 1, 5, 6 and 7 of document 01 over lent nodes and bindings.
+// Checks 1, 5 and 6 of document 01 over lent nodes and bindings.
 use infer_nodes::node;
 use resolved_sort::Run;
 use sort_interner::word;
