@@ -25,6 +25,7 @@ use Rattle.unification.specs.Unify.{Unifies, yes-with, no-way, too-deep, deep, 
 use Rattle.unification.specs.Related.{each}
 use Rattle.unification.specs.Resolve.{value, termResolved}
 use Rattle.unification.specs.Making.{Lent, graph, Makes, made, no-list, no-room, withNodesOf, internContainer, strictRelated}
+use Rattle.unification.proofs.BoundStays.{Extends, extends-refl, extends-trans, unify-extends}
 use Rattle.unification.proofs.Outcomes.{Each, Any, each-then, each-container}
 use Rattle.unification.proofs.Room.{no-room-is-15-or-16}
 use Rattle.unification.proofs.StandsAlike.{length-each}
@@ -102,7 +103,7 @@ join-of-each B ps W =
     each-then (λ ss W. length ss ≡ length ps) (AsMany (length ps)) Perhaps EndsIn (resolveAll Nothing B ps W) agreed (one-sort-each Nothing B ps W)
     (λ ss W′ i. subst (λ n. Each (AsMany n) Perhaps EndsIn (agreed ss W′)) i (agreed-each ss W′))
 
--- The path e′ goes on from e: n components more, and choices of which K holds.
+-- The path e′ goes on from e: n components more, choices of which K holds, and bindings that extend those of e, so that no variable is bound twice.
 pub record Adds (e : Path) (n : ℕ) (K : List Choice → Type 0) (e′ : Path) : Type 0 where
   pub components : Components
   pub measure : e′ .measure ≡ e .measure ++ components
@@ -110,18 +111,19 @@ pub record Adds (e : Path) (n : ℕ) (K : List Choice → Type 0) (e′ : Path) 
   pub more : List Choice
   pub choices : e′ .choices ≡ e .choices ++ more
   pub fine : K more
+  pub binds : Extends (e .binds) (e′ .binds)
 
 abbrev pub NoChoice : List Choice → Type 0
 NoChoice ks = ks ≡ []
 
-adds-components : (e : Path) (ns : Components) (n : ℕ) → length ns ≡ n → (C : Binds) → Adds e n NoChoice (measured e ns C)
-adds-components e ns n i C = record { components = ns; measure = refl; many = i; more = []; choices = sym (append-nil (e .choices)); fine = refl }
+adds-components : (e : Path) (ns : Components) (n : ℕ) → length ns ≡ n → (C : Binds) → Extends (e .binds) C → Adds e n NoChoice (measured e ns C)
+adds-components e ns n i C x = record { components = ns; measure = refl; many = i; more = []; choices = sym (append-nil (e .choices)); fine = refl; binds = x }
 
-adds-choices : (e : Path) (ks : List Choice) (K : List Choice → Type 0) → K ks → (C : Binds) → Adds e 0 K (record { binds = C; measure = e .measure; choices = e .choices ++ ks })
-adds-choices e ks K h C = record { components = []; measure = sym (append-nil (e .measure)); many = refl; more = ks; choices = refl; fine = h }
+adds-choices : (e : Path) (ks : List Choice) (K : List Choice → Type 0) → K ks → (C : Binds) → Extends (e .binds) C → Adds e 0 K (record { binds = C; measure = e .measure; choices = e .choices ++ ks })
+adds-choices e ks K h C x = record { components = []; measure = sym (append-nil (e .measure)); many = refl; more = ks; choices = refl; fine = h; binds = x }
 
-adds-nothing : (e : Path) (K : List Choice → Type 0) → K [] → (C : Binds) → Adds e 0 K (bound e C)
-adds-nothing e K h C = record { components = []; measure = sym (append-nil (e .measure)); many = refl; more = []; choices = sym (append-nil (e .choices)); fine = h }
+adds-nothing : (e : Path) (K : List Choice → Type 0) → K [] → (C : Binds) → Extends (e .binds) C → Adds e 0 K (bound e C)
+adds-nothing e K h C x = record { components = []; measure = sym (append-nil (e .measure)); many = refl; more = []; choices = sym (append-nil (e .choices)); fine = h; binds = x }
 
 -- one stretch after another
 adds-after : (e e′ e″ : Path) (n m l : ℕ) (K L M : List Choice → Type 0) → Adds e n K e′ → Adds e′ m L e″ → n + m ≡ l → ((ks ls : List Choice) → K ks → L ls → M (ks ++ ls)) → Adds e l M e″
@@ -133,6 +135,7 @@ adds-after e e′ e″ n m l K L M a b s f =
       more = a .more ++ b .more;
       choices = b .choices ∙ (ap (λ xs. xs ++ b .more) (a .choices) ∙ append-assoc (e .choices) (a .more) (b .more));
       fine = f (a .more) (b .more) (a .fine) (b .fine);
+      binds = extends-trans (e .binds) (e′ .binds) (e″ .binds) (a .binds) (b .binds);
     }
 
 -- what is kept of a leaf with the sorts ss
@@ -202,14 +205,14 @@ module _ (Met : Type 0) (meet : Components → Met → Met) (P : Problem) (Went 
   says-goes u w true x = x
   says-goes u w false x = x
 
-  unifying-goes : (B : Binds) (l r : ℕ) (k : Binds → World Met → Out Met) (w : World Met) → ((C : Binds) → Goes Went w (k C w)) → Goes Went w (unifying B l r k w)
+  unifying-goes : (B : Binds) (l r : ℕ) (k : Binds → World Met → Out Met) (w : World Met) → ((C : Binds) → Extends B C → Goes Went w (k C w)) → Goes Went w (unifying B l r k w)
   unfolding unifying
-  unifying-goes B l r k w h = go (unify (graph (w .lent)) B l r)
+  unifying-goes B l r k w h = go (unify (graph (w .lent)) B l r) refl
     where
-      go : (U : Unifies) → Goes Went w (onYes U k w)
-      go (yes-with C) = h C
-      go no-way = missed-goes w (w .lent)
-      go too-deep = missed-goes w (w .lent)
+      go : (U : Unifies) → unify (graph (w .lent)) B l r ≡ U → Goes Went w (onYes U k w)
+      go (yes-with C) q = h C (unify-extends (graph (w .lent)) B l r C q)
+      go no-way q = missed-goes w (w .lent)
+      go too-deep q = missed-goes w (w .lent)
 
   on-made-goes : {A : Type 0} (In : A → Lent → Type 0) (N : Lent → Type 0) (m : Makes A) → Each In N EndsIn m → (u w : World Met) (k : A → World Met → Out Met) (g : World Met → Out Met)
       → ((a : A) (W : Lent) → In a W → Goes Went u (k a (lending w W))) → ((W : Lent) → N W → Goes Went u (g (lending w W))) → Goes Went u (onMade m k g w)
@@ -232,12 +235,12 @@ module _ (Met : Type 0) (meet : Components → Met → Met) (P : Problem) (Went 
   lent-goes w W k h = goes-after w (lending w W) (stays w W) (k (lending w W)) (h (lending w W))
 
   module _ (k : Path → World Met → Out Met) (e : Path) where
-    module _ (h : (n : ℕ) (C : Binds) → From (k (measured e (n ∷ []) C))) where
+    module _ (h : (n : ℕ) (C : Binds) → Extends (e .binds) C → From (k (measured e (n ∷ []) C))) where
       first-found-goes : (ts : List Try) → From (firstFound Met meet P ts k e)
       unfolding firstFound
       first-found-goes [] w = missed-goes w (w .lent)
       first-found-goes (t ∷ ts) w =
-          or-else-goes w _ (unifying-goes (e .binds) (t .left) (t .right) _ w (λ C. h (t .component) C w)) (firstFound Met meet P ts k e) (first-found-goes ts)
+          or-else-goes w _ (unifying-goes (e .binds) (t .left) (t .right) _ w (λ C x. h (t .component) C x w)) (firstFound Met meet P ts k e) (first-found-goes ts)
 
       -- the tries over what was made, whose nodes are given back
       tried-goes : (w : World Met) (W : Lent) (ts : List Try) → Goes Went w (givenBack (w .lent) (firstFound Met meet P ts k e (lending w W)))
@@ -255,7 +258,7 @@ module _ (Met : Type 0) (meet : Components → Met → Met) (P : Problem) (Went 
 
       widening-goes : (l r : ℕ) → From (widening Met meet P l r k e)
       unfolding widening
-      widening-goes l r w = or-else-goes w _ (unifying-goes (e .binds) l r _ w (λ C. h 0 C w)) (wider Met meet P l r k e) (wider-goes l r)
+      widening-goes l r w = or-else-goes w _ (unifying-goes (e .binds) l r _ w (λ C x. h 0 C x w)) (wider Met meet P l r k e) (wider-goes l r)
 
       literal-goes : (kind : LitKind) (p : ℕ) → From (literal Met meet P kind p k e)
       unfolding literal
@@ -263,7 +266,7 @@ module _ (Met : Type 0) (meet : Components → Met → Met) (P : Problem) (Went 
         where
           at : (g : Option ℕ) → Goes Went w (atSort Met meet P g k e w)
           at none = missed-goes w (w .lent)
-          at (some g) = h g (e .binds) w
+          at (some g) = h g (e .binds) (extends-refl (e .binds)) w
 
           by : (s : Shape) → Goes Went w (literalAt Met meet P kind p s k e w)
           by (variable v) = first-found-goes (litTries kind p) w
@@ -279,7 +282,7 @@ module _ (Met : Type 0) (meet : Components → Met → Met) (P : Problem) (Went 
           go none = missed-goes w (w .lent)
           go (some q) = by (graph (w .lent) q)
 
-    every-reading-goes : ((D : Binds) → From (k (bound e D))) → (rs : List Reading) (body node element : ℕ) (b : Bool) (u w : World Met) → Went u b w
+    every-reading-goes : ((D : Binds) → Extends (e .binds) D → From (k (bound e D))) → (rs : List Reading) (body node element : ℕ) (b : Bool) (u w : World Met) → Went u b w
         → Goes Went u (everyReading Met meet P rs body node element b k e w)
     unfolding everyReading
     every-reading-goes h [] body node element b u w x = says-goes u w b x
@@ -287,26 +290,26 @@ module _ (Met : Type 0) (meet : Components → Met → Met) (P : Problem) (Went 
         on-made-goes Any (λ W. ⊥) (internContainer (r .op) element (w .lent)) (each-container (λ W. ⊥) EndsIn Any (r .op) element (w .lent) (λ p W. tt) (inl refl)) u w _ missed
         (λ s W i.
         and-also-goes u (lending w W) b (subst (λ a. Went u a (lending w W)) (or-false b) (after u w (lending w W) b false x (stays w W))) _
-        (unifying-goes (e .binds) body (r .body) _ (lending w W) (λ C. unifying-goes C node s _ (lending w W) (λ D. h D (lending w W))))
+        (unifying-goes (e .binds) body (r .body) _ (lending w W) (λ C x. unifying-goes C node s _ (lending w W) (λ D y. h D (extends-trans (e .binds) C D x y) (lending w W))))
         (λ a. everyReading Met meet P rs body node element a k e) (λ a v y. every-reading-goes h rs body node element a u v y))
         (λ W i. absurd i)
 
-    every-overload-goes : (x p : ℕ) (os : List Overload) (i : ℕ) → ((j : ℕ) → j < i + length os → (C : Binds) → From (k (chosen e x j C))) → (b : Bool) (u w : World Met) → Went u b w
+    every-overload-goes : (x p : ℕ) (os : List Overload) (i : ℕ) → ((j : ℕ) → j < i + length os → (C : Binds) → Extends (e .binds) C → From (k (chosen e x j C))) → (b : Bool) (u w : World Met) → Went u b w
         → Goes Went u (everyOverload Met meet P x p os i b k e w)
     unfolding everyOverload
     every-overload-goes x p [] i h b u w y = says-goes u w b y
     every-overload-goes x p (o ∷ os) i h b u w y =
-        and-also-goes u w b y _ (unifying-goes (e .binds) p (o .sort .0) _ w (λ C. h i (omega arith) C w)) (λ a. everyOverload Met meet P x p os (i + 1) a k e)
+        and-also-goes u w b y _ (unifying-goes (e .binds) p (o .sort .0) _ w (λ C z. h i (omega arith) C z w)) (λ a. everyOverload Met meet P x p os (i + 1) a k e)
         (λ a v z. every-overload-goes x p os (i + 1) (λ j l. h j (omega (arith, l))) a u v z)
 
   sequence-goes : (ss : List ℕ) (t : ℕ) (k : Path → World Met → Out Met) (e : Path) → ((e′ : Path) → Adds e (length ss) NoChoice e′ → From (k e′)) → From (sequence Met meet P ss t k e)
   unfolding sequence
-  sequence-goes [] t k e h = h e (adds-nothing e NoChoice refl (e .binds))
+  sequence-goes [] t k e h = h e (adds-nothing e NoChoice refl (e .binds) (extends-refl (e .binds)))
   sequence-goes (s ∷ ss) t k e h =
       widening-goes (sequence Met meet P ss t k) e
-      (λ n C.
+      (λ n C x.
       sequence-goes ss t k (measured e (n ∷ []) C)
-      (λ e′ a. h e′ (adds-after e _ e′ 1 (length ss) _ NoChoice NoChoice NoChoice (adds-components e (n ∷ []) 1 refl C) a (omega arith) (λ ks ls i j. ap₂ _++_ i j))))
+      (λ e′ a. h e′ (adds-after e _ e′ 1 (length ss) _ NoChoice NoChoice NoChoice (adds-components e (n ∷ []) 1 refl C x) a (omega arith) (λ ks ls i j. ap₂ _++_ i j))))
       s t
 
   joining-goes : (ss : List ℕ) (t : ℕ) (k : Path → World Met → Out Met) (e : Path) → ((e′ : Path) → Adds e (length ss) NoChoice e′ → From (k e′)) → From (joining Met meet P ss t k e)
@@ -315,7 +318,7 @@ module _ (Met : Type 0) (meet : Components → Met → Met) (P : Problem) (Went 
       on-made-goes (AsMany (length ss)) Perhaps (joinOf (e .binds) ss (w .lent)) (join-of-each (e .binds) ss (w .lent)) w w _ (sequence Met meet P ss t k e)
       (λ a W i. lent-goes w W
       (λ v. orElse (unifying (e .binds) t (a .sort) (λ C. k (measured e (a .components) C)) v) (sequence Met meet P ss t k e))
-      (λ v. or-else-goes v _ (unifying-goes (e .binds) t (a .sort) _ v (λ C. h _ (adds-components e (a .components) (length ss) i C) v)) (sequence Met meet P ss t k e) (sequence-goes ss t k e h)))
+      (λ v. or-else-goes v _ (unifying-goes (e .binds) t (a .sort) _ v (λ C x. h _ (adds-components e (a .components) (length ss) i C x) v)) (sequence Met meet P ss t k e) (sequence-goes ss t k e h)))
       (λ W u. lent-goes w W (sequence Met meet P ss t k e) (sequence-goes ss t k e h))
 
   disjunction-goes : (x : ExprId) (p : InferSortId) (run : Run) (k : Path → World Met → Out Met) (e : Path) → ((e′ : Path) → Adds e 0 (Chooses (Disjunction x p run)) e′ → From (k e′))
@@ -323,7 +326,7 @@ module _ (Met : Type 0) (meet : Components → Met → Met) (P : Problem) (Went 
   unfolding step Chooses
   disjunction-goes x p run k e h w =
       every-overload-goes k e (x .0) (p .0) os 0
-      (λ j l C. h _ (adds-choices e (record { expr = x .0; position = j } ∷ []) (Chooses (Disjunction x p run)) (j, omega (arith, l, length-take (run .count) (drop (run .start) (P .overloads))), refl) C))
+      (λ j l C y. h _ (adds-choices e (record { expr = x .0; position = j } ∷ []) (Chooses (Disjunction x p run)) (j, omega (arith, l, length-take (run .count) (drop (run .start) (P .overloads))), refl) C y))
       false w w (stays w (w .lent))
     where
       os : List Overload
@@ -331,11 +334,11 @@ module _ (Met : Type 0) (meet : Components → Met → Met) (P : Problem) (Went 
 
   step-goes : (c : Constraint) (k : Path → World Met → Out Met) (e : Path) → ((e′ : Path) → Adds e (widthOf P c) (Chooses c) e′ → From (k e′)) → From (step Met meet P c k e)
   unfolding step widthOf Chooses
-  step-goes (Sub l r) k e h = widening-goes k e (λ n C. h _ (adds-components e (n ∷ []) 1 refl C)) (l .0) (r .0)
-  step-goes (Lit p kind) k e h = literal-goes k e (λ n C. h _ (adds-components e (n ∷ []) 1 refl C)) kind (p .0)
+  step-goes (Sub l r) k e h = widening-goes k e (λ n C x. h _ (adds-components e (n ∷ []) 1 refl C x)) (l .0) (r .0)
+  step-goes (Lit p kind) k e h = literal-goes k e (λ n C x. h _ (adds-components e (n ∷ []) 1 refl C x)) kind (p .0)
   step-goes (Disjunction x p run) k e h = disjunction-goes x p run k e h
   step-goes (Comprehension body node element) k e h =
-      λ w. every-reading-goes k e (λ D. h _ (adds-nothing e NoChoice refl D)) readings (body .0) (node .0) (element .0) false w w (stays w (w .lent))
+      λ w. every-reading-goes k e (λ D x. h _ (adds-nothing e NoChoice refl D x)) readings (body .0) (node .0) (element .0) false w w (stays w (w .lent))
   step-goes (Join run t) k e h = joining-goes (take (run .count) (drop (run .start) (P .sources))) (t .0) k e h
 
   unless-goes : (k : Path → World Met → Out Met) (e : Path) → From (k e) → From (unlessDominated Met meet P k e)
@@ -373,7 +376,7 @@ module _ (Met : Type 0) (meet : Components → Met → Met) (P : Problem) (Went 
   -- What holds of every leaf that the search reaches holds of the search.
   pub search-goes : (cs : List Constraint) (e : Path) → ((e′ : Path) → Adds e (width P cs) (Choosing cs) e′ → From (leaf Met meet P e′)) → From (solve Met meet P cs e)
   unfolding solve width
-  search-goes [] e h = unless-goes (leaf Met meet P) e (h e (adds-nothing e (Choosing []) none-to-choose (e .binds)))
+  search-goes [] e h = unless-goes (leaf Met meet P) e (h e (adds-nothing e (Choosing []) none-to-choose (e .binds) (extends-refl (e .binds))))
   search-goes (c ∷ cs) e h =
       unless-goes (step Met meet P c (solve Met meet P cs)) e
       (step-goes c (solve Met meet P cs) e

@@ -19,10 +19,10 @@ pub record Extends (B C : Binds) : Type 0 where
   pub stays : (u q : ℕ) → binding B u ≡ some q → binding C u ≡ some q
   pub long : length C ≡ length B
 
-extends-refl : (B : Binds) → Extends B B
+pub extends-refl : (B : Binds) → Extends B B
 extends-refl B = record { stays = λ u q e. e; long = refl }
 
-extends-trans : (B C D : Binds) → Extends B C → Extends C D → Extends B D
+pub extends-trans : (B C D : Binds) → Extends B C → Extends C D → Extends B D
 extends-trans B C D x y = record { stays = λ u q e. y .stays u q (x .stays u q e); long = y .long ∙ x .long }
 
 extends-set : (B : Binds) (v r : ℕ) → binding B v ≡ none → Extends B (set B v (some r))
