@@ -75,7 +75,7 @@ if "$bin/oracle" --check < "$work/wrong.txt" > "$work/out"; then fail "a wrong r
 grep -q 'checked 22 answers, 1 differ' "$work/out" || fail "a wrong record was not counted"
 
 step "generated lists: made twice alike, answered, recorded, checked"
-for class in solve join choice room full unify lattice damaged small pairs; do
+for class in solve join choice room full entries unify lattice damaged small pairs; do
     count=100
     [ "$class" != pairs ] || count=1
     options=(--class "$class" --seed 7 --count "$count")
@@ -86,10 +86,15 @@ for class in solve join choice room full unify lattice damaged small pairs; do
 done
 
 step "short soak"
-for class in solve join choice room full unify lattice damaged small; do
+for class in solve join choice room full entries unify lattice damaged small; do
     "$bin/oracle-soak" --class "$class" --seed 11 --count 2000 > "$work/soak" || fail "soak of $class"
     sed -n 2p "$work/soak"
 done
+
+step "lists and answers as a module"
+[ "$(./computed.sh --sample | cut -c1-13 | grep -c '      given ')" -ge 40 ] || fail "the sample of computed.sh"
+"$bin/oracle-gen" --class entries --seed 7 --count 500 | "$bin/oracle-computed" --code 15 --most 5 > "$work/module" 2> "$work/counts"
+grep -qx '  answers: 15: 5' "$work/counts" || fail "oracle-computed: $(cat "$work/counts")"
 
 step "bad input"
 grep -v '^#' bad-lines.txt | while IFS= read -r line; do
@@ -107,6 +112,9 @@ must_fail 2 "$bin/oracle" --wrong < /dev/null
 for options in "--class other" "--seed x" "--count" "--size 9" "--size 0" "--count -1" "wrong 1"; do
     must_fail 2 "$bin/oracle-gen" $options
     must_fail 2 "$bin/oracle-soak" $options
+done
+for options in "--each 0" "--most x" "--code" "--class solve"; do
+    must_fail 2 "$bin/oracle-computed" $options < /dev/null
 done
 echo "$(grep -cv '^#' bad-lines.txt) bad lines and the bad options were refused"
 

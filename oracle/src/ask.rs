@@ -17,6 +17,8 @@ use merc_counting::ledger::OutOfRoom;
 /// An answer, and what the search did on the way to it.
 pub struct Asked {
     pub answer: Answer,
+    /// The Rust's own reply; none after a refusal and where room ended.
+    pub heard: Option<Heard>,
     pub tally: Tally,
 }
 
@@ -42,14 +44,14 @@ impl fmt::Display for Failure {
 
 pub fn ask(memory: &Memory, question: Question) -> Result<Asked, Failure> {
     if let Some(code) = checks::first_failing(memory, question) {
-        return Ok(Asked { answer: Answer::code(code), tally: Tally::default() });
+        return Ok(Asked { answer: Answer::code(code), heard: None, tally: Tally::default() });
     }
     let counted = panic::catch_unwind(|| merc_counting::ask(memory, question));
     let tally = ledger::end();
     let counting = match counted {
         Ok(heard) => heard,
         Err(thrown) => match thrown.downcast_ref::<OutOfRoom>() {
-            Some(room) => return Ok(Asked { answer: Answer::code(room.code()), tally }),
+            Some(room) => return Ok(Asked { answer: Answer::code(room.code()), heard: None, tally }),
             None => return Err(Failure::Panic(message(&*thrown))),
         },
     };
@@ -59,7 +61,7 @@ pub fn ask(memory: &Memory, question: Question) -> Result<Asked, Failure> {
         return Err(Failure::Disagreement { plain: Box::new(plain), counting: Box::new(counting) });
     }
     let answer = Answer::heard(&counting, &tally, memory.sort_count);
-    Ok(Asked { answer, tally })
+    Ok(Asked { answer, heard: Some(counting), tally })
 }
 
 fn message(thrown: &(dyn Any + Send)) -> String {

@@ -22,5 +22,6 @@ pub mod Forgets
 pub mod Branches
 pub mod LeavesMet
 pub mod Choices
--- the starred situations, computed
+-- computed: the starred situations, and lists with their answers
 pub mod Situations
+pub mod Compared

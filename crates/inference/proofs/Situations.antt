@@ -29,12 +29,14 @@ use Rattle.inference.specs.declared.Solved.the-variants.{Refused, NoRoom
 use Rattle.inference.specs.Constraints as Constraints
 use Rattle.inference.specs.Measure as Measure
 use Rattle.inference.specs.Search as Search
+use Rattle.inference.specs.Names as Names
 use Rattle.inference.specs.SolveChecks.{Call}
 use Rattle.inference.specs.SolveChecks as SolveChecks
 use Rattle.inference.specs.SolveEntry.{Left, solveEntry, codeSolved}
 use Rattle.inference.specs.SolveEntry as SolveEntry
 
--- a list: sorts after the fixed six with their entries, nodes with their arguments, variables, expressions, constraints, overloads, sources, default
+-- a list: sorts after the fixed six with their entries, nodes with their arguments, variables, expressions, base names, constraints, overloads,
+-- sources, default
 pub record Given : Type 0 where
   pub sorts : List ℕ
   pub entries : List ℕ
@@ -42,12 +44,13 @@ pub record Given : Type 0 where
   pub arguments : List ℕ
   pub binds : List ℕ
   pub exprs : List ℕ
+  pub names : List ℕ
   pub constraints : List ℕ
   pub overloads : List ℕ
   pub sources : List ℕ
   pub default : ℕ
 
-row : ℕ → ℕ → ℕ → ℕ → List ℕ → List ℕ
+unfoldable pub row : ℕ → ℕ → ℕ → ℕ → List ℕ → List ℕ
 row kind part start count ws = kind ∷ part ∷ start ∷ count ∷ ws
 
 six : List ℕ → List ℕ
@@ -71,14 +74,14 @@ callOf G =
             variables = length (G .binds);
           };
       exprs = G .exprs;
-      names = [];
+      names = G .names;
       constraints = G .constraints;
       overloads = G .overloads;
       sources = G .sources;
       rows =
           record {
             exprs = length (G .exprs);
-            names = 0;
+            names = length (G .names) / 3;
             constraints = length (G .constraints) / 5;
             overloads = length (G .overloads) / 3;
             sources = length (G .sources);
@@ -89,6 +92,11 @@ callOf G =
       measure = replicate 256 0;
       choices = replicate 512 0;
     }
+
+-- The outcome of a list. To unfold it is to unfold all that it is computed through.
+unfoldable pub solved : Given → Left
+unfolding Checks.allBelow Checks.withinLent Checks.fixedSix Checks.partsBelow Checks.rowFine Checks.rowsFine Checks.noTwoEqual Checks.atCeiling Checks.firstFailing Tree.arity Tree.family Tree.level Tree.familyOp Tree.levelOp Tree.same Tree.sames Entries.stored Interning.look Interning.number Interning.member Interning.distinct Interning.need Interning.intern Interning.make Interning.makes Order.boundFlat Order.boundOp Order.distance Order.distances Order.materializable Bounds.boundAt Bounds.internAt Storage.resolved Storage.entriesOf Storage.lookAll Storage.treeOf Storage.trees Storage.kindFlat Storage.kindOp Storage.partFlat Storage.numbers Storage.rowOf Storage.putRow Storage.appendRow Storage.written Term.kindHead Term.numberHead Term.sameHead Acyclic.allSettled Acyclic.nodesSettled Acyclic.varsSettled Acyclic.rounds Acyclic.all Acyclic.acyclic Resolve.firsts Resolve.treeOver Resolve.resolveTerm Resolve.resolveTerms Resolve.termResolved Related.relatedNumbers Related.relatedContainer NodeChecks.nodesWithinLent NodeChecks.bindingsWithinLent NodeChecks.nodePartsFine NodeChecks.nodeKindFine NodeChecks.nodeFine NodeChecks.nodesFine NodeChecks.bindingsFine NodeChecks.nodeChecks Making.appendNode Making.pushNode Making.internContainer Making.pushFunctions Making.relatedTo Making.strictRelated Unify.follow Unify.occurs Unify.unifyTo Unify.unify Nodes.nodeEntriesOf Nodes.inferred Nodes.sortShape Nodes.nodeShape Nodes.isPlace Nodes.shapeAt Nodes.bindsOf Solutions.valueTo Names.runFor Names.chosenName Names.baseName Names.nameOf Constraints.target Constraints.litKind Constraints.constraint Constraints.rowsFrom Search.resolveIn Search.joinIn Search.resolveAll Search.joinAll Search.agreed Search.joinOf Search.litComponent Search.unifying Search.firstFound Search.widening Search.literal Search.everyReading Search.everyOverload Search.sequence Search.joining Search.step Search.leaf Search.solve SolveEntry.typingRows SolveEntry.solveEntry SolveEntry.codeSolved Measure.compare Measure.worse SolveChecks.allWithinLent SolveChecks.rowsWithinLent SolveChecks.outputsLong SolveChecks.targetFine SolveChecks.exprsFine SolveChecks.namesFine SolveChecks.overloadFine SolveChecks.constraintsFine SolveChecks.disjunctions SolveChecks.among SolveChecks.noTwo SolveChecks.joinsFine SolveChecks.components SolveChecks.longEnough SolveChecks.solveChecks row six storage callOf
+solved G = solveEntry (callOf G)
 
 -- what a run came to: the code, and for a typing the sorts of the expressions and the measure
 pub record Ran : Type 0 where
@@ -110,7 +118,7 @@ ranOf : Left → List ℕ → Ran
 ranOf L xs = record { code = codeSolved (L .answer); sorts = typedOf L (L .answer) xs .0; measure = typedOf L (L .answer) xs .1 }
 
 pub run : Given → Ran
-run G = ranOf (solveEntry (callOf G)) (upTo (length (G .exprs)))
+run G = ranOf (solved G) (upTo (length (G .exprs)))
 
 abbrev free : ℕ
 free = 65535
@@ -134,20 +142,20 @@ nat = 3
 abbrev real : ℕ
 real = 5
 
-sub : ℕ → ℕ → List ℕ → List ℕ
+unfoldable pub sub : ℕ → ℕ → List ℕ → List ℕ
 sub l r cs = 0 ∷ l ∷ r ∷ 0 ∷ 0 ∷ cs
 
-lit : ℕ → ℕ → List ℕ → List ℕ
+unfoldable pub lit : ℕ → ℕ → List ℕ → List ℕ
 lit p kind cs = 1 ∷ p ∷ kind ∷ 0 ∷ 0 ∷ cs
 
-disjunction : ℕ → ℕ → ℕ → ℕ → List ℕ → List ℕ
+unfoldable pub disjunction : ℕ → ℕ → ℕ → ℕ → List ℕ → List ℕ
 disjunction x p start count cs = 2 ∷ x ∷ p ∷ start ∷ count ∷ cs
 
-comprehension : ℕ → ℕ → ℕ → List ℕ → List ℕ
+unfoldable pub comprehension : ℕ → ℕ → ℕ → List ℕ → List ℕ
 comprehension body node element cs = 3 ∷ body ∷ node ∷ element ∷ 0 ∷ cs
 
-join : ℕ → ℕ → ℕ → List ℕ → List ℕ
-join t start count cs = 4 ∷ t ∷ 0 ∷ start ∷ count ∷ cs
+unfoldable pub join : ℕ → ℕ → ℕ → List ℕ → List ℕ
+join t start count cs = 4 ∷ t ∷ start ∷ count ∷ 0 ∷ cs
 
 -- one free expression with the variable 0, and constraints
 alone : List ℕ → Given
@@ -159,6 +167,7 @@ alone cs =
       arguments = [];
       binds = free ∷ [];
       exprs = v0 ∷ [];
+      names = [];
       constraints = cs;
       overloads = 1 ∷ 0 ∷ nat ∷ 1 ∷ 0 ∷ pos ∷ [];
       sources = pos ∷ nat ∷ [];
@@ -175,6 +184,7 @@ listed cs =
       arguments = [];
       binds = free ∷ [];
       exprs = v0 ∷ v1 ∷ [];
+      names = [];
       constraints = cs;
       overloads = [];
       sources = [];
@@ -191,6 +201,7 @@ comprehended cs =
       arguments = [];
       binds = free ∷ free ∷ [];
       exprs = v0 ∷ v1 ∷ [];
+      names = [];
       constraints = cs;
       overloads = [];
       sources = [];
@@ -207,6 +218,7 @@ functions cs =
       arguments = [];
       binds = free ∷ [];
       exprs = v0 ∷ [];
+      names = [];
       constraints = cs;
       overloads = [];
       sources = 6 ∷ 7 ∷ [];
@@ -255,5 +267,5 @@ situations =
     ∷ []
 
 pub starred : map (map (λ (r : Run). run (r .0))) situations ≡ map (map (λ (r : Run). r .1)) situations
-unfolding Checks.allBelow Checks.withinLent Checks.fixedSix Checks.partsBelow Checks.rowFine Checks.rowsFine Checks.noTwoEqual Checks.atCeiling Checks.firstFailing Tree.arity Tree.family Tree.level Tree.familyOp Tree.levelOp Tree.same Tree.sames Entries.stored Interning.look Interning.number Interning.member Interning.distinct Interning.need Interning.intern Interning.make Interning.makes Order.boundFlat Order.boundOp Order.distance Order.distances Order.materializable Bounds.boundAt Bounds.internAt Storage.resolved Storage.entriesOf Storage.lookAll Storage.treeOf Storage.trees Storage.kindFlat Storage.kindOp Storage.partFlat Storage.numbers Storage.rowOf Storage.putRow Storage.appendRow Storage.written Term.kindHead Term.numberHead Term.sameHead Acyclic.allSettled Acyclic.nodesSettled Acyclic.varsSettled Acyclic.rounds Acyclic.all Acyclic.acyclic Resolve.firsts Resolve.treeOver Resolve.resolveTerm Resolve.resolveTerms Resolve.termResolved Related.relatedNumbers Related.relatedContainer NodeChecks.nodesWithinLent NodeChecks.bindingsWithinLent NodeChecks.nodePartsFine NodeChecks.nodeKindFine NodeChecks.nodeFine NodeChecks.nodesFine NodeChecks.bindingsFine NodeChecks.nodeChecks Making.appendNode Making.pushNode Making.internContainer Making.pushFunctions Making.relatedTo Making.strictRelated Unify.follow Unify.occurs Unify.unifyTo Unify.unify Nodes.nodeEntriesOf Nodes.inferred Nodes.sortShape Nodes.nodeShape Nodes.isPlace Nodes.shapeAt Nodes.bindsOf Solutions.valueTo Constraints.litKind Constraints.constraint Constraints.rowsFrom Search.resolveIn Search.joinIn Search.resolveAll Search.joinAll Search.agreed Search.joinOf Search.litComponent Search.unifying Search.firstFound Search.widening Search.literal Search.everyReading Search.everyOverload Search.sequence Search.joining Search.step Search.leaf Search.solve SolveEntry.typingRows SolveEntry.solveEntry SolveEntry.codeSolved Measure.compare Measure.worse SolveChecks.allWithinLent SolveChecks.rowsWithinLent SolveChecks.outputsLong SolveChecks.targetFine SolveChecks.exprsFine SolveChecks.namesFine SolveChecks.overloadFine SolveChecks.constraintsFine SolveChecks.disjunctions SolveChecks.among SolveChecks.noTwo SolveChecks.joinsFine SolveChecks.components SolveChecks.longEnough SolveChecks.solveChecks row six storage callOf upTo ranOf run sub lit disjunction comprehension join alone listed comprehended functions typing verdict sort situations
+unfolding solved upTo ranOf run sub lit disjunction comprehension join alone listed comprehended functions typing verdict sort situations
 starred = refl

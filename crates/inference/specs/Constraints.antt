@@ -37,7 +37,7 @@ target kind sort = cond (eqb kind 1) Variable (cond (eqb kind 2) (Op (record { 0
 unfoldable pub litKind : ℕ → LitKind
 litKind kind = cond (eqb kind 0) Positive Natural
 
--- The kinds of constraints: 0 Sub, 1 Lit, 2 Disjunction, 3 Comprehension, 4 Join.
+-- The kinds of constraints: 0 Sub, 1 Lit, 2 Disjunction, 3 Comprehension, 4 Join. The run of a disjunction is in c and d, that of a Join in b and c.
 unfoldable pub constraint : ℕ → ℕ → ℕ → ℕ → ℕ → Constraint
 constraint kind a b c d =
     getD
@@ -46,7 +46,7 @@ constraint kind a b c d =
     ∷ Disjunction (record { 0 = a }) (record { 0 = b }) (record { start = c; count = d })
     ∷ Comprehension (record { 0 = a }) (record { 0 = b }) (record { 0 = c })
     ∷ [])
-    kind (Join (record { start = c; count = d }) (record { 0 = a }))
+    kind (Join (record { start = b; count = c }) (record { 0 = a }))
 
 abbrev pub constraintAt : List ℕ → ℕ → Constraint
 constraintAt cs i = constraint (getD cs (5 * i) 0) (getD cs (5 * i + 1) 0) (getD cs (5 * i + 2) 0) (getD cs (5 * i + 3) 0) (getD cs (5 * i + 4) 0)

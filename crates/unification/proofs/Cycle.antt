@@ -16,11 +16,11 @@ use Rattle.unification.specs.Term.{Shape, variable, over}
 use Rattle.unification.specs.Nodes.{nodeAt, nodeShape, isPlace, shapeAt, Binds, binding}
 use Rattle.unification.specs.NodeChecks.{bindingsFine}
 use Rattle.unification.specs.Acyclic.{One, first, later, Reaches, here, inside, beyond, Stands, at, within, placeSettled, allSettled, shapeSettled, nodesSettled, bindingSettled, rounds, all, acyclic}
-use Rattle.unification.specs.Checked.{NodesChecked, listsOf}
+use Rattle.unification.specs.Checked.{ListsFine, listsOf}
 use Rattle.unification.proofs.Numbering.{stands-scoped}
 use Rattle.unification.proofs.Places.{place-below, place-longer, bound-is-place}
 use Rattle.unification.proofs.Rows.{node-parts}
-use Rattle.unification.proofs.Lists.{node-parts-fine, Place, is-sort, is-node, is-stray, place, scoped}
+use Rattle.unification.proofs.FineLists.{node-parts-fine, Place, is-sort, is-node, is-stray, place, scoped}
 use Rattle.unification.proofs.Settles.{node-flag, node-is, var-is, length-rounds, settled-longer}
 
 -- some variable reaches itself
@@ -103,7 +103,7 @@ module _ (shape : ℕ → Shape) (B : Binds) where
   leads-on : (x y z : ℕ) → Leads x y → Leads y z → Leads x z
   leads-on x y z s t = (s .0, s .1, reaches-through y z (s .0) (s .2) t)
 
-module _ (ws : List ℕ) (n e : ℕ) (ns : List ℕ) (m d v : ℕ) (c : NodesChecked ws n e ns m d v) (B : Binds) where
+module _ (ws : List ℕ) (n e : ℕ) (ns : List ℕ) (m d v : ℕ) (c : ListsFine ws n e ns m d v) (B : Binds) where
   abbrev shape : ℕ → Shape
   shape = shapeAt (listsOf ws n ns m)
 
@@ -122,7 +122,7 @@ module _ (ws : List ℕ) (n e : ℕ) (ns : List ℕ) (m d v : ℕ) (c : NodesChe
 
   open-stands : (k w : ℕ) → OpenBelow k w
   open-stands k zero p l f o = absurd (omega (arith, l))
-  open-stands k (suc w) p l f o = go (place ws n e ns m d v c p) (open-stands k w)
+  open-stands k (suc w) p l f o = go (place ws n ns m p) (open-stands k w)
     where
       node : (i : ℕ) → i < m → p ≡ maxSorts + i → (s : Shape) → shape p ≡ s → nodeShape ns (nodeAt ns i) ≡ s → shapeSettled (rounds ns m B k) (nodesSettled ns (rounds ns m B k) i) s ≡ false
           → OpenBelow k w → Open k p
@@ -130,11 +130,11 @@ module _ (ws : List ℕ) (n e : ℕ) (ns : List ℕ) (m d v : ℕ) (c : NodesChe
       node i j x (over h ps) g y z ih =
           let r = one-open (nodesSettled ns (rounds ns m B k) i) ps z in
           let a = node-parts ns d n v i (nodeAt ns i) (node-parts-fine ws n e ns m d v c i j) (r .0) h ps y (r .1) in
-          let b = place-below n i (r .0) (c .sorts .sorts) a in
+          let b = place-below n i (r .0) (c .sorts) a in
           let t = ih (r .0) (omega (arith, b, x, l)) (place-longer n n i m (r .0) (omega arith) (omega (arith, j)) a) (sym (settled-longer ns (rounds ns m B k) n m i (r .0) (omega (arith, j)) a) ∙ r .2) in
           (t .0, within p (r .0) h ps g (r .1) (t .1), t .2)
 
-      go : Place ws n e ns m d v c p → OpenBelow k w → Open k p
+      go : Place ws n ns m p → OpenBelow k w → Open k p
       go (is-sort a j g) ih = absurd (true-not-false (placeSettled (flags k) p) (rw a) o)
       go (is-node i j x g) ih = node i j x (nodeShape ns (nodeAt ns i)) g refl (sym (node-is ns (rounds ns m B k) m i j) ∙ (node-flag (flags k) p i x ∙ o)) ih
       go (is-stray z g) ih = absurd (true-not-false (isPlace n m p) f z)

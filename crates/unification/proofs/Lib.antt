@@ -13,6 +13,7 @@ pub mod Binding
 pub mod Robinson
 pub mod Equations
 pub mod Solved
+pub mod FineLists
 pub mod Lists
 pub mod Settles
 pub mod Cycle

@@ -1,18 +1,17 @@
 -- The places of checked lists: parts are places with lower numbers, variables are in the list, and two sorts have different terms. By the rows that
--- stand there and what the checks say of them. Assumes nothing.
-use mathlib.Core.Path.{_≡_, refl, ap, ap₂, sym, _∙_, subst}
+-- stand there and what the checks say of them; all but the last, that two sorts differ, needs checks 1, 3 and 5 only (`FineLists`). Assumes nothing.
+use mathlib.Core.Path.{_≡_, refl, ap, ap₂, sym, _∙_}
 use mathlib.Core.List.{List, [], _∷_, _++_}
-use mathlib.Core.Bool.{Bool, true, false, cond, and-eq-true-iff}
-use Prim.Native.Nat.{ℕ, zero, suc, _+_, _-_, _<_, _≤_}
+use mathlib.Core.Bool.{true, cond, and-eq-true-iff}
+use Prim.Native.Nat.{ℕ, zero, suc, _+_, _<_, _≤_}
 use native.Mathlib.Omega.{arith}
 use lib.Dec.{eqb, leb, ltb}
-use borrow.Author.Tests.{ltb-true, ltb-false, leb-true}
+use borrow.Author.Tests.{ltb-true, leb-true}
 use Rattle.resolved_sort.specs.declared.Run.{Run}
 use Rattle.resolved_sort.specs.Tree.{Tree, flat, container, function, Trees, end, arg, arity}
 use Rattle.resolved_sort.specs.Interning.{look}
 use Rattle.resolved_sort.specs.Storage.{maxSorts, kindAt, partAt, startAt, countAt, entriesOf, resolved, rowAt, lookAll, treeOf, trees}
-use Rattle.resolved_sort.specs.Checks.{partsBelow, rowFine, rowsFine}
-use Rattle.resolved_sort.proofs.Below.{below-each}
+use Rattle.resolved_sort.specs.Checks.{partsBelow, rowFine}
 use Rattle.resolved_sort.proofs.Numbers.{true-not-false, look-injective}
 use Rattle.resolved_sort.proofs.Trees.{length-trees}
 use Rattle.resolved_sort.proofs.Pairs.{arity-lookAll}
@@ -20,16 +19,18 @@ use Rattle.resolved_sort.proofs.RowTrees.{by-kind}
 use Rattle.resolved_sort.proofs.Interned.{listed, trees-differ, look-tree}
 use Rattle.resolved_sort.proofs.Reached.{no-confusion}
 use Rattle.unification.specs.Term.{Head, functionHead, strayHead, Term, app, Terms, no-part, part, Shape, variable, over, termOf, termsOf}
-use Rattle.unification.specs.Nodes.{nodeAt, sortShape, nodeShape, Lists, isSort, isPlace, shapeAt}
+use Rattle.unification.specs.Nodes.{nodeAt, sortShape, Lists, isSort, isPlace, shapeAt}
 use Rattle.unification.specs.NodeChecks.{nodePartsFine, nodeFine}
 use Rattle.unification.specs.Acyclic.{One}
-use Rattle.unification.specs.Checked.{NodesChecked, listsOf}
+use Rattle.unification.specs.Checked.{ListsFine, NodesChecked, fineOf, listsOf}
 use Rattle.unification.specs.Solutions.{termsAt}
 use Rattle.unification.proofs.Exact.{shapeVal, Apart}
 use Rattle.unification.proofs.Numbering.{Lower}
-use Rattle.unification.proofs.Parts.{none-of, termsAt-agree}
-use Rattle.unification.proofs.Places.{sort-is-place, place-below, place-longer}
-use Rattle.unification.proofs.Rows.{sort-parts, node-parts, node-variable, sort-no-variable, length-entries, ShapeFormed, sort-formed, node-formed, node-fine-parts, nodes-fine-each}
+use Rattle.unification.proofs.Parts.{termsAt-agree}
+use Rattle.unification.proofs.Places.{sort-is-place}
+use Rattle.unification.proofs.FineLists.{Place, is-sort, is-node, is-stray, place}
+use Rattle.unification.proofs.FineLists as fine
+use Rattle.unification.proofs.Rows.{sort-parts, length-entries, ShapeFormed}
 
 -- the sort of a row and its shape say the same
 abbrev sortValue : List Tree → ℕ → Term
@@ -93,72 +94,33 @@ module _ (ws : List ℕ) (n e : ℕ) (ns : List ℕ) (m d v : ℕ) (c : NodesChe
   abbrev L : Lists
   L = listsOf ws n ns m
 
+  -- what holds of them before check 4 and however long the words are
+  abbrev f : ListsFine ws n e ns m d v
+  f = fineOf ws n e ns m d v c
+
   pub sort-fine : (p : ℕ) → p < n → rowFine ws e p ≡ true
-  unfolding rowsFine
-  sort-fine p l = below-each n (rowFine ws e) (c .sorts .fine) p l
+  sort-fine = fine.sort-fine ws n e ns m d v f
 
   pub node-fine : (i : ℕ) → i < m → nodeFine ns d n v i ≡ true
-  node-fine = nodes-fine-each ns m d n v (c .fine)
+  node-fine = fine.node-fine ws n e ns m d v f
 
   pub sort-parts-fine : (p : ℕ) → p < n → partsBelow ws e p (rowAt ws p) ≡ true
-  unfolding rowFine
-  sort-parts-fine p l = and-eq-true-iff (leb (kindAt ws p) 13) (partsBelow ws e p (rowAt ws p)) .0 (sort-fine p l) .1
+  sort-parts-fine = fine.sort-parts-fine ws n e ns m d v f
 
   pub node-parts-fine : (i : ℕ) → i < m → nodePartsFine ns d n v i (nodeAt ns i) ≡ true
-  node-parts-fine i l = node-fine-parts ns d n v i (node-fine i l) .1
-
-  -- what stands at a place: a sort of the list, a node of the list, or nothing
-  pub data Place (p : ℕ) : Type 0 where
-    is-sort : isSort p ≡ true → p < n → shapeAt L p ≡ sortShape ws (rowAt ws p) → Place p
-    is-node : (i : ℕ) → i < m → p ≡ maxSorts + i → shapeAt L p ≡ nodeShape ns (nodeAt ns i) → Place p
-    is-stray : isPlace n m p ≡ false → shapeAt L p ≡ over (strayHead p) [] → Place p
-
-  pub place : (p : ℕ) → Place p
-  unfolding shapeAt isPlace
-  place p = go (isSort p) refl (ltb p n) refl (ltb (p - maxSorts) m) refl
-    where
-      go : (a : Bool) → isSort p ≡ a → (b : Bool) → ltb p n ≡ b → (d : Bool) → ltb (p - maxSorts) m ≡ d → Place p
-      go true s true x d y = is-sort s (ltb-true p n x) (rw (s, x))
-      go true s false x d y = is-stray (rw (s, x)) (rw (s, x))
-      go false s b x true y =
-          let i : p ≡ maxSorts + (p - maxSorts) = omega (arith, ltb-false p maxSorts s) in
-          is-node (p - maxSorts) (ltb-true (p - maxSorts) m y) i (rw (s, y))
-      go false s b x false y = is-stray (rw (s, y)) (rw (s, y))
+  node-parts-fine = fine.node-parts-fine ws n e ns m d v f
 
   pub lower : Lower (shapeAt L) 3072
-  lower p q h ps s o = go (place p)
-    where
-      go : Place p → (q < p) × (p < 3072)
-      go (is-sort a l f) = (sort-parts ws e p (rowAt ws p) (sort-parts-fine p l) q h ps (sym f ∙ s) o, omega (arith, l, c .sorts .sorts))
-      go (is-node i l x f) =
-          let b = place-below n i q (c .sorts .sorts) (node-parts ns d n v i (nodeAt ns i) (node-parts-fine i l) q h ps (sym f ∙ s) o) in
-          (omega (arith, b, x), omega (arith, l, x, c .nodes))
-      go (is-stray z f) = none-of q ps o (let y : over (strayHead p) [] ≡ over h ps = sym f ∙ s in let w : ps ≡ [] = cc in w)
+  lower = fine.lower ws n e ns m d v f
 
   pub scoped : (p u : ℕ) → shapeAt L p ≡ variable u → u < v
-  scoped p u s = go (place p)
-    where
-      go : Place p → u < v
-      go (is-sort a l f) = sort-no-variable ws u (rowAt ws p) (sym f ∙ s)
-      go (is-node i l x f) = node-variable ns d n v i u (nodeAt ns i) (node-parts-fine i l) (sym f ∙ s)
-      go (is-stray z f) = let y : over (strayHead p) [] ≡ variable u = sym f ∙ s in no-confusion (cc)
+  scoped = fine.scoped ws n e ns m d v f
 
-  -- the parts of a place are places, and its head stands over as many as it should
   pub part-is-place : (p q : ℕ) (h : Head) (ps : List ℕ) → isPlace n m p ≡ true → shapeAt L p ≡ over h ps → One q ps → isPlace n m q ≡ true
-  part-is-place p q h ps k s o = go (place p)
-    where
-      go : Place p → isPlace n m q ≡ true
-      go (is-sort a l f) = sort-is-place n m q (c .sorts .sorts) (omega (arith, l, sort-parts ws e p (rowAt ws p) (sort-parts-fine p l) q h ps (sym f ∙ s) o))
-      go (is-node i l x f) = place-longer n n i m q (omega arith) (omega (arith, l)) (node-parts ns d n v i (nodeAt ns i) (node-parts-fine i l) q h ps (sym f ∙ s) o)
-      go (is-stray z f) = absurd (true-not-false (isPlace n m p) k z)
+  part-is-place = fine.part-is-place ws n e ns m d v f
 
   pub place-formed : (p : ℕ) → isPlace n m p ≡ true → ShapeFormed (shapeAt L p)
-  place-formed p k = go (place p)
-    where
-      go : Place p → ShapeFormed (shapeAt L p)
-      go (is-sort a l f) = subst ShapeFormed (sym f) (sort-formed ws e p (rowAt ws p) (sort-parts-fine p l))
-      go (is-node i l x f) = subst ShapeFormed (sym f) (node-formed ns d n v i (nodeAt ns i) (node-parts-fine i l))
-      go (is-stray z f) = absurd (true-not-false (isPlace n m p) k z)
+  place-formed = fine.place-formed ws n e ns m d v f
 
   abbrev T : List Tree
   T = trees ws n
@@ -174,14 +136,14 @@ module _ (ws : List ℕ) (n e : ℕ) (ns : List ℕ) (m d v : ℕ) (c : NodesChe
   module _ (σ val : ℕ → Term) (isval : (p : ℕ) → val p ≡ shapeVal σ val (shapeAt L p)) where
     pub sort-value : (k p : ℕ) → p < k → p < n → val p ≡ termOf (look T p)
     sort-value zero p l x = absurd (omega (arith, l))
-    sort-value (suc k) p l x = go (place p) (sort-value k)
+    sort-value (suc k) p l x = go (place ws n ns m p) (sort-value k)
       where
         same : (s : Shape) → sortShape ws (rowAt ws p) ≡ s → ((q : ℕ) → q < k → q < n → val q ≡ termOf (look T q)) → shapeVal σ val s ≡ shapeVal σ (sortValue T) s
         same (variable u) i ih = refl
         same (over h ps) i ih =
             ap (app h) (termsAt-agree val (sortValue T) ps (λ q o. let y = sort-parts ws e p (rowAt ws p) (sort-parts-fine p x) q h ps i o in ih q (omega (arith, l, y)) (omega (arith, x, y))))
 
-        go : Place p → ((q : ℕ) → q < k → q < n → val q ≡ termOf (look T q)) → val p ≡ termOf (look T p)
+        go : Place ws n ns m p → ((q : ℕ) → q < k → q < n → val q ≡ termOf (look T q)) → val p ≡ termOf (look T p)
         go (is-sort a y f) ih = isval p ∙ (ap (shapeVal σ val) f ∙ (same (sortShape ws (rowAt ws p)) refl ih ∙ sym (sort-says σ p x)))
         go (is-node i y z f) ih = absurd (omega (arith, x, z, c .sorts .sorts))
         go (is-stray z f) ih = absurd (true-not-false (isPlace n m p) (sort-is-place n m p (c .sorts .sorts) x) z)
@@ -195,7 +157,7 @@ module _ (ws : List ℕ) (n e : ℕ) (ns : List ℕ) (m d v : ℕ) (c : NodesChe
     tree-not-stray (container o t) x e = no-confusion (cc)
     tree-not-stray (function ts r) x e = no-confusion (cc)
 
-    apart-by : (l r : ℕ) → Place l → Place r → isSort l ≡ true → isSort r ≡ true → (l ≡ r → ⊥) → val l ≡ val r → ⊥
+    apart-by : (l r : ℕ) → Place ws n ns m l → Place ws n ns m r → isSort l ≡ true → isSort r ≡ true → (l ≡ r → ⊥) → val l ≡ val r → ⊥
     apart-by l r (is-sort a x f) (is-sort b y g) sl sr ne e =
         ne
         (look-injective T l r (trees-differ ws n _ (listed (c .sorts))) (omega (arith, x, length-trees ws n)) (omega (arith, y, length-trees ws n))
@@ -211,4 +173,4 @@ module _ (ws : List ℕ) (n e : ℕ) (ns : List ℕ) (m d v : ℕ) (c : NodesChe
     apart-by l r (is-stray z f) (is-node i y x g) sl sr ne e = absurd (omega (arith, x, ltb-true r maxSorts sr))
 
   pub apart : Apart (shapeAt L)
-  apart l r sl sr ne σ val isval e = apart-by σ val isval l r (place l) (place r) sl sr ne e
+  apart l r sl sr ne σ val isval e = apart-by σ val isval l r (place ws n ns m l) (place ws n ns m r) sl sr ne e

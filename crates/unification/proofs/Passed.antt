@@ -1,4 +1,5 @@
--- Lists and bindings that pass checks 1 and 3 to 7 and are lent at their ceilings are ready: the parts of the checks, taken apart. Assumes nothing.
+-- Lists that pass checks 1, 3 and 5 are fine; lists and bindings that pass 1 and 3 to 7 and are lent at their ceilings are ready: the parts of the checks,
+-- taken apart. Assumes nothing.
 use mathlib.Core.Path.{_≡_, refl}
 use mathlib.Core.Bool.{Bool, true, _&&_, and-eq-true-iff}
 use mathlib.Core.List.{List, [], _∷_}
@@ -12,7 +13,7 @@ use Rattle.resolved_sort.specs.Checks.{withinLent, rowsFine, noTwoEqual, atCeil
 use Rattle.unification.specs.Nodes.{maxNodes, maxNodeEntries, maxVars, nodeEntriesAt, fullNodes, bindsOf}
 use Rattle.unification.specs.Acyclic.{acyclic}
 use Rattle.unification.specs.NodeChecks.{nodesWithinLent, bindingsWithinLent, nodesFine, bindingsFine}
-use Rattle.unification.specs.Checked.{NodesChecked, Ready}
+use Rattle.unification.specs.Checked.{ListsFine, NodesChecked, Ready}
 use Rattle.unification.proofs.Theorem.{binds-checked}
 
 pub length-binds : (bs : List ℕ) (n : ℕ) → length (bindsOf bs n) ≡ n
@@ -40,6 +41,9 @@ module _ (ws : List ℕ) (n e : ℕ) (ns : List ℕ) (m d : ℕ) (bs : List ℕ)
   pub var-counts : (v ≤ maxVars) × (v ≤ length bs)
   unfolding bindingsWithinLent
   var-counts = let u = and-eq-true-iff (leb v maxVars) (leb v (length bs)) .0 binds-within in (leb-true v maxVars (u .0), leb-true v (length bs) (u .1))
+
+  pub passed-fine : rowsFine ws n e ≡ true → nodesFine ns m d n v ≡ true → ListsFine ws n e ns m d v
+  passed-fine rows nodes = record { sorts = sort-counts .0; rows = rows; nodes = node-counts .0; variables = var-counts .0; fine = nodes }
 
   module _ (rows : rowsFine ws n e ≡ true) (differ : noTwoEqual ws n ≡ true) (nodes : nodesFine ns m d n v ≡ true) (binds : bindingsFine n m (bindsOf bs v) ≡ true)
       (no-cycle : acyclic ns m (bindsOf bs v) ≡ true) (sorts-long : atCeiling ws ≡ true) (nodes-long : leb fullNodes (length ns) ≡ true) where

@@ -23,7 +23,8 @@ use Rattle.unification.proofs.Exact.{shapeVal, follow-value}
 use Rattle.unification.proofs.Numbering.{Lower}
 use Rattle.unification.proofs.Places.{sort-is-place}
 use Rattle.unification.proofs.Rows.{sort-parts, ShapeFormed, fixed-six-kinds}
-use Rattle.unification.proofs.Lists.{sort-parts-fine, Place, is-sort, is-node, is-stray, place, lower, sort-value, place-formed}
+use Rattle.unification.proofs.FineLists.{Place, is-sort, is-node, is-stray, place}
+use Rattle.unification.proofs.Lists.{sort-parts-fine, lower, sort-value, place-formed}
 use Rattle.unification.proofs.Solved.{value-by-shape, model-of}
 use Rattle.unification.proofs.Grows.{CheckedLent, PlacedIn}
 
@@ -58,9 +59,9 @@ module _ (W : Lent) (c : CheckedLent W) where
 
   -- the parts of a sort are sorts
   pub sort-part-below : (p q : ℕ) (h : Head) (ps : List ℕ) → isSort p ≡ true → PlacedIn W p → graph W p ≡ over h ps → One q ps → q < n
-  sort-part-below p q h ps s x f o = go (place ws n e ns m d v c p)
+  sort-part-below p q h ps s x f o = go (place ws n ns m p)
     where
-      go : Place ws n e ns m d v c p → q < n
+      go : Place ws n ns m p → q < n
       go (is-sort a l g) = omega (arith, l, sort-parts ws e p (rowAt ws p) (sort-parts-fine ws n e ns m d v c p l) q h ps (sym g ∙ f) o)
       go (is-node i l y g) = absurd (omega (arith, y, ltb-true p maxSorts s))
       go (is-stray z g) = absurd (true-not-false (isPlace n m p) x z)

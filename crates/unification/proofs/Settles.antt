@@ -16,11 +16,11 @@ use Rattle.resolved_sort.proofs.Reached.{no-confusion}
 use Rattle.unification.specs.Term.{strayHead, variable, over}
 use Rattle.unification.specs.Nodes.{nodeAt, nodeShape, Lists, isSort, isPlace, shapeAt, Binds, binding}
 use Rattle.unification.specs.Acyclic.{One, first, later, Stands, at, within, Numbering, placeSettled, allSettled, shapeSettled, nodesSettled, bindingSettled, varsSettled, rounds, all, acyclic}
-use Rattle.unification.specs.Checked.{NodesChecked, listsOf}
+use Rattle.unification.specs.Checked.{ListsFine, listsOf}
 use Rattle.unification.proofs.Numbering.{numbered}
 use Rattle.unification.proofs.Parts.{none-of}
 use Rattle.unification.proofs.Rows.{sort-parts, sort-no-variable, node-parts}
-use Rattle.unification.proofs.Lists.{sort-parts-fine, node-parts-fine, Place, is-sort, is-node, is-stray, place, scoped}
+use Rattle.unification.proofs.FineLists.{sort-parts-fine, node-parts-fine, Place, is-sort, is-node, is-stray, place, scoped}
 
 all-one : (ms : List Bool) (q : ℕ) (ps : List ℕ) → One q ps → allSettled ms ps ≡ true → placeSettled ms q ≡ true
 unfolding allSettled
@@ -111,7 +111,7 @@ unfolding rounds
 length-rounds ns m B zero = length-replicate (length B) false
 length-rounds ns m B (suc k) = length-vars (nodesSettled ns (rounds ns m B k) m) B
 
-module _ (ws : List ℕ) (n e : ℕ) (ns : List ℕ) (m d v : ℕ) (c : NodesChecked ws n e ns m d v) (B : Binds) where
+module _ (ws : List ℕ) (n e : ℕ) (ns : List ℕ) (m d v : ℕ) (c : ListsFine ws n e ns m d v) (B : Binds) where
   abbrev L : Lists
   L = listsOf ws n ns m
 
@@ -123,18 +123,18 @@ module _ (ws : List ℕ) (n e : ℕ) (ns : List ℕ) (m d v : ℕ) (c : NodesChe
 
   -- what stands in a settled sort is settled
   stands-settled : (k u p : ℕ) → Stands (shapeAt L) u p → placeSettled (flags k) p ≡ true → settled k u ≡ true
-  stands-settled k u _ (at p s) f = go (place ws n e ns m d v c p)
+  stands-settled k u _ (at p s) f = go (place ws n ns m p)
     where
-      go : Place ws n e ns m d v c p → settled k u ≡ true
+      go : Place ws n ns m p → settled k u ≡ true
       go (is-sort a l g) = sort-no-variable ws u (rowAt ws p) (sym g ∙ s)
       go (is-node i l x g) =
           let y : nodeShape ns (nodeAt ns i) ≡ variable u = sym g ∙ s in
           sym (ap (shapeSettled (rounds ns m B k) (nodesSettled ns (rounds ns m B k) i)) y) ∙ (sym (node-is ns (rounds ns m B k) m i l) ∙ (node-flag (flags k) p i x ∙ f))
       go (is-stray z g) = let y : over (strayHead p) [] ≡ variable u = sym g ∙ s in no-confusion (cc)
-  stands-settled k u _ (within p q h ps s o t) f = stands-settled k u q t (go (place ws n e ns m d v c p))
+  stands-settled k u _ (within p q h ps s o t) f = stands-settled k u q t (go (place ws n ns m p))
     where
-      go : Place ws n e ns m d v c p → placeSettled (flags k) q ≡ true
-      go (is-sort a l g) = sort-settled (flags k) q (omega (arith, sort-parts ws e p (rowAt ws p) (sort-parts-fine ws n e ns m d v c p l) q h ps (sym g ∙ s) o, l, c .sorts .sorts))
+      go : Place ws n ns m p → placeSettled (flags k) q ≡ true
+      go (is-sort a l g) = sort-settled (flags k) q (omega (arith, sort-parts ws e p (rowAt ws p) (sort-parts-fine ws n e ns m d v c p l) q h ps (sym g ∙ s) o, l, c .sorts))
       go (is-node i l x g) =
           let y : nodeShape ns (nodeAt ns i) ≡ over h ps = sym g ∙ s in
           let z = sym (ap (shapeSettled (rounds ns m B k) (nodesSettled ns (rounds ns m B k) i)) y) ∙ (sym (node-is ns (rounds ns m B k) m i l) ∙ (node-flag (flags k) p i x ∙ f)) in

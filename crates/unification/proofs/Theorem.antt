@@ -1,4 +1,5 @@
--- Robinson's theorem for the lists that pass their checks: the depths of the definition are enough for the ceilings. Assumes nothing.
+-- Robinson's theorem for the lists that pass their checks: the depths of the definition are enough for the ceilings. And check 7 is right wherever checks 1,
+-- 3, 5 and 6 pass. Assumes nothing.
 use mathlib.Core.Path.{_≡_, refl}
 use mathlib.Core.Bool.{Bool, true, false}
 use mathlib.Core.List.{List}
@@ -7,40 +8,29 @@ use Prim.Native.Nat.{ℕ, suc, _+_, _*_, _<_, _≤_}
 use native.Mathlib.Omega.{arith}
 use lib.ListN.{length}
 use Rattle.unification.specs.declared.Lengths.{Lengths}
-use Rattle.unification.specs.Nodes.{shapeAt, Binds, bindsOf}
+use Rattle.unification.specs.Nodes.{maxVars, shapeAt, Binds, bindsOf}
 use Rattle.unification.specs.Unify.{deep, deeper, unify}
 use Rattle.unification.specs.Acyclic.{Acyclic, acyclic}
 use Rattle.unification.specs.NodeChecks.{bindingsFine}
-use Rattle.unification.specs.Checked.{NodesChecked, listsOf, BindsChecked, graphOf, Ready}
+use Rattle.unification.specs.Checked.{ListsFine, NodesChecked, fineOf, listsOf, BindsChecked, graphOf, Ready}
 use Rattle.unification.specs.Solutions.{Robinson}
 use Rattle.unification.proofs.Rank.{Ranked}
 use Rattle.unification.proofs.Numbering.{numbered-ranked}
+use Rattle.unification.proofs.FineLists as fine
 use Rattle.unification.proofs.Lists.{lower, scoped, apart}
 use Rattle.unification.proofs.Settles.{acyclic-numbered}
 use Rattle.unification.proofs.Cycle.{Cyclic, refused-cyclic}
 use Rattle.unification.proofs.Solved.{robinson, numbered-acyclic}
 
-module _ (ws : List ℕ) (n e : ℕ) (ns : List ℕ) (m d v : ℕ) (c : NodesChecked ws n e ns m d v) where
-  pub deep-enough : suc v * 3073 + 3072 < deep
-  deep-enough = omega (arith, c .variables)
+deep-for : (v : ℕ) → v ≤ maxVars → suc v * 3073 + 3072 < deep
+deep-for v l = omega (arith, l)
 
-  pub deeper-enough : suc v * deep ≤ deeper
-  deeper-enough = omega (arith, c .variables)
-
-  -- ranks are bounded
-  pub checked-ranked : (B : Binds) → BindsChecked (listsOf ws n ns m) v B → Ranked (shapeAt (listsOf ws n ns m)) deep B
-  checked-ranked B b = numbered-ranked (shapeAt (listsOf ws n ns m)) 3072 (lower ws n e ns m d v c) v B (b .numbered) deep deep-enough
-
-  -- "Unification is proved against Robinson": every answer of unify on checked lists.
-  pub unify-is-robinson : (B : Binds) → BindsChecked (listsOf ws n ns m) v B → (l r : ℕ) → Robinson (shapeAt (listsOf ws n ns m)) B l r (unify (shapeAt (listsOf ws n ns m)) B l r)
-  unfolding unify
-  unify-is-robinson B b l r =
-      robinson (shapeAt (listsOf ws n ns m)) 3072 (lower ws n e ns m d v c) v (scoped ws n e ns m d v c) deep deep-enough (apart ws n e ns m d v c) deeper deeper-enough B (b .numbered) (b .many) l r
-
+-- Check 7, of lists that pass checks 1, 3 and 5: it is asked before 14, so the words lent may be short.
+module _ (ws : List ℕ) (n e : ℕ) (ns : List ℕ) (m d v : ℕ) (c : ListsFine ws n e ns m d v) where
   -- Bindings that pass check 7: no variable reaches itself.
   pub check-7-acyclic : (B : Binds) → acyclic ns m B ≡ true → Acyclic (shapeAt (listsOf ws n ns m)) B
   check-7-acyclic B a =
-      numbered-acyclic (shapeAt (listsOf ws n ns m)) 3072 (lower ws n e ns m d v c) v (scoped ws n e ns m d v c) deep deep-enough B (acyclic-numbered ws n e ns m d v c B a)
+      numbered-acyclic (shapeAt (listsOf ws n ns m)) 3072 (fine.lower ws n e ns m d v c) v (fine.scoped ws n e ns m d v c) deep (deep-for v (c .variables)) B (acyclic-numbered ws n e ns m d v c B a)
 
   -- Check 7 passes exactly where no variable reaches itself, and refuses exactly where one does.
   pub check-7-exactly : (B : Binds) → length B ≡ v → bindingsFine n m B ≡ true
@@ -55,8 +45,25 @@ module _ (ws : List ℕ) (n e : ℕ) (ns : List ℕ) (m d v : ℕ) (c : NodesChe
       refuses true a r = absurd (check-7-acyclic B a (r .0) (r .1) (r .2) (r .3))
       refuses false a r = refl
 
+module _ (ws : List ℕ) (n e : ℕ) (ns : List ℕ) (m d v : ℕ) (c : NodesChecked ws n e ns m d v) where
+  pub deep-enough : suc v * 3073 + 3072 < deep
+  deep-enough = deep-for v (c .variables)
+
+  pub deeper-enough : suc v * deep ≤ deeper
+  deeper-enough = omega (arith, c .variables)
+
+  -- ranks are bounded
+  pub checked-ranked : (B : Binds) → BindsChecked (listsOf ws n ns m) v B → Ranked (shapeAt (listsOf ws n ns m)) deep B
+  checked-ranked B b = numbered-ranked (shapeAt (listsOf ws n ns m)) 3072 (lower ws n e ns m d v c) v B (b .numbered) deep deep-enough
+
+  -- "Unification is proved against Robinson": every answer of unify on checked lists.
+  pub unify-is-robinson : (B : Binds) → BindsChecked (listsOf ws n ns m) v B → (l r : ℕ) → Robinson (shapeAt (listsOf ws n ns m)) B l r (unify (shapeAt (listsOf ws n ns m)) B l r)
+  unfolding unify
+  unify-is-robinson B b l r =
+      robinson (shapeAt (listsOf ws n ns m)) 3072 (lower ws n e ns m d v c) v (scoped ws n e ns m d v c) deep deep-enough (apart ws n e ns m d v c) deeper deeper-enough B (b .numbered) (b .many) l r
+
   pub binds-checked : (B : Binds) → length B ≡ v → bindingsFine n m B ≡ true → acyclic ns m B ≡ true → BindsChecked (listsOf ws n ns m) v B
-  binds-checked B l f a = record { many = l; places = f; numbered = acyclic-numbered ws n e ns m d v c B a }
+  binds-checked B l f a = record { many = l; places = f; numbered = acyclic-numbered ws n e ns m d v (fineOf ws n e ns m d v c) B a }
 
 pub ready-ranked : (ws ns bs : List ℕ) (k : Lengths) → Ready ws ns bs k → Ranked (graphOf ws ns k) deep (bindsOf bs (k .variables))
 ready-ranked ws ns bs k q = checked-ranked ws (k .sorts) (k .entries) ns (k .nodes) (k .arguments) (k .variables) (q .nodes) (bindsOf bs (k .variables)) (q .binds)

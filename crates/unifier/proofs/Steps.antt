@@ -30,7 +30,8 @@ use Rattle.unification.proofs.Parts.{one-at}
 use Rattle.unification.proofs.Rows.{sort-no-variable}
 use Rattle.unification.proofs.Follow.{follow-end}
 use Rattle.unification.proofs.Enough.{end-no-higher}
-use Rattle.unification.proofs.Lists.{lower, scoped, Place, is-sort, is-node, is-stray, place, part-is-place}
+use Rattle.unification.proofs.FineLists.{Place, is-sort, is-node, is-stray, place}
+use Rattle.unification.proofs.Lists.{lower, scoped, part-is-place}
 use Rattle.unification.proofs.Robinson.{Next, Kept, unify-kept}
 use Rattle.unification.proofs.Equations.{unify-eq}
 use Rattle.unification.proofs.Theorem.{deep-enough, deeper-enough, ready-ranked}
@@ -67,9 +68,9 @@ module _ (ws ns bs ts : List ℕ) (k : Lengths) (c : ℕ) (t : Trying ws ns bs t
       deeper (deeper-enough ws (k .sorts) (k .entries) ns (k .nodes) (k .arguments) (k .variables) (q .nodes)) B l r (q .binds .many) (q .binds .numbered)
 
   variable-is-no-sort : (p u : ℕ) → shape p ≡ variable u → isSort p ≡ false
-  variable-is-no-sort p u s = go (place ws (k .sorts) (k .entries) ns (k .nodes) (k .arguments) (k .variables) (q .nodes) p)
+  variable-is-no-sort p u s = go (place ws (k .sorts) ns (k .nodes) p)
     where
-      go : Place ws (k .sorts) (k .entries) ns (k .nodes) (k .arguments) (k .variables) (q .nodes) p → isSort p ≡ false
+      go : Place ws (k .sorts) ns (k .nodes) p → isSort p ≡ false
       go (is-sort a l g) = sort-no-variable ws u (rowAt ws p) (sym g ∙ s)
       go (is-node i l x g) = le-ltb p maxSorts (omega (arith, x))
       go (is-stray z g) = let y : over _ [] ≡ variable u = sym g ∙ s in no-confusion (cc)

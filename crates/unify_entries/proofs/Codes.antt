@@ -21,18 +21,20 @@ use Rattle.unification.specs.UnifyEntry.{Left, left, leftBy, unifyEntry, codeUn
 abbrev pub Numbered : ℕ → Type 0
 Numbered c = (1 ≤ c) × (c ≤ 14)
 
-abbrev AllNumbered : List Check → Type 0
-AllNumbered [] = Unit {0}
-AllNumbered (c ∷ cs) = Numbered (c .code) × AllNumbered cs
+-- what holds of the number of each check holds of the one that fails
+module _ (P : ℕ → Type 0) where
+  abbrev pub EachNumber : List Check → Type 0
+  EachNumber [] = Unit {0}
+  EachNumber (c ∷ cs) = P (c .code) × EachNumber cs
 
-failing-numbered : (cs : List Check) (c : ℕ) → AllNumbered cs → firstFailing cs ≡ some c → Numbered c
-unfolding firstFailing
-failing-numbered [] c h e = let z : _≡_ {A = ℕ} 0 1 = cc in absurd (omega arith)
-failing-numbered (k ∷ cs) c h e = go (k .passes) e (failing-numbered cs c (h .1))
-  where
-    go : (b : Bool) → cond b (firstFailing cs) (some (k .code)) ≡ some c → (firstFailing cs ≡ some c → Numbered c) → Numbered c
-    go true e ih = ih e
-    go false e ih = let z : k .code ≡ c = cc in subst Numbered z (h .0)
+  pub failing-number : (cs : List Check) (c : ℕ) → EachNumber cs → firstFailing cs ≡ some c → P c
+  unfolding firstFailing
+  failing-number [] c h e = let z : _≡_ {A = ℕ} 0 1 = cc in absurd (omega arith)
+  failing-number (k ∷ cs) c h e = go (k .passes) e (failing-number cs c (h .1))
+    where
+      go : (b : Bool) → cond b (firstFailing cs) (some (k .code)) ≡ some c → (firstFailing cs ≡ some c → P c) → P c
+      go true e ih = ih e
+      go false e ih = let z : k .code ≡ c = cc in subst P z (h .0)
 
 -- a refusal has the number of a check
 abbrev pub Told : Unified → Type 0
@@ -63,7 +65,7 @@ module _ (ws : List ℕ) (n e : ℕ) (ns : List ℕ) (m d : ℕ) (bs : List ℕ)
 
   pub refused-by-number : (c : ℕ) → failing ≡ some c → Numbered c
   unfolding unifyChecks nodeChecks placeChecks
-  refused-by-number c x = failing-numbered (unifyChecks ws n e ns m d bs v l r) c
+  refused-by-number c x = failing-number Numbered (unifyChecks ws n e ns m d bs v l r) c
       ((omega arith, omega arith), ((omega arith, omega arith), ((omega arith, omega arith), ((omega arith, omega arith), ((omega arith, omega arith), ((omega arith, omega arith), ((omega arith, omega arith), ((omega arith, omega arith), ((omega arith, omega arith), tt)))))))))
       x
 

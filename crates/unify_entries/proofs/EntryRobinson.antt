@@ -19,7 +19,7 @@ use Rattle.unification.specs.Nodes.{shapeAt, freeWord, Binds, binding, bindsOf}
 use Rattle.unification.specs.Unify.{Unifies, yes-with, no-way, unify, deep, deeper}
 use Rattle.unification.specs.Acyclic.{acyclic}
 use Rattle.unification.specs.NodeChecks.{bindingsWithinLent, bindingsFine, nodeChecks, unifyChecks}
-use Rattle.unification.specs.Checked.{listsOf, Ready}
+use Rattle.unification.specs.Checked.{fineOf, listsOf, Ready}
 use Rattle.unification.specs.Solutions.{Respects, Equates, Robinson, says-no, says-yes}
 use Rattle.unification.specs.Making.{Lent}
 use Rattle.unification.specs.UnifyEntry.{wordsOf, Left, left, leftBy, unifyEntry}
@@ -112,7 +112,7 @@ module _ (ws : List ℕ) (n e : ℕ) (ns : List ℕ) (m d : ℕ) (bs : List ℕ)
       settled = go C solved-by many fine
         where
           go : (C : Binds) → Robinson shape B l r (yes-with C) → length C ≡ v → bindingsFine n m C ≡ true → acyclic ns m C ≡ true
-          go C (says-yes _ sound complete a solution) k p = check-7-exactly ws n e ns m d v (checked .nodes) C k p .0 .1 a
+          go C (says-yes _ sound complete a solution) k p = check-7-exactly ws n e ns m d v (fineOf ws n e ns m d v (checked .nodes)) C k p .0 .1 a
 
       same-checks : unifyChecks ws n e ns m d words v l r ≡ unifyChecks ws n e ns m d bs v l r
       unfolding unifyChecks nodeChecks bindingsWithinLent

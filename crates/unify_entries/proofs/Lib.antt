@@ -2,3 +2,4 @@
 pub mod Laws
 pub mod EntryRobinson
 pub mod Codes
+pub mod CodeSeven

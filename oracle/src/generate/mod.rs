@@ -29,6 +29,8 @@ pub enum Class {
     Room,
     /// As `Solve`, filled up to the document's ceilings.
     Full,
+    /// As `Solve`, with the entries alone filled up to the document's ceilings.
+    Entries,
     /// Nodes and bindings, with places to unify.
     Unify,
     /// Sorts, with pairs to order, join and meet.
@@ -42,12 +44,13 @@ pub enum Class {
 }
 
 impl Class {
-    pub const ALL: [(Class, &'static str); 10] = [
+    pub const ALL: [(Class, &'static str); 11] = [
         (Class::Solve, "solve"),
         (Class::Join, "join"),
         (Class::Choice, "choice"),
         (Class::Room, "room"),
         (Class::Full, "full"),
+        (Class::Entries, "entries"),
         (Class::Unify, "unify"),
         (Class::Lattice, "lattice"),
         (Class::Damaged, "damaged"),
@@ -75,6 +78,7 @@ pub fn case(class: Class, seed: u64, size: usize, index: u64) -> Option<Case> {
         Class::Solve | Class::Join | Class::Choice => random::solve(&mut rng, class, size),
         Class::Room => random::room(&mut rng, size),
         Class::Full => random::full(&mut rng, size),
+        Class::Entries => random::entries(&mut rng, size),
         Class::Unify => random::unify(&mut rng, size),
         Class::Lattice => random::lattice(&mut rng, size),
         Class::Damaged => damage::damaged(&mut rng, size),

@@ -76,6 +76,20 @@ pub fn full(rng: &mut Rng, size: usize) -> Case {
     case
 }
 
+/// Entries that nothing refers to, up to a little below the document's ceilings: of sorts, of nodes, or of both.
+pub fn entries(rng: &mut Rng, size: usize) -> Case {
+    let class = rng.pick(&[Class::Solve, Class::Join, Class::Choice]);
+    let mut case = solve(rng, class, size);
+    let (sorts, nodes) = rng.pick(&[(true, false), (false, true), (true, true)]);
+    if sorts {
+        case.list.entries.resize(MAX_ENTRIES - rng.below(4), 0);
+    }
+    if nodes {
+        case.list.node_entries.resize(MAX_NODE_ENTRIES - rng.below(5), 0);
+    }
+    case
+}
+
 pub fn unify(rng: &mut Rng, size: usize) -> Case {
     let mut draft = Draft::new(rng);
     add_ground(&mut draft, size);

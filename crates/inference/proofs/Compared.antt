@@ -1,0 +1,280 @@
+-- Lists with the answers of the excerpt of merc, computed by the definition that the solver's contract cites: code, sorts and names of the
+-- expressions, measure, choices, and the sorts that are kept. Written by oracle/computed.sh. By computation. Assumes nothing.
+use mathlib.Core.Path.{_≡_, refl}
+use mathlib.Core.List.{List, [], _∷_, map}
+use Prim.Native.Nat.{ℕ, _+_, _*_, _-_}
+use lib.ListN.{length, replicate, take, drop}
+use Rattle.resolved_sort.specs.declared.Counts.{Counts}
+use Rattle.inference.specs.declared.Solved.{Solved}
+use Rattle.inference.specs.declared.Solved.the-variants.{Refused, NoRoom, NoTyping, Ambiguous, Typing}
+use Rattle.inference.specs.Search.{Choice}
+use Rattle.inference.specs.SolveEntry.{Left, codeSolved}
+use Rattle.inference.proofs.Situations.{Given, solved, row, sub, lit, disjunction, comprehension, join}
+
+given : List ℕ → List ℕ → List ℕ → List ℕ → List ℕ → List ℕ → List ℕ → List ℕ → List ℕ → List ℕ → ℕ → Given
+given sorts entries nodes arguments binds exprs names constraints overloads sources default =
+    record {
+      sorts = sorts;
+      entries = entries;
+      nodes = nodes;
+      arguments = arguments;
+      binds = binds;
+      exprs = exprs;
+      names = names;
+      constraints = constraints;
+      overloads = overloads;
+      sources = sources;
+      default = default;
+    }
+
+-- the code; for a typing the rows of expressions, the measure and the choices; the rows and the entries of new sorts, in order of making
+pub record Outcome : Type 0 where
+  pub code : ℕ
+  pub typing : List ℕ
+  pub measure : List ℕ
+  pub choices : List Choice
+  pub rows : List ℕ
+  pub entries : List ℕ
+
+outcome : ℕ → List ℕ → List ℕ → List Choice → List ℕ → List ℕ → Outcome
+outcome code typing measure choices rows entries =
+    record { code = code; typing = typing; measure = measure; choices = choices; rows = rows; entries = entries }
+
+-- the words from a up to b
+between : ℕ → ℕ → List ℕ → List ℕ
+between a b ws = take (b - a) (drop a ws)
+
+-- k counts the sorts that are kept
+keeping : Given → Left → Counts → List ℕ → List ℕ → List Choice → Outcome
+keeping G L k typing measure choices =
+    outcome (codeSolved (L .answer)) typing measure choices (between (24 + length (G .sorts)) (4 * k .sorts) (L .sorts))
+    (between (4096 + length (G .entries)) (4096 + k .entries) (L .sorts))
+
+abbrev outcomeBy : Given → Left → Solved → Outcome
+outcomeBy G L (Refused c) = outcome c [] [] [] [] []
+outcomeBy G L (NoRoom c) = outcome c [] [] [] [] []
+outcomeBy G L (NoTyping k) = keeping G L k [] [] []
+outcomeBy G L (Ambiguous k) = keeping G L k [] [] []
+outcomeBy G L (Typing o) = keeping G L (o .counts) (take (3 * length (G .exprs)) (L .typing)) (take (o .components) (L .measure)) (L .choices)
+
+pub outcomeOf : Given → Outcome
+outcomeOf G = outcomeBy G (solved G) (solved G .answer)
+
+-- an expression of a typing: its sort, kind of name and sort of name
+expr : ℕ → ℕ → ℕ → List ℕ → List ℕ
+expr sort kind name ws = sort ∷ kind ∷ name ∷ ws
+
+choice : ℕ → ℕ → List Choice → List Choice
+choice x i cs = record { expr = x; position = i } ∷ cs
+
+-- a list and the excerpt's answer
+abbrev Case : Type 0
+Case = Given × Outcome
+
+pub cases : List Case
+cases =
+    -- finite set to set
+    (
+      given (row 7 3 0 0 []) [] (row 14 0 0 0 (row 8 1024 0 0 [])) [] (65535 ∷ []) (1024 ∷ []) [] (sub 1025 6 []) [] [] 1,
+      outcome 0 (expr 3 0 0 []) (1 ∷ []) [] [] [],
+    )
+    -- comprehension with body Nat
+    ∷ (
+      given (row 9 2 0 0 []) [] (row 14 0 0 0 []) [] (65535 ∷ []) (1024 ∷ []) [] (comprehension 3 1024 2 []) [] [] 1,
+      outcome 0 (expr 6 0 0 []) [] [] (row 7 2 0 0 []) [],
+    )
+    -- join of finite sets
+    ∷ (
+      given (row 8 2 0 0 (row 8 3 0 0 [])) [] (row 14 0 0 0 []) [] (65535 ∷ []) (1024 ∷ []) [] (join 1024 0 2 []) [] (6 ∷ 7 ∷ []) 1,
+      outcome 17 [] [] [] (row 7 3 0 0 (row 7 2 0 0 [])) [],
+    )
+    -- Sub first
+    ∷ (
+      given [] [] (row 14 0 0 0 (row 14 1 0 0 [])) [] (65535 ∷ 65535 ∷ []) (1024 ∷ 1025 ∷ []) [] (sub 1024 1025 (disjunction 0 1024 0 2 (disjunction 1 1025 2 2 []))) (2 ∷ 2 ∷ 2 ∷ 2 ∷ 1 ∷ 1 ∷ 2 ∷ 3 ∷ 3 ∷ 2 ∷ 4 ∷ 4 ∷ []) [] 1,
+      outcome 17 [] [] [] [] [],
+    )
+    -- disjunctions first
+    ∷ (
+      given [] [] (row 14 0 0 0 (row 14 1 0 0 [])) [] (65535 ∷ 65535 ∷ []) (1024 ∷ 1025 ∷ []) [] (disjunction 0 1024 0 2 (disjunction 1 1025 2 2 (sub 1024 1025 []))) (2 ∷ 2 ∷ 2 ∷ 2 ∷ 1 ∷ 1 ∷ 2 ∷ 3 ∷ 3 ∷ 2 ∷ 4 ∷ 4 ∷ []) [] 1,
+      outcome 0 (expr 2 2 2 (expr 3 2 3 [])) (1 ∷ []) (choice 0 0 (choice 1 0 [])) [] [],
+    )
+    -- made in a dropped branch
+    ∷ (
+      given (row 8 1 0 0 []) [] (row 14 0 0 0 (row 14 1 0 0 [])) [] (65535 ∷ 65535 ∷ []) (1024 ∷ 1025 ∷ []) [] (disjunction 0 1024 0 2 (sub 6 1025 (sub 1024 3 []))) (2 ∷ 3 ∷ 3 ∷ 2 ∷ 2 ∷ 2 ∷ []) [] 1,
+      outcome 0 (expr 3 2 3 (expr 6 0 0 [])) (0 ∷ 0 ∷ []) (choice 0 0 []) (row 7 1 0 0 []) [],
+    )
+    -- comprehension makes both
+    ∷ (
+      given [] [] (row 14 0 0 0 []) [] (65535 ∷ []) (1024 ∷ []) [] (comprehension 3 1024 2 []) [] [] 1,
+      outcome 0 (expr 7 0 0 []) [] [] (row 7 2 0 0 (row 9 2 0 0 [])) [],
+    )
+    -- Join with an open second source
+    ∷ (
+      given [] [] (row 14 0 0 0 (row 6 3 0 0 (row 14 1 0 0 []))) [] (65535 ∷ 65535 ∷ []) (1024 ∷ []) [] (join 1026 0 2 []) [] (1025 ∷ 1024 ∷ []) 1,
+      outcome 0 (expr 6 0 0 []) (0 ∷ 0 ∷ []) [] (row 6 3 0 0 []) [],
+    )
+    -- function source that stops inside
+    ∷ (
+      given [] [] (row 14 0 0 0 (row 6 3 0 0 (row 11 1 0 2 (row 14 1 0 0 [])))) (1025 ∷ 1024 ∷ []) (65535 ∷ 65535 ∷ []) [] [] (join 1027 0 1 []) [] (1026 ∷ []) 1,
+      outcome 0 [] (0 ∷ []) [] (row 6 3 0 0 []) [],
+    )
+    -- widening of a nested function
+    ∷ (
+      given (row 11 2 0 1 (row 11 6 1 1 [])) (1 ∷ 1 ∷ []) [] [] [] [] [] (sub 7 3 []) [] [] 1,
+      outcome 17 [] [] [] [] [],
+    )
+    -- node room used again, room for one node entry
+    ∷ (
+      given (row 11 4 0 1 []) (1 ∷ []) (row 14 0 0 0 []) (replicate 4095 0) (65535 ∷ []) (1024 ∷ []) [] (disjunction 0 1024 0 2 (sub 6 1024 [])) (2 ∷ 1 ∷ 1 ∷ 2 ∷ 3 ∷ 3 ∷ []) [] 1,
+      outcome 17 [] [] [] [] [],
+    )
+    -- a list on the left
+    ∷ (
+      given (row 8 1 0 0 (row 7 3 0 0 [])) [] [] [] [] [] [] (sub 6 7 []) [] [] 1,
+      outcome 17 [] [] [] (row 7 1 0 0 []) [],
+    )
+    -- Join of three
+    ∷ (
+      given (row 8 3 0 0 (row 7 2 0 0 (row 8 4 0 0 []))) [] (row 14 0 0 0 []) [] (65535 ∷ []) [] [] (join 1024 0 3 []) [] (6 ∷ 7 ∷ 8 ∷ []) 1,
+      outcome 17 [] [] [] (row 7 3 0 0 (row 7 4 0 0 [])) [],
+    )
+    -- a tie
+    ∷ (
+      given [] [] (row 14 0 0 0 (row 6 1024 0 0 [])) [] (65535 ∷ []) (1025 ∷ []) [] (disjunction 0 1024 0 2 []) (2 ∷ 3 ∷ 3 ∷ 2 ∷ 2 ∷ 2 ∷ []) [] 1,
+      outcome 18 [] [] [] (row 6 3 0 0 []) [],
+    )
+    -- equality first
+    ∷ (
+      given (row 8 3 0 0 []) [] [] [] [] [] [] (sub 6 6 []) [] [] 1,
+      outcome 0 [] (0 ∷ []) [] [] [],
+    )
+    -- no list on the left
+    ∷ (
+      given (row 11 5 0 1 []) (1 ∷ []) (row 14 0 0 0 (row 11 1024 0 1 [])) (1 ∷ []) (65535 ∷ []) (1024 ∷ []) [] (sub 1025 6 (disjunction 0 1024 0 1 [])) (2 ∷ 4 ∷ 4 ∷ []) [] 1,
+      outcome 0 (expr 4 2 4 []) (1 ∷ []) (choice 0 0 []) [] [],
+    )
+    -- entry list full
+    ∷ (
+      given [] (replicate 4096 0) (row 11 3 0 1 []) (1 ∷ []) [] (1024 ∷ []) [] [] [] [] 1,
+      outcome 15 [] [] [] [] [],
+    )
+    -- entry list full, no arguments
+    ∷ (
+      given [] (replicate 4096 0) (row 11 3 0 0 []) [] [] (1024 ∷ []) [] [] [] [] 1,
+      outcome 0 (expr 6 0 0 []) [] [] (row 11 3 4096 0 []) [],
+    )
+    -- narrower list
+    ∷ (
+      given [] [] (row 14 0 0 0 []) [] (65535 ∷ []) (1024 ∷ []) [] (sub 1024 5 (disjunction 0 1024 0 2 [])) (2 ∷ 2 ∷ 2 ∷ 2 ∷ 3 ∷ 3 ∷ []) [] 1,
+      outcome 0 (expr 3 2 3 []) (2 ∷ []) (choice 0 1 []) [] [],
+    )
+    -- from the front
+    ∷ (
+      given [] [] (row 14 0 0 0 []) [] (65535 ∷ []) (1024 ∷ []) [] (disjunction 0 1024 0 2 (sub 1024 3 (sub 2 1024 []))) (2 ∷ 2 ∷ 2 ∷ 2 ∷ 3 ∷ 3 ∷ []) [] 1,
+      outcome 0 (expr 3 2 3 []) (0 ∷ 1 ∷ []) (choice 0 1 []) [] [],
+    )
+    -- literal on Bool
+    ∷ (
+      given [] [] [] [] [] [] [] (lit 1 0 []) [] [] 1,
+      outcome 17 [] [] [] [] [],
+    )
+    -- literal on a container
+    ∷ (
+      given [] [] (row 14 0 0 0 (row 6 1024 0 0 [])) [] (65535 ∷ []) [] [] (lit 1025 1 []) [] [] 1,
+      outcome 17 [] [] [] [] [],
+    )
+    -- empty list on the left
+    ∷ (
+      given [] [] [] [] [] [] [] (sub 1 3 []) [] [] 1,
+      outcome 17 [] [] [] [] [],
+    )
+    -- target among the sources
+    ∷ (
+      given [] [] (row 14 0 0 0 []) [] (65535 ∷ []) (1024 ∷ []) [] (join 1024 0 2 []) [] (1024 ∷ 3 ∷ []) 1,
+      outcome 0 (expr 3 0 0 []) (0 ∷ 0 ∷ []) [] [] [],
+    )
+    -- Join past the join
+    ∷ (
+      given [] [] [] [] [] [] [] (join 4 0 2 []) [] (2 ∷ 3 ∷ []) 1,
+      outcome 0 [] (2 ∷ 1 ∷ []) [] [] [],
+    )
+    -- nothing
+    ∷ (
+      given [] [] [] [] [] [] [] [] [] [] 1,
+      outcome 0 [] [] [] [] [],
+    )
+    -- one overload twice
+    ∷ (
+      given [] [] (row 14 0 0 0 []) [] (65535 ∷ []) (1024 ∷ []) [] (disjunction 0 1024 0 2 []) (2 ∷ 3 ∷ 3 ∷ 2 ∷ 3 ∷ 3 ∷ []) [] 1,
+      outcome 18 [] [] [] [] [],
+    )
+    -- no overloads
+    ∷ (
+      given [] [] [] [] [] (3 ∷ []) [] (disjunction 0 3 0 0 []) [] [] 1,
+      outcome 17 [] [] [] [] [],
+    )
+    -- base name overwritten
+    ∷ (
+      given [] [] (row 14 0 0 0 []) [] (65535 ∷ []) (1024 ∷ 1 ∷ []) (0 ∷ 1 ∷ 0 ∷ 1 ∷ 3 ∷ 0 ∷ []) (disjunction 0 3 0 2 []) (2 ∷ 2 ∷ 2 ∷ 2 ∷ 3 ∷ 3 ∷ []) [] 1,
+      outcome 0 (expr 1 2 3 (expr 1 3 0 [])) [] (choice 0 1 []) [] [],
+    )
+    -- default inside
+    ∷ (
+      given [] [] (row 14 0 0 0 (row 6 1024 0 0 (row 11 1024 0 1 []))) (1025 ∷ []) (65535 ∷ []) (1026 ∷ []) [] [] [] [] 3,
+      outcome 0 (expr 7 0 0 []) [] [] (row 6 3 0 0 (row 11 3 0 1 [])) (6 ∷ []),
+    )
+    -- given bindings
+    ∷ (
+      given [] [] (row 14 0 0 0 (row 14 1 0 0 (row 6 1025 0 0 []))) [] (1026 ∷ 2 ∷ []) (1024 ∷ []) [] [] [] [] 1,
+      outcome 0 (expr 6 0 0 []) [] [] (row 6 2 0 0 []) [],
+    )
+    -- empty run at the end
+    ∷ (
+      given (row 11 1 1 0 []) (1 ∷ []) [] [] [] [] [] [] [] [] 1,
+      outcome 0 [] [] [] [] [],
+    )
+    -- overlapping runs
+    ∷ (
+      given (row 11 3 0 2 (row 11 3 0 1 [])) (1 ∷ 3 ∷ []) [] [] [] (7 ∷ []) [] [] [] [] 1,
+      outcome 0 (expr 7 0 0 []) [] [] [] [],
+    )
+    -- stray overload
+    ∷ (
+      given [] [] [] [] [] [] [] [] (9 ∷ 9 ∷ 9 ∷ []) (9 ∷ []) 1,
+      outcome 0 [] [] [] [] [],
+    )
+    -- solve seed 1 size 2 number 3505
+    ∷ (
+      given [] [] (row 14 0 0 0 (row 14 1 0 0 (row 14 2 0 0 (row 10 1024 0 0 (row 14 3 0 0 (row 14 4 0 0 [])))))) [] (5 ∷ 2 ∷ 65535 ∷ 65535 ∷ 65535 ∷ []) [] [] (join 1027 0 2 (sub 1027 1027 (comprehension 1029 1028 1 []))) [] (1027 ∷ 1027 ∷ []) 3,
+      outcome 18 [] [] [] (row 10 5 0 0 (row 7 1 0 0 (row 9 1 0 0 []))) [],
+    )
+    -- solve seed 1 size 2 number 8934
+    ∷ (
+      given (row 10 3 0 0 []) [] (row 14 0 0 0 (row 14 1 0 0 (row 14 2 0 0 (row 11 1025 0 3 (row 11 1027 3 1 (row 8 1024 0 0 [])))))) (1 ∷ 3 ∷ 1025 ∷ 1024 ∷ []) (2 ∷ 65535 ∷ 65535 ∷ []) (3 ∷ 1024 ∷ []) (0 ∷ 3 ∷ 0 ∷ []) (lit 1026 0 (join 1029 0 1 (join 1026 1 1 []))) [] (1029 ∷ 3 ∷ []) 1,
+      outcome 0 (expr 3 3 0 (expr 2 0 0 [])) (1 ∷ 0 ∷ 0 ∷ []) [] (row 8 2 0 0 []) [],
+    )
+    -- join seed 1 size 2 number 836
+    ∷ (
+      given (row 12 65535 0 0 (row 12 1 0 0 [])) [] (row 8 6 0 0 (row 14 1 0 0 [])) [] (65535 ∷ 65535 ∷ []) (1024 ∷ 1025 ∷ 5 ∷ 1025 ∷ []) (1 ∷ 2 ∷ 7 ∷ []) (disjunction 1 1025 0 2 (sub 2 1025 (join 1024 0 2 (sub 1025 2 [])))) (2 ∷ 3 ∷ 3 ∷ 2 ∷ 2 ∷ 2 ∷ []) (1024 ∷ 1024 ∷ []) 1,
+      outcome 0 (expr 8 0 0 (expr 2 2 2 (expr 5 0 0 (expr 2 0 0 [])))) (0 ∷ 0 ∷ 0 ∷ 0 ∷ []) (choice 1 1 []) (row 8 6 0 0 []) [],
+    )
+    -- join seed 1 size 2 number 10868
+    ∷ (
+      given [] [] (row 14 0 0 0 (row 14 1 0 0 (row 14 2 0 0 (row 14 3 0 0 (row 11 1024 0 1 (row 7 5 0 0 (row 10 1025 0 0 (row 14 4 0 0 [])))))))) (1025 ∷ []) (65535 ∷ 65535 ∷ 65535 ∷ 65535 ∷ 65535 ∷ []) (5 ∷ 1027 ∷ []) [] (comprehension 1027 1031 4 (join 1029 0 1 (sub 1030 1030 (join 1026 1 3 [])))) [] (1029 ∷ 1027 ∷ 3 ∷ 4 ∷ []) 1,
+      outcome 0 (expr 5 0 0 (expr 3 0 0 [])) (0 ∷ 0 ∷ 1 ∷ 1 ∷ 0 ∷ []) [] (row 7 4 0 0 (row 7 5 0 0 (row 9 4 0 0 []))) [],
+    )
+    -- choice seed 1 size 2 number 2767
+    ∷ (
+      given [] [] (row 14 0 0 0 (row 14 1 0 0 (row 10 0 0 0 (row 14 2 0 0 (row 14 3 0 0 []))))) [] (65535 ∷ 65535 ∷ 65535 ∷ 1024 ∷ []) (1024 ∷ 1028 ∷ []) (0 ∷ 3 ∷ 0 ∷ []) (disjunction 0 1024 0 1 (comprehension 2 1027 3 (disjunction 1 1028 1 2 (sub 1028 5 (sub 1027 1027 []))))) (2 ∷ 1 ∷ 1024 ∷ 2 ∷ 3 ∷ 3 ∷ 2 ∷ 2 ∷ 2 ∷ []) [] 5,
+      outcome 0 (expr 3 2 1 (expr 3 2 3 [])) (2 ∷ 0 ∷ []) (choice 0 0 (choice 1 0 [])) (row 7 3 0 0 (row 9 3 0 0 [])) [],
+    )
+    -- entries seed 1 size 2 number 3872
+    ∷ (
+      given (row 11 5 0 0 (row 11 2 0 2 (row 6 2 0 0 (row 10 1 0 0 [])))) (2 ∷ 2 ∷ []) (row 14 0 0 0 (row 14 1 0 0 (row 11 1024 0 1 []))) (1025 ∷ (replicate 4094 0)) (65535 ∷ 65535 ∷ []) (0 ∷ 1024 ∷ 1024 ∷ []) [] (sub 7 2 []) [] [] 1,
+      outcome 16 [] [] [] [] [],
+    )
+    ∷ []
+
+pub compared : map (λ (c : Case). outcomeOf (c .0)) cases ≡ map (λ (c : Case). c .1) cases
+unfolding solved row sub lit disjunction comprehension join given outcome between keeping outcomeOf expr choice cases
+compared = refl
