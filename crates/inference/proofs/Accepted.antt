@@ -18,7 +18,7 @@ use Rattle.resolved_sort.proofs.Below.{below-each}
 use Rattle.resolved_sort.proofs.Reached.{no-confusion}
 use Rattle.resolved_sort.proofs.FirstFailing.{cons-passes}
 use Rattle.unification.specs.declared.InferSortId.{InferSortId}
-use Rattle.unification.specs.Nodes.{fullNodes, isPlace}
+use Rattle.unification.specs.Nodes.{fullNodes}
 use Rattle.unification.specs.NodeChecks.{nodesWithinLent, bindingsWithinLent, nodeChecks}
 use Rattle.unification.specs.Checked.{Ready}
 use Rattle.unification.specs.Making.{Lent}
@@ -31,7 +31,7 @@ use Rattle.inference.specs.declared.Constraint.{Constraint}
 use Rattle.inference.specs.declared.Constraint.the-variants.{Sub, Lit, Disjunction, Comprehension, Join}
 use Rattle.inference.specs.Constraints.{constraintAt, overloadAt, Problem}
 use Rattle.inference.specs.Names.{overloadIn}
-use Rattle.inference.specs.SolveChecks.{Call, given, disjunctions, noTwo, keys, rowsWithinLent, allWithinLent, exprsFine, namesFine, overloadFine, targetFine, runFine, constraintFine, constraintsFine, outputsLong, longEnough, solveChecks}
+use Rattle.inference.specs.SolveChecks.{Call, placed, given, disjunctions, noTwo, keys, rowsWithinLent, allWithinLent, exprsFine, namesFine, overloadFine, targetFine, runFine, constraintFine, constraintsFine, outputsLong, longEnough, solveChecks}
 use Rattle.inference.specs.SolveEntry.{problemOf, lentOf, Left, searched, refused, verdict, nothingMet, solveEntry}
 use Rattle.inference.specs.Typing.{All}
 use Rattle.inference.proofs.Members.{length-rows, all-rows, row-at, all-rows-at, run-at}
@@ -71,12 +71,6 @@ module _ (I : Call) where
   abbrev P : Problem
   P = problemOf I
 
-  abbrev placedAt : ℕ → Bool
-  placedAt p = isPlace (I .lengths .sorts) (I .lengths .nodes) p
-
-  abbrev placedIn : ℕ → Bool
-  placedIn j = placedAt (getD (I .sources) j 0)
-
   overload-placed : (run : Run) → runFine I (I .rows .overloads) (overloadFine I) run ≡ true → (i : ℕ) → i < run .count → PlacedIn W (overloadIn (P .overloads) run i .sort .0)
   unfolding overloadFine
   overload-placed run f i l =
@@ -86,29 +80,29 @@ module _ (I : Call) where
       let z = and-eq-true-iff (targetFine I (getD (I .overloads) (3 * (run .start + i)) 0) (getD (I .overloads) (3 * (run .start + i) + 1) 0)) _ .0 y in
       subst (λ (o : Overload). PlacedIn W (o .sort .0)) (sym (row-at (overloadAt (I .overloads)) _ (I .rows .overloads) (run .start + i) (omega (arith, s, l)))) (z .1)
 
-  sources-placed : (run : Run) → runFine I (I .rows .sources) (λ j. placedIn j) run ≡ true
+  sources-placed : (run : Run) → runFine I (I .rows .sources) (λ j. placed I (getD (I .sources) j 0)) run ≡ true
       → (run .start + run .count ≤ length (P .sources)) × All (PlacedIn W) (take (run .count) (drop (run .start) (P .sources)))
   sources-placed run f =
       let x = and-eq-true-iff (leb (run .start + run .count) (I .rows .sources)) _ .0 f in
       let s = leb-true (run .start + run .count) (I .rows .sources) (x .0) in (
         omega (arith, s, length-rows (λ i. getD (I .sources) i 0) 0 (I .rows .sources)),
         subst (All (PlacedIn W)) (sym (run-at (λ i. getD (I .sources) i 0) (I .rows .sources) (run .start) (run .count) s))
-            (all-rows (PlacedIn W) (λ i. getD (I .sources) i 0) (run .start) (run .count) (λ j l. below-each (run .count) (λ j. placedIn (run .start + j)) (x .1) j l)),
+            (all-rows (PlacedIn W) (λ i. getD (I .sources) i 0) (run .start) (run .count) (λ j l. below-each (run .count) (λ j. placed I (getD (I .sources) (run .start + j) 0)) (x .1) j l)),
       )
 
   listed-by : (b : ℕ) (c : Constraint) → constraintFine I b c ≡ true → Listed W P c
-  listed-by b (Sub l r) f = let x = and-eq-true-iff (placedAt (l .0)) (placedAt (r .0)) .0 f in sub-listed l r (x .0) (x .1)
-  listed-by b (Lit p kind) f = lit-listed p kind (and-eq-true-iff (placedAt (p .0)) (leb b 1) .0 f .0)
+  listed-by b (Sub l r) f = let x = and-eq-true-iff (placed I (l .0)) (placed I (r .0)) .0 f in sub-listed l r (x .0) (x .1)
+  listed-by b (Lit p kind) f = lit-listed p kind (and-eq-true-iff (placed I (p .0)) (leb b 1) .0 f .0)
   listed-by b (Disjunction x p run) f =
-      let y = and-eq-true-iff (ltb (x .0) (I .rows .exprs) && placedAt (p .0)) (runFine I (I .rows .overloads) (overloadFine I) run) .0 f in
-      let z = and-eq-true-iff (ltb (x .0) (I .rows .exprs)) (placedAt (p .0)) .0 (y .0) in
+      let y = and-eq-true-iff (ltb (x .0) (I .rows .exprs) && placed I (p .0)) (runFine I (I .rows .overloads) (overloadFine I) run) .0 f in
+      let z = and-eq-true-iff (ltb (x .0) (I .rows .exprs)) (placed I (p .0)) .0 (y .0) in
       disjunction-listed x p run (z .1) (overload-placed run (y .1))
   listed-by b (Comprehension body node element) f =
-      let x = and-eq-true-iff (placedAt (body .0) && placedAt (node .0)) (ltb (element .0) (I .lengths .sorts)) .0 f in
-      let y = and-eq-true-iff (placedAt (body .0)) (placedAt (node .0)) .0 (x .0) in
+      let x = and-eq-true-iff (placed I (body .0) && placed I (node .0)) (ltb (element .0) (I .lengths .sorts)) .0 f in
+      let y = and-eq-true-iff (placed I (body .0)) (placed I (node .0)) .0 (x .0) in
       comprehension-listed body node element (y .0) (y .1) (ltb-true (element .0) (I .lengths .sorts) (x .1))
   listed-by b (Join run t) f =
-      let x = and-eq-true-iff (placedAt (t .0)) (runFine I (I .rows .sources) (λ j. placedIn j) run) .0 f in
+      let x = and-eq-true-iff (placed I (t .0)) (runFine I (I .rows .sources) (λ j. placed I (getD (I .sources) j 0)) run) .0 f in
       let y = sources-placed run (x .1) in
       join-listed run t (x .0) (y .0) (y .1)
 
@@ -172,7 +166,7 @@ module _ (I : Call) where
             (c₆ .0) (c₇ .0) (l .0) (l .1);
         six = c₂ .0;
         default = ltb-true (I .default) (I .lengths .sorts) (c₁₂ .0);
-        exprs = all-rows-at (PlacedIn W) (λ i. getD (I .exprs) i 0) (I .rows .exprs) (λ j m. below-each (I .rows .exprs) (λ i. placedAt (getD (I .exprs) i 0)) (e .0) j m);
+        exprs = all-rows-at (PlacedIn W) (λ i. getD (I .exprs) i 0) (I .rows .exprs) (λ j m. below-each (I .rows .exprs) (λ i. placed I (getD (I .exprs) i 0)) (e .0) j m);
         constraints = all-rows-at (Listed W P) (constraintAt (I .constraints)) (I .rows .constraints) (constraint-listed (c₉ .0));
         one-disjunction-each = and-eq-true-iff (noTwo (disjunctions (given I))) (noTwo (keys I)) .0 (c₁₀ .0) .0;
       }

@@ -264,20 +264,20 @@ module _ (I : Call) (A : Accepted I) where
       go true q = absurd (omega (arith, q))
       go false q = record { accepted = A; lent = W; candidate = c; is = refl; fits = f }
 
-  searched-typed : (Met : Type 0) (w : World Met) → FitsBest (problemOf I) (given I) (w .best) → (o : Out Met)
-      → Goes (λ u (b : Bool) v. FitsBest (problemOf I) (given I) (u .best) → FitsBest (problemOf I) (given I) (v .best)) w o → codeSolved (verdict I o .answer) ≡ 0 → IsTyping I (verdict I o)
+  searched-typed : (w : World (Unit {0})) → FitsBest (problemOf I) (given I) (w .best) → (o : Out (Unit {0})) → Goes (Fitting (Unit {0}) nothingMet (problemOf I) (given I)) w o
+      → codeSolved (verdict I o .answer) ≡ 0 → IsTyping I (verdict I o)
   unfolding Goes codeSolved
-  searched-typed Met w f (found v) x q = judged-typed (v .lent) (v .best) (x f) q
-  searched-typed Met w f (missed v) x q = judged-typed (v .lent) (v .best) (x f) q
-  searched-typed Met w f (ended c v) (inl i) q = absurd (omega (arith, i, q))
-  searched-typed Met w f (ended c v) (inr i) q = absurd (omega (arith, i, q))
+  searched-typed w f (found v) x q = judged-typed (v .lent) (v .best) (x f) q
+  searched-typed w f (missed v) x q = judged-typed (v .lent) (v .best) (x f) q
+  searched-typed w f (ended c v) (inl i) q = absurd (omega (arith, i, q))
+  searched-typed w f (ended c v) (inr i) q = absurd (omega (arith, i, q))
 
 pub code-0-typed : (I : Call) → codeSolved (solveEntry I .answer) ≡ 0 → IsTyping I (solveEntry I)
 unfolding FitsBest codeSolved
 code-0-typed I =
     let w : World (Unit {0}) = record { lent = lentOf I; best = none; met = tt } in
     refused-or-searched I (λ left. codeSolved (left .answer) ≡ 0 → IsTyping I left) (λ c l q. absurd (omega (arith, l, q)))
-    (λ A. searched-typed I A (Unit {0}) w tt (searched (Unit {0}) nothingMet tt I) (search-fits (Unit {0}) nothingMet (problemOf I) (given I) (start I .binds) w))
+    (λ A. searched-typed I A w tt (searched (Unit {0}) nothingMet tt I) (search-fits (Unit {0}) nothingMet (problemOf I) (given I) (start I .binds) w))
 
 -- Measure and choices as handed out, ks being the choices: how many components and choices there are; the choices in the order of the constraints, one for
 -- each disjunction; and the names that they give.

@@ -4,13 +4,13 @@
 -- the incumbent so, keeps this. Assumes nothing.
 use mathlib.Core.Path.{_≡_, refl, sym, _∙_, ap}
 use mathlib.Core.Bool.{Bool, true, false}
-use mathlib.Core.List.{List, [], _∷_}
+use mathlib.Core.List.{List}
 use mathlib.Core.Option.{Option, none, some}
 use mathlib.Core.Logic.{_↔_}
-use Prim.Native.Nat.{ℕ, _≤_}
-use native.Mathlib.Omega.{arith}
+use Prim.Native.Nat.{ℕ}
 use Rattle.resolved_sort.specs.Tree.{Tree}
 use Rattle.resolved_sort.specs.Rows.{AllBelow}
+use Rattle.resolved_sort.proofs.RowTrees.{weaken-all}
 use Rattle.unification.specs.Term.{Term, termOf, put}
 use Rattle.unification.specs.Nodes.{Binds}
 use Rattle.unification.specs.Unify.{Unifies, yes-with, no-way, too-deep, unify}
@@ -33,11 +33,6 @@ Claim = List Choice → Assignment → Components → Type 0
 -- an assignment as terms
 abbrev pub terms : Assignment → ℕ → Term
 terms ρ v = termOf (ρ v)
-
-pub all-below-more : (n m : ℕ) → n ≤ m → (xs : List ℕ) → AllBelow n xs → AllBelow m xs
-unfolding AllBelow
-all-below-more n m l [] a = tt
-all-below-more n m l (x ∷ xs) a = (omega (arith, l, a .0), all-below-more n m l xs (a .1))
 
 -- the lists have grown by sorts only
 pub record SortsOnly (W W′ : Lent) : Type 0 where
@@ -165,7 +160,7 @@ module _ (W₀ : Lent) (B₀ : Binds) (P : Problem) where
   fine-grown W W′ g none f = tt
   fine-grown W W′ g (some c) f =
       record {
-        numbers = all-below-more (W .lengths .sorts) (W′ .lengths .sorts) (g .sorts) (c .sorts) (f .numbers);
+        numbers = weaken-all (W .lengths .sorts) (W′ .lengths .sorts) (c .sorts) (g .sorts) (f .numbers);
         assignment = f .assignment;
         respects = f .respects;
         typed = typed-grown W W′ g (f .assignment) (P .exprs) (c .sorts) (f .numbers) (f .typed);

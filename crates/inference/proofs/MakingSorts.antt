@@ -15,6 +15,7 @@ use Rattle.resolved_sort.specs.Order.{join, Steps, distance, materializable}
 use Rattle.resolved_sort.specs.Rows.{AllBelow}
 use Rattle.resolved_sort.specs.Entries.{Stored}
 use Rattle.resolved_sort.specs.Bounds.{boundAt, internAt}
+use Rattle.resolved_sort.proofs.RowTrees.{weaken-all}
 use Rattle.resolved_sort.proofs.Distance.{distance-exists-exactly}
 use Rattle.resolved_sort.proofs.Materializable.{materializable-below}
 use Rattle.unification.specs.declared.Default.{Default}
@@ -35,7 +36,7 @@ use Rattle.inference.specs.Search.{Path, World, Out, lending, onMade, ma
 use Rattle.inference.specs.Measure.{Components}
 use Rattle.inference.specs.Typing.{All, and-all}
 use Rattle.inference.specs.Components.{where-there, joins}
-use Rattle.inference.proofs.Invariant.{Claim, SortsOnly, sorts-only-refl, sorts-only-trans, Sound, FineBest, Leaves, leaves-from, sound-grown, fine-grown, all-below-more}
+use Rattle.inference.proofs.Invariant.{Claim, SortsOnly, sorts-only-refl, sorts-only-trans, Sound, FineBest, Leaves, leaves-from, sound-grown, fine-grown}
 
 -- only sorts were made, and what is made is so; none only if N; no room is 15
 unfoldable pub MadeSorts : {A : Type 0} → (Lent → A → Type 0) → Type 0 → Lent → Makes A → Type 0
@@ -127,7 +128,7 @@ joins-make (b ∷ bs) W c a x y =
     (λ j W′ g h.
     let z : each (sortIn W′) bs ≡ each (sortIn W) bs = looks-grown W W′ (g .grows) bs (y .1) in
     sorts-so (SortWith (λ u. joins (sortIn W′ j) (each (sortIn W′) bs) ≡ some u)) (SortWith (λ u. joins (sortIn W a) (each (sortIn W) (b ∷ bs)) ≡ some u)) (Unit {0}) W′ (joinAll j bs W′)
-    (joins-make bs W′ (g .grows .checked) j (h .0) (all-below-more (W .lengths .sorts) (W′ .lengths .sorts) (g .grows .sorts) bs (y .1)))
+    (joins-make bs W′ (g .grows .checked) j (h .0) (weaken-all (W .lengths .sorts) (W′ .lengths .sorts) bs (g .grows .sorts) (y .1)))
     (λ i W″ g′ h′. (h′ .0, ap (λ o. where-there o (λ u. joins u (each (sortIn W) bs))) (h .1) ∙ (ap (joins (sortIn W′ j)) (sym z) ∙ h′ .1))))
 
 -- Each of the places of W stands for the sort of its number in W′, whatever the assignment is.

@@ -95,7 +95,7 @@ callOf G =
 
 -- The outcome of a list. To unfold it is to unfold all that it is computed through.
 unfoldable pub solved : Given → Left
-unfolding Checks.allBelow Checks.withinLent Checks.fixedSix Checks.partsBelow Checks.rowFine Checks.rowsFine Checks.noTwoEqual Checks.inList Checks.atCeiling Checks.firstFailing Checks.sortChecks Checks.pairChecks Tree.arity Tree.family Tree.level Tree.familyOp Tree.levelOp Tree.same Tree.sames Entries.codeCompared Entries.codeBounded Entries.codeMeasured Entries.codeMaterialized Entries.compared Entries.measured Entries.materialized Entries.stored Entries.leftBy Entries.bounded Interning.look Interning.number Interning.member Interning.distinct Interning.need Interning.intern Interning.make Interning.makes Order.le Order.les Order.order Order.boundFlat Order.boundOp Order.bound Order.bounds Order.distance Order.distances Order.materializable Bounds.boundAt Bounds.containerAt Bounds.internAt Bounds.domainOf Bounds.boundDomain Bounds.functionAt Storage.resolved Storage.entriesOf Storage.lookAll Storage.treeOf Storage.trees Storage.kindFlat Storage.kindOp Storage.partFlat Storage.numbers Storage.rowOf Storage.putRow Storage.appendRow Storage.written Storage.zeros Storage.givenBack Term.kindHead Term.numberHead Term.sameHead Term.termOf Term.termsOf Term.put Term.puts Acyclic.allSettled Acyclic.nodesSettled Acyclic.varsSettled Acyclic.rounds Acyclic.all Acyclic.acyclic Resolve.firsts Resolve.treeOver Resolve.resolveTerm Resolve.resolveTerms Resolve.resolveArguments Resolve.termResolved Resolve.argumentsResolved Related.relatedNumbers Related.relatedContainer Related.related NodeChecks.nodesWithinLent NodeChecks.bindingsWithinLent NodeChecks.nodePartsFine NodeChecks.nodeKindFine NodeChecks.nodeFine NodeChecks.nodesFine NodeChecks.bindingsFine NodeChecks.nodeChecks NodeChecks.placeChecks NodeChecks.unifyChecks Making.appendNode Making.pushNode Making.internContainer Making.pushFunctions Making.relatedTo Making.strictRelated Unify.follow Unify.occurs Unify.unifyTo Unify.unify Nodes.nodeEntriesOf Nodes.inferred Nodes.sortShape Nodes.nodeShape Nodes.isPlace Nodes.shapeAt Nodes.bindsOf Solutions.termTo Solutions.valueTo Names.runFor Names.chosenName Names.baseName Names.nameOf Constraints.target Constraints.litKind Constraints.constraint Constraints.rowsFrom Search.resolveIn Search.joinIn Search.resolveAll Search.joinAll Search.agreed Search.joinOf Search.litComponent Search.unifying Search.firstFound Search.widening Search.literal Search.everyReading Search.everyOverload Search.sequence Search.joining Search.step Search.leaf Search.solve SolveEntry.nodesGivenBack SolveEntry.typingRows SolveEntry.choiceRows SolveEntry.solveEntry SolveEntry.codeSolved Measure.compare Measure.worse SolveChecks.allWithinLent SolveChecks.rowsWithinLent SolveChecks.outputsLong SolveChecks.targetFine SolveChecks.exprsFine SolveChecks.namesFine SolveChecks.overloadFine SolveChecks.constraintsFine SolveChecks.disjunctions SolveChecks.among SolveChecks.noTwo SolveChecks.joinsFine SolveChecks.components SolveChecks.longEnough SolveChecks.solveChecks row six storage callOf
+unfolding Checks.allBelow Checks.withinLent Checks.fixedSix Checks.partsBelow Checks.rowFine Checks.rowsFine Checks.noTwoEqual Checks.atCeiling Checks.firstFailing Tree.arity Tree.family Tree.level Tree.familyOp Tree.levelOp Tree.same Tree.sames Entries.stored Interning.look Interning.number Interning.member Interning.distinct Interning.need Interning.intern Interning.make Interning.makes Order.boundFlat Order.boundOp Order.distance Order.distances Order.materializable Bounds.boundAt Bounds.internAt Storage.resolved Storage.entriesOf Storage.lookAll Storage.treeOf Storage.trees Storage.kindFlat Storage.kindOp Storage.partFlat Storage.numbers Storage.rowOf Storage.putRow Storage.appendRow Storage.written Term.kindHead Term.numberHead Term.sameHead Acyclic.allSettled Acyclic.nodesSettled Acyclic.varsSettled Acyclic.rounds Acyclic.all Acyclic.acyclic Resolve.firsts Resolve.treeOver Resolve.resolveTerm Resolve.resolveTerms Resolve.termResolved Related.relatedNumbers Related.relatedContainer NodeChecks.nodesWithinLent NodeChecks.bindingsWithinLent NodeChecks.nodePartsFine NodeChecks.nodeKindFine NodeChecks.nodeFine NodeChecks.nodesFine NodeChecks.bindingsFine NodeChecks.nodeChecks Making.appendNode Making.pushNode Making.internContainer Making.pushFunctions Making.relatedTo Making.strictRelated Unify.follow Unify.occurs Unify.unifyTo Unify.unify Nodes.nodeEntriesOf Nodes.inferred Nodes.sortShape Nodes.nodeShape Nodes.isPlace Nodes.shapeAt Nodes.bindsOf Solutions.valueTo Names.runFor Names.chosenName Names.baseName Names.nameOf Constraints.target Constraints.litKind Constraints.constraint Constraints.rowsFrom Search.resolveIn Search.joinIn Search.resolveAll Search.joinAll Search.agreed Search.joinOf Search.litComponent Search.unifying Search.firstFound Search.widening Search.literal Search.everyReading Search.everyOverload Search.sequence Search.joining Search.step Search.leaf Search.solve SolveEntry.typingRows SolveEntry.choiceRows SolveEntry.solveEntry SolveEntry.codeSolved Measure.compare Measure.worse SolveChecks.allWithinLent SolveChecks.rowsWithinLent SolveChecks.outputsLong SolveChecks.targetFine SolveChecks.exprsFine SolveChecks.namesFine SolveChecks.overloadFine SolveChecks.constraintsFine SolveChecks.disjunctions SolveChecks.among SolveChecks.noTwo SolveChecks.joinsFine SolveChecks.components SolveChecks.longEnough SolveChecks.solveChecks row six storage callOf
 solved G = solveEntry (callOf G)
 
 -- what a run came to: the code, and for a typing the sorts of the expressions and the measure

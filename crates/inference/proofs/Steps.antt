@@ -13,11 +13,11 @@ use Rattle.inference.specs.declared.Constraint.{Constraint}
 use Rattle.inference.specs.declared.Constraint.the-variants.{Sub, Lit, Disjunction, Comprehension, Join}
 use Rattle.inference.specs.Constraints.{Problem}
 use Rattle.inference.specs.Measure.{Components}
-use Rattle.inference.specs.Search.{Choice, Path, World, Next, sortIn, step, solve, leaf, dominatedBy, missed}
+use Rattle.inference.specs.Search.{Choice, Next, sortIn, step, solve, leaf, dominatedBy, unlessDominated, missed}
 use Rattle.inference.specs.Typing.{Assignment, All, and-all, here, Meets, meets-sub, meets-lit, meets-disjunction, meets-comprehension, meets-join}
 use Rattle.inference.specs.Components.{Costs, sub-costs, lit-costs, disjunction-costs, comprehension-costs, agreed-costs, sequence-costs, nothing-costs, and-costs}
 use Rattle.inference.proofs.Members.{in-left, in-right}
-use Rattle.inference.proofs.Invariant.{Claim, Cost, Sound, FineBest, Leaves, Goes, missed-leaves, weaker-goes}
+use Rattle.inference.proofs.Invariant.{Claim, Cost, Leaves, Goes, missed-leaves, weaker-goes}
 use Rattle.inference.proofs.Joining.{joining-goes}
 use Rattle.inference.proofs.Leaf.{leaf-goes}
 use Rattle.inference.proofs.Widening.{widening-goes, sequence-goes}
@@ -85,20 +85,20 @@ module _ (W₀ : Lent) (B₀ : Binds) (P : Problem) where
         joining-goes W₀ B₀ P c₀ Met meet ss (t .0) a x Q R (λ ch ρ ms s u us ns q h j e. and-last ch ρ done ms (Join run t) ns q (agreed-costs run t s u us ns h j e)) k g
         (sequence-goes W₀ B₀ P c₀ Met meet six ss (t .0) a x Q R (λ ch ρ ms u ns q h j. and-last ch ρ done ms (Join run t) ns q (sequence-costs run t u ns h j)) k g)
 
-    unless : (k : Next Met meet P) (e : Path) (w : World Met) (Q : Claim) → Sound W₀ B₀ P (w .lent) e Q → FineBest W₀ B₀ P (w .lent) (w .best) → Leaves W₀ B₀ P Met (w .lent) (k e w)
-        → (b : Bool) → Leaves W₀ B₀ P Met (w .lent) (cond b (missed w) (k e w))
-    unless k e w Q s f x true = missed-leaves W₀ B₀ P Met w (s .grown .checked) f
-    unless k e w Q s f x false = x
+    unless-goes : (k : Next Met meet P) (Q : Claim) → Goes W₀ B₀ P Met Q k → Goes W₀ B₀ P Met Q (unlessDominated Met meet P k)
+    unless-goes k Q g e w s f = go (dominatedBy Met meet P (e .measure) (w .best))
+      where
+        go : (b : Bool) → Leaves W₀ B₀ P Met (w .lent) (cond b (missed w) (k e w))
+        go true = missed-leaves W₀ B₀ P Met w (s .grown .checked) f
+        go false = g e w s f
 
     module _ (below : P .default < W₀ .lengths .sorts) (placed : All (PlacedIn W₀) (P .exprs)) where
       pub solve-goes : (cs done : List Constraint) → done ++ cs ≡ P .constraints → All (Listed W₀ P) cs → Goes W₀ B₀ P Met (Passed done) (solve Met meet P cs)
       unfolding solve
-      solve-goes [] done q l e w s f =
-          unless (leaf Met meet P) e w (Passed done) s f
+      solve-goes [] done q l =
+          unless-goes (leaf Met meet P) (Passed done)
           (weaker-goes W₀ B₀ P Met (Passed done) (Passed (P .constraints)) (λ ch ρ ms x. subst (λ cs. Cost W₀ B₀ P ch ρ cs ms) (sym (append-nil done) ∙ q) x) (leaf Met meet P)
-          (leaf-goes W₀ B₀ P c₀ below placed Met meet) e w s f)
-          (dominatedBy Met meet P (e .measure) (w .best))
-      solve-goes (c ∷ cs) done q (and-all _ _ l ls) e w s f =
-          unless (step Met meet P c (solve Met meet P cs)) e w (Passed done) s f
-          (step-goes done c l (solve Met meet P cs) (solve-goes cs (done ++ (c ∷ [])) (append-assoc done (c ∷ []) cs ∙ q) ls) e w s f)
-          (dominatedBy Met meet P (e .measure) (w .best))
+          (leaf-goes W₀ B₀ P c₀ below placed Met meet))
+      solve-goes (c ∷ cs) done q (and-all _ _ l ls) =
+          unless-goes (step Met meet P c (solve Met meet P cs)) (Passed done)
+          (step-goes done c l (solve Met meet P cs) (solve-goes cs (done ++ (c ∷ [])) (append-assoc done (c ∷ []) cs ∙ q) ls))
