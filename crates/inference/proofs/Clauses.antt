@@ -22,7 +22,7 @@ use Rattle.inference.specs.declared.Constraint.the-variants.{Sub, Lit, D
 use Rattle.inference.specs.Constraints.{Problem}
 use Rattle.inference.specs.Search.{Choice}
 use Rattle.inference.specs.Names.{overloadIn}
-use Rattle.inference.specs.Typing.{Assignment, Has, All, and-all, In, here, there, Read, Into, Meets, meets-sub, meets-lit, meets-disjunction, meets-comprehension, meets-join}
+use Rattle.inference.specs.Typing.{Assignment, Has, All, and-all, In, here, there, Read, Into, Typed, and-typed, Meets, meets-sub, meets-lit, meets-disjunction, meets-comprehension, meets-join}
 
 module _ (shape : ℕ → Shape) (look : ℕ → Tree) (P : Problem) (σ : Assignment) where
   pub one-sort : (p : ℕ) (s t : Tree) → Has shape σ p s → Has shape σ p t → s ≡ t
@@ -78,3 +78,11 @@ module _ (shape : ℕ → Shape) (look : ℕ → Tree) (P : Problem) (σ : Assig
     -- a disjunction without a choice
     pub disjunction-has-a-choice : (x : ExprId) (p : InferSortId) (run : Run) → ((j : ℕ) → In (record { expr = x .0; position = j }) ch → ⊥) → Meets shape look P ch σ (Disjunction x p run) → ⊥
     disjunction-has-a-choice x p run none (meets-disjunction _ _ _ j u m l h g) = none j m
+
+  -- a variable that has another sort than what it is bound to
+  pub bound-rules-out : (v q : ℕ) (t : Tree) → Has shape σ q t → (σ v ≡ t → ⊥) → Has shape σ q (σ v) → ⊥
+  bound-rules-out v q t h f g = f (one-sort q (σ v) t g h)
+
+  -- a sort handed out that is not that of the expression's place
+  pub typed-rules-out : (left : ℕ → Tree) (p s : ℕ) (ps ss : List ℕ) (t : Tree) → Has shape σ p t → (left s ≡ t → ⊥) → Typed shape left σ (p ∷ ps) (s ∷ ss) → ⊥
+  typed-rules-out left p s ps ss t h f (and-typed _ _ _ _ g x) = f (one-sort p (left s) t g h)

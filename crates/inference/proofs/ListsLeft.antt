@@ -69,6 +69,7 @@ module _ (I : Call) where
   pub record ListsKept (W : Lent) : Type 0 where
     pub sorts : Agrees (I .sorts) (W .sorts) (I .lengths .sorts) (I .lengths .entries)
     pub nodes : NodesAgree (I .nodes) (W .nodes) (I .lengths .nodes) (I .lengths .arguments)
+    pub as-long : (length (W .sorts) ≡ length (I .sorts)) × (length (W .nodes) ≡ length (I .nodes))
 
   abbrev pub Ends : {Met : Type 0} → Out Met → Type 0
   Ends (found w) = ListsKept (w .lent) × (w .lent .lengths .nodes ≡ I .lengths .nodes) × (w .lent .lengths .arguments ≡ I .lengths .arguments)
@@ -76,7 +77,7 @@ module _ (I : Call) where
   Ends (ended c w) = ListsKept (w .lent)
 
   kept : (W : Lent) → Grows (lentOf I) W → ListsKept W
-  kept W g = record { sorts = g .sort-words; nodes = g .node-words }
+  kept W g = record { sorts = g .sort-words; nodes = g .node-words; as-long = g .as-long }
 
   pub search-gives-nodes-back : firstFailing (solveChecks I) ≡ none → (Met : Type 0) (meet : Components → Met → Met) (m : Met) → Ends (searched Met meet m I)
   unfolding Leaves
