@@ -5,6 +5,7 @@ use libc::STDOUT_FILENO;
 use replay::Tally;
 use replay::Verdict;
 use replay::counted;
+ghost use mathlib.Core.Path.{_≡_};
 
 // What the search for a line came to: more bytes are needed, a line, no further line, or a read that failed.
 pub enum Found {
@@ -24,7 +25,9 @@ pub struct Input {
 }
 
 // Where reading starts.
-pub fn no_input() -> Input {
+pub fn no_input() -> Input
+    ensures { λ r. ⌜ (r .at ≡ 0) × (r .end ≡ 0) × (r .length ≡ 0) × (r .found ≡ Found.Nothing) ⌝ }
+{
     Input {
         at: 0,
         end: 0,

@@ -114,7 +114,9 @@ fn with_length(lengths: Lengths, part: Part, length: u16) -> Lengths {
     new
 }
 
-fn no_lengths() -> Lengths {
+fn no_lengths() -> Lengths
+    ensures { λ l. ⌜ (l .sorts ≡ 0) × (l .entries ≡ 0) × (l .nodes ≡ 0) × (l .arguments ≡ 0) × (l .variables ≡ 0) ⌝ }
+{
     Lengths {
         sorts: 0,
         entries: 0,
@@ -353,7 +355,9 @@ fn answer(words: &mut [u16; 21504], fields: Fields, place: Place) -> Step {
 }
 
 // Where reading starts: an empty list, complete.
-pub fn start() -> Place {
+pub fn start() -> Place
+    ensures { λ r. ⌜ (r .total .sorts ≡ 0) × (r .total .entries ≡ 0) × (r .total .nodes ≡ 0) × (r .total .arguments ≡ 0) × (r .total .variables ≡ 0) × (r .read .sorts ≡ 0) × (r .read .entries ≡ 0) × (r .read .nodes ≡ 0) × (r .read .arguments ≡ 0) × (r .read .variables ≡ 0) ⌝ }
+{
     Place {
         total: no_lengths(),
         read: no_lengths(),
