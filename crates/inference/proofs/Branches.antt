@@ -172,7 +172,7 @@ module _ {Met : Type 0} (Went : World Met → Bool → World Met → Type 0) whe
   unfoldable pub Goes : World Met → Out Met → Type 0
   Goes w (found v) = Went w true v
   Goes w (missed v) = Went w false v
-  Goes w (ended c v) = Ends c
+  Goes w (ended c W) = Ends c
 
 module _ (Met : Type 0) (meet : Components → Met → Met) (P : Problem) (Went : World Met → Bool → World Met → Type 0) (stays : (w : World Met) (W : Lent) → Went w false (lending w W))
     (after : (u v w : World Met) (a b : Bool) → Went u a v → Went v b w → Went u (a || b) w) where
@@ -180,7 +180,7 @@ module _ (Met : Type 0) (meet : Components → Met → Met) (P : Problem) (Went 
   unfolding Goes
   goes-after u v x (found w) y = after u v w false true x y
   goes-after u v x (missed w) y = after u v w false false x y
-  goes-after u v x (ended c w) y = y
+  goes-after u v x (ended c W) y = y
 
   missed-goes : (w : World Met) (W : Lent) → Goes Went w (missed (lending w W))
   unfolding Goes
@@ -190,7 +190,7 @@ module _ (Met : Type 0) (meet : Components → Met → Met) (P : Problem) (Went 
   unfolding Goes
   or-else-goes w (found v) x g y = x
   or-else-goes w (missed v) x g y = goes-after w v x (g v) (y v)
-  or-else-goes w (ended c v) x g y = x
+  or-else-goes w (ended c W) x g y = x
 
   -- since u a leaf was found, if b
   and-also-goes : (u w : World Met) (b : Bool) → Went u b w → (o : Out Met) → Goes Went w o → (g : Bool → World Met → Out Met)
@@ -198,7 +198,7 @@ module _ (Met : Type 0) (meet : Components → Met → Met) (P : Problem) (Went 
   unfolding Goes
   and-also-goes u w b z (found v) x g y = y true v (subst (λ a. Went u a v) (or-true b) (after u w v b true z x))
   and-also-goes u w b z (missed v) x g y = y b v (subst (λ a. Went u a v) (or-false b) (after u w v b false z x))
-  and-also-goes u w b z (ended c v) x g y = x
+  and-also-goes u w b z (ended c W) x g y = x
 
   says-goes : (u w : World Met) (b : Bool) → Went u b w → Goes Went u (says b w)
   unfolding Goes
@@ -225,7 +225,7 @@ module _ (Met : Type 0) (meet : Components → Met → Met) (P : Problem) (Went 
   unfolding Goes
   given-back-goes U w (found v) x = subst (λ a. Went w a (lending v (withNodesOf U (v .lent)))) (or-false true) (after w v _ true false x (stays v (withNodesOf U (v .lent))))
   given-back-goes U w (missed v) x = after w v _ false false x (stays v (withNodesOf U (v .lent)))
-  given-back-goes U w (ended c v) x = x
+  given-back-goes U w (ended c W) x = x
 
   -- on from every world
   abbrev From : (World Met → Out Met) → Type 0

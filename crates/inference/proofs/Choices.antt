@@ -269,8 +269,8 @@ module _ (I : Call) (A : Accepted I) where
   unfolding Goes codeSolved
   searched-typed w f (found v) x q = judged-typed (v .lent) (v .best) (x f) q
   searched-typed w f (missed v) x q = judged-typed (v .lent) (v .best) (x f) q
-  searched-typed w f (ended c v) (inl i) q = absurd (omega (arith, i, q))
-  searched-typed w f (ended c v) (inr i) q = absurd (omega (arith, i, q))
+  searched-typed w f (ended c W) (inl i) q = absurd (omega (arith, i, q))
+  searched-typed w f (ended c W) (inr i) q = absurd (omega (arith, i, q))
 
 pub code-0-typed : (I : Call) → codeSolved (solveEntry I .answer) ≡ 0 → IsTyping I (solveEntry I)
 unfolding FitsBest codeSolved

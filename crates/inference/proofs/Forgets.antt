@@ -30,7 +30,7 @@ module _ {Met Met′ : Type 0} (f : Met → Met′) where
   abbrev pub mapOut : Out Met → Out Met′
   mapOut (found w) = found (mapWorld w)
   mapOut (missed w) = missed (mapWorld w)
-  mapOut (ended c w) = ended c (mapWorld w)
+  mapOut (ended c W) = ended c W
 
   -- an outcome that is the image of another, and ways of going on
   unfoldable Image : Out Met → Out Met′ → Type 0
@@ -43,14 +43,14 @@ module _ {Met Met′ : Type 0} (f : Met → Met′) where
   unfolding Image
   or-else-alike (found w) o′ e g g′ h = ap (λ o. orElse o g′) e
   or-else-alike (missed w) o′ e g g′ h = h w ∙ ap (λ o. orElse o g′) e
-  or-else-alike (ended c w) o′ e g g′ h = ap (λ o. orElse o g′) e
+  or-else-alike (ended c W) o′ e g g′ h = ap (λ o. orElse o g′) e
 
   and-also-alike : (o : Out Met) (o′ : Out Met′) → Image o o′ → (b : Bool) (g : Bool → World Met → Out Met) (g′ : Bool → World Met′ → Out Met′) → ((b : Bool) → Alike (g b) (g′ b))
       → Image (andAlso o b g) (andAlso o′ b g′)
   unfolding Image
   and-also-alike (found w) o′ e b g g′ h = h true w ∙ ap (λ o. andAlso o b g′) e
   and-also-alike (missed w) o′ e b g g′ h = h b w ∙ ap (λ o. andAlso o b g′) e
-  and-also-alike (ended c w) o′ e b g g′ h = ap (λ o. andAlso o b g′) e
+  and-also-alike (ended c W) o′ e b g g′ h = ap (λ o. andAlso o b g′) e
 
   missed-alike : Alike missed missed
   unfolding Image
@@ -81,7 +81,7 @@ module _ {Met Met′ : Type 0} (f : Met → Met′) where
   unfolding Image
   given-back-alike U (found w) o′ e = ap (givenBack U) e
   given-back-alike U (missed w) o′ e = ap (givenBack U) e
-  given-back-alike U (ended c w) o′ e = ap (givenBack U) e
+  given-back-alike U (ended c W) o′ e = ap (givenBack U) e
 
 module _ (Met Met′ : Type 0) (meet : Components → Met → Met) (meet′ : Components → Met′ → Met′) (f : Met → Met′) (commutes : (m : Components) (x : Met) → f (meet m x) ≡ meet′ m (f x)) (P : Problem) where
   -- what comes next, on every path
@@ -213,7 +213,7 @@ module _ (Met Met′ : Type 0) (meet : Components → Met → Met) (meet′ : Co
 pub verdict-forgets : {Met Met′ : Type 0} (f : Met → Met′) (I : Call) (o : Out Met) → verdict I (mapOut f o) ≡ verdict I o
 verdict-forgets f I (found w) = refl
 verdict-forgets f I (missed w) = refl
-verdict-forgets f I (ended c w) = refl
+verdict-forgets f I (ended c W) = refl
 
 -- the measures of all leaves met, the last first
 abbrev pub history : Call → Out (List Components)

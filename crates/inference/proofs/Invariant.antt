@@ -91,7 +91,7 @@ module _ (W₀ : Lent) (B₀ : Binds) (P : Problem) where
     unfoldable pub Leaves : Lent → Out Met → Type 0
     Leaves W (found w) = Went W w
     Leaves W (missed w) = Went W w
-    Leaves W (ended c w) = Grows W (w .lent)
+    Leaves W (ended c U) = Grows W U
 
     -- a way of going on where Q is claimed
     abbrev pub Goes : Claim → (Path → World Met → Out Met) → Type 0
@@ -102,7 +102,7 @@ module _ (W₀ : Lent) (B₀ : Binds) (P : Problem) where
     unfolding Leaves
     leaves-from W c W′ g (found w) x = record { only = sorts-only-trans W W′ (w .lent) c g (x .only); best = x .best }
     leaves-from W c W′ g (missed w) x = record { only = sorts-only-trans W W′ (w .lent) c g (x .only); best = x .best }
-    leaves-from W c W′ g (ended b w) x = grows-trans W c W′ (w .lent) (g .grows) x
+    leaves-from W c W′ g (ended b U) x = grows-trans W c W′ U (g .grows) x
 
     pub stays : (w : World Met) → CheckedLent (w .lent) → FineBest (w .lent) (w .best) → Went (w .lent) w
     stays w c f = record { only = sorts-only-refl (w .lent) c; best = f }
@@ -134,7 +134,7 @@ module _ (W₀ : Lent) (B₀ : Binds) (P : Problem) where
     unfolding Leaves
     given-back-leaves W c W′ g (found w) x = back W c W′ g w x
     given-back-leaves W c W′ g (missed w) x = back W c W′ g w x
-    given-back-leaves W c W′ g (ended b w) x = grows-trans W c W′ (w .lent) g x
+    given-back-leaves W c W′ g (ended b U) x = grows-trans W c W′ U g x
 
   -- A branch goes on soundly on lists that have grown.
   pub sound-grown : (W W′ : Lent) (e : Path) (Q : Claim) → CheckedLent W₀ → Sound W e Q → Grows W W′ → Sound W′ e Q
@@ -187,13 +187,13 @@ module _ (W₀ : Lent) (B₀ : Binds) (P : Problem) where
       unfolding Leaves
       or-else-leaves c₀ (found v) f x y = x
       or-else-leaves c₀ (missed v) f x y = after-leaves c₀ f y v x
-      or-else-leaves c₀ (ended b v) f x y = x
+      or-else-leaves c₀ (ended b W) f x y = x
 
       pub and-also-leaves : CheckedLent W₀ → (o : Out Met) (b : Bool) (f : Bool → World Met → Out Met) → Leaves Met (w .lent) o → ((b : Bool) → After (f b)) → Leaves Met (w .lent) (andAlso o b f)
       unfolding Leaves
       and-also-leaves c₀ (found v) b f x y = after-leaves c₀ (f true) (y true) v x
       and-also-leaves c₀ (missed v) b f x y = after-leaves c₀ (f b) (y b) v x
-      and-also-leaves c₀ (ended d v) b f x y = x
+      and-also-leaves c₀ (ended d W) b f x y = x
 
       -- Two places made equal, and on from there, where R is claimed of every assignment that makes them equal.
       pub unifying-leaves : FineBest (w .lent) (w .best) → (l r : ℕ) → PlacedIn (w .lent) l → PlacedIn (w .lent) r → (ms : Components) (cs : List Choice) (R : Claim)

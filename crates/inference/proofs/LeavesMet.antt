@@ -162,12 +162,13 @@ module _ (P : Problem) where
   pub search-meets : (cs : List Constraint) (e : Path) (w : World Met) → Goes Went w (solve Met _∷_ P cs e w)
   search-meets cs e = search-goes Met _∷_ P Went stays after cs e (λ e′ a. leaf-meets e′)
 
-abbrev pub metOf : {Met : Type 0} → Out Met → Met
+-- the measures kept at the end of the search; where room ended the lists alone are left, and no law speaks of leaves
+abbrev pub metOf : Out (List Components) → List Components
 metOf (found w) = w .met
 metOf (missed w) = w .met
-metOf (ended c w) = w .met
+metOf (ended c W) = []
 
--- the measures of the leaves that a call meets, the last first
+-- the measures of the leaves that a call meets where it has room, the last first
 abbrev pub leavesMet : Call → List Components
 leavesMet I = metOf (history I)
 
@@ -240,8 +241,8 @@ searched-by-leaves : (I : Call) (w : World (List Components)) → Kept (w .best)
 unfolding Goes codeSolved
 searched-by-leaves I w k (found v) x f s = judged-by-leaves I (v .lent) (v .met) (v .best) (x .kept k)
 searched-by-leaves I w k (missed v) x f s = judged-by-leaves I (v .lent) (v .met) (v .best) (x .kept k)
-searched-by-leaves I w k (ended c v) (inl i) f s = absurd (f i)
-searched-by-leaves I w k (ended c v) (inr i) f s = absurd (s i)
+searched-by-leaves I w k (ended c W) (inl i) f s = absurd (f i)
+searched-by-leaves I w k (ended c W) (inr i) f s = absurd (s i)
 
 pub verdict-by-leaves : (I : Call) → firstFailing (solveChecks I) ≡ none → (codeOf (solveEntry I) ≡ 15 → ⊥) → (codeOf (solveEntry I) ≡ 16 → ⊥) → ByLeaves I (solveEntry I) (leavesMet I)
 unfolding Kept

@@ -63,7 +63,7 @@ module _ (I : Call) where
       ends : (O : Out (Unit {0})) → Leaves (lentOf I) (bindsOf (I .binds) (I .lengths .variables)) (problemOf I) (Unit {0}) (lentOf I) O → countsOf (verdict I O .answer) ≡ some k → SortsGrown (verdict I O .sorts) k
       ends (found w) l e = by-best (w .lent) (w .best) (l .only .grows) k e
       ends (missed w) l e = by-best (w .lent) (w .best) (l .only .grows) k e
-      ends (ended d w) l e = no-confusion cc
+      ends (ended d W) l e = no-confusion cc
 
   -- where the search stands at its end: as many nodes as given, with their words; and given words also where room ended
   pub record ListsKept (W : Lent) : Type 0 where
@@ -74,7 +74,7 @@ module _ (I : Call) where
   abbrev pub Ends : {Met : Type 0} → Out Met → Type 0
   Ends (found w) = ListsKept (w .lent) × (w .lent .lengths .nodes ≡ I .lengths .nodes) × (w .lent .lengths .arguments ≡ I .lengths .arguments)
   Ends (missed w) = ListsKept (w .lent) × (w .lent .lengths .nodes ≡ I .lengths .nodes) × (w .lent .lengths .arguments ≡ I .lengths .arguments)
-  Ends (ended c w) = ListsKept (w .lent)
+  Ends (ended c W) = ListsKept W
 
   kept : (W : Lent) → Grows (lentOf I) W → ListsKept W
   kept W g = record { sorts = g .sort-words; nodes = g .node-words; as-long = g .as-long }
@@ -86,4 +86,4 @@ module _ (I : Call) where
       go : (O : Out Met) → Leaves (lentOf I) (bindsOf (I .binds) (I .lengths .variables)) (problemOf I) Met (lentOf I) O → Ends O
       go (found w) l = (kept (w .lent) (l .only .grows), l .only .nodes, l .only .arguments)
       go (missed w) l = (kept (w .lent) (l .only .grows), l .only .nodes, l .only .arguments)
-      go (ended d w) l = kept (w .lent) l
+      go (ended d W) l = kept W l

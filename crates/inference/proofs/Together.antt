@@ -153,7 +153,7 @@ module _ (I : Call) where
   unfolding Leaves
   by-verdict (found w) l o e = by-best (w .lent) (w .best) (l .best) o e
   by-verdict (missed w) l o e = by-best (w .lent) (w .best) (l .best) o e
-  by-verdict (ended d w) l o e = no-confusion cc
+  by-verdict (ended d W) l o e = no-confusion cc
 
   -- Every typing is explained: no premise but code 0.
   pub every-typing-is-explained : (o : Outputs) → solveEntry I .answer ≡ Typing o → Explained (solveEntry I) o

@@ -155,10 +155,10 @@ pub record World (Met : Type 0) : Type 0 where
   pub best : Option Candidate
   pub met : Met
 
--- whether a leaf was found; or the room that ended, 15 or 16
+-- whether a leaf was found; or the room that ended, 15 or 16, with the lists as they then are
 pub data Out (Met : Type 0) : Type 0 where
   found missed : World Met → Out Met
-  ended : ℕ → World Met → Out Met
+  ended : ℕ → Lent → Out Met
 
 module _ {Met : Type 0} where
   abbrev pub lending : World Met → Lent → World Met
@@ -168,13 +168,13 @@ module _ {Met : Type 0} where
   abbrev pub orElse : Out Met → (World Met → Out Met) → Out Met
   orElse (found w) f = found w
   orElse (missed w) f = f w
-  orElse (ended c w) f = ended c w
+  orElse (ended c W) f = ended c W
 
   -- whatever was found, what else, told whether something was
   abbrev pub andAlso : Out Met → Bool → (Bool → World Met → Out Met) → Out Met
   andAlso (found w) b f = f true w
   andAlso (missed w) b f = f b w
-  andAlso (ended c w) b f = ended c w
+  andAlso (ended c W) b f = ended c W
 
   abbrev pub says : Bool → World Met → Out Met
   says true w = found w
@@ -193,12 +193,12 @@ module _ {Met : Type 0} where
   abbrev pub onMade : {A : Type 0} → Makes A → (A → World Met → Out Met) → (World Met → Out Met) → World Met → Out Met
   onMade (made a W) k f w = k a (lending w W)
   onMade (no-list W) k f w = f (lending w W)
-  onMade (no-room c W) k f w = ended c (lending w W)
+  onMade (no-room c W) k f w = ended c W
 
   abbrev pub givenBack : Lent → Out Met → Out Met
   givenBack U (found w) = found (lending w (withNodesOf U (w .lent)))
   givenBack U (missed w) = missed (lending w (withNodesOf U (w .lent)))
-  givenBack U (ended c w) = ended c w
+  givenBack U (ended c W) = ended c W
 
 module _ (Met : Type 0) (meet : Components → Met → Met) (P : Problem) where
   -- what comes next

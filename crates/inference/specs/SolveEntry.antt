@@ -118,7 +118,7 @@ judged I W (some c) = judgedBy I W c (c .duplicate)
 abbrev pub verdict : {Met : Type 0} → Call → Out Met → Left
 verdict I (found w) = judged I (w .lent) (w .best)
 verdict I (missed w) = judged I (w .lent) (w .best)
-verdict I (ended c w) = leftWith I (NoRoom c) (givenBack (I .lengths .sorts) (I .lengths .entries) (I .sorts)) (I .typing) (I .measure) (I .choices)
+verdict I (ended c W) = leftWith I (NoRoom c) (givenBack (I .lengths .sorts) (I .lengths .entries) (I .sorts)) (I .typing) (I .measure) (I .choices)
 
 abbrev pub nothingMet : Components → Unit {0} → Unit {0}
 nothingMet m u = tt
