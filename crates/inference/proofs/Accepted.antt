@@ -57,8 +57,8 @@ refusal-above-0 (d ∷ cs) a n e = go (d .passes) e (refusal-above-0 cs (both .1
 pub data Listed (W : Lent) (P : Problem) : Constraint → Type 0 where
   sub-listed : (l r : InferSortId) → PlacedIn W (l .0) → PlacedIn W (r .0) → Listed W P (Sub l r)
   lit-listed : (p : InferSortId) (kind : LitKind) → PlacedIn W (p .0) → Listed W P (Lit p kind)
-  disjunction-listed : (x : ExprId) (p : InferSortId) (run : Run) → PlacedIn W (p .0) → ((i : ℕ) → i < run .count → PlacedIn W (overloadIn (P .overloads) run i .sort .0))
-      → Listed W P (Disjunction x p run)
+  disjunction-listed : (x : ExprId) (p : InferSortId) (run : Run) → PlacedIn W (p .0) → run .start + run .count ≤ length (P .overloads)
+      → ((i : ℕ) → i < run .count → PlacedIn W (overloadIn (P .overloads) run i .sort .0)) → Listed W P (Disjunction x p run)
   comprehension-listed : (body node : InferSortId) (element : SortId) → PlacedIn W (body .0) → PlacedIn W (node .0) → element .0 < W .lengths .sorts
       → Listed W P (Comprehension body node element)
   join-listed : (run : Run) (t : InferSortId) → PlacedIn W (t .0) → run .start + run .count ≤ length (P .sources)
@@ -70,6 +70,11 @@ module _ (I : Call) where
 
   abbrev P : Problem
   P = problemOf I
+
+  overloads-inside : (run : Run) → runFine I (I .rows .overloads) (overloadFine I) run ≡ true → run .start + run .count ≤ length (P .overloads)
+  overloads-inside run f =
+      let x = and-eq-true-iff (leb (run .start + run .count) (I .rows .overloads)) _ .0 f in
+      omega (arith, leb-true (run .start + run .count) (I .rows .overloads) (x .0), length-rows (overloadAt (I .overloads)) 0 (I .rows .overloads))
 
   overload-placed : (run : Run) → runFine I (I .rows .overloads) (overloadFine I) run ≡ true → (i : ℕ) → i < run .count → PlacedIn W (overloadIn (P .overloads) run i .sort .0)
   unfolding overloadFine
@@ -96,7 +101,7 @@ module _ (I : Call) where
   listed-by b (Disjunction x p run) f =
       let y = and-eq-true-iff (ltb (x .0) (I .rows .exprs) && placed I (p .0)) (runFine I (I .rows .overloads) (overloadFine I) run) .0 f in
       let z = and-eq-true-iff (ltb (x .0) (I .rows .exprs)) (placed I (p .0)) .0 (y .0) in
-      disjunction-listed x p run (z .1) (overload-placed run (y .1))
+      disjunction-listed x p run (z .1) (overloads-inside run (y .1)) (overload-placed run (y .1))
   listed-by b (Comprehension body node element) f =
       let x = and-eq-true-iff (placed I (body .0) && placed I (node .0)) (ltb (element .0) (I .lengths .sorts)) .0 f in
       let y = and-eq-true-iff (placed I (body .0)) (placed I (node .0)) .0 (x .0) in

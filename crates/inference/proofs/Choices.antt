@@ -76,7 +76,7 @@ width-of-one : (W : Lent) (P : Problem) (c : Constraint) → Listed W P c → wi
 unfolding widthOf
 width-of-one W P _ (sub-listed l r x y) = refl
 width-of-one W P _ (lit-listed p kind x) = refl
-width-of-one W P _ (disjunction-listed e p run x y) = refl
+width-of-one W P _ (disjunction-listed e p run x l y) = refl
 width-of-one W P _ (comprehension-listed body node element x y l) = refl
 width-of-one W P _ (join-listed run t x f a) = omega (arith, f, length-take (run .count) (drop (run .start) (P .sources)), length-drop (run .start) (P .sources))
 

@@ -70,7 +70,7 @@ module _ (W₀ : Lent) (B₀ : Binds) (P : Problem) where
     step-goes done _ (lit-listed p kind x) k g =
         literal-goes W₀ B₀ P c₀ six Met meet kind (p .0) x (Passed done) (Passed (done ++ (Lit p kind ∷ [])))
         (λ ch ρ ms s n q h e. and-last ch ρ done ms (Lit p kind) (n ∷ []) q (lit-costs p kind s n h e)) k g
-    step-goes done _ (disjunction-listed x p run y o) k g =
+    step-goes done _ (disjunction-listed x p run y l o) k g =
         disjunction-goes W₀ B₀ P c₀ six Met meet x p run y o (Passed done) (Passed (done ++ (Disjunction x p run ∷ [])))
         (λ ch ρ ms i t q l h j.
         and-free (ch ++ (record { expr = x .0; position = i } ∷ [])) ρ done ms (Disjunction x p run) (more-choices ch (record { expr = x .0; position = i } ∷ []) ρ done ms q)
