@@ -1,0 +1,2 @@
+-- The laws of the search in memory.
+pub mod Parts
