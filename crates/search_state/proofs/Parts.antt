@@ -50,7 +50,7 @@ part-of-front (suc a) n (suc m) (x ∷ xs) l = part-of-front a n m xs (omega (ar
 pub part-in-front : (a n m : ℕ) (xs ys : List ℕ) → a + n ≤ m → take m ys ≡ take m xs → part a n ys ≡ part a n xs
 part-in-front a n m xs ys l e = sym (part-of-front a n m ys l) ∙ (ap (part a n) e ∙ part-of-front a n m xs l)
 
-drop-longer : (m a : ℕ) (xs ys : List ℕ) → m ≤ a → drop m ys ≡ drop m xs → drop a ys ≡ drop a xs
+pub drop-longer : (m a : ℕ) (xs ys : List ℕ) → m ≤ a → drop m ys ≡ drop m xs → drop a ys ≡ drop a xs
 drop-longer m a xs ys l e =
     let f : m + (a - m) ≡ a = omega (arith, l) in
     let g : (zs : List ℕ) → drop a zs ≡ drop (a - m) (drop m zs) = λ zs. ap (λ j. drop j zs) (sym f) ∙ sym (drop-drop (a - m) m zs) in
@@ -59,7 +59,7 @@ drop-longer m a xs ys l e =
 pub part-in-back : (a n m : ℕ) (xs ys : List ℕ) → m ≤ a → drop m ys ≡ drop m xs → part a n ys ≡ part a n xs
 part-in-back a n m xs ys l e = ap (take n) (drop-longer m a xs ys l e)
 
-take-shorter : (n m : ℕ) (xs ys : List ℕ) → n ≤ m → take m ys ≡ take m xs → take n ys ≡ take n xs
+pub take-shorter : (n m : ℕ) (xs ys : List ℕ) → n ≤ m → take m ys ≡ take m xs → take n ys ≡ take n xs
 take-shorter n m xs ys l e = sym (take-take n m ys l) ∙ (ap (take n) e ∙ take-take n m xs l)
 
 pub part-set-after : (a n : ℕ) (xs : List ℕ) (i v : ℕ) → a + n ≤ i → part a n (set xs i v) ≡ part a n xs
