@@ -3,25 +3,36 @@
 use infer_nodes::counts_of;
 use infer_nodes::with_counts;
 use inference::LitKind;
+use related_sorts::strict_sub_sorts;
+use related_sorts::strict_super_sorts;
 use resolved_sort::ComplexSort;
 use resolved_sort::Joined;
 use resolved_sort::SortId;
 use search_state::Answer;
+use search_state::Four;
 use search_state::Made;
 use search_state::Pairs;
 use search_state::State;
 use search_state::Tries;
 use search_state::Went;
+use search_state::Widenings;
 use sort_bounds::generic;
 use unification::InferSortId;
 use unification::Lengths;
+use unification::Listed;
+use unification::Related;
 ghost use mathlib.Core.Path.{_≡_};
 ghost use mathlib.Core.Bool.{true, false};
 ghost use mathlib.Core.List.{[], _∷_};
 ghost use Prim.Native.Nat.{ℕ, _+_, _<_, _≤_};
+ghost use lib.ListN.{getD, take};
 ghost use Rattle.resolved_sort.specs.Rows.{Checked};
-ghost use Rattle.search_state.specs.Leaves.{afterOf, withNodes, backTo, givenBackTo, tryAt};
-ghost use Rattle.search_steps.specs.Steps.{saysOf, pairsOf, LitTries, InternsContainer};
+ghost use Rattle.unification.specs.Nodes.{bindsOf};
+ghost use Rattle.unification.specs.Checked.{Ready, Placed};
+ghost use Rattle.related_sorts.specs.Outcome.{Ranges};
+ghost use Rattle.search_state.specs.Memory.{lent};
+ghost use Rattle.search_state.specs.Leaves.{afterOf, withNodes, backTo, givenBackTo, placesOf, tryAt, widenings, Widens};
+ghost use Rattle.search_steps.specs.Steps.{saysOf, pairsOf, LitTries, InternsContainer, ListedTries, AsTries};
 
 // On after one of several alternatives.
 pub fn after(r: Answer, found: bool) -> Went
@@ -86,13 +97,25 @@ pub fn give_back(r: Answer, lengths: Lengths) -> Answer
     }
 }
 
+// The j-th of the places.
+fn place_at(ids: Four, j: u16) -> u16
+    ensures { λ r. ⌜ r ≡ getD (placesOf ids) j 0 ⌝ }
+{
+    match j {
+        0 => ids.0,
+        1 => ids.1,
+        2 => ids.2,
+        3 => ids.3,
+        _ => 0,
+    }
+}
+
 // The places that the j-th of tries makes equal, and its component.
 pub fn try_pairs(t: Tries, j: u16) -> Pairs
-    requires { ⌜ j < 4 ⌝ }
     ensures { λ r. ⌜ r ≡ pairsOf (tryAt t j) ⌝ }
 {
     let ids = t.ids;
-    let place = InferSortId(ids[j as usize]);
+    let place = InferSortId(place_at(ids, j));
     let other = t.other;
     if t.up {
         return Pairs::One(place, other);
@@ -112,25 +135,20 @@ pub fn lit_tries(kind: LitKind, id: InferSortId) -> Tries
     ensures { λ r. ⌜ LitTries kind id r ⌝ }
 {
     match kind {
-        LitKind::Positive => number_tries(2, 3, 4, 5, 4, 0, id),
-        LitKind::Natural => number_tries(3, 4, 5, 0, 3, 1, id),
-    }
-}
-
-fn number_tries(a: u16, b: u16, c: u16, d: u16, count: u16, first: u16, id: InferSortId) -> Tries
-    ensures { λ r. ⌜ r ≡ record { ids = a ∷ b ∷ c ∷ d ∷ []; count = count; other = id; up = false; first = first } ⌝ }
-{
-    let mut ids = [0u16; 4];
-    ids[0] = a;
-    ids[1] = b;
-    ids[2] = c;
-    ids[3] = d;
-    Tries {
-        ids,
-        count,
-        other: id,
-        up: false,
-        first,
+        LitKind::Positive => Tries {
+            ids: Four(2, 3, 4, 5),
+            count: 4,
+            other: id,
+            up: false,
+            first: 0,
+        },
+        LitKind::Natural => Tries {
+            ids: Four(3, 4, 5, 0),
+            count: 3,
+            other: id,
+            up: false,
+            first: 1,
+        },
     }
 }
 
@@ -148,5 +166,61 @@ pub fn intern_container(
         Joined::At(id, made) => Made::At(id, with_counts(lengths, made)),
         Joined::Nothing(_) => Made::Nothing(lengths),
         Joined::Full => Made::Full(lengths),
+    }
+}
+
+// The places of a list as tries against another place: 1, 2, 3.
+fn listed_tries(ids: [u16; 3], count: u16, other: InferSortId, up: bool) -> Tries
+    requires { ⌜ count ≤ 3 ⌝ }
+    ensures { λ r. ⌜ ListedTries up (other .0) (take count ids) r ⌝ }
+{
+    Tries {
+        ids: Four(ids[0], ids[1], ids[2], 0),
+        count,
+        other,
+        up,
+        first: 1,
+    }
+}
+
+// The same of what was listed, if anything.
+fn as_tries(found: Related, other: InferSortId, up: bool) -> Widenings
+    requires { ⌜ Ranges found ⌝ }
+    ensures { λ r. ⌜ AsTries up (other .0) found r ⌝ }
+{
+    let ids = found.ids;
+    let listed = found.listed;
+    match listed {
+        Listed::These(count, lengths) => {
+            Widenings::These(listed_tries(ids, count, other, up), lengths)
+        }
+        Listed::NoList(lengths) => Widenings::NoList(lengths),
+        Listed::Full(code, lengths) => Widenings::Full(code, lengths),
+    }
+}
+
+// The tries of a widening of `lhs` to `rhs` after that without one: each wider sort of `lhs` against `rhs`, nearest first; or, where `lhs` has no list,
+// `lhs` against each narrower sort of `rhs`. An empty list is a list.
+pub fn widenings_of(
+    sorts: &mut [u16],
+    nodes: &mut [u16],
+    binds: &[u16],
+    lengths: Lengths,
+    lhs: InferSortId,
+    rhs: InferSortId,
+) -> Widenings
+    requires { ⌜ Ready (now sorts) (now nodes) (now binds) lengths × Placed lengths (lhs .0) × Placed lengths (rhs .0) ⌝ }
+    ensures { λ r. ⌜ Widens (now (sorts .exit)) (now (nodes .exit)) r (widenings (bindsOf (now (binds .entry)) (lengths .variables)) (lhs .0) (rhs .0) (lent (now (sorts .entry)) (now (nodes .entry)) lengths)) ⌝ }
+{
+    match as_tries(
+        strict_super_sorts(sorts, nodes, binds, lengths, lhs),
+        rhs,
+        true,
+    ) {
+        Widenings::These(tries, then) => Widenings::These(tries, then),
+        Widenings::NoList(same) => {
+            as_tries(strict_sub_sorts(sorts, nodes, binds, same, rhs), lhs, false)
+        }
+        Widenings::Full(code, then) => Widenings::Full(code, then),
     }
 }

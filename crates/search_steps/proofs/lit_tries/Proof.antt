@@ -9,8 +9,6 @@ lit-tries-spec =
     tie.close
     (tie.spec
     (λ c. search needs)
-    (λ c κs. search needs)
     (λ c. search needs)
-    (λ c κs. search needs)
-    (λ c. search law.positive-tries)
-    (λ c. search law.natural-tries))
+    (λ c. law.positive-tries _ _ (c .enum-told .given .1))
+    (λ c. law.natural-tries _ _ (c .enum-told2 .given .1)))

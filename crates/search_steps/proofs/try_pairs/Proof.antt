@@ -8,7 +8,6 @@ pub try-pairs-spec : {M : Type 1} → statement M
 try-pairs-spec =
     tie.close
     (tie.spec
-    (λ c. search needs)
-    (λ c. search needs)
-    (λ c. law.place-on-left _ _ (c .if1 .taken))
-    (λ c. law.place-on-right _ _ (c .if1 .left)))
+    (λ c κs. search needs)
+    (λ c. law.place-on-left _ _ (c .if1 .taken) _ (c .before .before .place-at .ensures))
+    (λ c. law.place-on-right _ _ (c .if1 .left) _ (c .before .before .place-at .ensures)))
