@@ -27,6 +27,7 @@ use Rattle.search_state.specs.declared.Pairs.{Pairs}
 use Rattle.search_state.specs.declared.Pairs.the-variants.{One, Two}
 use Rattle.search_state.specs.declared.Step.{Step}
 use Rattle.search_state.specs.declared.Step.the-variants.{Nothing, Component, Written, Choice}
+use Rattle.search_state.specs.declared.Four.{Four}
 use Rattle.search_state.specs.declared.Tries.{Tries}
 use Rattle.search_state.specs.declared.Widenings.{Widenings}
 use Rattle.search_state.specs.declared.Widenings.the-variants.{These, NoList, Full as NoRoom}
@@ -95,10 +96,13 @@ stepped ls z sc e (Written n) C = measured (pathOf ls z C sc e) (part (measureAt
 stepped ls z sc e (Choice i) C = chosen (pathOf ls z C sc e) (getD (chosenExprs ls z) (e .choices) 0) i C
 
 -- the j-th of tries, and those from it on
+abbrev pub placesOf : Four → List ℕ
+placesOf f = f .0 ∷ f .1 ∷ f .2 ∷ f .3 ∷ []
+
 unfoldable pub tryAt : Tries → ℕ → Try
 tryAt t j =
-    cond (t .up) (record { left = getD (t .ids) j 0; right = t .other .0; component = t .first + j })
-    (record { left = t .other .0; right = getD (t .ids) j 0; component = t .first + j })
+    cond (t .up) (record { left = getD (placesOf (t .ids)) j 0; right = t .other .0; component = t .first + j })
+    (record { left = t .other .0; right = getD (placesOf (t .ids)) j 0; component = t .first + j })
 
 abbrev pub triesFrom : Tries → ℕ → List Try
 triesFrom t j = rowsFrom (tryAt t) j (t .count - j)
@@ -118,9 +122,9 @@ widened ws ns (These t k) = made (triesFrom t 0) (lent ws ns k)
 widened ws ns (NoList k) = no-list (lent ws ns k)
 widened ws ns (NoRoom c k) = no-room c (lent ws ns k)
 
--- at most four tries, with places of the lists
+-- at most four tries, and their components are 1 and so on
 abbrev pub FewTries : Widenings → Type 0
-FewTries (These t k) = t .count ≤ 4
+FewTries (These t k) = (t .count ≤ 4) × (t .first ≡ 1)
 FewTries (NoList k) = Unit {0}
 FewTries (NoRoom c k) = Unit {0}
 

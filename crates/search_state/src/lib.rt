@@ -62,10 +62,13 @@ pub enum Step {
     Choice(u16),
 }
 
+// Up to four places.
+pub struct Four(pub u16, pub u16, pub u16, pub u16);
+
 // Tries one after another: each of the places against another one, on its left (up) or on its right, the first with the
 // component `first`, each next with one more.
 pub struct Tries {
-    pub ids: [u16; 4],
+    pub ids: Four,
     pub count: u16,
     pub other: InferSortId,
     pub up: bool,

@@ -1,0 +1,14 @@
+-- By the kind. Assumes nothing.
+use borrow.Author.Needs.{needs}
+use Rattle.search_steps.proofs.Laws as law
+use Rattle.search_steps.proofs.lit_tries.Statement.{statement}
+use Rattle.search_steps.proofs.lit_tries.Tie as tie
+
+pub lit-tries-spec : {M : Type 1} → statement M
+lit-tries-spec =
+    tie.close
+    (tie.spec
+    (λ c. search needs)
+    (λ c. search needs)
+    (λ c. law.positive-tries _ _ (c .enum-told .given .1))
+    (λ c. law.natural-tries _ _ (c .enum-told2 .given .1)))

@@ -1,0 +1,226 @@
+// What the search of merc's inference.rs does between its calls of itself: telling answers apart, and the tries of a widening and of a literal, from
+// solve_widening and solve_lit.
+use infer_nodes::counts_of;
+use infer_nodes::with_counts;
+use inference::LitKind;
+use related_sorts::strict_sub_sorts;
+use related_sorts::strict_super_sorts;
+use resolved_sort::ComplexSort;
+use resolved_sort::Joined;
+use resolved_sort::SortId;
+use search_state::Answer;
+use search_state::Four;
+use search_state::Made;
+use search_state::Pairs;
+use search_state::State;
+use search_state::Tries;
+use search_state::Went;
+use search_state::Widenings;
+use sort_bounds::generic;
+use unification::InferSortId;
+use unification::Lengths;
+use unification::Listed;
+use unification::Related;
+ghost use mathlib.Core.Path.{_≡_};
+ghost use mathlib.Core.Bool.{true, false};
+ghost use mathlib.Core.List.{[], _∷_};
+ghost use Prim.Native.Nat.{ℕ, _+_, _<_, _≤_};
+ghost use lib.ListN.{getD, take};
+ghost use Rattle.resolved_sort.specs.Rows.{Checked};
+ghost use Rattle.unification.specs.Nodes.{bindsOf};
+ghost use Rattle.unification.specs.Checked.{Ready, Placed};
+ghost use Rattle.related_sorts.specs.Outcome.{Ranges};
+ghost use Rattle.search_state.specs.Memory.{lent};
+ghost use Rattle.search_state.specs.Leaves.{afterOf, withNodes, backTo, givenBackTo, placesOf, tryAt, widenings, Widens};
+ghost use Rattle.search_steps.specs.Steps.{saysOf, pairsOf, LitTries, InternsContainer, ListedTries, AsTries};
+
+// On after one of several alternatives.
+pub fn after(r: Answer, found: bool) -> Went
+    ensures { λ o. ⌜ o ≡ afterOf r found ⌝ }
+{
+    match r {
+        Answer::Found(st) => Went::On(st, true),
+        Answer::Missed(st) => Went::On(st, found),
+        Answer::Full(code, lengths) => Went::Stop(code, lengths),
+    }
+}
+
+// Whether a leaf was found, as an answer.
+pub fn says(found: bool, st: State) -> Answer
+    ensures { λ r. ⌜ r ≡ saysOf found st ⌝ }
+{
+    if found {
+        return Answer::Found(st);
+    }
+    Answer::Missed(st)
+}
+
+// The state with other lengths.
+pub fn with_lengths(st: State, lengths: Lengths) -> State
+    ensures { λ r. ⌜ r ≡ record { lengths = lengths; best = st .best; tied = st .tied } ⌝ }
+{
+    State {
+        lengths,
+        best: st.best,
+        tied: st.tied,
+    }
+}
+
+// The nodes made since `kept` given back.
+fn with_nodes(kept: Lengths, lengths: Lengths) -> Lengths
+    ensures { λ r. ⌜ r ≡ withNodes kept lengths ⌝ }
+{
+    Lengths {
+        sorts: lengths.sorts,
+        entries: lengths.entries,
+        nodes: kept.nodes,
+        arguments: kept.arguments,
+        variables: lengths.variables,
+    }
+}
+
+fn back_to(kept: Lengths, st: State) -> State
+    ensures { λ r. ⌜ r ≡ backTo kept st ⌝ }
+{
+    let lengths = st.lengths;
+    with_lengths(st, with_nodes(kept, lengths))
+}
+
+// After the tries of a widening: the nodes made for them are given back, unless room ended.
+pub fn give_back(r: Answer, lengths: Lengths) -> Answer
+    ensures { λ o. ⌜ o ≡ givenBackTo lengths r ⌝ }
+{
+    match r {
+        Answer::Found(st) => Answer::Found(back_to(lengths, st)),
+        Answer::Missed(st) => Answer::Missed(back_to(lengths, st)),
+        Answer::Full(code, then) => Answer::Full(code, then),
+    }
+}
+
+// The j-th of the places.
+fn place_at(ids: Four, j: u16) -> u16
+    ensures { λ r. ⌜ r ≡ getD (placesOf ids) j 0 ⌝ }
+{
+    match j {
+        0 => ids.0,
+        1 => ids.1,
+        2 => ids.2,
+        3 => ids.3,
+        _ => 0,
+    }
+}
+
+// The places that the j-th of tries makes equal, and its component.
+pub fn try_pairs(t: Tries, j: u16) -> Pairs
+    ensures { λ r. ⌜ r ≡ pairsOf (tryAt t j) ⌝ }
+{
+    let ids = t.ids;
+    let place = InferSortId(place_at(ids, j));
+    let other = t.other;
+    if t.up {
+        return Pairs::One(place, other);
+    }
+    Pairs::One(other, place)
+}
+
+pub fn try_component(t: Tries, j: u16) -> u16
+    requires { ⌜ (j < 4) × (t .first ≤ 1) ⌝ }
+    ensures { λ r. ⌜ r ≡ tryAt t j .component ⌝ }
+{
+    t.first + j
+}
+
+// The number sorts that a literal may have where its place is free, nearest first. Pos, Nat, Int and Real are the sorts 2 to 5.
+pub fn lit_tries(kind: LitKind, id: InferSortId) -> Tries
+    ensures { λ r. ⌜ LitTries kind id r ⌝ }
+{
+    match kind {
+        LitKind::Positive => Tries {
+            ids: Four(2, 3, 4, 5),
+            count: 4,
+            other: id,
+            up: false,
+            first: 0,
+        },
+        LitKind::Natural => Tries {
+            ids: Four(3, 4, 5, 0),
+            count: 3,
+            other: id,
+            up: false,
+            first: 1,
+        },
+    }
+}
+
+// The container of a comprehension, interned.
+pub fn intern_container(
+    sorts: &mut [u16],
+    lengths: Lengths,
+    op: ComplexSort,
+    element: SortId,
+) -> Made
+    requires { ⌜ Checked (now sorts) (lengths .sorts) (lengths .entries) × (element .0 < lengths .sorts) ⌝ }
+    ensures { λ r. ⌜ InternsContainer op (element .0) (now (sorts .entry)) lengths (now (sorts .exit)) r ⌝ }
+{
+    match generic(sorts, counts_of(lengths), op, element) {
+        Joined::At(id, made) => Made::At(id, with_counts(lengths, made)),
+        Joined::Nothing(_) => Made::Nothing(lengths),
+        Joined::Full => Made::Full(lengths),
+    }
+}
+
+// The places of a list as tries against another place: 1, 2, 3.
+fn listed_tries(ids: [u16; 3], count: u16, other: InferSortId, up: bool) -> Tries
+    requires { ⌜ count ≤ 3 ⌝ }
+    ensures { λ r. ⌜ ListedTries up (other .0) (take count ids) r ⌝ }
+{
+    Tries {
+        ids: Four(ids[0], ids[1], ids[2], 0),
+        count,
+        other,
+        up,
+        first: 1,
+    }
+}
+
+// The same of what was listed, if anything.
+fn as_tries(found: Related, other: InferSortId, up: bool) -> Widenings
+    requires { ⌜ Ranges found ⌝ }
+    ensures { λ r. ⌜ AsTries up (other .0) found r ⌝ }
+{
+    let ids = found.ids;
+    let listed = found.listed;
+    match listed {
+        Listed::These(count, lengths) => {
+            Widenings::These(listed_tries(ids, count, other, up), lengths)
+        }
+        Listed::NoList(lengths) => Widenings::NoList(lengths),
+        Listed::Full(code, lengths) => Widenings::Full(code, lengths),
+    }
+}
+
+// The tries of a widening of `lhs` to `rhs` after that without one: each wider sort of `lhs` against `rhs`, nearest first; or, where `lhs` has no list,
+// `lhs` against each narrower sort of `rhs`. An empty list is a list.
+pub fn widenings_of(
+    sorts: &mut [u16],
+    nodes: &mut [u16],
+    binds: &[u16],
+    lengths: Lengths,
+    lhs: InferSortId,
+    rhs: InferSortId,
+) -> Widenings
+    requires { ⌜ Ready (now sorts) (now nodes) (now binds) lengths × Placed lengths (lhs .0) × Placed lengths (rhs .0) ⌝ }
+    ensures { λ r. ⌜ Widens (now (sorts .exit)) (now (nodes .exit)) r (widenings (bindsOf (now (binds .entry)) (lengths .variables)) (lhs .0) (rhs .0) (lent (now (sorts .entry)) (now (nodes .entry)) lengths)) ⌝ }
+{
+    match as_tries(
+        strict_super_sorts(sorts, nodes, binds, lengths, lhs),
+        rhs,
+        true,
+    ) {
+        Widenings::These(tries, then) => Widenings::These(tries, then),
+        Widenings::NoList(same) => {
+            as_tries(strict_sub_sorts(sorts, nodes, binds, same, rhs), lhs, false)
+        }
+        Widenings::Full(code, then) => Widenings::Full(code, then),
+    }
+}
