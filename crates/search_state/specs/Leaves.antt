@@ -83,7 +83,10 @@ addedChoices (Written n) = 0
 addedChoices (Choice i) = 1
 
 abbrev pub branchAfter : Branch → ℕ → Step → Branch
-branchAfter e t s = record { trail = t; measure = e .measure + addedComponents s; choices = e .choices + addedChoices s }
+branchAfter e t Nothing = record { trail = t; measure = e .measure; choices = e .choices }
+branchAfter e t (Component c) = record { trail = t; measure = e .measure + 1; choices = e .choices }
+branchAfter e t (Written n) = record { trail = t; measure = e .measure + n; choices = e .choices }
+branchAfter e t (Choice i) = record { trail = t; measure = e .measure; choices = e .choices + 1 }
 
 unfoldable pub stepped : List ℕ → Sizes → List ℕ → Branch → Step → Binds → Path
 stepped ls z sc e Nothing C = bound (pathOf ls z C sc e) C

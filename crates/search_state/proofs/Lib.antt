@@ -1,0 +1,3 @@
+-- The laws of the search in memory.
+pub mod Parts
+pub mod After
