@@ -4,34 +4,33 @@ use mathlib.Core.List.{List, [], _∷_, _++_}
 use Prim.Native.Nat.{ℕ, zero, suc, _+_, _*_, _<_}
 use native.Mathlib.Omega.{arith}
 use lib.ListN.{length, getD}
-use Rattle.inference.specs.Constraints.{rowsFrom}
+use Rattle.inference.specs.Constraints.{BaseName, rowsFrom, Problem}
 use Rattle.inference.specs.Search.{Choice}
 use Rattle.inference.specs.Names.{nameOf, nameKind, nameSort}
-use Rattle.inference.specs.SolveChecks.{Call}
-use Rattle.inference.specs.SolveEntry.{problemOf, baseNamesOf, typingRows, choiceRows, choiceAt}
+use Rattle.inference.specs.SolveEntry.{typingRows, choiceRows, choiceAt}
 
-module _ (I : Call) (cs : List Choice) where
-  later-row : (x s : ℕ) (ss rest : List ℕ) (i k : ℕ) → getD (typingRows I cs x (s ∷ ss) ++ rest) (3 * suc i + k) 0 ≡ getD (typingRows I cs (x + 1) ss ++ rest) (3 * i + k) 0
+module _ (P : Problem) (bs : List BaseName) (cs : List Choice) where
+  later-row : (x s : ℕ) (ss rest : List ℕ) (i k : ℕ) → getD (typingRows P bs cs x (s ∷ ss) ++ rest) (3 * suc i + k) 0 ≡ getD (typingRows P bs cs (x + 1) ss ++ rest) (3 * i + k) 0
   unfolding typingRows
-  later-row x s ss rest i k = let e : 3 * suc i + k ≡ suc (suc (suc (3 * i + k))) = omega arith in ap (λ j. getD (typingRows I cs x (s ∷ ss) ++ rest) j 0) e
+  later-row x s ss rest i k = let e : 3 * suc i + k ≡ suc (suc (suc (3 * i + k))) = omega arith in ap (λ j. getD (typingRows P bs cs x (s ∷ ss) ++ rest) j 0) e
 
-  pub sort-row : (x : ℕ) (ss rest : List ℕ) (i : ℕ) → i < length ss → getD (typingRows I cs x ss ++ rest) (3 * i + 0) 0 ≡ getD ss i 0
+  pub sort-row : (x : ℕ) (ss rest : List ℕ) (i : ℕ) → i < length ss → getD (typingRows P bs cs x ss ++ rest) (3 * i + 0) 0 ≡ getD ss i 0
   unfolding typingRows
   sort-row x [] rest i l = absurd (omega (arith, l))
   sort-row x (s ∷ ss) rest zero l = refl
   sort-row x (s ∷ ss) rest (suc i) l = later-row x s ss rest i 0 ∙ sort-row (x + 1) ss rest i (omega (arith, l))
 
-  pub kind-row : (x : ℕ) (ss rest : List ℕ) (i : ℕ) → i < length ss → getD (typingRows I cs x ss ++ rest) (3 * i + 1) 0 ≡ nameKind (nameOf (problemOf I) (baseNamesOf I) cs (x + i))
+  pub kind-row : (x : ℕ) (ss rest : List ℕ) (i : ℕ) → i < length ss → getD (typingRows P bs cs x ss ++ rest) (3 * i + 1) 0 ≡ nameKind (nameOf P bs cs (x + i))
   unfolding typingRows
   kind-row x [] rest i l = absurd (omega (arith, l))
-  kind-row x (s ∷ ss) rest zero l = ap (λ y. nameKind (nameOf (problemOf I) (baseNamesOf I) cs y)) (omega arith)
-  kind-row x (s ∷ ss) rest (suc i) l = later-row x s ss rest i 1 ∙ (kind-row (x + 1) ss rest i (omega (arith, l)) ∙ ap (λ y. nameKind (nameOf (problemOf I) (baseNamesOf I) cs y)) (omega arith))
+  kind-row x (s ∷ ss) rest zero l = ap (λ y. nameKind (nameOf P bs cs y)) (omega arith)
+  kind-row x (s ∷ ss) rest (suc i) l = later-row x s ss rest i 1 ∙ (kind-row (x + 1) ss rest i (omega (arith, l)) ∙ ap (λ y. nameKind (nameOf P bs cs y)) (omega arith))
 
-  pub name-row : (x : ℕ) (ss rest : List ℕ) (i : ℕ) → i < length ss → getD (typingRows I cs x ss ++ rest) (3 * i + 2) 0 ≡ nameSort (nameOf (problemOf I) (baseNamesOf I) cs (x + i))
+  pub name-row : (x : ℕ) (ss rest : List ℕ) (i : ℕ) → i < length ss → getD (typingRows P bs cs x ss ++ rest) (3 * i + 2) 0 ≡ nameSort (nameOf P bs cs (x + i))
   unfolding typingRows
   name-row x [] rest i l = absurd (omega (arith, l))
-  name-row x (s ∷ ss) rest zero l = ap (λ y. nameSort (nameOf (problemOf I) (baseNamesOf I) cs y)) (omega arith)
-  name-row x (s ∷ ss) rest (suc i) l = later-row x s ss rest i 2 ∙ (name-row (x + 1) ss rest i (omega (arith, l)) ∙ ap (λ y. nameSort (nameOf (problemOf I) (baseNamesOf I) cs y)) (omega arith))
+  name-row x (s ∷ ss) rest zero l = ap (λ y. nameSort (nameOf P bs cs y)) (omega arith)
+  name-row x (s ∷ ss) rest (suc i) l = later-row x s ss rest i 2 ∙ (name-row (x + 1) ss rest i (omega (arith, l)) ∙ ap (λ y. nameSort (nameOf P bs cs y)) (omega arith))
 
 -- rows that are those of a list are the list
 pub rows-are : {A : Type 0} (d : A) (ss : List A) (row : ℕ → A) (i n : ℕ) → n ≡ length ss → ((j : ℕ) → j < length ss → row (i + j) ≡ getD ss j d) → rowsFrom row i n ≡ ss

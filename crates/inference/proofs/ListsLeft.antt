@@ -5,14 +5,16 @@ use mathlib.Core.Path.{_≡_, subst}
 use mathlib.Core.Bool.{Bool, true, false}
 use mathlib.Core.List.{List}
 use mathlib.Core.Option.{Option, none, some}
-use Prim.Native.Nat.{ℕ, _≤_}
+use Prim.Native.Nat.{ℕ, _*_, _≤_}
+use native.Mathlib.Omega.{arith}
 use lib.ListN.{length}
 use Rattle.resolved_sort.specs.declared.Counts.{Counts}
 use Rattle.resolved_sort.specs.Rows.{Checked}
 use Rattle.resolved_sort.specs.Checks.{firstFailing}
 use Rattle.resolved_sort.proofs.Append.{Agrees}
+use Rattle.resolved_sort.proofs.GivenBack.{zeroed-agrees}
 use Rattle.resolved_sort.proofs.Reached.{no-confusion}
-use Rattle.unification.specs.Nodes.{bindsOf}
+use Rattle.unification.specs.Nodes.{maxNodes, maxNodeEntries, nodeEntriesAt, fullNodes, bindsOf}
 use Rattle.unification.specs.Making.{Lent}
 use Rattle.unification.proofs.Grows.{Grows, NodesAgree}
 use Rattle.inference.specs.declared.Solved.{Solved}
@@ -20,10 +22,17 @@ use Rattle.inference.specs.declared.Solved.the-variants.{Refused, NoRoom
 use Rattle.inference.specs.Measure.{Components}
 use Rattle.inference.specs.Search.{Candidate, Out, found, missed, ended}
 use Rattle.inference.specs.SolveChecks.{Call, solveChecks}
-use Rattle.inference.specs.SolveEntry.{problemOf, lentOf, judged, judgedBy, verdict, searched, nothingMet, countsIn, solveEntry}
+use Rattle.inference.specs.SolveEntry.{problemOf, lentOf, nodesGivenBack, judged, judgedBy, verdict, searched, nothingMet, countsIn, solveEntry}
 use Rattle.inference.proofs.Invariant.{Leaves}
 use Rattle.inference.proofs.Accepted.{accepted, refused-or-searched}
 use Rattle.inference.proofs.Together.{search-leaves}
+
+-- nodes that read the same below the counts are given back alike
+pub nodes-given-back-agree : (m d : ℕ) → m ≤ maxNodes → d ≤ maxNodeEntries → (ns ns′ : List ℕ) → fullNodes ≤ length ns → length ns′ ≡ length ns → NodesAgree ns ns′ m d
+    → nodesGivenBack m d ns′ ≡ nodesGivenBack m d ns
+unfolding nodesGivenBack
+nodes-given-back-agree m d hm hd ns ns′ long same a =
+    zeroed-agrees (4 * m) nodeEntriesAt d (omega arith) ns ns′ (omega arith) same (a .rows) (a .entries)
 
 -- the counts that an answer gives of a list that is kept
 abbrev pub countsOf : Solved → Option Counts

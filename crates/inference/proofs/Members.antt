@@ -2,10 +2,10 @@
 use mathlib.Core.Path.{_≡_, refl, sym, ap, subst, _∙_}
 use mathlib.Core.List.{List, [], _∷_, _++_}
 use mathlib.Core.Logic.{_⊎_, inl, inr}
-use Prim.Native.Nat.{ℕ, zero, suc, _+_, _<_, _≤_}
+use Prim.Native.Nat.{ℕ, zero, suc, _+_, _-_, _<_, _≤_}
 use native.Mathlib.Omega.{arith}
 use native.Mathlib.Nat.{add-zero}
-use lib.ListN.{length, getD, take, drop}
+use lib.ListN.{length, getD, take, drop, List·getD-eq-default}
 use Rattle.inference.specs.Constraints.{rowsFrom}
 use Rattle.inference.specs.Typing.{All, none-left, and-all, In, here, there}
 
@@ -77,3 +77,30 @@ module _ {A : Type 0} where
 
   pub run-at : (row : ℕ → A) (n s c : ℕ) → s + c ≤ n → take c (drop s (rowsFrom row 0 n)) ≡ rowsFrom row s c
   run-at row n s c l = run-rows row s 0 n c l ∙ ap (λ (j : ℕ). rowsFrom row j c) (omega arith)
+
+  pub row-past : (row : ℕ → A) (d : A) (n j : ℕ) → n ≤ j → getD (rowsFrom row 0 n) j d ≡ d
+  row-past row d n j l = List·getD-eq-default (rowsFrom row 0 n) d {n = j} (omega (arith, l, length-rows row 0 n))
+
+  -- rows that say the same
+  rows-alike : (row row′ : ℕ → A) (i n : ℕ) → ((j : ℕ) → j < n → row (i + j) ≡ row′ (i + j)) → rowsFrom row i n ≡ rowsFrom row′ i n
+  unfolding rowsFrom
+  rows-alike row row′ i zero h = refl
+  rows-alike row row′ i (suc n) h =
+      let a : row i ≡ row′ i = ap row (sym (add-zero i)) ∙ (h 0 (omega arith) ∙ ap row′ (add-zero i)) in
+      let b : rowsFrom row (i + 1) n ≡ rowsFrom row′ (i + 1) n = rows-alike row row′ (i + 1) n (λ j l. ap row (omega arith) ∙ (h (suc j) (omega (arith, l)) ∙ ap row′ (omega arith))) in
+      cc
+
+  pub rows-same : (row row′ : ℕ → A) (n : ℕ) → ((j : ℕ) → j < n → row j ≡ row′ j) → rowsFrom row 0 n ≡ rowsFrom row′ 0 n
+  rows-same row row′ n h = rows-alike row row′ 0 n (λ j l. ap row (omega arith) ∙ (h j l ∙ ap row′ (omega arith)))
+
+  -- the rows from the i-th on, of n
+  pub rows-all-left : (row : ℕ → A) (n : ℕ) → rowsFrom row 0 (n - 0) ≡ rowsFrom row 0 n
+  rows-all-left row n = ap (rowsFrom row 0) (let z : n - 0 ≡ n = omega arith in z)
+
+  pub rows-one-left : (row : ℕ → A) (n i : ℕ) → i < n → rowsFrom row i (n - i) ≡ row i ∷ rowsFrom row (i + 1) (n - (i + 1))
+  unfolding rowsFrom
+  rows-one-left row n i l = ap (rowsFrom row i) (let z : n - i ≡ suc (n - (i + 1)) = omega (arith, l) in z)
+
+  pub rows-none-left : (row : ℕ → A) (n i : ℕ) → n ≤ i → rowsFrom row i (n - i) ≡ []
+  unfolding rowsFrom
+  rows-none-left row n i l = ap (rowsFrom row i) (let z : n - i ≡ 0 = omega (arith, l) in z)

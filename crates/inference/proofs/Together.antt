@@ -120,7 +120,7 @@ module _ (I : Call) where
       let many : length (c .sorts) ≡ I .rows .exprs = typed-long W₀ (sortIn W) (f .assignment) (P .exprs) (c .sorts) (f .typed) ∙ length-rows (λ i. getD (I .exprs) i 0) 0 (I .rows .exprs) in
       let ss : sortsOut I L ≡ c .sorts =
       rows-are 0 (c .sorts) (λ i. getD (L .typing) (3 * i) 0) 0 (I .rows .exprs) (sym many)
-      (λ j l. ap (λ (i : ℕ). getD (L .typing) i 0) (omega arith) ∙ sort-row I (c .choices) 0 (c .sorts) _ j l) in
+      (λ j l. ap (λ (i : ℕ). getD (L .typing) i 0) (omega arith) ∙ sort-row P (baseNamesOf I) (c .choices) 0 (c .sorts) _ j l) in
       let ms : measureOut L o ≡ c .measure = ap (λ (z : Outputs). measureOut L z) q ∙ take-append-seam (c .measure) _ in
       let ks : choicesOut L o ≡ c .choices = ap (λ (z : Outputs). choicesOut L z) q ∙ choices-read (c .choices) _ in
       record {
@@ -135,8 +135,8 @@ module _ (I : Call) where
             (subst (λ zs. Costing (graph W₀) (sortIn W₀) P zs (f .assignment) (P .constraints) (c .measure)) (sym ks) (f .costs));
         names =
             λ y l. subst (λ zs. (getD (L .typing) (3 * y + 1) 0 ≡ nameKind (nameOf P (baseNamesOf I) zs y)) × (getD (L .typing) (3 * y + 2) 0 ≡ nameSort (nameOf P (baseNamesOf I) zs y))) (sym ks) (
-              kind-row I (c .choices) 0 (c .sorts) _ y (omega (arith, l, many)) ∙ ap (λ z. nameKind (nameOf P (baseNamesOf I) (c .choices) z)) (omega arith),
-              name-row I (c .choices) 0 (c .sorts) _ y (omega (arith, l, many)) ∙ ap (λ z. nameSort (nameOf P (baseNamesOf I) (c .choices) z)) (omega arith),
+              kind-row P (baseNamesOf I) (c .choices) 0 (c .sorts) _ y (omega (arith, l, many)) ∙ ap (λ z. nameKind (nameOf P (baseNamesOf I) (c .choices) z)) (omega arith),
+              name-row P (baseNamesOf I) (c .choices) 0 (c .sorts) _ y (omega (arith, l, many)) ∙ ap (λ z. nameSort (nameOf P (baseNamesOf I) (c .choices) z)) (omega arith),
             );
       }
 

@@ -83,10 +83,9 @@ abbrev pub refused : Call → ℕ → Left
 refused I c = record { answer = Refused c; sorts = I .sorts; nodes = I .nodes; binds = I .binds; scratch = I .scratch; typing = I .typing; measure = I .measure; choices = I .choices }
 
 -- the rows of expressions: sort, kind of name, sort of name
-unfoldable pub typingRows : Call → List Choice → ℕ → List ℕ → List ℕ
-typingRows I cs x [] = []
-typingRows I cs x (s ∷ ss) =
-    s ∷ nameKind (nameOf (problemOf I) (baseNamesOf I) cs x) ∷ nameSort (nameOf (problemOf I) (baseNamesOf I) cs x) ∷ typingRows I cs (x + 1) ss
+unfoldable pub typingRows : Problem → List BaseName → List Choice → ℕ → List ℕ → List ℕ
+typingRows P bs cs x [] = []
+typingRows P bs cs x (s ∷ ss) = s ∷ nameKind (nameOf P bs cs x) ∷ nameSort (nameOf P bs cs x) ∷ typingRows P bs cs (x + 1) ss
 
 -- the rows of choices: expression and position, in the order of the constraints
 unfoldable pub choiceRows : List Choice → List ℕ
@@ -103,7 +102,7 @@ countsIn W = record { sorts = W .lengths .sorts; entries = W .lengths .entries }
 abbrev pub typed : Call → Lent → Candidate → Left
 typed I W c =
     leftWith I (Typing (record { counts = countsIn W; components = length (c .measure); choices = length (c .choices) })) (W .sorts)
-    (over (typingRows I (c .choices) 0 (c .sorts)) (I .typing)) (over (c .measure) (I .measure)) (over (choiceRows (c .choices)) (I .choices))
+    (over (typingRows (problemOf I) (baseNamesOf I) (c .choices) 0 (c .sorts)) (I .typing)) (over (c .measure) (I .measure)) (over (choiceRows (c .choices)) (I .choices))
 
 abbrev pub judgedBy : Call → Lent → Candidate → Bool → Left
 judgedBy I W c true = leftWith I (Ambiguous (countsIn W)) (W .sorts) (I .typing) (I .measure) (I .choices)

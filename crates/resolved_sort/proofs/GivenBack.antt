@@ -14,57 +14,65 @@ use Rattle.resolved_sort.proofs.Append.{Agrees}
 use Rattle.resolved_sort.proofs.Grown.{Grown}
 use Rattle.resolved_sort.proofs.Unchanged.{unchanged, length-after}
 
-module _ (n e : ℕ) (hn : n ≤ maxSorts) (he : e ≤ maxEntries) where
+-- Storage of two parts, of which the words from a up to b and from b + e on are cleared: what counts is what stands before a and in the e words from b on.
+module _ (a b e : ℕ) (ordered : a ≤ b) where
   abbrev gap : List ℕ
-  gap = replicate (entriesAt - 4 * n) 0
+  gap = replicate (b - a) 0
 
   abbrev inner : List ℕ → List ℕ
-  inner ws = take (4 * n) ws ++ (gap ++ drop entriesAt ws)
+  inner ws = take a ws ++ (gap ++ drop b ws)
 
-  module _ (ws : List ℕ) (long : fullLength ≤ length ws) where
-    length-rows : length (take (4 * n) ws) ≡ 4 * n
-    length-rows = length-take-le (4 * n) ws (omega arith)
+  module _ (ws : List ℕ) (long : b + e ≤ length ws) where
+    length-rows : length (take a ws) ≡ a
+    length-rows = length-take-le a ws (omega arith)
 
-    length-gap : length gap ≡ entriesAt - 4 * n
-    length-gap = length-replicate {A = ℕ} (entriesAt - 4 * n) 0
+    length-gap : length gap ≡ b - a
+    length-gap = length-replicate {A = ℕ} (b - a) 0
 
-    front : take (entriesAt + e) (inner ws) ≡ take (4 * n) ws ++ (gap ++ take e (drop entriesAt ws))
+    front : take (b + e) (inner ws) ≡ take a ws ++ (gap ++ take e (drop b ws))
     front =
-        let k : entriesAt + e ≡ length (take (4 * n) ws) + (length gap + e) = omega (arith, length-rows, length-gap) in
+        let k : b + e ≡ length (take a ws) + (length gap + e) = omega (arith, length-rows, length-gap) in
         ap (λ k. take k (inner ws)) k
-        ∙ (take-append-add (take (4 * n) ws) (gap ++ drop entriesAt ws) (length gap + e) ∙ ap (λ l. take (4 * n) ws ++ l) (take-append-add gap (drop entriesAt ws) e))
+        ∙ (take-append-add (take a ws) (gap ++ drop b ws) (length gap + e) ∙ ap (λ l. take a ws ++ l) (take-append-add gap (drop b ws) e))
 
     length-inner : length (inner ws) ≡ length ws
     length-inner =
-        length-append (take (4 * n) ws) (gap ++ drop entriesAt ws)
-        ∙ omega (arith, length-append gap (drop entriesAt ws), length-rows, length-gap, length-drop entriesAt ws)
+        length-append (take a ws) (gap ++ drop b ws)
+        ∙ omega (arith, length-append gap (drop b ws), length-rows, length-gap, length-drop b ws)
 
     back : drop (length ws) (inner ws) ≡ []
     back = drop-of-length-le (inner ws) {i = length ws} (omega (arith, length-inner))
 
-    given-back-is : givenBack n e ws ≡ (take (4 * n) ws ++ (gap ++ take e (drop entriesAt ws))) ++ (replicate (length ws - (entriesAt + e)) 0 ++ [])
-    unfolding givenBack zeros
-    given-back-is = ap₂ (λ f b. f ++ (replicate (length ws - (entriesAt + e)) 0 ++ b)) front back
+    zeroed-is : zeros (b + e) (length ws) (zeros a b ws) ≡ (take a ws ++ (gap ++ take e (drop b ws))) ++ (replicate (length ws - (b + e)) 0 ++ [])
+    unfolding zeros
+    zeroed-is = ap₂ (λ f r. f ++ (replicate (length ws - (b + e)) 0 ++ r)) front back
 
-  module _ (ws us : List ℕ) (long : fullLength ≤ length ws) (same : length us ≡ length ws) (a : Agrees ws us n e) where
-    rows-same : take (4 * n) us ≡ take (4 * n) ws
-    rows-same =
-        ext-getD 0 (take (4 * n) us) (take (4 * n) ws) (omega (arith, length-rows ws long, length-rows us (omega (arith, same))))
-        (λ i h. let l : i < 4 * n = omega (arith, length-rows us (omega (arith, same))) in
-        getD-take (4 * n) us i 0 l ∙ (a .words i l ∙ sym (getD-take (4 * n) ws i 0 l)))
+  module _ (ws us : List ℕ) (long : b + e ≤ length ws) (same : length us ≡ length ws) where
+    rows-same : ((i : ℕ) → i < a → getD us i 0 ≡ getD ws i 0) → take a us ≡ take a ws
+    rows-same rows =
+        ext-getD 0 (take a us) (take a ws) (omega (arith, length-rows ws long, length-rows us (omega (arith, same))))
+        (λ i h. let l : i < a = omega (arith, length-rows us (omega (arith, same))) in
+        getD-take a us i 0 l ∙ (rows i l ∙ sym (getD-take a ws i 0 l)))
 
-    length-entries : (vs : List ℕ) → fullLength ≤ length vs → length (take e (drop entriesAt vs)) ≡ e
-    length-entries vs l = length-take-le e (drop entriesAt vs) (omega (arith, length-drop entriesAt vs))
+    length-entries : (vs : List ℕ) → b + e ≤ length vs → length (take e (drop b vs)) ≡ e
+    length-entries vs l = length-take-le e (drop b vs) (omega (arith, length-drop b vs))
 
-    entries-same : take e (drop entriesAt us) ≡ take e (drop entriesAt ws)
-    entries-same =
-        ext-getD 0 (take e (drop entriesAt us)) (take e (drop entriesAt ws)) (omega (arith, length-entries ws long, length-entries us (omega (arith, same))))
+    entries-same : ((i : ℕ) → i < e → getD us (b + i) 0 ≡ getD ws (b + i) 0) → take e (drop b us) ≡ take e (drop b ws)
+    entries-same entries =
+        ext-getD 0 (take e (drop b us)) (take e (drop b ws)) (omega (arith, length-entries ws long, length-entries us (omega (arith, same))))
         (λ i h. let l : i < e = omega (arith, length-entries us (omega (arith, same))) in
-        getD-take e (drop entriesAt us) i 0 l ∙ (getD-drop entriesAt us i 0 ∙ (a .entries i l ∙ sym (getD-take e (drop entriesAt ws) i 0 l ∙ getD-drop entriesAt ws i 0))))
+        getD-take e (drop b us) i 0 l ∙ (getD-drop b us i 0 ∙ (entries i l ∙ sym (getD-take e (drop b ws) i 0 l ∙ getD-drop b ws i 0))))
 
-    pub given-back-agrees : givenBack n e us ≡ givenBack n e ws
-    given-back-agrees =
-        given-back-is us (omega (arith, same)) ∙ (rw (rows-same, entries-same, same) (sym (given-back-is ws long)))
+    pub zeroed-agrees : ((i : ℕ) → i < a → getD us i 0 ≡ getD ws i 0) → ((i : ℕ) → i < e → getD us (b + i) 0 ≡ getD ws (b + i) 0)
+        → zeros (b + e) (length us) (zeros a b us) ≡ zeros (b + e) (length ws) (zeros a b ws)
+    zeroed-agrees rows entries =
+        zeroed-is us (omega (arith, same)) ∙ (rw (rows-same rows, entries-same entries, same) (sym (zeroed-is ws long)))
+
+pub given-back-agrees : (n e : ℕ) → n ≤ maxSorts → e ≤ maxEntries → (ws us : List ℕ) → fullLength ≤ length ws → length us ≡ length ws → Agrees ws us n e
+    → givenBack n e us ≡ givenBack n e ws
+unfolding givenBack
+given-back-agrees n e hn he ws us long same a =
+    zeroed-agrees (4 * n) entriesAt e (omega arith) ws us (omega arith) same (a .words) (a .entries)
 
 -- what a call has made is given back whole
 pub made-is-given-back : (ws : List ℕ) (n e : ℕ) → Checked ws n e → (S : Sorts) → Grown ws n e S → givenBack n e (after ws n e S) ≡ givenBack n e ws
