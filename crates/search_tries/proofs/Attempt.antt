@@ -17,6 +17,7 @@ use Rattle.unification.specs.Checked.{graphOf}
 use Rattle.unification.specs.Trail.{undo, frees, countOf, answerOf}
 use Rattle.unifier.specs.Trying.{Trying}
 use Rattle.unifier.proofs.Words.{undo-front}
+use Rattle.unifier.proofs.Tries.{binds-nothing}
 use Rattle.inference.specs.Constraints.{maxConstraints, maxComponents, constraintAt, rowsFrom}
 use Rattle.inference.specs.Search.{Candidate, Out, missed, onYes}
 use Rattle.inference.specs.SolveChecks.{disjunctions}
@@ -241,13 +242,13 @@ module _ (ls : List ℕ) (z : Sizes) (ws ns bs sc : List ℕ) (k : State) (e : B
   choices-longer (Written m) d = omega arith
   choices-longer (Choice i) d = omega arith
 
-  module _ (pairs : Pairs) (bs₁ sc₁ : List ℕ) (t : Tried)
-      (u : TriesPairs ws ns (k .lengths) (unifyPairs (graphOf ws ns (k .lengths)) pairs (bindsOf bs (k .lengths .variables))) bs sc (e .trail) bs₁ sc₁ t) where
+  module _ (U : Unifies) (bs₁ sc₁ : List ℕ) (t : Tried) (u : TriesPairs ws ns (k .lengths) U bs sc (e .trail) bs₁ sc₁ t) where
     abbrev v : ℕ
     v = k .lengths .variables
 
-    abbrev U : Unifies
-    U = unifyPairs (graphOf ws ns (k .lengths)) pairs (bindsOf bs v)
+    -- on with what comes next, where the answer is a yes
+    abbrev tried : Out (Unit {0})
+    tried = onYes U (λ C. nextOf ls z next (stepped ls z sc e s C)) (worldOf ls z ws ns sc k)
 
     long₁ : scratchUsed ≤ length sc₁
     long₁ = omega (arith, S .long, u .long)
@@ -269,12 +270,10 @@ module _ (ls : List ℕ) (z : Sizes) (ws ns bs sc : List ℕ) (k : State) (e : B
         (q ∙ sym (take-take (countOf t) trailWords sc₁ (on-the-trail .1)))
         ∙ u .tries .undone
 
-    pub attempt-no : (d : ℕ) → t ≡ No d → (bs₂ : List ℕ) → bs₂ ≡ undo sc₁ (e .trail) (d - e .trail) bs₁
-        → Comes ls z ws ns bs sc k e (trying ls z sc e pairs s next) ws ns bs₂ sc₁ (Missed k)
-    unfolding trying
-    attempt-no d q bs₂ b =
+    pub tried-no : (d : ℕ) → t ≡ No d → (bs₂ : List ℕ) → bs₂ ≡ undo sc₁ (e .trail) (d - e .trail) bs₁ → Done ls z ws ns bs sc k e tried ws ns bs₂ sc₁ (Missed k)
+    tried-no d q bs₂ b =
         record {
-          says = (λ i. Search-missed (best-same ls z sc sc₁ (u .rest) (k .best) (k .tied) i)) ∙ sym (ap (λ x. onYes x (λ C. nextOf ls z next (stepped ls z sc e s C)) (worldOf ls z ws ns sc k)) no);
+          says = (λ i. missed-with (best-same ls z sc sc₁ (u .rest) (k .best) (k .tied) i)) ∙ sym (ap (λ x. onYes x (λ C. nextOf ls z next (stepped ls z sc e s C)) (worldOf ls z ws ns sc k)) no);
           grown = sorts-only-refl (lent ws ns (k .lengths)) (S .ready .nodes);
           binds = b ∙ (ap (λ n. undo sc₁ (e .trail) (n - e .trail) bs₁) (sym (ap countOf q)) ∙ freed-again sc₁ refl);
           path =
@@ -289,8 +288,8 @@ module _ (ls : List ℕ) (z : Sizes) (ws ns bs sc : List ℕ) (k : State) (e : B
         no : U ≡ no-way
         no = u .tries .says ∙ ap (λ r. answerOf r (bindsOf bs₁ v)) q
 
-        Search-missed : Option Candidate → Out (Unit {0})
-        Search-missed b = missed (record { lent = lent ws ns (k .lengths); best = b; met = tt })
+        missed-with : Option Candidate → Out (Unit {0})
+        missed-with b = missed (record { lent = lent ws ns (k .lengths); best = b; met = tt })
 
     module _ (d : ℕ) (q : t ≡ Yes d) (sc₂ : List ℕ) (e₂ : Branch) (w : sc₂ ≡ stepWords s e sc₁) (a : e₂ ≡ branchAfter e d s) where
       count : countOf t ≡ d
@@ -324,8 +323,7 @@ module _ (ls : List ℕ) (z : Sizes) (ws ns bs sc : List ℕ) (k : State) (e : B
             take-shorter n (e₂ .trail) sc₂ sc₃ (omega (arith, l, trail₂)) (c .path .trail)
             ∙ (ap (take n) w ∙ step-front ls z (S .sized) sc sc₁ long₁ (u .rest) e s n (omega (arith, l, count, on-the-trail .1)))
 
-        says : outOf ls z ws₃ ns₃ sc₃ r ≡ trying ls z sc e pairs s next (pathOf ls z (bindsOf bs v) sc e) (worldOf ls z ws ns sc k)
-        unfolding trying
+        says : outOf ls z ws₃ ns₃ sc₃ r ≡ tried
         says =
             c .says
             ∙ (ap₂ (λ p b. nextOf ls z next p (record { lent = lent ws ns (k .lengths); best = b; met = tt }))
@@ -333,8 +331,8 @@ module _ (ls : List ℕ) (z : Sizes) (ws ns bs sc : List ℕ) (k : State) (e : B
             (ap (λ xs. bestOf ls z xs (k .best) (k .tied)) w ∙ step-best ls z (S .sized) sc sc₁ long₁ (u .rest) e s room (k .best) (k .tied))
             ∙ sym (ap (λ x. onYes x (λ C. nextOf ls z next (stepped ls z sc e s C)) (worldOf ls z ws ns sc k)) yes))
 
-        pub attempt-yes : (bs₄ : List ℕ) → bs₄ ≡ undo sc₃ (e .trail) (d - e .trail) bs₃ → Comes ls z ws ns bs sc k e (trying ls z sc e pairs s next) ws₃ ns₃ bs₄ sc₃ r
-        attempt-yes bs₄ b =
+        pub tried-yes : (bs₄ : List ℕ) → bs₄ ≡ undo sc₃ (e .trail) (d - e .trail) bs₃ → Done ls z ws ns bs sc k e tried ws₃ ns₃ bs₄ sc₃ r
+        tried-yes bs₄ b =
             record {
               says = says;
               grown = c .grown;
@@ -364,3 +362,40 @@ module _ (ls : List ℕ) (z : Sizes) (ws ns bs sc : List ℕ) (k : State) (e : B
 
             longer-choices : e .choices ≤ e₂ .choices
             longer-choices = subst (λ (x : Branch). e .choices ≤ x .choices) (sym a) (choices-longer s d)
+
+  -- the same of the places of a try
+  module _ (pairs : Pairs) (bs₁ sc₁ : List ℕ) (t : Tried)
+      (u : TriesPairs ws ns (k .lengths) (unifyPairs (graphOf ws ns (k .lengths)) pairs (bindsOf bs (k .lengths .variables))) bs sc (e .trail) bs₁ sc₁ t) where
+    pub attempt-no : (d : ℕ) → t ≡ No d → (bs₂ : List ℕ) → bs₂ ≡ undo sc₁ (e .trail) (d - e .trail) bs₁
+        → Comes ls z ws ns bs sc k e (trying ls z sc e pairs s next) ws ns bs₂ sc₁ (Missed k)
+    unfolding trying
+    attempt-no = tried-no _ bs₁ sc₁ t u
+
+    pub attempt-yes : (d : ℕ) → t ≡ Yes d → (sc₂ : List ℕ) (e₂ : Branch) → sc₂ ≡ stepWords s e sc₁ → e₂ ≡ branchAfter e d s → (ws₃ ns₃ bs₃ sc₃ : List ℕ) (r : Answer)
+        → Comes ls z ws ns bs₁ sc₂ k e₂ (nextOf ls z next) ws₃ ns₃ bs₃ sc₃ r → (bs₄ : List ℕ) → bs₄ ≡ undo sc₃ (e .trail) (d - e .trail) bs₃
+        → Comes ls z ws ns bs sc k e (trying ls z sc e pairs s next) ws₃ ns₃ bs₄ sc₃ r
+    unfolding trying
+    attempt-yes = tried-yes _ bs₁ sc₁ t u
+
+  -- the room that the functions called ask for
+  module _ (U : Unifies) (bs₁ sc₁ : List ℕ) (t : Tried) (u : TriesPairs ws ns (k .lengths) U bs sc (e .trail) bs₁ sc₁ t) where
+    pub push-room : (e .measure + addedComponents s ≤ 256) × (e .choices + addedChoices s ≤ 256) × (scratchUsed ≤ length sc₁)
+    push-room = (room .0, room .1, omega (arith, S .long, u .long))
+
+    pub undo-room : (d : ℕ) → countOf t ≡ d → (sc₃ : List ℕ) → length sc₃ ≡ length sc → (e .trail ≤ d) × (d ≤ length sc₃)
+    undo-room d q sc₃ l = let x = on-the-trail U bs₁ sc₁ t u in (omega (arith, x .0, q), omega (arith, x .1, q, l, S .long))
+
+  -- nothing made equal, and on with a step
+  nothing-bound : TriesPairs ws ns (k .lengths) (yes-with (bindsOf bs (k .lengths .variables))) bs sc (e .trail) bs sc (Yes (e .trail))
+  nothing-bound = record { tries = binds-nothing ws ns (k .lengths) bs (take trailWords sc) (e .trail) (S .ready); rest = refl; long = refl }
+
+  pub goes-with : (sc₂ : List ℕ) (e₂ : Branch) → sc₂ ≡ stepWords s e sc → e₂ ≡ branchAfter e (e .trail) s → Searching ws ns bs sc₂ ls z k e₂ 0 [] next
+  goes-with sc₂ e₂ = goes-on (yes-with (bindsOf bs (k .lengths .variables))) bs sc (Yes (e .trail)) nothing-bound (e .trail) refl sc₂ e₂
+
+  pub went-with : (sc₂ : List ℕ) (e₂ : Branch) → sc₂ ≡ stepWords s e sc → e₂ ≡ branchAfter e (e .trail) s → (ws₃ ns₃ bs₃ sc₃ : List ℕ) (r : Answer)
+      → Comes ls z ws ns bs sc₂ k e₂ (nextOf ls z next) ws₃ ns₃ bs₃ sc₃ r
+      → Done ls z ws ns bs sc k e (nextOf ls z next (stepped ls z sc e s (bindsOf bs (k .lengths .variables))) (worldOf ls z ws ns sc k)) ws₃ ns₃ bs₃ sc₃ r
+  unfolding undo
+  went-with sc₂ e₂ w a ws₃ ns₃ bs₃ sc₃ r c =
+      tried-yes (yes-with (bindsOf bs (k .lengths .variables))) bs sc (Yes (e .trail)) nothing-bound (e .trail) refl sc₂ e₂ w a ws₃ ns₃ bs₃ sc₃ r c bs₃
+      (sym (ap (λ n. undo sc₃ (e .trail) n bs₃) (let q : e .trail - e .trail ≡ 0 = omega arith in q)))

@@ -1,0 +1,2 @@
+-- The laws of the search's code.
+pub mod Ways
