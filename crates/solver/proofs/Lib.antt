@@ -1,2 +1,5 @@
 -- The laws of the search's code.
 pub mod Ways
+pub mod Widening
+pub mod Literals
+pub mod Readings

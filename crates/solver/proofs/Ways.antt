@@ -9,7 +9,9 @@ use lib.ListN.{length, getD, take, drop}
 use Rattle.resolved_sort.specs.declared.Run.{Run}
 use Rattle.unification.specs.declared.InferSortId.{InferSortId}
 use Rattle.unification.specs.declared.Lengths.{Lengths}
-use Rattle.unification.specs.Nodes.{Binds, bindsOf}
+use borrow.Author.Tests.{lt-ltb}
+use Rattle.resolved_sort.specs.Storage.{maxSorts}
+use Rattle.unification.specs.Nodes.{isPlace, bindsOf}
 use Rattle.unification.specs.Checked.{Placed}
 use Rattle.unification.specs.Making.{Lent, graph, Makes, made, no-list, no-room}
 use Rattle.unification.proofs.Grows.{CheckedLent, PlacedIn, Grows, placed-grown}
@@ -142,3 +144,12 @@ pub after-missed : (ls : List ℕ) (z : Sizes) (ws ns bs sc : List ℕ) (k : Sta
     → Searching ws₁ ns₁ bs₁ sc₁ ls z k₁ e more xs next
 after-missed ls z ws ns bs sc k e more xs next s O ws₁ ns₁ bs₁ sc₁ r d k₁ q =
     searching-grown ls z ws ns bs sc k e more xs next s ws₁ ns₁ bs₁ sc₁ k₁ (grown-missed ls z ws ns bs sc k e (s .ready .nodes) O ws₁ ns₁ bs₁ sc₁ r d k₁ q .grows) (d .binds) (d .path .long)
+
+-- the fixed sorts, and every sort of the list, are places
+pub sort-placed : (k : Lengths) → k .sorts ≤ maxSorts → (p : ℕ) → p < k .sorts → Placed k p
+unfolding isPlace
+sort-placed k l p h = rw (lt-ltb p maxSorts (omega (arith, l, h)), lt-ltb p (k .sorts) h)
+
+pub fixed-placed : (k : Lengths) → 6 ≤ k .sorts → (p : ℕ) → p < 6 → Placed k p
+unfolding isPlace
+fixed-placed k l p h = rw (lt-ltb p maxSorts (omega (arith, h)), lt-ltb p (k .sorts) (omega (arith, l, h)))
