@@ -3,3 +3,4 @@ pub mod Ways
 pub mod Widening
 pub mod Literals
 pub mod Readings
+pub mod Overloads
