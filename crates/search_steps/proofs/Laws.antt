@@ -28,8 +28,6 @@ use Rattle.unification.specs.Resolve.{withCounts}
 use Rattle.unification.proofs.NoList.{no-list-makes-nothing}
 use Rattle.related_sorts.specs.Outcome.{relatedBy, related, RangesBy, Ranges, Relates}
 use Rattle.related_sorts.proofs.Laws.{full-unchanged, never-none}
-use Rattle.inference.specs.declared.LitKind.{LitKind}
-use Rattle.inference.specs.declared.LitKind.the-variants.{Positive, Natural}
 use Rattle.inference.specs.Constraints.{rowsFrom}
 use Rattle.inference.specs.Search.{Try, widerTries, narrowerTries}
 use Rattle.search_state.specs.declared.State.{State}
@@ -45,7 +43,7 @@ use Rattle.search_state.specs.declared.Made.{Made}
 use Rattle.search_state.specs.declared.Made.the-variants.{At, Nothing, Full as NoSortRoom}
 use Rattle.search_state.specs.Memory.{lent}
 use Rattle.search_state.specs.Leaves.{afterOf, withNodes, backTo, givenBackTo, placesOf, tryAt, triesFrom, where-no-list, widenings, widened, FewTries, Widens}
-use Rattle.search_steps.specs.Steps.{saysOf, pairsOf, LitTries, InternsContainer, triesAgainst, ListedTries, AsTries}
+use Rattle.search_steps.specs.Steps.{saysOf, pairsOf, InternsContainer, triesAgainst, ListedTries, AsTries}
 
 -- on after an answer
 module _ (r : Answer) (b : Bool) where
@@ -102,29 +100,6 @@ module _ (t : Tries) (j : ℕ) where
       go : (b : Bool) → t .up ≡ b → t .first + j ≡ tryAt t j .component
       go true e = rw e
       go false e = rw e
-
--- the number sorts for a literal
-positive-places : (j : ℕ) → j < 4 → getD (2 ∷ 3 ∷ 4 ∷ 5 ∷ []) j 0 < 6
-positive-places zero l = omega arith
-positive-places (suc zero) l = omega arith
-positive-places (suc (suc zero)) l = omega arith
-positive-places (suc (suc (suc zero))) l = omega arith
-positive-places (suc (suc (suc (suc j)))) l = absurd (omega (arith, l))
-
-natural-places : (j : ℕ) → j < 3 → getD (3 ∷ 4 ∷ 5 ∷ 0 ∷ []) j 0 < 6
-natural-places zero l = omega arith
-natural-places (suc zero) l = omega arith
-natural-places (suc (suc zero)) l = omega arith
-natural-places (suc (suc (suc j))) l = absurd (omega (arith, l))
-
-module _ (kind : LitKind) (id : InferSortId) where
-  pub positive-tries : kind ≡ Positive → LitTries kind id (record { ids = record { 0 = 2; 1 = 3; 2 = 4; 3 = 5 }; count = 4; other = id; up = false; first = 0 })
-  unfolding rowsFrom tryAt
-  positive-tries e = rw e (record { says = refl; few = omega arith; first = omega arith; places = positive-places; other = refl })
-
-  pub natural-tries : kind ≡ Natural → LitTries kind id (record { ids = record { 0 = 3; 1 = 4; 2 = 5; 3 = 0 }; count = 3; other = id; up = false; first = 1 })
-  unfolding rowsFrom tryAt
-  natural-tries e = rw e (record { says = refl; few = omega arith; first = omega arith; places = natural-places; other = refl })
 
 -- a container that is interned
 module _ (o : ComplexSort) (s : ℕ) (ws : List ℕ) (k : Lengths) (c : Counts) (ec : c ≡ record { sorts = k .sorts; entries = k .entries }) where

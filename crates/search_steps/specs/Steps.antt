@@ -5,23 +5,27 @@ use mathlib.Core.List.{List}
 use Prim.Native.Nat.{ℕ, _<_, _≤_}
 use lib.ListN.{getD}
 use Rattle.resolved_sort.specs.declared.ComplexSort.{ComplexSort}
+use Rattle.resolved_sort.specs.declared.ResolvedSort.{ResolvedSort}
+use Rattle.resolved_sort.specs.declared.ResolvedSort.the-variants.{Unit as UnitRow, Primitive, Container, Function, Def, TypeVar}
 use Rattle.unification.specs.declared.InferSortId.{InferSortId}
 use Rattle.unification.specs.declared.Lengths.{Lengths}
 use Rattle.unification.specs.declared.Related.{Related}
 use Rattle.unification.specs.Making.{made, _and-then_, internContainer}
 use Rattle.related_sorts.specs.Outcome.{related}
 use Rattle.inference.specs.declared.LitKind.{LitKind}
-use Rattle.inference.specs.Search.{Try, widerTries, narrowerTries, litTries}
+use Rattle.inference.specs.Search.{Try, widerTries, narrowerTries, litComponent, litTries}
 use Rattle.search_state.specs.declared.State.{State}
 use Rattle.search_state.specs.declared.Answer.{Answer}
 use Rattle.search_state.specs.declared.Answer.the-variants.{Found, Missed}
 use Rattle.search_state.specs.declared.Pairs.{Pairs}
 use Rattle.search_state.specs.declared.Pairs.the-variants.{One}
 use Rattle.search_state.specs.declared.Tries.{Tries}
+use Rattle.search_state.specs.declared.LitAt.{LitAt}
+use Rattle.search_state.specs.declared.LitAt.the-variants.{Other}
 use Rattle.search_state.specs.declared.Made.{Made}
 use Rattle.search_state.specs.declared.Widenings.{Widenings}
 use Rattle.search_state.specs.Memory.{lent}
-use Rattle.search_state.specs.Leaves.{placesOf, triesFrom, widened, FewTries, madeOf}
+use Rattle.search_state.specs.Leaves.{placesOf, triesFrom, widened, FewTries, numberOf, madeOf}
 
 -- whether a leaf was found, as an answer
 abbrev pub saysOf : Bool → State → Answer
@@ -31,6 +35,15 @@ saysOf false k = Missed k
 -- the places of a try
 abbrev pub pairsOf : Try → Pairs
 pairsOf t = One (record { 0 = t .left }) (record { 0 = t .right })
+
+-- what a literal finds at a sort
+abbrev pub litRow : LitKind → ResolvedSort → LitAt
+litRow kind UnitRow = Other
+litRow kind (Primitive s) = numberOf (litComponent kind s)
+litRow kind (Container o s) = Other
+litRow kind (Function d g) = Other
+litRow kind (Def n) = Other
+litRow kind (TypeVar n) = Other
 
 -- the tries of a literal: at most four, of the fixed sorts, each against the place
 pub record LitTries (kind : LitKind) (id : InferSortId) (r : Tries) : Type 0 where

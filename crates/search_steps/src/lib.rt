@@ -1,15 +1,20 @@
 // What the search of merc's inference.rs does between its calls of itself: telling answers apart, and the tries of a widening and of a literal, from
 // solve_widening and solve_lit.
 use infer_nodes::counts_of;
+use infer_nodes::node;
+use infer_nodes::shallow_normalize;
 use infer_nodes::with_counts;
 use inference::LitKind;
 use related_sorts::strict_sub_sorts;
 use related_sorts::strict_super_sorts;
 use resolved_sort::ComplexSort;
 use resolved_sort::Joined;
+use resolved_sort::ResolvedSort;
+use resolved_sort::Sort;
 use resolved_sort::SortId;
 use search_state::Answer;
 use search_state::Four;
+use search_state::LitAt;
 use search_state::Made;
 use search_state::Pairs;
 use search_state::State;
@@ -17,9 +22,14 @@ use search_state::Tries;
 use search_state::Went;
 use search_state::Widenings;
 use sort_bounds::generic;
+use sort_interner::get;
+use sort_order::Amount;
+use sort_order::number_generality;
+use unification::InferSort;
 use unification::InferSortId;
 use unification::Lengths;
 use unification::Listed;
+use unification::NodeId;
 use unification::Related;
 ghost use mathlib.Core.Path.{_≡_};
 ghost use mathlib.Core.Bool.{true, false};
@@ -28,11 +38,12 @@ ghost use Prim.Native.Nat.{ℕ, _+_, _<_, _≤_};
 ghost use lib.ListN.{getD, take};
 ghost use Rattle.resolved_sort.specs.Rows.{Checked};
 ghost use Rattle.unification.specs.Nodes.{bindsOf};
-ghost use Rattle.unification.specs.Checked.{Ready, Placed};
+ghost use Rattle.unification.specs.Checked.{graphOf, Ready, Placed};
 ghost use Rattle.related_sorts.specs.Outcome.{Ranges};
+ghost use Rattle.inference.specs.Search.{litComponent};
 ghost use Rattle.search_state.specs.Memory.{lent};
-ghost use Rattle.search_state.specs.Leaves.{afterOf, withNodes, backTo, givenBackTo, placesOf, tryAt, widenings, Widens};
-ghost use Rattle.search_steps.specs.Steps.{saysOf, pairsOf, LitTries, InternsContainer, ListedTries, AsTries};
+ghost use Rattle.search_state.specs.Leaves.{afterOf, withNodes, backTo, givenBackTo, placesOf, tryAt, widenings, Widens, numberOf, litAt};
+ghost use Rattle.search_steps.specs.Steps.{saysOf, pairsOf, litRow, LitTries, InternsContainer, ListedTries, AsTries};
 
 // On after one of several alternatives.
 pub fn after(r: Answer, found: bool) -> Went
@@ -149,6 +160,68 @@ pub fn lit_tries(kind: LitKind, id: InferSortId) -> Tries
             up: false,
             first: 1,
         },
+    }
+}
+
+// What stands at the end of a literal's place.
+pub fn lit_at(
+    sorts: &[u16],
+    nodes: &[u16],
+    binds: &[u16],
+    lengths: Lengths,
+    id: InferSortId,
+    kind: LitKind,
+) -> LitAt
+    requires { ⌜ Ready (now sorts) (now nodes) (now binds) lengths × Placed lengths (id .0) ⌝ }
+    ensures { λ r. ⌜ r ≡ litAt kind (graphOf (now (sorts .entry)) (now (nodes .entry)) lengths) (bindsOf (now (binds .entry)) (lengths .variables)) (id .0) ⌝ }
+{
+    let end = shallow_normalize(sorts, nodes, binds, lengths, id);
+    if end.0 < 1024 {
+        return lit_at_row(get(sorts, SortId(end.0)), kind);
+    }
+    match node(nodes, NodeId(end.0 - 1024)) {
+        InferSort::Generic { op: _, subsort: _ } => LitAt::Other,
+        InferSort::Function {
+            domain: _,
+            range: _,
+        } => LitAt::Other,
+        InferSort::Var(_) => LitAt::Free,
+    }
+}
+
+fn lit_at_row(row: ResolvedSort, kind: LitKind) -> LitAt
+    ensures { λ r. ⌜ r ≡ litRow kind row ⌝ }
+{
+    match row {
+        ResolvedSort::Unit => LitAt::Other,
+        ResolvedSort::Primitive(sort) => lit_at_number(sort, kind),
+        ResolvedSort::Container { op: _, subsort: _ } => LitAt::Other,
+        ResolvedSort::Function {
+            domain: _,
+            range: _,
+        } => LitAt::Other,
+        ResolvedSort::Def(_) => LitAt::Other,
+        ResolvedSort::TypeVar(_) => LitAt::Other,
+    }
+}
+
+// `0` is not positive, so a natural literal cannot be Pos, whose generality is 0.
+fn lit_at_number(sort: Sort, kind: LitKind) -> LitAt
+    ensures { λ r. ⌜ r ≡ numberOf (litComponent kind sort) ⌝ }
+{
+    match number_generality(sort) {
+        Amount::Of(generality) => {
+            match kind {
+                LitKind::Positive => LitAt::Number(generality as u16),
+                LitKind::Natural => {
+                    if generality == 0 {
+                        return LitAt::Other;
+                    }
+                    LitAt::Number(generality as u16)
+                }
+            }
+        }
+        Amount::Nothing => LitAt::Other,
     }
 }
 

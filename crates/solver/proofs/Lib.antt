@@ -4,3 +4,4 @@ pub mod Widening
 pub mod Literals
 pub mod Readings
 pub mod Overloads
+pub mod Joins

@@ -1,6 +1,6 @@
 -- By the kind. Assumes nothing.
 use borrow.Author.Needs.{needs}
-use Rattle.search_steps.proofs.Laws as law
+use Rattle.search_steps.proofs.Literals as literal
 use Rattle.search_steps.proofs.lit_tries.Statement.{statement}
 use Rattle.search_steps.proofs.lit_tries.Tie as tie
 
@@ -10,5 +10,5 @@ lit-tries-spec =
     (tie.spec
     (λ c. search needs)
     (λ c. search needs)
-    (λ c. law.positive-tries _ _ (c .enum-told .given .1))
-    (λ c. law.natural-tries _ _ (c .enum-told2 .given .1)))
+    (λ c. literal.positive-tries _ _ (c .enum-told .given .1))
+    (λ c. literal.natural-tries _ _ (c .enum-told2 .given .1)))
