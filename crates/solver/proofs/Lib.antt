@@ -5,3 +5,4 @@ pub mod Literals
 pub mod Readings
 pub mod Overloads
 pub mod Joins
+pub mod Solving
