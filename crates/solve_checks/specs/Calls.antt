@@ -49,14 +49,18 @@ callOf g ws ns bs xs ks cs os ss room o =
       choices = o .choices;
     }
 
--- with no words lent
+-- with no words lent for scratch and outputs, and with no sorts, nodes and bindings beside
 abbrev pub noRoom : Room
 noRoom = record { scratch = 0; typing = 0; measure = 0; choices = 0 }
 
+abbrev pub noOuts : Outs noRoom
+noOuts = record { scratch = []; typing = []; measure = []; choices = []; scratch-length = refl; typing-length = refl; measure-length = refl; choices-length = refl }
+
+abbrev pub listsOf : Given → (sorts nodes binds exprs names constraints overloads sources : List ℕ) → Call
+listsOf g ws ns bs xs ks cs os ss = callOf g ws ns bs xs ks cs os ss noRoom noOuts
+
 abbrev pub partOf : Given → (exprs names constraints overloads sources : List ℕ) → Call
-partOf g xs ks cs os ss =
-    callOf g [] [] [] xs ks cs os ss noRoom
-    (record { scratch = []; typing = []; measure = []; choices = []; scratch-length = refl; typing-length = refl; measure-length = refl; choices-length = refl })
+partOf g xs ks cs os ss = listsOf g [] [] [] xs ks cs os ss
 
 abbrev pub outputsOf : Given → List ℕ → (room : Room) → Outs room → Call
 outputsOf g cs room o = callOf g [] [] [] [] [] cs [] [] room o
