@@ -11,7 +11,7 @@ use unification::InferSortId;
 ghost use mathlib.Core.Path.{_≡_};
 ghost use mathlib.Core.Bool.{true};
 ghost use mathlib.Core.List.{[]};
-ghost use Prim.Native.Nat.{ℕ, _+_, _*_, _<_, _≤_};
+ghost use Prim.Native.Nat.{_+_, _*_, _<_, _≤_};
 ghost use lib.ListN.{length};
 ghost use Rattle.unification.specs.Nodes.{isPlace};
 ghost use Rattle.inference.specs.declared.Constraint.{Constraint};

@@ -4,17 +4,16 @@ use mathlib.Core.Path.{_≡_, refl, sym, ap, ap₂, _∙_}
 use mathlib.Core.Bool.{Bool, true, false, not, _&&_, and-false}
 use mathlib.Core.List.{List, [], _∷_, _++_}
 use Prim.Native.Nat.{ℕ, _<_, _≤_}
-use lib.Dec.{leb, ltb}
+use lib.Dec.{leb}
 use lib.ListN.{length}
 use borrow.Author.Tests.{not-true, not-false, lt-leb, le-leb, lt-ltb, le-ltb}
 use Rattle.resolved_sort.specs.declared.Tested.{Tested}
 use Rattle.resolved_sort.specs.declared.Tested.the-variants.{Refused, Passed}
 use Rattle.resolved_sort.specs.Storage.{fullLength}
-use Rattle.resolved_sort.specs.Checks.{Check, firstFailing, withinLent, fixedSix, rowsFine, noTwoEqual, atCeiling, sortChecks}
+use Rattle.resolved_sort.specs.Checks.{Check, firstFailing, fixedSix, rowsFine, noTwoEqual, atCeiling, sortChecks}
 use Rattle.resolved_sort.specs.Entries.{testedOf}
 use Rattle.resolved_sort.proofs.FirstFailing.{first-fails, first-passes}
 use Rattle.unification.specs.Nodes.{maxNodes, maxVars, fullNodes}
-use Rattle.unification.specs.NodeChecks.{nodesWithinLent, bindingsWithinLent, nodeChecks}
 use Rattle.unification.proofs.Passed.{node-counts, var-counts}
 use Rattle.unify_entries.proofs.Laws.{fails, passes, none-left, first-refuses, second-decides, first-of-two, second-of-two, both-of-two}
 use Rattle.inference.specs.Constraints.{maxComponents}

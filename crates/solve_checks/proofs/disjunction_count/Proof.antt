@@ -19,12 +19,12 @@ disjunction-count-spec =
     (tie.spec
     Inv-loop
     μ-loop
-    (λ c. (rows.nothing-summed rows.choiceCount rows.choiceCountOf rows.no-choices rows.choices-more (constraintAt (c .before .args .constraints .now)) (c .before .args .count), omega arith))
+    (λ c. let a = c .before .args in (rows.nothing-summed rows.choiceCount rows.choiceCountOf rows.no-choices rows.choices-more (constraintAt (a .constraints .now)) (a .count), omega arith))
     (λ c κs. search needs)
     (λ c κs. search needs)
     (λ c. omega arith)
     (λ c. omega arith)
     (λ c. omega arith)
     (λ c. omega arith)
-    (λ c. (rows.one-summed rows.choiceCount rows.choiceCountOf rows.no-choices rows.choices-more (constraintAt (c .before .before .before .before .before .args .constraints .now)) (c .before .before .before .before .before .args .count) (c .before .before .before .loop .i) (c .before .before .before .loop .sum) (c .before .before .before .loop .inv .0) (c .before .before .loop-test .taken) (c .before .constraint-at .result) (c .before .constraint-at .ensures) (c .disjunctions-of .result) (c .disjunctions-of .ensures), omega arith))
-    (λ c. rows.all-summed rows.choiceCount rows.choiceCountOf rows.no-choices rows.choices-more (constraintAt (c .before .before .before .args .constraints .now)) (c .before .before .before .args .count) (c .before .loop .i) (c .before .loop .sum) (c .before .loop .inv .0) (c .loop-test .left)))
+    (λ c. let a = c .before .before .before .before .before .args in (rows.one-summed rows.choiceCount rows.choiceCountOf rows.no-choices rows.choices-more (constraintAt (a .constraints .now)) (a .count) (c .before .before .before .loop .i) (c .before .before .before .loop .sum) (c .before .before .before .loop .inv .0) (c .before .before .loop-test .taken) (c .before .constraint-at .result) (c .before .constraint-at .ensures) (c .disjunctions-of .result) (c .disjunctions-of .ensures), omega arith))
+    (λ c. let a = c .before .before .before .args in rows.all-summed rows.choiceCount rows.choiceCountOf rows.no-choices rows.choices-more (constraintAt (a .constraints .now)) (a .count) (c .before .loop .i) (c .before .loop .sum) (c .before .loop .inv .0) (c .loop-test .left)))

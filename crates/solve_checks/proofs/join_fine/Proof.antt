@@ -1,5 +1,4 @@
 -- The place, then the run. Assumes nothing.
-use Prim.Native.Nat.{_-_}
 use borrow.Author.Needs.{needs}
 use borrow.Author.Tests.{not-true, not-false}
 use Rattle.inference.specs.SolveChecks.{placed}

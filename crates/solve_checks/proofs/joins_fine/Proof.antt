@@ -20,11 +20,11 @@ joins-fine-spec =
     (tie.spec
     Inv-loop
     μ-loop
-    (λ c. rows.none-joined (constraintAt (c .before .args .constraints .now)) (c .before .args .count))
+    (λ c. let a = c .before .args in rows.none-joined (constraintAt (a .constraints .now)) (a .count))
     (λ c κs. search needs)
     (λ c κs. search needs)
-    (λ c. rows.without-sources (constraintAt (c .before .before .before .before .before .before .args .constraints .now)) (c .before .before .before .before .before .before .args .count) (c .before .before .before .before .loop .i) (c .before .before .before .before .loop .inv) (c .before .before .before .loop-test .taken) (c .before .before .constraint-at .result) (c .before .before .constraint-at .ensures) (c .before .has-sources .result) (c .before .has-sources .ensures) (not-true _ (c .if1 .taken)))
+    (λ c. let a = c .before .before .before .before .before .before .args in rows.without-sources (constraintAt (a .constraints .now)) (a .count) (c .before .before .before .before .loop .i) (c .before .before .before .before .loop .inv) (c .before .before .before .loop-test .taken) (c .before .before .constraint-at .result) (c .before .before .constraint-at .ensures) (c .before .has-sources .result) (c .before .has-sources .ensures) (not-true _ (c .if1 .taken)))
     (λ c. omega arith)
     (λ c. omega arith)
-    (λ c. rows.one-joined (constraintAt (c .before .before .before .before .before .before .args .constraints .now)) (c .before .before .before .before .before .before .args .count) (c .before .before .before .before .loop .i) (c .before .before .before .before .loop .inv) (c .before .before .before .loop-test .taken) (c .before .before .constraint-at .result) (c .before .before .constraint-at .ensures) (c .before .has-sources .result) (c .before .has-sources .ensures) (not-false _ (c .if1 .left)))
-    (λ c. rows.all-joined (constraintAt (c .before .before .before .args .constraints .now)) (c .before .before .before .args .count) (c .before .loop .i) (c .before .loop .inv) (c .loop-test .left)))
+    (λ c. let a = c .before .before .before .before .before .before .args in rows.one-joined (constraintAt (a .constraints .now)) (a .count) (c .before .before .before .before .loop .i) (c .before .before .before .before .loop .inv) (c .before .before .before .loop-test .taken) (c .before .before .constraint-at .result) (c .before .before .constraint-at .ensures) (c .before .has-sources .result) (c .before .has-sources .ensures) (not-false _ (c .if1 .left)))
+    (λ c. let a = c .before .before .before .args in rows.all-joined (constraintAt (a .constraints .now)) (a .count) (c .before .loop .i) (c .before .loop .inv) (c .loop-test .left)))

@@ -1,6 +1,5 @@
 -- The place, then the kind. Assumes nothing.
 use mathlib.Core.Path.{refl}
-use Prim.Native.Nat.{_-_}
 use borrow.Author.Needs.{needs}
 use borrow.Author.Tests.{not-true, not-false}
 use Rattle.inference.specs.SolveChecks.{placed}

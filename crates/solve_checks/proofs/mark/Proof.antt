@@ -1,7 +1,6 @@
 -- In range it is the store; past the end `set` changes nothing. Assumes nothing.
 use mathlib.Core.Path.{sym, ap, ap₂}
 use mathlib.Core.Bool.{false, not}
-use Prim.Native.Nat.{_-_}
 use lib.ListN.{List·getD-eq-default}
 use lib.Seq.{set-out}
 use borrow.Author.Needs.{needs}
@@ -13,7 +12,7 @@ pub mark-spec : {M : Type 1} → statement M
 mark-spec =
     tie.close
     (tie.spec
-    (λ c. sym (ap₂ marked (set-out (c .before .args .seen .now) _ _ (c .if1 .taken)) (ap not (List·getD-eq-default (c .before .args .seen .now) false {n = c .before .args .x} (c .if1 .taken)))))
+    (λ c. let a = c .before .args in sym (ap₂ marked (set-out (a .seen .now) _ _ (c .if1 .taken)) (ap not (List·getD-eq-default (a .seen .now) false {n = a .x} (c .if1 .taken)))))
     (λ c. search needs)
     (λ c. search needs)
     (λ c. search needs)

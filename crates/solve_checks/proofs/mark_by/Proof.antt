@@ -1,6 +1,5 @@
 -- By what the constraint says. Assumes nothing.
 use mathlib.Core.Path.{sym, ap, _∙_}
-use Prim.Native.Nat.{_-_}
 use borrow.Author.Needs.{needs}
 use Rattle.solve_checks.specs.Marks.{markBy}
 use Rattle.solve_checks.proofs.mark_by.Statement.{statement}

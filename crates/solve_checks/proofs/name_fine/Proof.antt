@@ -1,7 +1,7 @@
 -- The key, then the target. Assumes nothing.
 use mathlib.Core.Path.{refl, ap₂, subst, _∙_}
 use mathlib.Core.List.{[]}
-use Prim.Native.Nat.{ℕ, _-_, _*_, _<_, _≤_}
+use Prim.Native.Nat.{ℕ, _*_, _<_, _≤_}
 use native.Mathlib.Omega.{arith}
 use lib.Dec.{ltb}
 use lib.ListN.{getD}
@@ -21,7 +21,7 @@ name-fine-spec =
     (λ c. omega (arith, c .before .pre))
     (λ c κs. search needs)
     (λ c. search needs)
-    (λ c. fine.first-not (ltb (getD (c .before .before .before .before .args .names .now) (3 * (c .before .before .before .before .args .i)) 0) (c .before .before .before .before .args .given .exprs)) _ (ltb (getD (c .before .before .before .before .args .names .now) (3 * (c .before .before .before .before .args .i)) 0) (c .before .before .before .before .args .given .exprs)) refl (le-ltb _ _ (subst (λ (k : ℕ). (c .before .before .before .before .args .given .exprs) ≤ k) (c .before .before .word .ensures) (c .if1 .taken))))
+    (λ c. let a = c .before .before .before .before .args in fine.first-not (ltb (getD (a .names .now) (3 * (a .i)) 0) (a .given .exprs)) _ (ltb (getD (a .names .now) (3 * (a .i)) 0) (a .given .exprs)) refl (le-ltb _ _ (subst (λ (k : ℕ). (a .given .exprs) ≤ k) (c .before .before .word .ensures) (c .if1 .taken))))
     (λ c. omega (arith, c .before .before .before .before .pre))
     (λ c. omega (arith, c .before .before .before .before .pre))
     (λ c κs. search needs)
@@ -29,4 +29,4 @@ name-fine-spec =
     (λ c. omega (arith, c .before .before .before .before .before .pre))
     (λ c κs. search needs)
     (λ c κs. search needs)
-    (λ c. fine.then (ltb (getD (c .before .before .before .before .before .before .before .args .names .now) (3 * (c .before .before .before .before .before .before .before .args .i)) 0) (c .before .before .before .before .before .before .before .args .given .exprs)) _ (ltb (getD (c .before .before .before .before .before .before .before .args .names .now) (3 * (c .before .before .before .before .before .before .before .args .i)) 0) (c .before .before .before .before .before .before .before .args .given .exprs)) refl (lt-ltb _ _ (subst (λ (k : ℕ). k < (c .before .before .before .before .before .before .before .args .given .exprs)) (c .before .before .before .before .before .word .ensures) (c .before .before .before .if1 .left))) _ (c .target-fine .ensures ∙ ap₂ (targetFine (partOf (c .before .before .before .before .before .before .before .args .given) [] [] [] [] [])) (c .before .before .word2 .ensures) (c .before .word3 .ensures))))
+    (λ c. let a = c .before .before .before .before .before .before .before .args in fine.then (ltb (getD (a .names .now) (3 * (a .i)) 0) (a .given .exprs)) _ (ltb (getD (a .names .now) (3 * (a .i)) 0) (a .given .exprs)) refl (lt-ltb _ _ (subst (λ (k : ℕ). k < (a .given .exprs)) (c .before .before .before .before .before .word .ensures) (c .before .before .before .if1 .left))) _ (c .target-fine .ensures ∙ ap₂ (targetFine (partOf (a .given) [] [] [] [] [])) (c .before .before .word2 .ensures) (c .before .word3 .ensures))))

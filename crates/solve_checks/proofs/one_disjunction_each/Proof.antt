@@ -21,12 +21,12 @@ one-disjunction-each-spec =
     (tie.spec
     Inv-loop
     μ-loop
-    (λ c. fresh.no-disjunction-marked (constraintAt (c .before .args .constraints .now)) (c .before .args .count))
+    (λ c. let a = c .before .args in fresh.no-disjunction-marked (constraintAt (a .constraints .now)) (a .count))
     (λ c. sym (c .before .before .loop .inv .1 .size))
     (λ c κs. search needs)
     (λ c κs. search needs)
-    (λ c. fresh.disjunction-twice (constraintAt (c .before .before .before .before .before .before .before .before .args .constraints .now)) (c .before .before .before .before .before .before .before .before .args .count) (c .before .before .before .before .before .before .before .before .pre) (c .before .before .before .before .before .before .loop .seen) (c .before .before .before .before .before .before .loop .i) (c .before .before .before .before .before .before .loop .inv) (c .before .before .before .before .before .loop-test .taken) (c .before .before .before .constraint-at .result) (c .before .before .before .constraint-at .ensures) (c .before .before .mark-by .last .0) (c .before .before .mark-by .result) (c .before .before .mark-by .ensures) (not-true _ (c .if1 .taken)))
+    (λ c. let a = c .before .before .before .before .before .before .before .before .args in fresh.disjunction-twice (constraintAt (a .constraints .now)) (a .count) (c .before .before .before .before .before .before .before .before .pre) (c .before .before .before .before .before .before .loop .seen) (c .before .before .before .before .before .before .loop .i) (c .before .before .before .before .before .before .loop .inv) (c .before .before .before .before .before .loop-test .taken) (c .before .before .before .constraint-at .result) (c .before .before .before .constraint-at .ensures) (c .before .before .mark-by .last .0) (c .before .before .mark-by .result) (c .before .before .mark-by .ensures) (not-true _ (c .if1 .taken)))
     (λ c. omega arith)
     (λ c. omega arith)
-    (λ c. fresh.disjunction-once (constraintAt (c .before .before .before .before .before .before .before .before .args .constraints .now)) (c .before .before .before .before .before .before .before .before .args .count) (c .before .before .before .before .before .before .before .before .pre) (c .before .before .before .before .before .before .loop .seen) (c .before .before .before .before .before .before .loop .i) (c .before .before .before .before .before .before .loop .inv) (c .before .before .before .before .before .loop-test .taken) (c .before .before .before .constraint-at .result) (c .before .before .before .constraint-at .ensures) (c .before .before .mark-by .last .0) (c .before .before .mark-by .result) (c .before .before .mark-by .ensures) (not-false _ (c .if1 .left)) (c .before .before .mark-by .kept .0))
-    (λ c. fresh.disjunctions-differ (constraintAt (c .before .before .before .args .constraints .now)) (c .before .before .before .args .count) (c .before .before .before .pre) (c .before .loop .seen) (c .before .loop .i) (c .before .loop .inv) (c .loop-test .left)))
+    (λ c. let a = c .before .before .before .before .before .before .before .before .args in fresh.disjunction-once (constraintAt (a .constraints .now)) (a .count) (c .before .before .before .before .before .before .before .before .pre) (c .before .before .before .before .before .before .loop .seen) (c .before .before .before .before .before .before .loop .i) (c .before .before .before .before .before .before .loop .inv) (c .before .before .before .before .before .loop-test .taken) (c .before .before .before .constraint-at .result) (c .before .before .before .constraint-at .ensures) (c .before .before .mark-by .last .0) (c .before .before .mark-by .result) (c .before .before .mark-by .ensures) (not-false _ (c .if1 .left)) (c .before .before .mark-by .kept .0))
+    (λ c. let a = c .before .before .before .args in fresh.disjunctions-differ (constraintAt (a .constraints .now)) (a .count) (c .before .before .before .pre) (c .before .loop .seen) (c .before .loop .i) (c .before .loop .inv) (c .loop-test .left)))

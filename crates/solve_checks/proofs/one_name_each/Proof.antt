@@ -21,13 +21,13 @@ one-name-each-spec =
     (tie.spec
     Inv-loop
     μ-loop
-    (λ c. fresh.no-number-marked (λ k. getD (c .before .args .names .now) (3 * k) 0) (c .before .args .given .names))
+    (λ c. let a = c .before .args in fresh.no-number-marked (λ k. getD (a .names .now) (3 * k) 0) (a .given .names))
     (λ c. sym (c .before .before .loop .inv .1 .size))
     (λ c. omega (arith, c .before .loop-test .taken, c .before .before .before .before .pre .0))
     (λ c κs. search needs)
     (λ c κs. search needs)
-    (λ c. fresh.number-twice (λ k. getD (c .before .before .before .before .before .before .before .before .args .names .now) (3 * k) 0) (c .before .before .before .before .before .before .before .before .args .given .names) (c .before .before .before .before .before .before .before .before .pre .1) (c .before .before .before .before .before .before .loop .seen) (c .before .before .before .before .before .before .loop .i) (c .before .before .before .before .before .before .loop .inv) (c .before .before .before .before .before .loop-test .taken) (c .before .before .before .word .result) (c .before .before .before .word .ensures) (c .before .before .mark .last .0) (c .before .before .mark .result) (c .before .before .mark .ensures) (not-true _ (c .if1 .taken)))
+    (λ c. let a = c .before .before .before .before .before .before .before .before .args in fresh.number-twice (λ k. getD (a .names .now) (3 * k) 0) (a .given .names) (c .before .before .before .before .before .before .before .before .pre .1) (c .before .before .before .before .before .before .loop .seen) (c .before .before .before .before .before .before .loop .i) (c .before .before .before .before .before .before .loop .inv) (c .before .before .before .before .before .loop-test .taken) (c .before .before .before .word .result) (c .before .before .before .word .ensures) (c .before .before .mark .last .0) (c .before .before .mark .result) (c .before .before .mark .ensures) (not-true _ (c .if1 .taken)))
     (λ c. omega arith)
     (λ c. omega arith)
-    (λ c. fresh.number-once (λ k. getD (c .before .before .before .before .before .before .before .before .args .names .now) (3 * k) 0) (c .before .before .before .before .before .before .before .before .args .given .names) (c .before .before .before .before .before .before .before .before .pre .1) (c .before .before .before .before .before .before .loop .seen) (c .before .before .before .before .before .before .loop .i) (c .before .before .before .before .before .before .loop .inv) (c .before .before .before .before .before .loop-test .taken) (c .before .before .before .word .result) (c .before .before .before .word .ensures) (c .before .before .mark .last .0) (c .before .before .mark .result) (c .before .before .mark .ensures) (not-false _ (c .if1 .left)) (c .before .before .mark .kept .0))
-    (λ c. fresh.numbers-differ (λ k. getD (c .before .before .before .args .names .now) (3 * k) 0) (c .before .before .before .args .given .names) (c .before .before .before .pre .1) (c .before .loop .seen) (c .before .loop .i) (c .before .loop .inv) (c .loop-test .left)))
+    (λ c. let a = c .before .before .before .before .before .before .before .before .args in fresh.number-once (λ k. getD (a .names .now) (3 * k) 0) (a .given .names) (c .before .before .before .before .before .before .before .before .pre .1) (c .before .before .before .before .before .before .loop .seen) (c .before .before .before .before .before .before .loop .i) (c .before .before .before .before .before .before .loop .inv) (c .before .before .before .before .before .loop-test .taken) (c .before .before .before .word .result) (c .before .before .before .word .ensures) (c .before .before .mark .last .0) (c .before .before .mark .result) (c .before .before .mark .ensures) (not-false _ (c .if1 .left)) (c .before .before .mark .kept .0))
+    (λ c. let a = c .before .before .before .args in fresh.numbers-differ (λ k. getD (a .names .now) (3 * k) 0) (a .given .names) (c .before .before .before .pre .1) (c .before .loop .seen) (c .before .loop .i) (c .before .loop .inv) (c .loop-test .left)))

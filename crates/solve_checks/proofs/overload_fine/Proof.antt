@@ -1,7 +1,6 @@
 -- The target, then the place. Assumes nothing.
 use mathlib.Core.Path.{ap, ap₂, _∙_}
 use mathlib.Core.List.{[]}
-use Prim.Native.Nat.{_-_}
 use borrow.Author.Needs.{needs}
 use borrow.Author.Tests.{not-true, not-false}
 use Rattle.unification.specs.Nodes.{isPlace}
@@ -26,4 +25,4 @@ overload-fine-spec =
     (λ c. search needs)
     (λ c κs. search needs)
     (λ c κs. search needs)
-    (λ c. fine.then _ _ (c .before .before .before .target-fine .result) (c .before .before .before .target-fine .ensures ∙ ap₂ (targetFine (partOf (c .before .before .before .before .before .before .before .args .given) [] [] [] [] [])) (c .before .before .before .before .before .word .ensures) (c .before .before .before .before .word2 .ensures)) (not-false _ (c .before .before .if1 .left)) _ (c .placed .ensures ∙ ap (isPlace (c .before .before .before .before .before .before .before .args .given .sorts) (c .before .before .before .before .before .before .before .args .given .nodes)) (c .before .word3 .ensures))))
+    (λ c. let a = c .before .before .before .before .before .before .before .args in fine.then _ _ (c .before .before .before .target-fine .result) (c .before .before .before .target-fine .ensures ∙ ap₂ (targetFine (partOf (a .given) [] [] [] [] [])) (c .before .before .before .before .before .word .ensures) (c .before .before .before .before .word2 .ensures)) (not-false _ (c .before .before .if1 .left)) _ (c .placed .ensures ∙ ap (isPlace (a .given .sorts) (a .given .nodes)) (c .before .word3 .ensures))))

@@ -1,7 +1,7 @@
 -- The kind, then what the row says. Assumes nothing.
 use mathlib.Core.Path.{refl, ap₂, subst, _∙_}
 use mathlib.Core.List.{[]}
-use Prim.Native.Nat.{ℕ, _+_, _-_, _*_, _<_, _≤_}
+use Prim.Native.Nat.{ℕ, _+_, _*_, _<_, _≤_}
 use lib.Dec.{leb}
 use lib.ListN.{getD}
 use borrow.Author.Needs.{needs}
@@ -19,9 +19,9 @@ row-fine-spec =
     (tie.spec
     (λ c. search needs)
     (λ c κs. search needs)
-    (λ c. fine.first-not (leb (getD (c .before .before .before .before .before .args .constraints .now) (5 * (c .before .before .before .before .before .args .i)) 0) 4) _ (leb (getD (c .before .before .before .before .before .args .constraints .now) (5 * (c .before .before .before .before .before .args .i)) 0) 4) refl (lt-leb _ _ (subst (λ (k : ℕ). 4 < k) (c .before .word .ensures) (c .if1 .taken))))
+    (λ c. let a = c .before .before .before .before .before .args in fine.first-not (leb (getD (a .constraints .now) (5 * (a .i)) 0) 4) _ (leb (getD (a .constraints .now) (5 * (a .i)) 0) 4) refl (lt-leb _ _ (subst (λ (k : ℕ). 4 < k) (c .before .word .ensures) (c .if1 .taken))))
     (λ c. search needs)
     (λ c κs. search needs)
     (λ c κs. search needs)
     (λ c κs. search needs)
-    (λ c. fine.then (leb (getD (c .before .before .before .before .before .before .before .before .args .constraints .now) (5 * (c .before .before .before .before .before .before .before .before .args .i)) 0) 4) _ (leb (getD (c .before .before .before .before .before .before .before .before .args .constraints .now) (5 * (c .before .before .before .before .before .before .before .before .args .i)) 0) 4) refl (le-leb _ _ (subst (λ (k : ℕ). k ≤ 4) (c .before .before .before .before .word .ensures) (c .before .before .before .if1 .left))) _ (c .constraint-fine .ensures ∙ (ap₂ (constraintFine (partOf (c .before .before .before .before .before .before .before .before .args .given) [] [] [] (c .before .before .before .before .before .before .before .before .args .overloads .now) (c .before .before .before .before .before .before .before .before .args .sources .now))) (c .before .before .word2 .ensures) (c .before .constraint-at .ensures) ∙ fine.same-constraint-fine (c .before .before .before .before .before .before .before .before .args .given) (c .before .before .before .before .before .before .before .before .args .constraints .now) (c .before .before .before .before .before .before .before .before .args .overloads .now) (c .before .before .before .before .before .before .before .before .args .sources .now) (getD (c .before .before .before .before .before .before .before .before .args .constraints .now) (5 * (c .before .before .before .before .before .before .before .before .args .i) + 2) 0) (constraintAt (c .before .before .before .before .before .before .before .before .args .constraints .now) (c .before .before .before .before .before .before .before .before .args .i))))))
+    (λ c. let a = c .before .before .before .before .before .before .before .before .args in fine.then (leb (getD (a .constraints .now) (5 * (a .i)) 0) 4) _ (leb (getD (a .constraints .now) (5 * (a .i)) 0) 4) refl (le-leb _ _ (subst (λ (k : ℕ). k ≤ 4) (c .before .before .before .before .word .ensures) (c .before .before .before .if1 .left))) _ (c .constraint-fine .ensures ∙ (ap₂ (constraintFine (partOf (a .given) [] [] [] (a .overloads .now) (a .sources .now))) (c .before .before .word2 .ensures) (c .before .constraint-at .ensures) ∙ fine.same-constraint-fine (a .given) (a .constraints .now) (a .overloads .now) (a .sources .now) (getD (a .constraints .now) (5 * (a .i) + 2) 0) (constraintAt (a .constraints .now) (a .i))))))
