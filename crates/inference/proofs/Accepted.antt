@@ -118,9 +118,9 @@ module _ (I : Call) where
       listed-by (getD (I .constraints) (5 * j + 2) 0) (constraintAt (I .constraints) j)
       (and-eq-true-iff (leb (getD (I .constraints) (5 * j) 0) 4) (constraintFine I (getD (I .constraints) (5 * j + 2) 0) (constraintAt (I .constraints) j)) .0 x .1)
 
-  within : allWithinLent I ≡ true
+  pub within : allWithinLent I ≡ true
       → (withinLent (I .sorts) (I .lengths .sorts) (I .lengths .entries) ≡ true) × (nodesWithinLent (I .nodes) (I .lengths .nodes) (I .lengths .arguments) ≡ true)
-      × (bindingsWithinLent (I .binds) (I .lengths .variables) ≡ true)
+      × (bindingsWithinLent (I .binds) (I .lengths .variables) ≡ true) × (rowsWithinLent I ≡ true)
   unfolding allWithinLent
   within f =
       let a = withinLent (I .sorts) (I .lengths .sorts) (I .lengths .entries) in
@@ -129,7 +129,7 @@ module _ (I : Call) where
       let x = and-eq-true-iff (a && b && c) (rowsWithinLent I) .0 f in
       let y = and-eq-true-iff (a && b) c .0 (x .0) in
       let z = and-eq-true-iff a b .0 (y .0) in
-      (z .0, z .1, y .1)
+      (z .0, z .1, y .1, x .1)
 
   long : longEnough I ≡ true → (atCeiling (I .sorts) ≡ true) × (leb fullNodes (length (I .nodes)) ≡ true)
   unfolding longEnough

@@ -1,5 +1,5 @@
 -- Each arm rewrites by the kind it tested; past the table the default is what `getD` gives. Assumes nothing.
-use mathlib.Core.Path.{_≡_, sym, ap, _∙_}
+use mathlib.Core.Path.{_≡_, sym}
 use mathlib.Core.List.{[], _∷_}
 use Prim.Native.Nat.{ℕ, _≤_}
 use lib.ListN.{List·getD-eq-default}

@@ -1,0 +1,6 @@
+-- The checks as the code meets them, test by test.
+pub mod Lent
+pub mod Fine
+pub mod RowsLeft
+pub mod Fresh
+pub mod Long

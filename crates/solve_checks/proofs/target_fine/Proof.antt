@@ -1,0 +1,13 @@
+-- By the tests of the kind. Assumes nothing.
+use Rattle.solve_checks.proofs.Fine as fine
+use Rattle.solve_checks.proofs.target_fine.Statement.{statement}
+use Rattle.solve_checks.proofs.target_fine.Tie as tie
+
+pub target-fine-spec : {M : Type 1} → statement M
+target-fine-spec =
+    tie.close
+    (tie.spec
+    (λ c. let a = c .before .args in fine.no-kind (a .given) (a .kind) (a .sort) (c .if1 .taken))
+    (λ c. let a = c .before .before .args in fine.kind-above (a .given) (a .kind) (a .sort) (c .before .if1 .left) (c .if2 .taken))
+    (λ c. let a = c .before .before .before .before .args in fine.operation-by-sort (a .given) (a .kind) (a .sort) (c .before .before .before .if1 .left) (c .before .before .if2 .left) (c .before .if3 .taken))
+    (λ c. let a = c .before .before .before .args in fine.other-kind (a .given) (a .kind) (a .sort) (c .before .before .if1 .left) (c .before .if2 .left) (c .if3 .left)))

@@ -1,0 +1,70 @@
+-- The call that a function's parameters make: how many rows of each list are given, with the lists themselves. A check that looks at some of the
+-- lists only is that check of a call whose other lists are empty.
+use mathlib.Core.List.{List, []}
+use Prim.Native.Nat.{ℕ}
+use lib.ListN.{length}
+use mathlib.Core.Path.{_≡_, refl}
+use Rattle.unification.specs.declared.Lengths.{Lengths}
+use Rattle.inference.specs.declared.Rows.{Rows}
+use Rattle.inference.specs.declared.Constraint.{Constraint}
+use Rattle.inference.specs.Constraints.{constraintAt, rowsFrom}
+use Rattle.inference.specs.SolveChecks.{Call}
+use Rattle.solve_checks.specs.declared.Given.{Given}
+use Rattle.solve_checks.specs.declared.Room.{Room}
+
+abbrev pub lengthsOf : Given → Lengths
+lengthsOf g = record { sorts = g .sorts; entries = g .entries; nodes = g .nodes; arguments = g .arguments; variables = g .variables }
+
+abbrev pub rowsOf : Given → Rows
+rowsOf g = record { exprs = g .exprs; names = g .names; constraints = g .constraints; overloads = g .overloads; sources = g .sources }
+
+-- Scratch and outputs of the lengths that a call says. What stands in them no check looks at.
+pub record Outs (room : Room) : Type 0 where
+  pub scratch : List ℕ
+  pub typing : List ℕ
+  pub measure : List ℕ
+  pub choices : List ℕ
+  pub scratch-length : length scratch ≡ room .scratch
+  pub typing-length : length typing ≡ room .typing
+  pub measure-length : length measure ≡ room .measure
+  pub choices-length : length choices ≡ room .choices
+
+abbrev pub callOf : Given → (sorts nodes binds exprs names constraints overloads sources : List ℕ) → (room : Room) → Outs room → Call
+callOf g ws ns bs xs ks cs os ss room o =
+    record {
+      sorts = ws;
+      nodes = ns;
+      binds = bs;
+      lengths = lengthsOf g;
+      exprs = xs;
+      names = ks;
+      constraints = cs;
+      overloads = os;
+      sources = ss;
+      rows = rowsOf g;
+      default = g .default;
+      scratch = o .scratch;
+      typing = o .typing;
+      measure = o .measure;
+      choices = o .choices;
+    }
+
+-- with no words lent for scratch and outputs, and with no sorts, nodes and bindings beside
+abbrev pub noRoom : Room
+noRoom = record { scratch = 0; typing = 0; measure = 0; choices = 0 }
+
+abbrev pub noOuts : Outs noRoom
+noOuts = record { scratch = []; typing = []; measure = []; choices = []; scratch-length = refl; typing-length = refl; measure-length = refl; choices-length = refl }
+
+abbrev pub listsOf : Given → (sorts nodes binds exprs names constraints overloads sources : List ℕ) → Call
+listsOf g ws ns bs xs ks cs os ss = callOf g ws ns bs xs ks cs os ss noRoom noOuts
+
+abbrev pub partOf : Given → (exprs names constraints overloads sources : List ℕ) → Call
+partOf g xs ks cs os ss = listsOf g [] [] [] xs ks cs os ss
+
+abbrev pub outputsOf : Given → List ℕ → (room : Room) → Outs room → Call
+outputsOf g cs room o = callOf g [] [] [] [] [] cs [] [] room o
+
+-- the n constraints of words
+abbrev pub constraintsIn : List ℕ → ℕ → List Constraint
+constraintsIn cs n = rowsFrom (constraintAt cs) 0 n

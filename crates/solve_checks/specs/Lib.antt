@@ -1,0 +1,4 @@
+-- What the contracts of this crate cite beside the checks.
+pub mod Calls
+pub mod Marks
+pub mod Tests

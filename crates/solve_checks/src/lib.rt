@@ -1,0 +1,524 @@
+// Checks 1 and 8 to 14 of document 01 over the lists that the solver takes beside sorts, nodes and bindings.
+use inference::Constraint;
+use inference::ExprId;
+use inference::LitKind;
+use node_checks::is_place;
+use problem_rows::constraint_at;
+use resolved_sort::Run;
+use resolved_sort::SortId;
+use sort_interner::word;
+use unification::InferSortId;
+ghost use mathlib.Core.Path.{_≡_};
+ghost use mathlib.Core.Bool.{true};
+ghost use mathlib.Core.List.{[]};
+ghost use Prim.Native.Nat.{_+_, _*_, _<_, _≤_};
+ghost use lib.ListN.{length};
+ghost use Rattle.unification.specs.Nodes.{isPlace};
+ghost use Rattle.inference.specs.declared.Constraint.{Constraint};
+ghost use Rattle.inference.specs.Constraints.{maxExprs, maxConstraints};
+ghost use Rattle.inference.specs.SolveChecks.{rowsWithinLent, targetFine, exprsFine, namesFine, overloadFine, runFine, constraintFine, constraintsFine, disjunctionFor, disjunctions, noTwo, keys, hasSources, joinsFine, componentsOf, components as componentsIn, outputsLong};
+ghost use Rattle.solve_checks.specs.Calls.{Outs, partOf, outputsOf, constraintsIn};
+ghost use Rattle.solve_checks.specs.Marks.{marked, markOf, markBy, allUnder};
+ghost use Rattle.solve_checks.specs.Tests.{nameFine, sourceFine, rowFine};
+
+// How many rows of each list a call gives, as the caller says it, and the default sort.
+pub struct Given {
+    pub sorts: usize,
+    pub entries: usize,
+    pub nodes: usize,
+    pub arguments: usize,
+    pub variables: usize,
+    pub exprs: usize,
+    pub names: usize,
+    pub constraints: usize,
+    pub overloads: usize,
+    pub sources: usize,
+    pub default: u16,
+}
+
+// How many words are lent for scratch and for each output.
+pub struct Room {
+    pub scratch: usize,
+    pub typing: usize,
+    pub measure: usize,
+    pub choices: usize,
+}
+
+// Check 1: expressions, base names, constraints, overloads and sources are within their ceilings and within what was lent.
+// Base names have no ceiling.
+pub fn rows_within_lent(
+    exprs: &[u16],
+    names: &[u16],
+    constraints: &[u16],
+    overloads: &[u16],
+    sources: &[u16],
+    given: Given,
+) -> bool
+    ensures { λ r. ⌜ r ≡ rowsWithinLent (partOf given (now (exprs .entry)) (now (names .entry)) (now (constraints .entry)) (now (overloads .entry)) (now (sources .entry))) ⌝ }
+{
+    if 512 < given.exprs {
+        return false;
+    }
+    if exprs.len() < given.exprs {
+        return false;
+    }
+    if names.len() / 3 < given.names {
+        return false;
+    }
+    if 256 < given.constraints {
+        return false;
+    }
+    if constraints.len() < 5 * given.constraints {
+        return false;
+    }
+    if 1024 < given.overloads {
+        return false;
+    }
+    if overloads.len() < 3 * given.overloads {
+        return false;
+    }
+    if 256 < given.sources {
+        return false;
+    }
+    given.sources <= sources.len()
+}
+
+// Whether a word names a sort or a node.
+fn placed(given: Given, place: u16) -> bool
+    ensures { λ r. ⌜ r ≡ isPlace (given .sorts) (given .nodes) place ⌝ }
+{
+    is_place(given.sorts, given.nodes, place)
+}
+
+// Check 8: each expression has a place.
+pub fn exprs_fine(exprs: &[u16], given: Given) -> bool
+    ensures { λ r. ⌜ r ≡ exprsFine (partOf given (now (exprs .entry)) [] [] [] []) ⌝ }
+{
+    let count = given.exprs;
+    let mut i: usize = 0;
+    while i < count {
+        if !placed(given, word(exprs, i)) {
+            return false;
+        }
+        i += 1;
+    }
+    true
+}
+
+// Whether a name target has a known kind and, where it is an operation, a sort of the list.
+fn target_fine(given: Given, kind: u16, sort: u16) -> bool
+    ensures { λ r. ⌜ r ≡ targetFine (partOf given [] [] [] [] []) kind sort ⌝ }
+{
+    if kind == 0 {
+        return false;
+    }
+    if 3 < kind {
+        return false;
+    }
+    if kind == 2 {
+        return (sort as usize) < given.sorts;
+    }
+    true
+}
+
+// Whether the i-th base name is for an expression and has a fine target.
+fn name_fine(names: &[u16], given: Given, i: usize) -> bool
+    requires { ⌜ 3 * i + 2 < length (now names) ⌝ }
+    ensures { λ r. ⌜ r ≡ nameFine (partOf given [] (now (names .entry)) [] [] []) i ⌝ }
+{
+    let key = word(names, 3 * i);
+    if given.exprs <= (key as usize) {
+        return false;
+    }
+    let kind = word(names, 3 * i + 1);
+    let sort = word(names, 3 * i + 2);
+    target_fine(given, kind, sort)
+}
+
+// Check 8: each base name is fine.
+pub fn names_fine(names: &[u16], given: Given) -> bool
+    requires { ⌜ 3 * given .names ≤ length (now names) ⌝ }
+    ensures { λ r. ⌜ r ≡ namesFine (partOf given [] (now (names .entry)) [] [] []) ⌝ }
+{
+    let count = given.names;
+    let mut i: usize = 0;
+    while i < count {
+        if !name_fine(names, given, i) {
+            return false;
+        }
+        i += 1;
+    }
+    true
+}
+
+// Whether an overload of a run has a fine target and a place.
+fn overload_fine(overloads: &[u16], given: Given, start: u16, j: u16) -> bool
+    ensures { λ r. ⌜ r ≡ overloadFine (partOf given [] [] [] (now (overloads .entry)) []) (start + j) ⌝ }
+{
+    let row = 3 * ((start as usize) + (j as usize));
+    let kind = word(overloads, row);
+    let sort = word(overloads, row + 1);
+    if !target_fine(given, kind, sort) {
+        return false;
+    }
+    placed(given, word(overloads, row + 2))
+}
+
+// Whether a run is inside the overloads, and each of it is fine.
+fn overloads_fine(overloads: &[u16], given: Given, run: Run) -> bool
+    ensures { λ r. ⌜ r ≡ runFine (partOf given [] [] [] (now (overloads .entry)) []) (given .overloads) (overloadFine (partOf given [] [] [] (now (overloads .entry)) [])) run ⌝ }
+{
+    let start = run.start;
+    let count = run.count;
+    if given.overloads < (start as usize) + (count as usize) {
+        return false;
+    }
+    let mut j: u16 = 0;
+    while j < count {
+        if !overload_fine(overloads, given, start, j) {
+            return false;
+        }
+        j += 1;
+    }
+    true
+}
+
+// Whether a run is inside the sources, and each of it is a place.
+fn sources_fine(sources: &[u16], given: Given, run: Run) -> bool
+    ensures { λ r. ⌜ r ≡ runFine (partOf given [] [] [] [] (now (sources .entry))) (given .sources) (sourceFine (partOf given [] [] [] [] (now (sources .entry)))) run ⌝ }
+{
+    let start = run.start;
+    let count = run.count;
+    if given.sources < (start as usize) + (count as usize) {
+        return false;
+    }
+    let mut j: u16 = 0;
+    while j < count {
+        if !placed(given, word(sources, (start as usize) + (j as usize))) {
+            return false;
+        }
+        j += 1;
+    }
+    true
+}
+
+// Whether a constraint is fine, by what it says. Sub: both sides are places.
+fn sub_fine(given: Given, lhs: InferSortId, rhs: InferSortId) -> bool
+    ensures { λ r. ⌜ r ≡ constraintFine (partOf given [] [] [] [] []) 0 (Constraint.Sub lhs rhs) ⌝ }
+{
+    if !placed(given, lhs.0) {
+        return false;
+    }
+    placed(given, rhs.0)
+}
+
+// Lit: a place, and a known kind of literal.
+fn lit_fine(given: Given, b: u16, sort: InferSortId, kind: LitKind) -> bool
+    ensures { λ r. ⌜ r ≡ constraintFine (partOf given [] [] [] [] []) b (Constraint.Lit sort kind) ⌝ }
+{
+    if !placed(given, sort.0) {
+        return false;
+    }
+    b <= 1
+}
+
+// Disjunction: an expression, a place, and a fine run of overloads.
+fn disjunction_fine(
+    overloads: &[u16],
+    given: Given,
+    expr: ExprId,
+    sort: InferSortId,
+    disjuncts: Run,
+) -> bool
+    ensures { λ r. ⌜ r ≡ constraintFine (partOf given [] [] [] (now (overloads .entry)) []) 0 (Constraint.Disjunction expr sort disjuncts) ⌝ }
+{
+    if given.exprs <= (expr.0 as usize) {
+        return false;
+    }
+    if !placed(given, sort.0) {
+        return false;
+    }
+    overloads_fine(overloads, given, disjuncts)
+}
+
+// Comprehension: two places, and a sort of the list.
+fn comprehension_fine(given: Given, body: InferSortId, node: InferSortId, element: SortId) -> bool
+    ensures { λ r. ⌜ r ≡ constraintFine (partOf given [] [] [] [] []) 0 (Constraint.Comprehension body node element) ⌝ }
+{
+    if !placed(given, body.0) {
+        return false;
+    }
+    if !placed(given, node.0) {
+        return false;
+    }
+    (element.0 as usize) < given.sorts
+}
+
+// Join: a place, and a fine run of sources.
+fn join_fine(sources: &[u16], given: Given, run: Run, target: InferSortId) -> bool
+    ensures { λ r. ⌜ r ≡ constraintFine (partOf given [] [] [] [] (now (sources .entry))) 0 (Constraint.Join run target) ⌝ }
+{
+    if !placed(given, target.0) {
+        return false;
+    }
+    sources_fine(sources, given, run)
+}
+
+fn constraint_fine(
+    overloads: &[u16],
+    sources: &[u16],
+    given: Given,
+    b: u16,
+    says: Constraint,
+) -> bool
+    ensures { λ r. ⌜ r ≡ constraintFine (partOf given [] [] [] (now (overloads .entry)) (now (sources .entry))) b says ⌝ }
+{
+    match says {
+        Constraint::Sub { lhs, rhs } => sub_fine(given, lhs, rhs),
+        Constraint::Lit { sort, kind } => lit_fine(given, b, sort, kind),
+        Constraint::Disjunction {
+            expr,
+            sort,
+            disjuncts,
+        } => disjunction_fine(overloads, given, expr, sort, disjuncts),
+        Constraint::Comprehension {
+            body,
+            node,
+            element,
+        } => comprehension_fine(given, body, node, element),
+        Constraint::Join {
+            sources: run,
+            target,
+        } => join_fine(sources, given, run, target),
+    }
+}
+
+// Whether the i-th constraint has a known kind and is fine.
+fn row_fine(constraints: &[u16], overloads: &[u16], sources: &[u16], given: Given, i: u16) -> bool
+    ensures { λ r. ⌜ r ≡ rowFine (partOf given [] [] (now (constraints .entry)) (now (overloads .entry)) (now (sources .entry))) i ⌝ }
+{
+    let row = 5 * (i as usize);
+    let kind = word(constraints, row);
+    if 4 < kind {
+        return false;
+    }
+    let b = word(constraints, row + 2);
+    constraint_fine(overloads, sources, given, b, constraint_at(constraints, i))
+}
+
+// Check 9: each constraint is fine.
+pub fn constraints_fine(
+    constraints: &[u16],
+    overloads: &[u16],
+    sources: &[u16],
+    given: Given,
+) -> bool
+    requires { ⌜ given .constraints ≤ maxConstraints ⌝ }
+    ensures { λ r. ⌜ r ≡ constraintsFine (partOf given [] [] (now (constraints .entry)) (now (overloads .entry)) (now (sources .entry))) ⌝ }
+{
+    let count = given.constraints as u16;
+    let mut i: u16 = 0;
+    while i < count {
+        if !row_fine(constraints, overloads, sources, given, i) {
+            return false;
+        }
+        i += 1;
+    }
+    true
+}
+
+// Marks a number, and whether it was not marked yet. Past the end there is nothing to mark.
+fn mark(seen: &mut [bool], x: u16) -> bool
+    ensures { λ r. ⌜ marked (now (seen .exit)) r ≡ markOf (now (seen .entry)) x ⌝ }
+{
+    let at = x as usize;
+    if seen.len() <= at {
+        return true;
+    }
+    let fresh = !seen[at];
+    seen[at] = true;
+    fresh
+}
+
+// Marks the expression of a disjunction.
+fn mark_by(seen: &mut [bool], says: Constraint) -> bool
+    ensures { λ r. ⌜ marked (now (seen .exit)) r ≡ markBy (now (seen .entry)) says ⌝ }
+{
+    match says {
+        Constraint::Sub { lhs: _, rhs: _ } => true,
+        Constraint::Lit { sort: _, kind: _ } => true,
+        Constraint::Disjunction {
+            expr,
+            sort: _,
+            disjuncts: _,
+        } => mark(seen, expr.0),
+        Constraint::Comprehension {
+            body: _,
+            node: _,
+            element: _,
+        } => true,
+        Constraint::Join {
+            sources: _,
+            target: _,
+        } => true,
+    }
+}
+
+// Check 10: no two disjunctions are for one expression.
+pub fn one_disjunction_each(constraints: &[u16], count: u16) -> bool
+    requires { ⌜ allUnder maxExprs (disjunctions (constraintsIn (now constraints) count)) ≡ true ⌝ }
+    ensures { λ r. ⌜ r ≡ noTwo (disjunctions (constraintsIn (now (constraints .entry)) count)) ⌝ }
+{
+    let mut seen = [false; 512];
+    let mut i: u16 = 0;
+    while i < count {
+        if !mark_by(&mut seen, constraint_at(constraints, i)) {
+            return false;
+        }
+        i += 1;
+    }
+    true
+}
+
+// Check 10: no two base names are for one expression.
+pub fn one_name_each(names: &[u16], given: Given) -> bool
+    requires { ⌜ (3 * given .names ≤ length (now names)) × (allUnder maxExprs (keys (partOf given [] (now names) [] [] [])) ≡ true) ⌝ }
+    ensures { λ r. ⌜ r ≡ noTwo (keys (partOf given [] (now (names .entry)) [] [] [])) ⌝ }
+{
+    let mut seen = [false; 512];
+    let count = given.names;
+    let mut i: usize = 0;
+    while i < count {
+        if !mark(&mut seen, word(names, 3 * i)) {
+            return false;
+        }
+        i += 1;
+    }
+    true
+}
+
+// Whether a constraint is no Join without sources.
+fn has_sources(says: Constraint) -> bool
+    ensures { λ r. ⌜ r ≡ hasSources says ⌝ }
+{
+    match says {
+        Constraint::Sub { lhs: _, rhs: _ } => true,
+        Constraint::Lit { sort: _, kind: _ } => true,
+        Constraint::Disjunction {
+            expr: _,
+            sort: _,
+            disjuncts: _,
+        } => true,
+        Constraint::Comprehension {
+            body: _,
+            node: _,
+            element: _,
+        } => true,
+        Constraint::Join { sources, target: _ } => 0 < sources.count,
+    }
+}
+
+// Check 11: no Join is without sources.
+pub fn joins_fine(constraints: &[u16], count: u16) -> bool
+    ensures { λ r. ⌜ r ≡ joinsFine (constraintsIn (now (constraints .entry)) count) ⌝ }
+{
+    let mut i: u16 = 0;
+    while i < count {
+        if !has_sources(constraint_at(constraints, i)) {
+            return false;
+        }
+        i += 1;
+    }
+    true
+}
+
+// How many measure components a constraint has.
+fn components_of(says: Constraint) -> u16
+    ensures { λ r. ⌜ r ≡ componentsOf says ⌝ }
+{
+    match says {
+        Constraint::Sub { lhs: _, rhs: _ } => 1,
+        Constraint::Lit { sort: _, kind: _ } => 1,
+        Constraint::Disjunction {
+            expr: _,
+            sort: _,
+            disjuncts: _,
+        } => 0,
+        Constraint::Comprehension {
+            body: _,
+            node: _,
+            element: _,
+        } => 0,
+        Constraint::Join { sources, target: _ } => sources.count,
+    }
+}
+
+// How many measure components all have. Runs may overlap, so there can be more than 65,535.
+pub fn components(constraints: &[u16], count: u16) -> usize
+    ensures { λ r. ⌜ r ≡ componentsIn (constraintsIn (now (constraints .entry)) count) ⌝ }
+{
+    let mut sum: usize = 0;
+    let mut i: u16 = 0;
+    while i < count {
+        let more = components_of(constraint_at(constraints, i));
+        sum += more as usize;
+        i += 1;
+    }
+    sum
+}
+
+// How many disjunctions a constraint is: one or none.
+fn disjunctions_of(says: Constraint) -> u16
+    ensures { λ r. ⌜ r ≡ length (disjunctionFor says []) ⌝ }
+{
+    match says {
+        Constraint::Sub { lhs: _, rhs: _ } => 0,
+        Constraint::Lit { sort: _, kind: _ } => 0,
+        Constraint::Disjunction {
+            expr: _,
+            sort: _,
+            disjuncts: _,
+        } => 1,
+        Constraint::Comprehension {
+            body: _,
+            node: _,
+            element: _,
+        } => 0,
+        Constraint::Join {
+            sources: _,
+            target: _,
+        } => 0,
+    }
+}
+
+// How many disjunctions there are.
+pub fn disjunction_count(constraints: &[u16], count: u16) -> usize
+    ensures { λ r. ⌜ r ≡ length (disjunctions (constraintsIn (now (constraints .entry)) count)) ⌝ }
+{
+    let mut sum: usize = 0;
+    let mut i: u16 = 0;
+    while i < count {
+        let more = disjunctions_of(constraint_at(constraints, i));
+        sum += more as usize;
+        i += 1;
+    }
+    sum
+}
+
+// Check 14: scratch and outputs are long enough, with a row for each expression, each component and each disjunction.
+pub fn outputs_long(constraints: &[u16], given: Given, room: Room) -> bool
+    requires { ⌜ (given .exprs ≤ maxExprs) × (given .constraints ≤ maxConstraints) ⌝ }
+    ensures { λ r. ⌜ ((o : Outs room) → r ≡ outputsLong (outputsOf given (now (constraints .entry)) room o)) ⌝ }
+{
+    if room.scratch < 4096 {
+        return false;
+    }
+    if room.typing < 3 * given.exprs {
+        return false;
+    }
+    let count = given.constraints as u16;
+    if room.measure < components(constraints, count) {
+        return false;
+    }
+    disjunction_count(constraints, count) <= room.choices / 2
+}

@@ -1,0 +1,3 @@
+-- The tests of a call as its checks meet them.
+pub mod Ceilings
+pub mod Laws
