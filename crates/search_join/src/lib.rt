@@ -85,11 +85,11 @@ fn resolve_sources(
     nodes: &[u16],
     binds: &[u16],
     lists: &[u16],
-    ids: &mut [u16; 256],
+    ids: &mut [u16],
     lengths: Lengths,
     sources: Run,
 ) -> Extracted
-    requires { ⌜ Sources (now sorts) (now nodes) (now binds) (now lists) lengths sources ⌝ }
+    requires { ⌜ Sources (now sorts) (now nodes) (now binds) (now lists) (now ids) lengths sources ⌝ }
     ensures { λ r. ⌜ extractedOf (now (sorts .exit)) (now (nodes .entry)) (now (ids .exit)) 0 (sources .count) r ≡ resolveAll Default.Nothing (bindsOf (now (binds .entry)) (lengths .variables)) (rowsFrom (sourceAt (now (lists .entry))) (sources .start) (sources .count)) (lent (now (sorts .entry)) (now (nodes .entry)) lengths) ⌝ }
 {
     let start = sources.start;
@@ -100,7 +100,7 @@ fn resolve_sources(
         let next = source(lists, start + i);
         match sort_of(sorts, nodes, binds, here, next) {
             Made::At(sort, then) => {
-                ids[i as usize] = sort.0;
+                put(ids, i as usize, sort.0);
                 here = then;
             }
             Made::Nothing(then) => {
@@ -116,15 +116,15 @@ fn resolve_sources(
 }
 
 // The join of all sorts, from left to right.
-fn join_all(sorts: &mut [u16], lengths: Lengths, ids: &[u16; 256], count: u16) -> Made
+fn join_all(sorts: &mut [u16], lengths: Lengths, ids: &[u16], count: u16) -> Made
     requires { ⌜ Resolved (now sorts) lengths (now ids) count × (0 < count) ⌝ }
     ensures { λ r. ⌜ ((ns : List ℕ) → madeOf (now (sorts .exit)) ns r ≡ joinAll (getD (now (ids .entry)) 0 0) (drop 1 (take count (now (ids .entry)))) (lent (now (sorts .entry)) ns lengths)) ⌝ }
 {
-    let mut lub = SortId(ids[0]);
+    let mut lub = SortId(word(ids, 0));
     let mut here = lengths;
     let mut i: u16 = 1;
     while i < count {
-        match join_of(sorts, here, lub, SortId(ids[i as usize])) {
+        match join_of(sorts, here, lub, SortId(word(ids, i as usize))) {
             Made::At(sort, then) => {
                 lub = sort;
                 here = then;
@@ -142,20 +142,14 @@ fn join_all(sorts: &mut [u16], lengths: Lengths, ids: &[u16; 256], count: u16) -
 }
 
 // Whether each of the sorts is equal to or materializable into their join.
-fn all_materializable(
-    sorts: &[u16],
-    lengths: Lengths,
-    ids: &[u16; 256],
-    count: u16,
-    lub: SortId,
-) -> bool
+fn all_materializable(sorts: &[u16], lengths: Lengths, ids: &[u16], count: u16, lub: SortId) -> bool
     requires { ⌜ Resolved (now sorts) lengths (now ids) count × (lub .0 < lengths .sorts) ⌝ }
     ensures { λ r. ⌜ ((ns : List ℕ) → r ≡ allInto (lent (now (sorts .entry)) ns lengths) (lub .0) (take count (now (ids .entry)))) ⌝ }
 {
     let counts = counts_of(lengths);
     let mut i: u16 = 0;
     while i < count {
-        if !is_materializable(sorts, counts, SortId(ids[i as usize]), lub) {
+        if !is_materializable(sorts, counts, SortId(word(ids, i as usize)), lub) {
             return false;
         }
         i += 1;
@@ -179,7 +173,7 @@ fn put_heads(
     sorts: &[u16],
     scratch: &mut [u16],
     lengths: Lengths,
-    ids: &[u16; 256],
+    ids: &[u16],
     count: u16,
     lub: SortId,
     measure: u16,
@@ -191,7 +185,7 @@ fn put_heads(
     let from = 1024 + (measure as usize);
     let mut i: u16 = 0;
     while i < count {
-        let head = head_distance(sorts, counts, SortId(ids[i as usize]), lub);
+        let head = head_distance(sorts, counts, SortId(word(ids, i as usize)), lub);
         put(scratch, from + (i as usize), head);
         i += 1;
     }
@@ -202,7 +196,7 @@ fn agreement(
     sorts: &mut [u16],
     scratch: &mut [u16],
     lengths: Lengths,
-    ids: &[u16; 256],
+    ids: &[u16],
     count: u16,
     at: Branch,
 ) -> Made
