@@ -14,7 +14,7 @@ use Rattle.resolved_sort.proofs.RowTrees.{weaken-all}
 use Rattle.unification.specs.declared.Lengths.{Lengths}
 use Rattle.unification.specs.declared.Default.the-variants.{Nothing}
 use Rattle.unification.specs.Nodes.{Binds, bindsOf}
-use Rattle.unification.specs.Making.{Lent, Makes, made, no-list, no-room, _and-then_}
+use Rattle.unification.specs.Making.{Lent, Makes, made, no-list, _and-then_}
 use Rattle.unification.proofs.StandsAlike.{length-each}
 use Rattle.inference.specs.Constraints.{maxSources, maxComponents, rowsFrom}
 use Rattle.inference.specs.Search.{Agreed, resolveAll, joinAll, allInto, agreedBy, agreed, joinOf}
@@ -26,9 +26,9 @@ use Rattle.search_state.specs.declared.Made.the-variants.{At as Is, Nothing as 
 use Rattle.search_state.specs.declared.Extracted.{Extracted}
 use Rattle.search_state.specs.declared.Extracted.the-variants.{All, Nothing as Without, Full as NotAll}
 use Rattle.search_state.specs.Memory.{part, sourceAt, measureAt, scratchUsed, lent}
-use Rattle.search_state.specs.Leaves.{ChangedOnly, madeOf, agreementOf, Agrees, extractedOf}
+use Rattle.search_state.specs.Leaves.{ChangedOnly, madeOf, Agrees, extractedOf}
 use Rattle.search_state.specs.Searching.{Agreeing}
-use Rattle.search_join.specs.Sources.{Sources, Resolved}
+use Rattle.search_join.specs.Sources.{Resolved}
 use Rattle.search_join.proofs.Lists.{length-first, firsts-left, first-below}
 use Rattle.search_join.proofs.Joining.{LeavesSort, joins-leave}
 use Rattle.search_join.proofs.Heads.{headTo, headsTo}
@@ -62,23 +62,23 @@ module _ (ws : List ℕ) (k : Lengths) (ids : List ℕ) (m : ℕ) (sc : List ℕ
   unfolding agreed
   nothing-agrees z ns = record { says = ap (λ (n : ℕ). agreed (take n ids) (lent ws ns k)) (sym z); changed = unchanged sc (measureAt + e .measure) (measureAt + e .measure + m) }
 
-  module _ (some-left : 0 < m) where
-    pub to-join : Resolved ws k ids m × (0 < m)
-    to-join = (asked .0, some-left)
+  module _ (not-none : m ≡ 0 → ⊥) where
+    some-left : 0 < m
+    some-left = omega (arith, not-none)
 
-    abbrev by-join : Lent → Makes ℕ → Makes Agreed
-    by-join W O = O and-then (λ j U. agreedBy U (take m ids) j)
+    abbrev by-join : Makes ℕ → Makes Agreed
+    by-join O = O and-then (λ j U. agreedBy U (take m ids) j)
 
-    agreed-first : (W : Lent) → by-join W (joinAll (getD ids 0 0) (drop 1 (take m ids)) W) ≡ agreed (take m ids) W
+    agreed-first : (W : Lent) → by-join (joinAll (getD ids 0 0) (drop 1 (take m ids)) W) ≡ agreed (take m ids) W
     unfolding agreed
     agreed-first W =
         ap (λ ss. joinAll (getD ids 0 0) (drop 1 (take m ids)) W and-then (λ j U. agreedBy U ss j)) (firsts-left ids m long 0 some-left)
         ∙ ap (λ ss. agreed ss W) (sym (firsts-left ids m long 0 some-left))
 
     module _ (vs : List ℕ) (r : Made) (er : (ns : List ℕ) → madeOf vs ns r ≡ joinAll (getD ids 0 0) (drop 1 (take m ids)) (lent ws ns k)) where
-      by : (x : Made) → r ≡ x → (ns : List ℕ) → by-join (lent ws ns k) (madeOf vs ns x) ≡ agreed (take m ids) (lent ws ns k)
+      by : (x : Made) → r ≡ x → (ns : List ℕ) → by-join (madeOf vs ns x) ≡ agreed (take m ids) (lent ws ns k)
       by x z ns =
-          ap (λ y. by-join (lent ws ns k) (madeOf vs ns y)) (sym z) ∙ (ap (by-join (lent ws ns k)) (er ns) ∙ agreed-first (lent ws ns k))
+          ap (λ y. by-join (madeOf vs ns y)) (sym z) ∙ (ap by-join (er ns) ∙ agreed-first (lent ws ns k))
 
       pub join-stops : (l : Lengths) → r ≡ NoSort l → (ns : List ℕ) → Agrees ns sc e m (agreed (take m ids) (lent ws ns k)) vs sc (NoSort l)
       join-stops l z ns = record { says = by (NoSort l) z ns; changed = unchanged sc (measureAt + e .measure) (measureAt + e .measure + m) }
@@ -133,9 +133,6 @@ module _ (ws ns bs sc ls : List ℕ) (k : Lengths) (e : Branch) (run : Run) (ask
 
   abbrev ps : List ℕ
   ps = rowsFrom (sourceAt ls) (run .start) (run .count)
-
-  pub sources-asked : (ids : List ℕ) → length ids ≡ maxSources → Sources ws ns bs ls ids k run
-  sources-asked ids l = record { ready = asked .ready; placed = asked .placed; inside = asked .inside; room = omega (arith, asked .inside, l) }
 
   module _ (vs ids : List ℕ) (r : Extracted) (er : extractedOf vs ns ids 0 (run .count) r ≡ resolveAll Nothing B ps W) where
     by-sources : (x : Extracted) → r ≡ x → extractedOf vs ns ids 0 (run .count) x and-then agreed ≡ joinOf B ps W

@@ -1,7 +1,7 @@
 -- The test that all sorts are materializable into their join, and the heads that are stored, one sort after another. Assumes nothing.
-use mathlib.Core.Path.{_≡_, refl, sym, _∙_, ap, subst}
+use mathlib.Core.Path.{_≡_, refl, sym, _∙_, ap}
 use mathlib.Core.Bool.{Bool, true, false, _&&_, and-eq-true-iff}
-use mathlib.Core.List.{List, [], _∷_, _++_}
+use mathlib.Core.List.{List, [], _∷_}
 use Prim.Native.Nat.{ℕ, zero, suc, _+_, _<_, _≤_}
 use native.Mathlib.Omega.{arith}
 use native.Mathlib.Nat.{add-zero}
@@ -11,11 +11,11 @@ use borrow.Author.Count.{below-more}
 use Rattle.resolved_sort.specs.declared.Counts.{Counts}
 use Rattle.resolved_sort.specs.Order.{distance, materializable}
 use Rattle.resolved_sort.specs.Entries.{treeAt}
-use Rattle.resolved_sort.specs.Rows.{Checked, AllBelow}
+use Rattle.resolved_sort.specs.Rows.{Checked}
 use Rattle.unification.specs.declared.Lengths.{Lengths}
 use Rattle.unification.specs.Related.{each}
 use Rattle.unification.specs.Making.{Lent}
-use Rattle.inference.specs.Search.{sortIn, headOf, allInto}
+use Rattle.inference.specs.Search.{headOf, allInto}
 use Rattle.search_state.specs.Memory.{lent}
 use Rattle.search_join.specs.Sources.{Resolved}
 use Rattle.search_join.proofs.Lists.{length-first, first-at, firsts-left, first-below}
