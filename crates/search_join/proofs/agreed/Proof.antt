@@ -1,0 +1,66 @@
+-- Each return by a law of Agreeing. Assumes nothing.
+use borrow.Author.Needs.{needs}
+use Rattle.search_join.proofs.Agreeing as law
+use Rattle.search_join.proofs.agreed.Statement.{statement}
+use Rattle.search_join.proofs.agreed.Tie as tie
+
+slice-aggregate-resolve-sources : tie.Need-slice-aggregate-resolve-sources
+slice-aggregate-resolve-sources c = search needs
+
+resolve-sources-requires : tie.Need-resolve-sources-requires
+resolve-sources-requires c κs = search needs
+
+enum-known-here : tie.Need-enum-known-here
+enum-known-here c = search needs
+
+slice-aggregate-agreement : tie.Need-slice-aggregate-agreement
+slice-aggregate-agreement c = search needs
+
+agreement-requires : tie.Need-agreement-requires
+agreement-requires c κs = law.resolved _ _ _ _ _ _ _ _ (c .before .before .before .before .before .before .before .before .before .before .before .before .before .before .before .before .before .pre) _ _ (c .before .before .before .before .before .before .before .before .before .resolve-sources .result) (c .before .before .before .before .before .before .before .before .before .resolve-sources .ensures) (c .before .before .before .before .before .before .before .before .before .resolve-sources .kept .1 .1 .1 .1 .0) _ (c .before .before .before .before .here .given .1)
+
+enum-known-here-2 : tie.Need-enum-known-here-2
+enum-known-here-2 c = search needs
+
+enum-known-here-3 : tie.Need-enum-known-here-3
+enum-known-here-3 c = search needs
+
+same-length : tie.Need-same-length
+same-length c = search needs
+
+same-length-2 : tie.Need-same-length-2
+same-length-2 c = search needs
+
+returns : tie.Need-returns
+returns c = law.sources-agree _ _ _ _ _ _ _ _ (c .before .before .before .before .before .before .before .before .before .before .before .before .before .before .before .before .before .before .before .before .before .before .pre) _ _ (c .before .before .before .before .before .before .before .before .before .before .before .before .before .before .resolve-sources .result) (c .before .before .before .before .before .before .before .before .before .before .before .before .before .before .resolve-sources .ensures) (c .before .before .before .before .before .before .before .before .before .before .before .before .before .before .resolve-sources .kept .1 .1 .1 .1 .0) _ (c .before .before .before .before .before .before .before .before .before .here .given .1) _ _ _ (c .before .before .before .before .agreement .ensures)
+
+same-length-3 : tie.Need-same-length-3
+same-length-3 c = search needs
+
+returns-2 : tie.Need-returns-2
+returns-2 c = law.sources-stop _ _ _ _ _ _ _ _ (c .before .before .before .before .before .before .before .before .before .before .before .before .before .before .pre) _ _ (c .before .before .before .before .before .before .resolve-sources .result) (c .before .before .before .before .before .before .resolve-sources .ensures) _ (c .before .here2 .given .1)
+
+same-length-4 : tie.Need-same-length-4
+same-length-4 c = search needs
+
+returns-3 : tie.Need-returns-3
+returns-3 c = law.sources-end _ _ _ _ _ _ _ _ (c .before .before .before .before .before .before .before .before .before .before .before .before .before .before .pre) _ _ (c .before .before .before .before .before .before .resolve-sources .result) (c .before .before .before .before .before .before .resolve-sources .ensures) _ (c .before .here3 .given .1)
+
+pub agreed-spec : {M : Type 1} → statement M
+agreed-spec =
+    tie.close
+    (tie.spec
+    slice-aggregate-resolve-sources
+    resolve-sources-requires
+    enum-known-here
+    slice-aggregate-agreement
+    agreement-requires
+    enum-known-here-2
+    enum-known-here-3
+    same-length
+    same-length-2
+    returns
+    same-length-3
+    returns-2
+    same-length-4
+    returns-3)
