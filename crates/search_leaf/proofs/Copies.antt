@@ -1,8 +1,8 @@
 -- Copying words, as the loop meets it, and what a copy leaves: the words are at both places, and only those that it wrote have changed. So the measure and
 -- the choices of the branch are the incumbent's, whose sorts and the branch stay. Assumes nothing.
-use mathlib.Core.Path.{_≡_, refl, sym, ap, _∙_}
-use mathlib.Core.List.{List, [], _∷_, _++_, append-assoc}
-use Prim.Native.Nat.{ℕ, suc, _+_, _-_, _<_, _≤_}
+use mathlib.Core.Path.{_≡_, sym, ap, _∙_}
+use mathlib.Core.List.{List, _++_, append-assoc}
+use Prim.Native.Nat.{ℕ, _+_, _<_, _≤_}
 use native.Mathlib.Numerals.{add-one}
 use native.Mathlib.Omega.{arith}
 use lib.ListN.{length, getD, set, take, drop, length-drop, List·getD-append}
@@ -78,6 +78,10 @@ module _ (a b n : ℕ) (sc₀ sc : List ℕ) (i : ℕ) (G : Copying a b n sc₀ 
   all-copied h = let e : i ≡ n = omega (arith, h, G .within) in G .same ∙ ap (λ (j : ℕ). copied a b j sc₀) e
 
 -- What is kept.
+pub kept-by-two : (z : Sizes) (sc one two : List ℕ) → one ≡ copied measureAt bestMeasureAt (z .components) sc → two ≡ copied choicesAt bestChoicesAt (z .disjunctions) one → two ≡ kept z sc
+unfolding kept
+kept-by-two z sc one two f g = g ∙ ap (copied choicesAt bestChoicesAt (z .disjunctions)) f
+
 module _ (z : Sizes) (sc : List ℕ) (p : Keepable z sc) where
   abbrev one : List ℕ
   one = copied measureAt bestMeasureAt (z .components) sc

@@ -2,3 +2,4 @@
 pub mod Ranks
 pub mod Copies
 pub mod Readings
+pub mod Laws

@@ -1,14 +1,14 @@
 -- Components against the incumbent's, as the code meets them. What is left to compare ranks as the whole does, since what was passed is equal; so a
 -- dominated prefix is one that ranks greater than as many components of the incumbent. Assumes nothing.
-use mathlib.Core.Path.{_≡_, refl, sym, ap, ap₂, subst, _∙_}
+use mathlib.Core.Path.{_≡_, sym, ap, ap₂, _∙_}
 use mathlib.Core.Bool.{Bool, true, false}
-use mathlib.Core.List.{List, [], _∷_}
+use mathlib.Core.List.{List, _∷_}
 use Prim.Native.Nat.{ℕ, suc, _+_, _-_, _<_, _≤_}
-use native.Mathlib.Numerals.{add-one, unary-clauses}
+use native.Mathlib.Numerals.{unary-clauses}
 use native.Mathlib.Omega.{arith}
 use lib.ListN.{length, getD, take}
 use Rattle.inference.specs.Constraints.{maxComponents}
-use Rattle.inference.specs.Measure.{Components, Ranking, smaller, equal, greater, compare, isGreater, worse}
+use Rattle.inference.specs.Measure.{Components, Ranking, compare, isGreater, worse}
 use Rattle.inference.specs.Search.{dominatedBy}
 use Rattle.inference.specs.SolveEntry.{nothingMet}
 use Rattle.inference.proofs.Measures.{compare-below, compare-above, compare-level}
@@ -82,9 +82,9 @@ rank-without best sc n e = rw e
 
 -- Dominated is greater than as many components of the incumbent.
 pub dominated-is-greater : (sc : List ℕ) (z : Sizes) (k : State) (e : Branch) → Comparable sc z e → (r : Ordering) → rankingOf r ≡ rankedBy (k .best) sc (e .measure)
-    → IsDominated sc z k e (isGreater (rankingOf r))
+    → (o : Ordering) → r ≡ o → IsDominated sc z k e (isGreater (rankingOf o))
 unfolding IsDominated rankedBy bestOf candidateOf worse
-dominated-is-greater sc z k e p r q ls = go (k .best) q
+dominated-is-greater sc z k e p r q o f ls = ap (λ (x : Ordering). isGreater (rankingOf x)) (sym f) ∙ go (k .best) q
   where
     same : take (length (part measureAt (e .measure) sc)) (part bestMeasureAt (z .components) sc) ≡ part bestMeasureAt (e .measure) sc
     same =

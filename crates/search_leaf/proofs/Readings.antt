@@ -26,10 +26,9 @@ use Rattle.inference.specs.Constraints.{rowsFrom}
 use Rattle.inference.specs.Search.{makesSort, resolveIn, resolveAll}
 use Rattle.inference.proofs.Members.{each-row-at}
 use Rattle.inference.proofs.Invariant.{SortsOnly, sorts-only-refl, sorts-only-trans}
-use Rattle.inference.proofs.MakingSorts.{MadeSorts, NoDefault, resolve-makes}
-use Rattle.search_state.specs.declared.Extracted.{Extracted}
+use Rattle.inference.proofs.MakingSorts.{MadeSorts, resolve-makes}
 use Rattle.search_state.specs.declared.Extracted.the-variants.{All, Nothing as Without, Full as NotAll}
-use Rattle.search_state.specs.Memory.{part, exprAt, lent, bestSortsAt, scratchUsed}
+use Rattle.search_state.specs.Memory.{part, exprAt, lent, bestSortsAt}
 use Rattle.search_state.specs.Leaves.{ChangedOnly, Extracts}
 use Rattle.search_state.proofs.Parts.{part-set-end, changed-none, changed-then, changed-by-set}
 use Rattle.search_leaf.specs.Leaf.{Readable, sortsFrom}
@@ -105,12 +104,15 @@ module _ (ns bs ls : List ℕ) (d : SortId) (n : ℕ) (ws₀ sc₀ : List ℕ) (
       abbrev rest : Lent → Makes (List ℕ)
       rest W = resolveAll (Is d) B (rowsFrom (exprAt ls) (i + 1) (n - (i + 1))) W
 
-      -- from here on
-      on : (makesSort W (storedAt vs w) w and-then (λ s W. rest W and-then (λ ss W. made (s ∷ ss) W))) and-then (λ ss W. made (part bestSortsAt i sc ++ ss) W) ≡ whole
+      -- the first of those left, then the rest
+      abbrev afterFirst : Makes ℕ → Makes (List ℕ)
+      afterFirst O = (O and-then (λ s W. rest W and-then (λ ss W. made (s ∷ ss) W))) and-then (λ ss W. made (part bestSortsAt i sc ++ ss) W)
+
+      on : afterFirst (makesSort W (storedAt vs w) w) ≡ whole
       unfolding resolveAll rowsFrom
       on =
           let e : n - i ≡ suc (n - (i + 1)) = omega (arith, h) in
-          ap (λ O. (O and-then (λ s W. rest W and-then (λ ss W. made (s ∷ ss) W))) and-then (λ ss W. made (part bestSortsAt i sc ++ ss) W))
+          ap afterFirst
           (sym (ap (λ (q : ℕ). resolveIn (Is d) B q W) (sym ep) ∙ resolved-in ws ns bs k (Is d) p vs w ew))
           ∙ (ap (λ (m : ℕ). sortsFrom bs ls d i m W and-then (λ ss W. made (part bestSortsAt i sc ++ ss) W)) (sym e) ∙ G .same)
 
@@ -122,14 +124,14 @@ module _ (ns bs ls : List ℕ) (d : SortId) (n : ℕ) (ws₀ sc₀ : List ℕ) (
       pub stops : (K : Counts) → w ≡ NotThere K → (k′ : Lengths) → k′ ≡ withCounts k K → Extracts ns sc₀ bestSortsAt n whole vs sc (Without k′)
       stops K z k′ ek =
           record {
-            says = ap (λ (j : Lengths). no-list (lent vs ns j)) ek ∙ subst (λ (v : Joined). (makesSort W (storedAt vs v) v and-then (λ s W. rest W and-then (λ ss W. made (s ∷ ss) W))) and-then (λ ss W. made (part bestSortsAt i sc ++ ss) W) ≡ whole) z on;
+            says = ap (λ (j : Lengths). no-list (lent vs ns j)) ek ∙ subst (λ (v : Joined). afterFirst (makesSort W (storedAt vs v) v) ≡ whole) z on;
             changed = G .changed;
           }
 
       pub ends : w ≡ Full → Extracts ns sc₀ bestSortsAt n whole vs sc (NotAll k)
       ends z =
           record {
-            says = subst (λ (v : Joined). (makesSort W (storedAt vs v) v and-then (λ s W. rest W and-then (λ ss W. made (s ∷ ss) W))) and-then (λ ss W. made (part bestSortsAt i sc ++ ss) W) ≡ whole) z on;
+            says = subst (λ (v : Joined). afterFirst (makesSort W (storedAt vs v) v) ≡ whole) z on;
             changed = G .changed;
           }
 
@@ -153,7 +155,7 @@ module _ (ns bs ls : List ℕ) (d : SortId) (n : ℕ) (ws₀ sc₀ : List ℕ) (
                     changed-then bestSortsAt (bestSortsAt + n) sc₀ sc (set sc (bestSortsAt + i) (c .0)) (G .changed) (changed-by-set bestSortsAt (bestSortsAt + n) sc (bestSortsAt + i) (c .0) (omega arith) (omega (arith, h)));
                 same =
                     one-before (part bestSortsAt i sc) (part bestSortsAt (i + 1) (set sc (bestSortsAt + i) (c .0))) (c .0) last (rest (lent vs ns (withCounts k K)))
-                    ∙ subst (λ (v : Joined). (makesSort W (storedAt vs v) v and-then (λ s W. rest W and-then (λ ss W. made (s ∷ ss) W))) and-then (λ ss W. made (part bestSortsAt i sc ++ ss) W) ≡ whole) z on;
+                    ∙ subst (λ (v : Joined). afterFirst (makesSort W (storedAt vs v) v) ≡ whole) z on;
               }
 
   pub all-read : n ≤ i → Extracts ns sc₀ bestSortsAt n whole ws sc (All k)

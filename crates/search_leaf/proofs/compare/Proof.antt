@@ -1,6 +1,5 @@
 -- The loop by the laws of components. Assumes nothing.
 use Prim.Native.Nat.{_-_}
-use native.Mathlib.Omega.{arith}
 use borrow.Author.Needs.{needs}
 use Rattle.search_leaf.proofs.Ranks as law
 use Rattle.search_leaf.proofs.compare.Statement.{statement}
