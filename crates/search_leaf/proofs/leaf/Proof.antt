@@ -5,7 +5,7 @@ use Rattle.search_leaf.proofs.leaf.Statement.{statement}
 use Rattle.search_leaf.proofs.leaf.Tie as tie
 
 rank-requires : tie.Need-rank-requires
-rank-requires c κs = law.rank-asked (c .before .before .before .before .before .before .before .args .sorts .now) (c .before .before .before .before .before .before .before .args .nodes .now) (c .before .before .before .before .before .before .before .args .binds .now) (c .before .before .before .before .before .before .before .args .scratch .now) (c .before .before .before .before .before .before .before .args .lists .now) (c .before .before .before .before .before .before .before .args .sizes) (c .before .before .before .before .before .before .before .args .st) (c .before .before .before .before .before .before .before .args .at) (c .before .before .before .before .before .before .before .pre)
+rank-requires c κs = let s = (c .before .before .before .before .before .before .before) in law.rank-asked (s .args .sorts .now) (s .args .nodes .now) (s .args .binds .now) (s .args .scratch .now) (s .args .lists .now) (s .args .sizes) (s .args .st) (s .args .at) (s .pre)
 
 enum-told : tie.Need-enum-told
 enum-told c = search needs
@@ -26,19 +26,19 @@ same-length-2 : tie.Need-same-length-2
 same-length-2 c = search needs
 
 returns : tie.Need-returns
-returns c = law.less-replaces (c .before .before .before .before .before .before .before .before .before .before .before .before .before .before .before .before .before .args .sorts .now) (c .before .before .before .before .before .before .before .before .before .before .before .before .before .before .before .before .before .args .nodes .now) (c .before .before .before .before .before .before .before .before .before .before .before .before .before .before .before .before .before .args .binds .now) (c .before .before .before .before .before .before .before .before .before .before .before .before .before .before .before .before .before .args .scratch .now) (c .before .before .before .before .before .before .before .before .before .before .before .before .before .before .before .before .before .args .lists .now) (c .before .before .before .before .before .before .before .before .before .before .before .before .before .before .before .before .before .args .sizes) (c .before .before .before .before .before .before .before .before .before .before .before .before .before .before .before .before .before .args .st) (c .before .before .before .before .before .before .before .before .before .before .before .before .before .before .before .before .before .args .at) (c .before .before .before .before .before .before .before .before .before .before .before .before .before .before .before .before .before .pre) (c .before .before .before .before .before .before .before .before .before .rank .result) (c .before .before .before .before .before .before .before .before .before .rank .ensures) (c .before .before .before .before .before .before .before .enum-told .given .1) _ _ _ (c .before .before .before .before .replace .ensures)
+returns c = let s = (c .before .before .before .before .before .before .before .before .before .before .before .before .before .before .before .before .before) in law.less-replaces (s .args .sorts .now) (s .args .nodes .now) (s .args .binds .now) (s .args .scratch .now) (s .args .lists .now) (s .args .sizes) (s .args .st) (s .args .at) (s .pre) (c .before .before .before .before .before .before .before .before .before .rank .result) (c .before .before .before .before .before .before .before .before .before .rank .ensures) (c .before .before .before .before .before .before .before .enum-told .given .1) _ _ _ (c .before .before .before .before .replace .ensures)
 
 same-length-3 : tie.Need-same-length-3
 same-length-3 c = search needs
 
 returns-2 : tie.Need-returns-2
-returns-2 c = law.equal-marks (c .before .before .before .before .before .before .before .before .before .before .args .sorts .now) (c .before .before .before .before .before .before .before .before .before .before .args .nodes .now) (c .before .before .before .before .before .before .before .before .before .before .args .binds .now) (c .before .before .before .before .before .before .before .before .before .before .args .scratch .now) (c .before .before .before .before .before .before .before .before .before .before .args .lists .now) (c .before .before .before .before .before .before .before .before .before .before .args .sizes) (c .before .before .before .before .before .before .before .before .before .before .args .st) (c .before .before .before .before .before .before .before .before .before .before .args .at) (c .before .before .before .before .before .before .before .before .before .before .pre) (c .before .before .rank .result) (c .before .before .rank .ensures) (c .enum-told2 .given .1)
+returns-2 c = let s = (c .before .before .before .before .before .before .before .before .before .before) in law.equal-marks (s .args .sorts .now) (s .args .nodes .now) (s .args .binds .now) (s .args .scratch .now) (s .args .lists .now) (s .args .sizes) (s .args .st) (s .args .at) (s .pre) (c .before .before .rank .result) (c .before .before .rank .ensures) (c .enum-told2 .given .1)
 
 same-length-4 : tie.Need-same-length-4
 same-length-4 c = search needs
 
 returns-3 : tie.Need-returns-3
-returns-3 c = law.greater-stays (c .before .before .before .before .before .before .before .before .before .before .args .sorts .now) (c .before .before .before .before .before .before .before .before .before .before .args .nodes .now) (c .before .before .before .before .before .before .before .before .before .before .args .binds .now) (c .before .before .before .before .before .before .before .before .before .before .args .scratch .now) (c .before .before .before .before .before .before .before .before .before .before .args .lists .now) (c .before .before .before .before .before .before .before .before .before .before .args .sizes) (c .before .before .before .before .before .before .before .before .before .before .args .st) (c .before .before .before .before .before .before .before .before .before .before .args .at) (c .before .before .before .before .before .before .before .before .before .before .pre) (c .before .before .rank .result) (c .before .before .rank .ensures) (c .enum-told3 .given .1)
+returns-3 c = let s = (c .before .before .before .before .before .before .before .before .before .before) in law.greater-stays (s .args .sorts .now) (s .args .nodes .now) (s .args .binds .now) (s .args .scratch .now) (s .args .lists .now) (s .args .sizes) (s .args .st) (s .args .at) (s .pre) (c .before .before .rank .result) (c .before .before .rank .ensures) (c .enum-told3 .given .1)
 
 pub leaf-spec : {M : Type 1} → statement M
 leaf-spec =
