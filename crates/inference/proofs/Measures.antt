@@ -26,15 +26,15 @@ tri x y = go (ltb x y) refl (ltb y x) refl
     go false a false d = level (omega (arith, ltb-false x y a, ltb-false y x d))
 
 module _ (x y : ℕ) (xs ys : Components) where
-  compare-below : x < y → compare (x ∷ xs) (y ∷ ys) ≡ smaller
+  pub compare-below : x < y → compare (x ∷ xs) (y ∷ ys) ≡ smaller
   unfolding compare
   compare-below l = rw (lt-ltb x y l)
 
-  compare-above : y < x → compare (x ∷ xs) (y ∷ ys) ≡ greater
+  pub compare-above : y < x → compare (x ∷ xs) (y ∷ ys) ≡ greater
   unfolding compare
   compare-above l = rw (le-ltb x y (omega (arith, l)), lt-ltb y x l)
 
-  compare-level : x ≡ y → compare (x ∷ xs) (y ∷ ys) ≡ compare xs ys
+  pub compare-level : x ≡ y → compare (x ∷ xs) (y ∷ ys) ≡ compare xs ys
   unfolding compare
   compare-level e = rw (le-ltb x y (omega (arith, e)), le-ltb y x (omega (arith, e)))
 

@@ -55,6 +55,12 @@ module _ {A : Type 0} where
       and-all (row i) (rowsFrom row (i + 1) n) (subst (λ (j : ℕ). R (row j)) (add-zero i) (h 0 (omega arith)))
       (all-rows R row (i + 1) n (λ j l. subst (λ (x : ℕ). R (row x)) (omega arith) (h (suc j) (omega (arith, l)))))
 
+  pub each-row : (R : A → Type 0) (row : ℕ → A) (i n : ℕ) → All R (rowsFrom row i n) → (j : ℕ) → j < n → R (row (i + j))
+  unfolding rowsFrom
+  each-row R row i zero a j l = absurd (omega (arith, l))
+  each-row R row i (suc n) (and-all _ _ p a) zero l = subst (λ (x : ℕ). R (row x)) (sym (add-zero i)) p
+  each-row R row i (suc n) (and-all _ _ p a) (suc j) l = subst (λ (x : ℕ). R (row x)) (omega arith) (each-row R row (i + 1) n a j (omega (arith, l)))
+
   take-rows : (row : ℕ → A) (i n c : ℕ) → c ≤ n → take c (rowsFrom row i n) ≡ rowsFrom row i c
   unfolding rowsFrom
   take-rows row i n zero l = refl
@@ -74,6 +80,9 @@ module _ {A : Type 0} where
 
   pub all-rows-at : (R : A → Type 0) (row : ℕ → A) (n : ℕ) → ((j : ℕ) → j < n → R (row j)) → All R (rowsFrom row 0 n)
   all-rows-at R row n h = all-rows R row 0 n (λ j l. subst (λ (x : ℕ). R (row x)) (omega arith) (h j l))
+
+  pub each-row-at : (R : A → Type 0) (row : ℕ → A) (n : ℕ) → All R (rowsFrom row 0 n) → (j : ℕ) → j < n → R (row j)
+  each-row-at R row n a j l = subst (λ (x : ℕ). R (row x)) (omega arith) (each-row R row 0 n a j l)
 
   pub run-at : (row : ℕ → A) (n s c : ℕ) → s + c ≤ n → take c (drop s (rowsFrom row 0 n)) ≡ rowsFrom row s c
   run-at row n s c l = run-rows row s 0 n c l ∙ ap (λ (j : ℕ). rowsFrom row j c) (omega arith)

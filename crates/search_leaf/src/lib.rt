@@ -1,0 +1,187 @@
+// The leaves of the search, and which branches are dropped before one: from merc's inference.rs, dominated, leaf and extract.
+// The incumbent stands in the scratch: its sorts at 512, its measure at 1280, the positions that it chose at 1792.
+use infer_nodes::with_counts;
+use resolved_sort::Joined;
+use resolver::resolve_or_default;
+use search_state::Answer;
+use search_state::Branch;
+use search_state::Extracted;
+use search_state::Ordering;
+use search_state::Sizes;
+use search_state::State;
+use sort_interner::put;
+use sort_interner::word;
+use unification::InferSortId;
+use unification::Lengths;
+ghost use mathlib.Core.Path.{_≡_};
+ghost use Prim.Native.Nat.{_+_, _≤_};
+ghost use lib.ListN.{length};
+ghost use Rattle.inference.specs.Constraints.{maxComponents};
+ghost use Rattle.inference.specs.Search.{replace as replaceLeaf, leaf as leafNext};
+ghost use Rattle.inference.specs.SolveEntry.{nothingMet};
+ghost use Rattle.search_state.specs.Memory.{problemIn, lent, bestSortsAt, scratchUsed};
+ghost use Rattle.search_state.specs.Leaves.{rankingOf, Extracts};
+ghost use Rattle.search_state.specs.Searching.{AtLeaf, Comparable, Comes};
+ghost use Rattle.search_leaf.specs.Leaf.{ranked, rankedBy, IsDominated, Readable, sortsFrom, copied, kept, Keepable};
+
+// How the first n components compare with the incumbent's, from the front: the first that differ decide.
+fn compare(scratch: &[u16], n: u16) -> Ordering
+    requires { ⌜ (n ≤ maxComponents) × (scratchUsed ≤ length (now scratch)) ⌝ }
+    ensures { λ r. ⌜ rankingOf r ≡ ranked (now (scratch .entry)) n ⌝ }
+{
+    let mut i = 0u16;
+    while i < n {
+        let component = word(scratch, 1024 + (i as usize));
+        let best = word(scratch, 1280 + (i as usize));
+        if component < best {
+            return Ordering::Less;
+        }
+        if best < component {
+            return Ordering::Greater;
+        }
+        i += 1;
+    }
+    Ordering::Equal
+}
+
+// How the components of the branch compare with the incumbent's. Where there is none, they are less.
+fn rank(scratch: &[u16], st: State, at: Branch) -> Ordering
+    requires { ⌜ (at .measure ≤ maxComponents) × (scratchUsed ≤ length (now scratch)) ⌝ }
+    ensures { λ r. ⌜ rankingOf r ≡ rankedBy (st .best) (now (scratch .entry)) (at .measure) ⌝ }
+{
+    if st.best {
+        compare(scratch, at.measure)
+    } else {
+        Ordering::Less
+    }
+}
+
+// Whether the measure so far is already greater than the incumbent's, so that no leaf below can replace or tie it.
+pub fn dominated(scratch: &[u16], sizes: Sizes, st: State, at: Branch) -> bool
+    requires { ⌜ Comparable (now scratch) sizes at ⌝ }
+    ensures { λ r. ⌜ IsDominated (now (scratch .entry)) sizes st at r ⌝ }
+{
+    match rank(scratch, st, at) {
+        Ordering::Less => false,
+        Ordering::Equal => false,
+        Ordering::Greater => true,
+    }
+}
+
+// Reads the sort of every expression out of the bindings, before backtracking takes these back. A variable that is still free
+// stands for the default sort.
+fn extract(
+    sorts: &mut [u16],
+    nodes: &[u16],
+    binds: &[u16],
+    scratch: &mut [u16],
+    lists: &[u16],
+    sizes: Sizes,
+    lengths: Lengths,
+) -> Extracted
+    requires { ⌜ Readable (now sorts) (now nodes) (now binds) (now scratch) (now lists) (sizes .default) (sizes .exprs) lengths ⌝ }
+    ensures { λ r. ⌜ Extracts (now (nodes .entry)) (now (scratch .entry)) bestSortsAt (sizes .exprs) (sortsFrom (now (binds .entry)) (now (lists .entry)) (sizes .default) 0 (sizes .exprs) (lent (now (sorts .entry)) (now (nodes .entry)) lengths)) (now (sorts .exit)) (now (scratch .exit)) r ⌝ }
+{
+    let count = sizes.exprs;
+    let default = sizes.default;
+    let mut here = lengths;
+    let mut i = 0u16;
+    while i < count {
+        let place = InferSortId(word(lists, 4608 + (i as usize)));
+        match resolve_or_default(sorts, nodes, binds, here, place, default) {
+            Joined::At(id, made) => {
+                put(scratch, 512 + (i as usize), id.0);
+                here = with_counts(here, made);
+            }
+            Joined::Nothing(made) => {
+                return Extracted::Nothing(with_counts(here, made));
+            }
+            Joined::Full => {
+                return Extracted::Full(here);
+            }
+        }
+        i += 1;
+    }
+    Extracted::All(here)
+}
+
+// Copies n words to a place after them.
+fn copy(scratch: &mut [u16], from: usize, to: usize, n: usize)
+    requires { ⌜ (from + n ≤ to) × (to + n ≤ length (now scratch)) ⌝ }
+    ensures { λ _. ⌜ now (scratch .exit) ≡ copied from to n (now (scratch .entry)) ⌝ }
+{
+    let mut i = 0usize;
+    while i < n {
+        scratch[to + i] = scratch[from + i];
+        i += 1;
+    }
+}
+
+// Keeps the measure and the choices of the branch as the incumbent's.
+fn keep(scratch: &mut [u16], sizes: Sizes)
+    requires { ⌜ Keepable sizes (now scratch) ⌝ }
+    ensures { λ _. ⌜ now (scratch .exit) ≡ kept sizes (now (scratch .entry)) ⌝ }
+{
+    copy(scratch, 1024, 1280, sizes.components as usize);
+    copy(scratch, 1536, 1792, sizes.disjunctions as usize);
+}
+
+// The leaf becomes the incumbent.
+fn replace(
+    sorts: &mut [u16],
+    nodes: &[u16],
+    binds: &[u16],
+    scratch: &mut [u16],
+    lists: &[u16],
+    sizes: Sizes,
+    st: State,
+    at: Branch,
+) -> Answer
+    requires { ⌜ AtLeaf (now sorts) (now nodes) (now binds) (now scratch) (now lists) sizes st at ⌝ }
+    ensures { λ r. ⌜ Comes (now (lists .entry)) sizes (now (sorts .entry)) (now (nodes .entry)) (now (binds .entry)) (now (scratch .entry)) st at (replaceLeaf (Unit {0}) nothingMet (problemIn (now (lists .entry)) sizes)) (now (sorts .exit)) (now (nodes .entry)) (now (binds .entry)) (now (scratch .exit)) r ⌝ }
+{
+    let lengths = st.lengths;
+    match extract(sorts, nodes, binds, scratch, lists, sizes, lengths) {
+        Extracted::All(lengths) => {
+            keep(scratch, sizes);
+            Answer::Found(State {
+                lengths,
+                best: true,
+                tied: false,
+            })
+        }
+        Extracted::Nothing(lengths) => Answer::Missed(State {
+            lengths,
+            best: st.best,
+            tied: st.tied,
+        }),
+        Extracted::Full(lengths) => Answer::Full(15, lengths),
+    }
+}
+
+// Keeps a leaf that is less than the incumbent, and marks the incumbent where the leaf has its measure: an unbeaten tie is
+// ambiguous.
+pub fn leaf(
+    sorts: &mut [u16],
+    nodes: &[u16],
+    binds: &[u16],
+    scratch: &mut [u16],
+    lists: &[u16],
+    sizes: Sizes,
+    st: State,
+    at: Branch,
+) -> Answer
+    requires { ⌜ AtLeaf (now sorts) (now nodes) (now binds) (now scratch) (now lists) sizes st at ⌝ }
+    ensures { λ r. ⌜ Comes (now (lists .entry)) sizes (now (sorts .entry)) (now (nodes .entry)) (now (binds .entry)) (now (scratch .entry)) st at (leafNext (Unit {0}) nothingMet (problemIn (now (lists .entry)) sizes)) (now (sorts .exit)) (now (nodes .entry)) (now (binds .entry)) (now (scratch .exit)) r ⌝ }
+{
+    let lengths = st.lengths;
+    match rank(scratch, st, at) {
+        Ordering::Less => replace(sorts, nodes, binds, scratch, lists, sizes, st, at),
+        Ordering::Equal => Answer::Found(State {
+            lengths,
+            best: true,
+            tied: true,
+        }),
+        Ordering::Greater => Answer::Found(st),
+    }
+}
