@@ -1,0 +1,3 @@
+-- The laws of what is handed out and cleared.
+pub mod Over
+pub mod Choosing

@@ -1,0 +1,2 @@
+-- What the solver hands out, step by step.
+pub mod Written
