@@ -201,9 +201,10 @@ module _ (ls : List ℕ) (z : Sizes) (ws ns bs sc : List ℕ) (k : State) (e : B
       lub-asked = join-asked x only k₁ u
 
       pub lub-placed : PairsPlaced (k₁ .lengths) (One t (record { 0 = s .0 }))
-      lub-placed =
-          (seq-fine x only k₁ u .target,
-            sort-placed (k₁ .lengths) (lub-asked .ready .nodes .sorts .sorts) (s .0) (subst (λ (y : State). s .0 < y .lengths .sorts) (sym u) (made-so .1 .agreed .number)))
+      lub-placed = (
+        seq-fine x only k₁ u .target,
+        sort-placed (k₁ .lengths) (lub-asked .ready .nodes .sorts .sorts) (s .0) (subst (λ (y : State). s .0 < y .lengths .sorts) (sym u) (made-so .1 .agreed .number)),
+      )
 
       module _ (ws₂ ns₂ bs₂ sc₂ : List ℕ) (r : Answer) (d : Comes ls z ws₁ ns bs sc₁ k₁ e (trying ls z sc₁ e (One t (record { 0 = s .0 })) (Written (run .count)) (Solve i)) ws₂ ns₂ bs₂ sc₂ r) where
         abbrev path₁ : Path

@@ -145,7 +145,7 @@ module _ (ls : List ℕ) (z : Sizes) (ws₀ ns₀ bs₀ sc₀ : List ℕ) (k₀ 
         overloads-on k₂ b₂ h =
             let only₂ = grown-on ls z ws ns bs sc k e (G .searching .ready .nodes) first ws₂ ns₂ bs₂ sc₂ r d b g y k₂ b₂ h in
             let up : (q : ℕ) → Placed (k .lengths) q → Placed (k₂ .lengths) q =
-                placed-grown (lent ws ns (k .lengths)) (G .searching .ready .nodes) (lent ws₂ ns₂ (k₂ .lengths)) (only₂ .grows) in
+            placed-grown (lent ws ns (k .lengths)) (G .searching .ready .nodes) (lent ws₂ ns₂ (k₂ .lengths)) (only₂ .grows) in
             record {
               checked = G .checked;
               searching = searching-grown ls z ws ns bs sc k e 0 (x .0 ∷ []) next (G .searching) ws₂ ns₂ bs₂ sc₂ k₂ (only₂ .grows) (d .binds) (d .path .long);
@@ -157,3 +157,17 @@ module _ (ls : List ℕ) (z : Sizes) (ws₀ ns₀ bs₀ sc₀ : List ℕ) (k₀ 
               left =
                   and-goes-on ls z ws ns bs sc k e (G .searching .ready .nodes) first ws₂ ns₂ bs₂ sc₂ r d b (λ b. from (i + 1) b path) g y k₂ b₂ h ∙ (to-and ∙ G .left);
             }
+
+-- The expression of the disjunction is that of the next choice.
+module _ (ls : List ℕ) (z : Sizes) (ws ns bs sc : List ℕ) (k : State) (e : Branch) (x : ExprId) (p : InferSortId) (run : Run) (next : Next) (S : Searching ws ns bs sc ls z k e 0 (x .0 ∷ []) next) where
+  abbrev next-choice : ExprId
+  next-choice = record { 0 = getD (chosenExprs ls z) (e .choices) 0 }
+
+  pub overloads-begin-here : OverloadsFine (lent ws ns (k .lengths)) ls z (p .0) (run .start) (run .count) → Going-on ls z ws ns bs sc k e next-choice p run next ws ns bs sc k 0 false
+  overloads-begin-here f =
+      overloads-begin ls z ws ns bs sc k e next-choice p run next (subst (λ y. Searching ws ns bs sc ls z k e 0 (y ∷ []) next) (sym (next-expr ls z ws ns bs sc k e (x .0) next S)) S) f
+
+  pub for-its-expr : (ws′ ns′ bs′ sc′ : List ℕ) (r : Answer) → Comes ls z ws ns bs sc k e (goal ls z ws ns bs sc k e next-choice p run next) ws′ ns′ bs′ sc′ r
+      → Comes ls z ws ns bs sc k e (goal ls z ws ns bs sc k e x p run next) ws′ ns′ bs′ sc′ r
+  for-its-expr ws′ ns′ bs′ sc′ r d =
+      subst (λ y. Comes ls z ws ns bs sc k e (goal ls z ws ns bs sc k e (record { 0 = y }) p run next) ws′ ns′ bs′ sc′ r) (next-expr ls z ws ns bs sc k e (x .0) next S) d

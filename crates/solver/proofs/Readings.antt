@@ -114,11 +114,12 @@ module _ (ls : List ℕ) (z : Sizes) (ws ns bs sc : List ℕ) (k : State) (e : B
       reading-asked = searching-grown ls z ws ns bs sc k e 0 [] next S ws₁ ns bs sc k₁ (grown .grows) refl refl
 
       pub reading-placed : (rb : InferSortId) → rb .0 ≡ bodyOf i → PairsPlaced (k₁ .lengths) (Two body rb node (record { 0 = s .0 }))
-      reading-placed rb v =
-          (placed-grown W (S .ready .nodes) (lent ws₁ ns (k₁ .lengths)) (grown .grows) (body .0) hb,
-            subst (Placed (k₁ .lengths)) (sym v) (fixed-placed (k₁ .lengths) (reading-asked .suits .six) (bodyOf i) (below i)),
-            placed-grown W (S .ready .nodes) (lent ws₁ ns (k₁ .lengths)) (grown .grows) (node .0) hn,
-            sort-placed (k₁ .lengths) (reading-asked .ready .nodes .sorts .sorts) (s .0) (subst (λ (y : State). s .0 < y .lengths .sorts) (sym u) (is-sort .1)))
+      reading-placed rb v = (
+        placed-grown W (S .ready .nodes) (lent ws₁ ns (k₁ .lengths)) (grown .grows) (body .0) hb,
+        subst (Placed (k₁ .lengths)) (sym v) (fixed-placed (k₁ .lengths) (reading-asked .suits .six) (bodyOf i) (below i)),
+        placed-grown W (S .ready .nodes) (lent ws₁ ns (k₁ .lengths)) (grown .grows) (node .0) hn,
+        sort-placed (k₁ .lengths) (reading-asked .ready .nodes .sorts .sorts) (s .0) (subst (λ (y : State). s .0 < y .lengths .sorts) (sym u) (is-sort .1)),
+      )
         where
           below : (n : ℕ) → bodyOf n < 6
           below zero = omega arith
@@ -170,7 +171,7 @@ module _ (ls : List ℕ) (z : Sizes) (ws ns bs sc : List ℕ) (k : State) (e : B
             pub reading-places : Placed (k₂ .lengths) (body .0) × Placed (k₂ .lengths) (node .0) × (element .0 < k₂ .lengths .sorts)
             reading-places =
                 let up : (p : ℕ) → Placed (k .lengths) p → Placed (k₂ .lengths) p =
-                    λ p h. placed-grown (lent ws₁ ns (k₁ .lengths)) (reading-asked .ready .nodes) (lent ws₂ ns₂ (k₂ .lengths)) (grown₂ .grows) p (placed-grown W (S .ready .nodes) (lent ws₁ ns (k₁ .lengths)) (grown .grows) p h) in
+                λ p h. placed-grown (lent ws₁ ns (k₁ .lengths)) (reading-asked .ready .nodes) (lent ws₂ ns₂ (k₂ .lengths)) (grown₂ .grows) p (placed-grown W (S .ready .nodes) (lent ws₁ ns (k₁ .lengths)) (grown .grows) p h) in
                 (up (body .0) hb, up (node .0) hn, omega (arith, he, grown .grows .sorts, grown₂ .grows .sorts))
 
             pub readings-on : (ws₃ ns₃ bs₃ sc₃ : List ℕ) (a : Answer) → Comes ls z ws₂ ns₂ bs₂ sc₂ k₂ e (rest (readingsFrom (i + 1)) b₂) ws₃ ns₃ bs₃ sc₃ a

@@ -219,9 +219,11 @@ module _ (ls : List ℕ) (z : Sizes) (ws ns bs sc : List ℕ) (k : State) (e : B
       go _ (sub-listed l r a b) h = absurd (let m : _≡_ {A = ℕ} 0 1 = cc in omega arith)
       go _ (lit-listed p kind a) h = absurd (let m : _≡_ {A = ℕ} 0 1 = cc in omega arith)
       go _ (disjunction-listed x p run a l b) h = absurd (let m : _≡_ {A = ℕ} 0 1 = cc in omega arith)
-      go _ (comprehension-listed body node element a b l) h =
-          (subst (λ (p : InferSortId). Placed (k .lengths) (p .0)) (let m : body ≡ x = cc in m) a, subst (λ (p : InferSortId). Placed (k .lengths) (p .0)) (let m : node ≡ y = cc in m) b,
-            subst (λ (p : SortId). p .0 < k .lengths .sorts) (let m : element ≡ s = cc in m) l)
+      go _ (comprehension-listed body node element a b l) h = (
+        subst (λ (p : InferSortId). Placed (k .lengths) (p .0)) (let m : body ≡ x = cc in m) a,
+        subst (λ (p : InferSortId). Placed (k .lengths) (p .0)) (let m : node ≡ y = cc in m) b,
+        subst (λ (p : SortId). p .0 < k .lengths .sorts) (let m : element ≡ s = cc in m) l,
+      )
       go _ (join-listed run t a l b) h = absurd (let m : _≡_ {A = ℕ} 0 1 = cc in omega arith)
 
   -- the overloads of a disjunction, as rows

@@ -41,7 +41,8 @@ use Rattle.search_state.specs.Searching.{Searching, SourcesFine, NextFine, Grow
 use Rattle.search_state.proofs.After.{searching-grown, misses, done-as, comes-after, done-after, grown-missed, or-stops, or-missed, or-on, or-comes}
 use Rattle.search_state.proofs.Ways.{wider-by-widenings, given-back-in-answer, tries-are-placed, no-tries-makes-nothing, no-room-for-tries-grows, TryPlaced, TriesPlaced}
 use Rattle.search_steps.specs.Steps.{pairsOf}
-use Rattle.solver.specs.Asked.{TriesFine}
+use Rattle.resolved_sort.specs.declared.ComplexSort.{ComplexSort}
+use Rattle.solver.specs.Asked.{TriesFine, bodyOf, opOf}
 
 -- the work left, above what any single constraint can take
 abbrev pub work : ℕ → Next → ℕ
@@ -153,3 +154,13 @@ sort-placed k l p h = rw (lt-ltb p maxSorts (omega (arith, l, h)), lt-ltb p (k .
 pub fixed-placed : (k : Lengths) → 6 ≤ k .sorts → (p : ℕ) → p < 6 → Placed k p
 unfolding isPlace
 fixed-placed k l p h = rw (lt-ltb p maxSorts (omega (arith, h)), lt-ltb p (k .sorts) (omega (arith, l, h)))
+
+-- the last reading's body, and the container of all readings but the first
+pub other-body : (i : ℕ) → (i ≡ 0 → ⊥) → (i ≡ 1 → ⊥) → 2 ≡ bodyOf i
+other-body zero a b = absurd (a refl)
+other-body (suc zero) a b = absurd (b refl)
+other-body (suc (suc i)) a b = refl
+
+pub other-op : (i : ℕ) → (i ≡ 0 → ⊥) → ComplexSort.Bag ≡ opOf i
+other-op zero a = absurd (a refl)
+other-op (suc i) a = refl

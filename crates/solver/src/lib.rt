@@ -281,17 +281,7 @@ fn solve_join_seq(
     ensures { λ r. ⌜ Comes (now (lists .entry)) sizes (now (sorts .entry)) (now (nodes .entry)) (now (binds .entry)) (now (scratch .entry)) st at (sequence (Unit {0}) nothingMet (problemIn (now (lists .entry)) sizes) (rowsFrom (sourceAt (now (lists .entry))) from (to - from)) (target .0) (solveFrom (now (lists .entry)) sizes then)) (now (sorts .exit)) (now (nodes .exit)) (now (binds .exit)) (now (scratch .exit)) r ⌝ }
 {
     if to <= from {
-        return solve(
-            sorts,
-            nodes,
-            binds,
-            scratch,
-            lists,
-            sizes,
-            st,
-            at,
-            then,
-        );
+        return solve(sorts, nodes, binds, scratch, lists, sizes, st, at, then);
     }
     let source = source_at(lists, from);
     solve_widening(
@@ -509,17 +499,7 @@ fn solve_lit(
     match lit_at(sorts, nodes, binds, lengths, sort, kind) {
         LitAt::Number(generality) => {
             let then = push(scratch, at, at.trail, Step::Component(generality));
-            resume(
-                sorts,
-                nodes,
-                binds,
-                scratch,
-                lists,
-                sizes,
-                st,
-                then,
-                next,
-            )
+            resume(sorts, nodes, binds, scratch, lists, sizes, st, then, next)
         }
         LitAt::Free => tries(
             sorts,
@@ -611,17 +591,7 @@ fn attempt(
     match unify_pairs(sorts, nodes, binds, scratch, lengths, base, pairs) {
         Tried::Yes(count) => {
             let then = push(scratch, at, count, step);
-            let r = resume(
-                sorts,
-                nodes,
-                binds,
-                scratch,
-                lists,
-                sizes,
-                st,
-                then,
-                next,
-            );
+            let r = resume(sorts, nodes, binds, scratch, lists, sizes, st, then, next);
             undo(binds, scratch, base, count);
             r
         }
@@ -648,17 +618,7 @@ fn resume(
     ensures { λ r. ⌜ Comes (now (lists .entry)) sizes (now (sorts .entry)) (now (nodes .entry)) (now (binds .entry)) (now (scratch .entry)) st at (nextOf (now (lists .entry)) sizes next) (now (sorts .exit)) (now (nodes .exit)) (now (binds .exit)) (now (scratch .exit)) r ⌝ }
 {
     match next {
-        Next::Solve(index) => solve(
-            sorts,
-            nodes,
-            binds,
-            scratch,
-            lists,
-            sizes,
-            st,
-            at,
-            index,
-        ),
+        Next::Solve(index) => solve(sorts, nodes, binds, scratch, lists, sizes, st, at, index),
         Next::Source {
             target,
             from,
