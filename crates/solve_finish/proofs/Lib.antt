@@ -1,0 +1,3 @@
+-- What the checks make sure of for the search and for what comes after it; and that what is left is the defined outcome.
+pub mod Passed
+pub mod Finished
