@@ -133,7 +133,15 @@ fn judge(
         return Solved::Ambiguous(counts);
     }
     hand_out(
-        typing, measure, choices, scratch, lists, names, name_count, sizes, counts,
+        typing,
+        measure,
+        choices,
+        scratch,
+        lists,
+        names,
+        name_count,
+        sizes,
+        counts,
     )
 }
 
@@ -156,10 +164,26 @@ fn settle(
 {
     match answer {
         Answer::Found(st) => judge(
-            typing, measure, choices, scratch, lists, names, name_count, sizes, st,
+            typing,
+            measure,
+            choices,
+            scratch,
+            lists,
+            names,
+            name_count,
+            sizes,
+            st,
         ),
         Answer::Missed(st) => judge(
-            typing, measure, choices, scratch, lists, names, name_count, sizes, st,
+            typing,
+            measure,
+            choices,
+            scratch,
+            lists,
+            names,
+            name_count,
+            sizes,
+            st,
         ),
         Answer::Full(code, _) => {
             give_back(sorts, lengths.sorts as usize, lengths.entries as usize);
@@ -196,7 +220,17 @@ pub fn finish(
     ensures { λ r. ⌜ ((bs : List ℕ) → leftOf r (now (sorts .exit)) (now (nodes .exit)) bs (now (scratch .exit)) (now (typing .exit)) (now (measure .exit)) (now (choices .exit)) ≡ leftBy lengths (now (nodes .entry)) bs (now (scratch .entry)) (settledBy (problemIn (now (lists .entry)) sizes) (rowsFrom (baseNameAt (now (names .entry))) 0 «name_count») (now (typing .entry)) (now (measure .entry)) (now (choices .entry)) lengths (outOf (now (lists .entry)) sizes (now (sorts .entry)) (now (nodes .entry)) (now (scratch .entry)) answer))) ⌝ }
 {
     let solved = settle(
-        sorts, typing, measure, choices, scratch, lists, names, name_count, sizes, lengths, answer,
+        sorts,
+        typing,
+        measure,
+        choices,
+        scratch,
+        lists,
+        names,
+        name_count,
+        sizes,
+        lengths,
+        answer,
     );
     tidy(nodes, scratch, lengths);
     solved
