@@ -24,9 +24,11 @@ ghost use mathlib.Core.List.{List, []};
 ghost use Prim.Native.Nat.{ℕ};
 ghost use Rattle.inference.specs.Constraints.{baseNameAt, rowsFrom};
 ghost use Rattle.inference.specs.SolveEntry.{nodesGivenBack, cleared};
+ghost use Rattle.inference.specs.declared.Solved.the-variants.{Typing};
 ghost use Rattle.search_state.specs.Memory.{problemIn, candidateOf, bestOf, outOf};
 ghost use Rattle.solve_checks.specs.Calls.{lengthsOf, partOf};
 ghost use Rattle.solve_finish.specs.Begin.{CountsFit, RowsFit, sizesOf, noIncumbent, nothingTaken};
+ghost use Rattle.solve_finish.specs.Packed.{packCounts, packSolved, CountsWithin, Told};
 ghost use Rattle.solve_finish.specs.Finish.{answered, settled, leftOf, leftBy, handedOut, judged, settledBy, Handable, SortsReturnable, NodesReturnable};
 
 // How much of the lent lists is in use at first.
@@ -234,4 +236,37 @@ pub fn finish(
     );
     tidy(nodes, scratch, lengths);
     solved
+}
+
+// Sorts and entries as part of the packed answer.
+fn pack_counts(counts: Counts) -> u64
+    requires { ⌜ CountsWithin counts ⌝ }
+    ensures { λ r. ⌜ r ≡ packCounts counts ⌝ }
+{
+    (counts.sorts as u64) * 256 + (counts.entries as u64) * 16777216
+}
+
+// All counts of a typing.
+fn pack_outputs(outputs: Outputs) -> u64
+    requires { ⌜ Told (Typing outputs) ⌝ }
+    ensures { λ r. ⌜ r ≡ packSolved (Typing outputs) ⌝ }
+{
+    let counts = outputs.counts;
+    pack_counts(counts)
+        + (outputs.components as u64) * 1099511627776
+        + (outputs.choices as u64) * 4503599627370496
+}
+
+// The code of document 01 and the counts of an answer as one number, for callers in other languages.
+pub fn pack_solved(answer: Solved) -> u64
+    requires { ⌜ Told answer ⌝ }
+    ensures { λ r. ⌜ r ≡ packSolved answer ⌝ }
+{
+    match answer {
+        Solved::Refused(code) => code as u64,
+        Solved::NoRoom(code) => code as u64,
+        Solved::NoTyping(counts) => 17 + pack_counts(counts),
+        Solved::Ambiguous(counts) => 18 + pack_counts(counts),
+        Solved::Typing(o) => pack_outputs(o),
+    }
 }
