@@ -13,6 +13,7 @@ use Rattle.resolved_sort.specs.Entries.{testedOf}
 use Rattle.sort_entries.proofs.Laws.{refused-is, passed-is}
 use Rattle.unification.specs.declared.Lengths.{Lengths}
 use Rattle.unification.specs.Nodes.{bindsOf}
+use Rattle.inference.specs.declared.Solved.{Solved}
 use Rattle.inference.specs.declared.Solved.the-variants.{Refused as Refuses}
 use Rattle.inference.specs.Constraints.{baseNameAt, rowsFrom}
 use Rattle.inference.specs.Search.{Out}
@@ -30,6 +31,8 @@ use Rattle.solve_checks.specs.declared.Given.{Given}
 use Rattle.solve_checks.specs.Calls.{lengthsOf, partOf}
 use Rattle.solve_finish.specs.Begin.{callWith, CountsFit, RowsFit, sizesOf, noIncumbent, nothingTaken}
 use Rattle.solve_finish.specs.Finish.{leftOf, leftBy, settledBy, Handable, SortsReturnable, NodesReturnable}
+use Rattle.solve_finish.specs.Packed.{packSolved, Told, packed, packLeft}
+use Rattle.solve_finish.proofs.Codes.{entry-told}
 use Rattle.solve_finish.proofs.Passed.{counts-fit, rows-fit, packable, packed-problem, begins, handable}
 use Rattle.solve_finish.proofs.Finished.{left-by-search, left-is-outcome}
 
@@ -117,3 +120,11 @@ module _ (g : Given) (ws ns bs xs ks cs os ss sc ts ms hs : List ℕ) where
               (settledBy (problemIn ls (same-sizes i)) (rowsFrom (baseNameAt ks) 0 (g .names)) ts ms hs (v i)
               (solveFrom ls (same-sizes i) 0 (pathOf ls (same-sizes i) (bindsOf bs (v i .variables)) sc nothingTaken) (worldOf ls (same-sizes i) ws ns sc (noIncumbent (v i))))))
               ∙ left-is-outcome I f ls says-problem)
+
+-- The answer as one number.
+module _ (J : Call) (r : Solved) (ws ns bs sc ts ms hs : List ℕ) (e : leftOf r ws ns bs sc ts ms hs ≡ solveEntry J) where
+  pub answer-told : Told r
+  answer-told = subst Told (sym (ap (λ (L : Left). L .answer) e)) (entry-told J)
+
+  pub answer-packed : (n : ℕ) → n ≡ packSolved r → packed n ws ns bs sc ts ms hs ≡ packLeft (solveEntry J)
+  answer-packed n q = ap (λ x. packed x ws ns bs sc ts ms hs) q ∙ ap packLeft e

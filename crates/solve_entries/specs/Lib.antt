@@ -1,1 +1,2 @@
--- Nothing of its own: the contracts cite the definitions of the solver's outcome.
+-- What the export's contract cites beside the definitions of the solver's outcome.
+pub mod Given

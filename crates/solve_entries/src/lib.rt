@@ -11,6 +11,7 @@ use solve_finish::finish;
 use solve_finish::lengths_of;
 use solve_finish::no_incumbent;
 use solve_finish::nothing_taken;
+use solve_finish::pack_solved;
 use solve_finish::sizes_of;
 use solve_tests::test_solve;
 use unification::Lengths;
@@ -27,6 +28,8 @@ ghost use Rattle.search_state.specs.Memory.{problemIn, pathOf, worldOf, solveFr
 ghost use Rattle.search_state.specs.Searching.{Searching};
 ghost use Rattle.solve_finish.specs.Begin.{callWith, noIncumbent, nothingTaken};
 ghost use Rattle.solve_finish.specs.Finish.{leftOf, leftBy, settledBy, Handable};
+ghost use Rattle.solve_finish.specs.Packed.{packed, packLeft};
+ghost use Rattle.solve_entries.specs.Given.{givenOf};
 
 // The search, from the first constraint on, and what comes after it.
 fn search(
@@ -158,4 +161,63 @@ pub fn solve(
             choices,
         ),
     }
+}
+
+// The entry for callers in other languages: a slice is a pointer and a length, counts are numbers, and the answer is packed.
+#[no_mangle]
+pub extern "C" fn sort_solve(
+    sorts: &mut [u16],
+    sort_count: usize,
+    entry_count: usize,
+    nodes: &mut [u16],
+    node_count: usize,
+    node_entry_count: usize,
+    binds: &mut [u16],
+    var_count: usize,
+    exprs: &[u16],
+    expr_count: usize,
+    names: &[u16],
+    name_count: usize,
+    constraints: &[u16],
+    constraint_count: usize,
+    overloads: &[u16],
+    overload_count: usize,
+    sources: &[u16],
+    source_count: usize,
+    default: u16,
+    scratch: &mut [u16],
+    typing: &mut [u16],
+    measure: &mut [u16],
+    choices: &mut [u16],
+) -> u64
+    ensures { λ r. ⌜ packed r (now (sorts .exit)) (now (nodes .exit)) (now (binds .exit)) (now (scratch .exit)) (now (typing .exit)) (now (measure .exit)) (now (choices .exit)) ≡ packLeft (solveEntry (callWith (givenOf «sort_count» «entry_count» «node_count» «node_entry_count» «var_count» «expr_count» «name_count» «constraint_count» «overload_count» «source_count» default) (now (sorts .entry)) (now (nodes .entry)) (now (binds .entry)) (now (exprs .entry)) (now (names .entry)) (now (constraints .entry)) (now (overloads .entry)) (now (sources .entry)) (now (scratch .entry)) (now (typing .entry)) (now (measure .entry)) (now (choices .entry)))) ⌝ }
+{
+    let given = Given {
+        sorts: sort_count,
+        entries: entry_count,
+        nodes: node_count,
+        arguments: node_entry_count,
+        variables: var_count,
+        exprs: expr_count,
+        names: name_count,
+        constraints: constraint_count,
+        overloads: overload_count,
+        sources: source_count,
+        default,
+    };
+    pack_solved(solve(
+        sorts,
+        nodes,
+        binds,
+        exprs,
+        names,
+        constraints,
+        overloads,
+        sources,
+        given,
+        scratch,
+        typing,
+        measure,
+        choices,
+    ))
 }

@@ -18,7 +18,7 @@ nothing-taken-requires : tie.Need-nothing-taken-requires
 nothing-taken-requires c κs = search needs
 
 solve-requires : tie.Need-solve-requires
-solve-requires c κs = law.starts _ _ _ _ _ _ _ _ (c .before .before .before .before .before .no-incumbent .ensures) _ (c .before .before .before .before .nothing-taken .ensures) (c .before .before .before .before .before .before .before .before .before .before .before .before .before .before .before .pre .0) 
+solve-requires c κs = law.starts _ _ _ _ _ _ _ _ (c .before .before .before .before .before .no-incumbent .ensures) _ (c .before .before .before .before .nothing-taken .ensures) (c .before .before .before .before .before .before .before .before .before .before .before .before .before .before .before .pre .0)
 
 finish-requires : tie.Need-finish-requires
 finish-requires c κs = law.room-after _ _ _ _ _ _ _ _ (c .before .before .before .before .before .before .before .before .before .before .before .before .before .before .before .before .before .before .before .before .no-incumbent .ensures) _ (c .before .before .before .before .before .before .before .before .before .before .before .before .before .before .before .before .before .before .before .nothing-taken .ensures) (c .before .before .before .before .before .before .before .before .before .before .before .before .before .before .before .before .before .before .before .before .before .before .before .before .before .before .before .before .before .before .pre .0) _ _ _ _ _ (c .before .before .before .before .before .before .before .before .before .before .before .before .before .before .before .before .before .before .before .before .before .before .before .before .before .before .before .before .before .before .pre .1) (c .before .before .before .before .before .before .before .before .before .before .before .before .before .before .solve .last .0) (c .before .before .before .before .before .before .before .before .before .before .before .before .before .before .solve .last .1 .0) (c .before .before .before .before .before .before .before .before .before .before .before .before .before .before .solve .last .1 .1 .1 .0) (c .before .before .before .before .before .before .before .before .before .before .before .before .before .before .solve .kept .0) (c .before .before .before .before .before .before .before .before .before .before .before .before .before .before .solve .kept .1 .0) (c .before .before .before .before .before .before .before .before .before .before .before .before .before .before .solve .kept .1 .1 .1 .0)

@@ -11,10 +11,10 @@ use Rattle.solve_finish.proofs.lengths_of.Reads as lengths-of-reads
 use Rattle.solve_finish.proofs.sizes_of.Reads as sizes-of-reads
 
 lengths-of-requires : tie.Need-lengths-of-requires
-lengths-of-requires c κs = law.lengths-fit _ _ _ _ _ _ _ _ _ _ _ _ _ (c .before .before .before .before .before .before .before .before .before .before .before .before .pre) 
+lengths-of-requires c κs = law.lengths-fit _ _ _ _ _ _ _ _ _ _ _ _ _ (c .before .before .before .before .before .before .before .before .before .before .before .before .pre)
 
 sizes-of-requires : tie.Need-sizes-of-requires
-sizes-of-requires c κs = law.sizes-fit _ _ _ _ _ _ _ _ _ _ _ _ _ (c .before .before .before .before .before .before .before .before .before .before .before .before .before .pre) 
+sizes-of-requires c κs = law.sizes-fit _ _ _ _ _ _ _ _ _ _ _ _ _ (c .before .before .before .before .before .before .before .before .before .before .before .before .before .pre)
 
 slice-aggregate-pack : tie.Need-slice-aggregate-pack
 slice-aggregate-pack c = search needs
