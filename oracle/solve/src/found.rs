@@ -7,12 +7,10 @@ use crate::compare::judged;
 use crate::fault::Fault;
 use crate::port::Port;
 
-/// How many lists of a class are asked, of the number that is wanted: heavy ones in smaller numbers, those of rare
-/// faults in greater ones.
+/// Heavy lists are asked in smaller numbers.
 fn share(class: Class, count: u64) -> u64 {
     match class {
-        Class::Full | Class::Large => count / 10,
-        Class::Dropped | Class::Damaged => count * 10,
+        Class::Full | Class::Large | Class::Deep => count / 30,
         _ => count,
     }
 }
@@ -35,10 +33,23 @@ impl Hunt {
         Hunt { left: Fault::all(), found: Vec::new(), desk: Desk::default() }
     }
 
-    /// Asks all wrong stand-ins that are left about the first lists of a class.
-    pub fn lists(&mut self, class: Class, seed: u64, count: u64) -> Result<(), String> {
+    /// Asks all wrong stand-ins about lists of every class, about few of them first, each until one shows its fault.
+    pub fn all(&mut self, seed: u64, count: u64) -> Result<(), String> {
+        for count in [count / 300, count / 10, count] {
+            for (class, _) in Class::ALL {
+                self.lists(class, seed, share(class, count))?;
+            }
+        }
+        Ok(())
+    }
+
+    /// The first lists of a class, while wrong stand-ins are left.
+    fn lists(&mut self, class: Class, seed: u64, count: u64) -> Result<(), String> {
         let cases = Cases::new(class, seed);
-        for index in 0..share(class, count) {
+        for index in 0..count {
+            if self.left.is_empty() {
+                break;
+            }
             let Some(case) = cases.case(index) else { break };
             let expected = judged(&case)?;
             let mut left = case.call.clone();
@@ -68,9 +79,7 @@ mod tests {
     #[test]
     fn wrong_ports_are_found() {
         let mut hunt = Hunt::new();
-        for (class, _) in Class::ALL {
-            hunt.lists(class, 3, 3_000).expect("the judges agree");
-        }
+        hunt.all(3, 50_000).expect("the judges agree");
         assert_eq!(hunt.missed(), Vec::<&str>::new());
     }
 }

@@ -5,20 +5,17 @@ use std::process::ExitCode;
 use common::options;
 use common::options::Failure;
 use common::options::Options;
-use solve::cases::Class;
 use solve::found::Hunt;
 
 fn main() -> ExitCode {
-    options::main("oracle-solve-faults", &[("seed", "1"), ("count", "3000")], run)
+    options::main("oracle-solve-faults", &[("seed", "1"), ("count", "50000")], run)
 }
 
 /// Asks the wrong stand-ins about so many lists of each class, each until one shows its fault.
 fn run(options: &Options) -> Result<(), Failure> {
     let (seed, count) = (options.number("seed")?, options.number("count")?);
     let mut hunt = Hunt::new();
-    for (class, _) in Class::ALL {
-        hunt.lists(class, seed, count).map_err(Failure::Run)?;
-    }
+    hunt.all(seed, count).map_err(Failure::Run)?;
     for line in &hunt.found {
         println!("{line}");
     }

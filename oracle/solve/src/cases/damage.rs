@@ -29,8 +29,7 @@ pub fn case(rng: &mut Rng, junk: &Junk, mut list: Given, index: u64) -> Case {
         assert!(!checks::passes(&call.memory, Question::Solve, 14), "14 was planted");
     }
     if faults.contains(&1) {
-        let turn = index / WAYS;
-        too_long(rng, &mut call, Counted::ALL[turn as usize % Counted::ALL.len()].0);
+        too_long(rng, &mut call, (index / WAYS) as usize);
     }
     let planted = faults.last().copied();
     named(&call.memory, planted.expect("there is a fault"));
@@ -52,30 +51,32 @@ fn faults(index: u64) -> Vec<u16> {
     single.chain(pairs).nth((index % WAYS) as usize).expect("there are so many")
 }
 
-/// A count above its ceiling or above what is lent, or a slice that ends inside the last row.
-fn too_long(rng: &mut Rng, call: &mut Call, list: Counted) {
+/// Each list in turn has a count above its ceiling or above what is lent, or a slice that ends inside its last row.
+fn too_long(rng: &mut Rng, call: &mut Call, turn: usize) {
+    let (list, _) = Counted::ALL[turn % Counted::ALL.len()];
     let rows = call.memory.count(list);
     let (slice, at, row) = list.place();
-    if rows > 0 && rng.chance(50) {
-        let end = at + row * rows;
-        let length = if rng.chance(80) { end - rng.between(1, row) } else { rng.below(end) };
-        if length < call.length(slice) {
-            return call.lend(slice, length, 0);
+    match turn / Counted::ALL.len() % 3 {
+        0 => *call.memory.count_mut(list) = 65_536 + rows,
+        1 if rows > 0 => {
+            let end = at + row * rows;
+            let length = if rng.chance(80) { end - rng.between(1, row) } else { rng.below(end) };
+            call.lend(slice, length.min(call.length(slice)), 0);
         }
+        _ => *call.memory.count_mut(list) = above(rng, list, rows, call.length(slice)),
     }
-    *call.memory.count_mut(list) = above(rng, list, rows, call.length(slice));
+    if checks::passes(&call.memory, Question::Solve, 1) {
+        *call.memory.count_mut(list) = usize::MAX;
+    }
 }
 
-/// Counts up to those whose size in words does not fit a number, and such as are small in 16 or 32 bits or when
-/// multiplied.
+/// Counts up to those whose size in words does not fit a number, and such as are small in 32 bits or when multiplied.
 fn above(rng: &mut Rng, list: Counted, rows: usize, length: usize) -> usize {
     let ceiling = list.ceiling().unwrap_or(length);
     let counts = [
         ceiling + 1,
         ceiling + 2,
         65_535,
-        65_536 + rows,
-        65_536 + rows,
         (1 << 32) + rows,
         usize::MAX / 5 + 1,
         usize::MAX / 4 + 1,

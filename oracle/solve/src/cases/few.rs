@@ -53,9 +53,26 @@ fn add_constraint(ground: &mut Ground) {
         }
         _ => {
             let target = ground.place();
+            let related = ground.rng.chance(30);
             let count = ground.rng.between(1, 3);
-            let sources: Vec<u16> = (0..count).map(|_| ground.place()).collect();
+            let sources: Vec<u16> =
+                (0..count).map(|_| if related { related_sort(ground) } else { ground.place() }).collect();
             ground.join(target, &sources);
+        }
+    }
+}
+
+/// One of a few sorts that have a join with one another, two by two.
+fn related_sort(ground: &mut Ground) -> u16 {
+    let number = ground.number();
+    match ground.rng.below(5) {
+        0 => {
+            let argument = ground.number();
+            ground.function_sort(&[argument], number)
+        }
+        _ => {
+            let kind = ground.rng.pick(&[kind::FSET, kind::SET]);
+            ground.container_sort(kind, number)
         }
     }
 }

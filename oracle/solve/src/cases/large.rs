@@ -19,40 +19,62 @@ fn length(rng: &mut Rng, ceiling: usize) -> usize {
 }
 
 pub fn large(rng: &mut Rng) -> Given {
-    let constraints = length(rng, MAX_CONSTRAINTS);
-    large_of(rng, constraints)
-}
-
-/// A long list with so many constraints.
-pub fn large_of(rng: &mut Rng, constraints: usize) -> Given {
-    let [most_components, exprs, variables] =
-        [MAX_COMPONENTS, MAX_EXPRESSIONS, MAX_VARIABLES].map(|ceiling| length(rng, ceiling));
-    let fails = rng.chance(25);
+    let [constraints, components, exprs, variables] =
+        [MAX_CONSTRAINTS, MAX_COMPONENTS, MAX_EXPRESSIONS, MAX_VARIABLES].map(|ceiling| length(rng, ceiling));
+    let ground = Ground::new(rng);
+    let fails = ground.rng.chance(25);
     // A list that fails takes all ways of all constraints.
-    let (ways, choices) = if fails { (2, 1) } else { (60, rng.pick(&[0, 0, 0, 1, 4])) };
-    let mut long = Long { ground: Ground::new(rng), ways, choices, variables };
-    for _ in 0..12 {
-        long.ground.add_sort();
-    }
+    let (ways, choices) = if fails { (2, 1) } else { (60, ground.rng.pick(&[0, 0, 0, 1, 4])) };
+    let mut long = Long { ground, ways, choices, variables };
+    long.add_sorts();
     if !fails && long.ground.rng.chance(50) {
         long.add_measured_choice();
     }
     if !fails && long.ground.rng.chance(15) {
-        long.add_shared_joins(most_components, constraints);
+        long.add_shared_joins(components, constraints);
     }
-    while long.ground.list.constraints.len() < constraints {
-        let left = most_components - components(&long.ground.list).min(most_components);
-        long.add_constraint(left, constraints);
-    }
+    let last = usize::from(fails);
+    long.add_constraints(components - last, constraints - last);
     let mut ground = long.ground;
-    if fails && components(&ground.list) < MAX_COMPONENTS && constraints < MAX_CONSTRAINTS {
+    if fails {
         ground.sub(kind::NAT, kind::POS);
     }
     fill(&mut ground, exprs, variables);
-    ground.finish()
+    if ground.rng.chance(50) {
+        let count = length(ground.rng, MAX_OVERLOADS);
+        let overloads = &mut ground.list.overloads;
+        overloads.resize(count.max(overloads.len()), [9, 9, 9]);
+    }
+    if ground.rng.chance(50) {
+        let count = length(ground.rng, MAX_SOURCES);
+        pad::entries(&mut ground.list.sources, count);
+    }
+    let mut list = ground.finish();
+    if rng.chance(4) {
+        name_again(rng, &mut list);
+    }
+    list
 }
 
-/// Expressions, variables, overloads and sources that are not there yet.
+/// More base names than there can be expressions; some expression has two.
+fn name_again(rng: &mut Rng, list: &mut Given) {
+    let count = rng.between(MAX_EXPRESSIONS + 1, 700);
+    while list.names.len() < count {
+        let expression = rng.below(list.exprs.len().max(1)) as u16;
+        list.names.push([expression, target::VARIABLE, 0]);
+    }
+}
+
+/// So many constraints, each met in one way or at its first try, and at least so many expressions and variables.
+pub fn long_list(rng: &mut Rng, constraints: usize, exprs: usize, variables: usize) -> Given {
+    let mut long = Long { ground: Ground::new(rng), ways: 60, choices: 0, variables: variables.max(60) };
+    long.add_sorts();
+    long.add_constraints(MAX_COMPONENTS, constraints);
+    fill(&mut long.ground, exprs, variables);
+    long.ground.finish()
+}
+
+/// Expressions and variables that are not there yet.
 fn fill(ground: &mut Ground, exprs: usize, variables: usize) {
     while ground.list.bindings.len() < variables {
         let place = ground.variable();
@@ -66,16 +88,6 @@ fn fill(ground: &mut Ground, exprs: usize, variables: usize) {
     while ground.list.exprs.len() < exprs {
         let place = if ground.rng.chance(50) { ground.any_sort() } else { ground.place() };
         ground.expression(place);
-    }
-    if ground.rng.chance(50) {
-        let count = length(ground.rng, MAX_OVERLOADS);
-        let stray = [9, 9, 9];
-        let overloads = &mut ground.list.overloads;
-        overloads.resize(count.max(overloads.len()), stray);
-    }
-    if ground.rng.chance(50) {
-        let count = length(ground.rng, MAX_SOURCES);
-        pad::entries(&mut ground.list.sources, count);
     }
 }
 
@@ -99,6 +111,20 @@ impl Long<'_> {
     fn open(&mut self) -> Option<u16> {
         self.ways = self.ways.checked_sub(1)?;
         self.free()
+    }
+
+    fn add_sorts(&mut self) {
+        for _ in 0..12 {
+            self.ground.add_sort();
+        }
+    }
+
+    /// Constraints up to a count, with at most so many components.
+    fn add_constraints(&mut self, most_components: usize, count: usize) {
+        while self.ground.list.constraints.len() < count {
+            let left = most_components - components(&self.ground.list).min(most_components);
+            self.add_constraint(left, count);
+        }
     }
 
     /// A constraint of at most `components` components.

@@ -9,7 +9,9 @@ mod full;
 mod ground;
 mod large;
 mod pad;
+mod sample;
 mod short;
+mod timed;
 mod words;
 
 use common::junk::Junk;
@@ -20,6 +22,10 @@ use oracle::rng::Rng;
 use crate::call::Call;
 use crate::layout::More;
 use crate::layout::laid_out;
+
+pub use sample::sample;
+pub use sample::written;
+pub use timed::Timed;
 
 /// Kinds of lists that can be made.
 #[derive(Clone, Copy, Debug, Eq, PartialEq)]

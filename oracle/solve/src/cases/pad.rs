@@ -1,11 +1,12 @@
-//! Fills lists up with rows that nothing refers to, at the end or before all rows of their own.
+//! Fills lists up with rows that nothing refers to, at the end or before all rows of their own, such as the `pad` lines
+//! of docs/FORMAT.md give.
 
 use lists::given::Given;
 use lists::memory::*;
 
-/// A declared sort that no list has otherwise.
+/// A declared sort by its own number, which no list has otherwise.
 fn pad_sort(number: usize) -> Row {
-    Row::plain(kind::DEF, 2_000 + number as u16)
+    Row::plain(kind::DEF, number as u16)
 }
 
 const PAD_NODE: Row = Row { kind: kind::LIST, part: kind::BOOL, start: 0, count: 0 };
@@ -31,8 +32,7 @@ pub fn entries(entries: &mut Vec<u16>, count: usize) {
 pub fn before(list: &mut Given, sorts: usize, nodes: usize) {
     let higher = Higher { sorts: sorts as u16, nodes: nodes as u16 };
     higher.renumber(list);
-    let number = list.sorts.len();
-    list.sorts.splice(6..6, (number..number + sorts).map(pad_sort));
+    list.sorts.splice(6..6, (6..6 + sorts).map(pad_sort));
     list.nodes.splice(..0, std::iter::repeat_n(PAD_NODE, nodes));
 }
 
