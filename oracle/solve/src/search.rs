@@ -271,10 +271,10 @@ impl<'a> Search<'a> {
     /// The wider sorts of the left side against the right one, or the left side against the narrower sorts of the
     /// right one. None if neither has a list.
     fn tries(&mut self, lhs: u16, rhs: u16) -> Tried<Option<Vec<(u16, u16)>>> {
-        if self.has(Fault::NarrowerFirst) {
-            if let Some(narrower) = self.list(rhs, false)? {
-                return Ok(Some(narrower.into_iter().map(|narrower| (lhs, narrower)).collect()));
-            }
+        if self.has(Fault::NarrowerFirst)
+            && let Some(narrower) = self.list(rhs, false)?
+        {
+            return Ok(Some(narrower.into_iter().map(|narrower| (lhs, narrower)).collect()));
         }
         let mut tries = Vec::new();
         let wider = self.list(lhs, true)?;

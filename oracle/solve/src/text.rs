@@ -72,3 +72,35 @@ fn rows(words: &[u16], count: usize, end: usize) -> Vec<Row> {
         })
         .collect()
 }
+
+#[cfg(test)]
+mod tests {
+    use lists::read::Reader;
+
+    use super::*;
+    use crate::cases::Cases;
+    use crate::cases::Class;
+    use crate::expected::Expected;
+
+    /// What is printed of a list that differs is the list: read again, it has the same answer.
+    #[test]
+    fn the_text_of_a_list_says_it() {
+        for (class, _) in Class::ALL.into_iter().filter(|(class, _)| !matches!(class, Class::Damaged | Class::Words)) {
+            let cases = Cases::new(class, 6);
+            for index in 0..if matches!(class, Class::Full | Class::Large | Class::Deep) { 20 } else { 300 } {
+                let call = cases.case(index).expect("there are so many").call;
+                let expected = Expected::of(&call.memory).expect("the judges agree");
+                if matches!(expected.code(), 1 | 14) {
+                    continue; // By what is lent.
+                }
+                let mut reader = Reader::new();
+                for line in call_text(&call).lines() {
+                    reader.read(line.as_bytes()).unwrap_or_else(|bad| panic!("{bad}"));
+                }
+                let memory = reader.list().expect("there is a list").memory();
+                let read = Expected::of(&memory).expect("the judges agree");
+                assert_eq!(read.outcome, expected.outcome, "class {} number {index}", class.name());
+            }
+        }
+    }
+}
