@@ -48,7 +48,7 @@ step "situations, the recorded sample, the second search"
 cargo test --release --offline --quiet -p solve "${features[@]}" --lib -- --skip wrong_ports_are_found
 
 step "wrong stand-ins are found"
-target/release/oracle-solve-faults --seed "$seed"
+target/release/oracle-solve-faults --seed "$seed" | tail -n 1
 
 step "the recorded sample is what the excerpt answers"
 target/release/oracle-solve-sample --seed 1 | cmp - recorded/solve.txt

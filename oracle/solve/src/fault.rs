@@ -98,6 +98,7 @@ pub enum Fault {
 
     // Nodes, scratch and bindings at exit.
     NodesLeftAfter17,
+    NodesLeftAfterRoom,
     NodesLeftWhereNoneMade,
     NodeEntriesLeft,
     NodesOneWordFew,
@@ -105,7 +106,9 @@ pub enum Fault {
     ScratchOneWordFew,
     ScratchToCeiling,
     ScratchLeftAfter17,
+    ScratchLeftAfterRoom,
     TrailEntryLeft,
+    BindingsLeftAfterRoom,
     BindingLeft,
     JoinLeftOpen,
     BindingsFreed,
@@ -135,7 +138,7 @@ pub enum Fault {
 /// The codes of the checks in their order.
 pub const CODES: [u16; 13] = [1, 2, 3, 4, 5, 6, 7, 8, 9, 10, 11, 12, 14];
 
-const SINGLE: [(Fault, &str); 87] = [
+const SINGLE: [(Fault, &str); 90] = [
     (Fault::AlwaysNoTyping, "17 for everything"),
     (Fault::FirstConstraintOnly, "only the first constraint is obeyed"),
     (Fault::DisjunctionStops, "a disjunction stops at its first success"),
@@ -211,6 +214,7 @@ const SINGLE: [(Fault, &str); 87] = [
     (Fault::RowsPastKeptCleared, "0 clears the rows past the kept sorts"),
     (Fault::UnusedWordsLeft, "unused words of new rows are not written"),
     (Fault::NodesLeftAfter17, "17 does not clear nodes"),
+    (Fault::NodesLeftAfterRoom, "15 and 16 do not clear nodes"),
     (Fault::NodesLeftWhereNoneMade, "nodes are not cleared where none was made"),
     (Fault::NodeEntriesLeft, "node entries are not cleared"),
     (Fault::NodesOneWordFew, "one word of the nodes too few is cleared"),
@@ -218,6 +222,8 @@ const SINGLE: [(Fault, &str); 87] = [
     (Fault::ScratchOneWordFew, "one word of the scratch too few is cleared"),
     (Fault::ScratchToCeiling, "4,096 words of a longer scratch are cleared"),
     (Fault::ScratchLeftAfter17, "17 does not clear the scratch"),
+    (Fault::ScratchLeftAfterRoom, "15 and 16 do not clear the scratch"),
+    (Fault::BindingsLeftAfterRoom, "15 and 16 leave bindings"),
     (Fault::TrailEntryLeft, "undoing stops one entry of the trail early"),
     (Fault::BindingLeft, "one binding is left at exit"),
     (Fault::JoinLeftOpen, "bindings of a Join's first way are left"),

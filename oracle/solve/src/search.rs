@@ -157,7 +157,7 @@ impl<'a> Search<'a> {
     /// The whole search; whether a leaf was found is told by `best`.
     pub fn run(&mut self) -> Result<(), Stop> {
         let found = self.solve(0);
-        if found.is_err() {
+        if found.is_err() && !self.has(Fault::BindingsLeftAfterRoom) {
             self.undo(0);
         }
         found.map(|_| ())

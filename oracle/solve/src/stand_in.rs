@@ -251,6 +251,7 @@ fn leave_nodes(fault: Option<Fault>, code: u16, memory: &Memory, written: &mut W
     let last = nodes[nodes.len() - 1];
     match fault {
         Some(Fault::NodesLeftAfter17) if code == 17 => {}
+        Some(Fault::NodesLeftAfterRoom) if matches!(code, 15 | 16) => {}
         Some(Fault::NodesLeftWhereNoneMade) if !made => {}
         Some(Fault::NodeEntriesLeft) => nodes[ROW * rows..NODE_ENTRIES_AT].fill(0),
         Some(Fault::NodesToCeiling) => clear(&mut nodes[..NODE_STORAGE], rows, NODE_ENTRIES_AT, entries),
@@ -265,6 +266,7 @@ fn leave_scratch(fault: Option<Fault>, code: u16, written: &mut Written) {
     let scratch = &mut written.scratch[..];
     let words = match fault {
         Some(Fault::ScratchLeftAfter17) if code == 17 => 0,
+        Some(Fault::ScratchLeftAfterRoom) if matches!(code, 15 | 16) => 0,
         Some(Fault::ScratchOneWordFew) => scratch.len() - 1,
         Some(Fault::ScratchToCeiling) => SCRATCH,
         _ => scratch.len(),

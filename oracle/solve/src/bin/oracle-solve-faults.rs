@@ -19,8 +19,10 @@ fn run(options: &Options) -> Result<(), Failure> {
     for line in &hunt.found {
         println!("{line}");
     }
-    match hunt.missed() {
-        missed if missed.is_empty() => Ok(()),
-        missed => Err(Failure::Run(format!("not found: {}", missed.join("; ")))),
+    let missed = hunt.missed();
+    if !missed.is_empty() {
+        return Err(Failure::Run(format!("not found: {}", missed.join("; "))));
     }
+    println!("{} wrong stand-ins, each is found", hunt.found.len());
+    Ok(())
 }
