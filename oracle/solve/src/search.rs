@@ -1,4 +1,4 @@
-//! The search, written a second time from document 01 over the memory form: a trail of bindings, interning by a
+//! The search, written a second time, over the memory form: a trail of bindings, interning by a
 //! scan, nodes given back after a widening. A witness beside the excerpt, and what the stand-in and its wrong
 //! variants run.
 
