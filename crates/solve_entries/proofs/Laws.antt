@@ -2,7 +2,7 @@
 -- is the defined outcome. Assumes nothing.
 use mathlib.Core.Path.{_≡_, refl, sym, ap, _∙_, subst}
 use mathlib.Core.List.{List, []}
-use mathlib.Core.Option.{none, some}
+use mathlib.Core.Option.{none}
 use Prim.Native.Nat.{ℕ, _≤_}
 use native.Mathlib.Omega.{arith}
 use lib.ListN.{length}
@@ -18,7 +18,7 @@ use Rattle.inference.specs.declared.Solved.the-variants.{Refused as Refuses}
 use Rattle.inference.specs.Constraints.{baseNameAt, rowsFrom}
 use Rattle.inference.specs.Search.{Out}
 use Rattle.inference.specs.SolveChecks.{Call, solveChecks}
-use Rattle.inference.specs.SolveEntry.{Left, baseNamesOf, solveEntry, problemOf}
+use Rattle.inference.specs.SolveEntry.{Left, solveEntry, problemOf}
 use Rattle.search_state.specs.declared.Sizes.{Sizes}
 use Rattle.search_state.specs.declared.State.{State}
 use Rattle.search_state.specs.declared.Branch.{Branch}

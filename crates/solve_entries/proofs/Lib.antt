@@ -1,2 +1,3 @@
 -- The laws of the entry.
 pub mod Laws
+pub mod EntryTyping

@@ -107,8 +107,10 @@ fn solve_passed(
     )
 }
 
-// Infers the sorts of the expressions: a typing whose measure is least, with the choices that lead to it; none; or that two have it.
-// The sorts of a typing, 17 and 18 stay; nodes and bindings are as at entry, and the scratch is zero.
+// Infers the sorts of the expressions. A refusal (1 to 14) changes nothing. After 15 and 16 sorts and nodes are those given, with zeros past
+// them; after 0, 17 and 18 new sorts stay, and past the given nodes are zeros. After 15 to 18 and 0 the bindings are as at entry and
+// the scratch is zero. Outputs are written under 0 only, up to their counts: the typing with the least measure of the leaves met.
+// Ruled out: 17 for a list whose search met a leaf; a typing written where the least measure was met twice.
 pub fn solve(
     sorts: &mut [u16],
     nodes: &mut [u16],
