@@ -3,24 +3,21 @@
 -- cases of two answers. Assumes nothing.
 use mathlib.Core.Path.{_≡_, refl, sym, ap, subst, _∙_}
 use mathlib.Core.Bool.{Bool, true, false}
-use mathlib.Core.List.{List, [], _∷_}
-use mathlib.Core.Logic.{_⊎_, inl, inr}
+use mathlib.Core.Logic.{inl, inr}
 use mathlib.Core.Option.{Option, none, some}
 use Prim.Native.Nat.{ℕ, _+_, _*_, _%_, _≤_}
 use native.Mathlib.Omega.{arith}
 use lib.ListN.{length, length-map}
 use Rattle.resolved_sort.specs.declared.Counts.{Counts}
 use Rattle.resolved_sort.specs.Checks.{firstFailing}
-use Rattle.resolved_sort.proofs.Reached.{no-confusion}
 use Rattle.unification.specs.NodeChecks.{nodeChecks}
 use Rattle.unification.specs.Making.{Lent}
 use Rattle.unify_entries.proofs.Codes.{Numbered, failing-number}
 use Rattle.inference.specs.declared.Outputs.{Outputs}
 use Rattle.inference.specs.declared.Solved.{Solved}
 use Rattle.inference.specs.declared.Solved.the-variants.{Refused, NoRoom, NoTyping, Ambiguous, Typing}
-use Rattle.inference.specs.Constraints.{maxConstraints, maxComponents}
 use Rattle.inference.specs.Search.{Candidate, World, Out, found, missed, ended}
-use Rattle.inference.specs.SolveChecks.{Call, given, disjunctions, components, solveChecks}
+use Rattle.inference.specs.SolveChecks.{Call, given, solveChecks}
 use Rattle.inference.specs.SolveEntry.{problemOf, start, lentOf, searched, Left, judged, judgedBy, verdict, nothingMet, solveEntry, codeSolved, choicesOut}
 use Rattle.inference.proofs.Accepted.{passed-is-searched}
 use Rattle.inference.proofs.ListsLeft.{countsOf, sorts-only-grow}

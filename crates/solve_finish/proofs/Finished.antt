@@ -9,15 +9,14 @@ use Prim.Native.Nat.{ℕ}
 use lib.ListN.{length, replicate}
 use Rattle.resolved_sort.specs.Checks.{firstFailing}
 use Rattle.resolved_sort.proofs.GivenBack.{given-back-agrees}
-use Rattle.unification.specs.declared.Lengths.{Lengths}
 use Rattle.unification.specs.Nodes.{bindsOf}
 use Rattle.unification.specs.Making.{Lent}
 use Rattle.unification.proofs.Grows.{CheckedLent, NodesAgree}
 use Rattle.inference.specs.declared.Solved.the-variants.{NoRoom}
-use Rattle.inference.specs.Constraints.{BaseName, Problem}
+use Rattle.inference.specs.Constraints.{BaseName}
 use Rattle.inference.specs.Search.{Candidate, Out, found, missed, ended, solve}
 use Rattle.inference.specs.SolveChecks.{Call, solveChecks}
-use Rattle.inference.specs.SolveEntry.{problemOf, baseNamesOf, lentOf, searched, Left, nodesGivenBack, cleared, leftWith, countsIn, judged, judgedBy, verdict, nothingMet, solveEntry}
+use Rattle.inference.specs.SolveEntry.{problemOf, baseNamesOf, lentOf, searched, Left, cleared, leftWith, countsIn, judged, judgedBy, verdict, nothingMet, solveEntry}
 use Rattle.inference.proofs.Accepted.{passed-is-searched}
 use Rattle.inference.proofs.ListsLeft.{nodes-given-back-agree, Ends, search-gives-nodes-back}
 use Rattle.search_state.specs.declared.Sizes.{Sizes}

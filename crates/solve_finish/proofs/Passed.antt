@@ -4,17 +4,16 @@ use mathlib.Core.Path.{_≡_, refl, sym, ap, subst, _∙_}
 use mathlib.Core.Bool.{Bool, true, _&&_, and-eq-true-iff}
 use mathlib.Core.List.{List, [], _∷_}
 use mathlib.Core.Option.{none}
-use Prim.Native.Nat.{ℕ, _+_, _*_, _≤_}
+use Prim.Native.Nat.{ℕ, _*_, _≤_}
 use native.Mathlib.Omega.{arith}
 use lib.Dec.{leb, eqb}
 use lib.ListN.{length}
 use borrow.Author.Tests.{leb-true}
-use Rattle.resolved_sort.specs.Storage.{kindAt, fullLength}
+use Rattle.resolved_sort.specs.Storage.{kindAt}
 use Rattle.resolved_sort.specs.Checks.{firstFailing, allBelow, fixedSix, atCeiling}
 use Rattle.resolved_sort.proofs.FirstFailing.{cons-passes}
 use Rattle.unification.specs.Nodes.{fullNodes, bindsOf}
 use Rattle.unification.specs.NodeChecks.{nodeChecks}
-use Rattle.unification.specs.Trail.{frees}
 use Rattle.unification.proofs.Equations.{frees-few}
 use Rattle.unification.proofs.Passed.{length-binds}
 use Rattle.inference.specs.declared.Constraint.{Constraint}
@@ -25,11 +24,11 @@ use Rattle.inference.specs.SolveEntry.{problemOf, lentOf}
 use Rattle.inference.proofs.Members.{length-rows, rows-all-left}
 use Rattle.inference.proofs.Accepted.{Accepted, accepted, within}
 use Rattle.search_state.specs.declared.Next.the-variants.{Solve}
-use Rattle.search_state.specs.Memory.{problemIn, restFrom, chosenExprs, problemWords, trailWords, scratchUsed}
+use Rattle.search_state.specs.Memory.{problemIn, restFrom, chosenExprs, problemWords}
 use Rattle.search_state.specs.Searching.{Suits, Sized, Searching}
 use Rattle.problem_words.specs.Packed.{problemFrom, Packable}
 use Rattle.solve_finish.specs.Begin.{CountsFit, RowsFit, sizesOf, noIncumbent, nothingTaken}
-use Rattle.solve_finish.specs.Finish.{Handable, SortsReturnable, NodesReturnable}
+use Rattle.solve_finish.specs.Finish.{Handable}
 
 first : (a b : Bool) → (a && b) ≡ true → a ≡ true
 first a b f = and-eq-true-iff a b .0 f .0
@@ -237,16 +236,6 @@ module _ (I : Call) (x : firstFailing (solveChecks I) ≡ none) where
           measure = passed-outputs .measure;
           choices = passed-outputs .choices;
         }
-
-  pub sorts-returnable : (ws : List ℕ) → length ws ≡ length (I .sorts) → SortsReturnable ws (I .lengths)
-  sorts-returnable ws l =
-      let c = passed-accepted .ready .nodes in
-      record { sorts = c .sorts .sorts; entries = c .sorts .entries; long = omega (arith, c .sorts .long, l) }
-
-  pub nodes-returnable : (ns : List ℕ) → length ns ≡ length (I .nodes) → NodesReturnable ns (I .lengths)
-  nodes-returnable ns l =
-      let c = passed-accepted .ready .nodes in
-      record { nodes = c .nodes; arguments = c .entries; long = omega (arith, c .long, l) }
 
 pub packed-problem : (I : Call) → problemFrom (I .exprs) (I .constraints) (I .overloads) (I .sources) (sizesOf I) ≡ problemOf I
 unfolding sizesOf
