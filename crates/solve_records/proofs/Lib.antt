@@ -1,0 +1,2 @@
+-- The laws of a list of records as words.
+pub mod Unpacked
