@@ -1,2 +1,4 @@
--- The laws of a list of records as words.
+-- The laws of a list of records as words, and steps that the walks by hand share.
 pub mod Unpacked
+pub mod Again
+pub mod Frames

@@ -40,7 +40,7 @@ use Rattle.solve_records.specs.declared.OverloadRecord.{OverloadRecord}
 use Rattle.solve_records.specs.Records.{noRecord}
 use Rattle.solve_records.proofs.OverloadRecord as T
 use Rattle.solve_records.proofs.OverloadRecord.Laws as T′
-use Rattle.solve_records.proofs.record_at.Key.{name as #solve_records·record-at}
+use Rattle.solve_records.proofs.record_at.Key.{name as #solve-records·record-at}
 use Rattle.solve_records.proofs.record_at as record-at
 use Rattle.solve_records.proofs.record_at.Statement as stated
 use Rattle.solve_records.proofs.record_at.Code as code
@@ -113,5 +113,5 @@ pub record-at-spec : {M : Type 1} → stated.statement M
 unfolding code.routine tablesOf
 record-at-spec 𝓤 H 𝓜 𝓖 𝓡 =
     entered 𝓤 H (tripleOf 𝓤 H (𝓖 .A) record-at.signature (record-at.spec 𝓤 H (𝓖 .A) (𝓜 .mem) (𝓡 .run)))
-    (tables 𝓤 H 𝓜 𝓡 code.env .C) (tables 𝓤 H 𝓜 𝓡 code.env .Λ) #solve_records·record-at code.function (code.unfolded 𝓤 H 𝓜 𝓡)
+    (tables 𝓤 H 𝓜 𝓡 code.env .C) (tables 𝓤 H 𝓜 𝓡 code.env .Λ) #solve-records·record-at code.function (code.unfolded 𝓤 H 𝓜 𝓡)
     (record-at-meets 𝓤 H (𝓖 .A) (givenOf 𝓤 H 𝓜 𝓖) (𝓜 .mem) (𝓡 .run) (tablesOf 𝓤 H 𝓜 (tables 𝓤 H 𝓜 𝓡 code.env)))
