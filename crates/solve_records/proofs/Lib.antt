@@ -2,3 +2,4 @@
 pub mod Unpacked
 pub mod Again
 pub mod Frames
+pub mod Arrays
