@@ -109,3 +109,41 @@ fn solve_unpacked(
         choices,
     )
 }
+
+// Solves the constraints of a call whose overloads are records. Records above the ceiling are not looked at: a count that reaches
+// them is refused with 1.
+pub fn solve_records(
+    sorts: &mut [u16],
+    nodes: &mut [u16],
+    binds: &mut [u16],
+    exprs: &[u16],
+    names: &[u16],
+    constraints: &[u16],
+    overloads: &[OverloadRecord],
+    sources: &[u16],
+    given: Given,
+    scratch: &mut [u16],
+    typing: &mut [u16],
+    measure: &mut [u16],
+    choices: &mut [u16],
+) -> Solved
+    ensures { λ r. ⌜ leftOf r (now (sorts .exit)) (now (nodes .exit)) (now (binds .exit)) (now (scratch .exit)) (now (typing .exit)) (now (measure .exit)) (now (choices .exit)) ≡ solveEntry (callWith given (now (sorts .entry)) (now (nodes .entry)) (now (binds .entry)) (now (exprs .entry)) (now (names .entry)) (now (constraints .entry)) (recordWords (take maxOverloads (now (overloads .entry)))) (now (sources .entry)) (now (scratch .entry)) (now (typing .entry)) (now (measure .entry)) (now (choices .entry))) ⌝ }
+{
+    let words = unpack(overloads);
+    solve_unpacked(
+        sorts,
+        nodes,
+        binds,
+        exprs,
+        names,
+        constraints,
+        words,
+        overloads.len(),
+        sources,
+        given,
+        scratch,
+        typing,
+        measure,
+        choices,
+    )
+}
