@@ -127,4 +127,8 @@ step "unify: its judges, the stand-in and wrong ones"
 ./compare_unify.sh --stand-in --questions 50000 > "$work/out" || { cat "$work/out"; fail "compare_unify.sh"; }
 tail -n 1 "$work/out"
 
+step "solve: its judges, the stand-in and wrong ones"
+./compare_solve.sh --stand-in --questions 50000 > "$work/out" || { cat "$work/out"; fail "compare_solve.sh"; }
+tail -n 1 "$work/out"
+
 echo "test: all passed"

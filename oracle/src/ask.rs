@@ -46,12 +46,23 @@ pub fn ask(memory: &Memory, question: Question) -> Result<Asked, Failure> {
     if let Some(code) = checks::first_failing(memory, question) {
         return Ok(Asked { answer: Answer::code(code), heard: None, tally: Tally::default() });
     }
+    Ok(match hear(memory, question)? {
+        (Err(room), tally) => Asked { answer: Answer::code(room.code()), heard: None, tally },
+        (Ok(heard), tally) => {
+            let answer = Answer::heard(&heard, &tally, memory.sort_count);
+            Asked { answer, heard: Some(heard), tally }
+        }
+    })
+}
+
+/// What both builds say of a list that no check refuses, or where room ended, and what was counted.
+pub fn hear(memory: &Memory, question: Question) -> Result<(Result<Heard, OutOfRoom>, Tally), Failure> {
     let counted = panic::catch_unwind(|| merc_counting::ask(memory, question));
     let tally = ledger::end();
     let counting = match counted {
         Ok(heard) => heard,
         Err(thrown) => match thrown.downcast_ref::<OutOfRoom>() {
-            Some(room) => return Ok(Asked { answer: Answer::code(room.code()), heard: None, tally }),
+            Some(room) => return Ok((Err(*room), tally)),
             None => return Err(Failure::Panic(message(&*thrown))),
         },
     };
@@ -60,8 +71,7 @@ pub fn ask(memory: &Memory, question: Question) -> Result<Asked, Failure> {
     if plain != counting {
         return Err(Failure::Disagreement { plain: Box::new(plain), counting: Box::new(counting) });
     }
-    let answer = Answer::heard(&counting, &tally, memory.sort_count);
-    Ok(Asked { answer, heard: Some(counting), tally })
+    Ok((Ok(counting), tally))
 }
 
 fn message(thrown: &(dyn Any + Send)) -> String {

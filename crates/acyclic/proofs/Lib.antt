@@ -1,2 +1,3 @@
 -- The laws that the proofs of the code cite.
 pub mod Laws
+pub mod Growing

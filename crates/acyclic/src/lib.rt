@@ -1,5 +1,6 @@
 // Check 7 of document 01: no variable reaches itself. Round by round a variable is settled when it is free or when what it is
-// bound to is settled, and a sort when all that stands in it is; as many rounds as there are variables settle all that can be.
+// bound to is settled, and a sort when all that stands in it is; as many rounds as there are variables settle all that can be,
+// and where all are settled before, no further round is made.
 use infer_nodes::node;
 use sort_interner::word;
 use unification::InferSort;
@@ -119,6 +120,9 @@ pub fn acyclic(nodes: &[u16], m: usize, binds: &[u16], v: usize) -> bool
     while round < v {
         settle_nodes(nodes, m, &vars[..v], &mut flags);
         settle_vars(binds, v, &flags[..m], &mut vars);
+        if all_set(&vars[..v]) {
+            return true;
+        }
         round += 1;
     }
     all_set(&vars[..v])

@@ -6,8 +6,6 @@ use native.Mathlib.Omega.{arith}
 use lib.ListN.{length, getD, drop}
 use lib.Seq.{sets, length-sets, getD-drop}
 use Rattle.resolved_sort.proofs.Append.{getD-sets-before, getD-sets-at}
-use Rattle.inference.specs.declared.Constraint.{Constraint}
-use Rattle.inference.specs.declared.Overload.{Overload}
 use Rattle.inference.specs.Constraints.{target, constraint, constraintAt, overloadAt}
 use Rattle.inference.proofs.Members.{rows-same}
 use Rattle.search_state.specs.declared.Sizes.{Sizes}

@@ -1,9 +1,9 @@
 -- One branch after another. Lists that have grown suit the problem as before, so what was asked for on a branch holds after another one; and where a first
 -- part of the search is done, what comes after it is done from where it left off. By the growth of lists, and by the first answer. Assumes nothing.
 use mathlib.Core.Path.{_≡_, refl, sym, ap, _∙_, subst}
-use mathlib.Core.Bool.{Bool, true, false}
-use mathlib.Core.List.{List, [], _∷_}
-use Prim.Native.Nat.{ℕ, _+_, _-_, _<_, _≤_}
+use mathlib.Core.Bool.{Bool}
+use mathlib.Core.List.{List}
+use Prim.Native.Nat.{ℕ, _+_, _-_, _≤_}
 use native.Mathlib.Omega.{arith}
 use lib.ListN.{length}
 use Rattle.unification.specs.declared.Lengths.{Lengths}
@@ -13,7 +13,7 @@ use Rattle.unification.specs.Making.{Lent}
 use Rattle.unification.proofs.Grows.{CheckedLent, PlacedIn, Grows, placed-grown, grows-trans, ready-grown}
 use Rattle.inference.specs.declared.Constraint.{Constraint}
 use Rattle.inference.specs.Constraints.{Problem}
-use Rattle.inference.specs.Search.{Path, World, Out, found, missed, ended, orElse, andAlso, Next as Going}
+use Rattle.inference.specs.Search.{Path, World, Out, found, missed, orElse, andAlso, Next as Going}
 use Rattle.inference.specs.SolveEntry.{nothingMet}
 use Rattle.inference.specs.Typing.{All, none-left, and-all}
 use Rattle.inference.proofs.Accepted.{Listed, sub-listed, lit-listed, disjunction-listed, comprehension-listed, join-listed}
@@ -29,7 +29,7 @@ use Rattle.search_state.specs.declared.Went.{Went}
 use Rattle.search_state.specs.declared.Went.the-variants.{On, Stop}
 use Rattle.search_state.specs.Memory.{problemIn, trailWords, lent, chosenExprs, choicesOf, pathOf, worldOf, outOf}
 use Rattle.search_state.specs.Leaves.{afterOf}
-use Rattle.search_state.specs.Searching.{Suits, SourcesFine, NextFine, Searching, Grown, SamePath, Done, Comes}
+use Rattle.search_state.specs.Searching.{Suits, NextFine, Searching, Grown, SamePath, Done, Comes}
 use Rattle.search_state.proofs.Parts.{same-path-refl, same-path-trans}
 
 -- What suits lists suits lists that have grown from them.

@@ -1,12 +1,12 @@
 -- The problem and the state of the search in words. The scratch: "trail 512, incumbent sorts 512, measure, best measure, choices, best choices 256 each".
 -- Of a choice only the position is kept: the choices go in the order of the disjunctions, whose expressions are in the problem.
-use mathlib.Core.Bool.{Bool, true, false, cond}
+use mathlib.Core.Bool.{Bool, cond}
 use mathlib.Core.List.{List, [], _∷_}
 use mathlib.Core.Option.{Option, none, some}
 use Prim.Native.Nat.{ℕ, _+_, _-_}
 use lib.ListN.{getD, take, drop}
 use Rattle.unification.specs.declared.Lengths.{Lengths}
-use Rattle.unification.specs.Nodes.{Binds, bindsOf}
+use Rattle.unification.specs.Nodes.{Binds}
 use Rattle.unification.specs.Making.{Lent}
 use Rattle.inference.specs.declared.Constraint.{Constraint}
 use Rattle.inference.specs.Constraints.{constraintAt, overloadAt, rowsFrom, Problem}

@@ -1,10 +1,10 @@
 -- One try and what comes of it. A try changes the trail only; a step writes one word behind the branch's own; so the incumbent stands as it was, the path
 -- after the step is the defined one, and what comes next leaves both as they were, so that undoing the trail gives the bindings back. Assumes nothing.
 use mathlib.Core.Path.{_≡_, refl, sym, ap, ap₂, _∙_, subst}
-use mathlib.Core.Bool.{Bool, true, false, cond}
+use mathlib.Core.Bool.{Bool, cond}
 use mathlib.Core.List.{List, [], _∷_, _++_}
 use mathlib.Core.Option.{Option, none, some}
-use Prim.Native.Nat.{ℕ, zero, suc, _+_, _-_, _<_, _≤_}
+use Prim.Native.Nat.{ℕ, _+_, _-_, _<_, _≤_}
 use native.Mathlib.Numerals.{add-one}
 use native.Mathlib.Omega.{arith}
 use lib.ListN.{length, getD, set, take, drop, length-set, length-drop}
@@ -14,7 +14,7 @@ use Rattle.unification.specs.declared.Tried.the-variants.{Yes, No}
 use Rattle.unification.specs.Nodes.{Binds, bindsOf}
 use Rattle.unification.specs.Unify.{Unifies, yes-with, no-way}
 use Rattle.unification.specs.Checked.{graphOf}
-use Rattle.unification.specs.Trail.{undo, frees, countOf, answerOf}
+use Rattle.unification.specs.Trail.{undo, countOf, answerOf}
 use Rattle.unifier.specs.Trying.{Trying}
 use Rattle.unifier.proofs.Words.{undo-front}
 use Rattle.unifier.proofs.Tries.{binds-nothing}
@@ -26,14 +26,14 @@ use Rattle.search_state.specs.declared.Sizes.{Sizes}
 use Rattle.search_state.specs.declared.State.{State}
 use Rattle.search_state.specs.declared.Branch.{Branch}
 use Rattle.search_state.specs.declared.Answer.{Answer}
-use Rattle.search_state.specs.declared.Answer.the-variants.{Found, Missed, Full}
+use Rattle.search_state.specs.declared.Answer.the-variants.{Missed}
 use Rattle.search_state.specs.declared.Next.{Next}
 use Rattle.search_state.specs.declared.Pairs.{Pairs}
 use Rattle.search_state.specs.declared.Step.{Step}
 use Rattle.search_state.specs.declared.Step.the-variants.{Nothing, Component, Written, Choice}
-use Rattle.search_state.specs.Memory.{part, problemIn, restFrom, chosenExprs, trailWords, bestSortsAt, measureAt, bestMeasureAt, choicesAt, bestChoicesAt, scratchUsed, choicesOf, lent, pathOf, candidateOf, bestOf, worldOf, outOf, nextOf}
-use Rattle.search_state.specs.Leaves.{unifyPairs, PairsPlaced, TriesPairs, stepWords, addedComponents, addedChoices, branchAfter, stepped}
-use Rattle.search_state.specs.Searching.{Sized, Searching, constraintsIn, componentsIn, exprsOf, Grown, SamePath, Done, Comes, trying}
+use Rattle.search_state.specs.Memory.{part, problemIn, chosenExprs, trailWords, bestSortsAt, measureAt, bestMeasureAt, choicesAt, bestChoicesAt, scratchUsed, choicesOf, lent, pathOf, candidateOf, bestOf, worldOf, outOf, nextOf}
+use Rattle.search_state.specs.Leaves.{unifyPairs, TriesPairs, stepWords, addedComponents, addedChoices, branchAfter, stepped}
+use Rattle.search_state.specs.Searching.{Sized, Searching, constraintsIn, componentsIn, exprsOf, Done, Comes, trying}
 use Rattle.search_state.proofs.Parts.{length-part, take-part, part-append, part-set-end, part-set-before, part-set-after, part-in-back, take-shorter}
 
 -- where only the trail changed, the incumbent is the same

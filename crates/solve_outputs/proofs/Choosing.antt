@@ -1,9 +1,9 @@
 -- The rows of choices, written one constraint after another: storing the rows of what is left comes to storing all. By the constraint. Assumes nothing.
 use mathlib.Core.Path.{_≡_, refl, sym, ap, _∙_, subst}
 use mathlib.Core.List.{List, [], _∷_}
-use Prim.Native.Nat.{ℕ, zero, suc, _+_, _-_, _*_, _<_, _≤_}
+use Prim.Native.Nat.{ℕ, suc, _+_, _-_, _*_, _<_, _≤_}
 use native.Mathlib.Omega.{arith}
-use lib.ListN.{length, getD, set, length-set}
+use lib.ListN.{length, set, length-set}
 use lib.Seq.{sets}
 use Rattle.resolved_sort.specs.declared.Run.{Run}
 use Rattle.unification.specs.declared.InferSortId.{InferSortId}
@@ -15,7 +15,7 @@ use Rattle.inference.specs.SolveChecks.{disjunctions}
 use Rattle.inference.specs.SolveEntry.{choiceRows, over}
 use Rattle.inference.proofs.Members.{rows-all-left, rows-one-left, rows-none-left}
 use Rattle.search_state.specs.declared.Sizes.{Sizes}
-use Rattle.search_state.specs.Memory.{part, problemIn, chosenExprs, bestChoicesAt, scratchUsed, choicesOf}
+use Rattle.search_state.specs.Memory.{part, problemIn, restFrom, chosenExprs, bestChoicesAt, scratchUsed, choicesOf}
 use Rattle.search_state.specs.Searching.{Sized}
 use Rattle.search_state.proofs.Parts.{part-first}
 use Rattle.solve_outputs.specs.Written.{Walked, walked, positionAt, choiceBy}
@@ -123,11 +123,15 @@ module _ (sc old ls : List ℕ) (n : ℕ) where
     all-stored : n ≤ i → ch ≡ whole
     all-stored l = all-chosen sc old total whole ch k (subst (λ cs. Choosing sc old total whole cs ch k) (rows-none-left (constraintAt ls) n i l) (p .choosing))
 
+-- how many choices a problem has
+pub choices-in-all : (ls : List ℕ) (z : Sizes) → Sized (problemIn ls z) z → length (disjunctions (restFrom ls z 0)) ≡ z .disjunctions
+unfolding problemIn
+choices-in-all ls z s = ap (λ cs. length (disjunctions cs)) (rows-all-left (constraintAt ls) (z .constraints)) ∙ s .disjunctions
+
 -- for the constraints of a problem
 module _ (sc old ls : List ℕ) (z : Sizes) (s : Sized (problemIn ls z) z) (room : 2 * z .disjunctions ≤ length old) (used : scratchUsed ≤ length sc) where
   total-is : total sc old ls (z .constraints) ≡ z .disjunctions
-  unfolding problemIn
-  total-is = ap (λ cs. length (disjunctions cs)) (rows-all-left (constraintAt ls) (z .constraints)) ∙ s .disjunctions
+  total-is = choices-in-all ls z s
 
   pub choices-begin : ChoicesLeft sc old ls (z .constraints) old 0 0
   choices-begin =

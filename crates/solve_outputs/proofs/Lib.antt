@@ -1,3 +1,5 @@
 -- The laws of what is handed out and cleared.
 pub mod Over
 pub mod Choosing
+pub mod Naming
+pub mod TypingRows

@@ -11,11 +11,11 @@ use sort_interner::word;
 ghost use mathlib.Core.Path.{_≡_};
 ghost use mathlib.Core.List.{[]};
 ghost use mathlib.Core.Option.{some};
-ghost use Prim.Native.Nat.{_+_, _*_, _<_, _≤_};
+ghost use Prim.Native.Nat.{_+_, _*_, _≤_};
 ghost use lib.ListN.{length, drop};
 ghost use lib.Seq.{sets};
 ghost use Rattle.unification.specs.Nodes.{maxNodes, maxNodeEntries, fullNodes};
-ghost use Rattle.inference.specs.Constraints.{maxExprs, maxConstraints, maxComponents, overloadAt, baseNameAt, rowsFrom};
+ghost use Rattle.inference.specs.Constraints.{maxConstraints, maxComponents, overloadAt, baseNameAt, rowsFrom};
 ghost use Rattle.inference.specs.Names.{overloadIn, nameKind, nameSort};
 ghost use Rattle.inference.specs.SolveChecks.{disjunctionFor};
 ghost use Rattle.inference.specs.SolveEntry.{nodesGivenBack, cleared, typingRows, choiceRows, over};
@@ -91,4 +91,153 @@ pub fn write_choices(choices: &mut [u16], scratch: &[u16], lists: &[u16], sizes:
         k = write_choice(choices, scratch, constraint_at(lists, i), k);
         i += 1;
     }
+}
+
+// The kind of a name, as it is handed out.
+fn kind_word(name: NameTarget) -> u16
+    ensures { λ r. ⌜ r ≡ nameKind (some name) ⌝ }
+{
+    match name {
+        NameTarget::Variable => 1,
+        NameTarget::Op(_) => 2,
+        NameTarget::Builtin => 3,
+    }
+}
+
+// The sort of a name, as it is handed out. Only an operation has one.
+fn sort_word(name: NameTarget) -> u16
+    ensures { λ r. ⌜ r ≡ nameSort (some name) ⌝ }
+{
+    match name {
+        NameTarget::Variable => 0,
+        NameTarget::Op(sort) => sort.0,
+        NameTarget::Builtin => 0,
+    }
+}
+
+// The name of an expression, where it is one of those that have a row.
+fn put_name(typing: &mut [u16], exprs: u16, x: u16, name: NameTarget)
+    ensures { λ _. ⌜ now (typing .exit) ≡ named exprs (now (typing .entry)) x name ⌝ }
+{
+    if x < exprs {
+        let row = 3 * (x as usize);
+        put(typing, row + 1, kind_word(name));
+        put(typing, row + 2, sort_word(name));
+    }
+}
+
+// The sorts of the expressions, each with no name yet.
+fn write_sorts(typing: &mut [u16], scratch: &[u16], exprs: u16)
+    requires { ⌜ bestSortsAt + exprs ≤ length (now scratch) ⌝ }
+    ensures { λ _. ⌜ now (typing .exit) ≡ sets (now (typing .entry)) 0 (namedRows noName 0 (part bestSortsAt exprs (now (scratch .entry)))) ⌝ }
+{
+    let mut x: u16 = 0;
+    while x < exprs {
+        let row = 3 * (x as usize);
+        put(typing, row, word(scratch, 512 + (x as usize)));
+        put(typing, row + 1, 0);
+        put(typing, row + 2, 0);
+        x += 1;
+    }
+}
+
+// The base names, from the last to the first.
+fn write_base_names(typing: &mut [u16], names: &[u16], name_count: usize, exprs: u16)
+    requires { ⌜ 3 * «name_count» ≤ length (now names) ⌝ }
+    ensures { λ _. ⌜ now (typing .exit) ≡ baseNamed exprs (rowsFrom (baseNameAt (now (names .entry))) 0 «name_count») (now (typing .entry)) ⌝ }
+{
+    let mut i = name_count;
+    while 0 < i {
+        i -= 1;
+        let row = 3 * i;
+        let kind = word(names, row + 1);
+        let sort = word(names, row + 2);
+        put_name(typing, exprs, word(names, row), name_target(kind, sort));
+    }
+}
+
+// What the i-th of a run of overloads stands for. Past the overloads that is a variable, never what lies there.
+fn chosen_target(lists: &[u16], overloads: u16, run: Run, i: u16) -> NameTarget
+    ensures { λ r. ⌜ r ≡ overloadIn (rowsFrom (overloadAt (drop overloadsAt (now (lists .entry)))) 0 overloads) run i .target ⌝ }
+{
+    let at = (run.start as usize) + (i as usize);
+    if (overloads as usize) <= at {
+        return NameTarget::Variable;
+    }
+    let row = 1280 + 3 * at;
+    let kind = word(lists, row);
+    let sort = word(lists, row + 1);
+    name_target(kind, sort)
+}
+
+// Of a disjunction the name that its choice gives, which is the last of k. How many come before it.
+fn name_choice(
+    typing: &mut [u16],
+    scratch: &[u16],
+    lists: &[u16],
+    sizes: Sizes,
+    says: Constraint,
+    k: u16,
+) -> u16
+    requires { ⌜ (length (disjunctionFor says []) ≤ k) × (k ≤ maxConstraints) ⌝ }
+    ensures { λ r. ⌜ walked (now (typing .exit)) r ≡ nameBy (sizes .exprs) (rowsFrom (overloadAt (drop overloadsAt (now (lists .entry)))) 0 (sizes .overloads)) (now (scratch .entry)) says (now (typing .entry)) k ⌝ }
+{
+    match says {
+        Constraint::Sub { lhs: _, rhs: _ } => k,
+        Constraint::Lit { sort: _, kind: _ } => k,
+        Constraint::Disjunction {
+            expr,
+            sort: _,
+            disjuncts,
+        } => {
+            let before = k - 1;
+            let i = word(scratch, 1792 + (before as usize));
+            put_name(
+                typing,
+                sizes.exprs,
+                expr.0,
+                chosen_target(lists, sizes.overloads, disjuncts, i),
+            );
+            before
+        }
+        Constraint::Comprehension {
+            body: _,
+            node: _,
+            element: _,
+        } => k,
+        Constraint::Join {
+            sources: _,
+            target: _,
+        } => k,
+    }
+}
+
+// The names that the choices give, from the last to the first.
+fn write_chosen_names(typing: &mut [u16], scratch: &[u16], lists: &[u16], sizes: Sizes)
+    requires { ⌜ Sized (problemIn (now lists) sizes) sizes ⌝ }
+    ensures { λ _. ⌜ now (typing .exit) ≡ chosenNamed (sizes .exprs) (rowsFrom (overloadAt (drop overloadsAt (now (lists .entry)))) 0 (sizes .overloads)) (now (scratch .entry)) (restFrom (now (lists .entry)) sizes 0) 0 (now (typing .entry)) ⌝ }
+{
+    let mut k = sizes.disjunctions;
+    let mut i = sizes.constraints;
+    while 0 < i {
+        i -= 1;
+        k = name_choice(typing, scratch, lists, sizes, constraint_at(lists, i), k);
+    }
+}
+
+// The typing handed out: of each expression its sort, and its name, by a choice rather than a base name.
+pub fn write_typing(
+    typing: &mut [u16],
+    scratch: &[u16],
+    lists: &[u16],
+    names: &[u16],
+    name_count: usize,
+    sizes: Sizes,
+)
+    requires { ⌜ Sized (problemIn (now lists) sizes) sizes × (3 * sizes .exprs ≤ length (now typing)) × (3 * «name_count» ≤ length (now names)) × (scratchUsed ≤ length (now scratch)) ⌝ }
+    ensures { λ _. ⌜ now (typing .exit) ≡ over (typingRows (problemIn (now (lists .entry)) sizes) (rowsFrom (baseNameAt (now (names .entry))) 0 «name_count») (choicesOf (chosenExprs (now (lists .entry)) sizes) (part bestChoicesAt (sizes .disjunctions) (now (scratch .entry)))) 0 (part bestSortsAt (sizes .exprs) (now (scratch .entry)))) (now (typing .entry)) ⌝ }
+{
+    write_sorts(typing, scratch, sizes.exprs);
+    write_base_names(typing, names, name_count, sizes.exprs);
+    write_chosen_names(typing, scratch, lists, sizes);
 }

@@ -1,8 +1,9 @@
 // The solver's entry over a lent list of overload records, thinly above the core on numbers.
-use core_stub::solve;
 use inference::Solved;
 use resolved_sort::SortId;
 use solve_checks::Given;
+use solve_entries::solve;
+use solve_entries::sort_solve;
 use sort_interner::put;
 use unification::InferSortId;
 ghost use mathlib.Core.Path.{_≡_};
@@ -10,7 +11,11 @@ ghost use Prim.Native.Nat.{_<_, _*_, _+_, _^_, min};
 ghost use lib.ListN.{length, take, drop, replicate};
 ghost use lib.Seq.{sets};
 ghost use Rattle.inference.specs.Constraints.{maxOverloads};
-ghost use Rattle.core_stub.specs.Stub.{leftOf, callWith, solveEntry};
+ghost use Rattle.inference.specs.SolveEntry.{solveEntry};
+ghost use Rattle.solve_finish.specs.Begin.{callWith};
+ghost use Rattle.solve_finish.specs.Finish.{leftOf};
+ghost use Rattle.solve_finish.specs.Packed.{packed, packLeft};
+ghost use Rattle.solve_entries.specs.Given.{givenOf};
 ghost use Rattle.solve_records.specs.Records.{wordsOf, recordWords, recordAt, wordsOfCount};
 
 // What a name resolved to, as words: 1 a variable, 2 an operation with its sort, 3 a built-in. Another kind is refused by check 9.
@@ -141,6 +146,120 @@ pub fn solve_records(
         overloads.len(),
         sources,
         given,
+        scratch,
+        typing,
+        measure,
+        choices,
+    )
+}
+
+// The export of the core on the words of n records.
+fn sort_solve_unpacked(
+    sorts: &mut [u16],
+    sort_count: usize,
+    entry_count: usize,
+    nodes: &mut [u16],
+    node_count: usize,
+    node_entry_count: usize,
+    binds: &mut [u16],
+    var_count: usize,
+    exprs: &[u16],
+    expr_count: usize,
+    names: &[u16],
+    name_count: usize,
+    constraints: &[u16],
+    constraint_count: usize,
+    words: [u16; 3072],
+    n: usize,
+    overload_count: usize,
+    sources: &[u16],
+    source_count: usize,
+    default: u16,
+    scratch: &mut [u16],
+    typing: &mut [u16],
+    measure: &mut [u16],
+    choices: &mut [u16],
+) -> u64
+    ensures { λ r. ⌜ packed r (now (sorts .exit)) (now (nodes .exit)) (now (binds .exit)) (now (scratch .exit)) (now (typing .exit)) (now (measure .exit)) (now (choices .exit)) ≡ packLeft (solveEntry (callWith (givenOf «sort_count» «entry_count» «node_count» «node_entry_count» «var_count» «expr_count» «name_count» «constraint_count» «overload_count» «source_count» default) (now (sorts .entry)) (now (nodes .entry)) (now (binds .entry)) (now (exprs .entry)) (now (names .entry)) (now (constraints .entry)) (take (wordsOfCount n) words) (now (sources .entry)) (now (scratch .entry)) (now (typing .entry)) (now (measure .entry)) (now (choices .entry)))) ⌝ }
+{
+    let used = 3 * at_most(n);
+    sort_solve(
+        sorts,
+        sort_count,
+        entry_count,
+        nodes,
+        node_count,
+        node_entry_count,
+        binds,
+        var_count,
+        exprs,
+        expr_count,
+        names,
+        name_count,
+        constraints,
+        constraint_count,
+        &words[..used],
+        overload_count,
+        sources,
+        source_count,
+        default,
+        scratch,
+        typing,
+        measure,
+        choices,
+    )
+}
+
+// The entry over records for callers in other languages: a slice is a pointer and a length, counts are numbers, and the answer is packed.
+pub fn sort_solve_records(
+    sorts: &mut [u16],
+    sort_count: usize,
+    entry_count: usize,
+    nodes: &mut [u16],
+    node_count: usize,
+    node_entry_count: usize,
+    binds: &mut [u16],
+    var_count: usize,
+    exprs: &[u16],
+    expr_count: usize,
+    names: &[u16],
+    name_count: usize,
+    constraints: &[u16],
+    constraint_count: usize,
+    overloads: &[OverloadRecord],
+    overload_count: usize,
+    sources: &[u16],
+    source_count: usize,
+    default: u16,
+    scratch: &mut [u16],
+    typing: &mut [u16],
+    measure: &mut [u16],
+    choices: &mut [u16],
+) -> u64
+    ensures { λ r. ⌜ packed r (now (sorts .exit)) (now (nodes .exit)) (now (binds .exit)) (now (scratch .exit)) (now (typing .exit)) (now (measure .exit)) (now (choices .exit)) ≡ packLeft (solveEntry (callWith (givenOf «sort_count» «entry_count» «node_count» «node_entry_count» «var_count» «expr_count» «name_count» «constraint_count» «overload_count» «source_count» default) (now (sorts .entry)) (now (nodes .entry)) (now (binds .entry)) (now (exprs .entry)) (now (names .entry)) (now (constraints .entry)) (recordWords (take maxOverloads (now (overloads .entry)))) (now (sources .entry)) (now (scratch .entry)) (now (typing .entry)) (now (measure .entry)) (now (choices .entry)))) ⌝ }
+{
+    let words = unpack(overloads);
+    sort_solve_unpacked(
+        sorts,
+        sort_count,
+        entry_count,
+        nodes,
+        node_count,
+        node_entry_count,
+        binds,
+        var_count,
+        exprs,
+        expr_count,
+        names,
+        name_count,
+        constraints,
+        constraint_count,
+        words,
+        overloads.len(),
+        overload_count,
+        sources,
+        source_count,
+        default,
         scratch,
         typing,
         measure,

@@ -1,33 +1,30 @@
 -- A Join, as its code goes: the sort on which its sources agree first, and where that finds nothing one source after another as widenings. By one branch
 -- after another; the head distances are written behind the branch's own words. Assumes nothing.
-use mathlib.Core.Path.{_≡_, refl, sym, ap, ap₂, _∙_, subst}
+use mathlib.Core.Path.{_≡_, refl, sym, ap, _∙_, subst}
 use mathlib.Core.Bool.{Bool, cond}
 use mathlib.Core.Option.{none, some}
-use mathlib.Core.List.{List, [], _∷_, _++_}
+use mathlib.Core.List.{List, [], _∷_}
 use Prim.Native.Nat.{ℕ, _+_, _-_, _<_, _≤_}
 use native.Mathlib.Omega.{arith}
-use lib.ListN.{length, getD, take, drop}
 use Rattle.unification.specs.declared.InferSortId.{InferSortId}
 use Rattle.unification.specs.declared.Lengths.{Lengths}
 use Rattle.unification.specs.Nodes.{bindsOf}
 use Rattle.unification.specs.Checked.{Placed}
-use Rattle.unification.specs.Making.{Lent, graph, made, no-list, no-room, internContainer}
-use Rattle.unification.proofs.Grows.{CheckedLent, PlacedIn, Grows, placed-grown}
-use Rattle.inference.specs.Constraints.{Problem, rowsFrom, overloadAt}
-use Rattle.inference.specs.Search.{Path, World, Out, missed, ended, Next as Going, Agreed, joinOf, onMade, orElse, unifying, widening, sequence, joining, measured}
+use Rattle.unification.specs.Making.{Lent}
+use Rattle.unification.proofs.Grows.{PlacedIn, Grows, placed-grown}
+use Rattle.inference.specs.Constraints.{Problem, rowsFrom}
+use Rattle.inference.specs.Search.{Path, World, Out, Next as Going, Agreed, joinOf, onMade, orElse, unifying, widening, sequence, joining, measured}
 use Rattle.inference.specs.SolveEntry.{nothingMet}
-use Rattle.inference.specs.Typing.{All, none-left, and-all}
+use Rattle.inference.specs.Typing.{All, and-all}
 use Rattle.inference.proofs.Invariant.{SortsOnly, still-placed}
 use Rattle.search_state.specs.declared.Sizes.{Sizes}
 use Rattle.search_state.specs.declared.State.{State}
 use Rattle.search_state.specs.declared.Branch.{Branch}
 use Rattle.search_state.specs.declared.Answer.{Answer}
-use Rattle.search_state.specs.declared.Answer.the-variants.{Found, Missed, Full}
-use Rattle.search_state.specs.declared.Next.{Next}
+use Rattle.search_state.specs.declared.Answer.the-variants.{Missed, Full}
 use Rattle.resolved_sort.specs.declared.Run.{Run}
 use Rattle.resolved_sort.specs.declared.SortId.{SortId}
-use Rattle.unification.specs.Making.{Makes}
-use Rattle.inference.specs.Constraints.{maxComponents, maxConstraints}
+use Rattle.inference.specs.Constraints.{maxComponents}
 use Rattle.inference.specs.SolveChecks.{components}
 use Rattle.inference.proofs.MakingSorts.{MadeSorts, Agree, join-of-makes}
 use Rattle.search_state.specs.declared.Made.{Made}
@@ -35,11 +32,11 @@ use Rattle.search_state.specs.declared.Made.the-variants.{At, Nothing as NoSort
 use Rattle.search_state.specs.declared.Next.the-variants.{Solve, Source}
 use Rattle.search_state.specs.declared.Pairs.the-variants.{One}
 use Rattle.search_state.specs.declared.Step.the-variants.{Written}
-use Rattle.search_state.specs.Memory.{part, problemIn, sourceAt, chosenExprs, choicesOf, trailWords, bestSortsAt, measureAt, bestMeasureAt, choicesAt, bestChoicesAt, lent, pathOf, candidateOf, bestOf, worldOf, outOf, solveFrom, nextOf}
+use Rattle.search_state.specs.Memory.{part, problemIn, sourceAt, chosenExprs, choicesOf, trailWords, bestSortsAt, measureAt, bestMeasureAt, choicesAt, bestChoicesAt, lent, pathOf, candidateOf, bestOf, worldOf, solveFrom, nextOf}
 use Rattle.search_state.specs.Leaves.{ChangedOnly, unifyPairs, PairsPlaced, stepped, agreementOf, Agrees}
 use Rattle.search_state.specs.Searching.{Sized, Searching, SourcesFine, Agreeing, SamePath, Done, Comes, trying}
 use Rattle.search_state.proofs.Parts.{part-before, part-after, take-unchanged}
-use Rattle.search_state.proofs.After.{searching-grown, done-as, done-after, comes-after, same-path, or-stops, or-comes, grown-missed}
+use Rattle.search_state.proofs.After.{searching-grown, done-as, done-after, same-path, or-stops, or-comes, grown-missed}
 use Rattle.solver.proofs.Ways.{rows-more, rows-none, sort-placed, after-missed}
 use Rattle.solver.proofs.Widening.{withLengths}
 

@@ -1,27 +1,22 @@
 -- A literal, as its code goes: at a number sort on with its component, at a free place its tries, else it missed. By what stands at its place. Assumes
 -- nothing.
-use mathlib.Core.Path.{_≡_, refl, sym, ap, ap₂, _∙_, subst}
-use mathlib.Core.Bool.{Bool, true, false}
-use mathlib.Core.List.{List, [], _∷_, _++_}
-use Prim.Native.Nat.{ℕ, _+_, _-_, _<_, _≤_}
+use mathlib.Core.Path.{_≡_, sym, ap, _∙_, subst}
+use mathlib.Core.List.{List, []}
+use Prim.Native.Nat.{ℕ, _-_}
 use native.Mathlib.Omega.{arith}
-use lib.ListN.{length, getD, take, drop}
 use Rattle.unification.specs.declared.InferSortId.{InferSortId}
-use Rattle.unification.specs.declared.Lengths.{Lengths}
 use Rattle.unification.specs.Nodes.{bindsOf}
 use Rattle.unification.specs.Checked.{Placed}
-use Rattle.unification.specs.Making.{Lent, graph, made, no-list, no-room, internContainer}
-use Rattle.unification.proofs.Grows.{CheckedLent, PlacedIn, Grows, placed-grown}
-use Rattle.inference.specs.Constraints.{Problem, rowsFrom, overloadAt}
-use Rattle.inference.specs.Search.{Path, World, Out, missed, Next as Going, firstFound, literal, litTries, fromNat}
+use Rattle.unification.specs.Making.{graph}
+use Rattle.inference.specs.Constraints.{Problem}
+use Rattle.inference.specs.Search.{Path, World, missed, Next as Going, firstFound, literal, litTries, fromNat}
 use Rattle.inference.specs.SolveEntry.{nothingMet}
-use Rattle.inference.specs.Typing.{All, none-left, and-all}
-use Rattle.inference.proofs.Invariant.{SortsOnly, sorts-only-refl}
+use Rattle.inference.specs.Typing.{none-left, and-all}
 use Rattle.search_state.specs.declared.Sizes.{Sizes}
 use Rattle.search_state.specs.declared.State.{State}
 use Rattle.search_state.specs.declared.Branch.{Branch}
 use Rattle.search_state.specs.declared.Answer.{Answer}
-use Rattle.search_state.specs.declared.Answer.the-variants.{Found, Missed, Full}
+use Rattle.search_state.specs.declared.Answer.the-variants.{Missed}
 use Rattle.search_state.specs.declared.Next.{Next}
 use Rattle.inference.specs.declared.LitKind.{LitKind}
 use Rattle.inference.specs.declared.LitKind.the-variants.{Positive, Natural}

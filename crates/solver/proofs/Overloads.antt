@@ -1,26 +1,24 @@
 -- The overloads of a disjunction, as its code goes: a loop, in which what is left equals the whole. By one branch after another. Assumes nothing.
 use mathlib.Core.Path.{_≡_, refl, sym, ap, ap₂, _∙_, subst}
-use mathlib.Core.Bool.{Bool, true, false}
-use mathlib.Core.List.{List, [], _∷_, _++_}
+use mathlib.Core.Bool.{Bool, false}
+use mathlib.Core.List.{List, [], _∷_}
 use Prim.Native.Nat.{ℕ, suc, _+_, _-_, _<_, _≤_}
 use native.Mathlib.Omega.{arith}
-use lib.ListN.{length, getD, take, drop}
+use lib.ListN.{getD, drop}
 use Rattle.unification.specs.declared.InferSortId.{InferSortId}
 use Rattle.unification.specs.declared.Lengths.{Lengths}
 use Rattle.unification.specs.Nodes.{bindsOf}
 use Rattle.unification.specs.Checked.{Placed}
-use Rattle.unification.specs.Making.{Lent, graph, made, no-list, no-room, internContainer}
-use Rattle.unification.proofs.Grows.{CheckedLent, PlacedIn, Grows, placed-grown}
+use Rattle.unification.proofs.Grows.{CheckedLent, placed-grown}
 use Rattle.inference.specs.Constraints.{Problem, rowsFrom, overloadAt}
 use Rattle.inference.specs.Search.{Path, World, Out, Next as Going, andAlso, says, unifying, everyOverload, chosen}
 use Rattle.inference.specs.SolveEntry.{nothingMet}
-use Rattle.inference.specs.Typing.{All, none-left, and-all}
 use Rattle.inference.proofs.Invariant.{SortsOnly, sorts-only-refl, sorts-only-trans}
 use Rattle.search_state.specs.declared.Sizes.{Sizes}
 use Rattle.search_state.specs.declared.State.{State}
 use Rattle.search_state.specs.declared.Branch.{Branch}
 use Rattle.search_state.specs.declared.Answer.{Answer}
-use Rattle.search_state.specs.declared.Answer.the-variants.{Found, Missed, Full}
+use Rattle.search_state.specs.declared.Answer.the-variants.{Full}
 use Rattle.search_state.specs.declared.Next.{Next}
 use lib.Seq.{getD-drop}
 use Rattle.resolved_sort.specs.declared.Run.{Run}
@@ -31,12 +29,11 @@ use Rattle.search_state.specs.declared.Went.{Went}
 use Rattle.search_state.specs.declared.Went.the-variants.{On, Stop}
 use Rattle.search_state.specs.Memory.{overloadsAt, problemIn, chosenExprs, lent, pathOf, worldOf, nextOf}
 use Rattle.search_state.specs.Leaves.{unifyPairs, PairsPlaced, stepped, afterOf}
-use Rattle.search_state.specs.Searching.{Searching, SamePath, Done, Comes, exprsOf, trying}
+use Rattle.search_state.specs.Searching.{Searching, SamePath, Done, Comes, trying}
 use Rattle.search_state.proofs.Parts.{same-path-refl, same-path-trans}
 use Rattle.search_state.proofs.After.{searching-grown, done-as, done-after, same-path, and-stops, and-goes-on, grown-on}
 use Rattle.search_steps.specs.Steps.{saysOf}
 use Rattle.solver.specs.Asked.{OverloadsFine}
-use Rattle.solver.proofs.Ways.{rows-none}
 use Rattle.solver.proofs.Readings.{says-so}
 
 -- the expression of the next choice

@@ -2,37 +2,34 @@
 -- another, and by what interning leaves of the lists. Assumes nothing.
 use mathlib.Core.Path.{_≡_, refl, sym, ap, ap₂, _∙_, subst}
 use mathlib.Core.Bool.{Bool, true, false}
-use mathlib.Core.List.{List, [], _∷_, _++_}
+use mathlib.Core.List.{List, []}
 use Prim.Native.Nat.{ℕ, zero, suc, _+_, _<_, _≤_}
 use native.Mathlib.Omega.{arith}
-use lib.ListN.{length, getD, take, drop}
 use Rattle.unification.specs.declared.InferSortId.{InferSortId}
 use Rattle.unification.specs.declared.Lengths.{Lengths}
 use Rattle.unification.specs.Nodes.{bindsOf}
 use Rattle.unification.specs.Checked.{Placed}
-use Rattle.unification.specs.Making.{Lent, graph, made, no-list, no-room, internContainer}
-use Rattle.unification.proofs.Grows.{CheckedLent, PlacedIn, Grows, placed-grown}
-use Rattle.inference.specs.Constraints.{Problem, rowsFrom, overloadAt}
+use Rattle.unification.specs.Making.{Lent, made, internContainer}
+use Rattle.unification.proofs.Grows.{CheckedLent, placed-grown}
+use Rattle.inference.specs.Constraints.{Problem}
 use Rattle.inference.specs.Search.{Path, World, Out, missed, Next as Going, Reading, onMade, andAlso, says, unifying, everyReading, bound}
 use Rattle.inference.specs.SolveEntry.{nothingMet}
-use Rattle.inference.specs.Typing.{All, none-left, and-all}
-use Rattle.inference.proofs.Invariant.{SortsOnly, sorts-only-refl}
+use Rattle.inference.proofs.Invariant.{SortsOnly}
 use Rattle.search_state.specs.declared.Sizes.{Sizes}
 use Rattle.search_state.specs.declared.State.{State}
 use Rattle.search_state.specs.declared.Branch.{Branch}
 use Rattle.search_state.specs.declared.Answer.{Answer}
-use Rattle.search_state.specs.declared.Answer.the-variants.{Found, Missed, Full}
+use Rattle.search_state.specs.declared.Answer.the-variants.{Full}
 use Rattle.search_state.specs.declared.Next.{Next}
 use Rattle.resolved_sort.specs.declared.SortId.{SortId}
 use Rattle.search_state.specs.declared.Made.{Made}
 use Rattle.search_state.specs.declared.Made.the-variants.{At, Nothing as NoSort, Full as NoSortRoom}
-use Rattle.search_state.specs.declared.Pairs.{Pairs}
 use Rattle.search_state.specs.declared.Pairs.the-variants.{Two}
 use Rattle.search_state.specs.declared.Step.the-variants.{Nothing}
 use Rattle.search_state.specs.declared.Went.{Went}
 use Rattle.search_state.specs.declared.Went.the-variants.{On, Stop}
-use Rattle.search_state.specs.Memory.{problemIn, lent, pathOf, worldOf, outOf, nextOf}
-use Rattle.search_state.specs.Leaves.{unifyPairs, PairsPlaced, stepped, madeOf, afterOf}
+use Rattle.search_state.specs.Memory.{problemIn, lent, pathOf, worldOf, nextOf}
+use Rattle.search_state.specs.Leaves.{PairsPlaced, stepped, madeOf, afterOf}
 use Rattle.search_state.specs.Searching.{Searching, Done, Comes, trying}
 use Rattle.search_state.proofs.Parts.{same-path-refl}
 use Rattle.search_state.proofs.After.{searching-grown, misses, finds, done-as, done-after, and-stops, and-comes, grown-on}

@@ -1,28 +1,25 @@
 -- The constraints in turn, as the code goes: a prefix that is dominated is dropped, past the last constraint is the leaf, and else the first constraint is
 -- taken by its kind. What each kind asks for follows from what the checks have shown of it. Assumes nothing.
-use mathlib.Core.Path.{_≡_, refl, sym, ap, ap₂, _∙_, subst}
+use mathlib.Core.Path.{_≡_, refl, sym, ap, _∙_, subst}
 use mathlib.Core.Bool.{Bool, true, false, cond}
 use mathlib.Core.List.{List, [], _∷_, _++_}
 use Prim.Native.Nat.{ℕ, zero, suc, _+_, _-_, _<_, _≤_}
 use native.Mathlib.Omega.{arith}
-use lib.ListN.{length, getD, take, drop}
+use lib.ListN.{length, take, drop}
 use Rattle.unification.specs.declared.InferSortId.{InferSortId}
-use Rattle.unification.specs.declared.Lengths.{Lengths}
 use Rattle.unification.specs.Nodes.{bindsOf}
 use Rattle.unification.specs.Checked.{Placed}
-use Rattle.unification.specs.Making.{Lent, graph, made, no-list, no-room, internContainer}
-use Rattle.unification.proofs.Grows.{CheckedLent, PlacedIn, Grows, placed-grown}
+use Rattle.unification.specs.Making.{Lent}
+use Rattle.unification.proofs.Grows.{PlacedIn}
 use Rattle.inference.specs.Constraints.{Problem, rowsFrom, overloadAt}
-use Rattle.inference.specs.Search.{Path, World, Out, missed, Next as Going, step, solve, leaf, dominatedBy, unlessDominated, widening, literal, everyOverload, everyReading, readings, joining}
+use Rattle.inference.specs.Search.{Path, World, missed, Next as Going, step, solve, leaf, dominatedBy, widening, literal, everyOverload, everyReading, joining}
 use Rattle.inference.specs.SolveEntry.{nothingMet}
-use Rattle.inference.specs.Typing.{All, none-left, and-all}
-use Rattle.inference.proofs.Invariant.{SortsOnly, sorts-only-refl}
+use Rattle.inference.specs.Typing.{All, and-all}
 use Rattle.search_state.specs.declared.Sizes.{Sizes}
 use Rattle.search_state.specs.declared.State.{State}
 use Rattle.search_state.specs.declared.Branch.{Branch}
 use Rattle.search_state.specs.declared.Answer.{Answer}
-use Rattle.search_state.specs.declared.Answer.the-variants.{Found, Missed, Full}
-use Rattle.search_state.specs.declared.Next.{Next}
+use Rattle.search_state.specs.declared.Answer.the-variants.{Missed}
 use lib.ListN.{length-drop}
 use Rattle.resolved_sort.specs.declared.Run.{Run}
 use Rattle.resolved_sort.specs.declared.SortId.{SortId}
@@ -40,7 +37,7 @@ use Rattle.search_state.specs.declared.Next.the-variants.{Solve}
 use Rattle.search_state.specs.Memory.{part, overloadsAt, sourceAt, problemIn, restFrom, chosenExprs, measureAt, lent, pathOf, bestOf, worldOf, solveFrom, nextOf}
 use Rattle.search_state.specs.Searching.{Searching, SourcesFine, AtLeaf, Comparable, Comes}
 use Rattle.search_state.proofs.After.{misses, done-as}
-use Rattle.solver.specs.Asked.{OverloadsFine, exprsOfConstraint, readingAt, readingsFrom}
+use Rattle.solver.specs.Asked.{OverloadsFine, exprsOfConstraint, readingsFrom}
 use Rattle.solver.proofs.Ways.{rows-more, rows-none}
 
 -- one of the rows

@@ -1,45 +1,37 @@
 -- What the search comes to at each way through its code, as the code meets it: each premise is what a callee ensures, what a test says or what a match
 -- binds. By the laws of one branch after another. Assumes nothing.
 use mathlib.Core.Path.{_≡_, refl, sym, ap, ap₂, _∙_, subst}
-use mathlib.Core.Bool.{Bool, true, false, cond}
-use mathlib.Core.List.{List, [], _∷_, _++_}
+use mathlib.Core.List.{List, [], _∷_}
 use Prim.Native.Nat.{ℕ, zero, suc, _+_, _-_, _*_, _<_, _≤_}
 use native.Mathlib.Omega.{arith}
-use lib.ListN.{length, getD, take, drop}
-use Rattle.resolved_sort.specs.declared.Run.{Run}
+use lib.ListN.{take}
 use Rattle.unification.specs.declared.InferSortId.{InferSortId}
 use Rattle.unification.specs.declared.Lengths.{Lengths}
 use borrow.Author.Tests.{lt-ltb}
 use Rattle.resolved_sort.specs.Storage.{maxSorts}
 use Rattle.unification.specs.Nodes.{isPlace, bindsOf}
 use Rattle.unification.specs.Checked.{Placed}
-use Rattle.unification.specs.Making.{Lent, graph, Makes, made, no-list, no-room}
-use Rattle.unification.proofs.Grows.{CheckedLent, PlacedIn, Grows, placed-grown}
-use Rattle.inference.specs.declared.Constraint.{Constraint}
-use Rattle.inference.specs.Constraints.{constraintAt, overloadAt, rowsFrom, Problem}
-use Rattle.inference.specs.Measure.{Components}
-use Rattle.inference.specs.Search.{Path, World, Out, found, missed, ended, Try, Next as Going, orElse, andAlso, unifying, onYes, firstFound, widening, wider, literal, everyOverload, everyReading, sequence, joining, step, solve, measured}
+use Rattle.unification.specs.Making.{graph}
+use Rattle.unification.proofs.Grows.{Grows, placed-grown}
+use Rattle.inference.specs.Constraints.{rowsFrom, Problem}
+use Rattle.inference.specs.Search.{Path, World, Out, missed, Try, Next as Going, orElse, unifying, onYes, firstFound, sequence}
 use Rattle.inference.specs.SolveEntry.{nothingMet}
-use Rattle.inference.specs.Typing.{All, none-left, and-all}
+use Rattle.inference.specs.Typing.{none-left, and-all}
 use Rattle.search_state.specs.declared.Sizes.{Sizes}
 use Rattle.search_state.specs.declared.State.{State}
 use Rattle.search_state.specs.declared.Branch.{Branch}
 use Rattle.search_state.specs.declared.Answer.{Answer}
-use Rattle.search_state.specs.declared.Answer.the-variants.{Found, Missed, Full}
+use Rattle.search_state.specs.declared.Answer.the-variants.{Missed}
 use Rattle.search_state.specs.declared.Next.{Next}
 use Rattle.search_state.specs.declared.Next.the-variants.{Solve, Source}
 use Rattle.search_state.specs.declared.Pairs.{Pairs}
-use Rattle.search_state.specs.declared.Pairs.the-variants.{One, Two}
-use Rattle.search_state.specs.declared.Step.{Step}
-use Rattle.search_state.specs.declared.Step.the-variants.{Nothing, Component, Written, Choice}
+use Rattle.search_state.specs.declared.Step.the-variants.{Component}
 use Rattle.search_state.specs.declared.Tries.{Tries}
-use Rattle.search_state.specs.declared.Widenings.{Widenings}
-use Rattle.search_state.specs.declared.Widenings.the-variants.{These, NoList, Full as NoRoom}
-use Rattle.search_state.specs.Memory.{problemIn, restFrom, lent, pathOf, worldOf, outOf, solveFrom, nextOf, sourceAt}
-use Rattle.search_state.specs.Leaves.{unifyPairs, PairsPlaced, stepped, tryAt, triesFrom, widenings, Widens, givenBackTo}
-use Rattle.search_state.specs.Searching.{Searching, SourcesFine, NextFine, Grown, SamePath, Done, Comes, trying}
-use Rattle.search_state.proofs.After.{searching-grown, misses, done-as, comes-after, done-after, grown-missed, or-stops, or-missed, or-on, or-comes}
-use Rattle.search_state.proofs.Ways.{wider-by-widenings, given-back-in-answer, tries-are-placed, no-tries-makes-nothing, no-room-for-tries-grows, TryPlaced, TriesPlaced}
+use Rattle.search_state.specs.Memory.{problemIn, lent, pathOf, worldOf, solveFrom, nextOf, sourceAt}
+use Rattle.search_state.specs.Leaves.{unifyPairs, PairsPlaced, stepped, tryAt, triesFrom}
+use Rattle.search_state.specs.Searching.{Searching, Done, Comes, trying}
+use Rattle.search_state.proofs.After.{searching-grown, misses, done-as, grown-missed, or-stops, or-comes}
+use Rattle.search_state.proofs.Ways.{TryPlaced, TriesPlaced}
 use Rattle.search_steps.specs.Steps.{pairsOf}
 use Rattle.resolved_sort.specs.declared.ComplexSort.{ComplexSort}
 use Rattle.solver.specs.Asked.{TriesFine, bodyOf, opOf}

@@ -1,18 +1,17 @@
 -- A widening, as its code goes: equality first; where that missed, the tries of its list, whose nodes are given back; or no list; or no room. By one branch
 -- after another, and by what the tries leave of the lists. Assumes nothing.
-use mathlib.Core.Path.{_≡_, refl, sym, ap, ap₂, _∙_, subst}
-use mathlib.Core.List.{List, [], _∷_}
-use Prim.Native.Nat.{ℕ, _≤_}
+use mathlib.Core.Path.{_≡_, refl, sym, ap, _∙_, subst}
+use mathlib.Core.List.{List, []}
+use Prim.Native.Nat.{ℕ}
 use native.Mathlib.Omega.{arith}
-use lib.ListN.{length}
 use Rattle.unification.specs.declared.InferSortId.{InferSortId}
 use Rattle.unification.specs.declared.Lengths.{Lengths}
 use Rattle.unification.specs.Nodes.{bindsOf}
-use Rattle.unification.specs.Checked.{Ready, Placed}
-use Rattle.unification.specs.Making.{Lent, made, no-list, no-room}
-use Rattle.unification.proofs.Grows.{CheckedLent, Grows, grows-trans, given-back-grows, placed-grown}
+use Rattle.unification.specs.Checked.{Placed}
+use Rattle.unification.specs.Making.{Lent, made}
+use Rattle.unification.proofs.Grows.{Grows, grows-trans, given-back-grows, placed-grown}
 use Rattle.inference.specs.Constraints.{Problem}
-use Rattle.inference.specs.Search.{Path, World, Out, missed, ended, Next as Going, orElse, onMade, givenBack, unifying, firstFound, widening, wider}
+use Rattle.inference.specs.Search.{Path, World, Out, missed, Next as Going, orElse, onMade, givenBack, unifying, firstFound, widening, wider}
 use Rattle.inference.specs.SolveEntry.{nothingMet}
 use Rattle.inference.proofs.Invariant.{SortsOnly, sorts-only-refl}
 use Rattle.search_state.specs.declared.Sizes.{Sizes}
@@ -26,9 +25,9 @@ use Rattle.search_state.specs.declared.Step.the-variants.{Component}
 use Rattle.search_state.specs.declared.Tries.{Tries}
 use Rattle.search_state.specs.declared.Widenings.{Widenings}
 use Rattle.search_state.specs.declared.Widenings.the-variants.{These, NoList, Full as NoRoom}
-use Rattle.search_state.specs.Memory.{problemIn, lent, chosenExprs, choicesOf, part, measureAt, choicesAt, pathOf, bestOf, worldOf, outOf, nextOf}
+use Rattle.search_state.specs.Memory.{problemIn, lent, pathOf, worldOf, outOf, nextOf}
 use Rattle.search_state.specs.Leaves.{unifyPairs, stepped, triesFrom, widenings, widened, FewTries, Widens, givenBackTo}
-use Rattle.search_state.specs.Searching.{Searching, Grown, Done, Comes, trying}
+use Rattle.search_state.specs.Searching.{Searching, Grown, Comes, trying}
 use Rattle.search_state.proofs.Parts.{same-path-refl}
 use Rattle.search_state.proofs.After.{searching-grown, done-as, or-stops, or-comes, grown-missed}
 use Rattle.search_state.proofs.Ways.{tried, wider-by-widenings, given-back-in-answer, tries-are-placed, no-tries-makes-nothing, no-room-for-tries-grows}

@@ -73,7 +73,7 @@ pub fn solve(
     ensures { λ r. ⌜ Comes (now (lists .entry)) sizes (now (sorts .entry)) (now (nodes .entry)) (now (binds .entry)) (now (scratch .entry)) st at (solveFrom (now (lists .entry)) sizes index) (now (sorts .exit)) (now (nodes .exit)) (now (binds .exit)) (now (scratch .exit)) r ⌝ }
 {
     if dominated(scratch, sizes, st, at) {
-        return Answer::Missed(st);
+        return Answer::Missed(st); // dropped, which counts as not found
     }
     if sizes.constraints <= index {
         return leaf(sorts, nodes, binds, scratch, lists, sizes, st, at);

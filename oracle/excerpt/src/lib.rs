@@ -1,5 +1,5 @@
 //! The excerpt of merc: sorts, unifier and solver, cut from its unchanged text by the build, and
-//! [ask], which puts a list into them; [Lattice] has the sorts alone, [Places] sorts and unifier. Built
+//! [ask], which puts a list into them; [Lattice] has the sorts alone, [Places] sorts and unifier, [Listed] all. Built
 //! twice: plain, and counting (with the lines of `insertions.txt` and the `ledger`).
 
 mod inference;
@@ -13,6 +13,7 @@ mod unification;
 
 pub use judge::ask;
 pub use lattice::Lattice;
+pub use places::Listed;
 pub use places::Places;
 
 // The names under which the text of merc finds its own items.

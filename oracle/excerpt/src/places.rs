@@ -1,10 +1,12 @@
-//! Sorts, nodes and bindings: a list is put in once, then two of its places are unified.
+//! Sorts, nodes and bindings: a list is put in once, then two of its places are unified, or all of it is solved.
 
 use lists::memory::Memory;
 use lists::verdict::End;
+use lists::verdict::Verdict;
 
 use crate::Lattice;
 use crate::Unifier;
+use crate::inference;
 use crate::unification::bridge;
 
 pub struct Places<'a> {
@@ -33,5 +35,23 @@ impl Places<'_> {
     /// What each variable stands for.
     pub fn ends(&mut self) -> Vec<End> {
         bridge::ends(&mut self.unifier, self.memory)
+    }
+}
+
+/// A whole list: it is put in once, then solved.
+pub struct Listed<'a> {
+    pub(crate) places: Places<'a>,
+    problem: inference::bridge::Problem,
+}
+
+impl Listed<'_> {
+    /// Puts in a list that no check refuses.
+    pub fn load(memory: &Memory) -> Listed<'_> {
+        Listed { places: Places::load(memory), problem: inference::bridge::load(memory) }
+    }
+
+    pub fn solve(&mut self) -> Verdict {
+        let Places { lattice, unifier, .. } = &mut self.places;
+        inference::bridge::solve(&mut lattice.sorts, unifier, &self.problem)
     }
 }

@@ -61,6 +61,12 @@ impl Answer {
         self
     }
 
+    /// The answer without one of its sections.
+    pub fn without(mut self, section: &str) -> Answer {
+        self.sections.retain(|(other, _)| *other != section);
+        self
+    }
+
     /// The answer to a question that was put to the Rust on a list of `sorts` sorts.
     pub fn heard(heard: &Heard, tally: &Tally, sorts: usize) -> Answer {
         let new = new_words(sorts, &heard.new);

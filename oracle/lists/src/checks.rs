@@ -10,13 +10,14 @@ use crate::question::Question;
 
 /// The first failing check of the call that asks `question`, or `None` if the call is accepted.
 pub fn first_failing(memory: &Memory, question: Question) -> Option<u16> {
-    let call = Call {
-        memory,
-        question,
-        nodes: matches!(question, Question::Solve | Question::Unify(..)),
-        constraints: question == Question::Solve,
-    };
+    let call = Call::new(memory, question);
     CHECKS.iter().find(|(_, passes)| !passes(&call)).map(|&(code, _)| code)
+}
+
+/// Whether one check passes, on a call for which those that it leans on do.
+pub fn passes(memory: &Memory, question: Question, code: u16) -> bool {
+    let call = Call::new(memory, question);
+    CHECKS.iter().filter(|(other, _)| *other == code).all(|(_, passes)| passes(&call))
 }
 
 /// A question and the lists that its entry takes. Checks of other lists do not apply.
@@ -29,7 +30,12 @@ struct Call<'a> {
     constraints: bool,
 }
 
-impl Call<'_> {
+impl<'a> Call<'a> {
+    fn new(memory: &'a Memory, question: Question) -> Call<'a> {
+        let nodes = matches!(question, Question::Solve | Question::Unify(..));
+        Call { memory, question, nodes, constraints: question == Question::Solve }
+    }
+
     fn of_sorts(&self, passes: fn(&Memory) -> bool) -> bool {
         passes(self.memory)
     }

@@ -32,6 +32,73 @@ impl Counted {
     ];
 }
 
+impl Counted {
+    /// The most rows that a list may have. Base names have no ceiling.
+    pub fn ceiling(self) -> Option<usize> {
+        match self {
+            Counted::Sorts => Some(MAX_SORTS),
+            Counted::Entries => Some(MAX_ENTRIES),
+            Counted::Nodes => Some(MAX_NODES),
+            Counted::NodeEntries => Some(MAX_NODE_ENTRIES),
+            Counted::Vars => Some(MAX_VARIABLES),
+            Counted::Exprs => Some(MAX_EXPRESSIONS),
+            Counted::Names => None,
+            Counted::Constraints => Some(MAX_CONSTRAINTS),
+            Counted::Overloads => Some(MAX_OVERLOADS),
+            Counted::Sources => Some(MAX_SOURCES),
+        }
+    }
+
+    /// The slice that holds a list, the word at which its rows begin there, and the words of a row.
+    pub fn place(self) -> (Lent, usize, usize) {
+        match self {
+            Counted::Sorts => (Lent::Sorts, 0, ROW),
+            Counted::Entries => (Lent::Sorts, ENTRIES_AT, 1),
+            Counted::Nodes => (Lent::Nodes, 0, ROW),
+            Counted::NodeEntries => (Lent::Nodes, NODE_ENTRIES_AT, 1),
+            Counted::Vars => (Lent::Bindings, 0, 1),
+            Counted::Exprs => (Lent::Exprs, 0, 1),
+            Counted::Names => (Lent::Names, 0, NAME),
+            Counted::Constraints => (Lent::Constraints, 0, CONSTRAINT),
+            Counted::Overloads => (Lent::Overloads, 0, OVERLOAD),
+            Counted::Sources => (Lent::Sources, 0, 1),
+        }
+    }
+}
+
+impl Memory {
+    /// The count that the call is told of a list.
+    pub fn count(&self, list: Counted) -> usize {
+        match list {
+            Counted::Sorts => self.sort_count,
+            Counted::Entries => self.entry_count,
+            Counted::Nodes => self.node_count,
+            Counted::NodeEntries => self.node_entry_count,
+            Counted::Vars => self.variable_count,
+            Counted::Exprs => self.expr_count,
+            Counted::Names => self.name_count,
+            Counted::Constraints => self.constraint_count,
+            Counted::Overloads => self.overload_count,
+            Counted::Sources => self.source_count,
+        }
+    }
+
+    pub fn count_mut(&mut self, list: Counted) -> &mut usize {
+        match list {
+            Counted::Sorts => &mut self.sort_count,
+            Counted::Entries => &mut self.entry_count,
+            Counted::Nodes => &mut self.node_count,
+            Counted::NodeEntries => &mut self.node_entry_count,
+            Counted::Vars => &mut self.variable_count,
+            Counted::Exprs => &mut self.expr_count,
+            Counted::Names => &mut self.name_count,
+            Counted::Constraints => &mut self.constraint_count,
+            Counted::Overloads => &mut self.overload_count,
+            Counted::Sources => &mut self.source_count,
+        }
+    }
+}
+
 /// The slices that are lent.
 #[derive(Clone, Copy, Debug, Eq, PartialEq)]
 pub enum Lent {
@@ -141,7 +208,8 @@ impl Given {
         }
     }
 
-    fn count(&self, list: Counted) -> usize {
+    /// The count that the call is told.
+    pub fn count(&self, list: Counted) -> usize {
         self.said_count(list).map_or(self.rows(list), usize::from)
     }
 

@@ -40,12 +40,23 @@ pub fn damaged(rng: &mut Rng, size: usize) -> Case {
     faults.sort_unstable_by(|a, b| b.cmp(a));
     faults.dedup();
     case.questions = vec![question(rng, entry, &case.list)];
-    let mut damage = Damage { rng, list: &mut case.list, entry, question: &mut case.questions[0] };
+    let mut damage = Damage { rng, list: &mut case.list, entry, question: &mut case.questions[0], spare: 0 };
     for &code in &faults {
         damage.plant(code);
     }
     case.planted = faults.last().copied();
     case
+}
+
+/// Rows and entries that other faults may add to a list: [plant] keeps clear of them.
+const SPARE: usize = 100;
+
+/// Plants a fault for the solver beside others, one of checks 2 to 12. What it adds is at the end, and what names
+/// nothing in it still names nothing after more such faults.
+pub fn plant(rng: &mut Rng, list: &mut Given, code: u16) {
+    assert!((2..=12).contains(&code), "checks 1 and 14 look at what is lent");
+    let mut question = Question::Solve;
+    Damage { rng, list, entry: Entry::Solve, question: &mut question, spare: SPARE }.plant(code);
 }
 
 /// Replaces a row, or appends one.
@@ -73,6 +84,8 @@ struct Damage<'a> {
     list: &'a mut Given,
     entry: Entry,
     question: &'a mut Question,
+    /// How many rows more there may be in the end. Where there may be some, rows are only appended.
+    spare: usize,
 }
 
 impl Damage<'_> {
@@ -97,18 +110,18 @@ impl Damage<'_> {
     // Words that name nothing.
 
     fn no_sort(&mut self) -> u16 {
-        let count = self.list.sorts.len();
+        let count = self.list.sorts.len() + self.spare;
         self.rng.pick(&[count, count + 1, 1023, 1024, 65_535]).max(count) as u16
     }
 
     fn no_place(&mut self) -> u16 {
-        let (sorts, nodes) = (self.list.sorts.len(), self.list.nodes.len());
+        let (sorts, nodes) = (self.list.sorts.len() + self.spare, self.list.nodes.len() + self.spare);
         let first_node = usize::from(FIRST_NODE);
         self.rng.pick(&[sorts, 1023, first_node + nodes, first_node + nodes + 1, 65_534]) as u16
     }
 
     fn no_expression(&mut self) -> u16 {
-        let count = self.list.exprs.len();
+        let count = self.list.exprs.len() + self.spare;
         self.rng.pick(&[count, count + 1, 512, 65_535]).max(count) as u16
     }
 
@@ -144,18 +157,7 @@ impl Damage<'_> {
 
     /// Lends a slice that ends inside the last row of a list.
     fn lend_less_than(&mut self, list: Counted, rows: usize) {
-        let (slice, at, row) = match list {
-            Counted::Sorts => (Lent::Sorts, 0, ROW),
-            Counted::Entries => (Lent::Sorts, ENTRIES_AT, 1),
-            Counted::Nodes => (Lent::Nodes, 0, ROW),
-            Counted::NodeEntries => (Lent::Nodes, NODE_ENTRIES_AT, 1),
-            Counted::Vars => (Lent::Bindings, 0, 1),
-            Counted::Exprs => (Lent::Exprs, 0, 1),
-            Counted::Names => (Lent::Names, 0, NAME),
-            Counted::Constraints => (Lent::Constraints, 0, CONSTRAINT),
-            Counted::Overloads => (Lent::Overloads, 0, OVERLOAD),
-            Counted::Sources => (Lent::Sources, 0, 1),
-        };
+        let (slice, at, row) = list.place();
         let words = at + rows * row - self.rng.between(1, row);
         self.list.set_count(list, rows as u16);
         self.list.set_lend(slice, words as u16);
@@ -174,7 +176,7 @@ impl Damage<'_> {
 
     /// A bad row in place of one past the first six, or at the end.
     fn sort(&mut self) {
-        let number = self.rng.between(6, self.list.sorts.len());
+        let number = self.row_from(6, self.list.sorts.len());
         let above = (number + self.rng.below(3)) as u16;
         let row = match self.rng.below(6) {
             0 => Row::plain(self.rng.pick(&[kind::VARIABLE, 15, 16, 65_535]), 0),
@@ -187,6 +189,11 @@ impl Damage<'_> {
         put(&mut self.list.sorts, number, row);
     }
 
+    /// The number of a row from `first` on, or of one more.
+    fn row_from(&mut self, first: usize, rows: usize) -> usize {
+        if self.spare > 0 { rows } else { self.rng.between(first, rows) }
+    }
+
     fn function_sort(&mut self, range: u16, arguments: &[u16]) -> Row {
         let start = self.list.entries.len() as u16;
         self.list.entries.extend(arguments);
@@ -196,7 +203,7 @@ impl Damage<'_> {
     /// A function whose run ends past a list of `length` entries.
     fn leaving_run(&mut self, range: u16, length: usize) -> Row {
         let count = self.rng.below(3) as u16;
-        let start = (length + 1) as u16 - count.min(length as u16);
+        let start = (length + self.spare + 1) as u16 - count.min(length as u16);
         Row { kind: kind::FUNCTION, part: range, start, count }
     }
 
@@ -215,7 +222,7 @@ impl Damage<'_> {
 
     /// A bad row in place of one, or at the end.
     fn node(&mut self) {
-        let number = self.rng.between(0, self.list.nodes.len());
+        let number = self.row_from(0, self.list.nodes.len());
         let own = Place::Node((number + self.rng.below(3)) as u16).word();
         let part = if self.rng.chance(50) { own } else { self.no_place() };
         let row = match self.rng.below(7) {
@@ -225,7 +232,7 @@ impl Damage<'_> {
             3 => self.function_node(kind::BOOL, &[kind::NAT, part]),
             4 => self.function_node(kind::BOOL, &[kind::BOOL; MAX_ARGUMENTS + 1]),
             5 => self.leaving_run(kind::BOOL, self.list.node_entries.len()),
-            _ => Row::plain(kind::VARIABLE, (self.list.bindings.len() + self.rng.below(2)) as u16),
+            _ => Row::plain(kind::VARIABLE, (self.list.bindings.len() + self.spare + self.rng.below(2)) as u16),
         };
         put(&mut self.list.nodes, number, row);
     }
@@ -237,7 +244,7 @@ impl Damage<'_> {
     }
 
     fn some_variable(&mut self) -> usize {
-        if self.list.bindings.is_empty() || self.rng.chance(20) {
+        if self.list.bindings.is_empty() || self.spare > 0 || self.rng.chance(20) {
             self.list.bindings.push(FREE);
             return self.list.bindings.len() - 1;
         }

@@ -1,5 +1,7 @@
 //! Every small list of a kind.
 
+use std::sync::OnceLock;
+
 use lists::given::Given;
 use lists::memory::*;
 use lists::question::Question;
@@ -24,6 +26,9 @@ const COMPREHENSION_PLACES: [u16; 6] = [kind::BOOL, kind::POS, kind::NAT, SET_NA
 const OVERLOAD_PLACES: [u16; 6] = [kind::BOOL, kind::POS, kind::NAT, SET_NAT, BOOL_TO_NAT, V1];
 const SOURCE_PLACES: [u16; 8] = [kind::POS, kind::NAT, FSET_NAT, SET_NAT, BOOL_TO_POS, BOOL_TO_NAT, V1, FSET_V0];
 const TARGET_PLACES: [u16; 3] = [kind::NAT, V0, V1];
+
+/// The constraints of the small lists.
+static STOCK: OnceLock<Vec<Small>> = OnceLock::new();
 
 /// A constraint of the stock.
 #[derive(Clone, PartialEq)]
@@ -80,7 +85,7 @@ fn one_or_two(places: &[u16]) -> Vec<Vec<u16>> {
 
 /// The lists of one constraint, then those of two. Two disjunctions are for different expressions.
 pub fn small(index: u64) -> Option<Case> {
-    let stock = stock();
+    let stock = STOCK.get_or_init(stock);
     let length = stock.len() as u64;
     let chosen = match index.checked_sub(length) {
         None => vec![&stock[index as usize]],

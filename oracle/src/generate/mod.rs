@@ -14,6 +14,7 @@ use lists::question::Question;
 
 use crate::rng::Rng;
 
+pub use damage::plant;
 pub use random::of_sorts;
 
 /// Kinds of lists that can be made.

@@ -11,4 +11,3 @@ pub mod port;
 pub mod stand_in;
 pub mod terms;
 pub mod text;
-pub mod watch;

@@ -48,7 +48,9 @@ use Rattle.inference.proofs.Solved.Laws as S′
 use Rattle.solve_checks.specs.declared.Given.{Given}
 use Rattle.solve_checks.proofs.Given as G
 use Rattle.solve_checks.proofs.Given.Laws as G′
-use Rattle.core_stub.specs.Stub.{leftOf, callWith, solveEntry}
+use Rattle.inference.specs.SolveEntry.{solveEntry}
+use Rattle.solve_finish.specs.Begin.{callWith}
+use Rattle.solve_finish.specs.Finish.{leftOf}
 use Rattle.solve_records.specs.declared.OverloadRecord.{OverloadRecord}
 use Rattle.solve_records.specs.Records.{recordWords, wordsOfCount}
 use Rattle.solve_records.proofs.Frames.{full, releases, nest, opened, closed, fopened, fclosed}

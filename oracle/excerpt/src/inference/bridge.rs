@@ -19,28 +19,42 @@ use super::NameTarget;
 use super::Solver;
 use super::SubConstraint;
 use crate::InferSortId;
+use crate::ResolvedSortId;
 use crate::SortInterner;
 use crate::Unifier;
 use crate::resolved_sort::bridge::number;
 use crate::resolved_sort::bridge::sort_id;
 use crate::unification::bridge::node_id;
 
-/// Solves an accepted list.
-pub(crate) fn solve(sorts: &mut SortInterner, unifier: &mut Unifier, memory: &Memory) -> Verdict {
-    let constraints: Vec<Constraint> = memory.constraints().map(|row| constraint(memory, row)).collect();
-    let expr_sorts: Vec<InferSortId> =
-        memory.exprs[..memory.expr_count].iter().map(|&word| node_id(memory, word)).collect();
-    let base_names = base_names(memory);
+/// Constraints, expressions and base names of an accepted list.
+pub(crate) struct Problem {
+    constraints: Vec<Constraint>,
+    expr_sorts: Vec<InferSortId>,
+    base_names: HashMap<ExprId, NameTarget>,
+    default_sort: ResolvedSortId,
+}
+
+/// Reads the lists beside sorts, nodes and bindings.
+pub(crate) fn load(memory: &Memory) -> Problem {
+    Problem {
+        constraints: memory.constraints().map(|row| constraint(memory, row)).collect(),
+        expr_sorts: memory.exprs[..memory.expr_count].iter().map(|&word| node_id(memory, word)).collect(),
+        base_names: base_names(memory),
+        default_sort: sort_id(memory.default),
+    }
+}
+
+pub(crate) fn solve(sorts: &mut SortInterner, unifier: &mut Unifier, problem: &Problem) -> Verdict {
     let mut solver = Solver {
         sorts,
         unifier,
-        constraints: &constraints,
-        expr_sorts: &expr_sorts,
-        base_names: &base_names,
+        constraints: &problem.constraints,
+        expr_sorts: &problem.expr_sorts,
+        base_names: &problem.base_names,
         choices: Vec::new(),
         measure: Vec::new(),
         best: None,
-        default_sort: sort_id(memory.default),
+        default_sort: problem.default_sort,
     };
     solver.solve(0);
     assert!(solver.measure.is_empty() && solver.choices.is_empty(), "the solver unwinds its measure and choice stacks");
@@ -51,7 +65,7 @@ pub(crate) fn solve(sorts: &mut SortInterner, unifier: &mut Unifier, memory: &Me
             let (sorts, names) = best.typing.expect("a leaf always yields a typing");
             Verdict::Typing {
                 sorts: sorts.into_iter().map(number).collect(),
-                names: name_rows(&names, memory.expr_count),
+                names: name_rows(&names, problem.expr_sorts.len()),
                 measure: best.measure,
             }
         }

@@ -7,12 +7,12 @@ use std::time::Instant;
 use common::options;
 use common::options::Failure;
 use common::options::Options;
+use common::watch::Watch;
 use unify::cases::Cases;
 use unify::cases::Class;
 use unify::counts::Counts;
 use unify::port::LIBRARY;
 use unify::port::Port;
-use unify::watch::Watch;
 
 const DEFAULTS: [(&str, &str); 5] =
     [("class", "mixed"), ("seed", "1"), ("from", "0"), ("count", "1000000000"), ("questions", "10000")];

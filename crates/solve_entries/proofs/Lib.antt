@@ -1,0 +1,2 @@
+-- The laws of the entry.
+pub mod Laws

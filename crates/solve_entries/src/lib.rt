@@ -1,0 +1,223 @@
+// The entry solve. It takes the lent sort and node storage, the bindings, the lists of the problem and their counts, scratch and
+// outputs, tests them itself, and has no `requires`: whatever a caller hands in, the answer and all lent memory at exit are
+// the defined ones.
+use inference::Solved;
+use problem_words::pack;
+use resolved_sort::Tested;
+use search_state::Sizes;
+use solve_checks::Given;
+use solve_checks::Room;
+use solve_finish::finish;
+use solve_finish::lengths_of;
+use solve_finish::no_incumbent;
+use solve_finish::nothing_taken;
+use solve_finish::pack_solved;
+use solve_finish::sizes_of;
+use solve_tests::test_solve;
+use unification::Lengths;
+ghost use mathlib.Core.Path.{_≡_};
+ghost use mathlib.Core.List.{[]};
+ghost use mathlib.Core.Option.{none};
+ghost use Rattle.resolved_sort.specs.Checks.{firstFailing};
+ghost use Rattle.unification.specs.Nodes.{bindsOf};
+ghost use Rattle.inference.specs.Constraints.{baseNameAt, rowsFrom};
+ghost use Rattle.inference.specs.SolveChecks.{solveChecks};
+ghost use Rattle.inference.specs.SolveEntry.{solveEntry};
+ghost use Rattle.search_state.specs.declared.Next.the-variants.{Solve};
+ghost use Rattle.search_state.specs.Memory.{problemIn, pathOf, worldOf, solveFrom};
+ghost use Rattle.search_state.specs.Searching.{Searching};
+ghost use Rattle.solve_finish.specs.Begin.{callWith, noIncumbent, nothingTaken};
+ghost use Rattle.solve_finish.specs.Finish.{leftOf, leftBy, settledBy, Handable};
+ghost use Rattle.solve_finish.specs.Packed.{packed, packLeft};
+ghost use Rattle.solve_entries.specs.Given.{givenOf};
+
+// The search, from the first constraint on, and what comes after it.
+fn search(
+    sorts: &mut [u16],
+    nodes: &mut [u16],
+    binds: &mut [u16],
+    scratch: &mut [u16],
+    typing: &mut [u16],
+    measure: &mut [u16],
+    choices: &mut [u16],
+    lists: &[u16],
+    names: &[u16],
+    name_count: usize,
+    sizes: Sizes,
+    lengths: Lengths,
+) -> Solved
+    requires { ⌜ Searching (now sorts) (now nodes) (now binds) (now scratch) (now lists) sizes (noIncumbent lengths) nothingTaken 0 [] (Solve 0) × Handable (now scratch) (now lists) (now names) «name_count» sizes (now typing) (now measure) (now choices) ⌝ }
+    ensures { λ r. ⌜ leftOf r (now (sorts .exit)) (now (nodes .exit)) (now (binds .exit)) (now (scratch .exit)) (now (typing .exit)) (now (measure .exit)) (now (choices .exit)) ≡ leftBy lengths (now (nodes .entry)) (now (binds .entry)) (now (scratch .entry)) (settledBy (problemIn (now (lists .entry)) sizes) (rowsFrom (baseNameAt (now (names .entry))) 0 «name_count») (now (typing .entry)) (now (measure .entry)) (now (choices .entry)) lengths (solveFrom (now (lists .entry)) sizes 0 (pathOf (now (lists .entry)) sizes (bindsOf (now (binds .entry)) (lengths .variables)) (now (scratch .entry)) nothingTaken) (worldOf (now (lists .entry)) sizes (now (sorts .entry)) (now (nodes .entry)) (now (scratch .entry)) (noIncumbent lengths)))) ⌝ }
+{
+    let st = no_incumbent(lengths);
+    let at = nothing_taken();
+    let answer = solver::solve(sorts, nodes, binds, scratch, lists, sizes, st, at, 0);
+    finish(
+        sorts,
+        nodes,
+        scratch,
+        typing,
+        measure,
+        choices,
+        lists,
+        names,
+        name_count,
+        sizes,
+        lengths,
+        answer,
+    )
+}
+
+// Solve on lists that passed their checks.
+fn solve_passed(
+    sorts: &mut [u16],
+    nodes: &mut [u16],
+    binds: &mut [u16],
+    exprs: &[u16],
+    names: &[u16],
+    constraints: &[u16],
+    overloads: &[u16],
+    sources: &[u16],
+    given: Given,
+    scratch: &mut [u16],
+    typing: &mut [u16],
+    measure: &mut [u16],
+    choices: &mut [u16],
+) -> Solved
+    requires { ⌜ firstFailing (solveChecks (callWith given (now sorts) (now nodes) (now binds) (now exprs) (now names) (now constraints) (now overloads) (now sources) (now scratch) (now typing) (now measure) (now choices))) ≡ none ⌝ }
+    ensures { λ r. ⌜ leftOf r (now (sorts .exit)) (now (nodes .exit)) (now (binds .exit)) (now (scratch .exit)) (now (typing .exit)) (now (measure .exit)) (now (choices .exit)) ≡ solveEntry (callWith given (now (sorts .entry)) (now (nodes .entry)) (now (binds .entry)) (now (exprs .entry)) (now (names .entry)) (now (constraints .entry)) (now (overloads .entry)) (now (sources .entry)) (now (scratch .entry)) (now (typing .entry)) (now (measure .entry)) (now (choices .entry))) ⌝ }
+{
+    let lengths = lengths_of(given);
+    let sizes = sizes_of(constraints, given);
+    let mut lists = [0; 5120];
+    pack(&mut lists, exprs, constraints, overloads, sources, sizes);
+    search(
+        sorts,
+        nodes,
+        binds,
+        scratch,
+        typing,
+        measure,
+        choices,
+        &lists,
+        names,
+        given.names,
+        sizes,
+        lengths,
+    )
+}
+
+// Infers the sorts of the expressions: a typing whose measure is least, with the choices that lead to it; none; or that two have it.
+// The sorts of a typing, 17 and 18 stay; nodes and bindings are as at entry, and the scratch is zero.
+pub fn solve(
+    sorts: &mut [u16],
+    nodes: &mut [u16],
+    binds: &mut [u16],
+    exprs: &[u16],
+    names: &[u16],
+    constraints: &[u16],
+    overloads: &[u16],
+    sources: &[u16],
+    given: Given,
+    scratch: &mut [u16],
+    typing: &mut [u16],
+    measure: &mut [u16],
+    choices: &mut [u16],
+) -> Solved
+    ensures { λ r. ⌜ leftOf r (now (sorts .exit)) (now (nodes .exit)) (now (binds .exit)) (now (scratch .exit)) (now (typing .exit)) (now (measure .exit)) (now (choices .exit)) ≡ solveEntry (callWith given (now (sorts .entry)) (now (nodes .entry)) (now (binds .entry)) (now (exprs .entry)) (now (names .entry)) (now (constraints .entry)) (now (overloads .entry)) (now (sources .entry)) (now (scratch .entry)) (now (typing .entry)) (now (measure .entry)) (now (choices .entry))) ⌝ }
+{
+    let room = Room {
+        scratch: scratch.len(),
+        typing: typing.len(),
+        measure: measure.len(),
+        choices: choices.len(),
+    };
+    match test_solve(
+        sorts,
+        nodes,
+        binds,
+        exprs,
+        names,
+        constraints,
+        overloads,
+        sources,
+        given,
+        room,
+    ) {
+        Tested::Refused(code) => Solved::Refused(code),
+        Tested::Passed => solve_passed(
+            sorts,
+            nodes,
+            binds,
+            exprs,
+            names,
+            constraints,
+            overloads,
+            sources,
+            given,
+            scratch,
+            typing,
+            measure,
+            choices,
+        ),
+    }
+}
+
+// The entry for callers in other languages: a slice is a pointer and a length, counts are numbers, and the answer is packed.
+#[no_mangle]
+pub extern "C" fn sort_solve(
+    sorts: &mut [u16],
+    sort_count: usize,
+    entry_count: usize,
+    nodes: &mut [u16],
+    node_count: usize,
+    node_entry_count: usize,
+    binds: &mut [u16],
+    var_count: usize,
+    exprs: &[u16],
+    expr_count: usize,
+    names: &[u16],
+    name_count: usize,
+    constraints: &[u16],
+    constraint_count: usize,
+    overloads: &[u16],
+    overload_count: usize,
+    sources: &[u16],
+    source_count: usize,
+    default: u16,
+    scratch: &mut [u16],
+    typing: &mut [u16],
+    measure: &mut [u16],
+    choices: &mut [u16],
+) -> u64
+    ensures { λ r. ⌜ packed r (now (sorts .exit)) (now (nodes .exit)) (now (binds .exit)) (now (scratch .exit)) (now (typing .exit)) (now (measure .exit)) (now (choices .exit)) ≡ packLeft (solveEntry (callWith (givenOf «sort_count» «entry_count» «node_count» «node_entry_count» «var_count» «expr_count» «name_count» «constraint_count» «overload_count» «source_count» default) (now (sorts .entry)) (now (nodes .entry)) (now (binds .entry)) (now (exprs .entry)) (now (names .entry)) (now (constraints .entry)) (now (overloads .entry)) (now (sources .entry)) (now (scratch .entry)) (now (typing .entry)) (now (measure .entry)) (now (choices .entry)))) ⌝ }
+{
+    let given = Given {
+        sorts: sort_count,
+        entries: entry_count,
+        nodes: node_count,
+        arguments: node_entry_count,
+        variables: var_count,
+        exprs: expr_count,
+        names: name_count,
+        constraints: constraint_count,
+        overloads: overload_count,
+        sources: source_count,
+        default,
+    };
+    pack_solved(solve(
+        sorts,
+        nodes,
+        binds,
+        exprs,
+        names,
+        constraints,
+        overloads,
+        sources,
+        given,
+        scratch,
+        typing,
+        measure,
+        choices,
+    ))
+}

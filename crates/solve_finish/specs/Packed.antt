@@ -1,0 +1,49 @@
+-- The solver's answer as one number, for callers in other languages: document 01's number in bits 0 to 7; under 0, 17 and 18 how many sorts there are in bits 8
+-- to 23 and how many argument entries in bits 24 to 39; under 0 how many components in bits 40 to 51 and how many choices in bits 52 to 63.
+use mathlib.Core.List.{List}
+use Prim.Native.Nat.{ℕ, _+_, _*_, _≤_}
+use Rattle.resolved_sort.specs.declared.Counts.{Counts}
+use Rattle.resolved_sort.specs.Storage.{maxSorts, maxEntries}
+use Rattle.inference.specs.declared.Solved.{Solved}
+use Rattle.inference.specs.declared.Solved.the-variants.{Refused, NoRoom, NoTyping, Ambiguous, Typing}
+use Rattle.inference.specs.Constraints.{maxConstraints, maxComponents}
+use Rattle.inference.specs.SolveEntry.{Left}
+
+abbrev pub packCounts : Counts → ℕ
+packCounts k = k .sorts * 256 + k .entries * 16777216
+
+unfoldable pub packSolved : Solved → ℕ
+packSolved (Refused c) = c
+packSolved (NoRoom c) = c
+packSolved (NoTyping k) = 17 + packCounts k
+packSolved (Ambiguous k) = 18 + packCounts k
+packSolved (Typing o) = packCounts (o .counts) + o .components * 1099511627776 + o .choices * 4503599627370496
+
+-- the numbers that an answer has: a refusal is by a check, 1 to 14; no room is 15 or 16; counts are within their ceilings
+pub record CountsWithin (k : Counts) : Type 0 where
+  pub sorts : k .sorts ≤ maxSorts
+  pub entries : k .entries ≤ maxEntries
+
+abbrev pub Told : Solved → Type 0
+Told (Refused c) = (1 ≤ c) × (c ≤ 14)
+Told (NoRoom c) = (15 ≤ c) × (c ≤ 16)
+Told (NoTyping k) = CountsWithin k
+Told (Ambiguous k) = CountsWithin k
+Told (Typing o) = CountsWithin (o .counts) × (o .components ≤ maxComponents) × (o .choices ≤ maxConstraints)
+
+-- the packed answer, and all lent memory
+pub record Packed : Type 0 where
+  pub result : ℕ
+  pub sorts : List ℕ
+  pub nodes : List ℕ
+  pub binds : List ℕ
+  pub scratch : List ℕ
+  pub typing : List ℕ
+  pub measure : List ℕ
+  pub choices : List ℕ
+
+abbrev pub packed : ℕ → (sorts nodes binds scratch typing measure choices : List ℕ) → Packed
+packed r ws ns bs sc ts ms hs = record { result = r; sorts = ws; nodes = ns; binds = bs; scratch = sc; typing = ts; measure = ms; choices = hs }
+
+abbrev pub packLeft : Left → Packed
+packLeft l = packed (packSolved (l .answer)) (l .sorts) (l .nodes) (l .binds) (l .scratch) (l .typing) (l .measure) (l .choices)
