@@ -1,0 +1,268 @@
+// The solver's entry over a lent list of overload records, thinly above the core on numbers.
+use inference::Solved;
+use resolved_sort::SortId;
+use solve_checks::Given;
+use solve_entries::solve;
+use solve_entries::sort_solve;
+use sort_interner::put;
+use unification::InferSortId;
+ghost use mathlib.Core.Path.{_≡_};
+ghost use Prim.Native.Nat.{_<_, _*_, _+_, _^_, min};
+ghost use lib.ListN.{length, take, drop, replicate};
+ghost use lib.Seq.{sets};
+ghost use Rattle.inference.specs.Constraints.{maxOverloads};
+ghost use Rattle.inference.specs.SolveEntry.{solveEntry};
+ghost use Rattle.solve_finish.specs.Begin.{callWith};
+ghost use Rattle.solve_finish.specs.Finish.{leftOf};
+ghost use Rattle.solve_finish.specs.Packed.{packed, packLeft};
+ghost use Rattle.solve_entries.specs.Given.{givenOf};
+ghost use Rattle.solve_records.specs.Records.{wordsOf, recordWords, recordAt, wordsOfCount};
+
+// What a name resolved to, as words: 1 a variable, 2 an operation with its sort, 3 a built-in. Another kind is refused by check 9.
+#[repr(C)]
+pub struct TargetRecord {
+    pub kind: u16,
+    pub sort: SortId,
+}
+
+// One overload of a name, as the caller lends it: three words, whatever they are.
+#[repr(C)]
+pub struct OverloadRecord {
+    pub target: TargetRecord,
+    pub sort: InferSortId,
+}
+
+// The record at i.
+fn record_at(records: &[OverloadRecord], i: usize) -> OverloadRecord
+    requires { ⌜ i < length (now records) ⌝ }
+    ensures { λ r. ⌜ r ≡ recordAt (now (records .entry)) i ⌝ }
+{
+    records[i]
+}
+
+// The three words of a record go to the places from 3 i on, those of them that are there.
+fn put_record(words: &mut [u16], i: usize, overload: OverloadRecord)
+    requires { ⌜ 3 * i + 2 < 2 ^ 64 ⌝ }
+    ensures { λ _. ⌜ now (words .exit) ≡ sets (now (words .entry)) (3 * i) (wordsOf overload) ⌝ }
+{
+    put(words, 3 * i, overload.target.kind);
+    put(words, 3 * i + 1, overload.target.sort.0);
+    put(words, 3 * i + 2, overload.sort.0);
+}
+
+// The records from i on, up to the ceiling, each to its places.
+fn unpack_from(records: &[OverloadRecord], words: &mut [u16], i: usize)
+    ensures { λ _. ⌜ now (words .exit) ≡ sets (now (words .entry)) (3 * i) (recordWords (drop i (take maxOverloads (now (records .entry))))) ⌝ }
+{
+    if i < 1024 {
+        if i < records.len() {
+            put_record(words, i, record_at(records, i));
+            unpack_from(records, words, i + 1);
+        }
+    }
+}
+
+// The words of the records, up to the ceiling, and zeros after them.
+fn unpack(records: &[OverloadRecord]) -> [u16; 3072]
+    ensures { λ r. ⌜ r ≡ sets (replicate 3072 0) 0 (recordWords (take maxOverloads (now (records .entry)))) ⌝ }
+{
+    let mut words = [0; 3072];
+    unpack_from(records, &mut words, 0);
+    words
+}
+
+// How many of n records are looked at.
+fn at_most(n: usize) -> usize
+    ensures { λ r. ⌜ r ≡ min maxOverloads n ⌝ }
+{
+    if 1024 < n { 1024 } else { n }
+}
+
+// The core on the words of n records.
+fn solve_unpacked(
+    sorts: &mut [u16],
+    nodes: &mut [u16],
+    binds: &mut [u16],
+    exprs: &[u16],
+    names: &[u16],
+    constraints: &[u16],
+    words: [u16; 3072],
+    n: usize,
+    sources: &[u16],
+    given: Given,
+    scratch: &mut [u16],
+    typing: &mut [u16],
+    measure: &mut [u16],
+    choices: &mut [u16],
+) -> Solved
+    ensures { λ r. ⌜ leftOf r (now (sorts .exit)) (now (nodes .exit)) (now (binds .exit)) (now (scratch .exit)) (now (typing .exit)) (now (measure .exit)) (now (choices .exit)) ≡ solveEntry (callWith given (now (sorts .entry)) (now (nodes .entry)) (now (binds .entry)) (now (exprs .entry)) (now (names .entry)) (now (constraints .entry)) (take (wordsOfCount n) words) (now (sources .entry)) (now (scratch .entry)) (now (typing .entry)) (now (measure .entry)) (now (choices .entry))) ⌝ }
+{
+    let used = 3 * at_most(n);
+    solve(
+        sorts,
+        nodes,
+        binds,
+        exprs,
+        names,
+        constraints,
+        &words[..used],
+        sources,
+        given,
+        scratch,
+        typing,
+        measure,
+        choices,
+    )
+}
+
+// Solves the constraints of a call whose overloads are records. Records above the ceiling are not looked at: a count that reaches
+// them is refused with 1.
+pub fn solve_records(
+    sorts: &mut [u16],
+    nodes: &mut [u16],
+    binds: &mut [u16],
+    exprs: &[u16],
+    names: &[u16],
+    constraints: &[u16],
+    overloads: &[OverloadRecord],
+    sources: &[u16],
+    given: Given,
+    scratch: &mut [u16],
+    typing: &mut [u16],
+    measure: &mut [u16],
+    choices: &mut [u16],
+) -> Solved
+    ensures { λ r. ⌜ leftOf r (now (sorts .exit)) (now (nodes .exit)) (now (binds .exit)) (now (scratch .exit)) (now (typing .exit)) (now (measure .exit)) (now (choices .exit)) ≡ solveEntry (callWith given (now (sorts .entry)) (now (nodes .entry)) (now (binds .entry)) (now (exprs .entry)) (now (names .entry)) (now (constraints .entry)) (recordWords (take maxOverloads (now (overloads .entry)))) (now (sources .entry)) (now (scratch .entry)) (now (typing .entry)) (now (measure .entry)) (now (choices .entry))) ⌝ }
+{
+    let words = unpack(overloads);
+    solve_unpacked(
+        sorts,
+        nodes,
+        binds,
+        exprs,
+        names,
+        constraints,
+        words,
+        overloads.len(),
+        sources,
+        given,
+        scratch,
+        typing,
+        measure,
+        choices,
+    )
+}
+
+// The export of the core on the words of n records.
+fn sort_solve_unpacked(
+    sorts: &mut [u16],
+    sort_count: usize,
+    entry_count: usize,
+    nodes: &mut [u16],
+    node_count: usize,
+    node_entry_count: usize,
+    binds: &mut [u16],
+    var_count: usize,
+    exprs: &[u16],
+    expr_count: usize,
+    names: &[u16],
+    name_count: usize,
+    constraints: &[u16],
+    constraint_count: usize,
+    words: [u16; 3072],
+    n: usize,
+    overload_count: usize,
+    sources: &[u16],
+    source_count: usize,
+    default: u16,
+    scratch: &mut [u16],
+    typing: &mut [u16],
+    measure: &mut [u16],
+    choices: &mut [u16],
+) -> u64
+    ensures { λ r. ⌜ packed r (now (sorts .exit)) (now (nodes .exit)) (now (binds .exit)) (now (scratch .exit)) (now (typing .exit)) (now (measure .exit)) (now (choices .exit)) ≡ packLeft (solveEntry (callWith (givenOf «sort_count» «entry_count» «node_count» «node_entry_count» «var_count» «expr_count» «name_count» «constraint_count» «overload_count» «source_count» default) (now (sorts .entry)) (now (nodes .entry)) (now (binds .entry)) (now (exprs .entry)) (now (names .entry)) (now (constraints .entry)) (take (wordsOfCount n) words) (now (sources .entry)) (now (scratch .entry)) (now (typing .entry)) (now (measure .entry)) (now (choices .entry)))) ⌝ }
+{
+    let used = 3 * at_most(n);
+    sort_solve(
+        sorts,
+        sort_count,
+        entry_count,
+        nodes,
+        node_count,
+        node_entry_count,
+        binds,
+        var_count,
+        exprs,
+        expr_count,
+        names,
+        name_count,
+        constraints,
+        constraint_count,
+        &words[..used],
+        overload_count,
+        sources,
+        source_count,
+        default,
+        scratch,
+        typing,
+        measure,
+        choices,
+    )
+}
+
+// The entry over records for callers in other languages: a slice is a pointer and a length, counts are numbers, and the answer is packed.
+pub fn sort_solve_records(
+    sorts: &mut [u16],
+    sort_count: usize,
+    entry_count: usize,
+    nodes: &mut [u16],
+    node_count: usize,
+    node_entry_count: usize,
+    binds: &mut [u16],
+    var_count: usize,
+    exprs: &[u16],
+    expr_count: usize,
+    names: &[u16],
+    name_count: usize,
+    constraints: &[u16],
+    constraint_count: usize,
+    overloads: &[OverloadRecord],
+    overload_count: usize,
+    sources: &[u16],
+    source_count: usize,
+    default: u16,
+    scratch: &mut [u16],
+    typing: &mut [u16],
+    measure: &mut [u16],
+    choices: &mut [u16],
+) -> u64
+    ensures { λ r. ⌜ packed r (now (sorts .exit)) (now (nodes .exit)) (now (binds .exit)) (now (scratch .exit)) (now (typing .exit)) (now (measure .exit)) (now (choices .exit)) ≡ packLeft (solveEntry (callWith (givenOf «sort_count» «entry_count» «node_count» «node_entry_count» «var_count» «expr_count» «name_count» «constraint_count» «overload_count» «source_count» default) (now (sorts .entry)) (now (nodes .entry)) (now (binds .entry)) (now (exprs .entry)) (now (names .entry)) (now (constraints .entry)) (recordWords (take maxOverloads (now (overloads .entry)))) (now (sources .entry)) (now (scratch .entry)) (now (typing .entry)) (now (measure .entry)) (now (choices .entry)))) ⌝ }
+{
+    let words = unpack(overloads);
+    sort_solve_unpacked(
+        sorts,
+        sort_count,
+        entry_count,
+        nodes,
+        node_count,
+        node_entry_count,
+        binds,
+        var_count,
+        exprs,
+        expr_count,
+        names,
+        name_count,
+        constraints,
+        constraint_count,
+        words,
+        overloads.len(),
+        overload_count,
+        sources,
+        source_count,
+        default,
+        scratch,
+        typing,
+        measure,
+        choices,
+    )
+}
