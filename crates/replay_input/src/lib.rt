@@ -169,7 +169,7 @@ pub fn say(number: u64, text: &[u8], verdict: Verdict) {
     }
 }
 
-// How many questions there were and how many lines do not agree. A read that failed and a last list that is not complete
+// How many answers were checked and how many lines do not agree. A read that failed and a last list that is not complete
 // count as a line each.
 pub fn finish(tally: Tally, found: Found, complete: bool) {
     let mut all = tally;
@@ -184,8 +184,9 @@ pub fn finish(tally: Tally, found: Found, complete: bool) {
         io::write_all(STDOUT_FILENO, b"the last list is not complete\n");
         all = counted(all, Verdict::NotOfForm);
     }
+    io::write_all(STDOUT_FILENO, b"checked ");
     io::print_decimal(STDOUT_FILENO, all.questions);
-    io::write_all(STDOUT_FILENO, b" questions, ");
+    io::write_all(STDOUT_FILENO, b" answers, ");
     io::print_decimal(STDOUT_FILENO, all.differ);
     io::write_all(STDOUT_FILENO, b" differ\n");
 }

@@ -56,6 +56,6 @@ module _ (ws : List ℕ) (k : Counts) (ss ns bs xs ts ms cs : List ℕ) where
   unfolding askOf startOf
   asked ek es en eb ex et em ec ss′ ns′ bs′ xs′ ts′ ms′ cs′ r e us u =
       let p : packed ss′ ns′ bs′ xs′ ts′ ms′ cs′ r ≡ solved (callOf ws) =
-          e ∙ (λ i. solved (callWith ws (ek i) (es i) (en i) (eb i) (ex i) (et i) (em i) (ec i))) in
+      e ∙ (λ i. solved (callWith ws (ek i) (es i) (en i) (eb i) (ex i) (et i) (em i) (ec i))) in
       let w : us ≡ leftOf ws (solved (callOf ws)) = u ∙ ap (leftOf ws) p in
       λ i. answered (w i) (p i .result)

@@ -25,7 +25,7 @@ letterOf b = cond (eqb b 76) NewList (cond (eqb b 83) Gives (cond (eqb b 81) Ask
 abbrev pub noPart : Part
 noPart = record { start = 0; count = 0; good = false }
 
--- The words of a line after the number of a slice and a word of it, if they are inside the slice.
+-- the words of a line after the number of a slice and of a word of it, if they are inside the slice
 unfoldable pub partOf : Fields → Part
 partOf f =
     cond (ltb (f .count) 2) noPart
@@ -35,7 +35,7 @@ partOf f =
     (cond (ltb (startOf (getD (f .values) 0 0 + 1)) (startOf (getD (f .values) 0 0) + getD (f .values) 1 0 + (f .count - 2))) noPart
     (record { start = startOf (getD (f .values) 0 0) + getD (f .values) 1 0; count = f .count - 2; good = true })))))
 
--- the words of a line are where they should stand, near enough to be counted
+-- the words of a line, few and near enough for sums not to wrap
 pub record Standing (f : Fields) (r : Part) : Type 0 where
   pub told : r ≡ partOf f
   pub near : r .start ≤ 1048576

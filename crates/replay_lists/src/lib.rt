@@ -1,14 +1,14 @@
-// Expected answers of the solver, asked again of its entry. A line is a letter and numbers, each after one space:
+// Recorded answers of the solver, asked again of its entry. A line is a letter and numbers, each after one space:
 // `L ..` begins a list, with how many sorts, argument entries, nodes, argument entries of nodes, variables, expressions, base
 // names, constraints, overloads and sources it has, and its default sort; all words given before become zero.
 // `S k at w ..` gives words of the slice k, from its word `at` on, at most 16.
-// `Q code sorts entries components choices` asks the solver about the words given, and is its answer.
+// `Q code sorts entries components choices` asks the solver about the words given; the numbers are its answer.
 // `X k at w ..` are words of the slice k, from its word `at` on, as the last question left them, at most 16.
 // A line that starts with `#` says nothing.
 //
 // The slices: 0 sorts, 1 nodes, 2 bindings, 3 places of expressions, 4 base names, 5 constraints, 6 overloads, 7 sources, 8 typing,
-// 9 measure, 10 choices, 11 scratch. They stand one after another in 34,048 words, each as long as its ceiling, and after them
-// the eleven counts of the line `L`.
+// 9 measure, 10 choices, 11 scratch. They stand one after another in 34,048 words, each as long as its ceiling (base names, which
+// have none, have 1,536 words), and after them the eleven numbers of the line `L`.
 use inference::Rows;
 use problem_words::copy;
 use replay::Fields;
@@ -18,11 +18,10 @@ use replay::store;
 use sort_interner::word;
 use unification::Lengths;
 ghost use mathlib.Core.Path.{_≡_};
-ghost use Prim.Native.Nat.{ℕ, _+_, _≤_};
+ghost use Prim.Native.Nat.{_≤_};
 ghost use lib.ListN.{length};
 ghost use Rattle.replay_lists.specs.Slices.{startOf, countAt, countsIn, callWith, keptIn};
 ghost use Rattle.replay_lists.specs.StandIn.{packed, solved};
-ghost use Rattle.inference.specs.SolveChecks.{Call};
 ghost use Rattle.replay_lists.specs.Lines.{letterOf, noPart, Standing, comparedFrom, recordedOf, said, answered, askOf, beginOf, storeOf, compareOf, answerOf, after, lineOf};
 
 // What a line says by its letter.
@@ -34,7 +33,7 @@ pub enum Letter {
     Other,
 }
 
-// Where the words of a line stand among those of all slices, and how many they are, if they are inside their slice.
+// Where the words of a line stand among those of all slices, and how many they are; good where they are inside their slice.
 pub struct Part {
     pub start: usize,
     pub count: usize,
@@ -73,7 +72,19 @@ fn start_of(slice: usize) -> usize
     ensures { λ r. ⌜ (r ≡ startOf slice) × (r ≤ 34048) ⌝ }
 {
     let starts = [
-        0usize, 8192, 20480, 20992, 21504, 23040, 24320, 27392, 27648, 29184, 29440, 29952, 34048,
+        0usize,
+        8192,
+        20480,
+        20992,
+        21504,
+        23040,
+        24320,
+        27392,
+        27648,
+        29184,
+        29440,
+        29952,
+        34048,
     ];
     starts[slice]
 }
@@ -88,7 +99,7 @@ fn no_part() -> Part
     }
 }
 
-// Where the words of a line stand: after the number of a slice and a word of it they are inside the slice.
+// The words of a line after the number of a slice and of a word of it.
 fn part_of(fields: Fields) -> Part
     ensures { λ r. ⌜ Standing fields r ⌝ }
 {
@@ -202,7 +213,8 @@ fn recorded(values: [u64; 18]) -> Expected
         return Expected::Nothing;
     }
     Expected::Is(
-        code + 256 * sorts
+        code
+            + 256 * sorts
             + 16777216 * entries
             + 1099511627776 * components
             + 4503599627370496 * choices,
@@ -370,7 +382,14 @@ fn ask(given: &[u16; 34059], left: &mut [u16; 34059]) -> u64
     );
     *left = *given;
     keep(
-        left, &sorts, &nodes, &binds, &scratch, &typing, &measure, &choices,
+        left,
+        &sorts,
+        &nodes,
+        &binds,
+        &scratch,
+        &typing,
+        &measure,
+        &choices,
     );
     answer
 }
