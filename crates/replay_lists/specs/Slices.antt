@@ -3,8 +3,6 @@ use mathlib.Core.List.{List, [], _∷_}
 use Prim.Native.Nat.{ℕ, _+_, _-_}
 use lib.ListN.{getD}
 use lib.Seq.{sets}
-use Rattle.unification.specs.declared.Lengths.{Lengths}
-use Rattle.inference.specs.declared.Rows.{Rows}
 use Rattle.inference.specs.SolveChecks.{Call}
 use Rattle.search_state.specs.Memory.{part}
 use Rattle.replay_lists.specs.declared.Counts.{Counts}
@@ -28,22 +26,16 @@ countAt ws i = getD ws (34048 + i) 0
 abbrev pub countsIn : List ℕ → Counts
 countsIn ws =
     record {
-      lengths =
-          record {
-            sorts = countAt ws 0;
-            entries = countAt ws 1;
-            nodes = countAt ws 2;
-            arguments = countAt ws 3;
-            variables = countAt ws 4;
-          };
-      rows =
-          record {
-            exprs = countAt ws 5;
-            names = countAt ws 6;
-            constraints = countAt ws 7;
-            overloads = countAt ws 8;
-            sources = countAt ws 9;
-          };
+      sorts = countAt ws 0;
+      entries = countAt ws 1;
+      nodes = countAt ws 2;
+      arguments = countAt ws 3;
+      variables = countAt ws 4;
+      exprs = countAt ws 5;
+      names = countAt ws 6;
+      constraints = countAt ws 7;
+      overloads = countAt ws 8;
+      sources = countAt ws 9;
       default = countAt ws 10;
     }
 
@@ -54,13 +46,27 @@ callWith ws k ss ns bs xs ts ms cs =
       sorts = ss;
       nodes = ns;
       binds = bs;
-      lengths = k .lengths;
+      lengths =
+          record {
+            sorts = k .sorts;
+            entries = k .entries;
+            nodes = k .nodes;
+            arguments = k .arguments;
+            variables = k .variables;
+          };
       exprs = sliceOf 3 ws;
       names = sliceOf 4 ws;
       constraints = sliceOf 5 ws;
       overloads = sliceOf 6 ws;
       sources = sliceOf 7 ws;
-      rows = k .rows;
+      rows =
+          record {
+            exprs = k .exprs;
+            names = k .names;
+            constraints = k .constraints;
+            overloads = k .overloads;
+            sources = k .sources;
+          };
       default = k .default;
       scratch = xs;
       typing = ts;

@@ -9,14 +9,12 @@
 // The slices: 0 sorts, 1 nodes, 2 bindings, 3 places of expressions, 4 base names, 5 constraints, 6 overloads, 7 sources, 8 typing,
 // 9 measure, 10 choices, 11 scratch. They stand one after another in 34,048 words, each as long as its ceiling (base names, which
 // have none, have 1,536 words), and after them the eleven numbers of the line `L`.
-use inference::Rows;
 use problem_words::copy;
 use replay::Fields;
 use replay::Verdict;
 use replay::fields_of;
 use replay::store;
 use sort_interner::word;
-use unification::Lengths;
 ghost use mathlib.Core.Path.{_≡_};
 ghost use Prim.Native.Nat.{_≤_};
 ghost use lib.ListN.{length};
@@ -42,8 +40,16 @@ pub struct Part {
 
 // The counts of a list, and its default sort.
 pub struct Counts {
-    pub lengths: Lengths,
-    pub rows: Rows,
+    pub sorts: usize,
+    pub entries: usize,
+    pub nodes: usize,
+    pub arguments: usize,
+    pub variables: usize,
+    pub exprs: usize,
+    pub names: usize,
+    pub constraints: usize,
+    pub overloads: usize,
+    pub sources: usize,
     pub default: u16,
 }
 
@@ -222,35 +228,29 @@ fn recorded(values: [u64; 18]) -> Expected
 }
 
 // A count of the list.
-fn count_at(given: &[u16], i: usize) -> u16
-    requires { ⌜ i ≤ 10 ⌝ }
+fn count_at(given: &[u16], i: usize) -> usize
+    requires { ⌜ i ≤ 9 ⌝ }
     ensures { λ r. ⌜ r ≡ countAt (now (given .entry)) i ⌝ }
 {
-    word(given, 34048 + i)
+    word(given, 34048 + i) as usize
 }
 
 // The counts of the list, and its default sort.
 fn counts_of(given: &[u16]) -> Counts
     ensures { λ r. ⌜ r ≡ countsIn (now (given .entry)) ⌝ }
 {
-    let lengths = Lengths {
+    Counts {
         sorts: count_at(given, 0),
         entries: count_at(given, 1),
         nodes: count_at(given, 2),
         arguments: count_at(given, 3),
         variables: count_at(given, 4),
-    };
-    let rows = Rows {
         exprs: count_at(given, 5),
-        names: count_at(given, 6) as usize,
+        names: count_at(given, 6),
         constraints: count_at(given, 7),
         overloads: count_at(given, 8),
         sources: count_at(given, 9),
-    };
-    Counts {
-        lengths,
-        rows,
-        default: count_at(given, 10),
+        default: word(given, 34058),
     }
 }
 
@@ -300,27 +300,25 @@ fn call(
     requires { ⌜ 34048 ≤ length (now given) ⌝ }
     ensures { λ r. ⌜ packed (now (sorts .exit)) (now (nodes .exit)) (now (binds .exit)) (now (scratch .exit)) (now (typing .exit)) (now (measure .exit)) (now (choices .exit)) r ≡ solved (callWith (now (given .entry)) counts (now (sorts .entry)) (now (nodes .entry)) (now (binds .entry)) (now (scratch .entry)) (now (typing .entry)) (now (measure .entry)) (now (choices .entry))) ⌝ }
 {
-    let lengths = counts.lengths;
-    let rows = counts.rows;
     sort_solve(
         sorts,
-        lengths.sorts as usize,
-        lengths.entries as usize,
+        counts.sorts,
+        counts.entries,
         nodes,
-        lengths.nodes as usize,
-        lengths.arguments as usize,
+        counts.nodes,
+        counts.arguments,
         binds,
-        lengths.variables as usize,
+        counts.variables,
         &given[20992..21504],
-        rows.exprs as usize,
+        counts.exprs,
         &given[21504..23040],
-        rows.names,
+        counts.names,
         &given[23040..24320],
-        rows.constraints as usize,
+        counts.constraints,
         &given[24320..27392],
-        rows.overloads as usize,
+        counts.overloads,
         &given[27392..27648],
-        rows.sources as usize,
+        counts.sources,
         counts.default,
         scratch,
         typing,

@@ -5,21 +5,6 @@ use Rattle.replay_lists.specs.Slices.{startOf}
 use Rattle.replay_lists.proofs.call.Statement.{statement}
 use Rattle.replay_lists.proofs.call.Tie as tie
 
-cast-sort-solve : tie.Need-cast-sort-solve
-cast-sort-solve c = search needs
-
-cast-sort-solve-2 : tie.Need-cast-sort-solve-2
-cast-sort-solve-2 c = search needs
-
-cast-sort-solve-3 : tie.Need-cast-sort-solve-3
-cast-sort-solve-3 c = search needs
-
-cast-sort-solve-4 : tie.Need-cast-sort-solve-4
-cast-sort-solve-4 c = search needs
-
-cast-sort-solve-5 : tie.Need-cast-sort-solve-5
-cast-sort-solve-5 c = search needs
-
 sub-sort-solve : tie.Need-sub-sort-solve
 sub-sort-solve c = search needs
 
@@ -27,10 +12,7 @@ part-sort-solve-start : tie.Need-part-sort-solve-start
 part-sort-solve-start c = search needs
 
 part-sort-solve-end : tie.Need-part-sort-solve-end
-part-sort-solve-end c = search needs
-
-cast-sort-solve-6 : tie.Need-cast-sort-solve-6
-cast-sort-solve-6 c = search needs
+part-sort-solve-end c = omega (arith, c .before .before .before .before .before .before .before .before .before .before .before .pre)
 
 sub-sort-solve-2 : tie.Need-sub-sort-solve-2
 sub-sort-solve-2 c = search needs
@@ -39,7 +21,7 @@ part-sort-solve-start-2 : tie.Need-part-sort-solve-start-2
 part-sort-solve-start-2 c = search needs
 
 part-sort-solve-end-2 : tie.Need-part-sort-solve-end-2
-part-sort-solve-end-2 c = search needs
+part-sort-solve-end-2 c = omega (arith, c .before .before .before .before .before .before .before .before .before .before .before .before .pre)
 
 sub-sort-solve-3 : tie.Need-sub-sort-solve-3
 sub-sort-solve-3 c = search needs
@@ -48,10 +30,7 @@ part-sort-solve-start-3 : tie.Need-part-sort-solve-start-3
 part-sort-solve-start-3 c = search needs
 
 part-sort-solve-end-3 : tie.Need-part-sort-solve-end-3
-part-sort-solve-end-3 c = omega (arith, c .before .before .before .before .before .before .before .before .before .before .before .before .before .before .before .before .before .before .before .before .before .pre)
-
-cast-sort-solve-7 : tie.Need-cast-sort-solve-7
-cast-sort-solve-7 c = omega (arith, c .struct-known7 .given)
+part-sort-solve-end-3 c = omega (arith, c .before .before .before .before .before .before .before .before .before .before .before .before .before .pre)
 
 sub-sort-solve-4 : tie.Need-sub-sort-solve-4
 sub-sort-solve-4 c = search needs
@@ -60,10 +39,7 @@ part-sort-solve-start-4 : tie.Need-part-sort-solve-start-4
 part-sort-solve-start-4 c = search needs
 
 part-sort-solve-end-4 : tie.Need-part-sort-solve-end-4
-part-sort-solve-end-4 c = omega (arith, c .before .before .before .before .before .before .before .before .before .before .before .before .before .before .before .before .before .before .before .before .before .before .before .pre)
-
-cast-sort-solve-8 : tie.Need-cast-sort-solve-8
-cast-sort-solve-8 c = omega (arith, c .struct-known8 .given)
+part-sort-solve-end-4 c = omega (arith, c .before .before .before .before .before .before .before .before .before .before .before .before .before .before .pre)
 
 sub-sort-solve-5 : tie.Need-sub-sort-solve-5
 sub-sort-solve-5 c = search needs
@@ -72,10 +48,7 @@ part-sort-solve-start-5 : tie.Need-part-sort-solve-start-5
 part-sort-solve-start-5 c = search needs
 
 part-sort-solve-end-5 : tie.Need-part-sort-solve-end-5
-part-sort-solve-end-5 c = omega (arith, c .before .before .before .before .before .before .before .before .before .before .before .before .before .before .before .before .before .before .before .before .before .before .before .before .before .pre)
-
-cast-sort-solve-9 : tie.Need-cast-sort-solve-9
-cast-sort-solve-9 c = omega (arith, c .struct-known9 .given)
+part-sort-solve-end-5 c = omega (arith, c .before .before .before .before .before .before .before .before .before .before .before .before .before .before .before .pre)
 
 sort-solve-requires : tie.Need-sort-solve-requires
 sort-solve-requires c κs = search needs
@@ -109,30 +82,21 @@ pub call-spec : {M : Type 1} → statement M
 call-spec =
     tie.close
     (tie.spec
-    cast-sort-solve
-    cast-sort-solve-2
-    cast-sort-solve-3
-    cast-sort-solve-4
-    cast-sort-solve-5
     sub-sort-solve
     part-sort-solve-start
     part-sort-solve-end
-    cast-sort-solve-6
     sub-sort-solve-2
     part-sort-solve-start-2
     part-sort-solve-end-2
     sub-sort-solve-3
     part-sort-solve-start-3
     part-sort-solve-end-3
-    cast-sort-solve-7
     sub-sort-solve-4
     part-sort-solve-start-4
     part-sort-solve-end-4
-    cast-sort-solve-8
     sub-sort-solve-5
     part-sort-solve-start-5
     part-sort-solve-end-5
-    cast-sort-solve-9
     sort-solve-requires
     same-length
     same-length-2

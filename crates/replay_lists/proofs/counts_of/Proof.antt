@@ -24,9 +24,6 @@ count-at-requires-6 c κs = search needs
 count-at-requires-7 : tie.Need-count-at-requires-7
 count-at-requires-7 c κs = search needs
 
-cast-t9 : tie.Need-cast-t9
-cast-t9 c = search needs
-
 count-at-requires-8 : tie.Need-count-at-requires-8
 count-at-requires-8 c κs = search needs
 
@@ -36,8 +33,8 @@ count-at-requires-9 c κs = search needs
 count-at-requires-10 : tie.Need-count-at-requires-10
 count-at-requires-10 c κs = search needs
 
-count-at-requires-11 : tie.Need-count-at-requires-11
-count-at-requires-11 c κs = search needs
+word-requires : tie.Need-word-requires
+word-requires c κs = search needs
 
 returns : tie.Need-returns
 returns c = cc
@@ -53,9 +50,8 @@ counts-of-spec =
     count-at-requires-5
     count-at-requires-6
     count-at-requires-7
-    cast-t9
     count-at-requires-8
     count-at-requires-9
     count-at-requires-10
-    count-at-requires-11
+    word-requires
     returns)
