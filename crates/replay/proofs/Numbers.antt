@@ -1,5 +1,4 @@
--- Reading digits from left to right comes to the value of all of them; reading numbers one by one to the numbers of
--- the
+-- Reading digits from left to right comes to the value of all of them; reading numbers one by one to the numbers of the
 -- line. Assumes nothing.
 use mathlib.Core.Path.{_≡_, refl, ap, _∙_}
 use mathlib.Core.List.{List, [], _∷_}
@@ -111,13 +110,13 @@ unfolding fieldsFrom afterNumber
 fields-more-at m line at values k v next h s n = rw (lt-leb _ _ h, eq-eqb _ _ s, n)
 
 pub fields-more :
-    (line : List ℕ) (at : ℕ) (values : List ℕ) (k v next : ℕ) → k < 16 → at < length line → getD line at 0 ≡ 32 → numberAt line (at + 1) ≡ Is v next
-    → fieldsFrom (16 - k) line at values k ≡ fieldsFrom (16 - (k + 1)) line next (set values k v) (k + 1)
+    (line : List ℕ) (at : ℕ) (values : List ℕ) (k v next : ℕ) → k < 18 → at < length line → getD line at 0 ≡ 32 → numberAt line (at + 1) ≡ Is v next
+    → fieldsFrom (18 - k) line at values k ≡ fieldsFrom (18 - (k + 1)) line next (set values k v) (k + 1)
 fields-more line at values k v next room h s n =
-    ap (λ (m : ℕ). fieldsFrom m line at values k) (omega arith) ∙ fields-more-at (16 - (k + 1)) line at values k v next h s n
+    ap (λ (m : ℕ). fieldsFrom m line at values k) (omega arith) ∙ fields-more-at (18 - (k + 1)) line at values k v next h s n
 
 pub fields-over :
-    (line : List ℕ) (at : ℕ) (values : List ℕ) (k : ℕ) → 16 ≤ k → at < length line → noFields ≡ fieldsFrom (16 - k) line at values k
+    (line : List ℕ) (at : ℕ) (values : List ℕ) (k : ℕ) → 18 ≤ k → at < length line → noFields ≡ fieldsFrom (18 - k) line at values k
 unfolding fieldsFrom
 fields-over line at values k full h =
-    let e : 16 - k ≡ zero = omega arith in rw (e, lt-leb _ _ h)
+    let e : 18 - k ≡ zero = omega arith in rw (e, lt-leb _ _ h)

@@ -13,7 +13,7 @@ use Rattle.replay.specs.declared.Letter.{Letter}
 use Rattle.replay.specs.declared.Letter.the-variants.{List as NewList, Row, Arguments, Asks, Other}
 use Rattle.replay.specs.declared.Place.{Place}
 use Rattle.replay.specs.declared.Verdict.{Verdict}
-use Rattle.replay.specs.declared.Verdict.the-variants.{Quiet, Agrees, Differs, BindsOther, NotOfForm}
+use Rattle.replay.specs.declared.Verdict.the-variants.{Quiet, Agrees, Differs, BindsOther, LeavesOther, NotOfForm}
 use Rattle.replay.specs.declared.Step.{Step}
 use Rattle.replay.specs.declared.Tally.{Tally}
 use Rattle.replay.specs.Numbers.{fieldsOf}
@@ -53,9 +53,9 @@ kept ws b = record { words = ws; all = b }
 
 -- m numbers from the i-th on stored from a word on, up to the first that is no word
 unfoldable pub storeFrom : ℕ → List ℕ → ℕ → List ℕ → ℕ → Kept
-storeFrom zero ws base values i = kept ws true
-storeFrom (suc m) ws base values i =
-    cond (ltb 65535 (getD values i 0)) (kept ws false) (storeFrom m (set ws (base + i) (getD values i 0)) base values (i + 1))
+storeFrom zero ws at values i = kept ws true
+storeFrom (suc m) ws at values i =
+    cond (ltb 65535 (getD values i 0)) (kept ws false) (storeFrom m (set ws at (getD values i 0)) (at + 1) values (i + 1))
 
 -- the words of the list after a line, and what came of it
 pub record Stepped : Type 0 where
@@ -146,4 +146,5 @@ countedOf t Quiet = record { lines = oneMore (t .lines); questions = t .question
 countedOf t Agrees = record { lines = oneMore (t .lines); questions = oneMore (t .questions); differ = t .differ }
 countedOf t (Differs got) = record { lines = oneMore (t .lines); questions = oneMore (t .questions); differ = oneMore (t .differ) }
 countedOf t (BindsOther variable) = record { lines = oneMore (t .lines); questions = oneMore (t .questions); differ = oneMore (t .differ) }
+countedOf t (LeavesOther word) = record { lines = oneMore (t .lines); questions = t .questions; differ = oneMore (t .differ) }
 countedOf t NotOfForm = record { lines = oneMore (t .lines); questions = t .questions; differ = oneMore (t .differ) }

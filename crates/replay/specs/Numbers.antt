@@ -40,7 +40,7 @@ endedOf v at end = cond (eqb at end) Nothing (Is v end)
 
 -- no numbers, and not of the form
 unfoldable pub noFields : Fields
-noFields = record { values = replicate 16 0; count = 0; good = false }
+noFields = record { values = replicate 18 0; count = 0; good = false }
 
 abbrev pub allRead : List ℕ → ℕ → Fields
 allRead values k = record { values = values; count = k; good = true }
@@ -59,6 +59,6 @@ fieldsFrom (suc m) line at values k =
     (afterNumber (numberAt line (at + 1)) (λ v next. fieldsFrom m line next (set values k v) (k + 1)))
     noFields)
 
--- the numbers after a line's letter, 16 at most
+-- the numbers after a line's letter, 18 at most
 unfoldable pub fieldsOf : List ℕ → Fields
-fieldsOf line = fieldsFrom 16 line 1 (replicate 16 0) 0
+fieldsOf line = fieldsFrom 18 line 1 (replicate 18 0) 0

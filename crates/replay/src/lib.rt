@@ -23,7 +23,7 @@ pub enum Number {
 
 // The numbers of a line, where it is a letter and numbers.
 pub struct Fields {
-    pub values: [u64; 16],
+    pub values: [u64; 18],
     pub count: usize,
     pub good: bool,
 }
@@ -55,12 +55,13 @@ pub struct Place {
 }
 
 // What came of a line: nothing to say, an answer as recorded, another answer, another binding of a variable than the one
-// recorded, or no line of the form.
+// recorded, another word left than the one recorded, or no line of the form.
 pub enum Verdict {
     Quiet,
     Agrees,
     Differs(u64),
     BindsOther(u16),
+    LeavesOther(u16),
     NotOfForm,
 }
 
@@ -116,14 +117,14 @@ fn ended(value: u64, at: usize, end: usize) -> Number
     Number::Is(value, end)
 }
 
-// The numbers of a line after its letter: at most 16, each after one space.
+// The numbers of a line after its letter: at most 18, each after one space.
 pub fn fields_of(line: &[u8]) -> Fields
     ensures { λ r. ⌜ r ≡ fieldsOf (now (line .entry)) ⌝ }
 {
-    let mut values = [0u64; 16];
+    let mut values = [0u64; 18];
     let mut count: usize = 0;
     let mut at: usize = 1;
-    while count < 16 {
+    while count < 18 {
         if line.len() <= at {
             return Fields {
                 values,
@@ -155,7 +156,7 @@ fn no_fields() -> Fields
     ensures { λ r. ⌜ r ≡ noFields ⌝ }
 {
     Fields {
-        values: [0u64; 16],
+        values: [0u64; 18],
         count: 0,
         good: false,
     }
@@ -198,14 +199,14 @@ fn not_of_form(place: Place) -> Step
     }
 }
 
-// Numbers stored as the words from a word on, up to the first that is no word.
-pub fn store(list: &mut [u16], base: usize, values: [u64; 16], count: usize) -> bool
-    requires { ⌜ (base ≤ 1048576) × (count ≤ 16) ⌝ }
-    ensures { λ r. ⌜ kept (now (list .exit)) r ≡ storeFrom count (now (list .entry)) base values 0 ⌝ }
+// So many numbers, from the first one of them on, stored as the words from a word on, up to the first that is no word.
+pub fn store(list: &mut [u16], base: usize, values: [u64; 18], first: usize, count: usize) -> bool
+    requires { ⌜ (base ≤ 1048576) × (first + count ≤ 18) ⌝ }
+    ensures { λ r. ⌜ kept (now (list .exit)) r ≡ storeFrom count (now (list .entry)) base values first ⌝ }
 {
     let mut i: usize = 0;
     while i < count {
-        let value = values[i];
+        let value = values[first + i];
         if 65535 < value {
             return false;
         }
@@ -225,7 +226,7 @@ fn keep(list: &mut [u16; 8192], base: usize, fields: Fields, place: Place, next:
     if 16 < count {
         return not_of_form(place);
     }
-    if store(list, base, values, count) {
+    if store(list, base, values, 0, count) {
         return Step {
             place: next,
             verdict: Verdict::Quiet,
@@ -390,7 +391,7 @@ fn one_more(n: u64) -> u64
     n
 }
 
-// The counts after a line. A line that is not of the form counts as one that differs.
+// The counts after a line. A line of words that are others, and one that is not of the form, count as lines that differ.
 pub fn counted(tally: Tally, verdict: Verdict) -> Tally
     ensures { λ r. ⌜ r ≡ countedOf tally verdict ⌝ }
 {
@@ -414,6 +415,11 @@ pub fn counted(tally: Tally, verdict: Verdict) -> Tally
         Verdict::BindsOther(_) => Tally {
             lines,
             questions: one_more(tally.questions),
+            differ: one_more(tally.differ),
+        },
+        Verdict::LeavesOther(_) => Tally {
+            lines,
+            questions: tally.questions,
             differ: one_more(tally.differ),
         },
         Verdict::NotOfForm => Tally {

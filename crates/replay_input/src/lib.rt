@@ -142,24 +142,13 @@ fn say_bad(number: u64) {
     io::write_all(STDOUT_FILENO, b" is not of the form\n");
 }
 
-// A line whose answer is another.
-fn say_text(number: u64, text: &[u8]) {
+// A line whose answer is another: what is another, and its number.
+fn say_other(number: u64, text: &[u8], what: &[u8], got: u64) {
     say_line(number);
     io::write_all(STDOUT_FILENO, b": ");
     io::write_all(STDOUT_FILENO, text);
-}
-
-fn say_differs(number: u64, text: &[u8], got: u64) {
-    say_text(number, text);
-    io::write_all(STDOUT_FILENO, b": got ");
+    io::write_all(STDOUT_FILENO, what);
     io::print_decimal(STDOUT_FILENO, got);
-    io::write_all(STDOUT_FILENO, b"\n");
-}
-
-fn say_binds_other(number: u64, text: &[u8], variable: u16) {
-    say_text(number, text);
-    io::write_all(STDOUT_FILENO, b": another binding of variable ");
-    io::print_decimal(STDOUT_FILENO, variable as u64);
     io::write_all(STDOUT_FILENO, b"\n");
 }
 
@@ -168,13 +157,19 @@ pub fn say(number: u64, text: &[u8], verdict: Verdict) {
     match verdict {
         Verdict::Quiet => {}
         Verdict::Agrees => {}
-        Verdict::Differs(got) => say_differs(number, text, got),
-        Verdict::BindsOther(variable) => say_binds_other(number, text, variable),
+        Verdict::Differs(got) => say_other(number, text, b": got ", got),
+        Verdict::BindsOther(variable) => say_other(
+            number,
+            text,
+            b": another binding of variable ",
+            variable as u64,
+        ),
+        Verdict::LeavesOther(word) => say_other(number, text, b": left ", word as u64),
         Verdict::NotOfForm => say_bad(number),
     }
 }
 
-// How many questions there were and how many lines do not agree. A read that failed and a last list that is not complete
+// How many answers were checked and how many lines do not agree. A read that failed and a last list that is not complete
 // count as a line each.
 pub fn finish(tally: Tally, found: Found, complete: bool) {
     let mut all = tally;
@@ -189,8 +184,9 @@ pub fn finish(tally: Tally, found: Found, complete: bool) {
         io::write_all(STDOUT_FILENO, b"the last list is not complete\n");
         all = counted(all, Verdict::NotOfForm);
     }
+    io::write_all(STDOUT_FILENO, b"checked ");
     io::print_decimal(STDOUT_FILENO, all.questions);
-    io::write_all(STDOUT_FILENO, b" questions, ");
+    io::write_all(STDOUT_FILENO, b" answers, ");
     io::print_decimal(STDOUT_FILENO, all.differ);
     io::write_all(STDOUT_FILENO, b" differ\n");
 }

@@ -199,7 +199,7 @@ fn keep(
     if 16 < count {
         return not_of_form(place);
     }
-    if !store(words, base, values, count) {
+    if !store(words, base, values, 0, count) {
         return not_of_form(place);
     }
     let total = place.total;

@@ -1,6 +1,6 @@
 // Reads recorded answers about sorts from standard input and asks the proved entries again. It names each line whose
 // answer differs, with the answer that it got, and each line that is not of the form, and at the end it says how many
-// questions there were and how many lines differ.
+// answers it checked and how many lines differ.
 //
 // Its file stdin is a copy, byte for byte, of oracle/recorded/sorts.txt, the recorded answers of the excerpt of merc:
 // `cp oracle/recorded/sorts.txt crates/replay_sorts/stdin`. Its first lines say how they were made, and the lines have

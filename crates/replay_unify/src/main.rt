@@ -1,5 +1,5 @@
 // Reads recorded answers about unify from standard input and asks the proved entry again. It names each line whose answer or
-// whose bindings differ and each line that is not of the form, and at the end it says how many questions there were and how
+// whose bindings differ and each line that is not of the form, and at the end it says how many answers it checked and how
 // many lines differ.
 //
 // Its file stdin is a copy, byte for byte, of oracle/recorded/unify.txt, with the answers of the excerpt of merc and the

@@ -40,6 +40,12 @@ enum-told-5 c = search needs
 one-more-requires-7 : tie.Need-one-more-requires-7
 one-more-requires-7 c κs = search needs
 
+enum-told-6 : tie.Need-enum-told-6
+enum-told-6 c = search needs
+
+one-more-requires-8 : tie.Need-one-more-requires-8
+one-more-requires-8 c κs = search needs
+
 returns : tie.Need-returns
 unfolding countedOf
 returns c = rw (c .enum-told .given .1, c .before .before .one-more .ensures)
@@ -60,6 +66,10 @@ returns-5 : tie.Need-returns-5
 unfolding countedOf
 returns-5 c = rw (c .before .enum-told5 .given .1, c .before .before .before .one-more .ensures, c .one-more7 .ensures)
 
+returns-6 : tie.Need-returns-6
+unfolding countedOf
+returns-6 c = rw (c .before .enum-told6 .given .1, c .before .before .before .one-more .ensures, c .one-more8 .ensures)
+
 pub counted-spec : {M : Type 1} → statement M
 counted-spec =
     tie.close
@@ -76,8 +86,11 @@ counted-spec =
     one-more-requires-6
     enum-told-5
     one-more-requires-7
+    enum-told-6
+    one-more-requires-8
     returns
     returns-2
     returns-3
     returns-4
-    returns-5)
+    returns-5
+    returns-6)

@@ -11,10 +11,10 @@ use Rattle.replay.proofs.fields_of.Statement.{statement}
 use Rattle.replay.proofs.fields_of.Tie as tie
 
 abbrev Inv-loop : tie.InvT-loop
-Inv-loop line values₀ count₀ at₀ values count at = (count ≤ 16) × (length values ≡ 16) × (fieldsFrom (16 - count) line at values count ≡ fieldsOf line)
+Inv-loop line values₀ count₀ at₀ values count at = (count ≤ 18) × (length values ≡ 18) × (fieldsFrom (18 - count) line at values count ≡ fieldsOf line)
 
 abbrev μ-loop : tie.MeasureT-loop
-μ-loop line values₀ count₀ at₀ values count at = 16 - count
+μ-loop line values₀ count₀ at₀ values count at = 18 - count
 
 loop-holds : tie.Need-loop-holds Inv-loop μ-loop
 unfolding fieldsOf

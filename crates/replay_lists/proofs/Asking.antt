@@ -1,0 +1,61 @@
+-- A question works on copies of the slices that it may change, and what it leaves is kept in their places. Assumes nothing.
+use mathlib.Core.Path.{_≡_, ap, _∙_}
+use mathlib.Core.List.{List, [], _++_, append-nil}
+use Prim.Native.Nat.{ℕ, _+_, _≤_}
+use native.Mathlib.Omega.{arith}
+use lib.ListN.{length, take, drop, length-take, length-drop}
+use lib.Seq.{sets, sets-eq, drop-length, take-all}
+use Rattle.search_state.specs.Memory.{part}
+use Rattle.replay_lists.specs.declared.Counts.{Counts}
+use Rattle.replay_lists.specs.StandIn.{Packed, packed, solved}
+use Rattle.replay_lists.specs.Slices.{startOf, countsIn, callWith, callOf, keptIn, leftOf}
+use Rattle.replay_lists.specs.Lines.{answered, askOf}
+
+-- storing as many words as there are leaves just these
+stored-whole : (vs old : List ℕ) → length vs ≡ length old → sets old 0 vs ≡ vs
+stored-whole vs old h =
+    sets-eq vs old 0 (omega (arith, h))
+    ∙ (ap (λ n. vs ++ drop n old) (let z : 0 + length vs ≡ length old = omega (arith, h) in z)
+    ∙ (ap (λ r. vs ++ r) (drop-length old) ∙ append-nil vs))
+
+part-length : (a n : ℕ) (ws : List ℕ) → a + n ≤ length ws → length (part a n ws) ≡ n
+part-length a n ws h = simp (length-take, length-drop) (omega arith)
+
+pub copied-out : (a n : ℕ) (ws old xs : List ℕ) → a + n ≤ length ws → length old ≡ n → xs ≡ sets old 0 (part a n ws) → xs ≡ part a n ws
+copied-out a n ws old xs h l e = e ∙ stored-whole (part a n ws) old (let z : length (part a n ws) ≡ length old = omega (arith, part-length a n ws h, l) in z)
+
+whole-part : (n : ℕ) (xs : List ℕ) → length xs ≡ n → part 0 n xs ≡ xs
+whole-part n xs l = take-all n xs (omega (arith, l))
+
+-- one slice kept
+pub copied-in :
+    (at n : ℕ) (us xs vs : List ℕ) → length xs ≡ n → vs ≡ sets us at (part 0 n xs) → vs ≡ sets us at xs
+copied-in at n us xs vs l e = e ∙ ap (sets us at) (whole-part n xs l)
+
+module _ (us ss ns bs xs ts ms cs : List ℕ) where
+  pub all-kept :
+      (v1 v2 v3 v4 v5 v6 v7 : List ℕ) → v1 ≡ sets us 0 ss → v2 ≡ sets v1 8192 ns → v3 ≡ sets v2 20480 bs → v4 ≡ sets v3 29952 xs
+      → v5 ≡ sets v4 27648 ts → v6 ≡ sets v5 29184 ms → v7 ≡ sets v6 29440 cs → v7 ≡ keptIn us ss ns bs xs ts ms cs
+  all-kept v1 v2 v3 v4 v5 v6 v7 e1 e2 e3 e4 e5 e6 e7 =
+      e7
+      ∙ ap (λ w. sets w 29440 cs)
+      (e6
+      ∙ ap (λ w. sets w 29184 ms)
+      (e5
+      ∙ ap (λ w. sets w 27648 ts)
+      (e4
+      ∙ ap (λ w. sets w 29952 xs) (e3 ∙ ap (λ w. sets w 20480 bs) (e2 ∙ ap (λ w. sets w 8192 ns) e1)))))
+
+module _ (ws : List ℕ) (k : Counts) (ss ns bs xs ts ms cs : List ℕ) where
+  pub asked :
+      k ≡ countsIn ws → ss ≡ part 0 8192 ws → ns ≡ part 8192 12288 ws → bs ≡ part 20480 512 ws → xs ≡ part 29952 4096 ws
+      → ts ≡ part 27648 1536 ws → ms ≡ part 29184 256 ws → cs ≡ part 29440 512 ws
+      → (ss′ ns′ bs′ xs′ ts′ ms′ cs′ : List ℕ) (r : ℕ)
+      → packed ss′ ns′ bs′ xs′ ts′ ms′ cs′ r ≡ solved (callWith ws k ss ns bs xs ts ms cs)
+      → (us : List ℕ) → us ≡ keptIn ws ss′ ns′ bs′ xs′ ts′ ms′ cs′ → answered us r ≡ askOf ws
+  unfolding askOf startOf
+  asked ek es en eb ex et em ec ss′ ns′ bs′ xs′ ts′ ms′ cs′ r e us u =
+      let p : packed ss′ ns′ bs′ xs′ ts′ ms′ cs′ r ≡ solved (callOf ws) =
+      e ∙ (λ i. solved (callWith ws (ek i) (es i) (en i) (eb i) (ex i) (et i) (em i) (ec i))) in
+      let w : us ≡ leftOf ws (solved (callOf ws)) = u ∙ ap (leftOf ws) p in
+      λ i. answered (w i) (p i .result)

@@ -1,0 +1,82 @@
+// Reads recorded answers of the solver from standard input and asks the proved entry again. It names each line whose answer or
+// whose words left differ, with what it got, and each line that is not of the form, and at the end it says how many answers it
+// checked and how many lines differ. The lines have the form that the crate replay_lists states.
+//
+// Until the solver's entry is there replay_lists asks a stand-in, so that lines of its file stdin differ, and its file stdout names
+// them.
+use replay::Tally;
+use replay::Verdict;
+use replay::counted;
+use replay_input::Found;
+use replay_input::finish;
+use replay_input::next_line;
+use replay_input::no_input;
+use replay_input::say;
+use replay_lists::replay_line;
+
+// The counts, and how the search for the last line ended.
+struct State {
+    tally: Tally,
+    found: Found,
+}
+
+// A line of the input, of so many bytes. Of one that is longer than its memory it is known that it is not of the form.
+fn take_line(
+    given: &mut [u16; 34059],
+    left: &mut [u16; 34059],
+    line: &[u8],
+    length: usize,
+    before: Tally,
+) -> Tally {
+    if line.len() < length {
+        let tally = counted(before, Verdict::NotOfForm);
+        say(tally.lines, line, Verdict::NotOfForm);
+        return tally;
+    }
+    let verdict = replay_line(given, left, &line[..length]);
+    let tally = counted(before, verdict);
+    say(tally.lines, &line[..length], verdict);
+    tally
+}
+
+// All lines; the turns count down as in next_line.
+fn replay_all(
+    given: &mut [u16; 34059],
+    left: &mut [u16; 34059],
+    buffer: &mut [u8],
+    line: &mut [u8],
+    before: Tally,
+) -> State {
+    let mut tally = before;
+    let mut read = no_input();
+    let mut turns = u64::MAX;
+    while turns > 0 {
+        read = next_line(buffer, line, read);
+        let found = read.found;
+        match found {
+            Found::Line => {}
+            _ => return State { tally, found },
+        }
+        tally = take_line(given, left, line, read.length, tally);
+        turns -= 1;
+    }
+    State {
+        tally,
+        found: Found::Line,
+    }
+}
+
+fn main() {
+    let mut given = [0u16; 34059];
+    let mut left = [0u16; 34059];
+    let mut buffer = io::buffer();
+    let mut line = [0u8; 256];
+    let tally = Tally {
+        lines: 0,
+        questions: 0,
+        differ: 0,
+    };
+    let end = replay_all(&mut given, &mut left, &mut buffer, &mut line, tally);
+    let found = end.found;
+    finish(end.tally, found, true);
+}
