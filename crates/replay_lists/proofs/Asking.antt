@@ -7,7 +7,8 @@ use lib.ListN.{length, take, drop, length-take, length-drop}
 use lib.Seq.{sets, sets-eq, drop-length, take-all}
 use Rattle.search_state.specs.Memory.{part}
 use Rattle.replay_lists.specs.declared.Counts.{Counts}
-use Rattle.replay_lists.specs.StandIn.{Packed, packed, solved}
+use Rattle.solve_finish.specs.Packed.{Packed}
+use Rattle.replay_lists.specs.Outcome.{packed, solved}
 use Rattle.replay_lists.specs.Slices.{startOf, countsIn, callWith, callOf, keptIn, leftOf}
 use Rattle.replay_lists.specs.Lines.{answered, askOf}
 

@@ -1,4 +1,4 @@
 -- What the contracts of this crate cite.
 pub mod Slices
-pub mod StandIn
+pub mod Outcome
 pub mod Lines

@@ -15,7 +15,7 @@ use Rattle.replay_lists.specs.declared.Letter.the-variants.{List as NewL
 use Rattle.replay_lists.specs.declared.Part.{Part}
 use Rattle.replay_lists.specs.declared.Expected.{Expected}
 use Rattle.replay_lists.specs.declared.Expected.the-variants.{Is, Nothing}
-use Rattle.replay_lists.specs.StandIn.{solved}
+use Rattle.replay_lists.specs.Outcome.{solved}
 use Rattle.replay_lists.specs.Slices.{startOf, callOf, leftOf}
 
 -- L, S, Q, X

@@ -6,7 +6,7 @@ use lib.Seq.{sets}
 use Rattle.inference.specs.SolveChecks.{Call}
 use Rattle.search_state.specs.Memory.{part}
 use Rattle.replay_lists.specs.declared.Counts.{Counts}
-use Rattle.replay_lists.specs.StandIn.{Packed}
+use Rattle.solve_finish.specs.Packed.{Packed}
 
 -- Where each slice starts: sorts, nodes, bindings, places of expressions, base names, constraints, overloads, sources, typing, measure, choices,
 -- scratch; and where the counts start.

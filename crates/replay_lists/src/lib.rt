@@ -14,12 +14,13 @@ use replay::Fields;
 use replay::Verdict;
 use replay::fields_of;
 use replay::store;
+use solve_entries::sort_solve;
 use sort_interner::word;
 ghost use mathlib.Core.Path.{_≡_};
 ghost use Prim.Native.Nat.{_≤_};
 ghost use lib.ListN.{length};
 ghost use Rattle.replay_lists.specs.Slices.{startOf, countAt, countsIn, callWith, keptIn};
-ghost use Rattle.replay_lists.specs.StandIn.{packed, solved};
+ghost use Rattle.replay_lists.specs.Outcome.{packed, solved};
 ghost use Rattle.replay_lists.specs.Lines.{letterOf, noPart, Standing, comparedFrom, recordedOf, said, answered, askOf, beginOf, storeOf, compareOf, answerOf, after, lineOf};
 
 // What a line says by its letter.
@@ -252,37 +253,6 @@ fn counts_of(given: &[u16]) -> Counts
         sources: count_at(given, 9),
         default: word(given, 34058),
     }
-}
-
-// A stand-in for the solver's entry: it answers 0 and changes nothing.
-fn sort_solve(
-    sorts: &mut [u16],
-    sort_count: usize,
-    entry_count: usize,
-    nodes: &mut [u16],
-    node_count: usize,
-    node_entry_count: usize,
-    binds: &mut [u16],
-    var_count: usize,
-    exprs: &[u16],
-    expr_count: usize,
-    names: &[u16],
-    name_count: usize,
-    constraints: &[u16],
-    constraint_count: usize,
-    overloads: &[u16],
-    overload_count: usize,
-    sources: &[u16],
-    source_count: usize,
-    default: u16,
-    scratch: &mut [u16],
-    typing: &mut [u16],
-    measure: &mut [u16],
-    choices: &mut [u16],
-) -> u64
-    ensures { λ r. ⌜ packed (now (sorts .exit)) (now (nodes .exit)) (now (binds .exit)) (now (scratch .exit)) (now (typing .exit)) (now (measure .exit)) (now (choices .exit)) r ≡ solved (record { sorts = now (sorts .entry); nodes = now (nodes .entry); binds = now (binds .entry); lengths = record { sorts = «sort_count»; entries = «entry_count»; nodes = «node_count»; arguments = «node_entry_count»; variables = «var_count» }; exprs = now (exprs .entry); names = now (names .entry); constraints = now (constraints .entry); overloads = now (overloads .entry); sources = now (sources .entry); rows = record { exprs = «expr_count»; names = «name_count»; constraints = «constraint_count»; overloads = «overload_count»; sources = «source_count» }; default = default; scratch = now (scratch .entry); typing = now (typing .entry); measure = now (measure .entry); choices = now (choices .entry) }) ⌝ }
-{
-    0
 }
 
 // What the solver answers about the list, and what it leaves in the slices that it may change.

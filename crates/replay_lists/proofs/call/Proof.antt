@@ -2,6 +2,7 @@
 use borrow.Author.Needs.{needs}
 use native.Mathlib.Omega.{arith}
 use Rattle.replay_lists.specs.Slices.{startOf}
+use Rattle.replay_lists.specs.Outcome.{solved}
 use Rattle.replay_lists.proofs.call.Statement.{statement}
 use Rattle.replay_lists.proofs.call.Tie as tie
 
@@ -75,7 +76,7 @@ same-length-7 : tie.Need-same-length-7
 same-length-7 c = search needs
 
 returns : tie.Need-returns
-unfolding startOf
+unfolding startOf solved
 returns c = c .before .before .before .before .before .before .before .before .before .before .before .before .before .before .sort-solve .ensures
 
 pub call-spec : {M : Type 1} → statement M

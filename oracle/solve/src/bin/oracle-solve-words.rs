@@ -15,13 +15,17 @@ use solve::expected::Outcome;
 /// At most so many words on a line.
 const WORDS: usize = 16;
 
+/// Lists of more bytes are left out, but for so many that run out of room.
+const BYTES: usize = 900;
+const FULL: usize = 6;
+
 fn main() -> ExitCode {
     options::main("oracle-solve-words", &[("seed", "1")], run)
 }
 
 fn run(options: &Options) -> Result<(), Failure> {
     let seed = options.number("seed")?;
-    let (mut text, mut count) = (String::new(), 0);
+    let (mut text, mut count, mut full) = (String::new(), 0, 0);
     for list in sample(seed) {
         let memory = list.memory();
         if !held(&memory) {
@@ -31,10 +35,16 @@ fn run(options: &Options) -> Result<(), Failure> {
         if expected.code() == 14 {
             continue;
         }
+        let room_ended = matches!(expected.code(), 15 | 16);
+        let lines = format!("# {}\n{}{}", list.title, given(&memory), answered(memory, &expected));
+        if lines.len() > BYTES {
+            if !room_ended || full == FULL {
+                continue;
+            }
+            full += 1;
+        }
         count += 1;
-        text += &format!("# {}\n", list.title);
-        text += &given(&memory);
-        text += &answered(memory, &expected);
+        text += &lines;
     }
     print!("{}{text}", header(seed, count));
     Ok(())
@@ -44,7 +54,7 @@ fn header(seed: u64, count: usize) -> String {
     format!(
         "# {count} lists for the solver in words, and what it answers and leaves.
 # Made in the folder oracle by: target/release/oracle-solve-words --seed {seed} > recorded/solve-words.txt
-# They are those of recorded/solve.txt, but for lists that are lent storage of other lengths than their ceilings.
+# They are those of recorded/solve.txt, but for lists that are lent storage of other lengths than their ceilings, and most long ones.
 # The answers are those of the excerpt of merc; refusals are those of the model of the checks (lists/src/checks.rs).
 "
     )
