@@ -52,6 +52,8 @@ target/release/oracle-solve-faults --seed "$seed" | tail -n 1
 
 step "the recorded sample is what the excerpt answers"
 target/release/oracle-solve-sample --seed 1 | cmp - recorded/solve.txt
+target/release/oracle-solve-words --seed 1 | cmp - recorded/solve-words.txt
+cmp recorded/solve-words.txt ../crates/replay_solve/stdin
 
 step "comparison"
 total=0
