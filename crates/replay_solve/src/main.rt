@@ -2,8 +2,8 @@
 // whose words left differ, with what it got, and each line that is not of the form, and at the end it says how many answers it
 // checked and how many lines differ. The lines have the form that the crate replay_lists states.
 //
-// Until the solver's entry is there replay_lists asks a stand-in, so that lines of its file stdin differ, and its file stdout names
-// them.
+// Its file stdin is a copy, byte for byte, of oracle/recorded/solve-words.txt, with the answers of the excerpt of merc:
+// `cp oracle/recorded/solve-words.txt crates/replay_solve/stdin`. Its first lines say how they were made.
 use replay::Tally;
 use replay::Verdict;
 use replay::counted;
