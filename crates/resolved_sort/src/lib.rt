@@ -2,6 +2,7 @@
 
 // The number of a sort in the sort list. A type of its own, as the Rust's ResolvedSortId: sort, node, variable and
 // expression numbers do not mix.
+#[repr(C)]
 pub struct SortId(pub u16);
 
 // The built-in primitive sorts, merc_syntax::Sort.

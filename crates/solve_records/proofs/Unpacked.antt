@@ -7,7 +7,7 @@ use lib.ListN.{length, take, drop, set, replicate, length-append, length-take, l
 use lib.Seq.{sets, sets-eq, drop-cons, getD-take, take-append-seam}
 use Rattle.inference.specs.Constraints.{maxOverloads}
 use Rattle.solve_records.specs.declared.OverloadRecord.{OverloadRecord}
-use Rattle.solve_records.specs.Records.{wordsOf, recordWords, noRecord, recordAt, wordsOfCount}
+use Rattle.solve_records.specs.Records.{wordsOf, recordWords, noRecord, recordAt, wordsFrom, unpacked, wordsOfCount}
 
 one-on : (i : ℕ) → 3 * i + 1 ≡ suc (3 * i)
 one-on i = omega arith
@@ -30,28 +30,24 @@ three-words-are-a-record ws ws₁ ws₂ ws₃ i o e₁ e₂ e₃ =
     ∙ ap (λ (k : ℕ). set (set (set ws (3 * i) (o .target .kind)) k (o .target .sort .0)) (3 * i + 2) (o .sort .0)) (one-on i)
     ∙ ap (λ (k : ℕ). set (set (set ws (3 * i) (o .target .kind)) (suc (3 * i)) (o .target .sort .0)) k (o .sort .0)) (two-on i)
 
--- the records from i on that are looked at
-abbrev pub rest : List OverloadRecord → ℕ → List OverloadRecord
-rest os i = drop i (take maxOverloads os)
-
 -- past the ceiling, or past the end, nothing is written
-pub none-past-the-ceiling : (os : List OverloadRecord) (i : ℕ) (ws : List ℕ) → maxOverloads ≤ i → ws ≡ sets ws (3 * i) (recordWords (rest os i))
+pub none-past-the-ceiling : (os : List OverloadRecord) (i : ℕ) (ws : List ℕ) → maxOverloads ≤ i → ws ≡ sets ws (3 * i) (wordsFrom i os)
 unfolding recordWords
 none-past-the-ceiling os i ws past =
     sym (ap (λ (l : List OverloadRecord). sets ws (3 * i) (recordWords l)) (drop-of-length-le (take maxOverloads os) {i = i} (omega (arith, past, length-take maxOverloads os))))
 
-pub none-past-the-end : (os : List OverloadRecord) (i : ℕ) (ws : List ℕ) → length os ≤ i → ws ≡ sets ws (3 * i) (recordWords (rest os i))
+pub none-past-the-end : (os : List OverloadRecord) (i : ℕ) (ws : List ℕ) → length os ≤ i → ws ≡ sets ws (3 * i) (wordsFrom i os)
 unfolding recordWords
 none-past-the-end os i ws past =
     sym (ap (λ (l : List OverloadRecord). sets ws (3 * i) (recordWords l)) (drop-of-length-le (take maxOverloads os) {i = i} (omega (arith, past, length-take maxOverloads os))))
 
 -- the record at i, and then those from i + 1 on
-pub one-record-more : (os : List OverloadRecord) (i : ℕ) (ws : List ℕ) → i < maxOverloads → i < length os → sets (sets ws (3 * i) (wordsOf (recordAt os i))) (3 * (i + 1)) (recordWords (rest os (i + 1))) ≡ sets ws (3 * i) (recordWords (rest os i))
+pub one-record-more : (os : List OverloadRecord) (i : ℕ) (ws : List ℕ) → i < maxOverloads → i < length os → sets (sets ws (3 * i) (wordsOf (recordAt os i))) (3 * (i + 1)) (wordsFrom (i + 1) os) ≡ sets ws (3 * i) (wordsFrom i os)
 unfolding recordWords
 one-record-more os i ws below within =
-    ap (λ (k : ℕ). sets (sets ws (3 * i) (wordsOf (recordAt os i))) k (recordWords (rest os (i + 1)))) (three-on i)
-    ∙ ap (λ (k : ℕ). sets (sets ws (3 * i) (wordsOf (recordAt os i))) (suc (suc (suc (3 * i)))) (recordWords (rest os k))) (next i)
-    ∙ ap (λ (o : OverloadRecord). sets ws (3 * i) (recordWords (o ∷ rest os (suc i)))) (sym (getD-take maxOverloads os i noRecord below))
+    ap (λ (k : ℕ). sets (sets ws (3 * i) (wordsOf (recordAt os i))) k (wordsFrom (i + 1) os)) (three-on i)
+    ∙ ap (λ (k : ℕ). sets (sets ws (3 * i) (wordsOf (recordAt os i))) (suc (suc (suc (3 * i)))) (wordsFrom k os)) (next i)
+    ∙ ap (λ (o : OverloadRecord). sets ws (3 * i) (recordWords (o ∷ drop (suc i) (take maxOverloads os)))) (sym (getD-take maxOverloads os i noRecord below))
     ∙ ap (λ (l : List OverloadRecord). sets ws (3 * i) (recordWords l)) (sym (drop-cons (take maxOverloads os) i noRecord (omega (arith, below, within, length-take maxOverloads os))))
 
 -- what is left falls
@@ -64,7 +60,7 @@ three-words-each [] = refl
 three-words-each (o ∷ os) = let h : length (recordWords os) ≡ 3 * length os = three-words-each os in omega (arith, h)
 
 -- of the words, as many as the records that are looked at have are those records'
-pub words-looked-at : (os : List OverloadRecord) → take (wordsOfCount (length os)) (sets (replicate 3072 0) 0 (recordWords (take maxOverloads os))) ≡ recordWords (take maxOverloads os)
+pub words-looked-at : (os : List OverloadRecord) → take (wordsOfCount (length os)) (unpacked os) ≡ recordWords (take maxOverloads os)
 words-looked-at os =
     let l : length (recordWords (take maxOverloads os)) ≡ wordsOfCount (length os) = three-words-each (take maxOverloads os) ∙ ap (λ (n : ℕ). 3 * n) (length-take maxOverloads os) in
     ap (λ (ws : List ℕ). take (wordsOfCount (length os)) ws) (sets-eq (recordWords (take maxOverloads os)) (replicate 3072 0) 0 (omega (arith, l, length-replicate {A = ℕ} 3072 0)))

@@ -1,4 +1,5 @@
-// The solver's entry over a lent list of overload records, thinly above the core on numbers.
+// The entry solve over a lent list of overload records, thinly above the core on numbers. The records are unpacked once into words; the
+// functions that meet a slice of records are few, and each is proved by a walk of its own.
 use inference::Solved;
 use resolved_sort::SortId;
 use solve_checks::Given;
@@ -8,7 +9,7 @@ use sort_interner::put;
 use unification::InferSortId;
 ghost use mathlib.Core.Path.{_≡_};
 ghost use Prim.Native.Nat.{_<_, _*_, _+_, _^_, min};
-ghost use lib.ListN.{length, take, drop, replicate};
+ghost use lib.ListN.{length, take};
 ghost use lib.Seq.{sets};
 ghost use Rattle.inference.specs.Constraints.{maxOverloads};
 ghost use Rattle.inference.specs.SolveEntry.{solveEntry};
@@ -16,16 +17,17 @@ ghost use Rattle.solve_finish.specs.Begin.{callWith};
 ghost use Rattle.solve_finish.specs.Finish.{leftOf};
 ghost use Rattle.solve_finish.specs.Packed.{packed, packLeft};
 ghost use Rattle.solve_entries.specs.Given.{givenOf};
-ghost use Rattle.solve_records.specs.Records.{wordsOf, recordWords, recordAt, wordsOfCount};
+ghost use Rattle.solve_records.specs.Records.{wordsOf, recordWords, recordAt, wordsFrom, unpacked, wordsOfCount};
 
-// What a name resolved to, as words: 1 a variable, 2 an operation with its sort, 3 a built-in. Another kind is refused by check 9.
+// What a name resolved to, as the caller says it: kind 1 a variable, 2 an operation with its sort, 3 a built-in. Any other kind is
+// refused with 9, so the kind is a word: of an enum such a word would be no value.
 #[repr(C)]
 pub struct TargetRecord {
     pub kind: u16,
     pub sort: SortId,
 }
 
-// One overload of a name, as the caller lends it: three words, whatever they are.
+// One overload of a name, as the caller says it: what it resolves to, and the place of its sort. Three words of 16 bits in C's layout.
 #[repr(C)]
 pub struct OverloadRecord {
     pub target: TargetRecord,
@@ -50,9 +52,9 @@ fn put_record(words: &mut [u16], i: usize, overload: OverloadRecord)
     put(words, 3 * i + 2, overload.sort.0);
 }
 
-// The records from i on, up to the ceiling, each to its places.
+// The records from i on, up to the ceiling, each to its places. It calls itself at most 1,024 times.
 fn unpack_from(records: &[OverloadRecord], words: &mut [u16], i: usize)
-    ensures { λ _. ⌜ now (words .exit) ≡ sets (now (words .entry)) (3 * i) (recordWords (drop i (take maxOverloads (now (records .entry))))) ⌝ }
+    ensures { λ _. ⌜ now (words .exit) ≡ sets (now (words .entry)) (3 * i) (wordsFrom i (now (records .entry))) ⌝ }
 {
     if i < 1024 {
         if i < records.len() {
@@ -62,9 +64,9 @@ fn unpack_from(records: &[OverloadRecord], words: &mut [u16], i: usize)
     }
 }
 
-// The words of the records, up to the ceiling, and zeros after them.
+// The words of the records, up to the ceiling, and zeros after them. The array goes by value, so that no caller has to lend it.
 fn unpack(records: &[OverloadRecord]) -> [u16; 3072]
-    ensures { λ r. ⌜ r ≡ sets (replicate 3072 0) 0 (recordWords (take maxOverloads (now (records .entry)))) ⌝ }
+    ensures { λ r. ⌜ r ≡ unpacked (now (records .entry)) ⌝ }
 {
     let mut words = [0; 3072];
     unpack_from(records, &mut words, 0);
@@ -115,8 +117,9 @@ fn solve_unpacked(
     )
 }
 
-// Solves the constraints of a call whose overloads are records. Records above the ceiling are not looked at: a count that reaches
-// them is refused with 1.
+// Infers the sorts of the expressions, as solve does on the words of the records. Records past the ceiling are not looked at: a count that
+// reaches them is refused with 1, and so is one above the length of the slice.
+// Ruled out: another outcome than that of the same call on numbers; a record read past the slice.
 pub fn solve_records(
     sorts: &mut [u16],
     nodes: &mut [u16],
@@ -211,7 +214,8 @@ fn sort_solve_unpacked(
 }
 
 // The entry over records for callers in other languages: a slice is a pointer and a length, counts are numbers, and the answer is packed.
-pub fn sort_solve_records(
+#[no_mangle]
+pub extern "C" fn sort_solve_records(
     sorts: &mut [u16],
     sort_count: usize,
     entry_count: usize,

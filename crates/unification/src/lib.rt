@@ -4,6 +4,7 @@ use resolved_sort::Run;
 use resolved_sort::SortId;
 
 // A place, the Rust's InferSortId: an interned sort (below 1,024) or a node. The port has no Resolved node.
+#[repr(C)]
 pub struct InferSortId(pub u16);
 
 // The number of an inference node.
