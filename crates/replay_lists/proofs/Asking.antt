@@ -1,37 +1,14 @@
 -- A question works on copies of the slices that it may change, and what it leaves is kept in their places. Assumes nothing.
 use mathlib.Core.Path.{_≡_, ap, _∙_}
-use mathlib.Core.List.{List, [], _++_, append-nil}
-use Prim.Native.Nat.{ℕ, _+_, _≤_}
-use native.Mathlib.Omega.{arith}
-use lib.ListN.{length, take, drop, length-take, length-drop}
-use lib.Seq.{sets, sets-eq, drop-length, take-all}
+use mathlib.Core.List.{List}
+use Prim.Native.Nat.{ℕ}
+use lib.Seq.{sets}
 use Rattle.search_state.specs.Memory.{part}
 use Rattle.replay_lists.specs.declared.Counts.{Counts}
 use Rattle.solve_finish.specs.Packed.{Packed}
 use Rattle.replay_lists.specs.Outcome.{packed, solved}
 use Rattle.replay_lists.specs.Slices.{startOf, countsIn, callWith, callOf, keptIn, leftOf}
 use Rattle.replay_lists.specs.Lines.{answered, askOf}
-
--- storing as many words as there are leaves just these
-stored-whole : (vs old : List ℕ) → length vs ≡ length old → sets old 0 vs ≡ vs
-stored-whole vs old h =
-    sets-eq vs old 0 (omega (arith, h))
-    ∙ (ap (λ n. vs ++ drop n old) (let z : 0 + length vs ≡ length old = omega (arith, h) in z)
-    ∙ (ap (λ r. vs ++ r) (drop-length old) ∙ append-nil vs))
-
-part-length : (a n : ℕ) (ws : List ℕ) → a + n ≤ length ws → length (part a n ws) ≡ n
-part-length a n ws h = simp (length-take, length-drop) (omega arith)
-
-pub copied-out : (a n : ℕ) (ws old xs : List ℕ) → a + n ≤ length ws → length old ≡ n → xs ≡ sets old 0 (part a n ws) → xs ≡ part a n ws
-copied-out a n ws old xs h l e = e ∙ stored-whole (part a n ws) old (let z : length (part a n ws) ≡ length old = omega (arith, part-length a n ws h, l) in z)
-
-whole-part : (n : ℕ) (xs : List ℕ) → length xs ≡ n → part 0 n xs ≡ xs
-whole-part n xs l = take-all n xs (omega (arith, l))
-
--- one slice kept
-pub copied-in :
-    (at n : ℕ) (us xs vs : List ℕ) → length xs ≡ n → vs ≡ sets us at (part 0 n xs) → vs ≡ sets us at xs
-copied-in at n us xs vs l e = e ∙ ap (sets us at) (whole-part n xs l)
 
 module _ (us ss ns bs xs ts ms cs : List ℕ) where
   pub all-kept :

@@ -4,6 +4,7 @@
 // `b w ..` the next entries of nodes; `v w ..` its next bindings; `w v p` is a binding of the variable v to the place p that
 // the next question makes; `u a b x` asks whether the places a and b unify, and x is the answer, packed; a line that starts
 // with `#` says nothing.
+use problem_words::copy;
 use replay::Fields;
 use replay::Verdict;
 use replay::fields_of;
@@ -12,14 +13,15 @@ use sort_interner::put;
 use unification::Lengths;
 use unify_entries::sort_unify;
 ghost use mathlib.Core.Path.{_≡_};
-ghost use Prim.Native.Nat.{ℕ, _+_, _<_, _≤_};
-ghost use lib.ListN.{length, getD, take, drop};
-ghost use Rattle.unification.specs.UnifyEntry.{unifyEntry, packed, packLeft};
+ghost use Prim.Native.Nat.{_≤_};
+ghost use lib.ListN.{length};
+ghost use Rattle.unification.specs.UnifyEntry.{packed};
+ghost use Rattle.replay_nodes.specs.Lines.{letterOf, startOf, lengthOf, withLength, noLengths, started, complete as isComplete, step, notOfForm, stepped, beginOf, keepOf, rowOf, runOf, renewed, bindingsIn, bindsOf, unified, judgedOf, answerOf, stepOf};
 
 // A part of a list. The parts stand one after another in 21,504 words: sorts and their entries (from 0 and from 4,096 on),
 // nodes and theirs (from 8,192 and from 16,384 on), the bindings (from 20,480 on), and at last the bindings that the next
 // question leaves (from 20,992 on).
-enum Part {
+pub enum Part {
     Sorts,
     Entries,
     Nodes,
@@ -28,7 +30,7 @@ enum Part {
 }
 
 // What a line says by its letter.
-enum Letter {
+pub enum Letter {
     List,
     Row(Part),
     Words(Part),
@@ -48,14 +50,18 @@ pub struct Step {
     pub verdict: Verdict,
 }
 
-fn not_of_form(place: Place) -> Step {
+fn not_of_form(place: Place) -> Step
+    ensures { λ r. ⌜ r ≡ notOfForm place ⌝ }
+{
     Step {
         place,
         verdict: Verdict::NotOfForm,
     }
 }
 
-fn quiet(place: Place) -> Step {
+fn quiet(place: Place) -> Step
+    ensures { λ r. ⌜ r ≡ step place Verdict.Quiet ⌝ }
+{
     Step {
         place,
         verdict: Verdict::Quiet,
@@ -63,7 +69,9 @@ fn quiet(place: Place) -> Step {
 }
 
 // What a line says by its letter.
-fn letter_of(letter: u8) -> Letter {
+fn letter_of(letter: u8) -> Letter
+    ensures { λ r. ⌜ r ≡ letterOf letter ⌝ }
+{
     match letter {
         76 => Letter::List,
         114 => Letter::Row(Part::Sorts),
@@ -79,7 +87,7 @@ fn letter_of(letter: u8) -> Letter {
 
 // The word at which a part starts.
 fn start_of(part: Part) -> usize
-    ensures { λ r. ⌜ r ≤ 20480 ⌝ }
+    ensures { λ r. ⌜ (r ≡ startOf part) × (r ≤ 20480) ⌝ }
 {
     match part {
         Part::Sorts => 0,
@@ -91,7 +99,9 @@ fn start_of(part: Part) -> usize
 }
 
 // How much of a part there is.
-fn length_of(lengths: Lengths, part: Part) -> u16 {
+fn length_of(lengths: Lengths, part: Part) -> u16
+    ensures { λ r. ⌜ r ≡ lengthOf lengths part ⌝ }
+{
     match part {
         Part::Sorts => lengths.sorts,
         Part::Entries => lengths.entries,
@@ -102,20 +112,55 @@ fn length_of(lengths: Lengths, part: Part) -> u16 {
 }
 
 // The same but for one part.
-fn with_length(lengths: Lengths, part: Part, length: u16) -> Lengths {
-    let mut new = lengths;
+fn with_length(lengths: Lengths, part: Part, length: u16) -> Lengths
+    ensures { λ r. ⌜ r ≡ withLength lengths part length ⌝ }
+{
+    let sorts = lengths.sorts;
+    let entries = lengths.entries;
+    let nodes = lengths.nodes;
+    let arguments = lengths.arguments;
+    let variables = lengths.variables;
     match part {
-        Part::Sorts => new.sorts = length,
-        Part::Entries => new.entries = length,
-        Part::Nodes => new.nodes = length,
-        Part::Arguments => new.arguments = length,
-        Part::Bindings => new.variables = length,
+        Part::Sorts => Lengths {
+            sorts: length,
+            entries,
+            nodes,
+            arguments,
+            variables,
+        },
+        Part::Entries => Lengths {
+            sorts,
+            entries: length,
+            nodes,
+            arguments,
+            variables,
+        },
+        Part::Nodes => Lengths {
+            sorts,
+            entries,
+            nodes: length,
+            arguments,
+            variables,
+        },
+        Part::Arguments => Lengths {
+            sorts,
+            entries,
+            nodes,
+            arguments: length,
+            variables,
+        },
+        Part::Bindings => Lengths {
+            sorts,
+            entries,
+            nodes,
+            arguments,
+            variables: length,
+        },
     }
-    new
 }
 
 fn no_lengths() -> Lengths
-    ensures { λ l. ⌜ (l .sorts ≡ 0) × (l .entries ≡ 0) × (l .nodes ≡ 0) × (l .arguments ≡ 0) × (l .variables ≡ 0) ⌝ }
+    ensures { λ r. ⌜ r ≡ noLengths ⌝ }
 {
     Lengths {
         sorts: 0,
@@ -127,7 +172,9 @@ fn no_lengths() -> Lengths
 }
 
 // Whether all of the list was read.
-pub fn complete(place: Place) -> bool {
+pub fn complete(place: Place) -> bool
+    ensures { λ r. ⌜ r ≡ isComplete place ⌝ }
+{
     let total = place.total;
     let read = place.read;
     if read.sorts != total.sorts {
@@ -146,7 +193,9 @@ pub fn complete(place: Place) -> bool {
 }
 
 // A new list, of which nothing was read yet, after one that is complete.
-fn begin(fields: Fields, place: Place) -> Step {
+fn begin(fields: Fields, place: Place) -> Step
+    ensures { λ r. ⌜ r ≡ beginOf fields place ⌝ }
+{
     let values = fields.values;
     if fields.count != 5 {
         return not_of_form(place);
@@ -193,6 +242,7 @@ fn keep(
     length: u16,
 ) -> Step
     requires { ⌜ base ≤ 1048576 ⌝ }
+    ensures { λ r. ⌜ stepped (now (words .exit)) r ≡ keepOf (now (words .entry)) base fields place part length ⌝ }
 {
     let values = fields.values;
     let count = fields.count;
@@ -212,7 +262,9 @@ fn keep(
 }
 
 // The next sort or node.
-fn row(words: &mut [u16; 21504], part: Part, fields: Fields, place: Place) -> Step {
+fn row(words: &mut [u16; 21504], part: Part, fields: Fields, place: Place) -> Step
+    ensures { λ r. ⌜ stepped (now (words .exit)) r ≡ rowOf (now (words .entry)) part fields place ⌝ }
+{
     let read = length_of(place.read, part);
     let total = length_of(place.total, part);
     if fields.count != 4 {
@@ -232,7 +284,9 @@ fn row(words: &mut [u16; 21504], part: Part, fields: Fields, place: Place) -> St
 }
 
 // The next entries or bindings.
-fn run(words: &mut [u16; 21504], part: Part, fields: Fields, place: Place) -> Step {
+fn run(words: &mut [u16; 21504], part: Part, fields: Fields, place: Place) -> Step
+    ensures { λ r. ⌜ stepped (now (words .exit)) r ≡ runOf (now (words .entry)) part fields place ⌝ }
+{
     let read = length_of(place.read, part);
     let total = length_of(place.total, part);
     let count = fields.count;
@@ -252,17 +306,27 @@ fn run(words: &mut [u16; 21504], part: Part, fields: Fields, place: Place) -> St
     )
 }
 
+// The bindings of the list.
+fn bindings_of(words: &[u16; 21504]) -> [u16; 512]
+    ensures { λ r. ⌜ r ≡ bindingsIn (now (words .entry)) ⌝ }
+{
+    let mut bindings = [0u16; 512];
+    copy(&mut bindings, 0, words, 20480, 512);
+    bindings
+}
+
 // The next question leaves the bindings as they are, where no line says otherwise.
-fn renew(words: &mut [u16; 21504]) {
-    let mut i = 0;
-    while i < 512 {
-        words[20992 + i] = words[20480 + i];
-        i += 1;
-    }
+fn renew(words: &mut [u16; 21504])
+    ensures { λ _. ⌜ now (words .exit) ≡ renewed (now (words .entry)) ⌝ }
+{
+    let bindings = bindings_of(words);
+    copy(words, 20992, &bindings, 0, 512);
 }
 
 // A binding that the next question makes.
-fn binds(words: &mut [u16; 21504], fields: Fields, place: Place) -> Step {
+fn binds(words: &mut [u16; 21504], fields: Fields, place: Place) -> Step
+    ensures { λ r. ⌜ stepped (now (words .exit)) r ≡ bindsOf (now (words .entry)) fields place ⌝ }
+{
     let values = fields.values;
     let total = place.total;
     if fields.count != 2 {
@@ -283,21 +347,10 @@ fn binds(words: &mut [u16; 21504], fields: Fields, place: Place) -> Step {
     quiet(place)
 }
 
-// The bindings of the list.
-fn bindings_of(words: &[u16; 21504]) -> [u16; 512] {
-    let mut bindings = [0u16; 512];
-    let mut i = 0;
-    while i < 512 {
-        bindings[i] = words[20480 + i];
-        i += 1;
-    }
-    bindings
-}
-
 // What the entry answers on the list, and what it leaves of the bindings.
 fn ask(words: &[u16], total: Lengths, bindings: &mut [u16], lhs: u16, rhs: u16) -> u64
     requires { ⌜ 20480 ≤ length (now words) ⌝ }
-    ensures { λ r. ⌜ packed (now (bindings .exit)) r ≡ packLeft (unifyEntry (take 8192 (now (words .entry))) (total .sorts) (total .entries) (take 12288 (drop 8192 (now (words .entry)))) (total .nodes) (total .arguments) (now (bindings .entry)) (total .variables) lhs rhs) ⌝ }
+    ensures { λ r. ⌜ packed (now (bindings .exit)) r ≡ unified (now (words .entry)) total (now (bindings .entry)) lhs rhs ⌝ }
 {
     sort_unify(
         &words[..8192],
@@ -313,9 +366,9 @@ fn ask(words: &[u16], total: Lengths, bindings: &mut [u16], lhs: u16, rhs: u16) 
     )
 }
 
-// An answer and the bindings that it left, compared with the recorded ones: they agree only where all are equal.
+// An answer and the bindings that it left, compared with the recorded ones: the first that is another.
 fn judge(words: &[u16; 21504], bindings: &[u16; 512], got: u64, recorded: u64) -> Verdict
-    ensures { λ r. ⌜ (r ≡ Verdict.Agrees → (got ≡ recorded) × ((k : ℕ) → k < 512 → getD (now (bindings .entry)) k 0 ≡ getD (now (words .entry)) (20992 + k) 0)) ⌝ }
+    ensures { λ r. ⌜ r ≡ judgedOf (now (words .entry)) (now (bindings .entry)) got recorded ⌝ }
 {
     if got != recorded {
         return Verdict::Differs(got);
@@ -331,7 +384,9 @@ fn judge(words: &[u16; 21504], bindings: &[u16; 512], got: u64, recorded: u64) -
 }
 
 // A question about two places of a complete list. The entry works on bindings of its own.
-fn answer(words: &mut [u16; 21504], fields: Fields, place: Place) -> Step {
+fn answer(words: &mut [u16; 21504], fields: Fields, place: Place) -> Step
+    ensures { λ r. ⌜ stepped (now (words .exit)) r ≡ answerOf (now (words .entry)) fields place ⌝ }
+{
     let values = fields.values;
     if fields.count != 3 {
         return not_of_form(place);
@@ -356,7 +411,7 @@ fn answer(words: &mut [u16; 21504], fields: Fields, place: Place) -> Step {
 
 // Where reading starts: an empty list, complete.
 pub fn start() -> Place
-    ensures { λ r. ⌜ (r .total .sorts ≡ 0) × (r .total .entries ≡ 0) × (r .total .nodes ≡ 0) × (r .total .arguments ≡ 0) × (r .total .variables ≡ 0) × (r .read .sorts ≡ 0) × (r .read .entries ≡ 0) × (r .read .nodes ≡ 0) × (r .read .arguments ≡ 0) × (r .read .variables ≡ 0) ⌝ }
+    ensures { λ r. ⌜ r ≡ started ⌝ }
 {
     Place {
         total: no_lengths(),
@@ -365,7 +420,9 @@ pub fn start() -> Place
 }
 
 // A line of the recorded answers.
-pub fn replay_line(words: &mut [u16; 21504], line: &[u8], place: Place) -> Step {
+pub fn replay_line(words: &mut [u16; 21504], line: &[u8], place: Place) -> Step
+    ensures { λ r. ⌜ stepped (now (words .exit)) r ≡ stepOf (now (words .entry)) (now (line .entry)) place ⌝ }
+{
     if line.len() == 0 {
         return not_of_form(place);
     }

@@ -1,8 +1,9 @@
 -- The sorts are the first 8,192 words, and the nodes end within the words. Assumes nothing.
+use borrow.Author.Needs.{needs}
 use lib.Seq.{length-take-le}
 use mathlib.Core.Path.{sym}
 use native.Mathlib.Omega.{arith}
-use borrow.Author.Needs.{needs}
+use Rattle.replay_nodes.specs.Lines.{unified}
 use Rattle.replay_nodes.proofs.ask.Statement.{statement}
 use Rattle.replay_nodes.proofs.ask.Tie as tie
 
@@ -40,7 +41,8 @@ same-length : tie.Need-same-length
 same-length c = search needs
 
 returns : tie.Need-returns
-returns c = search needs
+unfolding unified
+returns c = c .before .before .sort-unify .ensures
 
 pub ask-spec : {M : Type 1} → statement M
 ask-spec =

@@ -1,24 +1,23 @@
--- The loop's invariant: the bindings before the index are those recorded. The measure is how many are left. Assumes nothing.
-use Prim.Native.Nat.{ℕ, _+_, _-_, _<_, _≤_}
-use borrow.Author.Count.{below-more}
-use borrow.Author.Needs.{needs}
-use lib.ListN.{getD}
-use mathlib.Core.Path.{_≡_}
+-- The loop's invariant: comparing what is left comes to comparing all. The measure is how many are left. Assumes nothing.
+use Prim.Native.Nat.{_-_, _≤_}
+use mathlib.Core.Path.{_≡_, sym, _∙_}
 use native.Mathlib.Omega.{arith}
+use Rattle.replay_nodes.proofs.Judging as law
+use Rattle.replay_nodes.specs.Lines.{judgedFrom, judgedOf}
 use Rattle.replay_nodes.proofs.judge.Statement.{statement}
 use Rattle.replay_nodes.proofs.judge.Tie as tie
 
 abbrev Inv-loop : tie.InvT-loop
-Inv-loop words bindings got recorded i₀ i = (i ≤ 512) × ((k : ℕ) → k < i → getD bindings k 0 ≡ getD words (20992 + k) 0)
+Inv-loop words bindings got recorded i₀ i = (i ≤ 512) × (judgedOf words bindings got recorded ≡ judgedFrom (512 - i) words bindings i)
 
 abbrev μ-loop : tie.MeasureT-loop
 μ-loop words bindings got recorded i₀ i = 512 - i
 
 returns : tie.Need-returns Inv-loop μ-loop
-returns c = λ e. absurd (let z : _≡_ {A = ℕ} 0 1 = cc in omega arith)
+returns c = law.differs _ _ _ _ (c .if1 .taken)
 
 loop-holds : tie.Need-loop-holds Inv-loop μ-loop
-loop-holds c = (omega arith, λ k l. absurd (omega (arith, l)))
+loop-holds c = (omega arith, law.begin _ _ _ _ (c .if1 .left))
 
 mul-if2 : tie.Need-mul-if2 Inv-loop μ-loop
 mul-if2 c = omega arith
@@ -39,7 +38,7 @@ cast-t17 : tie.Need-cast-t17 Inv-loop μ-loop
 cast-t17 c = omega arith
 
 returns-2 : tie.Need-returns-2 Inv-loop μ-loop
-returns-2 c = λ e. absurd (let z : _≡_ {A = ℕ} 0 1 = cc in omega arith)
+returns-2 c = law.other _ _ _ (c .before .before .before .loop-test .taken) (c .if2 .taken) ∙ sym (c .before .before .before .before .loop .inv .1)
 
 add-i : tie.Need-add-i Inv-loop μ-loop
 add-i c = omega arith
@@ -48,10 +47,10 @@ loop-less : tie.Need-loop-less Inv-loop μ-loop
 loop-less c = omega arith
 
 loop-again : tie.Need-loop-again Inv-loop μ-loop
-loop-again c = (omega arith, below-more _ _ (c .before .before .before .before .loop .inv .1) (c .if2 .left))
+loop-again c = (omega arith, c .before .before .before .before .loop .inv .1 ∙ law.same _ _ _ (c .before .before .before .loop-test .taken) (c .if2 .left))
 
 returns-3 : tie.Need-returns-3 Inv-loop μ-loop
-returns-3 c = λ e. (c .before .before .if1 .left, λ k l. c .before .loop .inv .1 k (omega (arith, l, c .loop-test .left)))
+returns-3 c = law.end _ _ _ (c .loop-test .left) ∙ sym (c .before .loop .inv .1)
 
 pub judge-spec : {M : Type 1} → statement M
 judge-spec =

@@ -1,63 +1,26 @@
--- The words keep their number by their type. The measure is how many bindings are left. Assumes nothing.
-use Prim.Native.Nat.{_-_, _≤_}
+-- A copy of the bindings. Assumes nothing.
 use borrow.Author.Needs.{needs}
+use mathlib.Core.Path.{_∙_, ap}
+use lib.ListN.{length}
+use lib.Seq.{sets}
 use native.Mathlib.Omega.{arith}
+use Rattle.problem_words.proofs.Wholes as law
+use Rattle.replay_nodes.specs.Lines.{bindingsIn, renewed}
 use Rattle.replay_nodes.proofs.renew.Statement.{statement}
 use Rattle.replay_nodes.proofs.renew.Tie as tie
 
-abbrev Inv-loop : tie.InvT-loop
-Inv-loop words₀ i₀ words i = i ≤ 512
+bindings-of-requires : tie.Need-bindings-of-requires
+bindings-of-requires c κs = search needs
 
-abbrev μ-loop : tie.MeasureT-loop
-μ-loop words₀ i₀ words i = 512 - i
+slice-aggregate-copy : tie.Need-slice-aggregate-copy
+slice-aggregate-copy c = search needs
 
-loop-holds : tie.Need-loop-holds Inv-loop μ-loop
-loop-holds c = omega arith
+copy-requires : tie.Need-copy-requires
+copy-requires c κs = search needs
 
-add-words : tie.Need-add-words Inv-loop μ-loop
-add-words c = omega arith
-
-mul-words : tie.Need-mul-words Inv-loop μ-loop
-mul-words c = omega arith
-
-element-copy-out-words : tie.Need-element-copy-out-words Inv-loop μ-loop
-element-copy-out-words c = omega arith
-
-add-words-2 : tie.Need-add-words-2 Inv-loop μ-loop
-add-words-2 c = omega arith
-
-mul-words-2 : tie.Need-mul-words-2 Inv-loop μ-loop
-mul-words-2 c = omega arith
-
-element-write-words : tie.Need-element-write-words Inv-loop μ-loop
-element-write-words c = omega arith
-
-add-i : tie.Need-add-i Inv-loop μ-loop
-add-i c = omega arith
-
-loop-less : tie.Need-loop-less Inv-loop μ-loop
-loop-less c = omega arith
-
-loop-again : tie.Need-loop-again Inv-loop μ-loop
-loop-again c = omega arith
-
-returns : tie.Need-returns Inv-loop μ-loop
-returns c = search needs
+returns : tie.Need-returns
+unfolding renewed
+returns c = law.copied-in 20992 512 (c .before .before .before .before .before .args .words .now) (c .before .before .before .bindings-of .result) _ (ap length (c .before .before .before .bindings-of .ensures) ∙ law.part-length 20480 512 (c .before .before .before .before .before .args .words .now) (omega arith)) (c .copy .ensures) ∙ ap (sets (c .before .before .before .before .before .args .words .now) 20992) (c .before .before .before .bindings-of .ensures)
 
 pub renew-spec : {M : Type 1} → statement M
-renew-spec =
-    tie.close
-    (tie.spec
-    Inv-loop
-    μ-loop
-    loop-holds
-    add-words
-    mul-words
-    element-copy-out-words
-    add-words-2
-    mul-words-2
-    element-write-words
-    add-i
-    loop-less
-    loop-again
-    returns)
+renew-spec = tie.close (tie.spec bindings-of-requires slice-aggregate-copy copy-requires returns)
