@@ -103,6 +103,11 @@ cases =
       given (row 8 1 0 0 []) [] (row 14 0 0 0 (row 14 1 0 0 [])) [] (65535 ∷ 65535 ∷ []) (1024 ∷ 1025 ∷ []) [] (disjunction 0 1024 0 2 (sub 6 1025 (sub 1024 3 []))) (2 ∷ 3 ∷ 3 ∷ 2 ∷ 2 ∷ 2 ∷ []) [] 1,
       outcome 0 (expr 3 2 3 (expr 6 0 0 [])) (0 ∷ 0 ∷ []) (choice 0 0 []) (row 7 1 0 0 []) [],
     )
+    -- nothing dropped between a Join's sources
+    ∷ (
+      given (row 8 3 0 0 (row 11 3 0 1 (row 11 6 1 1 []))) (3 ∷ 2 ∷ []) (row 14 0 0 0 (row 14 1 0 0 (row 11 1025 0 1 []))) (1024 ∷ []) (65535 ∷ 65535 ∷ []) (1026 ∷ []) [] (disjunction 0 1026 0 2 (join 3 0 2 [])) (1 ∷ 0 ∷ 7 ∷ 1 ∷ 0 ∷ 8 ∷ []) (1024 ∷ 1025 ∷ []) 1,
+      outcome 0 (expr 7 1 0 []) (0 ∷ 0 ∷ []) (choice 0 0 []) (row 7 3 0 0 []) [],
+    )
     -- comprehension makes both
     ∷ (
       given [] [] (row 14 0 0 0 []) [] (65535 ∷ []) (1024 ∷ []) [] (comprehension 3 1024 2 []) [] [] 1,
