@@ -1,0 +1,2 @@
+-- The laws of text put into a buffer as far as it has room.
+pub mod Pieces

@@ -1,0 +1,2 @@
+// The text of a verdict.
+use resolved_sort::Counts;
