@@ -2,3 +2,4 @@
 pub mod Puts
 pub mod Words
 pub mod Text
+pub mod Room
