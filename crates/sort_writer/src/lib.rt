@@ -44,7 +44,7 @@ fn join_sizes(a: usize, b: usize) -> usize
 }
 
 // The size found for a sort. A number past the sizes has none.
-fn size_at(sizes: &[usize], id: u16) -> usize
+pub fn size_at(sizes: &[usize], id: u16) -> usize
     ensures { λ r. ⌜ r ≡ getD (now (sizes .entry)) id 0 ⌝ }
 {
     let i = id as usize;
@@ -122,7 +122,7 @@ fn row_size(sorts: &[u16], sizes: &[usize], row: ResolvedSort) -> usize
 }
 
 // The sizes of the first n sorts, in rising number: each row is looked at once.
-fn fill_sizes(sorts: &[u16], n: usize, sizes: &mut [usize])
+pub fn fill_sizes(sorts: &[u16], n: usize, sizes: &mut [usize])
     requires { ⌜ (n ≤ maxSorts) × (n ≤ length (now sizes)) ⌝ }
     ensures { λ _. ⌜ now (sizes .exit) ≡ sizesTo (now (sorts .entry)) (now (sizes .entry)) n ⌝ }
 {

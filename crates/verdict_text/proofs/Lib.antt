@@ -1,0 +1,3 @@
+-- The laws of text put into a buffer as far as it has room.
+pub mod Pieces
+pub mod Puts

@@ -1,0 +1,5 @@
+-- What the contracts of this crate cite.
+pub mod Puts
+pub mod Words
+pub mod Text
+pub mod Room
