@@ -112,11 +112,27 @@ fn put_early(code: u16, out: &mut [u8], at: usize) -> usize
 {
     match code {
         0 => put_text(b"a typing", out, at),
-        1 => put_text(b"a list is above its ceiling or longer than what is lent for it", out, at),
-        2 => put_text(b"the first six sorts are not unit, Bool, Pos, Nat, Int, Real", out, at),
-        3 => put_text(b"a sort has an unknown kind, above 16 arguments, a run off its list or a part not below it", out, at),
+        1 => put_text(
+            b"a list is above its ceiling or longer than what is lent for it",
+            out,
+            at,
+        ),
+        2 => put_text(
+            b"the first six sorts are not unit, Bool, Pos, Nat, Int, Real",
+            out,
+            at,
+        ),
+        3 => put_text(
+            b"a sort has an unknown kind, above 16 arguments, a run off its list or a part not below it",
+            out,
+            at,
+        ),
         4 => put_text(b"two sorts are equal", out, at),
-        5 => put_text(b"a node has an unknown kind, above 16 arguments, a run off its list or a part not below it", out, at),
+        5 => put_text(
+            b"a node has an unknown kind, above 16 arguments, a run off its list or a part not below it",
+            out,
+            at,
+        ),
         _ => put_text(b"a binding names neither a sort nor a node", out, at),
     }
 }
@@ -128,10 +144,26 @@ fn put_late(code: u16, out: &mut [u8], at: usize) -> usize
 {
     match code {
         7 => put_text(b"a variable reaches itself", out, at),
-        8 => put_text(b"a place of an expression, or a base name, names nothing", out, at),
-        9 => put_text(b"a constraint has an unknown kind, a run off its list, or names what is not there", out, at),
-        10 => put_text(b"two disjunctions, or two base names, are for one expression", out, at),
-        11 => put_text(b"a join has no sources, or there are more than 256 components", out, at),
+        8 => put_text(
+            b"a place of an expression, or a base name, names nothing",
+            out,
+            at,
+        ),
+        9 => put_text(
+            b"a constraint has an unknown kind, a run off its list, or names what is not there",
+            out,
+            at,
+        ),
+        10 => put_text(
+            b"two disjunctions, or two base names, are for one expression",
+            out,
+            at,
+        ),
+        11 => put_text(
+            b"a join has no sources, or there are more than 256 components",
+            out,
+            at,
+        ),
         _ => put_text(b"the default sort is not in the list", out, at),
     }
 }
@@ -147,7 +179,11 @@ fn put_message(code: u16, out: &mut [u8], at: usize) -> usize
         return put_late(code, out, at);
     }
     match code {
-        14 => put_text(b"an output, the scratch, or the storage of sorts or nodes is too short", out, at),
+        14 => put_text(
+            b"an output, the scratch, or the storage of sorts or nodes is too short",
+            out,
+            at,
+        ),
         15 => put_text(b"the search has no room for a new sort", out, at),
         16 => put_text(b"the search has no room for a new node", out, at),
         17 => put_text(b"no typing found", out, at),
@@ -386,7 +422,15 @@ fn put_expr(
     let sort = put_text(b": ", out, colon);
     let target = put_sort_text(sorts, counts, sizes, word(typing, row), out, sort);
     let kind = word(typing, row + 1);
-    let end = put_target(sorts, counts, sizes, kind, word(typing, row + 2), out, target);
+    let end = put_target(
+        sorts,
+        counts,
+        sizes,
+        kind,
+        word(typing, row + 2),
+        out,
+        target,
+    );
     put_byte(10, out, end)
 }
 

@@ -48,7 +48,7 @@ array-share-prefix-text : tie.Need-array-share-prefix-text
 array-share-prefix-text c = way.text-ends (c .before .before .before .before .before .before .before .before .before .before .before .args .sorts .now) (c .before .before .before .before .before .before .before .before .before .before .before .args .counts) (c .before .before .before .before .before .before .before .before .before .before .before .args .sizes .now) _ (c .before .before .before .before .before .before .before .before .before .before .before .pre) (c .before .before .before .before .before .before .if1 .left) _ (c .before .before .before .before .before .size-at .ensures) (c .before .before .before .before .if2 .left) (c .before .before .before .if3 .left) _ (length-replicate {A = ℕ} 200 0) _ _ (c .before .put-sort .ensures)
 
 slice-aggregate-put-text : tie.Need-slice-aggregate-put-text
-slice-aggregate-put-text c = ?
+slice-aggregate-put-text c = way.text-length (c .before .before .before .before .before .before .before .before .before .before .before .before .args .sorts .now) (c .before .before .before .before .before .before .before .before .before .before .before .before .args .counts) (c .before .before .before .before .before .before .before .before .before .before .before .before .args .sizes .now) _ (c .before .before .before .before .before .before .before .before .before .before .before .before .pre) (c .before .before .before .before .before .before .before .if1 .left) _ (c .before .before .before .before .before .before .size-at .ensures) (c .before .before .before .before .before .if2 .left) (c .before .before .before .before .if3 .left) _ (length-replicate {A = ℕ} 200 0) _ _ (c .before .before .put-sort .ensures)
 
 put-text-requires : tie.Need-put-text-requires
 put-text-requires c κs = search needs
