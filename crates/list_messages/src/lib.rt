@@ -1,77 +1,104 @@
 // What is said of a line that is not of the format (docs/FORMAT.md): what was expected there.
 use list_memory::Form;
+use sort_lexer::between;
 use verdict_text::put_text;
 ghost use mathlib.Core.Path.{_≡_};
+ghost use Prim.Native.Nat.{_<_};
 ghost use Rattle.verdict_text.specs.Puts.{Put};
-ghost use Rattle.list_messages.specs.Messages.{formText, badText};
+ghost use Rattle.list_messages.specs.Messages.{placeOf, formText, badText};
+
+// Where each message begins in the bytes of all, and the last one ends.
+const STARTS: [usize; 34] = [
+    0,
+    15,
+    32,
+    58,
+    85,
+    114,
+    153,
+    180,
+    207,
+    301,
+    377,
+    390,
+    408,
+    469,
+    478,
+    484,
+    493,
+    543,
+    552,
+    618,
+    674,
+    683,
+    690,
+    721,
+    740,
+    756,
+    834,
+    846,
+    859,
+    879,
+    909,
+    942,
+    958,
+    1000,
+];
+
+// The place of a message.
+fn place_of(form: Form) -> usize
+    ensures { λ r. ⌜ (r ≡ placeOf form) × (r < 33) ⌝ }
+{
+    match form {
+        Form::Printable => 0,
+        Form::Length => 1,
+        Form::List => 2,
+        Form::Question => 3,
+        Form::Asked => 4,
+        Form::Keyword => 5,
+        Form::Next => 6,
+        Form::Bare => 7,
+        Form::Sort => 8,
+        Form::Node => 9,
+        Form::Entries => 10,
+        Form::NodeEntries => 11,
+        Form::Pad => 12,
+        Form::Var => 13,
+        Form::Vars => 14,
+        Form::Bind => 15,
+        Form::Unbound => 16,
+        Form::Expr => 17,
+        Form::Name => 18,
+        Form::Names => 19,
+        Form::Default => 20,
+        Form::Sub => 21,
+        Form::Lit => 22,
+        Form::Comprehension => 23,
+        Form::Disjunction => 24,
+        Form::Overload => 25,
+        Form::Join => 26,
+        Form::Sources => 27,
+        Form::Constraint => 28,
+        Form::Count => 29,
+        Form::Lend => 30,
+        Form::Ceilings => 31,
+        Form::Asks => 32,
+    }
+}
 
 // What was expected.
 fn put_form(form: Form, out: &mut [u8], at: usize) -> usize
     ensures { λ r. ⌜ Put (now (out .entry)) at (formText form) (now (out .exit)) r ⌝ }
 {
-    match form {
-        Form::Printable => put_text(b"printable ASCII", out, at),
-        Form::Length => put_text(b"at most 200 bytes", out, at),
-        Form::List => put_text(b"list before any other line", out, at),
-        Form::Question => put_text(b"a question before an answer", out, at),
-        Form::Asked => put_text(b"?, = or list after a question", out, at),
-        Form::Keyword => put_text(b"a word that begins a line of the format", out, at),
-        Form::Next => put_text(b"a name with the next number", out, at),
-        Form::Bare => put_text(b"bare, before any other sort", out, at),
-        Form::Sort => put_text(
-            b"sort sK List S, sort sK fn S ... -> S, sort sK Def N, sort sK TypeVar N or sort sK raw N N N N",
-            out,
-            at,
-        ),
-        Form::Node => put_text(
-            b"node nK List P, node nK fn P ... -> P, node nK var vN or node nK raw N N N N",
-            out,
-            at,
-        ),
-        Form::Entries => put_text(b"entries N ...", out, at),
-        Form::NodeEntries => put_text(b"node-entries N ...", out, at),
-        Form::Pad => put_text(
-            b"pad sorts N, pad entries N, pad nodes N or pad node-entries N",
-            out,
-            at,
-        ),
-        Form::Var => put_text(b"var vK nJ", out, at),
-        Form::Vars => put_text(b"vars N", out, at),
-        Form::Bind => put_text(b"bind vN P", out, at),
-        Form::Unbound => put_text(
-            b"a variable of a line above that has no binding yet",
-            out,
-            at,
-        ),
-        Form::Expr => put_text(b"expr eK P", out, at),
-        Form::Name => put_text(
-            b"name eN variable, name eN builtin, name eN op S or name eN raw N N",
-            out,
-            at,
-        ),
-        Form::Names => put_text(
-            b"at most 512 base names, which is what this program holds",
-            out,
-            at,
-        ),
-        Form::Default => put_text(b"default S", out, at),
-        Form::Sub => put_text(b"sub P P", out, at),
-        Form::Lit => put_text(b"lit P positive or lit P natural", out, at),
-        Form::Comprehension => put_text(b"comprehension P P S", out, at),
-        Form::Disjunction => put_text(b"disjunction eN P", out, at),
-        Form::Overload => put_text(
-            b"overload variable P, overload builtin P, overload op S P or overload raw N N N",
-            out,
-            at,
-        ),
-        Form::Join => put_text(b"join P P ...", out, at),
-        Form::Sources => put_text(b"sources P ...", out, at),
-        Form::Constraint => put_text(b"constraint N N N N N", out, at),
-        Form::Count => put_text(b"count WHAT N, as count exprs 2", out, at),
-        Form::Lend => put_text(b"lend WHAT N, as lend scratch 4096", out, at),
-        Form::Ceilings => put_text(b"ceilings N N N N", out, at),
-        Form::Asks => put_text(b"? solve, or another question of the format", out, at),
-    }
+    let k = place_of(form);
+    let from = STARTS[k];
+    let to = STARTS[k + 1];
+    let text = between(
+        b"printable ASCIIat most 200 byteslist before any other linea question before an answer?, = or list after a questiona word that begins a line of the formata name with the next numberbare, before any other sortsort sK List S, sort sK fn S ... -> S, sort sK Def N, sort sK TypeVar N or sort sK raw N N N Nnode nK List P, node nK fn P ... -> P, node nK var vN or node nK raw N N N Nentries N ...node-entries N ...pad sorts N, pad entries N, pad nodes N or pad node-entries Nvar vK nJvars Nbind vN Pa variable of a line above that has no binding yetexpr eK Pname eN variable, name eN builtin, name eN op S or name eN raw N Nat most 512 base names, which is what this program holdsdefault Ssub P Plit P positive or lit P naturalcomprehension P P Sdisjunction eN Poverload variable P, overload builtin P, overload op S P or overload raw N N Njoin P P ...sources P ...constraint N N N N Ncount WHAT N, as count exprs 2lend WHAT N, as lend scratch 4096ceilings N N N N? solve, or another question of the format",
+        from,
+        to,
+    );
+    put_text(text, out, at)
 }
 
 // The line, but for the number of the line that it speaks of.

@@ -1,0 +1,2 @@
+-- The messages in their table.
+pub mod Table

@@ -1,0 +1,40 @@
+-- What is put one after another is put whole. Assumes nothing.
+use borrow.Author.Needs.{needs}
+use Rattle.verdict_text.proofs.Puts as law
+use Rattle.list_messages.specs.Messages.{badText}
+use Rattle.list_messages.proofs.put_bad.Statement.{statement}
+use Rattle.list_messages.proofs.put_bad.Tie as tie
+
+slice-aggregate-put-text : tie.Need-slice-aggregate-put-text
+slice-aggregate-put-text c = search needs
+
+put-text-requires : tie.Need-put-text-requires
+put-text-requires c κs = search needs
+
+put-form-requires : tie.Need-put-form-requires
+put-form-requires c κs = search needs
+
+slice-aggregate-put-text-2 : tie.Need-slice-aggregate-put-text-2
+slice-aggregate-put-text-2 c = search needs
+
+put-text-requires-2 : tie.Need-put-text-requires-2
+put-text-requires-2 c κs = search needs
+
+same-length : tie.Need-same-length
+same-length c = search needs
+
+returns : tie.Need-returns
+unfolding badText
+returns c = law.put-then (c .before .before .before .before .before .before .before .before .before .before .before .put-text .ensures) (law.put-then (c .before .before .before .before .before .before .before .put-form .ensures) (c .before .before .put-text2 .ensures))
+
+pub put-bad-spec : {M : Type 1} → statement M
+put-bad-spec =
+    tie.close
+    (tie.spec
+    slice-aggregate-put-text
+    put-text-requires
+    put-form-requires
+    slice-aggregate-put-text-2
+    put-text-requires-2
+    same-length
+    returns)
