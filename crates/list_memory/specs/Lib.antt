@@ -1,0 +1,2 @@
+-- A list as it is being read.
+pub mod Memory
