@@ -11,7 +11,7 @@ use lib.ListN.{length, getD, take, drop, drop-of-length-le}
 use lib.Seq.{drop-cons}
 use borrow.Author.Tests.{ne-eqb}
 use Rattle.sort_text.specs.Parse.{sameBytes}
-use Rattle.list_tokens.specs.Words.{words, placeIn, keywordOf}
+use Rattle.list_tokens.specs.Words.{bytesOf, words, placeIn, keywordOf}
 
 module _ (ws : List (List ℕ)) (w : List ℕ) (k : ℕ) (inv : placeIn ws w 1 ≡ placeIn (drop k ws) w (k + 1)) where
   module _ (h : k < length ws) (r : Bool) (e : r ≡ sameBytes w (getD ws k [])) where
@@ -38,7 +38,8 @@ starts =
 
 unfoldable pub bytes : List ℕ
 bytes =
-    108 ∷ 105 ∷ 115 ∷ 116 ∷ 98 ∷ 97 ∷ 114 ∷ 101 ∷ 115 ∷ 111 ∷ 114 ∷ 116 ∷ 101 ∷ 110 ∷ 116 ∷ 114 ∷ 105 ∷ 101 ∷ 115 ∷ 110 ∷ 111 ∷ 100 ∷ 101 ∷ 110 ∷ 111 ∷ 100 ∷ 101 ∷ 45 ∷ 101 ∷ 110 ∷ 116 ∷ 114 ∷ 105 ∷ 101 ∷ 115 ∷ 112 ∷ 97 ∷ 100 ∷ 118 ∷ 97 ∷ 114 ∷ 118 ∷ 97 ∷ 114 ∷ 115 ∷ 98 ∷ 105 ∷ 110 ∷ 100 ∷ 101 ∷ 120 ∷ 112 ∷ 114 ∷ 110 ∷ 97 ∷ 109 ∷ 101 ∷ 100 ∷ 101 ∷ 102 ∷ 97 ∷ 117 ∷ 108 ∷ 116 ∷ 99 ∷ 101 ∷ 105 ∷ 108 ∷ 105 ∷ 110 ∷ 103 ∷ 115 ∷ 99 ∷ 111 ∷ 117 ∷ 110 ∷ 116 ∷ 108 ∷ 101 ∷ 110 ∷ 100 ∷ 115 ∷ 117 ∷ 98 ∷ 108 ∷ 105 ∷ 116 ∷ 99 ∷ 111 ∷ 109 ∷ 112 ∷ 114 ∷ 101 ∷ 104 ∷ 101 ∷ 110 ∷ 115 ∷ 105 ∷ 111 ∷ 110 ∷ 100 ∷ 105 ∷ 115 ∷ 106 ∷ 117 ∷ 110 ∷ 99 ∷ 116 ∷ 105 ∷ 111 ∷ 110 ∷ 106 ∷ 111 ∷ 105 ∷ 110 ∷ 99 ∷ 111 ∷ 110 ∷ 115 ∷ 116 ∷ 114 ∷ 97 ∷ 105 ∷ 110 ∷ 116 ∷ 111 ∷ 118 ∷ 101 ∷ 114 ∷ 108 ∷ 111 ∷ 97 ∷ 100 ∷ 63 ∷ 61 ∷ 76 ∷ 105 ∷ 115 ∷ 116 ∷ 83 ∷ 101 ∷ 116 ∷ 70 ∷ 83 ∷ 101 ∷ 116 ∷ 66 ∷ 97 ∷ 103 ∷ 70 ∷ 66 ∷ 97 ∷ 103 ∷ 102 ∷ 110 ∷ 68 ∷ 101 ∷ 102 ∷ 84 ∷ 121 ∷ 112 ∷ 101 ∷ 86 ∷ 97 ∷ 114 ∷ 114 ∷ 97 ∷ 119 ∷ 45 ∷ 62 ∷ 118 ∷ 97 ∷ 114 ∷ 105 ∷ 97 ∷ 98 ∷ 108 ∷ 101 ∷ 111 ∷ 112 ∷ 98 ∷ 117 ∷ 105 ∷ 108 ∷ 116 ∷ 105 ∷ 110 ∷ 112 ∷ 111 ∷ 115 ∷ 105 ∷ 116 ∷ 105 ∷ 118 ∷ 101 ∷ 110 ∷ 97 ∷ 116 ∷ 117 ∷ 114 ∷ 97 ∷ 108 ∷ 115 ∷ 111 ∷ 114 ∷ 116 ∷ 115 ∷ 110 ∷ 111 ∷ 100 ∷ 101 ∷ 115 ∷ 98 ∷ 105 ∷ 110 ∷ 100 ∷ 105 ∷ 110 ∷ 103 ∷ 115 ∷ 101 ∷ 120 ∷ 112 ∷ 114 ∷ 115 ∷ 110 ∷ 97 ∷ 109 ∷ 101 ∷ 115 ∷ 99 ∷ 111 ∷ 110 ∷ 115 ∷ 116 ∷ 114 ∷ 97 ∷ 105 ∷ 110 ∷ 116 ∷ 115 ∷ 111 ∷ 118 ∷ 101 ∷ 114 ∷ 108 ∷ 111 ∷ 97 ∷ 100 ∷ 115 ∷ 115 ∷ 111 ∷ 117 ∷ 114 ∷ 99 ∷ 101 ∷ 115 ∷ 115 ∷ 99 ∷ 114 ∷ 97 ∷ 116 ∷ 99 ∷ 104 ∷ 111 ∷ 117 ∷ 116 ∷ 45 ∷ 116 ∷ 121 ∷ 112 ∷ 105 ∷ 110 ∷ 103 ∷ 111 ∷ 117 ∷ 116 ∷ 45 ∷ 109 ∷ 101 ∷ 97 ∷ 115 ∷ 117 ∷ 114 ∷ 101 ∷ 111 ∷ 117 ∷ 116 ∷ 45 ∷ 99 ∷ 104 ∷ 111 ∷ 105 ∷ 99 ∷ 101 ∷ 115 ∷ 115 ∷ 111 ∷ 108 ∷ 118 ∷ 101 ∷ 117 ∷ 110 ∷ 105 ∷ 102 ∷ 121 ∷ 112 ∷ 97 ∷ 114 ∷ 116 ∷ 105 ∷ 97 ∷ 108 ∷ 95 ∷ 99 ∷ 109 ∷ 112 ∷ 109 ∷ 101 ∷ 101 ∷ 116 ∷ 119 ∷ 105 ∷ 100 ∷ 101 ∷ 110 ∷ 105 ∷ 110 ∷ 103 ∷ 95 ∷ 100 ∷ 105 ∷ 115 ∷ 116 ∷ 97 ∷ 110 ∷ 99 ∷ 101 ∷ 105 ∷ 115 ∷ 95 ∷ 109 ∷ 97 ∷ 116 ∷ 101 ∷ 114 ∷ 105 ∷ 97 ∷ 108 ∷ 105 ∷ 122 ∷ 97 ∷ 98 ∷ 108 ∷ 101 ∷ 117 ∷ 110 ∷ 105 ∷ 116 ∷ 66 ∷ 111 ∷ 111 ∷ 108 ∷ 80 ∷ 111 ∷ 115 ∷ 78 ∷ 97 ∷ 116 ∷ 73 ∷ 110 ∷ 116 ∷ 82 ∷ 101 ∷ 97 ∷ 108 ∷ []
+    bytesOf
+    "listbaresortentriesnodenode-entriespadvarvarsbindexprnamedefaultceilingscountlendsublitcomprehensiondisjunctionjoinconstraintoverload?=ListSetFSetBagFBagfnDefTypeVarraw->variableopbuiltinpositivenaturalsortsnodesbindingsexprsnamesconstraintsoverloadssourcesscratchout-typingout-measureout-choicessolveunifypartial_cmpmeetwidening_distanceis_materializableunitBoolPosNatIntReal"
 
 unfoldable pub cut : ℕ → List ℕ
 cut k = take (getD starts (k + 1) 0 - getD starts k 0) (drop (getD starts k 0) bytes)
@@ -48,7 +49,7 @@ cutsFrom zero k = []
 cutsFrom (suc m) k = cut k ∷ cutsFrom m (k + 1)
 
 cuts-are-the-words : cutsFrom 64 0 ≡ words
-unfolding words starts bytes cut cutsFrom
+unfolding words bytesOf starts bytes cut cutsFrom
 cuts-are-the-words = refl
 
 cut-at : (m i k : ℕ) → k < m → getD (cutsFrom m i) k [] ≡ cut (i + k)

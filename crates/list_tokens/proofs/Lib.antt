@@ -2,3 +2,4 @@
 mod Finding
 mod Digits
 mod Reading
+mod Examples

@@ -1,7 +1,9 @@
 -- The words of the format that are no number and no name with one. A word is known by its place from 1 on in this list.
 use mathlib.Core.Bool.{cond}
-use mathlib.Core.List.{List, [], _∷_}
+use mathlib.Core.List.{List, [], _∷_, map}
 use Prim.Native.Nat.{ℕ, _+_}
+use Prim.Native.Char.{code}
+use Prim.Native.String.{String, [] as []ˢ, _∷_ as _∷ˢ_}
 use Rattle.sort_text.specs.Parse.{sameBytes}
 
 abbrev pub kList : ℕ
@@ -182,136 +184,24 @@ kIsMaterializable = 58
 abbrev pub kUnit : ℕ
 kUnit = 59
 
+-- the bytes of a text
+unfoldable pub bytesOf : String → List ℕ
+bytesOf []ˢ = []
+bytesOf (c ∷ˢ cs) = code c ∷ bytesOf cs
+
 unfoldable pub words : List (List ℕ)
 words =
-    -- list
-    (108 ∷ 105 ∷ 115 ∷ 116 ∷ []) ∷
-    -- bare
-    (98 ∷ 97 ∷ 114 ∷ 101 ∷ []) ∷
-    -- sort
-    (115 ∷ 111 ∷ 114 ∷ 116 ∷ []) ∷
-    -- entries
-    (101 ∷ 110 ∷ 116 ∷ 114 ∷ 105 ∷ 101 ∷ 115 ∷ []) ∷
-    -- node
-    (110 ∷ 111 ∷ 100 ∷ 101 ∷ []) ∷
-    -- node-entries
-    (110 ∷ 111 ∷ 100 ∷ 101 ∷ 45 ∷ 101 ∷ 110 ∷ 116 ∷ 114 ∷ 105 ∷ 101 ∷ 115 ∷ []) ∷
-    -- pad
-    (112 ∷ 97 ∷ 100 ∷ []) ∷
-    -- var
-    (118 ∷ 97 ∷ 114 ∷ []) ∷
-    -- vars
-    (118 ∷ 97 ∷ 114 ∷ 115 ∷ []) ∷
-    -- bind
-    (98 ∷ 105 ∷ 110 ∷ 100 ∷ []) ∷
-    -- expr
-    (101 ∷ 120 ∷ 112 ∷ 114 ∷ []) ∷
-    -- name
-    (110 ∷ 97 ∷ 109 ∷ 101 ∷ []) ∷
-    -- default
-    (100 ∷ 101 ∷ 102 ∷ 97 ∷ 117 ∷ 108 ∷ 116 ∷ []) ∷
-    -- ceilings
-    (99 ∷ 101 ∷ 105 ∷ 108 ∷ 105 ∷ 110 ∷ 103 ∷ 115 ∷ []) ∷
-    -- count
-    (99 ∷ 111 ∷ 117 ∷ 110 ∷ 116 ∷ []) ∷
-    -- lend
-    (108 ∷ 101 ∷ 110 ∷ 100 ∷ []) ∷
-    -- sub
-    (115 ∷ 117 ∷ 98 ∷ []) ∷
-    -- lit
-    (108 ∷ 105 ∷ 116 ∷ []) ∷
-    -- comprehension
-    (99 ∷ 111 ∷ 109 ∷ 112 ∷ 114 ∷ 101 ∷ 104 ∷ 101 ∷ 110 ∷ 115 ∷ 105 ∷ 111 ∷ 110 ∷ []) ∷
-    -- disjunction
-    (100 ∷ 105 ∷ 115 ∷ 106 ∷ 117 ∷ 110 ∷ 99 ∷ 116 ∷ 105 ∷ 111 ∷ 110 ∷ []) ∷
-    -- join
-    (106 ∷ 111 ∷ 105 ∷ 110 ∷ []) ∷
-    -- constraint
-    (99 ∷ 111 ∷ 110 ∷ 115 ∷ 116 ∷ 114 ∷ 97 ∷ 105 ∷ 110 ∷ 116 ∷ []) ∷
-    -- overload
-    (111 ∷ 118 ∷ 101 ∷ 114 ∷ 108 ∷ 111 ∷ 97 ∷ 100 ∷ []) ∷
-    -- ?
-    (63 ∷ []) ∷
-    -- =
-    (61 ∷ []) ∷
-    -- List
-    (76 ∷ 105 ∷ 115 ∷ 116 ∷ []) ∷
-    -- Set
-    (83 ∷ 101 ∷ 116 ∷ []) ∷
-    -- FSet
-    (70 ∷ 83 ∷ 101 ∷ 116 ∷ []) ∷
-    -- Bag
-    (66 ∷ 97 ∷ 103 ∷ []) ∷
-    -- FBag
-    (70 ∷ 66 ∷ 97 ∷ 103 ∷ []) ∷
-    -- fn
-    (102 ∷ 110 ∷ []) ∷
-    -- Def
-    (68 ∷ 101 ∷ 102 ∷ []) ∷
-    -- TypeVar
-    (84 ∷ 121 ∷ 112 ∷ 101 ∷ 86 ∷ 97 ∷ 114 ∷ []) ∷
-    -- raw
-    (114 ∷ 97 ∷ 119 ∷ []) ∷
-    -- ->
-    (45 ∷ 62 ∷ []) ∷
-    -- variable
-    (118 ∷ 97 ∷ 114 ∷ 105 ∷ 97 ∷ 98 ∷ 108 ∷ 101 ∷ []) ∷
-    -- op
-    (111 ∷ 112 ∷ []) ∷
-    -- builtin
-    (98 ∷ 117 ∷ 105 ∷ 108 ∷ 116 ∷ 105 ∷ 110 ∷ []) ∷
-    -- positive
-    (112 ∷ 111 ∷ 115 ∷ 105 ∷ 116 ∷ 105 ∷ 118 ∷ 101 ∷ []) ∷
-    -- natural
-    (110 ∷ 97 ∷ 116 ∷ 117 ∷ 114 ∷ 97 ∷ 108 ∷ []) ∷
-    -- sorts
-    (115 ∷ 111 ∷ 114 ∷ 116 ∷ 115 ∷ []) ∷
-    -- nodes
-    (110 ∷ 111 ∷ 100 ∷ 101 ∷ 115 ∷ []) ∷
-    -- bindings
-    (98 ∷ 105 ∷ 110 ∷ 100 ∷ 105 ∷ 110 ∷ 103 ∷ 115 ∷ []) ∷
-    -- exprs
-    (101 ∷ 120 ∷ 112 ∷ 114 ∷ 115 ∷ []) ∷
-    -- names
-    (110 ∷ 97 ∷ 109 ∷ 101 ∷ 115 ∷ []) ∷
-    -- constraints
-    (99 ∷ 111 ∷ 110 ∷ 115 ∷ 116 ∷ 114 ∷ 97 ∷ 105 ∷ 110 ∷ 116 ∷ 115 ∷ []) ∷
-    -- overloads
-    (111 ∷ 118 ∷ 101 ∷ 114 ∷ 108 ∷ 111 ∷ 97 ∷ 100 ∷ 115 ∷ []) ∷
-    -- sources
-    (115 ∷ 111 ∷ 117 ∷ 114 ∷ 99 ∷ 101 ∷ 115 ∷ []) ∷
-    -- scratch
-    (115 ∷ 99 ∷ 114 ∷ 97 ∷ 116 ∷ 99 ∷ 104 ∷ []) ∷
-    -- out-typing
-    (111 ∷ 117 ∷ 116 ∷ 45 ∷ 116 ∷ 121 ∷ 112 ∷ 105 ∷ 110 ∷ 103 ∷ []) ∷
-    -- out-measure
-    (111 ∷ 117 ∷ 116 ∷ 45 ∷ 109 ∷ 101 ∷ 97 ∷ 115 ∷ 117 ∷ 114 ∷ 101 ∷ []) ∷
-    -- out-choices
-    (111 ∷ 117 ∷ 116 ∷ 45 ∷ 99 ∷ 104 ∷ 111 ∷ 105 ∷ 99 ∷ 101 ∷ 115 ∷ []) ∷
-    -- solve
-    (115 ∷ 111 ∷ 108 ∷ 118 ∷ 101 ∷ []) ∷
-    -- unify
-    (117 ∷ 110 ∷ 105 ∷ 102 ∷ 121 ∷ []) ∷
-    -- partial_cmp
-    (112 ∷ 97 ∷ 114 ∷ 116 ∷ 105 ∷ 97 ∷ 108 ∷ 95 ∷ 99 ∷ 109 ∷ 112 ∷ []) ∷
-    -- meet
-    (109 ∷ 101 ∷ 101 ∷ 116 ∷ []) ∷
-    -- widening_distance
-    (119 ∷ 105 ∷ 100 ∷ 101 ∷ 110 ∷ 105 ∷ 110 ∷ 103 ∷ 95 ∷ 100 ∷ 105 ∷ 115 ∷ 116 ∷ 97 ∷ 110 ∷ 99 ∷ 101 ∷ []) ∷
-    -- is_materializable
-    (105 ∷ 115 ∷ 95 ∷ 109 ∷ 97 ∷ 116 ∷ 101 ∷ 114 ∷ 105 ∷ 97 ∷ 108 ∷ 105 ∷ 122 ∷ 97 ∷ 98 ∷ 108 ∷ 101 ∷ []) ∷
-    -- unit
-    (117 ∷ 110 ∷ 105 ∷ 116 ∷ []) ∷
-    -- Bool
-    (66 ∷ 111 ∷ 111 ∷ 108 ∷ []) ∷
-    -- Pos
-    (80 ∷ 111 ∷ 115 ∷ []) ∷
-    -- Nat
-    (78 ∷ 97 ∷ 116 ∷ []) ∷
-    -- Int
-    (73 ∷ 110 ∷ 116 ∷ []) ∷
-    -- Real
-    (82 ∷ 101 ∷ 97 ∷ 108 ∷ []) ∷ []
+    map bytesOf
+    ("list" ∷ "bare" ∷ "sort" ∷ "entries" ∷ "node" ∷ "node-entries" ∷ "pad" ∷ "var"
+    ∷ "vars" ∷ "bind" ∷ "expr" ∷ "name" ∷ "default" ∷ "ceilings" ∷ "count" ∷ "lend"
+    ∷ "sub" ∷ "lit" ∷ "comprehension" ∷ "disjunction" ∷ "join" ∷ "constraint" ∷ "overload" ∷ "?" ∷ "="
+    ∷ "List" ∷ "Set" ∷ "FSet" ∷ "Bag" ∷ "FBag" ∷ "fn" ∷ "Def" ∷ "TypeVar" ∷ "raw" ∷ "->"
+    ∷ "variable" ∷ "op" ∷ "builtin" ∷ "positive" ∷ "natural"
+    ∷ "sorts" ∷ "nodes" ∷ "bindings" ∷ "exprs" ∷ "names" ∷ "constraints" ∷ "overloads" ∷ "sources"
+    ∷ "scratch" ∷ "out-typing" ∷ "out-measure" ∷ "out-choices" ∷ "solve" ∷ "unify"
+    ∷ "partial_cmp" ∷ "meet" ∷ "widening_distance" ∷ "is_materializable"
+    ∷ "unit" ∷ "Bool" ∷ "Pos" ∷ "Nat" ∷ "Int" ∷ "Real"
+    ∷ [])
 
 -- the place of a word in a list of them, counted from k on; 0 where it is none of them
 unfoldable pub placeIn : List (List ℕ) → List ℕ → ℕ → ℕ

@@ -1,5 +1,6 @@
 -- The bytes between two starts are the word of that place. Assumes nothing.
 use borrow.Author.Needs.{needs}
+use Rattle.list_tokens.specs.Words.{bytesOf}
 use Rattle.list_tokens.proofs.Finding as law
 use Rattle.list_tokens.proofs.is_word.Statement.{statement}
 use Rattle.list_tokens.proofs.is_word.Tie as tie
@@ -29,7 +30,7 @@ same-bytes-requires : tie.Need-same-bytes-requires
 same-bytes-requires c κs = search needs
 
 returns : tie.Need-returns
-unfolding law.starts law.bytes law.cut
+unfolding law.starts law.bytes law.cut bytesOf
 returns c = search law.word-of-the-table
 
 returns-2 : tie.Need-returns-2
