@@ -16,7 +16,7 @@ ghost use Rattle.list_tokens.specs.Tokens.{decimal, numberOf, classOf, n
 // The words of a line, each as a number, and how many there are.
 pub struct Tokens {
     pub values: [u32; 100],
-    pub count: usize,
+    pub count: u16,
 }
 
 // What a line begins with: nothing or a comment, `=`, `list`, or another word.
@@ -244,14 +244,20 @@ pub fn tokens_of(line: &[u8]) -> Tokens
     while count < 100 {
         let from = skip_spaces(line, at);
         if line.len() <= from {
-            return Tokens { values, count };
+            return Tokens {
+                values,
+                count: count as u16,
+            };
         }
         let to = word_end(line, from);
         values[count] = token_of(between(line, from, to));
         count += 1;
         at = to;
     }
-    Tokens { values, count }
+    Tokens {
+        values,
+        count: count as u16,
+    }
 }
 
 // Whether all bytes are printable ASCII.

@@ -18,6 +18,9 @@ loop-holds c = law.going-start _
 skip-spaces-requires : tie.Need-skip-spaces-requires Inv-loop μ-loop
 skip-spaces-requires c κs = search needs
 
+cast-t10 : tie.Need-cast-t10 Inv-loop μ-loop
+cast-t10 c = omega arith
+
 returns : tie.Need-returns Inv-loop μ-loop
 returns c = search law.no-more-words
 
@@ -45,6 +48,9 @@ loop-less c = omega arith
 loop-again : tie.Need-loop-again Inv-loop μ-loop
 loop-again c = search law.one-more-word
 
+cast-t16 : tie.Need-cast-t16 Inv-loop μ-loop
+cast-t16 c = omega arith
+
 returns-2 : tie.Need-returns-2 Inv-loop μ-loop
 returns-2 c = search law.all-taken
 
@@ -56,6 +62,7 @@ tokens-of-spec =
     μ-loop
     loop-holds
     skip-spaces-requires
+    cast-t10
     returns
     word-end-requires
     between-requires
@@ -65,4 +72,5 @@ tokens-of-spec =
     add-count
     loop-less
     loop-again
+    cast-t16
     returns-2)
