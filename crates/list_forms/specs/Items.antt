@@ -1,0 +1,114 @@
+-- The words of a line held against a form: "In the tables below S is a sort (sN or one of the six words), P a place: a sort below s1024,
+-- or a node nN. N is a number." A place can name any word, so nN goes up to n64511.
+use mathlib.Core.Bool.{Bool, true, false, cond}
+use mathlib.Core.List.{List, [], _∷_}
+use Prim.Native.Nat.{ℕ, zero, suc, _+_, _-_, _%_}
+use lib.Dec.{ltb, leb, eqb}
+use lib.ListN.{getD}
+use Rattle.list_tokens.specs.declared.Tokens.{Tokens}
+use Rattle.list_tokens.specs.Words.{kFn, kArrow}
+
+-- An item of a form: below 65,536 that very word by its number, 0 the end of the line, and above one of these classes.
+abbrev pub N : ℕ
+N = 65536
+
+abbrev pub S : ℕ
+S = 131072
+
+abbrev pub nN : ℕ
+nN = 196608
+
+abbrev pub vN : ℕ
+vN = 262144
+
+abbrev pub eN : ℕ
+eN = 327680
+
+-- one of the six words
+abbrev pub fixed : ℕ
+fixed = 393216
+
+abbrev pub P : ℕ
+P = 458752
+
+-- List, Set, FSet, Bag, FBag
+abbrev pub container : ℕ
+container = 524288
+
+-- positive, natural
+abbrev pub literal : ℕ
+literal = 589824
+
+-- the slices of `lend`, `sorts` to `out-choices`
+abbrev pub slice : ℕ
+slice = 655360
+
+-- any word that is no number and no name
+abbrev pub what : ℕ
+what = 720896
+
+unfoldable pub inRange : ℕ → ℕ → ℕ → Bool
+inRange lo hi t = cond (ltb t lo) false (ltb t hi)
+
+unfoldable pub isSort : ℕ → Bool
+isSort t = cond (inRange 131072 196608 t) true (inRange 393216 458752 t)
+
+unfoldable pub isPlace : ℕ → Bool
+isPlace t = cond (inRange 131072 132096 t) true (cond (inRange 196608 261120 t) true (inRange 393216 458752 t))
+
+-- whether a word is of an item
+unfoldable pub isOf : ℕ → ℕ → Bool
+isOf item t =
+    cond (ltb item 65536) (eqb t item)
+    (cond (eqb item S) (isSort t)
+    (cond (eqb item P) (isPlace t)
+    (cond (eqb item container) (inRange 26 31 t)
+    (cond (eqb item literal) (inRange 39 41 t)
+    (cond (eqb item slice) (inRange 41 53 t)
+    (cond (eqb item what) (ltb t 65536)
+    (cond (ltb t item) false (ltb (t - item) 65536))))))))
+
+-- word i of a line
+abbrev pub tokenAt : Tokens → ℕ → ℕ
+tokenAt t i = getD (t .values) i 0
+
+-- what a word stands for in memory: a node's place is 1,024 above its number; of all others the number
+unfoldable pub wordOf : ℕ → ℕ
+wordOf t = cond (inRange 196608 261120 t) (t - 195584) (t % 65536)
+
+unfoldable pub wordAt : Tokens → ℕ → ℕ
+wordAt t i = wordOf (tokenAt t i)
+
+-- the words from i on are of the items, one for one, and no more
+unfoldable pub fitsFrom : Tokens → List ℕ → ℕ → Bool
+fitsFrom t [] i = eqb (t .count) i
+fitsFrom t (p ∷ ps) i =
+    cond (eqb p 0) (eqb (t .count) i)
+    (cond (leb (t .count) i) false
+    (cond (isOf p (tokenAt t i)) (fitsFrom t ps (i + 1)) false))
+
+-- a form of at most seven words
+abbrev pub form : (a b c d e f g : ℕ) → List ℕ
+form a b c d e f g = a ∷ b ∷ c ∷ d ∷ e ∷ f ∷ g ∷ []
+
+abbrev pub fits : Tokens → List ℕ → Bool
+fits t ps = fitsFrom t ps 0
+
+-- m words from i on are all of an item
+unfoldable pub allFrom : ℕ → Tokens → ℕ → ℕ → Bool
+allFrom zero t item i = true
+allFrom (suc m) t item i = cond (isOf item (tokenAt t i)) (allFrom m t item (i + 1)) false
+
+-- `KEYWORD X ...`: at least one word after the first, all of an item
+unfoldable pub listFits : Tokens → ℕ → Bool
+listFits t item = cond (ltb (t .count) 2) false (allFrom (t .count - 1) t item 1)
+
+-- `KEYWORD NAME fn X ... -> X`
+unfoldable pub functionFits : Tokens → ℕ → Bool
+functionFits t item =
+    cond (ltb (t .count) 5) false
+    (cond (eqb (tokenAt t 2) kFn)
+    (cond (eqb (tokenAt t (t .count - 2)) kArrow)
+    (cond (isOf item (tokenAt t (t .count - 1))) (allFrom (t .count - 5) t item 3) false)
+    false)
+    false)

@@ -1,0 +1,241 @@
+-- What each line of a list gives, in the order of the tables of docs/FORMAT.md. ws are the words of the list so far, t the words of
+-- the line.
+use mathlib.Core.Bool.{Bool, true, false, cond}
+use mathlib.Core.List.{List, [], _∷_}
+use Prim.Native.Nat.{ℕ, _+_, _-_}
+use lib.Dec.{ltb, leb, eqb}
+use lib.ListN.{getD}
+use Rattle.list_memory.specs.declared.Form.{Form}
+use Rattle.list_memory.specs.Memory.{rowsOf, defaultAt, countAt, countToldAt, lentAt, lentToldAt, lastAt}
+use Rattle.list_tokens.specs.declared.Tokens.{Tokens}
+use Rattle.list_tokens.specs.Words as word
+use Rattle.list_forms.specs.declared.Plan.{Plan}
+use Rattle.list_forms.specs.Items.{N, S, P, nN, vN, eN, fixed, container, literal, slice, what, tokenAt, wordAt, form, fits, listFits, functionFits}
+use Rattle.list_forms.specs.Plans.{expected, nothing, rowsPlan, rowPlan, withFree, withRun, withPuts, withPut, grown}
+
+abbrev pub row : (a b c d e : ℕ) → List ℕ
+row a b c d e = a ∷ b ∷ c ∷ d ∷ e ∷ []
+
+-- "a line that makes a row names it, and the name must be the next one": word i is the next name of list k
+unfoldable pub isNext : List ℕ → Tokens → ℕ → ℕ → ℕ → Bool
+isNext ws t i class k = eqb (tokenAt t i) (class + rowsOf ws k)
+
+-- a function row of list k, with its arguments in list e
+unfoldable pub functionPlan : List ℕ → Tokens → ℕ → ℕ → Plan
+functionPlan ws t k e = withRun (rowPlan k (row 11 (wordAt t (t .count - 1)) (rowsOf ws e) (t .count - 5) 0)) e 3 (t .count - 2)
+
+-- sort sK List S, sort sK fn S ... -> S, sort sK Def N, sort sK TypeVar N, sort sK unit, sort sK raw KIND PART START COUNT
+unfoldable pub sortPlan : List ℕ → Tokens → Plan
+sortPlan ws t =
+    cond (isNext ws t 1 S 0)
+    (cond (fits t (form word.kSort S container S 0 0 0)) (rowPlan 0 (row (wordAt t 2 - 20) (wordAt t 3) 0 0 0))
+    (cond (functionFits t S) (functionPlan ws t 0 1)
+    (cond (fits t (form word.kSort S word.kDef N 0 0 0)) (rowPlan 0 (row 12 (wordAt t 3) 0 0 0))
+    (cond (fits t (form word.kSort S word.kTypeVar N 0 0 0)) (rowPlan 0 (row 13 (wordAt t 3) 0 0 0))
+    (cond (fits t (form word.kSort S fixed 0 0 0 0)) (rowPlan 0 (row (wordAt t 2) 0 0 0 0))
+    (cond (fits t (form word.kSort S word.kRaw N N N N)) (rowPlan 0 (row (wordAt t 3) (wordAt t 4) (wordAt t 5) (wordAt t 6) 0))
+    (expected Form.Sort)))))))
+    (expected Form.Next)
+
+-- var vK nJ
+unfoldable pub varPlan : List ℕ → Tokens → Plan
+varPlan ws t =
+    cond (fits t (form word.kVar vN nN 0 0 0 0))
+    (cond (isNext ws t 1 vN 4)
+    (cond (isNext ws t 2 nN 2) (withFree 1 (rowPlan 2 (row 14 (wordAt t 1) 0 0 0)))
+    (expected Form.Next))
+    (expected Form.Next))
+    (expected Form.Var)
+
+-- vars N
+unfoldable pub varsPlan : Tokens → Plan
+varsPlan t = cond (fits t (form word.kVars N 0 0 0 0 0)) (withFree (wordAt t 1) nothing) (expected Form.Vars)
+
+-- "the given binding of a variable of a line above; at most one"; a variable past the ceiling has no word
+unfoldable pub boundPlan : List ℕ → ℕ → ℕ → Plan
+boundPlan ws v p =
+    cond (ltb v (rowsOf ws 4))
+    (cond (ltb v 512)
+    (cond (eqb (getD ws (20480 + v) 0) 65535) (withPut nothing (20480 + v) p) (expected Form.Unbound))
+    nothing)
+    (expected Form.Unbound)
+
+-- bind vN P
+unfoldable pub bindPlan : List ℕ → Tokens → Plan
+bindPlan ws t = cond (fits t (form word.kBind vN P 0 0 0 0)) (boundPlan ws (wordAt t 1) (wordAt t 2)) (expected Form.Bind)
+
+-- node nK List P, node nK fn P ... -> P, node nK var vN, node nK raw KIND PART START COUNT
+unfoldable pub nodePlan : List ℕ → Tokens → Plan
+nodePlan ws t =
+    cond (isNext ws t 1 nN 2)
+    (cond (fits t (form word.kNode nN container P 0 0 0)) (rowPlan 2 (row (wordAt t 2 - 20) (wordAt t 3) 0 0 0))
+    (cond (functionFits t P) (functionPlan ws t 2 3)
+    (cond (fits t (form word.kNode nN word.kVar vN 0 0 0)) (rowPlan 2 (row 14 (wordAt t 3) 0 0 0))
+    (cond (fits t (form word.kNode nN word.kRaw N N N N)) (rowPlan 2 (row (wordAt t 3) (wordAt t 4) (wordAt t 5) (wordAt t 6) 0))
+    (expected Form.Node)))))
+    (expected Form.Next)
+
+-- expr eK P
+unfoldable pub exprPlan : List ℕ → Tokens → Plan
+exprPlan ws t =
+    cond (isNext ws t 1 eN 5)
+    (cond (fits t (form word.kExpr eN P 0 0 0 0)) (rowPlan 5 (row (wordAt t 2) 0 0 0 0)) (expected Form.Expr))
+    (expected Form.Next)
+
+-- name eN variable, name eN builtin, name eN op S, name eN raw KIND SORT; the program holds 512 base names
+unfoldable pub namePlan : List ℕ → Tokens → Plan
+namePlan ws t =
+    cond (ltb (rowsOf ws 6) 512)
+    (cond (fits t (form word.kName eN word.kVariable 0 0 0 0)) (rowPlan 6 (row (wordAt t 1) 1 0 0 0))
+    (cond (fits t (form word.kName eN word.kBuiltin 0 0 0 0)) (rowPlan 6 (row (wordAt t 1) 3 0 0 0))
+    (cond (fits t (form word.kName eN word.kOp S 0 0 0)) (rowPlan 6 (row (wordAt t 1) 2 (wordAt t 3) 0 0))
+    (cond (fits t (form word.kName eN word.kRaw N N 0 0)) (rowPlan 6 (row (wordAt t 1) (wordAt t 3) (wordAt t 4) 0 0))
+    (expected Form.Name)))))
+    (expected Form.Names)
+
+-- default S
+unfoldable pub defaultPlan : Tokens → Plan
+defaultPlan t = cond (fits t (form word.kDefault S 0 0 0 0 0)) (withPut nothing defaultAt (wordAt t 1)) (expected Form.Default)
+
+-- a constraint row, and what kind of line it is of
+abbrev pub constraintRow : List ℕ → ℕ → Plan
+constraintRow r last = withPut (rowPlan 7 r) lastAt last
+
+-- sub P P
+unfoldable pub subPlan : Tokens → Plan
+subPlan t = cond (fits t (form word.kSub P P 0 0 0 0)) (constraintRow (row 0 (wordAt t 1) (wordAt t 2) 0 0) 0) (expected Form.Sub)
+
+-- lit P positive, lit P natural
+unfoldable pub litPlan : Tokens → Plan
+litPlan t =
+    cond (fits t (form word.kLit P literal 0 0 0 0)) (constraintRow (row 1 (wordAt t 1) (wordAt t 2 - 39) 0 0) 0) (expected Form.Lit)
+
+-- comprehension P P S
+unfoldable pub comprehensionPlan : Tokens → Plan
+comprehensionPlan t =
+    cond (fits t (form word.kComprehension P P S 0 0 0)) (constraintRow (row 3 (wordAt t 1) (wordAt t 2) (wordAt t 3) 0) 0)
+    (expected Form.Comprehension)
+
+-- disjunction eN P
+unfoldable pub disjunctionPlan : List ℕ → Tokens → Plan
+disjunctionPlan ws t =
+    cond (fits t (form word.kDisjunction eN P 0 0 0 0)) (constraintRow (row 2 (wordAt t 1) (wordAt t 2) (rowsOf ws 8) 0) 1)
+    (expected Form.Disjunction)
+
+-- an overload; its disjunction has one more
+abbrev pub overloadRow : List ℕ → List ℕ → Plan
+overloadRow ws r = grown ws 1 4 1 (rowPlan 8 r)
+
+-- overload variable P, overload builtin P, overload op S P, overload raw KIND SORT PLACE
+unfoldable pub overloadPlan : List ℕ → Tokens → Plan
+overloadPlan ws t =
+    cond (fits t (form word.kOverload word.kVariable P 0 0 0 0)) (overloadRow ws (row 1 0 (wordAt t 2) 0 0))
+    (cond (fits t (form word.kOverload word.kBuiltin P 0 0 0 0)) (overloadRow ws (row 3 0 (wordAt t 2) 0 0))
+    (cond (fits t (form word.kOverload word.kOp S P 0 0 0)) (overloadRow ws (row 2 (wordAt t 2) (wordAt t 3) 0 0))
+    (cond (fits t (form word.kOverload word.kRaw N N N 0 0)) (overloadRow ws (row (wordAt t 2) (wordAt t 3) (wordAt t 4) 0 0))
+    (expected Form.Overload))))
+
+-- join P P ...
+unfoldable pub joinPlan : List ℕ → Tokens → Plan
+joinPlan ws t =
+    cond (listFits t P) (withRun (constraintRow (row 4 (wordAt t 1) (rowsOf ws 9) (t .count - 2) 0) 2) 9 2 (t .count)) (expected Form.Join)
+
+-- sources P ...
+unfoldable pub sourcesPlan : List ℕ → Tokens → Plan
+sourcesPlan ws t = cond (listFits t P) (grown ws 2 3 (t .count - 1) (withRun nothing 9 1 (t .count))) (expected Form.Sources)
+
+-- entries N ..., node-entries N ...
+unfoldable pub entriesPlan : Tokens → ℕ → Form → Plan
+entriesPlan t k f = cond (listFits t N) (withRun nothing k 1 (t .count)) (expected f)
+
+-- constraint KIND A B C D
+unfoldable pub constraintPlan : Tokens → Plan
+constraintPlan t =
+    cond (fits t (form word.kConstraint N N N N N 0))
+    (constraintRow (row (wordAt t 1) (wordAt t 2) (wordAt t 3) (wordAt t 4) (wordAt t 5)) 0)
+    (expected Form.Constraint)
+
+-- pad sorts N: sort number K is Def K; pad nodes N: List Bool; pad entries N, pad node-entries N: all 0
+unfoldable pub padPlan : List ℕ → Tokens → Plan
+padPlan ws t =
+    cond (fits t (form word.kPad word.kSorts N 0 0 0 0)) (rowsPlan 0 (wordAt t 2) true (row 12 (rowsOf ws 0) 0 0 0))
+    (cond (fits t (form word.kPad word.kNodes N 0 0 0 0)) (rowsPlan 2 (wordAt t 2) false (row 6 1 0 0 0))
+    (cond (fits t (form word.kPad word.kEntries N 0 0 0 0)) (rowsPlan 1 (wordAt t 2) false (row 0 0 0 0 0))
+    (cond (fits t (form word.kPad word.kNodeEntries N 0 0 0 0)) (rowsPlan 3 (wordAt t 2) false (row 0 0 0 0 0))
+    (expected Form.Pad))))
+
+-- the list that a word of `count` names; 10 where it names none
+unfoldable pub countedBy : ℕ → ℕ
+countedBy t =
+    cond (eqb t word.kSorts) 0
+    (cond (eqb t word.kEntries) 1
+    (cond (eqb t word.kNodes) 2
+    (cond (eqb t word.kNodeEntries) 3
+    (cond (eqb t word.kVars) 4
+    (cond (eqb t word.kExprs) 5
+    (cond (eqb t word.kNames) 6
+    (cond (eqb t word.kConstraints) 7
+    (cond (eqb t word.kOverloads) 8
+    (cond (eqb t word.kSources) 9 10)))))))))
+
+abbrev pub toldPlan : ℕ → ℕ → Plan
+toldPlan k n = cond (ltb k 10) (withPuts nothing (countAt + k) n (countToldAt + k) 1) (expected Form.Count)
+
+-- count WHAT N
+unfoldable pub countPlan : Tokens → Plan
+countPlan t = cond (fits t (form word.kCount what N 0 0 0 0)) (toldPlan (countedBy (wordAt t 1)) (wordAt t 2)) (expected Form.Count)
+
+-- lend WHAT N
+unfoldable pub lendPlan : Tokens → Plan
+lendPlan t =
+    cond (fits t (form word.kLend slice N 0 0 0 0))
+    (withPuts nothing (lentAt + (wordAt t 1 - 41)) (wordAt t 2) (lentToldAt + (wordAt t 1 - 41)) 1)
+    (expected Form.Lend)
+
+-- ceilings N N N N: "for the counting oracle only"
+unfoldable pub ceilingsPlan : Tokens → Plan
+ceilingsPlan t = cond (fits t (form word.kCeilings N N N N 0 0)) nothing (expected Form.Ceilings)
+
+-- damaged and unusual lists
+unfoldable pub unusualPlan : List ℕ → Tokens → Plan
+unusualPlan ws t =
+    cond (eqb (tokenAt t 0) word.kEntries) (entriesPlan t 1 Form.Entries)
+    (cond (eqb (tokenAt t 0) word.kNodeEntries) (entriesPlan t 3 Form.NodeEntries)
+    (cond (eqb (tokenAt t 0) word.kConstraint) (constraintPlan t)
+    (cond (eqb (tokenAt t 0) word.kPad) (padPlan ws t)
+    (cond (eqb (tokenAt t 0) word.kCount) (countPlan t)
+    (cond (eqb (tokenAt t 0) word.kLend) (lendPlan t)
+    (cond (eqb (tokenAt t 0) word.kCeilings) (ceilingsPlan t) (expected Form.Keyword)))))))
+
+-- constraints
+unfoldable pub constraintsPlan : List ℕ → Tokens → Plan
+constraintsPlan ws t =
+    cond (eqb (tokenAt t 0) word.kSub) (subPlan t)
+    (cond (eqb (tokenAt t 0) word.kLit) (litPlan t)
+    (cond (eqb (tokenAt t 0) word.kComprehension) (comprehensionPlan t)
+    (cond (eqb (tokenAt t 0) word.kDisjunction) (disjunctionPlan ws t)
+    (cond (eqb (tokenAt t 0) word.kOverload) (overloadPlan ws t)
+    (cond (eqb (tokenAt t 0) word.kJoin) (joinPlan ws t)
+    (cond (eqb (tokenAt t 0) word.kSources) (sourcesPlan ws t) (unusualPlan ws t)))))))
+
+-- by the line's first word
+unfoldable pub planOf : List ℕ → Tokens → Plan
+planOf ws t =
+    cond (eqb (tokenAt t 0) word.kSort) (sortPlan ws t)
+    (cond (eqb (tokenAt t 0) word.kVar) (varPlan ws t)
+    (cond (eqb (tokenAt t 0) word.kVars) (varsPlan t)
+    (cond (eqb (tokenAt t 0) word.kBind) (bindPlan ws t)
+    (cond (eqb (tokenAt t 0) word.kNode) (nodePlan ws t)
+    (cond (eqb (tokenAt t 0) word.kExpr) (exprPlan ws t)
+    (cond (eqb (tokenAt t 0) word.kName) (namePlan ws t)
+    (cond (eqb (tokenAt t 0) word.kDefault) (defaultPlan t) (constraintsPlan ws t))))))))
+
+-- whether `?` has one of the other questions: unify P P, or two sorts
+unfoldable pub asksOther : Tokens → Bool
+asksOther t =
+    cond (fits t (form word.kAsk word.kUnify P P 0 0 0)) true
+    (cond (fits t (form word.kAsk word.kPartialCmp S S 0 0 0)) true
+    (cond (fits t (form word.kAsk word.kJoin S S 0 0 0)) true
+    (cond (fits t (form word.kAsk word.kMeet S S 0 0 0)) true
+    (cond (fits t (form word.kAsk word.kWideningDistance S S 0 0 0)) true
+    (fits t (form word.kAsk word.kIsMaterializable S S 0 0 0))))))

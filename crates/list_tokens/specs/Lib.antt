@@ -1,0 +1,3 @@
+-- A line of the text format as numbers, one for each word.
+pub mod Words
+pub mod Tokens
