@@ -1,5 +1,6 @@
 -- What is put one after another is put whole. Assumes nothing.
 use borrow.Author.Needs.{needs}
+use Rattle.list_tokens.specs.Words.{bytesOf}
 use Rattle.verdict_text.proofs.Puts as law
 use Rattle.list_messages.specs.Messages.{badText}
 use Rattle.list_messages.proofs.put_bad.Statement.{statement}
@@ -24,7 +25,7 @@ same-length : tie.Need-same-length
 same-length c = search needs
 
 returns : tie.Need-returns
-unfolding badText
+unfolding bytesOf badText
 returns c = law.put-then (c .before .before .before .before .before .before .before .before .before .before .before .put-text .ensures) (law.put-then (c .before .before .before .before .before .before .before .put-form .ensures) (c .before .before .put-text2 .ensures))
 
 pub put-bad-spec : {M : Type 1} → statement M
