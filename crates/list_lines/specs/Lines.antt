@@ -1,0 +1,56 @@
+-- What the list program prints for a line of its input, and at the end.
+use mathlib.Core.Bool.{Bool, true, false, cond}
+use mathlib.Core.List.{List, [], _∷_, _++_}
+use Prim.Native.Nat.{ℕ}
+use lib.Dec.{eqb}
+use lib.ListN.{getD}
+use Rattle.list_memory.specs.declared.Heard.{Heard}
+use Rattle.list_memory.specs.declared.Heard.the-variants.{Quiet, Begins, Asks, AsksOther, Bad}
+use Rattle.list_memory.specs.Memory.{stageAt}
+use Rattle.list_tokens.specs.Words.{bytesOf}
+use Rattle.list_messages.specs.Messages.{badText}
+use Rattle.list_reader.specs.Reading.{lineTaken}
+use Rattle.list_answers.specs.Answer.{answerText}
+use Rattle.verdict_text.specs.Puts.{Buffer, puts}
+use Rattle.list_lines.specs.declared.Said.{Said}
+
+-- said of a list that ended before any question, by its stage
+unfoldable pub unaskedText : ℕ → List ℕ
+unaskedText stage = cond (eqb stage 1) (bytesOf "nothing is asked about this list\n") []
+
+abbrev pub stageOf : List ℕ → ℕ
+stageOf ws = getD ws stageAt 0
+
+-- What is printed for a line, by what it came to: ws are the words of the list before it, vs those after it.
+unfoldable pub printed : Heard → List ℕ → List ℕ → List ℕ → List ℕ
+printed Quiet line ws vs = []
+printed Begins line ws vs = unaskedText (stageOf ws) ++ (line ++ (10 ∷ []))
+printed Asks line ws vs = answerText vs
+printed AsksOther line ws vs = bytesOf "expected ? solve: no other question is answered here\n"
+printed (Bad f) line ws vs = badText f
+
+-- whether the line's number stands before it
+unfoldable pub numbered : Heard → Bool
+numbered Quiet = false
+numbered Begins = false
+numbered Asks = false
+numbered AsksOther = true
+numbered (Bad f) = true
+
+-- the words of the list after a line, the buffer, and what is said about it
+pub record LineLeft : Type 0 where
+  pub words : List ℕ
+  pub buffer : Buffer
+  pub numbered : Bool
+
+abbrev pub lineLeft : List ℕ → List ℕ → Said → LineLeft
+lineLeft ws out s = record { words = ws; buffer = record { bytes = out; at = s .end }; numbered = s .numbered }
+
+-- a line of the input, and its output at the front of the buffer
+unfoldable pub heardLine : List ℕ → List ℕ → List ℕ → LineLeft
+heardLine ws line out =
+    record {
+      words = lineTaken ws line .words;
+      buffer = puts out 0 (printed (lineTaken ws line .heard) line ws (lineTaken ws line .words));
+      numbered = numbered (lineTaken ws line .heard);
+    }

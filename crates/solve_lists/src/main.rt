@@ -1,0 +1,92 @@
+// Solves lists: reads any number of lists in the text format of docs/FORMAT.md from standard input, and prints for each question
+// `? solve` the verdict by its code and in words, and for a typing the sort and the name of each expression, the measure and the
+// chosen overloads. A line that is not of the format is named by its number, with what was expected, and the rest of its list is
+// passed over.
+//
+// The work is done by list_lines: what a line makes of the list, and what is printed for it (`hear`). Here lines are only read
+// and written. Memory is bounded whatever the input's length and the length of its lines: of a line longer than 201 bytes only
+// those are looked at, which shows that it is too long.
+use libc::STDERR_FILENO;
+use libc::STDOUT_FILENO;
+use list_lines::finish;
+use list_lines::hear;
+use replay_input::Found;
+use replay_input::next_line;
+use replay_input::no_input;
+
+// The number of a line, before what there is to say of it.
+fn write_number(number: u64) {
+    io::write_all(STDOUT_FILENO, b"line ");
+    io::print_decimal(STDOUT_FILENO, number);
+    io::write_all(STDOUT_FILENO, b": ");
+}
+
+// The first bytes of a buffer are written; false where that fails.
+fn write_front(out: &[u8], end: usize) -> bool {
+    if out.len() < end {
+        return false;
+    }
+    if io::write_all(STDOUT_FILENO, &out[..end]) {
+        return true;
+    }
+    io::write_all(STDERR_FILENO, b"solve_lists: the output cannot be written\n");
+    false
+}
+
+// A line of the input, of so many bytes, and its output.
+fn take_line(
+    list: &mut [u16; 34112],
+    line: &[u8],
+    length: usize,
+    number: u64,
+    out: &mut [u8],
+) -> bool {
+    let used = if line.len() < length { line.len() } else { length };
+    let said = hear(list, &line[..used], out);
+    if said.numbered {
+        write_number(number);
+    }
+    write_front(out, said.end)
+}
+
+// The end of the input, or a read that failed.
+fn at_end(list: &[u16; 34112], found: Found, out: &mut [u8]) {
+    match found {
+        Found::Failed => {
+            io::write_all(STDERR_FILENO, b"solve_lists: the input cannot be read\n");
+        }
+        _ => {}
+    }
+    let end = finish(list, out);
+    write_front(out, end);
+}
+
+// All lines. A proved loop has to end, and nothing says that an input does: the loop counts its turns down, from a number that
+// no run uses up.
+fn solve_all(list: &mut [u16; 34112], buffer: &mut [u8], line: &mut [u8], out: &mut [u8]) {
+    let mut read = no_input();
+    let mut turns = u64::MAX;
+    while turns > 0 {
+        read = next_line(buffer, line, read);
+        let found = read.found;
+        match found {
+            Found::Line => {}
+            _ => {
+                at_end(list, found, out);
+                return;
+            }
+        }
+        if !take_line(list, line, read.length, u64::MAX - turns + 1, out) {
+            return;
+        }
+        turns -= 1;
+    }
+}
+
+fn main() {
+    let mut list = [0u16; 34112];
+    let mut buffer = io::large_buffer();
+    let mut line = [0u8; 201];
+    let mut out = [0u8; 393216];
+    solve_all(&mut list, &mut buffer, &mut line, &mut out);
+}
