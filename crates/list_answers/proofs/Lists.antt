@@ -3,11 +3,11 @@ use mathlib.Core.Path.{_≡_, refl, sym, _∙_, ap}
 use mathlib.Core.List.{List}
 use Prim.Native.Nat.{ℕ, _+_, _-_, _≤_, _<_}
 use native.Mathlib.Omega.{arith}
-use native.Mathlib.Decide.{decLe}
 use lib.ListN.{length, getD, take, drop}
-use lib.Seq.{take-take}
+use lib.Seq.{sets, length-take-le, take-take}
 use borrow.Author.Tests.{eq-eqb, ne-eqb, lt-ltb, le-ltb}
 use Rattle.search_state.specs.Memory.{part}
+use Rattle.problem_words.proofs.Wholes.{part-length, copied-out}
 use Rattle.list_answers.specs.Lists.{rowsGiven, countOf, toldOr, lengthOf, lent}
 
 module _ (ws : List ℕ) where
@@ -40,7 +40,17 @@ module _ (ws : List ℕ) where
   unfolding lent
   part-lent start j n top m end e g = let z : end - start ≡ m = omega arith in ap (λ (k : ℕ). take k (drop start ws)) (z ∙ e)
 
-  -- the first words of a copy of the whole slice
-  pub front-lent : (start j n top m : ℕ) (xs : List ℕ) → m ≡ lengthOf ws j n top → m ≤ top → xs ≡ part start top ws → take m xs ≡ lent ws start j n top
+-- a copy of a whole slice, and its first words
+module _ (ws : List ℕ) (start top : ℕ) (old xs : List ℕ) (room : start + top ≤ length ws) (l : length old ≡ top) (e : xs ≡ sets old 0 (part start top ws)) where
+  copied : xs ≡ part start top ws
+  copied = copied-out start top ws old xs room l e
+
+  pub front-within : (m : ℕ) → m ≤ top → m ≤ length xs
+  front-within m h = omega (arith, ap length copied, part-length start top ws room)
+
+  pub front-length : (m : ℕ) → m ≤ top → m ≡ length (take m xs)
+  front-length m h = sym (length-take-le m xs (front-within m h))
+
+  pub front-lent : (j n m : ℕ) → m ≡ lengthOf ws j n top → m ≤ top → take m xs ≡ lent ws start j n top
   unfolding lent
-  front-lent start j n top m xs e l g = ap (take m) g ∙ (take-take m top (drop start ws) l ∙ ap (λ (k : ℕ). take k (drop start ws)) e)
+  front-lent j n m g h = ap (take m) copied ∙ (take-take m top (drop start ws) h ∙ ap (λ (k : ℕ). take k (drop start ws)) g)

@@ -13,9 +13,11 @@ use Rattle.inference.specs.SolveEntry.{Left, solveEntry, codeSolved}
 use Rattle.inference.proofs.ListsLeft.{countsOf, sorts-only-grow}
 use Rattle.solve_checks.specs.declared.Given.{Given}
 use Rattle.solve_finish.specs.Begin.{callWith}
+use Rattle.solve_finish.specs.Finish.{leftOf}
+use Rattle.verdict_text.specs.Puts.{buffer, puts, Put}
 use Rattle.verdict_text.specs.Text.{verdictLine, newLines, typingText}
-use Rattle.list_answers.specs.Lists.{rowsGiven, lent, givenIn, exprsIn, namesIn, constraintsIn, overloadsIn, sourcesIn, callOn}
-use Rattle.list_answers.specs.Answer.{linesUnder, toldText, Tellable}
+use Rattle.list_answers.specs.Lists.{rowsGiven, countOf, lent, givenIn, sortsIn, nodesIn, bindsIn, scratchIn, typingIn, measureIn, choicesIn, exprsIn, namesIn, constraintsIn, overloadsIn, sourcesIn, callOn}
+use Rattle.list_answers.specs.Answer.{linesUnder, toldText, leftText, Tellable, Held, Told, held, told, toldOf, answerText, answerLeft}
 
 -- by the case of the answer
 module _ (g x : ℕ) (r : Solved) (ss ts ms cs : List ℕ) where
@@ -78,3 +80,34 @@ pub counts-given : (ws : List ℕ) (n e m d v x k c o s t : ℕ) (k0 : Given)
 counts-given ws n e m d v x k c o s t k0 h e1 e2 e3 e4 e5 e6 e7 e8 e9 e10 e11 =
     h
     ∙ (λ i. record { sorts = e1 i; entries = e2 i; nodes = e3 i; arguments = e4 i; variables = e5 i; exprs = e6 i; names = e7 i; constraints = e8 i; overloads = e9 i; sources = e10 i; default = e11 i })
+
+-- What is left after asking and telling.
+module _ (I : Call) (r : Solved) (ss ns bs xs ts ms cs : List ℕ) (e : leftOf r ss ns bs xs ts ms cs ≡ solveEntry I) where
+  pub answer-tellable : Tellable r ss
+  answer-tellable = subst (λ (L : Left). Tellable (L .answer) (L .sorts)) (sym e) (left-tellable I)
+
+  pub asked-and-told :
+      (ws out : List ℕ) (g x : ℕ) → g ≡ countOf ws 0 → x ≡ countOf ws 5 → {left : List ℕ} {n : ℕ} → Put out 0 (toldText g x r ss ts ms cs) left n
+      → told (held (buffer left n) ss ns bs xs) ts ms cs ≡ toldOf ws out (solveEntry I)
+  asked-and-told ws out g x eg ex p =
+      (λ i. told (held (p .is i) ss ns bs xs) ts ms cs)
+      ∙ (λ i. told (held (puts out 0 (leftText (eg i) (ex i) (e i))) (e i .sorts) (e i .nodes) (e i .binds) (e i .scratch)) (e i .typing) (e i .measure) (e i .choices))
+
+-- the slices that a call may change, as the list lends them
+pub outputs-lent :
+    (ws out ss ns bs xs ts ms cs : List ℕ) → ts ≡ typingIn ws → ms ≡ measureIn ws → cs ≡ choicesIn ws
+    → (T : Told) → T ≡ toldOf ws out (solveEntry (callOn ws ss ns bs xs ts ms cs))
+    → T .held ≡ toldOf ws out (solveEntry (callOn ws ss ns bs xs (typingIn ws) (measureIn ws) (choicesIn ws))) .held
+outputs-lent ws out ss ns bs xs ts ms cs et em ec T h =
+    ap (λ (t : Told). t .held) h ∙ (λ i. toldOf ws out (solveEntry (callOn ws ss ns bs xs (et i) (em i) (ec i))) .held)
+
+pub all-lent :
+    (ws out ss ns bs xs : List ℕ) → ss ≡ sortsIn ws → ns ≡ nodesIn ws → bs ≡ bindsIn ws → xs ≡ scratchIn ws
+    → (H : Held) → H ≡ toldOf ws out (solveEntry (callOn ws ss ns bs xs (typingIn ws) (measureIn ws) (choicesIn ws))) .held
+    → H .text ≡ answerLeft ws out
+unfolding answerLeft answerText
+all-lent ws out ss ns bs xs es en eb ex H h =
+    ap (λ (t : Held). t .text) h ∙ (λ i. toldOf ws out (solveEntry (callOn ws (es i) (en i) (eb i) (ex i) (typingIn ws) (measureIn ws) (choicesIn ws))) .held .text)
+
+pub binds-lent : (ws bs : List ℕ) (n : ℕ) → bs ≡ lent ws 20480 2 n 512 → n ≡ rowsGiven ws 4 → bs ≡ bindsIn ws
+binds-lent ws bs n e h = e ∙ ap (λ (m : ℕ). lent ws 20480 2 m 512) h
