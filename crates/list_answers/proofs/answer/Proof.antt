@@ -1,0 +1,110 @@
+-- The slices that a call may change are copies of the parts of the list, lent as far as it tells. Assumes nothing.
+use Prim.Native.Nat.{ℕ}
+use Rattle.list_answers.proofs.Lists as list
+use Rattle.list_answers.proofs.Telling as law
+use lib.ListN.{length-replicate}
+use native.Mathlib.Omega.{arith}
+use borrow.Author.Needs.{needs}
+use Rattle.list_answers.proofs.answer.Statement.{statement}
+use Rattle.list_answers.proofs.answer.Tie as tie
+
+slice-aggregate-copy : tie.Need-slice-aggregate-copy
+slice-aggregate-copy c = search needs
+
+copy-requires : tie.Need-copy-requires
+copy-requires c κs = search needs
+
+slice-aggregate-copy-2 : tie.Need-slice-aggregate-copy-2
+slice-aggregate-copy-2 c = search needs
+
+copy-requires-2 : tie.Need-copy-requires-2
+copy-requires-2 c κs = search needs
+
+slice-aggregate-copy-3 : tie.Need-slice-aggregate-copy-3
+slice-aggregate-copy-3 c = search needs
+
+copy-requires-3 : tie.Need-copy-requires-3
+copy-requires-3 c κs = search needs
+
+slice-aggregate-copy-4 : tie.Need-slice-aggregate-copy-4
+slice-aggregate-copy-4 c = search needs
+
+copy-requires-4 : tie.Need-copy-requires-4
+copy-requires-4 c κs = search needs
+
+length-of-requires : tie.Need-length-of-requires
+length-of-requires c κs = search needs
+
+length-of-requires-2 : tie.Need-length-of-requires-2
+length-of-requires-2 c κs = search needs
+
+rows-given-requires : tie.Need-rows-given-requires
+rows-given-requires c κs = search needs
+
+length-of-requires-3 : tie.Need-length-of-requires-3
+length-of-requires-3 c κs = search needs
+
+length-of-requires-4 : tie.Need-length-of-requires-4
+length-of-requires-4 c κs = search needs
+
+array-borrow-prefix-sorts : tie.Need-array-borrow-prefix-sorts
+array-borrow-prefix-sorts c = list.front-within (c .before .before .before .before .before .before .before .before .before .before .before .before .before .before .before .before .before .before .before .before .before .before .before .before .before .before .before .before .args .list .now) 0 8192 _ _ (omega arith) (length-replicate {A = ℕ} 8192 0) (c .before .before .before .before .before .before .before .before .before .before .before .before .before .before .before .before .before .before .before .before .before .before .before .before .copy .ensures) _ (c .before .before .before .before .before .before .before .before .before .length-of .ensures .1)
+
+slice-aggregate-ask-with-outputs : tie.Need-slice-aggregate-ask-with-outputs
+slice-aggregate-ask-with-outputs c = list.front-length (c .before .before .before .before .before .before .before .before .before .before .before .before .before .before .before .before .before .before .before .before .before .before .before .before .before .before .before .before .before .args .list .now) 0 8192 _ _ (omega arith) (length-replicate {A = ℕ} 8192 0) (c .before .before .before .before .before .before .before .before .before .before .before .before .before .before .before .before .before .before .before .before .before .before .before .before .before .copy .ensures) _ (c .before .before .before .before .before .before .before .before .before .before .length-of .ensures .1)
+
+array-borrow-prefix-nodes : tie.Need-array-borrow-prefix-nodes
+array-borrow-prefix-nodes c = search needs
+
+slice-aggregate-ask-with-outputs-2 : tie.Need-slice-aggregate-ask-with-outputs-2
+slice-aggregate-ask-with-outputs-2 c = list.front-length (c .before .before .before .before .before .before .before .before .before .before .before .before .before .before .before .before .before .before .before .before .before .before .before .before .before .before .before .before .before .before .args .list .now) 8192 12288 _ _ (omega arith) (length-replicate {A = ℕ} 12288 0) (c .before .before .before .before .before .before .before .before .before .before .before .before .before .before .before .before .before .before .before .before .before .before .copy2 .ensures) _ (c .before .before .before .before .before .before .before .before .before .length-of2 .ensures .1)
+
+array-borrow-prefix-binds : tie.Need-array-borrow-prefix-binds
+array-borrow-prefix-binds c = search needs
+
+slice-aggregate-ask-with-outputs-3 : tie.Need-slice-aggregate-ask-with-outputs-3
+slice-aggregate-ask-with-outputs-3 c = list.front-length (c .before .before .before .before .before .before .before .before .before .before .before .before .before .before .before .before .before .before .before .before .before .before .before .before .before .before .before .before .before .before .before .args .list .now) 20480 512 _ _ (omega arith) (length-replicate {A = ℕ} 512 0) (c .before .before .before .before .before .before .before .before .before .before .before .before .before .before .before .before .before .before .before .copy3 .ensures) _ (c .before .before .before .before .before .before .length-of3 .ensures .1)
+
+array-borrow-prefix-scratch : tie.Need-array-borrow-prefix-scratch
+array-borrow-prefix-scratch c = search needs
+
+slice-aggregate-ask-with-outputs-4 : tie.Need-slice-aggregate-ask-with-outputs-4
+slice-aggregate-ask-with-outputs-4 c = list.front-length (c .before .before .before .before .before .before .before .before .before .before .before .before .before .before .before .before .before .before .before .before .before .before .before .before .before .before .before .before .before .before .before .before .args .list .now) 29952 4096 _ _ (omega arith) (length-replicate {A = ℕ} 4096 0) (c .before .before .before .before .before .before .before .before .before .before .before .before .before .before .before .before .copy4 .ensures) _ (c .before .before .before .before .before .length-of4 .ensures .1)
+
+ask-with-outputs-requires : tie.Need-ask-with-outputs-requires
+ask-with-outputs-requires c κs = search needs
+
+same-length : tie.Need-same-length
+same-length c = search needs
+
+returns : tie.Need-returns
+returns c = law.all-lent (c .before .before .before .before .before .before .before .before .before .before .before .before .before .before .before .before .before .before .before .before .before .before .before .before .before .before .before .before .before .before .before .before .before .before .before .before .before .before .before .before .args .list .now) _ _ _ _ _ (list.front-lent (c .before .before .before .before .before .before .before .before .before .before .before .before .before .before .before .before .before .before .before .before .before .before .before .before .before .before .before .before .before .before .before .before .before .before .before .before .before .before .before .before .args .list .now) 0 8192 _ _ (omega arith) (length-replicate {A = ℕ} 8192 0) (c .before .before .before .before .before .before .before .before .before .before .before .before .before .before .before .before .before .before .before .before .before .before .before .before .before .before .before .before .before .before .before .before .before .before .before .before .copy .ensures) _ _ _ (c .before .before .before .before .before .before .before .before .before .before .before .before .before .before .before .before .before .before .before .before .before .length-of .ensures .0) (c .before .before .before .before .before .before .before .before .before .before .before .before .before .before .before .before .before .before .before .before .before .length-of .ensures .1)) (list.front-lent (c .before .before .before .before .before .before .before .before .before .before .before .before .before .before .before .before .before .before .before .before .before .before .before .before .before .before .before .before .before .before .before .before .before .before .before .before .before .before .before .before .args .list .now) 8192 12288 _ _ (omega arith) (length-replicate {A = ℕ} 12288 0) (c .before .before .before .before .before .before .before .before .before .before .before .before .before .before .before .before .before .before .before .before .before .before .before .before .before .before .before .before .before .before .before .before .copy2 .ensures) _ _ _ (c .before .before .before .before .before .before .before .before .before .before .before .before .before .before .before .before .before .before .before .length-of2 .ensures .0) (c .before .before .before .before .before .before .before .before .before .before .before .before .before .before .before .before .before .before .before .length-of2 .ensures .1)) (law.binds-lent (c .before .before .before .before .before .before .before .before .before .before .before .before .before .before .before .before .before .before .before .before .before .before .before .before .before .before .before .before .before .before .before .before .before .before .before .before .before .before .before .before .args .list .now) _ _ (list.front-lent (c .before .before .before .before .before .before .before .before .before .before .before .before .before .before .before .before .before .before .before .before .before .before .before .before .before .before .before .before .before .before .before .before .before .before .before .before .before .before .before .before .args .list .now) 20480 512 _ _ (omega arith) (length-replicate {A = ℕ} 512 0) (c .before .before .before .before .before .before .before .before .before .before .before .before .before .before .before .before .before .before .before .before .before .before .before .before .before .before .before .before .copy3 .ensures) _ _ _ (c .before .before .before .before .before .before .before .before .before .before .before .before .before .before .before .length-of3 .ensures .0) (c .before .before .before .before .before .before .before .before .before .before .before .before .before .before .before .length-of3 .ensures .1)) (c .before .before .before .before .before .before .before .before .before .before .before .before .before .before .before .before .rows-given .ensures .0)) (list.front-lent (c .before .before .before .before .before .before .before .before .before .before .before .before .before .before .before .before .before .before .before .before .before .before .before .before .before .before .before .before .before .before .before .before .before .before .before .before .before .before .before .before .args .list .now) 29952 4096 _ _ (omega arith) (length-replicate {A = ℕ} 4096 0) (c .before .before .before .before .before .before .before .before .before .before .before .before .before .before .before .before .before .before .before .before .before .before .before .before .copy4 .ensures) _ _ _ (c .before .before .before .before .before .before .before .before .before .before .before .before .before .length-of4 .ensures .0) (c .before .before .before .before .before .before .before .before .before .before .before .before .before .length-of4 .ensures .1)) _ (c .before .before .before .before .before .before .ask-with-outputs .ensures)
+
+pub answer-spec : {M : Type 1} → statement M
+answer-spec =
+    tie.close
+    (tie.spec
+    slice-aggregate-copy
+    copy-requires
+    slice-aggregate-copy-2
+    copy-requires-2
+    slice-aggregate-copy-3
+    copy-requires-3
+    slice-aggregate-copy-4
+    copy-requires-4
+    length-of-requires
+    length-of-requires-2
+    rows-given-requires
+    length-of-requires-3
+    length-of-requires-4
+    array-borrow-prefix-sorts
+    slice-aggregate-ask-with-outputs
+    array-borrow-prefix-nodes
+    slice-aggregate-ask-with-outputs-2
+    array-borrow-prefix-binds
+    slice-aggregate-ask-with-outputs-3
+    array-borrow-prefix-scratch
+    slice-aggregate-ask-with-outputs-4
+    ask-with-outputs-requires
+    same-length
+    returns)

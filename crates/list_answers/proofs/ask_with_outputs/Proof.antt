@@ -1,0 +1,102 @@
+-- The outputs are copies of the parts of the list, lent as far as it tells. Assumes nothing.
+use Prim.Native.Nat.{ℕ}
+use Rattle.list_answers.proofs.Lists as list
+use Rattle.list_answers.proofs.Telling as law
+use lib.ListN.{length-replicate}
+use native.Mathlib.Omega.{arith}
+use borrow.Author.Needs.{needs}
+use Rattle.list_answers.proofs.ask_with_outputs.Statement.{statement}
+use Rattle.list_answers.proofs.ask_with_outputs.Tie as tie
+
+slice-aggregate-copy : tie.Need-slice-aggregate-copy
+slice-aggregate-copy c = search needs
+
+copy-requires : tie.Need-copy-requires
+copy-requires c κs = search needs
+
+slice-aggregate-copy-2 : tie.Need-slice-aggregate-copy-2
+slice-aggregate-copy-2 c = search needs
+
+copy-requires-2 : tie.Need-copy-requires-2
+copy-requires-2 c κs = search needs
+
+slice-aggregate-copy-3 : tie.Need-slice-aggregate-copy-3
+slice-aggregate-copy-3 c = search needs
+
+copy-requires-3 : tie.Need-copy-requires-3
+copy-requires-3 c κs = search needs
+
+length-of-requires : tie.Need-length-of-requires
+length-of-requires c κs = search needs
+
+length-of-requires-2 : tie.Need-length-of-requires-2
+length-of-requires-2 c κs = search needs
+
+length-of-requires-3 : tie.Need-length-of-requires-3
+length-of-requires-3 c κs = search needs
+
+array-borrow-prefix-typing : tie.Need-array-borrow-prefix-typing
+array-borrow-prefix-typing c = search needs
+
+slice-aggregate-ask-and-tell : tie.Need-slice-aggregate-ask-and-tell
+slice-aggregate-ask-and-tell c = list.front-length (c .before .before .before .before .before .before .before .before .before .before .before .before .before .before .before .before .before .before .before .before .before .before .before .args .list .now) 27648 1536 _ _ (omega (arith, c .before .before .before .before .before .before .before .before .before .before .before .before .before .before .before .before .before .before .before .before .before .before .before .pre)) (length-replicate {A = ℕ} 1536 0) (c .before .before .before .before .before .before .before .before .before .before .before .before .before .before .before .copy .ensures) _ (c .before .before .before .before .before .before .before .length-of .ensures .1)
+
+array-borrow-prefix-measure : tie.Need-array-borrow-prefix-measure
+array-borrow-prefix-measure c = search needs
+
+slice-aggregate-ask-and-tell-2 : tie.Need-slice-aggregate-ask-and-tell-2
+slice-aggregate-ask-and-tell-2 c = list.front-length (c .before .before .before .before .before .before .before .before .before .before .before .before .before .before .before .before .before .before .before .before .before .before .before .before .args .list .now) 29184 256 _ _ (omega (arith, c .before .before .before .before .before .before .before .before .before .before .before .before .before .before .before .before .before .before .before .before .before .before .before .before .pre)) (length-replicate {A = ℕ} 256 0) (c .before .before .before .before .before .before .before .before .before .before .before .before .before .copy2 .ensures) _ (c .before .before .before .before .before .before .before .length-of2 .ensures .1)
+
+array-borrow-prefix-choices : tie.Need-array-borrow-prefix-choices
+array-borrow-prefix-choices c = search needs
+
+slice-aggregate-ask-and-tell-3 : tie.Need-slice-aggregate-ask-and-tell-3
+slice-aggregate-ask-and-tell-3 c = list.front-length (c .before .before .before .before .before .before .before .before .before .before .before .before .before .before .before .before .before .before .before .before .before .before .before .before .before .args .list .now) 29440 512 _ _ (omega (arith, c .before .before .before .before .before .before .before .before .before .before .before .before .before .before .before .before .before .before .before .before .before .before .before .before .before .pre)) (length-replicate {A = ℕ} 512 0) (c .before .before .before .before .before .before .before .before .before .before .before .copy3 .ensures) _ (c .before .before .before .before .before .before .before .length-of3 .ensures .1)
+
+ask-and-tell-requires : tie.Need-ask-and-tell-requires
+ask-and-tell-requires c κs = c .before .before .before .before .before .before .before .before .before .before .before .before .before .before .before .before .before .before .before .before .before .before .before .before .before .before .pre
+
+same-length : tie.Need-same-length
+same-length c = search needs
+
+same-length-2 : tie.Need-same-length-2
+same-length-2 c = search needs
+
+same-length-3 : tie.Need-same-length-3
+same-length-3 c = search needs
+
+same-length-4 : tie.Need-same-length-4
+same-length-4 c = search needs
+
+same-length-5 : tie.Need-same-length-5
+same-length-5 c = search needs
+
+returns : tie.Need-returns
+returns c = law.outputs-lent (c .before .before .before .before .before .before .before .before .before .before .before .before .before .before .before .before .before .before .before .before .before .before .before .before .before .before .before .before .before .before .before .before .before .before .before .before .before .before .before .before .args .list .now) _ _ _ _ _ _ _ _ (list.front-lent (c .before .before .before .before .before .before .before .before .before .before .before .before .before .before .before .before .before .before .before .before .before .before .before .before .before .before .before .before .before .before .before .before .before .before .before .before .before .before .before .before .args .list .now) 27648 1536 _ _ (omega (arith, c .before .before .before .before .before .before .before .before .before .before .before .before .before .before .before .before .before .before .before .before .before .before .before .before .before .before .before .before .before .before .before .before .before .before .before .before .before .before .before .before .pre)) (length-replicate {A = ℕ} 1536 0) (c .before .before .before .before .before .before .before .before .before .before .before .before .before .before .before .before .before .before .before .before .before .before .before .before .before .before .before .before .before .before .before .before .copy .ensures) _ _ _ (c .before .before .before .before .before .before .before .before .before .before .before .before .before .before .before .before .before .before .before .before .before .before .before .before .length-of .ensures .0) (c .before .before .before .before .before .before .before .before .before .before .before .before .before .before .before .before .before .before .before .before .before .before .before .before .length-of .ensures .1)) (list.front-lent (c .before .before .before .before .before .before .before .before .before .before .before .before .before .before .before .before .before .before .before .before .before .before .before .before .before .before .before .before .before .before .before .before .before .before .before .before .before .before .before .before .args .list .now) 29184 256 _ _ (omega (arith, c .before .before .before .before .before .before .before .before .before .before .before .before .before .before .before .before .before .before .before .before .before .before .before .before .before .before .before .before .before .before .before .before .before .before .before .before .before .before .before .before .pre)) (length-replicate {A = ℕ} 256 0) (c .before .before .before .before .before .before .before .before .before .before .before .before .before .before .before .before .before .before .before .before .before .before .before .before .before .before .before .before .before .copy2 .ensures) _ _ _ (c .before .before .before .before .before .before .before .before .before .before .before .before .before .before .before .before .before .before .before .before .before .before .before .length-of2 .ensures .0) (c .before .before .before .before .before .before .before .before .before .before .before .before .before .before .before .before .before .before .before .before .before .before .before .length-of2 .ensures .1)) (list.front-lent (c .before .before .before .before .before .before .before .before .before .before .before .before .before .before .before .before .before .before .before .before .before .before .before .before .before .before .before .before .before .before .before .before .before .before .before .before .before .before .before .before .args .list .now) 29440 512 _ _ (omega (arith, c .before .before .before .before .before .before .before .before .before .before .before .before .before .before .before .before .before .before .before .before .before .before .before .before .before .before .before .before .before .before .before .before .before .before .before .before .before .before .before .before .pre)) (length-replicate {A = ℕ} 512 0) (c .before .before .before .before .before .before .before .before .before .before .before .before .before .before .before .before .before .before .before .before .before .before .before .before .before .before .copy3 .ensures) _ _ _ (c .before .before .before .before .before .before .before .before .before .before .before .before .before .before .before .before .before .before .before .before .before .before .length-of3 .ensures .0) (c .before .before .before .before .before .before .before .before .before .before .before .before .before .before .before .before .before .before .before .before .before .before .length-of3 .ensures .1)) _ (c .before .before .before .before .before .before .before .before .before .before .before .before .before .ask-and-tell .ensures)
+
+pub ask-with-outputs-spec : {M : Type 1} → statement M
+ask-with-outputs-spec =
+    tie.close
+    (tie.spec
+    slice-aggregate-copy
+    copy-requires
+    slice-aggregate-copy-2
+    copy-requires-2
+    slice-aggregate-copy-3
+    copy-requires-3
+    length-of-requires
+    length-of-requires-2
+    length-of-requires-3
+    array-borrow-prefix-typing
+    slice-aggregate-ask-and-tell
+    array-borrow-prefix-measure
+    slice-aggregate-ask-and-tell-2
+    array-borrow-prefix-choices
+    slice-aggregate-ask-and-tell-3
+    ask-and-tell-requires
+    same-length
+    same-length-2
+    same-length-3
+    same-length-4
+    same-length-5
+    returns)

@@ -1,0 +1,64 @@
+-- What the solver answers about a list, as text, and what is left of the buffer that it goes into.
+use mathlib.Core.List.{List, [], _++_}
+use Prim.Native.Nat.{ℕ}
+use Rattle.resolved_sort.specs.Rows.{Checked}
+use Rattle.inference.specs.declared.Solved.{Solved}
+use Rattle.inference.specs.declared.Solved.the-variants.{Refused, NoRoom, NoTyping, Ambiguous, Typing}
+use Rattle.inference.specs.SolveEntry.{Left, solveEntry, codeSolved}
+use Rattle.verdict_text.specs.Puts.{Buffer, puts}
+use Rattle.verdict_text.specs.Text.{verdictLine, newLines, typingText}
+use Rattle.list_answers.specs.Lists.{countOf, callOn, callIn}
+
+-- Under the line of the code: of g sorts and x expressions given, a typing, and the sorts made.
+unfoldable pub linesUnder : ℕ → ℕ → Solved → (sorts typing measure choices : List ℕ) → List ℕ
+linesUnder g x (Refused c) ss ts ms cs = []
+linesUnder g x (NoRoom c) ss ts ms cs = []
+linesUnder g x (NoTyping k) ss ts ms cs = newLines ss g (k .sorts)
+linesUnder g x (Ambiguous k) ss ts ms cs = newLines ss g (k .sorts)
+linesUnder g x (Typing o) ss ts ms cs = typingText ss (o .counts .sorts) ts ms cs x (o .components) (o .choices) ++ newLines ss g (o .counts .sorts)
+
+unfoldable pub toldText : ℕ → ℕ → Solved → (sorts typing measure choices : List ℕ) → List ℕ
+toldText g x r ss ts ms cs = verdictLine (codeSolved r) ++ linesUnder g x r ss ts ms cs
+
+-- what a call left, told
+abbrev pub leftText : ℕ → ℕ → Left → List ℕ
+leftText g x L = toldText g x (L .answer) (L .sorts) (L .typing) (L .measure) (L .choices)
+
+-- sorts are checked where they are to be written
+abbrev pub Tellable : Solved → List ℕ → Type 0
+Tellable (Refused c) ss = Unit {0}
+Tellable (NoRoom c) ss = Unit {0}
+Tellable (NoTyping k) ss = Unit {0}
+Tellable (Ambiguous k) ss = Unit {0}
+Tellable (Typing o) ss = Checked ss (o .counts .sorts) (o .counts .entries)
+
+-- the text in the buffer, and the slices that a call may change, as it leaves them; and without its outputs
+pub record Held : Type 0 where
+  pub text : Buffer
+  pub sorts : List ℕ
+  pub nodes : List ℕ
+  pub binds : List ℕ
+  pub scratch : List ℕ
+
+pub record Told : Type 0 where
+  pub held : Held
+  pub typing : List ℕ
+  pub measure : List ℕ
+  pub choices : List ℕ
+
+abbrev pub held : Buffer → (sorts nodes binds scratch : List ℕ) → Held
+held b ss ns bs xs = record { text = b; sorts = ss; nodes = ns; binds = bs; scratch = xs }
+
+abbrev pub told : Held → (typing measure choices : List ℕ) → Told
+told h ts ms cs = record { held = h; typing = ts; measure = ms; choices = cs }
+
+abbrev pub toldOf : List ℕ → List ℕ → Left → Told
+toldOf ws out L =
+    told (held (puts out 0 (leftText (countOf ws 0) (countOf ws 5) L)) (L .sorts) (L .nodes) (L .binds) (L .scratch)) (L .typing) (L .measure) (L .choices)
+
+-- The answer about a list, from byte 0 on; what finds no room is lost.
+unfoldable pub answerText : List ℕ → List ℕ
+answerText ws = leftText (countOf ws 0) (countOf ws 5) (solveEntry (callIn ws))
+
+unfoldable pub answerLeft : List ℕ → List ℕ → Buffer
+answerLeft ws out = puts out 0 (answerText ws)
