@@ -5,6 +5,7 @@ use mathlib.Core.List.{List}
 use Prim.Native.Nat.{ℕ, _+_, _*_}
 use lib.Dec.{eqb, ltb}
 use lib.ListN.{getD}
+use Rattle.list_memory.specs.Memory.{rowsOf, defaultAt, countAt, countToldAt, lentAt, lentToldAt}
 use Rattle.search_state.specs.Memory.{part}
 use Rattle.inference.specs.SolveChecks.{Call}
 use Rattle.solve_checks.specs.declared.Given.{Given}
@@ -12,18 +13,18 @@ use Rattle.solve_finish.specs.Begin.{callWith}
 
 -- rows given of list k: 0 sorts, 1 entries, 2 nodes, 3 node entries, 4 variables, 5 expressions, 6 base names, 7 constraints, 8 overloads, 9 sources
 abbrev pub rowsGiven : List ℕ → ℕ → ℕ
-rowsGiven ws k = getD ws (34048 + k) 0
+rowsGiven ws k = rowsOf ws k
 
 -- its count in the call: the one told, where one is told
 unfoldable pub countOf : List ℕ → ℕ → ℕ
-countOf ws k = cond (eqb (getD ws (34069 + k) 0) 1) (getD ws (34059 + k) 0) (rowsGiven ws k)
+countOf ws k = cond (eqb (getD ws (countToldAt + k) 0) 1) (getD ws (countAt + k) 0) (rowsGiven ws k)
 
 abbrev pub defaultIn : List ℕ → ℕ
-defaultIn ws = getD ws 34058 0
+defaultIn ws = getD ws defaultAt 0
 
 -- the words lent of slice j: as many as told, else n; at most `top`
 unfoldable pub toldOr : List ℕ → ℕ → ℕ → ℕ
-toldOr ws j n = cond (eqb (getD ws (34091 + j) 0) 1) (getD ws (34079 + j) 0) n
+toldOr ws j n = cond (eqb (getD ws (lentToldAt + j) 0) 1) (getD ws (lentAt + j) 0) n
 
 unfoldable pub lengthOf : List ℕ → ℕ → ℕ → ℕ → ℕ
 lengthOf ws j n top = cond (ltb top (toldOr ws j n)) top (toldOr ws j n)
@@ -58,16 +59,16 @@ module _ (ws : List ℕ) where
   sourcesIn = lent ws 27392 7 (rowsGiven ws 9) 256
 
   abbrev pub typingIn : List ℕ
-  typingIn = lent ws 27648 8 1536 1536
+  typingIn = lent ws 27648 9 1536 1536
 
   abbrev pub measureIn : List ℕ
-  measureIn = lent ws 29184 9 256 256
+  measureIn = lent ws 29184 10 256 256
 
   abbrev pub choicesIn : List ℕ
-  choicesIn = lent ws 29440 10 512 512
+  choicesIn = lent ws 29440 11 512 512
 
   abbrev pub scratchIn : List ℕ
-  scratchIn = lent ws 29952 11 4096 4096
+  scratchIn = lent ws 29952 8 4096 4096
 
   abbrev pub givenIn : Given
   givenIn =

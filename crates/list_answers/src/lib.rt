@@ -208,9 +208,9 @@ fn ask_with_outputs(
     copy(&mut typing, 0, list, 27648, 1536);
     copy(&mut measure, 0, list, 29184, 256);
     copy(&mut choices, 0, list, 29440, 512);
-    let typing_end = length_of(list, 8, 1536, 1536);
-    let measure_end = length_of(list, 9, 256, 256);
-    let choices_end = length_of(list, 10, 512, 512);
+    let typing_end = length_of(list, 9, 1536, 1536);
+    let measure_end = length_of(list, 10, 256, 256);
+    let choices_end = length_of(list, 11, 512, 512);
     ask_and_tell(
         list,
         sorts,
@@ -240,7 +240,7 @@ pub fn answer(list: &[u16; 34112], out: &mut [u8]) -> usize
     let sorts_end = length_of(list, 0, 8192, 8192);
     let nodes_end = length_of(list, 1, 12288, 12288);
     let binds_end = length_of(list, 2, rows_given(list, 4), 512);
-    let scratch_end = length_of(list, 11, 4096, 4096);
+    let scratch_end = length_of(list, 8, 4096, 4096);
     ask_with_outputs(
         list,
         &mut sorts[..sorts_end],

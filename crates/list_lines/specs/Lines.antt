@@ -6,7 +6,7 @@ use lib.Dec.{eqb}
 use lib.ListN.{getD}
 use Rattle.list_memory.specs.declared.Heard.{Heard}
 use Rattle.list_memory.specs.declared.Heard.the-variants.{Quiet, Begins, Asks, AsksOther, Bad}
-use Rattle.list_memory.specs.Memory.{stageAt}
+use Rattle.list_memory.specs.Memory.{stageAt, Taken}
 use Rattle.list_tokens.specs.Words.{bytesOf}
 use Rattle.list_messages.specs.Messages.{badText}
 use Rattle.list_reader.specs.Reading.{lineTaken}
@@ -46,11 +46,14 @@ pub record LineLeft : Type 0 where
 abbrev pub lineLeft : List ℕ → List ℕ → Said → LineLeft
 lineLeft ws out s = record { words = ws; buffer = record { bytes = out; at = s .end }; numbered = s .numbered }
 
--- a line of the input, and its output at the front of the buffer
-unfoldable pub heardLine : List ℕ → List ℕ → List ℕ → LineLeft
-heardLine ws line out =
+-- what a line came to, and its output at the front of the buffer
+abbrev pub leftBy : List ℕ → List ℕ → List ℕ → Taken → LineLeft
+leftBy ws line out t =
     record {
-      words = lineTaken ws line .words;
-      buffer = puts out 0 (printed (lineTaken ws line .heard) line ws (lineTaken ws line .words));
-      numbered = numbered (lineTaken ws line .heard);
+      words = t .words;
+      buffer = puts out 0 (printed (t .heard) line ws (t .words));
+      numbered = numbered (t .heard);
     }
+
+unfoldable pub heardLine : List ℕ → List ℕ → List ℕ → LineLeft
+heardLine ws line out = leftBy ws line out (lineTaken ws line)

@@ -29,7 +29,10 @@ fn write_front(out: &[u8], end: usize) -> bool {
     if io::write_all(STDOUT_FILENO, &out[..end]) {
         return true;
     }
-    io::write_all(STDERR_FILENO, b"solve_lists: the output cannot be written\n");
+    io::write_all(
+        STDERR_FILENO,
+        b"solve_lists: the output cannot be written\n",
+    );
     false
 }
 
@@ -41,7 +44,11 @@ fn take_line(
     number: u64,
     out: &mut [u8],
 ) -> bool {
-    let used = if line.len() < length { line.len() } else { length };
+    let used = if line.len() < length {
+        line.len()
+    } else {
+        length
+    };
     let said = hear(list, &line[..used], out);
     if said.numbered {
         write_number(number);

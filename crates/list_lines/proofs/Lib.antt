@@ -1,0 +1,2 @@
+-- What a line comes to.
+pub mod Ways

@@ -1,0 +1,101 @@
+-- Each arm puts what is printed for what the line came to. Assumes nothing.
+use Rattle.list_tokens.specs.Words.{bytesOf}
+use Rattle.list_lines.proofs.Ways as law
+use mathlib.Core.Path.{refl}
+use borrow.Author.Needs.{needs}
+use Rattle.list_lines.proofs.hear.Statement.{statement}
+use Rattle.list_lines.proofs.hear.Tie as tie
+
+element-copy-out-stage : tie.Need-element-copy-out-stage
+element-copy-out-stage c = search needs
+
+take-line-requires : tie.Need-take-line-requires
+take-line-requires c κs = search needs
+
+enum-told : tie.Need-enum-told
+enum-told c = search needs
+
+enum-told-2 : tie.Need-enum-told-2
+enum-told-2 c = search needs
+
+put-unasked-requires : tie.Need-put-unasked-requires
+put-unasked-requires c κs = search needs
+
+put-title-requires : tie.Need-put-title-requires
+put-title-requires c κs = search needs
+
+enum-told-3 : tie.Need-enum-told-3
+enum-told-3 c = search needs
+
+answer-requires : tie.Need-answer-requires
+answer-requires c κs = search needs
+
+enum-told-4 : tie.Need-enum-told-4
+enum-told-4 c = search needs
+
+slice-aggregate-put-text : tie.Need-slice-aggregate-put-text
+slice-aggregate-put-text c = search needs
+
+put-text-requires : tie.Need-put-text-requires
+put-text-requires c κs = search needs
+
+enum-known-form : tie.Need-enum-known-form
+enum-known-form c = search needs
+
+put-bad-requires : tie.Need-put-bad-requires
+put-bad-requires c κs = search needs
+
+returns : tie.Need-returns
+returns c = law.quiet-said _ _ _ (c .before .before .take-line .ensures) (c .enum-told .given .1)
+
+same-length : tie.Need-same-length
+same-length c = search needs
+
+returns-2 : tie.Need-returns-2
+returns-2 c = law.title-said _ _ _ (c .before .before .before .before .before .before .before .before .before .before .take-line .ensures) (c .before .before .before .before .before .before .before .before .enum-told2 .given .1) _ refl (c .before .before .before .before .before .before .put-unasked .ensures) (c .before .before .put-title .ensures)
+
+same-length-2 : tie.Need-same-length-2
+same-length-2 c = search needs
+
+returns-3 : tie.Need-returns-3
+returns-3 c = law.answer-said _ _ _ (c .before .before .before .before .before .before .before .take-line .ensures) (c .before .before .before .before .before .enum-told3 .given .1) (c .before .before .answer .ensures)
+
+same-length-3 : tie.Need-same-length-3
+same-length-3 c = search needs
+
+returns-4 : tie.Need-returns-4
+unfolding bytesOf
+returns-4 c = law.other-said _ _ _ (c .before .before .before .before .before .before .before .take-line .ensures) (c .before .before .before .before .before .enum-told4 .given .1) (c .before .before .put-text .ensures)
+
+same-length-4 : tie.Need-same-length-4
+same-length-4 c = search needs
+
+returns-5 : tie.Need-returns-5
+returns-5 c = law.bad-said _ _ _ (c .before .before .before .before .before .before .before .take-line .ensures) _ (c .before .before .before .before .before .form .given .1) (c .before .before .put-bad .ensures)
+
+pub hear-spec : {M : Type 1} → statement M
+hear-spec =
+    tie.close
+    (tie.spec
+    element-copy-out-stage
+    take-line-requires
+    enum-told
+    enum-told-2
+    put-unasked-requires
+    put-title-requires
+    enum-told-3
+    answer-requires
+    enum-told-4
+    slice-aggregate-put-text
+    put-text-requires
+    enum-known-form
+    put-bad-requires
+    returns
+    same-length
+    returns-2
+    same-length-2
+    returns-3
+    same-length-3
+    returns-4
+    same-length-4
+    returns-5)

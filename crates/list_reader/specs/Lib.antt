@@ -1,0 +1,2 @@
+-- A line read.
+pub mod Reading
