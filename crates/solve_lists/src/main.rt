@@ -36,7 +36,16 @@ fn write_front(out: &[u8], end: usize) -> bool {
     false
 }
 
-// A line of the input, of so many bytes, and its output.
+// A line of the input, and its output.
+fn say_line(list: &mut [u16; 34112], line: &[u8], number: u64, out: &mut [u8]) -> bool {
+    let said = hear(list, line, out);
+    if said.numbered {
+        write_number(number);
+    }
+    write_front(out, said.end)
+}
+
+// A line of so many bytes. Of one that is longer than its memory the first bytes are taken.
 fn take_line(
     list: &mut [u16; 34112],
     line: &[u8],
@@ -44,16 +53,10 @@ fn take_line(
     number: u64,
     out: &mut [u8],
 ) -> bool {
-    let used = if line.len() < length {
-        line.len()
-    } else {
-        length
-    };
-    let said = hear(list, &line[..used], out);
-    if said.numbered {
-        write_number(number);
+    if line.len() < length {
+        return say_line(list, line, number, out);
     }
-    write_front(out, said.end)
+    say_line(list, &line[..length], number, out)
 }
 
 // The end of the input, or a read that failed.

@@ -1,2 +1,0 @@
--- A line read.
-pub mod Reading
