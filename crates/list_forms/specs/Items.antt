@@ -109,6 +109,6 @@ functionFits t item =
     cond (ltb (t .count) 5) false
     (cond (eqb (tokenAt t 2) kFn)
     (cond (eqb (tokenAt t (t .count - 2)) kArrow)
-    (cond (isOf item (tokenAt t (t .count - 1))) (allFrom (t .count - 5) t item 3) false)
+    (cond (isOf item (tokenAt t (t .count - 1))) (allFrom ((t .count - 2) - 3) t item 3) false)
     false)
     false)

@@ -19,10 +19,10 @@ pub struct Plan {
     pub good: bool,
     pub form: Form,
     pub free: u16,
-    pub run: usize,
+    pub run: u16,
     pub from: usize,
     pub to: u16,
-    pub list: usize,
+    pub list: u16,
     pub times: u16,
     pub rising: bool,
     pub row: [u16; 5],
@@ -268,7 +268,7 @@ fn nothing() -> Plan
 }
 
 // So many rows of a list.
-fn rows_plan(list: usize, times: u16, rising: bool, row: [u16; 5]) -> Plan
+fn rows_plan(list: u16, times: u16, rising: bool, row: [u16; 5]) -> Plan
     ensures { λ r. ⌜ r ≡ rowsPlan list times rising row ⌝ }
 {
     Plan {
@@ -289,7 +289,7 @@ fn rows_plan(list: usize, times: u16, rising: bool, row: [u16; 5]) -> Plan
     }
 }
 
-fn row_plan(list: usize, row: [u16; 5]) -> Plan
+fn row_plan(list: u16, row: [u16; 5]) -> Plan
     ensures { λ r. ⌜ r ≡ rowPlan list row ⌝ }
 {
     rows_plan(list, 1, false, row)
@@ -303,7 +303,7 @@ fn with_free(free: u16, plan: Plan) -> Plan
     p
 }
 
-fn with_run(plan: Plan, run: usize, from: usize, to: u16) -> Plan
+fn with_run(plan: Plan, run: u16, from: usize, to: u16) -> Plan
     ensures { λ r. ⌜ r ≡ withRun plan run from to ⌝ }
 {
     let mut p = plan;
@@ -361,23 +361,22 @@ fn grown(list: &[u16; 34112], last: u16, i: usize, n: u16, plan: Plan) -> Plan
 }
 
 // Word i of the line is the next name of list k.
-fn is_next(list: &[u16; 34112], t: Tokens, i: usize, class: u32, k: usize) -> bool
-    requires { ⌜ (class ≤ 1048576) × (k ≤ 9) ⌝ }
+fn is_next(list: &[u16; 34112], t: Tokens, i: usize, class: u32, k: u16) -> bool
+    requires { ⌜ class ≤ 1048576 ⌝ }
     ensures { λ r. ⌜ r ≡ isNext (now (list .entry)) t i class k ⌝ }
 {
-    token_at(t, i) == class + (word(list, 34048 + k) as u32)
+    token_at(t, i) == class + (word(list, 34048 + (k as usize)) as u32)
 }
 
 // A function row of list k, with its arguments in list e.
-fn function_plan(list: &[u16; 34112], t: Tokens, k: usize, e: usize) -> Plan
-    requires { ⌜ e ≤ 9 ⌝ }
+fn function_plan(list: &[u16; 34112], t: Tokens, k: u16, e: u16) -> Plan
     ensures { λ r. ⌜ r ≡ functionPlan (now (list .entry)) t k e ⌝ }
 {
     let arguments = minus(t.count, 5);
     let end = minus(t.count, 2);
     let last = minus(t.count, 1);
     let range = word_at(t, last as usize);
-    let start = word(list, 34048 + e);
+    let start = word(list, 34048 + (e as usize));
     with_run(row_plan(k, [11, range, start, arguments, 0]), e, 3, end)
 }
 
@@ -410,7 +409,16 @@ fn sort_row(list: &[u16; 34112], t: Tokens) -> Plan
         return row_plan(0, [word_at(t, 2), 0, 0, 0, 0]);
     }
     if fits(t, [3, S, 34, N, N, N, N]) {
-        return row_plan(0, [word_at(t, 3), word_at(t, 4), word_at(t, 5), word_at(t, 6), 0]);
+        return row_plan(
+            0,
+            [
+                word_at(t, 3),
+                word_at(t, 4),
+                word_at(t, 5),
+                word_at(t, 6),
+                0,
+            ],
+        );
     }
     expected(Form::Sort)
 }
@@ -492,7 +500,16 @@ fn node_row(list: &[u16; 34112], t: Tokens) -> Plan
         return row_plan(2, [14, word_at(t, 3), 0, 0, 0]);
     }
     if fits(t, [5, NODE, 34, N, N, N, N]) {
-        return row_plan(2, [word_at(t, 3), word_at(t, 4), word_at(t, 5), word_at(t, 6), 0]);
+        return row_plan(
+            2,
+            [
+                word_at(t, 3),
+                word_at(t, 4),
+                word_at(t, 5),
+                word_at(t, 6),
+                0,
+            ],
+        );
     }
     expected(Form::Node)
 }
@@ -637,13 +654,19 @@ fn sources_plan(list: &[u16; 34112], t: Tokens) -> Plan
     ensures { λ r. ⌜ r ≡ sourcesPlan (now (list .entry)) t ⌝ }
 {
     if list_fits(t, P) {
-        return grown(list, 2, 3, minus(t.count, 1), with_run(nothing(), 9, 1, t.count));
+        return grown(
+            list,
+            2,
+            3,
+            minus(t.count, 1),
+            with_run(nothing(), 9, 1, t.count),
+        );
     }
     expected(Form::Sources)
 }
 
 // `entries N ...`, `node-entries N ...`
-fn entries_plan(t: Tokens, k: usize, form: Form) -> Plan
+fn entries_plan(t: Tokens, k: u16, form: Form) -> Plan
     ensures { λ r. ⌜ r ≡ entriesPlan t k form ⌝ }
 {
     if list_fits(t, N) {
@@ -657,7 +680,16 @@ fn constraint_plan(t: Tokens) -> Plan
     ensures { λ r. ⌜ r ≡ constraintPlan t ⌝ }
 {
     if fits(t, [22, N, N, N, N, N, 0]) {
-        return constraint_row([word_at(t, 1), word_at(t, 2), word_at(t, 3), word_at(t, 4), word_at(t, 5)], 0);
+        return constraint_row(
+            [
+                word_at(t, 1),
+                word_at(t, 2),
+                word_at(t, 3),
+                word_at(t, 4),
+                word_at(t, 5),
+            ],
+            0,
+        );
     }
     expected(Form::Constraint)
 }
