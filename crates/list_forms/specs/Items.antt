@@ -74,25 +74,25 @@ tokenAt t i = getD (t .values) i 0
 
 -- what a word stands for in memory: a node's place is 1,024 above its number; of all others the number
 unfoldable pub wordOf : ℕ → ℕ
-wordOf t = cond (inRange 196608 261120 t) (t - 195584) (t % 65536)
+wordOf t = cond (ltb t 196608) (t % 65536) (cond (ltb t 261120) (t - 195584) (t % 65536))
 
 unfoldable pub wordAt : Tokens → ℕ → ℕ
 wordAt t i = wordOf (tokenAt t i)
 
--- the words from i on are of the items, one for one, and no more
-unfoldable pub fitsFrom : Tokens → List ℕ → ℕ → Bool
-fitsFrom t [] i = eqb (t .count) i
-fitsFrom t (p ∷ ps) i =
-    cond (eqb p 0) (eqb (t .count) i)
+-- the words from i on are of the items, one for one, and no more; m items are left
+unfoldable pub fitsFrom : ℕ → Tokens → List ℕ → ℕ → Bool
+fitsFrom zero t ps i = eqb (t .count) i
+fitsFrom (suc m) t ps i =
+    cond (eqb (getD ps i 0) 0) (eqb (t .count) i)
     (cond (leb (t .count) i) false
-    (cond (isOf p (tokenAt t i)) (fitsFrom t ps (i + 1)) false))
+    (cond (isOf (getD ps i 0) (tokenAt t i)) (fitsFrom m t ps (i + 1)) false))
 
 -- a form of at most seven words
 abbrev pub form : (a b c d e f g : ℕ) → List ℕ
 form a b c d e f g = a ∷ b ∷ c ∷ d ∷ e ∷ f ∷ g ∷ []
 
 abbrev pub fits : Tokens → List ℕ → Bool
-fits t ps = fitsFrom t ps 0
+fits t ps = fitsFrom 7 t ps 0
 
 -- m words from i on are all of an item
 unfoldable pub allFrom : ℕ → Tokens → ℕ → ℕ → Bool
@@ -109,6 +109,6 @@ functionFits t item =
     cond (ltb (t .count) 5) false
     (cond (eqb (tokenAt t 2) kFn)
     (cond (eqb (tokenAt t (t .count - 2)) kArrow)
-    (cond (isOf item (tokenAt t (t .count - 1))) (allFrom (t .count - 5) t item 3) false)
+    (cond (isOf item (tokenAt t (t .count - 1))) (allFrom ((t .count - 2) - 3) t item 3) false)
     false)
     false)

@@ -22,20 +22,22 @@ isNext ws t i class k = eqb (tokenAt t i) (class + rowsOf ws k)
 
 -- a function row of list k, with its arguments in list e
 unfoldable pub functionPlan : List ℕ → Tokens → ℕ → ℕ → Plan
-functionPlan ws t k e = withRun (rowPlan k (row 11 (wordAt t (t .count - 1)) (rowsOf ws e) (t .count - 5) 0)) e 3 (t .count - 2)
+functionPlan ws t k e =
+    withRun (rowPlan k (row 11 (wordAt t (t .count - 1)) (rowsOf ws e) (t .count - 5) 0)) e 3 (t .count - 2)
 
 -- sort sK List S, sort sK fn S ... -> S, sort sK Def N, sort sK TypeVar N, sort sK unit, sort sK raw KIND PART START COUNT
-unfoldable pub sortPlan : List ℕ → Tokens → Plan
-sortPlan ws t =
-    cond (isNext ws t 1 S 0)
-    (cond (fits t (form word.kSort S container S 0 0 0)) (rowPlan 0 (row (wordAt t 2 - 20) (wordAt t 3) 0 0 0))
+unfoldable pub sortRow : List ℕ → Tokens → Plan
+sortRow ws t =
+    cond (fits t (form word.kSort S container S 0 0 0)) (rowPlan 0 (row (wordAt t 2 - 20) (wordAt t 3) 0 0 0))
     (cond (functionFits t S) (functionPlan ws t 0 1)
     (cond (fits t (form word.kSort S word.kDef N 0 0 0)) (rowPlan 0 (row 12 (wordAt t 3) 0 0 0))
     (cond (fits t (form word.kSort S word.kTypeVar N 0 0 0)) (rowPlan 0 (row 13 (wordAt t 3) 0 0 0))
     (cond (fits t (form word.kSort S fixed 0 0 0 0)) (rowPlan 0 (row (wordAt t 2) 0 0 0 0))
     (cond (fits t (form word.kSort S word.kRaw N N N N)) (rowPlan 0 (row (wordAt t 3) (wordAt t 4) (wordAt t 5) (wordAt t 6) 0))
-    (expected Form.Sort)))))))
-    (expected Form.Next)
+    (expected Form.Sort))))))
+
+unfoldable pub sortPlan : List ℕ → Tokens → Plan
+sortPlan ws t = cond (isNext ws t 1 S 0) (sortRow ws t) (expected Form.Next)
 
 -- var vK nJ
 unfoldable pub varPlan : List ℕ → Tokens → Plan
@@ -65,15 +67,16 @@ unfoldable pub bindPlan : List ℕ → Tokens → Plan
 bindPlan ws t = cond (fits t (form word.kBind vN P 0 0 0 0)) (boundPlan ws (wordAt t 1) (wordAt t 2)) (expected Form.Bind)
 
 -- node nK List P, node nK fn P ... -> P, node nK var vN, node nK raw KIND PART START COUNT
-unfoldable pub nodePlan : List ℕ → Tokens → Plan
-nodePlan ws t =
-    cond (isNext ws t 1 nN 2)
-    (cond (fits t (form word.kNode nN container P 0 0 0)) (rowPlan 2 (row (wordAt t 2 - 20) (wordAt t 3) 0 0 0))
+unfoldable pub nodeRow : List ℕ → Tokens → Plan
+nodeRow ws t =
+    cond (fits t (form word.kNode nN container P 0 0 0)) (rowPlan 2 (row (wordAt t 2 - 20) (wordAt t 3) 0 0 0))
     (cond (functionFits t P) (functionPlan ws t 2 3)
     (cond (fits t (form word.kNode nN word.kVar vN 0 0 0)) (rowPlan 2 (row 14 (wordAt t 3) 0 0 0))
     (cond (fits t (form word.kNode nN word.kRaw N N N N)) (rowPlan 2 (row (wordAt t 3) (wordAt t 4) (wordAt t 5) (wordAt t 6) 0))
-    (expected Form.Node)))))
-    (expected Form.Next)
+    (expected Form.Node))))
+
+unfoldable pub nodePlan : List ℕ → Tokens → Plan
+nodePlan ws t = cond (isNext ws t 1 nN 2) (nodeRow ws t) (expected Form.Next)
 
 -- expr eK P
 unfoldable pub exprPlan : List ℕ → Tokens → Plan
@@ -83,15 +86,16 @@ exprPlan ws t =
     (expected Form.Next)
 
 -- name eN variable, name eN builtin, name eN op S, name eN raw KIND SORT; the program holds 512 base names
-unfoldable pub namePlan : List ℕ → Tokens → Plan
-namePlan ws t =
-    cond (ltb (rowsOf ws 6) 512)
-    (cond (fits t (form word.kName eN word.kVariable 0 0 0 0)) (rowPlan 6 (row (wordAt t 1) 1 0 0 0))
+unfoldable pub nameRow : Tokens → Plan
+nameRow t =
+    cond (fits t (form word.kName eN word.kVariable 0 0 0 0)) (rowPlan 6 (row (wordAt t 1) 1 0 0 0))
     (cond (fits t (form word.kName eN word.kBuiltin 0 0 0 0)) (rowPlan 6 (row (wordAt t 1) 3 0 0 0))
     (cond (fits t (form word.kName eN word.kOp S 0 0 0)) (rowPlan 6 (row (wordAt t 1) 2 (wordAt t 3) 0 0))
     (cond (fits t (form word.kName eN word.kRaw N N 0 0)) (rowPlan 6 (row (wordAt t 1) (wordAt t 3) (wordAt t 4) 0 0))
-    (expected Form.Name)))))
-    (expected Form.Names)
+    (expected Form.Name))))
+
+unfoldable pub namePlan : List ℕ → Tokens → Plan
+namePlan ws t = cond (ltb (rowsOf ws 6) 512) (nameRow t) (expected Form.Names)
 
 -- default S
 unfoldable pub defaultPlan : Tokens → Plan

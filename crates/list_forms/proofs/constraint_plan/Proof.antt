@@ -1,0 +1,52 @@
+-- Each answer by the tests that led to it. Assumes nothing.
+use borrow.Author.Needs.{needs}
+use Rattle.list_forms.specs.Lines.{constraintPlan}
+use Rattle.list_forms.proofs.constraint_plan.Statement.{statement}
+use Rattle.list_forms.proofs.constraint_plan.Tie as tie
+
+fits-requires : tie.Need-fits-requires
+fits-requires c κs = search needs
+
+word-at-requires : tie.Need-word-at-requires
+word-at-requires c κs = search needs
+
+word-at-requires-2 : tie.Need-word-at-requires-2
+word-at-requires-2 c κs = search needs
+
+word-at-requires-3 : tie.Need-word-at-requires-3
+word-at-requires-3 c κs = search needs
+
+word-at-requires-4 : tie.Need-word-at-requires-4
+word-at-requires-4 c κs = search needs
+
+word-at-requires-5 : tie.Need-word-at-requires-5
+word-at-requires-5 c κs = search needs
+
+constraint-row-requires : tie.Need-constraint-row-requires
+constraint-row-requires c κs = search needs
+
+returns : tie.Need-returns
+unfolding constraintPlan
+returns c = rw (← c .before .before .before .before .before .before .before .fits2 .ensures, c .before .before .before .before .before .before .if1 .taken, ← c .before .before .before .before .before .word-at .ensures, ← c .before .before .before .before .word-at2 .ensures, ← c .before .before .before .word-at3 .ensures, ← c .before .before .word-at4 .ensures, ← c .before .word-at5 .ensures, ← c .constraint-row .ensures)
+
+expected-requires : tie.Need-expected-requires
+expected-requires c κs = search needs
+
+returns-2 : tie.Need-returns-2
+unfolding constraintPlan
+returns-2 c = rw (← c .before .before .fits2 .ensures, c .before .if1 .left, ← c .expected .ensures)
+
+pub constraint-plan-spec : {M : Type 1} → statement M
+constraint-plan-spec =
+    tie.close
+    (tie.spec
+    fits-requires
+    word-at-requires
+    word-at-requires-2
+    word-at-requires-3
+    word-at-requires-4
+    word-at-requires-5
+    constraint-row-requires
+    returns
+    expected-requires
+    returns-2)

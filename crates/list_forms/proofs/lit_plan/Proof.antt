@@ -1,0 +1,44 @@
+-- Each answer by the tests that led to it. Assumes nothing.
+use borrow.Author.Needs.{needs}
+use Rattle.list_forms.specs.Lines.{litPlan}
+use Rattle.list_forms.proofs.lit_plan.Statement.{statement}
+use Rattle.list_forms.proofs.lit_plan.Tie as tie
+
+fits-requires : tie.Need-fits-requires
+fits-requires c κs = search needs
+
+word-at-requires : tie.Need-word-at-requires
+word-at-requires c κs = search needs
+
+word-at-requires-2 : tie.Need-word-at-requires-2
+word-at-requires-2 c κs = search needs
+
+minus-requires : tie.Need-minus-requires
+minus-requires c κs = search needs
+
+constraint-row-requires : tie.Need-constraint-row-requires
+constraint-row-requires c κs = search needs
+
+returns : tie.Need-returns
+unfolding litPlan
+returns c = rw (← c .before .before .before .before .before .fits2 .ensures, c .before .before .before .before .if1 .taken, ← c .before .before .before .word-at .ensures, ← c .before .before .word-at2 .ensures, ← c .before .minus .ensures, ← c .constraint-row .ensures)
+
+expected-requires : tie.Need-expected-requires
+expected-requires c κs = search needs
+
+returns-2 : tie.Need-returns-2
+unfolding litPlan
+returns-2 c = rw (← c .before .before .fits2 .ensures, c .before .if1 .left, ← c .expected .ensures)
+
+pub lit-plan-spec : {M : Type 1} → statement M
+lit-plan-spec =
+    tie.close
+    (tie.spec
+    fits-requires
+    word-at-requires
+    word-at-requires-2
+    minus-requires
+    constraint-row-requires
+    returns
+    expected-requires
+    returns-2)

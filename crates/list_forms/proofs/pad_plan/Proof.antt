@@ -1,0 +1,91 @@
+-- Each answer by the tests that led to it. Assumes nothing.
+use borrow.Author.Needs.{needs}
+use Rattle.list_forms.specs.Lines.{padPlan}
+use Rattle.list_forms.proofs.pad_plan.Statement.{statement}
+use Rattle.list_forms.proofs.pad_plan.Tie as tie
+
+fits-requires : tie.Need-fits-requires
+fits-requires c κs = search needs
+
+word-at-requires : tie.Need-word-at-requires
+word-at-requires c κs = search needs
+
+word-requires : tie.Need-word-requires
+word-requires c κs = search needs
+
+rows-plan-requires : tie.Need-rows-plan-requires
+rows-plan-requires c κs = search needs
+
+returns : tie.Need-returns
+unfolding padPlan
+returns c = rw (← c .before .before .before .before .before .fits2 .ensures, c .before .before .before .before .if1 .taken, ← c .before .before .before .word-at .ensures, ← c .before .word .ensures, ← c .rows-plan .ensures)
+
+fits-requires-2 : tie.Need-fits-requires-2
+fits-requires-2 c κs = search needs
+
+word-at-requires-2 : tie.Need-word-at-requires-2
+word-at-requires-2 c κs = search needs
+
+rows-plan-requires-2 : tie.Need-rows-plan-requires-2
+rows-plan-requires-2 c κs = search needs
+
+returns-2 : tie.Need-returns-2
+unfolding padPlan
+returns-2 c = rw (← c .before .before .before .before .before .fits2 .ensures, c .before .before .before .before .if1 .left, ← c .before .before .before .fits3 .ensures, c .before .before .if2 .taken, ← c .before .word-at2 .ensures, ← c .rows-plan2 .ensures)
+
+fits-requires-3 : tie.Need-fits-requires-3
+fits-requires-3 c κs = search needs
+
+word-at-requires-3 : tie.Need-word-at-requires-3
+word-at-requires-3 c κs = search needs
+
+rows-plan-requires-3 : tie.Need-rows-plan-requires-3
+rows-plan-requires-3 c κs = search needs
+
+returns-3 : tie.Need-returns-3
+unfolding padPlan
+returns-3 c = rw (← c .before .before .before .before .before .before .before .fits2 .ensures, c .before .before .before .before .before .before .if1 .left, ← c .before .before .before .before .before .fits3 .ensures, c .before .before .before .before .if2 .left, ← c .before .before .before .fits4 .ensures, c .before .before .if3 .taken, ← c .before .word-at3 .ensures, ← c .rows-plan3 .ensures)
+
+fits-requires-4 : tie.Need-fits-requires-4
+fits-requires-4 c κs = search needs
+
+word-at-requires-4 : tie.Need-word-at-requires-4
+word-at-requires-4 c κs = search needs
+
+rows-plan-requires-4 : tie.Need-rows-plan-requires-4
+rows-plan-requires-4 c κs = search needs
+
+returns-4 : tie.Need-returns-4
+unfolding padPlan
+returns-4 c = rw (← c .before .before .before .before .before .before .before .before .before .fits2 .ensures, c .before .before .before .before .before .before .before .before .if1 .left, ← c .before .before .before .before .before .before .before .fits3 .ensures, c .before .before .before .before .before .before .if2 .left, ← c .before .before .before .before .before .fits4 .ensures, c .before .before .before .before .if3 .left, ← c .before .before .before .fits5 .ensures, c .before .before .if4 .taken, ← c .before .word-at4 .ensures, ← c .rows-plan4 .ensures)
+
+expected-requires : tie.Need-expected-requires
+expected-requires c κs = search needs
+
+returns-5 : tie.Need-returns-5
+unfolding padPlan
+returns-5 c = rw (← c .before .before .before .before .before .before .before .before .fits2 .ensures, c .before .before .before .before .before .before .before .if1 .left, ← c .before .before .before .before .before .before .fits3 .ensures, c .before .before .before .before .before .if2 .left, ← c .before .before .before .before .fits4 .ensures, c .before .before .before .if3 .left, ← c .before .before .fits5 .ensures, c .before .if4 .left, ← c .expected .ensures)
+
+pub pad-plan-spec : {M : Type 1} → statement M
+pad-plan-spec =
+    tie.close
+    (tie.spec
+    fits-requires
+    word-at-requires
+    word-requires
+    rows-plan-requires
+    returns
+    fits-requires-2
+    word-at-requires-2
+    rows-plan-requires-2
+    returns-2
+    fits-requires-3
+    word-at-requires-3
+    rows-plan-requires-3
+    returns-3
+    fits-requires-4
+    word-at-requires-4
+    rows-plan-requires-4
+    returns-4
+    expected-requires
+    returns-5)

@@ -1,0 +1,87 @@
+-- Each answer by the tests that led to it. Assumes nothing.
+use borrow.Author.Needs.{needs}
+use borrow.Author.Tests.{eq-eqb, ne-eqb}
+use Rattle.list_forms.specs.Lines.{unusualPlan}
+use Rattle.list_forms.proofs.unusual_plan.Statement.{statement}
+use Rattle.list_forms.proofs.unusual_plan.Tie as tie
+
+token-at-requires : tie.Need-token-at-requires
+token-at-requires c κs = search needs
+
+entries-plan-requires : tie.Need-entries-plan-requires
+entries-plan-requires c κs = search needs
+
+returns : tie.Need-returns
+unfolding unusualPlan
+returns c = rw (← c .before .before .token-at .ensures, eq-eqb _ _ (c .before .if1 .taken), ← c .entries-plan .ensures)
+
+entries-plan-requires-2 : tie.Need-entries-plan-requires-2
+entries-plan-requires-2 c κs = search needs
+
+returns-2 : tie.Need-returns-2
+unfolding unusualPlan
+returns-2 c = rw (← c .before .before .before .token-at .ensures, ne-eqb _ _ (c .before .before .if1 .left), eq-eqb _ _ (c .before .if2 .taken), ← c .entries-plan2 .ensures)
+
+constraint-plan-requires : tie.Need-constraint-plan-requires
+constraint-plan-requires c κs = search needs
+
+returns-3 : tie.Need-returns-3
+unfolding unusualPlan
+returns-3 c = rw (← c .before .before .before .before .token-at .ensures, ne-eqb _ _ (c .before .before .before .if1 .left), ne-eqb _ _ (c .before .before .if2 .left), eq-eqb _ _ (c .before .if3 .taken), ← c .constraint-plan .ensures)
+
+pad-plan-requires : tie.Need-pad-plan-requires
+pad-plan-requires c κs = search needs
+
+returns-4 : tie.Need-returns-4
+unfolding unusualPlan
+returns-4 c = rw (← c .before .before .before .before .before .token-at .ensures, ne-eqb _ _ (c .before .before .before .before .if1 .left), ne-eqb _ _ (c .before .before .before .if2 .left), ne-eqb _ _ (c .before .before .if3 .left), eq-eqb _ _ (c .before .if4 .taken), ← c .pad-plan .ensures)
+
+count-plan-requires : tie.Need-count-plan-requires
+count-plan-requires c κs = search needs
+
+returns-5 : tie.Need-returns-5
+unfolding unusualPlan
+returns-5 c = rw (← c .before .before .before .before .before .before .token-at .ensures, ne-eqb _ _ (c .before .before .before .before .before .if1 .left), ne-eqb _ _ (c .before .before .before .before .if2 .left), ne-eqb _ _ (c .before .before .before .if3 .left), ne-eqb _ _ (c .before .before .if4 .left), eq-eqb _ _ (c .before .if5 .taken), ← c .count-plan .ensures)
+
+lend-plan-requires : tie.Need-lend-plan-requires
+lend-plan-requires c κs = search needs
+
+returns-6 : tie.Need-returns-6
+unfolding unusualPlan
+returns-6 c = rw (← c .before .before .before .before .before .before .before .token-at .ensures, ne-eqb _ _ (c .before .before .before .before .before .before .if1 .left), ne-eqb _ _ (c .before .before .before .before .before .if2 .left), ne-eqb _ _ (c .before .before .before .before .if3 .left), ne-eqb _ _ (c .before .before .before .if4 .left), ne-eqb _ _ (c .before .before .if5 .left), eq-eqb _ _ (c .before .if6 .taken), ← c .lend-plan .ensures)
+
+ceilings-plan-requires : tie.Need-ceilings-plan-requires
+ceilings-plan-requires c κs = search needs
+
+returns-7 : tie.Need-returns-7
+unfolding unusualPlan
+returns-7 c = rw (← c .before .before .before .before .before .before .before .before .token-at .ensures, ne-eqb _ _ (c .before .before .before .before .before .before .before .if1 .left), ne-eqb _ _ (c .before .before .before .before .before .before .if2 .left), ne-eqb _ _ (c .before .before .before .before .before .if3 .left), ne-eqb _ _ (c .before .before .before .before .if4 .left), ne-eqb _ _ (c .before .before .before .if5 .left), ne-eqb _ _ (c .before .before .if6 .left), eq-eqb _ _ (c .before .if7 .taken), ← c .ceilings-plan .ensures)
+
+expected-requires : tie.Need-expected-requires
+expected-requires c κs = search needs
+
+returns-8 : tie.Need-returns-8
+unfolding unusualPlan
+returns-8 c = rw (← c .before .before .before .before .before .before .before .before .token-at .ensures, ne-eqb _ _ (c .before .before .before .before .before .before .before .if1 .left), ne-eqb _ _ (c .before .before .before .before .before .before .if2 .left), ne-eqb _ _ (c .before .before .before .before .before .if3 .left), ne-eqb _ _ (c .before .before .before .before .if4 .left), ne-eqb _ _ (c .before .before .before .if5 .left), ne-eqb _ _ (c .before .before .if6 .left), ne-eqb _ _ (c .before .if7 .left), ← c .expected .ensures)
+
+pub unusual-plan-spec : {M : Type 1} → statement M
+unusual-plan-spec =
+    tie.close
+    (tie.spec
+    token-at-requires
+    entries-plan-requires
+    returns
+    entries-plan-requires-2
+    returns-2
+    constraint-plan-requires
+    returns-3
+    pad-plan-requires
+    returns-4
+    count-plan-requires
+    returns-5
+    lend-plan-requires
+    returns-6
+    ceilings-plan-requires
+    returns-7
+    expected-requires
+    returns-8)

@@ -1,0 +1,59 @@
+-- Each answer by the tests that led to it. Assumes nothing.
+use borrow.Author.Needs.{needs}
+use borrow.Author.Tests.{eq-eqb, ne-eqb}
+use Rattle.list_reader.specs.Taking.{bareTaken}
+use Rattle.list_reader.proofs.bare.Statement.{statement}
+use Rattle.list_reader.proofs.bare.Tie as tie
+
+word-requires : tie.Need-word-requires
+word-requires c κs = search needs
+
+word-requires-2 : tie.Need-word-requires-2
+word-requires-2 c κs = search needs
+
+clear-requires : tie.Need-clear-requires
+clear-requires c κs = search needs
+
+put-requires : tie.Need-put-requires
+put-requires c κs = search needs
+
+returns : tie.Need-returns
+unfolding bareTaken
+returns c = rw (eq-eqb _ _ (c .before .before .before .before .before .before .before .before .before .before .before .before .if1 .taken), ← c .before .before .before .before .before .before .before .before .before .word .ensures, eq-eqb _ _ (c .before .before .before .before .before .before .before .before .if2 .taken), ← c .before .before .before .before .before .word2 .ensures, eq-eqb _ _ (c .before .before .before .before .if3 .taken), ← c .before .before .clear .ensures, ← c .put .ensures)
+
+bad-requires : tie.Need-bad-requires
+bad-requires c κs = search needs
+
+returns-2 : tie.Need-returns-2
+unfolding bareTaken
+returns-2 c = rw (eq-eqb _ _ (c .before .before .before .before .before .before .before .before .before .before .if1 .taken), ← c .before .before .before .before .before .before .before .word .ensures, eq-eqb _ _ (c .before .before .before .before .before .before .if2 .taken), ← c .before .before .before .word2 .ensures, ne-eqb _ _ (c .before .before .if3 .left), ← c .bad .ensures)
+
+bad-requires-2 : tie.Need-bad-requires-2
+bad-requires-2 c κs = search needs
+
+returns-3 : tie.Need-returns-3
+unfolding bareTaken
+returns-3 c = rw (eq-eqb _ _ (c .before .before .before .before .before .before .if1 .taken), ← c .before .before .before .word .ensures, ne-eqb _ _ (c .before .before .if2 .left), ← c .bad2 .ensures)
+
+bad-requires-3 : tie.Need-bad-requires-3
+bad-requires-3 c κs = search needs
+
+returns-4 : tie.Need-returns-4
+unfolding bareTaken
+returns-4 c = rw (ne-eqb _ _ (c .before .before .if1 .left), ← c .bad3 .ensures)
+
+pub bare-spec : {M : Type 1} → statement M
+bare-spec =
+    tie.close
+    (tie.spec
+    word-requires
+    word-requires-2
+    clear-requires
+    put-requires
+    returns
+    bad-requires
+    returns-2
+    bad-requires-2
+    returns-3
+    bad-requires-3
+    returns-4)

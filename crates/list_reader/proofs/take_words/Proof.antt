@@ -1,0 +1,59 @@
+-- Each answer by the tests that led to it. Assumes nothing.
+use borrow.Author.Needs.{needs}
+use borrow.Author.Tests.{eq-eqb, ne-eqb}
+use Rattle.list_reader.specs.Taking.{wordsTaken}
+use Rattle.list_reader.proofs.take_words.Statement.{statement}
+use Rattle.list_reader.proofs.take_words.Tie as tie
+
+token-at-requires : tie.Need-token-at-requires
+token-at-requires c κs = search needs
+
+question-requires : tie.Need-question-requires
+question-requires c κs = search needs
+
+returns : tie.Need-returns
+unfolding wordsTaken
+returns c = rw (← c .before .before .before .token-at .ensures, eq-eqb _ _ (c .before .before .if1 .taken), ← c .question .ensures)
+
+word-requires : tie.Need-word-requires
+word-requires c κs = search needs
+
+bad-requires : tie.Need-bad-requires
+bad-requires c κs = search needs
+
+returns-2 : tie.Need-returns-2
+unfolding wordsTaken
+returns-2 c = rw (← c .before .before .before .before .before .before .before .token-at .ensures, ne-eqb _ _ (c .before .before .before .before .before .before .if1 .left), ← c .before .before .before .word .ensures, eq-eqb _ _ (c .before .before .if2 .taken), ← c .bad .ensures)
+
+bare-requires : tie.Need-bare-requires
+bare-requires c κs = search needs
+
+returns-3 : tie.Need-returns-3
+unfolding wordsTaken
+returns-3 c = rw (← c .before .before .before .before .before .before .before .before .token-at .ensures, ne-eqb _ _ (c .before .before .before .before .before .before .before .if1 .left), ← c .before .before .before .before .word .ensures, ne-eqb _ _ (c .before .before .before .if2 .left), eq-eqb _ _ (c .before .before .if3 .taken), ← c .bare .ensures)
+
+plan-of-requires : tie.Need-plan-of-requires
+plan-of-requires c κs = search needs
+
+give-requires : tie.Need-give-requires
+give-requires c κs = search needs
+
+returns-4 : tie.Need-returns-4
+unfolding wordsTaken
+returns-4 c = rw (← c .before .before .before .before .before .before .before .before .before .before .token-at .ensures, ne-eqb _ _ (c .before .before .before .before .before .before .before .before .before .if1 .left), ← c .before .before .before .before .before .before .word .ensures, ne-eqb _ _ (c .before .before .before .before .before .if2 .left), ne-eqb _ _ (c .before .before .before .before .if3 .left), ← c .before .before .plan-of .ensures, ← c .give .ensures)
+
+pub take-words-spec : {M : Type 1} → statement M
+take-words-spec =
+    tie.close
+    (tie.spec
+    token-at-requires
+    question-requires
+    returns
+    word-requires
+    bad-requires
+    returns-2
+    bare-requires
+    returns-3
+    plan-of-requires
+    give-requires
+    returns-4)

@@ -1,0 +1,2 @@
+-- A line of the text format, taken into a list.
+pub mod Taking
