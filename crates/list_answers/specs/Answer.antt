@@ -7,7 +7,7 @@ use Rattle.inference.specs.declared.Solved.the-variants.{Refused, NoRoom, NoTyp
 use Rattle.inference.specs.SolveEntry.{Left, solveEntry, codeSolved}
 use Rattle.verdict_text.specs.Puts.{Buffer, puts}
 use Rattle.verdict_text.specs.Text.{verdictLine, newLines, typingText}
-use Rattle.list_answers.specs.Lists.{countOf, callOn, callIn}
+use Rattle.list_asking.specs.Lists.{countOf, callOn, callIn}
 
 -- Under the line of the code: of g sorts and x expressions given, a typing, and the sorts made.
 unfoldable pub linesUnder : ℕ → ℕ → Solved → (sorts typing measure choices : List ℕ) → List ℕ

@@ -1,6 +1,6 @@
 -- The slices that a call may change are copies of the parts of the list, lent as far as it tells. Assumes nothing.
 use Prim.Native.Nat.{ℕ}
-use Rattle.list_answers.proofs.Lists as list
+use Rattle.list_asking.proofs.Lists as list
 use Rattle.list_answers.proofs.Telling as law
 use lib.ListN.{length-replicate}
 use native.Mathlib.Omega.{arith}

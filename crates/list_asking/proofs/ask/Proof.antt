@@ -1,8 +1,8 @@
 -- The slices that do not change are parts of the list. Assumes nothing.
-use Rattle.list_answers.proofs.Telling as law
+use Rattle.list_asking.proofs.Asked as law
 use borrow.Author.Needs.{needs}
-use Rattle.list_answers.proofs.ask.Statement.{statement}
-use Rattle.list_answers.proofs.ask.Tie as tie
+use Rattle.list_asking.proofs.ask.Statement.{statement}
+use Rattle.list_asking.proofs.ask.Tie as tie
 
 rows-given-requires : tie.Need-rows-given-requires
 rows-given-requires c κs = search needs

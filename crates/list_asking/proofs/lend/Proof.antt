@@ -1,9 +1,9 @@
 -- The part is as long as is lent. Assumes nothing.
-use Rattle.list_answers.proofs.Lists as law
+use Rattle.list_asking.proofs.Lists as law
 use mathlib.Core.Path.{refl}
 use borrow.Author.Needs.{needs}
-use Rattle.list_answers.proofs.lend.Statement.{statement}
-use Rattle.list_answers.proofs.lend.Tie as tie
+use Rattle.list_asking.proofs.lend.Statement.{statement}
+use Rattle.list_asking.proofs.lend.Tie as tie
 
 length-of-requires : tie.Need-length-of-requires
 length-of-requires c κs = search needs

@@ -8,7 +8,7 @@ use lib.Seq.{sets, length-take-le, take-take}
 use borrow.Author.Tests.{eq-eqb, ne-eqb, lt-ltb, le-ltb}
 use Rattle.search_state.specs.Memory.{part}
 use Rattle.problem_words.proofs.Wholes.{part-length, copied-out}
-use Rattle.list_answers.specs.Lists.{rowsGiven, countOf, toldOr, lengthOf, lent}
+use Rattle.list_asking.specs.Lists.{rowsGiven, countOf, toldOr, lengthOf, lent}
 
 module _ (ws : List ℕ) where
   pub told-count : (k f t : ℕ) → f ≡ getD ws (34069 + k) 0 → t ≡ getD ws (34059 + k) 0 → f ≡ 1 → t ≡ countOf ws k
