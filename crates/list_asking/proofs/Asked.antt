@@ -1,27 +1,18 @@
 -- The call that asks, by what its slices and counts are. Assumes nothing.
-use mathlib.Core.Path.{_≡_, _∙_, ap}
+use mathlib.Core.Path.{_≡_, _∙_}
 use mathlib.Core.List.{List}
-use Prim.Native.Nat.{ℕ, _*_}
+use Prim.Native.Nat.{ℕ}
 use Rattle.inference.specs.SolveEntry.{Left, solveEntry}
 use Rattle.solve_checks.specs.declared.Given.{Given}
 use Rattle.solve_finish.specs.Begin.{callWith}
-use Rattle.list_asking.specs.Lists.{rowsGiven, lent, givenIn, exprsIn, namesIn, constraintsIn, overloadsIn, sourcesIn, callOn}
+use Rattle.list_asking.specs.Lists.{givenIn, exprsIn, namesIn, constraintsIn, overloadsIn, sourcesIn, callBy}
 
 -- the call by what its slices and counts are
-module _ (ws ss ns bs xs ts ms cs : List ℕ) where
+module _ (ws : List ℕ) (g : Given) (ss ns bs xs ts ms cs : List ℕ) where
   pub asked :
-      (k : Given) (es ks os ps qs : List ℕ) (m1 m2 m3 m4 m5 : ℕ) → k ≡ givenIn ws
-      → es ≡ lent ws 20992 3 m1 512 → m1 ≡ rowsGiven ws 5 → ks ≡ lent ws 21504 4 (3 * m2) 1536 → m2 ≡ rowsGiven ws 6
-      → os ≡ lent ws 23040 5 (5 * m3) 1280 → m3 ≡ rowsGiven ws 7 → ps ≡ lent ws 24320 6 (3 * m4) 3072 → m4 ≡ rowsGiven ws 8
-      → qs ≡ lent ws 27392 7 m5 256 → m5 ≡ rowsGiven ws 9
-      → (L : Left) → L ≡ solveEntry (callWith k ss ns bs es ks os ps qs xs ts ms cs) → L ≡ solveEntry (callOn ws ss ns bs xs ts ms cs)
-  asked k es ks os ps qs m1 m2 m3 m4 m5 ek e1 n1 e2 n2 e3 n3 e4 n4 e5 n5 L h =
-      let f1 : es ≡ exprsIn ws = e1 ∙ ap (λ (m : ℕ). lent ws 20992 3 m 512) n1 in
-      let f2 : ks ≡ namesIn ws = e2 ∙ ap (λ (m : ℕ). lent ws 21504 4 (3 * m) 1536) n2 in
-      let f3 : os ≡ constraintsIn ws = e3 ∙ ap (λ (m : ℕ). lent ws 23040 5 (5 * m) 1280) n3 in
-      let f4 : ps ≡ overloadsIn ws = e4 ∙ ap (λ (m : ℕ). lent ws 24320 6 (3 * m) 3072) n4 in
-      let f5 : qs ≡ sourcesIn ws = e5 ∙ ap (λ (m : ℕ). lent ws 27392 7 m 256) n5 in
-      h ∙ (λ i. solveEntry (callWith (ek i) ss ns bs (f1 i) (f2 i) (f3 i) (f4 i) (f5 i) xs ts ms cs))
+      (es ks os ps qs : List ℕ) → es ≡ exprsIn ws → ks ≡ namesIn ws → os ≡ constraintsIn ws → ps ≡ overloadsIn ws → qs ≡ sourcesIn ws
+      → (L : Left) → L ≡ solveEntry (callWith g ss ns bs es ks os ps qs xs ts ms cs) → L ≡ solveEntry (callBy ws g ss ns bs xs ts ms cs)
+  asked es ks os ps qs e1 e2 e3 e4 e5 L h = h ∙ (λ i. solveEntry (callWith g ss ns bs (e1 i) (e2 i) (e3 i) (e4 i) (e5 i) xs ts ms cs))
 
 pub counts-given : (ws : List ℕ) (n e m d v x k c o s t : ℕ) (k0 : Given)
     → k0 ≡ record { sorts = n; entries = e; nodes = m; arguments = d; variables = v; exprs = x; names = k; constraints = c; overloads = o; sources = s; default = t }

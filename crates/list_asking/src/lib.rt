@@ -4,11 +4,11 @@ use solve_checks::Given;
 use solve_entries::solve;
 use sort_interner::word;
 ghost use mathlib.Core.Path.{_≡_};
-ghost use Prim.Native.Nat.{_+_, _≤_};
+ghost use Prim.Native.Nat.{_+_, _*_, _≤_};
 ghost use lib.ListN.{length};
 ghost use Rattle.inference.specs.SolveEntry.{solveEntry};
 ghost use Rattle.solve_finish.specs.Finish.{leftOf};
-ghost use Rattle.list_asking.specs.Lists.{rowsGiven, countOf, toldOr, lengthOf, lent, givenIn, callOn};
+ghost use Rattle.list_asking.specs.Lists.{rowsGiven, countOf, toldOr, lengthOf, lent, givenIn, callBy};
 
 // The rows given of a list.
 pub fn rows_given(list: &[u16], k: usize) -> usize
@@ -30,7 +30,7 @@ pub fn count_of(list: &[u16], k: usize) -> u16
 }
 
 // The counts of the call, and the default sort.
-fn given_of(list: &[u16]) -> Given
+pub fn given_of(list: &[u16]) -> Given
     ensures { λ r. ⌜ r ≡ givenIn (now (list .entry)) ⌝ }
 {
     Given {
@@ -71,18 +71,20 @@ pub fn length_of(list: &[u16], j: usize, n: usize, top: usize) -> usize
     words
 }
 
-// A slice that a call does not change, as a part of the list.
-fn lend(list: &[u16], start: usize, j: usize, n: usize, top: usize) -> &[u16]
-    requires { ⌜ (j ≤ 11) × (start + top ≤ length (now list)) ⌝ }
-    ensures { λ r. ⌜ now r ≡ lent (now (list .entry)) start j n top ⌝ }
+// A slice that a call does not change, as a part of the list: where nothing is told, as many words as the rows given of list k have.
+fn lend(list: &[u16], start: usize, j: usize, k: usize, width: usize, top: usize) -> &[u16]
+    requires { ⌜ (j ≤ 11) × (k ≤ 9) × (width ≤ 5) × (start + top ≤ length (now list)) ⌝ }
+    ensures { λ r. ⌜ now r ≡ lent (now (list .entry)) start j (width * rowsGiven (now (list .entry)) k) top ⌝ }
 {
-    let end = start + length_of(list, j, n, top);
+    let rows = rows_given(list, k);
+    let end = start + length_of(list, j, width * rows, top);
     &list[start..end]
 }
 
-// The solver asked about a list, with the slices that it may change.
-pub fn ask(
+// The solver asked about a list, with its counts and the slices that it may change.
+pub fn solve_list(
     list: &[u16],
+    given: Given,
     sorts: &mut [u16],
     nodes: &mut [u16],
     binds: &mut [u16],
@@ -92,14 +94,13 @@ pub fn ask(
     choices: &mut [u16],
 ) -> Solved
     requires { ⌜ 34048 ≤ length (now list) ⌝ }
-    ensures { λ r. ⌜ leftOf r (now (sorts .exit)) (now (nodes .exit)) (now (binds .exit)) (now (scratch .exit)) (now (typing .exit)) (now (measure .exit)) (now (choices .exit)) ≡ solveEntry (callOn (now (list .entry)) (now (sorts .entry)) (now (nodes .entry)) (now (binds .entry)) (now (scratch .entry)) (now (typing .entry)) (now (measure .entry)) (now (choices .entry))) ⌝ }
+    ensures { λ r. ⌜ leftOf r (now (sorts .exit)) (now (nodes .exit)) (now (binds .exit)) (now (scratch .exit)) (now (typing .exit)) (now (measure .exit)) (now (choices .exit)) ≡ solveEntry (callBy (now (list .entry)) given (now (sorts .entry)) (now (nodes .entry)) (now (binds .entry)) (now (scratch .entry)) (now (typing .entry)) (now (measure .entry)) (now (choices .entry))) ⌝ }
 {
-    let exprs = lend(list, 20992, 3, rows_given(list, 5), 512);
-    let names = lend(list, 21504, 4, 3 * rows_given(list, 6), 1536);
-    let constraints = lend(list, 23040, 5, 5 * rows_given(list, 7), 1280);
-    let overloads = lend(list, 24320, 6, 3 * rows_given(list, 8), 3072);
-    let sources = lend(list, 27392, 7, rows_given(list, 9), 256);
-    let given = given_of(list);
+    let exprs = lend(list, 20992, 3, 5, 1, 512);
+    let names = lend(list, 21504, 4, 6, 3, 1536);
+    let constraints = lend(list, 23040, 5, 7, 5, 1280);
+    let overloads = lend(list, 24320, 6, 8, 3, 3072);
+    let sources = lend(list, 27392, 7, 9, 1, 256);
     solve(
         sorts,
         nodes,
