@@ -11,11 +11,12 @@ use Rattle.inference.specs.declared.Solved.the-variants.{Refused, NoRoom, NoTyp
 use Rattle.inference.specs.SolveChecks.{Call}
 use Rattle.inference.specs.SolveEntry.{Left, solveEntry, codeSolved}
 use Rattle.inference.proofs.ListsLeft.{countsOf, sorts-only-grow}
+use Rattle.solve_checks.specs.declared.Given.{Given}
 use Rattle.solve_finish.specs.Finish.{leftOf}
 use Rattle.verdict_text.specs.Puts.{buffer, puts, Put}
 use Rattle.verdict_text.specs.Text.{verdictLine, newLines, typingText}
-use Rattle.list_asking.specs.Lists.{rowsGiven, countOf, lent, sortsIn, nodesIn, bindsIn, scratchIn, typingIn, measureIn, choicesIn, callOn}
-use Rattle.list_answers.specs.Answer.{linesUnder, toldText, leftText, Tellable, Held, Told, held, told, toldOf, answerText, answerLeft}
+use Rattle.list_asking.specs.Lists.{countOf, givenIn, sortsIn, nodesIn, bindsIn, scratchIn, typingIn, measureIn, choicesIn, callBy, callOn}
+use Rattle.list_answers.specs.Answer.{linesUnder, toldText, Tellable, Asked, Told, asked, told, askedOf, toldOf, answerText, answerLeft}
 
 -- by the case of the answer
 module _ (g x : ℕ) (r : Solved) (ss ts ms cs : List ℕ) where
@@ -55,33 +56,30 @@ left-tellable I = go (solveEntry I .answer) refl
     go (Ambiguous k) e = tt
     go (Typing o) e = sorts-only-grow I (o .counts) (ap countsOf e) .checked
 
--- What is left after asking and telling.
-module _ (I : Call) (r : Solved) (ss ns bs xs ts ms cs : List ℕ) (e : leftOf r ss ns bs xs ts ms cs ≡ solveEntry I) where
+-- What is left after asking, with the slices that are not told as the list lends them.
+pub asked-alone :
+    (ws ss ns bs xs ts ms cs : List ℕ) (g : Given) → g ≡ givenIn ws → ns ≡ nodesIn ws → bs ≡ bindsIn ws → xs ≡ scratchIn ws
+    → (r : Solved) (ss′ ns′ bs′ xs′ ts′ ms′ cs′ : List ℕ) → leftOf r ss′ ns′ bs′ xs′ ts′ ms′ cs′ ≡ solveEntry (callBy ws g ss ns bs xs ts ms cs)
+    → asked r ss′ ts′ ms′ cs′ ≡ askedOf (solveEntry (callOn ws ss ts ms cs))
+asked-alone ws ss ns bs xs ts ms cs g eg en eb ex r ss′ ns′ bs′ xs′ ts′ ms′ cs′ e =
+    ap askedOf (e ∙ (λ i. solveEntry (callBy ws (eg i) ss (en i) (eb i) (ex i) ts ms cs)))
+
+-- and after telling
+module _ (I : Call) (r : Solved) (ss ts ms cs : List ℕ) (e : asked r ss ts ms cs ≡ askedOf (solveEntry I)) where
   pub answer-tellable : Tellable r ss
-  answer-tellable = subst (λ (L : Left). Tellable (L .answer) (L .sorts)) (sym e) (left-tellable I)
+  answer-tellable = subst (λ (A : Asked). Tellable (A .answer) (A .sorts)) (sym e) (left-tellable I)
 
   pub asked-and-told :
       (ws out : List ℕ) (g x : ℕ) → g ≡ countOf ws 0 → x ≡ countOf ws 5 → {left : List ℕ} {n : ℕ} → Put out 0 (toldText g x r ss ts ms cs) left n
-      → told (held (buffer left n) ss ns bs xs) ts ms cs ≡ toldOf ws out (solveEntry I)
+      → told (buffer left n) ss ts ms cs ≡ toldOf ws out (solveEntry I)
   asked-and-told ws out g x eg ex p =
-      (λ i. told (held (p .is i) ss ns bs xs) ts ms cs)
-      ∙ (λ i. told (held (puts out 0 (leftText (eg i) (ex i) (e i))) (e i .sorts) (e i .nodes) (e i .binds) (e i .scratch)) (e i .typing) (e i .measure) (e i .choices))
+      (λ i. told (p .is i) ss ts ms cs)
+      ∙ (λ i. told (puts out 0 (toldText (eg i) (ex i) (e i .answer) (e i .sorts) (e i .typing) (e i .measure) (e i .choices))) (e i .sorts) (e i .typing) (e i .measure) (e i .choices))
 
--- the slices that a call may change, as the list lends them
-pub outputs-lent :
-    (ws out ss ns bs xs ts ms cs : List ℕ) → ts ≡ typingIn ws → ms ≡ measureIn ws → cs ≡ choicesIn ws
-    → (T : Told) → T ≡ toldOf ws out (solveEntry (callOn ws ss ns bs xs ts ms cs))
-    → T .held ≡ toldOf ws out (solveEntry (callOn ws ss ns bs xs (typingIn ws) (measureIn ws) (choicesIn ws))) .held
-outputs-lent ws out ss ns bs xs ts ms cs et em ec T h =
-    ap (λ (t : Told). t .held) h ∙ (λ i. toldOf ws out (solveEntry (callOn ws ss ns bs xs (et i) (em i) (ec i))) .held)
-
+-- the slices that are told, as the list lends them
 pub all-lent :
-    (ws out ss ns bs xs : List ℕ) → ss ≡ sortsIn ws → ns ≡ nodesIn ws → bs ≡ bindsIn ws → xs ≡ scratchIn ws
-    → (H : Held) → H ≡ toldOf ws out (solveEntry (callOn ws ss ns bs xs (typingIn ws) (measureIn ws) (choicesIn ws))) .held
-    → H .text ≡ answerLeft ws out
+    (ws out ss ts ms cs : List ℕ) → ss ≡ sortsIn ws → ts ≡ typingIn ws → ms ≡ measureIn ws → cs ≡ choicesIn ws
+    → (T : Told) → T ≡ toldOf ws out (solveEntry (callOn ws ss ts ms cs)) → T .text ≡ answerLeft ws out
 unfolding answerLeft answerText
-all-lent ws out ss ns bs xs es en eb ex H h =
-    ap (λ (t : Held). t .text) h ∙ (λ i. toldOf ws out (solveEntry (callOn ws (es i) (en i) (eb i) (ex i) (typingIn ws) (measureIn ws) (choicesIn ws))) .held .text)
-
-pub binds-lent : (ws bs : List ℕ) (n : ℕ) → bs ≡ lent ws 20480 2 n 512 → n ≡ rowsGiven ws 4 → bs ≡ bindsIn ws
-binds-lent ws bs n e h = e ∙ ap (λ (m : ℕ). lent ws 20480 2 m 512) h
+all-lent ws out ss ts ms cs es et em ec T h =
+    ap (λ (t : Told). t .text) h ∙ (λ i. toldOf ws out (solveEntry (callOn ws (es i) (et i) (em i) (ec i))) .text)

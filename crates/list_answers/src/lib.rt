@@ -1,10 +1,11 @@
 // The solver's answer about a list that stands in one array of words, as text. The slices that a call may change are copied, so that the list
 // stays as it is.
 use inference::Solved;
-use list_asking::ask;
 use list_asking::count_of;
+use list_asking::given_of;
 use list_asking::length_of;
 use list_asking::rows_given;
+use list_asking::solve_list;
 use problem_words::copy;
 use verdict_text::put_new_sorts;
 use verdict_text::put_typing;
@@ -14,8 +15,8 @@ ghost use Prim.Native.Nat.{_≤_};
 ghost use lib.ListN.{length};
 ghost use Rattle.inference.specs.SolveEntry.{solveEntry};
 ghost use Rattle.verdict_text.specs.Puts.{buffer, Put};
-ghost use Rattle.list_asking.specs.Lists.{callOn, typingIn, measureIn, choicesIn};
-ghost use Rattle.list_answers.specs.Answer.{toldText, Tellable, held, told as toldLeft, toldOf, answerLeft};
+ghost use Rattle.list_asking.specs.Lists.{callOn};
+ghost use Rattle.list_answers.specs.Answer.{toldText, Tellable, asked, told as toldLeft, askedOf, toldOf, answerLeft};
 
 // An answer of the solver as text.
 fn tell(
@@ -62,59 +63,56 @@ fn tell(
     }
 }
 
+// The solver asked about a list, with nodes, bindings and scratch of its own.
+fn ask(
+    list: &[u16],
+    sorts: &mut [u16],
+    typing: &mut [u16],
+    measure: &mut [u16],
+    choices: &mut [u16],
+) -> Solved
+    requires { ⌜ 34048 ≤ length (now list) ⌝ }
+    ensures { λ r. ⌜ asked r (now (sorts .exit)) (now (typing .exit)) (now (measure .exit)) (now (choices .exit)) ≡ askedOf (solveEntry (callOn (now (list .entry)) (now (sorts .entry)) (now (typing .entry)) (now (measure .entry)) (now (choices .entry)))) ⌝ }
+{
+    let mut nodes = [0u16; 12288];
+    let mut binds = [0u16; 512];
+    let mut scratch = [0u16; 4096];
+    copy(&mut nodes, 0, list, 8192, 12288);
+    copy(&mut binds, 0, list, 20480, 512);
+    copy(&mut scratch, 0, list, 29952, 4096);
+    let nodes_end = length_of(list, 1, 12288, 12288);
+    let binds_end = length_of(list, 2, rows_given(list, 4), 512);
+    let scratch_end = length_of(list, 11, 4096, 4096);
+    let given = given_of(list);
+    solve_list(
+        list,
+        given,
+        sorts,
+        &mut nodes[..nodes_end],
+        &mut binds[..binds_end],
+        &mut scratch[..scratch_end],
+        typing,
+        measure,
+        choices,
+    )
+}
+
 // The solver asked about a list, and its answer as text at the front of the buffer.
 fn ask_and_tell(
     list: &[u16],
     sorts: &mut [u16],
-    nodes: &mut [u16],
-    binds: &mut [u16],
-    scratch: &mut [u16],
     typing: &mut [u16],
     measure: &mut [u16],
     choices: &mut [u16],
     out: &mut [u8],
 ) -> usize
     requires { ⌜ 34048 ≤ length (now list) ⌝ }
-    ensures { λ r. ⌜ toldLeft (held (buffer (now (out .exit)) r) (now (sorts .exit)) (now (nodes .exit)) (now (binds .exit)) (now (scratch .exit))) (now (typing .exit)) (now (measure .exit)) (now (choices .exit)) ≡ toldOf (now (list .entry)) (now (out .entry)) (solveEntry (callOn (now (list .entry)) (now (sorts .entry)) (now (nodes .entry)) (now (binds .entry)) (now (scratch .entry)) (now (typing .entry)) (now (measure .entry)) (now (choices .entry)))) ⌝ }
+    ensures { λ r. ⌜ toldLeft (buffer (now (out .exit)) r) (now (sorts .exit)) (now (typing .exit)) (now (measure .exit)) (now (choices .exit)) ≡ toldOf (now (list .entry)) (now (out .entry)) (solveEntry (callOn (now (list .entry)) (now (sorts .entry)) (now (typing .entry)) (now (measure .entry)) (now (choices .entry)))) ⌝ }
 {
     let given = count_of(list, 0);
     let exprs = count_of(list, 5);
-    let answer = ask(list, sorts, nodes, binds, scratch, typing, measure, choices);
+    let answer = ask(list, sorts, typing, measure, choices);
     tell(answer, given, exprs, sorts, typing, measure, choices, out)
-}
-
-// Likewise, with outputs of its own.
-fn ask_with_outputs(
-    list: &[u16],
-    sorts: &mut [u16],
-    nodes: &mut [u16],
-    binds: &mut [u16],
-    scratch: &mut [u16],
-    out: &mut [u8],
-) -> usize
-    requires { ⌜ 34048 ≤ length (now list) ⌝ }
-    ensures { λ r. ⌜ held (buffer (now (out .exit)) r) (now (sorts .exit)) (now (nodes .exit)) (now (binds .exit)) (now (scratch .exit)) ≡ (toldOf (now (list .entry)) (now (out .entry)) (solveEntry (callOn (now (list .entry)) (now (sorts .entry)) (now (nodes .entry)) (now (binds .entry)) (now (scratch .entry)) (typingIn (now (list .entry))) (measureIn (now (list .entry))) (choicesIn (now (list .entry)))))) .held ⌝ }
-{
-    let mut typing = [0u16; 1536];
-    let mut measure = [0u16; 256];
-    let mut choices = [0u16; 512];
-    copy(&mut typing, 0, list, 27648, 1536);
-    copy(&mut measure, 0, list, 29184, 256);
-    copy(&mut choices, 0, list, 29440, 512);
-    let typing_end = length_of(list, 8, 1536, 1536);
-    let measure_end = length_of(list, 9, 256, 256);
-    let choices_end = length_of(list, 10, 512, 512);
-    ask_and_tell(
-        list,
-        sorts,
-        nodes,
-        binds,
-        scratch,
-        &mut typing[..typing_end],
-        &mut measure[..measure_end],
-        &mut choices[..choices_end],
-        out,
-    )
 }
 
 // The solver's answer about a list as text, from byte 0 on, as far as the buffer has room; the number of bytes. Ruled out: an answer
@@ -123,23 +121,23 @@ pub fn answer(list: &[u16; 34112], out: &mut [u8]) -> usize
     ensures { λ r. ⌜ buffer (now (out .exit)) r ≡ answerLeft (now (list .entry)) (now (out .entry)) ⌝ }
 {
     let mut sorts = [0u16; 8192];
-    let mut nodes = [0u16; 12288];
-    let mut binds = [0u16; 512];
-    let mut scratch = [0u16; 4096];
+    let mut typing = [0u16; 1536];
+    let mut measure = [0u16; 256];
+    let mut choices = [0u16; 512];
     copy(&mut sorts, 0, list, 0, 8192);
-    copy(&mut nodes, 0, list, 8192, 12288);
-    copy(&mut binds, 0, list, 20480, 512);
-    copy(&mut scratch, 0, list, 29952, 4096);
+    copy(&mut typing, 0, list, 27648, 1536);
+    copy(&mut measure, 0, list, 29184, 256);
+    copy(&mut choices, 0, list, 29440, 512);
     let sorts_end = length_of(list, 0, 8192, 8192);
-    let nodes_end = length_of(list, 1, 12288, 12288);
-    let binds_end = length_of(list, 2, rows_given(list, 4), 512);
-    let scratch_end = length_of(list, 11, 4096, 4096);
-    ask_with_outputs(
+    let typing_end = length_of(list, 8, 1536, 1536);
+    let measure_end = length_of(list, 9, 256, 256);
+    let choices_end = length_of(list, 10, 512, 512);
+    ask_and_tell(
         list,
         &mut sorts[..sorts_end],
-        &mut nodes[..nodes_end],
-        &mut binds[..binds_end],
-        &mut scratch[..scratch_end],
+        &mut typing[..typing_end],
+        &mut measure[..measure_end],
+        &mut choices[..choices_end],
         out,
     )
 }

@@ -21,4 +21,3 @@ pub counts-given : (ws : List ℕ) (n e m d v x k c o s t : ℕ) (k0 : Given)
 counts-given ws n e m d v x k c o s t k0 h e1 e2 e3 e4 e5 e6 e7 e8 e9 e10 e11 =
     h
     ∙ (λ i. record { sorts = e1 i; entries = e2 i; nodes = e3 i; arguments = e4 i; variables = e5 i; exprs = e6 i; names = e7 i; constraints = e8 i; overloads = e9 i; sources = e10 i; default = e11 i })
-
