@@ -11,12 +11,11 @@ use Rattle.inference.specs.declared.Solved.the-variants.{Refused, NoRoom, NoTyp
 use Rattle.inference.specs.SolveChecks.{Call}
 use Rattle.inference.specs.SolveEntry.{Left, solveEntry, codeSolved}
 use Rattle.inference.proofs.ListsLeft.{countsOf, sorts-only-grow}
-use Rattle.solve_checks.specs.declared.Given.{Given}
-use Rattle.solve_finish.specs.Finish.{leftOf}
 use Rattle.verdict_text.specs.Puts.{buffer, puts, Put}
 use Rattle.verdict_text.specs.Text.{verdictLine, newLines, typingText}
-use Rattle.list_asking.specs.Lists.{countOf, givenIn, sortsIn, nodesIn, bindsIn, scratchIn, typingIn, measureIn, choicesIn, callBy, callOn}
-use Rattle.list_answers.specs.Answer.{linesUnder, toldText, Tellable, Asked, Told, asked, told, askedOf, toldOf, answerText, answerLeft}
+use Rattle.list_asking.specs.Lists.{countOf, sortsIn, typingIn, measureIn, choicesIn, callOn}
+use Rattle.list_asked.specs.Asked.{Asked, asked, askedOf}
+use Rattle.list_answers.specs.Answer.{linesUnder, toldText, Tellable, Told, told, toldOf, answerText, answerLeft}
 
 -- by the case of the answer
 module _ (g x : ℕ) (r : Solved) (ss ts ms cs : List ℕ) where
@@ -56,15 +55,7 @@ left-tellable I = go (solveEntry I .answer) refl
     go (Ambiguous k) e = tt
     go (Typing o) e = sorts-only-grow I (o .counts) (ap countsOf e) .checked
 
--- What is left after asking, with the slices that are not told as the list lends them.
-pub asked-alone :
-    (ws ss ns bs xs ts ms cs : List ℕ) (g : Given) → g ≡ givenIn ws → ns ≡ nodesIn ws → bs ≡ bindsIn ws → xs ≡ scratchIn ws
-    → (r : Solved) (ss′ ns′ bs′ xs′ ts′ ms′ cs′ : List ℕ) → leftOf r ss′ ns′ bs′ xs′ ts′ ms′ cs′ ≡ solveEntry (callBy ws g ss ns bs xs ts ms cs)
-    → asked r ss′ ts′ ms′ cs′ ≡ askedOf (solveEntry (callOn ws ss ts ms cs))
-asked-alone ws ss ns bs xs ts ms cs g eg en eb ex r ss′ ns′ bs′ xs′ ts′ ms′ cs′ e =
-    ap askedOf (e ∙ (λ i. solveEntry (callBy ws (eg i) ss (en i) (eb i) (ex i) ts ms cs)))
-
--- and after telling
+-- What is left after asking and telling.
 module _ (I : Call) (r : Solved) (ss ts ms cs : List ℕ) (e : asked r ss ts ms cs ≡ askedOf (solveEntry I)) where
   pub answer-tellable : Tellable r ss
   answer-tellable = subst (λ (A : Asked). Tellable (A .answer) (A .sorts)) (sym e) (left-tellable I)

@@ -32,14 +32,7 @@ Tellable (NoTyping k) ss = Unit {0}
 Tellable (Ambiguous k) ss = Unit {0}
 Tellable (Typing o) ss = Checked ss (o .counts .sorts) (o .counts .entries)
 
--- the slices that are told, as a call leaves them, with its answer; and with the text in the buffer
-pub record Asked : Type 0 where
-  pub answer : Solved
-  pub sorts : List ℕ
-  pub typing : List ℕ
-  pub measure : List ℕ
-  pub choices : List ℕ
-
+-- the text in the buffer, and the slices that are told, as a call leaves them
 pub record Told : Type 0 where
   pub text : Buffer
   pub sorts : List ℕ
@@ -47,14 +40,8 @@ pub record Told : Type 0 where
   pub measure : List ℕ
   pub choices : List ℕ
 
-abbrev pub asked : Solved → (sorts typing measure choices : List ℕ) → Asked
-asked r ss ts ms cs = record { answer = r; sorts = ss; typing = ts; measure = ms; choices = cs }
-
 abbrev pub told : Buffer → (sorts typing measure choices : List ℕ) → Told
 told b ss ts ms cs = record { text = b; sorts = ss; typing = ts; measure = ms; choices = cs }
-
-abbrev pub askedOf : Left → Asked
-askedOf L = asked (L .answer) (L .sorts) (L .typing) (L .measure) (L .choices)
 
 abbrev pub toldOf : List ℕ → List ℕ → Left → Told
 toldOf ws out L = told (puts out 0 (leftText (countOf ws 0) (countOf ws 5) L)) (L .sorts) (L .typing) (L .measure) (L .choices)

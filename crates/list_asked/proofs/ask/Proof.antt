@@ -1,12 +1,12 @@
 -- The slices that are not told are copies of the parts of the list, lent as far as it tells. Assumes nothing.
 use Prim.Native.Nat.{ℕ}
-use Rattle.list_answers.proofs.Telling as law
+use Rattle.list_asked.proofs.Alone as law
 use Rattle.list_asking.proofs.Lists as list
 use lib.ListN.{length-replicate}
 use native.Mathlib.Omega.{arith}
 use borrow.Author.Needs.{needs}
-use Rattle.list_answers.proofs.ask.Statement.{statement}
-use Rattle.list_answers.proofs.ask.Tie as tie
+use Rattle.list_asked.proofs.ask.Statement.{statement}
+use Rattle.list_asked.proofs.ask.Tie as tie
 
 slice-aggregate-copy : tie.Need-slice-aggregate-copy
 slice-aggregate-copy c = search needs
