@@ -1,3 +1,2 @@
--- The laws of asking about a list.
-pub mod Lists
+-- The laws of answers told.
 pub mod Telling

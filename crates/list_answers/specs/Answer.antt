@@ -7,7 +7,7 @@ use Rattle.inference.specs.declared.Solved.the-variants.{Refused, NoRoom, NoTyp
 use Rattle.inference.specs.SolveEntry.{Left, solveEntry, codeSolved}
 use Rattle.verdict_text.specs.Puts.{Buffer, puts}
 use Rattle.verdict_text.specs.Text.{verdictLine, newLines, typingText}
-use Rattle.list_answers.specs.Lists.{countOf, callOn, callIn}
+use Rattle.list_asking.specs.Lists.{countOf, callIn}
 
 -- Under the line of the code: of g sorts and x expressions given, a typing, and the sorts made.
 unfoldable pub linesUnder : ℕ → ℕ → Solved → (sorts typing measure choices : List ℕ) → List ℕ
@@ -32,29 +32,19 @@ Tellable (NoTyping k) ss = Unit {0}
 Tellable (Ambiguous k) ss = Unit {0}
 Tellable (Typing o) ss = Checked ss (o .counts .sorts) (o .counts .entries)
 
--- the text in the buffer, and the slices that a call may change, as it leaves them; and without its outputs
-pub record Held : Type 0 where
+-- the text in the buffer, and the slices that are told, as a call leaves them
+pub record Told : Type 0 where
   pub text : Buffer
   pub sorts : List ℕ
-  pub nodes : List ℕ
-  pub binds : List ℕ
-  pub scratch : List ℕ
-
-pub record Told : Type 0 where
-  pub held : Held
   pub typing : List ℕ
   pub measure : List ℕ
   pub choices : List ℕ
 
-abbrev pub held : Buffer → (sorts nodes binds scratch : List ℕ) → Held
-held b ss ns bs xs = record { text = b; sorts = ss; nodes = ns; binds = bs; scratch = xs }
-
-abbrev pub told : Held → (typing measure choices : List ℕ) → Told
-told h ts ms cs = record { held = h; typing = ts; measure = ms; choices = cs }
+abbrev pub told : Buffer → (sorts typing measure choices : List ℕ) → Told
+told b ss ts ms cs = record { text = b; sorts = ss; typing = ts; measure = ms; choices = cs }
 
 abbrev pub toldOf : List ℕ → List ℕ → Left → Told
-toldOf ws out L =
-    told (held (puts out 0 (leftText (countOf ws 0) (countOf ws 5) L)) (L .sorts) (L .nodes) (L .binds) (L .scratch)) (L .typing) (L .measure) (L .choices)
+toldOf ws out L = told (puts out 0 (leftText (countOf ws 0) (countOf ws 5) L)) (L .sorts) (L .typing) (L .measure) (L .choices)
 
 -- The answer about a list, from byte 0 on; what finds no room is lost.
 unfoldable pub answerText : List ℕ → List ℕ

@@ -12,7 +12,7 @@ use Rattle.list_memory.specs.declared.Heard.the-variants.{Quiet, Begins, Asks, 
 use Rattle.list_memory.specs.Memory.{Taken, taken}
 use Rattle.list_tokens.specs.Words.{bytesOf}
 use Rattle.list_messages.specs.Messages.{badText}
-use Rattle.list_reader.specs.Reading.{lineTaken}
+use Rattle.list_reader.specs.Taking.{lineTaken}
 use Rattle.list_answers.specs.Answer.{answerText, answerLeft}
 use Rattle.verdict_text.specs.Puts.{Buffer, buffer, puts, Put}
 use Rattle.verdict_text.proofs.Puts.{put-none, put-as, put-then}

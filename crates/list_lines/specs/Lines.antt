@@ -9,7 +9,7 @@ use Rattle.list_memory.specs.declared.Heard.the-variants.{Quiet, Begins, Asks, 
 use Rattle.list_memory.specs.Memory.{stageAt, Taken}
 use Rattle.list_tokens.specs.Words.{bytesOf}
 use Rattle.list_messages.specs.Messages.{badText}
-use Rattle.list_reader.specs.Reading.{lineTaken}
+use Rattle.list_reader.specs.Taking.{lineTaken}
 use Rattle.list_answers.specs.Answer.{answerText}
 use Rattle.verdict_text.specs.Puts.{Buffer, puts}
 use Rattle.list_lines.specs.declared.Said.{Said}

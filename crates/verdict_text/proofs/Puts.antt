@@ -4,10 +4,11 @@ use mathlib.Core.Bool.{cond}
 use mathlib.Core.List.{List, [], _∷_, _++_}
 use Prim.Native.Nat.{ℕ, zero, suc, _+_, _-_, _/_, _%_, _<_, _≤_}
 use native.Mathlib.Omega.{arith}
+use native.Mathlib.Nat.{add-zero}
 use native.Mathlib.Numerals.{add-one}
 use lib.Dec.{ltb}
-use lib.ListN.{length, getD, drop, set, drop-of-length-le}
-use lib.Seq.{set-out, drop-cons}
+use lib.ListN.{length, getD, drop, set, length-set, drop-of-length-le}
+use lib.Seq.{sets, set-out, drop-cons}
 use borrow.Author.Tests.{lt-ltb, le-ltb}
 use Rattle.verdict_text.specs.Puts.{Buffer, buffer, puts, Put}
 use Rattle.verdict_text.specs.Text.{digit, rowsText}
@@ -77,3 +78,12 @@ module _ (row : ℕ → List ℕ) (n : ℕ) (whole : Buffer) (out : List ℕ) (a
   pub all-rows : whole ≡ puts out at (rowsText row (n - i) i) → n ≤ i → buffer out at ≡ whole
   unfolding puts rowsText
   all-rows e h = let z : n - i ≡ 0 = omega arith in sym (e ∙ rw z)
+
+-- Bytes that have room stand whole in the buffer, and the place is behind them.
+pub whole-where-room : (out : List ℕ) (at : ℕ) (bs : List ℕ) → at + length bs ≤ length out → puts out at bs ≡ buffer (sets out at bs) (at + length bs)
+unfolding puts
+whole-where-room out at [] h = ap (buffer out) (sym (add-zero at))
+whole-where-room out at (b ∷ bs) h =
+    rw (lt-ltb at (length out) (omega arith))
+    (whole-where-room (set out at b) (at + 1) bs (omega (arith, h, length-set out at b))
+    ∙ ap₂ buffer (ap (λ (k : ℕ). sets (set out at b) k bs) (add-one at)) (omega arith))

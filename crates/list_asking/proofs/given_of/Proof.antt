@@ -1,9 +1,9 @@
 -- Each count by its call. Assumes nothing.
-use Rattle.list_answers.proofs.Telling as law
+use Rattle.list_asking.proofs.Asked as law
 use mathlib.Core.Path.{refl}
 use borrow.Author.Needs.{needs}
-use Rattle.list_answers.proofs.given_of.Statement.{statement}
-use Rattle.list_answers.proofs.given_of.Tie as tie
+use Rattle.list_asking.proofs.given_of.Statement.{statement}
+use Rattle.list_asking.proofs.given_of.Tie as tie
 
 count-of-requires : tie.Need-count-of-requires
 count-of-requires c κs = search needs

@@ -1,8 +1,8 @@
 -- By the flag. Assumes nothing.
-use Rattle.list_answers.proofs.Lists as law
+use Rattle.list_asking.proofs.Lists as law
 use borrow.Author.Needs.{needs}
-use Rattle.list_answers.proofs.count_of.Statement.{statement}
-use Rattle.list_answers.proofs.count_of.Tie as tie
+use Rattle.list_asking.proofs.count_of.Statement.{statement}
+use Rattle.list_asking.proofs.count_of.Tie as tie
 
 add-word : tie.Need-add-word
 add-word c = search needs

@@ -41,10 +41,10 @@ module _ (ws : List ℕ) where
   nodesIn = lent ws 8192 1 12288 12288
 
   abbrev pub bindsIn : List ℕ
-  bindsIn = lent ws 20480 2 (rowsGiven ws 4) 512
+  bindsIn = lent ws 20480 2 (1 * rowsGiven ws 4) 512
 
   abbrev pub exprsIn : List ℕ
-  exprsIn = lent ws 20992 3 (rowsGiven ws 5) 512
+  exprsIn = lent ws 20992 3 (1 * rowsGiven ws 5) 512
 
   abbrev pub namesIn : List ℕ
   namesIn = lent ws 21504 4 (3 * rowsGiven ws 6) 1536
@@ -56,7 +56,7 @@ module _ (ws : List ℕ) where
   overloadsIn = lent ws 24320 6 (3 * rowsGiven ws 8) 3072
 
   abbrev pub sourcesIn : List ℕ
-  sourcesIn = lent ws 27392 7 (rowsGiven ws 9) 256
+  sourcesIn = lent ws 27392 7 (1 * rowsGiven ws 9) 256
 
   abbrev pub typingIn : List ℕ
   typingIn = lent ws 27648 9 1536 1536
@@ -86,10 +86,12 @@ module _ (ws : List ℕ) where
         default = defaultIn ws;
       }
 
-  -- the call, with the slices that it may change
-  abbrev pub callOn : (sorts nodes binds scratch typing measure choices : List ℕ) → Call
-  callOn ss ns bs xs ts ms cs =
-      callWith givenIn ss ns bs exprsIn namesIn constraintsIn overloadsIn sourcesIn xs ts ms cs
+  -- the call with these counts and the slices that it may change, and the call as the list tells it
+  abbrev pub callBy : Given → (sorts nodes binds scratch typing measure choices : List ℕ) → Call
+  callBy g ss ns bs xs ts ms cs = callWith g ss ns bs exprsIn namesIn constraintsIn overloadsIn sourcesIn xs ts ms cs
+
+  abbrev pub callOn : (sorts typing measure choices : List ℕ) → Call
+  callOn ss ts ms cs = callBy givenIn ss nodesIn bindsIn scratchIn ts ms cs
 
   abbrev pub callIn : Call
-  callIn = callOn sortsIn nodesIn bindsIn scratchIn typingIn measureIn choicesIn
+  callIn = callOn sortsIn typingIn measureIn choicesIn

@@ -1,9 +1,9 @@
 -- By the test. Assumes nothing.
-use Rattle.list_answers.proofs.Lists as law
+use Rattle.list_asking.proofs.Lists as law
 use native.Mathlib.Omega.{arith}
 use borrow.Author.Needs.{needs}
-use Rattle.list_answers.proofs.length_of.Statement.{statement}
-use Rattle.list_answers.proofs.length_of.Tie as tie
+use Rattle.list_asking.proofs.length_of.Statement.{statement}
+use Rattle.list_asking.proofs.length_of.Tie as tie
 
 told-or-requires : tie.Need-told-or-requires
 told-or-requires c κs = search needs

@@ -1,14 +1,18 @@
 -- Slices of a list lent at the told lengths. Assumes nothing.
 use mathlib.Core.Path.{_≡_, refl, sym, _∙_, ap}
 use mathlib.Core.List.{List}
-use Prim.Native.Nat.{ℕ, _+_, _-_, _≤_, _<_}
+use Prim.Native.Nat.{ℕ, _+_, _-_, _*_, _≤_, _<_}
+use native.Mathlib.Nat.{mul-le-mul}
 use native.Mathlib.Omega.{arith}
 use lib.ListN.{length, getD, take, drop}
 use lib.Seq.{sets, length-take-le, take-take}
 use borrow.Author.Tests.{eq-eqb, ne-eqb, lt-ltb, le-ltb}
 use Rattle.search_state.specs.Memory.{part}
 use Rattle.problem_words.proofs.Wholes.{part-length, copied-out}
-use Rattle.list_answers.specs.Lists.{rowsGiven, countOf, toldOr, lengthOf, lent}
+use Rattle.list_asking.specs.Lists.{rowsGiven, countOf, toldOr, lengthOf, lent}
+
+pub few-words : (width rows : ℕ) → width ≤ 5 → rows ≤ 65535 → width * rows ≤ 327675
+few-words width rows h k = mul-le-mul h k
 
 module _ (ws : List ℕ) where
   pub told-count : (k f t : ℕ) → f ≡ getD ws (34069 + k) 0 → t ≡ getD ws (34059 + k) 0 → f ≡ 1 → t ≡ countOf ws k
@@ -36,9 +40,13 @@ module _ (ws : List ℕ) where
   below-the-top j n top t e h = let z : toldOr ws j n ≤ top = omega arith in rw (le-ltb top (toldOr ws j n) z) e
 
   -- a part from `start` on, as long as lent
-  pub part-lent : (start j n top m end : ℕ) → m ≡ lengthOf ws j n top → end ≡ start + m → take (end - start) (drop start ws) ≡ lent ws start j n top
+  pub part-lent :
+      (start j k width top rows m end : ℕ) → rows ≡ rowsGiven ws k → m ≡ lengthOf ws j (width * rows) top → end ≡ start + m
+      → take (end - start) (drop start ws) ≡ lent ws start j (width * rowsGiven ws k) top
   unfolding lent
-  part-lent start j n top m end e g = let z : end - start ≡ m = omega arith in ap (λ (k : ℕ). take k (drop start ws)) (z ∙ e)
+  part-lent start j k width top rows m end h e g =
+      let z : end - start ≡ m = omega arith in
+      ap (λ (n : ℕ). take n (drop start ws)) (z ∙ (e ∙ ap (λ (r : ℕ). lengthOf ws j (width * r) top) h))
 
 -- a copy of a whole slice, and its first words
 module _ (ws : List ℕ) (start top : ℕ) (old xs : List ℕ) (room : start + top ≤ length ws) (l : length old ≡ top) (e : xs ≡ sets old 0 (part start top ws)) where
@@ -54,3 +62,6 @@ module _ (ws : List ℕ) (start top : ℕ) (old xs : List ℕ) (room : start + t
   pub front-lent : (j n m : ℕ) → m ≡ lengthOf ws j n top → m ≤ top → take m xs ≡ lent ws start j n top
   unfolding lent
   front-lent j n m g h = ap (take m) copied ∙ (take-take m top (drop start ws) h ∙ ap (λ (k : ℕ). take k (drop start ws)) g)
+
+pub rows-lent : (ws xs : List ℕ) (start j k top n : ℕ) → xs ≡ lent ws start j n top → n ≡ rowsGiven ws k → xs ≡ lent ws start j (1 * rowsGiven ws k) top
+rows-lent ws xs start j k top n e h = e ∙ ap (λ (m : ℕ). lent ws start j m top) (let z : n ≡ 1 * rowsGiven ws k = omega (arith, h) in z)

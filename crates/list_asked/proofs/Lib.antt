@@ -1,0 +1,2 @@
+-- The law of asking with copies.
+pub mod Alone

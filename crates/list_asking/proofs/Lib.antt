@@ -1,0 +1,3 @@
+-- The laws of asking about a list.
+pub mod Lists
+pub mod Asked
