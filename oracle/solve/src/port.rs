@@ -1,14 +1,14 @@
 //! The entries of the port's library, or the stand-in. A slice passes as pointer and length.
 
+#[cfg(not(feature = "stand-in"))]
 use common::guard::GUARD;
 use lists::memory::Memory;
 
 use crate::call::Lent;
+#[cfg(not(feature = "stand-in"))]
 use crate::call::Slice;
 use crate::fault::Fault;
 use crate::stand_in;
-#[cfg(feature = "stand-in")]
-use crate::stand_in::sort_solve;
 
 #[cfg(not(feature = "stand-in"))]
 unsafe extern "C" {
@@ -67,11 +67,17 @@ impl Port {
     pub fn ask(self, lent: &mut Lent, memory: &Memory) -> u64 {
         match self {
             Port::Library => library(lent, memory),
-            Port::Wrong(fault) => stand_in::wrong(fault, lent, memory),
+            Port::Wrong(fault) => stand_in::ask(Some(fault), lent, memory),
         }
     }
 }
 
+#[cfg(feature = "stand-in")]
+fn library(lent: &mut Lent, memory: &Memory) -> u64 {
+    stand_in::ask(None, lent, memory)
+}
+
+#[cfg(not(feature = "stand-in"))]
 fn library(lent: &mut Lent, memory: &Memory) -> u64 {
     let length = |slice: Slice| lent.slices[slice as usize].len() - 2 * GUARD;
     let lengths = Slice::ALL.map(|(slice, _)| length(slice));
