@@ -1,12 +1,14 @@
 #!/bin/bash
-# Compares the port's solver with the excerpt of merc, both builds: the answer, the typing, the measure, the choices, the
-# sorts that are kept, and all lent memory. Before that it shows that the comparison can fail: wrong stand-ins must be
-# found. The library is proved and built first where it is not there or older than its crates.
+# Compares both entries of the port's solver, over words and over overload records, with the excerpt of merc, both builds:
+# the answer, the typing, the measure, the choices, the sorts that are kept, and all lent memory. Before that it shows
+# that the comparison can fail: wrong stand-ins must be found. Libraries are proved and built first where they
+# are not there or older than their crates.
 # usage: compare_solve.sh [--stand-in] [--questions N] [--seed N]
 #   --stand-in     asks the stand-in of solve/src/stand_in.rs in place of the port's library
-#   --questions N  lists in all, each asked once (default 1000000)
+#   --questions N  lists in all, each put to both entries (default 1000000)
 #   --seed N       seed of the random numbers (default 7)
-layer=solve crate=solve_entries counted=lists limit=--count whole=1000
+layer=solve counted=lists limit=--count whole=1000
+crates=(solve_entries solve_records)
 shares=(small 250 few 120 solve 120 join 90 choice 90 dropped 100 edge 80 short 40 damaged 70 words 34 full 3 large 2 deep 1)
 . "$(dirname "$0")/comparison.sh"
 

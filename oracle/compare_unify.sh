@@ -6,7 +6,8 @@
 #   --stand-in     asks the stand-in of unify/src/stand_in.rs in place of the port's library
 #   --questions N  questions in all (default 1000000)
 #   --seed N       seed of the random numbers (default 7)
-layer=unify crate=unify_entries counted=questions limit=--questions whole=100
+layer=unify counted=questions limit=--questions whole=100
+crates=(unify_entries)
 shares=(small 15 mixed 25 tangled 15 wide 10 chains 10 deep 8 many 2 full 1 damaged 9 words 5)
 . "$(dirname "$0")/comparison.sh"
 

@@ -1,6 +1,6 @@
 # What compare_unify.sh and compare_solve.sh share; they source it. Theirs to say first:
 #   layer    the package, which names its programs too: unify or solve
-#   crate    the crate of the port whose library is asked
+#   crates   the crates of the port whose libraries are asked
 #   counted  what is counted, questions or lists, and the option that says how many: `limit`
 #   shares   each class and its share, in parts of `whole`. What a class does not use up is the next one's
 set -euo pipefail
@@ -24,7 +24,18 @@ stands_on() {
     done
 }
 
-# Reads the options, and builds what is compared: the port's library where it is not there or older than its crates.
+# The library of a crate is proved and built where it is not there or older than a crate that it stands on.
+prove() {
+    local library=../target/staticlib/lib$1.a sources=() name
+    grep -q "^$1:" ../crates.txt || fail "crates.txt has no $1; --stand-in asks the stand-in"
+    for name in $(stands_on "$1"); do [ ! -d "../crates/$name" ] || sources+=("../crates/$name"); done
+    if [ ! -f "$library" ] || [ -n "$(find "${sources[@]}" -newer "$library" -print -quit)" ]; then
+        step "the proved library $1"
+        (cd .. && rt staticlib "$1")
+    fi
+}
+
+# Reads the options, and builds what is compared.
 begin() {
     local usage="usage: compare_$layer.sh [--stand-in] [--questions N] [--seed N]"
     while [ $# -gt 0 ]; do
@@ -36,15 +47,7 @@ begin() {
         esac
         shift
     done
-    if [ ${#features[@]} = 0 ]; then
-        local library=../target/staticlib/lib$crate.a sources=() name
-        grep -q "^$crate:" ../crates.txt || fail "crates.txt has no $crate; --stand-in asks the stand-in"
-        for name in $(stands_on "$crate"); do [ ! -d "../crates/$name" ] || sources+=("../crates/$name"); done
-        if [ ! -f "$library" ] || [ -n "$(find "${sources[@]}" -newer "$library" -print -quit)" ]; then
-            step "the proved library"
-            (cd .. && rt staticlib "$crate")
-        fi
-    fi
+    [ ${#features[@]} -gt 0 ] || for crate in "${crates[@]}"; do prove "$crate"; done
     step "build"
     ./setup.sh
     cargo build --release --offline --quiet -p "$layer" "${features[@]}"

@@ -21,6 +21,7 @@ use solve::call::Slice;
 use solve::cases::Timed;
 use solve::expected::Expected;
 use solve::expected::Outcome;
+use solve::port::Entry;
 use solve::port::LIBRARY;
 use solve::port::Port;
 
@@ -104,7 +105,7 @@ fn row(times: &[Times]) -> String {
 fn list(clock: &Clock, call: &Call, repeats: usize) -> Times {
     let port = |call: &Call| {
         let given = Lent::new(call);
-        clock.time(repeats, || given.clone(), |lent| Port::Library.ask(lent, &call.memory))
+        clock.time(repeats, || given.clone(), |lent| Port::Library(Entry::Words).ask(lent, &call.memory))
     };
     let mut short = call.clone();
     short.lend(Slice::Scratch, SCRATCH - 1, 0);

@@ -117,9 +117,10 @@ fn given(memory: &Memory) -> String {
     text += &lines('S', 0, ENTRIES_AT, &memory.sorts[ENTRIES_AT..][..memory.entry_count], true);
     text += &lines('S', 1, 0, &memory.nodes[..ROW * memory.node_count], true);
     text += &lines('S', 1, NODE_ENTRIES_AT, &memory.nodes[NODE_ENTRIES_AT..][..memory.node_entry_count], true);
-    for (slice, words) in [&memory.bindings, &memory.exprs, &memory.names, &memory.constraints, &memory.overloads, &memory.sources]
-        .into_iter()
-        .enumerate()
+    for (slice, words) in
+        [&memory.bindings, &memory.exprs, &memory.names, &memory.constraints, &memory.overloads, &memory.sources]
+            .into_iter()
+            .enumerate()
     {
         text += &lines('S', 2 + slice, 0, words, true);
     }
@@ -148,7 +149,13 @@ fn answered(memory: Memory, expected: &Expected) -> String {
     if let Outcome::Searched { .. } = expected.outcome {
         let (kept, kept_entries) = ((packed >> 8 & 0xffff) as usize, (packed >> 24 & 0xffff) as usize);
         text += &lines('X', 0, ROW * rows, &call.memory.sorts[ROW * rows..ROW * kept], false);
-        text += &lines('X', 0, ENTRIES_AT + entries, &call.memory.sorts[ENTRIES_AT + entries..ENTRIES_AT + kept_entries], false);
+        text += &lines(
+            'X',
+            0,
+            ENTRIES_AT + entries,
+            &call.memory.sorts[ENTRIES_AT + entries..ENTRIES_AT + kept_entries],
+            false,
+        );
     }
     if expected.code() == 0 {
         for (slice, words) in [&call.typing, &call.measure, &call.choices].into_iter().enumerate() {
