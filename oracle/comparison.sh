@@ -1,15 +1,15 @@
-# What compare_unify.sh and compare_solve.sh share; they source it. Theirs to say first:
+# What compare_unify.sh and compare_solve.sh share, and in part bench/run.sh; they source it. Theirs to say first:
 #   layer    the package, which names its programs too: unify or solve
 #   crates   the crates of the port whose libraries are asked
 #   counted  what is counted, questions or lists, and the option that says how many: `limit`
 #   shares   each class and its share, in parts of `whole`. What a class does not use up is the next one's
 set -euo pipefail
-cd "$(dirname "$0")"
+cd "$(dirname "${BASH_SOURCE[0]}")"
 questions=1000000
 seed=7
 features=()
 
-fail() { echo "compare_$layer: $1" >&2; exit "${2:-1}"; }
+fail() { echo "${0##*/}: $1" >&2; exit "${2:-1}"; }
 step() { echo "== $1"; }
 
 # The crates that a crate stands on, itself included.

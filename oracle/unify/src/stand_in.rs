@@ -20,7 +20,9 @@ pub fn ask(fault: Option<Fault>, lent: &mut Lent, memory: &Memory, lhs: u16, rhs
         Some(Fault::SortWord) if !refused => lent.sorts[GUARD + 1] ^= 1,
         Some(Fault::NodeWord) => *lent.nodes.iter_mut().rev().nth(GUARD).expect("there are guard words") ^= 1,
         Some(Fault::GuardBeforeBindings) => lent.bindings[bindings.start - 1] ^= 1,
-        Some(Fault::GuardAfterNodes) => *lent.nodes.iter_mut().rev().nth(GUARD - 1).expect("there are guard words") ^= 1,
+        Some(Fault::GuardAfterNodes) => {
+            *lent.nodes.iter_mut().rev().nth(GUARD - 1).expect("there are guard words") ^= 1
+        }
         _ => {}
     }
     answer
