@@ -37,7 +37,8 @@ pub fn ask(fault: Option<Fault>, lent: &mut Lent, memory: &Memory) -> u64 {
         measure: between_guards(measure),
         choices: between_guards(choices),
     };
-    let answer = answer(fault, memory, &mut written);
+    let misread = fault.and_then(|fault| misread(fault, memory));
+    let answer = answer(fault, misread.as_ref().unwrap_or(memory), &mut written);
     let refused = (1..256).contains(&answer) && answer != 15 && answer != 16;
     match fault {
         Some(Fault::Changed(slice)) if !refused => change_last(lent.words_mut(slice)),
@@ -51,6 +52,18 @@ pub fn ask(fault: Option<Fault>, lent: &mut Lent, memory: &Memory) -> u64 {
         _ => {}
     }
     answer
+}
+
+/// The lists as an entry over records reads them that takes the wrong words for a record.
+fn misread(fault: Fault, memory: &Memory) -> Option<Memory> {
+    let mut read = memory.clone();
+    match fault {
+        Fault::RecordSortFirst => read.overloads.chunks_exact_mut(OVERLOAD).for_each(|row| row.swap(0, 1)),
+        Fault::RecordsTo1023 => read.overloads.iter_mut().skip(OVERLOAD * 1_023).for_each(|word| *word = 0),
+        Fault::RecordsByWord => read.overloads.resize(OVERLOAD * memory.overloads.len(), 0),
+        _ => return None,
+    }
+    Some(read)
 }
 
 fn change_last(words: &mut [u16]) {
