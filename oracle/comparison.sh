@@ -1,4 +1,5 @@
-# What compare_unify.sh and compare_solve.sh share, and in part bench/run.sh; they source it. Theirs to say first:
+# What compare_unify.sh and compare_solve.sh share, and in part compare.sh and bench/run.sh; they source it. Theirs to say
+# first:
 #   layer    the package, which names its programs too: unify or solve
 #   crates   the crates of the port whose libraries are asked
 #   counted  what is counted, questions or lists, and the option that says how many: `limit`
