@@ -58,16 +58,24 @@ pub enum Place {
 const FIRST_NODE: u16 = 1_024;
 
 /// A word that names no sort and, as there are at most 2,048, no node. It is not the word of a free variable.
-const NOWHERE: u16 = 65_534;
+const NOWHERE: u16 = FREE - 1;
+
+/// The binding of a free variable.
+pub(crate) const FREE: u16 = 65_535;
 
 impl Place {
     /// The place as one word. A number that no list can have becomes a word that names nothing.
     pub(crate) fn word(self) -> u16 {
         match self {
             Place::Sort(SortId(sort)) if sort < FIRST_NODE => sort,
-            Place::Node(NodeId(node)) if node < NOWHERE - FIRST_NODE => FIRST_NODE + node,
-            Place::Sort(_) | Place::Node(_) => NOWHERE,
+            Place::Node(NodeId(node)) => FIRST_NODE.checked_add(node).unwrap_or(NOWHERE),
+            Place::Sort(_) => NOWHERE,
         }
+    }
+
+    /// The place as a binding, which does not say that the variable is free.
+    pub(crate) fn binding(self) -> u16 {
+        self.word().min(NOWHERE)
     }
 
     /// The place that a word names.
@@ -142,10 +150,12 @@ mod tests {
         assert_eq!(Place::Sort(SortId(1_024)).word(), NOWHERE);
         assert_eq!(Place::Node(NodeId(64_509)).word(), 65_533);
         assert_eq!(Place::Node(NodeId(64_510)).word(), NOWHERE);
-        assert_eq!(Place::Node(NodeId(64_511)).word(), NOWHERE);
+        assert_eq!(Place::Node(NodeId(64_511)).word(), 65_535);
+        assert_eq!(Place::Node(NodeId(64_511)).binding(), NOWHERE);
+        assert_eq!(Place::Node(NodeId(64_512)).word(), NOWHERE);
         assert_eq!(Place::Node(NodeId(u16::MAX)).word(), NOWHERE);
         assert_eq!(Place::Sort(SortId(u16::MAX)).word(), NOWHERE);
-        for word in [0, 5, 1_023, 1_024, 3_071, 65_533] {
+        for word in [0, 5, 1_023, 1_024, 3_071, 65_533, 65_535] {
             assert_eq!(Place::of(word).word(), word);
         }
     }

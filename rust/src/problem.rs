@@ -13,12 +13,10 @@ use crate::Sort;
 use crate::SortId;
 use crate::SortVar;
 use crate::call::OverloadRecord;
+use crate::numbers::FREE;
 use crate::numbers::word;
 use crate::sort::Row;
 use crate::sort::SortList;
-
-/// The binding of a free variable.
-pub(crate) const FREE: u16 = 65_535;
 
 /// What merc's `Solver` is handed. It has the fixed six sorts from the start, and the default sort Bool.
 ///
@@ -169,7 +167,7 @@ impl Problem {
     /// [Refusal::BadBinding].
     pub fn bind(&mut self, var: SortVar, place: impl Into<Place>) -> Result<(), Refusal> {
         let binding = self.bindings.get_mut(usize::from(var.0)).ok_or(Refusal::BadBinding)?;
-        *binding = place.into().word();
+        *binding = place.into().binding();
         Ok(())
     }
 

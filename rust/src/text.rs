@@ -10,7 +10,7 @@ use crate::Problem;
 use crate::Sort;
 use crate::SortId;
 use crate::SortVar;
-use crate::problem::FREE;
+use crate::numbers::FREE;
 use crate::sort::ComplexSort;
 use crate::sort::kind;
 
