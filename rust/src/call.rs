@@ -142,3 +142,6 @@ pub(crate) fn solve(lent: Lent<'_>) -> u64 {
         )
     }
 }
+
+#[cfg(test)]
+mod tests;

@@ -27,6 +27,9 @@
 //! so is what is too long.
 //!
 //! **Time.** The search is merc's and takes as long as merc's: it can be exponential in the number of constraints.
+//!
+//! **Stack.** The search calls itself. Up to 1 MB of the caller's stack is used; a problem that may take more, such as one
+//! of 200 constraints, runs in a thread of its own.
 
 #![deny(unsafe_op_in_unsafe_fn)]
 #![warn(missing_docs)]
@@ -37,6 +40,7 @@ mod numbers;
 mod problem;
 mod refusal;
 mod sort;
+mod stack;
 mod text;
 mod typing;
 mod workspace;

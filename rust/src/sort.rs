@@ -171,10 +171,21 @@ impl Node<'_> {
 pub(crate) struct SortList {
     pub(crate) rows: Vec<Row>,
     pub(crate) entries: Vec<SortId>,
+    /// How deep each sort is nested, and the deepest.
+    depths: Vec<usize>,
+    pub(crate) deepest: usize,
 }
 
 impl SortList {
     pub(crate) fn push(&mut self, sort: Sort<'_>) {
+        let depth = |part: &SortId| self.depths.get(usize::from(part.0)).map_or(0, |depth| depth + 1);
+        let depth = match sort {
+            Sort::Container { subsort, .. } => depth(&subsort),
+            Sort::Function { domain, range } => domain.iter().map(depth).fold(depth(&range), usize::max),
+            _ => 0,
+        };
+        self.depths.push(depth);
+        self.deepest = self.deepest.max(depth);
         self.rows.push(sort.row(self.entries.len()));
         if let Sort::Function { domain, .. } = sort {
             self.entries.extend_from_slice(domain);
@@ -184,28 +195,30 @@ impl SortList {
     pub(crate) fn get(&self, index: usize) -> Option<Sort<'_>> {
         Sort::of(*self.rows.get(index)?, &self.entries)
     }
-
-    pub(crate) fn clear(&mut self) {
-        self.rows.clear();
-        self.entries.clear();
-    }
 }
 
 /// The sorts that a search made, in order of making, each with its number. Their parts are sorts of the problem's list
 /// or of these.
 #[derive(Clone, Copy, Debug)]
 pub struct NewSorts<'a> {
-    pub(crate) list: &'a SortList,
-    pub(crate) first: usize,
+    pub(crate) list: &'a Made,
     pub(crate) next: usize,
+}
+
+/// Rows and arguments that a search made, after those of a list of `given` sorts.
+#[derive(Clone, Debug, Default)]
+pub(crate) struct Made {
+    pub(crate) given: usize,
+    pub(crate) rows: Vec<Row>,
+    pub(crate) entries: Vec<SortId>,
 }
 
 impl<'a> Iterator for NewSorts<'a> {
     type Item = (SortId, Sort<'a>);
 
     fn next(&mut self) -> Option<(SortId, Sort<'a>)> {
-        let sort = self.list.get(self.next)?;
-        let number = SortId(word(self.first + self.next));
+        let sort = Sort::of(*self.list.rows.get(self.next)?, &self.list.entries)?;
+        let number = SortId(word(self.list.given + self.next));
         self.next += 1;
         Some((number, sort))
     }

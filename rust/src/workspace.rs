@@ -7,8 +7,9 @@ use crate::SortId;
 use crate::Typing;
 use crate::call;
 use crate::call::Lent;
+use crate::sort::Made;
 use crate::sort::Row;
-use crate::sort::SortList;
+use crate::stack;
 
 const MAX_SORTS: usize = 1_024;
 const MAX_NODES: usize = 2_048;
@@ -23,7 +24,8 @@ const SCRATCH: usize = 4_096;
 const ENTRIES_AT: usize = 4 * MAX_SORTS;
 const NODE_ENTRIES_AT: usize = 4 * MAX_NODES;
 
-/// The memory that the library is lent, at its full ceilings: 62 kB. [Workspace::solve] allocates nothing.
+/// The memory that the library is lent, at its full ceilings: 67 kB. [Workspace::solve] allocates nothing, but for a
+/// problem so large that the stack of a thread might not do: that one runs in a thread of its own with more.
 ///
 /// ```
 /// use julqetai::{Problem, Refusal, SortId, Workspace};
@@ -45,9 +47,8 @@ pub struct Workspace {
     typing: Box<[[u16; 3]]>,
     measure: Box<[u16]>,
     choices: Box<[[u16; 2]]>,
-    /// The sorts that the last search made, and how many its problem had.
-    new: SortList,
-    given: usize,
+    /// The sorts that the last search made.
+    new: Made,
 }
 
 impl Default for Workspace {
@@ -94,8 +95,7 @@ impl Workspace {
             typing: vec![[0; 3]; MAX_EXPRESSIONS].into_boxed_slice(),
             measure: words(MAX_COMPONENTS),
             choices: vec![[0; 2]; MAX_CONSTRAINTS].into_boxed_slice(),
-            new: SortList { rows: Vec::with_capacity(MAX_SORTS), entries: Vec::with_capacity(MAX_ENTRIES) },
-            given: 0,
+            new: Made { given: 0, rows: Vec::with_capacity(MAX_SORTS), entries: Vec::with_capacity(MAX_ENTRIES) },
         }
     }
 
@@ -153,7 +153,7 @@ impl Workspace {
     /// The sorts that the last search made, also if it ended with [Refusal::NoTyping] or [Refusal::Ambiguous]. After
     /// any other refusal there are none.
     pub fn new_sorts(&self) -> NewSorts<'_> {
-        NewSorts { list: &self.new, first: self.given, next: 0 }
+        NewSorts { list: &self.new, next: 0 }
     }
 
     fn ask(&mut self, problem: &Problem) -> Answer {
@@ -161,7 +161,7 @@ impl Workspace {
         put(&mut self.nodes, NODE_ENTRIES_AT, &problem.nodes, problem.node_entries.iter().copied());
         let variables = problem.bindings.len().min(MAX_VARIABLES);
         self.binds[..variables].copy_from_slice(&problem.bindings[..variables]);
-        let answer = Answer(call::solve(Lent {
+        let lent = Lent {
             sorts: &mut self.sorts,
             sort_count: problem.sorts.rows.len(),
             entry_count: problem.sorts.entries.len(),
@@ -185,21 +185,23 @@ impl Workspace {
             typing: self.typing.as_flattened_mut(),
             measure: &mut self.measure,
             choices: self.choices.as_flattened_mut(),
-        }));
+        };
+        let answer = Answer(stack::call(problem, || call::solve(lent)));
         self.read_new(problem, &answer);
         answer
     }
 
     /// Reads the rows and arguments past those of the problem.
     fn read_new(&mut self, problem: &Problem, answer: &Answer) {
-        self.new.clear();
-        self.given = problem.sorts.rows.len();
+        self.new.rows.clear();
+        self.new.entries.clear();
+        self.new.given = problem.sorts.rows.len();
         if !matches!(answer.code(), 0 | 17 | 18) {
             return;
         }
         let (sorts, entries) = answer.kept();
         let given_entries = problem.sorts.entries.len();
-        for row in self.sorts[4 * self.given..4 * sorts].chunks_exact(4) {
+        for row in self.sorts[4 * self.new.given..4 * sorts].chunks_exact(4) {
             // A run counts from the first argument of the list; here the given ones are left out.
             let start = usize::from(row[2]).saturating_sub(given_entries);
             self.new.rows.push([row[0], row[1], start as u16, row[3]]);
