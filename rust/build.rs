@@ -11,6 +11,7 @@ fn main() {
         Some(folder) => PathBuf::from(folder),
         None => PathBuf::from(env!("CARGO_MANIFEST_DIR")).join("../target/staticlib"),
     };
+    let folder = folder.canonicalize().unwrap_or(folder);
     let library = folder.join("libsolve_records.a");
     println!("cargo:rerun-if-changed={}", library.display());
     if !library.exists() {

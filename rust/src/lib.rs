@@ -63,3 +63,8 @@ pub use sort::Sort;
 pub use typing::Choice;
 pub use typing::Typing;
 pub use workspace::Workspace;
+
+/// The code of README.md, tested.
+#[cfg(doctest)]
+#[doc = include_str!("../README.md")]
+struct Readme;

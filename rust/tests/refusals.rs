@@ -46,7 +46,8 @@ fn codes_and_words() {
 #[test]
 fn too_many() {
     let function = |count: usize| vec![SortId::BOOL; count];
-    let adders: [(&str, usize, fn(&mut Problem, usize)); 7] = [
+    type Add = fn(&mut Problem, usize);
+    let adders: [(&str, usize, Add); 7] = [
         ("sorts", 1_018, |problem, index| _ = problem.add_sort(Sort::Def(index as u16))),
         ("nodes", 2_048, |problem, _| {
             problem.add_node(Node::Generic { op: ComplexSort::List, subsort: SortId::BOOL.into() });

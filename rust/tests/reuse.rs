@@ -126,6 +126,15 @@ fn problems_over_the_same_sorts() -> Result<(), Refusal> {
     Ok(())
 }
 
+#[test]
+fn threads_may_share() {
+    fn check<T: Send + Sync>() {}
+    check::<Problem>();
+    check::<Workspace>();
+    check::<Typing>();
+    check::<Refusal>();
+}
+
 /// A workspace can be used by one thread after another, and two by two threads.
 #[test]
 fn threads() {
