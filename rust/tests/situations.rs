@@ -4,6 +4,7 @@
 use julqetai::ComplexSort;
 use julqetai::ExprId;
 use julqetai::LitKind;
+use julqetai::NameTarget;
 use julqetai::Node;
 use julqetai::NodeId;
 use julqetai::Overload;
@@ -239,4 +240,35 @@ fn full_of_sorts() {
     fill(&mut problem, 1_023);
     needs_a_list(&mut problem);
     check(&problem, Ok((&[SortId(1_023)], &[])));
+}
+
+/// Two Joins, each with its own sources.
+#[test]
+fn two_joins() {
+    let mut problem = Problem::new();
+    let (a, b) = (free(&mut problem), free(&mut problem));
+    problem.join(&[POS.into(), NAT.into(), POS.into()], a);
+    problem.join(&[REAL.into(), INT.into()], b);
+    check(&problem, Ok((&[NAT, REAL], &[1, 0, 1, 0, 1])));
+}
+
+/// As many components, and as many choices, as there can be.
+#[test]
+fn large_answers() {
+    let mut problem = Problem::new();
+    let targets = [POS, NAT, INT, REAL].into_iter().cycle().take(256);
+    targets.clone().for_each(|target| problem.sub(POS, target));
+    check(&problem, Ok((&[], &[0, 1, 2, 3].repeat(64))));
+
+    let mut problem = Problem::new();
+    let exprs: Vec<ExprId> = targets.map(|sort| problem.add_expr(sort)).collect();
+    for (index, &expr) in exprs.iter().enumerate().rev() {
+        let sort = [POS, NAT, INT, REAL][index % 4];
+        problem.disjunction(expr, sort, &[POS, NAT, INT, REAL].map(Overload::op));
+    }
+    let mut workspace = Workspace::new();
+    let typing = workspace.solve(&problem).expect("each has one overload that fits");
+    let choices: Vec<(ExprId, usize)> = typing.choices().map(|choice| (choice.expr, choice.position)).collect();
+    assert_eq!(choices, (0..256).rev().map(|index| (exprs[index], index % 4)).collect::<Vec<_>>());
+    assert!(typing.names().eq(typing.sorts().map(|sort| Some(NameTarget::Op { sort }))));
 }

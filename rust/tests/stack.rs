@@ -86,23 +86,21 @@ fn ceilings() {
     solve_all(sizes.into_iter().flat_map(both).collect(), 2 << 20);
 }
 
-/// The largest that run on the stack of the caller, in a thread that has what such a call may take.
+/// Of all sizes, in a thread that has 1 MB and a little: the larger ones run elsewhere, the others take no more.
 #[test]
 fn on_the_stack_of_the_caller() {
     let none = Size { comprehensions: 0, subs: 0, sources: 0, nested: 0, sorts: 0 };
     let mut problems = Vec::new();
-    for share in 0..=8 {
-        // So many levels of the search and of nesting come to about 1 MB.
-        let (levels, nesting) = (27 * share, 110 * (8 - share));
+    for (levels, nesting) in (0..=16).flat_map(|levels| (0..=8).map(move |nesting| (15 * levels, 255 * nesting))) {
         let sizes = [
             Size { comprehensions: levels, nested: nesting, ..none },
             Size { subs: levels, nested: nesting, ..none },
-            Size { sources: levels.saturating_sub(1), nested: nesting, ..none },
-            Size { comprehensions: levels / 2, sources: levels / 2, nested: nesting, ..none },
-            Size { comprehensions: levels, sorts: nesting, ..none },
+            Size { sources: levels, nested: nesting, ..none },
+            Size { comprehensions: levels, sources: levels, nested: nesting, ..none },
+            Size { comprehensions: levels, sorts: nesting * 2 / 5, ..none },
         ];
-        problems
-            .extend(sizes.into_iter().flat_map(|size| [false, true].map(|functions| (size, problem(size, functions)))));
+        let both = |size: Size| [false, true].map(|functions| (size, problem(size, functions)));
+        problems.extend(sizes.into_iter().flat_map(both));
     }
     solve_all(problems, (1 << 20) + (64 << 10));
 }
