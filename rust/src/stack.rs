@@ -12,8 +12,8 @@ const BASE: usize = 128 << 10;
 const LEVEL: usize = 4 << 10;
 const NESTING: usize = 1 << 10;
 
-/// A problem that may take more does not run on the stack of the caller.
-const CALLER: usize = 1 << 20;
+/// A problem that may take more does not run on the stack of the caller, unless a workspace is told that there is more.
+pub(crate) const CALLER: usize = 1 << 20;
 
 /// More than any problem takes.
 const OWN: usize = 8 << 20;
@@ -28,10 +28,10 @@ fn needed(problem: &Problem) -> usize {
     }
 }
 
-/// Calls on the stack of the caller if that is enough by any measure, else in a thread that has more. Where there is no
-/// such thread to be had, the stack of the caller has to do.
-pub(crate) fn call(problem: &Problem, call: impl FnOnce() -> u64 + Send) -> u64 {
-    if needed(problem) <= CALLER {
+/// Calls on the stack of the caller if so much of it is enough by any measure, else in a thread that has more. Where there
+/// is no such thread to be had, the stack of the caller has to do.
+pub(crate) fn call(problem: &Problem, caller: usize, call: impl FnOnce() -> u64 + Send) -> u64 {
+    if needed(problem) <= caller {
         return call();
     }
     let mut call = Some(call);

@@ -49,6 +49,8 @@ pub struct Workspace {
     choices: Box<[[u16; 2]]>,
     /// The sorts that the last search made.
     new: Made,
+    /// How much of the caller's stack a search may take.
+    stack: usize,
 }
 
 impl Default for Workspace {
@@ -96,7 +98,29 @@ impl Workspace {
             measure: words(MAX_COMPONENTS),
             choices: vec![[0; 2]; MAX_CONSTRAINTS].into_boxed_slice(),
             new: Made { given: 0, rows: Vec::with_capacity(MAX_SORTS), entries: Vec::with_capacity(MAX_ENTRIES) },
+            stack: stack::CALLER,
         }
+    }
+
+    /// Says how many bytes of its stack the caller can spare, in place of 1 MB. A problem that may take more runs in a
+    /// thread of its own, which costs about half a millisecond; with 6 MB none does. If it is less than said, the program
+    /// can run out of stack and be aborted.
+    ///
+    /// ```
+    /// use julqetai::{Problem, SortId, Workspace};
+    ///
+    /// let mut problem = Problem::new();
+    /// (0..256).for_each(|_| problem.sub(SortId::POS, SortId::NAT));
+    /// let mut workspace = Workspace::new();
+    /// workspace.set_stack(0); // All problems in threads of their own.
+    /// assert_eq!(workspace.solve(&problem)?.measure(), [1; 256]);
+    /// workspace.set_stack(6 << 20); // None: the main thread has 8 MB.
+    /// # workspace.set_stack(1 << 20);
+    /// assert_eq!(workspace.solve(&problem)?.measure(), [1; 256]);
+    /// # Ok::<(), julqetai::Refusal>(())
+    /// ```
+    pub fn set_stack(&mut self, bytes: usize) {
+        self.stack = bytes;
     }
 
     /// Infers the sorts of the expressions, as merc's `Solver::solve(0)` does.
@@ -186,7 +210,7 @@ impl Workspace {
             measure: &mut self.measure,
             choices: self.choices.as_flattened_mut(),
         };
-        let answer = Answer(stack::call(problem, || call::solve(lent)));
+        let answer = Answer(stack::call(problem, self.stack, || call::solve(lent)));
         self.read_new(problem, &answer);
         answer
     }
