@@ -141,6 +141,7 @@ pub fn token_at(line: &[u8], at: usize) -> Lexeme
 }
 
 // The end of the caller's own line that starts at `at`; past the end it is empty.
+// Ruled out: an end that starts one byte late; the whole line for a position past its end.
 pub fn unread(line: &[u8], at: usize) -> &[u8]
     ensures { λ r. ⌜ now r ≡ drop at (now (line .entry)) ⌝ }
 {
