@@ -40,10 +40,10 @@ table=(
     "damaged 2 3"
 )
 
-# The situations without a star and the readings that come to a search, but those of 1,024 sorts and one of 40 nested
-# nodes; then random lists: class, size, number.
+# The situations without a star and the readings that come to a search, but those of 1,024 sorts, of 2,047 nodes and one of 40
+# nested nodes; then random lists: class, size, number.
 sample_lists() {
-    awk 'BEGIN { RS = ""; ORS = "\n\n" } !/list star|pad sorts|list shared parts/' situations.txt readings.txt
+    awk 'BEGIN { RS = ""; ORS = "\n\n" } !/list star|pad sorts|pad nodes|list shared parts/' situations.txt readings.txt
     while read -r class size number; do
         "$bin/oracle-gen" --class "$class" --seed 1 --size "$size" --from "$number" --count 1
     done <<'PICKED'

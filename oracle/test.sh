@@ -92,7 +92,7 @@ for class in solve join choice room full entries unify lattice damaged small; do
 done
 
 step "lists and answers as a module"
-[ "$(./computed.sh --sample | cut -c1-13 | grep -c '      given ')" -ge 40 ] || fail "the sample of computed.sh"
+[ "$(./computed.sh --sample | cut -c1-13 | grep -c '      given ')" -ge 41 ] || fail "the sample of computed.sh"
 "$bin/oracle-gen" --class entries --seed 7 --count 500 | "$bin/oracle-computed" --code 15 --most 5 > "$work/module" 2> "$work/counts"
 grep -qx '  answers: 15: 5' "$work/counts" || fail "oracle-computed: $(cat "$work/counts")"
 

@@ -1,4 +1,5 @@
-//! Links the proved solver, which `rt staticlib solve_entries` writes, unless the stand-in is asked.
+//! Links the proved solver, whose entries `rt staticlib solve_entries` and `rt staticlib solve_records` write, unless the
+//! stand-in is asked.
 
 use std::env;
 use std::path::Path;
@@ -10,15 +11,15 @@ fn main() {
         return;
     }
     let folder = Path::new(env!("CARGO_MANIFEST_DIR")).join("../../target/staticlib");
-    let library = folder.join("libsolve_entries.a");
-    println!("cargo:rerun-if-changed={}", library.display());
-    if !library.exists() {
-        eprintln!("target/staticlib/libsolve_entries.a is not there.");
-        eprintln!(
-            "Run `rt staticlib solve_entries` at the root of the repository first, or give `--features stand-in`."
-        );
-        exit(1);
-    }
     println!("cargo:rustc-link-search=native={}", folder.display());
-    println!("cargo:rustc-link-lib=static=solve_entries");
+    for name in ["solve_entries", "solve_records"] {
+        let library = folder.join(format!("lib{name}.a"));
+        println!("cargo:rerun-if-changed={}", library.display());
+        if !library.exists() {
+            eprintln!("target/staticlib/lib{name}.a is not there.");
+            eprintln!("Run `rt staticlib {name}` at the root of the repository first, or give `--features stand-in`.");
+            exit(1);
+        }
+        println!("cargo:rustc-link-lib=static={name}");
+    }
 }

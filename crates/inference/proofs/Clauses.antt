@@ -1,7 +1,7 @@
 -- What each clause of demand 3 rules out, under an assignment under which places have the sorts named: a place has one sort, so that whatever meets a
 -- constraint meets it with these. Assumes nothing.
-use mathlib.Core.Path.{_≡_, sym, _∙_}
-use mathlib.Core.Bool.{false}
+use mathlib.Core.Path.{_≡_, sym, subst, _∙_}
+use mathlib.Core.Bool.{true, false}
 use mathlib.Core.List.{List, _∷_}
 use Prim.Native.Nat.{ℕ}
 use lib.ListN.{take, drop}
@@ -22,7 +22,22 @@ use Rattle.inference.specs.declared.Constraint.the-variants.{Sub, Lit, D
 use Rattle.inference.specs.Constraints.{Problem}
 use Rattle.inference.specs.Search.{Choice}
 use Rattle.inference.specs.Names.{overloadIn}
-use Rattle.inference.specs.Typing.{Assignment, Has, All, and-all, In, here, there, Read, Into, Typed, and-typed, Meets, meets-sub, meets-lit, meets-disjunction, meets-comprehension, meets-join}
+use Rattle.inference.specs.Typing.{Assignment, Has, admits, All, and-all, In, here, there, Read, Into, Typed, and-typed, Meets, meets-sub, meets-lit, meets-disjunction, meets-comprehension, meets-join}
+
+-- the sorts of numbers
+pub data Number : Tree → Type 0 where
+  is-pos : Number (flat (primitive Sort.Pos))
+  is-nat : Number (flat (primitive Sort.Nat))
+  is-int : Number (flat (primitive Sort.Int))
+  is-real : Number (flat (primitive Sort.Real))
+
+admitted-is-a-number : (kind : LitKind) (s : Sort) → admits kind s ≡ true → Number (flat (primitive s))
+admitted-is-a-number Positive Sort.Bool a = no-confusion cc
+admitted-is-a-number Natural Sort.Bool a = no-confusion cc
+admitted-is-a-number kind Sort.Pos a = is-pos
+admitted-is-a-number kind Sort.Nat a = is-nat
+admitted-is-a-number kind Sort.Int a = is-int
+admitted-is-a-number kind Sort.Real a = is-real
 
 module _ (shape : ℕ → Shape) (look : ℕ → Tree) (P : Problem) (σ : Assignment) where
   pub one-sort : (p : ℕ) (s t : Tree) → Has shape σ p s → Has shape σ p t → s ≡ t
@@ -36,14 +51,17 @@ module _ (shape : ℕ → Shape) (look : ℕ → Tree) (P : Problem) (σ : Assig
     pub sub-rules-out : (l r : InferSortId) (s t : Tree) → Has shape σ (l .0) s → Has shape σ (r .0) t → materializable s t ≡ false → Meets shape look P ch σ (Sub l r) → ⊥
     sub-rules-out l r s t h g f (meets-sub _ _ u k i) = let q = one-sort (r .0) t u g k in not-into (l .0) s u h (rw q at f) i
 
-    -- a literal that is no number
-    pub literal-is-a-number : (p : InferSortId) (kind : LitKind) → Has shape σ (p .0) (flat (primitive Sort.Bool)) → Meets shape look P ch σ (Lit p kind) → ⊥
-    literal-is-a-number p Positive h (meets-lit _ _ Sort.Bool g a) = no-confusion cc
-    literal-is-a-number p Natural h (meets-lit _ _ Sort.Bool g a) = no-confusion cc
-    literal-is-a-number p kind h (meets-lit _ _ Sort.Pos g a) = let q = one-sort (p .0) _ _ h g in no-confusion cc
-    literal-is-a-number p kind h (meets-lit _ _ Sort.Nat g a) = let q = one-sort (p .0) _ _ h g in no-confusion cc
-    literal-is-a-number p kind h (meets-lit _ _ Sort.Int g a) = let q = one-sort (p .0) _ _ h g in no-confusion cc
-    literal-is-a-number p kind h (meets-lit _ _ Sort.Real g a) = let q = one-sort (p .0) _ _ h g in no-confusion cc
+    pub literal-is-a-number : (p : InferSortId) (kind : LitKind) (t : Tree) → Has shape σ (p .0) t → Meets shape look P ch σ (Lit p kind) → Number t
+    literal-is-a-number p kind t h (meets-lit _ _ s g a) = subst Number (one-sort (p .0) (flat (primitive s)) t g h) (admitted-is-a-number kind s a)
+
+    -- Bool for a literal
+    pub literal-is-not-bool : (p : InferSortId) (kind : LitKind) → Has shape σ (p .0) (flat (primitive Sort.Bool)) → Meets shape look P ch σ (Lit p kind) → ⊥
+    literal-is-not-bool p Positive h (meets-lit _ _ Sort.Bool g a) = no-confusion cc
+    literal-is-not-bool p Natural h (meets-lit _ _ Sort.Bool g a) = no-confusion cc
+    literal-is-not-bool p kind h (meets-lit _ _ Sort.Pos g a) = let q = one-sort (p .0) _ _ h g in no-confusion cc
+    literal-is-not-bool p kind h (meets-lit _ _ Sort.Nat g a) = let q = one-sort (p .0) _ _ h g in no-confusion cc
+    literal-is-not-bool p kind h (meets-lit _ _ Sort.Int g a) = let q = one-sort (p .0) _ _ h g in no-confusion cc
+    literal-is-not-bool p kind h (meets-lit _ _ Sort.Real g a) = let q = one-sort (p .0) _ _ h g in no-confusion cc
 
     -- Pos for "0"
     pub zero-is-not-pos : (p : InferSortId) → Has shape σ (p .0) (flat (primitive Sort.Pos)) → Meets shape look P ch σ (Lit p Natural) → ⊥

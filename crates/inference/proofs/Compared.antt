@@ -193,6 +193,11 @@ cases =
       given [] [] [] [] [] [] [] (sub 1 3 []) [] [] 1,
       outcome 17 [] [] [] [] [],
     )
+    -- empty list on the left, a container on the right
+    ∷ (
+      given (row 7 3 0 0 []) [] [] [] [] [] [] (sub 1 6 []) [] [] 1,
+      outcome 17 [] [] [] [] [],
+    )
     -- target among the sources
     ∷ (
       given [] [] (row 14 0 0 0 []) [] (65535 ∷ []) (1024 ∷ []) [] (join 1024 0 2 []) [] (1024 ∷ 3 ∷ []) 1,
@@ -212,6 +217,11 @@ cases =
     ∷ (
       given [] [] (row 14 0 0 0 []) [] (65535 ∷ []) (1024 ∷ []) [] (disjunction 0 1024 0 2 []) (2 ∷ 3 ∷ 3 ∷ 2 ∷ 3 ∷ 3 ∷ []) [] 1,
       outcome 18 [] [] [] [] [],
+    )
+    -- a tie that is beaten
+    ∷ (
+      given [] [] (row 14 0 0 0 []) [] (65535 ∷ []) (1024 ∷ []) [] (disjunction 0 1024 0 3 (sub 1024 3 [])) (2 ∷ 2 ∷ 2 ∷ 2 ∷ 2 ∷ 2 ∷ 2 ∷ 3 ∷ 3 ∷ []) [] 1,
+      outcome 0 (expr 3 2 3 []) (0 ∷ []) (choice 0 2 []) [] [],
     )
     -- no overloads
     ∷ (

@@ -38,6 +38,14 @@ module _ (x y : ℕ) (xs ys : Components) where
   unfolding compare
   compare-level e = rw (le-ltb x y (omega (arith, e)), le-ltb y x (omega (arith, e)))
 
+-- from the front: the first components decide if they differ, else what comes after them
+pub first-difference-decides :
+    (x y : ℕ) (xs ys : Components)
+    → (x < y → compare (x ∷ xs) (y ∷ ys) ≡ smaller)
+    × (y < x → compare (x ∷ xs) (y ∷ ys) ≡ greater)
+    × (x ≡ y → compare (x ∷ xs) (y ∷ ys) ≡ compare xs ys)
+first-difference-decides x y xs ys = (compare-below x y xs ys, compare-above x y xs ys, compare-level x y xs ys)
+
 -- the other way round
 abbrev pub mirrored : Ranking → Ranking
 mirrored smaller = greater

@@ -124,7 +124,7 @@ unfoldable pub noTwo : List ℕ → Bool
 noTwo [] = true
 noTwo (x ∷ xs) = not (among x xs) && noTwo xs
 
--- 11. "A Join has no sources, or there would be more than 256 measure components."
+-- 11. "A Join has no sources .., or there would be more than 256 measure components."
 abbrev pub hasSources : Constraint → Bool
 hasSources (Sub l r) = true
 hasSources (Lit p kind) = true

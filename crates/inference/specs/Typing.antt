@@ -1,5 +1,6 @@
--- Demand 3: "one assignment under which the whole list holds together". "An assignment gives each variable a sort without inference variables (Def
--- and TypeVar are sorts like any other). A place's sort under it is the place with these put in for its variables; sorts are compared by structure."
+-- Demand 3: "at least one assignment of sorts .. under which all of this holds together". "An assignment gives each variable a sort without inference
+-- variables (Def and TypeVar are sorts like any other). A place's sort under it is the place with these put in for its variables; sorts are compared by
+-- structure."
 use mathlib.Core.Path.{_≡_}
 use mathlib.Core.Bool.{Bool, true, false}
 use mathlib.Core.List.{List, [], _∷_}
@@ -33,7 +34,7 @@ Assignment = ℕ → Tree
 abbrev pub Has : (ℕ → Shape) → Assignment → ℕ → Tree → Type 0
 Has shape σ p t = put (λ v. termOf (σ v)) (termAt shape p) ≡ termOf t
 
--- "each literal's place is a number sort, never Pos for '0'", which is natural
+-- each literal has a number sort, the natural one ("0") never Pos
 abbrev pub admits : LitKind → Sort → Bool
 admits kind Sort.Bool = false
 admits Positive Sort.Pos = true
@@ -52,7 +53,8 @@ pub data In {A : Type 0} (x : A) : List A → Type 0 where
   here : (xs : List A) → In x (x ∷ xs)
   there : (y : A) (xs : List A) → In x xs → In x (y ∷ xs)
 
--- what body and node of a comprehension over the sort u are: "a Set over its element with body Bool, or a Bag with body Nat or Pos"
+-- what body and node of a comprehension over the sort u are: "a Set over its element sort with a body of Bool, or a Bag over it with a body of Nat or
+-- Pos"
 pub data Read (u : Tree) : Tree → Tree → Type 0 where
   as-set : Read u (flat (primitive Sort.Bool)) (container ComplexSort.Set u)
   as-bag : Read u (flat (primitive Sort.Nat)) (container ComplexSort.Bag u)

@@ -255,6 +255,7 @@ pub fn put_single(line: &[u8], out: &mut [u8], at: usize) -> usize
 }
 
 // The line of output of a pair, with its LF, at the front of the buffer.
+// Ruled out: the join where the meet belongs; an unread end that starts a token late.
 pub fn pair(first: &[u8], second: &[u8], out: &mut [u8]) -> Written
     ensures { λ r. ⌜ writeLeft (now (out .exit)) r ≡ pairLeft (now (first .entry)) (now (second .entry)) (now (out .entry)) ⌝ }
 {
@@ -265,6 +266,7 @@ pub fn pair(first: &[u8], second: &[u8], out: &mut [u8]) -> Written
 }
 
 // The line of output of a line alone at the end of the input, likewise.
+// Ruled out: 21 for a line that is no sort; 20 for one that is.
 pub fn single(line: &[u8], out: &mut [u8]) -> Written
     ensures { λ r. ⌜ writeLeft (now (out .exit)) r ≡ singleLeft (now (line .entry)) (now (out .entry)) ⌝ }
 {

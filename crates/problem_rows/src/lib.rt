@@ -1,15 +1,14 @@
-// The rows of constraints and overloads in lent words, read. A word past the end counts as 0, so no read needs a check before it.
+// The rows of constraints, and what a name stands for, in lent words, read. A word past the end counts as 0, so no read needs a check before it.
 use inference::Constraint;
 use inference::ExprId;
 use inference::LitKind;
 use inference::NameTarget;
-use inference::Overload;
 use resolved_sort::Run;
 use resolved_sort::SortId;
 use sort_interner::word;
 use unification::InferSortId;
 ghost use mathlib.Core.Path.{_≡_};
-ghost use Rattle.inference.specs.Constraints.{litKind, target, constraint, constraintAt, overloadAt};
+ghost use Rattle.inference.specs.Constraints.{litKind, target, constraint, constraintAt};
 
 // The kind of a literal. Every kind above 0 says natural: that it is 1 is check 9's to show.
 fn lit_kind(kind: u16) -> LitKind
@@ -75,18 +74,4 @@ pub fn constraint_at(constraints: &[u16], i: u16) -> Constraint
     let c = word(constraints, row + 3);
     let d = word(constraints, row + 4);
     constraint_of(kind, a, b, c, d)
-}
-
-// The i-th overload.
-pub fn overload_at(overloads: &[u16], i: u16) -> Overload
-    ensures { λ r. ⌜ r ≡ overloadAt (now (overloads .entry)) i ⌝ }
-{
-    let row = 3 * (i as usize);
-    let kind = word(overloads, row);
-    let sort = word(overloads, row + 1);
-    let place = word(overloads, row + 2);
-    Overload {
-        target: name_target(kind, sort),
-        sort: InferSortId(place),
-    }
 }

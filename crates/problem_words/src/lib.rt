@@ -7,7 +7,7 @@ ghost use Prim.Native.Nat.{_+_, _≤_};
 ghost use lib.ListN.{length, drop};
 ghost use lib.Seq.{sets};
 ghost use Rattle.inference.specs.Constraints.{overloadAt};
-ghost use Rattle.search_state.specs.Memory.{part, overloadsAt, sourceAt, exprAt, problemIn};
+ghost use Rattle.search_state.specs.Memory.{part, overloadsAt, sourceAt, problemIn};
 ghost use Rattle.problem_words.specs.Packed.{problemFrom, Packable};
 
 // Copies n words of one slice, from `from` on, to another, from `at` on. No other word changes.
@@ -52,11 +52,4 @@ pub fn overload_place(lists: &[u16], i: u16) -> InferSortId
     ensures { λ r. ⌜ r .0 ≡ overloadAt (drop overloadsAt (now (lists .entry))) i .sort .0 ⌝ }
 {
     InferSortId(word(lists, 1280 + (3 * (i as usize) + 2)))
-}
-
-// The place of the x-th expression.
-pub fn expr_at(lists: &[u16], x: u16) -> InferSortId
-    ensures { λ r. ⌜ r .0 ≡ exprAt (now (lists .entry)) x ⌝ }
-{
-    InferSortId(word(lists, 4608 + (x as usize)))
 }

@@ -146,5 +146,5 @@ countedOf t Quiet = record { lines = oneMore (t .lines); questions = t .question
 countedOf t Agrees = record { lines = oneMore (t .lines); questions = oneMore (t .questions); differ = t .differ }
 countedOf t (Differs got) = record { lines = oneMore (t .lines); questions = oneMore (t .questions); differ = oneMore (t .differ) }
 countedOf t (BindsOther variable) = record { lines = oneMore (t .lines); questions = oneMore (t .questions); differ = oneMore (t .differ) }
-countedOf t (LeavesOther word) = record { lines = oneMore (t .lines); questions = t .questions; differ = oneMore (t .differ) }
+countedOf t (LeavesOther word) = record { lines = oneMore (t .lines); questions = oneMore (t .questions); differ = oneMore (t .differ) }
 countedOf t NotOfForm = record { lines = oneMore (t .lines); questions = t .questions; differ = oneMore (t .differ) }

@@ -70,8 +70,8 @@ pub struct Step {
     pub verdict: Verdict,
 }
 
-// How many lines were read, how many of them were questions, and how many lines do not agree. Each stops at the
-// largest number.
+// How many lines were read, how many of them had an answer to check (of a question, or words left), and how many lines do not
+// agree. Each stops at the largest number.
 pub struct Tally {
     pub lines: u64,
     pub questions: u64,
@@ -391,7 +391,7 @@ fn one_more(n: u64) -> u64
     n
 }
 
-// The counts after a line. A line of words that are others, and one that is not of the form, count as lines that differ.
+// The counts after a line. One that is not of the form counts as a line that differs.
 pub fn counted(tally: Tally, verdict: Verdict) -> Tally
     ensures { λ r. ⌜ r ≡ countedOf tally verdict ⌝ }
 {
@@ -419,7 +419,7 @@ pub fn counted(tally: Tally, verdict: Verdict) -> Tally
         },
         Verdict::LeavesOther(_) => Tally {
             lines,
-            questions: tally.questions,
+            questions: one_more(tally.questions),
             differ: one_more(tally.differ),
         },
         Verdict::NotOfForm => Tally {

@@ -5,7 +5,7 @@ use Prim.Native.Nat.{ℕ, zero, suc, _+_, _-_, _<_, _≤_}
 use native.Mathlib.Omega.{arith}
 use lib.ListN.{getD}
 use borrow.Author.Tests.{eq-eqb, ne-eqb}
-use Rattle.replay.specs.declared.Verdict.the-variants.{Quiet, LeavesOther}
+use Rattle.replay.specs.declared.Verdict.the-variants.{Agrees, LeavesOther}
 use Rattle.replay_lists.specs.Lines.{comparedFrom}
 
 other-at :
@@ -20,7 +20,7 @@ same-at :
 unfolding comparedFrom
 same-at m ws at values i e = rw (eq-eqb _ _ e)
 
-end-at : (ws : List ℕ) (at : ℕ) (values : List ℕ) (i : ℕ) → Quiet ≡ comparedFrom zero ws at values i
+end-at : (ws : List ℕ) (at : ℕ) (values : List ℕ) (i : ℕ) → Agrees ≡ comparedFrom zero ws at values i
 unfolding comparedFrom
 end-at ws at values i = refl
 
@@ -52,5 +52,5 @@ module _ (n : ℕ) (ws : List ℕ) (start : ℕ) (values : List ℕ) where
         ∙ (same-at (n - (i + 1)) ws (start + i) values (2 + i) (sym e ∙ s)
         ∙ (λ j. comparedFrom (n - (i + 1)) ws (a j) values (f j)))
 
-    pub end : n ≤ i → Quiet ≡ comparedFrom (n - i) ws (start + i) values (2 + i)
+    pub end : n ≤ i → Agrees ≡ comparedFrom (n - i) ws (start + i) values (2 + i)
     end h = end-at ws (start + i) values (2 + i) ∙ ap (λ (m : ℕ). comparedFrom m ws (start + i) values (2 + i)) (omega arith)

@@ -67,9 +67,9 @@ unfoldable pub storeOf : List ℕ → Fields → Said
 storeOf ws f =
     cond ((partOf f) .good) (saidOf (storeFrom ((partOf f) .count) ws ((partOf f) .start) (f .values) 2)) (said ws NotOfForm)
 
--- m words compared with the numbers from the i-th on: the first that is another
+-- m words compared with the numbers from the i-th on: all agree, or the first that is another
 unfoldable pub comparedFrom : ℕ → List ℕ → ℕ → List ℕ → ℕ → Verdict
-comparedFrom zero ws at values i = Quiet
+comparedFrom zero ws at values i = Agrees
 comparedFrom (suc m) ws at values i =
     cond (eqb (getD ws at 0) (getD values i 0)) (comparedFrom m ws (at + 1) values (i + 1)) (LeavesOther (getD ws at 0))
 

@@ -4,6 +4,7 @@
 // `S k at w ..` gives words of the slice k, from its word `at` on, at most 16.
 // `Q code sorts entries components choices` asks the solver about the words given; the numbers are its answer.
 // `X k at w ..` are words of the slice k, from its word `at` on, as the last question left them, at most 16.
+// A line `Q` or `X` that agrees is a checked answer.
 // A line that starts with `#` says nothing.
 //
 // The slices: 0 sorts, 1 nodes, 2 bindings, 3 places of expressions, 4 base names, 5 constraints, 6 overloads, 7 sources, 8 typing,
@@ -167,7 +168,8 @@ fn give(given: &mut [u16; 34059], fields: Fields) -> Verdict
     Verdict::NotOfForm
 }
 
-// So many words, from a word on, compared with the numbers of a line after its first two: the first that is another.
+// So many words, from a word on, compared with the numbers of a line after its first two: all agree, or the first that is
+// another.
 fn compare(left: &[u16], start: usize, values: [u64; 18], count: usize) -> Verdict
     requires { ⌜ (start ≤ 1048576) × (count ≤ 16) ⌝ }
     ensures { λ r. ⌜ r ≡ comparedFrom count (now (left .entry)) start values 2 ⌝ }
@@ -180,7 +182,7 @@ fn compare(left: &[u16], start: usize, values: [u64; 18], count: usize) -> Verdi
         }
         i += 1;
     }
-    Verdict::Quiet
+    Verdict::Agrees
 }
 
 // Words that the last question left.

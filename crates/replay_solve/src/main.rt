@@ -1,6 +1,7 @@
 // Reads recorded answers of the solver from standard input and asks the proved entry again. It names each line whose answer or
 // whose words left differ, with what it got, and each line that is not of the form, and at the end it says how many answers it
-// checked and how many lines differ. The lines have the form that the crate replay_lists states.
+// checked and how many lines differ. The answers are those of questions, one for each list, and the lines of words left. The
+// lines have the form that the crate replay_lists states.
 //
 // Its file stdin is a copy, byte for byte, of oracle/recorded/solve-words.txt, with the answers of the excerpt of merc:
 // `cp oracle/recorded/solve-words.txt crates/replay_solve/stdin`. Its first lines say how they were made.

@@ -1,4 +1,4 @@
--- Document 01's pair examples and the readings' examples of the lattice, computed from the definitions: one test over a
+-- Document 01's pair examples and further ones of the lattice, computed from the definitions: one test over a
 -- list of cases. Assumes nothing.
 use mathlib.Core.Path.{_≡_, refl}
 use mathlib.Core.Bool.{Bool, true, false, cond, not, _&&_, _||_}

@@ -46,11 +46,11 @@ rowsFine ws n e = allBelow n (rowFine ws e)
 unfoldable pub noTwoEqual : List ℕ → ℕ → Bool
 noTwoEqual ws n = distinct (trees ws n)
 
--- 12. "A sort asked about is not in its list."
+-- 12. "a sort .. asked about, is not in its list."
 unfoldable pub inList : ℕ → ℕ → Bool
 inList n a = ltb a n
 
--- 14. "Sort storage is lent at its full ceiling (14 when shorter)."
+-- 14. "Sort and node storage is lent at its full ceiling (14 when shorter)."
 unfoldable pub atCeiling : List ℕ → Bool
 atCeiling ws = leb fullLength (length ws)
 

@@ -1,4 +1,4 @@
--- The problem and the state of the search in words. The scratch: "trail 512, incumbent sorts 512, measure, best measure, choices, best choices 256 each".
+-- The problem and the state of the search in words. The scratch: trail 512, incumbent sorts 512, measure, best measure, choices, best choices 256 each.
 -- Of a choice only the position is kept: the choices go in the order of the disjunctions, whose expressions are in the problem.
 use mathlib.Core.Bool.{Bool, cond}
 use mathlib.Core.List.{List, [], _∷_}

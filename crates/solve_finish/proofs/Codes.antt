@@ -34,7 +34,7 @@ module _ (I : Call) where
       x
 
   -- what the search alone can answer
-  abbrev Searched : Solved → Type 0
+  abbrev pub Searched : Solved → Type 0
   Searched (Refused c) = ⊥
   Searched (NoRoom c) = Ends c
   Searched (NoTyping k) = Unit {0}
@@ -57,7 +57,7 @@ module _ (I : Call) where
 
   -- a call that passed its checks
   module _ (x : firstFailing (solveChecks I) ≡ none) where
-    searched-answers : Searched (solveEntry I .answer)
+    pub searched-answers : Searched (solveEntry I .answer)
     searched-answers =
         let w : World (Unit {0}) = record { lent = lentOf I; best = none; met = tt } in
         subst (λ (L : Left). Searched (L .answer)) (sym (passed-is-searched I x))

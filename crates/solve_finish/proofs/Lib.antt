@@ -4,3 +4,4 @@ pub mod Passed
 pub mod Laws
 pub mod Finished
 pub mod Codes
+pub mod CodeSeven

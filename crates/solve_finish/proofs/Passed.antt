@@ -58,7 +58,7 @@ pub record RowsLent (I : Call) : Type 0 where
   pub sources : I .rows .sources ≤ maxSources
   pub source-words : I .rows .sources ≤ length (I .sources)
 
-rows-lent : (I : Call) → rowsWithinLent I ≡ true → RowsLent I
+pub rows-lent : (I : Call) → rowsWithinLent I ≡ true → RowsLent I
 unfolding rowsWithinLent
 rows-lent I f =
     let a = leb (I .rows .exprs) maxExprs in

@@ -118,7 +118,8 @@ fn solve_unpacked(
 }
 
 // Infers the sorts of the expressions, as solve does on the words of the records. Records past the ceiling are not looked at: a count that
-// reaches them is refused with 1, and so is one above the length of the slice.
+// reaches them is refused with 1, and so is one above the length of the slice. So the first 1,024, of which the contract speaks, stand for all
+// (proofs/PastCeiling.antt).
 // Ruled out: another outcome than that of the same call on numbers; a record read past the slice.
 pub fn solve_records(
     sorts: &mut [u16],

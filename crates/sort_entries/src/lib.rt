@@ -72,6 +72,7 @@ pub fn test_pair(
 }
 
 // The order of two sorts.
+// Ruled out: functions compared covariantly in their arguments; Bag below FBag; an answer about a list that fails a check.
 pub fn partial_cmp(
     sorts: &[u16],
     sort_count: usize,
@@ -94,6 +95,7 @@ pub fn partial_cmp(
 }
 
 // How far the first sort is below the second.
+// Ruled out: the step from FSet to Set counted as interior; head and interior exchanged.
 pub fn widening_distance(
     sorts: &[u16],
     sort_count: usize,
@@ -116,6 +118,7 @@ pub fn widening_distance(
 }
 
 // Whether the first sort converts into the second.
+// Ruled out: yes for a container over another part; yes for a number into a narrower one.
 pub fn is_materializable(
     sorts: &[u16],
     sort_count: usize,
@@ -158,6 +161,7 @@ fn kept_or_given_back(
 }
 
 // The least common supersort of two sorts.
+// Ruled out: the meet; an FSet for FSet and Set; sorts left behind after 15.
 pub fn join(
     sorts: &mut [u16],
     sort_count: usize,
@@ -181,6 +185,7 @@ pub fn join(
 }
 
 // The greatest common subsort of two sorts.
+// Ruled out: functions with the meet of their arguments; sorts made on the way to none taken back.
 pub fn meet(
     sorts: &mut [u16],
     sort_count: usize,

@@ -141,6 +141,7 @@ pub fn token_at(line: &[u8], at: usize) -> Lexeme
 }
 
 // The end of the caller's own line that starts at `at`; past the end it is empty.
+// Ruled out: an end that starts one byte late; the whole line for a position past its end.
 pub fn unread(line: &[u8], at: usize) -> &[u8]
     ensures { λ r. ⌜ now r ≡ drop at (now (line .entry)) ⌝ }
 {
@@ -241,11 +242,11 @@ pub struct Reader<'a> {
     pub at: usize,
 }
 
-// A reader at the start of a line.
-pub fn new<'a>(line: &'a [u8]) -> Reader<'a>
-    ensures { λ r. ⌜ (r .line ≡ line .entry) × (r .at ≡ 0) ⌝ }
+// A reader of a line at a position.
+pub fn new<'a>(line: &'a [u8], at: usize) -> Reader<'a>
+    ensures { λ r. ⌜ (r .line ≡ line .entry) × (r .at ≡ at) ⌝ }
 {
-    Reader { line, at: 0 }
+    Reader { line, at }
 }
 
 // The token at a reader's position.
@@ -255,9 +256,9 @@ pub fn next_token<'a>(r: Reader<'a>) -> Lexeme
     token_at(r.line, r.at)
 }
 
-// The first token of a line.
-pub fn first_token(line: &[u8]) -> Lexeme
-    ensures { λ r. ⌜ r ≡ lexemeOf (now (line .entry)) 0 ⌝ }
+// The next token of a reader at a position of a line: what the recogniser reads by.
+pub fn token_from(line: &[u8], at: usize) -> Lexeme
+    ensures { λ r. ⌜ r ≡ lexemeOf (now (line .entry)) at ⌝ }
 {
-    next_token(new(line))
+    next_token(new(line, at))
 }

@@ -75,6 +75,7 @@ pub fn read_line(sorts: &mut [u16], sort_count: usize, entry_count: usize, line:
 }
 
 // The sort of a line, stored: parts first, arguments left to right, then the range, then the whole.
+// Ruled out: a sort for a line of 201 bytes; sorts of a line that is none left in the storage.
 pub fn read(sorts: &mut [u16], sort_count: usize, entry_count: usize, line: &[u8]) -> Read
     ensures { λ r. ⌜ readLeft (now (sorts .exit)) r ≡ reading (now (sorts .entry)) «sort_count» «entry_count» (now (line .entry)) ⌝ }
 {

@@ -9,7 +9,7 @@ use lib.ListN.{length, drop, take, set, length-take, length-drop, drop-of-length
 use lib.Seq.{take-suc-set}
 use Rattle.resolved_sort.specs.declared.Sort.{Sort}
 use Rattle.resolved_sort.specs.declared.ComplexSort.{ComplexSort}
-use Rattle.resolved_sort.specs.Tree.{primitive, Tree, flat, container, function, Trees, end as none, arg, arity}
+use Rattle.resolved_sort.specs.Tree.{primitive, Tree, flat, container, function, Trees, end as no-args, arg, arity}
 use Rattle.resolved_sort.specs.Storage.{kindFlat, kindOp}
 use Rattle.sort_text.specs.Tokens.{isLetter, Next, word, open-bracket, close-bracket, hash, arrow, skip, next, end, bad}
 use Rattle.sort_text.specs.Parse.{Parsed, parsed, stuck, _then_, Meaning, basic, over, unknown, meaning, closing, bracketed, operandOf, operandAt, operand, snoc, alone, restAt, rest, sort, ending, line}
@@ -35,7 +35,7 @@ one-more out m v h = ap (λ k. take k (set out m v)) (add-one m) ∙ take-suc-se
 -- the steps of one operand more
 pub postfixes-snoc : (ts : Trees) (t : Tree) → postfixes (snoc ts t) ≡ postfixes ts ++ postfix t
 unfolding postfixes snoc
-postfixes-snoc none t = append-nil (postfix t)
+postfixes-snoc no-args t = append-nil (postfix t)
 postfixes-snoc (arg s ts) t = ap (λ x. postfix s ++ x) (postfixes-snoc ts t) ∙ sym (append-assoc (postfix s) (postfixes ts) (postfix t))
 
 -- tokens that cannot follow
@@ -104,14 +104,14 @@ unmeant-meant unknown = refl
 -- the operands alone
 alone-one : (ts : Trees) (at bs : List ℕ) → arity ts ≡ 1 → (t : Tree) × (alone ts at bs ≡ parsed t bs) × (postfixes ts ≡ postfix t)
 unfolding alone arity postfixes
-alone-one none at bs e = absurd (omega (arith, e))
-alone-one (arg t none) at bs e = (t, refl, append-nil (postfix t))
+alone-one no-args at bs e = absurd (omega (arith, e))
+alone-one (arg t no-args) at bs e = (t, refl, append-nil (postfix t))
 alone-one (arg t (arg u us)) at bs e = absurd (omega (arith, e))
 
 alone-many : (ts : Trees) (at bs : List ℕ) → (arity ts ≡ 1 → ⊥) → alone ts at bs ≡ stuck at
 unfolding alone arity
-alone-many none at bs z = refl
-alone-many (arg t none) at bs z = absurd (z refl)
+alone-many no-args at bs z = refl
+alone-many (arg t no-args) at bs z = absurd (z refl)
 alone-many (arg t (arg u us)) at bs z = refl
 
 -- the rest, by its token
@@ -361,8 +361,8 @@ module _ (l : List ℕ) where
     sort-goes-on p m i out′ q′ c =
         let d = did (at + 1) (n + (length l - at)) (take n old) (operand sort (drop at l)) out q p m s i in
         rw (sort-is (drop at l), d .is, sym (d .wrote .goes-on))
-        (wider p (at + 1) (m + (length l - p)) (n + (length l - at)) (take n old) (rest sort 15 (arg (d .sort-read) none) (drop p l)) out′ q′ (d .wrote .further) (d .wrote .fits)
-        (c (take n old) (arg (d .sort-read) none) (d .wrote .written ∙ ap (λ x. take n old ++ x) (sym (append-nil (postfix (d .sort-read))))) refl))
+        (wider p (at + 1) (m + (length l - p)) (n + (length l - at)) (take n old) (rest sort 15 (arg (d .sort-read) no-args) (drop p l)) out′ q′ (d .wrote .further) (d .wrote .fits)
+        (c (take n old) (arg (d .sort-read) no-args) (d .wrote .written ∙ ap (λ x. take n old ++ x) (sym (append-nil (postfix (d .sort-read))))) refl))
 
   -- a line: a sort, and nothing after it
   module _ (out old : List ℕ) (q : Recognised) (s : Says l (0 + 1) (0 + (length l - 0)) (take 0 old) (sort (drop 0 l)) out q) where

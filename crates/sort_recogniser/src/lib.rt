@@ -1,10 +1,11 @@
-// Recognising a line as a sort: nothing is stored, the steps of the sort are written into a buffer, parts first.
+// Recognising a line as a sort: nothing is stored, the steps of the sort are written into a buffer, parts first. The tokens
+// are those of a reader that holds the line (`token_from`).
 use resolved_sort::ComplexSort;
 use resolved_sort::Sort;
 use sort_lexer::Lexeme;
 use sort_lexer::Meaning;
 use sort_lexer::Token;
-use sort_lexer::token_at;
+use sort_lexer::token_from;
 use sort_lexer::word_meaning;
 ghost use mathlib.Core.Path.{_≡_};
 ghost use mathlib.Core.List.{[]};
@@ -53,7 +54,7 @@ fn closing(line: &[u8], at: usize, out: &mut [u8], n: usize, op: ComplexSort) ->
     requires { ⌜ (at ≤ length (now line)) × (n + (length (now line) - at) ≤ length (now out)) ⌝ }
     ensures { λ r. ⌜ SaysClosing (now (line .entry)) at (now (out .entry)) n op (now (out .exit)) r ⌝ }
 {
-    let found = token_at(line, at);
+    let found = token_from(line, at);
     let token = found.token;
     match token {
         Token::Close => {
@@ -69,7 +70,7 @@ fn rest(line: &[u8], at: usize, out: &mut [u8], n: usize, k: u8) -> Recognised
     requires { ⌜ (at ≤ length (now line)) × (n + (length (now line) - at) ≤ length (now out)) × (1 ≤ k) × (k ≤ 16) ⌝ }
     ensures { λ r. ⌜ SaysRest (now (line .entry)) at (now (out .entry)) n k (now (out .exit)) r ⌝ }
 {
-    let found = token_at(line, at);
+    let found = token_from(line, at);
     let token = found.token;
     match token {
         Token::Hash => {
@@ -102,7 +103,7 @@ fn bracketed(line: &[u8], at: usize, out: &mut [u8], n: usize, op: ComplexSort) 
     requires { ⌜ (at ≤ length (now line)) × (n + (length (now line) - at) ≤ length (now out)) ⌝ }
     ensures { λ r. ⌜ Says (now (line .entry)) at (n + (length (now (line .entry)) - at)) (take n (now (out .entry))) (Parse.bracketed Parse.sort op (skip (drop at (now (line .entry)))) (next isLetter (drop at (now (line .entry))))) (now (out .exit)) r ⌝ }
 {
-    let found = token_at(line, at);
+    let found = token_from(line, at);
     let token = found.token;
     match token {
         Token::Open => match sort(line, found.next, out, n) {
@@ -118,7 +119,7 @@ fn operand(line: &[u8], at: usize, out: &mut [u8], n: usize) -> Recognised
     requires { ⌜ (at ≤ length (now line)) × (n + (length (now line) - at) ≤ length (now out)) ⌝ }
     ensures { λ r. ⌜ Says (now (line .entry)) (at + 1) (n + (length (now (line .entry)) - at)) (take n (now (out .entry))) (Parse.operand Parse.sort (drop at (now (line .entry)))) (now (out .exit)) r ⌝ }
 {
-    let found = token_at(line, at);
+    let found = token_from(line, at);
     let token = found.token;
     match token {
         Token::Word => match word_meaning(line, found.at, found.next) {
@@ -151,7 +152,7 @@ pub fn recognise(line: &[u8], out: &mut [u8]) -> Recognised
 {
     match sort(line, 0, out, 0) {
         Recognised::Done(p, m) => {
-            let found = token_at(line, p);
+            let found = token_from(line, p);
             let token = found.token;
             match token {
                 Token::End => Recognised::Done(line.len(), m),

@@ -6,7 +6,7 @@ use Prim.Native.Nat.{ℕ, zero, suc, _≤_, _<_}
 use native.Mathlib.Omega.{arith}
 use lib.ListN.{length}
 use Rattle.resolved_sort.specs.declared.ComplexSort.{ComplexSort}
-use Rattle.resolved_sort.specs.Tree.{Tree, function, Trees, end as none, arg}
+use Rattle.resolved_sort.specs.Tree.{Tree, function, Trees, end as no-args, arg}
 use Rattle.sort_text.specs.Tokens.{isLetter, Next, end, word, open-bracket, close-bracket, hash, arrow, bad, skip, next}
 use Rattle.sort_text.specs.Parse.{Parsed, parsed, stuck, _then_, Meaning, basic, over, unknown, meaning, closing, bracketed, operandOf, operandAt, operand, snoc, restAt, rest, sortTo, sort}
 use Rattle.sort_text.proofs.Suffix.{suffix-length, left, Leaves, operand-suffix, sortTo-suffix}
@@ -75,10 +75,10 @@ module _ (f g : List ℕ → Parsed) (n : ℕ) (a : Agree n f g) where
         ∙ ap (λ p. p then (λ t ds. rest g k (snoc ts t) ds)) (operand-same cs i))
 
     -- So does a sort.
-    pub step-same : (bs : List ℕ) → length bs ≤ n → (operand f bs then (λ t cs. rest f 15 (arg t none) cs)) ≡ (operand g bs then (λ t cs. rest g 15 (arg t none) cs))
+    pub step-same : (bs : List ℕ) → length bs ≤ n → (operand f bs then (λ t cs. rest f 15 (arg t no-args) cs)) ≡ (operand g bs then (λ t cs. rest g 15 (arg t no-args) cs))
     step-same bs h =
-        then-same (operand f bs) _ _ n (omega (arith, suffix-length (left (operand f bs)) bs (operand-suffix f c bs))) (λ t ds j. rest-same 15 (arg t none) ds j)
-        ∙ ap (λ p. p then (λ t cs. rest g 15 (arg t none) cs)) (operand-same bs h)
+        then-same (operand f bs) _ _ n (omega (arith, suffix-length (left (operand f bs)) bs (operand-suffix f c bs))) (λ t ds j. rest-same 15 (arg t no-args) ds j)
+        ∙ ap (λ p. p then (λ t cs. rest g 15 (arg t no-args) cs)) (operand-same bs h)
 
 -- Any depth above the length of the line reads the same.
 pub depth-enough : (d e : ℕ) (bs : List ℕ) → length bs < d → length bs < e → sortTo d bs ≡ sortTo e bs
@@ -92,10 +92,10 @@ pub sortTo-is-sort : (d : ℕ) (bs : List ℕ) → length bs < d → sortTo d bs
 unfolding sort
 sortTo-is-sort d bs h = depth-enough d (suc (length bs)) bs h (omega arith)
 
-sort-at : (bs : List ℕ) → sort bs ≡ (operand (sortTo (length bs)) bs then (λ t cs. rest (sortTo (length bs)) 15 (arg t none) cs))
+sort-at : (bs : List ℕ) → sort bs ≡ (operand (sortTo (length bs)) bs then (λ t cs. rest (sortTo (length bs)) 15 (arg t no-args) cs))
 unfolding sort sortTo
 sort-at bs = refl
 
 -- `sort` by itself: an operand, and what may follow it, with `sort` for the sorts within.
-pub sort-is : (bs : List ℕ) → sort bs ≡ (operand sort bs then (λ t cs. rest sort 15 (arg t none) cs))
+pub sort-is : (bs : List ℕ) → sort bs ≡ (operand sort bs then (λ t cs. rest sort 15 (arg t no-args) cs))
 sort-is bs = sort-at bs ∙ step-same (sortTo (length bs)) sort (length bs) (λ cs h. sortTo-is-sort (length bs) cs h) (sortTo-suffix (length bs)) bs (omega arith)

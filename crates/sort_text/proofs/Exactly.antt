@@ -5,7 +5,7 @@ use mathlib.Core.Logic.{_↔_}
 use mathlib.Core.List.{List, []}
 use Prim.Native.Nat.{ℕ, zero, suc, _+_, _-_, _≤_}
 use native.Mathlib.Omega.{arith}
-use Rattle.resolved_sort.specs.Tree.{Tree, function, Trees, end as none, arg, arity}
+use Rattle.resolved_sort.specs.Tree.{Tree, function, Trees, end as no-args, arg, arity}
 use Rattle.sort_text.specs.Tokens.{isLetter, Next, end, word, open-bracket, close-bracket, hash, arrow, bad, skip, next}
 use Rattle.sort_text.specs.Parse.{Parsed, parsed, _then_, closing, bracketed, operandOf, operandAt, operand, snoc, alone, restAt, rest, sort, ending, line}
 use Rattle.sort_text.proofs.Depth.{sort-is}
@@ -22,7 +22,7 @@ Stops (arrow bs) = ⊥
 Stops bad = Unit {0}
 
 -- how what follows an operand goes on, by the token
-stops-at : (t : Tree) (at bs : List ℕ) (m : List ℕ → Parsed) (n : Next) → Stops n → restAt sort (arg t none) at bs m n ≡ parsed t bs
+stops-at : (t : Tree) (at bs : List ℕ) (m : List ℕ → Parsed) (n : Next) → Stops n → restAt sort (arg t no-args) at bs m n ≡ parsed t bs
 unfolding restAt alone
 stops-at t at bs m end h = refl
 stops-at t at bs m (word w cs) h = refl
@@ -32,7 +32,7 @@ stops-at t at bs m (hash cs) h = absurd h
 stops-at t at bs m (arrow cs) h = absurd h
 stops-at t at bs m bad h = refl
 
-rest-stops : (k : ℕ) (t : Tree) (bs : List ℕ) → Stops (next isLetter bs) → rest sort k (arg t none) bs ≡ parsed t bs
+rest-stops : (k : ℕ) (t : Tree) (bs : List ℕ) → Stops (next isLetter bs) → rest sort k (arg t no-args) bs ≡ parsed t bs
 unfolding rest
 rest-stops zero t bs h = stops-at t (skip bs) bs _ (next isLetter bs) h
 rest-stops (suc k) t bs h = stops-at t (skip bs) bs _ (next isLetter bs) h
@@ -47,9 +47,9 @@ unfolding rest restAt
 rest-hash k ts bs cs e = ap (restAt sort ts (skip bs) bs _) e
 
 abbrev step : List ℕ → Parsed
-step bs = operand sort bs then (λ t cs. rest sort 15 (arg t none) cs)
+step bs = operand sort bs then (λ t cs. rest sort 15 (arg t no-args) cs)
 
-one-fits : (t : Tree) (k : ℕ) → arity (arg t none) + k ≡ 16 → 15 ≡ k
+one-fits : (t : Tree) (k : ℕ) → arity (arg t no-args) + k ≡ 16 → 15 ≡ k
 unfolding arity
 one-fits t k e = omega arith
 
@@ -69,14 +69,14 @@ mutual
 
   sort-is-read : {bs cs : List ℕ} {t : Tree} → SortOf bs t cs → Stops (next isLetter cs) → sort bs ≡ parsed t cs
   sort-is-read {bs} {cs} {t} (one-operand h) s =
-      sort-is bs ∙ (ap (λ p. p then (λ u gs. rest sort 15 (arg u none) gs)) (operand-is-read h) ∙ rest-stops 15 t cs s)
+      sort-is bs ∙ (ap (λ p. p then (λ u gs. rest sort 15 (arg u no-args) gs)) (operand-is-read h) ∙ rest-stops 15 t cs s)
   sort-is-read (function-of {bs} {cs} {ds} {es} {ts} {r} h l e k) s =
       let (j, q) = room ts l in
       sort-is bs ∙ (operands-are-read h j q ∙ (rest-arrow j ts cs ds e ∙ ap (λ p. p then (λ u gs. parsed (function ts u) gs)) (sort-is-read k s)))
 
   operands-are-read : {bs cs : List ℕ} {ts : Trees} → Operands bs ts cs → (k : ℕ) → arity ts + k ≡ 16 → step bs ≡ rest sort k ts cs
   operands-are-read {cs = cs} (first {t = t} h) k q =
-      ap (λ p. p then (λ u gs. rest sort 15 (arg u none) gs)) (operand-is-read h) ∙ ap (λ j. rest sort j (arg t none) cs) (one-fits t k q)
+      ap (λ p. p then (λ u gs. rest sort 15 (arg u no-args) gs)) (operand-is-read h) ∙ ap (λ j. rest sort j (arg t no-args) cs) (one-fits t k q)
   operands-are-read {cs = es} (another {cs = cs} {ds = ds} {ts = ts} {us = us} {t = t} h e o i) k q =
       operands-are-read h (suc k) (omega (arith, arity-snoc ts t, ap arity i))
       ∙ (rest-hash k ts cs ds e ∙ (ap (λ p. p then (λ u gs. rest sort k (snoc ts u) gs)) (operand-is-read o) ∙ ap (λ vs. rest sort k vs es) (sym i)))

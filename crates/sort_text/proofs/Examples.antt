@@ -1,4 +1,4 @@
--- Most of the readings' table of lines and document 01's examples, computed from the definitions: one test over a list of cases.
+-- Lines that are sorts or stop at each kind of token, and document 01's examples, computed from the definitions: one test over a list of cases.
 -- Assumes nothing.
 use mathlib.Core.Path.{_≡_, refl}
 use lib.ListN.{replicate}
@@ -7,7 +7,7 @@ use mathlib.Core.List.{List, [], _∷_, _++_, map}
 use Prim.Native.Nat.{ℕ}
 use Rattle.resolved_sort.specs.declared.Sort.{Sort}
 use Rattle.resolved_sort.specs.declared.ComplexSort.{ComplexSort}
-use Rattle.resolved_sort.specs.Tree.{primitive, Tree, flat, container, function, Trees, end as none, arg}
+use Rattle.resolved_sort.specs.Tree.{primitive, Tree, flat, container, function, Trees, end as no-args, arg}
 use Rattle.resolved_sort.specs.Tree
 use Rattle.resolved_sort.specs.Order
 use Rattle.sort_text.specs.Tokens
@@ -73,8 +73,8 @@ lines-are-read : map line (
     ∷ stuck (40 ∷ 32 ∷ 80 ∷ 111 ∷ 115 ∷ 32 ∷ [])
     ∷ stuck []
     ∷ parsed (container ComplexSort.FSet pos) []
-    ∷ parsed (function (arg nat none) (function (arg pos (arg bool none)) nat)) []
-    ∷ parsed (container ComplexSort.List (function (arg nat (arg pos none)) bool)) []
+    ∷ parsed (function (arg nat no-args) (function (arg pos (arg bool no-args)) nat)) []
+    ∷ parsed (container ComplexSort.List (function (arg nat (arg pos no-args)) bool)) []
     ∷ stuck (35 ∷ 32 ∷ 78 ∷ 97 ∷ 116 ∷ 32 ∷ 45 ∷ 62 ∷ 32 ∷ 66 ∷ 111 ∷ 111 ∷ 108 ∷ [])
     ∷ []
 unfolding line Parse.ending Parse.sort Parse.sortTo Parse.rest Parse.restAt Parse.alone Parse.snoc Parse.operand Parse.operandAt Parse.operandOf Parse.bracketed Parse.closing Parse.meaning Parse.sameBytes Parse.sortWord Parse.opWord Tokens.next Tokens.start Tokens.skip Tokens.run Tokens.past

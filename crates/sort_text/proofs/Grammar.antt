@@ -6,7 +6,7 @@ use Prim.Native.Nat.{ℕ, zero, suc, _+_, _≤_}
 use native.Mathlib.Omega.{arith}
 use Rattle.resolved_sort.specs.declared.Sort.{Sort}
 use Rattle.resolved_sort.specs.declared.ComplexSort.{ComplexSort}
-use Rattle.resolved_sort.specs.Tree.{primitive, Tree, flat, container, function, Trees, end as none, arg, arity}
+use Rattle.resolved_sort.specs.Tree.{primitive, Tree, flat, container, function, Trees, end as no-args, arg, arity}
 use Rattle.sort_text.specs.Tokens.{isLetter, Next, end, word, open-bracket, close-bracket, hash, arrow, bad, skip, next}
 use Rattle.sort_text.specs.Parse.{Parsed, parsed, _then_, Meaning, basic, over, unknown, meaning, closing, bracketed, operandOf, operandAt, operand, snoc, alone, restAt, rest, sortTo, sort, ending, line}
 use Rattle.sort_text.proofs.Progress.{IfRead, then-if-read, read}
@@ -23,7 +23,7 @@ mutual
     function-of : {bs cs ds es : List ℕ} {ts : Trees} {r : Tree} → Operands bs ts cs → arity ts ≤ 16 → next isLetter cs ≡ arrow ds → SortOf ds r es → SortOf bs (function ts r) es
 
   pub data Operands : List ℕ → Trees → List ℕ → Type 0 where
-    first : {bs cs : List ℕ} {t : Tree} → Operand bs t cs → Operands bs (arg t none) cs
+    first : {bs cs : List ℕ} {t : Tree} → Operand bs t cs → Operands bs (arg t no-args) cs
     another : {bs cs ds es : List ℕ} {ts us : Trees} {t : Tree} → Operands bs ts cs → next isLetter cs ≡ hash ds → Operand ds t es → us ≡ snoc ts t → Operands bs us es
 
 -- a reader of sorts
@@ -33,8 +33,8 @@ Reads f = (bs : List ℕ) → IfRead (SortOf bs) (f bs)
 -- two operands alone are no sort
 two-alone : (P : Tree → List ℕ → Type 0) (ts : Trees) (t u : Tree) (at cs : List ℕ) → IfRead P (alone (snoc (snoc ts t) u) at cs)
 unfolding alone snoc
-two-alone P none t u at cs = tt
-two-alone P (arg x none) t u at cs = tt
+two-alone P no-args t u at cs = tt
+two-alone P (arg x no-args) t u at cs = tt
 two-alone P (arg x (arg y ts)) t u at cs = tt
 
 snoc-alone : {bs cs : List ℕ} {ts : Trees} → Operands bs ts cs → (P : Tree → List ℕ → Type 0) (u : Tree) (at ds : List ℕ) → IfRead P (alone (snoc ts u) at ds)
@@ -49,7 +49,7 @@ alone-read {bs} {cs} (another {t = t} h e k i) at = rw i (snoc-alone h (SortOf b
 
 pub arity-snoc : (ts : Trees) (t : Tree) → arity (snoc ts t) ≡ arity ts + 1
 unfolding arity snoc
-arity-snoc none t = refl
+arity-snoc no-args t = refl
 arity-snoc (arg s ts) t = rw (arity-snoc ts t)
 
 closing-read : (bs : List ℕ) {w cs ds es : List ℕ} {o : ComplexSort} {t : Tree} → next isLetter bs ≡ word w cs → meaning w ≡ over o → next isLetter cs ≡ open-bracket ds → SortOf ds t es
@@ -114,7 +114,7 @@ module _ (f : List ℕ → Parsed) (g : Reads f) where
       restAt-read a (omega arith) (skip cs) _ (next isLetter cs) refl
       (λ ds e. then-if-read (Operand ds) (SortOf bs) (operand f ds) _ (operand-read ds) (λ t es h. rest-read k (another a e h refl) (omega (arith, arity-snoc ts t))))
 
-  step-read : (bs : List ℕ) → IfRead (SortOf bs) (operand f bs then (λ t cs. rest f 15 (arg t none) cs))
+  step-read : (bs : List ℕ) → IfRead (SortOf bs) (operand f bs then (λ t cs. rest f 15 (arg t no-args) cs))
   unfolding arity
   step-read bs = then-if-read (Operand bs) (SortOf bs) (operand f bs) _ (operand-read bs) (λ t cs h. rest-read 15 (first h) (omega arith))
 

@@ -3,13 +3,13 @@
 use mathlib.Core.Path.{_≡_, refl, ap, subst}
 use mathlib.Core.Bool.{Bool, true, false, cond, not}
 use mathlib.Core.List.{List}
-use mathlib.Core.Option.{Option, some, none as no-tree}
+use mathlib.Core.Option.{Option, some, none}
 use Prim.Native.Nat.{ℕ, _+_, _*_, _≤_}
 use native.Mathlib.Omega.{arith}
 use lib.ListN.{length, length-append}
 use lib.Dec.{eqb}
 use Rattle.resolved_sort.specs.declared.ComplexSort.{ComplexSort}
-use Rattle.resolved_sort.specs.Tree.{Flat, unit, primitive, def, typevar, Tree, flat, container, function, Trees, end as none, arg, family, level, familyOp, levelOp}
+use Rattle.resolved_sort.specs.Tree.{Flat, unit, primitive, def, typevar, Tree, flat, container, function, Trees, end as no-args, arg, family, level, familyOp, levelOp}
 use Rattle.resolved_sort.specs.Order.{leLevel, boundFlat, boundOp, map₁, map₂, bound, bounds}
 use Rattle.sort_text.specs.Tokens.{isLetter}
 use Rattle.sort_text.specs.Parse.{parsed, opWord, snoc, line}
@@ -26,11 +26,11 @@ unfoldable mutual
   wide (function ts r) = wides ts + 4 + wide r
 
   pub wides : Trees → ℕ
-  wides none = 0
+  wides no-args = 0
   wides (arg t ts) = wide t + wider ts
 
   pub wider : Trees → ℕ
-  wider none = 0
+  wider no-args = 0
   wider (arg t ts) = wide t + wider ts + 3
 
 flat-text : (a : Flat) → length (flatText a) ≤ 4
@@ -48,21 +48,21 @@ mutual
   text-length (function ts r) = simp length-append (omega (arith, texts-length ts, text-length r))
 
   texts-length : (ts : Trees) → length (texts ts) ≤ wides ts
-  texts-length none = omega arith
+  texts-length no-args = omega arith
   texts-length (arg t ts) = simp length-append (omega (arith, text-length t, more-length ts))
 
   more-length : (ts : Trees) → length (more ts) ≤ wider ts
-  more-length none = omega arith
+  more-length no-args = omega arith
   more-length (arg t ts) = simp length-append (omega (arith, text-length t, more-length ts))
 
 wider-snoc : (ts : Trees) (t : Tree) → wider (snoc ts t) ≡ wider ts + wide t + 3
 unfolding wider snoc
-wider-snoc none t = omega arith
+wider-snoc no-args t = omega arith
 wider-snoc (arg s ts) t = omega (arith, wider-snoc ts t)
 
 wides-snoc : (ts : Trees) (t : Tree) → wides (snoc ts t) ≤ wides ts + wide t + 3
 unfolding wides wider snoc
-wides-snoc none t = omega arith
+wides-snoc no-args t = omega arith
 wides-snoc (arg s ts) t = omega (arith, wider-snoc ts t)
 
 mutual
@@ -91,21 +91,21 @@ line-text-length bs cs t e = omega (arith, line-wide bs cs t e, text-length t)
 
 -- what holds of an answer, if there is one
 abbrev pub IfSome : {A : Type 0} → (A → Type 0) → Option A → Type 0
-IfSome P no-tree = Unit {0}
+IfSome P none = Unit {0}
 IfSome P (some a) = P a
 
 pub map₁-if-some : {A B : Type 0} (P : A → Type 0) (Q : B → Type 0) (f : A → B) (x : Option A) → IfSome P x → ((a : A) → P a → Q (f a)) → IfSome Q (map₁ f x)
-map₁-if-some P Q f no-tree h k = tt
+map₁-if-some P Q f none h k = tt
 map₁-if-some P Q f (some a) h k = k a h
 
 pub map₂-if-some : {A B C : Type 0} (P : A → Type 0) (Q : B → Type 0) (R : C → Type 0) (f : A → B → C) (x : Option A) (y : Option B)
     → IfSome P x → IfSome Q y → ((a : A) (b : B) → P a → Q b → R (f a b)) → IfSome R (map₂ f x y)
-map₂-if-some P Q R f no-tree y h i k = tt
-map₂-if-some P Q R f (some a) no-tree h i k = tt
+map₂-if-some P Q R f none y h i k = tt
+map₂-if-some P Q R f (some a) none h i k = tt
 map₂-if-some P Q R f (some a) (some b) h i k = k a b h i
 
 pub any : {A : Type 0} (x : Option A) → IfSome (λ a. Unit {0}) x
-any no-tree = tt
+any none = tt
 any (some a) = tt
 
 pub if-some-is : {A : Type 0} (P : A → Type 0) (x : Option A) (a : A) → IfSome P x → x ≡ some a → P a
@@ -134,9 +134,9 @@ mutual
       (λ vs v h k. omega (arith, h .0, k))
 
   wides-if-bound : (up : Bool) (ss ts : Trees) → IfSome (AsWide ss) (bounds up ss ts)
-  wides-if-bound up none none = (refl, refl)
-  wides-if-bound up none (arg t ts) = tt
-  wides-if-bound up (arg s ss) none = tt
+  wides-if-bound up no-args no-args = (refl, refl)
+  wides-if-bound up no-args (arg t ts) = tt
+  wides-if-bound up (arg s ss) no-args = tt
   wides-if-bound up (arg s ss) (arg t ts) =
       map₂-if-some (λ v. wide v ≡ wide s) (AsWide ss) (AsWide (arg s ss)) arg (bound up s t) (bounds up ss ts) (wide-if-bound up s t) (wides-if-bound up ss ts)
       (λ v vs h k. (omega (arith, h, k .1), omega (arith, h, k .1)))
@@ -149,12 +149,12 @@ pub line-bound-length : (bs cs : List ℕ) (s t u : Tree) (up : Bool) → line b
 line-bound-length bs cs s t u up e h = omega (arith, line-wide bs cs s e, bound-wide up s t u h, text-length u)
 
 -- Of any two sorts: at each place the text has a word of one of the two.
-flat-either : (a b : Flat) (f l : Bool) → IfSome (λ c. length (flatText c) ≤ length (flatText a) + length (flatText b)) (cond f (some (cond l b a)) no-tree)
+flat-either : (a b : Flat) (f l : Bool) → IfSome (λ c. length (flatText c) ≤ length (flatText a) + length (flatText b)) (cond f (some (cond l b a)) none)
 flat-either a b true true = omega arith
 flat-either a b true false = omega arith
 flat-either a b false l = tt
 
-op-either : (o p : ComplexSort) (f l : Bool) → IfSome (λ q. length (opWord q) ≤ length (opWord o) + length (opWord p)) (cond f (some (cond l p o)) no-tree)
+op-either : (o p : ComplexSort) (f l : Bool) → IfSome (λ q. length (opWord q) ≤ length (opWord o) + length (opWord p)) (cond f (some (cond l p o)) none)
 op-either o p true true = omega arith
 op-either o p true false = omega arith
 op-either o p false l = tt
@@ -206,9 +206,9 @@ mutual
       (λ vs v h k. function-both ss ts vs r u v h k)
 
   boths-if-bound : (up : Bool) (ss ts : Trees) → IfSome (BothAll ss ts) (bounds up ss ts)
-  boths-if-bound up none none = omega arith
-  boths-if-bound up none (arg t ts) = tt
-  boths-if-bound up (arg s ss) none = tt
+  boths-if-bound up no-args no-args = omega arith
+  boths-if-bound up no-args (arg t ts) = tt
+  boths-if-bound up (arg s ss) no-args = tt
   boths-if-bound up (arg s ss) (arg t ts) =
       map₂-if-some (Both s t) (BothAll ss ts) (BothAll (arg s ss) (arg t ts)) arg (bound up s t) (bounds up ss ts) (both-if-bound up s t) (boths-if-bound up ss ts)
       (λ v vs h k. argument-both s t v ss ts vs h k)

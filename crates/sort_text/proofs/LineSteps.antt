@@ -9,7 +9,7 @@ use lib.ListN.{length, length-append}
 use borrow.Author.Tests.{leb-true}
 use Rattle.resolved_sort.specs.declared.Sort.{Sort}
 use Rattle.resolved_sort.specs.declared.ComplexSort.{ComplexSort}
-use Rattle.resolved_sort.specs.Tree.{Flat, unit, primitive, def, typevar, Tree, flat, container, function, Trees, end as none, arg, arity}
+use Rattle.resolved_sort.specs.Tree.{Flat, unit, primitive, def, typevar, Tree, flat, container, function, Trees, end as no-args, arg, arity}
 use Rattle.resolved_sort.specs.Storage.{kindFlat, kindOp}
 use Rattle.sort_text.specs.Parse.{parsed, line}
 use Rattle.sort_text.specs.Postfix.{postfix, postfixes, Short}
@@ -27,7 +27,7 @@ mutual
   postfix-length (function ts r) = simp length-append (omega (arith, postfixes-length ts, postfix-length r))
 
   pub postfixes-length : (ts : Trees) → length (postfixes ts) ≡ sizes ts
-  postfixes-length none = omega arith
+  postfixes-length no-args = omega arith
   postfixes-length (arg t ts) = simp length-append (omega (arith, postfix-length t, postfixes-length ts))
 
 pub short-append : (xs ys : List ℕ) → Short xs → Short ys → Short (xs ++ ys)
@@ -70,7 +70,7 @@ mutual
       (short-append (postfix r) ((16 + arity ts) ∷ []) (postfix-short r (p .3)) (short-one (16 + arity ts) (omega (arith, leb-true (arity ts) 16 (p .1)))))
 
   pub postfixes-short : (ts : Trees) → arguments ts ≡ true → Short (postfixes ts)
-  postfixes-short none h = tt
+  postfixes-short no-args h = tt
   postfixes-short (arg t ts) h =
       let p = argument-readable t ts h in
       short-append (postfix t) (postfixes ts) (postfix-short t (p .1)) (postfixes-short ts (p .2))

@@ -7,7 +7,7 @@ use Prim.Native.Nat.{ℕ, _+_, _-_, _≤_, _<_}
 use native.Mathlib.Omega.{arith}
 use lib.ListN.{length}
 use Rattle.resolved_sort.specs.declared.ComplexSort.{ComplexSort}
-use Rattle.resolved_sort.specs.Tree.{Flat, Tree, flat, container, function, Trees, end as none, arg, arity}
+use Rattle.resolved_sort.specs.Tree.{Flat, Tree, flat, container, function, Trees, end as no-args, arg, arity}
 use Rattle.resolved_sort.specs.Interning.{Sorts, member, need, Outcome, made, nothing, full, _then_, fits, intern, make}
 use Rattle.resolved_sort.specs.Storage.{sortsOf}
 use Rattle.sort_text.specs.Parse.{parsed, line}
@@ -54,7 +54,7 @@ mutual
       (λ v S₂ e y. interned-as (function ts r) (function us v) (arity ts) S₂ (ap₂ function d e) (function-need ts r) (omega (arith, x, y)) (omega (arith, x, y)))))
 
   pub stores-within : (ts : Trees) (S : Sorts) → sizes ts ≤ S .rows → entriesIn ts ≤ S .entries → Within (Is ts) (sizes ts) (entriesIn ts) S (stores ts S)
-  stores-within none S p q = made-within (Is none) 0 0 none S refl
+  stores-within no-args S p q = made-within (Is no-args) 0 0 no-args S refl
   stores-within (arg t ts) S p q =
       within-then (Is t) (Is (arg t ts)) (size t) (entriesOf t) (sizes ts) (entriesIn ts) S (store t S) _ (store-within t S (omega arith) (omega arith))
       (λ u S₁ d x. within-more (Is (arg t ts)) (sizes ts + 0) (entriesIn ts + 0) (sizes ts) (entriesIn ts) S₁ _ (omega arith) (omega arith)
@@ -91,7 +91,7 @@ mutual
   store-makes (function ts r) S = makes-then (stores ts S) _ (stores-make ts S) (λ us S₁. makes-then (store r S₁) _ (store-makes r S₁) (λ v S₂. intern-makes (function us v) S₂))
 
   stores-make : (ts : Trees) (S : Sorts) → Makes (stores ts S)
-  stores-make none S = tt
+  stores-make no-args S = tt
   stores-make (arg t ts) S = makes-then (store t S) _ (store-makes t S) (λ u S₁. makes-then (stores ts S₁) _ (stores-make ts S₁) (λ us S₂. tt))
 
 -- the list that an outcome leaves, and whether room had ended

@@ -7,7 +7,7 @@ use Prim.Native.Nat.{ℕ, zero, suc, _+_, _≤_, _<_}
 use native.Mathlib.Omega.{arith}
 use lib.ListN.{length, length-append}
 use lib.Dec.{eqb}
-use Rattle.resolved_sort.specs.Tree.{Tree, end as none, arg}
+use Rattle.resolved_sort.specs.Tree.{Tree, end as no-args, arg}
 use Rattle.sort_text.specs.Tokens.{isLetter, Next, end, word, open-bracket, close-bracket, hash, arrow, bad, run, past, skip, dash, start, nextAt, next}
 use Rattle.sort_text.specs.Parse.{Parsed, parsed, stuck, _then_, Meaning, basic, over, unknown, meaning, bracketed, operandOf, operandAt, operand, rest, sortTo, sort}
 use Rattle.sort_text.proofs.Suffix.{after, suffix-length, skip-suffix, next-suffix, run-past, left, Leaves, bracketed-suffix, rest-suffix, sortTo-suffix}
@@ -131,10 +131,10 @@ module _ (f : List ℕ → Parsed) (g : Leaves f) where
   pub operand-takes : (bs cs : List ℕ) (t : Tree) → operand f bs ≡ parsed t cs → length cs < length bs
   operand-takes bs cs t e = read (Fewer (length bs)) (operand f bs) t cs (operand-fewer bs) e
 
-  step-fewer : (bs : List ℕ) → IfRead (Fewer (length bs)) (operand f bs then (λ t cs. rest f 15 (arg t none) cs))
+  step-fewer : (bs : List ℕ) → IfRead (Fewer (length bs)) (operand f bs then (λ t cs. rest f 15 (arg t no-args) cs))
   step-fewer bs =
       then-if-read (Fewer (length bs)) (Fewer (length bs)) (operand f bs) _ (operand-fewer bs)
-      (λ t cs h. if-read-left (rest f 15 (arg t none) cs) (length bs) (omega (arith, h, suffix-length _ cs (rest-suffix f g 15 (arg t none) cs))))
+      (λ t cs h. if-read-left (rest f 15 (arg t no-args) cs) (length bs) (omega (arith, h, suffix-length _ cs (rest-suffix f g 15 (arg t no-args) cs))))
 
 -- A sort takes at least one byte.
 pub sortTo-takes : (d : ℕ) (bs cs : List ℕ) (t : Tree) → sortTo d bs ≡ parsed t cs → length cs < length bs

@@ -6,7 +6,7 @@ use Prim.Native.Nat.{ℕ, _+_}
 use lib.Dec.{leb}
 use Rattle.resolved_sort.specs.Tree.{Tree, flat, container, function, Trees, end, arg, arity}
 use Rattle.sort_text.specs.Parse.{maxArguments}
-use Rattle.sort_text.specs.Text.{some, flatWritable, writable, writables}
+use Rattle.sort_text.specs.Text.{nonempty, flatWritable, writable, writables}
 
 abbrev pub isFunction : Tree → Bool
 isFunction (flat a) = false
@@ -17,7 +17,7 @@ unfoldable mutual
   pub readable : Tree → Bool
   readable (flat a) = flatWritable a
   readable (container o t) = readable t
-  readable (function ts r) = some ts && leb (arity ts) maxArguments && arguments ts && readable r
+  readable (function ts r) = nonempty ts && leb (arity ts) maxArguments && arguments ts && readable r
 
   -- readable, and no function
   pub arguments : Trees → Bool
@@ -68,18 +68,18 @@ and-right a b e = and-eq-true-iff a b .0 e .1
 
 -- the parts of what a function asks
 pub function-readable : (ts : Trees) (r : Tree) → readable (function ts r) ≡ true
-    → (some ts ≡ true) × (leb (arity ts) maxArguments ≡ true) × (arguments ts ≡ true) × (readable r ≡ true)
+    → (nonempty ts ≡ true) × (leb (arity ts) maxArguments ≡ true) × (arguments ts ≡ true) × (readable r ≡ true)
 unfolding readable
 function-readable ts r e =
-    let a = and-left (some ts && leb (arity ts) maxArguments && arguments ts) (readable r) e in
-    let b = and-left (some ts && leb (arity ts) maxArguments) (arguments ts) a in (
-      and-left (some ts) (leb (arity ts) maxArguments) b,
-      and-right (some ts) (leb (arity ts) maxArguments) b,
-      and-right (some ts && leb (arity ts) maxArguments) (arguments ts) a,
-      and-right (some ts && leb (arity ts) maxArguments && arguments ts) (readable r) e,
+    let a = and-left (nonempty ts && leb (arity ts) maxArguments && arguments ts) (readable r) e in
+    let b = and-left (nonempty ts && leb (arity ts) maxArguments) (arguments ts) a in (
+      and-left (nonempty ts) (leb (arity ts) maxArguments) b,
+      and-right (nonempty ts) (leb (arity ts) maxArguments) b,
+      and-right (nonempty ts && leb (arity ts) maxArguments) (arguments ts) a,
+      and-right (nonempty ts && leb (arity ts) maxArguments && arguments ts) (readable r) e,
     )
 
-pub readable-function : (ts : Trees) (r : Tree) → some ts ≡ true → leb (arity ts) maxArguments ≡ true → arguments ts ≡ true → readable r ≡ true → readable (function ts r) ≡ true
+pub readable-function : (ts : Trees) (r : Tree) → nonempty ts ≡ true → leb (arity ts) maxArguments ≡ true → arguments ts ≡ true → readable r ≡ true → readable (function ts r) ≡ true
 unfolding readable
 readable-function ts r a b c d = and-both _ _ (and-both _ _ (and-both _ _ a b) c) d
 
@@ -127,11 +127,11 @@ mutual
   parts-readable (flat a) w f n = w
   parts-readable (container o t) w f n = parts-readable t w f n
   parts-readable (function ts r) w f n =
-      let a = and-left (some ts && writables ts) (writable r) w in
+      let a = and-left (nonempty ts && writables ts) (writable r) w in
       let b = and-left (leb (arity ts) maxArguments && fews ts) (few r) f in
-      readable-function ts r (and-left (some ts) (writables ts) a) (and-left (leb (arity ts) maxArguments) (fews ts) b)
-      (parts-arguments ts (and-right (some ts) (writables ts) a) (and-right (leb (arity ts) maxArguments) (fews ts) b) (and-left (noFunctions ts) (noFunctionArgument r) n))
-      (parts-readable r (and-right (some ts && writables ts) (writable r) w) (and-right (leb (arity ts) maxArguments && fews ts) (few r) f) (and-right (noFunctions ts) (noFunctionArgument r) n))
+      readable-function ts r (and-left (nonempty ts) (writables ts) a) (and-left (leb (arity ts) maxArguments) (fews ts) b)
+      (parts-arguments ts (and-right (nonempty ts) (writables ts) a) (and-right (leb (arity ts) maxArguments) (fews ts) b) (and-left (noFunctions ts) (noFunctionArgument r) n))
+      (parts-readable r (and-right (nonempty ts && writables ts) (writable r) w) (and-right (leb (arity ts) maxArguments && fews ts) (few r) f) (and-right (noFunctions ts) (noFunctionArgument r) n))
 
   pub parts-arguments : (ts : Trees) → writables ts ≡ true → fews ts ≡ true → noFunctions ts ≡ true → arguments ts ≡ true
   parts-arguments end w f n = refl

@@ -3,20 +3,20 @@
 use mathlib.Core.Path.{_≡_, refl, _∙_, ap}
 use mathlib.Core.Bool.{Bool, true, false, cond, not}
 use mathlib.Core.List.{List, []}
-use mathlib.Core.Option.{some, none as no-tree}
+use mathlib.Core.Option.{some, none}
 use Prim.Native.Nat.{ℕ, _+_}
 use lib.Dec.{eqb, leb}
-use Rattle.resolved_sort.specs.Tree.{Flat, Tree, flat, container, function, Trees, end as none, arg, arity, family, level}
+use Rattle.resolved_sort.specs.Tree.{Flat, Tree, flat, container, function, Trees, end as no-args, arg, arity, family, level}
 use Rattle.resolved_sort.specs.Order.{leLevel, boundFlat, boundOp, bound, bounds}
 use Rattle.sort_text.specs.Parse.{parsed, line, maxArguments}
-use Rattle.sort_text.specs.Text.{some as has, flatWritable, writable, text}
+use Rattle.sort_text.specs.Text.{nonempty, flatWritable, writable, text}
 use Rattle.sort_text.proofs.Readable.{isFunction, readable, arguments, function-readable, readable-function, argument-readable, readable-argument, readable-parts}
 use Rattle.sort_text.proofs.WhatIsRead.{line-readable}
 use Rattle.sort_text.proofs.RoundTrip.{line-of-text}
 use Rattle.sort_text.proofs.Length.{IfSome, map₁-if-some, map₂-if-some, any, if-some-is}
 
 -- of two heads the bound is one
-flat-by : (P : Flat → Type 0) (a b : Flat) (f l : Bool) → P a → P b → IfSome P (cond f (some (cond l b a)) no-tree)
+flat-by : (P : Flat → Type 0) (a b : Flat) (f l : Bool) → P a → P b → IfSome P (cond f (some (cond l b a)) none)
 flat-by P a b true true x y = y
 flat-by P a b true false x y = x
 flat-by P a b false l x y = tt
@@ -30,7 +30,7 @@ abbrev Like : Tree → Tree → Type 0
 Like s u = (isFunction u ≡ isFunction s) × (readable u ≡ true)
 
 abbrev LikeAll : Trees → Trees → Type 0
-LikeAll ss us = (has us ≡ has ss) × (arity us ≡ arity ss) × (arguments us ≡ true)
+LikeAll ss us = (nonempty us ≡ nonempty ss) × (arity us ≡ arity ss) × (arguments us ≡ true)
 
 function-like : (ss : Trees) (r : Tree) → readable (function ss r) ≡ true → (vs : Trees) (v : Tree) → LikeAll ss vs → Like r v → Like (function ss r) (function vs v)
 function-like ss r h vs v a b =
@@ -64,9 +64,9 @@ mutual
       (function-like ss r h)
 
   likes-if-bound : (up : Bool) (ss ts : Trees) → arguments ss ≡ true → arguments ts ≡ true → IfSome (LikeAll ss) (bounds up ss ts)
-  likes-if-bound up none none h k = (refl, refl, refl)
-  likes-if-bound up none (arg t ts) h k = tt
-  likes-if-bound up (arg s ss) none h k = tt
+  likes-if-bound up no-args no-args h k = (refl, refl, refl)
+  likes-if-bound up no-args (arg t ts) h k = tt
+  likes-if-bound up (arg s ss) no-args h k = tt
   likes-if-bound up (arg s ss) (arg t ts) h k =
       let p = argument-readable s ss h in
       let q = argument-readable t ts k in

@@ -10,10 +10,10 @@ use lib.Dec.{eqb}
 use borrow.Author.Tests.{not-true, leb-true}
 use Rattle.resolved_sort.specs.declared.Sort.{Sort}
 use Rattle.resolved_sort.specs.declared.ComplexSort.{ComplexSort}
-use Rattle.resolved_sort.specs.Tree.{Flat, unit, primitive, def, typevar, Tree, flat, container, function, Trees, end as none, arg, arity}
+use Rattle.resolved_sort.specs.Tree.{Flat, unit, primitive, def, typevar, Tree, flat, container, function, Trees, end as no-args, arg, arity}
 use Rattle.sort_text.specs.Tokens.{isLetter, Next, word, run, past, skip, start, nextAt, next}
 use Rattle.sort_text.specs.Parse.{parsed, _then_, sameBytes, sortWord, opWord, basic, over, meaning, closing, bracketed, operandOf, operandAt, operand, snoc, alone, restAt, rest, sort, ending, line}
-use Rattle.sort_text.specs.Text.{some, flatWritable, writable, between, arrow, text, texts, more}
+use Rattle.sort_text.specs.Text.{nonempty, flatWritable, writable, between, arrow, text, texts, more}
 use Rattle.sort_text.proofs.Depth.{sort-is}
 use Rattle.sort_text.proofs.Readable.{isFunction, readable, arguments, few, noFunctionArgument, and-left, and-right, function-readable, argument-readable, parts-readable}
 use Rattle.sort_text.proofs.WhatIsRead.{line-readable}
@@ -123,7 +123,7 @@ pub ending-no-letter : {rs : List ℕ} → Ending rs → noLetter rs ≡ true
 ending-no-letter nothing = refl
 ending-no-letter bracket = refl
 
-rest-ends : {rs : List ℕ} (t : Tree) → Ending rs → rest sort 15 (arg t none) rs ≡ parsed t rs
+rest-ends : {rs : List ℕ} (t : Tree) → Ending rs → rest sort 15 (arg t no-args) rs ≡ parsed t rs
 unfolding rest restAt alone next skip past start
 rest-ends t nothing = refl
 rest-ends t bracket = refl
@@ -137,7 +137,7 @@ OperandReadsBack t = (rs : List ℕ) → noLetter rs ≡ true → operand sort (
 
 -- an operand alone is a sort
 operand-sort : (t : Tree) → OperandReadsBack t → ReadsBack t
-operand-sort t h rs e = sort-is (text t ++ rs) ∙ (ap (λ p. p then (λ u cs. rest sort 15 (arg u none) cs)) (h rs (ending-no-letter e)) ∙ rest-ends t e)
+operand-sort t h rs e = sort-is (text t ++ rs) ∙ (ap (λ p. p then (λ u cs. rest sort 15 (arg u no-args) cs)) (h rs (ending-no-letter e)) ∙ rest-ends t e)
 
 operand-flat : (a : Flat) → flatWritable a ≡ true → OperandReadsBack (flat a)
 unfolding operand operandAt operandOf text
@@ -173,25 +173,25 @@ unfolding operand next skip past
 operand-space bs = refl
 
 pub sort-space : (bs : List ℕ) → sort (32 ∷ bs) ≡ sort bs
-sort-space bs = sort-is (32 ∷ bs) ∙ (ap (λ p. p then (λ u cs. rest sort 15 (arg u none) cs)) (operand-space bs) ∙ sym (sort-is bs))
+sort-space bs = sort-is (32 ∷ bs) ∙ (ap (λ p. p then (λ u cs. rest sort 15 (arg u no-args) cs)) (operand-space bs) ∙ sym (sort-is bs))
 
 -- the arguments one by one
 unfoldable pub snocs : Trees → Trees → Trees
-snocs ts none = ts
+snocs ts no-args = ts
 snocs ts (arg u us) = snocs (snoc ts u) us
 
 snocs-cons : (t : Tree) (ts us : Trees) → snocs (arg t ts) us ≡ arg t (snocs ts us)
 unfolding snocs snoc
-snocs-cons t ts none = refl
+snocs-cons t ts no-args = refl
 snocs-cons t ts (arg u us) = snocs-cons t (snoc ts u) us
 
-snocs-none : (us : Trees) → snocs none us ≡ us
+snocs-no-args : (us : Trees) → snocs no-args us ≡ us
 unfolding snocs snoc
-snocs-none none = refl
-snocs-none (arg u us) = snocs-cons u none us ∙ ap (arg u) (snocs-none us)
+snocs-no-args no-args = refl
+snocs-no-args (arg u us) = snocs-cons u no-args us ∙ ap (arg u) (snocs-no-args us)
 
-snocs-one : (u : Tree) (us : Trees) → snocs (arg u none) us ≡ arg u us
-snocs-one u us = snocs-cons u none us ∙ ap (arg u) (snocs-none us)
+snocs-one : (u : Tree) (us : Trees) → snocs (arg u no-args) us ≡ arg u us
+snocs-one u us = snocs-cons u no-args us ∙ ap (arg u) (snocs-no-args us)
 
 rest-arrow : (k : ℕ) (ts : Trees) (bs : List ℕ) → rest sort k ts (arrow ++ bs) ≡ (sort (32 ∷ bs) then (λ r ds. parsed (function ts r) ds))
 unfolding rest restAt next skip past start
@@ -204,7 +204,7 @@ rest-hash k ts bs = refl
 
 more-no-letter : (us : Trees) (bs : List ℕ) → noLetter (more us ++ (arrow ++ bs)) ≡ true
 unfolding more
-more-no-letter none bs = refl
+more-no-letter no-args bs = refl
 more-no-letter (arg u us) bs = refl
 
 no-function : {P : Type 0} → not true ≡ true → P
@@ -226,19 +226,19 @@ mutual
   operand-text (container o t) n h = operand-container o t (sort-text t h)
   operand-text (function ts r) n h = no-function n
 
-  operands-text : (ts : Trees) → some ts ≡ true → arguments ts ≡ true → arity ts ≤ 16 → (r : Tree) (rs : List ℕ) → sort (text r ++ rs) ≡ parsed r rs
-      → (operand sort (texts ts ++ (arrow ++ (text r ++ rs))) then (λ t cs. rest sort 15 (arg t none) cs)) ≡ parsed (function ts r) rs
-  operands-text none s h l r rs e = cc
+  operands-text : (ts : Trees) → nonempty ts ≡ true → arguments ts ≡ true → arity ts ≤ 16 → (r : Tree) (rs : List ℕ) → sort (text r ++ rs) ≡ parsed r rs
+      → (operand sort (texts ts ++ (arrow ++ (text r ++ rs))) then (λ t cs. rest sort 15 (arg t no-args) cs)) ≡ parsed (function ts r) rs
+  operands-text no-args s h l r rs e = cc
   operands-text (arg u us) s h l r rs e =
       let p = argument-readable u us h in
       let x = arrow ++ (text r ++ rs) in
-      ap (λ bs. operand sort bs then (λ t cs. rest sort 15 (arg t none) cs)) (append-assoc (text u) (more us) x)
-      ∙ (ap (λ q. q then (λ t cs. rest sort 15 (arg t none) cs)) (operand-text u (p .0) (p .1) (more us ++ x) (more-no-letter us (text r ++ rs)))
-      ∙ (more-text us (p .2) 15 (arg u none) (omega arith) r rs e ∙ ap (λ ts. parsed (function ts r) rs) (snocs-one u us)))
+      ap (λ bs. operand sort bs then (λ t cs. rest sort 15 (arg t no-args) cs)) (append-assoc (text u) (more us) x)
+      ∙ (ap (λ q. q then (λ t cs. rest sort 15 (arg t no-args) cs)) (operand-text u (p .0) (p .1) (more us ++ x) (more-no-letter us (text r ++ rs)))
+      ∙ (more-text us (p .2) 15 (arg u no-args) (omega arith) r rs e ∙ ap (λ ts. parsed (function ts r) rs) (snocs-one u us)))
 
   more-text : (us : Trees) → arguments us ≡ true → (k : ℕ) (ts : Trees) → arity us ≤ k → (r : Tree) (rs : List ℕ) → sort (text r ++ rs) ≡ parsed r rs
       → rest sort k ts (more us ++ (arrow ++ (text r ++ rs))) ≡ parsed (function (snocs ts us) r) rs
-  more-text none h k ts l r rs e =
+  more-text no-args h k ts l r rs e =
       rest-arrow k ts (text r ++ rs) ∙ ap (λ p. p then (λ r ds. parsed (function ts r) ds)) (sort-space (text r ++ rs) ∙ e)
   more-text (arg u us) h zero ts l r rs e = absurd (omega arith)
   more-text (arg u us) h (suc k) ts l r rs e =

@@ -3,14 +3,14 @@
 use mathlib.Core.Path.{_≡_, refl, ap, subst}
 use mathlib.Core.Bool.{Bool, true, false, cond, not}
 use mathlib.Core.List.{[], _∷_, _++_}
-use mathlib.Core.Option.{Option, some, none as no-tree}
+use mathlib.Core.Option.{Option, some, none}
 use Prim.Native.Nat.{ℕ, _+_, _-_, _≤_, _<_}
 use native.Mathlib.Omega.{arith}
 use lib.ListN.{length, length-append}
 use lib.Dec.{eqb, leb, ltb}
 use borrow.Author.Tests.{lt-ltb, le-leb}
 use Rattle.resolved_sort.specs.declared.ComplexSort.{ComplexSort}
-use Rattle.resolved_sort.specs.Tree.{Tree, flat, container, function, Trees, end as none, arg, arity, same}
+use Rattle.resolved_sort.specs.Tree.{Tree, flat, container, function, Trees, end as no-args, arg, arity, same}
 use Rattle.resolved_sort.specs.Order.{boundFlat, boundOp, bound, bounds}
 use Rattle.resolved_sort.specs.Interning.{Sorts, member, need, Outcome, made, nothing, full, _then_, where-some, fits, intern, make, makes}
 use Rattle.resolved_sort.proofs.Numbers.{true-not-false}
@@ -37,9 +37,9 @@ mutual
       (size-if-bound up r u) (λ vs v h k. omega arith)
 
   sizes-if-bound : (up : Bool) (ss ts : Trees) → IfSome (λ us. sizes us ≡ sizes ss) (bounds up ss ts)
-  sizes-if-bound up none none = refl
-  sizes-if-bound up none (arg t ts) = tt
-  sizes-if-bound up (arg s ss) none = tt
+  sizes-if-bound up no-args no-args = refl
+  sizes-if-bound up no-args (arg t ts) = tt
+  sizes-if-bound up (arg s ss) no-args = tt
   sizes-if-bound up (arg s ss) (arg t ts) =
       map₂-if-some (λ v. size v ≡ size s) (λ vs. sizes vs ≡ sizes ss) (λ us. sizes us ≡ size s + sizes ss) arg (bound up s t) (bounds up ss ts) (size-if-bound up s t) (sizes-if-bound up ss ts)
       (λ v vs h k. omega arith)
@@ -55,7 +55,7 @@ unfoldable mutual
   entriesOf (function ts r) = entriesIn ts + entriesOf r + arity ts
 
   pub entriesIn : Trees → ℕ
-  entriesIn none = 0
+  entriesIn no-args = 0
   entriesIn (arg t ts) = entriesOf t + entriesIn ts
 
 mutual
@@ -67,7 +67,7 @@ mutual
   entries-below-size (function ts r) = omega (arith, entries-and-arity ts, entries-below-size r)
 
   entries-and-arity : (ts : Trees) → entriesIn ts + arity ts ≤ sizes ts
-  entries-and-arity none = omega arith
+  entries-and-arity no-args = omega arith
   entries-and-arity (arg t ts) = omega (arith, entries-below-size t, entries-and-arity ts)
 
 -- at most k more sorts and j more entries
@@ -123,7 +123,7 @@ AnyTree t = Unit {0}
 
 some-within : {A : Type 0} (k j : ℕ) (S : Sorts) (x : Option A) (f : A → Outcome Tree) → ((a : A) → Within AnyTree k j S (f a)) → Within AnyTree k j S (where-some x S f)
 unfolding Within
-some-within k j S no-tree f h = spent-none k j S
+some-within k j S none f h = spent-none k j S
 some-within k j S (some a) f h = h a
 
 by-test : {A : Type 0} (P : Outcome A → Type 0) (b : Bool) (x y : Outcome A) → P x → P y → P (elim b [ true ↦ x | false ↦ y ])
@@ -192,9 +192,9 @@ mutual
       (none-within AnyTree k j S))
 
   makes-within : (up : Bool) (ss ts : Trees) (S : Sorts) → sizes ss ≤ S .rows → entriesIn ss ≤ S .entries → Within (AsMany ss) (sizes ss) (entriesIn ss) S (makes up ss ts S)
-  makes-within up none none S p q = made-within (AsMany none) 0 0 none S refl
-  makes-within up none (arg t ts) S p q = none-within (AsMany none) 0 0 S
-  makes-within up (arg s ss) none S p q = none-within (AsMany (arg s ss)) (size s + sizes ss) (entriesOf s + entriesIn ss) S
+  makes-within up no-args no-args S p q = made-within (AsMany no-args) 0 0 no-args S refl
+  makes-within up no-args (arg t ts) S p q = none-within (AsMany no-args) 0 0 S
+  makes-within up (arg s ss) no-args S p q = none-within (AsMany (arg s ss)) (size s + sizes ss) (entriesOf s + entriesIn ss) S
   makes-within up (arg s ss) (arg t ts) S p q =
       within-then AnyTree (AsMany (arg s ss)) (size s) (entriesOf s) (sizes ss) (entriesIn ss) S (make up s t S) _ (make-within up s t S (omega arith) (omega arith))
       (λ v S₁ h x. within-more (AsMany (arg s ss)) (sizes ss + 0) (entriesIn ss + 0) (sizes ss) (entriesIn ss) S₁ _ (omega arith) (omega arith)

@@ -15,7 +15,7 @@ use Rattle.resolved_sort.specs.Tree.{Flat, unit, primitive, def, typevar, Tree,
 use Rattle.resolved_sort.specs.Interning.{Sorts, member, Outcome, made, nothing, full, _then_, fits, intern}
 use Rattle.resolved_sort.specs.Storage.{kindFlat, kindOp}
 use Rattle.resolved_sort.proofs.Numbers.{true-not-false, member-grows}
-use Rattle.sort_text.specs.Text.{some, flatWritable, writable, writables}
+use Rattle.sort_text.specs.Text.{nonempty, flatWritable, writable, writables}
 use Rattle.sort_text.specs.Reading.{store, stores}
 use Rattle.sort_text.specs.Postfix.{postfix, postfixes, sixth, opOf, over, Taken, taken, short, takeArguments, applied, mapping, stepOn, top, steps}
 
@@ -158,10 +158,10 @@ function-on : (ts : Trees) (ops : List ℕ) (st : List Tree) (r : Tree) (S : Sor
     → steps ((16 + arity ts) ∷ ops) (r ∷ pushes ts st) S ≡ (intern (function ts r) S then (λ u S. steps ops (u ∷ st) S))
 function-on ts ops st r S = function-step ts r ops st S ∙ then-then (intern (function ts r) S) _ _
 
-function-writable : (ts : Trees) (r : Tree) → (some ts && writables ts && writable r) ≡ true → (writables ts ≡ true) × (writable r ≡ true)
+function-writable : (ts : Trees) (r : Tree) → (nonempty ts && writables ts && writable r) ≡ true → (writables ts ≡ true) × (writable r ≡ true)
 function-writable ts r w =
-    let p = and-eq-true-iff (some ts && writables ts) (writable r) .0 w in
-    (and-eq-true-iff (some ts) (writables ts) .0 (p .0) .1, p .1)
+    let p = and-eq-true-iff (nonempty ts && writables ts) (writable r) .0 w in
+    (and-eq-true-iff (nonempty ts) (writables ts) .0 (p .0) .1, p .1)
 
 mutual
   unfolding store stores postfix postfixes writable writables pushes

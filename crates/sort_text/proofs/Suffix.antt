@@ -9,7 +9,7 @@ use lib.ListN.{length, drop, length-append}
 use lib.Seq.{drop-append-seam}
 use lib.Dec.{eqb}
 use Rattle.resolved_sort.specs.declared.ComplexSort.{ComplexSort}
-use Rattle.resolved_sort.specs.Tree.{Tree, Trees, end as none, arg}
+use Rattle.resolved_sort.specs.Tree.{Tree, Trees, end as no-args, arg}
 use Rattle.sort_text.specs.Tokens.{isLetter, Next, end, word, open-bracket, close-bracket, hash, arrow, bad, run, past, skip, dash, start, nextAt, next}
 use Rattle.sort_text.specs.Parse.{Parsed, parsed, stuck, _then_, Meaning, basic, over, unknown, meaning, closing, bracketed, operandOf, operandAt, operand, snoc, alone, restAt, rest, sortTo, sort, ending, line}
 
@@ -136,8 +136,8 @@ ending-suffix t at bs bad h = h
 
 alone-suffix : (ts : Trees) (at bs : List ℕ) → Suffix at bs → Suffix (left (alone ts at bs)) bs
 unfolding alone
-alone-suffix none at bs h = h
-alone-suffix (arg t none) at bs h = suffix-refl bs
+alone-suffix no-args at bs h = h
+alone-suffix (arg t no-args) at bs h = suffix-refl bs
 alone-suffix (arg t (arg u us)) at bs h = h
 
 module _ (f : List ℕ → Parsed) (g : Leaves f) where
@@ -196,7 +196,7 @@ pub sortTo-suffix : (d : ℕ) → Leaves (sortTo d)
 unfolding sortTo
 sortTo-suffix zero bs = suffix-refl bs
 sortTo-suffix (suc d) bs =
-    then-suffix (operand (sortTo d) bs) _ bs (operand-suffix (sortTo d) (sortTo-suffix d) bs) (λ t cs. rest-suffix (sortTo d) (sortTo-suffix d) 15 (arg t none) cs)
+    then-suffix (operand (sortTo d) bs) _ bs (operand-suffix (sortTo d) (sortTo-suffix d) bs) (λ t cs. rest-suffix (sortTo d) (sortTo-suffix d) 15 (arg t no-args) cs)
 
 pub sort-suffix : Leaves sort
 unfolding sort

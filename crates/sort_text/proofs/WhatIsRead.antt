@@ -7,29 +7,29 @@ use Prim.Native.Nat.{ℕ, _+_, _≤_}
 use native.Mathlib.Omega.{arith}
 use lib.ListN.{length}
 use borrow.Author.Tests.{le-leb}
-use Rattle.resolved_sort.specs.Tree.{Tree, Trees, end as none, arg, arity}
+use Rattle.resolved_sort.specs.Tree.{Tree, Trees, end as no-args, arg, arity}
 use Rattle.sort_text.specs.Tokens.{isLetter}
 use Rattle.sort_text.specs.Parse.{parsed, snoc, sort, line}
-use Rattle.sort_text.specs.Text.{some, writable}
+use Rattle.sort_text.specs.Text.{nonempty, writable}
 use Rattle.sort_text.proofs.Progress.{word-takes, open-bracket-takes, close-bracket-takes, hash-takes, arrow-takes}
 use Rattle.sort_text.proofs.Grammar.{Operand, basic-sort, container-of, SortOf, one-operand, function-of, Operands, first, another, sort-derived, line-derived}
 use Rattle.sort_text.proofs.Readable.{isFunction, readable, arguments, few, noFunctionArgument, size, sizes, readable-function, readable-argument, argument-readable, readable-parts}
 
-pub some-snoc : (ts : Trees) (t : Tree) → some (snoc ts t) ≡ true
+pub nonempty-snoc : (ts : Trees) (t : Tree) → nonempty (snoc ts t) ≡ true
 unfolding snoc
-some-snoc none t = refl
-some-snoc (arg s ts) t = refl
+nonempty-snoc no-args t = refl
+nonempty-snoc (arg s ts) t = refl
 
 pub arguments-snoc : (ts : Trees) (t : Tree) → arguments ts ≡ true → not (isFunction t) ≡ true → readable t ≡ true → arguments (snoc ts t) ≡ true
 unfolding snoc
-arguments-snoc none t a b c = readable-argument t none b c a
+arguments-snoc no-args t a b c = readable-argument t no-args b c a
 arguments-snoc (arg s ts) t a b c =
     let h = argument-readable s ts a in
     readable-argument s (snoc ts t) (h .0) (h .1) (arguments-snoc ts t (h .2) b c)
 
 pub sizes-snoc : (ts : Trees) (t : Tree) → sizes (snoc ts t) ≡ sizes ts + size t
 unfolding snoc sizes
-sizes-snoc none t = omega arith
+sizes-snoc no-args t = omega arith
 sizes-snoc (arg s ts) t = omega (arith, sizes-snoc ts t)
 
 mutual
@@ -45,12 +45,12 @@ mutual
       let a = operands-readable h in
       readable-function ts r (a .0) (le-leb (arity ts) 16 l) (a .1) (sort-readable k)
 
-  operands-readable : {bs cs : List ℕ} {ts : Trees} → Operands bs ts cs → (some ts ≡ true) × (arguments ts ≡ true)
-  operands-readable (first {t = t} h) = let a = operand-readable h in (refl, readable-argument t none (a .0) (a .1) refl)
+  operands-readable : {bs cs : List ℕ} {ts : Trees} → Operands bs ts cs → (nonempty ts ≡ true) × (arguments ts ≡ true)
+  operands-readable (first {t = t} h) = let a = operand-readable h in (refl, readable-argument t no-args (a .0) (a .1) refl)
   operands-readable (another {ts = ts} {t = t} h e k i) =
       let a = operands-readable h in
       let b = operand-readable k in
-      rw i (some-snoc ts t, arguments-snoc ts t (a .1) (b .0) (b .1))
+      rw i (nonempty-snoc ts t, arguments-snoc ts t (a .1) (b .0) (b .1))
 
 mutual
   unfolding size sizes

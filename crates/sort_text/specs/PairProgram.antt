@@ -64,7 +64,7 @@ answer s t =
     ++ comma (stepsOrNone (distance true s t)
     ++ comma (yesOrNo (materializable s t)))))
 
--- a line: its sort, or what a bad one prints: "its code; 20 is followed by a colon and the unread end, without a space"
+-- a line: its sort, or what a bad one prints, which is its code; "20 is followed by a colon and the unread end, without a space"
 pub data Line : Type 0 where
   good : Tree → Line
   wrong : List ℕ → Line

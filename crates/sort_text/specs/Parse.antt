@@ -7,7 +7,7 @@ use lib.ListN.{length}
 use lib.Dec.{eqb}
 use Rattle.resolved_sort.specs.declared.Sort.{Sort}
 use Rattle.resolved_sort.specs.declared.ComplexSort.{ComplexSort}
-use Rattle.resolved_sort.specs.Tree.{primitive, Tree, flat, container, function, Trees, end as none, arg}
+use Rattle.resolved_sort.specs.Tree.{primitive, Tree, flat, container, function, Trees, end as no-args, arg}
 use Rattle.sort_text.specs.Tokens.{isLetter, Next, end, word, open-bracket, close-bracket, hash, arrow, bad, skip, next}
 
 -- a sort and what is left of the line after it, or what is left from the first token that cannot follow
@@ -98,13 +98,13 @@ unfoldable pub operand : (List ℕ → Parsed) → List ℕ → Parsed
 operand sort bs = operandAt sort (skip bs) (next isLetter bs)
 
 unfoldable pub snoc : Trees → Tree → Trees
-snoc none t = arg t none
+snoc no-args t = arg t no-args
 snoc (arg s ss) t = arg s (snoc ss t)
 
 -- one operand alone is a sort; several are the arguments of a function and want an arrow
 unfoldable pub alone : Trees → List ℕ → List ℕ → Parsed
-alone none at bs = stuck at
-alone (arg t none) at bs = parsed t bs
+alone no-args at bs = stuck at
+alone (arg t no-args) at bs = parsed t bs
 alone (arg t (arg u us)) at bs = stuck at
 
 -- after the operands ts: `#` and what comes then, `->` and the range, or the end of the sort
@@ -128,7 +128,7 @@ maxArguments = 16
 -- a sort, read to a depth of brackets and arrows
 unfoldable pub sortTo : ℕ → List ℕ → Parsed
 sortTo zero bs = stuck bs
-sortTo (suc d) bs = operand (sortTo d) bs then (λ t cs. rest (sortTo d) (maxArguments - 1) (arg t none) cs)
+sortTo (suc d) bs = operand (sortTo d) bs then (λ t cs. rest (sortTo d) (maxArguments - 1) (arg t no-args) cs)
 
 -- Each bracket and arrow takes a byte of the line, so its length is depth enough.
 unfoldable pub sort : List ℕ → Parsed

@@ -6,9 +6,10 @@ use Prim.Native.Nat.{ℕ}
 use Rattle.resolved_sort.specs.Tree.{Flat, unit, primitive, def, typevar, Tree, flat, container, function, Trees, end, arg}
 use Rattle.sort_text.specs.Parse.{sortWord, opWord}
 
-abbrev pub some : Trees → Bool
-some end = false
-some (arg t ts) = true
+-- whether a function has an argument
+abbrev pub nonempty : Trees → Bool
+nonempty end = false
+nonempty (arg t ts) = true
 
 abbrev pub flatWritable : Flat → Bool
 flatWritable unit = false
@@ -20,7 +21,7 @@ unfoldable mutual
   pub writable : Tree → Bool
   writable (flat a) = flatWritable a
   writable (container o t) = writable t
-  writable (function ts r) = some ts && writables ts && writable r
+  writable (function ts r) = nonempty ts && writables ts && writable r
 
   pub writables : Trees → Bool
   writables end = true

@@ -31,7 +31,7 @@ pub record WriteLeft : Type 0 where
 abbrev pub writeLeft : List ℕ → Written → WriteLeft
 writeLeft out r = record { bytes = out; answer = r }
 
--- "Not one byte is written on a refusal", and none past the text.
+-- On a refusal no byte is written, and none past the text in any case.
 unfoldable pub writing : List ℕ → ℕ → ℕ → ℕ → List ℕ → WriteLeft
 writing ws n e a out =
     orElse (firstFailing (writeChecks ws n e a out)) (λ c. writeLeft out (Refused c))

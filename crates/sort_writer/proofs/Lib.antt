@@ -1,7 +1,8 @@
--- The laws of writing: of rows, of sizes, of bytes put one after another, and of the first failing check.
+-- The laws of writing: of rows, of sizes, of bytes put one after another, of the first failing check, and of document 01's numbers.
 pub mod Rows
 pub mod Sizes
 pub mod Fills
 pub mod Puts
 pub mod Texts
 pub mod Checks
+pub mod Codes

@@ -13,7 +13,7 @@ use Rattle.resolved_sort.specs.declared.Sort.{Sort}
 use Rattle.resolved_sort.specs.declared.ComplexSort.{ComplexSort}
 use Rattle.resolved_sort.specs.Tree.{Flat, unit, primitive, def, typevar, Tree, flat, container, function, Trees, end, arg}
 use Rattle.sort_text.specs.Parse.{sortWord, opWord}
-use Rattle.sort_text.specs.Text.{some, flatWritable, writable, writables, text, texts, more}
+use Rattle.sort_text.specs.Text.{nonempty, flatWritable, writable, writables, text, texts, more}
 use Rattle.sort_writer.specs.Sizes.{most, capped, sizeIf, sized, sizedAll, joined}
 
 pub capped-short : (n : ℕ) → n ≤ most → capped n ≡ n
@@ -115,7 +115,7 @@ texts-length : (t : Tree) (ts : Trees) → length (texts (arg t ts)) ≡ length 
 unfolding text
 texts-length t ts = length-append (text t) (more ts)
 
-texts-some : (ts : Trees) → (some ts && writables ts) ≡ true → 0 < length (texts ts)
+texts-some : (ts : Trees) → (nonempty ts && writables ts) ≡ true → 0 < length (texts ts)
 unfolding writable
 texts-some end e = let z : _≡_ {A = ℕ} 0 1 = cc in absurd (omega arith)
 texts-some (arg t ts) e = omega (arith, texts-length t ts, text-some t (and-eq-true-iff (writable t) (writables ts) .0 e .0))
@@ -138,9 +138,9 @@ size-of-container o t =
 pub size-of-function : (ts : Trees) (r : Tree) → joined (sizedAll ts) (joined 4 (sized r)) ≡ sized (function ts r)
 unfolding sized sizedAll writable
 size-of-function ts r =
-    ap (joined (sizeIf (some ts && writables ts) (length (texts ts)))) (joined-word 4 (writable r) (length (text r)) (omega arith) (omega arith) (text-some r))
-    ∙ (joined-if (some ts && writables ts) (writable r) (length (texts ts)) (4 + length (text r)) (texts-some ts) (λ e. omega arith)
-    ∙ ap (sizeIf (some ts && writables ts && writable r)) (sym (function-length ts r)))
+    ap (joined (sizeIf (nonempty ts && writables ts) (length (texts ts)))) (joined-word 4 (writable r) (length (text r)) (omega arith) (omega arith) (text-some r))
+    ∙ (joined-if (nonempty ts && writables ts) (writable r) (length (texts ts)) (4 + length (text r)) (texts-some ts) (λ e. omega arith)
+    ∙ ap (sizeIf (nonempty ts && writables ts && writable r)) (sym (function-length ts r)))
 
 and-true : (b : Bool) → b ≡ (b && true)
 and-true true = refl

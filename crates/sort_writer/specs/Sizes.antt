@@ -10,7 +10,7 @@ use Rattle.resolved_sort.specs.declared.ResolvedSort.the-variants.{Unit, Primit
 use Rattle.resolved_sort.specs.Tree.{Tree, Trees}
 use Rattle.resolved_sort.specs.Storage.{entriesOf, rowAt}
 use Rattle.sort_text.specs.Parse.{sortWord, opWord}
-use Rattle.sort_text.specs.Text.{some, writable, writables, text, texts}
+use Rattle.sort_text.specs.Text.{nonempty, writable, writables, text, texts}
 
 abbrev pub most : ℕ
 most = 9223372036854775808
@@ -25,9 +25,9 @@ sizeIf b n = cond b (capped n) 0
 unfoldable pub sized : Tree → ℕ
 sized t = sizeIf (writable t) (length (text t))
 
--- arguments need to be some
+-- a function without arguments has no text
 unfoldable pub sizedAll : Trees → ℕ
-sizedAll ts = sizeIf (some ts && writables ts) (length (texts ts))
+sizedAll ts = sizeIf (nonempty ts && writables ts) (length (texts ts))
 
 -- the size of two texts one after the other, where both are there
 unfoldable pub joined : ℕ → ℕ → ℕ

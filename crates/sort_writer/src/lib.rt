@@ -265,6 +265,7 @@ fn test_write(
 }
 
 // The text of a sort in the lent buffer, and its length. Not one byte is written on a refusal, and none past the text.
+// Ruled out: a text for a function with an argument that has none; ` #` for ` # `; 14 for a sort without text.
 pub fn write(
     sorts: &[u16],
     sort_count: usize,

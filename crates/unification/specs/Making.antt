@@ -101,7 +101,7 @@ internContainer o s W =
 abbrev pub only : ℕ → Lent → Makes (List ℕ)
 only p W = made (p ∷ []) W
 
--- "Strictly wider interns only for a sort container", for a node it makes a node
+-- For a container of sorts a sort is interned, for a node a node is made.
 abbrev pub relatedOver : Option ComplexSort → Bool → ℕ → Lent → Makes (List ℕ)
 relatedOver none sort s W = made [] W
 relatedOver (some o) true s W = internContainer o s W and-then only

@@ -50,7 +50,7 @@ unfoldable pub nodeChecks : List ℕ → ℕ → ℕ → ℕ → List ℕ → �
 nodeChecks ns m d n bs v =
     record { code = 5; passes = nodesFine ns m d n v } ∷ record { code = 6; passes = bindingsFine n m (bindsOf bs v) } ∷ record { code = 7; passes = acyclic ns m (bindsOf bs v) } ∷ []
 
--- 12. "A sort or place asked about is not in its list", and 14 with the nodes at their ceiling as well
+-- 12. "a sort or place asked about, is not in its list", and 14 with the nodes at their ceiling as well
 unfoldable pub placeChecks : List ℕ → ℕ → List ℕ → ℕ → ℕ → ℕ → List Check
 placeChecks ws n ns m l r =
     record { code = 12; passes = isPlace n m l && isPlace n m r } ∷ record { code = 14; passes = atCeiling ws && leb fullNodes (length ns) } ∷ []

@@ -1,5 +1,5 @@
 -- The lent node storage, as that of sorts: rows of four words, kind, part, start and count, then the argument entries at a fixed place.
--- Parts are places: "a sort below 1,024, else a node". Words past the counts are not looked at.
+-- Parts are places: a sort below 1,024, else a node. Words past the counts are not looked at.
 use mathlib.Core.Bool.{Bool, cond}
 use mathlib.Core.List.{List, [], _∷_, _++_}
 use mathlib.Core.Option.{Option, none, some}

@@ -25,7 +25,7 @@ use Rattle.unify_entries.proofs.Codes.{EachNumber, failing-number, code
 
 -- a check whose number no other has: it is the first that fails exactly if those before it pass and it fails
 module _ (xs : List Check) (k : Check) (ys : List Check) where
-  abbrev Other : ℕ → Type 0
+  abbrev pub Other : ℕ → Type 0
   Other c = c ≡ k .code → ⊥
 
   module _ (before : EachNumber Other xs) (behind : EachNumber Other ys) where
@@ -46,7 +46,7 @@ module _ (xs : List Check) (k : Check) (ys : List Check) where
         go true x = absurd (failing-number Other ys (k .code) behind (sym (first-passes k ys x) ∙ e) refl)
         go false x = refl
 
-    fails-first : (firstFailing (xs ++ (k ∷ ys)) ≡ some (k .code)) ↔ ((firstFailing xs ≡ none) × (k .passes ≡ false))
+    pub fails-first : (firstFailing (xs ++ (k ∷ ys)) ≡ some (k .code)) ↔ ((firstFailing xs ≡ none) × (k .passes ≡ false))
     fails-first =
         (λ e. let p = first-passed e in (p, this-fails (sym (append-passes xs (k ∷ ys) p) ∙ e)), λ h. append-passes xs (k ∷ ys) (h .0) ∙ first-fails k ys (h .1))
 

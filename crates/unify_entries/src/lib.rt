@@ -167,6 +167,7 @@ fn unify_alone(
 
 // Makes two places denote the same sort, binding variables as needed, and answers whether they are unifiable. A no leaves the
 // bindings as they were.
+// Ruled out: a variable bound to what it occurs in; the right one of two free variables bound to the left; a binding left by a no.
 pub fn unify(
     sorts: &[u16],
     sort_count: usize,

@@ -6,4 +6,5 @@ pub mod draft;
 pub mod guard;
 pub mod junk;
 pub mod options;
+pub mod times;
 pub mod watch;

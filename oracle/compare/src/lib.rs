@@ -5,4 +5,5 @@ pub mod cases;
 pub mod compare;
 pub mod expected;
 pub mod port;
+pub mod speed;
 pub mod text;

@@ -5,40 +5,47 @@ use crate::call::Lent;
 use crate::cases::Case;
 use crate::expected::Expected;
 use crate::expected::Outcome;
+use crate::port::Entry;
 use crate::port::Port;
 
-/// The buffers that calls are lent.
+/// The buffers that calls are lent, those of each entry apart.
 #[derive(Default)]
 pub struct Desk {
-    lent: Lent,
+    lent: [Lent; Entry::ALL.len()],
 }
 
 impl Desk {
-    /// Asks the judges and the port, and compares the answer and all of memory at exit. The case is left as the call
-    /// must leave it.
-    pub fn compare(&mut self, port: Port, case: &mut Case) -> Result<Expected, String> {
+    /// Asks the judges and both entries of the library, and compares the answers and all of memory at exit. The case is
+    /// left as each call must leave it.
+    pub fn compare(&mut self, case: &mut Case) -> Result<Expected, String> {
         let expected = judged(case)?;
-        self.lent.fill(&case.call);
-        let answer = port.ask(&mut self.lent, &case.call.memory);
+        let mut answers = [0; Entry::ALL.len()];
+        for ((lent, answer), (entry, _)) in self.lent.iter_mut().zip(&mut answers).zip(Entry::ALL) {
+            lent.fill(&case.call);
+            *answer = Port::Library(entry).ask(lent, &case.call.memory);
+        }
         expected.leave(&mut case.call);
-        self.same(answer, &expected, &case.call)?;
+        for ((lent, answer), (_, name)) in self.lent.iter().zip(answers).zip(Entry::ALL) {
+            same(lent, answer, &expected, &case.call).map_err(|message| format!("{name}: {message}"))?;
+        }
         Ok(expected)
     }
 
-    /// Asks the port about a call, where it is known what is expected and what must be left.
+    /// Asks one port about a call, where it is known what is expected and what must be left.
     pub fn ask(&mut self, port: Port, call: &Call, expected: &Expected, left: &Call) -> Result<(), String> {
-        self.lent.fill(call);
-        let answer = port.ask(&mut self.lent, &call.memory);
-        self.same(answer, expected, left)
+        let [lent, ..] = &mut self.lent;
+        lent.fill(call);
+        let answer = port.ask(lent, &call.memory);
+        same(lent, answer, expected, left)
     }
+}
 
-    fn same(&self, answer: u64, expected: &Expected, left: &Call) -> Result<(), String> {
-        let packed = expected.packed(&left.memory);
-        if answer != packed {
-            return Err(format!("the answer is {}, expected {}", unpacked(answer), unpacked(packed)));
-        }
-        self.lent.same(left).map_err(|message| format!("{message}, after {}", unpacked(answer)))
+fn same(lent: &Lent, answer: u64, expected: &Expected, left: &Call) -> Result<(), String> {
+    let packed = expected.packed(&left.memory);
+    if answer != packed {
+        return Err(format!("the answer is {}, expected {}", unpacked(answer), unpacked(packed)));
     }
+    lent.same(left).map_err(|message| format!("{message}, after {}", unpacked(answer)))
 }
 
 /// What the judges say. A planted fault must be named.

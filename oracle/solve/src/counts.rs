@@ -5,6 +5,7 @@ use std::fmt;
 
 use lists::memory::FREE;
 use lists::memory::Memory;
+use lists::memory::OVERLOAD;
 use lists::verdict::Event;
 use lists::verdict::Tally;
 use lists::verdict::Verdict;
@@ -16,6 +17,8 @@ use crate::expected::Outcome;
 pub struct Counts {
     pub lists: u64,
     codes: BTreeMap<u16, u64>,
+    /// Lists that are lent overload words beyond whole rows, which no record has.
+    with_words_left_over: u64,
     with_bindings: u64,
     with_dropped: u64,
     with_sorts: u64,
@@ -31,6 +34,7 @@ impl Counts {
     pub fn add(&mut self, memory: &Memory, expected: &Expected) {
         self.lists += 1;
         *self.codes.entry(expected.code()).or_default() += 1;
+        self.with_words_left_over += u64::from(memory.overloads.len() % OVERLOAD != 0);
         if matches!(expected.outcome, Outcome::Refused(_)) {
             return;
         }
@@ -60,8 +64,8 @@ impl fmt::Display for Counts {
         )?;
         write!(
             f,
-            "  typings with choices not by expression: {}; at most {} components, {} choices",
-            self.with_choices_in_order, self.most_components, self.most_choices
+            "  typings with choices not by expression: {}; at most {} components, {} choices; overload words left over: {}",
+            self.with_choices_in_order, self.most_components, self.most_choices, self.with_words_left_over
         )
     }
 }

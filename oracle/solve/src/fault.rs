@@ -128,6 +128,11 @@ pub enum Fault {
     OwnPart,
     StraysChecked,
 
+    // Overload records.
+    RecordSortFirst,
+    RecordsTo1023,
+    RecordsByWord,
+
     // Words that no call may change.
     Changed(Slice),
     ChangedAfterRefusal(Slice),
@@ -237,6 +242,12 @@ const CHECKED: [(Fault, &str); 3] = [
     (Fault::StraysChecked, "overloads that no constraint has are checked"),
 ];
 
+const OF_RECORDS: [(Fault, &str); 3] = [
+    (Fault::RecordSortFirst, "the sort of an overload record comes before its kind"),
+    (Fault::RecordsTo1023, "the last of 1,024 overload records is not read"),
+    (Fault::RecordsByWord, "the overload words are taken for so many records"),
+];
+
 /// The lists that have a ceiling of their own.
 const WITH_CEILING: [Counted; 9] = [
     Counted::Sorts,
@@ -253,7 +264,7 @@ const WITH_CEILING: [Counted; 9] = [
 impl Fault {
     /// All of them, with what is wrong.
     pub fn all() -> Vec<(Fault, String)> {
-        let single = SINGLE.iter().chain(&CHECKED).map(|&(fault, what)| (fault, what.to_string()));
+        let single = SINGLE.iter().chain(&CHECKED).chain(&OF_RECORDS).map(|&(fault, what)| (fault, what.to_string()));
         let not_made = CODES.map(|code| (Fault::NotMade(code), format!("check {code} is not made")));
         let exchanged = CODES.windows(2).map(|codes| {
             let [early, late] = [codes[0], codes[1]];

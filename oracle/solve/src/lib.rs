@@ -11,5 +11,6 @@ pub mod found;
 pub mod layout;
 pub mod port;
 pub mod search;
+pub mod speed;
 pub mod stand_in;
 pub mod text;

@@ -1,7 +1,5 @@
-//! A stand-in for the port's library until it is there, and its wrong variants. The checks are those of `lists`,
+//! A stand-in for the port's library where it is not there, and its wrong variants. The checks are those of `lists`,
 //! the search is that of `search.rs`; what is left in memory is done here, in place.
-
-use std::slice;
 
 use common::guard::GUARD;
 use common::guard::between_guards;
@@ -16,98 +14,6 @@ use crate::search::Candidate;
 use crate::search::Search;
 use crate::search::Stop;
 
-/// The entry of the port.
-///
-/// # Safety
-///
-/// Each pointer and length is a slice that nothing else uses during the call.
-pub unsafe extern "C" fn sort_solve(
-    sorts: *mut u16,
-    sorts_len: usize,
-    sort_count: usize,
-    entry_count: usize,
-    nodes: *mut u16,
-    nodes_len: usize,
-    node_count: usize,
-    node_entry_count: usize,
-    binds: *mut u16,
-    binds_len: usize,
-    var_count: usize,
-    exprs: *const u16,
-    exprs_len: usize,
-    expr_count: usize,
-    names: *const u16,
-    names_len: usize,
-    name_count: usize,
-    constraints: *const u16,
-    constraints_len: usize,
-    constraint_count: usize,
-    overloads: *const u16,
-    overloads_len: usize,
-    overload_count: usize,
-    sources: *const u16,
-    sources_len: usize,
-    source_count: usize,
-    default: u16,
-    scratch: *mut u16,
-    scratch_len: usize,
-    typing: *mut u16,
-    typing_len: usize,
-    measure: *mut u16,
-    measure_len: usize,
-    choices: *mut u16,
-    choices_len: usize,
-) -> u64 {
-    // SAFETY: as said above.
-    let ([exprs, names, constraints, overloads, sources], mut written) = unsafe {
-        (
-            [
-                slice::from_raw_parts(exprs, exprs_len),
-                slice::from_raw_parts(names, names_len),
-                slice::from_raw_parts(constraints, constraints_len),
-                slice::from_raw_parts(overloads, overloads_len),
-                slice::from_raw_parts(sources, sources_len),
-            ],
-            Written {
-                sorts: slice::from_raw_parts_mut(sorts, sorts_len),
-                nodes: slice::from_raw_parts_mut(nodes, nodes_len),
-                bindings: slice::from_raw_parts_mut(binds, binds_len),
-                scratch: slice::from_raw_parts_mut(scratch, scratch_len),
-                typing: slice::from_raw_parts_mut(typing, typing_len),
-                measure: slice::from_raw_parts_mut(measure, measure_len),
-                choices: slice::from_raw_parts_mut(choices, choices_len),
-            },
-        )
-    };
-    let memory = Memory {
-        sorts: written.sorts.to_vec(),
-        sort_count,
-        entry_count,
-        nodes: written.nodes.to_vec(),
-        node_count,
-        node_entry_count,
-        bindings: written.bindings.to_vec(),
-        variable_count: var_count,
-        exprs: exprs.to_vec(),
-        expr_count,
-        names: names.to_vec(),
-        name_count,
-        constraints: constraints.to_vec(),
-        constraint_count,
-        overloads: overloads.to_vec(),
-        overload_count,
-        sources: sources.to_vec(),
-        source_count,
-        default,
-        scratch: scratch_len,
-        out_typing: typing_len,
-        out_measure: measure_len,
-        out_choices: choices_len,
-        ceilings: Ceilings::default(),
-    };
-    answer(None, &memory, &mut written)
-}
-
 /// The slices that a call may write.
 struct Written<'a> {
     sorts: &'a mut [u16],
@@ -119,8 +25,8 @@ struct Written<'a> {
     choices: &'a mut [u16],
 }
 
-/// Asks the variant that has a fault.
-pub fn wrong(fault: Fault, lent: &mut Lent, memory: &Memory) -> u64 {
+/// Asks the stand-in, or the variant that has a fault. The lists are read from `memory`, which holds the same words.
+pub fn ask(fault: Option<Fault>, lent: &mut Lent, memory: &Memory) -> u64 {
     let [sorts, nodes, bindings, _, _, _, _, _, scratch, typing, measure, choices] = &mut lent.slices;
     let mut written = Written {
         sorts: between_guards(sorts),
@@ -131,13 +37,14 @@ pub fn wrong(fault: Fault, lent: &mut Lent, memory: &Memory) -> u64 {
         measure: between_guards(measure),
         choices: between_guards(choices),
     };
-    let answer = answer(Some(fault), memory, &mut written);
+    let misread = fault.and_then(|fault| misread(fault, memory));
+    let answer = answer(fault, misread.as_ref().unwrap_or(memory), &mut written);
     let refused = (1..256).contains(&answer) && answer != 15 && answer != 16;
     match fault {
-        Fault::Changed(slice) if !refused => change_last(lent.words_mut(slice)),
-        Fault::ChangedAfterRefusal(slice) if refused => change_last(lent.words_mut(slice)),
-        Fault::Before(slice) => lent.slices[slice as usize][GUARD - 1] ^= 1,
-        Fault::After(slice) => {
+        Some(Fault::Changed(slice)) if !refused => change_last(lent.words_mut(slice)),
+        Some(Fault::ChangedAfterRefusal(slice)) if refused => change_last(lent.words_mut(slice)),
+        Some(Fault::Before(slice)) => lent.slices[slice as usize][GUARD - 1] ^= 1,
+        Some(Fault::After(slice)) => {
             let buffer = &mut lent.slices[slice as usize];
             let end = buffer.len() - GUARD;
             buffer[end] ^= 1;
@@ -145,6 +52,18 @@ pub fn wrong(fault: Fault, lent: &mut Lent, memory: &Memory) -> u64 {
         _ => {}
     }
     answer
+}
+
+/// The lists as an entry over records reads them that takes the wrong words for a record.
+fn misread(fault: Fault, memory: &Memory) -> Option<Memory> {
+    let mut read = memory.clone();
+    match fault {
+        Fault::RecordSortFirst => read.overloads.chunks_exact_mut(OVERLOAD).for_each(|row| row.swap(0, 1)),
+        Fault::RecordsTo1023 => read.overloads.iter_mut().skip(OVERLOAD * 1_023).for_each(|word| *word = 0),
+        Fault::RecordsByWord => read.overloads.resize(OVERLOAD * memory.overloads.len(), 0),
+        _ => return None,
+    }
+    Some(read)
 }
 
 fn change_last(words: &mut [u16]) {

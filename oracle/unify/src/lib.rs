@@ -8,6 +8,7 @@ pub mod expected;
 pub mod fault;
 pub mod model;
 pub mod port;
+pub mod speed;
 pub mod stand_in;
 pub mod terms;
 pub mod text;

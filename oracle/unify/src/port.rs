@@ -1,13 +1,12 @@
 //! The entry of the port's library, or the stand-in. A slice passes as pointer and length.
 
+#[cfg(not(feature = "stand-in"))]
 use common::guard::GUARD;
 use lists::memory::Memory;
 
 use crate::compare::Lent;
 use crate::fault::Fault;
 use crate::stand_in;
-#[cfg(feature = "stand-in")]
-use crate::stand_in::sort_unify;
 
 #[cfg(not(feature = "stand-in"))]
 unsafe extern "C" {
@@ -43,11 +42,17 @@ impl Port {
     pub fn ask(self, lent: &mut Lent, memory: &Memory, lhs: u16, rhs: u16) -> u64 {
         match self {
             Port::Library => library(lent, memory, lhs, rhs),
-            Port::Wrong(fault) => stand_in::wrong(fault, lent, memory, lhs, rhs),
+            Port::Wrong(fault) => stand_in::ask(Some(fault), lent, memory, lhs, rhs),
         }
     }
 }
 
+#[cfg(feature = "stand-in")]
+fn library(lent: &mut Lent, memory: &Memory, lhs: u16, rhs: u16) -> u64 {
+    stand_in::ask(None, lent, memory, lhs, rhs)
+}
+
+#[cfg(not(feature = "stand-in"))]
 fn library(lent: &mut Lent, memory: &Memory, lhs: u16, rhs: u16) -> u64 {
     // SAFETY: each pointer and length is a part of a buffer that is borrowed mutably for the call. The
     // counts and places may be anything.

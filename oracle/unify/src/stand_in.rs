@@ -1,7 +1,5 @@
-//! A stand-in for the port's library until it is there, and its wrong variants. It has the port's
+//! A stand-in for the port's library where it is not there, and its wrong variants. It has the port's
 //! shape, a trail that is undone backwards, and is not the model; the checks are those of `lists`.
-
-use std::slice;
 
 use common::guard::GUARD;
 use lists::checks;
@@ -11,60 +9,20 @@ use lists::question::Question;
 use crate::compare::Lent;
 use crate::fault::Fault;
 
-/// The entry of the port.
-///
-/// # Safety
-///
-/// Each pointer and length is a slice that nothing else uses during the call.
-pub unsafe extern "C" fn sort_unify(
-    sorts: *const u16,
-    sorts_len: usize,
-    sort_count: usize,
-    entry_count: usize,
-    nodes: *const u16,
-    nodes_len: usize,
-    node_count: usize,
-    node_entry_count: usize,
-    bindings: *mut u16,
-    bindings_len: usize,
-    var_count: usize,
-    lhs: u16,
-    rhs: u16,
-) -> u64 {
-    // SAFETY: as said above.
-    let (sorts, nodes, bindings) = unsafe {
-        (
-            slice::from_raw_parts(sorts, sorts_len),
-            slice::from_raw_parts(nodes, nodes_len),
-            slice::from_raw_parts_mut(bindings, bindings_len),
-        )
-    };
-    let memory = Memory {
-        sorts: sorts.to_vec(),
-        sort_count,
-        entry_count,
-        nodes: nodes.to_vec(),
-        node_count,
-        node_entry_count,
-        bindings: bindings.to_vec(),
-        variable_count: var_count,
-        ..Memory::default()
-    };
-    answer(None, &memory, bindings, lhs, rhs)
-}
-
-/// Asks the variant that has a fault.
-pub fn wrong(fault: Fault, lent: &mut Lent, memory: &Memory, lhs: u16, rhs: u16) -> u64 {
+/// Asks the stand-in, or the variant that has a fault. The lists are read from `memory`, which holds the same words.
+pub fn ask(fault: Option<Fault>, lent: &mut Lent, memory: &Memory, lhs: u16, rhs: u16) -> u64 {
     let bindings = GUARD..lent.bindings.len() - GUARD;
-    let answer = answer(Some(fault), memory, &mut lent.bindings[bindings.clone()], lhs, rhs);
+    let answer = answer(fault, memory, &mut lent.bindings[bindings.clone()], lhs, rhs);
     let refused = (1..256).contains(&answer);
     match fault {
-        Fault::WordAfterRefusal if refused => lent.bindings[bindings.end - 1] ^= 1,
-        Fault::WordPastVariables if answer == YES => lent.bindings[bindings.start + memory.variable_count] ^= 1,
-        Fault::SortWord if !refused => lent.sorts[GUARD + 1] ^= 1,
-        Fault::NodeWord => *lent.nodes.iter_mut().rev().nth(GUARD).expect("there are guard words") ^= 1,
-        Fault::GuardBeforeBindings => lent.bindings[bindings.start - 1] ^= 1,
-        Fault::GuardAfterNodes => *lent.nodes.iter_mut().rev().nth(GUARD - 1).expect("there are guard words") ^= 1,
+        Some(Fault::WordAfterRefusal) if refused => lent.bindings[bindings.end - 1] ^= 1,
+        Some(Fault::WordPastVariables) if answer == YES => lent.bindings[bindings.start + memory.variable_count] ^= 1,
+        Some(Fault::SortWord) if !refused => lent.sorts[GUARD + 1] ^= 1,
+        Some(Fault::NodeWord) => *lent.nodes.iter_mut().rev().nth(GUARD).expect("there are guard words") ^= 1,
+        Some(Fault::GuardBeforeBindings) => lent.bindings[bindings.start - 1] ^= 1,
+        Some(Fault::GuardAfterNodes) => {
+            *lent.nodes.iter_mut().rev().nth(GUARD - 1).expect("there are guard words") ^= 1
+        }
         _ => {}
     }
     answer

@@ -40,11 +40,14 @@ enum-told-5 c = search needs
 one-more-requires-7 : tie.Need-one-more-requires-7
 one-more-requires-7 c κs = search needs
 
+one-more-requires-8 : tie.Need-one-more-requires-8
+one-more-requires-8 c κs = search needs
+
 enum-told-6 : tie.Need-enum-told-6
 enum-told-6 c = search needs
 
-one-more-requires-8 : tie.Need-one-more-requires-8
-one-more-requires-8 c κs = search needs
+one-more-requires-9 : tie.Need-one-more-requires-9
+one-more-requires-9 c κs = search needs
 
 returns : tie.Need-returns
 unfolding countedOf
@@ -64,11 +67,11 @@ returns-4 c = rw (c .before .before .enum-told4 .given .1, c .before .before .be
 
 returns-5 : tie.Need-returns-5
 unfolding countedOf
-returns-5 c = rw (c .before .enum-told5 .given .1, c .before .before .before .one-more .ensures, c .one-more7 .ensures)
+returns-5 c = rw (c .before .before .enum-told5 .given .1, c .before .before .before .before .one-more .ensures, c .before .one-more7 .ensures, c .one-more8 .ensures)
 
 returns-6 : tie.Need-returns-6
 unfolding countedOf
-returns-6 c = rw (c .before .enum-told6 .given .1, c .before .before .before .one-more .ensures, c .one-more8 .ensures)
+returns-6 c = rw (c .before .enum-told6 .given .1, c .before .before .before .one-more .ensures, c .one-more9 .ensures)
 
 pub counted-spec : {M : Type 1} → statement M
 counted-spec =
@@ -86,8 +89,9 @@ counted-spec =
     one-more-requires-6
     enum-told-5
     one-more-requires-7
-    enum-told-6
     one-more-requires-8
+    enum-told-6
+    one-more-requires-9
     returns
     returns-2
     returns-3

@@ -1,5 +1,5 @@
-//! Asks the port's solver and the excerpt of merc about the same lists, and compares answers and memory. Stops at the
-//! first difference.
+//! Asks both entries of the port's solver and the excerpt of merc about the same lists, and compares answers and memory.
+//! Stops at the first difference.
 
 use std::process::ExitCode;
 use std::time::Instant;
@@ -13,7 +13,6 @@ use solve::cases::Class;
 use solve::compare::Desk;
 use solve::counts::Counts;
 use solve::port::LIBRARY;
-use solve::port::Port;
 use solve::text::call_text;
 
 const DEFAULTS: [(&str, &str); 4] = [("class", "solve"), ("seed", "1"), ("from", "0"), ("count", "10000")];
@@ -33,7 +32,7 @@ fn run(options: &Options) -> Result<(), Failure> {
     for index in from..from.saturating_add(count) {
         watch.at(index);
         let Some(mut case) = cases.case(index) else { break };
-        match desk.compare(Port::Library, &mut case) {
+        match desk.compare(&mut case) {
             Ok(expected) => counts.add(&case.call.memory, &expected),
             Err(message) => {
                 let list = cases.case(index).map(|case| call_text(&case.call)).unwrap_or_default();
@@ -44,7 +43,7 @@ fn run(options: &Options) -> Result<(), Failure> {
     }
     let seconds = start.elapsed().as_secs_f64();
     println!(
-        "class {} seed {seed} from {from}, {LIBRARY}: {} lists, 0 differences, {seconds:.1} s",
+        "class {} seed {seed} from {from}, {LIBRARY}, both entries: {} lists, 0 differences, {seconds:.1} s",
         class.name(),
         counts.lists
     );

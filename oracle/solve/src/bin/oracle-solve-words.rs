@@ -9,13 +9,14 @@ use common::options::Options;
 use lists::memory::*;
 use solve::call::Call;
 use solve::cases::sample;
+use solve::cases::written;
 use solve::expected::Expected;
 use solve::expected::Outcome;
 
 /// At most so many words on a line.
 const WORDS: usize = 16;
 
-/// Lists of more bytes are left out, but for so many that run out of room.
+/// Random lists of more bytes are left out, but for so many that run out of room. Written ones may have any length.
 const BYTES: usize = 900;
 const FULL: usize = 6;
 
@@ -26,7 +27,8 @@ fn main() -> ExitCode {
 fn run(options: &Options) -> Result<(), Failure> {
     let seed = options.number("seed")?;
     let (mut text, mut count, mut full) = (String::new(), 0, 0);
-    for list in sample(seed) {
+    let written = written().len();
+    for (number, list) in sample(seed).into_iter().enumerate() {
         let memory = list.memory();
         if !held(&memory) {
             continue;
@@ -37,7 +39,7 @@ fn run(options: &Options) -> Result<(), Failure> {
         }
         let room_ended = matches!(expected.code(), 15 | 16);
         let lines = format!("# {}\n{}{}", list.title, given(&memory), answered(memory, &expected));
-        if lines.len() > BYTES {
+        if number >= written && lines.len() > BYTES {
             if !room_ended || full == FULL {
                 continue;
             }
@@ -54,13 +56,17 @@ fn header(seed: u64, count: usize) -> String {
     format!(
         "# {count} lists for the solver in words, and what it answers and leaves.
 # Made in the folder oracle by: target/release/oracle-solve-words --seed {seed} > recorded/solve-words.txt
-# They are those of recorded/solve.txt, but for lists that are lent storage of other lengths than their ceilings, and most long ones.
+# They are those of recorded/solve.txt, but for lists that are lent storage of other lengths than their ceilings, and most long
+# ones of the random ones.
 # The answers are those of the excerpt of merc; refusals are those of the model of the checks (lists/src/checks.rs).
 "
     )
 }
 
-/// Whether the program that replays holds such a list: storage at its ceiling, and no count that says more than is given.
+/// The greatest count of rows or entries in storage that the program holds. It may be past the ceiling.
+const MAX_COUNT: usize = 65_535;
+
+/// Whether the program that replays holds such a list: storage at its ceiling, and no other count that says more than is given.
 fn held(memory: &Memory) -> bool {
     memory.sorts.len() == SORT_STORAGE
         && memory.nodes.len() == NODE_STORAGE
@@ -76,10 +82,10 @@ fn held(memory: &Memory) -> bool {
         && memory.constraint_count <= MAX_CONSTRAINTS
         && memory.overload_count <= MAX_OVERLOADS
         && memory.source_count <= MAX_SOURCES
-        && memory.sort_count <= MAX_SORTS
-        && memory.entry_count <= MAX_ENTRIES
-        && memory.node_count <= MAX_NODES
-        && memory.node_entry_count <= MAX_NODE_ENTRIES
+        && memory.sort_count <= MAX_COUNT
+        && memory.entry_count <= MAX_COUNT
+        && memory.node_count <= MAX_COUNT
+        && memory.node_entry_count <= MAX_COUNT
 }
 
 /// Lines of a letter, a slice, where the words begin, and words; lines of zeros are left out where `quiet`.
@@ -113,13 +119,20 @@ fn given(memory: &Memory) -> String {
         memory.source_count,
         memory.default,
     );
-    text += &lines('S', 0, 0, &memory.sorts[..ROW * memory.sort_count], true);
-    text += &lines('S', 0, ENTRIES_AT, &memory.sorts[ENTRIES_AT..][..memory.entry_count], true);
-    text += &lines('S', 1, 0, &memory.nodes[..ROW * memory.node_count], true);
-    text += &lines('S', 1, NODE_ENTRIES_AT, &memory.nodes[NODE_ENTRIES_AT..][..memory.node_entry_count], true);
-    for (slice, words) in [&memory.bindings, &memory.exprs, &memory.names, &memory.constraints, &memory.overloads, &memory.sources]
-        .into_iter()
-        .enumerate()
+    text += &lines('S', 0, 0, &memory.sorts[..ROW * memory.sort_count.min(MAX_SORTS)], true);
+    text += &lines('S', 0, ENTRIES_AT, &memory.sorts[ENTRIES_AT..][..memory.entry_count.min(MAX_ENTRIES)], true);
+    text += &lines('S', 1, 0, &memory.nodes[..ROW * memory.node_count.min(MAX_NODES)], true);
+    text += &lines(
+        'S',
+        1,
+        NODE_ENTRIES_AT,
+        &memory.nodes[NODE_ENTRIES_AT..][..memory.node_entry_count.min(MAX_NODE_ENTRIES)],
+        true,
+    );
+    for (slice, words) in
+        [&memory.bindings, &memory.exprs, &memory.names, &memory.constraints, &memory.overloads, &memory.sources]
+            .into_iter()
+            .enumerate()
     {
         text += &lines('S', 2 + slice, 0, words, true);
     }
@@ -148,7 +161,13 @@ fn answered(memory: Memory, expected: &Expected) -> String {
     if let Outcome::Searched { .. } = expected.outcome {
         let (kept, kept_entries) = ((packed >> 8 & 0xffff) as usize, (packed >> 24 & 0xffff) as usize);
         text += &lines('X', 0, ROW * rows, &call.memory.sorts[ROW * rows..ROW * kept], false);
-        text += &lines('X', 0, ENTRIES_AT + entries, &call.memory.sorts[ENTRIES_AT + entries..ENTRIES_AT + kept_entries], false);
+        text += &lines(
+            'X',
+            0,
+            ENTRIES_AT + entries,
+            &call.memory.sorts[ENTRIES_AT + entries..ENTRIES_AT + kept_entries],
+            false,
+        );
     }
     if expected.code() == 0 {
         for (slice, words) in [&call.typing, &call.measure, &call.choices].into_iter().enumerate() {

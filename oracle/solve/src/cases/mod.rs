@@ -7,6 +7,7 @@ mod dropped;
 mod few;
 mod full;
 mod ground;
+mod grown;
 mod large;
 mod pad;
 mod sample;
@@ -23,6 +24,7 @@ use crate::call::Call;
 use crate::layout::More;
 use crate::layout::laid_out;
 
+pub use grown::Grown;
 pub use sample::sample;
 pub use sample::written;
 pub use timed::Timed;

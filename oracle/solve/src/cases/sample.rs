@@ -112,12 +112,13 @@ mod tests {
     use crate::call::Call;
     use crate::call::Lent;
     use crate::call::Slice;
+    use crate::port::Entry;
     use crate::port::Port;
 
     const RECORDED: &str = include_str!("../../../recorded/solve.txt");
 
-    /// The answer line of a list by what the library answers and leaves.
-    fn answered(list: &Given) -> Answer {
+    /// The answer line of a list by what an entry of the library answers and leaves.
+    fn answered(entry: Entry, list: &Given) -> Answer {
         let memory = list.memory();
         let mut call = Call { memory, ..Call::default() };
         call.scratch = vec![7; call.memory.scratch];
@@ -125,7 +126,7 @@ mod tests {
         call.measure = vec![7; call.memory.out_measure];
         call.choices = vec![7; call.memory.out_choices];
         let mut lent = Lent::new(&call);
-        let packed = Port::Library.ask(&mut lent, &call.memory);
+        let packed = Port::Library(entry).ask(&mut lent, &call.memory);
         let part = |from: u32, bits: u32| (packed >> from & ((1 << bits) - 1)) as usize;
         let verdict = match part(0, 8) {
             0 => typing(&lent, call.memory.expr_count, part(40, 12)),
@@ -162,7 +163,9 @@ mod tests {
         for line in RECORDED.lines() {
             if let Item::Answer(answer) = reader.read(line.as_bytes()).expect("the sample is well formed") {
                 let list = reader.list().expect("an answer comes after a list");
-                assert_eq!(answered(list), answer, "{}", list.title);
+                for (entry, name) in Entry::ALL {
+                    assert_eq!(answered(entry, list), answer, "{name}, {}", list.title);
+                }
                 answers += 1;
             }
         }
@@ -181,9 +184,12 @@ mod tests {
                     Item::Answer(answer) if solve => {
                         let mut list = reader.list().expect("an answer comes after a list").clone();
                         pad_to_ceilings(&mut list);
-                        let fresh = answered(&list);
                         let sections = answer.without("nodes");
-                        assert!(sections.agrees_with(&fresh), "{}: {fresh}, written {sections}", list.title);
+                        for (entry, name) in Entry::ALL {
+                            let fresh = answered(entry, &list);
+                            let what = format!("{name}, {}: {fresh}, written {sections}", list.title);
+                            assert!(sections.agrees_with(&fresh), "{what}");
+                        }
                     }
                     _ => {}
                 }

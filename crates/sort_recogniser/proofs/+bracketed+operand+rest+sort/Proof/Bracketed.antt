@@ -14,7 +14,7 @@ use Rattle.sort_recogniser.proofs.+bracketed+operand+rest+sort.Lts-rest
 use Rattle.sort_recogniser.proofs.sort.Reads as sort
 use Rattle.sort_recogniser.proofs.sort.Kinds as sort-kinds
 use Rattle.sort_recogniser.proofs.+bracketed+operand+rest+sort.Lts-sort as sort-lts
-use Rattle.sort_lexer.proofs.token_at.Reads as token-at-reads
+use Rattle.sort_lexer.proofs.token_from.Reads as token-from-reads
 use Rattle.sort_lexer.proofs.word_meaning.Reads as word-meaning-reads
 use Rattle.sort_recogniser.proofs.closing.Reads as closing-reads
 use Rattle.sort_recogniser.proofs.step_of_sort.Reads as step-of-sort-reads
@@ -29,17 +29,17 @@ use Rattle.sort_lexer.proofs.Tags.{no-other-token}
 use Rattle.sort_recogniser.proofs.Ways as way
 use Rattle.sort_recogniser.proofs.+bracketed+operand+rest+sort.Proof.Common.{bracketed-at, bracketed-below, operand-at, operand-below, rest-at, rest-below, sort-at, sort-below}
 
-pub part : (M : Type 1) (t : ℕ) → bracketed-lts.Closed (token-at-reads.Asked, token-at-reads.Learnt, sort-below t, sort.Post, closing-reads.Asked, closing-reads.Learnt) (bracketed-at t) bracketed.Post M
+pub part : (M : Type 1) (t : ℕ) → bracketed-lts.Closed (token-from-reads.Asked, token-from-reads.Learnt, sort-below t, sort.Post, closing-reads.Asked, closing-reads.Learnt) (bracketed-at t) bracketed.Post M
 part M t =
-    bracketed-lts.spec (token-at-reads.Asked, token-at-reads.Learnt, sort-below t, sort.Post, closing-reads.Asked, closing-reads.Learnt) (bracketed-at t) bracketed.Post
+    bracketed-lts.spec (token-from-reads.Asked, token-from-reads.Learnt, sort-below t, sort.Post, closing-reads.Asked, closing-reads.Learnt) (bracketed-at t) bracketed.Post
     (λ c κs. search needs)
     (λ c. search needs)
-    (λ c κs. let g = way.later (c .before .before .before .before .before .before .args .line .now) (c .before .before .before .before .before .before .args .at) (c .before .before .before .before .before .before .pre .1 .0) (c .before .before .before .before .before .before .args .out .now) (c .before .before .before .before .before .before .args .n) (c .before .before .before .before .before .before .pre .1 .1) (c .before .before .before .token-at .result) (c .before .before .before .token-at .ensures) Open (c .before .enum-told .given .1) in let d = way.later-within (c .before .before .before .before .before .before .args .line .now) (c .before .before .before .before .before .before .args .at) (c .before .before .before .before .before .before .pre .1 .0) (c .before .before .before .before .before .before .args .out .now) (c .before .before .before .before .before .before .args .n) (c .before .before .before .before .before .before .pre .1 .1) (c .before .before .before .token-at .result) (c .before .before .before .token-at .ensures) in (omega (arith, c .before .before .before .before .before .before .pre .0, g, d), (d, omega (arith, g, d, c .before .before .before .before .before .before .pre .1 .1))))
+    (λ c κs. let g = way.later (c .before .before .before .before .before .before .args .line .now) (c .before .before .before .before .before .before .args .at) (c .before .before .before .before .before .before .pre .1 .0) (c .before .before .before .before .before .before .args .out .now) (c .before .before .before .before .before .before .args .n) (c .before .before .before .before .before .before .pre .1 .1) (c .before .before .before .token-from .result) (c .before .before .before .token-from .ensures) Open (c .before .enum-told .given .1) in let d = way.later-within (c .before .before .before .before .before .before .args .line .now) (c .before .before .before .before .before .before .args .at) (c .before .before .before .before .before .before .pre .1 .0) (c .before .before .before .before .before .before .args .out .now) (c .before .before .before .before .before .before .args .n) (c .before .before .before .before .before .before .pre .1 .1) (c .before .before .before .token-from .result) (c .before .before .before .token-from .ensures) in (omega (arith, c .before .before .before .before .before .before .pre .0, g, d), (d, omega (arith, g, d, c .before .before .before .before .before .before .pre .1 .1))))
     (λ c. search needs)
-    (λ c κs. let g = way.later (c .before .before .before .before .before .before .before .before .before .before .before .before .before .args .line .now) (c .before .before .before .before .before .before .before .before .before .before .before .before .before .args .at) (c .before .before .before .before .before .before .before .before .before .before .before .before .before .pre .1 .0) (c .before .before .before .before .before .before .before .before .before .before .before .before .before .args .out .now) (c .before .before .before .before .before .before .before .before .before .before .before .before .before .args .n) (c .before .before .before .before .before .before .before .before .before .before .before .before .before .pre .1 .1) (c .before .before .before .before .before .before .before .before .before .before .token-at .result) (c .before .before .before .before .before .before .before .before .before .before .token-at .ensures) Open (c .before .before .before .before .before .before .before .before .enum-told .given .1) in let d = way.later-within (c .before .before .before .before .before .before .before .before .before .before .before .before .before .args .line .now) (c .before .before .before .before .before .before .before .before .before .before .before .before .before .args .at) (c .before .before .before .before .before .before .before .before .before .before .before .before .before .pre .1 .0) (c .before .before .before .before .before .before .before .before .before .before .before .before .before .args .out .now) (c .before .before .before .before .before .before .before .before .before .before .before .before .before .args .n) (c .before .before .before .before .before .before .before .before .before .before .before .before .before .pre .1 .1) (c .before .before .before .before .before .before .before .before .before .before .token-at .result) (c .before .before .before .before .before .before .before .before .before .before .token-at .ensures) in let x = way.done-room (c .before .before .before .before .before .before .before .before .before .before .before .before .before .args .line .now) _ _ _ _ _ _ _ _ (c .before .before .before .before .before .before .sort .ensures) (c .before .before .p .given .1) in (x .1, omega (arith, x .2, g, d, c .before .before .before .before .before .before .sort .kept .1 .1 .0, c .before .before .before .before .before .before .before .before .before .before .before .before .before .pre .1 .1)))
+    (λ c κs. let g = way.later (c .before .before .before .before .before .before .before .before .before .before .before .before .before .args .line .now) (c .before .before .before .before .before .before .before .before .before .before .before .before .before .args .at) (c .before .before .before .before .before .before .before .before .before .before .before .before .before .pre .1 .0) (c .before .before .before .before .before .before .before .before .before .before .before .before .before .args .out .now) (c .before .before .before .before .before .before .before .before .before .before .before .before .before .args .n) (c .before .before .before .before .before .before .before .before .before .before .before .before .before .pre .1 .1) (c .before .before .before .before .before .before .before .before .before .before .token-from .result) (c .before .before .before .before .before .before .before .before .before .before .token-from .ensures) Open (c .before .before .before .before .before .before .before .before .enum-told .given .1) in let d = way.later-within (c .before .before .before .before .before .before .before .before .before .before .before .before .before .args .line .now) (c .before .before .before .before .before .before .before .before .before .before .before .before .before .args .at) (c .before .before .before .before .before .before .before .before .before .before .before .before .before .pre .1 .0) (c .before .before .before .before .before .before .before .before .before .before .before .before .before .args .out .now) (c .before .before .before .before .before .before .before .before .before .before .before .before .before .args .n) (c .before .before .before .before .before .before .before .before .before .before .before .before .before .pre .1 .1) (c .before .before .before .before .before .before .before .before .before .before .token-from .result) (c .before .before .before .before .before .before .before .before .before .before .token-from .ensures) in let x = way.done-room (c .before .before .before .before .before .before .before .before .before .before .before .before .before .args .line .now) _ _ _ _ _ _ _ _ (c .before .before .before .before .before .before .sort .ensures) (c .before .before .p .given .1) in (x .1, omega (arith, x .2, g, d, c .before .before .before .before .before .before .sort .kept .1 .1 .0, c .before .before .before .before .before .before .before .before .before .before .before .before .before .pre .1 .1)))
     (λ c. search needs)
     (λ c. c .before .before .closing .kept .1 .1 .0 ∙ c .before .before .before .before .before .before .before .before .before .sort .kept .1 .1 .0)
-    (λ c. way.bracketed-goes-on (c .before .before .before .before .before .before .before .before .before .before .before .before .before .before .before .before .args .line .now) (c .before .before .before .before .before .before .before .before .before .before .before .before .before .before .before .before .args .at) (c .before .before .before .before .before .before .before .before .before .before .before .before .before .before .before .before .pre .1 .0) (c .before .before .before .before .before .before .before .before .before .before .before .before .before .before .before .before .args .out .now) (c .before .before .before .before .before .before .before .before .before .before .before .before .before .before .before .before .args .n) (c .before .before .before .before .before .before .before .before .before .before .before .before .before .before .before .before .pre .1 .1) (c .before .before .before .before .before .before .before .before .before .before .before .before .before .token-at .result) (c .before .before .before .before .before .before .before .before .before .before .before .before .before .token-at .ensures) (c .before .before .before .before .before .before .before .before .before .before .before .enum-told .given .1) (c .before .before .before .before .before .before .before .before .before .before .before .before .before .before .before .before .args .op) _ _ (c .before .before .before .before .before .before .before .before .before .sort .ensures) _ _ (c .before .before .before .before .before .p .given .1) _ _ (c .before .before .closing .ensures))
+    (λ c. way.bracketed-goes-on (c .before .before .before .before .before .before .before .before .before .before .before .before .before .before .before .before .args .line .now) (c .before .before .before .before .before .before .before .before .before .before .before .before .before .before .before .before .args .at) (c .before .before .before .before .before .before .before .before .before .before .before .before .before .before .before .before .pre .1 .0) (c .before .before .before .before .before .before .before .before .before .before .before .before .before .before .before .before .args .out .now) (c .before .before .before .before .before .before .before .before .before .before .before .before .before .before .before .before .args .n) (c .before .before .before .before .before .before .before .before .before .before .before .before .before .before .before .before .pre .1 .1) (c .before .before .before .before .before .before .before .before .before .before .before .before .before .token-from .result) (c .before .before .before .before .before .before .before .before .before .before .before .before .before .token-from .ensures) (c .before .before .before .before .before .before .before .before .before .before .before .enum-told .given .1) (c .before .before .before .before .before .before .before .before .before .before .before .before .before .before .before .before .args .op) _ _ (c .before .before .before .before .before .before .before .before .before .sort .ensures) _ _ (c .before .before .before .before .before .p .given .1) _ _ (c .before .before .closing .ensures))
     (λ c. search needs)
-    (λ c. way.bracketed-passes (c .before .before .before .before .before .before .before .before .before .before .before .before .args .line .now) (c .before .before .before .before .before .before .before .before .before .before .before .before .args .at) (c .before .before .before .before .before .before .before .before .before .before .before .before .pre .1 .0) (c .before .before .before .before .before .before .before .before .before .before .before .before .args .out .now) (c .before .before .before .before .before .before .before .before .before .before .before .before .args .n) (c .before .before .before .before .before .before .before .before .before .before .before .before .pre .1 .1) (c .before .before .before .before .before .before .before .before .before .token-at .result) (c .before .before .before .before .before .before .before .before .before .token-at .ensures) (c .before .before .before .before .before .before .before .enum-told .given .1) (c .before .before .before .before .before .before .before .before .before .before .before .before .args .op) _ _ (c .before .before .before .before .before .sort .ensures) _ (c .before .p2 .given .1))
-    (λ c. way.bracketed-stuck (c .before .before .before .before .args .line .now) (c .before .before .before .before .args .at) (c .before .before .before .before .pre .1 .0) (c .before .before .before .before .args .out .now) (c .before .before .before .before .args .n) (c .before .before .before .before .pre .1 .1) (c .before .token-at .result) (c .before .token-at .ensures) (no-other-token (0 ∷ 1 ∷ 3 ∷ 4 ∷ 5 ∷ 6 ∷ []) (c .before .token-at .result .token) Open (c .match .keys2) tt) (c .before .before .before .before .args .op))
+    (λ c. way.bracketed-passes (c .before .before .before .before .before .before .before .before .before .before .before .before .args .line .now) (c .before .before .before .before .before .before .before .before .before .before .before .before .args .at) (c .before .before .before .before .before .before .before .before .before .before .before .before .pre .1 .0) (c .before .before .before .before .before .before .before .before .before .before .before .before .args .out .now) (c .before .before .before .before .before .before .before .before .before .before .before .before .args .n) (c .before .before .before .before .before .before .before .before .before .before .before .before .pre .1 .1) (c .before .before .before .before .before .before .before .before .before .token-from .result) (c .before .before .before .before .before .before .before .before .before .token-from .ensures) (c .before .before .before .before .before .before .before .enum-told .given .1) (c .before .before .before .before .before .before .before .before .before .before .before .before .args .op) _ _ (c .before .before .before .before .before .sort .ensures) _ (c .before .p2 .given .1))
+    (λ c. way.bracketed-stuck (c .before .before .before .before .args .line .now) (c .before .before .before .before .args .at) (c .before .before .before .before .pre .1 .0) (c .before .before .before .before .args .out .now) (c .before .before .before .before .args .n) (c .before .before .before .before .pre .1 .1) (c .before .token-from .result) (c .before .token-from .ensures) (no-other-token (0 ∷ 1 ∷ 3 ∷ 4 ∷ 5 ∷ 6 ∷ []) (c .before .token-from .result .token) Open (c .match .keys2) tt) (c .before .before .before .before .args .op))

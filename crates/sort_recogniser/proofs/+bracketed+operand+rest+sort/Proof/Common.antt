@@ -14,7 +14,7 @@ use Rattle.sort_recogniser.proofs.+bracketed+operand+rest+sort.Lts-rest
 use Rattle.sort_recogniser.proofs.sort.Reads as sort
 use Rattle.sort_recogniser.proofs.sort.Kinds as sort-kinds
 use Rattle.sort_recogniser.proofs.+bracketed+operand+rest+sort.Lts-sort as sort-lts
-use Rattle.sort_lexer.proofs.token_at.Reads as token-at-reads
+use Rattle.sort_lexer.proofs.token_from.Reads as token-from-reads
 use Rattle.sort_lexer.proofs.word_meaning.Reads as word-meaning-reads
 use Rattle.sort_recogniser.proofs.closing.Reads as closing-reads
 use Rattle.sort_recogniser.proofs.step_of_sort.Reads as step-of-sort-reads

@@ -14,7 +14,7 @@ use Rattle.sort_recogniser.proofs.+bracketed+operand+rest+sort.Lts-rest
 use Rattle.sort_recogniser.proofs.sort.Reads as sort
 use Rattle.sort_recogniser.proofs.sort.Kinds as sort-kinds
 use Rattle.sort_recogniser.proofs.+bracketed+operand+rest+sort.Lts-sort as sort-lts
-use Rattle.sort_lexer.proofs.token_at.Reads as token-at-reads
+use Rattle.sort_lexer.proofs.token_from.Reads as token-from-reads
 use Rattle.sort_lexer.proofs.word_meaning.Reads as word-meaning-reads
 use Rattle.sort_recogniser.proofs.closing.Reads as closing-reads
 use Rattle.sort_recogniser.proofs.step_of_sort.Reads as step-of-sort-reads
@@ -29,22 +29,22 @@ use Rattle.sort_lexer.proofs.Tags.{no-other-token}
 use Rattle.sort_recogniser.proofs.Ways as way
 use Rattle.sort_recogniser.proofs.+bracketed+operand+rest+sort.Proof.Common.{bracketed-at, bracketed-below, operand-at, operand-below, rest-at, rest-below, sort-at, sort-below}
 
-pub part : (M : Type 1) (t : ℕ) → operand-lts.Closed (token-at-reads.Asked, token-at-reads.Learnt, word-meaning-reads.Asked, word-meaning-reads.Learnt, step-of-sort-reads.Asked, step-of-sort-reads.Learnt, bracketed-below t, bracketed.Post) (operand-at t) operand.Post M
+pub part : (M : Type 1) (t : ℕ) → operand-lts.Closed (token-from-reads.Asked, token-from-reads.Learnt, word-meaning-reads.Asked, word-meaning-reads.Learnt, step-of-sort-reads.Asked, step-of-sort-reads.Learnt, bracketed-below t, bracketed.Post) (operand-at t) operand.Post M
 part M t =
-    operand-lts.spec (token-at-reads.Asked, token-at-reads.Learnt, word-meaning-reads.Asked, word-meaning-reads.Learnt, step-of-sort-reads.Asked, step-of-sort-reads.Learnt, bracketed-below t, bracketed.Post) (operand-at t) operand.Post
+    operand-lts.spec (token-from-reads.Asked, token-from-reads.Learnt, word-meaning-reads.Asked, word-meaning-reads.Learnt, step-of-sort-reads.Asked, step-of-sort-reads.Learnt, bracketed-below t, bracketed.Post) (operand-at t) operand.Post
     (λ c κs. search needs)
     (λ c. search needs)
     (λ c κs. search needs)
     (λ c. search needs)
     (λ c κs. search needs)
-    (λ c. let g = way.later (c .before .before .before .before .before .before .before .before .before .before .args .line .now) (c .before .before .before .before .before .before .before .before .before .before .args .at) (c .before .before .before .before .before .before .before .before .before .before .pre .1 .0) (c .before .before .before .before .before .before .before .before .before .before .args .out .now) (c .before .before .before .before .before .before .before .before .before .before .args .n) (c .before .before .before .before .before .before .before .before .before .before .pre .1 .1) (c .before .before .before .before .before .before .before .token-at .result) (c .before .before .before .before .before .before .before .token-at .ensures) Word (c .before .before .before .before .before .enum-told .given .1) in let d = way.later-within (c .before .before .before .before .before .before .before .before .before .before .args .line .now) (c .before .before .before .before .before .before .before .before .before .before .args .at) (c .before .before .before .before .before .before .before .before .before .before .pre .1 .0) (c .before .before .before .before .before .before .before .before .before .before .args .out .now) (c .before .before .before .before .before .before .before .before .before .before .args .n) (c .before .before .before .before .before .before .before .before .before .before .pre .1 .1) (c .before .before .before .before .before .before .before .token-at .result) (c .before .before .before .before .before .before .before .token-at .ensures) in omega (arith, g, d, c .before .before .before .before .before .before .before .before .before .before .pre .1 .1))
+    (λ c. let g = way.later (c .before .before .before .before .before .before .before .before .before .before .args .line .now) (c .before .before .before .before .before .before .before .before .before .before .args .at) (c .before .before .before .before .before .before .before .before .before .before .pre .1 .0) (c .before .before .before .before .before .before .before .before .before .before .args .out .now) (c .before .before .before .before .before .before .before .before .before .before .args .n) (c .before .before .before .before .before .before .before .before .before .before .pre .1 .1) (c .before .before .before .before .before .before .before .token-from .result) (c .before .before .before .before .before .before .before .token-from .ensures) Word (c .before .before .before .before .before .enum-told .given .1) in let d = way.later-within (c .before .before .before .before .before .before .before .before .before .before .args .line .now) (c .before .before .before .before .before .before .before .before .before .before .args .at) (c .before .before .before .before .before .before .before .before .before .before .pre .1 .0) (c .before .before .before .before .before .before .before .before .before .before .args .out .now) (c .before .before .before .before .before .before .before .before .before .before .args .n) (c .before .before .before .before .before .before .before .before .before .before .pre .1 .1) (c .before .before .before .before .before .before .before .token-from .result) (c .before .before .before .before .before .before .before .token-from .ensures) in omega (arith, g, d, c .before .before .before .before .before .before .before .before .before .before .pre .1 .1))
     (λ c. search needs)
     (λ c. search needs)
-    (λ c κs. let g = way.later (c .before .before .before .before .before .before .before .before .before .before .args .line .now) (c .before .before .before .before .before .before .before .before .before .before .args .at) (c .before .before .before .before .before .before .before .before .before .before .pre .1 .0) (c .before .before .before .before .before .before .before .before .before .before .args .out .now) (c .before .before .before .before .before .before .before .before .before .before .args .n) (c .before .before .before .before .before .before .before .before .before .before .pre .1 .1) (c .before .before .before .before .before .before .before .token-at .result) (c .before .before .before .before .before .before .before .token-at .ensures) Word (c .before .before .before .before .before .enum-told .given .1) in let d = way.later-within (c .before .before .before .before .before .before .before .before .before .before .args .line .now) (c .before .before .before .before .before .before .before .before .before .before .args .at) (c .before .before .before .before .before .before .before .before .before .before .pre .1 .0) (c .before .before .before .before .before .before .before .before .before .before .args .out .now) (c .before .before .before .before .before .before .before .before .before .before .args .n) (c .before .before .before .before .before .before .before .before .before .before .pre .1 .1) (c .before .before .before .before .before .before .before .token-at .result) (c .before .before .before .before .before .before .before .token-at .ensures) in (omega (arith, c .before .before .before .before .before .before .before .before .before .before .pre .0, g, d), (d, omega (arith, g, d, c .before .before .before .before .before .before .before .before .before .before .pre .1 .1))))
+    (λ c κs. let g = way.later (c .before .before .before .before .before .before .before .before .before .before .args .line .now) (c .before .before .before .before .before .before .before .before .before .before .args .at) (c .before .before .before .before .before .before .before .before .before .before .pre .1 .0) (c .before .before .before .before .before .before .before .before .before .before .args .out .now) (c .before .before .before .before .before .before .before .before .before .before .args .n) (c .before .before .before .before .before .before .before .before .before .before .pre .1 .1) (c .before .before .before .before .before .before .before .token-from .result) (c .before .before .before .before .before .before .before .token-from .ensures) Word (c .before .before .before .before .before .enum-told .given .1) in let d = way.later-within (c .before .before .before .before .before .before .before .before .before .before .args .line .now) (c .before .before .before .before .before .before .before .before .before .before .args .at) (c .before .before .before .before .before .before .before .before .before .before .pre .1 .0) (c .before .before .before .before .before .before .before .before .before .before .args .out .now) (c .before .before .before .before .before .before .before .before .before .before .args .n) (c .before .before .before .before .before .before .before .before .before .before .pre .1 .1) (c .before .before .before .before .before .before .before .token-from .result) (c .before .before .before .before .before .before .before .token-from .ensures) in (omega (arith, c .before .before .before .before .before .before .before .before .before .before .pre .0, g, d), (d, omega (arith, g, d, c .before .before .before .before .before .before .before .before .before .before .pre .1 .1))))
     (λ c. search needs)
     (λ c. search needs)
-    (λ c. way.operand-basic (c .before .before .before .before .before .before .before .before .before .before .args .line .now) (c .before .before .before .before .before .before .before .before .before .before .args .at) (c .before .before .before .before .before .before .before .before .before .before .pre .1 .0) (c .before .before .before .before .before .before .before .before .before .before .args .out .now) (c .before .before .before .before .before .before .before .before .before .before .args .n) (c .before .before .before .before .before .before .before .before .before .before .pre .1 .1) (c .before .before .before .before .before .before .before .token-at .result) (c .before .before .before .before .before .before .before .token-at .ensures) (c .before .before .before .before .before .enum-told .given .1) _ (c .before .before .before .before .word-meaning .ensures) _ (c .before .before .s .given .1) _ (c .step-of-sort .ensures))
+    (λ c. way.operand-basic (c .before .before .before .before .before .before .before .before .before .before .args .line .now) (c .before .before .before .before .before .before .before .before .before .before .args .at) (c .before .before .before .before .before .before .before .before .before .before .pre .1 .0) (c .before .before .before .before .before .before .before .before .before .before .args .out .now) (c .before .before .before .before .before .before .before .before .before .before .args .n) (c .before .before .before .before .before .before .before .before .before .before .pre .1 .1) (c .before .before .before .before .before .before .before .token-from .result) (c .before .before .before .before .before .before .before .token-from .ensures) (c .before .before .before .before .before .enum-told .given .1) _ (c .before .before .before .before .word-meaning .ensures) _ (c .before .before .s .given .1) _ (c .step-of-sort .ensures))
     (λ c. search needs)
-    (λ c. way.operand-over (c .before .before .before .before .before .before .before .before .before .before .before .before .before .args .line .now) (c .before .before .before .before .before .before .before .before .before .before .before .before .before .args .at) (c .before .before .before .before .before .before .before .before .before .before .before .before .before .pre .1 .0) (c .before .before .before .before .before .before .before .before .before .before .before .before .before .args .out .now) (c .before .before .before .before .before .before .before .before .before .before .before .before .before .args .n) (c .before .before .before .before .before .before .before .before .before .before .before .before .before .pre .1 .1) (c .before .before .before .before .before .before .before .before .before .before .token-at .result) (c .before .before .before .before .before .before .before .before .before .before .token-at .ensures) (c .before .before .before .before .before .before .before .before .enum-told .given .1) _ (c .before .before .before .before .before .before .before .word-meaning .ensures) _ (c .before .before .before .before .before .op .given .1) _ _ (c .before .before .bracketed .ensures))
-    (λ c. way.operand-unknown (c .before .before .before .before .before .before .before .before .args .line .now) (c .before .before .before .before .before .before .before .before .args .at) (c .before .before .before .before .before .before .before .before .pre .1 .0) (c .before .before .before .before .before .before .before .before .args .out .now) (c .before .before .before .before .before .before .before .before .args .n) (c .before .before .before .before .before .before .before .before .pre .1 .1) (c .before .before .before .before .before .token-at .result) (c .before .before .before .before .before .token-at .ensures) (c .before .before .before .enum-told .given .1) _ (c .before .before .word-meaning .ensures) (c .enum-told2 .given .1))
-    (λ c. way.operand-stuck (c .before .before .before .before .args .line .now) (c .before .before .before .before .args .at) (c .before .before .before .before .pre .1 .0) (c .before .before .before .before .args .out .now) (c .before .before .before .before .args .n) (c .before .before .before .before .pre .1 .1) (c .before .token-at .result) (c .before .token-at .ensures) (no-other-token (0 ∷ 2 ∷ 3 ∷ 4 ∷ 5 ∷ 6 ∷ []) (c .before .token-at .result .token) Word (c .match .keys2) tt))
+    (λ c. way.operand-over (c .before .before .before .before .before .before .before .before .before .before .before .before .before .args .line .now) (c .before .before .before .before .before .before .before .before .before .before .before .before .before .args .at) (c .before .before .before .before .before .before .before .before .before .before .before .before .before .pre .1 .0) (c .before .before .before .before .before .before .before .before .before .before .before .before .before .args .out .now) (c .before .before .before .before .before .before .before .before .before .before .before .before .before .args .n) (c .before .before .before .before .before .before .before .before .before .before .before .before .before .pre .1 .1) (c .before .before .before .before .before .before .before .before .before .before .token-from .result) (c .before .before .before .before .before .before .before .before .before .before .token-from .ensures) (c .before .before .before .before .before .before .before .before .enum-told .given .1) _ (c .before .before .before .before .before .before .before .word-meaning .ensures) _ (c .before .before .before .before .before .op .given .1) _ _ (c .before .before .bracketed .ensures))
+    (λ c. way.operand-unknown (c .before .before .before .before .before .before .before .before .args .line .now) (c .before .before .before .before .before .before .before .before .args .at) (c .before .before .before .before .before .before .before .before .pre .1 .0) (c .before .before .before .before .before .before .before .before .args .out .now) (c .before .before .before .before .before .before .before .before .args .n) (c .before .before .before .before .before .before .before .before .pre .1 .1) (c .before .before .before .before .before .token-from .result) (c .before .before .before .before .before .token-from .ensures) (c .before .before .before .enum-told .given .1) _ (c .before .before .word-meaning .ensures) (c .enum-told2 .given .1))
+    (λ c. way.operand-stuck (c .before .before .before .before .args .line .now) (c .before .before .before .before .args .at) (c .before .before .before .before .pre .1 .0) (c .before .before .before .before .args .out .now) (c .before .before .before .before .args .n) (c .before .before .before .before .pre .1 .1) (c .before .token-from .result) (c .before .token-from .ensures) (no-other-token (0 ∷ 2 ∷ 3 ∷ 4 ∷ 5 ∷ 6 ∷ []) (c .before .token-from .result .token) Word (c .match .keys2) tt))
