@@ -1,5 +1,8 @@
 -- What one line makes of a list: docs/FORMAT.md, "Lines and words", "A list" and "Questions". What a line of a list gives is said in
 -- Rattle.list_forms.specs.Lines; here it is put into the words.
+-- Where this differs from the oracle's reader: a line not of the format ends its list and not the program; an answer is not looked at, and a
+-- question may have more than one; counts of rows stop at 65,535, where the oracle stops the program; a 513th base name is a line not of
+-- the format; `ceilings` gives nothing.
 use mathlib.Core.Bool.{Bool, true, false, cond}
 use mathlib.Core.List.{List, [], _∷_}
 use Prim.Native.Nat.{ℕ, zero, suc, _+_, _-_}
