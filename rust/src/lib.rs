@@ -29,7 +29,8 @@
 //! **Time.** The search is merc's and takes as long as merc's: it can be exponential in the number of constraints.
 //!
 //! **Stack.** The search calls itself. Up to 1 MB of the caller's stack is used; a problem that may take more, such as one
-//! of 220 constraints, runs in a thread of its own ([Workspace::set_stack]).
+//! of 230 constraints, runs in a thread of its own ([Workspace::set_stack]); where no thread can be had it runs on the
+//! caller's stack all the same.
 
 #![deny(unsafe_op_in_unsafe_fn)]
 #![warn(missing_docs)]

@@ -24,8 +24,9 @@ const SCRATCH: usize = 4_096;
 const ENTRIES_AT: usize = 4 * MAX_SORTS;
 const NODE_ENTRIES_AT: usize = 4 * MAX_NODES;
 
-/// The memory that the library is lent, at its full ceilings: 67 kB. [Workspace::solve] allocates nothing, but for a
-/// problem so large that the stack of a thread might not do: that one runs in a thread of its own with more.
+/// The memory that the library is lent, at its full ceilings: about 70 kB with what it keeps. [Workspace::solve] allocates nothing
+/// (a clone of a workspace may, the first time), but for a problem so large that the stack of a thread might not do: that one
+/// runs in a thread of its own with more, and where none can be had on the stack of the caller.
 ///
 /// ```
 /// use julqetai::{Problem, Refusal, SortId, Workspace};

@@ -197,10 +197,6 @@ lendPlan t =
     (withPuts nothing (lentAt + (wordAt t 1 - 41)) (wordAt t 2) (lentToldAt + (wordAt t 1 - 41)) 1)
     (expected Form.Lend)
 
--- ceilings N N N N: "for the counting oracle only"
-unfoldable pub ceilingsPlan : Tokens → Plan
-ceilingsPlan t = cond (fits t (form word.kCeilings N N N N 0 0)) nothing (expected Form.Ceilings)
-
 -- damaged and unusual lists
 unfoldable pub unusualPlan : List ℕ → Tokens → Plan
 unusualPlan ws t =
@@ -210,7 +206,8 @@ unusualPlan ws t =
     (cond (eqb (tokenAt t 0) word.kPad) (padPlan ws t)
     (cond (eqb (tokenAt t 0) word.kCount) (countPlan t)
     (cond (eqb (tokenAt t 0) word.kLend) (lendPlan t)
-    (cond (eqb (tokenAt t 0) word.kCeilings) (ceilingsPlan t) (expected Form.Keyword)))))))
+    -- "for the counting oracle only"
+    (cond (eqb (tokenAt t 0) word.kCeilings) (expected Form.Ceilings) (expected Form.Keyword)))))))
 
 -- constraints
 unfoldable pub constraintsPlan : List ℕ → Tokens → Plan

@@ -10,7 +10,7 @@ ghost use lib.ListN.{getD};
 ghost use Rattle.list_memory.specs.Memory.{rowsOf};
 ghost use Rattle.list_forms.specs.Items.{inRange as within, isSort, isPlace, isOf, tokenAt, wordOf, wordAt, fitsFrom, allFrom, listFits, functionFits};
 ghost use Rattle.list_forms.specs.Plans.{expected as expectedOf, nothing as nothingGiven, rowsPlan, rowPlan, withFree, withRun, withPuts, withPut, addUp, grown as grownOf};
-ghost use Rattle.list_forms.specs.Lines.{isNext, functionPlan, sortRow, sortPlan, varPlan, varsPlan, boundPlan, bindPlan, nodeRow, nodePlan, exprPlan, nameRow, namePlan, defaultPlan, constraintRow, subPlan, litPlan, comprehensionPlan, disjunctionPlan, overloadRow, overloadPlan, joinPlan, sourcesPlan, entriesPlan, constraintPlan, padPlan, countedBy, countPlan, lendPlan, ceilingsPlan, unusualPlan, constraintsPlan, planOf, asksOther};
+ghost use Rattle.list_forms.specs.Lines.{isNext, functionPlan, sortRow, sortPlan, varPlan, varsPlan, boundPlan, bindPlan, nodeRow, nodePlan, exprPlan, nameRow, namePlan, defaultPlan, constraintRow, subPlan, litPlan, comprehensionPlan, disjunctionPlan, overloadRow, overloadPlan, joinPlan, sourcesPlan, entriesPlan, constraintPlan, padPlan, countedBy, countPlan, lendPlan, unusualPlan, constraintsPlan, planOf, asksOther};
 
 // What a line gives. First `free` free variables; then the words from `from` to before `to` of the line as rows of the list
 // `run`; then `times` rows of the list `list`, whose second word rises by one from row to row where `rising`; then two words
@@ -757,16 +757,6 @@ fn lend_plan(t: Tokens) -> Plan
     expected(Form::Lend)
 }
 
-// `ceilings N N N N`, which is for the oracle only.
-fn ceilings_plan(t: Tokens) -> Plan
-    ensures { λ r. ⌜ r ≡ ceilingsPlan t ⌝ }
-{
-    if fits(t, [14, N, N, N, N, 0, 0]) {
-        return nothing();
-    }
-    expected(Form::Ceilings)
-}
-
 // Lines of damaged and unusual lists.
 fn unusual_plan(list: &[u16; 34112], t: Tokens) -> Plan
     ensures { λ r. ⌜ r ≡ unusualPlan (now (list .entry)) t ⌝ }
@@ -791,7 +781,7 @@ fn unusual_plan(list: &[u16; 34112], t: Tokens) -> Plan
         return lend_plan(t);
     }
     if first == 14 {
-        return ceilings_plan(t);
+        return expected(Form::Ceilings);
     }
     expected(Form::Keyword)
 }

@@ -12,12 +12,12 @@ use Rattle.list_messages.specs.Messages.{messages, placeOf, formText}
 
 -- where each message begins, and the bytes of all, as in the code
 unfoldable pub starts : List ℕ
-starts = 0 ∷ 15 ∷ 32 ∷ 58 ∷ 85 ∷ 114 ∷ 153 ∷ 180 ∷ 207 ∷ 301 ∷ 377 ∷ 390 ∷ 408 ∷ 469 ∷ 478 ∷ 484 ∷ 493 ∷ 543 ∷ 552 ∷ 618 ∷ 674 ∷ 683 ∷ 690 ∷ 721 ∷ 740 ∷ 756 ∷ 834 ∷ 846 ∷ 859 ∷ 879 ∷ 909 ∷ 942 ∷ 958 ∷ 1000 ∷ []
+starts = 0 ∷ 33 ∷ 50 ∷ 76 ∷ 103 ∷ 132 ∷ 171 ∷ 213 ∷ 240 ∷ 374 ∷ 476 ∷ 489 ∷ 507 ∷ 568 ∷ 577 ∷ 583 ∷ 592 ∷ 642 ∷ 651 ∷ 717 ∷ 773 ∷ 782 ∷ 789 ∷ 820 ∷ 839 ∷ 855 ∷ 933 ∷ 945 ∷ 958 ∷ 978 ∷ 1096 ∷ 1241 ∷ 1294 ∷ 1336 ∷ []
 
 unfoldable pub bytes : List ℕ
 bytes =
     bytesOf
-    "printable ASCIIat most 200 byteslist before any other linea question before an answer?, = or list after a questiona word that begins a line of the formata name with the next numberbare, before any other sortsort sK List S, sort sK fn S ... -> S, sort sK Def N, sort sK TypeVar N or sort sK raw N N N Nnode nK List P, node nK fn P ... -> P, node nK var vN or node nK raw N N N Nentries N ...node-entries N ...pad sorts N, pad entries N, pad nodes N or pad node-entries Nvar vK nJvars Nbind vN Pa variable of a line above that has no binding yetexpr eK Pname eN variable, name eN builtin, name eN op S or name eN raw N Nat most 512 base names, which is what this program holdsdefault Ssub P Plit P positive or lit P naturalcomprehension P P Sdisjunction eN Poverload variable P, overload builtin P, overload op S P or overload raw N N Njoin P P ...sources P ...constraint N N N N Ncount WHAT N, as count exprs 2lend WHAT N, as lend scratch 4096ceilings N N N N? solve, or another question of the format"
+    "printable ASCII, no tab and no CRat most 200 byteslist before any other linea question before an answer?, = or list after a questiona word that begins a line of the formatthe next number in the name of the new rowbare, before any other sortsort sK List S (or Set, FSet, Bag, FBag), sort sK fn S ... -> S, sort sK Def N, sort sK TypeVar N, sort sK unit or sort sK raw N N N Nnode nK List P (or Set, FSet, Bag, FBag), node nK fn P ... -> P, node nK var vN or node nK raw N N N Nentries N ...node-entries N ...pad sorts N, pad entries N, pad nodes N or pad node-entries Nvar vK nJvars Nbind vN Pa variable of a line above that has no binding yetexpr eK Pname eN variable, name eN builtin, name eN op S or name eN raw N Nat most 512 base names, which is what this program holdsdefault Ssub P Plit P positive or lit P naturalcomprehension P P Sdisjunction eN Poverload variable P, overload builtin P, overload op S P or overload raw N N Njoin P P ...sources P ...constraint N N N N Ncount WHAT N, where WHAT is sorts, entries, nodes, node-entries, vars, exprs, names, constraints, overloads or sourceslend WHAT N, where WHAT is sorts, nodes, bindings, exprs, names, constraints, overloads, sources, scratch, out-typing, out-measure or out-choicesno ceilings line: this program has the fixed ceilings? solve, or another question of the format"
 
 unfoldable pub cut : ℕ → List ℕ
 cut k = take (getD starts (k + 1) 0 - getD starts k 0) (drop (getD starts k 0) bytes)

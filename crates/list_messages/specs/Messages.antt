@@ -9,16 +9,16 @@ use Rattle.list_memory.specs.declared.Form.the-variants.{Printable, Length, Lis
 unfoldable pub messages : List (List ℕ)
 messages =
     map bytesOf
-    ("printable ASCII"
+    ("printable ASCII, no tab and no CR"
     ∷ "at most 200 bytes"
     ∷ "list before any other line"
     ∷ "a question before an answer"
     ∷ "?, = or list after a question"
     ∷ "a word that begins a line of the format"
-    ∷ "a name with the next number"
+    ∷ "the next number in the name of the new row"
     ∷ "bare, before any other sort"
-    ∷ "sort sK List S, sort sK fn S ... -> S, sort sK Def N, sort sK TypeVar N or sort sK raw N N N N"
-    ∷ "node nK List P, node nK fn P ... -> P, node nK var vN or node nK raw N N N N"
+    ∷ "sort sK List S (or Set, FSet, Bag, FBag), sort sK fn S ... -> S, sort sK Def N, sort sK TypeVar N, sort sK unit or sort sK raw N N N N"
+    ∷ "node nK List P (or Set, FSet, Bag, FBag), node nK fn P ... -> P, node nK var vN or node nK raw N N N N"
     ∷ "entries N ..."
     ∷ "node-entries N ..."
     ∷ "pad sorts N, pad entries N, pad nodes N or pad node-entries N"
@@ -38,9 +38,9 @@ messages =
     ∷ "join P P ..."
     ∷ "sources P ..."
     ∷ "constraint N N N N N"
-    ∷ "count WHAT N, as count exprs 2"
-    ∷ "lend WHAT N, as lend scratch 4096"
-    ∷ "ceilings N N N N"
+    ∷ "count WHAT N, where WHAT is sorts, entries, nodes, node-entries, vars, exprs, names, constraints, overloads or sources"
+    ∷ "lend WHAT N, where WHAT is sorts, nodes, bindings, exprs, names, constraints, overloads, sources, scratch, out-typing, out-measure or out-choices"
+    ∷ "no ceilings line: this program has the fixed ceilings"
     ∷ "? solve, or another question of the format" ∷ [])
 
 -- the place of its message

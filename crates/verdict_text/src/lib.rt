@@ -129,7 +129,7 @@ fn put_early(code: u16, out: &mut [u8], at: usize) -> usize
         ),
         4 => put_text(b"two sorts are equal", out, at),
         5 => put_text(
-            b"a node has an unknown kind, above 16 arguments, a run off its list or a part not below it",
+            b"a node has an unknown kind, above 16 arguments, a run off its list, or a part or variable that is not there",
             out,
             at,
         ),

@@ -50,19 +50,19 @@ returns-6 : tie.Need-returns-6
 unfolding unusualPlan
 returns-6 c = rw (← c .before .before .before .before .before .before .before .token-at .ensures, ne-eqb _ _ (c .before .before .before .before .before .before .if1 .left), ne-eqb _ _ (c .before .before .before .before .before .if2 .left), ne-eqb _ _ (c .before .before .before .before .if3 .left), ne-eqb _ _ (c .before .before .before .if4 .left), ne-eqb _ _ (c .before .before .if5 .left), eq-eqb _ _ (c .before .if6 .taken), ← c .lend-plan .ensures)
 
-ceilings-plan-requires : tie.Need-ceilings-plan-requires
-ceilings-plan-requires c κs = search needs
-
-returns-7 : tie.Need-returns-7
-unfolding unusualPlan
-returns-7 c = rw (← c .before .before .before .before .before .before .before .before .token-at .ensures, ne-eqb _ _ (c .before .before .before .before .before .before .before .if1 .left), ne-eqb _ _ (c .before .before .before .before .before .before .if2 .left), ne-eqb _ _ (c .before .before .before .before .before .if3 .left), ne-eqb _ _ (c .before .before .before .before .if4 .left), ne-eqb _ _ (c .before .before .before .if5 .left), ne-eqb _ _ (c .before .before .if6 .left), eq-eqb _ _ (c .before .if7 .taken), ← c .ceilings-plan .ensures)
-
 expected-requires : tie.Need-expected-requires
 expected-requires c κs = search needs
 
+returns-7 : tie.Need-returns-7
+unfolding unusualPlan
+returns-7 c = rw (← c .before .before .before .before .before .before .before .before .token-at .ensures, ne-eqb _ _ (c .before .before .before .before .before .before .before .if1 .left), ne-eqb _ _ (c .before .before .before .before .before .before .if2 .left), ne-eqb _ _ (c .before .before .before .before .before .if3 .left), ne-eqb _ _ (c .before .before .before .before .if4 .left), ne-eqb _ _ (c .before .before .before .if5 .left), ne-eqb _ _ (c .before .before .if6 .left), eq-eqb _ _ (c .before .if7 .taken), ← c .expected .ensures)
+
+expected-requires-2 : tie.Need-expected-requires-2
+expected-requires-2 c κs = search needs
+
 returns-8 : tie.Need-returns-8
 unfolding unusualPlan
-returns-8 c = rw (← c .before .before .before .before .before .before .before .before .token-at .ensures, ne-eqb _ _ (c .before .before .before .before .before .before .before .if1 .left), ne-eqb _ _ (c .before .before .before .before .before .before .if2 .left), ne-eqb _ _ (c .before .before .before .before .before .if3 .left), ne-eqb _ _ (c .before .before .before .before .if4 .left), ne-eqb _ _ (c .before .before .before .if5 .left), ne-eqb _ _ (c .before .before .if6 .left), ne-eqb _ _ (c .before .if7 .left), ← c .expected .ensures)
+returns-8 c = rw (← c .before .before .before .before .before .before .before .before .token-at .ensures, ne-eqb _ _ (c .before .before .before .before .before .before .before .if1 .left), ne-eqb _ _ (c .before .before .before .before .before .before .if2 .left), ne-eqb _ _ (c .before .before .before .before .before .if3 .left), ne-eqb _ _ (c .before .before .before .before .if4 .left), ne-eqb _ _ (c .before .before .before .if5 .left), ne-eqb _ _ (c .before .before .if6 .left), ne-eqb _ _ (c .before .if7 .left), ← c .expected2 .ensures)
 
 pub unusual-plan-spec : {M : Type 1} → statement M
 unusual-plan-spec =
@@ -81,7 +81,7 @@ unusual-plan-spec =
     returns-5
     lend-plan-requires
     returns-6
-    ceilings-plan-requires
-    returns-7
     expected-requires
+    returns-7
+    expected-requires-2
     returns-8)
