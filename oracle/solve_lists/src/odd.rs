@@ -221,6 +221,7 @@ fn past_counting() -> Vec<Vec<u8>> {
         "vars 65535\nbind v65534 Nat\n",
         "vars 65535\nbind v65535 Nat\n",
         "vars 600\nbind v511 Nat\nbind v512 Nat\nbind v599 Nat\n",
+        "vars 600\nbind v550 Nat\nbind v550 Nat\n",
         "vars 600\nbind v600 Nat\n",
         "vars 600\nbind v600 Nat Nat\n",
         "vars 600\nbind v511 Nat\nbind v511 Nat\n",

@@ -5,6 +5,7 @@ use std::io::BufRead;
 use std::io::Write;
 
 use lists::memory::Ceilings;
+use lists::memory::MAX_VARIABLES;
 use lists::question::Question;
 use lists::read::Item;
 use lists::read::Reader;
@@ -142,37 +143,19 @@ impl Program {
     }
 
     fn give(&mut self, words: &[&str], line: &[u8]) -> Result<(), &'static str> {
-        self.reader.read(line).map_err(|bad| {
-            let named = bad.message.contains("the next of its list") && self.is_good_but_for_its_names(words);
-            let unbound = words[0] == "bind" && is_binding(words);
-            match () {
-                () if named => messages::NEXT,
-                () if unbound => messages::UNBOUND,
-                () => messages::form(words[0]),
-            }
-        })?;
         let names = self.reader.list().expect("a list has begun").names.len();
-        let most = if self.fault == Some(Fault::MoreNames) { usize::MAX } else { MOST_NAMES };
-        if names > most { Err(messages::NAMES) } else { Ok(()) }
-    }
-
-    /// Whether a line that makes a row is as it should be but for the number of the row. The list is not used after it.
-    fn is_good_but_for_its_names(&mut self, words: &[&str]) -> bool {
-        let list = self.reader.list().expect("a list has begun");
-        let rows = match words[0] {
-            "sort" => vec![('s', list.sorts.len())],
-            "node" => vec![('n', list.nodes.len())],
-            "expr" => vec![('e', list.exprs.len())],
-            _ => vec![('v', list.bindings.len()), ('n', list.nodes.len())],
-        };
-        let mut mended: Vec<String> = words.iter().map(|word| word.to_string()).collect();
-        for (index, &(letter, rows)) in rows.iter().enumerate() {
-            match words.get(index + 1).map(|word| parse_named(word, letter)) {
-                Some(Some(_)) => mended[index + 1] = format!("{letter}{rows}"),
-                _ => return false,
-            }
+        if words[0] == "name" && names == MOST_NAMES && self.fault != Some(Fault::MoreNames) {
+            return Err(messages::NAMES);
         }
-        self.reader.read(mended.join(" ").as_bytes()).is_ok()
+        if is_binding_past_the_ceiling(words, self.reader.list().expect("a list has begun").bindings.len()) {
+            return Ok(());
+        }
+        self.reader.read(line).map(drop).map_err(|bad| match words[0] {
+            "var" if !is_variable(words) => messages::form("var"),
+            "sort" | "node" | "expr" | "var" if bad.message.contains("the next of its list") => messages::NEXT,
+            "bind" if is_binding(words) => messages::UNBOUND,
+            keyword => messages::form(keyword),
+        })
     }
 
     fn solve(&mut self) {
@@ -236,7 +219,92 @@ fn text(line: &[u8]) -> &str {
     std::str::from_utf8(line).expect("printable ASCII is UTF-8")
 }
 
+/// Whether a line is `var vK nJ`.
+fn is_variable(words: &[&str]) -> bool {
+    words.len() == 3 && parse_named(words[1], 'v').is_some() && parse_named(words[2], 'n').is_some()
+}
+
 /// Whether a line is `bind vN P`.
 fn is_binding(words: &[&str]) -> bool {
     words.len() == 3 && parse_named(words[1], 'v').is_some() && parse_place(words[2]).is_some()
+}
+
+/// Whether a line binds one of so many variables that are counted and not kept. So may a second one.
+fn is_binding_past_the_ceiling(words: &[&str], variables: usize) -> bool {
+    let variable = || parse_named(words[1], 'v').map(usize::from);
+    words[0] == "bind"
+        && is_binding(words)
+        && variable().is_some_and(|variable| (MAX_VARIABLES..variables).contains(&variable))
+}
+
+#[cfg(test)]
+mod tests {
+    use super::*;
+
+    fn printed(input: &str) -> String {
+        let mut output = Vec::new();
+        run(input.as_bytes(), &mut output, None).expect("memory can be read and written");
+        String::from_utf8(output).expect("it is ASCII")
+    }
+
+    /// The example of docs/FORMAT.md, and what it says of it.
+    #[test]
+    fn the_example_is_answered() {
+        let input = "# Sub of FSet(v) to Set(Nat): v is Nat
+    list a finite set where a set is wanted
+sort s6 Set Nat
+var v0 n0
+node n1 FSet n0
+expr e0 n0
+sub n1 s6
+? solve
+= 0 sorts Nat measure 1";
+        let output = "    list a finite set where a set is wanted\n0 a typing\ne0: Nat\nmeasure [1]\nchoices none\n";
+        assert_eq!(printed(input), output);
+    }
+
+    /// By hand: names, choices, new sorts, a list that is passed over, one without a question.
+    #[test]
+    fn lines_are_as_the_format_says() {
+        let input = "list one
+sort s6 fn Nat Pos -> Pos
+expr e0 Nat
+expr e1 s6
+expr e2 unit
+name e2 builtin
+disjunction e1 s6
+  overload variable Bool
+  overload op s6 s6
+sub Pos Nat
+comprehension Bool Nat Pos
+? solve
+list two
+sub Nat
+sub Nat
+? solve
+list three
+list four
+expr e0 Nat
+disjunction e0 Nat
+  overload op Nat Nat
+lit Nat natural
+sub Pos Int
+? solve
+";
+        let output = "list one
+17 no typing found
+new s7 Set Pos
+new s8 Bag Pos
+list two
+line 14: expected sub P P
+list three
+nothing is asked about this list
+list four
+0 a typing
+e0: Nat, op Nat
+measure [0, 2]
+choices e0 0
+";
+        assert_eq!(printed(input), output);
+    }
 }

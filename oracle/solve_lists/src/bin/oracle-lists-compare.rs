@@ -27,6 +27,9 @@ const TEXTS_PER_SINGLE: u64 = 200;
 const PIECES: [usize; 6] = [1, 2, 3, 7, 64, 4_096];
 const LARGEST_PIECE: usize = 1 << 16;
 
+/// So many differences of a part are shown, each by the first line that differs.
+const SHOWN: u64 = 5;
+
 /// Files with lists, from the folder of the oracle.
 const FILES: [&str; 4] = ["recorded/solve.txt", "situations.txt", "readings.txt", "../crates/solve_lists/stdin"];
 const BAD_LINES: &str = "bad-lines.txt";
@@ -206,6 +209,9 @@ impl Comparison<'_> {
         }
         part.differ += 1;
         self.differ += 1;
+        if part.differ <= SHOWN {
+            print_first(&ran, &expected);
+        }
         if self.smallest.as_ref().is_none_or(|other| input.len() < other.len()) {
             self.smallest = Some(input.to_vec());
         }
@@ -238,6 +244,22 @@ fn expected(input: &[u8]) -> Vec<u8> {
     let mut output = Vec::new();
     solve_lists::program::run(input, &mut output, None).expect("memory can be read and written");
     output
+}
+
+/// The first line that differs, the list that it is about, and how the program ended.
+fn print_first(ran: &Ran, expected: &[u8]) {
+    let lines = |output: &'_ [u8]| output.split(|&byte| byte == b'\n').map(<[u8]>::to_vec).collect::<Vec<_>>();
+    let (printed, expected) = (lines(&ran.output), lines(expected));
+    let at = (0..).find(|&at| printed.get(at) != expected.get(at) || at >= printed.len()).expect("one ends");
+    let list = expected.iter().take(at).rev().find(|line| line.trim_ascii_start().starts_with(b"list"));
+    let line = |lines: &[Vec<u8>]| lines.get(at).map_or("the end".to_string(), |line| shown(line));
+    println!(
+        "differs after {}: expected {}, printed {}{}",
+        list.map_or("no list".to_string(), |list| shown(list)),
+        line(&expected),
+        line(&printed),
+        ran.failure.as_ref().map(|failure| format!(", ended with {failure}")).unwrap_or_default()
+    );
 }
 
 fn differs(ran: &Ran, input: &[u8]) -> bool {
