@@ -6,6 +6,7 @@ use std::io::Write;
 
 use lists::memory::Ceilings;
 use lists::memory::MAX_VARIABLES;
+use lists::memory::NAME;
 use lists::question::Question;
 use lists::read::Item;
 use lists::read::Reader;
@@ -160,6 +161,9 @@ impl Program {
 
     fn solve(&mut self) {
         let mut memory = self.reader.list().expect("a question comes after a list").memory();
+        if self.fault != Some(Fault::MoreNames) {
+            memory.names.truncate(MOST_NAMES * NAME); // Whatever a line `lend names` says.
+        }
         if self.fault != Some(Fault::CeilingsObeyed) {
             memory.ceilings = Ceilings::default();
         }
@@ -302,7 +306,7 @@ nothing is asked about this list
 list four
 0 a typing
 e0: Nat, op Nat
-measure [0, 2]
+measure [1, 2]
 choices e0 0
 ";
         assert_eq!(printed(input), output);
