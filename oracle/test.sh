@@ -123,6 +123,11 @@ cargo test --release --offline --quiet -p pairs > "$work/out" || { cat "$work/ou
 ./compare_pairs.sh --pairs 5000 "$bin/oracle-pairs" > "$work/out" || { cat "$work/out"; fail "compare_pairs.sh"; }
 tail -n 1 "$work/out"
 
+step "the list program, its comparison with itself and with wrong ones"
+cargo test --release --offline --quiet -p solve_lists > "$work/out" || { cat "$work/out"; fail "tests of solve_lists"; }
+./compare_lists.sh --lists 3000 --program "$bin/oracle-lists" > "$work/out" || { cat "$work/out"; fail "compare_lists.sh"; }
+tail -n 1 "$work/out"
+
 step "unify: its judges, the stand-in and wrong ones"
 ./compare_unify.sh --stand-in --questions 50000 > "$work/out" || { cat "$work/out"; fail "compare_unify.sh"; }
 tail -n 1 "$work/out"

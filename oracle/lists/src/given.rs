@@ -208,6 +208,20 @@ impl Given {
         }
     }
 
+    /// Takes the rows past a number of them away.
+    pub fn cut_to(&mut self, rows: usize) {
+        self.sorts.truncate(rows);
+        self.entries.truncate(rows);
+        self.nodes.truncate(rows);
+        self.node_entries.truncate(rows);
+        self.bindings.truncate(rows);
+        self.exprs.truncate(rows);
+        self.names.truncate(rows);
+        self.constraints.truncate(rows);
+        self.overloads.truncate(rows);
+        self.sources.truncate(rows);
+    }
+
     /// The count that the call is told.
     pub fn count(&self, list: Counted) -> usize {
         self.said_count(list).map_or(self.rows(list), usize::from)

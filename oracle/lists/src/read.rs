@@ -66,6 +66,8 @@ pub struct Reader {
     list: Option<Given>,
     stage: Stage,
     last: Last,
+    /// Whether counts of rows stop at 65,535. Else a line that goes above it is bad.
+    counts_stop: bool,
 }
 
 impl Default for Reader {
@@ -76,7 +78,12 @@ impl Default for Reader {
 
 impl Reader {
     pub fn new() -> Reader {
-        Reader { line: 0, list: None, stage: Stage::Giving, last: Last::Other }
+        Reader { line: 0, list: None, stage: Stage::Giving, last: Last::Other, counts_stop: false }
+    }
+
+    /// A reader for which rows past 65,535 are no error of the text: their count stays there.
+    pub fn with_counts_that_stop() -> Reader {
+        Reader { counts_stop: true, ..Reader::new() }
     }
 
     /// The number of the line read last, from 1.
@@ -107,7 +114,7 @@ impl Reader {
             return Err(format!("expected at most {LONGEST_LINE} bytes, found {}", line.len()));
         }
         let text = std::str::from_utf8(line).expect("printable ASCII is UTF-8").trim_matches(' ');
-        let mut words = Words::new(text);
+        let mut words = Words { counts_stop: self.counts_stop, ..Words::new(text) };
         match words.next("a word")? {
             "?" => self.question(words),
             "=" => self.answer(words),
@@ -154,6 +161,9 @@ impl Reader {
             return Err(format!("expected a word that begins a line, found `{keyword}`"));
         }
         words.end()?;
+        if self.counts_stop {
+            list.cut_to(usize::from(u16::MAX));
+        }
         Ok(Item::Nothing)
     }
 }
@@ -183,7 +193,7 @@ fn give_rows(list: &mut Given, keyword: &str, words: &mut Words) -> Result<bool,
         }
         "vars" => {
             let more = words.number()?;
-            list.bindings.resize(room(list.bindings.len(), more)?, FREE);
+            list.bindings.resize(words.room(list.bindings.len(), more)?, FREE);
         }
         "bind" => bind(list, words)?,
         _ => return Ok(false),
@@ -254,10 +264,10 @@ fn give_constraint(list: &mut Given, keyword: &str, words: &mut Words, last: &mu
         "comprehension" => ([constraint::COMPREHENSION, words.place()?, words.place()?, words.sort()?, 0], Last::Other),
         "disjunction" => {
             let expression = words.named('e', "an expression (eN)")?;
-            let start = word(list.overloads.len())?;
+            let start = words.count(list.overloads.len())?;
             ([constraint::DISJUNCTION, expression, words.place()?, start, 0], Last::Disjunction)
         }
-        "join" => ([constraint::JOIN, words.place()?, word(list.sources.len())?, 0, 0], Last::Join),
+        "join" => ([constraint::JOIN, words.place()?, words.count(list.sources.len())?, 0, 0], Last::Join),
         "constraint" => {
             let mut row = [0; CONSTRAINT];
             for field in &mut row {
@@ -290,9 +300,10 @@ fn overload(list: &mut Given, words: &mut Words, last: Last) -> Result<(), Strin
         }
     };
     list.overloads.push(row);
-    word(list.overloads.len())?;
+    words.count(list.overloads.len())?;
     if last == Last::Disjunction {
-        list.constraints.last_mut().expect("a disjunction line came before")[4] += 1;
+        let count = &mut list.constraints.last_mut().expect("a disjunction line came before")[4];
+        *count = count.saturating_add(1);
     }
     Ok(())
 }
@@ -301,9 +312,10 @@ fn overload(list: &mut Given, words: &mut Words, last: Last) -> Result<(), Strin
 fn sources(list: &mut Given, words: &mut Words, last: Last) -> Result<(), String> {
     loop {
         list.sources.push(words.place()?);
-        word(list.sources.len())?;
+        words.count(list.sources.len())?;
         if last == Last::Join {
-            list.constraints.last_mut().expect("a Join line came before")[3] += 1;
+            let count = &mut list.constraints.last_mut().expect("a Join line came before")[3];
+            *count = count.saturating_add(1);
         }
         if words.is_empty() {
             return Ok(());
@@ -320,11 +332,12 @@ fn pad(list: &mut Given, words: &mut Words) -> Result<(), String> {
         (Counted::NodeEntries, "node-entries"),
     ];
     let what = words.one_of(&LISTS)?;
-    let length = room(list.rows(what), words.number()?)?;
+    let more = words.number()?;
+    let length = words.room(list.rows(what), more)?;
     match what {
         Counted::Sorts => {
             for number in list.sorts.len()..length {
-                list.sorts.push(Row::plain(kind::DEF, word(number)?));
+                list.sorts.push(Row::plain(kind::DEF, words.count(number)?));
             }
         }
         Counted::Entries => list.entries.resize(length, 0),
@@ -334,23 +347,27 @@ fn pad(list: &mut Given, words: &mut Words) -> Result<(), String> {
     Ok(())
 }
 
-/// A length as a 16-bit word.
-fn word(length: usize) -> Result<u16, String> {
-    u16::try_from(length).map_err(|_| "expected at most 65535 rows in a list".to_string())
-}
-
-fn room(rows: usize, more: u16) -> Result<usize, String> {
-    word(rows + usize::from(more)).map(usize::from)
-}
-
 /// The words of one line, each read with what is expected there.
 pub struct Words<'a> {
     rest: &'a str,
+    counts_stop: bool,
 }
 
 impl<'a> Words<'a> {
     pub fn new(text: &'a str) -> Words<'a> {
-        Words { rest: text.trim_matches(' ') }
+        Words { rest: text.trim_matches(' '), counts_stop: false }
+    }
+
+    /// A length as a 16-bit word.
+    fn count(&self, length: usize) -> Result<u16, String> {
+        match u16::try_from(length) {
+            Err(_) if !self.counts_stop => Err("expected at most 65535 rows in a list".to_string()),
+            word => Ok(word.unwrap_or(u16::MAX)),
+        }
+    }
+
+    fn room(&self, rows: usize, more: u16) -> Result<usize, String> {
+        self.count(rows + usize::from(more)).map(usize::from)
     }
 
     pub fn rest(self) -> &'a str {
@@ -515,8 +532,13 @@ impl<'a> Words<'a> {
         }
         self.next("`->`")?;
         let range = part(self)?;
-        word(entries.len())?;
-        Ok(Row { kind: kind::FUNCTION, part: range, start: word(start)?, count: word(entries.len() - start)? })
+        self.count(entries.len())?;
+        Ok(Row {
+            kind: kind::FUNCTION,
+            part: range,
+            start: self.count(start)?,
+            count: self.count(entries.len() - start)?,
+        })
     }
 
     fn raw_row(&mut self) -> Result<Row, String> {
@@ -535,7 +557,7 @@ fn parse_number(word: &str) -> Option<u16> {
     (canonical && digits).then(|| word.parse().ok()).flatten()
 }
 
-fn parse_named(word: &str, letter: char) -> Option<u16> {
+pub fn parse_named(word: &str, letter: char) -> Option<u16> {
     parse_number(word.strip_prefix(letter)?)
 }
 
@@ -544,7 +566,7 @@ fn parse_sort(word: &str) -> Option<u16> {
     fixed.or_else(|| parse_named(word, 's'))
 }
 
-fn parse_place(word: &str) -> Option<u16> {
+pub fn parse_place(word: &str) -> Option<u16> {
     match parse_named(word, 'n') {
         Some(node) => FIRST_NODE.checked_add(node),
         None => parse_sort(word).filter(|&sort| sort < FIRST_NODE),
