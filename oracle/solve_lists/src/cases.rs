@@ -47,7 +47,8 @@ pub fn text(seed: u64, index: u64) -> String {
     let case = generate::case(class, seed, size, number)
         .or_else(|| generate::case(Class::Solve, seed, size, index))
         .expect("a random class has no end");
-    let mut text = list_text(&case.list);
+    let mut text: String =
+        list_text(&case.list).split_inclusive('\n').filter(|line| !line.starts_with("ceilings")).collect();
     if rng.chance(25) {
         text = reordered(rng, &text);
     }

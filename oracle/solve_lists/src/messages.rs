@@ -1,12 +1,12 @@
 //! The words in which the list program speaks. They are the port's own (`crates/list_messages/specs`,
 //! `crates/verdict_text/specs/Words.antt`), copied; which of them is due is worked out here.
 
-pub const PRINTABLE: &str = "printable ASCII";
+pub const PRINTABLE: &str = "printable ASCII, no tab and no CR";
 pub const LENGTH: &str = "at most 200 bytes";
 pub const NO_LIST: &str = "list before any other line";
 pub const NO_QUESTION: &str = "a question before an answer";
 pub const AFTER_QUESTION: &str = "?, = or list after a question";
-pub const NEXT: &str = "a name with the next number";
+pub const NEXT: &str = "the next number in the name of the new row";
 pub const UNBOUND: &str = "a variable of a line above that has no binding yet";
 pub const NAMES: &str = "at most 512 base names, which is what this program holds";
 pub const OTHER_QUESTION: &str = "? solve: no other question is answered here";
@@ -17,8 +17,12 @@ pub fn form(keyword: &str) -> &'static str {
     match keyword {
         "?" => "? solve, or another question of the format",
         "bare" => "bare, before any other sort",
-        "sort" => "sort sK List S, sort sK fn S ... -> S, sort sK Def N, sort sK TypeVar N or sort sK raw N N N N",
-        "node" => "node nK List P, node nK fn P ... -> P, node nK var vN or node nK raw N N N N",
+        "sort" => {
+            "sort sK List S (or Set, FSet, Bag, FBag), sort sK fn S ... -> S, sort sK Def N, sort sK TypeVar N, sort sK unit or sort sK raw N N N N"
+        }
+        "node" => {
+            "node nK List P (or Set, FSet, Bag, FBag), node nK fn P ... -> P, node nK var vN or node nK raw N N N N"
+        }
         "entries" => "entries N ...",
         "node-entries" => "node-entries N ...",
         "pad" => "pad sorts N, pad entries N, pad nodes N or pad node-entries N",
@@ -36,9 +40,13 @@ pub fn form(keyword: &str) -> &'static str {
         "join" => "join P P ...",
         "sources" => "sources P ...",
         "constraint" => "constraint N N N N N",
-        "count" => "count WHAT N, as count exprs 2",
-        "lend" => "lend WHAT N, as lend scratch 4096",
-        "ceilings" => "ceilings N N N N",
+        "count" => {
+            "count WHAT N, where WHAT is sorts, entries, nodes, node-entries, vars, exprs, names, constraints, overloads or sources"
+        }
+        "lend" => {
+            "lend WHAT N, where WHAT is sorts, nodes, bindings, exprs, names, constraints, overloads, sources, scratch, out-typing, out-measure or out-choices"
+        }
+        "ceilings" => "no ceilings line: this program has the fixed ceilings",
         _ => "a word that begins a line of the format",
     }
 }
@@ -51,7 +59,9 @@ pub fn of_code(code: u16) -> &'static str {
         2 => "the first six sorts are not unit, Bool, Pos, Nat, Int, Real",
         3 => "a sort has an unknown kind, above 16 arguments, a run off its list or a part not below it",
         4 => "two sorts are equal",
-        5 => "a node has an unknown kind, above 16 arguments, a run off its list or a part not below it",
+        5 => {
+            "a node has an unknown kind, above 16 arguments, a run off its list, or a part or variable that is not there"
+        }
         6 => "a binding names neither a sort nor a node",
         7 => "a variable reaches itself",
         8 => "a place of an expression, or a base name, names nothing",

@@ -148,6 +148,9 @@ impl Program {
         if words[0] == "name" && names == MOST_NAMES && self.fault != Some(Fault::MoreNames) {
             return Err(messages::NAMES);
         }
+        if words[0] == "ceilings" && self.fault != Some(Fault::CeilingsObeyed) {
+            return Err(messages::form("ceilings"));
+        }
         if is_binding_past_the_ceiling(words, self.reader.list().expect("a list has begun").bindings.len()) {
             return Ok(());
         }
