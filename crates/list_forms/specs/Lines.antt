@@ -54,7 +54,7 @@ unfoldable pub varsPlan : Tokens → Plan
 varsPlan t = cond (fits t (form word.kVars N 0 0 0 0 0)) (withFree (wordAt t 1) nothing) (expected Form.Vars)
 
 -- "the given binding of a variable of a line above; at most one". A variable past the ceiling has no word, so that a second binding of it is
--- not seen; such a list is refused with 1.
+-- not seen; such a list is refused with 1, unless a `count` line tells fewer.
 unfoldable pub boundPlan : List ℕ → ℕ → ℕ → Plan
 boundPlan ws v p =
     cond (ltb v (rowsOf ws 4))

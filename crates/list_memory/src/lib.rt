@@ -65,7 +65,7 @@ pub enum Form {
     Count,
     // `lend WHAT N`
     Lend,
-    // `ceilings N N N N`
+    // no `ceilings` line, which is for the oracle only
     Ceilings,
     // `? solve`, `? unify P P`, `? join S S`, also `partial_cmp`, `meet`, `widening_distance`, `is_materializable`
     Asks,

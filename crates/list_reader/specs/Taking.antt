@@ -2,7 +2,7 @@
 -- Rattle.list_forms.specs.Lines; here it is put into the words.
 -- Where this differs from the oracle's reader: a line not of the format ends its list and not the program; an answer is not looked at, and a
 -- question may have more than one; counts of rows stop at 65,535, where the oracle stops the program; a 513th base name is a line not of
--- the format; `ceilings` gives nothing.
+-- the format, and so is a line `ceilings`.
 use mathlib.Core.Bool.{Bool, true, false, cond}
 use mathlib.Core.List.{List, [], _∷_}
 use Prim.Native.Nat.{ℕ, zero, suc, _+_, _-_}
@@ -68,7 +68,7 @@ unfoldable pub begun : List ℕ → List ℕ
 begun ws =
     set (set (set (set (set (set (set (set (zeros 0 wordsHeld ws) 4 1) 8 2) 12 3) 16 4) 20 5) rowsAt 6) defaultAt 1) stageAt 1
 
--- `bare` "takes the fixed six sorts away; before any other sort"
+-- `bare` "takes the fixed six sorts away; while there are six sorts and no entries"
 unfoldable pub bareTaken : List ℕ → Tokens → Taken
 bareTaken ws t =
     cond (eqb (t .count) 1)
