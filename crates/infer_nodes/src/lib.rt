@@ -2,16 +2,16 @@
 use resolved_sort::ComplexSort;
 use resolved_sort::Counts;
 use resolved_sort::Run;
-use sort_interner::word;
 use unification::InferSort;
 use unification::InferSortId;
 use unification::Lengths;
 use unification::NodeId;
 use unification::SortVar;
 use unification::VarAt;
+use words::word;
 ghost use mathlib.Core.Path.{_≡_};
 ghost use mathlib.Core.Option.{some};
-ghost use Prim.Native.Nat.{ℕ, _+_, _*_, _<_, _≤_};
+ghost use Prim.Native.Nat.{_+_, _*_, _<_, _≤_};
 ghost use lib.ListN.{length, getD};
 ghost use Rattle.unification.specs.Term.{headOf, partsOf, kindHead, numberHead, sameHead};
 ghost use Rattle.unification.specs.Nodes.{opOfKind, nodeAt, nodeEntryAt, nodeEntriesOf, bindingOf, bindsOf};

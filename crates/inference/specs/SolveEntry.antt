@@ -5,7 +5,8 @@ use mathlib.Core.Option.{Option, none, some}
 use Prim.Native.Nat.{ℕ, _+_, _*_}
 use lib.ListN.{length, getD, take, drop, replicate}
 use Rattle.resolved_sort.specs.declared.Counts.{Counts}
-use Rattle.resolved_sort.specs.Storage.{zeros, givenBack}
+use Rattle.resolved_sort.specs.Storage.{givenBack}
+use Rattle.words.specs.Words.{zeros}
 use Rattle.resolved_sort.specs.Checks.{firstFailing}
 use Rattle.resolved_sort.specs.Entries.{orElse}
 use Rattle.unification.specs.Nodes.{nodeEntriesAt, bindsOf}

@@ -11,10 +11,10 @@ use Rattle.inference.specs.declared.Solved.the-variants.{Refused, NoRoom, NoTyp
 use Rattle.inference.specs.SolveChecks.{Call}
 use Rattle.inference.specs.SolveEntry.{Left, solveEntry, codeSolved}
 use Rattle.inference.proofs.ListsLeft.{countsOf, sorts-only-grow}
-use Rattle.verdict_text.specs.Puts.{buffer, puts, Put}
-use Rattle.verdict_text.specs.Text.{verdictLine, newLines, typingText}
-use Rattle.list_asking.specs.Lists.{countOf, sortsIn, typingIn, measureIn, choicesIn, callOn}
-use Rattle.list_asked.specs.Asked.{Asked, asked, askedOf}
+use Rattle.list_verdict.specs.Puts.{buffer, puts, Put}
+use Rattle.list_verdict.specs.Text.{verdictLine, newLines, typingText}
+use Rattle.list_call.specs.Lists.{countOf, sortsIn, typingIn, measureIn, choicesIn, callOn}
+use Rattle.list_solve.specs.Asked.{Asked, asked, askedOf}
 use Rattle.list_answers.specs.Answer.{linesUnder, toldText, Tellable, Told, told, toldOf, answerText, answerLeft}
 
 -- by the case of the answer

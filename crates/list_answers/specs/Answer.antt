@@ -5,9 +5,9 @@ use Rattle.resolved_sort.specs.Rows.{Checked}
 use Rattle.inference.specs.declared.Solved.{Solved}
 use Rattle.inference.specs.declared.Solved.the-variants.{Refused, NoRoom, NoTyping, Ambiguous, Typing}
 use Rattle.inference.specs.SolveEntry.{Left, solveEntry, codeSolved}
-use Rattle.verdict_text.specs.Puts.{Buffer, puts}
-use Rattle.verdict_text.specs.Text.{verdictLine, newLines, typingText}
-use Rattle.list_asking.specs.Lists.{countOf, callIn}
+use Rattle.list_verdict.specs.Puts.{Buffer, puts}
+use Rattle.list_verdict.specs.Text.{verdictLine, newLines, typingText}
+use Rattle.list_call.specs.Lists.{countOf, callIn}
 
 -- Under the line of the code: of g sorts and x expressions given, a typing, and the sorts made.
 unfoldable pub linesUnder : ℕ → ℕ → Solved → (sorts typing measure choices : List ℕ) → List ℕ

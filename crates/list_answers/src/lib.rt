@@ -1,19 +1,19 @@
 // The solver's answer about a list that stands in one array of words, as text. The slices that a call may change are copied, so that the list
 // stays as it is.
 use inference::Solved;
-use list_asked::ask;
-use list_asking::count_of;
-use list_asking::length_of;
-use problem_words::copy;
-use verdict_text::put_new_sorts;
-use verdict_text::put_typing;
-use verdict_text::put_verdict;
+use list_call::count_of;
+use list_call::length_of;
+use list_solve::ask;
+use list_verdict::put_new_sorts;
+use list_verdict::put_typing;
+use list_verdict::put_verdict;
+use words::copy;
 ghost use mathlib.Core.Path.{_≡_};
 ghost use Prim.Native.Nat.{_≤_};
 ghost use lib.ListN.{length};
 ghost use Rattle.inference.specs.SolveEntry.{solveEntry};
-ghost use Rattle.verdict_text.specs.Puts.{buffer, Put};
-ghost use Rattle.list_asking.specs.Lists.{callOn};
+ghost use Rattle.list_verdict.specs.Puts.{buffer, Put};
+ghost use Rattle.list_call.specs.Lists.{callOn};
 ghost use Rattle.list_answers.specs.Answer.{toldText, Tellable, told as toldLeft, toldOf, answerLeft};
 
 // An answer of the solver as text.

@@ -2,12 +2,11 @@
 // instead. Nothing is stored here.
 use list_memory::Form;
 use list_tokens::Tokens;
-use sort_interner::word;
+use words::word;
 ghost use mathlib.Core.Path.{_≡_};
 ghost use mathlib.Core.Bool.{true, false};
 ghost use Prim.Native.Nat.{_≤_, _+_, _-_};
 ghost use lib.ListN.{getD};
-ghost use Rattle.list_memory.specs.Memory.{rowsOf};
 ghost use Rattle.list_forms.specs.Items.{inRange as within, isSort, isPlace, isOf, tokenAt, wordOf, wordAt, fitsFrom, allFrom, listFits, functionFits};
 ghost use Rattle.list_forms.specs.Plans.{expected as expectedOf, nothing as nothingGiven, rowsPlan, rowPlan, withFree, withRun, withPuts, withPut, addUp, grown as grownOf};
 ghost use Rattle.list_forms.specs.Lines.{isNext, functionPlan, sortRow, sortPlan, varPlan, varsPlan, boundPlan, bindPlan, nodeRow, nodePlan, exprPlan, nameRow, namePlan, defaultPlan, constraintRow, subPlan, litPlan, comprehensionPlan, disjunctionPlan, overloadRow, overloadPlan, joinPlan, sourcesPlan, entriesPlan, constraintPlan, padPlan, countedBy, countPlan, lendPlan, unusualPlan, constraintsPlan, planOf, asksOther};

@@ -14,8 +14,8 @@ use Rattle.list_tokens.specs.Words.{bytesOf}
 use Rattle.list_messages.specs.Messages.{badText}
 use Rattle.list_reader.specs.Taking.{lineTaken}
 use Rattle.list_answers.specs.Answer.{answerText, answerLeft}
-use Rattle.verdict_text.specs.Puts.{Buffer, buffer, puts, Put}
-use Rattle.verdict_text.proofs.Puts.{put-none, put-as, put-then}
+use Rattle.list_verdict.specs.Puts.{Buffer, buffer, puts, Put}
+use Rattle.list_verdict.proofs.Puts.{put-none, put-as, put-then}
 use Rattle.list_lines.specs.declared.Said.{Said}
 use Rattle.list_lines.specs.Lines.{unaskedText, stageOf, printed, numbered, LineLeft, lineLeft, leftBy, heardLine}
 

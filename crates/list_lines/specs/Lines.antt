@@ -11,7 +11,7 @@ use Rattle.list_tokens.specs.Words.{bytesOf}
 use Rattle.list_messages.specs.Messages.{badText}
 use Rattle.list_reader.specs.Taking.{lineTaken}
 use Rattle.list_answers.specs.Answer.{answerText}
-use Rattle.verdict_text.specs.Puts.{Buffer, puts}
+use Rattle.list_verdict.specs.Puts.{Buffer, puts}
 use Rattle.list_lines.specs.declared.Said.{Said}
 
 -- said of a list that ended before any question, by its stage

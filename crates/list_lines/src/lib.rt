@@ -3,11 +3,10 @@ use list_answers::answer;
 use list_memory::Heard;
 use list_messages::put_bad;
 use list_reader::take_line;
-use verdict_text::put_text;
+use list_verdict::put_text;
 ghost use mathlib.Core.Path.{_≡_};
 ghost use mathlib.Core.List.{[], _∷_, _++_};
-ghost use Rattle.verdict_text.specs.Puts.{Put};
-ghost use Rattle.list_answers.specs.Answer.{answerText};
+ghost use Rattle.list_verdict.specs.Puts.{Put};
 ghost use Rattle.list_lines.specs.Lines.{unaskedText, stageOf, lineLeft, heardLine};
 
 // Where the output of a line ends in the buffer, and whether the line's number is to stand before it.

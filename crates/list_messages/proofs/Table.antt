@@ -6,8 +6,8 @@ use native.Mathlib.Omega.{arith}
 use lib.ListN.{getD, take, drop}
 use Rattle.list_memory.specs.declared.Form.{Form}
 use Rattle.list_tokens.specs.Words.{bytesOf}
-use Rattle.verdict_text.specs.Puts.{Put}
-use Rattle.verdict_text.proofs.Puts.{put-as}
+use Rattle.list_verdict.specs.Puts.{Put}
+use Rattle.list_verdict.proofs.Puts.{put-as}
 use Rattle.list_messages.specs.Messages.{messages, placeOf, formText}
 
 -- where each message begins, and the bytes of all, as in the code

@@ -1,10 +1,10 @@
 // What is said of a line that is not of the format (docs/FORMAT.md): what was expected there.
 use list_memory::Form;
+use list_verdict::put_text;
 use sort_lexer::between;
-use verdict_text::put_text;
 ghost use mathlib.Core.Path.{_≡_};
 ghost use Prim.Native.Nat.{_<_};
-ghost use Rattle.verdict_text.specs.Puts.{Put};
+ghost use Rattle.list_verdict.specs.Puts.{Put};
 ghost use Rattle.list_messages.specs.Messages.{placeOf, formText, badText};
 
 // Where each message begins in the bytes of all, and the last one ends.

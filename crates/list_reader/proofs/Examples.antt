@@ -5,7 +5,7 @@ use mathlib.Core.List.{List, [], _∷_, map}
 use Prim.Native.Nat.{ℕ}
 use Prim.Native.String.{String}
 use lib.ListN.{getD, replicate, set}
-use Rattle.resolved_sort.specs.Storage.{zeros}
+use Rattle.words.specs.Words.{zeros}
 use Rattle.sort_text.specs.Parse.{sameBytes}
 use Rattle.sort_text.specs.Tokens.{run, past, skip}
 use Rattle.list_memory.specs.declared.Form.{Form}

@@ -8,7 +8,7 @@ use mathlib.Core.List.{List, [], _∷_}
 use Prim.Native.Nat.{ℕ, zero, suc, _+_, _-_}
 use lib.Dec.{ltb, eqb}
 use lib.ListN.{length, getD, set}
-use Rattle.resolved_sort.specs.Storage.{zeros}
+use Rattle.words.specs.Words.{zeros}
 use Rattle.list_memory.specs.declared.Form.{Form}
 use Rattle.list_memory.specs.declared.Heard.{Heard}
 use Rattle.list_memory.specs.Memory.{wordsHeld, widthOf, ceilingOf, rowAt, rowsAt, rowsOf, defaultAt, stageAt, Taken, taken}

@@ -12,13 +12,11 @@ use list_tokens::Tokens;
 use list_tokens::printable;
 use list_tokens::start_of;
 use list_tokens::tokens_of;
-use sort_interner::clear;
-use sort_interner::put;
-use sort_interner::word;
+use words::clear;
+use words::put;
+use words::word;
 ghost use mathlib.Core.Path.{_≡_};
-ghost use mathlib.Core.List.{[], _∷_};
 ghost use Prim.Native.Nat.{_≤_, _+_, _-_};
-ghost use lib.ListN.{getD, set};
 ghost use Rattle.list_memory.specs.Memory.{taken, startOf as startWord, widthOf, ceilingOf, rowAt};
 ghost use Rattle.list_reader.specs.Taking.{putWords, oneMore, appended, nextNumber, appendTimes, appendRun, carried, badLine, begun, bareTaken, planTaken, questionTaken, wordsTaken, otherTaken, answerTaken, listTaken, lineTaken};
 

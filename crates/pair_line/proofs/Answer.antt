@@ -13,9 +13,9 @@ use Rattle.resolved_sort.specs.Tree.{Tree}
 use Rattle.resolved_sort.specs.Order.{order, bound, Steps, distance, materializable}
 use Rattle.resolved_sort.specs.Entries.{treeAt, wideningOf}
 use Rattle.resolved_sort.specs.Rows.{Checked}
-use Rattle.sort_text.specs.PairProgram.{sign, sortOrNone, stepsOrNone, yesOrNo, comma, answer}
+use Rattle.pair_line.specs.PairProgram.{sign, sortOrNone, stepsOrNone, yesOrNo, comma, answer}
 use Rattle.sort_text.proofs.Length.{line-wide}
-use Rattle.sort_text.proofs.PairLength.{answer-length}
+use Rattle.pair_line.proofs.PairLength.{answer-length}
 use Rattle.sort_writer.specs.Puts.{Put}
 use Rattle.sort_writer.proofs.Puts.{put-then, put-as, put-length}
 use Rattle.pair_line.specs.Room.{OfLine, Grows, BothRead, BoundRoom}

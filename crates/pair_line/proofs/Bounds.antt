@@ -24,7 +24,7 @@ use Rattle.resolved_sort.proofs.Stored.{look-whole}
 use Rattle.resolved_sort.proofs.Made.{Answers, make-answers}
 use Rattle.resolved_sort.proofs.Reached.{Reached, reached, stopped, ended, reached-checked, reached-below, reached-sort}
 use Rattle.sort_text.specs.Text.{text}
-use Rattle.sort_text.specs.PairProgram.{sortOrNone, noneText, comma}
+use Rattle.pair_line.specs.PairProgram.{sortOrNone, noneText, comma}
 use Rattle.sort_text.proofs.Readable.{size}
 use Rattle.sort_text.proofs.WhatIsRead.{line-nodes}
 use Rattle.sort_text.proofs.Sizes.{entriesOf, entries-below-size, Spent, Within, AnyTree, make-within, make-not-full}

@@ -16,7 +16,7 @@ use Rattle.resolved_sort.specs.Checks.{allBelow, fixedSix, partsBelow, rowFine,
 use Rattle.resolved_sort.specs.Rows.{Checked}
 use Rattle.sort_text.specs.Postfix.{sixth}
 use Rattle.sort_text.proofs.Readable.{and-both}
-use Rattle.sort_read.proofs.Laws.{tree-of-six}
+use Rattle.sort_reader.proofs.Entry.{tree-of-six}
 use Rattle.pair_line.specs.Room.{putSix, Begun}
 
 module _ (ws : List ℕ) (l : fullLength ≤ length ws) where

@@ -5,3 +5,5 @@ pub mod Lines
 pub mod LineRead
 pub mod Answer
 pub mod Ways
+pub mod PairLength
+pub mod Examples

@@ -22,14 +22,14 @@ use Rattle.sort_text.specs.declared.Read.{Read}
 use Rattle.sort_text.specs.declared.Read.the-variants.{Refused, NotASort, Sort, NoRoom}
 use Rattle.sort_text.specs.Parse.{Parsed, parsed, stuck, line}
 use Rattle.sort_text.specs.Reading.{store, readLeft, storedBy, readAs}
-use Rattle.sort_text.specs.PairProgram.{good, wrong, lineOf}
+use Rattle.pair_line.specs.PairProgram.{good, wrong, lineOf}
 use Rattle.sort_text.proofs.Suffix.{unread-end}
 use Rattle.sort_text.proofs.Readable.{size}
 use Rattle.sort_text.proofs.WhatIsRead.{line-nodes}
 use Rattle.sort_text.proofs.Sizes.{entriesOf, entries-below-size, Spent, Within}
 use Rattle.sort_text.proofs.PairRoom.{Is, Makes, store-within, store-makes}
-use Rattle.sort_read.specs.Tested.{Passes}
-use Rattle.sort_read.proofs.Laws.{store-kept}
+use Rattle.sort_reader.specs.Tested.{Passes}
+use Rattle.sort_reader.proofs.Entry.{store-kept}
 use Rattle.pair_line.specs.Room.{OfLine, Begun, Grows}
 use Rattle.pair_line.proofs.Grows.{grows, begun-still}
 use Rattle.pair_line.proofs.Lines.{line-good, line-wrong}

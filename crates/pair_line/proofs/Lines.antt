@@ -8,7 +8,7 @@ use borrow.Author.Tests.{le-leb, lt-leb}
 use Rattle.resolved_sort.specs.Tree.{Tree}
 use Rattle.sort_text.specs.Parse.{Parsed, parsed, stuck, line}
 use Rattle.sort_text.specs.Reading.{shortLine}
-use Rattle.sort_text.specs.PairProgram.{Line, good, wrong, read, lineOf}
+use Rattle.pair_line.specs.PairProgram.{Line, good, wrong, read, lineOf}
 
 pub line-long : (bs : List ℕ) → 200 < length bs → lineOf bs ≡ wrong (49 ∷ 57 ∷ [])
 unfolding lineOf shortLine

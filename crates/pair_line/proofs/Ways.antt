@@ -17,8 +17,8 @@ use Rattle.sort_text.specs.declared.Written.the-variants.{Refused, Text}
 use Rattle.sort_text.specs.Parse.{Parsed, parsed, stuck, line}
 use Rattle.sort_text.specs.Reading.{readLeft, readAs}
 use Rattle.sort_text.specs.Writing.{writeLeft}
-use Rattle.sort_text.specs.PairProgram.{noneText, decimal, comma, answer, Line, good, wrong, lineOf, withFirst, withSecond, single, pair}
-use Rattle.sort_text.proofs.PairLength.{pair-length, single-length}
+use Rattle.pair_line.specs.PairProgram.{noneText, decimal, comma, answer, Line, good, wrong, lineOf, withFirst, withSecond, single, pair}
+use Rattle.pair_line.proofs.PairLength.{pair-length, single-length}
 use Rattle.sort_recogniser.specs.declared.Recognised.{Recognised}
 use Rattle.sort_recogniser.specs.declared.Recognised.the-variants.{Done, Stuck}
 use Rattle.sort_recogniser.specs.Says.{Says}

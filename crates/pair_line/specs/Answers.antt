@@ -10,7 +10,7 @@ use Rattle.resolved_sort.specs.declared.Widening.the-variants.{Distance, Nothin
 use Rattle.sort_text.specs.declared.Written.{Written}
 use Rattle.sort_text.specs.declared.Written.the-variants.{Refused, Text}
 use Rattle.sort_text.specs.Writing.{WriteLeft, writeLeft}
-use Rattle.sort_text.specs.PairProgram.{noneText, decimal, Line, lineOf, pair, single}
+use Rattle.pair_line.specs.PairProgram.{noneText, decimal, Line, lineOf, pair, single}
 use Rattle.pair_line.specs.Room.{lineRoom}
 
 -- `stepsOrNone` of what the code answers

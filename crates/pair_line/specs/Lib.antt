@@ -1,3 +1,4 @@
 -- What the contracts of this crate cite beside the definitions of the pair program.
 pub mod Room
 pub mod Answers
+pub mod PairProgram

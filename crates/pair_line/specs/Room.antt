@@ -12,7 +12,7 @@ use Rattle.resolved_sort.specs.Entries.{treeAt}
 use Rattle.resolved_sort.specs.Rows.{Checked}
 use Rattle.resolved_sort.specs.Bounds.{Asked}
 use Rattle.sort_text.specs.Parse.{parsed, line}
-use Rattle.sort_text.specs.PairProgram.{sortOrNone, comma}
+use Rattle.pair_line.specs.PairProgram.{sortOrNone, comma}
 
 -- Room enough for every line of output with its LF (`pair-has-room`); no line is that long.
 abbrev pub lineRoom : ℕ

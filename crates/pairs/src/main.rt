@@ -8,13 +8,13 @@
 use libc::STDERR_FILENO;
 use libc::STDIN_FILENO;
 use libc::STDOUT_FILENO;
-use pair_lines::Held;
-use pair_lines::feed;
-use pair_lines::finish;
-ghost use Prim.Native.Nat.{ℕ, _+_, _≤_};
+use pair_input::Held;
+use pair_input::feed;
+use pair_input::finish;
+ghost use Prim.Native.Nat.{_≤_};
 ghost use lib.ListN.{length};
 ghost use Rattle.pair_line.specs.Room.{lineRoom};
-ghost use Rattle.pair_lines.specs.Held.{Holds, Taken};
+ghost use Rattle.pair_input.specs.Held.{Holds, Taken};
 
 // The lines that are held, and whether the program goes on.
 struct State {

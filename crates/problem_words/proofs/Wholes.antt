@@ -5,7 +5,7 @@ use Prim.Native.Nat.{ℕ, _+_, _≤_}
 use native.Mathlib.Omega.{arith}
 use lib.ListN.{length, take, drop, length-take, length-drop}
 use lib.Seq.{sets, sets-eq, drop-length, take-all}
-use Rattle.search_state.specs.Memory.{part}
+use Rattle.words.specs.Words.{part}
 
 stored-whole : (vs old : List ℕ) → length vs ≡ length old → sets old 0 vs ≡ vs
 stored-whole vs old h =

@@ -1,26 +1,20 @@
 // The lists of a problem as one slice of words: packed from the caller's lists, and read by number.
+use inference::Constraint;
+use inference::ExprId;
+use inference::LitKind;
+use inference::NameTarget;
+use resolved_sort::Run;
+use resolved_sort::SortId;
 use search_state::Sizes;
-use sort_interner::word;
 use unification::InferSortId;
+use words::copy;
+use words::word;
 ghost use mathlib.Core.Path.{_≡_};
-ghost use Prim.Native.Nat.{_+_, _≤_};
-ghost use lib.ListN.{length, drop};
-ghost use lib.Seq.{sets};
-ghost use Rattle.inference.specs.Constraints.{overloadAt};
-ghost use Rattle.search_state.specs.Memory.{part, overloadsAt, sourceAt, problemIn};
+ghost use Prim.Native.Nat.{_+_};
+ghost use lib.ListN.{drop};
+ghost use Rattle.inference.specs.Constraints.{overloadAt, litKind, target, constraint, constraintAt};
+ghost use Rattle.search_state.specs.Memory.{overloadsAt, sourceAt, problemIn};
 ghost use Rattle.problem_words.specs.Packed.{problemFrom, Packable};
-
-// Copies n words of one slice, from `from` on, to another, from `at` on. No other word changes.
-pub fn copy(to: &mut [u16], at: usize, words: &[u16], from: usize, n: usize)
-    requires { ⌜ (at + n ≤ length (now to)) × (from + n ≤ length (now words)) ⌝ }
-    ensures { λ _. ⌜ now (to .exit) ≡ sets (now (to .entry)) at (part from n (now (words .entry))) ⌝ }
-{
-    let mut j: usize = 0;
-    while j < n {
-        to[at + j] = words[from + j];
-        j += 1;
-    }
-}
 
 // Packs the lists of a problem: constraints, overloads, sources and places of expressions, each at its ceiling.
 pub fn pack(
@@ -52,4 +46,70 @@ pub fn overload_place(lists: &[u16], i: u16) -> InferSortId
     ensures { λ r. ⌜ r .0 ≡ overloadAt (drop overloadsAt (now (lists .entry))) i .sort .0 ⌝ }
 {
     InferSortId(word(lists, 1280 + (3 * (i as usize) + 2)))
+}
+
+// The kind of a literal. Every kind above 0 says natural: that it is 1 is check 9's to show.
+fn lit_kind(kind: u16) -> LitKind
+    ensures { λ r. ⌜ r ≡ litKind kind ⌝ }
+{
+    if kind == 0 {
+        return LitKind::Positive;
+    }
+    LitKind::Natural
+}
+
+// What a name stands for. Every kind but 1 and 2 says built-in: that it is 3 is for checks 8 and 9 to show.
+pub fn name_target(kind: u16, sort: u16) -> NameTarget
+    ensures { λ r. ⌜ r ≡ target kind sort ⌝ }
+{
+    if kind == 1 {
+        return NameTarget::Variable;
+    }
+    if kind == 2 {
+        return NameTarget::Op(SortId(sort));
+    }
+    NameTarget::Builtin
+}
+
+// What the words of a constraint say. Every kind above 3 says Join: that it is 4 is check 9's to show.
+fn constraint_of(kind: u16, a: u16, b: u16, c: u16, d: u16) -> Constraint
+    ensures { λ r. ⌜ r ≡ constraint kind a b c d ⌝ }
+{
+    match kind {
+        0 => Constraint::Sub {
+            lhs: InferSortId(a),
+            rhs: InferSortId(b),
+        },
+        1 => Constraint::Lit {
+            sort: InferSortId(a),
+            kind: lit_kind(b),
+        },
+        2 => Constraint::Disjunction {
+            expr: ExprId(a),
+            sort: InferSortId(b),
+            disjuncts: Run { start: c, count: d },
+        },
+        3 => Constraint::Comprehension {
+            body: InferSortId(a),
+            node: InferSortId(b),
+            element: SortId(c),
+        },
+        _ => Constraint::Join {
+            sources: Run { start: b, count: c },
+            target: InferSortId(a),
+        },
+    }
+}
+
+// The i-th constraint.
+pub fn constraint_at(constraints: &[u16], i: u16) -> Constraint
+    ensures { λ r. ⌜ r ≡ constraintAt (now (constraints .entry)) i ⌝ }
+{
+    let row = 5 * (i as usize);
+    let kind = word(constraints, row);
+    let a = word(constraints, row + 1);
+    let b = word(constraints, row + 2);
+    let c = word(constraints, row + 3);
+    let d = word(constraints, row + 4);
+    constraint_of(kind, a, b, c, d)
 }

@@ -1,4 +1,3 @@
 -- The laws that the proofs of this crate cite. Assumes nothing.
 mod Numbers
-mod Steps
 mod Stores

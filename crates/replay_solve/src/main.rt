@@ -5,15 +5,15 @@
 //
 // Its file stdin is a copy, byte for byte, of oracle/recorded/solve-words.txt, with the answers of the excerpt of merc:
 // `cp oracle/recorded/solve-words.txt crates/replay_solve/stdin`. Its first lines say how they were made.
+use line_input::Found;
+use line_input::next_line;
+use line_input::no_input;
+use recorded_solve::replay_line;
 use replay::Tally;
 use replay::Verdict;
 use replay::counted;
-use replay_input::Found;
-use replay_input::finish;
-use replay_input::next_line;
-use replay_input::no_input;
-use replay_input::say;
-use replay_lists::replay_line;
+use replay::finish;
+use replay::say;
 
 // The counts, and how the search for the last line ended.
 struct State {

@@ -5,18 +5,18 @@
 // Its file stdin is a copy, byte for byte, of oracle/recorded/sorts.txt, the recorded answers of the excerpt of merc:
 // `cp oracle/recorded/sorts.txt crates/replay_sorts/stdin`. Its first lines say how they were made, and the lines have
 // the form that the crate replay states.
-use replay::Place;
+use line_input::Found;
+use line_input::next_line;
+use line_input::no_input;
+use recorded_sorts::Place;
+use recorded_sorts::complete;
+use recorded_sorts::replay_line;
+use recorded_sorts::start;
 use replay::Tally;
 use replay::Verdict;
-use replay::complete;
 use replay::counted;
-use replay::replay_line;
-use replay::start;
-use replay_input::Found;
-use replay_input::finish;
-use replay_input::next_line;
-use replay_input::no_input;
-use replay_input::say;
+use replay::finish;
+use replay::say;
 
 // How far the list was read, the counts, and how the search for the last line ended.
 struct State {

@@ -5,18 +5,18 @@
 // Its file stdin is a copy, byte for byte, of oracle/recorded/unify.txt, with the answers of the excerpt of merc and the
 // bindings of a model of document 01: `cp oracle/recorded/unify.txt crates/replay_unify/stdin`. Its first lines say how they
 // were made.
+use line_input::Found;
+use line_input::next_line;
+use line_input::no_input;
+use recorded_unify::Place;
+use recorded_unify::complete;
+use recorded_unify::replay_line;
+use recorded_unify::start;
 use replay::Tally;
 use replay::Verdict;
 use replay::counted;
-use replay_input::Found;
-use replay_input::finish;
-use replay_input::next_line;
-use replay_input::no_input;
-use replay_input::say;
-use replay_nodes::Place;
-use replay_nodes::complete;
-use replay_nodes::replay_line;
-use replay_nodes::start;
+use replay::finish;
+use replay::say;
 
 // How far the list was read, the counts, and how the search for the last line ended.
 struct State {

@@ -7,7 +7,8 @@ use native.Mathlib.Omega.{arith}
 use lib.ListN.{length, getD, take, drop, replicate, length-append, length-drop, length-replicate, length-take, drop-of-length-le}
 use lib.Seq.{length-take-le, take-append-add, getD-take, getD-drop, ext-getD}
 use Rattle.resolved_sort.specs.Interning.{Sorts}
-use Rattle.resolved_sort.specs.Storage.{maxSorts, maxEntries, fullLength, entriesAt, zeros, givenBack}
+use Rattle.resolved_sort.specs.Storage.{maxSorts, maxEntries, fullLength, entriesAt, givenBack}
+use Rattle.words.specs.Words.{zeros}
 use Rattle.resolved_sort.specs.Entries.{after}
 use Rattle.resolved_sort.specs.Rows.{Checked}
 use Rattle.resolved_sort.proofs.Append.{Agrees}

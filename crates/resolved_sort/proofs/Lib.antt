@@ -31,3 +31,5 @@ pub mod DomainCode
 pub mod FunctionCode
 pub mod GivenBack
 pub mod FirstFailing
+pub mod Testing
+pub mod FailingNumber

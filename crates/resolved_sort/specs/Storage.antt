@@ -1,9 +1,9 @@
 -- The lent sort storage: one list of 16-bit words. Rows of four words come first, kind, part, start and count, then the
 -- argument entries at a fixed place. A word past the end of the list counts as 0.
-use mathlib.Core.Bool.{Bool, true, false, cond}
+use mathlib.Core.Bool.{cond}
 use mathlib.Core.List.{List, [], _∷_, _++_}
 use Prim.Native.Nat.{ℕ, zero, suc, _+_, _-_, _*_}
-use lib.ListN.{length, getD, take, drop, set, replicate}
+use lib.ListN.{length, getD, set}
 use lib.Seq.{sets}
 use lib.Dec.{eqb, ltb}
 use Rattle.resolved_sort.specs.declared.Sort.{Sort}
@@ -11,8 +11,9 @@ use Rattle.resolved_sort.specs.declared.ComplexSort.{ComplexSort}
 use Rattle.resolved_sort.specs.declared.Run.{Run}
 use Rattle.resolved_sort.specs.declared.ResolvedSort.{ResolvedSort}
 use Rattle.resolved_sort.specs.declared.ResolvedSort.the-variants.{Unit, Primitive, Container, Function, Def, TypeVar}
-use Rattle.resolved_sort.specs.Tree.{Flat, unit, primitive, def, typevar, Tree, flat, container, function, Trees, end, arg, arity}
+use Rattle.resolved_sort.specs.Tree.{Flat, unit, primitive, def, typevar, Tree, flat, container, function, Trees, end, arg}
 use Rattle.resolved_sort.specs.Interning.{Sorts, look, number, need}
+use Rattle.words.specs.Words.{zeros}
 
 -- "Ceilings: 1,024 sorts, .. 4,096 argument entries for sorts"
 abbrev pub maxSorts : ℕ
@@ -156,10 +157,6 @@ append ws T e t = appendRow ws (length T) e (rowOf T t)
 unfoldable pub written : List ℕ → List Tree → ℕ → List Tree → List ℕ
 written ws T e [] = ws
 written ws T e (t ∷ ts) = written (append ws T e t) (T ++ (t ∷ [])) (e + need t) ts
-
--- Words a up to b zero.
-unfoldable pub zeros : ℕ → ℕ → List ℕ → List ℕ
-zeros a b ws = take a ws ++ (replicate (b - a) 0 ++ drop b ws)
 
 -- 15 gives back: "rows past the entry lengths are zero", entries too, to the end of what was lent.
 unfoldable pub givenBack : ℕ → ℕ → List ℕ → List ℕ

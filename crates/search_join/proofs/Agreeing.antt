@@ -25,7 +25,8 @@ use Rattle.search_state.specs.declared.Made.{Made}
 use Rattle.search_state.specs.declared.Made.the-variants.{At as Is, Nothing as NoSort, Full as NoRoom}
 use Rattle.search_state.specs.declared.Extracted.{Extracted}
 use Rattle.search_state.specs.declared.Extracted.the-variants.{All, Nothing as Without, Full as NotAll}
-use Rattle.search_state.specs.Memory.{part, sourceAt, measureAt, scratchUsed, lent}
+use Rattle.search_state.specs.Memory.{sourceAt, measureAt, scratchUsed, lent}
+use Rattle.words.specs.Words.{part}
 use Rattle.search_state.specs.Leaves.{ChangedOnly, madeOf, Agrees, extractedOf}
 use Rattle.search_state.specs.Searching.{Agreeing}
 use Rattle.search_join.specs.Sources.{Resolved}

@@ -28,7 +28,8 @@ use Rattle.search_state.specs.declared.Extracted.{Extracted}
 use Rattle.search_state.specs.declared.Extracted.the-variants.{All, Nothing as Without, Full as NotAll}
 use Rattle.search_state.specs.declared.Ordering.{Ordering}
 use Rattle.search_state.specs.declared.Ordering.the-variants.{Less, Equal, Greater}
-use Rattle.search_state.specs.Memory.{part, exprAt, problemIn, chosenExprs, bestSortsAt, measureAt, bestMeasureAt, choicesAt, bestChoicesAt, scratchUsed, choicesOf, lent, pathOf, candidateOf, bestOf, worldOf}
+use Rattle.search_state.specs.Memory.{exprAt, problemIn, chosenExprs, bestSortsAt, measureAt, bestMeasureAt, choicesAt, bestChoicesAt, scratchUsed, choicesOf, lent, pathOf, candidateOf, bestOf, worldOf}
+use Rattle.words.specs.Words.{part}
 use Rattle.search_state.specs.Leaves.{extractedOf, Extracts, rankingOf}
 use Rattle.search_state.specs.Searching.{AtLeaf, SamePath, Comes}
 use Rattle.search_state.proofs.Parts.{changed-wider, same-path-refl, same-path-trans, sorts-change-no-path}

@@ -17,10 +17,11 @@ use Rattle.search_state.specs.declared.State.{State}
 use Rattle.search_state.specs.declared.Branch.{Branch}
 use Rattle.search_state.specs.declared.Ordering.{Ordering}
 use Rattle.search_state.specs.declared.Ordering.the-variants.{Less, Equal, Greater}
-use Rattle.search_state.specs.Memory.{part, problemIn, measureAt, bestMeasureAt, scratchUsed, candidateOf, bestOf}
+use Rattle.search_state.specs.Memory.{problemIn, measureAt, bestMeasureAt, scratchUsed, candidateOf, bestOf}
+use Rattle.words.specs.Words.{part}
 use Rattle.search_state.specs.Leaves.{rankingOf}
 use Rattle.search_state.specs.Searching.{Comparable}
-use Rattle.search_state.proofs.Parts.{length-part, take-part, part-first}
+use Rattle.words.proofs.Parts.{length-part, take-part, part-first}
 use Rattle.search_leaf.specs.Leaf.{ranked, rankedBy, IsDominated}
 
 -- the components from the i-th on

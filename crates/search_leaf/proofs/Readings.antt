@@ -28,9 +28,11 @@ use Rattle.inference.proofs.Members.{each-row-at}
 use Rattle.inference.proofs.Invariant.{SortsOnly, sorts-only-refl, sorts-only-trans}
 use Rattle.inference.proofs.MakingSorts.{MadeSorts, resolve-makes}
 use Rattle.search_state.specs.declared.Extracted.the-variants.{All, Nothing as Without, Full as NotAll}
-use Rattle.search_state.specs.Memory.{part, exprAt, lent, bestSortsAt}
+use Rattle.search_state.specs.Memory.{exprAt, lent, bestSortsAt}
+use Rattle.words.specs.Words.{part}
 use Rattle.search_state.specs.Leaves.{ChangedOnly, Extracts}
-use Rattle.search_state.proofs.Parts.{part-set-end, changed-none, changed-then, changed-by-set}
+use Rattle.search_state.proofs.Parts.{changed-none, changed-then, changed-by-set}
+use Rattle.words.proofs.Parts.{part-set-end}
 use Rattle.search_leaf.specs.Leaf.{Readable, sortsFrom}
 
 -- resolving a place, by what the code answers

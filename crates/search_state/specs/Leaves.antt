@@ -41,7 +41,8 @@ use Rattle.search_state.specs.declared.Ordering.{Ordering}
 use Rattle.search_state.specs.declared.Ordering.the-variants.{Less, Equal, Greater}
 use Rattle.search_state.specs.declared.Went.{Went}
 use Rattle.search_state.specs.declared.Went.the-variants.{On as GoOn, Stop}
-use Rattle.search_state.specs.Memory.{part, lent, measureAt, choicesAt, trailWords, chosenExprs, pathOf}
+use Rattle.search_state.specs.Memory.{lent, measureAt, choicesAt, trailWords, chosenExprs, pathOf}
+use Rattle.words.specs.Words.{part}
 
 -- of the words only those from a to b may have changed
 pub record ChangedOnly (a b : ℕ) (sc sc′ : List ℕ) : Type 0 where

@@ -4,7 +4,7 @@ use mathlib.Core.Bool.{Bool, cond}
 use mathlib.Core.List.{List, [], _∷_}
 use mathlib.Core.Option.{Option, none, some}
 use Prim.Native.Nat.{ℕ, _+_, _-_}
-use lib.ListN.{getD, take, drop}
+use lib.ListN.{getD, drop}
 use Rattle.unification.specs.declared.Lengths.{Lengths}
 use Rattle.unification.specs.Nodes.{Binds}
 use Rattle.unification.specs.Making.{Lent}
@@ -20,10 +20,7 @@ use Rattle.search_state.specs.declared.Answer.{Answer}
 use Rattle.search_state.specs.declared.Answer.the-variants.{Found, Missed, Full}
 use Rattle.search_state.specs.declared.Next.{Next}
 use Rattle.search_state.specs.declared.Next.the-variants.{Solve, Source}
-
--- n words from a on
-abbrev pub part : ℕ → ℕ → List ℕ → List ℕ
-part a n xs = take n (drop a xs)
+use Rattle.words.specs.Words.{part}
 
 -- The lists of the problem as one list of words: constraints, overloads, sources and places of expressions, each at its ceiling.
 abbrev pub overloadsAt : ℕ

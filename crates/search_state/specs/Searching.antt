@@ -28,7 +28,8 @@ use Rattle.search_state.specs.declared.Next.the-variants.{Solve, Source}
 use Rattle.search_state.specs.declared.Step.{Step}
 use Rattle.search_state.specs.declared.Step.the-variants.{Nothing, Component, Written, Choice}
 use Rattle.search_state.specs.declared.Pairs.{Pairs}
-use Rattle.search_state.specs.Memory.{part, sourceAt, problemIn, restFrom, chosenExprs, trailWords, measureAt, choicesAt, scratchUsed, lent, pathOf, worldOf, outOf, nextOf}
+use Rattle.search_state.specs.Memory.{sourceAt, problemIn, restFrom, chosenExprs, trailWords, measureAt, choicesAt, scratchUsed, lent, pathOf, worldOf, outOf, nextOf}
+use Rattle.words.specs.Words.{part}
 use Rattle.search_state.specs.Leaves.{unifyPairs, stepped}
 
 -- what the checks have shown of the problem: its places and sorts are those of the lists

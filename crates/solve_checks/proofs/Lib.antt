@@ -4,3 +4,5 @@ pub mod Fine
 pub mod RowsLeft
 pub mod Fresh
 pub mod Long
+pub mod Testing
+pub mod Ceilings

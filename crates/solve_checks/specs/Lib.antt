@@ -2,3 +2,4 @@
 pub mod Calls
 pub mod Marks
 pub mod Tests
+pub mod Parts

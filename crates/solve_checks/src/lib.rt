@@ -2,12 +2,18 @@
 use inference::Constraint;
 use inference::ExprId;
 use inference::LitKind;
+use node_checks::bindings_within_lent;
 use node_checks::is_place;
-use problem_rows::constraint_at;
+use node_checks::nodes_within_lent;
+use node_checks::test_nodes;
+use problem_words::constraint_at;
 use resolved_sort::Run;
 use resolved_sort::SortId;
-use sort_interner::word;
+use resolved_sort::Tested;
+use sort_checks::test_sorts;
+use sort_checks::within_lent;
 use unification::InferSortId;
+use words::word;
 ghost use mathlib.Core.Path.{_≡_};
 ghost use mathlib.Core.Bool.{true};
 ghost use mathlib.Core.List.{[]};
@@ -16,10 +22,13 @@ ghost use lib.ListN.{length};
 ghost use Rattle.unification.specs.Nodes.{isPlace};
 ghost use Rattle.inference.specs.declared.Constraint.{Constraint};
 ghost use Rattle.inference.specs.Constraints.{maxExprs, maxConstraints};
-ghost use Rattle.inference.specs.SolveChecks.{rowsWithinLent, targetFine, exprsFine, namesFine, overloadFine, runFine, constraintFine, constraintsFine, disjunctionFor, disjunctions, noTwo, keys, hasSources, joinsFine, componentsOf, components as componentsIn, outputsLong};
-ghost use Rattle.solve_checks.specs.Calls.{Outs, partOf, outputsOf, constraintsIn};
+ghost use Rattle.inference.specs.SolveChecks.{rowsWithinLent, targetFine, exprsFine, namesFine, overloadFine, runFine, constraintFine, constraintsFine, disjunctionFor, disjunctions, noTwo, keys, hasSources, joinsFine, componentsOf, components as componentsIn, outputsLong, allWithinLent, solveChecks};
+ghost use Rattle.solve_checks.specs.Calls.{Outs, partOf, outputsOf, constraintsIn, callOf, listsOf};
 ghost use Rattle.solve_checks.specs.Marks.{marked, markOf, markBy, allUnder};
 ghost use Rattle.solve_checks.specs.Tests.{nameFine, sourceFine, rowFine};
+ghost use Rattle.resolved_sort.specs.Checks.{firstFailing};
+ghost use Rattle.resolved_sort.specs.Entries.{testedOf};
+ghost use Rattle.solve_checks.specs.Parts.{rowChecks, lastChecks, listChecks, restChecks};
 
 // How many rows of each list a call gives, as the caller says it, and the default sort.
 pub struct Given {
@@ -521,4 +530,192 @@ pub fn outputs_long(constraints: &[u16], given: Given, room: Room) -> bool
         return false;
     }
     disjunction_count(constraints, count) <= room.choices / 2
+}
+
+// Check 1: every list is within its ceiling and within what was lent.
+fn all_within_lent(
+    sorts: &[u16],
+    nodes: &[u16],
+    binds: &[u16],
+    exprs: &[u16],
+    names: &[u16],
+    constraints: &[u16],
+    overloads: &[u16],
+    sources: &[u16],
+    given: Given,
+) -> bool
+    ensures { λ r. ⌜ r ≡ allWithinLent (listsOf given (now (sorts .entry)) (now (nodes .entry)) (now (binds .entry)) (now (exprs .entry)) (now (names .entry)) (now (constraints .entry)) (now (overloads .entry)) (now (sources .entry))) ⌝ }
+{
+    if !within_lent(sorts, given.sorts, given.entries) {
+        return false;
+    }
+    if !nodes_within_lent(nodes, given.nodes, given.arguments) {
+        return false;
+    }
+    if !bindings_within_lent(binds, given.variables) {
+        return false;
+    }
+    rows_within_lent(exprs, names, constraints, overloads, sources, given)
+}
+
+// Checks 8 to 10: the first that fails.
+fn test_rows(
+    exprs: &[u16],
+    names: &[u16],
+    constraints: &[u16],
+    overloads: &[u16],
+    sources: &[u16],
+    given: Given,
+) -> Tested
+    requires { ⌜ rowsWithinLent (partOf given (now exprs) (now names) (now constraints) (now overloads) (now sources)) ≡ true ⌝ }
+    ensures { λ r. ⌜ r ≡ testedOf (firstFailing (rowChecks (partOf given (now (exprs .entry)) (now (names .entry)) (now (constraints .entry)) (now (overloads .entry)) (now (sources .entry))))) ⌝ }
+{
+    if !exprs_fine(exprs, given) {
+        return Tested::Refused(8);
+    }
+    if !names_fine(names, given) {
+        return Tested::Refused(8);
+    }
+    if !constraints_fine(constraints, overloads, sources, given) {
+        return Tested::Refused(9);
+    }
+    if !one_disjunction_each(constraints, given.constraints as u16) {
+        return Tested::Refused(10);
+    }
+    if !one_name_each(names, given) {
+        return Tested::Refused(10);
+    }
+    Tested::Passed
+}
+
+// Checks 11, 12 and 14: the first that fails.
+fn test_last(sorts: &[u16], nodes: &[u16], constraints: &[u16], given: Given, room: Room) -> Tested
+    requires { ⌜ (given .exprs ≤ maxExprs) × (given .constraints ≤ maxConstraints) ⌝ }
+    ensures { λ r. ⌜ ((o : Outs room) → r ≡ testedOf (firstFailing (lastChecks (callOf given (now (sorts .entry)) (now (nodes .entry)) [] [] [] (now (constraints .entry)) [] [] room o)))) ⌝ }
+{
+    let count = given.constraints as u16;
+    if !joins_fine(constraints, count) {
+        return Tested::Refused(11);
+    }
+    if 256 < components(constraints, count) {
+        return Tested::Refused(11);
+    }
+    if given.sorts <= (given.default as usize) {
+        return Tested::Refused(12);
+    }
+    if sorts.len() < 8192 {
+        return Tested::Refused(14);
+    }
+    if nodes.len() < 12288 {
+        return Tested::Refused(14);
+    }
+    if !outputs_long(constraints, given, room) {
+        return Tested::Refused(14);
+    }
+    Tested::Passed
+}
+
+// Checks 8 to 14: the first that fails.
+fn test_lists(
+    sorts: &[u16],
+    nodes: &[u16],
+    exprs: &[u16],
+    names: &[u16],
+    constraints: &[u16],
+    overloads: &[u16],
+    sources: &[u16],
+    given: Given,
+    room: Room,
+) -> Tested
+    requires { ⌜ rowsWithinLent (partOf given (now exprs) (now names) (now constraints) (now overloads) (now sources)) ≡ true ⌝ }
+    ensures { λ r. ⌜ ((o : Outs room) → r ≡ testedOf (firstFailing (listChecks (callOf given (now (sorts .entry)) (now (nodes .entry)) [] (now (exprs .entry)) (now (names .entry)) (now (constraints .entry)) (now (overloads .entry)) (now (sources .entry)) room o)))) ⌝ }
+{
+    match test_rows(exprs, names, constraints, overloads, sources, given) {
+        Tested::Refused(code) => Tested::Refused(code),
+        Tested::Passed => test_last(sorts, nodes, constraints, given, room),
+    }
+}
+
+// Checks 5 to 14: the first that fails.
+fn test_rest(
+    sorts: &[u16],
+    nodes: &[u16],
+    binds: &[u16],
+    exprs: &[u16],
+    names: &[u16],
+    constraints: &[u16],
+    overloads: &[u16],
+    sources: &[u16],
+    given: Given,
+    room: Room,
+) -> Tested
+    requires { ⌜ allWithinLent (listsOf given (now sorts) (now nodes) (now binds) (now exprs) (now names) (now constraints) (now overloads) (now sources)) ≡ true ⌝ }
+    ensures { λ r. ⌜ ((o : Outs room) → r ≡ testedOf (firstFailing (restChecks (callOf given (now (sorts .entry)) (now (nodes .entry)) (now (binds .entry)) (now (exprs .entry)) (now (names .entry)) (now (constraints .entry)) (now (overloads .entry)) (now (sources .entry)) room o)))) ⌝ }
+{
+    match test_nodes(
+        given.sorts,
+        nodes,
+        given.nodes,
+        given.arguments,
+        binds,
+        given.variables,
+    ) {
+        Tested::Refused(code) => Tested::Refused(code),
+        Tested::Passed => test_lists(
+            sorts,
+            nodes,
+            exprs,
+            names,
+            constraints,
+            overloads,
+            sources,
+            given,
+            room,
+        ),
+    }
+}
+
+// The checks of the solver: the first that fails, whatever stands in scratch and outputs.
+pub fn test_solve(
+    sorts: &[u16],
+    nodes: &[u16],
+    binds: &[u16],
+    exprs: &[u16],
+    names: &[u16],
+    constraints: &[u16],
+    overloads: &[u16],
+    sources: &[u16],
+    given: Given,
+    room: Room,
+) -> Tested
+    ensures { λ r. ⌜ ((o : Outs room) → r ≡ testedOf (firstFailing (solveChecks (callOf given (now (sorts .entry)) (now (nodes .entry)) (now (binds .entry)) (now (exprs .entry)) (now (names .entry)) (now (constraints .entry)) (now (overloads .entry)) (now (sources .entry)) room o)))) ⌝ }
+{
+    if !all_within_lent(
+        sorts,
+        nodes,
+        binds,
+        exprs,
+        names,
+        constraints,
+        overloads,
+        sources,
+        given,
+    ) {
+        return Tested::Refused(1);
+    }
+    match test_sorts(sorts, given.sorts, given.entries) {
+        Tested::Refused(code) => Tested::Refused(code),
+        Tested::Passed => test_rest(
+            sorts,
+            nodes,
+            binds,
+            exprs,
+            names,
+            constraints,
+            overloads,
+            sources,
+            given,
+            room,
+        ),
+    }
 }

@@ -18,8 +18,8 @@ use Rattle.inference.specs.Typing.{HoldsTogether}
 use Rattle.inference.proofs.Together.{Explained, every-typing-is-explained, typing-holds-together}
 use Rattle.inference.proofs.NoConstraints.{no-constraints-is-a-typing}
 use Rattle.solve_checks.specs.declared.Given.{Given}
-use Rattle.solve_finish.specs.Begin.{callWith}
-use Rattle.solve_finish.specs.Finish.{leftOf}
+use Rattle.solve_outputs.specs.Begin.{callWith}
+use Rattle.solve_outputs.specs.Finish.{leftOf}
 
 abbrev pub TypingOr15 : Solved → Type 0
 TypingOr15 r = ((o : Outputs) × (r ≡ Typing o)) ⊎ (r ≡ NoRoom 15)

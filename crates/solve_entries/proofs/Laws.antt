@@ -10,7 +10,7 @@ use Rattle.resolved_sort.specs.declared.Tested.{Tested}
 use Rattle.resolved_sort.specs.declared.Tested.the-variants.{Refused, Passed}
 use Rattle.resolved_sort.specs.Checks.{firstFailing}
 use Rattle.resolved_sort.specs.Entries.{testedOf}
-use Rattle.sort_entries.proofs.Laws.{refused-is, passed-is}
+use Rattle.resolved_sort.proofs.Testing.{refused-is, passed-is}
 use Rattle.unification.specs.declared.Lengths.{Lengths}
 use Rattle.unification.specs.Nodes.{bindsOf}
 use Rattle.inference.specs.declared.Solved.{Solved}
@@ -29,12 +29,12 @@ use Rattle.search_state.specs.Searching.{Searching, Done, Comes}
 use Rattle.problem_words.specs.Packed.{Packable, problemFrom}
 use Rattle.solve_checks.specs.declared.Given.{Given}
 use Rattle.solve_checks.specs.Calls.{lengthsOf, partOf}
-use Rattle.solve_finish.specs.Begin.{callWith, CountsFit, RowsFit, sizesOf, noIncumbent, nothingTaken}
-use Rattle.solve_finish.specs.Finish.{leftOf, leftBy, settledBy, Handable, SortsReturnable, NodesReturnable}
-use Rattle.solve_finish.specs.Packed.{packSolved, Told, packed, packLeft}
-use Rattle.solve_finish.proofs.Codes.{entry-told}
-use Rattle.solve_finish.proofs.Passed.{counts-fit, rows-fit, packable, packed-problem, begins, handable}
-use Rattle.solve_finish.proofs.Finished.{left-by-search, left-is-outcome}
+use Rattle.solve_outputs.specs.Begin.{callWith, CountsFit, RowsFit, sizesOf, noIncumbent, nothingTaken}
+use Rattle.solve_outputs.specs.Finish.{leftOf, leftBy, settledBy, Handable, SortsReturnable, NodesReturnable}
+use Rattle.solve_outputs.specs.Packed.{packSolved, Told, packed, packLeft}
+use Rattle.solve_outputs.proofs.Codes.{entry-told}
+use Rattle.solve_outputs.proofs.Passed.{counts-fit, rows-fit, packable, packed-problem, begins, handable}
+use Rattle.solve_outputs.proofs.Finished.{left-by-search, left-is-outcome}
 
 -- The search from nothing, and what comes after it.
 module _ (ls : List ℕ) (z : Sizes) (ws ns bs sc : List ℕ) (k : Lengths) (st : State) (q : st ≡ noIncumbent k) (at : Branch) (p : at ≡ nothingTaken)

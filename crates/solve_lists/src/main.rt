@@ -8,11 +8,11 @@
 // those are looked at, which shows that it is too long.
 use libc::STDERR_FILENO;
 use libc::STDOUT_FILENO;
+use line_input::Found;
+use line_input::next_line;
+use line_input::no_input;
 use list_lines::finish;
 use list_lines::hear;
-use replay_input::Found;
-use replay_input::next_line;
-use replay_input::no_input;
 
 // The number of a line, before what there is to say of it.
 fn write_number(number: u64) {

@@ -15,9 +15,10 @@ use Rattle.inference.specs.SolveChecks.{disjunctions}
 use Rattle.inference.specs.SolveEntry.{choiceRows, over}
 use Rattle.inference.proofs.Members.{rows-all-left, rows-one-left, rows-none-left}
 use Rattle.search_state.specs.declared.Sizes.{Sizes}
-use Rattle.search_state.specs.Memory.{part, problemIn, restFrom, chosenExprs, bestChoicesAt, scratchUsed, choicesOf}
+use Rattle.search_state.specs.Memory.{problemIn, restFrom, chosenExprs, bestChoicesAt, scratchUsed, choicesOf}
+use Rattle.words.specs.Words.{part}
 use Rattle.search_state.specs.Searching.{Sized}
-use Rattle.search_state.proofs.Parts.{part-first}
+use Rattle.words.proofs.Parts.{part-first}
 use Rattle.solve_outputs.specs.Written.{Walked, walked, positionAt, choiceBy}
 use Rattle.solve_outputs.proofs.Over.{stored-is-over}
 

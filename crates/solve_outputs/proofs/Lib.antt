@@ -3,3 +3,8 @@ pub mod Over
 pub mod Choosing
 pub mod Naming
 pub mod TypingRows
+pub mod Finishing
+pub mod Passed
+pub mod Finished
+pub mod Codes
+pub mod CodeSeven

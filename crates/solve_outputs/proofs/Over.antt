@@ -5,7 +5,7 @@ use Prim.Native.Nat.{ℕ, _+_, _-_, _≤_}
 use native.Mathlib.Omega.{arith}
 use lib.ListN.{length, drop, replicate}
 use lib.Seq.{sets, sets-eq, drop-length}
-use Rattle.resolved_sort.specs.Storage.{zeros}
+use Rattle.words.specs.Words.{zeros}
 use Rattle.inference.specs.SolveEntry.{over, cleared}
 
 pub stored-is-over : (vs old : List ℕ) → length vs ≤ length old → sets old 0 vs ≡ over vs old

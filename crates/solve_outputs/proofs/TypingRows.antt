@@ -23,9 +23,10 @@ use Rattle.inference.specs.SolveChecks.{disjunctions}
 use Rattle.inference.specs.SolveEntry.{typingRows, over}
 use Rattle.inference.proofs.Members.{rows-all-left}
 use Rattle.search_state.specs.declared.Sizes.{Sizes}
-use Rattle.search_state.specs.Memory.{part, overloadsAt, problemIn, restFrom, chosenExprs, choicesOf, bestSortsAt, bestChoicesAt, scratchUsed}
+use Rattle.search_state.specs.Memory.{overloadsAt, problemIn, restFrom, chosenExprs, choicesOf, bestSortsAt, bestChoicesAt, scratchUsed}
+use Rattle.words.specs.Words.{part}
 use Rattle.search_state.specs.Searching.{Sized}
-use Rattle.search_state.proofs.Parts.{length-part, part-first}
+use Rattle.words.proofs.Parts.{length-part, part-first}
 use Rattle.solve_outputs.specs.Written.{positionAt, namedRows, noName, named, baseNamed, chosenNamed}
 use Rattle.solve_outputs.proofs.Over.{stored-is-over}
 

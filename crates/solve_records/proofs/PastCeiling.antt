@@ -27,8 +27,8 @@ use Rattle.inference.specs.SolveEntry.{problemOf, baseNamesOf, start, lentOf, s
 use Rattle.inference.proofs.Members.{rows-same}
 use Rattle.inference.proofs.Accepted.{within}
 use Rattle.solve_checks.specs.declared.Given.{Given}
-use Rattle.solve_finish.specs.Begin.{callWith}
-use Rattle.solve_finish.proofs.Passed.{rows-lent}
+use Rattle.solve_outputs.specs.Begin.{callWith}
+use Rattle.solve_outputs.proofs.Passed.{rows-lent}
 use Rattle.solve_records.specs.declared.OverloadRecord.{OverloadRecord}
 use Rattle.solve_records.specs.Records.{wordsOf, recordWords}
 use Rattle.solve_records.proofs.Unpacked.{three-words-each}

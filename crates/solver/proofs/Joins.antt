@@ -12,7 +12,7 @@ use Rattle.unification.specs.Nodes.{bindsOf}
 use Rattle.unification.specs.Checked.{Placed}
 use Rattle.unification.specs.Making.{Lent}
 use Rattle.unification.proofs.Grows.{PlacedIn, Grows, placed-grown}
-use Rattle.inference.specs.Constraints.{Problem, rowsFrom}
+use Rattle.inference.specs.Constraints.{Problem, rowsFrom, maxComponents}
 use Rattle.inference.specs.Search.{Path, World, Out, Next as Going, Agreed, joinOf, onMade, orElse, unifying, widening, sequence, joining, measured}
 use Rattle.inference.specs.SolveEntry.{nothingMet}
 use Rattle.inference.specs.Typing.{All, and-all}
@@ -24,7 +24,6 @@ use Rattle.search_state.specs.declared.Answer.{Answer}
 use Rattle.search_state.specs.declared.Answer.the-variants.{Missed, Full}
 use Rattle.resolved_sort.specs.declared.Run.{Run}
 use Rattle.resolved_sort.specs.declared.SortId.{SortId}
-use Rattle.inference.specs.Constraints.{maxComponents}
 use Rattle.inference.specs.SolveChecks.{components}
 use Rattle.inference.proofs.MakingSorts.{MadeSorts, Agree, join-of-makes}
 use Rattle.search_state.specs.declared.Made.{Made}
@@ -32,7 +31,8 @@ use Rattle.search_state.specs.declared.Made.the-variants.{At, Nothing as NoSort
 use Rattle.search_state.specs.declared.Next.the-variants.{Solve, Source}
 use Rattle.search_state.specs.declared.Pairs.the-variants.{One}
 use Rattle.search_state.specs.declared.Step.the-variants.{Written}
-use Rattle.search_state.specs.Memory.{part, problemIn, sourceAt, chosenExprs, choicesOf, trailWords, bestSortsAt, measureAt, bestMeasureAt, choicesAt, bestChoicesAt, lent, pathOf, candidateOf, bestOf, worldOf, solveFrom, nextOf}
+use Rattle.search_state.specs.Memory.{problemIn, sourceAt, chosenExprs, choicesOf, trailWords, bestSortsAt, measureAt, bestMeasureAt, choicesAt, bestChoicesAt, lent, pathOf, candidateOf, bestOf, worldOf, solveFrom, nextOf}
+use Rattle.words.specs.Words.{part}
 use Rattle.search_state.specs.Leaves.{ChangedOnly, unifyPairs, PairsPlaced, stepped, agreementOf, Agrees}
 use Rattle.search_state.specs.Searching.{Sized, Searching, SourcesFine, Agreeing, SamePath, Done, Comes, trying}
 use Rattle.search_state.proofs.Parts.{part-before, part-after, take-unchanged}

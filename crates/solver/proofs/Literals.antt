@@ -30,7 +30,7 @@ use Rattle.search_state.specs.Searching.{Searching, Comes}
 use Rattle.search_state.proofs.After.{misses, done-as}
 use Rattle.search_state.proofs.Ways.{literalBy, literal-by-what-stands, TriesPlaced}
 use Rattle.search_steps.specs.Steps.{LitTries}
-use Rattle.search_tries.proofs.Attempt.{went-with}
+use Rattle.search_steps.proofs.Attempt.{went-with}
 use Rattle.solver.specs.Asked.{TriesFine}
 use Rattle.solver.proofs.Ways.{fixed-placed}
 

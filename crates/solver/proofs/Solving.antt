@@ -5,13 +5,13 @@ use mathlib.Core.Bool.{Bool, true, false, cond}
 use mathlib.Core.List.{List, [], _∷_, _++_}
 use Prim.Native.Nat.{ℕ, zero, suc, _+_, _-_, _<_, _≤_}
 use native.Mathlib.Omega.{arith}
-use lib.ListN.{length, take, drop}
+use lib.ListN.{length, take, drop, length-drop}
 use Rattle.unification.specs.declared.InferSortId.{InferSortId}
 use Rattle.unification.specs.Nodes.{bindsOf}
 use Rattle.unification.specs.Checked.{Placed}
 use Rattle.unification.specs.Making.{Lent}
 use Rattle.unification.proofs.Grows.{PlacedIn}
-use Rattle.inference.specs.Constraints.{Problem, rowsFrom, overloadAt}
+use Rattle.inference.specs.Constraints.{Problem, rowsFrom, overloadAt, constraintAt}
 use Rattle.inference.specs.Search.{Path, World, missed, Next as Going, step, solve, leaf, dominatedBy, widening, literal, everyOverload, everyReading, joining}
 use Rattle.inference.specs.SolveEntry.{nothingMet}
 use Rattle.inference.specs.Typing.{All, and-all}
@@ -20,7 +20,6 @@ use Rattle.search_state.specs.declared.State.{State}
 use Rattle.search_state.specs.declared.Branch.{Branch}
 use Rattle.search_state.specs.declared.Answer.{Answer}
 use Rattle.search_state.specs.declared.Answer.the-variants.{Missed}
-use lib.ListN.{length-drop}
 use Rattle.resolved_sort.specs.declared.Run.{Run}
 use Rattle.resolved_sort.specs.declared.SortId.{SortId}
 use Rattle.inference.specs.declared.ExprId.{ExprId}
@@ -28,13 +27,13 @@ use Rattle.inference.specs.declared.LitKind.{LitKind}
 use Rattle.inference.specs.declared.Overload.{Overload}
 use Rattle.inference.specs.declared.Constraint.{Constraint}
 use Rattle.inference.specs.declared.Constraint.the-variants.{Sub, Lit, Disjunction, Comprehension, Join}
-use Rattle.inference.specs.Constraints.{constraintAt}
 use Rattle.inference.specs.SolveChecks.{componentsOf, components, disjunctionFor, disjunctions}
 use Rattle.inference.specs.Names.{overloadIn}
 use Rattle.inference.proofs.Members.{length-rows, row-at, run-at}
 use Rattle.inference.proofs.Accepted.{Listed, sub-listed, lit-listed, disjunction-listed, comprehension-listed, join-listed}
 use Rattle.search_state.specs.declared.Next.the-variants.{Solve}
-use Rattle.search_state.specs.Memory.{part, overloadsAt, sourceAt, problemIn, restFrom, chosenExprs, measureAt, lent, pathOf, bestOf, worldOf, solveFrom, nextOf}
+use Rattle.search_state.specs.Memory.{overloadsAt, sourceAt, problemIn, restFrom, chosenExprs, measureAt, lent, pathOf, bestOf, worldOf, solveFrom, nextOf}
+use Rattle.words.specs.Words.{part}
 use Rattle.search_state.specs.Searching.{Searching, SourcesFine, AtLeaf, Comparable, Comes}
 use Rattle.search_state.proofs.After.{misses, done-as}
 use Rattle.solver.specs.Asked.{OverloadsFine, exprsOfConstraint, readingsFrom}

@@ -10,43 +10,18 @@ use resolved_sort::Pair;
 use resolved_sort::Side;
 use resolved_sort::Sort;
 use resolved_sort::SortId;
-use sort_interner::intern;
-use sort_interner::kind_of_op;
-use sort_interner::word;
+use sort_interner::function;
+use sort_interner::generic;
 use sort_order::pair;
+use words::word;
 ghost use mathlib.Core.Path.{_≡_};
 ghost use mathlib.Core.Bool.{true, false, not};
-ghost use Prim.Native.Nat.{ℕ, _+_, _*_, _<_, _≤_};
-ghost use lib.ListN.{take};
-ghost use lib.Dec.{leb};
-ghost use Rattle.resolved_sort.specs.Tree.{primitive, container, function as functionSort, family, level, familyOp, levelOp};
+ghost use Prim.Native.Nat.{_+_, _*_, _≤_};
+ghost use Rattle.resolved_sort.specs.Tree.{primitive, family, level, familyOp, levelOp};
 ghost use Rattle.resolved_sort.specs.Order.{leLevel, boundOp as boundOfOps};
-ghost use Rattle.resolved_sort.specs.Interning.{look};
-ghost use Rattle.resolved_sort.specs.Storage.{trees, lookAll, partAt, startAt, countAt, entryAt};
-ghost use Rattle.resolved_sort.specs.Rows.{Checked, AllBelow, storedAt};
-ghost use Rattle.resolved_sort.specs.Bounds.{Asked, boundAt, internAt, containerAt, functionAt, sideOf, opBound, TwoFunctions, storedDomain, boundDomain};
-
-// Interns the container sort `op(subsort)`.
-pub fn generic(sorts: &mut [u16], counts: Counts, op: ComplexSort, subsort: SortId) -> Joined
-    requires { ⌜ Checked (now sorts) (counts .sorts) (counts .entries) × (subsort .0 < counts .sorts) ⌝ }
-    ensures { λ r. ⌜ storedAt (now (sorts .exit)) r ≡ internAt (now (sorts .entry)) (counts .sorts) (counts .entries) (container op (look (trees (now (sorts .entry)) (counts .sorts)) (subsort .0))) ⌝ }
-{
-    intern(sorts, counts, kind_of_op(op), subsort.0, [0u16; 16], 0)
-}
-
-// Interns the function sort `domain -> range`, the domain being the first count of the ids.
-pub fn function(
-    sorts: &mut [u16],
-    counts: Counts,
-    ids: [u16; 16],
-    count: u16,
-    range: SortId,
-) -> Joined
-    requires { ⌜ Checked (now sorts) (counts .sorts) (counts .entries) × (range .0 < counts .sorts) × (count ≤ 16) × AllBelow (counts .sorts) (take count ids) ⌝ }
-    ensures { λ r. ⌜ storedAt (now (sorts .exit)) r ≡ internAt (now (sorts .entry)) (counts .sorts) (counts .entries) (functionSort (lookAll (trees (now (sorts .entry)) (counts .sorts)) (take count ids)) (look (trees (now (sorts .entry)) (counts .sorts)) (range .0))) ⌝ }
-{
-    intern(sorts, counts, 11, range.0, ids, count)
-}
+ghost use Rattle.resolved_sort.specs.Storage.{partAt, startAt, countAt, entryAt};
+ghost use Rattle.resolved_sort.specs.Rows.{storedAt};
+ghost use Rattle.resolved_sort.specs.Bounds.{Asked, boundAt, containerAt, functionAt, sideOf, opBound, TwoFunctions, storedDomain, boundDomain};
 
 // The range of a function, the number of its arguments, and its i-th argument.
 fn part(sorts: &[u16], id: SortId) -> SortId

@@ -1,110 +1,32 @@
 -- The first failing check, as the tests of an entry find it one after another, and what it means that none fails.
 -- Assumes nothing.
-use mathlib.Core.Path.{_≡_, refl, sym, _∙_, ap, subst}
-use mathlib.Core.Bool.{Bool, true, false, not, cond, _&&_, and-eq-true-iff}
-use mathlib.Core.List.{List, [], _∷_, _++_}
-use mathlib.Core.Option.{Option, none, some}
+use mathlib.Core.Path.{_≡_, refl, sym, _∙_, ap}
+use mathlib.Core.Bool.{Bool, true, _&&_, and-eq-true-iff}
+use mathlib.Core.List.{List, [], _∷_}
+use mathlib.Core.Option.{none}
 use Prim.Native.Nat.{ℕ, _-_, _*_, _<_, _≤_}
-use native.Mathlib.Omega.{arith}
 use lib.ListN.{length}
 use lib.Dec.{leb, ltb}
-use borrow.Author.Tests.{not-true, not-false, ltb-true, leb-true, lt-ltb, le-ltb, le-leb, lt-leb}
+use borrow.Author.Tests.{ltb-true, leb-true, lt-ltb, le-ltb, le-leb, lt-leb}
 use Rattle.resolved_sort.specs.declared.Tested.{Tested}
 use Rattle.resolved_sort.specs.declared.Tested.the-variants.{Refused, Passed}
-use Rattle.resolved_sort.specs.declared.Counts.{Counts}
 use Rattle.resolved_sort.specs.declared.Joined.{Joined}
-use Rattle.resolved_sort.specs.declared.Joined.the-variants.{At, Nothing, Full}
 use Rattle.resolved_sort.specs.declared.Bounded.{Bounded}
-use Rattle.resolved_sort.specs.declared.Bounded.the-variants.{Refused as NotBounded, Sort, Nothing as NoBound, NoRoom}
+use Rattle.resolved_sort.specs.declared.Bounded.the-variants.{NoRoom}
 use Rattle.resolved_sort.specs.Tree.{Tree}
-use Rattle.resolved_sort.specs.Interning.{look, Outcome, made, nothing, full, make}
-use Rattle.resolved_sort.specs.Storage.{maxSorts, maxEntries, fullLength, entriesAt, givenBack, trees, sortsOf}
-use Rattle.resolved_sort.specs.Checks.{withinLent, fixedSix, rowsFine, noTwoEqual, inList, atCeiling, Check, firstFailing, sortChecks, pairChecks}
-use Rattle.resolved_sort.specs.Entries.{testedOf, orElse, treeAt, after, Stored, stored, Left, left, leftBy, bounded}
-use Rattle.resolved_sort.specs.Rows.{Checked, storedAt}
+use Rattle.resolved_sort.specs.Interning.{Outcome, made, nothing, full, make}
+use Rattle.resolved_sort.specs.Storage.{maxSorts, maxEntries, fullLength, entriesAt, sortsOf}
+use Rattle.resolved_sort.specs.Checks.{withinLent, rowsFine, noTwoEqual, inList, atCeiling, Check, firstFailing, sortChecks, pairChecks}
+use Rattle.resolved_sort.specs.Entries.{testedOf, orElse, treeAt, stored, left, leftBy, bounded}
+use Rattle.resolved_sort.specs.Rows.{storedAt}
 use Rattle.resolved_sort.specs.Bounds.{Asked, boundAt}
 use Rattle.resolved_sort.proofs.FirstFailing.{first-fails, first-passes, append-fails, append-passes, cons-passes}
-use Rattle.resolved_sort.proofs.Twice.{rows-differ-exactly}
 use Rattle.resolved_sort.proofs.Grown.{grown-none}
 use Rattle.resolved_sort.proofs.Kept.{Kept, InTree, make-kept}
 use Rattle.resolved_sort.proofs.Stored.{look-whole}
 use Rattle.resolved_sort.proofs.GivenBack.{made-is-given-back}
-use Rattle.sort_interner.specs.Tests.{noSameRows, newRow, otherRow}
 use Rattle.sort_entries.specs.Kept.{keptOrGivenBack}
-
--- what was tested is what the definition says
-pub refused-is : (x : Option ℕ) (t : Tested) (c : ℕ) → t ≡ testedOf x → t ≡ Refused c → x ≡ some c
-refused-is none t c e r = let z : Passed ≡ Refused c = sym e ∙ r in let w : _≡_ {A = ℕ} 0 1 = cc in absurd (omega arith)
-refused-is (some d) t c e r = let z : Refused d ≡ Refused c = sym e ∙ r in cc
-
-pub passed-is : (x : Option ℕ) (t : Tested) → t ≡ testedOf x → t ≡ Passed → x ≡ none
-passed-is none t e r = refl
-passed-is (some d) t e r = let z : Refused d ≡ Passed = sym e ∙ r in let w : _≡_ {A = ℕ} 0 1 = cc in absurd (omega arith)
-
--- checks 1 to 4
-module _ (ws : List ℕ) (n e : ℕ) where
-  abbrev one : Check
-  one = record { code = 1; passes = withinLent ws n e }
-
-  abbrev two : Check
-  two = record { code = 2; passes = fixedSix ws n }
-
-  abbrev three : Check
-  three = record { code = 3; passes = rowsFine ws n e }
-
-  abbrev four : Check
-  four = record { code = 4; passes = noTwoEqual ws n }
-
-  -- the tests' flags: b negated is what an `if` tests
-  passing : (b x : Bool) → b ≡ x → not b ≡ false → x ≡ true
-  passing b x e h = sym e ∙ not-false b h
-
-  failing : (b x : Bool) → b ≡ x → not b ≡ true → x ≡ false
-  failing b x e h = sym e ∙ not-true b h
-
-  module _ (b₁ : Bool) (e₁ : b₁ ≡ withinLent ws n e) where
-    pub fails-1 : not b₁ ≡ true → Refused 1 ≡ testedOf (firstFailing (sortChecks ws n e))
-    unfolding sortChecks
-    fails-1 h = ap testedOf (sym (first-fails one _ (failing b₁ _ e₁ h)))
-
-    module _ (h₁ : not b₁ ≡ false) where
-      pub few-sorts : n ≤ maxSorts
-      unfolding withinLent
-      few-sorts =
-          leb-true n maxSorts
-          (and-eq-true-iff (leb n maxSorts) (leb e maxEntries) .0
-          (and-eq-true-iff (leb n maxSorts && leb e maxEntries) (leb (4 * n) (length ws)) .0
-          (and-eq-true-iff (leb n maxSorts && leb e maxEntries && leb (4 * n) (length ws)) (leb e (length ws - entriesAt)) .0 (passing b₁ _ e₁ h₁) .0) .0) .0)
-
-      past-1 : firstFailing (sortChecks ws n e) ≡ firstFailing (two ∷ three ∷ four ∷ [])
-      unfolding sortChecks
-      past-1 = first-passes one _ (passing b₁ _ e₁ h₁)
-
-      module _ (b₂ : Bool) (e₂ : b₂ ≡ fixedSix ws n) where
-        pub fails-2 : not b₂ ≡ true → Refused 2 ≡ testedOf (firstFailing (sortChecks ws n e))
-        fails-2 h = ap testedOf (sym (past-1 ∙ first-fails two _ (failing b₂ _ e₂ h)))
-
-        module _ (h₂ : not b₂ ≡ false) (b₃ : Bool) (e₃ : b₃ ≡ rowsFine ws n e) where
-          past-2 : firstFailing (sortChecks ws n e) ≡ firstFailing (three ∷ four ∷ [])
-          past-2 = past-1 ∙ first-passes two _ (passing b₂ _ e₂ h₂)
-
-          pub fails-3 : not b₃ ≡ true → Refused 3 ≡ testedOf (firstFailing (sortChecks ws n e))
-          fails-3 h = ap testedOf (sym (past-2 ∙ first-fails three _ (failing b₃ _ e₃ h)))
-
-          module _ (h₃ : not b₃ ≡ false) (b₄ : Bool) (e₄ : b₄ ≡ noSameRows ws n) where
-            past-3 : firstFailing (sortChecks ws n e) ≡ firstFailing (four ∷ [])
-            past-3 = past-2 ∙ first-passes three _ (passing b₃ _ e₃ h₃)
-
-            by-structure : b₄ ≡ noTwoEqual ws n
-            unfolding noSameRows newRow otherRow
-            by-structure = e₄ ∙ rows-differ-exactly ws e n (passing b₃ _ e₃ h₃)
-
-            pub fails-4 : not b₄ ≡ true → Refused 4 ≡ testedOf (firstFailing (sortChecks ws n e))
-            fails-4 h = ap testedOf (sym (past-3 ∙ first-fails four _ (failing b₄ _ by-structure h)))
-
-            pub passes-4 : not b₄ ≡ false → Passed ≡ testedOf (firstFailing (sortChecks ws n e))
-            unfolding firstFailing
-            passes-4 h = ap testedOf (sym (past-3 ∙ first-passes four [] (passing b₄ _ by-structure h)))
+use Rattle.resolved_sort.proofs.Testing.{refused-is, passed-is}
 
 -- checks 12 and 14
 module _ (ws : List ℕ) (n e a b : ℕ) (t : Tested) (et : t ≡ testedOf (firstFailing (sortChecks ws n e))) where

@@ -10,39 +10,17 @@ use resolved_sort::PartialOrder;
 use resolved_sort::SortId;
 use resolved_sort::Tested;
 use resolved_sort::Widening;
-use sort_interner::fixed_six;
+use sort_checks::test_sorts;
 use sort_interner::give_back;
-use sort_interner::no_two_equal_rows;
-use sort_interner::rows_fine;
-use sort_interner::within_lent;
 ghost use mathlib.Core.Path.{_≡_};
 ghost use mathlib.Core.Bool.{true, false};
-ghost use Prim.Native.Nat.{ℕ, _+_, _*_, _<_, _≤_};
+ghost use Prim.Native.Nat.{_+_, _*_, _<_, _≤_};
 ghost use lib.ListN.{length};
 ghost use Rattle.resolved_sort.specs.Storage.{maxSorts, maxEntries, fullLength};
-ghost use Rattle.resolved_sort.specs.Checks.{firstFailing, pairChecks, sortChecks};
+ghost use Rattle.resolved_sort.specs.Checks.{firstFailing, pairChecks};
 ghost use Rattle.resolved_sort.specs.Entries.{testedOf, compared, measured, materialized, bounded, left};
 ghost use Rattle.sort_entries.specs.Kept.{keptOrGivenBack};
 ghost use Rattle.sort_entries.specs.Packed.{packCompared, packMeasured, packMaterialized, packBounded, packed, packLeft};
-
-// Checks 1 to 4: the first that fails.
-pub fn test_sorts(sorts: &[u16], sort_count: usize, entry_count: usize) -> Tested
-    ensures { λ r. ⌜ r ≡ testedOf (firstFailing (sortChecks (now (sorts .entry)) «sort_count» «entry_count»)) ⌝ }
-{
-    if !within_lent(sorts, sort_count, entry_count) {
-        return Tested::Refused(1);
-    }
-    if !fixed_six(sorts, sort_count) {
-        return Tested::Refused(2);
-    }
-    if !rows_fine(sorts, sort_count, entry_count) {
-        return Tested::Refused(3);
-    }
-    if !no_two_equal_rows(sorts, sort_count) {
-        return Tested::Refused(4);
-    }
-    Tested::Passed
-}
 
 // Checks 1 to 4, 12 and 14 of a question about two sorts: the first that fails.
 pub fn test_pair(
@@ -207,6 +185,7 @@ pub fn meet(
         }
     }
 }
+
 // The code of document 01 and the values of an answer as one number, for callers in other languages.
 fn pack_compared(answer: Compared) -> u64
     ensures { λ r. ⌜ r ≡ packCompared answer ⌝ }

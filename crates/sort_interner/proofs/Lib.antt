@@ -1,10 +1,6 @@
-pub mod Zeros
 pub mod Apart
-pub mod Below
-pub mod Checks
 pub mod Runs
 pub mod Rows
-pub mod New
 pub mod Find
 pub mod Stores
 pub mod Interned

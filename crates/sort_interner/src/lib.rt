@@ -7,32 +7,21 @@ use resolved_sort::ResolvedSort;
 use resolved_sort::Run;
 use resolved_sort::Sort;
 use resolved_sort::SortId;
+use words::clear;
+use words::put;
+use words::word;
 ghost use mathlib.Core.Path.{_≡_};
 ghost use mathlib.Core.Bool.{cond};
-ghost use Prim.Native.Nat.{_+_, _≤_};
-ghost use lib.ListN.{length, getD, set, take};
+ghost use Prim.Native.Nat.{_+_, _≤_, _<_};
+ghost use lib.ListN.{length, take};
 ghost use lib.Seq.{sets};
 ghost use lib.Dec.{eqb};
-ghost use Rattle.resolved_sort.specs.Storage.{maxSorts, maxEntries, entriesAt, fullLength, functionKind, resolved, rowAt, entriesOf, wordsAt, kindOp, putRow, appendRow, zeros, givenBack};
-ghost use Rattle.resolved_sort.specs.Checks.{withinLent, fixedSix, partsBelow, rowFine, rowsFine, allBelow};
-ghost use Rattle.resolved_sort.specs.Rows.{sameWords, sameRow, findRow, storedAt, internRow};
-ghost use Rattle.sort_interner.specs.Tests.{argBelow, newRow, noSameRows, isRow};
-
-// The word at i. Past the end it is 0, never what lies there.
-pub fn word(s: &[u16], i: usize) -> u16
-    ensures { λ r. ⌜ r ≡ getD (now (s .entry)) i 0 ⌝ }
-{
-    if i < s.len() { s[i] } else { 0 }
-}
-
-// The word at i set to v. Past the end nothing changes, and no other word ever does.
-pub fn put(s: &mut [u16], i: usize, v: u16)
-    ensures { λ _. ⌜ now (s .exit) ≡ set (now (s .entry)) i v ⌝ }
-{
-    if i < s.len() {
-        s[i] = v;
-    }
-}
+ghost use Rattle.resolved_sort.specs.Storage.{maxSorts, maxEntries, entriesAt, fullLength, functionKind, resolved, rowAt, entriesOf, wordsAt, kindOp, putRow, appendRow, givenBack, trees, lookAll};
+ghost use Rattle.resolved_sort.specs.Rows.{sameWords, sameRow, findRow, storedAt, internRow, Checked, AllBelow};
+ghost use Rattle.sort_interner.specs.Tests.{isRow};
+ghost use Rattle.resolved_sort.specs.Tree.{container, function as functionSort};
+ghost use Rattle.resolved_sort.specs.Interning.{look};
+ghost use Rattle.resolved_sort.specs.Bounds.{internAt};
 
 // What the words of a row say. Every kind above 12 says TypeVar: that it is 13 is check 3's to show.
 pub fn row_of(kind: u16, part: u16, run: Run) -> ResolvedSort
@@ -99,18 +88,6 @@ pub fn kind_of_op(op: ComplexSort) -> u16
     }
 }
 
-// The words from one place up to another set to zero, and no others.
-pub fn clear(s: &mut [u16], from: usize, to: usize)
-    requires { ⌜ (from ≤ to) × (to ≤ length (now s)) ⌝ }
-    ensures { λ _. ⌜ now (s .exit) ≡ zeros from to (now (s .entry)) ⌝ }
-{
-    let mut i = from;
-    while i < to {
-        s[i] = 0;
-        i += 1;
-    }
-}
-
 // What 15 leaves: zero past the n rows and e entries that the call began with, and these as they are.
 pub fn give_back(sorts: &mut [u16], n: usize, e: usize)
     requires { ⌜ (n ≤ maxSorts) × (e ≤ maxEntries) × (fullLength ≤ length (now sorts)) ⌝ }
@@ -119,113 +96,6 @@ pub fn give_back(sorts: &mut [u16], n: usize, e: usize)
     clear(sorts, 4 * n, 4096);
     let end = sorts.len();
     clear(sorts, 4096 + e, end);
-}
-
-// Check 1: n sorts and e entries are within the ceilings and within what was lent. Neither may be past the slice's end.
-pub fn within_lent(sorts: &[u16], n: usize, e: usize) -> bool
-    ensures { λ r. ⌜ r ≡ withinLent (now (sorts .entry)) n e ⌝ }
-{
-    if 1024 < n {
-        return false;
-    }
-    if 4096 < e {
-        return false;
-    }
-    if sorts.len() < 4 * n {
-        return false;
-    }
-    if e == 0 {
-        return true;
-    }
-    4096 + e <= sorts.len()
-}
-
-// Check 2: the first six rows are there and are of kinds 0 to 5 in order. Fewer than six rows are refused.
-pub fn fixed_six(sorts: &[u16], n: usize) -> bool
-    ensures { λ r. ⌜ r ≡ fixedSix (now (sorts .entry)) n ⌝ }
-{
-    if n < 6 {
-        return false;
-    }
-    let mut i: u16 = 0;
-    while i < 6 {
-        if word(sorts, 4 * (i as usize)) != i {
-            return false;
-        }
-        i += 1;
-    }
-    true
-}
-
-// Whether each of the count entries from start on names a sort below i. An entry that is i itself does not.
-pub fn args_below(sorts: &[u16], start: u16, count: u16, i: u16) -> bool
-    ensures { λ r. ⌜ r ≡ allBelow count (argBelow (now (sorts .entry)) start i) ⌝ }
-{
-    let mut j: u16 = 0;
-    while j < count {
-        if i <= word(sorts, 4096 + ((start as usize) + (j as usize))) {
-            return false;
-        }
-        j += 1;
-    }
-    true
-}
-
-// Whether a function's row i has at most 16 arguments, a run inside the e entries, and parts below i.
-pub fn function_fine(sorts: &[u16], e: usize, i: u16, domain: Run, range: SortId) -> bool
-    ensures { λ r. ⌜ r ≡ partsBelow (now (sorts .entry)) e i (ResolvedSort.Function domain range) ⌝ }
-{
-    let start = domain.start;
-    let count = domain.count;
-    if 16 < count {
-        return false;
-    }
-    if e < (start as usize) + (count as usize) {
-        return false;
-    }
-    if i <= range.0 {
-        return false;
-    }
-    args_below(sorts, start, count, i)
-}
-
-// Whether the parts of row i, which says sort, are numbered below it. A part that is row i itself is not.
-pub fn parts_below(sorts: &[u16], e: usize, i: u16, sort: ResolvedSort) -> bool
-    ensures { λ r. ⌜ r ≡ partsBelow (now (sorts .entry)) e i sort ⌝ }
-{
-    match sort {
-        ResolvedSort::Unit => true,
-        ResolvedSort::Primitive(_) => true,
-        ResolvedSort::Container { op: _, subsort } => subsort.0 < i,
-        ResolvedSort::Function { domain, range } => function_fine(sorts, e, i, domain, range),
-        ResolvedSort::Def(_) => true,
-        ResolvedSort::TypeVar(_) => true,
-    }
-}
-
-// Whether row i is of a known kind and its parts are below it. Kinds above 13 are unknown.
-pub fn row_fine(sorts: &[u16], e: usize, i: u16) -> bool
-    ensures { λ r. ⌜ r ≡ rowFine (now (sorts .entry)) e i ⌝ }
-{
-    if 13 < word(sorts, 4 * (i as usize)) {
-        return false;
-    }
-    parts_below(sorts, e, i, get(sorts, SortId(i)))
-}
-
-// Check 3: each of the n rows is fine. None is left out.
-pub fn rows_fine(sorts: &[u16], n: usize, e: usize) -> bool
-    requires { ⌜ n ≤ maxSorts ⌝ }
-    ensures { λ r. ⌜ r ≡ rowsFine (now (sorts .entry)) n e ⌝ }
-{
-    let mut i: usize = 0;
-    while i < n {
-        if !row_fine(sorts, e, i as u16) {
-            return false;
-        }
-        i += 1;
-    }
-    true
 }
 
 // The kind of row i, known or not.
@@ -292,35 +162,6 @@ pub fn same_rows(sorts: &[u16], i: u16, j: u16) -> bool
         return false;
     }
     same_run(sorts, run_at(sorts, i), run_at(sorts, j))
-}
-
-// Whether no row below row j is the same as it. Row j itself does not count.
-pub fn new_row(sorts: &[u16], j: u16) -> bool
-    ensures { λ r. ⌜ r ≡ newRow (now (sorts .entry)) j ⌝ }
-{
-    let mut i: u16 = 0;
-    while i < j {
-        if same_rows(sorts, i, j) {
-            return false;
-        }
-        i += 1;
-    }
-    true
-}
-
-// Check 4 on rows: no two of the first n are the same. No pair is left out.
-pub fn no_two_equal_rows(sorts: &[u16], n: usize) -> bool
-    requires { ⌜ n ≤ maxSorts ⌝ }
-    ensures { λ r. ⌜ r ≡ noSameRows (now (sorts .entry)) n ⌝ }
-{
-    let mut j: usize = 0;
-    while j < n {
-        if !new_row(sorts, j as u16) {
-            return false;
-        }
-        j += 1;
-    }
-    true
 }
 
 // Whether a run has the first n of the ids as its entries, and no more.
@@ -452,4 +293,26 @@ pub fn intern(
             entries: e + count,
         },
     )
+}
+
+// Interns the container sort `op(subsort)`.
+pub fn generic(sorts: &mut [u16], counts: Counts, op: ComplexSort, subsort: SortId) -> Joined
+    requires { ⌜ Checked (now sorts) (counts .sorts) (counts .entries) × (subsort .0 < counts .sorts) ⌝ }
+    ensures { λ r. ⌜ storedAt (now (sorts .exit)) r ≡ internAt (now (sorts .entry)) (counts .sorts) (counts .entries) (container op (look (trees (now (sorts .entry)) (counts .sorts)) (subsort .0))) ⌝ }
+{
+    intern(sorts, counts, kind_of_op(op), subsort.0, [0u16; 16], 0)
+}
+
+// Interns the function sort `domain -> range`, the domain being the first count of the ids.
+pub fn function(
+    sorts: &mut [u16],
+    counts: Counts,
+    ids: [u16; 16],
+    count: u16,
+    range: SortId,
+) -> Joined
+    requires { ⌜ Checked (now sorts) (counts .sorts) (counts .entries) × (range .0 < counts .sorts) × (count ≤ 16) × AllBelow (counts .sorts) (take count ids) ⌝ }
+    ensures { λ r. ⌜ storedAt (now (sorts .exit)) r ≡ internAt (now (sorts .entry)) (counts .sorts) (counts .entries) (functionSort (lookAll (trees (now (sorts .entry)) (counts .sorts)) (take count ids)) (look (trees (now (sorts .entry)) (counts .sorts)) (range .0))) ⌝ }
+{
+    intern(sorts, counts, 11, range.0, ids, count)
 }

@@ -9,7 +9,7 @@ use resolved_sort::Sort;
 use resolved_sort::SortId;
 use resolved_sort::Widening;
 use sort_interner::get;
-use sort_interner::word;
+use words::word;
 ghost use mathlib.Core.Path.{_≡_};
 ghost use mathlib.Core.Bool.{true, false};
 ghost use mathlib.Core.Option.{some};

@@ -1,1 +1,3 @@
 mod Ways
+pub mod Entry
+pub mod Codes

@@ -1,2 +1,3 @@
 -- What the contracts of this crate cite beside the definitions of sort text.
 pub mod Run
+pub mod Tested

@@ -2,20 +2,19 @@
 // are those of a reader that holds the line (`token_from`).
 use resolved_sort::ComplexSort;
 use resolved_sort::Sort;
-use sort_lexer::Lexeme;
 use sort_lexer::Meaning;
 use sort_lexer::Token;
 use sort_lexer::token_from;
 use sort_lexer::word_meaning;
 ghost use mathlib.Core.Path.{_≡_};
 ghost use mathlib.Core.List.{[]};
-ghost use Prim.Native.Nat.{ℕ, _+_, _-_, _<_, _≤_};
+ghost use Prim.Native.Nat.{_+_, _-_, _≤_};
 ghost use lib.ListN.{length, drop, take};
 ghost use Rattle.resolved_sort.specs.Tree.{primitive};
 ghost use Rattle.resolved_sort.specs.Storage.{kindFlat, kindOp};
 ghost use Rattle.sort_text.specs.Tokens.{isLetter, skip, next};
-ghost use Rattle.sort_text.specs.Parse as Parse;
 ghost use Rattle.sort_recogniser.specs.Says.{Says, SaysClosing, SaysRest};
+ghost use Rattle.sort_text.specs.Parse as Parse;
 
 // The position after a sort and the number of steps written; or where the first token stands that cannot follow.
 pub enum Recognised {

@@ -14,5 +14,4 @@ pub mod Exactly
 pub mod Sizes
 pub mod ReadableBounds
 pub mod PairRoom
-pub mod PairLength
 pub mod LineSteps

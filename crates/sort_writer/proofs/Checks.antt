@@ -16,7 +16,7 @@ use Rattle.resolved_sort.specs.Checks.{Check, firstFailing, sortChecks, withinL
 use Rattle.resolved_sort.specs.Entries.{testedOf, orElse, treeAt}
 use Rattle.resolved_sort.proofs.Interned.{Listed}
 use Rattle.resolved_sort.proofs.FirstFailing.{first-fails, first-passes, append-fails, append-passes, cons-passes}
-use Rattle.sort_entries.proofs.Laws.{refused-is, passed-is}
+use Rattle.resolved_sort.proofs.Testing.{refused-is, passed-is}
 use Rattle.sort_text.specs.declared.Written.the-variants.{Refused as NotWritten, Text}
 use Rattle.sort_text.specs.Text.{writable, text}
 use Rattle.sort_text.specs.Writing.{writeChecks, writeLeft, writing}

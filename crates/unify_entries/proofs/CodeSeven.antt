@@ -1,9 +1,9 @@
 -- The entry refuses with 7 exactly if checks 1 to 6 pass and some variable reaches itself. Seven is the number of one check, the seventh, so the entry
 -- gives it exactly where the six before it pass and that one fails; and it fails exactly where a variable reaches itself, as long as 1, 3, 5 and 6
 -- pass. Nothing is asked of how long the words lent are. Assumes nothing.
-use mathlib.Core.Path.{_≡_, refl, ap, sym, _∙_}
-use mathlib.Core.Bool.{Bool, true, false, _&&_, and-eq-true-iff}
-use mathlib.Core.List.{List, _∷_, _++_}
+use mathlib.Core.Path.{_≡_, ap, sym, _∙_}
+use mathlib.Core.Bool.{true, false, _&&_, and-eq-true-iff}
+use mathlib.Core.List.{List}
 use mathlib.Core.Logic.{_↔_}
 use mathlib.Core.Option.{Option, none, some}
 use Prim.Native.Nat.{ℕ}
@@ -11,7 +11,7 @@ use native.Mathlib.Omega.{arith}
 use lib.ListN.{take}
 use Rattle.resolved_sort.specs.Checks.{withinLent, Check, firstFailing}
 use Rattle.resolved_sort.specs.Entries.{orElse}
-use Rattle.resolved_sort.proofs.FirstFailing.{first-fails, first-passes, append-fails, append-passes, cons-passes}
+use Rattle.resolved_sort.proofs.FirstFailing.{cons-passes}
 use Rattle.unification.specs.declared.Unified.the-variants.{Refused}
 use Rattle.unification.specs.Nodes.{shapeAt, bindsOf}
 use Rattle.unification.specs.Acyclic.{acyclic}
@@ -21,34 +21,8 @@ use Rattle.unification.specs.UnifyEntry.{unifyEntry, codeUnified}
 use Rattle.unification.proofs.Cycle.{Cyclic}
 use Rattle.unification.proofs.Theorem.{check-7-exactly}
 use Rattle.unification.proofs.Passed.{length-binds, passed-fine}
-use Rattle.unify_entries.proofs.Codes.{EachNumber, failing-number, code-of-unified}
-
--- a check whose number no other has: it is the first that fails exactly if those before it pass and it fails
-module _ (xs : List Check) (k : Check) (ys : List Check) where
-  abbrev pub Other : ℕ → Type 0
-  Other c = c ≡ k .code → ⊥
-
-  module _ (before : EachNumber Other xs) (behind : EachNumber Other ys) where
-    first-passed : firstFailing (xs ++ (k ∷ ys)) ≡ some (k .code) → firstFailing xs ≡ none
-    first-passed e = go (firstFailing xs) refl
-      where
-        go : (o : Option ℕ) → firstFailing xs ≡ o → o ≡ none
-        go none x = refl
-        go (some c) x =
-            let y : some c ≡ some (k .code) = sym (append-fails xs (k ∷ ys) c x) ∙ e in
-            let z : c ≡ k .code = cc in
-            absurd (failing-number Other xs c before x z)
-
-    this-fails : firstFailing (k ∷ ys) ≡ some (k .code) → k .passes ≡ false
-    this-fails e = go (k .passes) refl
-      where
-        go : (b : Bool) → k .passes ≡ b → b ≡ false
-        go true x = absurd (failing-number Other ys (k .code) behind (sym (first-passes k ys x) ∙ e) refl)
-        go false x = refl
-
-    pub fails-first : (firstFailing (xs ++ (k ∷ ys)) ≡ some (k .code)) ↔ ((firstFailing xs ≡ none) × (k .passes ≡ false))
-    fails-first =
-        (λ e. let p = first-passed e in (p, this-fails (sym (append-passes xs (k ∷ ys) p) ∙ e)), λ h. append-passes xs (k ∷ ys) (h .0) ∙ first-fails k ys (h .1))
+use Rattle.unify_entries.proofs.Codes.{code-of-unified}
+use Rattle.resolved_sort.proofs.FailingNumber.{go, fails-first}
 
 module _ (ws : List ℕ) (n e : ℕ) (ns : List ℕ) (m d : ℕ) (bs : List ℕ) (v l r : ℕ) where
   abbrev failing : Option ℕ

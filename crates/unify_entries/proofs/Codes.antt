@@ -1,13 +1,12 @@
 -- Document 01's number of unify's answer: the first failing check's, else 0 for a yes and for a no. The packed answer is that number, with 256
 -- for a yes; as the checks have the numbers 1 to 14, it tells a no, a yes and every refusal apart. By the cases of the first failing check
 -- and of the answers. Assumes nothing.
-use mathlib.Core.Path.{_≡_, refl, ap, subst}
-use mathlib.Core.Bool.{Bool, true, false, cond}
-use mathlib.Core.List.{List, [], _∷_}
+use mathlib.Core.Path.{_≡_, refl, ap}
+use mathlib.Core.List.{List}
 use mathlib.Core.Option.{Option, none, some}
-use Prim.Native.Nat.{ℕ, _+_, _*_, _≤_}
+use Prim.Native.Nat.{ℕ, _+_, _*_}
 use native.Mathlib.Omega.{arith}
-use Rattle.resolved_sort.specs.Checks.{Check, firstFailing}
+use Rattle.resolved_sort.specs.Checks.{firstFailing}
 use Rattle.resolved_sort.specs.Entries.{orElse}
 use Rattle.unification.specs.declared.Unified.{Unified}
 use Rattle.unification.specs.declared.Unified.the-variants.{Refused, Yes, No}
@@ -16,25 +15,7 @@ use Rattle.unification.specs.Unify.{Unifies, yes-with, no-way, too-deep, unify}
 use Rattle.unification.specs.NodeChecks.{nodeChecks, placeChecks, unifyChecks}
 use Rattle.unification.specs.Checked.{listsOf}
 use Rattle.unification.specs.UnifyEntry.{Left, left, leftBy, unifyEntry, codeUnified, packUnified}
-
--- the numbers of checks
-abbrev pub Numbered : ℕ → Type 0
-Numbered c = (1 ≤ c) × (c ≤ 14)
-
--- what holds of the number of each check holds of the one that fails
-module _ (P : ℕ → Type 0) where
-  abbrev pub EachNumber : List Check → Type 0
-  EachNumber [] = Unit {0}
-  EachNumber (c ∷ cs) = P (c .code) × EachNumber cs
-
-  pub failing-number : (cs : List Check) (c : ℕ) → EachNumber cs → firstFailing cs ≡ some c → P c
-  unfolding firstFailing
-  failing-number [] c h e = let z : _≡_ {A = ℕ} 0 1 = cc in absurd (omega arith)
-  failing-number (k ∷ cs) c h e = go (k .passes) e (failing-number cs c (h .1))
-    where
-      go : (b : Bool) → cond b (firstFailing cs) (some (k .code)) ≡ some c → (firstFailing cs ≡ some c → P c) → P c
-      go true e ih = ih e
-      go false e ih = let z : k .code ≡ c = cc in subst P z (h .0)
+use Rattle.resolved_sort.proofs.FailingNumber.{Numbered, failing-number, go}
 
 -- a refusal has the number of a check
 abbrev pub Told : Unified → Type 0

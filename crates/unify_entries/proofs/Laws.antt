@@ -11,11 +11,11 @@ use lib.Dec.{leb}
 use borrow.Author.Tests.{not-true, not-false, leb-true, le-leb, lt-leb}
 use Rattle.resolved_sort.specs.declared.Tested.{Tested}
 use Rattle.resolved_sort.specs.declared.Tested.the-variants.{Refused, Passed}
-use Rattle.resolved_sort.specs.Storage.{maxSorts, maxEntries, entriesAt, fullLength}
+use Rattle.resolved_sort.specs.Storage.{maxSorts, maxEntries, fullLength}
 use Rattle.resolved_sort.specs.Checks.{withinLent, fixedSix, rowsFine, noTwoEqual, atCeiling, Check, firstFailing, sortChecks}
 use Rattle.resolved_sort.specs.Entries.{testedOf, orElse}
-use Rattle.resolved_sort.proofs.FirstFailing.{first-fails, first-passes, append-fails, append-passes, cons-passes}
-use Rattle.sort_entries.proofs.Laws.{refused-is, passed-is}
+use Rattle.resolved_sort.proofs.FirstFailing.{first-fails, first-passes, cons-passes}
+use Rattle.resolved_sort.proofs.Testing.{refused-is, passed-is, fails, passes, first-refuses, second-decides, first-of-two, second-of-two, both-of-two}
 use Rattle.unification.specs.declared.Lengths.{Lengths}
 use Rattle.unification.specs.declared.Tried.{Tried}
 use Rattle.unification.specs.declared.Tried.the-variants.{Yes as TriedYes, No as TriedNo}
@@ -25,49 +25,14 @@ use Rattle.unification.specs.Nodes.{maxNodes, maxNodeEntries, maxVars, nodeEntr
 use Rattle.unification.specs.Unify.{Unifies, yes-with, unify}
 use Rattle.unification.specs.Acyclic.{acyclic}
 use Rattle.unification.specs.NodeChecks.{nodesWithinLent, bindingsWithinLent, nodesFine, bindingsFine, nodeChecks, placeChecks, unifyChecks}
-use Rattle.unification.specs.Checked.{NodesChecked, listsOf, Ready}
+use Rattle.unification.specs.Checked.{listsOf, Ready}
 use Rattle.unification.specs.Trail.{undo, frees, Tries}
 use Rattle.unification.specs.UnifyEntry.{wordsOf, Left, left, leftBy, unifyEntry}
 use Rattle.unification.proofs.BindingWords.{words-of-binds}
 use Rattle.unification.proofs.Equations.{frees-few}
-use Rattle.unification.proofs.Theorem.{binds-checked}
 use Rattle.unification.proofs.Passed.{length-binds, two-ceilings, passed-ready}
 use Rattle.unification.proofs.Passed as passed
 use Rattle.unifier.specs.Trying.{Trying}
-
--- one test: b, negated, is what an `if` asks, and x what the check says
-module _ (b x : Bool) (e : b ≡ x) (code : ℕ) (cs : List Check) where
-  abbrev check : Check
-  check = record { code = code; passes = x }
-
-  pub fails : not b ≡ true → Refused code ≡ testedOf (firstFailing (check ∷ cs))
-  fails h = ap testedOf (sym (first-fails check cs (sym e ∙ not-true b h)))
-
-  pub passes : not b ≡ false → (t : Tested) → t ≡ testedOf (firstFailing cs) → t ≡ testedOf (firstFailing (check ∷ cs))
-  passes h t y = y ∙ ap testedOf (sym (first-passes check cs (sym e ∙ not-false b h)))
-
-pub none-left : Passed ≡ testedOf (firstFailing [])
-unfolding firstFailing
-none-left = refl
-
--- tests one after another: those of cs have been found to come to t
-module _ (cs ds : List Check) (t : Tested) (e : t ≡ testedOf (firstFailing cs)) where
-  pub first-refuses : (c : ℕ) → t ≡ Refused c → Refused c ≡ testedOf (firstFailing (cs ++ ds))
-  first-refuses c r = ap testedOf (sym (append-fails cs ds c (refused-is _ t c e r)))
-
-  pub second-decides : t ≡ Passed → (u : Tested) → u ≡ testedOf (firstFailing ds) → u ≡ testedOf (firstFailing (cs ++ ds))
-  second-decides p u y = y ∙ ap testedOf (sym (append-passes cs ds (passed-is _ t e p)))
-
--- 12 and 14, each two tests
-module _ (x y : Bool) where
-  pub first-of-two : not x ≡ true → not (x && y) ≡ true
-  first-of-two h = ap (λ z. not (z && y)) (not-true x h)
-
-  pub second-of-two : not x ≡ false → not y ≡ true → not (x && y) ≡ true
-  second-of-two h k = ap₂ (λ a b. not (a && b)) (not-false x h) (not-true y k)
-
-  pub both-of-two : not x ≡ false → not y ≡ false → not (x && y) ≡ false
-  both-of-two h k = ap₂ (λ a b. not (a && b)) (not-false x h) (not-false y k)
 
 module _ (ws : List ℕ) (n : ℕ) (ns : List ℕ) (m l r : ℕ) where
   abbrev fourteen : Check

@@ -1,14 +1,12 @@
 // The entry unify. It takes the lent sort and node storage, the bindings and their counts, tests them itself, and has no
 // `requires`: whatever a caller hands in, the answer and the bindings at exit are the defined ones.
-use acyclic::acyclic;
-use node_checks::bindings_fine;
 use node_checks::bindings_within_lent;
 use node_checks::is_place;
-use node_checks::nodes_fine;
 use node_checks::nodes_within_lent;
+use node_checks::test_nodes;
 use resolved_sort::Tested;
-use sort_entries::test_sorts;
-use sort_interner::within_lent;
+use sort_checks::test_sorts;
+use sort_checks::within_lent;
 use unification::InferSortId;
 use unification::Lengths;
 use unification::Tried;
@@ -16,7 +14,7 @@ use unification::Unified;
 use unifier::undo;
 ghost use mathlib.Core.Path.{_≡_};
 ghost use mathlib.Core.List.{_++_};
-ghost use Prim.Native.Nat.{ℕ, _≤_};
+ghost use Prim.Native.Nat.{_≤_};
 ghost use Rattle.resolved_sort.specs.Checks.{firstFailing};
 ghost use Rattle.resolved_sort.specs.Entries.{testedOf};
 ghost use Rattle.unification.specs.Nodes.{maxNodes, maxVars, bindsOf};
@@ -24,30 +22,6 @@ ghost use Rattle.unification.specs.Unify.{unify as unifyOf};
 ghost use Rattle.unification.specs.NodeChecks.{nodeChecks, placeChecks, unifyChecks};
 ghost use Rattle.unification.specs.Checked.{graphOf, Ready, Placed};
 ghost use Rattle.unification.specs.UnifyEntry.{left, leftBy, unifyEntry, packUnified, packed, packLeft};
-
-// Checks 5 to 7: the first that fails.
-pub fn test_nodes(
-    sort_count: usize,
-    nodes: &[u16],
-    node_count: usize,
-    node_entry_count: usize,
-    binds: &[u16],
-    var_count: usize,
-) -> Tested
-    requires { ⌜ («node_count» ≤ maxNodes) × («var_count» ≤ maxVars) ⌝ }
-    ensures { λ r. ⌜ r ≡ testedOf (firstFailing (nodeChecks (now (nodes .entry)) «node_count» «node_entry_count» «sort_count» (now (binds .entry)) «var_count»)) ⌝ }
-{
-    if !nodes_fine(nodes, node_count, node_entry_count, sort_count, var_count) {
-        return Tested::Refused(5);
-    }
-    if !bindings_fine(binds, var_count, sort_count, node_count) {
-        return Tested::Refused(6);
-    }
-    if !acyclic(nodes, node_count, binds, var_count) {
-        return Tested::Refused(7);
-    }
-    Tested::Passed
-}
 
 // Checks 12 and 14: the first that fails.
 fn test_places(

@@ -1,7 +1,7 @@
 -- The slices that are told are copies of the parts of the list, lent as far as it tells. Assumes nothing.
 use Prim.Native.Nat.{ℕ}
 use Rattle.list_answers.proofs.Telling as law
-use Rattle.list_asking.proofs.Lists as list
+use Rattle.list_call.proofs.Lists as list
 use lib.ListN.{length-replicate}
 use native.Mathlib.Omega.{arith}
 use borrow.Author.Needs.{needs}

@@ -1,7 +1,6 @@
 -- Each answer by the tests that led to it. Assumes nothing.
 use borrow.Author.Needs.{needs}
 use borrow.Author.Tests.{lt-ltb, le-ltb, eq-eqb, ne-eqb, not-true, not-false}
-use borrow.Author.Tests.{lt-ltb, le-ltb, eq-eqb, ne-eqb}
 use Rattle.list_forms.specs.Items.{functionFits}
 use Rattle.list_forms.proofs.function_fits.Statement.{statement}
 use Rattle.list_forms.proofs.function_fits.Tie as tie

@@ -2,9 +2,7 @@
 use borrow.Author.Needs.{needs}
 use lib.ListN.{List·getD-eq-default}
 use mathlib.Core.Path.{refl, sym, _∙_}
-use mathlib.Core.Path.{refl}
-use Rattle.list_memory.specs.Memory.{ceilingOf}
-use Rattle.list_memory.specs.Memory.{ceilings}
+use Rattle.list_memory.specs.Memory.{ceilingOf, ceilings}
 use Rattle.list_reader.proofs.ceiling_of.Statement.{statement}
 use Rattle.list_reader.proofs.ceiling_of.Tie as tie
 

@@ -2,9 +2,7 @@
 use borrow.Author.Needs.{needs}
 use lib.ListN.{List·getD-eq-default}
 use mathlib.Core.Path.{refl, sym, _∙_}
-use mathlib.Core.Path.{refl}
-use Rattle.list_memory.specs.Memory.{startOf}
-use Rattle.list_memory.specs.Memory.{starts}
+use Rattle.list_memory.specs.Memory.{startOf, starts}
 use Rattle.list_reader.proofs.start_word.Statement.{statement}
 use Rattle.list_reader.proofs.start_word.Tie as tie
 

@@ -2,10 +2,8 @@
 use borrow.Author.Needs.{needs}
 use lib.ListN.{List·getD-eq-default}
 use mathlib.Core.Path.{refl, sym, _∙_}
-use mathlib.Core.Path.{refl}
 use native.Mathlib.Omega.{arith}
-use Rattle.list_memory.specs.Memory.{widthOf}
-use Rattle.list_memory.specs.Memory.{widths}
+use Rattle.list_memory.specs.Memory.{widthOf, widths}
 use Rattle.list_reader.proofs.Rows as law
 use Rattle.list_reader.proofs.width_of.Statement.{statement}
 use Rattle.list_reader.proofs.width_of.Tie as tie

@@ -2,7 +2,7 @@
 use Prim.Native.Nat.{_-_, _≤_}
 use Rattle.node_checks.specs.Tests.{argPlaced}
 use Rattle.resolved_sort.specs.Checks.{allBelow}
-use Rattle.sort_interner.proofs.Below as below
+use Rattle.sort_checks.proofs.Below as below
 use Rattle.unification.specs.Nodes.{isPlace}
 use borrow.Author.Needs.{needs}
 use borrow.Author.Tests.{not-true, not-false}

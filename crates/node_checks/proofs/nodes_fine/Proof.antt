@@ -1,7 +1,7 @@
 -- The invariant: every node passed is fine. Assumes nothing.
 use Prim.Native.Nat.{_-_, _≤_}
 use Rattle.resolved_sort.specs.Checks.{allBelow}
-use Rattle.sort_interner.proofs.Below as below
+use Rattle.sort_checks.proofs.Below as below
 use Rattle.unification.specs.NodeChecks.{nodeFine, nodesFine}
 use borrow.Author.Needs.{needs}
 use borrow.Author.Tests.{not-true, not-false}

@@ -1,5 +1,5 @@
 -- The sign by the order. Assumes nothing.
-use Rattle.sort_text.specs.PairProgram.{sign, comma}
+use Rattle.pair_line.specs.PairProgram.{sign, comma}
 use Rattle.sort_writer.proofs.Puts.{put-as}
 use borrow.Author.Needs.{needs}
 use mathlib.Core.List.{[], _∷_}

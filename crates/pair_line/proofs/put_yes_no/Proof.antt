@@ -1,6 +1,6 @@
 -- By the test. Assumes nothing.
 use Rattle.pair_line.specs.Answers.{withLf}
-use Rattle.sort_text.specs.PairProgram.{yesOrNo}
+use Rattle.pair_line.specs.PairProgram.{yesOrNo}
 use Rattle.sort_writer.proofs.Puts.{put-as}
 use borrow.Author.Needs.{needs}
 use lib.ListN.{length}

@@ -1,5 +1,5 @@
 -- The last line of output has room. What `read` and `write` answer is what the C library's contracts say; nothing else is assumed.
-use Rattle.pair_lines.proofs.Ways as law
+use Rattle.pair_input.proofs.Ways as law
 use borrow.Author.Needs.{needs}
 use mathlib.Core.Path.{sym}
 use lib.Seq.{length-take-le}

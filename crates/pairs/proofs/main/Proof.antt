@@ -1,5 +1,5 @@
 -- Nothing is held at first, and memory and buffer are long enough. Assumes nothing.
-use Rattle.pair_lines.proofs.Ways as law
+use Rattle.pair_input.proofs.Ways as law
 use borrow.Author.Needs.{needs}
 use native.Mathlib.Omega.{arith}
 use Rattle.pairs.proofs.main.Statement.{statement}

@@ -1,6 +1,6 @@
 -- The invariant: what is held is held, and memory and buffer keep their lengths. The measure is the number of turns left.
 -- What `read` and `write` answer is what the C library's contracts say; nothing else is assumed.
-use Rattle.pair_lines.specs.Held.{Holds}
+use Rattle.pair_input.specs.Held.{Holds}
 use borrow.Author.Needs.{needs}
 use lib.ListN.{length}
 use mathlib.Core.Path.{_≡_, refl, _∙_}

@@ -1,15 +1,14 @@
 -- The invariant: what is held is what the part taken leaves, the part taken is within the bytes, and memory and buffer keep their lengths. The measure is what is left of
 -- the bytes, of which each turn takes at least one. What `read` and `write` answer is what the C library's contracts say; nothing else is assumed.
 use Prim.Native.Nat.{_-_, _≤_}
-use Rattle.pair_lines.proofs.Ways as law
-use Rattle.pair_lines.specs.ByteByByte.{takeBytes}
-use Rattle.pair_lines.specs.Held.{linesOf, Holds}
+use Rattle.pair_input.proofs.Ways as law
+use Rattle.pair_input.specs.ByteByByte.{takeBytes}
+use Rattle.pair_input.specs.Held.{linesOf, Holds}
 use Rattle.resolved_sort.proofs.Numbers.{true-not-false}
 use borrow.Author.Needs.{needs}
 use lib.ListN.{length, take, drop, length-take, length-drop}
 use mathlib.Core.Bool.{true, false}
-use mathlib.Core.Path.{_≡_, refl, ap, _∙_}
-use mathlib.Core.Path.{sym}
+use mathlib.Core.Path.{_≡_, refl, ap, _∙_, sym}
 use lib.Seq.{length-take-le}
 use native.Mathlib.Omega.{arith}
 use Rattle.pairs.proofs.take_bytes.Statement.{statement}

@@ -6,7 +6,7 @@ use Prim.Native.Nat.{_-_, _≤_}
 use native.Mathlib.Omega.{arith}
 use borrow.Author.Tests.{not-true, not-false}
 use Rattle.resolved_sort.specs.Checks.{allBelow}
-use Rattle.sort_interner.proofs.Below as below
+use Rattle.sort_checks.proofs.Below as below
 use Rattle.inference.specs.SolveChecks.{namesFine}
 use Rattle.solve_checks.specs.Calls.{partOf}
 use Rattle.solve_checks.specs.Tests.{nameFine}

@@ -8,7 +8,7 @@ use lib.Dec.{leb}
 use borrow.Author.Needs.{needs}
 use borrow.Author.Tests.{not-true, not-false, le-leb, lt-leb}
 use Rattle.resolved_sort.specs.Checks.{allBelow}
-use Rattle.sort_interner.proofs.Below as below
+use Rattle.sort_checks.proofs.Below as below
 use Rattle.inference.specs.SolveChecks.{overloadFine}
 use Rattle.solve_checks.specs.Calls.{partOf}
 use Rattle.solve_checks.proofs.Fine as fine

@@ -9,7 +9,7 @@ use borrow.Author.Needs.{needs}
 use borrow.Author.Tests.{not-true, not-false, le-leb, lt-leb}
 use Rattle.resolved_sort.specs.Checks.{allBelow}
 use Rattle.unification.specs.Nodes.{isPlace}
-use Rattle.sort_interner.proofs.Below as below
+use Rattle.sort_checks.proofs.Below as below
 use Rattle.inference.specs.SolveChecks.{placed}
 use Rattle.solve_checks.specs.Calls.{partOf}
 use Rattle.solve_checks.specs.Tests.{sourceFine}

@@ -6,9 +6,9 @@ use Rattle.solve_entries.proofs.search.Statement.{statement}
 use Rattle.solve_entries.proofs.search.Tie as tie
 use Rattle.solve_entries.proofs.search.Reads as reads
 use Rattle.solve_entries.proofs.search.Lts as lts
-use Rattle.solve_finish.proofs.finish.Reads as finish-reads
-use Rattle.solve_finish.proofs.no_incumbent.Reads as no-incumbent-reads
-use Rattle.solve_finish.proofs.nothing_taken.Reads as nothing-taken-reads
+use Rattle.solve_outputs.proofs.finish.Reads as finish-reads
+use Rattle.solve_outputs.proofs.no_incumbent.Reads as no-incumbent-reads
+use Rattle.solve_outputs.proofs.nothing_taken.Reads as nothing-taken-reads
 use Rattle.solver.proofs.solve.Reads as solve-reads
 
 no-incumbent-requires : tie.Need-no-incumbent-requires

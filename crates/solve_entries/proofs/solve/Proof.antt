@@ -1,13 +1,13 @@
 -- `solve` meets its contract: the first failing check, or what the search comes to. Assumes nothing.
 use Rattle.solve_entries.proofs.Laws as law
-use Rattle.solve_finish.specs.Begin.{outsOf}
+use Rattle.solve_outputs.specs.Begin.{outsOf}
 use borrow.Author.Needs.{needs}
 use Rattle.solve_entries.proofs.solve.Statement.{statement}
 use Rattle.solve_entries.proofs.solve.Tie as tie
 use Rattle.solve_entries.proofs.solve.Reads as reads
 use Rattle.solve_entries.proofs.solve.Lts as lts
 use Rattle.solve_entries.proofs.solve_passed.Reads as solve-passed-reads
-use Rattle.solve_tests.proofs.test_solve.Reads as test-solve-reads
+use Rattle.solve_checks.proofs.test_solve.Reads as test-solve-reads
 
 test-solve-requires : tie.Need-test-solve-requires
 test-solve-requires c κs = search needs

@@ -7,8 +7,8 @@ use Rattle.solve_entries.proofs.solve_passed.Reads as reads
 use Rattle.solve_entries.proofs.solve_passed.Lts as lts
 use Rattle.problem_words.proofs.pack.Reads as pack-reads
 use Rattle.solve_entries.proofs.search.Reads as search-reads
-use Rattle.solve_finish.proofs.lengths_of.Reads as lengths-of-reads
-use Rattle.solve_finish.proofs.sizes_of.Reads as sizes-of-reads
+use Rattle.solve_outputs.proofs.lengths_of.Reads as lengths-of-reads
+use Rattle.solve_outputs.proofs.sizes_of.Reads as sizes-of-reads
 
 lengths-of-requires : tie.Need-lengths-of-requires
 lengths-of-requires c κs = law.lengths-fit _ _ _ _ _ _ _ _ _ _ _ _ _ (c .before .before .before .before .before .before .before .before .before .before .before .before .pre)

@@ -6,7 +6,7 @@ use Rattle.solve_entries.proofs.sort_solve.Tie as tie
 use Rattle.solve_entries.proofs.sort_solve.Reads as reads
 use Rattle.solve_entries.proofs.sort_solve.Lts as lts
 use Rattle.solve_entries.proofs.solve.Reads as solve-reads
-use Rattle.solve_finish.proofs.pack_solved.Reads as pack-solved-reads
+use Rattle.solve_outputs.proofs.pack_solved.Reads as pack-solved-reads
 
 solve-requires : tie.Need-solve-requires
 solve-requires c κs = search needs

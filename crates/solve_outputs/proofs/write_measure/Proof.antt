@@ -2,8 +2,9 @@
 use mathlib.Core.Path.{_∙_}
 use native.Mathlib.Omega.{arith}
 use borrow.Author.Needs.{needs}
-use Rattle.search_state.specs.Memory.{part, bestMeasureAt}
-use Rattle.search_state.proofs.Parts.{length-part}
+use Rattle.search_state.specs.Memory.{bestMeasureAt}
+use Rattle.words.specs.Words.{part}
+use Rattle.words.proofs.Parts.{length-part}
 use Rattle.solve_outputs.proofs.Over.{stored-is-over}
 use Rattle.solve_outputs.proofs.write_measure.Statement.{statement}
 use Rattle.solve_outputs.proofs.write_measure.Tie as tie

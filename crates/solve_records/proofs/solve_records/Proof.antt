@@ -47,8 +47,8 @@ use Rattle.solve_checks.specs.declared.Given.{Given}
 use Rattle.solve_checks.proofs.Given as G
 use Rattle.solve_checks.proofs.Given.Laws as G′
 use Rattle.inference.specs.SolveEntry.{solveEntry}
-use Rattle.solve_finish.specs.Begin.{callWith}
-use Rattle.solve_finish.specs.Finish.{leftOf}
+use Rattle.solve_outputs.specs.Begin.{callWith}
+use Rattle.solve_outputs.specs.Finish.{leftOf}
 use Rattle.solve_records.specs.declared.OverloadRecord.{OverloadRecord}
 use Rattle.solve_records.specs.Records.{unpacked, wordsOfCount}
 use Rattle.solve_records.proofs.Frames.{at, full, releases, nest, opened, closed, fopened, fclosed}

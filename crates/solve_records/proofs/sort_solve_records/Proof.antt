@@ -39,8 +39,8 @@ use denote.Triple.Walked.{says, Stays, stay-none, stay-none-slice, gave-slice, w
 use denote.Exit.{yes}
 use denote.Signature.{plain}
 use Rattle.inference.specs.SolveEntry.{solveEntry}
-use Rattle.solve_finish.specs.Begin.{callWith}
-use Rattle.solve_finish.specs.Packed.{packed, packLeft}
+use Rattle.solve_outputs.specs.Begin.{callWith}
+use Rattle.solve_outputs.specs.Packed.{packed, packLeft}
 use Rattle.solve_entries.specs.Given.{givenOf as countsOf}
 use Rattle.solve_records.specs.declared.OverloadRecord.{OverloadRecord}
 use Rattle.solve_records.specs.Records.{unpacked, wordsOfCount}

@@ -13,7 +13,7 @@ use Rattle.sort_order.proofs.+domain_cmp+partial_cmp.Lts-domain_cmp as 
 use Rattle.sort_order.proofs.partial_cmp.Reads as partial-cmp
 use Rattle.sort_order.proofs.partial_cmp.Kinds as partial-cmp-kinds
 use Rattle.sort_order.proofs.+domain_cmp+partial_cmp.Lts-partial_cmp as partial-cmp-lts
-use Rattle.sort_interner.proofs.word.Reads as word-reads
+use Rattle.words.proofs.word.Reads as word-reads
 use Rattle.sort_order.proofs.combine.Reads as combine-reads
 use Rattle.sort_order.proofs.generic_op_partial_cmp.Reads as generic-op-partial-cmp-reads
 use Rattle.sort_order.proofs.pair.Reads as pair-reads

@@ -13,7 +13,7 @@ use Rattle.sort_order.proofs.+domain_distance+widening_distance.Lts-dom
 use Rattle.sort_order.proofs.widening_distance.Reads as widening-distance
 use Rattle.sort_order.proofs.widening_distance.Kinds as widening-distance-kinds
 use Rattle.sort_order.proofs.+domain_distance+widening_distance.Lts-widening_distance as widening-distance-lts
-use Rattle.sort_interner.proofs.word.Reads as word-reads
+use Rattle.words.proofs.word.Reads as word-reads
 use Rattle.sort_order.proofs.op_distance.Reads as op-distance-reads
 use Rattle.sort_order.proofs.pair.Reads as pair-reads
 use Rattle.sort_order.proofs.plus.Reads as plus-reads

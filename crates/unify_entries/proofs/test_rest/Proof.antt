@@ -1,5 +1,5 @@
 -- One after the other. Assumes nothing.
-use Rattle.unify_entries.proofs.Laws as law
+use Rattle.resolved_sort.proofs.Testing as law
 use borrow.Author.Needs.{needs}
 use Rattle.unify_entries.proofs.test_rest.Statement.{statement}
 use Rattle.unify_entries.proofs.test_rest.Tie as tie

@@ -1,4 +1,4 @@
-use Prim.Native.Nat.{ℕ, _<_}
+use Prim.Native.Nat.{ℕ, _<_, _+_, _*_}
 use borrow.Fn.Kinds.{In}
 use borrow.Fn.PlainCycle.{Measures, is, falls, and}
 use Rattle.infer_nodes.proofs.occurs.Reads as occurs
@@ -12,7 +12,6 @@ use Rattle.infer_nodes.proofs.node.Reads as node-reads
 use Rattle.infer_nodes.proofs.shallow_normalize.Reads as shallow-normalize-reads
 use borrow.Author.Needs.{needs}
 use mathlib.Core.Path.{_≡_, refl, sym, ap, subst, _∙_}
-use Prim.Native.Nat.{_+_, _*_}
 use native.Mathlib.Omega.{arith}
 use Rattle.unification.specs.Nodes.{nodeEntriesOf, bindsOf}
 use Rattle.unification.specs.Unify.{occurs, deep}

@@ -1,4 +1,4 @@
-use Prim.Native.Nat.{ℕ, _<_}
+use Prim.Native.Nat.{ℕ, _<_, _+_, _-_}
 use borrow.Fn.Kinds.{In}
 use borrow.Fn.PlainCycle.{Measures, is, falls, and}
 use Rattle.related_sorts.proofs.push_functions.Reads as push-functions
@@ -7,7 +7,6 @@ use Rattle.related_sorts.proofs.+push_functions.Lts-push_functions as p
 use Rattle.related_sorts.proofs.push.Reads as push-reads
 use borrow.Author.Needs.{needs}
 use mathlib.Core.Path.{_≡_, refl, sym, ap, subst, _∙_}
-use Prim.Native.Nat.{_+_, _-_}
 use native.Mathlib.Omega.{arith}
 use lib.ListN.{take, replicate}
 use Rattle.related_sorts.proofs.Laws as law

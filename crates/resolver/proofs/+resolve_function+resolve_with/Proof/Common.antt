@@ -1,5 +1,5 @@
 -- The measures of the cycle: sizes of terms. A call for a part falls by the size; from a place to the function that stands there, of the same size, it falls by one.
-use Prim.Native.Nat.{ℕ, _<_}
+use Prim.Native.Nat.{ℕ, _<_, _+_, _*_}
 use borrow.Fn.Kinds.{In}
 use borrow.Fn.PlainCycle.{Measures, is, falls, and}
 use Rattle.resolver.proofs.resolve_function.Reads as resolve-function
@@ -7,7 +7,6 @@ use Rattle.resolver.proofs.resolve_function.Kinds as resolve-function-k
 use Rattle.resolver.proofs.resolve_with.Reads as resolve-with
 use Rattle.resolver.proofs.resolve_with.Kinds as resolve-with-kinds
 use mathlib.Core.List.{[], _∷_, _++_}
-use Prim.Native.Nat.{_+_, _*_}
 use Rattle.unification.specs.Term.{functionHead, app}
 use Rattle.unification.specs.Nodes.{nodeEntriesOf}
 use Rattle.unification.specs.Solutions.{termsAt}

@@ -1,14 +1,13 @@
 -- By a loop over the arguments, whose invariant is Going, and then the range: each answer is a law of Going. Assumes nothing.
-use Prim.Native.Nat.{ℕ}
+use Prim.Native.Nat.{ℕ, _-_}
 use Rattle.resolver.proofs.resolve_function.Reads as resolve-function
 use Rattle.resolver.proofs.+resolve_function+resolve_with.Lts-resolve_function as resolve-function-lts
 use Rattle.resolver.proofs.resolve_with.Reads as resolve-with
 use Rattle.infer_nodes.proofs.argument.Reads as argument-reads
 use Rattle.infer_nodes.proofs.with_counts.Reads as with-counts-reads
-use Rattle.sort_bounds.proofs.function.Reads as function-reads
+use Rattle.sort_interner.proofs.function.Reads as function-reads
 use borrow.Author.Needs.{needs}
 use mathlib.Core.Path.{_∙_}
-use Prim.Native.Nat.{_-_}
 use native.Mathlib.Omega.{arith}
 use Rattle.resolver.proofs.Going as going
 use Rattle.resolver.proofs.Going.{Going}

@@ -7,7 +7,7 @@ use Rattle.infer_nodes.proofs.node.Reads as node-reads
 use Rattle.infer_nodes.proofs.shallow_normalize.Reads as shallow-normalize-reads
 use Rattle.infer_nodes.proofs.counts_of.Reads as counts-of-reads
 use Rattle.resolver.proofs.free_sort.Reads as free-sort-reads
-use Rattle.sort_bounds.proofs.generic.Reads as generic-reads
+use Rattle.sort_interner.proofs.generic.Reads as generic-reads
 use borrow.Author.Needs.{needs}
 use mathlib.Core.Path.{_∙_}
 use native.Mathlib.Omega.{arith}

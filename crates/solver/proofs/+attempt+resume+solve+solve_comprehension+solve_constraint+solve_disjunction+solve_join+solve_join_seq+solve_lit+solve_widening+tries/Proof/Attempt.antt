@@ -1,15 +1,14 @@
-use Prim.Native.Nat.{ℕ}
+use Prim.Native.Nat.{ℕ, _-_}
 use Rattle.solver.proofs.attempt.Reads as attempt
 use Rattle.solver.proofs.+attempt+resume+solve+solve_comprehension+solve_constraint+solve_disjunction+solve_join+solve_join_seq+solve_lit+solve_widening+tries.Lts-attempt as attempt-lts
 use Rattle.solver.proofs.resume.Reads as resume
-use Rattle.search_tries.proofs.push.Reads as push-reads
-use Rattle.search_tries.proofs.unify_pairs.Reads as unify-pairs-reads
+use Rattle.search_steps.proofs.push.Reads as push-reads
+use Rattle.search_steps.proofs.unify_pairs.Reads as unify-pairs-reads
 use Rattle.unifier.proofs.undo.Reads as undo-reads
 use mathlib.Core.Path.{refl, ap, _∙_}
-use Prim.Native.Nat.{_-_}
 use native.Mathlib.Omega.{arith}
 use Rattle.unification.specs.Trail.{countOf}
-use Rattle.search_tries.proofs.Attempt as at
+use Rattle.search_steps.proofs.Attempt as at
 use Rattle.solver.proofs.+attempt+resume+solve+solve_comprehension+solve_constraint+solve_disjunction+solve_join+solve_join_seq+solve_lit+solve_widening+tries.Proof.Common.{attempt-at, resume-below}
 
 pub part : (M : Type 1) (t : ℕ) → attempt-lts.Closed (unify-pairs-reads.Asked, unify-pairs-reads.Learnt, push-reads.Asked, push-reads.Learnt, resume-below t, resume.Post, undo-reads.Asked, undo-reads.Learnt) (attempt-at t) attempt.Post M

@@ -1,5 +1,5 @@
 -- The measures of the cycle.
-use Prim.Native.Nat.{ℕ, _<_}
+use Prim.Native.Nat.{ℕ, _<_, _+_, _*_, _-_}
 use borrow.Fn.Kinds.{In}
 use borrow.Fn.PlainCycle.{Measures, is, falls, and}
 use Rattle.solver.proofs.attempt.Reads as attempt
@@ -24,7 +24,6 @@ use Rattle.solver.proofs.solve_widening.Reads as solve-widening
 use Rattle.solver.proofs.solve_widening.Kinds as solve-widening-kinds
 use Rattle.solver.proofs.tries.Reads as tries
 use Rattle.solver.proofs.tries.Kinds as tries-kinds
-use Prim.Native.Nat.{_+_, _*_, _-_}
 use Rattle.solver.proofs.Ways.{work}
 
 abbrev pub μ-attempt : Measures 5 attempt-kinds.ps ℕ

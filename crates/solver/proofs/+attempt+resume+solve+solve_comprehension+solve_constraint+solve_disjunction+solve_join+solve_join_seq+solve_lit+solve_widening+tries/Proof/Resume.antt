@@ -1,10 +1,9 @@
-use Prim.Native.Nat.{ℕ}
+use Prim.Native.Nat.{ℕ, _-_}
 use Rattle.solver.proofs.resume.Reads as resume
 use Rattle.solver.proofs.+attempt+resume+solve+solve_comprehension+solve_constraint+solve_disjunction+solve_join+solve_join_seq+solve_lit+solve_widening+tries.Lts-resume as resume-lts
 use Rattle.solver.proofs.solve.Reads as solve
 use Rattle.solver.proofs.solve_join_seq.Reads as solve-join-seq
 use mathlib.Core.Path.{ap}
-use Prim.Native.Nat.{_-_}
 use native.Mathlib.Omega.{arith}
 use Rattle.solver.proofs.Ways as law
 use Rattle.solver.proofs.Ways.{work}

@@ -1,13 +1,12 @@
-use Prim.Native.Nat.{ℕ}
+use Prim.Native.Nat.{ℕ, _-_}
 use Rattle.solver.proofs.solve.Reads as solve
 use Rattle.solver.proofs.+attempt+resume+solve+solve_comprehension+solve_constraint+solve_disjunction+solve_join+solve_join_seq+solve_lit+solve_widening+tries.Lts-solve as solve-lts
 use Rattle.solver.proofs.solve_constraint.Reads as solve-constraint
-use Rattle.problem_rows.proofs.constraint_at.Reads as constraint-at-reads
+use Rattle.problem_words.proofs.constraint_at.Reads as constraint-at-reads
 use Rattle.search_leaf.proofs.dominated.Reads as dominated-reads
 use Rattle.search_leaf.proofs.leaf.Reads as leaf-reads
 use Rattle.search_leaf.specs.Leaf.{IsDominated}
 use mathlib.Core.Path.{refl}
-use Prim.Native.Nat.{_-_}
 use native.Mathlib.Omega.{arith}
 use Rattle.solver.proofs.Solving as sv
 use Rattle.solver.proofs.+attempt+resume+solve+solve_comprehension+solve_constraint+solve_disjunction+solve_join+solve_join_seq+solve_lit+solve_widening+tries.Proof.Common.{solve-at, solve-constraint-below}

@@ -1,4 +1,4 @@
-use Prim.Native.Nat.{ℕ}
+use Prim.Native.Nat.{ℕ, _-_}
 use Rattle.solver.proofs.attempt.Reads as attempt
 use Rattle.solver.proofs.solve_comprehension.Reads as solve-comprehension
 use Rattle.solver.proofs.+attempt+resume+solve+solve_comprehension+solve_constraint+solve_disjunction+solve_join+solve_join_seq+solve_lit+solve_widening+tries.Lts-solve_comprehension as solve-comprehension-lts
@@ -9,7 +9,6 @@ use Rattle.search_steps.proofs.with_lengths.Reads as with-lengths-reads
 use Rattle.solver.proofs.reading_body.Reads as reading-body-reads
 use Rattle.solver.proofs.reading_op.Reads as reading-op-reads
 use mathlib.Core.Path.{_∙_}
-use Prim.Native.Nat.{_-_}
 use native.Mathlib.Omega.{arith}
 use Rattle.solver.proofs.Readings as re
 use Rattle.solver.proofs.+attempt+resume+solve+solve_comprehension+solve_constraint+solve_disjunction+solve_join+solve_join_seq+solve_lit+solve_widening+tries.Proof.Common.{attempt-below, solve-comprehension-at, solve-comprehension-below}

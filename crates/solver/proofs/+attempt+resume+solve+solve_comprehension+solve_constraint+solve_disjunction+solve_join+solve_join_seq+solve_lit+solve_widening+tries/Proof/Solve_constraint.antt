@@ -1,4 +1,4 @@
-use Prim.Native.Nat.{ℕ}
+use Prim.Native.Nat.{ℕ, _-_}
 use Rattle.solver.proofs.solve_comprehension.Reads as solve-comprehension
 use Rattle.solver.proofs.solve_constraint.Reads as solve-constraint
 use Rattle.solver.proofs.+attempt+resume+solve+solve_comprehension+solve_constraint+solve_disjunction+solve_join+solve_join_seq+solve_lit+solve_widening+tries.Lts-solve_constraint as solve-constraint-lts
@@ -6,7 +6,6 @@ use Rattle.solver.proofs.solve_disjunction.Reads as solve-disjunction
 use Rattle.solver.proofs.solve_join.Reads as solve-join
 use Rattle.solver.proofs.solve_lit.Reads as solve-lit
 use Rattle.solver.proofs.solve_widening.Reads as solve-widening
-use Prim.Native.Nat.{_-_}
 use native.Mathlib.Omega.{arith}
 use Rattle.solver.proofs.Solving as sv
 use Rattle.solver.proofs.+attempt+resume+solve+solve_comprehension+solve_constraint+solve_disjunction+solve_join+solve_join_seq+solve_lit+solve_widening+tries.Proof.Common.{solve-comprehension-below, solve-constraint-at, solve-disjunction-below, solve-join-below, solve-lit-below, solve-widening-below}

@@ -1,4 +1,4 @@
-use Prim.Native.Nat.{ℕ}
+use Prim.Native.Nat.{ℕ, _-_}
 use Rattle.solver.proofs.attempt.Reads as attempt
 use Rattle.solver.proofs.solve_disjunction.Reads as solve-disjunction
 use Rattle.solver.proofs.+attempt+resume+solve+solve_comprehension+solve_constraint+solve_disjunction+solve_join+solve_join_seq+solve_lit+solve_widening+tries.Lts-solve_disjunction as solve-disjunction-lts
@@ -6,7 +6,6 @@ use Rattle.problem_words.proofs.overload_place.Reads as overload-place-reads
 use Rattle.search_steps.proofs.after.Reads as after-reads
 use Rattle.search_steps.proofs.says.Reads as says-reads
 use mathlib.Core.Path.{ap, _∙_}
-use Prim.Native.Nat.{_-_}
 use native.Mathlib.Omega.{arith}
 use lib.ListN.{length, getD}
 use Rattle.search_state.specs.Memory.{chosenExprs}

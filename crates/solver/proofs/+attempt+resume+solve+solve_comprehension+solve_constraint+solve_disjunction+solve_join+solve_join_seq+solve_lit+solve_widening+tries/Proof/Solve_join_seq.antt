@@ -1,10 +1,9 @@
-use Prim.Native.Nat.{ℕ}
+use Prim.Native.Nat.{ℕ, _-_}
 use Rattle.solver.proofs.solve.Reads as solve
 use Rattle.solver.proofs.solve_join_seq.Reads as solve-join-seq
 use Rattle.solver.proofs.+attempt+resume+solve+solve_comprehension+solve_constraint+solve_disjunction+solve_join+solve_join_seq+solve_lit+solve_widening+tries.Lts-solve_join_seq as solve-join-seq-lts
 use Rattle.solver.proofs.solve_widening.Reads as solve-widening
 use Rattle.problem_words.proofs.source_at.Reads as source-at-reads
-use Prim.Native.Nat.{_-_}
 use native.Mathlib.Omega.{arith}
 use Rattle.solver.proofs.Joins as jo
 use Rattle.solver.proofs.+attempt+resume+solve+solve_comprehension+solve_constraint+solve_disjunction+solve_join+solve_join_seq+solve_lit+solve_widening+tries.Proof.Common.{solve-below, solve-join-seq-at, solve-widening-below}

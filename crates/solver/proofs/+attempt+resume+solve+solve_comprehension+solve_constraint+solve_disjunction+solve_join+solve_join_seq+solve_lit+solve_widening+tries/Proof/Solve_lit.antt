@@ -1,16 +1,15 @@
-use Prim.Native.Nat.{ℕ}
+use Prim.Native.Nat.{ℕ, _-_}
 use Rattle.solver.proofs.resume.Reads as resume
 use Rattle.solver.proofs.solve_lit.Reads as solve-lit
 use Rattle.solver.proofs.+attempt+resume+solve+solve_comprehension+solve_constraint+solve_disjunction+solve_join+solve_join_seq+solve_lit+solve_widening+tries.Lts-solve_lit as solve-lit-lts
 use Rattle.solver.proofs.tries.Reads as tries
 use Rattle.search_steps.proofs.lit_at.Reads as lit-at-reads
 use Rattle.search_steps.proofs.lit_tries.Reads as lit-tries-reads
-use Rattle.search_tries.proofs.push.Reads as push-reads
+use Rattle.search_steps.proofs.push.Reads as push-reads
 use mathlib.Core.Path.{refl, _∙_}
-use Prim.Native.Nat.{_-_}
 use native.Mathlib.Omega.{arith}
 use Rattle.search_state.specs.declared.Step.the-variants.{Component}
-use Rattle.search_tries.proofs.Attempt as at
+use Rattle.search_steps.proofs.Attempt as at
 use Rattle.solver.proofs.Literals as li
 use Rattle.solver.proofs.+attempt+resume+solve+solve_comprehension+solve_constraint+solve_disjunction+solve_join+solve_join_seq+solve_lit+solve_widening+tries.Proof.Common.{resume-below, solve-lit-at, tries-below}
 

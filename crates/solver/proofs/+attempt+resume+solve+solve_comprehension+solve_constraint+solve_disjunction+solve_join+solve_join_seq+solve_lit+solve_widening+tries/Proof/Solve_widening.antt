@@ -1,4 +1,4 @@
-use Prim.Native.Nat.{ℕ}
+use Prim.Native.Nat.{ℕ, _-_}
 use Rattle.solver.proofs.attempt.Reads as attempt
 use Rattle.solver.proofs.solve_widening.Reads as solve-widening
 use Rattle.solver.proofs.+attempt+resume+solve+solve_comprehension+solve_constraint+solve_disjunction+solve_join+solve_join_seq+solve_lit+solve_widening+tries.Lts-solve_widening as solve-widening-lts
@@ -7,7 +7,6 @@ use Rattle.search_steps.proofs.give_back.Reads as give-back-reads
 use Rattle.search_steps.proofs.widenings_of.Reads as widenings-of-reads
 use Rattle.search_steps.proofs.with_lengths.Reads as with-lengths-reads
 use mathlib.Core.Path.{_∙_}
-use Prim.Native.Nat.{_-_}
 use native.Mathlib.Omega.{arith}
 use Rattle.solver.proofs.Widening as wi
 use Rattle.solver.proofs.Told.{not-missed}

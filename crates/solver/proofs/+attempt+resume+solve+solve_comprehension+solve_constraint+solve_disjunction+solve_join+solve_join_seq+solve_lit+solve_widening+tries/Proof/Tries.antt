@@ -1,11 +1,10 @@
-use Prim.Native.Nat.{ℕ}
+use Prim.Native.Nat.{ℕ, _-_}
 use Rattle.solver.proofs.attempt.Reads as attempt
 use Rattle.solver.proofs.tries.Reads as tries
 use Rattle.solver.proofs.+attempt+resume+solve+solve_comprehension+solve_constraint+solve_disjunction+solve_join+solve_join_seq+solve_lit+solve_widening+tries.Lts-tries as tries-lts
 use Rattle.search_steps.proofs.try_component.Reads as try-component-reads
 use Rattle.search_steps.proofs.try_pairs.Reads as try-pairs-reads
 use mathlib.Core.Path.{_∙_}
-use Prim.Native.Nat.{_-_}
 use native.Mathlib.Omega.{arith}
 use Rattle.solver.proofs.Ways as law
 use Rattle.solver.proofs.Told.{not-missed}

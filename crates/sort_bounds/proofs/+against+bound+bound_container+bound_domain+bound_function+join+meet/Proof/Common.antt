@@ -1,5 +1,5 @@
 -- The measures of the cycle.
-use Prim.Native.Nat.{ℕ, _<_}
+use Prim.Native.Nat.{ℕ, _<_, _+_, _-_, _*_}
 use borrow.Fn.Kinds.{In}
 use borrow.Fn.PlainCycle.{Measures, is, falls, and}
 use Rattle.sort_bounds.proofs.against.Reads as against
@@ -26,13 +26,12 @@ use Rattle.sort_bounds.proofs.+against+bound+bound_container+bound_doma
 use Rattle.sort_bounds.proofs.argument.Reads as argument-reads
 use Rattle.sort_bounds.proofs.arguments.Reads as arguments-reads
 use Rattle.sort_bounds.proofs.bound_op.Reads as bound-op-reads
-use Rattle.sort_bounds.proofs.function.Reads as function-reads
-use Rattle.sort_bounds.proofs.generic.Reads as generic-reads
+use Rattle.sort_interner.proofs.function.Reads as function-reads
+use Rattle.sort_interner.proofs.generic.Reads as generic-reads
 use Rattle.sort_bounds.proofs.number_side.Reads as number-side-reads
 use Rattle.sort_bounds.proofs.part.Reads as part-reads
 use Rattle.sort_order.proofs.pair.Reads as pair-reads
 use mathlib.Core.Path.{_≡_, refl, sym, _∙_, ap}
-use Prim.Native.Nat.{_+_, _-_, _*_}
 use native.Mathlib.Omega.{arith}
 use borrow.Author.Needs.{needs}
 use Rattle.resolved_sort.proofs.BoundsCode as law

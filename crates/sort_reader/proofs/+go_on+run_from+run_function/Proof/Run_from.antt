@@ -1,5 +1,5 @@
 -- A step by its kind: the end, one of the six, a container, a function. Assumes nothing.
-use Prim.Native.Nat.{ℕ, _<_}
+use Prim.Native.Nat.{ℕ, _<_, _+_, _-_, _*_}
 use borrow.Fn.Kinds.{In}
 use borrow.Fn.PlainCycle.{Measures, is, falls, and}
 use Rattle.sort_reader.proofs.go_on.Reads as go-on
@@ -11,13 +11,12 @@ use Rattle.sort_reader.proofs.+go_on+run_from+run_function.Lts-run_from
 use Rattle.sort_reader.proofs.run_function.Reads as run-function
 use Rattle.sort_reader.proofs.run_function.Kinds as run-function-kinds
 use Rattle.sort_reader.proofs.+go_on+run_from+run_function.Lts-run_function as run-function-lts
-use Rattle.sort_bounds.proofs.function.Reads as function-reads
-use Rattle.sort_bounds.proofs.generic.Reads as generic-reads
+use Rattle.sort_interner.proofs.function.Reads as function-reads
+use Rattle.sort_interner.proofs.generic.Reads as generic-reads
 use Rattle.sort_reader.proofs.argument_count.Reads as argument-count-reads
 use Rattle.sort_reader.proofs.arguments.Reads as arguments-reads
 use Rattle.sort_reader.proofs.operator.Reads as operator-reads
 use mathlib.Core.Path.{_≡_, refl, sym, _∙_, ap, subst}
-use Prim.Native.Nat.{_+_, _-_, _*_}
 use native.Mathlib.Omega.{arith}
 use lib.ListN.{length, take, getD}
 use borrow.Author.Needs.{needs}

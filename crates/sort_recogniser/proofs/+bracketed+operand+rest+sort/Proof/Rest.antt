@@ -1,5 +1,5 @@
 -- `#`, `->` or neither. Assumes nothing.
-use Prim.Native.Nat.{ℕ, _<_}
+use Prim.Native.Nat.{ℕ, _<_, _+_, _-_, _*_, _≤_}
 use borrow.Fn.Kinds.{In}
 use borrow.Fn.PlainCycle.{Measures, is, falls, and}
 use Rattle.sort_recogniser.proofs.bracketed.Reads as bracketed
@@ -20,7 +20,6 @@ use Rattle.sort_recogniser.proofs.closing.Reads as closing-reads
 use Rattle.sort_recogniser.proofs.step_of_sort.Reads as step-of-sort-reads
 use mathlib.Core.Path.{_≡_, refl, sym, _∙_, ap}
 use mathlib.Core.List.{[], _∷_}
-use Prim.Native.Nat.{_+_, _-_, _*_, _≤_}
 use native.Mathlib.Omega.{arith}
 use lib.ListN.{length, length-set}
 use borrow.Author.Needs.{needs}

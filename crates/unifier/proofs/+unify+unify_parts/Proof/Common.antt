@@ -1,5 +1,5 @@
 -- The measures of the cycle.
-use Prim.Native.Nat.{ℕ, _<_}
+use Prim.Native.Nat.{ℕ, _<_, _+_, _-_, _*_}
 use borrow.Fn.Kinds.{In}
 use borrow.Fn.PlainCycle.{Measures, is, falls, and}
 use Rattle.unifier.proofs.unify.Reads as unify
@@ -18,7 +18,6 @@ use Rattle.unifier.proofs.bind_variables.Reads as bind-variables-reads
 use Rattle.unifier.proofs.both_sorts.Reads as both-sorts-reads
 use borrow.Author.Needs.{needs}
 use mathlib.Core.Path.{_≡_, refl, sym, ap, _∙_}
-use Prim.Native.Nat.{_+_, _-_, _*_}
 use native.Mathlib.Omega.{arith}
 use borrow.Author.Tests.{not-true, not-false}
 use Rattle.unification.specs.Nodes.{bindsOf}

@@ -1,3 +1,0 @@
--- The laws that the proofs of the code cite.
-pub mod Laws
-pub mod Growing

@@ -1,0 +1,53 @@
+-- Comma, expression, space and position. Assumes nothing.
+use Rattle.list_verdict.proofs.Puts as law
+use Rattle.list_verdict.specs.Text.{decimal, name, choice}
+use mathlib.Core.Path.{ap}
+use borrow.Author.Needs.{needs}
+use Rattle.list_verdict.proofs.put_choice.Statement.{statement}
+use Rattle.list_verdict.proofs.put_choice.Tie as tie
+
+mul-row : tie.Need-mul-row
+mul-row c = search needs
+
+put-comma-requires : tie.Need-put-comma-requires
+put-comma-requires c κs = search needs
+
+word-requires : tie.Need-word-requires
+word-requires c κs = search needs
+
+put-name-requires : tie.Need-put-name-requires
+put-name-requires c κs = search needs
+
+put-byte-requires : tie.Need-put-byte-requires
+put-byte-requires c κs = search needs
+
+add-word : tie.Need-add-word
+add-word c = search needs
+
+word-requires-2 : tie.Need-word-requires-2
+word-requires-2 c κs = search needs
+
+put-number-requires : tie.Need-put-number-requires
+put-number-requires c κs = search needs
+
+same-length : tie.Need-same-length
+same-length c = search needs
+
+returns : tie.Need-returns
+unfolding choice
+returns c = law.put-then (c .before .before .before .before .before .before .before .before .before .before .before .before .before .before .before .before .put-comma .ensures) (law.put-then (law.put-as (ap (name 101) (c .before .before .before .before .before .before .before .before .before .before .before .before .before .word .ensures)) (c .before .before .before .before .before .before .before .before .before .before .before .put-name .ensures)) (law.put-then (c .before .before .before .before .before .before .before .put-byte .ensures) (law.put-as (ap decimal (c .before .before .before .before .word2 .ensures)) (c .before .before .put-number .ensures))))
+
+pub put-choice-spec : {M : Type 1} → statement M
+put-choice-spec =
+    tie.close
+    (tie.spec
+    mul-row
+    put-comma-requires
+    word-requires
+    put-name-requires
+    put-byte-requires
+    add-word
+    word-requires-2
+    put-number-requires
+    same-length
+    returns)

@@ -1,0 +1,69 @@
+-- Name, sort, target and LF. Assumes nothing.
+use Rattle.list_verdict.proofs.Puts as law
+use Rattle.list_verdict.specs.Text.{sortText, targetText, exprLine}
+use mathlib.Core.Path.{ap, ap₂}
+use borrow.Author.Needs.{needs}
+use Rattle.list_verdict.proofs.put_expr.Statement.{statement}
+use Rattle.list_verdict.proofs.put_expr.Tie as tie
+
+mul-row : tie.Need-mul-row
+mul-row c = search needs
+
+put-name-requires : tie.Need-put-name-requires
+put-name-requires c κs = search needs
+
+slice-aggregate-put-text : tie.Need-slice-aggregate-put-text
+slice-aggregate-put-text c = search needs
+
+put-text-requires : tie.Need-put-text-requires
+put-text-requires c κs = search needs
+
+word-requires : tie.Need-word-requires
+word-requires c κs = search needs
+
+put-sort-text-requires : tie.Need-put-sort-text-requires
+put-sort-text-requires c κs = search needs
+
+add-word : tie.Need-add-word
+add-word c = search needs
+
+word-requires-2 : tie.Need-word-requires-2
+word-requires-2 c κs = search needs
+
+add-word-2 : tie.Need-add-word-2
+add-word-2 c = search needs
+
+word-requires-3 : tie.Need-word-requires-3
+word-requires-3 c κs = search needs
+
+put-target-requires : tie.Need-put-target-requires
+put-target-requires c κs = search needs
+
+put-byte-requires : tie.Need-put-byte-requires
+put-byte-requires c κs = search needs
+
+same-length : tie.Need-same-length
+same-length c = search needs
+
+returns : tie.Need-returns
+unfolding exprLine
+returns c = law.put-then (c .before .before .before .before .before .before .before .before .before .before .before .before .before .before .before .before .before .before .before .before .before .before .put-name .ensures) (law.put-then (c .before .before .before .before .before .before .before .before .before .before .before .before .before .before .before .before .before .put-text .ensures) (law.put-then (law.put-as (ap (sortText (c .before .before .before .before .before .before .before .before .before .before .before .before .before .before .before .before .before .before .before .before .before .before .before .before .before .before .before .before .args .sorts .now) (c .before .before .before .before .before .before .before .before .before .before .before .before .before .before .before .before .before .before .before .before .before .before .before .before .before .before .before .before .args .counts .sorts)) (c .before .before .before .before .before .before .before .before .before .before .before .before .before .before .word .ensures)) (c .before .before .before .before .before .before .before .before .before .before .before .before .put-sort-text .ensures)) (law.put-then (law.put-as (ap₂ (targetText (c .before .before .before .before .before .before .before .before .before .before .before .before .before .before .before .before .before .before .before .before .before .before .before .before .before .before .before .before .args .sorts .now) (c .before .before .before .before .before .before .before .before .before .before .before .before .before .before .before .before .before .before .before .before .before .before .before .before .before .before .before .before .args .counts .sorts)) (c .before .before .before .before .before .before .before .before .before .word2 .ensures) (c .before .before .before .before .before .before .before .before .word3 .ensures)) (c .before .before .before .before .before .before .put-target .ensures)) (c .before .before .put-byte .ensures))))
+
+pub put-expr-spec : {M : Type 1} → statement M
+put-expr-spec =
+    tie.close
+    (tie.spec
+    mul-row
+    put-name-requires
+    slice-aggregate-put-text
+    put-text-requires
+    word-requires
+    put-sort-text-requires
+    add-word
+    word-requires-2
+    add-word-2
+    word-requires-3
+    put-target-requires
+    put-byte-requires
+    same-length
+    returns)

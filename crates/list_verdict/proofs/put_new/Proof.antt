@@ -1,0 +1,58 @@
+-- The word, the number, the kind, its parts and the LF. Assumes nothing.
+use Rattle.list_verdict.proofs.Puts as law
+use Rattle.list_verdict.specs.Text.{newLine}
+use Rattle.list_verdict.specs.Words.{kindWord}
+use mathlib.Core.Path.{ap}
+use borrow.Author.Needs.{needs}
+use Rattle.list_verdict.proofs.put_new.Statement.{statement}
+use Rattle.list_verdict.proofs.put_new.Tie as tie
+
+slice-aggregate-put-text : tie.Need-slice-aggregate-put-text
+slice-aggregate-put-text c = search needs
+
+put-text-requires : tie.Need-put-text-requires
+put-text-requires c κs = search needs
+
+put-name-requires : tie.Need-put-name-requires
+put-name-requires c κs = search needs
+
+put-byte-requires : tie.Need-put-byte-requires
+put-byte-requires c κs = search needs
+
+mul-word : tie.Need-mul-word
+mul-word c = search needs
+
+word-requires : tie.Need-word-requires
+word-requires c κs = search needs
+
+put-kind-requires : tie.Need-put-kind-requires
+put-kind-requires c κs = search needs
+
+put-parts-requires : tie.Need-put-parts-requires
+put-parts-requires c κs = search needs
+
+put-byte-requires-2 : tie.Need-put-byte-requires-2
+put-byte-requires-2 c κs = search needs
+
+same-length : tie.Need-same-length
+same-length c = search needs
+
+returns : tie.Need-returns
+unfolding newLine
+returns c = law.put-then (c .before .before .before .before .before .before .before .before .before .before .before .before .before .before .before .before .before .before .before .before .before .before .before .put-text .ensures) (law.put-then (c .before .before .before .before .before .before .before .before .before .before .before .before .before .before .before .before .before .before .before .put-name .ensures) (law.put-then (c .before .before .before .before .before .before .before .before .before .before .before .before .before .before .before .put-byte .ensures) (law.put-then (law.put-as (ap kindWord (c .before .before .before .before .before .before .before .before .before .before .before .before .word .ensures)) (c .before .before .before .before .before .before .before .before .before .before .put-kind .ensures)) (law.put-then (c .before .before .before .before .before .before .put-parts .ensures) (c .before .before .put-byte2 .ensures)))))
+
+pub put-new-spec : {M : Type 1} → statement M
+put-new-spec =
+    tie.close
+    (tie.spec
+    slice-aggregate-put-text
+    put-text-requires
+    put-name-requires
+    put-byte-requires
+    mul-word
+    word-requires
+    put-kind-requires
+    put-parts-requires
+    put-byte-requires-2
+    same-length
+    returns)

@@ -1,0 +1,103 @@
+-- By the tests of the kind. Assumes nothing.
+use Rattle.list_verdict.proofs.Puts as law
+use Rattle.list_verdict.proofs.Ways as way
+use borrow.Author.Needs.{needs}
+use Rattle.list_verdict.proofs.put_parts.Statement.{statement}
+use Rattle.list_verdict.proofs.put_parts.Tie as tie
+
+mul-row : tie.Need-mul-row
+mul-row c = search needs
+
+word-requires : tie.Need-word-requires
+word-requires c κs = search needs
+
+add-word : tie.Need-add-word
+add-word c = search needs
+
+word-requires-2 : tie.Need-word-requires-2
+word-requires-2 c κs = search needs
+
+returns : tie.Need-returns
+returns c = law.put-as (way.no-part (c .before .before .before .before .before .args .sorts .now) (c .before .before .before .before .before .args .i) _ _ (c .before .before .word .ensures) (c .before .word2 .ensures) (c .if1 .taken)) (law.put-none _ _)
+
+put-byte-requires : tie.Need-put-byte-requires
+put-byte-requires c κs = search needs
+
+put-sort-name-requires : tie.Need-put-sort-name-requires
+put-sort-name-requires c κs = search needs
+
+same-length : tie.Need-same-length
+same-length c = search needs
+
+returns-2 : tie.Need-returns-2
+returns-2 c = law.put-as (way.one-part (c .before .before .before .before .before .before .before .before .before .before .before .before .before .before .args .sorts .now) (c .before .before .before .before .before .before .before .before .before .before .before .before .before .before .args .i) _ _ (c .before .before .before .before .before .before .before .before .before .before .before .word .ensures) (c .before .before .before .before .before .before .before .before .before .before .word2 .ensures) (c .before .before .before .before .before .before .before .before .before .if1 .left) (c .before .before .before .before .before .before .before .before .if2 .taken)) (law.put-then (c .before .before .before .before .before .before .put-byte .ensures) (c .before .before .put-sort-name .ensures))
+
+add-word-2 : tie.Need-add-word-2
+add-word-2 c = search needs
+
+word-requires-3 : tie.Need-word-requires-3
+word-requires-3 c κs = search needs
+
+add-word-3 : tie.Need-add-word-3
+add-word-3 c = search needs
+
+word-requires-4 : tie.Need-word-requires-4
+word-requires-4 c κs = search needs
+
+put-arguments-requires : tie.Need-put-arguments-requires
+put-arguments-requires c κs = search needs
+
+slice-aggregate-put-text : tie.Need-slice-aggregate-put-text
+slice-aggregate-put-text c = search needs
+
+put-text-requires : tie.Need-put-text-requires
+put-text-requires c κs = search needs
+
+put-sort-name-requires-2 : tie.Need-put-sort-name-requires-2
+put-sort-name-requires-2 c κs = search needs
+
+same-length-2 : tie.Need-same-length-2
+same-length-2 c = search needs
+
+returns-3 : tie.Need-returns-3
+returns-3 c = law.put-as (way.arguments-and-range (c .before .before .before .before .before .before .before .before .before .before .before .before .before .before .before .before .before .before .before .before .before .before .args .sorts .now) (c .before .before .before .before .before .before .before .before .before .before .before .before .before .before .before .before .before .before .before .before .before .before .args .i) _ _ (c .before .before .before .before .before .before .before .before .before .before .before .before .before .before .before .before .before .before .before .word .ensures) (c .before .before .before .before .before .before .before .before .before .before .before .before .before .before .before .before .before .before .word2 .ensures) (c .before .before .before .before .before .before .before .before .before .before .before .before .before .before .before .before .before .if1 .left) (c .before .before .before .before .before .before .before .before .before .before .before .before .before .before .before .before .if2 .left) (c .before .before .before .before .before .before .before .before .before .before .before .before .before .before .before .if3 .taken) _ _ (c .before .before .before .before .before .before .before .before .before .before .before .before .before .before .word3 .ensures) (c .before .before .before .before .before .before .before .before .before .before .before .before .before .word4 .ensures)) (law.put-then (c .before .before .before .before .before .before .before .before .before .before .before .put-arguments .ensures) (law.put-then (c .before .before .before .before .before .before .put-text .ensures) (c .before .before .put-sort-name2 .ensures)))
+
+put-byte-requires-2 : tie.Need-put-byte-requires-2
+put-byte-requires-2 c κs = search needs
+
+put-number-requires : tie.Need-put-number-requires
+put-number-requires c κs = search needs
+
+same-length-3 : tie.Need-same-length-3
+same-length-3 c = search needs
+
+returns-4 : tie.Need-returns-4
+returns-4 c = law.put-as (way.a-number (c .before .before .before .before .before .before .before .before .before .before .before .before .before .before .before .args .sorts .now) (c .before .before .before .before .before .before .before .before .before .before .before .before .before .before .before .args .i) _ _ (c .before .before .before .before .before .before .before .before .before .before .before .before .word .ensures) (c .before .before .before .before .before .before .before .before .before .before .before .word2 .ensures) (c .before .before .before .before .before .before .before .before .before .before .if1 .left) (c .before .before .before .before .before .before .before .before .before .if2 .left) (c .before .before .before .before .before .before .before .before .if3 .left)) (law.put-then (c .before .before .before .before .before .before .put-byte2 .ensures) (c .before .before .put-number .ensures))
+
+pub put-parts-spec : {M : Type 1} → statement M
+put-parts-spec =
+    tie.close
+    (tie.spec
+    mul-row
+    word-requires
+    add-word
+    word-requires-2
+    returns
+    put-byte-requires
+    put-sort-name-requires
+    same-length
+    returns-2
+    add-word-2
+    word-requires-3
+    add-word-3
+    word-requires-4
+    put-arguments-requires
+    slice-aggregate-put-text
+    put-text-requires
+    put-sort-name-requires-2
+    same-length-2
+    returns-3
+    put-byte-requires-2
+    put-number-requires
+    same-length-3
+    returns-4)

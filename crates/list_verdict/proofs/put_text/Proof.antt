@@ -1,0 +1,55 @@
+-- The loop's invariant: putting what is left comes to putting the whole. Assumes nothing.
+use Prim.Native.Nat.{_-_, _≤_}
+use Rattle.list_verdict.proofs.Puts as law
+use Rattle.list_verdict.specs.Puts.{puts}
+use borrow.Author.Needs.{needs}
+use lib.ListN.{length, drop, getD}
+use mathlib.Core.Path.{_≡_, refl, sym, ap}
+use native.Mathlib.Omega.{arith}
+use Rattle.list_verdict.proofs.put_text.Statement.{statement}
+use Rattle.list_verdict.proofs.put_text.Tie as tie
+
+abbrev Inv-loop : tie.InvT-loop
+Inv-loop bytes out₀ at place₀ i₀ out place i = (i ≤ length bytes) × (length out ≡ length out₀) × (puts out₀ at bytes ≡ puts out place (drop i bytes))
+
+abbrev μ-loop : tie.MeasureT-loop
+μ-loop bytes out₀ at place₀ i₀ out place i = length bytes - i
+
+loop-holds : tie.Need-loop-holds Inv-loop μ-loop
+loop-holds c = (omega arith, refl, refl)
+
+shared-slice-read-put-byte : tie.Need-shared-slice-read-put-byte Inv-loop μ-loop
+shared-slice-read-put-byte c = omega arith
+
+put-byte-requires : tie.Need-put-byte-requires Inv-loop μ-loop
+put-byte-requires c κs = search needs
+
+add-i : tie.Need-add-i Inv-loop μ-loop
+add-i c = omega arith
+
+loop-less : tie.Need-loop-less Inv-loop μ-loop
+loop-less c = omega arith
+
+loop-again : tie.Need-loop-again Inv-loop μ-loop
+loop-again c = (omega arith, search needs, law.one-byte-more (c .before .before .before .before .before .before .before .before .before .args .bytes .now) _ _ _ (c .before .before .before .before .before .before .loop .i) (c .before .before .before .before .before .before .loop .inv .2) (omega arith) (c .before .before .put-byte .ensures))
+
+same-length : tie.Need-same-length Inv-loop μ-loop
+same-length c = omega arith
+
+returns : tie.Need-returns Inv-loop μ-loop
+returns c = record { is = law.all-bytes (c .before .before .before .before .args .bytes .now) _ _ _ (c .before .loop .i) (c .before .loop .inv .2) (omega arith) }
+
+pub put-text-spec : {M : Type 1} → statement M
+put-text-spec =
+    tie.close
+    (tie.spec
+    Inv-loop
+    μ-loop
+    loop-holds
+    shared-slice-read-put-byte
+    put-byte-requires
+    add-i
+    loop-less
+    loop-again
+    same-length
+    returns)

@@ -1,0 +1,33 @@
+-- The invariant: the variables passed have their new flags. Assumes nothing.
+use Prim.Native.Nat.{_-_, _≤_}
+use Rattle.node_checks.proofs.Settling as law
+use Rattle.unification.specs.Acyclic.{bindingSettled, varsSettled}
+use Rattle.unification.specs.Nodes.{bindingOf, bindsOf}
+use borrow.Author.Needs.{needs}
+use lib.ListN.{length, take, length-set}
+use mathlib.Core.Path.{_≡_, refl, sym, ap, _∙_}
+use native.Mathlib.Omega.{arith}
+use Rattle.node_checks.proofs.settle_vars.Statement.{statement}
+use Rattle.node_checks.proofs.settle_vars.Tie as tie
+
+abbrev Inv-loop : tie.InvT-loop
+Inv-loop binds v flags vars₀ x₀ vars x = (x ≤ v) × (length vars ≡ length vars₀) × (take x vars ≡ take x (varsSettled flags (bindsOf binds v)))
+
+abbrev μ-loop : tie.MeasureT-loop
+μ-loop binds v flags vars₀ x₀ vars x = v - x
+
+pub settle-vars-spec : {M : Type 1} → statement M
+settle-vars-spec =
+    tie.close
+    (tie.spec
+    Inv-loop
+    μ-loop
+    (λ c. (omega arith, refl, refl))
+    (λ c κs. search needs)
+    (λ c κs. search needs)
+    (λ c. omega (arith, c .before .before .loop-test .taken, c .before .before .before .before .before .before .before .pre, c .before .before .before .loop .inv .1))
+    (λ c. omega (arith, c .before .before .loop-test .taken))
+    (λ c. omega (arith, c .before .before .loop-test .taken))
+    (λ c. (omega (arith, c .before .before .loop-test .taken), length-set (c .before .before .before .loop .vars) (c .before .before .before .loop .x) _ ∙ c .before .before .before .loop .inv .1, law.one-more-var (c .before .before .before .before .before .before .before .args .binds .now) (c .before .before .before .before .before .before .before .args .v) (c .before .before .before .before .before .before .before .args .flags .now) (c .before .before .before .loop .vars) (c .before .before .before .loop .x) (c .before .before .loop-test .taken) (omega (arith, c .before .before .before .before .before .before .before .pre, c .before .before .before .loop .inv .1)) (c .before .before .before .loop .inv .2) _ (c .binding-settled .ensures ∙ ap (λ w. bindingSettled (c .before .before .before .before .before .before .before .args .flags .now) (bindingOf w)) (c .before .word .ensures))))
+    (λ c. c .before .loop .inv .1)
+    (λ c. law.all-vars (c .before .before .before .before .before .args .binds .now) (c .before .before .before .before .before .args .v) (c .before .before .before .before .before .args .flags .now) (c .before .loop .vars) (c .before .loop .x) (omega (arith, c .loop-test .left, c .before .loop .inv .0)) (c .before .loop .inv .2)))

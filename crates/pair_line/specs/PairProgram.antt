@@ -1,0 +1,103 @@
+-- "A pair program reads standard input, two LF-ended lines to a pair (a last nonempty line needs no LF), and prints one line": what
+-- it prints, byte by byte, for every input.
+use mathlib.Core.Bool.{Bool, true, false, cond}
+use mathlib.Core.List.{List, [], _∷_, _++_}
+use mathlib.Core.Option.{Option, none, some}
+use Prim.Native.Nat.{ℕ, _+_, _/_, _%_}
+use lib.Dec.{eqb, ltb}
+use Rattle.resolved_sort.specs.declared.PartialOrder.{PartialOrder}
+use Rattle.resolved_sort.specs.declared.PartialOrder.the-variants.{Unrelated, Equal, Below, Above}
+use Rattle.resolved_sort.specs.Tree.{Tree}
+use Rattle.resolved_sort.specs.Order.{order, join, meet, Steps, distance, materializable}
+use Rattle.sort_text.specs.Parse.{Parsed, parsed, stuck, line}
+use Rattle.sort_text.specs.Text.{text}
+use Rattle.sort_text.specs.Reading.{shortLine}
+
+-- the lines of the input, without their LF
+abbrev pub onto : ℕ → List (List ℕ) → List (List ℕ)
+onto b [] = (b ∷ []) ∷ []
+onto b (l ∷ ls) = (b ∷ l) ∷ ls
+
+unfoldable pub lines : List ℕ → List (List ℕ)
+lines [] = []
+lines (b ∷ bs) = cond (eqb b 10) ([] ∷ lines bs) (onto b (lines bs))
+
+-- a number below 1,000 in decimal
+unfoldable pub decimal : ℕ → List ℕ
+decimal n =
+    cond (ltb n 10) ((48 + n) ∷ [])
+    (cond (ltb n 100) ((48 + n / 10) ∷ (48 + n % 10) ∷ []) ((48 + n / 100) ∷ (48 + n / 10 % 10) ∷ (48 + n % 10) ∷ []))
+
+-- "order (`=`, `<`, `>`, `|`)"
+abbrev pub sign : PartialOrder → ℕ
+sign Equal = 61
+sign Below = 60
+sign Above = 62
+sign Unrelated = 124
+
+-- `none` where there is none
+abbrev pub noneText : List ℕ
+noneText = 110 ∷ 111 ∷ 110 ∷ 101 ∷ []
+
+abbrev pub sortOrNone : Option Tree → List ℕ
+sortOrNone none = noneText
+sortOrNone (some t) = text t
+
+abbrev pub stepsOrNone : Option Steps → List ℕ
+stepsOrNone none = noneText
+stepsOrNone (some d) = decimal (d .head) ++ (32 ∷ decimal (d .interior))
+
+abbrev pub yesOrNo : Bool → List ℕ
+yesOrNo true = 121 ∷ 101 ∷ 115 ∷ []
+yesOrNo false = 110 ∷ 111 ∷ []
+
+-- "joined by a comma and a space"
+abbrev pub comma : List ℕ → List ℕ
+comma bs = 44 ∷ 32 ∷ bs
+
+-- order, join, meet, distance, and materializable from first to second
+unfoldable pub answer : Tree → Tree → List ℕ
+answer s t =
+    sign (order s t)
+    ∷ comma (sortOrNone (join s t)
+    ++ comma (sortOrNone (meet s t)
+    ++ comma (stepsOrNone (distance true s t)
+    ++ comma (yesOrNo (materializable s t)))))
+
+-- a line: its sort, or what a bad one prints, which is its code; "20 is followed by a colon and the unread end, without a space"
+pub data Line : Type 0 where
+  good : Tree → Line
+  wrong : List ℕ → Line
+
+abbrev pub read : Parsed → Line
+read (parsed t bs) = good t
+read (stuck bs) = wrong (50 ∷ 48 ∷ 58 ∷ bs)
+
+unfoldable pub lineOf : List ℕ → Line
+lineOf bs = cond (shortLine bs) (read (line bs)) (wrong (49 ∷ 57 ∷ []))
+
+abbrev pub withSecond : Tree → Line → List ℕ
+withSecond s (good t) = answer s t
+withSecond s (wrong bs) = bs
+
+abbrev pub withFirst : Line → Line → List ℕ
+withFirst (good s) second = withSecond s second
+withFirst (wrong bs) second = bs
+
+-- 21. "The input ends after the first line of a pair."
+abbrev pub single : Line → List ℕ
+single (good s) = 50 ∷ 49 ∷ []
+single (wrong bs) = bs
+
+-- "A bad pair prints its first bad line's code"
+unfoldable pub pair : List ℕ → List ℕ → List ℕ
+pair first second = withFirst (lineOf first) (lineOf second)
+
+-- one line of output for each pair
+unfoldable pub pairs : List (List ℕ) → List ℕ
+pairs [] = []
+pairs (l ∷ []) = single (lineOf l) ++ (10 ∷ [])
+pairs (l ∷ m ∷ ls) = pair l m ++ (10 ∷ pairs ls)
+
+unfoldable pub output : List ℕ → List ℕ
+output input = pairs (lines input)

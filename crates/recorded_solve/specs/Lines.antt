@@ -1,0 +1,140 @@
+-- What a line of the recorded answers says, and what comes of it.
+use mathlib.Core.Path.{_≡_}
+use mathlib.Core.Bool.{Bool, true, false, cond}
+use mathlib.Core.List.{List}
+use Prim.Native.Nat.{ℕ, zero, suc, _+_, _*_, _-_, _≤_}
+use lib.Dec.{ltb, eqb}
+use lib.ListN.{length, getD, replicate}
+use Rattle.replay.specs.declared.Fields.{Fields}
+use Rattle.replay.specs.declared.Verdict.{Verdict}
+use Rattle.replay.specs.declared.Verdict.the-variants.{Quiet, Agrees, Differs, LeavesOther, NotOfForm}
+use Rattle.replay.specs.Numbers.{fieldsOf}
+use Rattle.replay.specs.Lines.{Kept, storeFrom, verdictOf}
+use Rattle.recorded_solve.specs.declared.Letter.{Letter}
+use Rattle.recorded_solve.specs.declared.Letter.the-variants.{List as NewList, Gives, Asks, Left, Other}
+use Rattle.recorded_solve.specs.declared.Part.{Part}
+use Rattle.recorded_solve.specs.declared.Expected.{Expected}
+use Rattle.recorded_solve.specs.declared.Expected.the-variants.{Is, Nothing}
+use Rattle.recorded_solve.specs.Outcome.{solved}
+use Rattle.recorded_solve.specs.Slices.{startOf, callOf, leftOf}
+
+-- L, S, Q, X
+unfoldable pub letterOf : ℕ → Letter
+letterOf b = cond (eqb b 76) NewList (cond (eqb b 83) Gives (cond (eqb b 81) Asks (cond (eqb b 88) Left Other)))
+
+abbrev pub noPart : Part
+noPart = record { start = 0; count = 0; good = false }
+
+-- the words of a line after the number of a slice and of a word of it, if they are inside the slice
+unfoldable pub partOf : Fields → Part
+partOf f =
+    cond (ltb (f .count) 2) noPart
+    (cond (ltb 18 (f .count)) noPart
+    (cond (ltb 11 (getD (f .values) 0 0)) noPart
+    (cond (ltb 34048 (getD (f .values) 1 0)) noPart
+    (cond (ltb (startOf (getD (f .values) 0 0 + 1)) (startOf (getD (f .values) 0 0) + getD (f .values) 1 0 + (f .count - 2))) noPart
+    (record { start = startOf (getD (f .values) 0 0) + getD (f .values) 1 0; count = f .count - 2; good = true })))))
+
+-- the words of a line, few and near enough for sums not to wrap
+pub record Standing (f : Fields) (r : Part) : Type 0 where
+  pub told : r ≡ partOf f
+  pub near : r .start ≤ 1048576
+  pub few : r .count ≤ 16
+
+-- words, and what came of a line
+pub record Said : Type 0 where
+  pub words : List ℕ
+  pub verdict : Verdict
+
+abbrev pub said : List ℕ → Verdict → Said
+said ws v = record { words = ws; verdict = v }
+
+abbrev pub quietIf : Bool → Verdict
+quietIf all = cond all Quiet NotOfForm
+
+abbrev pub saidOf : Kept → Said
+saidOf k = said (k .words) (quietIf (k .all))
+
+unfoldable pub noWords : List ℕ
+noWords = replicate 34059 0
+
+-- a new list: all words are zero but its counts
+unfoldable pub beginOf : List ℕ → Fields → Said
+beginOf ws f = cond (eqb (f .count) 11) (saidOf (storeFrom 11 noWords 34048 (f .values) 0)) (said ws NotOfForm)
+
+-- words given
+unfoldable pub storeOf : List ℕ → Fields → Said
+storeOf ws f =
+    cond ((partOf f) .good) (saidOf (storeFrom ((partOf f) .count) ws ((partOf f) .start) (f .values) 2)) (said ws NotOfForm)
+
+-- m words compared with the numbers from the i-th on: all agree, or the first that is another
+unfoldable pub comparedFrom : ℕ → List ℕ → ℕ → List ℕ → ℕ → Verdict
+comparedFrom zero ws at values i = Agrees
+comparedFrom (suc m) ws at values i =
+    cond (eqb (getD ws at 0) (getD values i 0)) (comparedFrom m ws (at + 1) values (i + 1)) (LeavesOther (getD ws at 0))
+
+-- words that were left
+unfoldable pub compareOf : List ℕ → Fields → Verdict
+compareOf ws f = cond ((partOf f) .good) (comparedFrom ((partOf f) .count) ws ((partOf f) .start) (f .values) 2) NotOfForm
+
+-- The packed answer of a line: its code, and the numbers of sorts, entries, components and choices.
+unfoldable pub recordedOf : List ℕ → Expected
+recordedOf vs =
+    cond (ltb 255 (getD vs 0 0)) Nothing
+    (cond (ltb 65535 (getD vs 1 0)) Nothing
+    (cond (ltb 65535 (getD vs 2 0)) Nothing
+    (cond (ltb 4095 (getD vs 3 0)) Nothing
+    (cond (ltb 4095 (getD vs 4 0)) Nothing
+    (Is (getD vs 0 0 + 256 * getD vs 1 0 + 16777216 * getD vs 2 0 + 1099511627776 * getD vs 3 0 + 4503599627370496 * getD vs 4 0))))))
+
+-- the words left by a question, and its packed answer
+pub record Answered : Type 0 where
+  pub words : List ℕ
+  pub answer : ℕ
+
+abbrev pub answered : List ℕ → ℕ → Answered
+answered ws r = record { words = ws; answer = r }
+
+unfoldable pub askOf : List ℕ → Answered
+askOf ws = answered (leftOf ws (solved (callOf ws))) (solved (callOf ws) .result)
+
+abbrev pub answeredBy : Answered → ℕ → Said
+answeredBy a expected = said (a .words) (verdictOf (a .answer) expected)
+
+abbrev pub judgedBy : List ℕ → Expected → Answered → Said
+judgedBy us Nothing a = said us NotOfForm
+judgedBy us (Is expected) a = answeredBy a expected
+
+-- a question about the words given, and what it is recorded to answer; us are the words that the last one left
+unfoldable pub answerOf : List ℕ → List ℕ → Fields → Said
+answerOf ws us f = cond (eqb (f .count) 5) (judgedBy us (recordedOf (f .values)) (askOf ws)) (said us NotOfForm)
+
+-- the words given and left after a line, and what came of it
+pub record After : Type 0 where
+  pub given : List ℕ
+  pub left : List ℕ
+  pub verdict : Verdict
+
+abbrev pub after : List ℕ → List ℕ → Verdict → After
+after ws us v = record { given = ws; left = us; verdict = v }
+
+abbrev pub givenAfter : List ℕ → Said → After
+givenAfter us s = after (s .words) us (s .verdict)
+
+abbrev pub leftAfter : List ℕ → Said → After
+leftAfter ws s = after ws (s .words) (s .verdict)
+
+-- by the letter of a line
+unfoldable pub byLetter : Letter → List ℕ → List ℕ → Fields → After
+byLetter NewList ws us f = givenAfter us (beginOf ws f)
+byLetter Gives ws us f = givenAfter us (storeOf ws f)
+byLetter Asks ws us f = leftAfter ws (answerOf ws us f)
+byLetter Left ws us f = after ws us (compareOf us f)
+byLetter Other ws us f = after ws us NotOfForm
+
+-- A line: empty is not of the form, # says nothing, else a letter and numbers.
+unfoldable pub lineOf : List ℕ → List ℕ → List ℕ → After
+lineOf ws us line =
+    cond (eqb (length line) 0) (after ws us NotOfForm)
+    (cond (eqb (getD line 0 0) 35) (after ws us Quiet)
+    (cond ((fieldsOf line) .good) (byLetter (letterOf (getD line 0 0)) ws us (fieldsOf line)) (after ws us NotOfForm)))

@@ -1,0 +1,87 @@
+-- The slices of a list for the solver, one after another in the words held, and after them its counts.
+use mathlib.Core.List.{List, [], _∷_}
+use Prim.Native.Nat.{ℕ, _+_, _-_}
+use lib.ListN.{getD}
+use lib.Seq.{sets}
+use Rattle.inference.specs.SolveChecks.{Call}
+use Rattle.words.specs.Words.{part}
+use Rattle.recorded_solve.specs.declared.Counts.{Counts}
+use Rattle.solve_outputs.specs.Packed.{Packed}
+
+-- Where each slice starts: sorts, nodes, bindings, places of expressions, base names, constraints, overloads, sources, typing, measure, choices,
+-- scratch; and where the counts start.
+abbrev pub starts : List ℕ
+starts =
+    0 ∷ 8192 ∷ 20480 ∷ 20992 ∷ 21504 ∷ 23040 ∷ 24320 ∷ 27392 ∷ 27648 ∷ 29184 ∷ 29440 ∷ 29952 ∷ 34048 ∷ []
+
+unfoldable pub startOf : ℕ → ℕ
+startOf k = getD starts k 0
+
+abbrev pub sliceOf : ℕ → List ℕ → List ℕ
+sliceOf k ws = part (startOf k) (startOf (k + 1) - startOf k) ws
+
+abbrev pub countAt : List ℕ → ℕ → ℕ
+countAt ws i = getD ws (34048 + i) 0
+
+abbrev pub countsIn : List ℕ → Counts
+countsIn ws =
+    record {
+      sorts = countAt ws 0;
+      entries = countAt ws 1;
+      nodes = countAt ws 2;
+      arguments = countAt ws 3;
+      variables = countAt ws 4;
+      exprs = countAt ws 5;
+      names = countAt ws 6;
+      constraints = countAt ws 7;
+      overloads = countAt ws 8;
+      sources = countAt ws 9;
+      default = countAt ws 10;
+    }
+
+-- a call about words held, with the slices that it may change
+abbrev pub callWith : List ℕ → Counts → (sorts nodes binds scratch typing measure choices : List ℕ) → Call
+callWith ws k ss ns bs xs ts ms cs =
+    record {
+      sorts = ss;
+      nodes = ns;
+      binds = bs;
+      lengths =
+          record {
+            sorts = k .sorts;
+            entries = k .entries;
+            nodes = k .nodes;
+            arguments = k .arguments;
+            variables = k .variables;
+          };
+      exprs = sliceOf 3 ws;
+      names = sliceOf 4 ws;
+      constraints = sliceOf 5 ws;
+      overloads = sliceOf 6 ws;
+      sources = sliceOf 7 ws;
+      rows =
+          record {
+            exprs = k .exprs;
+            names = k .names;
+            constraints = k .constraints;
+            overloads = k .overloads;
+            sources = k .sources;
+          };
+      default = k .default;
+      scratch = xs;
+      typing = ts;
+      measure = ms;
+      choices = cs;
+    }
+
+abbrev pub callOf : List ℕ → Call
+callOf ws =
+    callWith ws (countsIn ws) (sliceOf 0 ws) (sliceOf 1 ws) (sliceOf 2 ws) (sliceOf 11 ws) (sliceOf 8 ws) (sliceOf 9 ws) (sliceOf 10 ws)
+
+-- words held, with other slices in the places of those that a call may change
+abbrev pub keptIn : List ℕ → (sorts nodes binds scratch typing measure choices : List ℕ) → List ℕ
+keptIn ws ss ns bs xs ts ms cs =
+    sets (sets (sets (sets (sets (sets (sets ws 0 ss) 8192 ns) 20480 bs) 29952 xs) 27648 ts) 29184 ms) 29440 cs
+
+abbrev pub leftOf : List ℕ → Packed → List ℕ
+leftOf ws p = keptIn ws (p .sorts) (p .nodes) (p .binds) (p .scratch) (p .typing) (p .measure) (p .choices)

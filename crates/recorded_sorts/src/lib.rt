@@ -1,0 +1,289 @@
+// Recorded answers about sorts, asked again of the entries. A line is a letter and numbers, each after one space:
+// `L n e` begins a list of n sorts and e argument entries; `r kind part start count` is its next row; `a w ..` its next
+// entries, at most 16; `c a b x`, `d a b x`, `m a b x`, `j a b x` and `k a b x` ask partial_cmp, widening_distance,
+// is_materializable, join and meet of the sorts a and b, and x is the answer, packed; a line that starts with `#` says
+// nothing.
+use replay::Fields;
+use replay::Verdict;
+use replay::fields_of;
+use replay::store;
+use sort_entries::sort_is_materializable;
+use sort_entries::sort_join;
+use sort_entries::sort_meet;
+use sort_entries::sort_partial_cmp;
+use sort_entries::sort_widening_distance;
+ghost use mathlib.Core.Path.{_≡_};
+ghost use Prim.Native.Nat.{_+_, _*_, _≤_};
+ghost use Rattle.recorded_sorts.specs.Lines.{letterOf, complete as isComplete, stepped, keepOf, beginOf, rowOf, argumentsOf, answerOf, questionOf, stepOf, notOfForm, started};
+
+// What is asked of two sorts.
+pub enum Question {
+    PartialCmp,
+    WideningDistance,
+    IsMaterializable,
+    Join,
+    Meet,
+}
+
+// What a line says by its letter.
+pub enum Letter {
+    List,
+    Row,
+    Arguments,
+    Asks(Question),
+    Other,
+}
+
+// How much a list has by its first line, and how much of it was read.
+pub struct Place {
+    pub sorts: u16,
+    pub entries: u16,
+    pub rows: u16,
+    pub filled: u16,
+}
+
+pub struct Step {
+    pub place: Place,
+    pub verdict: Verdict,
+}
+
+// What a line says by its letter.
+fn letter_of(letter: u8) -> Letter
+    ensures { λ r. ⌜ r ≡ letterOf letter ⌝ }
+{
+    match letter {
+        76 => Letter::List,
+        114 => Letter::Row,
+        97 => Letter::Arguments,
+        99 => Letter::Asks(Question::PartialCmp),
+        100 => Letter::Asks(Question::WideningDistance),
+        109 => Letter::Asks(Question::IsMaterializable),
+        106 => Letter::Asks(Question::Join),
+        107 => Letter::Asks(Question::Meet),
+        _ => Letter::Other,
+    }
+}
+
+// Whether all rows and entries of the list were read.
+pub fn complete(place: Place) -> bool
+    ensures { λ r. ⌜ r ≡ isComplete place ⌝ }
+{
+    if place.rows == place.sorts {
+        place.filled == place.entries
+    } else {
+        false
+    }
+}
+
+fn not_of_form(place: Place) -> Step
+    ensures { λ r. ⌜ r ≡ notOfForm place ⌝ }
+{
+    Step {
+        place,
+        verdict: Verdict::NotOfForm,
+    }
+}
+
+// The next words of a list, and where reading it then is.
+fn keep(list: &mut [u16; 8192], base: usize, fields: Fields, place: Place, next: Place) -> Step
+    requires { ⌜ base ≤ 1048576 ⌝ }
+    ensures { λ r. ⌜ stepped (now (list .exit)) r ≡ keepOf (now (list .entry)) base fields place next ⌝ }
+{
+    let values = fields.values;
+    let count = fields.count;
+    if 16 < count {
+        return not_of_form(place);
+    }
+    if store(list, base, values, 0, count) {
+        return Step {
+            place: next,
+            verdict: Verdict::Quiet,
+        };
+    }
+    not_of_form(place)
+}
+
+// A new list, with no row and no entry yet, after one that is complete.
+fn begin(fields: Fields, place: Place) -> Step
+    ensures { λ r. ⌜ r ≡ beginOf fields place ⌝ }
+{
+    let values = fields.values;
+    if fields.count != 2 {
+        return not_of_form(place);
+    }
+    if !complete(place) {
+        return not_of_form(place);
+    }
+    let sorts = values[0];
+    if 1024 < sorts {
+        return not_of_form(place);
+    }
+    let entries = values[1];
+    if 4096 < entries {
+        return not_of_form(place);
+    }
+    Step {
+        place: Place {
+            sorts: sorts as u16,
+            entries: entries as u16,
+            rows: 0,
+            filled: 0,
+        },
+        verdict: Verdict::Quiet,
+    }
+}
+
+// The next row of the list.
+fn row(list: &mut [u16; 8192], fields: Fields, place: Place) -> Step
+    ensures { λ r. ⌜ stepped (now (list .exit)) r ≡ rowOf (now (list .entry)) fields place ⌝ }
+{
+    if fields.count != 4 {
+        return not_of_form(place);
+    }
+    let rows = place.rows;
+    if place.sorts <= rows {
+        return not_of_form(place);
+    }
+    let next = Place {
+        sorts: place.sorts,
+        entries: place.entries,
+        rows: rows + 1,
+        filled: place.filled,
+    };
+    keep(list, 4 * (rows as usize), fields, place, next)
+}
+
+// The next argument entries of the list.
+fn arguments(list: &mut [u16; 8192], fields: Fields, place: Place) -> Step
+    ensures { λ r. ⌜ stepped (now (list .exit)) r ≡ argumentsOf (now (list .entry)) fields place ⌝ }
+{
+    let count = fields.count;
+    let filled = place.filled;
+    if 16 < count {
+        return not_of_form(place);
+    }
+    if (place.entries as usize) < (filled as usize) + count {
+        return not_of_form(place);
+    }
+    let next = Place {
+        sorts: place.sorts,
+        entries: place.entries,
+        rows: place.rows,
+        filled: filled + (count as u16),
+    };
+    keep(list, 4096 + (filled as usize), fields, place, next)
+}
+
+// Join and meet on a list of their own, since they may append to it.
+fn join_on(list: [u16; 8192], n: usize, e: usize, lhs: u16, rhs: u16) -> u64
+    ensures { λ r. ⌜ r ≡ answerOf Question.Join list n e lhs rhs ⌝ }
+{
+    let mut work = list;
+    sort_join(&mut work, n, e, lhs, rhs)
+}
+
+fn meet_on(list: [u16; 8192], n: usize, e: usize, lhs: u16, rhs: u16) -> u64
+    ensures { λ r. ⌜ r ≡ answerOf Question.Meet list n e lhs rhs ⌝ }
+{
+    let mut work = list;
+    sort_meet(&mut work, n, e, lhs, rhs)
+}
+
+// What an entry answers on a list, which stays as it is: join and meet work on a copy.
+fn ask(list: &[u16; 8192], sorts: u16, entries: u16, question: Question, lhs: u16, rhs: u16) -> u64
+    ensures { λ r. ⌜ r ≡ answerOf question (now (list .entry)) sorts entries lhs rhs ⌝ }
+{
+    let n = sorts as usize;
+    let e = entries as usize;
+    match question {
+        Question::PartialCmp => sort_partial_cmp(list, n, e, lhs, rhs),
+        Question::WideningDistance => sort_widening_distance(list, n, e, lhs, rhs),
+        Question::IsMaterializable => sort_is_materializable(list, n, e, lhs, rhs),
+        Question::Join => {
+            let copy = *list;
+            join_on(copy, n, e, lhs, rhs)
+        }
+        Question::Meet => {
+            let copy = *list;
+            meet_on(copy, n, e, lhs, rhs)
+        }
+    }
+}
+
+// A question about two sorts of a complete list, compared with the recorded answer.
+fn answer(list: &[u16; 8192], question: Question, fields: Fields, place: Place) -> Step
+    ensures { λ r. ⌜ r ≡ questionOf (now (list .entry)) question fields place ⌝ }
+{
+    let values = fields.values;
+    if fields.count != 3 {
+        return not_of_form(place);
+    }
+    if !complete(place) {
+        return not_of_form(place);
+    }
+    let lhs = values[0];
+    if 65535 < lhs {
+        return not_of_form(place);
+    }
+    let rhs = values[1];
+    if 65535 < rhs {
+        return not_of_form(place);
+    }
+    let got = ask(
+        list,
+        place.sorts,
+        place.entries,
+        question,
+        lhs as u16,
+        rhs as u16,
+    );
+    if got == values[2] {
+        return Step {
+            place,
+            verdict: Verdict::Agrees,
+        };
+    }
+    Step {
+        place,
+        verdict: Verdict::Differs(got),
+    }
+}
+
+// Where reading starts: an empty list, complete.
+pub fn start() -> Place
+    ensures { λ r. ⌜ r ≡ started ⌝ }
+{
+    Place {
+        sorts: 0,
+        entries: 0,
+        rows: 0,
+        filled: 0,
+    }
+}
+
+// A line of the recorded answers.
+pub fn replay_line(list: &mut [u16; 8192], line: &[u8], place: Place) -> Step
+    ensures { λ r. ⌜ stepped (now (list .exit)) r ≡ stepOf (now (list .entry)) (now (line .entry)) place ⌝ }
+{
+    if line.len() == 0 {
+        return not_of_form(place);
+    }
+    let letter = line[0];
+    if letter == 35 {
+        return Step {
+            place,
+            verdict: Verdict::Quiet,
+        };
+    }
+    let read = fields_of(line);
+    if !read.good {
+        return not_of_form(place);
+    }
+    match letter_of(letter) {
+        Letter::List => begin(read, place),
+        Letter::Row => row(list, read, place),
+        Letter::Arguments => arguments(list, read, place),
+        Letter::Asks(question) => answer(list, question, read, place),
+        Letter::Other => not_of_form(place),
+    }
+}

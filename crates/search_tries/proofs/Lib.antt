@@ -1,3 +1,0 @@
--- The laws of this crate.
-pub mod Laws
-pub mod Attempt

@@ -1,1 +1,0 @@
--- Nothing of its own: the contracts cite the definitions of the state of the search.

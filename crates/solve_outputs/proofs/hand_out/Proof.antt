@@ -1,0 +1,22 @@
+-- Typing, measure and choices, one after the other; each has its own slice. Assumes nothing.
+use borrow.Author.Needs.{needs}
+use Rattle.solve_outputs.proofs.Finishing as law
+use Rattle.solve_outputs.proofs.hand_out.Statement.{statement}
+use Rattle.solve_outputs.proofs.hand_out.Tie as tie
+
+returns : tie.Need-returns
+returns c =
+    let s = c .before .before .before .before .before .before .before .before .before .before .before .before .before .before .before .before .before .before in
+    law.hands-out (s .args .scratch .now) (s .args .lists .now) (s .args .names .now) (s .args .name-count) (s .args .sizes) (s .args .typing .now) (s .args .measure .now) (s .args .choices .now) (s .pre) (s .args .counts) _ _ _ (c .before .before .before .before .before .before .before .before .before .before .write-typing .ensures) (c .before .before .before .before .before .before .write-measure .ensures) (c .before .before .write-choices .ensures)
+
+pub hand-out-spec : {M : Type 1} → statement M
+hand-out-spec =
+    tie.close
+    (tie.spec
+    (λ c κs. search needs)
+    (λ c κs. search needs)
+    (λ c κs. search needs)
+    (λ c. search needs)
+    (λ c. search needs)
+    (λ c. search needs)
+    returns)

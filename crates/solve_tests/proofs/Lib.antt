@@ -1,3 +1,0 @@
--- The tests of a call as its checks meet them.
-pub mod Ceilings
-pub mod Laws

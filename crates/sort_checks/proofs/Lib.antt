@@ -1,0 +1,4 @@
+pub mod Below
+pub mod Checks
+pub mod New
+pub mod FirstFour

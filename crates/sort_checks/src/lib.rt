@@ -1,0 +1,170 @@
+// The entries of the sorts layer. Each takes the lent sort storage and its counts, tests them itself, and has no
+// `requires`: whatever a caller hands in, the answer and the storage at exit are the defined ones.
+use resolved_sort::ResolvedSort;
+use resolved_sort::Run;
+use resolved_sort::SortId;
+use resolved_sort::Tested;
+use sort_interner::get;
+use sort_interner::same_rows;
+use words::word;
+ghost use mathlib.Core.Path.{_≡_};
+ghost use Prim.Native.Nat.{_+_, _≤_};
+ghost use Rattle.resolved_sort.specs.Storage.{maxSorts};
+ghost use Rattle.resolved_sort.specs.Checks.{firstFailing, sortChecks, withinLent, fixedSix, partsBelow, rowFine, rowsFine, allBelow};
+ghost use Rattle.resolved_sort.specs.Entries.{testedOf};
+ghost use Rattle.sort_checks.specs.Tests.{argBelow, newRow, noSameRows};
+
+// Check 1: n sorts and e entries are within the ceilings and within what was lent. Neither may be past the slice's end.
+pub fn within_lent(sorts: &[u16], n: usize, e: usize) -> bool
+    ensures { λ r. ⌜ r ≡ withinLent (now (sorts .entry)) n e ⌝ }
+{
+    if 1024 < n {
+        return false;
+    }
+    if 4096 < e {
+        return false;
+    }
+    if sorts.len() < 4 * n {
+        return false;
+    }
+    if e == 0 {
+        return true;
+    }
+    4096 + e <= sorts.len()
+}
+
+// Check 2: the first six rows are there and are of kinds 0 to 5 in order. Fewer than six rows are refused.
+pub fn fixed_six(sorts: &[u16], n: usize) -> bool
+    ensures { λ r. ⌜ r ≡ fixedSix (now (sorts .entry)) n ⌝ }
+{
+    if n < 6 {
+        return false;
+    }
+    let mut i: u16 = 0;
+    while i < 6 {
+        if word(sorts, 4 * (i as usize)) != i {
+            return false;
+        }
+        i += 1;
+    }
+    true
+}
+
+// Whether each of the count entries from start on names a sort below i. An entry that is i itself does not.
+pub fn args_below(sorts: &[u16], start: u16, count: u16, i: u16) -> bool
+    ensures { λ r. ⌜ r ≡ allBelow count (argBelow (now (sorts .entry)) start i) ⌝ }
+{
+    let mut j: u16 = 0;
+    while j < count {
+        if i <= word(sorts, 4096 + ((start as usize) + (j as usize))) {
+            return false;
+        }
+        j += 1;
+    }
+    true
+}
+
+// Whether a function's row i has at most 16 arguments, a run inside the e entries, and parts below i.
+pub fn function_fine(sorts: &[u16], e: usize, i: u16, domain: Run, range: SortId) -> bool
+    ensures { λ r. ⌜ r ≡ partsBelow (now (sorts .entry)) e i (ResolvedSort.Function domain range) ⌝ }
+{
+    let start = domain.start;
+    let count = domain.count;
+    if 16 < count {
+        return false;
+    }
+    if e < (start as usize) + (count as usize) {
+        return false;
+    }
+    if i <= range.0 {
+        return false;
+    }
+    args_below(sorts, start, count, i)
+}
+
+// Whether the parts of row i, which says sort, are numbered below it. A part that is row i itself is not.
+pub fn parts_below(sorts: &[u16], e: usize, i: u16, sort: ResolvedSort) -> bool
+    ensures { λ r. ⌜ r ≡ partsBelow (now (sorts .entry)) e i sort ⌝ }
+{
+    match sort {
+        ResolvedSort::Unit => true,
+        ResolvedSort::Primitive(_) => true,
+        ResolvedSort::Container { op: _, subsort } => subsort.0 < i,
+        ResolvedSort::Function { domain, range } => function_fine(sorts, e, i, domain, range),
+        ResolvedSort::Def(_) => true,
+        ResolvedSort::TypeVar(_) => true,
+    }
+}
+
+// Whether row i is of a known kind and its parts are below it. Kinds above 13 are unknown.
+pub fn row_fine(sorts: &[u16], e: usize, i: u16) -> bool
+    ensures { λ r. ⌜ r ≡ rowFine (now (sorts .entry)) e i ⌝ }
+{
+    if 13 < word(sorts, 4 * (i as usize)) {
+        return false;
+    }
+    parts_below(sorts, e, i, get(sorts, SortId(i)))
+}
+
+// Check 3: each of the n rows is fine. None is left out.
+pub fn rows_fine(sorts: &[u16], n: usize, e: usize) -> bool
+    requires { ⌜ n ≤ maxSorts ⌝ }
+    ensures { λ r. ⌜ r ≡ rowsFine (now (sorts .entry)) n e ⌝ }
+{
+    let mut i: usize = 0;
+    while i < n {
+        if !row_fine(sorts, e, i as u16) {
+            return false;
+        }
+        i += 1;
+    }
+    true
+}
+
+// Whether no row below row j is the same as it. Row j itself does not count.
+pub fn new_row(sorts: &[u16], j: u16) -> bool
+    ensures { λ r. ⌜ r ≡ newRow (now (sorts .entry)) j ⌝ }
+{
+    let mut i: u16 = 0;
+    while i < j {
+        if same_rows(sorts, i, j) {
+            return false;
+        }
+        i += 1;
+    }
+    true
+}
+
+// Check 4 on rows: no two of the first n are the same. No pair is left out.
+pub fn no_two_equal_rows(sorts: &[u16], n: usize) -> bool
+    requires { ⌜ n ≤ maxSorts ⌝ }
+    ensures { λ r. ⌜ r ≡ noSameRows (now (sorts .entry)) n ⌝ }
+{
+    let mut j: usize = 0;
+    while j < n {
+        if !new_row(sorts, j as u16) {
+            return false;
+        }
+        j += 1;
+    }
+    true
+}
+
+// Checks 1 to 4: the first that fails.
+pub fn test_sorts(sorts: &[u16], sort_count: usize, entry_count: usize) -> Tested
+    ensures { λ r. ⌜ r ≡ testedOf (firstFailing (sortChecks (now (sorts .entry)) «sort_count» «entry_count»)) ⌝ }
+{
+    if !within_lent(sorts, sort_count, entry_count) {
+        return Tested::Refused(1);
+    }
+    if !fixed_six(sorts, sort_count) {
+        return Tested::Refused(2);
+    }
+    if !rows_fine(sorts, sort_count, entry_count) {
+        return Tested::Refused(3);
+    }
+    if !no_two_equal_rows(sorts, sort_count) {
+        return Tested::Refused(4);
+    }
+    Tested::Passed
+}
