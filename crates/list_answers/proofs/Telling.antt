@@ -11,7 +11,7 @@ use Rattle.inference.specs.declared.Solved.the-variants.{Refused, NoRoom, NoTyp
 use Rattle.inference.specs.SolveChecks.{Call}
 use Rattle.inference.specs.SolveEntry.{Left, solveEntry, codeSolved}
 use Rattle.inference.proofs.ListsLeft.{countsOf, sorts-only-grow}
-use Rattle.list_verdict.specs.Puts.{buffer, puts, Put}
+use Rattle.text_out.specs.Within.{buffer, puts, PutWithin}
 use Rattle.list_verdict.specs.Text.{verdictLine, newLines, typingText}
 use Rattle.list_call.specs.Lists.{countOf, sortsIn, typingIn, measureIn, choicesIn, callOn}
 use Rattle.list_solve.specs.Asked.{Asked, asked, askedOf}
@@ -61,7 +61,7 @@ module _ (I : Call) (r : Solved) (ss ts ms cs : List ℕ) (e : asked r ss ts ms 
   answer-tellable = subst (λ (A : Asked). Tellable (A .answer) (A .sorts)) (sym e) (left-tellable I)
 
   pub asked-and-told :
-      (ws out : List ℕ) (g x : ℕ) → g ≡ countOf ws 0 → x ≡ countOf ws 5 → {left : List ℕ} {n : ℕ} → Put out 0 (toldText g x r ss ts ms cs) left n
+      (ws out : List ℕ) (g x : ℕ) → g ≡ countOf ws 0 → x ≡ countOf ws 5 → {left : List ℕ} {n : ℕ} → PutWithin out 0 (toldText g x r ss ts ms cs) left n
       → told (buffer left n) ss ts ms cs ≡ toldOf ws out (solveEntry I)
   asked-and-told ws out g x eg ex p =
       (λ i. told (p .is i) ss ts ms cs)

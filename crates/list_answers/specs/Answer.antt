@@ -5,7 +5,7 @@ use Rattle.resolved_sort.specs.Rows.{Checked}
 use Rattle.inference.specs.declared.Solved.{Solved}
 use Rattle.inference.specs.declared.Solved.the-variants.{Refused, NoRoom, NoTyping, Ambiguous, Typing}
 use Rattle.inference.specs.SolveEntry.{Left, solveEntry, codeSolved}
-use Rattle.list_verdict.specs.Puts.{Buffer, puts}
+use Rattle.text_out.specs.Within.{Buffer, puts}
 use Rattle.list_verdict.specs.Text.{verdictLine, newLines, typingText}
 use Rattle.list_call.specs.Lists.{countOf, callIn}
 

@@ -12,7 +12,7 @@ ghost use mathlib.Core.Path.{_≡_};
 ghost use Prim.Native.Nat.{_≤_};
 ghost use lib.ListN.{length};
 ghost use Rattle.inference.specs.SolveEntry.{solveEntry};
-ghost use Rattle.list_verdict.specs.Puts.{buffer, Put};
+ghost use Rattle.text_out.specs.Within.{buffer, PutWithin};
 ghost use Rattle.list_call.specs.Lists.{callOn};
 ghost use Rattle.list_answers.specs.Answer.{toldText, Tellable, told as toldLeft, toldOf, answerLeft};
 
@@ -28,7 +28,7 @@ fn tell(
     out: &mut [u8],
 ) -> usize
     requires { ⌜ Tellable answer (now sorts) ⌝ }
-    ensures { λ r. ⌜ Put (now (out .entry)) 0 (toldText given exprs answer (now (sorts .entry)) (now (typing .entry)) (now (measure .entry)) (now (choices .entry))) (now (out .exit)) r ⌝ }
+    ensures { λ r. ⌜ PutWithin (now (out .entry)) 0 (toldText given exprs answer (now (sorts .entry)) (now (typing .entry)) (now (measure .entry)) (now (choices .entry))) (now (out .exit)) r ⌝ }
 {
     match answer {
         Solved::Refused(code) => put_verdict(code, out, 0),

@@ -9,7 +9,7 @@ use lib.ListN.{replicate}
 use Rattle.sort_text.specs.Parse.{sameBytes}
 use Rattle.sort_text.specs.Tokens.{run, past, skip}
 use Rattle.list_tokens.specs.Words as Words
-use Rattle.list_tokens.specs.Words.{bytesOf}
+use Rattle.text_out.specs.Quoted.{bytesOf}
 use Rattle.list_tokens.specs.Tokens as Tokens
 use Rattle.list_tokens.specs.Tokens.{tokensFrom}
 use Rattle.list_forms.specs.declared.Plan.{Plan}

@@ -10,12 +10,12 @@ use Rattle.list_memory.specs.declared.Form.{Form}
 use Rattle.list_memory.specs.declared.Heard.{Heard}
 use Rattle.list_memory.specs.declared.Heard.the-variants.{Quiet, Begins, Asks, AsksOther, Bad}
 use Rattle.list_memory.specs.Memory.{Taken, taken}
-use Rattle.list_tokens.specs.Words.{bytesOf}
+use Rattle.text_out.specs.Quoted.{bytesOf}
 use Rattle.list_messages.specs.Messages.{badText}
 use Rattle.list_reader.specs.Taking.{lineTaken}
 use Rattle.list_answers.specs.Answer.{answerText, answerLeft}
-use Rattle.list_verdict.specs.Puts.{Buffer, buffer, puts, Put}
-use Rattle.list_verdict.proofs.Puts.{put-none, put-as, put-then}
+use Rattle.text_out.specs.Within.{Buffer, buffer, puts, PutWithin}
+use Rattle.text_out.proofs.Within.{put-none, put-as, put-then}
 use Rattle.list_lines.specs.declared.Said.{Said}
 use Rattle.list_lines.specs.Lines.{unaskedText, stageOf, printed, numbered, LineLeft, lineLeft, leftBy, heardLine}
 
@@ -23,7 +23,7 @@ abbrev said : Bool → ℕ → Said
 said b end = record { numbered = b; end = end }
 
 module _ (ws line out : List ℕ) {vs : List ℕ} {h : Heard} (e : taken vs h ≡ lineTaken ws line) where
-  line-said : (H : Heard) → h ≡ H → {left : List ℕ} {end : ℕ} → Put out 0 (printed H line ws vs) left end
+  line-said : (H : Heard) → h ≡ H → {left : List ℕ} {end : ℕ} → PutWithin out 0 (printed H line ws vs) left end
       → lineLeft vs left (said (numbered H) end) ≡ heardLine ws line out
   unfolding heardLine
   line-said H k p =
@@ -34,7 +34,7 @@ module _ (ws line out : List ℕ) {vs : List ℕ} {h : Heard} (e : taken vs h �
   unfolding numbered printed
   quiet-said k = line-said Quiet k (put-none out 0)
 
-  pub title-said : h ≡ Begins → (stage : ℕ) → stage ≡ stageOf ws → {mid : List ℕ} {at : ℕ} → Put out 0 (unaskedText stage) mid at → {left : List ℕ} {end : ℕ} → Put mid at (line ++ (10 ∷ [])) left end
+  pub title-said : h ≡ Begins → (stage : ℕ) → stage ≡ stageOf ws → {mid : List ℕ} {at : ℕ} → PutWithin out 0 (unaskedText stage) mid at → {left : List ℕ} {end : ℕ} → PutWithin mid at (line ++ (10 ∷ [])) left end
       → lineLeft vs left (said false end) ≡ heardLine ws line out
   unfolding numbered printed
   title-said k stage s p q = line-said Begins k (put-then (put-as (ap unaskedText s) p) q)
@@ -43,19 +43,19 @@ module _ (ws line out : List ℕ) {vs : List ℕ} {h : Heard} (e : taken vs h �
   unfolding numbered printed answerLeft
   answer-said k p = line-said Asks k (record { is = p })
 
-  pub other-said : h ≡ AsksOther → {left : List ℕ} {end : ℕ} → Put out 0 (bytesOf "expected ? solve: no other question is answered here\n") left end
+  pub other-said : h ≡ AsksOther → {left : List ℕ} {end : ℕ} → PutWithin out 0 (bytesOf "expected ? solve: no other question is answered here\n") left end
       → lineLeft vs left (said true end) ≡ heardLine ws line out
   unfolding numbered printed
   other-said k p = line-said AsksOther k p
 
-  pub bad-said : (f : Form) → h ≡ Bad f → {left : List ℕ} {end : ℕ} → Put out 0 (badText f) left end → lineLeft vs left (said true end) ≡ heardLine ws line out
+  pub bad-said : (f : Form) → h ≡ Bad f → {left : List ℕ} {end : ℕ} → PutWithin out 0 (badText f) left end → lineLeft vs left (said true end) ≡ heardLine ws line out
   unfolding numbered printed
   bad-said f k p = line-said (Bad f) k p
 
-pub unasked-put : (stage : ℕ) → stage ≡ 1 → {out left : List ℕ} {at r : ℕ} → Put out at (bytesOf "nothing is asked about this list\n") left r → Put out at (unaskedText stage) left r
+pub unasked-put : (stage : ℕ) → stage ≡ 1 → {out left : List ℕ} {at r : ℕ} → PutWithin out at (bytesOf "nothing is asked about this list\n") left r → PutWithin out at (unaskedText stage) left r
 unfolding unaskedText
 unasked-put stage e p = put-as (rw e) p
 
-pub nothing-put : (stage : ℕ) → (stage ≡ 1 → ⊥) → (out : List ℕ) (at : ℕ) → Put out at (unaskedText stage) out at
+pub nothing-put : (stage : ℕ) → (stage ≡ 1 → ⊥) → (out : List ℕ) (at : ℕ) → PutWithin out at (unaskedText stage) out at
 unfolding unaskedText
 nothing-put stage n out at = put-as (sym (let z : unaskedText stage ≡ [] = rw (ne-eqb stage 1 n) in z)) (put-none out at)

@@ -7,11 +7,11 @@ use lib.ListN.{getD}
 use Rattle.list_memory.specs.declared.Heard.{Heard}
 use Rattle.list_memory.specs.declared.Heard.the-variants.{Quiet, Begins, Asks, AsksOther, Bad}
 use Rattle.list_memory.specs.Memory.{stageAt, Taken}
-use Rattle.list_tokens.specs.Words.{bytesOf}
+use Rattle.text_out.specs.Quoted.{bytesOf}
 use Rattle.list_messages.specs.Messages.{badText}
 use Rattle.list_reader.specs.Taking.{lineTaken}
 use Rattle.list_answers.specs.Answer.{answerText}
-use Rattle.list_verdict.specs.Puts.{Buffer, puts}
+use Rattle.text_out.specs.Within.{Buffer, puts}
 use Rattle.list_lines.specs.declared.Said.{Said}
 
 -- said of a list that ended before any question, by its stage

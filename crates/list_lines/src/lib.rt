@@ -3,10 +3,10 @@ use list_answers::answer;
 use list_memory::Heard;
 use list_messages::put_bad;
 use list_reader::take_line;
-use list_verdict::put_text;
+use text_out::put_text;
 ghost use mathlib.Core.Path.{_≡_};
 ghost use mathlib.Core.List.{[], _∷_, _++_};
-ghost use Rattle.list_verdict.specs.Puts.{Put};
+ghost use Rattle.text_out.specs.Within.{PutWithin};
 ghost use Rattle.list_lines.specs.Lines.{unaskedText, stageOf, lineLeft, heardLine};
 
 // Where the output of a line ends in the buffer, and whether the line's number is to stand before it.
@@ -17,7 +17,7 @@ pub struct Said {
 
 // What is said of a list that ended before any question, by its stage.
 fn put_unasked(stage: u16, out: &mut [u8], at: usize) -> usize
-    ensures { λ r. ⌜ Put (now (out .entry)) at (unaskedText stage) (now (out .exit)) r ⌝ }
+    ensures { λ r. ⌜ PutWithin (now (out .entry)) at (unaskedText stage) (now (out .exit)) r ⌝ }
 {
     if stage == 1 {
         return put_text(b"nothing is asked about this list\n", out, at);
@@ -27,7 +27,7 @@ fn put_unasked(stage: u16, out: &mut [u8], at: usize) -> usize
 
 // The line that begins a list.
 fn put_title(line: &[u8], out: &mut [u8], at: usize) -> usize
-    ensures { λ r. ⌜ Put (now (out .entry)) at (now (line .entry) ++ (10 ∷ [])) (now (out .exit)) r ⌝ }
+    ensures { λ r. ⌜ PutWithin (now (out .entry)) at (now (line .entry) ++ (10 ∷ [])) (now (out .exit)) r ⌝ }
 {
     let end = put_text(line, out, at);
     put_text(b"\n", out, end)
@@ -82,7 +82,7 @@ pub fn hear(list: &mut [u16; 34112], line: &[u8], out: &mut [u8]) -> Said
 
 // The end of the input.
 pub fn finish(list: &[u16; 34112], out: &mut [u8]) -> usize
-    ensures { λ r. ⌜ Put (now (out .entry)) 0 (unaskedText (stageOf (now (list .entry)))) (now (out .exit)) r ⌝ }
+    ensures { λ r. ⌜ PutWithin (now (out .entry)) 0 (unaskedText (stageOf (now (list .entry)))) (now (out .exit)) r ⌝ }
 {
     put_unasked(list[34103], out, 0)
 }

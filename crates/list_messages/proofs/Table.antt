@@ -5,9 +5,9 @@ use Prim.Native.Nat.{ℕ, zero, suc, _+_, _-_, _<_}
 use native.Mathlib.Omega.{arith}
 use lib.ListN.{getD, take, drop}
 use Rattle.list_memory.specs.declared.Form.{Form}
-use Rattle.list_tokens.specs.Words.{bytesOf}
-use Rattle.list_verdict.specs.Puts.{Put}
-use Rattle.list_verdict.proofs.Puts.{put-as}
+use Rattle.text_out.specs.Quoted.{bytesOf}
+use Rattle.text_out.specs.Within.{PutWithin}
+use Rattle.text_out.proofs.Within.{put-as}
 use Rattle.list_messages.specs.Messages.{messages, placeOf, formText}
 
 -- where each message begins, and the bytes of all, as in the code
@@ -42,5 +42,5 @@ message-of-the-table form b k h p e =
     e ∙ ap cut (omega arith) ∙ sym (cut-at 33 0 k h) ∙ ap (λ (ms : List (List ℕ)). getD ms k []) cuts-are-the-messages ∙ ap (λ (j : ℕ). getD messages j []) p
 
 -- the bytes from one start to the next, put
-pub message-is-put : (form : Form) (b : List ℕ) (k : ℕ) → (k ≡ placeOf form) × (k < 33) → b ≡ cut k → {out : List ℕ} {at : ℕ} {left : List ℕ} {r : ℕ} → Put out at b left r → Put out at (formText form) left r
+pub message-is-put : (form : Form) (b : List ℕ) (k : ℕ) → (k ≡ placeOf form) × (k < 33) → b ≡ cut k → {out : List ℕ} {at : ℕ} {left : List ℕ} {r : ℕ} → PutWithin out at b left r → PutWithin out at (formText form) left r
 message-is-put form b k p e h = put-as (message-of-the-table form b k (p .1) (p .0) e) h

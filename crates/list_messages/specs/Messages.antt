@@ -2,7 +2,7 @@
 use mathlib.Core.List.{List, [], _∷_, _++_, map}
 use Prim.Native.Nat.{ℕ}
 use lib.ListN.{getD}
-use Rattle.list_tokens.specs.Words.{bytesOf}
+use Rattle.text_out.specs.Quoted.{bytesOf}
 use Rattle.list_memory.specs.declared.Form.{Form}
 use Rattle.list_memory.specs.declared.Form.the-variants.{Printable, Length, List as FormList, Question, Asked, Keyword, Next, Bare, Sort, Node, Entries, NodeEntries, Pad, Var, Vars, Bind, Unbound, Expr, Name, Names, Default, Sub, Lit, Comprehension, Disjunction, Overload, Join, Sources, Constraint, Count, Lend, Ceilings, Asks}
 

@@ -1,10 +1,10 @@
 // What is said of a line that is not of the format (docs/FORMAT.md): what was expected there.
 use list_memory::Form;
-use list_verdict::put_text;
 use sort_lexer::between;
+use text_out::put_text;
 ghost use mathlib.Core.Path.{_≡_};
 ghost use Prim.Native.Nat.{_<_};
-ghost use Rattle.list_verdict.specs.Puts.{Put};
+ghost use Rattle.text_out.specs.Within.{PutWithin};
 ghost use Rattle.list_messages.specs.Messages.{placeOf, formText, badText};
 
 // Where each message begins in the bytes of all, and the last one ends.
@@ -88,7 +88,7 @@ fn place_of(form: Form) -> usize
 
 // What was expected.
 fn put_form(form: Form, out: &mut [u8], at: usize) -> usize
-    ensures { λ r. ⌜ Put (now (out .entry)) at (formText form) (now (out .exit)) r ⌝ }
+    ensures { λ r. ⌜ PutWithin (now (out .entry)) at (formText form) (now (out .exit)) r ⌝ }
 {
     let k = place_of(form);
     let from = STARTS[k];
@@ -103,7 +103,7 @@ fn put_form(form: Form, out: &mut [u8], at: usize) -> usize
 
 // The line, but for the number of the line that it speaks of.
 pub fn put_bad(form: Form, out: &mut [u8], at: usize) -> usize
-    ensures { λ r. ⌜ Put (now (out .entry)) at (badText form) (now (out .exit)) r ⌝ }
+    ensures { λ r. ⌜ PutWithin (now (out .entry)) at (badText form) (now (out .exit)) r ⌝ }
 {
     let what = put_text(b"expected ", out, at);
     let end = put_form(form, out, what);

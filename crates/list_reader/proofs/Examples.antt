@@ -14,7 +14,7 @@ use Rattle.list_memory.specs.declared.Heard.the-variants.{Quiet, Begins, Asks, 
 use Rattle.list_memory.specs.Memory as Memory
 use Rattle.list_memory.specs.Memory.{Taken, taken}
 use Rattle.list_tokens.specs.Words as Words
-use Rattle.list_tokens.specs.Words.{bytesOf}
+use Rattle.text_out.specs.Quoted.{bytesOf}
 use Rattle.list_tokens.specs.Tokens as Tokens
 use Rattle.list_forms.specs.Items as Items
 use Rattle.list_forms.specs.Plans as Plans

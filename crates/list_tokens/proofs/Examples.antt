@@ -8,7 +8,8 @@ use Rattle.sort_text.specs.Parse.{sameBytes}
 use Rattle.sort_text.specs.Tokens.{run, past, skip}
 use Rattle.list_tokens.specs.declared.Start.{Start}
 use Rattle.list_tokens.specs.declared.Start.the-variants.{Skipped, Answer, NewList, Other}
-use Rattle.list_tokens.specs.Words.{bytesOf, words, placeIn, keywordOf}
+use Rattle.list_tokens.specs.Words.{words, placeIn, keywordOf}
+use Rattle.text_out.specs.Quoted.{bytesOf}
 use Rattle.list_tokens.specs.Tokens.{decimal, numberOf, classOf, nameOf, tokenOf, tokensFrom, startOf}
 
 -- the words of a text, six at most

@@ -11,7 +11,8 @@ use lib.ListN.{length, getD, take, drop, drop-of-length-le}
 use lib.Seq.{drop-cons}
 use borrow.Author.Tests.{ne-eqb}
 use Rattle.sort_text.specs.Parse.{sameBytes}
-use Rattle.list_tokens.specs.Words.{bytesOf, words, placeIn, keywordOf}
+use Rattle.list_tokens.specs.Words.{words, placeIn, keywordOf}
+use Rattle.text_out.specs.Quoted.{bytesOf}
 
 module _ (ws : List (List ℕ)) (w : List ℕ) (k : ℕ) (inv : placeIn ws w 1 ≡ placeIn (drop k ws) w (k + 1)) where
   module _ (h : k < length ws) (r : Bool) (e : r ≡ sameBytes w (getD ws k [])) where

@@ -5,6 +5,7 @@ use Prim.Native.Nat.{ℕ, _+_}
 use Prim.Native.Char.{code}
 use Prim.Native.String.{String, [] as []ˢ, _∷_ as _∷ˢ_}
 use Rattle.sort_text.specs.Parse.{sameBytes}
+use Rattle.text_out.specs.Quoted.{bytesOf}
 
 abbrev pub kList : ℕ
 kList = 1
@@ -183,11 +184,6 @@ kIsMaterializable = 58
 -- the words of the fixed six sorts begin here
 abbrev pub kUnit : ℕ
 kUnit = 59
-
--- the bytes of a text
-unfoldable pub bytesOf : String → List ℕ
-bytesOf []ˢ = []
-bytesOf (c ∷ˢ cs) = code c ∷ bytesOf cs
 
 unfoldable pub words : List (List ℕ)
 words =

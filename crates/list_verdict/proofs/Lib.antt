@@ -1,4 +1,4 @@
 -- The laws of text put into a buffer as far as it has room.
 pub mod Pieces
-pub mod Puts
 pub mod Ways
+pub mod RowsPut

@@ -8,9 +8,10 @@ use Rattle.resolved_sort.specs.Interning.{look}
 use Rattle.resolved_sort.specs.Storage.{resolved, lookAll, treeOf, trees, entriesOf}
 use Rattle.sort_text.specs.Parse.{sortWord, opWord}
 use Rattle.sort_text.specs.Text.{writable, text}
-use Rattle.list_verdict.specs.Puts.{puts, buffer}
+use Rattle.text_out.specs.Within.{puts, buffer}
 use Rattle.list_verdict.specs.Words.{kindWord, message}
-use Rattle.list_verdict.specs.Text.{rowsText, digit, decimal, name, sortName, short, sortText, targetText, exprLine, comma, component, measureLine, choice, choiceList, choicesLine, argument, parts, newLine, verdictLine, newLines, typingText}
+use Rattle.list_verdict.specs.Text.{rowsText, name, sortName, short, sortText, targetText, exprLine, comma, component, measureLine, choice, choiceList, choicesLine, argument, parts, newLine, verdictLine, newLines, typingText}
+use Rattle.text_out.specs.Decimal.{digit, decimal}
 
 -- the fixed six, s6 Set Pos, s7 fn Bool s6 -> Nat, s8 Def 40513
 abbrev sorts : List ℕ

@@ -18,14 +18,16 @@ use Rattle.resolved_sort.proofs.Interned.{Listed}
 use Rattle.resolved_sort.proofs.Trees.{length-trees}
 use Rattle.sort_text.specs.Text.{writable, text, arrow}
 use Rattle.sort_writer.specs.Sizes.{most, capped, sizeIf, sized, sizesTo}
-use Rattle.sort_writer.specs.Puts.{Put as PutAll, SortRoom}
+use Rattle.sort_writer.specs.Puts.{SortRoom}
+use Rattle.text_out.specs.Put.{Put}
 use Rattle.sort_writer.proofs.Sizes.{capped-short, capped-long, text-some}
 use Rattle.sort_writer.proofs.Fills.{sizes-right}
-use Rattle.list_verdict.specs.Puts.{puts, Put}
+use Rattle.text_out.specs.Within.{puts, PutWithin}
 use Rattle.list_verdict.specs.Words.{kindWords, kindWord, messages, message, variableText, builtinText, opText, noneText}
-use Rattle.list_verdict.specs.Text.{rowsText, decimal, name, sortName, short, sortText, targetText, comma, choice, choiceList, argument, parts}
+use Rattle.list_verdict.specs.Text.{rowsText, name, sortName, short, sortText, targetText, comma, choice, choiceList, argument, parts}
+use Rattle.text_out.specs.Decimal.{decimal}
 use Rattle.list_verdict.specs.Room.{SizesOf}
-use Rattle.list_verdict.proofs.Puts.{put-as, put-none}
+use Rattle.text_out.proofs.Within.{put-as, put-none}
 
 -- words past those of the lists
 more : (a b : ℕ) → a ≤ b → (b ≡ a → ⊥) → a + 1 ≤ b
@@ -188,7 +190,7 @@ module _ (ws : List ℕ) (k : Counts) (zs : List ℕ) (s : ℕ) where
       pub has-room : (buf : List ℕ) → length buf ≡ 200 → SortRoom ws (k .sorts) (k .entries) s buf 0
       has-room buf l = record { checked = q .checked; below = below; room = omega (arith, fits .1, l) }
 
-      module _ (buf : List ℕ) (l : length buf ≡ 200) (left : List ℕ) (end : ℕ) (p : PutAll buf 0 (text (treeAt ws (k .sorts) s)) left end) where
+      module _ (buf : List ℕ) (l : length buf ≡ 200) (left : List ℕ) (end : ℕ) (p : Put buf 0 (text (treeAt ws (k .sorts) s)) left end) where
         pub text-ends : end ≤ length left
         text-ends = omega (arith, fits .1, p .behind, ap length (p .bytes), length-sets buf 0 (text (treeAt ws (k .sorts) s)), l)
 

@@ -1,5 +1,4 @@
 -- What the contracts of this crate cite.
-pub mod Puts
 pub mod Words
 pub mod Text
 pub mod Room

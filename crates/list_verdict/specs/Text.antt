@@ -9,18 +9,12 @@ use Rattle.resolved_sort.specs.Storage.{kindAt, partAt, startAt, countAt, entry
 use Rattle.resolved_sort.specs.Entries.{treeAt}
 use Rattle.sort_text.specs.Text.{writable, text, arrow}
 use Rattle.list_verdict.specs.Words.{kindWord, message, variableText, builtinText, opText, measureText, choicesText, noneText, newText}
+use Rattle.text_out.specs.Decimal.{decimal}
 
 -- the texts of the m rows from i on, one after another
 unfoldable pub rowsText : (ℕ → List ℕ) → ℕ → ℕ → List ℕ
 rowsText row zero i = []
 rowsText row (suc m) i = row i ++ rowsText row m (i + 1)
-
--- a number below 100,000 in decimal: a digit for each unit that it reaches
-unfoldable pub digit : ℕ → ℕ → List ℕ
-digit unit n = cond (ltb n unit) [] ((48 + n / unit % 10) ∷ [])
-
-unfoldable pub decimal : ℕ → List ℕ
-decimal n = digit 10000 n ++ (digit 1000 n ++ (digit 100 n ++ (digit 10 n ++ ((48 + n % 10) ∷ []))))
 
 -- a letter and a number: `s7`, `e0`
 unfoldable pub name : ℕ → ℕ → List ℕ

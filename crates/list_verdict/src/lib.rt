@@ -5,64 +5,20 @@ use resolved_sort::SortId;
 use sort_writer::fill_sizes;
 use sort_writer::put_sort;
 use sort_writer::size_at;
+use text_out::put_byte;
+use text_out::put_number;
+use text_out::put_text;
 use words::word;
-ghost use mathlib.Core.List.{[], _∷_};
 ghost use Prim.Native.Nat.{_+_, _*_, _<_, _≤_};
 ghost use Rattle.resolved_sort.specs.Rows.{Checked};
-ghost use Rattle.list_verdict.specs.Puts.{Put};
+ghost use Rattle.text_out.specs.Within.{PutWithin};
 ghost use Rattle.list_verdict.specs.Words.{kindWord, message};
-ghost use Rattle.list_verdict.specs.Text.{rowsText, digit, decimal, name, sortName, sortText, targetText, exprLine, comma, component, measureLine, choice, choiceList, choicesLine, argument, parts, newLine, verdictLine, newLines, typingText};
+ghost use Rattle.list_verdict.specs.Text.{rowsText, name, sortName, sortText, targetText, exprLine, comma, component, measureLine, choice, choiceList, choicesLine, argument, parts, newLine, verdictLine, newLines, typingText};
 ghost use Rattle.list_verdict.specs.Room.{SizesOf};
-
-// One byte. Past the end of the buffer it is lost, and the place stays.
-fn put_byte(byte: u8, out: &mut [u8], at: usize) -> usize
-    ensures { λ r. ⌜ Put (now (out .entry)) at (byte ∷ []) (now (out .exit)) r ⌝ }
-{
-    if at < out.len() {
-        out[at] = byte;
-        return at + 1;
-    }
-    at
-}
-
-// Bytes, as far as there is room; the place behind them.
-pub fn put_text(bytes: &[u8], out: &mut [u8], at: usize) -> usize
-    ensures { λ r. ⌜ Put (now (out .entry)) at (now (bytes .entry)) (now (out .exit)) r ⌝ }
-{
-    let mut place = at;
-    let mut i: usize = 0;
-    while i < bytes.len() {
-        place = put_byte(bytes[i], out, place);
-        i += 1;
-    }
-    place
-}
-
-// The digit of a number for a unit that it reaches.
-fn put_digit(n: u16, unit: u16, out: &mut [u8], at: usize) -> usize
-    requires { ⌜ 1 ≤ unit ⌝ }
-    ensures { λ r. ⌜ Put (now (out .entry)) at (digit unit n) (now (out .exit)) r ⌝ }
-{
-    if n < unit {
-        return at;
-    }
-    put_byte((48 + (n / unit) % 10) as u8, out, at)
-}
-
-// A number in decimal.
-pub fn put_number(n: u16, out: &mut [u8], at: usize) -> usize
-    ensures { λ r. ⌜ Put (now (out .entry)) at (decimal n) (now (out .exit)) r ⌝ }
-{
-    let thousands = put_digit(n, 10000, out, at);
-    let hundreds = put_digit(n, 1000, out, thousands);
-    let tens = put_digit(n, 100, out, hundreds);
-    let ones = put_digit(n, 10, out, tens);
-    put_byte((48 + n % 10) as u8, out, ones)
-}
 
 // A letter and a number.
 fn put_name(letter: u8, n: u16, out: &mut [u8], at: usize) -> usize
-    ensures { λ r. ⌜ Put (now (out .entry)) at (name letter n) (now (out .exit)) r ⌝ }
+    ensures { λ r. ⌜ PutWithin (now (out .entry)) at (name letter n) (now (out .exit)) r ⌝ }
 {
     let digits = put_byte(letter, out, at);
     put_number(n, out, digits)
@@ -71,7 +27,7 @@ fn put_name(letter: u8, n: u16, out: &mut [u8], at: usize) -> usize
 // The word of a kind below 6: of the fixed six sorts.
 fn put_six(kind: u16, out: &mut [u8], at: usize) -> usize
     requires { ⌜ kind < 6 ⌝ }
-    ensures { λ r. ⌜ Put (now (out .entry)) at (kindWord kind) (now (out .exit)) r ⌝ }
+    ensures { λ r. ⌜ PutWithin (now (out .entry)) at (kindWord kind) (now (out .exit)) r ⌝ }
 {
     match kind {
         0 => put_text(b"unit", out, at),
@@ -85,7 +41,7 @@ fn put_six(kind: u16, out: &mut [u8], at: usize) -> usize
 
 // The word of a kind of sorts.
 fn put_kind(kind: u16, out: &mut [u8], at: usize) -> usize
-    ensures { λ r. ⌜ Put (now (out .entry)) at (kindWord kind) (now (out .exit)) r ⌝ }
+    ensures { λ r. ⌜ PutWithin (now (out .entry)) at (kindWord kind) (now (out .exit)) r ⌝ }
 {
     if kind < 6 {
         return put_six(kind, out, at);
@@ -105,7 +61,7 @@ fn put_kind(kind: u16, out: &mut [u8], at: usize) -> usize
 // What the codes below 7 say.
 fn put_early(code: u16, out: &mut [u8], at: usize) -> usize
     requires { ⌜ code < 7 ⌝ }
-    ensures { λ r. ⌜ Put (now (out .entry)) at (message code) (now (out .exit)) r ⌝ }
+    ensures { λ r. ⌜ PutWithin (now (out .entry)) at (message code) (now (out .exit)) r ⌝ }
 {
     match code {
         0 => put_text(b"a typing", out, at),
@@ -137,7 +93,7 @@ fn put_early(code: u16, out: &mut [u8], at: usize) -> usize
 // What the codes from 7 to 12 say.
 fn put_late(code: u16, out: &mut [u8], at: usize) -> usize
     requires { ⌜ (7 ≤ code) × (code < 13) ⌝ }
-    ensures { λ r. ⌜ Put (now (out .entry)) at (message code) (now (out .exit)) r ⌝ }
+    ensures { λ r. ⌜ PutWithin (now (out .entry)) at (message code) (now (out .exit)) r ⌝ }
 {
     match code {
         7 => put_text(b"a variable reaches itself", out, at),
@@ -167,7 +123,7 @@ fn put_late(code: u16, out: &mut [u8], at: usize) -> usize
 
 // What a code says.
 fn put_message(code: u16, out: &mut [u8], at: usize) -> usize
-    ensures { λ r. ⌜ Put (now (out .entry)) at (message code) (now (out .exit)) r ⌝ }
+    ensures { λ r. ⌜ PutWithin (now (out .entry)) at (message code) (now (out .exit)) r ⌝ }
 {
     if code < 7 {
         return put_early(code, out, at);
@@ -191,7 +147,7 @@ fn put_message(code: u16, out: &mut [u8], at: usize) -> usize
 
 // The line of a code.
 pub fn put_verdict(code: u16, out: &mut [u8], at: usize) -> usize
-    ensures { λ r. ⌜ Put (now (out .entry)) at (verdictLine code) (now (out .exit)) r ⌝ }
+    ensures { λ r. ⌜ PutWithin (now (out .entry)) at (verdictLine code) (now (out .exit)) r ⌝ }
 {
     let space = put_number(code, out, at);
     let words = put_byte(32, out, space);
@@ -201,7 +157,7 @@ pub fn put_verdict(code: u16, out: &mut [u8], at: usize) -> usize
 
 // A sort as the text format names it.
 fn put_sort_name(s: u16, out: &mut [u8], at: usize) -> usize
-    ensures { λ r. ⌜ Put (now (out .entry)) at (sortName s) (now (out .exit)) r ⌝ }
+    ensures { λ r. ⌜ PutWithin (now (out .entry)) at (sortName s) (now (out .exit)) r ⌝ }
 {
     if s < 6 {
         return put_six(s, out, at);
@@ -211,7 +167,7 @@ fn put_sort_name(s: u16, out: &mut [u8], at: usize) -> usize
 
 // A comma and a space before all but the first.
 fn put_comma(i: u16, out: &mut [u8], at: usize) -> usize
-    ensures { λ r. ⌜ Put (now (out .entry)) at (comma i) (now (out .exit)) r ⌝ }
+    ensures { λ r. ⌜ PutWithin (now (out .entry)) at (comma i) (now (out .exit)) r ⌝ }
 {
     if i == 0 {
         return at;
@@ -221,7 +177,7 @@ fn put_comma(i: u16, out: &mut [u8], at: usize) -> usize
 
 // The measure so far, from its first component on.
 fn put_components(measure: &[u16], count: u16, out: &mut [u8], at: usize) -> usize
-    ensures { λ r. ⌜ Put (now (out .entry)) at (rowsText (component (now (measure .entry))) count 0) (now (out .exit)) r ⌝ }
+    ensures { λ r. ⌜ PutWithin (now (out .entry)) at (rowsText (component (now (measure .entry))) count 0) (now (out .exit)) r ⌝ }
 {
     let mut place = at;
     let mut i: u16 = 0;
@@ -235,7 +191,7 @@ fn put_components(measure: &[u16], count: u16, out: &mut [u8], at: usize) -> usi
 
 // The line of a measure.
 fn put_measure(measure: &[u16], count: u16, out: &mut [u8], at: usize) -> usize
-    ensures { λ r. ⌜ Put (now (out .entry)) at (measureLine (now (measure .entry)) count) (now (out .exit)) r ⌝ }
+    ensures { λ r. ⌜ PutWithin (now (out .entry)) at (measureLine (now (measure .entry)) count) (now (out .exit)) r ⌝ }
 {
     let first = put_text(b"measure [", out, at);
     let end = put_components(measure, count, out, first);
@@ -244,7 +200,7 @@ fn put_measure(measure: &[u16], count: u16, out: &mut [u8], at: usize) -> usize
 
 // A chosen overload: its expression and its position.
 fn put_choice(choices: &[u16], i: u16, out: &mut [u8], at: usize) -> usize
-    ensures { λ r. ⌜ Put (now (out .entry)) at (choice (now (choices .entry)) i) (now (out .exit)) r ⌝ }
+    ensures { λ r. ⌜ PutWithin (now (out .entry)) at (choice (now (choices .entry)) i) (now (out .exit)) r ⌝ }
 {
     let row = 2 * (i as usize);
     let expr = put_comma(i, out, at);
@@ -255,7 +211,7 @@ fn put_choice(choices: &[u16], i: u16, out: &mut [u8], at: usize) -> usize
 
 // The chosen overloads, in the order handed out.
 fn put_choice_rows(choices: &[u16], count: u16, out: &mut [u8], at: usize) -> usize
-    ensures { λ r. ⌜ Put (now (out .entry)) at (rowsText (choice (now (choices .entry))) count 0) (now (out .exit)) r ⌝ }
+    ensures { λ r. ⌜ PutWithin (now (out .entry)) at (rowsText (choice (now (choices .entry))) count 0) (now (out .exit)) r ⌝ }
 {
     let mut place = at;
     let mut i: u16 = 0;
@@ -268,7 +224,7 @@ fn put_choice_rows(choices: &[u16], count: u16, out: &mut [u8], at: usize) -> us
 
 // The chosen overloads, or that there are none.
 fn put_choice_list(choices: &[u16], count: u16, out: &mut [u8], at: usize) -> usize
-    ensures { λ r. ⌜ Put (now (out .entry)) at (choiceList (now (choices .entry)) count) (now (out .exit)) r ⌝ }
+    ensures { λ r. ⌜ PutWithin (now (out .entry)) at (choiceList (now (choices .entry)) count) (now (out .exit)) r ⌝ }
 {
     if count == 0 {
         return put_text(b"none", out, at);
@@ -278,7 +234,7 @@ fn put_choice_list(choices: &[u16], count: u16, out: &mut [u8], at: usize) -> us
 
 // The line of the choices.
 fn put_choices(choices: &[u16], count: u16, out: &mut [u8], at: usize) -> usize
-    ensures { λ r. ⌜ Put (now (out .entry)) at (choicesLine (now (choices .entry)) count) (now (out .exit)) r ⌝ }
+    ensures { λ r. ⌜ PutWithin (now (out .entry)) at (choicesLine (now (choices .entry)) count) (now (out .exit)) r ⌝ }
 {
     let first = put_text(b"choices ", out, at);
     let end = put_choice_list(choices, count, out, first);
@@ -287,7 +243,7 @@ fn put_choices(choices: &[u16], count: u16, out: &mut [u8], at: usize) -> usize
 
 // The arguments of a function, a space before each.
 fn put_arguments(sorts: &[u16], start: u16, count: u16, out: &mut [u8], at: usize) -> usize
-    ensures { λ r. ⌜ Put (now (out .entry)) at (rowsText (argument (now (sorts .entry))) count start) (now (out .exit)) r ⌝ }
+    ensures { λ r. ⌜ PutWithin (now (out .entry)) at (rowsText (argument (now (sorts .entry))) count start) (now (out .exit)) r ⌝ }
 {
     let mut place = at;
     let mut i: usize = start as usize;
@@ -302,7 +258,7 @@ fn put_arguments(sorts: &[u16], start: u16, count: u16, out: &mut [u8], at: usiz
 
 // What follows the kind in the row of a sort.
 fn put_parts(sorts: &[u16], i: u16, out: &mut [u8], at: usize) -> usize
-    ensures { λ r. ⌜ Put (now (out .entry)) at (parts (now (sorts .entry)) i) (now (out .exit)) r ⌝ }
+    ensures { λ r. ⌜ PutWithin (now (out .entry)) at (parts (now (sorts .entry)) i) (now (out .exit)) r ⌝ }
 {
     let row = 4 * (i as usize);
     let kind = word(sorts, row);
@@ -325,7 +281,7 @@ fn put_parts(sorts: &[u16], i: u16, out: &mut [u8], at: usize) -> usize
 
 // The line of a sort that was made.
 fn put_new(sorts: &[u16], i: u16, out: &mut [u8], at: usize) -> usize
-    ensures { λ r. ⌜ Put (now (out .entry)) at (newLine (now (sorts .entry)) i) (now (out .exit)) r ⌝ }
+    ensures { λ r. ⌜ PutWithin (now (out .entry)) at (newLine (now (sorts .entry)) i) (now (out .exit)) r ⌝ }
 {
     let number = put_text(b"new ", out, at);
     let space = put_name(115, i, out, number);
@@ -337,7 +293,7 @@ fn put_new(sorts: &[u16], i: u16, out: &mut [u8], at: usize) -> usize
 
 // The lines of the sorts from the given ones up to those kept.
 pub fn put_new_sorts(sorts: &[u16], given: u16, count: u16, out: &mut [u8], at: usize) -> usize
-    ensures { λ r. ⌜ Put (now (out .entry)) at (newLines (now (sorts .entry)) given count) (now (out .exit)) r ⌝ }
+    ensures { λ r. ⌜ PutWithin (now (out .entry)) at (newLines (now (sorts .entry)) given count) (now (out .exit)) r ⌝ }
 {
     let mut place = at;
     let mut i = given;
@@ -358,7 +314,7 @@ fn put_sort_text(
     at: usize,
 ) -> usize
     requires { ⌜ SizesOf (now sorts) counts (now sizes) ⌝ }
-    ensures { λ r. ⌜ Put (now (out .entry)) at (sortText (now (sorts .entry)) (counts .sorts) s) (now (out .exit)) r ⌝ }
+    ensures { λ r. ⌜ PutWithin (now (out .entry)) at (sortText (now (sorts .entry)) (counts .sorts) s) (now (out .exit)) r ⌝ }
 {
     if counts.sorts <= s {
         return put_name(115, s, out, at);
@@ -386,7 +342,7 @@ fn put_target(
     at: usize,
 ) -> usize
     requires { ⌜ SizesOf (now sorts) counts (now sizes) ⌝ }
-    ensures { λ r. ⌜ Put (now (out .entry)) at (targetText (now (sorts .entry)) (counts .sorts) kind s) (now (out .exit)) r ⌝ }
+    ensures { λ r. ⌜ PutWithin (now (out .entry)) at (targetText (now (sorts .entry)) (counts .sorts) kind s) (now (out .exit)) r ⌝ }
 {
     if kind == 1 {
         return put_text(b", variable", out, at);
@@ -412,7 +368,7 @@ fn put_expr(
     at: usize,
 ) -> usize
     requires { ⌜ SizesOf (now sorts) counts (now sizes) ⌝ }
-    ensures { λ r. ⌜ Put (now (out .entry)) at (exprLine (now (sorts .entry)) (counts .sorts) (now (typing .entry)) i) (now (out .exit)) r ⌝ }
+    ensures { λ r. ⌜ PutWithin (now (out .entry)) at (exprLine (now (sorts .entry)) (counts .sorts) (now (typing .entry)) i) (now (out .exit)) r ⌝ }
 {
     let row = 3 * (i as usize);
     let colon = put_name(101, i, out, at);
@@ -442,7 +398,7 @@ fn put_exprs(
     at: usize,
 ) -> usize
     requires { ⌜ SizesOf (now sorts) counts (now sizes) ⌝ }
-    ensures { λ r. ⌜ Put (now (out .entry)) at (rowsText (exprLine (now (sorts .entry)) (counts .sorts) (now (typing .entry))) count 0) (now (out .exit)) r ⌝ }
+    ensures { λ r. ⌜ PutWithin (now (out .entry)) at (rowsText (exprLine (now (sorts .entry)) (counts .sorts) (now (typing .entry))) count 0) (now (out .exit)) r ⌝ }
 {
     let mut place = at;
     let mut i: u16 = 0;
@@ -467,7 +423,7 @@ pub fn put_typing(
     at: usize,
 ) -> usize
     requires { ⌜ Checked (now sorts) (counts .sorts) (counts .entries) ⌝ }
-    ensures { λ r. ⌜ Put (now (out .entry)) at (typingText (now (sorts .entry)) (counts .sorts) (now (typing .entry)) (now (measure .entry)) (now (choices .entry)) exprs components chosen) (now (out .exit)) r ⌝ }
+    ensures { λ r. ⌜ PutWithin (now (out .entry)) at (typingText (now (sorts .entry)) (counts .sorts) (now (typing .entry)) (now (measure .entry)) (now (choices .entry)) exprs components chosen) (now (out .exit)) r ⌝ }
 {
     let mut sizes = [0usize; 1024];
     fill_sizes(sorts, counts.sorts as usize, &mut sizes);

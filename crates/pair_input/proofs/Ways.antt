@@ -10,8 +10,8 @@ use lib.Seq.{take-all, take-take, take-add, take-suc, take-set-le, drop-set-add,
 use lib.Dec.{eqb, ltb}
 use borrow.Author.Tests.{ltb-true, ltb-false, lt-ltb, le-ltb, eq-eqb, ne-eqb}
 use Rattle.pair_line.specs.PairProgram.{lineOf, single, pair}
-use Rattle.sort_writer.specs.Puts.{Put}
-use Rattle.sort_writer.proofs.Puts.{put-none, put-then, put-as, put-length}
+use Rattle.text_out.specs.Put.{Put}
+use Rattle.text_out.proofs.Put.{put-none, put-then, put-as, put-length}
 use Rattle.pair_line.specs.Room.{lineRoom}
 use Rattle.pair_line.specs.Answers.{withLf}
 use Rattle.pair_line.proofs.Ways.{pair-has-room, single-has-room}

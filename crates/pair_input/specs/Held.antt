@@ -4,7 +4,7 @@ use mathlib.Core.Bool.{Bool, true}
 use mathlib.Core.List.{List}
 use Prim.Native.Nat.{ℕ, _+_, _<_, _≤_}
 use lib.ListN.{length, take, drop}
-use Rattle.sort_writer.specs.Puts.{Put}
+use Rattle.text_out.specs.Put.{Put}
 use Rattle.pair_line.specs.Room.{lineRoom}
 use Rattle.pair_input.specs.declared.Held.{Held}
 use Rattle.pair_input.specs.declared.Held.the-variants.{First, Second}

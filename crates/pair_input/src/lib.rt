@@ -5,7 +5,7 @@ use pair_line::put_single;
 ghost use Prim.Native.Nat.{_+_, _≤_};
 ghost use lib.ListN.{length};
 ghost use Rattle.pair_line.specs.PairProgram.{pair as pairOf};
-ghost use Rattle.sort_writer.specs.Puts.{Put};
+ghost use Rattle.text_out.specs.Put.{Put};
 ghost use Rattle.pair_line.specs.Room.{lineRoom};
 ghost use Rattle.pair_line.specs.Answers.{withLf};
 ghost use Rattle.pair_input.specs.ByteByByte.{mostHeld, takeByte, atEnd};

@@ -16,8 +16,8 @@ use Rattle.resolved_sort.specs.Rows.{Checked}
 use Rattle.pair_line.specs.PairProgram.{sign, sortOrNone, stepsOrNone, yesOrNo, comma, answer}
 use Rattle.sort_text.proofs.Length.{line-wide}
 use Rattle.pair_line.proofs.PairLength.{answer-length}
-use Rattle.sort_writer.specs.Puts.{Put}
-use Rattle.sort_writer.proofs.Puts.{put-then, put-as, put-length}
+use Rattle.text_out.specs.Put.{Put}
+use Rattle.text_out.proofs.Put.{put-then, put-as, put-length}
 use Rattle.pair_line.specs.Room.{OfLine, Grows, BothRead, BoundRoom}
 use Rattle.pair_line.specs.Answers.{stepsText, withLf}
 

@@ -28,8 +28,9 @@ use Rattle.pair_line.specs.PairProgram.{sortOrNone, noneText, comma}
 use Rattle.sort_text.proofs.Readable.{size}
 use Rattle.sort_text.proofs.WhatIsRead.{line-nodes}
 use Rattle.sort_text.proofs.Sizes.{entriesOf, entries-below-size, Spent, Within, AnyTree, make-within, make-not-full}
-use Rattle.sort_writer.specs.Puts.{Put, SortRoom}
-use Rattle.sort_writer.proofs.Puts.{put-then, put-as, put-length}
+use Rattle.sort_writer.specs.Puts.{SortRoom}
+use Rattle.text_out.specs.Put.{Put}
+use Rattle.text_out.proofs.Put.{put-then, put-as, put-length}
 use Rattle.pair_line.specs.Room.{Grows, BoundRoom}
 use Rattle.pair_line.proofs.Grows.{grows}
 

@@ -22,8 +22,9 @@ use Rattle.pair_line.proofs.PairLength.{pair-length, single-length}
 use Rattle.sort_recogniser.specs.declared.Recognised.{Recognised}
 use Rattle.sort_recogniser.specs.declared.Recognised.the-variants.{Done, Stuck}
 use Rattle.sort_recogniser.specs.Says.{Says}
-use Rattle.sort_writer.specs.Puts.{Put}
-use Rattle.sort_writer.proofs.Puts.{put-then, put-as, put-length, put-front}
+use Rattle.text_out.specs.Put.{Put}
+use Rattle.text_out.proofs.Put.{put-then, put-as, put-length}
+use Rattle.sort_writer.proofs.Front.{put-front}
 use Rattle.pair_line.specs.Room.{lineRoom, OfLine, Begun, FirstRead, BothRead}
 use Rattle.pair_line.specs.Answers.{stepsText, withLf, lineLeft}
 use Rattle.pair_line.proofs.Lines.{line-long, line-good, line-wrong}

@@ -15,8 +15,8 @@ use sort_recogniser::Recognised;
 use sort_recogniser::recognise;
 use sort_text::Read;
 use sort_text::Written;
-use sort_writer::put_bytes;
 use sort_writer::put_sort;
+use text_out::put_bytes;
 ghost use mathlib.Core.Path.{_≡_};
 ghost use mathlib.Core.Bool.{true, false};
 ghost use mathlib.Core.List.{[], _∷_, _++_};
@@ -27,7 +27,7 @@ ghost use Rattle.resolved_sort.specs.Storage.{fullLength};
 ghost use Rattle.resolved_sort.specs.Entries.{treeAt};
 ghost use Rattle.pair_line.specs.PairProgram.{decimal, sign, sortOrNone, yesOrNo, comma, answer, lineOf, withSecond, pair as pairOf, single as singleOf};
 ghost use Rattle.sort_text.specs.Writing.{writeLeft};
-ghost use Rattle.sort_writer.specs.Puts.{Put};
+ghost use Rattle.text_out.specs.Put.{Put};
 ghost use Rattle.pair_line.specs.Room.{lineRoom, putSix, Begun, Grows, FirstRead, BothRead, BoundRoom};
 ghost use Rattle.pair_line.specs.Answers.{stepsText, withLf, pairLeft, singleLeft};
 

@@ -21,8 +21,9 @@ use Rattle.sort_text.specs.declared.Written.the-variants.{Refused as NotWritten
 use Rattle.sort_text.specs.Text.{writable, text}
 use Rattle.sort_text.specs.Writing.{writeChecks, writeLeft, writing}
 use Rattle.sort_writer.specs.Sizes.{most, capped, sizeIf, sized, sizesTo}
-use Rattle.sort_writer.specs.Puts.{Put, SortRoom}
-use Rattle.sort_writer.proofs.Puts.{put-front}
+use Rattle.sort_writer.specs.Puts.{SortRoom}
+use Rattle.text_out.specs.Put.{Put}
+use Rattle.sort_writer.proofs.Front.{put-front}
 use Rattle.sort_writer.proofs.Sizes.{capped-short, capped-long, text-some}
 use Rattle.sort_writer.proofs.Fills.{sizes-right}
 

@@ -2,7 +2,7 @@
 pub mod Rows
 pub mod Sizes
 pub mod Fills
-pub mod Puts
 pub mod Texts
 pub mod Checks
 pub mod Codes
+pub mod Front

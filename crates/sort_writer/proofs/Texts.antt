@@ -20,9 +20,10 @@ use Rattle.resolved_sort.proofs.Pairs.{sortOf, Below}
 use Rattle.resolved_sort.proofs.Said.{entry-below, first-entry, topOf, top-below, first-below-top, rest-below-top}
 use Rattle.sort_text.specs.Parse.{sortWord, opWord}
 use Rattle.sort_text.specs.Text.{text, texts, more, between, arrow}
-use Rattle.sort_writer.specs.Puts.{Put, argsAt, SortRoom, RunRoom}
+use Rattle.sort_writer.specs.Puts.{argsAt, SortRoom, RunRoom}
+use Rattle.text_out.specs.Put.{Put}
 use Rattle.sort_writer.proofs.Rows.{row-says, row-parts}
-use Rattle.sort_writer.proofs.Puts.{put-none, put-then, put-as, put-length}
+use Rattle.text_out.proofs.Put.{put-none, put-then, put-as, put-length}
 
 -- room for what comes behind what was put
 room-behind : {out : List ℕ} {at : ℕ} {xs mid : List ℕ} {p : ℕ} (ys : List ℕ) → Put out at xs mid p → at + length (xs ++ ys) ≤ length out → p + length ys ≤ length mid

@@ -10,11 +10,6 @@ use Rattle.resolved_sort.specs.Entries.{treeAt}
 use Rattle.resolved_sort.specs.Rows.{Checked}
 use Rattle.sort_text.specs.Text.{text, texts}
 
--- The bytes bs stand in the buffer from `at` on, the rest is as it was, and the next byte goes behind them.
-pub record Put (out : List ℕ) (at : ℕ) (bs : List ℕ) (left : List ℕ) (next : ℕ) : Type 0 where
-  pub bytes : left ≡ sets out at bs
-  pub behind : next ≡ at + length bs
-
 -- the sorts of the c entries from s on
 abbrev pub argsAt : List ℕ → ℕ → ℕ → ℕ → Trees
 argsAt ws n s c = lookAll (trees ws n) (entriesOf ws s c)

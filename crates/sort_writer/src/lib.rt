@@ -9,6 +9,7 @@ use resolved_sort::Tested;
 use sort_checks::test_sorts;
 use sort_interner::get;
 use sort_text::Written;
+use text_out::put_bytes;
 use words::word;
 ghost use mathlib.Core.Path.{_≡_};
 ghost use mathlib.Core.List.{[], _∷_, _++_};
@@ -21,7 +22,8 @@ ghost use Rattle.sort_text.specs.Parse.{sortWord, opWord};
 ghost use Rattle.sort_text.specs.Text.{text, texts};
 ghost use Rattle.sort_text.specs.Writing.{writeChecks, writeLeft, writing};
 ghost use Rattle.sort_writer.specs.Sizes.{joined, runSize, rowSize, sizesTo};
-ghost use Rattle.sort_writer.specs.Puts.{Put, argsAt, SortRoom, RunRoom};
+ghost use Rattle.sort_writer.specs.Puts.{argsAt, SortRoom, RunRoom};
+ghost use Rattle.text_out.specs.Put.{Put};
 ghost use Rattle.sort_writer.specs.Packed.{packWritten, packed, packLeft};
 
 // The size of two texts one after the other. It stops at 2^63, and where one has no text there is none.
@@ -143,19 +145,6 @@ fn text_size(sorts: &[u16], n: usize, id: SortId) -> usize
     let mut sizes = [0usize; 1024];
     fill_sizes(sorts, n, &mut sizes);
     size_at(&sizes, id.0)
-}
-
-// Bytes put into the buffer from a place on; the place behind them. No other byte changes.
-pub fn put_bytes(bytes: &[u8], out: &mut [u8], at: usize) -> usize
-    requires { ⌜ at + length (now bytes) ≤ length (now out) ⌝ }
-    ensures { λ r. ⌜ Put (now (out .entry)) at (now (bytes .entry)) (now (out .exit)) r ⌝ }
-{
-    let mut i: usize = 0;
-    while i < bytes.len() {
-        out[at + i] = bytes[i];
-        i += 1;
-    }
-    at + i
 }
 
 // The word of a basic sort.

@@ -1,6 +1,6 @@
 -- By the case of the answer. Assumes nothing.
 use Rattle.list_answers.proofs.Telling as law
-use Rattle.list_verdict.proofs.Puts.{put-then, put-as}
+use Rattle.text_out.proofs.Within.{put-then, put-as}
 use borrow.Author.Needs.{needs}
 use Rattle.list_answers.proofs.tell.Statement.{statement}
 use Rattle.list_answers.proofs.tell.Tie as tie

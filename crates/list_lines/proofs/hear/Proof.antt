@@ -1,5 +1,5 @@
 -- Each arm puts what is printed for what the line came to. Assumes nothing.
-use Rattle.list_tokens.specs.Words.{bytesOf}
+use Rattle.text_out.specs.Quoted.{bytesOf}
 use Rattle.list_lines.proofs.Ways as law
 use mathlib.Core.Path.{refl}
 use borrow.Author.Needs.{needs}

@@ -1,5 +1,5 @@
 -- The line, and an LF behind it. Assumes nothing.
-use Rattle.list_verdict.proofs.Puts as law
+use Rattle.text_out.proofs.Within as law
 use borrow.Author.Needs.{needs}
 use Rattle.list_lines.proofs.put_title.Statement.{statement}
 use Rattle.list_lines.proofs.put_title.Tie as tie

@@ -1,5 +1,5 @@
 -- Only stage 1 has something to say. Assumes nothing.
-use Rattle.list_tokens.specs.Words.{bytesOf}
+use Rattle.text_out.specs.Quoted.{bytesOf}
 use Rattle.list_lines.proofs.Ways as law
 use borrow.Author.Needs.{needs}
 use Rattle.list_lines.proofs.put_unasked.Statement.{statement}

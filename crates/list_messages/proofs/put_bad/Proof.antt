@@ -1,7 +1,7 @@
 -- What is put one after another is put whole. Assumes nothing.
 use borrow.Author.Needs.{needs}
-use Rattle.list_tokens.specs.Words.{bytesOf}
-use Rattle.list_verdict.proofs.Puts as law
+use Rattle.text_out.specs.Quoted.{bytesOf}
+use Rattle.text_out.proofs.Within as law
 use Rattle.list_messages.specs.Messages.{badText}
 use Rattle.list_messages.proofs.put_bad.Statement.{statement}
 use Rattle.list_messages.proofs.put_bad.Tie as tie

@@ -1,6 +1,6 @@
 -- The bytes between two starts are the message of that place. Assumes nothing.
 use borrow.Author.Needs.{needs}
-use Rattle.list_tokens.specs.Words.{bytesOf}
+use Rattle.text_out.specs.Quoted.{bytesOf}
 use Rattle.list_messages.proofs.Table as law
 use Rattle.list_messages.proofs.put_form.Statement.{statement}
 use Rattle.list_messages.proofs.put_form.Tie as tie

@@ -1,6 +1,6 @@
 -- The bytes between two starts are the word of that place. Assumes nothing.
 use borrow.Author.Needs.{needs}
-use Rattle.list_tokens.specs.Words.{bytesOf}
+use Rattle.text_out.specs.Quoted.{bytesOf}
 use Rattle.list_tokens.proofs.Finding as law
 use Rattle.list_tokens.proofs.is_word.Statement.{statement}
 use Rattle.list_tokens.proofs.is_word.Tie as tie

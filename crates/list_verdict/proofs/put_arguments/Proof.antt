@@ -1,8 +1,9 @@
 -- The loop's invariant: putting the arguments left comes to putting all. Assumes nothing.
 use Prim.Native.Nat.{_+_, _-_}
-use Rattle.list_verdict.proofs.Puts as law
+use Rattle.text_out.proofs.Within as law
+use Rattle.list_verdict.proofs.RowsPut as rows
 use Rattle.list_verdict.proofs.Ways as way
-use Rattle.list_verdict.specs.Puts.{puts}
+use Rattle.text_out.specs.Within.{puts}
 use Rattle.list_verdict.specs.Text.{rowsText, argument, sortName}
 use borrow.Author.Needs.{needs}
 use lib.ListN.{length}
@@ -43,13 +44,13 @@ loop-less c = omega arith
 
 loop-again : tie.Need-loop-again Inv-loop μ-loop
 unfolding argument
-loop-again c = (search needs, law.one-row-more (argument (c .before .before .before .before .before .before .before .before .before .before .before .before .before .args .sorts .now)) (c .before .before .before .before .before .before .before .before .before .before .before .before .before .args .start + c .before .before .before .before .before .before .before .before .before .before .before .before .before .args .count) _ _ _ (c .before .before .before .before .before .before .before .before .before .before .loop .i) (c .before .before .before .before .before .before .before .before .before .before .loop .inv .1) (c .before .before .before .before .before .before .before .before .before .loop-test .taken) (law.put-then (c .before .before .before .before .before .before .before .put-byte .ensures) (law.put-as (ap sortName (c .before .before .before .before .word .ensures)) (c .before .before .put-sort-name .ensures))))
+loop-again c = (search needs, rows.one-row-more (argument (c .before .before .before .before .before .before .before .before .before .before .before .before .before .args .sorts .now)) (c .before .before .before .before .before .before .before .before .before .before .before .before .before .args .start + c .before .before .before .before .before .before .before .before .before .before .before .before .before .args .count) _ _ _ (c .before .before .before .before .before .before .before .before .before .before .loop .i) (c .before .before .before .before .before .before .before .before .before .before .loop .inv .1) (c .before .before .before .before .before .before .before .before .before .loop-test .taken) (law.put-then (c .before .before .before .before .before .before .before .put-byte .ensures) (law.put-as (ap sortName (c .before .before .before .before .word .ensures)) (c .before .before .put-sort-name .ensures))))
 
 same-length : tie.Need-same-length Inv-loop μ-loop
 same-length c = omega arith
 
 returns : tie.Need-returns Inv-loop μ-loop
-returns c = record { is = law.all-rows (argument (c .before .before .before .before .args .sorts .now)) (c .before .before .before .before .args .start + c .before .before .before .before .args .count) _ _ _ (c .before .loop .i) (c .before .loop .inv .1) (c .loop-test .left) }
+returns c = record { is = rows.all-rows (argument (c .before .before .before .before .args .sorts .now)) (c .before .before .before .before .args .start + c .before .before .before .before .args .count) _ _ _ (c .before .loop .i) (c .before .loop .inv .1) (c .loop-test .left) }
 
 pub put-arguments-spec : {M : Type 1} → statement M
 put-arguments-spec =

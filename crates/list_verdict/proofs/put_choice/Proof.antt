@@ -1,6 +1,7 @@
 -- Comma, expression, space and position. Assumes nothing.
-use Rattle.list_verdict.proofs.Puts as law
-use Rattle.list_verdict.specs.Text.{decimal, name, choice}
+use Rattle.text_out.proofs.Within as law
+use Rattle.list_verdict.specs.Text.{name, choice}
+use Rattle.text_out.specs.Decimal.{decimal}
 use mathlib.Core.Path.{ap}
 use borrow.Author.Needs.{needs}
 use Rattle.list_verdict.proofs.put_choice.Statement.{statement}

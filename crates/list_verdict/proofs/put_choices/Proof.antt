@@ -1,5 +1,5 @@
 -- The word, the choices and the LF. Assumes nothing.
-use Rattle.list_verdict.proofs.Puts as law
+use Rattle.text_out.proofs.Within as law
 use Rattle.list_verdict.specs.Text.{choicesLine}
 use borrow.Author.Needs.{needs}
 use Rattle.list_verdict.proofs.put_choices.Statement.{statement}

@@ -1,9 +1,11 @@
 -- The loop's invariant: putting the components left comes to putting all. Assumes nothing.
 use Prim.Native.Nat.{_-_}
-use Rattle.list_verdict.proofs.Puts as law
+use Rattle.text_out.proofs.Within as law
+use Rattle.list_verdict.proofs.RowsPut as rows
 use Rattle.list_verdict.proofs.Ways as way
-use Rattle.list_verdict.specs.Puts.{puts}
-use Rattle.list_verdict.specs.Text.{rowsText, component, decimal}
+use Rattle.text_out.specs.Within.{puts}
+use Rattle.list_verdict.specs.Text.{rowsText, component}
+use Rattle.text_out.specs.Decimal.{decimal}
 use borrow.Author.Needs.{needs}
 use lib.ListN.{length}
 use mathlib.Core.Path.{_≡_, refl, sym, ap}
@@ -40,13 +42,13 @@ loop-less c = omega arith
 
 loop-again : tie.Need-loop-again Inv-loop μ-loop
 unfolding component
-loop-again c = (search needs, law.one-row-more (component (c .before .before .before .before .before .before .before .before .before .before .before .before .before .args .measure .now)) (c .before .before .before .before .before .before .before .before .before .before .before .before .before .args .count) _ _ _ (c .before .before .before .before .before .before .before .before .before .before .loop .i) (c .before .before .before .before .before .before .before .before .before .before .loop .inv .1) (c .before .before .before .before .before .before .before .before .before .loop-test .taken) (law.put-then (c .before .before .before .before .before .before .before .put-comma .ensures) (law.put-as (ap decimal (c .before .before .before .before .word .ensures)) (c .before .before .put-number .ensures))))
+loop-again c = (search needs, rows.one-row-more (component (c .before .before .before .before .before .before .before .before .before .before .before .before .before .args .measure .now)) (c .before .before .before .before .before .before .before .before .before .before .before .before .before .args .count) _ _ _ (c .before .before .before .before .before .before .before .before .before .before .loop .i) (c .before .before .before .before .before .before .before .before .before .before .loop .inv .1) (c .before .before .before .before .before .before .before .before .before .loop-test .taken) (law.put-then (c .before .before .before .before .before .before .before .put-comma .ensures) (law.put-as (ap decimal (c .before .before .before .before .word .ensures)) (c .before .before .put-number .ensures))))
 
 same-length : tie.Need-same-length Inv-loop μ-loop
 same-length c = omega arith
 
 returns : tie.Need-returns Inv-loop μ-loop
-returns c = record { is = law.all-rows (component (c .before .before .before .before .args .measure .now)) (c .before .before .before .before .args .count) _ _ _ (c .before .loop .i) (c .before .loop .inv .1) (c .loop-test .left) }
+returns c = record { is = rows.all-rows (component (c .before .before .before .before .args .measure .now)) (c .before .before .before .before .args .count) _ _ _ (c .before .loop .i) (c .before .loop .inv .1) (c .loop-test .left) }
 
 pub put-components-spec : {M : Type 1} → statement M
 put-components-spec =

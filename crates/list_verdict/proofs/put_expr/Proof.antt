@@ -1,5 +1,5 @@
 -- Name, sort, target and LF. Assumes nothing.
-use Rattle.list_verdict.proofs.Puts as law
+use Rattle.text_out.proofs.Within as law
 use Rattle.list_verdict.specs.Text.{sortText, targetText, exprLine}
 use mathlib.Core.Path.{ap, ap₂}
 use borrow.Author.Needs.{needs}

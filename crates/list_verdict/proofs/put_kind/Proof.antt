@@ -1,5 +1,5 @@
 -- Each arm puts the word of its kind; past 12 it is TypeVar. Assumes nothing.
-use Rattle.list_verdict.proofs.Puts as law
+use Rattle.text_out.proofs.Within as law
 use Rattle.list_verdict.proofs.Ways as way
 use Rattle.list_verdict.specs.Words.{kindWord}
 use mathlib.Core.Path.{ap, sym}

@@ -1,5 +1,5 @@
 -- The letter, then the number. Assumes nothing.
-use Rattle.list_verdict.proofs.Puts as law
+use Rattle.text_out.proofs.Within as law
 use Rattle.list_verdict.specs.Text.{name}
 use borrow.Author.Needs.{needs}
 use Rattle.list_verdict.proofs.put_name.Statement.{statement}

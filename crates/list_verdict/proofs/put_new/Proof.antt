@@ -1,5 +1,5 @@
 -- The word, the number, the kind, its parts and the LF. Assumes nothing.
-use Rattle.list_verdict.proofs.Puts as law
+use Rattle.text_out.proofs.Within as law
 use Rattle.list_verdict.specs.Text.{newLine}
 use Rattle.list_verdict.specs.Words.{kindWord}
 use mathlib.Core.Path.{ap}

@@ -1,6 +1,6 @@
 -- By the size; where it is 1 to 200 the text is put into 200 bytes first, and these are put. Assumes nothing.
 use Prim.Native.Nat.{ℕ}
-use Rattle.list_verdict.proofs.Puts as law
+use Rattle.text_out.proofs.Within as law
 use Rattle.list_verdict.proofs.Ways as way
 use lib.ListN.{length-replicate}
 use native.Mathlib.Omega.{arith}

@@ -1,6 +1,6 @@
 -- The sizes are found once; then the lines of expressions, the measure and the choices. Assumes nothing.
 use Prim.Native.Nat.{ℕ}
-use Rattle.list_verdict.proofs.Puts as law
+use Rattle.text_out.proofs.Within as law
 use Rattle.list_verdict.specs.Room.{SizesOf}
 use Rattle.list_verdict.specs.Text.{typingText}
 use lib.ListN.{length-replicate}

@@ -1,5 +1,5 @@
 -- The code, a space, what it says, and the LF. Assumes nothing.
-use Rattle.list_verdict.proofs.Puts as law
+use Rattle.text_out.proofs.Within as law
 use Rattle.list_verdict.specs.Text.{verdictLine}
 use borrow.Author.Needs.{needs}
 use Rattle.list_verdict.proofs.put_verdict.Statement.{statement}

@@ -2,7 +2,7 @@
 use Prim.Native.Nat.{_+_, _-_}
 use Rattle.pair_line.specs.Answers.{withLf}
 use Rattle.pair_line.specs.PairProgram.{pair}
-use Rattle.sort_writer.proofs.Puts.{put-as}
+use Rattle.text_out.proofs.Put.{put-as}
 use borrow.Author.Needs.{needs}
 use lib.ListN.{take, drop}
 use mathlib.Core.Path.{_≡_, ap, sym}

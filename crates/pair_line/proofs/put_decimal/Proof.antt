@@ -1,6 +1,6 @@
 -- One, two or three digits. Assumes nothing.
 use Rattle.pair_line.proofs.Ways as law
-use Rattle.sort_writer.proofs.Puts.{put-then, put-as, put-length}
+use Rattle.text_out.proofs.Put.{put-then, put-as, put-length}
 use borrow.Author.Needs.{needs}
 use lib.ListN.{length}
 use mathlib.Core.Path.{ap}

@@ -1,6 +1,6 @@
 -- The sign by the order. Assumes nothing.
 use Rattle.pair_line.specs.PairProgram.{sign, comma}
-use Rattle.sort_writer.proofs.Puts.{put-as}
+use Rattle.text_out.proofs.Put.{put-as}
 use borrow.Author.Needs.{needs}
 use mathlib.Core.List.{[], _∷_}
 use mathlib.Core.Path.{sym, ap}

@@ -1,7 +1,7 @@
 -- By the test. Assumes nothing.
 use Rattle.pair_line.specs.Answers.{withLf}
 use Rattle.pair_line.specs.PairProgram.{yesOrNo}
-use Rattle.sort_writer.proofs.Puts.{put-as}
+use Rattle.text_out.proofs.Put.{put-as}
 use borrow.Author.Needs.{needs}
 use lib.ListN.{length}
 use mathlib.Core.Path.{sym, ap}

@@ -14,7 +14,7 @@ use Rattle.sort_writer.proofs.put_sort.Kinds as put-sort-kinds
 use Rattle.sort_writer.proofs.+put_arguments+put_sort.Lts-put_sort as put-sort-lts
 use Rattle.words.proofs.word.Reads as word-reads
 use Rattle.sort_interner.proofs.get.Reads as get-reads
-use Rattle.sort_writer.proofs.put_bytes.Reads as put-bytes-reads
+use Rattle.text_out.proofs.put_bytes.Reads as put-bytes-reads
 use Rattle.sort_writer.proofs.put_word.Reads as put-word-reads
 use Rattle.sort_writer.proofs.put_op.Reads as put-op-reads
 use Rattle.sort_writer.proofs.+put_arguments+put_sort.{statement}

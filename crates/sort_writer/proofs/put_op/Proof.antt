@@ -6,7 +6,7 @@ use lib.ListN.{length}
 use borrow.Author.Needs.{needs}
 use Rattle.resolved_sort.specs.declared.ComplexSort.{ComplexSort}
 use Rattle.sort_text.specs.Parse.{opWord}
-use Rattle.sort_writer.proofs.Puts as law
+use Rattle.text_out.proofs.Put as law
 use Rattle.sort_writer.proofs.put_op.Statement.{statement}
 use Rattle.sort_writer.proofs.put_op.Tie as tie
 

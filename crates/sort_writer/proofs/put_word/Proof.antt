@@ -5,7 +5,7 @@ use lib.ListN.{length}
 use borrow.Author.Needs.{needs}
 use Rattle.resolved_sort.specs.declared.Sort.{Sort}
 use Rattle.sort_text.specs.Parse.{sortWord}
-use Rattle.sort_writer.proofs.Puts as law
+use Rattle.text_out.proofs.Put as law
 use Rattle.sort_writer.proofs.put_word.Statement.{statement}
 use Rattle.sort_writer.proofs.put_word.Tie as tie
 

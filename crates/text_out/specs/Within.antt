@@ -19,5 +19,5 @@ puts out at [] = buffer out at
 puts out at (b ∷ bs) = puts (set out at b) (cond (ltb at (length out)) (at + 1) at) bs
 
 -- The bytes bs put from `at` on leave this buffer, and the next byte goes there.
-pub record Put (out : List ℕ) (at : ℕ) (bs : List ℕ) (left : List ℕ) (next : ℕ) : Type 0 where
+pub record PutWithin (out : List ℕ) (at : ℕ) (bs : List ℕ) (left : List ℕ) (next : ℕ) : Type 0 where
   pub is : buffer left next ≡ puts out at bs

@@ -7,9 +7,7 @@ use native.Mathlib.Nat.{add-zero, zero-add}
 use native.Mathlib.Numerals.{add-one}
 use lib.ListN.{length, getD, drop, set, length-append, drop-of-length-le}
 use lib.Seq.{sets, length-sets, sets-eq, drop-cons}
-use Rattle.sort_text.specs.declared.Written.the-variants.{Text}
-use Rattle.sort_text.specs.Writing.{writeLeft}
-use Rattle.sort_writer.specs.Puts.{Put}
+use Rattle.text_out.specs.Put.{Put}
 
 sets-append : (l : List ℕ) (i : ℕ) (xs ys : List ℕ) → sets (sets l i xs) (i + length xs) ys ≡ sets l i (xs ++ ys)
 sets-append l i [] ys = ap (λ (k : ℕ). sets l k ys) (add-zero i)
@@ -30,12 +28,6 @@ put-as {out} {at} {xs} {ys} e h = record { bytes = h .bytes ∙ ap (sets out at)
 
 pub put-length : {out : List ℕ} {at : ℕ} {xs left : List ℕ} {r : ℕ} → Put out at xs left r → length left ≡ length out
 put-length {out} {at} {xs} h = ap length (h .bytes) ∙ length-sets out at xs
-
--- bytes put at the front: what is left of the buffer stands behind them
-pub put-front : {out bs left : List ℕ} {r : ℕ} → length bs ≤ length out → Put out 0 bs left r → writeLeft left (Text r) ≡ writeLeft (bs ++ drop (length bs) out) (Text (length bs))
-put-front {out} {bs} l h =
-    ap₂ (λ (x : List ℕ) (i : ℕ). writeLeft x (Text i))
-    (h .bytes ∙ (sets-eq bs out 0 (omega (arith, l)) ∙ ap (λ (i : ℕ). bs ++ drop i out) (zero-add (length bs)))) (h .behind ∙ zero-add (length bs))
 
 -- the loop that puts bytes: putting what is left comes to putting the whole
 module _ (bytes : List ℕ) (at : ℕ) (whole : List ℕ) (out : List ℕ) (i : ℕ) where

@@ -1,8 +1,8 @@
 -- Kept where there is room, else lost. Assumes nothing.
-use Rattle.list_verdict.proofs.Puts as law
+use Rattle.text_out.proofs.Within as law
 use borrow.Author.Needs.{needs}
-use Rattle.list_verdict.proofs.put_byte.Statement.{statement}
-use Rattle.list_verdict.proofs.put_byte.Tie as tie
+use Rattle.text_out.proofs.put_byte.Statement.{statement}
+use Rattle.text_out.proofs.put_byte.Tie as tie
 
 slice-write-out : tie.Need-slice-write-out
 slice-write-out c = search needs

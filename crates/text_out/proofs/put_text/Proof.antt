@@ -1,13 +1,13 @@
 -- The loop's invariant: putting what is left comes to putting the whole. Assumes nothing.
 use Prim.Native.Nat.{_-_, _≤_}
-use Rattle.list_verdict.proofs.Puts as law
-use Rattle.list_verdict.specs.Puts.{puts}
+use Rattle.text_out.proofs.Within as law
+use Rattle.text_out.specs.Within.{puts}
 use borrow.Author.Needs.{needs}
 use lib.ListN.{length, drop, getD}
 use mathlib.Core.Path.{_≡_, refl, sym, ap}
 use native.Mathlib.Omega.{arith}
-use Rattle.list_verdict.proofs.put_text.Statement.{statement}
-use Rattle.list_verdict.proofs.put_text.Tie as tie
+use Rattle.text_out.proofs.put_text.Statement.{statement}
+use Rattle.text_out.proofs.put_text.Tie as tie
 
 abbrev Inv-loop : tie.InvT-loop
 Inv-loop bytes out₀ at place₀ i₀ out place i = (i ≤ length bytes) × (length out ≡ length out₀) × (puts out₀ at bytes ≡ puts out place (drop i bytes))

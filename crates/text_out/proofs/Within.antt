@@ -10,46 +10,46 @@ use lib.Dec.{ltb}
 use lib.ListN.{length, getD, drop, set, length-set, drop-of-length-le}
 use lib.Seq.{sets, set-out, drop-cons}
 use borrow.Author.Tests.{lt-ltb, le-ltb}
-use Rattle.list_verdict.specs.Puts.{Buffer, buffer, puts, Put}
-use Rattle.list_verdict.specs.Text.{digit, rowsText}
+use Rattle.text_out.specs.Within.{Buffer, buffer, puts, PutWithin}
+use Rattle.text_out.specs.Decimal.{digit}
 
 puts-append : (out : List ℕ) (at : ℕ) (xs ys : List ℕ) → puts out at (xs ++ ys) ≡ puts (puts out at xs .bytes) (puts out at xs .at) ys
 unfolding puts
 puts-append out at [] ys = refl
 puts-append out at (x ∷ xs) ys = puts-append (set out at x) (cond (ltb at (length out)) (at + 1) at) xs ys
 
-pub put-none : (out : List ℕ) (at : ℕ) → Put out at [] out at
+pub put-none : (out : List ℕ) (at : ℕ) → PutWithin out at [] out at
 unfolding puts
 put-none out at = record { is = refl }
 
-pub put-then : {out : List ℕ} {at : ℕ} {xs mid : List ℕ} {p : ℕ} {ys left : List ℕ} {r : ℕ} → Put out at xs mid p → Put mid p ys left r → Put out at (xs ++ ys) left r
+pub put-then : {out : List ℕ} {at : ℕ} {xs mid : List ℕ} {p : ℕ} {ys left : List ℕ} {r : ℕ} → PutWithin out at xs mid p → PutWithin mid p ys left r → PutWithin out at (xs ++ ys) left r
 put-then {out} {at} {xs} {mid} {p} {ys} h k =
     record { is = k .is ∙ (ap (λ (b : Buffer). puts (b .bytes) (b .at) ys) (h .is) ∙ sym (puts-append out at xs ys)) }
 
-pub put-as : {out : List ℕ} {at : ℕ} {xs ys left : List ℕ} {r : ℕ} → xs ≡ ys → Put out at xs left r → Put out at ys left r
+pub put-as : {out : List ℕ} {at : ℕ} {xs ys left : List ℕ} {r : ℕ} → xs ≡ ys → PutWithin out at xs left r → PutWithin out at ys left r
 put-as {out} {at} e h = record { is = h .is ∙ ap (puts out at) e }
 
 -- one byte
-pub byte-kept : (out : List ℕ) (at b : ℕ) → at < length out → Put out at (b ∷ []) (set out at b) (at + 1)
+pub byte-kept : (out : List ℕ) (at b : ℕ) → at < length out → PutWithin out at (b ∷ []) (set out at b) (at + 1)
 unfolding puts
 byte-kept out at b h = record { is = rw (lt-ltb at (length out) h) }
 
-pub byte-lost : (out : List ℕ) (at b : ℕ) → length out ≤ at → Put out at (b ∷ []) out at
+pub byte-lost : (out : List ℕ) (at b : ℕ) → length out ≤ at → PutWithin out at (b ∷ []) out at
 unfolding puts
 byte-lost out at b h = record { is = rw (le-ltb at (length out) h, set-out out at b h) }
 
 -- a digit of a number
-pub no-digit : (n unit : ℕ) → n < unit → (out : List ℕ) (at : ℕ) → Put out at (digit unit n) out at
+pub no-digit : (n unit : ℕ) → n < unit → (out : List ℕ) (at : ℕ) → PutWithin out at (digit unit n) out at
 unfolding digit puts
 no-digit n unit h out at = record { is = rw (lt-ltb n unit h) }
 
-pub a-digit : (n unit : ℕ) → unit ≤ n → {out : List ℕ} {at : ℕ} {left : List ℕ} {r : ℕ} → Put out at ((48 + n / unit % 10) ∷ []) left r → Put out at (digit unit n) left r
+pub a-digit : (n unit : ℕ) → unit ≤ n → {out : List ℕ} {at : ℕ} {left : List ℕ} {r : ℕ} → PutWithin out at ((48 + n / unit % 10) ∷ []) left r → PutWithin out at (digit unit n) left r
 unfolding digit
 a-digit n unit h p = put-as (rw (le-ltb n unit h)) p
 
 -- The loop that puts bytes: putting what is left comes to putting the whole.
 module _ (bytes : List ℕ) (whole : Buffer) (out : List ℕ) (at i : ℕ) where
-  pub one-byte-more : whole ≡ puts out at (drop i bytes) → i < length bytes → {left : List ℕ} {r : ℕ} → Put out at (getD bytes i 0 ∷ []) left r
+  pub one-byte-more : whole ≡ puts out at (drop i bytes) → i < length bytes → {left : List ℕ} {r : ℕ} → PutWithin out at (getD bytes i 0 ∷ []) left r
       → whole ≡ puts left r (drop (i + 1) bytes)
   one-byte-more e h {left} {r} p =
       e
@@ -60,24 +60,6 @@ module _ (bytes : List ℕ) (whole : Buffer) (out : List ℕ) (at i : ℕ) where
   pub all-bytes : whole ≡ puts out at (drop i bytes) → length bytes ≤ i → buffer out at ≡ whole
   unfolding puts
   all-bytes e h = sym (e ∙ ap (puts out at) (drop-of-length-le bytes h))
-
--- The loops that put rows, from a number on: putting those left comes to putting all.
-module _ (row : ℕ → List ℕ) (n : ℕ) (whole : Buffer) (out : List ℕ) (at i : ℕ) where
-  first-row : i < n → rowsText row (n - i) i ≡ row i ++ rowsText row (n - (i + 1)) (i + 1)
-  unfolding rowsText
-  first-row h = let z : n - i ≡ suc (n - (i + 1)) = omega arith in rw z
-
-  pub one-row-more : whole ≡ puts out at (rowsText row (n - i) i) → i < n → {left : List ℕ} {r : ℕ} → Put out at (row i) left r
-      → whole ≡ puts left r (rowsText row (n - (i + 1)) (i + 1))
-  one-row-more e h {left} {r} p =
-      e
-      ∙ (ap (puts out at) (first-row h)
-      ∙ (puts-append out at (row i) (rowsText row (n - (i + 1)) (i + 1))
-      ∙ sym (ap (λ (b : Buffer). puts (b .bytes) (b .at) (rowsText row (n - (i + 1)) (i + 1))) (p .is))))
-
-  pub all-rows : whole ≡ puts out at (rowsText row (n - i) i) → n ≤ i → buffer out at ≡ whole
-  unfolding puts rowsText
-  all-rows e h = let z : n - i ≡ 0 = omega arith in sym (e ∙ rw z)
 
 -- Bytes that have room stand whole in the buffer, and the place is behind them.
 pub whole-where-room : (out : List ℕ) (at : ℕ) (bs : List ℕ) → at + length bs ≤ length out → puts out at bs ≡ buffer (sets out at bs) (at + length bs)

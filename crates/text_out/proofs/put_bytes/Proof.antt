@@ -4,9 +4,9 @@ use Prim.Native.Nat.{_+_, _-_, _≤_}
 use native.Mathlib.Omega.{arith}
 use lib.ListN.{length, drop, length-set}
 use lib.Seq.{sets}
-use Rattle.sort_writer.proofs.Puts as law
-use Rattle.sort_writer.proofs.put_bytes.Statement.{statement}
-use Rattle.sort_writer.proofs.put_bytes.Tie as tie
+use Rattle.text_out.proofs.Put as law
+use Rattle.text_out.proofs.put_bytes.Statement.{statement}
+use Rattle.text_out.proofs.put_bytes.Tie as tie
 
 abbrev Inv-loop : tie.InvT-loop
 Inv-loop bytes out₀ at i₀ out i = (i ≤ length bytes) × (length out ≡ length out₀) × (sets out₀ at bytes ≡ sets out (at + i) (drop i bytes))

@@ -1,9 +1,9 @@
 -- Five digits one after another. Assumes nothing.
-use Rattle.list_verdict.proofs.Puts as law
-use Rattle.list_verdict.specs.Text.{decimal}
+use Rattle.text_out.proofs.Within as law
+use Rattle.text_out.specs.Decimal.{decimal}
 use borrow.Author.Needs.{needs}
-use Rattle.list_verdict.proofs.put_number.Statement.{statement}
-use Rattle.list_verdict.proofs.put_number.Tie as tie
+use Rattle.text_out.proofs.put_number.Statement.{statement}
+use Rattle.text_out.proofs.put_number.Tie as tie
 
 put-digit-requires : tie.Need-put-digit-requires
 put-digit-requires c κs = search needs

@@ -1,8 +1,8 @@
 -- No digit of a unit above the number, else the digit. Assumes nothing.
-use Rattle.list_verdict.proofs.Puts as law
+use Rattle.text_out.proofs.Within as law
 use borrow.Author.Needs.{needs}
-use Rattle.list_verdict.proofs.put_digit.Statement.{statement}
-use Rattle.list_verdict.proofs.put_digit.Tie as tie
+use Rattle.text_out.proofs.put_digit.Statement.{statement}
+use Rattle.text_out.proofs.put_digit.Tie as tie
 
 returns : tie.Need-returns
 returns c = law.no-digit _ _ (c .if1 .taken) _ _

@@ -1,0 +1,4 @@
+pub mod Within
+pub mod Put
+pub mod Decimal
+pub mod Quoted
