@@ -1,10 +1,14 @@
 // Inference nodes in lent storage, and where bindings lead: from merc's unification.rs, shallow_normalize and occurs.
 use resolved_sort::ComplexSort;
 use resolved_sort::Counts;
+use resolved_sort::ENTRIES_AT;
 use resolved_sort::Run;
+use unification::FIRST_NODE;
+use unification::FREE_WORD;
 use unification::InferSort;
 use unification::InferSortId;
 use unification::Lengths;
+use unification::NODE_ENTRIES_AT;
 use unification::NodeId;
 use unification::SortVar;
 use unification::VarAt;
@@ -90,7 +94,7 @@ pub fn node(nodes: &[u16], id: NodeId) -> InferSort
 pub fn argument(nodes: &[u16], i: u16) -> InferSortId
     ensures { λ r. ⌜ r .0 ≡ nodeEntryAt (now (nodes .entry)) i ⌝ }
 {
-    InferSortId(word(nodes, 8192 + (i as usize)))
+    InferSortId(word(nodes, NODE_ENTRIES_AT + (i as usize)))
 }
 
 // What the variable at a place is bound to; 65,535 where it is free, and where there is no variable.
@@ -98,15 +102,15 @@ fn bound_to(sorts: &[u16], nodes: &[u16], binds: &[u16], lengths: Lengths, id: I
     requires { ⌜ Ready (now sorts) (now nodes) (now binds) lengths × Placed lengths (id .0) ⌝ }
     ensures { λ r. ⌜ bindingOf r ≡ boundAt (graphOf (now (sorts .entry)) (now (nodes .entry)) lengths (id .0)) (bindsOf (now (binds .entry)) (lengths .variables)) ⌝ }
 {
-    if id.0 < 1024 {
-        return 65535;
+    if id.0 < FIRST_NODE {
+        return FREE_WORD;
     }
-    match node(nodes, NodeId(id.0 - 1024)) {
-        InferSort::Generic { op: _, subsort: _ } => 65535,
+    match node(nodes, NodeId(id.0 - FIRST_NODE)) {
+        InferSort::Generic { op: _, subsort: _ } => FREE_WORD,
         InferSort::Function {
             domain: _,
             range: _,
-        } => 65535,
+        } => FREE_WORD,
         InferSort::Var(var) => word(binds, var.0 as usize),
     }
 }
@@ -124,7 +128,7 @@ pub fn shallow_normalize(
 {
     let mut end = id.0;
     let mut next = bound_to(sorts, nodes, binds, lengths, InferSortId(end));
-    while next != 65535 {
+    while next != FREE_WORD {
         end = next;
         next = bound_to(sorts, nodes, binds, lengths, InferSortId(end));
     }
@@ -144,10 +148,10 @@ pub fn occurs(
     ensures { λ r. ⌜ occursIn (graphOf (now (sorts .entry)) (now (nodes .entry)) lengths) deep (bindsOf (now (binds .entry)) (lengths .variables)) (var .0) (id .0) ≡ ofTest r ⌝ }
 {
     let end = shallow_normalize(sorts, nodes, binds, lengths, id);
-    if end.0 < 1024 {
+    if end.0 < FIRST_NODE {
         return false;
     }
-    match node(nodes, NodeId(end.0 - 1024)) {
+    match node(nodes, NodeId(end.0 - FIRST_NODE)) {
         InferSort::Generic { op: _, subsort } => occurs(sorts, nodes, binds, lengths, var, subsort),
         InferSort::Function { domain, range } => {
             if occurs_any(
@@ -198,10 +202,10 @@ pub fn variable_at(sorts: &[u16], nodes: &[u16], lengths: Lengths, id: InferSort
     requires { ⌜ NodesReady (now sorts) (now nodes) lengths × Placed lengths (id .0) ⌝ }
     ensures { λ r. ⌜ r ≡ varAt (graphOf (now (sorts .entry)) (now (nodes .entry)) lengths (id .0)) ⌝ }
 {
-    if id.0 < 1024 {
+    if id.0 < FIRST_NODE {
         return VarAt::Nothing;
     }
-    match node(nodes, NodeId(id.0 - 1024)) {
+    match node(nodes, NodeId(id.0 - FIRST_NODE)) {
         InferSort::Generic { op: _, subsort: _ } => VarAt::Nothing,
         InferSort::Function {
             domain: _,
@@ -264,20 +268,20 @@ fn kind_at(sorts: &[u16], nodes: &[u16], lengths: Lengths, id: InferSortId) -> u
     requires { ⌜ NodesReady (now sorts) (now nodes) lengths × Placed lengths (id .0) ⌝ }
     ensures { λ r. ⌜ r ≡ kindHead (headOf (graphOf (now (sorts .entry)) (now (nodes .entry)) lengths (id .0))) ⌝ }
 {
-    if id.0 < 1024 {
+    if id.0 < FIRST_NODE {
         return word(sorts, 4 * (id.0 as usize));
     }
-    word(nodes, 4 * ((id.0 - 1024) as usize))
+    word(nodes, 4 * ((id.0 - FIRST_NODE) as usize))
 }
 
 fn number_at(sorts: &[u16], nodes: &[u16], lengths: Lengths, id: InferSortId) -> u16
     requires { ⌜ NodesReady (now sorts) (now nodes) lengths × Placed lengths (id .0) ⌝ }
     ensures { λ r. ⌜ r ≡ numberHead (headOf (graphOf (now (sorts .entry)) (now (nodes .entry)) lengths (id .0))) ⌝ }
 {
-    if id.0 < 1024 {
+    if id.0 < FIRST_NODE {
         return number_in(sorts, 4 * (id.0 as usize));
     }
-    number_in(nodes, 4 * ((id.0 - 1024) as usize))
+    number_in(nodes, 4 * ((id.0 - FIRST_NODE) as usize))
 }
 
 // Whether two places have the same head: constructor, and number of arguments.
@@ -302,10 +306,10 @@ pub fn part_count(sorts: &[u16], nodes: &[u16], lengths: Lengths, id: InferSortI
     requires { ⌜ NodesReady (now sorts) (now nodes) lengths × Placed lengths (id .0) ⌝ }
     ensures { λ r. ⌜ r ≡ length (partsOf (graphOf (now (sorts .entry)) (now (nodes .entry)) lengths (id .0))) ⌝ }
 {
-    if id.0 < 1024 {
+    if id.0 < FIRST_NODE {
         return count_in(sorts, 4 * (id.0 as usize));
     }
-    count_in(nodes, 4 * ((id.0 - 1024) as usize))
+    count_in(nodes, 4 * ((id.0 - FIRST_NODE) as usize))
 }
 
 // The i-th part of the sort at a place.
@@ -313,8 +317,13 @@ pub fn part(sorts: &[u16], nodes: &[u16], lengths: Lengths, id: InferSortId, i: 
     requires { ⌜ NodesReady (now sorts) (now nodes) lengths × Placed lengths (id .0) × (i < length (partsOf (graphOf (now sorts) (now nodes) lengths (id .0)))) ⌝ }
     ensures { λ r. ⌜ r .0 ≡ getD (partsOf (graphOf (now (sorts .entry)) (now (nodes .entry)) lengths (id .0))) i 0 ⌝ }
 {
-    if id.0 < 1024 {
-        return part_in(sorts, 4096, 4 * (id.0 as usize), i);
+    if id.0 < FIRST_NODE {
+        return part_in(sorts, ENTRIES_AT, 4 * (id.0 as usize), i);
     }
-    part_in(nodes, 8192, 4 * ((id.0 - 1024) as usize), i)
+    part_in(
+        nodes,
+        NODE_ENTRIES_AT,
+        4 * ((id.0 - FIRST_NODE) as usize),
+        i,
+    )
 }

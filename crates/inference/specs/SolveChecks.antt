@@ -5,7 +5,7 @@ use Prim.Native.Nat.{ℕ, _+_, _*_}
 use lib.Dec.{eqb, leb, ltb}
 use lib.ListN.{length, getD}
 use Rattle.resolved_sort.specs.declared.Run.{Run}
-use Rattle.resolved_sort.specs.Checks.{Check, allBelow, withinLent, fixedSix, rowsFine, noTwoEqual, atCeiling}
+use Rattle.resolved_sort.specs.Checks.{Check, allBelow, withinLent, atCeiling, sortRowChecks}
 use Rattle.unification.specs.declared.Lengths.{Lengths}
 use Rattle.unification.specs.Nodes.{fullNodes, isPlace}
 use Rattle.unification.specs.NodeChecks.{nodesWithinLent, bindingsWithinLent, nodeChecks}
@@ -166,10 +166,8 @@ keys I = rowsFrom (λ i. getD (I .names) (3 * i) 0) 0 (I .rows .names)
 unfoldable pub solveChecks : Call → List Check
 solveChecks I =
     record { code = 1; passes = allWithinLent I }
-    ∷ record { code = 2; passes = fixedSix (I .sorts) (I .lengths .sorts) }
-    ∷ record { code = 3; passes = rowsFine (I .sorts) (I .lengths .sorts) (I .lengths .entries) }
-    ∷ record { code = 4; passes = noTwoEqual (I .sorts) (I .lengths .sorts) }
-    ∷ nodeChecks (I .nodes) (I .lengths .nodes) (I .lengths .arguments) (I .lengths .sorts) (I .binds) (I .lengths .variables)
+    ∷ sortRowChecks (I .sorts) (I .lengths .sorts) (I .lengths .entries)
+    ++ nodeChecks (I .nodes) (I .lengths .nodes) (I .lengths .arguments) (I .lengths .sorts) (I .binds) (I .lengths .variables)
     ++ record { code = 8; passes = exprsFine I && namesFine I }
     ∷ record { code = 9; passes = constraintsFine I }
     ∷ record { code = 10; passes = noTwo (disjunctions (given I)) && noTwo (keys I) }

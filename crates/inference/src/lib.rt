@@ -76,3 +76,16 @@ pub enum Solved {
     Ambiguous(Counts),
     Typing(Outputs),
 }
+
+// Ceilings of document 01, and the words of scratch.
+pub const MAX_EXPRS: usize = 512;
+
+pub const MAX_CONSTRAINTS: usize = 256;
+
+pub const MAX_OVERLOADS: usize = 1024;
+
+pub const MAX_SOURCES: usize = 256;
+
+pub const MAX_COMPONENTS: usize = 256;
+
+pub const SCRATCH_WORDS: usize = 4096;

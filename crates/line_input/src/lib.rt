@@ -1,5 +1,4 @@
-// What the programs that replay recorded answers share: standard input line by line, and what is said of a line and at the
-// end.
+// Standard input line by line.
 use libc::STDIN_FILENO;
 ghost use mathlib.Core.Path.{_≡_};
 

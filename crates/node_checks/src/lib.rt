@@ -1,9 +1,18 @@
-// Checks 1, 5 and 6 of document 01 over lent nodes and bindings.
+// Checks 1 and 5 to 7 of document 01 over lent nodes and bindings, and the first of 5 to 7 that fails. Check 7, no variable reaches itself: round by
+// round a variable is settled when it is free or when what it is bound to is settled, and a sort when all that stands in it is; as many rounds as there
+// are variables settle all that can be, and where all are settled before, no further round is made.
 use infer_nodes::node;
+use resolved_sort::MAX_ARGUMENTS;
 use resolved_sort::Run;
 use resolved_sort::Tested;
+use unification::FIRST_NODE;
+use unification::FREE_WORD;
 use unification::InferSort;
 use unification::InferSortId;
+use unification::MAX_NODE_ENTRIES;
+use unification::MAX_NODES;
+use unification::MAX_VARS;
+use unification::NODE_ENTRIES_AT;
 use unification::NodeId;
 use words::word;
 ghost use mathlib.Core.Path.{_≡_};
@@ -22,10 +31,10 @@ ghost use Rattle.resolved_sort.specs.Entries.{testedOf};
 pub fn nodes_within_lent(nodes: &[u16], m: usize, d: usize) -> bool
     ensures { λ r. ⌜ r ≡ nodesWithinLent (now (nodes .entry)) m d ⌝ }
 {
-    if 2048 < m {
+    if MAX_NODES < m {
         return false;
     }
-    if 4096 < d {
+    if MAX_NODE_ENTRIES < d {
         return false;
     }
     if nodes.len() < 4 * m {
@@ -34,14 +43,14 @@ pub fn nodes_within_lent(nodes: &[u16], m: usize, d: usize) -> bool
     if d == 0 {
         return true;
     }
-    8192 + d <= nodes.len()
+    NODE_ENTRIES_AT + d <= nodes.len()
 }
 
 // Check 1: v bindings likewise.
 pub fn bindings_within_lent(binds: &[u16], v: usize) -> bool
     ensures { λ r. ⌜ r ≡ bindingsWithinLent (now (binds .entry)) v ⌝ }
 {
-    if 512 < v {
+    if MAX_VARS < v {
         return false;
     }
     v <= binds.len()
@@ -52,10 +61,10 @@ pub fn is_place(n: usize, m: usize, p: u16) -> bool
     ensures { λ r. ⌜ r ≡ isPlace n m p ⌝ }
 {
     let word = p as usize;
-    if word < 1024 {
+    if word < FIRST_NODE {
         return word < n;
     }
-    word - 1024 < m
+    word - FIRST_NODE < m
 }
 
 // Whether each of the count arguments from start on is a place among n sorts and i nodes.
@@ -64,7 +73,11 @@ fn arguments_placed(nodes: &[u16], n: usize, i: usize, start: u16, count: u16) -
 {
     let mut j: u16 = 0;
     while j < count {
-        if !is_place(n, i, word(nodes, 8192 + ((start as usize) + (j as usize)))) {
+        if !is_place(
+            n,
+            i,
+            word(nodes, NODE_ENTRIES_AT + ((start as usize) + (j as usize))),
+        ) {
             return false;
         }
         j += 1;
@@ -99,7 +112,7 @@ fn function_fine(
 {
     let start = domain.start;
     let count = domain.count;
-    if 16 < count {
+    if MAX_ARGUMENTS < count {
         return false;
     }
     if d < (start as usize) + (count as usize) {
@@ -165,7 +178,7 @@ pub fn bindings_fine(binds: &[u16], v: usize, n: usize, m: usize) -> bool
 fn binding_fine(n: usize, m: usize, w: u16) -> bool
     ensures { λ r. ⌜ r ≡ bindingFine n m (bindingOf w) ⌝ }
 {
-    if w == 65535 {
+    if w == FREE_WORD {
         return true;
     }
     is_place(n, m, w)
@@ -182,10 +195,10 @@ fn flag(flags: &[bool], i: usize) -> bool
 fn place_settled(flags: &[bool], place: u16) -> bool
     ensures { λ r. ⌜ r ≡ placeSettled (now (flags .entry)) place ⌝ }
 {
-    if place < 1024 {
+    if place < FIRST_NODE {
         return true;
     }
-    flag(flags, (place - 1024) as usize)
+    flag(flags, (place - FIRST_NODE) as usize)
 }
 
 // Whether each of a run of arguments is settled.
@@ -194,7 +207,10 @@ fn arguments_settled(nodes: &[u16], flags: &[bool], start: u16, count: u16) -> b
 {
     let mut j: u16 = 0;
     while j < count {
-        if !place_settled(flags, word(nodes, 8192 + ((start as usize) + (j as usize)))) {
+        if !place_settled(
+            flags,
+            word(nodes, NODE_ENTRIES_AT + ((start as usize) + (j as usize))),
+        ) {
             return false;
         }
         j += 1;
@@ -234,7 +250,7 @@ fn settle_nodes(nodes: &[u16], m: usize, vars: &[bool], flags: &mut [bool])
 fn binding_settled(flags: &[bool], w: u16) -> bool
     ensures { λ r. ⌜ r ≡ bindingSettled (now (flags .entry)) (bindingOf w) ⌝ }
 {
-    if w == 65535 {
+    if w == FREE_WORD {
         return true;
     }
     place_settled(flags, w)
@@ -272,8 +288,8 @@ pub fn acyclic(nodes: &[u16], m: usize, binds: &[u16], v: usize) -> bool
     requires { ⌜ (m ≤ maxNodes) × (v ≤ maxVars) ⌝ }
     ensures { λ r. ⌜ r ≡ acyclicOf (now (nodes .entry)) m (bindsOf (now (binds .entry)) v) ⌝ }
 {
-    let mut vars = [false; 512];
-    let mut flags = [false; 2048];
+    let mut vars = [false; MAX_VARS];
+    let mut flags = [false; MAX_NODES];
     let mut round: usize = 0;
     while round < v {
         settle_nodes(nodes, m, &vars[..v], &mut flags);

@@ -3,6 +3,7 @@
 use resolved_sort::Counts;
 use resolved_sort::Joined;
 use resolved_sort::PartialOrder;
+use resolved_sort::SORT_WORDS;
 use resolved_sort::SortId;
 use resolved_sort::Widening;
 use sort_bounds::bound;
@@ -233,7 +234,7 @@ pub fn put_pair(first: &[u8], second: &[u8], out: &mut [u8], at: usize) -> usize
     requires { ⌜ at + lineRoom ≤ length (now out) ⌝ }
     ensures { λ r. ⌜ Put (now (out .entry)) at (withLf (pairOf (now (first .entry)) (now (second .entry)))) (now (out .exit)) r ⌝ }
 {
-    let mut sorts = [0u16; 8192];
+    let mut sorts = [0u16; SORT_WORDS];
     six(&mut sorts);
     put_first(&mut sorts, first, second, out, at)
 }

@@ -1,10 +1,13 @@
-// The lists of a problem as one slice of words: packed from the caller's lists, and read by number.
+// The lists of a problem in lent words: rows of constraints and of names read, and all lists packed into one slice from the caller's.
 use inference::Constraint;
 use inference::ExprId;
 use inference::LitKind;
 use inference::NameTarget;
 use resolved_sort::Run;
 use resolved_sort::SortId;
+use search_state::EXPRS_AT;
+use search_state::OVERLOADS_AT;
+use search_state::SOURCES_AT;
 use search_state::Sizes;
 use unification::InferSortId;
 use words::copy;
@@ -29,23 +32,29 @@ pub fn pack(
     ensures { λ _. ⌜ problemIn (now (lists .exit)) sizes ≡ problemFrom (now (exprs .entry)) (now (constraints .entry)) (now (overloads .entry)) (now (sources .entry)) sizes ⌝ }
 {
     copy(lists, 0, constraints, 0, 5 * (sizes.constraints as usize));
-    copy(lists, 1280, overloads, 0, 3 * (sizes.overloads as usize));
-    copy(lists, 4352, sources, 0, sizes.sources as usize);
-    copy(lists, 4608, exprs, 0, sizes.exprs as usize);
+    copy(
+        lists,
+        OVERLOADS_AT,
+        overloads,
+        0,
+        3 * (sizes.overloads as usize),
+    );
+    copy(lists, SOURCES_AT, sources, 0, sizes.sources as usize);
+    copy(lists, EXPRS_AT, exprs, 0, sizes.exprs as usize);
 }
 
 // The place of the j-th source.
 pub fn source_at(lists: &[u16], j: u16) -> InferSortId
     ensures { λ r. ⌜ r .0 ≡ sourceAt (now (lists .entry)) j ⌝ }
 {
-    InferSortId(word(lists, 4352 + (j as usize)))
+    InferSortId(word(lists, SOURCES_AT + (j as usize)))
 }
 
 // The place of the i-th overload's sort.
 pub fn overload_place(lists: &[u16], i: u16) -> InferSortId
     ensures { λ r. ⌜ r .0 ≡ overloadAt (drop overloadsAt (now (lists .entry))) i .sort .0 ⌝ }
 {
-    InferSortId(word(lists, 1280 + (3 * (i as usize) + 2)))
+    InferSortId(word(lists, OVERLOADS_AT + (3 * (i as usize) + 2)))
 }
 
 // The kind of a literal. Every kind above 0 says natural: that it is 1 is check 9's to show.

@@ -18,10 +18,14 @@ use sort_interner::kind_of_op;
 use sort_interner::put_args;
 use sort_interner::put_row;
 use sort_interner::start_of;
+use unification::FIRST_NODE;
 use unification::InferSort;
 use unification::InferSortId;
 use unification::Lengths;
 use unification::Listed;
+use unification::MAX_NODE_ENTRIES;
+use unification::NODE_ENTRIES_BEHIND;
+use unification::NODE_NUMBERS;
 use unification::NodeId;
 use unification::Pushed;
 use unification::Related;
@@ -123,16 +127,16 @@ fn push(
 {
     let n = lengths.nodes;
     let e = lengths.arguments;
-    if 2048 <= n {
+    if NODE_NUMBERS <= n {
         return Pushed::Full;
     }
-    if 4096 < (e as usize) + (count as usize) {
+    if MAX_NODE_ENTRIES < (e as usize) + (count as usize) {
         return Pushed::Full;
     }
     put_row(nodes, n, kind, part, start_of(kind, e), count);
-    put_args(nodes, 4096 + e, ids, count);
+    put_args(nodes, NODE_ENTRIES_BEHIND + e, ids, count);
     Pushed::At(
-        1024 + n,
+        FIRST_NODE + n,
         Lengths {
             sorts: lengths.sorts,
             entries: lengths.entries,
@@ -367,10 +371,10 @@ fn strict_related_sorts(
     ensures { λ r. ⌜ Relates (now (sorts .exit)) (now (nodes .exit)) r (strictRelated up (bindsOf (now (binds .entry)) (lengths .variables)) (id .0) (lent (now (sorts .entry)) (now (nodes .entry)) lengths)) ⌝ }
 {
     let end = shallow_normalize(sorts, nodes, binds, lengths, id);
-    if end.0 < 1024 {
+    if end.0 < FIRST_NODE {
         return related_sort(sorts, nodes, binds, lengths, end, up);
     }
-    match node(nodes, NodeId(end.0 - 1024)) {
+    match node(nodes, NodeId(end.0 - FIRST_NODE)) {
         InferSort::Generic { op, subsort } => push_generic(sorts, nodes, lengths, op, subsort, up),
         InferSort::Function {
             domain: _,

@@ -1,8 +1,5 @@
-// Recorded answers about sorts, asked again of the entries. A line is a letter and numbers, each after one space:
-// `L n e` begins a list of n sorts and e argument entries; `r kind part start count` is its next row; `a w ..` its next
-// entries, at most 16; `c a b x`, `d a b x`, `m a b x`, `j a b x` and `k a b x` ask partial_cmp, widening_distance,
-// is_materializable, join and meet of the sorts a and b, and x is the answer, packed; a line that starts with `#` says
-// nothing.
+// What the programs that replay recorded answers share: the numbers of a line, the counts of lines that agree and differ, and what is said of a line and
+// at the end.
 use libc::STDOUT_FILENO;
 use line_input::Found;
 use words::put;

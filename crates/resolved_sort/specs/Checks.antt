@@ -62,13 +62,16 @@ unfoldable pub firstFailing : List Check → Option ℕ
 firstFailing [] = none
 firstFailing (c ∷ cs) = cond (c .passes) (firstFailing cs) (some (c .code))
 
-unfoldable pub sortChecks : List ℕ → ℕ → ℕ → List Check
-sortChecks ws n e =
-    record { code = 1; passes = withinLent ws n e }
-    ∷ record { code = 2; passes = fixedSix ws n }
+-- checks 2 to 4, which every entry makes after check 1
+abbrev pub sortRowChecks : List ℕ → ℕ → ℕ → List Check
+sortRowChecks ws n e =
+    record { code = 2; passes = fixedSix ws n }
     ∷ record { code = 3; passes = rowsFine ws n e }
     ∷ record { code = 4; passes = noTwoEqual ws n }
     ∷ []
+
+unfoldable pub sortChecks : List ℕ → ℕ → ℕ → List Check
+sortChecks ws n e = record { code = 1; passes = withinLent ws n e } ∷ sortRowChecks ws n e
 
 -- the checks of an entry that asks about two sorts
 unfoldable pub pairChecks : List ℕ → ℕ → ℕ → ℕ → ℕ → List Check

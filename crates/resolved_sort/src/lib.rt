@@ -141,3 +141,25 @@ pub enum Tested {
     Refused(u16),
     Passed,
 }
+
+// Ceilings of document 01: sorts, argument entries, and arguments of a function. Sort numbers are below SORT_NUMBERS.
+pub const MAX_SORTS: usize = 1024;
+
+pub const SORT_NUMBERS: u16 = 1024;
+
+pub const MAX_ENTRIES: usize = 4096;
+
+pub const MAX_ARGUMENTS: u16 = 16;
+
+// Where the argument entries begin in the lent words, behind the rows, and how many words are lent at the full ceiling.
+pub const ENTRIES_AT: usize = 4096;
+
+pub const SORT_WORDS: usize = 8192;
+
+// The kind of a function's row, and the last kind.
+pub const FUNCTION_KIND: u16 = 11;
+
+pub const LAST_KIND: u16 = 13;
+
+// Where the sums of a distance stop.
+pub const MOST_STEPS: u8 = 255;

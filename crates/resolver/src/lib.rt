@@ -12,6 +12,7 @@ use resolved_sort::SortId;
 use sort_interner::function;
 use sort_interner::generic;
 use unification::Default;
+use unification::FIRST_NODE;
 use unification::InferSort;
 use unification::InferSortId;
 use unification::Lengths;
@@ -78,10 +79,10 @@ fn resolve_with(
     ensures { λ r. ⌜ storedAt (now (sorts .exit)) r ≡ termResolved (now (sorts .entry)) lengths default (valueIn (now (sorts .entry)) (now (nodes .entry)) (now (binds .entry)) lengths (id .0)) ⌝ }
 {
     let end = shallow_normalize(sorts, nodes, binds, lengths, id);
-    if end.0 < 1024 {
+    if end.0 < FIRST_NODE {
         return Joined::At(SortId(end.0), counts_of(lengths));
     }
-    match node(nodes, NodeId(end.0 - 1024)) {
+    match node(nodes, NodeId(end.0 - FIRST_NODE)) {
         InferSort::Generic { op, subsort } => match resolve_with(
             sorts,
             nodes,

@@ -2,6 +2,8 @@
 // and joined from left to right. Where one has no sort or two have no join the answer is none, and what was made stays.
 use infer_nodes::counts_of;
 use infer_nodes::with_counts;
+use inference::MAX_SOURCES;
+use problem_words::source_at;
 use resolved_sort::Counts;
 use resolved_sort::Joined;
 use resolved_sort::Run;
@@ -10,6 +12,7 @@ use resolved_sort::Widening;
 use resolver::resolve;
 use search_state::Branch;
 use search_state::Extracted;
+use search_state::MEASURE_AT;
 use search_state::Made;
 use sort_bounds::join;
 use sort_order::is_materializable;
@@ -72,13 +75,6 @@ fn join_of(sorts: &mut [u16], lengths: Lengths, lhs: SortId, rhs: SortId) -> Mad
     made_from(lengths, join(sorts, counts_of(lengths), lhs, rhs))
 }
 
-// The j-th source of all Joins.
-fn source(lists: &[u16], j: u16) -> InferSortId
-    ensures { λ r. ⌜ r .0 ≡ sourceAt (now (lists .entry)) j ⌝ }
-{
-    InferSortId(word(lists, 4352 + (j as usize)))
-}
-
 // The sorts of the sources, up to the first that has none.
 fn resolve_sources(
     sorts: &mut [u16],
@@ -97,7 +93,7 @@ fn resolve_sources(
     let mut here = lengths;
     let mut i: u16 = 0;
     while i < count {
-        let next = source(lists, start + i);
+        let next = source_at(lists, start + i);
         match sort_of(sorts, nodes, binds, here, next) {
             Made::At(sort, then) => {
                 put(ids, i as usize, sort.0);
@@ -182,7 +178,7 @@ fn put_heads(
     ensures { λ _. ⌜ now (scratch .exit) ≡ sets (now (scratch .entry)) (measureAt + measure) (each (λ s. headOf (distance true (treeAt (now (sorts .entry)) (lengths .sorts) s) (treeAt (now (sorts .entry)) (lengths .sorts) (lub .0)))) (take count (now (ids .entry)))) ⌝ }
 {
     let counts = counts_of(lengths);
-    let from = 1024 + (measure as usize);
+    let from = MEASURE_AT + (measure as usize);
     let mut i: u16 = 0;
     while i < count {
         let head = head_distance(sorts, counts, SortId(word(ids, i as usize)), lub);
@@ -233,7 +229,7 @@ pub fn agreed(
     requires { ⌜ Agreeing (now sorts) (now nodes) (now binds) (now scratch) (now lists) lengths at sources ⌝ }
     ensures { λ r. ⌜ Agrees (now (nodes .entry)) (now (scratch .entry)) at (sources .count) (joinOf (bindsOf (now (binds .entry)) (lengths .variables)) (rowsFrom (sourceAt (now (lists .entry))) (sources .start) (sources .count)) (lent (now (sorts .entry)) (now (nodes .entry)) lengths)) (now (sorts .exit)) (now (scratch .exit)) r ⌝ }
 {
-    let mut ids = [0u16; 256];
+    let mut ids = [0u16; MAX_SOURCES];
     match resolve_sources(sorts, nodes, binds, lists, &mut ids, lengths, sources) {
         Extracted::All(here) => agreement(sorts, scratch, here, &ids, sources.count, at),
         Extracted::Nothing(here) => Made::Nothing(here),

@@ -4,8 +4,14 @@ use infer_nodes::with_counts;
 use resolved_sort::Joined;
 use resolver::resolve_or_default;
 use search_state::Answer;
+use search_state::BEST_CHOICES_AT;
+use search_state::BEST_MEASURE_AT;
+use search_state::BEST_SORTS_AT;
 use search_state::Branch;
+use search_state::CHOICES_AT;
+use search_state::EXPRS_AT;
 use search_state::Extracted;
+use search_state::MEASURE_AT;
 use search_state::Ordering;
 use search_state::Sizes;
 use search_state::State;
@@ -31,8 +37,8 @@ fn compare(scratch: &[u16], n: u16) -> Ordering
 {
     let mut i = 0u16;
     while i < n {
-        let component = word(scratch, 1024 + (i as usize));
-        let best = word(scratch, 1280 + (i as usize));
+        let component = word(scratch, MEASURE_AT + (i as usize));
+        let best = word(scratch, BEST_MEASURE_AT + (i as usize));
         if component < best {
             return Ordering::Less;
         }
@@ -87,10 +93,10 @@ fn extract(
     let mut here = lengths;
     let mut i = 0u16;
     while i < count {
-        let place = InferSortId(word(lists, 4608 + (i as usize)));
+        let place = InferSortId(word(lists, EXPRS_AT + (i as usize)));
         match resolve_or_default(sorts, nodes, binds, here, place, default) {
             Joined::At(id, made) => {
-                put(scratch, 512 + (i as usize), id.0);
+                put(scratch, BEST_SORTS_AT + (i as usize), id.0);
                 here = with_counts(here, made);
             }
             Joined::Nothing(made) => {
@@ -122,8 +128,18 @@ fn keep(scratch: &mut [u16], sizes: Sizes)
     requires { ⌜ Keepable sizes (now scratch) ⌝ }
     ensures { λ _. ⌜ now (scratch .exit) ≡ kept sizes (now (scratch .entry)) ⌝ }
 {
-    copy(scratch, 1024, 1280, sizes.components as usize);
-    copy(scratch, 1536, 1792, sizes.disjunctions as usize);
+    copy(
+        scratch,
+        MEASURE_AT,
+        BEST_MEASURE_AT,
+        sizes.components as usize,
+    );
+    copy(
+        scratch,
+        CHOICES_AT,
+        BEST_CHOICES_AT,
+        sizes.disjunctions as usize,
+    );
 }
 
 // The leaf becomes the incumbent.

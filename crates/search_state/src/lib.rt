@@ -115,3 +115,25 @@ pub enum Went {
     On(State, bool),
     Stop(u16, Lengths),
 }
+
+// The lists of a problem in one slice, each at its ceiling: constraints first, then overloads, sources and places of expressions.
+pub const OVERLOADS_AT: usize = 1280;
+
+pub const SOURCES_AT: usize = 4352;
+
+pub const EXPRS_AT: usize = 4608;
+
+pub const PROBLEM_WORDS: usize = 5120;
+
+// The blocks of the scratch: the trail first, then the incumbent's sorts, the running measure, the incumbent's, the running choices, the incumbent's.
+pub const TRAIL_WORDS: usize = 512;
+
+pub const BEST_SORTS_AT: usize = 512;
+
+pub const MEASURE_AT: usize = 1024;
+
+pub const BEST_MEASURE_AT: usize = 1280;
+
+pub const CHOICES_AT: usize = 1536;
+
+pub const BEST_CHOICES_AT: usize = 1792;

@@ -1,5 +1,5 @@
-// What the search of merc's inference.rs does between its calls of itself: telling answers apart, and the tries of a widening and of a literal, from
-// solve_widening and solve_lit.
+// What the search of merc's inference.rs does between its calls of itself. One try: places made equal with a trail at the front of the scratch, and
+// what the try adds to its branch. Answers told apart, and the tries of a widening and of a literal, from solve_widening and solve_lit.
 use infer_nodes::counts_of;
 use infer_nodes::node;
 use infer_nodes::shallow_normalize;
@@ -14,8 +14,10 @@ use resolved_sort::Sort;
 use resolved_sort::SortId;
 use search_state::Answer;
 use search_state::Branch;
+use search_state::CHOICES_AT;
 use search_state::Four;
 use search_state::LitAt;
+use search_state::MEASURE_AT;
 use search_state::Made;
 use search_state::Pairs;
 use search_state::State;
@@ -27,6 +29,7 @@ use sort_interner::generic;
 use sort_interner::get;
 use sort_order::Amount;
 use sort_order::number_generality;
+use unification::FIRST_NODE;
 use unification::InferSort;
 use unification::InferSortId;
 use unification::Lengths;
@@ -123,7 +126,7 @@ pub fn push(scratch: &mut [u16], at: Branch, trail: u16, step: Step) -> Branch
             choices,
         },
         Step::Component(component) => {
-            scratch[1024 + measure as usize] = component;
+            scratch[MEASURE_AT + measure as usize] = component;
             Branch {
                 trail,
                 measure: measure + 1,
@@ -136,7 +139,7 @@ pub fn push(scratch: &mut [u16], at: Branch, trail: u16, step: Step) -> Branch
             choices,
         },
         Step::Choice(position) => {
-            scratch[1536 + choices as usize] = position;
+            scratch[CHOICES_AT + choices as usize] = position;
             Branch {
                 trail,
                 measure,
@@ -277,10 +280,10 @@ pub fn lit_at(
     ensures { λ r. ⌜ r ≡ litAt kind (graphOf (now (sorts .entry)) (now (nodes .entry)) lengths) (bindsOf (now (binds .entry)) (lengths .variables)) (id .0) ⌝ }
 {
     let end = shallow_normalize(sorts, nodes, binds, lengths, id);
-    if end.0 < 1024 {
+    if end.0 < FIRST_NODE {
         return lit_at_row(get(sorts, SortId(end.0)), kind);
     }
-    match node(nodes, NodeId(end.0 - 1024)) {
+    match node(nodes, NodeId(end.0 - FIRST_NODE)) {
         InferSort::Generic { op: _, subsort: _ } => LitAt::Other,
         InferSort::Function {
             domain: _,

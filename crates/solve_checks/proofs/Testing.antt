@@ -10,7 +10,7 @@ use borrow.Author.Tests.{not-true, not-false, lt-leb, le-leb, lt-ltb, le-ltb}
 use Rattle.resolved_sort.specs.declared.Tested.{Tested}
 use Rattle.resolved_sort.specs.declared.Tested.the-variants.{Refused, Passed}
 use Rattle.resolved_sort.specs.Storage.{fullLength}
-use Rattle.resolved_sort.specs.Checks.{Check, firstFailing, fixedSix, rowsFine, noTwoEqual, atCeiling, sortChecks}
+use Rattle.resolved_sort.specs.Checks.{Check, firstFailing, atCeiling, sortRowChecks, sortChecks}
 use Rattle.resolved_sort.specs.Entries.{testedOf}
 use Rattle.resolved_sort.proofs.FirstFailing.{first-fails, first-passes}
 use Rattle.unification.specs.Nodes.{maxNodes, maxVars, fullNodes}
@@ -176,11 +176,7 @@ module _ (I : Call) where
   all = solveChecks I
 
   abbrev sorted : List Check
-  sorted =
-      record { code = 2; passes = fixedSix (I .sorts) (I .lengths .sorts) }
-      ∷ record { code = 3; passes = rowsFine (I .sorts) (I .lengths .sorts) (I .lengths .entries) }
-      ∷ record { code = 4; passes = noTwoEqual (I .sorts) (I .lengths .sorts) }
-      ∷ []
+  sorted = sortRowChecks (I .sorts) (I .lengths .sorts) (I .lengths .entries)
 
   module _ (x : Bool) (ex : x ≡ allWithinLent I) where
     pub outside : not x ≡ true → Refused 1 ≡ testedOf (firstFailing all)

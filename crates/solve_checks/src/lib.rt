@@ -1,18 +1,26 @@
-// Checks 1 and 8 to 14 of document 01 over the lists that the solver takes beside sorts, nodes and bindings.
+// Checks 1 and 8 to 14 of document 01 over the lists that the solver takes beside sorts, nodes and bindings, and the first failing check of its call.
 use inference::Constraint;
 use inference::ExprId;
 use inference::LitKind;
+use inference::MAX_COMPONENTS;
+use inference::MAX_CONSTRAINTS;
+use inference::MAX_EXPRS;
+use inference::MAX_OVERLOADS;
+use inference::MAX_SOURCES;
+use inference::SCRATCH_WORDS;
 use node_checks::bindings_within_lent;
 use node_checks::is_place;
 use node_checks::nodes_within_lent;
 use node_checks::test_nodes;
 use problem_words::constraint_at;
 use resolved_sort::Run;
+use resolved_sort::SORT_WORDS;
 use resolved_sort::SortId;
 use resolved_sort::Tested;
 use sort_checks::test_sorts;
 use sort_checks::within_lent;
 use unification::InferSortId;
+use unification::NODE_WORDS;
 use words::word;
 ghost use mathlib.Core.Path.{_≡_};
 ghost use mathlib.Core.Bool.{true};
@@ -65,7 +73,7 @@ pub fn rows_within_lent(
 ) -> bool
     ensures { λ r. ⌜ r ≡ rowsWithinLent (partOf given (now (exprs .entry)) (now (names .entry)) (now (constraints .entry)) (now (overloads .entry)) (now (sources .entry))) ⌝ }
 {
-    if 512 < given.exprs {
+    if MAX_EXPRS < given.exprs {
         return false;
     }
     if exprs.len() < given.exprs {
@@ -74,19 +82,19 @@ pub fn rows_within_lent(
     if names.len() / 3 < given.names {
         return false;
     }
-    if 256 < given.constraints {
+    if MAX_CONSTRAINTS < given.constraints {
         return false;
     }
     if constraints.len() < 5 * given.constraints {
         return false;
     }
-    if 1024 < given.overloads {
+    if MAX_OVERLOADS < given.overloads {
         return false;
     }
     if overloads.len() < 3 * given.overloads {
         return false;
     }
-    if 256 < given.sources {
+    if MAX_SOURCES < given.sources {
         return false;
     }
     given.sources <= sources.len()
@@ -378,7 +386,7 @@ pub fn one_disjunction_each(constraints: &[u16], count: u16) -> bool
     requires { ⌜ allUnder maxExprs (disjunctions (constraintsIn (now constraints) count)) ≡ true ⌝ }
     ensures { λ r. ⌜ r ≡ noTwo (disjunctions (constraintsIn (now (constraints .entry)) count)) ⌝ }
 {
-    let mut seen = [false; 512];
+    let mut seen = [false; MAX_EXPRS];
     let mut i: u16 = 0;
     while i < count {
         if !mark_by(&mut seen, constraint_at(constraints, i)) {
@@ -394,7 +402,7 @@ pub fn one_name_each(names: &[u16], given: Given) -> bool
     requires { ⌜ (3 * given .names ≤ length (now names)) × (allUnder maxExprs (keys (partOf given [] (now names) [] [] [])) ≡ true) ⌝ }
     ensures { λ r. ⌜ r ≡ noTwo (keys (partOf given [] (now (names .entry)) [] [] [])) ⌝ }
 {
-    let mut seen = [false; 512];
+    let mut seen = [false; MAX_EXPRS];
     let count = given.names;
     let mut i: usize = 0;
     while i < count {
@@ -519,7 +527,7 @@ pub fn outputs_long(constraints: &[u16], given: Given, room: Room) -> bool
     requires { ⌜ (given .exprs ≤ maxExprs) × (given .constraints ≤ maxConstraints) ⌝ }
     ensures { λ r. ⌜ ((o : Outs room) → r ≡ outputsLong (outputsOf given (now (constraints .entry)) room o)) ⌝ }
 {
-    if room.scratch < 4096 {
+    if room.scratch < SCRATCH_WORDS {
         return false;
     }
     if room.typing < 3 * given.exprs {
@@ -597,16 +605,16 @@ fn test_last(sorts: &[u16], nodes: &[u16], constraints: &[u16], given: Given, ro
     if !joins_fine(constraints, count) {
         return Tested::Refused(11);
     }
-    if 256 < components(constraints, count) {
+    if MAX_COMPONENTS < components(constraints, count) {
         return Tested::Refused(11);
     }
     if given.sorts <= (given.default as usize) {
         return Tested::Refused(12);
     }
-    if sorts.len() < 8192 {
+    if sorts.len() < SORT_WORDS {
         return Tested::Refused(14);
     }
-    if nodes.len() < 12288 {
+    if nodes.len() < NODE_WORDS {
         return Tested::Refused(14);
     }
     if !outputs_long(constraints, given, room) {

@@ -4,6 +4,7 @@
 use inference::Solved;
 use problem_words::pack;
 use resolved_sort::Tested;
+use search_state::PROBLEM_WORDS;
 use search_state::Sizes;
 use solve_checks::Given;
 use solve_checks::Room;
@@ -89,7 +90,7 @@ fn solve_passed(
 {
     let lengths = lengths_of(given);
     let sizes = sizes_of(constraints, given);
-    let mut lists = [0; 5120];
+    let mut lists = [0; PROBLEM_WORDS];
     pack(&mut lists, exprs, constraints, overloads, sources, sizes);
     search(
         sorts,

@@ -8,16 +8,17 @@ use Rattle.inference.specs.declared.Solved.{Solved}
 use Rattle.inference.specs.declared.Solved.the-variants.{Refused, NoRoom, NoTyping, Ambiguous, Typing}
 use Rattle.inference.specs.Constraints.{maxConstraints, maxComponents}
 use Rattle.inference.specs.SolveEntry.{Left}
+use Rattle.words.specs.Bits.{bit8, bit24, bit40, bit52}
 
 abbrev pub packCounts : Counts → ℕ
-packCounts k = k .sorts * 256 + k .entries * 16777216
+packCounts k = k .sorts * bit8 + k .entries * bit24
 
 unfoldable pub packSolved : Solved → ℕ
 packSolved (Refused c) = c
 packSolved (NoRoom c) = c
 packSolved (NoTyping k) = 17 + packCounts k
 packSolved (Ambiguous k) = 18 + packCounts k
-packSolved (Typing o) = packCounts (o .counts) + o .components * 1099511627776 + o .choices * 4503599627370496
+packSolved (Typing o) = packCounts (o .counts) + o .components * bit40 + o .choices * bit52
 
 -- the numbers that an answer has: a refusal is by a check, 1 to 14; no room is 15 or 16; counts are within their ceilings
 pub record CountsWithin (k : Counts) : Type 0 where

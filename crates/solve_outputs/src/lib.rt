@@ -1,4 +1,5 @@
-// What the solver hands out, from the incumbent in the scratch, and what it clears.
+// The solver before and after its search: what the search begins with; what it hands out, from the incumbent in the scratch; what it clears, answers
+// and leaves.
 use infer_nodes::counts_of;
 use inference::Constraint;
 use inference::NameTarget;
@@ -10,7 +11,11 @@ use resolved_sort::Counts;
 use resolved_sort::Run;
 use resolved_sort::SortId;
 use search_state::Answer;
+use search_state::BEST_CHOICES_AT;
+use search_state::BEST_MEASURE_AT;
+use search_state::BEST_SORTS_AT;
 use search_state::Branch;
+use search_state::OVERLOADS_AT;
 use search_state::Sizes;
 use search_state::State;
 use solve_checks::Given;
@@ -18,6 +23,11 @@ use solve_checks::components;
 use solve_checks::disjunction_count;
 use sort_interner::give_back;
 use unification::Lengths;
+use unification::NODE_ENTRIES_AT;
+use words::BIT_8;
+use words::BIT_24;
+use words::BIT_40;
+use words::BIT_52;
 use words::copy;
 use words::put;
 use words::word;
@@ -56,9 +66,9 @@ pub fn clear_nodes(nodes: &mut [u16], node_count: u16, entry_count: u16)
     requires { ⌜ («node_count» ≤ maxNodes) × («entry_count» ≤ maxNodeEntries) × (fullNodes ≤ length (now nodes)) ⌝ }
     ensures { λ _. ⌜ now (nodes .exit) ≡ nodesGivenBack «node_count» «entry_count» (now (nodes .entry)) ⌝ }
 {
-    words::clear(nodes, 4 * (node_count as usize), 8192);
+    words::clear(nodes, 4 * (node_count as usize), NODE_ENTRIES_AT);
     let end = nodes.len();
-    words::clear(nodes, 8192 + (entry_count as usize), end);
+    words::clear(nodes, NODE_ENTRIES_AT + (entry_count as usize), end);
 }
 
 // The measure handed out.
@@ -66,7 +76,13 @@ pub fn write_measure(measure: &mut [u16], scratch: &[u16], sizes: Sizes)
     requires { ⌜ (sizes .components ≤ maxComponents) × (sizes .components ≤ length (now measure)) × (scratchUsed ≤ length (now scratch)) ⌝ }
     ensures { λ _. ⌜ now (measure .exit) ≡ over (part bestMeasureAt (sizes .components) (now (scratch .entry))) (now (measure .entry)) ⌝ }
 {
-    copy(measure, 0, scratch, 1280, sizes.components as usize);
+    copy(
+        measure,
+        0,
+        scratch,
+        BEST_MEASURE_AT,
+        sizes.components as usize,
+    );
 }
 
 // Of a disjunction the row of its choice, after k of them. How many there are then.
@@ -84,7 +100,11 @@ fn write_choice(choices: &mut [u16], scratch: &[u16], says: Constraint, k: u16) 
         } => {
             let row = 2 * (k as usize);
             put(choices, row, expr.0);
-            put(choices, row + 1, word(scratch, 1792 + (k as usize)));
+            put(
+                choices,
+                row + 1,
+                word(scratch, BEST_CHOICES_AT + (k as usize)),
+            );
             k + 1
         }
         Constraint::Comprehension {
@@ -154,7 +174,7 @@ fn write_sorts(typing: &mut [u16], scratch: &[u16], exprs: u16)
     let mut x: u16 = 0;
     while x < exprs {
         let row = 3 * (x as usize);
-        put(typing, row, word(scratch, 512 + (x as usize)));
+        put(typing, row, word(scratch, BEST_SORTS_AT + (x as usize)));
         put(typing, row + 1, 0);
         put(typing, row + 2, 0);
         x += 1;
@@ -184,7 +204,7 @@ fn chosen_target(lists: &[u16], overloads: u16, run: Run, i: u16) -> NameTarget
     if (overloads as usize) <= at {
         return NameTarget::Variable;
     }
-    let row = 1280 + 3 * at;
+    let row = OVERLOADS_AT + 3 * at;
     let kind = word(lists, row);
     let sort = word(lists, row + 1);
     name_target(kind, sort)
@@ -211,7 +231,7 @@ fn name_choice(
             disjuncts,
         } => {
             let before = k - 1;
-            let i = word(scratch, 1792 + (before as usize));
+            let i = word(scratch, BEST_CHOICES_AT + (before as usize));
             put_name(
                 typing,
                 sizes.exprs,
@@ -474,7 +494,7 @@ fn pack_counts(counts: Counts) -> u64
     requires { ⌜ CountsWithin counts ⌝ }
     ensures { λ r. ⌜ r ≡ packCounts counts ⌝ }
 {
-    (counts.sorts as u64) * 256 + (counts.entries as u64) * 16777216
+    (counts.sorts as u64) * BIT_8 + (counts.entries as u64) * BIT_24
 }
 
 // All counts of a typing.
@@ -483,9 +503,7 @@ fn pack_outputs(outputs: Outputs) -> u64
     ensures { λ r. ⌜ r ≡ packSolved (Typing outputs) ⌝ }
 {
     let counts = outputs.counts;
-    pack_counts(counts)
-        + (outputs.components as u64) * 1099511627776
-        + (outputs.choices as u64) * 4503599627370496
+    pack_counts(counts) + (outputs.components as u64) * BIT_40 + (outputs.choices as u64) * BIT_52
 }
 
 // The code of document 01 and the counts of an answer as one number, for callers in other languages.

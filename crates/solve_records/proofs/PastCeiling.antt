@@ -11,7 +11,7 @@ use lib.Dec.{leb, ltb}
 use lib.ListN.{length, getD, take, length-take}
 use lib.Seq.{getD-take}
 use borrow.Author.Tests.{leb-true, leb-false, le-leb}
-use Rattle.resolved_sort.specs.Checks.{Check, firstFailing, allBelow, fixedSix, rowsFine, noTwoEqual}
+use Rattle.resolved_sort.specs.Checks.{Check, firstFailing, allBelow, sortRowChecks}
 use Rattle.resolved_sort.specs.Entries.{orElse}
 use Rattle.resolved_sort.proofs.FirstFailing.{first-fails}
 use Rattle.unification.specs.NodeChecks.{nodeChecks}
@@ -70,10 +70,8 @@ module _ (g : Given) (ws ns bs xs ks cs ss sc ts ms hs : List ℕ) where
   abbrev checksWith : Bool → Bool → List Check
   checksWith a b =
       record { code = 1; passes = a }
-      ∷ record { code = 2; passes = fixedSix ws (g .sorts) }
-      ∷ record { code = 3; passes = rowsFine ws (g .sorts) (g .entries) }
-      ∷ record { code = 4; passes = noTwoEqual ws (g .sorts) }
-      ∷ nodeChecks ns (g .nodes) (g .arguments) (g .sorts) bs (g .variables)
+      ∷ sortRowChecks ws (g .sorts) (g .entries)
+      ++ nodeChecks ns (g .nodes) (g .arguments) (g .sorts) bs (g .variables)
       ++ record { code = 8; passes = exprsFine (call []) && namesFine (call []) }
       ∷ record { code = 9; passes = b }
       ∷ record { code = 10; passes = noTwo (disjunctions (given (call []))) && noTwo (keys (call [])) }

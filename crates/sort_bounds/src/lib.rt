@@ -3,6 +3,7 @@
 use resolved_sort::ComplexSort;
 use resolved_sort::Counts;
 use resolved_sort::Domain;
+use resolved_sort::ENTRIES_AT;
 use resolved_sort::Found;
 use resolved_sort::Joined;
 use resolved_sort::OpBound;
@@ -40,7 +41,7 @@ fn argument(sorts: &[u16], id: SortId, i: u16) -> SortId
     ensures { λ r. ⌜ r .0 ≡ entryAt (now (sorts .entry)) (startAt (now (sorts .entry)) (id .0) + i) ⌝ }
 {
     let start = word(sorts, 4 * (id.0 as usize) + 2);
-    SortId(word(sorts, 4096 + ((start as usize) + (i as usize))))
+    SortId(word(sorts, ENTRIES_AT + ((start as usize) + (i as usize))))
 }
 
 // Whether a level is equal to or before another in a direction.

@@ -1,5 +1,9 @@
-// The entries of the sorts layer. Each takes the lent sort storage and its counts, tests them itself, and has no
-// `requires`: whatever a caller hands in, the answer and the storage at exit are the defined ones.
+// Checks 1 to 4 of document 01 over the lent sort storage, and the first of them that fails.
+use resolved_sort::ENTRIES_AT;
+use resolved_sort::LAST_KIND;
+use resolved_sort::MAX_ARGUMENTS;
+use resolved_sort::MAX_ENTRIES;
+use resolved_sort::MAX_SORTS;
 use resolved_sort::ResolvedSort;
 use resolved_sort::Run;
 use resolved_sort::SortId;
@@ -18,10 +22,10 @@ ghost use Rattle.sort_checks.specs.Tests.{argBelow, newRow, noSameRows};
 pub fn within_lent(sorts: &[u16], n: usize, e: usize) -> bool
     ensures { λ r. ⌜ r ≡ withinLent (now (sorts .entry)) n e ⌝ }
 {
-    if 1024 < n {
+    if MAX_SORTS < n {
         return false;
     }
-    if 4096 < e {
+    if MAX_ENTRIES < e {
         return false;
     }
     if sorts.len() < 4 * n {
@@ -30,7 +34,7 @@ pub fn within_lent(sorts: &[u16], n: usize, e: usize) -> bool
     if e == 0 {
         return true;
     }
-    4096 + e <= sorts.len()
+    ENTRIES_AT + e <= sorts.len()
 }
 
 // Check 2: the first six rows are there and are of kinds 0 to 5 in order. Fewer than six rows are refused.
@@ -51,12 +55,12 @@ pub fn fixed_six(sorts: &[u16], n: usize) -> bool
 }
 
 // Whether each of the count entries from start on names a sort below i. An entry that is i itself does not.
-pub fn args_below(sorts: &[u16], start: u16, count: u16, i: u16) -> bool
+fn args_below(sorts: &[u16], start: u16, count: u16, i: u16) -> bool
     ensures { λ r. ⌜ r ≡ allBelow count (argBelow (now (sorts .entry)) start i) ⌝ }
 {
     let mut j: u16 = 0;
     while j < count {
-        if i <= word(sorts, 4096 + ((start as usize) + (j as usize))) {
+        if i <= word(sorts, ENTRIES_AT + ((start as usize) + (j as usize))) {
             return false;
         }
         j += 1;
@@ -65,12 +69,12 @@ pub fn args_below(sorts: &[u16], start: u16, count: u16, i: u16) -> bool
 }
 
 // Whether a function's row i has at most 16 arguments, a run inside the e entries, and parts below i.
-pub fn function_fine(sorts: &[u16], e: usize, i: u16, domain: Run, range: SortId) -> bool
+fn function_fine(sorts: &[u16], e: usize, i: u16, domain: Run, range: SortId) -> bool
     ensures { λ r. ⌜ r ≡ partsBelow (now (sorts .entry)) e i (ResolvedSort.Function domain range) ⌝ }
 {
     let start = domain.start;
     let count = domain.count;
-    if 16 < count {
+    if MAX_ARGUMENTS < count {
         return false;
     }
     if e < (start as usize) + (count as usize) {
@@ -83,7 +87,7 @@ pub fn function_fine(sorts: &[u16], e: usize, i: u16, domain: Run, range: SortId
 }
 
 // Whether the parts of row i, which says sort, are numbered below it. A part that is row i itself is not.
-pub fn parts_below(sorts: &[u16], e: usize, i: u16, sort: ResolvedSort) -> bool
+fn parts_below(sorts: &[u16], e: usize, i: u16, sort: ResolvedSort) -> bool
     ensures { λ r. ⌜ r ≡ partsBelow (now (sorts .entry)) e i sort ⌝ }
 {
     match sort {
@@ -97,10 +101,10 @@ pub fn parts_below(sorts: &[u16], e: usize, i: u16, sort: ResolvedSort) -> bool
 }
 
 // Whether row i is of a known kind and its parts are below it. Kinds above 13 are unknown.
-pub fn row_fine(sorts: &[u16], e: usize, i: u16) -> bool
+fn row_fine(sorts: &[u16], e: usize, i: u16) -> bool
     ensures { λ r. ⌜ r ≡ rowFine (now (sorts .entry)) e i ⌝ }
 {
-    if 13 < word(sorts, 4 * (i as usize)) {
+    if LAST_KIND < word(sorts, 4 * (i as usize)) {
         return false;
     }
     parts_below(sorts, e, i, get(sorts, SortId(i)))
@@ -122,7 +126,7 @@ pub fn rows_fine(sorts: &[u16], n: usize, e: usize) -> bool
 }
 
 // Whether no row below row j is the same as it. Row j itself does not count.
-pub fn new_row(sorts: &[u16], j: u16) -> bool
+fn new_row(sorts: &[u16], j: u16) -> bool
     ensures { λ r. ⌜ r ≡ newRow (now (sorts .entry)) j ⌝ }
 {
     let mut i: u16 = 0;

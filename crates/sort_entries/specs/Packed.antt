@@ -16,6 +16,7 @@ use Rattle.resolved_sort.specs.declared.Measured.{Measured}
 use Rattle.resolved_sort.specs.declared.Measured.the-variants.{Refused as NotMeasured, Steps}
 use Rattle.resolved_sort.specs.declared.Materialized.{Materialized}
 use Rattle.resolved_sort.specs.declared.Materialized.the-variants.{Refused as NotMaterialized, Answer}
+use Rattle.words.specs.Bits.{bit8, bit16, bit24, bit32, bit48}
 
 -- 0 unrelated, 1 equal, 2 below, 3 above
 abbrev pub orderCode : PartialOrder → ℕ
@@ -27,11 +28,11 @@ orderCode Above = 3
 -- bits 8 to 15: the order
 abbrev pub packCompared : Compared → ℕ
 packCompared (NotCompared c) = c
-packCompared (Ordered o) = orderCode o * 256
+packCompared (Ordered o) = orderCode o * bit8
 
 -- bits 8 to 15: 1 where there is a distance; 16 to 23 its head, 24 to 31 its interior
 abbrev pub packWidening : Widening → ℕ
-packWidening (Distance h i) = 256 + h * 65536 + i * 16777216
+packWidening (Distance h i) = bit8 + h * bit16 + i * bit24
 packWidening NoDistance = 0
 
 abbrev pub packMeasured : Measured → ℕ
@@ -41,14 +42,14 @@ packMeasured (Steps d) = packWidening d
 -- bits 8 to 15: 1 for yes
 abbrev pub packMaterialized : Materialized → ℕ
 packMaterialized (NotMaterialized c) = c
-packMaterialized (Answer true) = 256
+packMaterialized (Answer true) = bit8
 packMaterialized (Answer false) = 0
 
 -- bits 8 to 15: 1 where there is a sort; 16 to 31 its number, 32 to 47 the sorts and 48 to 63 the entries after the call
 abbrev pub packBounded : Bounded → ℕ
 packBounded (NotBounded c) = c
-packBounded (Sort s k) = 256 + s .0 * 65536 + k .sorts * 4294967296 + k .entries * 281474976710656
-packBounded (NoBound k) = k .sorts * 4294967296 + k .entries * 281474976710656
+packBounded (Sort s k) = bit8 + s .0 * bit16 + k .sorts * bit32 + k .entries * bit48
+packBounded (NoBound k) = k .sorts * bit32 + k .entries * bit48
 packBounded NoRoom = 15
 
 -- the storage at exit, and the packed answer

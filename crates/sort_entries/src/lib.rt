@@ -7,11 +7,17 @@ use resolved_sort::Joined;
 use resolved_sort::Materialized;
 use resolved_sort::Measured;
 use resolved_sort::PartialOrder;
+use resolved_sort::SORT_WORDS;
 use resolved_sort::SortId;
 use resolved_sort::Tested;
 use resolved_sort::Widening;
 use sort_checks::test_sorts;
 use sort_interner::give_back;
+use words::BIT_8;
+use words::BIT_16;
+use words::BIT_24;
+use words::BIT_32;
+use words::BIT_48;
 ghost use mathlib.Core.Path.{_≡_};
 ghost use mathlib.Core.Bool.{true, false};
 ghost use Prim.Native.Nat.{_+_, _*_, _<_, _≤_};
@@ -23,7 +29,7 @@ ghost use Rattle.sort_entries.specs.Kept.{keptOrGivenBack};
 ghost use Rattle.sort_entries.specs.Packed.{packCompared, packMeasured, packMaterialized, packBounded, packed, packLeft};
 
 // Checks 1 to 4, 12 and 14 of a question about two sorts: the first that fails.
-pub fn test_pair(
+fn test_pair(
     sorts: &[u16],
     sort_count: usize,
     entry_count: usize,
@@ -41,7 +47,7 @@ pub fn test_pair(
             if sort_count <= (rhs.0 as usize) {
                 return Tested::Refused(12);
             }
-            if sorts.len() < 8192 {
+            if sorts.len() < SORT_WORDS {
                 return Tested::Refused(14);
             }
             Tested::Passed
@@ -194,9 +200,9 @@ fn pack_compared(answer: Compared) -> u64
         Compared::Refused(code) => code as u64,
         Compared::Ordered(order) => match order {
             PartialOrder::Unrelated => 0,
-            PartialOrder::Equal => 256,
-            PartialOrder::Below => 512,
-            PartialOrder::Above => 768,
+            PartialOrder::Equal => PACKED_EQUAL,
+            PartialOrder::Below => PACKED_BELOW,
+            PartialOrder::Above => PACKED_ABOVE,
         },
     }
 }
@@ -207,9 +213,9 @@ fn pack_measured(answer: Measured) -> u64
     match answer {
         Measured::Refused(code) => code as u64,
         Measured::Steps(widening) => match widening {
-            Widening::Distance { head, interior } => 256
-                + (head as u64) * 65536
-                + (interior as u64) * 16777216,
+            Widening::Distance { head, interior } => BIT_8
+                + (head as u64) * BIT_16
+                + (interior as u64) * BIT_24,
             Widening::Nothing => 0,
         },
     }
@@ -222,7 +228,7 @@ fn pack_materialized(answer: Materialized) -> u64
         Materialized::Refused(code) => code as u64,
         Materialized::Answer(yes) => {
             if yes {
-                return 256;
+                return BIT_8;
             }
             0
         }
@@ -234,12 +240,12 @@ fn pack_bounded(answer: Bounded) -> u64
 {
     match answer {
         Bounded::Refused(code) => code as u64,
-        Bounded::Sort(id, counts) => 256
-            + (id.0 as u64) * 65536
-            + (counts.sorts as u64) * 4294967296
-            + (counts.entries as u64) * 281474976710656,
-        Bounded::Nothing(counts) => (counts.sorts as u64) * 4294967296
-            + (counts.entries as u64) * 281474976710656,
+        Bounded::Sort(id, counts) => BIT_8
+            + (id.0 as u64) * BIT_16
+            + (counts.sorts as u64) * BIT_32
+            + (counts.entries as u64) * BIT_48,
+        Bounded::Nothing(counts) => (counts.sorts as u64) * BIT_32
+            + (counts.entries as u64) * BIT_48,
         Bounded::NoRoom => 15,
     }
 }
@@ -309,3 +315,10 @@ pub extern "C" fn sort_meet(
 {
     pack_bounded(meet(sorts, sort_count, entry_count, SortId(lhs), SortId(rhs)))
 }
+
+// The orders in bits 8 to 15 of a packed answer: 0 unrelated, 1 equal, 2 below, 3 above.
+const PACKED_EQUAL: u64 = 256;
+
+const PACKED_BELOW: u64 = 512;
+
+const PACKED_ABOVE: u64 = 768;

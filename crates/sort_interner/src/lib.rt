@@ -1,10 +1,14 @@
-// Merc's SortInterner over lent storage: one slice of 16-bit words, rows of four words first and argument entries from
-// word 4096 on. A word past the end counts as 0, so no read needs a check before it.
+// Merc's SortInterner over lent storage: one slice of 16-bit words, rows of four words first and argument entries behind them. A row is read,
+// found or appended, and sorts made are given back. Interning stands here alone.
 use resolved_sort::ComplexSort;
 use resolved_sort::Counts;
+use resolved_sort::ENTRIES_AT;
+use resolved_sort::FUNCTION_KIND;
 use resolved_sort::Joined;
+use resolved_sort::MAX_ENTRIES;
 use resolved_sort::ResolvedSort;
 use resolved_sort::Run;
+use resolved_sort::SORT_NUMBERS;
 use resolved_sort::Sort;
 use resolved_sort::SortId;
 use words::clear;
@@ -24,7 +28,7 @@ ghost use Rattle.resolved_sort.specs.Interning.{look};
 ghost use Rattle.resolved_sort.specs.Bounds.{internAt};
 
 // What the words of a row say. Every kind above 12 says TypeVar: that it is 13 is check 3's to show.
-pub fn row_of(kind: u16, part: u16, run: Run) -> ResolvedSort
+fn row_of(kind: u16, part: u16, run: Run) -> ResolvedSort
     ensures { λ r. ⌜ r ≡ resolved kind part run ⌝ }
 {
     match kind {
@@ -93,20 +97,20 @@ pub fn give_back(sorts: &mut [u16], n: usize, e: usize)
     requires { ⌜ (n ≤ maxSorts) × (e ≤ maxEntries) × (fullLength ≤ length (now sorts)) ⌝ }
     ensures { λ _. ⌜ now (sorts .exit) ≡ givenBack n e (now (sorts .entry)) ⌝ }
 {
-    clear(sorts, 4 * n, 4096);
+    clear(sorts, 4 * n, ENTRIES_AT);
     let end = sorts.len();
-    clear(sorts, 4096 + e, end);
+    clear(sorts, ENTRIES_AT + e, end);
 }
 
 // The kind of row i, known or not.
-pub fn kind_at(sorts: &[u16], i: u16) -> u16
+fn kind_at(sorts: &[u16], i: u16) -> u16
     ensures { λ r. ⌜ r ≡ (wordsAt (now (sorts .entry)) i) .kind ⌝ }
 {
     word(sorts, 4 * (i as usize))
 }
 
 // The part of row i as far as it is looked at: 0 where the kind has none, whatever the word there is.
-pub fn part_at(sorts: &[u16], i: u16) -> u16
+fn part_at(sorts: &[u16], i: u16) -> u16
     ensures { λ r. ⌜ r ≡ (wordsAt (now (sorts .entry)) i) .part ⌝ }
 {
     if kind_at(sorts, i) < 6 {
@@ -116,10 +120,10 @@ pub fn part_at(sorts: &[u16], i: u16) -> u16
 }
 
 // The run of row i as far as it is looked at: empty where the row is no function, whatever the words there are.
-pub fn run_at(sorts: &[u16], i: u16) -> Run
+fn run_at(sorts: &[u16], i: u16) -> Run
     ensures { λ r. ⌜ entriesOf (now (sorts .entry)) (r .start) (r .count) ≡ (wordsAt (now (sorts .entry)) i) .args ⌝ }
 {
-    if kind_at(sorts, i) == 11 {
+    if kind_at(sorts, i) == FUNCTION_KIND {
         let at = 4 * (i as usize);
         return Run {
             start: word(sorts, at + 2),
@@ -130,7 +134,7 @@ pub fn run_at(sorts: &[u16], i: u16) -> Run
 }
 
 // Whether two runs have the same entries. Where they start does not count.
-pub fn same_run(sorts: &[u16], a: Run, b: Run) -> bool
+fn same_run(sorts: &[u16], a: Run, b: Run) -> bool
     ensures { λ r. ⌜ r ≡ sameWords (entriesOf (now (sorts .entry)) (a .start) (a .count)) (entriesOf (now (sorts .entry)) (b .start) (b .count)) ⌝ }
 {
     let n = a.count;
@@ -141,8 +145,8 @@ pub fn same_run(sorts: &[u16], a: Run, b: Run) -> bool
     let t = b.start as usize;
     let mut k: u16 = 0;
     while k < n {
-        let x = word(sorts, 4096 + (s + (k as usize)));
-        let y = word(sorts, 4096 + (t + (k as usize)));
+        let x = word(sorts, ENTRIES_AT + (s + (k as usize)));
+        let y = word(sorts, ENTRIES_AT + (t + (k as usize)));
         if x != y {
             return false;
         }
@@ -165,7 +169,7 @@ pub fn same_rows(sorts: &[u16], i: u16, j: u16) -> bool
 }
 
 // Whether a run has the first n of the ids as its entries, and no more.
-pub fn has_args(sorts: &[u16], a: Run, ids: [u16; 16], n: u16) -> bool
+fn has_args(sorts: &[u16], a: Run, ids: [u16; 16], n: u16) -> bool
     requires { ⌜ n ≤ 16 ⌝ }
     ensures { λ r. ⌜ r ≡ sameWords (entriesOf (now (sorts .entry)) (a .start) (a .count)) (take n ids) ⌝ }
 {
@@ -175,7 +179,7 @@ pub fn has_args(sorts: &[u16], a: Run, ids: [u16; 16], n: u16) -> bool
     let s = a.start as usize;
     let mut k: u16 = 0;
     while k < n {
-        let x = word(sorts, 4096 + (s + (k as usize)));
+        let x = word(sorts, ENTRIES_AT + (s + (k as usize)));
         if x != ids[k as usize] {
             return false;
         }
@@ -185,7 +189,7 @@ pub fn has_args(sorts: &[u16], a: Run, ids: [u16; 16], n: u16) -> bool
 }
 
 // Whether row i is of this kind, part and arguments. Words not looked at do not count.
-pub fn is_row(sorts: &[u16], i: u16, kind: u16, part: u16, ids: [u16; 16], count: u16) -> bool
+fn is_row(sorts: &[u16], i: u16, kind: u16, part: u16, ids: [u16; 16], count: u16) -> bool
     requires { ⌜ count ≤ 16 ⌝ }
     ensures { λ r. ⌜ r ≡ isRow (now (sorts .entry)) (record { kind = kind; part = part; args = take count ids }) i ⌝ }
 {
@@ -199,7 +203,7 @@ pub fn is_row(sorts: &[u16], i: u16, kind: u16, part: u16, ids: [u16; 16], count
 }
 
 // The first row below n that is of this kind, part and arguments, never a later one; n where there is none.
-pub fn find_row(sorts: &[u16], n: u16, kind: u16, part: u16, ids: [u16; 16], count: u16) -> u16
+fn find_row(sorts: &[u16], n: u16, kind: u16, part: u16, ids: [u16; 16], count: u16) -> u16
     requires { ⌜ count ≤ 16 ⌝ }
     ensures { λ r. ⌜ r ≡ findRow (now (sorts .entry)) n (record { kind = kind; part = part; args = take count ids }) ⌝ }
 {
@@ -231,7 +235,11 @@ pub fn put_args(sorts: &mut [u16], e: u16, ids: [u16; 16], n: u16)
 {
     let mut i: u16 = 0;
     while i < n {
-        put(sorts, 4096 + (e as usize) + (i as usize), ids[i as usize]);
+        put(
+            sorts,
+            ENTRIES_AT + (e as usize) + (i as usize),
+            ids[i as usize],
+        );
         i += 1;
     }
 }
@@ -240,19 +248,11 @@ pub fn put_args(sorts: &mut [u16], e: u16, ids: [u16; 16], n: u16)
 pub fn start_of(kind: u16, e: u16) -> u16
     ensures { λ r. ⌜ r ≡ cond (eqb kind functionKind) e 0 ⌝ }
 {
-    if kind == 11 { e } else { 0 }
+    if kind == FUNCTION_KIND { e } else { 0 }
 }
 
 // A row with its arguments appended to n rows and e entries. Only a function's row names a start; of others it is 0.
-pub fn append_row(
-    sorts: &mut [u16],
-    n: u16,
-    e: u16,
-    kind: u16,
-    part: u16,
-    ids: [u16; 16],
-    count: u16,
-)
+fn append_row(sorts: &mut [u16], n: u16, e: u16, kind: u16, part: u16, ids: [u16; 16], count: u16)
     requires { ⌜ count ≤ 16 ⌝ }
     ensures { λ _. ⌜ now (sorts .exit) ≡ appendRow (now (sorts .entry)) n e (record { kind = kind; part = part; args = take count ids }) ⌝ }
 {
@@ -279,10 +279,10 @@ pub fn intern(
     if i < n {
         return Joined::At(SortId(i), counts);
     }
-    if 1024 <= n {
+    if SORT_NUMBERS <= n {
         return Joined::Full;
     }
-    if 4096 < (e as usize) + (count as usize) {
+    if MAX_ENTRIES < (e as usize) + (count as usize) {
         return Joined::Full;
     }
     append_row(sorts, n, e, kind, part, ids, count);
@@ -314,5 +314,5 @@ pub fn function(
     requires { ⌜ Checked (now sorts) (counts .sorts) (counts .entries) × (range .0 < counts .sorts) × (count ≤ 16) × AllBelow (counts .sorts) (take count ids) ⌝ }
     ensures { λ r. ⌜ storedAt (now (sorts .exit)) r ≡ internAt (now (sorts .entry)) (counts .sorts) (counts .entries) (functionSort (lookAll (trees (now (sorts .entry)) (counts .sorts)) (take count ids)) (look (trees (now (sorts .entry)) (counts .sorts)) (range .0))) ⌝ }
 {
-    intern(sorts, counts, 11, range.0, ids, count)
+    intern(sorts, counts, FUNCTION_KIND, range.0, ids, count)
 }

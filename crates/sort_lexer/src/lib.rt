@@ -36,7 +36,7 @@ pub enum Meaning {
 }
 
 // A byte of a word: A to Z and a to z, and no byte above 127.
-pub fn is_letter(b: u8) -> bool
+fn is_letter(b: u8) -> bool
     ensures { λ r. ⌜ r ≡ isLetter b ⌝ }
 {
     if b < 65 {
@@ -66,7 +66,7 @@ pub fn skip_spaces(line: &[u8], at: usize) -> usize
 }
 
 // The end of the run of letters from `at` on.
-pub fn word_end(line: &[u8], at: usize) -> usize
+fn word_end(line: &[u8], at: usize) -> usize
     ensures { λ r. ⌜ r ≡ place (now (line .entry)) (past isLetter (drop at (now (line .entry)))) ⌝ }
 {
     let mut i = at;
@@ -81,7 +81,7 @@ pub fn word_end(line: &[u8], at: usize) -> usize
 }
 
 // The token that starts at `at` or after spaces there.
-pub fn token_at(line: &[u8], at: usize) -> Lexeme
+fn token_at(line: &[u8], at: usize) -> Lexeme
     ensures { λ r. ⌜ r ≡ lexemeOf (now (line .entry)) at ⌝ }
 {
     let from = skip_spaces(line, at);

@@ -1,6 +1,8 @@
 // The order of merc's resolved sorts over lent storage: partial_cmp, widening_distance and is_materializable.
 use resolved_sort::ComplexSort;
 use resolved_sort::Counts;
+use resolved_sort::ENTRIES_AT;
+use resolved_sort::MOST_STEPS;
 use resolved_sort::Pair;
 use resolved_sort::PartialOrder;
 use resolved_sort::ResolvedSort;
@@ -31,7 +33,7 @@ pub enum Amount {
 }
 
 // The pair that a primitive sort makes with a row. Only another primitive sort makes one.
-pub fn with_primitive(lhs: Sort, rhs: ResolvedSort) -> Pair
+fn with_primitive(lhs: Sort, rhs: ResolvedSort) -> Pair
     ensures { λ r. ⌜ r ≡ withPrimitive lhs rhs ⌝ }
 {
     match rhs {
@@ -48,7 +50,7 @@ pub fn with_primitive(lhs: Sort, rhs: ResolvedSort) -> Pair
 }
 
 // The pair that a container makes with a row. Two containers make one whatever their operators.
-pub fn with_container(lhs_op: ComplexSort, lhs_sub: SortId, rhs: ResolvedSort) -> Pair
+fn with_container(lhs_op: ComplexSort, lhs_sub: SortId, rhs: ResolvedSort) -> Pair
     ensures { λ r. ⌜ r ≡ withContainer «lhs_op» «lhs_sub» rhs ⌝ }
 {
     match rhs {
@@ -70,7 +72,7 @@ pub fn with_container(lhs_op: ComplexSort, lhs_sub: SortId, rhs: ResolvedSort) -
 }
 
 // The pair of two functions. With different numbers of arguments they make none.
-pub fn functions(lhs: Run, lhs_range: SortId, rhs: Run, rhs_range: SortId) -> Pair
+fn functions(lhs: Run, lhs_range: SortId, rhs: Run, rhs_range: SortId) -> Pair
     ensures { λ r. ⌜ r ≡ withFunction lhs «lhs_range» (ResolvedSort.Function rhs «rhs_range») ⌝ }
 {
     if lhs.count == rhs.count {
@@ -87,7 +89,7 @@ pub fn functions(lhs: Run, lhs_range: SortId, rhs: Run, rhs_range: SortId) -> Pa
 }
 
 // The pair that a function makes with a row.
-pub fn with_function(lhs: Run, lhs_range: SortId, rhs: ResolvedSort) -> Pair
+fn with_function(lhs: Run, lhs_range: SortId, rhs: ResolvedSort) -> Pair
     ensures { λ r. ⌜ r ≡ withFunction lhs «lhs_range» rhs ⌝ }
 {
     match rhs {
@@ -116,7 +118,7 @@ pub fn pair(sorts: &[u16], lhs: SortId, rhs: SortId) -> Pair
 }
 
 // Two orders of independent positions as one. A Below and an Above make Unrelated.
-pub fn combine(lhs: PartialOrder, rhs: PartialOrder) -> PartialOrder
+fn combine(lhs: PartialOrder, rhs: PartialOrder) -> PartialOrder
     ensures { λ r. ⌜ r ≡ combined lhs rhs ⌝ }
 {
     match lhs {
@@ -151,7 +153,7 @@ pub fn number_generality(sort: Sort) -> Amount
 }
 
 // Two generalities compared: the Rust's u32::partial_cmp, which is never Unrelated.
-pub fn compare(lhs: u8, rhs: u8) -> PartialOrder
+fn compare(lhs: u8, rhs: u8) -> PartialOrder
     ensures { λ r. ⌜ r ≡ orderOf (leb lhs rhs) (leb rhs lhs) ⌝ }
 {
     if lhs < rhs {
@@ -164,7 +166,7 @@ pub fn compare(lhs: u8, rhs: u8) -> PartialOrder
 }
 
 // The order of two primitive sorts. Bool is related to no number.
-pub fn primitive_partial_cmp(lhs: Sort, rhs: Sort) -> PartialOrder
+fn primitive_partial_cmp(lhs: Sort, rhs: Sort) -> PartialOrder
     ensures { λ r. ⌜ r ≡ order (flat (primitive lhs)) (flat (primitive rhs)) ⌝ }
 {
     match number_generality(lhs) {
@@ -180,7 +182,7 @@ pub fn primitive_partial_cmp(lhs: Sort, rhs: Sort) -> PartialOrder
 }
 
 // The order of two container operators, FSet below Set and FBag below Bag. A set and a bag are Unrelated.
-pub fn generic_op_partial_cmp(lhs: ComplexSort, rhs: ComplexSort) -> PartialOrder
+fn generic_op_partial_cmp(lhs: ComplexSort, rhs: ComplexSort) -> PartialOrder
     ensures { λ r. ⌜ r ≡ orderOf (leOp true lhs rhs) (leOp false lhs rhs) ⌝ }
 {
     match lhs {
@@ -256,7 +258,7 @@ pub fn partial_cmp(sorts: &[u16], counts: Counts, lhs: SortId, rhs: SortId) -> P
 }
 
 // The order of two functions by their arguments, as many on both sides: each right argument against its left one.
-pub fn domain_cmp(
+fn domain_cmp(
     sorts: &[u16],
     counts: Counts,
     lhs_start: u16,
@@ -269,8 +271,8 @@ pub fn domain_cmp(
     if count == 0 {
         return PartialOrder::Equal;
     }
-    let lhs = word(sorts, 4096 + (lhs_start as usize));
-    let rhs = word(sorts, 4096 + (rhs_start as usize));
+    let lhs = word(sorts, ENTRIES_AT + (lhs_start as usize));
+    let rhs = word(sorts, ENTRIES_AT + (rhs_start as usize));
     let first = partial_cmp(sorts, counts, SortId(rhs), SortId(lhs));
     combine(
         first,
@@ -279,14 +281,18 @@ pub fn domain_cmp(
 }
 
 // The sum of two counts of steps, which stops at 255.
-pub fn sum(a: u8, b: u8) -> u8
+fn sum(a: u8, b: u8) -> u8
     ensures { λ r. ⌜ r ≡ sumOf a b ⌝ }
 {
-    if 255 - a < b { 255 } else { a + b }
+    if MOST_STEPS - a < b {
+        MOST_STEPS
+    } else {
+        a + b
+    }
 }
 
 // The steps from one generality up to another.
-pub fn number_distance(from: u8, to: u8) -> Widening
+fn number_distance(from: u8, to: u8) -> Widening
     ensures { λ r. ⌜ r ≡ wideningOf (given (leb from to) (some (record { head = to - from; interior = 0 }))) ⌝ }
 {
     if from <= to {
@@ -300,7 +306,7 @@ pub fn number_distance(from: u8, to: u8) -> Widening
 }
 
 // The steps from one primitive sort up to another, all at the head. Down from a wider one there are none.
-pub fn primitive_distance(from: Sort, to: Sort) -> Widening
+fn primitive_distance(from: Sort, to: Sort) -> Widening
     ensures { λ r. ⌜ r ≡ wideningOf (distance true (flat (primitive from)) (flat (primitive to))) ⌝ }
 {
     match number_generality(from) {
@@ -319,7 +325,7 @@ pub fn primitive_distance(from: Sort, to: Sort) -> Widening
 }
 
 // The step from one container operator up to another, 0 or 1. From Set to FSet there is none.
-pub fn op_distance(from: ComplexSort, to: ComplexSort) -> Amount
+fn op_distance(from: ComplexSort, to: ComplexSort) -> Amount
     ensures { λ r. ⌜ r ≡ amountOf (opSteps from to) ⌝ }
 {
     match generic_op_partial_cmp(from, to) {
@@ -332,7 +338,7 @@ pub fn op_distance(from: ComplexSort, to: ComplexSort) -> Amount
 
 // The distance of sorts with head steps of their own, with the steps of parts before, and with the distance of a part: the
 // part's head and interior are both interior.
-pub fn within(head: u8, before: u8, part: Widening) -> Widening
+fn within(head: u8, before: u8, part: Widening) -> Widening
     ensures { λ r. ⌜ r ≡ beneath head before part ⌝ }
 {
     match part {
@@ -348,7 +354,7 @@ pub fn within(head: u8, before: u8, part: Widening) -> Widening
 }
 
 // The steps of a first argument and those of the rest.
-pub fn plus(first: u8, rest: Amount) -> Amount
+fn plus(first: u8, rest: Amount) -> Amount
     ensures { λ r. ⌜ r ≡ more first rest ⌝ }
 {
     match rest {
@@ -394,7 +400,7 @@ pub fn widening_distance(sorts: &[u16], counts: Counts, from: SortId, to: SortId
 }
 
 // The steps from the arguments of the target up to those of the source, the other way round than the functions go.
-pub fn domain_distance(
+fn domain_distance(
     sorts: &[u16],
     counts: Counts,
     from_start: u16,
@@ -407,8 +413,8 @@ pub fn domain_distance(
     if count == 0 {
         return Amount::Of(0);
     }
-    let from = word(sorts, 4096 + (from_start as usize));
-    let to = word(sorts, 4096 + (to_start as usize));
+    let from = word(sorts, ENTRIES_AT + (from_start as usize));
+    let to = word(sorts, ENTRIES_AT + (to_start as usize));
     match widening_distance(sorts, counts, SortId(to), SortId(from)) {
         Widening::Distance { head, interior } => {
             let first = sum(head, interior);
@@ -422,7 +428,7 @@ pub fn domain_distance(
 }
 
 // Whether an order says Below: not where it says Equal.
-pub fn is_below(order: PartialOrder) -> bool
+fn is_below(order: PartialOrder) -> bool
     ensures { λ r. ⌜ r ≡ isBelow order ⌝ }
 {
     match order {
@@ -434,13 +440,13 @@ pub fn is_below(order: PartialOrder) -> bool
 }
 
 // Whether two runs of arguments have the same sort numbers in the same order.
-pub fn same_arguments(sorts: &[u16], from_start: u16, to_start: u16, count: u16) -> bool
+fn same_arguments(sorts: &[u16], from_start: u16, to_start: u16, count: u16) -> bool
     ensures { λ r. ⌜ r ≡ sameWords (entriesOf (now (sorts .entry)) «from_start» count) (entriesOf (now (sorts .entry)) «to_start» count) ⌝ }
 {
     let mut i: u16 = 0;
     while i < count {
-        let from = word(sorts, 4096 + ((from_start as usize) + (i as usize)));
-        let to = word(sorts, 4096 + ((to_start as usize) + (i as usize)));
+        let from = word(sorts, ENTRIES_AT + ((from_start as usize) + (i as usize)));
+        let to = word(sorts, ENTRIES_AT + ((to_start as usize) + (i as usize)));
         if from != to {
             return false;
         }

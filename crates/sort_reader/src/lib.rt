@@ -1,7 +1,9 @@
-// Storing the sort of a line: the steps that recognising it wrote are carried out on a stack of sort numbers.
+// A line read into the sort storage. The steps that recognising it wrote are carried out on a stack of sort numbers; the entry tests all it is lent,
+// recognises the line, and only then stores.
 use resolved_sort::ComplexSort;
 use resolved_sort::Counts;
 use resolved_sort::Joined;
+use resolved_sort::SORT_WORDS;
 use resolved_sort::SortId;
 use resolved_sort::Tested;
 use sort_checks::test_sorts;
@@ -149,7 +151,7 @@ fn test_read(sorts: &[u16], sort_count: usize, entry_count: usize, line: &[u8]) 
     match test_sorts(sorts, sort_count, entry_count) {
         Tested::Refused(code) => Tested::Refused(code),
         Tested::Passed => {
-            if sorts.len() < 8192 {
+            if sorts.len() < SORT_WORDS {
                 return Tested::Refused(14);
             }
             if 200 < line.len() {

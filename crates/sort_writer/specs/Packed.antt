@@ -5,9 +5,10 @@ use Prim.Native.Nat.{ℕ, _+_}
 use Rattle.sort_text.specs.declared.Written.{Written}
 use Rattle.sort_text.specs.declared.Written.the-variants.{Refused, Text}
 use Rattle.sort_text.specs.Writing.{WriteLeft}
+use Rattle.words.specs.Bits.{bit63}
 
 abbrev pub packWritten : Written → ℕ
-packWritten (Refused c) = 9223372036854775808 + c
+packWritten (Refused c) = bit63 + c
 packWritten (Text n) = n
 
 -- the buffer at exit, and the packed answer

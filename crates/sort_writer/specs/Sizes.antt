@@ -11,9 +11,10 @@ use Rattle.resolved_sort.specs.Tree.{Tree, Trees}
 use Rattle.resolved_sort.specs.Storage.{entriesOf, rowAt}
 use Rattle.sort_text.specs.Parse.{sortWord, opWord}
 use Rattle.sort_text.specs.Text.{nonempty, writable, writables, text, texts}
+use Rattle.words.specs.Bits.{bit63}
 
 abbrev pub most : ℕ
-most = 9223372036854775808
+most = bit63
 
 unfoldable pub capped : ℕ → ℕ
 capped n = cond (leb n most) n most

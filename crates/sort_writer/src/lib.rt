@@ -2,7 +2,10 @@
 // shared parts are looked at once; then the text is put into the lent buffer, or nothing is.
 use resolved_sort::ComplexSort;
 use resolved_sort::Counts;
+use resolved_sort::ENTRIES_AT;
+use resolved_sort::MAX_SORTS;
 use resolved_sort::ResolvedSort;
+use resolved_sort::SORT_WORDS;
 use resolved_sort::Sort;
 use resolved_sort::SortId;
 use resolved_sort::Tested;
@@ -10,6 +13,7 @@ use sort_checks::test_sorts;
 use sort_interner::get;
 use sort_text::Written;
 use text_out::put_bytes;
+use words::BIT_63;
 use words::word;
 ghost use mathlib.Core.Path.{_≡_};
 ghost use mathlib.Core.List.{[], _∷_, _++_};
@@ -36,11 +40,11 @@ fn join_sizes(a: usize, b: usize) -> usize
     if b == 0 {
         return 0;
     }
-    if 9223372036854775808 < a {
-        return 9223372036854775808;
+    if MOST_SIZE < a {
+        return MOST_SIZE;
     }
-    if 9223372036854775808 - a < b {
-        return 9223372036854775808;
+    if MOST_SIZE - a < b {
+        return MOST_SIZE;
     }
     a + b
 }
@@ -83,7 +87,10 @@ fn op_size(op: ComplexSort) -> usize
 fn argument_size(sorts: &[u16], sizes: &[usize], start: u16, j: u16) -> usize
     ensures { λ r. ⌜ r ≡ getD (now (sizes .entry)) (entryAt (now (sorts .entry)) (start + j)) 0 ⌝ }
 {
-    size_at(sizes, word(sorts, 4096 + ((start as usize) + (j as usize))))
+    size_at(
+        sizes,
+        word(sorts, ENTRIES_AT + ((start as usize) + (j as usize))),
+    )
 }
 
 // The size of all arguments of a run with ` # ` between them, from the last back to the first. No arguments have no text.
@@ -142,7 +149,7 @@ fn text_size(sorts: &[u16], n: usize, id: SortId) -> usize
     requires { ⌜ n ≤ maxSorts ⌝ }
     ensures { λ r. ⌜ r ≡ getD (sizesTo (now (sorts .entry)) (replicate 1024 0) n) (id .0) 0 ⌝ }
 {
-    let mut sizes = [0usize; 1024];
+    let mut sizes = [0usize; MAX_SORTS];
     fill_sizes(sorts, n, &mut sizes);
     size_at(&sizes, id.0)
 }
@@ -213,7 +220,7 @@ fn put_arguments(
     if count == 0 {
         return at;
     }
-    let first = word(sorts, 4096 + (start as usize));
+    let first = word(sorts, ENTRIES_AT + (start as usize));
     let behind = put_sort(sorts, counts, SortId(first), out, at);
     if count == 1 {
         return behind;
@@ -242,7 +249,7 @@ fn test_write(
             if size == 0 {
                 return Tested::Refused(13);
             }
-            if sorts.len() < 8192 {
+            if sorts.len() < SORT_WORDS {
                 return Tested::Refused(14);
             }
             if out.len() < size {
@@ -281,7 +288,7 @@ fn pack_written(answer: Written) -> u64
     ensures { λ r. ⌜ r ≡ packWritten answer ⌝ }
 {
     match answer {
-        Written::Refused(code) => 9223372036854775808 + (code as u64),
+        Written::Refused(code) => BIT_63 + (code as u64),
         Written::Text(length) => length as u64,
     }
 }
@@ -299,3 +306,6 @@ pub extern "C" fn sort_write(
 {
     pack_written(write(sorts, sort_count, entry_count, SortId(id), out))
 }
+
+// Where the sizes of texts stop: no buffer is that long.
+const MOST_SIZE: usize = 9223372036854775808;

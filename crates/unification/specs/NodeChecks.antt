@@ -5,7 +5,7 @@ use mathlib.Core.Option.{Option, none, some}
 use Prim.Native.Nat.{ℕ, _+_, _-_, _*_}
 use lib.ListN.{length}
 use lib.Dec.{eqb, leb, ltb}
-use Rattle.resolved_sort.specs.Checks.{allBelow, withinLent, fixedSix, rowsFine, noTwoEqual, atCeiling, Check}
+use Rattle.resolved_sort.specs.Checks.{allBelow, withinLent, sortRowChecks, atCeiling, Check}
 use Rattle.unification.specs.declared.InferSort.{InferSort}
 use Rattle.unification.specs.declared.InferSort.the-variants.{Generic, Function, Var}
 use Rattle.unification.specs.Nodes.{maxNodes, maxNodeEntries, maxVars, nodeEntriesAt, fullNodes, nodeKindAt, nodeEntryAt, variableKind, nodeAt, isPlace, bindsOf}
@@ -59,8 +59,6 @@ placeChecks ws n ns m l r =
 unfoldable pub unifyChecks : List ℕ → ℕ → ℕ → List ℕ → ℕ → ℕ → List ℕ → ℕ → ℕ → ℕ → List Check
 unifyChecks ws n e ns m d bs v l r =
     record { code = 1; passes = withinLent ws n e && nodesWithinLent ns m d && bindingsWithinLent bs v }
-    ∷ record { code = 2; passes = fixedSix ws n }
-    ∷ record { code = 3; passes = rowsFine ws n e }
-    ∷ record { code = 4; passes = noTwoEqual ws n }
-    ∷ nodeChecks ns m d n bs v
+    ∷ sortRowChecks ws n e
+    ++ nodeChecks ns m d n bs v
     ++ placeChecks ws n ns m l r

@@ -11,6 +11,7 @@ use Rattle.unification.specs.Nodes.{shapeAt, freeWord, Binds, bindsOf}
 use Rattle.unification.specs.Unify.{Unifies, yes-with, no-way, too-deep, unify}
 use Rattle.unification.specs.NodeChecks.{unifyChecks}
 use Rattle.unification.specs.Checked.{listsOf}
+use Rattle.words.specs.Bits.{bit8}
 
 -- the words of bindings
 abbrev pub wordOf : Option ℕ → ℕ
@@ -47,7 +48,7 @@ codeUnified No = 0
 
 unfoldable pub packUnified : Unified → ℕ
 packUnified (Refused c) = c
-packUnified Yes = 256
+packUnified Yes = bit8
 packUnified No = 0
 
 pub record Packed : Type 0 where

@@ -84,3 +84,26 @@ pub struct Related {
     pub ids: [u16; 3],
     pub listed: Listed,
 }
+
+// Ceilings of document 01: nodes, their argument entries, variables. Node numbers are below NODE_NUMBERS.
+pub const MAX_NODES: usize = 2048;
+
+pub const NODE_NUMBERS: u16 = 2048;
+
+pub const MAX_NODE_ENTRIES: usize = 4096;
+
+pub const MAX_VARS: usize = 512;
+
+// The first place that is a node: below it are the sorts.
+pub const FIRST_NODE: u16 = 1024;
+
+// Where the argument entries begin in the lent words, behind the rows, and how many words are lent at the full ceiling. They begin so many words behind
+// those of a sort list.
+pub const NODE_ENTRIES_AT: usize = 8192;
+
+pub const NODE_WORDS: usize = 12288;
+
+pub const NODE_ENTRIES_BEHIND: u16 = 4096;
+
+// The binding of a free variable.
+pub const FREE_WORD: u16 = 65535;

@@ -6,6 +6,8 @@ use infer_nodes::part_count;
 use infer_nodes::same_head;
 use infer_nodes::shallow_normalize;
 use infer_nodes::variable_at;
+use unification::FIRST_NODE;
+use unification::FREE_WORD;
 use unification::InferSortId;
 use unification::Lengths;
 use unification::SortVar;
@@ -40,7 +42,7 @@ pub fn undo(binds: &mut [u16], trail: &[u16], base: u16, count: u16)
     let mut n = count;
     while base < n {
         n -= 1;
-        put(binds, trail[n as usize] as usize, 65535);
+        put(binds, trail[n as usize] as usize, FREE_WORD);
     }
 }
 
@@ -92,8 +94,8 @@ fn bind_variables(
 fn both_sorts(l: InferSortId, r: InferSortId) -> bool
     ensures { λ b. ⌜ b ≡ (isSort (l .0) && isSort (r .0)) ⌝ }
 {
-    if l.0 < 1024 {
-        return r.0 < 1024;
+    if l.0 < FIRST_NODE {
+        return r.0 < FIRST_NODE;
     }
     false
 }

@@ -12,7 +12,7 @@ use borrow.Author.Tests.{not-true, not-false, leb-true, le-leb, lt-leb}
 use Rattle.resolved_sort.specs.declared.Tested.{Tested}
 use Rattle.resolved_sort.specs.declared.Tested.the-variants.{Refused, Passed}
 use Rattle.resolved_sort.specs.Storage.{maxSorts, maxEntries, fullLength}
-use Rattle.resolved_sort.specs.Checks.{withinLent, fixedSix, rowsFine, noTwoEqual, atCeiling, Check, firstFailing, sortChecks}
+use Rattle.resolved_sort.specs.Checks.{withinLent, rowsFine, noTwoEqual, atCeiling, Check, firstFailing, sortRowChecks, sortChecks}
 use Rattle.resolved_sort.specs.Entries.{testedOf, orElse}
 use Rattle.resolved_sort.proofs.FirstFailing.{first-fails, first-passes, cons-passes}
 use Rattle.resolved_sort.proofs.Testing.{refused-is, passed-is, fails, passes, first-refuses, second-decides, first-of-two, second-of-two, both-of-two}
@@ -106,7 +106,7 @@ module _ (ws : List ℕ) (n e : ℕ) (ns : List ℕ) (m d : ℕ) (bs : List ℕ)
               (two-ceilings m maxNodes d maxNodeEntries (leb (4 * m) (length ns)) (leb d (length ns - nodeEntriesAt)) (sym eb ∙ not-false b hb) .0, leb-true v maxVars w)
 
           abbrev sorted : List Check
-          sorted = record { code = 2; passes = fixedSix ws n } ∷ record { code = 3; passes = rowsFine ws n e } ∷ record { code = 4; passes = noTwoEqual ws n } ∷ []
+          sorted = sortRowChecks ws n e
 
           past-1 : (t : Tested) → t ≡ testedOf (firstFailing (sorted ++ rest)) → t ≡ testedOf (firstFailing all)
           unfolding unifyChecks

@@ -4,14 +4,18 @@ use node_checks::bindings_within_lent;
 use node_checks::is_place;
 use node_checks::nodes_within_lent;
 use node_checks::test_nodes;
+use resolved_sort::SORT_WORDS;
 use resolved_sort::Tested;
 use sort_checks::test_sorts;
 use sort_checks::within_lent;
 use unification::InferSortId;
 use unification::Lengths;
+use unification::MAX_VARS;
+use unification::NODE_WORDS;
 use unification::Tried;
 use unification::Unified;
 use unifier::undo;
+use words::BIT_8;
 ghost use mathlib.Core.Path.{_≡_};
 ghost use mathlib.Core.List.{_++_};
 ghost use Prim.Native.Nat.{_≤_};
@@ -40,10 +44,10 @@ fn test_places(
     if !is_place(sort_count, node_count, rhs.0) {
         return Tested::Refused(12);
     }
-    if sorts.len() < 8192 {
+    if sorts.len() < SORT_WORDS {
         return Tested::Refused(14);
     }
-    if nodes.len() < 12288 {
+    if nodes.len() < NODE_WORDS {
         return Tested::Refused(14);
     }
     Tested::Passed
@@ -129,7 +133,7 @@ fn unify_alone(
     requires { ⌜ Ready (now sorts) (now nodes) (now binds) lengths × Placed lengths (lhs .0) × Placed lengths (rhs .0) ⌝ }
     ensures { λ r. ⌜ left (now (binds .exit)) r ≡ leftBy (now (binds .entry)) (lengths .variables) (unifyOf (graphOf (now (sorts .entry)) (now (nodes .entry)) lengths) (bindsOf (now (binds .entry)) (lengths .variables)) (lhs .0) (rhs .0)) ⌝ }
 {
-    let mut trail = [0; 512];
+    let mut trail = [0; MAX_VARS];
     match unifier::unify(sorts, nodes, binds, &mut trail, lengths, 0, lhs, rhs) {
         Tried::Yes(_) => Unified::Yes,
         Tried::No(count) => {
@@ -188,7 +192,7 @@ fn pack_unified(answer: Unified) -> u64
 {
     match answer {
         Unified::Refused(code) => code as u64,
-        Unified::Yes => 256,
+        Unified::Yes => BIT_8,
         Unified::No => 0,
     }
 }

@@ -1,4 +1,4 @@
-// The lists of a problem as one slice of words: packed from the caller's lists, and read by number.
+// Lent lists of 16-bit words: a word read, put, cleared, copied. A word past the end counts as 0, so no read needs a check before it.
 ghost use mathlib.Core.Path.{_≡_};
 ghost use Prim.Native.Nat.{_+_, _≤_};
 ghost use lib.ListN.{length, getD, set};
@@ -44,3 +44,20 @@ pub fn copy(to: &mut [u16], at: usize, words: &[u16], from: usize, n: usize)
         j += 1;
     }
 }
+
+// The bits at which the fields of packed answers begin.
+pub const BIT_8: u64 = 256;
+
+pub const BIT_16: u64 = 65536;
+
+pub const BIT_24: u64 = 16777216;
+
+pub const BIT_32: u64 = 4294967296;
+
+pub const BIT_40: u64 = 1099511627776;
+
+pub const BIT_48: u64 = 281474976710656;
+
+pub const BIT_52: u64 = 4503599627370496;
+
+pub const BIT_63: u64 = 9223372036854775808;

@@ -17,14 +17,14 @@ abbrev μ-loop : tie.MeasureT-loop
 loop-holds : tie.Need-loop-holds Inv-loop μ-loop
 loop-holds c = law.start _ _ _ _ _ _ (c .before .before .before .before .before .args .sources) (c .before .before .before .before .before .pre)
 
-add-source : tie.Need-add-source Inv-loop μ-loop
-add-source c = omega (arith, law.number-fits _ _ _ _ _ _ _ _ _ _ _ _ (c .before .loop .inv) (c .loop-test .taken))
+add-source-at : tie.Need-add-source-at Inv-loop μ-loop
+add-source-at c = omega (arith, law.number-fits _ _ _ _ _ _ _ _ _ _ _ _ (c .before .loop .inv) (c .loop-test .taken))
 
-source-requires : tie.Need-source-requires Inv-loop μ-loop
-source-requires c κs = search needs
+source-at-requires : tie.Need-source-at-requires Inv-loop μ-loop
+source-at-requires c κs = search needs
 
 sort-of-requires : tie.Need-sort-of-requires Inv-loop μ-loop
-sort-of-requires c κs = law.source-ready _ _ _ _ _ _ _ _ _ _ _ _ (c .before .before .before .loop .inv) (c .before .before .loop-test .taken) _ (c .before .source .ensures)
+sort-of-requires c κs = law.source-ready _ _ _ _ _ _ _ _ _ _ _ _ (c .before .before .before .loop .inv) (c .before .before .loop-test .taken) _ (c .before .source-at .ensures)
 
 enum-known-sort : tie.Need-enum-known-sort Inv-loop μ-loop
 enum-known-sort c = search needs
@@ -45,7 +45,7 @@ same-length-2 : tie.Need-same-length-2 Inv-loop μ-loop
 same-length-2 c = c .before .before .before .before .before .before .before .before .before .loop .inv .many
 
 returns : tie.Need-returns Inv-loop μ-loop
-returns c = law.stops _ _ _ _ _ _ _ _ _ _ _ _ (c .before .before .before .before .before .before .before .before .before .loop .inv) (c .before .before .before .before .before .before .before .before .loop-test .taken) _ (c .before .before .before .before .before .before .before .source .ensures) _ (c .before .before .before .before .before .sort-of .result) (c .before .before .before .before .before .sort-of .ensures) _ (c .before .then .given .1)
+returns c = law.stops _ _ _ _ _ _ _ _ _ _ _ _ (c .before .before .before .before .before .before .before .before .before .loop .inv) (c .before .before .before .before .before .before .before .before .loop-test .taken) _ (c .before .before .before .before .before .before .before .source-at .ensures) _ (c .before .before .before .before .before .sort-of .result) (c .before .before .before .before .before .sort-of .ensures) _ (c .before .then .given .1)
 
 enum-known-then-2 : tie.Need-enum-known-then-2 Inv-loop μ-loop
 enum-known-then-2 c = search needs
@@ -57,7 +57,7 @@ same-length-4 : tie.Need-same-length-4 Inv-loop μ-loop
 same-length-4 c = c .before .before .before .before .before .before .before .before .before .loop .inv .many
 
 returns-2 : tie.Need-returns-2 Inv-loop μ-loop
-returns-2 c = law.ends _ _ _ _ _ _ _ _ _ _ _ _ (c .before .before .before .before .before .before .before .before .before .loop .inv) (c .before .before .before .before .before .before .before .before .loop-test .taken) _ (c .before .before .before .before .before .before .before .source .ensures) _ (c .before .before .before .before .before .sort-of .result) (c .before .before .before .before .before .sort-of .ensures) _ (c .before .then2 .given .1)
+returns-2 c = law.ends _ _ _ _ _ _ _ _ _ _ _ _ (c .before .before .before .before .before .before .before .before .before .loop .inv) (c .before .before .before .before .before .before .before .before .loop-test .taken) _ (c .before .before .before .before .before .before .before .source-at .ensures) _ (c .before .before .before .before .before .sort-of .result) (c .before .before .before .before .before .sort-of .ensures) _ (c .before .then2 .given .1)
 
 add-i : tie.Need-add-i Inv-loop μ-loop
 add-i c = omega (arith, law.next-fits _ _ _ _ _ _ _ _ _ _ _ _ (c .before .before .before .before .before .before .before .before .before .before .before .before .before .loop .inv) (c .before .before .before .before .before .before .before .before .before .before .before .before .loop-test .taken))
@@ -66,7 +66,7 @@ loop-less : tie.Need-loop-less Inv-loop μ-loop
 loop-less c = omega (arith, c .before .before .before .before .before .before .before .before .before .before .before .before .loop-test .taken)
 
 loop-again : tie.Need-loop-again Inv-loop μ-loop
-loop-again c = law.next _ _ _ _ _ _ _ _ _ _ _ _ (c .before .before .before .before .before .before .before .before .before .before .before .before .before .loop .inv) (c .before .before .before .before .before .before .before .before .before .before .before .before .loop-test .taken) _ (c .before .before .before .before .before .before .before .before .before .before .before .source .ensures) _ (c .before .before .before .before .before .before .before .before .before .sort-of .result) (c .before .before .before .before .before .before .before .before .before .sort-of .ensures) _ _ (c .before .before .before .before .before .sort .given .1) _ (c .before .before .put .ensures)
+loop-again c = law.next _ _ _ _ _ _ _ _ _ _ _ _ (c .before .before .before .before .before .before .before .before .before .before .before .before .before .loop .inv) (c .before .before .before .before .before .before .before .before .before .before .before .before .loop-test .taken) _ (c .before .before .before .before .before .before .before .before .before .before .before .source-at .ensures) _ (c .before .before .before .before .before .before .before .before .before .sort-of .result) (c .before .before .before .before .before .before .before .before .before .sort-of .ensures) _ _ (c .before .before .before .before .before .sort .given .1) _ (c .before .before .put .ensures)
 
 same-length-5 : tie.Need-same-length-5 Inv-loop μ-loop
 same-length-5 c = law.as-long _ _ _ _ _ _ _ _ _ _ _ _ (c .before .loop .inv)
@@ -84,8 +84,8 @@ resolve-sources-spec =
     Inv-loop
     μ-loop
     loop-holds
-    add-source
-    source-requires
+    add-source-at
+    source-at-requires
     sort-of-requires
     enum-known-sort
     cast-put
