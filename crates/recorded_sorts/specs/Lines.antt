@@ -16,7 +16,7 @@ use Rattle.replay.specs.declared.Verdict.{Verdict}
 use Rattle.replay.specs.declared.Verdict.the-variants.{Quiet, NotOfForm}
 use Rattle.recorded_sorts.specs.declared.Step.{Step}
 use Rattle.replay.specs.Numbers.{fieldsOf}
-use Rattle.replay.specs.Lines.{Kept, all, storeFrom, verdictOf}
+use Rattle.replay.specs.Lines.{Kept, storeFrom, verdictOf}
 
 -- L, r, a, c, d, m, j, k
 unfoldable pub letterOf : ℕ → Letter

@@ -22,7 +22,7 @@ use Rattle.unification.proofs.Cycle.{Cyclic}
 use Rattle.unification.proofs.Theorem.{check-7-exactly}
 use Rattle.unification.proofs.Passed.{length-binds, passed-fine}
 use Rattle.unify_entries.proofs.Codes.{code-of-unified}
-use Rattle.resolved_sort.proofs.FailingNumber.{go, fails-first}
+use Rattle.resolved_sort.proofs.FailingNumber.{fails-first}
 
 module _ (ws : List ℕ) (n e : ℕ) (ns : List ℕ) (m d : ℕ) (bs : List ℕ) (v l r : ℕ) where
   abbrev failing : Option ℕ

@@ -15,7 +15,7 @@ use Rattle.unification.specs.Unify.{Unifies, yes-with, no-way, too-deep, unify}
 use Rattle.unification.specs.NodeChecks.{nodeChecks, placeChecks, unifyChecks}
 use Rattle.unification.specs.Checked.{listsOf}
 use Rattle.unification.specs.UnifyEntry.{Left, left, leftBy, unifyEntry, codeUnified, packUnified}
-use Rattle.resolved_sort.proofs.FailingNumber.{Numbered, failing-number, go}
+use Rattle.resolved_sort.proofs.FailingNumber.{Numbered, failing-number}
 
 -- a refusal has the number of a check
 abbrev pub Told : Unified → Type 0
