@@ -100,7 +100,11 @@ pub fn argument(nodes: &[u16], i: u16) -> InferSortId
 // What the variable at a place is bound to; 65,535 where it is free, and where there is no variable.
 fn bound_to(sorts: &[u16], nodes: &[u16], binds: &[u16], lengths: Lengths, id: InferSortId) -> u16
     requires { ⌜ Ready (now sorts) (now nodes) (now binds) lengths × Placed lengths (id .0) ⌝ }
-    ensures { λ r. ⌜ bindingOf r ≡ boundAt (graphOf (now (sorts .entry)) (now (nodes .entry)) lengths (id .0)) (bindsOf (now (binds .entry)) (lengths .variables)) ⌝ }
+    ensures { λ r. ⌜
+        bindingOf r
+        ≡ boundAt (graphOf (now (sorts .entry)) (now (nodes .entry)) lengths (id .0))
+        (bindsOf (now (binds .entry)) (lengths .variables))
+        ⌝ }
 {
     if id.0 < FIRST_NODE {
         return FREE_WORD;
@@ -124,7 +128,11 @@ pub fn shallow_normalize(
     id: InferSortId,
 ) -> InferSortId
     requires { ⌜ Ready (now sorts) (now nodes) (now binds) lengths × Placed lengths (id .0) ⌝ }
-    ensures { λ r. ⌜ follow (graphOf (now (sorts .entry)) (now (nodes .entry)) lengths) deep (bindsOf (now (binds .entry)) (lengths .variables)) (id .0) ≡ some (r .0) ⌝ }
+    ensures { λ r. ⌜
+        follow (graphOf (now (sorts .entry)) (now (nodes .entry)) lengths) deep
+        (bindsOf (now (binds .entry)) (lengths .variables)) (id .0)
+        ≡ some (r .0)
+        ⌝ }
 {
     let mut end = id.0;
     let mut next = bound_to(sorts, nodes, binds, lengths, InferSortId(end));
@@ -145,7 +153,11 @@ pub fn occurs(
     id: InferSortId,
 ) -> bool
     requires { ⌜ Ready (now sorts) (now nodes) (now binds) lengths × Placed lengths (id .0) ⌝ }
-    ensures { λ r. ⌜ occursIn (graphOf (now (sorts .entry)) (now (nodes .entry)) lengths) deep (bindsOf (now (binds .entry)) (lengths .variables)) (var .0) (id .0) ≡ ofTest r ⌝ }
+    ensures { λ r. ⌜
+        occursIn (graphOf (now (sorts .entry)) (now (nodes .entry)) lengths) deep
+        (bindsOf (now (binds .entry)) (lengths .variables)) (var .0) (id .0)
+        ≡ ofTest r
+        ⌝ }
 {
     let end = shallow_normalize(sorts, nodes, binds, lengths, id);
     if end.0 < FIRST_NODE {
@@ -181,8 +193,16 @@ fn occurs_any(
     start: u16,
     count: u16,
 ) -> bool
-    requires { ⌜ Ready (now sorts) (now nodes) (now binds) lengths × RunPlaced (now nodes) lengths start count ⌝ }
-    ensures { λ r. ⌜ occursAny (graphOf (now (sorts .entry)) (now (nodes .entry)) lengths) (occursIn (graphOf (now (sorts .entry)) (now (nodes .entry)) lengths) deep (bindsOf (now (binds .entry)) (lengths .variables)) (var .0)) (nodeEntriesOf (now (nodes .entry)) start count) ≡ ofTest r ⌝ }
+    requires { ⌜
+        Ready (now sorts) (now nodes) (now binds) lengths × RunPlaced (now nodes) lengths start count
+        ⌝ }
+    ensures { λ r. ⌜
+        occursAny (graphOf (now (sorts .entry)) (now (nodes .entry)) lengths)
+        (occursIn (graphOf (now (sorts .entry)) (now (nodes .entry)) lengths) deep
+        (bindsOf (now (binds .entry)) (lengths .variables)) (var .0))
+        (nodeEntriesOf (now (nodes .entry)) start count)
+        ≡ ofTest r
+        ⌝ }
 {
     let mut at = start;
     let mut left = count;
@@ -266,7 +286,9 @@ fn part_in(words: &[u16], entries: usize, row: usize, i: u16) -> InferSortId
 // The kind of the head at a place, and its number.
 fn kind_at(sorts: &[u16], nodes: &[u16], lengths: Lengths, id: InferSortId) -> u16
     requires { ⌜ NodesReady (now sorts) (now nodes) lengths × Placed lengths (id .0) ⌝ }
-    ensures { λ r. ⌜ r ≡ kindHead (headOf (graphOf (now (sorts .entry)) (now (nodes .entry)) lengths (id .0))) ⌝ }
+    ensures { λ r. ⌜
+        r ≡ kindHead (headOf (graphOf (now (sorts .entry)) (now (nodes .entry)) lengths (id .0)))
+        ⌝ }
 {
     if id.0 < FIRST_NODE {
         return word(sorts, 4 * (id.0 as usize));
@@ -276,7 +298,9 @@ fn kind_at(sorts: &[u16], nodes: &[u16], lengths: Lengths, id: InferSortId) -> u
 
 fn number_at(sorts: &[u16], nodes: &[u16], lengths: Lengths, id: InferSortId) -> u16
     requires { ⌜ NodesReady (now sorts) (now nodes) lengths × Placed lengths (id .0) ⌝ }
-    ensures { λ r. ⌜ r ≡ numberHead (headOf (graphOf (now (sorts .entry)) (now (nodes .entry)) lengths (id .0))) ⌝ }
+    ensures { λ r. ⌜
+        r ≡ numberHead (headOf (graphOf (now (sorts .entry)) (now (nodes .entry)) lengths (id .0)))
+        ⌝ }
 {
     if id.0 < FIRST_NODE {
         return number_in(sorts, 4 * (id.0 as usize));
@@ -292,8 +316,14 @@ pub fn same_head(
     lhs: InferSortId,
     rhs: InferSortId,
 ) -> bool
-    requires { ⌜ NodesReady (now sorts) (now nodes) lengths × Placed lengths (lhs .0) × Placed lengths (rhs .0) ⌝ }
-    ensures { λ r. ⌜ r ≡ sameHead (headOf (graphOf (now (sorts .entry)) (now (nodes .entry)) lengths (lhs .0))) (headOf (graphOf (now (sorts .entry)) (now (nodes .entry)) lengths (rhs .0))) ⌝ }
+    requires { ⌜
+        NodesReady (now sorts) (now nodes) lengths × Placed lengths (lhs .0) × Placed lengths (rhs .0)
+        ⌝ }
+    ensures { λ r. ⌜
+        r
+        ≡ sameHead (headOf (graphOf (now (sorts .entry)) (now (nodes .entry)) lengths (lhs .0)))
+        (headOf (graphOf (now (sorts .entry)) (now (nodes .entry)) lengths (rhs .0)))
+        ⌝ }
 {
     if kind_at(sorts, nodes, lengths, lhs) != kind_at(sorts, nodes, lengths, rhs) {
         return false;
@@ -304,7 +334,9 @@ pub fn same_head(
 // How many parts the sort at a place has: the element of a container, the arguments of a function and then its range.
 pub fn part_count(sorts: &[u16], nodes: &[u16], lengths: Lengths, id: InferSortId) -> u16
     requires { ⌜ NodesReady (now sorts) (now nodes) lengths × Placed lengths (id .0) ⌝ }
-    ensures { λ r. ⌜ r ≡ length (partsOf (graphOf (now (sorts .entry)) (now (nodes .entry)) lengths (id .0))) ⌝ }
+    ensures { λ r. ⌜
+        r ≡ length (partsOf (graphOf (now (sorts .entry)) (now (nodes .entry)) lengths (id .0)))
+        ⌝ }
 {
     if id.0 < FIRST_NODE {
         return count_in(sorts, 4 * (id.0 as usize));
@@ -314,8 +346,14 @@ pub fn part_count(sorts: &[u16], nodes: &[u16], lengths: Lengths, id: InferSortI
 
 // The i-th part of the sort at a place.
 pub fn part(sorts: &[u16], nodes: &[u16], lengths: Lengths, id: InferSortId, i: u16) -> InferSortId
-    requires { ⌜ NodesReady (now sorts) (now nodes) lengths × Placed lengths (id .0) × (i < length (partsOf (graphOf (now sorts) (now nodes) lengths (id .0)))) ⌝ }
-    ensures { λ r. ⌜ r .0 ≡ getD (partsOf (graphOf (now (sorts .entry)) (now (nodes .entry)) lengths (id .0))) i 0 ⌝ }
+    requires { ⌜
+        NodesReady (now sorts) (now nodes) lengths
+        × Placed lengths (id .0)
+        × (i < length (partsOf (graphOf (now sorts) (now nodes) lengths (id .0))))
+        ⌝ }
+    ensures { λ r. ⌜
+        r .0 ≡ getD (partsOf (graphOf (now (sorts .entry)) (now (nodes .entry)) lengths (id .0))) i 0
+        ⌝ }
 {
     if id.0 < FIRST_NODE {
         return part_in(sorts, ENTRIES_AT, 4 * (id.0 as usize), i);

@@ -49,10 +49,16 @@ constraint kind a b c d =
     kind (Join (record { start = b; count = c }) (record { 0 = a }))
 
 abbrev pub constraintAt : List ℕ → ℕ → Constraint
-constraintAt cs i = constraint (getD cs (5 * i) 0) (getD cs (5 * i + 1) 0) (getD cs (5 * i + 2) 0) (getD cs (5 * i + 3) 0) (getD cs (5 * i + 4) 0)
+constraintAt cs i =
+    constraint (getD cs (5 * i) 0) (getD cs (5 * i + 1) 0) (getD cs (5 * i + 2) 0) (getD cs (5 * i + 3) 0)
+    (getD cs (5 * i + 4) 0)
 
 abbrev pub overloadAt : List ℕ → ℕ → Overload
-overloadAt os i = record { target = target (getD os (3 * i) 0) (getD os (3 * i + 1) 0); sort = record { 0 = getD os (3 * i + 2) 0 } }
+overloadAt os i =
+    record {
+      target = target (getD os (3 * i) 0) (getD os (3 * i + 1) 0);
+      sort = record { 0 = getD os (3 * i + 2) 0 };
+    }
 
 -- a base name: the expression it is for, and what it stands for
 pub record BaseName : Type 0 where
@@ -60,7 +66,8 @@ pub record BaseName : Type 0 where
   pub target : NameTarget
 
 abbrev pub baseNameAt : List ℕ → ℕ → BaseName
-baseNameAt bs i = record { key = getD bs (3 * i) 0; target = target (getD bs (3 * i + 1) 0) (getD bs (3 * i + 2) 0) }
+baseNameAt bs i =
+    record { key = getD bs (3 * i) 0; target = target (getD bs (3 * i + 1) 0) (getD bs (3 * i + 2) 0) }
 
 -- the n rows from i on
 unfoldable pub rowsFrom : {A : Type 0} → (ℕ → A) → ℕ → ℕ → List A

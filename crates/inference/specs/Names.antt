@@ -40,7 +40,9 @@ targetIn os i (some run) = some (overloadIn os run i .target)
 
 unfoldable pub chosenName : Problem → List Choice → ℕ → Option NameTarget
 chosenName P [] x = none
-chosenName P (c ∷ cs) x = cond (eqb (c .expr) x) (targetIn (P .overloads) (c .position) (runFor x (P .constraints))) (chosenName P cs x)
+chosenName P (c ∷ cs) x =
+    cond (eqb (c .expr) x) (targetIn (P .overloads) (c .position) (runFor x (P .constraints)))
+    (chosenName P cs x)
 
 unfoldable pub baseName : List BaseName → ℕ → Option NameTarget
 baseName [] x = none

@@ -40,15 +40,19 @@ makesSort W r (NotThere c) = no-list (withStored W r (withCounts (W .lengths) c)
 makesSort W r Full = no-room 15 (withStored W r (W .lengths))
 
 unfoldable pub resolveIn : Default → Binds → ℕ → Lent → Makes ℕ
-resolveIn x B p W = let r : Stored = termResolved (W .sorts) (W .lengths) x (value (graph W) B p) in makesSort W r (r .answer)
+resolveIn x B p W =
+    let r : Stored = termResolved (W .sorts) (W .lengths) x (value (graph W) B p) in makesSort W r (r .answer)
 
 unfoldable pub joinIn : ℕ → ℕ → Lent → Makes ℕ
-joinIn a b W = let r : Stored = boundAt true (W .sorts) (W .lengths .sorts) (W .lengths .entries) a b in makesSort W r (r .answer)
+joinIn a b W =
+    let r : Stored = boundAt true (W .sorts) (W .lengths .sorts) (W .lengths .entries) a b in
+    makesSort W r (r .answer)
 
 -- places resolved one after another, up to the first that has no sort
 unfoldable pub resolveAll : Default → Binds → List ℕ → Lent → Makes (List ℕ)
 resolveAll x B [] W = made [] W
-resolveAll x B (p ∷ ps) W = resolveIn x B p W and-then (λ s W. resolveAll x B ps W and-then (λ ss W. made (s ∷ ss) W))
+resolveAll x B (p ∷ ps) W =
+    resolveIn x B p W and-then (λ s W. resolveAll x B ps W and-then (λ ss W. made (s ∷ ss) W))
 
 -- "Join: if all sources resolve, their join exists and each is equal to or materializable into it": the join of the sources, and the head
 -- distances as components
@@ -72,7 +76,11 @@ allInto W j [] = true
 allInto W j (s ∷ ss) = materializable (sortIn W s) (sortIn W j) && allInto W j ss
 
 abbrev pub agreedBy : Lent → List ℕ → ℕ → Makes Agreed
-agreedBy W ss j = cond (allInto W j ss) (made (record { sort = j; components = each (λ s. headOf (distance true (sortIn W s) (sortIn W j))) ss }) W) (no-list W)
+agreedBy W ss j =
+    cond (allInto W j ss)
+    (made (record { sort = j; components = each (λ s. headOf (distance true (sortIn W s) (sortIn W j))) ss })
+    W)
+    (no-list W)
 
 unfoldable pub agreed : List ℕ → Lent → Makes Agreed
 agreed [] W = no-list W
@@ -106,7 +114,12 @@ abbrev pub measured : Path → Components → Binds → Path
 measured e cs C = record { binds = C; measure = e .measure ++ cs; choices = e .choices }
 
 abbrev pub chosen : Path → ℕ → ℕ → Binds → Path
-chosen e x i C = record { binds = C; measure = e .measure; choices = e .choices ++ (record { expr = x; position = i } ∷ []) }
+chosen e x i C =
+    record {
+      binds = C;
+      measure = e .measure;
+      choices = e .choices ++ (record { expr = x; position = i } ∷ []);
+    }
 
 -- one way to make two places equal, and the component that it costs
 pub record Try : Type 0 where
@@ -134,7 +147,9 @@ litComponent k Sort.Real = some 3
 
 -- "'0' is Natural and starts at Nat, others at Pos". Pos, Nat, Int, Real are the sorts 2 to 5.
 abbrev pub fromNat : ℕ → List Try
-fromNat p = record { left = p; right = 3; component = 1 } ∷ record { left = p; right = 4; component = 2 } ∷ record { left = p; right = 5; component = 3 } ∷ []
+fromNat p =
+    record { left = p; right = 3; component = 1 } ∷ record { left = p; right = 4; component = 2 }
+    ∷ record { left = p; right = 5; component = 3 } ∷ []
 
 abbrev pub litTries : LitKind → ℕ → List Try
 litTries Positive p = record { left = p; right = 2; component = 0 } ∷ fromNat p
@@ -146,7 +161,9 @@ pub record Reading : Type 0 where
   pub op : ComplexSort
 
 abbrev pub readings : List Reading
-readings = record { body = 1; op = ComplexSort.Set } ∷ record { body = 3; op = ComplexSort.Bag } ∷ record { body = 2; op = ComplexSort.Bag } ∷ []
+readings =
+    record { body = 1; op = ComplexSort.Set } ∷ record { body = 3; op = ComplexSort.Bag }
+    ∷ record { body = 2; op = ComplexSort.Bag } ∷ []
 
 -- What goes on from branch to branch: the lists, the incumbent, and, so that laws can speak of them, something about all leaves met. The solver
 -- itself keeps nothing of these.
@@ -190,7 +207,8 @@ module _ {Met : Type 0} where
   unifying B l r k w = onYes (unify (graph (w .lent)) B l r) k w
 
   -- on with what was made
-  abbrev pub onMade : {A : Type 0} → Makes A → (A → World Met → Out Met) → (World Met → Out Met) → World Met → Out Met
+  abbrev pub onMade : {A : Type 0} → Makes A → (A → World Met → Out Met) → (World Met → Out Met) → World Met
+      → Out Met
   onMade (made a W) k f w = k a (lending w W)
   onMade (no-list W) k f w = f (lending w W)
   onMade (no-room c W) k f w = ended c W
@@ -211,17 +229,21 @@ module _ (Met : Type 0) (meet : Components → Met → Met) (P : Problem) where
   -- "It stops at the first try that found."
   unfoldable pub firstFound : List Try → Next → Next
   firstFound [] k e w = missed w
-  firstFound (t ∷ ts) k e w = orElse (unifying (e .binds) (t .left) (t .right) (λ C. k (measured e (t .component ∷ []) C)) w) (firstFound ts k e)
+  firstFound (t ∷ ts) k e w =
+      orElse (unifying (e .binds) (t .left) (t .right) (λ C. k (measured e (t .component ∷ []) C)) w)
+      (firstFound ts k e)
 
   -- "unify (component 0), and only if that found nothing, the wider sorts of the left side (1, 2, 3), or, if the left side has no list, the narrower
   -- ones of the right. An empty list is a list."
   abbrev pub narrower : ℕ → ℕ → Next → Next
   narrower l r k e w =
-      onMade (strictRelated false (e .binds) r (w .lent)) (λ ps v. givenBack (w .lent) (firstFound (narrowerTries l 1 ps) k e v)) missed w
+      onMade (strictRelated false (e .binds) r (w .lent))
+      (λ ps v. givenBack (w .lent) (firstFound (narrowerTries l 1 ps) k e v)) missed w
 
   abbrev pub wider : ℕ → ℕ → Next → Next
   wider l r k e w =
-      onMade (strictRelated true (e .binds) l (w .lent)) (λ ps v. givenBack (w .lent) (firstFound (widerTries r 1 ps) k e v)) (narrower l r k e) w
+      onMade (strictRelated true (e .binds) l (w .lent))
+      (λ ps v. givenBack (w .lent) (firstFound (widerTries r 1 ps) k e v)) (narrower l r k e) w
 
   unfoldable pub widening : ℕ → ℕ → Next → Next
   widening l r k e w = orElse (unifying (e .binds) l r (λ C. k (measured e (0 ∷ []) C)) w) (wider l r k e)
@@ -253,14 +275,16 @@ module _ (Met : Type 0) (meet : Components → Met → Met) (P : Problem) where
   everyReading [] body node element b k e w = says b w
   everyReading (r ∷ rs) body node element b k e w =
       onMade (internContainer (r .op) element (w .lent))
-      (λ s v. andAlso (unifying (e .binds) body (r .body) (λ C. unifying C node s (λ D. k (bound e D))) v) b (λ b. everyReading rs body node element b k e))
+      (λ s v. andAlso (unifying (e .binds) body (r .body) (λ C. unifying C node s (λ D. k (bound e D))) v) b
+      (λ b. everyReading rs body node element b k e))
       missed w
 
   -- "Disjunctions try every overload, none allowed." i is the position of the first of them.
   unfoldable pub everyOverload : ℕ → ℕ → List Overload → ℕ → Bool → Next → Next
   everyOverload x p [] i b k e w = says b w
   everyOverload x p (o ∷ os) i b k e w =
-      andAlso (unifying (e .binds) p (o .sort .0) (λ C. k (chosen e x i C)) w) b (λ b. everyOverload x p os (i + 1) b k e)
+      andAlso (unifying (e .binds) p (o .sort .0) (λ C. k (chosen e x i C)) w) b
+      (λ b. everyOverload x p os (i + 1) b k e)
 
   -- "one source after another as widenings"
   unfoldable pub sequence : List ℕ → ℕ → Next → Next
@@ -270,13 +294,16 @@ module _ (Met : Type 0) (meet : Components → Met → Met) (P : Problem) where
   -- "bind the target to it with the head distances as components; if that found nothing, one source after another"
   unfoldable pub joining : List ℕ → ℕ → Next → Next
   joining ss t k e w =
-      onMade (joinOf (e .binds) ss (w .lent)) (λ a v. orElse (unifying (e .binds) t (a .sort) (λ C. k (measured e (a .components) C)) v) (sequence ss t k e))
+      onMade (joinOf (e .binds) ss (w .lent))
+      (λ a v.
+      orElse (unifying (e .binds) t (a .sort) (λ C. k (measured e (a .components) C)) v) (sequence ss t k e))
       (sequence ss t k e) w
 
   unfoldable pub step : Constraint → Next → Next
   step (Sub l r) k = widening (l .0) (r .0) k
   step (Lit p kind) k = literal kind (p .0) k
-  step (Disjunction x p run) k = everyOverload (x .0) (p .0) (take (run .count) (drop (run .start) (P .overloads))) 0 false k
+  step (Disjunction x p run) k =
+      everyOverload (x .0) (p .0) (take (run .count) (drop (run .start) (P .overloads))) 0 false k
   step (Comprehension body node element) k = everyReading readings (body .0) (node .0) (element .0) false k
   step (Join run t) k = joining (take (run .count) (drop (run .start) (P .sources))) (t .0) k
 
@@ -285,7 +312,9 @@ module _ (Met : Type 0) (meet : Components → Met → Met) (P : Problem) where
   abbrev pub replace : Path → World Met → Out Met
   replace e w =
       onMade (resolveAll (Is (record { 0 = P .default })) (e .binds) (P .exprs) (w .lent))
-      (λ ss v. found (keeping v (e .measure) (record { measure = e .measure; sorts = ss; choices = e .choices; duplicate = false }))) missed w
+      (λ ss v. found (keeping v (e .measure)
+      (record { measure = e .measure; sorts = ss; choices = e .choices; duplicate = false })))
+      missed w
 
   abbrev pub marked : Candidate → Candidate
   marked c = record { measure = c .measure; sorts = c .sorts; choices = c .choices; duplicate = true }

@@ -79,12 +79,15 @@ module _ (I : Call) where
   unfoldable pub namesFine : Bool
   namesFine =
       allBelow (I .rows .names)
-      (λ i. ltb (getD (I .names) (3 * i) 0) (I .rows .exprs) && targetFine (getD (I .names) (3 * i + 1) 0) (getD (I .names) (3 * i + 2) 0))
+      (λ i. ltb (getD (I .names) (3 * i) 0) (I .rows .exprs)
+      && targetFine (getD (I .names) (3 * i + 1) 0) (getD (I .names) (3 * i + 2) 0))
 
   -- 9. "A constraint has an unknown kind, literal kind or overload kind, a run leaving its list, or a place, expression, element sort, overload place
   -- or target sort that names nothing."
   unfoldable pub overloadFine : ℕ → Bool
-  overloadFine i = targetFine (getD (I .overloads) (3 * i) 0) (getD (I .overloads) (3 * i + 1) 0) && placed (getD (I .overloads) (3 * i + 2) 0)
+  overloadFine i =
+      targetFine (getD (I .overloads) (3 * i) 0) (getD (I .overloads) (3 * i + 1) 0)
+      && placed (getD (I .overloads) (3 * i + 2) 0)
 
   abbrev pub runFine : ℕ → (ℕ → Bool) → Run → Bool
   runFine n fine run = leb (run .start + run .count) n && allBelow (run .count) (λ j. fine (run .start + j))
@@ -93,13 +96,18 @@ module _ (I : Call) where
   abbrev pub constraintFine : ℕ → Constraint → Bool
   constraintFine b (Sub l r) = placed (l .0) && placed (r .0)
   constraintFine b (Lit p kind) = placed (p .0) && leb b 1
-  constraintFine b (Disjunction x p run) = ltb (x .0) (I .rows .exprs) && placed (p .0) && runFine (I .rows .overloads) overloadFine run
-  constraintFine b (Comprehension body node element) = placed (body .0) && placed (node .0) && listed (element .0)
-  constraintFine b (Join run t) = placed (t .0) && runFine (I .rows .sources) (λ j. placed (getD (I .sources) j 0)) run
+  constraintFine b (Disjunction x p run) =
+      ltb (x .0) (I .rows .exprs) && placed (p .0) && runFine (I .rows .overloads) overloadFine run
+  constraintFine b (Comprehension body node element) =
+      placed (body .0) && placed (node .0) && listed (element .0)
+  constraintFine b (Join run t) =
+      placed (t .0) && runFine (I .rows .sources) (λ j. placed (getD (I .sources) j 0)) run
 
   unfoldable pub constraintsFine : Bool
   constraintsFine =
-      allBelow (I .rows .constraints) (λ i. leb (getD (I .constraints) (5 * i) 0) 4 && constraintFine (getD (I .constraints) (5 * i + 2) 0) (constraintAt (I .constraints) i))
+      allBelow (I .rows .constraints)
+      (λ i. leb (getD (I .constraints) (5 * i) 0) 4
+      && constraintFine (getD (I .constraints) (5 * i + 2) 0) (constraintAt (I .constraints) i))
 
   abbrev pub given : List Constraint
   given = rowsFrom (constraintAt (I .constraints)) 0 (I .rows .constraints)
@@ -167,7 +175,8 @@ unfoldable pub solveChecks : Call → List Check
 solveChecks I =
     record { code = 1; passes = allWithinLent I }
     ∷ sortRowChecks (I .sorts) (I .lengths .sorts) (I .lengths .entries)
-    ++ nodeChecks (I .nodes) (I .lengths .nodes) (I .lengths .arguments) (I .lengths .sorts) (I .binds) (I .lengths .variables)
+    ++ nodeChecks (I .nodes) (I .lengths .nodes) (I .lengths .arguments) (I .lengths .sorts) (I .binds)
+    (I .lengths .variables)
     ++ record { code = 8; passes = exprsFine I && namesFine I }
     ∷ record { code = 9; passes = constraintsFine I }
     ∷ record { code = 10; passes = noTwo (disjunctions (given I)) && noTwo (keys I) }

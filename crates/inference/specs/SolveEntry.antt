@@ -46,7 +46,8 @@ lentOf I = record { sorts = I .sorts; nodes = I .nodes; lengths = I .lengths }
 
 -- with Met and meet for what is kept of the leaves
 abbrev pub searched : (Met : Type 0) → (Components → Met → Met) → Met → Call → Out Met
-searched Met meet m I = solve Met meet (problemOf I) (given I) (start I) (record { lent = lentOf I; best = none; met = m })
+searched Met meet m I =
+    solve Met meet (problemOf I) (given I) (start I) (record { lent = lentOf I; best = none; met = m })
 
 -- What a call leaves: its answer, and all lent memory.
 pub record Left : Type 0 where
@@ -81,12 +82,23 @@ leftWith I r ws ts ms cs =
 
 -- "1 to 14 .. change no lent memory"
 abbrev pub refused : Call → ℕ → Left
-refused I c = record { answer = Refused c; sorts = I .sorts; nodes = I .nodes; binds = I .binds; scratch = I .scratch; typing = I .typing; measure = I .measure; choices = I .choices }
+refused I c =
+    record {
+      answer = Refused c;
+      sorts = I .sorts;
+      nodes = I .nodes;
+      binds = I .binds;
+      scratch = I .scratch;
+      typing = I .typing;
+      measure = I .measure;
+      choices = I .choices;
+    }
 
 -- the rows of expressions: sort, kind of name, sort of name
 unfoldable pub typingRows : Problem → List BaseName → List Choice → ℕ → List ℕ → List ℕ
 typingRows P bs cs x [] = []
-typingRows P bs cs x (s ∷ ss) = s ∷ nameKind (nameOf P bs cs x) ∷ nameSort (nameOf P bs cs x) ∷ typingRows P bs cs (x + 1) ss
+typingRows P bs cs x (s ∷ ss) =
+    s ∷ nameKind (nameOf P bs cs x) ∷ nameSort (nameOf P bs cs x) ∷ typingRows P bs cs (x + 1) ss
 
 -- the rows of choices: expression and position, in the order of the constraints
 unfoldable pub choiceRows : List Choice → List ℕ
@@ -102,8 +114,11 @@ countsIn W = record { sorts = W .lengths .sorts; entries = W .lengths .entries }
 
 abbrev pub typed : Call → Lent → Candidate → Left
 typed I W c =
-    leftWith I (Typing (record { counts = countsIn W; components = length (c .measure); choices = length (c .choices) })) (W .sorts)
-    (over (typingRows (problemOf I) (baseNamesOf I) (c .choices) 0 (c .sorts)) (I .typing)) (over (c .measure) (I .measure)) (over (choiceRows (c .choices)) (I .choices))
+    leftWith I
+    (Typing (record { counts = countsIn W; components = length (c .measure); choices = length (c .choices) }))
+    (W .sorts)
+    (over (typingRows (problemOf I) (baseNamesOf I) (c .choices) 0 (c .sorts)) (I .typing))
+    (over (c .measure) (I .measure)) (over (choiceRows (c .choices)) (I .choices))
 
 abbrev pub judgedBy : Call → Lent → Candidate → Bool → Left
 judgedBy I W c true = leftWith I (Ambiguous (countsIn W)) (W .sorts) (I .typing) (I .measure) (I .choices)
@@ -118,13 +133,16 @@ judged I W (some c) = judgedBy I W c (c .duplicate)
 abbrev pub verdict : {Met : Type 0} → Call → Out Met → Left
 verdict I (found w) = judged I (w .lent) (w .best)
 verdict I (missed w) = judged I (w .lent) (w .best)
-verdict I (ended c W) = leftWith I (NoRoom c) (givenBack (I .lengths .sorts) (I .lengths .entries) (I .sorts)) (I .typing) (I .measure) (I .choices)
+verdict I (ended c W) =
+    leftWith I (NoRoom c) (givenBack (I .lengths .sorts) (I .lengths .entries) (I .sorts)) (I .typing)
+    (I .measure) (I .choices)
 
 abbrev pub nothingMet : Components → Unit {0} → Unit {0}
 nothingMet m u = tt
 
 unfoldable pub solveEntry : Call → Left
-solveEntry I = orElse (firstFailing (solveChecks I)) (refused I) (verdict I (searched (Unit {0}) nothingMet tt I))
+solveEntry I =
+    orElse (firstFailing (solveChecks I)) (refused I) (verdict I (searched (Unit {0}) nothingMet tt I))
 
 -- document 01's number of each answer
 unfoldable pub codeSolved : Solved → ℕ

@@ -69,26 +69,36 @@ pub record Into (shape : ℕ → Shape) (σ : Assignment) (t : Tree) (p : ℕ) :
 -- A constraint is met under the assignment σ; look gives the sort of a number of the sort list.
 module _ (shape : ℕ → Shape) (look : ℕ → Tree) (P : Problem) (choices : List Choice) (σ : Assignment) where
   pub data Meets : Constraint → Type 0 where
-    meets-sub : (l r : InferSortId) (t : Tree) → Has shape σ (r .0) t → Into shape σ t (l .0) → Meets (Sub l r)
-    meets-lit : (p : InferSortId) (kind : LitKind) (s : Sort) → Has shape σ (p .0) (flat (primitive s)) → admits kind s ≡ true → Meets (Lit p kind)
-    meets-disjunction : (x : ExprId) (p : InferSortId) (run : Run) (i : ℕ) (t : Tree) → In (record { expr = x .0; position = i }) choices → i < run .count
-        → Has shape σ (p .0) t → Has shape σ (overloadIn (P .overloads) run i .sort .0) t → Meets (Disjunction x p run)
-    meets-comprehension : (body node : InferSortId) (element : SortId) (s t : Tree) → Has shape σ (body .0) s → Has shape σ (node .0) t → Read (look (element .0)) s t
+    meets-sub : (l r : InferSortId) (t : Tree) → Has shape σ (r .0) t → Into shape σ t (l .0)
+        → Meets (Sub l r)
+    meets-lit : (p : InferSortId) (kind : LitKind) (s : Sort) → Has shape σ (p .0) (flat (primitive s))
+        → admits kind s ≡ true → Meets (Lit p kind)
+    meets-disjunction : (x : ExprId) (p : InferSortId) (run : Run) (i : ℕ) (t : Tree)
+        → In (record { expr = x .0; position = i }) choices → i < run .count
+        → Has shape σ (p .0) t
+        → Has shape σ (overloadIn (P .overloads) run i .sort .0) t
+        → Meets (Disjunction x p run)
+    meets-comprehension : (body node : InferSortId) (element : SortId) (s t : Tree) → Has shape σ (body .0) s
+        → Has shape σ (node .0) t → Read (look (element .0)) s t
         → Meets (Comprehension body node element)
-    meets-join : (run : Run) (t : InferSortId) (u : Tree) → Has shape σ (t .0) u → All (Into shape σ u) (take (run .count) (drop (run .start) (P .sources))) → Meets (Join run t)
+    meets-join : (run : Run) (t : InferSortId) (u : Tree) → Has shape σ (t .0) u
+        → All (Into shape σ u) (take (run .count) (drop (run .start) (P .sources))) → Meets (Join run t)
 
 -- Every sort handed out is that of its expression's place.
 pub data Typed (shape : ℕ → Shape) (look : ℕ → Tree) (σ : Assignment) : List ℕ → List ℕ → Type 0 where
   all-typed : Typed shape look σ [] []
-  and-typed : (p s : ℕ) (ps ss : List ℕ) → Has shape σ p (look s) → Typed shape look σ ps ss → Typed shape look σ (p ∷ ps) (s ∷ ss)
+  and-typed : (p s : ℕ) (ps ss : List ℕ) → Has shape σ p (look s) → Typed shape look σ ps ss
+      → Typed shape look σ (p ∷ ps) (s ∷ ss)
 
 -- The claim over the whole list: one assignment, under which each given binding holds, each sort handed out is that of its expression's place, and
 -- each constraint is met; the sorts handed out are of the list of `count` sorts that is left, and the choice list names one overload for an expression.
 -- Sorts of the list given are looked up by `given`, those handed out by `left`.
-pub record HoldsTogether (shape : ℕ → Shape) (given left : ℕ → Tree) (count : ℕ) (B : Binds) (P : Problem) (sorts : List ℕ) (choices : List Choice) : Type 0 where
+pub record HoldsTogether (shape : ℕ → Shape) (given left : ℕ → Tree) (count : ℕ) (B : Binds) (P : Problem)
+    (sorts : List ℕ) (choices : List Choice) : Type 0 where
   pub assignment : Assignment
   pub bound : (v q : ℕ) → binding B v ≡ some q → Has shape assignment q (assignment v)
   pub typed : Typed shape left assignment (P .exprs) sorts
   pub listed : AllBelow count sorts
   pub meets : All (Meets shape given P choices assignment) (P .constraints)
-  pub once : (x i j : ℕ) → In (record { expr = x; position = i }) choices → In (record { expr = x; position = j }) choices → i ≡ j
+  pub once : (x i j : ℕ) → In (record { expr = x; position = i }) choices
+      → In (record { expr = x; position = j }) choices → i ≡ j

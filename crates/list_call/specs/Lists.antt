@@ -9,7 +9,7 @@ use Rattle.list_memory.specs.Memory.{rowsOf, defaultAt, countAt, countToldAt, l
 use Rattle.words.specs.Words.{part}
 use Rattle.inference.specs.SolveChecks.{Call}
 use Rattle.solve_checks.specs.declared.Given.{Given}
-use Rattle.solve_outputs.specs.Begin.{callWith}
+use Rattle.solve_checks.specs.Call.{callOf}
 
 -- rows given of list k: 0 sorts, 1 entries, 2 nodes, 3 node entries, 4 variables, 5 expressions, 6 base names, 7 constraints, 8 overloads, 9 sources
 abbrev pub rowsGiven : List ℕ → ℕ → ℕ
@@ -88,7 +88,7 @@ module _ (ws : List ℕ) where
 
   -- the call with these counts and the slices that it may change, and the call as the list tells it
   abbrev pub callBy : Given → (sorts nodes binds scratch typing measure choices : List ℕ) → Call
-  callBy g ss ns bs xs ts ms cs = callWith g ss ns bs exprsIn namesIn constraintsIn overloadsIn sourcesIn xs ts ms cs
+  callBy g ss ns bs xs ts ms cs = callOf g ss ns bs exprsIn namesIn constraintsIn overloadsIn sourcesIn xs ts ms cs
 
   abbrev pub callOn : (sorts typing measure choices : List ℕ) → Call
   callOn ss ts ms cs = callBy givenIn ss nodesIn bindsIn scratchIn ts ms cs

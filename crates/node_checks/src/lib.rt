@@ -220,7 +220,11 @@ fn arguments_settled(nodes: &[u16], flags: &[bool], start: u16, count: u16) -> b
 
 // Whether a node is settled, by the variables and the nodes below it.
 fn node_settled(nodes: &[u16], vars: &[bool], flags: &[bool], id: NodeId) -> bool
-    ensures { λ r. ⌜ r ≡ shapeSettled (now (vars .entry)) (now (flags .entry)) (nodeShape (now (nodes .entry)) (nodeAt (now (nodes .entry)) (id .0))) ⌝ }
+    ensures { λ r. ⌜
+        r
+        ≡ shapeSettled (now (vars .entry)) (now (flags .entry))
+        (nodeShape (now (nodes .entry)) (nodeAt (now (nodes .entry)) (id .0)))
+        ⌝ }
 {
     match node(nodes, id) {
         InferSort::Generic { op: _, subsort } => place_settled(flags, subsort.0),
@@ -259,7 +263,9 @@ fn binding_settled(flags: &[bool], w: u16) -> bool
 // The variables, by the nodes.
 fn settle_vars(binds: &[u16], v: usize, flags: &[bool], vars: &mut [bool])
     requires { ⌜ v ≤ length (now vars) ⌝ }
-    ensures { λ _. ⌜ take v (now (vars .exit)) ≡ varsSettled (now (flags .entry)) (bindsOf (now (binds .entry)) v) ⌝ }
+    ensures { λ _. ⌜
+        take v (now (vars .exit)) ≡ varsSettled (now (flags .entry)) (bindsOf (now (binds .entry)) v)
+        ⌝ }
 {
     let mut x: usize = 0;
     while x < v {
@@ -312,7 +318,11 @@ pub fn test_nodes(
     var_count: usize,
 ) -> Tested
     requires { ⌜ («node_count» ≤ maxNodes) × («var_count» ≤ maxVars) ⌝ }
-    ensures { λ r. ⌜ r ≡ testedOf (firstFailing (nodeChecks (now (nodes .entry)) «node_count» «node_entry_count» «sort_count» (now (binds .entry)) «var_count»)) ⌝ }
+    ensures { λ r. ⌜
+        r
+        ≡ testedOf (firstFailing (nodeChecks (now (nodes .entry)) «node_count» «node_entry_count» «sort_count»
+        (now (binds .entry)) «var_count»))
+        ⌝ }
 {
     if !nodes_fine(nodes, node_count, node_entry_count, sort_count, var_count) {
         return Tested::Refused(5);

@@ -30,7 +30,8 @@ turned h o = record { lines = h; output = o }
 -- a byte of the input
 unfoldable pub takeByte : Lines → ℕ → Turned
 takeByte (first l) b = cond (eqb b 10) (turned (second l []) []) (turned (first (holding l b)) [])
-takeByte (second l m) b = cond (eqb b 10) (turned (first []) (withLf (pair l m))) (turned (second l (holding m b)) [])
+takeByte (second l m) b =
+    cond (eqb b 10) (turned (first []) (withLf (pair l m))) (turned (second l (holding m b)) [])
 
 -- bytes one after another
 abbrev pub onward : List ℕ → Turned → Turned

@@ -34,21 +34,25 @@ pub record Holding (memory : List ℕ) (start count byte : ℕ) (left : List ℕ
   pub few : next ≤ mostHeld
 
 -- what a turn of the program leaves: the lines, and what is printed, put into the buffer from `at` on
-pub record Turns (t : Turned) (out : List ℕ) (at : ℕ) (memory : List ℕ) (held : Held) (left : List ℕ) (next : ℕ) : Type 0 where
+pub record Turns (t : Turned) (out : List ℕ) (at : ℕ) (memory : List ℕ) (held : Held) (left : List ℕ)
+    (next : ℕ) : Type 0 where
   pub holds : Holds memory held
   pub lines : linesOf memory held ≡ t .lines
   pub put : Put out at (t .output) left next
 
 -- Bytes are taken up to the end, or as long as the buffer has room for a line of output: `goes` before each byte taken, and `stops` only
 -- where it has not.
-pub record Feeds (memory : List ℕ) (held : Held) (bytes out : List ℕ) (left-memory : List ℕ) (left-held : Held) (left : List ℕ) (used at : ℕ) : Type 0 where
+pub record Feeds (memory : List ℕ) (held : Held) (bytes out : List ℕ) (left-memory : List ℕ)
+    (left-held : Held) (left : List ℕ) (used at : ℕ) : Type 0 where
   pub turns : Turns (takeBytes (linesOf memory held) (take used bytes)) out 0 left-memory left-held left at
   pub within : used ≤ length bytes
   pub fits : at ≤ length out
-  pub goes : (k : ℕ) → k < used → length (takeBytes (linesOf memory held) (take k bytes) .output) + lineRoom ≤ length out
+  pub goes : (k : ℕ) → k < used
+      → length (takeBytes (linesOf memory held) (take k bytes) .output) + lineRoom ≤ length out
   pub stops : used < length bytes → length out < at + lineRoom
 
 -- All bytes are taken, unless the program ends before.
-pub record Taken (memory : List ℕ) (held : Held) (bytes : List ℕ) (left-memory : List ℕ) (left-held : Held) (more : Bool) : Type 0 where
+pub record Taken (memory : List ℕ) (held : Held) (bytes : List ℕ) (left-memory : List ℕ) (left-held : Held)
+    (more : Bool) : Type 0 where
   pub holds : Holds left-memory left-held
   pub lines : more ≡ true → linesOf left-memory left-held ≡ takeBytes (linesOf memory held) bytes .lines

@@ -45,7 +45,11 @@ fn hold(memory: &mut [u8], start: usize, count: usize, byte: u8) -> usize
 // The line of output of the pair that is held.
 fn put_held(memory: &[u8], first: usize, second: usize, out: &mut [u8], at: usize) -> usize
     requires { ⌜ (first + second ≤ length (now memory)) × (at + lineRoom ≤ length (now out)) ⌝ }
-    ensures { λ r. ⌜ Put (now (out .entry)) at (withLf (pairOf (lineAt (now (memory .entry)) 0 first) (lineAt (now (memory .entry)) first second))) (now (out .exit)) r ⌝ }
+    ensures { λ r. ⌜
+        Put (now (out .entry)) at
+        (withLf (pairOf (lineAt (now (memory .entry)) 0 first) (lineAt (now (memory .entry)) first second)))
+        (now (out .exit)) r
+        ⌝ }
 {
     put_pair(&memory[..first], &memory[first..first + second], out, at)
 }
@@ -53,7 +57,10 @@ fn put_held(memory: &[u8], first: usize, second: usize, out: &mut [u8], at: usiz
 // A byte of the input.
 fn take_byte(memory: &mut [u8], held: Held, byte: u8, out: &mut [u8], at: usize) -> Turn
     requires { ⌜ Holds (now memory) held × (at + lineRoom ≤ length (now out)) ⌝ }
-    ensures { λ r. ⌜ Turns (takeByte (linesOf (now (memory .entry)) held) byte) (now (out .entry)) at (now (memory .exit)) (r .held) (now (out .exit)) (r .at) ⌝ }
+    ensures { λ r. ⌜
+        Turns (takeByte (linesOf (now (memory .entry)) held) byte) (now (out .entry)) at
+        (now (memory .exit)) (r .held) (now (out .exit)) (r .at)
+        ⌝ }
 {
     match held {
         Held::First(first) => {
@@ -89,7 +96,10 @@ fn take_byte(memory: &mut [u8], held: Held, byte: u8, out: &mut [u8], at: usize)
 // Bytes of the input, as many as the buffer has room for the output of. A buffer of 816 bytes takes at least one.
 pub fn feed(memory: &mut [u8], held: Held, bytes: &[u8], out: &mut [u8]) -> Fed
     requires { ⌜ Holds (now memory) held ⌝ }
-    ensures { λ r. ⌜ Feeds (now (memory .entry)) held (now (bytes .entry)) (now (out .entry)) (now (memory .exit)) (r .held) (now (out .exit)) (r .used) (r .at) ⌝ }
+    ensures { λ r. ⌜
+        Feeds (now (memory .entry)) held (now (bytes .entry)) (now (out .entry))
+        (now (memory .exit)) (r .held) (now (out .exit)) (r .used) (r .at)
+        ⌝ }
 {
     let mut current = held;
     let mut used = 0;
@@ -117,7 +127,9 @@ pub fn feed(memory: &mut [u8], held: Held, bytes: &[u8], out: &mut [u8]) -> Fed
 // The end of the input: the line of output for what is still held, and its length. A last nonempty line needs no LF.
 pub fn finish(memory: &[u8], held: Held, out: &mut [u8]) -> usize
     requires { ⌜ Holds (now memory) held × (lineRoom ≤ length (now out)) ⌝ }
-    ensures { λ r. ⌜ Put (now (out .entry)) 0 (atEnd (linesOf (now (memory .entry)) held)) (now (out .exit)) r ⌝ }
+    ensures { λ r. ⌜
+        Put (now (out .entry)) 0 (atEnd (linesOf (now (memory .entry)) held)) (now (out .exit)) r
+        ⌝ }
 {
     match held {
         Held::First(first) => {

@@ -22,7 +22,9 @@ abbrev pub withLf : List ℕ → List ℕ
 withLf bs = bs ++ (10 ∷ [])
 
 unfoldable pub lineLeft : List ℕ → List ℕ → WriteLeft
-lineLeft bs out = cond (leb lineRoom (length out)) (writeLeft (bs ++ drop (length bs) out) (Text (length bs))) (writeLeft out (Refused 14))
+lineLeft bs out =
+    cond (leb lineRoom (length out)) (writeLeft (bs ++ drop (length bs) out) (Text (length bs)))
+    (writeLeft out (Refused 14))
 
 -- a pair, and a line alone at the end of the input
 abbrev pub pairLeft : List ℕ → List ℕ → List ℕ → WriteLeft

@@ -26,7 +26,8 @@ lines (b ∷ bs) = cond (eqb b 10) ([] ∷ lines bs) (onto b (lines bs))
 unfoldable pub decimal : ℕ → List ℕ
 decimal n =
     cond (ltb n 10) ((48 + n) ∷ [])
-    (cond (ltb n 100) ((48 + n / 10) ∷ (48 + n % 10) ∷ []) ((48 + n / 100) ∷ (48 + n / 10 % 10) ∷ (48 + n % 10) ∷ []))
+    (cond (ltb n 100) ((48 + n / 10) ∷ (48 + n % 10) ∷ [])
+    ((48 + n / 100) ∷ (48 + n / 10 % 10) ∷ (48 + n % 10) ∷ []))
 
 -- "order (`=`, `<`, `>`, `|`)"
 abbrev pub sign : PartialOrder → ℕ

@@ -101,7 +101,14 @@ fn put_bound(
     at: usize,
 ) -> Place
     requires { ⌜ BoundRoom up (now sorts) (counts .sorts) (counts .entries) (lhs .0) (rhs .0) (now out) at ⌝ }
-    ensures { λ r. ⌜ Put (now (out .entry)) at (sortOrNone (boundOf up (treeAt (now (sorts .entry)) (counts .sorts) (lhs .0)) (treeAt (now (sorts .entry)) (counts .sorts) (rhs .0))) ++ comma []) (now (out .exit)) (r .at) × Grows (now (sorts .entry)) (counts .sorts) (counts .entries) (now (sorts .exit)) (r .counts .sorts) (r .counts .entries) ⌝ }
+    ensures { λ r. ⌜
+        Put (now (out .entry)) at
+        (sortOrNone (boundOf up (treeAt (now (sorts .entry)) (counts .sorts) (lhs .0))
+        (treeAt (now (sorts .entry)) (counts .sorts) (rhs .0))) ++ comma [])
+        (now (out .exit)) (r .at)
+        × Grows (now (sorts .entry)) (counts .sorts) (counts .entries)
+        (now (sorts .exit)) (r .counts .sorts) (r .counts .entries)
+        ⌝ }
 {
     match bound(sorts, counts, up, lhs, rhs) {
         Joined::At(id, made) => {
@@ -161,7 +168,12 @@ fn put_answer(
     at: usize,
 ) -> usize
     requires { ⌜ BothRead (now sorts) (counts .sorts) (counts .entries) (lhs .0) (rhs .0) (now out) at ⌝ }
-    ensures { λ r. ⌜ Put (now (out .entry)) at (withLf (answer (treeAt (now (sorts .entry)) (counts .sorts) (lhs .0)) (treeAt (now (sorts .entry)) (counts .sorts) (rhs .0)))) (now (out .exit)) r ⌝ }
+    ensures { λ r. ⌜
+        Put (now (out .entry)) at
+        (withLf (answer (treeAt (now (sorts .entry)) (counts .sorts) (lhs .0))
+        (treeAt (now (sorts .entry)) (counts .sorts) (rhs .0))))
+        (now (out .exit)) r
+        ⌝ }
 {
     let order = partial_cmp(sorts, counts, lhs, rhs);
     let join_at = put_order(order, out, at);
@@ -176,7 +188,9 @@ fn put_answer(
 // The line of a line that is no sort: 20, and its unread end.
 fn put_unread(line: &[u8], from: usize, out: &mut [u8], at: usize) -> usize
     requires { ⌜ (length (now line) ≤ 200) × (at + lineRoom ≤ length (now out)) ⌝ }
-    ensures { λ r. ⌜ Put (now (out .entry)) at (withLf (50 ∷ 48 ∷ 58 ∷ drop from (now (line .entry)))) (now (out .exit)) r ⌝ }
+    ensures { λ r. ⌜
+        Put (now (out .entry)) at (withLf (50 ∷ 48 ∷ 58 ∷ drop from (now (line .entry)))) (now (out .exit)) r
+        ⌝ }
 {
     let colon = put_bytes(b"20:", out, at);
     let end = put_bytes(unread(line, from), out, colon);
@@ -193,7 +207,12 @@ fn put_second(
     at: usize,
 ) -> usize
     requires { ⌜ FirstRead (now sorts) (counts .sorts) (counts .entries) (lhs .0) (now out) at ⌝ }
-    ensures { λ r. ⌜ Put (now (out .entry)) at (withLf (withSecond (treeAt (now (sorts .entry)) (counts .sorts) (lhs .0)) (lineOf (now (second .entry))))) (now (out .exit)) r ⌝ }
+    ensures { λ r. ⌜
+        Put (now (out .entry)) at
+        (withLf
+        (withSecond (treeAt (now (sorts .entry)) (counts .sorts) (lhs .0)) (lineOf (now (second .entry)))))
+        (now (out .exit)) r
+        ⌝ }
 {
     if 200 < second.len() {
         return put_bytes(b"19\n", out, at);
@@ -215,7 +234,10 @@ fn put_second(
 // The line of a pair, in a storage that has the fixed six sorts alone.
 fn put_first(sorts: &mut [u16], first: &[u8], second: &[u8], out: &mut [u8], at: usize) -> usize
     requires { ⌜ Begun (now sorts) 6 0 0 × (at + lineRoom ≤ length (now out)) ⌝ }
-    ensures { λ r. ⌜ Put (now (out .entry)) at (withLf (pairOf (now (first .entry)) (now (second .entry)))) (now (out .exit)) r ⌝ }
+    ensures { λ r. ⌜
+        Put (now (out .entry)) at (withLf (pairOf (now (first .entry)) (now (second .entry))))
+        (now (out .exit)) r
+        ⌝ }
 {
     if 200 < first.len() {
         return put_bytes(b"19\n", out, at);
@@ -232,7 +254,10 @@ fn put_first(sorts: &mut [u16], first: &[u8], second: &[u8], out: &mut [u8], at:
 // The line of a pair, with its LF, from a place on where a line of output has room; the place behind it.
 pub fn put_pair(first: &[u8], second: &[u8], out: &mut [u8], at: usize) -> usize
     requires { ⌜ at + lineRoom ≤ length (now out) ⌝ }
-    ensures { λ r. ⌜ Put (now (out .entry)) at (withLf (pairOf (now (first .entry)) (now (second .entry)))) (now (out .exit)) r ⌝ }
+    ensures { λ r. ⌜
+        Put (now (out .entry)) at (withLf (pairOf (now (first .entry)) (now (second .entry))))
+        (now (out .exit)) r
+        ⌝ }
 {
     let mut sorts = [0u16; SORT_WORDS];
     six(&mut sorts);
@@ -242,7 +267,9 @@ pub fn put_pair(first: &[u8], second: &[u8], out: &mut [u8], at: usize) -> usize
 // The line of a line alone at the end of the input, likewise: 21, or what is wrong with the line.
 pub fn put_single(line: &[u8], out: &mut [u8], at: usize) -> usize
     requires { ⌜ at + lineRoom ≤ length (now out) ⌝ }
-    ensures { λ r. ⌜ Put (now (out .entry)) at (withLf (singleOf (lineOf (now (line .entry))))) (now (out .exit)) r ⌝ }
+    ensures { λ r. ⌜
+        Put (now (out .entry)) at (withLf (singleOf (lineOf (now (line .entry))))) (now (out .exit)) r
+        ⌝ }
 {
     if 200 < line.len() {
         return put_bytes(b"19\n", out, at);
@@ -257,7 +284,9 @@ pub fn put_single(line: &[u8], out: &mut [u8], at: usize) -> usize
 // The line of output of a pair, with its LF, at the front of the buffer.
 // Ruled out: the join where the meet belongs; an unread end that starts a token late.
 pub fn pair(first: &[u8], second: &[u8], out: &mut [u8]) -> Written
-    ensures { λ r. ⌜ writeLeft (now (out .exit)) r ≡ pairLeft (now (first .entry)) (now (second .entry)) (now (out .entry)) ⌝ }
+    ensures { λ r. ⌜
+        writeLeft (now (out .exit)) r ≡ pairLeft (now (first .entry)) (now (second .entry)) (now (out .entry))
+        ⌝ }
 {
     if out.len() < 816 {
         return Written::Refused(14);

@@ -25,7 +25,9 @@ struct State {
 // Bytes that were read: the output for them is written each time that the buffer is full.
 fn take_bytes(memory: &mut [u8], held: Held, bytes: &[u8], out: &mut [u8]) -> State
     requires { ⌜ Holds (now memory) held × (lineRoom ≤ length (now out)) ⌝ }
-    ensures { λ r. ⌜ Taken (now (memory .entry)) held (now (bytes .entry)) (now (memory .exit)) (r .held) (r .more) ⌝ }
+    ensures { λ r. ⌜
+        Taken (now (memory .entry)) held (now (bytes .entry)) (now (memory .exit)) (r .held) (r .more)
+        ⌝ }
 {
     let mut current = held;
     let mut from = 0;

@@ -29,7 +29,11 @@ pub fn pack(
     sizes: Sizes,
 )
     requires { ⌜ Packable (now lists) (now exprs) (now constraints) (now overloads) (now sources) sizes ⌝ }
-    ensures { λ _. ⌜ problemIn (now (lists .exit)) sizes ≡ problemFrom (now (exprs .entry)) (now (constraints .entry)) (now (overloads .entry)) (now (sources .entry)) sizes ⌝ }
+    ensures { λ _. ⌜
+        problemIn (now (lists .exit)) sizes
+        ≡ problemFrom
+        (now (exprs .entry)) (now (constraints .entry)) (now (overloads .entry)) (now (sources .entry)) sizes
+        ⌝ }
 {
     copy(lists, 0, constraints, 0, 5 * (sizes.constraints as usize));
     copy(

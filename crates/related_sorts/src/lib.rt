@@ -123,7 +123,10 @@ fn push(
     count: u16,
 ) -> Pushed
     requires { ⌜ count ≤ 16 ⌝ }
-    ensures { λ r. ⌜ pushed (now (sorts .entry)) (now (nodes .exit)) lengths r ≡ pushNode (row kind part (take count ids)) (lent (now (sorts .entry)) (now (nodes .entry)) lengths) ⌝ }
+    ensures { λ r. ⌜
+        pushed (now (sorts .entry)) (now (nodes .exit)) lengths r
+        ≡ pushNode (row kind part (take count ids)) (lent (now (sorts .entry)) (now (nodes .entry)) lengths)
+        ⌝ }
 {
     let n = lengths.nodes;
     let e = lengths.arguments;
@@ -156,7 +159,10 @@ fn arguments(
     count: u16,
 ) -> [u16; 16]
     requires { ⌜ IsFunction (now sorts) (now nodes) lengths (id .0) count ⌝ }
-    ensures { λ r. ⌜ take count r ≡ take count (partsOf (graphOf (now (sorts .entry)) (now (nodes .entry)) lengths (id .0))) ⌝ }
+    ensures { λ r. ⌜
+        take count r
+        ≡ take count (partsOf (graphOf (now (sorts .entry)) (now (nodes .entry)) lengths (id .0)))
+        ⌝ }
 {
     let mut ids = [0u16; 16];
     let mut i: u16 = 0;
@@ -180,7 +186,12 @@ fn push_functions(
     count: u16,
 ) -> Related
     requires { ⌜ (count ≤ 16) × (i ≤ n) × (n ≤ 3) ⌝ }
-    ensures { λ r. ⌜ Relates (now (sorts .entry)) (now (nodes .exit)) r (pushFunctions (take count domain) (drop i (take n targets)) (lent (now (sorts .entry)) (now (nodes .entry)) lengths) and-then (λ ps W. made (take i ids ++ ps) W)) ⌝ }
+    ensures { λ r. ⌜
+        Relates (now (sorts .entry)) (now (nodes .exit)) r
+        (pushFunctions (take count domain) (drop i (take n targets))
+        (lent (now (sorts .entry)) (now (nodes .entry)) lengths)
+        and-then (λ ps W. made (take i ids ++ ps) W))
+        ⌝ }
 {
     if i == n {
         return Related {
@@ -218,7 +229,10 @@ fn over_ranges(
     count: u16,
 ) -> Related
     requires { ⌜ Ranges found × (count ≤ 16) ⌝ }
-    ensures { λ r. ⌜ Relates (now (sorts .entry)) (now (nodes .exit)) r (related (now (sorts .entry)) (now (nodes .entry)) found and-then pushFunctions (take count domain)) ⌝ }
+    ensures { λ r. ⌜
+        Relates (now (sorts .entry)) (now (nodes .exit)) r
+        (related (now (sorts .entry)) (now (nodes .entry)) found and-then pushFunctions (take count domain))
+        ⌝ }
 {
     let ids = found.ids;
     let listed = found.listed;
@@ -277,7 +291,11 @@ fn related_generic(
     up: bool,
 ) -> Related
     requires { ⌜ Checked (now sorts) (lengths .sorts) (lengths .entries) × (subsort .0 < lengths .sorts) ⌝ }
-    ensures { λ r. ⌜ Relates (now (sorts .exit)) (now (nodes .entry)) r (relatedOver (relatedContainer up op) true (subsort .0) (lent (now (sorts .entry)) (now (nodes .entry)) lengths)) ⌝ }
+    ensures { λ r. ⌜
+        Relates (now (sorts .exit)) (now (nodes .entry)) r
+        (relatedOver (relatedContainer up op) true (subsort .0)
+        (lent (now (sorts .entry)) (now (nodes .entry)) lengths))
+        ⌝ }
 {
     match related_container(op, up) {
         OpBound::Is(related_op) => {
@@ -306,7 +324,11 @@ fn push_generic(
     subsort: InferSortId,
     up: bool,
 ) -> Related
-    ensures { λ r. ⌜ Relates (now (sorts .entry)) (now (nodes .exit)) r (relatedOver (relatedContainer up op) false (subsort .0) (lent (now (sorts .entry)) (now (nodes .entry)) lengths)) ⌝ }
+    ensures { λ r. ⌜
+        Relates (now (sorts .entry)) (now (nodes .exit)) r
+        (relatedOver (relatedContainer up op) false (subsort .0)
+        (lent (now (sorts .entry)) (now (nodes .entry)) lengths))
+        ⌝ }
 {
     match related_container(op, up) {
         OpBound::Is(related_op) => {
@@ -340,7 +362,11 @@ pub fn strict_super_sorts(
     id: InferSortId,
 ) -> Related
     requires { ⌜ Ready (now sorts) (now nodes) (now binds) lengths × Placed lengths (id .0) ⌝ }
-    ensures { λ r. ⌜ Relates (now (sorts .exit)) (now (nodes .exit)) r (strictRelated true (bindsOf (now (binds .entry)) (lengths .variables)) (id .0) (lent (now (sorts .entry)) (now (nodes .entry)) lengths)) ⌝ }
+    ensures { λ r. ⌜
+        Relates (now (sorts .exit)) (now (nodes .exit)) r
+        (strictRelated true (bindsOf (now (binds .entry)) (lengths .variables)) (id .0)
+        (lent (now (sorts .entry)) (now (nodes .entry)) lengths))
+        ⌝ }
 {
     strict_related_sorts(sorts, nodes, binds, lengths, id, true)
 }
@@ -354,7 +380,11 @@ pub fn strict_sub_sorts(
     id: InferSortId,
 ) -> Related
     requires { ⌜ Ready (now sorts) (now nodes) (now binds) lengths × Placed lengths (id .0) ⌝ }
-    ensures { λ r. ⌜ Relates (now (sorts .exit)) (now (nodes .exit)) r (strictRelated false (bindsOf (now (binds .entry)) (lengths .variables)) (id .0) (lent (now (sorts .entry)) (now (nodes .entry)) lengths)) ⌝ }
+    ensures { λ r. ⌜
+        Relates (now (sorts .exit)) (now (nodes .exit)) r
+        (strictRelated false (bindsOf (now (binds .entry)) (lengths .variables)) (id .0)
+        (lent (now (sorts .entry)) (now (nodes .entry)) lengths))
+        ⌝ }
 {
     strict_related_sorts(sorts, nodes, binds, lengths, id, false)
 }
@@ -368,7 +398,11 @@ fn strict_related_sorts(
     up: bool,
 ) -> Related
     requires { ⌜ Ready (now sorts) (now nodes) (now binds) lengths × Placed lengths (id .0) ⌝ }
-    ensures { λ r. ⌜ Relates (now (sorts .exit)) (now (nodes .exit)) r (strictRelated up (bindsOf (now (binds .entry)) (lengths .variables)) (id .0) (lent (now (sorts .entry)) (now (nodes .entry)) lengths)) ⌝ }
+    ensures { λ r. ⌜
+        Relates (now (sorts .exit)) (now (nodes .exit)) r
+        (strictRelated up (bindsOf (now (binds .entry)) (lengths .variables)) (id .0)
+        (lent (now (sorts .entry)) (now (nodes .entry)) lengths))
+        ⌝ }
 {
     let end = shallow_normalize(sorts, nodes, binds, lengths, id);
     if end.0 < FIRST_NODE {
@@ -396,8 +430,14 @@ fn related_sort(
     id: InferSortId,
     up: bool,
 ) -> Related
-    requires { ⌜ Ready (now sorts) (now nodes) (now binds) lengths × Placed lengths (id .0) × (id .0 < maxSorts) ⌝ }
-    ensures { λ r. ⌜ Relates (now (sorts .exit)) (now (nodes .exit)) r (strictRelated up (bindsOf (now (binds .entry)) (lengths .variables)) (id .0) (lent (now (sorts .entry)) (now (nodes .entry)) lengths)) ⌝ }
+    requires { ⌜
+        Ready (now sorts) (now nodes) (now binds) lengths × Placed lengths (id .0) × (id .0 < maxSorts)
+        ⌝ }
+    ensures { λ r. ⌜
+        Relates (now (sorts .exit)) (now (nodes .exit)) r
+        (strictRelated up (bindsOf (now (binds .entry)) (lengths .variables)) (id .0)
+        (lent (now (sorts .entry)) (now (nodes .entry)) lengths))
+        ⌝ }
 {
     match get(sorts, SortId(id.0)) {
         ResolvedSort::Unit => none(lengths),
@@ -435,8 +475,16 @@ fn related_function(
     id: InferSortId,
     up: bool,
 ) -> Related
-    requires { ⌜ Ready (now sorts) (now nodes) (now binds) lengths × Placed lengths (id .0) × FunctionAt (now sorts) (now nodes) lengths (id .0) ⌝ }
-    ensures { λ r. ⌜ Relates (now (sorts .exit)) (now (nodes .exit)) r (strictRelated up (bindsOf (now (binds .entry)) (lengths .variables)) (id .0) (lent (now (sorts .entry)) (now (nodes .entry)) lengths)) ⌝ }
+    requires { ⌜
+        Ready (now sorts) (now nodes) (now binds) lengths
+        × Placed lengths (id .0)
+        × FunctionAt (now sorts) (now nodes) lengths (id .0)
+        ⌝ }
+    ensures { λ r. ⌜
+        Relates (now (sorts .exit)) (now (nodes .exit)) r
+        (strictRelated up (bindsOf (now (binds .entry)) (lengths .variables)) (id .0)
+        (lent (now (sorts .entry)) (now (nodes .entry)) lengths))
+        ⌝ }
 {
     let count = part_count(sorts, nodes, lengths, id) - 1;
     let domain = arguments(sorts, nodes, lengths, id, count);

@@ -37,14 +37,18 @@ boundAt up ws n e a b = stored ws n e (make up (look (trees ws n) a) (look (tree
 unfoldable pub containerAt : Bool → List ℕ → ℕ → ℕ → ComplexSort → ℕ → ComplexSort → ℕ → Stored
 containerAt up ws n e o s p t =
     stored ws n e
-    (where-some (boundOp up o p) (sortsOf ws n e) (λ q. make up (look (trees ws n) s) (look (trees ws n) t) (sortsOf ws n e) then (λ v S. intern (container q v) S)))
+    (where-some (boundOp up o p) (sortsOf ws n e)
+    (λ q. make up (look (trees ws n) s) (look (trees ws n) t) (sortsOf ws n e)
+    then (λ v S. intern (container q v) S)))
 
 -- a sort of a list interned, and what that leaves
 unfoldable pub internAt : List ℕ → ℕ → ℕ → Tree → Stored
 internAt ws n e t = stored ws n e (intern t (sortsOf ws n e))
 
 abbrev pub sideOf : Bool → Sort → Sort → Side
-sideOf up l r = cond (eqb (family (primitive l)) (family (primitive r))) (cond (leLevel up (level (primitive l)) (level (primitive r))) Rhs Lhs) Neither
+sideOf up l r =
+    cond (eqb (family (primitive l)) (family (primitive r)))
+    (cond (leLevel up (level (primitive l)) (level (primitive r))) Rhs Lhs) Neither
 
 abbrev pub opBound : Option ComplexSort → OpBound
 opBound none = NoOp
@@ -70,17 +74,22 @@ argumentsFrom ws n a i = lookAll (trees ws n) (entriesOf ws (startAt ws a + i) (
 
 -- the numbers of the answers stored from the i-th of the ids on; no ids where an answer is missing
 unfoldable pub domainOf : List ℕ → ℕ → ℕ → ℕ → List ℕ → Outcome Trees → StoredDomain
-domainOf ws n e i ids (made vs S) = storedDomain (after ws n e S) (record { ids = sets ids i (numbers (S .trees) vs); found = All (countsOf S) })
-domainOf ws n e i ids (nothing S) = storedDomain (after ws n e S) (record { ids = replicate 16 0; found = Nothing (countsOf S) })
+domainOf ws n e i ids (made vs S) =
+    storedDomain (after ws n e S)
+    (record { ids = sets ids i (numbers (S .trees) vs); found = All (countsOf S) })
+domainOf ws n e i ids (nothing S) =
+    storedDomain (after ws n e S) (record { ids = replicate 16 0; found = Nothing (countsOf S) })
 domainOf ws n e i ids (full S) = storedDomain (after ws n e S) (record { ids = replicate 16 0; found = Full })
 
 -- the joins or meets of the arguments of a and b from the i-th on
 unfoldable pub boundDomain : Bool → List ℕ → ℕ → ℕ → ℕ → ℕ → ℕ → List ℕ → StoredDomain
-boundDomain up ws n e a b i ids = domainOf ws n e i ids (makes up (argumentsFrom ws n a i) (argumentsFrom ws n b i) (sortsOf ws n e))
+boundDomain up ws n e a b i ids =
+    domainOf ws n e i ids (makes up (argumentsFrom ws n a i) (argumentsFrom ws n b i) (sortsOf ws n e))
 
 -- the join or meet of two functions of a list: the arguments the other way, then the range, then the whole
 unfoldable pub functionAt : Bool → List ℕ → ℕ → ℕ → ℕ → ℕ → Stored
 functionAt up ws n e a b =
     stored ws n e
     (makes (not up) (argumentsFrom ws n a 0) (argumentsFrom ws n b 0) (sortsOf ws n e)
-    then (λ vs S. make up (look (trees ws n) (partAt ws a)) (look (trees ws n) (partAt ws b)) S then (λ v S. intern (function vs v) S)))
+    then (λ vs S. make up (look (trees ws n) (partAt ws a)) (look (trees ws n) (partAt ws b)) S
+    then (λ v S. intern (function vs v) S)))

@@ -18,7 +18,8 @@ allBelow (suc n) p = allBelow n p && p n
 
 -- 1. "A given list is above its ceiling or longer than the storage lent for it."
 unfoldable pub withinLent : List ℕ → ℕ → ℕ → Bool
-withinLent ws n e = leb n maxSorts && leb e maxEntries && leb (4 * n) (length ws) && leb e (length ws - entriesAt)
+withinLent ws n e =
+    leb n maxSorts && leb e maxEntries && leb (4 * n) (length ws) && leb e (length ws - entriesAt)
 
 -- 2. "The first six sorts are not the fixed six in order." Kinds 0 to 5 are these, and have no parts.
 unfoldable pub fixedSix : List ℕ → ℕ → Bool
@@ -30,7 +31,10 @@ partsBelow ws e i Unit = true
 partsBelow ws e i (Primitive s) = true
 partsBelow ws e i (Container op subsort) = ltb (subsort .0) i
 partsBelow ws e i (Function domain range) =
-    leb (domain .count) 16 && leb (domain .start + domain .count) e && ltb (range .0) i && allBelow (domain .count) (λ j. ltb (entryAt ws (domain .start + j)) i)
+    leb (domain .count) 16
+    && leb (domain .start + domain .count) e
+    && ltb (range .0) i
+    && allBelow (domain .count) (λ j. ltb (entryAt ws (domain .start + j)) i)
 partsBelow ws e i (Def n) = true
 partsBelow ws e i (TypeVar n) = true
 
@@ -76,4 +80,6 @@ sortChecks ws n e = record { code = 1; passes = withinLent ws n e } ∷ sortRowC
 -- the checks of an entry that asks about two sorts
 unfoldable pub pairChecks : List ℕ → ℕ → ℕ → ℕ → ℕ → List Check
 pairChecks ws n e a b =
-    sortChecks ws n e ++ (record { code = 12; passes = inList n a && inList n b } ∷ record { code = 14; passes = atCeiling ws } ∷ [])
+    sortChecks ws n e
+    ++ (record { code = 12; passes = inList n a && inList n b } ∷ record { code = 14; passes = atCeiling ws }
+    ∷ [])

@@ -60,7 +60,9 @@ orElse none refuse answer = answer
 orElse (some c) refuse answer = refuse c
 
 unfoldable pub compared : List ℕ → ℕ → ℕ → ℕ → ℕ → Compared
-compared ws n e a b = orElse (firstFailing (pairChecks ws n e a b)) NotCompared (Ordered (order (treeAt ws n a) (treeAt ws n b)))
+compared ws n e a b =
+    orElse (firstFailing (pairChecks ws n e a b)) NotCompared
+    (Ordered (order (treeAt ws n a) (treeAt ws n b)))
 
 abbrev pub wideningOf : Option Steps → Widening
 wideningOf none = NoDistance
@@ -68,10 +70,13 @@ wideningOf (some d) = Distance (d .head) (d .interior)
 
 unfoldable pub measured : List ℕ → ℕ → ℕ → ℕ → ℕ → Measured
 measured ws n e a b =
-    orElse (firstFailing (pairChecks ws n e a b)) NotMeasured (StepsOf (wideningOf (distance true (treeAt ws n a) (treeAt ws n b))))
+    orElse (firstFailing (pairChecks ws n e a b)) NotMeasured
+    (StepsOf (wideningOf (distance true (treeAt ws n a) (treeAt ws n b))))
 
 unfoldable pub materialized : List ℕ → ℕ → ℕ → ℕ → ℕ → Materialized
-materialized ws n e a b = orElse (firstFailing (pairChecks ws n e a b)) NotMaterialized (Answer (materializable (treeAt ws n a) (treeAt ws n b)))
+materialized ws n e a b =
+    orElse (firstFailing (pairChecks ws n e a b)) NotMaterialized
+    (Answer (materializable (treeAt ws n a) (treeAt ws n b)))
 
 -- the counts of a list, its ceilings given
 abbrev pub countsOf : Sorts → Counts
@@ -86,7 +91,8 @@ abbrev pub after : List ℕ → ℕ → ℕ → Sorts → List ℕ
 after ws n e S = written ws (trees ws n) e (drop n (S .trees))
 
 unfoldable pub stored : List ℕ → ℕ → ℕ → Outcome Tree → Stored
-stored ws n e (made t S) = record { words = after ws n e S; answer = At (record { 0 = number (S .trees) t }) (countsOf S) }
+stored ws n e (made t S) =
+    record { words = after ws n e S; answer = At (record { 0 = number (S .trees) t }) (countsOf S) }
 stored ws n e (nothing S) = record { words = after ws n e S; answer = Nothing (countsOf S) }
 stored ws n e (full S) = record { words = after ws n e S; answer = Full }
 
@@ -107,4 +113,5 @@ leftBy ws n e r Full = left (givenBack n e ws) NoRoom
 unfoldable pub bounded : Bool → List ℕ → ℕ → ℕ → ℕ → ℕ → Left
 bounded up ws n e a b =
     orElse (firstFailing (pairChecks ws n e a b)) (λ c. left ws (NotBounded c))
-    (let r : Stored = stored ws n e (make up (treeAt ws n a) (treeAt ws n b) (sortsOf ws n e)) in leftBy ws n e r (r .answer))
+    (let r : Stored = stored ws n e (make up (treeAt ws n a) (treeAt ws n b) (sortsOf ws n e)) in
+    leftBy ws n e r (r .answer))

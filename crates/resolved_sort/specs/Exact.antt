@@ -11,16 +11,19 @@ total d = d .head + d .interior
 
 unfoldable mutual
   pub exact : Bool → Tree → Tree → Option Steps
-  exact up (flat a) (flat b) = given (leFlat up a b) (some (record { head = apart up (level a) (level b); interior = 0 }))
+  exact up (flat a) (flat b) =
+      given (leFlat up a b) (some (record { head = apart up (level a) (level b); interior = 0 }))
   exact up (flat a) (container p t) = none
   exact up (flat a) (function ts u) = none
   exact up (container o s) (flat b) = none
   exact up (container o s) (container p t) =
-      given (leOp up o p) (map₁ (λ d. record { head = apart up (levelOp o) (levelOp p); interior = total d }) (exact up s t))
+      given (leOp up o p)
+      (map₁ (λ d. record { head = apart up (levelOp o) (levelOp p); interior = total d }) (exact up s t))
   exact up (container o s) (function ts u) = none
   exact up (function ss r) (flat b) = none
   exact up (function ss r) (container p t) = none
-  exact up (function ss r) (function ts u) = map₂ (λ n d. record { head = 0; interior = n + total d }) (exacts (not up) ss ts) (exact up r u)
+  exact up (function ss r) (function ts u) =
+      map₂ (λ n d. record { head = 0; interior = n + total d }) (exacts (not up) ss ts) (exact up r u)
 
   pub exacts : Bool → Trees → Trees → Option ℕ
   exacts up end end = some 0

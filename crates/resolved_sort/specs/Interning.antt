@@ -63,7 +63,9 @@ fits t S = ltb 0 (S .rows) && leb (need t) (S .entries)
 unfoldable pub intern : Tree → Sorts → Outcome Tree
 intern t S =
     cond (member (S .trees) t) (made t S)
-    (cond (fits t S) (made t (record { trees = S .trees ++ (t ∷ []); rows = S .rows - 1; entries = S .entries - need t })) (full S))
+    (cond (fits t S)
+    (made t (record { trees = S .trees ++ (t ∷ []); rows = S .rows - 1; entries = S .entries - need t }))
+    (full S))
 
 -- Join (up true) and meet (up false) as the Rust makes them: the sort itself where both are equal; the operator first
 -- and then the part; the arguments left to right, the other way, and then the range; then the whole is interned. Where
@@ -95,4 +97,5 @@ unfoldable mutual
   makes up end end S = made end S
   makes up end (arg t ts) S = nothing S
   makes up (arg s ss) end S = nothing S
-  makes up (arg s ss) (arg t ts) S = make up s t S then (λ v S. makes up ss ts S then (λ vs S. made (arg v vs) S))
+  makes up (arg s ss) (arg t ts) S =
+      make up s t S then (λ v S. makes up ss ts S then (λ vs S. made (arg v vs) S))

@@ -55,7 +55,8 @@ unfoldable pub boundFlat : Bool → Flat → Flat → Option Flat
 boundFlat up a b = cond (eqb (family a) (family b)) (some (cond (leLevel up (level a) (level b)) b a)) none
 
 unfoldable pub boundOp : Bool → ComplexSort → ComplexSort → Option ComplexSort
-boundOp up o p = cond (eqb (familyOp o) (familyOp p)) (some (cond (leLevel up (levelOp o) (levelOp p)) p o)) none
+boundOp up o p =
+    cond (eqb (familyOp o) (familyOp p)) (some (cond (leLevel up (levelOp o) (levelOp p)) p o)) none
 
 abbrev pub map₁ : {A B : Type 0} → (A → B) → Option A → Option B
 map₁ f none = none
@@ -120,16 +121,19 @@ all d = sum (d .head) (d .interior)
 -- 0, arguments (reversed) and range all interior".
 unfoldable mutual
   pub distance : Bool → Tree → Tree → Option Steps
-  distance up (flat a) (flat b) = given (leFlat up a b) (some (record { head = apart up (level a) (level b); interior = 0 }))
+  distance up (flat a) (flat b) =
+      given (leFlat up a b) (some (record { head = apart up (level a) (level b); interior = 0 }))
   distance up (flat a) (container p t) = none
   distance up (flat a) (function ts u) = none
   distance up (container o s) (flat b) = none
   distance up (container o s) (container p t) =
-      given (leOp up o p) (map₁ (λ d. record { head = apart up (levelOp o) (levelOp p); interior = all d }) (distance up s t))
+      given (leOp up o p)
+      (map₁ (λ d. record { head = apart up (levelOp o) (levelOp p); interior = all d }) (distance up s t))
   distance up (container o s) (function ts u) = none
   distance up (function ss r) (flat b) = none
   distance up (function ss r) (container p t) = none
-  distance up (function ss r) (function ts u) = map₂ (λ n d. record { head = 0; interior = sum n (all d) }) (distances (not up) ss ts) (distance up r u)
+  distance up (function ss r) (function ts u) =
+      map₂ (λ n d. record { head = 0; interior = sum n (all d) }) (distances (not up) ss ts) (distance up r u)
 
   pub distances : Bool → Trees → Trees → Option ℕ
   distances up end end = some 0

@@ -33,7 +33,8 @@ unfoldable pub withFunction : Run → SortId → ResolvedSort → Pair
 withFunction d r Unit = Other
 withFunction d r (Primitive s) = Other
 withFunction d r (Container op subsort) = Other
-withFunction d r (Function domain range) = cond (eqb (d .count) (domain .count)) (Functions (d .count) (d .start) r (domain .start) range) Other
+withFunction d r (Function domain range) =
+    cond (eqb (d .count) (domain .count)) (Functions (d .count) (d .start) r (domain .start) range) Other
 withFunction d r (Def n) = Other
 withFunction d r (TypeVar n) = Other
 

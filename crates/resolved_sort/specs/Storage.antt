@@ -57,8 +57,10 @@ lastKind = 13
 unfoldable pub resolved : ℕ → ℕ → Run → ResolvedSort
 resolved kind part run =
     getD
-    (Unit ∷ Primitive Sort.Bool ∷ Primitive Sort.Pos ∷ Primitive Sort.Nat ∷ Primitive Sort.Int ∷ Primitive Sort.Real
-    ∷ Container ComplexSort.List (record { 0 = part }) ∷ Container ComplexSort.Set (record { 0 = part }) ∷ Container ComplexSort.FSet (record { 0 = part })
+    (Unit ∷ Primitive Sort.Bool ∷ Primitive Sort.Pos ∷ Primitive Sort.Nat ∷ Primitive Sort.Int
+    ∷ Primitive Sort.Real
+    ∷ Container ComplexSort.List (record { 0 = part }) ∷ Container ComplexSort.Set (record { 0 = part })
+    ∷ Container ComplexSort.FSet (record { 0 = part })
     ∷ Container ComplexSort.Bag (record { 0 = part }) ∷ Container ComplexSort.FBag (record { 0 = part })
     ∷ Function run (record { 0 = part }) ∷ Def part ∷ [])
     kind (TypeVar part)
@@ -93,8 +95,10 @@ lookAll T (x ∷ xs) = arg (look T x) (lookAll T xs)
 unfoldable pub treeOf : List Tree → Row → Tree
 treeOf T r =
     getD
-    (flat unit ∷ flat (primitive Sort.Bool) ∷ flat (primitive Sort.Pos) ∷ flat (primitive Sort.Nat) ∷ flat (primitive Sort.Int) ∷ flat (primitive Sort.Real)
-    ∷ container ComplexSort.List (look T (r .part)) ∷ container ComplexSort.Set (look T (r .part)) ∷ container ComplexSort.FSet (look T (r .part))
+    (flat unit ∷ flat (primitive Sort.Bool) ∷ flat (primitive Sort.Pos) ∷ flat (primitive Sort.Nat)
+    ∷ flat (primitive Sort.Int) ∷ flat (primitive Sort.Real)
+    ∷ container ComplexSort.List (look T (r .part)) ∷ container ComplexSort.Set (look T (r .part))
+    ∷ container ComplexSort.FSet (look T (r .part))
     ∷ container ComplexSort.Bag (look T (r .part)) ∷ container ComplexSort.FBag (look T (r .part))
     ∷ function (lookAll T (r .args)) (look T (r .part)) ∷ flat (def (r .part)) ∷ [])
     (r .kind) (flat (typevar (r .part)))
@@ -143,11 +147,14 @@ rowOf T (function ts u) = record { kind = functionKind; part = number T u; args 
 
 -- Row i set to four words.
 unfoldable pub putRow : List ℕ → ℕ → ℕ → ℕ → ℕ → ℕ → List ℕ
-putRow ws i kind part start count = set (set (set (set ws (4 * i) kind) (4 * i + 1) part) (4 * i + 2) start) (4 * i + 3) count
+putRow ws i kind part start count =
+    set (set (set (set ws (4 * i) kind) (4 * i + 1) part) (4 * i + 2) start) (4 * i + 3) count
 
 -- The row r as row n, with e entries in use before it. Unused words are zero.
 unfoldable pub appendRow : List ℕ → ℕ → ℕ → Row → List ℕ
-appendRow ws n e r = sets (putRow ws n (r .kind) (r .part) (cond (eqb (r .kind) functionKind) e 0) (length (r .args))) (entriesAt + e) (r .args)
+appendRow ws n e r =
+    sets (putRow ws n (r .kind) (r .part) (cond (eqb (r .kind) functionKind) e 0) (length (r .args)))
+    (entriesAt + e) (r .args)
 
 -- The sort t appended to the sorts T.
 abbrev pub append : List ℕ → List Tree → ℕ → Tree → List ℕ

@@ -37,7 +37,11 @@ pub fn resolve(
     id: InferSortId,
 ) -> Joined
     requires { ⌜ Ready (now sorts) (now nodes) (now binds) lengths × Placed lengths (id .0) ⌝ }
-    ensures { λ r. ⌜ storedAt (now (sorts .exit)) r ≡ termResolved (now (sorts .entry)) lengths Default.Nothing (valueIn (now (sorts .entry)) (now (nodes .entry)) (now (binds .entry)) lengths (id .0)) ⌝ }
+    ensures { λ r. ⌜
+        storedAt (now (sorts .exit)) r
+        ≡ termResolved (now (sorts .entry)) lengths Default.Nothing
+        (valueIn (now (sorts .entry)) (now (nodes .entry)) (now (binds .entry)) lengths (id .0))
+        ⌝ }
 {
     resolve_with(sorts, nodes, binds, lengths, Default::Nothing, id)
 }
@@ -51,8 +55,16 @@ pub fn resolve_or_default(
     id: InferSortId,
     default: SortId,
 ) -> Joined
-    requires { ⌜ Ready (now sorts) (now nodes) (now binds) lengths × Placed lengths (id .0) × (default .0 < lengths .sorts) ⌝ }
-    ensures { λ r. ⌜ storedAt (now (sorts .exit)) r ≡ termResolved (now (sorts .entry)) lengths (Default.Is default) (valueIn (now (sorts .entry)) (now (nodes .entry)) (now (binds .entry)) lengths (id .0)) ⌝ }
+    requires { ⌜
+        Ready (now sorts) (now nodes) (now binds) lengths
+        × Placed lengths (id .0)
+        × (default .0 < lengths .sorts)
+        ⌝ }
+    ensures { λ r. ⌜
+        storedAt (now (sorts .exit)) r
+        ≡ termResolved (now (sorts .entry)) lengths (Default.Is default)
+        (valueIn (now (sorts .entry)) (now (nodes .entry)) (now (binds .entry)) lengths (id .0))
+        ⌝ }
 {
     resolve_with(sorts, nodes, binds, lengths, Default::Is(default), id)
 }
@@ -75,8 +87,16 @@ fn resolve_with(
     default: Default,
     id: InferSortId,
 ) -> Joined
-    requires { ⌜ Ready (now sorts) (now nodes) (now binds) lengths × DefaultBelow (lengths .sorts) default × Placed lengths (id .0) ⌝ }
-    ensures { λ r. ⌜ storedAt (now (sorts .exit)) r ≡ termResolved (now (sorts .entry)) lengths default (valueIn (now (sorts .entry)) (now (nodes .entry)) (now (binds .entry)) lengths (id .0)) ⌝ }
+    requires { ⌜
+        Ready (now sorts) (now nodes) (now binds) lengths
+        × DefaultBelow (lengths .sorts) default
+        × Placed lengths (id .0)
+        ⌝ }
+    ensures { λ r. ⌜
+        storedAt (now (sorts .exit)) r
+        ≡ termResolved (now (sorts .entry)) lengths default
+        (valueIn (now (sorts .entry)) (now (nodes .entry)) (now (binds .entry)) lengths (id .0))
+        ⌝ }
 {
     let end = shallow_normalize(sorts, nodes, binds, lengths, id);
     if end.0 < FIRST_NODE {
@@ -119,8 +139,19 @@ fn resolve_function(
     domain: Run,
     range: InferSortId,
 ) -> Joined
-    requires { ⌜ Ready (now sorts) (now nodes) (now binds) lengths × DefaultBelow (lengths .sorts) default × RunPlaced (now nodes) lengths (domain .start) (domain .count) × Placed lengths (range .0) ⌝ }
-    ensures { λ r. ⌜ storedAt (now (sorts .exit)) r ≡ termResolved (now (sorts .entry)) lengths default (app (functionHead (domain .count)) (termsAt (valueIn (now (sorts .entry)) (now (nodes .entry)) (now (binds .entry)) lengths) (nodeEntriesOf (now (nodes .entry)) (domain .start) (domain .count) ++ (range .0 ∷ [])))) ⌝ }
+    requires { ⌜
+        Ready (now sorts) (now nodes) (now binds) lengths
+        × DefaultBelow (lengths .sorts) default
+        × RunPlaced (now nodes) lengths (domain .start) (domain .count)
+        × Placed lengths (range .0)
+        ⌝ }
+    ensures { λ r. ⌜
+        storedAt (now (sorts .exit)) r
+        ≡ termResolved (now (sorts .entry)) lengths default
+        (app (functionHead (domain .count))
+        (termsAt (valueIn (now (sorts .entry)) (now (nodes .entry)) (now (binds .entry)) lengths)
+        (nodeEntriesOf (now (nodes .entry)) (domain .start) (domain .count) ++ (range .0 ∷ []))))
+        ⌝ }
 {
     let start = domain.start;
     let count = domain.count;

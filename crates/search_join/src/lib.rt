@@ -62,7 +62,11 @@ fn sort_of(
     id: InferSortId,
 ) -> Made
     requires { ⌜ Ready (now sorts) (now nodes) (now binds) lengths × Placed lengths (id .0) ⌝ }
-    ensures { λ r. ⌜ madeOf (now (sorts .exit)) (now (nodes .entry)) r ≡ resolveIn Default.Nothing (bindsOf (now (binds .entry)) (lengths .variables)) (id .0) (lent (now (sorts .entry)) (now (nodes .entry)) lengths) ⌝ }
+    ensures { λ r. ⌜
+        madeOf (now (sorts .exit)) (now (nodes .entry)) r
+        ≡ resolveIn Default.Nothing (bindsOf (now (binds .entry)) (lengths .variables)) (id .0)
+        (lent (now (sorts .entry)) (now (nodes .entry)) lengths)
+        ⌝ }
 {
     made_from(lengths, resolve(sorts, nodes, binds, lengths, id))
 }
@@ -70,7 +74,10 @@ fn sort_of(
 // The join of two sorts. It does not look at nodes, whatever they are.
 fn join_of(sorts: &mut [u16], lengths: Lengths, lhs: SortId, rhs: SortId) -> Made
     requires { ⌜ Asked (now sorts) (lengths .sorts) (lengths .entries) (lhs .0) (rhs .0) ⌝ }
-    ensures { λ r. ⌜ ((ns : List ℕ) → madeOf (now (sorts .exit)) ns r ≡ joinIn (lhs .0) (rhs .0) (lent (now (sorts .entry)) ns lengths)) ⌝ }
+    ensures { λ r. ⌜
+        ((ns : List ℕ)
+        → madeOf (now (sorts .exit)) ns r ≡ joinIn (lhs .0) (rhs .0) (lent (now (sorts .entry)) ns lengths))
+        ⌝ }
 {
     made_from(lengths, join(sorts, counts_of(lengths), lhs, rhs))
 }
@@ -86,7 +93,12 @@ fn resolve_sources(
     sources: Run,
 ) -> Extracted
     requires { ⌜ Sources (now sorts) (now nodes) (now binds) (now lists) (now ids) lengths sources ⌝ }
-    ensures { λ r. ⌜ extractedOf (now (sorts .exit)) (now (nodes .entry)) (now (ids .exit)) 0 (sources .count) r ≡ resolveAll Default.Nothing (bindsOf (now (binds .entry)) (lengths .variables)) (rowsFrom (sourceAt (now (lists .entry))) (sources .start) (sources .count)) (lent (now (sorts .entry)) (now (nodes .entry)) lengths) ⌝ }
+    ensures { λ r. ⌜
+        extractedOf (now (sorts .exit)) (now (nodes .entry)) (now (ids .exit)) 0 (sources .count) r
+        ≡ resolveAll Default.Nothing (bindsOf (now (binds .entry)) (lengths .variables))
+        (rowsFrom (sourceAt (now (lists .entry))) (sources .start) (sources .count))
+        (lent (now (sorts .entry)) (now (nodes .entry)) lengths)
+        ⌝ }
 {
     let start = sources.start;
     let count = sources.count;
@@ -114,7 +126,12 @@ fn resolve_sources(
 // The join of all sorts, from left to right.
 fn join_all(sorts: &mut [u16], lengths: Lengths, ids: &[u16], count: u16) -> Made
     requires { ⌜ Resolved (now sorts) lengths (now ids) count × (0 < count) ⌝ }
-    ensures { λ r. ⌜ ((ns : List ℕ) → madeOf (now (sorts .exit)) ns r ≡ joinAll (getD (now (ids .entry)) 0 0) (drop 1 (take count (now (ids .entry)))) (lent (now (sorts .entry)) ns lengths)) ⌝ }
+    ensures { λ r. ⌜
+        ((ns : List ℕ)
+        → madeOf (now (sorts .exit)) ns r
+        ≡ joinAll (getD (now (ids .entry)) 0 0) (drop 1 (take count (now (ids .entry))))
+        (lent (now (sorts .entry)) ns lengths))
+        ⌝ }
 {
     let mut lub = SortId(word(ids, 0));
     let mut here = lengths;
@@ -140,7 +157,10 @@ fn join_all(sorts: &mut [u16], lengths: Lengths, ids: &[u16], count: u16) -> Mad
 // Whether each of the sorts is equal to or materializable into their join.
 fn all_materializable(sorts: &[u16], lengths: Lengths, ids: &[u16], count: u16, lub: SortId) -> bool
     requires { ⌜ Resolved (now sorts) lengths (now ids) count × (lub .0 < lengths .sorts) ⌝ }
-    ensures { λ r. ⌜ ((ns : List ℕ) → r ≡ allInto (lent (now (sorts .entry)) ns lengths) (lub .0) (take count (now (ids .entry)))) ⌝ }
+    ensures { λ r. ⌜
+        ((ns : List ℕ)
+        → r ≡ allInto (lent (now (sorts .entry)) ns lengths) (lub .0) (take count (now (ids .entry))))
+        ⌝ }
 {
     let counts = counts_of(lengths);
     let mut i: u16 = 0;
@@ -155,8 +175,16 @@ fn all_materializable(sorts: &[u16], lengths: Lengths, ids: &[u16], count: u16, 
 
 // The head distance of one sort to another.
 fn head_distance(sorts: &[u16], counts: Counts, from: SortId, to: SortId) -> u16
-    requires { ⌜ Checked (now sorts) (counts .sorts) (counts .entries) × (from .0 < counts .sorts) × (to .0 < counts .sorts) ⌝ }
-    ensures { λ r. ⌜ r ≡ headOf (distance true (treeAt (now (sorts .entry)) (counts .sorts) (from .0)) (treeAt (now (sorts .entry)) (counts .sorts) (to .0))) ⌝ }
+    requires { ⌜
+        Checked (now sorts) (counts .sorts) (counts .entries)
+        × (from .0 < counts .sorts)
+        × (to .0 < counts .sorts)
+        ⌝ }
+    ensures { λ r. ⌜
+        r
+        ≡ headOf (distance true (treeAt (now (sorts .entry)) (counts .sorts) (from .0))
+        (treeAt (now (sorts .entry)) (counts .sorts) (to .0)))
+        ⌝ }
 {
     match widening_distance(sorts, counts, from, to) {
         Widening::Distance { head, interior: _ } => head as u16,
@@ -175,7 +203,13 @@ fn put_heads(
     measure: u16,
 )
     requires { ⌜ Resolved (now sorts) lengths (now ids) count × (lub .0 < lengths .sorts) ⌝ }
-    ensures { λ _. ⌜ now (scratch .exit) ≡ sets (now (scratch .entry)) (measureAt + measure) (each (λ s. headOf (distance true (treeAt (now (sorts .entry)) (lengths .sorts) s) (treeAt (now (sorts .entry)) (lengths .sorts) (lub .0)))) (take count (now (ids .entry)))) ⌝ }
+    ensures { λ _. ⌜
+        now (scratch .exit)
+        ≡ sets (now (scratch .entry)) (measureAt + measure)
+        (each (λ s. headOf (distance true (treeAt (now (sorts .entry)) (lengths .sorts) s)
+        (treeAt (now (sorts .entry)) (lengths .sorts) (lub .0))))
+        (take count (now (ids .entry))))
+        ⌝ }
 {
     let counts = counts_of(lengths);
     let from = MEASURE_AT + (measure as usize);
@@ -196,8 +230,17 @@ fn agreement(
     count: u16,
     at: Branch,
 ) -> Made
-    requires { ⌜ Resolved (now sorts) lengths (now ids) count × (scratchUsed ≤ length (now scratch)) × (at .measure + count ≤ maxComponents) ⌝ }
-    ensures { λ r. ⌜ ((ns : List ℕ) → Agrees ns (now (scratch .entry)) at count (agreedOn (take count (now (ids .entry))) (lent (now (sorts .entry)) ns lengths)) (now (sorts .exit)) (now (scratch .exit)) r) ⌝ }
+    requires { ⌜
+        Resolved (now sorts) lengths (now ids) count
+        × (scratchUsed ≤ length (now scratch))
+        × (at .measure + count ≤ maxComponents)
+        ⌝ }
+    ensures { λ r. ⌜
+        ((ns : List ℕ)
+        → Agrees ns (now (scratch .entry)) at count
+        (agreedOn (take count (now (ids .entry))) (lent (now (sorts .entry)) ns lengths))
+        (now (sorts .exit)) (now (scratch .exit)) r)
+        ⌝ }
 {
     if count == 0 {
         return Made::Nothing(lengths);
@@ -227,7 +270,13 @@ pub fn agreed(
     sources: Run,
 ) -> Made
     requires { ⌜ Agreeing (now sorts) (now nodes) (now binds) (now scratch) (now lists) lengths at sources ⌝ }
-    ensures { λ r. ⌜ Agrees (now (nodes .entry)) (now (scratch .entry)) at (sources .count) (joinOf (bindsOf (now (binds .entry)) (lengths .variables)) (rowsFrom (sourceAt (now (lists .entry))) (sources .start) (sources .count)) (lent (now (sorts .entry)) (now (nodes .entry)) lengths)) (now (sorts .exit)) (now (scratch .exit)) r ⌝ }
+    ensures { λ r. ⌜
+        Agrees (now (nodes .entry)) (now (scratch .entry)) at (sources .count)
+        (joinOf (bindsOf (now (binds .entry)) (lengths .variables))
+        (rowsFrom (sourceAt (now (lists .entry))) (sources .start) (sources .count))
+        (lent (now (sorts .entry)) (now (nodes .entry)) lengths))
+        (now (sorts .exit)) (now (scratch .exit)) r
+        ⌝ }
 {
     let mut ids = [0u16; MAX_SOURCES];
     match resolve_sources(sorts, nodes, binds, lists, &mut ids, lengths, sources) {

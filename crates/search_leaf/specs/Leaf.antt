@@ -33,7 +33,11 @@ rankedBy best sc n = cond best (ranked sc n) smaller
 
 -- Whether the branch is dominated: the lists of the problem do not matter.
 unfoldable pub IsDominated : List ℕ → Sizes → State → Branch → Bool → Type 0
-IsDominated sc z k e r = (ls : List ℕ) → r ≡ dominatedBy (Unit {0}) nothingMet (problemIn ls z) (part measureAt (e .measure) sc) (bestOf ls z sc (k .best) (k .tied))
+IsDominated sc z k e r =
+    (ls : List ℕ)
+    → r
+    ≡ dominatedBy (Unit {0}) nothingMet (problemIn ls z) (part measureAt (e .measure) sc)
+    (bestOf ls z sc (k .best) (k .tied))
 
 -- places of n expressions that can be read out, each variable still free as d
 pub record Readable (ws ns bs sc ls : List ℕ) (d : SortId) (n : ℕ) (k : Lengths) : Type 0 where
@@ -53,7 +57,8 @@ copied a b n sc = paste sc b (drop a sc) n
 
 -- the measure and the choices of the branch as those of the incumbent
 unfoldable pub kept : Sizes → List ℕ → List ℕ
-kept z sc = copied choicesAt bestChoicesAt (z .disjunctions) (copied measureAt bestMeasureAt (z .components) sc)
+kept z sc =
+    copied choicesAt bestChoicesAt (z .disjunctions) (copied measureAt bestMeasureAt (z .components) sc)
 
 pub record Keepable (z : Sizes) (sc : List ℕ) : Type 0 where
   pub components : z .components ≤ maxComponents

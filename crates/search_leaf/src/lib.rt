@@ -85,8 +85,16 @@ fn extract(
     sizes: Sizes,
     lengths: Lengths,
 ) -> Extracted
-    requires { ⌜ Readable (now sorts) (now nodes) (now binds) (now scratch) (now lists) (sizes .default) (sizes .exprs) lengths ⌝ }
-    ensures { λ r. ⌜ Extracts (now (nodes .entry)) (now (scratch .entry)) bestSortsAt (sizes .exprs) (sortsFrom (now (binds .entry)) (now (lists .entry)) (sizes .default) 0 (sizes .exprs) (lent (now (sorts .entry)) (now (nodes .entry)) lengths)) (now (sorts .exit)) (now (scratch .exit)) r ⌝ }
+    requires { ⌜
+        Readable (now sorts) (now nodes) (now binds) (now scratch) (now lists) (sizes .default) (sizes .exprs)
+        lengths
+        ⌝ }
+    ensures { λ r. ⌜
+        Extracts (now (nodes .entry)) (now (scratch .entry)) bestSortsAt (sizes .exprs)
+        (sortsFrom (now (binds .entry)) (now (lists .entry)) (sizes .default) 0 (sizes .exprs)
+        (lent (now (sorts .entry)) (now (nodes .entry)) lengths))
+        (now (sorts .exit)) (now (scratch .exit)) r
+        ⌝ }
 {
     let count = sizes.exprs;
     let default = sizes.default;
@@ -154,7 +162,12 @@ fn replace(
     at: Branch,
 ) -> Answer
     requires { ⌜ AtLeaf (now sorts) (now nodes) (now binds) (now scratch) (now lists) sizes st at ⌝ }
-    ensures { λ r. ⌜ Comes (now (lists .entry)) sizes (now (sorts .entry)) (now (nodes .entry)) (now (binds .entry)) (now (scratch .entry)) st at (replaceLeaf (Unit {0}) nothingMet (problemIn (now (lists .entry)) sizes)) (now (sorts .exit)) (now (nodes .entry)) (now (binds .entry)) (now (scratch .exit)) r ⌝ }
+    ensures { λ r. ⌜
+        Comes (now (lists .entry)) sizes
+        (now (sorts .entry)) (now (nodes .entry)) (now (binds .entry)) (now (scratch .entry)) st at
+        (replaceLeaf (Unit {0}) nothingMet (problemIn (now (lists .entry)) sizes)) (now (sorts .exit))
+        (now (nodes .entry)) (now (binds .entry)) (now (scratch .exit)) r
+        ⌝ }
 {
     let lengths = st.lengths;
     match extract(sorts, nodes, binds, scratch, lists, sizes, lengths) {
@@ -188,7 +201,12 @@ pub fn leaf(
     at: Branch,
 ) -> Answer
     requires { ⌜ AtLeaf (now sorts) (now nodes) (now binds) (now scratch) (now lists) sizes st at ⌝ }
-    ensures { λ r. ⌜ Comes (now (lists .entry)) sizes (now (sorts .entry)) (now (nodes .entry)) (now (binds .entry)) (now (scratch .entry)) st at (leafNext (Unit {0}) nothingMet (problemIn (now (lists .entry)) sizes)) (now (sorts .exit)) (now (nodes .entry)) (now (binds .entry)) (now (scratch .exit)) r ⌝ }
+    ensures { λ r. ⌜
+        Comes (now (lists .entry)) sizes
+        (now (sorts .entry)) (now (nodes .entry)) (now (binds .entry)) (now (scratch .entry)) st at
+        (leafNext (Unit {0}) nothingMet (problemIn (now (lists .entry)) sizes)) (now (sorts .exit))
+        (now (nodes .entry)) (now (binds .entry)) (now (scratch .exit)) r
+        ⌝ }
 {
     let lengths = st.lengths;
     match rank(scratch, st, at) {

@@ -60,7 +60,8 @@ PairsPlaced k (One l r) = Placed k (l .0) × Placed k (r .0)
 PairsPlaced k (Two l r p q) = Placed k (l .0) × Placed k (r .0) × Placed k (p .0) × Placed k (q .0)
 
 -- a try with the trail at the front of the scratch, of which nothing else changes
-pub record TriesPairs (ws ns : List ℕ) (k : Lengths) (U : Unifies) (bs sc : List ℕ) (c : ℕ) (bs′ sc′ : List ℕ) (r : Tried) : Type 0 where
+pub record TriesPairs (ws ns : List ℕ) (k : Lengths) (U : Unifies) (bs sc : List ℕ) (c : ℕ) (bs′ sc′ : List ℕ)
+    (r : Tried) : Type 0 where
   pub tries : Tried-so ws ns k U bs (take trailWords sc) c bs′ (take trailWords sc′) r
   pub rest : drop trailWords sc′ ≡ drop trailWords sc
   pub long : length sc′ ≡ length sc
@@ -102,7 +103,8 @@ placesOf f = f .0 ∷ f .1 ∷ f .2 ∷ f .3 ∷ []
 
 unfoldable pub tryAt : Tries → ℕ → Try
 tryAt t j =
-    cond (t .up) (record { left = getD (placesOf (t .ids)) j 0; right = t .other .0; component = t .first + j })
+    cond (t .up)
+    (record { left = getD (placesOf (t .ids)) j 0; right = t .other .0; component = t .first + j })
     (record { left = t .other .0; right = getD (placesOf (t .ids)) j 0; component = t .first + j })
 
 abbrev pub triesFrom : Tries → ℕ → List Try
@@ -116,7 +118,8 @@ where-no-list (no-room c W) f = no-room c W
 
 unfoldable pub widenings : Binds → ℕ → ℕ → Lent → Makes (List Try)
 widenings B l r W =
-    where-no-list (strictRelated true B l W and-then (λ ps X. made (widerTries r 1 ps) X)) (λ U. strictRelated false B r U and-then (λ ps X. made (narrowerTries l 1 ps) X))
+    where-no-list (strictRelated true B l W and-then (λ ps X. made (widerTries r 1 ps) X))
+    (λ U. strictRelated false B r U and-then (λ ps X. made (narrowerTries l 1 ps) X))
 
 abbrev pub widened : List ℕ → List ℕ → Widenings → Makes (List Try)
 widened ws ns (These t k) = made (triesFrom t 0) (lent ws ns k)
@@ -163,11 +166,13 @@ madeOf ws ns (NoSortRoom k) = no-room 15 (lent ws ns k)
 
 -- The sort on which the n sources of a Join agree: their head distances stand in the scratch after the measure, and nothing else of it changes.
 abbrev pub agreementOf : List ℕ → List ℕ → List ℕ → Branch → ℕ → Made → Makes Agreed
-agreementOf ws ns sc e n (At s k) = made (record { sort = s .0; components = part (measureAt + e .measure) n sc }) (lent ws ns k)
+agreementOf ws ns sc e n (At s k) =
+    made (record { sort = s .0; components = part (measureAt + e .measure) n sc }) (lent ws ns k)
 agreementOf ws ns sc e n (NoSort k) = no-list (lent ws ns k)
 agreementOf ws ns sc e n (NoSortRoom k) = no-room 15 (lent ws ns k)
 
-pub record Agrees (ns sc : List ℕ) (e : Branch) (n : ℕ) (O : Makes Agreed) (ws′ sc′ : List ℕ) (r : Made) : Type 0 where
+pub record Agrees (ns sc : List ℕ) (e : Branch) (n : ℕ) (O : Makes Agreed) (ws′ sc′ : List ℕ) (r : Made)
+    : Type 0 where
   pub says : agreementOf ws′ ns sc′ e n r ≡ O
   pub changed : ChangedOnly (measureAt + e .measure) (measureAt + e .measure + n) sc sc′
 
@@ -177,7 +182,8 @@ extractedOf ws ns sc a n (All k) = made (part a n sc) (lent ws ns k)
 extractedOf ws ns sc a n (Without k) = no-list (lent ws ns k)
 extractedOf ws ns sc a n (NotAll k) = no-room 15 (lent ws ns k)
 
-pub record Extracts (ns sc : List ℕ) (a n : ℕ) (O : Makes (List ℕ)) (ws′ sc′ : List ℕ) (r : Extracted) : Type 0 where
+pub record Extracts (ns sc : List ℕ) (a n : ℕ) (O : Makes (List ℕ)) (ws′ sc′ : List ℕ) (r : Extracted)
+    : Type 0 where
   pub says : extractedOf ws′ ns sc′ a n r ≡ O
   pub changed : ChangedOnly a (a + n) sc sc′
 
@@ -194,7 +200,14 @@ afterOf (Full c k) b = Stop c k
 
 -- "Nodes made for a widening are given back": the lengths of nodes are those of k
 abbrev pub withNodes : Lengths → Lengths → Lengths
-withNodes k l = record { sorts = l .sorts; entries = l .entries; nodes = k .nodes; arguments = k .arguments; variables = l .variables }
+withNodes k l =
+    record {
+      sorts = l .sorts;
+      entries = l .entries;
+      nodes = k .nodes;
+      arguments = k .arguments;
+      variables = l .variables;
+    }
 
 abbrev pub backTo : Lengths → State → State
 backTo k s = record { lengths = withNodes k (s .lengths); best = s .best; tied = s .tied }

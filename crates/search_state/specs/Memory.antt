@@ -93,7 +93,12 @@ lent ws ns k = record { sorts = ws; nodes = ns; lengths = k }
 module _ (ls : List ℕ) (z : Sizes) where
   -- the branch, as a path
   abbrev pub pathOf : Binds → List ℕ → Branch → Path
-  pathOf B sc e = record { binds = B; measure = part measureAt (e .measure) sc; choices = choicesOf (chosenExprs ls z) (part choicesAt (e .choices) sc) }
+  pathOf B sc e =
+      record {
+        binds = B;
+        measure = part measureAt (e .measure) sc;
+        choices = choicesOf (chosenExprs ls z) (part choicesAt (e .choices) sc);
+      }
 
   -- the incumbent
   unfoldable pub candidateOf : List ℕ → Bool → Candidate
@@ -109,7 +114,8 @@ module _ (ls : List ℕ) (z : Sizes) where
   bestOf sc best tied = cond best (some (candidateOf sc tied)) none
 
   abbrev pub worldOf : List ℕ → List ℕ → List ℕ → State → World (Unit {0})
-  worldOf ws ns sc k = record { lent = lent ws ns (k .lengths); best = bestOf sc (k .best) (k .tied); met = tt }
+  worldOf ws ns sc k =
+      record { lent = lent ws ns (k .lengths); best = bestOf sc (k .best) (k .tied); met = tt }
 
   abbrev pub outOf : List ℕ → List ℕ → List ℕ → Answer → Out (Unit {0})
   outOf ws ns sc (Found k) = found (worldOf ws ns sc k)
@@ -122,4 +128,5 @@ module _ (ls : List ℕ) (z : Sizes) where
 
   unfoldable pub nextOf : Next → Going (Unit {0}) nothingMet (problemIn ls z)
   nextOf (Solve i) = solveFrom i
-  nextOf (Source t j n i) = sequence (Unit {0}) nothingMet (problemIn ls z) (rowsFrom (sourceAt ls) j (n - j)) (t .0) (solveFrom i)
+  nextOf (Source t j n i) =
+      sequence (Unit {0}) nothingMet (problemIn ls z) (rowsFrom (sourceAt ls) j (n - j)) (t .0) (solveFrom i)

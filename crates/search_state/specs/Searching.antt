@@ -71,7 +71,8 @@ NextFine W ls z (Solve i) = i ≤ z .constraints
 NextFine W ls z (Source t j n i) = (i ≤ z .constraints) × SourcesFine W ls z (t .0) j n
 
 -- A branch on which, after `more` components and choices for the expressions xs, comes `next`.
-pub record Searching (ws ns bs sc ls : List ℕ) (z : Sizes) (k : State) (e : Branch) (more : ℕ) (xs : List ℕ) (next : Next) : Type 0 where
+pub record Searching (ws ns bs sc ls : List ℕ) (z : Sizes) (k : State) (e : Branch) (more : ℕ) (xs : List ℕ)
+    (next : Next) : Type 0 where
   pub ready : Ready ws ns bs (k .lengths)
   pub suits : Suits (lent ws ns (k .lengths)) (problemIn ls z)
   pub sized : Sized (problemIn ls z) z
@@ -127,17 +128,22 @@ pub record SamePath (e : Branch) (sc sc′ : List ℕ) : Type 0 where
   pub long : length sc′ ≡ length sc
 
 -- A search that comes to O: the answer and the lists left say so; the lists have grown, and the bindings and the branch are as before.
-pub record Done (ls : List ℕ) (z : Sizes) (ws ns bs sc : List ℕ) (k : State) (e : Branch) (O : Out (Unit {0})) (ws′ ns′ bs′ sc′ : List ℕ) (r : Answer) : Type 0 where
+pub record Done (ls : List ℕ) (z : Sizes) (ws ns bs sc : List ℕ) (k : State) (e : Branch) (O : Out (Unit {0}))
+    (ws′ ns′ bs′ sc′ : List ℕ) (r : Answer) : Type 0 where
   pub says : outOf ls z ws′ ns′ sc′ r ≡ O
   pub grown : Grown (lent ws ns (k .lengths)) ws′ ns′ r
   pub binds : bs′ ≡ bs
   pub path : SamePath e sc sc′
 
 -- the same of a way of going on, from the branch and the lists as they are
-abbrev pub Comes : (ls : List ℕ) (z : Sizes) (ws ns bs sc : List ℕ) (k : State) (e : Branch) → Going (Unit {0}) nothingMet (problemIn ls z) → (ws′ ns′ bs′ sc′ : List ℕ) → Answer → Type 0
+abbrev pub Comes : (ls : List ℕ) (z : Sizes) (ws ns bs sc : List ℕ) (k : State) (e : Branch)
+    → Going (Unit {0}) nothingMet (problemIn ls z) → (ws′ ns′ bs′ sc′ : List ℕ) → Answer → Type 0
 Comes ls z ws ns bs sc k e g ws′ ns′ bs′ sc′ r =
-    Done ls z ws ns bs sc k e (g (pathOf ls z (bindsOf bs (k .lengths .variables)) sc e) (worldOf ls z ws ns sc k)) ws′ ns′ bs′ sc′ r
+    Done ls z ws ns bs sc k e
+    (g (pathOf ls z (bindsOf bs (k .lengths .variables)) sc e) (worldOf ls z ws ns sc k)) ws′ ns′ bs′ sc′ r
 
 -- one try: places made equal, a step taken, and on with what comes next
-unfoldable pub trying : (ls : List ℕ) (z : Sizes) → List ℕ → Branch → Pairs → Step → Next → Going (Unit {0}) nothingMet (problemIn ls z)
-trying ls z sc e pairs s next p w = onYes (unifyPairs (graph (w .lent)) pairs (p .binds)) (λ C. nextOf ls z next (stepped ls z sc e s C)) w
+unfoldable pub trying : (ls : List ℕ) (z : Sizes) → List ℕ → Branch → Pairs → Step → Next
+    → Going (Unit {0}) nothingMet (problemIn ls z)
+trying ls z sc e pairs s next p w =
+    onYes (unifyPairs (graph (w .lent)) pairs (p .binds)) (λ C. nextOf ls z next (stepped ls z sc e s C)) w

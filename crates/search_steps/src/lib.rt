@@ -64,8 +64,18 @@ fn unify_pair(
     lhs: InferSortId,
     rhs: InferSortId,
 ) -> Tried
-    requires { ⌜ Trying (now sorts) (now nodes) (now binds) (take trailWords (now scratch)) lengths count × Placed lengths (lhs .0) × Placed lengths (rhs .0) × (scratchUsed ≤ length (now scratch)) ⌝ }
-    ensures { λ r. ⌜ TriesPairs (now (sorts .entry)) (now (nodes .entry)) lengths (unifyOf (graphOf (now (sorts .entry)) (now (nodes .entry)) lengths) (bindsOf (now (binds .entry)) (lengths .variables)) (lhs .0) (rhs .0)) (now (binds .entry)) (now (scratch .entry)) count (now (binds .exit)) (now (scratch .exit)) r ⌝ }
+    requires { ⌜
+        Trying (now sorts) (now nodes) (now binds) (take trailWords (now scratch)) lengths count
+        × Placed lengths (lhs .0)
+        × Placed lengths (rhs .0)
+        × (scratchUsed ≤ length (now scratch))
+        ⌝ }
+    ensures { λ r. ⌜
+        TriesPairs (now (sorts .entry)) (now (nodes .entry)) lengths
+        (unifyOf (graphOf (now (sorts .entry)) (now (nodes .entry)) lengths)
+        (bindsOf (now (binds .entry)) (lengths .variables)) (lhs .0) (rhs .0))
+        (now (binds .entry)) (now (scratch .entry)) count (now (binds .exit)) (now (scratch .exit)) r
+        ⌝ }
 {
     unify(
         sorts,
@@ -89,8 +99,17 @@ pub fn unify_pairs(
     count: u16,
     pairs: Pairs,
 ) -> Tried
-    requires { ⌜ Trying (now sorts) (now nodes) (now binds) (take trailWords (now scratch)) lengths count × PairsPlaced lengths pairs × (scratchUsed ≤ length (now scratch)) ⌝ }
-    ensures { λ r. ⌜ TriesPairs (now (sorts .entry)) (now (nodes .entry)) lengths (unifyPairs (graphOf (now (sorts .entry)) (now (nodes .entry)) lengths) pairs (bindsOf (now (binds .entry)) (lengths .variables))) (now (binds .entry)) (now (scratch .entry)) count (now (binds .exit)) (now (scratch .exit)) r ⌝ }
+    requires { ⌜
+        Trying (now sorts) (now nodes) (now binds) (take trailWords (now scratch)) lengths count
+        × PairsPlaced lengths pairs
+        × (scratchUsed ≤ length (now scratch))
+        ⌝ }
+    ensures { λ r. ⌜
+        TriesPairs (now (sorts .entry)) (now (nodes .entry)) lengths
+        (unifyPairs (graphOf (now (sorts .entry)) (now (nodes .entry)) lengths) pairs
+        (bindsOf (now (binds .entry)) (lengths .variables)))
+        (now (binds .entry)) (now (scratch .entry)) count (now (binds .exit)) (now (scratch .exit)) r
+        ⌝ }
 {
     match pairs {
         Pairs::One(lhs, rhs) => unify_pair(sorts, nodes, binds, scratch, lengths, count, lhs, rhs),
@@ -114,8 +133,14 @@ pub fn unify_pairs(
 
 // What a step adds to a branch with so many variables on the trail.
 pub fn push(scratch: &mut [u16], at: Branch, trail: u16, step: Step) -> Branch
-    requires { ⌜ (at .measure + addedComponents step ≤ 256) × (at .choices + addedChoices step ≤ 256) × (scratchUsed ≤ length (now scratch)) ⌝ }
-    ensures { λ r. ⌜ (now (scratch .exit) ≡ stepWords step at (now (scratch .entry))) × (r ≡ branchAfter at trail step) ⌝ }
+    requires { ⌜
+        (at .measure + addedComponents step ≤ 256)
+        × (at .choices + addedChoices step ≤ 256)
+        × (scratchUsed ≤ length (now scratch))
+        ⌝ }
+    ensures { λ r. ⌜
+        (now (scratch .exit) ≡ stepWords step at (now (scratch .entry))) × (r ≡ branchAfter at trail step)
+        ⌝ }
 {
     let measure = at.measure;
     let choices = at.choices;
@@ -277,7 +302,11 @@ pub fn lit_at(
     kind: LitKind,
 ) -> LitAt
     requires { ⌜ Ready (now sorts) (now nodes) (now binds) lengths × Placed lengths (id .0) ⌝ }
-    ensures { λ r. ⌜ r ≡ litAt kind (graphOf (now (sorts .entry)) (now (nodes .entry)) lengths) (bindsOf (now (binds .entry)) (lengths .variables)) (id .0) ⌝ }
+    ensures { λ r. ⌜
+        r
+        ≡ litAt kind (graphOf (now (sorts .entry)) (now (nodes .entry)) lengths)
+        (bindsOf (now (binds .entry)) (lengths .variables)) (id .0)
+        ⌝ }
 {
     let end = shallow_normalize(sorts, nodes, binds, lengths, id);
     if end.0 < FIRST_NODE {
@@ -386,8 +415,14 @@ pub fn widenings_of(
     lhs: InferSortId,
     rhs: InferSortId,
 ) -> Widenings
-    requires { ⌜ Ready (now sorts) (now nodes) (now binds) lengths × Placed lengths (lhs .0) × Placed lengths (rhs .0) ⌝ }
-    ensures { λ r. ⌜ Widens (now (sorts .exit)) (now (nodes .exit)) r (widenings (bindsOf (now (binds .entry)) (lengths .variables)) (lhs .0) (rhs .0) (lent (now (sorts .entry)) (now (nodes .entry)) lengths)) ⌝ }
+    requires { ⌜
+        Ready (now sorts) (now nodes) (now binds) lengths × Placed lengths (lhs .0) × Placed lengths (rhs .0)
+        ⌝ }
+    ensures { λ r. ⌜
+        Widens (now (sorts .exit)) (now (nodes .exit)) r
+        (widenings (bindsOf (now (binds .entry)) (lengths .variables)) (lhs .0) (rhs .0)
+        (lent (now (sorts .entry)) (now (nodes .entry)) lengths))
+        ⌝ }
 {
     match as_tries(
         strict_super_sorts(sorts, nodes, binds, lengths, lhs),

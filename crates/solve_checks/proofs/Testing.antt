@@ -21,7 +21,7 @@ use Rattle.inference.specs.SolveChecks.{Call, listed, rowsWithinLent, allWithin
 use Rattle.inference.proofs.Accepted.{within}
 use Rattle.solve_checks.specs.declared.Given.{Given}
 use Rattle.solve_checks.specs.declared.Room.{Room}
-use Rattle.solve_checks.specs.Calls.{Outs, callOf, listsOf, partOf, outputsOf}
+use Rattle.solve_checks.specs.Calls.{Outs, callIn, listsOf, partOf, outputsOf}
 use Rattle.solve_checks.specs.Parts.{rowChecks, lastChecks, listChecks, restChecks}
 
 -- a check of two tests: x is what the first found
@@ -138,27 +138,27 @@ module _ (I : Call) where
 
 -- what a check does not look at
 module _ (g : Given) (ws ns bs xs ks cs os ss : List ℕ) (room : Room) (o : Outs room) where
-  pub same-row-checks : rowChecks (partOf g xs ks cs os ss) ≡ rowChecks (callOf g ws ns bs xs ks cs os ss room o)
+  pub same-row-checks : rowChecks (partOf g xs ks cs os ss) ≡ rowChecks (callIn g ws ns bs xs ks cs os ss room o)
   unfolding exprsFine namesFine targetFine overloadFine constraintsFine
   same-row-checks = refl
 
-  pub same-last-checks : lastChecks (callOf g ws ns [] [] [] cs [] [] room o) ≡ lastChecks (callOf g ws ns bs xs ks cs os ss room o)
+  pub same-last-checks : lastChecks (callIn g ws ns [] [] [] cs [] [] room o) ≡ lastChecks (callIn g ws ns bs xs ks cs os ss room o)
   unfolding longEnough outputsLong
   same-last-checks = refl
 
-  pub same-list-checks : listChecks (callOf g ws ns [] xs ks cs os ss room o) ≡ listChecks (callOf g ws ns bs xs ks cs os ss room o)
+  pub same-list-checks : listChecks (callIn g ws ns [] xs ks cs os ss room o) ≡ listChecks (callIn g ws ns bs xs ks cs os ss room o)
   unfolding exprsFine namesFine targetFine overloadFine constraintsFine longEnough outputsLong
   same-list-checks = refl
 
-  pub same-outputs : outputsLong (outputsOf g cs room o) ≡ outputsLong (callOf g ws ns bs xs ks cs os ss room o)
+  pub same-outputs : outputsLong (outputsOf g cs room o) ≡ outputsLong (callIn g ws ns bs xs ks cs os ss room o)
   unfolding outputsLong
   same-outputs = refl
 
-  pub same-rows-within : rowsWithinLent (partOf g xs ks cs os ss) ≡ rowsWithinLent (callOf g ws ns bs xs ks cs os ss room o)
+  pub same-rows-within : rowsWithinLent (partOf g xs ks cs os ss) ≡ rowsWithinLent (callIn g ws ns bs xs ks cs os ss room o)
   unfolding rowsWithinLent
   same-rows-within = refl
 
-  pub same-within : allWithinLent (listsOf g ws ns bs xs ks cs os ss) ≡ allWithinLent (callOf g ws ns bs xs ks cs os ss room o)
+  pub same-within : allWithinLent (listsOf g ws ns bs xs ks cs os ss) ≡ allWithinLent (callIn g ws ns bs xs ks cs os ss room o)
   unfolding allWithinLent rowsWithinLent
   same-within = refl
 

@@ -11,12 +11,7 @@ use Rattle.inference.specs.Constraints.{constraintAt, rowsFrom}
 use Rattle.inference.specs.SolveChecks.{Call}
 use Rattle.solve_checks.specs.declared.Given.{Given}
 use Rattle.solve_checks.specs.declared.Room.{Room}
-
-abbrev pub lengthsOf : Given → Lengths
-lengthsOf g = record { sorts = g .sorts; entries = g .entries; nodes = g .nodes; arguments = g .arguments; variables = g .variables }
-
-abbrev pub rowsOf : Given → Rows
-rowsOf g = record { exprs = g .exprs; names = g .names; constraints = g .constraints; overloads = g .overloads; sources = g .sources }
+use Rattle.solve_checks.specs.Call.{lengthsOf, rowsOf}
 
 -- Scratch and outputs of the lengths that a call says. What stands in them no check looks at.
 pub record Outs (room : Room) : Type 0 where
@@ -29,8 +24,9 @@ pub record Outs (room : Room) : Type 0 where
   pub measure-length : length measure ≡ room .measure
   pub choices-length : length choices ≡ room .choices
 
-abbrev pub callOf : Given → (sorts nodes binds exprs names constraints overloads sources : List ℕ) → (room : Room) → Outs room → Call
-callOf g ws ns bs xs ks cs os ss room o =
+abbrev pub callIn : Given → (sorts nodes binds exprs names constraints overloads sources : List ℕ)
+    → (room : Room) → Outs room → Call
+callIn g ws ns bs xs ks cs os ss room o =
     record {
       sorts = ws;
       nodes = ns;
@@ -54,16 +50,26 @@ abbrev pub noRoom : Room
 noRoom = record { scratch = 0; typing = 0; measure = 0; choices = 0 }
 
 abbrev pub noOuts : Outs noRoom
-noOuts = record { scratch = []; typing = []; measure = []; choices = []; scratch-length = refl; typing-length = refl; measure-length = refl; choices-length = refl }
+noOuts =
+    record {
+      scratch = [];
+      typing = [];
+      measure = [];
+      choices = [];
+      scratch-length = refl;
+      typing-length = refl;
+      measure-length = refl;
+      choices-length = refl;
+    }
 
 abbrev pub listsOf : Given → (sorts nodes binds exprs names constraints overloads sources : List ℕ) → Call
-listsOf g ws ns bs xs ks cs os ss = callOf g ws ns bs xs ks cs os ss noRoom noOuts
+listsOf g ws ns bs xs ks cs os ss = callIn g ws ns bs xs ks cs os ss noRoom noOuts
 
 abbrev pub partOf : Given → (exprs names constraints overloads sources : List ℕ) → Call
 partOf g xs ks cs os ss = listsOf g [] [] [] xs ks cs os ss
 
 abbrev pub outputsOf : Given → List ℕ → (room : Room) → Outs room → Call
-outputsOf g cs room o = callOf g [] [] [] [] [] cs [] [] room o
+outputsOf g cs room o = callIn g [] [] [] [] [] cs [] [] room o
 
 -- the n constraints of words
 abbrev pub constraintsIn : List ℕ → ℕ → List Constraint

@@ -3,3 +3,4 @@ pub mod Calls
 pub mod Marks
 pub mod Tests
 pub mod Parts
+pub mod Call

@@ -28,4 +28,6 @@ abbrev pub listChecks : Call → List Check
 listChecks I = rowChecks I ++ lastChecks I
 
 abbrev pub restChecks : Call → List Check
-restChecks I = nodeChecks (I .nodes) (I .lengths .nodes) (I .lengths .arguments) (I .lengths .sorts) (I .binds) (I .lengths .variables) ++ listChecks I
+restChecks I =
+    nodeChecks (I .nodes) (I .lengths .nodes) (I .lengths .arguments) (I .lengths .sorts) (I .binds)
+    (I .lengths .variables) ++ listChecks I

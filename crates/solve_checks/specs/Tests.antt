@@ -10,10 +10,14 @@ abbrev pub exprFine : Call → ℕ → Bool
 exprFine I i = placed I (getD (I .exprs) i 0)
 
 abbrev pub nameFine : Call → ℕ → Bool
-nameFine I i = ltb (getD (I .names) (3 * i) 0) (I .rows .exprs) && targetFine I (getD (I .names) (3 * i + 1) 0) (getD (I .names) (3 * i + 2) 0)
+nameFine I i =
+    ltb (getD (I .names) (3 * i) 0) (I .rows .exprs)
+    && targetFine I (getD (I .names) (3 * i + 1) 0) (getD (I .names) (3 * i + 2) 0)
 
 abbrev pub sourceFine : Call → ℕ → Bool
 sourceFine I j = placed I (getD (I .sources) j 0)
 
 abbrev pub rowFine : Call → ℕ → Bool
-rowFine I i = leb (getD (I .constraints) (5 * i) 0) 4 && constraintFine I (getD (I .constraints) (5 * i + 2) 0) (constraintAt (I .constraints) i)
+rowFine I i =
+    leb (getD (I .constraints) (5 * i) 0) 4
+    && constraintFine I (getD (I .constraints) (5 * i + 2) 0) (constraintAt (I .constraints) i)

@@ -31,7 +31,7 @@ ghost use Rattle.unification.specs.Nodes.{isPlace};
 ghost use Rattle.inference.specs.declared.Constraint.{Constraint};
 ghost use Rattle.inference.specs.Constraints.{maxExprs, maxConstraints};
 ghost use Rattle.inference.specs.SolveChecks.{rowsWithinLent, targetFine, exprsFine, namesFine, overloadFine, runFine, constraintFine, constraintsFine, disjunctionFor, disjunctions, noTwo, keys, hasSources, joinsFine, componentsOf, components as componentsIn, outputsLong, allWithinLent, solveChecks};
-ghost use Rattle.solve_checks.specs.Calls.{Outs, partOf, outputsOf, constraintsIn, callOf, listsOf};
+ghost use Rattle.solve_checks.specs.Calls.{Outs, partOf, outputsOf, constraintsIn, callIn, listsOf};
 ghost use Rattle.solve_checks.specs.Marks.{marked, markOf, markBy, allUnder};
 ghost use Rattle.solve_checks.specs.Tests.{nameFine, sourceFine, rowFine};
 ghost use Rattle.resolved_sort.specs.Checks.{firstFailing};
@@ -71,7 +71,11 @@ pub fn rows_within_lent(
     sources: &[u16],
     given: Given,
 ) -> bool
-    ensures { λ r. ⌜ r ≡ rowsWithinLent (partOf given (now (exprs .entry)) (now (names .entry)) (now (constraints .entry)) (now (overloads .entry)) (now (sources .entry))) ⌝ }
+    ensures { λ r. ⌜
+        r
+        ≡ rowsWithinLent (partOf given (now (exprs .entry)) (now (names .entry)) (now (constraints .entry))
+        (now (overloads .entry)) (now (sources .entry)))
+        ⌝ }
 {
     if MAX_EXPRS < given.exprs {
         return false;
@@ -183,7 +187,11 @@ fn overload_fine(overloads: &[u16], given: Given, start: u16, j: u16) -> bool
 
 // Whether a run is inside the overloads, and each of it is fine.
 fn overloads_fine(overloads: &[u16], given: Given, run: Run) -> bool
-    ensures { λ r. ⌜ r ≡ runFine (partOf given [] [] [] (now (overloads .entry)) []) (given .overloads) (overloadFine (partOf given [] [] [] (now (overloads .entry)) [])) run ⌝ }
+    ensures { λ r. ⌜
+        r
+        ≡ runFine (partOf given [] [] [] (now (overloads .entry)) []) (given .overloads)
+        (overloadFine (partOf given [] [] [] (now (overloads .entry)) [])) run
+        ⌝ }
 {
     let start = run.start;
     let count = run.count;
@@ -202,7 +210,11 @@ fn overloads_fine(overloads: &[u16], given: Given, run: Run) -> bool
 
 // Whether a run is inside the sources, and each of it is a place.
 fn sources_fine(sources: &[u16], given: Given, run: Run) -> bool
-    ensures { λ r. ⌜ r ≡ runFine (partOf given [] [] [] [] (now (sources .entry))) (given .sources) (sourceFine (partOf given [] [] [] [] (now (sources .entry)))) run ⌝ }
+    ensures { λ r. ⌜
+        r
+        ≡ runFine (partOf given [] [] [] [] (now (sources .entry))) (given .sources)
+        (sourceFine (partOf given [] [] [] [] (now (sources .entry)))) run
+        ⌝ }
 {
     let start = run.start;
     let count = run.count;
@@ -247,7 +259,11 @@ fn disjunction_fine(
     sort: InferSortId,
     disjuncts: Run,
 ) -> bool
-    ensures { λ r. ⌜ r ≡ constraintFine (partOf given [] [] [] (now (overloads .entry)) []) 0 (Constraint.Disjunction expr sort disjuncts) ⌝ }
+    ensures { λ r. ⌜
+        r
+        ≡ constraintFine (partOf given [] [] [] (now (overloads .entry)) []) 0
+        (Constraint.Disjunction expr sort disjuncts)
+        ⌝ }
 {
     if given.exprs <= (expr.0 as usize) {
         return false;
@@ -260,7 +276,9 @@ fn disjunction_fine(
 
 // Comprehension: two places, and a sort of the list.
 fn comprehension_fine(given: Given, body: InferSortId, node: InferSortId, element: SortId) -> bool
-    ensures { λ r. ⌜ r ≡ constraintFine (partOf given [] [] [] [] []) 0 (Constraint.Comprehension body node element) ⌝ }
+    ensures { λ r. ⌜
+        r ≡ constraintFine (partOf given [] [] [] [] []) 0 (Constraint.Comprehension body node element)
+        ⌝ }
 {
     if !placed(given, body.0) {
         return false;
@@ -273,7 +291,9 @@ fn comprehension_fine(given: Given, body: InferSortId, node: InferSortId, elemen
 
 // Join: a place, and a fine run of sources.
 fn join_fine(sources: &[u16], given: Given, run: Run, target: InferSortId) -> bool
-    ensures { λ r. ⌜ r ≡ constraintFine (partOf given [] [] [] [] (now (sources .entry))) 0 (Constraint.Join run target) ⌝ }
+    ensures { λ r. ⌜
+        r ≡ constraintFine (partOf given [] [] [] [] (now (sources .entry))) 0 (Constraint.Join run target)
+        ⌝ }
 {
     if !placed(given, target.0) {
         return false;
@@ -288,7 +308,9 @@ fn constraint_fine(
     b: u16,
     says: Constraint,
 ) -> bool
-    ensures { λ r. ⌜ r ≡ constraintFine (partOf given [] [] [] (now (overloads .entry)) (now (sources .entry))) b says ⌝ }
+    ensures { λ r. ⌜
+        r ≡ constraintFine (partOf given [] [] [] (now (overloads .entry)) (now (sources .entry))) b says
+        ⌝ }
 {
     match says {
         Constraint::Sub { lhs, rhs } => sub_fine(given, lhs, rhs),
@@ -312,7 +334,11 @@ fn constraint_fine(
 
 // Whether the i-th constraint has a known kind and is fine.
 fn row_fine(constraints: &[u16], overloads: &[u16], sources: &[u16], given: Given, i: u16) -> bool
-    ensures { λ r. ⌜ r ≡ rowFine (partOf given [] [] (now (constraints .entry)) (now (overloads .entry)) (now (sources .entry))) i ⌝ }
+    ensures { λ r. ⌜
+        r
+        ≡ rowFine
+        (partOf given [] [] (now (constraints .entry)) (now (overloads .entry)) (now (sources .entry))) i
+        ⌝ }
 {
     let row = 5 * (i as usize);
     let kind = word(constraints, row);
@@ -331,7 +357,11 @@ pub fn constraints_fine(
     given: Given,
 ) -> bool
     requires { ⌜ given .constraints ≤ maxConstraints ⌝ }
-    ensures { λ r. ⌜ r ≡ constraintsFine (partOf given [] [] (now (constraints .entry)) (now (overloads .entry)) (now (sources .entry))) ⌝ }
+    ensures { λ r. ⌜
+        r
+        ≡ constraintsFine
+        (partOf given [] [] (now (constraints .entry)) (now (overloads .entry)) (now (sources .entry)))
+        ⌝ }
 {
     let count = given.constraints as u16;
     let mut i: u16 = 0;
@@ -399,7 +429,10 @@ pub fn one_disjunction_each(constraints: &[u16], count: u16) -> bool
 
 // Check 10: no two base names are for one expression.
 pub fn one_name_each(names: &[u16], given: Given) -> bool
-    requires { ⌜ (3 * given .names ≤ length (now names)) × (allUnder maxExprs (keys (partOf given [] (now names) [] [] [])) ≡ true) ⌝ }
+    requires { ⌜
+        (3 * given .names ≤ length (now names))
+        × (allUnder maxExprs (keys (partOf given [] (now names) [] [] [])) ≡ true)
+        ⌝ }
     ensures { λ r. ⌜ r ≡ noTwo (keys (partOf given [] (now (names .entry)) [] [] [])) ⌝ }
 {
     let mut seen = [false; MAX_EXPRS];
@@ -525,7 +558,9 @@ pub fn disjunction_count(constraints: &[u16], count: u16) -> usize
 // Check 14: scratch and outputs are long enough, with a row for each expression, each component and each disjunction.
 pub fn outputs_long(constraints: &[u16], given: Given, room: Room) -> bool
     requires { ⌜ (given .exprs ≤ maxExprs) × (given .constraints ≤ maxConstraints) ⌝ }
-    ensures { λ r. ⌜ ((o : Outs room) → r ≡ outputsLong (outputsOf given (now (constraints .entry)) room o)) ⌝ }
+    ensures { λ r. ⌜
+        ((o : Outs room) → r ≡ outputsLong (outputsOf given (now (constraints .entry)) room o))
+        ⌝ }
 {
     if room.scratch < SCRATCH_WORDS {
         return false;
@@ -552,7 +587,12 @@ fn all_within_lent(
     sources: &[u16],
     given: Given,
 ) -> bool
-    ensures { λ r. ⌜ r ≡ allWithinLent (listsOf given (now (sorts .entry)) (now (nodes .entry)) (now (binds .entry)) (now (exprs .entry)) (now (names .entry)) (now (constraints .entry)) (now (overloads .entry)) (now (sources .entry))) ⌝ }
+    ensures { λ r. ⌜
+        r
+        ≡ allWithinLent (listsOf given (now (sorts .entry)) (now (nodes .entry)) (now (binds .entry))
+        (now (exprs .entry)) (now (names .entry)) (now (constraints .entry)) (now (overloads .entry))
+        (now (sources .entry)))
+        ⌝ }
 {
     if !within_lent(sorts, given.sorts, given.entries) {
         return false;
@@ -575,8 +615,15 @@ fn test_rows(
     sources: &[u16],
     given: Given,
 ) -> Tested
-    requires { ⌜ rowsWithinLent (partOf given (now exprs) (now names) (now constraints) (now overloads) (now sources)) ≡ true ⌝ }
-    ensures { λ r. ⌜ r ≡ testedOf (firstFailing (rowChecks (partOf given (now (exprs .entry)) (now (names .entry)) (now (constraints .entry)) (now (overloads .entry)) (now (sources .entry))))) ⌝ }
+    requires { ⌜
+        rowsWithinLent (partOf given (now exprs) (now names) (now constraints) (now overloads) (now sources))
+        ≡ true
+        ⌝ }
+    ensures { λ r. ⌜
+        r
+        ≡ testedOf (firstFailing (rowChecks (partOf given (now (exprs .entry)) (now (names .entry))
+        (now (constraints .entry)) (now (overloads .entry)) (now (sources .entry)))))
+        ⌝ }
 {
     if !exprs_fine(exprs, given) {
         return Tested::Refused(8);
@@ -599,7 +646,12 @@ fn test_rows(
 // Checks 11, 12 and 14: the first that fails.
 fn test_last(sorts: &[u16], nodes: &[u16], constraints: &[u16], given: Given, room: Room) -> Tested
     requires { ⌜ (given .exprs ≤ maxExprs) × (given .constraints ≤ maxConstraints) ⌝ }
-    ensures { λ r. ⌜ ((o : Outs room) → r ≡ testedOf (firstFailing (lastChecks (callOf given (now (sorts .entry)) (now (nodes .entry)) [] [] [] (now (constraints .entry)) [] [] room o)))) ⌝ }
+    ensures { λ r. ⌜
+        ((o : Outs room)
+        → r
+        ≡ testedOf (firstFailing (lastChecks (callIn given (now (sorts .entry)) (now (nodes .entry)) [] [] []
+        (now (constraints .entry)) [] [] room o))))
+        ⌝ }
 {
     let count = given.constraints as u16;
     if !joins_fine(constraints, count) {
@@ -635,8 +687,17 @@ fn test_lists(
     given: Given,
     room: Room,
 ) -> Tested
-    requires { ⌜ rowsWithinLent (partOf given (now exprs) (now names) (now constraints) (now overloads) (now sources)) ≡ true ⌝ }
-    ensures { λ r. ⌜ ((o : Outs room) → r ≡ testedOf (firstFailing (listChecks (callOf given (now (sorts .entry)) (now (nodes .entry)) [] (now (exprs .entry)) (now (names .entry)) (now (constraints .entry)) (now (overloads .entry)) (now (sources .entry)) room o)))) ⌝ }
+    requires { ⌜
+        rowsWithinLent (partOf given (now exprs) (now names) (now constraints) (now overloads) (now sources))
+        ≡ true
+        ⌝ }
+    ensures { λ r. ⌜
+        ((o : Outs room)
+        → r
+        ≡ testedOf (firstFailing (listChecks (callIn given (now (sorts .entry)) (now (nodes .entry)) []
+        (now (exprs .entry)) (now (names .entry)) (now (constraints .entry)) (now (overloads .entry))
+        (now (sources .entry)) room o))))
+        ⌝ }
 {
     match test_rows(exprs, names, constraints, overloads, sources, given) {
         Tested::Refused(code) => Tested::Refused(code),
@@ -657,8 +718,18 @@ fn test_rest(
     given: Given,
     room: Room,
 ) -> Tested
-    requires { ⌜ allWithinLent (listsOf given (now sorts) (now nodes) (now binds) (now exprs) (now names) (now constraints) (now overloads) (now sources)) ≡ true ⌝ }
-    ensures { λ r. ⌜ ((o : Outs room) → r ≡ testedOf (firstFailing (restChecks (callOf given (now (sorts .entry)) (now (nodes .entry)) (now (binds .entry)) (now (exprs .entry)) (now (names .entry)) (now (constraints .entry)) (now (overloads .entry)) (now (sources .entry)) room o)))) ⌝ }
+    requires { ⌜
+        allWithinLent (listsOf given (now sorts) (now nodes) (now binds) (now exprs) (now names)
+        (now constraints) (now overloads) (now sources))
+        ≡ true
+        ⌝ }
+    ensures { λ r. ⌜
+        ((o : Outs room)
+        → r
+        ≡ testedOf (firstFailing (restChecks (callIn given (now (sorts .entry)) (now (nodes .entry))
+        (now (binds .entry)) (now (exprs .entry)) (now (names .entry)) (now (constraints .entry))
+        (now (overloads .entry)) (now (sources .entry)) room o))))
+        ⌝ }
 {
     match test_nodes(
         given.sorts,
@@ -696,7 +767,13 @@ pub fn test_solve(
     given: Given,
     room: Room,
 ) -> Tested
-    ensures { λ r. ⌜ ((o : Outs room) → r ≡ testedOf (firstFailing (solveChecks (callOf given (now (sorts .entry)) (now (nodes .entry)) (now (binds .entry)) (now (exprs .entry)) (now (names .entry)) (now (constraints .entry)) (now (overloads .entry)) (now (sources .entry)) room o)))) ⌝ }
+    ensures { λ r. ⌜
+        ((o : Outs room)
+        → r
+        ≡ testedOf (firstFailing (solveChecks (callIn given (now (sorts .entry)) (now (nodes .entry))
+        (now (binds .entry)) (now (exprs .entry)) (now (names .entry)) (now (constraints .entry))
+        (now (overloads .entry)) (now (sources .entry)) room o))))
+        ⌝ }
 {
     if !all_within_lent(
         sorts,

@@ -18,7 +18,7 @@ use Rattle.inference.specs.Typing.{HoldsTogether}
 use Rattle.inference.proofs.Together.{Explained, every-typing-is-explained, typing-holds-together}
 use Rattle.inference.proofs.NoConstraints.{no-constraints-is-a-typing}
 use Rattle.solve_checks.specs.declared.Given.{Given}
-use Rattle.solve_outputs.specs.Begin.{callWith}
+use Rattle.solve_checks.specs.Call.{callOf}
 use Rattle.solve_outputs.specs.Finish.{leftOf}
 
 abbrev pub TypingOr15 : Solved → Type 0
@@ -26,9 +26,9 @@ TypingOr15 r = ((o : Outputs) × (r ≡ Typing o)) ⊎ (r ≡ NoRoom 15)
 
 -- what the entry is given, and what it answers and leaves
 module _ (g : Given) (ws ns bs xs ks cs os ss sc ts ms hs : List ℕ) (r : Solved) (ws′ ns′ bs′ sc′ ts′ ms′ hs′ : List ℕ)
-    (e : leftOf r ws′ ns′ bs′ sc′ ts′ ms′ hs′ ≡ solveEntry (callWith g ws ns bs xs ks cs os ss sc ts ms hs)) where
+    (e : leftOf r ws′ ns′ bs′ sc′ ts′ ms′ hs′ ≡ solveEntry (callOf g ws ns bs xs ks cs os ss sc ts ms hs)) where
   abbrev I : Call
-  I = callWith g ws ns bs xs ks cs os ss sc ts ms hs
+  I = callOf g ws ns bs xs ks cs os ss sc ts ms hs
 
   abbrev L : Left
   L = leftOf r ws′ ns′ bs′ sc′ ts′ ms′ hs′

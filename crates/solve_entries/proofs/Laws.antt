@@ -28,8 +28,9 @@ use Rattle.search_state.specs.Memory.{problemWords, problemIn, pathOf, worldOf,
 use Rattle.search_state.specs.Searching.{Searching, Done, Comes}
 use Rattle.problem_words.specs.Packed.{Packable, problemFrom}
 use Rattle.solve_checks.specs.declared.Given.{Given}
-use Rattle.solve_checks.specs.Calls.{lengthsOf, partOf}
-use Rattle.solve_outputs.specs.Begin.{callWith, CountsFit, RowsFit, sizesOf, noIncumbent, nothingTaken}
+use Rattle.solve_checks.specs.Calls.{partOf}
+use Rattle.solve_checks.specs.Call.{lengthsOf, callOf}
+use Rattle.solve_outputs.specs.Begin.{CountsFit, RowsFit, sizesOf, noIncumbent, nothingTaken}
 use Rattle.solve_outputs.specs.Finish.{leftOf, leftBy, settledBy, Handable, SortsReturnable, NodesReturnable}
 use Rattle.solve_outputs.specs.Packed.{packSolved, Told, packed, packLeft}
 use Rattle.solve_outputs.proofs.Codes.{entry-told}
@@ -68,7 +69,7 @@ module _ (ls : List ℕ) (z : Sizes) (ws ns bs sc : List ℕ) (k : Lengths) (st 
 -- A call.
 module _ (g : Given) (ws ns bs xs ks cs os ss sc ts ms hs : List ℕ) where
   abbrev I : Call
-  I = callWith g ws ns bs xs ks cs os ss sc ts ms hs
+  I = callOf g ws ns bs xs ks cs os ss sc ts ms hs
 
   -- refused
   module _ (t : Tested) (e : t ≡ testedOf (firstFailing (solveChecks I))) where

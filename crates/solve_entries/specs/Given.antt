@@ -2,6 +2,19 @@
 use Prim.Native.Nat.{ℕ}
 use Rattle.solve_checks.specs.declared.Given.{Given}
 
-abbrev pub givenOf : (sorts entries nodes arguments variables exprs names constraints overloads sources default : ℕ) → Given
+abbrev pub givenOf : (sorts entries nodes arguments variables exprs names constraints overloads sources
+    default : ℕ) → Given
 givenOf n e m d v x k c o s t =
-    record { sorts = n; entries = e; nodes = m; arguments = d; variables = v; exprs = x; names = k; constraints = c; overloads = o; sources = s; default = t }
+    record {
+      sorts = n;
+      entries = e;
+      nodes = m;
+      arguments = d;
+      variables = v;
+      exprs = x;
+      names = k;
+      constraints = c;
+      overloads = o;
+      sources = s;
+      default = t;
+    }

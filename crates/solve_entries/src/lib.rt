@@ -27,7 +27,8 @@ ghost use Rattle.inference.specs.SolveEntry.{solveEntry};
 ghost use Rattle.search_state.specs.declared.Next.the-variants.{Solve};
 ghost use Rattle.search_state.specs.Memory.{problemIn, pathOf, worldOf, solveFrom};
 ghost use Rattle.search_state.specs.Searching.{Searching};
-ghost use Rattle.solve_outputs.specs.Begin.{callWith, noIncumbent, nothingTaken};
+ghost use Rattle.solve_outputs.specs.Begin.{noIncumbent, nothingTaken};
+ghost use Rattle.solve_checks.specs.Call.{callOf};
 ghost use Rattle.solve_outputs.specs.Finish.{leftOf, leftBy, settledBy, Handable};
 ghost use Rattle.solve_outputs.specs.Packed.{packed, packLeft};
 ghost use Rattle.solve_entries.specs.Given.{givenOf};
@@ -47,8 +48,25 @@ fn search(
     sizes: Sizes,
     lengths: Lengths,
 ) -> Solved
-    requires { ⌜ Searching (now sorts) (now nodes) (now binds) (now scratch) (now lists) sizes (noIncumbent lengths) nothingTaken 0 [] (Solve 0) × Handable (now scratch) (now lists) (now names) «name_count» sizes (now typing) (now measure) (now choices) ⌝ }
-    ensures { λ r. ⌜ leftOf r (now (sorts .exit)) (now (nodes .exit)) (now (binds .exit)) (now (scratch .exit)) (now (typing .exit)) (now (measure .exit)) (now (choices .exit)) ≡ leftBy lengths (now (nodes .entry)) (now (binds .entry)) (now (scratch .entry)) (settledBy (problemIn (now (lists .entry)) sizes) (rowsFrom (baseNameAt (now (names .entry))) 0 «name_count») (now (typing .entry)) (now (measure .entry)) (now (choices .entry)) lengths (solveFrom (now (lists .entry)) sizes 0 (pathOf (now (lists .entry)) sizes (bindsOf (now (binds .entry)) (lengths .variables)) (now (scratch .entry)) nothingTaken) (worldOf (now (lists .entry)) sizes (now (sorts .entry)) (now (nodes .entry)) (now (scratch .entry)) (noIncumbent lengths)))) ⌝ }
+    requires { ⌜
+        Searching (now sorts) (now nodes) (now binds) (now scratch) (now lists) sizes (noIncumbent lengths)
+        nothingTaken 0 [] (Solve 0)
+        × Handable (now scratch) (now lists) (now names) «name_count» sizes
+        (now typing) (now measure) (now choices)
+        ⌝ }
+    ensures { λ r. ⌜
+        leftOf r (now (sorts .exit)) (now (nodes .exit)) (now (binds .exit)) (now (scratch .exit))
+        (now (typing .exit)) (now (measure .exit)) (now (choices .exit))
+        ≡ leftBy lengths (now (nodes .entry)) (now (binds .entry)) (now (scratch .entry))
+        (settledBy (problemIn (now (lists .entry)) sizes)
+        (rowsFrom (baseNameAt (now (names .entry))) 0 «name_count»)
+        (now (typing .entry)) (now (measure .entry)) (now (choices .entry)) lengths
+        (solveFrom (now (lists .entry)) sizes 0
+        (pathOf (now (lists .entry)) sizes (bindsOf (now (binds .entry)) (lengths .variables))
+        (now (scratch .entry)) nothingTaken)
+        (worldOf (now (lists .entry)) sizes (now (sorts .entry)) (now (nodes .entry)) (now (scratch .entry))
+        (noIncumbent lengths))))
+        ⌝ }
 {
     let st = no_incumbent(lengths);
     let at = nothing_taken();
@@ -85,8 +103,20 @@ fn solve_passed(
     measure: &mut [u16],
     choices: &mut [u16],
 ) -> Solved
-    requires { ⌜ firstFailing (solveChecks (callWith given (now sorts) (now nodes) (now binds) (now exprs) (now names) (now constraints) (now overloads) (now sources) (now scratch) (now typing) (now measure) (now choices))) ≡ none ⌝ }
-    ensures { λ r. ⌜ leftOf r (now (sorts .exit)) (now (nodes .exit)) (now (binds .exit)) (now (scratch .exit)) (now (typing .exit)) (now (measure .exit)) (now (choices .exit)) ≡ solveEntry (callWith given (now (sorts .entry)) (now (nodes .entry)) (now (binds .entry)) (now (exprs .entry)) (now (names .entry)) (now (constraints .entry)) (now (overloads .entry)) (now (sources .entry)) (now (scratch .entry)) (now (typing .entry)) (now (measure .entry)) (now (choices .entry))) ⌝ }
+    requires { ⌜
+        firstFailing (solveChecks (callOf given (now sorts) (now nodes) (now binds) (now exprs) (now names)
+        (now constraints) (now overloads) (now sources) (now scratch) (now typing) (now measure)
+        (now choices)))
+        ≡ none
+        ⌝ }
+    ensures { λ r. ⌜
+        leftOf r (now (sorts .exit)) (now (nodes .exit)) (now (binds .exit)) (now (scratch .exit))
+        (now (typing .exit)) (now (measure .exit)) (now (choices .exit))
+        ≡ solveEntry (callOf given (now (sorts .entry)) (now (nodes .entry)) (now (binds .entry))
+        (now (exprs .entry)) (now (names .entry)) (now (constraints .entry)) (now (overloads .entry))
+        (now (sources .entry)) (now (scratch .entry)) (now (typing .entry)) (now (measure .entry))
+        (now (choices .entry)))
+        ⌝ }
 {
     let lengths = lengths_of(given);
     let sizes = sizes_of(constraints, given);
@@ -127,7 +157,14 @@ pub fn solve(
     measure: &mut [u16],
     choices: &mut [u16],
 ) -> Solved
-    ensures { λ r. ⌜ leftOf r (now (sorts .exit)) (now (nodes .exit)) (now (binds .exit)) (now (scratch .exit)) (now (typing .exit)) (now (measure .exit)) (now (choices .exit)) ≡ solveEntry (callWith given (now (sorts .entry)) (now (nodes .entry)) (now (binds .entry)) (now (exprs .entry)) (now (names .entry)) (now (constraints .entry)) (now (overloads .entry)) (now (sources .entry)) (now (scratch .entry)) (now (typing .entry)) (now (measure .entry)) (now (choices .entry))) ⌝ }
+    ensures { λ r. ⌜
+        leftOf r (now (sorts .exit)) (now (nodes .exit)) (now (binds .exit)) (now (scratch .exit))
+        (now (typing .exit)) (now (measure .exit)) (now (choices .exit))
+        ≡ solveEntry (callOf given (now (sorts .entry)) (now (nodes .entry)) (now (binds .entry))
+        (now (exprs .entry)) (now (names .entry)) (now (constraints .entry)) (now (overloads .entry))
+        (now (sources .entry)) (now (scratch .entry)) (now (typing .entry)) (now (measure .entry))
+        (now (choices .entry)))
+        ⌝ }
 {
     let room = Room {
         scratch: scratch.len(),
@@ -193,7 +230,15 @@ pub extern "C" fn sort_solve(
     measure: &mut [u16],
     choices: &mut [u16],
 ) -> u64
-    ensures { λ r. ⌜ packed r (now (sorts .exit)) (now (nodes .exit)) (now (binds .exit)) (now (scratch .exit)) (now (typing .exit)) (now (measure .exit)) (now (choices .exit)) ≡ packLeft (solveEntry (callWith (givenOf «sort_count» «entry_count» «node_count» «node_entry_count» «var_count» «expr_count» «name_count» «constraint_count» «overload_count» «source_count» default) (now (sorts .entry)) (now (nodes .entry)) (now (binds .entry)) (now (exprs .entry)) (now (names .entry)) (now (constraints .entry)) (now (overloads .entry)) (now (sources .entry)) (now (scratch .entry)) (now (typing .entry)) (now (measure .entry)) (now (choices .entry)))) ⌝ }
+    ensures { λ r. ⌜
+        packed r (now (sorts .exit)) (now (nodes .exit)) (now (binds .exit)) (now (scratch .exit))
+        (now (typing .exit)) (now (measure .exit)) (now (choices .exit))
+        ≡ packLeft (solveEntry (callOf (givenOf «sort_count» «entry_count» «node_count» «node_entry_count»
+        «var_count» «expr_count» «name_count» «constraint_count» «overload_count» «source_count» default)
+        (now (sorts .entry)) (now (nodes .entry)) (now (binds .entry)) (now (exprs .entry))
+        (now (names .entry)) (now (constraints .entry)) (now (overloads .entry)) (now (sources .entry))
+        (now (scratch .entry)) (now (typing .entry)) (now (measure .entry)) (now (choices .entry))))
+        ⌝ }
 {
     let given = Given {
         sorts: sort_count,

@@ -1,5 +1,4 @@
--- What the search of a call begins with: how many rows its lists have, no incumbent, and a branch that has taken on nothing. And the call that the words lent
--- for scratch and outputs make.
+-- What the search of a call begins with: how many rows its lists have, no incumbent, and a branch that has taken on nothing.
 use mathlib.Core.Path.{refl}
 use mathlib.Core.Bool.{false}
 use mathlib.Core.List.{List}
@@ -15,18 +14,25 @@ use Rattle.search_state.specs.declared.State.{State}
 use Rattle.search_state.specs.declared.Branch.{Branch}
 use Rattle.solve_checks.specs.declared.Given.{Given}
 use Rattle.solve_checks.specs.declared.Room.{Room}
-use Rattle.solve_checks.specs.Calls.{Outs, callOf}
+use Rattle.solve_checks.specs.Calls.{Outs}
 
 -- scratch and outputs as they are lent
 abbrev pub roomOf : (scratch typing measure choices : List ℕ) → Room
-roomOf sc ts ms hs = record { scratch = length sc; typing = length ts; measure = length ms; choices = length hs }
+roomOf sc ts ms hs =
+    record { scratch = length sc; typing = length ts; measure = length ms; choices = length hs }
 
 abbrev pub outsOf : (scratch typing measure choices : List ℕ) → Outs (roomOf scratch typing measure choices)
 outsOf sc ts ms hs =
-    record { scratch = sc; typing = ts; measure = ms; choices = hs; scratch-length = refl; typing-length = refl; measure-length = refl; choices-length = refl }
-
-abbrev pub callWith : Given → (sorts nodes binds exprs names constraints overloads sources scratch typing measure choices : List ℕ) → Call
-callWith g ws ns bs xs ks cs os ss sc ts ms hs = callOf g ws ns bs xs ks cs os ss (roomOf sc ts ms hs) (outsOf sc ts ms hs)
+    record {
+      scratch = sc;
+      typing = ts;
+      measure = ms;
+      choices = hs;
+      scratch-length = refl;
+      typing-length = refl;
+      measure-length = refl;
+      choices-length = refl;
+    }
 
 -- counts within their ceilings
 pub record CountsFit (k : Lengths) : Type 0 where

@@ -37,17 +37,30 @@ settled ws a = record { sorts = ws; told = a }
 
 -- and with all lent memory: "Scratch is zero after 15 to 18 and 0", "node rows past the entry length zero"
 abbrev pub leftOf : Solved → (sorts nodes binds scratch typing measure choices : List ℕ) → Left
-leftOf r ws ns bs sc ts ms hs = record { answer = r; sorts = ws; nodes = ns; binds = bs; scratch = sc; typing = ts; measure = ms; choices = hs }
+leftOf r ws ns bs sc ts ms hs =
+    record {
+      answer = r;
+      sorts = ws;
+      nodes = ns;
+      binds = bs;
+      scratch = sc;
+      typing = ts;
+      measure = ms;
+      choices = hs;
+    }
 
 abbrev pub leftBy : Lengths → (nodes binds scratch : List ℕ) → Settled → Left
 leftBy k ns bs sc s =
-    leftOf (s .told .answer) (s .sorts) (nodesGivenBack (k .nodes) (k .arguments) ns) bs (cleared sc) (s .told .typing) (s .told .measure) (s .told .choices)
+    leftOf (s .told .answer) (s .sorts) (nodesGivenBack (k .nodes) (k .arguments) ns) bs (cleared sc)
+    (s .told .typing) (s .told .measure) (s .told .choices)
 
 -- for a problem with base names, and outputs to be written over
 module _ (P : Problem) (names : List BaseName) (ts ms hs : List ℕ) where
   unfoldable pub handedOut : Counts → Candidate → Answered
   handedOut n c =
-      answered (Typing (record { counts = n; components = length (c .measure); choices = length (c .choices) })) (over (typingRows P names (c .choices) 0 (c .sorts)) ts) (over (c .measure) ms)
+      answered
+      (Typing (record { counts = n; components = length (c .measure); choices = length (c .choices) }))
+      (over (typingRows P names (c .choices) 0 (c .sorts)) ts) (over (c .measure) ms)
       (over (choiceRows (c .choices)) hs)
 
   abbrev pub judgedBy : Counts → Candidate → Bool → Answered
@@ -62,7 +75,8 @@ module _ (P : Problem) (names : List BaseName) (ts ms hs : List ℕ) where
   abbrev pub settledBy : Lengths → Out (Unit {0}) → Settled
   settledBy k (found w) = settled (w .lent .sorts) (judged (countsIn (w .lent)) (w .best))
   settledBy k (missed w) = settled (w .lent .sorts) (judged (countsIn (w .lent)) (w .best))
-  settledBy k (ended c W) = settled (givenBack (k .sorts) (k .entries) (W .sorts)) (answered (NoRoom c) ts ms hs)
+  settledBy k (ended c W) =
+      settled (givenBack (k .sorts) (k .entries) (W .sorts)) (answered (NoRoom c) ts ms hs)
 
 -- room for what is handed out, with n base names
 pub record Handable (sc ls ks : List ℕ) (n : ℕ) (z : Sizes) (ts ms hs : List ℕ) : Type 0 where

@@ -44,7 +44,19 @@ pub record Packed : Type 0 where
   pub choices : List ℕ
 
 abbrev pub packed : ℕ → (sorts nodes binds scratch typing measure choices : List ℕ) → Packed
-packed r ws ns bs sc ts ms hs = record { result = r; sorts = ws; nodes = ns; binds = bs; scratch = sc; typing = ts; measure = ms; choices = hs }
+packed r ws ns bs sc ts ms hs =
+    record {
+      result = r;
+      sorts = ws;
+      nodes = ns;
+      binds = bs;
+      scratch = sc;
+      typing = ts;
+      measure = ms;
+      choices = hs;
+    }
 
 abbrev pub packLeft : Left → Packed
-packLeft l = packed (packSolved (l .answer)) (l .sorts) (l .nodes) (l .binds) (l .scratch) (l .typing) (l .measure) (l .choices)
+packLeft l =
+    packed (packSolved (l .answer)) (l .sorts) (l .nodes) (l .binds) (l .scratch) (l .typing) (l .measure)
+    (l .choices)

@@ -30,7 +30,8 @@ positionAt sc k = getD sc (bestChoicesAt + k) 0
 unfoldable pub choiceBy : List ℕ → Constraint → List ℕ → ℕ → Walked
 choiceBy sc (Sub l r) ch k = walked ch k
 choiceBy sc (Lit p kind) ch k = walked ch k
-choiceBy sc (Disjunction x p run) ch k = walked (set (set ch (2 * k) (x .0)) (2 * k + 1) (positionAt sc k)) (k + 1)
+choiceBy sc (Disjunction x p run) ch k =
+    walked (set (set ch (2 * k) (x .0)) (2 * k + 1) (positionAt sc k)) (k + 1)
 choiceBy sc (Comprehension body node element) ch k = walked ch k
 choiceBy sc (Join run t) ch k = walked ch k
 
@@ -44,7 +45,8 @@ noName x = none
 
 -- the name of x, where it is one of n expressions
 unfoldable pub named : ℕ → List ℕ → ℕ → NameTarget → List ℕ
-named n ts x t = cond (ltb x n) (set (set ts (3 * x + 1) (nameKind (some t))) (3 * x + 2) (nameSort (some t))) ts
+named n ts x t =
+    cond (ltb x n) (set (set ts (3 * x + 1) (nameKind (some t))) (3 * x + 2) (nameSort (some t))) ts
 
 unfoldable pub baseNamed : ℕ → List BaseName → List ℕ → List ℕ
 baseNamed n [] ts = ts
@@ -55,7 +57,8 @@ module _ (n : ℕ) (os : List Overload) (sc : List ℕ) where
   unfoldable pub nameBy : Constraint → List ℕ → ℕ → Walked
   nameBy (Sub l r) ts k = walked ts k
   nameBy (Lit p kind) ts k = walked ts k
-  nameBy (Disjunction x p run) ts k = walked (named n ts (x .0) (overloadIn os run (positionAt sc (k - 1)) .target)) (k - 1)
+  nameBy (Disjunction x p run) ts k =
+      walked (named n ts (x .0) (overloadIn os run (positionAt sc (k - 1)) .target)) (k - 1)
   nameBy (Comprehension body node element) ts k = walked ts k
   nameBy (Join run t) ts k = walked ts k
 
@@ -64,6 +67,7 @@ module _ (n : ℕ) (os : List Overload) (sc : List ℕ) where
   chosenNamed [] k ts = ts
   chosenNamed (Sub l r ∷ cs) k ts = chosenNamed cs k ts
   chosenNamed (Lit p kind ∷ cs) k ts = chosenNamed cs k ts
-  chosenNamed (Disjunction x p run ∷ cs) k ts = named n (chosenNamed cs (k + 1) ts) (x .0) (overloadIn os run (positionAt sc k) .target)
+  chosenNamed (Disjunction x p run ∷ cs) k ts =
+      named n (chosenNamed cs (k + 1) ts) (x .0) (overloadIn os run (positionAt sc k) .target)
   chosenNamed (Comprehension body node element ∷ cs) k ts = chosenNamed cs k ts
   chosenNamed (Join run t ∷ cs) k ts = chosenNamed cs k ts

@@ -48,7 +48,8 @@ ghost use Rattle.words.specs.Words.{part};
 ghost use Rattle.search_state.specs.Searching.{Sized};
 ghost use Rattle.solve_outputs.specs.Written.{walked, choiceBy, namedRows, noName, named, baseNamed, nameBy, chosenNamed};
 ghost use Rattle.inference.specs.declared.Solved.the-variants.{Typing};
-ghost use Rattle.solve_checks.specs.Calls.{lengthsOf, partOf};
+ghost use Rattle.solve_checks.specs.Calls.{partOf};
+ghost use Rattle.solve_checks.specs.Call.{lengthsOf};
 ghost use Rattle.solve_outputs.specs.Begin.{CountsFit, RowsFit, sizesOf, noIncumbent, nothingTaken};
 ghost use Rattle.solve_outputs.specs.Packed.{packCounts, packSolved, CountsWithin, Told};
 ghost use Rattle.solve_outputs.specs.Finish.{answered, settled, leftOf, leftBy, handedOut, judged, settledBy, Handable, SortsReturnable, NodesReturnable};
@@ -63,7 +64,9 @@ pub fn clear(words: &mut [u16])
 
 // Zero past the nodes and argument entries that the call began with, and these as they are.
 pub fn clear_nodes(nodes: &mut [u16], node_count: u16, entry_count: u16)
-    requires { ⌜ («node_count» ≤ maxNodes) × («entry_count» ≤ maxNodeEntries) × (fullNodes ≤ length (now nodes)) ⌝ }
+    requires { ⌜
+        («node_count» ≤ maxNodes) × («entry_count» ≤ maxNodeEntries) × (fullNodes ≤ length (now nodes))
+        ⌝ }
     ensures { λ _. ⌜ now (nodes .exit) ≡ nodesGivenBack «node_count» «entry_count» (now (nodes .entry)) ⌝ }
 {
     words::clear(nodes, 4 * (node_count as usize), NODE_ENTRIES_AT);
@@ -73,8 +76,15 @@ pub fn clear_nodes(nodes: &mut [u16], node_count: u16, entry_count: u16)
 
 // The measure handed out.
 pub fn write_measure(measure: &mut [u16], scratch: &[u16], sizes: Sizes)
-    requires { ⌜ (sizes .components ≤ maxComponents) × (sizes .components ≤ length (now measure)) × (scratchUsed ≤ length (now scratch)) ⌝ }
-    ensures { λ _. ⌜ now (measure .exit) ≡ over (part bestMeasureAt (sizes .components) (now (scratch .entry))) (now (measure .entry)) ⌝ }
+    requires { ⌜
+        (sizes .components ≤ maxComponents)
+        × (sizes .components ≤ length (now measure))
+        × (scratchUsed ≤ length (now scratch))
+        ⌝ }
+    ensures { λ _. ⌜
+        now (measure .exit)
+        ≡ over (part bestMeasureAt (sizes .components) (now (scratch .entry))) (now (measure .entry))
+        ⌝ }
 {
     copy(
         measure,
@@ -88,7 +98,9 @@ pub fn write_measure(measure: &mut [u16], scratch: &[u16], sizes: Sizes)
 // Of a disjunction the row of its choice, after k of them. How many there are then.
 fn write_choice(choices: &mut [u16], scratch: &[u16], says: Constraint, k: u16) -> u16
     requires { ⌜ k ≤ maxConstraints ⌝ }
-    ensures { λ r. ⌜ walked (now (choices .exit)) r ≡ choiceBy (now (scratch .entry)) says (now (choices .entry)) k ⌝ }
+    ensures { λ r. ⌜
+        walked (now (choices .exit)) r ≡ choiceBy (now (scratch .entry)) says (now (choices .entry)) k
+        ⌝ }
 {
     match says {
         Constraint::Sub { lhs: _, rhs: _ } => k,
@@ -121,8 +133,17 @@ fn write_choice(choices: &mut [u16], scratch: &[u16], says: Constraint, k: u16) 
 
 // The choices handed out, in the order of the constraints.
 pub fn write_choices(choices: &mut [u16], scratch: &[u16], lists: &[u16], sizes: Sizes)
-    requires { ⌜ Sized (problemIn (now lists) sizes) sizes × (2 * sizes .disjunctions ≤ length (now choices)) × (scratchUsed ≤ length (now scratch)) ⌝ }
-    ensures { λ _. ⌜ now (choices .exit) ≡ over (choiceRows (choicesOf (chosenExprs (now (lists .entry)) sizes) (part bestChoicesAt (sizes .disjunctions) (now (scratch .entry))))) (now (choices .entry)) ⌝ }
+    requires { ⌜
+        Sized (problemIn (now lists) sizes) sizes
+        × (2 * sizes .disjunctions ≤ length (now choices))
+        × (scratchUsed ≤ length (now scratch))
+        ⌝ }
+    ensures { λ _. ⌜
+        now (choices .exit)
+        ≡ over (choiceRows (choicesOf (chosenExprs (now (lists .entry)) sizes)
+        (part bestChoicesAt (sizes .disjunctions) (now (scratch .entry)))))
+        (now (choices .entry))
+        ⌝ }
 {
     let count = sizes.constraints;
     let mut k: u16 = 0;
@@ -169,7 +190,10 @@ fn put_name(typing: &mut [u16], exprs: u16, x: u16, name: NameTarget)
 // The sorts of the expressions, each with no name yet.
 fn write_sorts(typing: &mut [u16], scratch: &[u16], exprs: u16)
     requires { ⌜ bestSortsAt + exprs ≤ length (now scratch) ⌝ }
-    ensures { λ _. ⌜ now (typing .exit) ≡ sets (now (typing .entry)) 0 (namedRows noName 0 (part bestSortsAt exprs (now (scratch .entry)))) ⌝ }
+    ensures { λ _. ⌜
+        now (typing .exit)
+        ≡ sets (now (typing .entry)) 0 (namedRows noName 0 (part bestSortsAt exprs (now (scratch .entry))))
+        ⌝ }
 {
     let mut x: u16 = 0;
     while x < exprs {
@@ -184,7 +208,10 @@ fn write_sorts(typing: &mut [u16], scratch: &[u16], exprs: u16)
 // The base names, from the last to the first.
 fn write_base_names(typing: &mut [u16], names: &[u16], name_count: usize, exprs: u16)
     requires { ⌜ 3 * «name_count» ≤ length (now names) ⌝ }
-    ensures { λ _. ⌜ now (typing .exit) ≡ baseNamed exprs (rowsFrom (baseNameAt (now (names .entry))) 0 «name_count») (now (typing .entry)) ⌝ }
+    ensures { λ _. ⌜
+        now (typing .exit)
+        ≡ baseNamed exprs (rowsFrom (baseNameAt (now (names .entry))) 0 «name_count») (now (typing .entry))
+        ⌝ }
 {
     let mut i = name_count;
     while 0 < i {
@@ -198,7 +225,10 @@ fn write_base_names(typing: &mut [u16], names: &[u16], name_count: usize, exprs:
 
 // What the i-th of a run of overloads stands for. Past the overloads that is a variable, never what lies there.
 fn chosen_target(lists: &[u16], overloads: u16, run: Run, i: u16) -> NameTarget
-    ensures { λ r. ⌜ r ≡ overloadIn (rowsFrom (overloadAt (drop overloadsAt (now (lists .entry)))) 0 overloads) run i .target ⌝ }
+    ensures { λ r. ⌜
+        r
+        ≡ overloadIn (rowsFrom (overloadAt (drop overloadsAt (now (lists .entry)))) 0 overloads) run i .target
+        ⌝ }
 {
     let at = (run.start as usize) + (i as usize);
     if (overloads as usize) <= at {
@@ -220,7 +250,12 @@ fn name_choice(
     k: u16,
 ) -> u16
     requires { ⌜ (length (disjunctionFor says []) ≤ k) × (k ≤ maxConstraints) ⌝ }
-    ensures { λ r. ⌜ walked (now (typing .exit)) r ≡ nameBy (sizes .exprs) (rowsFrom (overloadAt (drop overloadsAt (now (lists .entry)))) 0 (sizes .overloads)) (now (scratch .entry)) says (now (typing .entry)) k ⌝ }
+    ensures { λ r. ⌜
+        walked (now (typing .exit)) r
+        ≡ nameBy (sizes .exprs)
+        (rowsFrom (overloadAt (drop overloadsAt (now (lists .entry)))) 0 (sizes .overloads))
+        (now (scratch .entry)) says (now (typing .entry)) k
+        ⌝ }
 {
     match says {
         Constraint::Sub { lhs: _, rhs: _ } => k,
@@ -255,7 +290,12 @@ fn name_choice(
 // The names that the choices give, from the last to the first.
 fn write_chosen_names(typing: &mut [u16], scratch: &[u16], lists: &[u16], sizes: Sizes)
     requires { ⌜ Sized (problemIn (now lists) sizes) sizes ⌝ }
-    ensures { λ _. ⌜ now (typing .exit) ≡ chosenNamed (sizes .exprs) (rowsFrom (overloadAt (drop overloadsAt (now (lists .entry)))) 0 (sizes .overloads)) (now (scratch .entry)) (restFrom (now (lists .entry)) sizes 0) 0 (now (typing .entry)) ⌝ }
+    ensures { λ _. ⌜
+        now (typing .exit)
+        ≡ chosenNamed (sizes .exprs)
+        (rowsFrom (overloadAt (drop overloadsAt (now (lists .entry)))) 0 (sizes .overloads))
+        (now (scratch .entry)) (restFrom (now (lists .entry)) sizes 0) 0 (now (typing .entry))
+        ⌝ }
 {
     let mut k = sizes.disjunctions;
     let mut i = sizes.constraints;
@@ -274,8 +314,21 @@ pub fn write_typing(
     name_count: usize,
     sizes: Sizes,
 )
-    requires { ⌜ Sized (problemIn (now lists) sizes) sizes × (3 * sizes .exprs ≤ length (now typing)) × (3 * «name_count» ≤ length (now names)) × (scratchUsed ≤ length (now scratch)) ⌝ }
-    ensures { λ _. ⌜ now (typing .exit) ≡ over (typingRows (problemIn (now (lists .entry)) sizes) (rowsFrom (baseNameAt (now (names .entry))) 0 «name_count») (choicesOf (chosenExprs (now (lists .entry)) sizes) (part bestChoicesAt (sizes .disjunctions) (now (scratch .entry)))) 0 (part bestSortsAt (sizes .exprs) (now (scratch .entry)))) (now (typing .entry)) ⌝ }
+    requires { ⌜
+        Sized (problemIn (now lists) sizes) sizes
+        × (3 * sizes .exprs ≤ length (now typing))
+        × (3 * «name_count» ≤ length (now names))
+        × (scratchUsed ≤ length (now scratch))
+        ⌝ }
+    ensures { λ _. ⌜
+        now (typing .exit)
+        ≡ over (typingRows (problemIn (now (lists .entry)) sizes)
+        (rowsFrom (baseNameAt (now (names .entry))) 0 «name_count»)
+        (choicesOf (chosenExprs (now (lists .entry)) sizes)
+        (part bestChoicesAt (sizes .disjunctions) (now (scratch .entry))))
+        0 (part bestSortsAt (sizes .exprs) (now (scratch .entry))))
+        (now (typing .entry))
+        ⌝ }
 {
     write_sorts(typing, scratch, sizes.exprs);
     write_base_names(typing, names, name_count, sizes.exprs);
@@ -349,8 +402,17 @@ fn hand_out(
     sizes: Sizes,
     counts: Counts,
 ) -> Solved
-    requires { ⌜ Handable (now scratch) (now lists) (now names) «name_count» sizes (now typing) (now measure) (now choices) ⌝ }
-    ensures { λ r. ⌜ answered r (now (typing .exit)) (now (measure .exit)) (now (choices .exit)) ≡ handedOut (problemIn (now (lists .entry)) sizes) (rowsFrom (baseNameAt (now (names .entry))) 0 «name_count») (now (typing .entry)) (now (measure .entry)) (now (choices .entry)) counts (candidateOf (now (lists .entry)) sizes (now (scratch .entry)) false) ⌝ }
+    requires { ⌜
+        Handable (now scratch) (now lists) (now names) «name_count» sizes
+        (now typing) (now measure) (now choices)
+        ⌝ }
+    ensures { λ r. ⌜
+        answered r (now (typing .exit)) (now (measure .exit)) (now (choices .exit))
+        ≡ handedOut (problemIn (now (lists .entry)) sizes)
+        (rowsFrom (baseNameAt (now (names .entry))) 0 «name_count»)
+        (now (typing .entry)) (now (measure .entry)) (now (choices .entry)) counts
+        (candidateOf (now (lists .entry)) sizes (now (scratch .entry)) false)
+        ⌝ }
 {
     write_typing(typing, scratch, lists, names, name_count, sizes);
     write_measure(measure, scratch, sizes);
@@ -374,8 +436,18 @@ fn judge(
     sizes: Sizes,
     st: State,
 ) -> Solved
-    requires { ⌜ Handable (now scratch) (now lists) (now names) «name_count» sizes (now typing) (now measure) (now choices) ⌝ }
-    ensures { λ r. ⌜ answered r (now (typing .exit)) (now (measure .exit)) (now (choices .exit)) ≡ judged (problemIn (now (lists .entry)) sizes) (rowsFrom (baseNameAt (now (names .entry))) 0 «name_count») (now (typing .entry)) (now (measure .entry)) (now (choices .entry)) (record { sorts = st .lengths .sorts; entries = st .lengths .entries }) (bestOf (now (lists .entry)) sizes (now (scratch .entry)) (st .best) (st .tied)) ⌝ }
+    requires { ⌜
+        Handable (now scratch) (now lists) (now names) «name_count» sizes
+        (now typing) (now measure) (now choices)
+        ⌝ }
+    ensures { λ r. ⌜
+        answered r (now (typing .exit)) (now (measure .exit)) (now (choices .exit))
+        ≡ judged (problemIn (now (lists .entry)) sizes)
+        (rowsFrom (baseNameAt (now (names .entry))) 0 «name_count»)
+        (now (typing .entry)) (now (measure .entry)) (now (choices .entry))
+        (record { sorts = st .lengths .sorts; entries = st .lengths .entries })
+        (bestOf (now (lists .entry)) sizes (now (scratch .entry)) (st .best) (st .tied))
+        ⌝ }
 {
     let lengths = st.lengths;
     let counts = counts_of(lengths);
@@ -412,8 +484,20 @@ fn settle(
     lengths: Lengths,
     answer: Answer,
 ) -> Solved
-    requires { ⌜ Handable (now scratch) (now lists) (now names) «name_count» sizes (now typing) (now measure) (now choices) × SortsReturnable (now sorts) lengths ⌝ }
-    ensures { λ r. ⌜ ((ns : List ℕ) → settled (now (sorts .exit)) (answered r (now (typing .exit)) (now (measure .exit)) (now (choices .exit))) ≡ settledBy (problemIn (now (lists .entry)) sizes) (rowsFrom (baseNameAt (now (names .entry))) 0 «name_count») (now (typing .entry)) (now (measure .entry)) (now (choices .entry)) lengths (outOf (now (lists .entry)) sizes (now (sorts .entry)) ns (now (scratch .entry)) answer)) ⌝ }
+    requires { ⌜
+        Handable (now scratch) (now lists) (now names) «name_count» sizes
+        (now typing) (now measure) (now choices)
+        × SortsReturnable (now sorts) lengths
+        ⌝ }
+    ensures { λ r. ⌜
+        ((ns : List ℕ)
+        → settled (now (sorts .exit))
+        (answered r (now (typing .exit)) (now (measure .exit)) (now (choices .exit)))
+        ≡ settledBy (problemIn (now (lists .entry)) sizes)
+        (rowsFrom (baseNameAt (now (names .entry))) 0 «name_count»)
+        (now (typing .entry)) (now (measure .entry)) (now (choices .entry)) lengths
+        (outOf (now (lists .entry)) sizes (now (sorts .entry)) ns (now (scratch .entry)) answer))
+        ⌝ }
 {
     match answer {
         Answer::Found(st) => judge(
@@ -448,7 +532,10 @@ fn settle(
 // Zero past the nodes that the call began with, and in the scratch.
 fn tidy(nodes: &mut [u16], scratch: &mut [u16], lengths: Lengths)
     requires { ⌜ NodesReturnable (now nodes) lengths ⌝ }
-    ensures { λ _. ⌜ (now (nodes .exit) ≡ nodesGivenBack (lengths .nodes) (lengths .arguments) (now (nodes .entry))) × (now (scratch .exit) ≡ cleared (now (scratch .entry))) ⌝ }
+    ensures { λ _. ⌜
+        (now (nodes .exit) ≡ nodesGivenBack (lengths .nodes) (lengths .arguments) (now (nodes .entry)))
+        × (now (scratch .exit) ≡ cleared (now (scratch .entry)))
+        ⌝ }
 {
     clear_nodes(nodes, lengths.nodes, lengths.arguments);
     clear(scratch);
@@ -469,8 +556,23 @@ pub fn finish(
     lengths: Lengths,
     answer: Answer,
 ) -> Solved
-    requires { ⌜ Handable (now scratch) (now lists) (now names) «name_count» sizes (now typing) (now measure) (now choices) × SortsReturnable (now sorts) lengths × NodesReturnable (now nodes) lengths ⌝ }
-    ensures { λ r. ⌜ ((bs : List ℕ) → leftOf r (now (sorts .exit)) (now (nodes .exit)) bs (now (scratch .exit)) (now (typing .exit)) (now (measure .exit)) (now (choices .exit)) ≡ leftBy lengths (now (nodes .entry)) bs (now (scratch .entry)) (settledBy (problemIn (now (lists .entry)) sizes) (rowsFrom (baseNameAt (now (names .entry))) 0 «name_count») (now (typing .entry)) (now (measure .entry)) (now (choices .entry)) lengths (outOf (now (lists .entry)) sizes (now (sorts .entry)) (now (nodes .entry)) (now (scratch .entry)) answer))) ⌝ }
+    requires { ⌜
+        Handable (now scratch) (now lists) (now names) «name_count» sizes
+        (now typing) (now measure) (now choices)
+        × SortsReturnable (now sorts) lengths
+        × NodesReturnable (now nodes) lengths
+        ⌝ }
+    ensures { λ r. ⌜
+        ((bs : List ℕ)
+        → leftOf r (now (sorts .exit)) (now (nodes .exit)) bs
+        (now (scratch .exit)) (now (typing .exit)) (now (measure .exit)) (now (choices .exit))
+        ≡ leftBy lengths (now (nodes .entry)) bs (now (scratch .entry))
+        (settledBy (problemIn (now (lists .entry)) sizes)
+        (rowsFrom (baseNameAt (now (names .entry))) 0 «name_count»)
+        (now (typing .entry)) (now (measure .entry)) (now (choices .entry)) lengths
+        (outOf (now (lists .entry)) sizes (now (sorts .entry)) (now (nodes .entry)) (now (scratch .entry))
+        answer)))
+        ⌝ }
 {
     let solved = settle(
         sorts,

@@ -27,7 +27,7 @@ use Rattle.inference.specs.SolveEntry.{problemOf, baseNamesOf, start, lentOf, s
 use Rattle.inference.proofs.Members.{rows-same}
 use Rattle.inference.proofs.Accepted.{within}
 use Rattle.solve_checks.specs.declared.Given.{Given}
-use Rattle.solve_outputs.specs.Begin.{callWith}
+use Rattle.solve_checks.specs.Call.{callOf}
 use Rattle.solve_outputs.proofs.Passed.{rows-lent}
 use Rattle.solve_records.specs.declared.OverloadRecord.{OverloadRecord}
 use Rattle.solve_records.specs.Records.{wordsOf, recordWords}
@@ -61,7 +61,7 @@ run-same n p q h s c = go (leb (s + c) n) refl
 module _ (g : Given) (ws ns bs xs ks cs ss sc ts ms hs : List ℕ) where
   -- the call with these words of overloads
   abbrev call : List ℕ → Call
-  call os = callWith g ws ns bs xs ks cs os ss sc ts ms hs
+  call os = callOf g ws ns bs xs ks cs os ss sc ts ms hs
 
   abbrev n : ℕ
   n = g .overloads
@@ -172,7 +172,7 @@ first-words (suc k) (o ∷ rs) =
 
 -- Whatever else the call is given.
 pub records-past-the-ceiling-change-nothing : (g : Given) (ws ns bs xs ks cs ss sc ts ms hs : List ℕ) (rs : List OverloadRecord)
-    → solveEntry (callWith g ws ns bs xs ks cs (recordWords (take maxOverloads rs)) ss sc ts ms hs) ≡ solveEntry (callWith g ws ns bs xs ks cs (recordWords rs) ss sc ts ms hs)
+    → solveEntry (callOf g ws ns bs xs ks cs (recordWords (take maxOverloads rs)) ss sc ts ms hs) ≡ solveEntry (callOf g ws ns bs xs ks cs (recordWords rs) ss sc ts ms hs)
 records-past-the-ceiling-change-nothing g ws ns bs xs ks cs ss sc ts ms hs rs = go (leb (g .overloads) maxOverloads) refl
   where
     few : List ℕ
@@ -184,7 +184,7 @@ records-past-the-ceiling-change-nothing g ws ns bs xs ks cs ss sc ts ms hs rs = 
     few-long : length few ≡ 3 * min maxOverloads (length rs)
     few-long = three-words-each (take maxOverloads rs) ∙ ap (λ (m : ℕ). 3 * m) (length-take maxOverloads rs)
 
-    go : (b : Bool) → leb (g .overloads) maxOverloads ≡ b → solveEntry (callWith g ws ns bs xs ks cs few ss sc ts ms hs) ≡ solveEntry (callWith g ws ns bs xs ks cs all ss sc ts ms hs)
+    go : (b : Bool) → leb (g .overloads) maxOverloads ≡ b → solveEntry (callOf g ws ns bs xs ks cs few ss sc ts ms hs) ≡ solveEntry (callOf g ws ns bs xs ks cs all ss sc ts ms hs)
     go false e =
         let past = leb-false (g .overloads) maxOverloads e in
         refused-by-1 g ws ns bs xs ks cs ss sc ts ms hs few past ∙ sym (refused-by-1 g ws ns bs xs ks cs ss sc ts ms hs all past)

@@ -13,7 +13,7 @@ ghost use lib.ListN.{length, take};
 ghost use lib.Seq.{sets};
 ghost use Rattle.inference.specs.Constraints.{maxOverloads};
 ghost use Rattle.inference.specs.SolveEntry.{solveEntry};
-ghost use Rattle.solve_outputs.specs.Begin.{callWith};
+ghost use Rattle.solve_checks.specs.Call.{callOf};
 ghost use Rattle.solve_outputs.specs.Finish.{leftOf};
 ghost use Rattle.solve_outputs.specs.Packed.{packed, packLeft};
 ghost use Rattle.solve_entries.specs.Given.{givenOf};
@@ -54,7 +54,9 @@ fn put_record(words: &mut [u16], i: usize, overload: OverloadRecord)
 
 // The records from i on, up to the ceiling, each to its places. It calls itself at most 1,024 times.
 fn unpack_from(records: &[OverloadRecord], words: &mut [u16], i: usize)
-    ensures { λ _. ⌜ now (words .exit) ≡ sets (now (words .entry)) (3 * i) (wordsFrom i (now (records .entry))) ⌝ }
+    ensures { λ _. ⌜
+        now (words .exit) ≡ sets (now (words .entry)) (3 * i) (wordsFrom i (now (records .entry)))
+        ⌝ }
 {
     if i < 1024 {
         if i < records.len() {
@@ -97,7 +99,14 @@ fn solve_unpacked(
     measure: &mut [u16],
     choices: &mut [u16],
 ) -> Solved
-    ensures { λ r. ⌜ leftOf r (now (sorts .exit)) (now (nodes .exit)) (now (binds .exit)) (now (scratch .exit)) (now (typing .exit)) (now (measure .exit)) (now (choices .exit)) ≡ solveEntry (callWith given (now (sorts .entry)) (now (nodes .entry)) (now (binds .entry)) (now (exprs .entry)) (now (names .entry)) (now (constraints .entry)) (take (wordsOfCount n) words) (now (sources .entry)) (now (scratch .entry)) (now (typing .entry)) (now (measure .entry)) (now (choices .entry))) ⌝ }
+    ensures { λ r. ⌜
+        leftOf r (now (sorts .exit)) (now (nodes .exit)) (now (binds .exit)) (now (scratch .exit))
+        (now (typing .exit)) (now (measure .exit)) (now (choices .exit))
+        ≡ solveEntry (callOf given (now (sorts .entry)) (now (nodes .entry)) (now (binds .entry))
+        (now (exprs .entry)) (now (names .entry)) (now (constraints .entry)) (take (wordsOfCount n) words)
+        (now (sources .entry)) (now (scratch .entry)) (now (typing .entry)) (now (measure .entry))
+        (now (choices .entry)))
+        ⌝ }
 {
     let used = 3 * at_most(n);
     solve(
@@ -136,7 +145,14 @@ pub fn solve_records(
     measure: &mut [u16],
     choices: &mut [u16],
 ) -> Solved
-    ensures { λ r. ⌜ leftOf r (now (sorts .exit)) (now (nodes .exit)) (now (binds .exit)) (now (scratch .exit)) (now (typing .exit)) (now (measure .exit)) (now (choices .exit)) ≡ solveEntry (callWith given (now (sorts .entry)) (now (nodes .entry)) (now (binds .entry)) (now (exprs .entry)) (now (names .entry)) (now (constraints .entry)) (recordWords (take maxOverloads (now (overloads .entry)))) (now (sources .entry)) (now (scratch .entry)) (now (typing .entry)) (now (measure .entry)) (now (choices .entry))) ⌝ }
+    ensures { λ r. ⌜
+        leftOf r (now (sorts .exit)) (now (nodes .exit)) (now (binds .exit)) (now (scratch .exit))
+        (now (typing .exit)) (now (measure .exit)) (now (choices .exit))
+        ≡ solveEntry (callOf given (now (sorts .entry)) (now (nodes .entry)) (now (binds .entry))
+        (now (exprs .entry)) (now (names .entry)) (now (constraints .entry))
+        (recordWords (take maxOverloads (now (overloads .entry)))) (now (sources .entry))
+        (now (scratch .entry)) (now (typing .entry)) (now (measure .entry)) (now (choices .entry)))
+        ⌝ }
 {
     let words = unpack(overloads);
     solve_unpacked(
@@ -184,7 +200,15 @@ fn sort_solve_unpacked(
     measure: &mut [u16],
     choices: &mut [u16],
 ) -> u64
-    ensures { λ r. ⌜ packed r (now (sorts .exit)) (now (nodes .exit)) (now (binds .exit)) (now (scratch .exit)) (now (typing .exit)) (now (measure .exit)) (now (choices .exit)) ≡ packLeft (solveEntry (callWith (givenOf «sort_count» «entry_count» «node_count» «node_entry_count» «var_count» «expr_count» «name_count» «constraint_count» «overload_count» «source_count» default) (now (sorts .entry)) (now (nodes .entry)) (now (binds .entry)) (now (exprs .entry)) (now (names .entry)) (now (constraints .entry)) (take (wordsOfCount n) words) (now (sources .entry)) (now (scratch .entry)) (now (typing .entry)) (now (measure .entry)) (now (choices .entry)))) ⌝ }
+    ensures { λ r. ⌜
+        packed r (now (sorts .exit)) (now (nodes .exit)) (now (binds .exit)) (now (scratch .exit))
+        (now (typing .exit)) (now (measure .exit)) (now (choices .exit))
+        ≡ packLeft (solveEntry (callOf (givenOf «sort_count» «entry_count» «node_count» «node_entry_count»
+        «var_count» «expr_count» «name_count» «constraint_count» «overload_count» «source_count» default)
+        (now (sorts .entry)) (now (nodes .entry)) (now (binds .entry)) (now (exprs .entry))
+        (now (names .entry)) (now (constraints .entry)) (take (wordsOfCount n) words) (now (sources .entry))
+        (now (scratch .entry)) (now (typing .entry)) (now (measure .entry)) (now (choices .entry))))
+        ⌝ }
 {
     let used = 3 * at_most(n);
     sort_solve(
@@ -241,7 +265,16 @@ pub extern "C" fn sort_solve_records(
     measure: &mut [u16],
     choices: &mut [u16],
 ) -> u64
-    ensures { λ r. ⌜ packed r (now (sorts .exit)) (now (nodes .exit)) (now (binds .exit)) (now (scratch .exit)) (now (typing .exit)) (now (measure .exit)) (now (choices .exit)) ≡ packLeft (solveEntry (callWith (givenOf «sort_count» «entry_count» «node_count» «node_entry_count» «var_count» «expr_count» «name_count» «constraint_count» «overload_count» «source_count» default) (now (sorts .entry)) (now (nodes .entry)) (now (binds .entry)) (now (exprs .entry)) (now (names .entry)) (now (constraints .entry)) (recordWords (take maxOverloads (now (overloads .entry)))) (now (sources .entry)) (now (scratch .entry)) (now (typing .entry)) (now (measure .entry)) (now (choices .entry)))) ⌝ }
+    ensures { λ r. ⌜
+        packed r (now (sorts .exit)) (now (nodes .exit)) (now (binds .exit)) (now (scratch .exit))
+        (now (typing .exit)) (now (measure .exit)) (now (choices .exit))
+        ≡ packLeft (solveEntry (callOf (givenOf «sort_count» «entry_count» «node_count» «node_entry_count»
+        «var_count» «expr_count» «name_count» «constraint_count» «overload_count» «source_count» default)
+        (now (sorts .entry)) (now (nodes .entry)) (now (binds .entry)) (now (exprs .entry))
+        (now (names .entry)) (now (constraints .entry))
+        (recordWords (take maxOverloads (now (overloads .entry)))) (now (sources .entry))
+        (now (scratch .entry)) (now (typing .entry)) (now (measure .entry)) (now (choices .entry))))
+        ⌝ }
 {
     let words = unpack(overloads);
     sort_solve_unpacked(

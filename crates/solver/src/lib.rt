@@ -69,8 +69,15 @@ pub fn solve(
     at: Branch,
     index: u16,
 ) -> Answer
-    requires { ⌜ Searching (now sorts) (now nodes) (now binds) (now scratch) (now lists) sizes st at 0 [] (Solve index) ⌝ }
-    ensures { λ r. ⌜ Comes (now (lists .entry)) sizes (now (sorts .entry)) (now (nodes .entry)) (now (binds .entry)) (now (scratch .entry)) st at (solveFrom (now (lists .entry)) sizes index) (now (sorts .exit)) (now (nodes .exit)) (now (binds .exit)) (now (scratch .exit)) r ⌝ }
+    requires { ⌜
+        Searching (now sorts) (now nodes) (now binds) (now scratch) (now lists) sizes st at 0 [] (Solve index)
+        ⌝ }
+    ensures { λ r. ⌜
+        Comes (now (lists .entry)) sizes
+        (now (sorts .entry)) (now (nodes .entry)) (now (binds .entry)) (now (scratch .entry)) st at
+        (solveFrom (now (lists .entry)) sizes index)
+        (now (sorts .exit)) (now (nodes .exit)) (now (binds .exit)) (now (scratch .exit)) r
+        ⌝ }
 {
     if dominated(scratch, sizes, st, at) {
         return Answer::Missed(st); // dropped, which counts as not found
@@ -106,8 +113,18 @@ fn solve_constraint(
     constraint: Constraint,
     then: u16,
 ) -> Answer
-    requires { ⌜ Searching (now sorts) (now nodes) (now binds) (now scratch) (now lists) sizes st at (componentsOf constraint) (exprsOfConstraint constraint) (Solve then) × Listed (lent (now sorts) (now nodes) (st .lengths)) (problemIn (now lists) sizes) constraint ⌝ }
-    ensures { λ r. ⌜ Comes (now (lists .entry)) sizes (now (sorts .entry)) (now (nodes .entry)) (now (binds .entry)) (now (scratch .entry)) st at (stepOf (Unit {0}) nothingMet (problemIn (now (lists .entry)) sizes) constraint (solveFrom (now (lists .entry)) sizes then)) (now (sorts .exit)) (now (nodes .exit)) (now (binds .exit)) (now (scratch .exit)) r ⌝ }
+    requires { ⌜
+        Searching (now sorts) (now nodes) (now binds) (now scratch) (now lists) sizes st at
+        (componentsOf constraint) (exprsOfConstraint constraint) (Solve then)
+        × Listed (lent (now sorts) (now nodes) (st .lengths)) (problemIn (now lists) sizes) constraint
+        ⌝ }
+    ensures { λ r. ⌜
+        Comes (now (lists .entry)) sizes
+        (now (sorts .entry)) (now (nodes .entry)) (now (binds .entry)) (now (scratch .entry)) st at
+        (stepOf (Unit {0}) nothingMet (problemIn (now (lists .entry)) sizes) constraint
+        (solveFrom (now (lists .entry)) sizes then))
+        (now (sorts .exit)) (now (nodes .exit)) (now (binds .exit)) (now (scratch .exit)) r
+        ⌝ }
 {
     match constraint {
         Constraint::Sub { lhs, rhs } => solve_widening(
@@ -205,8 +222,20 @@ fn solve_join(
     target: InferSortId,
     then: u16,
 ) -> Answer
-    requires { ⌜ Searching (now sorts) (now nodes) (now binds) (now scratch) (now lists) sizes st at (sources .count) [] (Solve then) × SourcesFine (lent (now sorts) (now nodes) (st .lengths)) (now lists) sizes (target .0) (sources .start) (sources .start + sources .count) ⌝ }
-    ensures { λ r. ⌜ Comes (now (lists .entry)) sizes (now (sorts .entry)) (now (nodes .entry)) (now (binds .entry)) (now (scratch .entry)) st at (joining (Unit {0}) nothingMet (problemIn (now (lists .entry)) sizes) (rowsFrom (sourceAt (now (lists .entry))) (sources .start) (sources .count)) (target .0) (solveFrom (now (lists .entry)) sizes then)) (now (sorts .exit)) (now (nodes .exit)) (now (binds .exit)) (now (scratch .exit)) r ⌝ }
+    requires { ⌜
+        Searching (now sorts) (now nodes) (now binds) (now scratch) (now lists) sizes st at (sources .count)
+        [] (Solve then)
+        × SourcesFine (lent (now sorts) (now nodes) (st .lengths)) (now lists) sizes (target .0)
+        (sources .start) (sources .start + sources .count)
+        ⌝ }
+    ensures { λ r. ⌜
+        Comes (now (lists .entry)) sizes
+        (now (sorts .entry)) (now (nodes .entry)) (now (binds .entry)) (now (scratch .entry)) st at
+        (joining (Unit {0}) nothingMet (problemIn (now (lists .entry)) sizes)
+        (rowsFrom (sourceAt (now (lists .entry))) (sources .start) (sources .count)) (target .0)
+        (solveFrom (now (lists .entry)) sizes then))
+        (now (sorts .exit)) (now (nodes .exit)) (now (binds .exit)) (now (scratch .exit)) r
+        ⌝ }
 {
     let start = sources.start;
     let count = sources.count;
@@ -277,8 +306,18 @@ fn solve_join_seq(
     to: u16,
     then: u16,
 ) -> Answer
-    requires { ⌜ Searching (now sorts) (now nodes) (now binds) (now scratch) (now lists) sizes st at 0 [] (Source target from to then) ⌝ }
-    ensures { λ r. ⌜ Comes (now (lists .entry)) sizes (now (sorts .entry)) (now (nodes .entry)) (now (binds .entry)) (now (scratch .entry)) st at (sequence (Unit {0}) nothingMet (problemIn (now (lists .entry)) sizes) (rowsFrom (sourceAt (now (lists .entry))) from (to - from)) (target .0) (solveFrom (now (lists .entry)) sizes then)) (now (sorts .exit)) (now (nodes .exit)) (now (binds .exit)) (now (scratch .exit)) r ⌝ }
+    requires { ⌜
+        Searching (now sorts) (now nodes) (now binds) (now scratch) (now lists) sizes st at 0 []
+        (Source target from to then)
+        ⌝ }
+    ensures { λ r. ⌜
+        Comes (now (lists .entry)) sizes
+        (now (sorts .entry)) (now (nodes .entry)) (now (binds .entry)) (now (scratch .entry)) st at
+        (sequence (Unit {0}) nothingMet (problemIn (now (lists .entry)) sizes)
+        (rowsFrom (sourceAt (now (lists .entry))) from (to - from)) (target .0)
+        (solveFrom (now (lists .entry)) sizes then))
+        (now (sorts .exit)) (now (nodes .exit)) (now (binds .exit)) (now (scratch .exit)) r
+        ⌝ }
 {
     if to <= from {
         return solve(sorts, nodes, binds, scratch, lists, sizes, st, at, then);
@@ -319,8 +358,20 @@ fn solve_disjunction(
     disjuncts: Run,
     next: Next,
 ) -> Answer
-    requires { ⌜ Searching (now sorts) (now nodes) (now binds) (now scratch) (now lists) sizes st at 0 (expr .0 ∷ []) next × OverloadsFine (lent (now sorts) (now nodes) (st .lengths)) (now lists) sizes (sort .0) (disjuncts .start) (disjuncts .count) ⌝ }
-    ensures { λ r. ⌜ Comes (now (lists .entry)) sizes (now (sorts .entry)) (now (nodes .entry)) (now (binds .entry)) (now (scratch .entry)) st at (everyOverload (Unit {0}) nothingMet (problemIn (now (lists .entry)) sizes) (expr .0) (sort .0) (rowsFrom (overloadAt (drop overloadsAt (now (lists .entry)))) (disjuncts .start) (disjuncts .count)) 0 false (nextOf (now (lists .entry)) sizes next)) (now (sorts .exit)) (now (nodes .exit)) (now (binds .exit)) (now (scratch .exit)) r ⌝ }
+    requires { ⌜
+        Searching (now sorts) (now nodes) (now binds) (now scratch) (now lists) sizes st at 0 (expr .0 ∷ [])
+        next
+        × OverloadsFine (lent (now sorts) (now nodes) (st .lengths)) (now lists) sizes (sort .0)
+        (disjuncts .start) (disjuncts .count)
+        ⌝ }
+    ensures { λ r. ⌜
+        Comes (now (lists .entry)) sizes
+        (now (sorts .entry)) (now (nodes .entry)) (now (binds .entry)) (now (scratch .entry)) st at
+        (everyOverload (Unit {0}) nothingMet (problemIn (now (lists .entry)) sizes) (expr .0) (sort .0)
+        (rowsFrom (overloadAt (drop overloadsAt (now (lists .entry)))) (disjuncts .start) (disjuncts .count))
+        0 false (nextOf (now (lists .entry)) sizes next))
+        (now (sorts .exit)) (now (nodes .exit)) (now (binds .exit)) (now (scratch .exit)) r
+        ⌝ }
 {
     let start = disjuncts.start;
     let count = disjuncts.count;
@@ -374,8 +425,19 @@ fn solve_comprehension(
     found: bool,
     next: Next,
 ) -> Answer
-    requires { ⌜ Searching (now sorts) (now nodes) (now binds) (now scratch) (now lists) sizes st at 0 [] next × (Placed (st .lengths) (body .0)) × (Placed (st .lengths) (node .0)) × (element .0 < st .lengths .sorts) ⌝ }
-    ensures { λ r. ⌜ Comes (now (lists .entry)) sizes (now (sorts .entry)) (now (nodes .entry)) (now (binds .entry)) (now (scratch .entry)) st at (everyReading (Unit {0}) nothingMet (problemIn (now (lists .entry)) sizes) (readingsFrom reading) (body .0) (node .0) (element .0) found (nextOf (now (lists .entry)) sizes next)) (now (sorts .exit)) (now (nodes .exit)) (now (binds .exit)) (now (scratch .exit)) r ⌝ }
+    requires { ⌜
+        Searching (now sorts) (now nodes) (now binds) (now scratch) (now lists) sizes st at 0 [] next
+        × (Placed (st .lengths) (body .0))
+        × (Placed (st .lengths) (node .0))
+        × (element .0 < st .lengths .sorts)
+        ⌝ }
+    ensures { λ r. ⌜
+        Comes (now (lists .entry)) sizes
+        (now (sorts .entry)) (now (nodes .entry)) (now (binds .entry)) (now (scratch .entry)) st at
+        (everyReading (Unit {0}) nothingMet (problemIn (now (lists .entry)) sizes) (readingsFrom reading)
+        (body .0) (node .0) (element .0) found (nextOf (now (lists .entry)) sizes next))
+        (now (sorts .exit)) (now (nodes .exit)) (now (binds .exit)) (now (scratch .exit)) r
+        ⌝ }
 {
     if 3 <= reading {
         return says(found, st);
@@ -436,8 +498,18 @@ fn solve_widening(
     rhs: InferSortId,
     next: Next,
 ) -> Answer
-    requires { ⌜ Searching (now sorts) (now nodes) (now binds) (now scratch) (now lists) sizes st at 1 [] next × Placed (st .lengths) (lhs .0) × Placed (st .lengths) (rhs .0) ⌝ }
-    ensures { λ r. ⌜ Comes (now (lists .entry)) sizes (now (sorts .entry)) (now (nodes .entry)) (now (binds .entry)) (now (scratch .entry)) st at (widening (Unit {0}) nothingMet (problemIn (now (lists .entry)) sizes) (lhs .0) (rhs .0) (nextOf (now (lists .entry)) sizes next)) (now (sorts .exit)) (now (nodes .exit)) (now (binds .exit)) (now (scratch .exit)) r ⌝ }
+    requires { ⌜
+        Searching (now sorts) (now nodes) (now binds) (now scratch) (now lists) sizes st at 1 [] next
+        × Placed (st .lengths) (lhs .0)
+        × Placed (st .lengths) (rhs .0)
+        ⌝ }
+    ensures { λ r. ⌜
+        Comes (now (lists .entry)) sizes
+        (now (sorts .entry)) (now (nodes .entry)) (now (binds .entry)) (now (scratch .entry)) st at
+        (widening (Unit {0}) nothingMet (problemIn (now (lists .entry)) sizes) (lhs .0) (rhs .0)
+        (nextOf (now (lists .entry)) sizes next))
+        (now (sorts .exit)) (now (nodes .exit)) (now (binds .exit)) (now (scratch .exit)) r
+        ⌝ }
 {
     let first = attempt(
         sorts,
@@ -492,8 +564,17 @@ fn solve_lit(
     kind: LitKind,
     next: Next,
 ) -> Answer
-    requires { ⌜ Searching (now sorts) (now nodes) (now binds) (now scratch) (now lists) sizes st at 1 [] next × Placed (st .lengths) (sort .0) ⌝ }
-    ensures { λ r. ⌜ Comes (now (lists .entry)) sizes (now (sorts .entry)) (now (nodes .entry)) (now (binds .entry)) (now (scratch .entry)) st at (literal (Unit {0}) nothingMet (problemIn (now (lists .entry)) sizes) kind (sort .0) (nextOf (now (lists .entry)) sizes next)) (now (sorts .exit)) (now (nodes .exit)) (now (binds .exit)) (now (scratch .exit)) r ⌝ }
+    requires { ⌜
+        Searching (now sorts) (now nodes) (now binds) (now scratch) (now lists) sizes st at 1 [] next
+        × Placed (st .lengths) (sort .0)
+        ⌝ }
+    ensures { λ r. ⌜
+        Comes (now (lists .entry)) sizes
+        (now (sorts .entry)) (now (nodes .entry)) (now (binds .entry)) (now (scratch .entry)) st at
+        (literal (Unit {0}) nothingMet (problemIn (now (lists .entry)) sizes) kind (sort .0)
+        (nextOf (now (lists .entry)) sizes next))
+        (now (sorts .exit)) (now (nodes .exit)) (now (binds .exit)) (now (scratch .exit)) r
+        ⌝ }
 {
     let lengths = st.lengths;
     match lit_at(sorts, nodes, binds, lengths, sort, kind) {
@@ -532,8 +613,17 @@ fn tries(
     j: u16,
     next: Next,
 ) -> Answer
-    requires { ⌜ Searching (now sorts) (now nodes) (now binds) (now scratch) (now lists) sizes st at 1 [] next × TriesFine (lent (now sorts) (now nodes) (st .lengths)) t j ⌝ }
-    ensures { λ r. ⌜ Comes (now (lists .entry)) sizes (now (sorts .entry)) (now (nodes .entry)) (now (binds .entry)) (now (scratch .entry)) st at (firstFound (Unit {0}) nothingMet (problemIn (now (lists .entry)) sizes) (triesFrom t j) (nextOf (now (lists .entry)) sizes next)) (now (sorts .exit)) (now (nodes .exit)) (now (binds .exit)) (now (scratch .exit)) r ⌝ }
+    requires { ⌜
+        Searching (now sorts) (now nodes) (now binds) (now scratch) (now lists) sizes st at 1 [] next
+        × TriesFine (lent (now sorts) (now nodes) (st .lengths)) t j
+        ⌝ }
+    ensures { λ r. ⌜
+        Comes (now (lists .entry)) sizes
+        (now (sorts .entry)) (now (nodes .entry)) (now (binds .entry)) (now (scratch .entry)) st at
+        (firstFound (Unit {0}) nothingMet (problemIn (now (lists .entry)) sizes) (triesFrom t j)
+        (nextOf (now (lists .entry)) sizes next))
+        (now (sorts .exit)) (now (nodes .exit)) (now (binds .exit)) (now (scratch .exit)) r
+        ⌝ }
 {
     if t.count <= j {
         return Answer::Missed(st);
@@ -583,8 +673,17 @@ fn attempt(
     step: Step,
     next: Next,
 ) -> Answer
-    requires { ⌜ Searching (now sorts) (now nodes) (now binds) (now scratch) (now lists) sizes st at (addedComponents step) (exprsOf (now lists) sizes at step) next × PairsPlaced (st .lengths) pairs ⌝ }
-    ensures { λ r. ⌜ Comes (now (lists .entry)) sizes (now (sorts .entry)) (now (nodes .entry)) (now (binds .entry)) (now (scratch .entry)) st at (trying (now (lists .entry)) sizes (now (scratch .entry)) at pairs step next) (now (sorts .exit)) (now (nodes .exit)) (now (binds .exit)) (now (scratch .exit)) r ⌝ }
+    requires { ⌜
+        Searching (now sorts) (now nodes) (now binds) (now scratch) (now lists) sizes st at
+        (addedComponents step) (exprsOf (now lists) sizes at step) next
+        × PairsPlaced (st .lengths) pairs
+        ⌝ }
+    ensures { λ r. ⌜
+        Comes (now (lists .entry)) sizes
+        (now (sorts .entry)) (now (nodes .entry)) (now (binds .entry)) (now (scratch .entry)) st at
+        (trying (now (lists .entry)) sizes (now (scratch .entry)) at pairs step next)
+        (now (sorts .exit)) (now (nodes .exit)) (now (binds .exit)) (now (scratch .exit)) r
+        ⌝ }
 {
     let lengths = st.lengths;
     let base = at.trail;
@@ -614,8 +713,15 @@ fn resume(
     at: Branch,
     next: Next,
 ) -> Answer
-    requires { ⌜ Searching (now sorts) (now nodes) (now binds) (now scratch) (now lists) sizes st at 0 [] next ⌝ }
-    ensures { λ r. ⌜ Comes (now (lists .entry)) sizes (now (sorts .entry)) (now (nodes .entry)) (now (binds .entry)) (now (scratch .entry)) st at (nextOf (now (lists .entry)) sizes next) (now (sorts .exit)) (now (nodes .exit)) (now (binds .exit)) (now (scratch .exit)) r ⌝ }
+    requires { ⌜
+        Searching (now sorts) (now nodes) (now binds) (now scratch) (now lists) sizes st at 0 [] next
+        ⌝ }
+    ensures { λ r. ⌜
+        Comes (now (lists .entry)) sizes
+        (now (sorts .entry)) (now (nodes .entry)) (now (binds .entry)) (now (scratch .entry)) st at
+        (nextOf (now (lists .entry)) sizes next)
+        (now (sorts .exit)) (now (nodes .exit)) (now (binds .exit)) (now (scratch .exit)) r
+        ⌝ }
 {
     match next {
         Next::Solve(index) => solve(sorts, nodes, binds, scratch, lists, sizes, st, at, index),

@@ -130,7 +130,10 @@ fn bound_op(up: bool, lhs: ComplexSort, rhs: ComplexSort) -> OpBound
 // The least common supersort of two sorts.
 pub fn join(sorts: &mut [u16], counts: Counts, lhs: SortId, rhs: SortId) -> Joined
     requires { ⌜ Asked (now sorts) (counts .sorts) (counts .entries) (lhs .0) (rhs .0) ⌝ }
-    ensures { λ r. ⌜ storedAt (now (sorts .exit)) r ≡ boundAt true (now (sorts .entry)) (counts .sorts) (counts .entries) (lhs .0) (rhs .0) ⌝ }
+    ensures { λ r. ⌜
+        storedAt (now (sorts .exit)) r
+        ≡ boundAt true (now (sorts .entry)) (counts .sorts) (counts .entries) (lhs .0) (rhs .0)
+        ⌝ }
 {
     bound(sorts, counts, true, lhs, rhs)
 }
@@ -138,7 +141,10 @@ pub fn join(sorts: &mut [u16], counts: Counts, lhs: SortId, rhs: SortId) -> Join
 // The greatest common subsort of two sorts, the dual of join.
 pub fn meet(sorts: &mut [u16], counts: Counts, lhs: SortId, rhs: SortId) -> Joined
     requires { ⌜ Asked (now sorts) (counts .sorts) (counts .entries) (lhs .0) (rhs .0) ⌝ }
-    ensures { λ r. ⌜ storedAt (now (sorts .exit)) r ≡ boundAt false (now (sorts .entry)) (counts .sorts) (counts .entries) (lhs .0) (rhs .0) ⌝ }
+    ensures { λ r. ⌜
+        storedAt (now (sorts .exit)) r
+        ≡ boundAt false (now (sorts .entry)) (counts .sorts) (counts .entries) (lhs .0) (rhs .0)
+        ⌝ }
 {
     bound(sorts, counts, false, lhs, rhs)
 }
@@ -146,7 +152,10 @@ pub fn meet(sorts: &mut [u16], counts: Counts, lhs: SortId, rhs: SortId) -> Join
 // Two arguments of functions whose join (up) or meet is asked: a domain is contravariant, so they go the other way.
 fn against(sorts: &mut [u16], counts: Counts, up: bool, lhs: SortId, rhs: SortId) -> Joined
     requires { ⌜ Asked (now sorts) (counts .sorts) (counts .entries) (lhs .0) (rhs .0) ⌝ }
-    ensures { λ r. ⌜ storedAt (now (sorts .exit)) r ≡ boundAt (not up) (now (sorts .entry)) (counts .sorts) (counts .entries) (lhs .0) (rhs .0) ⌝ }
+    ensures { λ r. ⌜
+        storedAt (now (sorts .exit)) r
+        ≡ boundAt (not up) (now (sorts .entry)) (counts .sorts) (counts .entries) (lhs .0) (rhs .0)
+        ⌝ }
 {
     if up {
         return meet(sorts, counts, lhs, rhs);
@@ -157,7 +166,10 @@ fn against(sorts: &mut [u16], counts: Counts, up: bool, lhs: SortId, rhs: SortId
 // Join (up) or meet of two sorts. Equal numbers are equal sorts, and make nothing.
 pub fn bound(sorts: &mut [u16], counts: Counts, up: bool, lhs: SortId, rhs: SortId) -> Joined
     requires { ⌜ Asked (now sorts) (counts .sorts) (counts .entries) (lhs .0) (rhs .0) ⌝ }
-    ensures { λ r. ⌜ storedAt (now (sorts .exit)) r ≡ boundAt up (now (sorts .entry)) (counts .sorts) (counts .entries) (lhs .0) (rhs .0) ⌝ }
+    ensures { λ r. ⌜
+        storedAt (now (sorts .exit)) r
+        ≡ boundAt up (now (sorts .entry)) (counts .sorts) (counts .entries) (lhs .0) (rhs .0)
+        ⌝ }
 {
     if lhs.0 == rhs.0 {
         return Joined::At(lhs, counts);
@@ -196,7 +208,11 @@ fn bound_container(
     rhs_sub: SortId,
 ) -> Joined
     requires { ⌜ Asked (now sorts) (counts .sorts) (counts .entries) («lhs_sub» .0) («rhs_sub» .0) ⌝ }
-    ensures { λ r. ⌜ storedAt (now (sorts .exit)) r ≡ containerAt up (now (sorts .entry)) (counts .sorts) (counts .entries) «lhs_op» («lhs_sub» .0) «rhs_op» («rhs_sub» .0) ⌝ }
+    ensures { λ r. ⌜
+        storedAt (now (sorts .exit)) r
+        ≡ containerAt up (now (sorts .entry)) (counts .sorts) (counts .entries) «lhs_op» («lhs_sub» .0)
+        «rhs_op» («rhs_sub» .0)
+        ⌝ }
 {
     match bound_op(up, lhs_op, rhs_op) {
         OpBound::Is(op) => match bound(sorts, counts, up, lhs_sub, rhs_sub) {
@@ -211,7 +227,10 @@ fn bound_container(
 // Two functions with as many arguments: the arguments the other way, left to right, then the range, then the whole.
 fn bound_function(sorts: &mut [u16], counts: Counts, up: bool, lhs: SortId, rhs: SortId) -> Joined
     requires { ⌜ TwoFunctions (now sorts) (counts .sorts) (counts .entries) (lhs .0) (rhs .0) ⌝ }
-    ensures { λ r. ⌜ storedAt (now (sorts .exit)) r ≡ functionAt up (now (sorts .entry)) (counts .sorts) (counts .entries) (lhs .0) (rhs .0) ⌝ }
+    ensures { λ r. ⌜
+        storedAt (now (sorts .exit)) r
+        ≡ functionAt up (now (sorts .entry)) (counts .sorts) (counts .entries) (lhs .0) (rhs .0)
+        ⌝ }
 {
     let lhs_range = part(sorts, lhs);
     let rhs_range = part(sorts, rhs);
@@ -240,8 +259,14 @@ fn bound_domain(
     i: u16,
     ids: [u16; 16],
 ) -> Domain
-    requires { ⌜ TwoFunctions (now sorts) (counts .sorts) (counts .entries) (lhs .0) (rhs .0) × (i ≤ countAt (now sorts) (lhs .0)) ⌝ }
-    ensures { λ r. ⌜ storedDomain (now (sorts .exit)) r ≡ boundDomain (not up) (now (sorts .entry)) (counts .sorts) (counts .entries) (lhs .0) (rhs .0) i ids ⌝ }
+    requires { ⌜
+        TwoFunctions (now sorts) (counts .sorts) (counts .entries) (lhs .0) (rhs .0)
+        × (i ≤ countAt (now sorts) (lhs .0))
+        ⌝ }
+    ensures { λ r. ⌜
+        storedDomain (now (sorts .exit)) r
+        ≡ boundDomain (not up) (now (sorts .entry)) (counts .sorts) (counts .entries) (lhs .0) (rhs .0) i ids
+        ⌝ }
 {
     if i == arguments(sorts, lhs) {
         return Domain {

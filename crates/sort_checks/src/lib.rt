@@ -156,7 +156,9 @@ pub fn no_two_equal_rows(sorts: &[u16], n: usize) -> bool
 
 // Checks 1 to 4: the first that fails.
 pub fn test_sorts(sorts: &[u16], sort_count: usize, entry_count: usize) -> Tested
-    ensures { λ r. ⌜ r ≡ testedOf (firstFailing (sortChecks (now (sorts .entry)) «sort_count» «entry_count»)) ⌝ }
+    ensures { λ r. ⌜
+        r ≡ testedOf (firstFailing (sortChecks (now (sorts .entry)) «sort_count» «entry_count»))
+        ⌝ }
 {
     if !within_lent(sorts, sort_count, entry_count) {
         return Tested::Refused(1);

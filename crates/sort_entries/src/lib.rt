@@ -36,7 +36,11 @@ fn test_pair(
     lhs: SortId,
     rhs: SortId,
 ) -> Tested
-    ensures { λ r. ⌜ r ≡ testedOf (firstFailing (pairChecks (now (sorts .entry)) «sort_count» «entry_count» (lhs .0) (rhs .0))) ⌝ }
+    ensures { λ r. ⌜
+        r
+        ≡ testedOf
+        (firstFailing (pairChecks (now (sorts .entry)) «sort_count» «entry_count» (lhs .0) (rhs .0)))
+        ⌝ }
 {
     match test_sorts(sorts, sort_count, entry_count) {
         Tested::Refused(code) => Tested::Refused(code),
@@ -131,8 +135,12 @@ fn kept_or_given_back(
     entry_count: usize,
     joined: Joined,
 ) -> Bounded
-    requires { ⌜ («sort_count» ≤ maxSorts) × («entry_count» ≤ maxEntries) × (fullLength ≤ length (now sorts)) ⌝ }
-    ensures { λ r. ⌜ left (now (sorts .exit)) r ≡ keptOrGivenBack (now (sorts .entry)) «sort_count» «entry_count» joined ⌝ }
+    requires { ⌜
+        («sort_count» ≤ maxSorts) × («entry_count» ≤ maxEntries) × (fullLength ≤ length (now sorts))
+        ⌝ }
+    ensures { λ r. ⌜
+        left (now (sorts .exit)) r ≡ keptOrGivenBack (now (sorts .entry)) «sort_count» «entry_count» joined
+        ⌝ }
 {
     match joined {
         Joined::At(id, made) => Bounded::Sort(id, made),
@@ -153,7 +161,10 @@ pub fn join(
     lhs: SortId,
     rhs: SortId,
 ) -> Bounded
-    ensures { λ r. ⌜ left (now (sorts .exit)) r ≡ bounded true (now (sorts .entry)) «sort_count» «entry_count» (lhs .0) (rhs .0) ⌝ }
+    ensures { λ r. ⌜
+        left (now (sorts .exit)) r
+        ≡ bounded true (now (sorts .entry)) «sort_count» «entry_count» (lhs .0) (rhs .0)
+        ⌝ }
 {
     match test_pair(sorts, sort_count, entry_count, lhs, rhs) {
         Tested::Refused(code) => Bounded::Refused(code),
@@ -177,7 +188,10 @@ pub fn meet(
     lhs: SortId,
     rhs: SortId,
 ) -> Bounded
-    ensures { λ r. ⌜ left (now (sorts .exit)) r ≡ bounded false (now (sorts .entry)) «sort_count» «entry_count» (lhs .0) (rhs .0) ⌝ }
+    ensures { λ r. ⌜
+        left (now (sorts .exit)) r
+        ≡ bounded false (now (sorts .entry)) «sort_count» «entry_count» (lhs .0) (rhs .0)
+        ⌝ }
 {
     match test_pair(sorts, sort_count, entry_count, lhs, rhs) {
         Tested::Refused(code) => Bounded::Refused(code),
@@ -285,7 +299,9 @@ pub extern "C" fn sort_is_materializable(
     from: u16,
     to: u16,
 ) -> u64
-    ensures { λ r. ⌜ r ≡ packMaterialized (materialized (now (sorts .entry)) «sort_count» «entry_count» from to) ⌝ }
+    ensures { λ r. ⌜
+        r ≡ packMaterialized (materialized (now (sorts .entry)) «sort_count» «entry_count» from to)
+        ⌝ }
 {
     pack_materialized(is_materializable(sorts, sort_count, entry_count, SortId(from), SortId(to)))
 }
@@ -298,7 +314,10 @@ pub extern "C" fn sort_join(
     lhs: u16,
     rhs: u16,
 ) -> u64
-    ensures { λ r. ⌜ packed (now (sorts .exit)) r ≡ packLeft (bounded true (now (sorts .entry)) «sort_count» «entry_count» lhs rhs) ⌝ }
+    ensures { λ r. ⌜
+        packed (now (sorts .exit)) r
+        ≡ packLeft (bounded true (now (sorts .entry)) «sort_count» «entry_count» lhs rhs)
+        ⌝ }
 {
     pack_bounded(join(sorts, sort_count, entry_count, SortId(lhs), SortId(rhs)))
 }
@@ -311,7 +330,10 @@ pub extern "C" fn sort_meet(
     lhs: u16,
     rhs: u16,
 ) -> u64
-    ensures { λ r. ⌜ packed (now (sorts .exit)) r ≡ packLeft (bounded false (now (sorts .entry)) «sort_count» «entry_count» lhs rhs) ⌝ }
+    ensures { λ r. ⌜
+        packed (now (sorts .exit)) r
+        ≡ packLeft (bounded false (now (sorts .entry)) «sort_count» «entry_count» lhs rhs)
+        ⌝ }
 {
     pack_bounded(meet(sorts, sort_count, entry_count, SortId(lhs), SortId(rhs)))
 }

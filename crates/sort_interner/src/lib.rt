@@ -121,7 +121,9 @@ fn part_at(sorts: &[u16], i: u16) -> u16
 
 // The run of row i as far as it is looked at: empty where the row is no function, whatever the words there are.
 fn run_at(sorts: &[u16], i: u16) -> Run
-    ensures { λ r. ⌜ entriesOf (now (sorts .entry)) (r .start) (r .count) ≡ (wordsAt (now (sorts .entry)) i) .args ⌝ }
+    ensures { λ r. ⌜
+        entriesOf (now (sorts .entry)) (r .start) (r .count) ≡ (wordsAt (now (sorts .entry)) i) .args
+        ⌝ }
 {
     if kind_at(sorts, i) == FUNCTION_KIND {
         let at = 4 * (i as usize);
@@ -135,7 +137,11 @@ fn run_at(sorts: &[u16], i: u16) -> Run
 
 // Whether two runs have the same entries. Where they start does not count.
 fn same_run(sorts: &[u16], a: Run, b: Run) -> bool
-    ensures { λ r. ⌜ r ≡ sameWords (entriesOf (now (sorts .entry)) (a .start) (a .count)) (entriesOf (now (sorts .entry)) (b .start) (b .count)) ⌝ }
+    ensures { λ r. ⌜
+        r
+        ≡ sameWords (entriesOf (now (sorts .entry)) (a .start) (a .count))
+        (entriesOf (now (sorts .entry)) (b .start) (b .count))
+        ⌝ }
 {
     let n = a.count;
     if n != b.count {
@@ -191,7 +197,9 @@ fn has_args(sorts: &[u16], a: Run, ids: [u16; 16], n: u16) -> bool
 // Whether row i is of this kind, part and arguments. Words not looked at do not count.
 fn is_row(sorts: &[u16], i: u16, kind: u16, part: u16, ids: [u16; 16], count: u16) -> bool
     requires { ⌜ count ≤ 16 ⌝ }
-    ensures { λ r. ⌜ r ≡ isRow (now (sorts .entry)) (record { kind = kind; part = part; args = take count ids }) i ⌝ }
+    ensures { λ r. ⌜
+        r ≡ isRow (now (sorts .entry)) (record { kind = kind; part = part; args = take count ids }) i
+        ⌝ }
 {
     if kind_at(sorts, i) != kind {
         return false;
@@ -205,7 +213,9 @@ fn is_row(sorts: &[u16], i: u16, kind: u16, part: u16, ids: [u16; 16], count: u1
 // The first row below n that is of this kind, part and arguments, never a later one; n where there is none.
 fn find_row(sorts: &[u16], n: u16, kind: u16, part: u16, ids: [u16; 16], count: u16) -> u16
     requires { ⌜ count ≤ 16 ⌝ }
-    ensures { λ r. ⌜ r ≡ findRow (now (sorts .entry)) n (record { kind = kind; part = part; args = take count ids }) ⌝ }
+    ensures { λ r. ⌜
+        r ≡ findRow (now (sorts .entry)) n (record { kind = kind; part = part; args = take count ids })
+        ⌝ }
 {
     let mut row: u16 = 0;
     while row < n {
@@ -254,7 +264,10 @@ pub fn start_of(kind: u16, e: u16) -> u16
 // A row with its arguments appended to n rows and e entries. Only a function's row names a start; of others it is 0.
 fn append_row(sorts: &mut [u16], n: u16, e: u16, kind: u16, part: u16, ids: [u16; 16], count: u16)
     requires { ⌜ count ≤ 16 ⌝ }
-    ensures { λ _. ⌜ now (sorts .exit) ≡ appendRow (now (sorts .entry)) n e (record { kind = kind; part = part; args = take count ids }) ⌝ }
+    ensures { λ _. ⌜
+        now (sorts .exit)
+        ≡ appendRow (now (sorts .entry)) n e (record { kind = kind; part = part; args = take count ids })
+        ⌝ }
 {
     put_row(sorts, n, kind, part, start_of(kind, e), count);
     put_args(sorts, e, ids, count);
@@ -271,7 +284,11 @@ pub fn intern(
     count: u16,
 ) -> Joined
     requires { ⌜ count ≤ 16 ⌝ }
-    ensures { λ r. ⌜ storedAt (now (sorts .exit)) r ≡ internRow (now (sorts .entry)) (counts .sorts) (counts .entries) (record { kind = kind; part = part; args = take count ids }) ⌝ }
+    ensures { λ r. ⌜
+        storedAt (now (sorts .exit)) r
+        ≡ internRow (now (sorts .entry)) (counts .sorts) (counts .entries)
+        (record { kind = kind; part = part; args = take count ids })
+        ⌝ }
 {
     let n = counts.sorts;
     let e = counts.entries;
@@ -298,7 +315,11 @@ pub fn intern(
 // Interns the container sort `op(subsort)`.
 pub fn generic(sorts: &mut [u16], counts: Counts, op: ComplexSort, subsort: SortId) -> Joined
     requires { ⌜ Checked (now sorts) (counts .sorts) (counts .entries) × (subsort .0 < counts .sorts) ⌝ }
-    ensures { λ r. ⌜ storedAt (now (sorts .exit)) r ≡ internAt (now (sorts .entry)) (counts .sorts) (counts .entries) (container op (look (trees (now (sorts .entry)) (counts .sorts)) (subsort .0))) ⌝ }
+    ensures { λ r. ⌜
+        storedAt (now (sorts .exit)) r
+        ≡ internAt (now (sorts .entry)) (counts .sorts) (counts .entries)
+        (container op (look (trees (now (sorts .entry)) (counts .sorts)) (subsort .0)))
+        ⌝ }
 {
     intern(sorts, counts, kind_of_op(op), subsort.0, [0u16; 16], 0)
 }
@@ -311,8 +332,18 @@ pub fn function(
     count: u16,
     range: SortId,
 ) -> Joined
-    requires { ⌜ Checked (now sorts) (counts .sorts) (counts .entries) × (range .0 < counts .sorts) × (count ≤ 16) × AllBelow (counts .sorts) (take count ids) ⌝ }
-    ensures { λ r. ⌜ storedAt (now (sorts .exit)) r ≡ internAt (now (sorts .entry)) (counts .sorts) (counts .entries) (functionSort (lookAll (trees (now (sorts .entry)) (counts .sorts)) (take count ids)) (look (trees (now (sorts .entry)) (counts .sorts)) (range .0))) ⌝ }
+    requires { ⌜
+        Checked (now sorts) (counts .sorts) (counts .entries)
+        × (range .0 < counts .sorts)
+        × (count ≤ 16)
+        × AllBelow (counts .sorts) (take count ids)
+        ⌝ }
+    ensures { λ r. ⌜
+        storedAt (now (sorts .exit)) r
+        ≡ internAt (now (sorts .entry)) (counts .sorts) (counts .entries)
+        (functionSort (lookAll (trees (now (sorts .entry)) (counts .sorts)) (take count ids))
+        (look (trees (now (sorts .entry)) (counts .sorts)) (range .0)))
+        ⌝ }
 {
     intern(sorts, counts, FUNCTION_KIND, range.0, ids, count)
 }

@@ -226,8 +226,16 @@ fn generic_op_partial_cmp(lhs: ComplexSort, rhs: ComplexSort) -> PartialOrder
 
 // The order of two sorts of a checked list. Functions go the other way in their arguments.
 pub fn partial_cmp(sorts: &[u16], counts: Counts, lhs: SortId, rhs: SortId) -> PartialOrder
-    requires { ⌜ Checked (now sorts) (counts .sorts) (counts .entries) × (lhs .0 < counts .sorts) × (rhs .0 < counts .sorts) ⌝ }
-    ensures { λ r. ⌜ r ≡ order (treeAt (now (sorts .entry)) (counts .sorts) (lhs .0)) (treeAt (now (sorts .entry)) (counts .sorts) (rhs .0)) ⌝ }
+    requires { ⌜
+        Checked (now sorts) (counts .sorts) (counts .entries)
+        × (lhs .0 < counts .sorts)
+        × (rhs .0 < counts .sorts)
+        ⌝ }
+    ensures { λ r. ⌜
+        r
+        ≡ order (treeAt (now (sorts .entry)) (counts .sorts) (lhs .0))
+        (treeAt (now (sorts .entry)) (counts .sorts) (rhs .0))
+        ⌝ }
 {
     if lhs.0 == rhs.0 {
         return PartialOrder::Equal;
@@ -266,7 +274,11 @@ fn domain_cmp(
     count: u16,
 ) -> PartialOrder
     requires { ⌜ Runs (now sorts) (counts .sorts) (counts .entries) «lhs_start» «rhs_start» count ⌝ }
-    ensures { λ r. ⌜ r ≡ argsOrder (argsAt (now (sorts .entry)) (counts .sorts) «lhs_start» count) (argsAt (now (sorts .entry)) (counts .sorts) «rhs_start» count) ⌝ }
+    ensures { λ r. ⌜
+        r
+        ≡ argsOrder (argsAt (now (sorts .entry)) (counts .sorts) «lhs_start» count)
+        (argsAt (now (sorts .entry)) (counts .sorts) «rhs_start» count)
+        ⌝ }
 {
     if count == 0 {
         return PartialOrder::Equal;
@@ -293,7 +305,9 @@ fn sum(a: u8, b: u8) -> u8
 
 // The steps from one generality up to another.
 fn number_distance(from: u8, to: u8) -> Widening
-    ensures { λ r. ⌜ r ≡ wideningOf (given (leb from to) (some (record { head = to - from; interior = 0 }))) ⌝ }
+    ensures { λ r. ⌜
+        r ≡ wideningOf (given (leb from to) (some (record { head = to - from; interior = 0 })))
+        ⌝ }
 {
     if from <= to {
         Widening::Distance {
@@ -365,8 +379,16 @@ fn plus(first: u8, rest: Amount) -> Amount
 
 // How far a sort of a checked list is below another. Where it is not equal to or below it there is no distance.
 pub fn widening_distance(sorts: &[u16], counts: Counts, from: SortId, to: SortId) -> Widening
-    requires { ⌜ Checked (now sorts) (counts .sorts) (counts .entries) × (from .0 < counts .sorts) × (to .0 < counts .sorts) ⌝ }
-    ensures { λ r. ⌜ r ≡ wideningOf (distance true (treeAt (now (sorts .entry)) (counts .sorts) (from .0)) (treeAt (now (sorts .entry)) (counts .sorts) (to .0))) ⌝ }
+    requires { ⌜
+        Checked (now sorts) (counts .sorts) (counts .entries)
+        × (from .0 < counts .sorts)
+        × (to .0 < counts .sorts)
+        ⌝ }
+    ensures { λ r. ⌜
+        r
+        ≡ wideningOf (distance true (treeAt (now (sorts .entry)) (counts .sorts) (from .0))
+        (treeAt (now (sorts .entry)) (counts .sorts) (to .0)))
+        ⌝ }
 {
     if from.0 == to.0 {
         return Widening::Distance {
@@ -408,7 +430,11 @@ fn domain_distance(
     count: u16,
 ) -> Amount
     requires { ⌜ Runs (now sorts) (counts .sorts) (counts .entries) «from_start» «to_start» count ⌝ }
-    ensures { λ r. ⌜ r ≡ amountOf (distances false (argsAt (now (sorts .entry)) (counts .sorts) «from_start» count) (argsAt (now (sorts .entry)) (counts .sorts) «to_start» count)) ⌝ }
+    ensures { λ r. ⌜
+        r
+        ≡ amountOf (distances false (argsAt (now (sorts .entry)) (counts .sorts) «from_start» count)
+        (argsAt (now (sorts .entry)) (counts .sorts) «to_start» count))
+        ⌝ }
 {
     if count == 0 {
         return Amount::Of(0);
@@ -441,7 +467,11 @@ fn is_below(order: PartialOrder) -> bool
 
 // Whether two runs of arguments have the same sort numbers in the same order.
 fn same_arguments(sorts: &[u16], from_start: u16, to_start: u16, count: u16) -> bool
-    ensures { λ r. ⌜ r ≡ sameWords (entriesOf (now (sorts .entry)) «from_start» count) (entriesOf (now (sorts .entry)) «to_start» count) ⌝ }
+    ensures { λ r. ⌜
+        r
+        ≡ sameWords (entriesOf (now (sorts .entry)) «from_start» count)
+        (entriesOf (now (sorts .entry)) «to_start» count)
+        ⌝ }
 {
     let mut i: u16 = 0;
     while i < count {
@@ -458,8 +488,16 @@ fn same_arguments(sorts: &[u16], from_start: u16, to_start: u16, count: u16) -> 
 // Whether the language has a coercion from one sort of a checked list to another. Below is not enough: parts and arguments
 // are the same sorts.
 pub fn is_materializable(sorts: &[u16], counts: Counts, from: SortId, to: SortId) -> bool
-    requires { ⌜ Checked (now sorts) (counts .sorts) (counts .entries) × (from .0 < counts .sorts) × (to .0 < counts .sorts) ⌝ }
-    ensures { λ r. ⌜ r ≡ materializable (treeAt (now (sorts .entry)) (counts .sorts) (from .0)) (treeAt (now (sorts .entry)) (counts .sorts) (to .0)) ⌝ }
+    requires { ⌜
+        Checked (now sorts) (counts .sorts) (counts .entries)
+        × (from .0 < counts .sorts)
+        × (to .0 < counts .sorts)
+        ⌝ }
+    ensures { λ r. ⌜
+        r
+        ≡ materializable (treeAt (now (sorts .entry)) (counts .sorts) (from .0))
+        (treeAt (now (sorts .entry)) (counts .sorts) (to .0))
+        ⌝ }
 {
     if from.0 == to.0 {
         return true;

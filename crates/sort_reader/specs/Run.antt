@@ -32,12 +32,14 @@ pub record Running (ws : List ℕ) (n e : ℕ) (ops : List ℕ) (i : ℕ) (ids :
 
 -- Going on after a sort was made: with its number at base, on top of the stack; or not, where nothing was made.
 unfoldable pub GoesOn : List ℕ → List ℕ → ℕ → List ℕ → ℕ → Joined → Type 0
-GoesOn ws ops i ids base (At c K) = Running ws (K .sorts) (K .entries) ops (i + 1) (set ids base (c .0)) (base + 1)
+GoesOn ws ops i ids base (At c K) =
+    Running ws (K .sorts) (K .entries) ops (i + 1) (set ids base (c .0)) (base + 1)
 GoesOn ws ops i ids base (Nothing K) = Unit {0}
 GoesOn ws ops i ids base Full = Unit {0}
 
 unfoldable pub goOn : List ℕ → List ℕ → ℕ → List ℕ → ℕ → Joined → Stored
-goOn ws ops i ids base (At c K) = runAt ws (K .sorts) (K .entries) (drop (i + 1) ops) (set ids base (c .0)) (base + 1)
+goOn ws ops i ids base (At c K) =
+    runAt ws (K .sorts) (K .entries) (drop (i + 1) ops) (set ids base (c .0)) (base + 1)
 goOn ws ops i ids base (Nothing K) = record { words = ws; answer = Nothing K }
 goOn ws ops i ids base Full = record { words = ws; answer = Full }
 

@@ -74,7 +74,10 @@ pub fn run_from(
     depth: usize,
 ) -> Joined
     requires { ⌜ Running (now sorts) (counts .sorts) (counts .entries) (now steps) i ids depth ⌝ }
-    ensures { λ r. ⌜ storedAt (now (sorts .exit)) r ≡ runAt (now (sorts .entry)) (counts .sorts) (counts .entries) (drop i (now (steps .entry))) ids depth ⌝ }
+    ensures { λ r. ⌜
+        storedAt (now (sorts .exit)) r
+        ≡ runAt (now (sorts .entry)) (counts .sorts) (counts .entries) (drop i (now (steps .entry))) ids depth
+        ⌝ }
 {
     if steps.len() <= i {
         if depth == 0 {
@@ -108,8 +111,17 @@ fn run_function(
     depth: usize,
     step: u8,
 ) -> Joined
-    requires { ⌜ Running (now sorts) (counts .sorts) (counts .entries) (now steps) i ids depth × (i < length (now steps)) × (step ≡ getD (now steps) i 0) × (11 ≤ step) × (0 < depth) ⌝ }
-    ensures { λ r. ⌜ storedAt (now (sorts .exit)) r ≡ runAt (now (sorts .entry)) (counts .sorts) (counts .entries) (drop i (now (steps .entry))) ids depth ⌝ }
+    requires { ⌜
+        Running (now sorts) (counts .sorts) (counts .entries) (now steps) i ids depth
+        × (i < length (now steps))
+        × (step ≡ getD (now steps) i 0)
+        × (11 ≤ step)
+        × (0 < depth)
+        ⌝ }
+    ensures { λ r. ⌜
+        storedAt (now (sorts .exit)) r
+        ≡ runAt (now (sorts .entry)) (counts .sorts) (counts .entries) (drop i (now (steps .entry))) ids depth
+        ⌝ }
 {
     let k = argument_count(step);
     if depth <= (k as usize) {
@@ -131,7 +143,9 @@ fn go_on(
     base: usize,
 ) -> Joined
     requires { ⌜ GoesOn (now sorts) (now steps) i ids base made × (base < 256) × (i < length (now steps)) ⌝ }
-    ensures { λ r. ⌜ storedAt (now (sorts .exit)) r ≡ goOn (now (sorts .entry)) (now (steps .entry)) i ids base made ⌝ }
+    ensures { λ r. ⌜
+        storedAt (now (sorts .exit)) r ≡ goOn (now (sorts .entry)) (now (steps .entry)) i ids base made
+        ⌝ }
 {
     match made {
         Joined::At(id, counts) => {
@@ -146,7 +160,11 @@ fn go_on(
 
 // Checks 1 to 4, 14 and 19: the first that fails.
 fn test_read(sorts: &[u16], sort_count: usize, entry_count: usize, line: &[u8]) -> Tested
-    ensures { λ r. ⌜ r ≡ testedOf (firstFailing (readChecks (now (sorts .entry)) «sort_count» «entry_count» (now (line .entry)))) ⌝ }
+    ensures { λ r. ⌜
+        r
+        ≡ testedOf
+        (firstFailing (readChecks (now (sorts .entry)) «sort_count» «entry_count» (now (line .entry))))
+        ⌝ }
 {
     match test_sorts(sorts, sort_count, entry_count) {
         Tested::Refused(code) => Tested::Refused(code),
@@ -164,8 +182,12 @@ fn test_read(sorts: &[u16], sort_count: usize, entry_count: usize, line: &[u8]) 
 
 // What was stored stays; where room ended it is given back.
 fn kept_or_no_room(sorts: &mut [u16], sort_count: usize, entry_count: usize, stored: Joined) -> Read
-    requires { ⌜ («sort_count» ≤ maxSorts) × («entry_count» ≤ maxEntries) × (fullLength ≤ length (now sorts)) ⌝ }
-    ensures { λ r. ⌜ readLeft (now (sorts .exit)) r ≡ keptOrNoRoom (now (sorts .entry)) «sort_count» «entry_count» stored ⌝ }
+    requires { ⌜
+        («sort_count» ≤ maxSorts) × («entry_count» ≤ maxEntries) × (fullLength ≤ length (now sorts))
+        ⌝ }
+    ensures { λ r. ⌜
+        readLeft (now (sorts .exit)) r ≡ keptOrNoRoom (now (sorts .entry)) «sort_count» «entry_count» stored
+        ⌝ }
 {
     match stored {
         Joined::At(id, counts) => Read::Sort(id, counts),
@@ -183,7 +205,11 @@ fn kept_or_no_room(sorts: &mut [u16], sort_count: usize, entry_count: usize, sto
 // A line that passed the tests.
 pub fn read_line(sorts: &mut [u16], sort_count: usize, entry_count: usize, line: &[u8]) -> Read
     requires { ⌜ Passes (now sorts) «sort_count» «entry_count» (now line) ⌝ }
-    ensures { λ r. ⌜ readLeft (now (sorts .exit)) r ≡ readAs (now (sorts .entry)) «sort_count» «entry_count» (now (line .entry)) (lineOf (now (line .entry))) ⌝ }
+    ensures { λ r. ⌜
+        readLeft (now (sorts .exit)) r
+        ≡ readAs (now (sorts .entry)) «sort_count» «entry_count» (now (line .entry))
+        (lineOf (now (line .entry)))
+        ⌝ }
 {
     let mut steps = [0u8; 200];
     match recognise(line, &mut steps) {
@@ -202,7 +228,10 @@ pub fn read_line(sorts: &mut [u16], sort_count: usize, entry_count: usize, line:
 // The sort of a line, stored: parts first, arguments left to right, then the range, then the whole.
 // Ruled out: a sort for a line of 201 bytes; sorts of a line that is none left in the storage.
 pub fn read(sorts: &mut [u16], sort_count: usize, entry_count: usize, line: &[u8]) -> Read
-    ensures { λ r. ⌜ readLeft (now (sorts .exit)) r ≡ reading (now (sorts .entry)) «sort_count» «entry_count» (now (line .entry)) ⌝ }
+    ensures { λ r. ⌜
+        readLeft (now (sorts .exit)) r
+        ≡ reading (now (sorts .entry)) «sort_count» «entry_count» (now (line .entry))
+        ⌝ }
 {
     match test_read(sorts, sort_count, entry_count, line) {
         Tested::Refused(code) => Read::Refused(code),

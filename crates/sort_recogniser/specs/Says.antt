@@ -13,7 +13,8 @@ use Rattle.sort_recogniser.specs.declared.Recognised.the-variants.{Done,
 
 -- The steps of t stand after front, m steps in all; at p, no earlier than lowest, the line goes on with cs; and the steps with what is
 -- left of the line take no more than room.
-pub record Wrote (line : List ℕ) (lowest room : ℕ) (front : List ℕ) (t : Tree) (cs out : List ℕ) (p m : ℕ) : Type 0 where
+pub record Wrote (line : List ℕ) (lowest room : ℕ) (front : List ℕ) (t : Tree) (cs out : List ℕ) (p m : ℕ)
+    : Type 0 where
   pub further : lowest ≤ p
   pub within : p ≤ length line
   pub goes-on : drop p line ≡ cs
@@ -30,7 +31,8 @@ Says line lowest room front (stuck cs) out (Stuck p) = (p ≤ length line) × (d
 unfoldable pub SaysClosing : List ℕ → ℕ → List ℕ → ℕ → ComplexSort → List ℕ → Recognised → Type 0
 SaysClosing line at old n op out r =
     (front : List ℕ) (t : Tree) → take n old ≡ front ++ postfix t
-    → Says line at (n + (length line - at)) front (closing op t (skip (drop at line)) (next isLetter (drop at line))) out r
+    → Says line at (n + (length line - at)) front
+    (closing op t (skip (drop at line)) (next isLetter (drop at line))) out r
 
 -- After the n steps of which the last are those of the k operands.
 unfoldable pub SaysRest : List ℕ → ℕ → List ℕ → ℕ → ℕ → List ℕ → Recognised → Type 0

@@ -66,7 +66,9 @@ fn closing(line: &[u8], at: usize, out: &mut [u8], n: usize, op: ComplexSort) ->
 
 // The operands so far are k: `#` and another operand, `->` and the range, or the end of the sort.
 fn rest(line: &[u8], at: usize, out: &mut [u8], n: usize, k: u8) -> Recognised
-    requires { ⌜ (at ≤ length (now line)) × (n + (length (now line) - at) ≤ length (now out)) × (1 ≤ k) × (k ≤ 16) ⌝ }
+    requires { ⌜
+        (at ≤ length (now line)) × (n + (length (now line) - at) ≤ length (now out)) × (1 ≤ k) × (k ≤ 16)
+        ⌝ }
     ensures { λ r. ⌜ SaysRest (now (line .entry)) at (now (out .entry)) n k (now (out .exit)) r ⌝ }
 {
     let found = token_from(line, at);
@@ -100,7 +102,12 @@ fn rest(line: &[u8], at: usize, out: &mut [u8], n: usize, k: u8) -> Recognised
 // `(` after a container word, the sort in it, and `)`.
 fn bracketed(line: &[u8], at: usize, out: &mut [u8], n: usize, op: ComplexSort) -> Recognised
     requires { ⌜ (at ≤ length (now line)) × (n + (length (now line) - at) ≤ length (now out)) ⌝ }
-    ensures { λ r. ⌜ Says (now (line .entry)) at (n + (length (now (line .entry)) - at)) (take n (now (out .entry))) (Parse.bracketed Parse.sort op (skip (drop at (now (line .entry)))) (next isLetter (drop at (now (line .entry))))) (now (out .exit)) r ⌝ }
+    ensures { λ r. ⌜
+        Says (now (line .entry)) at (n + (length (now (line .entry)) - at)) (take n (now (out .entry)))
+        (Parse.bracketed Parse.sort op (skip (drop at (now (line .entry))))
+        (next isLetter (drop at (now (line .entry)))))
+        (now (out .exit)) r
+        ⌝ }
 {
     let found = token_from(line, at);
     let token = found.token;
@@ -116,7 +123,10 @@ fn bracketed(line: &[u8], at: usize, out: &mut [u8], n: usize, op: ComplexSort) 
 // An operand: a basic sort, or a container over a sort in brackets.
 fn operand(line: &[u8], at: usize, out: &mut [u8], n: usize) -> Recognised
     requires { ⌜ (at ≤ length (now line)) × (n + (length (now line) - at) ≤ length (now out)) ⌝ }
-    ensures { λ r. ⌜ Says (now (line .entry)) (at + 1) (n + (length (now (line .entry)) - at)) (take n (now (out .entry))) (Parse.operand Parse.sort (drop at (now (line .entry)))) (now (out .exit)) r ⌝ }
+    ensures { λ r. ⌜
+        Says (now (line .entry)) (at + 1) (n + (length (now (line .entry)) - at)) (take n (now (out .entry)))
+        (Parse.operand Parse.sort (drop at (now (line .entry)))) (now (out .exit)) r
+        ⌝ }
 {
     let found = token_from(line, at);
     let token = found.token;
@@ -136,7 +146,10 @@ fn operand(line: &[u8], at: usize, out: &mut [u8], n: usize) -> Recognised
 // A sort: operands, and what comes after them.
 fn sort(line: &[u8], at: usize, out: &mut [u8], n: usize) -> Recognised
     requires { ⌜ (at ≤ length (now line)) × (n + (length (now line) - at) ≤ length (now out)) ⌝ }
-    ensures { λ r. ⌜ Says (now (line .entry)) (at + 1) (n + (length (now (line .entry)) - at)) (take n (now (out .entry))) (Parse.sort (drop at (now (line .entry)))) (now (out .exit)) r ⌝ }
+    ensures { λ r. ⌜
+        Says (now (line .entry)) (at + 1) (n + (length (now (line .entry)) - at)) (take n (now (out .entry)))
+        (Parse.sort (drop at (now (line .entry)))) (now (out .exit)) r
+        ⌝ }
 {
     match operand(line, at, out, n) {
         Recognised::Done(p, m) => rest(line, p, out, m, 1),
@@ -147,7 +160,10 @@ fn sort(line: &[u8], at: usize, out: &mut [u8], n: usize) -> Recognised
 // A line: a sort and nothing but spaces after it.
 pub fn recognise(line: &[u8], out: &mut [u8]) -> Recognised
     requires { ⌜ length (now line) ≤ length (now out) ⌝ }
-    ensures { λ r. ⌜ Says (now (line .entry)) 0 (length (now (line .entry))) [] (Parse.line (now (line .entry))) (now (out .exit)) r ⌝ }
+    ensures { λ r. ⌜
+        Says (now (line .entry)) 0 (length (now (line .entry))) [] (Parse.line (now (line .entry)))
+        (now (out .exit)) r
+        ⌝ }
 {
     match sort(line, 0, out, 0) {
         Recognised::Done(p, m) => {

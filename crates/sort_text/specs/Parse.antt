@@ -120,7 +120,9 @@ restAt sort ts at bs more bad = alone ts at bs
 -- of operands k more may come; a seventeenth argument's `#` cannot follow
 unfoldable pub rest : (List ℕ → Parsed) → ℕ → Trees → List ℕ → Parsed
 rest sort zero ts bs = restAt sort ts (skip bs) bs (λ cs. stuck (skip bs)) (next isLetter bs)
-rest sort (suc k) ts bs = restAt sort ts (skip bs) bs (λ cs. operand sort cs then (λ t ds. rest sort k (snoc ts t) ds)) (next isLetter bs)
+rest sort (suc k) ts bs =
+    restAt sort ts (skip bs) bs (λ cs. operand sort cs then (λ t ds. rest sort k (snoc ts t) ds))
+    (next isLetter bs)
 
 abbrev pub maxArguments : ℕ
 maxArguments = 16

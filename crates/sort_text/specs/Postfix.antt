@@ -25,10 +25,14 @@ unfoldable mutual
 
 -- the sorts of the steps 0 to 5, and the operators of the steps 6 to 10
 abbrev pub sixth : ℕ → Tree
-sixth k = getD (flat unit ∷ flat (primitive Sort.Bool) ∷ flat (primitive Sort.Pos) ∷ flat (primitive Sort.Nat) ∷ flat (primitive Sort.Int) ∷ []) k (flat (primitive Sort.Real))
+sixth k =
+    getD (flat unit ∷ flat (primitive Sort.Bool) ∷ flat (primitive Sort.Pos) ∷ flat (primitive Sort.Nat)
+    ∷ flat (primitive Sort.Int) ∷ [])
+    k (flat (primitive Sort.Real))
 
 abbrev pub opOf : ℕ → ComplexSort
-opOf k = getD (ComplexSort.List ∷ ComplexSort.Set ∷ ComplexSort.FSet ∷ ComplexSort.Bag ∷ []) k ComplexSort.FBag
+opOf k =
+    getD (ComplexSort.List ∷ ComplexSort.Set ∷ ComplexSort.FSet ∷ ComplexSort.Bag ∷ []) k ComplexSort.FBag
 
 -- A stack of sorts, the last one first.
 abbrev pub over : ComplexSort → List Tree → Sorts → Outcome (List Tree)

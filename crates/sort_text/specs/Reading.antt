@@ -35,7 +35,9 @@ unfoldable pub shortLine : List ℕ → Bool
 shortLine bs = leb (length bs) maxLine
 
 unfoldable pub readChecks : List ℕ → ℕ → ℕ → List ℕ → List Check
-readChecks ws n e bs = sortChecks ws n e ++ (record { code = 14; passes = atCeiling ws } ∷ record { code = 19; passes = shortLine bs } ∷ [])
+readChecks ws n e bs =
+    sortChecks ws n e
+    ++ (record { code = 14; passes = atCeiling ws } ∷ record { code = 19; passes = shortLine bs } ∷ [])
 
 -- document 01's number of each answer
 unfoldable pub codeRead : Read → ℕ
@@ -58,8 +60,10 @@ storedBy ws n e r Full = readLeft (givenBack n e ws) NoRoom
 
 -- A line that is no sort stores nothing, also where there is no room.
 unfoldable pub readAs : List ℕ → ℕ → ℕ → List ℕ → Parsed → ReadLeft
-readAs ws n e bs (parsed t cs) = let r : Stored = stored ws n e (store t (sortsOf ws n e)) in storedBy ws n e r (r .answer)
+readAs ws n e bs (parsed t cs) =
+    let r : Stored = stored ws n e (store t (sortsOf ws n e)) in storedBy ws n e r (r .answer)
 readAs ws n e bs (stuck cs) = readLeft ws (NotASort (length bs - length cs))
 
 unfoldable pub reading : List ℕ → ℕ → ℕ → List ℕ → ReadLeft
-reading ws n e bs = orElse (firstFailing (readChecks ws n e bs)) (λ c. readLeft ws (Refused c)) (readAs ws n e bs (line bs))
+reading ws n e bs =
+    orElse (firstFailing (readChecks ws n e bs)) (λ c. readLeft ws (Refused c)) (readAs ws n e bs (line bs))

@@ -35,4 +35,5 @@ writeLeft out r = record { bytes = out; answer = r }
 unfoldable pub writing : List ℕ → ℕ → ℕ → ℕ → List ℕ → WriteLeft
 writing ws n e a out =
     orElse (firstFailing (writeChecks ws n e a out)) (λ c. writeLeft out (Refused c))
-    (writeLeft (text (treeAt ws n a) ++ drop (length (text (treeAt ws n a))) out) (Text (length (text (treeAt ws n a)))))
+    (writeLeft (text (treeAt ws n a) ++ drop (length (text (treeAt ws n a))) out)
+    (Text (length (text (treeAt ws n a)))))

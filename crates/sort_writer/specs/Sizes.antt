@@ -45,7 +45,8 @@ unfoldable pub rowSize : List ℕ → List ℕ → ResolvedSort → ℕ
 rowSize ws zs Unit = 0
 rowSize ws zs (Primitive s) = length (sortWord s)
 rowSize ws zs (Container op subsort) = joined (length (opWord op) + 2) (getD zs (subsort .0) 0)
-rowSize ws zs (Function domain range) = joined (runSize zs (entriesOf ws (domain .start) (domain .count))) (joined 4 (getD zs (range .0) 0))
+rowSize ws zs (Function domain range) =
+    joined (runSize zs (entriesOf ws (domain .start) (domain .count))) (joined 4 (getD zs (range .0) 0))
 rowSize ws zs (Def n) = 0
 rowSize ws zs (TypeVar n) = 0
 

@@ -185,7 +185,10 @@ fn put_op(op: ComplexSort, out: &mut [u8], at: usize) -> usize
 // The text of a sort of a checked list that has room from a place on; the place behind it.
 pub fn put_sort(sorts: &[u16], counts: Counts, id: SortId, out: &mut [u8], at: usize) -> usize
     requires { ⌜ SortRoom (now sorts) (counts .sorts) (counts .entries) (id .0) (now out) at ⌝ }
-    ensures { λ r. ⌜ Put (now (out .entry)) at (text (treeAt (now (sorts .entry)) (counts .sorts) (id .0))) (now (out .exit)) r ⌝ }
+    ensures { λ r. ⌜
+        Put (now (out .entry)) at (text (treeAt (now (sorts .entry)) (counts .sorts) (id .0)))
+        (now (out .exit)) r
+        ⌝ }
 {
     match get(sorts, id) {
         ResolvedSort::Unit => at,
@@ -215,7 +218,10 @@ fn put_arguments(
     at: usize,
 ) -> usize
     requires { ⌜ RunRoom (now sorts) (counts .sorts) (counts .entries) start count (now out) at ⌝ }
-    ensures { λ r. ⌜ Put (now (out .entry)) at (texts (argsAt (now (sorts .entry)) (counts .sorts) start count)) (now (out .exit)) r ⌝ }
+    ensures { λ r. ⌜
+        Put (now (out .entry)) at (texts (argsAt (now (sorts .entry)) (counts .sorts) start count))
+        (now (out .exit)) r
+        ⌝ }
 {
     if count == 0 {
         return at;
@@ -237,7 +243,11 @@ fn test_write(
     id: SortId,
     out: &[u8],
 ) -> Tested
-    ensures { λ r. ⌜ r ≡ testedOf (firstFailing (writeChecks (now (sorts .entry)) «sort_count» «entry_count» (id .0) (now (out .entry)))) ⌝ }
+    ensures { λ r. ⌜
+        r
+        ≡ testedOf (firstFailing
+        (writeChecks (now (sorts .entry)) «sort_count» «entry_count» (id .0) (now (out .entry))))
+        ⌝ }
 {
     match test_sorts(sorts, sort_count, entry_count) {
         Tested::Refused(code) => Tested::Refused(code),
@@ -269,7 +279,10 @@ pub fn write(
     id: SortId,
     out: &mut [u8],
 ) -> Written
-    ensures { λ r. ⌜ writeLeft (now (out .exit)) r ≡ writing (now (sorts .entry)) «sort_count» «entry_count» (id .0) (now (out .entry)) ⌝ }
+    ensures { λ r. ⌜
+        writeLeft (now (out .exit)) r
+        ≡ writing (now (sorts .entry)) «sort_count» «entry_count» (id .0) (now (out .entry))
+        ⌝ }
 {
     match test_write(sorts, sort_count, entry_count, id, out) {
         Tested::Refused(code) => Written::Refused(code),
@@ -302,7 +315,10 @@ pub extern "C" fn sort_write(
     id: u16,
     out: &mut [u8],
 ) -> u64
-    ensures { λ r. ⌜ packed (now (out .exit)) r ≡ packLeft (writing (now (sorts .entry)) «sort_count» «entry_count» id (now (out .entry))) ⌝ }
+    ensures { λ r. ⌜
+        packed (now (out .exit)) r
+        ≡ packLeft (writing (now (sorts .entry)) «sort_count» «entry_count» id (now (out .entry)))
+        ⌝ }
 {
     pack_written(write(sorts, sort_count, entry_count, SortId(id), out))
 }

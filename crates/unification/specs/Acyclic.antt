@@ -17,8 +17,10 @@ pub data One (q : ℕ) : List ℕ → Type 0 where
 -- the variable v stands in the sort at p, through parts and bindings
 pub data Reaches (shape : ℕ → Shape) (B : Binds) (v : ℕ) : ℕ → Type 0 where
   here : (p : ℕ) → shape p ≡ variable v → Reaches shape B v p
-  inside : (p q : ℕ) (h : Head) (ps : List ℕ) → shape p ≡ over h ps → One q ps → Reaches shape B v q → Reaches shape B v p
-  beyond : (p u q : ℕ) → shape p ≡ variable u → binding B u ≡ some q → Reaches shape B v q → Reaches shape B v p
+  inside : (p q : ℕ) (h : Head) (ps : List ℕ) → shape p ≡ over h ps → One q ps → Reaches shape B v q
+      → Reaches shape B v p
+  beyond : (p u q : ℕ) → shape p ≡ variable u → binding B u ≡ some q → Reaches shape B v q
+      → Reaches shape B v p
 
 -- no variable reaches itself
 abbrev pub Acyclic : (ℕ → Shape) → Binds → Type 0
@@ -27,7 +29,8 @@ Acyclic shape B = (v q : ℕ) → binding B v ≡ some q → Reaches shape B v q
 -- the variable u stands in the sort at p as it stands, bindings not followed
 pub data Stands (shape : ℕ → Shape) (u : ℕ) : ℕ → Type 0 where
   at : (p : ℕ) → shape p ≡ variable u → Stands shape u p
-  within : (p q : ℕ) (h : Head) (ps : List ℕ) → shape p ≡ over h ps → One q ps → Stands shape u q → Stands shape u p
+  within : (p q : ℕ) (h : Head) (ps : List ℕ) → shape p ≡ over h ps → One q ps → Stands shape u q
+      → Stands shape u p
 
 -- The same said by numbers: each variable has one, and it falls to every variable that stands in what it is bound to.
 pub record Numbering (shape : ℕ → Shape) (n : ℕ) (B : Binds) : Type 0 where
@@ -51,7 +54,8 @@ shapeSettled vs ms (over h ps) = allSettled ms ps
 -- the first m nodes, by the variables
 unfoldable pub nodesSettled : List ℕ → List Bool → ℕ → List Bool
 nodesSettled ns vs zero = []
-nodesSettled ns vs (suc i) = nodesSettled ns vs i ++ (shapeSettled vs (nodesSettled ns vs i) (nodeShape ns (nodeAt ns i)) ∷ [])
+nodesSettled ns vs (suc i) =
+    nodesSettled ns vs i ++ (shapeSettled vs (nodesSettled ns vs i) (nodeShape ns (nodeAt ns i)) ∷ [])
 
 abbrev pub bindingSettled : List Bool → Option ℕ → Bool
 bindingSettled ms none = true

@@ -30,8 +30,16 @@ pub record NodesChecked (ws : List ℕ) (n e : ℕ) (ns : List ℕ) (m d v : ℕ
   pub variables : v ≤ maxVars
   pub fine : nodesFine ns m d n v ≡ true
 
-abbrev pub fineOf : (ws : List ℕ) (n e : ℕ) (ns : List ℕ) (m d v : ℕ) → NodesChecked ws n e ns m d v → ListsFine ws n e ns m d v
-fineOf ws n e ns m d v c = record { sorts = c .sorts .sorts; rows = c .sorts .fine; nodes = c .nodes; variables = c .variables; fine = c .fine }
+abbrev pub fineOf : (ws : List ℕ) (n e : ℕ) (ns : List ℕ) (m d v : ℕ) → NodesChecked ws n e ns m d v
+    → ListsFine ws n e ns m d v
+fineOf ws n e ns m d v c =
+    record {
+      sorts = c .sorts .sorts;
+      rows = c .sorts .fine;
+      nodes = c .nodes;
+      variables = c .variables;
+      fine = c .fine;
+    }
 
 abbrev pub listsOf : List ℕ → ℕ → List ℕ → ℕ → Lists
 listsOf ws n ns m = record { sorts = ws; sort-count = n; nodes = ns; node-count = m }

@@ -65,7 +65,8 @@ appendNode W r =
     record {
       sorts = W .sorts;
       nodes =
-          sets (putRow (W .nodes) (W .lengths .nodes) (r .kind) (r .part) (cond (eqb (r .kind) functionKind) (W .lengths .arguments) 0) (length (r .args)))
+          sets (putRow (W .nodes) (W .lengths .nodes) (r .kind) (r .part)
+          (cond (eqb (r .kind) functionKind) (W .lengths .arguments) 0) (length (r .args)))
           (nodeEntriesAt + W .lengths .arguments) (r .args);
       lengths =
           record {
@@ -79,7 +80,8 @@ appendNode W r =
 
 unfoldable pub pushNode : Row → Lent → Makes ℕ
 pushNode r W =
-    cond (ltb (W .lengths .nodes) maxNodes && leb (W .lengths .arguments + length (r .args)) maxNodeEntries) (made (maxSorts + W .lengths .nodes) (appendNode W r)) (no-room 16 W)
+    cond (ltb (W .lengths .nodes) maxNodes && leb (W .lengths .arguments + length (r .args)) maxNodeEntries)
+    (made (maxSorts + W .lengths .nodes) (appendNode W r)) (no-room 16 W)
 
 -- a container of sorts is interned
 abbrev pub withSorts : Lent → Stored → Joined → Makes ℕ
@@ -88,14 +90,22 @@ withSorts W r (At id k) =
     (record {
       sorts = r .words;
       nodes = W .nodes;
-      lengths = record { sorts = k .sorts; entries = k .entries; nodes = W .lengths .nodes; arguments = W .lengths .arguments; variables = W .lengths .variables };
+      lengths =
+          record {
+            sorts = k .sorts;
+            entries = k .entries;
+            nodes = W .lengths .nodes;
+            arguments = W .lengths .arguments;
+            variables = W .lengths .variables;
+          };
     })
 withSorts W r (Nothing k) = no-list W
 withSorts W r Full = no-room 15 W
 
 unfoldable pub internContainer : ComplexSort → ℕ → Lent → Makes ℕ
 internContainer o s W =
-    let r : Stored = internAt (W .sorts) (W .lengths .sorts) (W .lengths .entries) (container o (look (trees (W .sorts) (W .lengths .sorts)) s)) in
+    let r : Stored = internAt (W .sorts) (W .lengths .sorts) (W .lengths .entries)
+    (container o (look (trees (W .sorts) (W .lengths .sorts)) s)) in
     withSorts W r (r .answer)
 
 abbrev pub only : ℕ → Lent → Makes (List ℕ)
@@ -110,7 +120,9 @@ relatedOver (some o) false s W = pushNode (record { kind = kindOp o; part = s; a
 -- functions of the same arguments over each of the ranges
 unfoldable pub pushFunctions : List ℕ → List ℕ → Lent → Makes (List ℕ)
 pushFunctions xs [] W = made [] W
-pushFunctions xs (r ∷ rs) W = pushNode (record { kind = functionKind; part = r; args = xs }) W and-then (λ p W. pushFunctions xs rs W and-then (λ ps W. made (p ∷ ps) W))
+pushFunctions xs (r ∷ rs) W =
+    pushNode (record { kind = functionKind; part = r; args = xs }) W
+    and-then (λ p W. pushFunctions xs rs W and-then (λ ps W. made (p ∷ ps) W))
 
 -- the fixed sorts have their kinds as numbers
 abbrev pub relatedPlaces : Bool → Flat → List ℕ
@@ -123,7 +135,8 @@ relatedPlaces up (typevar n) = []
 abbrev pub relatedShape : Bool → (ℕ → Lent → Makes (List ℕ)) → Bool → Shape → Lent → Makes (List ℕ)
 relatedShape up f sort (variable v) W = no-list W
 relatedShape up f sort (over (flatHead a) ps) W = made (relatedPlaces up a) W
-relatedShape up f sort (over (containerHead o) ps) W = relatedOver (relatedContainer up o) sort (getD ps 0 0) W
+relatedShape up f sort (over (containerHead o) ps) W =
+    relatedOver (relatedContainer up o) sort (getD ps 0 0) W
 relatedShape up f sort (over (functionHead n) ps) W = f (getD ps n 0) W and-then (pushFunctions (take n ps))
 relatedShape up f sort (over (strayHead n) ps) W = made [] W
 

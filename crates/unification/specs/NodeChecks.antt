@@ -13,7 +13,8 @@ use Rattle.unification.specs.Acyclic.{acyclic}
 
 -- 1. "A given list is above its ceiling or longer than the storage lent for it."
 unfoldable pub nodesWithinLent : List ℕ → ℕ → ℕ → Bool
-nodesWithinLent ns m d = leb m maxNodes && leb d maxNodeEntries && leb (4 * m) (length ns) && leb d (length ns - nodeEntriesAt)
+nodesWithinLent ns m d =
+    leb m maxNodes && leb d maxNodeEntries && leb (4 * m) (length ns) && leb d (length ns - nodeEntriesAt)
 
 unfoldable pub bindingsWithinLent : List ℕ → ℕ → Bool
 bindingsWithinLent bs v = leb v maxVars && leb v (length bs)
@@ -23,7 +24,10 @@ bindingsWithinLent bs v = leb v maxVars && leb v (length bs)
 unfoldable pub nodePartsFine : List ℕ → ℕ → ℕ → ℕ → ℕ → InferSort → Bool
 nodePartsFine ns d n v i (Generic op subsort) = isPlace n i (subsort .0)
 nodePartsFine ns d n v i (Function domain range) =
-    leb (domain .count) 16 && leb (domain .start + domain .count) d && isPlace n i (range .0) && allBelow (domain .count) (λ j. isPlace n i (nodeEntryAt ns (domain .start + j)))
+    leb (domain .count) 16
+    && leb (domain .start + domain .count) d
+    && isPlace n i (range .0)
+    && allBelow (domain .count) (λ j. isPlace n i (nodeEntryAt ns (domain .start + j)))
 nodePartsFine ns d n v i (Var u) = ltb (u .0) v
 
 -- 6 to 11, and 14
@@ -48,12 +52,15 @@ bindingsFine n m (b ∷ B) = bindingFine n m b && bindingsFine n m B
 -- checks 5 to 7 of the nodes and bindings given
 unfoldable pub nodeChecks : List ℕ → ℕ → ℕ → ℕ → List ℕ → ℕ → List Check
 nodeChecks ns m d n bs v =
-    record { code = 5; passes = nodesFine ns m d n v } ∷ record { code = 6; passes = bindingsFine n m (bindsOf bs v) } ∷ record { code = 7; passes = acyclic ns m (bindsOf bs v) } ∷ []
+    record { code = 5; passes = nodesFine ns m d n v }
+    ∷ record { code = 6; passes = bindingsFine n m (bindsOf bs v) }
+    ∷ record { code = 7; passes = acyclic ns m (bindsOf bs v) } ∷ []
 
 -- 12. "a sort or place asked about, is not in its list", and 14 with the nodes at their ceiling as well
 unfoldable pub placeChecks : List ℕ → ℕ → List ℕ → ℕ → ℕ → ℕ → List Check
 placeChecks ws n ns m l r =
-    record { code = 12; passes = isPlace n m l && isPlace n m r } ∷ record { code = 14; passes = atCeiling ws && leb fullNodes (length ns) } ∷ []
+    record { code = 12; passes = isPlace n m l && isPlace n m r }
+    ∷ record { code = 14; passes = atCeiling ws && leb fullNodes (length ns) } ∷ []
 
 -- the checks of unify as an entry, in order
 unfoldable pub unifyChecks : List ℕ → ℕ → ℕ → List ℕ → ℕ → ℕ → List ℕ → ℕ → ℕ → ℕ → List Check

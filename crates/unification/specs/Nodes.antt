@@ -57,7 +57,9 @@ abbrev pub variableKind : ℕ
 variableKind = 14
 
 abbrev pub opOfKind : ℕ → ComplexSort
-opOfKind k = getD (ComplexSort.List ∷ ComplexSort.Set ∷ ComplexSort.FSet ∷ ComplexSort.Bag ∷ []) (k - 6) ComplexSort.FBag
+opOfKind k =
+    getD (ComplexSort.List ∷ ComplexSort.Set ∷ ComplexSort.FSet ∷ ComplexSort.Bag ∷ []) (k - 6)
+    ComplexSort.FBag
 
 -- What a row of these words says.
 unfoldable pub inferred : ℕ → ℕ → Run → InferSort
@@ -66,20 +68,24 @@ inferred kind part run =
     (cond (ltb kind functionKind) (Generic (opOfKind kind) (record { 0 = part })) (Var (record { 0 = part })))
 
 abbrev pub nodeAt : List ℕ → ℕ → InferSort
-nodeAt ns i = inferred (nodeKindAt ns i) (nodePartAt ns i) (record { start = nodeStartAt ns i; count = nodeCountAt ns i })
+nodeAt ns i =
+    inferred (nodeKindAt ns i) (nodePartAt ns i)
+    (record { start = nodeStartAt ns i; count = nodeCountAt ns i })
 
 -- the shape of a sort, and of a node
 unfoldable pub sortShape : List ℕ → ResolvedSort → Shape
 sortShape ws Unit = over (flatHead unit) []
 sortShape ws (Primitive s) = over (flatHead (primitive s)) []
 sortShape ws (Container op subsort) = over (containerHead op) (subsort .0 ∷ [])
-sortShape ws (SortFunction domain range) = over (functionHead (domain .count)) (entriesOf ws (domain .start) (domain .count) ++ (range .0 ∷ []))
+sortShape ws (SortFunction domain range) =
+    over (functionHead (domain .count)) (entriesOf ws (domain .start) (domain .count) ++ (range .0 ∷ []))
 sortShape ws (Def n) = over (flatHead (def n)) []
 sortShape ws (TypeVar n) = over (flatHead (typevar n)) []
 
 unfoldable pub nodeShape : List ℕ → InferSort → Shape
 nodeShape ns (Generic op subsort) = over (containerHead op) (subsort .0 ∷ [])
-nodeShape ns (Function domain range) = over (functionHead (domain .count)) (nodeEntriesOf ns (domain .start) (domain .count) ++ (range .0 ∷ []))
+nodeShape ns (Function domain range) =
+    over (functionHead (domain .count)) (nodeEntriesOf ns (domain .start) (domain .count) ++ (range .0 ∷ []))
 nodeShape ns (Var v) = variable (v .0)
 
 -- The lists that places are of: sorts and nodes, each words and how many rows count.
@@ -100,7 +106,8 @@ isPlace n m p = cond (isSort p) (ltb p n) (ltb (p - maxSorts) m)
 unfoldable pub shapeAt : Lists → ℕ → Shape
 shapeAt L p =
     cond (isPlace (L .sort-count) (L .node-count) p)
-    (cond (isSort p) (sortShape (L .sorts) (rowAt (L .sorts) p)) (nodeShape (L .nodes) (nodeAt (L .nodes) (p - maxSorts))))
+    (cond (isSort p) (sortShape (L .sorts) (rowAt (L .sorts) p))
+    (nodeShape (L .nodes) (nodeAt (L .nodes) (p - maxSorts))))
     (over (strayHead p) [])
 
 -- Bindings: a place, or free. In memory one word a variable, 65,535 for a free one.

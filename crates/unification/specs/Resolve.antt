@@ -47,12 +47,14 @@ unfoldable mutual
 
   pub resolveTerms : Option Tree → Terms → Sorts → Outcome (List Tree)
   resolveTerms d no-part S = made [] S
-  resolveTerms d (part t ts) S = resolveTerm d t S then (λ u S. resolveTerms d ts S then (λ us S. made (u ∷ us) S))
+  resolveTerms d (part t ts) S =
+      resolveTerm d t S then (λ u S. resolveTerms d ts S then (λ us S. made (u ∷ us) S))
 
 -- the arguments of a function, left to right
 unfoldable pub resolveArguments : Option Tree → Terms → Sorts → Outcome Trees
 resolveArguments d no-part S = made end S
-resolveArguments d (part t ts) S = resolveTerm d t S then (λ u S. resolveArguments d ts S then (λ us S. made (arg u us) S))
+resolveArguments d (part t ts) S =
+    resolveTerm d t S then (λ u S. resolveArguments d ts S then (λ us S. made (arg u us) S))
 
 -- resolve at a place, and resolve_or_default
 abbrev pub resolve : (ℕ → Shape) → Binds → ℕ → Sorts → Outcome Tree
@@ -83,10 +85,20 @@ abbrev pub valueIn : List ℕ → List ℕ → List ℕ → Lengths → ℕ → 
 valueIn ws ns bs k p = value (graphOf ws ns k) (bindsOf bs (k .variables)) p
 
 unfoldable pub termResolved : List ℕ → Lengths → Default → Term → Stored
-termResolved ws k x t = stored ws (k .sorts) (k .entries) (resolveTerm (defaultIn ws k x) t (sortsOf ws (k .sorts) (k .entries)))
+termResolved ws k x t =
+    stored ws (k .sorts) (k .entries) (resolveTerm (defaultIn ws k x) t (sortsOf ws (k .sorts) (k .entries)))
 
 unfoldable pub argumentsResolved : List ℕ → Lengths → Default → Terms → ℕ → List ℕ → StoredDomain
-argumentsResolved ws k x ts i ids = domainOf ws (k .sorts) (k .entries) i ids (resolveArguments (defaultIn ws k x) ts (sortsOf ws (k .sorts) (k .entries)))
+argumentsResolved ws k x ts i ids =
+    domainOf ws (k .sorts) (k .entries) i ids
+    (resolveArguments (defaultIn ws k x) ts (sortsOf ws (k .sorts) (k .entries)))
 
 abbrev pub withCounts : Lengths → Counts → Lengths
-withCounts k c = record { sorts = c .sorts; entries = c .entries; nodes = k .nodes; arguments = k .arguments; variables = k .variables }
+withCounts k c =
+    record {
+      sorts = c .sorts;
+      entries = c .entries;
+      nodes = k .nodes;
+      arguments = k .arguments;
+      variables = k .variables;
+    }

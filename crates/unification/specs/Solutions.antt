@@ -53,5 +53,9 @@ module _ (shape : ℕ → Shape) where
   -- whatever the variables still free stand for, there is a solution.
   pub data Robinson (B : Binds) (l r : ℕ) : Unifies → Type 0 where
     says-no : ((σ : ℕ → Term) → Respects B σ → Equates σ l r → ⊥) → Robinson B l r no-way
-    says-yes : (C : Binds) → ((σ : ℕ → Term) → Respects C σ → Respects B σ × Equates σ l r) → ((σ : ℕ → Term) → Respects B σ → Equates σ l r → Respects C σ)
-        → Acyclic shape C → ((free : ℕ → Term) → (σ : ℕ → Term) × (Respects C σ × ((v : ℕ) → binding C v ≡ none → σ v ≡ free v))) → Robinson B l r (yes-with C)
+    says-yes : (C : Binds) → ((σ : ℕ → Term) → Respects C σ → Respects B σ × Equates σ l r)
+        → ((σ : ℕ → Term) → Respects B σ → Equates σ l r → Respects C σ)
+        → Acyclic shape C
+        → ((free : ℕ → Term)
+        → (σ : ℕ → Term) × (Respects C σ × ((v : ℕ) → binding C v ≡ none → σ v ≡ free v)))
+        → Robinson B l r (yes-with C)

@@ -38,7 +38,8 @@ leftBy bs v too-deep = left bs No
 
 unfoldable pub unifyEntry : List ℕ → ℕ → ℕ → List ℕ → ℕ → ℕ → List ℕ → ℕ → ℕ → ℕ → Left
 unifyEntry ws n e ns m d bs v l r =
-    orElse (firstFailing (unifyChecks ws n e ns m d bs v l r)) (λ c. left bs (Refused c)) (leftBy bs v (unify (shapeAt (listsOf ws n ns m)) (bindsOf bs v) l r))
+    orElse (firstFailing (unifyChecks ws n e ns m d bs v l r)) (λ c. left bs (Refused c))
+    (leftBy bs v (unify (shapeAt (listsOf ws n ns m)) (bindsOf bs v) l r))
 
 -- Document 01's number of each answer, and the packed one for callers in other languages: bits 8 to 15 are 1 for a yes.
 unfoldable pub codeUnified : Unified → ℕ

@@ -28,7 +28,10 @@ ghost use Rattle.unifier.specs.Trying.{Trying, Free, Solid, Stands};
 // Binds a variable, and puts it on the trail.
 fn put_binding(binds: &mut [u16], trail: &mut [u16], count: u16, var: SortVar, value: InferSortId)
     requires { ⌜ (var .0 < length (now binds)) × (count < length (now trail)) ⌝ }
-    ensures { λ _. ⌜ (now (binds .exit) ≡ set (now (binds .entry)) (var .0) (value .0)) × (now (trail .exit) ≡ set (now (trail .entry)) count (var .0)) ⌝ }
+    ensures { λ _. ⌜
+        (now (binds .exit) ≡ set (now (binds .entry)) (var .0) (value .0))
+        × (now (trail .exit) ≡ set (now (trail .entry)) count (var .0))
+        ⌝ }
 {
     binds[var.0 as usize] = value.0;
     trail[count as usize] = var.0;
@@ -37,7 +40,9 @@ fn put_binding(binds: &mut [u16], trail: &mut [u16], count: u16, var: SortVar, v
 // Frees the last variables on the trail, down to `base`.
 pub fn undo(binds: &mut [u16], trail: &[u16], base: u16, count: u16)
     requires { ⌜ (base ≤ count) × (count ≤ length (now trail)) ⌝ }
-    ensures { λ _. ⌜ now (binds .exit) ≡ undoOf (now (trail .entry)) base (count - base) (now (binds .entry)) ⌝ }
+    ensures { λ _. ⌜
+        now (binds .exit) ≡ undoOf (now (trail .entry)) base (count - base) (now (binds .entry))
+        ⌝ }
 {
     let mut n = count;
     while base < n {
@@ -58,8 +63,19 @@ fn bind(
     var: SortVar,
     value: InferSortId,
 ) -> Tried
-    requires { ⌜ Trying (now sorts) (now nodes) (now binds) (now trail) lengths count × Free (now binds) lengths (var .0) × Placed lengths (value .0) ⌝ }
-    ensures { λ r. ⌜ Tries (now (sorts .entry)) (now (nodes .entry)) lengths (bindUnless (graphOf (now (sorts .entry)) (now (nodes .entry)) lengths) (occursIn (graphOf (now (sorts .entry)) (now (nodes .entry)) lengths) deep (bindsOf (now (binds .entry)) (lengths .variables)) (var .0) (value .0)) (bindsOf (now (binds .entry)) (lengths .variables)) (var .0) (value .0)) (now (binds .entry)) (now (trail .entry)) count (now (binds .exit)) (now (trail .exit)) r ⌝ }
+    requires { ⌜
+        Trying (now sorts) (now nodes) (now binds) (now trail) lengths count
+        × Free (now binds) lengths (var .0)
+        × Placed lengths (value .0)
+        ⌝ }
+    ensures { λ r. ⌜
+        Tries (now (sorts .entry)) (now (nodes .entry)) lengths
+        (bindUnless (graphOf (now (sorts .entry)) (now (nodes .entry)) lengths)
+        (occursIn (graphOf (now (sorts .entry)) (now (nodes .entry)) lengths) deep
+        (bindsOf (now (binds .entry)) (lengths .variables)) (var .0) (value .0))
+        (bindsOf (now (binds .entry)) (lengths .variables)) (var .0) (value .0))
+        (now (binds .entry)) (now (trail .entry)) count (now (binds .exit)) (now (trail .exit)) r
+        ⌝ }
 {
     if occurs(sorts, nodes, binds, lengths, var, value) {
         return Tried::No(count);
@@ -80,8 +96,19 @@ fn bind_variables(
     rhs: SortVar,
     value: InferSortId,
 ) -> Tried
-    requires { ⌜ Trying (now sorts) (now nodes) (now binds) (now trail) lengths count × Free (now binds) lengths (lhs .0) × Free (now binds) lengths (rhs .0) × Placed lengths (value .0) × Stands (now sorts) (now nodes) lengths (value .0) (rhs .0) ⌝ }
-    ensures { λ r. ⌜ Tries (now (sorts .entry)) (now (nodes .entry)) lengths (unifyVariables (graphOf (now (sorts .entry)) (now (nodes .entry)) lengths) (eqb (lhs .0) (rhs .0)) (bindsOf (now (binds .entry)) (lengths .variables)) (lhs .0) (value .0)) (now (binds .entry)) (now (trail .entry)) count (now (binds .exit)) (now (trail .exit)) r ⌝ }
+    requires { ⌜
+        Trying (now sorts) (now nodes) (now binds) (now trail) lengths count
+        × Free (now binds) lengths (lhs .0)
+        × Free (now binds) lengths (rhs .0)
+        × Placed lengths (value .0)
+        × Stands (now sorts) (now nodes) lengths (value .0) (rhs .0)
+        ⌝ }
+    ensures { λ r. ⌜
+        Tries (now (sorts .entry)) (now (nodes .entry)) lengths
+        (unifyVariables (graphOf (now (sorts .entry)) (now (nodes .entry)) lengths) (eqb (lhs .0) (rhs .0))
+        (bindsOf (now (binds .entry)) (lengths .variables)) (lhs .0) (value .0))
+        (now (binds .entry)) (now (trail .entry)) count (now (binds .exit)) (now (trail .exit)) r
+        ⌝ }
 {
     if lhs.0 == rhs.0 {
         return Tried::Yes(count);
@@ -112,8 +139,17 @@ pub fn unify(
     lhs: InferSortId,
     rhs: InferSortId,
 ) -> Tried
-    requires { ⌜ Trying (now sorts) (now nodes) (now binds) (now trail) lengths count × Placed lengths (lhs .0) × Placed lengths (rhs .0) ⌝ }
-    ensures { λ r. ⌜ Tries (now (sorts .entry)) (now (nodes .entry)) lengths (unifyOf (graphOf (now (sorts .entry)) (now (nodes .entry)) lengths) (bindsOf (now (binds .entry)) (lengths .variables)) (lhs .0) (rhs .0)) (now (binds .entry)) (now (trail .entry)) count (now (binds .exit)) (now (trail .exit)) r ⌝ }
+    requires { ⌜
+        Trying (now sorts) (now nodes) (now binds) (now trail) lengths count
+        × Placed lengths (lhs .0)
+        × Placed lengths (rhs .0)
+        ⌝ }
+    ensures { λ r. ⌜
+        Tries (now (sorts .entry)) (now (nodes .entry)) lengths
+        (unifyOf (graphOf (now (sorts .entry)) (now (nodes .entry)) lengths)
+        (bindsOf (now (binds .entry)) (lengths .variables)) (lhs .0) (rhs .0))
+        (now (binds .entry)) (now (trail .entry)) count (now (binds .exit)) (now (trail .exit)) r
+        ⌝ }
 {
     let l = shallow_normalize(sorts, nodes, binds, lengths, lhs);
     let r = shallow_normalize(sorts, nodes, binds, lengths, rhs);
@@ -154,8 +190,19 @@ fn unify_parts(
     l: InferSortId,
     r: InferSortId,
 ) -> Tried
-    requires { ⌜ Trying (now sorts) (now nodes) (now binds) (now trail) lengths count × Solid (now sorts) (now nodes) lengths (l .0) × Solid (now sorts) (now nodes) lengths (r .0) ⌝ }
-    ensures { λ t. ⌜ Tries (now (sorts .entry)) (now (nodes .entry)) lengths (unifyApart (graphOf (now (sorts .entry)) (now (nodes .entry)) lengths) (isSort (l .0) && isSort (r .0)) deep (unifyOf (graphOf (now (sorts .entry)) (now (nodes .entry)) lengths)) (bindsOf (now (binds .entry)) (lengths .variables)) (l .0) (r .0)) (now (binds .entry)) (now (trail .entry)) count (now (binds .exit)) (now (trail .exit)) t ⌝ }
+    requires { ⌜
+        Trying (now sorts) (now nodes) (now binds) (now trail) lengths count
+        × Solid (now sorts) (now nodes) lengths (l .0)
+        × Solid (now sorts) (now nodes) lengths (r .0)
+        ⌝ }
+    ensures { λ t. ⌜
+        Tries (now (sorts .entry)) (now (nodes .entry)) lengths
+        (unifyApart (graphOf (now (sorts .entry)) (now (nodes .entry)) lengths)
+        (isSort (l .0) && isSort (r .0)) deep
+        (unifyOf (graphOf (now (sorts .entry)) (now (nodes .entry)) lengths))
+        (bindsOf (now (binds .entry)) (lengths .variables)) (l .0) (r .0))
+        (now (binds .entry)) (now (trail .entry)) count (now (binds .exit)) (now (trail .exit)) t
+        ⌝ }
 {
     if both_sorts(l, r) {
         return Tried::No(count);

@@ -36,7 +36,11 @@ fn test_places(
     lhs: InferSortId,
     rhs: InferSortId,
 ) -> Tested
-    ensures { λ r. ⌜ r ≡ testedOf (firstFailing (placeChecks (now (sorts .entry)) «sort_count» (now (nodes .entry)) «node_count» (lhs .0) (rhs .0))) ⌝ }
+    ensures { λ r. ⌜
+        r
+        ≡ testedOf (firstFailing
+        (placeChecks (now (sorts .entry)) «sort_count» (now (nodes .entry)) «node_count» (lhs .0) (rhs .0)))
+        ⌝ }
 {
     if !is_place(sort_count, node_count, lhs.0) {
         return Tested::Refused(12);
@@ -66,7 +70,12 @@ fn test_rest(
     rhs: InferSortId,
 ) -> Tested
     requires { ⌜ («node_count» ≤ maxNodes) × («var_count» ≤ maxVars) ⌝ }
-    ensures { λ r. ⌜ r ≡ testedOf (firstFailing (nodeChecks (now (nodes .entry)) «node_count» «node_entry_count» «sort_count» (now (binds .entry)) «var_count» ++ placeChecks (now (sorts .entry)) «sort_count» (now (nodes .entry)) «node_count» (lhs .0) (rhs .0))) ⌝ }
+    ensures { λ r. ⌜
+        r
+        ≡ testedOf (firstFailing (nodeChecks (now (nodes .entry)) «node_count» «node_entry_count» «sort_count»
+        (now (binds .entry)) «var_count»
+        ++ placeChecks (now (sorts .entry)) «sort_count» (now (nodes .entry)) «node_count» (lhs .0) (rhs .0)))
+        ⌝ }
 {
     match test_nodes(
         sort_count,
@@ -94,7 +103,12 @@ fn test_unify(
     lhs: InferSortId,
     rhs: InferSortId,
 ) -> Tested
-    ensures { λ r. ⌜ r ≡ testedOf (firstFailing (unifyChecks (now (sorts .entry)) «sort_count» «entry_count» (now (nodes .entry)) «node_count» «node_entry_count» (now (binds .entry)) «var_count» (lhs .0) (rhs .0))) ⌝ }
+    ensures { λ r. ⌜
+        r
+        ≡ testedOf (firstFailing (unifyChecks (now (sorts .entry)) «sort_count» «entry_count»
+        (now (nodes .entry)) «node_count» «node_entry_count» (now (binds .entry)) «var_count» (lhs .0)
+        (rhs .0)))
+        ⌝ }
 {
     if !within_lent(sorts, sort_count, entry_count) {
         return Tested::Refused(1);
@@ -130,8 +144,15 @@ fn unify_alone(
     lhs: InferSortId,
     rhs: InferSortId,
 ) -> Unified
-    requires { ⌜ Ready (now sorts) (now nodes) (now binds) lengths × Placed lengths (lhs .0) × Placed lengths (rhs .0) ⌝ }
-    ensures { λ r. ⌜ left (now (binds .exit)) r ≡ leftBy (now (binds .entry)) (lengths .variables) (unifyOf (graphOf (now (sorts .entry)) (now (nodes .entry)) lengths) (bindsOf (now (binds .entry)) (lengths .variables)) (lhs .0) (rhs .0)) ⌝ }
+    requires { ⌜
+        Ready (now sorts) (now nodes) (now binds) lengths × Placed lengths (lhs .0) × Placed lengths (rhs .0)
+        ⌝ }
+    ensures { λ r. ⌜
+        left (now (binds .exit)) r
+        ≡ leftBy (now (binds .entry)) (lengths .variables)
+        (unifyOf (graphOf (now (sorts .entry)) (now (nodes .entry)) lengths)
+        (bindsOf (now (binds .entry)) (lengths .variables)) (lhs .0) (rhs .0))
+        ⌝ }
 {
     let mut trail = [0; MAX_VARS];
     match unifier::unify(sorts, nodes, binds, &mut trail, lengths, 0, lhs, rhs) {
@@ -158,7 +179,11 @@ pub fn unify(
     lhs: InferSortId,
     rhs: InferSortId,
 ) -> Unified
-    ensures { λ r. ⌜ left (now (binds .exit)) r ≡ unifyEntry (now (sorts .entry)) «sort_count» «entry_count» (now (nodes .entry)) «node_count» «node_entry_count» (now (binds .entry)) «var_count» (lhs .0) (rhs .0) ⌝ }
+    ensures { λ r. ⌜
+        left (now (binds .exit)) r
+        ≡ unifyEntry (now (sorts .entry)) «sort_count» «entry_count» (now (nodes .entry)) «node_count»
+        «node_entry_count» (now (binds .entry)) «var_count» (lhs .0) (rhs .0)
+        ⌝ }
 {
     match test_unify(
         sorts,
@@ -211,7 +236,11 @@ pub extern "C" fn sort_unify(
     lhs: u16,
     rhs: u16,
 ) -> u64
-    ensures { λ r. ⌜ packed (now (binds .exit)) r ≡ packLeft (unifyEntry (now (sorts .entry)) «sort_count» «entry_count» (now (nodes .entry)) «node_count» «node_entry_count» (now (binds .entry)) «var_count» lhs rhs) ⌝ }
+    ensures { λ r. ⌜
+        packed (now (binds .exit)) r
+        ≡ packLeft (unifyEntry (now (sorts .entry)) «sort_count» «entry_count» (now (nodes .entry))
+        «node_count» «node_entry_count» (now (binds .entry)) «var_count» lhs rhs)
+        ⌝ }
 {
     pack_unified(unify(
         sorts,
