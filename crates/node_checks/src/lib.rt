@@ -3,6 +3,7 @@
 // are variables settle all that can be, and where all are settled before, no further round is made.
 use infer_nodes::node;
 use resolved_sort::MAX_ARGUMENTS;
+use resolved_sort::MAX_SORTS;
 use resolved_sort::Run;
 use resolved_sort::Tested;
 use unification::FIRST_NODE;
@@ -61,10 +62,10 @@ pub fn is_place(n: usize, m: usize, p: u16) -> bool
     ensures { λ r. ⌜ r ≡ isPlace n m p ⌝ }
 {
     let word = p as usize;
-    if word < FIRST_NODE {
+    if word < MAX_SORTS {
         return word < n;
     }
-    word - FIRST_NODE < m
+    word - MAX_SORTS < m
 }
 
 // Whether each of the count arguments from start on is a place among n sorts and i nodes.
