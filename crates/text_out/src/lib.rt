@@ -20,7 +20,7 @@ pub fn put_bytes(bytes: &[u8], out: &mut [u8], at: usize) -> usize
 }
 
 // One byte. Past the end of the buffer it is lost, and the place stays.
-fn put_byte(byte: u8, out: &mut [u8], at: usize) -> usize
+pub fn put_byte(byte: u8, out: &mut [u8], at: usize) -> usize
     ensures { λ r. ⌜ PutWithin (now (out .entry)) at (byte ∷ []) (now (out .exit)) r ⌝ }
 {
     if at < out.len() {
