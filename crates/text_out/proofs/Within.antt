@@ -13,7 +13,7 @@ use borrow.Author.Tests.{lt-ltb, le-ltb}
 use Rattle.text_out.specs.Within.{Buffer, buffer, puts, PutWithin}
 use Rattle.text_out.specs.Decimal.{digit}
 
-puts-append : (out : List ℕ) (at : ℕ) (xs ys : List ℕ) → puts out at (xs ++ ys) ≡ puts (puts out at xs .bytes) (puts out at xs .at) ys
+pub puts-append : (out : List ℕ) (at : ℕ) (xs ys : List ℕ) → puts out at (xs ++ ys) ≡ puts (puts out at xs .bytes) (puts out at xs .at) ys
 unfolding puts
 puts-append out at [] ys = refl
 puts-append out at (x ∷ xs) ys = puts-append (set out at x) (cond (ltb at (length out)) (at + 1) at) xs ys
