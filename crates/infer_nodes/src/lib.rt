@@ -120,6 +120,7 @@ fn bound_to(sorts: &[u16], nodes: &[u16], binds: &[u16], lengths: Lengths, id: I
 }
 
 // Follows variable bindings until the head of `id` is either no variable or an unbound one.
+// Only the head is followed: the parts may in turn be bound variables.
 pub fn shallow_normalize(
     sorts: &[u16],
     nodes: &[u16],
@@ -144,6 +145,7 @@ pub fn shallow_normalize(
 }
 
 // Whether `var` occurs in the sort denoted by `id`. An interned sort holds no variable.
+// Variables are compared at their ends, so one that is bound to `var` counts as `var`.
 pub fn occurs(
     sorts: &[u16],
     nodes: &[u16],

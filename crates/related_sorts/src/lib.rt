@@ -113,6 +113,8 @@ fn related_container(op: ComplexSort, up: bool) -> OpBound
 }
 
 // One more node, where there is room.
+// Merc's arena only grows, and what a branch that is rolled back has made stays as harmless garbage. Here room has an
+// end, and the search gives these nodes back when the tries are over.
 fn push(
     sorts: &[u16],
     nodes: &mut [u16],
@@ -354,6 +356,7 @@ fn push_generic(
 
 // The strict supersorts of `id` in ascending distance (`Pos` yields `[Nat, Int, Real]`), or no list for an unbound variable, whose
 // supersorts cannot be enumerated. Only the head constructor is widened: `Nat` has supersorts, `List(Nat)` has none.
+// Nearest first, since the search takes the first that succeeds, and that is to be the least upcast.
 pub fn strict_super_sorts(
     sorts: &mut [u16],
     nodes: &mut [u16],
@@ -467,6 +470,8 @@ fn related_sort(
 }
 
 // A function value coerces to a wider range at the same domain by eta-expansion.
+// So only the range is varied, never an argument. The range of an interned function always has a list; that of a node
+// has none where it is free.
 fn related_function(
     sorts: &mut [u16],
     nodes: &mut [u16],

@@ -143,6 +143,8 @@ unfoldable mutual
 
 -- "equal, number to a wider number, FSet to Set or FBag to Bag over the same part, function with equal arguments and
 -- materializable range"
+-- Equal to or below is not enough: the language has no conversion of a container element by element, nor of a function
+-- by its arguments.
 unfoldable pub materializable : Tree → Tree → Bool
 materializable (flat a) (flat b) = leFlat true a b
 materializable (flat a) (container p t) = false

@@ -2,6 +2,7 @@
 
 // The number of a sort in the sort list. A type of its own, as the Rust's ResolvedSortId: sort, node, variable and
 // expression numbers do not mix.
+// Sorts are interned: two numbers are equal exactly if their sorts are, so to compare sorts is to compare two numbers.
 #[repr(C)]
 pub struct SortId(pub u16);
 
@@ -30,6 +31,10 @@ pub struct Run {
 }
 
 // What a row of the sort list says. The domain of a function is a run where the Rust has a Vec.
+// Parts are numbers, so a row is small. Unit has a single element and is the result of an action in merc; it has no
+// surface syntax, so it is none of the primitive sorts. Def is nominal, by its declaration: two are equal only where
+// that is the same, and else unrelated. TypeVar is bound by the polymorphic specification that introduces it; one
+// number is one variable.
 pub enum ResolvedSort {
     Unit,
     Primitive(Sort),

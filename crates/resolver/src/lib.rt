@@ -47,6 +47,8 @@ pub fn resolve(
 }
 
 // Like `resolve` but substitutes any remaining free variable with `default`.
+// With it the solver accepts lists whose auxiliary sorts are never constrained, such as the element sort of the empty
+// list in `n = #[]`.
 pub fn resolve_or_default(
     sorts: &mut [u16],
     nodes: &[u16],

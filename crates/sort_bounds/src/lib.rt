@@ -115,6 +115,7 @@ fn op_level(op: ComplexSort) -> u16
 }
 
 // The container constructor of a join (up), the Rust's join_op, or of a meet, its meet_op.
+// None where neither is a widening of the other: a set and a bag, a List and any other.
 fn bound_op(up: bool, lhs: ComplexSort, rhs: ComplexSort) -> OpBound
     ensures { λ r. ⌜ r ≡ opBound (boundOfOps up lhs rhs) ⌝ }
 {
@@ -128,6 +129,8 @@ fn bound_op(up: bool, lhs: ComplexSort, rhs: ComplexSort) -> OpBound
 }
 
 // The least common supersort of two sorts.
+// Commutative, associative and idempotent; sorts without a join are no error, only none. Sources need not convert into
+// their join (see is_materializable): who binds something to it asks that of every source first.
 pub fn join(sorts: &mut [u16], counts: Counts, lhs: SortId, rhs: SortId) -> Joined
     requires { ⌜ Asked (now sorts) (counts .sorts) (counts .entries) (lhs .0) (rhs .0) ⌝ }
     ensures { λ r. ⌜
@@ -139,6 +142,7 @@ pub fn join(sorts: &mut [u16], counts: Counts, lhs: SortId, rhs: SortId) -> Join
 }
 
 // The greatest common subsort of two sorts, the dual of join.
+// Join itself needs it: the domain of a join is the meet of the two domains.
 pub fn meet(sorts: &mut [u16], counts: Counts, lhs: SortId, rhs: SortId) -> Joined
     requires { ⌜ Asked (now sorts) (counts .sorts) (counts .entries) (lhs .0) (rhs .0) ⌝ }
     ensures { λ r. ⌜

@@ -140,6 +140,7 @@ fn new_row(sorts: &[u16], j: u16) -> bool
 }
 
 // Check 4 on rows: no two of the first n are the same. No pair is left out.
+// A sort with two numbers would break what all above rests on: that sorts are equal exactly where their numbers are.
 pub fn no_two_equal_rows(sorts: &[u16], n: usize) -> bool
     requires { ⌜ n ≤ maxSorts ⌝ }
     ensures { λ r. ⌜ r ≡ noSameRows (now (sorts .entry)) n ⌝ }

@@ -68,6 +68,7 @@ fn row_of(kind: u16, part: u16, run: Run) -> ResolvedSort
 }
 
 // The sort of a number, as its row says it. A number without a row reads as Unit and is never out of range.
+// A number of another list would find an unrelated row here: that it is one of this list is for the checks to show.
 pub fn get(sorts: &[u16], id: SortId) -> ResolvedSort
     ensures { λ r. ⌜ r ≡ rowAt (now (sorts .entry)) (id .0) ⌝ }
 {
@@ -275,6 +276,8 @@ fn append_row(sorts: &mut [u16], n: u16, e: u16, kind: u16, part: u16, ids: [u16
 
 // The row's number: the first row that is the same, else one more row where there is room. Nothing changes where the row
 // is found or there is no room.
+// Each distinct sort is stored once, so that equality of sorts is that of their numbers. The six that merc interns
+// first stand at the front of every list (check 2).
 pub fn intern(
     sorts: &mut [u16],
     counts: Counts,

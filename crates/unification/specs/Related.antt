@@ -44,6 +44,8 @@ abbrev pub overPart : Option ComplexSort → Tree → List Tree
 overPart none s = []
 overPart (some o) s = container o s ∷ []
 
+-- Only the head is varied, and of a function that of its range: the language converts nothing else. Nat has wider
+-- sorts, List(Nat) has none.
 unfoldable pub related : Bool → Tree → List Tree
 related up (flat a) = relatedFlat up a
 related up (container o s) = overPart (relatedContainer up o) s

@@ -4,6 +4,7 @@ use resolved_sort::Run;
 use resolved_sort::SortId;
 
 // A place, the Rust's InferSortId: an interned sort (below 1,024) or a node. The port has no Resolved node.
+// Nodes, unlike sorts, are not interned: two may denote the same sort, and whether they do is for unify to decide.
 #[repr(C)]
 pub struct InferSortId(pub u16);
 
@@ -14,6 +15,8 @@ pub struct NodeId(pub u16);
 pub struct SortVar(pub u16);
 
 // What a node says. Its parts are places, and the domain of a function is a run of places where the Rust has a Vec.
+// A sort that may still hold variables. What is fully known is a sort number, a leaf; structure is spelled out only
+// around the variables that inference has to solve, such as `List(?t)` for an empty list.
 pub enum InferSort {
     Generic {
         op: ComplexSort,

@@ -38,6 +38,8 @@ fn put_binding(binds: &mut [u16], trail: &mut [u16], count: u16, var: SortVar, v
 }
 
 // Frees the last variables on the trail, down to `base`.
+// Tries are undone innermost first. Merc forbids making a variable inside a snapshot, since the rollback would destroy
+// it; here a search makes none at all.
 pub fn undo(binds: &mut [u16], trail: &[u16], base: u16, count: u16)
     requires { ⌜ (base ≤ count) × (count ≤ length (now trail)) ⌝ }
     ensures { λ _. ⌜
@@ -85,6 +87,7 @@ fn bind(
 }
 
 // Two free variables: the left one is bound to the right end, unless they are one.
+// Both are free after following, so no two bindings can conflict, and there is no structure to compare.
 fn bind_variables(
     sorts: &[u16],
     nodes: &[u16],
