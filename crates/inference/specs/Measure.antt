@@ -24,5 +24,7 @@ isGreater equal = false
 isGreater greater = true
 
 -- "a prefix greater than the incumbent's is dropped": compared with as many components of the incumbent
+-- Exact, since earlier components decide: a greater prefix can become neither equal nor smaller, and an equal one may
+-- tie.
 unfoldable pub worse : Components → Components → Bool
 worse xs best = isGreater (compare xs (take (length xs) best))

@@ -56,6 +56,8 @@ resolveAll x B (p ∷ ps) W =
 
 -- "Join: if all sources resolve, their join exists and each is equal to or materializable into it": the join of the sources, and the head
 -- distances as components
+-- `join` also relates sorts that cannot be materialized (containers by their elements, functions by their arguments),
+-- so each source is asked for it.
 pub record Agreed : Type 0 where
   pub sort : ℕ
   pub components : Components
@@ -137,6 +139,7 @@ narrowerTries l i [] = []
 narrowerTries l i (p ∷ ps) = record { left = l; right = p; component = i } ∷ narrowerTries l (i + 1) ps
 
 -- The component of a literal at a sort, "generality 0 to 3"; none where the sort is no number, or Pos for "0", which is natural.
+-- Also at a free place the generality, so that a literal bound on one branch and free on another compares alike.
 unfoldable pub litComponent : LitKind → Sort → Option ℕ
 litComponent k Sort.Bool = none
 litComponent Positive Sort.Pos = some 0
@@ -227,6 +230,7 @@ module _ (Met : Type 0) (meet : Components → Met → Met) (P : Problem) where
   keeping w m c = record { lent = w .lent; best = some c; met = meet m (w .met) }
 
   -- "It stops at the first try that found."
+  -- Tries come cheapest first, so the first that found is the best that the constraint can contribute.
   unfoldable pub firstFound : List Try → Next → Next
   firstFound [] k e w = missed w
   firstFound (t ∷ ts) k e w =
@@ -235,6 +239,7 @@ module _ (Met : Type 0) (meet : Components → Met → Met) (P : Problem) where
 
   -- "unify (component 0), and only if that found nothing, the wider sorts of the left side (1, 2, 3), or, if the left side has no list, the narrower
   -- ones of the right. An empty list is a list."
+  -- Nearest first, so that the least upcast wins: equally good, they would make Pos ambiguous between Nat and Int.
   abbrev pub narrower : ℕ → ℕ → Next → Next
   narrower l r k e w =
       onMade (strictRelated false (e .binds) r (w .lent))
@@ -271,6 +276,7 @@ module _ (Met : Type 0) (meet : Components → Met → Met) (P : Problem) where
   literal kind p k e w = literalEnd kind p (follow (graph (w .lent)) deep (e .binds) p) k e w
 
   -- Every reading: its container is interned before the body is looked at.
+  -- All are tried, so that a body which can be Bool as well as a number shows as ambiguous.
   unfoldable pub everyReading : List Reading → ℕ → ℕ → ℕ → Bool → Next → Next
   everyReading [] body node element b k e w = says b w
   everyReading (r ∷ rs) body node element b k e w =
@@ -280,6 +286,7 @@ module _ (Met : Type 0) (meet : Components → Met → Met) (P : Problem) where
       missed w
 
   -- "Disjunctions try every overload, none allowed." i is the position of the first of them.
+  -- After one that found the others are tried too: leaves of one measure through different overloads are an ambiguity.
   unfoldable pub everyOverload : ℕ → ℕ → List Overload → ℕ → Bool → Next → Next
   everyOverload x p [] i b k e w = says b w
   everyOverload x p (o ∷ os) i b k e w =
@@ -292,6 +299,8 @@ module _ (Met : Type 0) (meet : Components → Met → Met) (P : Problem) where
   sequence (s ∷ ss) t k = widening s t (sequence ss t k)
 
   -- "bind the target to it with the head distances as components; if that found nothing, one source after another"
+  -- The agreed sort first, since it does not depend on the order of the sources; but a later constraint may want the
+  -- target wider than it.
   unfoldable pub joining : List ℕ → ℕ → Next → Next
   joining ss t k e w =
       onMade (joinOf (e .binds) ss (w .lent))
@@ -333,6 +342,7 @@ module _ (Met : Type 0) (meet : Components → Met → Met) (P : Problem) where
 
   -- "On coming to a constraint or to the leaf, and not between a Join's sources, a prefix greater than the incumbent's is dropped and counts as not
   -- found."
+  -- It is exact: earlier components decide, so a greater prefix can become neither equal nor smaller.
   abbrev pub dominatedBy : Components → Option Candidate → Bool
   dominatedBy m none = false
   dominatedBy m (some c) = worse m (c .measure)

@@ -8,6 +8,8 @@ use unification::InferSortId;
 pub struct ExprId(pub u16);
 
 // What a name resolved to: a variable in scope, an operation with its sort, or a built-in.
+// A variable is one of the equation's, a parameter or global of the process, or a binder. An operation is a declared
+// constructor or mapping. A built-in is polymorphic: its sort follows from the inferred sorts of its arguments.
 pub enum NameTarget {
     Variable,
     Op(SortId),
@@ -27,6 +29,18 @@ pub struct Overload {
 }
 
 // One constraint, solved in the order of the list. Disjuncts and sources are runs where the Rust has a Vec.
+// The kinds are interleaved, and that keeps the search tractable: merc lists the arguments of an application before its
+// callee, so when the callee's overloads are tried the argument sorts are bound, and most overloads fail to unify at
+// once.
+// Sub: the sort of `lhs` is a subsort of `rhs`, for the upcasts that mCRL2 inserts (a Nat argument where Int is
+// expected). Lit: a number sort that admits the literal. Disjunction: the overloads of a name that has several; a
+// solution commits to one.
+// Comprehension: `{ x: S | e }` is a Set(S) where the body e is Bool, and a Bag(S) where it is Nat or Pos, a
+// multiplicity.
+// Join: the target is the least common supersort of the sources. Merc makes one of all Subs that widen into one free
+// variable, since one at a time they depend on their order: the first source binds the variable by equality, so that a
+// set literal's FSet fixes it before a source is typed that admits only Set. The Join finds the common supersort in one
+// step.
 pub enum Constraint {
     Sub {
         lhs: InferSortId,

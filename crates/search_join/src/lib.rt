@@ -124,6 +124,7 @@ fn resolve_sources(
 }
 
 // The join of all sorts, from left to right.
+// Two sorts may have no join (unequal element sorts, say): then widening one source after another decides.
 fn join_all(sorts: &mut [u16], lengths: Lengths, ids: &[u16], count: u16) -> Made
     requires { ⌜ Resolved (now sorts) lengths (now ids) count × (0 < count) ⌝ }
     ensures { λ r. ⌜
@@ -155,6 +156,9 @@ fn join_all(sorts: &mut [u16], lengths: Lengths, ids: &[u16], count: u16) -> Mad
 }
 
 // Whether each of the sorts is equal to or materializable into their join.
+// The order, and join with it, also relates sorts that merc's lowering cannot materialize: containers by their
+// elements, functions by their arguments. A join that is reached only so is left to the widenings, which offer only
+// what converts.
 fn all_materializable(sorts: &[u16], lengths: Lengths, ids: &[u16], count: u16, lub: SortId) -> bool
     requires { ⌜ Resolved (now sorts) lengths (now ids) count × (lub .0 < lengths .sorts) ⌝ }
     ensures { λ r. ⌜
@@ -193,6 +197,8 @@ fn head_distance(sorts: &[u16], counts: Counts, from: SortId, to: SortId) -> u16
 }
 
 // The head distances of the sorts to their join, as components after the measure.
+// One component for each source, as in solve_widening, so that the ranking is that of the Subs which the Join replaces.
+// Functions are the exception: their head distance is 0, where a widening counts the steps of the range.
 fn put_heads(
     sorts: &[u16],
     scratch: &mut [u16],

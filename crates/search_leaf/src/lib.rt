@@ -63,6 +63,11 @@ fn rank(scratch: &[u16], st: State, at: Branch) -> Ordering
 }
 
 // Whether the measure so far is already greater than the incumbent's, so that no leaf below can replace or tie it.
+// Branch and bound. A disjunction or comprehension adds no component and tries every alternative, so without this each
+// one would be followed to its leaf although a better leaf is known: exponential in the number of disjunctions.
+// Pruning is exact: earlier components dominate, so a prefix that is greater can never become equal or smaller, and one
+// that is equal goes on, since a leaf below may tie (worse-exactly-if-extensions-greater in inference). As merc says,
+// it changes nothing about which typing wins or which lists are ambiguous.
 pub fn dominated(scratch: &[u16], sizes: Sizes, st: State, at: Branch) -> bool
     requires { ⌜ Comparable (now scratch) sizes at ⌝ }
     ensures { λ r. ⌜ IsDominated (now (scratch .entry)) sizes st at r ⌝ }
@@ -76,6 +81,8 @@ pub fn dominated(scratch: &[u16], sizes: Sizes, st: State, at: Branch) -> bool
 
 // Reads the sort of every expression out of the bindings, before backtracking takes these back. A variable that is still free
 // stands for the default sort.
+// Such a variable is the element sort of `#[]`, of which only the length is seen. Giving it the default accepts such
+// lists, where an error about an underdetermined sort would be spurious.
 fn extract(
     sorts: &mut [u16],
     nodes: &[u16],
@@ -151,6 +158,7 @@ fn keep(scratch: &mut [u16], sizes: Sizes)
 }
 
 // The leaf becomes the incumbent.
+// Its sorts are read out now and not at the end, because backtracking takes back the bindings that they are read from.
 fn replace(
     sorts: &mut [u16],
     nodes: &[u16],
@@ -190,6 +198,7 @@ fn replace(
 
 // Keeps a leaf that is less than the incumbent, and marks the incumbent where the leaf has its measure: an unbeaten tie is
 // ambiguous.
+// All leaves have the same number of components, one for each Sub, Lit and Join source, so their measures compare.
 pub fn leaf(
     sorts: &mut [u16],
     nodes: &[u16],

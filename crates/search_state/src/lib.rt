@@ -16,6 +16,8 @@ pub struct Sizes {
 
 // What goes on from branch to branch: how much of the lists is in use, whether there is an incumbent, and whether another leaf
 // had its measure. The Rust's `best`, whose measure, sorts and choices stand in the scratch.
+// They are read out at the leaf, because backtracking takes back the bindings that they are read from. An incumbent
+// that is tied and never beaten means that the list is ambiguous.
 pub struct State {
     pub lengths: Lengths,
     pub best: bool,
@@ -23,6 +25,7 @@ pub struct State {
 }
 
 // What a branch has taken on: how many variables are on the trail, and how many components and choices there are.
+// It goes by value: what a try adds is gone when the try is over, and no push needs a pop.
 pub struct Branch {
     pub trail: u16,
     pub measure: u16,

@@ -227,6 +227,7 @@ fn back_to(kept: Lengths, st: State) -> State
 }
 
 // After the tries of a widening: the nodes made for them are given back, unless room ended.
+// Merc leaves nodes of an abandoned branch in its arena as harmless garbage. Here room has an end, so it is used again.
 pub fn give_back(r: Answer, lengths: Lengths) -> Answer
     ensures { λ o. ⌜ o ≡ givenBackTo lengths r ⌝ }
 {
@@ -271,6 +272,7 @@ pub fn try_component(t: Tries, j: u16) -> u16
 }
 
 // The number sorts that a literal may have where its place is free, nearest first. Pos, Nat, Int and Real are the sorts 2 to 5.
+// The nearest is the most specific, so the first success is the best that the literal can contribute.
 pub fn lit_tries(kind: LitKind, id: InferSortId) -> Tries
     ensures { λ r. ⌜ LitTries kind id r ⌝ }
 {
@@ -339,6 +341,8 @@ fn lit_at_row(row: ResolvedSort, kind: LitKind) -> LitAt
 }
 
 // `0` is not positive, so a natural literal cannot be Pos, whose generality is 0.
+// Its component is the generality, as where the place is free: a literal bound on one branch and free on another still
+// compares consistently.
 fn lit_at_number(sort: Sort, kind: LitKind) -> LitAt
     ensures { λ r. ⌜ r ≡ numberOf (litComponent kind sort) ⌝ }
 {
@@ -407,6 +411,7 @@ fn as_tries(found: Related, other: InferSortId, up: bool) -> Widenings
 
 // The tries of a widening of `lhs` to `rhs` after that without one: each wider sort of `lhs` against `rhs`, nearest first; or, where `lhs` has no list,
 // `lhs` against each narrower sort of `rhs`. An empty list is a list.
+// So a concrete `lhs` is upcast, or a concrete `rhs` met from below; two free variables admit no enumeration.
 pub fn widenings_of(
     sorts: &mut [u16],
     nodes: &mut [u16],

@@ -1,6 +1,10 @@
 // The solver of merc's inference.rs, from `solve` on: ranked backtracking over the constraints, in the order of the list. A disjunction
 // or comprehension tries every alternative; a sub-constraint, literal or join tries its resolutions cheapest first and stops at the
 // first that succeeds. Where the Rust hands a closure to `solve_widening`, a value names what comes next.
+// Each sub-constraint and literal adds one component to the measure, a join one for each source, and 0 is the best.
+// Earlier components matter more (the arguments of an application come before the whole equation), so measures compare
+// from the front, and the least is the most specific typing. Disjunctions and comprehensions add none and are tried
+// exhaustively, so that a tie through different overloads is still seen as ambiguity.
 use inference::Constraint;
 use inference::ExprId;
 use inference::LitKind;
@@ -209,6 +213,9 @@ fn solve_constraint(
 
 // Binds the target of a Join to the least upper bound of its sources and goes on. Where that does not apply, or finds nothing, the
 // sources are widened one after another.
+// The bound comes first because it is found in one step, whatever the order of the sources. It is not always enough: a
+// later constraint on the target (an enclosing Bag or Set literal) may need it wider than the bound. The widenings can
+// also reach a supersort of it.
 fn solve_join(
     sorts: &mut [u16],
     nodes: &mut [u16],
@@ -292,6 +299,8 @@ fn solve_join(
 }
 
 // Widens each source from `from` on to the target in turn, as separate sub-constraints would be.
+// Equality comes first and then the widenings in ascending distance, so this is what the Subs would have done which the
+// Join replaces.
 fn solve_join_seq(
     sorts: &mut [u16],
     nodes: &mut [u16],
@@ -409,6 +418,9 @@ fn solve_disjunction(
 
 // Commits to one reading of a comprehension after another, from the number `reading` on: a Bool body makes a Set, a Nat or Pos body a
 // Bag. The container is interned before the body is looked at.
+// Like a disjunction it adds no component and tries every reading, so that a body which can be Bool as well as a number
+// surfaces as ambiguity. Which reading holds follows from the solved sort of the body; a Pos body is a count as a Nat
+// one is.
 fn solve_comprehension(
     sorts: &mut [u16],
     nodes: &mut [u16],
@@ -485,6 +497,11 @@ fn solve_comprehension(
 
 // Tries to make `lhs` a subsort of `rhs`: equality first, then strict widenings, nearest first. A concrete `lhs` may be upcast, or a
 // concrete `rhs` met from below; two unbound variables admit no list.
+// Nearest first, so that the least upcast wins: treated as equally good, they would make a Pos argument of `mod`
+// ambiguous between its Nat and Int overloads. The first success is the best that this pair can contribute, so later
+// ones are skipped.
+// A Sub and, one after another, the sources of a Join come here; `next` says what follows, where the Rust calls its
+// closure.
 fn solve_widening(
     sorts: &mut [u16],
     nodes: &mut [u16],
@@ -551,6 +568,9 @@ fn solve_widening(
 }
 
 // A literal: at a number sort its generality, at a free place one number sort after another, the most specific first.
+// The component is the generality in both cases, so that a literal whose place is bound on one branch and free on
+// another still compares consistently. The first success is the best that the literal can contribute, so the rest is
+// not tried.
 fn solve_lit(
     sorts: &mut [u16],
     nodes: &mut [u16],
@@ -660,6 +680,8 @@ fn tries(
 }
 
 // One try: places made equal, recorded, gone on from, and taken back.
+// The branch goes by value, so nothing that was recorded outlives the try. In merc a push without its pop on a dead end
+// would corrupt the measure of every later branch: a silently wrong best typing, and no crash.
 fn attempt(
     sorts: &mut [u16],
     nodes: &mut [u16],
