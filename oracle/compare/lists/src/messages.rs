@@ -1,5 +1,5 @@
 //! The words in which the list program speaks. They are the port's own (`crates/list_messages/specs`,
-//! `crates/verdict_text/specs/Words.antt`), copied; which of them is due is worked out here.
+//! `crates/list_verdict/specs/Words.antt`), copied; which of them is due is worked out here.
 
 pub const PRINTABLE: &str = "printable ASCII, no tab and no CR";
 pub const LENGTH: &str = "at most 200 bytes";
