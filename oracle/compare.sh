@@ -1,31 +1,16 @@
 #!/bin/bash
-# Compares the proved sorts layer with the excerpt of merc, in short: under a minute once the library is built.
-# The library is proved and built first where it is not there or older than its crates (about 3 minutes).
-. "$(dirname "$0")/comparison.sh"
-
-some() { target/release/oracle-compare --class "$1" --seed 7 --from "$2" --count "$3"; }
-
-prove sort_entries
-
-step "build"
-./setup.sh
-cargo build --release --offline --quiet -p compare
-
-step "wrong ports are found"
-cargo test --release --offline --quiet -p compare --lib
-
-step "the recorded sample is what the excerpt answers, and what the gate replays"
-target/release/oracle-sample --seed 1 | cmp - recorded/sorts.txt
-cmp recorded/sorts.txt ../crates/replay_sorts/stdin
-
-step "comparison"
-some pairs 850000 40000
-some mixed 0 10000
-some deep 0 1000
-some far 0 500
-some full-rows 0 50
-some full-entries 0 5000
-some damaged 0 20000
-some words 0 20000
-
-echo "compare: no difference"
+# Compares a part of the port with the excerpt of merc. Each comparison first shows that it can fail: wrong variants must
+# be found. The proved libraries that it asks are built first where they are not there or older than their crates.
+# usage: compare.sh PART [OPTION]...
+#   sorts   the entries of the sorts layer, under a minute: [--seed N]
+#   pairs   the pair program: [--pairs N] [--program PATH]
+#   unify   the entry of the unifier: [--stand-in] [--questions N] [--seed N]
+#   solve   both entries of the solver: [--stand-in] [--questions N] [--seed N]
+#   lists   the list program: [--lists N] [--seed N] [--program PATH]
+#   rust    the Rust crate over the solver: [--questions N] [--seed N]
+set -euo pipefail
+script=$(dirname "$0")/compare/${1:-}.sh
+case ${1:-} in
+    sorts | pairs | unify | solve | lists | rust) exec "$script" "${@:2}" ;;
+    *) sed -n '/^# usage/,/^[^#]/s/^# //p' "$0" >&2; exit 2 ;;
+esac

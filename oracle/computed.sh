@@ -6,15 +6,9 @@
 #   --sample   only prints the sample, crates/inference/proofs/Compared.antt
 #   --lists N  lists to a row of the table below (default 50: about 5 minutes)
 #   --seed N   seed of the random numbers (default 7)
-set -euo pipefail
-cd "$(dirname "$0")"
-bin=target/release
+. "$(dirname "$0")/compare/shared.sh"
 lists=50
-seed=7
 sample=
-
-fail() { echo "computed: $1" >&2; exit "${2:-1}"; }
-step() { echo "== $1"; }
 
 while [ $# -gt 0 ]; do
     case $1 in
@@ -43,7 +37,7 @@ table=(
 # The situations without a star and the readings that come to a search, but those of 1,024 sorts, of 2,047 nodes and one of 40
 # nested nodes; then random lists: class, size, number.
 sample_lists() {
-    awk 'BEGIN { RS = ""; ORS = "\n\n" } !/list star|pad sorts|pad nodes|list shared parts/' situations.txt readings.txt
+    awk 'BEGIN { RS = ""; ORS = "\n\n" } !/list star|pad sorts|pad nodes|list shared parts/' lists/situations.txt lists/readings.txt
     while read -r class size number; do
         "$bin/oracle-gen" --class "$class" --seed 1 --size "$size" --from "$number" --count 1
     done <<'PICKED'
@@ -69,13 +63,13 @@ sample | cmp - ../crates/inference/proofs/Compared.antt
 step "a copy of the crates"
 work=$(mktemp -d)
 trap 'rm -r "$work"' EXIT
-uses=$(sed -n 's/^inference: *//p' ../crates.txt)
-for name in $uses inference; do
+names=$(stands_on inference)
+for name in $names; do
     mkdir -p "$work/crates/$name"
     cp -r "../crates/$name/"{src,specs,proofs} "$work/crates/$name"
-    grep "^$name:" ../crates.txt >> "$work/crates.txt"
 done
-echo "batch: $uses inference" >> "$work/crates.txt"
+grep -E "^(${names//$'\n'/|}):" ../crates.txt > "$work/crates.txt"
+echo "batch: ${names//$'\n'/ }" >> "$work/crates.txt"
 mkdir -p "$work/crates/batch/"{src,proofs}
 echo "// Nothing but lists and answers." > "$work/crates/batch/src/lib.rt"
 echo "pub mod Batch" > "$work/crates/batch/proofs/Lib.antt"

@@ -7,6 +7,6 @@ file=$(realpath "$1")
 shift
 cd "$(dirname "$0")"
 
-./setup.sh >&2
+merc/setup.sh >&2
 cargo build --release --offline --quiet
 exec target/release/oracle "$@" < "$file"

@@ -23,7 +23,7 @@ must_fail() {
 }
 
 step "texts of merc"
-./verify.sh ${docs_src:+"$docs_src"}
+merc/verify.sh ${docs_src:+"$docs_src"}
 
 step "build"
 cargo build --release --offline --message-format=json > "$work/build.json"
@@ -33,19 +33,19 @@ cut_folder() {
 
 step "the plain build only deletes lines, the counting build adds the listed ones"
 for file in inference unification resolved_sort; do
-    diff "src-merc/$file.rs" "$(cut_folder plain)/$file.rs" > "$work/diff" || true
+    diff "merc/text/$file.rs" "$(cut_folder plain)/$file.rs" > "$work/diff" || true
     ! grep -q '^>' "$work/diff" || fail "the cut of $file.rs is not a deletion"
     diff "$(cut_folder plain)/$file.rs" "$(cut_folder counting)/$file.rs" > "$work/diff" || true
     ! grep -q '^<' "$work/diff" || fail "the counting build of $file.rs deletes a line"
     grep '^>' "$work/diff" | sed 's/^> *//; s, // counting$,,' >> "$work/inserted"
 done
 while read -r line; do
-    grep -qF "\`$line\`" README.md || fail "README.md does not list the inserted line: $line"
+    grep -qF "\`$line\`" merc/README.md || fail "merc/README.md does not list the inserted line: $line"
 done < "$work/inserted"
 echo "$(wc -l < "$work/inserted") inserted lines, all listed"
 
 step "situations"
-for file in situations.txt readings.txt; do
+for file in lists/situations.txt lists/readings.txt; do
     "$bin/oracle" --check < "$file" || fail "$file"
 done
 
@@ -70,7 +70,7 @@ padded() { printf 'list pad %s %s\npad %s %s\n? solve\n= %s\n' "$1" "$2" "$1" "$
 "$bin/oracle" --check < "$work/limits.txt" || fail "ceilings"
 
 step "a wrong record is found"
-sed 's/^= 0 sorts Pos Nat measure 1$/= 0 sorts Pos Nat measure 2/' situations.txt > "$work/wrong.txt"
+sed 's/^= 0 sorts Pos Nat measure 1$/= 0 sorts Pos Nat measure 2/' lists/situations.txt > "$work/wrong.txt"
 if "$bin/oracle" --check < "$work/wrong.txt" > "$work/out"; then fail "a wrong record passed"; fi
 grep -q 'checked 22 answers, 1 differ' "$work/out" || fail "a wrong record was not counted"
 
@@ -97,7 +97,7 @@ step "lists and answers as a module"
 grep -qx '  answers: 15: 5' "$work/counts" || fail "oracle-computed: $(cat "$work/counts")"
 
 step "bad input"
-grep -v '^#' bad-lines.txt | while IFS= read -r line; do
+grep -v '^#' lists/bad-lines.txt | while IFS= read -r line; do
     printf '%b\n' "${line% => *}" > "$work/bad.txt"
     for mode in "" --check --record; do
         "$bin/oracle" $mode < "$work/bad.txt" > /dev/null 2> "$work/err" && fail "accepted: ${line% => *}"
@@ -116,24 +116,24 @@ done
 for options in "--each 0" "--most x" "--code" "--class solve"; do
     must_fail 2 "$bin/oracle-computed" $options < /dev/null
 done
-echo "$(grep -cv '^#' bad-lines.txt) bad lines and the bad options were refused"
+echo "$(grep -cv '^#' lists/bad-lines.txt) bad lines and the bad options were refused"
 
 step "the pair program, its comparison with itself and with wrong ones"
 cargo test --release --offline --quiet -p pairs > "$work/out" || { cat "$work/out"; fail "tests of pairs"; }
-./compare_pairs.sh --pairs 5000 "$bin/oracle-pairs" > "$work/out" || { cat "$work/out"; fail "compare_pairs.sh"; }
+./compare.sh pairs --pairs 5000 --program "$bin/oracle-pairs" > "$work/out" || { cat "$work/out"; fail "compare.sh pairs"; }
 tail -n 1 "$work/out"
 
 step "the list program, its comparison with itself and with wrong ones"
-cargo test --release --offline --quiet -p solve_lists > "$work/out" || { cat "$work/out"; fail "tests of solve_lists"; }
-./compare_lists.sh --lists 3000 --program "$bin/oracle-lists" > "$work/out" || { cat "$work/out"; fail "compare_lists.sh"; }
+cargo test --release --offline --quiet -p list_program > "$work/out" || { cat "$work/out"; fail "tests of list_program"; }
+./compare.sh lists --lists 3000 --program "$bin/oracle-lists" > "$work/out" || { cat "$work/out"; fail "compare.sh lists"; }
 tail -n 1 "$work/out"
 
 step "unify: its judges, the stand-in and wrong ones"
-./compare_unify.sh --stand-in --questions 50000 > "$work/out" || { cat "$work/out"; fail "compare_unify.sh"; }
+./compare.sh unify --stand-in --questions 50000 > "$work/out" || { cat "$work/out"; fail "compare.sh unify"; }
 tail -n 1 "$work/out"
 
 step "solve: its judges, the stand-in and wrong ones"
-./compare_solve.sh --stand-in --questions 50000 > "$work/out" || { cat "$work/out"; fail "compare_solve.sh"; }
+./compare.sh solve --stand-in --questions 50000 > "$work/out" || { cat "$work/out"; fail "compare.sh solve"; }
 tail -n 1 "$work/out"
 
 echo "test: all passed"

@@ -12,6 +12,9 @@ use crate::sections::Growth;
 use crate::sections::Row;
 use crate::sections::Table;
 
+/// What no run of the bench measures: why, and times of the programs.
+const NOTES: &str = include_str!("../notes.md");
+
 pub fn report(
     asked: &Asked,
     others: f64,
@@ -32,7 +35,7 @@ pub fn report(
             rows,
         );
     }
-    text + &instructions(counts)
+    text + &instructions(counts) + NOTES
 }
 
 fn head(asked: &Asked, others: f64, tables: &[Table]) -> String {

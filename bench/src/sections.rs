@@ -3,8 +3,8 @@
 use common::clock::Clock;
 use common::junk::Junk;
 use common::times::Times;
-use oracle::generate;
-use oracle::rng::Rng;
+use lists::generate;
+use lists::rng::Rng;
 use solve::call::Call;
 use solve::cases::Cases;
 use solve::cases::Class;
@@ -68,9 +68,9 @@ pub fn tables(asked: &Asked) -> Vec<Table> {
 
 fn lattice(asked: &Asked) -> Vec<Row> {
     let mut rows = Vec::new();
-    for (sorts, _) in compare::speed::SIZES {
-        for kind in compare::speed::KINDS {
-            let times = compare::speed::times(
+    for (sorts, _) in sorts::speed::SIZES {
+        for kind in sorts::speed::KINDS {
+            let times = sorts::speed::times(
                 &asked.clock,
                 asked.seed,
                 sorts,
