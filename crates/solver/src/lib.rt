@@ -1,6 +1,7 @@
-// The solver of merc's inference.rs, from `solve` on: ranked backtracking over the constraints, in the order of the list. A disjunction
-// or comprehension tries every alternative; a sub-constraint, literal or join tries its resolutions cheapest first and stops at the
-// first that succeeds. Where the Rust hands a closure to `solve_widening`, a value names what comes next.
+// The solver of merc's inference.rs, from `solve` on: ranked backtracking over the constraints, in
+// the order of the list. A disjunction or comprehension tries every alternative; a sub-constraint,
+// literal or join tries its resolutions cheapest first and stops at the first that succeeds. Where
+// the Rust hands a closure to `solve_widening`, a value names what comes next.
 use inference::Constraint;
 use inference::ExprId;
 use inference::LitKind;
@@ -46,7 +47,8 @@ ghost use mathlib.Core.List.{[], _∷_};
 ghost use Prim.Native.Nat.{_+_, _-_, _<_};
 ghost use lib.ListN.{drop};
 ghost use Rattle.inference.specs.Constraints.{overloadAt, rowsFrom};
-ghost use Rattle.inference.specs.Search.{widening, firstFound, literal, everyReading, everyOverload, sequence, joining, step as stepOf};
+ghost use Rattle.inference.specs.Search.{widening, firstFound, literal, everyReading};
+ghost use Rattle.inference.specs.Search.{everyOverload, sequence, joining, step as stepOf};
 ghost use Rattle.inference.specs.SolveChecks.{componentsOf};
 ghost use Rattle.inference.specs.SolveEntry.{nothingMet};
 ghost use Rattle.unification.specs.Checked.{Placed};
@@ -207,8 +209,8 @@ fn solve_constraint(
     }
 }
 
-// Binds the target of a Join to the least upper bound of its sources and goes on. Where that does not apply, or finds nothing, the
-// sources are widened one after another.
+// Binds the target of a Join to the least upper bound of its sources and goes on. Where that does not apply, or finds
+// nothing, the sources are widened one after another.
 fn solve_join(
     sorts: &mut [u16],
     nodes: &mut [u16],
@@ -343,7 +345,8 @@ fn solve_join_seq(
     )
 }
 
-// Commits to one overload after another and goes on; all of them are explored, so that leaves of one measure surface as ambiguity.
+// Commits to one overload after another and goes on; all of them are explored, so that leaves of
+// one measure surface as ambiguity.
 fn solve_disjunction(
     sorts: &mut [u16],
     nodes: &mut [u16],
@@ -407,8 +410,8 @@ fn solve_disjunction(
     says(found, s)
 }
 
-// Commits to one reading of a comprehension after another, from the number `reading` on: a Bool body makes a Set, a Nat or Pos body a
-// Bag. The container is interned before the body is looked at.
+// Commits to one reading of a comprehension after another, from the number `reading` on: a Bool body makes a Set, a Nat
+// or Pos body a Bag. The container is interned before the body is looked at.
 fn solve_comprehension(
     sorts: &mut [u16],
     nodes: &mut [u16],
@@ -483,8 +486,8 @@ fn solve_comprehension(
     }
 }
 
-// Tries to make `lhs` a subsort of `rhs`: equality first, then strict widenings, nearest first. A concrete `lhs` may be upcast, or a
-// concrete `rhs` met from below; two unbound variables admit no list.
+// Tries to make `lhs` a subsort of `rhs`: equality first, then strict widenings, nearest first. A concrete `lhs` may be
+// upcast, or a concrete `rhs` met from below; two unbound variables admit no list.
 fn solve_widening(
     sorts: &mut [u16],
     nodes: &mut [u16],
