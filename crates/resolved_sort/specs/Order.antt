@@ -117,9 +117,9 @@ given false x = none
 abbrev pub all : Steps → ℕ
 all d = sum (d .head) (d .interior)
 
--- Distance, from the first sort up to the second (up true) or from the second up to the first: "equal sorts have (0,
--- 0); numbers have their steps as head; containers head 0 or 1 and the part's head plus interior as interior; functions
--- head 0, arguments (reversed) and range all interior".
+-- Distance, from the first sort up to the second (up true) or from the second up to the first: "equal sorts have
+-- (0, 0); numbers have their steps as head; containers head 0 or 1 and the part's head plus interior as interior;
+-- functions head 0, arguments (reversed) and range all interior".
 unfoldable mutual
   pub distance : Bool → Tree → Tree → Option Steps
   distance up (flat a) (flat b) =
