@@ -2,6 +2,7 @@
 use mathlib.Core.List.{List}
 use mathlib.Core.Option.{Option, none}
 use Prim.Native.Nat.{ℕ, _+_, _<_, _≤_}
+use Rattle.resolved_sort.specs.Storage.{maxArguments}
 use Rattle.unification.specs.declared.Lengths.{Lengths}
 use Rattle.unification.specs.Term.{Shape, variable, over}
 use Rattle.unification.specs.Nodes.{nodeEntryAt, Binds, binding}
@@ -14,5 +15,5 @@ boundAt (over h ps) B = none
 -- the c arguments from s on are places, and no more than 16
 pub record RunPlaced (ns : List ℕ) (k : Lengths) (s c : ℕ) : Type 0 where
   pub places : (j : ℕ) → j < c → Placed k (nodeEntryAt ns (s + j))
-  pub short : c ≤ 16
+  pub short : c ≤ maxArguments
   pub inside : s + c ≤ k .arguments

@@ -1,7 +1,11 @@
 // Inference nodes in lent storage, and where bindings lead: from merc's unification.rs, shallow_normalize and occurs.
 use resolved_sort::ComplexSort;
 use resolved_sort::Counts;
+use resolved_sort::DEF_KIND;
 use resolved_sort::ENTRIES_AT;
+use resolved_sort::FIRST_CONTAINER;
+use resolved_sort::FUNCTION_KIND;
+use resolved_sort::ROW_WORDS;
 use resolved_sort::Run;
 use unification::FIRST_NODE;
 use unification::FREE_WORD;
@@ -18,7 +22,8 @@ ghost use mathlib.Core.Option.{some};
 ghost use Prim.Native.Nat.{_+_, _*_, _<_, _≤_};
 ghost use lib.ListN.{length, getD};
 ghost use Rattle.unification.specs.Term.{headOf, partsOf, kindHead, numberHead, sameHead};
-ghost use Rattle.unification.specs.Nodes.{opOfKind, nodeAt, nodeEntryAt, nodeEntriesOf, bindingOf, bindsOf};
+ghost use Rattle.unification.specs.Nodes.{nodeEntriesAt, opOfKind, nodeAt, nodeEntryAt, nodeEntriesOf};
+ghost use Rattle.unification.specs.Nodes.{bindingOf, bindsOf};
 ghost use Rattle.unification.specs.Unify.{ofTest, follow, occursAny, occurs as occursIn, deep};
 ghost use Rattle.unification.specs.Checked.{graphOf, Ready, Placed};
 ghost use Rattle.unification.specs.Resolve.{withCounts};
@@ -70,10 +75,10 @@ fn op_of_kind(kind: u16) -> ComplexSort
 pub fn node(nodes: &[u16], id: NodeId) -> InferSort
     ensures { λ r. ⌜ r ≡ nodeAt (now (nodes .entry)) (id .0) ⌝ }
 {
-    let row = 4 * (id.0 as usize);
+    let row = ROW_WORDS * (id.0 as usize);
     let kind = word(nodes, row);
     let part = word(nodes, row + 1);
-    if kind == 11 {
+    if kind == FUNCTION_KIND {
         let start = word(nodes, row + 2);
         let count = word(nodes, row + 3);
         return InferSort::Function {
@@ -81,7 +86,7 @@ pub fn node(nodes: &[u16], id: NodeId) -> InferSort
             range: InferSortId(part),
         };
     }
-    if kind < 11 {
+    if kind < FUNCTION_KIND {
         return InferSort::Generic {
             op: op_of_kind(kind),
             subsort: InferSortId(part),
@@ -239,42 +244,42 @@ pub fn variable_at(sorts: &[u16], nodes: &[u16], lengths: Lengths, id: InferSort
 
 // Of a row of words: the number of its head, how many parts it has, and its i-th part.
 fn number_in(words: &[u16], row: usize) -> u16
-    requires { ⌜ row ≤ 8192 ⌝ }
+    requires { ⌜ row ≤ nodeEntriesAt ⌝ }
     ensures { λ r. ⌜ r ≡ numberIn (now (words .entry)) row ⌝ }
 {
     let kind = word(words, row);
-    if kind == 11 {
+    if kind == FUNCTION_KIND {
         return word(words, row + 3);
     }
-    if 12 <= kind {
+    if DEF_KIND <= kind {
         return word(words, row + 1);
     }
     0
 }
 
 fn count_in(words: &[u16], row: usize) -> u16
-    requires { ⌜ (row ≤ 8192) × SmallCount (now words) row ⌝ }
+    requires { ⌜ (row ≤ nodeEntriesAt) × SmallCount (now words) row ⌝ }
     ensures { λ r. ⌜ r ≡ countIn (now (words .entry)) row ⌝ }
 {
     let kind = word(words, row);
-    if kind == 11 {
+    if kind == FUNCTION_KIND {
         return word(words, row + 3) + 1;
     }
-    if kind < 6 {
+    if kind < FIRST_CONTAINER {
         return 0;
     }
-    if kind < 11 {
+    if kind < FUNCTION_KIND {
         return 1;
     }
     0
 }
 
 fn part_in(words: &[u16], entries: usize, row: usize, i: u16) -> InferSortId
-    requires { ⌜ (row ≤ 8192) × (entries ≤ 8192) ⌝ }
+    requires { ⌜ (row ≤ nodeEntriesAt) × (entries ≤ nodeEntriesAt) ⌝ }
     ensures { λ r. ⌜ r .0 ≡ partIn (now (words .entry)) entries row i ⌝ }
 {
     let kind = word(words, row);
-    if kind != 11 {
+    if kind != FUNCTION_KIND {
         return InferSortId(word(words, row + 1));
     }
     let count = word(words, row + 3);
@@ -293,9 +298,9 @@ fn kind_at(sorts: &[u16], nodes: &[u16], lengths: Lengths, id: InferSortId) -> u
         ⌝ }
 {
     if id.0 < FIRST_NODE {
-        return word(sorts, 4 * (id.0 as usize));
+        return word(sorts, ROW_WORDS * (id.0 as usize));
     }
-    word(nodes, 4 * ((id.0 - FIRST_NODE) as usize))
+    word(nodes, ROW_WORDS * ((id.0 - FIRST_NODE) as usize))
 }
 
 fn number_at(sorts: &[u16], nodes: &[u16], lengths: Lengths, id: InferSortId) -> u16
@@ -305,9 +310,9 @@ fn number_at(sorts: &[u16], nodes: &[u16], lengths: Lengths, id: InferSortId) ->
         ⌝ }
 {
     if id.0 < FIRST_NODE {
-        return number_in(sorts, 4 * (id.0 as usize));
+        return number_in(sorts, ROW_WORDS * (id.0 as usize));
     }
-    number_in(nodes, 4 * ((id.0 - FIRST_NODE) as usize))
+    number_in(nodes, ROW_WORDS * ((id.0 - FIRST_NODE) as usize))
 }
 
 // Whether two places have the same head: constructor, and number of arguments.
@@ -341,9 +346,9 @@ pub fn part_count(sorts: &[u16], nodes: &[u16], lengths: Lengths, id: InferSortI
         ⌝ }
 {
     if id.0 < FIRST_NODE {
-        return count_in(sorts, 4 * (id.0 as usize));
+        return count_in(sorts, ROW_WORDS * (id.0 as usize));
     }
-    count_in(nodes, 4 * ((id.0 - FIRST_NODE) as usize))
+    count_in(nodes, ROW_WORDS * ((id.0 - FIRST_NODE) as usize))
 }
 
 // The i-th part of the sort at a place.
@@ -358,12 +363,12 @@ pub fn part(sorts: &[u16], nodes: &[u16], lengths: Lengths, id: InferSortId, i: 
         ⌝ }
 {
     if id.0 < FIRST_NODE {
-        return part_in(sorts, ENTRIES_AT, 4 * (id.0 as usize), i);
+        return part_in(sorts, ENTRIES_AT, ROW_WORDS * (id.0 as usize), i);
     }
     part_in(
         nodes,
         NODE_ENTRIES_AT,
-        4 * ((id.0 - FIRST_NODE) as usize),
+        ROW_WORDS * ((id.0 - FIRST_NODE) as usize),
         i,
     )
 }

@@ -12,14 +12,15 @@ use lib.ListN.{length, getD, take, drop}
 use borrow.Author.Tests.{ltb-true, leb-true}
 use Rattle.resolved_sort.specs.declared.Run.{Run}
 use Rattle.resolved_sort.specs.declared.SortId.{SortId}
-use Rattle.resolved_sort.specs.Checks.{Check, firstFailing, withinLent, fixedSix, atCeiling}
+use Rattle.resolved_sort.specs.Checks.{Check, firstFailing, withinLent, fixedSix, rowsFine, noTwoEqual, atCeiling}
 use Rattle.resolved_sort.specs.Entries.{orElse}
 use Rattle.resolved_sort.proofs.Below.{below-each}
 use Rattle.resolved_sort.proofs.Reached.{no-confusion}
 use Rattle.resolved_sort.proofs.FirstFailing.{cons-passes}
 use Rattle.unification.specs.declared.InferSortId.{InferSortId}
-use Rattle.unification.specs.Nodes.{fullNodes}
-use Rattle.unification.specs.NodeChecks.{nodesWithinLent, bindingsWithinLent, nodeChecks}
+use Rattle.unification.specs.Nodes.{fullNodes, bindsOf}
+use Rattle.unification.specs.Acyclic.{acyclic}
+use Rattle.unification.specs.NodeChecks.{nodesWithinLent, bindingsWithinLent, nodesFine, bindingsFine, nodeChecks}
 use Rattle.unification.specs.Checked.{Ready}
 use Rattle.unification.specs.Making.{Lent}
 use Rattle.unification.proofs.Grows.{PlacedIn}
@@ -29,9 +30,9 @@ use Rattle.inference.specs.declared.LitKind.{LitKind}
 use Rattle.inference.specs.declared.Overload.{Overload}
 use Rattle.inference.specs.declared.Constraint.{Constraint}
 use Rattle.inference.specs.declared.Constraint.the-variants.{Sub, Lit, Disjunction, Comprehension, Join}
-use Rattle.inference.specs.Constraints.{constraintAt, overloadAt, Problem}
+use Rattle.inference.specs.Constraints.{maxComponents, constraintAt, overloadAt, Problem}
 use Rattle.inference.specs.Names.{overloadIn}
-use Rattle.inference.specs.SolveChecks.{Call, placed, given, disjunctions, noTwo, keys, rowsWithinLent, allWithinLent, exprsFine, namesFine, overloadFine, targetFine, runFine, constraintFine, constraintsFine, outputsLong, longEnough, solveChecks}
+use Rattle.inference.specs.SolveChecks.{Call, placed, given, disjunctions, noTwo, keys, rowsWithinLent, allWithinLent, exprsFine, namesFine, overloadFine, targetFine, runFine, constraintFine, constraintsFine, outputsLong, longEnough, solveChecks, joinsFine, components as componentCount}
 use Rattle.inference.specs.SolveEntry.{problemOf, lentOf, Left, searched, refused, verdict, nothingMet, solveEntry}
 use Rattle.inference.specs.Typing.{All}
 use Rattle.inference.proofs.Members.{length-rows, all-rows, row-at, all-rows-at, run-at}
@@ -137,18 +138,25 @@ module _ (I : Call) where
       let x = and-eq-true-iff (atCeiling (I .sorts) && leb fullNodes (length (I .nodes))) (outputsLong I) .0 f in
       and-eq-true-iff (atCeiling (I .sorts)) (leb fullNodes (length (I .nodes))) .0 (x .0)
 
-  -- A call that no check refuses.
-  pub record Accepted : Type 0 where
-    pub ready : Ready (I .sorts) (I .nodes) (I .binds) (I .lengths)
+  -- The checks of a call, each of which passes: 1, 2 to 4, 5 to 7, 8 to 12, 14.
+  pub record Passing : Type 0 where
+    pub within-lent : allWithinLent I ≡ true
     pub six : fixedSix (I .sorts) (I .lengths .sorts) ≡ true
-    pub default : I .default < I .lengths .sorts
-    pub exprs : All (PlacedIn W) (P .exprs)
-    pub constraints : All (Listed W P) (P .constraints)
-    pub one-disjunction-each : noTwo (disjunctions (P .constraints)) ≡ true
+    pub rows : rowsFine (I .sorts) (I .lengths .sorts) (I .lengths .entries) ≡ true
+    pub differ : noTwoEqual (I .sorts) (I .lengths .sorts) ≡ true
+    pub nodes : nodesFine (I .nodes) (I .lengths .nodes) (I .lengths .arguments) (I .lengths .sorts) (I .lengths .variables) ≡ true
+    pub binds : bindingsFine (I .lengths .sorts) (I .lengths .nodes) (bindsOf (I .binds) (I .lengths .variables)) ≡ true
+    pub no-cycle : acyclic (I .nodes) (I .lengths .nodes) (bindsOf (I .binds) (I .lengths .variables)) ≡ true
+    pub exprs-and-names : (exprsFine I && namesFine I) ≡ true
+    pub constraints : constraintsFine I ≡ true
+    pub one-each : (noTwo (disjunctions (given I)) && noTwo (keys I)) ≡ true
+    pub components : (joinsFine (given I) && leb (componentCount (given I)) maxComponents) ≡ true
+    pub default : ltb (I .default) (I .lengths .sorts) ≡ true
+    pub long : longEnough I ≡ true
 
-  pub accepted : firstFailing (solveChecks I) ≡ none → Accepted
-  unfolding solveChecks nodeChecks allWithinLent exprsFine constraintsFine longEnough
-  accepted x =
+  pub passing : firstFailing (solveChecks I) ≡ none → Passing
+  unfolding solveChecks nodeChecks
+  passing x =
       let c₁ = cons-passes _ _ x in
       let c₂ = cons-passes _ _ (c₁ .1) in
       let c₃ = cons-passes _ _ (c₂ .1) in
@@ -162,18 +170,47 @@ module _ (I : Call) where
       let c₁₁ = cons-passes _ _ (c₁₀ .1) in
       let c₁₂ = cons-passes _ _ (c₁₁ .1) in
       let c₁₄ = cons-passes _ _ (c₁₂ .1) in
-      let w = within (c₁ .0) in
-      let l = long (c₁₄ .0) in
-      let e = and-eq-true-iff (exprsFine I) (namesFine I) .0 (c₈ .0) in
+      record {
+        within-lent = c₁ .0;
+        six = c₂ .0;
+        rows = c₃ .0;
+        differ = c₄ .0;
+        nodes = c₅ .0;
+        binds = c₆ .0;
+        no-cycle = c₇ .0;
+        exprs-and-names = c₈ .0;
+        constraints = c₉ .0;
+        one-each = c₁₀ .0;
+        components = c₁₁ .0;
+        default = c₁₂ .0;
+        long = c₁₄ .0;
+      }
+
+  -- A call that no check refuses.
+  pub record Accepted : Type 0 where
+    pub ready : Ready (I .sorts) (I .nodes) (I .binds) (I .lengths)
+    pub six : fixedSix (I .sorts) (I .lengths .sorts) ≡ true
+    pub default : I .default < I .lengths .sorts
+    pub exprs : All (PlacedIn W) (P .exprs)
+    pub constraints : All (Listed W P) (P .constraints)
+    pub one-disjunction-each : noTwo (disjunctions (P .constraints)) ≡ true
+
+  pub accepted : firstFailing (solveChecks I) ≡ none → Accepted
+  unfolding solveChecks nodeChecks allWithinLent exprsFine constraintsFine longEnough
+  accepted x =
+      let c = passing x in
+      let w = within (c .within-lent) in
+      let l = long (c .long) in
+      let e = and-eq-true-iff (exprsFine I) (namesFine I) .0 (c .exprs-and-names) in
       record {
         ready =
-            passed-ready (I .sorts) (I .lengths .sorts) (I .lengths .entries) (I .nodes) (I .lengths .nodes) (I .lengths .arguments) (I .binds) (I .lengths .variables) (w .0) (w .1) (w .2) (c₃ .0) (c₄ .0) (c₅ .0)
-            (c₆ .0) (c₇ .0) (l .0) (l .1);
-        six = c₂ .0;
-        default = ltb-true (I .default) (I .lengths .sorts) (c₁₂ .0);
+            passed-ready (I .sorts) (I .lengths .sorts) (I .lengths .entries) (I .nodes) (I .lengths .nodes) (I .lengths .arguments) (I .binds) (I .lengths .variables) (w .0) (w .1) (w .2) (c .rows) (c .differ) (c .nodes)
+            (c .binds) (c .no-cycle) (l .0) (l .1);
+        six = c .six;
+        default = ltb-true (I .default) (I .lengths .sorts) (c .default);
         exprs = all-rows-at (PlacedIn W) (λ i. getD (I .exprs) i 0) (I .rows .exprs) (λ j m. below-each (I .rows .exprs) (λ i. placed I (getD (I .exprs) i 0)) (e .0) j m);
-        constraints = all-rows-at (Listed W P) (constraintAt (I .constraints)) (I .rows .constraints) (constraint-listed (c₉ .0));
-        one-disjunction-each = and-eq-true-iff (noTwo (disjunctions (given I))) (noTwo (keys I)) .0 (c₁₀ .0) .0;
+        constraints = all-rows-at (Listed W P) (constraintAt (I .constraints)) (I .rows .constraints) (constraint-listed (c .constraints));
+        one-disjunction-each = and-eq-true-iff (noTwo (disjunctions (given I))) (noTwo (keys I)) .0 (c .one-each) .0;
       }
 
   codes-above-0 : above0 (solveChecks I) ≡ true

@@ -1,6 +1,7 @@
 -- The laws of the solver's search.
 -- lists and checks: what is in a list, and what the checks of a call give
 pub mod Members
+pub mod RowsLent
 pub mod Accepted
 -- what holds all through a search, kept by every constraint in turn and by the leaf
 pub mod Invariant

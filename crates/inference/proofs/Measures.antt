@@ -128,13 +128,6 @@ smaller-below xs ys zs e a = go (at-most-is-smaller-or-one ys zs a)
     go (inl f) = smaller-trans xs ys zs e f
     go (inr i) = subst (λ us. compare xs us ≡ smaller) i e
 
-pub at-most-trans : (xs ys zs : Components) → AtMost xs ys → AtMost ys zs → AtMost xs zs
-at-most-trans xs ys zs a b = go (at-most-is-smaller-or-one xs ys a)
-  where
-    go : (compare xs ys ≡ smaller) ⊎ (xs ≡ ys) → AtMost xs zs
-    go (inl e) = smaller-is-at-most xs zs (smaller-below xs ys zs e b)
-    go (inr i) = subst (λ us. AtMost us zs) (sym i) b
-
 pub at-most-each-other-are-one : (xs ys : Components) → AtMost xs ys → AtMost ys xs → xs ≡ ys
 at-most-each-other-are-one xs ys a b = go (at-most-is-smaller-or-one xs ys a)
   where

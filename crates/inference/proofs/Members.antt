@@ -110,6 +110,13 @@ module _ {A : Type 0} where
   unfolding rowsFrom
   rows-one-left row n i l = ap (rowsFrom row i) (let z : n - i ≡ suc (n - (i + 1)) = omega (arith, l) in z)
 
+  -- and of a run of rows
+  pub run-one-left : (row : ℕ → A) (s n i : ℕ) → i < n → rowsFrom row (s + i) (n - i) ≡ row (s + i) ∷ rowsFrom row (s + (i + 1)) (n - (i + 1))
+  unfolding rowsFrom
+  run-one-left row s n i l =
+      ap (rowsFrom row (s + i)) (let q : n - i ≡ suc (n - (i + 1)) = omega (arith, l) in q)
+      ∙ ap (λ j. row (s + i) ∷ rowsFrom row j (n - (i + 1))) (let q : s + i + 1 ≡ s + (i + 1) = omega arith in q)
+
   pub rows-none-left : (row : ℕ → A) (n i : ℕ) → n ≤ i → rowsFrom row i (n - i) ≡ []
   unfolding rowsFrom
   rows-none-left row n i l = ap (rowsFrom row i) (let z : n - i ≡ 0 = omega (arith, l) in z)

@@ -1,4 +1,5 @@
--- What each constraint adds to the measure, under an assignment: "256 measure components (one per Sub, per Lit, per Join source)".
+-- What each constraint adds to the measure, under an assignment: "256 measure components (one per
+-- Sub, per Lit, per Join source)".
 use mathlib.Core.Path.{_≡_}
 use mathlib.Core.Bool.{true}
 use mathlib.Core.List.{List, [], _∷_, _++_}
@@ -22,7 +23,8 @@ use Rattle.inference.specs.Measure.{Components}
 use Rattle.inference.specs.Search.{Choice, litComponent}
 use Rattle.inference.specs.Typing.{Assignment, Has, Meets}
 
--- "unify (component 0) .. the wider sorts of the left side (1, 2, 3)", nearest first; the narrower ones of the right side are as far
+-- "unify (component 0) .. the wider sorts of the left side (1, 2, 3)", nearest first; the narrower
+-- ones of the right side are as far
 pub data Widened (s : Tree) : Tree → ℕ → Type 0 where
   equal-to : Widened s s 0
   wider-by : (t : Tree) (i : ℕ) → Member t i (related true s) → Widened s t (suc i)

@@ -1,5 +1,6 @@
--- The lists that the solver takes beside sorts, nodes and bindings, as words: constraints in rows of five, overloads and base names in rows of
--- three, Join sources and the places of expressions one word each. Words that a row's kind does not use are not looked at.
+-- The lists that the solver takes beside sorts, nodes and bindings, as words: constraints in rows
+-- of five, overloads and base names in rows of three, Join sources and the places of expressions
+-- one word each. Words that a row's kind does not use are not looked at.
 use mathlib.Core.Bool.{cond}
 use mathlib.Core.List.{List, [], _∷_}
 use Prim.Native.Nat.{ℕ, zero, suc, _+_, _*_}
@@ -29,6 +30,16 @@ maxSources = 256
 abbrev pub maxComponents : ℕ
 maxComponents = 256
 
+-- the words of a row
+abbrev pub constraintWords : ℕ
+constraintWords = 5
+
+abbrev pub overloadWords : ℕ
+overloadWords = 3
+
+abbrev pub nameWords : ℕ
+nameWords = 3
+
 -- What a name stands for, by its kind: 1 a variable, 2 an operation with a sort, 3 a built-in. 0 is none.
 unfoldable pub target : ℕ → ℕ → NameTarget
 target kind sort = cond (eqb kind 1) Variable (cond (eqb kind 2) (Op (record { 0 = sort })) Builtin)
@@ -37,7 +48,8 @@ target kind sort = cond (eqb kind 1) Variable (cond (eqb kind 2) (Op (record { 0
 unfoldable pub litKind : ℕ → LitKind
 litKind kind = cond (eqb kind 0) Positive Natural
 
--- The kinds of constraints: 0 Sub, 1 Lit, 2 Disjunction, 3 Comprehension, 4 Join. The run of a disjunction is in c and d, that of a Join in b and c.
+-- The kinds of constraints: 0 Sub, 1 Lit, 2 Disjunction, 3 Comprehension, 4 Join. The run of a
+-- disjunction is in c and d, that of a Join in b and c.
 unfoldable pub constraint : ℕ → ℕ → ℕ → ℕ → ℕ → Constraint
 constraint kind a b c d =
     getD
@@ -50,14 +62,15 @@ constraint kind a b c d =
 
 abbrev pub constraintAt : List ℕ → ℕ → Constraint
 constraintAt cs i =
-    constraint (getD cs (5 * i) 0) (getD cs (5 * i + 1) 0) (getD cs (5 * i + 2) 0) (getD cs (5 * i + 3) 0)
-    (getD cs (5 * i + 4) 0)
+    constraint (getD cs (constraintWords * i) 0) (getD cs (constraintWords * i + 1) 0)
+    (getD cs (constraintWords * i + 2) 0) (getD cs (constraintWords * i + 3) 0)
+    (getD cs (constraintWords * i + 4) 0)
 
 abbrev pub overloadAt : List ℕ → ℕ → Overload
 overloadAt os i =
     record {
-      target = target (getD os (3 * i) 0) (getD os (3 * i + 1) 0);
-      sort = record { 0 = getD os (3 * i + 2) 0 };
+      target = target (getD os (overloadWords * i) 0) (getD os (overloadWords * i + 1) 0);
+      sort = record { 0 = getD os (overloadWords * i + 2) 0 };
     }
 
 -- a base name: the expression it is for, and what it stands for
@@ -67,7 +80,10 @@ pub record BaseName : Type 0 where
 
 abbrev pub baseNameAt : List ℕ → ℕ → BaseName
 baseNameAt bs i =
-    record { key = getD bs (3 * i) 0; target = target (getD bs (3 * i + 1) 0) (getD bs (3 * i + 2) 0) }
+    record {
+      key = getD bs (nameWords * i) 0;
+      target = target (getD bs (nameWords * i + 1) 0) (getD bs (nameWords * i + 2) 0);
+    }
 
 -- the n rows from i on
 unfoldable pub rowsFrom : {A : Type 0} → (ℕ → A) → ℕ → ℕ → List A

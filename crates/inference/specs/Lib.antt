@@ -4,6 +4,7 @@ pub mod Measure
 pub mod Search
 pub mod Names
 pub mod SolveChecks
+pub mod RowsLent
 pub mod SolveEntry
 pub mod Typing
 pub mod Components

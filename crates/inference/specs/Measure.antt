@@ -1,5 +1,5 @@
--- The measure: "256 measure components (one per Sub, per Lit, per Join source)". Measures compare from the front; the first components that
--- differ decide.
+-- The measure: "256 measure components (one per Sub, per Lit, per Join source)". Measures compare
+-- from the front; the first components that differ decide.
 use mathlib.Core.Bool.{Bool, true, false, cond}
 use mathlib.Core.List.{List, [], _∷_}
 use Prim.Native.Nat.{ℕ}

@@ -1,5 +1,5 @@
--- "Solver (000)": the search, in the Rust's order of trying and of making. What the Rust hands to solve_widening as a closure is here the
--- continuation of a step: what comes next, on the path taken so far and the lists as they then are.
+-- "Solver (000)": the search, in the Rust's order of trying and of making. What the Rust hands to solve_widening as a
+-- closure is here the continuation of a step: what comes next, on the path taken so far and the lists as they then are.
 use mathlib.Core.Bool.{Bool, true, false, cond, _&&_}
 use mathlib.Core.List.{List, [], _∷_, _++_}
 use mathlib.Core.Option.{Option, none, some}
@@ -21,7 +21,8 @@ use Rattle.unification.specs.Nodes.{Binds}
 use Rattle.unification.specs.Unify.{Unifies, yes-with, no-way, too-deep, deep, follow, unify}
 use Rattle.unification.specs.Related.{each}
 use Rattle.unification.specs.Resolve.{value, termResolved, withCounts}
-use Rattle.unification.specs.Making.{Lent, graph, Makes, made, no-list, no-room, _and-then_, withNodesOf, internContainer, strictRelated}
+use Rattle.unification.specs.Making.{Lent, graph, Makes, made, no-list}
+use Rattle.unification.specs.Making.{no-room, _and-then_, withNodesOf, internContainer, strictRelated}
 use Rattle.inference.specs.declared.LitKind.{LitKind}
 use Rattle.inference.specs.declared.LitKind.the-variants.{Positive, Natural}
 use Rattle.inference.specs.declared.Overload.{Overload}
@@ -30,7 +31,8 @@ use Rattle.inference.specs.declared.Constraint.the-variants.{Sub, Lit, D
 use Rattle.inference.specs.Constraints.{Problem}
 use Rattle.inference.specs.Measure.{Components, Ranking, smaller, equal, greater, compare, worse}
 
--- Making sorts: resolving a place, with or without a default, and the join of two sorts. Where the answer is none, what was made stays.
+-- Making sorts: resolving a place, with or without a default, and the join of two sorts. Where the
+-- answer is none, what was made stays.
 abbrev pub withStored : Lent → Stored → Lengths → Lent
 withStored W r k = record { sorts = r .words; nodes = W .nodes; lengths = k }
 
@@ -54,10 +56,9 @@ resolveAll x B [] W = made [] W
 resolveAll x B (p ∷ ps) W =
     resolveIn x B p W and-then (λ s W. resolveAll x B ps W and-then (λ ss W. made (s ∷ ss) W))
 
--- "Join: if all sources resolve, their join exists and each is equal to or materializable into it": the join of the sources, and the head
--- distances as components
--- `join` also relates sorts that cannot be materialized (containers by their elements, functions by their arguments),
--- so each source is asked for it.
+-- "Join: if all sources resolve, their join exists and each is equal to or materializable into it": the join of the
+-- sources, and the head distances as components `join` also relates sorts that cannot be materialized (containers by
+-- their elements, functions by their arguments), so each source is asked for it.
 pub record Agreed : Type 0 where
   pub sort : ℕ
   pub components : Components
@@ -102,7 +103,8 @@ pub record Path : Type 0 where
   pub measure : Components
   pub choices : List Choice
 
--- The incumbent: the best leaf so far, the sorts of the expressions there, and whether another leaf had the same measure.
+-- The incumbent: the best leaf so far, the sorts of the expressions there, and whether another leaf
+-- had the same measure.
 pub record Candidate : Type 0 where
   pub measure : Components
   pub sorts : List ℕ
@@ -138,7 +140,8 @@ abbrev pub narrowerTries : ℕ → ℕ → List ℕ → List Try
 narrowerTries l i [] = []
 narrowerTries l i (p ∷ ps) = record { left = l; right = p; component = i } ∷ narrowerTries l (i + 1) ps
 
--- The component of a literal at a sort, "generality 0 to 3"; none where the sort is no number, or Pos for "0", which is natural.
+-- The component of a literal at a sort, "generality 0 to 3"; none where the sort is no number, or Pos for "0", which
+-- is natural.
 -- Also at a free place the generality, so that a literal bound on one branch and free on another compares alike.
 unfoldable pub litComponent : LitKind → Sort → Option ℕ
 litComponent k Sort.Bool = none
@@ -168,8 +171,8 @@ readings =
     record { body = 1; op = ComplexSort.Set } ∷ record { body = 3; op = ComplexSort.Bag }
     ∷ record { body = 2; op = ComplexSort.Bag } ∷ []
 
--- What goes on from branch to branch: the lists, the incumbent, and, so that laws can speak of them, something about all leaves met. The solver
--- itself keeps nothing of these.
+-- What goes on from branch to branch: the lists, the incumbent, and, so that laws can speak of them, something about
+-- all leaves met. The solver itself keeps nothing of these.
 pub record World (Met : Type 0) : Type 0 where
   pub lent : Lent
   pub best : Option Candidate
@@ -237,8 +240,8 @@ module _ (Met : Type 0) (meet : Components → Met → Met) (P : Problem) where
       orElse (unifying (e .binds) (t .left) (t .right) (λ C. k (measured e (t .component ∷ []) C)) w)
       (firstFound ts k e)
 
-  -- "unify (component 0), and only if that found nothing, the wider sorts of the left side (1, 2, 3), or, if the left side has no list, the narrower
-  -- ones of the right. An empty list is a list."
+  -- "unify (component 0), and only if that found nothing, the wider sorts of the left side (1, 2, 3), or, if the left
+  -- side has no list, the narrower ones of the right. An empty list is a list."
   -- Nearest first, so that the least upcast wins: equally good, they would make Pos ambiguous between Nat and Int.
   abbrev pub narrower : ℕ → ℕ → Next → Next
   narrower l r k e w =
@@ -316,8 +319,8 @@ module _ (Met : Type 0) (meet : Components → Met → Met) (P : Problem) where
   step (Comprehension body node element) k = everyReading readings (body .0) (node .0) (element .0) false k
   step (Join run t) k = joining (take (run .count) (drop (run .start) (P .sources))) (t .0) k
 
-  -- "At a leaf a smaller measure replaces, an equal one marks ambiguous; both count as found. There each variable still free stands for the default
-  -- sort, inside containers and functions too."
+  -- "At a leaf a smaller measure replaces, an equal one marks ambiguous; both count as found. There each variable still
+  -- free stands for the default sort, inside containers and functions too."
   abbrev pub replace : Path → World Met → Out Met
   replace e w =
       onMade (resolveAll (Is (record { 0 = P .default })) (e .binds) (P .exprs) (w .lent))
@@ -340,8 +343,8 @@ module _ (Met : Type 0) (meet : Components → Met → Met) (P : Problem) where
   unfoldable pub leaf : Next
   leaf e w = leafOver (w .best) e w
 
-  -- "On coming to a constraint or to the leaf, and not between a Join's sources, a prefix greater than the incumbent's is dropped and counts as not
-  -- found."
+  -- "On coming to a constraint or to the leaf, and not between a Join's sources, a prefix greater than the
+  -- incumbent's is dropped and counts as not found."
   -- It is exact: earlier components decide, so a greater prefix can become neither equal nor smaller.
   abbrev pub dominatedBy : Components → Option Candidate → Bool
   dominatedBy m none = false

@@ -12,10 +12,13 @@ use Rattle.unification.specs.NodeChecks.{nodesWithinLent, bindingsWithinLent, n
 use Rattle.inference.specs.declared.Rows.{Rows}
 use Rattle.inference.specs.declared.Constraint.{Constraint}
 use Rattle.inference.specs.declared.Constraint.the-variants.{Sub, Lit, Disjunction, Comprehension, Join}
-use Rattle.inference.specs.Constraints.{maxExprs, maxConstraints, maxOverloads, maxSources, maxComponents, constraintAt, rowsFrom}
+use Rattle.inference.specs.Constraints.{maxExprs, maxConstraints, maxOverloads, maxSources}
+use Rattle.inference.specs.Constraints.{maxComponents, constraintWords, overloadWords, nameWords}
+use Rattle.inference.specs.Constraints.{constraintAt, rowsFrom}
 
--- What a call is given: sorts, nodes and bindings with their lengths; the places of expressions, base names, constraints, overloads and sources
--- with how many rows each has; the default sort; scratch; and what its outputs are to be written to, a row for each expression (its sort and its
+-- What a call is given: sorts, nodes and bindings with their lengths; the places of expressions,
+-- base names, constraints, overloads and sources with how many rows each has; the default sort;
+-- scratch; and what its outputs are to be written to, a row for each expression (its sort and its
 -- name, three words), for each component (one word) and for each choice (two words).
 pub record Call : Type 0 where
   pub sorts : List ℕ
@@ -38,13 +41,14 @@ pub record Call : Type 0 where
 abbrev pub scratchWords : ℕ
 scratchWords = 4096
 
+-- the words of a row handed out, for an expression and for a choice
+abbrev pub typingWords : ℕ
+typingWords = 3
+
+abbrev pub choiceWords : ℕ
+choiceWords = 2
+
 module _ (I : Call) where
-  abbrev pub sortCount : ℕ
-  sortCount = I .lengths .sorts
-
-  abbrev pub exprCount : ℕ
-  exprCount = I .rows .exprs
-
   -- a number that names a place, and one that names a sort
   abbrev pub placed : ℕ → Bool
   placed p = isPlace (I .lengths .sorts) (I .lengths .nodes) p
@@ -56,9 +60,11 @@ module _ (I : Call) where
   unfoldable pub rowsWithinLent : Bool
   rowsWithinLent =
       leb (I .rows .exprs) maxExprs && leb (I .rows .exprs) (length (I .exprs))
-      && leb (3 * I .rows .names) (length (I .names))
-      && leb (I .rows .constraints) maxConstraints && leb (5 * I .rows .constraints) (length (I .constraints))
-      && leb (I .rows .overloads) maxOverloads && leb (3 * I .rows .overloads) (length (I .overloads))
+      && leb (nameWords * I .rows .names) (length (I .names))
+      && leb (I .rows .constraints) maxConstraints
+      && leb (constraintWords * I .rows .constraints) (length (I .constraints))
+      && leb (I .rows .overloads) maxOverloads
+      && leb (overloadWords * I .rows .overloads) (length (I .overloads))
       && leb (I .rows .sources) maxSources && leb (I .rows .sources) (length (I .sources))
 
   unfoldable pub allWithinLent : Bool
@@ -79,15 +85,15 @@ module _ (I : Call) where
   unfoldable pub namesFine : Bool
   namesFine =
       allBelow (I .rows .names)
-      (λ i. ltb (getD (I .names) (3 * i) 0) (I .rows .exprs)
-      && targetFine (getD (I .names) (3 * i + 1) 0) (getD (I .names) (3 * i + 2) 0))
+      (λ i. ltb (getD (I .names) (nameWords * i) 0) (I .rows .exprs)
+      && targetFine (getD (I .names) (nameWords * i + 1) 0) (getD (I .names) (nameWords * i + 2) 0))
 
-  -- 9. "A constraint has an unknown kind, literal kind or overload kind, a run leaving its list, or a place, expression, element sort, overload place
-  -- or target sort that names nothing."
+  -- 9. "A constraint has an unknown kind, literal kind or overload kind, a run leaving its list, or a place,
+  -- expression, element sort, overload place or target sort that names nothing."
   unfoldable pub overloadFine : ℕ → Bool
   overloadFine i =
-      targetFine (getD (I .overloads) (3 * i) 0) (getD (I .overloads) (3 * i + 1) 0)
-      && placed (getD (I .overloads) (3 * i + 2) 0)
+      targetFine (getD (I .overloads) (overloadWords * i) 0) (getD (I .overloads) (overloadWords * i + 1) 0)
+      && placed (getD (I .overloads) (overloadWords * i + 2) 0)
 
   abbrev pub runFine : ℕ → (ℕ → Bool) → Run → Bool
   runFine n fine run = leb (run .start + run .count) n && allBelow (run .count) (λ j. fine (run .start + j))
@@ -106,8 +112,8 @@ module _ (I : Call) where
   unfoldable pub constraintsFine : Bool
   constraintsFine =
       allBelow (I .rows .constraints)
-      (λ i. leb (getD (I .constraints) (5 * i) 0) 4
-      && constraintFine (getD (I .constraints) (5 * i + 2) 0) (constraintAt (I .constraints) i))
+      (λ i. leb (getD (I .constraints) (constraintWords * i) 0) 4
+      && constraintFine (getD (I .constraints) (constraintWords * i + 2) 0) (constraintAt (I .constraints) i))
 
   abbrev pub given : List Constraint
   given = rowsFrom (constraintAt (I .constraints)) 0 (I .rows .constraints)
@@ -160,15 +166,34 @@ components (c ∷ cs) = componentsOf c + components cs
 unfoldable pub outputsLong : Call → Bool
 outputsLong I =
     leb scratchWords (length (I .scratch))
-    && leb (3 * I .rows .exprs) (length (I .typing))
+    && leb (typingWords * I .rows .exprs) (length (I .typing))
     && leb (components (given I)) (length (I .measure))
-    && leb (2 * length (disjunctions (given I))) (length (I .choices))
+    && leb (choiceWords * length (disjunctions (given I))) (length (I .choices))
 
 unfoldable pub longEnough : Call → Bool
 longEnough I = atCeiling (I .sorts) && leb fullNodes (length (I .nodes)) && outputsLong I
 
 abbrev pub keys : Call → List ℕ
-keys I = rowsFrom (λ i. getD (I .names) (3 * i) 0) 0 (I .rows .names)
+keys I = rowsFrom (λ i. getD (I .names) (nameWords * i) 0) 0 (I .rows .names)
+
+-- over the rows of the lists: 8 to 10
+abbrev pub rowChecks : Call → List Check
+rowChecks I =
+    record { code = 8; passes = exprsFine I && namesFine I }
+    ∷ record { code = 9; passes = constraintsFine I }
+    ∷ record { code = 10; passes = noTwo (disjunctions (given I)) && noTwo (keys I) }
+    ∷ []
+
+-- over components, the default sort and lent lengths: 11, 12 and 14
+abbrev pub lastChecks : Call → List Check
+lastChecks I =
+    record { code = 11; passes = joinsFine (given I) && leb (components (given I)) maxComponents }
+    ∷ record { code = 12; passes = listed I (I .default) }
+    ∷ record { code = 14; passes = longEnough I }
+    ∷ []
+
+abbrev pub listChecks : Call → List Check
+listChecks I = rowChecks I ++ lastChecks I
 
 -- the checks of the solver, in order
 unfoldable pub solveChecks : Call → List Check
@@ -177,10 +202,4 @@ solveChecks I =
     ∷ sortRowChecks (I .sorts) (I .lengths .sorts) (I .lengths .entries)
     ++ nodeChecks (I .nodes) (I .lengths .nodes) (I .lengths .arguments) (I .lengths .sorts) (I .binds)
     (I .lengths .variables)
-    ++ record { code = 8; passes = exprsFine I && namesFine I }
-    ∷ record { code = 9; passes = constraintsFine I }
-    ∷ record { code = 10; passes = noTwo (disjunctions (given I)) && noTwo (keys I) }
-    ∷ record { code = 11; passes = joinsFine (given I) && leb (components (given I)) maxComponents }
-    ∷ record { code = 12; passes = listed I (I .default) }
-    ∷ record { code = 14; passes = longEnough I }
-    ∷ []
+    ++ listChecks I

@@ -1,11 +1,12 @@
--- The solver's outcome for every call: the first failing check, or what the search comes to, with all lent memory as it is then.
+-- The solver's outcome for every call: the first failing check, or what the search comes to, with
+-- all lent memory as it is then.
 use mathlib.Core.Bool.{Bool, true, false}
 use mathlib.Core.List.{List, [], _∷_, _++_}
 use mathlib.Core.Option.{Option, none, some}
 use Prim.Native.Nat.{ℕ, _+_, _*_}
 use lib.ListN.{length, getD, take, drop, replicate}
 use Rattle.resolved_sort.specs.declared.Counts.{Counts}
-use Rattle.resolved_sort.specs.Storage.{givenBack}
+use Rattle.resolved_sort.specs.Storage.{rowWords, givenBack}
 use Rattle.words.specs.Words.{zeros}
 use Rattle.resolved_sort.specs.Checks.{firstFailing}
 use Rattle.resolved_sort.specs.Entries.{orElse}
@@ -18,7 +19,7 @@ use Rattle.inference.specs.Constraints.{overloadAt, BaseName, baseNameAt
 use Rattle.inference.specs.Measure.{Components}
 use Rattle.inference.specs.Search.{Choice, Path, Candidate, Out, found, missed, ended, solve}
 use Rattle.inference.specs.Names.{nameOf, nameKind, nameSort}
-use Rattle.inference.specs.SolveChecks.{Call, given, solveChecks}
+use Rattle.inference.specs.SolveChecks.{Call, typingWords, choiceWords, given, solveChecks}
 
 -- the words of a list in use, one by one
 abbrev pub wordsAt : List ℕ → ℕ → List ℕ
@@ -62,7 +63,7 @@ pub record Left : Type 0 where
 
 -- "Scratch is zero after 15 to 18 and 0", "node rows past the entry length zero", "bindings as at entry"
 unfoldable pub nodesGivenBack : ℕ → ℕ → List ℕ → List ℕ
-nodesGivenBack m d ns = zeros (nodeEntriesAt + d) (length ns) (zeros (4 * m) nodeEntriesAt ns)
+nodesGivenBack m d ns = zeros (nodeEntriesAt + d) (length ns) (zeros (rowWords * m) nodeEntriesAt ns)
 
 abbrev pub cleared : List ℕ → List ℕ
 cleared xs = replicate (length xs) 0
@@ -154,13 +155,13 @@ codeSolved (Typing o) = 0
 
 -- What a caller reads of a typing: the sorts and names of the expressions, the measure, and the choices.
 abbrev pub sortsOut : Call → Left → List ℕ
-sortsOut I L = rowsFrom (λ i. getD (L .typing) (3 * i) 0) 0 (I .rows .exprs)
+sortsOut I L = rowsFrom (λ i. getD (L .typing) (typingWords * i) 0) 0 (I .rows .exprs)
 
 abbrev pub measureOut : Left → Outputs → Components
 measureOut L o = take (o .components) (L .measure)
 
 abbrev pub choiceAt : List ℕ → ℕ → Choice
-choiceAt ws i = record { expr = getD ws (2 * i) 0; position = getD ws (2 * i + 1) 0 }
+choiceAt ws i = record { expr = getD ws (choiceWords * i) 0; position = getD ws (choiceWords * i + 1) 0 }
 
 abbrev pub choicesOut : Left → Outputs → List Choice
 choicesOut L o = rowsFrom (choiceAt (L .choices)) 0 (o .choices)

@@ -1,6 +1,6 @@
--- Demand 3: "at least one assignment of sorts .. under which all of this holds together". "An assignment gives each variable a sort without inference
--- variables (Def and TypeVar are sorts like any other). A place's sort under it is the place with these put in for its variables; sorts are compared by
--- structure."
+-- Demand 3: "at least one assignment of sorts .. under which all of this holds together". "An assignment gives each
+-- variable a sort without inference variables (Def and TypeVar are sorts like any other). A place's sort under it is
+-- the place with these put in for its variables; sorts are compared by structure."
 use mathlib.Core.Path.{_≡_}
 use mathlib.Core.Bool.{Bool, true, false}
 use mathlib.Core.List.{List, [], _∷_}
@@ -53,8 +53,8 @@ pub data In {A : Type 0} (x : A) : List A → Type 0 where
   here : (xs : List A) → In x (x ∷ xs)
   there : (y : A) (xs : List A) → In x xs → In x (y ∷ xs)
 
--- what body and node of a comprehension over the sort u are: "a Set over its element sort with a body of Bool, or a Bag over it with a body of Nat or
--- Pos"
+-- what body and node of a comprehension over the sort u are: "a Set over its element sort with a
+-- body of Bool, or a Bag over it with a body of Nat or Pos"
 pub data Read (u : Tree) : Tree → Tree → Type 0 where
   as-set : Read u (flat (primitive Sort.Bool)) (container ComplexSort.Set u)
   as-bag : Read u (flat (primitive Sort.Nat)) (container ComplexSort.Bag u)
@@ -90,9 +90,10 @@ pub data Typed (shape : ℕ → Shape) (look : ℕ → Tree) (σ : Assignment) :
   and-typed : (p s : ℕ) (ps ss : List ℕ) → Has shape σ p (look s) → Typed shape look σ ps ss
       → Typed shape look σ (p ∷ ps) (s ∷ ss)
 
--- The claim over the whole list: one assignment, under which each given binding holds, each sort handed out is that of its expression's place, and
--- each constraint is met; the sorts handed out are of the list of `count` sorts that is left, and the choice list names one overload for an expression.
--- Sorts of the list given are looked up by `given`, those handed out by `left`.
+-- The claim over the whole list: one assignment, under which each given binding holds, each sort
+-- handed out is that of its expression's place, and each constraint is met; the sorts handed out
+-- are of the list of `count` sorts that is left, and the choice list names one overload for an
+-- expression. Sorts of the list given are looked up by `given`, those handed out by `left`.
 pub record HoldsTogether (shape : ℕ → Shape) (given left : ℕ → Tree) (count : ℕ) (B : Binds) (P : Problem)
     (sorts : List ℕ) (choices : List Choice) : Type 0 where
   pub assignment : Assignment

@@ -1,4 +1,5 @@
-// The constraints of merc's inference.rs and the solver's outcome: the types that definitions, contracts and code speak of.
+// The constraints of merc's inference.rs and the solver's outcome: the types that definitions,
+// contracts and code speak of.
 use resolved_sort::Counts;
 use resolved_sort::Run;
 use resolved_sort::SortId;
@@ -103,3 +104,15 @@ pub const MAX_SOURCES: usize = 256;
 pub const MAX_COMPONENTS: usize = 256;
 
 pub const SCRATCH_WORDS: usize = 4096;
+
+// The words of a row of constraints, of overloads and of base names, and of a row handed out for an expression and for
+// a choice.
+pub const CONSTRAINT_WORDS: usize = 5;
+
+pub const OVERLOAD_WORDS: usize = 3;
+
+pub const NAME_WORDS: usize = 3;
+
+pub const TYPING_WORDS: usize = 3;
+
+pub const CHOICE_WORDS: usize = 2;

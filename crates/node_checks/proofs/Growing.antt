@@ -6,12 +6,12 @@ use mathlib.Core.List.{List, [], _∷_, _++_}
 use mathlib.Core.Option.{Option, none, some}
 use Prim.Native.Nat.{ℕ, zero, suc, _+_, _-_, _<_, _≤_}
 use native.Mathlib.Omega.{arith}
-use lib.ListN.{length, getD, replicate, length-append}
+use lib.ListN.{length, getD, length-append}
 use Rattle.resolved_sort.specs.Storage.{maxSorts}
 use Rattle.unification.specs.Term.{Shape, variable, over}
 use Rattle.unification.specs.Nodes.{isSort, nodeAt, nodeShape, Binds}
 use Rattle.unification.specs.Acyclic.{placeSettled, allSettled, shapeSettled, nodesSettled, bindingSettled, varsSettled, rounds, all, acyclic}
-use Rattle.unification.proofs.Settles.{length-rounds}
+use Rattle.unification.proofs.Settles.{length-rounds, none-at-first}
 
 -- each flag of the first is one of the second
 abbrev More : List Bool → List Bool → Type 0
@@ -68,14 +68,9 @@ module _ (ns : List ℕ) (us vs : List Bool) (h : More us vs) where
       (shape-more (nodesSettled ns us m) (nodesSettled ns vs m) (nodes-more m) us vs h (nodeShape ns (nodeAt ns m)))
 
 module _ (ns : List ℕ) (m : ℕ) (B : Binds) where
-  no-flag : (n i : ℕ) → getD (replicate n false) i false ≡ false
-  no-flag zero i = refl
-  no-flag (suc n) zero = refl
-  no-flag (suc n) (suc i) = no-flag n i
-
   round-more : (k : ℕ) → More (rounds ns m B k) (rounds ns m B (suc k))
   unfolding rounds
-  round-more zero = λ i e. absurd (let z : _≡_ {A = Bool} false true = sym (no-flag (length B) i) ∙ e in let y : _≡_ {A = ℕ} 0 1 = cc in omega arith)
+  round-more zero = λ i e. absurd (let z : _≡_ {A = Bool} false true = sym (none-at-first (length B) i) ∙ e in let y : _≡_ {A = ℕ} 0 1 = cc in omega arith)
   round-more (suc k) = vars-more _ _ (nodes-more ns (rounds ns m B k) (rounds ns m B (suc k)) (round-more k) m) B
 
   -- flags all set, one by one

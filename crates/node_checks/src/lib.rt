@@ -1,9 +1,13 @@
-// Checks 1 and 5 to 7 of document 01 over lent nodes and bindings, and the first of 5 to 7 that fails. Check 7, no variable reaches itself: round by
-// round a variable is settled when it is free or when what it is bound to is settled, and a sort when all that stands in it is; as many rounds as there
-// are variables settle all that can be, and where all are settled before, no further round is made.
+// Checks 1 and 5 to 7 of document 01 over lent nodes and bindings, and the first of 5 to 7 that fails. Check 7, no
+// variable reaches itself: round by round a variable is settled when it is free or when what it is bound to is settled,
+// and a sort when all that stands in it is; as many rounds as there are variables settle all that can be, and where all
+// are settled before, no further round is made.
 use infer_nodes::node;
+use resolved_sort::FIRST_CONTAINER;
+use resolved_sort::FUNCTION_KIND;
 use resolved_sort::MAX_ARGUMENTS;
 use resolved_sort::MAX_SORTS;
+use resolved_sort::ROW_WORDS;
 use resolved_sort::Run;
 use resolved_sort::Tested;
 use unification::FIRST_NODE;
@@ -15,6 +19,7 @@ use unification::MAX_NODES;
 use unification::MAX_VARS;
 use unification::NODE_ENTRIES_AT;
 use unification::NodeId;
+use unification::VARIABLE_KIND;
 use words::word;
 ghost use mathlib.Core.Path.{_≡_};
 ghost use Prim.Native.Nat.{_+_, _<_, _≤_};
@@ -22,10 +27,13 @@ ghost use mathlib.Core.Bool.{false};
 ghost use lib.ListN.{length, getD, take};
 ghost use Rattle.resolved_sort.specs.Checks.{allBelow, firstFailing};
 ghost use Rattle.unification.specs.declared.InferSort.{InferSort};
-ghost use Rattle.unification.specs.Nodes.{maxNodes, isPlace, bindingOf, bindsOf, maxVars, nodeEntriesOf, nodeAt, nodeShape};
-ghost use Rattle.unification.specs.NodeChecks.{nodesWithinLent, bindingsWithinLent, nodePartsFine, nodeKindFine, nodeFine, nodesFine, bindingFine, bindingsFine, nodeChecks};
+ghost use Rattle.unification.specs.Nodes.{maxNodes, isPlace, bindingOf, bindsOf};
+ghost use Rattle.unification.specs.Nodes.{maxVars, nodeEntriesOf, nodeAt, nodeShape};
+ghost use Rattle.unification.specs.NodeChecks.{nodesWithinLent, bindingsWithinLent, nodePartsFine, nodeKindFine};
+ghost use Rattle.unification.specs.NodeChecks.{nodeFine, nodesFine, bindingFine, bindingsFine, nodeChecks};
 ghost use Rattle.node_checks.specs.Tests.{argPlaced};
-ghost use Rattle.unification.specs.Acyclic.{placeSettled, allSettled, shapeSettled, nodesSettled, bindingSettled, varsSettled, all, acyclic as acyclicOf};
+ghost use Rattle.unification.specs.Acyclic.{placeSettled, allSettled, shapeSettled, nodesSettled};
+ghost use Rattle.unification.specs.Acyclic.{bindingSettled, varsSettled, all, acyclic as acyclicOf};
 ghost use Rattle.resolved_sort.specs.Entries.{testedOf};
 
 // Check 1: m nodes and d entries are within the ceilings and within what was lent.
@@ -38,7 +46,7 @@ pub fn nodes_within_lent(nodes: &[u16], m: usize, d: usize) -> bool
     if MAX_NODE_ENTRIES < d {
         return false;
     }
-    if nodes.len() < 4 * m {
+    if nodes.len() < ROW_WORDS * m {
         return false;
     }
     if d == 0 {
@@ -90,16 +98,17 @@ fn arguments_placed(nodes: &[u16], n: usize, i: usize, start: u16, count: u16) -
 fn kind_fine(kind: u16) -> bool
     ensures { λ r. ⌜ r ≡ nodeKindFine kind ⌝ }
 {
-    if kind == 14 {
+    if kind == VARIABLE_KIND {
         return true;
     }
-    if kind < 6 {
+    if kind < FIRST_CONTAINER {
         return false;
     }
-    kind <= 11
+    kind <= FUNCTION_KIND
 }
 
-// Whether a function of node i has at most 16 arguments, a run inside the d entries, and parts that are places below node i.
+// Whether a function of node i has at most 16 arguments, a run inside the d entries, and parts that
+// are places below node i.
 fn function_fine(
     nodes: &[u16],
     d: usize,
@@ -137,7 +146,7 @@ fn parts_fine(nodes: &[u16], d: usize, n: usize, v: usize, i: usize, says: Infer
 }
 
 // Check 5: each of the m nodes is fine.
-pub fn nodes_fine(nodes: &[u16], m: usize, d: usize, n: usize, v: usize) -> bool
+fn nodes_fine(nodes: &[u16], m: usize, d: usize, n: usize, v: usize) -> bool
     requires { ⌜ m ≤ maxNodes ⌝ }
     ensures { λ r. ⌜ r ≡ nodesFine (now (nodes .entry)) m d n v ⌝ }
 {
@@ -156,14 +165,14 @@ fn node_fine(nodes: &[u16], d: usize, n: usize, v: usize, i: usize) -> bool
     requires { ⌜ i < maxNodes ⌝ }
     ensures { λ r. ⌜ r ≡ nodeFine (now (nodes .entry)) d n v i ⌝ }
 {
-    if !kind_fine(word(nodes, 4 * i)) {
+    if !kind_fine(word(nodes, ROW_WORDS * i)) {
         return false;
     }
     parts_fine(nodes, d, n, v, i, node(nodes, NodeId(i as u16)))
 }
 
 // Check 6: each of the v bindings is free or names a place.
-pub fn bindings_fine(binds: &[u16], v: usize, n: usize, m: usize) -> bool
+fn bindings_fine(binds: &[u16], v: usize, n: usize, m: usize) -> bool
     ensures { λ r. ⌜ r ≡ bindingsFine n m (bindsOf (now (binds .entry)) v) ⌝ }
 {
     let mut i: usize = 0;
@@ -291,7 +300,7 @@ fn all_set(flags: &[bool]) -> bool
 }
 
 // Check 7: no variable reaches itself.
-pub fn acyclic(nodes: &[u16], m: usize, binds: &[u16], v: usize) -> bool
+fn acyclic(nodes: &[u16], m: usize, binds: &[u16], v: usize) -> bool
     requires { ⌜ (m ≤ maxNodes) × (v ≤ maxVars) ⌝ }
     ensures { λ r. ⌜ r ≡ acyclicOf (now (nodes .entry)) m (bindsOf (now (binds .entry)) v) ⌝ }
 {

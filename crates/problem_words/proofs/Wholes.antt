@@ -3,9 +3,10 @@ use mathlib.Core.Path.{_≡_, ap, _∙_}
 use mathlib.Core.List.{List, [], _++_, append-nil}
 use Prim.Native.Nat.{ℕ, _+_, _≤_}
 use native.Mathlib.Omega.{arith}
-use lib.ListN.{length, take, drop, length-take, length-drop}
+use lib.ListN.{length, drop}
 use lib.Seq.{sets, sets-eq, drop-length, take-all}
 use Rattle.words.specs.Words.{part}
+use Rattle.words.proofs.Parts.{length-part}
 
 stored-whole : (vs old : List ℕ) → length vs ≡ length old → sets old 0 vs ≡ vs
 stored-whole vs old h =
@@ -14,7 +15,7 @@ stored-whole vs old h =
     ∙ (ap (λ r. vs ++ r) (drop-length old) ∙ append-nil vs))
 
 pub part-length : (a n : ℕ) (ws : List ℕ) → a + n ≤ length ws → length (part a n ws) ≡ n
-part-length a n ws h = simp (length-take, length-drop) (omega arith)
+part-length = length-part
 
 pub copied-out : (a n : ℕ) (ws old xs : List ℕ) → a + n ≤ length ws → length old ≡ n → xs ≡ sets old 0 (part a n ws) → xs ≡ part a n ws
 copied-out a n ws old xs h l e =

@@ -2,7 +2,8 @@
 use mathlib.Core.List.{List}
 use Prim.Native.Nat.{ℕ, _*_, _≤_}
 use lib.ListN.{length}
-use Rattle.inference.specs.Constraints.{maxExprs, maxConstraints, maxOverloads, maxSources, constraintAt, overloadAt, rowsFrom, Problem}
+use Rattle.inference.specs.Constraints.{maxExprs, maxConstraints, maxOverloads, maxSources}
+use Rattle.inference.specs.Constraints.{constraintWords, overloadWords, constraintAt, overloadAt, rowsFrom, Problem}
 use Rattle.inference.specs.SolveEntry.{wordsAt}
 use Rattle.search_state.specs.declared.Sizes.{Sizes}
 use Rattle.search_state.specs.Memory.{problemWords}
@@ -24,7 +25,7 @@ pub record Packable (ls xs cs os ss : List ℕ) (z : Sizes) : Type 0 where
   pub overloads : z .overloads ≤ maxOverloads
   pub sources : z .sources ≤ maxSources
   pub expr-words : z .exprs ≤ length xs
-  pub constraint-words : 5 * z .constraints ≤ length cs
-  pub overload-words : 3 * z .overloads ≤ length os
+  pub constraint-words : constraintWords * z .constraints ≤ length cs
+  pub overload-words : overloadWords * z .overloads ≤ length os
   pub source-words : z .sources ≤ length ss
   pub room : problemWords ≤ length ls

@@ -1,8 +1,11 @@
-// The lists of a problem in lent words: rows of constraints and of names read, and all lists packed into one slice from the caller's.
+// The lists of a problem in lent words: rows of constraints and of names read, and all lists packed
+// into one slice from the caller's.
+use inference::CONSTRAINT_WORDS;
 use inference::Constraint;
 use inference::ExprId;
 use inference::LitKind;
 use inference::NameTarget;
+use inference::OVERLOAD_WORDS;
 use resolved_sort::Run;
 use resolved_sort::SortId;
 use search_state::EXPRS_AT;
@@ -35,13 +38,19 @@ pub fn pack(
         (now (exprs .entry)) (now (constraints .entry)) (now (overloads .entry)) (now (sources .entry)) sizes
         ⌝ }
 {
-    copy(lists, 0, constraints, 0, 5 * (sizes.constraints as usize));
+    copy(
+        lists,
+        0,
+        constraints,
+        0,
+        CONSTRAINT_WORDS * (sizes.constraints as usize),
+    );
     copy(
         lists,
         OVERLOADS_AT,
         overloads,
         0,
-        3 * (sizes.overloads as usize),
+        OVERLOAD_WORDS * (sizes.overloads as usize),
     );
     copy(lists, SOURCES_AT, sources, 0, sizes.sources as usize);
     copy(lists, EXPRS_AT, exprs, 0, sizes.exprs as usize);
@@ -58,7 +67,7 @@ pub fn source_at(lists: &[u16], j: u16) -> InferSortId
 pub fn overload_place(lists: &[u16], i: u16) -> InferSortId
     ensures { λ r. ⌜ r .0 ≡ overloadAt (drop overloadsAt (now (lists .entry))) i .sort .0 ⌝ }
 {
-    InferSortId(word(lists, OVERLOADS_AT + (3 * (i as usize) + 2)))
+    InferSortId(word(lists, OVERLOADS_AT + (OVERLOAD_WORDS * (i as usize) + 2)))
 }
 
 // The kind of a literal. Every kind above 0 says natural: that it is 1 is check 9's to show.
@@ -118,7 +127,7 @@ fn constraint_of(kind: u16, a: u16, b: u16, c: u16, d: u16) -> Constraint
 pub fn constraint_at(constraints: &[u16], i: u16) -> Constraint
     ensures { λ r. ⌜ r ≡ constraintAt (now (constraints .entry)) i ⌝ }
 {
-    let row = 5 * (i as usize);
+    let row = CONSTRAINT_WORDS * (i as usize);
     let kind = word(constraints, row);
     let a = word(constraints, row + 1);
     let b = word(constraints, row + 2);

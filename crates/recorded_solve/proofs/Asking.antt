@@ -5,8 +5,8 @@ use Prim.Native.Nat.{ℕ}
 use lib.Seq.{sets}
 use Rattle.words.specs.Words.{part}
 use Rattle.recorded_solve.specs.declared.Counts.{Counts}
-use Rattle.solve_outputs.specs.Packed.{Packed}
-use Rattle.recorded_solve.specs.Outcome.{packed, solved}
+use Rattle.solve_outputs.specs.Packed.{Packed, packed}
+use Rattle.recorded_solve.specs.Outcome.{solved}
 use Rattle.recorded_solve.specs.Slices.{startOf, countsIn, callWith, callOf, keptIn, leftOf}
 use Rattle.recorded_solve.specs.Lines.{answered, askOf}
 
@@ -29,11 +29,11 @@ module _ (ws : List ℕ) (k : Counts) (ss ns bs xs ts ms cs : List ℕ) where
       k ≡ countsIn ws → ss ≡ part 0 8192 ws → ns ≡ part 8192 12288 ws → bs ≡ part 20480 512 ws → xs ≡ part 29952 4096 ws
       → ts ≡ part 27648 1536 ws → ms ≡ part 29184 256 ws → cs ≡ part 29440 512 ws
       → (ss′ ns′ bs′ xs′ ts′ ms′ cs′ : List ℕ) (r : ℕ)
-      → packed ss′ ns′ bs′ xs′ ts′ ms′ cs′ r ≡ solved (callWith ws k ss ns bs xs ts ms cs)
+      → packed r ss′ ns′ bs′ xs′ ts′ ms′ cs′ ≡ solved (callWith ws k ss ns bs xs ts ms cs)
       → (us : List ℕ) → us ≡ keptIn ws ss′ ns′ bs′ xs′ ts′ ms′ cs′ → answered us r ≡ askOf ws
   unfolding askOf startOf
   asked ek es en eb ex et em ec ss′ ns′ bs′ xs′ ts′ ms′ cs′ r e us u =
-      let p : packed ss′ ns′ bs′ xs′ ts′ ms′ cs′ r ≡ solved (callOf ws) =
+      let p : packed r ss′ ns′ bs′ xs′ ts′ ms′ cs′ ≡ solved (callOf ws) =
       e ∙ (λ i. solved (callWith ws (ek i) (es i) (en i) (eb i) (ex i) (et i) (em i) (ec i))) in
       let w : us ≡ leftOf ws (solved (callOf ws)) = u ∙ ap (leftOf ws) p in
       λ i. answered (w i) (p i .result)

@@ -3,24 +3,46 @@ use mathlib.Core.Path.{_≡_}
 use mathlib.Core.Bool.{Bool, true, false, cond}
 use mathlib.Core.List.{List}
 use Prim.Native.Nat.{ℕ, zero, suc, _+_, _*_, _-_, _≤_}
+use Prim.Native.Char.{code}
 use lib.Dec.{ltb, eqb}
 use lib.ListN.{length, getD, replicate}
+use Rattle.words.specs.Bits.{mostWord, bit8, bit24, bit40, bit52}
 use Rattle.replay.specs.declared.Fields.{Fields}
 use Rattle.replay.specs.declared.Verdict.{Verdict}
 use Rattle.replay.specs.declared.Verdict.the-variants.{Quiet, Agrees, Differs, LeavesOther, NotOfForm}
-use Rattle.replay.specs.Numbers.{fieldsOf}
-use Rattle.replay.specs.Lines.{Kept, storeFrom, verdictOf}
+use Rattle.replay.specs.Numbers.{maxFields, fieldsOf, numberIn}
+use Rattle.replay.specs.Lines.{maxWords, nearEnough, Kept, storeFrom, verdictOf}
 use Rattle.recorded_solve.specs.declared.Letter.{Letter}
 use Rattle.recorded_solve.specs.declared.Letter.the-variants.{List as NewList, Gives, Asks, Left, Other}
 use Rattle.recorded_solve.specs.declared.Part.{Part}
 use Rattle.recorded_solve.specs.declared.Expected.{Expected}
 use Rattle.recorded_solve.specs.declared.Expected.the-variants.{Is, Nothing}
 use Rattle.recorded_solve.specs.Outcome.{solved}
-use Rattle.recorded_solve.specs.Slices.{startOf, callOf, leftOf}
+use Rattle.recorded_solve.specs.Slices.{countsAt, startOf, callOf, leftOf}
 
--- L, S, Q, X
+-- how many counts a list has, the last slice, all words held, and the largest code and count of what is handed out that
+-- a packed answer has
+abbrev pub counts : ℕ
+counts = 11
+
+abbrev pub lastSlice : ℕ
+lastSlice = 11
+
+abbrev pub heldWords : ℕ
+heldWords = 34059
+
+abbrev pub mostCode : ℕ
+mostCode = 255
+
+abbrev pub mostHanded : ℕ
+mostHanded = 4095
+
 unfoldable pub letterOf : ℕ → Letter
-letterOf b = cond (eqb b 76) NewList (cond (eqb b 83) Gives (cond (eqb b 81) Asks (cond (eqb b 88) Left Other)))
+letterOf b =
+    cond (eqb b (code "L")) NewList
+    (cond (eqb b (code "S")) Gives
+    (cond (eqb b (code "Q")) Asks
+    (cond (eqb b (code "X")) Left Other)))
 
 abbrev pub noPart : Part
 noPart = record { start = 0; count = 0; good = false }
@@ -29,17 +51,17 @@ noPart = record { start = 0; count = 0; good = false }
 unfoldable pub partOf : Fields → Part
 partOf f =
     cond (ltb (f .count) 2) noPart
-    (cond (ltb 18 (f .count)) noPart
-    (cond (ltb 11 (getD (f .values) 0 0)) noPart
-    (cond (ltb 34048 (getD (f .values) 1 0)) noPart
-    (cond (ltb (startOf (getD (f .values) 0 0 + 1)) (startOf (getD (f .values) 0 0) + getD (f .values) 1 0 + (f .count - 2))) noPart
-    (record { start = startOf (getD (f .values) 0 0) + getD (f .values) 1 0; count = f .count - 2; good = true })))))
+    (cond (ltb maxFields (f .count)) noPart
+    (cond (ltb lastSlice (numberIn f 0)) noPart
+    (cond (ltb countsAt (numberIn f 1)) noPart
+    (cond (ltb (startOf (numberIn f 0 + 1)) (startOf (numberIn f 0) + numberIn f 1 + (f .count - 2))) noPart
+    (record { start = startOf (numberIn f 0) + numberIn f 1; count = f .count - 2; good = true })))))
 
 -- the words of a line, few and near enough for sums not to wrap
 pub record Standing (f : Fields) (r : Part) : Type 0 where
   pub told : r ≡ partOf f
-  pub near : r .start ≤ 1048576
-  pub few : r .count ≤ 16
+  pub near : r .start ≤ nearEnough
+  pub few : r .count ≤ maxWords
 
 -- words, and what came of a line
 pub record Said : Type 0 where
@@ -56,16 +78,18 @@ abbrev pub saidOf : Kept → Said
 saidOf k = said (k .words) (quietIf (k .all))
 
 unfoldable pub noWords : List ℕ
-noWords = replicate 34059 0
+noWords = replicate heldWords 0
 
 -- a new list: all words are zero but its counts
 unfoldable pub beginOf : List ℕ → Fields → Said
-beginOf ws f = cond (eqb (f .count) 11) (saidOf (storeFrom 11 noWords 34048 (f .values) 0)) (said ws NotOfForm)
+beginOf ws f =
+    cond (eqb (f .count) counts) (saidOf (storeFrom counts noWords countsAt (f .values) 0)) (said ws NotOfForm)
 
 -- words given
 unfoldable pub storeOf : List ℕ → Fields → Said
 storeOf ws f =
-    cond ((partOf f) .good) (saidOf (storeFrom ((partOf f) .count) ws ((partOf f) .start) (f .values) 2)) (said ws NotOfForm)
+    cond ((partOf f) .good) (saidOf (storeFrom ((partOf f) .count) ws ((partOf f) .start) (f .values) 2))
+    (said ws NotOfForm)
 
 -- m words compared with the numbers from the i-th on: all agree, or the first that is another
 unfoldable pub comparedFrom : ℕ → List ℕ → ℕ → List ℕ → ℕ → Verdict
@@ -75,17 +99,18 @@ comparedFrom (suc m) ws at values i =
 
 -- words that were left
 unfoldable pub compareOf : List ℕ → Fields → Verdict
-compareOf ws f = cond ((partOf f) .good) (comparedFrom ((partOf f) .count) ws ((partOf f) .start) (f .values) 2) NotOfForm
+compareOf ws f =
+    cond ((partOf f) .good) (comparedFrom ((partOf f) .count) ws ((partOf f) .start) (f .values) 2) NotOfForm
 
 -- The packed answer of a line: its code, and the numbers of sorts, entries, components and choices.
 unfoldable pub recordedOf : List ℕ → Expected
 recordedOf vs =
-    cond (ltb 255 (getD vs 0 0)) Nothing
-    (cond (ltb 65535 (getD vs 1 0)) Nothing
-    (cond (ltb 65535 (getD vs 2 0)) Nothing
-    (cond (ltb 4095 (getD vs 3 0)) Nothing
-    (cond (ltb 4095 (getD vs 4 0)) Nothing
-    (Is (getD vs 0 0 + 256 * getD vs 1 0 + 16777216 * getD vs 2 0 + 1099511627776 * getD vs 3 0 + 4503599627370496 * getD vs 4 0))))))
+    cond (ltb mostCode (getD vs 0 0)) Nothing
+    (cond (ltb mostWord (getD vs 1 0)) Nothing
+    (cond (ltb mostWord (getD vs 2 0)) Nothing
+    (cond (ltb mostHanded (getD vs 3 0)) Nothing
+    (cond (ltb mostHanded (getD vs 4 0)) Nothing
+    (Is (getD vs 0 0 + bit8 * getD vs 1 0 + bit24 * getD vs 2 0 + bit40 * getD vs 3 0 + bit52 * getD vs 4 0))))))
 
 -- the words left by a question, and its packed answer
 pub record Answered : Type 0 where
@@ -136,5 +161,5 @@ byLetter Other ws us f = after ws us NotOfForm
 unfoldable pub lineOf : List ℕ → List ℕ → List ℕ → After
 lineOf ws us line =
     cond (eqb (length line) 0) (after ws us NotOfForm)
-    (cond (eqb (getD line 0 0) 35) (after ws us Quiet)
+    (cond (eqb (getD line 0 0) (code "#")) (after ws us Quiet)
     (cond ((fieldsOf line) .good) (byLetter (letterOf (getD line 0 0)) ws us (fieldsOf line)) (after ws us NotOfForm)))

@@ -8,11 +8,48 @@ use Rattle.words.specs.Words.{part}
 use Rattle.recorded_solve.specs.declared.Counts.{Counts}
 use Rattle.solve_outputs.specs.Packed.{Packed}
 
--- Where each slice starts: sorts, nodes, bindings, places of expressions, base names, constraints, overloads, sources, typing, measure, choices,
--- scratch; and where the counts start.
+-- Where each slice starts: sorts, nodes, bindings, places of expressions, base names, constraints, overloads, sources,
+-- typing, measure, choices, scratch; and where the counts start.
+abbrev pub nodesAt : ℕ
+nodesAt = 8192
+
+abbrev pub bindsAt : ℕ
+bindsAt = 20480
+
+abbrev pub exprsAt : ℕ
+exprsAt = 20992
+
+abbrev pub namesAt : ℕ
+namesAt = 21504
+
+abbrev pub constraintsAt : ℕ
+constraintsAt = 23040
+
+abbrev pub overloadsAt : ℕ
+overloadsAt = 24320
+
+abbrev pub sourcesAt : ℕ
+sourcesAt = 27392
+
+abbrev pub typingAt : ℕ
+typingAt = 27648
+
+abbrev pub measureAt : ℕ
+measureAt = 29184
+
+abbrev pub choicesAt : ℕ
+choicesAt = 29440
+
+abbrev pub scratchAt : ℕ
+scratchAt = 29952
+
+abbrev pub countsAt : ℕ
+countsAt = 34048
+
 abbrev pub starts : List ℕ
 starts =
-    0 ∷ 8192 ∷ 20480 ∷ 20992 ∷ 21504 ∷ 23040 ∷ 24320 ∷ 27392 ∷ 27648 ∷ 29184 ∷ 29440 ∷ 29952 ∷ 34048 ∷ []
+    0 ∷ nodesAt ∷ bindsAt ∷ exprsAt ∷ namesAt ∷ constraintsAt ∷ overloadsAt ∷ sourcesAt ∷ typingAt ∷ measureAt
+    ∷ choicesAt ∷ scratchAt ∷ countsAt ∷ []
 
 unfoldable pub startOf : ℕ → ℕ
 startOf k = getD starts k 0
@@ -21,7 +58,7 @@ abbrev pub sliceOf : ℕ → List ℕ → List ℕ
 sliceOf k ws = part (startOf k) (startOf (k + 1) - startOf k) ws
 
 abbrev pub countAt : List ℕ → ℕ → ℕ
-countAt ws i = getD ws (34048 + i) 0
+countAt ws i = getD ws (countsAt + i) 0
 
 abbrev pub countsIn : List ℕ → Counts
 countsIn ws =
@@ -76,12 +113,14 @@ callWith ws k ss ns bs xs ts ms cs =
 
 abbrev pub callOf : List ℕ → Call
 callOf ws =
-    callWith ws (countsIn ws) (sliceOf 0 ws) (sliceOf 1 ws) (sliceOf 2 ws) (sliceOf 11 ws) (sliceOf 8 ws) (sliceOf 9 ws) (sliceOf 10 ws)
+    callWith ws (countsIn ws) (sliceOf 0 ws) (sliceOf 1 ws) (sliceOf 2 ws) (sliceOf 11 ws) (sliceOf 8 ws)
+    (sliceOf 9 ws) (sliceOf 10 ws)
 
 -- words held, with other slices in the places of those that a call may change
 abbrev pub keptIn : List ℕ → (sorts nodes binds scratch typing measure choices : List ℕ) → List ℕ
 keptIn ws ss ns bs xs ts ms cs =
-    sets (sets (sets (sets (sets (sets (sets ws 0 ss) 8192 ns) 20480 bs) 29952 xs) 27648 ts) 29184 ms) 29440 cs
+    sets (sets (sets (sets (sets (sets (sets ws 0 ss) nodesAt ns) bindsAt bs) scratchAt xs) typingAt ts)
+    measureAt ms) choicesAt cs
 
 abbrev pub leftOf : List ℕ → Packed → List ℕ
 leftOf ws p = keptIn ws (p .sorts) (p .nodes) (p .binds) (p .scratch) (p .typing) (p .measure) (p .choices)

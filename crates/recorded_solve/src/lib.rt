@@ -1,28 +1,91 @@
 // Recorded answers of the solver, asked again of its entry. A line is a letter and numbers, each after one space:
-// `L ..` begins a list, with how many sorts, argument entries, nodes, argument entries of nodes, variables, expressions, base
-// names, constraints, overloads and sources it has, and its default sort; all words given before become zero.
+// `L ..` begins a list, with how many sorts, argument entries, nodes, argument entries of nodes,
+// variables, expressions, base names, constraints, overloads and sources it has, and its default
+// sort; all words given before become zero.
 // `S k at w ..` gives words of the slice k, from its word `at` on, at most 16.
 // `Q code sorts entries components choices` asks the solver about the words given; the numbers are its answer.
 // `X k at w ..` are words of the slice k, from its word `at` on, as the last question left them, at most 16.
 // A line `Q` or `X` that agrees is a checked answer.
 // A line that starts with `#` says nothing.
 //
-// The slices: 0 sorts, 1 nodes, 2 bindings, 3 places of expressions, 4 base names, 5 constraints, 6 overloads, 7 sources, 8 typing,
-// 9 measure, 10 choices, 11 scratch. They stand one after another in 34,048 words, each as long as its ceiling (base names, which
-// have none, have 1,536 words), and after them the eleven numbers of the line `L`.
+// The slices: 0 sorts, 1 nodes, 2 bindings, 3 places of expressions, 4 base names, 5 constraints, 6 overloads, 7
+// sources, 8 typing, 9 measure, 10 choices, 11 scratch. They stand one after another, each as long as
+// its ceiling, and after them the eleven numbers of the line `L`.
+use inference::MAX_COMPONENTS;
+use inference::SCRATCH_WORDS;
 use replay::Fields;
+use replay::MAX_FIELDS;
 use replay::Verdict;
 use replay::fields_of;
 use replay::store;
+use resolved_sort::SORT_WORDS;
 use solve_entries::sort_solve;
+use unification::MAX_VARS;
+use unification::NODE_WORDS;
+use words::BIT_8;
+use words::BIT_24;
+use words::BIT_40;
+use words::BIT_52;
+use words::MOST_WORD;
 use words::copy;
 use words::word;
 ghost use mathlib.Core.Path.{_≡_};
 ghost use Prim.Native.Nat.{_≤_};
 ghost use lib.ListN.{length};
-ghost use Rattle.recorded_solve.specs.Slices.{startOf, countAt, countsIn, callWith, keptIn};
-ghost use Rattle.recorded_solve.specs.Outcome.{packed, solved};
-ghost use Rattle.recorded_solve.specs.Lines.{letterOf, noPart, Standing, comparedFrom, recordedOf, said, answered, askOf, beginOf, storeOf, compareOf, answerOf, after, lineOf};
+ghost use Rattle.replay.specs.Lines.{maxWords, nearEnough};
+ghost use Rattle.recorded_solve.specs.Slices.{countsAt, startOf, countAt, countsIn, callWith, keptIn};
+ghost use Rattle.solve_outputs.specs.Packed.{packed};
+ghost use Rattle.recorded_solve.specs.Outcome.{solved};
+ghost use Rattle.recorded_solve.specs.Lines.{letterOf, noPart, Standing, comparedFrom, recordedOf};
+ghost use Rattle.recorded_solve.specs.Lines.{said, answered, askOf, beginOf, storeOf};
+ghost use Rattle.recorded_solve.specs.Lines.{compareOf, answerOf, after, lineOf};
+
+// Where the slices stand in the words held, after the sorts, each at its ceiling (base names, which have none, have as
+// many rows as there are expressions); and after the scratch the counts, the last of which is the default sort.
+const NODES_AT: usize = 8192;
+
+const BINDS_AT: usize = 20480;
+
+const EXPRS_AT: usize = 20992;
+
+const NAMES_AT: usize = 21504;
+
+const CONSTRAINTS_AT: usize = 23040;
+
+const OVERLOADS_AT: usize = 24320;
+
+const SOURCES_AT: usize = 27392;
+
+const TYPING_AT: usize = 27648;
+
+const MEASURE_AT: usize = 29184;
+
+const CHOICES_AT: usize = 29440;
+
+const SCRATCH_AT: usize = 29952;
+
+const COUNTS_AT: usize = 34048;
+
+const DEFAULT_AT: usize = 34058;
+
+pub const HELD_WORDS: usize = 34059;
+
+// The words for the typing and for the choices.
+const TYPING_ROOM: usize = 1536;
+
+const CHOICES_ROOM: usize = 512;
+
+// The numbers of a line: how many counts a list has, the last slice, how far into the slices a word can be, and the
+// largest code and count of what is handed out that a packed answer has.
+const COUNTS: usize = 11;
+
+const LAST_SLICE: u64 = 11;
+
+const SLICE_WORDS: u64 = 34048;
+
+const MOST_CODE: u64 = 255;
+
+const MOST_HANDED: u64 = 4095;
 
 // What a line says by its letter.
 pub enum Letter {
@@ -33,7 +96,8 @@ pub enum Letter {
     Other,
 }
 
-// Where the words of a line stand among those of all slices, and how many they are; good where they are inside their slice.
+// Where the words of a line stand among those of all slices, and how many they are; good where they
+// are inside their slice.
 pub struct Part {
     pub start: usize,
     pub count: usize,
@@ -66,10 +130,10 @@ fn letter_of(letter: u8) -> Letter
     ensures { λ r. ⌜ r ≡ letterOf letter ⌝ }
 {
     match letter {
-        76 => Letter::List,
-        83 => Letter::Gives,
-        81 => Letter::Asks,
-        88 => Letter::Left,
+        b'L' => Letter::List,
+        b'S' => Letter::Gives,
+        b'Q' => Letter::Asks,
+        b'X' => Letter::Left,
         _ => Letter::Other,
     }
 }
@@ -77,22 +141,22 @@ fn letter_of(letter: u8) -> Letter
 // The word at which a slice starts, and past the last one the first count.
 fn start_of(slice: usize) -> usize
     requires { ⌜ slice ≤ 12 ⌝ }
-    ensures { λ r. ⌜ (r ≡ startOf slice) × (r ≤ 34048) ⌝ }
+    ensures { λ r. ⌜ (r ≡ startOf slice) × (r ≤ countsAt) ⌝ }
 {
     let starts = [
         0usize,
-        8192,
-        20480,
-        20992,
-        21504,
-        23040,
-        24320,
-        27392,
-        27648,
-        29184,
-        29440,
-        29952,
-        34048,
+        NODES_AT,
+        BINDS_AT,
+        EXPRS_AT,
+        NAMES_AT,
+        CONSTRAINTS_AT,
+        OVERLOADS_AT,
+        SOURCES_AT,
+        TYPING_AT,
+        MEASURE_AT,
+        CHOICES_AT,
+        SCRATCH_AT,
+        COUNTS_AT,
     ];
     starts[slice]
 }
@@ -116,15 +180,15 @@ fn part_of(fields: Fields) -> Part
     if count < 2 {
         return no_part();
     }
-    if 18 < count {
+    if MAX_FIELDS < count {
         return no_part();
     }
     let slice = values[0];
-    if 11 < slice {
+    if LAST_SLICE < slice {
         return no_part();
     }
     let at = values[1];
-    if 34048 < at {
+    if SLICE_WORDS < at {
         return no_part();
     }
     let start = start_of(slice as usize) + (at as usize);
@@ -139,22 +203,22 @@ fn part_of(fields: Fields) -> Part
 }
 
 // A new list: all words are zero but its counts.
-fn begin(given: &mut [u16; 34059], fields: Fields) -> Verdict
+fn begin(given: &mut [u16; HELD_WORDS], fields: Fields) -> Verdict
     ensures { λ r. ⌜ said (now (given .exit)) r ≡ beginOf (now (given .entry)) fields ⌝ }
 {
     let values = fields.values;
-    if fields.count != 11 {
+    if fields.count != COUNTS {
         return Verdict::NotOfForm;
     }
-    *given = [0u16; 34059];
-    if store(given, 34048, values, 0, 11) {
+    *given = [0u16; HELD_WORDS];
+    if store(given, COUNTS_AT, values, 0, COUNTS) {
         return Verdict::Quiet;
     }
     Verdict::NotOfForm
 }
 
 // Words of the list.
-fn give(given: &mut [u16; 34059], fields: Fields) -> Verdict
+fn give(given: &mut [u16; HELD_WORDS], fields: Fields) -> Verdict
     ensures { λ r. ⌜ said (now (given .exit)) r ≡ storeOf (now (given .entry)) fields ⌝ }
 {
     let values = fields.values;
@@ -168,10 +232,10 @@ fn give(given: &mut [u16; 34059], fields: Fields) -> Verdict
     Verdict::NotOfForm
 }
 
-// So many words, from a word on, compared with the numbers of a line after its first two: all agree, or the first that is
-// another.
-fn compare(left: &[u16], start: usize, values: [u64; 18], count: usize) -> Verdict
-    requires { ⌜ (start ≤ 1048576) × (count ≤ 16) ⌝ }
+// So many words, from a word on, compared with the numbers of a line after its first two: all
+// agree, or the first that is another.
+fn compare(left: &[u16], start: usize, values: [u64; MAX_FIELDS], count: usize) -> Verdict
+    requires { ⌜ (start ≤ nearEnough) × (count ≤ maxWords) ⌝ }
     ensures { λ r. ⌜ r ≡ comparedFrom count (now (left .entry)) start values 2 ⌝ }
 {
     let mut i: usize = 0;
@@ -186,7 +250,7 @@ fn compare(left: &[u16], start: usize, values: [u64; 18], count: usize) -> Verdi
 }
 
 // Words that the last question left.
-fn compare_left(left: &[u16; 34059], fields: Fields) -> Verdict
+fn compare_left(left: &[u16; HELD_WORDS], fields: Fields) -> Verdict
     ensures { λ r. ⌜ r ≡ compareOf (now (left .entry)) fields ⌝ }
 {
     let values = fields.values;
@@ -198,36 +262,30 @@ fn compare_left(left: &[u16; 34059], fields: Fields) -> Verdict
 }
 
 // The packed answer of a line: its code, and the numbers of sorts, entries, components and choices.
-fn recorded(values: [u64; 18]) -> Expected
+fn recorded(values: [u64; MAX_FIELDS]) -> Expected
     ensures { λ r. ⌜ r ≡ recordedOf values ⌝ }
 {
     let code = values[0];
-    if 255 < code {
+    if MOST_CODE < code {
         return Expected::Nothing;
     }
     let sorts = values[1];
-    if 65535 < sorts {
+    if MOST_WORD < sorts {
         return Expected::Nothing;
     }
     let entries = values[2];
-    if 65535 < entries {
+    if MOST_WORD < entries {
         return Expected::Nothing;
     }
     let components = values[3];
-    if 4095 < components {
+    if MOST_HANDED < components {
         return Expected::Nothing;
     }
     let choices = values[4];
-    if 4095 < choices {
+    if MOST_HANDED < choices {
         return Expected::Nothing;
     }
-    Expected::Is(
-        code
-            + 256 * sorts
-            + 16777216 * entries
-            + 1099511627776 * components
-            + 4503599627370496 * choices,
-    )
+    Expected::Is(code + BIT_8 * sorts + BIT_24 * entries + BIT_40 * components + BIT_52 * choices)
 }
 
 // A count of the list.
@@ -235,7 +293,7 @@ fn count_at(given: &[u16], i: usize) -> usize
     requires { ⌜ i ≤ 9 ⌝ }
     ensures { λ r. ⌜ r ≡ countAt (now (given .entry)) i ⌝ }
 {
-    word(given, 34048 + i) as usize
+    word(given, COUNTS_AT + i) as usize
 }
 
 // The counts of the list, and its default sort.
@@ -253,7 +311,7 @@ fn counts_of(given: &[u16]) -> Counts
         constraints: count_at(given, 7),
         overloads: count_at(given, 8),
         sources: count_at(given, 9),
-        default: word(given, 34058),
+        default: word(given, DEFAULT_AT),
     }
 }
 
@@ -269,8 +327,14 @@ fn call(
     measure: &mut [u16],
     choices: &mut [u16],
 ) -> u64
-    requires { ⌜ 34048 ≤ length (now given) ⌝ }
-    ensures { λ r. ⌜ packed (now (sorts .exit)) (now (nodes .exit)) (now (binds .exit)) (now (scratch .exit)) (now (typing .exit)) (now (measure .exit)) (now (choices .exit)) r ≡ solved (callWith (now (given .entry)) counts (now (sorts .entry)) (now (nodes .entry)) (now (binds .entry)) (now (scratch .entry)) (now (typing .entry)) (now (measure .entry)) (now (choices .entry))) ⌝ }
+    requires { ⌜ countsAt ≤ length (now given) ⌝ }
+    ensures { λ r. ⌜
+        packed r (now (sorts .exit)) (now (nodes .exit)) (now (binds .exit)) (now (scratch .exit))
+        (now (typing .exit)) (now (measure .exit)) (now (choices .exit))
+        ≡ solved (callWith (now (given .entry)) counts (now (sorts .entry)) (now (nodes .entry))
+        (now (binds .entry)) (now (scratch .entry)) (now (typing .entry)) (now (measure .entry))
+        (now (choices .entry)))
+        ⌝ }
 {
     sort_solve(
         sorts,
@@ -281,15 +345,15 @@ fn call(
         counts.arguments,
         binds,
         counts.variables,
-        &given[20992..21504],
+        &given[EXPRS_AT..NAMES_AT],
         counts.exprs,
-        &given[21504..23040],
+        &given[NAMES_AT..CONSTRAINTS_AT],
         counts.names,
-        &given[23040..24320],
+        &given[CONSTRAINTS_AT..OVERLOADS_AT],
         counts.constraints,
-        &given[24320..27392],
+        &given[OVERLOADS_AT..SOURCES_AT],
         counts.overloads,
-        &given[27392..27648],
+        &given[SOURCES_AT..TYPING_AT],
         counts.sources,
         counts.default,
         scratch,
@@ -301,44 +365,48 @@ fn call(
 
 // The slices that a question may change, kept in their places among the words left.
 fn keep(
-    left: &mut [u16; 34059],
-    sorts: &[u16; 8192],
-    nodes: &[u16; 12288],
-    binds: &[u16; 512],
-    scratch: &[u16; 4096],
-    typing: &[u16; 1536],
-    measure: &[u16; 256],
-    choices: &[u16; 512],
+    left: &mut [u16; HELD_WORDS],
+    sorts: &[u16; SORT_WORDS],
+    nodes: &[u16; NODE_WORDS],
+    binds: &[u16; MAX_VARS],
+    scratch: &[u16; SCRATCH_WORDS],
+    typing: &[u16; TYPING_ROOM],
+    measure: &[u16; MAX_COMPONENTS],
+    choices: &[u16; CHOICES_ROOM],
 )
-    ensures { λ _. ⌜ now (left .exit) ≡ keptIn (now (left .entry)) (now (sorts .entry)) (now (nodes .entry)) (now (binds .entry)) (now (scratch .entry)) (now (typing .entry)) (now (measure .entry)) (now (choices .entry)) ⌝ }
+    ensures { λ _. ⌜
+        now (left .exit)
+        ≡ keptIn (now (left .entry)) (now (sorts .entry)) (now (nodes .entry)) (now (binds .entry))
+        (now (scratch .entry)) (now (typing .entry)) (now (measure .entry)) (now (choices .entry))
+        ⌝ }
 {
-    copy(left, 0, sorts, 0, 8192);
-    copy(left, 8192, nodes, 0, 12288);
-    copy(left, 20480, binds, 0, 512);
-    copy(left, 29952, scratch, 0, 4096);
-    copy(left, 27648, typing, 0, 1536);
-    copy(left, 29184, measure, 0, 256);
-    copy(left, 29440, choices, 0, 512);
+    copy(left, 0, sorts, 0, SORT_WORDS);
+    copy(left, NODES_AT, nodes, 0, NODE_WORDS);
+    copy(left, BINDS_AT, binds, 0, MAX_VARS);
+    copy(left, SCRATCH_AT, scratch, 0, SCRATCH_WORDS);
+    copy(left, TYPING_AT, typing, 0, TYPING_ROOM);
+    copy(left, MEASURE_AT, measure, 0, MAX_COMPONENTS);
+    copy(left, CHOICES_AT, choices, 0, CHOICES_ROOM);
 }
 
 // What the solver answers about the list. It works on slices of its own, and what it leaves is kept.
-fn ask(given: &[u16; 34059], left: &mut [u16; 34059]) -> u64
+fn ask(given: &[u16; HELD_WORDS], left: &mut [u16; HELD_WORDS]) -> u64
     ensures { λ r. ⌜ answered (now (left .exit)) r ≡ askOf (now (given .entry)) ⌝ }
 {
-    let mut sorts = [0u16; 8192];
-    let mut nodes = [0u16; 12288];
-    let mut binds = [0u16; 512];
-    let mut scratch = [0u16; 4096];
-    let mut typing = [0u16; 1536];
-    let mut measure = [0u16; 256];
-    let mut choices = [0u16; 512];
-    copy(&mut sorts, 0, given, 0, 8192);
-    copy(&mut nodes, 0, given, 8192, 12288);
-    copy(&mut binds, 0, given, 20480, 512);
-    copy(&mut scratch, 0, given, 29952, 4096);
-    copy(&mut typing, 0, given, 27648, 1536);
-    copy(&mut measure, 0, given, 29184, 256);
-    copy(&mut choices, 0, given, 29440, 512);
+    let mut sorts = [0u16; SORT_WORDS];
+    let mut nodes = [0u16; NODE_WORDS];
+    let mut binds = [0u16; MAX_VARS];
+    let mut scratch = [0u16; SCRATCH_WORDS];
+    let mut typing = [0u16; TYPING_ROOM];
+    let mut measure = [0u16; MAX_COMPONENTS];
+    let mut choices = [0u16; CHOICES_ROOM];
+    copy(&mut sorts, 0, given, 0, SORT_WORDS);
+    copy(&mut nodes, 0, given, NODES_AT, NODE_WORDS);
+    copy(&mut binds, 0, given, BINDS_AT, MAX_VARS);
+    copy(&mut scratch, 0, given, SCRATCH_AT, SCRATCH_WORDS);
+    copy(&mut typing, 0, given, TYPING_AT, TYPING_ROOM);
+    copy(&mut measure, 0, given, MEASURE_AT, MAX_COMPONENTS);
+    copy(&mut choices, 0, given, CHOICES_AT, CHOICES_ROOM);
     let answer = call(
         given,
         counts_of(given),
@@ -365,7 +433,7 @@ fn ask(given: &[u16; 34059], left: &mut [u16; 34059]) -> u64
 }
 
 // A question about the list, compared with the recorded answer.
-fn answer(given: &[u16; 34059], left: &mut [u16; 34059], fields: Fields) -> Verdict
+fn answer(given: &[u16; HELD_WORDS], left: &mut [u16; HELD_WORDS], fields: Fields) -> Verdict
     ensures { λ r. ⌜ said (now (left .exit)) r ≡ answerOf (now (given .entry)) (now (left .entry)) fields ⌝ }
 {
     let values = fields.values;
@@ -383,14 +451,21 @@ fn answer(given: &[u16; 34059], left: &mut [u16; 34059], fields: Fields) -> Verd
 }
 
 // A line of the recorded answers: what it makes of the words given and of those left, and what came of it.
-pub fn replay_line(given: &mut [u16; 34059], left: &mut [u16; 34059], line: &[u8]) -> Verdict
-    ensures { λ r. ⌜ after (now (given .exit)) (now (left .exit)) r ≡ lineOf (now (given .entry)) (now (left .entry)) (now (line .entry)) ⌝ }
+pub fn replay_line(
+    given: &mut [u16; HELD_WORDS],
+    left: &mut [u16; HELD_WORDS],
+    line: &[u8],
+) -> Verdict
+    ensures { λ r. ⌜
+        after (now (given .exit)) (now (left .exit)) r
+        ≡ lineOf (now (given .entry)) (now (left .entry)) (now (line .entry))
+        ⌝ }
 {
     if line.len() == 0 {
         return Verdict::NotOfForm;
     }
     let letter = line[0];
-    if letter == 35 {
+    if letter == b'#' {
         return Verdict::Quiet;
     }
     let read = fields_of(line);

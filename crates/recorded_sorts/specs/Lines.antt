@@ -2,33 +2,36 @@
 use mathlib.Core.Bool.{Bool, true, false, cond}
 use mathlib.Core.List.{List}
 use Prim.Native.Nat.{ℕ, _+_, _*_}
+use Prim.Native.Char.{code}
 use lib.Dec.{ltb, leb, eqb}
 use lib.ListN.{length, getD}
+use Rattle.words.specs.Bits.{mostWord}
+use Rattle.resolved_sort.specs.Storage.{maxSorts, maxEntries, rowWords, entriesAt}
 use Rattle.resolved_sort.specs.Entries.{compared, measured, materialized, bounded}
 use Rattle.sort_entries.specs.Packed.{packCompared, packMeasured, packMaterialized, packBounded}
 use Rattle.replay.specs.declared.Fields.{Fields}
 use Rattle.recorded_sorts.specs.declared.Question.{Question}
-use Rattle.recorded_sorts.specs.declared.Question.the-variants.{PartialCmp, WideningDistance, IsMaterializable, Join, Meet}
+use Rattle.recorded_sorts.specs.declared.Question.the-variants.{PartialCmp, WideningDistance, IsMaterializable}
+use Rattle.recorded_sorts.specs.declared.Question.the-variants.{Join, Meet}
 use Rattle.recorded_sorts.specs.declared.Letter.{Letter}
 use Rattle.recorded_sorts.specs.declared.Letter.the-variants.{List as NewList, Row, Arguments, Asks, Other}
 use Rattle.recorded_sorts.specs.declared.Place.{Place}
 use Rattle.replay.specs.declared.Verdict.{Verdict}
 use Rattle.replay.specs.declared.Verdict.the-variants.{Quiet, NotOfForm}
 use Rattle.recorded_sorts.specs.declared.Step.{Step}
-use Rattle.replay.specs.Numbers.{fieldsOf}
-use Rattle.replay.specs.Lines.{Kept, storeFrom, verdictOf}
+use Rattle.replay.specs.Numbers.{fieldsOf, numberIn}
+use Rattle.replay.specs.Lines.{maxWords, Kept, storeFrom, verdictOf}
 
--- L, r, a, c, d, m, j, k
 unfoldable pub letterOf : ℕ → Letter
 letterOf b =
-    cond (eqb b 76) NewList
-    (cond (eqb b 114) Row
-    (cond (eqb b 97) Arguments
-    (cond (eqb b 99) (Asks PartialCmp)
-    (cond (eqb b 100) (Asks WideningDistance)
-    (cond (eqb b 109) (Asks IsMaterializable)
-    (cond (eqb b 106) (Asks Join)
-    (cond (eqb b 107) (Asks Meet) Other)))))))
+    cond (eqb b (code "L")) NewList
+    (cond (eqb b (code "r")) Row
+    (cond (eqb b (code "a")) Arguments
+    (cond (eqb b (code "c")) (Asks PartialCmp)
+    (cond (eqb b (code "d")) (Asks WideningDistance)
+    (cond (eqb b (code "m")) (Asks IsMaterializable)
+    (cond (eqb b (code "j")) (Asks Join)
+    (cond (eqb b (code "k")) (Asks Meet) Other)))))))
 
 -- all rows and entries of the list were read
 unfoldable pub complete : Place → Bool
@@ -57,16 +60,17 @@ keptStep p next k = stepped (k .words) (cond (k .all) (step next Quiet) (notOfFo
 -- the next words of a list
 unfoldable pub keepOf : List ℕ → ℕ → Fields → Place → Place → Stepped
 keepOf ws base f p next =
-    cond (ltb 16 (f .count)) (stepped ws (notOfForm p)) (keptStep p next (storeFrom (f .count) ws base (f .values) 0))
+    cond (ltb maxWords (f .count)) (stepped ws (notOfForm p))
+    (keptStep p next (storeFrom (f .count) ws base (f .values) 0))
 
 -- a new list: at most 1,024 sorts and 4,096 entries
 unfoldable pub beginOf : Fields → Place → Step
 beginOf f p =
     cond (eqb (f .count) 2)
     (cond (complete p)
-    (cond (ltb 1024 (getD (f .values) 0 0)) (notOfForm p)
-    (cond (ltb 4096 (getD (f .values) 1 0)) (notOfForm p)
-    (step (record { sorts = getD (f .values) 0 0; entries = getD (f .values) 1 0; rows = 0; filled = 0 }) Quiet)))
+    (cond (ltb maxSorts (numberIn f 0)) (notOfForm p)
+    (cond (ltb maxEntries (numberIn f 1)) (notOfForm p)
+    (step (record { sorts = numberIn f 0; entries = numberIn f 1; rows = 0; filled = 0 }) Quiet)))
     (notOfForm p))
     (notOfForm p)
 
@@ -75,15 +79,17 @@ unfoldable pub rowOf : List ℕ → Fields → Place → Stepped
 rowOf ws f p =
     cond (eqb (f .count) 4)
     (cond (leb (p .sorts) (p .rows)) (stepped ws (notOfForm p))
-    (keepOf ws (4 * p .rows) f p (record { sorts = p .sorts; entries = p .entries; rows = p .rows + 1; filled = p .filled })))
+    (keepOf ws (rowWords * p .rows) f p
+    (record { sorts = p .sorts; entries = p .entries; rows = p .rows + 1; filled = p .filled })))
     (stepped ws (notOfForm p))
 
 -- the next entries, where that many are missing
 unfoldable pub argumentsOf : List ℕ → Fields → Place → Stepped
 argumentsOf ws f p =
-    cond (ltb 16 (f .count)) (stepped ws (notOfForm p))
+    cond (ltb maxWords (f .count)) (stepped ws (notOfForm p))
     (cond (ltb (p .entries) (p .filled + f .count)) (stepped ws (notOfForm p))
-    (keepOf ws (4096 + p .filled) f p (record { sorts = p .sorts; entries = p .entries; rows = p .rows; filled = p .filled + f .count })))
+    (keepOf ws (entriesAt + p .filled) f p
+    (record { sorts = p .sorts; entries = p .entries; rows = p .rows; filled = p .filled + f .count })))
 
 -- what an entry answers on a list, packed
 unfoldable pub answerOf : Question → List ℕ → ℕ → ℕ → ℕ → ℕ → ℕ
@@ -98,9 +104,10 @@ unfoldable pub questionOf : List ℕ → Question → Fields → Place → Step
 questionOf ws q f p =
     cond (eqb (f .count) 3)
     (cond (complete p)
-    (cond (ltb 65535 (getD (f .values) 0 0)) (notOfForm p)
-    (cond (ltb 65535 (getD (f .values) 1 0)) (notOfForm p)
-    (step p (verdictOf (answerOf q ws (p .sorts) (p .entries) (getD (f .values) 0 0) (getD (f .values) 1 0)) (getD (f .values) 2 0)))))
+    (cond (ltb mostWord (numberIn f 0)) (notOfForm p)
+    (cond (ltb mostWord (numberIn f 1)) (notOfForm p)
+    (step p
+    (verdictOf (answerOf q ws (p .sorts) (p .entries) (numberIn f 0) (numberIn f 1)) (numberIn f 2)))))
     (notOfForm p))
     (notOfForm p)
 
@@ -116,5 +123,6 @@ byLetter Other ws f p = stepped ws (notOfForm p)
 unfoldable pub stepOf : List ℕ → List ℕ → Place → Stepped
 stepOf ws line p =
     cond (eqb (length line) 0) (stepped ws (notOfForm p))
-    (cond (eqb (getD line 0 0) 35) (stepped ws (step p Quiet))
-    (cond ((fieldsOf line) .good) (byLetter (letterOf (getD line 0 0)) ws (fieldsOf line) p) (stepped ws (notOfForm p))))
+    (cond (eqb (getD line 0 0) (code "#")) (stepped ws (step p Quiet))
+    (cond ((fieldsOf line) .good) (byLetter (letterOf (getD line 0 0)) ws (fieldsOf line) p)
+    (stepped ws (notOfForm p))))

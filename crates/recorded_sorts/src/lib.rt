@@ -4,17 +4,29 @@
 // is_materializable, join and meet of the sorts a and b, and x is the answer, packed; a line that starts with `#` says
 // nothing.
 use replay::Fields;
+use replay::MAX_WORDS;
 use replay::Verdict;
 use replay::fields_of;
 use replay::store;
+use resolved_sort::ENTRIES_AT;
+use resolved_sort::ROW_WORDS;
+use resolved_sort::SORT_WORDS;
 use sort_entries::sort_is_materializable;
 use sort_entries::sort_join;
 use sort_entries::sort_meet;
 use sort_entries::sort_partial_cmp;
 use sort_entries::sort_widening_distance;
+use words::MOST_WORD;
 ghost use mathlib.Core.Path.{_≡_};
 ghost use Prim.Native.Nat.{_+_, _*_, _≤_};
-ghost use Rattle.recorded_sorts.specs.Lines.{letterOf, complete as isComplete, stepped, keepOf, beginOf, rowOf, argumentsOf, answerOf, questionOf, stepOf, notOfForm, started};
+ghost use Rattle.replay.specs.Lines.{nearEnough};
+ghost use Rattle.recorded_sorts.specs.Lines.{letterOf, complete as isComplete, stepped, keepOf, beginOf, rowOf};
+ghost use Rattle.recorded_sorts.specs.Lines.{argumentsOf, answerOf, questionOf, stepOf, notOfForm, started};
+
+// The ceilings of a list, as numbers of a line.
+const SORTS: u64 = 1024;
+
+const ENTRIES: u64 = 4096;
 
 // What is asked of two sorts.
 pub enum Question {
@@ -52,14 +64,14 @@ fn letter_of(letter: u8) -> Letter
     ensures { λ r. ⌜ r ≡ letterOf letter ⌝ }
 {
     match letter {
-        76 => Letter::List,
-        114 => Letter::Row,
-        97 => Letter::Arguments,
-        99 => Letter::Asks(Question::PartialCmp),
-        100 => Letter::Asks(Question::WideningDistance),
-        109 => Letter::Asks(Question::IsMaterializable),
-        106 => Letter::Asks(Question::Join),
-        107 => Letter::Asks(Question::Meet),
+        b'L' => Letter::List,
+        b'r' => Letter::Row,
+        b'a' => Letter::Arguments,
+        b'c' => Letter::Asks(Question::PartialCmp),
+        b'd' => Letter::Asks(Question::WideningDistance),
+        b'm' => Letter::Asks(Question::IsMaterializable),
+        b'j' => Letter::Asks(Question::Join),
+        b'k' => Letter::Asks(Question::Meet),
         _ => Letter::Other,
     }
 }
@@ -85,13 +97,19 @@ fn not_of_form(place: Place) -> Step
 }
 
 // The next words of a list, and where reading it then is.
-fn keep(list: &mut [u16; 8192], base: usize, fields: Fields, place: Place, next: Place) -> Step
-    requires { ⌜ base ≤ 1048576 ⌝ }
+fn keep(
+    list: &mut [u16; SORT_WORDS],
+    base: usize,
+    fields: Fields,
+    place: Place,
+    next: Place,
+) -> Step
+    requires { ⌜ base ≤ nearEnough ⌝ }
     ensures { λ r. ⌜ stepped (now (list .exit)) r ≡ keepOf (now (list .entry)) base fields place next ⌝ }
 {
     let values = fields.values;
     let count = fields.count;
-    if 16 < count {
+    if MAX_WORDS < count {
         return not_of_form(place);
     }
     if store(list, base, values, 0, count) {
@@ -115,11 +133,11 @@ fn begin(fields: Fields, place: Place) -> Step
         return not_of_form(place);
     }
     let sorts = values[0];
-    if 1024 < sorts {
+    if SORTS < sorts {
         return not_of_form(place);
     }
     let entries = values[1];
-    if 4096 < entries {
+    if ENTRIES < entries {
         return not_of_form(place);
     }
     Step {
@@ -134,7 +152,7 @@ fn begin(fields: Fields, place: Place) -> Step
 }
 
 // The next row of the list.
-fn row(list: &mut [u16; 8192], fields: Fields, place: Place) -> Step
+fn row(list: &mut [u16; SORT_WORDS], fields: Fields, place: Place) -> Step
     ensures { λ r. ⌜ stepped (now (list .exit)) r ≡ rowOf (now (list .entry)) fields place ⌝ }
 {
     if fields.count != 4 {
@@ -150,16 +168,16 @@ fn row(list: &mut [u16; 8192], fields: Fields, place: Place) -> Step
         rows: rows + 1,
         filled: place.filled,
     };
-    keep(list, 4 * (rows as usize), fields, place, next)
+    keep(list, ROW_WORDS * (rows as usize), fields, place, next)
 }
 
 // The next argument entries of the list.
-fn arguments(list: &mut [u16; 8192], fields: Fields, place: Place) -> Step
+fn arguments(list: &mut [u16; SORT_WORDS], fields: Fields, place: Place) -> Step
     ensures { λ r. ⌜ stepped (now (list .exit)) r ≡ argumentsOf (now (list .entry)) fields place ⌝ }
 {
     let count = fields.count;
     let filled = place.filled;
-    if 16 < count {
+    if MAX_WORDS < count {
         return not_of_form(place);
     }
     if (place.entries as usize) < (filled as usize) + count {
@@ -171,18 +189,18 @@ fn arguments(list: &mut [u16; 8192], fields: Fields, place: Place) -> Step
         rows: place.rows,
         filled: filled + (count as u16),
     };
-    keep(list, 4096 + (filled as usize), fields, place, next)
+    keep(list, ENTRIES_AT + (filled as usize), fields, place, next)
 }
 
 // Join and meet on a list of their own, since they may append to it.
-fn join_on(list: [u16; 8192], n: usize, e: usize, lhs: u16, rhs: u16) -> u64
+fn join_on(list: [u16; SORT_WORDS], n: usize, e: usize, lhs: u16, rhs: u16) -> u64
     ensures { λ r. ⌜ r ≡ answerOf Question.Join list n e lhs rhs ⌝ }
 {
     let mut work = list;
     sort_join(&mut work, n, e, lhs, rhs)
 }
 
-fn meet_on(list: [u16; 8192], n: usize, e: usize, lhs: u16, rhs: u16) -> u64
+fn meet_on(list: [u16; SORT_WORDS], n: usize, e: usize, lhs: u16, rhs: u16) -> u64
     ensures { λ r. ⌜ r ≡ answerOf Question.Meet list n e lhs rhs ⌝ }
 {
     let mut work = list;
@@ -190,7 +208,14 @@ fn meet_on(list: [u16; 8192], n: usize, e: usize, lhs: u16, rhs: u16) -> u64
 }
 
 // What an entry answers on a list, which stays as it is: join and meet work on a copy.
-fn ask(list: &[u16; 8192], sorts: u16, entries: u16, question: Question, lhs: u16, rhs: u16) -> u64
+fn ask(
+    list: &[u16; SORT_WORDS],
+    sorts: u16,
+    entries: u16,
+    question: Question,
+    lhs: u16,
+    rhs: u16,
+) -> u64
     ensures { λ r. ⌜ r ≡ answerOf question (now (list .entry)) sorts entries lhs rhs ⌝ }
 {
     let n = sorts as usize;
@@ -211,7 +236,7 @@ fn ask(list: &[u16; 8192], sorts: u16, entries: u16, question: Question, lhs: u1
 }
 
 // A question about two sorts of a complete list, compared with the recorded answer.
-fn answer(list: &[u16; 8192], question: Question, fields: Fields, place: Place) -> Step
+fn answer(list: &[u16; SORT_WORDS], question: Question, fields: Fields, place: Place) -> Step
     ensures { λ r. ⌜ r ≡ questionOf (now (list .entry)) question fields place ⌝ }
 {
     let values = fields.values;
@@ -222,11 +247,11 @@ fn answer(list: &[u16; 8192], question: Question, fields: Fields, place: Place) 
         return not_of_form(place);
     }
     let lhs = values[0];
-    if 65535 < lhs {
+    if MOST_WORD < lhs {
         return not_of_form(place);
     }
     let rhs = values[1];
-    if 65535 < rhs {
+    if MOST_WORD < rhs {
         return not_of_form(place);
     }
     let got = ask(
@@ -262,14 +287,14 @@ pub fn start() -> Place
 }
 
 // A line of the recorded answers.
-pub fn replay_line(list: &mut [u16; 8192], line: &[u8], place: Place) -> Step
+pub fn replay_line(list: &mut [u16; SORT_WORDS], line: &[u8], place: Place) -> Step
     ensures { λ r. ⌜ stepped (now (list .exit)) r ≡ stepOf (now (list .entry)) (now (line .entry)) place ⌝ }
 {
     if line.len() == 0 {
         return not_of_form(place);
     }
     let letter = line[0];
-    if letter == 35 {
+    if letter == b'#' {
         return Step {
             place,
             verdict: Verdict::Quiet,

@@ -9,13 +9,13 @@ use Rattle.unification.specs.UnifyEntry.{packed}
 use Rattle.replay.specs.declared.Fields.{Fields}
 use Rattle.replay.specs.declared.Verdict.{Verdict}
 use Rattle.replay.specs.declared.Verdict.the-variants.{Quiet}
-use Rattle.replay.specs.Numbers.{fieldsOf}
+use Rattle.replay.specs.Numbers.{fieldsOf, numberIn}
 use Rattle.recorded_unify.specs.declared.Part.{Part}
 use Rattle.recorded_unify.specs.declared.Letter.{Letter}
 use Rattle.recorded_unify.specs.declared.Letter.the-variants.{List as NewList, Row, Words, Binds, Asks, Other}
 use Rattle.recorded_unify.specs.declared.Place.{Place}
 use Rattle.recorded_unify.specs.declared.Step.{Step}
-use Rattle.recorded_unify.specs.Lines.{letterOf, complete, step, notOfForm, Stepped, stepped, numberIn, beginOf, rowOf, runOf, bindingsIn, renewed, bindsOf, unified, judgedOf, judgedBy, answerOf, renewedStep, byLetter, stepOf}
+use Rattle.recorded_unify.specs.Lines.{letterOf, complete, step, notOfForm, Stepped, stepped, beginOf, rowOf, runOf, bindingsIn, renewed, bindsOf, unified, judgedOf, judgedBy, answerOf, renewedStep, byLetter, stepOf}
 
 module _ (ws : List ℕ) (f : Fields) (p : Place) where
   pub binds-count : (r : Step) → r ≡ notOfForm p → (f .count ≡ 2 → ⊥) → stepped ws r ≡ bindsOf ws f p

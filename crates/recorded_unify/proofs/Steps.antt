@@ -12,7 +12,8 @@ use Rattle.recorded_unify.specs.declared.Part.{Part}
 use Rattle.recorded_unify.specs.declared.Letter.the-variants.{Other}
 use Rattle.recorded_unify.specs.declared.Place.{Place}
 use Rattle.recorded_unify.specs.declared.Step.{Step}
-use Rattle.recorded_unify.specs.Lines.{letterOf, startOf, lengthOf, lengths, withLength, noLengths, placeOf, complete, step, notOfForm, Stepped, stepped, numberIn, beginOf, keepOf, rowOf, runOf}
+use Rattle.replay.specs.Numbers.{numberIn}
+use Rattle.recorded_unify.specs.Lines.{letterOf, startOf, lengthOf, lengths, withLength, noLengths, placeOf, complete, step, notOfForm, Stepped, stepped, beginOf, keepOf, rowOf, runOf}
 
 pub other-letter :
     (b : ℕ) → (b ≡ 76 → ⊥) → (b ≡ 114 → ⊥) → (b ≡ 97 → ⊥) → (b ≡ 110 → ⊥) → (b ≡ 98 → ⊥) → (b ≡ 118 → ⊥) → (b ≡ 119 → ⊥) → (b ≡ 117 → ⊥)

@@ -2,17 +2,21 @@
 use mathlib.Core.Bool.{Bool, true, false, cond}
 use mathlib.Core.List.{List}
 use Prim.Native.Nat.{ℕ, zero, suc, _+_, _*_}
+use Prim.Native.Char.{code}
 use lib.Dec.{ltb, leb, eqb}
 use lib.ListN.{length, getD, take, set}
 use lib.Seq.{sets}
 use Rattle.unification.specs.declared.Lengths.{Lengths}
+use Rattle.words.specs.Bits.{mostWord}
+use Rattle.resolved_sort.specs.Storage.{maxSorts, maxEntries, rowWords, entriesAt, fullLength}
+use Rattle.unification.specs.Nodes.{maxNodes, maxNodeEntries, maxVars, fullNodes}
 use Rattle.unification.specs.UnifyEntry.{unifyEntry, Packed, packLeft}
 use Rattle.words.specs.Words.{part}
 use Rattle.replay.specs.declared.Fields.{Fields}
 use Rattle.replay.specs.declared.Verdict.{Verdict}
 use Rattle.replay.specs.declared.Verdict.the-variants.{Quiet, Agrees, Differs, BindsOther, NotOfForm}
-use Rattle.replay.specs.Numbers.{fieldsOf}
-use Rattle.replay.specs.Lines.{Kept, storeFrom}
+use Rattle.replay.specs.Numbers.{fieldsOf, numberIn}
+use Rattle.replay.specs.Lines.{maxWords, Kept, storeFrom}
 use Rattle.recorded_unify.specs.declared.Part.{Part}
 use Rattle.recorded_unify.specs.declared.Part.the-variants.{Sorts, Entries, Nodes, Arguments, Bindings}
 use Rattle.recorded_unify.specs.declared.Letter.{Letter}
@@ -20,24 +24,37 @@ use Rattle.recorded_unify.specs.declared.Letter.the-variants.{List as Ne
 use Rattle.recorded_unify.specs.declared.Place.{Place}
 use Rattle.recorded_unify.specs.declared.Step.{Step}
 
--- L, r, a, n, b, v, w, u
+-- Where the parts of a list stand in its words, after the sorts: nodes and their argument entries, the bindings, and
+-- the bindings that the next question leaves.
+abbrev pub nodesAt : ℕ
+nodesAt = 8192
+
+abbrev pub argumentsAt : ℕ
+argumentsAt = 16384
+
+abbrev pub bindingsAt : ℕ
+bindingsAt = 20480
+
+abbrev pub leftAt : ℕ
+leftAt = 20992
+
 unfoldable pub letterOf : ℕ → Letter
 letterOf b =
-    cond (eqb b 76) NewList
-    (cond (eqb b 114) (Row Sorts)
-    (cond (eqb b 97) (Words Entries)
-    (cond (eqb b 110) (Row Nodes)
-    (cond (eqb b 98) (Words Arguments)
-    (cond (eqb b 118) (Words Bindings)
-    (cond (eqb b 119) Binds
-    (cond (eqb b 117) Asks Other)))))))
+    cond (eqb b (code "L")) NewList
+    (cond (eqb b (code "r")) (Row Sorts)
+    (cond (eqb b (code "a")) (Words Entries)
+    (cond (eqb b (code "n")) (Row Nodes)
+    (cond (eqb b (code "b")) (Words Arguments)
+    (cond (eqb b (code "v")) (Words Bindings)
+    (cond (eqb b (code "w")) Binds
+    (cond (eqb b (code "u")) Asks Other)))))))
 
 unfoldable pub startOf : Part → ℕ
 startOf Sorts = 0
-startOf Entries = 4096
-startOf Nodes = 8192
-startOf Arguments = 16384
-startOf Bindings = 20480
+startOf Entries = entriesAt
+startOf Nodes = nodesAt
+startOf Arguments = argumentsAt
+startOf Bindings = bindingsAt
 
 unfoldable pub lengthOf : Lengths → Part → ℕ
 lengthOf l Sorts = l .sorts
@@ -90,21 +107,19 @@ pub record Stepped : Type 0 where
 abbrev pub stepped : List ℕ → Step → Stepped
 stepped ws s = record { words = ws; result = s }
 
--- the i-th number of a line
-abbrev pub numberIn : Fields → ℕ → ℕ
-numberIn f i = getD (f .values) i 0
-
 -- a new list, after one that is complete, within the ceilings
 unfoldable pub beginOf : Fields → Place → Step
 beginOf f p =
     cond (eqb (f .count) 5)
     (cond (complete p)
-    (cond (ltb 1024 (numberIn f 0)) (notOfForm p)
-    (cond (ltb 4096 (numberIn f 1)) (notOfForm p)
-    (cond (ltb 2048 (numberIn f 2)) (notOfForm p)
-    (cond (ltb 4096 (numberIn f 3)) (notOfForm p)
-    (cond (ltb 512 (numberIn f 4)) (notOfForm p)
-    (step (placeOf (lengths (numberIn f 0) (numberIn f 1) (numberIn f 2) (numberIn f 3) (numberIn f 4)) noLengths) Quiet))))))
+    (cond (ltb maxSorts (numberIn f 0)) (notOfForm p)
+    (cond (ltb maxEntries (numberIn f 1)) (notOfForm p)
+    (cond (ltb maxNodes (numberIn f 2)) (notOfForm p)
+    (cond (ltb maxNodeEntries (numberIn f 3)) (notOfForm p)
+    (cond (ltb maxVars (numberIn f 4)) (notOfForm p)
+    (step
+    (placeOf (lengths (numberIn f 0) (numberIn f 1) (numberIn f 2) (numberIn f 3) (numberIn f 4)) noLengths)
+    Quiet))))))
     (notOfForm p))
     (notOfForm p)
 
@@ -114,7 +129,7 @@ keptStep p next k = stepped (k .words) (cond (k .all) (step next Quiet) (notOfFo
 -- words of a part stored from a word on, so that it then has a length
 unfoldable pub keepOf : List ℕ → ℕ → Fields → Place → Part → ℕ → Stepped
 keepOf ws base f p q k =
-    cond (ltb 16 (f .count)) (stepped ws (notOfForm p))
+    cond (ltb maxWords (f .count)) (stepped ws (notOfForm p))
     (keptStep p (placeOf (p .total) (withLength (p .read) q k)) (storeFrom (f .count) ws base (f .values) 0))
 
 -- the next sort or node, where one is missing
@@ -122,22 +137,22 @@ unfoldable pub rowOf : List ℕ → Part → Fields → Place → Stepped
 rowOf ws q f p =
     cond (eqb (f .count) 4)
     (cond (leb (lengthOf (p .total) q) (lengthOf (p .read) q)) (stepped ws (notOfForm p))
-    (keepOf ws (startOf q + 4 * lengthOf (p .read) q) f p q (lengthOf (p .read) q + 1)))
+    (keepOf ws (startOf q + rowWords * lengthOf (p .read) q) f p q (lengthOf (p .read) q + 1)))
     (stepped ws (notOfForm p))
 
 -- the next entries or bindings, where that many are missing
 unfoldable pub runOf : List ℕ → Part → Fields → Place → Stepped
 runOf ws q f p =
-    cond (ltb 16 (f .count)) (stepped ws (notOfForm p))
+    cond (ltb maxWords (f .count)) (stepped ws (notOfForm p))
     (cond (ltb (lengthOf (p .total) q) (lengthOf (p .read) q + f .count)) (stepped ws (notOfForm p))
     (keepOf ws (startOf q + lengthOf (p .read) q) f p q (lengthOf (p .read) q + f .count)))
 
 abbrev pub bindingsIn : List ℕ → List ℕ
-bindingsIn ws = part 20480 512 ws
+bindingsIn ws = part bindingsAt maxVars ws
 
 -- the next question leaves the bindings as they are, where no line says otherwise
 unfoldable pub renewed : List ℕ → List ℕ
-renewed ws = sets ws 20992 (bindingsIn ws)
+renewed ws = sets ws leftAt (bindingsIn ws)
 
 -- a binding that the next question makes
 unfoldable pub bindsOf : List ℕ → Fields → Place → Stepped
@@ -145,22 +160,25 @@ bindsOf ws f p =
     cond (eqb (f .count) 2)
     (cond (complete p)
     (cond (leb (p .total .variables) (numberIn f 0)) (stepped ws (notOfForm p))
-    (cond (ltb 65535 (numberIn f 1)) (stepped ws (notOfForm p)) (stepped (set ws (20992 + numberIn f 0) (numberIn f 1)) (step p Quiet))))
+    (cond (ltb mostWord (numberIn f 1)) (stepped ws (notOfForm p))
+    (stepped (set ws (leftAt + numberIn f 0) (numberIn f 1)) (step p Quiet))))
     (stepped ws (notOfForm p)))
     (stepped ws (notOfForm p))
 
 -- what the entry answers on the words of a list, and what it leaves of the bindings
 unfoldable pub unified : List ℕ → Lengths → List ℕ → ℕ → ℕ → Packed
 unified ws l bs a b =
-    packLeft (unifyEntry (take 8192 ws) (l .sorts) (l .entries) (part 8192 12288 ws) (l .nodes) (l .arguments) bs (l .variables) a b)
+    packLeft (unifyEntry (take fullLength ws) (l .sorts) (l .entries) (part nodesAt fullNodes ws) (l .nodes)
+    (l .arguments) bs (l .variables) a b)
 
 -- m bindings from the i-th on compared with those recorded: the first that is another
 unfoldable pub judgedFrom : ℕ → List ℕ → List ℕ → ℕ → Verdict
 judgedFrom zero ws bs i = Agrees
-judgedFrom (suc m) ws bs i = cond (eqb (getD bs i 0) (getD ws (20992 + i) 0)) (judgedFrom m ws bs (i + 1)) (BindsOther i)
+judgedFrom (suc m) ws bs i =
+    cond (eqb (getD bs i 0) (getD ws (leftAt + i) 0)) (judgedFrom m ws bs (i + 1)) (BindsOther i)
 
 unfoldable pub judgedOf : List ℕ → List ℕ → ℕ → ℕ → Verdict
-judgedOf ws bs got recorded = cond (eqb got recorded) (judgedFrom 512 ws bs 0) (Differs got)
+judgedOf ws bs got recorded = cond (eqb got recorded) (judgedFrom maxVars ws bs 0) (Differs got)
 
 abbrev pub judgedBy : List ℕ → Packed → ℕ → Verdict
 judgedBy ws a recorded = judgedOf ws (a .words) (a .result) recorded
@@ -170,9 +188,10 @@ unfoldable pub answerOf : List ℕ → Fields → Place → Stepped
 answerOf ws f p =
     cond (eqb (f .count) 3)
     (cond (complete p)
-    (cond (ltb 65535 (numberIn f 0)) (stepped ws (notOfForm p))
-    (cond (ltb 65535 (numberIn f 1)) (stepped ws (notOfForm p))
-    (stepped (renewed ws) (step p (judgedBy ws (unified ws (p .total) (bindingsIn ws) (numberIn f 0) (numberIn f 1)) (numberIn f 2))))))
+    (cond (ltb mostWord (numberIn f 0)) (stepped ws (notOfForm p))
+    (cond (ltb mostWord (numberIn f 1)) (stepped ws (notOfForm p))
+    (stepped (renewed ws) (step p (judgedBy ws
+    (unified ws (p .total) (bindingsIn ws) (numberIn f 0) (numberIn f 1)) (numberIn f 2))))))
     (stepped ws (notOfForm p)))
     (stepped ws (notOfForm p))
 
@@ -192,5 +211,6 @@ byLetter Other ws f p = stepped ws (notOfForm p)
 unfoldable pub stepOf : List ℕ → List ℕ → Place → Stepped
 stepOf ws line p =
     cond (eqb (length line) 0) (stepped ws (notOfForm p))
-    (cond (eqb (getD line 0 0) 35) (stepped ws (step p Quiet))
-    (cond ((fieldsOf line) .good) (byLetter (letterOf (getD line 0 0)) ws (fieldsOf line) p) (stepped ws (notOfForm p))))
+    (cond (eqb (getD line 0 0) (code "#")) (stepped ws (step p Quiet))
+    (cond ((fieldsOf line) .good) (byLetter (letterOf (getD line 0 0)) ws (fieldsOf line) p)
+    (stepped ws (notOfForm p))))

@@ -1,26 +1,57 @@
 // Recorded answers about unify, asked again of the entry. A line is a letter and numbers, each after one space:
 // `L s e n f v` begins a list of s sorts, e argument entries, n nodes, f argument entries of nodes and v variables;
-// `r kind part start count` is its next sort, `a w ..` its next entries, at most 16; `n kind part start count` its next node,
-// `b w ..` the next entries of nodes; `v w ..` its next bindings; `w v p` is a binding of the variable v to the place p that
-// the next question makes; `u a b x` asks whether the places a and b unify, and x is the answer, packed; a line that starts
-// with `#` says nothing.
+// `r kind part start count` is its next sort, `a w ..` its next entries, at most 16;
+// `n kind part start count` its next node, `b w ..` the next entries of nodes; `v w ..` its next bindings;
+// `w v p` is a binding of the variable v to the place p that the next question makes; `u a b x` asks whether the places
+// a and b unify, and x is the answer, packed; a line that starts with `#` says nothing.
 use replay::Fields;
+use replay::MAX_WORDS;
 use replay::Verdict;
 use replay::fields_of;
 use replay::store;
+use resolved_sort::ENTRIES_AT;
+use resolved_sort::ROW_WORDS;
+use resolved_sort::SORT_WORDS;
 use unification::Lengths;
+use unification::MAX_VARS;
 use unify_entries::sort_unify;
+use words::MOST_WORD;
 use words::copy;
 use words::put;
 ghost use mathlib.Core.Path.{_≡_};
 ghost use Prim.Native.Nat.{_≤_};
 ghost use lib.ListN.{length};
 ghost use Rattle.unification.specs.UnifyEntry.{packed};
-ghost use Rattle.recorded_unify.specs.Lines.{letterOf, startOf, lengthOf, withLength, noLengths, started, complete as isComplete, step, notOfForm, stepped, beginOf, keepOf, rowOf, runOf, renewed, bindingsIn, bindsOf, unified, judgedOf, answerOf, stepOf};
+ghost use Rattle.replay.specs.Lines.{nearEnough};
+ghost use Rattle.recorded_unify.specs.Lines.{bindingsAt, letterOf, startOf, lengthOf, withLength};
+ghost use Rattle.recorded_unify.specs.Lines.{noLengths, started, complete as isComplete, step, notOfForm};
+ghost use Rattle.recorded_unify.specs.Lines.{stepped, beginOf, keepOf, rowOf, runOf, renewed};
+ghost use Rattle.recorded_unify.specs.Lines.{bindingsIn, bindsOf, unified, judgedOf, answerOf, stepOf};
 
-// A part of a list. The parts stand one after another in 21,504 words: sorts and their entries (from 0 and from 4,096 on),
-// nodes and theirs (from 8,192 and from 16,384 on), the bindings (from 20,480 on), and at last the bindings that the next
-// question leaves (from 20,992 on).
+// The parts of a list stand one after another in its words: sorts and their entries as the entry takes them, nodes and
+// theirs, the bindings, and at last the bindings that the next question leaves.
+const NODES_AT: usize = 8192;
+
+const ARGUMENTS_AT: usize = 16384;
+
+const BINDINGS_AT: usize = 20480;
+
+const LEFT_AT: usize = 20992;
+
+pub const LIST_WORDS: usize = 21504;
+
+// The ceilings of a list, as numbers of a line.
+const SORTS: u64 = 1024;
+
+const ENTRIES: u64 = 4096;
+
+const NODES: u64 = 2048;
+
+const ARGUMENTS: u64 = 4096;
+
+const VARIABLES: u64 = 512;
+
+// A part of a list.
 pub enum Part {
     Sorts,
     Entries,
@@ -73,28 +104,28 @@ fn letter_of(letter: u8) -> Letter
     ensures { λ r. ⌜ r ≡ letterOf letter ⌝ }
 {
     match letter {
-        76 => Letter::List,
-        114 => Letter::Row(Part::Sorts),
-        97 => Letter::Words(Part::Entries),
-        110 => Letter::Row(Part::Nodes),
-        98 => Letter::Words(Part::Arguments),
-        118 => Letter::Words(Part::Bindings),
-        119 => Letter::Binds,
-        117 => Letter::Asks,
+        b'L' => Letter::List,
+        b'r' => Letter::Row(Part::Sorts),
+        b'a' => Letter::Words(Part::Entries),
+        b'n' => Letter::Row(Part::Nodes),
+        b'b' => Letter::Words(Part::Arguments),
+        b'v' => Letter::Words(Part::Bindings),
+        b'w' => Letter::Binds,
+        b'u' => Letter::Asks,
         _ => Letter::Other,
     }
 }
 
 // The word at which a part starts.
 fn start_of(part: Part) -> usize
-    ensures { λ r. ⌜ (r ≡ startOf part) × (r ≤ 20480) ⌝ }
+    ensures { λ r. ⌜ (r ≡ startOf part) × (r ≤ bindingsAt) ⌝ }
 {
     match part {
         Part::Sorts => 0,
-        Part::Entries => 4096,
-        Part::Nodes => 8192,
-        Part::Arguments => 16384,
-        Part::Bindings => 20480,
+        Part::Entries => ENTRIES_AT,
+        Part::Nodes => NODES_AT,
+        Part::Arguments => ARGUMENTS_AT,
+        Part::Bindings => BINDINGS_AT,
     }
 }
 
@@ -203,19 +234,19 @@ fn begin(fields: Fields, place: Place) -> Step
     if !complete(place) {
         return not_of_form(place);
     }
-    if 1024 < values[0] {
+    if SORTS < values[0] {
         return not_of_form(place);
     }
-    if 4096 < values[1] {
+    if ENTRIES < values[1] {
         return not_of_form(place);
     }
-    if 2048 < values[2] {
+    if NODES < values[2] {
         return not_of_form(place);
     }
-    if 4096 < values[3] {
+    if ARGUMENTS < values[3] {
         return not_of_form(place);
     }
-    if 512 < values[4] {
+    if VARIABLES < values[4] {
         return not_of_form(place);
     }
     let total = Lengths {
@@ -234,19 +265,19 @@ fn begin(fields: Fields, place: Place) -> Step
 
 // Words of a part stored from a word on, so that it then has a length.
 fn keep(
-    words: &mut [u16; 21504],
+    words: &mut [u16; LIST_WORDS],
     base: usize,
     fields: Fields,
     place: Place,
     part: Part,
     length: u16,
 ) -> Step
-    requires { ⌜ base ≤ 1048576 ⌝ }
+    requires { ⌜ base ≤ nearEnough ⌝ }
     ensures { λ r. ⌜ stepped (now (words .exit)) r ≡ keepOf (now (words .entry)) base fields place part length ⌝ }
 {
     let values = fields.values;
     let count = fields.count;
-    if 16 < count {
+    if MAX_WORDS < count {
         return not_of_form(place);
     }
     if !store(words, base, values, 0, count) {
@@ -262,7 +293,7 @@ fn keep(
 }
 
 // The next sort or node.
-fn row(words: &mut [u16; 21504], part: Part, fields: Fields, place: Place) -> Step
+fn row(words: &mut [u16; LIST_WORDS], part: Part, fields: Fields, place: Place) -> Step
     ensures { λ r. ⌜ stepped (now (words .exit)) r ≡ rowOf (now (words .entry)) part fields place ⌝ }
 {
     let read = length_of(place.read, part);
@@ -275,7 +306,7 @@ fn row(words: &mut [u16; 21504], part: Part, fields: Fields, place: Place) -> St
     }
     keep(
         words,
-        start_of(part) + 4 * (read as usize),
+        start_of(part) + ROW_WORDS * (read as usize),
         fields,
         place,
         part,
@@ -284,13 +315,13 @@ fn row(words: &mut [u16; 21504], part: Part, fields: Fields, place: Place) -> St
 }
 
 // The next entries or bindings.
-fn run(words: &mut [u16; 21504], part: Part, fields: Fields, place: Place) -> Step
+fn run(words: &mut [u16; LIST_WORDS], part: Part, fields: Fields, place: Place) -> Step
     ensures { λ r. ⌜ stepped (now (words .exit)) r ≡ runOf (now (words .entry)) part fields place ⌝ }
 {
     let read = length_of(place.read, part);
     let total = length_of(place.total, part);
     let count = fields.count;
-    if 16 < count {
+    if MAX_WORDS < count {
         return not_of_form(place);
     }
     if (total as usize) < (read as usize) + count {
@@ -307,24 +338,24 @@ fn run(words: &mut [u16; 21504], part: Part, fields: Fields, place: Place) -> St
 }
 
 // The bindings of the list.
-fn bindings_of(words: &[u16; 21504]) -> [u16; 512]
+fn bindings_of(words: &[u16; LIST_WORDS]) -> [u16; MAX_VARS]
     ensures { λ r. ⌜ r ≡ bindingsIn (now (words .entry)) ⌝ }
 {
-    let mut bindings = [0u16; 512];
-    copy(&mut bindings, 0, words, 20480, 512);
+    let mut bindings = [0u16; MAX_VARS];
+    copy(&mut bindings, 0, words, BINDINGS_AT, MAX_VARS);
     bindings
 }
 
 // The next question leaves the bindings as they are, where no line says otherwise.
-fn renew(words: &mut [u16; 21504])
+fn renew(words: &mut [u16; LIST_WORDS])
     ensures { λ _. ⌜ now (words .exit) ≡ renewed (now (words .entry)) ⌝ }
 {
     let bindings = bindings_of(words);
-    copy(words, 20992, &bindings, 0, 512);
+    copy(words, LEFT_AT, &bindings, 0, MAX_VARS);
 }
 
 // A binding that the next question makes.
-fn binds(words: &mut [u16; 21504], fields: Fields, place: Place) -> Step
+fn binds(words: &mut [u16; LIST_WORDS], fields: Fields, place: Place) -> Step
     ensures { λ r. ⌜ stepped (now (words .exit)) r ≡ bindsOf (now (words .entry)) fields place ⌝ }
 {
     let values = fields.values;
@@ -340,23 +371,26 @@ fn binds(words: &mut [u16; 21504], fields: Fields, place: Place) -> Step
         return not_of_form(place);
     }
     let bound = values[1];
-    if 65535 < bound {
+    if MOST_WORD < bound {
         return not_of_form(place);
     }
-    put(words, 20992 + (variable as usize), bound as u16);
+    put(words, LEFT_AT + (variable as usize), bound as u16);
     quiet(place)
 }
 
 // What the entry answers on the list, and what it leaves of the bindings.
 fn ask(words: &[u16], total: Lengths, bindings: &mut [u16], lhs: u16, rhs: u16) -> u64
-    requires { ⌜ 20480 ≤ length (now words) ⌝ }
-    ensures { λ r. ⌜ packed (now (bindings .exit)) r ≡ unified (now (words .entry)) total (now (bindings .entry)) lhs rhs ⌝ }
+    requires { ⌜ bindingsAt ≤ length (now words) ⌝ }
+    ensures { λ r. ⌜
+        packed (now (bindings .exit)) r
+        ≡ unified (now (words .entry)) total (now (bindings .entry)) lhs rhs
+        ⌝ }
 {
     sort_unify(
-        &words[..8192],
+        &words[..SORT_WORDS],
         total.sorts as usize,
         total.entries as usize,
-        &words[8192..20480],
+        &words[NODES_AT..BINDINGS_AT],
         total.nodes as usize,
         total.arguments as usize,
         bindings,
@@ -367,15 +401,15 @@ fn ask(words: &[u16], total: Lengths, bindings: &mut [u16], lhs: u16, rhs: u16) 
 }
 
 // An answer and the bindings that it left, compared with the recorded ones: the first that is another.
-fn judge(words: &[u16; 21504], bindings: &[u16; 512], got: u64, recorded: u64) -> Verdict
+fn judge(words: &[u16; LIST_WORDS], bindings: &[u16; MAX_VARS], got: u64, recorded: u64) -> Verdict
     ensures { λ r. ⌜ r ≡ judgedOf (now (words .entry)) (now (bindings .entry)) got recorded ⌝ }
 {
     if got != recorded {
         return Verdict::Differs(got);
     }
     let mut i = 0;
-    while i < 512 {
-        if bindings[i] != words[20992 + i] {
+    while i < MAX_VARS {
+        if bindings[i] != words[LEFT_AT + i] {
             return Verdict::BindsOther(i as u16);
         }
         i += 1;
@@ -384,7 +418,7 @@ fn judge(words: &[u16; 21504], bindings: &[u16; 512], got: u64, recorded: u64) -
 }
 
 // A question about two places of a complete list. The entry works on bindings of its own.
-fn answer(words: &mut [u16; 21504], fields: Fields, place: Place) -> Step
+fn answer(words: &mut [u16; LIST_WORDS], fields: Fields, place: Place) -> Step
     ensures { λ r. ⌜ stepped (now (words .exit)) r ≡ answerOf (now (words .entry)) fields place ⌝ }
 {
     let values = fields.values;
@@ -395,11 +429,11 @@ fn answer(words: &mut [u16; 21504], fields: Fields, place: Place) -> Step
         return not_of_form(place);
     }
     let lhs = values[0];
-    if 65535 < lhs {
+    if MOST_WORD < lhs {
         return not_of_form(place);
     }
     let rhs = values[1];
-    if 65535 < rhs {
+    if MOST_WORD < rhs {
         return not_of_form(place);
     }
     let mut bindings = bindings_of(words);
@@ -420,14 +454,14 @@ pub fn start() -> Place
 }
 
 // A line of the recorded answers.
-pub fn replay_line(words: &mut [u16; 21504], line: &[u8], place: Place) -> Step
+pub fn replay_line(words: &mut [u16; LIST_WORDS], line: &[u8], place: Place) -> Step
     ensures { λ r. ⌜ stepped (now (words .exit)) r ≡ stepOf (now (words .entry)) (now (line .entry)) place ⌝ }
 {
     if line.len() == 0 {
         return not_of_form(place);
     }
     let letter = line[0];
-    if letter == 35 {
+    if letter == b'#' {
         return quiet(place);
     }
     let read = fields_of(line);

@@ -3,7 +3,7 @@ use mathlib.Core.Path.{_≡_}
 use mathlib.Core.List.{List}
 use Prim.Native.Nat.{ℕ, suc, _≤_}
 use lib.ListN.{length, take}
-use Rattle.resolved_sort.specs.Storage.{Row}
+use Rattle.resolved_sort.specs.Storage.{maxArguments, Row}
 use Rattle.unification.specs.declared.Lengths.{Lengths}
 use Rattle.unification.specs.declared.Pushed.{Pushed}
 use Rattle.unification.specs.declared.Pushed.the-variants.{At, Full as NoRoom}
@@ -44,7 +44,7 @@ pub record IsFunction (ws ns : List ℕ) (k : Lengths) (p n : ℕ) : Type 0 wher
   pub placed : Placed k p
   pub stands : graphOf ws ns k p ≡ over (functionHead n) (partsOf (graphOf ws ns k p))
   pub many : length (partsOf (graphOf ws ns k p)) ≡ suc n
-  pub few : n ≤ 16
+  pub few : n ≤ maxArguments
 
 pub record FunctionAt (ws ns : List ℕ) (k : Lengths) (p : ℕ) : Type 0 where
   pub arguments : ℕ

@@ -1,11 +1,13 @@
-// The sorts strictly wider or narrower than the sort at a place: from merc's unification.rs, strict_related_sorts, related_numbers
-// and related_container. Up is the Rust's Direction::Super. Nodes and sorts made for it are appended, inner ones first.
+// The sorts strictly wider or narrower than the sort at a place: from merc's unification.rs,
+// strict_related_sorts, related_numbers and related_container. Up is the Rust's Direction::Super.
+// Nodes and sorts made for it are appended, inner ones first.
 use infer_nodes::counts_of;
 use infer_nodes::node;
 use infer_nodes::part;
 use infer_nodes::part_count;
 use infer_nodes::shallow_normalize;
 use infer_nodes::with_counts;
+use resolved_sort::ARGUMENT_WORDS;
 use resolved_sort::ComplexSort;
 use resolved_sort::Joined;
 use resolved_sort::OpBound;
@@ -36,15 +38,17 @@ ghost use mathlib.Core.List.{[], _∷_, _++_};
 ghost use Prim.Native.Nat.{_+_, _<_, _≤_};
 ghost use lib.ListN.{take, drop};
 ghost use Rattle.resolved_sort.specs.Tree.{primitive};
-ghost use Rattle.resolved_sort.specs.Storage.{maxSorts};
+ghost use Rattle.resolved_sort.specs.Storage.{maxSorts, maxArguments};
 ghost use Rattle.resolved_sort.specs.Bounds.{opBound};
 ghost use Rattle.resolved_sort.specs.Rows.{Checked};
 ghost use Rattle.unification.specs.Term.{partsOf};
 ghost use Rattle.unification.specs.Nodes.{bindsOf};
 ghost use Rattle.unification.specs.Checked.{graphOf, Ready, Placed};
 ghost use Rattle.unification.specs.Related.{relatedContainer};
-ghost use Rattle.unification.specs.Making.{made, _and-then_, pushNode, relatedOver, pushFunctions, relatedPlaces, strictRelated};
-ghost use Rattle.related_sorts.specs.Outcome.{lent, pushed, related, row, AreThese, IsFunction, FunctionAt, Ranges, Relates};
+ghost use Rattle.unification.specs.Making.{made, _and-then_, pushNode, relatedOver};
+ghost use Rattle.unification.specs.Making.{pushFunctions, relatedPlaces, strictRelated};
+ghost use Rattle.related_sorts.specs.Outcome.{lent, pushed, related, row, AreThese};
+ghost use Rattle.related_sorts.specs.Outcome.{IsFunction, FunctionAt, Ranges, Relates};
 
 // The numbers strictly above or below `sort`, in ascending distance.
 fn related_numbers(sort: Sort, up: bool) -> Three
@@ -121,10 +125,10 @@ fn push(
     lengths: Lengths,
     kind: u16,
     part: u16,
-    ids: [u16; 16],
+    ids: [u16; ARGUMENT_WORDS],
     count: u16,
 ) -> Pushed
-    requires { ⌜ count ≤ 16 ⌝ }
+    requires { ⌜ count ≤ maxArguments ⌝ }
     ensures { λ r. ⌜
         pushed (now (sorts .entry)) (now (nodes .exit)) lengths r
         ≡ pushNode (row kind part (take count ids)) (lent (now (sorts .entry)) (now (nodes .entry)) lengths)
@@ -159,14 +163,14 @@ fn arguments(
     lengths: Lengths,
     id: InferSortId,
     count: u16,
-) -> [u16; 16]
+) -> [u16; ARGUMENT_WORDS]
     requires { ⌜ IsFunction (now sorts) (now nodes) lengths (id .0) count ⌝ }
     ensures { λ r. ⌜
         take count r
         ≡ take count (partsOf (graphOf (now (sorts .entry)) (now (nodes .entry)) lengths (id .0)))
         ⌝ }
 {
-    let mut ids = [0u16; 16];
+    let mut ids = [0u16; ARGUMENT_WORDS];
     let mut i: u16 = 0;
     while i < count {
         ids[i as usize] = part(sorts, nodes, lengths, id, i).0;
@@ -184,10 +188,10 @@ fn push_functions(
     n: u16,
     i: u16,
     ids: [u16; 3],
-    domain: [u16; 16],
+    domain: [u16; ARGUMENT_WORDS],
     count: u16,
 ) -> Related
-    requires { ⌜ (count ≤ 16) × (i ≤ n) × (n ≤ 3) ⌝ }
+    requires { ⌜ (count ≤ maxArguments) × (i ≤ n) × (n ≤ 3) ⌝ }
     ensures { λ r. ⌜
         Relates (now (sorts .entry)) (now (nodes .exit)) r
         (pushFunctions (take count domain) (drop i (take n targets))
@@ -227,10 +231,10 @@ fn over_ranges(
     sorts: &[u16],
     nodes: &mut [u16],
     found: Related,
-    domain: [u16; 16],
+    domain: [u16; ARGUMENT_WORDS],
     count: u16,
 ) -> Related
-    requires { ⌜ Ranges found × (count ≤ 16) ⌝ }
+    requires { ⌜ Ranges found × (count ≤ maxArguments) ⌝ }
     ensures { λ r. ⌜
         Relates (now (sorts .entry)) (now (nodes .exit)) r
         (related (now (sorts .entry)) (now (nodes .entry)) found and-then pushFunctions (take count domain))
@@ -340,7 +344,7 @@ fn push_generic(
                 lengths,
                 kind_of_op(related_op),
                 subsort.0,
-                [0u16; 16],
+                [0u16; ARGUMENT_WORDS],
                 0,
             ) {
                 Pushed::At(place, then) => only(place, then),
@@ -354,8 +358,9 @@ fn push_generic(
     }
 }
 
-// The strict supersorts of `id` in ascending distance (`Pos` yields `[Nat, Int, Real]`), or no list for an unbound variable, whose
-// supersorts cannot be enumerated. Only the head constructor is widened: `Nat` has supersorts, `List(Nat)` has none.
+// The strict supersorts of `id` in ascending distance (`Pos` yields `[Nat, Int, Real]`), or no list for an unbound
+// variable, whose supersorts cannot be enumerated. Only the head constructor is widened: `Nat` has supersorts,
+// `List(Nat)` has none.
 // Nearest first, since the search takes the first that succeeds, and that is to be the least upcast.
 pub fn strict_super_sorts(
     sorts: &mut [u16],
@@ -374,7 +379,8 @@ pub fn strict_super_sorts(
     strict_related_sorts(sorts, nodes, binds, lengths, id, true)
 }
 
-// The strict subsorts of `id` in ascending distance (`Real` yields `[Int, Nat, Pos]`), or no list for an unbound variable.
+// The strict subsorts of `id` in ascending distance (`Real` yields `[Int, Nat, Pos]`), or no list
+// for an unbound variable.
 pub fn strict_sub_sorts(
     sorts: &mut [u16],
     nodes: &mut [u16],

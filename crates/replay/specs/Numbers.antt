@@ -2,20 +2,25 @@
 use mathlib.Core.Bool.{Bool, true, false, cond}
 use mathlib.Core.List.{List, [], _∷_}
 use Prim.Native.Nat.{ℕ, zero, suc, _+_, _*_, _-_}
+use Prim.Native.Char.{code}
 use lib.Dec.{ltb, leb, eqb}
 use lib.ListN.{length, getD, set, drop, replicate}
 use Rattle.replay.specs.declared.Number.{Number}
 use Rattle.replay.specs.declared.Number.the-variants.{Is, Nothing}
 use Rattle.replay.specs.declared.Fields.{Fields}
 
+-- how many numbers a line has at most
+abbrev pub maxFields : ℕ
+maxFields = 18
+
 -- whether a byte is one of the digits 0 to 9
 unfoldable pub isDigit : ℕ → Bool
-isDigit b = cond (ltb b 48) false (cond (ltb 57 b) false true)
+isDigit b = cond (ltb b (code "0")) false (cond (ltb (code "9") b) false true)
 
 -- the digits that bytes start with
 unfoldable pub digits : List ℕ → List ℕ
 digits [] = []
-digits (b ∷ bs) = cond (isDigit b) ((b - 48) ∷ digits bs) []
+digits (b ∷ bs) = cond (isDigit b) ((b - code "0") ∷ digits bs) []
 
 -- the value of decimal digits, the first the highest, after those of v
 unfoldable pub valueAfter : ℕ → List ℕ → ℕ
@@ -40,7 +45,7 @@ endedOf v at end = cond (eqb at end) Nothing (Is v end)
 
 -- no numbers, and not of the form
 unfoldable pub noFields : Fields
-noFields = record { values = replicate 18 0; count = 0; good = false }
+noFields = record { values = replicate maxFields 0; count = 0; good = false }
 
 abbrev pub allRead : List ℕ → ℕ → Fields
 allRead values k = record { values = values; count = k; good = true }
@@ -55,10 +60,14 @@ unfoldable pub fieldsFrom : ℕ → List ℕ → ℕ → List ℕ → ℕ → Fi
 fieldsFrom zero line at values k = cond (leb (length line) at) (allRead values k) noFields
 fieldsFrom (suc m) line at values k =
     cond (leb (length line) at) (allRead values k)
-    (cond (eqb (getD line at 0) 32)
+    (cond (eqb (getD line at 0) (code " "))
     (afterNumber (numberAt line (at + 1)) (λ v next. fieldsFrom m line next (set values k v) (k + 1)))
     noFields)
 
 -- the numbers after a line's letter, 18 at most
 unfoldable pub fieldsOf : List ℕ → Fields
-fieldsOf line = fieldsFrom 18 line 1 (replicate 18 0) 0
+fieldsOf line = fieldsFrom maxFields line 1 (replicate maxFields 0) 0
+
+-- the i-th number of a line
+abbrev pub numberIn : Fields → ℕ → ℕ
+numberIn f i = getD (f .values) i 0

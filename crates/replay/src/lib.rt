@@ -1,12 +1,26 @@
-// What the programs that replay recorded answers share: the numbers of a line, the counts of lines that agree and differ, and what is said of a line and
-// at the end.
+// What the programs that replay recorded answers share: the numbers of a line, the counts of lines that agree and
+// differ, and what is said of a line and at the end.
 use libc::STDOUT_FILENO;
 use line_input::Found;
+use words::MOST_WORD;
 use words::put;
 ghost use mathlib.Core.Path.{_≡_};
 ghost use Prim.Native.Nat.{_+_, _*_, _≤_};
-ghost use Rattle.replay.specs.Numbers.{numberAt, endedOf, fieldsOf, noFields};
-ghost use Rattle.replay.specs.Lines.{kept, storeFrom, oneMore, countedOf};
+ghost use Rattle.replay.specs.Numbers.{maxFields, numberAt, endedOf, fieldsOf, noFields};
+ghost use Rattle.replay.specs.Lines.{nearEnough, kept, storeFrom, oneMore, countedOf};
+
+// How many numbers a line has at most, how many words of a list it gives at most, and the largest count.
+pub const MAX_FIELDS: usize = 18;
+
+pub const MAX_WORDS: usize = 16;
+
+const MOST_COUNT: u64 = 18446744073709551615;
+
+// The longest line that is read, in bytes.
+pub const LINE_BYTES: usize = 256;
+
+// Past this a number has one digit too many to take another.
+const MOST_VALUE: u64 = 999999999999999999;
 
 // A number that stands at a position of a line: its value, and the position past its digits.
 pub enum Number {
@@ -16,13 +30,13 @@ pub enum Number {
 
 // The numbers of a line, where it is a letter and numbers.
 pub struct Fields {
-    pub values: [u64; 18],
+    pub values: [u64; MAX_FIELDS],
     pub count: usize,
     pub good: bool,
 }
 
-// What came of a line: nothing to say, an answer as recorded, another answer, another binding of a variable than the one
-// recorded, another word left than the one recorded, or no line of the form.
+// What came of a line: nothing to say, an answer as recorded, another answer, another binding of a variable than the
+// one recorded, another word left than the one recorded, or no line of the form.
 pub enum Verdict {
     Quiet,
     Agrees,
@@ -32,8 +46,8 @@ pub enum Verdict {
     NotOfForm,
 }
 
-// How many lines were read, how many of them had an answer to check (of a question, or words left), and how many lines do not
-// agree. Each stops at the largest number.
+// How many lines were read, how many of them had an answer to check (of a question, or words left), and how many lines
+// do not agree. Each stops at the largest number.
 pub struct Tally {
     pub lines: u64,
     pub questions: u64,
@@ -48,16 +62,16 @@ fn number_at(line: &[u8], at: usize) -> Number
     let mut value: u64 = 0;
     while i < line.len() {
         let b = line[i];
-        if b < 48 {
+        if b < b'0' {
             return ended(value, at, i);
         }
-        if 57 < b {
+        if b'9' < b {
             return ended(value, at, i);
         }
-        if 999999999999999999 < value {
+        if MOST_VALUE < value {
             return Number::Nothing;
         }
-        value = value * 10 + wide(b - 48);
+        value = value * 10 + wide(b - b'0');
         i += 1;
     }
     ended(value, at, i)
@@ -83,10 +97,10 @@ fn ended(value: u64, at: usize, end: usize) -> Number
 pub fn fields_of(line: &[u8]) -> Fields
     ensures { λ r. ⌜ r ≡ fieldsOf (now (line .entry)) ⌝ }
 {
-    let mut values = [0u64; 18];
+    let mut values = [0u64; MAX_FIELDS];
     let mut count: usize = 0;
     let mut at: usize = 1;
-    while count < 18 {
+    while count < MAX_FIELDS {
         if line.len() <= at {
             return Fields {
                 values,
@@ -94,7 +108,7 @@ pub fn fields_of(line: &[u8]) -> Fields
                 good: true,
             };
         }
-        if line[at] != 32 {
+        if line[at] != b' ' {
             return no_fields();
         }
         let Number::Is(value, next) = number_at(line, at + 1) else {
@@ -118,21 +132,27 @@ fn no_fields() -> Fields
     ensures { λ r. ⌜ r ≡ noFields ⌝ }
 {
     Fields {
-        values: [0u64; 18],
+        values: [0u64; MAX_FIELDS],
         count: 0,
         good: false,
     }
 }
 
 // So many numbers, from the first one of them on, stored as the words from a word on, up to the first that is no word.
-pub fn store(list: &mut [u16], base: usize, values: [u64; 18], first: usize, count: usize) -> bool
-    requires { ⌜ (base ≤ 1048576) × (first + count ≤ 18) ⌝ }
+pub fn store(
+    list: &mut [u16],
+    base: usize,
+    values: [u64; MAX_FIELDS],
+    first: usize,
+    count: usize,
+) -> bool
+    requires { ⌜ (base ≤ nearEnough) × (first + count ≤ maxFields) ⌝ }
     ensures { λ r. ⌜ kept (now (list .exit)) r ≡ storeFrom count (now (list .entry)) base values first ⌝ }
 {
     let mut i: usize = 0;
     while i < count {
         let value = values[first + i];
-        if 65535 < value {
+        if MOST_WORD < value {
             return false;
         }
         put(list, base + i, value as u16);
@@ -145,7 +165,7 @@ pub fn store(list: &mut [u16], base: usize, values: [u64; 18], first: usize, cou
 fn one_more(n: u64) -> u64
     ensures { λ r. ⌜ r ≡ oneMore n ⌝ }
 {
-    if n < 18446744073709551615 {
+    if n < MOST_COUNT {
         return n + 1;
     }
     n
@@ -228,8 +248,8 @@ pub fn say(number: u64, text: &[u8], verdict: Verdict) {
     }
 }
 
-// How many answers were checked and how many lines do not agree. A read that failed and a last list that is not complete
-// count as a line each.
+// How many answers were checked and how many lines do not agree. A read that failed and a last list
+// that is not complete count as a line each.
 pub fn finish(tally: Tally, found: Found, complete: bool) {
     let mut all = tally;
     match found {

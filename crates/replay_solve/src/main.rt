@@ -1,14 +1,16 @@
-// Reads recorded answers of the solver from standard input and asks the proved entry again. It names each line whose answer or
-// whose words left differ, with what it got, and each line that is not of the form, and at the end it says how many answers it
-// checked and how many lines differ. The answers are those of questions, one for each list, and the lines of words left. The
-// lines have the form that the crate replay_lists states.
+// Reads recorded answers of the solver from standard input and asks the proved entry again. It names each line whose
+// answer or whose words left differ, with what it got, and each line that is not of the form, and at the end it says
+// how many answers it checked and how many lines differ. The answers are those of questions, one for each list, and the
+// lines of words left. The lines have the form that the crate recorded_solve states.
 //
 // Its file stdin is a copy, byte for byte, of oracle/recorded/solve-words.txt, with the answers of the excerpt of merc:
 // `cp oracle/recorded/solve-words.txt crates/replay_solve/stdin`. Its first lines say how they were made.
 use line_input::Found;
 use line_input::next_line;
 use line_input::no_input;
+use recorded_solve::HELD_WORDS;
 use recorded_solve::replay_line;
+use replay::LINE_BYTES;
 use replay::Tally;
 use replay::Verdict;
 use replay::counted;
@@ -23,8 +25,8 @@ struct State {
 
 // A line of the input, of so many bytes. Of one that is longer than its memory it is known that it is not of the form.
 fn take_line(
-    given: &mut [u16; 34059],
-    left: &mut [u16; 34059],
+    given: &mut [u16; HELD_WORDS],
+    left: &mut [u16; HELD_WORDS],
     line: &[u8],
     length: usize,
     before: Tally,
@@ -42,8 +44,8 @@ fn take_line(
 
 // All lines; the turns count down as in next_line.
 fn replay_all(
-    given: &mut [u16; 34059],
-    left: &mut [u16; 34059],
+    given: &mut [u16; HELD_WORDS],
+    left: &mut [u16; HELD_WORDS],
     buffer: &mut [u8],
     line: &mut [u8],
     before: Tally,
@@ -68,10 +70,10 @@ fn replay_all(
 }
 
 fn main() {
-    let mut given = [0u16; 34059];
-    let mut left = [0u16; 34059];
+    let mut given = [0u16; HELD_WORDS];
+    let mut left = [0u16; HELD_WORDS];
     let mut buffer = io::buffer();
-    let mut line = [0u8; 256];
+    let mut line = [0u8; LINE_BYTES];
     let tally = Tally {
         lines: 0,
         questions: 0,

@@ -12,11 +12,13 @@ use recorded_sorts::Place;
 use recorded_sorts::complete;
 use recorded_sorts::replay_line;
 use recorded_sorts::start;
+use replay::LINE_BYTES;
 use replay::Tally;
 use replay::Verdict;
 use replay::counted;
 use replay::finish;
 use replay::say;
+use resolved_sort::SORT_WORDS;
 
 // How far the list was read, the counts, and how the search for the last line ended.
 struct State {
@@ -26,7 +28,7 @@ struct State {
 }
 
 // A line of the input, of so many bytes. Of one that is longer than its memory it is known that it is not of the form.
-fn take_line(list: &mut [u16; 8192], line: &[u8], length: usize, state: State) -> State {
+fn take_line(list: &mut [u16; SORT_WORDS], line: &[u8], length: usize, state: State) -> State {
     let place = state.place;
     let before = state.tally;
     if line.len() < length {
@@ -51,7 +53,12 @@ fn take_line(list: &mut [u16; 8192], line: &[u8], length: usize, state: State) -
 }
 
 // All lines; the turns count down as in next_line.
-fn replay_all(list: &mut [u16; 8192], buffer: &mut [u8], line: &mut [u8], state: State) -> State {
+fn replay_all(
+    list: &mut [u16; SORT_WORDS],
+    buffer: &mut [u8],
+    line: &mut [u8],
+    state: State,
+) -> State {
     let mut current = state;
     let mut read = no_input();
     let mut turns = u64::MAX;
@@ -77,9 +84,9 @@ fn replay_all(list: &mut [u16; 8192], buffer: &mut [u8], line: &mut [u8], state:
 }
 
 fn main() {
-    let mut list = [0u16; 8192];
+    let mut list = [0u16; SORT_WORDS];
     let mut buffer = io::buffer();
-    let mut line = [0u8; 256];
+    let mut line = [0u8; LINE_BYTES];
     let tally = Tally {
         lines: 0,
         questions: 0,

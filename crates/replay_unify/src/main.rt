@@ -1,17 +1,19 @@
-// Reads recorded answers about unify from standard input and asks the proved entry again. It names each line whose answer or
-// whose bindings differ and each line that is not of the form, and at the end it says how many answers it checked and how
-// many lines differ.
+// Reads recorded answers about unify from standard input and asks the proved entry again. It names
+// each line whose answer or whose bindings differ and each line that is not of the form, and at the
+// end it says how many answers it checked and how many lines differ.
 //
-// Its file stdin is a copy, byte for byte, of oracle/recorded/unify.txt, with the answers of the excerpt of merc and the
-// bindings of a model of document 01: `cp oracle/recorded/unify.txt crates/replay_unify/stdin`. Its first lines say how they
-// were made.
+// Its file stdin is a copy, byte for byte, of oracle/recorded/unify.txt, with the answers of the excerpt of merc and
+// the bindings of a model of document 01: `cp oracle/recorded/unify.txt crates/replay_unify/stdin`. Its first lines say
+// how they were made.
 use line_input::Found;
 use line_input::next_line;
 use line_input::no_input;
+use recorded_unify::LIST_WORDS;
 use recorded_unify::Place;
 use recorded_unify::complete;
 use recorded_unify::replay_line;
 use recorded_unify::start;
+use replay::LINE_BYTES;
 use replay::Tally;
 use replay::Verdict;
 use replay::counted;
@@ -26,7 +28,7 @@ struct State {
 }
 
 // A line of the input, of so many bytes. Of one that is longer than its memory it is known that it is not of the form.
-fn take_line(words: &mut [u16; 21504], line: &[u8], length: usize, state: State) -> State {
+fn take_line(words: &mut [u16; LIST_WORDS], line: &[u8], length: usize, state: State) -> State {
     let place = state.place;
     let before = state.tally;
     if line.len() < length {
@@ -51,7 +53,12 @@ fn take_line(words: &mut [u16; 21504], line: &[u8], length: usize, state: State)
 }
 
 // All lines; the turns count down as in next_line.
-fn replay_all(words: &mut [u16; 21504], buffer: &mut [u8], line: &mut [u8], state: State) -> State {
+fn replay_all(
+    words: &mut [u16; LIST_WORDS],
+    buffer: &mut [u8],
+    line: &mut [u8],
+    state: State,
+) -> State {
     let mut current = state;
     let mut read = no_input();
     let mut turns = u64::MAX;
@@ -77,9 +84,9 @@ fn replay_all(words: &mut [u16; 21504], buffer: &mut [u8], line: &mut [u8], stat
 }
 
 fn main() {
-    let mut words = [0u16; 21504];
+    let mut words = [0u16; LIST_WORDS];
     let mut buffer = io::buffer();
-    let mut line = [0u8; 256];
+    let mut line = [0u8; LINE_BYTES];
     let tally = Tally {
         lines: 0,
         questions: 0,

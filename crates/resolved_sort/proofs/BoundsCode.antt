@@ -35,7 +35,7 @@ use Rattle.resolved_sort.proofs.Pairs.{Unlike, flats, functions, OfPrim
 use Rattle.resolved_sort.proofs.Grown.{Grown, grown-none, after-none}
 use Rattle.resolved_sort.proofs.Kept.{Kept, InTree, make-kept, container-interned, function-interned, Whole}
 use Rattle.resolved_sort.proofs.Stored.{internRow-interns, counts-kept, look-whole}
-use Rattle.resolved_sort.proofs.Reached.{Reached, reached, stopped, ended, reached-checked, reached-list, reached-trees, reached-below, reached-sort, reached-sorts, reached-entries, stored-again, intern-after}
+use Rattle.resolved_sort.proofs.Reached.{Reached, reached, stopped, ended, reached-checked, reached-list, reached-trees, reached-below, reached-sort, reached-sorts, stored-again, intern-after}
 
 -- the clauses of `make`, by what is known of the two sorts
 flat-itself : (up : Bool) (a : Flat) → boundFlat up a a ≡ some a

@@ -41,7 +41,7 @@ use Rattle.resolved_sort.proofs.Grown.{Grown, grown-none, after-none, a
 use Rattle.resolved_sort.proofs.Unchanged.{longer, entries-longer, unchanged, look-unchanged, run-unchanged}
 use Rattle.resolved_sort.proofs.Kept.{Extends, extends-refl, member-extends, members-extends, Kept, InTree, InTrees, make-kept, makes-kept, kept-then, Whole, Wholes, whole-extends, wholes-extend}
 use Rattle.resolved_sort.proofs.Stored.{look-whole, wholes-below}
-use Rattle.resolved_sort.proofs.Reached.{Reached, reached, stopped, ended, reached-checked, reached-list, reached-trees, reached-below, reached-sort, reached-sorts, reached-entries, stored-again, intern-after, here}
+use Rattle.resolved_sort.proofs.Reached.{Reached, reached, stopped, ended, reached-checked, reached-list, reached-trees, reached-below, reached-sort, reached-sorts, stored-again, intern-after, here}
 use Rattle.resolved_sort.proofs.BoundsCode.{make-functions, answer-none, counts-are}
 
 -- a row that says a function is of the function's kind

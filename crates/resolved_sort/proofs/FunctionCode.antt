@@ -31,7 +31,7 @@ use Rattle.resolved_sort.proofs.Grown.{Grown, grown-none, grown-both, s
 use Rattle.resolved_sort.proofs.Unchanged.{longer, look-unchanged}
 use Rattle.resolved_sort.proofs.Kept.{Extends, members-extends, Kept, InTree, InTrees, make-kept, makes-kept, intern-kept, Whole, whole-extends}
 use Rattle.resolved_sort.proofs.Stored.{look-whole}
-use Rattle.resolved_sort.proofs.Reached.{no-confusion, Reached, reached, stopped, ended, reached-checked, reached-list, reached-trees, reached-below, reached-sort, reached-sorts, reached-entries, stored-again, intern-after, here}
+use Rattle.resolved_sort.proofs.Reached.{no-confusion, Reached, reached, stopped, ended, reached-checked, reached-list, reached-trees, reached-below, reached-sort, reached-sorts, stored-again, intern-after, here}
 use Rattle.resolved_sort.proofs.BoundsCode.{make-functions}
 use Rattle.resolved_sort.proofs.DomainCode.{number-extends, range-below, few-arguments, function-sort, arguments-whole}
 

@@ -1,24 +1,24 @@
 -- Interning, join and meet keep the list grown from its storage: what they answer is in the list, and what was in the
 -- list stays there under its number. By the clauses of `make`. Assumes nothing.
-use mathlib.Core.Path.{_≡_, refl, sym, _∙_, ap, ap₂, subst}
-use mathlib.Core.Bool.{Bool, true, false, cond, not, _&&_, _||_, and-eq-true-iff}
+use mathlib.Core.Path.{_≡_, refl, sym, _∙_, ap, subst}
+use mathlib.Core.Bool.{Bool, true, false, cond, not, and-eq-true-iff}
 use mathlib.Core.List.{List, [], _∷_, _++_, append-assoc, append-nil}
 use mathlib.Core.Option.{Option, none, some}
-use Prim.Native.Nat.{ℕ, zero, suc, _+_, _-_, _*_, _<_, _≤_}
+use Prim.Native.Nat.{ℕ, _+_, _-_, _≤_}
 use native.Mathlib.Omega.{arith}
 use lib.ListN.{length}
 use lib.Dec.{eqb, leb, ltb}
-use borrow.Author.Tests.{ltb-true, leb-true, eqb-true}
+use borrow.Author.Tests.{ltb-true, leb-true}
 use Rattle.resolved_sort.specs.declared.ComplexSort.{ComplexSort}
 use Rattle.resolved_sort.specs.Tree.{Flat, Tree, flat, container, function, Trees, end, arg, arity, family, level, same}
 use Rattle.resolved_sort.specs.Order.{leLevel, boundFlat, boundOp}
 use Rattle.resolved_sort.specs.Interning.{Sorts, member, need, Outcome, made, nothing, full, _then_, where-some, fits, intern, make, makes}
-use Rattle.resolved_sort.specs.Storage.{maxSorts, maxEntries, trees, sortsOf}
+use Rattle.resolved_sort.specs.Storage.{maxSorts, maxEntries, trees}
 use Rattle.resolved_sort.specs.Entries.{after}
 use Rattle.resolved_sort.proofs.Numbers.{member-grows, member-snoc-last}
 use Rattle.resolved_sort.proofs.RowTrees.{partsIn, members}
 use Rattle.resolved_sort.proofs.Append.{Fresh}
-use Rattle.resolved_sort.proofs.Grown.{Grown, grown-one, grown-both, sorts-again}
+use Rattle.resolved_sort.proofs.Grown.{Grown, grown-one, grown-both}
 
 -- the second list begins with the first
 abbrev pub Extends : Sorts → Sorts → Type 0
@@ -50,12 +50,6 @@ unfoldable mutual
   pub Wholes : List Tree → Trees → Type 0
   Wholes T end = Unit {0}
   Wholes T (arg t ts) = Whole T t × Wholes T ts
-
-pub whole-member : (T : List Tree) (t : Tree) → Whole T t → member T t ≡ true
-unfolding Whole
-whole-member T (flat a) w = w
-whole-member T (container o s) w = w .0
-whole-member T (function ss r) w = w .0
 
 mutual
   unfolding Whole Wholes

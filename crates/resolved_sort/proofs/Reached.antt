@@ -1,19 +1,18 @@
 -- What a call that made sorts has left, read off its equation: the list it reached, its answer there, and that a call
 -- after it goes on from there as if the two were one. Assumes nothing.
-use mathlib.Core.Path.{_≡_, refl, sym, _∙_, ap, ap₂, subst}
-use mathlib.Core.Bool.{Bool, true, false}
-use mathlib.Core.List.{List, [], _∷_, _++_}
-use Prim.Native.Nat.{ℕ, _+_, _-_, _<_, _≤_}
+use mathlib.Core.Path.{_≡_, refl, _∙_, ap, ap₂, subst}
+use mathlib.Core.Bool.{true}
+use mathlib.Core.List.{List, []}
+use Prim.Native.Nat.{ℕ, _-_, _<_, _≤_}
 use native.Mathlib.Omega.{arith}
 use lib.ListN.{length}
 use Rattle.resolved_sort.specs.declared.SortId.{SortId}
 use Rattle.resolved_sort.specs.declared.Counts.{Counts}
-use Rattle.resolved_sort.specs.declared.Joined.{Joined}
 use Rattle.resolved_sort.specs.declared.Joined.the-variants.{At, Nothing, Full}
-use Rattle.resolved_sort.specs.Tree.{Tree, Trees}
+use Rattle.resolved_sort.specs.Tree.{Tree}
 use Rattle.resolved_sort.specs.Interning.{Sorts, look, number, member, need, Outcome, made, nothing, full, intern}
 use Rattle.resolved_sort.specs.Storage.{maxEntries, trees, sortsOf}
-use Rattle.resolved_sort.specs.Entries.{countsOf, after, Stored, stored}
+use Rattle.resolved_sort.specs.Entries.{countsOf, after, stored}
 use Rattle.resolved_sort.specs.Rows.{Checked, storedAt}
 use Rattle.resolved_sort.specs.Bounds.{internAt}
 use Rattle.resolved_sort.proofs.RowTrees.{partsIn}
@@ -61,9 +60,6 @@ ended ws n e (full S) vs q = (S, refl, ap (λ r. r .words) q)
 module _ (ws : List ℕ) (n e : ℕ) (S₀ : Sorts) (O : Outcome Tree) (vs : List ℕ) (c : SortId) (k : Counts) (r : Reached ws n e S₀ O vs c k) where
   pub reached-sorts : k .sorts ≡ length (r .sorts .trees)
   reached-sorts = ap (λ x. x .sorts) (r .counted)
-
-  pub reached-entries : k .entries ≡ maxEntries - r .sorts .entries
-  reached-entries = ap (λ x. x .entries) (r .counted)
 
   pub reached-checked : Checked vs (k .sorts) (k .entries)
   reached-checked = rw (r .words, r .counted) (r .grown .checked)

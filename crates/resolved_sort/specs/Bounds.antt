@@ -18,8 +18,10 @@ use Rattle.resolved_sort.specs.declared.Found.the-variants.{All, Nothing
 use Rattle.resolved_sort.specs.declared.Domain.{Domain}
 use Rattle.resolved_sort.specs.Tree.{primitive, Tree, container, function, Trees, family, level}
 use Rattle.resolved_sort.specs.Order.{leLevel, boundOp}
-use Rattle.resolved_sort.specs.Interning.{Sorts, look, Outcome, made, nothing, full, _then_, where-some, intern, make, makes}
-use Rattle.resolved_sort.specs.Storage.{functionKind, kindAt, partAt, startAt, countAt, entriesOf, lookAll, numbers, trees, sortsOf}
+use Rattle.resolved_sort.specs.Interning.{Sorts, look, Outcome, made, nothing, full}
+use Rattle.resolved_sort.specs.Interning.{_then_, where-some, intern, make, makes}
+use Rattle.resolved_sort.specs.Storage.{maxArguments, functionKind, kindAt, partAt, startAt, countAt}
+use Rattle.resolved_sort.specs.Storage.{entriesOf, lookAll, numbers, trees, sortsOf}
 use Rattle.resolved_sort.specs.Entries.{countsOf, after, Stored, stored}
 use Rattle.resolved_sort.specs.Rows.{Checked}
 
@@ -78,8 +80,8 @@ domainOf ws n e i ids (made vs S) =
     storedDomain (after ws n e S)
     (record { ids = sets ids i (numbers (S .trees) vs); found = All (countsOf S) })
 domainOf ws n e i ids (nothing S) =
-    storedDomain (after ws n e S) (record { ids = replicate 16 0; found = Nothing (countsOf S) })
-domainOf ws n e i ids (full S) = storedDomain (after ws n e S) (record { ids = replicate 16 0; found = Full })
+    storedDomain (after ws n e S) (record { ids = replicate maxArguments 0; found = Nothing (countsOf S) })
+domainOf ws n e i ids (full S) = storedDomain (after ws n e S) (record { ids = replicate maxArguments 0; found = Full })
 
 -- the joins or meets of the arguments of a and b from the i-th on
 unfoldable pub boundDomain : Bool → List ℕ → ℕ → ℕ → ℕ → ℕ → ℕ → List ℕ → StoredDomain

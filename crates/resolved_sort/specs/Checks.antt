@@ -1,5 +1,5 @@
--- Checks 1 to 4, 12 and 14 of document 01 over the lent sort storage ws with n sorts and e entries given, each true where
--- the check passes; the first that fails is the refusal.
+-- Checks 1 to 4, 12 and 14 of document 01 over the lent sort storage ws with n sorts and e entries given, each true
+-- where the check passes; the first that fails is the refusal.
 use mathlib.Core.Bool.{Bool, true, false, cond, _&&_}
 use mathlib.Core.List.{List, [], _∷_, _++_}
 use mathlib.Core.Option.{Option, none, some}
@@ -7,9 +7,11 @@ use Prim.Native.Nat.{ℕ, zero, suc, _+_, _-_, _*_}
 use lib.ListN.{length}
 use lib.Dec.{eqb, leb, ltb}
 use Rattle.resolved_sort.specs.declared.ResolvedSort.{ResolvedSort}
-use Rattle.resolved_sort.specs.declared.ResolvedSort.the-variants.{Unit, Primitive, Container, Function, Def, TypeVar}
+use Rattle.resolved_sort.specs.declared.ResolvedSort.the-variants.{Unit, Primitive, Container}
+use Rattle.resolved_sort.specs.declared.ResolvedSort.the-variants.{Function, Def, TypeVar}
 use Rattle.resolved_sort.specs.Interning.{distinct}
-use Rattle.resolved_sort.specs.Storage.{maxSorts, maxEntries, entriesAt, fullLength, kindAt, entryAt, rowAt, lastKind, trees}
+use Rattle.resolved_sort.specs.Storage.{maxSorts, maxEntries, maxArguments, rowWords, entriesAt}
+use Rattle.resolved_sort.specs.Storage.{fullLength, kindAt, entryAt, rowAt, lastKind, trees}
 
 -- p holds of every number below n
 unfoldable pub allBelow : ℕ → (ℕ → Bool) → Bool
@@ -19,7 +21,7 @@ allBelow (suc n) p = allBelow n p && p n
 -- 1. "A given list is above its ceiling or longer than the storage lent for it."
 unfoldable pub withinLent : List ℕ → ℕ → ℕ → Bool
 withinLent ws n e =
-    leb n maxSorts && leb e maxEntries && leb (4 * n) (length ws) && leb e (length ws - entriesAt)
+    leb n maxSorts && leb e maxEntries && leb (rowWords * n) (length ws) && leb e (length ws - entriesAt)
 
 -- 2. "The first six sorts are not the fixed six in order." Kinds 0 to 5 are these, and have no parts.
 unfoldable pub fixedSix : List ℕ → ℕ → Bool
@@ -31,7 +33,7 @@ partsBelow ws e i Unit = true
 partsBelow ws e i (Primitive s) = true
 partsBelow ws e i (Container op subsort) = ltb (subsort .0) i
 partsBelow ws e i (Function domain range) =
-    leb (domain .count) 16
+    leb (domain .count) maxArguments
     && leb (domain .start + domain .count) e
     && ltb (range .0) i
     && allBelow (domain .count) (λ j. ltb (entryAt ws (domain .start + j)) i)

@@ -1,5 +1,5 @@
--- The distance of two sorts with sums that do not stop: the clauses of `distance` with `+`. It is there to say what stopping
--- at 255 loses.
+-- The distance of two sorts with sums that do not stop: the clauses of `distance` with `+`. It is
+-- there to say what stopping at 255 loses.
 use mathlib.Core.Bool.{Bool, not}
 use mathlib.Core.Option.{Option, none, some}
 use Prim.Native.Nat.{ℕ, _+_, min}

@@ -6,7 +6,8 @@ use lib.Dec.{eqb, leb}
 use Rattle.resolved_sort.specs.declared.ComplexSort.{ComplexSort}
 use Rattle.resolved_sort.specs.declared.PartialOrder.{PartialOrder}
 use Rattle.resolved_sort.specs.declared.PartialOrder.the-variants.{Unrelated, Equal, Below, Above}
-use Rattle.resolved_sort.specs.Tree.{Flat, Tree, flat, container, function, Trees, end, arg, family, level, familyOp, levelOp, same, sames}
+use Rattle.resolved_sort.specs.Tree.{Flat, Tree, flat, container, function, Trees, end}
+use Rattle.resolved_sort.specs.Tree.{arg, family, level, familyOp, levelOp, same, sames}
 
 -- A direction: up true reads "equal to or below", up false "equal to or above". With it the functions below call
 -- themselves on parts of their first sort, though a function's arguments go the other way.
@@ -116,9 +117,9 @@ given false x = none
 abbrev pub all : Steps → ℕ
 all d = sum (d .head) (d .interior)
 
--- Distance, from the first sort up to the second (up true) or from the second up to the first: "equal sorts have (0, 0);
--- numbers have their steps as head; containers head 0 or 1 and the part's head plus interior as interior; functions head
--- 0, arguments (reversed) and range all interior".
+-- Distance, from the first sort up to the second (up true) or from the second up to the first: "equal sorts have
+-- (0, 0); numbers have their steps as head; containers head 0 or 1 and the part's head plus interior as interior;
+-- functions head 0, arguments (reversed) and range all interior".
 unfoldable mutual
   pub distance : Bool → Tree → Tree → Option Steps
   distance up (flat a) (flat b) =

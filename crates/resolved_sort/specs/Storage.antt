@@ -10,8 +10,10 @@ use Rattle.resolved_sort.specs.declared.Sort.{Sort}
 use Rattle.resolved_sort.specs.declared.ComplexSort.{ComplexSort}
 use Rattle.resolved_sort.specs.declared.Run.{Run}
 use Rattle.resolved_sort.specs.declared.ResolvedSort.{ResolvedSort}
-use Rattle.resolved_sort.specs.declared.ResolvedSort.the-variants.{Unit, Primitive, Container, Function, Def, TypeVar}
-use Rattle.resolved_sort.specs.Tree.{Flat, unit, primitive, def, typevar, Tree, flat, container, function, Trees, end, arg}
+use Rattle.resolved_sort.specs.declared.ResolvedSort.the-variants.{Unit, Primitive, Container}
+use Rattle.resolved_sort.specs.declared.ResolvedSort.the-variants.{Function, Def, TypeVar}
+use Rattle.resolved_sort.specs.Tree.{Flat, unit, primitive, def, typevar, Tree}
+use Rattle.resolved_sort.specs.Tree.{flat, container, function, Trees, end, arg}
 use Rattle.resolved_sort.specs.Interning.{Sorts, look, number, need}
 use Rattle.words.specs.Words.{zeros}
 
@@ -22,6 +24,14 @@ maxSorts = 1024
 abbrev pub maxEntries : ℕ
 maxEntries = 4096
 
+-- "a function with 0 to 16 arguments"
+abbrev pub maxArguments : ℕ
+maxArguments = 16
+
+-- the words of a row
+abbrev pub rowWords : ℕ
+rowWords = 4
+
 -- where the entries begin, after the rows of 1,024 sorts
 abbrev pub entriesAt : ℕ
 entriesAt = 4096
@@ -31,24 +41,30 @@ abbrev pub fullLength : ℕ
 fullLength = 8192
 
 abbrev pub kindAt : List ℕ → ℕ → ℕ
-kindAt ws i = getD ws (4 * i) 0
+kindAt ws i = getD ws (rowWords * i) 0
 
 abbrev pub partAt : List ℕ → ℕ → ℕ
-partAt ws i = getD ws (4 * i + 1) 0
+partAt ws i = getD ws (rowWords * i + 1) 0
 
 abbrev pub startAt : List ℕ → ℕ → ℕ
-startAt ws i = getD ws (4 * i + 2) 0
+startAt ws i = getD ws (rowWords * i + 2) 0
 
 abbrev pub countAt : List ℕ → ℕ → ℕ
-countAt ws i = getD ws (4 * i + 3) 0
+countAt ws i = getD ws (rowWords * i + 3) 0
 
 abbrev pub entryAt : List ℕ → ℕ → ℕ
 entryAt ws j = getD ws (entriesAt + j) 0
 
 -- The kinds, by number: 0 unit, 1 to 5 the primitive sorts, 6 to 10 the containers, 11 function, 12 Def, 13 TypeVar.
 -- Sort numbers 0 to 5 and kinds 0 to 5 agree.
+abbrev pub firstContainer : ℕ
+firstContainer = 6
+
 abbrev pub functionKind : ℕ
 functionKind = 11
+
+abbrev pub defKind : ℕ
+defKind = 12
 
 abbrev pub lastKind : ℕ
 lastKind = 13
@@ -83,7 +99,7 @@ abbrev pub wordsAt : List ℕ → ℕ → Row
 wordsAt ws i =
     record {
       kind = kindAt ws i;
-      part = cond (ltb (kindAt ws i) 6) 0 (partAt ws i);
+      part = cond (ltb (kindAt ws i) firstContainer) 0 (partAt ws i);
       args = cond (eqb (kindAt ws i) functionKind) (entriesOf ws (startAt ws i) (countAt ws i)) [];
     }
 
@@ -120,8 +136,8 @@ kindFlat (primitive Sort.Pos) = 2
 kindFlat (primitive Sort.Nat) = 3
 kindFlat (primitive Sort.Int) = 4
 kindFlat (primitive Sort.Real) = 5
-kindFlat (def n) = 12
-kindFlat (typevar n) = 13
+kindFlat (def n) = defKind
+kindFlat (typevar n) = lastKind
 
 unfoldable pub kindOp : ComplexSort → ℕ
 kindOp ComplexSort.List = 6
@@ -148,7 +164,9 @@ rowOf T (function ts u) = record { kind = functionKind; part = number T u; args 
 -- Row i set to four words.
 unfoldable pub putRow : List ℕ → ℕ → ℕ → ℕ → ℕ → ℕ → List ℕ
 putRow ws i kind part start count =
-    set (set (set (set ws (4 * i) kind) (4 * i + 1) part) (4 * i + 2) start) (4 * i + 3) count
+    set
+    (set (set (set ws (rowWords * i) kind) (rowWords * i + 1) part) (rowWords * i + 2) start)
+    (rowWords * i + 3) count
 
 -- The row r as row n, with e entries in use before it. Unused words are zero.
 unfoldable pub appendRow : List ℕ → ℕ → ℕ → Row → List ℕ
@@ -167,4 +185,4 @@ written ws T e (t ∷ ts) = written (append ws T e t) (T ++ (t ∷ [])) (e + nee
 
 -- 15 gives back: "rows past the entry lengths are zero", entries too, to the end of what was lent.
 unfoldable pub givenBack : ℕ → ℕ → List ℕ → List ℕ
-givenBack n e ws = zeros (entriesAt + e) (length ws) (zeros (4 * n) entriesAt ws)
+givenBack n e ws = zeros (entriesAt + e) (length ws) (zeros (rowWords * n) entriesAt ws)

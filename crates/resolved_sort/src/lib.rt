@@ -137,7 +137,7 @@ pub enum Found {
 
 // The joins or meets of two domains, where there are all of them.
 pub struct Domain {
-    pub ids: [u16; 16],
+    pub ids: [u16; ARGUMENT_WORDS],
     pub found: Found,
 }
 
@@ -147,7 +147,8 @@ pub enum Tested {
     Passed,
 }
 
-// Ceilings of document 01: sorts, argument entries, and arguments of a function. Sort numbers are below SORT_NUMBERS.
+// Ceilings of document 01: sorts, argument entries, and arguments of a function. Sort numbers are below SORT_NUMBERS,
+// and the arguments of a function stand in ARGUMENT_WORDS.
 pub const MAX_SORTS: usize = 1024;
 
 pub const SORT_NUMBERS: u16 = 1024;
@@ -156,13 +157,22 @@ pub const MAX_ENTRIES: usize = 4096;
 
 pub const MAX_ARGUMENTS: u16 = 16;
 
+pub const ARGUMENT_WORDS: usize = 16;
+
+// The words of a row of sorts or nodes: kind, part, start and count.
+pub const ROW_WORDS: usize = 4;
+
 // Where the argument entries begin in the lent words, behind the rows, and how many words are lent at the full ceiling.
 pub const ENTRIES_AT: usize = 4096;
 
 pub const SORT_WORDS: usize = 8192;
 
-// The kind of a function's row, and the last kind.
+// The kinds of rows: below FIRST_CONTAINER those without a part; then containers, a function, Def and TypeVar.
+pub const FIRST_CONTAINER: u16 = 6;
+
 pub const FUNCTION_KIND: u16 = 11;
+
+pub const DEF_KIND: u16 = 12;
 
 pub const LAST_KIND: u16 = 13;
 

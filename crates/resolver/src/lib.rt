@@ -1,10 +1,11 @@
-// The sort that a place stands for: from merc's unification.rs, resolve and resolve_or_default. Both are one function here, with
-// what stands for a free variable. New sorts are appended; where the answer is none, what was made stays.
+// The sort that a place stands for: from merc's unification.rs, resolve and resolve_or_default. Both are one function
+// here, with what stands for a free variable. New sorts are appended; where the answer is none, what was made stays.
 use infer_nodes::argument;
 use infer_nodes::counts_of;
 use infer_nodes::node;
 use infer_nodes::shallow_normalize;
 use infer_nodes::with_counts;
+use resolved_sort::ARGUMENT_WORDS;
 use resolved_sort::Counts;
 use resolved_sort::Joined;
 use resolved_sort::Run;
@@ -28,7 +29,8 @@ ghost use Rattle.unification.specs.Solutions.{termsAt};
 ghost use Rattle.unification.specs.Resolve.{freeSort, DefaultBelow, valueIn, termResolved};
 ghost use Rattle.infer_nodes.specs.Bound.{RunPlaced};
 
-// Extracts the resolved sort denoted by `id`, or nothing when a free variable remains, i.e. the sort is underdetermined.
+// Extracts the resolved sort denoted by `id`, or nothing when a free variable remains, i.e. the
+// sort is underdetermined.
 pub fn resolve(
     sorts: &mut [u16],
     nodes: &[u16],
@@ -130,8 +132,8 @@ fn resolve_with(
     }
 }
 
-// A function: its arguments, left to right, then its range, then the whole. One loop goes through the arguments, so that a level of
-// nesting costs one call of this function, as in merc.
+// A function: its arguments, left to right, then its range, then the whole. One loop goes through the arguments, so
+// that a level of nesting costs one call of this function, as in merc.
 fn resolve_function(
     sorts: &mut [u16],
     nodes: &[u16],
@@ -157,7 +159,7 @@ fn resolve_function(
 {
     let start = domain.start;
     let count = domain.count;
-    let mut ids = [0u16; 16];
+    let mut ids = [0u16; ARGUMENT_WORDS];
     let mut here = lengths;
     let mut i = 0u16;
     while i < count {

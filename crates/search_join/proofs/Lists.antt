@@ -3,34 +3,16 @@ use mathlib.Core.Path.{_≡_, sym, _∙_, ap, ap₂, subst}
 use mathlib.Core.List.{List, [], _∷_, _++_}
 use Prim.Native.Nat.{ℕ, zero, suc, _+_, _-_, _<_, _≤_}
 use native.Mathlib.Omega.{arith}
-use native.Mathlib.Nat.{add-zero}
 use native.Mathlib.Numerals.{add-one}
 use lib.ListN.{length, getD, take, drop, set}
 use lib.Seq.{length-take-le, drop-cons, take-suc-set, getD-take}
 use Rattle.resolved_sort.specs.Rows.{AllBelow}
-use Rattle.inference.specs.Constraints.{rowsFrom}
-use Rattle.inference.specs.Typing.{All, and-all}
 
 pub below-at : (n : ℕ) (xs : List ℕ) → AllBelow n xs → (i : ℕ) → i < length xs → getD xs i 0 < n
 unfolding AllBelow
 below-at n [] a i l = absurd (omega (arith, l))
 below-at n (x ∷ xs) a zero l = a .0
 below-at n (x ∷ xs) a (suc i) l = below-at n xs (a .1) i (omega (arith, l))
-
--- rows that are read one by one
-pub row-all : {A : Type 0} (R : A → Type 0) (row : ℕ → A) (s n i : ℕ) → All R (rowsFrom row s n) → i < n → R (row (s + i))
-unfolding rowsFrom
-row-all R row s zero i a l = absurd (omega (arith, l))
-row-all R row s (suc n) zero (and-all _ _ x a) l = subst (λ (j : ℕ). R (row j)) (sym (add-zero s)) x
-row-all R row s (suc n) (suc i) (and-all _ _ x a) l = subst (λ (j : ℕ). R (row j)) (omega arith) (row-all R row (s + 1) n i a (omega (arith, l)))
-
-rows-cons : {A : Type 0} (row : ℕ → A) (a n m : ℕ) → n ≡ suc m → rowsFrom row a n ≡ row a ∷ rowsFrom row (a + 1) m
-unfolding rowsFrom
-rows-cons row a n m e = ap (rowsFrom row a) e
-
-pub rows-left : {A : Type 0} (row : ℕ → A) (s m i : ℕ) → i < m → rowsFrom row (s + i) (m - i) ≡ row (s + i) ∷ rowsFrom row (s + (i + 1)) (m - (i + 1))
-rows-left row s m i l =
-    rows-cons row (s + i) (m - i) (m - (i + 1)) (omega (arith, l)) ∙ ap (λ (j : ℕ). row (s + i) ∷ rowsFrom row j (m - (i + 1))) (omega arith)
 
 -- the first m of at least m words
 module _ (ids : List ℕ) (m : ℕ) (long : m ≤ length ids) where

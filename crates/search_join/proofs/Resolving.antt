@@ -26,7 +26,8 @@ use Rattle.search_state.specs.declared.Extracted.the-variants.{All, Nothing as 
 use Rattle.search_state.specs.Memory.{sourceAt, lent}
 use Rattle.search_state.specs.Leaves.{madeOf, extractedOf}
 use Rattle.search_join.specs.Sources.{Sources}
-use Rattle.search_join.proofs.Lists.{row-all, rows-left, one-more}
+use Rattle.search_join.proofs.Lists.{one-more}
+use Rattle.inference.proofs.Members.{each-row, run-one-left}
 
 -- sorts before those that are made
 abbrev before : List ℕ → Makes (List ℕ) → Makes (List ℕ)
@@ -93,7 +94,7 @@ module _ (ns bs ls : List ℕ) (s m : ℕ) (ws₀ ids₀ : List ℕ) (k₀ : Len
     module _ (p : ℕ) (e : p ≡ sourceAt ls (s + i)) where
       pub source-ready : Ready ws ns bs k × Placed k p
       source-ready =
-          (ready, placed-grown W₀ (G .entered .ready .nodes) W (G .grown .grows) p (subst (PlacedIn W₀) (sym e) (row-all (PlacedIn W₀) (sourceAt ls) s m i (G .entered .placed) h)))
+          (ready, placed-grown W₀ (G .entered .ready .nodes) W (G .grown .grows) p (subst (PlacedIn W₀) (sym e) (each-row (PlacedIn W₀) (sourceAt ls) s m (G .entered .placed) i h)))
 
       abbrev rest : ℕ → Lent → Makes (List ℕ)
       rest c U = allOf B ls (s + (i + 1)) (m - (i + 1)) U and-then (λ ss W. made (c ∷ ss) W)
@@ -104,7 +105,7 @@ module _ (ns bs ls : List ℕ) (s m : ℕ) (ws₀ ids₀ : List ℕ) (k₀ : Len
       first =
           ap (λ C. before (take i ids) (resolveIn Nothing C p W and-then rest)) binds-now
           ∙ (ap (λ q. before (take i ids) (resolveIn Nothing B q W and-then rest)) e
-          ∙ (ap (λ ps. before (take i ids) (resolveAll Nothing B ps W)) (sym (rows-left (sourceAt ls) s m i h)) ∙ G .same))
+          ∙ (ap (λ ps. before (take i ids) (resolveAll Nothing B ps W)) (sym (run-one-left (sourceAt ls) s m i h)) ∙ G .same))
 
       module _ (vs : List ℕ) (r : Made) (er : madeOf vs ns r ≡ resolveIn Nothing (bindsOf bs (k .variables)) p W) where
         by : (x : Made) → r ≡ x → before (take i ids) (madeOf vs ns x and-then rest) ≡ allOf B ls s m W₀

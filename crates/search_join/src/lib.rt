@@ -1,5 +1,6 @@
-// The sort on which the sources of a Join agree: from merc's inference.rs, the first half of solve_join. The sources are resolved
-// and joined from left to right. Where one has no sort or two have no join the answer is none, and what was made stays.
+// The sort on which the sources of a Join agree: from merc's inference.rs, the first half of
+// solve_join. The sources are resolved and joined from left to right. Where one has no sort or two
+// have no join the answer is none, and what was made stays.
 use infer_nodes::counts_of;
 use infer_nodes::with_counts;
 use inference::MAX_SOURCES;
@@ -36,7 +37,8 @@ ghost use Rattle.unification.specs.Nodes.{bindsOf};
 ghost use Rattle.unification.specs.Checked.{Ready, Placed};
 ghost use Rattle.unification.specs.Related.{each};
 ghost use Rattle.inference.specs.Constraints.{maxComponents, rowsFrom};
-ghost use Rattle.inference.specs.Search.{resolveIn, joinIn, resolveAll, joinAll, headOf, allInto, agreed as agreedOn, joinOf};
+ghost use Rattle.inference.specs.Search.{resolveIn, joinIn, resolveAll, joinAll};
+ghost use Rattle.inference.specs.Search.{headOf, allInto, agreed as agreedOn, joinOf};
 ghost use Rattle.search_state.specs.Memory.{sourceAt, measureAt, scratchUsed, lent};
 ghost use Rattle.search_state.specs.Leaves.{madeOf, extractedOf, Agrees};
 ghost use Rattle.search_state.specs.Searching.{Agreeing};

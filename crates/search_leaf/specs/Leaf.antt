@@ -20,7 +20,8 @@ use Rattle.inference.specs.Typing.{All}
 use Rattle.search_state.specs.declared.Sizes.{Sizes}
 use Rattle.search_state.specs.declared.State.{State}
 use Rattle.search_state.specs.declared.Branch.{Branch}
-use Rattle.search_state.specs.Memory.{exprAt, problemIn, lent, measureAt, bestMeasureAt, choicesAt, bestChoicesAt, scratchUsed, bestOf}
+use Rattle.search_state.specs.Memory.{exprAt, problemIn, lent, measureAt, bestMeasureAt}
+use Rattle.search_state.specs.Memory.{choicesAt, bestChoicesAt, scratchUsed, bestOf}
 use Rattle.words.specs.Words.{part}
 
 -- n components against as many of the incumbent's

@@ -1,5 +1,6 @@
-// The leaves of the search, and which branches are dropped before one: from merc's inference.rs, dominated, leaf and extract.
-// The incumbent stands in the scratch: its sorts at 512, its measure at 1280, the positions that it chose at 1792.
+// The leaves of the search, and which branches are dropped before one: from merc's inference.rs,
+// dominated, leaf and extract. The incumbent stands in the scratch: its sorts at 512, its measure
+// at 1280, the positions that it chose at 1792.
 use infer_nodes::with_counts;
 use resolved_sort::Joined;
 use resolver::resolve_or_default;
@@ -28,7 +29,8 @@ ghost use Rattle.inference.specs.SolveEntry.{nothingMet};
 ghost use Rattle.search_state.specs.Memory.{problemIn, lent, bestSortsAt, scratchUsed};
 ghost use Rattle.search_state.specs.Leaves.{rankingOf, Extracts};
 ghost use Rattle.search_state.specs.Searching.{AtLeaf, Comparable, Comes};
-ghost use Rattle.search_leaf.specs.Leaf.{ranked, rankedBy, IsDominated, Readable, sortsFrom, copied, kept, Keepable};
+ghost use Rattle.search_leaf.specs.Leaf.{ranked, rankedBy, IsDominated, Readable};
+ghost use Rattle.search_leaf.specs.Leaf.{sortsFrom, copied, kept, Keepable};
 
 // How the first n components compare with the incumbent's, from the front: the first that differ decide.
 fn compare(scratch: &[u16], n: u16) -> Ordering
@@ -79,8 +81,8 @@ pub fn dominated(scratch: &[u16], sizes: Sizes, st: State, at: Branch) -> bool
     }
 }
 
-// Reads the sort of every expression out of the bindings, before backtracking takes these back. A variable that is still free
-// stands for the default sort.
+// Reads the sort of every expression out of the bindings, before backtracking takes these back. A variable that is
+// still free stands for the default sort.
 // Such a variable is the element sort of `#[]`, of which only the length is seen. Giving it the default accepts such
 // lists, where an error about an underdetermined sort would be spurious.
 fn extract(
@@ -196,8 +198,8 @@ fn replace(
     }
 }
 
-// Keeps a leaf that is less than the incumbent, and marks the incumbent where the leaf has its measure: an unbeaten tie is
-// ambiguous.
+// Keeps a leaf that is less than the incumbent, and marks the incumbent where the leaf has its measure: an unbeaten
+// tie is ambiguous.
 // All leaves have the same number of components, one for each Sub, Lit and Join source, so their measures compare.
 pub fn leaf(
     sorts: &mut [u16],

@@ -64,9 +64,6 @@ module _ (W W′ : Lent) (c : CheckedLent W) (g : Grows W W′) where
 
 -- What is asked for on a branch holds on lists that have grown, with the same bindings.
 module _ (ls : List ℕ) (z : Sizes) (ws ns bs sc : List ℕ) (k : State) (e : Branch) (more : ℕ) (xs : List ℕ) (next : Next) (s : Searching ws ns bs sc ls z k e more xs next) where
-  pub searching-checked : CheckedLent (lent ws ns (k .lengths))
-  searching-checked = s .ready .nodes
-
   pub searching-grown : (ws′ ns′ bs′ sc′ : List ℕ) (k′ : State) → Grows (lent ws ns (k .lengths)) (lent ws′ ns′ (k′ .lengths)) → bs′ ≡ bs → length sc′ ≡ length sc
       → Searching ws′ ns′ bs′ sc′ ls z k′ e more xs next
   searching-grown ws′ ns′ bs′ sc′ k′ g b l =
@@ -154,12 +151,6 @@ module _ (ls : List ℕ) (z : Sizes) (ws ns bs sc : List ℕ) (k : State) (e : B
 
       pub or-missed : (k₁ : State) → r ≡ Missed k₁ → f (worldOf ls z ws₁ ns₁ sc₁ k₁) ≡ orElse O f
       or-missed k₁ q = ap (λ x. orElse x f) (sym (ap (outOf ls z ws₁ ns₁ sc₁) q) ∙ d .says)
-
-      pub or-on : (k₁ : State) → r ≡ Missed k₁ → (ws₂ ns₂ bs₂ sc₂ : List ℕ) (r₂ : Answer) → Done ls z ws₁ ns₁ bs₁ sc₁ k₁ e (f (worldOf ls z ws₁ ns₁ sc₁ k₁)) ws₂ ns₂ bs₂ sc₂ r₂
-          → Done ls z ws ns bs sc k e (orElse O f) ws₂ ns₂ bs₂ sc₂ r₂
-      or-on k₁ q ws₂ ns₂ bs₂ sc₂ r₂ x =
-          done-as (f (worldOf ls z ws₁ ns₁ sc₁ k₁)) (orElse O f) ws₂ ns₂ bs₂ sc₂ r₂ (or-missed k₁ q)
-          (done-after ws₁ ns₁ bs₁ sc₁ k₁ (grown-missed k₁ q) (d .binds) (d .path) (f (worldOf ls z ws₁ ns₁ sc₁ k₁)) ws₂ ns₂ bs₂ sc₂ r₂ x)
 
     pub or-comes : (f : Going (Unit {0}) nothingMet (problemIn ls z)) (k₁ : State) → r ≡ Missed k₁ → (ws₂ ns₂ bs₂ sc₂ : List ℕ) (r₂ : Answer)
         → Comes ls z ws₁ ns₁ bs₁ sc₁ k₁ e f ws₂ ns₂ bs₂ sc₂ r₂ → Done ls z ws ns bs sc k e (orElse O (f path)) ws₂ ns₂ bs₂ sc₂ r₂

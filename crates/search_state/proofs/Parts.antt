@@ -1,18 +1,24 @@
 -- Parts of a list of words, and words of which only some have changed. A part is read word by word; a part before or after the words that changed is as it
 -- was, and so is the branch where only the incumbent's words changed. Assumes nothing.
 use mathlib.Core.Path.{_≡_, refl, _∙_}
-use mathlib.Core.List.{List}
+use mathlib.Core.List.{List, [], _∷_}
 use Prim.Native.Nat.{ℕ, _+_, _<_, _≤_}
 use native.Mathlib.Omega.{arith}
 use lib.ListN.{set, take, length-set}
 use lib.Seq.{take-set-le, drop-set-lt}
 use Rattle.inference.specs.Constraints.{maxConstraints, maxComponents}
 use Rattle.search_state.specs.declared.Branch.{Branch}
-use Rattle.search_state.specs.Memory.{trailWords, bestSortsAt, measureAt, bestMeasureAt, choicesAt, bestChoicesAt, scratchUsed}
+use Rattle.search_state.specs.Memory.{choicesOf, trailWords, bestSortsAt, measureAt, bestMeasureAt, choicesAt, bestChoicesAt, scratchUsed}
 use Rattle.words.specs.Words.{part}
 use Rattle.search_state.specs.Leaves.{ChangedOnly}
 use Rattle.search_state.specs.Searching.{SamePath}
 use Rattle.words.proofs.Parts.{part-in-front, drop-longer, part-in-back, take-shorter}
+
+-- no choices without positions
+pub nothing-chosen : (xs : List ℕ) → choicesOf xs [] ≡ []
+unfolding choicesOf
+nothing-chosen [] = refl
+nothing-chosen (x ∷ xs) = refl
 
 -- Words of which only those from a to b have changed.
 pub changed-none : (a b : ℕ) (xs : List ℕ) → ChangedOnly a b xs xs

@@ -6,7 +6,6 @@ use mathlib.Core.Bool.{Bool, true, false}
 use mathlib.Core.List.{List, [], _∷_}
 use mathlib.Core.Option.{Option, none, some}
 use Prim.Native.Nat.{ℕ, _+_, _<_, _≤_}
-use native.Mathlib.Omega.{arith}
 use Rattle.resolved_sort.specs.declared.ComplexSort.{ComplexSort}
 use Rattle.resolved_sort.specs.Tree.{unit, primitive, def, typevar, container}
 use Rattle.unification.specs.declared.InferSortId.{InferSortId}
@@ -20,20 +19,18 @@ use Rattle.unification.proofs.Grows.{CheckedLent, PlacedIn, Grows, grows-refl, 
 use Rattle.unification.proofs.BindsGrow.{CheckedBinds, binds-name-places}
 use Rattle.unification.proofs.Outcomes.{Each, Any, each-container}
 use Rattle.unification.proofs.MakingGrows.{MadeFrom, AllPlaced, IsSort}
-use Rattle.unification.proofs.PlaceTerms.{sort-placed}
 use Rattle.unification.proofs.RelatedBinds.{no-list-is-free}
 use Rattle.inference.specs.declared.LitKind.{LitKind}
-use Rattle.inference.specs.declared.LitKind.the-variants.{Positive, Natural}
 use Rattle.inference.specs.Constraints.{Problem}
 use Rattle.inference.specs.Measure.{Components}
-use Rattle.inference.specs.Search.{Path, Try, World, Out, missed, measured, widerTries, narrowerTries, litComponent, fromNat, litTries, onYes, unifying, onMade, lending, givenBack, sortIn, Next, firstFound, narrower, wider, atSort, literalAt, literalEnd, literal}
+use Rattle.inference.specs.Search.{Path, Try, World, Out, missed, measured, widerTries, narrowerTries, litComponent, litTries, onYes, unifying, onMade, lending, givenBack, sortIn, Next, firstFound, narrower, wider, atSort, literalAt, literalEnd, literal}
 use Rattle.inference.specs.Typing.{All, none-left, and-all}
 use Rattle.inference.proofs.Invariant.{SortsOnly}
 use Rattle.inference.proofs.MakingSorts.{MadeSorts, container-makes}
 use Rattle.search_state.specs.declared.Sizes.{Sizes}
 use Rattle.search_state.specs.declared.Answer.{Answer}
 use Rattle.search_state.specs.declared.Answer.the-variants.{Found, Missed, Full}
-use Rattle.search_state.specs.declared.Pairs.the-variants.{One, Two}
+use Rattle.search_state.specs.declared.Pairs.the-variants.{Two}
 use Rattle.search_state.specs.declared.LitAt.{LitAt}
 use Rattle.search_state.specs.declared.LitAt.the-variants.{Number, Free, Other}
 use Rattle.search_state.specs.Memory.{lent, outOf}
@@ -48,10 +45,6 @@ given-back-in-answer ls z ws ns sc (Full c l) ws₀ ns₀ k = refl
 
 -- the pairs of a try
 module _ {Met : Type 0} (B : Binds) (l r : InferSortId) (w : World Met) where
-  pub one-pair : (k : Binds → World Met → Out Met) → unifying B (l .0) (r .0) k w ≡ onYes (unifyPairs (graph (w .lent)) (One l r) B) k w
-  unfolding unifying unifyPairs
-  one-pair k = refl
-
   pub two-pairs : (p q : InferSortId) (k : Binds → World Met → Out Met) → unifying B (l .0) (r .0) (λ C. unifying C (p .0) (q .0) k) w ≡ onYes (unifyPairs (graph (w .lent)) (Two l r p q) B) k w
   unfolding unifying unifyPairs
   two-pairs p q k = go (unify (graph (w .lent)) B (l .0) (r .0))
@@ -130,20 +123,6 @@ wider-placed W r i (p ∷ ps) x y = and-all _ _ (y p (first ps), x) (wider-place
 narrower-placed : (W : Lent) (l i : ℕ) (ps : List ℕ) → PlacedIn W l → AllPlaced W ps → TriesPlaced W (narrowerTries l i ps)
 narrower-placed W l i [] x y = none-left
 narrower-placed W l i (p ∷ ps) x y = and-all _ _ (x, y p (first ps)) (narrower-placed W l (i + 1) ps x (λ q o. y q (later p ps o)))
-
--- the tries of a literal: the fixed sorts are the first six
-pub literal-tries-are-placed : (W : Lent) → CheckedLent W → 6 ≤ W .lengths .sorts → (kind : LitKind) (p : ℕ) → PlacedIn W p → TriesPlaced W (litTries kind p)
-literal-tries-are-placed W c six kind p x = by-kind kind
-  where
-    against : (n i : ℕ) → n < 6 → TryPlaced W (record { left = p; right = n; component = i })
-    against n i l = (x, sort-placed W c n (omega (arith, l, six)))
-
-    from-nat : TriesPlaced W (fromNat p)
-    from-nat = and-all _ _ (against 3 1 (omega arith)) (and-all _ _ (against 4 2 (omega arith)) (and-all _ _ (against 5 3 (omega arith)) none-left))
-
-    by-kind : (k : LitKind) → TriesPlaced W (litTries k p)
-    by-kind Positive = and-all _ _ (against 2 0 (omega arith)) from-nat
-    by-kind Natural = from-nat
 
 -- The tries of a widening: the lists have grown, by nothing where there is no list, and the tries are of places.
 module _ (W : Lent) (c : CheckedLent W) (six : 6 ≤ W .lengths .sorts) (B : Binds) (b : CheckedBinds W B) (l r : ℕ) (x : PlacedIn W l) (y : PlacedIn W r) where

@@ -66,7 +66,8 @@ pub record TriesPairs (ws ns : List ℕ) (k : Lengths) (U : Unifies) (bs sc : Li
   pub rest : drop trailWords sc′ ≡ drop trailWords sc
   pub long : length sc′ ≡ length sc
 
--- What a step adds to a branch: the words that it writes, the counts after it with t variables on the trail, and the path.
+-- What a step adds to a branch: the words that it writes, the counts after it with t variables on
+-- the trail, and the path.
 unfoldable pub stepWords : Step → Branch → List ℕ → List ℕ
 stepWords Nothing e sc = sc
 stepWords (Component c) e sc = set sc (measureAt + e .measure) c
@@ -164,7 +165,8 @@ madeOf ws ns (At s k) = made (s .0) (lent ws ns k)
 madeOf ws ns (NoSort k) = no-list (lent ws ns k)
 madeOf ws ns (NoSortRoom k) = no-room 15 (lent ws ns k)
 
--- The sort on which the n sources of a Join agree: their head distances stand in the scratch after the measure, and nothing else of it changes.
+-- The sort on which the n sources of a Join agree: their head distances stand in the scratch after
+-- the measure, and nothing else of it changes.
 abbrev pub agreementOf : List ℕ → List ℕ → List ℕ → Branch → ℕ → Made → Makes Agreed
 agreementOf ws ns sc e n (At s k) =
     made (record { sort = s .0; components = part (measureAt + e .measure) n sc }) (lent ws ns k)

@@ -1,5 +1,6 @@
--- The problem and the state of the search in words. The scratch: trail 512, incumbent sorts 512, measure, best measure, choices, best choices 256 each.
--- Of a choice only the position is kept: the choices go in the order of the disjunctions, whose expressions are in the problem.
+-- The problem and the state of the search in words. The scratch: trail 512, incumbent sorts 512, measure, best measure,
+-- choices, best choices 256 each. Of a choice only the position is kept: the choices go in the order of the
+-- disjunctions, whose expressions are in the problem.
 use mathlib.Core.Bool.{Bool, cond}
 use mathlib.Core.List.{List, [], _∷_}
 use mathlib.Core.Option.{Option, none, some}
@@ -10,7 +11,8 @@ use Rattle.unification.specs.Nodes.{Binds}
 use Rattle.unification.specs.Making.{Lent}
 use Rattle.inference.specs.declared.Constraint.{Constraint}
 use Rattle.inference.specs.Constraints.{constraintAt, overloadAt, rowsFrom, Problem}
-use Rattle.inference.specs.Search.{Choice, Path, Candidate, World, Out, found, missed, ended, Next as Going, sequence, solve}
+use Rattle.inference.specs.Search.{Choice, Path, Candidate, World, Out, found}
+use Rattle.inference.specs.Search.{missed, ended, Next as Going, sequence, solve}
 use Rattle.inference.specs.SolveChecks.{disjunctions}
 use Rattle.inference.specs.SolveEntry.{nothingMet}
 use Rattle.search_state.specs.declared.Sizes.{Sizes}
@@ -22,7 +24,8 @@ use Rattle.search_state.specs.declared.Next.{Next}
 use Rattle.search_state.specs.declared.Next.the-variants.{Solve, Source}
 use Rattle.words.specs.Words.{part}
 
--- The lists of the problem as one list of words: constraints, overloads, sources and places of expressions, each at its ceiling.
+-- The lists of the problem as one list of words: constraints, overloads, sources and places of
+-- expressions, each at its ceiling.
 abbrev pub overloadsAt : ℕ
 overloadsAt = 1280
 

@@ -11,7 +11,8 @@ use Rattle.unification.specs.Trail.{frees}
 use Rattle.unification.specs.Making.{Lent, graph}
 use Rattle.unification.proofs.Grows.{PlacedIn, Grows}
 use Rattle.inference.specs.declared.Constraint.{Constraint}
-use Rattle.inference.specs.Constraints.{maxExprs, maxConstraints, maxOverloads, maxSources, maxComponents, rowsFrom, Problem}
+use Rattle.inference.specs.Constraints.{maxExprs, maxConstraints, maxOverloads, maxSources}
+use Rattle.inference.specs.Constraints.{maxComponents, rowsFrom, Problem}
 use Rattle.inference.specs.Search.{Out, Next as Going, onYes}
 use Rattle.inference.specs.SolveChecks.{disjunctions, components}
 use Rattle.inference.specs.SolveEntry.{nothingMet}
@@ -28,7 +29,8 @@ use Rattle.search_state.specs.declared.Next.the-variants.{Solve, Source}
 use Rattle.search_state.specs.declared.Step.{Step}
 use Rattle.search_state.specs.declared.Step.the-variants.{Nothing, Component, Written, Choice}
 use Rattle.search_state.specs.declared.Pairs.{Pairs}
-use Rattle.search_state.specs.Memory.{sourceAt, problemIn, restFrom, chosenExprs, trailWords, measureAt, choicesAt, scratchUsed, lent, pathOf, worldOf, outOf, nextOf}
+use Rattle.search_state.specs.Memory.{sourceAt, problemIn, restFrom, chosenExprs, trailWords, measureAt}
+use Rattle.search_state.specs.Memory.{choicesAt, scratchUsed, lent, pathOf, worldOf, outOf, nextOf}
 use Rattle.words.specs.Words.{part}
 use Rattle.search_state.specs.Leaves.{unifyPairs, stepped}
 
@@ -127,7 +129,8 @@ pub record SamePath (e : Branch) (sc sc′ : List ℕ) : Type 0 where
   pub choices : part choicesAt (e .choices) sc′ ≡ part choicesAt (e .choices) sc
   pub long : length sc′ ≡ length sc
 
--- A search that comes to O: the answer and the lists left say so; the lists have grown, and the bindings and the branch are as before.
+-- A search that comes to O: the answer and the lists left say so; the lists have grown, and the
+-- bindings and the branch are as before.
 pub record Done (ls : List ℕ) (z : Sizes) (ws ns bs sc : List ℕ) (k : State) (e : Branch) (O : Out (Unit {0}))
     (ws′ ns′ bs′ sc′ : List ℕ) (r : Answer) : Type 0 where
   pub says : outOf ls z ws′ ns′ sc′ r ≡ O

@@ -14,8 +14,8 @@ pub struct Sizes {
     pub default: SortId,
 }
 
-// What goes on from branch to branch: how much of the lists is in use, whether there is an incumbent, and whether another leaf
-// had its measure. The Rust's `best`, whose measure, sorts and choices stand in the scratch.
+// What goes on from branch to branch: how much of the lists is in use, whether there is an incumbent, and whether
+// another leaf had its measure. The Rust's `best`, whose measure, sorts and choices stand in the scratch.
 // They are read out at the leaf, because backtracking takes back the bindings that they are read from. An incumbent
 // that is tied and never beaten means that the list is ambiguous.
 pub struct State {
@@ -39,8 +39,8 @@ pub enum Answer {
     Full(u16, Lengths),
 }
 
-// What comes next, where the Rust hands a closure to solve_widening: the constraints from a number on; or the sources `from` ..
-// `to` of a Join, widened to its target, and then the constraints from `then` on.
+// What comes next, where the Rust hands a closure to solve_widening: the constraints from a number on; or the sources
+// `from` .. `to` of a Join, widened to its target, and then the constraints from `then` on.
 pub enum Next {
     Solve(u16),
     Source {
@@ -57,7 +57,8 @@ pub enum Pairs {
     Two(InferSortId, InferSortId, InferSortId, InferSortId),
 }
 
-// What a try adds to its branch: nothing; a component; components that stand in the scratch already; the position of an overload.
+// What a try adds to its branch: nothing; a component; components that stand in the scratch
+// already; the position of an overload.
 pub enum Step {
     Nothing,
     Component(u16),
@@ -85,7 +86,8 @@ pub enum Widenings {
     Full(u16, Lengths),
 }
 
-// What stands at the place of a literal: a number sort that it may have, with its component; a free variable; or anything else.
+// What stands at the place of a literal: a number sort that it may have, with its component; a free
+// variable; or anything else.
 pub enum LitAt {
     Number(u16),
     Free,
@@ -119,7 +121,8 @@ pub enum Went {
     Stop(u16, Lengths),
 }
 
-// The lists of a problem in one slice, each at its ceiling: constraints first, then overloads, sources and places of expressions.
+// The lists of a problem in one slice, each at its ceiling: constraints first, then overloads,
+// sources and places of expressions.
 pub const OVERLOADS_AT: usize = 1280;
 
 pub const SOURCES_AT: usize = 4352;
@@ -128,7 +131,8 @@ pub const EXPRS_AT: usize = 4608;
 
 pub const PROBLEM_WORDS: usize = 5120;
 
-// The blocks of the scratch: the trail first, then the incumbent's sorts, the running measure, the incumbent's, the running choices, the incumbent's.
+// The blocks of the scratch: the trail first, then the incumbent's sorts, the running measure, the
+// incumbent's, the running choices, the incumbent's.
 pub const TRAIL_WORDS: usize = 512;
 
 pub const BEST_SORTS_AT: usize = 512;

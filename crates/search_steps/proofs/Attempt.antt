@@ -36,6 +36,7 @@ use Rattle.words.specs.Words.{part}
 use Rattle.search_state.specs.Leaves.{unifyPairs, TriesPairs, stepWords, addedComponents, addedChoices, branchAfter, stepped}
 use Rattle.search_state.specs.Searching.{Sized, Searching, constraintsIn, componentsIn, exprsOf, Done, Comes, trying}
 use Rattle.words.proofs.Parts.{length-part, take-part, part-append, part-set-end, part-set-before, part-set-after, part-in-back, take-shorter}
+use Rattle.search_state.proofs.Parts.{nothing-chosen}
 
 -- where only the trail changed, the incumbent is the same
 module _ (ls : List ℕ) (z : Sizes) (sc sc₁ : List ℕ) (r : drop trailWords sc₁ ≡ drop trailWords sc) where
@@ -55,11 +56,6 @@ module _ (ls : List ℕ) (z : Sizes) (sc sc₁ : List ℕ) (r : drop trailWords 
       })) none
 
 -- one choice more
-nothing-chosen : (xs : List ℕ) → choicesOf xs [] ≡ []
-unfolding choicesOf
-nothing-chosen [] = refl
-nothing-chosen (x ∷ xs) = refl
-
 choose-more : (xs is : List ℕ) (i : ℕ) → length is < length xs → choicesOf xs (is ++ (i ∷ [])) ≡ choicesOf xs is ++ (record { expr = getD xs (length is) 0; position = i } ∷ [])
 unfolding choicesOf
 choose-more [] is i l = absurd (omega (arith, l))

@@ -22,7 +22,7 @@ use Rattle.search_state.specs.declared.Pairs.the-variants.{One, Two}
 use Rattle.search_state.specs.declared.Step.{Step}
 use Rattle.search_state.specs.declared.Step.the-variants.{Nothing, Component, Written, Choice}
 use Rattle.search_state.specs.Memory.{trailWords, measureAt, choicesAt, scratchUsed}
-use Rattle.search_state.specs.Leaves.{unifyPairs, PairsPlaced, TriesPairs, stepWords, addedComponents, addedChoices, branchAfter}
+use Rattle.search_state.specs.Leaves.{unifyPairs, PairsPlaced, TriesPairs, stepWords, addedComponents, branchAfter}
 
 front : (sc ts : List ℕ) → length ts ≡ trailWords → take trailWords (ts ++ drop trailWords sc) ≡ ts
 front sc ts l = take-append-le trailWords ts (drop trailWords sc) (omega (arith, l)) ∙ take-all trailWords ts (omega (arith, l))
@@ -88,12 +88,6 @@ module _ (sc : List ℕ) (e : Branch) (t : ℕ) (s : Step) where
 -- the room that a step asks for, by its kind
 pub written-room : (e : Branch) (s : Step) (n : ℕ) → s ≡ Written n → e .measure + addedComponents s ≤ 256 → e .measure + n ≤ 256
 written-room e s n q l = rw q at l
-
-pub component-room : (e : Branch) (s : Step) (n : ℕ) → s ≡ Component n → e .measure + addedComponents s ≤ 256 → e .measure + 1 ≤ 256
-component-room e s n q l = rw q at l
-
-pub choice-room : (e : Branch) (s : Step) (n : ℕ) → s ≡ Choice n → e .choices + addedChoices s ≤ 256 → e .choices + 1 ≤ 256
-choice-room e s n q l = rw q at l
 
 -- the places of a try, by its kind
 pub one-placed : (k : Lengths) (p : Pairs) (l r : InferSortId) → p ≡ One l r → PairsPlaced k p → Placed k (l .0) × Placed k (r .0)

@@ -6,7 +6,8 @@ use Prim.Native.Nat.{ℕ, _<_, _≤_}
 use lib.ListN.{getD}
 use Rattle.resolved_sort.specs.declared.ComplexSort.{ComplexSort}
 use Rattle.resolved_sort.specs.declared.ResolvedSort.{ResolvedSort}
-use Rattle.resolved_sort.specs.declared.ResolvedSort.the-variants.{Unit as UnitRow, Primitive, Container, Function, Def, TypeVar}
+use Rattle.resolved_sort.specs.declared.ResolvedSort.the-variants.{Unit as UnitRow, Primitive, Container}
+use Rattle.resolved_sort.specs.declared.ResolvedSort.the-variants.{Function, Def, TypeVar}
 use Rattle.unification.specs.declared.InferSortId.{InferSortId}
 use Rattle.unification.specs.declared.Lengths.{Lengths}
 use Rattle.unification.specs.declared.Related.{Related}
@@ -57,7 +58,8 @@ pub record LitTries (kind : LitKind) (id : InferSortId) (r : Tries) : Type 0 whe
 unfoldable pub InternsContainer : ComplexSort → ℕ → List ℕ → Lengths → List ℕ → Made → Type 0
 InternsContainer o s ws k ws′ r = (ns : List ℕ) → madeOf ws′ ns r ≡ internContainer o s (lent ws ns k)
 
--- Tries of the places ps in turn, against another place on their right (up) or on their left, with components from i on.
+-- Tries of the places ps in turn, against another place on their right (up) or on their left, with
+-- components from i on.
 abbrev pub triesAgainst : Bool → ℕ → ℕ → List ℕ → List Try
 triesAgainst true r i ps = widerTries r i ps
 triesAgainst false l i ps = narrowerTries l i ps

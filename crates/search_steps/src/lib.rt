@@ -1,5 +1,6 @@
-// What the search of merc's inference.rs does between its calls of itself. One try: places made equal with a trail at the front of the scratch, and
-// what the try adds to its branch. Answers told apart, and the tries of a widening and of a literal, from solve_widening and solve_lit.
+// What the search of merc's inference.rs does between its calls of itself. One try: places made equal with a trail at
+// the front of the scratch, and what the try adds to its branch. Answers told apart, and the tries of a widening and of
+// a literal, from solve_widening and solve_lit.
 use infer_nodes::counts_of;
 use infer_nodes::node;
 use infer_nodes::shallow_normalize;
@@ -47,9 +48,13 @@ ghost use Rattle.unification.specs.Nodes.{bindsOf};
 ghost use Rattle.unification.specs.Checked.{graphOf, Ready, Placed};
 ghost use Rattle.related_sorts.specs.Outcome.{Ranges};
 ghost use Rattle.inference.specs.Search.{litComponent};
+ghost use Rattle.inference.specs.Constraints.{maxConstraints, maxComponents};
 ghost use Rattle.search_state.specs.Memory.{lent, trailWords, scratchUsed};
-ghost use Rattle.search_state.specs.Leaves.{afterOf, withNodes, backTo, givenBackTo, placesOf, tryAt, widenings, Widens, numberOf, litAt, unifyPairs, PairsPlaced, TriesPairs, stepWords, addedComponents, addedChoices, branchAfter};
-ghost use Rattle.search_steps.specs.Steps.{saysOf, pairsOf, litRow, LitTries, InternsContainer, ListedTries, AsTries};
+ghost use Rattle.search_state.specs.Leaves.{afterOf, withNodes, backTo, givenBackTo, placesOf, tryAt};
+ghost use Rattle.search_state.specs.Leaves.{widenings, Widens, numberOf, litAt, unifyPairs, PairsPlaced};
+ghost use Rattle.search_state.specs.Leaves.{TriesPairs, stepWords, addedComponents, addedChoices, branchAfter};
+ghost use Rattle.search_steps.specs.Steps.{saysOf, pairsOf, litRow, LitTries};
+ghost use Rattle.search_steps.specs.Steps.{InternsContainer, ListedTries, AsTries};
 ghost use Rattle.unification.specs.Unify.{unify as unifyOf};
 ghost use Rattle.unifier.specs.Trying.{Trying};
 
@@ -134,8 +139,8 @@ pub fn unify_pairs(
 // What a step adds to a branch with so many variables on the trail.
 pub fn push(scratch: &mut [u16], at: Branch, trail: u16, step: Step) -> Branch
     requires { ⌜
-        (at .measure + addedComponents step ≤ 256)
-        × (at .choices + addedChoices step ≤ 256)
+        (at .measure + addedComponents step ≤ maxComponents)
+        × (at .choices + addedChoices step ≤ maxConstraints)
         × (scratchUsed ≤ length (now scratch))
         ⌝ }
     ensures { λ r. ⌜
@@ -271,7 +276,8 @@ pub fn try_component(t: Tries, j: u16) -> u16
     t.first + j
 }
 
-// The number sorts that a literal may have where its place is free, nearest first. Pos, Nat, Int and Real are the sorts 2 to 5.
+// The number sorts that a literal may have where its place is free, nearest first. Pos, Nat, Int and Real are the
+// sorts 2 to 5.
 // The nearest is the most specific, so the first success is the best that the literal can contribute.
 pub fn lit_tries(kind: LitKind, id: InferSortId) -> Tries
     ensures { λ r. ⌜ LitTries kind id r ⌝ }
@@ -409,8 +415,8 @@ fn as_tries(found: Related, other: InferSortId, up: bool) -> Widenings
     }
 }
 
-// The tries of a widening of `lhs` to `rhs` after that without one: each wider sort of `lhs` against `rhs`, nearest first; or, where `lhs` has no list,
-// `lhs` against each narrower sort of `rhs`. An empty list is a list.
+// The tries of a widening of `lhs` to `rhs` after that without one: each wider sort of `lhs` against `rhs`, nearest
+// first; or, where `lhs` has no list, `lhs` against each narrower sort of `rhs`. An empty list is a list.
 // So a concrete `lhs` is upcast, or a concrete `rhs` met from below; two free variables admit no enumeration.
 pub fn widenings_of(
     sorts: &mut [u16],

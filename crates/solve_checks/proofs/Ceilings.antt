@@ -1,51 +1,32 @@
 -- What checks 1, 8 and 9 make sure of for the tests after them: counts within their ceilings, and expressions below 512. The checks taken apart, and the
 -- rows one by one. Assumes nothing.
 use mathlib.Core.Path.{_≡_, refl, subst}
-use mathlib.Core.Bool.{Bool, true, _&&_, and-eq-true-iff}
+use mathlib.Core.Bool.{true, and-eq-true-iff}
 use mathlib.Core.List.{List}
 use Prim.Native.Nat.{ℕ, zero, suc, _+_, _*_, _<_, _≤_}
 use native.Mathlib.Omega.{arith}
 use native.Mathlib.Nat.{add-zero}
 use lib.Dec.{leb, ltb}
 use lib.ListN.{length, getD}
-use borrow.Author.Tests.{ltb-true, leb-true, lt-ltb}
-use Rattle.resolved_sort.proofs.Below.{below-each}
+use borrow.Author.Tests.{ltb-true, lt-ltb}
+use Rattle.resolved_sort.proofs.Below.{and-left, and-right, below-each}
 use Rattle.inference.specs.declared.Constraint.{Constraint}
 use Rattle.inference.specs.declared.Constraint.the-variants.{Sub, Lit, Disjunction, Comprehension, Join}
-use Rattle.inference.specs.Constraints.{maxExprs, maxConstraints, maxOverloads, maxSources, constraintAt, rowsFrom}
+use Rattle.inference.specs.Constraints.{maxExprs, maxConstraints, nameWords, constraintAt, rowsFrom}
 use Rattle.inference.specs.SolveChecks.{Call, placed, rowsWithinLent, namesFine, runFine, overloadFine, constraintFine, constraintsFine, given, disjunctionFor, disjunctions, keys}
+use Rattle.inference.proofs.RowsLent.{rows-lent}
 use Rattle.solve_checks.specs.Marks.{allUnder}
 use Rattle.solve_checks.specs.Tests.{nameFine, rowFine}
 
-first : (a b : Bool) → (a && b) ≡ true → a ≡ true
-first a b f = and-eq-true-iff a b .0 f .0
-
-second : (a b : Bool) → (a && b) ≡ true → b ≡ true
-second a b f = and-eq-true-iff a b .0 f .1
-
--- the first, third and fourth of nine
-of-nine : (a b c d e f g h i : Bool) → (a && b && c && d && e && f && g && h && i) ≡ true → (a ≡ true) × (c ≡ true) × (d ≡ true)
-of-nine a b c d e f g h i p =
-    let x = first (a && b && c && d) e (first (a && b && c && d && e) f (first (a && b && c && d && e && f) g (first (a && b && c && d && e && f && g) h (first (a && b && c && d && e && f && g && h) i p)))) in
-    let y = first (a && b && c) d x in
-    (first a b (first (a && b) c y), second (a && b) c y, second (a && b && c) d x)
-
 module _ (I : Call) (f : rowsWithinLent I ≡ true) where
-  parts : (leb (I .rows .exprs) maxExprs ≡ true) × (leb (3 * I .rows .names) (length (I .names)) ≡ true) × (leb (I .rows .constraints) maxConstraints ≡ true)
-  unfolding rowsWithinLent
-  parts =
-      of-nine (leb (I .rows .exprs) maxExprs) (leb (I .rows .exprs) (length (I .exprs))) (leb (3 * I .rows .names) (length (I .names))) (leb (I .rows .constraints) maxConstraints)
-      (leb (5 * I .rows .constraints) (length (I .constraints))) (leb (I .rows .overloads) maxOverloads) (leb (3 * I .rows .overloads) (length (I .overloads))) (leb (I .rows .sources) maxSources)
-      (leb (I .rows .sources) (length (I .sources))) f
-
   pub expr-ceiling : I .rows .exprs ≤ maxExprs
-  expr-ceiling = leb-true (I .rows .exprs) maxExprs (parts .0)
+  expr-ceiling = rows-lent I f .exprs
 
-  pub names-lent : 3 * I .rows .names ≤ length (I .names)
-  names-lent = leb-true (3 * I .rows .names) (length (I .names)) (parts .1)
+  pub names-lent : nameWords * I .rows .names ≤ length (I .names)
+  names-lent = rows-lent I f .name-words
 
   pub constraint-ceiling : I .rows .constraints ≤ maxConstraints
-  constraint-ceiling = leb-true (I .rows .constraints) maxConstraints (parts .2)
+  constraint-ceiling = rows-lent I f .constraints
 
 -- numbers of rows, each below m
 module _ (m : ℕ) where
@@ -74,7 +55,7 @@ module _ (I : Call) (top : I .rows .exprs ≤ maxExprs) where
   keys-under f =
       under-rows maxExprs (λ i. getD (I .names) (3 * i) 0) 0 (I .rows .names)
       (λ j l.
-      let x = first (ltb (getD (I .names) (3 * (0 + j)) 0) (I .rows .exprs)) _ (below-each (I .rows .names) (nameFine I) f (0 + j) (omega (arith, l))) in
+      let x = and-left (ltb (getD (I .names) (3 * (0 + j)) 0) (I .rows .exprs)) _ (below-each (I .rows .names) (nameFine I) f (0 + j) (omega (arith, l))) in
       omega (arith, top, ltb-true (getD (I .names) (3 * (0 + j)) 0) (I .rows .exprs) x))
 
   fine-under : (b : ℕ) (c : Constraint) → constraintFine I b c ≡ true → Under maxExprs c
@@ -82,7 +63,7 @@ module _ (I : Call) (top : I .rows .exprs ≤ maxExprs) where
   fine-under b (Sub l r) f xs u = u
   fine-under b (Lit p kind) f xs u = u
   fine-under b (Disjunction x p run) f xs u =
-      let y = ltb-true (x .0) (I .rows .exprs) (first _ (placed I (p .0)) (first _ (runFine I (I .rows .overloads) (overloadFine I) run) f)) in
+      let y = ltb-true (x .0) (I .rows .exprs) (and-left _ (placed I (p .0)) (and-left _ (runFine I (I .rows .overloads) (overloadFine I) run) f)) in
       and-eq-true-iff (ltb (x .0) maxExprs) (allUnder maxExprs xs) .1 (lt-ltb (x .0) maxExprs (omega (arith, y, top)), u)
   fine-under b (Comprehension body node element) f xs u = u
   fine-under b (Join run t) f xs u = u
@@ -93,4 +74,4 @@ module _ (I : Call) (top : I .rows .exprs ≤ maxExprs) where
       under-disjunctions maxExprs (constraintAt (I .constraints)) 0 (I .rows .constraints)
       (λ j l.
       fine-under (getD (I .constraints) (5 * (0 + j) + 2) 0) (constraintAt (I .constraints) (0 + j))
-      (second (leb (getD (I .constraints) (5 * (0 + j)) 0) 4) _ (below-each (I .rows .constraints) (rowFine I) f (0 + j) (omega (arith, l)))))
+      (and-right (leb (getD (I .constraints) (5 * (0 + j)) 0) 4) _ (below-each (I .rows .constraints) (rowFine I) f (0 + j) (omega (arith, l)))))

@@ -3,7 +3,7 @@
 use mathlib.Core.Path.{_≡_, refl, sym, ap, ap₂, _∙_}
 use mathlib.Core.Bool.{Bool, true, false, not, cond, _&&_, and-false, and-assoc, and-eq-true-iff}
 use mathlib.Core.List.{List, [], _∷_}
-use Prim.Native.Nat.{ℕ, zero, suc, _+_, _-_, _<_, _≤_}
+use Prim.Native.Nat.{ℕ, _+_, _-_, _<_, _≤_}
 use native.Mathlib.Omega.{arith}
 use lib.Dec.{eqb, ltb}
 use lib.ListN.{length, getD, set, length-set, replicate, length-replicate}
@@ -15,6 +15,7 @@ use Rattle.inference.specs.Constraints.{maxExprs, rowsFrom}
 use Rattle.inference.specs.SolveChecks.{disjunctionFor, disjunctions, among, noTwo}
 use Rattle.solve_checks.specs.Marks.{Marked, marked, markOf, markBy, allUnder}
 use Rattle.solve_checks.proofs.RowsLeft.{left, all-left, one-left, none-left}
+use Rattle.unification.proofs.Settles.{none-at-first}
 
 unfoldable pub freshFrom : List Bool → List ℕ → Bool
 freshFrom seen [] = true
@@ -54,15 +55,10 @@ fresh-by seen (x ∷ xs) u =
     ap (λ z. not (getD seen x false) && z) (r ∙ ap (λ z. z && noTwo xs) (mark-hides seen x l xs))
     ∙ regroup (not (getD seen x false)) (noneSeen seen xs) (not (among x xs)) (noTwo xs)
 
-no-mark : (n x : ℕ) → getD (replicate n false) x false ≡ false
-no-mark zero x = refl
-no-mark (suc n) zero = refl
-no-mark (suc n) (suc x) = no-mark n x
-
 none-marked : (n : ℕ) (xs : List ℕ) → noneSeen (replicate n false) xs ≡ true
 unfolding noneSeen
 none-marked n [] = refl
-none-marked n (x ∷ xs) = ap₂ (λ (a b : Bool). not a && b) (no-mark n x) (none-marked n xs)
+none-marked n (x ∷ xs) = ap₂ (λ (a b : Bool). not a && b) (none-at-first n x) (none-marked n xs)
 
 fresh-is-no-two : (n : ℕ) (xs : List ℕ) → allUnder n xs ≡ true → freshFrom (replicate n false) xs ≡ noTwo xs
 fresh-is-no-two n xs u =

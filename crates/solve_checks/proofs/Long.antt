@@ -5,26 +5,12 @@ use mathlib.Core.List.{List}
 use Prim.Native.Nat.{ℕ, _*_, _/_, _<_, _≤_}
 use native.Mathlib.Omega.{arith}
 use lib.Dec.{leb}
-use lib.ListN.{length, replicate, length-replicate}
+use lib.ListN.{length}
 use borrow.Author.Tests.{le-leb, lt-leb, leb-true, leb-false}
 use Rattle.inference.specs.SolveChecks.{scratchWords, components, disjunctions, outputsLong}
 use Rattle.solve_checks.specs.declared.Given.{Given}
 use Rattle.solve_checks.specs.declared.Room.{Room}
 use Rattle.solve_checks.specs.Calls.{Outs, outputsOf, constraintsIn}
-
--- there are scratch and outputs of any lengths
-pub zero-outs : (room : Room) → Outs room
-zero-outs room =
-    record {
-      scratch = replicate (room .scratch) 0;
-      typing = replicate (room .typing) 0;
-      measure = replicate (room .measure) 0;
-      choices = replicate (room .choices) 0;
-      scratch-length = length-replicate (room .scratch) 0;
-      typing-length = length-replicate (room .typing) 0;
-      measure-length = length-replicate (room .measure) 0;
-      choices-length = length-replicate (room .choices) 0;
-    }
 
 half : (d c n : ℕ) → n ≡ c → leb d (c / 2) ≡ leb (2 * d) n
 half d c n e = go (leb d (c / 2)) refl

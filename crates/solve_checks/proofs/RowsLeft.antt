@@ -2,28 +2,27 @@
 use mathlib.Core.Path.{_≡_, refl, sym, ap, _∙_}
 use mathlib.Core.Bool.{Bool, true, false, _&&_}
 use mathlib.Core.List.{List, [], _∷_}
-use Prim.Native.Nat.{ℕ, suc, _+_, _-_, _<_, _≤_}
+use Prim.Native.Nat.{ℕ, _+_, _-_, _<_, _≤_}
 use native.Mathlib.Omega.{arith}
 use lib.ListN.{length}
 use Rattle.inference.specs.declared.Constraint.{Constraint}
 use Rattle.inference.specs.declared.Constraint.the-variants.{Sub, Lit, Disjunction, Comprehension, Join}
 use Rattle.inference.specs.Constraints.{rowsFrom}
 use Rattle.inference.specs.SolveChecks.{hasSources, joinsFine, componentsOf, components, disjunctionFor, disjunctions}
+use Rattle.inference.proofs.Members.{rows-all-left, rows-one-left, rows-none-left}
 
 module _ {A : Type 0} (row : ℕ → A) (n : ℕ) where
   abbrev pub left : ℕ → List A
   left i = rowsFrom row i (n - i)
 
   pub all-left : left 0 ≡ rowsFrom row 0 n
-  all-left = ap (rowsFrom row 0) (let z : n - 0 ≡ n = omega arith in z)
+  all-left = rows-all-left row n
 
   pub one-left : (i : ℕ) → i < n → left i ≡ row i ∷ left (i + 1)
-  unfolding rowsFrom
-  one-left i l = ap (rowsFrom row i) (let z : n - i ≡ suc (n - (i + 1)) = omega (arith, l) in z)
+  one-left = rows-one-left row n
 
   pub none-left : (i : ℕ) → n ≤ i → left i ≡ []
-  unfolding rowsFrom
-  none-left i l = ap (rowsFrom row i) (let z : n - i ≡ 0 = omega (arith, l) in z)
+  none-left = rows-none-left row n
 
 -- a sum f of rows, each of which adds a
 module _ (f : List Constraint → ℕ) (a : Constraint → ℕ) (empty : f [] ≡ 0) (more : (c : Constraint) (cs : List Constraint) → f (c ∷ cs) ≡ a c + f cs) (row : ℕ → Constraint) (n : ℕ) where

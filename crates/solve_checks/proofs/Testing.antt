@@ -22,7 +22,8 @@ use Rattle.inference.proofs.Accepted.{within}
 use Rattle.solve_checks.specs.declared.Given.{Given}
 use Rattle.solve_checks.specs.declared.Room.{Room}
 use Rattle.solve_checks.specs.Calls.{Outs, callIn, listsOf, partOf, outputsOf}
-use Rattle.solve_checks.specs.Parts.{rowChecks, lastChecks, listChecks, restChecks}
+use Rattle.inference.specs.SolveChecks.{rowChecks, lastChecks, listChecks}
+use Rattle.solve_checks.specs.Parts.{restChecks}
 
 -- a check of two tests: x is what the first found
 module _ (x x′ y′ : Bool) (ex : x ≡ x′) (code : ℕ) (cs : List Check) where

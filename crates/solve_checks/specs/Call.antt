@@ -1,4 +1,5 @@
--- The call that the parameters of the solver's entry make: the lists lent, with how many rows each has, and the default sort.
+-- The call that the parameters of the solver's entry make: the lists lent, with how many rows each
+-- has, and the default sort.
 use mathlib.Core.List.{List}
 use Prim.Native.Nat.{ℕ}
 use Rattle.unification.specs.declared.Lengths.{Lengths}

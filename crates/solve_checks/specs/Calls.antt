@@ -1,17 +1,15 @@
--- The call that a function's parameters make: how many rows of each list are given, with the lists themselves. A check that looks at some of the
--- lists only is that check of a call whose other lists are empty.
+-- The call that a function's parameters make: how many rows of each list are given, with the lists themselves. A check
+-- that looks at some of the lists only is that check of a call whose other lists are empty.
 use mathlib.Core.List.{List, []}
 use Prim.Native.Nat.{ℕ}
 use lib.ListN.{length}
 use mathlib.Core.Path.{_≡_, refl}
-use Rattle.unification.specs.declared.Lengths.{Lengths}
-use Rattle.inference.specs.declared.Rows.{Rows}
 use Rattle.inference.specs.declared.Constraint.{Constraint}
 use Rattle.inference.specs.Constraints.{constraintAt, rowsFrom}
 use Rattle.inference.specs.SolveChecks.{Call}
 use Rattle.solve_checks.specs.declared.Given.{Given}
 use Rattle.solve_checks.specs.declared.Room.{Room}
-use Rattle.solve_checks.specs.Call.{lengthsOf, rowsOf}
+use Rattle.solve_checks.specs.Call.{callOf}
 
 -- Scratch and outputs of the lengths that a call says. What stands in them no check looks at.
 pub record Outs (room : Room) : Type 0 where
@@ -27,23 +25,7 @@ pub record Outs (room : Room) : Type 0 where
 abbrev pub callIn : Given → (sorts nodes binds exprs names constraints overloads sources : List ℕ)
     → (room : Room) → Outs room → Call
 callIn g ws ns bs xs ks cs os ss room o =
-    record {
-      sorts = ws;
-      nodes = ns;
-      binds = bs;
-      lengths = lengthsOf g;
-      exprs = xs;
-      names = ks;
-      constraints = cs;
-      overloads = os;
-      sources = ss;
-      rows = rowsOf g;
-      default = g .default;
-      scratch = o .scratch;
-      typing = o .typing;
-      measure = o .measure;
-      choices = o .choices;
-    }
+    callOf g ws ns bs xs ks cs os ss (o .scratch) (o .typing) (o .measure) (o .choices)
 
 -- with no words lent for scratch and outputs, and with no sorts, nodes and bindings beside
 abbrev pub noRoom : Room

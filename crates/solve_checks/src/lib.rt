@@ -1,4 +1,6 @@
-// Checks 1 and 8 to 14 of document 01 over the lists that the solver takes beside sorts, nodes and bindings, and the first failing check of its call.
+// Checks 1 and 8 to 14 of document 01 over the lists that the solver takes beside sorts, nodes and
+// bindings, and the first failing check of its call.
+use inference::CONSTRAINT_WORDS;
 use inference::Constraint;
 use inference::ExprId;
 use inference::LitKind;
@@ -7,7 +9,10 @@ use inference::MAX_CONSTRAINTS;
 use inference::MAX_EXPRS;
 use inference::MAX_OVERLOADS;
 use inference::MAX_SOURCES;
+use inference::NAME_WORDS;
+use inference::OVERLOAD_WORDS;
 use inference::SCRATCH_WORDS;
+use inference::TYPING_WORDS;
 use node_checks::bindings_within_lent;
 use node_checks::is_place;
 use node_checks::nodes_within_lent;
@@ -29,14 +34,18 @@ ghost use Prim.Native.Nat.{_+_, _*_, _<_, _≤_};
 ghost use lib.ListN.{length};
 ghost use Rattle.unification.specs.Nodes.{isPlace};
 ghost use Rattle.inference.specs.declared.Constraint.{Constraint};
-ghost use Rattle.inference.specs.Constraints.{maxExprs, maxConstraints};
-ghost use Rattle.inference.specs.SolveChecks.{rowsWithinLent, targetFine, exprsFine, namesFine, overloadFine, runFine, constraintFine, constraintsFine, disjunctionFor, disjunctions, noTwo, keys, hasSources, joinsFine, componentsOf, components as componentsIn, outputsLong, allWithinLent, solveChecks};
+ghost use Rattle.inference.specs.Constraints.{maxExprs, maxConstraints, nameWords};
+ghost use Rattle.inference.specs.SolveChecks.{rowsWithinLent, targetFine, exprsFine, namesFine, overloadFine};
+ghost use Rattle.inference.specs.SolveChecks.{runFine, constraintFine, constraintsFine, disjunctionFor, disjunctions};
+ghost use Rattle.inference.specs.SolveChecks.{noTwo, keys, hasSources, joinsFine, componentsOf};
+ghost use Rattle.inference.specs.SolveChecks.{components as componentsIn, outputsLong, allWithinLent, solveChecks};
 ghost use Rattle.solve_checks.specs.Calls.{Outs, partOf, outputsOf, constraintsIn, callIn, listsOf};
 ghost use Rattle.solve_checks.specs.Marks.{marked, markOf, markBy, allUnder};
 ghost use Rattle.solve_checks.specs.Tests.{nameFine, sourceFine, rowFine};
 ghost use Rattle.resolved_sort.specs.Checks.{firstFailing};
 ghost use Rattle.resolved_sort.specs.Entries.{testedOf};
-ghost use Rattle.solve_checks.specs.Parts.{rowChecks, lastChecks, listChecks, restChecks};
+ghost use Rattle.inference.specs.SolveChecks.{rowChecks, lastChecks, listChecks};
+ghost use Rattle.solve_checks.specs.Parts.{restChecks};
 
 // How many rows of each list a call gives, as the caller says it, and the default sort.
 pub struct Given {
@@ -61,9 +70,9 @@ pub struct Room {
     pub choices: usize,
 }
 
-// Check 1: expressions, base names, constraints, overloads and sources are within their ceilings and within what was lent.
-// Base names have no ceiling.
-pub fn rows_within_lent(
+// Check 1: expressions, base names, constraints, overloads and sources are within their ceilings
+// and within what was lent. Base names have no ceiling.
+fn rows_within_lent(
     exprs: &[u16],
     names: &[u16],
     constraints: &[u16],
@@ -83,19 +92,19 @@ pub fn rows_within_lent(
     if exprs.len() < given.exprs {
         return false;
     }
-    if names.len() / 3 < given.names {
+    if names.len() / NAME_WORDS < given.names {
         return false;
     }
     if MAX_CONSTRAINTS < given.constraints {
         return false;
     }
-    if constraints.len() < 5 * given.constraints {
+    if constraints.len() < CONSTRAINT_WORDS * given.constraints {
         return false;
     }
     if MAX_OVERLOADS < given.overloads {
         return false;
     }
-    if overloads.len() < 3 * given.overloads {
+    if overloads.len() < OVERLOAD_WORDS * given.overloads {
         return false;
     }
     if MAX_SOURCES < given.sources {
@@ -112,7 +121,7 @@ fn placed(given: Given, place: u16) -> bool
 }
 
 // Check 8: each expression has a place.
-pub fn exprs_fine(exprs: &[u16], given: Given) -> bool
+fn exprs_fine(exprs: &[u16], given: Given) -> bool
     ensures { λ r. ⌜ r ≡ exprsFine (partOf given (now (exprs .entry)) [] [] [] []) ⌝ }
 {
     let count = given.exprs;
@@ -144,21 +153,21 @@ fn target_fine(given: Given, kind: u16, sort: u16) -> bool
 
 // Whether the i-th base name is for an expression and has a fine target.
 fn name_fine(names: &[u16], given: Given, i: usize) -> bool
-    requires { ⌜ 3 * i + 2 < length (now names) ⌝ }
+    requires { ⌜ nameWords * i + 2 < length (now names) ⌝ }
     ensures { λ r. ⌜ r ≡ nameFine (partOf given [] (now (names .entry)) [] [] []) i ⌝ }
 {
-    let key = word(names, 3 * i);
+    let key = word(names, NAME_WORDS * i);
     if given.exprs <= (key as usize) {
         return false;
     }
-    let kind = word(names, 3 * i + 1);
-    let sort = word(names, 3 * i + 2);
+    let kind = word(names, NAME_WORDS * i + 1);
+    let sort = word(names, NAME_WORDS * i + 2);
     target_fine(given, kind, sort)
 }
 
 // Check 8: each base name is fine.
-pub fn names_fine(names: &[u16], given: Given) -> bool
-    requires { ⌜ 3 * given .names ≤ length (now names) ⌝ }
+fn names_fine(names: &[u16], given: Given) -> bool
+    requires { ⌜ nameWords * given .names ≤ length (now names) ⌝ }
     ensures { λ r. ⌜ r ≡ namesFine (partOf given [] (now (names .entry)) [] [] []) ⌝ }
 {
     let count = given.names;
@@ -176,7 +185,7 @@ pub fn names_fine(names: &[u16], given: Given) -> bool
 fn overload_fine(overloads: &[u16], given: Given, start: u16, j: u16) -> bool
     ensures { λ r. ⌜ r ≡ overloadFine (partOf given [] [] [] (now (overloads .entry)) []) (start + j) ⌝ }
 {
-    let row = 3 * ((start as usize) + (j as usize));
+    let row = OVERLOAD_WORDS * ((start as usize) + (j as usize));
     let kind = word(overloads, row);
     let sort = word(overloads, row + 1);
     if !target_fine(given, kind, sort) {
@@ -340,7 +349,7 @@ fn row_fine(constraints: &[u16], overloads: &[u16], sources: &[u16], given: Give
         (partOf given [] [] (now (constraints .entry)) (now (overloads .entry)) (now (sources .entry))) i
         ⌝ }
 {
-    let row = 5 * (i as usize);
+    let row = CONSTRAINT_WORDS * (i as usize);
     let kind = word(constraints, row);
     if 4 < kind {
         return false;
@@ -350,12 +359,7 @@ fn row_fine(constraints: &[u16], overloads: &[u16], sources: &[u16], given: Give
 }
 
 // Check 9: each constraint is fine.
-pub fn constraints_fine(
-    constraints: &[u16],
-    overloads: &[u16],
-    sources: &[u16],
-    given: Given,
-) -> bool
+fn constraints_fine(constraints: &[u16], overloads: &[u16], sources: &[u16], given: Given) -> bool
     requires { ⌜ given .constraints ≤ maxConstraints ⌝ }
     ensures { λ r. ⌜
         r
@@ -412,7 +416,7 @@ fn mark_by(seen: &mut [bool], says: Constraint) -> bool
 }
 
 // Check 10: no two disjunctions are for one expression.
-pub fn one_disjunction_each(constraints: &[u16], count: u16) -> bool
+fn one_disjunction_each(constraints: &[u16], count: u16) -> bool
     requires { ⌜ allUnder maxExprs (disjunctions (constraintsIn (now constraints) count)) ≡ true ⌝ }
     ensures { λ r. ⌜ r ≡ noTwo (disjunctions (constraintsIn (now (constraints .entry)) count)) ⌝ }
 {
@@ -428,9 +432,9 @@ pub fn one_disjunction_each(constraints: &[u16], count: u16) -> bool
 }
 
 // Check 10: no two base names are for one expression.
-pub fn one_name_each(names: &[u16], given: Given) -> bool
+fn one_name_each(names: &[u16], given: Given) -> bool
     requires { ⌜
-        (3 * given .names ≤ length (now names))
+        (nameWords * given .names ≤ length (now names))
         × (allUnder maxExprs (keys (partOf given [] (now names) [] [] [])) ≡ true)
         ⌝ }
     ensures { λ r. ⌜ r ≡ noTwo (keys (partOf given [] (now (names .entry)) [] [] [])) ⌝ }
@@ -439,7 +443,7 @@ pub fn one_name_each(names: &[u16], given: Given) -> bool
     let count = given.names;
     let mut i: usize = 0;
     while i < count {
-        if !mark(&mut seen, word(names, 3 * i)) {
+        if !mark(&mut seen, word(names, NAME_WORDS * i)) {
             return false;
         }
         i += 1;
@@ -469,7 +473,7 @@ fn has_sources(says: Constraint) -> bool
 }
 
 // Check 11: no Join is without sources.
-pub fn joins_fine(constraints: &[u16], count: u16) -> bool
+fn joins_fine(constraints: &[u16], count: u16) -> bool
     ensures { λ r. ⌜ r ≡ joinsFine (constraintsIn (now (constraints .entry)) count) ⌝ }
 {
     let mut i: u16 = 0;
@@ -556,7 +560,7 @@ pub fn disjunction_count(constraints: &[u16], count: u16) -> usize
 }
 
 // Check 14: scratch and outputs are long enough, with a row for each expression, each component and each disjunction.
-pub fn outputs_long(constraints: &[u16], given: Given, room: Room) -> bool
+fn outputs_long(constraints: &[u16], given: Given, room: Room) -> bool
     requires { ⌜ (given .exprs ≤ maxExprs) × (given .constraints ≤ maxConstraints) ⌝ }
     ensures { λ r. ⌜
         ((o : Outs room) → r ≡ outputsLong (outputsOf given (now (constraints .entry)) room o))
@@ -565,7 +569,7 @@ pub fn outputs_long(constraints: &[u16], given: Given, room: Room) -> bool
     if room.scratch < SCRATCH_WORDS {
         return false;
     }
-    if room.typing < 3 * given.exprs {
+    if room.typing < TYPING_WORDS * given.exprs {
         return false;
     }
     let count = given.constraints as u16;

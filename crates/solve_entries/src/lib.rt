@@ -1,6 +1,6 @@
-// The entry solve. It takes the lent sort and node storage, the bindings, the lists of the problem and their counts, scratch and
-// outputs, tests them itself, and has no `requires`: whatever a caller hands in, the answer and all lent memory at exit are
-// the defined ones.
+// The entry solve. It takes the lent sort and node storage, the bindings, the lists of the problem
+// and their counts, scratch and outputs, tests them itself, and has no `requires`: whatever a
+// caller hands in, the answer and all lent memory at exit are the defined ones.
 use inference::Solved;
 use problem_words::pack;
 use resolved_sort::Tested;
@@ -138,9 +138,10 @@ fn solve_passed(
     )
 }
 
-// Infers the sorts of the expressions. A refusal (1 to 14) changes nothing. After 15 and 16 sorts and nodes are those given, with zeros past
-// them; after 0, 17 and 18 new sorts stay, and past the given nodes are zeros. After 15 to 18 and 0 the bindings are as at entry and
-// the scratch is zero. Outputs are written under 0 only, up to their counts: the typing with the least measure of the leaves met.
+// Infers the sorts of the expressions. A refusal (1 to 14) changes nothing. After 15 and 16 sorts and nodes are those
+// given, with zeros past them; after 0, 17 and 18 new sorts stay, and past the given nodes are zeros. After 15 to 18
+// and 0 the bindings are as at entry and the scratch is zero. Outputs are written under 0 only, up to their counts: the
+// typing with the least measure of the leaves met.
 // Ruled out: 17 for a list whose search met a leaf; a typing written where the least measure was met twice.
 pub fn solve(
     sorts: &mut [u16],
@@ -203,7 +204,8 @@ pub fn solve(
     }
 }
 
-// The entry for callers in other languages: a slice is a pointer and a length, counts are numbers, and the answer is packed.
+// The entry for callers in other languages: a slice is a pointer and a length, counts are numbers,
+// and the answer is packed.
 #[no_mangle]
 pub extern "C" fn sort_solve(
     sorts: &mut [u16],

@@ -3,7 +3,7 @@
 -- definition's begins, so it comes to what that comes to; its incumbent is judged as the definition judges it, and sorts are given back alike. Assumes nothing.
 use mathlib.Core.Path.{_≡_, refl, sym, ap, _∙_}
 use mathlib.Core.Bool.{Bool, true, false}
-use mathlib.Core.List.{List, [], _∷_}
+use mathlib.Core.List.{List, []}
 use mathlib.Core.Option.{Option, none, some}
 use Prim.Native.Nat.{ℕ}
 use lib.ListN.{length, replicate}
@@ -24,17 +24,12 @@ use Rattle.search_state.specs.declared.State.{State}
 use Rattle.search_state.specs.declared.Branch.{Branch}
 use Rattle.search_state.specs.declared.Answer.{Answer}
 use Rattle.search_state.specs.declared.Answer.the-variants.{Found, Missed, Full}
-use Rattle.search_state.specs.Memory.{problemIn, chosenExprs, choicesOf, bestOf, lent, pathOf, worldOf, outOf, solveFrom}
+use Rattle.search_state.specs.Memory.{problemIn, chosenExprs, bestOf, lent, pathOf, worldOf, outOf, solveFrom}
 use Rattle.search_state.specs.Searching.{Grown, Done}
 use Rattle.solve_outputs.specs.Begin.{sizesOf, noIncumbent, nothingTaken}
 use Rattle.solve_outputs.specs.Finish.{Settled, settled, leftBy, handedOut, settledBy, judged as judgedIn, judgedBy as judgedByIn}
 use Rattle.solve_outputs.proofs.Passed.{passed-accepted, rest-is-all}
-
--- no choices without positions
-no-choices : (xs : List ℕ) → choicesOf xs [] ≡ []
-unfolding choicesOf
-no-choices [] = refl
-no-choices (x ∷ xs) = refl
+use Rattle.search_state.proofs.Parts.{nothing-chosen}
 
 -- what is left depends on what the search comes to alone
 module _ (ls : List ℕ) (z : Sizes) (ws ns bs sc : List ℕ) (k : State) (e : Branch) (O : Out (Unit {0})) (ws′ ns′ bs′ sc′ : List ℕ) (r : Answer) (c : CheckedLent (lent ws ns (k .lengths)))
@@ -106,7 +101,7 @@ module _ (I : Call) (x : firstFailing (solveChecks I) ≡ none) where
     unfolding bestOf
     same-search =
         λ i. solve (Unit {0}) nothingMet (p i) (rest-is-all I x ls p i)
-        (record { binds = bindsOf (I .binds) (I .lengths .variables); measure = []; choices = no-choices (chosenExprs ls (sizesOf I)) i })
+        (record { binds = bindsOf (I .binds) (I .lengths .variables); measure = []; choices = nothing-chosen (chosenExprs ls (sizesOf I)) i })
         (record { lent = lentOf I; best = none; met = tt })
 
     pub left-is-outcome : leaves (settledBy (problemIn ls (sizesOf I)) (baseNamesOf I) (I .typing) (I .measure) (I .choices) (I .lengths) search) ≡ solveEntry I

@@ -1,7 +1,7 @@
 -- What a call that no check refuses gives the search to begin with, and what comes after the search: counts and rows within their ceilings, room in the outputs,
 -- and a first branch. The checks taken apart; the packed lists say the call's problem. Assumes nothing.
 use mathlib.Core.Path.{_≡_, refl, sym, ap, subst, _∙_}
-use mathlib.Core.Bool.{Bool, true, _&&_, and-eq-true-iff}
+use mathlib.Core.Bool.{true, _&&_}
 use mathlib.Core.List.{List, [], _∷_}
 use mathlib.Core.Option.{none}
 use Prim.Native.Nat.{ℕ, _*_, _≤_}
@@ -11,30 +11,25 @@ use lib.ListN.{length}
 use borrow.Author.Tests.{leb-true}
 use Rattle.resolved_sort.specs.Storage.{kindAt}
 use Rattle.resolved_sort.specs.Checks.{firstFailing, allBelow, fixedSix, atCeiling}
-use Rattle.resolved_sort.proofs.FirstFailing.{cons-passes}
+use Rattle.resolved_sort.proofs.Below.{and-left, and-right}
 use Rattle.unification.specs.Nodes.{fullNodes, bindsOf}
-use Rattle.unification.specs.NodeChecks.{nodeChecks}
 use Rattle.unification.proofs.Equations.{frees-few}
 use Rattle.unification.proofs.Passed.{length-binds}
 use Rattle.inference.specs.declared.Constraint.{Constraint}
 use Rattle.inference.specs.declared.Constraint.the-variants.{Sub, Lit, Disjunction, Comprehension, Join}
-use Rattle.inference.specs.Constraints.{maxExprs, maxConstraints, maxOverloads, maxSources, maxComponents, constraintAt, Problem}
-use Rattle.inference.specs.SolveChecks.{Call, scratchWords, given, disjunctions, joinsFine, components, rowsWithinLent, allWithinLent, outputsLong, longEnough, solveChecks}
+use Rattle.inference.specs.Constraints.{maxComponents, constraintAt, Problem}
+use Rattle.inference.specs.SolveChecks.{Call, scratchWords, given, disjunctions, joinsFine, components, outputsLong, longEnough, solveChecks}
 use Rattle.inference.specs.SolveEntry.{problemOf, lentOf}
 use Rattle.inference.proofs.Members.{length-rows, rows-all-left}
-use Rattle.inference.proofs.Accepted.{Accepted, accepted, within}
+use Rattle.inference.specs.RowsLent.{RowsLent}
+use Rattle.inference.proofs.RowsLent.{rows-lent}
+use Rattle.inference.proofs.Accepted.{Accepted, accepted, within, Passing, passing}
 use Rattle.search_state.specs.declared.Next.the-variants.{Solve}
 use Rattle.search_state.specs.Memory.{problemIn, restFrom, chosenExprs, problemWords}
 use Rattle.search_state.specs.Searching.{Suits, Sized, Searching}
 use Rattle.problem_words.specs.Packed.{problemFrom, Packable}
 use Rattle.solve_outputs.specs.Begin.{CountsFit, RowsFit, sizesOf, noIncumbent, nothingTaken}
 use Rattle.solve_outputs.specs.Finish.{Handable}
-
-first : (a b : Bool) → (a && b) ≡ true → a ≡ true
-first a b f = and-eq-true-iff a b .0 f .0
-
-second : (a b : Bool) → (a && b) ≡ true → b ≡ true
-second a b f = and-eq-true-iff a b .0 f .1
 
 -- at most one disjunction for a constraint
 few-disjunctions : (cs : List Constraint) → length (disjunctions cs) ≤ length cs
@@ -45,49 +40,6 @@ few-disjunctions (Lit p kind ∷ cs) = omega (arith, few-disjunctions cs)
 few-disjunctions (Disjunction x p run ∷ cs) = omega (arith, few-disjunctions cs)
 few-disjunctions (Comprehension body node element ∷ cs) = omega (arith, few-disjunctions cs)
 few-disjunctions (Join run t ∷ cs) = omega (arith, few-disjunctions cs)
-
--- check 1 of the lists beside sorts, nodes and bindings
-pub record RowsLent (I : Call) : Type 0 where
-  pub exprs : I .rows .exprs ≤ maxExprs
-  pub expr-words : I .rows .exprs ≤ length (I .exprs)
-  pub name-words : 3 * I .rows .names ≤ length (I .names)
-  pub constraints : I .rows .constraints ≤ maxConstraints
-  pub constraint-words : 5 * I .rows .constraints ≤ length (I .constraints)
-  pub overloads : I .rows .overloads ≤ maxOverloads
-  pub overload-words : 3 * I .rows .overloads ≤ length (I .overloads)
-  pub sources : I .rows .sources ≤ maxSources
-  pub source-words : I .rows .sources ≤ length (I .sources)
-
-pub rows-lent : (I : Call) → rowsWithinLent I ≡ true → RowsLent I
-unfolding rowsWithinLent
-rows-lent I f =
-    let a = leb (I .rows .exprs) maxExprs in
-    let b = leb (I .rows .exprs) (length (I .exprs)) in
-    let c = leb (3 * I .rows .names) (length (I .names)) in
-    let d = leb (I .rows .constraints) maxConstraints in
-    let e = leb (5 * I .rows .constraints) (length (I .constraints)) in
-    let g = leb (I .rows .overloads) maxOverloads in
-    let h = leb (3 * I .rows .overloads) (length (I .overloads)) in
-    let i = leb (I .rows .sources) maxSources in
-    let j = leb (I .rows .sources) (length (I .sources)) in
-    let x₈ = first (a && b && c && d && e && g && h && i) j f in
-    let x₇ = first (a && b && c && d && e && g && h) i x₈ in
-    let x₆ = first (a && b && c && d && e && g) h x₇ in
-    let x₅ = first (a && b && c && d && e) g x₆ in
-    let x₄ = first (a && b && c && d) e x₅ in
-    let x₃ = first (a && b && c) d x₄ in
-    let x₂ = first (a && b) c x₃ in
-    record {
-      exprs = leb-true (I .rows .exprs) maxExprs (first a b x₂);
-      expr-words = leb-true (I .rows .exprs) (length (I .exprs)) (second a b x₂);
-      name-words = leb-true (3 * I .rows .names) (length (I .names)) (second (a && b) c x₃);
-      constraints = leb-true (I .rows .constraints) maxConstraints (second (a && b && c) d x₄);
-      constraint-words = leb-true (5 * I .rows .constraints) (length (I .constraints)) (second (a && b && c && d) e x₅);
-      overloads = leb-true (I .rows .overloads) maxOverloads (second (a && b && c && d && e) g x₆);
-      overload-words = leb-true (3 * I .rows .overloads) (length (I .overloads)) (second (a && b && c && d && e && g) h x₇);
-      sources = leb-true (I .rows .sources) maxSources (second (a && b && c && d && e && g && h) i x₈);
-      source-words = leb-true (I .rows .sources) (length (I .sources)) (second (a && b && c && d && e && g && h && i) j f);
-    }
 
 -- check 14 of scratch and outputs
 pub record OutputsLent (I : Call) : Type 0 where
@@ -103,44 +55,28 @@ outputs-lent I f =
     let b = leb (3 * I .rows .exprs) (length (I .typing)) in
     let c = leb (components (given I)) (length (I .measure)) in
     let d = leb (2 * length (disjunctions (given I))) (length (I .choices)) in
-    let x₄ = second (atCeiling (I .sorts) && leb fullNodes (length (I .nodes))) (a && b && c && d) f in
-    let x₃ = first (a && b && c) d x₄ in
-    let x₂ = first (a && b) c x₃ in
+    let x₄ = and-right (atCeiling (I .sorts) && leb fullNodes (length (I .nodes))) (a && b && c && d) f in
+    let x₃ = and-left (a && b && c) d x₄ in
+    let x₂ = and-left (a && b) c x₃ in
     record {
-      scratch = leb-true scratchWords (length (I .scratch)) (first a b x₂);
-      typing = leb-true (3 * I .rows .exprs) (length (I .typing)) (second a b x₂);
-      measure = leb-true (components (given I)) (length (I .measure)) (second (a && b) c x₃);
-      choices = leb-true (2 * length (disjunctions (given I))) (length (I .choices)) (second (a && b && c) d x₄);
+      scratch = leb-true scratchWords (length (I .scratch)) (and-left a b x₂);
+      typing = leb-true (3 * I .rows .exprs) (length (I .typing)) (and-right a b x₂);
+      measure = leb-true (components (given I)) (length (I .measure)) (and-right (a && b) c x₃);
+      choices = leb-true (2 * length (disjunctions (given I))) (length (I .choices)) (and-right (a && b && c) d x₄);
     }
 
 module _ (I : Call) (x : firstFailing (solveChecks I) ≡ none) where
-  -- checks 1, 11 and 14
-  chain : (allWithinLent I ≡ true) × ((joinsFine (given I) && leb (components (given I)) maxComponents) ≡ true) × (longEnough I ≡ true)
-  unfolding solveChecks nodeChecks
-  chain =
-      let c₁ = cons-passes _ _ x in
-      let c₂ = cons-passes _ _ (c₁ .1) in
-      let c₃ = cons-passes _ _ (c₂ .1) in
-      let c₄ = cons-passes _ _ (c₃ .1) in
-      let c₅ = cons-passes _ _ (c₄ .1) in
-      let c₆ = cons-passes _ _ (c₅ .1) in
-      let c₇ = cons-passes _ _ (c₆ .1) in
-      let c₈ = cons-passes _ _ (c₇ .1) in
-      let c₉ = cons-passes _ _ (c₈ .1) in
-      let c₁₀ = cons-passes _ _ (c₉ .1) in
-      let c₁₁ = cons-passes _ _ (c₁₀ .1) in
-      let c₁₂ = cons-passes _ _ (c₁₁ .1) in
-      let c₁₄ = cons-passes _ _ (c₁₂ .1) in
-      (c₁ .0, c₁₁ .0, c₁₄ .0)
+  all-pass : Passing I
+  all-pass = passing I x
 
   pub passed-accepted : Accepted I
   passed-accepted = accepted I x
 
   pub passed-rows : RowsLent I
-  passed-rows = rows-lent I (within I (chain .0) .3)
+  passed-rows = rows-lent I (within I (all-pass .within-lent) .3)
 
   pub passed-outputs : OutputsLent I
-  passed-outputs = outputs-lent I (chain .2)
+  passed-outputs = outputs-lent I (all-pass .long)
 
   pub counts-fit : CountsFit (I .lengths)
   counts-fit =
@@ -155,7 +91,7 @@ module _ (I : Call) (x : firstFailing (solveChecks I) ≡ none) where
         constraints = r .constraints;
         overloads = r .overloads;
         sources = r .sources;
-        components = leb-true (components (given I)) maxComponents (second (joinsFine (given I)) (leb (components (given I)) maxComponents) (chain .1));
+        components = leb-true (components (given I)) maxComponents (and-right (joinsFine (given I)) (leb (components (given I)) maxComponents) (all-pass .components));
         disjunctions = omega (arith, few-disjunctions (given I), length-rows (constraintAt (I .constraints)) 0 (I .rows .constraints), r .constraints);
       }
 
@@ -183,7 +119,7 @@ module _ (I : Call) (x : firstFailing (solveChecks I) ≡ none) where
         let A = passed-accepted in
         subst (Suits (lentOf I)) (sym p)
         (record {
-          six = leb-true 6 (I .lengths .sorts) (first (leb 6 (I .lengths .sorts)) (allBelow 6 (λ i. eqb (kindAt (I .sorts) i) i)) (A .six));
+          six = leb-true 6 (I .lengths .sorts) (and-left (leb 6 (I .lengths .sorts)) (allBelow 6 (λ i. eqb (kindAt (I .sorts) i) i)) (A .six));
           default = A .default;
           exprs = A .exprs;
           constraints = A .constraints;

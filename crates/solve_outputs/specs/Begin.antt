@@ -1,4 +1,5 @@
--- What the search of a call begins with: how many rows its lists have, no incumbent, and a branch that has taken on nothing.
+-- What the search of a call begins with: how many rows its lists have, no incumbent, and a branch
+-- that has taken on nothing.
 use mathlib.Core.Path.{refl}
 use mathlib.Core.Bool.{false}
 use mathlib.Core.List.{List}

@@ -1,4 +1,5 @@
--- What the solver answers and leaves after the search, from what stands in memory then: the answer with its outputs, the sorts with these, and all lent memory.
+-- What the solver answers and leaves after the search, from what stands in memory then: the answer with its outputs,
+-- the sorts with these, and all lent memory.
 use mathlib.Core.Bool.{Bool, true, false}
 use mathlib.Core.List.{List}
 use mathlib.Core.Option.{Option, none, some}
@@ -10,8 +11,9 @@ use Rattle.unification.specs.declared.Lengths.{Lengths}
 use Rattle.unification.specs.Nodes.{maxNodes, maxNodeEntries, fullNodes}
 use Rattle.inference.specs.declared.Solved.{Solved}
 use Rattle.inference.specs.declared.Solved.the-variants.{NoRoom, NoTyping, Ambiguous, Typing}
-use Rattle.inference.specs.Constraints.{BaseName, Problem}
+use Rattle.inference.specs.Constraints.{nameWords, BaseName, Problem}
 use Rattle.inference.specs.Search.{Candidate, Out, found, missed, ended}
+use Rattle.inference.specs.SolveChecks.{typingWords, choiceWords}
 use Rattle.inference.specs.SolveEntry.{Left, nodesGivenBack, cleared, typingRows, choiceRows, over, countsIn}
 use Rattle.search_state.specs.declared.Sizes.{Sizes}
 use Rattle.search_state.specs.Memory.{problemIn, scratchUsed}
@@ -82,10 +84,10 @@ module _ (P : Problem) (names : List BaseName) (ts ms hs : List ℕ) where
 pub record Handable (sc ls ks : List ℕ) (n : ℕ) (z : Sizes) (ts ms hs : List ℕ) : Type 0 where
   pub sized : Sized (problemIn ls z) z
   pub used : scratchUsed ≤ length sc
-  pub names : 3 * n ≤ length ks
-  pub typing : 3 * z .exprs ≤ length ts
+  pub names : nameWords * n ≤ length ks
+  pub typing : typingWords * z .exprs ≤ length ts
   pub measure : z .components ≤ length ms
-  pub choices : 2 * z .disjunctions ≤ length hs
+  pub choices : choiceWords * z .disjunctions ≤ length hs
 
 -- sorts, and nodes, that can be given back
 pub record SortsReturnable (ws : List ℕ) (k : Lengths) : Type 0 where

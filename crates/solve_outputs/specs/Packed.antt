@@ -1,5 +1,6 @@
--- The solver's answer as one number, for callers in other languages: document 01's number in bits 0 to 7; under 0, 17 and 18 how many sorts there are in bits 8
--- to 23 and how many argument entries in bits 24 to 39; under 0 how many components in bits 40 to 51 and how many choices in bits 52 to 63.
+-- The solver's answer as one number, for callers in other languages: document 01's number in bits 0 to 7; under 0, 17
+-- and 18 how many sorts there are in bits 8 to 23 and how many argument entries in bits 24 to 39; under 0 how many
+-- components in bits 40 to 51 and how many choices in bits 52 to 63.
 use mathlib.Core.List.{List}
 use Prim.Native.Nat.{ℕ, _+_, _*_, _≤_}
 use Rattle.resolved_sort.specs.declared.Counts.{Counts}
@@ -20,7 +21,8 @@ packSolved (NoTyping k) = 17 + packCounts k
 packSolved (Ambiguous k) = 18 + packCounts k
 packSolved (Typing o) = packCounts (o .counts) + o .components * bit40 + o .choices * bit52
 
--- the numbers that an answer has: a refusal is by a check, 1 to 14; no room is 15 or 16; counts are within their ceilings
+-- the numbers that an answer has: a refusal is by a check, 1 to 14; no room is 15 or 16; counts are
+-- within their ceilings
 pub record CountsWithin (k : Counts) : Type 0 where
   pub sorts : k .sorts ≤ maxSorts
   pub entries : k .entries ≤ maxEntries

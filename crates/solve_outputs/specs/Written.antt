@@ -1,5 +1,6 @@
--- The rows of choices and of expressions as they are written, one constraint, one base name, one expression after another.
--- Names are written from the last to the first, base names and then choices, so that of two for one expression the first stays, and a choice over a base name.
+-- The rows of choices and of expressions as they are written, one constraint, one base name, one expression after
+-- another. Names are written from the last to the first, base names and then choices, so that of two for one expression
+-- the first stays, and a choice over a base name.
 use mathlib.Core.Bool.{cond}
 use mathlib.Core.List.{List, [], _∷_}
 use mathlib.Core.Option.{Option, none, some}
@@ -11,6 +12,7 @@ use Rattle.inference.specs.declared.Overload.{Overload}
 use Rattle.inference.specs.declared.Constraint.{Constraint}
 use Rattle.inference.specs.declared.Constraint.the-variants.{Sub, Lit, Disjunction, Comprehension, Join}
 use Rattle.inference.specs.Constraints.{BaseName}
+use Rattle.inference.specs.SolveChecks.{typingWords, choiceWords}
 use Rattle.inference.specs.Names.{overloadIn, nameKind, nameSort}
 use Rattle.search_state.specs.Memory.{bestChoicesAt}
 
@@ -31,7 +33,7 @@ unfoldable pub choiceBy : List ℕ → Constraint → List ℕ → ℕ → Walke
 choiceBy sc (Sub l r) ch k = walked ch k
 choiceBy sc (Lit p kind) ch k = walked ch k
 choiceBy sc (Disjunction x p run) ch k =
-    walked (set (set ch (2 * k) (x .0)) (2 * k + 1) (positionAt sc k)) (k + 1)
+    walked (set (set ch (choiceWords * k) (x .0)) (choiceWords * k + 1) (positionAt sc k)) (k + 1)
 choiceBy sc (Comprehension body node element) ch k = walked ch k
 choiceBy sc (Join run t) ch k = walked ch k
 
@@ -46,7 +48,8 @@ noName x = none
 -- the name of x, where it is one of n expressions
 unfoldable pub named : ℕ → List ℕ → ℕ → NameTarget → List ℕ
 named n ts x t =
-    cond (ltb x n) (set (set ts (3 * x + 1) (nameKind (some t))) (3 * x + 2) (nameSort (some t))) ts
+    cond (ltb x n)
+    (set (set ts (typingWords * x + 1) (nameKind (some t))) (typingWords * x + 2) (nameSort (some t))) ts
 
 unfoldable pub baseNamed : ℕ → List BaseName → List ℕ → List ℕ
 baseNamed n [] ts = ts

@@ -1,13 +1,18 @@
-// The solver before and after its search: what the search begins with; what it hands out, from the incumbent in the scratch; what it clears, answers
-// and leaves.
+// The solver before and after its search: what the search begins with; what it hands out, from the incumbent in the
+// scratch; what it clears, answers and leaves.
 use infer_nodes::counts_of;
+use inference::CHOICE_WORDS;
 use inference::Constraint;
+use inference::NAME_WORDS;
 use inference::NameTarget;
+use inference::OVERLOAD_WORDS;
 use inference::Outputs;
 use inference::Solved;
+use inference::TYPING_WORDS;
 use problem_words::constraint_at;
 use problem_words::name_target;
 use resolved_sort::Counts;
+use resolved_sort::ROW_WORDS;
 use resolved_sort::Run;
 use resolved_sort::SortId;
 use search_state::Answer;
@@ -39,23 +44,27 @@ ghost use lib.ListN.{length, drop};
 ghost use lib.Seq.{sets};
 ghost use mathlib.Core.Bool.{false};
 ghost use Rattle.unification.specs.Nodes.{maxNodes, maxNodeEntries, fullNodes};
-ghost use Rattle.inference.specs.Constraints.{maxConstraints, maxComponents, overloadAt, baseNameAt, rowsFrom};
+ghost use Rattle.inference.specs.Constraints.{maxConstraints, maxComponents, nameWords};
+ghost use Rattle.inference.specs.Constraints.{overloadAt, baseNameAt, rowsFrom};
 ghost use Rattle.inference.specs.Names.{overloadIn, nameKind, nameSort};
-ghost use Rattle.inference.specs.SolveChecks.{disjunctionFor};
+ghost use Rattle.inference.specs.SolveChecks.{typingWords, choiceWords, disjunctionFor};
 ghost use Rattle.inference.specs.SolveEntry.{nodesGivenBack, cleared, typingRows, choiceRows, over};
-ghost use Rattle.search_state.specs.Memory.{overloadsAt, problemIn, restFrom, chosenExprs, choicesOf, bestSortsAt, bestMeasureAt, bestChoicesAt, scratchUsed, candidateOf, bestOf, outOf};
+ghost use Rattle.search_state.specs.Memory.{overloadsAt, problemIn, restFrom, chosenExprs, choicesOf, bestSortsAt};
+ghost use Rattle.search_state.specs.Memory.{bestMeasureAt, bestChoicesAt, scratchUsed, candidateOf, bestOf, outOf};
 ghost use Rattle.words.specs.Words.{part};
 ghost use Rattle.search_state.specs.Searching.{Sized};
-ghost use Rattle.solve_outputs.specs.Written.{walked, choiceBy, namedRows, noName, named, baseNamed, nameBy, chosenNamed};
+ghost use Rattle.solve_outputs.specs.Written.{walked, choiceBy, namedRows, noName};
+ghost use Rattle.solve_outputs.specs.Written.{named, baseNamed, nameBy, chosenNamed};
 ghost use Rattle.inference.specs.declared.Solved.the-variants.{Typing};
 ghost use Rattle.solve_checks.specs.Calls.{partOf};
 ghost use Rattle.solve_checks.specs.Call.{lengthsOf};
 ghost use Rattle.solve_outputs.specs.Begin.{CountsFit, RowsFit, sizesOf, noIncumbent, nothingTaken};
 ghost use Rattle.solve_outputs.specs.Packed.{packCounts, packSolved, CountsWithin, Told};
-ghost use Rattle.solve_outputs.specs.Finish.{answered, settled, leftOf, leftBy, handedOut, judged, settledBy, Handable, SortsReturnable, NodesReturnable};
+ghost use Rattle.solve_outputs.specs.Finish.{answered, settled, leftOf, leftBy, handedOut};
+ghost use Rattle.solve_outputs.specs.Finish.{judged, settledBy, Handable, SortsReturnable, NodesReturnable};
 
 // All words set to zero.
-pub fn clear(words: &mut [u16])
+fn clear(words: &mut [u16])
     ensures { λ _. ⌜ now (words .exit) ≡ cleared (now (words .entry)) ⌝ }
 {
     let end = words.len();
@@ -63,19 +72,19 @@ pub fn clear(words: &mut [u16])
 }
 
 // Zero past the nodes and argument entries that the call began with, and these as they are.
-pub fn clear_nodes(nodes: &mut [u16], node_count: u16, entry_count: u16)
+fn clear_nodes(nodes: &mut [u16], node_count: u16, entry_count: u16)
     requires { ⌜
         («node_count» ≤ maxNodes) × («entry_count» ≤ maxNodeEntries) × (fullNodes ≤ length (now nodes))
         ⌝ }
     ensures { λ _. ⌜ now (nodes .exit) ≡ nodesGivenBack «node_count» «entry_count» (now (nodes .entry)) ⌝ }
 {
-    words::clear(nodes, 4 * (node_count as usize), NODE_ENTRIES_AT);
+    words::clear(nodes, ROW_WORDS * (node_count as usize), NODE_ENTRIES_AT);
     let end = nodes.len();
     words::clear(nodes, NODE_ENTRIES_AT + (entry_count as usize), end);
 }
 
 // The measure handed out.
-pub fn write_measure(measure: &mut [u16], scratch: &[u16], sizes: Sizes)
+fn write_measure(measure: &mut [u16], scratch: &[u16], sizes: Sizes)
     requires { ⌜
         (sizes .components ≤ maxComponents)
         × (sizes .components ≤ length (now measure))
@@ -110,7 +119,7 @@ fn write_choice(choices: &mut [u16], scratch: &[u16], says: Constraint, k: u16) 
             sort: _,
             disjuncts: _,
         } => {
-            let row = 2 * (k as usize);
+            let row = CHOICE_WORDS * (k as usize);
             put(choices, row, expr.0);
             put(
                 choices,
@@ -132,10 +141,10 @@ fn write_choice(choices: &mut [u16], scratch: &[u16], says: Constraint, k: u16) 
 }
 
 // The choices handed out, in the order of the constraints.
-pub fn write_choices(choices: &mut [u16], scratch: &[u16], lists: &[u16], sizes: Sizes)
+fn write_choices(choices: &mut [u16], scratch: &[u16], lists: &[u16], sizes: Sizes)
     requires { ⌜
         Sized (problemIn (now lists) sizes) sizes
-        × (2 * sizes .disjunctions ≤ length (now choices))
+        × (choiceWords * sizes .disjunctions ≤ length (now choices))
         × (scratchUsed ≤ length (now scratch))
         ⌝ }
     ensures { λ _. ⌜
@@ -181,7 +190,7 @@ fn put_name(typing: &mut [u16], exprs: u16, x: u16, name: NameTarget)
     ensures { λ _. ⌜ now (typing .exit) ≡ named exprs (now (typing .entry)) x name ⌝ }
 {
     if x < exprs {
-        let row = 3 * (x as usize);
+        let row = TYPING_WORDS * (x as usize);
         put(typing, row + 1, kind_word(name));
         put(typing, row + 2, sort_word(name));
     }
@@ -197,7 +206,7 @@ fn write_sorts(typing: &mut [u16], scratch: &[u16], exprs: u16)
 {
     let mut x: u16 = 0;
     while x < exprs {
-        let row = 3 * (x as usize);
+        let row = TYPING_WORDS * (x as usize);
         put(typing, row, word(scratch, BEST_SORTS_AT + (x as usize)));
         put(typing, row + 1, 0);
         put(typing, row + 2, 0);
@@ -207,7 +216,7 @@ fn write_sorts(typing: &mut [u16], scratch: &[u16], exprs: u16)
 
 // The base names, from the last to the first.
 fn write_base_names(typing: &mut [u16], names: &[u16], name_count: usize, exprs: u16)
-    requires { ⌜ 3 * «name_count» ≤ length (now names) ⌝ }
+    requires { ⌜ nameWords * «name_count» ≤ length (now names) ⌝ }
     ensures { λ _. ⌜
         now (typing .exit)
         ≡ baseNamed exprs (rowsFrom (baseNameAt (now (names .entry))) 0 «name_count») (now (typing .entry))
@@ -216,7 +225,7 @@ fn write_base_names(typing: &mut [u16], names: &[u16], name_count: usize, exprs:
     let mut i = name_count;
     while 0 < i {
         i -= 1;
-        let row = 3 * i;
+        let row = NAME_WORDS * i;
         let kind = word(names, row + 1);
         let sort = word(names, row + 2);
         put_name(typing, exprs, word(names, row), name_target(kind, sort));
@@ -234,7 +243,7 @@ fn chosen_target(lists: &[u16], overloads: u16, run: Run, i: u16) -> NameTarget
     if (overloads as usize) <= at {
         return NameTarget::Variable;
     }
-    let row = OVERLOADS_AT + 3 * at;
+    let row = OVERLOADS_AT + OVERLOAD_WORDS * at;
     let kind = word(lists, row);
     let sort = word(lists, row + 1);
     name_target(kind, sort)
@@ -306,7 +315,7 @@ fn write_chosen_names(typing: &mut [u16], scratch: &[u16], lists: &[u16], sizes:
 }
 
 // The typing handed out: of each expression its sort, and its name, by a choice rather than a base name.
-pub fn write_typing(
+fn write_typing(
     typing: &mut [u16],
     scratch: &[u16],
     lists: &[u16],
@@ -316,8 +325,8 @@ pub fn write_typing(
 )
     requires { ⌜
         Sized (problemIn (now lists) sizes) sizes
-        × (3 * sizes .exprs ≤ length (now typing))
-        × (3 * «name_count» ≤ length (now names))
+        × (typingWords * sizes .exprs ≤ length (now typing))
+        × (nameWords * «name_count» ≤ length (now names))
         × (scratchUsed ≤ length (now scratch))
         ⌝ }
     ensures { λ _. ⌜
@@ -424,7 +433,8 @@ fn hand_out(
     })
 }
 
-// The answer after a search that did not end for want of room: by whether there is an incumbent, and whether it is tied.
+// The answer after a search that did not end for want of room: by whether there is an incumbent,
+// and whether it is tied.
 fn judge(
     typing: &mut [u16],
     measure: &mut [u16],

@@ -28,7 +28,7 @@ use Rattle.inference.proofs.Members.{rows-same}
 use Rattle.inference.proofs.Accepted.{within}
 use Rattle.solve_checks.specs.declared.Given.{Given}
 use Rattle.solve_checks.specs.Call.{callOf}
-use Rattle.solve_outputs.proofs.Passed.{rows-lent}
+use Rattle.inference.proofs.RowsLent.{rows-lent}
 use Rattle.solve_records.specs.declared.OverloadRecord.{OverloadRecord}
 use Rattle.solve_records.specs.Records.{wordsOf, recordWords}
 use Rattle.solve_records.proofs.Unpacked.{three-words-each}

@@ -1,5 +1,7 @@
-// The entry solve over a lent list of overload records, thinly above the core on numbers. The records are unpacked once into words; the
-// functions that meet a slice of records are few, and each is proved by a walk of its own.
+// The entry solve over a lent list of overload records, thinly above the core on numbers. The records are unpacked once
+// into words; the functions that meet a slice of records are few, and each is proved by a walk of its own.
+use inference::MAX_OVERLOADS;
+use inference::OVERLOAD_WORDS;
 use inference::Solved;
 use resolved_sort::SortId;
 use solve_checks::Given;
@@ -11,7 +13,7 @@ ghost use mathlib.Core.Path.{_≡_};
 ghost use Prim.Native.Nat.{_<_, _*_, _+_, _^_, min};
 ghost use lib.ListN.{length, take};
 ghost use lib.Seq.{sets};
-ghost use Rattle.inference.specs.Constraints.{maxOverloads};
+ghost use Rattle.inference.specs.Constraints.{maxOverloads, overloadWords};
 ghost use Rattle.inference.specs.SolveEntry.{solveEntry};
 ghost use Rattle.solve_checks.specs.Call.{callOf};
 ghost use Rattle.solve_outputs.specs.Finish.{leftOf};
@@ -19,20 +21,24 @@ ghost use Rattle.solve_outputs.specs.Packed.{packed, packLeft};
 ghost use Rattle.solve_entries.specs.Given.{givenOf};
 ghost use Rattle.solve_records.specs.Records.{wordsOf, recordWords, recordAt, wordsFrom, unpacked, wordsOfCount};
 
-// What a name resolved to, as the caller says it: kind 1 a variable, 2 an operation with its sort, 3 a built-in. Any other kind is
-// refused with 9, so the kind is a word: of an enum such a word would be no value.
+// What a name resolved to, as the caller says it: kind 1 a variable, 2 an operation with its sort, 3 a built-in. Any
+// other kind is refused with 9, so the kind is a word: of an enum such a word would be no value.
 #[repr(C)]
 pub struct TargetRecord {
     pub kind: u16,
     pub sort: SortId,
 }
 
-// One overload of a name, as the caller says it: what it resolves to, and the place of its sort. Three words of 16 bits in C's layout.
+// One overload of a name, as the caller says it: what it resolves to, and the place of its sort.
+// Three words of 16 bits in C's layout.
 #[repr(C)]
 pub struct OverloadRecord {
     pub target: TargetRecord,
     pub sort: InferSortId,
 }
+
+// The words of as many records as there can be.
+pub const UNPACKED_WORDS: usize = 3072;
 
 // The record at i.
 fn record_at(records: &[OverloadRecord], i: usize) -> OverloadRecord
@@ -44,21 +50,21 @@ fn record_at(records: &[OverloadRecord], i: usize) -> OverloadRecord
 
 // The three words of a record go to the places from 3 i on, those of them that are there.
 fn put_record(words: &mut [u16], i: usize, overload: OverloadRecord)
-    requires { ⌜ 3 * i + 2 < 2 ^ 64 ⌝ }
-    ensures { λ _. ⌜ now (words .exit) ≡ sets (now (words .entry)) (3 * i) (wordsOf overload) ⌝ }
+    requires { ⌜ overloadWords * i + 2 < 2 ^ 64 ⌝ }
+    ensures { λ _. ⌜ now (words .exit) ≡ sets (now (words .entry)) (overloadWords * i) (wordsOf overload) ⌝ }
 {
-    put(words, 3 * i, overload.target.kind);
-    put(words, 3 * i + 1, overload.target.sort.0);
-    put(words, 3 * i + 2, overload.sort.0);
+    put(words, OVERLOAD_WORDS * i, overload.target.kind);
+    put(words, OVERLOAD_WORDS * i + 1, overload.target.sort.0);
+    put(words, OVERLOAD_WORDS * i + 2, overload.sort.0);
 }
 
 // The records from i on, up to the ceiling, each to its places. It calls itself at most 1,024 times.
 fn unpack_from(records: &[OverloadRecord], words: &mut [u16], i: usize)
     ensures { λ _. ⌜
-        now (words .exit) ≡ sets (now (words .entry)) (3 * i) (wordsFrom i (now (records .entry)))
+        now (words .exit) ≡ sets (now (words .entry)) (overloadWords * i) (wordsFrom i (now (records .entry)))
         ⌝ }
 {
-    if i < 1024 {
+    if i < MAX_OVERLOADS {
         if i < records.len() {
             put_record(words, i, record_at(records, i));
             unpack_from(records, words, i + 1);
@@ -66,11 +72,12 @@ fn unpack_from(records: &[OverloadRecord], words: &mut [u16], i: usize)
     }
 }
 
-// The words of the records, up to the ceiling, and zeros after them. The array goes by value, so that no caller has to lend it.
-fn unpack(records: &[OverloadRecord]) -> [u16; 3072]
+// The words of the records, up to the ceiling, and zeros after them. The array goes by value, so
+// that no caller has to lend it.
+fn unpack(records: &[OverloadRecord]) -> [u16; UNPACKED_WORDS]
     ensures { λ r. ⌜ r ≡ unpacked (now (records .entry)) ⌝ }
 {
-    let mut words = [0; 3072];
+    let mut words = [0; UNPACKED_WORDS];
     unpack_from(records, &mut words, 0);
     words
 }
@@ -79,7 +86,7 @@ fn unpack(records: &[OverloadRecord]) -> [u16; 3072]
 fn at_most(n: usize) -> usize
     ensures { λ r. ⌜ r ≡ min maxOverloads n ⌝ }
 {
-    if 1024 < n { 1024 } else { n }
+    if MAX_OVERLOADS < n { MAX_OVERLOADS } else { n }
 }
 
 // The core on the words of n records.
@@ -90,7 +97,7 @@ fn solve_unpacked(
     exprs: &[u16],
     names: &[u16],
     constraints: &[u16],
-    words: [u16; 3072],
+    words: [u16; UNPACKED_WORDS],
     n: usize,
     sources: &[u16],
     given: Given,
@@ -108,7 +115,7 @@ fn solve_unpacked(
         (now (choices .entry)))
         ⌝ }
 {
-    let used = 3 * at_most(n);
+    let used = OVERLOAD_WORDS * at_most(n);
     solve(
         sorts,
         nodes,
@@ -126,9 +133,9 @@ fn solve_unpacked(
     )
 }
 
-// Infers the sorts of the expressions, as solve does on the words of the records. Records past the ceiling are not looked at: a count that
-// reaches them is refused with 1, and so is one above the length of the slice. So the first 1,024, of which the contract speaks, stand for all
-// (proofs/PastCeiling.antt).
+// Infers the sorts of the expressions, as solve does on the words of the records. Records past the ceiling are not
+// looked at: a count that reaches them is refused with 1, and so is one above the length of the slice. So the first
+// 1,024, of which the contract speaks, stand for all (proofs/PastCeiling.antt).
 // Ruled out: another outcome than that of the same call on numbers; a record read past the slice.
 pub fn solve_records(
     sorts: &mut [u16],
@@ -189,7 +196,7 @@ fn sort_solve_unpacked(
     name_count: usize,
     constraints: &[u16],
     constraint_count: usize,
-    words: [u16; 3072],
+    words: [u16; UNPACKED_WORDS],
     n: usize,
     overload_count: usize,
     sources: &[u16],
@@ -210,7 +217,7 @@ fn sort_solve_unpacked(
         (now (scratch .entry)) (now (typing .entry)) (now (measure .entry)) (now (choices .entry))))
         ⌝ }
 {
-    let used = 3 * at_most(n);
+    let used = OVERLOAD_WORDS * at_most(n);
     sort_solve(
         sorts,
         sort_count,
@@ -238,7 +245,8 @@ fn sort_solve_unpacked(
     )
 }
 
-// The entry over records for callers in other languages: a slice is a pointer and a length, counts are numbers, and the answer is packed.
+// The entry over records for callers in other languages: a slice is a pointer and a length, counts
+// are numbers, and the answer is packed.
 #[no_mangle]
 pub extern "C" fn sort_solve_records(
     sorts: &mut [u16],

@@ -37,8 +37,9 @@ use Rattle.search_state.specs.Leaves.{ChangedOnly, unifyPairs, PairsPlaced, ste
 use Rattle.search_state.specs.Searching.{Sized, Searching, SourcesFine, Agreeing, SamePath, Done, Comes, trying}
 use Rattle.search_state.proofs.Parts.{part-before, part-after, take-unchanged}
 use Rattle.search_state.proofs.After.{searching-grown, done-as, done-after, same-path, or-stops, or-comes, grown-missed}
-use Rattle.solver.proofs.Ways.{rows-more, rows-none, sort-placed, after-missed}
+use Rattle.solver.proofs.Ways.{sort-placed, after-missed}
 use Rattle.solver.proofs.Widening.{withLengths}
+use Rattle.inference.proofs.Members.{rows-one-left, rows-none-left}
 
 -- Where only words behind the measure changed, branch and incumbent are the same.
 module _ (ls : List ℕ) (z : Sizes) (few : Sized (problemIn ls z) z) (sc sc₁ : List ℕ) (e : Branch) (n : ℕ) (t : e .trail ≤ trailWords) (l : e .measure + n ≤ maxComponents)
@@ -264,11 +265,11 @@ module _ (ls : List ℕ) (z : Sizes) (ws ns bs sc : List ℕ) (k : State) (e : B
   pub seq-done : n ≤ j → (ws₁ ns₁ bs₁ sc₁ : List ℕ) (r : Answer) → Comes ls z ws ns bs sc k e (solveFrom ls z i) ws₁ ns₁ bs₁ sc₁ r → Comes ls z ws ns bs sc k e all ws₁ ns₁ bs₁ sc₁ r
   unfolding sequence
   seq-done l ws₁ ns₁ bs₁ sc₁ r d =
-      subst (λ xs. Comes ls z ws ns bs sc k e (sequence (Unit {0}) nothingMet (problemIn ls z) xs (t .0) (solveFrom ls z i)) ws₁ ns₁ bs₁ sc₁ r) (sym (rows-none (sourceAt ls) j n l)) d
+      subst (λ xs. Comes ls z ws ns bs sc k e (sequence (Unit {0}) nothingMet (problemIn ls z) xs (t .0) (solveFrom ls z i)) ws₁ ns₁ bs₁ sc₁ r) (sym (rows-none-left (sourceAt ls) n j l)) d
 
   module _ (l : j < n) (s : InferSortId) (q : s .0 ≡ sourceAt ls j) where
     first-and-rest : PlacedIn (lent ws ns (k .lengths)) (sourceAt ls j) × All (PlacedIn (lent ws ns (k .lengths))) (rowsFrom (sourceAt ls) (j + 1) (n - (j + 1)))
-    first-and-rest = both (subst (All (PlacedIn (lent ws ns (k .lengths)))) (rows-more (sourceAt ls) j n l) (S .fine .1 .placed))
+    first-and-rest = both (subst (All (PlacedIn (lent ws ns (k .lengths)))) (rows-one-left (sourceAt ls) n j l) (S .fine .1 .placed))
       where
         both : All (PlacedIn (lent ws ns (k .lengths))) (sourceAt ls j ∷ rowsFrom (sourceAt ls) (j + 1) (n - (j + 1)))
             → PlacedIn (lent ws ns (k .lengths)) (sourceAt ls j) × All (PlacedIn (lent ws ns (k .lengths))) (rowsFrom (sourceAt ls) (j + 1) (n - (j + 1)))
@@ -295,5 +296,5 @@ module _ (ls : List ℕ) (z : Sizes) (ws ns bs sc : List ℕ) (k : State) (e : B
         → Comes ls z ws ns bs sc k e all ws₁ ns₁ bs₁ sc₁ r
     unfolding sequence nextOf
     seq-more ws₁ ns₁ bs₁ sc₁ r d =
-        subst (λ xs. Comes ls z ws ns bs sc k e (sequence (Unit {0}) nothingMet (problemIn ls z) xs (t .0) (solveFrom ls z i)) ws₁ ns₁ bs₁ sc₁ r) (sym (rows-more (sourceAt ls) j n l))
+        subst (λ xs. Comes ls z ws ns bs sc k e (sequence (Unit {0}) nothingMet (problemIn ls z) xs (t .0) (solveFrom ls z i)) ws₁ ns₁ bs₁ sc₁ r) (sym (rows-one-left (sourceAt ls) n j l))
         (subst (λ p. Comes ls z ws ns bs sc k e (widening (Unit {0}) nothingMet (problemIn ls z) p (t .0) (sequence (Unit {0}) nothingMet (problemIn ls z) (rowsFrom (sourceAt ls) (j + 1) (n - (j + 1))) (t .0) (solveFrom ls z i))) ws₁ ns₁ bs₁ sc₁ r) q d)

@@ -2,7 +2,7 @@
 use mathlib.Core.Path.{_≡_, refl, sym, ap, ap₂, _∙_, subst}
 use mathlib.Core.Bool.{Bool, false}
 use mathlib.Core.List.{List, [], _∷_}
-use Prim.Native.Nat.{ℕ, suc, _+_, _-_, _<_, _≤_}
+use Prim.Native.Nat.{ℕ, _+_, _-_, _<_, _≤_}
 use native.Mathlib.Omega.{arith}
 use lib.ListN.{getD, drop}
 use Rattle.unification.specs.declared.InferSortId.{InferSortId}
@@ -35,18 +35,13 @@ use Rattle.search_state.proofs.After.{searching-grown, done-as, done-after, sam
 use Rattle.search_steps.specs.Steps.{saysOf}
 use Rattle.solver.specs.Asked.{OverloadsFine}
 use Rattle.solver.proofs.Readings.{says-so}
+use Rattle.inference.proofs.Members.{run-one-left}
 
 -- the expression of the next choice
 pub next-expr : (ls : List ℕ) (z : Sizes) (ws ns bs sc : List ℕ) (k : State) (e : Branch) (x : ℕ) (next : Next) → Searching ws ns bs sc ls z k e 0 (x ∷ []) next → getD (chosenExprs ls z) (e .choices) 0 ≡ x
 next-expr ls z ws ns bs sc k e x next S =
     ap (λ n. getD (chosenExprs ls z) n 0) (let q : e .choices ≡ e .choices + 0 = omega arith in q)
     ∙ (sym (getD-drop (e .choices) (chosenExprs ls z) 0 0) ∙ ap (λ xs. getD xs 0 0) (S .choices))
-
-rows-first : {A : Type 0} (row : ℕ → A) (s i n : ℕ) → i < n → rowsFrom row (s + i) (n - i) ≡ row (s + i) ∷ rowsFrom row (s + (i + 1)) (n - (i + 1))
-unfolding rowsFrom
-rows-first row s i n l =
-    ap (rowsFrom row (s + i)) (let q : n - i ≡ suc (n - (i + 1)) = omega (arith, l) in q)
-    ∙ ap (λ j. row (s + i) ∷ rowsFrom row j (n - (i + 1))) (let q : s + i + 1 ≡ s + (i + 1) = omega arith in q)
 
 module _ (ls : List ℕ) (z : Sizes) (ws₀ ns₀ bs₀ sc₀ : List ℕ) (k₀ : State) (e : Branch) (x : ExprId) (p : InferSortId) (run : Run) (next : Next) where
   abbrev P : Problem
@@ -131,7 +126,7 @@ module _ (ls : List ℕ) (z : Sizes) (ws₀ ns₀ bs₀ sc₀ : List ℕ) (k₀ 
         to-and =
             ap₂ (λ n u. andAlso (unifying (path₁ .binds) (p .0) n (λ C. nextOf ls z next (chosen path₁ u i C)) w₁) b (λ b. from (i + 1) b path)) v (next-expr ls z ws ns bs sc k e (x .0) next (G .searching))
             ∙ (ap (λ q. andAlso (unifying (q .binds) (p .0) (place (run .start + i)) (λ C. nextOf ls z next (chosen q (x .0) i C)) w₁) b (λ b. from (i + 1) b path)) same
-            ∙ sym (ap (λ os. everyOverload (Unit {0}) nothingMet P (x .0) (p .0) os i b (nextOf ls z next) path w₁) (rows-first (overloadAt (drop overloadsAt ls)) (run .start) i (run .count) l)))
+            ∙ sym (ap (λ os. everyOverload (Unit {0}) nothingMet P (x .0) (p .0) os i b (nextOf ls z next) path w₁) (run-one-left (overloadAt (drop overloadsAt ls)) (run .start) (run .count) i l)))
 
         pub overloads-stop : (c : ℕ) (n : Lengths) → g ≡ Stop c n → Comes ls z ws₀ ns₀ bs₀ sc₀ k₀ e goal ws₂ ns₂ bs₂ sc₂ (Full c n)
         overloads-stop c n h =

@@ -9,7 +9,7 @@ use Rattle.unification.specs.declared.InferSortId.{InferSortId}
 use Rattle.unification.specs.declared.Lengths.{Lengths}
 use Rattle.unification.specs.Nodes.{bindsOf}
 use Rattle.unification.specs.Checked.{Placed}
-use Rattle.unification.specs.Making.{Lent, made, internContainer}
+use Rattle.unification.specs.Making.{Lent, internContainer}
 use Rattle.unification.proofs.Grows.{CheckedLent, placed-grown}
 use Rattle.inference.specs.Constraints.{Problem}
 use Rattle.inference.specs.Search.{Path, World, Out, missed, Next as Going, Reading, onMade, andAlso, says, unifying, everyReading, bound}
@@ -36,8 +36,9 @@ use Rattle.search_state.proofs.After.{searching-grown, misses, finds, done-as, 
 use Rattle.search_state.proofs.Ways.{two-pairs, container-is-sort, no-room-for-container-is-15, container-always-listed}
 use Rattle.search_steps.specs.Steps.{saysOf, InternsContainer}
 use Rattle.solver.specs.Asked.{bodyOf, opOf, readingAt, readingsFrom}
-use Rattle.solver.proofs.Ways.{rows-more, rows-none, sort-placed, fixed-placed}
+use Rattle.solver.proofs.Ways.{sort-placed, fixed-placed}
 use Rattle.solver.proofs.Widening.{withLengths}
+use Rattle.inference.proofs.Members.{rows-one-left, rows-none-left}
 
 -- whether a leaf was found so far
 pub says-so : (ls : List ℕ) (z : Sizes) (ws ns bs sc : List ℕ) (k : State) (e : Branch) → CheckedLent (lent ws ns (k .lengths)) → (b : Bool) (r : Answer) → r ≡ saysOf b k
@@ -71,7 +72,7 @@ module _ (ls : List ℕ) (z : Sizes) (ws ns bs sc : List ℕ) (k : State) (e : B
   pub readings-done : 3 ≤ i → (r : Answer) → r ≡ saysOf b k → Comes ls z ws ns bs sc k e goal ws ns bs sc r
   unfolding everyReading
   readings-done l r q =
-      done-as ls z ws ns bs sc k e (S .ready .nodes) _ _ ws ns bs sc r (sym (ap (λ rs. rest rs b path w) (rows-none readingAt i 3 l)))
+      done-as ls z ws ns bs sc k e (S .ready .nodes) _ _ ws ns bs sc r (sym (ap (λ rs. rest rs b path w) (rows-none-left readingAt 3 i l)))
       (says-so ls z ws ns bs sc k e (S .ready .nodes) b r q)
 
   module _ (l : i < 3) (ws₁ : List ℕ) (m : Made) (o : InternsContainer (opOf i) (element .0) ws (k .lengths) ws₁ m) where
@@ -86,7 +87,7 @@ module _ (ls : List ℕ) (z : Sizes) (ws ns bs sc : List ℕ) (k : State) (e : B
 
     by-made : onMade (madeOf ws₁ ns m) reads missed w ≡ goal path w
     unfolding everyReading
-    by-made = ap (λ x. onMade x reads missed w) interned ∙ sym (ap (λ rs. rest rs b path w) (rows-more readingAt i 3 l))
+    by-made = ap (λ x. onMade x reads missed w) interned ∙ sym (ap (λ rs. rest rs b path w) (rows-one-left readingAt 3 i l))
 
     pub readings-full : (x : Lengths) → m ≡ NoSortRoom x → Comes ls z ws ns bs sc k e goal ws₁ ns bs sc (Full 15 x)
     readings-full x q =

@@ -3,7 +3,7 @@
 use mathlib.Core.Path.{_≡_, refl, sym, ap, _∙_, subst}
 use mathlib.Core.Bool.{Bool, true, false, cond}
 use mathlib.Core.List.{List, [], _∷_, _++_}
-use Prim.Native.Nat.{ℕ, zero, suc, _+_, _-_, _<_, _≤_}
+use Prim.Native.Nat.{ℕ, _+_, _-_, _<_, _≤_}
 use native.Mathlib.Omega.{arith}
 use lib.ListN.{length, take, drop, length-drop}
 use Rattle.unification.specs.declared.InferSortId.{InferSortId}
@@ -29,7 +29,7 @@ use Rattle.inference.specs.declared.Constraint.{Constraint}
 use Rattle.inference.specs.declared.Constraint.the-variants.{Sub, Lit, Disjunction, Comprehension, Join}
 use Rattle.inference.specs.SolveChecks.{componentsOf, components, disjunctionFor, disjunctions}
 use Rattle.inference.specs.Names.{overloadIn}
-use Rattle.inference.proofs.Members.{length-rows, row-at, run-at}
+use Rattle.inference.proofs.Members.{length-rows, row-at, run-at, rows-one-left, each-row, rows-none-left}
 use Rattle.inference.proofs.Accepted.{Listed, sub-listed, lit-listed, disjunction-listed, comprehension-listed, join-listed}
 use Rattle.search_state.specs.declared.Next.the-variants.{Solve}
 use Rattle.search_state.specs.Memory.{overloadsAt, sourceAt, problemIn, restFrom, chosenExprs, measureAt, lent, pathOf, bestOf, worldOf, solveFrom, nextOf}
@@ -37,18 +37,10 @@ use Rattle.words.specs.Words.{part}
 use Rattle.search_state.specs.Searching.{Searching, SourcesFine, AtLeaf, Comparable, Comes}
 use Rattle.search_state.proofs.After.{misses, done-as}
 use Rattle.solver.specs.Asked.{OverloadsFine, exprsOfConstraint, readingsFrom}
-use Rattle.solver.proofs.Ways.{rows-more, rows-none}
 
 -- one of the rows
 all-taken : {A : Type 0} (R : A → Type 0) (x : A) (xs : List A) → All R (x ∷ xs) → R x × All R xs
 all-taken R x xs (and-all _ _ a b) = (a, b)
-
-all-at : {A : Type 0} (R : A → Type 0) (row : ℕ → A) (n i j : ℕ) → All R (rowsFrom row i n) → j < n → R (row (i + j))
-unfolding rowsFrom
-all-at R row zero i j a l = absurd (omega (arith, l))
-all-at R row (suc n) i zero a l = subst (λ m. R (row m)) (let q : i ≡ i + 0 = omega arith in q) (all-taken R (row i) (rowsFrom row (i + 1) n) a .0)
-all-at R row (suc n) i (suc j) a l =
-    subst (λ m. R (row m)) (let q : i + 1 + j ≡ i + suc j = omega arith in q) (all-at R row n (i + 1) j (all-taken R (row i) (rowsFrom row (i + 1) n) a .1) (omega (arith, l)))
 
 module _ (ls : List ℕ) (z : Sizes) (ws ns bs sc : List ℕ) (k : State) (e : Branch) (i : ℕ) (S : Searching ws ns bs sc ls z k e 0 [] (Solve i)) where
   abbrev P : Problem
@@ -89,19 +81,19 @@ module _ (ls : List ℕ) (z : Sizes) (ws ns bs sc : List ℕ) (k : State) (e : B
       pub solve-leaf : z .constraints ≤ i → (ws₁ ns₁ bs₁ sc₁ : List ℕ) (r : Answer) → Comes ls z ws ns bs sc k e (leaf (Unit {0}) nothingMet P) ws₁ ns₁ bs₁ sc₁ r
           → Comes ls z ws ns bs sc k e (solveFrom ls z i) ws₁ ns₁ bs₁ sc₁ r
       solve-leaf l ws₁ ns₁ bs₁ sc₁ r d =
-          done-as ls z ws ns bs sc k e (S .ready .nodes) _ _ ws₁ ns₁ bs₁ sc₁ r (on [] ∙ ap (λ cs. solve (Unit {0}) nothingMet P cs path w) (sym (rows-none (constraintAt ls) i (z .constraints) l))) d
+          done-as ls z ws ns bs sc k e (S .ready .nodes) _ _ ws₁ ns₁ bs₁ sc₁ r (on [] ∙ ap (λ cs. solve (Unit {0}) nothingMet P cs path w) (sym (rows-none-left (constraintAt ls) (z .constraints) i l))) d
 
       pub solve-on : i < z .constraints → (c : Constraint) → c ≡ constraintAt ls i → (ws₁ ns₁ bs₁ sc₁ : List ℕ) (r : Answer)
           → Comes ls z ws ns bs sc k e (step (Unit {0}) nothingMet P c (solveFrom ls z (i + 1))) ws₁ ns₁ bs₁ sc₁ r → Comes ls z ws ns bs sc k e (solveFrom ls z i) ws₁ ns₁ bs₁ sc₁ r
       solve-on l c h ws₁ ns₁ bs₁ sc₁ r d =
           done-as ls z ws ns bs sc k e (S .ready .nodes) _ _ ws₁ ns₁ bs₁ sc₁ r
           (ap (λ x. step (Unit {0}) nothingMet P x (solveFrom ls z (i + 1)) path w) h
-          ∙ (on (constraintAt ls i ∷ restFrom ls z (i + 1)) ∙ ap (λ cs. solve (Unit {0}) nothingMet P cs path w) (sym (rows-more (constraintAt ls) i (z .constraints) l)))) d
+          ∙ (on (constraintAt ls i ∷ restFrom ls z (i + 1)) ∙ ap (λ cs. solve (Unit {0}) nothingMet P cs path w) (sym (rows-one-left (constraintAt ls) (z .constraints) i l)))) d
 
   -- past the last constraint
   module _ (l : z .constraints ≤ i) where
     none-left-here : restFrom ls z i ≡ []
-    none-left-here = rows-none (constraintAt ls) i (z .constraints) l
+    none-left-here = rows-none-left (constraintAt ls) (z .constraints) i l
 
     all-chosen : length (chosenExprs ls z) ≡ z .disjunctions
     unfolding chosenExprs problemIn
@@ -130,7 +122,7 @@ module _ (ls : List ℕ) (z : Sizes) (ws ns bs sc : List ℕ) (k : State) (e : B
     first-of (Join run t) xs = refl
 
     here : restFrom ls z i ≡ c ∷ restFrom ls z (i + 1)
-    here = rows-more (constraintAt ls) i (z .constraints) l ∙ ap (λ x. x ∷ restFrom ls z (i + 1)) (sym h)
+    here = rows-one-left (constraintAt ls) (z .constraints) i l ∙ ap (λ x. x ∷ restFrom ls z (i + 1)) (sym h)
 
     pub constraint-asked : Searching ws ns bs sc ls z k e (componentsOf c) (exprsOfConstraint c) (Solve (i + 1))
     unfolding components disjunctions
@@ -151,7 +143,7 @@ module _ (ls : List ℕ) (z : Sizes) (ws ns bs sc : List ℕ) (k : State) (e : B
     unfolding problemIn
     constraint-listed =
         subst (Listed (lent ws ns (k .lengths)) P) (sym (h ∙ ap (constraintAt ls) (let q : i ≡ 0 + i = omega arith in q)))
-        (all-at (Listed (lent ws ns (k .lengths)) P) (constraintAt ls) (z .constraints) 0 i (S .suits .constraints) l)
+        (each-row (Listed (lent ws ns (k .lengths)) P) (constraintAt ls) 0 (z .constraints) (S .suits .constraints) i l)
 
 -- One constraint by its kind.
 module _ (ls : List ℕ) (z : Sizes) (ws ns bs sc : List ℕ) (k : State) (e : Branch) (c : Constraint) (i : ℕ) (S : Searching ws ns bs sc ls z k e (componentsOf c) (exprsOfConstraint c) (Solve i))

@@ -4,7 +4,6 @@ use mathlib.Core.Path.{_≡_, refl, sym, ap, ap₂, _∙_, subst}
 use mathlib.Core.List.{List, [], _∷_}
 use Prim.Native.Nat.{ℕ, zero, suc, _+_, _-_, _*_, _<_, _≤_}
 use native.Mathlib.Omega.{arith}
-use lib.ListN.{take}
 use Rattle.unification.specs.declared.InferSortId.{InferSortId}
 use Rattle.unification.specs.declared.Lengths.{Lengths}
 use borrow.Author.Tests.{lt-ltb}
@@ -14,7 +13,7 @@ use Rattle.unification.specs.Checked.{Placed}
 use Rattle.unification.specs.Making.{graph}
 use Rattle.unification.proofs.Grows.{Grows, placed-grown}
 use Rattle.inference.specs.Constraints.{rowsFrom, Problem}
-use Rattle.inference.specs.Search.{Path, World, Out, missed, Try, Next as Going, orElse, unifying, onYes, firstFound, sequence}
+use Rattle.inference.specs.Search.{Path, World, Out, Try, Next as Going, orElse, unifying, onYes, firstFound, sequence}
 use Rattle.inference.specs.SolveEntry.{nothingMet}
 use Rattle.inference.specs.Typing.{none-left, and-all}
 use Rattle.search_state.specs.declared.Sizes.{Sizes}
@@ -35,6 +34,7 @@ use Rattle.search_state.proofs.Ways.{TryPlaced, TriesPlaced}
 use Rattle.search_steps.specs.Steps.{pairsOf}
 use Rattle.resolved_sort.specs.declared.ComplexSort.{ComplexSort}
 use Rattle.solver.specs.Asked.{TriesFine, bodyOf, opOf}
+use Rattle.inference.proofs.Members.{rows-one-left, rows-none-left}
 
 -- the work left, above what any single constraint can take
 abbrev pub work : ℕ → Next → ℕ
@@ -57,15 +57,6 @@ module _ (ls : List ℕ) (z : Sizes) (ws ns bs sc : List ℕ) (k : State) (e : B
     unfolding nextOf
     next-source t j n i q d = rw q d
 
--- one row more
-pub rows-more : {A : Type 0} (row : ℕ → A) (i n : ℕ) → i < n → rowsFrom row i (n - i) ≡ row i ∷ rowsFrom row (i + 1) (n - (i + 1))
-unfolding rowsFrom
-rows-more row i n l = ap (rowsFrom row i) (let q : n - i ≡ suc (n - (i + 1)) = omega (arith, l) in q)
-
-pub rows-none : {A : Type 0} (row : ℕ → A) (i n : ℕ) → n ≤ i → rowsFrom row i (n - i) ≡ []
-unfolding rowsFrom
-rows-none row i n l = ap (rowsFrom row i) (let q : n - i ≡ 0 = omega (arith, l) in q)
-
 -- Tries in order.
 module _ (ls : List ℕ) (z : Sizes) (ws ns bs sc : List ℕ) (k : State) (e : Branch) (t : Tries) (j : ℕ) (next : Next)
     (S : Searching ws ns bs sc ls z k e 1 [] next) (F : TriesFine (lent ws ns (k .lengths)) t j) where
@@ -80,7 +71,7 @@ module _ (ls : List ℕ) (z : Sizes) (ws ns bs sc : List ℕ) (k : State) (e : B
 
   pub tries-done : t .count ≤ j → Comes ls z ws ns bs sc k e goal ws ns bs sc (Missed k)
   unfolding firstFound
-  tries-done l = done-as ls z ws ns bs sc k e (S .ready .nodes) _ _ ws ns bs sc (Missed k) (sym (ap (λ ts. firstFound (Unit {0}) nothingMet P ts (nextOf ls z next) path (worldOf ls z ws ns sc k)) (rows-none (tryAt t) j (t .count) l)))
+  tries-done l = done-as ls z ws ns bs sc k e (S .ready .nodes) _ _ ws ns bs sc (Missed k) (sym (ap (λ ts. firstFound (Unit {0}) nothingMet P ts (nextOf ls z next) path (worldOf ls z ws ns sc k)) (rows-none-left (tryAt t) (t .count) j l)))
       (misses ls z ws ns bs sc k e (S .ready .nodes))
 
   module _ (l : j < t .count) (pairs : Pairs) (q : pairs ≡ pairsOf (tryAt t j)) (g : ℕ) (h : g ≡ tryAt t j .component) where
@@ -92,7 +83,7 @@ module _ (ls : List ℕ) (z : Sizes) (ws ns bs sc : List ℕ) (k : State) (e : B
         both (and-all _ _ x y) = (x, y)
 
     placed-here : TryPlaced (lent ws ns (k .lengths)) (tryAt t j) × TriesPlaced (lent ws ns (k .lengths)) (triesFrom t (j + 1))
-    placed-here = first-placed (triesFrom t (j + 1)) (rows-more (tryAt t) j (t .count) l) (F .placed)
+    placed-here = first-placed (triesFrom t (j + 1)) (rows-one-left (tryAt t) (t .count) j l) (F .placed)
 
     pub try-placed : PairsPlaced (k .lengths) pairs
     try-placed = subst (PairsPlaced (k .lengths)) (sym q) (placed-here .0)
@@ -108,7 +99,7 @@ module _ (ls : List ℕ) (z : Sizes) (ws ns bs sc : List ℕ) (k : State) (e : B
       unfolding firstFound trying unifyPairs unifying stepped
       to-or =
           ap₂ (λ p c. orElse (onYes (unifyPairs (graph (lent ws ns (k .lengths))) p (bindsOf bs (k .lengths .variables))) (λ C. nextOf ls z next (stepped ls z sc e (Component c) C)) w) (firstFound (Unit {0}) nothingMet P (triesFrom t (j + 1)) (nextOf ls z next) path)) q h
-          ∙ sym (ap (λ ts. firstFound (Unit {0}) nothingMet P ts (nextOf ls z next) path w) (rows-more (tryAt t) j (t .count) l))
+          ∙ sym (ap (λ ts. firstFound (Unit {0}) nothingMet P ts (nextOf ls z next) path w) (rows-one-left (tryAt t) (t .count) j l))
 
       pub tries-stop : ((s : State) → r ≡ Missed s → ⊥) → Comes ls z ws ns bs sc k e goal ws₁ ns₁ bs₁ sc₁ r
       tries-stop n = done-as ls z ws ns bs sc k e (S .ready .nodes) _ _ ws₁ ns₁ bs₁ sc₁ r to-or (or-stops ls z ws ns bs sc k e (S .ready .nodes) first ws₁ ns₁ bs₁ sc₁ r d _ n)

@@ -1,10 +1,11 @@
-// The solver of merc's inference.rs, from `solve` on: ranked backtracking over the constraints, in the order of the list. A disjunction
-// or comprehension tries every alternative; a sub-constraint, literal or join tries its resolutions cheapest first and stops at the
-// first that succeeds. Where the Rust hands a closure to `solve_widening`, a value names what comes next.
+// The solver of merc's inference.rs, from `solve` on: ranked backtracking over the constraints, in the order of the
+// list. A disjunction or comprehension tries every alternative; a sub-constraint, literal or join tries its
+// resolutions cheapest first and stops at the first that succeeds. Where the Rust hands a closure to
+// `solve_widening`, a value names what comes next.
 // Each sub-constraint and literal adds one component to the measure, a join one for each source, and 0 is the best.
-// Earlier components matter more (the arguments of an application come before the whole equation), so measures compare
-// from the front, and the least is the most specific typing. Disjunctions and comprehensions add none and are tried
-// exhaustively, so that a tie through different overloads is still seen as ambiguity.
+// Earlier components matter more (the arguments of an application come before the whole equation), so measures
+// compare from the front, and the least is the most specific typing. Disjunctions and comprehensions add none and are
+// tried exhaustively, so that a tie through different overloads is still seen as ambiguity.
 use inference::Constraint;
 use inference::ExprId;
 use inference::LitKind;
@@ -50,7 +51,8 @@ ghost use mathlib.Core.List.{[], _∷_};
 ghost use Prim.Native.Nat.{_+_, _-_, _<_};
 ghost use lib.ListN.{drop};
 ghost use Rattle.inference.specs.Constraints.{overloadAt, rowsFrom};
-ghost use Rattle.inference.specs.Search.{widening, firstFound, literal, everyReading, everyOverload, sequence, joining, step as stepOf};
+ghost use Rattle.inference.specs.Search.{widening, firstFound, literal, everyReading};
+ghost use Rattle.inference.specs.Search.{everyOverload, sequence, joining, step as stepOf};
 ghost use Rattle.inference.specs.SolveChecks.{componentsOf};
 ghost use Rattle.inference.specs.SolveEntry.{nothingMet};
 ghost use Rattle.unification.specs.Checked.{Placed};
@@ -211,11 +213,11 @@ fn solve_constraint(
     }
 }
 
-// Binds the target of a Join to the least upper bound of its sources and goes on. Where that does not apply, or finds nothing, the
-// sources are widened one after another.
-// The bound comes first because it is found in one step, whatever the order of the sources. It is not always enough: a
-// later constraint on the target (an enclosing Bag or Set literal) may need it wider than the bound. The widenings can
-// also reach a supersort of it.
+// Binds the target of a Join to the least upper bound of its sources and goes on. Where that does not apply, or finds
+// nothing, the sources are widened one after another.
+// The bound comes first because it is found in one step, whatever the order of the sources. It is not always enough:
+// a later constraint on the target (an enclosing Bag or Set literal) may need it wider than the bound. The widenings
+// can also reach a supersort of it.
 fn solve_join(
     sorts: &mut [u16],
     nodes: &mut [u16],
@@ -352,7 +354,8 @@ fn solve_join_seq(
     )
 }
 
-// Commits to one overload after another and goes on; all of them are explored, so that leaves of one measure surface as ambiguity.
+// Commits to one overload after another and goes on; all of them are explored, so that leaves of
+// one measure surface as ambiguity.
 fn solve_disjunction(
     sorts: &mut [u16],
     nodes: &mut [u16],
@@ -416,11 +419,11 @@ fn solve_disjunction(
     says(found, s)
 }
 
-// Commits to one reading of a comprehension after another, from the number `reading` on: a Bool body makes a Set, a Nat or Pos body a
-// Bag. The container is interned before the body is looked at.
-// Like a disjunction it adds no component and tries every reading, so that a body which can be Bool as well as a number
-// surfaces as ambiguity. Which reading holds follows from the solved sort of the body; a Pos body is a count as a Nat
-// one is.
+// Commits to one reading of a comprehension after another, from the number `reading` on: a Bool body makes a Set, a
+// Nat or Pos body a Bag. The container is interned before the body is looked at.
+// Like a disjunction it adds no component and tries every reading, so that a body which can be Bool as well as a
+// number surfaces as ambiguity. Which reading holds follows from the solved sort of the body; a Pos body is a count
+// as a Nat one is.
 fn solve_comprehension(
     sorts: &mut [u16],
     nodes: &mut [u16],
@@ -495,8 +498,8 @@ fn solve_comprehension(
     }
 }
 
-// Tries to make `lhs` a subsort of `rhs`: equality first, then strict widenings, nearest first. A concrete `lhs` may be upcast, or a
-// concrete `rhs` met from below; two unbound variables admit no list.
+// Tries to make `lhs` a subsort of `rhs`: equality first, then strict widenings, nearest first. A concrete `lhs` may
+// be upcast, or a concrete `rhs` met from below; two unbound variables admit no list.
 // Nearest first, so that the least upcast wins: treated as equally good, they would make a Pos argument of `mod`
 // ambiguous between its Nat and Int overloads. The first success is the best that this pair can contribute, so later
 // ones are skipped.

@@ -1,5 +1,7 @@
 // Join and meet of merc's resolved sorts over lent storage. They call each other: the join of two functions takes the
-// meet of their arguments, and the meet their join. New sorts are appended; where the answer is none, what was made stays.
+// meet of their arguments, and the meet their join. New sorts are appended; where the answer is
+// none, what was made stays.
+use resolved_sort::ARGUMENT_WORDS;
 use resolved_sort::ComplexSort;
 use resolved_sort::Counts;
 use resolved_sort::Domain;
@@ -8,6 +10,7 @@ use resolved_sort::Found;
 use resolved_sort::Joined;
 use resolved_sort::OpBound;
 use resolved_sort::Pair;
+use resolved_sort::ROW_WORDS;
 use resolved_sort::Side;
 use resolved_sort::Sort;
 use resolved_sort::SortId;
@@ -22,25 +25,26 @@ ghost use Rattle.resolved_sort.specs.Tree.{primitive, family, level, familyOp, 
 ghost use Rattle.resolved_sort.specs.Order.{leLevel, boundOp as boundOfOps};
 ghost use Rattle.resolved_sort.specs.Storage.{partAt, startAt, countAt, entryAt};
 ghost use Rattle.resolved_sort.specs.Rows.{storedAt};
-ghost use Rattle.resolved_sort.specs.Bounds.{Asked, boundAt, containerAt, functionAt, sideOf, opBound, TwoFunctions, storedDomain, boundDomain};
+ghost use Rattle.resolved_sort.specs.Bounds.{Asked, boundAt, containerAt, functionAt, sideOf};
+ghost use Rattle.resolved_sort.specs.Bounds.{opBound, TwoFunctions, storedDomain, boundDomain};
 
 // The range of a function, the number of its arguments, and its i-th argument.
 fn part(sorts: &[u16], id: SortId) -> SortId
     ensures { λ r. ⌜ r .0 ≡ partAt (now (sorts .entry)) (id .0) ⌝ }
 {
-    SortId(word(sorts, 4 * (id.0 as usize) + 1))
+    SortId(word(sorts, ROW_WORDS * (id.0 as usize) + 1))
 }
 
 fn arguments(sorts: &[u16], id: SortId) -> u16
     ensures { λ r. ⌜ r ≡ countAt (now (sorts .entry)) (id .0) ⌝ }
 {
-    word(sorts, 4 * (id.0 as usize) + 3)
+    word(sorts, ROW_WORDS * (id.0 as usize) + 3)
 }
 
 fn argument(sorts: &[u16], id: SortId, i: u16) -> SortId
     ensures { λ r. ⌜ r .0 ≡ entryAt (now (sorts .entry)) (startAt (now (sorts .entry)) (id .0) + i) ⌝ }
 {
-    let start = word(sorts, 4 * (id.0 as usize) + 2);
+    let start = word(sorts, ROW_WORDS * (id.0 as usize) + 2);
     SortId(word(sorts, ENTRIES_AT + ((start as usize) + (i as usize))))
 }
 
@@ -239,7 +243,7 @@ fn bound_function(sorts: &mut [u16], counts: Counts, up: bool, lhs: SortId, rhs:
     let lhs_range = part(sorts, lhs);
     let rhs_range = part(sorts, rhs);
     let count = arguments(sorts, lhs);
-    let domain = bound_domain(sorts, counts, up, lhs, rhs, 0, [0u16; 16]);
+    let domain = bound_domain(sorts, counts, up, lhs, rhs, 0, [0u16; ARGUMENT_WORDS]);
     let ids = domain.ids;
     let found = domain.found;
     match found {
@@ -261,7 +265,7 @@ fn bound_domain(
     lhs: SortId,
     rhs: SortId,
     i: u16,
-    ids: [u16; 16],
+    ids: [u16; ARGUMENT_WORDS],
 ) -> Domain
     requires { ⌜
         TwoFunctions (now sorts) (counts .sorts) (counts .entries) (lhs .0) (rhs .0)
@@ -287,11 +291,11 @@ fn bound_domain(
             bound_domain(sorts, made, up, lhs, rhs, i + 1, next)
         }
         Joined::Nothing(made) => Domain {
-            ids: [0u16; 16],
+            ids: [0u16; ARGUMENT_WORDS],
             found: Found::Nothing(made),
         },
         Joined::Full => Domain {
-            ids: [0u16; 16],
+            ids: [0u16; ARGUMENT_WORDS],
             found: Found::Full,
         },
     }

@@ -4,6 +4,7 @@ use resolved_sort::LAST_KIND;
 use resolved_sort::MAX_ARGUMENTS;
 use resolved_sort::MAX_ENTRIES;
 use resolved_sort::MAX_SORTS;
+use resolved_sort::ROW_WORDS;
 use resolved_sort::ResolvedSort;
 use resolved_sort::Run;
 use resolved_sort::SortId;
@@ -14,7 +15,8 @@ use words::word;
 ghost use mathlib.Core.Path.{_≡_};
 ghost use Prim.Native.Nat.{_+_, _≤_};
 ghost use Rattle.resolved_sort.specs.Storage.{maxSorts};
-ghost use Rattle.resolved_sort.specs.Checks.{firstFailing, sortChecks, withinLent, fixedSix, partsBelow, rowFine, rowsFine, allBelow};
+ghost use Rattle.resolved_sort.specs.Checks.{firstFailing, sortChecks, withinLent, fixedSix};
+ghost use Rattle.resolved_sort.specs.Checks.{partsBelow, rowFine, rowsFine, allBelow};
 ghost use Rattle.resolved_sort.specs.Entries.{testedOf};
 ghost use Rattle.sort_checks.specs.Tests.{argBelow, newRow, noSameRows};
 
@@ -28,7 +30,7 @@ pub fn within_lent(sorts: &[u16], n: usize, e: usize) -> bool
     if MAX_ENTRIES < e {
         return false;
     }
-    if sorts.len() < 4 * n {
+    if sorts.len() < ROW_WORDS * n {
         return false;
     }
     if e == 0 {
@@ -38,7 +40,7 @@ pub fn within_lent(sorts: &[u16], n: usize, e: usize) -> bool
 }
 
 // Check 2: the first six rows are there and are of kinds 0 to 5 in order. Fewer than six rows are refused.
-pub fn fixed_six(sorts: &[u16], n: usize) -> bool
+fn fixed_six(sorts: &[u16], n: usize) -> bool
     ensures { λ r. ⌜ r ≡ fixedSix (now (sorts .entry)) n ⌝ }
 {
     if n < 6 {
@@ -46,7 +48,7 @@ pub fn fixed_six(sorts: &[u16], n: usize) -> bool
     }
     let mut i: u16 = 0;
     while i < 6 {
-        if word(sorts, 4 * (i as usize)) != i {
+        if word(sorts, ROW_WORDS * (i as usize)) != i {
             return false;
         }
         i += 1;
@@ -104,14 +106,14 @@ fn parts_below(sorts: &[u16], e: usize, i: u16, sort: ResolvedSort) -> bool
 fn row_fine(sorts: &[u16], e: usize, i: u16) -> bool
     ensures { λ r. ⌜ r ≡ rowFine (now (sorts .entry)) e i ⌝ }
 {
-    if LAST_KIND < word(sorts, 4 * (i as usize)) {
+    if LAST_KIND < word(sorts, ROW_WORDS * (i as usize)) {
         return false;
     }
     parts_below(sorts, e, i, get(sorts, SortId(i)))
 }
 
 // Check 3: each of the n rows is fine. None is left out.
-pub fn rows_fine(sorts: &[u16], n: usize, e: usize) -> bool
+fn rows_fine(sorts: &[u16], n: usize, e: usize) -> bool
     requires { ⌜ n ≤ maxSorts ⌝ }
     ensures { λ r. ⌜ r ≡ rowsFine (now (sorts .entry)) n e ⌝ }
 {
@@ -141,7 +143,7 @@ fn new_row(sorts: &[u16], j: u16) -> bool
 
 // Check 4 on rows: no two of the first n are the same. No pair is left out.
 // A sort with two numbers would break what all above rests on: that sorts are equal exactly where their numbers are.
-pub fn no_two_equal_rows(sorts: &[u16], n: usize) -> bool
+fn no_two_equal_rows(sorts: &[u16], n: usize) -> bool
     requires { ⌜ n ≤ maxSorts ⌝ }
     ensures { λ r. ⌜ r ≡ noSameRows (now (sorts .entry)) n ⌝ }
 {

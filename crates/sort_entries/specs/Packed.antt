@@ -45,7 +45,8 @@ packMaterialized (NotMaterialized c) = c
 packMaterialized (Answer true) = bit8
 packMaterialized (Answer false) = 0
 
--- bits 8 to 15: 1 where there is a sort; 16 to 31 its number, 32 to 47 the sorts and 48 to 63 the entries after the call
+-- bits 8 to 15: 1 where there is a sort; 16 to 31 its number, 32 to 47 the sorts and 48 to 63 the
+-- entries after the call
 abbrev pub packBounded : Bounded → ℕ
 packBounded (NotBounded c) = c
 packBounded (Sort s k) = bit8 + s .0 * bit16 + k .sorts * bit32 + k .entries * bit48

@@ -26,7 +26,8 @@ ghost use Rattle.resolved_sort.specs.Storage.{maxSorts, maxEntries, fullLength}
 ghost use Rattle.resolved_sort.specs.Checks.{firstFailing, pairChecks};
 ghost use Rattle.resolved_sort.specs.Entries.{testedOf, compared, measured, materialized, bounded, left};
 ghost use Rattle.sort_entries.specs.Kept.{keptOrGivenBack};
-ghost use Rattle.sort_entries.specs.Packed.{packCompared, packMeasured, packMaterialized, packBounded, packed, packLeft};
+ghost use Rattle.sort_entries.specs.Packed.{packCompared, packMeasured, packMaterialized};
+ghost use Rattle.sort_entries.specs.Packed.{packBounded, packed, packLeft};
 
 // Checks 1 to 4, 12 and 14 of a question about two sorts: the first that fails.
 fn test_pair(
@@ -60,7 +61,8 @@ fn test_pair(
 }
 
 // The order of two sorts.
-// Ruled out: functions compared covariantly in their arguments; Bag below FBag; an answer about a list that fails a check.
+// Ruled out: functions compared covariantly in their arguments; Bag below FBag; an answer about a
+// list that fails a check.
 pub fn partial_cmp(
     sorts: &[u16],
     sort_count: usize,
@@ -128,7 +130,8 @@ pub fn is_materializable(
     }
 }
 
-// What an entry answers after join or meet: an answered one keeps what was made, one that ran out of room gives it back.
+// What an entry answers after join or meet: an answered one keeps what was made, one that ran out
+// of room gives it back.
 fn kept_or_given_back(
     sorts: &mut [u16],
     sort_count: usize,
@@ -264,7 +267,8 @@ fn pack_bounded(answer: Bounded) -> u64
     }
 }
 
-// The entries for callers in other languages: a slice is a pointer and a length, sorts are numbers, and the answer is packed.
+// The entries for callers in other languages: a slice is a pointer and a length, sorts are numbers,
+// and the answer is packed.
 #[no_mangle]
 pub extern "C" fn sort_partial_cmp(
     sorts: &[u16],

@@ -1,11 +1,14 @@
-// Merc's SortInterner over lent storage: one slice of 16-bit words, rows of four words first and argument entries behind them. A row is read,
-// found or appended, and sorts made are given back. Interning stands here alone.
+// Merc's SortInterner over lent storage: one slice of 16-bit words, rows of four words first and argument entries
+// behind them. A row is read, found or appended, and sorts made are given back. Interning stands here alone.
+use resolved_sort::ARGUMENT_WORDS;
 use resolved_sort::ComplexSort;
 use resolved_sort::Counts;
 use resolved_sort::ENTRIES_AT;
+use resolved_sort::FIRST_CONTAINER;
 use resolved_sort::FUNCTION_KIND;
 use resolved_sort::Joined;
 use resolved_sort::MAX_ENTRIES;
+use resolved_sort::ROW_WORDS;
 use resolved_sort::ResolvedSort;
 use resolved_sort::Run;
 use resolved_sort::SORT_NUMBERS;
@@ -20,7 +23,9 @@ ghost use Prim.Native.Nat.{_+_, _≤_, _<_};
 ghost use lib.ListN.{length, take};
 ghost use lib.Seq.{sets};
 ghost use lib.Dec.{eqb};
-ghost use Rattle.resolved_sort.specs.Storage.{maxSorts, maxEntries, entriesAt, fullLength, functionKind, resolved, rowAt, entriesOf, wordsAt, kindOp, putRow, appendRow, givenBack, trees, lookAll};
+ghost use Rattle.resolved_sort.specs.Storage.{maxSorts, maxEntries, maxArguments, entriesAt, fullLength};
+ghost use Rattle.resolved_sort.specs.Storage.{functionKind, resolved, rowAt, entriesOf, wordsAt, kindOp};
+ghost use Rattle.resolved_sort.specs.Storage.{putRow, appendRow, givenBack, trees, lookAll};
 ghost use Rattle.resolved_sort.specs.Rows.{sameWords, sameRow, findRow, storedAt, internRow, Checked, AllBelow};
 ghost use Rattle.sort_interner.specs.Tests.{isRow};
 ghost use Rattle.resolved_sort.specs.Tree.{container, function as functionSort};
@@ -72,7 +77,7 @@ fn row_of(kind: u16, part: u16, run: Run) -> ResolvedSort
 pub fn get(sorts: &[u16], id: SortId) -> ResolvedSort
     ensures { λ r. ⌜ r ≡ rowAt (now (sorts .entry)) (id .0) ⌝ }
 {
-    let at = 4 * (id.0 as usize);
+    let at = ROW_WORDS * (id.0 as usize);
     let kind = word(sorts, at);
     let part = word(sorts, at + 1);
     let start = word(sorts, at + 2);
@@ -98,7 +103,7 @@ pub fn give_back(sorts: &mut [u16], n: usize, e: usize)
     requires { ⌜ (n ≤ maxSorts) × (e ≤ maxEntries) × (fullLength ≤ length (now sorts)) ⌝ }
     ensures { λ _. ⌜ now (sorts .exit) ≡ givenBack n e (now (sorts .entry)) ⌝ }
 {
-    clear(sorts, 4 * n, ENTRIES_AT);
+    clear(sorts, ROW_WORDS * n, ENTRIES_AT);
     let end = sorts.len();
     clear(sorts, ENTRIES_AT + e, end);
 }
@@ -107,17 +112,17 @@ pub fn give_back(sorts: &mut [u16], n: usize, e: usize)
 fn kind_at(sorts: &[u16], i: u16) -> u16
     ensures { λ r. ⌜ r ≡ (wordsAt (now (sorts .entry)) i) .kind ⌝ }
 {
-    word(sorts, 4 * (i as usize))
+    word(sorts, ROW_WORDS * (i as usize))
 }
 
 // The part of row i as far as it is looked at: 0 where the kind has none, whatever the word there is.
 fn part_at(sorts: &[u16], i: u16) -> u16
     ensures { λ r. ⌜ r ≡ (wordsAt (now (sorts .entry)) i) .part ⌝ }
 {
-    if kind_at(sorts, i) < 6 {
+    if kind_at(sorts, i) < FIRST_CONTAINER {
         return 0;
     }
-    word(sorts, 4 * (i as usize) + 1)
+    word(sorts, ROW_WORDS * (i as usize) + 1)
 }
 
 // The run of row i as far as it is looked at: empty where the row is no function, whatever the words there are.
@@ -127,7 +132,7 @@ fn run_at(sorts: &[u16], i: u16) -> Run
         ⌝ }
 {
     if kind_at(sorts, i) == FUNCTION_KIND {
-        let at = 4 * (i as usize);
+        let at = ROW_WORDS * (i as usize);
         return Run {
             start: word(sorts, at + 2),
             count: word(sorts, at + 3),
@@ -176,8 +181,8 @@ pub fn same_rows(sorts: &[u16], i: u16, j: u16) -> bool
 }
 
 // Whether a run has the first n of the ids as its entries, and no more.
-fn has_args(sorts: &[u16], a: Run, ids: [u16; 16], n: u16) -> bool
-    requires { ⌜ n ≤ 16 ⌝ }
+fn has_args(sorts: &[u16], a: Run, ids: [u16; ARGUMENT_WORDS], n: u16) -> bool
+    requires { ⌜ n ≤ maxArguments ⌝ }
     ensures { λ r. ⌜ r ≡ sameWords (entriesOf (now (sorts .entry)) (a .start) (a .count)) (take n ids) ⌝ }
 {
     if a.count != n {
@@ -196,8 +201,15 @@ fn has_args(sorts: &[u16], a: Run, ids: [u16; 16], n: u16) -> bool
 }
 
 // Whether row i is of this kind, part and arguments. Words not looked at do not count.
-fn is_row(sorts: &[u16], i: u16, kind: u16, part: u16, ids: [u16; 16], count: u16) -> bool
-    requires { ⌜ count ≤ 16 ⌝ }
+fn is_row(
+    sorts: &[u16],
+    i: u16,
+    kind: u16,
+    part: u16,
+    ids: [u16; ARGUMENT_WORDS],
+    count: u16,
+) -> bool
+    requires { ⌜ count ≤ maxArguments ⌝ }
     ensures { λ r. ⌜
         r ≡ isRow (now (sorts .entry)) (record { kind = kind; part = part; args = take count ids }) i
         ⌝ }
@@ -212,8 +224,15 @@ fn is_row(sorts: &[u16], i: u16, kind: u16, part: u16, ids: [u16; 16], count: u1
 }
 
 // The first row below n that is of this kind, part and arguments, never a later one; n where there is none.
-fn find_row(sorts: &[u16], n: u16, kind: u16, part: u16, ids: [u16; 16], count: u16) -> u16
-    requires { ⌜ count ≤ 16 ⌝ }
+fn find_row(
+    sorts: &[u16],
+    n: u16,
+    kind: u16,
+    part: u16,
+    ids: [u16; ARGUMENT_WORDS],
+    count: u16,
+) -> u16
+    requires { ⌜ count ≤ maxArguments ⌝ }
     ensures { λ r. ⌜
         r ≡ findRow (now (sorts .entry)) n (record { kind = kind; part = part; args = take count ids })
         ⌝ }
@@ -232,7 +251,7 @@ fn find_row(sorts: &[u16], n: u16, kind: u16, part: u16, ids: [u16; 16], count: 
 pub fn put_row(sorts: &mut [u16], i: u16, kind: u16, part: u16, start: u16, count: u16)
     ensures { λ _. ⌜ now (sorts .exit) ≡ putRow (now (sorts .entry)) i kind part start count ⌝ }
 {
-    let at = 4 * (i as usize);
+    let at = ROW_WORDS * (i as usize);
     put(sorts, at, kind);
     put(sorts, at + 1, part);
     put(sorts, at + 2, start);
@@ -240,8 +259,8 @@ pub fn put_row(sorts: &mut [u16], i: u16, kind: u16, part: u16, start: u16, coun
 }
 
 // The first n of the ids stored as the entries from e on. The rest of the ids is not stored.
-pub fn put_args(sorts: &mut [u16], e: u16, ids: [u16; 16], n: u16)
-    requires { ⌜ n ≤ 16 ⌝ }
+pub fn put_args(sorts: &mut [u16], e: u16, ids: [u16; ARGUMENT_WORDS], n: u16)
+    requires { ⌜ n ≤ maxArguments ⌝ }
     ensures { λ _. ⌜ now (sorts .exit) ≡ sets (now (sorts .entry)) (entriesAt + e) (take n ids) ⌝ }
 {
     let mut i: u16 = 0;
@@ -263,8 +282,16 @@ pub fn start_of(kind: u16, e: u16) -> u16
 }
 
 // A row with its arguments appended to n rows and e entries. Only a function's row names a start; of others it is 0.
-fn append_row(sorts: &mut [u16], n: u16, e: u16, kind: u16, part: u16, ids: [u16; 16], count: u16)
-    requires { ⌜ count ≤ 16 ⌝ }
+fn append_row(
+    sorts: &mut [u16],
+    n: u16,
+    e: u16,
+    kind: u16,
+    part: u16,
+    ids: [u16; ARGUMENT_WORDS],
+    count: u16,
+)
+    requires { ⌜ count ≤ maxArguments ⌝ }
     ensures { λ _. ⌜
         now (sorts .exit)
         ≡ appendRow (now (sorts .entry)) n e (record { kind = kind; part = part; args = take count ids })
@@ -274,19 +301,19 @@ fn append_row(sorts: &mut [u16], n: u16, e: u16, kind: u16, part: u16, ids: [u16
     put_args(sorts, e, ids, count);
 }
 
-// The row's number: the first row that is the same, else one more row where there is room. Nothing changes where the row
-// is found or there is no room.
+// The row's number: the first row that is the same, else one more row where there is room. Nothing changes where the
+// row is found or there is no room.
 // Each distinct sort is stored once, so that equality of sorts is that of their numbers. The six that merc interns
 // first stand at the front of every list (check 2).
-pub fn intern(
+fn intern(
     sorts: &mut [u16],
     counts: Counts,
     kind: u16,
     part: u16,
-    ids: [u16; 16],
+    ids: [u16; ARGUMENT_WORDS],
     count: u16,
 ) -> Joined
-    requires { ⌜ count ≤ 16 ⌝ }
+    requires { ⌜ count ≤ maxArguments ⌝ }
     ensures { λ r. ⌜
         storedAt (now (sorts .exit)) r
         ≡ internRow (now (sorts .entry)) (counts .sorts) (counts .entries)
@@ -324,21 +351,28 @@ pub fn generic(sorts: &mut [u16], counts: Counts, op: ComplexSort, subsort: Sort
         (container op (look (trees (now (sorts .entry)) (counts .sorts)) (subsort .0)))
         ⌝ }
 {
-    intern(sorts, counts, kind_of_op(op), subsort.0, [0u16; 16], 0)
+    intern(
+        sorts,
+        counts,
+        kind_of_op(op),
+        subsort.0,
+        [0u16; ARGUMENT_WORDS],
+        0,
+    )
 }
 
 // Interns the function sort `domain -> range`, the domain being the first count of the ids.
 pub fn function(
     sorts: &mut [u16],
     counts: Counts,
-    ids: [u16; 16],
+    ids: [u16; ARGUMENT_WORDS],
     count: u16,
     range: SortId,
 ) -> Joined
     requires { ⌜
         Checked (now sorts) (counts .sorts) (counts .entries)
         × (range .0 < counts .sorts)
-        × (count ≤ 16)
+        × (count ≤ maxArguments)
         × AllBelow (counts .sorts) (take count ids)
         ⌝ }
     ensures { λ r. ⌜

@@ -16,7 +16,8 @@ argsAt ws n s c = lookAll (trees ws n) (entriesOf ws s c)
 unfoldable pub argsOrder : Trees → Trees → PartialOrder
 argsOrder ss ts = orderOf (les false ss ts) (les true ss ts)
 
--- What is known of two runs of c entries in a checked list: they are inside the entries, and each entry is a sort's number.
+-- What is known of two runs of c entries in a checked list: they are inside the entries, and each
+-- entry is a sort's number.
 pub record Runs (ws : List ℕ) (n e s t c : ℕ) : Type 0 where
   pub checked : Checked ws n e
   pub lhs-run : s + c ≤ e

@@ -18,7 +18,8 @@ ghost use mathlib.Core.Option.{some};
 ghost use Prim.Native.Nat.{_-_, _<_};
 ghost use lib.Dec.{leb};
 ghost use Rattle.resolved_sort.specs.Tree.{primitive, flat};
-ghost use Rattle.resolved_sort.specs.Order.{leOp, order, orderOf, given, sum as sumOf, distance, distances, materializable};
+ghost use Rattle.resolved_sort.specs.Order.{leOp, order, orderOf, given};
+ghost use Rattle.resolved_sort.specs.Order.{sum as sumOf, distance, distances, materializable};
 ghost use Rattle.resolved_sort.specs.Storage.{entriesOf};
 ghost use Rattle.resolved_sort.specs.Entries.{treeAt, wideningOf};
 ghost use Rattle.resolved_sort.specs.Rows.{Checked, sameWords};
@@ -360,8 +361,8 @@ fn op_distance(from: ComplexSort, to: ComplexSort) -> Amount
     }
 }
 
-// The distance of sorts with head steps of their own, with the steps of parts before, and with the distance of a part: the
-// part's head and interior are both interior.
+// The distance of sorts with head steps of their own, with the steps of parts before, and with the distance of a part:
+// the part's head and interior are both interior.
 fn within(head: u8, before: u8, part: Widening) -> Widening
     ensures { λ r. ⌜ r ≡ beneath head before part ⌝ }
 {
@@ -500,8 +501,8 @@ fn same_arguments(sorts: &[u16], from_start: u16, to_start: u16, count: u16) -> 
     true
 }
 
-// Whether the language has a coercion from one sort of a checked list to another. Below is not enough: parts and arguments
-// are the same sorts.
+// Whether the language has a coercion from one sort of a checked list to another. Below is not enough: parts and
+// arguments are the same sorts.
 // The language converts a number into a wider one and a finite set or bag into the set or bag over the same elements.
 // It has no conversion element by element, and none of a List. A function value converts to a wider range at the same
 // domain by eta-expansion: `f` of sort `D -> S` becomes `lambda d: D. coerce(f(d))` of sort `D -> T` where `S`

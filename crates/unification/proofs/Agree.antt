@@ -29,10 +29,6 @@ abbrev pub Names : (ℕ → Type 0) → Binds → Type 0
 Names P B = (v q : ℕ) → binding B v ≡ some q → P q
 
 module _ (P : ℕ → Type 0) (shape shape′ : ℕ → Shape) (A : Agree P shape shape′) where
-  -- the same the other way round
-  pub agree-back : Agree P shape′ shape
-  agree-back = record { parts = λ p q h ps x s o. A .parts p q h ps x (sym (A .same p x) ∙ s) o; same = λ p x. sym (A .same p x) }
-
   pub term-agrees : (k p : ℕ) → P p → termTo shape′ k p ≡ termTo shape k p
   unfolding termTo
   term-agrees zero p x = refl

@@ -5,23 +5,18 @@ use mathlib.Core.Bool.{Bool}
 use mathlib.Core.List.{List}
 use mathlib.Core.Option.{none, some}
 use Prim.Native.Nat.{ℕ, _<_}
-use Rattle.resolved_sort.specs.declared.SortId.{SortId}
-use Rattle.resolved_sort.specs.declared.Counts.{Counts}
-use Rattle.resolved_sort.specs.declared.Joined.the-variants.{At, Nothing, Full}
 use Rattle.resolved_sort.specs.Tree.{Tree}
 use Rattle.resolved_sort.specs.Order.{bound}
 use Rattle.resolved_sort.specs.Interning.{look, Outcome, make}
 use Rattle.resolved_sort.specs.Storage.{trees, sortsOf}
-use Rattle.resolved_sort.specs.Rows.{storedAt}
 use Rattle.resolved_sort.specs.Bounds.{boundAt}
 use Rattle.resolved_sort.proofs.Grown.{grown-none}
 use Rattle.resolved_sort.proofs.Kept.{make-kept}
 use Rattle.resolved_sort.proofs.Stored.{look-whole}
 use Rattle.resolved_sort.proofs.Made.{Answers, make-answers}
 use Rattle.unification.specs.Making.{Lent}
-use Rattle.unification.proofs.Grows.{CheckedLent, Grows}
-use Rattle.unification.proofs.SortsGrow.{withSortWords}
-use Rattle.unification.proofs.SortsLeft.{ReadsAs, Leaves, left-by, leaves-sort, leaves-none, leaves-full}
+use Rattle.unification.proofs.Grows.{CheckedLent}
+use Rattle.unification.proofs.SortsLeft.{Leaves, left-by}
 
 module _ (W : Lent) (c : CheckedLent W) (up : Bool) (a b : ℕ) (x : a < W .lengths .sorts) (y : b < W .lengths .sorts) where
   abbrev ws : List ℕ
@@ -49,15 +44,3 @@ module _ (W : Lent) (c : CheckedLent W) (up : Bool) (a b : ℕ) (x : a < W .leng
       (make-kept ws n e up s t (sortsOf ws n e) (grown-none ws n e (c .sorts)) (look-whole ws n e (c .sorts) a x) (look-whole ws n e (c .sorts) b y))
       (λ u S q. subst (Answers (bound up s t)) q (make-answers up s t (sortsOf ws n e)))
       (λ S q. subst (Answers (bound up s t)) q (make-answers up s t (sortsOf ws n e)))
-
-  -- By the equation that the call answers.
-  module _ (us : List ℕ) where
-    pub bound-answers : (id : SortId) (K : Counts) → boundAt up ws n e a b ≡ storedAt us (At id K)
-        → Grows W (withSortWords W us (K .sorts) (K .entries)) × ((id .0 < K .sorts) × (bound up s t ≡ some (look (trees us (K .sorts)) (id .0))))
-    bound-answers id K q = leaves-sort W (λ u. bound up s t ≡ some u) (bound up s t ≡ none) (boundAt up ws n e a b) bound-leaves us id K q
-
-    pub no-bound-answers : (K : Counts) → boundAt up ws n e a b ≡ storedAt us (Nothing K) → Grows W (withSortWords W us (K .sorts) (K .entries)) × (bound up s t ≡ none)
-    no-bound-answers K q = leaves-none W (λ u. bound up s t ≡ some u) (bound up s t ≡ none) (boundAt up ws n e a b) bound-leaves us K q
-
-    pub bound-has-no-room : boundAt up ws n e a b ≡ storedAt us Full → Grows W (withSortWords W us n e) × ReadsAs W us
-    bound-has-no-room q = leaves-full W (λ u. bound up s t ≡ some u) (bound up s t ≡ none) (boundAt up ws n e a b) bound-leaves us q

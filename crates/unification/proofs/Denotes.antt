@@ -1,19 +1,14 @@
 -- Answers depend only on what places stand for. Robinson's theorem says of an answer which terms for the variables solve it; so two problems with
 -- the same solutions have the same answer, whatever the lists, the bindings and the numbers of the places are. What resolve answers is a function of
 -- the term of a place. Assumes nothing.
-use mathlib.Core.Path.{_≡_, ap, sym, _∙_}
 use mathlib.Core.List.{List}
-use mathlib.Core.Option.{none, some}
 use mathlib.Core.Logic.{_↔_}
 use Prim.Native.Nat.{ℕ}
-use Rattle.resolved_sort.specs.Tree.{Tree}
-use Rattle.resolved_sort.specs.Interning.{Sorts}
-use Rattle.unification.specs.Term.{Term, var, Shape, put}
-use Rattle.unification.specs.Nodes.{shapeAt, Binds, binding}
+use Rattle.unification.specs.Term.{Term, var, Shape}
+use Rattle.unification.specs.Nodes.{shapeAt, Binds}
 use Rattle.unification.specs.Unify.{Unifies, yes-with, no-way, unify}
 use Rattle.unification.specs.Checked.{NodesChecked, listsOf, BindsChecked}
-use Rattle.unification.specs.Solutions.{termAt, Respects, Equates, Robinson, says-no, says-yes}
-use Rattle.unification.specs.Resolve.{value, resolveTerm, resolve, resolveOrDefault}
+use Rattle.unification.specs.Solutions.{Respects, Equates, Robinson, says-no, says-yes}
 use Rattle.unification.proofs.Theorem.{unify-is-robinson}
 
 module _ (shape shape′ : ℕ → Shape) where
@@ -49,19 +44,6 @@ module _ (shape shape′ : ℕ → Shape) where
           λ t. let h = same-solutions s σ .1 (to′ σ t) in from σ (h .0) (h .1),
         ))
 
-    -- Places with the same terms, also those that variables are bound to, make the same problem.
-    pub same-terms : ((v q : ℕ) → binding B v ≡ some q → (q′ : ℕ) × (binding B′ v ≡ some q′) × (termAt shape q ≡ termAt shape′ q′))
-        → ((v q′ : ℕ) → binding B′ v ≡ some q′ → (q : ℕ) × (binding B v ≡ some q) × (termAt shape q ≡ termAt shape′ q′))
-        → termAt shape l ≡ termAt shape′ l′ → termAt shape r ≡ termAt shape′ r′ → SameProblem B l r B′ l′ r′
-    same-terms to from e f =
-        record {
-          respects = λ σ. (
-            λ h v q′ b. let x = from v q′ b in h v (x .0) (x .1) ∙ ap (put σ) (x .2),
-            λ h v q b. let x = to v q b in h v (x .0) (x .1) ∙ sym (ap (put σ) (x .2)),
-          );
-          equates = λ σ h. (λ i. sym (ap (put σ) e) ∙ (i ∙ ap (put σ) f), λ i. ap (put σ) e ∙ (i ∙ sym (ap (put σ) f)));
-        }
-
 -- The same for two calls of unify, each on lists and bindings that passed their checks.
 module _
     (ws : List ℕ) (n e : ℕ) (ns : List ℕ) (m d v : ℕ) (c : NodesChecked ws n e ns m d v) (B : Binds) (b : BindsChecked (listsOf ws n ns m) v B)
@@ -75,11 +57,3 @@ module _
   pub unify-same-answer : (l r l′ r′ : ℕ) → SameProblem shape shape′ B l r B′ l′ r′ → SameAnswer shape shape′ (unify shape B l r) (unify shape′ B′ l′ r′)
   unify-same-answer l r l′ r′ s =
       same-answer shape shape′ B l r B′ l′ r′ s (unify shape B l r) (unify shape′ B′ l′ r′) (unify-is-robinson ws n e ns m d v c B b l r) (unify-is-robinson ws′ n′ e′ ns′ m′ d′ v′ c′ B′ b′ l′ r′)
-
--- resolve, and resolve_or_default: places that stand for the same term have the same answer
-module _ (shape shape′ : ℕ → Shape) (B B′ : Binds) (p p′ : ℕ) (same : value shape B p ≡ value shape′ B′ p′) (S : Sorts) where
-  pub resolve-by-value : resolve shape B p S ≡ resolve shape′ B′ p′ S
-  resolve-by-value = ap (λ (t : Term). resolveTerm none t S) same
-
-  pub resolve-or-default-by-value : (t : Tree) → resolveOrDefault shape B p t S ≡ resolveOrDefault shape′ B′ p′ t S
-  resolve-or-default-by-value t = ap (λ (u : Term). resolveTerm (some t) u S) same

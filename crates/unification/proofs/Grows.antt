@@ -19,18 +19,17 @@ use Rattle.unification.specs.declared.InferSort.{InferSort}
 use Rattle.unification.specs.declared.InferSort.the-variants.{Generic, Function, Var}
 use Rattle.unification.specs.Term.{Head, functionHead, Term, var, over}
 use Rattle.unification.specs.Nodes.{nodeKindAt, nodeEntryAt, nodeEntriesOf, inferred, nodeAt, sortShape, nodeShape, isSort, isPlace, shapeAt, Binds, bindsOf}
-use Rattle.unification.specs.Unify.{follow, unify, deep, deeper}
+use Rattle.unification.specs.Unify.{unify, deep, deeper}
 use Rattle.unification.specs.Acyclic.{One}
 use Rattle.unification.specs.NodeChecks.{nodePartsFine, nodeKindFine, nodeFine, nodesFine}
 use Rattle.unification.specs.Checked.{NodesChecked, listsOf, BindsChecked, Ready, Placed}
 use Rattle.unification.specs.Solutions.{termAt, Respects}
 use Rattle.unification.specs.Resolve.{value}
 use Rattle.unification.specs.Making.{Lent, graph, withNodesOf}
-use Rattle.unification.proofs.Rank.{rank}
 use Rattle.unification.proofs.Places.{sort-below, node-below, place-longer, bound-is-place, bindings-longer}
 use Rattle.unification.proofs.Rows.{node-function-fine, fine-tests, node-fine-parts, nodes-fine-each}
 use Rattle.unification.proofs.Lists.{part-is-place}
-use Rattle.unification.proofs.Agree.{Agree, Names, term-agrees, follow-agrees, rank-agrees, value-agrees, numbering-agrees, respects-agrees, unify-agrees}
+use Rattle.unification.proofs.Agree.{Agree, Names, term-agrees, value-agrees, numbering-agrees, respects-agrees, unify-agrees}
 
 -- lists that passed their checks; and bindings with them
 abbrev pub CheckedLent : Lent → Type 0
@@ -177,12 +176,6 @@ module _ (W : Lent) (c : CheckedLent W) where
 
     -- and all else that bindings of W make of it
     module _ (B : Binds) (b : Names (PlacedIn W) B) where
-      pub follow-grown : (k p : ℕ) → PlacedIn W p → follow (graph W′) k B p ≡ follow (graph W) k B p
-      follow-grown = follow-agrees (PlacedIn W) (graph W) (graph W′) agree-grown B b
-
-      pub rank-grown : (k p : ℕ) → PlacedIn W p → rank (graph W′) k B p ≡ rank (graph W) k B p
-      rank-grown = rank-agrees (PlacedIn W) (graph W) (graph W′) agree-grown B b
-
       pub value-grown : (p : ℕ) → PlacedIn W p → value (graph W′) B p ≡ value (graph W) B p
       value-grown = value-agrees (PlacedIn W) (graph W) (graph W′) agree-grown B b var deep
 

@@ -41,9 +41,6 @@ module _ (shape : ℕ → Shape) (w : ℕ) (B : Binds) (A : Ranked shape w B) wh
   free-at-end _ q e (bound p v x s b h) = free-at-end x q (sym (binding-followed p v x s b) ∙ e) h
   free-at-end _ q e (range p n ps s h) = let x = head-ends p (functionHead n) ps s in let z : p ≡ q = cc in subst (FreeEnd shape B) z (range p n ps s h)
 
-  pub free-exactly-at-end : (p q : ℕ) → follow shape w B p ≡ some q → FreeEnd shape B p ↔ FreeEnd shape B q
-  free-exactly-at-end p q e = (free-at-end p q e, free-from-end shape B w p q e)
-
 module _ (W : Lent) (B : Binds) (A : Ranked (graph W) deep B) (up : Bool) where
   -- no list only for such a place, and then with the lists as they were
   abbrev pub Free : ℕ → Lent → Type 0

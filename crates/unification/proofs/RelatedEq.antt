@@ -1,24 +1,20 @@
 -- At its depth strictRelated meets its own equation. The range of the function at the end of a place has a lower rank than the place, and is asked
 -- about in the lists as they were given, before anything is made; so past the rank of a place more depth changes nothing. From the equation: the
 -- answer by what stands at the end. Assumes nothing.
-use mathlib.Core.Path.{_≡_, refl, ap, sym, _∙_, subst}
+use mathlib.Core.Path.{_≡_, refl, ap, sym, _∙_}
 use mathlib.Core.List.{List, [], _∷_, _++_}
 use mathlib.Core.Option.{some}
 use mathlib.Core.Bool.{Bool, true, false, cond}
 use Prim.Native.Nat.{ℕ, zero, suc, _-_, _<_, _≤_}
 use native.Mathlib.Omega.{arith}
 use lib.ListN.{length, getD, take, length-append}
-use lib.Seq.{take-at, getD-at}
 use borrow.Author.Tests.{lt-ltb, le-ltb}
-use Rattle.resolved_sort.specs.declared.Run.{Run}
 use Rattle.resolved_sort.specs.declared.ComplexSort.{ComplexSort}
-use Rattle.resolved_sort.specs.declared.SortId.{SortId}
 use Rattle.resolved_sort.specs.declared.ResolvedSort.{ResolvedSort}
 use Rattle.resolved_sort.specs.declared.ResolvedSort.the-variants.{Unit as UnitRow, Primitive, Container, Function as SortFunction, Def, TypeVar}
 use Rattle.resolved_sort.specs.Tree.{Flat}
 use Rattle.resolved_sort.specs.Storage.{maxSorts, entriesOf, rowAt}
 use Rattle.resolved_sort.proofs.Reached.{no-confusion}
-use Rattle.unification.specs.declared.InferSortId.{InferSortId}
 use Rattle.unification.specs.declared.InferSort.{InferSort}
 use Rattle.unification.specs.declared.InferSort.the-variants.{Generic, Function, Var}
 use Rattle.unification.specs.Term.{flatHead, containerHead, functionHead, strayHead, Shape, variable, over}
@@ -131,36 +127,3 @@ module _ (W : Lent) (bs : List ℕ) (R : Ready (W .sorts) (W .nodes) bs (W .leng
 
       pub made-at-function : strictRelated up bound p W ≡ (strictRelated up bound (getD ps n 0) W and-then (pushFunctions (take n ps)))
       made-at-function = related-at (over (functionHead n) ps) i
-
-    -- a function by its arguments and its range
-    module _ (n : ℕ) (xs : List ℕ) (r : ℕ) (m : length xs ≡ n) (i : graph W q ≡ over (functionHead n) (xs ++ (r ∷ []))) where
-      last : getD (xs ++ (r ∷ [])) n 0 ≡ r
-      last = getD-at xs r [] 0 n m
-
-      pub range-lower-than : rank (graph W) deep bound r < rank (graph W) deep bound p
-      range-lower-than = subst (λ (x : ℕ). rank (graph W) deep bound x < rank (graph W) deep bound p) last (range-lower-than-place n (xs ++ (r ∷ [])) i)
-
-      pub made-over-range : strictRelated up bound p W ≡ (strictRelated up bound r W and-then (pushFunctions xs))
-      made-over-range =
-          made-at-function n (xs ++ (r ∷ [])) i
-          ∙ (ap (λ (x : ℕ). strictRelated up bound x W and-then (pushFunctions (take n (xs ++ (r ∷ []))))) last
-          ∙ ap (λ (ys : List ℕ). strictRelated up bound r W and-then (pushFunctions ys)) (take-at xs (r ∷ []) n m))
-
-    -- and by its row
-    module _ (d : Run) (r : SortId) (i : graph W q ≡ sortShape (W .sorts) (SortFunction d r)) where
-      pub made-at-sort-function : strictRelated up bound p W ≡ (strictRelated up bound (r .0) W and-then (pushFunctions (entriesOf (W .sorts) (d .start) (d .count))))
-      unfolding sortShape
-      made-at-sort-function = made-over-range (d .count) (entriesOf (W .sorts) (d .start) (d .count)) (r .0) (length-entries (W .sorts) (d .start) (d .count)) i
-
-      pub sort-range-lower : rank (graph W) deep bound (r .0) < rank (graph W) deep bound p
-      unfolding sortShape
-      sort-range-lower = range-lower-than (d .count) (entriesOf (W .sorts) (d .start) (d .count)) (r .0) (length-entries (W .sorts) (d .start) (d .count)) i
-
-    module _ (d : Run) (r : InferSortId) (i : graph W q ≡ nodeShape (W .nodes) (Function d r)) where
-      pub made-at-node-function : strictRelated up bound p W ≡ (strictRelated up bound (r .0) W and-then (pushFunctions (nodeEntriesOf (W .nodes) (d .start) (d .count))))
-      unfolding nodeShape
-      made-at-node-function = made-over-range (d .count) (nodeEntriesOf (W .nodes) (d .start) (d .count)) (r .0) (length-node-entries (W .nodes) (d .start) (d .count)) i
-
-      pub node-range-lower : rank (graph W) deep bound (r .0) < rank (graph W) deep bound p
-      unfolding nodeShape
-      node-range-lower = range-lower-than (d .count) (nodeEntriesOf (W .nodes) (d .start) (d .count)) (r .0) (length-node-entries (W .nodes) (d .start) (d .count)) i

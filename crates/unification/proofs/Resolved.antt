@@ -348,10 +348,6 @@ mutual
   resolves-end d (part t ts) S =
       ends-then (resolveTerm d t S) _ (resolve-ends d t S) (λ u S₁. ends-then (resolveTerms d ts S₁) _ (resolves-end d ts S₁) (λ us S₂. made-ends (u ∷ us) S₂))
 
-pub full-has-no-room : (d : Option Tree) (t : Term) (S S′ : Sorts) → resolveTerm d t S ≡ full S′ → NoRoomFor S′
-unfolding Ends
-full-has-no-room d t S S′ q = subst Ends q (resolve-ends d t S)
-
 -- An answer of resolve by what is free: a sort, where the place reaches no free variable; none, where it reaches one; or room ended.
 pub data Determined (shape : ℕ → Shape) (B : Binds) (p : ℕ) : Outcome Tree → Type 0 where
   determined : (t : Tree) (S : Sorts) → ((u : ℕ) → Reaches shape B u p → binding B u ≡ none → ⊥) → Determined shape B p (made t S)

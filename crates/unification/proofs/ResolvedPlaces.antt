@@ -9,8 +9,8 @@ use native.Mathlib.Omega.{arith}
 use lib.ListN.{length, length-append}
 use Rattle.resolved_sort.specs.Tree.{Tree}
 use Rattle.resolved_sort.specs.Interning.{Sorts, look, member, made}
-use Rattle.resolved_sort.specs.Storage.{maxEntries, trees, sortsOf}
-use Rattle.resolved_sort.specs.Entries.{after, stored}
+use Rattle.resolved_sort.specs.Storage.{trees}
+use Rattle.resolved_sort.specs.Entries.{after}
 use Rattle.resolved_sort.proofs.Numbers.{member-look, member-grows}
 use Rattle.resolved_sort.proofs.Trees.{length-trees}
 use Rattle.resolved_sort.proofs.Grown.{Grown}
@@ -30,7 +30,7 @@ use Rattle.unification.proofs.Theorem.{checked-ranked}
 use Rattle.unification.proofs.Agree.{Names}
 use Rattle.unification.proofs.Grows.{PlacedIn, Grows, placed-grown, value-grown}
 use Rattle.unification.proofs.SortsGrow.{withMoreSorts, sorts-grow}
-use Rattle.unification.proofs.ResolvedSorts.{count, HeadOver, Formed, AllFormed, DefaultIn, sort-is-found, resolve-again}
+use Rattle.unification.proofs.ResolvedSorts.{count, HeadOver, Formed, AllFormed, sort-is-found}
 
 -- the heads of shapes stand over as many parts as they should
 abbrev pub ShapeOver : Shape → Type 0
@@ -113,13 +113,3 @@ module _ (ws : List ℕ) (n e : ℕ) (ns : List ℕ) (m d v : ℕ) (c : NodesChe
     -- a place stands for what it stood for
     pub value-there : (p : ℕ) → isPlace n m p ≡ true → value (shapeAt there) B p ≡ value (shapeAt (listsOf ws n ns m)) B p
     value-there = value-grown before c (withMoreSorts before S) grows B names
-
-    -- resolving a place of before in the list that was left, is stored as if it were done in one call
-    pub resolve-place-again : (x : Option Tree) (p : ℕ) → isPlace n m p ≡ true → DefaultIn x S
-        → stored ws n e (resolveTerm x (value (shapeAt (listsOf ws n ns m)) B p) S)
-        ≡ stored (after ws n e S) (length (S .trees)) (maxEntries - S .entries)
-        (resolveTerm x (value (shapeAt there) B p) (sortsOf (after ws n e S) (length (S .trees)) (maxEntries - S .entries)))
-    resolve-place-again x p i f =
-        resolve-again ws n e S g x (value (shapeAt (listsOf ws n ns m)) B p) f (value-formed ws n e ns m d v c B b p i)
-        ∙ ap (λ t. stored (after ws n e S) (length (S .trees)) (maxEntries - S .entries) (resolveTerm x t (sortsOf (after ws n e S) (length (S .trees)) (maxEntries - S .entries))))
-        (sym (value-there p i))

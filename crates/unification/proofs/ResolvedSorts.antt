@@ -1,7 +1,7 @@
 -- The list that resolve leaves. What it makes is appended to a list that grew from its storage and leaves such a list, with its answer in it, so
 -- that a call after another goes on as if the two were one; and a sort of the list is found there, with nothing made. By the clauses of
 -- `resolveTerm`. Assumes nothing.
-use mathlib.Core.Path.{_≡_, refl, sym, _∙_, ap, ap₂, subst}
+use mathlib.Core.Path.{_≡_, refl, _∙_, ap, ap₂, subst}
 use mathlib.Core.Bool.{true, and-eq-true-iff}
 use mathlib.Core.List.{List, [], _∷_}
 use mathlib.Core.Option.{Option, none, some}
@@ -11,14 +11,13 @@ use native.Mathlib.Numerals.{add-one}
 use lib.ListN.{length, getD}
 use Rattle.resolved_sort.specs.Tree.{unit, Tree, flat, container, function, Trees, end, arg, arity}
 use Rattle.resolved_sort.specs.Interning.{Sorts, look, number, member, need, made, _then_, intern}
-use Rattle.resolved_sort.specs.Storage.{maxEntries, trees, sortsOf}
-use Rattle.resolved_sort.specs.Entries.{after, stored}
+use Rattle.resolved_sort.specs.Storage.{maxEntries, trees}
+use Rattle.resolved_sort.specs.Entries.{after}
 use Rattle.resolved_sort.proofs.Numbers.{look-number, number-below}
 use Rattle.resolved_sort.proofs.RowTrees.{partsIn, members}
 use Rattle.resolved_sort.proofs.Grown.{Grown, grown-none, sorts-again}
 use Rattle.resolved_sort.proofs.Kept.{Extends, extends-refl, member-extends, Kept, InTree, kept-then, intern-kept, container-interned, function-interned, Whole, Wholes}
 use Rattle.resolved_sort.proofs.Stored.{look-whole}
-use Rattle.resolved_sort.proofs.Reached.{stored-again}
 use Rattle.unification.specs.Term.{Head, flatHead, containerHead, functionHead, strayHead, Term, var, app, Terms, no-part, part, termOf, termsOf}
 use Rattle.unification.specs.Resolve.{firsts, treeOver, resolveTerm, resolveTerms}
 
@@ -134,12 +133,6 @@ module _ (ws : List ℕ) (n e : ℕ) (S : Sorts) (g : Grown ws n e S) where
 
   pub grown-there : Grown words-then sorts-then entries-then S
   grown-there = subst (Grown words-then sorts-then entries-then) (sorts-again ws n e S g) (grown-none words-then sorts-then entries-then (g .checked))
-
-  pub resolve-again : (d : Option Tree) (t : Term) → DefaultIn d S → Formed t
-      → stored ws n e (resolveTerm d t S) ≡ stored words-then sorts-then entries-then (resolveTerm d t (sortsOf words-then sorts-then entries-then))
-  resolve-again d t i f =
-      sym (stored-again ws n e S g S (resolveTerm d t S) (resolve-kept words-then sorts-then entries-then d t S grown-there i f))
-      ∙ ap (λ U. stored words-then sorts-then entries-then (resolveTerm d t U)) (sym (sorts-again ws n e S g))
 
 -- A sort of the list is found there, and nothing is made.
 intern-found : (t : Tree) (S : Sorts) → member (S .trees) t ≡ true → intern t S ≡ made t S

@@ -85,7 +85,7 @@ var-is ms [] v l = absurd (omega (arith, l))
 var-is ms (b ∷ B) zero l = refl
 var-is ms (b ∷ B) (suc v) l = var-is ms B v (omega (arith, l))
 
-bound-inside : (B : Binds) (v q : ℕ) → binding B v ≡ some q → v < length B
+pub bound-inside : (B : Binds) (v q : ℕ) → binding B v ≡ some q → v < length B
 bound-inside [] v q e = no-confusion (cc)
 bound-inside (b ∷ B) zero q e = omega arith
 bound-inside (b ∷ B) (suc v) q e = omega (arith, bound-inside B v q e)
@@ -96,7 +96,7 @@ all-each [] v e l = absurd (omega (arith, l))
 all-each (x ∷ xs) zero e l = and-eq-true-iff x (all xs) .0 e .0
 all-each (x ∷ xs) (suc v) e l = all-each xs v (and-eq-true-iff x (all xs) .0 e .1) (omega (arith, l))
 
-none-at-first : (n v : ℕ) → getD (replicate n false) v false ≡ false
+pub none-at-first : (n v : ℕ) → getD (replicate n false) v false ≡ false
 none-at-first zero v = refl
 none-at-first (suc n) zero = refl
 none-at-first (suc n) (suc v) = none-at-first n v

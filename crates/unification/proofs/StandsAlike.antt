@@ -11,17 +11,13 @@ use native.Mathlib.Omega.{arith}
 use lib.ListN.{length, getD}
 use Rattle.resolved_sort.specs.Tree.{unit, Tree, flat}
 use Rattle.resolved_sort.specs.Interning.{Sorts}
-use Rattle.resolved_sort.specs.Storage.{sortsOf}
-use Rattle.resolved_sort.specs.Entries.{stored}
 use Rattle.resolved_sort.specs.Checks.{fixedSix}
 use Rattle.resolved_sort.proofs.Numbers.{true-not-false}
-use Rattle.unification.specs.declared.Lengths.{Lengths}
-use Rattle.unification.specs.declared.Default.{Default}
 use Rattle.unification.specs.Term.{flatHead, containerHead, functionHead, strayHead, Term, var, Shape, variable, over, termOf, put}
 use Rattle.unification.specs.Nodes.{Binds, binding}
 use Rattle.unification.specs.Unify.{deep}
 use Rattle.unification.specs.Solutions.{valueBound, valueAt, termAt, Respects}
-use Rattle.unification.specs.Resolve.{value, resolve, resolveOrDefault, defaultIn, termResolved}
+use Rattle.unification.specs.Resolve.{value, resolve, resolveOrDefault}
 use Rattle.unification.specs.Related.{each}
 use Rattle.unification.specs.FinalRange.{FreeEnd, free, bound, range}
 use Rattle.unification.specs.Making.{Lent, graph, made, no-list, strictRelated}
@@ -89,11 +85,6 @@ abbrev pub Covers : (ℕ → Shape) → Binds → ℕ → (ℕ → Shape) → Bi
 Covers shape B p shape′ B′ p′ =
     (σ : ℕ → Term) → Respects shape B σ → (τ : ℕ → Term) × (Respects shape′ B′ τ × (put τ (termAt shape′ p′) ≡ put σ (termAt shape p)))
 
--- Places with the same solutions cover each other.
-pub same-solutions-cover : (shape shape′ : ℕ → Shape) (B B′ : Binds) (p p′ : ℕ) → ((σ : ℕ → Term) → Respects shape B σ → Respects shape′ B′ σ)
-    → ((σ : ℕ → Term) → Respects shape B σ → put σ (termAt shape p) ≡ put σ (termAt shape′ p′)) → Covers shape B p shape′ B′ p′
-same-solutions-cover shape shape′ B B′ p p′ r f σ s = (σ, (r σ s, sym (f σ s)))
-
 module _ (W : Lent) (c : CheckedLent W) (B : Binds) (b : CheckedBinds W B) (p : ℕ) (W′ : Lent) (c′ : CheckedLent W′) (B′ : Binds) (b′ : CheckedBinds W′ B′) (p′ : ℕ) where
   put-here : (σ : ℕ → Term) → Respects (graph W) B σ → put σ (value (graph W) B p) ≡ put σ (termAt (graph W) p)
   put-here σ r = put-place (W .sorts) (W .lengths .sorts) (W .lengths .entries) (W .nodes) (W .lengths .nodes) (W .lengths .arguments) (W .lengths .variables) c B b σ r p
@@ -145,12 +136,6 @@ module _
 
   pub resolve-or-default-alike : (t : Tree) (S : Sorts) → resolveOrDefault (graph W) B p t S ≡ resolveOrDefault (graph W′) B′ p′ t S
   resolve-or-default-alike t S = resolve-up-to-names (some t) (value (graph W) B p) (value (graph W′) B′ p′) values-same-but-names S
-
-  pub resolved-alike : (us : List ℕ) (k : Lengths) (z : Default) → termResolved us k z (value (graph W) B p) ≡ termResolved us k z (value (graph W′) B′ p′)
-  unfolding termResolved
-  resolved-alike us k z =
-      ap (stored us (k .sorts) (k .entries))
-      (resolve-up-to-names (defaultIn us k z) (value (graph W) B p) (value (graph W′) B′ p′) values-same-but-names (sortsOf us (k .sorts) (k .entries)))
 
   -- whether there is a list of wider or narrower sorts
   pub no-list-alike : (up : Bool) (U : Lent) → strictRelated up B p W ≡ no-list U → strictRelated up B′ p′ W′ ≡ no-list W′

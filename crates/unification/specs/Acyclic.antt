@@ -38,8 +38,9 @@ pub record Numbering (shape : ℕ → Shape) (n : ℕ) (B : Binds) : Type 0 wher
   pub few : (v : ℕ) → number v ≤ n
   pub falls : (v q u : ℕ) → binding B v ≡ some q → Stands shape u q → number u < number v
 
--- How it is found out. A variable is settled when it is free, or when the sort that it is bound to is; a sort is settled when all variables
--- that stand in it, as it stands, are. Round by round more variables are settled; those that never are reach themselves or one that does.
+-- How it is found out. A variable is settled when it is free, or when the sort that it is bound to is; a sort is
+-- settled when all variables that stand in it, as it stands, are. Round by round more variables are settled; those that
+-- never are reach themselves or one that does.
 abbrev pub placeSettled : List Bool → ℕ → Bool
 placeSettled ms p = cond (isSort p) true (getD ms (p - maxSorts) false)
 

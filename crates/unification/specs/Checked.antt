@@ -7,13 +7,15 @@ use lib.ListN.{length}
 use Rattle.resolved_sort.specs.Storage.{maxSorts}
 use Rattle.resolved_sort.specs.Checks.{rowsFine}
 use Rattle.resolved_sort.specs.Rows.{Checked}
-use Rattle.unification.specs.Nodes.{maxNodes, maxNodeEntries, maxVars, fullNodes, Lists, isPlace, shapeAt, Binds, bindsOf}
+use Rattle.unification.specs.Nodes.{maxNodes, maxNodeEntries, maxVars, fullNodes, Lists}
+use Rattle.unification.specs.Nodes.{isPlace, shapeAt, Binds, bindsOf}
 use Rattle.unification.specs.declared.Lengths.{Lengths}
 use Rattle.unification.specs.Term.{Shape}
 use Rattle.unification.specs.NodeChecks.{nodesFine, bindingsFine}
 use Rattle.unification.specs.Acyclic.{Numbering}
 
--- n sorts with e entries that pass checks 1 and 3, and m nodes with d entries over v variables that pass 1 and 5, however long the words lent are
+-- n sorts with e entries that pass checks 1 and 3, and m nodes with d entries over v variables that
+-- pass 1 and 5, however long the words lent are
 pub record ListsFine (ws : List ℕ) (n e : ℕ) (ns : List ℕ) (m d v : ℕ) : Type 0 where
   pub sorts : n ≤ maxSorts
   pub rows : rowsFine ws n e ≡ true
@@ -21,7 +23,8 @@ pub record ListsFine (ws : List ℕ) (n e : ℕ) (ns : List ℕ) (m d v : ℕ) :
   pub variables : v ≤ maxVars
   pub fine : nodesFine ns m d n v ≡ true
 
--- n sorts with e entries that pass checks 1, 3, 4 and 14, and m nodes with d entries over v variables that pass 1, 5 and 14
+-- n sorts with e entries that pass checks 1, 3, 4 and 14, and m nodes with d entries over v
+-- variables that pass 1, 5 and 14
 pub record NodesChecked (ws : List ℕ) (n e : ℕ) (ns : List ℕ) (m d v : ℕ) : Type 0 where
   pub sorts : Checked ws n e
   pub long : fullNodes ≤ length ns

@@ -1,5 +1,5 @@
--- "A free variable has no such list, nor has a function whose final range is free": the places that these words mean, through bindings. The range of
--- a function of n arguments stands after them.
+-- "A free variable has no such list, nor has a function whose final range is free": the places that these words mean,
+-- through bindings. The range of a function of n arguments stands after them.
 use mathlib.Core.Path.{_≡_}
 use mathlib.Core.List.{List}
 use mathlib.Core.Option.{none, some}

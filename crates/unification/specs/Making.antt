@@ -1,5 +1,6 @@
--- strict_related_sorts (001) at a place: the places of the sorts strictly wider (up true) or strictly narrower, nearest first, with the sorts and
--- nodes that it makes, inner ones first. Where room ends, 15 is for the sorts and 16 for the nodes.
+-- strict_related_sorts (001) at a place: the places of the sorts strictly wider (up true) or
+-- strictly narrower, nearest first, with the sorts and nodes that it makes, inner ones first. Where
+-- room ends, 15 is for the sorts and 16 for the nodes.
 use mathlib.Core.Bool.{Bool, true, false, cond, _&&_}
 use mathlib.Core.List.{List, [], _∷_}
 use mathlib.Core.Option.{Option, none, some}

@@ -5,26 +5,28 @@ use mathlib.Core.Option.{Option, none, some}
 use Prim.Native.Nat.{ℕ, _+_, _-_, _*_}
 use lib.ListN.{length}
 use lib.Dec.{eqb, leb, ltb}
+use Rattle.resolved_sort.specs.Storage.{maxArguments, rowWords, firstContainer, functionKind}
 use Rattle.resolved_sort.specs.Checks.{allBelow, withinLent, sortRowChecks, atCeiling, Check}
 use Rattle.unification.specs.declared.InferSort.{InferSort}
 use Rattle.unification.specs.declared.InferSort.the-variants.{Generic, Function, Var}
-use Rattle.unification.specs.Nodes.{maxNodes, maxNodeEntries, maxVars, nodeEntriesAt, fullNodes, nodeKindAt, nodeEntryAt, variableKind, nodeAt, isPlace, bindsOf}
+use Rattle.unification.specs.Nodes.{maxNodes, maxNodeEntries, maxVars, nodeEntriesAt, fullNodes, nodeKindAt}
+use Rattle.unification.specs.Nodes.{nodeEntryAt, variableKind, nodeAt, isPlace, bindsOf}
 use Rattle.unification.specs.Acyclic.{acyclic}
 
 -- 1. "A given list is above its ceiling or longer than the storage lent for it."
 unfoldable pub nodesWithinLent : List ℕ → ℕ → ℕ → Bool
 nodesWithinLent ns m d =
-    leb m maxNodes && leb d maxNodeEntries && leb (4 * m) (length ns) && leb d (length ns - nodeEntriesAt)
+    leb m maxNodes && leb d maxNodeEntries && leb (rowWords * m) (length ns) && leb d (length ns - nodeEntriesAt)
 
 unfoldable pub bindingsWithinLent : List ℕ → ℕ → Bool
 bindingsWithinLent bs v = leb v maxVars && leb v (length bs)
 
--- 5. "A node has an unknown kind, more than 16 arguments, a run leaving its list, a variable not below the variable count, or a part that is
--- neither a sort nor a lower node."
+-- 5. "A node has an unknown kind, more than 16 arguments, a run leaving its list, a variable not below the variable
+-- count, or a part that is neither a sort nor a lower node."
 unfoldable pub nodePartsFine : List ℕ → ℕ → ℕ → ℕ → ℕ → InferSort → Bool
 nodePartsFine ns d n v i (Generic op subsort) = isPlace n i (subsort .0)
 nodePartsFine ns d n v i (Function domain range) =
-    leb (domain .count) 16
+    leb (domain .count) maxArguments
     && leb (domain .start + domain .count) d
     && isPlace n i (range .0)
     && allBelow (domain .count) (λ j. isPlace n i (nodeEntryAt ns (domain .start + j)))
@@ -32,7 +34,7 @@ nodePartsFine ns d n v i (Var u) = ltb (u .0) v
 
 -- 6 to 11, and 14
 unfoldable pub nodeKindFine : ℕ → Bool
-nodeKindFine k = cond (eqb k variableKind) true (leb 6 k && leb k 11)
+nodeKindFine k = cond (eqb k variableKind) true (leb firstContainer k && leb k functionKind)
 
 unfoldable pub nodeFine : List ℕ → ℕ → ℕ → ℕ → ℕ → Bool
 nodeFine ns d n v i = nodeKindFine (nodeKindAt ns i) && nodePartsFine ns d n v i (nodeAt ns i)

@@ -1,5 +1,5 @@
--- The lent node storage, as that of sorts: rows of four words, kind, part, start and count, then the argument entries at a fixed place.
--- Parts are places: a sort below 1,024, else a node. Words past the counts are not looked at.
+-- The lent node storage, as that of sorts: rows of four words, kind, part, start and count, then the argument entries
+-- at a fixed place. Parts are places: a sort below 1,024, else a node. Words past the counts are not looked at.
 use mathlib.Core.Bool.{Bool, cond}
 use mathlib.Core.List.{List, [], _∷_, _++_}
 use mathlib.Core.Option.{Option, none, some}
@@ -9,9 +9,10 @@ use lib.Dec.{eqb, ltb}
 use Rattle.resolved_sort.specs.declared.ComplexSort.{ComplexSort}
 use Rattle.resolved_sort.specs.declared.Run.{Run}
 use Rattle.resolved_sort.specs.declared.ResolvedSort.{ResolvedSort}
-use Rattle.resolved_sort.specs.declared.ResolvedSort.the-variants.{Unit, Primitive, Container, Function as SortFunction, Def, TypeVar}
+use Rattle.resolved_sort.specs.declared.ResolvedSort.the-variants.{Unit, Primitive, Container}
+use Rattle.resolved_sort.specs.declared.ResolvedSort.the-variants.{Function as SortFunction, Def, TypeVar}
 use Rattle.resolved_sort.specs.Tree.{unit, primitive, def, typevar}
-use Rattle.resolved_sort.specs.Storage.{maxSorts, functionKind, entriesOf, rowAt}
+use Rattle.resolved_sort.specs.Storage.{maxSorts, rowWords, firstContainer, functionKind, entriesOf, rowAt}
 use Rattle.unification.specs.declared.InferSort.{InferSort}
 use Rattle.unification.specs.declared.InferSort.the-variants.{Generic, Function, Var}
 use Rattle.unification.specs.Term.{flatHead, containerHead, functionHead, strayHead, Shape, variable, over}
@@ -34,16 +35,16 @@ abbrev pub fullNodes : ℕ
 fullNodes = 12288
 
 abbrev pub nodeKindAt : List ℕ → ℕ → ℕ
-nodeKindAt ns i = getD ns (4 * i) 0
+nodeKindAt ns i = getD ns (rowWords * i) 0
 
 abbrev pub nodePartAt : List ℕ → ℕ → ℕ
-nodePartAt ns i = getD ns (4 * i + 1) 0
+nodePartAt ns i = getD ns (rowWords * i + 1) 0
 
 abbrev pub nodeStartAt : List ℕ → ℕ → ℕ
-nodeStartAt ns i = getD ns (4 * i + 2) 0
+nodeStartAt ns i = getD ns (rowWords * i + 2) 0
 
 abbrev pub nodeCountAt : List ℕ → ℕ → ℕ
-nodeCountAt ns i = getD ns (4 * i + 3) 0
+nodeCountAt ns i = getD ns (rowWords * i + 3) 0
 
 abbrev pub nodeEntryAt : List ℕ → ℕ → ℕ
 nodeEntryAt ns j = getD ns (nodeEntriesAt + j) 0
@@ -58,7 +59,7 @@ variableKind = 14
 
 abbrev pub opOfKind : ℕ → ComplexSort
 opOfKind k =
-    getD (ComplexSort.List ∷ ComplexSort.Set ∷ ComplexSort.FSet ∷ ComplexSort.Bag ∷ []) (k - 6)
+    getD (ComplexSort.List ∷ ComplexSort.Set ∷ ComplexSort.FSet ∷ ComplexSort.Bag ∷ []) (k - firstContainer)
     ComplexSort.FBag
 
 -- What a row of these words says.

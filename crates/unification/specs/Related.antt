@@ -1,5 +1,6 @@
--- The sorts strictly wider (up true) or strictly narrower (up false) than a sort, nearest first: "numbers nearest first, the infinite container,
--- a function by its range. Strictly narrower likewise." "Bool, List, unit, Def and TypeVar have an empty one."
+-- The sorts strictly wider (up true) or strictly narrower (up false) than a sort, nearest first:
+-- "numbers nearest first, the infinite container, a function by its range. Strictly narrower
+-- likewise." "Bool, List, unit, Def and TypeVar have an empty one."
 use mathlib.Core.Bool.{Bool, true, false}
 use mathlib.Core.List.{List, [], _∷_}
 use mathlib.Core.Option.{Option, none, some}

@@ -1,6 +1,6 @@
--- resolve and resolve_or_default (001): the sort that a place stands for through the bindings. Its parts are made first, a function's arguments
--- left to right and then its range, and then the whole is interned. A sort of the list, and each of its parts, is found there, so that nothing
--- is made for it.
+-- resolve and resolve_or_default (001): the sort that a place stands for through the bindings. Its parts are made
+-- first, a function's arguments left to right and then its range, and then the whole is interned. A sort of the list,
+-- and each of its parts, is found there, so that nothing is made for it.
 use mathlib.Core.List.{List, [], _∷_}
 use mathlib.Core.Option.{Option, none, some}
 use Prim.Native.Nat.{ℕ, zero, suc, _<_}
@@ -16,7 +16,8 @@ use Rattle.resolved_sort.specs.Bounds.{StoredDomain, domainOf}
 use Rattle.unification.specs.declared.Lengths.{Lengths}
 use Rattle.unification.specs.declared.Default.{Default}
 use Rattle.unification.specs.declared.Default.the-variants.{Is, Nothing}
-use Rattle.unification.specs.Term.{Head, flatHead, containerHead, functionHead, strayHead, Term, var, app, Terms, no-part, part, Shape}
+use Rattle.unification.specs.Term.{Head, flatHead, containerHead, functionHead, strayHead, Term}
+use Rattle.unification.specs.Term.{var, app, Terms, no-part, part, Shape}
 use Rattle.unification.specs.Nodes.{Binds, bindsOf}
 use Rattle.unification.specs.Unify.{deep}
 use Rattle.unification.specs.Checked.{graphOf}
@@ -39,7 +40,8 @@ treeOver (containerHead o) us = container o (getD us 0 (flat unit))
 treeOver (functionHead n) us = function (firsts n us) (getD us n (flat unit))
 treeOver (strayHead n) us = flat unit
 
--- The sort of a term. Where a variable stands, it is the default, and none where there is no default: what was made up to there stays.
+-- The sort of a term. Where a variable stands, it is the default, and none where there is no
+-- default: what was made up to there stays.
 unfoldable mutual
   pub resolveTerm : Option Tree → Term → Sorts → Outcome Tree
   resolveTerm d (var v) S = where-some d S (λ t. made t S)

@@ -1,4 +1,5 @@
--- What unify is measured against, after Robinson: terms for the variables, under which the bindings hold and the two sides are equal.
+-- What unify is measured against, after Robinson: terms for the variables, under which the bindings
+-- hold and the two sides are equal.
 use mathlib.Core.Path.{_≡_}
 use mathlib.Core.List.{List, [], _∷_}
 use mathlib.Core.Option.{Option, none, some}
@@ -48,9 +49,9 @@ module _ (shape : ℕ → Shape) where
   abbrev pub Equates : (ℕ → Term) → ℕ → ℕ → Type 0
   Equates σ l r = put σ (termAt l) ≡ put σ (termAt r)
 
-  -- Robinson's theorem about an answer. A no: nothing that respects the bindings equates the two sides. A yes: what respects the new bindings is
-  -- exactly what respects the old ones and equates the two sides, so they are the most general solution; no variable reaches itself; and
-  -- whatever the variables still free stand for, there is a solution.
+  -- Robinson's theorem about an answer. A no: nothing that respects the bindings equates the two sides. A yes: what
+  -- respects the new bindings is exactly what respects the old ones and equates the two sides, so they are the most
+  -- general solution; no variable reaches itself; and whatever the variables still free stand for, there is a solution.
   pub data Robinson (B : Binds) (l r : ℕ) : Unifies → Type 0 where
     says-no : ((σ : ℕ → Term) → Respects B σ → Equates σ l r → ⊥) → Robinson B l r no-way
     says-yes : (C : Binds) → ((σ : ℕ → Term) → Respects C σ → Respects B σ × Equates σ l r)

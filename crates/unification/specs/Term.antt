@@ -7,8 +7,8 @@ use Rattle.resolved_sort.specs.declared.ComplexSort.{ComplexSort}
 use Rattle.resolved_sort.specs.Tree.{Flat, Tree, flat, container, function, Trees, end, arg, arity}
 use Rattle.resolved_sort.specs.Storage.{functionKind, kindFlat, partFlat, kindOp}
 
--- A head stands over parts: a flat sort over none, a container over one, a function of n arguments over these and then its range. A number that
--- is no place has a head of its own.
+-- A head stands over parts: a flat sort over none, a container over one, a function of n arguments over these and then
+-- its range. A number that is no place has a head of its own.
 pub data Head : Type 0 where
   flatHead : Flat → Head
   containerHead : ComplexSort → Head

@@ -1,5 +1,5 @@
--- "Unify descends through containers, functions and bindings to any depth, with the occurs check before a binding." Each definition is one
--- step over the call below it, and goes to a depth; a law says which depth is enough.
+-- "Unify descends through containers, functions and bindings to any depth, with the occurs check before a binding."
+-- Each definition is one step over the call below it, and goes to a depth; a law says which depth is enough.
 use mathlib.Core.Bool.{Bool, true, false, _&&_}
 use mathlib.Core.List.{List, [], _∷_}
 use mathlib.Core.Option.{Option, none, some}

@@ -1,4 +1,5 @@
--- unify asked alone: "Asked alone, a no leaves the bindings as at entry." A yes leaves exactly the bindings of the answer.
+-- unify asked alone: "Asked alone, a no leaves the bindings as at entry." A yes leaves exactly the
+-- bindings of the answer.
 use mathlib.Core.List.{List, [], _∷_, _++_}
 use mathlib.Core.Option.{Option, none, some}
 use Prim.Native.Nat.{ℕ}

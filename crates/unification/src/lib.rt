@@ -36,7 +36,8 @@ pub enum Unified {
     No,
 }
 
-// How much of the lent lists is in use: sorts and their argument entries, nodes and their argument entries, and variables.
+// How much of the lent lists is in use: sorts and their argument entries, nodes and their argument
+// entries, and variables.
 pub struct Lengths {
     pub sorts: u16,
     pub entries: u16,
@@ -75,7 +76,8 @@ pub struct Three {
     pub count: u16,
 }
 
-// How listing the strictly related sorts ended, with the lengths then: so many places, no list, or no room with its code.
+// How listing the strictly related sorts ended, with the lengths then: so many places, no list, or
+// no room with its code.
 pub enum Listed {
     These(u16, Lengths),
     NoList(Lengths),
@@ -100,13 +102,16 @@ pub const MAX_VARS: usize = 512;
 // The first place that is a node: below it are the sorts.
 pub const FIRST_NODE: u16 = 1024;
 
-// Where the argument entries begin in the lent words, behind the rows, and how many words are lent at the full ceiling. They begin so many words behind
-// those of a sort list.
+// Where the argument entries begin in the lent words, behind the rows, and how many words are lent at the full ceiling.
+// They begin so many words behind those of a sort list.
 pub const NODE_ENTRIES_AT: usize = 8192;
 
 pub const NODE_WORDS: usize = 12288;
 
 pub const NODE_ENTRIES_BEHIND: u16 = 4096;
+
+// The kind of a variable's row.
+pub const VARIABLE_KIND: u16 = 14;
 
 // The binding of a free variable.
 pub const FREE_WORD: u16 = 65535;

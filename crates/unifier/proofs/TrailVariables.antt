@@ -16,6 +16,7 @@ use Rattle.unification.specs.Trail.{undo, frees, countOf, Tries}
 use Rattle.resolved_sort.proofs.Reached.{no-confusion}
 use Rattle.unification.proofs.Equations.{frees-few}
 use Rattle.unification.proofs.Passed.{length-binds}
+use Rattle.unification.proofs.Settles.{bound-inside}
 
 -- The trail ts from c on, up to d, and the bindings before it, B, and after it, C, of v variables.
 pub record OnTrail (ts : List ℕ) (c d v : ℕ) (B C : Binds) : Type 0 where
@@ -38,11 +39,6 @@ set-before B x u q e = (apart, sym (getD-set-other B x u none none apart) ∙ e)
   where
     apart : u ≡ x → ⊥
     apart i = let z : none ≡ some q = (sym (free-there B x) ∙ (ap (binding (set B x none)) (sym i) ∙ e)) in no-confusion cc
-
-bound-below : (B : Binds) (x q : ℕ) → binding B x ≡ some q → x < length B
-bound-below [] x q e = let z : none ≡ some q = e in no-confusion cc
-bound-below (o ∷ B) zero q e = omega arith
-bound-below (o ∷ B) (suc x) q e = omega (arith, bound-below B x q e)
 
 one-more : (B : Binds) (x : ℕ) → (frees (set B x none) ≤ suc (frees B)) × (frees (set B x none) ≡ suc (frees B) → (q : ℕ) × (binding B x ≡ some q))
 one-more [] x = (omega arith, λ e. absurd (omega (arith, e)))
@@ -171,7 +167,7 @@ module _ (ws ns : List ℕ) (k : Lengths) (U : Unifies) (bs ts : List ℕ) (c : 
   pub trail-variables : OnTrail ts₁ c (countOf r) (k .variables) B C
   trail-variables =
       record {
-        listed = λ j l m. let x = bound j l m in omega (arith, bound-below C (getD ts₁ j 0) (x .0) (x .1), length-binds bs₁ (k .variables));
+        listed = λ j l m. let x = bound j l m in omega (arith, bound-inside C (getD ts₁ j 0) (x .0) (x .1), length-binds bs₁ (k .variables));
         free-before = free;
         bound-after = bound;
         once = once;

@@ -4,6 +4,7 @@ use mathlib.Core.List.{List}
 use mathlib.Core.Option.{none}
 use Prim.Native.Nat.{ℕ, _+_, _<_, _≤_}
 use lib.ListN.{length}
+use Rattle.words.specs.Bits.{mostWord}
 use Rattle.unification.specs.declared.Lengths.{Lengths}
 use Rattle.unification.specs.Term.{variable, over, headOf, partsOf}
 use Rattle.unification.specs.Nodes.{binding, bindsOf}
@@ -13,7 +14,7 @@ use Rattle.unification.specs.Checked.{graphOf, Ready, Placed}
 pub record Trying (ws ns bs ts : List ℕ) (k : Lengths) (c : ℕ) : Type 0 where
   pub ready : Ready ws ns bs k
   pub room : c + frees (bindsOf bs (k .variables)) ≤ length ts
-  pub short : length ts ≤ 65535
+  pub short : length ts ≤ mostWord
 
 -- a free variable of the list
 pub record Free (bs : List ℕ) (k : Lengths) (v : ℕ) : Type 0 where

@@ -1,5 +1,5 @@
-// Unification over lent storage: from merc's unification.rs, unify and bind. A trail of the variables bound stands in for the
-// snapshots of ena, and undoing it for rollback_to.
+// Unification over lent storage: from merc's unification.rs, unify and bind. A trail of the variables bound stands in
+// for the snapshots of ena, and undoing it for rollback_to.
 use infer_nodes::occurs;
 use infer_nodes::part;
 use infer_nodes::part_count;
@@ -20,7 +20,8 @@ ghost use Prim.Native.Nat.{_+_, _-_, _<_, _≤_};
 ghost use lib.ListN.{length, set};
 ghost use lib.Dec.{eqb};
 ghost use Rattle.unification.specs.Nodes.{isSort, bindsOf};
-ghost use Rattle.unification.specs.Unify.{occurs as occursIn, bindUnless, unifyVariables, unifyApart, unify as unifyOf, deep};
+ghost use Rattle.unification.specs.Unify.{occurs as occursIn, bindUnless, unifyVariables};
+ghost use Rattle.unification.specs.Unify.{unifyApart, unify as unifyOf, deep};
 ghost use Rattle.unification.specs.Checked.{graphOf, Placed};
 ghost use Rattle.unification.specs.Trail.{undo as undoOf, Tries};
 ghost use Rattle.unifier.specs.Trying.{Trying, Free, Solid, Stands};
@@ -53,8 +54,8 @@ pub fn undo(binds: &mut [u16], trail: &[u16], base: u16, count: u16)
     }
 }
 
-// Binds `var` to `value` after the occurs check, which rejects the cyclic (infinite) sort that a binding like `?t := List(?t)`
-// would create.
+// Binds `var` to `value` after the occurs check, which rejects the cyclic (infinite) sort that a
+// binding like `?t := List(?t)` would create.
 fn bind(
     sorts: &[u16],
     nodes: &[u16],
@@ -130,8 +131,8 @@ fn both_sorts(l: InferSortId, r: InferSortId) -> bool
     false
 }
 
-// Makes `lhs` and `rhs` denote the same sort, binding variables as needed, and answers whether they are unifiable. On failure
-// bindings made before the mismatch was found remain; callers undo the trail.
+// Makes `lhs` and `rhs` denote the same sort, binding variables as needed, and answers whether they are unifiable. On
+// failure bindings made before the mismatch was found remain; callers undo the trail.
 pub fn unify(
     sorts: &[u16],
     nodes: &[u16],
@@ -181,8 +182,8 @@ pub fn unify(
     }
 }
 
-// Two ends that are no variables. Interning is canonical, so two interned sorts are equal exactly when their numbers are. Parts are
-// unified left to right: arguments, and the range of a function last.
+// Two ends that are no variables. Interning is canonical, so two interned sorts are equal exactly when their numbers
+// are. Parts are unified left to right: arguments, and the range of a function last.
 fn unify_parts(
     sorts: &[u16],
     nodes: &[u16],

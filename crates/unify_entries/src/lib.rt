@@ -1,5 +1,5 @@
-// The entry unify. It takes the lent sort and node storage, the bindings and their counts, tests them itself, and has no
-// `requires`: whatever a caller hands in, the answer and the bindings at exit are the defined ones.
+// The entry unify. It takes the lent sort and node storage, the bindings and their counts, tests them itself, and has
+// no `requires`: whatever a caller hands in, the answer and the bindings at exit are the defined ones.
 use node_checks::bindings_within_lent;
 use node_checks::is_place;
 use node_checks::nodes_within_lent;
@@ -164,9 +164,10 @@ fn unify_alone(
     }
 }
 
-// Makes two places denote the same sort, binding variables as needed, and answers whether they are unifiable. A no leaves the
-// bindings as they were.
-// Ruled out: a variable bound to what it occurs in; the right one of two free variables bound to the left; a binding left by a no.
+// Makes two places denote the same sort, binding variables as needed, and answers whether they are
+// unifiable. A no leaves the bindings as they were.
+// Ruled out: a variable bound to what it occurs in; the right one of two free variables bound to
+// the left; a binding left by a no.
 pub fn unify(
     sorts: &[u16],
     sort_count: usize,
@@ -222,7 +223,8 @@ fn pack_unified(answer: Unified) -> u64
     }
 }
 
-// The entry for callers in other languages: a slice is a pointer and a length, places are numbers, and the answer is packed.
+// The entry for callers in other languages: a slice is a pointer and a length, places are numbers,
+// and the answer is packed.
 #[no_mangle]
 pub extern "C" fn sort_unify(
     sorts: &[u16],

@@ -4,7 +4,7 @@ use mathlib.Core.List.{List, [], _∷_, _++_}
 use Prim.Native.Nat.{ℕ, zero, suc, _+_, _-_, _<_, _≤_}
 use native.Mathlib.Omega.{arith}
 use lib.ListN.{length, getD, set, take, drop, length-drop}
-use lib.Seq.{length-take-le, take-suc, drop-cons, take-take, drop-drop, take-add, take-set-le, drop-set-lt, drop-set-add, take-suc-set, getD-take, getD-drop}
+use lib.Seq.{length-take-le, drop-cons, take-take, drop-drop, take-add, take-set-le, drop-set-lt, drop-set-add, take-suc-set, getD-take, getD-drop}
 use Rattle.words.specs.Words.{part}
 
 -- Parts.
@@ -23,10 +23,6 @@ part-append a n m xs = take-add n m (drop a xs) ∙ ap (λ ys. take n (drop a xs
 -- one word more at its front, and at its end
 pub part-first : (a n : ℕ) (xs : List ℕ) → a < length xs → part a (suc n) xs ≡ getD xs a 0 ∷ part (suc a) n xs
 part-first a n xs l = ap (take (suc n)) (drop-cons xs a 0 l)
-
-pub part-last : (a n : ℕ) (xs : List ℕ) → a + n < length xs → part a (suc n) xs ≡ part a n xs ++ (getD xs (a + n) 0 ∷ [])
-part-last a n xs l =
-    take-suc (drop a xs) n 0 (omega (arith, l, length-drop a xs)) ∙ ap (λ y. part a n xs ++ (y ∷ [])) (getD-drop a xs n 0)
 
 -- after a store
 pub part-set-end : (a n : ℕ) (xs : List ℕ) (v : ℕ) → a + n < length xs → part a (suc n) (set xs (a + n) v) ≡ part a n xs ++ (v ∷ [])

@@ -1,5 +1,8 @@
--- The bits at which the fields of packed answers begin.
+-- The largest word, and the bits at which the fields of packed answers begin.
 use Prim.Native.Nat.{ℕ}
+
+abbrev pub mostWord : ℕ
+mostWord = 65535
 
 abbrev pub bit8 : ℕ
 bit8 = 256

@@ -1,4 +1,5 @@
-// Lent lists of 16-bit words: a word read, put, cleared, copied. A word past the end counts as 0, so no read needs a check before it.
+// Lent lists of 16-bit words: a word read, put, cleared, copied. A word past the end counts as 0,
+// so no read needs a check before it.
 ghost use mathlib.Core.Path.{_≡_};
 ghost use Prim.Native.Nat.{_+_, _≤_};
 ghost use lib.ListN.{length, getD, set};
@@ -44,6 +45,9 @@ pub fn copy(to: &mut [u16], at: usize, words: &[u16], from: usize, n: usize)
         j += 1;
     }
 }
+
+// The largest word.
+pub const MOST_WORD: u64 = 65535;
 
 // The bits at which the fields of packed answers begin.
 pub const BIT_8: u64 = 256;
