@@ -10,8 +10,8 @@ pub enum Found {
     Failed,
 }
 
-// The bytes of the buffer from `at` up to `end` are not taken yet, and the line has so many bytes. A line that is longer
-// than its memory has one more than the memory.
+// The bytes of the buffer from `at` up to `end` are not taken yet, and the line has so many bytes. A line that is
+// longer than its memory has one more than the memory.
 pub struct Input {
     pub at: usize,
     pub end: usize,
@@ -55,7 +55,7 @@ fn take(buffer: &[u8], line: &mut [u8], from: usize, end: usize, before: usize) 
         }
         let byte = buffer[at];
         at += 1;
-        if byte == 10 {
+        if byte == b'\n' {
             return Input {
                 at,
                 end,
@@ -109,8 +109,8 @@ fn read_some(buffer: &mut [u8], line: &mut [u8], length: usize) -> Input {
     take(buffer, line, 0, end, length)
 }
 
-// The next line of standard input. A proved loop has to end, and nothing says that an input does: the loop counts its turns
-// down, from a number that no run uses up.
+// The next line of standard input. A proved loop has to end, and nothing says that an input does: the loop counts its
+// turns down, from a number that no run uses up.
 pub fn next_line(buffer: &mut [u8], line: &mut [u8], input: Input) -> Input {
     let mut current = take(buffer, line, input.at, input.end, 0);
     let mut turns = u64::MAX;

@@ -7,6 +7,7 @@ use Rattle.inference.specs.declared.Solved.the-variants.{Refused, NoRoom, NoTyp
 use Rattle.inference.specs.SolveEntry.{Left, solveEntry, codeSolved}
 use Rattle.text_out.specs.Within.{Buffer, puts}
 use Rattle.list_verdict.specs.Text.{verdictLine, newLines, typingText}
+use Rattle.list_memory.specs.Memory.{sortList, exprList}
 use Rattle.list_call.specs.Lists.{countOf, callIn}
 
 -- Under the line of the code: of g sorts and x expressions given, a typing, and the sorts made.
@@ -15,7 +16,8 @@ linesUnder g x (Refused c) ss ts ms cs = []
 linesUnder g x (NoRoom c) ss ts ms cs = []
 linesUnder g x (NoTyping k) ss ts ms cs = newLines ss g (k .sorts)
 linesUnder g x (Ambiguous k) ss ts ms cs = newLines ss g (k .sorts)
-linesUnder g x (Typing o) ss ts ms cs = typingText ss (o .counts .sorts) ts ms cs x (o .components) (o .choices) ++ newLines ss g (o .counts .sorts)
+linesUnder g x (Typing o) ss ts ms cs =
+    typingText ss (o .counts .sorts) ts ms cs x (o .components) (o .choices) ++ newLines ss g (o .counts .sorts)
 
 unfoldable pub toldText : ℕ → ℕ → Solved → (sorts typing measure choices : List ℕ) → List ℕ
 toldText g x r ss ts ms cs = verdictLine (codeSolved r) ++ linesUnder g x r ss ts ms cs
@@ -44,11 +46,13 @@ abbrev pub told : Buffer → (sorts typing measure choices : List ℕ) → Told
 told b ss ts ms cs = record { text = b; sorts = ss; typing = ts; measure = ms; choices = cs }
 
 abbrev pub toldOf : List ℕ → List ℕ → Left → Told
-toldOf ws out L = told (puts out 0 (leftText (countOf ws 0) (countOf ws 5) L)) (L .sorts) (L .typing) (L .measure) (L .choices)
+toldOf ws out L =
+    told (puts out 0 (leftText (countOf ws sortList) (countOf ws exprList) L))
+    (L .sorts) (L .typing) (L .measure) (L .choices)
 
 -- The answer about a list, from byte 0 on; what finds no room is lost.
 unfoldable pub answerText : List ℕ → List ℕ
-answerText ws = leftText (countOf ws 0) (countOf ws 5) (solveEntry (callIn ws))
+answerText ws = leftText (countOf ws sortList) (countOf ws exprList) (solveEntry (callIn ws))
 
 unfoldable pub answerLeft : List ℕ → List ℕ → Buffer
 answerLeft ws out = puts out 0 (answerText ws)

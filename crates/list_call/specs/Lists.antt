@@ -1,23 +1,30 @@
--- A list as it stands in its words, and the call of the solver about it. The slices of a call stand at their ceilings in words 0 to 34,047; behind
--- them the rows given of each list, the default sort, and what `count` and `lend` lines tell.
+-- A list as it stands in its words (Rattle.list_memory.specs.Memory), and the call of the solver about it.
 use mathlib.Core.Bool.{cond}
 use mathlib.Core.List.{List}
 use Prim.Native.Nat.{ℕ, _+_, _*_}
 use lib.Dec.{eqb, ltb}
 use lib.ListN.{getD}
-use Rattle.list_memory.specs.Memory.{rowsOf, defaultAt, countAt, countToldAt, lentAt, lentToldAt}
+use Rattle.resolved_sort.specs.Storage.{fullLength}
+use Rattle.unification.specs.Nodes.{maxVars, fullNodes}
+use Rattle.inference.specs.Constraints.{maxExprs, maxSources, maxComponents}
+use Rattle.inference.specs.SolveChecks.{scratchWords, Call}
+use Rattle.list_memory.specs.Memory.{nameWords, constraintWords, overloadWords, typingWords, choiceWords}
+use Rattle.list_memory.specs.Memory.{listSortsAt, listNodesAt, listBindsAt, listExprsAt, listNamesAt, listConstraintsAt}
+use Rattle.list_memory.specs.Memory.{listOverloadsAt, listSourcesAt, listTypingAt, listMeasureAt, listChoicesAt}
+use Rattle.list_memory.specs.Memory.{listScratchAt, sortList, entryList, nodeList, nodeEntryList, varList, exprList}
+use Rattle.list_memory.specs.Memory.{nameList, constraintList, overloadList, sourceList, rowsOf, defaultAt, countsAt}
+use Rattle.list_memory.specs.Memory.{countsToldAt, lentAt, lentToldAt}
 use Rattle.words.specs.Words.{part}
-use Rattle.inference.specs.SolveChecks.{Call}
 use Rattle.solve_checks.specs.declared.Given.{Given}
 use Rattle.solve_checks.specs.Call.{callOf}
 
--- rows given of list k: 0 sorts, 1 entries, 2 nodes, 3 node entries, 4 variables, 5 expressions, 6 base names, 7 constraints, 8 overloads, 9 sources
+-- rows given of list k
 abbrev pub rowsGiven : List ℕ → ℕ → ℕ
 rowsGiven ws k = rowsOf ws k
 
 -- its count in the call: the one told, where one is told
 unfoldable pub countOf : List ℕ → ℕ → ℕ
-countOf ws k = cond (eqb (getD ws (countToldAt + k) 0) 1) (getD ws (countAt + k) 0) (rowsGiven ws k)
+countOf ws k = cond (eqb (getD ws (countsToldAt + k) 0) 1) (getD ws (countsAt + k) 0) (rowsGiven ws k)
 
 abbrev pub defaultIn : List ℕ → ℕ
 defaultIn ws = getD ws defaultAt 0
@@ -35,54 +42,54 @@ lent ws start j n top = part start (lengthOf ws j n top) ws
 -- The slices by number; those that a call may change, but the bindings, have their ceiling where nothing is told.
 module _ (ws : List ℕ) where
   abbrev pub sortsIn : List ℕ
-  sortsIn = lent ws 0 0 8192 8192
+  sortsIn = lent ws listSortsAt 0 fullLength fullLength
 
   abbrev pub nodesIn : List ℕ
-  nodesIn = lent ws 8192 1 12288 12288
+  nodesIn = lent ws listNodesAt 1 fullNodes fullNodes
 
   abbrev pub bindsIn : List ℕ
-  bindsIn = lent ws 20480 2 (1 * rowsGiven ws 4) 512
+  bindsIn = lent ws listBindsAt 2 (1 * rowsGiven ws varList) maxVars
 
   abbrev pub exprsIn : List ℕ
-  exprsIn = lent ws 20992 3 (1 * rowsGiven ws 5) 512
+  exprsIn = lent ws listExprsAt 3 (1 * rowsGiven ws exprList) maxExprs
 
   abbrev pub namesIn : List ℕ
-  namesIn = lent ws 21504 4 (3 * rowsGiven ws 6) 1536
+  namesIn = lent ws listNamesAt 4 (3 * rowsGiven ws nameList) nameWords
 
   abbrev pub constraintsIn : List ℕ
-  constraintsIn = lent ws 23040 5 (5 * rowsGiven ws 7) 1280
+  constraintsIn = lent ws listConstraintsAt 5 (5 * rowsGiven ws constraintList) constraintWords
 
   abbrev pub overloadsIn : List ℕ
-  overloadsIn = lent ws 24320 6 (3 * rowsGiven ws 8) 3072
+  overloadsIn = lent ws listOverloadsAt 6 (3 * rowsGiven ws overloadList) overloadWords
 
   abbrev pub sourcesIn : List ℕ
-  sourcesIn = lent ws 27392 7 (1 * rowsGiven ws 9) 256
+  sourcesIn = lent ws listSourcesAt 7 (1 * rowsGiven ws sourceList) maxSources
 
   abbrev pub typingIn : List ℕ
-  typingIn = lent ws 27648 9 1536 1536
+  typingIn = lent ws listTypingAt 9 typingWords typingWords
 
   abbrev pub measureIn : List ℕ
-  measureIn = lent ws 29184 10 256 256
+  measureIn = lent ws listMeasureAt 10 maxComponents maxComponents
 
   abbrev pub choicesIn : List ℕ
-  choicesIn = lent ws 29440 11 512 512
+  choicesIn = lent ws listChoicesAt 11 choiceWords choiceWords
 
   abbrev pub scratchIn : List ℕ
-  scratchIn = lent ws 29952 8 4096 4096
+  scratchIn = lent ws listScratchAt 8 scratchWords scratchWords
 
   abbrev pub givenIn : Given
   givenIn =
       record {
-        sorts = countOf ws 0;
-        entries = countOf ws 1;
-        nodes = countOf ws 2;
-        arguments = countOf ws 3;
-        variables = countOf ws 4;
-        exprs = countOf ws 5;
-        names = countOf ws 6;
-        constraints = countOf ws 7;
-        overloads = countOf ws 8;
-        sources = countOf ws 9;
+        sorts = countOf ws sortList;
+        entries = countOf ws entryList;
+        nodes = countOf ws nodeList;
+        arguments = countOf ws nodeEntryList;
+        variables = countOf ws varList;
+        exprs = countOf ws exprList;
+        names = countOf ws nameList;
+        constraints = countOf ws constraintList;
+        overloads = countOf ws overloadList;
+        sources = countOf ws sourceList;
         default = defaultIn ws;
       }
 

@@ -1,5 +1,22 @@
-// A list that stands in one array of words, and the solver asked about it: counts and lent lengths as the list tells them.
+// A list that stands in one array of words, and the solver asked about it: counts and lent lengths as the list tells
+// them.
+use inference::MAX_EXPRS;
+use inference::MAX_SOURCES;
 use inference::Solved;
+use list_memory::CONSTRAINT_WORDS;
+use list_memory::COUNTS_AT;
+use list_memory::COUNTS_TOLD_AT;
+use list_memory::DEFAULT_AT;
+use list_memory::LENT_AT;
+use list_memory::LENT_TOLD_AT;
+use list_memory::LIST_CONSTRAINTS_AT;
+use list_memory::LIST_EXPRS_AT;
+use list_memory::LIST_NAMES_AT;
+use list_memory::LIST_OVERLOADS_AT;
+use list_memory::LIST_SOURCES_AT;
+use list_memory::NAME_WORDS;
+use list_memory::OVERLOAD_WORDS;
+use list_memory::ROWS_AT;
 use solve_checks::Given;
 use solve_entries::solve;
 use words::word;
@@ -7,15 +24,16 @@ ghost use mathlib.Core.Path.{_≡_};
 ghost use Prim.Native.Nat.{_+_, _*_, _≤_};
 ghost use lib.ListN.{length};
 ghost use Rattle.inference.specs.SolveEntry.{solveEntry};
+ghost use Rattle.list_memory.specs.Memory.{rowsAt, mostRows};
 ghost use Rattle.solve_outputs.specs.Finish.{leftOf};
 ghost use Rattle.list_call.specs.Lists.{rowsGiven, countOf, toldOr, lengthOf, lent, givenIn, callBy};
 
 // The rows given of a list.
 pub fn rows_given(list: &[u16], k: usize) -> usize
     requires { ⌜ k ≤ 9 ⌝ }
-    ensures { λ r. ⌜ (r ≡ rowsGiven (now (list .entry)) k) × (r ≤ 65535) ⌝ }
+    ensures { λ r. ⌜ (r ≡ rowsGiven (now (list .entry)) k) × (r ≤ mostRows) ⌝ }
 {
-    word(list, 34048 + k) as usize
+    word(list, ROWS_AT + k) as usize
 }
 
 // The count of a list in the call.
@@ -23,10 +41,10 @@ pub fn count_of(list: &[u16], k: usize) -> u16
     requires { ⌜ k ≤ 9 ⌝ }
     ensures { λ r. ⌜ r ≡ countOf (now (list .entry)) k ⌝ }
 {
-    if word(list, 34069 + k) == 1 {
-        return word(list, 34059 + k);
+    if word(list, COUNTS_TOLD_AT + k) == 1 {
+        return word(list, COUNTS_AT + k);
     }
-    word(list, 34048 + k)
+    word(list, ROWS_AT + k)
 }
 
 // The counts of the call, and the default sort.
@@ -44,7 +62,7 @@ pub fn given_of(list: &[u16]) -> Given
         constraints: count_of(list, 7) as usize,
         overloads: count_of(list, 8) as usize,
         sources: count_of(list, 9) as usize,
-        default: word(list, 34058),
+        default: word(list, DEFAULT_AT),
     }
 }
 
@@ -53,8 +71,8 @@ fn told_or(list: &[u16], j: usize, n: usize) -> usize
     requires { ⌜ j ≤ 11 ⌝ }
     ensures { λ r. ⌜ r ≡ toldOr (now (list .entry)) j n ⌝ }
 {
-    if word(list, 34091 + j) == 1 {
-        return word(list, 34079 + j) as usize;
+    if word(list, LENT_TOLD_AT + j) == 1 {
+        return word(list, LENT_AT + j) as usize;
     }
     n
 }
@@ -71,7 +89,8 @@ pub fn length_of(list: &[u16], j: usize, n: usize, top: usize) -> usize
     words
 }
 
-// A slice that a call does not change, as a part of the list: where nothing is told, as many words as the rows given of list k have.
+// A slice that a call does not change, as a part of the list: where nothing is told, as many words as the rows given of
+// list k have.
 fn lend(list: &[u16], start: usize, j: usize, k: usize, width: usize, top: usize) -> &[u16]
     requires { ⌜ (j ≤ 11) × (k ≤ 9) × (width ≤ 5) × (start + top ≤ length (now list)) ⌝ }
     ensures { λ r. ⌜ now r ≡ lent (now (list .entry)) start j (width * rowsGiven (now (list .entry)) k) top ⌝ }
@@ -93,14 +112,20 @@ pub fn solve_list(
     measure: &mut [u16],
     choices: &mut [u16],
 ) -> Solved
-    requires { ⌜ 34048 ≤ length (now list) ⌝ }
-    ensures { λ r. ⌜ leftOf r (now (sorts .exit)) (now (nodes .exit)) (now (binds .exit)) (now (scratch .exit)) (now (typing .exit)) (now (measure .exit)) (now (choices .exit)) ≡ solveEntry (callBy (now (list .entry)) given (now (sorts .entry)) (now (nodes .entry)) (now (binds .entry)) (now (scratch .entry)) (now (typing .entry)) (now (measure .entry)) (now (choices .entry))) ⌝ }
+    requires { ⌜ rowsAt ≤ length (now list) ⌝ }
+    ensures { λ r. ⌜
+        leftOf r (now (sorts .exit)) (now (nodes .exit)) (now (binds .exit)) (now (scratch .exit))
+        (now (typing .exit)) (now (measure .exit)) (now (choices .exit))
+        ≡ solveEntry
+        (callBy (now (list .entry)) given (now (sorts .entry)) (now (nodes .entry)) (now (binds .entry))
+        (now (scratch .entry)) (now (typing .entry)) (now (measure .entry)) (now (choices .entry)))
+        ⌝ }
 {
-    let exprs = lend(list, 20992, 3, 5, 1, 512);
-    let names = lend(list, 21504, 4, 6, 3, 1536);
-    let constraints = lend(list, 23040, 5, 7, 5, 1280);
-    let overloads = lend(list, 24320, 6, 8, 3, 3072);
-    let sources = lend(list, 27392, 7, 9, 1, 256);
+    let exprs = lend(list, LIST_EXPRS_AT, 3, 5, 1, MAX_EXPRS);
+    let names = lend(list, LIST_NAMES_AT, 4, 6, 3, NAME_WORDS);
+    let constraints = lend(list, LIST_CONSTRAINTS_AT, 5, 7, 5, CONSTRAINT_WORDS);
+    let overloads = lend(list, LIST_OVERLOADS_AT, 6, 8, 3, OVERLOAD_WORDS);
+    let sources = lend(list, LIST_SOURCES_AT, 7, 9, 1, MAX_SOURCES);
     solve(
         sorts,
         nodes,

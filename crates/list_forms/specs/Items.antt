@@ -1,32 +1,34 @@
--- The words of a line held against a form: "In the tables below S is a sort (sN or one of the six words), P a place: a sort below s1024,
--- or a node nN. N is a number." A place can name any word, so nN goes up to n64511.
+-- The words of a line held against a form: "In the tables below S is a sort (sN or one of the six words), P a place: a
+-- sort below s1024, or a node nN. N is a number." A place can name any word, so nN goes up to n64511.
 use mathlib.Core.Bool.{Bool, true, false, cond}
 use mathlib.Core.List.{List, [], _∷_}
 use Prim.Native.Nat.{ℕ, zero, suc, _+_, _-_, _%_}
 use lib.Dec.{ltb, leb, eqb}
 use lib.ListN.{getD}
 use Rattle.list_tokens.specs.declared.Tokens.{Tokens}
-use Rattle.list_tokens.specs.Words.{kFn, kArrow}
+use Rattle.resolved_sort.specs.Storage.{maxSorts}
+use Rattle.list_tokens.specs.Words.{kListOf, kFn, kArrow, kPositive, kSorts, kSolve}
+use Rattle.list_tokens.specs.Tokens.{number, sortName, nodeName, varName, exprName, fixedSort}
 
 -- An item of a form: below 65,536 that very word by its number, 0 the end of the line, and above one of these classes.
 abbrev pub N : ℕ
-N = 65536
+N = number
 
 abbrev pub S : ℕ
-S = 131072
+S = sortName
 
 abbrev pub nN : ℕ
-nN = 196608
+nN = nodeName
 
 abbrev pub vN : ℕ
-vN = 262144
+vN = varName
 
 abbrev pub eN : ℕ
-eN = 327680
+eN = exprName
 
 -- one of the six words
 abbrev pub fixed : ℕ
-fixed = 393216
+fixed = fixedSort
 
 abbrev pub P : ℕ
 P = 458752
@@ -47,34 +49,44 @@ slice = 655360
 abbrev pub what : ℕ
 what = 720896
 
+-- how many words a class has; the place of node nN is nN less nodePlaces
+abbrev pub classSize : ℕ
+classSize = 65536
+
+abbrev pub nodePlaces : ℕ
+nodePlaces = nodeName - maxSorts
+
 unfoldable pub inRange : ℕ → ℕ → ℕ → Bool
 inRange lo hi t = cond (ltb t lo) false (ltb t hi)
 
 unfoldable pub isSort : ℕ → Bool
-isSort t = cond (inRange 131072 196608 t) true (inRange 393216 458752 t)
+isSort t = cond (inRange S (S + classSize) t) true (inRange fixed (fixed + classSize) t)
 
 unfoldable pub isPlace : ℕ → Bool
-isPlace t = cond (inRange 131072 132096 t) true (cond (inRange 196608 261120 t) true (inRange 393216 458752 t))
+isPlace t =
+    cond (inRange S (S + maxSorts) t) true
+    (cond (inRange nN (nodePlaces + classSize) t) true (inRange fixed (fixed + classSize) t))
 
 -- whether a word is of an item
 unfoldable pub isOf : ℕ → ℕ → Bool
 isOf item t =
-    cond (ltb item 65536) (eqb t item)
+    cond (ltb item classSize) (eqb t item)
     (cond (eqb item S) (isSort t)
     (cond (eqb item P) (isPlace t)
-    (cond (eqb item container) (inRange 26 31 t)
-    (cond (eqb item literal) (inRange 39 41 t)
-    (cond (eqb item slice) (inRange 41 53 t)
-    (cond (eqb item what) (ltb t 65536)
-    (cond (ltb t item) false (ltb (t - item) 65536))))))))
+    (cond (eqb item container) (inRange kListOf kFn t)
+    (cond (eqb item literal) (inRange kPositive kSorts t)
+    (cond (eqb item slice) (inRange kSorts kSolve t)
+    (cond (eqb item what) (ltb t classSize)
+    (cond (ltb t item) false (ltb (t - item) classSize))))))))
 
 -- word i of a line
 abbrev pub tokenAt : Tokens → ℕ → ℕ
 tokenAt t i = getD (t .values) i 0
 
--- what a word stands for in memory: a node's place is 1,024 above its number; of all others the number
+-- what a word stands for in memory: a node's place is maxSorts above its number; of all others the number
 unfoldable pub wordOf : ℕ → ℕ
-wordOf t = cond (ltb t 196608) (t % 65536) (cond (ltb t 261120) (t - 195584) (t % 65536))
+wordOf t =
+    cond (ltb t nN) (t % classSize) (cond (ltb t (nodePlaces + classSize)) (t - nodePlaces) (t % classSize))
 
 unfoldable pub wordAt : Tokens → ℕ → ℕ
 wordAt t i = wordOf (tokenAt t i)

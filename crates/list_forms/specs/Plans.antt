@@ -1,11 +1,12 @@
 -- What a line gives: rows, free variables, words of the line as rows, words set; or what was expected instead.
 use mathlib.Core.Bool.{Bool, true, false, cond}
 use mathlib.Core.List.{List, [], _∷_}
-use Prim.Native.Nat.{ℕ, _+_, _*_}
+use Prim.Native.Nat.{ℕ, _+_, _-_, _*_}
 use lib.Dec.{ltb, eqb}
 use lib.ListN.{getD}
+use Rattle.inference.specs.Constraints.{maxConstraints}
 use Rattle.list_memory.specs.declared.Form.{Form}
-use Rattle.list_memory.specs.Memory.{wordsHeld, rowsOf, lastAt}
+use Rattle.list_memory.specs.Memory.{listConstraintsAt, constraintList, mostRows, listWords, rowsOf, lastAt}
 use Rattle.list_forms.specs.declared.Plan.{Plan}
 
 abbrev pub nothingOf : Bool → Form → Plan
@@ -21,9 +22,9 @@ nothingOf good f =
       times = 0;
       rising = false;
       row = 0 ∷ 0 ∷ 0 ∷ 0 ∷ 0 ∷ [];
-      at = wordsHeld;
+      at = listWords;
       value = 0;
-      at2 = wordsHeld;
+      at2 = listWords;
       value2 = 0;
     }
 
@@ -49,9 +50,9 @@ rowsPlan k n rising row =
       times = n;
       rising = rising;
       row = row;
-      at = wordsHeld;
+      at = listWords;
       value = 0;
-      at2 = wordsHeld;
+      at2 = listWords;
       value2 = 0;
     }
 
@@ -120,20 +121,22 @@ withPuts p at v at2 v2 =
     }
 
 abbrev pub withPut : Plan → ℕ → ℕ → Plan
-withPut p at v = withPuts p at v wordsHeld 0
+withPut p at v = withPuts p at v listWords 0
 
--- a sum that stops at 65,535
+-- a sum that stops where counts of rows do
 unfoldable pub addUp : ℕ → ℕ → ℕ
-addUp a n = cond (ltb 65535 (a + n)) 65535 (a + n)
+addUp a n = cond (ltb mostRows (a + n)) mostRows (a + n)
 
 -- word i of the last constraint row, where it is kept
 abbrev pub lastRowAt : List ℕ → ℕ → ℕ
-lastRowAt ws i = (23035 + 5 * rowsOf ws 7) + i
+lastRowAt ws i = ((listConstraintsAt - 5) + 5 * rowsOf ws constraintList) + i
 
--- "If the last constraint line is a `disjunction` (1) or a `join` (2)", n more belong to it: word i of its row grows by n
+-- "If the last constraint line is a `disjunction` (1) or a `join` (2)", n more belong to it: word i of its row grows by
+-- n
 unfoldable pub grown : List ℕ → ℕ → ℕ → ℕ → Plan → Plan
 grown ws last i n p =
     cond (eqb (getD ws lastAt 0) last)
-    (cond (eqb (rowsOf ws 7) 0) p
-    (cond (ltb 256 (rowsOf ws 7)) p (withPut p (lastRowAt ws i) (addUp (getD ws (lastRowAt ws i) 0) n))))
+    (cond (eqb (rowsOf ws constraintList) 0) p
+    (cond (ltb maxConstraints (rowsOf ws constraintList)) p
+    (withPut p (lastRowAt ws i) (addUp (getD ws (lastRowAt ws i) 0) n))))
     p

@@ -1,19 +1,104 @@
 // What a line of a list gives, by its words and the list so far: rows for lists, words to be set, or what was expected
 // instead. Nothing is stored here.
+use inference::MAX_CONSTRAINTS;
+use list_memory::A_DISJUNCTION;
+use list_memory::A_JOIN;
+use list_memory::CONSTRAINT_LIST;
+use list_memory::COUNTS_AT;
+use list_memory::COUNTS_TOLD_AT;
+use list_memory::DEFAULT_AT;
+use list_memory::ENTRY_LIST;
+use list_memory::EXPR_LIST;
 use list_memory::Form;
+use list_memory::LAST_AT;
+use list_memory::LENT_AT;
+use list_memory::LENT_TOLD_AT;
+use list_memory::LIST_BINDS_AT;
+use list_memory::LIST_CONSTRAINTS_AT;
+use list_memory::LIST_WORDS;
+use list_memory::MAX_NAMES;
+use list_memory::MOST_ROWS;
+use list_memory::NAME_LIST;
+use list_memory::NODE_ENTRY_LIST;
+use list_memory::NODE_LIST;
+use list_memory::OVERLOAD_LIST;
+use list_memory::ROWS_AT;
+use list_memory::SORT_LIST;
+use list_memory::SOURCE_LIST;
+use list_memory::VAR_LIST;
+use list_tokens::EXPR_NAME;
+use list_tokens::FIXED_SORT;
+use list_tokens::K_ARROW;
+use list_tokens::K_ASK;
+use list_tokens::K_BIND;
+use list_tokens::K_BUILTIN;
+use list_tokens::K_CEILINGS;
+use list_tokens::K_COMPREHENSION;
+use list_tokens::K_CONSTRAINT;
+use list_tokens::K_COUNT;
+use list_tokens::K_DEF;
+use list_tokens::K_DEFAULT;
+use list_tokens::K_DISJUNCTION;
+use list_tokens::K_ENTRIES;
+use list_tokens::K_EXPR;
+use list_tokens::K_FN;
+use list_tokens::K_IS_MATERIALIZABLE;
+use list_tokens::K_JOIN;
+use list_tokens::K_LEND;
+use list_tokens::K_LIST_OF;
+use list_tokens::K_LIT;
+use list_tokens::K_MEET;
+use list_tokens::K_NAME;
+use list_tokens::K_NODE;
+use list_tokens::K_NODE_ENTRIES;
+use list_tokens::K_NODES;
+use list_tokens::K_OP;
+use list_tokens::K_OVERLOAD;
+use list_tokens::K_PAD;
+use list_tokens::K_PARTIAL_CMP;
+use list_tokens::K_POSITIVE;
+use list_tokens::K_RAW;
+use list_tokens::K_SOLVE;
+use list_tokens::K_SORT;
+use list_tokens::K_SORTS;
+use list_tokens::K_SOURCES;
+use list_tokens::K_SUB;
+use list_tokens::K_TYPE_VAR;
+use list_tokens::K_UNIFY;
+use list_tokens::K_VAR;
+use list_tokens::K_VARIABLE;
+use list_tokens::K_VARS;
+use list_tokens::K_WIDENING_DISTANCE;
+use list_tokens::NODE_NAME;
+use list_tokens::NUMBER;
+use list_tokens::SORT_NAME;
 use list_tokens::Tokens;
+use list_tokens::VAR_NAME;
+use resolved_sort::FUNCTION_KIND;
+use resolved_sort::MAX_SORTS;
+use unification::FIRST_NODE;
+use unification::FREE_WORD;
+use unification::MAX_VARS;
 use words::word;
 ghost use mathlib.Core.Path.{_≡_};
 ghost use mathlib.Core.Bool.{true, false};
 ghost use Prim.Native.Nat.{_≤_, _+_, _-_};
 ghost use lib.ListN.{getD};
-ghost use Rattle.list_forms.specs.Items.{inRange as within, isSort, isPlace, isOf, tokenAt, wordOf, wordAt, fitsFrom, allFrom, listFits, functionFits};
-ghost use Rattle.list_forms.specs.Plans.{expected as expectedOf, nothing as nothingGiven, rowsPlan, rowPlan, withFree, withRun, withPuts, withPut, addUp, grown as grownOf};
-ghost use Rattle.list_forms.specs.Lines.{isNext, functionPlan, sortRow, sortPlan, varPlan, varsPlan, boundPlan, bindPlan, nodeRow, nodePlan, exprPlan, nameRow, namePlan, defaultPlan, constraintRow, subPlan, litPlan, comprehensionPlan, disjunctionPlan, overloadRow, overloadPlan, joinPlan, sourcesPlan, entriesPlan, constraintPlan, padPlan, countedBy, countPlan, lendPlan, unusualPlan, constraintsPlan, planOf, asksOther};
+ghost use Rattle.list_tokens.specs.Tokens.{mostClass};
+ghost use Rattle.list_forms.specs.Items.{inRange as within, isSort, isPlace, isOf, tokenAt, wordOf, wordAt};
+ghost use Rattle.list_forms.specs.Items.{fitsFrom, allFrom, listFits, functionFits};
+ghost use Rattle.list_forms.specs.Plans.{expected as expectedOf, nothing as nothingGiven, rowsPlan, rowPlan};
+ghost use Rattle.list_forms.specs.Plans.{withFree, withRun, withPuts, withPut, addUp, grown as grownOf};
+ghost use Rattle.list_forms.specs.Lines.{isNext, functionPlan, sortRow, sortPlan, varPlan, varsPlan};
+ghost use Rattle.list_forms.specs.Lines.{boundPlan, bindPlan, nodeRow, nodePlan, exprPlan, nameRow, namePlan};
+ghost use Rattle.list_forms.specs.Lines.{defaultPlan, constraintRow, subPlan, litPlan, comprehensionPlan};
+ghost use Rattle.list_forms.specs.Lines.{disjunctionPlan, overloadRow, overloadPlan, joinPlan, sourcesPlan};
+ghost use Rattle.list_forms.specs.Lines.{entriesPlan, constraintPlan, padPlan, countedBy, countPlan};
+ghost use Rattle.list_forms.specs.Lines.{lendPlan, unusualPlan, constraintsPlan, planOf, asksOther};
 
-// What a line gives. First `free` free variables; then the words from `from` to before `to` of the line as rows of the list
-// `run`; then `times` rows of the list `list`, whose second word rises by one from row to row where `rising`; then two words
-// set, where they are words of the list. Where it is not good, `form` tells what was expected.
+// What a line gives. First `free` free variables; then the words from `from` to before `to` of the line as rows of the
+// list `run`; then `times` rows of the list `list`, whose second word rises by one from row to row where `rising`; then
+// two words set, where they are words of the list. Where it is not good, `form` tells what was expected.
 pub struct Plan {
     pub good: bool,
     pub form: Form,
@@ -32,17 +117,17 @@ pub struct Plan {
 }
 
 // Items of a form: a class of words, or a word by its number in the list of words. 0 is the end of the line.
-const N: u32 = 65536;
+const N: u32 = NUMBER;
 
-const S: u32 = 131072;
+const S: u32 = SORT_NAME;
 
-const NODE: u32 = 196608;
+const NODE: u32 = NODE_NAME;
 
-const VARIABLE: u32 = 262144;
+const VARIABLE: u32 = VAR_NAME;
 
-const EXPRESSION: u32 = 327680;
+const EXPRESSION: u32 = EXPR_NAME;
 
-const FIXED: u32 = 393216;
+const FIXED: u32 = FIXED_SORT;
 
 const P: u32 = 458752;
 
@@ -53,6 +138,20 @@ const LITERAL: u32 = 589824;
 const SLICE: u32 = 655360;
 
 const WHAT: u32 = 720896;
+
+// How many words a class has, and the end of a class: the words of the fixed six, the sorts that are places, the nodes
+// whose places are words. The place of a node is NODE_PLACES below its word.
+const CLASS: u32 = 65536;
+
+const SORTS_END: u32 = SORT_NAME + CLASS;
+
+const FIXED_END: u32 = FIXED_SORT + CLASS;
+
+const SORT_PLACES_END: u32 = SORT_NAME + (MAX_SORTS as u32);
+
+const NODE_PLACES: u32 = NODE_NAME - (FIRST_NODE as u32);
+
+const NODE_PLACES_END: u32 = NODE_PLACES + CLASS;
 
 fn in_range(lo: u32, hi: u32, t: u32) -> bool
     ensures { λ r. ⌜ r ≡ within lo hi t ⌝ }
@@ -66,29 +165,29 @@ fn in_range(lo: u32, hi: u32, t: u32) -> bool
 fn is_sort(t: u32) -> bool
     ensures { λ r. ⌜ r ≡ isSort t ⌝ }
 {
-    if in_range(131072, 196608, t) {
+    if in_range(S, SORTS_END, t) {
         return true;
     }
-    in_range(393216, 458752, t)
+    in_range(FIXED, FIXED_END, t)
 }
 
 fn is_place(t: u32) -> bool
     ensures { λ r. ⌜ r ≡ isPlace t ⌝ }
 {
-    if in_range(131072, 132096, t) {
+    if in_range(S, SORT_PLACES_END, t) {
         return true;
     }
-    if in_range(196608, 261120, t) {
+    if in_range(NODE, NODE_PLACES_END, t) {
         return true;
     }
-    in_range(393216, 458752, t)
+    in_range(FIXED, FIXED_END, t)
 }
 
 // Whether a word is of an item.
 fn is_of(item: u32, t: u32) -> bool
     ensures { λ r. ⌜ r ≡ isOf item t ⌝ }
 {
-    if item < 65536 {
+    if item < CLASS {
         return t == item;
     }
     if item == S {
@@ -98,21 +197,21 @@ fn is_of(item: u32, t: u32) -> bool
         return is_place(t);
     }
     if item == CONTAINER {
-        return in_range(26, 31, t);
+        return in_range(K_LIST_OF, K_FN, t);
     }
     if item == LITERAL {
-        return in_range(39, 41, t);
+        return in_range(K_POSITIVE, K_SORTS, t);
     }
     if item == SLICE {
-        return in_range(41, 53, t);
+        return in_range(K_SORTS, K_SOLVE, t);
     }
     if item == WHAT {
-        return t < 65536;
+        return t < CLASS;
     }
     if t < item {
         return false;
     }
-    t - item < 65536
+    t - item < CLASS
 }
 
 // The word at i of a line's words; past the end it is 0.
@@ -134,13 +233,13 @@ pub fn token_at(t: Tokens, i: usize) -> u32
 fn word_of(t: u32) -> u16
     ensures { λ r. ⌜ r ≡ wordOf t ⌝ }
 {
-    if t < 196608 {
-        return (t % 65536) as u16;
+    if t < NODE {
+        return (t % CLASS) as u16;
     }
-    if t < 261120 {
-        return (t - 195584) as u16;
+    if t < NODE_PLACES_END {
+        return (t - NODE_PLACES) as u16;
     }
-    (t % 65536) as u16
+    (t % CLASS) as u16
 }
 
 pub fn word_at(t: Tokens, i: usize) -> u16
@@ -210,10 +309,10 @@ fn function_fits(t: Tokens, item: u32) -> bool
         return false;
     }
     let count = t.count as usize;
-    if token_at(t, 2) != 31 {
+    if token_at(t, 2) != K_FN {
         return false;
     }
-    if token_at(t, count - 2) != 35 {
+    if token_at(t, count - 2) != K_ARROW {
         return false;
     }
     if !is_of(item, token_at(t, count - 1)) {
@@ -237,9 +336,9 @@ fn expected(form: Form) -> Plan
         times: 0,
         rising: false,
         row: [0, 0, 0, 0, 0],
-        at: 34112,
+        at: LIST_WORDS,
         value: 0,
-        at2: 34112,
+        at2: LIST_WORDS,
         value2: 0,
     }
 }
@@ -259,9 +358,9 @@ fn nothing() -> Plan
         times: 0,
         rising: false,
         row: [0, 0, 0, 0, 0],
-        at: 34112,
+        at: LIST_WORDS,
         value: 0,
-        at2: 34112,
+        at2: LIST_WORDS,
         value2: 0,
     }
 }
@@ -281,9 +380,9 @@ fn rows_plan(list: u16, times: u16, rising: bool, row: [u16; 5]) -> Plan
         times,
         rising,
         row,
-        at: 34112,
+        at: LIST_WORDS,
         value: 0,
-        at2: 34112,
+        at2: LIST_WORDS,
         value2: 0,
     }
 }
@@ -326,90 +425,104 @@ fn with_puts(plan: Plan, at: usize, value: u16, at2: usize, value2: u16) -> Plan
 fn with_put(plan: Plan, at: usize, value: u16) -> Plan
     ensures { λ r. ⌜ r ≡ withPut plan at value ⌝ }
 {
-    with_puts(plan, at, value, 34112, 0)
+    with_puts(plan, at, value, LIST_WORDS, 0)
 }
 
-// A sum that stops at 65,535.
+// A sum that stops where counts of rows do.
 fn add_up(a: u16, n: u16) -> u16
     ensures { λ r. ⌜ r ≡ addUp a n ⌝ }
 {
     let sum = (a as u32) + (n as u32);
-    if 65535 < sum {
-        return 65535;
+    if MOST_SUM < sum {
+        return MOST_ROWS;
     }
     sum as u16
 }
 
 // Word i of the last constraint's row grows by n, where its line is of a kind and the row is kept.
-fn grown(list: &[u16; 34112], last: u16, i: usize, n: u16, plan: Plan) -> Plan
+fn grown(list: &[u16; LIST_WORDS], last: u16, i: usize, n: u16, plan: Plan) -> Plan
     requires { ⌜ i ≤ 4 ⌝ }
     ensures { λ r. ⌜ r ≡ grownOf (now (list .entry)) last i n plan ⌝ }
 {
-    if word(list, 34104) == last {
-        let rows = word(list, 34055) as usize;
+    if word(list, LAST_AT) == last {
+        let rows = word(list, CONSTRAINT_ROWS_AT) as usize;
         if rows == 0 {
             return plan;
         }
-        if 256 < rows {
+        if MAX_CONSTRAINTS < rows {
             return plan;
         }
-        let at = 23035 + 5 * rows + i;
+        let at = BEFORE_CONSTRAINTS + 5 * rows + i;
         return with_put(plan, at, add_up(word(list, at), n));
     }
     plan
 }
 
 // Word i of the line is the next name of list k.
-fn is_next(list: &[u16; 34112], t: Tokens, i: usize, class: u32, k: u16) -> bool
-    requires { ⌜ class ≤ 1048576 ⌝ }
+fn is_next(list: &[u16; LIST_WORDS], t: Tokens, i: usize, class: u32, k: u16) -> bool
+    requires { ⌜ class ≤ mostClass ⌝ }
     ensures { λ r. ⌜ r ≡ isNext (now (list .entry)) t i class k ⌝ }
 {
-    token_at(t, i) == class + (word(list, 34048 + (k as usize)) as u32)
+    token_at(t, i) == class + (word(list, ROWS_AT + (k as usize)) as u32)
 }
 
 // A function row of list k, with its arguments in list e.
-fn function_plan(list: &[u16; 34112], t: Tokens, k: u16, e: u16) -> Plan
+fn function_plan(list: &[u16; LIST_WORDS], t: Tokens, k: u16, e: u16) -> Plan
     ensures { λ r. ⌜ r ≡ functionPlan (now (list .entry)) t k e ⌝ }
 {
     let arguments = minus(t.count, 5);
     let end = minus(t.count, 2);
     let last = minus(t.count, 1);
     let range = word_at(t, last as usize);
-    let start = word(list, 34048 + (e as usize));
-    with_run(row_plan(k, [11, range, start, arguments, 0]), e, 3, end)
+    let start = word(list, ROWS_AT + (e as usize));
+    with_run(
+        row_plan(k, [FUNCTION_KIND, range, start, arguments, 0]),
+        e,
+        3,
+        end,
+    )
 }
 
 // `sort sK ..`
-fn sort_plan(list: &[u16; 34112], t: Tokens) -> Plan
+fn sort_plan(list: &[u16; LIST_WORDS], t: Tokens) -> Plan
     ensures { λ r. ⌜ r ≡ sortPlan (now (list .entry)) t ⌝ }
 {
-    if is_next(list, t, 1, S, 0) {
+    if is_next(list, t, 1, S, SORT_LIST) {
         return sort_row(list, t);
     }
     expected(Form::Next)
 }
 
-fn sort_row(list: &[u16; 34112], t: Tokens) -> Plan
+fn sort_row(list: &[u16; LIST_WORDS], t: Tokens) -> Plan
     ensures { λ r. ⌜ r ≡ sortRow (now (list .entry)) t ⌝ }
 {
-    if fits(t, [3, S, CONTAINER, S, 0, 0, 0]) {
-        return row_plan(0, [minus(word_at(t, 2), 20), word_at(t, 3), 0, 0, 0]);
+    if fits(t, [K_SORT, S, CONTAINER, S, 0, 0, 0]) {
+        return row_plan(
+            SORT_LIST,
+            [
+                minus(word_at(t, 2), LIST_OF_LESS_KIND),
+                word_at(t, 3),
+                0,
+                0,
+                0,
+            ],
+        );
     }
     if function_fits(t, S) {
-        return function_plan(list, t, 0, 1);
+        return function_plan(list, t, SORT_LIST, ENTRY_LIST);
     }
-    if fits(t, [3, S, 32, N, 0, 0, 0]) {
-        return row_plan(0, [12, word_at(t, 3), 0, 0, 0]);
+    if fits(t, [K_SORT, S, K_DEF, N, 0, 0, 0]) {
+        return row_plan(SORT_LIST, [DEF_KIND, word_at(t, 3), 0, 0, 0]);
     }
-    if fits(t, [3, S, 33, N, 0, 0, 0]) {
-        return row_plan(0, [13, word_at(t, 3), 0, 0, 0]);
+    if fits(t, [K_SORT, S, K_TYPE_VAR, N, 0, 0, 0]) {
+        return row_plan(SORT_LIST, [TYPE_VAR_KIND, word_at(t, 3), 0, 0, 0]);
     }
-    if fits(t, [3, S, FIXED, 0, 0, 0, 0]) {
-        return row_plan(0, [word_at(t, 2), 0, 0, 0, 0]);
+    if fits(t, [K_SORT, S, FIXED, 0, 0, 0, 0]) {
+        return row_plan(SORT_LIST, [word_at(t, 2), 0, 0, 0, 0]);
     }
-    if fits(t, [3, S, 34, N, N, N, N]) {
+    if fits(t, [K_SORT, S, K_RAW, N, N, N, N]) {
         return row_plan(
-            0,
+            SORT_LIST,
             [
                 word_at(t, 3),
                 word_at(t, 4),
@@ -423,13 +536,16 @@ fn sort_row(list: &[u16; 34112], t: Tokens) -> Plan
 }
 
 // `var vK nJ`
-fn var_plan(list: &[u16; 34112], t: Tokens) -> Plan
+fn var_plan(list: &[u16; LIST_WORDS], t: Tokens) -> Plan
     ensures { λ r. ⌜ r ≡ varPlan (now (list .entry)) t ⌝ }
 {
-    if fits(t, [8, VARIABLE, NODE, 0, 0, 0, 0]) {
-        if is_next(list, t, 1, VARIABLE, 4) {
-            if is_next(list, t, 2, NODE, 2) {
-                return with_free(1, row_plan(2, [14, word_at(t, 1), 0, 0, 0]));
+    if fits(t, [K_VAR, VARIABLE, NODE, 0, 0, 0, 0]) {
+        if is_next(list, t, 1, VARIABLE, VAR_LIST) {
+            if is_next(list, t, 2, NODE, NODE_LIST) {
+                return with_free(
+                    1,
+                    row_plan(NODE_LIST, [VARIABLE_KIND, word_at(t, 1), 0, 0, 0]),
+                );
             }
             return expected(Form::Next);
         }
@@ -442,21 +558,21 @@ fn var_plan(list: &[u16; 34112], t: Tokens) -> Plan
 fn vars_plan(t: Tokens) -> Plan
     ensures { λ r. ⌜ r ≡ varsPlan t ⌝ }
 {
-    if fits(t, [9, N, 0, 0, 0, 0, 0]) {
+    if fits(t, [K_VARS, N, 0, 0, 0, 0, 0]) {
         return with_free(word_at(t, 1), nothing());
     }
     expected(Form::Vars)
 }
 
 // The binding of a variable that has none yet; one past the ceiling has no word.
-fn bound_plan(list: &[u16; 34112], v: u16, p: u16) -> Plan
+fn bound_plan(list: &[u16; LIST_WORDS], v: u16, p: u16) -> Plan
     ensures { λ r. ⌜ r ≡ boundPlan (now (list .entry)) v p ⌝ }
 {
-    let rows = word(list, 34052);
+    let rows = word(list, VAR_ROWS_AT);
     if v < rows {
-        if v < 512 {
-            let at = 20480 + (v as usize);
-            if word(list, at) == 65535 {
+        if v < VARS {
+            let at = LIST_BINDS_AT + (v as usize);
+            if word(list, at) == FREE_WORD {
                 return with_put(nothing(), at, p);
             }
             return expected(Form::Unbound);
@@ -467,40 +583,49 @@ fn bound_plan(list: &[u16; 34112], v: u16, p: u16) -> Plan
 }
 
 // `bind vN P`
-fn bind_plan(list: &[u16; 34112], t: Tokens) -> Plan
+fn bind_plan(list: &[u16; LIST_WORDS], t: Tokens) -> Plan
     ensures { λ r. ⌜ r ≡ bindPlan (now (list .entry)) t ⌝ }
 {
-    if fits(t, [10, VARIABLE, P, 0, 0, 0, 0]) {
+    if fits(t, [K_BIND, VARIABLE, P, 0, 0, 0, 0]) {
         return bound_plan(list, word_at(t, 1), word_at(t, 2));
     }
     expected(Form::Bind)
 }
 
 // `node nK ..`
-fn node_plan(list: &[u16; 34112], t: Tokens) -> Plan
+fn node_plan(list: &[u16; LIST_WORDS], t: Tokens) -> Plan
     ensures { λ r. ⌜ r ≡ nodePlan (now (list .entry)) t ⌝ }
 {
-    if is_next(list, t, 1, NODE, 2) {
+    if is_next(list, t, 1, NODE, NODE_LIST) {
         return node_row(list, t);
     }
     expected(Form::Next)
 }
 
-fn node_row(list: &[u16; 34112], t: Tokens) -> Plan
+fn node_row(list: &[u16; LIST_WORDS], t: Tokens) -> Plan
     ensures { λ r. ⌜ r ≡ nodeRow (now (list .entry)) t ⌝ }
 {
-    if fits(t, [5, NODE, CONTAINER, P, 0, 0, 0]) {
-        return row_plan(2, [minus(word_at(t, 2), 20), word_at(t, 3), 0, 0, 0]);
+    if fits(t, [K_NODE, NODE, CONTAINER, P, 0, 0, 0]) {
+        return row_plan(
+            NODE_LIST,
+            [
+                minus(word_at(t, 2), LIST_OF_LESS_KIND),
+                word_at(t, 3),
+                0,
+                0,
+                0,
+            ],
+        );
     }
     if function_fits(t, P) {
-        return function_plan(list, t, 2, 3);
+        return function_plan(list, t, NODE_LIST, NODE_ENTRY_LIST);
     }
-    if fits(t, [5, NODE, 8, VARIABLE, 0, 0, 0]) {
-        return row_plan(2, [14, word_at(t, 3), 0, 0, 0]);
+    if fits(t, [K_NODE, NODE, K_VAR, VARIABLE, 0, 0, 0]) {
+        return row_plan(NODE_LIST, [VARIABLE_KIND, word_at(t, 3), 0, 0, 0]);
     }
-    if fits(t, [5, NODE, 34, N, N, N, N]) {
+    if fits(t, [K_NODE, NODE, K_RAW, N, N, N, N]) {
         return row_plan(
-            2,
+            NODE_LIST,
             [
                 word_at(t, 3),
                 word_at(t, 4),
@@ -514,12 +639,12 @@ fn node_row(list: &[u16; 34112], t: Tokens) -> Plan
 }
 
 // `expr eK P`
-fn expr_plan(list: &[u16; 34112], t: Tokens) -> Plan
+fn expr_plan(list: &[u16; LIST_WORDS], t: Tokens) -> Plan
     ensures { λ r. ⌜ r ≡ exprPlan (now (list .entry)) t ⌝ }
 {
-    if is_next(list, t, 1, EXPRESSION, 5) {
-        if fits(t, [11, EXPRESSION, P, 0, 0, 0, 0]) {
-            return row_plan(5, [word_at(t, 2), 0, 0, 0, 0]);
+    if is_next(list, t, 1, EXPRESSION, EXPR_LIST) {
+        if fits(t, [K_EXPR, EXPRESSION, P, 0, 0, 0, 0]) {
+            return row_plan(EXPR_LIST, [word_at(t, 2), 0, 0, 0, 0]);
         }
         return expected(Form::Expr);
     }
@@ -527,10 +652,10 @@ fn expr_plan(list: &[u16; 34112], t: Tokens) -> Plan
 }
 
 // `name eN ..`
-fn name_plan(list: &[u16; 34112], t: Tokens) -> Plan
+fn name_plan(list: &[u16; LIST_WORDS], t: Tokens) -> Plan
     ensures { λ r. ⌜ r ≡ namePlan (now (list .entry)) t ⌝ }
 {
-    if word(list, 34054) < 512 {
+    if word(list, NAME_ROWS_AT) < NAMES {
         return name_row(t);
     }
     expected(Form::Names)
@@ -539,17 +664,20 @@ fn name_plan(list: &[u16; 34112], t: Tokens) -> Plan
 fn name_row(t: Tokens) -> Plan
     ensures { λ r. ⌜ r ≡ nameRow t ⌝ }
 {
-    if fits(t, [12, EXPRESSION, 36, 0, 0, 0, 0]) {
-        return row_plan(6, [word_at(t, 1), 1, 0, 0, 0]);
+    if fits(t, [K_NAME, EXPRESSION, K_VARIABLE, 0, 0, 0, 0]) {
+        return row_plan(NAME_LIST, [word_at(t, 1), 1, 0, 0, 0]);
     }
-    if fits(t, [12, EXPRESSION, 38, 0, 0, 0, 0]) {
-        return row_plan(6, [word_at(t, 1), 3, 0, 0, 0]);
+    if fits(t, [K_NAME, EXPRESSION, K_BUILTIN, 0, 0, 0, 0]) {
+        return row_plan(NAME_LIST, [word_at(t, 1), 3, 0, 0, 0]);
     }
-    if fits(t, [12, EXPRESSION, 37, S, 0, 0, 0]) {
-        return row_plan(6, [word_at(t, 1), 2, word_at(t, 3), 0, 0]);
+    if fits(t, [K_NAME, EXPRESSION, K_OP, S, 0, 0, 0]) {
+        return row_plan(NAME_LIST, [word_at(t, 1), 2, word_at(t, 3), 0, 0]);
     }
-    if fits(t, [12, EXPRESSION, 34, N, N, 0, 0]) {
-        return row_plan(6, [word_at(t, 1), word_at(t, 3), word_at(t, 4), 0, 0]);
+    if fits(t, [K_NAME, EXPRESSION, K_RAW, N, N, 0, 0]) {
+        return row_plan(
+            NAME_LIST,
+            [word_at(t, 1), word_at(t, 3), word_at(t, 4), 0, 0],
+        );
     }
     expected(Form::Name)
 }
@@ -558,8 +686,8 @@ fn name_row(t: Tokens) -> Plan
 fn default_plan(t: Tokens) -> Plan
     ensures { λ r. ⌜ r ≡ defaultPlan t ⌝ }
 {
-    if fits(t, [13, S, 0, 0, 0, 0, 0]) {
-        return with_put(nothing(), 34058, word_at(t, 1));
+    if fits(t, [K_DEFAULT, S, 0, 0, 0, 0, 0]) {
+        return with_put(nothing(), DEFAULT_AT, word_at(t, 1));
     }
     expected(Form::Default)
 }
@@ -568,14 +696,14 @@ fn default_plan(t: Tokens) -> Plan
 fn constraint_row(row: [u16; 5], last: u16) -> Plan
     ensures { λ r. ⌜ r ≡ constraintRow row last ⌝ }
 {
-    with_put(row_plan(7, row), 34104, last)
+    with_put(row_plan(CONSTRAINT_LIST, row), LAST_AT, last)
 }
 
 // `sub P P`
 fn sub_plan(t: Tokens) -> Plan
     ensures { λ r. ⌜ r ≡ subPlan t ⌝ }
 {
-    if fits(t, [17, P, P, 0, 0, 0, 0]) {
+    if fits(t, [K_SUB, P, P, 0, 0, 0, 0]) {
         return constraint_row([0, word_at(t, 1), word_at(t, 2), 0, 0], 0);
     }
     expected(Form::Sub)
@@ -585,8 +713,8 @@ fn sub_plan(t: Tokens) -> Plan
 fn lit_plan(t: Tokens) -> Plan
     ensures { λ r. ⌜ r ≡ litPlan t ⌝ }
 {
-    if fits(t, [18, P, LITERAL, 0, 0, 0, 0]) {
-        return constraint_row([1, word_at(t, 1), minus(word_at(t, 2), 39), 0, 0], 0);
+    if fits(t, [K_LIT, P, LITERAL, 0, 0, 0, 0]) {
+        return constraint_row([1, word_at(t, 1), minus(word_at(t, 2), POSITIVE), 0, 0], 0);
     }
     expected(Form::Lit)
 }
@@ -595,70 +723,85 @@ fn lit_plan(t: Tokens) -> Plan
 fn comprehension_plan(t: Tokens) -> Plan
     ensures { λ r. ⌜ r ≡ comprehensionPlan t ⌝ }
 {
-    if fits(t, [19, P, P, S, 0, 0, 0]) {
+    if fits(t, [K_COMPREHENSION, P, P, S, 0, 0, 0]) {
         return constraint_row([3, word_at(t, 1), word_at(t, 2), word_at(t, 3), 0], 0);
     }
     expected(Form::Comprehension)
 }
 
 // `disjunction eN P`
-fn disjunction_plan(list: &[u16; 34112], t: Tokens) -> Plan
+fn disjunction_plan(list: &[u16; LIST_WORDS], t: Tokens) -> Plan
     ensures { λ r. ⌜ r ≡ disjunctionPlan (now (list .entry)) t ⌝ }
 {
-    if fits(t, [20, EXPRESSION, P, 0, 0, 0, 0]) {
-        return constraint_row([2, word_at(t, 1), word_at(t, 2), word(list, 34056), 0], 1);
+    if fits(t, [K_DISJUNCTION, EXPRESSION, P, 0, 0, 0, 0]) {
+        return constraint_row(
+            [
+                2,
+                word_at(t, 1),
+                word_at(t, 2),
+                word(list, OVERLOAD_ROWS_AT),
+                0,
+            ],
+            A_DISJUNCTION,
+        );
     }
     expected(Form::Disjunction)
 }
 
 // An overload; its disjunction has one more.
-fn overload_row(list: &[u16; 34112], row: [u16; 5]) -> Plan
+fn overload_row(list: &[u16; LIST_WORDS], row: [u16; 5]) -> Plan
     ensures { λ r. ⌜ r ≡ overloadRow (now (list .entry)) row ⌝ }
 {
-    grown(list, 1, 4, 1, row_plan(8, row))
+    grown(list, A_DISJUNCTION, 4, 1, row_plan(OVERLOAD_LIST, row))
 }
 
 // `overload ..`
-fn overload_plan(list: &[u16; 34112], t: Tokens) -> Plan
+fn overload_plan(list: &[u16; LIST_WORDS], t: Tokens) -> Plan
     ensures { λ r. ⌜ r ≡ overloadPlan (now (list .entry)) t ⌝ }
 {
-    if fits(t, [23, 36, P, 0, 0, 0, 0]) {
+    if fits(t, [K_OVERLOAD, K_VARIABLE, P, 0, 0, 0, 0]) {
         return overload_row(list, [1, 0, word_at(t, 2), 0, 0]);
     }
-    if fits(t, [23, 38, P, 0, 0, 0, 0]) {
+    if fits(t, [K_OVERLOAD, K_BUILTIN, P, 0, 0, 0, 0]) {
         return overload_row(list, [3, 0, word_at(t, 2), 0, 0]);
     }
-    if fits(t, [23, 37, S, P, 0, 0, 0]) {
+    if fits(t, [K_OVERLOAD, K_OP, S, P, 0, 0, 0]) {
         return overload_row(list, [2, word_at(t, 2), word_at(t, 3), 0, 0]);
     }
-    if fits(t, [23, 34, N, N, N, 0, 0]) {
+    if fits(t, [K_OVERLOAD, K_RAW, N, N, N, 0, 0]) {
         return overload_row(list, [word_at(t, 2), word_at(t, 3), word_at(t, 4), 0, 0]);
     }
     expected(Form::Overload)
 }
 
 // `join P P ...`
-fn join_plan(list: &[u16; 34112], t: Tokens) -> Plan
+fn join_plan(list: &[u16; LIST_WORDS], t: Tokens) -> Plan
     ensures { λ r. ⌜ r ≡ joinPlan (now (list .entry)) t ⌝ }
 {
     if list_fits(t, P) {
-        let row = [4, word_at(t, 1), word(list, 34057), minus(t.count, 2), 0];
-        return with_run(constraint_row(row, 2), 9, 2, t.count);
+        let row = [
+            4,
+            word_at(t, 1),
+            word(list, SOURCE_ROWS_AT),
+            minus(t.count, 2),
+            0,
+        ];
+        return with_run(constraint_row(row, A_JOIN), SOURCE_LIST, 2, t.count);
     }
     expected(Form::Join)
 }
 
 // `sources P ...`
-fn sources_plan(list: &[u16; 34112], t: Tokens) -> Plan
+fn sources_plan(list: &[u16; LIST_WORDS], t: Tokens) -> Plan
     ensures { λ r. ⌜ r ≡ sourcesPlan (now (list .entry)) t ⌝ }
 {
     if list_fits(t, P) {
         return grown(
             list,
-            2,
+            A_JOIN,
             3,
             minus(t.count, 1),
-            with_run(nothing(), 9, 1, t.count),
+            with_run(nothing(), SOURCE_LIST, 1, t.count),
         );
     }
     expected(Form::Sources)
@@ -678,7 +821,7 @@ fn entries_plan(t: Tokens, k: u16, form: Form) -> Plan
 fn constraint_plan(t: Tokens) -> Plan
     ensures { λ r. ⌜ r ≡ constraintPlan t ⌝ }
 {
-    if fits(t, [22, N, N, N, N, N, 0]) {
+    if fits(t, [K_CONSTRAINT, N, N, N, N, N, 0]) {
         return constraint_row(
             [
                 word_at(t, 1),
@@ -694,25 +837,36 @@ fn constraint_plan(t: Tokens) -> Plan
 }
 
 // `pad WHAT N`
-fn pad_plan(list: &[u16; 34112], t: Tokens) -> Plan
+fn pad_plan(list: &[u16; LIST_WORDS], t: Tokens) -> Plan
     ensures { λ r. ⌜ r ≡ padPlan (now (list .entry)) t ⌝ }
 {
-    if fits(t, [7, 41, N, 0, 0, 0, 0]) {
-        return rows_plan(0, word_at(t, 2), true, [12, word(list, 34048), 0, 0, 0]);
+    if fits(t, [K_PAD, K_SORTS, N, 0, 0, 0, 0]) {
+        return rows_plan(
+            SORT_LIST,
+            word_at(t, 2),
+            true,
+            [DEF_KIND, word(list, ROWS_AT), 0, 0, 0],
+        );
     }
-    if fits(t, [7, 42, N, 0, 0, 0, 0]) {
-        return rows_plan(2, word_at(t, 2), false, [6, 1, 0, 0, 0]);
+    if fits(t, [K_PAD, K_NODES, N, 0, 0, 0, 0]) {
+        return rows_plan(
+            NODE_LIST,
+            word_at(t, 2),
+            false,
+            [LIST_KIND, BOOL_SORT, 0, 0, 0],
+        );
     }
-    if fits(t, [7, 4, N, 0, 0, 0, 0]) {
-        return rows_plan(1, word_at(t, 2), false, [0, 0, 0, 0, 0]);
+    if fits(t, [K_PAD, K_ENTRIES, N, 0, 0, 0, 0]) {
+        return rows_plan(ENTRY_LIST, word_at(t, 2), false, [0, 0, 0, 0, 0]);
     }
-    if fits(t, [7, 6, N, 0, 0, 0, 0]) {
-        return rows_plan(3, word_at(t, 2), false, [0, 0, 0, 0, 0]);
+    if fits(t, [K_PAD, K_NODE_ENTRIES, N, 0, 0, 0, 0]) {
+        return rows_plan(NODE_ENTRY_LIST, word_at(t, 2), false, [0, 0, 0, 0, 0]);
     }
     expected(Form::Pad)
 }
 
-// The list that a word of `count` names; 10 where it names none.
+// The list that a word of `count` names, by the numbers of `sorts`, `entries`, `nodes`, `node-entries`, `vars`,
+// `exprs`, `names`, `constraints`, `overloads` and `sources`; 10 where it names none.
 fn counted_by(what: u16) -> usize
     ensures { λ r. ⌜ r ≡ countedBy what ⌝ }
 {
@@ -735,10 +889,16 @@ fn counted_by(what: u16) -> usize
 fn count_plan(t: Tokens) -> Plan
     ensures { λ r. ⌜ r ≡ countPlan t ⌝ }
 {
-    if fits(t, [15, WHAT, N, 0, 0, 0, 0]) {
+    if fits(t, [K_COUNT, WHAT, N, 0, 0, 0, 0]) {
         let k = counted_by(word_at(t, 1));
         if k < 10 {
-            return with_puts(nothing(), 34059 + k, word_at(t, 2), 34069 + k, 1);
+            return with_puts(
+                nothing(),
+                COUNTS_AT + k,
+                word_at(t, 2),
+                COUNTS_TOLD_AT + k,
+                1,
+            );
         }
         return expected(Form::Count);
     }
@@ -749,98 +909,98 @@ fn count_plan(t: Tokens) -> Plan
 fn lend_plan(t: Tokens) -> Plan
     ensures { λ r. ⌜ r ≡ lendPlan t ⌝ }
 {
-    if fits(t, [16, SLICE, N, 0, 0, 0, 0]) {
-        let j = minus(word_at(t, 1), 41) as usize;
-        return with_puts(nothing(), 34079 + j, word_at(t, 2), 34091 + j, 1);
+    if fits(t, [K_LEND, SLICE, N, 0, 0, 0, 0]) {
+        let j = minus(word_at(t, 1), FIRST_SLICE) as usize;
+        return with_puts(nothing(), LENT_AT + j, word_at(t, 2), LENT_TOLD_AT + j, 1);
     }
     expected(Form::Lend)
 }
 
 // Lines of damaged and unusual lists.
-fn unusual_plan(list: &[u16; 34112], t: Tokens) -> Plan
+fn unusual_plan(list: &[u16; LIST_WORDS], t: Tokens) -> Plan
     ensures { λ r. ⌜ r ≡ unusualPlan (now (list .entry)) t ⌝ }
 {
     let first = token_at(t, 0);
-    if first == 4 {
-        return entries_plan(t, 1, Form::Entries);
+    if first == K_ENTRIES {
+        return entries_plan(t, ENTRY_LIST, Form::Entries);
     }
-    if first == 6 {
-        return entries_plan(t, 3, Form::NodeEntries);
+    if first == K_NODE_ENTRIES {
+        return entries_plan(t, NODE_ENTRY_LIST, Form::NodeEntries);
     }
-    if first == 22 {
+    if first == K_CONSTRAINT {
         return constraint_plan(t);
     }
-    if first == 7 {
+    if first == K_PAD {
         return pad_plan(list, t);
     }
-    if first == 15 {
+    if first == K_COUNT {
         return count_plan(t);
     }
-    if first == 16 {
+    if first == K_LEND {
         return lend_plan(t);
     }
-    if first == 14 {
+    if first == K_CEILINGS {
         return expected(Form::Ceilings);
     }
     expected(Form::Keyword)
 }
 
 // Lines of constraints.
-fn constraints_plan(list: &[u16; 34112], t: Tokens) -> Plan
+fn constraints_plan(list: &[u16; LIST_WORDS], t: Tokens) -> Plan
     ensures { λ r. ⌜ r ≡ constraintsPlan (now (list .entry)) t ⌝ }
 {
     let first = token_at(t, 0);
-    if first == 17 {
+    if first == K_SUB {
         return sub_plan(t);
     }
-    if first == 18 {
+    if first == K_LIT {
         return lit_plan(t);
     }
-    if first == 19 {
+    if first == K_COMPREHENSION {
         return comprehension_plan(t);
     }
-    if first == 20 {
+    if first == K_DISJUNCTION {
         return disjunction_plan(list, t);
     }
-    if first == 23 {
+    if first == K_OVERLOAD {
         return overload_plan(list, t);
     }
-    if first == 21 {
+    if first == K_JOIN {
         return join_plan(list, t);
     }
-    if first == 48 {
+    if first == K_SOURCES {
         return sources_plan(list, t);
     }
     unusual_plan(list, t)
 }
 
 // What a line of a list gives, by its first word; `bare` gives no rows and is not among these.
-pub fn plan_of(list: &[u16; 34112], t: Tokens) -> Plan
+pub fn plan_of(list: &[u16; LIST_WORDS], t: Tokens) -> Plan
     ensures { λ r. ⌜ r ≡ planOf (now (list .entry)) t ⌝ }
 {
     let first = token_at(t, 0);
-    if first == 3 {
+    if first == K_SORT {
         return sort_plan(list, t);
     }
-    if first == 8 {
+    if first == K_VAR {
         return var_plan(list, t);
     }
-    if first == 9 {
+    if first == K_VARS {
         return vars_plan(t);
     }
-    if first == 10 {
+    if first == K_BIND {
         return bind_plan(list, t);
     }
-    if first == 5 {
+    if first == K_NODE {
         return node_plan(list, t);
     }
-    if first == 11 {
+    if first == K_EXPR {
         return expr_plan(list, t);
     }
-    if first == 12 {
+    if first == K_NAME {
         return name_plan(list, t);
     }
-    if first == 13 {
+    if first == K_DEFAULT {
         return default_plan(t);
     }
     constraints_plan(list, t)
@@ -850,20 +1010,59 @@ pub fn plan_of(list: &[u16; 34112], t: Tokens) -> Plan
 pub fn asks_other(t: Tokens) -> bool
     ensures { λ r. ⌜ r ≡ asksOther t ⌝ }
 {
-    if fits(t, [24, 54, P, P, 0, 0, 0]) {
+    if fits(t, [K_ASK, K_UNIFY, P, P, 0, 0, 0]) {
         return true;
     }
-    if fits(t, [24, 55, S, S, 0, 0, 0]) {
+    if fits(t, [K_ASK, K_PARTIAL_CMP, S, S, 0, 0, 0]) {
         return true;
     }
-    if fits(t, [24, 21, S, S, 0, 0, 0]) {
+    if fits(t, [K_ASK, K_JOIN, S, S, 0, 0, 0]) {
         return true;
     }
-    if fits(t, [24, 56, S, S, 0, 0, 0]) {
+    if fits(t, [K_ASK, K_MEET, S, S, 0, 0, 0]) {
         return true;
     }
-    if fits(t, [24, 57, S, S, 0, 0, 0]) {
+    if fits(t, [K_ASK, K_WIDENING_DISTANCE, S, S, 0, 0, 0]) {
         return true;
     }
-    fits(t, [24, 58, S, S, 0, 0, 0])
+    fits(t, [K_ASK, K_IS_MATERIALIZABLE, S, S, 0, 0, 0])
 }
+
+// Where the rows given of some lists are counted.
+const VAR_ROWS_AT: usize = ROWS_AT + (VAR_LIST as usize);
+
+const NAME_ROWS_AT: usize = ROWS_AT + (NAME_LIST as usize);
+
+const CONSTRAINT_ROWS_AT: usize = ROWS_AT + (CONSTRAINT_LIST as usize);
+
+const OVERLOAD_ROWS_AT: usize = ROWS_AT + (OVERLOAD_LIST as usize);
+
+const SOURCE_ROWS_AT: usize = ROWS_AT + (SOURCE_LIST as usize);
+
+// The last row of so many constraints begins so many rows behind this word.
+const BEFORE_CONSTRAINTS: usize = LIST_CONSTRAINTS_AT - 5;
+
+// Ceilings as words, and where sums stop.
+const MOST_SUM: u32 = MOST_ROWS as u32;
+
+const VARS: u16 = MAX_VARS as u16;
+
+const NAMES: u16 = MAX_NAMES as u16;
+
+// Kinds of rows; the word of a container is so far above its kind. `pad` makes nodes `List Bool`.
+const DEF_KIND: u16 = 12;
+
+const TYPE_VAR_KIND: u16 = 13;
+
+const VARIABLE_KIND: u16 = 14;
+
+const LIST_KIND: u16 = 6;
+
+const BOOL_SORT: u16 = 1;
+
+const LIST_OF_LESS_KIND: u16 = 20;
+
+// The words `positive` and `sorts`, from which literals and slices are counted.
+const POSITIVE: u16 = K_POSITIVE as u16;
+
+const FIRST_SLICE: u16 = K_SORTS as u16;

@@ -1,12 +1,12 @@
 -- What the list program prints for a line of its input, and at the end.
 use mathlib.Core.Bool.{Bool, true, false, cond}
-use mathlib.Core.List.{List, [], _∷_, _++_}
+use mathlib.Core.List.{List, [], _++_}
 use Prim.Native.Nat.{ℕ}
 use lib.Dec.{eqb}
 use lib.ListN.{getD}
 use Rattle.list_memory.specs.declared.Heard.{Heard}
 use Rattle.list_memory.specs.declared.Heard.the-variants.{Quiet, Begins, Asks, AsksOther, Bad}
-use Rattle.list_memory.specs.Memory.{stageAt, Taken}
+use Rattle.list_memory.specs.Memory.{stageAt, readingStage, Taken}
 use Rattle.text_out.specs.Quoted.{bytesOf}
 use Rattle.list_messages.specs.Messages.{badText}
 use Rattle.list_reader.specs.Taking.{lineTaken}
@@ -16,7 +16,7 @@ use Rattle.list_lines.specs.declared.Said.{Said}
 
 -- said of a list that ended before any question, by its stage
 unfoldable pub unaskedText : ℕ → List ℕ
-unaskedText stage = cond (eqb stage 1) (bytesOf "nothing is asked about this list\n") []
+unaskedText stage = cond (eqb stage readingStage) (bytesOf "nothing is asked about this list\n") []
 
 abbrev pub stageOf : List ℕ → ℕ
 stageOf ws = getD ws stageAt 0
@@ -24,7 +24,7 @@ stageOf ws = getD ws stageAt 0
 -- What is printed for a line, by what it came to: ws are the words of the list before it, vs those after it.
 unfoldable pub printed : Heard → List ℕ → List ℕ → List ℕ → List ℕ
 printed Quiet line ws vs = []
-printed Begins line ws vs = unaskedText (stageOf ws) ++ (line ++ (10 ∷ []))
+printed Begins line ws vs = unaskedText (stageOf ws) ++ (line ++ bytesOf "\n")
 printed Asks line ws vs = answerText vs
 printed AsksOther line ws vs = bytesOf "expected ? solve: no other question is answered here\n"
 printed (Bad f) line ws vs = badText f

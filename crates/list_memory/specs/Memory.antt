@@ -1,26 +1,118 @@
--- A list as it is being read, in 34,112 words: the slices of a call at their ceilings in words 0 to 34,047, then what the
--- lines told besides.
+-- A list as it is being read: the slices of a call at their ceilings, one behind the other, then what the lines told
+-- besides.
 use mathlib.Core.List.{List, [], _∷_}
 use Prim.Native.Nat.{ℕ, _+_, _*_}
 use lib.ListN.{getD}
+use Rattle.resolved_sort.specs.Storage.{maxSorts, maxEntries, entriesAt, fullLength}
+use Rattle.unification.specs.Nodes.{maxNodes, maxNodeEntries, maxVars, nodeEntriesAt, fullNodes}
+use Rattle.inference.specs.Constraints.{maxExprs, maxConstraints, maxOverloads, maxSources, maxComponents}
+use Rattle.inference.specs.SolveChecks.{scratchWords}
 use Rattle.list_memory.specs.declared.Heard.{Heard}
 
-abbrev pub wordsHeld : ℕ
-wordsHeld = 34112
+-- the program holds so many base names
+abbrev pub maxNames : ℕ
+maxNames = 512
 
--- The lists, by number: 0 sorts, 1 entries, 2 nodes, 3 node entries, 4 variables, 5 expressions, 6 base names, 7 constraints,
--- 8 overloads, 9 sources. Where the rows of each begin, how many words a row has, and how many rows are kept.
+-- how many words the slices have at their ceilings, where that is not the ceiling itself
+abbrev pub nameWords : ℕ
+nameWords = 3 * maxNames
+
+abbrev pub constraintWords : ℕ
+constraintWords = 5 * maxConstraints
+
+abbrev pub overloadWords : ℕ
+overloadWords = 3 * maxOverloads
+
+abbrev pub typingWords : ℕ
+typingWords = 3 * maxExprs
+
+abbrev pub choiceWords : ℕ
+choiceWords = 2 * maxConstraints
+
+-- where the slices begin
+abbrev pub listSortsAt : ℕ
+listSortsAt = 0
+
+abbrev pub listNodesAt : ℕ
+listNodesAt = listSortsAt + fullLength
+
+abbrev pub listBindsAt : ℕ
+listBindsAt = listNodesAt + fullNodes
+
+abbrev pub listExprsAt : ℕ
+listExprsAt = listBindsAt + maxVars
+
+abbrev pub listNamesAt : ℕ
+listNamesAt = listExprsAt + maxExprs
+
+abbrev pub listConstraintsAt : ℕ
+listConstraintsAt = listNamesAt + nameWords
+
+abbrev pub listOverloadsAt : ℕ
+listOverloadsAt = listConstraintsAt + constraintWords
+
+abbrev pub listSourcesAt : ℕ
+listSourcesAt = listOverloadsAt + overloadWords
+
+abbrev pub listTypingAt : ℕ
+listTypingAt = listSourcesAt + maxSources
+
+abbrev pub listMeasureAt : ℕ
+listMeasureAt = listTypingAt + typingWords
+
+abbrev pub listChoicesAt : ℕ
+listChoicesAt = listMeasureAt + maxComponents
+
+abbrev pub listScratchAt : ℕ
+listScratchAt = listChoicesAt + choiceWords
+
+-- the lists by number
+abbrev pub sortList : ℕ
+sortList = 0
+
+abbrev pub entryList : ℕ
+entryList = 1
+
+abbrev pub nodeList : ℕ
+nodeList = 2
+
+abbrev pub nodeEntryList : ℕ
+nodeEntryList = 3
+
+abbrev pub varList : ℕ
+varList = 4
+
+abbrev pub exprList : ℕ
+exprList = 5
+
+abbrev pub nameList : ℕ
+nameList = 6
+
+abbrev pub constraintList : ℕ
+constraintList = 7
+
+abbrev pub overloadList : ℕ
+overloadList = 8
+
+abbrev pub sourceList : ℕ
+sourceList = 9
+
+-- where the rows of each list begin, how many words a row has, and how many rows are kept
 abbrev pub starts : List ℕ
-starts = 0 ∷ 4096 ∷ 8192 ∷ 16384 ∷ 20480 ∷ 20992 ∷ 21504 ∷ 23040 ∷ 24320 ∷ 27392 ∷ []
+starts =
+    listSortsAt ∷ (listSortsAt + entriesAt) ∷ listNodesAt ∷ (listNodesAt + nodeEntriesAt) ∷ listBindsAt ∷ listExprsAt
+    ∷ listNamesAt ∷ listConstraintsAt ∷ listOverloadsAt ∷ listSourcesAt ∷ []
 
 abbrev pub widths : List ℕ
 widths = 4 ∷ 1 ∷ 4 ∷ 1 ∷ 1 ∷ 1 ∷ 3 ∷ 5 ∷ 3 ∷ 1 ∷ []
 
 abbrev pub ceilings : List ℕ
-ceilings = 1024 ∷ 4096 ∷ 2048 ∷ 4096 ∷ 512 ∷ 512 ∷ 512 ∷ 256 ∷ 1024 ∷ 256 ∷ []
+ceilings =
+    maxSorts ∷ maxEntries ∷ maxNodes ∷ maxNodeEntries ∷ maxVars ∷ maxExprs ∷ maxNames ∷ maxConstraints ∷ maxOverloads
+    ∷ maxSources ∷ []
 
-unfoldable pub startOf : ℕ → ℕ
-startOf k = getD starts k 0
+unfoldable pub listStart : ℕ → ℕ
+listStart k = getD starts k 0
 
 unfoldable pub widthOf : ℕ → ℕ
 widthOf k = getD widths k 0
@@ -29,42 +121,67 @@ unfoldable pub ceilingOf : ℕ → ℕ
 ceilingOf k = getD ceilings k 0
 
 -- the first word of row n of list k
-abbrev pub rowAt : ℕ → ℕ → ℕ
-rowAt k n = startOf k + widthOf k * n
+abbrev pub listRowAt : ℕ → ℕ → ℕ
+listRowAt k n = listStart k + widthOf k * n
 
--- rows given of list k: one word for each list, which stops at 65,535
+-- rows given of list k: one word for each list, which stops at mostRows
 abbrev pub rowsAt : ℕ
-rowsAt = 34048
+rowsAt = listScratchAt + scratchWords
+
+abbrev pub mostRows : ℕ
+mostRows = 65535
 
 abbrev pub rowsOf : List ℕ → ℕ → ℕ
-rowsOf ws k = getD ws (34048 + k) 0
+rowsOf ws k = getD ws (rowsAt + k) 0
 
 -- the default sort
 abbrev pub defaultAt : ℕ
-defaultAt = 34058
+defaultAt = rowsAt + 10
 
 -- the count that a `count` line tells of list k, and 1 where one told it
-abbrev pub countAt : ℕ
-countAt = 34059
+abbrev pub countsAt : ℕ
+countsAt = defaultAt + 1
 
-abbrev pub countToldAt : ℕ
-countToldAt = 34069
+abbrev pub countsToldAt : ℕ
+countsToldAt = countsAt + 10
 
 -- The length that a `lend` line tells of slice j, and 1 where one told it. The slices: 0 sorts, 1 nodes, 2 bindings,
 -- 3 expressions, 4 base names, 5 constraints, 6 overloads, 7 sources, 8 scratch, 9 typing, 10 measure, 11 choices.
 abbrev pub lentAt : ℕ
-lentAt = 34079
+lentAt = countsToldAt + 10
 
 abbrev pub lentToldAt : ℕ
-lentToldAt = 34091
+lentToldAt = lentAt + 12
 
--- 0 no list yet, 1 lines of the list may come, 2 a question was asked, 3 a line was not of the format
+-- how far the list is read: no list yet, lines of the list may come, a question was asked, a line was not of the format
 abbrev pub stageAt : ℕ
-stageAt = 34103
+stageAt = lentToldAt + 12
 
--- 1 where the last constraint line is a `disjunction`, 2 where it is a `join`, else 0
+abbrev pub noList : ℕ
+noList = 0
+
+abbrev pub readingStage : ℕ
+readingStage = 1
+
+abbrev pub askedStage : ℕ
+askedStage = 2
+
+abbrev pub badStage : ℕ
+badStage = 3
+
+-- what the last constraint line is: a `disjunction`, a `join`, else 0
 abbrev pub lastAt : ℕ
-lastAt = 34104
+lastAt = stageAt + 1
+
+abbrev pub aDisjunction : ℕ
+aDisjunction = 1
+
+abbrev pub aJoin : ℕ
+aJoin = 2
+
+-- all words; a few behind the last are free
+abbrev pub listWords : ℕ
+listWords = 34112
 
 -- the words after a line, and what came of it
 pub record Taken : Type 0 where

@@ -86,7 +86,7 @@ fn place_of(form: Form) -> usize
     }
 }
 
-// What was expected.
+// What was expected: the message of a form, out of all in the order of the forms.
 fn put_form(form: Form, out: &mut [u8], at: usize) -> usize
     ensures { λ r. ⌜ PutWithin (now (out .entry)) at (formText form) (now (out .exit)) r ⌝ }
 {
@@ -94,7 +94,43 @@ fn put_form(form: Form, out: &mut [u8], at: usize) -> usize
     let from = STARTS[k];
     let to = STARTS[k + 1];
     let text = between(
-        b"printable ASCII, no tab and no CRat most 200 byteslist before any other linea question before an answer?, = or list after a questiona word that begins a line of the formatthe next number in the name of the new rowbare, before any other sortsort sK List S (or Set, FSet, Bag, FBag), sort sK fn S ... -> S, sort sK Def N, sort sK TypeVar N, sort sK unit or sort sK raw N N N Nnode nK List P (or Set, FSet, Bag, FBag), node nK fn P ... -> P, node nK var vN or node nK raw N N N Nentries N ...node-entries N ...pad sorts N, pad entries N, pad nodes N or pad node-entries Nvar vK nJvars Nbind vN Pa variable of a line above that has no binding yetexpr eK Pname eN variable, name eN builtin, name eN op S or name eN raw N Nat most 512 base names, which is what this program holdsdefault Ssub P Plit P positive or lit P naturalcomprehension P P Sdisjunction eN Poverload variable P, overload builtin P, overload op S P or overload raw N N Njoin P P ...sources P ...constraint N N N N Ncount WHAT N, where WHAT is sorts, entries, nodes, node-entries, vars, exprs, names, constraints, overloads or sourceslend WHAT N, where WHAT is sorts, nodes, bindings, exprs, names, constraints, overloads, sources, scratch, out-typing, out-measure or out-choicesno ceilings line: this program has the fixed ceilings? solve, or another question of the format",
+        b"printable ASCII, no tab and no CR\
+          at most 200 bytes\
+          list before any other line\
+          a question before an answer\
+          ?, = or list after a question\
+          a word that begins a line of the format\
+          the next number in the name of the new row\
+          bare, before any other sort\
+          sort sK List S (or Set, FSet, Bag, FBag), sort sK fn S ... -> S, sort sK Def N, sort sK TypeVar N, \
+          sort sK unit or sort sK raw N N N N\
+          node nK List P (or Set, FSet, Bag, FBag), node nK fn P ... -> P, node nK var vN or node nK raw N N \
+          N N\
+          entries N ...\
+          node-entries N ...\
+          pad sorts N, pad entries N, pad nodes N or pad node-entries N\
+          var vK nJ\
+          vars N\
+          bind vN P\
+          a variable of a line above that has no binding yet\
+          expr eK P\
+          name eN variable, name eN builtin, name eN op S or name eN raw N N\
+          at most 512 base names, which is what this program holds\
+          default S\
+          sub P P\
+          lit P positive or lit P natural\
+          comprehension P P S\
+          disjunction eN P\
+          overload variable P, overload builtin P, overload op S P or overload raw N N N\
+          join P P ...\
+          sources P ...\
+          constraint N N N N N\
+          count WHAT N, where WHAT is sorts, entries, nodes, node-entries, vars, exprs, names, constraints, \
+          overloads or sources\
+          lend WHAT N, where WHAT is sorts, nodes, bindings, exprs, names, constraints, overloads, sources, \
+          scratch, out-typing, out-measure or out-choices\
+          no ceilings line: this program has the fixed ceilings\
+          ? solve, or another question of the format",
         from,
         to,
     );

@@ -1,64 +1,116 @@
 // A line of the text format, taken into a list.
+use inference::MAX_CONSTRAINTS;
+use inference::MAX_EXPRS;
+use inference::MAX_OVERLOADS;
+use inference::MAX_SOURCES;
 use list_forms::Plan;
 use list_forms::asks_other;
 use list_forms::fits;
 use list_forms::plan_of;
 use list_forms::token_at;
 use list_forms::word_at;
+use list_memory::ASKED_STAGE;
+use list_memory::BAD_STAGE;
+use list_memory::DEFAULT_AT;
+use list_memory::ENTRY_LIST;
 use list_memory::Form;
 use list_memory::Heard;
+use list_memory::LIST_BINDS_AT;
+use list_memory::LIST_CONSTRAINTS_AT;
+use list_memory::LIST_EXPRS_AT;
+use list_memory::LIST_NAMES_AT;
+use list_memory::LIST_NODES_AT;
+use list_memory::LIST_OVERLOADS_AT;
+use list_memory::LIST_SORTS_AT;
+use list_memory::LIST_SOURCES_AT;
+use list_memory::LIST_WORDS;
+use list_memory::MAX_NAMES;
+use list_memory::MOST_ROWS;
+use list_memory::NO_LIST;
+use list_memory::READING_STAGE;
+use list_memory::ROWS_AT;
+use list_memory::STAGE_AT;
+use list_memory::VAR_LIST;
+use list_tokens::K_ASK;
+use list_tokens::K_BARE;
+use list_tokens::K_SOLVE;
 use list_tokens::Start;
 use list_tokens::Tokens;
 use list_tokens::printable;
 use list_tokens::start_of;
 use list_tokens::tokens_of;
+use resolved_sort::ENTRIES_AT;
+use resolved_sort::MAX_ENTRIES;
+use resolved_sort::MAX_SORTS;
+use sort_text::MAX_LINE;
+use unification::FREE_WORD;
+use unification::MAX_NODE_ENTRIES;
+use unification::MAX_NODES;
+use unification::MAX_VARS;
+use unification::NODE_ENTRIES_AT;
 use words::clear;
 use words::put;
 use words::word;
 ghost use mathlib.Core.Path.{_≡_};
 ghost use Prim.Native.Nat.{_≤_, _+_, _-_};
-ghost use Rattle.list_memory.specs.Memory.{taken, startOf as startWord, widthOf, ceilingOf, rowAt};
-ghost use Rattle.list_reader.specs.Taking.{putWords, oneMore, appended, nextNumber, appendTimes, appendRun, carried, badLine, begun, bareTaken, planTaken, questionTaken, wordsTaken, otherTaken, answerTaken, listTaken, lineTaken};
+ghost use Rattle.list_memory.specs.Memory.{taken, listStart, widthOf, ceilingOf, listRowAt};
+ghost use Rattle.list_reader.specs.Taking.{mostPlace, putWords, oneMore, appended, nextNumber, appendTimes};
+ghost use Rattle.list_reader.specs.Taking.{appendRun};
+ghost use Rattle.list_reader.specs.Taking.{carried, badLine, begun, bareTaken, planTaken, questionTaken};
+ghost use Rattle.list_reader.specs.Taking.{wordsTaken, otherTaken, answerTaken, listTaken, lineTaken};
 
 // Where the rows of each list begin, how many words a row has, and how many rows are kept.
-const STARTS: [u16; 10] = [
-    0,
-    4096,
-    8192,
-    16384,
-    20480,
-    20992,
-    21504,
-    23040,
-    24320,
-    27392,
+const STARTS: [u16; LISTS] = [
+    LIST_SORTS_AT as u16,
+    (LIST_SORTS_AT + ENTRIES_AT) as u16,
+    LIST_NODES_AT as u16,
+    (LIST_NODES_AT + NODE_ENTRIES_AT) as u16,
+    LIST_BINDS_AT as u16,
+    LIST_EXPRS_AT as u16,
+    LIST_NAMES_AT as u16,
+    LIST_CONSTRAINTS_AT as u16,
+    LIST_OVERLOADS_AT as u16,
+    LIST_SOURCES_AT as u16,
 ];
 
-const WIDTHS: [u16; 10] = [4, 1, 4, 1, 1, 1, 3, 5, 3, 1];
+const WIDTHS: [u16; LISTS] = [4, 1, 4, 1, 1, 1, 3, 5, 3, 1];
 
-const CEILINGS: [u16; 10] = [1024, 4096, 2048, 4096, 512, 512, 512, 256, 1024, 256];
+const CEILINGS: [u16; LISTS] = [
+    MAX_SORTS as u16,
+    MAX_ENTRIES as u16,
+    MAX_NODES as u16,
+    MAX_NODE_ENTRIES as u16,
+    MAX_VARS as u16,
+    MAX_EXPRS as u16,
+    MAX_NAMES as u16,
+    MAX_CONSTRAINTS as u16,
+    MAX_OVERLOADS as u16,
+    MAX_SOURCES as u16,
+];
+
+const LISTS: usize = 10;
 
 fn start_word(k: usize) -> u16
-    ensures { λ r. ⌜ r ≡ startWord k ⌝ }
+    ensures { λ r. ⌜ r ≡ listStart k ⌝ }
 {
-    if k < 10 { STARTS[k] } else { 0 }
+    if k < LISTS { STARTS[k] } else { 0 }
 }
 
 fn width_of(k: usize) -> u16
     ensures { λ r. ⌜ (r ≡ widthOf k) × (r ≤ 5) ⌝ }
 {
-    if k < 10 { WIDTHS[k] } else { 0 }
+    if k < LISTS { WIDTHS[k] } else { 0 }
 }
 
 fn ceiling_of(k: usize) -> u16
     ensures { λ r. ⌜ r ≡ ceilingOf k ⌝ }
 {
-    if k < 10 { CEILINGS[k] } else { 0 }
+    if k < LISTS { CEILINGS[k] } else { 0 }
 }
 
 // The first word of row n of list k.
 fn row_at(k: usize, n: u16) -> usize
-    ensures { λ r. ⌜ (r ≡ rowAt k n) × (r ≤ 1048576) ⌝ }
+    ensures { λ r. ⌜ (r ≡ listRowAt k n) × (r ≤ mostPlace) ⌝ }
 {
     let start = start_word(k) as usize;
     let width = width_of(k) as usize;
@@ -66,8 +118,8 @@ fn row_at(k: usize, n: u16) -> usize
 }
 
 // So many words of a row, put from a word on.
-fn put_words(list: &mut [u16; 34112], at: usize, row: [u16; 5], width: u16)
-    requires { ⌜ (at ≤ 1048576) × (width ≤ 5) ⌝ }
+fn put_words(list: &mut [u16; LIST_WORDS], at: usize, row: [u16; 5], width: u16)
+    requires { ⌜ (at ≤ mostPlace) × (width ≤ 5) ⌝ }
     ensures { λ _. ⌜ now (list .exit) ≡ putWords width (now (list .entry)) at row 0 ⌝ }
 {
     let mut i: usize = 0;
@@ -80,24 +132,24 @@ fn put_words(list: &mut [u16; 34112], at: usize, row: [u16; 5], width: u16)
 fn one_more(n: u16) -> u16
     ensures { λ r. ⌜ r ≡ oneMore n ⌝ }
 {
-    if n < 65535 {
+    if n < MOST_ROWS {
         return n + 1;
     }
     n
 }
 
 // One more row of list k: kept below the ceiling, counted in any case.
-fn append(list: &mut [u16; 34112], k: u16, row: [u16; 5])
+fn append(list: &mut [u16; LIST_WORDS], k: u16, row: [u16; 5])
     ensures { λ _. ⌜ now (list .exit) ≡ appended (now (list .entry)) k row ⌝ }
 {
     let j = k as usize;
-    let n = word(list, 34048 + j);
+    let n = word(list, ROWS_AT + j);
     if n < ceiling_of(j) {
         put_words(list, row_at(j, n), row, width_of(j));
-        put(list, 34048 + j, one_more(n));
+        put(list, ROWS_AT + j, one_more(n));
         return;
     }
-    put(list, 34048 + j, one_more(n));
+    put(list, ROWS_AT + j, one_more(n));
 }
 
 // The number after a number, where numbers rise.
@@ -112,7 +164,7 @@ fn next_number(rising: bool, n: u16) -> u16
 
 // So many more rows of list k, of which the first has the given second word.
 fn append_times(
-    list: &mut [u16; 34112],
+    list: &mut [u16; LIST_WORDS],
     k: u16,
     rising: bool,
     row: [u16; 5],
@@ -131,7 +183,7 @@ fn append_times(
 }
 
 // Words of the line, each a row of list k.
-fn append_run(list: &mut [u16; 34112], k: u16, t: Tokens, from: usize, to: usize)
+fn append_run(list: &mut [u16; LIST_WORDS], k: u16, t: Tokens, from: usize, to: usize)
     ensures { λ _. ⌜ now (list .exit) ≡ appendRun (to - from) (now (list .entry)) k t from ⌝ }
 {
     let mut i = from;
@@ -142,11 +194,11 @@ fn append_run(list: &mut [u16; 34112], k: u16, t: Tokens, from: usize, to: usize
 }
 
 // What a line gives, put into the words.
-fn carry_out(list: &mut [u16; 34112], t: Tokens, plan: Plan)
+fn carry_out(list: &mut [u16; LIST_WORDS], t: Tokens, plan: Plan)
     ensures { λ _. ⌜ now (list .exit) ≡ carried (now (list .entry)) t plan ⌝ }
 {
     let row = plan.row;
-    append_times(list, 4, false, [65535, 0, 0, 0, 0], 0, plan.free);
+    append_times(list, VAR_LIST, false, [FREE_WORD, 0, 0, 0, 0], 0, plan.free);
     append_run(list, plan.run, t, plan.from, plan.to as usize);
     append_times(list, plan.list, plan.rising, row, row[1], plan.times);
     put(list, plan.at, plan.value);
@@ -154,37 +206,37 @@ fn carry_out(list: &mut [u16; 34112], t: Tokens, plan: Plan)
 }
 
 // A line not of the format.
-fn bad(list: &mut [u16; 34112], form: Form) -> Heard
+fn bad(list: &mut [u16; LIST_WORDS], form: Form) -> Heard
     ensures { λ r. ⌜ taken (now (list .exit)) r ≡ badLine (now (list .entry)) form ⌝ }
 {
-    put(list, 34103, 3);
+    put(list, STAGE_AT, BAD_STAGE);
     Heard::Bad(form)
 }
 
 // A new list: the fixed six sorts, the default sort Bool, and nothing else.
-fn begin(list: &mut [u16; 34112])
+fn begin(list: &mut [u16; LIST_WORDS])
     ensures { λ _. ⌜ now (list .exit) ≡ begun (now (list .entry)) ⌝ }
 {
-    clear(list, 0, 34112);
+    clear(list, 0, LIST_WORDS);
     put(list, 4, 1);
     put(list, 8, 2);
     put(list, 12, 3);
     put(list, 16, 4);
     put(list, 20, 5);
-    put(list, 34048, 6);
-    put(list, 34058, 1);
-    put(list, 34103, 1);
+    put(list, ROWS_AT, 6);
+    put(list, DEFAULT_AT, 1);
+    put(list, STAGE_AT, READING_STAGE);
 }
 
 // `bare`
-fn bare(list: &mut [u16; 34112], t: Tokens) -> Heard
+fn bare(list: &mut [u16; LIST_WORDS], t: Tokens) -> Heard
     ensures { λ r. ⌜ taken (now (list .exit)) r ≡ bareTaken (now (list .entry)) t ⌝ }
 {
     if t.count == 1 {
-        if word(list, 34048) == 6 {
-            if word(list, 34049) == 0 {
+        if word(list, ROWS_AT) == 6 {
+            if word(list, ENTRY_ROWS_AT) == 0 {
                 clear(list, 0, 24);
-                put(list, 34048, 0);
+                put(list, ROWS_AT, 0);
                 return Heard::Quiet;
             }
             return bad(list, Form::Bare);
@@ -195,7 +247,7 @@ fn bare(list: &mut [u16; 34112], t: Tokens) -> Heard
 }
 
 // A line that gives rows or words of the list.
-fn give(list: &mut [u16; 34112], t: Tokens, plan: Plan) -> Heard
+fn give(list: &mut [u16; LIST_WORDS], t: Tokens, plan: Plan) -> Heard
     ensures { λ r. ⌜ taken (now (list .exit)) r ≡ planTaken (now (list .entry)) t plan ⌝ }
 {
     if plan.good {
@@ -207,32 +259,32 @@ fn give(list: &mut [u16; 34112], t: Tokens, plan: Plan) -> Heard
 }
 
 // `? ..`
-fn question(list: &mut [u16; 34112], t: Tokens) -> Heard
+fn question(list: &mut [u16; LIST_WORDS], t: Tokens) -> Heard
     ensures { λ r. ⌜ taken (now (list .exit)) r ≡ questionTaken (now (list .entry)) t ⌝ }
 {
-    if fits(t, [24, 53, 0, 0, 0, 0, 0]) {
-        put(list, 34103, 2);
+    if fits(t, [K_ASK, K_SOLVE, 0, 0, 0, 0, 0]) {
+        put(list, STAGE_AT, ASKED_STAGE);
         return Heard::Asks;
     }
     if asks_other(t) {
-        put(list, 34103, 2);
+        put(list, STAGE_AT, ASKED_STAGE);
         return Heard::AsksOther;
     }
     bad(list, Form::Asks)
 }
 
 // A line of words, where a list has begun.
-fn take_words(list: &mut [u16; 34112], t: Tokens) -> Heard
+fn take_words(list: &mut [u16; LIST_WORDS], t: Tokens) -> Heard
     ensures { λ r. ⌜ taken (now (list .exit)) r ≡ wordsTaken (now (list .entry)) t ⌝ }
 {
     let first = token_at(t, 0);
-    if first == 24 {
+    if first == K_ASK {
         return question(list, t);
     }
-    if word(list, 34103) == 2 {
+    if word(list, STAGE_AT) == ASKED_STAGE {
         return bad(list, Form::Asked);
     }
-    if first == 2 {
+    if first == K_BARE {
         return bare(list, t);
     }
     let plan = plan_of(list, t);
@@ -240,18 +292,18 @@ fn take_words(list: &mut [u16; 34112], t: Tokens) -> Heard
 }
 
 // A line that is no comment, no answer and no `list`.
-fn take_other(list: &mut [u16; 34112], line: &[u8]) -> Heard
+fn take_other(list: &mut [u16; LIST_WORDS], line: &[u8]) -> Heard
     ensures { λ r. ⌜ taken (now (list .exit)) r ≡ otherTaken (now (list .entry)) (now (line .entry)) ⌝ }
 {
-    let stage = word(list, 34103);
-    if stage == 3 {
+    let stage = word(list, STAGE_AT);
+    if stage == BAD_STAGE {
         return Heard::Quiet;
     }
     if printable(line) {
-        if 200 < line.len() {
+        if MAX_LINE < line.len() {
             return bad(list, Form::Length);
         }
-        if stage == 0 {
+        if stage == NO_LIST {
             return bad(list, Form::List);
         }
         return take_words(list, tokens_of(line));
@@ -260,15 +312,15 @@ fn take_other(list: &mut [u16; 34112], line: &[u8]) -> Heard
 }
 
 // An answer, which is not looked at.
-fn take_answer(list: &mut [u16; 34112], line: &[u8]) -> Heard
+fn take_answer(list: &mut [u16; LIST_WORDS], line: &[u8]) -> Heard
     ensures { λ r. ⌜ taken (now (list .exit)) r ≡ answerTaken (now (list .entry)) (now (line .entry)) ⌝ }
 {
-    let stage = word(list, 34103);
-    if stage == 3 {
+    let stage = word(list, STAGE_AT);
+    if stage == BAD_STAGE {
         return Heard::Quiet;
     }
     if printable(line) {
-        if stage == 2 {
+        if stage == ASKED_STAGE {
             return Heard::Quiet;
         }
         return bad(list, Form::Question);
@@ -277,11 +329,11 @@ fn take_answer(list: &mut [u16; 34112], line: &[u8]) -> Heard
 }
 
 // `list TEXT`
-fn take_list(list: &mut [u16; 34112], line: &[u8]) -> Heard
+fn take_list(list: &mut [u16; LIST_WORDS], line: &[u8]) -> Heard
     ensures { λ r. ⌜ taken (now (list .exit)) r ≡ listTaken (now (list .entry)) (now (line .entry)) ⌝ }
 {
     if printable(line) {
-        if 200 < line.len() {
+        if MAX_LINE < line.len() {
             return bad(list, Form::Length);
         }
         begin(list);
@@ -291,7 +343,7 @@ fn take_list(list: &mut [u16; 34112], line: &[u8]) -> Heard
 }
 
 // What one line, without its LF, makes of the list.
-pub fn take_line(list: &mut [u16; 34112], line: &[u8]) -> Heard
+pub fn take_line(list: &mut [u16; LIST_WORDS], line: &[u8]) -> Heard
     ensures { λ r. ⌜ taken (now (list .exit)) r ≡ lineTaken (now (list .entry)) (now (line .entry)) ⌝ }
 {
     match start_of(line) {
@@ -301,3 +353,6 @@ pub fn take_line(list: &mut [u16; 34112], line: &[u8]) -> Heard
         Start::Other => take_other(list, line),
     }
 }
+
+// Where the rows given of the entries are counted.
+const ENTRY_ROWS_AT: usize = ROWS_AT + (ENTRY_LIST as usize);

@@ -1,19 +1,20 @@
--- The words of a line, each as one number: "Spaces before, between and after words do not matter"; "A number is decimal, 0 to
--- 65535, without sign and without leading zeros"; "Names are a letter and a number"; "The words `unit Bool Pos Nat Int Real` are the
--- sorts `s0` to `s5`".
+-- The words of a line, each as one number: "Spaces before, between and after words do not matter"; "A number is
+-- decimal, 0 to 65535, without sign and without leading zeros"; "Names are a letter and a number"; "The words `unit
+-- Bool Pos Nat Int Real` are the sorts `s0` to `s5`".
 use mathlib.Core.Bool.{Bool, true, false, cond, not}
 use mathlib.Core.List.{List, [], _∷_}
 use Prim.Native.Nat.{ℕ, zero, suc, _+_, _*_, _-_}
 use lib.Dec.{ltb, leb, eqb}
 use lib.ListN.{length, getD, set, drop, replicate}
+use Rattle.text_out.specs.Quoted.{byteOf}
 use Rattle.sort_text.specs.Tokens.{run, past, skip}
 use Rattle.list_tokens.specs.declared.Tokens.{Tokens}
 use Rattle.list_tokens.specs.declared.Start.{Start}
 use Rattle.list_tokens.specs.declared.Start.the-variants.{Skipped, Answer, NewList, Other}
 use Rattle.list_tokens.specs.Words.{kList, kAnswer, kUnit, keywordOf}
 
--- Below 65,536 a token is a word by its place in the list of words, 0 where it is not there. Above, a class and a number:
--- N, sN, nN, vN, eN, and one of the fixed six.
+-- Below 65,536 a token is a word by its place in the list of words, 0 where it is not there. Above, a class and a
+-- number: N, sN, nN, vN, eN, and one of the fixed six.
 abbrev pub number : ℕ
 number = 65536
 
@@ -32,7 +33,13 @@ exprName = 327680
 abbrev pub fixedSort : ℕ
 fixedSort = 393216
 
--- no number
+-- classes are at most so high, numbers are up to mostNumber, and `none` stands for no number
+abbrev pub mostClass : ℕ
+mostClass = 1048576
+
+abbrev pub mostNumber : ℕ
+mostNumber = 65535
+
 abbrev pub none : ℕ
 none = 65536
 
@@ -40,16 +47,16 @@ none = 65536
 unfoldable pub decimal : ℕ → List ℕ → ℕ
 decimal v [] = v
 decimal v (b ∷ bs) =
-    cond (ltb b 48) none
-    (cond (ltb 57 b) none
-    (cond (ltb 65535 (v * 10 + (b - 48))) none (decimal (v * 10 + (b - 48)) bs)))
+    cond (ltb b (byteOf "0")) none
+    (cond (ltb (byteOf "9") b) none
+    (cond (ltb mostNumber (v * 10 + (b - byteOf "0"))) none (decimal (v * 10 + (b - byteOf "0")) bs)))
 
 -- at least one digit, and no zero before another one
 unfoldable pub numberOf : List ℕ → ℕ
 numberOf w =
     cond (eqb (length w) 0) none
     (cond (leb (length w) 1) (decimal 0 w)
-    (cond (eqb (getD w 0 0) 48) none (decimal 0 w)))
+    (cond (eqb (getD w 0 0) (byteOf "0")) none (decimal 0 w)))
 
 -- a number of a class
 unfoldable pub classOf : ℕ → ℕ → ℕ
@@ -59,10 +66,10 @@ classOf class n = cond (ltb n none) (class + n) 0
 unfoldable pub nameOf : List ℕ → ℕ
 nameOf w =
     cond (eqb (length w) 0) 0
-    (cond (eqb (getD w 0 0) 115) (classOf sortName (numberOf (drop 1 w)))
-    (cond (eqb (getD w 0 0) 110) (classOf nodeName (numberOf (drop 1 w)))
-    (cond (eqb (getD w 0 0) 118) (classOf varName (numberOf (drop 1 w)))
-    (cond (eqb (getD w 0 0) 101) (classOf exprName (numberOf (drop 1 w)))
+    (cond (eqb (getD w 0 0) (byteOf "s")) (classOf sortName (numberOf (drop 1 w)))
+    (cond (eqb (getD w 0 0) (byteOf "n")) (classOf nodeName (numberOf (drop 1 w)))
+    (cond (eqb (getD w 0 0) (byteOf "v")) (classOf varName (numberOf (drop 1 w)))
+    (cond (eqb (getD w 0 0) (byteOf "e")) (classOf exprName (numberOf (drop 1 w)))
     (classOf number (numberOf w))))))
 
 -- the number of a word
@@ -74,7 +81,7 @@ tokenOf w = tokenBy (keywordOf w) w
 
 -- the bytes of words
 abbrev pub inWord : ℕ → Bool
-inWord b = not (eqb b 32)
+inWord b = not (eqb b (byteOf " "))
 
 abbrev pub read : List ℕ → ℕ → Tokens
 read values k = record { values = values; count = k }
@@ -86,14 +93,17 @@ tokensFrom (suc m) bs values k =
     cond (eqb (length (skip bs)) 0) (read values k)
     (tokensFrom m (past inWord (skip bs)) (set values k (tokenOf (run inWord (skip bs)))) (k + 1))
 
--- the words of a line, of which a line of at most 200 bytes has at most 100
+-- the words of a line, of which a line of at most maxLine bytes has at most mostWords
+abbrev pub mostWords : ℕ
+mostWords = 100
+
 unfoldable pub tokensOf : List ℕ → Tokens
-tokensOf line = tokensFrom 100 line (replicate 100 0) 0
+tokensOf line = tokensFrom mostWords line (replicate mostWords 0) 0
 
 -- whether all bytes are printable ASCII
 unfoldable pub printableFrom : List ℕ → Bool
 printableFrom [] = true
-printableFrom (b ∷ bs) = cond (ltb b 32) false (cond (ltb 126 b) false (printableFrom bs))
+printableFrom (b ∷ bs) = cond (ltb b (byteOf " ")) false (cond (ltb (byteOf "~") b) false (printableFrom bs))
 
 -- by the first word of a line that has one
 abbrev pub startBy : ℕ → Start
@@ -103,4 +113,4 @@ startBy t = cond (eqb t kAnswer) Answer (cond (eqb t kList) NewList Other)
 unfoldable pub startOf : List ℕ → Start
 startOf line =
     cond (eqb (length (skip line)) 0) Skipped
-    (cond (eqb (getD (skip line) 0 0) 35) Skipped (startBy (tokenOf (run inWord (skip line)))))
+    (cond (eqb (getD (skip line) 0 0) (byteOf "#")) Skipped (startBy (tokenOf (run inWord (skip line)))))

@@ -2,8 +2,6 @@
 use mathlib.Core.Bool.{cond}
 use mathlib.Core.List.{List, [], _∷_, map}
 use Prim.Native.Nat.{ℕ, _+_}
-use Prim.Native.Char.{code}
-use Prim.Native.String.{String, [] as []ˢ, _∷_ as _∷ˢ_}
 use Rattle.sort_text.specs.Parse.{sameBytes}
 use Rattle.text_out.specs.Quoted.{bytesOf}
 
@@ -85,18 +83,6 @@ kAnswer = 25
 abbrev pub kListOf : ℕ
 kListOf = 26
 
-abbrev pub kSetOf : ℕ
-kSetOf = 27
-
-abbrev pub kFSetOf : ℕ
-kFSetOf = 28
-
-abbrev pub kBagOf : ℕ
-kBagOf = 29
-
-abbrev pub kFBagOf : ℕ
-kFBagOf = 30
-
 abbrev pub kFn : ℕ
 kFn = 31
 
@@ -124,17 +110,11 @@ kBuiltin = 38
 abbrev pub kPositive : ℕ
 kPositive = 39
 
-abbrev pub kNatural : ℕ
-kNatural = 40
-
 abbrev pub kSorts : ℕ
 kSorts = 41
 
 abbrev pub kNodes : ℕ
 kNodes = 42
-
-abbrev pub kBindings : ℕ
-kBindings = 43
 
 abbrev pub kExprs : ℕ
 kExprs = 44
@@ -150,18 +130,6 @@ kOverloads = 47
 
 abbrev pub kSources : ℕ
 kSources = 48
-
-abbrev pub kScratch : ℕ
-kScratch = 49
-
-abbrev pub kOutTyping : ℕ
-kOutTyping = 50
-
-abbrev pub kOutMeasure : ℕ
-kOutMeasure = 51
-
-abbrev pub kOutChoices : ℕ
-kOutChoices = 52
 
 abbrev pub kSolve : ℕ
 kSolve = 53

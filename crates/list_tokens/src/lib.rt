@@ -11,11 +11,13 @@ ghost use Rattle.sort_text.specs.Parse.{sameBytes};
 ghost use Rattle.sort_text.specs.Tokens.{past};
 ghost use Rattle.sort_lexer.specs.Lexeme.{place};
 ghost use Rattle.list_tokens.specs.Words.{words, keywordOf};
-ghost use Rattle.list_tokens.specs.Tokens.{decimal, numberOf, classOf, nameOf, tokenOf, inWord, tokensOf, printableFrom, startOf};
+ghost use Rattle.list_tokens.specs.Tokens.{mostClass, decimal, numberOf, classOf, nameOf, tokenOf, inWord};
+ghost use Rattle.list_tokens.specs.Tokens.{tokensOf};
+ghost use Rattle.list_tokens.specs.Tokens.{printableFrom, startOf};
 
 // The words of a line, each as a number, and how many there are.
 pub struct Tokens {
-    pub values: [u32; 100],
+    pub values: [u32; MOST_WORDS],
     pub count: u16,
 }
 
@@ -28,7 +30,7 @@ pub enum Start {
 }
 
 // Where each word begins in the bytes of all, and the last one ends.
-const STARTS: [usize; 65] = [
+const STARTS: [usize; WORDS + 1] = [
     0,
     4,
     8,
@@ -100,13 +102,22 @@ const STARTS: [usize; 65] = [
 fn is_word(w: &[u8], k: usize) -> bool
     ensures { λ r. ⌜ r ≡ sameBytes (now (w .entry)) (getD words k []) ⌝ }
 {
-    if k < 64 {
+    if k < WORDS {
         let from = STARTS[k];
         let to = STARTS[k + 1];
         return same_bytes(
             w,
             between(
-                b"listbaresortentriesnodenode-entriespadvarvarsbindexprnamedefaultceilingscountlendsublitcomprehensiondisjunctionjoinconstraintoverload?=ListSetFSetBagFBagfnDefTypeVarraw->variableopbuiltinpositivenaturalsortsnodesbindingsexprsnamesconstraintsoverloadssourcesscratchout-typingout-measureout-choicessolveunifypartial_cmpmeetwidening_distanceis_materializableunitBoolPosNatIntReal",
+                b"listbare\
+                  sortentriesnodenode-entriespadvarvarsbindexprnamedefaultceilingscountlend\
+                  sublitcomprehensiondisjunctionjoinconstraintoverload\
+                  ?=\
+                  ListSetFSetBagFBagfnDefTypeVarraw->\
+                  variableopbuiltinpositivenatural\
+                  sortsnodesbindingsexprsnamesconstraintsoverloadssources\
+                  scratchout-typingout-measureout-choices\
+                  solveunifypartial_cmpmeetwidening_distanceis_materializable\
+                  unitBoolPosNatIntReal",
                 from,
                 to,
             ),
@@ -120,7 +131,7 @@ fn keyword_of(w: &[u8]) -> u8
     ensures { λ r. ⌜ r ≡ keywordOf (now (w .entry)) ⌝ }
 {
     let mut k: usize = 0;
-    while k < 64 {
+    while k < WORDS {
         if is_word(w, k) {
             return (k as u8) + 1;
         }
@@ -143,15 +154,15 @@ fn digits_of(w: &[u8]) -> u32
     let mut value: u32 = 0;
     while i < w.len() {
         let b = w[i];
-        if b < 48 {
-            return 65536;
+        if b < b'0' {
+            return NO_NUMBER;
         }
-        if 57 < b {
-            return 65536;
+        if b'9' < b {
+            return NO_NUMBER;
         }
-        let next = value * 10 + wide(b - 48);
-        if 65535 < next {
-            return 65536;
+        let next = value * 10 + wide(b - b'0');
+        if MOST_NUMBER < next {
+            return NO_NUMBER;
         }
         value = next;
         i += 1;
@@ -164,23 +175,23 @@ fn number_of(w: &[u8]) -> u32
     ensures { λ r. ⌜ r ≡ numberOf (now (w .entry)) ⌝ }
 {
     if w.len() == 0 {
-        return 65536;
+        return NO_NUMBER;
     }
     if w.len() <= 1 {
         return digits_of(w);
     }
-    if w[0] == 48 {
-        return 65536;
+    if w[0] == b'0' {
+        return NO_NUMBER;
     }
     digits_of(w)
 }
 
 // A number of a class.
 fn classed(class: u32, n: u32) -> u32
-    requires { ⌜ class ≤ 1048576 ⌝ }
+    requires { ⌜ class ≤ mostClass ⌝ }
     ensures { λ r. ⌜ r ≡ classOf class n ⌝ }
 {
-    if n < 65536 { class + n } else { 0 }
+    if n < NO_NUMBER { class + n } else { 0 }
 }
 
 // The number of a name: `sN`, `nN`, `vN`, `eN` or a number alone.
@@ -191,19 +202,19 @@ fn name_of(w: &[u8]) -> u32
         return 0;
     }
     let letter = w[0];
-    if letter == 115 {
-        return classed(131072, number_of(unread(w, 1)));
+    if letter == b's' {
+        return classed(SORT_NAME, number_of(unread(w, 1)));
     }
-    if letter == 110 {
-        return classed(196608, number_of(unread(w, 1)));
+    if letter == b'n' {
+        return classed(NODE_NAME, number_of(unread(w, 1)));
     }
-    if letter == 118 {
-        return classed(262144, number_of(unread(w, 1)));
+    if letter == b'v' {
+        return classed(VAR_NAME, number_of(unread(w, 1)));
     }
-    if letter == 101 {
-        return classed(327680, number_of(unread(w, 1)));
+    if letter == b'e' {
+        return classed(EXPR_NAME, number_of(unread(w, 1)));
     }
-    classed(65536, number_of(w))
+    classed(NUMBER, number_of(w))
 }
 
 // The number of a word.
@@ -214,10 +225,10 @@ fn token_of(w: &[u8]) -> u32
     if k == 0 {
         return name_of(w);
     }
-    if k < 59 {
+    if k < K_UNIT {
         return k;
     }
-    393216 + (k - 59)
+    FIXED_SORT + (k - K_UNIT)
 }
 
 // The end of the word from `at` on.
@@ -226,7 +237,7 @@ fn word_end(line: &[u8], at: usize) -> usize
 {
     let mut i = at;
     while i < line.len() {
-        if line[i] == 32 {
+        if line[i] == b' ' {
             return i;
         }
         i += 1;
@@ -234,14 +245,14 @@ fn word_end(line: &[u8], at: usize) -> usize
     line.len()
 }
 
-// The words of a line, 100 at most.
+// The words of a line, MOST_WORDS at most.
 pub fn tokens_of(line: &[u8]) -> Tokens
     ensures { λ r. ⌜ r ≡ tokensOf (now (line .entry)) ⌝ }
 {
-    let mut values = [0u32; 100];
+    let mut values = [0u32; MOST_WORDS];
     let mut count: usize = 0;
     let mut at: usize = 0;
-    while count < 100 {
+    while count < MOST_WORDS {
         let from = skip_spaces(line, at);
         if line.len() <= from {
             return Tokens {
@@ -267,10 +278,10 @@ pub fn printable(line: &[u8]) -> bool
     let mut i: usize = 0;
     while i < line.len() {
         let b = line[i];
-        if b < 32 {
+        if b < b' ' {
             return false;
         }
-        if 126 < b {
+        if b'~' < b {
             return false;
         }
         i += 1;
@@ -286,16 +297,132 @@ pub fn start_of(line: &[u8]) -> Start
     if line.len() <= from {
         return Start::Skipped;
     }
-    if line[from] == 35 {
+    if line[from] == b'#' {
         return Start::Skipped;
     }
     let to = word_end(line, from);
     let word = token_of(between(line, from, to));
-    if word == 25 {
+    if word == K_ANSWER {
         return Start::Answer;
     }
-    if word == 1 {
+    if word == K_LIST {
         return Start::NewList;
     }
     Start::Other
 }
+
+// A line of at most MAX_LINE bytes has at most so many words.
+const MOST_WORDS: usize = 100;
+
+// The classes of words that are a number or a name with one. Below them a word is known by its place in the list of
+// words, from 1 on.
+pub const NUMBER: u32 = 65536;
+
+pub const SORT_NAME: u32 = 131072;
+
+pub const NODE_NAME: u32 = 196608;
+
+pub const VAR_NAME: u32 = 262144;
+
+pub const EXPR_NAME: u32 = 327680;
+
+pub const FIXED_SORT: u32 = 393216;
+
+// The greatest number, and what stands for none.
+const MOST_NUMBER: u32 = 65535;
+
+const NO_NUMBER: u32 = 65536;
+
+// How many words there are in the list of words.
+const WORDS: usize = 64;
+
+// Words of the list by their place; those of the fixed six sorts begin at K_UNIT.
+const K_LIST: u32 = 1;
+
+pub const K_BARE: u32 = 2;
+
+pub const K_SORT: u32 = 3;
+
+pub const K_ENTRIES: u32 = 4;
+
+pub const K_NODE: u32 = 5;
+
+pub const K_NODE_ENTRIES: u32 = 6;
+
+pub const K_PAD: u32 = 7;
+
+pub const K_VAR: u32 = 8;
+
+pub const K_VARS: u32 = 9;
+
+pub const K_BIND: u32 = 10;
+
+pub const K_EXPR: u32 = 11;
+
+pub const K_NAME: u32 = 12;
+
+pub const K_DEFAULT: u32 = 13;
+
+pub const K_CEILINGS: u32 = 14;
+
+pub const K_COUNT: u32 = 15;
+
+pub const K_LEND: u32 = 16;
+
+pub const K_SUB: u32 = 17;
+
+pub const K_LIT: u32 = 18;
+
+pub const K_COMPREHENSION: u32 = 19;
+
+pub const K_DISJUNCTION: u32 = 20;
+
+pub const K_JOIN: u32 = 21;
+
+pub const K_CONSTRAINT: u32 = 22;
+
+pub const K_OVERLOAD: u32 = 23;
+
+pub const K_ASK: u32 = 24;
+
+const K_ANSWER: u32 = 25;
+
+pub const K_LIST_OF: u32 = 26;
+
+pub const K_FN: u32 = 31;
+
+pub const K_DEF: u32 = 32;
+
+pub const K_TYPE_VAR: u32 = 33;
+
+pub const K_RAW: u32 = 34;
+
+pub const K_ARROW: u32 = 35;
+
+pub const K_VARIABLE: u32 = 36;
+
+pub const K_OP: u32 = 37;
+
+pub const K_BUILTIN: u32 = 38;
+
+pub const K_POSITIVE: u32 = 39;
+
+pub const K_SORTS: u32 = 41;
+
+pub const K_NODES: u32 = 42;
+
+pub const K_SOURCES: u32 = 48;
+
+pub const K_SOLVE: u32 = 53;
+
+pub const K_UNIFY: u32 = 54;
+
+pub const K_PARTIAL_CMP: u32 = 55;
+
+pub const K_MEET: u32 = 56;
+
+pub const K_WIDENING_DISTANCE: u32 = 57;
+
+pub const K_IS_MATERIALIZABLE: u32 = 58;
+
+const K_UNIT: u32 = 59;

@@ -4,9 +4,10 @@ use mathlib.Core.List.{List}
 use Prim.Native.Nat.{ℕ}
 use lib.ListN.{replicate}
 use Rattle.resolved_sort.specs.declared.Counts.{Counts}
+use Rattle.resolved_sort.specs.Storage.{maxSorts}
 use Rattle.resolved_sort.specs.Rows.{Checked}
 use Rattle.sort_writer.specs.Sizes.{sizesTo}
 
 pub record SizesOf (ws : List ℕ) (k : Counts) (zs : List ℕ) : Type 0 where
   pub checked : Checked ws (k .sorts) (k .entries)
-  pub sizes : zs ≡ sizesTo ws (replicate 1024 0) (k .sorts)
+  pub sizes : zs ≡ sizesTo ws (replicate maxSorts 0) (k .sorts)

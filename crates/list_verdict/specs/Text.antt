@@ -8,7 +8,10 @@ use Rattle.resolved_sort.specs.Tree.{Tree}
 use Rattle.resolved_sort.specs.Storage.{kindAt, partAt, startAt, countAt, entryAt, functionKind}
 use Rattle.resolved_sort.specs.Entries.{treeAt}
 use Rattle.sort_text.specs.Text.{writable, text, arrow}
-use Rattle.list_verdict.specs.Words.{kindWord, message, variableText, builtinText, opText, measureText, choicesText, noneText, newText}
+use Rattle.list_verdict.specs.Words.{kindWord, message, variableText, builtinText, opText, measureText}
+use Rattle.list_verdict.specs.Words.{choicesText, noneText, newText}
+use Rattle.sort_text.specs.Reading.{maxLine}
+use Rattle.text_out.specs.Quoted.{byteOf, bytesOf}
 use Rattle.text_out.specs.Decimal.{decimal}
 
 -- the texts of the m rows from i on, one after another
@@ -22,15 +25,15 @@ name letter n = letter ∷ decimal n
 
 -- a sort as the format names it: one of the fixed six by its word
 unfoldable pub sortName : ℕ → List ℕ
-sortName s = cond (ltb s 6) (kindWord s) (name 115 s)
+sortName s = cond (ltb s 6) (kindWord s) (name (byteOf "s") s)
 
--- a sort that has a text of at most 200 bytes
+-- a sort that has a text as long as a line may be
 unfoldable pub short : Tree → Bool
-short t = writable t && leb (length (text t)) 200
+short t = writable t && leb (length (text t)) maxLine
 
 -- in mCRL2 spelling, or the number
 abbrev pub textOr : Tree → ℕ → List ℕ
-textOr t s = cond (short t) (text t) (name 115 s)
+textOr t s = cond (short t) (text t) (name (byteOf "s") s)
 
 -- of n sorts in the words ws
 module _ (ws : List ℕ) (n : ℕ) where
@@ -45,48 +48,52 @@ module _ (ws : List ℕ) (n : ℕ) where
   -- `e1: FSet(Nat), variable`: the i-th expression of a typing
   unfoldable pub exprLine : List ℕ → ℕ → List ℕ
   exprLine ts i =
-      name 101 i
-      ++ (58 ∷ 32 ∷ (sortText (getD ts (3 * i) 0) ++ (targetText (getD ts (3 * i + 1) 0) (getD ts (3 * i + 2) 0) ++ (10 ∷ []))))
+      name (byteOf "e") i
+      ++ (bytesOf ": "
+      ++ (sortText (getD ts (3 * i) 0)
+      ++ (targetText (getD ts (3 * i + 1) 0) (getD ts (3 * i + 2) 0) ++ bytesOf "\n")))
 
 -- a comma and a space before all but the first
 unfoldable pub comma : ℕ → List ℕ
-comma i = cond (eqb i 0) [] (44 ∷ 32 ∷ [])
+comma i = cond (eqb i 0) [] (bytesOf ", ")
 
 -- `measure [1, 0]`
 unfoldable pub component : List ℕ → ℕ → List ℕ
 component ms i = comma i ++ decimal (getD ms i 0)
 
 unfoldable pub measureLine : List ℕ → ℕ → List ℕ
-measureLine ms m = measureText ++ (rowsText (component ms) m 0 ++ (93 ∷ 10 ∷ []))
+measureLine ms m = measureText ++ (rowsText (component ms) m 0 ++ bytesOf "]\n")
 
 -- `choices e1 0, e4 2`, `choices none`
 unfoldable pub choice : List ℕ → ℕ → List ℕ
-choice cs i = comma i ++ (name 101 (getD cs (2 * i) 0) ++ (32 ∷ decimal (getD cs (2 * i + 1) 0)))
+choice cs i = comma i ++ (name (byteOf "e") (getD cs (2 * i) 0) ++ (bytesOf " " ++ decimal (getD cs (2 * i + 1) 0)))
 
 unfoldable pub choiceList : List ℕ → ℕ → List ℕ
 choiceList cs m = cond (eqb m 0) noneText (rowsText (choice cs) m 0)
 
 unfoldable pub choicesLine : List ℕ → ℕ → List ℕ
-choicesLine cs m = choicesText ++ (choiceList cs m ++ (10 ∷ []))
+choicesLine cs m = choicesText ++ (choiceList cs m ++ bytesOf "\n")
 
 -- the row of a sort in the words of a `sort` line: `Set Pos`, `fn Bool s6 -> Nat`, `Def 5`
 unfoldable pub argument : List ℕ → ℕ → List ℕ
-argument ws j = 32 ∷ sortName (entryAt ws j)
+argument ws j = bytesOf " " ++ sortName (entryAt ws j)
 
 unfoldable pub parts : List ℕ → ℕ → List ℕ
 parts ws i =
     cond (ltb (kindAt ws i) 6) []
-    (cond (ltb (kindAt ws i) functionKind) (32 ∷ sortName (partAt ws i))
-    (cond (eqb (kindAt ws i) functionKind) (rowsText (argument ws) (countAt ws i) (startAt ws i) ++ (arrow ++ sortName (partAt ws i)))
-    (32 ∷ decimal (partAt ws i))))
+    (cond (ltb (kindAt ws i) functionKind) (bytesOf " " ++ sortName (partAt ws i))
+    (cond (eqb (kindAt ws i) functionKind)
+    (rowsText (argument ws) (countAt ws i) (startAt ws i) ++ (arrow ++ sortName (partAt ws i)))
+    (bytesOf " " ++ decimal (partAt ws i))))
 
 -- `new s6 Set Pos`
 unfoldable pub newLine : List ℕ → ℕ → List ℕ
-newLine ws i = newText ++ (name 115 i ++ (32 ∷ (kindWord (kindAt ws i) ++ (parts ws i ++ (10 ∷ [])))))
+newLine ws i =
+    newText ++ (name (byteOf "s") i ++ (bytesOf " " ++ (kindWord (kindAt ws i) ++ (parts ws i ++ bytesOf "\n"))))
 
 -- `17 no typing found`
 unfoldable pub verdictLine : ℕ → List ℕ
-verdictLine code = decimal code ++ (32 ∷ (message code ++ (10 ∷ [])))
+verdictLine code = decimal code ++ (bytesOf " " ++ (message code ++ bytesOf "\n"))
 
 -- the sorts from the g-th up to the n-th
 unfoldable pub newLines : List ℕ → ℕ → ℕ → List ℕ

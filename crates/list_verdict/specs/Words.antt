@@ -1,93 +1,67 @@
 -- The words that a verdict is told in, as bytes.
-use mathlib.Core.List.{List, [], _∷_}
+use mathlib.Core.List.{List, [], _∷_, _++_}
 use Prim.Native.Nat.{ℕ}
 use lib.ListN.{getD}
+use Rattle.text_out.specs.Quoted.{bytesOf}
 
--- The kinds of sorts by number, as a `sort` line of the text format has them; the last is TypeVar. The numbers of the fixed six sorts agree with their kinds.
+-- The kinds of sorts by number, as a `sort` line of the text format has them; the last is TypeVar. The numbers of the
+-- fixed six sorts agree with their kinds.
 abbrev pub kindWords : List (List ℕ)
 kindWords =
-    (117 ∷ 110 ∷ 105 ∷ 116 ∷ [])
-    ∷ (66 ∷ 111 ∷ 111 ∷ 108 ∷ [])
-    ∷ (80 ∷ 111 ∷ 115 ∷ [])
-    ∷ (78 ∷ 97 ∷ 116 ∷ [])
-    ∷ (73 ∷ 110 ∷ 116 ∷ [])
-    ∷ (82 ∷ 101 ∷ 97 ∷ 108 ∷ [])
-    ∷ (76 ∷ 105 ∷ 115 ∷ 116 ∷ [])
-    ∷ (83 ∷ 101 ∷ 116 ∷ [])
-    ∷ (70 ∷ 83 ∷ 101 ∷ 116 ∷ [])
-    ∷ (66 ∷ 97 ∷ 103 ∷ [])
-    ∷ (70 ∷ 66 ∷ 97 ∷ 103 ∷ [])
-    ∷ (102 ∷ 110 ∷ [])
-    ∷ (68 ∷ 101 ∷ 102 ∷ [])
+    bytesOf "unit" ∷ bytesOf "Bool" ∷ bytesOf "Pos" ∷ bytesOf "Nat" ∷ bytesOf "Int" ∷ bytesOf "Real"
+    ∷ bytesOf "List" ∷ bytesOf "Set" ∷ bytesOf "FSet" ∷ bytesOf "Bag" ∷ bytesOf "FBag" ∷ bytesOf "fn" ∷ bytesOf "Def"
     ∷ []
 
 unfoldable pub kindWord : ℕ → List ℕ
-kindWord kind = getD kindWords kind (84 ∷ 121 ∷ 112 ∷ 101 ∷ 86 ∷ 97 ∷ 114 ∷ [])
+kindWord kind = getD kindWords kind (bytesOf "TypeVar")
 
--- What document 01's verdict codes say, shortened; 13 is not one of the solver's.
--- 0 a typing
--- 1 a list is above its ceiling or longer than what is lent for it
--- 2 the first six sorts are not unit, Bool, Pos, Nat, Int, Real
--- 3 a sort has an unknown kind, above 16 arguments, a run off its list or a part not below it
--- 4 two sorts are equal
--- 5 a node has an unknown kind, above 16 arguments, a run off its list, or a part or variable that is not there
--- 6 a binding names neither a sort nor a node
--- 7 a variable reaches itself
--- 8 a place of an expression, or a base name, names nothing
--- 9 a constraint has an unknown kind, a run off its list, or names what is not there
--- 10 two disjunctions, or two base names, are for one expression
--- 11 a join has no sources, or there are more than 256 components
--- 12 the default sort is not in the list
--- 14 an output, the scratch, or the storage of sorts or nodes is too short
--- 15 the search has no room for a new sort
--- 16 the search has no room for a new node
--- 17 no typing found
--- 18 ambiguous: several leaves have the least measure
+-- What document 01's verdict codes say, shortened, from 0 on; 13 is not one of the solver's.
 abbrev pub messages : List (List ℕ)
 messages =
-    (97 ∷ 32 ∷ 116 ∷ 121 ∷ 112 ∷ 105 ∷ 110 ∷ 103 ∷ [])
-    ∷ (97 ∷ 32 ∷ 108 ∷ 105 ∷ 115 ∷ 116 ∷ 32 ∷ 105 ∷ 115 ∷ 32 ∷ 97 ∷ 98 ∷ 111 ∷ 118 ∷ 101 ∷ 32 ∷ 105 ∷ 116 ∷ 115 ∷ 32 ∷ 99 ∷ 101 ∷ 105 ∷ 108 ∷ 105 ∷ 110 ∷ 103 ∷ 32 ∷ 111 ∷ 114 ∷ 32 ∷ 108 ∷ 111 ∷ 110 ∷ 103 ∷ 101 ∷ 114 ∷ 32 ∷ 116 ∷ 104 ∷ 97 ∷ 110 ∷ 32 ∷ 119 ∷ 104 ∷ 97 ∷ 116 ∷ 32 ∷ 105 ∷ 115 ∷ 32 ∷ 108 ∷ 101 ∷ 110 ∷ 116 ∷ 32 ∷ 102 ∷ 111 ∷ 114 ∷ 32 ∷ 105 ∷ 116 ∷ [])
-    ∷ (116 ∷ 104 ∷ 101 ∷ 32 ∷ 102 ∷ 105 ∷ 114 ∷ 115 ∷ 116 ∷ 32 ∷ 115 ∷ 105 ∷ 120 ∷ 32 ∷ 115 ∷ 111 ∷ 114 ∷ 116 ∷ 115 ∷ 32 ∷ 97 ∷ 114 ∷ 101 ∷ 32 ∷ 110 ∷ 111 ∷ 116 ∷ 32 ∷ 117 ∷ 110 ∷ 105 ∷ 116 ∷ 44 ∷ 32 ∷ 66 ∷ 111 ∷ 111 ∷ 108 ∷ 44 ∷ 32 ∷ 80 ∷ 111 ∷ 115 ∷ 44 ∷ 32 ∷ 78 ∷ 97 ∷ 116 ∷ 44 ∷ 32 ∷ 73 ∷ 110 ∷ 116 ∷ 44 ∷ 32 ∷ 82 ∷ 101 ∷ 97 ∷ 108 ∷ [])
-    ∷ (97 ∷ 32 ∷ 115 ∷ 111 ∷ 114 ∷ 116 ∷ 32 ∷ 104 ∷ 97 ∷ 115 ∷ 32 ∷ 97 ∷ 110 ∷ 32 ∷ 117 ∷ 110 ∷ 107 ∷ 110 ∷ 111 ∷ 119 ∷ 110 ∷ 32 ∷ 107 ∷ 105 ∷ 110 ∷ 100 ∷ 44 ∷ 32 ∷ 97 ∷ 98 ∷ 111 ∷ 118 ∷ 101 ∷ 32 ∷ 49 ∷ 54 ∷ 32 ∷ 97 ∷ 114 ∷ 103 ∷ 117 ∷ 109 ∷ 101 ∷ 110 ∷ 116 ∷ 115 ∷ 44 ∷ 32 ∷ 97 ∷ 32 ∷ 114 ∷ 117 ∷ 110 ∷ 32 ∷ 111 ∷ 102 ∷ 102 ∷ 32 ∷ 105 ∷ 116 ∷ 115 ∷ 32 ∷ 108 ∷ 105 ∷ 115 ∷ 116 ∷ 32 ∷ 111 ∷ 114 ∷ 32 ∷ 97 ∷ 32 ∷ 112 ∷ 97 ∷ 114 ∷ 116 ∷ 32 ∷ 110 ∷ 111 ∷ 116 ∷ 32 ∷ 98 ∷ 101 ∷ 108 ∷ 111 ∷ 119 ∷ 32 ∷ 105 ∷ 116 ∷ [])
-    ∷ (116 ∷ 119 ∷ 111 ∷ 32 ∷ 115 ∷ 111 ∷ 114 ∷ 116 ∷ 115 ∷ 32 ∷ 97 ∷ 114 ∷ 101 ∷ 32 ∷ 101 ∷ 113 ∷ 117 ∷ 97 ∷ 108 ∷ [])
-    ∷ (97 ∷ 32 ∷ 110 ∷ 111 ∷ 100 ∷ 101 ∷ 32 ∷ 104 ∷ 97 ∷ 115 ∷ 32 ∷ 97 ∷ 110 ∷ 32 ∷ 117 ∷ 110 ∷ 107 ∷ 110 ∷ 111 ∷ 119 ∷ 110 ∷ 32 ∷ 107 ∷ 105 ∷ 110 ∷ 100 ∷ 44 ∷ 32 ∷ 97 ∷ 98 ∷ 111 ∷ 118 ∷ 101 ∷ 32 ∷ 49 ∷ 54 ∷ 32 ∷ 97 ∷ 114 ∷ 103 ∷ 117 ∷ 109 ∷ 101 ∷ 110 ∷ 116 ∷ 115 ∷ 44 ∷ 32 ∷ 97 ∷ 32 ∷ 114 ∷ 117 ∷ 110 ∷ 32 ∷ 111 ∷ 102 ∷ 102 ∷ 32 ∷ 105 ∷ 116 ∷ 115 ∷ 32 ∷ 108 ∷ 105 ∷ 115 ∷ 116 ∷ 44 ∷ 32 ∷ 111 ∷ 114 ∷ 32 ∷ 97 ∷ 32 ∷ 112 ∷ 97 ∷ 114 ∷ 116 ∷ 32 ∷ 111 ∷ 114 ∷ 32 ∷ 118 ∷ 97 ∷ 114 ∷ 105 ∷ 97 ∷ 98 ∷ 108 ∷ 101 ∷ 32 ∷ 116 ∷ 104 ∷ 97 ∷ 116 ∷ 32 ∷ 105 ∷ 115 ∷ 32 ∷ 110 ∷ 111 ∷ 116 ∷ 32 ∷ 116 ∷ 104 ∷ 101 ∷ 114 ∷ 101 ∷ [])
-    ∷ (97 ∷ 32 ∷ 98 ∷ 105 ∷ 110 ∷ 100 ∷ 105 ∷ 110 ∷ 103 ∷ 32 ∷ 110 ∷ 97 ∷ 109 ∷ 101 ∷ 115 ∷ 32 ∷ 110 ∷ 101 ∷ 105 ∷ 116 ∷ 104 ∷ 101 ∷ 114 ∷ 32 ∷ 97 ∷ 32 ∷ 115 ∷ 111 ∷ 114 ∷ 116 ∷ 32 ∷ 110 ∷ 111 ∷ 114 ∷ 32 ∷ 97 ∷ 32 ∷ 110 ∷ 111 ∷ 100 ∷ 101 ∷ [])
-    ∷ (97 ∷ 32 ∷ 118 ∷ 97 ∷ 114 ∷ 105 ∷ 97 ∷ 98 ∷ 108 ∷ 101 ∷ 32 ∷ 114 ∷ 101 ∷ 97 ∷ 99 ∷ 104 ∷ 101 ∷ 115 ∷ 32 ∷ 105 ∷ 116 ∷ 115 ∷ 101 ∷ 108 ∷ 102 ∷ [])
-    ∷ (97 ∷ 32 ∷ 112 ∷ 108 ∷ 97 ∷ 99 ∷ 101 ∷ 32 ∷ 111 ∷ 102 ∷ 32 ∷ 97 ∷ 110 ∷ 32 ∷ 101 ∷ 120 ∷ 112 ∷ 114 ∷ 101 ∷ 115 ∷ 115 ∷ 105 ∷ 111 ∷ 110 ∷ 44 ∷ 32 ∷ 111 ∷ 114 ∷ 32 ∷ 97 ∷ 32 ∷ 98 ∷ 97 ∷ 115 ∷ 101 ∷ 32 ∷ 110 ∷ 97 ∷ 109 ∷ 101 ∷ 44 ∷ 32 ∷ 110 ∷ 97 ∷ 109 ∷ 101 ∷ 115 ∷ 32 ∷ 110 ∷ 111 ∷ 116 ∷ 104 ∷ 105 ∷ 110 ∷ 103 ∷ [])
-    ∷ (97 ∷ 32 ∷ 99 ∷ 111 ∷ 110 ∷ 115 ∷ 116 ∷ 114 ∷ 97 ∷ 105 ∷ 110 ∷ 116 ∷ 32 ∷ 104 ∷ 97 ∷ 115 ∷ 32 ∷ 97 ∷ 110 ∷ 32 ∷ 117 ∷ 110 ∷ 107 ∷ 110 ∷ 111 ∷ 119 ∷ 110 ∷ 32 ∷ 107 ∷ 105 ∷ 110 ∷ 100 ∷ 44 ∷ 32 ∷ 97 ∷ 32 ∷ 114 ∷ 117 ∷ 110 ∷ 32 ∷ 111 ∷ 102 ∷ 102 ∷ 32 ∷ 105 ∷ 116 ∷ 115 ∷ 32 ∷ 108 ∷ 105 ∷ 115 ∷ 116 ∷ 44 ∷ 32 ∷ 111 ∷ 114 ∷ 32 ∷ 110 ∷ 97 ∷ 109 ∷ 101 ∷ 115 ∷ 32 ∷ 119 ∷ 104 ∷ 97 ∷ 116 ∷ 32 ∷ 105 ∷ 115 ∷ 32 ∷ 110 ∷ 111 ∷ 116 ∷ 32 ∷ 116 ∷ 104 ∷ 101 ∷ 114 ∷ 101 ∷ [])
-    ∷ (116 ∷ 119 ∷ 111 ∷ 32 ∷ 100 ∷ 105 ∷ 115 ∷ 106 ∷ 117 ∷ 110 ∷ 99 ∷ 116 ∷ 105 ∷ 111 ∷ 110 ∷ 115 ∷ 44 ∷ 32 ∷ 111 ∷ 114 ∷ 32 ∷ 116 ∷ 119 ∷ 111 ∷ 32 ∷ 98 ∷ 97 ∷ 115 ∷ 101 ∷ 32 ∷ 110 ∷ 97 ∷ 109 ∷ 101 ∷ 115 ∷ 44 ∷ 32 ∷ 97 ∷ 114 ∷ 101 ∷ 32 ∷ 102 ∷ 111 ∷ 114 ∷ 32 ∷ 111 ∷ 110 ∷ 101 ∷ 32 ∷ 101 ∷ 120 ∷ 112 ∷ 114 ∷ 101 ∷ 115 ∷ 115 ∷ 105 ∷ 111 ∷ 110 ∷ [])
-    ∷ (97 ∷ 32 ∷ 106 ∷ 111 ∷ 105 ∷ 110 ∷ 32 ∷ 104 ∷ 97 ∷ 115 ∷ 32 ∷ 110 ∷ 111 ∷ 32 ∷ 115 ∷ 111 ∷ 117 ∷ 114 ∷ 99 ∷ 101 ∷ 115 ∷ 44 ∷ 32 ∷ 111 ∷ 114 ∷ 32 ∷ 116 ∷ 104 ∷ 101 ∷ 114 ∷ 101 ∷ 32 ∷ 97 ∷ 114 ∷ 101 ∷ 32 ∷ 109 ∷ 111 ∷ 114 ∷ 101 ∷ 32 ∷ 116 ∷ 104 ∷ 97 ∷ 110 ∷ 32 ∷ 50 ∷ 53 ∷ 54 ∷ 32 ∷ 99 ∷ 111 ∷ 109 ∷ 112 ∷ 111 ∷ 110 ∷ 101 ∷ 110 ∷ 116 ∷ 115 ∷ [])
-    ∷ (116 ∷ 104 ∷ 101 ∷ 32 ∷ 100 ∷ 101 ∷ 102 ∷ 97 ∷ 117 ∷ 108 ∷ 116 ∷ 32 ∷ 115 ∷ 111 ∷ 114 ∷ 116 ∷ 32 ∷ 105 ∷ 115 ∷ 32 ∷ 110 ∷ 111 ∷ 116 ∷ 32 ∷ 105 ∷ 110 ∷ 32 ∷ 116 ∷ 104 ∷ 101 ∷ 32 ∷ 108 ∷ 105 ∷ 115 ∷ 116 ∷ [])
+    bytesOf "a typing"
+    ∷ bytesOf "a list is above its ceiling or longer than what is lent for it"
+    ∷ bytesOf "the first six sorts are not unit, Bool, Pos, Nat, Int, Real"
+    ∷ bytesOf "a sort has an unknown kind, above 16 arguments, a run off its list or a part not below it"
+    ∷ bytesOf "two sorts are equal"
+    ∷ (bytesOf "a node has an unknown kind, above 16 arguments, a run off its list, or a part or variable that is "
+    ++ bytesOf "not there")
+    ∷ bytesOf "a binding names neither a sort nor a node"
+    ∷ bytesOf "a variable reaches itself"
+    ∷ bytesOf "a place of an expression, or a base name, names nothing"
+    ∷ bytesOf "a constraint has an unknown kind, a run off its list, or names what is not there"
+    ∷ bytesOf "two disjunctions, or two base names, are for one expression"
+    ∷ bytesOf "a join has no sources, or there are more than 256 components"
+    ∷ bytesOf "the default sort is not in the list"
     ∷ []
-    ∷ (97 ∷ 110 ∷ 32 ∷ 111 ∷ 117 ∷ 116 ∷ 112 ∷ 117 ∷ 116 ∷ 44 ∷ 32 ∷ 116 ∷ 104 ∷ 101 ∷ 32 ∷ 115 ∷ 99 ∷ 114 ∷ 97 ∷ 116 ∷ 99 ∷ 104 ∷ 44 ∷ 32 ∷ 111 ∷ 114 ∷ 32 ∷ 116 ∷ 104 ∷ 101 ∷ 32 ∷ 115 ∷ 116 ∷ 111 ∷ 114 ∷ 97 ∷ 103 ∷ 101 ∷ 32 ∷ 111 ∷ 102 ∷ 32 ∷ 115 ∷ 111 ∷ 114 ∷ 116 ∷ 115 ∷ 32 ∷ 111 ∷ 114 ∷ 32 ∷ 110 ∷ 111 ∷ 100 ∷ 101 ∷ 115 ∷ 32 ∷ 105 ∷ 115 ∷ 32 ∷ 116 ∷ 111 ∷ 111 ∷ 32 ∷ 115 ∷ 104 ∷ 111 ∷ 114 ∷ 116 ∷ [])
-    ∷ (116 ∷ 104 ∷ 101 ∷ 32 ∷ 115 ∷ 101 ∷ 97 ∷ 114 ∷ 99 ∷ 104 ∷ 32 ∷ 104 ∷ 97 ∷ 115 ∷ 32 ∷ 110 ∷ 111 ∷ 32 ∷ 114 ∷ 111 ∷ 111 ∷ 109 ∷ 32 ∷ 102 ∷ 111 ∷ 114 ∷ 32 ∷ 97 ∷ 32 ∷ 110 ∷ 101 ∷ 119 ∷ 32 ∷ 115 ∷ 111 ∷ 114 ∷ 116 ∷ [])
-    ∷ (116 ∷ 104 ∷ 101 ∷ 32 ∷ 115 ∷ 101 ∷ 97 ∷ 114 ∷ 99 ∷ 104 ∷ 32 ∷ 104 ∷ 97 ∷ 115 ∷ 32 ∷ 110 ∷ 111 ∷ 32 ∷ 114 ∷ 111 ∷ 111 ∷ 109 ∷ 32 ∷ 102 ∷ 111 ∷ 114 ∷ 32 ∷ 97 ∷ 32 ∷ 110 ∷ 101 ∷ 119 ∷ 32 ∷ 110 ∷ 111 ∷ 100 ∷ 101 ∷ [])
-    ∷ (110 ∷ 111 ∷ 32 ∷ 116 ∷ 121 ∷ 112 ∷ 105 ∷ 110 ∷ 103 ∷ 32 ∷ 102 ∷ 111 ∷ 117 ∷ 110 ∷ 100 ∷ [])
-    ∷ (97 ∷ 109 ∷ 98 ∷ 105 ∷ 103 ∷ 117 ∷ 111 ∷ 117 ∷ 115 ∷ 58 ∷ 32 ∷ 115 ∷ 101 ∷ 118 ∷ 101 ∷ 114 ∷ 97 ∷ 108 ∷ 32 ∷ 108 ∷ 101 ∷ 97 ∷ 118 ∷ 101 ∷ 115 ∷ 32 ∷ 104 ∷ 97 ∷ 118 ∷ 101 ∷ 32 ∷ 116 ∷ 104 ∷ 101 ∷ 32 ∷ 108 ∷ 101 ∷ 97 ∷ 115 ∷ 116 ∷ 32 ∷ 109 ∷ 101 ∷ 97 ∷ 115 ∷ 117 ∷ 114 ∷ 101 ∷ [])
+    ∷ bytesOf "an output, the scratch, or the storage of sorts or nodes is too short"
+    ∷ bytesOf "the search has no room for a new sort"
+    ∷ bytesOf "the search has no room for a new node"
+    ∷ bytesOf "no typing found"
+    ∷ bytesOf "ambiguous: several leaves have the least measure"
     ∷ []
 
 unfoldable pub message : ℕ → List ℕ
 message code = getD messages code []
 
--- `, variable`, `, builtin`, `, op `
+-- what a name resolved to
 abbrev pub variableText : List ℕ
-variableText = 44 ∷ 32 ∷ 118 ∷ 97 ∷ 114 ∷ 105 ∷ 97 ∷ 98 ∷ 108 ∷ 101 ∷ []
+variableText = bytesOf ", variable"
 
 abbrev pub builtinText : List ℕ
-builtinText = 44 ∷ 32 ∷ 98 ∷ 117 ∷ 105 ∷ 108 ∷ 116 ∷ 105 ∷ 110 ∷ []
+builtinText = bytesOf ", builtin"
 
 abbrev pub opText : List ℕ
-opText = 44 ∷ 32 ∷ 111 ∷ 112 ∷ 32 ∷ []
+opText = bytesOf ", op "
 
--- `measure [`, `choices `, `none`, `new `
+-- what the lines of a verdict begin with, and no choices
 abbrev pub measureText : List ℕ
-measureText = 109 ∷ 101 ∷ 97 ∷ 115 ∷ 117 ∷ 114 ∷ 101 ∷ 32 ∷ 91 ∷ []
+measureText = bytesOf "measure ["
 
 abbrev pub choicesText : List ℕ
-choicesText = 99 ∷ 104 ∷ 111 ∷ 105 ∷ 99 ∷ 101 ∷ 115 ∷ 32 ∷ []
+choicesText = bytesOf "choices "
 
 abbrev pub noneText : List ℕ
-noneText = 110 ∷ 111 ∷ 110 ∷ 101 ∷ []
+noneText = bytesOf "none"
 
 abbrev pub newText : List ℕ
-newText = 110 ∷ 101 ∷ 119 ∷ 32 ∷ []
+newText = bytesOf "new "

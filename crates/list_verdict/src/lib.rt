@@ -1,7 +1,12 @@
-// The text of a verdict of the solver: the line of its code; under a typing a line for each expression, the measure and the choices; and a
-// line for each sort that was made. Text goes into the lent buffer as far as it has room: no length has to be known before.
+// The text of a verdict of the solver: the line of its code; under a typing a line for each expression, the measure and
+// the choices; and a line for each sort that was made. Text goes into the lent buffer as far as it has room: no length
+// has to be known before.
 use resolved_sort::Counts;
+use resolved_sort::ENTRIES_AT;
+use resolved_sort::FUNCTION_KIND;
+use resolved_sort::MAX_SORTS;
 use resolved_sort::SortId;
+use sort_text::MAX_LINE;
 use sort_writer::fill_sizes;
 use sort_writer::put_sort;
 use sort_writer::size_at;
@@ -13,7 +18,9 @@ ghost use Prim.Native.Nat.{_+_, _*_, _<_, _≤_};
 ghost use Rattle.resolved_sort.specs.Rows.{Checked};
 ghost use Rattle.text_out.specs.Within.{PutWithin};
 ghost use Rattle.list_verdict.specs.Words.{kindWord, message};
-ghost use Rattle.list_verdict.specs.Text.{rowsText, name, sortName, sortText, targetText, exprLine, comma, component, measureLine, choice, choiceList, choicesLine, argument, parts, newLine, verdictLine, newLines, typingText};
+ghost use Rattle.list_verdict.specs.Text.{rowsText, name, sortName, sortText, targetText, exprLine, comma};
+ghost use Rattle.list_verdict.specs.Text.{component, measureLine, choice, choiceList, choicesLine, argument};
+ghost use Rattle.list_verdict.specs.Text.{parts, newLine, verdictLine, newLines, typingText};
 ghost use Rattle.list_verdict.specs.Room.{SizesOf};
 
 // A letter and a number.
@@ -82,7 +89,8 @@ fn put_early(code: u16, out: &mut [u8], at: usize) -> usize
         ),
         4 => put_text(b"two sorts are equal", out, at),
         5 => put_text(
-            b"a node has an unknown kind, above 16 arguments, a run off its list, or a part or variable that is not there",
+            b"a node has an unknown kind, above 16 arguments, a run off its list, or a part or variable that is \
+              not there",
             out,
             at,
         ),
@@ -150,9 +158,9 @@ pub fn put_verdict(code: u16, out: &mut [u8], at: usize) -> usize
     ensures { λ r. ⌜ PutWithin (now (out .entry)) at (verdictLine code) (now (out .exit)) r ⌝ }
 {
     let space = put_number(code, out, at);
-    let words = put_byte(32, out, space);
+    let words = put_byte(b' ', out, space);
     let end = put_message(code, out, words);
-    put_byte(10, out, end)
+    put_byte(b'\n', out, end)
 }
 
 // A sort as the text format names it.
@@ -162,7 +170,7 @@ fn put_sort_name(s: u16, out: &mut [u8], at: usize) -> usize
     if s < 6 {
         return put_six(s, out, at);
     }
-    put_name(115, s, out, at)
+    put_name(b's', s, out, at)
 }
 
 // A comma and a space before all but the first.
@@ -177,7 +185,9 @@ fn put_comma(i: u16, out: &mut [u8], at: usize) -> usize
 
 // The measure so far, from its first component on.
 fn put_components(measure: &[u16], count: u16, out: &mut [u8], at: usize) -> usize
-    ensures { λ r. ⌜ PutWithin (now (out .entry)) at (rowsText (component (now (measure .entry))) count 0) (now (out .exit)) r ⌝ }
+    ensures { λ r. ⌜
+        PutWithin (now (out .entry)) at (rowsText (component (now (measure .entry))) count 0) (now (out .exit)) r
+        ⌝ }
 {
     let mut place = at;
     let mut i: u16 = 0;
@@ -204,14 +214,16 @@ fn put_choice(choices: &[u16], i: u16, out: &mut [u8], at: usize) -> usize
 {
     let row = 2 * (i as usize);
     let expr = put_comma(i, out, at);
-    let space = put_name(101, word(choices, row), out, expr);
-    let position = put_byte(32, out, space);
+    let space = put_name(b'e', word(choices, row), out, expr);
+    let position = put_byte(b' ', out, space);
     put_number(word(choices, row + 1), out, position)
 }
 
 // The chosen overloads, in the order handed out.
 fn put_choice_rows(choices: &[u16], count: u16, out: &mut [u8], at: usize) -> usize
-    ensures { λ r. ⌜ PutWithin (now (out .entry)) at (rowsText (choice (now (choices .entry))) count 0) (now (out .exit)) r ⌝ }
+    ensures { λ r. ⌜
+        PutWithin (now (out .entry)) at (rowsText (choice (now (choices .entry))) count 0) (now (out .exit)) r
+        ⌝ }
 {
     let mut place = at;
     let mut i: u16 = 0;
@@ -238,19 +250,21 @@ fn put_choices(choices: &[u16], count: u16, out: &mut [u8], at: usize) -> usize
 {
     let first = put_text(b"choices ", out, at);
     let end = put_choice_list(choices, count, out, first);
-    put_byte(10, out, end)
+    put_byte(b'\n', out, end)
 }
 
 // The arguments of a function, a space before each.
 fn put_arguments(sorts: &[u16], start: u16, count: u16, out: &mut [u8], at: usize) -> usize
-    ensures { λ r. ⌜ PutWithin (now (out .entry)) at (rowsText (argument (now (sorts .entry))) count start) (now (out .exit)) r ⌝ }
+    ensures { λ r. ⌜
+        PutWithin (now (out .entry)) at (rowsText (argument (now (sorts .entry))) count start) (now (out .exit)) r
+        ⌝ }
 {
     let mut place = at;
     let mut i: usize = start as usize;
     let end = (start as usize) + (count as usize);
     while i < end {
-        let after = put_byte(32, out, place);
-        place = put_sort_name(word(sorts, 4096 + i), out, after);
+        let after = put_byte(b' ', out, place);
+        place = put_sort_name(word(sorts, ENTRIES_AT + i), out, after);
         i += 1;
     }
     place
@@ -266,16 +280,16 @@ fn put_parts(sorts: &[u16], i: u16, out: &mut [u8], at: usize) -> usize
     if kind < 6 {
         return at;
     }
-    if kind < 11 {
-        let next = put_byte(32, out, at);
+    if kind < FUNCTION_KIND {
+        let next = put_byte(b' ', out, at);
         return put_sort_name(part, out, next);
     }
-    if kind == 11 {
+    if kind == FUNCTION_KIND {
         let arrow = put_arguments(sorts, word(sorts, row + 2), word(sorts, row + 3), out, at);
         let range = put_text(b" -> ", out, arrow);
         return put_sort_name(part, out, range);
     }
-    let next = put_byte(32, out, at);
+    let next = put_byte(b' ', out, at);
     put_number(part, out, next)
 }
 
@@ -284,11 +298,11 @@ fn put_new(sorts: &[u16], i: u16, out: &mut [u8], at: usize) -> usize
     ensures { λ r. ⌜ PutWithin (now (out .entry)) at (newLine (now (sorts .entry)) i) (now (out .exit)) r ⌝ }
 {
     let number = put_text(b"new ", out, at);
-    let space = put_name(115, i, out, number);
-    let kind = put_byte(32, out, space);
+    let space = put_name(b's', i, out, number);
+    let kind = put_byte(b' ', out, space);
     let rest = put_kind(word(sorts, 4 * (i as usize)), out, kind);
     let end = put_parts(sorts, i, out, rest);
-    put_byte(10, out, end)
+    put_byte(b'\n', out, end)
 }
 
 // The lines of the sorts from the given ones up to those kept.
@@ -304,7 +318,7 @@ pub fn put_new_sorts(sorts: &[u16], given: u16, count: u16, out: &mut [u8], at: 
     place
 }
 
-// A sort in mCRL2 spelling, by way of a text of its own; its number where it has none, or one above 200 bytes.
+// A sort in mCRL2 spelling, by way of a text of its own; its number where it has none, or one above MAX_LINE bytes.
 fn put_sort_text(
     sorts: &[u16],
     counts: Counts,
@@ -314,19 +328,21 @@ fn put_sort_text(
     at: usize,
 ) -> usize
     requires { ⌜ SizesOf (now sorts) counts (now sizes) ⌝ }
-    ensures { λ r. ⌜ PutWithin (now (out .entry)) at (sortText (now (sorts .entry)) (counts .sorts) s) (now (out .exit)) r ⌝ }
+    ensures { λ r. ⌜
+        PutWithin (now (out .entry)) at (sortText (now (sorts .entry)) (counts .sorts) s) (now (out .exit)) r
+        ⌝ }
 {
     if counts.sorts <= s {
-        return put_name(115, s, out, at);
+        return put_name(b's', s, out, at);
     }
     let size = size_at(sizes, s);
     if size == 0 {
-        return put_name(115, s, out, at);
+        return put_name(b's', s, out, at);
     }
-    if 200 < size {
-        return put_name(115, s, out, at);
+    if MAX_LINE < size {
+        return put_name(b's', s, out, at);
     }
-    let mut text = [0u8; 200];
+    let mut text = [0u8; MAX_LINE];
     let end = put_sort(sorts, counts, SortId(s), &mut text, 0);
     put_text(&text[..end], out, at)
 }
@@ -342,7 +358,9 @@ fn put_target(
     at: usize,
 ) -> usize
     requires { ⌜ SizesOf (now sorts) counts (now sizes) ⌝ }
-    ensures { λ r. ⌜ PutWithin (now (out .entry)) at (targetText (now (sorts .entry)) (counts .sorts) kind s) (now (out .exit)) r ⌝ }
+    ensures { λ r. ⌜
+        PutWithin (now (out .entry)) at (targetText (now (sorts .entry)) (counts .sorts) kind s) (now (out .exit)) r
+        ⌝ }
 {
     if kind == 1 {
         return put_text(b", variable", out, at);
@@ -368,10 +386,14 @@ fn put_expr(
     at: usize,
 ) -> usize
     requires { ⌜ SizesOf (now sorts) counts (now sizes) ⌝ }
-    ensures { λ r. ⌜ PutWithin (now (out .entry)) at (exprLine (now (sorts .entry)) (counts .sorts) (now (typing .entry)) i) (now (out .exit)) r ⌝ }
+    ensures { λ r. ⌜
+        PutWithin (now (out .entry)) at
+        (exprLine (now (sorts .entry)) (counts .sorts) (now (typing .entry)) i)
+        (now (out .exit)) r
+        ⌝ }
 {
     let row = 3 * (i as usize);
-    let colon = put_name(101, i, out, at);
+    let colon = put_name(b'e', i, out, at);
     let sort = put_text(b": ", out, colon);
     let target = put_sort_text(sorts, counts, sizes, word(typing, row), out, sort);
     let kind = word(typing, row + 1);
@@ -384,7 +406,7 @@ fn put_expr(
         out,
         target,
     );
-    put_byte(10, out, end)
+    put_byte(b'\n', out, end)
 }
 
 // The lines of the expressions.
@@ -398,7 +420,11 @@ fn put_exprs(
     at: usize,
 ) -> usize
     requires { ⌜ SizesOf (now sorts) counts (now sizes) ⌝ }
-    ensures { λ r. ⌜ PutWithin (now (out .entry)) at (rowsText (exprLine (now (sorts .entry)) (counts .sorts) (now (typing .entry))) count 0) (now (out .exit)) r ⌝ }
+    ensures { λ r. ⌜
+        PutWithin (now (out .entry)) at
+        (rowsText (exprLine (now (sorts .entry)) (counts .sorts) (now (typing .entry))) count 0)
+        (now (out .exit)) r
+        ⌝ }
 {
     let mut place = at;
     let mut i: u16 = 0;
@@ -423,9 +449,14 @@ pub fn put_typing(
     at: usize,
 ) -> usize
     requires { ⌜ Checked (now sorts) (counts .sorts) (counts .entries) ⌝ }
-    ensures { λ r. ⌜ PutWithin (now (out .entry)) at (typingText (now (sorts .entry)) (counts .sorts) (now (typing .entry)) (now (measure .entry)) (now (choices .entry)) exprs components chosen) (now (out .exit)) r ⌝ }
+    ensures { λ r. ⌜
+        PutWithin (now (out .entry)) at
+        (typingText (now (sorts .entry)) (counts .sorts) (now (typing .entry)) (now (measure .entry))
+        (now (choices .entry)) exprs components chosen)
+        (now (out .exit)) r
+        ⌝ }
 {
-    let mut sizes = [0usize; 1024];
+    let mut sizes = [0usize; MAX_SORTS];
     fill_sizes(sorts, counts.sorts as usize, &mut sizes);
     let measured = put_exprs(sorts, counts, &sizes, typing, exprs, out, at);
     let chosen_at = put_measure(measure, components, out, measured);

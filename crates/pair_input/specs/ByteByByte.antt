@@ -1,10 +1,12 @@
--- The pair program as its input comes, byte by byte: which lines are held, and what is printed. Of a line no more than 201 bytes are
--- held: a longer one is 19, whatever stands in it.
+-- The pair program as its input comes, byte by byte: which lines are held, and what is printed. Of a line no more than
+-- 201 bytes are held: a longer one is 19, whatever stands in it.
 use mathlib.Core.Bool.{cond}
 use mathlib.Core.List.{List, [], _∷_, _++_}
-use Prim.Native.Nat.{ℕ}
+use Prim.Native.Nat.{ℕ, _+_}
 use lib.ListN.{length}
 use lib.Dec.{eqb, ltb}
+use Rattle.text_out.specs.Quoted.{byteOf}
+use Rattle.sort_text.specs.Reading.{maxLine}
 use Rattle.pair_line.specs.PairProgram.{lineOf, single, pair}
 use Rattle.pair_line.specs.Answers.{withLf}
 
@@ -14,7 +16,7 @@ pub data Lines : Type 0 where
   second : List ℕ → List ℕ → Lines
 
 abbrev pub mostHeld : ℕ
-mostHeld = 201
+mostHeld = maxLine + 1
 
 unfoldable pub holding : List ℕ → ℕ → List ℕ
 holding l b = cond (ltb (length l) mostHeld) (l ++ (b ∷ [])) l
@@ -29,9 +31,9 @@ turned h o = record { lines = h; output = o }
 
 -- a byte of the input
 unfoldable pub takeByte : Lines → ℕ → Turned
-takeByte (first l) b = cond (eqb b 10) (turned (second l []) []) (turned (first (holding l b)) [])
+takeByte (first l) b = cond (eqb b (byteOf "\n")) (turned (second l []) []) (turned (first (holding l b)) [])
 takeByte (second l m) b =
-    cond (eqb b 10) (turned (first []) (withLf (pair l m))) (turned (second l (holding m b)) [])
+    cond (eqb b (byteOf "\n")) (turned (first []) (withLf (pair l m))) (turned (second l (holding m b)) [])
 
 -- bytes one after another
 abbrev pub onward : List ℕ → Turned → Turned

@@ -40,8 +40,8 @@ pub record Turns (t : Turned) (out : List ℕ) (at : ℕ) (memory : List ℕ) (h
   pub lines : linesOf memory held ≡ t .lines
   pub put : Put out at (t .output) left next
 
--- Bytes are taken up to the end, or as long as the buffer has room for a line of output: `goes` before each byte taken, and `stops` only
--- where it has not.
+-- Bytes are taken up to the end, or as long as the buffer has room for a line of output: `goes` before each byte taken,
+-- and `stops` only where it has not.
 pub record Feeds (memory : List ℕ) (held : Held) (bytes out : List ℕ) (left-memory : List ℕ)
     (left-held : Held) (left : List ℕ) (used at : ℕ) : Type 0 where
   pub turns : Turns (takeBytes (linesOf memory held) (take used bytes)) out 0 left-memory left-held left at

@@ -1,5 +1,6 @@
-// The pair program of document 01 over an input that comes in parts: the lines of a pair are held in a bounded memory, and
-// each pair's line of output is put into a bounded buffer.
+// The pair program of document 01 over an input that comes in parts: the lines of a pair are held in a bounded memory,
+// and each pair's line of output is put into a bounded buffer.
+use pair_line::LINE_ROOM;
 use pair_line::put_pair;
 use pair_line::put_single;
 ghost use Prim.Native.Nat.{_+_, _≤_};
@@ -35,7 +36,7 @@ fn hold(memory: &mut [u8], start: usize, count: usize, byte: u8) -> usize
     requires { ⌜ (start ≤ mostHeld) × (count ≤ mostHeld) × (mostHeld + mostHeld ≤ length (now memory)) ⌝ }
     ensures { λ r. ⌜ Holding (now (memory .entry)) start count byte (now (memory .exit)) r ⌝ }
 {
-    if count < 201 {
+    if count < MOST_HELD {
         memory[start + count] = byte;
         return count + 1;
     }
@@ -64,7 +65,7 @@ fn take_byte(memory: &mut [u8], held: Held, byte: u8, out: &mut [u8], at: usize)
 {
     match held {
         Held::First(first) => {
-            if byte == 10 {
+            if byte == b'\n' {
                 return Turn {
                     held: Held::Second(first, 0),
                     at,
@@ -77,7 +78,7 @@ fn take_byte(memory: &mut [u8], held: Held, byte: u8, out: &mut [u8], at: usize)
             }
         }
         Held::Second(first, second) => {
-            if byte == 10 {
+            if byte == b'\n' {
                 let next = put_held(memory, first, second, out, at);
                 return Turn {
                     held: Held::First(0),
@@ -93,7 +94,8 @@ fn take_byte(memory: &mut [u8], held: Held, byte: u8, out: &mut [u8], at: usize)
     }
 }
 
-// Bytes of the input, as many as the buffer has room for the output of. A buffer of 816 bytes takes at least one.
+// Bytes of the input, as many as the buffer has room for the output of. A buffer of LINE_ROOM bytes takes at least
+// one.
 pub fn feed(memory: &mut [u8], held: Held, bytes: &[u8], out: &mut [u8]) -> Fed
     requires { ⌜ Holds (now memory) held ⌝ }
     ensures { λ r. ⌜
@@ -105,7 +107,7 @@ pub fn feed(memory: &mut [u8], held: Held, bytes: &[u8], out: &mut [u8]) -> Fed
     let mut used = 0;
     let mut at = 0;
     while used < bytes.len() {
-        if out.len() - at < 816 {
+        if out.len() - at < LINE_ROOM {
             return Fed {
                 held: current,
                 used,
@@ -146,3 +148,9 @@ pub fn finish(memory: &[u8], held: Held, out: &mut [u8]) -> usize
         }
     }
 }
+
+// So many bytes are held of a line: one more than a line may have, which shows that it is too long.
+const MOST_HELD: usize = 201;
+
+// The memory for two lines.
+pub const HELD_BYTES: usize = 402;

@@ -1,12 +1,13 @@
--- What the entries of this crate leave in the lent buffer, and what they answer: the line of output with its LF, and its length; 14 where
--- the buffer has no room for every line of output.
+-- What the entries of this crate leave in the lent buffer, and what they answer: the line of output with its LF, and
+-- its length; 14 where the buffer has no room for every line of output.
 use mathlib.Core.Bool.{cond}
-use mathlib.Core.List.{List, [], _∷_, _++_}
+use mathlib.Core.List.{List, _++_}
 use Prim.Native.Nat.{ℕ}
 use lib.ListN.{length, drop}
 use lib.Dec.{leb}
 use Rattle.resolved_sort.specs.declared.Widening.{Widening}
 use Rattle.resolved_sort.specs.declared.Widening.the-variants.{Distance, Nothing}
+use Rattle.text_out.specs.Quoted.{bytesOf}
 use Rattle.sort_text.specs.declared.Written.{Written}
 use Rattle.sort_text.specs.declared.Written.the-variants.{Refused, Text}
 use Rattle.sort_text.specs.Writing.{WriteLeft, writeLeft}
@@ -16,10 +17,10 @@ use Rattle.pair_line.specs.Room.{lineRoom}
 -- `stepsOrNone` of what the code answers
 abbrev pub stepsText : Widening → List ℕ
 stepsText Nothing = noneText
-stepsText (Distance head interior) = decimal head ++ (32 ∷ decimal interior)
+stepsText (Distance head interior) = decimal head ++ (bytesOf " " ++ decimal interior)
 
 abbrev pub withLf : List ℕ → List ℕ
-withLf bs = bs ++ (10 ∷ [])
+withLf bs = bs ++ bytesOf "\n"
 
 unfoldable pub lineLeft : List ℕ → List ℕ → WriteLeft
 lineLeft bs out =

@@ -1,5 +1,5 @@
--- "A pair program reads standard input, two LF-ended lines to a pair (a last nonempty line needs no LF), and prints one line": what
--- it prints, byte by byte, for every input.
+-- "A pair program reads standard input, two LF-ended lines to a pair (a last nonempty line needs no LF), and prints one
+-- line": what it prints, byte by byte, for every input.
 use mathlib.Core.Bool.{Bool, true, false, cond}
 use mathlib.Core.List.{List, [], _∷_, _++_}
 use mathlib.Core.Option.{Option, none, some}
@@ -9,6 +9,7 @@ use Rattle.resolved_sort.specs.declared.PartialOrder.{PartialOrder}
 use Rattle.resolved_sort.specs.declared.PartialOrder.the-variants.{Unrelated, Equal, Below, Above}
 use Rattle.resolved_sort.specs.Tree.{Tree}
 use Rattle.resolved_sort.specs.Order.{order, join, meet, Steps, distance, materializable}
+use Rattle.text_out.specs.Quoted.{byteOf, bytesOf}
 use Rattle.sort_text.specs.Parse.{Parsed, parsed, stuck, line}
 use Rattle.sort_text.specs.Text.{text}
 use Rattle.sort_text.specs.Reading.{shortLine}
@@ -20,25 +21,27 @@ onto b (l ∷ ls) = (b ∷ l) ∷ ls
 
 unfoldable pub lines : List ℕ → List (List ℕ)
 lines [] = []
-lines (b ∷ bs) = cond (eqb b 10) ([] ∷ lines bs) (onto b (lines bs))
+lines (b ∷ bs) = cond (eqb b (byteOf "\n")) ([] ∷ lines bs) (onto b (lines bs))
+
+abbrev pub digit : ℕ → ℕ
+digit n = byteOf "0" + n
 
 -- a number below 1,000 in decimal
 unfoldable pub decimal : ℕ → List ℕ
 decimal n =
-    cond (ltb n 10) ((48 + n) ∷ [])
-    (cond (ltb n 100) ((48 + n / 10) ∷ (48 + n % 10) ∷ [])
-    ((48 + n / 100) ∷ (48 + n / 10 % 10) ∷ (48 + n % 10) ∷ []))
+    cond (ltb n 10) (digit n ∷ [])
+    (cond (ltb n 100) (digit (n / 10) ∷ digit (n % 10) ∷ [])
+    (digit (n / 100) ∷ digit (n / 10 % 10) ∷ digit (n % 10) ∷ []))
 
 -- "order (`=`, `<`, `>`, `|`)"
 abbrev pub sign : PartialOrder → ℕ
-sign Equal = 61
-sign Below = 60
-sign Above = 62
-sign Unrelated = 124
+sign Equal = byteOf "="
+sign Below = byteOf "<"
+sign Above = byteOf ">"
+sign Unrelated = byteOf "|"
 
--- `none` where there is none
 abbrev pub noneText : List ℕ
-noneText = 110 ∷ 111 ∷ 110 ∷ 101 ∷ []
+noneText = bytesOf "none"
 
 abbrev pub sortOrNone : Option Tree → List ℕ
 sortOrNone none = noneText
@@ -46,15 +49,15 @@ sortOrNone (some t) = text t
 
 abbrev pub stepsOrNone : Option Steps → List ℕ
 stepsOrNone none = noneText
-stepsOrNone (some d) = decimal (d .head) ++ (32 ∷ decimal (d .interior))
+stepsOrNone (some d) = decimal (d .head) ++ (bytesOf " " ++ decimal (d .interior))
 
 abbrev pub yesOrNo : Bool → List ℕ
-yesOrNo true = 121 ∷ 101 ∷ 115 ∷ []
-yesOrNo false = 110 ∷ 111 ∷ []
+yesOrNo true = bytesOf "yes"
+yesOrNo false = bytesOf "no"
 
 -- "joined by a comma and a space"
 abbrev pub comma : List ℕ → List ℕ
-comma bs = 44 ∷ 32 ∷ bs
+comma bs = bytesOf ", " ++ bs
 
 -- order, join, meet, distance, and materializable from first to second
 unfoldable pub answer : Tree → Tree → List ℕ
@@ -65,17 +68,18 @@ answer s t =
     ++ comma (stepsOrNone (distance true s t)
     ++ comma (yesOrNo (materializable s t)))))
 
--- a line: its sort, or what a bad one prints, which is its code; "20 is followed by a colon and the unread end, without a space"
+-- a line: its sort, or what a bad one prints, which is its code; "20 is followed by a colon and the unread end, without
+-- a space"
 pub data Line : Type 0 where
   good : Tree → Line
   wrong : List ℕ → Line
 
 abbrev pub read : Parsed → Line
 read (parsed t bs) = good t
-read (stuck bs) = wrong (50 ∷ 48 ∷ 58 ∷ bs)
+read (stuck bs) = wrong (bytesOf "20:" ++ bs)
 
 unfoldable pub lineOf : List ℕ → Line
-lineOf bs = cond (shortLine bs) (read (line bs)) (wrong (49 ∷ 57 ∷ []))
+lineOf bs = cond (shortLine bs) (read (line bs)) (wrong (bytesOf "19"))
 
 abbrev pub withSecond : Tree → Line → List ℕ
 withSecond s (good t) = answer s t
@@ -87,7 +91,7 @@ withFirst (wrong bs) second = bs
 
 -- 21. "The input ends after the first line of a pair."
 abbrev pub single : Line → List ℕ
-single (good s) = 50 ∷ 49 ∷ []
+single (good s) = bytesOf "21"
 single (wrong bs) = bs
 
 -- "A bad pair prints its first bad line's code"
@@ -97,8 +101,8 @@ pair first second = withFirst (lineOf first) (lineOf second)
 -- one line of output for each pair
 unfoldable pub pairs : List (List ℕ) → List ℕ
 pairs [] = []
-pairs (l ∷ []) = single (lineOf l) ++ (10 ∷ [])
-pairs (l ∷ m ∷ ls) = pair l m ++ (10 ∷ pairs ls)
+pairs (l ∷ []) = single (lineOf l) ++ bytesOf "\n"
+pairs (l ∷ m ∷ ls) = pair l m ++ (bytesOf "\n" ++ pairs ls)
 
 unfoldable pub output : List ℕ → List ℕ
 output input = pairs (lines input)

@@ -1,9 +1,9 @@
--- What the functions that put a line of output ask for: a storage with room for what a pair can make, and a buffer with room for a
--- line of output.
+-- What the functions that put a line of output ask for: a storage with room for what a pair can make, and a buffer with
+-- room for a line of output.
 use mathlib.Core.Path.{_≡_}
 use mathlib.Core.Bool.{Bool, true}
 use mathlib.Core.List.{List, [], _++_}
-use Prim.Native.Nat.{ℕ, _+_, _<_, _≤_}
+use Prim.Native.Nat.{ℕ, _+_, _*_, _<_, _≤_}
 use lib.ListN.{length, set}
 use Rattle.resolved_sort.specs.Tree.{Tree}
 use Rattle.resolved_sort.specs.Order.{bound}
@@ -12,6 +12,7 @@ use Rattle.resolved_sort.specs.Entries.{treeAt}
 use Rattle.resolved_sort.specs.Rows.{Checked}
 use Rattle.resolved_sort.specs.Bounds.{Asked}
 use Rattle.sort_text.specs.Parse.{parsed, line}
+use Rattle.sort_text.specs.Reading.{maxLine}
 use Rattle.pair_line.specs.PairProgram.{sortOrNone, comma}
 
 -- Room enough for every line of output with its LF (`pair-has-room`); no line is that long.
@@ -22,12 +23,12 @@ lineRoom = 816
 unfoldable pub putSix : List ℕ → List ℕ
 putSix ws = set (set (set (set (set (set ws 0 0) 4 1) 8 2) 12 3) 16 4) 20 5
 
--- the sort of a line of at most 200 bytes
+-- the sort of a line that is not too long
 pub record OfLine (t : Tree) : Type 0 where
   pub bytes : List ℕ
   pub left : List ℕ
   pub is : line bytes ≡ parsed t left
-  pub short : length bytes ≤ 200
+  pub short : length bytes ≤ maxLine
 
 -- A storage that begins with the fixed six, with at most 6 + k sorts and k entries in use.
 pub record Begun (ws : List ℕ) (n e k : ℕ) : Type 0 where
@@ -36,17 +37,17 @@ pub record Begun (ws : List ℕ) (n e k : ℕ) : Type 0 where
   pub sorts : n ≤ 6 + k
   pub entries : e ≤ k
 
--- The second storage has the sorts of the first under their numbers, and at most 200 more sorts and entries.
+-- The second storage has the sorts of the first under their numbers, and at most maxLine more sorts and entries.
 pub record Grows (ws : List ℕ) (n e : ℕ) (vs : List ℕ) (m d : ℕ) : Type 0 where
   pub checked : Checked vs m d
   pub longer : n ≤ m
   pub same : (i : ℕ) → i < n → treeAt vs m i ≡ treeAt ws n i
-  pub sorts : m ≤ n + 200
-  pub entries : d ≤ e + 200
+  pub sorts : m ≤ n + maxLine
+  pub entries : d ≤ e + maxLine
 
 -- the first line of a pair is read
 pub record FirstRead (ws : List ℕ) (n e a : ℕ) (out : List ℕ) (at : ℕ) : Type 0 where
-  pub begun : Begun ws n e 200
+  pub begun : Begun ws n e maxLine
   pub below : a < n
   pub of-line : OfLine (treeAt ws n a)
   pub room : at + lineRoom ≤ length out
@@ -55,14 +56,14 @@ pub record FirstRead (ws : List ℕ) (n e a : ℕ) (out : List ℕ) (at : ℕ) :
 pub record BothRead (ws : List ℕ) (n e a b : ℕ) (out : List ℕ) (at : ℕ) : Type 0 where
   pub asked : Asked ws n e a b
   pub of-line : OfLine (treeAt ws n a)
-  pub sorts : n ≤ 406
-  pub entries : e ≤ 400
+  pub sorts : n ≤ 6 + 2 * maxLine
+  pub entries : e ≤ 2 * maxLine
   pub room : at + lineRoom ≤ length out
 
 -- a join or meet and its text have room
 pub record BoundRoom (up : Bool) (ws : List ℕ) (n e a b : ℕ) (out : List ℕ) (at : ℕ) : Type 0 where
   pub asked : Asked ws n e a b
   pub of-line : OfLine (treeAt ws n a)
-  pub sorts : n ≤ 606
-  pub entries : e ≤ 600
+  pub sorts : n ≤ 6 + 3 * maxLine
+  pub entries : e ≤ 3 * maxLine
   pub room : at + length (sortOrNone (bound up (treeAt ws n a) (treeAt ws n b)) ++ comma []) ≤ length out

@@ -1,5 +1,5 @@
-// The pair program of document 01, for one pair of lines and for a line alone: each pair is answered on the fixed six sorts
-// alone, in a storage of its own, and its line of output is put into the lent buffer.
+// The pair program of document 01, for one pair of lines and for a line alone: each pair is answered on the fixed six
+// sorts alone, in a storage of its own, and its line of output is put into the lent buffer.
 use resolved_sort::Counts;
 use resolved_sort::Joined;
 use resolved_sort::PartialOrder;
@@ -14,6 +14,7 @@ use sort_order::widening_distance;
 use sort_reader::read_line;
 use sort_recogniser::Recognised;
 use sort_recogniser::recognise;
+use sort_text::MAX_LINE;
 use sort_text::Read;
 use sort_text::Written;
 use sort_writer::put_sort;
@@ -26,9 +27,13 @@ ghost use lib.ListN.{length, drop};
 ghost use Rattle.resolved_sort.specs.Order.{bound as boundOf};
 ghost use Rattle.resolved_sort.specs.Storage.{fullLength};
 ghost use Rattle.resolved_sort.specs.Entries.{treeAt};
-ghost use Rattle.pair_line.specs.PairProgram.{decimal, sign, sortOrNone, yesOrNo, comma, answer, lineOf, withSecond, pair as pairOf, single as singleOf};
+ghost use Rattle.pair_line.specs.PairProgram.{digit as digitOf, decimal, sign, sortOrNone, yesOrNo, comma};
+ghost use Rattle.pair_line.specs.PairProgram.{answer, lineOf};
+ghost use Rattle.pair_line.specs.PairProgram.{withSecond, pair as pairOf, single as singleOf};
 ghost use Rattle.sort_text.specs.Writing.{writeLeft};
+ghost use Rattle.sort_text.specs.Reading.{maxLine};
 ghost use Rattle.text_out.specs.Put.{Put};
+ghost use Rattle.text_out.specs.Quoted.{bytesOf};
 ghost use Rattle.pair_line.specs.Room.{lineRoom, putSix, Begun, Grows, FirstRead, BothRead, BoundRoom};
 ghost use Rattle.pair_line.specs.Answers.{stepsText, withLf, pairLeft, singleLeft};
 
@@ -54,9 +59,9 @@ fn six(sorts: &mut [u16])
 // One decimal digit.
 fn put_digit(digit: u8, out: &mut [u8], at: usize) -> usize
     requires { ⌜ (digit < 10) × (at < length (now out)) ⌝ }
-    ensures { λ r. ⌜ Put (now (out .entry)) at ((48 + digit) ∷ []) (now (out .exit)) r ⌝ }
+    ensures { λ r. ⌜ Put (now (out .entry)) at (digitOf digit ∷ []) (now (out .exit)) r ⌝ }
 {
-    out[at] = 48 + digit;
+    out[at] = b'0' + digit;
     at + 1
 }
 
@@ -187,9 +192,9 @@ fn put_answer(
 
 // The line of a line that is no sort: 20, and its unread end.
 fn put_unread(line: &[u8], from: usize, out: &mut [u8], at: usize) -> usize
-    requires { ⌜ (length (now line) ≤ 200) × (at + lineRoom ≤ length (now out)) ⌝ }
+    requires { ⌜ (length (now line) ≤ maxLine) × (at + lineRoom ≤ length (now out)) ⌝ }
     ensures { λ r. ⌜
-        Put (now (out .entry)) at (withLf (50 ∷ 48 ∷ 58 ∷ drop from (now (line .entry)))) (now (out .exit)) r
+        Put (now (out .entry)) at (withLf (bytesOf "20:" ++ drop from (now (line .entry)))) (now (out .exit)) r
         ⌝ }
 {
     let colon = put_bytes(b"20:", out, at);
@@ -214,7 +219,7 @@ fn put_second(
         (now (out .exit)) r
         ⌝ }
 {
-    if 200 < second.len() {
+    if MAX_LINE < second.len() {
         return put_bytes(b"19\n", out, at);
     }
     match read_line(
@@ -239,7 +244,7 @@ fn put_first(sorts: &mut [u16], first: &[u8], second: &[u8], out: &mut [u8], at:
         (now (out .exit)) r
         ⌝ }
 {
-    if 200 < first.len() {
+    if MAX_LINE < first.len() {
         return put_bytes(b"19\n", out, at);
     }
     match read_line(sorts, 6, 0, first) {
@@ -271,10 +276,10 @@ pub fn put_single(line: &[u8], out: &mut [u8], at: usize) -> usize
         Put (now (out .entry)) at (withLf (singleOf (lineOf (now (line .entry))))) (now (out .exit)) r
         ⌝ }
 {
-    if 200 < line.len() {
+    if MAX_LINE < line.len() {
         return put_bytes(b"19\n", out, at);
     }
-    let mut steps = [0u8; 200];
+    let mut steps = [0u8; MAX_LINE];
     match recognise(line, &mut steps) {
         Recognised::Done(_, _) => put_bytes(b"21\n", out, at),
         Recognised::Stuck(from) => put_unread(line, from, out, at),
@@ -288,7 +293,7 @@ pub fn pair(first: &[u8], second: &[u8], out: &mut [u8]) -> Written
         writeLeft (now (out .exit)) r ≡ pairLeft (now (first .entry)) (now (second .entry)) (now (out .entry))
         ⌝ }
 {
-    if out.len() < 816 {
+    if out.len() < LINE_ROOM {
         return Written::Refused(14);
     }
     Written::Text(put_pair(first, second, out, 0))
@@ -299,8 +304,11 @@ pub fn pair(first: &[u8], second: &[u8], out: &mut [u8]) -> Written
 pub fn single(line: &[u8], out: &mut [u8]) -> Written
     ensures { λ r. ⌜ writeLeft (now (out .exit)) r ≡ singleLeft (now (line .entry)) (now (out .entry)) ⌝ }
 {
-    if out.len() < 816 {
+    if out.len() < LINE_ROOM {
         return Written::Refused(14);
     }
     Written::Text(put_single(line, out, 0))
 }
+
+// Room enough for every line of output with its LF.
+pub const LINE_ROOM: usize = 816;

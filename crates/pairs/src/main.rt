@@ -1,13 +1,14 @@
 // The pair program of document 01: two lines to a pair, each a sort in mCRL2 spelling, and one line of output for each
-// pair: order, join, meet, distance, and whether the first sort converts into the second. It reads standard input and writes
-// standard output, in bounded memory whatever the input's length and the length of its lines.
+// pair: order, join, meet, distance, and whether the first sort converts into the second. It reads standard input and
+// writes standard output, in bounded memory whatever the input's length and the length of its lines.
 //
-// The work is done by pair_lines: for an input in any parts, what `feed` puts for each part in turn and `finish` at the end is
-// `output` of crates/sort_text/specs/PairProgram.antt (`parts-exactly`). Here bytes are only read and written: that each part is
-// taken whole and once is proved (`take_bytes`), that what was put is what is written is to be seen.
+// The work is done by pair_input: for an input in any parts, what `feed` puts for each part in turn and `finish` at the
+// end is `output` of crates/pair_line/specs/PairProgram.antt (`parts-exactly`). Here bytes are only read and written:
+// that each part is taken whole and once is proved (`take_bytes`), that what was put is what is written is to be seen.
 use libc::STDERR_FILENO;
 use libc::STDIN_FILENO;
 use libc::STDOUT_FILENO;
+use pair_input::HELD_BYTES;
 use pair_input::Held;
 use pair_input::feed;
 use pair_input::finish;
@@ -99,7 +100,10 @@ fn read_all(memory: &mut [u8], out: &mut [u8])
 }
 
 fn main() {
-    let mut memory = [0u8; 402];
-    let mut out = [0u8; 16384];
+    let mut memory = [0u8; HELD_BYTES];
+    let mut out = [0u8; OUT_BYTES];
     read_all(&mut memory, &mut out);
 }
+
+// The output is written in parts of about so many bytes.
+const OUT_BYTES: usize = 16384;

@@ -1,11 +1,11 @@
-// Solves lists: reads any number of lists in the text format of docs/FORMAT.md from standard input, and prints for each question
-// `? solve` the verdict by its code and in words, and for a typing the sort and the name of each expression, the measure and the
-// chosen overloads. A line that is not of the format is named by its number, with what was expected, and the rest of its list is
-// passed over.
+// Solves lists: reads any number of lists in the text format of docs/FORMAT.md from standard input, and prints for each
+// question `? solve` the verdict by its code and in words, and for a typing the sort and the name of each expression,
+// the measure and the chosen overloads. A line that is not of the format is named by its number, with what was
+// expected, and the rest of its list is passed over.
 //
-// The work is done by list_lines: what a line makes of the list, and what is printed for it (`hear`). Here lines are only read
-// and written. Memory is bounded whatever the input's length and the length of its lines: of a line longer than 201 bytes only
-// those are looked at, which shows that it is too long.
+// The work is done by list_lines: what a line makes of the list, and what is printed for it (`hear`). Here lines are
+// only read and written. Memory is bounded whatever the input's length and the length of its lines: of a line longer
+// than 201 bytes only those are looked at, which shows that it is too long.
 use libc::STDERR_FILENO;
 use libc::STDOUT_FILENO;
 use line_input::Found;
@@ -13,6 +13,7 @@ use line_input::next_line;
 use line_input::no_input;
 use list_lines::finish;
 use list_lines::hear;
+use list_memory::LIST_WORDS;
 
 // The number of a line, before what there is to say of it.
 fn write_number(number: u64) {
@@ -37,7 +38,7 @@ fn write_front(out: &[u8], end: usize) -> bool {
 }
 
 // A line of the input, and its output.
-fn say_line(list: &mut [u16; 34112], line: &[u8], number: u64, out: &mut [u8]) -> bool {
+fn say_line(list: &mut [u16; LIST_WORDS], line: &[u8], number: u64, out: &mut [u8]) -> bool {
     let said = hear(list, line, out);
     if said.numbered {
         write_number(number);
@@ -47,7 +48,7 @@ fn say_line(list: &mut [u16; 34112], line: &[u8], number: u64, out: &mut [u8]) -
 
 // A line of so many bytes. Of one that is longer than its memory the first bytes are taken.
 fn take_line(
-    list: &mut [u16; 34112],
+    list: &mut [u16; LIST_WORDS],
     line: &[u8],
     length: usize,
     number: u64,
@@ -60,7 +61,7 @@ fn take_line(
 }
 
 // The end of the input, or a read that failed.
-fn at_end(list: &[u16; 34112], found: Found, out: &mut [u8]) {
+fn at_end(list: &[u16; LIST_WORDS], found: Found, out: &mut [u8]) {
     match found {
         Found::Failed => {
             io::write_all(STDERR_FILENO, b"solve_lists: the input cannot be read\n");
@@ -71,9 +72,9 @@ fn at_end(list: &[u16; 34112], found: Found, out: &mut [u8]) {
     write_front(out, end);
 }
 
-// All lines. A proved loop has to end, and nothing says that an input does: the loop counts its turns down, from a number that
-// no run uses up.
-fn solve_all(list: &mut [u16; 34112], buffer: &mut [u8], line: &mut [u8], out: &mut [u8]) {
+// All lines. A proved loop has to end, and nothing says that an input does: the loop counts its turns down, from a
+// number that no run uses up.
+fn solve_all(list: &mut [u16; LIST_WORDS], buffer: &mut [u8], line: &mut [u8], out: &mut [u8]) {
     let mut read = no_input();
     let mut turns = u64::MAX;
     while turns > 0 {
@@ -94,9 +95,15 @@ fn solve_all(list: &mut [u16; 34112], buffer: &mut [u8], line: &mut [u8], out: &
 }
 
 fn main() {
-    let mut list = [0u16; 34112];
+    let mut list = [0u16; LIST_WORDS];
     let mut buffer = io::large_buffer();
-    let mut line = [0u8; 201];
-    let mut out = [0u8; 393216];
+    let mut line = [0u8; HELD_LINE];
+    let mut out = [0u8; OUT_BYTES];
     solve_all(&mut list, &mut buffer, &mut line, &mut out);
 }
+
+// So many bytes are looked at of a line: one more than a line may have, which shows that it is too long.
+const HELD_LINE: usize = 201;
+
+// Room for what is printed for one line: the longest answer has some 336,000 bytes, by count.
+const OUT_BYTES: usize = 393216;

@@ -1,5 +1,5 @@
--- A token with positions in place of what is left of the line: a position i stands for `drop i line`, and what is left of the line
--- for its place.
+-- A token with positions in place of what is left of the line: a position i stands for `drop i line`, and what is left
+-- of the line for its place.
 use mathlib.Core.List.{List}
 use Prim.Native.Nat.{ℕ, _-_}
 use lib.ListN.{length, take, drop}

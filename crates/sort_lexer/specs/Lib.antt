@@ -1,2 +1,3 @@
+-- Tokens with their positions, and what a word says, as the code answers them.
 pub mod Lexeme
 pub mod Meant

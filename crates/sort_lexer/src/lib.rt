@@ -39,16 +39,16 @@ pub enum Meaning {
 fn is_letter(b: u8) -> bool
     ensures { λ r. ⌜ r ≡ isLetter b ⌝ }
 {
-    if b < 65 {
+    if b < b'A' {
         return false;
     }
-    if b <= 90 {
+    if b <= b'Z' {
         return true;
     }
-    if b < 97 {
+    if b < b'a' {
         return false;
     }
-    b <= 122
+    b <= b'z'
 }
 
 // The first position from `at` on that has no space.
@@ -57,7 +57,7 @@ pub fn skip_spaces(line: &[u8], at: usize) -> usize
 {
     let mut i = at;
     while i < line.len() {
-        if line[i] != 32 {
+        if line[i] != b' ' {
             return i;
         }
         i += 1;
@@ -101,30 +101,30 @@ fn token_at(line: &[u8], at: usize) -> Lexeme
             next: to,
         };
     }
-    if b == 40 {
+    if b == b'(' {
         return Lexeme {
             token: Token::Open,
             at: from,
             next: from + 1,
         };
     }
-    if b == 41 {
+    if b == b')' {
         return Lexeme {
             token: Token::Close,
             at: from,
             next: from + 1,
         };
     }
-    if b == 35 {
+    if b == b'#' {
         return Lexeme {
             token: Token::Hash,
             at: from,
             next: from + 1,
         };
     }
-    if b == 45 {
+    if b == b'-' {
         if from + 1 < line.len() {
-            if line[from + 1] == 62 {
+            if line[from + 1] == b'>' {
                 return Lexeme {
                     token: Token::Arrow,
                     at: from,

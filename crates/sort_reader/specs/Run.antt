@@ -10,7 +10,11 @@ use Rattle.resolved_sort.specs.Interning.{look}
 use Rattle.resolved_sort.specs.Storage.{trees, sortsOf}
 use Rattle.resolved_sort.specs.Entries.{Stored, stored}
 use Rattle.resolved_sort.specs.Rows.{Checked}
-use Rattle.sort_text.specs.Postfix.{Short, sixth, steps}
+use Rattle.sort_text.specs.Postfix.{functionStep, Short, sixth, steps}
+
+-- how many sorts the stack holds: more than the steps of a line can put there
+abbrev pub maxStack : ℕ
+maxStack = 256
 
 -- the sorts of the first depth numbers, the last one on top
 unfoldable pub stackOf : List Tree → List ℕ → ℕ → List Tree
@@ -21,13 +25,14 @@ stackOf T ids (suc d) = look T (getD ids d 0) ∷ stackOf T ids d
 unfoldable pub runAt : List ℕ → ℕ → ℕ → List ℕ → List ℕ → ℕ → Stored
 runAt ws n e ops ids depth = stored ws n e (steps ops (stackOf (trees ws n) ids depth) (sortsOf ws n e))
 
--- A checked list that begins with the fixed six, a stack of its numbers, and room on the stack for the steps that are left.
+-- A checked list that begins with the fixed six, a stack of its numbers, and room on the stack for the steps that are
+-- left.
 pub record Running (ws : List ℕ) (n e : ℕ) (ops : List ℕ) (i : ℕ) (ids : List ℕ) (depth : ℕ) : Type 0 where
   pub checked : Checked ws n e
   pub has-six : 6 ≤ n
   pub six : (k : ℕ) → k < 6 → look (trees ws n) k ≡ sixth k
   pub numbers : (d : ℕ) → d < depth → getD ids d 0 < n
-  pub room : depth + (length ops - i) ≤ 256
+  pub room : depth + (length ops - i) ≤ maxStack
   pub steps-left : Short (drop i ops)
 
 -- Going on after a sort was made: with its number at base, on top of the stack; or not, where nothing was made.
@@ -45,4 +50,4 @@ goOn ws ops i ids base Full = record { words = ws; answer = Full }
 
 -- the number of arguments that a function step takes
 abbrev pub argumentsOf : ℕ → ℕ
-argumentsOf op = op - 16
+argumentsOf op = op - functionStep

@@ -10,13 +10,13 @@ use Rattle.resolved_sort.specs.Storage.{givenBack}
 use Rattle.resolved_sort.specs.Checks.{fixedSix}
 use Rattle.resolved_sort.specs.Rows.{Checked}
 use Rattle.sort_text.specs.declared.Read.the-variants.{Sort, NoRoom}
-use Rattle.sort_text.specs.Reading.{ReadLeft, readLeft}
+use Rattle.sort_text.specs.Reading.{maxLine, ReadLeft, readLeft}
 
--- A checked list that begins with the fixed six, and a line of at most 200 bytes.
+-- A checked list that begins with the fixed six, and a line that is not too long.
 pub record Passes (ws : List ℕ) (n e : ℕ) (bs : List ℕ) : Type 0 where
   pub checked : Checked ws n e
   pub six : fixedSix ws n ≡ true
-  pub short : length bs ≤ 200
+  pub short : length bs ≤ maxLine
 
 unfoldable pub keptOrNoRoom : List ℕ → ℕ → ℕ → Joined → ReadLeft
 keptOrNoRoom ws n e (At s k) = readLeft ws (Sort s k)

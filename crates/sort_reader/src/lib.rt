@@ -1,5 +1,5 @@
-// A line read into the sort storage. The steps that recognising it wrote are carried out on a stack of sort numbers; the entry tests all it is lent,
-// recognises the line, and only then stores.
+// A line read into the sort storage. The steps that recognising it wrote are carried out on a stack of sort numbers;
+// the entry tests all it is lent, recognises the line, and only then stores.
 use resolved_sort::ComplexSort;
 use resolved_sort::Counts;
 use resolved_sort::Joined;
@@ -12,13 +12,16 @@ use sort_interner::generic;
 use sort_interner::give_back;
 use sort_recogniser::Recognised;
 use sort_recogniser::recognise;
+use sort_text::FUNCTION_STEP;
+use sort_text::MAX_LINE;
 use sort_text::Read;
 ghost use mathlib.Core.Path.{_≡_};
 ghost use Prim.Native.Nat.{_+_, _-_, _<_, _≤_};
 ghost use lib.ListN.{length, drop, take, getD};
 ghost use Rattle.resolved_sort.specs.Rows.{storedAt};
+ghost use Rattle.sort_text.specs.Parse.{maxArguments};
 ghost use Rattle.sort_text.specs.Postfix.{opOf};
-ghost use Rattle.sort_reader.specs.Run.{runAt, Running, GoesOn, goOn, argumentsOf};
+ghost use Rattle.sort_reader.specs.Run.{maxStack, runAt, Running, GoesOn, goOn, argumentsOf};
 ghost use Rattle.resolved_sort.specs.Storage.{maxSorts, maxEntries, fullLength};
 ghost use Rattle.resolved_sort.specs.Checks.{firstFailing};
 ghost use Rattle.resolved_sort.specs.Entries.{testedOf};
@@ -41,8 +44,8 @@ fn operator(step: u8) -> ComplexSort
 }
 
 // The k numbers of a stack from base on.
-fn arguments(ids: [u16; 256], base: usize, k: u16) -> [u16; 16]
-    requires { ⌜ (k ≤ 16) × (base + k ≤ 256) ⌝ }
+fn arguments(ids: [u16; MAX_STACK], base: usize, k: u16) -> [u16; 16]
+    requires { ⌜ (k ≤ maxArguments) × (base + k ≤ maxStack) ⌝ }
     ensures { λ r. ⌜ take k r ≡ take k (drop base ids) ⌝ }
 {
     let mut out = [0u16; 16];
@@ -58,10 +61,10 @@ fn arguments(ids: [u16; 256], base: usize, k: u16) -> [u16; 16]
 fn argument_count(step: u8) -> u16
     ensures { λ r. ⌜ r ≡ argumentsOf step ⌝ }
 {
-    if step < 16 {
+    if step < FUNCTION_STEP {
         return 0;
     }
-    (step - 16) as u16
+    (step - FUNCTION_STEP) as u16
 }
 
 // Carries out the steps from the i-th on, and answers the sort that is then on top of the stack.
@@ -70,7 +73,7 @@ pub fn run_from(
     counts: Counts,
     steps: &[u8],
     i: usize,
-    ids: [u16; 256],
+    ids: [u16; MAX_STACK],
     depth: usize,
 ) -> Joined
     requires { ⌜ Running (now sorts) (counts .sorts) (counts .entries) (now steps) i ids depth ⌝ }
@@ -107,7 +110,7 @@ fn run_function(
     counts: Counts,
     steps: &[u8],
     i: usize,
-    ids: [u16; 256],
+    ids: [u16; MAX_STACK],
     depth: usize,
     step: u8,
 ) -> Joined
@@ -139,10 +142,10 @@ fn go_on(
     made: Joined,
     steps: &[u8],
     i: usize,
-    ids: [u16; 256],
+    ids: [u16; MAX_STACK],
     base: usize,
 ) -> Joined
-    requires { ⌜ GoesOn (now sorts) (now steps) i ids base made × (base < 256) × (i < length (now steps)) ⌝ }
+    requires { ⌜ GoesOn (now sorts) (now steps) i ids base made × (base < maxStack) × (i < length (now steps)) ⌝ }
     ensures { λ r. ⌜
         storedAt (now (sorts .exit)) r ≡ goOn (now (sorts .entry)) (now (steps .entry)) i ids base made
         ⌝ }
@@ -172,7 +175,7 @@ fn test_read(sorts: &[u16], sort_count: usize, entry_count: usize, line: &[u8]) 
             if sorts.len() < SORT_WORDS {
                 return Tested::Refused(14);
             }
-            if 200 < line.len() {
+            if MAX_LINE < line.len() {
                 return Tested::Refused(19);
             }
             Tested::Passed
@@ -211,7 +214,7 @@ pub fn read_line(sorts: &mut [u16], sort_count: usize, entry_count: usize, line:
         (lineOf (now (line .entry)))
         ⌝ }
 {
-    let mut steps = [0u8; 200];
+    let mut steps = [0u8; MAX_LINE];
     match recognise(line, &mut steps) {
         Recognised::Stuck(at) => Read::NotASort(at),
         Recognised::Done(_, count) => {
@@ -219,7 +222,7 @@ pub fn read_line(sorts: &mut [u16], sort_count: usize, entry_count: usize, line:
                 sorts: sort_count as u16,
                 entries: entry_count as u16,
             };
-            let stored = run_from(sorts, counts, &steps[..count], 0, [0u16; 256], 0);
+            let stored = run_from(sorts, counts, &steps[..count], 0, [0u16; MAX_STACK], 0);
             kept_or_no_room(sorts, sort_count, entry_count, stored)
         }
     }
@@ -238,3 +241,6 @@ pub fn read(sorts: &mut [u16], sort_count: usize, entry_count: usize, line: &[u8
         Tested::Passed => read_line(sorts, sort_count, entry_count, line),
     }
 }
+
+// How many sorts the stack holds: more than the steps of a line can put there.
+const MAX_STACK: usize = 256;

@@ -6,13 +6,13 @@ use lib.ListN.{length, take, drop}
 use Rattle.resolved_sort.specs.declared.ComplexSort.{ComplexSort}
 use Rattle.resolved_sort.specs.Tree.{Tree, Trees, arity}
 use Rattle.sort_text.specs.Tokens.{isLetter, skip, next}
-use Rattle.sort_text.specs.Parse.{Parsed, parsed, stuck, closing, rest, sort}
+use Rattle.sort_text.specs.Parse.{Parsed, parsed, stuck, maxArguments, closing, rest, sort}
 use Rattle.sort_text.specs.Postfix.{postfix, postfixes}
 use Rattle.sort_recogniser.specs.declared.Recognised.{Recognised}
 use Rattle.sort_recogniser.specs.declared.Recognised.the-variants.{Done, Stuck}
 
--- The steps of t stand after front, m steps in all; at p, no earlier than lowest, the line goes on with cs; and the steps with what is
--- left of the line take no more than room.
+-- The steps of t stand after front, m steps in all; at p, no earlier than lowest, the line goes on with cs; and the
+-- steps with what is left of the line take no more than room.
 pub record Wrote (line : List ℕ) (lowest room : ℕ) (front : List ℕ) (t : Tree) (cs out : List ℕ) (p m : ℕ)
     : Type 0 where
   pub further : lowest ≤ p
@@ -38,4 +38,4 @@ SaysClosing line at old n op out r =
 unfoldable pub SaysRest : List ℕ → ℕ → List ℕ → ℕ → ℕ → List ℕ → Recognised → Type 0
 SaysRest line at old n k out r =
     (front : List ℕ) (ts : Trees) → take n old ≡ front ++ postfixes ts → arity ts ≡ k
-    → Says line at (n + (length line - at)) front (rest sort (16 - k) ts (drop at line)) out r
+    → Says line at (n + (length line - at)) front (rest sort (maxArguments - k) ts (drop at line)) out r

@@ -1,11 +1,13 @@
-// Recognising a line as a sort: nothing is stored, the steps of the sort are written into a buffer, parts first. The tokens
-// are those of a reader that holds the line (`token_from`).
+// Recognising a line as a sort: nothing is stored, the steps of the sort are written into a buffer, parts first. The
+// tokens are those of a reader that holds the line (`token_from`).
 use resolved_sort::ComplexSort;
 use resolved_sort::Sort;
 use sort_lexer::Meaning;
 use sort_lexer::Token;
 use sort_lexer::token_from;
 use sort_lexer::word_meaning;
+use sort_text::FUNCTION_STEP;
+use sort_text::MOST_ARGUMENTS;
 ghost use mathlib.Core.Path.{_≡_};
 ghost use mathlib.Core.List.{[]};
 ghost use Prim.Native.Nat.{_+_, _-_, _≤_};
@@ -13,6 +15,7 @@ ghost use lib.ListN.{length, drop, take};
 ghost use Rattle.resolved_sort.specs.Tree.{primitive};
 ghost use Rattle.resolved_sort.specs.Storage.{kindFlat, kindOp};
 ghost use Rattle.sort_text.specs.Tokens.{isLetter, skip, next};
+ghost use Rattle.sort_text.specs.Parse.{maxArguments};
 ghost use Rattle.sort_recogniser.specs.Says.{Says, SaysClosing, SaysRest};
 ghost use Rattle.sort_text.specs.Parse as Parse;
 
@@ -67,7 +70,7 @@ fn closing(line: &[u8], at: usize, out: &mut [u8], n: usize, op: ComplexSort) ->
 // The operands so far are k: `#` and another operand, `->` and the range, or the end of the sort.
 fn rest(line: &[u8], at: usize, out: &mut [u8], n: usize, k: u8) -> Recognised
     requires { ⌜
-        (at ≤ length (now line)) × (n + (length (now line) - at) ≤ length (now out)) × (1 ≤ k) × (k ≤ 16)
+        (at ≤ length (now line)) × (n + (length (now line) - at) ≤ length (now out)) × (1 ≤ k) × (k ≤ maxArguments)
         ⌝ }
     ensures { λ r. ⌜ SaysRest (now (line .entry)) at (now (out .entry)) n k (now (out .exit)) r ⌝ }
 {
@@ -75,7 +78,7 @@ fn rest(line: &[u8], at: usize, out: &mut [u8], n: usize, k: u8) -> Recognised
     let token = found.token;
     match token {
         Token::Hash => {
-            if k == 16 {
+            if k == MOST_ARGUMENTS {
                 return Recognised::Stuck(found.at);
             }
             match operand(line, found.next, out, n) {
@@ -85,7 +88,7 @@ fn rest(line: &[u8], at: usize, out: &mut [u8], n: usize, k: u8) -> Recognised
         }
         Token::Arrow => match sort(line, found.next, out, n) {
             Recognised::Done(p, m) => {
-                out[m] = 16 + k;
+                out[m] = FUNCTION_STEP + k;
                 Recognised::Done(p, m + 1)
             }
             Recognised::Stuck(p) => Recognised::Stuck(p),

@@ -1,14 +1,17 @@
--- Reading a line as a sort: "`#` binds tighter than `->`, arrows group to the right"; "round brackets stand only after a container
--- word"; at most 16 arguments. Where the line is no sort, what is left of it from the first token that cannot follow.
+-- Reading a line as a sort: "`#` binds tighter than `->`, arrows group to the right"; "round brackets stand only after
+-- a container word"; at most 16 arguments. Where the line is no sort, what is left of it from the first token that
+-- cannot follow.
 use mathlib.Core.Bool.{Bool, true, false, cond, _&&_}
 use mathlib.Core.List.{List, [], _∷_, _++_}
 use Prim.Native.Nat.{ℕ, zero, suc, _-_}
 use lib.ListN.{length}
 use lib.Dec.{eqb}
+use Rattle.text_out.specs.Quoted.{bytesOf}
 use Rattle.resolved_sort.specs.declared.Sort.{Sort}
 use Rattle.resolved_sort.specs.declared.ComplexSort.{ComplexSort}
 use Rattle.resolved_sort.specs.Tree.{primitive, Tree, flat, container, function, Trees, end as no-args, arg}
-use Rattle.sort_text.specs.Tokens.{isLetter, Next, end, word, open-bracket, close-bracket, hash, arrow, bad, skip, next}
+use Rattle.sort_text.specs.Tokens.{isLetter, Next, end, word, open-bracket, close-bracket, hash, arrow, bad}
+use Rattle.sort_text.specs.Tokens.{skip, next}
 
 -- a sort and what is left of the line after it, or what is left from the first token that cannot follow
 pub data Parsed : Type 0 where
@@ -28,18 +31,18 @@ sameBytes (b ∷ bs) (c ∷ cs) = eqb b c && sameBytes bs cs
 
 -- the words of mCRL2 spelling
 unfoldable pub sortWord : Sort → List ℕ
-sortWord Sort.Bool = 66 ∷ 111 ∷ 111 ∷ 108 ∷ []
-sortWord Sort.Pos = 80 ∷ 111 ∷ 115 ∷ []
-sortWord Sort.Nat = 78 ∷ 97 ∷ 116 ∷ []
-sortWord Sort.Int = 73 ∷ 110 ∷ 116 ∷ []
-sortWord Sort.Real = 82 ∷ 101 ∷ 97 ∷ 108 ∷ []
+sortWord Sort.Bool = bytesOf "Bool"
+sortWord Sort.Pos = bytesOf "Pos"
+sortWord Sort.Nat = bytesOf "Nat"
+sortWord Sort.Int = bytesOf "Int"
+sortWord Sort.Real = bytesOf "Real"
 
 unfoldable pub opWord : ComplexSort → List ℕ
-opWord ComplexSort.List = 76 ∷ 105 ∷ 115 ∷ 116 ∷ []
-opWord ComplexSort.Set = 83 ∷ 101 ∷ 116 ∷ []
-opWord ComplexSort.FSet = 70 ∷ 83 ∷ 101 ∷ 116 ∷ []
-opWord ComplexSort.Bag = 66 ∷ 97 ∷ 103 ∷ []
-opWord ComplexSort.FBag = 70 ∷ 66 ∷ 97 ∷ 103 ∷ []
+opWord ComplexSort.List = bytesOf "List"
+opWord ComplexSort.Set = bytesOf "Set"
+opWord ComplexSort.FSet = bytesOf "FSet"
+opWord ComplexSort.Bag = bytesOf "Bag"
+opWord ComplexSort.FBag = bytesOf "FBag"
 
 pub data Meaning : Type 0 where
   basic : Sort → Meaning

@@ -1,5 +1,5 @@
--- A sort as a list of steps, parts first: the order in which a line's sorts are stored. Recognising a line writes the steps, storing
--- carries them out on a stack, so that a line which is no sort stores nothing.
+-- A sort as a list of steps, parts first: the order in which a line's sorts are stored. Recognising a line writes the
+-- steps, storing carries them out on a stack, so that a line which is no sort stores nothing.
 use mathlib.Core.Bool.{Bool, true, false, cond}
 use mathlib.Core.List.{List, [], _∷_, _++_}
 use Prim.Native.Nat.{ℕ, zero, suc, _+_, _-_, _≤_}
@@ -9,15 +9,19 @@ use Rattle.resolved_sort.specs.declared.Sort.{Sort}
 use Rattle.resolved_sort.specs.declared.ComplexSort.{ComplexSort}
 use Rattle.resolved_sort.specs.Tree.{unit, primitive, Tree, flat, container, function, Trees, end, arg, arity}
 use Rattle.resolved_sort.specs.Interning.{Sorts, Outcome, made, nothing, full, _then_, intern}
-use Rattle.resolved_sort.specs.Storage.{kindFlat, kindOp}
+use Rattle.resolved_sort.specs.Storage.{kindFlat, kindOp, functionKind}
+use Rattle.sort_text.specs.Parse.{maxArguments}
 
--- The steps: 0 to 5 the fixed six sorts, 6 to 10 a container over the sort before, 16 + k a function of the k sorts before the
--- range before.
+-- The steps: 0 to 5 the fixed six sorts, 6 to 10 a container over the sort before, functionStep + k a function of the k
+-- sorts before the range before.
+abbrev pub functionStep : ℕ
+functionStep = 16
+
 unfoldable mutual
   pub postfix : Tree → List ℕ
   postfix (flat a) = kindFlat a ∷ []
   postfix (container o t) = postfix t ++ (kindOp o ∷ [])
-  postfix (function ts r) = postfixes ts ++ (postfix r ++ ((16 + arity ts) ∷ []))
+  postfix (function ts r) = postfixes ts ++ (postfix r ++ ((functionStep + arity ts) ∷ []))
 
   pub postfixes : Trees → List ℕ
   postfixes end = []
@@ -61,7 +65,7 @@ mapping k (r ∷ st) S = applied r (takeArguments k end st) S
 unfoldable pub stepOn : ℕ → List Tree → Sorts → Outcome (List Tree)
 stepOn op st S =
     cond (ltb op 6) (made (sixth op ∷ st) S)
-    (cond (ltb op 11) (over (opOf (op - 6)) st S) (mapping (op - 16) st S))
+    (cond (ltb op functionKind) (over (opOf (op - 6)) st S) (mapping (op - functionStep) st S))
 
 -- the sort on top when all steps are done
 abbrev pub top : List Tree → Sorts → Outcome Tree
@@ -72,7 +76,7 @@ unfoldable pub steps : List ℕ → List Tree → Sorts → Outcome Tree
 steps [] st S = top st S
 steps (op ∷ ops) st S = stepOn op st S then (λ st S. steps ops st S)
 
--- no step makes a function of more than 16 arguments
+-- no step makes a function of more than maxArguments arguments
 unfoldable pub Short : List ℕ → Type 0
 Short [] = Unit {0}
-Short (op ∷ ops) = (op ≤ 32) × Short ops
+Short (op ∷ ops) = (op ≤ functionStep + maxArguments) × Short ops

@@ -1,9 +1,11 @@
--- Writing a sort: "the writer joins argument texts by ` # `, then ` -> ` and the range". Unit, Def, TypeVar and functions without
--- arguments have no text (13).
+-- Writing a sort: "the writer joins argument texts by ` # `, then ` -> ` and the range". Unit, Def, TypeVar and
+-- functions without arguments have no text (13).
 use mathlib.Core.Bool.{Bool, true, false, _&&_}
 use mathlib.Core.List.{List, [], _∷_, _++_}
 use Prim.Native.Nat.{ℕ}
-use Rattle.resolved_sort.specs.Tree.{Flat, unit, primitive, def, typevar, Tree, flat, container, function, Trees, end, arg}
+use Rattle.text_out.specs.Quoted.{bytesOf}
+use Rattle.resolved_sort.specs.Tree.{Flat, unit, primitive, def, typevar, Tree, flat, container, function, Trees}
+use Rattle.resolved_sort.specs.Tree.{end, arg}
 use Rattle.sort_text.specs.Parse.{sortWord, opWord}
 
 -- whether a function has an argument
@@ -27,12 +29,11 @@ unfoldable mutual
   writables end = true
   writables (arg t ts) = writable t && writables ts
 
--- the bytes ` # ` and ` -> `
 abbrev pub between : List ℕ
-between = 32 ∷ 35 ∷ 32 ∷ []
+between = bytesOf " # "
 
 abbrev pub arrow : List ℕ
-arrow = 32 ∷ 45 ∷ 62 ∷ 32 ∷ []
+arrow = bytesOf " -> "
 
 abbrev pub flatText : Flat → List ℕ
 flatText unit = []
@@ -47,7 +48,7 @@ argument t bs = bs
 unfoldable mutual
   pub text : Tree → List ℕ
   text (flat a) = flatText a
-  text (container o t) = opWord o ++ (40 ∷ (text t ++ (41 ∷ [])))
+  text (container o t) = opWord o ++ (bytesOf "(" ++ (text t ++ bytesOf ")"))
   text (function ts r) = texts ts ++ (arrow ++ text r)
 
   -- the arguments of a function, joined

@@ -1,13 +1,15 @@
--- Tokens of a line: "a longest run of letters, `(`, `)`, `#`, `->`; a byte that starts none of these counts as a token that cannot
--- follow"; "spaces may stand before, between and after tokens, never inside one". Only the byte 32 is a space.
+-- Tokens of a line: "a longest run of letters, `(`, `)`, `#`, `->`; a byte that starts none of these counts as a token
+-- that cannot follow"; "spaces may stand before, between and after tokens, never inside one". Only the byte 32 is a
+-- space.
 use mathlib.Core.Bool.{Bool, true, false, cond, _&&_, _||_}
 use mathlib.Core.List.{List, [], _∷_}
 use Prim.Native.Nat.{ℕ}
 use lib.Dec.{eqb, leb}
+use Rattle.text_out.specs.Quoted.{byteOf}
 
 -- the bytes of words: ASCII letters (a later request has another class)
 abbrev pub isLetter : ℕ → Bool
-isLetter b = leb 65 b && leb b 90 || leb 97 b && leb b 122
+isLetter b = leb (byteOf "A") b && leb b (byteOf "Z") || leb (byteOf "a") b && leb b (byteOf "z")
 
 -- the next token, with the bytes after it
 pub data Next : Type 0 where
@@ -27,20 +29,21 @@ past p (b ∷ bs) = cond (p b) (past p bs) (b ∷ bs)
 
 -- without the spaces at the front
 unfoldable pub skip : List ℕ → List ℕ
-skip = past (eqb 32)
+skip = past (eqb (byteOf " "))
 
 -- `-` is a token only with `>` after it
 abbrev pub dash : List ℕ → Next
 dash [] = bad
-dash (b ∷ bs) = cond (eqb b 62) (arrow bs) bad
+dash (b ∷ bs) = cond (eqb b (byteOf ">")) (arrow bs) bad
 
 -- the token that a byte starts
 unfoldable pub start : (ℕ → Bool) → ℕ → List ℕ → Next
 start p b bs =
     cond (p b) (word (b ∷ run p bs) (past p bs))
-    (cond (eqb b 40) (open-bracket bs)
-    (cond (eqb b 41) (close-bracket bs)
-    (cond (eqb b 35) (hash bs) (cond (eqb b 45) (dash bs) bad))))
+    (cond (eqb b (byteOf "(")) (open-bracket bs)
+    (cond (eqb b (byteOf ")")) (close-bracket bs)
+    (cond (eqb b (byteOf "#")) (hash bs)
+    (cond (eqb b (byteOf "-")) (dash bs) bad))))
 
 abbrev pub nextAt : (ℕ → Bool) → List ℕ → Next
 nextAt p [] = end

@@ -1,5 +1,5 @@
--- The answer of the writer as one number, for callers in other languages: the length of the text, which is below 2^63; or
--- 2^63 and the code of a refusal.
+-- The answer of the writer as one number, for callers in other languages: the length of the text, which is below 2^63;
+-- or 2^63 and the code of a refusal.
 use mathlib.Core.List.{List}
 use Prim.Native.Nat.{ℕ, _+_}
 use Rattle.sort_text.specs.declared.Written.{Written}

@@ -1,5 +1,5 @@
--- How long texts are, as the code finds it: in rising sort number, each sort's size from the sizes of its parts. A size is
--- the length of the text as far as 2^63, which no buffer reaches, and 0 where a sort has no text.
+-- How long texts are, as the code finds it: in rising sort number, each sort's size from the sizes of its parts. A size
+-- is the length of the text as far as 2^63, which no buffer reaches, and 0 where a sort has no text.
 use mathlib.Core.Bool.{Bool, cond, _&&_}
 use mathlib.Core.List.{List, [], _∷_}
 use Prim.Native.Nat.{ℕ, zero, suc, _+_}

@@ -1,5 +1,5 @@
-// Writing a sort of the lent sort list as text in mCRL2 spelling. All sizes are found first, in rising sort number, so that
-// shared parts are looked at once; then the text is put into the lent buffer, or nothing is.
+// Writing a sort of the lent sort list as text in mCRL2 spelling. All sizes are found first, in rising sort number, so
+// that shared parts are looked at once; then the text is put into the lent buffer, or nothing is.
 use resolved_sort::ComplexSort;
 use resolved_sort::Counts;
 use resolved_sort::ENTRIES_AT;
@@ -16,7 +16,7 @@ use text_out::put_bytes;
 use words::BIT_63;
 use words::word;
 ghost use mathlib.Core.Path.{_≡_};
-ghost use mathlib.Core.List.{[], _∷_, _++_};
+ghost use mathlib.Core.List.{_++_};
 ghost use Prim.Native.Nat.{_+_, _<_, _≤_};
 ghost use lib.ListN.{length, getD, replicate};
 ghost use Rattle.resolved_sort.specs.Storage.{maxSorts, entryAt, entriesOf};
@@ -28,6 +28,7 @@ ghost use Rattle.sort_text.specs.Writing.{writeChecks, writeLeft, writing};
 ghost use Rattle.sort_writer.specs.Sizes.{joined, runSize, rowSize, sizesTo};
 ghost use Rattle.sort_writer.specs.Puts.{argsAt, SortRoom, RunRoom};
 ghost use Rattle.text_out.specs.Put.{Put};
+ghost use Rattle.text_out.specs.Quoted.{bytesOf};
 ghost use Rattle.sort_writer.specs.Packed.{packWritten, packed, packLeft};
 
 // The size of two texts one after the other. It stops at 2^63, and where one has no text there is none.
@@ -93,7 +94,8 @@ fn argument_size(sorts: &[u16], sizes: &[usize], start: u16, j: u16) -> usize
     )
 }
 
-// The size of all arguments of a run with ` # ` between them, from the last back to the first. No arguments have no text.
+// The size of all arguments of a run with ` # ` between them, from the last back to the first. No arguments have no
+// text.
 fn arguments_size(sorts: &[u16], sizes: &[usize], start: u16, count: u16) -> usize
     ensures { λ r. ⌜ r ≡ runSize (now (sizes .entry)) (entriesOf (now (sorts .entry)) start count) ⌝ }
 {
@@ -147,7 +149,7 @@ pub fn fill_sizes(sorts: &[u16], n: usize, sizes: &mut [usize])
 // The size of a sort of the list. The sizes of the others are not kept.
 fn text_size(sorts: &[u16], n: usize, id: SortId) -> usize
     requires { ⌜ n ≤ maxSorts ⌝ }
-    ensures { λ r. ⌜ r ≡ getD (sizesTo (now (sorts .entry)) (replicate 1024 0) n) (id .0) 0 ⌝ }
+    ensures { λ r. ⌜ r ≡ getD (sizesTo (now (sorts .entry)) (replicate maxSorts 0) n) (id .0) 0 ⌝ }
 {
     let mut sizes = [0usize; MAX_SORTS];
     fill_sizes(sorts, n, &mut sizes);
@@ -170,8 +172,8 @@ fn put_word(sort: Sort, out: &mut [u8], at: usize) -> usize
 
 // The word of a container and the bracket after it.
 fn put_op(op: ComplexSort, out: &mut [u8], at: usize) -> usize
-    requires { ⌜ at + length (opWord op ++ (40 ∷ [])) ≤ length (now out) ⌝ }
-    ensures { λ r. ⌜ Put (now (out .entry)) at (opWord op ++ (40 ∷ [])) (now (out .exit)) r ⌝ }
+    requires { ⌜ at + length (opWord op ++ bytesOf "(") ≤ length (now out) ⌝ }
+    ensures { λ r. ⌜ Put (now (out .entry)) at (opWord op ++ bytesOf "(") (now (out .exit)) r ⌝ }
 {
     match op {
         ComplexSort::List => put_bytes(b"List(", out, at),

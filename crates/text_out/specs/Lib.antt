@@ -1,4 +1,5 @@
-pub mod Within
-pub mod Put
-pub mod Decimal
+-- Texts quoted, numbers in decimal, and bytes put into a buffer.
 pub mod Quoted
+pub mod Decimal
+pub mod Put
+pub mod Within

@@ -1,4 +1,5 @@
--- Bytes put into a buffer one after another, as far as it has room: past its end they are lost, and the place stays there.
+-- Bytes put into a buffer one after another, as far as it has room: past its end they are lost, and the place stays
+-- there.
 use mathlib.Core.Path.{_≡_}
 use mathlib.Core.Bool.{cond}
 use mathlib.Core.List.{List, [], _∷_}

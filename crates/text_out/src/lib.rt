@@ -1,4 +1,5 @@
-// Bytes, texts and numbers put into a lent buffer: where the caller has shown that there is room, or as far as there is room.
+// Bytes, texts and numbers put into a lent buffer: where the caller has shown that there is room, or as far as there is
+// room.
 ghost use mathlib.Core.List.{[], _∷_};
 ghost use Prim.Native.Nat.{_+_, _<_, _≤_};
 ghost use lib.ListN.{length};
@@ -51,7 +52,7 @@ fn put_digit(n: u16, unit: u16, out: &mut [u8], at: usize) -> usize
     if n < unit {
         return at;
     }
-    put_byte((48 + (n / unit) % 10) as u8, out, at)
+    put_byte((DIGIT_0 + (n / unit) % 10) as u8, out, at)
 }
 
 // A number in decimal.
@@ -62,5 +63,8 @@ pub fn put_number(n: u16, out: &mut [u8], at: usize) -> usize
     let hundreds = put_digit(n, 1000, out, thousands);
     let tens = put_digit(n, 100, out, hundreds);
     let ones = put_digit(n, 10, out, tens);
-    put_byte((48 + n % 10) as u8, out, ones)
+    put_byte((DIGIT_0 + n % 10) as u8, out, ones)
 }
+
+// The byte of the digit 0; the others follow it.
+const DIGIT_0: u16 = 48;

@@ -1,6 +1,5 @@
 -- What is put one after another is put whole. Assumes nothing.
 use borrow.Author.Needs.{needs}
-use Rattle.text_out.specs.Quoted.{bytesOf}
 use Rattle.text_out.proofs.Within as law
 use Rattle.list_messages.specs.Messages.{badText}
 use Rattle.list_messages.proofs.put_bad.Statement.{statement}
@@ -25,7 +24,7 @@ same-length : tie.Need-same-length
 same-length c = search needs
 
 returns : tie.Need-returns
-unfolding bytesOf badText
+unfolding badText
 returns c = law.put-then (c .before .before .before .before .before .before .before .before .before .before .before .put-text .ensures) (law.put-then (c .before .before .before .before .before .before .before .put-form .ensures) (c .before .before .put-text2 .ensures))
 
 pub put-bad-spec : {M : Type 1} → statement M

@@ -1,6 +1,6 @@
 -- The bytes between two starts are the message of that place. Assumes nothing.
 use borrow.Author.Needs.{needs}
-use Rattle.text_out.specs.Quoted.{bytesOf}
+use Rattle.list_messages.specs.Messages.{formText}
 use Rattle.list_messages.proofs.Table as law
 use Rattle.list_messages.proofs.put_form.Statement.{statement}
 use Rattle.list_messages.proofs.put_form.Tie as tie
@@ -36,7 +36,7 @@ same-length : tie.Need-same-length
 same-length c = search needs
 
 returns : tie.Need-returns
-unfolding bytesOf law.starts law.bytes law.cut
+unfolding formText law.starts law.bytes law.cut
 returns c = search law.message-is-put
 
 pub put-form-spec : {M : Type 1} → statement M

@@ -2,7 +2,7 @@
 use borrow.Author.Needs.{needs}
 use lib.ListN.{List·getD-eq-default}
 use mathlib.Core.Path.{refl, sym, _∙_}
-use Rattle.list_memory.specs.Memory.{startOf, starts}
+use Rattle.list_memory.specs.Memory.{listStart, starts}
 use Rattle.list_reader.proofs.start_word.Statement.{statement}
 use Rattle.list_reader.proofs.start_word.Tie as tie
 
@@ -13,11 +13,11 @@ array-read-result : tie.Need-array-read-result
 array-read-result c = search needs
 
 returns : tie.Need-returns
-unfolding startOf
+unfolding listStart
 returns c = refl
 
 returns-2 : tie.Need-returns-2
-unfolding startOf
+unfolding listStart
 returns-2 c = sym (List·getD-eq-default starts 0 (c .if1 .left))
 
 pub start-word-spec : {M : Type 1} → statement M
