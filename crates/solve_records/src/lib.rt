@@ -38,7 +38,7 @@ pub struct OverloadRecord {
 }
 
 // The words of as many records as there can be.
-pub const UNPACKED_WORDS: usize = 3072;
+const UNPACKED_WORDS: usize = 3072;
 
 // The record at i.
 fn record_at(records: &[OverloadRecord], i: usize) -> OverloadRecord
