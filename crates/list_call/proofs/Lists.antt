@@ -9,7 +9,8 @@ use lib.Seq.{sets, length-take-le, take-take}
 use borrow.Author.Tests.{eq-eqb, ne-eqb, lt-ltb, le-ltb}
 use Rattle.words.specs.Words.{part}
 use Rattle.problem_words.proofs.Wholes.{part-length, copied-out}
-use Rattle.list_call.specs.Lists.{rowsGiven, countOf, toldOr, lengthOf, lent}
+use Rattle.list_call.specs.Lists.{countOf, toldOr, lengthOf, lent}
+use Rattle.list_memory.specs.Memory.{rowsOf}
 
 pub few-words : (width rows : ℕ) → width ≤ 5 → rows ≤ 65535 → width * rows ≤ 327675
 few-words width rows h k = mul-le-mul h k
@@ -19,7 +20,7 @@ module _ (ws : List ℕ) where
   unfolding countOf
   told-count k f t e g h = rw (eq-eqb (getD ws (34069 + k) 0) 1 (sym e ∙ h)) g
 
-  pub own-count : (k f t : ℕ) → f ≡ getD ws (34069 + k) 0 → t ≡ rowsGiven ws k → (f ≡ 1 → ⊥) → t ≡ countOf ws k
+  pub own-count : (k f t : ℕ) → f ≡ getD ws (34069 + k) 0 → t ≡ rowsOf ws k → (f ≡ 1 → ⊥) → t ≡ countOf ws k
   unfolding countOf
   own-count k f t e g h = rw (ne-eqb (getD ws (34069 + k) 0) 1 (λ q. h (e ∙ q))) g
 
@@ -41,8 +42,8 @@ module _ (ws : List ℕ) where
 
   -- a part from `start` on, as long as lent
   pub part-lent :
-      (start j k width top rows m end : ℕ) → rows ≡ rowsGiven ws k → m ≡ lengthOf ws j (width * rows) top → end ≡ start + m
-      → take (end - start) (drop start ws) ≡ lent ws start j (width * rowsGiven ws k) top
+      (start j k width top rows m end : ℕ) → rows ≡ rowsOf ws k → m ≡ lengthOf ws j (width * rows) top → end ≡ start + m
+      → take (end - start) (drop start ws) ≡ lent ws start j (width * rowsOf ws k) top
   unfolding lent
   part-lent start j k width top rows m end h e g =
       let z : end - start ≡ m = omega arith in
@@ -63,5 +64,5 @@ module _ (ws : List ℕ) (start top : ℕ) (old xs : List ℕ) (room : start + t
   unfolding lent
   front-lent j n m g h = ap (take m) copied ∙ (take-take m top (drop start ws) h ∙ ap (λ (k : ℕ). take k (drop start ws)) g)
 
-pub rows-lent : (ws xs : List ℕ) (start j k top n : ℕ) → xs ≡ lent ws start j n top → n ≡ rowsGiven ws k → xs ≡ lent ws start j (1 * rowsGiven ws k) top
-rows-lent ws xs start j k top n e h = e ∙ ap (λ (m : ℕ). lent ws start j m top) (let z : n ≡ 1 * rowsGiven ws k = omega (arith, h) in z)
+pub rows-lent : (ws xs : List ℕ) (start j k top n : ℕ) → xs ≡ lent ws start j n top → n ≡ rowsOf ws k → xs ≡ lent ws start j (1 * rowsOf ws k) top
+rows-lent ws xs start j k top n e h = e ∙ ap (λ (m : ℕ). lent ws start j m top) (let z : n ≡ 1 * rowsOf ws k = omega (arith, h) in z)

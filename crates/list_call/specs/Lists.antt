@@ -8,23 +8,19 @@ use Rattle.resolved_sort.specs.Storage.{fullLength}
 use Rattle.unification.specs.Nodes.{maxVars, fullNodes}
 use Rattle.inference.specs.Constraints.{maxExprs, maxSources, maxComponents}
 use Rattle.inference.specs.SolveChecks.{scratchWords, Call}
-use Rattle.list_memory.specs.Memory.{nameWords, constraintWords, overloadWords, typingWords, choiceWords}
+use Rattle.list_memory.specs.Memory.{nameWords, constraintWords, overloadWords, typingWords, choiceWords, rowsOf}
 use Rattle.list_memory.specs.Memory.{listSortsAt, listNodesAt, listBindsAt, listExprsAt, listNamesAt, listConstraintsAt}
 use Rattle.list_memory.specs.Memory.{listOverloadsAt, listSourcesAt, listTypingAt, listMeasureAt, listChoicesAt}
 use Rattle.list_memory.specs.Memory.{listScratchAt, sortList, entryList, nodeList, nodeEntryList, varList, exprList}
-use Rattle.list_memory.specs.Memory.{nameList, constraintList, overloadList, sourceList, rowsOf, defaultAt, countsAt}
+use Rattle.list_memory.specs.Memory.{nameList, constraintList, overloadList, sourceList, defaultAt, countsAt}
 use Rattle.list_memory.specs.Memory.{countsToldAt, lentAt, lentToldAt}
 use Rattle.words.specs.Words.{part}
 use Rattle.solve_checks.specs.declared.Given.{Given}
 use Rattle.solve_checks.specs.Call.{callOf}
 
--- rows given of list k
-abbrev pub rowsGiven : List ℕ → ℕ → ℕ
-rowsGiven ws k = rowsOf ws k
-
--- its count in the call: the one told, where one is told
+-- the count of list k in the call: the one told, where one is told
 unfoldable pub countOf : List ℕ → ℕ → ℕ
-countOf ws k = cond (eqb (getD ws (countsToldAt + k) 0) 1) (getD ws (countsAt + k) 0) (rowsGiven ws k)
+countOf ws k = cond (eqb (getD ws (countsToldAt + k) 0) 1) (getD ws (countsAt + k) 0) (rowsOf ws k)
 
 abbrev pub defaultIn : List ℕ → ℕ
 defaultIn ws = getD ws defaultAt 0
@@ -48,22 +44,22 @@ module _ (ws : List ℕ) where
   nodesIn = lent ws listNodesAt 1 fullNodes fullNodes
 
   abbrev pub bindsIn : List ℕ
-  bindsIn = lent ws listBindsAt 2 (1 * rowsGiven ws varList) maxVars
+  bindsIn = lent ws listBindsAt 2 (1 * rowsOf ws varList) maxVars
 
   abbrev pub exprsIn : List ℕ
-  exprsIn = lent ws listExprsAt 3 (1 * rowsGiven ws exprList) maxExprs
+  exprsIn = lent ws listExprsAt 3 (1 * rowsOf ws exprList) maxExprs
 
   abbrev pub namesIn : List ℕ
-  namesIn = lent ws listNamesAt 4 (3 * rowsGiven ws nameList) nameWords
+  namesIn = lent ws listNamesAt 4 (3 * rowsOf ws nameList) nameWords
 
   abbrev pub constraintsIn : List ℕ
-  constraintsIn = lent ws listConstraintsAt 5 (5 * rowsGiven ws constraintList) constraintWords
+  constraintsIn = lent ws listConstraintsAt 5 (5 * rowsOf ws constraintList) constraintWords
 
   abbrev pub overloadsIn : List ℕ
-  overloadsIn = lent ws listOverloadsAt 6 (3 * rowsGiven ws overloadList) overloadWords
+  overloadsIn = lent ws listOverloadsAt 6 (3 * rowsOf ws overloadList) overloadWords
 
   abbrev pub sourcesIn : List ℕ
-  sourcesIn = lent ws listSourcesAt 7 (1 * rowsGiven ws sourceList) maxSources
+  sourcesIn = lent ws listSourcesAt 7 (1 * rowsOf ws sourceList) maxSources
 
   abbrev pub typingIn : List ℕ
   typingIn = lent ws listTypingAt 9 typingWords typingWords

@@ -24,14 +24,14 @@ ghost use mathlib.Core.Path.{_≡_};
 ghost use Prim.Native.Nat.{_+_, _*_, _≤_};
 ghost use lib.ListN.{length};
 ghost use Rattle.inference.specs.SolveEntry.{solveEntry};
-ghost use Rattle.list_memory.specs.Memory.{rowsAt, mostRows};
+ghost use Rattle.list_memory.specs.Memory.{rowsAt, mostRows, rowsOf};
 ghost use Rattle.solve_outputs.specs.Finish.{leftOf};
-ghost use Rattle.list_call.specs.Lists.{rowsGiven, countOf, toldOr, lengthOf, lent, givenIn, callBy};
+ghost use Rattle.list_call.specs.Lists.{countOf, toldOr, lengthOf, lent, givenIn, callBy};
 
 // The rows given of a list.
 pub fn rows_given(list: &[u16], k: usize) -> usize
     requires { ⌜ k ≤ 9 ⌝ }
-    ensures { λ r. ⌜ (r ≡ rowsGiven (now (list .entry)) k) × (r ≤ mostRows) ⌝ }
+    ensures { λ r. ⌜ (r ≡ rowsOf (now (list .entry)) k) × (r ≤ mostRows) ⌝ }
 {
     word(list, ROWS_AT + k) as usize
 }
@@ -93,7 +93,7 @@ pub fn length_of(list: &[u16], j: usize, n: usize, top: usize) -> usize
 // list k have.
 fn lend(list: &[u16], start: usize, j: usize, k: usize, width: usize, top: usize) -> &[u16]
     requires { ⌜ (j ≤ 11) × (k ≤ 9) × (width ≤ 5) × (start + top ≤ length (now list)) ⌝ }
-    ensures { λ r. ⌜ now r ≡ lent (now (list .entry)) start j (width * rowsGiven (now (list .entry)) k) top ⌝ }
+    ensures { λ r. ⌜ now r ≡ lent (now (list .entry)) start j (width * rowsOf (now (list .entry)) k) top ⌝ }
 {
     let rows = rows_given(list, k);
     let end = start + length_of(list, j, width * rows, top);

@@ -31,7 +31,7 @@ use Rattle.unification.specs.Unify.{follow, deep}
 use Rattle.unification.specs.Acyclic.{first}
 use Rattle.unification.specs.Checked.{graphOf, Ready, Placed}
 use Rattle.unification.specs.Related.{relatedContainer}
-use Rattle.unification.specs.Making.{Lent, Makes, made, _and-then_, relatedOver, pushFunctions, relatedPlaces, relatedEnd, strictRelated}
+use Rattle.unification.specs.Making.{Lent, Makes, made, _and-then_, relatedOver, pushFunctions, relatedPlaces, relatedEnd, strictRelated, lent}
 use Rattle.unification.proofs.Follow.{follow-end}
 use Rattle.unification.proofs.Rank.{rank}
 use Rattle.unification.proofs.Theorem.{ready-ranked}
@@ -44,7 +44,7 @@ use Rattle.unification.proofs.Rows.{ShapeFormed, variable-formed, flat-formed, 
 use Rattle.infer_nodes.specs.Parts.{NodesReady}
 use Rattle.infer_nodes.proofs.Shapes.{at-sort, shape-of-variable}
 use Rattle.infer_nodes.proofs.Ways as ways
-use Rattle.related_sorts.specs.Outcome.{lent, related, AreThese, IsFunction, FunctionAt, Relates}
+use Rattle.related_sorts.specs.Outcome.{related, AreThese, IsFunction, FunctionAt, Relates}
 use Rattle.related_sorts.proofs.Laws.{relates-as, no-places}
 
 -- a function has at most 16 arguments

@@ -34,9 +34,9 @@ use Rattle.unification.specs.declared.Three.{Three}
 use Rattle.unification.specs.declared.Related.{Related}
 use Rattle.unification.specs.Nodes.{maxNodes, maxNodeEntries, nodeEntriesAt}
 use Rattle.unification.specs.Related.{relatedContainer}
-use Rattle.unification.specs.Making.{Lent, Makes, made, no-list, no-room, _and-then_, only, withSorts, pushNode, appendNode, internContainer, relatedOver, pushFunctions}
+use Rattle.unification.specs.Making.{Lent, Makes, made, no-list, no-room, _and-then_, only, withSorts, pushNode, appendNode, internContainer, relatedOver, pushFunctions, lent}
 use Rattle.unification.specs.Resolve.{withCounts}
-use Rattle.related_sorts.specs.Outcome.{lent, row, pushed, relatedBy, related, AreThese, RangesBy, Ranges, Relates}
+use Rattle.related_sorts.specs.Outcome.{row, pushed, relatedBy, related, AreThese, RangesBy, Ranges, Relates}
 
 -- numbers
 pub are-these : (r t : Three) → r ≡ t → (ps : List ℕ) → take (t .count) (t .ids) ≡ ps → t .count ≤ 3 → AreThese r ps

@@ -13,10 +13,7 @@ use Rattle.unification.specs.declared.Three.{Three}
 use Rattle.unification.specs.declared.Related.{Related}
 use Rattle.unification.specs.Term.{functionHead, over, partsOf}
 use Rattle.unification.specs.Checked.{NodesChecked, graphOf, Placed}
-use Rattle.unification.specs.Making.{Lent, Makes, made, no-list, no-room}
-
-abbrev pub lent : List ℕ → List ℕ → Lengths → Lent
-lent ws ns k = record { sorts = ws; nodes = ns; lengths = k }
+use Rattle.unification.specs.Making.{Makes, made, no-list, no-room, lent}
 
 abbrev pub row : ℕ → ℕ → List ℕ → Row
 row kind part args = record { kind = kind; part = part; args = args }

@@ -45,9 +45,9 @@ ghost use Rattle.unification.specs.Term.{partsOf};
 ghost use Rattle.unification.specs.Nodes.{bindsOf};
 ghost use Rattle.unification.specs.Checked.{graphOf, Ready, Placed};
 ghost use Rattle.unification.specs.Related.{relatedContainer};
-ghost use Rattle.unification.specs.Making.{made, _and-then_, pushNode, relatedOver};
+ghost use Rattle.unification.specs.Making.{made, _and-then_, pushNode, relatedOver, lent};
 ghost use Rattle.unification.specs.Making.{pushFunctions, relatedPlaces, strictRelated};
-ghost use Rattle.related_sorts.specs.Outcome.{lent, pushed, related, row, AreThese};
+ghost use Rattle.related_sorts.specs.Outcome.{pushed, related, row, AreThese};
 ghost use Rattle.related_sorts.specs.Outcome.{IsFunction, FunctionAt, Ranges, Relates};
 
 // The numbers strictly above or below `sort`, in ascending distance.

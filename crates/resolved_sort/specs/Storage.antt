@@ -124,6 +124,10 @@ unfoldable pub trees : List ℕ → ℕ → List Tree
 trees ws zero = []
 trees ws (suc n) = trees ws n ++ (treeOf (trees ws n) (wordsAt ws n) ∷ [])
 
+-- the sorts of the c entries from s on
+abbrev pub argsAt : List ℕ → ℕ → ℕ → ℕ → Trees
+argsAt ws n s c = lookAll (trees ws n) (entriesOf ws s c)
+
 -- The list of n sorts and e entries, with the room up to the ceilings.
 abbrev pub sortsOf : List ℕ → ℕ → ℕ → Sorts
 sortsOf ws n e = record { trees = trees ws n; rows = maxSorts - n; entries = maxEntries - e }

@@ -21,9 +21,9 @@ use Rattle.unification.specs.Resolve.{valueIn, termResolved, withCounts}
 use Rattle.inference.specs.Search.{makesSort, resolveIn, joinIn, headOf}
 use Rattle.search_state.specs.declared.Made.{Made}
 use Rattle.search_state.specs.declared.Made.the-variants.{At as Is, Nothing as NoSort, Full as NoRoom}
-use Rattle.search_state.specs.Memory.{lent}
 use Rattle.search_state.specs.Leaves.{madeOf}
 use Rattle.search_join.specs.Sources.{madeFrom}
+use Rattle.unification.specs.Making.{lent}
 
 module _ (k : Lengths) (j : Joined) where
   pub from-sort : (id : SortId) (c : Counts) → j ≡ At id c → (l : Lengths) → l ≡ withCounts k c → Is id l ≡ madeFrom k j

@@ -12,7 +12,7 @@ use Rattle.unification.specs.declared.Lengths.{Lengths}
 use Rattle.unification.specs.declared.Default.the-variants.{Nothing}
 use Rattle.unification.specs.Nodes.{Binds, bindsOf}
 use Rattle.unification.specs.Checked.{Ready, Placed}
-use Rattle.unification.specs.Making.{Lent, Makes, made, no-list, no-room, _and-then_}
+use Rattle.unification.specs.Making.{Lent, Makes, made, no-list, no-room, _and-then_, lent}
 use Rattle.unification.proofs.Grows.{PlacedIn, ready-grown, placed-grown, same-binds}
 use Rattle.unification.proofs.SortsLeft.{SortWith}
 use Rattle.unification.proofs.ResolveAnswers.{AlwaysStandsFor}
@@ -23,7 +23,7 @@ use Rattle.inference.proofs.MakingSorts.{MadeSorts, NoDefault, resolve-makes}
 use Rattle.search_state.specs.declared.Made.{Made}
 use Rattle.search_state.specs.declared.Made.the-variants.{At as Is, Nothing as NoSort, Full as NoRoom}
 use Rattle.search_state.specs.declared.Extracted.the-variants.{All, Nothing as Without, Full as NotAll}
-use Rattle.search_state.specs.Memory.{sourceAt, lent}
+use Rattle.search_state.specs.Memory.{sourceAt}
 use Rattle.search_state.specs.Leaves.{madeOf, extractedOf}
 use Rattle.search_join.specs.Sources.{Sources}
 use Rattle.search_join.proofs.Lists.{one-more}

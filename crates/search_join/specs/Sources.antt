@@ -14,7 +14,8 @@ use Rattle.inference.specs.Constraints.{maxSources, rowsFrom}
 use Rattle.inference.specs.Typing.{All}
 use Rattle.search_state.specs.declared.Made.{Made}
 use Rattle.search_state.specs.declared.Made.the-variants.{At as Is, Nothing as NoSort, Full as NoRoom}
-use Rattle.search_state.specs.Memory.{sourceAt, lent}
+use Rattle.search_state.specs.Memory.{sourceAt}
+use Rattle.unification.specs.Making.{lent}
 
 -- with the lengths then; where room ends, those of before
 abbrev pub madeFrom : Lengths → Joined → Made

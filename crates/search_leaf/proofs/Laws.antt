@@ -11,7 +11,7 @@ use Rattle.resolved_sort.proofs.Reached.{no-confusion}
 use Rattle.unification.specs.declared.Lengths.{Lengths}
 use Rattle.unification.specs.declared.Default.the-variants.{Is}
 use Rattle.unification.specs.Nodes.{Binds, bindsOf}
-use Rattle.unification.specs.Making.{Lent, Makes}
+use Rattle.unification.specs.Making.{Lent, Makes, lent}
 use Rattle.unification.proofs.Grows.{CheckedLent}
 use Rattle.inference.specs.Constraints.{maxConstraints, maxComponents, rowsFrom}
 use Rattle.inference.specs.Measure.{Components, Ranking, smaller, equal, greater, compare}
@@ -28,7 +28,7 @@ use Rattle.search_state.specs.declared.Extracted.{Extracted}
 use Rattle.search_state.specs.declared.Extracted.the-variants.{All, Nothing as Without, Full as NotAll}
 use Rattle.search_state.specs.declared.Ordering.{Ordering}
 use Rattle.search_state.specs.declared.Ordering.the-variants.{Less, Equal, Greater}
-use Rattle.search_state.specs.Memory.{exprAt, problemIn, chosenExprs, bestSortsAt, measureAt, bestMeasureAt, choicesAt, bestChoicesAt, scratchUsed, choicesOf, lent, pathOf, candidateOf, bestOf, worldOf}
+use Rattle.search_state.specs.Memory.{exprAt, problemIn, chosenExprs, bestSortsAt, measureAt, bestMeasureAt, choicesAt, bestChoicesAt, scratchUsed, choicesOf, pathOf, candidateOf, bestOf, worldOf}
 use Rattle.words.specs.Words.{part}
 use Rattle.search_state.specs.Leaves.{extractedOf, Extracts, rankingOf}
 use Rattle.search_state.specs.Searching.{AtLeaf, SamePath, Comes}

@@ -18,7 +18,7 @@ use Rattle.unification.specs.declared.Default.the-variants.{Is}
 use Rattle.unification.specs.Nodes.{Binds, bindsOf}
 use Rattle.unification.specs.Checked.{Ready, Placed}
 use Rattle.unification.specs.Resolve.{valueIn, termResolved, withCounts}
-use Rattle.unification.specs.Making.{Lent, Makes, made, no-list, no-room, _and-then_}
+use Rattle.unification.specs.Making.{Lent, Makes, made, no-list, no-room, _and-then_, lent}
 use Rattle.unification.proofs.Grows.{placed-grown, ready-grown}
 use Rattle.unification.proofs.SortsLeft.{SortWith}
 use Rattle.unification.proofs.ResolveAnswers.{AlwaysStandsFor}
@@ -28,7 +28,7 @@ use Rattle.inference.proofs.Members.{each-row-at}
 use Rattle.inference.proofs.Invariant.{SortsOnly, sorts-only-refl, sorts-only-trans}
 use Rattle.inference.proofs.MakingSorts.{MadeSorts, resolve-makes}
 use Rattle.search_state.specs.declared.Extracted.the-variants.{All, Nothing as Without, Full as NotAll}
-use Rattle.search_state.specs.Memory.{exprAt, lent, bestSortsAt}
+use Rattle.search_state.specs.Memory.{exprAt, bestSortsAt}
 use Rattle.words.specs.Words.{part}
 use Rattle.search_state.specs.Leaves.{ChangedOnly, Extracts}
 use Rattle.search_state.proofs.Parts.{changed-none, changed-then, changed-by-set}

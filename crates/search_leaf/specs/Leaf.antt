@@ -10,7 +10,7 @@ use Rattle.unification.specs.declared.Lengths.{Lengths}
 use Rattle.unification.specs.declared.Default.the-variants.{Is}
 use Rattle.unification.specs.Nodes.{bindsOf}
 use Rattle.unification.specs.Checked.{Ready}
-use Rattle.unification.specs.Making.{Lent, Makes}
+use Rattle.unification.specs.Making.{Lent, Makes, lent}
 use Rattle.unification.proofs.Grows.{PlacedIn}
 use Rattle.inference.specs.Constraints.{maxExprs, maxConstraints, maxComponents, rowsFrom}
 use Rattle.inference.specs.Measure.{Ranking, smaller, compare}
@@ -20,7 +20,7 @@ use Rattle.inference.specs.Typing.{All}
 use Rattle.search_state.specs.declared.Sizes.{Sizes}
 use Rattle.search_state.specs.declared.State.{State}
 use Rattle.search_state.specs.declared.Branch.{Branch}
-use Rattle.search_state.specs.Memory.{exprAt, problemIn, lent, measureAt, bestMeasureAt}
+use Rattle.search_state.specs.Memory.{exprAt, problemIn, measureAt, bestMeasureAt}
 use Rattle.search_state.specs.Memory.{choicesAt, bestChoicesAt, scratchUsed, bestOf}
 use Rattle.words.specs.Words.{part}
 

@@ -9,7 +9,7 @@ use lib.ListN.{length}
 use Rattle.unification.specs.declared.Lengths.{Lengths}
 use Rattle.unification.specs.Nodes.{bindsOf}
 use Rattle.unification.specs.Trail.{frees}
-use Rattle.unification.specs.Making.{Lent}
+use Rattle.unification.specs.Making.{Lent, lent}
 use Rattle.unification.proofs.Grows.{CheckedLent, PlacedIn, Grows, placed-grown, grows-trans, ready-grown}
 use Rattle.inference.specs.declared.Constraint.{Constraint}
 use Rattle.inference.specs.Constraints.{Problem}
@@ -27,7 +27,7 @@ use Rattle.search_state.specs.declared.Next.{Next}
 use Rattle.search_state.specs.declared.Next.the-variants.{Solve, Source}
 use Rattle.search_state.specs.declared.Went.{Went}
 use Rattle.search_state.specs.declared.Went.the-variants.{On, Stop}
-use Rattle.search_state.specs.Memory.{problemIn, trailWords, lent, chosenExprs, choicesOf, pathOf, worldOf, outOf}
+use Rattle.search_state.specs.Memory.{problemIn, trailWords, chosenExprs, choicesOf, pathOf, worldOf, outOf}
 use Rattle.search_state.specs.Leaves.{afterOf}
 use Rattle.search_state.specs.Searching.{Suits, NextFine, Searching, Grown, SamePath, Done, Comes}
 use Rattle.search_state.proofs.Parts.{same-path-refl, same-path-trans}

@@ -14,7 +14,7 @@ use Rattle.unification.specs.Term.{flatHead, containerHead, functionHead, stray
 use Rattle.unification.specs.Nodes.{Binds}
 use Rattle.unification.specs.Unify.{Unifies, yes-with, no-way, too-deep, and-then as after-yes, follow, deep, unify}
 use Rattle.unification.specs.Acyclic.{first, later}
-use Rattle.unification.specs.Making.{Lent, graph, Makes, made, no-list, no-room, _and-then_, internContainer, strictRelated}
+use Rattle.unification.specs.Making.{Lent, graph, Makes, made, no-list, no-room, _and-then_, internContainer, strictRelated, lent}
 use Rattle.unification.proofs.Grows.{CheckedLent, PlacedIn, Grows, grows-refl, placed-grown}
 use Rattle.unification.proofs.BindsGrow.{CheckedBinds, binds-name-places}
 use Rattle.unification.proofs.Outcomes.{Each, Any, each-container}
@@ -33,7 +33,7 @@ use Rattle.search_state.specs.declared.Answer.the-variants.{Found, Misse
 use Rattle.search_state.specs.declared.Pairs.the-variants.{Two}
 use Rattle.search_state.specs.declared.LitAt.{LitAt}
 use Rattle.search_state.specs.declared.LitAt.the-variants.{Number, Free, Other}
-use Rattle.search_state.specs.Memory.{lent, outOf}
+use Rattle.search_state.specs.Memory.{outOf}
 use Rattle.search_state.specs.Leaves.{unifyPairs, where-no-list, widenings, numberOf, litShape, litEnd, litAt, givenBackTo}
 use Rattle.search_state.proofs.RelatedPlaced.{related-placed}
 

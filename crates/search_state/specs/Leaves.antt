@@ -13,7 +13,7 @@ use Rattle.unification.specs.Nodes.{Binds}
 use Rattle.unification.specs.Unify.{Unifies, and-then as after-yes, follow, deep, unify}
 use Rattle.unification.specs.Checked.{Placed}
 use Rattle.unification.specs.Trail.{Tries as Tried-so}
-use Rattle.unification.specs.Making.{Lent, Makes, made, no-list, no-room, _and-then_, strictRelated}
+use Rattle.unification.specs.Making.{Lent, Makes, made, no-list, no-room, _and-then_, strictRelated, lent}
 use Rattle.inference.specs.declared.LitKind.{LitKind}
 use Rattle.inference.specs.Constraints.{rowsFrom}
 use Rattle.inference.specs.Measure.{Ranking, smaller, equal, greater}
@@ -41,7 +41,7 @@ use Rattle.search_state.specs.declared.Ordering.{Ordering}
 use Rattle.search_state.specs.declared.Ordering.the-variants.{Less, Equal, Greater}
 use Rattle.search_state.specs.declared.Went.{Went}
 use Rattle.search_state.specs.declared.Went.the-variants.{On as GoOn, Stop}
-use Rattle.search_state.specs.Memory.{lent, measureAt, choicesAt, trailWords, chosenExprs, pathOf}
+use Rattle.search_state.specs.Memory.{measureAt, choicesAt, trailWords, chosenExprs, pathOf}
 use Rattle.words.specs.Words.{part}
 
 -- of the words only those from a to b may have changed

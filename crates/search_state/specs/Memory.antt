@@ -6,9 +6,7 @@ use mathlib.Core.List.{List, [], _∷_}
 use mathlib.Core.Option.{Option, none, some}
 use Prim.Native.Nat.{ℕ, _+_, _-_}
 use lib.ListN.{getD, drop}
-use Rattle.unification.specs.declared.Lengths.{Lengths}
 use Rattle.unification.specs.Nodes.{Binds}
-use Rattle.unification.specs.Making.{Lent}
 use Rattle.inference.specs.declared.Constraint.{Constraint}
 use Rattle.inference.specs.Constraints.{constraintAt, overloadAt, rowsFrom, Problem}
 use Rattle.inference.specs.Search.{Choice, Path, Candidate, World, Out, found}
@@ -23,6 +21,7 @@ use Rattle.search_state.specs.declared.Answer.the-variants.{Found, Misse
 use Rattle.search_state.specs.declared.Next.{Next}
 use Rattle.search_state.specs.declared.Next.the-variants.{Solve, Source}
 use Rattle.words.specs.Words.{part}
+use Rattle.unification.specs.Making.{lent}
 
 -- The lists of the problem as one list of words: constraints, overloads, sources and places of
 -- expressions, each at its ceiling.
@@ -89,9 +88,6 @@ unfoldable pub choicesOf : List ℕ → List ℕ → List Choice
 choicesOf [] is = []
 choicesOf (x ∷ xs) [] = []
 choicesOf (x ∷ xs) (i ∷ is) = record { expr = x; position = i } ∷ choicesOf xs is
-
-abbrev pub lent : List ℕ → List ℕ → Lengths → Lent
-lent ws ns k = record { sorts = ws; nodes = ns; lengths = k }
 
 module _ (ls : List ℕ) (z : Sizes) where
   -- the branch, as a path

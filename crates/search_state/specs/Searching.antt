@@ -8,7 +8,7 @@ use Rattle.unification.specs.declared.Lengths.{Lengths}
 use Rattle.unification.specs.Nodes.{bindsOf}
 use Rattle.unification.specs.Checked.{Ready}
 use Rattle.unification.specs.Trail.{frees}
-use Rattle.unification.specs.Making.{Lent, graph}
+use Rattle.unification.specs.Making.{Lent, graph, lent}
 use Rattle.unification.proofs.Grows.{PlacedIn, Grows}
 use Rattle.inference.specs.declared.Constraint.{Constraint}
 use Rattle.inference.specs.Constraints.{maxExprs, maxConstraints, maxOverloads, maxSources}
@@ -30,7 +30,7 @@ use Rattle.search_state.specs.declared.Step.{Step}
 use Rattle.search_state.specs.declared.Step.the-variants.{Nothing, Component, Written, Choice}
 use Rattle.search_state.specs.declared.Pairs.{Pairs}
 use Rattle.search_state.specs.Memory.{sourceAt, problemIn, restFrom, chosenExprs, trailWords, measureAt}
-use Rattle.search_state.specs.Memory.{choicesAt, scratchUsed, lent, pathOf, worldOf, outOf, nextOf}
+use Rattle.search_state.specs.Memory.{choicesAt, scratchUsed, pathOf, worldOf, outOf, nextOf}
 use Rattle.words.specs.Words.{part}
 use Rattle.search_state.specs.Leaves.{unifyPairs, stepped}
 

@@ -31,12 +31,13 @@ use Rattle.search_state.specs.declared.Next.{Next}
 use Rattle.search_state.specs.declared.Pairs.{Pairs}
 use Rattle.search_state.specs.declared.Step.{Step}
 use Rattle.search_state.specs.declared.Step.the-variants.{Nothing, Component, Written, Choice}
-use Rattle.search_state.specs.Memory.{problemIn, chosenExprs, trailWords, bestSortsAt, measureAt, bestMeasureAt, choicesAt, bestChoicesAt, scratchUsed, choicesOf, lent, pathOf, candidateOf, bestOf, worldOf, outOf, nextOf}
+use Rattle.search_state.specs.Memory.{problemIn, chosenExprs, trailWords, bestSortsAt, measureAt, bestMeasureAt, choicesAt, bestChoicesAt, scratchUsed, choicesOf, pathOf, candidateOf, bestOf, worldOf, outOf, nextOf}
 use Rattle.words.specs.Words.{part}
 use Rattle.search_state.specs.Leaves.{unifyPairs, TriesPairs, stepWords, addedComponents, addedChoices, branchAfter, stepped}
 use Rattle.search_state.specs.Searching.{Sized, Searching, constraintsIn, componentsIn, exprsOf, Done, Comes, trying}
 use Rattle.words.proofs.Parts.{length-part, take-part, part-append, part-set-end, part-set-before, part-set-after, part-in-back, take-shorter}
 use Rattle.search_state.proofs.Parts.{nothing-chosen}
+use Rattle.unification.specs.Making.{lent}
 
 -- where only the trail changed, the incumbent is the same
 module _ (ls : List ℕ) (z : Sizes) (sc sc₁ : List ℕ) (r : drop trailWords sc₁ ≡ drop trailWords sc) where

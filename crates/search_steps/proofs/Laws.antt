@@ -23,7 +23,7 @@ use Rattle.unification.specs.declared.Listed.{Listed}
 use Rattle.unification.specs.declared.Related.{Related}
 use Rattle.unification.specs.Nodes.{Binds, bindsOf}
 use Rattle.unification.specs.Checked.{Ready, Placed}
-use Rattle.unification.specs.Making.{Lent, Makes, made, no-list, no-room, _and-then_, withSorts, internContainer, strictRelated}
+use Rattle.unification.specs.Making.{Lent, Makes, made, no-list, no-room, _and-then_, withSorts, internContainer, strictRelated, lent}
 use Rattle.unification.specs.Resolve.{withCounts}
 use Rattle.unification.proofs.NoList.{no-list-makes-nothing}
 use Rattle.related_sorts.specs.Outcome.{relatedBy, related, RangesBy, Ranges, Relates}
@@ -41,7 +41,6 @@ use Rattle.search_state.specs.declared.Widenings.{Widenings}
 use Rattle.search_state.specs.declared.Widenings.the-variants.{These, NoList, Full as NoRoom}
 use Rattle.search_state.specs.declared.Made.{Made}
 use Rattle.search_state.specs.declared.Made.the-variants.{At, Nothing, Full as NoSortRoom}
-use Rattle.search_state.specs.Memory.{lent}
 use Rattle.search_state.specs.Leaves.{afterOf, withNodes, backTo, givenBackTo, placesOf, tryAt, triesFrom, where-no-list, widenings, widened, FewTries, Widens}
 use Rattle.search_steps.specs.Steps.{saysOf, pairsOf, InternsContainer, triesAgainst, ListedTries, AsTries}
 

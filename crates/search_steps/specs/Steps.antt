@@ -11,7 +11,7 @@ use Rattle.resolved_sort.specs.declared.ResolvedSort.the-variants.{Function, De
 use Rattle.unification.specs.declared.InferSortId.{InferSortId}
 use Rattle.unification.specs.declared.Lengths.{Lengths}
 use Rattle.unification.specs.declared.Related.{Related}
-use Rattle.unification.specs.Making.{made, _and-then_, internContainer}
+use Rattle.unification.specs.Making.{made, _and-then_, internContainer, lent}
 use Rattle.related_sorts.specs.Outcome.{related}
 use Rattle.inference.specs.declared.LitKind.{LitKind}
 use Rattle.inference.specs.Search.{Try, widerTries, narrowerTries, litComponent, litTries}
@@ -25,7 +25,6 @@ use Rattle.search_state.specs.declared.LitAt.{LitAt}
 use Rattle.search_state.specs.declared.LitAt.the-variants.{Other}
 use Rattle.search_state.specs.declared.Made.{Made}
 use Rattle.search_state.specs.declared.Widenings.{Widenings}
-use Rattle.search_state.specs.Memory.{lent}
 use Rattle.search_state.specs.Leaves.{placesOf, triesFrom, widened, FewTries, numberOf, madeOf}
 
 -- whether a leaf was found, as an answer

@@ -49,7 +49,7 @@ ghost use Rattle.unification.specs.Checked.{graphOf, Ready, Placed};
 ghost use Rattle.related_sorts.specs.Outcome.{Ranges};
 ghost use Rattle.inference.specs.Search.{litComponent};
 ghost use Rattle.inference.specs.Constraints.{maxConstraints, maxComponents};
-ghost use Rattle.search_state.specs.Memory.{lent, trailWords, scratchUsed};
+ghost use Rattle.search_state.specs.Memory.{trailWords, scratchUsed};
 ghost use Rattle.search_state.specs.Leaves.{afterOf, withNodes, backTo, givenBackTo, placesOf, tryAt};
 ghost use Rattle.search_state.specs.Leaves.{widenings, Widens, numberOf, litAt, unifyPairs, PairsPlaced};
 ghost use Rattle.search_state.specs.Leaves.{TriesPairs, stepWords, addedComponents, addedChoices, branchAfter};
@@ -57,6 +57,7 @@ ghost use Rattle.search_steps.specs.Steps.{saysOf, pairsOf, litRow, LitT
 ghost use Rattle.search_steps.specs.Steps.{InternsContainer, ListedTries, AsTries};
 ghost use Rattle.unification.specs.Unify.{unify as unifyOf};
 ghost use Rattle.unifier.specs.Trying.{Trying};
+ghost use Rattle.unification.specs.Making.{lent};
 
 // Makes two places equal.
 fn unify_pair(

@@ -10,7 +10,7 @@ use lib.ListN.{length, replicate}
 use Rattle.resolved_sort.specs.Checks.{firstFailing}
 use Rattle.resolved_sort.proofs.GivenBack.{given-back-agrees}
 use Rattle.unification.specs.Nodes.{bindsOf}
-use Rattle.unification.specs.Making.{Lent}
+use Rattle.unification.specs.Making.{Lent, lent}
 use Rattle.unification.proofs.Grows.{CheckedLent, NodesAgree}
 use Rattle.inference.specs.declared.Solved.the-variants.{NoRoom}
 use Rattle.inference.specs.Constraints.{BaseName}
@@ -24,7 +24,7 @@ use Rattle.search_state.specs.declared.State.{State}
 use Rattle.search_state.specs.declared.Branch.{Branch}
 use Rattle.search_state.specs.declared.Answer.{Answer}
 use Rattle.search_state.specs.declared.Answer.the-variants.{Found, Missed, Full}
-use Rattle.search_state.specs.Memory.{problemIn, chosenExprs, bestOf, lent, pathOf, worldOf, outOf, solveFrom}
+use Rattle.search_state.specs.Memory.{problemIn, chosenExprs, bestOf, pathOf, worldOf, outOf, solveFrom}
 use Rattle.search_state.specs.Searching.{Grown, Done}
 use Rattle.solve_outputs.specs.Begin.{sizesOf, noIncumbent, nothingTaken}
 use Rattle.solve_outputs.specs.Finish.{Settled, settled, leftBy, handedOut, settledBy, judged as judgedIn, judgedBy as judgedByIn}

@@ -10,7 +10,7 @@ use Rattle.unification.specs.declared.InferSortId.{InferSortId}
 use Rattle.unification.specs.declared.Lengths.{Lengths}
 use Rattle.unification.specs.Nodes.{bindsOf}
 use Rattle.unification.specs.Checked.{Placed}
-use Rattle.unification.specs.Making.{Lent}
+use Rattle.unification.specs.Making.{Lent, lent}
 use Rattle.unification.proofs.Grows.{PlacedIn, Grows, placed-grown}
 use Rattle.inference.specs.Constraints.{Problem, rowsFrom, maxComponents}
 use Rattle.inference.specs.Search.{Path, World, Out, Next as Going, Agreed, joinOf, onMade, orElse, unifying, widening, sequence, joining, measured}
@@ -31,7 +31,7 @@ use Rattle.search_state.specs.declared.Made.the-variants.{At, Nothing as NoSort
 use Rattle.search_state.specs.declared.Next.the-variants.{Solve, Source}
 use Rattle.search_state.specs.declared.Pairs.the-variants.{One}
 use Rattle.search_state.specs.declared.Step.the-variants.{Written}
-use Rattle.search_state.specs.Memory.{problemIn, sourceAt, chosenExprs, choicesOf, trailWords, bestSortsAt, measureAt, bestMeasureAt, choicesAt, bestChoicesAt, lent, pathOf, candidateOf, bestOf, worldOf, solveFrom, nextOf}
+use Rattle.search_state.specs.Memory.{problemIn, sourceAt, chosenExprs, choicesOf, trailWords, bestSortsAt, measureAt, bestMeasureAt, choicesAt, bestChoicesAt, pathOf, candidateOf, bestOf, worldOf, solveFrom, nextOf}
 use Rattle.words.specs.Words.{part}
 use Rattle.search_state.specs.Leaves.{ChangedOnly, unifyPairs, PairsPlaced, stepped, agreementOf, Agrees}
 use Rattle.search_state.specs.Searching.{Sized, Searching, SourcesFine, Agreeing, SamePath, Done, Comes, trying}

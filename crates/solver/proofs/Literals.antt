@@ -7,7 +7,7 @@ use native.Mathlib.Omega.{arith}
 use Rattle.unification.specs.declared.InferSortId.{InferSortId}
 use Rattle.unification.specs.Nodes.{bindsOf}
 use Rattle.unification.specs.Checked.{Placed}
-use Rattle.unification.specs.Making.{graph}
+use Rattle.unification.specs.Making.{graph, lent}
 use Rattle.inference.specs.Constraints.{Problem}
 use Rattle.inference.specs.Search.{Path, World, missed, Next as Going, firstFound, literal, litTries, fromNat}
 use Rattle.inference.specs.SolveEntry.{nothingMet}
@@ -24,7 +24,7 @@ use Rattle.search_state.specs.declared.LitAt.{LitAt}
 use Rattle.search_state.specs.declared.LitAt.the-variants.{Number, Free, Other}
 use Rattle.search_state.specs.declared.Step.the-variants.{Component}
 use Rattle.search_state.specs.declared.Tries.{Tries}
-use Rattle.search_state.specs.Memory.{problemIn, lent, pathOf, worldOf, nextOf}
+use Rattle.search_state.specs.Memory.{problemIn, pathOf, worldOf, nextOf}
 use Rattle.search_state.specs.Leaves.{stepWords, branchAfter, stepped, triesFrom, litAt}
 use Rattle.search_state.specs.Searching.{Searching, Comes}
 use Rattle.search_state.proofs.After.{misses, done-as}

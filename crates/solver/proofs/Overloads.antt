@@ -27,7 +27,7 @@ use Rattle.search_state.specs.declared.Pairs.the-variants.{One}
 use Rattle.search_state.specs.declared.Step.the-variants.{Choice}
 use Rattle.search_state.specs.declared.Went.{Went}
 use Rattle.search_state.specs.declared.Went.the-variants.{On, Stop}
-use Rattle.search_state.specs.Memory.{overloadsAt, problemIn, chosenExprs, lent, pathOf, worldOf, nextOf}
+use Rattle.search_state.specs.Memory.{overloadsAt, problemIn, chosenExprs, pathOf, worldOf, nextOf}
 use Rattle.search_state.specs.Leaves.{unifyPairs, PairsPlaced, stepped, afterOf}
 use Rattle.search_state.specs.Searching.{Searching, SamePath, Done, Comes, trying}
 use Rattle.search_state.proofs.Parts.{same-path-refl, same-path-trans}
@@ -36,6 +36,7 @@ use Rattle.search_steps.specs.Steps.{saysOf}
 use Rattle.solver.specs.Asked.{OverloadsFine}
 use Rattle.solver.proofs.Readings.{says-so}
 use Rattle.inference.proofs.Members.{run-one-left}
+use Rattle.unification.specs.Making.{lent}
 
 -- the expression of the next choice
 pub next-expr : (ls : List ℕ) (z : Sizes) (ws ns bs sc : List ℕ) (k : State) (e : Branch) (x : ℕ) (next : Next) → Searching ws ns bs sc ls z k e 0 (x ∷ []) next → getD (chosenExprs ls z) (e .choices) 0 ≡ x

@@ -9,7 +9,7 @@ use Rattle.unification.specs.declared.InferSortId.{InferSortId}
 use Rattle.unification.specs.declared.Lengths.{Lengths}
 use Rattle.unification.specs.Nodes.{bindsOf}
 use Rattle.unification.specs.Checked.{Placed}
-use Rattle.unification.specs.Making.{Lent, internContainer}
+use Rattle.unification.specs.Making.{Lent, internContainer, lent}
 use Rattle.unification.proofs.Grows.{CheckedLent, placed-grown}
 use Rattle.inference.specs.Constraints.{Problem}
 use Rattle.inference.specs.Search.{Path, World, Out, missed, Next as Going, Reading, onMade, andAlso, says, unifying, everyReading, bound}
@@ -28,7 +28,7 @@ use Rattle.search_state.specs.declared.Pairs.the-variants.{Two}
 use Rattle.search_state.specs.declared.Step.the-variants.{Nothing}
 use Rattle.search_state.specs.declared.Went.{Went}
 use Rattle.search_state.specs.declared.Went.the-variants.{On, Stop}
-use Rattle.search_state.specs.Memory.{problemIn, lent, pathOf, worldOf, nextOf}
+use Rattle.search_state.specs.Memory.{problemIn, pathOf, worldOf, nextOf}
 use Rattle.search_state.specs.Leaves.{PairsPlaced, stepped, madeOf, afterOf}
 use Rattle.search_state.specs.Searching.{Searching, Done, Comes, trying}
 use Rattle.search_state.proofs.Parts.{same-path-refl}

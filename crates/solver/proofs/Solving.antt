@@ -9,7 +9,7 @@ use lib.ListN.{length, take, drop, length-drop}
 use Rattle.unification.specs.declared.InferSortId.{InferSortId}
 use Rattle.unification.specs.Nodes.{bindsOf}
 use Rattle.unification.specs.Checked.{Placed}
-use Rattle.unification.specs.Making.{Lent}
+use Rattle.unification.specs.Making.{Lent, lent}
 use Rattle.unification.proofs.Grows.{PlacedIn}
 use Rattle.inference.specs.Constraints.{Problem, rowsFrom, overloadAt, constraintAt}
 use Rattle.inference.specs.Search.{Path, World, missed, Next as Going, step, solve, leaf, dominatedBy, widening, literal, everyOverload, everyReading, joining}
@@ -32,7 +32,7 @@ use Rattle.inference.specs.Names.{overloadIn}
 use Rattle.inference.proofs.Members.{length-rows, row-at, run-at, rows-one-left, each-row, rows-none-left}
 use Rattle.inference.proofs.Accepted.{Listed, sub-listed, lit-listed, disjunction-listed, comprehension-listed, join-listed}
 use Rattle.search_state.specs.declared.Next.the-variants.{Solve}
-use Rattle.search_state.specs.Memory.{overloadsAt, sourceAt, problemIn, restFrom, chosenExprs, measureAt, lent, pathOf, bestOf, worldOf, solveFrom, nextOf}
+use Rattle.search_state.specs.Memory.{overloadsAt, sourceAt, problemIn, restFrom, chosenExprs, measureAt, pathOf, bestOf, worldOf, solveFrom, nextOf}
 use Rattle.words.specs.Words.{part}
 use Rattle.search_state.specs.Searching.{Searching, SourcesFine, AtLeaf, Comparable, Comes}
 use Rattle.search_state.proofs.After.{misses, done-as}

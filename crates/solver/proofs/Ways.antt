@@ -10,7 +10,7 @@ use borrow.Author.Tests.{lt-ltb}
 use Rattle.resolved_sort.specs.Storage.{maxSorts}
 use Rattle.unification.specs.Nodes.{isPlace, bindsOf}
 use Rattle.unification.specs.Checked.{Placed}
-use Rattle.unification.specs.Making.{graph}
+use Rattle.unification.specs.Making.{graph, lent}
 use Rattle.unification.proofs.Grows.{Grows, placed-grown}
 use Rattle.inference.specs.Constraints.{rowsFrom, Problem}
 use Rattle.inference.specs.Search.{Path, World, Out, Try, Next as Going, orElse, unifying, onYes, firstFound, sequence}
@@ -26,7 +26,7 @@ use Rattle.search_state.specs.declared.Next.the-variants.{Solve, Source}
 use Rattle.search_state.specs.declared.Pairs.{Pairs}
 use Rattle.search_state.specs.declared.Step.the-variants.{Component}
 use Rattle.search_state.specs.declared.Tries.{Tries}
-use Rattle.search_state.specs.Memory.{problemIn, lent, pathOf, worldOf, solveFrom, nextOf, sourceAt}
+use Rattle.search_state.specs.Memory.{problemIn, pathOf, worldOf, solveFrom, nextOf, sourceAt}
 use Rattle.search_state.specs.Leaves.{unifyPairs, PairsPlaced, stepped, tryAt, triesFrom}
 use Rattle.search_state.specs.Searching.{Searching, Done, Comes, trying}
 use Rattle.search_state.proofs.After.{searching-grown, misses, done-as, grown-missed, or-stops, or-comes}

@@ -8,7 +8,7 @@ use Rattle.unification.specs.declared.InferSortId.{InferSortId}
 use Rattle.unification.specs.declared.Lengths.{Lengths}
 use Rattle.unification.specs.Nodes.{bindsOf}
 use Rattle.unification.specs.Checked.{Placed}
-use Rattle.unification.specs.Making.{Lent, made}
+use Rattle.unification.specs.Making.{Lent, made, lent}
 use Rattle.unification.proofs.Grows.{Grows, grows-trans, given-back-grows, placed-grown}
 use Rattle.inference.specs.Constraints.{Problem}
 use Rattle.inference.specs.Search.{Path, World, Out, missed, Next as Going, orElse, onMade, givenBack, unifying, firstFound, widening, wider}
@@ -25,7 +25,7 @@ use Rattle.search_state.specs.declared.Step.the-variants.{Component}
 use Rattle.search_state.specs.declared.Tries.{Tries}
 use Rattle.search_state.specs.declared.Widenings.{Widenings}
 use Rattle.search_state.specs.declared.Widenings.the-variants.{These, NoList, Full as NoRoom}
-use Rattle.search_state.specs.Memory.{problemIn, lent, pathOf, worldOf, outOf, nextOf}
+use Rattle.search_state.specs.Memory.{problemIn, pathOf, worldOf, outOf, nextOf}
 use Rattle.search_state.specs.Leaves.{unifyPairs, stepped, triesFrom, widenings, widened, FewTries, Widens, givenBackTo}
 use Rattle.search_state.specs.Searching.{Searching, Grown, Comes, trying}
 use Rattle.search_state.proofs.Parts.{same-path-refl}

@@ -58,10 +58,11 @@ ghost use Rattle.inference.specs.SolveEntry.{nothingMet};
 ghost use Rattle.unification.specs.Checked.{Placed};
 ghost use Rattle.inference.proofs.Accepted.{Listed};
 ghost use Rattle.search_state.specs.declared.Next.the-variants.{Solve, Source};
-ghost use Rattle.search_state.specs.Memory.{overloadsAt, sourceAt, problemIn, lent, solveFrom, nextOf};
+ghost use Rattle.search_state.specs.Memory.{overloadsAt, sourceAt, problemIn, solveFrom, nextOf};
 ghost use Rattle.search_state.specs.Leaves.{PairsPlaced, addedComponents, triesFrom};
 ghost use Rattle.search_state.specs.Searching.{Searching, SourcesFine, exprsOf, Comes, trying};
 ghost use Rattle.solver.specs.Asked.{TriesFine, OverloadsFine, exprsOfConstraint, bodyOf, opOf, readingsFrom};
+ghost use Rattle.unification.specs.Making.{lent};
 
 // Solves the constraints from `index` on; answers whether any leaf was reached below this point.
 pub fn solve(

@@ -5,12 +5,8 @@ use Prim.Native.Nat.{ℕ, _+_, _<_, _≤_}
 use Rattle.resolved_sort.specs.declared.PartialOrder.{PartialOrder}
 use Rattle.resolved_sort.specs.Tree.{Trees}
 use Rattle.resolved_sort.specs.Order.{les, orderOf}
-use Rattle.resolved_sort.specs.Storage.{entryAt, entriesOf, lookAll, trees}
+use Rattle.resolved_sort.specs.Storage.{entryAt}
 use Rattle.resolved_sort.specs.Rows.{Checked}
-
--- the sorts of the c entries from s on
-abbrev pub argsAt : List ℕ → ℕ → ℕ → ℕ → Trees
-argsAt ws n s c = lookAll (trees ws n) (entriesOf ws s c)
 
 -- the order of functions by their arguments, which go the other way
 unfoldable pub argsOrder : Trees → Trees → PartialOrder

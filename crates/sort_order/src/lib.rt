@@ -20,12 +20,12 @@ ghost use lib.Dec.{leb};
 ghost use Rattle.resolved_sort.specs.Tree.{primitive, flat};
 ghost use Rattle.resolved_sort.specs.Order.{leOp, order, orderOf, given};
 ghost use Rattle.resolved_sort.specs.Order.{sum as sumOf, distance, distances, materializable};
-ghost use Rattle.resolved_sort.specs.Storage.{entriesOf};
+ghost use Rattle.resolved_sort.specs.Storage.{entriesOf, argsAt};
 ghost use Rattle.resolved_sort.specs.Entries.{treeAt, wideningOf};
 ghost use Rattle.resolved_sort.specs.Rows.{Checked, sameWords};
 ghost use Rattle.resolved_sort.specs.Pairs.{withPrimitive, withContainer, withFunction, pairAt};
 ghost use Rattle.sort_order.specs.Answers.{isBelow, combined, amountOf, generality, opSteps, beneath, more};
-ghost use Rattle.sort_order.specs.Runs.{argsAt, argsOrder, Runs};
+ghost use Rattle.sort_order.specs.Runs.{argsOrder, Runs};
 
 // A number that may be missing: Option<u32> and Option<u8> in the Rust.
 pub enum Amount {

@@ -6,10 +6,11 @@ use lib.ListN.{length, take, drop}
 use Rattle.resolved_sort.specs.declared.ComplexSort.{ComplexSort}
 use Rattle.resolved_sort.specs.Tree.{Tree, Trees, arity}
 use Rattle.sort_text.specs.Tokens.{isLetter, skip, next}
-use Rattle.sort_text.specs.Parse.{Parsed, parsed, stuck, maxArguments, closing, rest, sort}
+use Rattle.sort_text.specs.Parse.{Parsed, parsed, stuck, closing, rest, sort}
 use Rattle.sort_text.specs.Postfix.{postfix, postfixes}
 use Rattle.sort_recogniser.specs.declared.Recognised.{Recognised}
 use Rattle.sort_recogniser.specs.declared.Recognised.the-variants.{Done, Stuck}
+use Rattle.resolved_sort.specs.Storage.{maxArguments}
 
 -- The steps of t stand after front, m steps in all; at p, no earlier than lowest, the line goes on with cs; and the
 -- steps with what is left of the line take no more than room.

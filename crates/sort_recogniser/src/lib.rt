@@ -13,9 +13,8 @@ ghost use mathlib.Core.List.{[]};
 ghost use Prim.Native.Nat.{_+_, _-_, _≤_};
 ghost use lib.ListN.{length, drop, take};
 ghost use Rattle.resolved_sort.specs.Tree.{primitive};
-ghost use Rattle.resolved_sort.specs.Storage.{kindFlat, kindOp};
+ghost use Rattle.resolved_sort.specs.Storage.{kindFlat, kindOp, maxArguments};
 ghost use Rattle.sort_text.specs.Tokens.{isLetter, skip, next};
-ghost use Rattle.sort_text.specs.Parse.{maxArguments};
 ghost use Rattle.sort_recogniser.specs.Says.{Says, SaysClosing, SaysRest};
 ghost use Rattle.sort_text.specs.Parse as Parse;
 

@@ -5,8 +5,8 @@ use mathlib.Core.Bool.{Bool, true, false, not, _&&_, and-eq-true-iff}
 use Prim.Native.Nat.{ℕ, _+_}
 use lib.Dec.{leb}
 use Rattle.resolved_sort.specs.Tree.{Tree, flat, container, function, Trees, end, arg, arity}
-use Rattle.sort_text.specs.Parse.{maxArguments}
 use Rattle.sort_text.specs.Text.{nonempty, flatWritable, writable, writables}
+use Rattle.resolved_sort.specs.Storage.{maxArguments}
 
 abbrev pub isFunction : Tree → Bool
 isFunction (flat a) = false

@@ -8,12 +8,13 @@ use Prim.Native.Nat.{ℕ, _+_}
 use lib.Dec.{eqb, leb}
 use Rattle.resolved_sort.specs.Tree.{Flat, Tree, flat, container, function, Trees, end as no-args, arg, arity, family, level}
 use Rattle.resolved_sort.specs.Order.{leLevel, boundFlat, boundOp, bound, bounds}
-use Rattle.sort_text.specs.Parse.{parsed, line, maxArguments}
+use Rattle.sort_text.specs.Parse.{parsed, line}
 use Rattle.sort_text.specs.Text.{nonempty, flatWritable, writable, text}
 use Rattle.sort_text.proofs.Readable.{isFunction, readable, arguments, function-readable, readable-function, argument-readable, readable-argument, readable-parts}
 use Rattle.sort_text.proofs.WhatIsRead.{line-readable}
 use Rattle.sort_text.proofs.RoundTrip.{line-of-text}
 use Rattle.sort_text.proofs.Length.{IfSome, map₁-if-some, map₂-if-some, any, if-some-is}
+use Rattle.resolved_sort.specs.Storage.{maxArguments}
 
 -- of two heads the bound is one
 flat-by : (P : Flat → Type 0) (a b : Flat) (f l : Bool) → P a → P b → IfSome P (cond f (some (cond l b a)) none)

@@ -12,6 +12,7 @@ use Rattle.resolved_sort.specs.declared.ComplexSort.{ComplexSort}
 use Rattle.resolved_sort.specs.Tree.{primitive, Tree, flat, container, function, Trees, end as no-args, arg}
 use Rattle.sort_text.specs.Tokens.{isLetter, Next, end, word, open-bracket, close-bracket, hash, arrow, bad}
 use Rattle.sort_text.specs.Tokens.{skip, next}
+use Rattle.resolved_sort.specs.Storage.{maxArguments}
 
 -- a sort and what is left of the line after it, or what is left from the first token that cannot follow
 pub data Parsed : Type 0 where
@@ -126,9 +127,6 @@ rest sort zero ts bs = restAt sort ts (skip bs) bs (λ cs. stuck (skip bs)) (nex
 rest sort (suc k) ts bs =
     restAt sort ts (skip bs) bs (λ cs. operand sort cs then (λ t ds. rest sort k (snoc ts t) ds))
     (next isLetter bs)
-
-abbrev pub maxArguments : ℕ
-maxArguments = 16
 
 -- a sort, read to a depth of brackets and arrows
 unfoldable pub sortTo : ℕ → List ℕ → Parsed

@@ -9,8 +9,7 @@ use Rattle.resolved_sort.specs.declared.Sort.{Sort}
 use Rattle.resolved_sort.specs.declared.ComplexSort.{ComplexSort}
 use Rattle.resolved_sort.specs.Tree.{unit, primitive, Tree, flat, container, function, Trees, end, arg, arity}
 use Rattle.resolved_sort.specs.Interning.{Sorts, Outcome, made, nothing, full, _then_, intern}
-use Rattle.resolved_sort.specs.Storage.{kindFlat, kindOp, functionKind}
-use Rattle.sort_text.specs.Parse.{maxArguments}
+use Rattle.resolved_sort.specs.Storage.{kindFlat, kindOp, functionKind, maxArguments}
 
 -- The steps: 0 to 5 the fixed six sorts, 6 to 10 a container over the sort before, functionStep + k a function of the k
 -- sorts before the range before.

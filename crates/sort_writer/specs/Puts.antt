@@ -4,15 +4,10 @@ use mathlib.Core.List.{List}
 use Prim.Native.Nat.{ℕ, _+_, _<_, _≤_}
 use lib.ListN.{length}
 use lib.Seq.{sets}
-use Rattle.resolved_sort.specs.Tree.{Trees}
-use Rattle.resolved_sort.specs.Storage.{entryAt, entriesOf, lookAll, trees}
+use Rattle.resolved_sort.specs.Storage.{entryAt, argsAt}
 use Rattle.resolved_sort.specs.Entries.{treeAt}
 use Rattle.resolved_sort.specs.Rows.{Checked}
 use Rattle.sort_text.specs.Text.{text, texts}
-
--- the sorts of the c entries from s on
-abbrev pub argsAt : List ℕ → ℕ → ℕ → ℕ → Trees
-argsAt ws n s c = lookAll (trees ws n) (entriesOf ws s c)
 
 -- a sort of a checked list whose text has room from `at` on
 pub record SortRoom (ws : List ℕ) (n e a : ℕ) (out : List ℕ) (at : ℕ) : Type 0 where
