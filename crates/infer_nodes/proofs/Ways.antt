@@ -33,7 +33,7 @@ use Rattle.unification.proofs.Follow.{follow-holds, follow-end, follow-names}
 use Rattle.unification.proofs.Theorem.{ready-ranked}
 use Rattle.unification.proofs.Enough.{follow-eq, occurs-eq, end-no-higher}
 use Rattle.unification.proofs.Lists.{sort-parts-fine}
-use Rattle.infer_nodes.specs.Bound.{boundAt, RunPlaced}
+use Rattle.infer_nodes.specs.Bound.{boundTo, RunPlaced}
 use Rattle.infer_nodes.proofs.Shapes.{at-sort, shape-of-node, parts-fine, shape-of-variable, variable-in-list}
 
 abbrev ops : List ComplexSort
@@ -48,10 +48,10 @@ binding-word [] (suc n) (suc v) l = binding-word [] n v (omega (arith, l)) ∙ r
 binding-word (w ∷ bs) (suc n) zero l = refl
 binding-word (w ∷ bs) (suc n) (suc v) l = binding-word bs n v (omega (arith, l))
 
-sort-bound : (ws : List ℕ) (r : ResolvedSort) (B : Binds) → boundAt (sortShape ws r) B ≡ none
+sort-bound : (ws : List ℕ) (r : ResolvedSort) (B : Binds) → boundTo (sortShape ws r) B ≡ none
 sort-bound ws r B = go (sortShape ws r) refl
   where
-    go : (s : Shape) → sortShape ws r ≡ s → boundAt s B ≡ none
+    go : (s : Shape) → sortShape ws r ≡ s → boundTo s B ≡ none
     go (variable v) e = sort-no-variable ws v r e
     go (over h ps) e = refl
 
@@ -64,7 +64,7 @@ or-absent unknown = refl
 pub record Following (shape : ℕ → Shape) (B : Binds) (k : Lengths) (p end next : ℕ) : Type 0 where
   pub same : follow shape deep B p ≡ follow shape deep B end
   pub placed : Placed k end
-  pub bound : bindingOf next ≡ boundAt (shape end) B
+  pub bound : bindingOf next ≡ boundTo (shape end) B
 
 -- of the c arguments from s on, those before `at` do not hold the variable u; `left` of them are left
 pub record Searching (shape : ℕ → Shape) (B : Binds) (ns : List ℕ) (k : Lengths) (u s c at left : ℕ) : Type 0 where
@@ -116,31 +116,31 @@ module _ (ws ns bs : List ℕ) (k : Lengths) (q : Ready ws ns bs k) where
   ρ = rank shape deep B
 
   -- what the variable at a place is bound to
-  pub sort-not-bound : (p : ℕ) → Placed k p → p < maxSorts → none ≡ boundAt (shape p) B
-  sort-not-bound p e l = sym (ap (λ s. boundAt s B) (at-sort ws ns k (q .nodes) p e l) ∙ sort-bound ws (rowAt ws p) B)
+  pub sort-not-bound : (p : ℕ) → Placed k p → p < maxSorts → none ≡ boundTo (shape p) B
+  sort-not-bound p e l = sym (ap (λ s. boundTo s B) (at-sort ws ns k (q .nodes) p e l) ∙ sort-bound ws (rowAt ws p) B)
 
   module _ (p : ℕ) (e : Placed k p) (l : maxSorts ≤ p) (r : InferSort) (i : r ≡ nodeAt ns (p - maxSorts)) where
-    pub generic-not-bound : (op : ComplexSort) (s : InferSortId) → r ≡ Generic op s → none ≡ boundAt (shape p) B
+    pub generic-not-bound : (op : ComplexSort) (s : InferSortId) → r ≡ Generic op s → none ≡ boundTo (shape p) B
     unfolding nodeShape
-    generic-not-bound op s x = sym (ap (λ y. boundAt y B) (shape-of-node ws ns k (q .nodes) p e l r i ∙ ap (nodeShape ns) x))
+    generic-not-bound op s x = sym (ap (λ y. boundTo y B) (shape-of-node ws ns k (q .nodes) p e l r i ∙ ap (nodeShape ns) x))
 
-    pub function-not-bound : (d : Run) (s : InferSortId) → r ≡ Function d s → none ≡ boundAt (shape p) B
+    pub function-not-bound : (d : Run) (s : InferSortId) → r ≡ Function d s → none ≡ boundTo (shape p) B
     unfolding nodeShape
-    function-not-bound d s x = sym (ap (λ y. boundAt y B) (shape-of-node ws ns k (q .nodes) p e l r i ∙ ap (nodeShape ns) x))
+    function-not-bound d s x = sym (ap (λ y. boundTo y B) (shape-of-node ws ns k (q .nodes) p e l r i ∙ ap (nodeShape ns) x))
 
     module _ (u : SortVar) (x : r ≡ Var u) where
-      pub variable-bound : bindingOf (getD bs (u .0) 0) ≡ boundAt (shape p) B
-      variable-bound = sym (ap (λ y. boundAt y B) (shape-of-variable ws ns k (q .nodes) p e l r i u x) ∙ binding-word bs (k .variables) (u .0) (variable-in-list ws ns k (q .nodes) p e l r i u x))
+      pub variable-bound : bindingOf (getD bs (u .0) 0) ≡ boundTo (shape p) B
+      variable-bound = sym (ap (λ y. boundTo y B) (shape-of-variable ws ns k (q .nodes) p e l r i u x) ∙ binding-word bs (k .variables) (u .0) (variable-in-list ws ns k (q .nodes) p e l r i u x))
 
   -- following
-  pub begun : (p next : ℕ) → Placed k p → bindingOf next ≡ boundAt (shape p) B → Following shape B k p p next
+  pub begun : (p next : ℕ) → Placed k p → bindingOf next ≡ boundTo (shape p) B → Following shape B k p p next
   begun p next e b = record { same = refl; placed = e; bound = b }
 
   module _ (p end next : ℕ) (f : Following shape B k p end next) where
-    some-next : (next ≡ freeWord → ⊥) → some next ≡ boundAt (shape end) B
+    some-next : (next ≡ freeWord → ⊥) → some next ≡ boundTo (shape end) B
     some-next d = sym (ap (λ b. cond b none (some next)) (ne-eqb next freeWord d)) ∙ f .bound
 
-    step-by : (s : Shape) → shape end ≡ s → some next ≡ boundAt s B → (v : ℕ) × ((shape end ≡ variable v) × (binding B v ≡ some next))
+    step-by : (s : Shape) → shape end ≡ s → some next ≡ boundTo s B → (v : ℕ) × ((shape end ≡ variable v) × (binding B v ≡ some next))
     step-by (variable v) x e = (v, (x, sym e))
     step-by (over h ps) x e = no-confusion (cc)
 
@@ -157,16 +157,16 @@ module _ (ws ns bs : List ℕ) (k : Lengths) (q : Ready ws ns bs k) where
       goes-on : follow shape deep B end ≡ follow shape deep B next
       goes-on = follow-eq shape deep B ranked end ∙ rw (step .1 .0) (rw (step .1 .1))
 
-      pub one-further : (then : ℕ) → bindingOf then ≡ boundAt (shape next) B → Following shape B k p next then
+      pub one-further : (then : ℕ) → bindingOf then ≡ boundTo (shape next) B → Following shape B k p next then
       one-further then b = record { same = f .same ∙ goes-on; placed = next-placed; bound = b }
 
-    ends-by : (s : Shape) → shape end ≡ s → none ≡ boundAt s B → followAt shape s B end (follow shape deep B) ≡ some end
+    ends-by : (s : Shape) → shape end ≡ s → none ≡ boundTo s B → followAt shape s B end (follow shape deep B) ≡ some end
     ends-by (variable v) x e = rw (sym e)
     ends-by (over h ps) x e = refl
 
     pub ends-here : next ≡ freeWord → follow shape deep B p ≡ some end
     ends-here e =
-        let z : none ≡ boundAt (shape end) B = sym (ap (λ b. cond b none (some next)) (eq-eqb next freeWord e)) ∙ f .bound in
+        let z : none ≡ boundTo (shape end) B = sym (ap (λ b. cond b none (some next)) (eq-eqb next freeWord e)) ∙ f .bound in
         f .same ∙ (follow-eq shape deep B ranked end ∙ ends-by (shape end) refl z)
 
   -- the end of a place

@@ -8,9 +8,9 @@ use Rattle.unification.specs.Term.{Shape, variable, over}
 use Rattle.unification.specs.Nodes.{nodeEntryAt, Binds, binding}
 use Rattle.unification.specs.Checked.{Placed}
 
-abbrev pub boundAt : Shape → Binds → Option ℕ
-boundAt (variable v) B = binding B v
-boundAt (over h ps) B = none
+abbrev pub boundTo : Shape → Binds → Option ℕ
+boundTo (variable v) B = binding B v
+boundTo (over h ps) B = none
 
 -- the c arguments from s on are places, and no more than 16
 pub record RunPlaced (ns : List ℕ) (k : Lengths) (s c : ℕ) : Type 0 where

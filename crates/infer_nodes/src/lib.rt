@@ -27,7 +27,7 @@ ghost use Rattle.unification.specs.Nodes.{bindingOf, bindsOf};
 ghost use Rattle.unification.specs.Unify.{ofTest, follow, occursAny, occurs as occursIn, deep};
 ghost use Rattle.unification.specs.Checked.{graphOf, Ready, Placed};
 ghost use Rattle.unification.specs.Resolve.{withCounts};
-ghost use Rattle.infer_nodes.specs.Bound.{boundAt, RunPlaced};
+ghost use Rattle.infer_nodes.specs.Bound.{boundTo, RunPlaced};
 ghost use Rattle.infer_nodes.specs.Parts.{NodesReady, varAt, numberIn, countIn, partIn, SmallCount};
 
 // The sorts in use, and the lengths with other sorts in use.
@@ -107,7 +107,7 @@ fn bound_to(sorts: &[u16], nodes: &[u16], binds: &[u16], lengths: Lengths, id: I
     requires { ⌜ Ready (now sorts) (now nodes) (now binds) lengths × Placed lengths (id .0) ⌝ }
     ensures { λ r. ⌜
         bindingOf r
-        ≡ boundAt (graphOf (now (sorts .entry)) (now (nodes .entry)) lengths (id .0))
+        ≡ boundTo (graphOf (now (sorts .entry)) (now (nodes .entry)) lengths (id .0))
         (bindsOf (now (binds .entry)) (lengths .variables))
         ⌝ }
 {

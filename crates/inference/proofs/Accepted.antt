@@ -13,7 +13,7 @@ use borrow.Author.Tests.{ltb-true, leb-true}
 use Rattle.resolved_sort.specs.declared.Run.{Run}
 use Rattle.resolved_sort.specs.declared.SortId.{SortId}
 use Rattle.resolved_sort.specs.Checks.{Check, firstFailing, withinLent, fixedSix, rowsFine, noTwoEqual, atCeiling}
-use Rattle.resolved_sort.specs.Entries.{orElse}
+use Rattle.resolved_sort.specs.Entries.{refusedOr}
 use Rattle.resolved_sort.proofs.Below.{below-each}
 use Rattle.resolved_sort.proofs.Reached.{no-confusion}
 use Rattle.resolved_sort.proofs.FirstFailing.{cons-passes}
@@ -33,7 +33,7 @@ use Rattle.inference.specs.declared.Constraint.the-variants.{Sub, Lit, D
 use Rattle.inference.specs.Constraints.{maxComponents, constraintAt, overloadAt, Problem}
 use Rattle.inference.specs.Names.{overloadIn}
 use Rattle.inference.specs.SolveChecks.{Call, placed, given, disjunctions, noTwo, keys, rowsWithinLent, allWithinLent, exprsFine, namesFine, overloadFine, targetFine, runFine, constraintFine, constraintsFine, outputsLong, longEnough, solveChecks, joinsFine, components as componentCount}
-use Rattle.inference.specs.SolveEntry.{problemOf, lentOf, Left, searched, refused, verdict, nothingMet, solveEntry}
+use Rattle.inference.specs.SolveEntry.{problemOf, lentOf, SolveLeft, searched, refused, verdict, nothingMet, solveEntry}
 use Rattle.inference.specs.Typing.{All}
 use Rattle.inference.proofs.Members.{length-rows, all-rows, row-at, all-rows-at, run-at}
 
@@ -218,11 +218,11 @@ module _ (I : Call) where
   codes-above-0 = refl
 
   -- By the first check that fails, or where none does.
-  pub refused-or-searched : (T : Left → Type 0) → ((c : ℕ) → 0 < c → T (refused I c)) → (Accepted → T (verdict I (searched (Unit {0}) nothingMet tt I))) → T (solveEntry I)
+  pub refused-or-searched : (T : SolveLeft → Type 0) → ((c : ℕ) → 0 < c → T (refused I c)) → (Accepted → T (verdict I (searched (Unit {0}) nothingMet tt I))) → T (solveEntry I)
   unfolding solveEntry
   refused-or-searched T r a = go (firstFailing (solveChecks I)) refl
     where
-      go : (x : Option ℕ) → firstFailing (solveChecks I) ≡ x → T (orElse x (refused I) (verdict I (searched (Unit {0}) nothingMet tt I)))
+      go : (x : Option ℕ) → firstFailing (solveChecks I) ≡ x → T (refusedOr x (refused I) (verdict I (searched (Unit {0}) nothingMet tt I)))
       go none q = a (accepted q)
       go (some c) q = r c (refusal-above-0 (solveChecks I) codes-above-0 c q)
 

@@ -38,9 +38,9 @@ use Rattle.inference.specs.declared.NameTarget.the-variants.{Variable}
 use Rattle.inference.specs.declared.Constraint.the-variants.{Disjunction}
 use Rattle.inference.specs.Constraints.{Problem}
 use Rattle.inference.specs.Measure.{Components}
-use Rattle.inference.specs.Search.{sortIn, Choice, Path, bound, measured, chosen, litComponent, fromNat, litTries, Reading, readings, World, Out, missed, unifying, atSort, literalAt, literalEnd, literal, everyReading, everyOverload, step}
+use Rattle.inference.specs.Search.{sortIn, Choice, Path, withBinds, withComponents, withChoice, litComponent, fromNat, litTries, Reading, readings, World, Out, missed, unifying, atSort, literalAt, literalEnd, literal, everyReading, everyOverload, step}
 use Rattle.inference.specs.Names.{overloadIn}
-use Rattle.inference.specs.Typing.{Assignment, Has, All, none-left, and-all, Read, as-set, as-bag, as-bag-of-pos}
+use Rattle.inference.specs.Typing.{Assignment, Has, All, none-left, and-all, ReadAs, as-set, as-bag, as-bag-of-pos}
 use Rattle.inference.proofs.Invariant.{Claim, terms, Sound, FineBest, Leaves, Goes, same-sort, equal-have-one-sort, and-also-leaves, says-leaves, missed-leaves, unifying-leaves}
 use Rattle.inference.proofs.MakingSorts.{container-makes, on-made-leaves}
 use Rattle.inference.proofs.Tries.{Leads, first-found-leaves}
@@ -84,8 +84,8 @@ module _
     every-overload-goes (o ∷ os) i a h b e w s f =
         and-also-leaves W₀ B₀ P Met e w Q s c₀ _ b (λ b. everyOverload Met meet P x p os (i + 1) b k e)
         (given-leaves e w Q s f p (o .sort .0) y (a 0 (omega arith)) (e .measure) (e .choices ++ (record { expr = x; position = i } ∷ [])) R
-        (λ ρ t q u v. at-position R x (i + 0) i (add-zero i) (e .choices) ρ (e .measure) (h 0 (omega arith) (e .choices) ρ (e .measure) t q u v)) (λ C. k (chosen e x i C))
-        (λ C z. on (chosen e x i C) w z f))
+        (λ ρ t q u v. at-position R x (i + 0) i (add-zero i) (e .choices) ρ (e .measure) (h 0 (omega arith) (e .choices) ρ (e .measure) t q u v)) (λ C. k (withChoice e x i C))
+        (λ C z. on (withChoice e x i C) w z f))
         (λ b v _ s′ f′. every-overload-goes os (i + 1) (λ j l. a (suc j) (omega (arith, l)))
         (λ j l ch ρ ms t q u v. at-position R x (i + suc j) (i + 1 + j) (omega arith) ch ρ ms (h (suc j) (omega (arith, l)) ch ρ ms t q u v)) b e v s′ f′)
 
@@ -116,8 +116,8 @@ module _
   module _
       (body node element : ℕ) (x : PlacedIn W₀ body) (y : PlacedIn W₀ node) (l : element < W₀ .lengths .sorts) (Q R : Claim)
       (h : (ch : List Choice) (ρ : Assignment) (ms : Components) (s t : Tree) → Q ch ρ ms → Has (graph W₀) ρ body s → Has (graph W₀) ρ node t
-      → Read (sortIn W₀ element) s t → R ch ρ ms) (k : Path → World Met → Out Met) (on : Goes W₀ B₀ P Met R k) where
-    reading-goes : (s : Sort) (o : ComplexSort) → Read (sortIn W₀ element) (flat (primitive s)) (container o (sortIn W₀ element))
+      → ReadAs (sortIn W₀ element) s t → R ch ρ ms) (k : Path → World Met → Out Met) (on : Goes W₀ B₀ P Met R k) where
+    reading-goes : (s : Sort) (o : ComplexSort) → ReadAs (sortIn W₀ element) (flat (primitive s)) (container o (sortIn W₀ element))
         → (rs : List Reading) → ((b : Bool) → Goes W₀ B₀ P Met Q (everyReading Met meet P rs body node element b k)) → (b : Bool)
         → Goes W₀ B₀ P Met Q (everyReading Met meet P (record { body = kindFlat (primitive s); op = o } ∷ rs) body node element b k)
     unfolding everyReading
@@ -126,13 +126,13 @@ module _
         on-made-leaves W₀ B₀ P c₀ Met (IsSort (container o (sortIn (w .lent) element))) (Unit {0}) e w Q S f (internContainer o element (w .lent))
         (container-makes (w .lent) (S .grown .checked) o element (omega (arith, l, S .grown .sorts))) _ missed
         (λ a v g S₁ f₁ i. and-also-leaves W₀ B₀ P Met e v Q S₁ c₀ _ b (λ b. everyReading Met meet P rs body node element b k e)
-        (primitive-leaves e v Q S₁ f₁ body x s (e .measure) (e .choices) M (λ ρ q u. (q, u)) (λ C. unifying C node a (λ D. k (bound e D)))
-        (λ C S₂. unifying-leaves W₀ B₀ P Met (bound e C) v M S₂ f₁ node a (placed-grown W₀ c₀ (v .lent) (S₁ .grown) node y) (sort-placed (v .lent) (S₁ .grown .checked) a (i .0))
+        (primitive-leaves e v Q S₁ f₁ body x s (e .measure) (e .choices) M (λ ρ q u. (q, u)) (λ C. unifying C node a (λ D. k (withBinds e D)))
+        (λ C S₂. unifying-leaves W₀ B₀ P Met (withBinds e C) v M S₂ f₁ node a (placed-grown W₀ c₀ (v .lent) (S₁ .grown) node y) (sort-placed (v .lent) (S₁ .grown .checked) a (i .0))
         (e .measure) (e .choices) R
         (λ ρ _ j m. h (e .choices) ρ (e .measure) (flat (primitive s)) (container o (sortIn W₀ element)) (m .0) (m .1)
         (same-sort W₀ c₀ (v .lent) (S₁ .grown) ρ node (container o (sortIn W₀ element)) y .0
         (j ∙ (sort-term (v .lent) (S₁ .grown .checked) (terms ρ) a (i .0) ∙ ap termOf (i .1 ∙ ap (container o) (S .grown .looks element l)))))
-        z) (λ D. k (bound e D)) (λ D S₃. on (bound e D) v S₃ f₁)))
+        z) (λ D. k (withBinds e D)) (λ D S₃. on (withBinds e D) v S₃ f₁)))
         (λ b v′ _ s′ f′. ih b e v′ s′ f′))
         (λ v S₁ f₁. missed-leaves W₀ B₀ P Met v (S₁ .grown .checked) f₁)
 
@@ -185,7 +185,7 @@ module _
         at-sort s j none l = nothing-found
         at-sort s j (some g) l =
             let c = S .grown .checked in
-            on (measured e (g ∷ []) (e .binds)) w
+            on (withComponents e (g ∷ []) (e .binds)) w
             (record {
               grown = S .grown;
               binds = S .binds;

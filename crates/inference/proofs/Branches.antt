@@ -37,7 +37,7 @@ use Rattle.inference.specs.declared.Constraint.{Constraint}
 use Rattle.inference.specs.declared.Constraint.the-variants.{Sub, Lit, Disjunction, Comprehension, Join}
 use Rattle.inference.specs.Constraints.{Problem}
 use Rattle.inference.specs.Measure.{Components, Ranking, smaller, equal, greater, compare}
-use Rattle.inference.specs.Search.{makesSort, resolveIn, joinIn, resolveAll, Agreed, joinAll, sortIn, headOf, allInto, agreed, joinOf, Choice, Path, Candidate, bound, measured, chosen, Try, widerTries, narrowerTries, litComponent, litTries, Reading, readings, World, Out, found, missed, ended, lending, orElse, andAlso, says, onYes, unifying, onMade, givenBack, firstFound, narrower, wider, widening, atSort, literalAt, literalEnd, literal, everyReading, everyOverload, sequence, joining, step, keeping, replace, marked, leafBy, leafOver, leaf, dominatedBy, unlessDominated, solve}
+use Rattle.inference.specs.Search.{makesSort, resolveIn, joinIn, resolveAll, Agreed, joinAll, sortIn, headSteps, allInto, agreed, joinOf, Choice, Path, Candidate, withBinds, withComponents, withChoice, Try, widerTries, narrowerTries, litComponent, litTries, Reading, readings, World, Out, found, missed, ended, lending, elseTry, andAlso, says, onYes, unifying, onMade, nodesReturned, firstFound, narrower, wider, widening, atSort, literalAt, literalEnd, literal, everyReading, everyOverload, sequence, joining, step, keeping, replace, markedTied, leafBy, leafOver, leaf, dominatedBy, unlessDominated, solve}
 
 -- Room that ends is that of sorts or that of nodes.
 abbrev pub Ends : ℕ → Type 0
@@ -92,8 +92,8 @@ agreed-each (s ∷ ss) W =
   where
     go : (j : ℕ) (W′ : Lent) (b : Bool)
         → Each (AsMany (suc (length ss))) Perhaps EndsIn
-        (cond b (made (record { sort = j; components = each (λ s. headOf (distance true (sortIn W′ s) (sortIn W′ j))) (s ∷ ss) }) W′) (no-list W′))
-    go j W′ true = ap suc (length-each (λ s. headOf (distance true (sortIn W′ s) (sortIn W′ j))) ss)
+        (cond b (made (record { sort = j; components = each (λ s. headSteps (distance true (sortIn W′ s) (sortIn W′ j))) (s ∷ ss) }) W′) (no-list W′))
+    go j W′ true = ap suc (length-each (λ s. headSteps (distance true (sortIn W′ s) (sortIn W′ j))) ss)
     go j W′ false = tt
 
 -- as many components as there are sources
@@ -116,13 +116,13 @@ pub record Adds (e : Path) (n : ℕ) (K : List Choice → Type 0) (e′ : Path) 
 abbrev pub NoChoice : List Choice → Type 0
 NoChoice ks = ks ≡ []
 
-adds-components : (e : Path) (ns : Components) (n : ℕ) → length ns ≡ n → (C : Binds) → Extends (e .binds) C → Adds e n NoChoice (measured e ns C)
+adds-components : (e : Path) (ns : Components) (n : ℕ) → length ns ≡ n → (C : Binds) → Extends (e .binds) C → Adds e n NoChoice (withComponents e ns C)
 adds-components e ns n i C x = record { components = ns; measure = refl; many = i; more = []; choices = sym (append-nil (e .choices)); fine = refl; binds = x }
 
 adds-choices : (e : Path) (ks : List Choice) (K : List Choice → Type 0) → K ks → (C : Binds) → Extends (e .binds) C → Adds e 0 K (record { binds = C; measure = e .measure; choices = e .choices ++ ks })
 adds-choices e ks K h C x = record { components = []; measure = sym (append-nil (e .measure)); many = refl; more = ks; choices = refl; fine = h; binds = x }
 
-adds-nothing : (e : Path) (K : List Choice → Type 0) → K [] → (C : Binds) → Extends (e .binds) C → Adds e 0 K (bound e C)
+adds-nothing : (e : Path) (K : List Choice → Type 0) → K [] → (C : Binds) → Extends (e .binds) C → Adds e 0 K (withBinds e C)
 adds-nothing e K h C x = record { components = []; measure = sym (append-nil (e .measure)); many = refl; more = []; choices = sym (append-nil (e .choices)); fine = h; binds = x }
 
 -- one stretch after another
@@ -186,7 +186,7 @@ module _ (Met : Type 0) (meet : Components → Met → Met) (P : Problem) (Went 
   unfolding Goes
   missed-goes w W = stays w W
 
-  or-else-goes : (w : World Met) (o : Out Met) → Goes Went w o → (g : World Met → Out Met) → ((v : World Met) → Goes Went v (g v)) → Goes Went w (orElse o g)
+  or-else-goes : (w : World Met) (o : Out Met) → Goes Went w o → (g : World Met → Out Met) → ((v : World Met) → Goes Went v (g v)) → Goes Went w (elseTry o g)
   unfolding Goes
   or-else-goes w (found v) x g y = x
   or-else-goes w (missed v) x g y = goes-after w v x (g v) (y v)
@@ -221,7 +221,7 @@ module _ (Met : Type 0) (meet : Components → Met → Met) (P : Problem) (Went 
   on-made-goes In N (no-list W) h u w k g x y = y W h
   on-made-goes In N (no-room c W) h u w k g x y = h
 
-  given-back-goes : (U : Lent) (w : World Met) (o : Out Met) → Goes Went w o → Goes Went w (givenBack U o)
+  given-back-goes : (U : Lent) (w : World Met) (o : Out Met) → Goes Went w o → Goes Went w (nodesReturned U o)
   unfolding Goes
   given-back-goes U w (found v) x = subst (λ a. Went w a (lending v (withNodesOf U (v .lent)))) (or-false true) (after w v _ true false x (stays v (withNodesOf U (v .lent))))
   given-back-goes U w (missed v) x = after w v _ false false x (stays v (withNodesOf U (v .lent)))
@@ -235,7 +235,7 @@ module _ (Met : Type 0) (meet : Components → Met → Met) (P : Problem) (Went 
   lent-goes w W k h = goes-after w (lending w W) (stays w W) (k (lending w W)) (h (lending w W))
 
   module _ (k : Path → World Met → Out Met) (e : Path) where
-    module _ (h : (n : ℕ) (C : Binds) → Extends (e .binds) C → From (k (measured e (n ∷ []) C))) where
+    module _ (h : (n : ℕ) (C : Binds) → Extends (e .binds) C → From (k (withComponents e (n ∷ []) C))) where
       first-found-goes : (ts : List Try) → From (firstFound Met meet P ts k e)
       unfolding firstFound
       first-found-goes [] w = missed-goes w (w .lent)
@@ -243,7 +243,7 @@ module _ (Met : Type 0) (meet : Components → Met → Met) (P : Problem) (Went 
           or-else-goes w _ (unifying-goes (e .binds) (t .left) (t .right) _ w (λ C x. h (t .component) C x w)) (firstFound Met meet P ts k e) (first-found-goes ts)
 
       -- the tries over what was made, whose nodes are given back
-      tried-goes : (w : World Met) (W : Lent) (ts : List Try) → Goes Went w (givenBack (w .lent) (firstFound Met meet P ts k e (lending w W)))
+      tried-goes : (w : World Met) (W : Lent) (ts : List Try) → Goes Went w (nodesReturned (w .lent) (firstFound Met meet P ts k e (lending w W)))
       tried-goes w W ts = given-back-goes (w .lent) w _ (lent-goes w W (firstFound Met meet P ts k e) (first-found-goes ts))
 
       narrower-goes : (l r : ℕ) → From (narrower Met meet P l r k e)
@@ -282,7 +282,7 @@ module _ (Met : Type 0) (meet : Components → Met → Met) (P : Problem) (Went 
           go none = missed-goes w (w .lent)
           go (some q) = by (graph (w .lent) q)
 
-    every-reading-goes : ((D : Binds) → Extends (e .binds) D → From (k (bound e D))) → (rs : List Reading) (body node element : ℕ) (b : Bool) (u w : World Met) → Went u b w
+    every-reading-goes : ((D : Binds) → Extends (e .binds) D → From (k (withBinds e D))) → (rs : List Reading) (body node element : ℕ) (b : Bool) (u w : World Met) → Went u b w
         → Goes Went u (everyReading Met meet P rs body node element b k e w)
     unfolding everyReading
     every-reading-goes h [] body node element b u w x = says-goes u w b x
@@ -294,7 +294,7 @@ module _ (Met : Type 0) (meet : Components → Met → Met) (P : Problem) (Went 
         (λ a. everyReading Met meet P rs body node element a k e) (λ a v y. every-reading-goes h rs body node element a u v y))
         (λ W i. absurd i)
 
-    every-overload-goes : (x p : ℕ) (os : List Overload) (i : ℕ) → ((j : ℕ) → j < i + length os → (C : Binds) → Extends (e .binds) C → From (k (chosen e x j C))) → (b : Bool) (u w : World Met) → Went u b w
+    every-overload-goes : (x p : ℕ) (os : List Overload) (i : ℕ) → ((j : ℕ) → j < i + length os → (C : Binds) → Extends (e .binds) C → From (k (withChoice e x j C))) → (b : Bool) (u w : World Met) → Went u b w
         → Goes Went u (everyOverload Met meet P x p os i b k e w)
     unfolding everyOverload
     every-overload-goes x p [] i h b u w y = says-goes u w b y
@@ -308,7 +308,7 @@ module _ (Met : Type 0) (meet : Components → Met → Met) (P : Problem) (Went 
   sequence-goes (s ∷ ss) t k e h =
       widening-goes (sequence Met meet P ss t k) e
       (λ n C x.
-      sequence-goes ss t k (measured e (n ∷ []) C)
+      sequence-goes ss t k (withComponents e (n ∷ []) C)
       (λ e′ a. h e′ (adds-after e _ e′ 1 (length ss) _ NoChoice NoChoice NoChoice (adds-components e (n ∷ []) 1 refl C x) a (omega arith) (λ ks ls i j. ap₂ _++_ i j))))
       s t
 
@@ -317,7 +317,7 @@ module _ (Met : Type 0) (meet : Components → Met → Met) (P : Problem) (Went 
   joining-goes ss t k e h w =
       on-made-goes (AsMany (length ss)) Perhaps (joinOf (e .binds) ss (w .lent)) (join-of-each (e .binds) ss (w .lent)) w w _ (sequence Met meet P ss t k e)
       (λ a W i. lent-goes w W
-      (λ v. orElse (unifying (e .binds) t (a .sort) (λ C. k (measured e (a .components) C)) v) (sequence Met meet P ss t k e))
+      (λ v. elseTry (unifying (e .binds) t (a .sort) (λ C. k (withComponents e (a .components) C)) v) (sequence Met meet P ss t k e))
       (λ v. or-else-goes v _ (unifying-goes (e .binds) t (a .sort) _ v (λ C x. h _ (adds-components e (a .components) (length ss) i C x) v)) (sequence Met meet P ss t k e) (sequence-goes ss t k e h)))
       (λ W u. lent-goes w W (sequence Met meet P ss t k e) (sequence-goes ss t k e h))
 
@@ -359,7 +359,7 @@ module _ (Met : Type 0) (meet : Components → Met → Met) (P : Problem) (Went 
     pub leaf-goes : (w .best ≡ none → (ss : List ℕ) (W : Lent) → Went w true (keeping Met meet P (lending w W) (e .measure) (newcomer e ss)))
         → ((c : Candidate) → w .best ≡ some c → compare (e .measure) (c .measure) ≡ smaller → (ss : List ℕ) (W : Lent)
         → Went w true (keeping Met meet P (lending w W) (e .measure) (newcomer e ss)))
-        → ((c : Candidate) → w .best ≡ some c → compare (e .measure) (c .measure) ≡ equal → Went w true (keeping Met meet P w (e .measure) (marked Met meet P c)))
+        → ((c : Candidate) → w .best ≡ some c → compare (e .measure) (c .measure) ≡ equal → Went w true (keeping Met meet P w (e .measure) (markedTied Met meet P c)))
         → ((c : Candidate) → w .best ≡ some c → compare (e .measure) (c .measure) ≡ greater → Went w true (keeping Met meet P w (e .measure) c)) → Goes Went w (leaf Met meet P e w)
     unfolding leaf Goes
     leaf-goes first less same more = go (w .best) refl

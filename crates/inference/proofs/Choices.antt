@@ -28,7 +28,7 @@ use Rattle.inference.specs.Search.{Choice, Path, Candidate, World, Out, 
 use Rattle.inference.specs.Names.{runFor, overloadIn, targetIn, chosenName, baseName, nameOf}
 use Rattle.inference.specs.Typing.{All, none-left, and-all, In, here, there}
 use Rattle.inference.specs.SolveChecks.{Call, given, disjunctionFor, disjunctions, among, noTwo, componentsOf, components}
-use Rattle.inference.specs.SolveEntry.{problemOf, baseNamesOf, start, lentOf, searched, Left, over, countsIn, typed, judgedBy, judged, verdict, nothingMet, solveEntry, codeSolved, choicesOut}
+use Rattle.inference.specs.SolveEntry.{problemOf, baseNamesOf, startPath, lentOf, searched, SolveLeft, writtenOver, countsIn, typed, judgedBy, judged, verdict, nothingMet, solveEntry, codeSolved, choicesOut}
 use Rattle.inference.proofs.Members.{not-in-nothing, in-cases, first-in, in-right}
 use Rattle.inference.proofs.HandedOut.{choices-read}
 use Rattle.inference.proofs.Accepted.{Listed, sub-listed, lit-listed, disjunction-listed, comprehension-listed, join-listed, Accepted, refused-or-searched}
@@ -247,7 +247,7 @@ module _ (P : Problem) (bs : List BaseName) (ks : List Choice) (choosing : Choos
   others-keep-base-names x a = rw (not-chosen P x ks (ap (among x) (choices-in-order (P .constraints) ks choosing) ∙ a))
 
 -- what a call leaves that hands out a typing
-pub record IsTyping (I : Call) (left : Left) : Type 0 where
+pub record IsTyping (I : Call) (left : SolveLeft) : Type 0 where
   pub accepted : Accepted I
   pub lent : Lent
   pub candidate : Candidate
@@ -277,13 +277,13 @@ unfolding FitsBest codeSolved
 code-0-typed I =
     let w : World (Unit {0}) = record { lent = lentOf I; best = none; met = tt } in
     refused-or-searched I (λ left. codeSolved (left .answer) ≡ 0 → IsTyping I left) (λ c l q. absurd (omega (arith, l, q)))
-    (λ A. searched-typed I A w tt (searched (Unit {0}) nothingMet tt I) (search-fits (Unit {0}) nothingMet (problemOf I) (given I) (start I .binds) w))
+    (λ A. searched-typed I A w tt (searched (Unit {0}) nothingMet tt I) (search-fits (Unit {0}) nothingMet (problemOf I) (given I) (startPath I .binds) w))
 
 -- Measure and choices as handed out, ks being the choices: how many components and choices there are; the choices in the order of the constraints, one for
 -- each disjunction; and the names that they give.
-pub record Named (I : Call) (left : Left) (o : Outputs) (ks : List Choice) : Type 0 where
+pub record Named (I : Call) (left : SolveLeft) (o : Outputs) (ks : List Choice) : Type 0 where
   pub measure : Components
-  pub measure-handed-out : left .measure ≡ over measure (I .measure)
+  pub measure-handed-out : left .measure ≡ writtenOver measure (I .measure)
   pub handed-out : o .components ≡ length measure
   pub component-count : length measure ≡ components (given I)
   pub choice-count : o .choices ≡ length ks
@@ -299,17 +299,17 @@ names-and-choices I o e = named (solveEntry I) (t .is) e
     t : IsTyping I (solveEntry I)
     t = code-0-typed I (ap codeSolved e)
 
-    named : (L : Left) → L ≡ typed I (t .lent) (t .candidate) → L .answer ≡ Typing o → Named I L o (choicesOut L o)
+    named : (L : SolveLeft) → L ≡ typed I (t .lent) (t .candidate) → L .answer ≡ Typing o → Named I L o (choicesOut L o)
     named L i a =
         let ks = t .candidate .choices in
-        let b : typed I (t .lent) (t .candidate) .answer ≡ Typing o = ap (λ (z : Left). z .answer) (sym i) ∙ a in
+        let b : typed I (t .lent) (t .candidate) .answer ≡ Typing o = ap (λ (z : SolveLeft). z .answer) (sym i) ∙ a in
         let q : o ≡ record { counts = countsIn (t .lent); components = length (t .candidate .measure); choices = length (t .candidate .choices) } = cc in
-        let r : choicesOut L o ≡ ks = ap (λ (z : Left). choicesOut z o) i ∙ (ap (λ (z : Outputs). choicesOut (typed I (t .lent) (t .candidate)) z) q ∙ choices-read (t .candidate .choices) _) in
+        let r : choicesOut L o ≡ ks = ap (λ (z : SolveLeft). choicesOut z o) i ∙ (ap (λ (z : Outputs). choicesOut (typed I (t .lent) (t .candidate)) z) q ∙ choices-read (t .candidate .choices) _) in
         let two : noTwo (map exprOf ks) ≡ true = ap noTwo (choices-in-order (given I) ks (t .fits .choices)) ∙ t .accepted .one-disjunction-each in
         subst (Named I L o) (sym r)
         (record {
           measure = t .candidate .measure;
-          measure-handed-out = ap (λ (z : Left). z .measure) i;
+          measure-handed-out = ap (λ (z : SolveLeft). z .measure) i;
           handed-out = ap (λ (z : Outputs). z .components) q;
           component-count = t .fits .components ∙ width-is-components (lentOf I) (problemOf I) (given I) (t .accepted .constraints);
           choice-count = ap (λ (z : Outputs). z .choices) q;

@@ -22,7 +22,7 @@ use Rattle.inference.specs.declared.Constraint.the-variants.{Sub, Lit, D
 use Rattle.inference.specs.Constraints.{Problem}
 use Rattle.inference.specs.Search.{Choice}
 use Rattle.inference.specs.Names.{overloadIn}
-use Rattle.inference.specs.Typing.{Assignment, Has, admits, All, and-all, In, here, there, Read, Into, Typed, and-typed, Meets, meets-sub, meets-lit, meets-disjunction, meets-comprehension, meets-join}
+use Rattle.inference.specs.Typing.{Assignment, Has, admits, All, and-all, In, here, there, ReadAs, Into, Typed, and-typed, Meets, meets-sub, meets-lit, meets-disjunction, meets-comprehension, meets-join}
 
 -- the sorts of numbers
 pub data Number : Tree → Type 0 where
@@ -73,7 +73,7 @@ module _ (shape : ℕ → Shape) (look : ℕ → Tree) (P : Problem) (σ : Assig
 
     -- body and comprehension that go together
     pub comprehension-reads : (body node : InferSortId) (element : SortId) (s t : Tree) → Has shape σ (body .0) s → Has shape σ (node .0) t
-        → Meets shape look P ch σ (Comprehension body node element) → Read (look (element .0)) s t
+        → Meets shape look P ch σ (Comprehension body node element) → ReadAs (look (element .0)) s t
     comprehension-reads body node element s t h g (meets-comprehension _ _ _ s′ t′ h′ g′ r) =
         let p = one-sort (body .0) s s′ h h′ in let q = one-sort (node .0) t t′ g g′ in rw (p, q) r
 

@@ -8,7 +8,7 @@ use Rattle.resolved_sort.specs.declared.Counts.{Counts}
 use Rattle.inference.specs.declared.Solved.{Solved}
 use Rattle.inference.specs.declared.Solved.the-variants.{Refused, NoRoom, NoTyping, Ambiguous, Typing}
 use Rattle.inference.specs.Search.{Choice}
-use Rattle.inference.specs.SolveEntry.{Left, codeSolved, measureOut, choicesOut}
+use Rattle.inference.specs.SolveEntry.{SolveLeft, codeSolved, measureOut, choicesOut}
 use Rattle.inference.proofs.Situations.{Given, solved, row, sub, lit, disjunction, comprehension, join}
 
 given : List ℕ → List ℕ → List ℕ → List ℕ → List ℕ → List ℕ → List ℕ → List ℕ → List ℕ → List ℕ → ℕ → Given
@@ -45,12 +45,12 @@ between : ℕ → ℕ → List ℕ → List ℕ
 between a b ws = take (b - a) (drop a ws)
 
 -- k counts the sorts that are kept
-keeping : Given → Left → Counts → List ℕ → List ℕ → List Choice → Outcome
+keeping : Given → SolveLeft → Counts → List ℕ → List ℕ → List Choice → Outcome
 keeping G L k typing measure choices =
     outcome (codeSolved (L .answer)) typing measure choices (between (24 + length (G .sorts)) (4 * k .sorts) (L .sorts))
     (between (4096 + length (G .entries)) (4096 + k .entries) (L .sorts))
 
-abbrev outcomeBy : Given → Left → Solved → Outcome
+abbrev outcomeBy : Given → SolveLeft → Solved → Outcome
 outcomeBy G L (Refused c) = outcome c [] [] [] [] []
 outcomeBy G L (NoRoom c) = outcome c [] [] [] [] []
 outcomeBy G L (NoTyping k) = keeping G L k [] [] []

@@ -19,9 +19,9 @@ use Rattle.inference.specs.declared.Constraint.{Constraint}
 use Rattle.inference.specs.declared.Constraint.the-variants.{Sub, Lit, Disjunction, Comprehension, Join}
 use Rattle.inference.specs.Constraints.{Problem}
 use Rattle.inference.specs.Measure.{Components, Ranking, smaller, equal, greater, compare}
-use Rattle.inference.specs.Search.{resolveAll, joinOf, Path, Candidate, bound, measured, chosen, Try, widerTries, narrowerTries, litComponent, litTries, Reading, readings, World, Out, found, missed, ended, lending, orElse, andAlso, says, onYes, unifying, onMade, givenBack, firstFound, narrower, wider, widening, atSort, literalAt, literalEnd, literal, everyReading, everyOverload, sequence, joining, step, keeping, replace, marked, leafBy, leafOver, leaf, dominatedBy, unlessDominated, solve}
+use Rattle.inference.specs.Search.{resolveAll, joinOf, Path, Candidate, withBinds, withComponents, withChoice, Try, widerTries, narrowerTries, litComponent, litTries, Reading, readings, World, Out, found, missed, ended, lending, elseTry, andAlso, says, onYes, unifying, onMade, nodesReturned, firstFound, narrower, wider, widening, atSort, literalAt, literalEnd, literal, everyReading, everyOverload, sequence, joining, step, keeping, replace, markedTied, leafBy, leafOver, leaf, dominatedBy, unlessDominated, solve}
 use Rattle.inference.specs.SolveChecks.{Call, given}
-use Rattle.inference.specs.SolveEntry.{problemOf, start, lentOf, searched, verdict, nothingMet}
+use Rattle.inference.specs.SolveEntry.{problemOf, startPath, lentOf, searched, verdict, nothingMet}
 
 module _ {Met Met′ : Type 0} (f : Met → Met′) where
   abbrev pub mapWorld : World Met → World Met′
@@ -39,11 +39,11 @@ module _ {Met Met′ : Type 0} (f : Met → Met′) where
   abbrev Alike : (World Met → Out Met) → (World Met′ → Out Met′) → Type 0
   Alike k k′ = (w : World Met) → Image (k w) (k′ (mapWorld w))
 
-  or-else-alike : (o : Out Met) (o′ : Out Met′) → Image o o′ → (g : World Met → Out Met) (g′ : World Met′ → Out Met′) → Alike g g′ → Image (orElse o g) (orElse o′ g′)
+  or-else-alike : (o : Out Met) (o′ : Out Met′) → Image o o′ → (g : World Met → Out Met) (g′ : World Met′ → Out Met′) → Alike g g′ → Image (elseTry o g) (elseTry o′ g′)
   unfolding Image
-  or-else-alike (found w) o′ e g g′ h = ap (λ o. orElse o g′) e
-  or-else-alike (missed w) o′ e g g′ h = h w ∙ ap (λ o. orElse o g′) e
-  or-else-alike (ended c W) o′ e g g′ h = ap (λ o. orElse o g′) e
+  or-else-alike (found w) o′ e g g′ h = ap (λ o. elseTry o g′) e
+  or-else-alike (missed w) o′ e g g′ h = h w ∙ ap (λ o. elseTry o g′) e
+  or-else-alike (ended c W) o′ e g g′ h = ap (λ o. elseTry o g′) e
 
   and-also-alike : (o : Out Met) (o′ : Out Met′) → Image o o′ → (b : Bool) (g : Bool → World Met → Out Met) (g′ : Bool → World Met′ → Out Met′) → ((b : Bool) → Alike (g b) (g′ b))
       → Image (andAlso o b g) (andAlso o′ b g′)
@@ -77,11 +77,11 @@ module _ {Met Met′ : Type 0} (f : Met → Met′) where
   on-made-alike (no-list W) k k′ g g′ h i w = i (lending w W)
   on-made-alike (no-room c W) k k′ g g′ h i w = refl
 
-  given-back-alike : (U : Lent) (o : Out Met) (o′ : Out Met′) → Image o o′ → Image (givenBack U o) (givenBack U o′)
+  given-back-alike : (U : Lent) (o : Out Met) (o′ : Out Met′) → Image o o′ → Image (nodesReturned U o) (nodesReturned U o′)
   unfolding Image
-  given-back-alike U (found w) o′ e = ap (givenBack U) e
-  given-back-alike U (missed w) o′ e = ap (givenBack U) e
-  given-back-alike U (ended c W) o′ e = ap (givenBack U) e
+  given-back-alike U (found w) o′ e = ap (nodesReturned U) e
+  given-back-alike U (missed w) o′ e = ap (nodesReturned U) e
+  given-back-alike U (ended c W) o′ e = ap (nodesReturned U) e
 
 module _ (Met Met′ : Type 0) (meet : Components → Met → Met) (meet′ : Components → Met′ → Met′) (f : Met → Met′) (commutes : (m : Components) (x : Met) → f (meet m x) ≡ meet′ m (f x)) (P : Problem) where
   -- what comes next, on every path
@@ -93,7 +93,7 @@ module _ (Met Met′ : Type 0) (meet : Components → Met → Met) (meet′ : Co
     unfolding firstFound
     first-found-alike [] e w = missed-alike f w
     first-found-alike (t ∷ ts) e w =
-        or-else-alike f _ _ (unifying-alike f (e .binds) (t .left) (t .right) _ _ (λ C. h (measured e (t .component ∷ []) C)) w) (firstFound Met meet P ts k e) (firstFound Met′ meet′ P ts k′ e)
+        or-else-alike f _ _ (unifying-alike f (e .binds) (t .left) (t .right) _ _ (λ C. h (withComponents e (t .component ∷ []) C)) w) (firstFound Met meet P ts k e) (firstFound Met′ meet′ P ts k′ e)
         (first-found-alike ts e)
 
     narrower-alike : (l r : ℕ) → Nexts (narrower Met meet P l r k) (narrower Met′ meet′ P l r k′)
@@ -108,11 +108,11 @@ module _ (Met Met′ : Type 0) (meet : Components → Met → Met) (meet′ : Co
     widening-alike : (l r : ℕ) → Nexts (widening Met meet P l r k) (widening Met′ meet′ P l r k′)
     unfolding widening
     widening-alike l r e w =
-        or-else-alike f _ _ (unifying-alike f (e .binds) l r _ _ (λ C. h (measured e (0 ∷ []) C)) w) (wider Met meet P l r k e) (wider Met′ meet′ P l r k′ e) (wider-alike l r e)
+        or-else-alike f _ _ (unifying-alike f (e .binds) l r _ _ (λ C. h (withComponents e (0 ∷ []) C)) w) (wider Met meet P l r k e) (wider Met′ meet′ P l r k′ e) (wider-alike l r e)
 
     at-sort-alike : (g : Option ℕ) → Nexts (atSort Met meet P g k) (atSort Met′ meet′ P g k′)
     at-sort-alike none e w = missed-alike f w
-    at-sort-alike (some g) e w = h (measured e (g ∷ []) (e .binds)) w
+    at-sort-alike (some g) e w = h (withComponents e (g ∷ []) (e .binds)) w
 
     literal-alike : (kind : LitKind) (p : ℕ) → Nexts (literal Met meet P kind p k) (literal Met′ meet′ P kind p k′)
     unfolding literal
@@ -137,7 +137,7 @@ module _ (Met Met′ : Type 0) (meet : Components → Met → Met) (meet′ : Co
     every-reading-alike [] body node element b e w = says-alike f b w
     every-reading-alike (r ∷ rs) body node element b e w =
         on-made-alike f (internContainer (r .op) element (w .lent)) _ _ missed missed
-        (λ s v. and-also-alike f _ _ (unifying-alike f (e .binds) body (r .body) _ _ (λ C. unifying-alike f C node s _ _ (λ D. h (bound e D))) v) b
+        (λ s v. and-also-alike f _ _ (unifying-alike f (e .binds) body (r .body) _ _ (λ C. unifying-alike f C node s _ _ (λ D. h (withBinds e D))) v) b
         (λ b. everyReading Met meet P rs body node element b k e) (λ b. everyReading Met′ meet′ P rs body node element b k′ e) (λ b. every-reading-alike rs body node element b e))
         (missed-alike f) w
 
@@ -145,7 +145,7 @@ module _ (Met Met′ : Type 0) (meet : Components → Met → Met) (meet′ : Co
     unfolding everyOverload
     every-overload-alike x p [] i b e w = says-alike f b w
     every-overload-alike x p (o ∷ os) i b e w =
-        and-also-alike f _ _ (unifying-alike f (e .binds) p (o .sort .0) _ _ (λ C. h (chosen e x i C)) w) b (λ b. everyOverload Met meet P x p os (i + 1) b k e)
+        and-also-alike f _ _ (unifying-alike f (e .binds) p (o .sort .0) _ _ (λ C. h (withChoice e x i C)) w) b (λ b. everyOverload Met meet P x p os (i + 1) b k e)
         (λ b. everyOverload Met′ meet′ P x p os (i + 1) b k′ e) (λ b. every-overload-alike x p os (i + 1) b e)
 
   sequence-alike : (ss : List ℕ) (t : ℕ) (k : Path → World Met → Out Met) (k′ : Path → World Met′ → Out Met′) → Nexts k k′ → Nexts (sequence Met meet P ss t k) (sequence Met′ meet′ P ss t k′)
@@ -157,7 +157,7 @@ module _ (Met Met′ : Type 0) (meet : Components → Met → Met) (meet′ : Co
   unfolding joining
   joining-alike ss t k k′ h e w =
       on-made-alike f (joinOf (e .binds) ss (w .lent)) _ _ (sequence Met meet P ss t k e) (sequence Met′ meet′ P ss t k′ e)
-      (λ a v. or-else-alike f _ _ (unifying-alike f (e .binds) t (a .sort) _ _ (λ C. h (measured e (a .components) C)) v) (sequence Met meet P ss t k e) (sequence Met′ meet′ P ss t k′ e)
+      (λ a v. or-else-alike f _ _ (unifying-alike f (e .binds) t (a .sort) _ _ (λ C. h (withComponents e (a .components) C)) v) (sequence Met meet P ss t k e) (sequence Met′ meet′ P ss t k′ e)
       (sequence-alike ss t k k′ h e))
       (sequence-alike ss t k k′ h e) w
 
@@ -186,7 +186,7 @@ module _ (Met Met′ : Type 0) (meet : Components → Met → Met) (meet′ : Co
     where
       by : (r : Ranking) (c : Candidate) → Image f (leafBy Met meet P r c e w) (leafBy Met′ meet′ P r c e (mapWorld f w))
       by smaller c = replace-alike e w
-      by equal c = keeping-alike (e .measure) (marked Met meet P c) w
+      by equal c = keeping-alike (e .measure) (markedTied Met meet P c) w
       by greater c = keeping-alike (e .measure) c w
 
       go : (b : Option Candidate) → Image f (leafOver Met meet P b e w) (leafOver Met′ meet′ P b e (mapWorld f w))
@@ -223,4 +223,4 @@ pub history-has-the-verdict : (I : Call) → verdict I (history I) ≡ verdict I
 history-has-the-verdict I =
     sym (verdict-forgets {Met′ = Unit {0}} (λ ms. tt) I (history I))
     ∙ ap (verdict I)
-    (forgets (List Components) (Unit {0}) _∷_ nothingMet (λ ms. tt) (λ m ms. refl) (problemOf I) (given I) (start I) (record { lent = lentOf I; best = none; met = [] }))
+    (forgets (List Components) (Unit {0}) _∷_ nothingMet (λ ms. tt) (λ m ms. refl) (problemOf I) (given I) (startPath I) (record { lent = lentOf I; best = none; met = [] }))

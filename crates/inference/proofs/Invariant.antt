@@ -11,7 +11,7 @@ use Prim.Native.Nat.{ℕ}
 use Rattle.resolved_sort.specs.Tree.{Tree}
 use Rattle.resolved_sort.specs.Rows.{AllBelow}
 use Rattle.resolved_sort.proofs.RowTrees.{weaken-all}
-use Rattle.unification.specs.Term.{Term, termOf, put}
+use Rattle.unification.specs.Term.{Term, termOf, substitute}
 use Rattle.unification.specs.Nodes.{Binds}
 use Rattle.unification.specs.Unify.{Unifies, yes-with, no-way, too-deep, unify}
 use Rattle.unification.specs.Solutions.{Respects, Equates}
@@ -22,7 +22,7 @@ use Rattle.unification.proofs.Answers.{Agreeing, yes-agrees}
 use Rattle.inference.specs.declared.Constraint.{Constraint}
 use Rattle.inference.specs.Constraints.{Problem}
 use Rattle.inference.specs.Measure.{Components}
-use Rattle.inference.specs.Search.{Choice, Path, Candidate, World, Out, found, missed, ended, lending, orElse, andAlso, says, onYes, unifying, givenBack, sortIn}
+use Rattle.inference.specs.Search.{Choice, Path, Candidate, World, Out, found, missed, ended, lending, elseTry, andAlso, says, onYes, unifying, nodesReturned, sortIn}
 use Rattle.inference.specs.Typing.{Assignment, Has, All, none-left, and-all, Typed, all-typed, and-typed}
 use Rattle.inference.specs.Components.{Costing}
 
@@ -53,7 +53,7 @@ module _ (W₀ : Lent) (c₀ : CheckedLent W₀) (W : Lent) (g : Grows W₀ W) w
   still-placed _ (and-all p ps i is) = and-all p ps (placed-grown W₀ c₀ W g p i) (still-placed ps is)
 
   pub same-sort : (ρ : Assignment) (p : ℕ) (t : Tree) → PlacedIn W₀ p → Has (graph W) ρ p t ↔ Has (graph W₀) ρ p t
-  same-sort ρ p t x = let y = ap (put (terms ρ)) (term-grown W₀ c₀ W g p x) in (λ h. sym y ∙ h, λ h. y ∙ h)
+  same-sort ρ p t x = let y = ap (substitute (terms ρ)) (term-grown W₀ c₀ W g p x) in (λ h. sym y ∙ h, λ h. y ∙ h)
 
   pub equal-have-one-sort : (ρ : Assignment) (l r : ℕ) (t : Tree) → PlacedIn W₀ l → PlacedIn W₀ r → Equates (graph W) (terms ρ) l r → Has (graph W₀) ρ l t → Has (graph W₀) ρ r t
   equal-have-one-sort ρ l r t x y q h = same-sort ρ r t y .0 (sym q ∙ same-sort ρ l t x .1 h)
@@ -130,7 +130,7 @@ module _ (W₀ : Lent) (B₀ : Binds) (P : Problem) where
         }
 
     -- "Nodes made for a widening are given back"
-    pub given-back-leaves : (W : Lent) → CheckedLent W → (W′ : Lent) → Grows W W′ → (o : Out Met) → Leaves W′ o → Leaves W (givenBack W o)
+    pub given-back-leaves : (W : Lent) → CheckedLent W → (W′ : Lent) → Grows W W′ → (o : Out Met) → Leaves W′ o → Leaves W (nodesReturned W o)
     unfolding Leaves
     given-back-leaves W c W′ g (found w) x = back W c W′ g w x
     given-back-leaves W c W′ g (missed w) x = back W c W′ g w x
@@ -183,7 +183,7 @@ module _ (W₀ : Lent) (B₀ : Binds) (P : Problem) where
           leaves-from Met (w .lent) (s .grown .checked) (v .lent) (x .only) (f v) (y v (x .only .grows) (sound-grown (w .lent) (v .lent) e Q c₀ s (x .only .grows)) (x .best))
 
       -- "where nothing was found, what else"
-      pub or-else-leaves : CheckedLent W₀ → (o : Out Met) (f : World Met → Out Met) → Leaves Met (w .lent) o → After f → Leaves Met (w .lent) (orElse o f)
+      pub or-else-leaves : CheckedLent W₀ → (o : Out Met) (f : World Met → Out Met) → Leaves Met (w .lent) o → After f → Leaves Met (w .lent) (elseTry o f)
       unfolding Leaves
       or-else-leaves c₀ (found v) f x y = x
       or-else-leaves c₀ (missed v) f x y = after-leaves c₀ f y v x

@@ -15,7 +15,7 @@ use Rattle.unification.proofs.BindsGrow.{binds-name-places}
 use Rattle.unification.proofs.PlaceTerms.{sort-placed, sort-term}
 use Rattle.inference.specs.Constraints.{Problem}
 use Rattle.inference.specs.Measure.{Components}
-use Rattle.inference.specs.Search.{Choice, Next, measured, joinOf, sortIn, sequence, joining}
+use Rattle.inference.specs.Search.{Choice, Going, withComponents, joinOf, sortIn, sequence, joining}
 use Rattle.inference.specs.Typing.{Assignment, Has, All, and-all}
 use Rattle.inference.specs.Components.{joins, Heads, no-heads, and-head}
 use Rattle.inference.proofs.Invariant.{Claim, terms, Goes, still-placed, same-sort, or-else-leaves, unifying-leaves}
@@ -38,7 +38,7 @@ module _ (W₀ : Lent) (B₀ : Binds) (P : Problem) (c₀ : CheckedLent W₀) (M
     claimed ch ρ ms u [] ns q h x j = absurd j
     claimed ch ρ ms u (s ∷ us) ns q h x j = claim ch ρ ms s u us ns q h x j
 
-    pub joining-goes : (k : Next Met meet P) → Goes W₀ B₀ P Met R k → Goes W₀ B₀ P Met Q (sequence Met meet P ss t k) → Goes W₀ B₀ P Met Q (joining Met meet P ss t k)
+    pub joining-goes : (k : Going Met meet P) → Goes W₀ B₀ P Met R k → Goes W₀ B₀ P Met Q (sequence Met meet P ss t k) → Goes W₀ B₀ P Met Q (joining Met meet P ss t k)
     unfolding joining
     joining-goes k goes seq e w s b =
         on-made-leaves W₀ B₀ P c₀ Met (Agree (w .lent) (e .binds) ss) (Unit {0}) e w Q s b (joinOf (e .binds) ss (w .lent))
@@ -52,6 +52,6 @@ module _ (W₀ : Lent) (B₀ : Binds) (P : Problem) (c₀ : CheckedLent W₀) (M
         claimed (e .choices) ρ (e .measure) (sortIn (v .lent) (a .sort)) (each (sortIn (q .lists)) (q .sorts)) (a .components) cl
         (same-sort W₀ c₀ (v .lent) (s′ .grown) ρ t (sortIn (v .lent) (a .sort)) at .0 (eq ∙ sort-term (v .lent) (s′ .grown .checked) (terms ρ) (a .sort) (q .agreed .number)))
         (heads-stand (w .lent) (s .grown) (e .binds) (q .lists) ρ r′ (sortIn (v .lent) (a .sort)) ss (q .sorts) (a .components) placed (q .stand) (q .agreed .heads)) (q .agreed .joined))
-        _ (λ C s″. goes (measured e (a .components) C) v s″ b′))
+        _ (λ C s″. goes (withComponents e (a .components) C) v s″ b′))
         (λ v′ g′ s″ b″. seq e v′ s″ b″))
         (λ v s′ b′. seq e v s′ b′)

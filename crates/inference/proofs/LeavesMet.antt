@@ -18,10 +18,10 @@ use Rattle.inference.specs.declared.Solved.the-variants.{Typing}
 use Rattle.inference.specs.declared.Constraint.{Constraint}
 use Rattle.inference.specs.Constraints.{Problem}
 use Rattle.inference.specs.Measure.{Components, Ranking, smaller, equal, greater, compare}
-use Rattle.inference.specs.Search.{Path, Candidate, World, Out, found, missed, ended, lending, keeping, marked, leaf, solve}
+use Rattle.inference.specs.Search.{Path, Candidate, World, Out, found, missed, ended, lending, keeping, markedTied, leaf, solve}
 use Rattle.inference.specs.Typing.{All, none-left, and-all, In, here, there}
 use Rattle.inference.specs.SolveChecks.{Call, given, solveChecks}
-use Rattle.inference.specs.SolveEntry.{problemOf, start, lentOf, Left, over, countsIn, judgedBy, judged, verdict, solveEntry, codeSolved}
+use Rattle.inference.specs.SolveEntry.{problemOf, startPath, lentOf, SolveLeft, writtenOver, countsIn, judgedBy, judged, verdict, solveEntry, codeSolved}
 use Rattle.inference.proofs.Accepted.{passed-is-searched}
 use Rattle.inference.proofs.Members.{not-in-nothing, in-all, all-weaker}
 use Rattle.inference.proofs.Measures.{compare-self, equal-are-one, AtMost, smaller-is-at-most, at-most-self, smaller-below, at-most-each-other-are-one, greater-mirrored}
@@ -152,7 +152,7 @@ module _ (P : Problem) where
       leaf-goes Met _∷_ P Went stays after e w
       (λ q ss W. meets w W (e .measure) (newcomer e ss) (λ k. first-stands (newcomer e ss) (w .met) refl (subst (λ b. Kept b (w .met)) q k)))
       (λ c q i ss W. meets w W (e .measure) (newcomer e ss) (λ k. smaller-stands (newcomer e ss) (w .met) refl c i (before c q k)))
-      (λ c q i. meets w (w .lent) (e .measure) (marked Met _∷_ P c) (λ k. equal-stands (marked Met _∷_ P c) (w .met) c refl refl (e .measure) i (before c q k)))
+      (λ c q i. meets w (w .lent) (e .measure) (markedTied Met _∷_ P c) (λ k. equal-stands (markedTied Met _∷_ P c) (w .met) c refl refl (e .measure) i (before c q k)))
       (λ c q i. meets w (w .lent) (e .measure) c (λ k. greater-stands c (w .met) (e .measure) i (before c q k)))
     where
       before : (c : Candidate) → w .best ≡ some c → Kept (w .best) (w .met) → Stands c (w .met)
@@ -172,18 +172,18 @@ metOf (ended c W) = []
 abbrev pub leavesMet : Call → List Components
 leavesMet I = metOf (history I)
 
-abbrev pub codeOf : Left → ℕ
+abbrev pub codeOf : SolveLeft → ℕ
 codeOf left = codeSolved (left .answer)
 
 -- m is handed out as the measure
-pub record HandsOut (I : Call) (left : Left) (m : Components) : Type 0 where
+pub record HandsOut (I : Call) (left : SolveLeft) (m : Components) : Type 0 where
   pub outputs : Outputs
   pub answer : left .answer ≡ Typing outputs
   pub count : outputs .components ≡ length m
-  pub measure : left .measure ≡ over m (I .measure)
+  pub measure : left .measure ≡ writtenOver m (I .measure)
 
 -- the verdict by the leaves met
-pub record ByLeaves (I : Call) (left : Left) (ms : List Components) : Type 0 where
+pub record ByLeaves (I : Call) (left : SolveLeft) (ms : List Components) : Type 0 where
   pub none-met : (codeOf left ≡ 17) ↔ (ms ≡ [])
   pub least-met-often : (codeOf left ≡ 18) ↔ ((m : Components) × Least m ms × (1 < times m ms))
   pub least-met-once : (codeOf left ≡ 0) ↔ ((m : Components) × Least m ms × (times m ms ≡ 1))
@@ -226,7 +226,7 @@ module _ (I : Call) (W : Lent) (ms : List Components) where
               outputs = record { counts = countsIn W; components = length (c .measure); choices = length (c .choices) };
               answer = refl;
               count = ap length i;
-              measure = ap (λ n. over n (I .measure)) i;
+              measure = ap (λ n. writtenOver n (I .measure)) i;
             };
       }
 
@@ -249,5 +249,5 @@ unfolding Kept
 verdict-by-leaves I e f s =
     let i = passed-is-searched I e ∙ sym (history-has-the-verdict I) in
     subst (λ left. ByLeaves I left (leavesMet I)) (sym i)
-    (searched-by-leaves I (record { lent = lentOf I; best = none; met = [] }) refl (history I) (search-meets (problemOf I) (given I) (start I) (record { lent = lentOf I; best = none; met = [] }))
+    (searched-by-leaves I (record { lent = lentOf I; best = none; met = [] }) refl (history I) (search-meets (problemOf I) (given I) (startPath I) (record { lent = lentOf I; best = none; met = [] }))
     (λ q. f (ap codeOf i ∙ q)) (λ q. s (ap codeOf i ∙ q)))

@@ -20,7 +20,7 @@ use Rattle.resolved_sort.proofs.Distance.{distance-exists-exactly}
 use Rattle.resolved_sort.proofs.Materializable.{materializable-below}
 use Rattle.unification.specs.declared.Default.{Default}
 use Rattle.unification.specs.declared.Default.the-variants.{Is, Nothing}
-use Rattle.unification.specs.Term.{Term, termOf, put}
+use Rattle.unification.specs.Term.{Term, termOf, substitute}
 use Rattle.unification.specs.Nodes.{Binds}
 use Rattle.unification.specs.Related.{each}
 use Rattle.unification.specs.Resolve.{value, DefaultBelow, termResolved}
@@ -32,7 +32,7 @@ use Rattle.unification.proofs.SortsLeft.{SortWith, Leaves as LeavesSorts}
 use Rattle.unification.proofs.ResolveAnswers.{FreeHave, AlwaysStandsFor, ReachesFree, resolve-leaves}
 use Rattle.unification.proofs.BoundAnswers.{bound-leaves}
 use Rattle.inference.specs.Constraints.{Problem}
-use Rattle.inference.specs.Search.{Path, World, Out, lending, onMade, makesSort, resolveIn, joinIn, resolveAll, Agreed, joinAll, sortIn, headOf, allInto, agreedBy, agreed, joinOf}
+use Rattle.inference.specs.Search.{Path, World, Out, lending, onMade, makesSort, resolveIn, joinIn, resolveAll, Agreed, joinAll, sortIn, headSteps, allInto, agreedBy, agreed, joinOf}
 use Rattle.inference.specs.Measure.{Components}
 use Rattle.inference.specs.Typing.{All, and-all}
 use Rattle.inference.specs.Components.{where-there, joins}
@@ -158,7 +158,7 @@ default-grown Nothing n m l h = tt
 module _ (W : Lent) (c : CheckedLent W) (B : Binds) (b : CheckedBinds W B) (x : Default) (l : DefaultBelow (W .lengths .sorts) x) where
   stands-before : (W′ : Lent) → Grows W W′ → (p : ℕ) → PlacedIn W p → (t : Tree) → AlwaysStandsFor W′ B x p t → AlwaysStandsFor W B x p t
   stands-before W′ g p i t f σ r h =
-      ap (put σ) (sym (term-grown W c W′ g p i)) ∙ f σ (respects-grown W c W′ g B (binds-name-places W B b) σ .0 r) (free-grown W W′ B x l g σ h)
+      ap (substitute σ) (sym (term-grown W c W′ g p i)) ∙ f σ (respects-grown W c W′ g B (binds-name-places W B b) σ .0 r) (free-grown W W′ B x l g σ h)
 
   pub resolve-all-makes : (ps : List ℕ) → All (PlacedIn W) ps → (W₁ : Lent) → SortsOnly W W₁ → MadeSorts (λ W′ ss. StandAll W B x W′ ps ss) (NoDefault x) W₁ (resolveAll x B ps W₁)
   unfolding resolveAll MadeSorts
@@ -189,13 +189,13 @@ pub record IsAgreed (ts : List Tree) (W : Lent) (a : Agreed) : Type 0 where
   pub joined : JoinsTo ts (sortIn W (a .sort))
   pub heads : HeadsAre (sortIn W (a .sort)) ts (a .components)
 
-heads-are : (W : Lent) (j : ℕ) (ss : List ℕ) → allInto W j ss ≡ true → HeadsAre (sortIn W j) (each (sortIn W) ss) (each (λ s. headOf (distance true (sortIn W s) (sortIn W j))) ss)
+heads-are : (W : Lent) (j : ℕ) (ss : List ℕ) → allInto W j ss ≡ true → HeadsAre (sortIn W j) (each (sortIn W) ss) (each (λ s. headSteps (distance true (sortIn W s) (sortIn W j))) ss)
 heads-are W j [] f = no-heads
 heads-are W j (s ∷ ss) f =
     let x = and-eq-true-iff (materializable (sortIn W s) (sortIn W j)) (allInto W j ss) .0 f in
     let d = distance-exists-exactly true (sortIn W s) (sortIn W j) .1 (materializable-below (sortIn W s) (sortIn W j) (x .0)) in
-    subst (λ o. HeadsAre (sortIn W j) (each (sortIn W) (s ∷ ss)) (headOf o ∷ each (λ s. headOf (distance true (sortIn W s) (sortIn W j))) ss)) (sym (d .1))
-    (and-head-is (sortIn W s) (d .0) (each (sortIn W) ss) (each (λ s. headOf (distance true (sortIn W s) (sortIn W j))) ss) (x .0) (d .1) (heads-are W j ss (x .1)))
+    subst (λ o. HeadsAre (sortIn W j) (each (sortIn W) (s ∷ ss)) (headSteps o ∷ each (λ s. headSteps (distance true (sortIn W s) (sortIn W j))) ss)) (sym (d .1))
+    (and-head-is (sortIn W s) (d .0) (each (sortIn W) ss) (each (λ s. headSteps (distance true (sortIn W s) (sortIn W j))) ss) (x .0) (d .1) (heads-are W j ss (x .1)))
 
 pub agreed-makes : (ss : List ℕ) (W : Lent) → CheckedLent W → AllBelow (W .lengths .sorts) ss → MadeSorts (IsAgreed (each (sortIn W) ss)) (Unit {0}) W (agreed ss W)
 unfolding agreed MadeSorts AllBelow
@@ -206,13 +206,13 @@ agreed-makes (s ∷ ss) W c a =
     (λ j W′ g h. by W′ g j h (allInto W′ j (s ∷ ss)) refl)
   where
     by : (W′ : Lent) → SortsOnly W W′ → (j : ℕ) → SortWith (λ u. joins (sortIn W s) (each (sortIn W) ss) ≡ some u) W′ j → (q : Bool) → allInto W′ j (s ∷ ss) ≡ q
-        → MadeSorts (IsAgreed (each (sortIn W) (s ∷ ss))) (Unit {0}) W′ (cond q (made (record { sort = j; components = each (λ s. headOf (distance true (sortIn W′ s) (sortIn W′ j))) (s ∷ ss) }) W′) (no-list W′))
+        → MadeSorts (IsAgreed (each (sortIn W) (s ∷ ss))) (Unit {0}) W′ (cond q (made (record { sort = j; components = each (λ s. headSteps (distance true (sortIn W′ s) (sortIn W′ j))) (s ∷ ss) }) W′) (no-list W′))
     by W′ g j h true f = (
       sorts-only-refl W′ (g .grows .checked),
       record {
         number = h .0;
         joined = h .1;
-        heads = subst (λ ts. HeadsAre (sortIn W′ j) ts (each (λ s. headOf (distance true (sortIn W′ s) (sortIn W′ j))) (s ∷ ss))) (looks-grown W W′ (g .grows) (s ∷ ss) a) (heads-are W′ j (s ∷ ss) f);
+        heads = subst (λ ts. HeadsAre (sortIn W′ j) ts (each (λ s. headSteps (distance true (sortIn W′ s) (sortIn W′ j))) (s ∷ ss))) (looks-grown W W′ (g .grows) (s ∷ ss) a) (heads-are W′ j (s ∷ ss) f);
       },
     )
     by W′ g j h false f = (sorts-only-refl W′ (g .grows .checked), tt)

@@ -16,7 +16,7 @@ use Rattle.inference.specs.declared.Solved.the-variants.{NoRoom, Typing}
 use Rattle.inference.specs.Constraints.{constraintAt, rowsFrom, Problem}
 use Rattle.inference.specs.Search.{World, found, missed, keeping, onMade, resolveAll, leaf, solve}
 use Rattle.inference.specs.SolveChecks.{Call, given, solveChecks}
-use Rattle.inference.specs.SolveEntry.{Left, problemOf, start, lentOf, verdict, nothingMet, solveEntry}
+use Rattle.inference.specs.SolveEntry.{SolveLeft, problemOf, startPath, lentOf, verdict, nothingMet, solveEntry}
 use Rattle.inference.proofs.Accepted.{Accepted, accepted, passed-is-searched}
 use Rattle.inference.proofs.Invariant.{sorts-only-refl}
 use Rattle.inference.proofs.MakingSorts.{MadeSorts, StandAll, resolve-all-makes}
@@ -35,19 +35,19 @@ module _ (I : Call) where
   abbrev TypingOr15 : Solved → Type 0
   TypingOr15 r = ((o : Outputs) × (r ≡ Typing o)) ⊎ (r ≡ NoRoom 15)
 
-  by-made : (O : Makes (List ℕ)) → MadeSorts (λ W′ ss. StandAll W (start I .binds) (Is (record { 0 = I .default })) W′ (P .exprs) ss) ⊥ W O
+  by-made : (O : Makes (List ℕ)) → MadeSorts (λ W′ ss. StandAll W (startPath I .binds) (Is (record { 0 = I .default })) W′ (P .exprs) ss) ⊥ W O
       → TypingOr15
-      (verdict I (onMade O (λ ss v. found (keeping (Unit {0}) nothingMet P v (start I .measure) (record { measure = start I .measure; sorts = ss; choices = start I .choices; duplicate = false }))) missed first-world) .answer)
+      (verdict I (onMade O (λ ss v. found (keeping (Unit {0}) nothingMet P v (startPath I .measure) (record { measure = startPath I .measure; sorts = ss; choices = startPath I .choices; duplicate = false }))) missed first-world) .answer)
   unfolding MadeSorts
   by-made (made ss W′) h = inl (_, refl)
   by-made (no-list W′) h = absurd (h .1)
   by-made (no-room c W′) h = inr (ap NoRoom (h .1))
 
-  one-leaf : Accepted I → TypingOr15 (verdict I (solve (Unit {0}) nothingMet P [] (start I) first-world) .answer)
+  one-leaf : Accepted I → TypingOr15 (verdict I (solve (Unit {0}) nothingMet P [] (startPath I) first-world) .answer)
   unfolding solve leaf
   one-leaf A =
-      by-made (resolveAll (Is (record { 0 = I .default })) (start I .binds) (P .exprs) W)
-      (resolve-all-makes W (A .ready .nodes) (start I .binds) (A .ready .binds) (Is (record { 0 = I .default })) (A .default) (P .exprs) (A .exprs) W (sorts-only-refl W (A .ready .nodes)))
+      by-made (resolveAll (Is (record { 0 = I .default })) (startPath I .binds) (P .exprs) W)
+      (resolve-all-makes W (A .ready .nodes) (startPath I .binds) (A .ready .binds) (Is (record { 0 = I .default })) (A .default) (P .exprs) (A .exprs) W (sorts-only-refl W (A .ready .nodes)))
 
   none-given : I .rows .constraints ≡ 0 → given I ≡ []
   unfolding rowsFrom
@@ -55,5 +55,5 @@ module _ (I : Call) where
 
   pub no-constraints-is-a-typing : firstFailing (solveChecks I) ≡ none → I .rows .constraints ≡ 0 → TypingOr15 (solveEntry I .answer)
   no-constraints-is-a-typing f e =
-      subst (λ (L : Left). TypingOr15 (L .answer)) (sym (passed-is-searched I f))
-      (subst (λ (cs : List Constraint). TypingOr15 (verdict I (solve (Unit {0}) nothingMet P cs (start I) first-world) .answer)) (sym (none-given e)) (one-leaf (accepted I f)))
+      subst (λ (L : SolveLeft). TypingOr15 (L .answer)) (sym (passed-is-searched I f))
+      (subst (λ (cs : List Constraint). TypingOr15 (verdict I (solve (Unit {0}) nothingMet P cs (startPath I) first-world) .answer)) (sym (none-given e)) (one-leaf (accepted I f)))

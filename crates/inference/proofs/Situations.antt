@@ -6,7 +6,7 @@ use mathlib.Core.List.{List, [], _∷_, _++_, map}
 use Prim.Native.Nat.{ℕ, _+_, _*_, _-_, _/_}
 use lib.ListN.{length, replicate, take, getD}
 use Rattle.resolved_sort.specs.declared.Sort.{Sort}
-use Rattle.resolved_sort.specs.Tree.{Tree, flat, primitive, function, end, arg}
+use Rattle.resolved_sort.specs.Tree.{Tree, flat, primitive, function, no-args, arg}
 use Rattle.resolved_sort.specs.Tree as Tree
 use Rattle.resolved_sort.specs.Order as Order
 use Rattle.resolved_sort.specs.Interning as Interning
@@ -32,7 +32,7 @@ use Rattle.inference.specs.Search as Search
 use Rattle.inference.specs.Names as Names
 use Rattle.inference.specs.SolveChecks.{Call}
 use Rattle.inference.specs.SolveChecks as SolveChecks
-use Rattle.inference.specs.SolveEntry.{Left, solveEntry, codeSolved}
+use Rattle.inference.specs.SolveEntry.{SolveLeft, solveEntry, codeSolved}
 use Rattle.inference.specs.SolveEntry as SolveEntry
 
 -- a list: sorts after the fixed six with their entries, nodes with their arguments, variables, expressions, base names, constraints, overloads,
@@ -94,8 +94,8 @@ callOf G =
     }
 
 -- The outcome of a list. To unfold it is to unfold all that it is computed through.
-unfoldable pub solved : Given → Left
-unfolding Checks.allBelow Checks.withinLent Checks.fixedSix Checks.partsBelow Checks.rowFine Checks.rowsFine Checks.noTwoEqual Checks.atCeiling Checks.firstFailing Tree.arity Tree.family Tree.level Tree.familyOp Tree.levelOp Tree.same Tree.sames Entries.stored Interning.look Interning.number Interning.member Interning.distinct Interning.need Interning.intern Interning.make Interning.makes Order.boundFlat Order.boundOp Order.distance Order.distances Order.materializable Bounds.boundAt Bounds.internAt Storage.resolved Storage.entriesOf Storage.lookAll Storage.treeOf Storage.trees Storage.kindFlat Storage.kindOp Storage.partFlat Storage.numbers Storage.rowOf Storage.putRow Storage.appendRow Storage.written Term.kindHead Term.numberHead Term.sameHead Acyclic.allSettled Acyclic.nodesSettled Acyclic.varsSettled Acyclic.rounds Acyclic.all Acyclic.acyclic Resolve.firsts Resolve.treeOver Resolve.resolveTerm Resolve.resolveTerms Resolve.termResolved Related.relatedNumbers Related.relatedContainer NodeChecks.nodesWithinLent NodeChecks.bindingsWithinLent NodeChecks.nodePartsFine NodeChecks.nodeKindFine NodeChecks.nodeFine NodeChecks.nodesFine NodeChecks.bindingsFine NodeChecks.nodeChecks Making.appendNode Making.pushNode Making.internContainer Making.pushFunctions Making.relatedTo Making.strictRelated Unify.follow Unify.occurs Unify.unifyTo Unify.unify Nodes.nodeEntriesOf Nodes.inferred Nodes.sortShape Nodes.nodeShape Nodes.isPlace Nodes.shapeAt Nodes.bindsOf Solutions.valueTo Names.runFor Names.chosenName Names.baseName Names.nameOf Constraints.target Constraints.litKind Constraints.constraint Constraints.rowsFrom Search.resolveIn Search.joinIn Search.resolveAll Search.joinAll Search.agreed Search.joinOf Search.litComponent Search.unifying Search.firstFound Search.widening Search.literal Search.everyReading Search.everyOverload Search.sequence Search.joining Search.step Search.leaf Search.solve SolveEntry.typingRows SolveEntry.choiceRows SolveEntry.solveEntry SolveEntry.codeSolved Measure.compare Measure.worse SolveChecks.allWithinLent SolveChecks.rowsWithinLent SolveChecks.outputsLong SolveChecks.targetFine SolveChecks.exprsFine SolveChecks.namesFine SolveChecks.overloadFine SolveChecks.constraintsFine SolveChecks.disjunctions SolveChecks.among SolveChecks.noTwo SolveChecks.joinsFine SolveChecks.components SolveChecks.longEnough SolveChecks.solveChecks row six storage callOf
+unfoldable pub solved : Given → SolveLeft
+unfolding Checks.allBelow Checks.withinLent Checks.fixedSix Checks.partsBelow Checks.rowFine Checks.rowsFine Checks.noTwoEqual Checks.atCeiling Checks.firstFailing Tree.arity Tree.family Tree.level Tree.familyOp Tree.levelOp Tree.same Tree.sames Entries.stored Interning.look Interning.number Interning.member Interning.distinct Interning.need Interning.intern Interning.make Interning.makes Order.boundFlat Order.boundOp Order.distance Order.distances Order.materializable Bounds.boundAt Bounds.internAt Storage.resolved Storage.entriesOf Storage.lookAll Storage.treeOf Storage.trees Storage.kindFlat Storage.kindOp Storage.partFlat Storage.numbers Storage.rowOf Storage.putRow Storage.appendRow Storage.written Term.kindHead Term.numberHead Term.sameHead Acyclic.allSettled Acyclic.nodesSettled Acyclic.varsSettled Acyclic.rounds Acyclic.allTrue Acyclic.acyclic Resolve.firsts Resolve.treeOver Resolve.resolveTerm Resolve.resolveTerms Resolve.termResolved Related.relatedNumbers Related.relatedContainer NodeChecks.nodesWithinLent NodeChecks.bindingsWithinLent NodeChecks.nodePartsFine NodeChecks.nodeKindFine NodeChecks.nodeFine NodeChecks.nodesFine NodeChecks.bindingsFine NodeChecks.nodeChecks Making.appendNode Making.pushNode Making.internContainer Making.pushFunctions Making.relatedTo Making.strictRelated Unify.follow Unify.occurs Unify.unifyTo Unify.unify Nodes.nodeEntriesOf Nodes.inferred Nodes.sortShape Nodes.nodeShape Nodes.isPlace Nodes.shapeAt Nodes.bindsOf Solutions.valueTo Names.runFor Names.chosenName Names.baseName Names.nameOf Constraints.target Constraints.litKind Constraints.constraint Constraints.rowsFrom Search.resolveIn Search.joinIn Search.resolveAll Search.joinAll Search.agreed Search.joinOf Search.litComponent Search.unifying Search.firstFound Search.widening Search.literal Search.everyReading Search.everyOverload Search.sequence Search.joining Search.step Search.leaf Search.solve SolveEntry.typingRows SolveEntry.choiceRows SolveEntry.solveEntry SolveEntry.codeSolved Measure.compare Measure.worse SolveChecks.allWithinLent SolveChecks.rowsWithinLent SolveChecks.outputsLong SolveChecks.targetFine SolveChecks.exprsFine SolveChecks.namesFine SolveChecks.overloadFine SolveChecks.constraintsFine SolveChecks.disjunctions SolveChecks.among SolveChecks.noTwo SolveChecks.joinsFine SolveChecks.components SolveChecks.longEnough SolveChecks.solveChecks row six storage callOf
 solved G = solveEntry (callOf G)
 
 -- what a run came to: the code, and for a typing the sorts of the expressions and the measure
@@ -104,7 +104,7 @@ pub record Ran : Type 0 where
   pub sorts : List Tree
   pub measure : List ℕ
 
-abbrev typedOf : Left → Solved → List ℕ → List Tree × List ℕ
+abbrev typedOf : SolveLeft → Solved → List ℕ → List Tree × List ℕ
 typedOf L (Refused c) xs = ([], [])
 typedOf L (NoRoom c) xs = ([], [])
 typedOf L (NoTyping k) xs = ([], [])
@@ -114,7 +114,7 @@ typedOf L (Typing o) xs = (map (λ i. treeAt (L .sorts) (o .counts .sorts) (getD
 upTo : ℕ → List ℕ
 upTo n = Constraints.rowsFrom (λ i. i) 0 n
 
-ranOf : Left → List ℕ → Ran
+ranOf : SolveLeft → List ℕ → Ran
 ranOf L xs = record { code = codeSolved (L .answer); sorts = typedOf L (L .answer) xs .0; measure = typedOf L (L .answer) xs .1 }
 
 pub run : Given → Ran
@@ -261,8 +261,8 @@ situations =
     -- "Join of Pos, Nat: Nat [1, 0]."
     ∷ ((alone (join v0 0 2 []), typing (sort Sort.Nat ∷ []) (1 ∷ 0 ∷ [])) ∷ [])
     -- "Join of Bool -> Pos, Bool -> Nat: Bool -> Nat [0, 0]; as two Subs [1, 0]."
-    ∷ ((functions (join v0 0 2 []), typing (function (arg (sort Sort.Bool) end) (sort Sort.Nat) ∷ []) (0 ∷ 0 ∷ []))
-    ∷ (functions (sub 6 v0 (sub 7 v0 [])), typing (function (arg (sort Sort.Bool) end) (sort Sort.Nat) ∷ []) (1 ∷ 0 ∷ []))
+    ∷ ((functions (join v0 0 2 []), typing (function (arg (sort Sort.Bool) no-args) (sort Sort.Nat) ∷ []) (0 ∷ 0 ∷ []))
+    ∷ (functions (sub 6 v0 (sub 7 v0 [])), typing (function (arg (sort Sort.Bool) no-args) (sort Sort.Nat) ∷ []) (1 ∷ 0 ∷ []))
     ∷ [])
     ∷ []
 

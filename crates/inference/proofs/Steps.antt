@@ -13,7 +13,7 @@ use Rattle.inference.specs.declared.Constraint.{Constraint}
 use Rattle.inference.specs.declared.Constraint.the-variants.{Sub, Lit, Disjunction, Comprehension, Join}
 use Rattle.inference.specs.Constraints.{Problem}
 use Rattle.inference.specs.Measure.{Components}
-use Rattle.inference.specs.Search.{Choice, Next, sortIn, step, solve, leaf, dominatedBy, unlessDominated, missed}
+use Rattle.inference.specs.Search.{Choice, Going, sortIn, step, solve, leaf, dominatedBy, unlessDominated, missed}
 use Rattle.inference.specs.Typing.{Assignment, All, and-all, here, Meets, meets-sub, meets-lit, meets-disjunction, meets-comprehension, meets-join}
 use Rattle.inference.specs.Components.{Costs, sub-costs, lit-costs, disjunction-costs, comprehension-costs, agreed-costs, sequence-costs, nothing-costs, and-costs}
 use Rattle.inference.proofs.Members.{in-left, in-right}
@@ -62,7 +62,7 @@ module _ (W₀ : Lent) (B₀ : Binds) (P : Problem) where
   Passed done ch ρ ms = Cost W₀ B₀ P ch ρ done ms
 
   module _ (c₀ : CheckedLent W₀) (six : fixedSix (W₀ .sorts) (W₀ .lengths .sorts) ≡ true) (Met : Type 0) (meet : Components → Met → Met) where
-    pub step-goes : (done : List Constraint) (c : Constraint) → Listed W₀ P c → (k : Next Met meet P) → Goes W₀ B₀ P Met (Passed (done ++ (c ∷ []))) k → Goes W₀ B₀ P Met (Passed done) (step Met meet P c k)
+    pub step-goes : (done : List Constraint) (c : Constraint) → Listed W₀ P c → (k : Going Met meet P) → Goes W₀ B₀ P Met (Passed (done ++ (c ∷ []))) k → Goes W₀ B₀ P Met (Passed done) (step Met meet P c k)
     unfolding step
     step-goes done _ (sub-listed l r x y) k g =
         widening-goes W₀ B₀ P c₀ Met meet six (l .0) (r .0) x y (Passed done) (Passed (done ++ (Sub l r ∷ [])))
@@ -85,7 +85,7 @@ module _ (W₀ : Lent) (B₀ : Binds) (P : Problem) where
         joining-goes W₀ B₀ P c₀ Met meet ss (t .0) a x Q R (λ ch ρ ms s u us ns q h j e. and-last ch ρ done ms (Join run t) ns q (agreed-costs run t s u us ns h j e)) k g
         (sequence-goes W₀ B₀ P c₀ Met meet six ss (t .0) a x Q R (λ ch ρ ms u ns q h j. and-last ch ρ done ms (Join run t) ns q (sequence-costs run t u ns h j)) k g)
 
-    unless-goes : (k : Next Met meet P) (Q : Claim) → Goes W₀ B₀ P Met Q k → Goes W₀ B₀ P Met Q (unlessDominated Met meet P k)
+    unless-goes : (k : Going Met meet P) (Q : Claim) → Goes W₀ B₀ P Met Q k → Goes W₀ B₀ P Met Q (unlessDominated Met meet P k)
     unless-goes k Q g e w s f = go (dominatedBy Met meet P (e .measure) (w .best))
       where
         go : (b : Bool) → Leaves W₀ B₀ P Met (w .lent) (cond b (missed w) (k e w))

@@ -32,7 +32,7 @@ use Rattle.inference.specs.Typing.{Assignment, Has, admits, All, none-le
 use Rattle.inference.specs.Components.{Widened, equal-to, wider-by, Heads, no-heads, and-head, Sequence, no-source, and-source, Costs, sub-costs, lit-costs, disjunction-costs, comprehension-costs, agreed-costs, sequence-costs, Costing, nothing-costs, and-costs}
 use Rattle.inference.specs.SolveChecks.{Call}
 use Rattle.inference.specs.Names.{nameOf, nameKind, nameSort}
-use Rattle.inference.specs.SolveEntry.{problemOf, baseNamesOf, start, lentOf, searched, Left, countsIn, judged, judgedBy, verdict, nothingMet, solveEntry, sortsOut, measureOut, choicesOut}
+use Rattle.inference.specs.SolveEntry.{problemOf, baseNamesOf, startPath, lentOf, searched, SolveLeft, countsIn, judged, judgedBy, verdict, nothingMet, solveEntry, sortsOut, measureOut, choicesOut}
 use Rattle.inference.proofs.Members.{length-rows}
 use Rattle.inference.proofs.Invariant.{Cost, Fine, FineBest, Leaves}
 use Rattle.inference.proofs.HandedOut.{sort-row, kind-row, name-row, rows-are, choices-read}
@@ -98,12 +98,12 @@ module _ (I : Call) where
   pub search-leaves : Accepted I → (Met : Type 0) (meet : Components → Met → Met) (m : Met) → Leaves W₀ B₀ P Met W₀ (searched Met meet m I)
   unfolding FineBest
   search-leaves A Met meet m =
-      solve-goes W₀ B₀ P (A .ready .nodes) (A .six) Met meet (A .default) (A .exprs) (P .constraints) [] refl (A .constraints) (start I) (record { lent = W₀; best = none; met = m })
+      solve-goes W₀ B₀ P (A .ready .nodes) (A .six) Met meet (A .default) (A .exprs) (P .constraints) [] refl (A .constraints) (startPath I) (record { lent = W₀; best = none; met = m })
       (record { grown = grows-refl W₀ (A .ready .nodes); binds = A .ready .binds; refines = λ σ r. r; costs = λ ρ r. nothing-costs }) tt
 
   -- What a typing comes with: one assignment under which it holds together, and under which its components are those of its constraints; and the names in
   -- its rows.
-  pub record Explained (L : Left) (o : Outputs) : Type 0 where
+  pub record Explained (L : SolveLeft) (o : Outputs) : Type 0 where
     pub assignment : Assignment
     pub bound : (v q : ℕ) → binding B₀ v ≡ some q → Has (graph W₀) assignment q (assignment v)
     pub typed : Typed (graph W₀) (treeAt (L .sorts) (o .counts .sorts)) assignment (P .exprs) (sortsOut I L)
@@ -114,7 +114,7 @@ module _ (I : Call) where
 
   explained : (W : Lent) (c : Candidate) → Fine W₀ B₀ P W c → (o : Outputs) → judgedBy I W c false .answer ≡ Typing o → Explained (judgedBy I W c false) o
   explained W c f o e =
-      let L : Left = judgedBy I W c false in
+      let L : SolveLeft = judgedBy I W c false in
       let q : o ≡ record { counts = countsIn W; components = length (c .measure); choices = length (c .choices) } = cc in
       let x : o .counts .sorts ≡ W .lengths .sorts = ap (λ (z : Outputs). z .counts .sorts) q in
       let many : length (c .sorts) ≡ I .rows .exprs = typed-long W₀ (sortIn W) (f .assignment) (P .exprs) (c .sorts) (f .typed) ∙ length-rows (λ i. getD (I .exprs) i 0) 0 (I .rows .exprs) in

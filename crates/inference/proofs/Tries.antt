@@ -2,7 +2,7 @@
 -- bindings the claim of what comes next holds with its component. One try after another, on lists that have grown. Assumes nothing.
 use mathlib.Core.Path.{ap, sym, _∙_}
 use mathlib.Core.List.{List, [], _∷_, _++_}
-use Rattle.unification.specs.Term.{put}
+use Rattle.unification.specs.Term.{substitute}
 use Rattle.unification.specs.Nodes.{Binds}
 use Rattle.unification.specs.Solutions.{Respects, Equates}
 use Rattle.unification.specs.Making.{Lent, graph}
@@ -10,7 +10,7 @@ use Rattle.unification.proofs.Grows.{CheckedLent, PlacedIn, Grows, placed-grown
 use Rattle.unification.proofs.BindsGrow.{binds-name-places}
 use Rattle.inference.specs.Constraints.{Problem}
 use Rattle.inference.specs.Measure.{Components}
-use Rattle.inference.specs.Search.{Path, Try, World, measured, unifying, Next, firstFound}
+use Rattle.inference.specs.Search.{Path, Try, World, withComponents, unifying, Going, firstFound}
 use Rattle.inference.specs.Typing.{Assignment, All, none-left, and-all}
 use Rattle.inference.proofs.Invariant.{Claim, terms, Sound, FineBest, Leaves, Goes, or-else-leaves, missed-leaves, unifying-leaves}
 
@@ -34,16 +34,16 @@ module _ (W₀ : Lent) (B₀ : Binds) (P : Problem) (c₀ : CheckedLent W₀) (M
           right = placed-grown W c W′ g (t .right) (x .right);
           so =
               λ ρ r q. x .so ρ (respects-grown W c W′ g (e .binds) (binds-name-places W (e .binds) (s .binds)) (terms ρ) .1 r)
-              (ap (put (terms ρ)) (sym (term-grown W c W′ g (t .left) (x .left))) ∙ (q ∙ ap (put (terms ρ)) (term-grown W c W′ g (t .right) (x .right))));
+              (ap (substitute (terms ρ)) (sym (term-grown W c W′ g (t .left) (x .left))) ∙ (q ∙ ap (substitute (terms ρ)) (term-grown W c W′ g (t .right) (x .right))));
         })
         (lead-grown W W′ s g ts xs)
 
-    module _ (k : Next Met meet P) (g : Goes W₀ B₀ P Met R k) where
+    module _ (k : Going Met meet P) (g : Goes W₀ B₀ P Met R k) where
       pub try-leaves : (w : World Met) → Sound W₀ B₀ P (w .lent) e Q → FineBest W₀ B₀ P (w .lent) (w .best) → (t : Try) → Leads (w .lent) e Q R t
-          → Leaves W₀ B₀ P Met (w .lent) (unifying (e .binds) (t .left) (t .right) (λ C. k (measured e (t .component ∷ []) C)) w)
+          → Leaves W₀ B₀ P Met (w .lent) (unifying (e .binds) (t .left) (t .right) (λ C. k (withComponents e (t .component ∷ []) C)) w)
       try-leaves w s f t x =
           unifying-leaves W₀ B₀ P Met e w Q s f (t .left) (t .right) (x .left) (x .right) (e .measure ++ (t .component ∷ [])) (e .choices) R (x .so) _
-          (λ C s′. g (measured e (t .component ∷ []) C) w s′ f)
+          (λ C s′. g (withComponents e (t .component ∷ []) C) w s′ f)
 
       -- "It stops at the first try that found."
       pub first-found-leaves : (ts : List Try) (w : World Met) → Sound W₀ B₀ P (w .lent) e Q → FineBest W₀ B₀ P (w .lent) (w .best) → All (Leads (w .lent) e Q R) ts

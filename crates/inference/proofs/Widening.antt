@@ -25,7 +25,7 @@ use Rattle.unification.proofs.RelatedBinds.{no-list-is-free, related-makes}
 use Rattle.unification.proofs.Assignments.{place-has-a-sort}
 use Rattle.inference.specs.Constraints.{Problem}
 use Rattle.inference.specs.Measure.{Components}
-use Rattle.inference.specs.Search.{Choice, Path, Try, World, missed, lending, onMade, givenBack, widerTries, narrowerTries, Next, firstFound, wider, narrower, widening, sequence}
+use Rattle.inference.specs.Search.{Choice, Path, Try, World, missed, lending, onMade, nodesReturned, widerTries, narrowerTries, Going, firstFound, wider, narrower, widening, sequence}
 use Rattle.inference.specs.Typing.{Assignment, Has, All, none-left, and-all}
 use Rattle.inference.specs.Components.{Widened, equal-to, wider-by, Sequence, no-source, and-source}
 use Rattle.inference.proofs.Tries.{Leads, try-leaves, first-found-leaves}
@@ -59,7 +59,7 @@ module _ (W₀ : Lent) (B₀ : Binds) (P : Problem) (c₀ : CheckedLent W₀) (M
   module _ (six : fixedSix (W₀ .sorts) (W₀ .lengths .sorts) ≡ true) where
     module _ (l r : ℕ) (x : PlacedIn W₀ l) (y : PlacedIn W₀ r) (Q R : Claim)
         (h : (ch : List Choice) (ρ : Assignment) (ms : Components) (s t : Tree) (n : ℕ) → Q ch ρ ms → Has (graph W₀) ρ l s → Has (graph W₀) ρ r t → Widened s t n → R ch ρ (ms ++ (n ∷ [])))
-        (k : Next Met meet P) (goes : Goes W₀ B₀ P Met R k) (e : Path) where
+        (k : Going Met meet P) (goes : Goes W₀ B₀ P Met R k) (e : Path) where
       module _ (W : Lent) (s : Sound W₀ B₀ P W e Q) where
         equal-leads : Leads W e Q R (record { left = l; right = r; component = 0 })
         equal-leads =
@@ -103,16 +103,16 @@ module _ (W₀ : Lent) (B₀ : Binds) (P : Problem) (c₀ : CheckedLent W₀) (M
         -- the tries of a list, with nodes given back; or, where there is none and so nothing was made, what else
         listed-leaves : (up : Bool) (p : ℕ) → PlacedIn W₀ p → (tries : List ℕ → List Try)
             → ((ps : List ℕ) (W′ : Lent) → Grows (w .lent) W′ → StandForRelated up (e .binds) (w .lent) p W′ ps → All (Leads W′ e Q R) (tries ps))
-            → (else : Next Met meet P) → Leaves W₀ B₀ P Met (w .lent) (else e w)
+            → (else : Going Met meet P) → Leaves W₀ B₀ P Met (w .lent) (else e w)
             → Leaves W₀ B₀ P Met (w .lent)
-            (onMade (strictRelated up (e .binds) p (w .lent)) (λ ps v. givenBack (w .lent) (firstFound Met meet P (tries ps) k e v)) (else e) w)
+            (onMade (strictRelated up (e .binds) p (w .lent)) (λ ps v. nodesReturned (w .lent) (firstFound Met meet P (tries ps) k e v)) (else e) w)
         unfolding Leaves MadeFrom
         listed-leaves up p at tries lead else o =
             go (strictRelated up (e .binds) p (w .lent)) refl
             (related-makes (w .lent) (s .grown .checked) (e .binds) (s .binds) up p (s .grown .fixed six) (placed-grown W₀ c₀ (w .lent) (s .grown) p at))
           where
             go : (O : Makes (List ℕ)) → strictRelated up (e .binds) p (w .lent) ≡ O → MadeFrom (StandForRelated up (e .binds) (w .lent) p) (w .lent) O
-                → Leaves W₀ B₀ P Met (w .lent) (onMade O (λ ps v. givenBack (w .lent) (firstFound Met meet P (tries ps) k e v)) (else e) w)
+                → Leaves W₀ B₀ P Met (w .lent) (onMade O (λ ps v. nodesReturned (w .lent) (firstFound Met meet P (tries ps) k e v)) (else e) w)
             go (made ps W′) i m =
                 let g = made-grows (StandForRelated up (e .binds) (w .lent) p) (w .lent) W′ ps (made ps W′) m refl in
                 given-back-leaves W₀ B₀ P Met (w .lent) (s .grown .checked) W′ (g .0) (firstFound Met meet P (tries ps) k e (lending w W′))
@@ -130,7 +130,7 @@ module _ (W₀ : Lent) (B₀ : Binds) (P : Problem) (c₀ : CheckedLent W₀) (M
     -- From Q to R by a widening, where R holds of whatever is widened so.
     pub widening-goes : (l r : ℕ) → PlacedIn W₀ l → PlacedIn W₀ r → (Q R : Claim)
         → ((ch : List Choice) (ρ : Assignment) (ms : Components) (s t : Tree) (n : ℕ) → Q ch ρ ms → Has (graph W₀) ρ l s → Has (graph W₀) ρ r t → Widened s t n → R ch ρ (ms ++ (n ∷ [])))
-        → (k : Next Met meet P) → Goes W₀ B₀ P Met R k → Goes W₀ B₀ P Met Q (widening Met meet P l r k)
+        → (k : Going Met meet P) → Goes W₀ B₀ P Met R k → Goes W₀ B₀ P Met Q (widening Met meet P l r k)
     unfolding widening
     widening-goes l r x y Q R h k g e w s f =
         or-else-leaves W₀ B₀ P Met e w Q s c₀ _ (wider Met meet P l r k e)
@@ -141,7 +141,7 @@ module _ (W₀ : Lent) (B₀ : Binds) (P : Problem) (c₀ : CheckedLent W₀) (M
     abbrev Adding : ℕ → Claim → List ℕ → Claim
     Adding t R ss ch ρ ms = (u : Tree) (ns : Components) → Has (graph W₀) ρ t u → Sequence (graph W₀) ρ u ss ns → R ch ρ (ms ++ ns)
 
-    sources-go : (ss : List ℕ) (t : ℕ) → All (PlacedIn W₀) ss → PlacedIn W₀ t → (R : Claim) (k : Next Met meet P) → Goes W₀ B₀ P Met R k → Goes W₀ B₀ P Met (Adding t R ss) (sequence Met meet P ss t k)
+    sources-go : (ss : List ℕ) (t : ℕ) → All (PlacedIn W₀) ss → PlacedIn W₀ t → (R : Claim) (k : Going Met meet P) → Goes W₀ B₀ P Met R k → Goes W₀ B₀ P Met (Adding t R ss) (sequence Met meet P ss t k)
     unfolding sequence
     sources-go [] t none-left y R k g =
         weaker-goes W₀ B₀ P Met (Adding t R []) R (λ ch ρ ms h. let u = place-has-a-sort W₀ c₀ ρ t y in subst (R ch ρ) (append-nil ms) (h (u .0) [] (u .1) no-source)) k g
@@ -154,6 +154,6 @@ module _ (W₀ : Lent) (B₀ : Binds) (P : Problem) (c₀ : CheckedLent W₀) (M
     -- From Q to R by a Join's sources one after another, where R holds with whatever they add.
     pub sequence-goes : (ss : List ℕ) (t : ℕ) → All (PlacedIn W₀) ss → PlacedIn W₀ t → (Q R : Claim)
         → ((ch : List Choice) (ρ : Assignment) (ms : Components) (u : Tree) (ns : Components) → Q ch ρ ms → Has (graph W₀) ρ t u → Sequence (graph W₀) ρ u ss ns → R ch ρ (ms ++ ns))
-        → (k : Next Met meet P) → Goes W₀ B₀ P Met R k → Goes W₀ B₀ P Met Q (sequence Met meet P ss t k)
+        → (k : Going Met meet P) → Goes W₀ B₀ P Met R k → Goes W₀ B₀ P Met Q (sequence Met meet P ss t k)
     sequence-goes ss t xs y Q R h k g =
         weaker-goes W₀ B₀ P Met Q (Adding t R ss) (λ ch ρ ms q u ns. h ch ρ ms u ns q) (sequence Met meet P ss t k) (sources-go ss t xs y R k g)

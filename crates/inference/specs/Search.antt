@@ -70,9 +70,9 @@ joinAll a (b ∷ bs) W = joinIn a b W and-then (λ j W. joinAll j bs W)
 abbrev pub sortIn : Lent → ℕ → Tree
 sortIn W s = treeAt (W .sorts) (W .lengths .sorts) s
 
-abbrev pub headOf : Option Steps → ℕ
-headOf none = 0
-headOf (some d) = d .head
+abbrev pub headSteps : Option Steps → ℕ
+headSteps none = 0
+headSteps (some d) = d .head
 
 abbrev pub allInto : Lent → ℕ → List ℕ → Bool
 allInto W j [] = true
@@ -81,7 +81,7 @@ allInto W j (s ∷ ss) = materializable (sortIn W s) (sortIn W j) && allInto W j
 abbrev pub agreedBy : Lent → List ℕ → ℕ → Makes Agreed
 agreedBy W ss j =
     cond (allInto W j ss)
-    (made (record { sort = j; components = each (λ s. headOf (distance true (sortIn W s) (sortIn W j))) ss })
+    (made (record { sort = j; components = each (λ s. headSteps (distance true (sortIn W s) (sortIn W j))) ss })
     W)
     (no-list W)
 
@@ -111,14 +111,14 @@ pub record Candidate : Type 0 where
   pub choices : List Choice
   pub duplicate : Bool
 
-abbrev pub bound : Path → Binds → Path
-bound e C = record { binds = C; measure = e .measure; choices = e .choices }
+abbrev pub withBinds : Path → Binds → Path
+withBinds e C = record { binds = C; measure = e .measure; choices = e .choices }
 
-abbrev pub measured : Path → Components → Binds → Path
-measured e cs C = record { binds = C; measure = e .measure ++ cs; choices = e .choices }
+abbrev pub withComponents : Path → Components → Binds → Path
+withComponents e cs C = record { binds = C; measure = e .measure ++ cs; choices = e .choices }
 
-abbrev pub chosen : Path → ℕ → ℕ → Binds → Path
-chosen e x i C =
+abbrev pub withChoice : Path → ℕ → ℕ → Binds → Path
+withChoice e x i C =
     record {
       binds = C;
       measure = e .measure;
@@ -188,10 +188,10 @@ module _ {Met : Type 0} where
   lending w W = record { lent = W; best = w .best; met = w .met }
 
   -- where nothing was found, what else; ended room ends all
-  abbrev pub orElse : Out Met → (World Met → Out Met) → Out Met
-  orElse (found w) f = found w
-  orElse (missed w) f = f w
-  orElse (ended c W) f = ended c W
+  abbrev pub elseTry : Out Met → (World Met → Out Met) → Out Met
+  elseTry (found w) f = found w
+  elseTry (missed w) f = f w
+  elseTry (ended c W) f = ended c W
 
   -- whatever was found, what else, told whether something was
   abbrev pub andAlso : Out Met → Bool → (Bool → World Met → Out Met) → Out Met
@@ -219,49 +219,49 @@ module _ {Met : Type 0} where
   onMade (no-list W) k f w = f (lending w W)
   onMade (no-room c W) k f w = ended c W
 
-  abbrev pub givenBack : Lent → Out Met → Out Met
-  givenBack U (found w) = found (lending w (withNodesOf U (w .lent)))
-  givenBack U (missed w) = missed (lending w (withNodesOf U (w .lent)))
-  givenBack U (ended c W) = ended c W
+  abbrev pub nodesReturned : Lent → Out Met → Out Met
+  nodesReturned U (found w) = found (lending w (withNodesOf U (w .lent)))
+  nodesReturned U (missed w) = missed (lending w (withNodesOf U (w .lent)))
+  nodesReturned U (ended c W) = ended c W
 
 module _ (Met : Type 0) (meet : Components → Met → Met) (P : Problem) where
   -- what comes next
-  abbrev pub Next : Type 0
-  Next = Path → World Met → Out Met
+  abbrev pub Going : Type 0
+  Going = Path → World Met → Out Met
 
   abbrev pub keeping : World Met → Components → Candidate → World Met
   keeping w m c = record { lent = w .lent; best = some c; met = meet m (w .met) }
 
   -- "It stops at the first try that found."
   -- Tries come cheapest first, so the first that found is the best that the constraint can contribute.
-  unfoldable pub firstFound : List Try → Next → Next
+  unfoldable pub firstFound : List Try → Going → Going
   firstFound [] k e w = missed w
   firstFound (t ∷ ts) k e w =
-      orElse (unifying (e .binds) (t .left) (t .right) (λ C. k (measured e (t .component ∷ []) C)) w)
+      elseTry (unifying (e .binds) (t .left) (t .right) (λ C. k (withComponents e (t .component ∷ []) C)) w)
       (firstFound ts k e)
 
   -- "unify (component 0), and only if that found nothing, the wider sorts of the left side (1, 2, 3), or, if the left
   -- side has no list, the narrower ones of the right. An empty list is a list."
   -- Nearest first, so that the least upcast wins: equally good, they would make Pos ambiguous between Nat and Int.
-  abbrev pub narrower : ℕ → ℕ → Next → Next
+  abbrev pub narrower : ℕ → ℕ → Going → Going
   narrower l r k e w =
       onMade (strictRelated false (e .binds) r (w .lent))
-      (λ ps v. givenBack (w .lent) (firstFound (narrowerTries l 1 ps) k e v)) missed w
+      (λ ps v. nodesReturned (w .lent) (firstFound (narrowerTries l 1 ps) k e v)) missed w
 
-  abbrev pub wider : ℕ → ℕ → Next → Next
+  abbrev pub wider : ℕ → ℕ → Going → Going
   wider l r k e w =
       onMade (strictRelated true (e .binds) l (w .lent))
-      (λ ps v. givenBack (w .lent) (firstFound (widerTries r 1 ps) k e v)) (narrower l r k e) w
+      (λ ps v. nodesReturned (w .lent) (firstFound (widerTries r 1 ps) k e v)) (narrower l r k e) w
 
-  unfoldable pub widening : ℕ → ℕ → Next → Next
-  widening l r k e w = orElse (unifying (e .binds) l r (λ C. k (measured e (0 ∷ []) C)) w) (wider l r k e)
+  unfoldable pub widening : ℕ → ℕ → Going → Going
+  widening l r k e w = elseTry (unifying (e .binds) l r (λ C. k (withComponents e (0 ∷ []) C)) w) (wider l r k e)
 
   -- A literal: at a number sort its generality, at a free place one number sort after another.
-  abbrev pub atSort : Option ℕ → Next → Next
+  abbrev pub atSort : Option ℕ → Going → Going
   atSort none k e w = missed w
-  atSort (some g) k e w = k (measured e (g ∷ []) (e .binds)) w
+  atSort (some g) k e w = k (withComponents e (g ∷ []) (e .binds)) w
 
-  abbrev pub literalAt : LitKind → ℕ → Shape → Next → Next
+  abbrev pub literalAt : LitKind → ℕ → Shape → Going → Going
   literalAt kind p (variable v) k e w = firstFound (litTries kind p) k e w
   literalAt kind p (over (flatHead unit) ps) k e w = missed w
   literalAt kind p (over (flatHead (primitive s)) ps) k e w = atSort (litComponent kind s) k e w
@@ -271,47 +271,47 @@ module _ (Met : Type 0) (meet : Components → Met → Met) (P : Problem) where
   literalAt kind p (over (functionHead n) ps) k e w = missed w
   literalAt kind p (over (strayHead n) ps) k e w = missed w
 
-  abbrev pub literalEnd : LitKind → ℕ → Option ℕ → Next → Next
+  abbrev pub literalEnd : LitKind → ℕ → Option ℕ → Going → Going
   literalEnd kind p none k e w = missed w
   literalEnd kind p (some q) k e w = literalAt kind p (graph (w .lent) q) k e w
 
-  unfoldable pub literal : LitKind → ℕ → Next → Next
+  unfoldable pub literal : LitKind → ℕ → Going → Going
   literal kind p k e w = literalEnd kind p (follow (graph (w .lent)) deep (e .binds) p) k e w
 
   -- Every reading: its container is interned before the body is looked at.
   -- All are tried, so that a body which can be Bool as well as a number shows as ambiguous.
-  unfoldable pub everyReading : List Reading → ℕ → ℕ → ℕ → Bool → Next → Next
+  unfoldable pub everyReading : List Reading → ℕ → ℕ → ℕ → Bool → Going → Going
   everyReading [] body node element b k e w = says b w
   everyReading (r ∷ rs) body node element b k e w =
       onMade (internContainer (r .op) element (w .lent))
-      (λ s v. andAlso (unifying (e .binds) body (r .body) (λ C. unifying C node s (λ D. k (bound e D))) v) b
+      (λ s v. andAlso (unifying (e .binds) body (r .body) (λ C. unifying C node s (λ D. k (withBinds e D))) v) b
       (λ b. everyReading rs body node element b k e))
       missed w
 
   -- "Disjunctions try every overload, none allowed." i is the position of the first of them.
   -- After one that found the others are tried too: leaves of one measure through different overloads are an ambiguity.
-  unfoldable pub everyOverload : ℕ → ℕ → List Overload → ℕ → Bool → Next → Next
+  unfoldable pub everyOverload : ℕ → ℕ → List Overload → ℕ → Bool → Going → Going
   everyOverload x p [] i b k e w = says b w
   everyOverload x p (o ∷ os) i b k e w =
-      andAlso (unifying (e .binds) p (o .sort .0) (λ C. k (chosen e x i C)) w) b
+      andAlso (unifying (e .binds) p (o .sort .0) (λ C. k (withChoice e x i C)) w) b
       (λ b. everyOverload x p os (i + 1) b k e)
 
   -- "one source after another as widenings"
-  unfoldable pub sequence : List ℕ → ℕ → Next → Next
+  unfoldable pub sequence : List ℕ → ℕ → Going → Going
   sequence [] t k = k
   sequence (s ∷ ss) t k = widening s t (sequence ss t k)
 
   -- "bind the target to it with the head distances as components; if that found nothing, one source after another"
   -- The agreed sort first, since it does not depend on the order of the sources; but a later constraint may want the
   -- target wider than it.
-  unfoldable pub joining : List ℕ → ℕ → Next → Next
+  unfoldable pub joining : List ℕ → ℕ → Going → Going
   joining ss t k e w =
       onMade (joinOf (e .binds) ss (w .lent))
       (λ a v.
-      orElse (unifying (e .binds) t (a .sort) (λ C. k (measured e (a .components) C)) v) (sequence ss t k e))
+      elseTry (unifying (e .binds) t (a .sort) (λ C. k (withComponents e (a .components) C)) v) (sequence ss t k e))
       (sequence ss t k e) w
 
-  unfoldable pub step : Constraint → Next → Next
+  unfoldable pub step : Constraint → Going → Going
   step (Sub l r) k = widening (l .0) (r .0) k
   step (Lit p kind) k = literal kind (p .0) k
   step (Disjunction x p run) k =
@@ -328,19 +328,19 @@ module _ (Met : Type 0) (meet : Components → Met → Met) (P : Problem) where
       (record { measure = e .measure; sorts = ss; choices = e .choices; duplicate = false })))
       missed w
 
-  abbrev pub marked : Candidate → Candidate
-  marked c = record { measure = c .measure; sorts = c .sorts; choices = c .choices; duplicate = true }
+  abbrev pub markedTied : Candidate → Candidate
+  markedTied c = record { measure = c .measure; sorts = c .sorts; choices = c .choices; duplicate = true }
 
   abbrev pub leafBy : Ranking → Candidate → Path → World Met → Out Met
   leafBy smaller c e w = replace e w
-  leafBy equal c e w = found (keeping w (e .measure) (marked c))
+  leafBy equal c e w = found (keeping w (e .measure) (markedTied c))
   leafBy greater c e w = found (keeping w (e .measure) c)
 
   abbrev pub leafOver : Option Candidate → Path → World Met → Out Met
   leafOver none e w = replace e w
   leafOver (some c) e w = leafBy (compare (e .measure) (c .measure)) c e w
 
-  unfoldable pub leaf : Next
+  unfoldable pub leaf : Going
   leaf e w = leafOver (w .best) e w
 
   -- "On coming to a constraint or to the leaf, and not between a Join's sources, a prefix greater than the
@@ -350,9 +350,9 @@ module _ (Met : Type 0) (meet : Components → Met → Met) (P : Problem) where
   dominatedBy m none = false
   dominatedBy m (some c) = worse m (c .measure)
 
-  abbrev pub unlessDominated : Next → Next
+  abbrev pub unlessDominated : Going → Going
   unlessDominated k e w = cond (dominatedBy (e .measure) (w .best)) (missed w) (k e w)
 
-  unfoldable pub solve : List Constraint → Next
+  unfoldable pub solve : List Constraint → Going
   solve [] e w = unlessDominated leaf e w
   solve (c ∷ cs) e w = unlessDominated (step c (solve cs)) e w

@@ -9,7 +9,7 @@ use Rattle.resolved_sort.specs.declared.Counts.{Counts}
 use Rattle.resolved_sort.specs.Storage.{rowWords, givenBack}
 use Rattle.words.specs.Words.{zeros}
 use Rattle.resolved_sort.specs.Checks.{firstFailing}
-use Rattle.resolved_sort.specs.Entries.{orElse}
+use Rattle.resolved_sort.specs.Entries.{refusedOr}
 use Rattle.unification.specs.Nodes.{nodeEntriesAt, bindsOf}
 use Rattle.unification.specs.Making.{Lent}
 use Rattle.inference.specs.declared.Outputs.{Outputs}
@@ -22,16 +22,16 @@ use Rattle.inference.specs.Names.{nameOf, nameKind, nameSort}
 use Rattle.inference.specs.SolveChecks.{Call, typingWords, choiceWords, given, solveChecks}
 
 -- the words of a list in use, one by one
-abbrev pub wordsAt : List ℕ → ℕ → List ℕ
-wordsAt xs n = rowsFrom (λ i. getD xs i 0) 0 n
+abbrev pub wordsInUse : List ℕ → ℕ → List ℕ
+wordsInUse xs n = rowsFrom (λ i. getD xs i 0) 0 n
 
 abbrev pub problemOf : Call → Problem
 problemOf I =
     record {
       constraints = given I;
       overloads = rowsFrom (overloadAt (I .overloads)) 0 (I .rows .overloads);
-      sources = wordsAt (I .sources) (I .rows .sources);
-      exprs = wordsAt (I .exprs) (I .rows .exprs);
+      sources = wordsInUse (I .sources) (I .rows .sources);
+      exprs = wordsInUse (I .exprs) (I .rows .exprs);
       default = I .default;
     }
 
@@ -39,8 +39,8 @@ abbrev pub baseNamesOf : Call → List BaseName
 baseNamesOf I = rowsFrom (baseNameAt (I .names)) 0 (I .rows .names)
 
 -- where the search begins: the bindings given, no component, no choice, no incumbent
-abbrev pub start : Call → Path
-start I = record { binds = bindsOf (I .binds) (I .lengths .variables); measure = []; choices = [] }
+abbrev pub startPath : Call → Path
+startPath I = record { binds = bindsOf (I .binds) (I .lengths .variables); measure = []; choices = [] }
 
 abbrev pub lentOf : Call → Lent
 lentOf I = record { sorts = I .sorts; nodes = I .nodes; lengths = I .lengths }
@@ -48,10 +48,10 @@ lentOf I = record { sorts = I .sorts; nodes = I .nodes; lengths = I .lengths }
 -- with Met and meet for what is kept of the leaves
 abbrev pub searched : (Met : Type 0) → (Components → Met → Met) → Met → Call → Out Met
 searched Met meet m I =
-    solve Met meet (problemOf I) (given I) (start I) (record { lent = lentOf I; best = none; met = m })
+    solve Met meet (problemOf I) (given I) (startPath I) (record { lent = lentOf I; best = none; met = m })
 
 -- What a call leaves: its answer, and all lent memory.
-pub record Left : Type 0 where
+pub record SolveLeft : Type 0 where
   pub answer : Solved
   pub sorts : List ℕ
   pub nodes : List ℕ
@@ -68,7 +68,7 @@ nodesGivenBack m d ns = zeros (nodeEntriesAt + d) (length ns) (zeros (rowWords *
 abbrev pub cleared : List ℕ → List ℕ
 cleared xs = replicate (length xs) 0
 
-abbrev pub leftWith : Call → Solved → List ℕ → List ℕ → List ℕ → List ℕ → Left
+abbrev pub leftWith : Call → Solved → List ℕ → List ℕ → List ℕ → List ℕ → SolveLeft
 leftWith I r ws ts ms cs =
     record {
       answer = r;
@@ -82,7 +82,7 @@ leftWith I r ws ts ms cs =
     }
 
 -- "1 to 14 .. change no lent memory"
-abbrev pub refused : Call → ℕ → Left
+abbrev pub refused : Call → ℕ → SolveLeft
 refused I c =
     record {
       answer = Refused c;
@@ -107,31 +107,31 @@ choiceRows [] = []
 choiceRows (k ∷ ks) = k .expr ∷ k .position ∷ choiceRows ks
 
 -- "0 leaves output rows past its counts untouched"
-abbrev pub over : List ℕ → List ℕ → List ℕ
-over xs old = xs ++ drop (length xs) old
+abbrev pub writtenOver : List ℕ → List ℕ → List ℕ
+writtenOver xs old = xs ++ drop (length xs) old
 
 abbrev pub countsIn : Lent → Counts
 countsIn W = record { sorts = W .lengths .sorts; entries = W .lengths .entries }
 
-abbrev pub typed : Call → Lent → Candidate → Left
+abbrev pub typed : Call → Lent → Candidate → SolveLeft
 typed I W c =
     leftWith I
     (Typing (record { counts = countsIn W; components = length (c .measure); choices = length (c .choices) }))
     (W .sorts)
-    (over (typingRows (problemOf I) (baseNamesOf I) (c .choices) 0 (c .sorts)) (I .typing))
-    (over (c .measure) (I .measure)) (over (choiceRows (c .choices)) (I .choices))
+    (writtenOver (typingRows (problemOf I) (baseNamesOf I) (c .choices) 0 (c .sorts)) (I .typing))
+    (writtenOver (c .measure) (I .measure)) (writtenOver (choiceRows (c .choices)) (I .choices))
 
-abbrev pub judgedBy : Call → Lent → Candidate → Bool → Left
+abbrev pub judgedBy : Call → Lent → Candidate → Bool → SolveLeft
 judgedBy I W c true = leftWith I (Ambiguous (countsIn W)) (W .sorts) (I .typing) (I .measure) (I .choices)
 judgedBy I W c false = typed I W c
 
 -- "0, 17 and 18 keep new sorts in order of first making .. 17 and 18 leave outputs untouched"
-abbrev pub judged : Call → Lent → Option Candidate → Left
+abbrev pub judged : Call → Lent → Option Candidate → SolveLeft
 judged I W none = leftWith I (NoTyping (countsIn W)) (W .sorts) (I .typing) (I .measure) (I .choices)
 judged I W (some c) = judgedBy I W c (c .duplicate)
 
 -- "15 and 16 give back sorts and nodes: rows past the entry lengths are zero, bindings as at entry, outputs untouched."
-abbrev pub verdict : {Met : Type 0} → Call → Out Met → Left
+abbrev pub verdict : {Met : Type 0} → Call → Out Met → SolveLeft
 verdict I (found w) = judged I (w .lent) (w .best)
 verdict I (missed w) = judged I (w .lent) (w .best)
 verdict I (ended c W) =
@@ -141,9 +141,9 @@ verdict I (ended c W) =
 abbrev pub nothingMet : Components → Unit {0} → Unit {0}
 nothingMet m u = tt
 
-unfoldable pub solveEntry : Call → Left
+unfoldable pub solveEntry : Call → SolveLeft
 solveEntry I =
-    orElse (firstFailing (solveChecks I)) (refused I) (verdict I (searched (Unit {0}) nothingMet tt I))
+    refusedOr (firstFailing (solveChecks I)) (refused I) (verdict I (searched (Unit {0}) nothingMet tt I))
 
 -- document 01's number of each answer
 unfoldable pub codeSolved : Solved → ℕ
@@ -154,14 +154,14 @@ codeSolved (Ambiguous k) = 18
 codeSolved (Typing o) = 0
 
 -- What a caller reads of a typing: the sorts and names of the expressions, the measure, and the choices.
-abbrev pub sortsOut : Call → Left → List ℕ
+abbrev pub sortsOut : Call → SolveLeft → List ℕ
 sortsOut I L = rowsFrom (λ i. getD (L .typing) (typingWords * i) 0) 0 (I .rows .exprs)
 
-abbrev pub measureOut : Left → Outputs → Components
+abbrev pub measureOut : SolveLeft → Outputs → Components
 measureOut L o = take (o .components) (L .measure)
 
 abbrev pub choiceAt : List ℕ → ℕ → Choice
 choiceAt ws i = record { expr = getD ws (choiceWords * i) 0; position = getD ws (choiceWords * i + 1) 0 }
 
-abbrev pub choicesOut : Left → Outputs → List Choice
+abbrev pub choicesOut : SolveLeft → Outputs → List Choice
 choicesOut L o = rowsFrom (choiceAt (L .choices)) 0 (o .choices)

@@ -15,7 +15,7 @@ use Rattle.resolved_sort.specs.Tree.{Tree, primitive, flat, container}
 use Rattle.resolved_sort.specs.Order.{materializable}
 use Rattle.resolved_sort.specs.Rows.{AllBelow}
 use Rattle.unification.specs.declared.InferSortId.{InferSortId}
-use Rattle.unification.specs.Term.{Shape, put, termOf}
+use Rattle.unification.specs.Term.{Shape, substitute, termOf}
 use Rattle.unification.specs.Nodes.{Binds, binding}
 use Rattle.unification.specs.Solutions.{termAt}
 use Rattle.inference.specs.declared.ExprId.{ExprId}
@@ -32,7 +32,7 @@ Assignment = ℕ → Tree
 
 -- under the assignment σ the place p has the sort t
 abbrev pub Has : (ℕ → Shape) → Assignment → ℕ → Tree → Type 0
-Has shape σ p t = put (λ v. termOf (σ v)) (termAt shape p) ≡ termOf t
+Has shape σ p t = substitute (λ v. termOf (σ v)) (termAt shape p) ≡ termOf t
 
 -- each literal has a number sort, the natural one ("0") never Pos
 abbrev pub admits : LitKind → Sort → Bool
@@ -55,10 +55,10 @@ pub data In {A : Type 0} (x : A) : List A → Type 0 where
 
 -- what body and node of a comprehension over the sort u are: "a Set over its element sort with a
 -- body of Bool, or a Bag over it with a body of Nat or Pos"
-pub data Read (u : Tree) : Tree → Tree → Type 0 where
-  as-set : Read u (flat (primitive Sort.Bool)) (container ComplexSort.Set u)
-  as-bag : Read u (flat (primitive Sort.Nat)) (container ComplexSort.Bag u)
-  as-bag-of-pos : Read u (flat (primitive Sort.Pos)) (container ComplexSort.Bag u)
+pub data ReadAs (u : Tree) : Tree → Tree → Type 0 where
+  as-set : ReadAs u (flat (primitive Sort.Bool)) (container ComplexSort.Set u)
+  as-bag : ReadAs u (flat (primitive Sort.Nat)) (container ComplexSort.Bag u)
+  as-bag-of-pos : ReadAs u (flat (primitive Sort.Pos)) (container ComplexSort.Bag u)
 
 -- a source "equals its target or is materializable into it"
 pub record Into (shape : ℕ → Shape) (σ : Assignment) (t : Tree) (p : ℕ) : Type 0 where
@@ -79,7 +79,7 @@ module _ (shape : ℕ → Shape) (look : ℕ → Tree) (P : Problem) (choices : 
         → Has shape σ (overloadIn (P .overloads) run i .sort .0) t
         → Meets (Disjunction x p run)
     meets-comprehension : (body node : InferSortId) (element : SortId) (s t : Tree) → Has shape σ (body .0) s
-        → Has shape σ (node .0) t → Read (look (element .0)) s t
+        → Has shape σ (node .0) t → ReadAs (look (element .0)) s t
         → Meets (Comprehension body node element)
     meets-join : (run : Run) (t : InferSortId) (u : Tree) → Has shape σ (t .0) u
         → All (Into shape σ u) (take (run .count) (drop (run .start) (P .sources))) → Meets (Join run t)

@@ -3,7 +3,7 @@ use libc::STDIN_FILENO;
 ghost use mathlib.Core.Path.{_≡_};
 
 // What the search for a line came to: more bytes are needed, a line, no further line, or a read that failed.
-pub enum Found {
+pub enum LineFound {
     Nothing,
     Line,
     End,
@@ -16,18 +16,18 @@ pub struct Input {
     pub at: usize,
     pub end: usize,
     pub length: usize,
-    pub found: Found,
+    pub found: LineFound,
 }
 
 // Where reading starts.
 pub fn no_input() -> Input
-    ensures { λ r. ⌜ (r .at ≡ 0) × (r .end ≡ 0) × (r .length ≡ 0) × (r .found ≡ Found.Nothing) ⌝ }
+    ensures { λ r. ⌜ (r .at ≡ 0) × (r .end ≡ 0) × (r .length ≡ 0) × (r .found ≡ LineFound.Nothing) ⌝ }
 {
     Input {
         at: 0,
         end: 0,
         length: 0,
-        found: Found::Nothing,
+        found: LineFound::Nothing,
     }
 }
 
@@ -50,7 +50,7 @@ fn take(buffer: &[u8], line: &mut [u8], from: usize, end: usize, before: usize) 
                 at,
                 end,
                 length,
-                found: Found::Nothing,
+                found: LineFound::Nothing,
             };
         }
         let byte = buffer[at];
@@ -60,7 +60,7 @@ fn take(buffer: &[u8], line: &mut [u8], from: usize, end: usize, before: usize) 
                 at,
                 end,
                 length,
-                found: Found::Line,
+                found: LineFound::Line,
             };
         }
         length = hold(line, length, byte);
@@ -69,7 +69,7 @@ fn take(buffer: &[u8], line: &mut [u8], from: usize, end: usize, before: usize) 
         at,
         end,
         length,
-        found: Found::Nothing,
+        found: LineFound::Nothing,
     }
 }
 
@@ -80,14 +80,14 @@ fn at_end(length: usize) -> Input {
             at: 0,
             end: 0,
             length,
-            found: Found::End,
+            found: LineFound::End,
         };
     }
     Input {
         at: 0,
         end: 0,
         length,
-        found: Found::Line,
+        found: LineFound::Line,
     }
 }
 
@@ -99,7 +99,7 @@ fn read_some(buffer: &mut [u8], line: &mut [u8], length: usize) -> Input {
             at: 0,
             end: 0,
             length,
-            found: Found::Failed,
+            found: LineFound::Failed,
         };
     }
     if got == 0 {
@@ -117,7 +117,7 @@ pub fn next_line(buffer: &mut [u8], line: &mut [u8], input: Input) -> Input {
     while turns > 0 {
         let found = current.found;
         match found {
-            Found::Nothing => {}
+            LineFound::Nothing => {}
             _ => return current,
         }
         current = read_some(buffer, line, current.length);

@@ -9,12 +9,12 @@ use Rattle.inference.specs.declared.Outputs.{Outputs}
 use Rattle.inference.specs.declared.Solved.{Solved}
 use Rattle.inference.specs.declared.Solved.the-variants.{Refused, NoRoom, NoTyping, Ambiguous, Typing}
 use Rattle.inference.specs.SolveChecks.{Call}
-use Rattle.inference.specs.SolveEntry.{Left, solveEntry, codeSolved}
+use Rattle.inference.specs.SolveEntry.{SolveLeft, solveEntry, codeSolved}
 use Rattle.inference.proofs.ListsLeft.{countsOf, sorts-only-grow}
 use Rattle.text_out.specs.Within.{buffer, puts, PutWithin}
 use Rattle.list_verdict.specs.Text.{verdictLine, newLines, typingText}
-use Rattle.list_call.specs.Lists.{countOf, sortsIn, typingIn, measureIn, choicesIn, callOn}
-use Rattle.list_solve.specs.Asked.{Asked, asked, askedOf}
+use Rattle.list_call.specs.Lists.{callCount, sortsIn, typingIn, measureIn, choicesIn, callOn}
+use Rattle.list_solve.specs.Asked.{ListAnswer, listAnswer, listAnswerOf}
 use Rattle.list_answers.specs.Answer.{linesUnder, toldText, Tellable, Told, told, toldOf, answerText, answerLeft}
 
 -- by the case of the answer
@@ -56,12 +56,12 @@ left-tellable I = go (solveEntry I .answer) refl
     go (Typing o) e = sorts-only-grow I (o .counts) (ap countsOf e) .checked
 
 -- What is left after asking and telling.
-module _ (I : Call) (r : Solved) (ss ts ms cs : List ℕ) (e : asked r ss ts ms cs ≡ askedOf (solveEntry I)) where
+module _ (I : Call) (r : Solved) (ss ts ms cs : List ℕ) (e : listAnswer r ss ts ms cs ≡ listAnswerOf (solveEntry I)) where
   pub answer-tellable : Tellable r ss
-  answer-tellable = subst (λ (A : Asked). Tellable (A .answer) (A .sorts)) (sym e) (left-tellable I)
+  answer-tellable = subst (λ (A : ListAnswer). Tellable (A .answer) (A .sorts)) (sym e) (left-tellable I)
 
   pub asked-and-told :
-      (ws out : List ℕ) (g x : ℕ) → g ≡ countOf ws 0 → x ≡ countOf ws 5 → {left : List ℕ} {n : ℕ} → PutWithin out 0 (toldText g x r ss ts ms cs) left n
+      (ws out : List ℕ) (g x : ℕ) → g ≡ callCount ws 0 → x ≡ callCount ws 5 → {left : List ℕ} {n : ℕ} → PutWithin out 0 (toldText g x r ss ts ms cs) left n
       → told (buffer left n) ss ts ms cs ≡ toldOf ws out (solveEntry I)
   asked-and-told ws out g x eg ex p =
       (λ i. told (p .is i) ss ts ms cs)

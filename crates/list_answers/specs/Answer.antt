@@ -4,11 +4,11 @@ use Prim.Native.Nat.{ℕ}
 use Rattle.resolved_sort.specs.Rows.{Checked}
 use Rattle.inference.specs.declared.Solved.{Solved}
 use Rattle.inference.specs.declared.Solved.the-variants.{Refused, NoRoom, NoTyping, Ambiguous, Typing}
-use Rattle.inference.specs.SolveEntry.{Left, solveEntry, codeSolved}
+use Rattle.inference.specs.SolveEntry.{SolveLeft, solveEntry, codeSolved}
 use Rattle.text_out.specs.Within.{Buffer, puts}
 use Rattle.list_verdict.specs.Text.{verdictLine, newLines, typingText}
 use Rattle.list_memory.specs.Memory.{sortList, exprList}
-use Rattle.list_call.specs.Lists.{countOf, callIn}
+use Rattle.list_call.specs.Lists.{callCount, callIn}
 
 -- Under the line of the code: of g sorts and x expressions given, a typing, and the sorts made.
 unfoldable pub linesUnder : ℕ → ℕ → Solved → (sorts typing measure choices : List ℕ) → List ℕ
@@ -23,7 +23,7 @@ unfoldable pub toldText : ℕ → ℕ → Solved → (sorts typing measure choic
 toldText g x r ss ts ms cs = verdictLine (codeSolved r) ++ linesUnder g x r ss ts ms cs
 
 -- what a call left, told
-abbrev pub leftText : ℕ → ℕ → Left → List ℕ
+abbrev pub leftText : ℕ → ℕ → SolveLeft → List ℕ
 leftText g x L = toldText g x (L .answer) (L .sorts) (L .typing) (L .measure) (L .choices)
 
 -- sorts are checked where they are to be written
@@ -45,14 +45,14 @@ pub record Told : Type 0 where
 abbrev pub told : Buffer → (sorts typing measure choices : List ℕ) → Told
 told b ss ts ms cs = record { text = b; sorts = ss; typing = ts; measure = ms; choices = cs }
 
-abbrev pub toldOf : List ℕ → List ℕ → Left → Told
+abbrev pub toldOf : List ℕ → List ℕ → SolveLeft → Told
 toldOf ws out L =
-    told (puts out 0 (leftText (countOf ws sortList) (countOf ws exprList) L))
+    told (puts out 0 (leftText (callCount ws sortList) (callCount ws exprList) L))
     (L .sorts) (L .typing) (L .measure) (L .choices)
 
 -- The answer about a list, from byte 0 on; what finds no room is lost.
 unfoldable pub answerText : List ℕ → List ℕ
-answerText ws = leftText (countOf ws sortList) (countOf ws exprList) (solveEntry (callIn ws))
+answerText ws = leftText (callCount ws sortList) (callCount ws exprList) (solveEntry (callIn ws))
 
 unfoldable pub answerLeft : List ℕ → List ℕ → Buffer
 answerLeft ws out = puts out 0 (answerText ws)

@@ -2,7 +2,7 @@
 use mathlib.Core.Path.{_≡_, _∙_}
 use mathlib.Core.List.{List}
 use Prim.Native.Nat.{ℕ}
-use Rattle.inference.specs.SolveEntry.{Left, solveEntry}
+use Rattle.inference.specs.SolveEntry.{SolveLeft, solveEntry}
 use Rattle.solve_checks.specs.declared.Given.{Given}
 use Rattle.solve_checks.specs.Call.{callOf}
 use Rattle.list_call.specs.Lists.{givenIn, exprsIn, namesIn, constraintsIn, overloadsIn, sourcesIn, callBy}
@@ -11,7 +11,7 @@ use Rattle.list_call.specs.Lists.{givenIn, exprsIn, namesIn, constraints
 module _ (ws : List ℕ) (g : Given) (ss ns bs xs ts ms cs : List ℕ) where
   pub asked :
       (es ks os ps qs : List ℕ) → es ≡ exprsIn ws → ks ≡ namesIn ws → os ≡ constraintsIn ws → ps ≡ overloadsIn ws → qs ≡ sourcesIn ws
-      → (L : Left) → L ≡ solveEntry (callOf g ss ns bs es ks os ps qs xs ts ms cs) → L ≡ solveEntry (callBy ws g ss ns bs xs ts ms cs)
+      → (L : SolveLeft) → L ≡ solveEntry (callOf g ss ns bs es ks os ps qs xs ts ms cs) → L ≡ solveEntry (callBy ws g ss ns bs xs ts ms cs)
   asked es ks os ps qs e1 e2 e3 e4 e5 L h = h ∙ (λ i. solveEntry (callOf g ss ns bs (e1 i) (e2 i) (e3 i) (e4 i) (e5 i) xs ts ms cs))
 
 pub counts-given : (ws : List ℕ) (n e m d v x k c o s t : ℕ) (k0 : Given)

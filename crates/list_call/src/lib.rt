@@ -24,14 +24,14 @@ ghost use mathlib.Core.Path.{_≡_};
 ghost use Prim.Native.Nat.{_+_, _*_, _≤_};
 ghost use lib.ListN.{length};
 ghost use Rattle.inference.specs.SolveEntry.{solveEntry};
-ghost use Rattle.list_memory.specs.Memory.{rowsAt, mostRows, rowsOf};
-ghost use Rattle.solve_outputs.specs.Finish.{leftOf};
-ghost use Rattle.list_call.specs.Lists.{countOf, toldOr, lengthOf, lent, givenIn, callBy};
+ghost use Rattle.list_memory.specs.Memory.{rowsAt, mostRows, rowsGiven};
+ghost use Rattle.solve_outputs.specs.Finish.{solveLeft};
+ghost use Rattle.list_call.specs.Lists.{callCount, toldOr, lengthLent, sliceLent, givenIn, callBy};
 
 // The rows given of a list.
 pub fn rows_given(list: &[u16], k: usize) -> usize
     requires { ⌜ k ≤ 9 ⌝ }
-    ensures { λ r. ⌜ (r ≡ rowsOf (now (list .entry)) k) × (r ≤ mostRows) ⌝ }
+    ensures { λ r. ⌜ (r ≡ rowsGiven (now (list .entry)) k) × (r ≤ mostRows) ⌝ }
 {
     word(list, ROWS_AT + k) as usize
 }
@@ -39,7 +39,7 @@ pub fn rows_given(list: &[u16], k: usize) -> usize
 // The count of a list in the call.
 pub fn count_of(list: &[u16], k: usize) -> u16
     requires { ⌜ k ≤ 9 ⌝ }
-    ensures { λ r. ⌜ r ≡ countOf (now (list .entry)) k ⌝ }
+    ensures { λ r. ⌜ r ≡ callCount (now (list .entry)) k ⌝ }
 {
     if word(list, COUNTS_TOLD_AT + k) == 1 {
         return word(list, COUNTS_AT + k);
@@ -80,7 +80,7 @@ fn told_or(list: &[u16], j: usize, n: usize) -> usize
 // How many words are lent of a slice: its ceiling at most.
 pub fn length_of(list: &[u16], j: usize, n: usize, top: usize) -> usize
     requires { ⌜ j ≤ 11 ⌝ }
-    ensures { λ r. ⌜ (r ≡ lengthOf (now (list .entry)) j n top) × (r ≤ top) ⌝ }
+    ensures { λ r. ⌜ (r ≡ lengthLent (now (list .entry)) j n top) × (r ≤ top) ⌝ }
 {
     let words = told_or(list, j, n);
     if top < words {
@@ -93,7 +93,7 @@ pub fn length_of(list: &[u16], j: usize, n: usize, top: usize) -> usize
 // list k have.
 fn lend(list: &[u16], start: usize, j: usize, k: usize, width: usize, top: usize) -> &[u16]
     requires { ⌜ (j ≤ 11) × (k ≤ 9) × (width ≤ 5) × (start + top ≤ length (now list)) ⌝ }
-    ensures { λ r. ⌜ now r ≡ lent (now (list .entry)) start j (width * rowsOf (now (list .entry)) k) top ⌝ }
+    ensures { λ r. ⌜ now r ≡ sliceLent (now (list .entry)) start j (width * rowsGiven (now (list .entry)) k) top ⌝ }
 {
     let rows = rows_given(list, k);
     let end = start + length_of(list, j, width * rows, top);
@@ -114,7 +114,7 @@ pub fn solve_list(
 ) -> Solved
     requires { ⌜ rowsAt ≤ length (now list) ⌝ }
     ensures { λ r. ⌜
-        leftOf r (now (sorts .exit)) (now (nodes .exit)) (now (binds .exit)) (now (scratch .exit))
+        solveLeft r (now (sorts .exit)) (now (nodes .exit)) (now (binds .exit)) (now (scratch .exit))
         (now (typing .exit)) (now (measure .exit)) (now (choices .exit))
         ≡ solveEntry
         (callBy (now (list .entry)) given (now (sorts .entry)) (now (nodes .entry)) (now (binds .entry))

@@ -8,75 +8,75 @@ use lib.ListN.{getD}
 use Rattle.list_tokens.specs.declared.Tokens.{Tokens}
 use Rattle.resolved_sort.specs.Storage.{maxSorts}
 use Rattle.list_tokens.specs.Words.{kListOf, kFn, kArrow, kPositive, kSorts, kSolve}
-use Rattle.list_tokens.specs.Tokens.{number, sortName, nodeName, varName, exprName, fixedSort}
+use Rattle.list_tokens.specs.Tokens.{numberClass, sortClass, nodeClass, varClass, exprClass, fixedClass}
 
 -- An item of a form: below 65,536 that very word by its number, 0 the end of the line, and above one of these classes.
 abbrev pub N : ℕ
-N = number
+N = numberClass
 
 abbrev pub S : ℕ
-S = sortName
+S = sortClass
 
 abbrev pub nN : ℕ
-nN = nodeName
+nN = nodeClass
 
 abbrev pub vN : ℕ
-vN = varName
+vN = varClass
 
 abbrev pub eN : ℕ
-eN = exprName
+eN = exprClass
 
 -- one of the six words
-abbrev pub fixed : ℕ
-fixed = fixedSort
+abbrev pub fixedWord : ℕ
+fixedWord = fixedClass
 
 abbrev pub P : ℕ
 P = 458752
 
 -- List, Set, FSet, Bag, FBag
-abbrev pub container : ℕ
-container = 524288
+abbrev pub containerWord : ℕ
+containerWord = 524288
 
 -- positive, natural
-abbrev pub literal : ℕ
-literal = 589824
+abbrev pub literalWord : ℕ
+literalWord = 589824
 
 -- the slices of `lend`, `sorts` to `out-choices`
-abbrev pub slice : ℕ
-slice = 655360
+abbrev pub sliceWord : ℕ
+sliceWord = 655360
 
 -- any word that is no number and no name
-abbrev pub what : ℕ
-what = 720896
+abbrev pub anyWord : ℕ
+anyWord = 720896
 
 -- how many words a class has; the place of node nN is nN less nodePlaces
 abbrev pub classSize : ℕ
 classSize = 65536
 
 abbrev pub nodePlaces : ℕ
-nodePlaces = nodeName - maxSorts
+nodePlaces = nodeClass - maxSorts
 
 unfoldable pub inRange : ℕ → ℕ → ℕ → Bool
 inRange lo hi t = cond (ltb t lo) false (ltb t hi)
 
-unfoldable pub isSort : ℕ → Bool
-isSort t = cond (inRange S (S + classSize) t) true (inRange fixed (fixed + classSize) t)
+unfoldable pub isSortWord : ℕ → Bool
+isSortWord t = cond (inRange S (S + classSize) t) true (inRange fixedWord (fixedWord + classSize) t)
 
-unfoldable pub isPlace : ℕ → Bool
-isPlace t =
+unfoldable pub isPlaceWord : ℕ → Bool
+isPlaceWord t =
     cond (inRange S (S + maxSorts) t) true
-    (cond (inRange nN (nodePlaces + classSize) t) true (inRange fixed (fixed + classSize) t))
+    (cond (inRange nN (nodePlaces + classSize) t) true (inRange fixedWord (fixedWord + classSize) t))
 
 -- whether a word is of an item
 unfoldable pub isOf : ℕ → ℕ → Bool
 isOf item t =
     cond (ltb item classSize) (eqb t item)
-    (cond (eqb item S) (isSort t)
-    (cond (eqb item P) (isPlace t)
-    (cond (eqb item container) (inRange kListOf kFn t)
-    (cond (eqb item literal) (inRange kPositive kSorts t)
-    (cond (eqb item slice) (inRange kSorts kSolve t)
-    (cond (eqb item what) (ltb t classSize)
+    (cond (eqb item S) (isSortWord t)
+    (cond (eqb item P) (isPlaceWord t)
+    (cond (eqb item containerWord) (inRange kListOf kFn t)
+    (cond (eqb item literalWord) (inRange kPositive kSorts t)
+    (cond (eqb item sliceWord) (inRange kSorts kSolve t)
+    (cond (eqb item anyWord) (ltb t classSize)
     (cond (ltb t item) false (ltb (t - item) classSize))))))))
 
 -- word i of a line
@@ -103,8 +103,8 @@ fitsFrom (suc m) t ps i =
 abbrev pub form : (a b c d e f g : ℕ) → List ℕ
 form a b c d e f g = a ∷ b ∷ c ∷ d ∷ e ∷ f ∷ g ∷ []
 
-abbrev pub fits : Tokens → List ℕ → Bool
-fits t ps = fitsFrom 7 t ps 0
+abbrev pub fitsForm : Tokens → List ℕ → Bool
+fitsForm t ps = fitsFrom 7 t ps 0
 
 -- m words from i on are all of an item
 unfoldable pub allFrom : ℕ → Tokens → ℕ → ℕ → Bool

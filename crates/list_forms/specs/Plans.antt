@@ -6,7 +6,7 @@ use lib.Dec.{ltb, eqb}
 use lib.ListN.{getD}
 use Rattle.inference.specs.Constraints.{maxConstraints}
 use Rattle.list_memory.specs.declared.Form.{Form}
-use Rattle.list_memory.specs.Memory.{listConstraintsAt, constraintList, mostRows, listWords, rowsOf, lastAt}
+use Rattle.list_memory.specs.Memory.{listConstraintsAt, constraintList, mostRows, listWords, rowsGiven, lastAt}
 use Rattle.list_forms.specs.declared.Plan.{Plan}
 
 abbrev pub nothingOf : Bool → Form → Plan
@@ -33,8 +33,8 @@ unfoldable pub expected : Form → Plan
 expected f = nothingOf false f
 
 -- a line that gives nothing
-unfoldable pub nothing : Plan
-nothing = nothingOf true Form.Keyword
+unfoldable pub emptyPlan : Plan
+emptyPlan = nothingOf true Form.Keyword
 
 -- so many rows of a list, the second word rising or not
 unfoldable pub rowsPlan : ℕ → ℕ → Bool → List ℕ → Plan
@@ -129,14 +129,14 @@ addUp a n = cond (ltb mostRows (a + n)) mostRows (a + n)
 
 -- word i of the last constraint row, where it is kept
 abbrev pub lastRowAt : List ℕ → ℕ → ℕ
-lastRowAt ws i = ((listConstraintsAt - 5) + 5 * rowsOf ws constraintList) + i
+lastRowAt ws i = ((listConstraintsAt - 5) + 5 * rowsGiven ws constraintList) + i
 
 -- "If the last constraint line is a `disjunction` (1) or a `join` (2)", n more belong to it: word i of its row grows by
 -- n
 unfoldable pub grown : List ℕ → ℕ → ℕ → ℕ → Plan → Plan
 grown ws last i n p =
     cond (eqb (getD ws lastAt 0) last)
-    (cond (eqb (rowsOf ws constraintList) 0) p
-    (cond (ltb maxConstraints (rowsOf ws constraintList)) p
+    (cond (eqb (rowsGiven ws constraintList) 0) p
+    (cond (ltb maxConstraints (rowsGiven ws constraintList)) p
     (withPut p (lastRowAt ws i) (addUp (getD ws (lastRowAt ws i) 0) n))))
     p

@@ -85,9 +85,9 @@ ghost use mathlib.Core.Bool.{true, false};
 ghost use Prim.Native.Nat.{_≤_, _+_, _-_};
 ghost use lib.ListN.{getD};
 ghost use Rattle.list_tokens.specs.Tokens.{mostClass};
-ghost use Rattle.list_forms.specs.Items.{inRange as within, isSort, isPlace, isOf, tokenAt, wordOf, wordAt};
+ghost use Rattle.list_forms.specs.Items.{inRange as within, isSortWord, isPlaceWord, isOf, tokenAt, wordOf, wordAt};
 ghost use Rattle.list_forms.specs.Items.{fitsFrom, allFrom, listFits, functionFits};
-ghost use Rattle.list_forms.specs.Plans.{expected as expectedOf, nothing as nothingGiven, rowsPlan, rowPlan};
+ghost use Rattle.list_forms.specs.Plans.{expected as expectedOf, emptyPlan as nothingGiven, rowsPlan, rowPlan};
 ghost use Rattle.list_forms.specs.Plans.{withFree, withRun, withPuts, withPut, addUp, grown as grownOf};
 ghost use Rattle.list_forms.specs.Lines.{isNext, functionPlan, sortRow, sortPlan, varPlan, varsPlan};
 ghost use Rattle.list_forms.specs.Lines.{boundPlan, bindPlan, nodeRow, nodePlan, exprPlan, nameRow, namePlan};
@@ -163,7 +163,7 @@ fn in_range(lo: u32, hi: u32, t: u32) -> bool
 }
 
 fn is_sort(t: u32) -> bool
-    ensures { λ r. ⌜ r ≡ isSort t ⌝ }
+    ensures { λ r. ⌜ r ≡ isSortWord t ⌝ }
 {
     if in_range(S, SORTS_END, t) {
         return true;
@@ -172,7 +172,7 @@ fn is_sort(t: u32) -> bool
 }
 
 fn is_place(t: u32) -> bool
-    ensures { λ r. ⌜ r ≡ isPlace t ⌝ }
+    ensures { λ r. ⌜ r ≡ isPlaceWord t ⌝ }
 {
     if in_range(S, SORT_PLACES_END, t) {
         return true;

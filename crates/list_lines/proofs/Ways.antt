@@ -17,7 +17,7 @@ use Rattle.list_answers.specs.Answer.{answerText, answerLeft}
 use Rattle.text_out.specs.Within.{Buffer, buffer, puts, PutWithin}
 use Rattle.text_out.proofs.Within.{put-none, put-as, put-then}
 use Rattle.list_lines.specs.declared.Said.{Said}
-use Rattle.list_lines.specs.Lines.{unaskedText, stageOf, printed, numbered, LineLeft, lineLeft, leftBy, heardLine}
+use Rattle.list_lines.specs.Lines.{unaskedText, stageOf, printed, numbered, LineLeft, lineLeft, lineLeftBy, heardLine}
 
 abbrev said : Bool → ℕ → Said
 said b end = record { numbered = b; end = end }
@@ -28,7 +28,7 @@ module _ (ws line out : List ℕ) {vs : List ℕ} {h : Heard} (e : taken vs h �
   unfolding heardLine
   line-said H k p =
       ap (λ (b : Buffer). let z : LineLeft = record { words = vs; buffer = b; numbered = numbered H } in z) (p .is)
-      ∙ ap (leftBy ws line out) (ap (taken vs) (sym k) ∙ e)
+      ∙ ap (lineLeftBy ws line out) (ap (taken vs) (sym k) ∙ e)
 
   pub quiet-said : h ≡ Quiet → lineLeft vs out (said false 0) ≡ heardLine ws line out
   unfolding numbered printed

@@ -47,8 +47,8 @@ abbrev pub lineLeft : List ℕ → List ℕ → Said → LineLeft
 lineLeft ws out s = record { words = ws; buffer = record { bytes = out; at = s .end }; numbered = s .numbered }
 
 -- what a line came to, and its output at the front of the buffer
-abbrev pub leftBy : List ℕ → List ℕ → List ℕ → Taken → LineLeft
-leftBy ws line out t =
+abbrev pub lineLeftBy : List ℕ → List ℕ → List ℕ → Taken → LineLeft
+lineLeftBy ws line out t =
     record {
       words = t .words;
       buffer = puts out 0 (printed (t .heard) line ws (t .words));
@@ -56,4 +56,4 @@ leftBy ws line out t =
     }
 
 unfoldable pub heardLine : List ℕ → List ℕ → List ℕ → LineLeft
-heardLine ws line out = leftBy ws line out (lineTaken ws line)
+heardLine ws line out = lineLeftBy ws line out (lineTaken ws line)

@@ -98,8 +98,8 @@ abbrev pub sourceList : ℕ
 sourceList = 9
 
 -- where the rows of each list begin, how many words a row has, and how many rows are kept
-abbrev pub starts : List ℕ
-starts =
+abbrev pub listStarts : List ℕ
+listStarts =
     listSortsAt ∷ (listSortsAt + entriesAt) ∷ listNodesAt ∷ (listNodesAt + nodeEntriesAt) ∷ listBindsAt ∷ listExprsAt
     ∷ listNamesAt ∷ listConstraintsAt ∷ listOverloadsAt ∷ listSourcesAt ∷ []
 
@@ -112,7 +112,7 @@ ceilings =
     ∷ maxSources ∷ []
 
 unfoldable pub listStart : ℕ → ℕ
-listStart k = getD starts k 0
+listStart k = getD listStarts k 0
 
 unfoldable pub widthOf : ℕ → ℕ
 widthOf k = getD widths k 0
@@ -131,8 +131,8 @@ rowsAt = listScratchAt + scratchWords
 abbrev pub mostRows : ℕ
 mostRows = 65535
 
-abbrev pub rowsOf : List ℕ → ℕ → ℕ
-rowsOf ws k = getD ws (rowsAt + k) 0
+abbrev pub rowsGiven : List ℕ → ℕ → ℕ
+rowsGiven ws k = getD ws (rowsAt + k) 0
 
 -- the default sort
 abbrev pub defaultAt : ℕ

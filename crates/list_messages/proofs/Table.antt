@@ -12,7 +12,7 @@ use Rattle.list_memory.specs.declared.Form.the-variants.{Lit, Comprehension, Di
 use Rattle.list_memory.specs.declared.Form.the-variants.{Constraint, Count, Lend, Ceilings, Asks}
 use Rattle.text_out.specs.Within.{PutWithin}
 use Rattle.text_out.proofs.Within.{put-as}
-use Rattle.list_messages.specs.Messages.{placeOf, formText}
+use Rattle.list_messages.specs.Messages.{messageNumber, formText}
 
 -- where each message begins, and the bytes of all, as in the code
 unfoldable pub starts : List ℕ
@@ -52,8 +52,8 @@ cut-at zero i k h = absurd (let z : _≡_ {A = ℕ} 0 1 = omega arith in omega a
 cut-at (suc m) i zero h = ap cut (omega arith)
 cut-at (suc m) i (suc k) h = cut-at m (i + 1) k (omega arith) ∙ ap cut (omega arith)
 
-at-its-place : (form : Form) → getD messages (placeOf form) [] ≡ formText form
-unfolding placeOf
+at-its-place : (form : Form) → getD messages (messageNumber form) [] ≡ formText form
+unfolding messageNumber
 at-its-place Printable = refl
 at-its-place Length = refl
 at-its-place FormList = refl
@@ -89,11 +89,11 @@ at-its-place Ceilings = refl
 at-its-place Asks = refl
 
 message-of-the-table :
-    (form : Form) (b : List ℕ) (k : ℕ) → k < 33 → k ≡ placeOf form → b ≡ cut k → b ≡ formText form
+    (form : Form) (b : List ℕ) (k : ℕ) → k < 33 → k ≡ messageNumber form → b ≡ cut k → b ≡ formText form
 message-of-the-table form b k h p e =
     e ∙ ap cut (omega arith) ∙ sym (cut-at 33 0 k h) ∙ ap (λ (ms : List (List ℕ)). getD ms k []) cuts-are-the-messages
     ∙ ap (λ (j : ℕ). getD messages j []) p ∙ at-its-place form
 
 -- the bytes from one start to the next, put
-pub message-is-put : (form : Form) (b : List ℕ) (k : ℕ) → (k ≡ placeOf form) × (k < 33) → b ≡ cut k → {out : List ℕ} {at : ℕ} {left : List ℕ} {r : ℕ} → PutWithin out at b left r → PutWithin out at (formText form) left r
+pub message-is-put : (form : Form) (b : List ℕ) (k : ℕ) → (k ≡ messageNumber form) × (k < 33) → b ≡ cut k → {out : List ℕ} {at : ℕ} {left : List ℕ} {r : ℕ} → PutWithin out at b left r → PutWithin out at (formText form) left r
 message-is-put form b k p e h = put-as (message-of-the-table form b k (p .1) (p .0) e) h

@@ -5,7 +5,7 @@ use text_out::put_text;
 ghost use mathlib.Core.Path.{_≡_};
 ghost use Prim.Native.Nat.{_<_};
 ghost use Rattle.text_out.specs.Within.{PutWithin};
-ghost use Rattle.list_messages.specs.Messages.{placeOf, formText, badText};
+ghost use Rattle.list_messages.specs.Messages.{messageNumber, formText, badText};
 
 // Where each message begins in the bytes of all, and the last one ends.
 const STARTS: [usize; 34] = [
@@ -45,9 +45,9 @@ const STARTS: [usize; 34] = [
     1336,
 ];
 
-// The place of a message.
+// The number of a message.
 fn place_of(form: Form) -> usize
-    ensures { λ r. ⌜ (r ≡ placeOf form) × (r < 33) ⌝ }
+    ensures { λ r. ⌜ (r ≡ messageNumber form) × (r < 33) ⌝ }
 {
     match form {
         Form::Printable => 0,

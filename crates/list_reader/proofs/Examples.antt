@@ -44,7 +44,7 @@ lines-of-a-list :
       heards = Quiet ∷ Quiet ∷ [];
       words = 2 ∷ 0 ∷ 1024 ∷ 0 ∷ 1 ∷ 0 ∷ 2 ∷ 3 ∷ 1024 ∷ 0 ∷ 0 ∷ 0 ∷ 0 ∷ 0 ∷ 0 ∷ 0 ∷ 0 ∷ 1 ∷ 1 ∷ 0 ∷ 1 ∷ 1 ∷ [];
     }
-unfolding told first zeros Memory.listStart Memory.widthOf Memory.ceilingOf bytesOf Words.words Words.placeIn Words.keywordOf Tokens.decimal Tokens.numberOf Tokens.classOf Tokens.nameOf Tokens.tokenOf Tokens.tokensFrom Tokens.tokensOf Tokens.printableFrom Tokens.startOf sameBytes run past skip Items.inRange Items.isSort Items.isPlace Items.isOf Items.wordOf Items.wordAt Items.fitsFrom Items.allFrom Items.listFits Items.functionFits Plans.expected Plans.nothing Plans.rowsPlan Plans.withFree Plans.withRun Plans.withPuts Plans.addUp Plans.grown Lines.isNext Lines.functionPlan Lines.sortRow Lines.sortPlan Lines.varPlan Lines.varsPlan Lines.boundPlan Lines.bindPlan Lines.nodeRow Lines.nodePlan Lines.exprPlan Lines.nameRow Lines.namePlan Lines.defaultPlan Lines.subPlan Lines.litPlan Lines.comprehensionPlan Lines.disjunctionPlan Lines.overloadPlan Lines.joinPlan Lines.sourcesPlan Lines.entriesPlan Lines.constraintPlan Lines.padPlan Lines.countedBy Lines.countPlan Lines.lendPlan Lines.unusualPlan Lines.constraintsPlan Lines.planOf Lines.asksOther Taking.putWords Taking.oneMore Taking.appended Taking.nextNumber Taking.appendTimes Taking.appendRun Taking.carried Taking.badLine Taking.begun Taking.bareTaken Taking.planTaken Taking.questionTaken Taking.wordsTaken Taking.otherTaken Taking.answerTaken Taking.listTaken Taking.byStart Taking.lineTaken
+unfolding told first zeros Memory.listStart Memory.widthOf Memory.ceilingOf bytesOf Words.words Words.placeIn Words.keywordOf Tokens.decimalRead Tokens.numberRead Tokens.classOf Tokens.nameToken Tokens.tokenOf Tokens.tokensFrom Tokens.tokensOf Tokens.printableFrom Tokens.lineStart sameBytes run past skip Items.inRange Items.isSortWord Items.isPlaceWord Items.isOf Items.wordOf Items.wordAt Items.fitsFrom Items.allFrom Items.listFits Items.functionFits Plans.expected Plans.emptyPlan Plans.rowsPlan Plans.withFree Plans.withRun Plans.withPuts Plans.addUp Plans.grown Lines.isNext Lines.functionPlan Lines.sortRow Lines.sortPlan Lines.varPlan Lines.varsPlan Lines.boundPlan Lines.bindPlan Lines.nodeRow Lines.nodePlan Lines.exprPlan Lines.nameRow Lines.namePlan Lines.defaultPlan Lines.subPlan Lines.litPlan Lines.comprehensionPlan Lines.disjunctionPlan Lines.overloadPlan Lines.joinPlan Lines.sourcesPlan Lines.entriesPlan Lines.constraintPlan Lines.padPlan Lines.countedBy Lines.countPlan Lines.lendPlan Lines.unusualPlan Lines.constraintsPlan Lines.planOf Lines.asksOther Taking.putWords Taking.oneMoreWord Taking.appended Taking.nextNumber Taking.appendTimes Taking.appendRun Taking.carried Taking.badLine Taking.begun Taking.bareTaken Taking.planTaken Taking.questionTaken Taking.wordsTaken Taking.otherTaken Taking.answerTaken Taking.listTaken Taking.byStart Taking.lineTaken
 lines-of-a-list = refl
 
 -- before any list
@@ -52,5 +52,5 @@ lines-before-a-list :
     map (λ (text : String). (lineTaken [] (bytesOf text)) .heard)
     ("" ∷ "  # sub" ∷ "sub n0 n1" ∷ "? solve" ∷ "= 0" ∷ "list" ∷ [])
     ≡ Quiet ∷ Quiet ∷ Bad Form.List ∷ Bad Form.List ∷ Bad Form.Question ∷ Begins ∷ []
-unfolding told first zeros Memory.listStart Memory.widthOf Memory.ceilingOf bytesOf Words.words Words.placeIn Words.keywordOf Tokens.decimal Tokens.numberOf Tokens.classOf Tokens.nameOf Tokens.tokenOf Tokens.tokensFrom Tokens.tokensOf Tokens.printableFrom Tokens.startOf sameBytes run past skip Items.inRange Items.isSort Items.isPlace Items.isOf Items.wordOf Items.wordAt Items.fitsFrom Items.allFrom Items.listFits Items.functionFits Plans.expected Plans.nothing Plans.rowsPlan Plans.withFree Plans.withRun Plans.withPuts Plans.addUp Plans.grown Lines.isNext Lines.functionPlan Lines.sortRow Lines.sortPlan Lines.varPlan Lines.varsPlan Lines.boundPlan Lines.bindPlan Lines.nodeRow Lines.nodePlan Lines.exprPlan Lines.nameRow Lines.namePlan Lines.defaultPlan Lines.subPlan Lines.litPlan Lines.comprehensionPlan Lines.disjunctionPlan Lines.overloadPlan Lines.joinPlan Lines.sourcesPlan Lines.entriesPlan Lines.constraintPlan Lines.padPlan Lines.countedBy Lines.countPlan Lines.lendPlan Lines.unusualPlan Lines.constraintsPlan Lines.planOf Lines.asksOther Taking.putWords Taking.oneMore Taking.appended Taking.nextNumber Taking.appendTimes Taking.appendRun Taking.carried Taking.badLine Taking.begun Taking.bareTaken Taking.planTaken Taking.questionTaken Taking.wordsTaken Taking.otherTaken Taking.answerTaken Taking.listTaken Taking.byStart Taking.lineTaken
+unfolding told first zeros Memory.listStart Memory.widthOf Memory.ceilingOf bytesOf Words.words Words.placeIn Words.keywordOf Tokens.decimalRead Tokens.numberRead Tokens.classOf Tokens.nameToken Tokens.tokenOf Tokens.tokensFrom Tokens.tokensOf Tokens.printableFrom Tokens.lineStart sameBytes run past skip Items.inRange Items.isSortWord Items.isPlaceWord Items.isOf Items.wordOf Items.wordAt Items.fitsFrom Items.allFrom Items.listFits Items.functionFits Plans.expected Plans.emptyPlan Plans.rowsPlan Plans.withFree Plans.withRun Plans.withPuts Plans.addUp Plans.grown Lines.isNext Lines.functionPlan Lines.sortRow Lines.sortPlan Lines.varPlan Lines.varsPlan Lines.boundPlan Lines.bindPlan Lines.nodeRow Lines.nodePlan Lines.exprPlan Lines.nameRow Lines.namePlan Lines.defaultPlan Lines.subPlan Lines.litPlan Lines.comprehensionPlan Lines.disjunctionPlan Lines.overloadPlan Lines.joinPlan Lines.sourcesPlan Lines.entriesPlan Lines.constraintPlan Lines.padPlan Lines.countedBy Lines.countPlan Lines.lendPlan Lines.unusualPlan Lines.constraintsPlan Lines.planOf Lines.asksOther Taking.putWords Taking.oneMoreWord Taking.appended Taking.nextNumber Taking.appendTimes Taking.appendRun Taking.carried Taking.badLine Taking.begun Taking.bareTaken Taking.planTaken Taking.questionTaken Taking.wordsTaken Taking.otherTaken Taking.answerTaken Taking.listTaken Taking.byStart Taking.lineTaken
 lines-before-a-list = refl

@@ -13,15 +13,15 @@ use Rattle.sort_text.specs.Reading.{maxLine}
 use Rattle.unification.specs.Nodes.{freeWord}
 use Rattle.list_memory.specs.declared.Form.{Form}
 use Rattle.list_memory.specs.declared.Heard.{Heard}
-use Rattle.list_memory.specs.Memory.{mostRows, listWords, widthOf, ceilingOf, listRowAt, rowsAt, rowsOf}
+use Rattle.list_memory.specs.Memory.{mostRows, listWords, widthOf, ceilingOf, listRowAt, rowsAt, rowsGiven}
 use Rattle.list_memory.specs.Memory.{sortList, entryList, varList, defaultAt, stageAt, noList, readingStage}
 use Rattle.list_memory.specs.Memory.{askedStage, badStage, Taken, taken}
 use Rattle.list_tokens.specs.declared.Tokens.{Tokens}
 use Rattle.list_tokens.specs.declared.Start.{Start}
 use Rattle.list_tokens.specs.Words.{kBare, kAsk, kSolve}
-use Rattle.list_tokens.specs.Tokens.{tokensOf, printableFrom, startOf}
+use Rattle.list_tokens.specs.Tokens.{tokensOf, printableFrom, lineStart}
 use Rattle.list_forms.specs.declared.Plan.{Plan}
-use Rattle.list_forms.specs.Items.{tokenAt, wordAt, form, fits}
+use Rattle.list_forms.specs.Items.{tokenAt, wordAt, form, fitsForm}
 use Rattle.list_forms.specs.Lines.{planOf, asksOther}
 
 -- rows begin at most so far on
@@ -34,19 +34,19 @@ putWords zero ws at row i = ws
 putWords (suc m) ws at row i = putWords m (set ws (at + i) (getD row i 0)) at row (i + 1)
 
 -- counts stop
-unfoldable pub oneMore : ℕ → ℕ
-oneMore n = cond (ltb n mostRows) (n + 1) n
+unfoldable pub oneMoreWord : ℕ → ℕ
+oneMoreWord n = cond (ltb n mostRows) (n + 1) n
 
 -- One more row of list k: "Rows past a ceiling of document 01 are counted and not kept".
 unfoldable pub appended : List ℕ → ℕ → List ℕ → List ℕ
 appended ws k row =
-    cond (ltb (rowsOf ws k) (ceilingOf k))
-    (set (putWords (widthOf k) ws (listRowAt k (rowsOf ws k)) row 0) (rowsAt + k) (oneMore (rowsOf ws k)))
-    (set ws (rowsAt + k) (oneMore (rowsOf ws k)))
+    cond (ltb (rowsGiven ws k) (ceilingOf k))
+    (set (putWords (widthOf k) ws (listRowAt k (rowsGiven ws k)) row 0) (rowsAt + k) (oneMoreWord (rowsGiven ws k)))
+    (set ws (rowsAt + k) (oneMoreWord (rowsGiven ws k)))
 
 -- the number after a number, where numbers rise
 unfoldable pub nextNumber : Bool → ℕ → ℕ
-nextNumber rising n = cond rising (oneMore n) n
+nextNumber rising n = cond rising (oneMoreWord n) n
 
 -- n more rows of list k, all as a row but for the second word, which is b in the first of them
 unfoldable pub appendTimes : ℕ → List ℕ → ℕ → Bool → List ℕ → ℕ → List ℕ
@@ -82,8 +82,8 @@ begun ws =
 unfoldable pub bareTaken : List ℕ → Tokens → Taken
 bareTaken ws t =
     cond (eqb (t .count) 1)
-    (cond (eqb (rowsOf ws sortList) 6)
-    (cond (eqb (rowsOf ws entryList) 0) (taken (set (zeros 0 24 ws) rowsAt 0) Heard.Quiet) (badLine ws Form.Bare))
+    (cond (eqb (rowsGiven ws sortList) 6)
+    (cond (eqb (rowsGiven ws entryList) 0) (taken (set (zeros 0 24 ws) rowsAt 0) Heard.Quiet) (badLine ws Form.Bare))
     (badLine ws Form.Bare))
     (badLine ws Form.Bare)
 
@@ -93,7 +93,7 @@ planTaken ws t p = cond (p .good) (taken (carried ws t p) Heard.Quiet) (badLine 
 -- ? solve, or another question
 unfoldable pub questionTaken : List ℕ → Tokens → Taken
 questionTaken ws t =
-    cond (fits t (form kAsk kSolve 0 0 0 0 0)) (taken (set ws stageAt askedStage) Heard.Asks)
+    cond (fitsForm t (form kAsk kSolve 0 0 0 0 0)) (taken (set ws stageAt askedStage) Heard.Asks)
     (cond (asksOther t) (taken (set ws stageAt askedStage) Heard.AsksOther) (badLine ws Form.Asks))
 
 -- "After a question only answers, more questions, comments and the next `list` may follow."
@@ -135,4 +135,4 @@ byStart Start.Other ws line = otherTaken ws line
 
 -- The words of the list after a line, without its LF, and what came of it.
 unfoldable pub lineTaken : List ℕ → List ℕ → Taken
-lineTaken ws line = byStart (startOf line) ws line
+lineTaken ws line = byStart (lineStart line) ws line

@@ -54,7 +54,7 @@ use words::word;
 ghost use mathlib.Core.Path.{_≡_};
 ghost use Prim.Native.Nat.{_≤_, _+_, _-_};
 ghost use Rattle.list_memory.specs.Memory.{taken, listStart, widthOf, ceilingOf, listRowAt};
-ghost use Rattle.list_reader.specs.Taking.{mostPlace, putWords, oneMore, appended, nextNumber, appendTimes};
+ghost use Rattle.list_reader.specs.Taking.{mostPlace, putWords, oneMoreWord, appended, nextNumber, appendTimes};
 ghost use Rattle.list_reader.specs.Taking.{appendRun};
 ghost use Rattle.list_reader.specs.Taking.{carried, badLine, begun, bareTaken, planTaken, questionTaken};
 ghost use Rattle.list_reader.specs.Taking.{wordsTaken, otherTaken, answerTaken, listTaken, lineTaken};
@@ -130,7 +130,7 @@ fn put_words(list: &mut [u16; LIST_WORDS], at: usize, row: [u16; 5], width: u16)
 }
 
 fn one_more(n: u16) -> u16
-    ensures { λ r. ⌜ r ≡ oneMore n ⌝ }
+    ensures { λ r. ⌜ r ≡ oneMoreWord n ⌝ }
 {
     if n < MOST_ROWS {
         return n + 1;

@@ -5,13 +5,13 @@ use Prim.Native.Nat.{ℕ}
 use Rattle.inference.specs.declared.Solved.{Solved}
 use Rattle.inference.specs.SolveEntry.{solveEntry}
 use Rattle.solve_checks.specs.declared.Given.{Given}
-use Rattle.solve_outputs.specs.Finish.{leftOf}
+use Rattle.solve_outputs.specs.Finish.{solveLeft}
 use Rattle.list_call.specs.Lists.{givenIn, nodesIn, bindsIn, scratchIn, callBy, callOn}
-use Rattle.list_solve.specs.Asked.{asked, askedOf}
+use Rattle.list_solve.specs.Asked.{listAnswer, listAnswerOf}
 
 pub asked-alone :
     (ws ss ns bs xs ts ms cs : List ℕ) (g : Given) → g ≡ givenIn ws → ns ≡ nodesIn ws → bs ≡ bindsIn ws → xs ≡ scratchIn ws
-    → (r : Solved) (ss′ ns′ bs′ xs′ ts′ ms′ cs′ : List ℕ) → leftOf r ss′ ns′ bs′ xs′ ts′ ms′ cs′ ≡ solveEntry (callBy ws g ss ns bs xs ts ms cs)
-    → asked r ss′ ts′ ms′ cs′ ≡ askedOf (solveEntry (callOn ws ss ts ms cs))
+    → (r : Solved) (ss′ ns′ bs′ xs′ ts′ ms′ cs′ : List ℕ) → solveLeft r ss′ ns′ bs′ xs′ ts′ ms′ cs′ ≡ solveEntry (callBy ws g ss ns bs xs ts ms cs)
+    → listAnswer r ss′ ts′ ms′ cs′ ≡ listAnswerOf (solveEntry (callOn ws ss ts ms cs))
 asked-alone ws ss ns bs xs ts ms cs g eg en eb ex r ss′ ns′ bs′ xs′ ts′ ms′ cs′ e =
-    ap askedOf (e ∙ (λ i. solveEntry (callBy ws (eg i) ss (en i) (eb i) (ex i) ts ms cs)))
+    ap listAnswerOf (e ∙ (λ i. solveEntry (callBy ws (eg i) ss (en i) (eb i) (ex i) ts ms cs)))

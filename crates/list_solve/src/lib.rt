@@ -18,7 +18,7 @@ ghost use lib.ListN.{length};
 ghost use Rattle.inference.specs.SolveEntry.{solveEntry};
 ghost use Rattle.list_memory.specs.Memory.{rowsAt};
 ghost use Rattle.list_call.specs.Lists.{callOn};
-ghost use Rattle.list_solve.specs.Asked.{asked, askedOf};
+ghost use Rattle.list_solve.specs.Asked.{listAnswer, listAnswerOf};
 
 // The solver asked about a list, with nodes, bindings and scratch of its own.
 pub fn ask(
@@ -30,8 +30,8 @@ pub fn ask(
 ) -> Solved
     requires { ⌜ rowsAt ≤ length (now list) ⌝ }
     ensures { λ r. ⌜
-        asked r (now (sorts .exit)) (now (typing .exit)) (now (measure .exit)) (now (choices .exit))
-        ≡ askedOf
+        listAnswer r (now (sorts .exit)) (now (typing .exit)) (now (measure .exit)) (now (choices .exit))
+        ≡ listAnswerOf
         (solveEntry (callOn (now (list .entry)) (now (sorts .entry)) (now (typing .entry)) (now (measure .entry))
         (now (choices .entry))))
         ⌝ }

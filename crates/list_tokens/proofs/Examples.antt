@@ -10,7 +10,7 @@ use Rattle.list_tokens.specs.declared.Start.{Start}
 use Rattle.list_tokens.specs.declared.Start.the-variants.{Skipped, Answer, NewList, Other}
 use Rattle.list_tokens.specs.Words.{words, placeIn, keywordOf}
 use Rattle.text_out.specs.Quoted.{bytesOf}
-use Rattle.list_tokens.specs.Tokens.{decimal, numberOf, classOf, nameOf, tokenOf, tokensFrom, startOf}
+use Rattle.list_tokens.specs.Tokens.{decimalRead, numberRead, classOf, nameToken, tokenOf, tokensFrom, lineStart}
 
 -- the words of a text, six at most
 wordsOf : String → List ℕ
@@ -38,11 +38,11 @@ tokens-of-lines :
     ∷ []
     ∷ []
     ∷ []
-unfolding wordsOf bytesOf words placeIn keywordOf decimal numberOf classOf nameOf tokenOf tokensFrom sameBytes run past skip
+unfolding wordsOf bytesOf words placeIn keywordOf decimalRead numberRead classOf nameToken tokenOf tokensFrom sameBytes run past skip
 tokens-of-lines = refl
 
 starts-of-lines :
-    map (λ (text : String). startOf (bytesOf text)) ("" ∷ "  " ∷ " # sort" ∷ "list" ∷ " list a set" ∷ "lists" ∷ "= 0" ∷ "=0" ∷ "sub n0 n1" ∷ [])
+    map (λ (text : String). lineStart (bytesOf text)) ("" ∷ "  " ∷ " # sort" ∷ "list" ∷ " list a set" ∷ "lists" ∷ "= 0" ∷ "=0" ∷ "sub n0 n1" ∷ [])
     ≡ Skipped ∷ Skipped ∷ Skipped ∷ NewList ∷ NewList ∷ Other ∷ Answer ∷ Other ∷ Other ∷ []
-unfolding bytesOf words placeIn keywordOf decimal numberOf classOf nameOf tokenOf startOf sameBytes run past skip
+unfolding bytesOf words placeIn keywordOf decimalRead numberRead classOf nameToken tokenOf lineStart sameBytes run past skip
 starts-of-lines = refl

@@ -15,66 +15,66 @@ use Rattle.list_tokens.specs.Words.{kList, kAnswer, kUnit, keywordOf}
 
 -- Below 65,536 a token is a word by its place in the list of words, 0 where it is not there. Above, a class and a
 -- number: N, sN, nN, vN, eN, and one of the fixed six.
-abbrev pub number : ℕ
-number = 65536
+abbrev pub numberClass : ℕ
+numberClass = 65536
 
-abbrev pub sortName : ℕ
-sortName = 131072
+abbrev pub sortClass : ℕ
+sortClass = 131072
 
-abbrev pub nodeName : ℕ
-nodeName = 196608
+abbrev pub nodeClass : ℕ
+nodeClass = 196608
 
-abbrev pub varName : ℕ
-varName = 262144
+abbrev pub varClass : ℕ
+varClass = 262144
 
-abbrev pub exprName : ℕ
-exprName = 327680
+abbrev pub exprClass : ℕ
+exprClass = 327680
 
-abbrev pub fixedSort : ℕ
-fixedSort = 393216
+abbrev pub fixedClass : ℕ
+fixedClass = 393216
 
--- classes are at most so high, numbers are up to mostNumber, and `none` stands for no number
+-- classes are at most so high, numbers are up to mostNumber, and `noNumber` stands for no number
 abbrev pub mostClass : ℕ
 mostClass = 1048576
 
 abbrev pub mostNumber : ℕ
 mostNumber = 65535
 
-abbrev pub none : ℕ
-none = 65536
+abbrev pub noNumber : ℕ
+noNumber = 65536
 
 -- decimal digits after those of v, up to 65,535
-unfoldable pub decimal : ℕ → List ℕ → ℕ
-decimal v [] = v
-decimal v (b ∷ bs) =
-    cond (ltb b (byteOf "0")) none
-    (cond (ltb (byteOf "9") b) none
-    (cond (ltb mostNumber (v * 10 + (b - byteOf "0"))) none (decimal (v * 10 + (b - byteOf "0")) bs)))
+unfoldable pub decimalRead : ℕ → List ℕ → ℕ
+decimalRead v [] = v
+decimalRead v (b ∷ bs) =
+    cond (ltb b (byteOf "0")) noNumber
+    (cond (ltb (byteOf "9") b) noNumber
+    (cond (ltb mostNumber (v * 10 + (b - byteOf "0"))) noNumber (decimalRead (v * 10 + (b - byteOf "0")) bs)))
 
 -- at least one digit, and no zero before another one
-unfoldable pub numberOf : List ℕ → ℕ
-numberOf w =
-    cond (eqb (length w) 0) none
-    (cond (leb (length w) 1) (decimal 0 w)
-    (cond (eqb (getD w 0 0) (byteOf "0")) none (decimal 0 w)))
+unfoldable pub numberRead : List ℕ → ℕ
+numberRead w =
+    cond (eqb (length w) 0) noNumber
+    (cond (leb (length w) 1) (decimalRead 0 w)
+    (cond (eqb (getD w 0 0) (byteOf "0")) noNumber (decimalRead 0 w)))
 
 -- a number of a class
 unfoldable pub classOf : ℕ → ℕ → ℕ
-classOf class n = cond (ltb n none) (class + n) 0
+classOf class n = cond (ltb n noNumber) (class + n) 0
 
 -- a number, or a letter and a number: s, n, v, e
-unfoldable pub nameOf : List ℕ → ℕ
-nameOf w =
+unfoldable pub nameToken : List ℕ → ℕ
+nameToken w =
     cond (eqb (length w) 0) 0
-    (cond (eqb (getD w 0 0) (byteOf "s")) (classOf sortName (numberOf (drop 1 w)))
-    (cond (eqb (getD w 0 0) (byteOf "n")) (classOf nodeName (numberOf (drop 1 w)))
-    (cond (eqb (getD w 0 0) (byteOf "v")) (classOf varName (numberOf (drop 1 w)))
-    (cond (eqb (getD w 0 0) (byteOf "e")) (classOf exprName (numberOf (drop 1 w)))
-    (classOf number (numberOf w))))))
+    (cond (eqb (getD w 0 0) (byteOf "s")) (classOf sortClass (numberRead (drop 1 w)))
+    (cond (eqb (getD w 0 0) (byteOf "n")) (classOf nodeClass (numberRead (drop 1 w)))
+    (cond (eqb (getD w 0 0) (byteOf "v")) (classOf varClass (numberRead (drop 1 w)))
+    (cond (eqb (getD w 0 0) (byteOf "e")) (classOf exprClass (numberRead (drop 1 w)))
+    (classOf numberClass (numberRead w))))))
 
 -- the number of a word
 abbrev pub tokenBy : ℕ → List ℕ → ℕ
-tokenBy k w = cond (eqb k 0) (nameOf w) (cond (ltb k kUnit) k (fixedSort + (k - kUnit)))
+tokenBy k w = cond (eqb k 0) (nameToken w) (cond (ltb k kUnit) k (fixedClass + (k - kUnit)))
 
 unfoldable pub tokenOf : List ℕ → ℕ
 tokenOf w = tokenBy (keywordOf w) w
@@ -83,14 +83,14 @@ tokenOf w = tokenBy (keywordOf w) w
 abbrev pub inWord : ℕ → Bool
 inWord b = not (eqb b (byteOf " "))
 
-abbrev pub read : List ℕ → ℕ → Tokens
-read values k = record { values = values; count = k }
+abbrev pub tokensRead : List ℕ → ℕ → Tokens
+tokensRead values k = record { values = values; count = k }
 
 -- the words of bytes, after the k before them; m more at most
 unfoldable pub tokensFrom : ℕ → List ℕ → List ℕ → ℕ → Tokens
-tokensFrom zero bs values k = read values k
+tokensFrom zero bs values k = tokensRead values k
 tokensFrom (suc m) bs values k =
-    cond (eqb (length (skip bs)) 0) (read values k)
+    cond (eqb (length (skip bs)) 0) (tokensRead values k)
     (tokensFrom m (past inWord (skip bs)) (set values k (tokenOf (run inWord (skip bs)))) (k + 1))
 
 -- the words of a line, of which a line of at most maxLine bytes has at most mostWords
@@ -110,7 +110,7 @@ abbrev pub startBy : ℕ → Start
 startBy t = cond (eqb t kAnswer) Answer (cond (eqb t kList) NewList Other)
 
 -- "A line without words, or whose first byte after spaces is `#`, is skipped."
-unfoldable pub startOf : List ℕ → Start
-startOf line =
+unfoldable pub lineStart : List ℕ → Start
+lineStart line =
     cond (eqb (length (skip line)) 0) Skipped
     (cond (eqb (getD (skip line) 0 0) (byteOf "#")) Skipped (startBy (tokenOf (run inWord (skip line)))))

@@ -9,11 +9,11 @@ ghost use mathlib.Core.List.{[]};
 ghost use lib.ListN.{drop, getD};
 ghost use Rattle.sort_text.specs.Parse.{sameBytes};
 ghost use Rattle.sort_text.specs.Tokens.{past};
-ghost use Rattle.sort_lexer.specs.Lexeme.{place};
+ghost use Rattle.sort_lexer.specs.Lexeme.{offset};
 ghost use Rattle.list_tokens.specs.Words.{words, keywordOf};
-ghost use Rattle.list_tokens.specs.Tokens.{mostClass, decimal, numberOf, classOf, nameOf, tokenOf, inWord};
+ghost use Rattle.list_tokens.specs.Tokens.{mostClass, decimalRead, numberRead, classOf, nameToken, tokenOf, inWord};
 ghost use Rattle.list_tokens.specs.Tokens.{tokensOf};
-ghost use Rattle.list_tokens.specs.Tokens.{printableFrom, startOf};
+ghost use Rattle.list_tokens.specs.Tokens.{printableFrom, lineStart};
 
 // The words of a line, each as a number, and how many there are.
 pub struct Tokens {
@@ -148,7 +148,7 @@ fn wide(d: u8) -> u32
 
 // The number that digits say, up to 65,535; else 65,536.
 fn digits_of(w: &[u8]) -> u32
-    ensures { λ r. ⌜ r ≡ decimal 0 (now (w .entry)) ⌝ }
+    ensures { λ r. ⌜ r ≡ decimalRead 0 (now (w .entry)) ⌝ }
 {
     let mut i: usize = 0;
     let mut value: u32 = 0;
@@ -172,7 +172,7 @@ fn digits_of(w: &[u8]) -> u32
 
 // The number that a word says: at least one digit, and no zero before another one.
 fn number_of(w: &[u8]) -> u32
-    ensures { λ r. ⌜ r ≡ numberOf (now (w .entry)) ⌝ }
+    ensures { λ r. ⌜ r ≡ numberRead (now (w .entry)) ⌝ }
 {
     if w.len() == 0 {
         return NO_NUMBER;
@@ -196,7 +196,7 @@ fn classed(class: u32, n: u32) -> u32
 
 // The number of a name: `sN`, `nN`, `vN`, `eN` or a number alone.
 fn name_of(w: &[u8]) -> u32
-    ensures { λ r. ⌜ r ≡ nameOf (now (w .entry)) ⌝ }
+    ensures { λ r. ⌜ r ≡ nameToken (now (w .entry)) ⌝ }
 {
     if w.len() == 0 {
         return 0;
@@ -233,7 +233,7 @@ fn token_of(w: &[u8]) -> u32
 
 // The end of the word from `at` on.
 fn word_end(line: &[u8], at: usize) -> usize
-    ensures { λ r. ⌜ r ≡ place (now (line .entry)) (past inWord (drop at (now (line .entry)))) ⌝ }
+    ensures { λ r. ⌜ r ≡ offset (now (line .entry)) (past inWord (drop at (now (line .entry)))) ⌝ }
 {
     let mut i = at;
     while i < line.len() {
@@ -291,7 +291,7 @@ pub fn printable(line: &[u8]) -> bool
 
 // What a line begins with.
 pub fn start_of(line: &[u8]) -> Start
-    ensures { λ r. ⌜ r ≡ startOf (now (line .entry)) ⌝ }
+    ensures { λ r. ⌜ r ≡ lineStart (now (line .entry)) ⌝ }
 {
     let from = skip_spaces(line, 0);
     if line.len() <= from {

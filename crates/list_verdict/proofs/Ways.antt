@@ -16,15 +16,15 @@ use Rattle.resolved_sort.specs.Storage.{kindAt, partAt, startAt, countAt, trees
 use Rattle.resolved_sort.specs.Entries.{treeAt}
 use Rattle.resolved_sort.proofs.Interned.{Listed}
 use Rattle.resolved_sort.proofs.Trees.{length-trees}
-use Rattle.sort_text.specs.Text.{writable, text, arrow}
-use Rattle.sort_writer.specs.Sizes.{most, capped, sizeIf, sized, sizesTo}
+use Rattle.sort_text.specs.Text.{writable, text, arrowText}
+use Rattle.sort_writer.specs.Sizes.{mostSize, capped, sizeIf, sized, sizesTo}
 use Rattle.sort_writer.specs.Puts.{SortRoom}
 use Rattle.text_out.specs.Put.{Put}
 use Rattle.sort_writer.proofs.Sizes.{capped-short, capped-long, text-some}
 use Rattle.sort_writer.proofs.Fills.{sizes-right}
 use Rattle.text_out.specs.Within.{puts, PutWithin}
-use Rattle.list_verdict.specs.Words.{kindWords, kindWord, messages, message, variableText, builtinText, opText, noneText}
-use Rattle.list_verdict.specs.Text.{rowsText, name, sortName, short, sortText, targetText, comma, choice, choiceList, argument, parts}
+use Rattle.list_verdict.specs.Words.{kindWords, kindWord, verdictMessages, message, variableText, builtinText, opText, noChoicesText}
+use Rattle.list_verdict.specs.Text.{rowsText, name, sortName, short, sortText, targetText, separator, choice, choiceList, argumentText, parts}
 use Rattle.text_out.specs.Decimal.{decimal}
 use Rattle.list_verdict.specs.Room.{SizesOf}
 use Rattle.text_out.proofs.Within.{put-as, put-none}
@@ -47,7 +47,7 @@ unfolding message
 no-message code h a b c d e = go (decLe 19 code)
   where
     go : Dec (19 ≤ code) → [] ≡ message code
-    go (yes l) = sym (List·getD-eq-default messages [] l)
+    go (yes l) = sym (List·getD-eq-default verdictMessages [] l)
     go (no l) = let z : code ≡ 13 = omega arith in rw z
 
 -- names of sorts, and commas
@@ -59,15 +59,15 @@ pub plain-name : (s : ℕ) → 6 ≤ s → name 115 s ≡ sortName s
 unfolding sortName
 plain-name s h = rw (le-ltb s 6 h)
 
-pub no-comma : (i : ℕ) → i ≡ 0 → [] ≡ comma i
-unfolding comma
+pub no-comma : (i : ℕ) → i ≡ 0 → [] ≡ separator i
+unfolding separator
 no-comma i h = rw (eq-eqb i 0 h)
 
-pub a-comma : (i : ℕ) → (i ≡ 0 → ⊥) → 44 ∷ 32 ∷ [] ≡ comma i
-unfolding comma
+pub a-comma : (i : ℕ) → (i ≡ 0 → ⊥) → 44 ∷ 32 ∷ [] ≡ separator i
+unfolding separator
 a-comma i h = rw (ne-eqb i 0 h)
 
-pub no-choices : (cs : List ℕ) (m : ℕ) → m ≡ 0 → noneText ≡ choiceList cs m
+pub no-choices : (cs : List ℕ) (m : ℕ) → m ≡ 0 → noChoicesText ≡ choiceList cs m
 unfolding choiceList
 no-choices cs m h = rw (eq-eqb m 0 h)
 
@@ -110,14 +110,14 @@ module _ (ws : List ℕ) (i k p : ℕ) (ek : k ≡ kindAt ws i) (ep : p ≡ part
         rw (le-ltb (kindAt ws i) 6 y, lt-ltb (kindAt ws i) 11 z) (ap (λ (x : ℕ). 32 ∷ sortName x) ep)
 
     module _ (b : 11 ≤ k) where
-      pub arguments-and-range : k ≡ 11 → (s c : ℕ) → s ≡ startAt ws i → c ≡ countAt ws i → rowsText (argument ws) c s ++ (arrow ++ sortName p) ≡ parts ws i
+      pub arguments-and-range : k ≡ 11 → (s c : ℕ) → s ≡ startAt ws i → c ≡ countAt ws i → rowsText (argumentText ws) c s ++ (arrowText ++ sortName p) ≡ parts ws i
       unfolding parts
       arguments-and-range h s c es ec =
           let x : 6 ≤ kindAt ws i = omega arith in
           let y : 11 ≤ kindAt ws i = omega arith in
           let z : kindAt ws i ≡ 11 = sym ek ∙ h in
           rw (le-ltb (kindAt ws i) 6 x, le-ltb (kindAt ws i) 11 y, eq-eqb (kindAt ws i) 11 z)
-          (λ j. rowsText (argument ws) (ec j) (es j) ++ (arrow ++ sortName (ep j)))
+          (λ j. rowsText (argumentText ws) (ec j) (es j) ++ (arrowText ++ sortName (ep j)))
 
       pub a-number : (k ≡ 11 → ⊥) → 32 ∷ decimal p ≡ parts ws i
       unfolding parts
@@ -147,9 +147,9 @@ size-long false l e = refl
 
 size-short : (b : Bool) (l : ℕ) → (sizeIf b l ≡ 0 → ⊥) → sizeIf b l ≤ 200 → ((b && leb l 200) ≡ true) × (l ≤ 200)
 unfolding sizeIf
-size-short true l z e = go (decLe l most)
+size-short true l z e = go (decLe l mostSize)
   where
-    go : Dec (l ≤ most) → (leb l 200 ≡ true) × (l ≤ 200)
+    go : Dec (l ≤ mostSize) → (leb l 200 ≡ true) × (l ≤ 200)
     go (yes d) = (le-leb l 200 (omega (arith, capped-short l d, e)), omega (arith, capped-short l d, e))
     go (no d) = absurd (omega (arith, capped-long l (omega arith), e))
 size-short false l z e = absurd (z refl)

@@ -7,9 +7,9 @@ use lib.ListN.{length, getD}
 use Rattle.resolved_sort.specs.Tree.{Tree}
 use Rattle.resolved_sort.specs.Storage.{kindAt, partAt, startAt, countAt, entryAt, functionKind}
 use Rattle.resolved_sort.specs.Entries.{treeAt}
-use Rattle.sort_text.specs.Text.{writable, text, arrow}
+use Rattle.sort_text.specs.Text.{writable, text, arrowText}
 use Rattle.list_verdict.specs.Words.{kindWord, message, variableText, builtinText, opText, measureText}
-use Rattle.list_verdict.specs.Words.{choicesText, noneText, newText}
+use Rattle.list_verdict.specs.Words.{choicesText, noChoicesText, newText}
 use Rattle.sort_text.specs.Reading.{maxLine}
 use Rattle.text_out.specs.Quoted.{byteOf, bytesOf}
 use Rattle.text_out.specs.Decimal.{decimal}
@@ -54,36 +54,36 @@ module _ (ws : List ℕ) (n : ℕ) where
       ++ (targetText (getD ts (3 * i + 1) 0) (getD ts (3 * i + 2) 0) ++ bytesOf "\n")))
 
 -- a comma and a space before all but the first
-unfoldable pub comma : ℕ → List ℕ
-comma i = cond (eqb i 0) [] (bytesOf ", ")
+unfoldable pub separator : ℕ → List ℕ
+separator i = cond (eqb i 0) [] (bytesOf ", ")
 
 -- `measure [1, 0]`
 unfoldable pub component : List ℕ → ℕ → List ℕ
-component ms i = comma i ++ decimal (getD ms i 0)
+component ms i = separator i ++ decimal (getD ms i 0)
 
 unfoldable pub measureLine : List ℕ → ℕ → List ℕ
 measureLine ms m = measureText ++ (rowsText (component ms) m 0 ++ bytesOf "]\n")
 
 -- `choices e1 0, e4 2`, `choices none`
 unfoldable pub choice : List ℕ → ℕ → List ℕ
-choice cs i = comma i ++ (name (byteOf "e") (getD cs (2 * i) 0) ++ (bytesOf " " ++ decimal (getD cs (2 * i + 1) 0)))
+choice cs i = separator i ++ (name (byteOf "e") (getD cs (2 * i) 0) ++ (bytesOf " " ++ decimal (getD cs (2 * i + 1) 0)))
 
 unfoldable pub choiceList : List ℕ → ℕ → List ℕ
-choiceList cs m = cond (eqb m 0) noneText (rowsText (choice cs) m 0)
+choiceList cs m = cond (eqb m 0) noChoicesText (rowsText (choice cs) m 0)
 
 unfoldable pub choicesLine : List ℕ → ℕ → List ℕ
 choicesLine cs m = choicesText ++ (choiceList cs m ++ bytesOf "\n")
 
 -- the row of a sort in the words of a `sort` line: `Set Pos`, `fn Bool s6 -> Nat`, `Def 5`
-unfoldable pub argument : List ℕ → ℕ → List ℕ
-argument ws j = bytesOf " " ++ sortName (entryAt ws j)
+unfoldable pub argumentText : List ℕ → ℕ → List ℕ
+argumentText ws j = bytesOf " " ++ sortName (entryAt ws j)
 
 unfoldable pub parts : List ℕ → ℕ → List ℕ
 parts ws i =
     cond (ltb (kindAt ws i) 6) []
     (cond (ltb (kindAt ws i) functionKind) (bytesOf " " ++ sortName (partAt ws i))
     (cond (eqb (kindAt ws i) functionKind)
-    (rowsText (argument ws) (countAt ws i) (startAt ws i) ++ (arrow ++ sortName (partAt ws i)))
+    (rowsText (argumentText ws) (countAt ws i) (startAt ws i) ++ (arrowText ++ sortName (partAt ws i)))
     (bytesOf " " ++ decimal (partAt ws i))))
 
 -- `new s6 Set Pos`

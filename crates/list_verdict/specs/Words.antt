@@ -16,8 +16,8 @@ unfoldable pub kindWord : ℕ → List ℕ
 kindWord kind = getD kindWords kind (bytesOf "TypeVar")
 
 -- What document 01's verdict codes say, shortened, from 0 on; 13 is not one of the solver's.
-abbrev pub messages : List (List ℕ)
-messages =
+abbrev pub verdictMessages : List (List ℕ)
+verdictMessages =
     bytesOf "a typing"
     ∷ bytesOf "a list is above its ceiling or longer than what is lent for it"
     ∷ bytesOf "the first six sorts are not unit, Bool, Pos, Nat, Int, Real"
@@ -41,7 +41,7 @@ messages =
     ∷ []
 
 unfoldable pub message : ℕ → List ℕ
-message code = getD messages code []
+message code = getD verdictMessages code []
 
 -- what a name resolved to
 abbrev pub variableText : List ℕ
@@ -60,8 +60,8 @@ measureText = bytesOf "measure ["
 abbrev pub choicesText : List ℕ
 choicesText = bytesOf "choices "
 
-abbrev pub noneText : List ℕ
-noneText = bytesOf "none"
+abbrev pub noChoicesText : List ℕ
+noChoicesText = bytesOf "none"
 
 abbrev pub newText : List ℕ
 newText = bytesOf "new "

@@ -18,8 +18,8 @@ ghost use Prim.Native.Nat.{_+_, _*_, _<_, _≤_};
 ghost use Rattle.resolved_sort.specs.Rows.{Checked};
 ghost use Rattle.text_out.specs.Within.{PutWithin};
 ghost use Rattle.list_verdict.specs.Words.{kindWord, message};
-ghost use Rattle.list_verdict.specs.Text.{rowsText, name, sortName, sortText, targetText, exprLine, comma};
-ghost use Rattle.list_verdict.specs.Text.{component, measureLine, choice, choiceList, choicesLine, argument};
+ghost use Rattle.list_verdict.specs.Text.{rowsText, name, sortName, sortText, targetText, exprLine, separator};
+ghost use Rattle.list_verdict.specs.Text.{component, measureLine, choice, choiceList, choicesLine, argumentText};
 ghost use Rattle.list_verdict.specs.Text.{parts, newLine, verdictLine, newLines, typingText};
 ghost use Rattle.list_verdict.specs.Room.{SizesOf};
 
@@ -175,7 +175,7 @@ fn put_sort_name(s: u16, out: &mut [u8], at: usize) -> usize
 
 // A comma and a space before all but the first.
 fn put_comma(i: u16, out: &mut [u8], at: usize) -> usize
-    ensures { λ r. ⌜ PutWithin (now (out .entry)) at (comma i) (now (out .exit)) r ⌝ }
+    ensures { λ r. ⌜ PutWithin (now (out .entry)) at (separator i) (now (out .exit)) r ⌝ }
 {
     if i == 0 {
         return at;
@@ -189,14 +189,14 @@ fn put_components(measure: &[u16], count: u16, out: &mut [u8], at: usize) -> usi
         PutWithin (now (out .entry)) at (rowsText (component (now (measure .entry))) count 0) (now (out .exit)) r
         ⌝ }
 {
-    let mut place = at;
+    let mut cursor = at;
     let mut i: u16 = 0;
     while i < count {
-        let after = put_comma(i, out, place);
-        place = put_number(word(measure, i as usize), out, after);
+        let after = put_comma(i, out, cursor);
+        cursor = put_number(word(measure, i as usize), out, after);
         i += 1;
     }
-    place
+    cursor
 }
 
 // The line of a measure.
@@ -225,13 +225,13 @@ fn put_choice_rows(choices: &[u16], count: u16, out: &mut [u8], at: usize) -> us
         PutWithin (now (out .entry)) at (rowsText (choice (now (choices .entry))) count 0) (now (out .exit)) r
         ⌝ }
 {
-    let mut place = at;
+    let mut cursor = at;
     let mut i: u16 = 0;
     while i < count {
-        place = put_choice(choices, i, out, place);
+        cursor = put_choice(choices, i, out, cursor);
         i += 1;
     }
-    place
+    cursor
 }
 
 // The chosen overloads, or that there are none.
@@ -256,18 +256,18 @@ fn put_choices(choices: &[u16], count: u16, out: &mut [u8], at: usize) -> usize
 // The arguments of a function, a space before each.
 fn put_arguments(sorts: &[u16], start: u16, count: u16, out: &mut [u8], at: usize) -> usize
     ensures { λ r. ⌜
-        PutWithin (now (out .entry)) at (rowsText (argument (now (sorts .entry))) count start) (now (out .exit)) r
+        PutWithin (now (out .entry)) at (rowsText (argumentText (now (sorts .entry))) count start) (now (out .exit)) r
         ⌝ }
 {
-    let mut place = at;
+    let mut cursor = at;
     let mut i: usize = start as usize;
     let end = (start as usize) + (count as usize);
     while i < end {
-        let after = put_byte(b' ', out, place);
-        place = put_sort_name(word(sorts, ENTRIES_AT + i), out, after);
+        let after = put_byte(b' ', out, cursor);
+        cursor = put_sort_name(word(sorts, ENTRIES_AT + i), out, after);
         i += 1;
     }
-    place
+    cursor
 }
 
 // What follows the kind in the row of a sort.
@@ -309,13 +309,13 @@ fn put_new(sorts: &[u16], i: u16, out: &mut [u8], at: usize) -> usize
 pub fn put_new_sorts(sorts: &[u16], given: u16, count: u16, out: &mut [u8], at: usize) -> usize
     ensures { λ r. ⌜ PutWithin (now (out .entry)) at (newLines (now (sorts .entry)) given count) (now (out .exit)) r ⌝ }
 {
-    let mut place = at;
+    let mut cursor = at;
     let mut i = given;
     while i < count {
-        place = put_new(sorts, i, out, place);
+        cursor = put_new(sorts, i, out, cursor);
         i += 1;
     }
-    place
+    cursor
 }
 
 // A sort in mCRL2 spelling, by way of a text of its own; its number where it has none, or one above MAX_LINE bytes.
@@ -426,13 +426,13 @@ fn put_exprs(
         (now (out .exit)) r
         ⌝ }
 {
-    let mut place = at;
+    let mut cursor = at;
     let mut i: u16 = 0;
     while i < count {
-        place = put_expr(sorts, counts, sizes, typing, i, out, place);
+        cursor = put_expr(sorts, counts, sizes, typing, i, out, cursor);
         i += 1;
     }
-    place
+    cursor
 }
 
 // The lines of a typing. The sizes of all sorts are found once.

@@ -10,7 +10,7 @@ use lib.ListN.{length, getD, length-append}
 use Rattle.resolved_sort.specs.Storage.{maxSorts}
 use Rattle.unification.specs.Term.{Shape, variable, over}
 use Rattle.unification.specs.Nodes.{isSort, nodeAt, nodeShape, Binds}
-use Rattle.unification.specs.Acyclic.{placeSettled, allSettled, shapeSettled, nodesSettled, bindingSettled, varsSettled, rounds, all, acyclic}
+use Rattle.unification.specs.Acyclic.{placeSettled, allSettled, shapeSettled, nodesSettled, bindingSettled, varsSettled, rounds, allTrue, acyclic}
 use Rattle.unification.proofs.Settles.{length-rounds, none-at-first}
 
 -- each flag of the first is one of the second
@@ -74,29 +74,29 @@ module _ (ns : List ℕ) (m : ℕ) (B : Binds) where
   round-more (suc k) = vars-more _ _ (nodes-more ns (rounds ns m B k) (rounds ns m B (suc k)) (round-more k) m) B
 
   -- flags all set, one by one
-  all-of : (xs : List Bool) → all xs ≡ true → (i : ℕ) → i < length xs → getD xs i false ≡ true
-  unfolding all
+  all-of : (xs : List Bool) → allTrue xs ≡ true → (i : ℕ) → i < length xs → getD xs i false ≡ true
+  unfolding allTrue
   all-of [] e i l = absurd (omega (arith, l))
-  all-of (x ∷ xs) e zero l = and-eq-true-iff x (all xs) .0 e .0
-  all-of (x ∷ xs) e (suc i) l = all-of xs (and-eq-true-iff x (all xs) .0 e .1) i (omega (arith, l))
+  all-of (x ∷ xs) e zero l = and-eq-true-iff x (allTrue xs) .0 e .0
+  all-of (x ∷ xs) e (suc i) l = all-of xs (and-eq-true-iff x (allTrue xs) .0 e .1) i (omega (arith, l))
 
-  of-all : (xs : List Bool) → ((i : ℕ) → i < length xs → getD xs i false ≡ true) → all xs ≡ true
-  unfolding all
+  of-all : (xs : List Bool) → ((i : ℕ) → i < length xs → getD xs i false ≡ true) → allTrue xs ≡ true
+  unfolding allTrue
   of-all [] h = refl
-  of-all (x ∷ xs) h = and-eq-true-iff x (all xs) .1 (h 0 (omega arith), of-all xs (λ i l. h (suc i) (omega (arith, l))))
+  of-all (x ∷ xs) h = and-eq-true-iff x (allTrue xs) .1 (h 0 (omega arith), of-all xs (λ i l. h (suc i) (omega (arith, l))))
 
-  still-all : (k d : ℕ) → all (rounds ns m B k) ≡ true → all (rounds ns m B (k + d)) ≡ true
-  still-all k zero e = subst (λ n. all (rounds ns m B n) ≡ true) (let q : k ≡ k + 0 = omega arith in q) e
+  still-all : (k d : ℕ) → allTrue (rounds ns m B k) ≡ true → allTrue (rounds ns m B (k + d)) ≡ true
+  still-all k zero e = subst (λ n. allTrue (rounds ns m B n) ≡ true) (let q : k ≡ k + 0 = omega arith in q) e
   still-all k (suc d) e =
-      subst (λ n. all (rounds ns m B n) ≡ true) (let q : suc (k + d) ≡ k + suc d = omega arith in q)
+      subst (λ n. allTrue (rounds ns m B n) ≡ true) (let q : suc (k + d) ≡ k + suc d = omega arith in q)
       (of-all (rounds ns m B (suc (k + d)))
       (λ i l. round-more (k + d) i (all-of (rounds ns m B (k + d)) (still-all k d e) i (omega (arith, l, length-rounds ns m B (k + d), length-rounds ns m B (suc (k + d)))))))
 
   -- all variables settled after some rounds
-  pub settled-early : (k : ℕ) → k ≤ length B → all (rounds ns m B k) ≡ true → true ≡ acyclic ns m B
+  pub settled-early : (k : ℕ) → k ≤ length B → allTrue (rounds ns m B k) ≡ true → true ≡ acyclic ns m B
   unfolding acyclic
-  settled-early k l e = sym (subst (λ n. all (rounds ns m B n) ≡ true) (let q : k + (length B - k) ≡ length B = omega (arith, l) in q) (still-all k (length B - k) e))
+  settled-early k l e = sym (subst (λ n. allTrue (rounds ns m B n) ≡ true) (let q : k + (length B - k) ≡ length B = omega (arith, l) in q) (still-all k (length B - k) e))
 
   -- the same of the flags in memory, after one round more
-  pub settled-here : (vs : List Bool) (r v : ℕ) → v ≡ length B → r < v → vs ≡ rounds ns m B (r + 1) → (b : Bool) → b ≡ all vs → b ≡ true → true ≡ acyclic ns m B
-  settled-here vs r v q l e b f g = settled-early (r + 1) (omega (arith, q, l)) (sym (ap all e) ∙ (sym f ∙ g))
+  pub settled-here : (vs : List Bool) (r v : ℕ) → v ≡ length B → r < v → vs ≡ rounds ns m B (r + 1) → (b : Bool) → b ≡ allTrue vs → b ≡ true → true ≡ acyclic ns m B
+  settled-here vs r v q l e b f g = settled-early (r + 1) (omega (arith, q, l)) (sym (ap allTrue e) ∙ (sym f ∙ g))

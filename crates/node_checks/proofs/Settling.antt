@@ -16,7 +16,7 @@ use Rattle.unification.specs.declared.SortVar.{SortVar}
 use Rattle.unification.specs.declared.InferSort.{InferSort}
 use Rattle.unification.specs.declared.InferSort.the-variants.{Generic, Function, Var}
 use Rattle.unification.specs.Nodes.{nodeEntryAt, nodeEntriesOf, nodeAt, nodeShape, freeWord, bindingOf, bindsOf}
-use Rattle.unification.specs.Acyclic.{placeSettled, allSettled, shapeSettled, nodesSettled, bindingSettled, varsSettled, rounds, all, acyclic}
+use Rattle.unification.specs.Acyclic.{placeSettled, allSettled, shapeSettled, nodesSettled, bindingSettled, varsSettled, rounds, allTrue, acyclic}
 use Rattle.unification.proofs.Settles.{var-is, length-vars, sort-settled, node-flag}
 use Rattle.unification.proofs.Passed.{length-binds}
 use Rattle.infer_nodes.proofs.Ways.{binding-word}
@@ -122,19 +122,19 @@ module _ (bs : List ℕ) (v : ℕ) (ms : List Bool) where
   all-vars fs x i e = subst (λ (j : ℕ). take j fs ≡ take j new) i e ∙ take-all v new (omega (arith, length-vars ms (bindsOf bs v), length-binds bs v))
 
 -- all flags
-pub flags-rest : (fs : List Bool) (i : ℕ) → i < length fs → all fs ≡ all (drop i fs) → all fs ≡ (getD fs i false && all (drop (i + 1) fs))
-unfolding all
-flags-rest fs i l e = e ∙ (ap all (drop-cons fs i false l) ∙ ap (λ (j : ℕ). getD fs i false && all (drop j fs)) (sym (add-one i)))
+pub flags-rest : (fs : List Bool) (i : ℕ) → i < length fs → allTrue fs ≡ allTrue (drop i fs) → allTrue fs ≡ (getD fs i false && allTrue (drop (i + 1) fs))
+unfolding allTrue
+flags-rest fs i l e = e ∙ (ap allTrue (drop-cons fs i false l) ∙ ap (λ (j : ℕ). getD fs i false && allTrue (drop j fs)) (sym (add-one i)))
 
-pub flag-open : (fs : List Bool) (i : ℕ) → i < length fs → all fs ≡ all (drop i fs) → getD fs i false ≡ false → false ≡ all fs
-flag-open fs i l e x = sym (flags-rest fs i l e ∙ ap (λ b. b && all (drop (i + 1) fs)) x)
+pub flag-open : (fs : List Bool) (i : ℕ) → i < length fs → allTrue fs ≡ allTrue (drop i fs) → getD fs i false ≡ false → false ≡ allTrue fs
+flag-open fs i l e x = sym (flags-rest fs i l e ∙ ap (λ b. b && allTrue (drop (i + 1) fs)) x)
 
-pub flag-passed : (fs : List Bool) (i : ℕ) → i < length fs → all fs ≡ all (drop i fs) → getD fs i false ≡ true → all fs ≡ all (drop (i + 1) fs)
-flag-passed fs i l e x = flags-rest fs i l e ∙ ap (λ b. b && all (drop (i + 1) fs)) x
+pub flag-passed : (fs : List Bool) (i : ℕ) → i < length fs → allTrue fs ≡ allTrue (drop i fs) → getD fs i false ≡ true → allTrue fs ≡ allTrue (drop (i + 1) fs)
+flag-passed fs i l e x = flags-rest fs i l e ∙ ap (λ b. b && allTrue (drop (i + 1) fs)) x
 
-pub flags-all : (fs : List Bool) (i : ℕ) → length fs ≤ i → all fs ≡ all (drop i fs) → true ≡ all fs
-unfolding all
-flags-all fs i l e = sym (e ∙ ap all (drop-of-length-le fs {i = i} l))
+pub flags-all : (fs : List Bool) (i : ℕ) → length fs ≤ i → allTrue fs ≡ allTrue (drop i fs) → true ≡ allTrue fs
+unfolding allTrue
+flags-all fs i l e = sym (e ∙ ap allTrue (drop-of-length-le fs {i = i} l))
 
 -- rounds
 pub no-rounds : (ns bs : List ℕ) (m v : ℕ) → v ≤ 512 → take v (replicate 512 false) ≡ rounds ns m (bindsOf bs v) 0
@@ -152,6 +152,6 @@ unfolding rounds
 one-round ns bs m v r vs fs us e f g =
     g ∙ (ap (λ ms. varsSettled ms (bindsOf bs v)) (f ∙ ap (λ ys. nodesSettled ns ys m) e) ∙ ap (rounds ns m (bindsOf bs v)) (sym (add-one r)))
 
-pub rounds-over : (ns bs : List ℕ) (m v r : ℕ) (vs : List Bool) → r ≡ v → take v vs ≡ rounds ns m (bindsOf bs v) r → (b : Bool) → b ≡ all (take v vs) → b ≡ acyclic ns m (bindsOf bs v)
+pub rounds-over : (ns bs : List ℕ) (m v r : ℕ) (vs : List Bool) → r ≡ v → take v vs ≡ rounds ns m (bindsOf bs v) r → (b : Bool) → b ≡ allTrue (take v vs) → b ≡ acyclic ns m (bindsOf bs v)
 unfolding acyclic
-rounds-over ns bs m v r vs i e b x = x ∙ (ap all e ∙ ap (λ (n : ℕ). all (rounds ns m (bindsOf bs v) n)) (i ∙ sym (length-binds bs v)))
+rounds-over ns bs m v r vs i e b x = x ∙ (ap allTrue e ∙ ap (λ (n : ℕ). allTrue (rounds ns m (bindsOf bs v) n)) (i ∙ sym (length-binds bs v)))

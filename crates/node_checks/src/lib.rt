@@ -33,7 +33,7 @@ ghost use Rattle.unification.specs.NodeChecks.{nodesWithinLent, bindingsWithinL
 ghost use Rattle.unification.specs.NodeChecks.{nodeFine, nodesFine, bindingFine, bindingsFine, nodeChecks};
 ghost use Rattle.node_checks.specs.Tests.{argPlaced};
 ghost use Rattle.unification.specs.Acyclic.{placeSettled, allSettled, shapeSettled, nodesSettled};
-ghost use Rattle.unification.specs.Acyclic.{bindingSettled, varsSettled, all, acyclic as acyclicOf};
+ghost use Rattle.unification.specs.Acyclic.{bindingSettled, varsSettled, allTrue, acyclic as acyclicOf};
 ghost use Rattle.resolved_sort.specs.Entries.{testedOf};
 
 // Check 1: m nodes and d entries are within the ceilings and within what was lent.
@@ -287,7 +287,7 @@ fn settle_vars(binds: &[u16], v: usize, flags: &[bool], vars: &mut [bool])
 
 // Whether all flags are set.
 fn all_set(flags: &[bool]) -> bool
-    ensures { λ r. ⌜ r ≡ all (now (flags .entry)) ⌝ }
+    ensures { λ r. ⌜ r ≡ allTrue (now (flags .entry)) ⌝ }
 {
     let mut i: usize = 0;
     while i < flags.len() {

@@ -52,7 +52,7 @@ pub record Feeds (memory : List ℕ) (held : Held) (bytes out : List ℕ) (left-
   pub stops : used < length bytes → length out < at + lineRoom
 
 -- All bytes are taken, unless the program ends before.
-pub record Taken (memory : List ℕ) (held : Held) (bytes : List ℕ) (left-memory : List ℕ) (left-held : Held)
+pub record BytesTaken (memory : List ℕ) (held : Held) (bytes : List ℕ) (left-memory : List ℕ) (left-held : Held)
     (more : Bool) : Type 0 where
   pub holds : Holds left-memory left-held
   pub lines : more ≡ true → linesOf left-memory left-held ≡ takeBytes (linesOf memory held) bytes .lines

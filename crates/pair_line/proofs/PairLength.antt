@@ -13,7 +13,7 @@ use Rattle.resolved_sort.specs.Tree.{Tree}
 use Rattle.resolved_sort.specs.Order.{bound, Steps, distance, materializable}
 use Rattle.sort_text.specs.Parse.{Parsed, parsed, stuck, line}
 use Rattle.sort_text.specs.Reading.{shortLine}
-use Rattle.pair_line.specs.PairProgram.{decimal, sortOrNone, stepsOrNone, yesOrNo, answer, Line, good, wrong, read, lineOf, withFirst, withSecond, single, pair}
+use Rattle.pair_line.specs.PairProgram.{smallDecimal, sortOrNone, stepsOrNone, yesOrNo, answer, Line, good, wrong, read, lineOf, withFirst, withSecond, single, pair}
 use Rattle.sort_text.proofs.Suffix.{suffix-length, left, line-suffix}
 use Rattle.sort_text.proofs.Length.{wide, text-length, bound-wide, line-wide}
 
@@ -22,8 +22,8 @@ decimal-by true b n = omega arith
 decimal-by false true n = omega arith
 decimal-by false false n = omega arith
 
-pub decimal-length : (n : ℕ) → length (decimal n) ≤ 3
-unfolding decimal
+pub decimal-length : (n : ℕ) → length (smallDecimal n) ≤ 3
+unfolding smallDecimal
 decimal-length n = decimal-by (ltb n 10) (ltb n 100) n
 
 steps-length : (d : Option Steps) → length (stepsOrNone d) ≤ 7

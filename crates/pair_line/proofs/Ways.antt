@@ -17,7 +17,7 @@ use Rattle.sort_text.specs.declared.Written.the-variants.{Refused, Text}
 use Rattle.sort_text.specs.Parse.{Parsed, parsed, stuck, line}
 use Rattle.sort_text.specs.Reading.{readLeft, readAs}
 use Rattle.sort_text.specs.Writing.{writeLeft}
-use Rattle.pair_line.specs.PairProgram.{noneText, decimal, comma, answer, Line, good, wrong, lineOf, withFirst, withSecond, single, pair}
+use Rattle.pair_line.specs.PairProgram.{noneText, smallDecimal, comma, answer, Line, good, wrong, lineOf, withFirst, withSecond, single, pair}
 use Rattle.pair_line.proofs.PairLength.{pair-length, single-length}
 use Rattle.sort_recogniser.specs.declared.Recognised.{Recognised}
 use Rattle.sort_recogniser.specs.declared.Recognised.the-variants.{Done, Stuck}
@@ -26,21 +26,21 @@ use Rattle.text_out.specs.Put.{Put}
 use Rattle.text_out.proofs.Put.{put-then, put-as, put-length}
 use Rattle.sort_writer.proofs.Front.{put-front}
 use Rattle.pair_line.specs.Room.{lineRoom, OfLine, Begun, FirstRead, BothRead}
-use Rattle.pair_line.specs.Answers.{stepsText, withLf, lineLeft}
+use Rattle.pair_line.specs.Answers.{stepsText, withLf, outputLeft}
 use Rattle.pair_line.proofs.Lines.{line-long, line-good, line-wrong}
 use Rattle.pair_line.proofs.LineRead.{ReadSort, read-sort, no-sort}
 
 -- a number by its digits
-pub decimal-one : (n : ℕ) → n < 10 → (48 + n) ∷ [] ≡ decimal n
-unfolding decimal
+pub decimal-one : (n : ℕ) → n < 10 → (48 + n) ∷ [] ≡ smallDecimal n
+unfolding smallDecimal
 decimal-one n h = rw (lt-ltb n 10 h)
 
-pub decimal-two : (n : ℕ) → 10 ≤ n → n < 100 → (48 + n / 10) ∷ (48 + n % 10) ∷ [] ≡ decimal n
-unfolding decimal
+pub decimal-two : (n : ℕ) → 10 ≤ n → n < 100 → (48 + n / 10) ∷ (48 + n % 10) ∷ [] ≡ smallDecimal n
+unfolding smallDecimal
 decimal-two n g h = rw (le-ltb n 10 g, lt-ltb n 100 h)
 
-pub decimal-three : (n : ℕ) → 100 ≤ n → (48 + n / 100) ∷ (48 + n / 10 % 10) ∷ (48 + n % 10) ∷ [] ≡ decimal n
-unfolding decimal
+pub decimal-three : (n : ℕ) → 100 ≤ n → (48 + n / 100) ∷ (48 + n / 10 % 10) ∷ (48 + n % 10) ∷ [] ≡ smallDecimal n
+unfolding smallDecimal
 decimal-three n g = rw (le-ltb n 10 (omega (arith, g)), le-ltb n 100 g)
 
 -- a line that is no sort
@@ -139,12 +139,12 @@ module _ (bs out : List ℕ) (at : ℕ) where
     single-unread p i = single-as (wrong (50 ∷ 48 ∷ 58 ∷ drop p bs)) (wrong-by (line bs) refl p (subst (Says bs 0 (length bs) [] (line bs) steps) i f))
 
 -- the entries
-pub buffer-short : (bs out : List ℕ) → length out < lineRoom → writeLeft out (Refused 14) ≡ lineLeft bs out
-unfolding lineLeft
+pub buffer-short : (bs out : List ℕ) → length out < lineRoom → writeLeft out (Refused 14) ≡ outputLeft bs out
+unfolding outputLeft
 buffer-short bs out h = rw (lt-leb lineRoom (length out) h)
 
-pub line-left : (bs out : List ℕ) → lineRoom ≤ length out → length bs ≤ lineRoom → (left : List ℕ) (r : ℕ) → Put out 0 bs left r → writeLeft left (Text r) ≡ lineLeft bs out
-unfolding lineLeft
+pub line-left : (bs out : List ℕ) → lineRoom ≤ length out → length bs ≤ lineRoom → (left : List ℕ) (r : ℕ) → Put out 0 bs left r → writeLeft left (Text r) ≡ outputLeft bs out
+unfolding outputLeft
 line-left bs out h l left r p = rw (le-leb lineRoom (length out) h) (put-front (omega arith) p)
 
 -- the steps of a distance
@@ -157,24 +157,24 @@ module _ (steps : Widening) (out : List ℕ) (at : ℕ) (room : at + length (ste
     no-steps-put out₁ r h = put-as (ap (λ s. stepsText s ++ comma []) (sym e)) h
 
   module _ (head interior : ℕ) (e : steps ≡ Distance head interior) where
-    is-steps : decimal head ++ ((32 ∷ []) ++ (decimal interior ++ comma [])) ≡ stepsText steps ++ comma []
-    is-steps = sym (ap (λ s. stepsText s ++ comma []) e ∙ append-assoc (decimal head) (32 ∷ decimal interior) (comma []))
+    is-steps : smallDecimal head ++ ((32 ∷ []) ++ (smallDecimal interior ++ comma [])) ≡ stepsText steps ++ comma []
+    is-steps = sym (ap (λ s. stepsText s ++ comma []) e ∙ append-assoc (smallDecimal head) (32 ∷ smallDecimal interior) (comma []))
 
-    lengths : at + (length (decimal head) + (1 + (length (decimal interior) + 2))) ≤ length out
-    lengths = omega (arith, room, ap length is-steps, length-append (decimal head) ((32 ∷ []) ++ (decimal interior ++ comma [])), length-append (decimal interior) (comma []))
+    lengths : at + (length (smallDecimal head) + (1 + (length (smallDecimal interior) + 2))) ≤ length out
+    lengths = omega (arith, room, ap length is-steps, length-append (smallDecimal head) ((32 ∷ []) ++ (smallDecimal interior ++ comma [])), length-append (smallDecimal interior) (comma []))
 
-    pub head-room : at + length (decimal head) ≤ length out
+    pub head-room : at + length (smallDecimal head) ≤ length out
     head-room = omega (arith, lengths)
 
-    module _ (out₁ : List ℕ) (at₁ : ℕ) (h₁ : Put out at (decimal head) out₁ at₁) where
+    module _ (out₁ : List ℕ) (at₁ : ℕ) (h₁ : Put out at (smallDecimal head) out₁ at₁) where
       pub space-room : at₁ + 1 ≤ length out₁
       space-room = omega (arith, lengths, h₁ .behind, put-length h₁)
 
       module _ (out₂ : List ℕ) (at₂ : ℕ) (h₂ : Put out₁ at₁ (32 ∷ []) out₂ at₂) where
-        pub interior-room : at₂ + length (decimal interior) ≤ length out₂
+        pub interior-room : at₂ + length (smallDecimal interior) ≤ length out₂
         interior-room = omega (arith, lengths, h₁ .behind, put-length h₁, h₂ .behind, put-length h₂)
 
-        module _ (out₃ : List ℕ) (at₃ : ℕ) (h₃ : Put out₂ at₂ (decimal interior) out₃ at₃) where
+        module _ (out₃ : List ℕ) (at₃ : ℕ) (h₃ : Put out₂ at₂ (smallDecimal interior) out₃ at₃) where
           pub behind-room : at₃ + 2 ≤ length out₃
           behind-room = omega (arith, lengths, h₁ .behind, put-length h₁, h₂ .behind, put-length h₂, h₃ .behind, put-length h₃)
 

@@ -11,25 +11,25 @@ use Rattle.text_out.specs.Quoted.{bytesOf}
 use Rattle.sort_text.specs.declared.Written.{Written}
 use Rattle.sort_text.specs.declared.Written.the-variants.{Refused, Text}
 use Rattle.sort_text.specs.Writing.{WriteLeft, writeLeft}
-use Rattle.pair_line.specs.PairProgram.{noneText, decimal, Line, lineOf, pair, single}
+use Rattle.pair_line.specs.PairProgram.{noneText, smallDecimal, Line, lineOf, pair, single}
 use Rattle.pair_line.specs.Room.{lineRoom}
 
 -- `stepsOrNone` of what the code answers
 abbrev pub stepsText : Widening → List ℕ
 stepsText Nothing = noneText
-stepsText (Distance head interior) = decimal head ++ (bytesOf " " ++ decimal interior)
+stepsText (Distance head interior) = smallDecimal head ++ (bytesOf " " ++ smallDecimal interior)
 
 abbrev pub withLf : List ℕ → List ℕ
 withLf bs = bs ++ bytesOf "\n"
 
-unfoldable pub lineLeft : List ℕ → List ℕ → WriteLeft
-lineLeft bs out =
+unfoldable pub outputLeft : List ℕ → List ℕ → WriteLeft
+outputLeft bs out =
     cond (leb lineRoom (length out)) (writeLeft (bs ++ drop (length bs) out) (Text (length bs)))
     (writeLeft out (Refused 14))
 
 -- a pair, and a line alone at the end of the input
 abbrev pub pairLeft : List ℕ → List ℕ → List ℕ → WriteLeft
-pairLeft first second out = lineLeft (withLf (pair first second)) out
+pairLeft first second out = outputLeft (withLf (pair first second)) out
 
 abbrev pub singleLeft : List ℕ → List ℕ → WriteLeft
-singleLeft l out = lineLeft (withLf (single (lineOf l))) out
+singleLeft l out = outputLeft (withLf (single (lineOf l))) out

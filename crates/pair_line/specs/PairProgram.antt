@@ -23,15 +23,15 @@ unfoldable pub lines : List ℕ → List (List ℕ)
 lines [] = []
 lines (b ∷ bs) = cond (eqb b (byteOf "\n")) ([] ∷ lines bs) (onto b (lines bs))
 
-abbrev pub digit : ℕ → ℕ
-digit n = byteOf "0" + n
+abbrev pub digitByte : ℕ → ℕ
+digitByte n = byteOf "0" + n
 
 -- a number below 1,000 in decimal
-unfoldable pub decimal : ℕ → List ℕ
-decimal n =
-    cond (ltb n 10) (digit n ∷ [])
-    (cond (ltb n 100) (digit (n / 10) ∷ digit (n % 10) ∷ [])
-    (digit (n / 100) ∷ digit (n / 10 % 10) ∷ digit (n % 10) ∷ []))
+unfoldable pub smallDecimal : ℕ → List ℕ
+smallDecimal n =
+    cond (ltb n 10) (digitByte n ∷ [])
+    (cond (ltb n 100) (digitByte (n / 10) ∷ digitByte (n % 10) ∷ [])
+    (digitByte (n / 100) ∷ digitByte (n / 10 % 10) ∷ digitByte (n % 10) ∷ []))
 
 -- "order (`=`, `<`, `>`, `|`)"
 abbrev pub sign : PartialOrder → ℕ
@@ -49,7 +49,7 @@ sortOrNone (some t) = text t
 
 abbrev pub stepsOrNone : Option Steps → List ℕ
 stepsOrNone none = noneText
-stepsOrNone (some d) = decimal (d .head) ++ (bytesOf " " ++ decimal (d .interior))
+stepsOrNone (some d) = smallDecimal (d .head) ++ (bytesOf " " ++ smallDecimal (d .interior))
 
 abbrev pub yesOrNo : Bool → List ℕ
 yesOrNo true = bytesOf "yes"

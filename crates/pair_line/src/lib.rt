@@ -27,7 +27,7 @@ ghost use lib.ListN.{length, drop};
 ghost use Rattle.resolved_sort.specs.Order.{bound as boundOf};
 ghost use Rattle.resolved_sort.specs.Storage.{fullLength};
 ghost use Rattle.resolved_sort.specs.Entries.{treeAt};
-ghost use Rattle.pair_line.specs.PairProgram.{digit as digitOf, decimal, sign, sortOrNone, yesOrNo, comma};
+ghost use Rattle.pair_line.specs.PairProgram.{digitByte as digitOf, smallDecimal, sign, sortOrNone, yesOrNo, comma};
 ghost use Rattle.pair_line.specs.PairProgram.{answer, lineOf};
 ghost use Rattle.pair_line.specs.PairProgram.{withSecond, pair as pairOf, single as singleOf};
 ghost use Rattle.sort_text.specs.Writing.{writeLeft};
@@ -38,7 +38,7 @@ ghost use Rattle.pair_line.specs.Room.{lineRoom, putSix, Begun, Grows, F
 ghost use Rattle.pair_line.specs.Answers.{stepsText, withLf, pairLeft, singleLeft};
 
 // How much of the sort storage is in use, and where in the buffer the next byte goes.
-struct Place {
+struct Used {
     counts: Counts,
     at: usize,
 }
@@ -67,8 +67,8 @@ fn put_digit(digit: u8, out: &mut [u8], at: usize) -> usize
 
 // A number in decimal.
 fn put_decimal(n: u8, out: &mut [u8], at: usize) -> usize
-    requires { ⌜ at + length (decimal n) ≤ length (now out) ⌝ }
-    ensures { λ r. ⌜ Put (now (out .entry)) at (decimal n) (now (out .exit)) r ⌝ }
+    requires { ⌜ at + length (smallDecimal n) ≤ length (now out) ⌝ }
+    ensures { λ r. ⌜ Put (now (out .entry)) at (smallDecimal n) (now (out .exit)) r ⌝ }
 {
     if n < 10 {
         return put_digit(n, out, at);
@@ -104,7 +104,7 @@ fn put_bound(
     rhs: SortId,
     out: &mut [u8],
     at: usize,
-) -> Place
+) -> Used
     requires { ⌜ BoundRoom up (now sorts) (counts .sorts) (counts .entries) (lhs .0) (rhs .0) (now out) at ⌝ }
     ensures { λ r. ⌜
         Put (now (out .entry)) at
@@ -119,20 +119,20 @@ fn put_bound(
         Joined::At(id, made) => {
             let end = put_sort(sorts, made, id, out, at);
             let next = put_bytes(b", ", out, end);
-            Place {
+            Used {
                 counts: made,
                 at: next,
             }
         }
         Joined::Nothing(made) => {
             let next = put_bytes(b"none, ", out, at);
-            Place {
+            Used {
                 counts: made,
                 at: next,
             }
         }
         // cannot be: `not-full`
-        Joined::Full => Place { counts, at },
+        Joined::Full => Used { counts, at },
     }
 }
 

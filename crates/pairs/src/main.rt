@@ -15,7 +15,7 @@ use pair_input::finish;
 ghost use Prim.Native.Nat.{_≤_};
 ghost use lib.ListN.{length};
 ghost use Rattle.pair_line.specs.Room.{lineRoom};
-ghost use Rattle.pair_input.specs.Held.{Holds, Taken};
+ghost use Rattle.pair_input.specs.Held.{Holds, BytesTaken};
 
 // The lines that are held, and whether the program goes on.
 struct State {
@@ -27,7 +27,7 @@ struct State {
 fn take_bytes(memory: &mut [u8], held: Held, bytes: &[u8], out: &mut [u8]) -> State
     requires { ⌜ Holds (now memory) held × (lineRoom ≤ length (now out)) ⌝ }
     ensures { λ r. ⌜
-        Taken (now (memory .entry)) held (now (bytes .entry)) (now (memory .exit)) (r .held) (r .more)
+        BytesTaken (now (memory .entry)) held (now (bytes .entry)) (now (memory .exit)) (r .held) (r .more)
         ⌝ }
 {
     let mut current = held;

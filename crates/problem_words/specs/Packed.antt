@@ -4,7 +4,7 @@ use Prim.Native.Nat.{ℕ, _*_, _≤_}
 use lib.ListN.{length}
 use Rattle.inference.specs.Constraints.{maxExprs, maxConstraints, maxOverloads, maxSources}
 use Rattle.inference.specs.Constraints.{constraintWords, overloadWords, constraintAt, overloadAt, rowsFrom, Problem}
-use Rattle.inference.specs.SolveEntry.{wordsAt}
+use Rattle.inference.specs.SolveEntry.{wordsInUse}
 use Rattle.search_state.specs.declared.Sizes.{Sizes}
 use Rattle.search_state.specs.Memory.{problemWords}
 
@@ -13,8 +13,8 @@ problemFrom xs cs os ss z =
     record {
       constraints = rowsFrom (constraintAt cs) 0 (z .constraints);
       overloads = rowsFrom (overloadAt os) 0 (z .overloads);
-      sources = wordsAt ss (z .sources);
-      exprs = wordsAt xs (z .exprs);
+      sources = wordsInUse ss (z .sources);
+      exprs = wordsInUse xs (z .exprs);
       default = z .default .0;
     }
 

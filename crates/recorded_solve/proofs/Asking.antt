@@ -4,11 +4,11 @@ use mathlib.Core.List.{List}
 use Prim.Native.Nat.{ℕ}
 use lib.Seq.{sets}
 use Rattle.words.specs.Words.{part}
-use Rattle.recorded_solve.specs.declared.Counts.{Counts}
-use Rattle.solve_outputs.specs.Packed.{Packed, packed}
+use Rattle.recorded_solve.specs.declared.HeldCounts.{HeldCounts}
+use Rattle.solve_outputs.specs.Packed.{PackedSolve, packedSolve}
 use Rattle.recorded_solve.specs.Outcome.{solved}
-use Rattle.recorded_solve.specs.Slices.{startOf, countsIn, callWith, callOf, keptIn, leftOf}
-use Rattle.recorded_solve.specs.Lines.{answered, askOf}
+use Rattle.recorded_solve.specs.Slices.{sliceStart, countsHeld, callHeldWith, callHeld, keptIn, leftHeld}
+use Rattle.recorded_solve.specs.Lines.{reply, askOf}
 
 module _ (us ss ns bs xs ts ms cs : List ℕ) where
   pub all-kept :
@@ -24,16 +24,16 @@ module _ (us ss ns bs xs ts ms cs : List ℕ) where
       (e4
       ∙ ap (λ w. sets w 29952 xs) (e3 ∙ ap (λ w. sets w 20480 bs) (e2 ∙ ap (λ w. sets w 8192 ns) e1)))))
 
-module _ (ws : List ℕ) (k : Counts) (ss ns bs xs ts ms cs : List ℕ) where
+module _ (ws : List ℕ) (k : HeldCounts) (ss ns bs xs ts ms cs : List ℕ) where
   pub asked :
-      k ≡ countsIn ws → ss ≡ part 0 8192 ws → ns ≡ part 8192 12288 ws → bs ≡ part 20480 512 ws → xs ≡ part 29952 4096 ws
+      k ≡ countsHeld ws → ss ≡ part 0 8192 ws → ns ≡ part 8192 12288 ws → bs ≡ part 20480 512 ws → xs ≡ part 29952 4096 ws
       → ts ≡ part 27648 1536 ws → ms ≡ part 29184 256 ws → cs ≡ part 29440 512 ws
       → (ss′ ns′ bs′ xs′ ts′ ms′ cs′ : List ℕ) (r : ℕ)
-      → packed r ss′ ns′ bs′ xs′ ts′ ms′ cs′ ≡ solved (callWith ws k ss ns bs xs ts ms cs)
-      → (us : List ℕ) → us ≡ keptIn ws ss′ ns′ bs′ xs′ ts′ ms′ cs′ → answered us r ≡ askOf ws
-  unfolding askOf startOf
+      → packedSolve r ss′ ns′ bs′ xs′ ts′ ms′ cs′ ≡ solved (callHeldWith ws k ss ns bs xs ts ms cs)
+      → (us : List ℕ) → us ≡ keptIn ws ss′ ns′ bs′ xs′ ts′ ms′ cs′ → reply us r ≡ askOf ws
+  unfolding askOf sliceStart
   asked ek es en eb ex et em ec ss′ ns′ bs′ xs′ ts′ ms′ cs′ r e us u =
-      let p : packed r ss′ ns′ bs′ xs′ ts′ ms′ cs′ ≡ solved (callOf ws) =
-      e ∙ (λ i. solved (callWith ws (ek i) (es i) (en i) (eb i) (ex i) (et i) (em i) (ec i))) in
-      let w : us ≡ leftOf ws (solved (callOf ws)) = u ∙ ap (leftOf ws) p in
-      λ i. answered (w i) (p i .result)
+      let p : packedSolve r ss′ ns′ bs′ xs′ ts′ ms′ cs′ ≡ solved (callHeld ws) =
+      e ∙ (λ i. solved (callHeldWith ws (ek i) (es i) (en i) (eb i) (ex i) (et i) (em i) (ec i))) in
+      let w : us ≡ leftHeld ws (solved (callHeld ws)) = u ∙ ap (leftHeld ws) p in
+      λ i. reply (w i) (p i .result)

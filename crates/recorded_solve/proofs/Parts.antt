@@ -8,10 +8,10 @@ use lib.Dec.{leb}
 use lib.ListN.{getD}
 use borrow.Author.Tests.{leb-true, lt-ltb, le-ltb}
 use Rattle.replay.specs.declared.Fields.{Fields}
-use Rattle.recorded_solve.specs.declared.Part.{Part}
+use Rattle.recorded_solve.specs.declared.Span.{Span}
 use Rattle.recorded_solve.specs.declared.Expected.the-variants.{Is, Nothing}
-use Rattle.recorded_solve.specs.Slices.{starts, startOf}
-use Rattle.recorded_solve.specs.Lines.{noPart, partOf, Standing, recordedOf}
+use Rattle.recorded_solve.specs.Slices.{sliceStarts, sliceStart}
+use Rattle.recorded_solve.specs.Lines.{noSpan, spanOf, Standing, recordedOf}
 
 abbrev allAtMost : ℕ → List ℕ → Bool
 allAtMost b [] = true
@@ -22,49 +22,49 @@ at-most b [] k e = omega arith
 at-most b (x ∷ xs) zero e = leb-true x b (and-eq-true-iff (leb x b) (allAtMost b xs) .0 e .0)
 at-most b (x ∷ xs) (suc k) e = at-most b xs k (and-eq-true-iff (leb x b) (allAtMost b xs) .0 e .1)
 
-pub start-at-most : (k : ℕ) → startOf k ≤ 34048
-unfolding startOf
-start-at-most k = at-most 34048 starts k refl
+pub start-at-most : (k : ℕ) → sliceStart k ≤ 34048
+unfolding sliceStart
+start-at-most k = at-most 34048 sliceStarts k refl
 
-module _ (f : Fields) (r : Part) (none : r ≡ noPart) where
-  nowhere : r ≡ partOf f → Standing f r
+module _ (f : Fields) (r : Span) (none : r ≡ noSpan) where
+  nowhere : r ≡ spanOf f → Standing f r
   nowhere e =
-      let start : r .start ≡ 0 = ap (λ (p : Part). p .start) none in
-      let count : r .count ≡ 0 = ap (λ (p : Part). p .count) none in
+      let start : r .start ≡ 0 = ap (λ (p : Span). p .start) none in
+      let count : r .count ≡ 0 = ap (λ (p : Span). p .count) none in
       record { told = e; near = omega arith; few = omega arith }
 
   pub too-few : f .count < 2 → Standing f r
-  unfolding partOf
+  unfolding spanOf
   too-few h = nowhere (rw (none, lt-ltb _ _ h))
 
   module _ (two : 2 ≤ f .count) where
     pub too-many : 18 < f .count → Standing f r
-    unfolding partOf
+    unfolding spanOf
     too-many h = nowhere (rw (none, le-ltb _ _ two, lt-ltb _ _ h))
 
     module _ (most : f .count ≤ 18) where
       pub no-slice : 11 < getD (f .values) 0 0 → Standing f r
-      unfolding partOf
+      unfolding spanOf
       no-slice h = nowhere (rw (none, le-ltb _ _ two, le-ltb _ _ most, lt-ltb _ _ h))
 
       module _ (slice : getD (f .values) 0 0 ≤ 11) where
         pub no-word : 34048 < getD (f .values) 1 0 → Standing f r
-        unfolding partOf
+        unfolding spanOf
         no-word h = nowhere (rw (none, le-ltb _ _ two, le-ltb _ _ most, le-ltb _ _ slice, lt-ltb _ _ h))
 
         pub past-the-slice :
-            getD (f .values) 1 0 ≤ 34048 → (a b : ℕ) → a ≡ startOf (getD (f .values) 0 0) → b ≡ startOf (getD (f .values) 0 0 + 1)
+            getD (f .values) 1 0 ≤ 34048 → (a b : ℕ) → a ≡ sliceStart (getD (f .values) 0 0) → b ≡ sliceStart (getD (f .values) 0 0 + 1)
             → b < a + getD (f .values) 1 0 + (f .count - 2) → Standing f r
-        unfolding partOf
+        unfolding spanOf
         past-the-slice w a b e g h =
             nowhere (rw (none, le-ltb _ _ two, le-ltb _ _ most, le-ltb _ _ slice, le-ltb _ _ w, sym e, sym g, lt-ltb _ _ h))
 
 pub inside :
     (f : Fields) → 2 ≤ f .count → f .count ≤ 18 → getD (f .values) 0 0 ≤ 11 → getD (f .values) 1 0 ≤ 34048
-    → (a b : ℕ) → a ≡ startOf (getD (f .values) 0 0) → b ≡ startOf (getD (f .values) 0 0 + 1)
+    → (a b : ℕ) → a ≡ sliceStart (getD (f .values) 0 0) → b ≡ sliceStart (getD (f .values) 0 0 + 1)
     → a + getD (f .values) 1 0 + (f .count - 2) ≤ b
     → Standing f (record { start = a + getD (f .values) 1 0; count = f .count - 2; good = true })
-unfolding partOf
+unfolding spanOf
 inside f two most slice w a b e g h =
     record {
       told = rw (le-ltb _ _ two, le-ltb _ _ most, le-ltb _ _ slice, le-ltb _ _ w, sym e, sym g, le-ltb _ _ h);

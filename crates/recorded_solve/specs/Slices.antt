@@ -5,8 +5,8 @@ use lib.ListN.{getD}
 use lib.Seq.{sets}
 use Rattle.inference.specs.SolveChecks.{Call}
 use Rattle.words.specs.Words.{part}
-use Rattle.recorded_solve.specs.declared.Counts.{Counts}
-use Rattle.solve_outputs.specs.Packed.{Packed}
+use Rattle.recorded_solve.specs.declared.HeldCounts.{HeldCounts}
+use Rattle.solve_outputs.specs.Packed.{PackedSolve}
 
 -- Where each slice starts: sorts, nodes, bindings, places of expressions, base names, constraints, overloads, sources,
 -- typing, measure, choices, scratch; and where the counts start.
@@ -46,39 +46,39 @@ scratchAt = 29952
 abbrev pub countsAt : ℕ
 countsAt = 34048
 
-abbrev pub starts : List ℕ
-starts =
+abbrev pub sliceStarts : List ℕ
+sliceStarts =
     0 ∷ nodesAt ∷ bindsAt ∷ exprsAt ∷ namesAt ∷ constraintsAt ∷ overloadsAt ∷ sourcesAt ∷ typingAt ∷ measureAt
     ∷ choicesAt ∷ scratchAt ∷ countsAt ∷ []
 
-unfoldable pub startOf : ℕ → ℕ
-startOf k = getD starts k 0
+unfoldable pub sliceStart : ℕ → ℕ
+sliceStart k = getD sliceStarts k 0
 
 abbrev pub sliceOf : ℕ → List ℕ → List ℕ
-sliceOf k ws = part (startOf k) (startOf (k + 1) - startOf k) ws
+sliceOf k ws = part (sliceStart k) (sliceStart (k + 1) - sliceStart k) ws
 
-abbrev pub countAt : List ℕ → ℕ → ℕ
-countAt ws i = getD ws (countsAt + i) 0
+abbrev pub countHeld : List ℕ → ℕ → ℕ
+countHeld ws i = getD ws (countsAt + i) 0
 
-abbrev pub countsIn : List ℕ → Counts
-countsIn ws =
+abbrev pub countsHeld : List ℕ → HeldCounts
+countsHeld ws =
     record {
-      sorts = countAt ws 0;
-      entries = countAt ws 1;
-      nodes = countAt ws 2;
-      arguments = countAt ws 3;
-      variables = countAt ws 4;
-      exprs = countAt ws 5;
-      names = countAt ws 6;
-      constraints = countAt ws 7;
-      overloads = countAt ws 8;
-      sources = countAt ws 9;
-      default = countAt ws 10;
+      sorts = countHeld ws 0;
+      entries = countHeld ws 1;
+      nodes = countHeld ws 2;
+      arguments = countHeld ws 3;
+      variables = countHeld ws 4;
+      exprs = countHeld ws 5;
+      names = countHeld ws 6;
+      constraints = countHeld ws 7;
+      overloads = countHeld ws 8;
+      sources = countHeld ws 9;
+      default = countHeld ws 10;
     }
 
 -- a call about words held, with the slices that it may change
-abbrev pub callWith : List ℕ → Counts → (sorts nodes binds scratch typing measure choices : List ℕ) → Call
-callWith ws k ss ns bs xs ts ms cs =
+abbrev pub callHeldWith : List ℕ → HeldCounts → (sorts nodes binds scratch typing measure choices : List ℕ) → Call
+callHeldWith ws k ss ns bs xs ts ms cs =
     record {
       sorts = ss;
       nodes = ns;
@@ -111,9 +111,9 @@ callWith ws k ss ns bs xs ts ms cs =
       choices = cs;
     }
 
-abbrev pub callOf : List ℕ → Call
-callOf ws =
-    callWith ws (countsIn ws) (sliceOf 0 ws) (sliceOf 1 ws) (sliceOf 2 ws) (sliceOf 11 ws) (sliceOf 8 ws)
+abbrev pub callHeld : List ℕ → Call
+callHeld ws =
+    callHeldWith ws (countsHeld ws) (sliceOf 0 ws) (sliceOf 1 ws) (sliceOf 2 ws) (sliceOf 11 ws) (sliceOf 8 ws)
     (sliceOf 9 ws) (sliceOf 10 ws)
 
 -- words held, with other slices in the places of those that a call may change
@@ -122,5 +122,5 @@ keptIn ws ss ns bs xs ts ms cs =
     sets (sets (sets (sets (sets (sets (sets ws 0 ss) nodesAt ns) bindsAt bs) scratchAt xs) typingAt ts)
     measureAt ms) choicesAt cs
 
-abbrev pub leftOf : List ℕ → Packed → List ℕ
-leftOf ws p = keptIn ws (p .sorts) (p .nodes) (p .binds) (p .scratch) (p .typing) (p .measure) (p .choices)
+abbrev pub leftHeld : List ℕ → PackedSolve → List ℕ
+leftHeld ws p = keptIn ws (p .sorts) (p .nodes) (p .binds) (p .scratch) (p .typing) (p .measure) (p .choices)

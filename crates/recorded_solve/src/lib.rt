@@ -33,12 +33,12 @@ ghost use mathlib.Core.Path.{_≡_};
 ghost use Prim.Native.Nat.{_≤_};
 ghost use lib.ListN.{length};
 ghost use Rattle.replay.specs.Lines.{maxWords, nearEnough};
-ghost use Rattle.recorded_solve.specs.Slices.{countsAt, startOf, countAt, countsIn, callWith, keptIn};
-ghost use Rattle.solve_outputs.specs.Packed.{packed};
+ghost use Rattle.recorded_solve.specs.Slices.{countsAt, sliceStart, countHeld, countsHeld, callHeldWith, keptIn};
+ghost use Rattle.solve_outputs.specs.Packed.{packedSolve};
 ghost use Rattle.recorded_solve.specs.Outcome.{solved};
-ghost use Rattle.recorded_solve.specs.Lines.{letterOf, noPart, Standing, comparedFrom, recordedOf};
-ghost use Rattle.recorded_solve.specs.Lines.{said, answered, askOf, beginOf, storeOf};
-ghost use Rattle.recorded_solve.specs.Lines.{compareOf, answerOf, after, lineOf};
+ghost use Rattle.recorded_solve.specs.Lines.{letterOf, noSpan, Standing, comparedFrom, recordedOf};
+ghost use Rattle.recorded_solve.specs.Lines.{wordsSaid, reply, askOf, beginLine, storeOf};
+ghost use Rattle.recorded_solve.specs.Lines.{compareOf, askLine, stepped, stepOf};
 
 // Where the slices stand in the words held, after the sorts, each at its ceiling (base names, which have none, have as
 // many rows as there are expressions); and after the scratch the counts, the last of which is the default sort.
@@ -98,14 +98,14 @@ pub enum Letter {
 
 // Where the words of a line stand among those of all slices, and how many they are; good where they
 // are inside their slice.
-pub struct Part {
+pub struct Span {
     pub start: usize,
     pub count: usize,
     pub good: bool,
 }
 
 // The counts of a list, and its default sort.
-pub struct Counts {
+pub struct HeldCounts {
     pub sorts: usize,
     pub entries: usize,
     pub nodes: usize,
@@ -141,7 +141,7 @@ fn letter_of(letter: u8) -> Letter
 // The word at which a slice starts, and past the last one the first count.
 fn start_of(slice: usize) -> usize
     requires { ⌜ slice ≤ 12 ⌝ }
-    ensures { λ r. ⌜ (r ≡ startOf slice) × (r ≤ countsAt) ⌝ }
+    ensures { λ r. ⌜ (r ≡ sliceStart slice) × (r ≤ countsAt) ⌝ }
 {
     let starts = [
         0usize,
@@ -161,10 +161,10 @@ fn start_of(slice: usize) -> usize
     starts[slice]
 }
 
-fn no_part() -> Part
-    ensures { λ r. ⌜ r ≡ noPart ⌝ }
+fn no_part() -> Span
+    ensures { λ r. ⌜ r ≡ noSpan ⌝ }
 {
-    Part {
+    Span {
         start: 0,
         count: 0,
         good: false,
@@ -172,7 +172,7 @@ fn no_part() -> Part
 }
 
 // The words of a line after the number of a slice and of a word of it.
-fn part_of(fields: Fields) -> Part
+fn part_of(fields: Fields) -> Span
     ensures { λ r. ⌜ Standing fields r ⌝ }
 {
     let values = fields.values;
@@ -195,7 +195,7 @@ fn part_of(fields: Fields) -> Part
     if start_of((slice as usize) + 1) < start + (count - 2) {
         return no_part();
     }
-    Part {
+    Span {
         start,
         count: count - 2,
         good: true,
@@ -204,7 +204,7 @@ fn part_of(fields: Fields) -> Part
 
 // A new list: all words are zero but its counts.
 fn begin(given: &mut [u16; HELD_WORDS], fields: Fields) -> Verdict
-    ensures { λ r. ⌜ said (now (given .exit)) r ≡ beginOf (now (given .entry)) fields ⌝ }
+    ensures { λ r. ⌜ wordsSaid (now (given .exit)) r ≡ beginLine (now (given .entry)) fields ⌝ }
 {
     let values = fields.values;
     if fields.count != COUNTS {
@@ -219,7 +219,7 @@ fn begin(given: &mut [u16; HELD_WORDS], fields: Fields) -> Verdict
 
 // Words of the list.
 fn give(given: &mut [u16; HELD_WORDS], fields: Fields) -> Verdict
-    ensures { λ r. ⌜ said (now (given .exit)) r ≡ storeOf (now (given .entry)) fields ⌝ }
+    ensures { λ r. ⌜ wordsSaid (now (given .exit)) r ≡ storeOf (now (given .entry)) fields ⌝ }
 {
     let values = fields.values;
     let part = part_of(fields);
@@ -291,16 +291,16 @@ fn recorded(values: [u64; MAX_FIELDS]) -> Expected
 // A count of the list.
 fn count_at(given: &[u16], i: usize) -> usize
     requires { ⌜ i ≤ 9 ⌝ }
-    ensures { λ r. ⌜ r ≡ countAt (now (given .entry)) i ⌝ }
+    ensures { λ r. ⌜ r ≡ countHeld (now (given .entry)) i ⌝ }
 {
     word(given, COUNTS_AT + i) as usize
 }
 
 // The counts of the list, and its default sort.
-fn counts_of(given: &[u16]) -> Counts
-    ensures { λ r. ⌜ r ≡ countsIn (now (given .entry)) ⌝ }
+fn counts_of(given: &[u16]) -> HeldCounts
+    ensures { λ r. ⌜ r ≡ countsHeld (now (given .entry)) ⌝ }
 {
-    Counts {
+    HeldCounts {
         sorts: count_at(given, 0),
         entries: count_at(given, 1),
         nodes: count_at(given, 2),
@@ -318,7 +318,7 @@ fn counts_of(given: &[u16]) -> Counts
 // What the solver answers about the list, and what it leaves in the slices that it may change.
 fn call(
     given: &[u16],
-    counts: Counts,
+    counts: HeldCounts,
     sorts: &mut [u16],
     nodes: &mut [u16],
     binds: &mut [u16],
@@ -329,9 +329,9 @@ fn call(
 ) -> u64
     requires { ⌜ countsAt ≤ length (now given) ⌝ }
     ensures { λ r. ⌜
-        packed r (now (sorts .exit)) (now (nodes .exit)) (now (binds .exit)) (now (scratch .exit))
+        packedSolve r (now (sorts .exit)) (now (nodes .exit)) (now (binds .exit)) (now (scratch .exit))
         (now (typing .exit)) (now (measure .exit)) (now (choices .exit))
-        ≡ solved (callWith (now (given .entry)) counts (now (sorts .entry)) (now (nodes .entry))
+        ≡ solved (callHeldWith (now (given .entry)) counts (now (sorts .entry)) (now (nodes .entry))
         (now (binds .entry)) (now (scratch .entry)) (now (typing .entry)) (now (measure .entry))
         (now (choices .entry)))
         ⌝ }
@@ -391,7 +391,7 @@ fn keep(
 
 // What the solver answers about the list. It works on slices of its own, and what it leaves is kept.
 fn ask(given: &[u16; HELD_WORDS], left: &mut [u16; HELD_WORDS]) -> u64
-    ensures { λ r. ⌜ answered (now (left .exit)) r ≡ askOf (now (given .entry)) ⌝ }
+    ensures { λ r. ⌜ reply (now (left .exit)) r ≡ askOf (now (given .entry)) ⌝ }
 {
     let mut sorts = [0u16; SORT_WORDS];
     let mut nodes = [0u16; NODE_WORDS];
@@ -434,7 +434,7 @@ fn ask(given: &[u16; HELD_WORDS], left: &mut [u16; HELD_WORDS]) -> u64
 
 // A question about the list, compared with the recorded answer.
 fn answer(given: &[u16; HELD_WORDS], left: &mut [u16; HELD_WORDS], fields: Fields) -> Verdict
-    ensures { λ r. ⌜ said (now (left .exit)) r ≡ answerOf (now (given .entry)) (now (left .entry)) fields ⌝ }
+    ensures { λ r. ⌜ wordsSaid (now (left .exit)) r ≡ askLine (now (given .entry)) (now (left .entry)) fields ⌝ }
 {
     let values = fields.values;
     if fields.count != 5 {
@@ -457,8 +457,8 @@ pub fn replay_line(
     line: &[u8],
 ) -> Verdict
     ensures { λ r. ⌜
-        after (now (given .exit)) (now (left .exit)) r
-        ≡ lineOf (now (given .entry)) (now (left .entry)) (now (line .entry))
+        stepped (now (given .exit)) (now (left .exit)) r
+        ≡ stepOf (now (given .entry)) (now (left .entry)) (now (line .entry))
         ⌝ }
 {
     if line.len() == 0 {

@@ -15,11 +15,11 @@ use Rattle.recorded_sorts.specs.declared.Question.the-variants.{PartialC
 use Rattle.recorded_sorts.specs.declared.Question.the-variants.{Join, Meet}
 use Rattle.recorded_sorts.specs.declared.Letter.{Letter}
 use Rattle.recorded_sorts.specs.declared.Letter.the-variants.{List as NewList, Row, Arguments, Asks, Other}
-use Rattle.recorded_sorts.specs.declared.Place.{Place}
+use Rattle.recorded_sorts.specs.declared.Progress.{Progress}
 use Rattle.replay.specs.declared.Verdict.{Verdict}
 use Rattle.replay.specs.declared.Verdict.the-variants.{Quiet, NotOfForm}
-use Rattle.recorded_sorts.specs.declared.Step.{Step}
-use Rattle.replay.specs.Numbers.{fieldsOf, numberIn}
+use Rattle.recorded_sorts.specs.declared.LineStep.{LineStep}
+use Rattle.replay.specs.Numbers.{fieldsOf, fieldAt}
 use Rattle.replay.specs.Lines.{maxWords, Kept, storeFrom, verdictOf}
 
 unfoldable pub letterOf : ℕ → Letter
@@ -34,49 +34,49 @@ letterOf b =
     (cond (eqb b (code "k")) (Asks Meet) Other)))))))
 
 -- all rows and entries of the list were read
-unfoldable pub complete : Place → Bool
+unfoldable pub complete : Progress → Bool
 complete p = cond (eqb (p .rows) (p .sorts)) (eqb (p .filled) (p .entries)) false
 
-abbrev pub step : Place → Verdict → Step
-step p v = record { place = p; verdict = v }
+abbrev pub lineStep : Progress → Verdict → LineStep
+lineStep p v = record { progress = p; verdict = v }
 
-abbrev pub notOfForm : Place → Step
-notOfForm p = step p NotOfForm
+abbrev pub notOfForm : Progress → LineStep
+notOfForm p = lineStep p NotOfForm
 
-abbrev pub started : Place
+abbrev pub started : Progress
 started = record { sorts = 0; entries = 0; rows = 0; filled = 0 }
 
 -- the words of the list after a line, and what came of it
 pub record Stepped : Type 0 where
   pub words : List ℕ
-  pub result : Step
+  pub result : LineStep
 
-abbrev pub stepped : List ℕ → Step → Stepped
+abbrev pub stepped : List ℕ → LineStep → Stepped
 stepped ws s = record { words = ws; result = s }
 
-abbrev pub keptStep : Place → Place → Kept → Stepped
-keptStep p next k = stepped (k .words) (cond (k .all) (step next Quiet) (notOfForm p))
+abbrev pub keptStep : Progress → Progress → Kept → Stepped
+keptStep p next k = stepped (k .words) (cond (k .all) (lineStep next Quiet) (notOfForm p))
 
 -- the next words of a list
-unfoldable pub keepOf : List ℕ → ℕ → Fields → Place → Place → Stepped
+unfoldable pub keepOf : List ℕ → ℕ → Fields → Progress → Progress → Stepped
 keepOf ws base f p next =
     cond (ltb maxWords (f .count)) (stepped ws (notOfForm p))
     (keptStep p next (storeFrom (f .count) ws base (f .values) 0))
 
 -- a new list: at most 1,024 sorts and 4,096 entries
-unfoldable pub beginOf : Fields → Place → Step
-beginOf f p =
+unfoldable pub beginLine : Fields → Progress → LineStep
+beginLine f p =
     cond (eqb (f .count) 2)
     (cond (complete p)
-    (cond (ltb maxSorts (numberIn f 0)) (notOfForm p)
-    (cond (ltb maxEntries (numberIn f 1)) (notOfForm p)
-    (step (record { sorts = numberIn f 0; entries = numberIn f 1; rows = 0; filled = 0 }) Quiet)))
+    (cond (ltb maxSorts (fieldAt f 0)) (notOfForm p)
+    (cond (ltb maxEntries (fieldAt f 1)) (notOfForm p)
+    (lineStep (record { sorts = fieldAt f 0; entries = fieldAt f 1; rows = 0; filled = 0 }) Quiet)))
     (notOfForm p))
     (notOfForm p)
 
 -- the next row, of four words, where one is missing
-unfoldable pub rowOf : List ℕ → Fields → Place → Stepped
-rowOf ws f p =
+unfoldable pub rowLine : List ℕ → Fields → Progress → Stepped
+rowLine ws f p =
     cond (eqb (f .count) 4)
     (cond (leb (p .sorts) (p .rows)) (stepped ws (notOfForm p))
     (keepOf ws (rowWords * p .rows) f p
@@ -84,45 +84,45 @@ rowOf ws f p =
     (stepped ws (notOfForm p))
 
 -- the next entries, where that many are missing
-unfoldable pub argumentsOf : List ℕ → Fields → Place → Stepped
-argumentsOf ws f p =
+unfoldable pub runLine : List ℕ → Fields → Progress → Stepped
+runLine ws f p =
     cond (ltb maxWords (f .count)) (stepped ws (notOfForm p))
     (cond (ltb (p .entries) (p .filled + f .count)) (stepped ws (notOfForm p))
     (keepOf ws (entriesAt + p .filled) f p
     (record { sorts = p .sorts; entries = p .entries; rows = p .rows; filled = p .filled + f .count })))
 
 -- what an entry answers on a list, packed
-unfoldable pub answerOf : Question → List ℕ → ℕ → ℕ → ℕ → ℕ → ℕ
-answerOf PartialCmp ws n e a b = packCompared (compared ws n e a b)
-answerOf WideningDistance ws n e a b = packMeasured (measured ws n e a b)
-answerOf IsMaterializable ws n e a b = packMaterialized (materialized ws n e a b)
-answerOf Join ws n e a b = packBounded ((bounded true ws n e a b) .answer)
-answerOf Meet ws n e a b = packBounded ((bounded false ws n e a b) .answer)
+unfoldable pub packedAnswer : Question → List ℕ → ℕ → ℕ → ℕ → ℕ → ℕ
+packedAnswer PartialCmp ws n e a b = packCompared (compared ws n e a b)
+packedAnswer WideningDistance ws n e a b = packMeasured (measured ws n e a b)
+packedAnswer IsMaterializable ws n e a b = packMaterialized (materialized ws n e a b)
+packedAnswer Join ws n e a b = packBounded ((bounded true ws n e a b) .answer)
+packedAnswer Meet ws n e a b = packBounded ((bounded false ws n e a b) .answer)
 
 -- a question about two sorts of a complete list, and the recorded answer
-unfoldable pub questionOf : List ℕ → Question → Fields → Place → Step
-questionOf ws q f p =
+unfoldable pub askLine : List ℕ → Question → Fields → Progress → LineStep
+askLine ws q f p =
     cond (eqb (f .count) 3)
     (cond (complete p)
-    (cond (ltb mostWord (numberIn f 0)) (notOfForm p)
-    (cond (ltb mostWord (numberIn f 1)) (notOfForm p)
-    (step p
-    (verdictOf (answerOf q ws (p .sorts) (p .entries) (numberIn f 0) (numberIn f 1)) (numberIn f 2)))))
+    (cond (ltb mostWord (fieldAt f 0)) (notOfForm p)
+    (cond (ltb mostWord (fieldAt f 1)) (notOfForm p)
+    (lineStep p
+    (verdictOf (packedAnswer q ws (p .sorts) (p .entries) (fieldAt f 0) (fieldAt f 1)) (fieldAt f 2)))))
     (notOfForm p))
     (notOfForm p)
 
 -- by the letter of a line
-unfoldable pub byLetter : Letter → List ℕ → Fields → Place → Stepped
-byLetter NewList ws f p = stepped ws (beginOf f p)
-byLetter Row ws f p = rowOf ws f p
-byLetter Arguments ws f p = argumentsOf ws f p
-byLetter (Asks q) ws f p = stepped ws (questionOf ws q f p)
+unfoldable pub byLetter : Letter → List ℕ → Fields → Progress → Stepped
+byLetter NewList ws f p = stepped ws (beginLine f p)
+byLetter Row ws f p = rowLine ws f p
+byLetter Arguments ws f p = runLine ws f p
+byLetter (Asks q) ws f p = stepped ws (askLine ws q f p)
 byLetter Other ws f p = stepped ws (notOfForm p)
 
 -- A line: empty is not of the form, # says nothing, else a letter and numbers.
-unfoldable pub stepOf : List ℕ → List ℕ → Place → Stepped
+unfoldable pub stepOf : List ℕ → List ℕ → Progress → Stepped
 stepOf ws line p =
     cond (eqb (length line) 0) (stepped ws (notOfForm p))
-    (cond (eqb (getD line 0 0) (code "#")) (stepped ws (step p Quiet))
+    (cond (eqb (getD line 0 0) (code "#")) (stepped ws (lineStep p Quiet))
     (cond ((fieldsOf line) .good) (byLetter (letterOf (getD line 0 0)) ws (fieldsOf line) p)
     (stepped ws (notOfForm p))))

@@ -20,8 +20,8 @@ use words::MOST_WORD;
 ghost use mathlib.Core.Path.{_≡_};
 ghost use Prim.Native.Nat.{_+_, _*_, _≤_};
 ghost use Rattle.replay.specs.Lines.{nearEnough};
-ghost use Rattle.recorded_sorts.specs.Lines.{letterOf, complete as isComplete, stepped, keepOf, beginOf, rowOf};
-ghost use Rattle.recorded_sorts.specs.Lines.{argumentsOf, answerOf, questionOf, stepOf, notOfForm, started};
+ghost use Rattle.recorded_sorts.specs.Lines.{letterOf, complete as isComplete, stepped, keepOf, beginLine, rowLine};
+ghost use Rattle.recorded_sorts.specs.Lines.{runLine, packedAnswer, askLine, stepOf, notOfForm, started};
 
 // The ceilings of a list, as numbers of a line.
 const SORTS: u64 = 1024;
@@ -47,15 +47,15 @@ pub enum Letter {
 }
 
 // How much a list has by its first line, and how much of it was read.
-pub struct Place {
+pub struct Progress {
     pub sorts: u16,
     pub entries: u16,
     pub rows: u16,
     pub filled: u16,
 }
 
-pub struct Step {
-    pub place: Place,
+pub struct LineStep {
+    pub progress: Progress,
     pub verdict: Verdict,
 }
 
@@ -77,21 +77,21 @@ fn letter_of(letter: u8) -> Letter
 }
 
 // Whether all rows and entries of the list were read.
-pub fn complete(place: Place) -> bool
-    ensures { λ r. ⌜ r ≡ isComplete place ⌝ }
+pub fn complete(progress: Progress) -> bool
+    ensures { λ r. ⌜ r ≡ isComplete progress ⌝ }
 {
-    if place.rows == place.sorts {
-        place.filled == place.entries
+    if progress.rows == progress.sorts {
+        progress.filled == progress.entries
     } else {
         false
     }
 }
 
-fn not_of_form(place: Place) -> Step
-    ensures { λ r. ⌜ r ≡ notOfForm place ⌝ }
+fn not_of_form(progress: Progress) -> LineStep
+    ensures { λ r. ⌜ r ≡ notOfForm progress ⌝ }
 {
-    Step {
-        place,
+    LineStep {
+        progress,
         verdict: Verdict::NotOfForm,
     }
 }
@@ -101,47 +101,47 @@ fn keep(
     list: &mut [u16; SORT_WORDS],
     base: usize,
     fields: Fields,
-    place: Place,
-    next: Place,
-) -> Step
+    progress: Progress,
+    next: Progress,
+) -> LineStep
     requires { ⌜ base ≤ nearEnough ⌝ }
-    ensures { λ r. ⌜ stepped (now (list .exit)) r ≡ keepOf (now (list .entry)) base fields place next ⌝ }
+    ensures { λ r. ⌜ stepped (now (list .exit)) r ≡ keepOf (now (list .entry)) base fields progress next ⌝ }
 {
     let values = fields.values;
     let count = fields.count;
     if MAX_WORDS < count {
-        return not_of_form(place);
+        return not_of_form(progress);
     }
     if store(list, base, values, 0, count) {
-        return Step {
-            place: next,
+        return LineStep {
+            progress: next,
             verdict: Verdict::Quiet,
         };
     }
-    not_of_form(place)
+    not_of_form(progress)
 }
 
 // A new list, with no row and no entry yet, after one that is complete.
-fn begin(fields: Fields, place: Place) -> Step
-    ensures { λ r. ⌜ r ≡ beginOf fields place ⌝ }
+fn begin(fields: Fields, progress: Progress) -> LineStep
+    ensures { λ r. ⌜ r ≡ beginLine fields progress ⌝ }
 {
     let values = fields.values;
     if fields.count != 2 {
-        return not_of_form(place);
+        return not_of_form(progress);
     }
-    if !complete(place) {
-        return not_of_form(place);
+    if !complete(progress) {
+        return not_of_form(progress);
     }
     let sorts = values[0];
     if SORTS < sorts {
-        return not_of_form(place);
+        return not_of_form(progress);
     }
     let entries = values[1];
     if ENTRIES < entries {
-        return not_of_form(place);
+        return not_of_form(progress);
     }
-    Step {
-        place: Place {
+    LineStep {
+        progress: Progress {
             sorts: sorts as u16,
             entries: entries as u16,
             rows: 0,
@@ -152,56 +152,56 @@ fn begin(fields: Fields, place: Place) -> Step
 }
 
 // The next row of the list.
-fn row(list: &mut [u16; SORT_WORDS], fields: Fields, place: Place) -> Step
-    ensures { λ r. ⌜ stepped (now (list .exit)) r ≡ rowOf (now (list .entry)) fields place ⌝ }
+fn row(list: &mut [u16; SORT_WORDS], fields: Fields, progress: Progress) -> LineStep
+    ensures { λ r. ⌜ stepped (now (list .exit)) r ≡ rowLine (now (list .entry)) fields progress ⌝ }
 {
     if fields.count != 4 {
-        return not_of_form(place);
+        return not_of_form(progress);
     }
-    let rows = place.rows;
-    if place.sorts <= rows {
-        return not_of_form(place);
+    let rows = progress.rows;
+    if progress.sorts <= rows {
+        return not_of_form(progress);
     }
-    let next = Place {
-        sorts: place.sorts,
-        entries: place.entries,
+    let next = Progress {
+        sorts: progress.sorts,
+        entries: progress.entries,
         rows: rows + 1,
-        filled: place.filled,
+        filled: progress.filled,
     };
-    keep(list, ROW_WORDS * (rows as usize), fields, place, next)
+    keep(list, ROW_WORDS * (rows as usize), fields, progress, next)
 }
 
 // The next argument entries of the list.
-fn arguments(list: &mut [u16; SORT_WORDS], fields: Fields, place: Place) -> Step
-    ensures { λ r. ⌜ stepped (now (list .exit)) r ≡ argumentsOf (now (list .entry)) fields place ⌝ }
+fn arguments(list: &mut [u16; SORT_WORDS], fields: Fields, progress: Progress) -> LineStep
+    ensures { λ r. ⌜ stepped (now (list .exit)) r ≡ runLine (now (list .entry)) fields progress ⌝ }
 {
     let count = fields.count;
-    let filled = place.filled;
+    let filled = progress.filled;
     if MAX_WORDS < count {
-        return not_of_form(place);
+        return not_of_form(progress);
     }
-    if (place.entries as usize) < (filled as usize) + count {
-        return not_of_form(place);
+    if (progress.entries as usize) < (filled as usize) + count {
+        return not_of_form(progress);
     }
-    let next = Place {
-        sorts: place.sorts,
-        entries: place.entries,
-        rows: place.rows,
+    let next = Progress {
+        sorts: progress.sorts,
+        entries: progress.entries,
+        rows: progress.rows,
         filled: filled + (count as u16),
     };
-    keep(list, ENTRIES_AT + (filled as usize), fields, place, next)
+    keep(list, ENTRIES_AT + (filled as usize), fields, progress, next)
 }
 
 // Join and meet on a list of their own, since they may append to it.
 fn join_on(list: [u16; SORT_WORDS], n: usize, e: usize, lhs: u16, rhs: u16) -> u64
-    ensures { λ r. ⌜ r ≡ answerOf Question.Join list n e lhs rhs ⌝ }
+    ensures { λ r. ⌜ r ≡ packedAnswer Question.Join list n e lhs rhs ⌝ }
 {
     let mut work = list;
     sort_join(&mut work, n, e, lhs, rhs)
 }
 
 fn meet_on(list: [u16; SORT_WORDS], n: usize, e: usize, lhs: u16, rhs: u16) -> u64
-    ensures { λ r. ⌜ r ≡ answerOf Question.Meet list n e lhs rhs ⌝ }
+    ensures { λ r. ⌜ r ≡ packedAnswer Question.Meet list n e lhs rhs ⌝ }
 {
     let mut work = list;
     sort_meet(&mut work, n, e, lhs, rhs)
@@ -216,7 +216,7 @@ fn ask(
     lhs: u16,
     rhs: u16,
 ) -> u64
-    ensures { λ r. ⌜ r ≡ answerOf question (now (list .entry)) sorts entries lhs rhs ⌝ }
+    ensures { λ r. ⌜ r ≡ packedAnswer question (now (list .entry)) sorts entries lhs rhs ⌝ }
 {
     let n = sorts as usize;
     let e = entries as usize;
@@ -236,49 +236,54 @@ fn ask(
 }
 
 // A question about two sorts of a complete list, compared with the recorded answer.
-fn answer(list: &[u16; SORT_WORDS], question: Question, fields: Fields, place: Place) -> Step
-    ensures { λ r. ⌜ r ≡ questionOf (now (list .entry)) question fields place ⌝ }
+fn answer(
+    list: &[u16; SORT_WORDS],
+    question: Question,
+    fields: Fields,
+    progress: Progress,
+) -> LineStep
+    ensures { λ r. ⌜ r ≡ askLine (now (list .entry)) question fields progress ⌝ }
 {
     let values = fields.values;
     if fields.count != 3 {
-        return not_of_form(place);
+        return not_of_form(progress);
     }
-    if !complete(place) {
-        return not_of_form(place);
+    if !complete(progress) {
+        return not_of_form(progress);
     }
     let lhs = values[0];
     if MOST_WORD < lhs {
-        return not_of_form(place);
+        return not_of_form(progress);
     }
     let rhs = values[1];
     if MOST_WORD < rhs {
-        return not_of_form(place);
+        return not_of_form(progress);
     }
     let got = ask(
         list,
-        place.sorts,
-        place.entries,
+        progress.sorts,
+        progress.entries,
         question,
         lhs as u16,
         rhs as u16,
     );
     if got == values[2] {
-        return Step {
-            place,
+        return LineStep {
+            progress,
             verdict: Verdict::Agrees,
         };
     }
-    Step {
-        place,
+    LineStep {
+        progress,
         verdict: Verdict::Differs(got),
     }
 }
 
 // Where reading starts: an empty list, complete.
-pub fn start() -> Place
+pub fn start() -> Progress
     ensures { λ r. ⌜ r ≡ started ⌝ }
 {
-    Place {
+    Progress {
         sorts: 0,
         entries: 0,
         rows: 0,
@@ -287,28 +292,28 @@ pub fn start() -> Place
 }
 
 // A line of the recorded answers.
-pub fn replay_line(list: &mut [u16; SORT_WORDS], line: &[u8], place: Place) -> Step
-    ensures { λ r. ⌜ stepped (now (list .exit)) r ≡ stepOf (now (list .entry)) (now (line .entry)) place ⌝ }
+pub fn replay_line(list: &mut [u16; SORT_WORDS], line: &[u8], progress: Progress) -> LineStep
+    ensures { λ r. ⌜ stepped (now (list .exit)) r ≡ stepOf (now (list .entry)) (now (line .entry)) progress ⌝ }
 {
     if line.len() == 0 {
-        return not_of_form(place);
+        return not_of_form(progress);
     }
     let letter = line[0];
     if letter == b'#' {
-        return Step {
-            place,
+        return LineStep {
+            progress,
             verdict: Verdict::Quiet,
         };
     }
     let read = fields_of(line);
     if !read.good {
-        return not_of_form(place);
+        return not_of_form(progress);
     }
     match letter_of(letter) {
-        Letter::List => begin(read, place),
-        Letter::Row => row(list, read, place),
-        Letter::Arguments => arguments(list, read, place),
-        Letter::Asks(question) => answer(list, question, read, place),
-        Letter::Other => not_of_form(place),
+        Letter::List => begin(read, progress),
+        Letter::Row => row(list, read, progress),
+        Letter::Arguments => arguments(list, read, progress),
+        Letter::Asks(question) => answer(list, question, read, progress),
+        Letter::Other => not_of_form(progress),
     }
 }

@@ -5,114 +5,114 @@ use mathlib.Core.List.{List}
 use Prim.Native.Nat.{ℕ, _+_, _<_, _≤_}
 use lib.ListN.{length, getD, set}
 use borrow.Author.Tests.{lt-ltb, le-ltb, le-leb, lt-leb, eq-eqb, ne-eqb, not-true, not-false}
-use Rattle.unification.specs.UnifyEntry.{packed}
+use Rattle.unification.specs.UnifyEntry.{packedBinds}
 use Rattle.replay.specs.declared.Fields.{Fields}
 use Rattle.replay.specs.declared.Verdict.{Verdict}
 use Rattle.replay.specs.declared.Verdict.the-variants.{Quiet}
-use Rattle.replay.specs.Numbers.{fieldsOf, numberIn}
+use Rattle.replay.specs.Numbers.{fieldsOf, fieldAt}
 use Rattle.recorded_unify.specs.declared.Part.{Part}
 use Rattle.recorded_unify.specs.declared.Letter.{Letter}
 use Rattle.recorded_unify.specs.declared.Letter.the-variants.{List as NewList, Row, Words, Binds, Asks, Other}
-use Rattle.recorded_unify.specs.declared.Place.{Place}
-use Rattle.recorded_unify.specs.declared.Step.{Step}
-use Rattle.recorded_unify.specs.Lines.{letterOf, complete, step, notOfForm, Stepped, stepped, beginOf, rowOf, runOf, bindingsIn, renewed, bindsOf, unified, judgedOf, judgedBy, answerOf, renewedStep, byLetter, stepOf}
+use Rattle.recorded_unify.specs.declared.Progress.{Progress}
+use Rattle.recorded_unify.specs.declared.LineStep.{LineStep}
+use Rattle.recorded_unify.specs.Lines.{letterOf, complete, lineStep, notOfForm, Stepped, stepped, beginLine, rowLine, runLine, bindingsIn, renewed, bindsLine, unified, judgedOf, judgedReply, askLine, renewedStep, byLetter, stepOf}
 
-module _ (ws : List ℕ) (f : Fields) (p : Place) where
-  pub binds-count : (r : Step) → r ≡ notOfForm p → (f .count ≡ 2 → ⊥) → stepped ws r ≡ bindsOf ws f p
-  unfolding bindsOf
+module _ (ws : List ℕ) (f : Fields) (p : Progress) where
+  pub binds-count : (r : LineStep) → r ≡ notOfForm p → (f .count ≡ 2 → ⊥) → stepped ws r ≡ bindsLine ws f p
+  unfolding bindsLine
   binds-count r bad h = rw (bad, ne-eqb _ _ h)
 
   module _ (two : f .count ≡ 2) (b : Bool) (told : b ≡ complete p) where
-    pub binds-incomplete : (r : Step) → r ≡ notOfForm p → not b ≡ true → stepped ws r ≡ bindsOf ws f p
-    unfolding bindsOf
+    pub binds-incomplete : (r : LineStep) → r ≡ notOfForm p → not b ≡ true → stepped ws r ≡ bindsLine ws f p
+    unfolding bindsLine
     binds-incomplete r bad n = rw (bad, eq-eqb _ _ two, sym told ∙ not-true b n)
 
     module _ (all : not b ≡ false) where
-      pub binds-variable : (r : Step) → r ≡ notOfForm p → p .total .variables ≤ numberIn f 0 → stepped ws r ≡ bindsOf ws f p
-      unfolding bindsOf
+      pub binds-variable : (r : LineStep) → r ≡ notOfForm p → p .total .variables ≤ fieldAt f 0 → stepped ws r ≡ bindsLine ws f p
+      unfolding bindsLine
       binds-variable r bad h = rw (bad, eq-eqb _ _ two, sym told ∙ not-false b all, le-leb _ _ h)
 
-      module _ (variable : numberIn f 0 < p .total .variables) where
-        pub binds-place : (r : Step) → r ≡ notOfForm p → 65535 < numberIn f 1 → stepped ws r ≡ bindsOf ws f p
-        unfolding bindsOf
+      module _ (variable : fieldAt f 0 < p .total .variables) where
+        pub binds-place : (r : LineStep) → r ≡ notOfForm p → 65535 < fieldAt f 1 → stepped ws r ≡ bindsLine ws f p
+        unfolding bindsLine
         binds-place r bad h = rw (bad, eq-eqb _ _ two, sym told ∙ not-false b all, lt-leb _ _ variable, lt-ltb _ _ h)
 
         pub binds-well :
-            numberIn f 1 ≤ 65535 → (us : List ℕ) → us ≡ set ws (20992 + numberIn f 0) (numberIn f 1) → (r : Step) → r ≡ step p Quiet
-            → stepped us r ≡ bindsOf ws f p
-        unfolding bindsOf
+            fieldAt f 1 ≤ 65535 → (us : List ℕ) → us ≡ set ws (20992 + fieldAt f 0) (fieldAt f 1) → (r : LineStep) → r ≡ lineStep p Quiet
+            → stepped us r ≡ bindsLine ws f p
+        unfolding bindsLine
         binds-well h us u r e =
             rw (eq-eqb _ _ two, sym told ∙ not-false b all, lt-leb _ _ variable, le-ltb _ _ h) (λ i. stepped (u i) (e i))
 
-  pub answer-count : (r : Step) → r ≡ notOfForm p → (f .count ≡ 3 → ⊥) → stepped ws r ≡ answerOf ws f p
-  unfolding answerOf
+  pub answer-count : (r : LineStep) → r ≡ notOfForm p → (f .count ≡ 3 → ⊥) → stepped ws r ≡ askLine ws f p
+  unfolding askLine
   answer-count r bad h = rw (bad, ne-eqb _ _ h)
 
   module _ (three : f .count ≡ 3) (b : Bool) (told : b ≡ complete p) where
-    pub answer-incomplete : (r : Step) → r ≡ notOfForm p → not b ≡ true → stepped ws r ≡ answerOf ws f p
-    unfolding answerOf
+    pub answer-incomplete : (r : LineStep) → r ≡ notOfForm p → not b ≡ true → stepped ws r ≡ askLine ws f p
+    unfolding askLine
     answer-incomplete r bad n = rw (bad, eq-eqb _ _ three, sym told ∙ not-true b n)
 
     module _ (all : not b ≡ false) where
-      pub answer-lhs : (r : Step) → r ≡ notOfForm p → 65535 < numberIn f 0 → stepped ws r ≡ answerOf ws f p
-      unfolding answerOf
+      pub answer-lhs : (r : LineStep) → r ≡ notOfForm p → 65535 < fieldAt f 0 → stepped ws r ≡ askLine ws f p
+      unfolding askLine
       answer-lhs r bad h = rw (bad, eq-eqb _ _ three, sym told ∙ not-false b all, lt-ltb _ _ h)
 
-      module _ (lhs : numberIn f 0 ≤ 65535) where
-        pub answer-rhs : (r : Step) → r ≡ notOfForm p → 65535 < numberIn f 1 → stepped ws r ≡ answerOf ws f p
-        unfolding answerOf
+      module _ (lhs : fieldAt f 0 ≤ 65535) where
+        pub answer-rhs : (r : LineStep) → r ≡ notOfForm p → 65535 < fieldAt f 1 → stepped ws r ≡ askLine ws f p
+        unfolding askLine
         answer-rhs r bad h = rw (bad, eq-eqb _ _ three, sym told ∙ not-false b all, le-ltb _ _ lhs, lt-ltb _ _ h)
 
         pub answer-well :
-            numberIn f 1 ≤ 65535 → (bs cs : List ℕ) (got : ℕ) → bs ≡ bindingsIn ws
-            → packed cs got ≡ unified ws (p .total) bs (numberIn f 0) (numberIn f 1) → (v : Verdict) → v ≡ judgedOf ws cs got (numberIn f 2)
-            → (us : List ℕ) → us ≡ renewed ws → stepped us (step p v) ≡ answerOf ws f p
-        unfolding answerOf
+            fieldAt f 1 ≤ 65535 → (bs cs : List ℕ) (got : ℕ) → bs ≡ bindingsIn ws
+            → packedBinds cs got ≡ unified ws (p .total) bs (fieldAt f 0) (fieldAt f 1) → (v : Verdict) → v ≡ judgedOf ws cs got (fieldAt f 2)
+            → (us : List ℕ) → us ≡ renewed ws → stepped us (lineStep p v) ≡ askLine ws f p
+        unfolding askLine
         answer-well h bs cs got eb eu v ev us u =
-            let w : packed cs got ≡ unified ws (p .total) (bindingsIn ws) (numberIn f 0) (numberIn f 1) =
-            eu ∙ ap (λ x. unified ws (p .total) x (numberIn f 0) (numberIn f 1)) eb in
-            let j : v ≡ judgedBy ws (unified ws (p .total) (bindingsIn ws) (numberIn f 0) (numberIn f 1)) (numberIn f 2) =
-            ev ∙ ap (λ a. judgedBy ws a (numberIn f 2)) w in
-            rw (eq-eqb _ _ three, sym told ∙ not-false b all, le-ltb _ _ lhs, le-ltb _ _ h) (λ i. stepped (u i) (step p (j i)))
+            let w : packedBinds cs got ≡ unified ws (p .total) (bindingsIn ws) (fieldAt f 0) (fieldAt f 1) =
+            eu ∙ ap (λ x. unified ws (p .total) x (fieldAt f 0) (fieldAt f 1)) eb in
+            let j : v ≡ judgedReply ws (unified ws (p .total) (bindingsIn ws) (fieldAt f 0) (fieldAt f 1)) (fieldAt f 2) =
+            ev ∙ ap (λ a. judgedReply ws a (fieldAt f 2)) w in
+            rw (eq-eqb _ _ three, sym told ∙ not-false b all, le-ltb _ _ lhs, le-ltb _ _ h) (λ i. stepped (u i) (lineStep p (j i)))
 
-  pub by-list : (l : Letter) → l ≡ NewList → (r : Step) → r ≡ beginOf f p → stepped ws r ≡ byLetter l ws f p
+  pub by-list : (l : Letter) → l ≡ NewList → (r : LineStep) → r ≡ beginLine f p → stepped ws r ≡ byLetter l ws f p
   unfolding byLetter
   by-list l t r e = rw (t, e)
 
-  pub by-row : (l : Letter) (q : Part) → l ≡ Row q → (r : Stepped) → r ≡ rowOf ws q f p → r ≡ byLetter l ws f p
+  pub by-row : (l : Letter) (q : Part) → l ≡ Row q → (r : Stepped) → r ≡ rowLine ws q f p → r ≡ byLetter l ws f p
   unfolding byLetter
   by-row l q t r e = rw (t, e)
 
   pub by-words :
-      (l : Letter) (q : Part) → l ≡ Words q → (vs : List ℕ) (r : Step) → stepped vs r ≡ runOf ws q f p → (us : List ℕ) → us ≡ renewed vs
+      (l : Letter) (q : Part) → l ≡ Words q → (vs : List ℕ) (r : LineStep) → stepped vs r ≡ runLine ws q f p → (us : List ℕ) → us ≡ renewed vs
       → stepped us r ≡ byLetter l ws f p
   unfolding byLetter
   by-words l q t vs r e us u = rw t (ap (λ x. stepped x r) u ∙ ap renewedStep e)
 
-  pub by-binds : (l : Letter) → l ≡ Binds → (r : Stepped) → r ≡ bindsOf ws f p → r ≡ byLetter l ws f p
+  pub by-binds : (l : Letter) → l ≡ Binds → (r : Stepped) → r ≡ bindsLine ws f p → r ≡ byLetter l ws f p
   unfolding byLetter
   by-binds l t r e = rw (t, e)
 
-  pub by-question : (l : Letter) → l ≡ Asks → (r : Stepped) → r ≡ answerOf ws f p → r ≡ byLetter l ws f p
+  pub by-question : (l : Letter) → l ≡ Asks → (r : Stepped) → r ≡ askLine ws f p → r ≡ byLetter l ws f p
   unfolding byLetter
   by-question l t r e = rw (t, e)
 
-  pub by-other : (l : Letter) → l ≡ Other → (r : Step) → r ≡ notOfForm p → stepped ws r ≡ byLetter l ws f p
+  pub by-other : (l : Letter) → l ≡ Other → (r : LineStep) → r ≡ notOfForm p → stepped ws r ≡ byLetter l ws f p
   unfolding byLetter
   by-other l t r e = rw (t, e)
 
-module _ (ws line : List ℕ) (p : Place) where
-  pub line-empty : (r : Step) → r ≡ notOfForm p → length line ≡ 0 → stepped ws r ≡ stepOf ws line p
+module _ (ws line : List ℕ) (p : Progress) where
+  pub line-empty : (r : LineStep) → r ≡ notOfForm p → length line ≡ 0 → stepped ws r ≡ stepOf ws line p
   unfolding stepOf
   line-empty r bad h = rw (bad, eq-eqb _ _ h)
 
   module _ (some : length line ≡ 0 → ⊥) where
-    pub line-comment : (r : Step) → r ≡ step p Quiet → getD line 0 0 ≡ 35 → stepped ws r ≡ stepOf ws line p
+    pub line-comment : (r : LineStep) → r ≡ lineStep p Quiet → getD line 0 0 ≡ 35 → stepped ws r ≡ stepOf ws line p
     unfolding stepOf
     line-comment r e h = rw (e, ne-eqb _ _ some, eq-eqb _ _ h)
 
     module _ (says : getD line 0 0 ≡ 35 → ⊥) (f : Fields) (read : f ≡ fieldsOf line) where
-      pub line-bad : (r : Step) → r ≡ notOfForm p → not (f .good) ≡ true → stepped ws r ≡ stepOf ws line p
+      pub line-bad : (r : LineStep) → r ≡ notOfForm p → not (f .good) ≡ true → stepped ws r ≡ stepOf ws line p
       unfolding stepOf
       line-bad r bad n = rw (bad, ne-eqb _ _ some, ne-eqb _ _ says, sym read, not-true (f .good) n)
 

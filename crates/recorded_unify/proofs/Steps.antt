@@ -10,10 +10,10 @@ use Rattle.replay.specs.declared.Verdict.the-variants.{Quiet}
 use Rattle.replay.specs.Lines.{kept, storeFrom}
 use Rattle.recorded_unify.specs.declared.Part.{Part}
 use Rattle.recorded_unify.specs.declared.Letter.the-variants.{Other}
-use Rattle.recorded_unify.specs.declared.Place.{Place}
-use Rattle.recorded_unify.specs.declared.Step.{Step}
-use Rattle.replay.specs.Numbers.{numberIn}
-use Rattle.recorded_unify.specs.Lines.{letterOf, startOf, lengthOf, lengths, withLength, noLengths, placeOf, complete, step, notOfForm, Stepped, stepped, beginOf, keepOf, rowOf, runOf}
+use Rattle.recorded_unify.specs.declared.Progress.{Progress}
+use Rattle.recorded_unify.specs.declared.LineStep.{LineStep}
+use Rattle.replay.specs.Numbers.{fieldAt}
+use Rattle.recorded_unify.specs.Lines.{letterOf, partStart, partLength, lengths, withLength, noLengths, progressOf, complete, lineStep, notOfForm, Stepped, stepped, beginLine, keepOf, rowLine, runLine}
 
 pub other-letter :
     (b : ℕ) → (b ≡ 76 → ⊥) → (b ≡ 114 → ⊥) → (b ≡ 97 → ⊥) → (b ≡ 110 → ⊥) → (b ≡ 98 → ⊥) → (b ≡ 118 → ⊥) → (b ≡ 119 → ⊥) → (b ≡ 117 → ⊥)
@@ -22,40 +22,40 @@ unfolding letterOf
 other-letter b h1 h2 h3 h4 h5 h6 h7 h8 =
     rw (ne-eqb _ _ h1, ne-eqb _ _ h2, ne-eqb _ _ h3, ne-eqb _ _ h4, ne-eqb _ _ h5, ne-eqb _ _ h6, ne-eqb _ _ h7, ne-eqb _ _ h8)
 
-module _ (f : Fields) (p : Place) where
-  pub begin-count : (r : Step) → r ≡ notOfForm p → (f .count ≡ 5 → ⊥) → r ≡ beginOf f p
-  unfolding beginOf
+module _ (f : Fields) (p : Progress) where
+  pub begin-count : (r : LineStep) → r ≡ notOfForm p → (f .count ≡ 5 → ⊥) → r ≡ beginLine f p
+  unfolding beginLine
   begin-count r bad h = rw (bad, ne-eqb _ _ h)
 
   module _ (five : f .count ≡ 5) (b : Bool) (told : b ≡ complete p) where
-    pub begin-incomplete : (r : Step) → r ≡ notOfForm p → not b ≡ true → r ≡ beginOf f p
-    unfolding beginOf
+    pub begin-incomplete : (r : LineStep) → r ≡ notOfForm p → not b ≡ true → r ≡ beginLine f p
+    unfolding beginLine
     begin-incomplete r bad n = rw (bad, eq-eqb _ _ five, sym told ∙ not-true b n)
 
     module _ (all : not b ≡ false) where
-      pub begin-sorts : (r : Step) → r ≡ notOfForm p → 1024 < numberIn f 0 → r ≡ beginOf f p
-      unfolding beginOf
+      pub begin-sorts : (r : LineStep) → r ≡ notOfForm p → 1024 < fieldAt f 0 → r ≡ beginLine f p
+      unfolding beginLine
       begin-sorts r bad h = rw (bad, eq-eqb _ _ five, sym told ∙ not-false b all, lt-ltb _ _ h)
 
-      module _ (sorts : numberIn f 0 ≤ 1024) where
-        pub begin-entries : (r : Step) → r ≡ notOfForm p → 4096 < numberIn f 1 → r ≡ beginOf f p
-        unfolding beginOf
+      module _ (sorts : fieldAt f 0 ≤ 1024) where
+        pub begin-entries : (r : LineStep) → r ≡ notOfForm p → 4096 < fieldAt f 1 → r ≡ beginLine f p
+        unfolding beginLine
         begin-entries r bad h = rw (bad, eq-eqb _ _ five, sym told ∙ not-false b all, le-ltb _ _ sorts, lt-ltb _ _ h)
 
-        module _ (entries : numberIn f 1 ≤ 4096) where
-          pub begin-nodes : (r : Step) → r ≡ notOfForm p → 2048 < numberIn f 2 → r ≡ beginOf f p
-          unfolding beginOf
+        module _ (entries : fieldAt f 1 ≤ 4096) where
+          pub begin-nodes : (r : LineStep) → r ≡ notOfForm p → 2048 < fieldAt f 2 → r ≡ beginLine f p
+          unfolding beginLine
           begin-nodes r bad h = rw (bad, eq-eqb _ _ five, sym told ∙ not-false b all, le-ltb _ _ sorts, le-ltb _ _ entries, lt-ltb _ _ h)
 
-          module _ (nodes : numberIn f 2 ≤ 2048) where
-            pub begin-arguments : (r : Step) → r ≡ notOfForm p → 4096 < numberIn f 3 → r ≡ beginOf f p
-            unfolding beginOf
+          module _ (nodes : fieldAt f 2 ≤ 2048) where
+            pub begin-arguments : (r : LineStep) → r ≡ notOfForm p → 4096 < fieldAt f 3 → r ≡ beginLine f p
+            unfolding beginLine
             begin-arguments r bad h =
                 rw (bad, eq-eqb _ _ five, sym told ∙ not-false b all, le-ltb _ _ sorts, le-ltb _ _ entries, le-ltb _ _ nodes, lt-ltb _ _ h)
 
-            module _ (arguments : numberIn f 3 ≤ 4096) where
-              pub begin-variables : (r : Step) → r ≡ notOfForm p → 512 < numberIn f 4 → r ≡ beginOf f p
-              unfolding beginOf
+            module _ (arguments : fieldAt f 3 ≤ 4096) where
+              pub begin-variables : (r : LineStep) → r ≡ notOfForm p → 512 < fieldAt f 4 → r ≡ beginLine f p
+              unfolding beginLine
               begin-variables r bad h =
                   rw (
                     bad,
@@ -69,9 +69,9 @@ module _ (f : Fields) (p : Place) where
                   )
 
               pub begin-well :
-                  numberIn f 4 ≤ 512 → (none : Lengths) → none ≡ noLengths → (r : Step)
-                  → r ≡ step (placeOf (lengths (numberIn f 0) (numberIn f 1) (numberIn f 2) (numberIn f 3) (numberIn f 4)) none) Quiet → r ≡ beginOf f p
-              unfolding beginOf
+                  fieldAt f 4 ≤ 512 → (none : Lengths) → none ≡ noLengths → (r : LineStep)
+                  → r ≡ lineStep (progressOf (lengths (fieldAt f 0) (fieldAt f 1) (fieldAt f 2) (fieldAt f 3) (fieldAt f 4)) none) Quiet → r ≡ beginLine f p
+              unfolding beginLine
               begin-well h none z r e =
                   rw (
                     e,
@@ -85,47 +85,47 @@ module _ (f : Fields) (p : Place) where
                     le-ltb _ _ h,
                   )
 
-module _ (ws : List ℕ) (base : ℕ) (f : Fields) (p : Place) (q : Part) (k : ℕ) where
-  pub keep-count : (r : Step) → r ≡ notOfForm p → 16 < f .count → stepped ws r ≡ keepOf ws base f p q k
+module _ (ws : List ℕ) (base : ℕ) (f : Fields) (p : Progress) (q : Part) (k : ℕ) where
+  pub keep-count : (r : LineStep) → r ≡ notOfForm p → 16 < f .count → stepped ws r ≡ keepOf ws base f p q k
   unfolding keepOf
   keep-count r bad h = rw (bad, lt-ltb _ _ h)
 
   module _ (few : f .count ≤ 16) (us : List ℕ) (b : Bool) (stored : kept us b ≡ storeFrom (f .count) ws base (f .values) 0) where
-    pub keep-some : not b ≡ true → (r : Step) → r ≡ notOfForm p → stepped us r ≡ keepOf ws base f p q k
+    pub keep-some : not b ≡ true → (r : LineStep) → r ≡ notOfForm p → stepped us r ≡ keepOf ws base f p q k
     unfolding keepOf
     keep-some n r bad = rw (bad, le-ltb _ _ few, sym stored, not-true b n)
 
     pub keep-all :
-        not b ≡ false → (read : Lengths) → read ≡ withLength (p .read) q k → (r : Step) → r ≡ step (placeOf (p .total) read) Quiet
+        not b ≡ false → (read : Lengths) → read ≡ withLength (p .read) q k → (r : LineStep) → r ≡ lineStep (progressOf (p .total) read) Quiet
         → stepped us r ≡ keepOf ws base f p q k
     unfolding keepOf
     keep-all n read l r e = rw (e, l, le-ltb _ _ few, sym stored, not-false b n)
 
-module _ (ws : List ℕ) (q : Part) (f : Fields) (p : Place) (read total : ℕ) (isRead : read ≡ lengthOf (p .read) q) (isTotal : total ≡ lengthOf (p .total) q) where
-  pub row-count : (r : Step) → r ≡ notOfForm p → (f .count ≡ 4 → ⊥) → stepped ws r ≡ rowOf ws q f p
-  unfolding rowOf
+module _ (ws : List ℕ) (q : Part) (f : Fields) (p : Progress) (read total : ℕ) (isRead : read ≡ partLength (p .read) q) (isTotal : total ≡ partLength (p .total) q) where
+  pub row-count : (r : LineStep) → r ≡ notOfForm p → (f .count ≡ 4 → ⊥) → stepped ws r ≡ rowLine ws q f p
+  unfolding rowLine
   row-count r bad h = rw (bad, ne-eqb _ _ h)
 
-  pub row-past : (r : Step) → r ≡ notOfForm p → f .count ≡ 4 → total ≤ read → stepped ws r ≡ rowOf ws q f p
-  unfolding rowOf
+  pub row-past : (r : LineStep) → r ≡ notOfForm p → f .count ≡ 4 → total ≤ read → stepped ws r ≡ rowLine ws q f p
+  unfolding rowLine
   row-past r bad h t = rw (bad, eq-eqb _ _ h, sym isRead, sym isTotal, le-leb _ _ t)
 
   pub row-next :
-      f .count ≡ 4 → read < total → (start : ℕ) → start ≡ startOf q → (r : Stepped) → r ≡ keepOf ws (start + 4 * read) f p q (read + 1)
-      → r ≡ rowOf ws q f p
-  unfolding rowOf
+      f .count ≡ 4 → read < total → (start : ℕ) → start ≡ partStart q → (r : Stepped) → r ≡ keepOf ws (start + 4 * read) f p q (read + 1)
+      → r ≡ rowLine ws q f p
+  unfolding rowLine
   row-next h t start s r e = rw (e, eq-eqb _ _ h, sym isRead, sym isTotal, lt-leb _ _ t, s)
 
-  pub run-count : (r : Step) → r ≡ notOfForm p → 16 < f .count → stepped ws r ≡ runOf ws q f p
-  unfolding runOf
+  pub run-count : (r : LineStep) → r ≡ notOfForm p → 16 < f .count → stepped ws r ≡ runLine ws q f p
+  unfolding runLine
   run-count r bad h = rw (bad, lt-ltb _ _ h)
 
-  pub run-past : (r : Step) → r ≡ notOfForm p → f .count ≤ 16 → total < read + f .count → stepped ws r ≡ runOf ws q f p
-  unfolding runOf
+  pub run-past : (r : LineStep) → r ≡ notOfForm p → f .count ≤ 16 → total < read + f .count → stepped ws r ≡ runLine ws q f p
+  unfolding runLine
   run-past r bad h t = rw (bad, le-ltb _ _ h, sym isRead, sym isTotal, lt-ltb _ _ t)
 
   pub run-next :
-      f .count ≤ 16 → read + f .count ≤ total → (start : ℕ) → start ≡ startOf q → (r : Stepped)
-      → r ≡ keepOf ws (start + read) f p q (read + f .count) → r ≡ runOf ws q f p
-  unfolding runOf
+      f .count ≤ 16 → read + f .count ≤ total → (start : ℕ) → start ≡ partStart q → (r : Stepped)
+      → r ≡ keepOf ws (start + read) f p q (read + f .count) → r ≡ runLine ws q f p
+  unfolding runLine
   run-next h t start s r e = rw (e, le-ltb _ _ h, sym isRead, sym isTotal, le-ltb _ _ t, s)

@@ -10,19 +10,19 @@ use Rattle.unification.specs.declared.Lengths.{Lengths}
 use Rattle.words.specs.Bits.{mostWord}
 use Rattle.resolved_sort.specs.Storage.{maxSorts, maxEntries, rowWords, entriesAt, fullLength}
 use Rattle.unification.specs.Nodes.{maxNodes, maxNodeEntries, maxVars, fullNodes}
-use Rattle.unification.specs.UnifyEntry.{unifyEntry, Packed, packLeft}
+use Rattle.unification.specs.UnifyEntry.{unifyEntry, PackedBinds, packBindsLeft}
 use Rattle.words.specs.Words.{part}
 use Rattle.replay.specs.declared.Fields.{Fields}
 use Rattle.replay.specs.declared.Verdict.{Verdict}
 use Rattle.replay.specs.declared.Verdict.the-variants.{Quiet, Agrees, Differs, BindsOther, NotOfForm}
-use Rattle.replay.specs.Numbers.{fieldsOf, numberIn}
+use Rattle.replay.specs.Numbers.{fieldsOf, fieldAt}
 use Rattle.replay.specs.Lines.{maxWords, Kept, storeFrom}
 use Rattle.recorded_unify.specs.declared.Part.{Part}
 use Rattle.recorded_unify.specs.declared.Part.the-variants.{Sorts, Entries, Nodes, Arguments, Bindings}
 use Rattle.recorded_unify.specs.declared.Letter.{Letter}
 use Rattle.recorded_unify.specs.declared.Letter.the-variants.{List as NewList, Row, Words, Binds, Asks, Other}
-use Rattle.recorded_unify.specs.declared.Place.{Place}
-use Rattle.recorded_unify.specs.declared.Step.{Step}
+use Rattle.recorded_unify.specs.declared.Progress.{Progress}
+use Rattle.recorded_unify.specs.declared.LineStep.{LineStep}
 
 -- Where the parts of a list stand in its words, after the sorts: nodes and their argument entries, the bindings, and
 -- the bindings that the next question leaves.
@@ -49,19 +49,19 @@ letterOf b =
     (cond (eqb b (code "w")) Binds
     (cond (eqb b (code "u")) Asks Other)))))))
 
-unfoldable pub startOf : Part → ℕ
-startOf Sorts = 0
-startOf Entries = entriesAt
-startOf Nodes = nodesAt
-startOf Arguments = argumentsAt
-startOf Bindings = bindingsAt
+unfoldable pub partStart : Part → ℕ
+partStart Sorts = 0
+partStart Entries = entriesAt
+partStart Nodes = nodesAt
+partStart Arguments = argumentsAt
+partStart Bindings = bindingsAt
 
-unfoldable pub lengthOf : Lengths → Part → ℕ
-lengthOf l Sorts = l .sorts
-lengthOf l Entries = l .entries
-lengthOf l Nodes = l .nodes
-lengthOf l Arguments = l .arguments
-lengthOf l Bindings = l .variables
+unfoldable pub partLength : Lengths → Part → ℕ
+partLength l Sorts = l .sorts
+partLength l Entries = l .entries
+partLength l Nodes = l .nodes
+partLength l Arguments = l .arguments
+partLength l Bindings = l .variables
 
 abbrev pub lengths : ℕ → ℕ → ℕ → ℕ → ℕ → Lengths
 lengths n e m d v = record { sorts = n; entries = e; nodes = m; arguments = d; variables = v }
@@ -76,14 +76,14 @@ withLength l Bindings k = lengths (l .sorts) (l .entries) (l .nodes) (l .argumen
 abbrev pub noLengths : Lengths
 noLengths = lengths 0 0 0 0 0
 
-abbrev pub placeOf : Lengths → Lengths → Place
-placeOf total read = record { total = total; read = read }
+abbrev pub progressOf : Lengths → Lengths → Progress
+progressOf total read = record { total = total; read = read }
 
-abbrev pub started : Place
-started = placeOf noLengths noLengths
+abbrev pub started : Progress
+started = progressOf noLengths noLengths
 
 -- all of the list was read
-unfoldable pub complete : Place → Bool
+unfoldable pub complete : Progress → Bool
 complete p =
     cond (eqb (p .read .sorts) (p .total .sorts))
     (cond (eqb (p .read .entries) (p .total .entries))
@@ -93,59 +93,59 @@ complete p =
     false)
     false
 
-abbrev pub step : Place → Verdict → Step
-step p v = record { place = p; verdict = v }
+abbrev pub lineStep : Progress → Verdict → LineStep
+lineStep p v = record { progress = p; verdict = v }
 
-abbrev pub notOfForm : Place → Step
-notOfForm p = step p NotOfForm
+abbrev pub notOfForm : Progress → LineStep
+notOfForm p = lineStep p NotOfForm
 
 -- the words after a line, and what came of it
 pub record Stepped : Type 0 where
   pub words : List ℕ
-  pub result : Step
+  pub result : LineStep
 
-abbrev pub stepped : List ℕ → Step → Stepped
+abbrev pub stepped : List ℕ → LineStep → Stepped
 stepped ws s = record { words = ws; result = s }
 
 -- a new list, after one that is complete, within the ceilings
-unfoldable pub beginOf : Fields → Place → Step
-beginOf f p =
+unfoldable pub beginLine : Fields → Progress → LineStep
+beginLine f p =
     cond (eqb (f .count) 5)
     (cond (complete p)
-    (cond (ltb maxSorts (numberIn f 0)) (notOfForm p)
-    (cond (ltb maxEntries (numberIn f 1)) (notOfForm p)
-    (cond (ltb maxNodes (numberIn f 2)) (notOfForm p)
-    (cond (ltb maxNodeEntries (numberIn f 3)) (notOfForm p)
-    (cond (ltb maxVars (numberIn f 4)) (notOfForm p)
-    (step
-    (placeOf (lengths (numberIn f 0) (numberIn f 1) (numberIn f 2) (numberIn f 3) (numberIn f 4)) noLengths)
+    (cond (ltb maxSorts (fieldAt f 0)) (notOfForm p)
+    (cond (ltb maxEntries (fieldAt f 1)) (notOfForm p)
+    (cond (ltb maxNodes (fieldAt f 2)) (notOfForm p)
+    (cond (ltb maxNodeEntries (fieldAt f 3)) (notOfForm p)
+    (cond (ltb maxVars (fieldAt f 4)) (notOfForm p)
+    (lineStep
+    (progressOf (lengths (fieldAt f 0) (fieldAt f 1) (fieldAt f 2) (fieldAt f 3) (fieldAt f 4)) noLengths)
     Quiet))))))
     (notOfForm p))
     (notOfForm p)
 
-abbrev pub keptStep : Place → Place → Kept → Stepped
-keptStep p next k = stepped (k .words) (cond (k .all) (step next Quiet) (notOfForm p))
+abbrev pub keptStep : Progress → Progress → Kept → Stepped
+keptStep p next k = stepped (k .words) (cond (k .all) (lineStep next Quiet) (notOfForm p))
 
 -- words of a part stored from a word on, so that it then has a length
-unfoldable pub keepOf : List ℕ → ℕ → Fields → Place → Part → ℕ → Stepped
+unfoldable pub keepOf : List ℕ → ℕ → Fields → Progress → Part → ℕ → Stepped
 keepOf ws base f p q k =
     cond (ltb maxWords (f .count)) (stepped ws (notOfForm p))
-    (keptStep p (placeOf (p .total) (withLength (p .read) q k)) (storeFrom (f .count) ws base (f .values) 0))
+    (keptStep p (progressOf (p .total) (withLength (p .read) q k)) (storeFrom (f .count) ws base (f .values) 0))
 
 -- the next sort or node, where one is missing
-unfoldable pub rowOf : List ℕ → Part → Fields → Place → Stepped
-rowOf ws q f p =
+unfoldable pub rowLine : List ℕ → Part → Fields → Progress → Stepped
+rowLine ws q f p =
     cond (eqb (f .count) 4)
-    (cond (leb (lengthOf (p .total) q) (lengthOf (p .read) q)) (stepped ws (notOfForm p))
-    (keepOf ws (startOf q + rowWords * lengthOf (p .read) q) f p q (lengthOf (p .read) q + 1)))
+    (cond (leb (partLength (p .total) q) (partLength (p .read) q)) (stepped ws (notOfForm p))
+    (keepOf ws (partStart q + rowWords * partLength (p .read) q) f p q (partLength (p .read) q + 1)))
     (stepped ws (notOfForm p))
 
 -- the next entries or bindings, where that many are missing
-unfoldable pub runOf : List ℕ → Part → Fields → Place → Stepped
-runOf ws q f p =
+unfoldable pub runLine : List ℕ → Part → Fields → Progress → Stepped
+runLine ws q f p =
     cond (ltb maxWords (f .count)) (stepped ws (notOfForm p))
-    (cond (ltb (lengthOf (p .total) q) (lengthOf (p .read) q + f .count)) (stepped ws (notOfForm p))
-    (keepOf ws (startOf q + lengthOf (p .read) q) f p q (lengthOf (p .read) q + f .count)))
+    (cond (ltb (partLength (p .total) q) (partLength (p .read) q + f .count)) (stepped ws (notOfForm p))
+    (keepOf ws (partStart q + partLength (p .read) q) f p q (partLength (p .read) q + f .count)))
 
 abbrev pub bindingsIn : List ℕ → List ℕ
 bindingsIn ws = part bindingsAt maxVars ws
@@ -155,20 +155,20 @@ unfoldable pub renewed : List ℕ → List ℕ
 renewed ws = sets ws leftAt (bindingsIn ws)
 
 -- a binding that the next question makes
-unfoldable pub bindsOf : List ℕ → Fields → Place → Stepped
-bindsOf ws f p =
+unfoldable pub bindsLine : List ℕ → Fields → Progress → Stepped
+bindsLine ws f p =
     cond (eqb (f .count) 2)
     (cond (complete p)
-    (cond (leb (p .total .variables) (numberIn f 0)) (stepped ws (notOfForm p))
-    (cond (ltb mostWord (numberIn f 1)) (stepped ws (notOfForm p))
-    (stepped (set ws (leftAt + numberIn f 0) (numberIn f 1)) (step p Quiet))))
+    (cond (leb (p .total .variables) (fieldAt f 0)) (stepped ws (notOfForm p))
+    (cond (ltb mostWord (fieldAt f 1)) (stepped ws (notOfForm p))
+    (stepped (set ws (leftAt + fieldAt f 0) (fieldAt f 1)) (lineStep p Quiet))))
     (stepped ws (notOfForm p)))
     (stepped ws (notOfForm p))
 
 -- what the entry answers on the words of a list, and what it leaves of the bindings
-unfoldable pub unified : List ℕ → Lengths → List ℕ → ℕ → ℕ → Packed
+unfoldable pub unified : List ℕ → Lengths → List ℕ → ℕ → ℕ → PackedBinds
 unified ws l bs a b =
-    packLeft (unifyEntry (take fullLength ws) (l .sorts) (l .entries) (part nodesAt fullNodes ws) (l .nodes)
+    packBindsLeft (unifyEntry (take fullLength ws) (l .sorts) (l .entries) (part nodesAt fullNodes ws) (l .nodes)
     (l .arguments) bs (l .variables) a b)
 
 -- m bindings from the i-th on compared with those recorded: the first that is another
@@ -180,18 +180,18 @@ judgedFrom (suc m) ws bs i =
 unfoldable pub judgedOf : List ℕ → List ℕ → ℕ → ℕ → Verdict
 judgedOf ws bs got recorded = cond (eqb got recorded) (judgedFrom maxVars ws bs 0) (Differs got)
 
-abbrev pub judgedBy : List ℕ → Packed → ℕ → Verdict
-judgedBy ws a recorded = judgedOf ws (a .words) (a .result) recorded
+abbrev pub judgedReply : List ℕ → PackedBinds → ℕ → Verdict
+judgedReply ws a recorded = judgedOf ws (a .words) (a .result) recorded
 
 -- a question about two places of a complete list, and the recorded answer
-unfoldable pub answerOf : List ℕ → Fields → Place → Stepped
-answerOf ws f p =
+unfoldable pub askLine : List ℕ → Fields → Progress → Stepped
+askLine ws f p =
     cond (eqb (f .count) 3)
     (cond (complete p)
-    (cond (ltb mostWord (numberIn f 0)) (stepped ws (notOfForm p))
-    (cond (ltb mostWord (numberIn f 1)) (stepped ws (notOfForm p))
-    (stepped (renewed ws) (step p (judgedBy ws
-    (unified ws (p .total) (bindingsIn ws) (numberIn f 0) (numberIn f 1)) (numberIn f 2))))))
+    (cond (ltb mostWord (fieldAt f 0)) (stepped ws (notOfForm p))
+    (cond (ltb mostWord (fieldAt f 1)) (stepped ws (notOfForm p))
+    (stepped (renewed ws) (lineStep p (judgedReply ws
+    (unified ws (p .total) (bindingsIn ws) (fieldAt f 0) (fieldAt f 1)) (fieldAt f 2))))))
     (stepped ws (notOfForm p)))
     (stepped ws (notOfForm p))
 
@@ -199,18 +199,18 @@ abbrev pub renewedStep : Stepped → Stepped
 renewedStep s = stepped (renewed (s .words)) (s .result)
 
 -- by the letter of a line
-unfoldable pub byLetter : Letter → List ℕ → Fields → Place → Stepped
-byLetter NewList ws f p = stepped ws (beginOf f p)
-byLetter (Row q) ws f p = rowOf ws q f p
-byLetter (Words q) ws f p = renewedStep (runOf ws q f p)
-byLetter Binds ws f p = bindsOf ws f p
-byLetter Asks ws f p = answerOf ws f p
+unfoldable pub byLetter : Letter → List ℕ → Fields → Progress → Stepped
+byLetter NewList ws f p = stepped ws (beginLine f p)
+byLetter (Row q) ws f p = rowLine ws q f p
+byLetter (Words q) ws f p = renewedStep (runLine ws q f p)
+byLetter Binds ws f p = bindsLine ws f p
+byLetter Asks ws f p = askLine ws f p
 byLetter Other ws f p = stepped ws (notOfForm p)
 
 -- A line: empty is not of the form, # says nothing, else a letter and numbers.
-unfoldable pub stepOf : List ℕ → List ℕ → Place → Stepped
+unfoldable pub stepOf : List ℕ → List ℕ → Progress → Stepped
 stepOf ws line p =
     cond (eqb (length line) 0) (stepped ws (notOfForm p))
-    (cond (eqb (getD line 0 0) (code "#")) (stepped ws (step p Quiet))
+    (cond (eqb (getD line 0 0) (code "#")) (stepped ws (lineStep p Quiet))
     (cond ((fieldsOf line) .good) (byLetter (letterOf (getD line 0 0)) ws (fieldsOf line) p)
     (stepped ws (notOfForm p))))

@@ -21,12 +21,12 @@ use words::put;
 ghost use mathlib.Core.Path.{_≡_};
 ghost use Prim.Native.Nat.{_≤_};
 ghost use lib.ListN.{length};
-ghost use Rattle.unification.specs.UnifyEntry.{packed};
+ghost use Rattle.unification.specs.UnifyEntry.{packedBinds};
 ghost use Rattle.replay.specs.Lines.{nearEnough};
-ghost use Rattle.recorded_unify.specs.Lines.{bindingsAt, letterOf, startOf, lengthOf, withLength};
-ghost use Rattle.recorded_unify.specs.Lines.{noLengths, started, complete as isComplete, step, notOfForm};
-ghost use Rattle.recorded_unify.specs.Lines.{stepped, beginOf, keepOf, rowOf, runOf, renewed};
-ghost use Rattle.recorded_unify.specs.Lines.{bindingsIn, bindsOf, unified, judgedOf, answerOf, stepOf};
+ghost use Rattle.recorded_unify.specs.Lines.{bindingsAt, letterOf, partStart, partLength, withLength};
+ghost use Rattle.recorded_unify.specs.Lines.{noLengths, started, complete as isComplete, lineStep, notOfForm};
+ghost use Rattle.recorded_unify.specs.Lines.{stepped, beginLine, keepOf, rowLine, runLine, renewed};
+ghost use Rattle.recorded_unify.specs.Lines.{bindingsIn, bindsLine, unified, judgedOf, askLine, stepOf};
 
 // The parts of a list stand one after another in its words: sorts and their entries as the entry takes them, nodes and
 // theirs, the bindings, and at last the bindings that the next question leaves.
@@ -71,30 +71,30 @@ pub enum Letter {
 }
 
 // How much a list has by its first line, and how much of it was read.
-pub struct Place {
+pub struct Progress {
     pub total: Lengths,
     pub read: Lengths,
 }
 
-pub struct Step {
-    pub place: Place,
+pub struct LineStep {
+    pub progress: Progress,
     pub verdict: Verdict,
 }
 
-fn not_of_form(place: Place) -> Step
-    ensures { λ r. ⌜ r ≡ notOfForm place ⌝ }
+fn not_of_form(progress: Progress) -> LineStep
+    ensures { λ r. ⌜ r ≡ notOfForm progress ⌝ }
 {
-    Step {
-        place,
+    LineStep {
+        progress,
         verdict: Verdict::NotOfForm,
     }
 }
 
-fn quiet(place: Place) -> Step
-    ensures { λ r. ⌜ r ≡ step place Verdict.Quiet ⌝ }
+fn quiet(progress: Progress) -> LineStep
+    ensures { λ r. ⌜ r ≡ lineStep progress Verdict.Quiet ⌝ }
 {
-    Step {
-        place,
+    LineStep {
+        progress,
         verdict: Verdict::Quiet,
     }
 }
@@ -118,7 +118,7 @@ fn letter_of(letter: u8) -> Letter
 
 // The word at which a part starts.
 fn start_of(part: Part) -> usize
-    ensures { λ r. ⌜ (r ≡ startOf part) × (r ≤ bindingsAt) ⌝ }
+    ensures { λ r. ⌜ (r ≡ partStart part) × (r ≤ bindingsAt) ⌝ }
 {
     match part {
         Part::Sorts => 0,
@@ -131,7 +131,7 @@ fn start_of(part: Part) -> usize
 
 // How much of a part there is.
 fn length_of(lengths: Lengths, part: Part) -> u16
-    ensures { λ r. ⌜ r ≡ lengthOf lengths part ⌝ }
+    ensures { λ r. ⌜ r ≡ partLength lengths part ⌝ }
 {
     match part {
         Part::Sorts => lengths.sorts,
@@ -203,11 +203,11 @@ fn no_lengths() -> Lengths
 }
 
 // Whether all of the list was read.
-pub fn complete(place: Place) -> bool
-    ensures { λ r. ⌜ r ≡ isComplete place ⌝ }
+pub fn complete(progress: Progress) -> bool
+    ensures { λ r. ⌜ r ≡ isComplete progress ⌝ }
 {
-    let total = place.total;
-    let read = place.read;
+    let total = progress.total;
+    let read = progress.read;
     if read.sorts != total.sorts {
         return false;
     }
@@ -224,30 +224,30 @@ pub fn complete(place: Place) -> bool
 }
 
 // A new list, of which nothing was read yet, after one that is complete.
-fn begin(fields: Fields, place: Place) -> Step
-    ensures { λ r. ⌜ r ≡ beginOf fields place ⌝ }
+fn begin(fields: Fields, progress: Progress) -> LineStep
+    ensures { λ r. ⌜ r ≡ beginLine fields progress ⌝ }
 {
     let values = fields.values;
     if fields.count != 5 {
-        return not_of_form(place);
+        return not_of_form(progress);
     }
-    if !complete(place) {
-        return not_of_form(place);
+    if !complete(progress) {
+        return not_of_form(progress);
     }
     if SORTS < values[0] {
-        return not_of_form(place);
+        return not_of_form(progress);
     }
     if ENTRIES < values[1] {
-        return not_of_form(place);
+        return not_of_form(progress);
     }
     if NODES < values[2] {
-        return not_of_form(place);
+        return not_of_form(progress);
     }
     if ARGUMENTS < values[3] {
-        return not_of_form(place);
+        return not_of_form(progress);
     }
     if VARIABLES < values[4] {
-        return not_of_form(place);
+        return not_of_form(progress);
     }
     let total = Lengths {
         sorts: values[0] as u16,
@@ -256,7 +256,7 @@ fn begin(fields: Fields, place: Place) -> Step
         arguments: values[3] as u16,
         variables: values[4] as u16,
     };
-    let next = Place {
+    let next = Progress {
         total,
         read: no_lengths(),
     };
@@ -268,24 +268,24 @@ fn keep(
     words: &mut [u16; LIST_WORDS],
     base: usize,
     fields: Fields,
-    place: Place,
+    progress: Progress,
     part: Part,
     length: u16,
-) -> Step
+) -> LineStep
     requires { ⌜ base ≤ nearEnough ⌝ }
-    ensures { λ r. ⌜ stepped (now (words .exit)) r ≡ keepOf (now (words .entry)) base fields place part length ⌝ }
+    ensures { λ r. ⌜ stepped (now (words .exit)) r ≡ keepOf (now (words .entry)) base fields progress part length ⌝ }
 {
     let values = fields.values;
     let count = fields.count;
     if MAX_WORDS < count {
-        return not_of_form(place);
+        return not_of_form(progress);
     }
     if !store(words, base, values, 0, count) {
-        return not_of_form(place);
+        return not_of_form(progress);
     }
-    let total = place.total;
-    let read = place.read;
-    let next = Place {
+    let total = progress.total;
+    let read = progress.read;
+    let next = Progress {
         total,
         read: with_length(read, part, length),
     };
@@ -293,45 +293,45 @@ fn keep(
 }
 
 // The next sort or node.
-fn row(words: &mut [u16; LIST_WORDS], part: Part, fields: Fields, place: Place) -> Step
-    ensures { λ r. ⌜ stepped (now (words .exit)) r ≡ rowOf (now (words .entry)) part fields place ⌝ }
+fn row(words: &mut [u16; LIST_WORDS], part: Part, fields: Fields, progress: Progress) -> LineStep
+    ensures { λ r. ⌜ stepped (now (words .exit)) r ≡ rowLine (now (words .entry)) part fields progress ⌝ }
 {
-    let read = length_of(place.read, part);
-    let total = length_of(place.total, part);
+    let read = length_of(progress.read, part);
+    let total = length_of(progress.total, part);
     if fields.count != 4 {
-        return not_of_form(place);
+        return not_of_form(progress);
     }
     if total <= read {
-        return not_of_form(place);
+        return not_of_form(progress);
     }
     keep(
         words,
         start_of(part) + ROW_WORDS * (read as usize),
         fields,
-        place,
+        progress,
         part,
         read + 1,
     )
 }
 
 // The next entries or bindings.
-fn run(words: &mut [u16; LIST_WORDS], part: Part, fields: Fields, place: Place) -> Step
-    ensures { λ r. ⌜ stepped (now (words .exit)) r ≡ runOf (now (words .entry)) part fields place ⌝ }
+fn run(words: &mut [u16; LIST_WORDS], part: Part, fields: Fields, progress: Progress) -> LineStep
+    ensures { λ r. ⌜ stepped (now (words .exit)) r ≡ runLine (now (words .entry)) part fields progress ⌝ }
 {
-    let read = length_of(place.read, part);
-    let total = length_of(place.total, part);
+    let read = length_of(progress.read, part);
+    let total = length_of(progress.total, part);
     let count = fields.count;
     if MAX_WORDS < count {
-        return not_of_form(place);
+        return not_of_form(progress);
     }
     if (total as usize) < (read as usize) + count {
-        return not_of_form(place);
+        return not_of_form(progress);
     }
     keep(
         words,
         start_of(part) + (read as usize),
         fields,
-        place,
+        progress,
         part,
         read + (count as u16),
     )
@@ -355,34 +355,34 @@ fn renew(words: &mut [u16; LIST_WORDS])
 }
 
 // A binding that the next question makes.
-fn binds(words: &mut [u16; LIST_WORDS], fields: Fields, place: Place) -> Step
-    ensures { λ r. ⌜ stepped (now (words .exit)) r ≡ bindsOf (now (words .entry)) fields place ⌝ }
+fn binds(words: &mut [u16; LIST_WORDS], fields: Fields, progress: Progress) -> LineStep
+    ensures { λ r. ⌜ stepped (now (words .exit)) r ≡ bindsLine (now (words .entry)) fields progress ⌝ }
 {
     let values = fields.values;
-    let total = place.total;
+    let total = progress.total;
     if fields.count != 2 {
-        return not_of_form(place);
+        return not_of_form(progress);
     }
-    if !complete(place) {
-        return not_of_form(place);
+    if !complete(progress) {
+        return not_of_form(progress);
     }
     let variable = values[0];
     if (total.variables as u64) <= variable {
-        return not_of_form(place);
+        return not_of_form(progress);
     }
     let bound = values[1];
     if MOST_WORD < bound {
-        return not_of_form(place);
+        return not_of_form(progress);
     }
     put(words, LEFT_AT + (variable as usize), bound as u16);
-    quiet(place)
+    quiet(progress)
 }
 
 // What the entry answers on the list, and what it leaves of the bindings.
 fn ask(words: &[u16], total: Lengths, bindings: &mut [u16], lhs: u16, rhs: u16) -> u64
     requires { ⌜ bindingsAt ≤ length (now words) ⌝ }
     ensures { λ r. ⌜
-        packed (now (bindings .exit)) r
+        packedBinds (now (bindings .exit)) r
         ≡ unified (now (words .entry)) total (now (bindings .entry)) lhs rhs
         ⌝ }
 {
@@ -418,66 +418,66 @@ fn judge(words: &[u16; LIST_WORDS], bindings: &[u16; MAX_VARS], got: u64, record
 }
 
 // A question about two places of a complete list. The entry works on bindings of its own.
-fn answer(words: &mut [u16; LIST_WORDS], fields: Fields, place: Place) -> Step
-    ensures { λ r. ⌜ stepped (now (words .exit)) r ≡ answerOf (now (words .entry)) fields place ⌝ }
+fn answer(words: &mut [u16; LIST_WORDS], fields: Fields, progress: Progress) -> LineStep
+    ensures { λ r. ⌜ stepped (now (words .exit)) r ≡ askLine (now (words .entry)) fields progress ⌝ }
 {
     let values = fields.values;
     if fields.count != 3 {
-        return not_of_form(place);
+        return not_of_form(progress);
     }
-    if !complete(place) {
-        return not_of_form(place);
+    if !complete(progress) {
+        return not_of_form(progress);
     }
     let lhs = values[0];
     if MOST_WORD < lhs {
-        return not_of_form(place);
+        return not_of_form(progress);
     }
     let rhs = values[1];
     if MOST_WORD < rhs {
-        return not_of_form(place);
+        return not_of_form(progress);
     }
     let mut bindings = bindings_of(words);
-    let got = ask(words, place.total, &mut bindings, lhs as u16, rhs as u16);
+    let got = ask(words, progress.total, &mut bindings, lhs as u16, rhs as u16);
     let verdict = judge(words, &bindings, got, values[2]);
     renew(words);
-    Step { place, verdict }
+    LineStep { progress, verdict }
 }
 
 // Where reading starts: an empty list, complete.
-pub fn start() -> Place
+pub fn start() -> Progress
     ensures { λ r. ⌜ r ≡ started ⌝ }
 {
-    Place {
+    Progress {
         total: no_lengths(),
         read: no_lengths(),
     }
 }
 
 // A line of the recorded answers.
-pub fn replay_line(words: &mut [u16; LIST_WORDS], line: &[u8], place: Place) -> Step
-    ensures { λ r. ⌜ stepped (now (words .exit)) r ≡ stepOf (now (words .entry)) (now (line .entry)) place ⌝ }
+pub fn replay_line(words: &mut [u16; LIST_WORDS], line: &[u8], progress: Progress) -> LineStep
+    ensures { λ r. ⌜ stepped (now (words .exit)) r ≡ stepOf (now (words .entry)) (now (line .entry)) progress ⌝ }
 {
     if line.len() == 0 {
-        return not_of_form(place);
+        return not_of_form(progress);
     }
     let letter = line[0];
     if letter == b'#' {
-        return quiet(place);
+        return quiet(progress);
     }
     let read = fields_of(line);
     if !read.good {
-        return not_of_form(place);
+        return not_of_form(progress);
     }
     match letter_of(letter) {
-        Letter::List => begin(read, place),
-        Letter::Row(part) => row(words, part, read, place),
+        Letter::List => begin(read, progress),
+        Letter::Row(part) => row(words, part, read, progress),
         Letter::Words(part) => {
-            let next = run(words, part, read, place);
+            let next = run(words, part, read, progress);
             renew(words);
             next
         }
-        Letter::Binds => binds(words, read, place),
-        Letter::Asks => answer(words, read, place),
-        Letter::Other => not_of_form(place),
+        Letter::Binds => binds(words, read, progress),
+        Letter::Asks => answer(words, read, progress),
+        Letter::Other => not_of_form(progress),
     }
 }

@@ -44,7 +44,7 @@ use Rattle.unification.proofs.Rows.{ShapeFormed, variable-formed, flat-formed, 
 use Rattle.infer_nodes.specs.Parts.{NodesReady}
 use Rattle.infer_nodes.proofs.Shapes.{at-sort, shape-of-variable}
 use Rattle.infer_nodes.proofs.Ways as ways
-use Rattle.related_sorts.specs.Outcome.{related, AreThese, IsFunction, FunctionAt, Relates}
+use Rattle.related_sorts.specs.Outcome.{relatedMade, AreThese, IsFunction, FunctionAt, Relates}
 use Rattle.related_sorts.proofs.Laws.{relates-as, no-places}
 
 -- a function has at most 16 arguments
@@ -184,7 +184,7 @@ module _ (ws ns bs : List ℕ) (k : Lengths) (q : Ready ws ns bs k) (up : Bool) 
           (range-lower-than-place W bs q up p p (own-end p (functionHead n) ps (I .stands)) n ps (I .stands))
 
       pub functions-related : (vs ms₁ : List ℕ) (a : Related) → Relates vs ms₁ a (answer g) → (xs : List ℕ) → take n xs ≡ take n ps → (ms₂ : List ℕ) (b : Related)
-          → Relates vs ms₂ b (related vs ms₁ a and-then pushFunctions (take n xs)) → Relates vs ms₂ b (answer p)
+          → Relates vs ms₂ b (relatedMade vs ms₁ a and-then pushFunctions (take n xs)) → Relates vs ms₂ b (answer p)
       functions-related vs ms₁ a u xs x ms₂ b w =
           relates-as vs ms₂ b w
           (ap₂ (λ (O : Makes (List ℕ)) (ys : List ℕ). O and-then pushFunctions ys) (u .says ∙ ap answer e) x

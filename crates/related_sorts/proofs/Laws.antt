@@ -36,7 +36,7 @@ use Rattle.unification.specs.Nodes.{maxNodes, maxNodeEntries, nodeEntriesAt}
 use Rattle.unification.specs.Related.{relatedContainer}
 use Rattle.unification.specs.Making.{Lent, Makes, made, no-list, no-room, _and-then_, only, withSorts, pushNode, appendNode, internContainer, relatedOver, pushFunctions, lent}
 use Rattle.unification.specs.Resolve.{withCounts}
-use Rattle.related_sorts.specs.Outcome.{row, pushed, relatedBy, related, AreThese, RangesBy, Ranges, Relates}
+use Rattle.related_sorts.specs.Outcome.{row, pushed, relatedMadeBy, relatedMade, AreThese, RangesBy, Ranges, Relates}
 
 -- numbers
 pub are-these : (r t : Three) → r ≡ t → (ps : List ℕ) → take (t .count) (t .ids) ≡ ps → t .count ≤ 3 → AreThese r ps
@@ -144,19 +144,19 @@ module _ (ws : List ℕ) (xs : List ℕ) (ranges : List ℕ) (n : ℕ) (three : 
 
 -- over the related ranges
 module _ (ws ns : List ℕ) (a : Related) (xs : List ℕ) where
-  pub no-ranges : (k : Lengths) → a .listed ≡ NoList k → (zs : List ℕ) → Relates ws ns (record { ids = zs; listed = NoList k }) (related ws ns a and-then pushFunctions xs)
-  no-ranges k e zs = record { says = sym (ap (λ y. relatedBy ws ns (a .ids) y and-then pushFunctions xs) e); few = tt }
+  pub no-ranges : (k : Lengths) → a .listed ≡ NoList k → (zs : List ℕ) → Relates ws ns (record { ids = zs; listed = NoList k }) (relatedMade ws ns a and-then pushFunctions xs)
+  no-ranges k e zs = record { says = sym (ap (λ y. relatedMadeBy ws ns (a .ids) y and-then pushFunctions xs) e); few = tt }
 
-  pub no-room-for-ranges : (c : ℕ) (k : Lengths) → a .listed ≡ Full c k → (zs : List ℕ) → Relates ws ns (record { ids = zs; listed = Full c k }) (related ws ns a and-then pushFunctions xs)
-  no-room-for-ranges c k e zs = record { says = sym (ap (λ y. relatedBy ws ns (a .ids) y and-then pushFunctions xs) e); few = tt }
+  pub no-room-for-ranges : (c : ℕ) (k : Lengths) → a .listed ≡ Full c k → (zs : List ℕ) → Relates ws ns (record { ids = zs; listed = Full c k }) (relatedMade ws ns a and-then pushFunctions xs)
+  no-room-for-ranges c k e zs = record { says = sym (ap (λ y. relatedMadeBy ws ns (a .ids) y and-then pushFunctions xs) e); few = tt }
 
   module _ (n : ℕ) (k : Lengths) (e : a .listed ≡ These n k) where
     pub few-ranges : Ranges a → n ≤ 3
     few-ranges r = subst RangesBy e r
 
     pub ranges-pushed : (ids ns₁ : List ℕ) (b : Related) → Relates ws ns₁ b (pushFunctions xs (drop 0 (take n (a .ids))) (lent ws ns k) and-then (λ ps W. made (take 0 ids ++ ps) W))
-        → Relates ws ns₁ b (related ws ns a and-then pushFunctions xs)
-    ranges-pushed ids ns₁ b u = relates-as ws ns₁ b u (go (pushFunctions xs (take n (a .ids)) (lent ws ns k)) ∙ sym (ap (λ y. relatedBy ws ns (a .ids) y and-then pushFunctions xs) e))
+        → Relates ws ns₁ b (relatedMade ws ns a and-then pushFunctions xs)
+    ranges-pushed ids ns₁ b u = relates-as ws ns₁ b u (go (pushFunctions xs (take n (a .ids)) (lent ws ns k)) ∙ sym (ap (λ y. relatedMadeBy ws ns (a .ids) y and-then pushFunctions xs) e))
       where
         go : (O : Makes (List ℕ)) → (O and-then (λ ps W. made ps W)) ≡ O
         go (made ps W) = refl
@@ -187,10 +187,10 @@ module _ (ws : List ℕ) (n e : ℕ) (k : Checked ws n e) (t : Tree) (ws₁ : Li
 
 -- no place, and one
 pub no-places : (ws ns : List ℕ) (k : Lengths) (a : Related) → a ≡ record { ids = 0 ∷ 0 ∷ 0 ∷ []; listed = These 0 k } → Relates ws ns a (made [] (lent ws ns k))
-no-places ws ns k a y = record { says = ap (related ws ns) y; few = subst Ranges (sym y) (omega arith) }
+no-places ws ns k a y = record { says = ap (relatedMade ws ns) y; few = subst Ranges (sym y) (omega arith) }
 
 one-place : (ws ns : List ℕ) (p : ℕ) (k : Lengths) (a : Related) → a ≡ record { ids = p ∷ 0 ∷ 0 ∷ []; listed = These 1 k } → Relates ws ns a (made (p ∷ []) (lent ws ns k))
-one-place ws ns p k a y = record { says = ap (related ws ns) y; few = subst Ranges (sym y) (omega arith) }
+one-place ws ns p k a y = record { says = ap (relatedMade ws ns) y; few = subst Ranges (sym y) (omega arith) }
 
 -- containers
 module _ (up : Bool) (o : ComplexSort) (b : OpBound) (e : b ≡ opBound (relatedContainer up o)) where

@@ -22,13 +22,13 @@ abbrev pub pushed : List ℕ → List ℕ → Lengths → Pushed → Makes ℕ
 pushed ws ns k (At p k′) = made p (lent ws ns k′)
 pushed ws ns k NoRoom = no-room 16 (lent ws ns k)
 
-abbrev pub relatedBy : List ℕ → List ℕ → List ℕ → Listed → Makes (List ℕ)
-relatedBy ws ns ids (These c k) = made (take c ids) (lent ws ns k)
-relatedBy ws ns ids (NoList k) = no-list (lent ws ns k)
-relatedBy ws ns ids (Full c k) = no-room c (lent ws ns k)
+abbrev pub relatedMadeBy : List ℕ → List ℕ → List ℕ → Listed → Makes (List ℕ)
+relatedMadeBy ws ns ids (These c k) = made (take c ids) (lent ws ns k)
+relatedMadeBy ws ns ids (NoList k) = no-list (lent ws ns k)
+relatedMadeBy ws ns ids (Full c k) = no-room c (lent ws ns k)
 
-abbrev pub related : List ℕ → List ℕ → Related → Makes (List ℕ)
-related ws ns r = relatedBy ws ns (r .ids) (r .listed)
+abbrev pub relatedMade : List ℕ → List ℕ → Related → Makes (List ℕ)
+relatedMade ws ns r = relatedMadeBy ws ns (r .ids) (r .listed)
 
 -- these places, at most three
 pub record AreThese (r : Three) (ps : List ℕ) : Type 0 where
@@ -58,5 +58,5 @@ Ranges r = RangesBy (r .listed)
 
 -- The answer and what was left are those of the definition, and there are at most three places.
 pub record Relates (ws ns : List ℕ) (r : Related) (O : Makes (List ℕ)) : Type 0 where
-  pub says : related ws ns r ≡ O
+  pub says : relatedMade ws ns r ≡ O
   pub few : Ranges r

@@ -47,7 +47,7 @@ ghost use Rattle.unification.specs.Checked.{graphOf, Ready, Placed};
 ghost use Rattle.unification.specs.Related.{relatedContainer};
 ghost use Rattle.unification.specs.Making.{made, _and-then_, pushNode, relatedOver, lent};
 ghost use Rattle.unification.specs.Making.{pushFunctions, relatedPlaces, strictRelated};
-ghost use Rattle.related_sorts.specs.Outcome.{pushed, related, row, AreThese};
+ghost use Rattle.related_sorts.specs.Outcome.{pushed, relatedMade, row, AreThese};
 ghost use Rattle.related_sorts.specs.Outcome.{IsFunction, FunctionAt, Ranges, Relates};
 
 // The numbers strictly above or below `sort`, in ascending distance.
@@ -237,7 +237,7 @@ fn over_ranges(
     requires { ⌜ Ranges found × (count ≤ maxArguments) ⌝ }
     ensures { λ r. ⌜
         Relates (now (sorts .entry)) (now (nodes .exit)) r
-        (related (now (sorts .entry)) (now (nodes .entry)) found and-then pushFunctions (take count domain))
+        (relatedMade (now (sorts .entry)) (now (nodes .entry)) found and-then pushFunctions (take count domain))
         ⌝ }
 {
     let ids = found.ids;

@@ -69,5 +69,5 @@ unfoldable pub fieldsOf : List ℕ → Fields
 fieldsOf line = fieldsFrom maxFields line 1 (replicate maxFields 0) 0
 
 -- the i-th number of a line
-abbrev pub numberIn : Fields → ℕ → ℕ
-numberIn f i = getD (f .values) i 0
+abbrev pub fieldAt : Fields → ℕ → ℕ
+fieldAt f i = getD (f .values) i 0

@@ -1,7 +1,7 @@
 // What the programs that replay recorded answers share: the numbers of a line, the counts of lines that agree and
 // differ, and what is said of a line and at the end.
 use libc::STDOUT_FILENO;
-use line_input::Found;
+use line_input::LineFound;
 use words::MOST_WORD;
 use words::put;
 ghost use mathlib.Core.Path.{_≡_};
@@ -250,10 +250,10 @@ pub fn say(number: u64, text: &[u8], verdict: Verdict) {
 
 // How many answers were checked and how many lines do not agree. A read that failed and a last list
 // that is not complete count as a line each.
-pub fn finish(tally: Tally, found: Found, complete: bool) {
+pub fn finish(tally: Tally, found: LineFound, complete: bool) {
     let mut all = tally;
     match found {
-        Found::Failed => {
+        LineFound::Failed => {
             io::write_all(STDOUT_FILENO, b"the input cannot be read\n");
             all = counted(all, Verdict::NotOfForm);
         }

@@ -5,7 +5,7 @@
 //
 // Its file stdin is a copy, byte for byte, of oracle/recorded/solve-words.txt, with the answers of the excerpt of merc:
 // `cp oracle/recorded/solve-words.txt crates/replay_solve/stdin`. Its first lines say how they were made.
-use line_input::Found;
+use line_input::LineFound;
 use line_input::next_line;
 use line_input::no_input;
 use recorded_solve::HELD_WORDS;
@@ -20,7 +20,7 @@ use replay::say;
 // The counts, and how the search for the last line ended.
 struct State {
     tally: Tally,
-    found: Found,
+    found: LineFound,
 }
 
 // A line of the input, of so many bytes. Of one that is longer than its memory it is known that it is not of the form.
@@ -57,7 +57,7 @@ fn replay_all(
         read = next_line(buffer, line, read);
         let found = read.found;
         match found {
-            Found::Line => {}
+            LineFound::Line => {}
             _ => return State { tally, found },
         }
         tally = take_line(given, left, line, read.length, tally);
@@ -65,7 +65,7 @@ fn replay_all(
     }
     State {
         tally,
-        found: Found::Line,
+        found: LineFound::Line,
     }
 }
 

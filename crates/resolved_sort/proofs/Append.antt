@@ -14,7 +14,7 @@ use lib.Dec.{eqb, leb, ltb}
 use borrow.Author.Tests.{ltb-true, leb-true, eqb-true, eqb-false, eq-eqb, ne-eqb, lt-ltb, le-ltb, le-leb}
 use Rattle.resolved_sort.specs.declared.Sort.{Sort}
 use Rattle.resolved_sort.specs.declared.ComplexSort.{ComplexSort}
-use Rattle.resolved_sort.specs.Tree.{Flat, unit, primitive, def, typevar, Tree, flat, container, function, Trees, end, arg, arity}
+use Rattle.resolved_sort.specs.Tree.{Flat, unit, primitive, def, typevar, Tree, flat, container, function, Trees, no-args, arg, arity}
 use Rattle.resolved_sort.specs.Interning.{look, number, member, distinct, need}
 use Rattle.resolved_sort.specs.Storage.{maxSorts, maxEntries, fullLength, entriesAt, lastKind, functionKind, kindAt, partAt, startAt, countAt, entryAt, entriesOf, Row, wordsAt, treeOf, trees, rowOf, numbers, kindFlat, kindOp, partFlat, putRow, appendRow, append}
 use Rattle.resolved_sort.specs.Checks.{rowFine, rowsFine, noTwoEqual}
@@ -235,7 +235,7 @@ rowOf-within T (function ts u) h =
 
 pub length-numbers : (T : List Tree) (ts : Trees) → length (numbers T ts) ≡ arity ts
 unfolding numbers arity
-length-numbers T end = refl
+length-numbers T no-args = refl
 length-numbers T (arg t ts) = omega (arith, length-numbers T ts)
 
 pub length-args : (T : List Tree) (t : Tree) → length (rowOf T t .args) ≡ need t

@@ -7,7 +7,7 @@ use mathlib.Core.Logic.{_↔_}
 use Prim.Native.Nat.{ℕ}
 use native.Mathlib.Omega.{arith}
 use Rattle.resolved_sort.specs.declared.ComplexSort.{ComplexSort}
-use Rattle.resolved_sort.specs.Tree.{Flat, Tree, flat, container, function, Trees, end, arg, arity}
+use Rattle.resolved_sort.specs.Tree.{Flat, Tree, flat, container, function, Trees, no-args, arg, arity}
 use Rattle.resolved_sort.specs.Order.{leFlat, leOp, le, bound, bounds, boundFlat, boundOp, join, meet, map₁}
 use Rattle.resolved_sort.proofs.Least.{LeastBound, least-moves, least-of-same, least-unique, least-of-two, least-of-three}
 use Rattle.resolved_sort.proofs.Heads.{flat-bound, op-bound}
@@ -67,9 +67,9 @@ mutual
       least-of-two (Les (not up)) (Le up) (Le up) function (λ ss ts r u. functions) (beyond-functions up) ss ts r u (bounds (not up) ss ts) (bound up r u) (Les-bound (not up) ss ts) (Le-bound up r u)
 
   Les-bound : (up : Bool) (ss ts : Trees) → LeastBound (Les up) ss ts (bounds up ss ts)
-  Les-bound up end end = ((ends, ends), λ w p. p .0)
-  Les-bound up end (arg t ts) = λ w h. omega (arith, one-arity (h .0) (h .1))
-  Les-bound up (arg s ss) end = λ w h. omega (arith, one-arity (h .0) (h .1))
+  Les-bound up no-args no-args = ((ends, ends), λ w p. p .0)
+  Les-bound up no-args (arg t ts) = λ w h. omega (arith, one-arity (h .0) (h .1))
+  Les-bound up (arg s ss) no-args = λ w h. omega (arith, one-arity (h .0) (h .1))
   Les-bound up (arg s ss) (arg t ts) =
       least-of-two (Le up) (Les up) (Les up) arg (λ s t ss ts. args) (beyond-args up) s t ss ts (bound up s t) (bounds up ss ts) (Le-bound up s t) (Les-bound up ss ts)
 

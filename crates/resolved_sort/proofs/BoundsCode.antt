@@ -19,7 +19,7 @@ use Rattle.resolved_sort.specs.declared.Side.{Side}
 use Rattle.resolved_sort.specs.declared.Side.the-variants.{Lhs, Rhs, Neither}
 use Rattle.resolved_sort.specs.declared.OpBound.{OpBound}
 use Rattle.resolved_sort.specs.declared.OpBound.the-variants.{Is, Nothing as NoOp}
-use Rattle.resolved_sort.specs.Tree.{Flat, primitive, Tree, flat, container, function, Trees, end, arg, arity, family, level, same}
+use Rattle.resolved_sort.specs.Tree.{Flat, primitive, Tree, flat, container, function, Trees, no-args, arg, arity, family, level, same}
 use Rattle.resolved_sort.specs.Order.{leLevel, boundFlat, boundOp}
 use Rattle.resolved_sort.specs.Interning.{Sorts, look, number, member, need, Outcome, made, nothing, full, _then_, where-some, intern, make, makes}
 use Rattle.resolved_sort.specs.Storage.{maxEntries, Row, kindOp, functionKind, trees, rowOf, lookAll, numbers, sortsOf}

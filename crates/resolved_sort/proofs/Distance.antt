@@ -9,8 +9,8 @@ use Prim.Native.Nat.{ℕ, min, _≤_}
 use native.Mathlib.Omega.{arith}
 use Rattle.resolved_sort.specs.declared.Sort.{Sort}
 use Rattle.resolved_sort.specs.declared.ComplexSort.{ComplexSort}
-use Rattle.resolved_sort.specs.Tree.{Flat, unit, primitive, def, typevar, Tree, flat, container, function, Trees, end, arg, family, level, familyOp, levelOp}
-use Rattle.resolved_sort.specs.Order.{leFlat, leOp, le, les, Steps, apart, given, most, map₁, map₂, distance, distances}
+use Rattle.resolved_sort.specs.Tree.{Flat, unit, primitive, def, typevar, Tree, flat, container, function, Trees, no-args, arg, family, level, familyOp, levelOp}
+use Rattle.resolved_sort.specs.Order.{leFlat, leOp, le, les, Steps, apart, onlyIf, mostSteps, map₁, map₂, distance, distances}
 use Rattle.resolved_sort.specs.Exact.{exact, exacts, stopped}
 use Rattle.resolved_sort.proofs.Heads.{head-refl, head-flips}
 
@@ -23,7 +23,7 @@ present-exactly : {A : Type 0} (x : Option A) → ((a : A) × (x ≡ some a)) �
 present-exactly none = (λ h. let z = h .1 in cc, λ e. absurd (false≢true e))
 present-exactly (some a) = (λ h. refl, λ e. (a, refl))
 
-present-given : {A : Type 0} (b : Bool) (x : Option A) → present (given b x) ≡ (b && present x)
+present-given : {A : Type 0} (b : Bool) (x : Option A) → present (onlyIf b x) ≡ (b && present x)
 present-given true x = refl
 present-given false x = refl
 
@@ -53,9 +53,9 @@ mutual
       present-map₂ _ (distances (not up) ss ts) (distance up r u) ∙ ap₂ _&&_ (present-distances (not up) ss ts) (present-distance up r u)
 
   present-distances : (up : Bool) (ss ts : Trees) → present (distances up ss ts) ≡ les up ss ts
-  present-distances up end end = refl
-  present-distances up end (arg t ts) = refl
-  present-distances up (arg s ss) end = refl
+  present-distances up no-args no-args = refl
+  present-distances up no-args (arg t ts) = refl
+  present-distances up (arg s ss) no-args = refl
   present-distances up (arg s ss) (arg t ts) =
       present-map₂ _ (distance up s t) (distances up ss ts) ∙ ap₂ _&&_ (present-distance up s t) (present-distances up ss ts)
 
@@ -82,9 +82,9 @@ mutual
   distance-flips up (function ss r) (function ts u) = rw (distances-flip (not up) ss ts, distance-flips up r u)
 
   pub distances-flip : (up : Bool) (ss ts : Trees) → distances up ss ts ≡ distances (not up) ts ss
-  distances-flip up end end = refl
-  distances-flip up end (arg t ts) = refl
-  distances-flip up (arg s ss) end = refl
+  distances-flip up no-args no-args = refl
+  distances-flip up no-args (arg t ts) = refl
+  distances-flip up (arg s ss) no-args = refl
   distances-flip up (arg s ss) (arg t ts) = rw (distance-flips up s t, distances-flip up ss ts)
 
 -- Equal sorts.
@@ -101,11 +101,11 @@ mutual
   distance-of-equal up (function ss r) = rw (distances-of-equal (not up) ss, distance-of-equal up r)
 
   pub distances-of-equal : (up : Bool) (ss : Trees) → distances up ss ss ≡ some 0
-  distances-of-equal up end = refl
+  distances-of-equal up no-args = refl
   distances-of-equal up (arg s ss) = rw (distance-of-equal up s, distances-of-equal up ss)
 
 -- Stopping.
-map-given : {A B : Type 0} (f : A → B) (b : Bool) (x : Option A) → given b (map₁ f x) ≡ map₁ f (given b x)
+map-given : {A B : Type 0} (f : A → B) (b : Bool) (x : Option A) → onlyIf b (map₁ f x) ≡ map₁ f (onlyIf b x)
 map-given f true x = refl
 map-given f false x = refl
 
@@ -138,7 +138,7 @@ levelOp-small ComplexSort.FSet = omega arith
 levelOp-small ComplexSort.Bag = omega arith
 levelOp-small ComplexSort.FBag = omega arith
 
-apart-stops : (up : Bool) (l m : ℕ) → l ≤ 3 → m ≤ 3 → apart up l m ≡ min most (apart up l m)
+apart-stops : (up : Bool) (l m : ℕ) → l ≤ 3 → m ≤ 3 → apart up l m ≡ min mostSteps (apart up l m)
 apart-stops true l m h k = omega arith
 apart-stops false l m h k = omega arith
 
@@ -149,21 +149,21 @@ mutual
   unfolding distance exact
 
   pub distance-stops-once : (up : Bool) (s t : Tree) → distance up s t ≡ map₁ stopped (exact up s t)
-  distance-stops-once up (flat a) (flat b) = ap (λ d. given (leFlat up a b) (some d)) (steps (apart-stops up _ _ (level-small a) (level-small b)) refl) ∙ map-given stopped (leFlat up a b) _
+  distance-stops-once up (flat a) (flat b) = ap (λ d. onlyIf (leFlat up a b) (some d)) (steps (apart-stops up _ _ (level-small a) (level-small b)) refl) ∙ map-given stopped (leFlat up a b) _
   distance-stops-once up (flat a) (container p t) = refl
   distance-stops-once up (flat a) (function ts u) = refl
   distance-stops-once up (container o s) (flat b) = refl
   distance-stops-once up (container o s) (container p t) =
-      rw (distance-stops-once up s t) (ap (given (leOp up o p)) (map-map₁ _ stopped stopped _ (λ d. steps (apart-stops up _ _ (levelOp-small o) (levelOp-small p)) (omega arith)) (exact up s t)) ∙ map-given stopped (leOp up o p) _)
+      rw (distance-stops-once up s t) (ap (onlyIf (leOp up o p)) (map-map₁ _ stopped stopped _ (λ d. steps (apart-stops up _ _ (levelOp-small o) (levelOp-small p)) (omega arith)) (exact up s t)) ∙ map-given stopped (leOp up o p) _)
   distance-stops-once up (container o s) (function ts u) = refl
   distance-stops-once up (function ss r) (flat b) = refl
   distance-stops-once up (function ss r) (container p t) = refl
   distance-stops-once up (function ss r) (function ts u) =
-      rw (distances-stop-once (not up) ss ts, distance-stops-once up r u) (map-map₂ _ (min most) stopped stopped _ (λ n d. steps refl (omega arith)) (exacts (not up) ss ts) (exact up r u))
+      rw (distances-stop-once (not up) ss ts, distance-stops-once up r u) (map-map₂ _ (min mostSteps) stopped stopped _ (λ n d. steps refl (omega arith)) (exacts (not up) ss ts) (exact up r u))
 
-  pub distances-stop-once : (up : Bool) (ss ts : Trees) → distances up ss ts ≡ map₁ (min most) (exacts up ss ts)
-  distances-stop-once up end end = refl
-  distances-stop-once up end (arg t ts) = refl
-  distances-stop-once up (arg s ss) end = refl
+  pub distances-stop-once : (up : Bool) (ss ts : Trees) → distances up ss ts ≡ map₁ (min mostSteps) (exacts up ss ts)
+  distances-stop-once up no-args no-args = refl
+  distances-stop-once up no-args (arg t ts) = refl
+  distances-stop-once up (arg s ss) no-args = refl
   distances-stop-once up (arg s ss) (arg t ts) =
-      rw (distance-stops-once up s t, distances-stop-once up ss ts) (map-map₂ _ stopped (min most) (min most) _ (λ d n. omega arith) (exact up s t) (exacts up ss ts))
+      rw (distance-stops-once up s t, distances-stop-once up ss ts) (map-map₂ _ stopped (min mostSteps) (min mostSteps) _ (λ d n. omega arith) (exact up s t) (exacts up ss ts))

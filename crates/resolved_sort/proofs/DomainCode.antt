@@ -21,7 +21,7 @@ use Rattle.resolved_sort.specs.declared.Found.the-variants.{All, Nothing
 use Rattle.resolved_sort.specs.declared.Domain.{Domain}
 use Rattle.resolved_sort.specs.declared.Pair.{Pair}
 use Rattle.resolved_sort.specs.declared.Pair.the-variants.{Functions}
-use Rattle.resolved_sort.specs.Tree.{Tree, flat, container, function, Trees, end, arg, arity}
+use Rattle.resolved_sort.specs.Tree.{Tree, flat, container, function, Trees, no-args, arg, arity}
 use Rattle.resolved_sort.specs.Interning.{Sorts, look, number, member, need, Outcome, made, nothing, full, _then_, intern, make, makes}
 use Rattle.resolved_sort.specs.Storage.{maxEntries, lastKind, functionKind, kindAt, partAt, startAt, countAt, entryAt, entriesOf, resolved, rowAt, trees, lookAll, numbers, sortsOf}
 use Rattle.resolved_sort.specs.Checks.{rowFine, rowsFine}
@@ -125,7 +125,7 @@ arguments-cons : (ws : List ℕ) (n a i : ℕ) → i < countAt ws a → argument
 unfolding lookAll
 arguments-cons ws n a i h = ap (lookAll (trees ws n)) (run-cons ws (startAt ws a) (countAt ws a) i h)
 
-arguments-end : (ws : List ℕ) (n a i : ℕ) → i ≡ countAt ws a → argumentsFrom ws n a i ≡ end
+arguments-end : (ws : List ℕ) (n a i : ℕ) → i ≡ countAt ws a → argumentsFrom ws n a i ≡ no-args
 unfolding lookAll entriesOf
 arguments-end ws n a i h = let x : countAt ws a - i ≡ 0 = omega arith in ap (λ c. lookAll (trees ws n) (entriesOf ws (startAt ws a + i) c)) x
 

@@ -10,7 +10,7 @@ use Rattle.resolved_sort.specs.declared.ComplexSort.{ComplexSort}
 use Rattle.resolved_sort.specs.declared.PartialOrder.{PartialOrder}
 use Rattle.resolved_sort.specs.declared.PartialOrder.the-variants.{Unrelated, Equal, Below, Above}
 use Rattle.resolved_sort.specs.Tree
-use Rattle.resolved_sort.specs.Tree.{Flat, unit, primitive, def, typevar, Tree, flat, container, function, Trees, end, arg}
+use Rattle.resolved_sort.specs.Tree.{Flat, unit, primitive, def, typevar, Tree, flat, container, function, Trees, no-args, arg}
 use Rattle.resolved_sort.specs.Order
 use Rattle.resolved_sort.specs.Order.{order, bound, Steps, distance, materializable}
 use Rattle.resolved_sort.specs.Interning.{Sorts, Outcome, made, nothing, full, make, makes, intern, member, need}
@@ -37,7 +37,7 @@ abbrev fset : Tree → Tree
 fset = container ComplexSort.FSet
 
 abbrev to : Tree → Tree → Tree
-to s t = function (arg s end) t
+to s t = function (arg s no-args) t
 
 record Case : Type 0 where
   first : Tree
@@ -73,7 +73,7 @@ pairs-are-answered : map answers (
     ∷ pair (fset nat) (set pos)
     ∷ pair (fset nat) (set nat)
     ∷ pair (to bool pos) (to bool nat)
-    ∷ pair (function end nat) (function end int)
+    ∷ pair (function no-args nat) (function no-args int)
     ∷ pair (flat (def 7)) (flat (def 7))
     ∷ pair (flat (def 7)) (flat (typevar 7))
     ∷ [])
@@ -85,7 +85,7 @@ pairs-are-answered : map answers (
     ∷ answer Unrelated (some (set nat)) (some (fset pos)) none false
     ∷ answer Below (some (set nat)) (some (fset nat)) (far 1 0) true
     ∷ answer Below (some (to bool nat)) (some (to bool pos)) (far 0 1) true
-    ∷ answer Below (some (function end int)) (some (function end nat)) (far 0 1) true
+    ∷ answer Below (some (function no-args int)) (some (function no-args nat)) (far 0 1) true
     ∷ answer Equal (some (flat (def 7))) (some (flat (def 7))) (far 0 0) true
     ∷ answer Unrelated none none none false
     ∷ []
@@ -98,7 +98,7 @@ abbrev given : List Tree
 given = flat unit ∷ bool ∷ pos ∷ nat ∷ int ∷ real ∷ fset nat ∷ set pos ∷ []
 
 abbrev two : Tree → Tree → Tree
-two s t = function (arg s (arg t end)) bool
+two s t = function (arg s (arg t no-args)) bool
 
 abbrev made-by-join : ℕ → Outcome Tree
 made-by-join room = make true (two (fset nat) bool) (two (set pos) pos) (record { trees = given; rows = room; entries = 0 })

@@ -15,7 +15,7 @@ use Rattle.resolved_sort.specs.declared.Joined.the-variants.{At, Nothing
 use Rattle.resolved_sort.specs.declared.Found.{Found}
 use Rattle.resolved_sort.specs.declared.Found.the-variants.{All, Nothing as NotAll, Full as NoRoom}
 use Rattle.resolved_sort.specs.declared.Domain.{Domain}
-use Rattle.resolved_sort.specs.Tree.{Tree, function, Trees, end, arg, arity}
+use Rattle.resolved_sort.specs.Tree.{Tree, function, Trees, no-args, arg, arity}
 use Rattle.resolved_sort.specs.Interning.{Sorts, look, number, member, need, Outcome, made, nothing, full, _then_, intern, make, makes}
 use Rattle.resolved_sort.specs.Storage.{maxEntries, functionKind, kindAt, partAt, startAt, countAt, entriesOf, trees, lookAll, numbers, sortsOf}
 use Rattle.resolved_sort.specs.Entries.{countsOf, after, Stored, stored}
@@ -87,7 +87,7 @@ stored-full ws n e S vs w = λ j. record { words = w j; answer = Full }
 
 pub numbers-extend : (S S′ : Sorts) (ts : Trees) → Extends S S′ → members (S .trees) ts ≡ true → numbers (S′ .trees) ts ≡ numbers (S .trees) ts
 unfolding numbers members
-numbers-extend S S′ end x m = refl
+numbers-extend S S′ no-args x m = refl
 numbers-extend S S′ (arg t ts) x m =
     let p = and-eq-true-iff (member (S .trees) t) (members (S .trees) ts) .0 m in
     ap₂ _∷_ (number-extends S S′ t x (p .0)) (numbers-extend S S′ ts x (p .1))

@@ -10,7 +10,7 @@ use lib.ListN.{length}
 use lib.Dec.{eqb, leb, ltb}
 use borrow.Author.Tests.{ltb-true, leb-true}
 use Rattle.resolved_sort.specs.declared.ComplexSort.{ComplexSort}
-use Rattle.resolved_sort.specs.Tree.{Flat, Tree, flat, container, function, Trees, end, arg, arity, family, level, same}
+use Rattle.resolved_sort.specs.Tree.{Flat, Tree, flat, container, function, Trees, no-args, arg, arity, family, level, same}
 use Rattle.resolved_sort.specs.Order.{leLevel, boundFlat, boundOp}
 use Rattle.resolved_sort.specs.Interning.{Sorts, member, need, Outcome, made, nothing, full, _then_, where-some, fits, intern, make, makes}
 use Rattle.resolved_sort.specs.Storage.{maxSorts, maxEntries, trees}
@@ -35,7 +35,7 @@ member-extends S S′ t x m = rw (x .1) (member-grows (S .trees) (x .0) t m)
 
 pub members-extends : (S S′ : Sorts) (ts : Trees) → Extends S S′ → members (S .trees) ts ≡ true → members (S′ .trees) ts ≡ true
 unfolding members
-members-extends S S′ end x m = refl
+members-extends S S′ no-args x m = refl
 members-extends S S′ (arg t ts) x m =
     let p = and-eq-true-iff (member (S .trees) t) (members (S .trees) ts) .0 m in
     and-eq-true-iff (member (S′ .trees) t) (members (S′ .trees) ts) .1 (member-extends S S′ t x (p .0), members-extends S S′ ts x (p .1))
@@ -48,7 +48,7 @@ unfoldable mutual
   Whole T (function ss r) = (member T (function ss r) ≡ true) × Wholes T ss × Whole T r × (arity ss ≤ 16)
 
   pub Wholes : List Tree → Trees → Type 0
-  Wholes T end = Unit {0}
+  Wholes T no-args = Unit {0}
   Wholes T (arg t ts) = Whole T t × Wholes T ts
 
 mutual
@@ -60,7 +60,7 @@ mutual
   whole-grows T U (function ss r) w = (member-grows T U (function ss r) (w .0), wholes-grow T U ss (w .1), whole-grows T U r (w .2), w .3)
 
   wholes-grow : (T U : List Tree) (ts : Trees) → Wholes T ts → Wholes (T ++ U) ts
-  wholes-grow T U end w = tt
+  wholes-grow T U no-args w = tt
   wholes-grow T U (arg t ts) w = (whole-grows T U t (w .0), wholes-grow T U ts (w .1))
 
 pub whole-extends : (S S′ : Sorts) (t : Tree) → Extends S S′ → Whole (S .trees) t → Whole (S′ .trees) t
@@ -165,7 +165,7 @@ module _ (ws : List ℕ) (n e : ℕ) where
   by-test P true x y p q = p
   by-test P false x y p q = q
 
-  none-made : (S : Sorts) → Grown ws n e S → Kept ws n e (InTrees 0) S (made end S)
+  none-made : (S : Sorts) → Grown ws n e S → Kept ws n e (InTrees 0) S (made no-args S)
   unfolding Kept members arity
   none-made S g = (g, extends-refl S, (refl, refl))
 
@@ -198,9 +198,9 @@ module _ (ws : List ℕ) (n e : ℕ) where
         (stays InTree S g))
 
     pub makes-kept : (up : Bool) (ss ts : Trees) (S : Sorts) → Grown ws n e S → Wholes (S .trees) ss → Wholes (S .trees) ts → Kept ws n e (InTrees (arity ss)) S (makes up ss ts S)
-    makes-kept up end end S g x y = none-made S g
-    makes-kept up end (arg t ts) S g x y = stays (InTrees 0) S g
-    makes-kept up (arg s ss) end S g x y = stays (InTrees (arity (arg s ss))) S g
+    makes-kept up no-args no-args S g x y = none-made S g
+    makes-kept up no-args (arg t ts) S g x y = stays (InTrees 0) S g
+    makes-kept up (arg s ss) no-args S g x y = stays (InTrees (arity (arg s ss))) S g
     makes-kept up (arg s ss) (arg t ts) S g x y =
         kept-then InTree (InTrees (arity ss + 1)) S (make up s t S) _ (make-kept up s t S g (x .0) (y .0))
         (λ v S₁ g₁ x₁ m. kept-then (InTrees (arity ss)) (InTrees (arity ss + 1)) S₁ (makes up ss ts S₁) _

@@ -9,7 +9,7 @@ use native.Mathlib.Omega.{arith}
 use lib.Dec.{eqb, leb, ltb}
 use borrow.Author.Tests.{eqb-false}
 use Rattle.resolved_sort.specs.declared.ComplexSort.{ComplexSort}
-use Rattle.resolved_sort.specs.Tree.{Flat, Tree, flat, container, function, Trees, end, arg, arity, same}
+use Rattle.resolved_sort.specs.Tree.{Flat, Tree, flat, container, function, Trees, no-args, arg, arity, same}
 use Rattle.resolved_sort.specs.Order.{boundFlat, boundOp, map₁, map₂, bound, bounds}
 use Rattle.resolved_sort.specs.Interning.{Sorts, member, Outcome, made, nothing, full, _then_, where-some, fits, intern, make, makes, need}
 use Rattle.resolved_sort.proofs.Same.{same-exactly}
@@ -54,9 +54,9 @@ map₂-none f (some a) = refl
 
 other-arity : (up : Bool) (ss ts : Trees) → (arity ss ≡ arity ts → ⊥) → bounds up ss ts ≡ none
 unfolding bounds arity
-other-arity up end end n = absurd (n refl)
-other-arity up end (arg t ts) n = refl
-other-arity up (arg s ss) end n = refl
+other-arity up no-args no-args n = absurd (n refl)
+other-arity up no-args (arg t ts) n = refl
+other-arity up (arg s ss) no-args n = refl
 other-arity up (arg s ss) (arg t ts) n = rw (other-arity up ss ts (λ e. n (ap (λ k. k + 1) e))) (map₂-none arg (bound up s t))
 
 made-itself : {A : Type 0} (a : A) (x : Option A) (S : Sorts) → x ≡ some a → Answers x (made a S)
@@ -95,9 +95,9 @@ mutual
       (λ d. made-none _ S (rw (other-arity (not up) ss ts (eqb-false (arity ss) (arity ts) d)))))
 
   pub makes-answer : (up : Bool) (ss ts : Trees) (S : Sorts) → Answers (bounds up ss ts) (makes up ss ts S)
-  makes-answer up end end S = made-itself end _ S refl
-  makes-answer up end (arg t ts) S = made-none none S refl
-  makes-answer up (arg s ss) end S = made-none none S refl
+  makes-answer up no-args no-args S = made-itself no-args _ S refl
+  makes-answer up no-args (arg t ts) S = made-none none S refl
+  makes-answer up (arg s ss) no-args S = made-none none S refl
   makes-answer up (arg s ss) (arg t ts) S =
       answers-then (bound up s t) _ (make up s t S) _ (make-answers up s t S) (λ g. rw g)
       (λ v S₁ g. answers-then (bounds up ss ts) _ (makes up ss ts S₁) _ (makes-answer up ss ts S₁) (λ h. rw h (map₂-none arg (bound up s t)))

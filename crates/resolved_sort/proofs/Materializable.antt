@@ -8,8 +8,8 @@ use Prim.Native.Nat.{ℕ, _-_}
 use native.Mathlib.Omega.{arith}
 use Rattle.resolved_sort.specs.declared.Sort.{Sort}
 use Rattle.resolved_sort.specs.declared.ComplexSort.{ComplexSort}
-use Rattle.resolved_sort.specs.Tree.{Flat, primitive, Tree, flat, container, function, Trees, end, arg, family, level, familyOp, levelOp, same}
-use Rattle.resolved_sort.specs.Order.{leFlat, leOp, le, Steps, all, distance, materializable}
+use Rattle.resolved_sort.specs.Tree.{Flat, primitive, Tree, flat, container, function, Trees, no-args, arg, family, level, familyOp, levelOp, same}
+use Rattle.resolved_sort.specs.Order.{leFlat, leOp, le, Steps, allSteps, distance, materializable}
 use Rattle.resolved_sort.proofs.Heads.{head-refl, head-trans}
 use Rattle.resolved_sort.proofs.Same.{same-exactly, sames-exactly}
 use Rattle.resolved_sort.proofs.Order.{Le, Le.flats, Le.containers, Le.functions, Le-refl, Les-refl, le-exactly, le-antisym}
@@ -81,7 +81,7 @@ interior-zero i (operator {o} {p} {s} h) = (levelOp p - levelOp o, rw (h, distan
 interior-zero i (range p) = absurd (false≢true (sym i))
 
 interior-of-range : {ss ts : Trees} {r u : Tree} → Materializes (function ss r) (function ts u)
-    → (d : Steps) × (distance true r u ≡ some d) × (distance true (function ss r) (function ts u) ≡ some (record { head = 0; interior = all d }))
+    → (d : Steps) × (distance true r u ≡ some d) × (distance true (function ss r) (function ts u) ≡ some (record { head = 0; interior = allSteps d }))
 unfolding distance
 interior-of-range (range {ss} {r} {u} p) =
     let h = distance-exists-exactly true r u .1 (le-exactly true r u .1 (below p)) in
@@ -93,12 +93,12 @@ materializable-interior-zero s t i e = interior-zero i (to-materializes s t e)
 
 -- Functions: the range's head and interior steps together.
 pub materializable-interior-of-range : (ss ts : Trees) (r u : Tree) → materializable (function ss r) (function ts u) ≡ true
-    → (d : Steps) × (distance true r u ≡ some d) × (distance true (function ss r) (function ts u) ≡ some (record { head = 0; interior = all d }))
+    → (d : Steps) × (distance true r u ≡ some d) × (distance true (function ss r) (function ts u) ≡ some (record { head = 0; interior = allSteps d }))
 materializable-interior-of-range ss ts r u e = interior-of-range (to-materializes _ _ e)
 
 -- So the interior of a materializable pair of functions need not be 0: Bool -> Pos and Bool -> Nat.
 abbrev pub boolTo : Sort → Tree
-boolTo a = function (arg (flat (primitive Sort.Bool)) end) (flat (primitive a))
+boolTo a = function (arg (flat (primitive Sort.Bool)) no-args) (flat (primitive a))
 
 pub interior-of-functions-one : (materializable (boolTo Sort.Pos) (boolTo Sort.Nat) ≡ true) × (distance true (boolTo Sort.Pos) (boolTo Sort.Nat) ≡ some (record { head = 0; interior = 1 }))
 unfolding materializable distance same family level

@@ -6,7 +6,7 @@ use mathlib.Core.Logic.{_↔_, _≢_}
 use Rattle.resolved_sort.specs.declared.ComplexSort.{ComplexSort}
 use Rattle.resolved_sort.specs.declared.PartialOrder.{PartialOrder}
 use Rattle.resolved_sort.specs.declared.PartialOrder.the-variants.{Unrelated, Equal, Below, Above}
-use Rattle.resolved_sort.specs.Tree.{Flat, Tree, flat, container, function, Trees, end, arg, family, level, familyOp, levelOp}
+use Rattle.resolved_sort.specs.Tree.{Flat, Tree, flat, container, function, Trees, no-args, arg, family, level, familyOp, levelOp}
 use Rattle.resolved_sort.specs.Order.{leFlat, leOp, le, les, order, orderOf}
 use Rattle.resolved_sort.proofs.Heads.{head-refl, head-trans, head-flips, head-antisym, flat-injective, op-injective}
 
@@ -18,7 +18,7 @@ mutual
     functions : {up : Bool} {ss ts : Trees} {r u : Tree} → Les (not up) ss ts → Le up r u → Le up (function ss r) (function ts u)
 
   pub data Les : Bool → Trees → Trees → Type 0 where
-    ends : {up : Bool} → Les up end end
+    ends : {up : Bool} → Les up no-args no-args
     args : {up : Bool} {s t : Tree} {ss ts : Trees} → Le up s t → Les up ss ts → Les up (arg s ss) (arg t ts)
 
 mutual
@@ -48,9 +48,9 @@ mutual
   to-le up (function ss r) (function ts u) e = let h = and-eq-true-iff _ _ .0 e in functions (to-les (not up) ss ts (h .0)) (to-le up r u (h .1))
 
   to-les : (up : Bool) (ss ts : Trees) → les up ss ts ≡ true → Les up ss ts
-  to-les up end end e = ends
-  to-les up end (arg t ts) e = absurd (false≢true e)
-  to-les up (arg s ss) end e = absurd (false≢true e)
+  to-les up no-args no-args e = ends
+  to-les up no-args (arg t ts) e = absurd (false≢true e)
+  to-les up (arg s ss) no-args e = absurd (false≢true e)
   to-les up (arg s ss) (arg t ts) e = let h = and-eq-true-iff _ _ .0 e in args (to-le up s t (h .0)) (to-les up ss ts (h .1))
 
 pub le-exactly : (up : Bool) (s t : Tree) → (le up s t ≡ true) ↔ Le up s t
@@ -63,7 +63,7 @@ mutual
   Le-refl up (function ss r) = functions (Les-refl (not up) ss) (Le-refl up r)
 
   pub Les-refl : (up : Bool) (ss : Trees) → Les up ss ss
-  Les-refl up end = ends
+  Les-refl up no-args = ends
   Les-refl up (arg s ss) = args (Le-refl up s) (Les-refl up ss)
 
 mutual
@@ -112,9 +112,9 @@ mutual
   le-flips up (function ss r) (function ts u) = ap₂ _&&_ (les-flips (not up) ss ts) (le-flips up r u)
 
   pub les-flips : (up : Bool) (ss ts : Trees) → les up ss ts ≡ les (not up) ts ss
-  les-flips up end end = refl
-  les-flips up end (arg t ts) = refl
-  les-flips up (arg s ss) end = refl
+  les-flips up no-args no-args = refl
+  les-flips up no-args (arg t ts) = refl
+  les-flips up (arg s ss) no-args = refl
   les-flips up (arg s ss) (arg t ts) = ap₂ _&&_ (le-flips up s t) (les-flips up ss ts)
 
 -- What each answer of `order` says.

@@ -16,7 +16,7 @@ use Rattle.resolved_sort.specs.declared.ResolvedSort.{ResolvedSort}
 use Rattle.resolved_sort.specs.declared.ResolvedSort.the-variants.{Unit as UnitRow, Primitive, Container, Function, Def, TypeVar}
 use Rattle.resolved_sort.specs.declared.Pair.{Pair}
 use Rattle.resolved_sort.specs.declared.Pair.the-variants.{Primitives, Containers, Functions, Other}
-use Rattle.resolved_sort.specs.Tree.{Flat, unit, primitive, def, typevar, Tree, flat, container, function, Trees, end, arg, arity, family, same}
+use Rattle.resolved_sort.specs.Tree.{Flat, unit, primitive, def, typevar, Tree, flat, container, function, Trees, no-args, arg, arity, family, same}
 use Rattle.resolved_sort.specs.Interning.{look}
 use Rattle.resolved_sort.specs.Storage.{maxEntries, lastKind, functionKind, kindAt, partAt, startAt, countAt, entryAt, entriesOf, Row, wordsAt, resolved, rowAt, lookAll, treeOf, trees}
 use Rattle.resolved_sort.specs.Checks.{rowFine, rowsFine}

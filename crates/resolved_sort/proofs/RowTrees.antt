@@ -14,7 +14,7 @@ use Rattle.resolved_sort.specs.declared.ComplexSort.{ComplexSort}
 use Rattle.resolved_sort.specs.declared.Run.{Run}
 use Rattle.resolved_sort.specs.declared.ResolvedSort.{ResolvedSort}
 use Rattle.resolved_sort.specs.declared.ResolvedSort.the-variants.{Unit as UnitRow, Primitive, Container, Function, Def, TypeVar}
-use Rattle.resolved_sort.specs.Tree.{Flat, unit, primitive, def, typevar, Tree, flat, container, function, Trees, end, arg, same}
+use Rattle.resolved_sort.specs.Tree.{Flat, unit, primitive, def, typevar, Tree, flat, container, function, Trees, no-args, arg, same}
 use Rattle.resolved_sort.specs.Interning.{look, number, member, distinct}
 use Rattle.resolved_sort.specs.Storage.{lastKind, functionKind, kindAt, partAt, startAt, countAt, entryAt, entriesOf, Row, wordsAt, resolved, rowAt, lookAll, treeOf, numbers, rowOf, kindFlat, kindOp, partFlat}
 use Rattle.resolved_sort.specs.Checks.{allBelow, partsBelow, rowFine}
@@ -95,7 +95,7 @@ row-of-tree T r d w =
 
 -- the parts of a sort are in the list
 unfoldable pub members : List Tree → Trees → Bool
-members T end = true
+members T no-args = true
 members T (arg t ts) = member T t && members T ts
 
 unfoldable pub partsIn : List Tree → Tree → Bool
@@ -105,14 +105,14 @@ partsIn T (function ts u) = members T ts && member T u
 
 pub lookAll-numbers : (T : List Tree) (ts : Trees) → members T ts ≡ true → lookAll T (numbers T ts) ≡ ts
 unfolding numbers lookAll members
-lookAll-numbers T end h = refl
+lookAll-numbers T no-args h = refl
 lookAll-numbers T (arg t ts) h =
     let p = and-eq-true-iff (member T t) (members T ts) .0 h in
     ap₂ arg (look-number T t (p .0)) (lookAll-numbers T ts (p .1))
 
 pub numbers-below : (T : List Tree) (ts : Trees) → members T ts ≡ true → AllBelow (length T) (numbers T ts)
 unfolding numbers members AllBelow
-numbers-below T end h = tt
+numbers-below T no-args h = tt
 numbers-below T (arg t ts) h =
     let p = and-eq-true-iff (member T t) (members T ts) .0 h in
     (number-below T t (p .0), numbers-below T ts (p .1))

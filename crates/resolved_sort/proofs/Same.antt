@@ -2,7 +2,7 @@
 use mathlib.Core.Path.{_≡_, refl, ap, ap₂}
 use mathlib.Core.Bool.{true, and-eq-true-iff}
 use mathlib.Core.Logic.{_↔_}
-use Rattle.resolved_sort.specs.Tree.{Tree, flat, container, function, Trees, end, arg, same, sames}
+use Rattle.resolved_sort.specs.Tree.{Tree, flat, container, function, Trees, no-args, arg, same, sames}
 use Rattle.resolved_sort.proofs.Heads.{same-flat, same-op}
 
 mutual
@@ -20,9 +20,9 @@ mutual
   same-equal (function ss r) (function ts u) e = let h = and-eq-true-iff _ _ .0 e in ap₂ function (sames-equal ss ts (h .0)) (same-equal r u (h .1))
 
   sames-equal : (ss ts : Trees) → sames ss ts ≡ true → ss ≡ ts
-  sames-equal end end e = refl
-  sames-equal end (arg t ts) e = cc
-  sames-equal (arg s ss) end e = cc
+  sames-equal no-args no-args e = refl
+  sames-equal no-args (arg t ts) e = cc
+  sames-equal (arg s ss) no-args e = cc
   sames-equal (arg s ss) (arg t ts) e = let h = and-eq-true-iff _ _ .0 e in ap₂ arg (same-equal s t (h .0)) (sames-equal ss ts (h .1))
 
 mutual
@@ -34,7 +34,7 @@ mutual
   same-refl (function ss r) = and-eq-true-iff _ _ .1 (sames-refl ss, same-refl r)
 
   sames-refl : (ss : Trees) → sames ss ss ≡ true
-  sames-refl end = refl
+  sames-refl no-args = refl
   sames-refl (arg s ss) = and-eq-true-iff _ _ .1 (same-refl s, sames-refl ss)
 
 pub same-exactly : (s t : Tree) → (same s t ≡ true) ↔ (s ≡ t)

@@ -16,11 +16,11 @@ use Rattle.resolved_sort.specs.declared.ResolvedSort.{ResolvedSort}
 use Rattle.resolved_sort.specs.declared.ResolvedSort.the-variants.{Unit as UnitRow, Primitive, Container, Function, Def, TypeVar}
 use Rattle.resolved_sort.specs.declared.Joined.{Joined}
 use Rattle.resolved_sort.specs.declared.Joined.the-variants.{At, Nothing, Full}
-use Rattle.resolved_sort.specs.Tree.{Tree, flat, container, function, Trees, end, arg, arity}
+use Rattle.resolved_sort.specs.Tree.{Tree, flat, container, function, Trees, no-args, arg, arity}
 use Rattle.resolved_sort.specs.Interning.{Sorts, look, number, member, need, Outcome, made, nothing, full, fits, intern}
 use Rattle.resolved_sort.specs.Storage.{maxSorts, maxEntries, Row, rowAt, trees, rowOf, appendRow, sortsOf, written, functionKind, entriesOf, lookAll}
 use Rattle.resolved_sort.specs.Entries.{after, countsOf, Stored, stored}
-use Rattle.resolved_sort.specs.Rows.{Checked, findRow, storedAt, at, internRow}
+use Rattle.resolved_sort.specs.Rows.{Checked, findRow, storedAt, joinedAt, internRow}
 use Rattle.resolved_sort.proofs.Numbers.{number-below, number-past, true-not-false, member-look, number-grows, number-snoc, number-look}
 use Rattle.resolved_sort.proofs.Trees.{length-trees}
 use Rattle.resolved_sort.proofs.RowTrees.{AllBelow, partsIn, members}
@@ -58,7 +58,7 @@ module _ (ws : List ℕ) (n e : ℕ) (k : Checked ws n e) (t : Tree) (p : partsI
       let z = leb-true (need t) (maxEntries - e) (x .1) in
       and-eq-true-iff (ltb n maxSorts) (leb (e + length (rowOf T t .args)) maxEntries) .1 (lt-ltb n maxSorts (omega arith), le-leb (e + length (rowOf T t .args)) maxEntries (omega (arith, length-args T t, k .entries))))
 
-  one-found : storedAt ws (at (findRow ws n (rowOf T t)) n e) ≡ stored ws n e (made t (sortsOf ws n e))
+  one-found : storedAt ws (joinedAt (findRow ws n (rowOf T t)) n e) ≡ stored ws n e (made t (sortsOf ws n e))
   unfolding stored
   one-found =
       let w = sym (after-none ws n e k) in
@@ -67,7 +67,7 @@ module _ (ws : List ℕ) (n e : ℕ) (k : Checked ws n e) (t : Tree) (p : partsI
       λ i. record { words = w i; answer = At (record { 0 = f i }) (c i) }
 
   one-new : member T t ≡ false → fits t (sortsOf ws n e) ≡ true
-      → storedAt (appendRow ws n e (rowOf T t)) (at n (n + 1) (e + length (rowOf T t .args))) ≡ stored ws n e (made t (more ws n e t))
+      → storedAt (appendRow ws n e (rowOf T t)) (joinedAt n (n + 1) (e + length (rowOf T t .args))) ≡ stored ws n e (made t (more ws n e t))
   unfolding stored
   one-new m f =
       let x = and-eq-true-iff (ltb 0 (maxSorts - n)) (leb (need t) (maxEntries - e)) .0 f in

@@ -6,7 +6,7 @@ use mathlib.Core.Option.{Option, none, some}
 use Prim.Native.Nat.{ℕ, _+_}
 use borrow.Author.Tests.{ne-eqb}
 use Rattle.resolved_sort.specs.declared.PartialOrder.the-variants.{Unrelated}
-use Rattle.resolved_sort.specs.Tree.{Tree, Trees, end, arg, arity}
+use Rattle.resolved_sort.specs.Tree.{Tree, Trees, no-args, arg, arity}
 use Rattle.resolved_sort.specs.Order.{le, les, order, Steps, distance, materializable}
 use Rattle.resolved_sort.proofs.Numbers.{true-not-false}
 use Rattle.resolved_sort.proofs.Distance.{distance-exists-exactly}
@@ -16,9 +16,9 @@ use Rattle.resolved_sort.proofs.Pairs.{Unlike, Unlike.flats, Unlike.fla
 -- runs of different lengths
 pub les-of-lengths : (up : Bool) (ss ts : Trees) → (arity ss ≡ arity ts → ⊥) → les up ss ts ≡ false
 unfolding le arity
-les-of-lengths up end end h = absurd (h refl)
-les-of-lengths up end (arg t ts) h = refl
-les-of-lengths up (arg s ss) end h = refl
+les-of-lengths up no-args no-args h = absurd (h refl)
+les-of-lengths up no-args (arg t ts) h = refl
+les-of-lengths up (arg s ss) no-args h = refl
 les-of-lengths up (arg s ss) (arg t ts) h = ap (_&&_ (le up s t)) (les-of-lengths up ss ts (λ e. h (ap (λ (k : ℕ). k + 1) e))) ∙ and-false (le up s t)
 
 pub unlike-le : (up : Bool) {s t : Tree} → Unlike s t → le up s t ≡ false

@@ -56,13 +56,13 @@ testedOf none = Passed
 testedOf (some c) = Refused c
 
 -- refused with the first failing check, else answered
-abbrev pub orElse : {A : Type 0} → Option ℕ → (ℕ → A) → A → A
-orElse none refuse answer = answer
-orElse (some c) refuse answer = refuse c
+abbrev pub refusedOr : {A : Type 0} → Option ℕ → (ℕ → A) → A → A
+refusedOr none refuse answer = answer
+refusedOr (some c) refuse answer = refuse c
 
 unfoldable pub compared : List ℕ → ℕ → ℕ → ℕ → ℕ → Compared
 compared ws n e a b =
-    orElse (firstFailing (pairChecks ws n e a b)) NotCompared
+    refusedOr (firstFailing (pairChecks ws n e a b)) NotCompared
     (Ordered (order (treeAt ws n a) (treeAt ws n b)))
 
 abbrev pub wideningOf : Option Steps → Widening
@@ -71,12 +71,12 @@ wideningOf (some d) = Distance (d .head) (d .interior)
 
 unfoldable pub measured : List ℕ → ℕ → ℕ → ℕ → ℕ → Measured
 measured ws n e a b =
-    orElse (firstFailing (pairChecks ws n e a b)) NotMeasured
+    refusedOr (firstFailing (pairChecks ws n e a b)) NotMeasured
     (StepsOf (wideningOf (distance true (treeAt ws n a) (treeAt ws n b))))
 
 unfoldable pub materialized : List ℕ → ℕ → ℕ → ℕ → ℕ → Materialized
 materialized ws n e a b =
-    orElse (firstFailing (pairChecks ws n e a b)) NotMaterialized
+    refusedOr (firstFailing (pairChecks ws n e a b)) NotMaterialized
     (Answer (materializable (treeAt ws n a) (treeAt ws n b)))
 
 -- the counts of a list, its ceilings given
@@ -98,21 +98,21 @@ stored ws n e (nothing S) = record { words = after ws n e S; answer = Nothing (c
 stored ws n e (full S) = record { words = after ws n e S; answer = Full }
 
 -- What join (up true) and meet (up false) leave and answer as entries.
-pub record Left : Type 0 where
+pub record SortsLeft : Type 0 where
   pub words : List ℕ
   pub answer : Bounded
 
-abbrev pub left : List ℕ → Bounded → Left
-left ws r = record { words = ws; answer = r }
+abbrev pub sortsLeft : List ℕ → Bounded → SortsLeft
+sortsLeft ws r = record { words = ws; answer = r }
 
 -- "Join and meet keep the sorts the Rust's would make, also where the answer is none"; 15 gives them back.
-unfoldable pub leftBy : List ℕ → ℕ → ℕ → Stored → Joined → Left
-leftBy ws n e r (At s k) = left (r .words) (Sort s k)
-leftBy ws n e r (Nothing k) = left (r .words) (NoBound k)
-leftBy ws n e r Full = left (givenBack n e ws) NoRoom
+unfoldable pub sortsLeftBy : List ℕ → ℕ → ℕ → Stored → Joined → SortsLeft
+sortsLeftBy ws n e r (At s k) = sortsLeft (r .words) (Sort s k)
+sortsLeftBy ws n e r (Nothing k) = sortsLeft (r .words) (NoBound k)
+sortsLeftBy ws n e r Full = sortsLeft (givenBack n e ws) NoRoom
 
-unfoldable pub bounded : Bool → List ℕ → ℕ → ℕ → ℕ → ℕ → Left
+unfoldable pub bounded : Bool → List ℕ → ℕ → ℕ → ℕ → ℕ → SortsLeft
 bounded up ws n e a b =
-    orElse (firstFailing (pairChecks ws n e a b)) (λ c. left ws (NotBounded c))
+    refusedOr (firstFailing (pairChecks ws n e a b)) (λ c. sortsLeft ws (NotBounded c))
     (let r : Stored = stored ws n e (make up (treeAt ws n a) (treeAt ws n b) (sortsOf ws n e)) in
-    leftBy ws n e r (r .answer))
+    sortsLeftBy ws n e r (r .answer))

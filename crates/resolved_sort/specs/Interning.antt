@@ -7,7 +7,7 @@ use Prim.Native.Nat.{ℕ, zero, suc, _+_, _-_}
 use lib.ListN.{getD}
 use lib.Dec.{eqb, leb, ltb}
 use Rattle.resolved_sort.specs.declared.ComplexSort.{ComplexSort}
-use Rattle.resolved_sort.specs.Tree.{Flat, unit, Tree, flat, container, function, Trees, end, arg, arity, same}
+use Rattle.resolved_sort.specs.Tree.{Flat, unit, Tree, flat, container, function, Trees, no-args, arg, arity, same}
 use Rattle.resolved_sort.specs.Order.{boundFlat, boundOp}
 
 -- The sorts of a list, by number, and how many more rows and argument entries fit.
@@ -94,8 +94,8 @@ unfoldable mutual
       ]
 
   pub makes : Bool → Trees → Trees → Sorts → Outcome Trees
-  makes up end end S = made end S
-  makes up end (arg t ts) S = nothing S
-  makes up (arg s ss) end S = nothing S
+  makes up no-args no-args S = made no-args S
+  makes up no-args (arg t ts) S = nothing S
+  makes up (arg s ss) no-args S = nothing S
   makes up (arg s ss) (arg t ts) S =
       make up s t S then (λ v S. makes up ss ts S then (λ vs S. made (arg v vs) S))

@@ -6,7 +6,7 @@ use lib.Dec.{eqb, leb}
 use Rattle.resolved_sort.specs.declared.ComplexSort.{ComplexSort}
 use Rattle.resolved_sort.specs.declared.PartialOrder.{PartialOrder}
 use Rattle.resolved_sort.specs.declared.PartialOrder.the-variants.{Unrelated, Equal, Below, Above}
-use Rattle.resolved_sort.specs.Tree.{Flat, Tree, flat, container, function, Trees, end}
+use Rattle.resolved_sort.specs.Tree.{Flat, Tree, flat, container, function, Trees, no-args}
 use Rattle.resolved_sort.specs.Tree.{arg, family, level, familyOp, levelOp, same, sames}
 
 -- A direction: up true reads "equal to or below", up false "equal to or above". With it the functions below call
@@ -36,9 +36,9 @@ unfoldable mutual
   le up (function ss r) (function ts u) = les (not up) ss ts && le up r u
 
   pub les : Bool → Trees → Trees → Bool
-  les up end end = true
-  les up end (arg t ts) = false
-  les up (arg s ss) end = false
+  les up no-args no-args = true
+  les up no-args (arg t ts) = false
+  les up (arg s ss) no-args = false
   les up (arg s ss) (arg t ts) = le up s t && les up ss ts
 
 -- the four answers, from "equal to or below" and "equal to or above"
@@ -82,9 +82,9 @@ unfoldable mutual
   bound up (function ss r) (function ts u) = map₂ function (bounds (not up) ss ts) (bound up r u)
 
   pub bounds : Bool → Trees → Trees → Option Trees
-  bounds up end end = some end
-  bounds up end (arg t ts) = none
-  bounds up (arg s ss) end = none
+  bounds up no-args no-args = some no-args
+  bounds up no-args (arg t ts) = none
+  bounds up (arg s ss) no-args = none
   bounds up (arg s ss) (arg t ts) = map₂ arg (bound up s t) (bounds up ss ts)
 
 abbrev pub join : Tree → Tree → Option Tree
@@ -94,11 +94,11 @@ abbrev pub meet : Tree → Tree → Option Tree
 meet = bound false
 
 -- "sums stop at 255"
-abbrev pub most : ℕ
-most = 255
+abbrev pub mostSteps : ℕ
+mostSteps = 255
 
-abbrev pub sum : ℕ → ℕ → ℕ
-sum a b = min most (a + b)
+abbrev pub stoppedSum : ℕ → ℕ → ℕ
+stoppedSum a b = min mostSteps (a + b)
 
 -- Steps at the head of a sort, and all steps beneath it.
 pub record Steps : Type 0 where
@@ -110,12 +110,12 @@ abbrev pub apart : Bool → ℕ → ℕ → ℕ
 apart true l m = m - l
 apart false l m = l - m
 
-abbrev pub given : {A : Type 0} → Bool → Option A → Option A
-given true x = x
-given false x = none
+abbrev pub onlyIf : {A : Type 0} → Bool → Option A → Option A
+onlyIf true x = x
+onlyIf false x = none
 
-abbrev pub all : Steps → ℕ
-all d = sum (d .head) (d .interior)
+abbrev pub allSteps : Steps → ℕ
+allSteps d = stoppedSum (d .head) (d .interior)
 
 -- Distance, from the first sort up to the second (up true) or from the second up to the first: "equal sorts have
 -- (0, 0); numbers have their steps as head; containers head 0 or 1 and the part's head plus interior as interior;
@@ -123,24 +123,24 @@ all d = sum (d .head) (d .interior)
 unfoldable mutual
   pub distance : Bool → Tree → Tree → Option Steps
   distance up (flat a) (flat b) =
-      given (leFlat up a b) (some (record { head = apart up (level a) (level b); interior = 0 }))
+      onlyIf (leFlat up a b) (some (record { head = apart up (level a) (level b); interior = 0 }))
   distance up (flat a) (container p t) = none
   distance up (flat a) (function ts u) = none
   distance up (container o s) (flat b) = none
   distance up (container o s) (container p t) =
-      given (leOp up o p)
-      (map₁ (λ d. record { head = apart up (levelOp o) (levelOp p); interior = all d }) (distance up s t))
+      onlyIf (leOp up o p)
+      (map₁ (λ d. record { head = apart up (levelOp o) (levelOp p); interior = allSteps d }) (distance up s t))
   distance up (container o s) (function ts u) = none
   distance up (function ss r) (flat b) = none
   distance up (function ss r) (container p t) = none
   distance up (function ss r) (function ts u) =
-      map₂ (λ n d. record { head = 0; interior = sum n (all d) }) (distances (not up) ss ts) (distance up r u)
+      map₂ (λ n d. record { head = 0; interior = stoppedSum n (allSteps d) }) (distances (not up) ss ts) (distance up r u)
 
   pub distances : Bool → Trees → Trees → Option ℕ
-  distances up end end = some 0
-  distances up end (arg t ts) = none
-  distances up (arg s ss) end = none
-  distances up (arg s ss) (arg t ts) = map₂ (λ d n. sum (all d) n) (distance up s t) (distances up ss ts)
+  distances up no-args no-args = some 0
+  distances up no-args (arg t ts) = none
+  distances up (arg s ss) no-args = none
+  distances up (arg s ss) (arg t ts) = map₂ (λ d n. stoppedSum (allSteps d) n) (distance up s t) (distances up ss ts)
 
 -- "equal, number to a wider number, FSet to Set or FBag to Bag over the same part, function with equal arguments and
 -- materializable range"

@@ -47,12 +47,12 @@ findRow ws n r = firstFrom (λ i. sameRow (wordsAt ws i) r) n 0
 abbrev pub storedAt : List ℕ → Joined → Stored
 storedAt ws r = record { words = ws; answer = r }
 
-abbrev pub at : ℕ → ℕ → ℕ → Joined
-at i n e = At (record { 0 = i }) (record { sorts = n; entries = e })
+abbrev pub joinedAt : ℕ → ℕ → ℕ → Joined
+joinedAt i n e = At (record { 0 = i }) (record { sorts = n; entries = e })
 
 unfoldable pub internRow : List ℕ → ℕ → ℕ → Row → Stored
 internRow ws n e r =
-    cond (ltb (findRow ws n r) n) (storedAt ws (at (findRow ws n r) n e))
+    cond (ltb (findRow ws n r) n) (storedAt ws (joinedAt (findRow ws n r) n e))
     (cond (ltb n maxSorts && leb (e + length (r .args)) maxEntries)
-    (storedAt (appendRow ws n e r) (at n (n + 1) (e + length (r .args))))
+    (storedAt (appendRow ws n e r) (joinedAt n (n + 1) (e + length (r .args))))
     (storedAt ws Full))

@@ -13,7 +13,7 @@ use Rattle.resolved_sort.specs.declared.ResolvedSort.{ResolvedSort}
 use Rattle.resolved_sort.specs.declared.ResolvedSort.the-variants.{Unit, Primitive, Container}
 use Rattle.resolved_sort.specs.declared.ResolvedSort.the-variants.{Function, Def, TypeVar}
 use Rattle.resolved_sort.specs.Tree.{Flat, unit, primitive, def, typevar, Tree}
-use Rattle.resolved_sort.specs.Tree.{flat, container, function, Trees, end, arg}
+use Rattle.resolved_sort.specs.Tree.{flat, container, function, Trees, no-args, arg}
 use Rattle.resolved_sort.specs.Interning.{Sorts, look, number, need}
 use Rattle.words.specs.Words.{zeros}
 
@@ -104,7 +104,7 @@ wordsAt ws i =
     }
 
 unfoldable pub lookAll : List Tree → List ℕ → Trees
-lookAll T [] = end
+lookAll T [] = no-args
 lookAll T (x ∷ xs) = arg (look T x) (lookAll T xs)
 
 -- The sort of a row, with the lower sorts given.
@@ -157,7 +157,7 @@ partFlat (def n) = n
 partFlat (typevar n) = n
 
 unfoldable pub numbers : List Tree → Trees → List ℕ
-numbers T end = []
+numbers T no-args = []
 numbers T (arg t ts) = number T t ∷ numbers T ts
 
 unfoldable pub rowOf : List Tree → Tree → Row

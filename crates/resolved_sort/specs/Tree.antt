@@ -22,11 +22,11 @@ mutual
 
   -- The arguments of a function.
   pub data Trees : Type 0 where
-    end : Trees
+    no-args : Trees
     arg : Tree → Trees → Trees
 
 unfoldable pub arity : Trees → ℕ
-arity end = 0
+arity no-args = 0
 arity (arg t ts) = arity ts + 1
 
 -- Heads that are ordered among themselves form a family, and stand in it at levels: the number sorts by generality,
@@ -85,7 +85,7 @@ unfoldable mutual
   same (function ss r) (function ts u) = sames ss ts && same r u
 
   pub sames : Trees → Trees → Bool
-  sames end end = true
-  sames end (arg t ts) = false
-  sames (arg s ss) end = false
+  sames no-args no-args = true
+  sames no-args (arg t ts) = false
+  sames (arg s ss) no-args = false
   sames (arg s ss) (arg t ts) = same s t && sames ss ts

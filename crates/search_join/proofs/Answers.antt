@@ -18,7 +18,7 @@ use Rattle.unification.specs.declared.Lengths.{Lengths}
 use Rattle.unification.specs.declared.Default.the-variants.{Nothing}
 use Rattle.unification.specs.Nodes.{bindsOf}
 use Rattle.unification.specs.Resolve.{valueIn, termResolved, withCounts}
-use Rattle.inference.specs.Search.{makesSort, resolveIn, joinIn, headOf}
+use Rattle.inference.specs.Search.{makesSort, resolveIn, joinIn, headSteps}
 use Rattle.search_state.specs.declared.Made.{Made}
 use Rattle.search_state.specs.declared.Made.the-variants.{At as Is, Nothing as NoSort, Full as NoRoom}
 use Rattle.search_state.specs.Leaves.{madeOf}
@@ -63,10 +63,10 @@ abbrev pub between : List ℕ → ℕ → ℕ → ℕ → Option Steps
 between ws n a b = distance true (treeAt ws n a) (treeAt ws n b)
 
 -- the head of a distance, where there is one
-pub head-is : (h i : ℕ) (o : Option Steps) → Distance h i ≡ wideningOf o → h ≡ headOf o
+pub head-is : (h i : ℕ) (o : Option Steps) → Distance h i ≡ wideningOf o → h ≡ headSteps o
 head-is h i none e = no-confusion (cc)
 head-is h i (some d) e = cc
 
-pub no-head : (o : Option Steps) → NoDistance ≡ wideningOf o → 0 ≡ headOf o
+pub no-head : (o : Option Steps) → NoDistance ≡ wideningOf o → 0 ≡ headSteps o
 no-head none e = refl
 no-head (some d) e = no-confusion (cc)

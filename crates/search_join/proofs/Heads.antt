@@ -15,7 +15,7 @@ use Rattle.resolved_sort.specs.Rows.{Checked}
 use Rattle.unification.specs.declared.Lengths.{Lengths}
 use Rattle.unification.specs.Related.{each}
 use Rattle.unification.specs.Making.{Lent, lent}
-use Rattle.inference.specs.Search.{headOf, allInto}
+use Rattle.inference.specs.Search.{headSteps, allInto}
 use Rattle.search_join.specs.Sources.{Resolved}
 use Rattle.search_join.proofs.Lists.{length-first, first-at, firsts-left, first-below}
 
@@ -40,7 +40,7 @@ module _ (W : Lent) (j : ℕ) where
 
 -- the head distance of a sort to another, and those of sorts
 abbrev pub headTo : List ℕ → ℕ → ℕ → ℕ → ℕ
-headTo ws n j s = headOf (distance true (treeAt ws n s) (treeAt ws n j))
+headTo ws n j s = headSteps (distance true (treeAt ws n s) (treeAt ws n j))
 
 abbrev pub headsTo : List ℕ → ℕ → ℕ → List ℕ → List ℕ
 headsTo ws n j ss = each (headTo ws n j) ss

@@ -38,7 +38,7 @@ ghost use Rattle.unification.specs.Checked.{Ready, Placed};
 ghost use Rattle.unification.specs.Related.{each};
 ghost use Rattle.inference.specs.Constraints.{maxComponents, rowsFrom};
 ghost use Rattle.inference.specs.Search.{resolveIn, joinIn, resolveAll, joinAll};
-ghost use Rattle.inference.specs.Search.{headOf, allInto, agreed as agreedOn, joinOf};
+ghost use Rattle.inference.specs.Search.{headSteps, allInto, agreed as agreedOn, joinOf};
 ghost use Rattle.search_state.specs.Memory.{sourceAt, measureAt, scratchUsed};
 ghost use Rattle.search_state.specs.Leaves.{madeOf, extractedOf, Agrees};
 ghost use Rattle.search_state.specs.Searching.{Agreeing};
@@ -189,7 +189,7 @@ fn head_distance(sorts: &[u16], counts: Counts, from: SortId, to: SortId) -> u16
         ⌝ }
     ensures { λ r. ⌜
         r
-        ≡ headOf (distance true (treeAt (now (sorts .entry)) (counts .sorts) (from .0))
+        ≡ headSteps (distance true (treeAt (now (sorts .entry)) (counts .sorts) (from .0))
         (treeAt (now (sorts .entry)) (counts .sorts) (to .0)))
         ⌝ }
 {
@@ -215,7 +215,7 @@ fn put_heads(
     ensures { λ _. ⌜
         now (scratch .exit)
         ≡ sets (now (scratch .entry)) (measureAt + measure)
-        (each (λ s. headOf (distance true (treeAt (now (sorts .entry)) (lengths .sorts) s)
+        (each (λ s. headSteps (distance true (treeAt (now (sorts .entry)) (lengths .sorts) s)
         (treeAt (now (sorts .entry)) (lengths .sorts) (lub .0))))
         (take count (now (ids .entry))))
         ⌝ }

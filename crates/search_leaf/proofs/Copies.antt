@@ -16,7 +16,7 @@ use Rattle.search_state.specs.Leaves.{ChangedOnly}
 use Rattle.search_state.specs.Searching.{SamePath}
 use Rattle.search_state.proofs.Parts.{part-before, part-after, changed-wider, same-path-trans, measure-changes-no-path, choices-change-no-path}
 use Rattle.words.proofs.Parts.{length-part}
-use Rattle.search_leaf.specs.Leaf.{copied, kept, Keepable}
+use Rattle.search_leaf.specs.Leaf.{copied, keptAsBest, Keepable}
 
 -- i of n words are copied
 pub record Copying (a b n : ℕ) (sc₀ sc : List ℕ) (i : ℕ) : Type 0 where
@@ -80,8 +80,8 @@ module _ (a b n : ℕ) (sc₀ sc : List ℕ) (i : ℕ) (G : Copying a b n sc₀ 
   all-copied h = let e : i ≡ n = omega (arith, h, G .within) in G .same ∙ ap (λ (j : ℕ). copied a b j sc₀) e
 
 -- What is kept.
-pub kept-by-two : (z : Sizes) (sc one two : List ℕ) → one ≡ copied measureAt bestMeasureAt (z .components) sc → two ≡ copied choicesAt bestChoicesAt (z .disjunctions) one → two ≡ kept z sc
-unfolding kept
+pub kept-by-two : (z : Sizes) (sc one two : List ℕ) → one ≡ copied measureAt bestMeasureAt (z .components) sc → two ≡ copied choicesAt bestChoicesAt (z .disjunctions) one → two ≡ keptAsBest z sc
+unfolding keptAsBest
 kept-by-two z sc one two f g = g ∙ ap (copied choicesAt bestChoicesAt (z .disjunctions)) f
 
 module _ (z : Sizes) (sc : List ℕ) (p : Keepable z sc) where
@@ -102,28 +102,28 @@ module _ (z : Sizes) (sc : List ℕ) (p : Keepable z sc) where
       changed-wider bestMeasureAt (bestMeasureAt + z .components) bestMeasureAt choicesAt sc one (omega arith) (omega (arith, p .components))
       (copied-changes measureAt bestMeasureAt (z .components) sc (measure-room .0) (measure-room .1))
 
-  second-changes : ChangedOnly bestChoicesAt scratchUsed one (kept z sc)
-  unfolding kept
+  second-changes : ChangedOnly bestChoicesAt scratchUsed one (keptAsBest z sc)
+  unfolding keptAsBest
   second-changes =
-      changed-wider bestChoicesAt (bestChoicesAt + z .disjunctions) bestChoicesAt scratchUsed one (kept z sc) (omega arith) (omega (arith, p .disjunctions))
+      changed-wider bestChoicesAt (bestChoicesAt + z .disjunctions) bestChoicesAt scratchUsed one (keptAsBest z sc) (omega arith) (omega (arith, p .disjunctions))
       (copied-changes choicesAt bestChoicesAt (z .disjunctions) one (choices-room one one-long .0) (choices-room one one-long .1))
 
-  pub kept-measure : part bestMeasureAt (z .components) (kept z sc) ≡ part measureAt (z .components) sc
+  pub kept-measure : part bestMeasureAt (z .components) (keptAsBest z sc) ≡ part measureAt (z .components) sc
   kept-measure =
-      part-before bestChoicesAt scratchUsed one (kept z sc) second-changes bestMeasureAt (z .components) (omega (arith, p .components))
+      part-before bestChoicesAt scratchUsed one (keptAsBest z sc) second-changes bestMeasureAt (z .components) (omega (arith, p .components))
       ∙ copied-there measureAt bestMeasureAt (z .components) sc (measure-room .0) (measure-room .1)
 
-  pub kept-choices : part bestChoicesAt (z .disjunctions) (kept z sc) ≡ part choicesAt (z .disjunctions) sc
-  unfolding kept
+  pub kept-choices : part bestChoicesAt (z .disjunctions) (keptAsBest z sc) ≡ part choicesAt (z .disjunctions) sc
+  unfolding keptAsBest
   kept-choices =
       copied-there choicesAt bestChoicesAt (z .disjunctions) one (choices-room one one-long .0) (choices-room one one-long .1)
       ∙ part-after bestMeasureAt choicesAt sc one first-changes choicesAt (z .disjunctions) (omega arith)
 
-  pub kept-sorts : (n : ℕ) → n ≤ maxExprs → part bestSortsAt n (kept z sc) ≡ part bestSortsAt n sc
+  pub kept-sorts : (n : ℕ) → n ≤ maxExprs → part bestSortsAt n (keptAsBest z sc) ≡ part bestSortsAt n sc
   kept-sorts n l =
-      part-before bestChoicesAt scratchUsed one (kept z sc) second-changes bestSortsAt n (omega (arith, l))
+      part-before bestChoicesAt scratchUsed one (keptAsBest z sc) second-changes bestSortsAt n (omega (arith, l))
       ∙ part-before bestMeasureAt choicesAt sc one first-changes bestSortsAt n (omega (arith, l))
 
-  pub kept-path : (e : Branch) → e .trail ≤ trailWords → e .measure ≤ maxComponents → e .choices ≤ maxConstraints → SamePath e sc (kept z sc)
+  pub kept-path : (e : Branch) → e .trail ≤ trailWords → e .measure ≤ maxComponents → e .choices ≤ maxConstraints → SamePath e sc (keptAsBest z sc)
   kept-path e t m c =
-      same-path-trans e sc one (kept z sc) (measure-changes-no-path e t m c sc one first-changes) (choices-change-no-path e t m c one (kept z sc) second-changes)
+      same-path-trans e sc one (keptAsBest z sc) (measure-changes-no-path e t m c sc one first-changes) (choices-change-no-path e t m c one (keptAsBest z sc) second-changes)

@@ -33,7 +33,7 @@ use Rattle.words.specs.Words.{part}
 use Rattle.search_state.specs.Leaves.{extractedOf, Extracts, rankingOf}
 use Rattle.search_state.specs.Searching.{AtLeaf, SamePath, Comes}
 use Rattle.search_state.proofs.Parts.{changed-wider, same-path-refl, same-path-trans, sorts-change-no-path}
-use Rattle.search_leaf.specs.Leaf.{rankedBy, Readable, sortsFrom, kept, Keepable}
+use Rattle.search_leaf.specs.Leaf.{rankedBy, Readable, sortsFrom, keptAsBest, Keepable}
 use Rattle.search_leaf.proofs.Copies.{kept-measure, kept-choices, kept-sorts, kept-path}
 
 -- the state with an incumbent
@@ -118,7 +118,7 @@ module _ (ws ns bs sc ls : List ℕ) (z : Sizes) (k : State) (e : Branch) (p : A
           path = path;
         }
 
-    pub replaces : (k′ : Lengths) → r ≡ All k′ → (sc″ : List ℕ) → sc″ ≡ kept z sc′
+    pub replaces : (k′ : Lengths) → r ≡ All k′ → (sc″ : List ℕ) → sc″ ≡ keptAsBest z sc′
         → Comes ls z ws ns bs sc k e (replace (Unit {0}) nothingMet (problemIn ls z)) ws′ ns bs sc″ (Found (incumbent k′ false))
     unfolding MadeSorts bestOf candidateOf
     replaces k′ f sc″ es =

@@ -57,8 +57,8 @@ abbrev pub copied : ℕ → ℕ → ℕ → List ℕ → List ℕ
 copied a b n sc = paste sc b (drop a sc) n
 
 -- the measure and the choices of the branch as those of the incumbent
-unfoldable pub kept : Sizes → List ℕ → List ℕ
-kept z sc =
+unfoldable pub keptAsBest : Sizes → List ℕ → List ℕ
+keptAsBest z sc =
     copied choicesAt bestChoicesAt (z .disjunctions) (copied measureAt bestMeasureAt (z .components) sc)
 
 pub record Keepable (z : Sizes) (sc : List ℕ) : Type 0 where

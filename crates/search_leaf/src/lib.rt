@@ -30,7 +30,7 @@ ghost use Rattle.search_state.specs.Memory.{problemIn, bestSortsAt, scratchUsed
 ghost use Rattle.search_state.specs.Leaves.{rankingOf, Extracts};
 ghost use Rattle.search_state.specs.Searching.{AtLeaf, Comparable, Comes};
 ghost use Rattle.search_leaf.specs.Leaf.{ranked, rankedBy, IsDominated, Readable};
-ghost use Rattle.search_leaf.specs.Leaf.{sortsFrom, copied, kept, Keepable};
+ghost use Rattle.search_leaf.specs.Leaf.{sortsFrom, copied, keptAsBest, Keepable};
 ghost use Rattle.unification.specs.Making.{lent};
 
 // How the first n components compare with the incumbent's, from the front: the first that differ decide.
@@ -144,7 +144,7 @@ fn copy(scratch: &mut [u16], from: usize, to: usize, n: usize)
 // Keeps the measure and the choices of the branch as the incumbent's.
 fn keep(scratch: &mut [u16], sizes: Sizes)
     requires { ⌜ Keepable sizes (now scratch) ⌝ }
-    ensures { λ _. ⌜ now (scratch .exit) ≡ kept sizes (now (scratch .entry)) ⌝ }
+    ensures { λ _. ⌜ now (scratch .exit) ≡ keptAsBest sizes (now (scratch .entry)) ⌝ }
 {
     copy(
         scratch,

@@ -13,7 +13,7 @@ use Rattle.unification.specs.Making.{Lent, lent}
 use Rattle.unification.proofs.Grows.{CheckedLent, PlacedIn, Grows, placed-grown, grows-trans, ready-grown}
 use Rattle.inference.specs.declared.Constraint.{Constraint}
 use Rattle.inference.specs.Constraints.{Problem}
-use Rattle.inference.specs.Search.{Path, World, Out, found, missed, orElse, andAlso, Next as Going}
+use Rattle.inference.specs.Search.{Path, World, Out, found, missed, elseTry, andAlso, Going}
 use Rattle.inference.specs.SolveEntry.{nothingMet}
 use Rattle.inference.specs.Typing.{All, none-left, and-all}
 use Rattle.inference.proofs.Accepted.{Listed, sub-listed, lit-listed, disjunction-listed, comprehension-listed, join-listed}
@@ -141,21 +141,21 @@ module _ (ls : List ℕ) (z : Sizes) (ws ns bs sc : List ℕ) (k : State) (e : B
 
     -- "where nothing was found, what else"
     module _ (f : World (Unit {0}) → Out (Unit {0})) where
-      pub or-stops : ((s : State) → r ≡ Missed s → ⊥) → Done ls z ws ns bs sc k e (orElse O f) ws₁ ns₁ bs₁ sc₁ r
-      or-stops n = record { says = go r n ∙ ap (λ x. orElse x f) (d .says); grown = d .grown; binds = d .binds; path = d .path }
+      pub or-stops : ((s : State) → r ≡ Missed s → ⊥) → Done ls z ws ns bs sc k e (elseTry O f) ws₁ ns₁ bs₁ sc₁ r
+      or-stops n = record { says = go r n ∙ ap (λ x. elseTry x f) (d .says); grown = d .grown; binds = d .binds; path = d .path }
         where
-          go : (r : Answer) → ((s : State) → r ≡ Missed s → ⊥) → outOf ls z ws₁ ns₁ sc₁ r ≡ orElse (outOf ls z ws₁ ns₁ sc₁ r) f
+          go : (r : Answer) → ((s : State) → r ≡ Missed s → ⊥) → outOf ls z ws₁ ns₁ sc₁ r ≡ elseTry (outOf ls z ws₁ ns₁ sc₁ r) f
           go (Found s) n = refl
           go (Missed s) n = absurd (n s refl)
           go (Full x l) n = refl
 
-      pub or-missed : (k₁ : State) → r ≡ Missed k₁ → f (worldOf ls z ws₁ ns₁ sc₁ k₁) ≡ orElse O f
-      or-missed k₁ q = ap (λ x. orElse x f) (sym (ap (outOf ls z ws₁ ns₁ sc₁) q) ∙ d .says)
+      pub or-missed : (k₁ : State) → r ≡ Missed k₁ → f (worldOf ls z ws₁ ns₁ sc₁ k₁) ≡ elseTry O f
+      or-missed k₁ q = ap (λ x. elseTry x f) (sym (ap (outOf ls z ws₁ ns₁ sc₁) q) ∙ d .says)
 
     pub or-comes : (f : Going (Unit {0}) nothingMet (problemIn ls z)) (k₁ : State) → r ≡ Missed k₁ → (ws₂ ns₂ bs₂ sc₂ : List ℕ) (r₂ : Answer)
-        → Comes ls z ws₁ ns₁ bs₁ sc₁ k₁ e f ws₂ ns₂ bs₂ sc₂ r₂ → Done ls z ws ns bs sc k e (orElse O (f path)) ws₂ ns₂ bs₂ sc₂ r₂
+        → Comes ls z ws₁ ns₁ bs₁ sc₁ k₁ e f ws₂ ns₂ bs₂ sc₂ r₂ → Done ls z ws ns bs sc k e (elseTry O (f path)) ws₂ ns₂ bs₂ sc₂ r₂
     or-comes f k₁ q ws₂ ns₂ bs₂ sc₂ r₂ x =
-        done-as (f path (worldOf ls z ws₁ ns₁ sc₁ k₁)) (orElse O (f path)) ws₂ ns₂ bs₂ sc₂ r₂ (or-missed (f path) k₁ q)
+        done-as (f path (worldOf ls z ws₁ ns₁ sc₁ k₁)) (elseTry O (f path)) ws₂ ns₂ bs₂ sc₂ r₂ (or-missed (f path) k₁ q)
         (comes-after ws₁ ns₁ bs₁ sc₁ k₁ (grown-missed k₁ q) (d .binds) (d .path) f ws₂ ns₂ bs₂ sc₂ r₂ x)
 
     -- "whatever was found, what else"

@@ -23,7 +23,7 @@ use Rattle.unification.proofs.RelatedBinds.{no-list-is-free}
 use Rattle.inference.specs.declared.LitKind.{LitKind}
 use Rattle.inference.specs.Constraints.{Problem}
 use Rattle.inference.specs.Measure.{Components}
-use Rattle.inference.specs.Search.{Path, Try, World, Out, missed, measured, widerTries, narrowerTries, litComponent, litTries, onYes, unifying, onMade, lending, givenBack, sortIn, Next, firstFound, narrower, wider, atSort, literalAt, literalEnd, literal}
+use Rattle.inference.specs.Search.{Path, Try, World, Out, missed, withComponents, widerTries, narrowerTries, litComponent, litTries, onYes, unifying, onMade, lending, nodesReturned, sortIn, Going, firstFound, narrower, wider, atSort, literalAt, literalEnd, literal}
 use Rattle.inference.specs.Typing.{All, none-left, and-all}
 use Rattle.inference.proofs.Invariant.{SortsOnly}
 use Rattle.inference.proofs.MakingSorts.{MadeSorts, container-makes}
@@ -34,11 +34,11 @@ use Rattle.search_state.specs.declared.Pairs.the-variants.{Two}
 use Rattle.search_state.specs.declared.LitAt.{LitAt}
 use Rattle.search_state.specs.declared.LitAt.the-variants.{Number, Free, Other}
 use Rattle.search_state.specs.Memory.{outOf}
-use Rattle.search_state.specs.Leaves.{unifyPairs, where-no-list, widenings, numberOf, litShape, litEnd, litAt, givenBackTo}
+use Rattle.search_state.specs.Leaves.{unifyPairs, where-no-list, widenings, litNumber, litShape, litEnd, litAt, givenBackTo}
 use Rattle.search_state.proofs.RelatedPlaced.{related-placed}
 
 -- nodes given back in the answer
-pub given-back-in-answer : (ls : List ℕ) (z : Sizes) (ws ns sc : List ℕ) (r : Answer) (ws₀ ns₀ : List ℕ) (k : Lengths) → outOf ls z ws ns sc (givenBackTo k r) ≡ givenBack (lent ws₀ ns₀ k) (outOf ls z ws ns sc r)
+pub given-back-in-answer : (ls : List ℕ) (z : Sizes) (ws ns sc : List ℕ) (r : Answer) (ws₀ ns₀ : List ℕ) (k : Lengths) → outOf ls z ws ns sc (givenBackTo k r) ≡ nodesReturned (lent ws₀ ns₀ k) (outOf ls z ws ns sc r)
 given-back-in-answer ls z ws ns sc (Found s) ws₀ ns₀ k = refl
 given-back-in-answer ls z ws ns sc (Missed s) ws₀ ns₀ k = refl
 given-back-in-answer ls z ws ns sc (Full c l) ws₀ ns₀ k = refl
@@ -54,11 +54,11 @@ module _ {Met : Type 0} (B : Binds) (l r : InferSortId) (w : World Met) where
       go no-way = refl
       go too-deep = refl
 
-module _ (Met : Type 0) (meet : Components → Met → Met) (P : Problem) (k : Next Met meet P) (e : Path) (w : World Met) where
+module _ (Met : Type 0) (meet : Components → Met → Met) (P : Problem) (k : Going Met meet P) (e : Path) (w : World Met) where
   -- a widening goes through its tries
   module _ (l r : ℕ) where
     abbrev pub tried : List Try → World Met → Out Met
-    tried ts v = givenBack (w .lent) (firstFound Met meet P ts k e v)
+    tried ts v = nodesReturned (w .lent) (firstFound Met meet P ts k e v)
 
     by-narrower : (O : Makes (List ℕ))
         → onMade O (λ ps. tried (narrowerTries l 1 ps)) missed w ≡ onMade (O and-then (λ ps X. made (narrowerTries l 1 ps) X)) tried missed w
@@ -83,11 +83,11 @@ module _ (Met : Type 0) (meet : Components → Met → Met) (P : Problem) (k : N
   -- a literal by what stands at its place
   module _ (kind : LitKind) (p : ℕ) where
     abbrev pub literalBy : LitAt → Out Met
-    literalBy (Number g) = k (measured e (g ∷ []) (e .binds)) w
+    literalBy (Number g) = k (withComponents e (g ∷ []) (e .binds)) w
     literalBy Free = firstFound Met meet P (litTries kind p) k e w
     literalBy Other = missed w
 
-    by-component : (o : Option ℕ) → atSort Met meet P o k e w ≡ literalBy (numberOf o)
+    by-component : (o : Option ℕ) → atSort Met meet P o k e w ≡ literalBy (litNumber o)
     by-component none = refl
     by-component (some g) = refl
 

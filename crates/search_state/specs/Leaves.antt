@@ -12,12 +12,12 @@ use Rattle.unification.specs.Term.{flatHead, containerHead, functionHead, stray
 use Rattle.unification.specs.Nodes.{Binds}
 use Rattle.unification.specs.Unify.{Unifies, and-then as after-yes, follow, deep, unify}
 use Rattle.unification.specs.Checked.{Placed}
-use Rattle.unification.specs.Trail.{Tries as Tried-so}
+use Rattle.unification.specs.Trail.{TryLeaves as Tried-so}
 use Rattle.unification.specs.Making.{Lent, Makes, made, no-list, no-room, _and-then_, strictRelated, lent}
 use Rattle.inference.specs.declared.LitKind.{LitKind}
 use Rattle.inference.specs.Constraints.{rowsFrom}
 use Rattle.inference.specs.Measure.{Ranking, smaller, equal, greater}
-use Rattle.inference.specs.Search.{Agreed, Path, Try, bound, measured, chosen, widerTries, narrowerTries, litComponent}
+use Rattle.inference.specs.Search.{Agreed, Path, Try, withBinds, withComponents, withChoice, widerTries, narrowerTries, litComponent}
 use Rattle.search_state.specs.declared.Sizes.{Sizes}
 use Rattle.search_state.specs.declared.State.{State}
 use Rattle.search_state.specs.declared.Branch.{Branch}
@@ -92,11 +92,11 @@ branchAfter e t (Component c) = record { trail = t; measure = e .measure + 1; ch
 branchAfter e t (Written n) = record { trail = t; measure = e .measure + n; choices = e .choices }
 branchAfter e t (Choice i) = record { trail = t; measure = e .measure; choices = e .choices + 1 }
 
-unfoldable pub stepped : List ℕ → Sizes → List ℕ → Branch → Step → Binds → Path
-stepped ls z sc e Nothing C = bound (pathOf ls z C sc e) C
-stepped ls z sc e (Component c) C = measured (pathOf ls z C sc e) (c ∷ []) C
-stepped ls z sc e (Written n) C = measured (pathOf ls z C sc e) (part (measureAt + e .measure) n sc) C
-stepped ls z sc e (Choice i) C = chosen (pathOf ls z C sc e) (getD (chosenExprs ls z) (e .choices) 0) i C
+unfoldable pub pathAfter : List ℕ → Sizes → List ℕ → Branch → Step → Binds → Path
+pathAfter ls z sc e Nothing C = withBinds (pathOf ls z C sc e) C
+pathAfter ls z sc e (Component c) C = withComponents (pathOf ls z C sc e) (c ∷ []) C
+pathAfter ls z sc e (Written n) C = withComponents (pathOf ls z C sc e) (part (measureAt + e .measure) n sc) C
+pathAfter ls z sc e (Choice i) C = withChoice (pathOf ls z C sc e) (getD (chosenExprs ls z) (e .choices) 0) i C
 
 -- the j-th of tries, and those from it on
 abbrev pub placesOf : Four → List ℕ
@@ -133,19 +133,19 @@ FewTries (These t k) = (t .count ≤ 4) × (t .first ≡ 1)
 FewTries (NoList k) = Unit {0}
 FewTries (NoRoom c k) = Unit {0}
 
-pub record Widens (ws ns : List ℕ) (r : Widenings) (O : Makes (List Try)) : Type 0 where
+pub record FindsWidenings (ws ns : List ℕ) (r : Widenings) (O : Makes (List Try)) : Type 0 where
   pub says : widened ws ns r ≡ O
   pub few : FewTries r
 
 -- what stands at the end of a literal's place, with the component that it costs
-abbrev pub numberOf : Option ℕ → LitAt
-numberOf none = Other
-numberOf (some g) = Number g
+abbrev pub litNumber : Option ℕ → LitAt
+litNumber none = Other
+litNumber (some g) = Number g
 
 abbrev pub litShape : LitKind → Shape → LitAt
 litShape kind (variable v) = Free
 litShape kind (over (flatHead unit) ps) = Other
-litShape kind (over (flatHead (primitive s)) ps) = numberOf (litComponent kind s)
+litShape kind (over (flatHead (primitive s)) ps) = litNumber (litComponent kind s)
 litShape kind (over (flatHead (def n)) ps) = Other
 litShape kind (over (flatHead (typevar n)) ps) = Other
 litShape kind (over (containerHead o) ps) = Other

@@ -10,7 +10,7 @@ use Rattle.unification.specs.Nodes.{Binds}
 use Rattle.inference.specs.declared.Constraint.{Constraint}
 use Rattle.inference.specs.Constraints.{constraintAt, overloadAt, rowsFrom, Problem}
 use Rattle.inference.specs.Search.{Choice, Path, Candidate, World, Out, found}
-use Rattle.inference.specs.Search.{missed, ended, Next as Going, sequence, solve}
+use Rattle.inference.specs.Search.{missed, ended, Going, sequence, solve}
 use Rattle.inference.specs.SolveChecks.{disjunctions}
 use Rattle.inference.specs.SolveEntry.{nothingMet}
 use Rattle.search_state.specs.declared.Sizes.{Sizes}

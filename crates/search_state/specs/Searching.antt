@@ -13,7 +13,7 @@ use Rattle.unification.proofs.Grows.{PlacedIn, Grows}
 use Rattle.inference.specs.declared.Constraint.{Constraint}
 use Rattle.inference.specs.Constraints.{maxExprs, maxConstraints, maxOverloads, maxSources}
 use Rattle.inference.specs.Constraints.{maxComponents, rowsFrom, Problem}
-use Rattle.inference.specs.Search.{Out, Next as Going, onYes}
+use Rattle.inference.specs.Search.{Out, Going, onYes}
 use Rattle.inference.specs.SolveChecks.{disjunctions, components}
 use Rattle.inference.specs.SolveEntry.{nothingMet}
 use Rattle.inference.specs.Typing.{All}
@@ -32,7 +32,7 @@ use Rattle.search_state.specs.declared.Pairs.{Pairs}
 use Rattle.search_state.specs.Memory.{sourceAt, problemIn, restFrom, chosenExprs, trailWords, measureAt}
 use Rattle.search_state.specs.Memory.{choicesAt, scratchUsed, pathOf, worldOf, outOf, nextOf}
 use Rattle.words.specs.Words.{part}
-use Rattle.search_state.specs.Leaves.{unifyPairs, stepped}
+use Rattle.search_state.specs.Leaves.{unifyPairs, pathAfter}
 
 -- what the checks have shown of the problem: its places and sorts are those of the lists
 pub record Suits (W : Lent) (P : Problem) : Type 0 where
@@ -53,13 +53,13 @@ pub record Sized (P : Problem) (z : Sizes) : Type 0 where
   pub few-disjunctions : z .disjunctions ≤ maxConstraints
 
 -- the constraints that come next, and how many components
-abbrev pub constraintsIn : List ℕ → Sizes → Next → List Constraint
-constraintsIn ls z (Solve i) = restFrom ls z i
-constraintsIn ls z (Source t j n i) = restFrom ls z i
+abbrev pub nextConstraints : List ℕ → Sizes → Next → List Constraint
+nextConstraints ls z (Solve i) = restFrom ls z i
+nextConstraints ls z (Source t j n i) = restFrom ls z i
 
-abbrev pub componentsIn : List ℕ → Sizes → Next → ℕ
-componentsIn ls z (Solve i) = components (restFrom ls z i)
-componentsIn ls z (Source t j n i) = (n - j) + components (restFrom ls z i)
+abbrev pub nextComponents : List ℕ → Sizes → Next → ℕ
+nextComponents ls z (Solve i) = components (restFrom ls z i)
+nextComponents ls z (Source t j n i) = (n - j) + components (restFrom ls z i)
 
 -- what is named as coming next is there
 pub record SourcesFine (W : Lent) (ls : List ℕ) (z : Sizes) (t j n : ℕ) : Type 0 where
@@ -81,8 +81,8 @@ pub record Searching (ws ns bs sc ls : List ℕ) (z : Sizes) (k : State) (e : Br
   pub long : scratchUsed ≤ length sc
   pub trail : e .trail + frees (bindsOf bs (k .lengths .variables)) ≤ trailWords
   pub fine : NextFine (lent ws ns (k .lengths)) ls z next
-  pub measure : e .measure + (more + componentsIn ls z next) ≡ z .components
-  pub choices : drop (e .choices) (chosenExprs ls z) ≡ xs ++ disjunctions (constraintsIn ls z next)
+  pub measure : e .measure + (more + nextComponents ls z next) ≡ z .components
+  pub choices : drop (e .choices) (chosenExprs ls z) ≡ xs ++ disjunctions (nextConstraints ls z next)
   pub few : e .choices ≤ z .disjunctions
 
 -- a branch that has passed all constraints
@@ -149,4 +149,4 @@ Comes ls z ws ns bs sc k e g ws′ ns′ bs′ sc′ r =
 unfoldable pub trying : (ls : List ℕ) (z : Sizes) → List ℕ → Branch → Pairs → Step → Next
     → Going (Unit {0}) nothingMet (problemIn ls z)
 trying ls z sc e pairs s next p w =
-    onYes (unifyPairs (graph (w .lent)) pairs (p .binds)) (λ C. nextOf ls z next (stepped ls z sc e s C)) w
+    onYes (unifyPairs (graph (w .lent)) pairs (p .binds)) (λ C. nextOf ls z next (pathAfter ls z sc e s C)) w

@@ -33,8 +33,8 @@ use Rattle.search_state.specs.declared.Step.{Step}
 use Rattle.search_state.specs.declared.Step.the-variants.{Nothing, Component, Written, Choice}
 use Rattle.search_state.specs.Memory.{problemIn, chosenExprs, trailWords, bestSortsAt, measureAt, bestMeasureAt, choicesAt, bestChoicesAt, scratchUsed, choicesOf, pathOf, candidateOf, bestOf, worldOf, outOf, nextOf}
 use Rattle.words.specs.Words.{part}
-use Rattle.search_state.specs.Leaves.{unifyPairs, TriesPairs, stepWords, addedComponents, addedChoices, branchAfter, stepped}
-use Rattle.search_state.specs.Searching.{Sized, Searching, constraintsIn, componentsIn, exprsOf, Done, Comes, trying}
+use Rattle.search_state.specs.Leaves.{unifyPairs, TriesPairs, stepWords, addedComponents, addedChoices, branchAfter, pathAfter}
+use Rattle.search_state.specs.Searching.{Sized, Searching, nextConstraints, nextComponents, exprsOf, Done, Comes, trying}
 use Rattle.words.proofs.Parts.{length-part, take-part, part-append, part-set-end, part-set-before, part-set-after, part-in-back, take-shorter}
 use Rattle.search_state.proofs.Parts.{nothing-chosen}
 use Rattle.unification.specs.Making.{lent}
@@ -164,8 +164,8 @@ module _ (ls : List ℕ) (z : Sizes) (few : Sized (problemIn ls z) z) (sc sc₁ 
       ∙ ap (λ j. choicesOf D (part choicesAt (e .choices) sc) ++ (record { expr = getD D j 0; position = i } ∷ [])) n)
 
   -- the path after a step
-  pub step-path : (s : Step) → Room s → Chooses s → (d : ℕ) (C : Binds) → pathOf ls z C (stepWords s e sc₁) (branchAfter e d s) ≡ stepped ls z sc e s C
-  unfolding stepWords stepped
+  pub step-path : (s : Step) → Room s → Chooses s → (d : ℕ) (C : Binds) → pathOf ls z C (stepWords s e sc₁) (branchAfter e d s) ≡ pathAfter ls z sc e s C
+  unfolding stepWords pathAfter
   step-path Nothing h g d C = λ i. record { binds = C; measure = same measureAt (e .measure) (omega arith) i; choices = choicesOf D (same choicesAt (e .choices) (omega arith) i) }
   step-path (Component c) h g d C =
       λ i. record { binds = C; measure = more-measure c (omega (arith, h .0)) i; choices = choicesOf D (step-choices (Component c) h i) }
@@ -190,7 +190,7 @@ module _ (ls : List ℕ) (z : Sizes) (ws ns bs sc : List ℕ) (k : State) (e : B
   longer (Choice i) xs q l = omega (arith, ap length q, length-drop (e .choices) E)
 
   pub chooses : e .choices + addedChoices s ≤ length E
-  chooses = longer s (disjunctions (constraintsIn ls z next)) (S .choices) (S .few)
+  chooses = longer s (disjunctions (nextConstraints ls z next)) (S .choices) (S .few)
 
   pub room : (e .measure + addedComponents s ≤ maxComponents) × (e .choices + addedChoices s ≤ maxConstraints)
   room = (omega (arith, S .measure, S .sized .few-components), omega (arith, chooses, same-exprs, S .sized .few-disjunctions))
@@ -246,7 +246,7 @@ module _ (ls : List ℕ) (z : Sizes) (ws ns bs sc : List ℕ) (k : State) (e : B
 
     -- on with what comes next, where the answer is a yes
     abbrev tried : Out (Unit {0})
-    tried = onYes U (λ C. nextOf ls z next (stepped ls z sc e s C)) (worldOf ls z ws ns sc k)
+    tried = onYes U (λ C. nextOf ls z next (pathAfter ls z sc e s C)) (worldOf ls z ws ns sc k)
 
     long₁ : scratchUsed ≤ length sc₁
     long₁ = omega (arith, S .long, u .long)
@@ -271,7 +271,7 @@ module _ (ls : List ℕ) (z : Sizes) (ws ns bs sc : List ℕ) (k : State) (e : B
     pub tried-no : (d : ℕ) → t ≡ No d → (bs₂ : List ℕ) → bs₂ ≡ undo sc₁ (e .trail) (d - e .trail) bs₁ → Done ls z ws ns bs sc k e tried ws ns bs₂ sc₁ (Missed k)
     tried-no d q bs₂ b =
         record {
-          says = (λ i. missed-with (best-same ls z sc sc₁ (u .rest) (k .best) (k .tied) i)) ∙ sym (ap (λ x. onYes x (λ C. nextOf ls z next (stepped ls z sc e s C)) (worldOf ls z ws ns sc k)) no);
+          says = (λ i. missed-with (best-same ls z sc sc₁ (u .rest) (k .best) (k .tied) i)) ∙ sym (ap (λ x. onYes x (λ C. nextOf ls z next (pathAfter ls z sc e s C)) (worldOf ls z ws ns sc k)) no);
           grown = sorts-only-refl (lent ws ns (k .lengths)) (S .ready .nodes);
           binds = b ∙ (ap (λ n. undo sc₁ (e .trail) (n - e .trail) bs₁) (sym (ap countOf q)) ∙ freed-again sc₁ refl);
           path =
@@ -310,8 +310,8 @@ module _ (ls : List ℕ) (z : Sizes) (ws ns bs sc : List ℕ) (k : State) (e : B
             long = omega (arith, long₁, ap length w, step-long ls z (S .sized) sc sc₁ long₁ (u .rest) e s);
             trail = omega (arith, trail-of s d, count, u .tries .spent, S .trail);
             fine = S .fine;
-            measure = measure-of s d (componentsIn ls z next) (S .measure);
-            choices = rest-of s (disjunctions (constraintsIn ls z next)) (S .choices) d;
+            measure = measure-of s d (nextComponents ls z next) (S .measure);
+            choices = rest-of s (disjunctions (nextConstraints ls z next)) (S .choices) d;
             few = few-of s d chooses;
           })
 
@@ -327,7 +327,7 @@ module _ (ls : List ℕ) (z : Sizes) (ws ns bs sc : List ℕ) (k : State) (e : B
             ∙ (ap₂ (λ p b. nextOf ls z next p (record { lent = lent ws ns (k .lengths); best = b; met = tt }))
             (ap₂ (pathOf ls z (bindsOf bs₁ v)) w a ∙ step-path ls z (S .sized) sc sc₁ long₁ (u .rest) e s room chooses d (bindsOf bs₁ v))
             (ap (λ xs. bestOf ls z xs (k .best) (k .tied)) w ∙ step-best ls z (S .sized) sc sc₁ long₁ (u .rest) e s room (k .best) (k .tied))
-            ∙ sym (ap (λ x. onYes x (λ C. nextOf ls z next (stepped ls z sc e s C)) (worldOf ls z ws ns sc k)) yes))
+            ∙ sym (ap (λ x. onYes x (λ C. nextOf ls z next (pathAfter ls z sc e s C)) (worldOf ls z ws ns sc k)) yes))
 
         pub tried-yes : (bs₄ : List ℕ) → bs₄ ≡ undo sc₃ (e .trail) (d - e .trail) bs₃ → Done ls z ws ns bs sc k e tried ws₃ ns₃ bs₄ sc₃ r
         tried-yes bs₄ b =
@@ -392,7 +392,7 @@ module _ (ls : List ℕ) (z : Sizes) (ws ns bs sc : List ℕ) (k : State) (e : B
 
   pub went-with : (sc₂ : List ℕ) (e₂ : Branch) → sc₂ ≡ stepWords s e sc → e₂ ≡ branchAfter e (e .trail) s → (ws₃ ns₃ bs₃ sc₃ : List ℕ) (r : Answer)
       → Comes ls z ws ns bs sc₂ k e₂ (nextOf ls z next) ws₃ ns₃ bs₃ sc₃ r
-      → Done ls z ws ns bs sc k e (nextOf ls z next (stepped ls z sc e s (bindsOf bs (k .lengths .variables))) (worldOf ls z ws ns sc k)) ws₃ ns₃ bs₃ sc₃ r
+      → Done ls z ws ns bs sc k e (nextOf ls z next (pathAfter ls z sc e s (bindsOf bs (k .lengths .variables))) (worldOf ls z ws ns sc k)) ws₃ ns₃ bs₃ sc₃ r
   unfolding undo
   went-with sc₂ e₂ w a ws₃ ns₃ bs₃ sc₃ r c =
       tried-yes (yes-with (bindsOf bs (k .lengths .variables))) bs sc (Yes (e .trail)) nothing-bound (e .trail) refl sc₂ e₂ w a ws₃ ns₃ bs₃ sc₃ r c bs₃

@@ -26,7 +26,7 @@ use Rattle.unification.specs.Checked.{Ready, Placed}
 use Rattle.unification.specs.Making.{Lent, Makes, made, no-list, no-room, _and-then_, withSorts, internContainer, strictRelated, lent}
 use Rattle.unification.specs.Resolve.{withCounts}
 use Rattle.unification.proofs.NoList.{no-list-makes-nothing}
-use Rattle.related_sorts.specs.Outcome.{relatedBy, related, RangesBy, Ranges, Relates}
+use Rattle.related_sorts.specs.Outcome.{relatedMadeBy, relatedMade, RangesBy, Ranges, Relates}
 use Rattle.related_sorts.proofs.Laws.{full-unchanged, never-none}
 use Rattle.inference.specs.Constraints.{rowsFrom}
 use Rattle.inference.specs.Search.{Try, widerTries, narrowerTries}
@@ -41,7 +41,7 @@ use Rattle.search_state.specs.declared.Widenings.{Widenings}
 use Rattle.search_state.specs.declared.Widenings.the-variants.{These, NoList, Full as NoRoom}
 use Rattle.search_state.specs.declared.Made.{Made}
 use Rattle.search_state.specs.declared.Made.the-variants.{At, Nothing, Full as NoSortRoom}
-use Rattle.search_state.specs.Leaves.{afterOf, withNodes, backTo, givenBackTo, placesOf, tryAt, triesFrom, where-no-list, widenings, widened, FewTries, Widens}
+use Rattle.search_state.specs.Leaves.{afterOf, withNodes, backTo, givenBackTo, placesOf, tryAt, triesFrom, where-no-list, widenings, widened, FewTries, FindsWidenings}
 use Rattle.search_steps.specs.Steps.{saysOf, pairsOf, InternsContainer, triesAgainst, ListedTries, AsTries}
 
 -- on after an answer
@@ -163,8 +163,8 @@ module _ (up : Bool) (o : ℕ) (a : Related) where
   abbrev inTurn : List ℕ → Lent → Makes (List Try)
   inTurn ps W = made (triesAgainst up o 1 ps) W
 
-  as-listed : (x : Listed) → a .listed ≡ x → (ws ns : List ℕ) → (relatedBy ws ns (a .ids) x and-then inTurn) ≡ (related ws ns a and-then inTurn)
-  as-listed x e ws ns = sym (ap (λ y. relatedBy ws ns (a .ids) y and-then inTurn) e)
+  as-listed : (x : Listed) → a .listed ≡ x → (ws ns : List ℕ) → (relatedMadeBy ws ns (a .ids) x and-then inTurn) ≡ (relatedMade ws ns a and-then inTurn)
+  as-listed x e ws ns = sym (ap (λ y. relatedMadeBy ws ns (a .ids) y and-then inTurn) e)
 
   pub few-listed : Ranges a → (n : ℕ) (k : Lengths) → a .listed ≡ Listed.These n k → n ≤ 3
   few-listed r n k e = subst RangesBy e r
@@ -201,10 +201,10 @@ module _ (ws ns bs : List ℕ) (k : Lengths) (q : Ready ws ns bs k) (l r : ℕ) 
   unfolding widenings
   from-left y e = ap (λ z. where-no-list (widened ws₁ ns₁ z) of-right) (sym e) ∙ ap (λ O. where-no-list O of-right) left-tried
 
-  pub wider-tried : (ts : Tries) (k′ : Lengths) → x ≡ These ts k′ → Widens ws₁ ns₁ (These ts k′) (widenings B l r W)
+  pub wider-tried : (ts : Tries) (k′ : Lengths) → x ≡ These ts k′ → FindsWidenings ws₁ ns₁ (These ts k′) (widenings B l r W)
   wider-tried ts k′ e = record { says = from-left (These ts k′) e; few = subst FewTries e (t .few) }
 
-  pub wider-no-room : (c : ℕ) (k′ : Lengths) → x ≡ NoRoom c k′ → Widens ws₁ ns₁ (NoRoom c k′) (widenings B l r W)
+  pub wider-no-room : (c : ℕ) (k′ : Lengths) → x ≡ NoRoom c k′ → FindsWidenings ws₁ ns₁ (NoRoom c k′) (widenings B l r W)
   wider-no-room c k′ e = record { says = from-left (NoRoom c k′) e; few = tt }
 
   module _ (k′ : Lengths) (e : x ≡ NoList k′) where
@@ -221,7 +221,7 @@ module _ (ws ns bs : List ℕ) (k : Lengths) (q : Ready ws ns bs k) (l r : ℕ) 
     right-asked i = (subst (λ (U : Lent). Ready (U .sorts) (U .nodes) bs (U .lengths)) (sym nothing-made) q, subst (λ (U : Lent). Placed (U .lengths) r) (sym nothing-made) i)
 
     pub narrower-tried : (ws₂ ns₂ : List ℕ) (a₂ : Related) → Relates ws₂ ns₂ a₂ (strictRelated false (bindsOf bs (k′ .variables)) r (lent ws₁ ns₁ k′)) → (y : Widenings) → AsTries false l a₂ y
-        → Widens ws₂ ns₂ y (widenings B l r W)
+        → FindsWidenings ws₂ ns₂ y (widenings B l r W)
     narrower-tried ws₂ ns₂ a₂ h₂ y t₂ =
         record {
           says =

@@ -34,7 +34,7 @@ use Rattle.inference.specs.Constraints.{rowsFrom}
 use Rattle.inference.specs.Search.{litComponent}
 use Rattle.search_state.specs.declared.LitAt.{LitAt}
 use Rattle.search_state.specs.declared.LitAt.the-variants.{Number, Free, Other}
-use Rattle.search_state.specs.Leaves.{tryAt, numberOf, litShape, litEnd, litAt}
+use Rattle.search_state.specs.Leaves.{tryAt, litNumber, litShape, litEnd, litAt}
 use Rattle.search_steps.specs.Steps.{litRow, LitTries}
 
 -- the number sorts for a literal
@@ -91,16 +91,16 @@ no-amount none e = refl
 no-amount (some n) e = no-confusion (cc)
 
 module _ (s : Sort) (r : Amount) (e : r ≡ amountOf (generality s)) (kind : LitKind) where
-  by-kind : (k : LitKind) (o : Option ℕ) → kind ≡ k → litComponent k s ≡ o → numberOf o ≡ numberOf (litComponent kind s)
-  by-kind k o i z = ap numberOf (sym z) ∙ ap (λ x. numberOf (litComponent x s)) (sym i)
+  by-kind : (k : LitKind) (o : Option ℕ) → kind ≡ k → litComponent k s ≡ o → litNumber o ≡ litNumber (litComponent kind s)
+  by-kind k o i z = ap litNumber (sym z) ∙ ap (λ x. litNumber (litComponent x s)) (sym i)
 
-  pub other-at-no-number : r ≡ Nothing → Other ≡ numberOf (litComponent kind s)
+  pub other-at-no-number : r ≡ Nothing → Other ≡ litNumber (litComponent kind s)
   other-at-no-number z = go kind refl
     where
       none-there : generality s ≡ none
       none-there = no-amount (generality s) (sym e ∙ z)
 
-      go : (k : LitKind) → kind ≡ k → Other ≡ numberOf (litComponent kind s)
+      go : (k : LitKind) → kind ≡ k → Other ≡ litNumber (litComponent kind s)
       go Positive i = by-kind Positive none i (positive-component s ∙ none-there)
       go Natural i = by-kind Natural none i (natural-component s ∙ ap aboveZero none-there)
 
@@ -108,21 +108,21 @@ module _ (s : Sort) (r : Amount) (e : r ≡ amountOf (generality s)) (kind : Lit
     is-number : generality s ≡ some g
     is-number = amount-is (generality s) g (sym e ∙ z)
 
-    pub number-of-positive : kind ≡ Positive → Number g ≡ numberOf (litComponent kind s)
+    pub number-of-positive : kind ≡ Positive → Number g ≡ litNumber (litComponent kind s)
     number-of-positive i = by-kind Positive (some g) i (positive-component s ∙ is-number)
 
     module _ (i : kind ≡ Natural) where
-      pub natural-is-not-pos : g ≡ 0 → Other ≡ numberOf (litComponent kind s)
+      pub natural-is-not-pos : g ≡ 0 → Other ≡ litNumber (litComponent kind s)
       natural-is-not-pos y = by-kind Natural none i (natural-component s ∙ (ap aboveZero is-number ∙ ap (λ (x : ℕ). aboveZero (some x)) y))
 
-      pub number-of-natural : (g ≡ 0 → ⊥) → Number g ≡ numberOf (litComponent kind s)
+      pub number-of-natural : (g ≡ 0 → ⊥) → Number g ≡ litNumber (litComponent kind s)
       number-of-natural d = by-kind Natural (some g) i (natural-component s ∙ (ap aboveZero is-number ∙ above g d))
         where
           above : (x : ℕ) → (x ≡ 0 → ⊥) → aboveZero (some x) ≡ some x
           above zero d = absurd (d refl)
           above (suc x) d = refl
 
-pub number-row : (kind : LitKind) (r : ResolvedSort) (s : Sort) → r ≡ Primitive s → (x : LitAt) → x ≡ numberOf (litComponent kind s) → x ≡ litRow kind r
+pub number-row : (kind : LitKind) (r : ResolvedSort) (s : Sort) → r ≡ Primitive s → (x : LitAt) → x ≡ litNumber (litComponent kind s) → x ≡ litRow kind r
 number-row kind r s e x y = y ∙ sym (ap (litRow kind) e)
 
 row-by-shape : (kind : LitKind) (ws : List ℕ) (r : ResolvedSort) → litRow kind r ≡ litShape kind (sortShape ws r)

@@ -13,7 +13,7 @@ use Rattle.unification.specs.Nodes.{Binds, bindsOf}
 use Rattle.unification.specs.Unify.{Unifies, and-then as after-yes, unify}
 use Rattle.unification.specs.Checked.{graphOf, Placed}
 use Rattle.unification.specs.declared.InferSortId.{InferSortId}
-use Rattle.unification.specs.Trail.{Tries}
+use Rattle.unification.specs.Trail.{TryLeaves}
 use Rattle.unifier.specs.Trying.{Trying}
 use Rattle.unifier.proofs.Tries.{then-no, then-on, trying-on}
 use Rattle.search_state.specs.declared.Branch.{Branch}
@@ -35,12 +35,12 @@ behind sc ts l = drop-append-le trailWords ts (drop trailWords sc) (omega (arith
 
 module _ (ws ns : List ℕ) (k : Lengths) (U : Unifies) (bs sc : List ℕ) (c : ℕ) (long : scratchUsed ≤ length sc) where
   -- the trail alone was lent
-  pub at-the-front : (bs′ ts′ : List ℕ) (r : Tried) → length ts′ ≡ length (take trailWords sc) → Tries ws ns k U bs (take trailWords sc) c bs′ ts′ r
+  pub at-the-front : (bs′ ts′ : List ℕ) (r : Tried) → length ts′ ≡ length (take trailWords sc) → TryLeaves ws ns k U bs (take trailWords sc) c bs′ ts′ r
       → TriesPairs ws ns k U bs sc c bs′ (ts′ ++ drop trailWords sc) r
   at-the-front bs′ ts′ r l t =
       let e : length ts′ ≡ trailWords = l ∙ length-take-le trailWords sc (omega (arith, long)) in
       record {
-        tries = subst (λ xs. Tries ws ns k U bs (take trailWords sc) c bs′ xs r) (sym (front sc ts′ e)) t;
+        tries = subst (λ xs. TryLeaves ws ns k U bs (take trailWords sc) c bs′ xs r) (sym (front sc ts′ e)) t;
         rest = behind sc ts′ e;
         long = length-front sc ts′ trailWords l;
       }

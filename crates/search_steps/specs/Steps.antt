@@ -12,7 +12,7 @@ use Rattle.unification.specs.declared.InferSortId.{InferSortId}
 use Rattle.unification.specs.declared.Lengths.{Lengths}
 use Rattle.unification.specs.declared.Related.{Related}
 use Rattle.unification.specs.Making.{made, _and-then_, internContainer, lent}
-use Rattle.related_sorts.specs.Outcome.{related}
+use Rattle.related_sorts.specs.Outcome.{relatedMade}
 use Rattle.inference.specs.declared.LitKind.{LitKind}
 use Rattle.inference.specs.Search.{Try, widerTries, narrowerTries, litComponent, litTries}
 use Rattle.search_state.specs.declared.State.{State}
@@ -25,7 +25,7 @@ use Rattle.search_state.specs.declared.LitAt.{LitAt}
 use Rattle.search_state.specs.declared.LitAt.the-variants.{Other}
 use Rattle.search_state.specs.declared.Made.{Made}
 use Rattle.search_state.specs.declared.Widenings.{Widenings}
-use Rattle.search_state.specs.Leaves.{placesOf, triesFrom, widened, FewTries, numberOf, madeOf}
+use Rattle.search_state.specs.Leaves.{placesOf, triesFrom, widened, FewTries, litNumber, madeOf}
 
 -- whether a leaf was found, as an answer
 abbrev pub saysOf : Bool → State → Answer
@@ -39,7 +39,7 @@ pairsOf t = One (record { 0 = t .left }) (record { 0 = t .right })
 -- what a literal finds at a sort
 abbrev pub litRow : LitKind → ResolvedSort → LitAt
 litRow kind UnitRow = Other
-litRow kind (Primitive s) = numberOf (litComponent kind s)
+litRow kind (Primitive s) = litNumber (litComponent kind s)
 litRow kind (Container o s) = Other
 litRow kind (Function d g) = Other
 litRow kind (Def n) = Other
@@ -71,5 +71,5 @@ pub record ListedTries (up : Bool) (other : ℕ) (ps : List ℕ) (r : Tries) : T
 -- of whatever was listed, in any lists
 pub record AsTries (up : Bool) (other : ℕ) (found : Related) (r : Widenings) : Type 0 where
   pub says : (ws ns : List ℕ)
-      → widened ws ns r ≡ (related ws ns found and-then (λ ps W. made (triesAgainst up other 1 ps) W))
+      → widened ws ns r ≡ (relatedMade ws ns found and-then (λ ps W. made (triesAgainst up other 1 ps) W))
   pub few : FewTries r

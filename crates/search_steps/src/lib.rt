@@ -51,7 +51,7 @@ ghost use Rattle.inference.specs.Search.{litComponent};
 ghost use Rattle.inference.specs.Constraints.{maxConstraints, maxComponents};
 ghost use Rattle.search_state.specs.Memory.{trailWords, scratchUsed};
 ghost use Rattle.search_state.specs.Leaves.{afterOf, withNodes, backTo, givenBackTo, placesOf, tryAt};
-ghost use Rattle.search_state.specs.Leaves.{widenings, Widens, numberOf, litAt, unifyPairs, PairsPlaced};
+ghost use Rattle.search_state.specs.Leaves.{widenings, FindsWidenings, litNumber, litAt, unifyPairs, PairsPlaced};
 ghost use Rattle.search_state.specs.Leaves.{TriesPairs, stepWords, addedComponents, addedChoices, branchAfter};
 ghost use Rattle.search_steps.specs.Steps.{saysOf, pairsOf, litRow, LitTries};
 ghost use Rattle.search_steps.specs.Steps.{InternsContainer, ListedTries, AsTries};
@@ -351,7 +351,7 @@ fn lit_at_row(row: ResolvedSort, kind: LitKind) -> LitAt
 // Its component is the generality, as where the place is free: a literal bound on one branch and free on another still
 // compares consistently.
 fn lit_at_number(sort: Sort, kind: LitKind) -> LitAt
-    ensures { λ r. ⌜ r ≡ numberOf (litComponent kind sort) ⌝ }
+    ensures { λ r. ⌜ r ≡ litNumber (litComponent kind sort) ⌝ }
 {
     match number_generality(sort) {
         Amount::Of(generality) => {
@@ -431,7 +431,7 @@ pub fn widenings_of(
         Ready (now sorts) (now nodes) (now binds) lengths × Placed lengths (lhs .0) × Placed lengths (rhs .0)
         ⌝ }
     ensures { λ r. ⌜
-        Widens (now (sorts .exit)) (now (nodes .exit)) r
+        FindsWidenings (now (sorts .exit)) (now (nodes .exit)) r
         (widenings (bindsOf (now (binds .entry)) (lengths .variables)) (lhs .0) (rhs .0)
         (lent (now (sorts .entry)) (now (nodes .entry)) lengths))
         ⌝ }

@@ -16,7 +16,7 @@ use Rattle.inference.specs.Constraints.{maxExprs, maxConstraints, nameWords, co
 use Rattle.inference.specs.SolveChecks.{Call, placed, rowsWithinLent, namesFine, runFine, overloadFine, constraintFine, constraintsFine, given, disjunctionFor, disjunctions, keys}
 use Rattle.inference.proofs.RowsLent.{rows-lent}
 use Rattle.solve_checks.specs.Marks.{allUnder}
-use Rattle.solve_checks.specs.Tests.{nameFine, rowFine}
+use Rattle.solve_checks.specs.Tests.{nameFine, constraintRowFine}
 
 module _ (I : Call) (f : rowsWithinLent I ≡ true) where
   pub expr-ceiling : I .rows .exprs ≤ maxExprs
@@ -74,4 +74,4 @@ module _ (I : Call) (top : I .rows .exprs ≤ maxExprs) where
       under-disjunctions maxExprs (constraintAt (I .constraints)) 0 (I .rows .constraints)
       (λ j l.
       fine-under (getD (I .constraints) (5 * (0 + j) + 2) 0) (constraintAt (I .constraints) (0 + j))
-      (and-right (leb (getD (I .constraints) (5 * (0 + j)) 0) 4) _ (below-each (I .rows .constraints) (rowFine I) f (0 + j) (omega (arith, l)))))
+      (and-right (leb (getD (I .constraints) (5 * (0 + j)) 0) 4) _ (below-each (I .rows .constraints) (constraintRowFine I) f (0 + j) (omega (arith, l)))))

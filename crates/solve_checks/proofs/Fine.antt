@@ -9,7 +9,7 @@ use borrow.Author.Tests.{lt-ltb, le-ltb, le-leb, lt-leb, eq-eqb, ne-eqb}
 use Rattle.inference.specs.declared.Constraint.{Constraint}
 use Rattle.inference.specs.SolveChecks.{targetFine, overloadFine, constraintFine}
 use Rattle.solve_checks.specs.declared.Given.{Given}
-use Rattle.solve_checks.specs.Calls.{partOf}
+use Rattle.solve_checks.specs.Calls.{problemCall}
 
 -- b is what a test found, and x what the check says
 module _ (x y b : Bool) (e : b ≡ x) where
@@ -22,7 +22,7 @@ module _ (x y b : Bool) (e : b ≡ x) where
 -- a name target
 module _ (g : Given) (kind sort : ℕ) where
   abbrev whole : Bool
-  whole = targetFine (partOf g [] [] [] [] []) kind sort
+  whole = targetFine (problemCall g [] [] [] [] []) kind sort
 
   pub no-kind : kind ≡ 0 → false ≡ whole
   unfolding targetFine
@@ -43,6 +43,6 @@ module _ (g : Given) (kind sort : ℕ) where
       other-kind f = sym (simp (lt-ltb 0 kind (omega (arith, d)), le-leb kind 3 h, ne-eqb kind 2 f))
 
 -- the lists that no constraint looks at make no difference
-pub same-constraint-fine : (g : Given) (cs os ss : List ℕ) (b : ℕ) (c : Constraint) → constraintFine (partOf g [] [] [] os ss) b c ≡ constraintFine (partOf g [] [] cs os ss) b c
+pub same-constraint-fine : (g : Given) (cs os ss : List ℕ) (b : ℕ) (c : Constraint) → constraintFine (problemCall g [] [] [] os ss) b c ≡ constraintFine (problemCall g [] [] cs os ss) b c
 unfolding overloadFine targetFine
 same-constraint-fine g cs os ss b c = refl

@@ -9,11 +9,11 @@ use lib.ListN.{length}
 use borrow.Author.Tests.{le-leb, lt-leb}
 use Rattle.inference.specs.SolveChecks.{Call, rowsWithinLent}
 use Rattle.solve_checks.specs.declared.Given.{Given}
-use Rattle.solve_checks.specs.Calls.{partOf}
+use Rattle.solve_checks.specs.Calls.{problemCall}
 
 module _ (g : Given) (xs ks cs os ss : List ℕ) where
   abbrev I : Call
-  I = partOf g xs ks cs os ss
+  I = problemCall g xs ks cs os ss
 
   pub exprs-above : 512 < g .exprs → false ≡ rowsWithinLent I
   unfolding rowsWithinLent

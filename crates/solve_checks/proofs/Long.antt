@@ -10,7 +10,7 @@ use borrow.Author.Tests.{le-leb, lt-leb, leb-true, leb-false}
 use Rattle.inference.specs.SolveChecks.{scratchWords, components, disjunctions, outputsLong}
 use Rattle.solve_checks.specs.declared.Given.{Given}
 use Rattle.solve_checks.specs.declared.Room.{Room}
-use Rattle.solve_checks.specs.Calls.{Outs, outputsOf, constraintsIn}
+use Rattle.solve_checks.specs.Calls.{Outs, outputsCall, constraintRows}
 
 half : (d c n : ℕ) → n ≡ c → leb d (c / 2) ≡ leb (2 * d) n
 half d c n e = go (leb d (c / 2)) refl
@@ -21,7 +21,7 @@ half d c n e = go (leb d (c / 2)) refl
 
 module _ (g : Given) (cs : List ℕ) (room : Room) (o : Outs room) where
   abbrev whole : Bool
-  whole = outputsLong (outputsOf g cs room o)
+  whole = outputsLong (outputsCall g cs room o)
 
   pub scratch-short : room .scratch < 4096 → false ≡ whole
   unfolding outputsLong
@@ -31,12 +31,12 @@ module _ (g : Given) (cs : List ℕ) (room : Room) (o : Outs room) where
   unfolding outputsLong
   typing-short h = simp (lt-leb (3 * g .exprs) (length (o .typing)) (omega (arith, h, o .typing-length)), and-false)
 
-  module _ (m : ℕ) (e : m ≡ components (constraintsIn cs (g .constraints))) where
+  module _ (m : ℕ) (e : m ≡ components (constraintRows cs (g .constraints))) where
     pub measure-short : room .measure < m → false ≡ whole
     unfolding outputsLong
-    measure-short h = simp (lt-leb (components (constraintsIn cs (g .constraints))) (length (o .measure)) (omega (arith, h, e, o .measure-length)), and-false)
+    measure-short h = simp (lt-leb (components (constraintRows cs (g .constraints))) (length (o .measure)) (omega (arith, h, e, o .measure-length)), and-false)
 
-    pub by-choices : 4096 ≤ room .scratch → 3 * g .exprs ≤ room .typing → m ≤ room .measure → (d : ℕ) → d ≡ length (disjunctions (constraintsIn cs (g .constraints)))
+    pub by-choices : 4096 ≤ room .scratch → 3 * g .exprs ≤ room .typing → m ≤ room .measure → (d : ℕ) → d ≡ length (disjunctions (constraintRows cs (g .constraints)))
         → leb d (room .choices / 2) ≡ whole
     unfolding outputsLong
     by-choices s t h d f =
@@ -46,5 +46,5 @@ module _ (g : Given) (cs : List ℕ) (room : Room) (o : Outs room) where
         (simp (
           le-leb scratchWords (length (o .scratch)) (omega (arith, s, o .scratch-length)),
           le-leb (3 * g .exprs) (length (o .typing)) (omega (arith, t, o .typing-length)),
-          le-leb (components (constraintsIn cs (g .constraints))) (length (o .measure)) (omega (arith, h, e, o .measure-length)),
+          le-leb (components (constraintRows cs (g .constraints))) (length (o .measure)) (omega (arith, h, e, o .measure-length)),
         )))

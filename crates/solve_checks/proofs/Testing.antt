@@ -21,7 +21,7 @@ use Rattle.inference.specs.SolveChecks.{Call, listed, rowsWithinLent, allWithin
 use Rattle.inference.proofs.Accepted.{within}
 use Rattle.solve_checks.specs.declared.Given.{Given}
 use Rattle.solve_checks.specs.declared.Room.{Room}
-use Rattle.solve_checks.specs.Calls.{Outs, callIn, listsOf, partOf, outputsOf}
+use Rattle.solve_checks.specs.Calls.{Outs, roomCall, listsCall, problemCall, outputsCall}
 use Rattle.inference.specs.SolveChecks.{rowChecks, lastChecks, listChecks}
 use Rattle.solve_checks.specs.Parts.{restChecks}
 
@@ -139,27 +139,27 @@ module _ (I : Call) where
 
 -- what a check does not look at
 module _ (g : Given) (ws ns bs xs ks cs os ss : List ℕ) (room : Room) (o : Outs room) where
-  pub same-row-checks : rowChecks (partOf g xs ks cs os ss) ≡ rowChecks (callIn g ws ns bs xs ks cs os ss room o)
+  pub same-row-checks : rowChecks (problemCall g xs ks cs os ss) ≡ rowChecks (roomCall g ws ns bs xs ks cs os ss room o)
   unfolding exprsFine namesFine targetFine overloadFine constraintsFine
   same-row-checks = refl
 
-  pub same-last-checks : lastChecks (callIn g ws ns [] [] [] cs [] [] room o) ≡ lastChecks (callIn g ws ns bs xs ks cs os ss room o)
+  pub same-last-checks : lastChecks (roomCall g ws ns [] [] [] cs [] [] room o) ≡ lastChecks (roomCall g ws ns bs xs ks cs os ss room o)
   unfolding longEnough outputsLong
   same-last-checks = refl
 
-  pub same-list-checks : listChecks (callIn g ws ns [] xs ks cs os ss room o) ≡ listChecks (callIn g ws ns bs xs ks cs os ss room o)
+  pub same-list-checks : listChecks (roomCall g ws ns [] xs ks cs os ss room o) ≡ listChecks (roomCall g ws ns bs xs ks cs os ss room o)
   unfolding exprsFine namesFine targetFine overloadFine constraintsFine longEnough outputsLong
   same-list-checks = refl
 
-  pub same-outputs : outputsLong (outputsOf g cs room o) ≡ outputsLong (callIn g ws ns bs xs ks cs os ss room o)
+  pub same-outputs : outputsLong (outputsCall g cs room o) ≡ outputsLong (roomCall g ws ns bs xs ks cs os ss room o)
   unfolding outputsLong
   same-outputs = refl
 
-  pub same-rows-within : rowsWithinLent (partOf g xs ks cs os ss) ≡ rowsWithinLent (callIn g ws ns bs xs ks cs os ss room o)
+  pub same-rows-within : rowsWithinLent (problemCall g xs ks cs os ss) ≡ rowsWithinLent (roomCall g ws ns bs xs ks cs os ss room o)
   unfolding rowsWithinLent
   same-rows-within = refl
 
-  pub same-within : allWithinLent (listsOf g ws ns bs xs ks cs os ss) ≡ allWithinLent (callIn g ws ns bs xs ks cs os ss room o)
+  pub same-within : allWithinLent (listsCall g ws ns bs xs ks cs os ss) ≡ allWithinLent (roomCall g ws ns bs xs ks cs os ss room o)
   unfolding allWithinLent rowsWithinLent
   same-within = refl
 

@@ -22,9 +22,9 @@ pub record Outs (room : Room) : Type 0 where
   pub measure-length : length measure ≡ room .measure
   pub choices-length : length choices ≡ room .choices
 
-abbrev pub callIn : Given → (sorts nodes binds exprs names constraints overloads sources : List ℕ)
+abbrev pub roomCall : Given → (sorts nodes binds exprs names constraints overloads sources : List ℕ)
     → (room : Room) → Outs room → Call
-callIn g ws ns bs xs ks cs os ss room o =
+roomCall g ws ns bs xs ks cs os ss room o =
     callOf g ws ns bs xs ks cs os ss (o .scratch) (o .typing) (o .measure) (o .choices)
 
 -- with no words lent for scratch and outputs, and with no sorts, nodes and bindings beside
@@ -44,15 +44,15 @@ noOuts =
       choices-length = refl;
     }
 
-abbrev pub listsOf : Given → (sorts nodes binds exprs names constraints overloads sources : List ℕ) → Call
-listsOf g ws ns bs xs ks cs os ss = callIn g ws ns bs xs ks cs os ss noRoom noOuts
+abbrev pub listsCall : Given → (sorts nodes binds exprs names constraints overloads sources : List ℕ) → Call
+listsCall g ws ns bs xs ks cs os ss = roomCall g ws ns bs xs ks cs os ss noRoom noOuts
 
-abbrev pub partOf : Given → (exprs names constraints overloads sources : List ℕ) → Call
-partOf g xs ks cs os ss = listsOf g [] [] [] xs ks cs os ss
+abbrev pub problemCall : Given → (exprs names constraints overloads sources : List ℕ) → Call
+problemCall g xs ks cs os ss = listsCall g [] [] [] xs ks cs os ss
 
-abbrev pub outputsOf : Given → List ℕ → (room : Room) → Outs room → Call
-outputsOf g cs room o = callIn g [] [] [] [] [] cs [] [] room o
+abbrev pub outputsCall : Given → List ℕ → (room : Room) → Outs room → Call
+outputsCall g cs room o = roomCall g [] [] [] [] [] cs [] [] room o
 
 -- the n constraints of words
-abbrev pub constraintsIn : List ℕ → ℕ → List Constraint
-constraintsIn cs n = rowsFrom (constraintAt cs) 0 n
+abbrev pub constraintRows : List ℕ → ℕ → List Constraint
+constraintRows cs n = rowsFrom (constraintAt cs) 0 n

@@ -17,7 +17,7 @@ nameFine I i =
 abbrev pub sourceFine : Call → ℕ → Bool
 sourceFine I j = placed I (getD (I .sources) j 0)
 
-abbrev pub rowFine : Call → ℕ → Bool
-rowFine I i =
+abbrev pub constraintRowFine : Call → ℕ → Bool
+constraintRowFine I i =
     leb (getD (I .constraints) (constraintWords * i) 0) 4
     && constraintFine I (getD (I .constraints) (constraintWords * i + 2) 0) (constraintAt (I .constraints) i)

@@ -39,9 +39,9 @@ ghost use Rattle.inference.specs.SolveChecks.{rowsWithinLent, targetFine, exprs
 ghost use Rattle.inference.specs.SolveChecks.{runFine, constraintFine, constraintsFine, disjunctionFor, disjunctions};
 ghost use Rattle.inference.specs.SolveChecks.{noTwo, keys, hasSources, joinsFine, componentsOf};
 ghost use Rattle.inference.specs.SolveChecks.{components as componentsIn, outputsLong, allWithinLent, solveChecks};
-ghost use Rattle.solve_checks.specs.Calls.{Outs, partOf, outputsOf, constraintsIn, callIn, listsOf};
+ghost use Rattle.solve_checks.specs.Calls.{Outs, problemCall, outputsCall, constraintRows, roomCall, listsCall};
 ghost use Rattle.solve_checks.specs.Marks.{marked, markOf, markBy, allUnder};
-ghost use Rattle.solve_checks.specs.Tests.{nameFine, sourceFine, rowFine};
+ghost use Rattle.solve_checks.specs.Tests.{nameFine, sourceFine, constraintRowFine};
 ghost use Rattle.resolved_sort.specs.Checks.{firstFailing};
 ghost use Rattle.resolved_sort.specs.Entries.{testedOf};
 ghost use Rattle.inference.specs.SolveChecks.{rowChecks, lastChecks, listChecks};
@@ -82,7 +82,7 @@ fn rows_within_lent(
 ) -> bool
     ensures { λ r. ⌜
         r
-        ≡ rowsWithinLent (partOf given (now (exprs .entry)) (now (names .entry)) (now (constraints .entry))
+        ≡ rowsWithinLent (problemCall given (now (exprs .entry)) (now (names .entry)) (now (constraints .entry))
         (now (overloads .entry)) (now (sources .entry)))
         ⌝ }
 {
@@ -122,7 +122,7 @@ fn placed(given: Given, place: u16) -> bool
 
 // Check 8: each expression has a place.
 fn exprs_fine(exprs: &[u16], given: Given) -> bool
-    ensures { λ r. ⌜ r ≡ exprsFine (partOf given (now (exprs .entry)) [] [] [] []) ⌝ }
+    ensures { λ r. ⌜ r ≡ exprsFine (problemCall given (now (exprs .entry)) [] [] [] []) ⌝ }
 {
     let count = given.exprs;
     let mut i: usize = 0;
@@ -137,7 +137,7 @@ fn exprs_fine(exprs: &[u16], given: Given) -> bool
 
 // Whether a name target has a known kind and, where it is an operation, a sort of the list.
 fn target_fine(given: Given, kind: u16, sort: u16) -> bool
-    ensures { λ r. ⌜ r ≡ targetFine (partOf given [] [] [] [] []) kind sort ⌝ }
+    ensures { λ r. ⌜ r ≡ targetFine (problemCall given [] [] [] [] []) kind sort ⌝ }
 {
     if kind == 0 {
         return false;
@@ -154,7 +154,7 @@ fn target_fine(given: Given, kind: u16, sort: u16) -> bool
 // Whether the i-th base name is for an expression and has a fine target.
 fn name_fine(names: &[u16], given: Given, i: usize) -> bool
     requires { ⌜ nameWords * i + 2 < length (now names) ⌝ }
-    ensures { λ r. ⌜ r ≡ nameFine (partOf given [] (now (names .entry)) [] [] []) i ⌝ }
+    ensures { λ r. ⌜ r ≡ nameFine (problemCall given [] (now (names .entry)) [] [] []) i ⌝ }
 {
     let key = word(names, NAME_WORDS * i);
     if given.exprs <= (key as usize) {
@@ -168,7 +168,7 @@ fn name_fine(names: &[u16], given: Given, i: usize) -> bool
 // Check 8: each base name is fine.
 fn names_fine(names: &[u16], given: Given) -> bool
     requires { ⌜ nameWords * given .names ≤ length (now names) ⌝ }
-    ensures { λ r. ⌜ r ≡ namesFine (partOf given [] (now (names .entry)) [] [] []) ⌝ }
+    ensures { λ r. ⌜ r ≡ namesFine (problemCall given [] (now (names .entry)) [] [] []) ⌝ }
 {
     let count = given.names;
     let mut i: usize = 0;
@@ -183,7 +183,7 @@ fn names_fine(names: &[u16], given: Given) -> bool
 
 // Whether an overload of a run has a fine target and a place.
 fn overload_fine(overloads: &[u16], given: Given, start: u16, j: u16) -> bool
-    ensures { λ r. ⌜ r ≡ overloadFine (partOf given [] [] [] (now (overloads .entry)) []) (start + j) ⌝ }
+    ensures { λ r. ⌜ r ≡ overloadFine (problemCall given [] [] [] (now (overloads .entry)) []) (start + j) ⌝ }
 {
     let row = OVERLOAD_WORDS * ((start as usize) + (j as usize));
     let kind = word(overloads, row);
@@ -198,8 +198,8 @@ fn overload_fine(overloads: &[u16], given: Given, start: u16, j: u16) -> bool
 fn overloads_fine(overloads: &[u16], given: Given, run: Run) -> bool
     ensures { λ r. ⌜
         r
-        ≡ runFine (partOf given [] [] [] (now (overloads .entry)) []) (given .overloads)
-        (overloadFine (partOf given [] [] [] (now (overloads .entry)) [])) run
+        ≡ runFine (problemCall given [] [] [] (now (overloads .entry)) []) (given .overloads)
+        (overloadFine (problemCall given [] [] [] (now (overloads .entry)) [])) run
         ⌝ }
 {
     let start = run.start;
@@ -221,8 +221,8 @@ fn overloads_fine(overloads: &[u16], given: Given, run: Run) -> bool
 fn sources_fine(sources: &[u16], given: Given, run: Run) -> bool
     ensures { λ r. ⌜
         r
-        ≡ runFine (partOf given [] [] [] [] (now (sources .entry))) (given .sources)
-        (sourceFine (partOf given [] [] [] [] (now (sources .entry)))) run
+        ≡ runFine (problemCall given [] [] [] [] (now (sources .entry))) (given .sources)
+        (sourceFine (problemCall given [] [] [] [] (now (sources .entry)))) run
         ⌝ }
 {
     let start = run.start;
@@ -242,7 +242,7 @@ fn sources_fine(sources: &[u16], given: Given, run: Run) -> bool
 
 // Whether a constraint is fine, by what it says. Sub: both sides are places.
 fn sub_fine(given: Given, lhs: InferSortId, rhs: InferSortId) -> bool
-    ensures { λ r. ⌜ r ≡ constraintFine (partOf given [] [] [] [] []) 0 (Constraint.Sub lhs rhs) ⌝ }
+    ensures { λ r. ⌜ r ≡ constraintFine (problemCall given [] [] [] [] []) 0 (Constraint.Sub lhs rhs) ⌝ }
 {
     if !placed(given, lhs.0) {
         return false;
@@ -252,7 +252,7 @@ fn sub_fine(given: Given, lhs: InferSortId, rhs: InferSortId) -> bool
 
 // Lit: a place, and a known kind of literal.
 fn lit_fine(given: Given, b: u16, sort: InferSortId, kind: LitKind) -> bool
-    ensures { λ r. ⌜ r ≡ constraintFine (partOf given [] [] [] [] []) b (Constraint.Lit sort kind) ⌝ }
+    ensures { λ r. ⌜ r ≡ constraintFine (problemCall given [] [] [] [] []) b (Constraint.Lit sort kind) ⌝ }
 {
     if !placed(given, sort.0) {
         return false;
@@ -270,7 +270,7 @@ fn disjunction_fine(
 ) -> bool
     ensures { λ r. ⌜
         r
-        ≡ constraintFine (partOf given [] [] [] (now (overloads .entry)) []) 0
+        ≡ constraintFine (problemCall given [] [] [] (now (overloads .entry)) []) 0
         (Constraint.Disjunction expr sort disjuncts)
         ⌝ }
 {
@@ -286,7 +286,7 @@ fn disjunction_fine(
 // Comprehension: two places, and a sort of the list.
 fn comprehension_fine(given: Given, body: InferSortId, node: InferSortId, element: SortId) -> bool
     ensures { λ r. ⌜
-        r ≡ constraintFine (partOf given [] [] [] [] []) 0 (Constraint.Comprehension body node element)
+        r ≡ constraintFine (problemCall given [] [] [] [] []) 0 (Constraint.Comprehension body node element)
         ⌝ }
 {
     if !placed(given, body.0) {
@@ -301,7 +301,7 @@ fn comprehension_fine(given: Given, body: InferSortId, node: InferSortId, elemen
 // Join: a place, and a fine run of sources.
 fn join_fine(sources: &[u16], given: Given, run: Run, target: InferSortId) -> bool
     ensures { λ r. ⌜
-        r ≡ constraintFine (partOf given [] [] [] [] (now (sources .entry))) 0 (Constraint.Join run target)
+        r ≡ constraintFine (problemCall given [] [] [] [] (now (sources .entry))) 0 (Constraint.Join run target)
         ⌝ }
 {
     if !placed(given, target.0) {
@@ -318,7 +318,7 @@ fn constraint_fine(
     says: Constraint,
 ) -> bool
     ensures { λ r. ⌜
-        r ≡ constraintFine (partOf given [] [] [] (now (overloads .entry)) (now (sources .entry))) b says
+        r ≡ constraintFine (problemCall given [] [] [] (now (overloads .entry)) (now (sources .entry))) b says
         ⌝ }
 {
     match says {
@@ -345,8 +345,8 @@ fn constraint_fine(
 fn row_fine(constraints: &[u16], overloads: &[u16], sources: &[u16], given: Given, i: u16) -> bool
     ensures { λ r. ⌜
         r
-        ≡ rowFine
-        (partOf given [] [] (now (constraints .entry)) (now (overloads .entry)) (now (sources .entry))) i
+        ≡ constraintRowFine
+        (problemCall given [] [] (now (constraints .entry)) (now (overloads .entry)) (now (sources .entry))) i
         ⌝ }
 {
     let row = CONSTRAINT_WORDS * (i as usize);
@@ -364,7 +364,7 @@ fn constraints_fine(constraints: &[u16], overloads: &[u16], sources: &[u16], giv
     ensures { λ r. ⌜
         r
         ≡ constraintsFine
-        (partOf given [] [] (now (constraints .entry)) (now (overloads .entry)) (now (sources .entry)))
+        (problemCall given [] [] (now (constraints .entry)) (now (overloads .entry)) (now (sources .entry)))
         ⌝ }
 {
     let count = given.constraints as u16;
@@ -417,8 +417,8 @@ fn mark_by(seen: &mut [bool], says: Constraint) -> bool
 
 // Check 10: no two disjunctions are for one expression.
 fn one_disjunction_each(constraints: &[u16], count: u16) -> bool
-    requires { ⌜ allUnder maxExprs (disjunctions (constraintsIn (now constraints) count)) ≡ true ⌝ }
-    ensures { λ r. ⌜ r ≡ noTwo (disjunctions (constraintsIn (now (constraints .entry)) count)) ⌝ }
+    requires { ⌜ allUnder maxExprs (disjunctions (constraintRows (now constraints) count)) ≡ true ⌝ }
+    ensures { λ r. ⌜ r ≡ noTwo (disjunctions (constraintRows (now (constraints .entry)) count)) ⌝ }
 {
     let mut seen = [false; MAX_EXPRS];
     let mut i: u16 = 0;
@@ -435,9 +435,9 @@ fn one_disjunction_each(constraints: &[u16], count: u16) -> bool
 fn one_name_each(names: &[u16], given: Given) -> bool
     requires { ⌜
         (nameWords * given .names ≤ length (now names))
-        × (allUnder maxExprs (keys (partOf given [] (now names) [] [] [])) ≡ true)
+        × (allUnder maxExprs (keys (problemCall given [] (now names) [] [] [])) ≡ true)
         ⌝ }
-    ensures { λ r. ⌜ r ≡ noTwo (keys (partOf given [] (now (names .entry)) [] [] [])) ⌝ }
+    ensures { λ r. ⌜ r ≡ noTwo (keys (problemCall given [] (now (names .entry)) [] [] [])) ⌝ }
 {
     let mut seen = [false; MAX_EXPRS];
     let count = given.names;
@@ -474,7 +474,7 @@ fn has_sources(says: Constraint) -> bool
 
 // Check 11: no Join is without sources.
 fn joins_fine(constraints: &[u16], count: u16) -> bool
-    ensures { λ r. ⌜ r ≡ joinsFine (constraintsIn (now (constraints .entry)) count) ⌝ }
+    ensures { λ r. ⌜ r ≡ joinsFine (constraintRows (now (constraints .entry)) count) ⌝ }
 {
     let mut i: u16 = 0;
     while i < count {
@@ -509,7 +509,7 @@ fn components_of(says: Constraint) -> u16
 
 // How many measure components all have. Runs may overlap, so there can be more than 65,535.
 pub fn components(constraints: &[u16], count: u16) -> usize
-    ensures { λ r. ⌜ r ≡ componentsIn (constraintsIn (now (constraints .entry)) count) ⌝ }
+    ensures { λ r. ⌜ r ≡ componentsIn (constraintRows (now (constraints .entry)) count) ⌝ }
 {
     let mut sum: usize = 0;
     let mut i: u16 = 0;
@@ -547,7 +547,7 @@ fn disjunctions_of(says: Constraint) -> u16
 
 // How many disjunctions there are.
 pub fn disjunction_count(constraints: &[u16], count: u16) -> usize
-    ensures { λ r. ⌜ r ≡ length (disjunctions (constraintsIn (now (constraints .entry)) count)) ⌝ }
+    ensures { λ r. ⌜ r ≡ length (disjunctions (constraintRows (now (constraints .entry)) count)) ⌝ }
 {
     let mut sum: usize = 0;
     let mut i: u16 = 0;
@@ -563,7 +563,7 @@ pub fn disjunction_count(constraints: &[u16], count: u16) -> usize
 fn outputs_long(constraints: &[u16], given: Given, room: Room) -> bool
     requires { ⌜ (given .exprs ≤ maxExprs) × (given .constraints ≤ maxConstraints) ⌝ }
     ensures { λ r. ⌜
-        ((o : Outs room) → r ≡ outputsLong (outputsOf given (now (constraints .entry)) room o))
+        ((o : Outs room) → r ≡ outputsLong (outputsCall given (now (constraints .entry)) room o))
         ⌝ }
 {
     if room.scratch < SCRATCH_WORDS {
@@ -593,7 +593,7 @@ fn all_within_lent(
 ) -> bool
     ensures { λ r. ⌜
         r
-        ≡ allWithinLent (listsOf given (now (sorts .entry)) (now (nodes .entry)) (now (binds .entry))
+        ≡ allWithinLent (listsCall given (now (sorts .entry)) (now (nodes .entry)) (now (binds .entry))
         (now (exprs .entry)) (now (names .entry)) (now (constraints .entry)) (now (overloads .entry))
         (now (sources .entry)))
         ⌝ }
@@ -620,12 +620,12 @@ fn test_rows(
     given: Given,
 ) -> Tested
     requires { ⌜
-        rowsWithinLent (partOf given (now exprs) (now names) (now constraints) (now overloads) (now sources))
+        rowsWithinLent (problemCall given (now exprs) (now names) (now constraints) (now overloads) (now sources))
         ≡ true
         ⌝ }
     ensures { λ r. ⌜
         r
-        ≡ testedOf (firstFailing (rowChecks (partOf given (now (exprs .entry)) (now (names .entry))
+        ≡ testedOf (firstFailing (rowChecks (problemCall given (now (exprs .entry)) (now (names .entry))
         (now (constraints .entry)) (now (overloads .entry)) (now (sources .entry)))))
         ⌝ }
 {
@@ -653,7 +653,7 @@ fn test_last(sorts: &[u16], nodes: &[u16], constraints: &[u16], given: Given, ro
     ensures { λ r. ⌜
         ((o : Outs room)
         → r
-        ≡ testedOf (firstFailing (lastChecks (callIn given (now (sorts .entry)) (now (nodes .entry)) [] [] []
+        ≡ testedOf (firstFailing (lastChecks (roomCall given (now (sorts .entry)) (now (nodes .entry)) [] [] []
         (now (constraints .entry)) [] [] room o))))
         ⌝ }
 {
@@ -692,13 +692,13 @@ fn test_lists(
     room: Room,
 ) -> Tested
     requires { ⌜
-        rowsWithinLent (partOf given (now exprs) (now names) (now constraints) (now overloads) (now sources))
+        rowsWithinLent (problemCall given (now exprs) (now names) (now constraints) (now overloads) (now sources))
         ≡ true
         ⌝ }
     ensures { λ r. ⌜
         ((o : Outs room)
         → r
-        ≡ testedOf (firstFailing (listChecks (callIn given (now (sorts .entry)) (now (nodes .entry)) []
+        ≡ testedOf (firstFailing (listChecks (roomCall given (now (sorts .entry)) (now (nodes .entry)) []
         (now (exprs .entry)) (now (names .entry)) (now (constraints .entry)) (now (overloads .entry))
         (now (sources .entry)) room o))))
         ⌝ }
@@ -723,14 +723,14 @@ fn test_rest(
     room: Room,
 ) -> Tested
     requires { ⌜
-        allWithinLent (listsOf given (now sorts) (now nodes) (now binds) (now exprs) (now names)
+        allWithinLent (listsCall given (now sorts) (now nodes) (now binds) (now exprs) (now names)
         (now constraints) (now overloads) (now sources))
         ≡ true
         ⌝ }
     ensures { λ r. ⌜
         ((o : Outs room)
         → r
-        ≡ testedOf (firstFailing (restChecks (callIn given (now (sorts .entry)) (now (nodes .entry))
+        ≡ testedOf (firstFailing (restChecks (roomCall given (now (sorts .entry)) (now (nodes .entry))
         (now (binds .entry)) (now (exprs .entry)) (now (names .entry)) (now (constraints .entry))
         (now (overloads .entry)) (now (sources .entry)) room o))))
         ⌝ }
@@ -774,7 +774,7 @@ pub fn test_solve(
     ensures { λ r. ⌜
         ((o : Outs room)
         → r
-        ≡ testedOf (firstFailing (solveChecks (callIn given (now (sorts .entry)) (now (nodes .entry))
+        ≡ testedOf (firstFailing (solveChecks (roomCall given (now (sorts .entry)) (now (nodes .entry))
         (now (binds .entry)) (now (exprs .entry)) (now (names .entry)) (now (constraints .entry))
         (now (overloads .entry)) (now (sources .entry)) room o))))
         ⌝ }

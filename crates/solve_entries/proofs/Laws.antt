@@ -18,7 +18,7 @@ use Rattle.inference.specs.declared.Solved.the-variants.{Refused as Refuses}
 use Rattle.inference.specs.Constraints.{baseNameAt, rowsFrom}
 use Rattle.inference.specs.Search.{Out}
 use Rattle.inference.specs.SolveChecks.{Call, solveChecks}
-use Rattle.inference.specs.SolveEntry.{Left, solveEntry, problemOf}
+use Rattle.inference.specs.SolveEntry.{SolveLeft, solveEntry, problemOf}
 use Rattle.search_state.specs.declared.Sizes.{Sizes}
 use Rattle.search_state.specs.declared.State.{State}
 use Rattle.search_state.specs.declared.Branch.{Branch}
@@ -28,11 +28,11 @@ use Rattle.search_state.specs.Memory.{problemWords, problemIn, pathOf, worldOf,
 use Rattle.search_state.specs.Searching.{Searching, Done, Comes}
 use Rattle.problem_words.specs.Packed.{Packable, problemFrom}
 use Rattle.solve_checks.specs.declared.Given.{Given}
-use Rattle.solve_checks.specs.Calls.{partOf}
+use Rattle.solve_checks.specs.Calls.{problemCall}
 use Rattle.solve_checks.specs.Call.{lengthsOf, callOf}
 use Rattle.solve_outputs.specs.Begin.{CountsFit, RowsFit, sizesOf, noIncumbent, nothingTaken}
-use Rattle.solve_outputs.specs.Finish.{leftOf, leftBy, settledBy, Handable, SortsReturnable, NodesReturnable}
-use Rattle.solve_outputs.specs.Packed.{packSolved, Told, packed, packLeft}
+use Rattle.solve_outputs.specs.Finish.{solveLeft, solveLeftBy, settledBy, Handable, SortsReturnable, NodesReturnable}
+use Rattle.solve_outputs.specs.Packed.{packSolved, SolvedWithin, packedSolve, packSolveLeft}
 use Rattle.solve_outputs.proofs.Codes.{entry-told}
 use Rattle.solve_outputs.proofs.Passed.{counts-fit, rows-fit, packable, packed-problem, begins, handable}
 use Rattle.solve_outputs.proofs.Finished.{left-by-search, left-is-outcome}
@@ -60,9 +60,9 @@ module _ (ls : List ℕ) (z : Sizes) (ws ns bs sc : List ℕ) (k : Lengths) (st 
         subst (λ (y : Branch). Comes ls z ws ns bs sc (noIncumbent k) y (solveFrom ls z 0) ws′ ns′ bs′ sc′ r) p
         (subst (λ (x : State). Comes ls z ws ns bs sc x at (solveFrom ls z 0) ws′ ns′ bs′ sc′ r) q d)
 
-    pub search-left : (ks : List ℕ) (n : ℕ) (ts ms hs : List ℕ) (L : Left)
-        → L ≡ leftBy k ns′ bs′ sc′ (settledBy (problemIn ls z) (rowsFrom (baseNameAt ks) 0 n) ts ms hs k (outOf ls z ws′ ns′ sc′ r))
-        → L ≡ leftBy k ns bs sc (settledBy (problemIn ls z) (rowsFrom (baseNameAt ks) 0 n) ts ms hs k O)
+    pub search-left : (ks : List ℕ) (n : ℕ) (ts ms hs : List ℕ) (L : SolveLeft)
+        → L ≡ solveLeftBy k ns′ bs′ sc′ (settledBy (problemIn ls z) (rowsFrom (baseNameAt ks) 0 n) ts ms hs k (outOf ls z ws′ ns′ sc′ r))
+        → L ≡ solveLeftBy k ns bs sc (settledBy (problemIn ls z) (rowsFrom (baseNameAt ks) 0 n) ts ms hs k O)
     search-left ks n ts ms hs L e =
         left-by-search ls z ws ns bs sc (noIncumbent k) nothingTaken O ws′ ns′ bs′ sc′ r (S .ready .nodes) from-nothing (rowsFrom (baseNameAt ks) 0 n) ts ms hs L e
 
@@ -73,7 +73,7 @@ module _ (g : Given) (ws ns bs xs ks cs os ss sc ts ms hs : List ℕ) where
 
   -- refused
   module _ (t : Tested) (e : t ≡ testedOf (firstFailing (solveChecks I))) where
-    pub refused-so : (c : ℕ) → t ≡ Refused c → leftOf (Refuses c) ws ns bs sc ts ms hs ≡ solveEntry I
+    pub refused-so : (c : ℕ) → t ≡ Refused c → solveLeft (Refuses c) ws ns bs sc ts ms hs ≡ solveEntry I
     unfolding solveEntry
     refused-so c h = rw (refused-is (firstFailing (solveChecks I)) t c e h)
 
@@ -85,12 +85,12 @@ module _ (g : Given) (ws ns bs xs ks cs os ss sc ts ms hs : List ℕ) where
     pub lengths-fit : CountsFit (lengthsOf g)
     lengths-fit = counts-fit I f
 
-    pub sizes-fit : RowsFit (partOf g [] [] cs [] [])
+    pub sizes-fit : RowsFit (problemCall g [] [] cs [] [])
     sizes-fit =
         let r = rows-fit I f in
         record { exprs = r .exprs; constraints = r .constraints; overloads = r .overloads; sources = r .sources; components = r .components; disjunctions = r .disjunctions }
 
-    module _ (z : Sizes) (q : z ≡ sizesOf (partOf g [] [] cs [] [])) where
+    module _ (z : Sizes) (q : z ≡ sizesOf (problemCall g [] [] cs [] [])) where
       same-sizes : z ≡ sizesOf I
       unfolding sizesOf
       same-sizes = q
@@ -110,22 +110,22 @@ module _ (g : Given) (ws ns bs xs ks cs os ss sc ts ms hs : List ℕ) where
             subst (λ (y : Sizes). Handable sc ls ks (g .names) y ts ms hs) (sym same-sizes) (handable I f ls says-problem sc refl),
           )
 
-          pub is-outcome : (L : Left)
+          pub is-outcome : (L : SolveLeft)
               → L
-              ≡ leftBy k ns bs sc
+              ≡ solveLeftBy k ns bs sc
               (settledBy (problemIn ls z) (rowsFrom (baseNameAt ks) 0 (g .names)) ts ms hs k
               (solveFrom ls z 0 (pathOf ls z (bindsOf bs (k .variables)) sc nothingTaken) (worldOf ls z ws ns sc (noIncumbent k)))) → L ≡ solveEntry I
           is-outcome L e =
               e
-              ∙ ((λ i. leftBy (v i) ns bs sc
+              ∙ ((λ i. solveLeftBy (v i) ns bs sc
               (settledBy (problemIn ls (same-sizes i)) (rowsFrom (baseNameAt ks) 0 (g .names)) ts ms hs (v i)
               (solveFrom ls (same-sizes i) 0 (pathOf ls (same-sizes i) (bindsOf bs (v i .variables)) sc nothingTaken) (worldOf ls (same-sizes i) ws ns sc (noIncumbent (v i))))))
               ∙ left-is-outcome I f ls says-problem)
 
 -- The answer as one number.
-module _ (J : Call) (r : Solved) (ws ns bs sc ts ms hs : List ℕ) (e : leftOf r ws ns bs sc ts ms hs ≡ solveEntry J) where
-  pub answer-told : Told r
-  answer-told = subst Told (sym (ap (λ (L : Left). L .answer) e)) (entry-told J)
+module _ (J : Call) (r : Solved) (ws ns bs sc ts ms hs : List ℕ) (e : solveLeft r ws ns bs sc ts ms hs ≡ solveEntry J) where
+  pub answer-told : SolvedWithin r
+  answer-told = subst SolvedWithin (sym (ap (λ (L : SolveLeft). L .answer) e)) (entry-told J)
 
-  pub answer-packed : (n : ℕ) → n ≡ packSolved r → packed n ws ns bs sc ts ms hs ≡ packLeft (solveEntry J)
-  answer-packed n q = ap (λ x. packed x ws ns bs sc ts ms hs) q ∙ ap packLeft e
+  pub answer-packed : (n : ℕ) → n ≡ packSolved r → packedSolve n ws ns bs sc ts ms hs ≡ packSolveLeft (solveEntry J)
+  answer-packed n q = ap (λ x. packedSolve x ws ns bs sc ts ms hs) q ∙ ap packSolveLeft e

@@ -29,8 +29,8 @@ ghost use Rattle.search_state.specs.Memory.{problemIn, pathOf, worldOf, solveFr
 ghost use Rattle.search_state.specs.Searching.{Searching};
 ghost use Rattle.solve_outputs.specs.Begin.{noIncumbent, nothingTaken};
 ghost use Rattle.solve_checks.specs.Call.{callOf};
-ghost use Rattle.solve_outputs.specs.Finish.{leftOf, leftBy, settledBy, Handable};
-ghost use Rattle.solve_outputs.specs.Packed.{packed, packLeft};
+ghost use Rattle.solve_outputs.specs.Finish.{solveLeft, solveLeftBy, settledBy, Handable};
+ghost use Rattle.solve_outputs.specs.Packed.{packedSolve, packSolveLeft};
 ghost use Rattle.solve_entries.specs.Given.{givenOf};
 
 // The search, from the first constraint on, and what comes after it.
@@ -55,9 +55,9 @@ fn search(
         (now typing) (now measure) (now choices)
         ⌝ }
     ensures { λ r. ⌜
-        leftOf r (now (sorts .exit)) (now (nodes .exit)) (now (binds .exit)) (now (scratch .exit))
+        solveLeft r (now (sorts .exit)) (now (nodes .exit)) (now (binds .exit)) (now (scratch .exit))
         (now (typing .exit)) (now (measure .exit)) (now (choices .exit))
-        ≡ leftBy lengths (now (nodes .entry)) (now (binds .entry)) (now (scratch .entry))
+        ≡ solveLeftBy lengths (now (nodes .entry)) (now (binds .entry)) (now (scratch .entry))
         (settledBy (problemIn (now (lists .entry)) sizes)
         (rowsFrom (baseNameAt (now (names .entry))) 0 «name_count»)
         (now (typing .entry)) (now (measure .entry)) (now (choices .entry)) lengths
@@ -110,7 +110,7 @@ fn solve_passed(
         ≡ none
         ⌝ }
     ensures { λ r. ⌜
-        leftOf r (now (sorts .exit)) (now (nodes .exit)) (now (binds .exit)) (now (scratch .exit))
+        solveLeft r (now (sorts .exit)) (now (nodes .exit)) (now (binds .exit)) (now (scratch .exit))
         (now (typing .exit)) (now (measure .exit)) (now (choices .exit))
         ≡ solveEntry (callOf given (now (sorts .entry)) (now (nodes .entry)) (now (binds .entry))
         (now (exprs .entry)) (now (names .entry)) (now (constraints .entry)) (now (overloads .entry))
@@ -159,7 +159,7 @@ pub fn solve(
     choices: &mut [u16],
 ) -> Solved
     ensures { λ r. ⌜
-        leftOf r (now (sorts .exit)) (now (nodes .exit)) (now (binds .exit)) (now (scratch .exit))
+        solveLeft r (now (sorts .exit)) (now (nodes .exit)) (now (binds .exit)) (now (scratch .exit))
         (now (typing .exit)) (now (measure .exit)) (now (choices .exit))
         ≡ solveEntry (callOf given (now (sorts .entry)) (now (nodes .entry)) (now (binds .entry))
         (now (exprs .entry)) (now (names .entry)) (now (constraints .entry)) (now (overloads .entry))
@@ -233,9 +233,9 @@ pub extern "C" fn sort_solve(
     choices: &mut [u16],
 ) -> u64
     ensures { λ r. ⌜
-        packed r (now (sorts .exit)) (now (nodes .exit)) (now (binds .exit)) (now (scratch .exit))
+        packedSolve r (now (sorts .exit)) (now (nodes .exit)) (now (binds .exit)) (now (scratch .exit))
         (now (typing .exit)) (now (measure .exit)) (now (choices .exit))
-        ≡ packLeft (solveEntry (callOf (givenOf «sort_count» «entry_count» «node_count» «node_entry_count»
+        ≡ packSolveLeft (solveEntry (callOf (givenOf «sort_count» «entry_count» «node_count» «node_entry_count»
         «var_count» «expr_count» «name_count» «constraint_count» «overload_count» «source_count» default)
         (now (sorts .entry)) (now (nodes .entry)) (now (binds .entry)) (now (exprs .entry))
         (now (names .entry)) (now (constraints .entry)) (now (overloads .entry)) (now (sources .entry))

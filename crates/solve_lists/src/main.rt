@@ -8,7 +8,7 @@
 // than 201 bytes only those are looked at, which shows that it is too long.
 use libc::STDERR_FILENO;
 use libc::STDOUT_FILENO;
-use line_input::Found;
+use line_input::LineFound;
 use line_input::next_line;
 use line_input::no_input;
 use list_lines::finish;
@@ -61,9 +61,9 @@ fn take_line(
 }
 
 // The end of the input, or a read that failed.
-fn at_end(list: &[u16; LIST_WORDS], found: Found, out: &mut [u8]) {
+fn at_end(list: &[u16; LIST_WORDS], found: LineFound, out: &mut [u8]) {
     match found {
-        Found::Failed => {
+        LineFound::Failed => {
             io::write_all(STDERR_FILENO, b"solve_lists: the input cannot be read\n");
         }
         _ => {}
@@ -81,7 +81,7 @@ fn solve_all(list: &mut [u16; LIST_WORDS], buffer: &mut [u8], line: &mut [u8], o
         read = next_line(buffer, line, read);
         let found = read.found;
         match found {
-            Found::Line => {}
+            LineFound::Line => {}
             _ => {
                 at_end(list, found, out);
                 return;

@@ -12,7 +12,7 @@ use Rattle.inference.specs.declared.Constraint.{Constraint}
 use Rattle.inference.specs.declared.Constraint.the-variants.{Sub, Lit, Disjunction, Comprehension, Join}
 use Rattle.inference.specs.Constraints.{maxConstraints, constraintAt, rowsFrom}
 use Rattle.inference.specs.SolveChecks.{disjunctions}
-use Rattle.inference.specs.SolveEntry.{choiceRows, over}
+use Rattle.inference.specs.SolveEntry.{choiceRows, writtenOver}
 use Rattle.inference.proofs.Members.{rows-all-left, rows-one-left, rows-none-left}
 use Rattle.search_state.specs.declared.Sizes.{Sizes}
 use Rattle.search_state.specs.Memory.{problemIn, restFrom, chosenExprs, bestChoicesAt, scratchUsed, choicesOf}
@@ -144,7 +144,7 @@ module _ (sc old ls : List ℕ) (z : Sizes) (s : Sized (problemIn ls z) z) (room
       }
 
   pub choices-end : (ch : List ℕ) (k i : ℕ) → ChoicesLeft sc old ls (z .constraints) ch k i → z .constraints ≤ i
-      → ch ≡ over (choiceRows (choicesOf (chosenExprs ls z) (part bestChoicesAt (z .disjunctions) sc))) old
+      → ch ≡ writtenOver (choiceRows (choicesOf (chosenExprs ls z) (part bestChoicesAt (z .disjunctions) sc))) old
   unfolding chosenExprs
   choices-end ch k i p l =
       all-stored sc old ls (z .constraints) ch k i p l

@@ -10,7 +10,7 @@ use Prim.Native.Nat.{ℕ}
 use native.Mathlib.Omega.{arith}
 use lib.ListN.{take, drop}
 use Rattle.resolved_sort.specs.Checks.{Check, firstFailing}
-use Rattle.resolved_sort.specs.Entries.{orElse}
+use Rattle.resolved_sort.specs.Entries.{refusedOr}
 use Rattle.resolved_sort.proofs.FirstFailing.{cons-passes}
 use Rattle.unification.specs.Nodes.{Binds, shapeAt, bindsOf}
 use Rattle.unification.specs.Acyclic.{acyclic}
@@ -50,7 +50,7 @@ module _ (I : Call) where
       go : (o : Option ℕ) → firstFailing (solveChecks I) ≡ o → solveEntry I .answer ≡ Refused 7 → o ≡ some 7
       go none x a = absurd (subst (Searched I) a (searched-answers I x))
       go (some c) x a =
-          let z : Refused c ≡ Refused 7 = ap (λ (o : Option ℕ). orElse o (refused I) (verdict I (searched (Unit {0}) nothingMet tt I)) .answer) (sym x) ∙ a in
+          let z : Refused c ≡ Refused 7 = ap (λ (o : Option ℕ). refusedOr o (refused I) (verdict I (searched (Unit {0}) nothingMet tt I)) .answer) (sym x) ∙ a in
           cc
 
   seventh-fails : (firstFailing (solveChecks I) ≡ some 7) ↔ ((firstFailing firstSix ≡ none) × (acyclic (I .nodes) m binds ≡ false))

@@ -18,12 +18,12 @@ use Rattle.inference.specs.declared.Solved.{Solved}
 use Rattle.inference.specs.declared.Solved.the-variants.{Refused, NoRoom, NoTyping, Ambiguous, Typing}
 use Rattle.inference.specs.Search.{Candidate, World, Out, found, missed, ended}
 use Rattle.inference.specs.SolveChecks.{Call, given, solveChecks}
-use Rattle.inference.specs.SolveEntry.{problemOf, start, lentOf, searched, Left, judged, judgedBy, verdict, nothingMet, solveEntry, codeSolved, choicesOut}
+use Rattle.inference.specs.SolveEntry.{problemOf, startPath, lentOf, searched, SolveLeft, judged, judgedBy, verdict, nothingMet, solveEntry, codeSolved, choicesOut}
 use Rattle.inference.proofs.Accepted.{passed-is-searched}
 use Rattle.inference.proofs.ListsLeft.{countsOf, sorts-only-grow}
 use Rattle.inference.proofs.Branches.{Goes, Ends}
 use Rattle.inference.proofs.Choices.{Fitting, search-fits, exprOf, names-and-choices}
-use Rattle.solve_outputs.specs.Packed.{packSolved, CountsWithin, Told}
+use Rattle.solve_outputs.specs.Packed.{packSolved, CountsWithin, SolvedWithin}
 use Rattle.solve_outputs.proofs.Passed.{rows-fit}
 
 module _ (I : Call) where
@@ -60,13 +60,13 @@ module _ (I : Call) where
     pub searched-answers : Searched (solveEntry I .answer)
     searched-answers =
         let w : World (Unit {0}) = record { lent = lentOf I; best = none; met = tt } in
-        subst (λ (L : Left). Searched (L .answer)) (sym (passed-is-searched I x))
-        (by-out w (searched (Unit {0}) nothingMet tt I) (search-fits (Unit {0}) nothingMet (problemOf I) (given I) (start I .binds) w))
+        subst (λ (L : SolveLeft). Searched (L .answer)) (sym (passed-is-searched I x))
+        (by-out w (searched (Unit {0}) nothingMet tt I) (search-fits (Unit {0}) nothingMet (problemOf I) (given I) (startPath I .binds) w))
 
     within : (k : Counts) → countsOf (solveEntry I .answer) ≡ some k → CountsWithin k
     within k e = let g = sorts-only-grow I k e in record { sorts = g .checked .sorts; entries = g .checked .entries }
 
-    by-answer : (r : Solved) → solveEntry I .answer ≡ r → Searched r → Told r
+    by-answer : (r : Solved) → solveEntry I .answer ≡ r → Searched r → SolvedWithin r
     by-answer (Refused c) e s = absurd s
     by-answer (NoRoom c) e (inl i) = (omega (arith, i), omega (arith, i))
     by-answer (NoRoom c) e (inr i) = (omega (arith, i), omega (arith, i))
@@ -77,20 +77,20 @@ module _ (I : Call) where
         let f = rows-fit I x in
         (within (o .counts) (ap countsOf e), omega (arith, n .handed-out, n .component-count, f .components), omega (arith, n .choice-count, sym (length-map (choicesOut (solveEntry I) o) exprOf) ∙ ap length (n .in-order), f .disjunctions))
 
-    passed-told : Told (solveEntry I .answer)
+    passed-told : SolvedWithin (solveEntry I .answer)
     passed-told = by-answer (solveEntry I .answer) refl searched-answers
 
   -- Whatever the call is.
-  pub entry-told : Told (solveEntry I .answer)
+  pub entry-told : SolvedWithin (solveEntry I .answer)
   unfolding solveEntry
   entry-told = go (firstFailing (solveChecks I)) refl
     where
-      go : (o : Option ℕ) → firstFailing (solveChecks I) ≡ o → Told (solveEntry I .answer)
+      go : (o : Option ℕ) → firstFailing (solveChecks I) ≡ o → SolvedWithin (solveEntry I .answer)
       go none x = passed-told x
       go (some c) x = rw x (refused-by-number c x)
 
 -- document 01's number is the low byte
-pub code-is-low-byte : (r : Solved) → Told r → packSolved r % 256 ≡ codeSolved r
+pub code-is-low-byte : (r : Solved) → SolvedWithin r → packSolved r % 256 ≡ codeSolved r
 unfolding packSolved codeSolved
 code-is-low-byte (Refused c) t = omega (arith, t .1)
 code-is-low-byte (NoRoom c) t = omega (arith, t .1)
@@ -107,7 +107,7 @@ counts-told k l t u e =
     let a : k .sorts ≡ l .sorts = omega (arith, e, b) in
     λ i. record { sorts = a i; entries = b i }
 
-typing-told : (o p : Outputs) → Told (Typing o) → Told (Typing p) → packSolved (Typing o) ≡ packSolved (Typing p) → o ≡ p
+typing-told : (o p : Outputs) → SolvedWithin (Typing o) → SolvedWithin (Typing p) → packSolved (Typing o) ≡ packSolved (Typing p) → o ≡ p
 unfolding packSolved
 typing-told o p t u e =
     let x : o .choices ≤ p .choices = omega (arith, e, t .0 .sorts, t .0 .entries, t .1, u .0 .sorts, u .0 .entries, u .1) in
@@ -120,7 +120,7 @@ typing-told o p t u e =
     λ i. record { counts = k i; components = c i; choices = d i }
 
 -- the packed answer tells the answers apart
-pub packed-tells : (r s : Solved) → Told r → Told s → packSolved r ≡ packSolved s → r ≡ s
+pub packed-tells : (r s : Solved) → SolvedWithin r → SolvedWithin s → packSolved r ≡ packSolved s → r ≡ s
 unfolding packSolved
 packed-tells (Refused c) (Refused d) t u e = ap Refused e
 packed-tells (Refused c) (NoRoom d) t u e = absurd (omega (arith, e, t .1, u .0))

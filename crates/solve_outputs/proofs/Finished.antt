@@ -16,7 +16,7 @@ use Rattle.inference.specs.declared.Solved.the-variants.{NoRoom}
 use Rattle.inference.specs.Constraints.{BaseName}
 use Rattle.inference.specs.Search.{Candidate, Out, found, missed, ended, solve}
 use Rattle.inference.specs.SolveChecks.{Call, solveChecks}
-use Rattle.inference.specs.SolveEntry.{problemOf, baseNamesOf, lentOf, searched, Left, cleared, leftWith, countsIn, judged, judgedBy, verdict, nothingMet, solveEntry}
+use Rattle.inference.specs.SolveEntry.{problemOf, baseNamesOf, lentOf, searched, SolveLeft, cleared, leftWith, countsIn, judged, judgedBy, verdict, nothingMet, solveEntry}
 use Rattle.inference.proofs.Accepted.{passed-is-searched}
 use Rattle.inference.proofs.ListsLeft.{nodes-given-back-agree, Ends, search-gives-nodes-back}
 use Rattle.search_state.specs.declared.Sizes.{Sizes}
@@ -27,7 +27,7 @@ use Rattle.search_state.specs.declared.Answer.the-variants.{Found, Missed, Full
 use Rattle.search_state.specs.Memory.{problemIn, chosenExprs, bestOf, pathOf, worldOf, outOf, solveFrom}
 use Rattle.search_state.specs.Searching.{Grown, Done}
 use Rattle.solve_outputs.specs.Begin.{sizesOf, noIncumbent, nothingTaken}
-use Rattle.solve_outputs.specs.Finish.{Settled, settled, leftBy, handedOut, settledBy, judged as judgedIn, judgedBy as judgedByIn}
+use Rattle.solve_outputs.specs.Finish.{Settled, settled, solveLeftBy, handedOut, settledBy, judgedOut as judgedIn, judgedOutBy as judgedByIn}
 use Rattle.solve_outputs.proofs.Passed.{passed-accepted, rest-is-all}
 use Rattle.search_state.proofs.Parts.{nothing-chosen}
 
@@ -42,7 +42,7 @@ module _ (ls : List ℕ) (z : Sizes) (ws ns bs sc : List ℕ) (k : State) (e : B
   nodes-kept (Missed s) g = (g .grows .node-words, g .grows .as-long .1)
   nodes-kept (Full x l) g = (g .node-words, g .as-long .1)
 
-  same-left : (s : Settled) → leftBy (k .lengths) ns′ bs′ sc′ s ≡ leftBy (k .lengths) ns bs sc s
+  same-left : (s : Settled) → solveLeftBy (k .lengths) ns′ bs′ sc′ s ≡ solveLeftBy (k .lengths) ns bs sc s
   same-left s =
       let a = nodes-kept r (d .grown) in
       let n = nodes-given-back-agree (k .lengths .nodes) (k .lengths .arguments) (c .nodes) (c .entries) ns ns′ (c .long) (a .1) (a .0) in
@@ -58,18 +58,18 @@ module _ (ls : List ℕ) (z : Sizes) (ws ns bs sc : List ℕ) (k : State) (e : B
         choices = s .told .choices;
       }
 
-  pub left-by-search : (names : List BaseName) (ts ms hs : List ℕ) (L : Left)
-      → L ≡ leftBy (k .lengths) ns′ bs′ sc′ (settledBy (problemIn ls z) names ts ms hs (k .lengths) (outOf ls z ws′ ns′ sc′ r))
-      → L ≡ leftBy (k .lengths) ns bs sc (settledBy (problemIn ls z) names ts ms hs (k .lengths) O)
+  pub left-by-search : (names : List BaseName) (ts ms hs : List ℕ) (L : SolveLeft)
+      → L ≡ solveLeftBy (k .lengths) ns′ bs′ sc′ (settledBy (problemIn ls z) names ts ms hs (k .lengths) (outOf ls z ws′ ns′ sc′ r))
+      → L ≡ solveLeftBy (k .lengths) ns bs sc (settledBy (problemIn ls z) names ts ms hs (k .lengths) O)
   left-by-search names ts ms hs L q =
-      q ∙ (same-left _ ∙ ap (λ o. leftBy (k .lengths) ns bs sc (settledBy (problemIn ls z) names ts ms hs (k .lengths) o)) (d .says))
+      q ∙ (same-left _ ∙ ap (λ o. solveLeftBy (k .lengths) ns bs sc (settledBy (problemIn ls z) names ts ms hs (k .lengths) o)) (d .says))
 
 module _ (I : Call) (x : firstFailing (solveChecks I) ≡ none) where
   abbrev settles : Out (Unit {0}) → Settled
   settles O = settledBy (problemOf I) (baseNamesOf I) (I .typing) (I .measure) (I .choices) (I .lengths) O
 
-  abbrev leaves : Settled → Left
-  leaves s = leftBy (I .lengths) (I .nodes) (I .binds) (I .scratch) s
+  abbrev leaves : Settled → SolveLeft
+  leaves s = solveLeftBy (I .lengths) (I .nodes) (I .binds) (I .scratch) s
 
   -- the incumbent is judged as in the definition
   by-tie : (W : Lent) (c : Candidate) (b : Bool)

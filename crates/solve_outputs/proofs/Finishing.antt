@@ -14,7 +14,7 @@ use Rattle.inference.specs.declared.Solved.{Solved}
 use Rattle.inference.specs.declared.Solved.the-variants.{NoRoom, NoTyping, Ambiguous, Typing}
 use Rattle.inference.specs.Constraints.{baseNameAt, constraintAt, rowsFrom, BaseName}
 use Rattle.inference.specs.SolveChecks.{disjunctions, components}
-use Rattle.inference.specs.SolveEntry.{nodesGivenBack, cleared, typingRows, choiceRows, over}
+use Rattle.inference.specs.SolveEntry.{nodesGivenBack, cleared, typingRows, choiceRows, writtenOver}
 use Rattle.inference.proofs.Members.{rows-all-left}
 use Rattle.search_state.specs.declared.Sizes.{Sizes}
 use Rattle.search_state.specs.declared.State.{State}
@@ -24,13 +24,13 @@ use Rattle.search_state.specs.Memory.{problemIn, chosenExprs, choicesOf, bestSo
 use Rattle.words.specs.Words.{part}
 use Rattle.words.proofs.Parts.{length-part}
 use Rattle.solve_checks.specs.declared.Given.{Given}
-use Rattle.solve_checks.specs.Calls.{partOf, constraintsIn}
+use Rattle.solve_checks.specs.Calls.{problemCall, constraintRows}
 use Rattle.solve_outputs.specs.Begin.{sizesOf}
-use Rattle.solve_outputs.specs.Finish.{Answered, answered, Settled, settled, leftOf, leftBy, handedOut, judged, settledBy, Handable}
+use Rattle.solve_outputs.specs.Finish.{Answered, answered, Settled, settled, solveLeft, solveLeftBy, handedOut, judgedOut, settledBy, Handable}
 
-pub sizes-counted : (g : Given) (cs : List ℕ) (n d : ℕ) → n ≡ components (constraintsIn cs (g .constraints)) → d ≡ length (disjunctions (constraintsIn cs (g .constraints)))
+pub sizes-counted : (g : Given) (cs : List ℕ) (n d : ℕ) → n ≡ components (constraintRows cs (g .constraints)) → d ≡ length (disjunctions (constraintRows cs (g .constraints)))
     → record { exprs = g .exprs; constraints = g .constraints; overloads = g .overloads; sources = g .sources; components = n; disjunctions = d; default = record { 0 = g .default } }
-    ≡ sizesOf (partOf g [] [] cs [] [])
+    ≡ sizesOf (problemCall g [] [] cs [] [])
 unfolding sizesOf
 sizes-counted g cs n d a b =
     λ i. record {
@@ -70,8 +70,8 @@ module _ (sc ls ks : List ℕ) (n : ℕ) (z : Sizes) (ts ms hs : List ℕ) (h : 
       ∙ many-exprs)
 
   pub hands-out : (k : Counts) (ts′ ms′ hs′ : List ℕ)
-      → ts′ ≡ over (typingRows (problemIn ls z) names (choicesOf (chosenExprs ls z) (part bestChoicesAt (z .disjunctions) sc)) 0 (part bestSortsAt (z .exprs) sc)) ts
-      → ms′ ≡ over (part bestMeasureAt (z .components) sc) ms → hs′ ≡ over (choiceRows (choicesOf (chosenExprs ls z) (part bestChoicesAt (z .disjunctions) sc))) hs
+      → ts′ ≡ writtenOver (typingRows (problemIn ls z) names (choicesOf (chosenExprs ls z) (part bestChoicesAt (z .disjunctions) sc)) 0 (part bestSortsAt (z .exprs) sc)) ts
+      → ms′ ≡ writtenOver (part bestMeasureAt (z .components) sc) ms → hs′ ≡ writtenOver (choiceRows (choicesOf (chosenExprs ls z) (part bestChoicesAt (z .disjunctions) sc))) hs
       → answered (Typing (record { counts = k; components = z .components; choices = z .disjunctions })) ts′ ms′ hs′ ≡ handedOut (problemIn ls z) names ts ms hs k (candidateOf ls z sc false)
   unfolding handedOut candidateOf
   hands-out k ts′ ms′ hs′ a b c =
@@ -80,7 +80,7 @@ module _ (sc ls ks : List ℕ) (n : ℕ) (z : Sizes) (ts ms hs : List ℕ) (h : 
   -- by whether there is an incumbent, and whether it is tied
   module _ (st : State) (k : Counts) (e : k ≡ record { sorts = st .lengths .sorts; entries = st .lengths .entries }) where
     abbrev judgment : Answered
-    judgment = judged (problemIn ls z) names ts ms hs (record { sorts = st .lengths .sorts; entries = st .lengths .entries }) (bestOf ls z sc (st .best) (st .tied))
+    judgment = judgedOut (problemIn ls z) names ts ms hs (record { sorts = st .lengths .sorts; entries = st .lengths .entries }) (bestOf ls z sc (st .best) (st .tied))
 
     pub no-incumbent : not (st .best) ≡ true → answered (NoTyping k) ts ms hs ≡ judgment
     unfolding bestOf
@@ -101,7 +101,7 @@ module _ (ws ns sc ls ks : List ℕ) (n : ℕ) (z : Sizes) (ts ms hs : List ℕ)
   outcome r = settledBy (problemIn ls z) (rowsFrom (baseNameAt ks) 0 n) ts ms hs k (outOf ls z ws ns sc r)
 
   abbrev judges : State → Answered
-  judges st = judged (problemIn ls z) (rowsFrom (baseNameAt ks) 0 n) ts ms hs (record { sorts = st .lengths .sorts; entries = st .lengths .entries }) (bestOf ls z sc (st .best) (st .tied))
+  judges st = judgedOut (problemIn ls z) (rowsFrom (baseNameAt ks) 0 n) ts ms hs (record { sorts = st .lengths .sorts; entries = st .lengths .entries }) (bestOf ls z sc (st .best) (st .tied))
 
   pub found-settles : (st : State) → r ≡ Found st → (a : Answered) → a ≡ judges st → settled ws a ≡ outcome r
   found-settles st e a q = ap (settled ws) q ∙ sym (ap outcome e)
@@ -114,5 +114,5 @@ module _ (ws ns sc ls ks : List ℕ) (n : ℕ) (z : Sizes) (ts ms hs : List ℕ)
 
 -- all lent memory
 pub settled-is-left : (k : Lengths) (ns bs sc : List ℕ) (s : Settled) (r : Solved) (ws′ ns′ sc′ ts′ ms′ hs′ : List ℕ) → settled ws′ (answered r ts′ ms′ hs′) ≡ s
-    → ns′ ≡ nodesGivenBack (k .nodes) (k .arguments) ns → sc′ ≡ cleared sc → leftOf r ws′ ns′ bs sc′ ts′ ms′ hs′ ≡ leftBy k ns bs sc s
-settled-is-left k ns bs sc s r ws′ ns′ sc′ ts′ ms′ hs′ e n c = (λ i. leftOf r ws′ (n i) bs (c i) ts′ ms′ hs′) ∙ ap (leftBy k ns bs sc) e
+    → ns′ ≡ nodesGivenBack (k .nodes) (k .arguments) ns → sc′ ≡ cleared sc → solveLeft r ws′ ns′ bs sc′ ts′ ms′ hs′ ≡ solveLeftBy k ns bs sc s
+settled-is-left k ns bs sc s r ws′ ns′ sc′ ts′ ms′ hs′ e n c = (λ i. solveLeft r ws′ (n i) bs (c i) ts′ ms′ hs′) ∙ ap (solveLeftBy k ns bs sc) e

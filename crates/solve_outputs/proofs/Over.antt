@@ -6,9 +6,9 @@ use native.Mathlib.Omega.{arith}
 use lib.ListN.{length, drop, replicate}
 use lib.Seq.{sets, sets-eq, drop-length}
 use Rattle.words.specs.Words.{zeros}
-use Rattle.inference.specs.SolveEntry.{over, cleared}
+use Rattle.inference.specs.SolveEntry.{writtenOver, cleared}
 
-pub stored-is-over : (vs old : List ℕ) → length vs ≤ length old → sets old 0 vs ≡ over vs old
+pub stored-is-over : (vs old : List ℕ) → length vs ≤ length old → sets old 0 vs ≡ writtenOver vs old
 stored-is-over vs old h = sets-eq vs old 0 (omega (arith, h)) ∙ ap (λ n. vs ++ drop n old) (let z : 0 + length vs ≡ length vs = omega arith in z)
 
 pub zeroed-whole-is-cleared : (ws : List ℕ) → zeros 0 (length ws) ws ≡ cleared ws

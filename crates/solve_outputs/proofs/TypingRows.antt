@@ -20,7 +20,7 @@ use Rattle.inference.specs.Constraints.{constraintAt, overloadAt, BaseName, row
 use Rattle.inference.specs.Search.{Choice}
 use Rattle.inference.specs.Names.{orElse, runFor, overloadIn, targetIn, chosenName, baseName, nameOf, nameKind, nameSort}
 use Rattle.inference.specs.SolveChecks.{disjunctions}
-use Rattle.inference.specs.SolveEntry.{typingRows, over}
+use Rattle.inference.specs.SolveEntry.{typingRows, writtenOver}
 use Rattle.inference.proofs.Members.{rows-all-left}
 use Rattle.search_state.specs.declared.Sizes.{Sizes}
 use Rattle.search_state.specs.Memory.{overloadsAt, problemIn, restFrom, chosenExprs, choicesOf, bestSortsAt, bestChoicesAt, scratchUsed}
@@ -159,7 +159,7 @@ rows-of-typing P bs ks x (s ∷ ss) = ap (λ rs. s ∷ nameKind (nameOf P bs ks 
 pub typing-written : (P : Problem) (bs : List BaseName) (sc old ss : List ℕ) (n d : ℕ) → bestChoicesAt + d ≤ length sc → length (disjunctions (P .constraints)) ≡ d
     → length ss ≡ n → 3 * n ≤ length old
     → chosenNamed n (P .overloads) sc (P .constraints) 0 (baseNamed n bs (sets old 0 (namedRows noName 0 ss)))
-    ≡ over (typingRows P bs (choicesOf (disjunctions (P .constraints)) (part bestChoicesAt d sc)) 0 ss) old
+    ≡ writtenOver (typingRows P bs (choicesOf (disjunctions (P .constraints)) (part bestChoicesAt d sc)) 0 ss) old
 unfolding nameOf
 typing-written P bs sc old ss n d fits all e room =
     let ks = choicesOf (disjunctions (P .constraints)) (part bestChoicesAt d sc) in
@@ -179,7 +179,7 @@ typing-written P bs sc old ss n d fits all e room =
 pub typing-handed-out : (sc old ls : List ℕ) (bs : List BaseName) (z : Sizes) → Sized (problemIn ls z) z → 3 * z .exprs ≤ length old → scratchUsed ≤ length sc
     → (us vs ws : List ℕ) → us ≡ sets old 0 (namedRows noName 0 (part bestSortsAt (z .exprs) sc)) → vs ≡ baseNamed (z .exprs) bs us
     → ws ≡ chosenNamed (z .exprs) (rowsFrom (overloadAt (drop overloadsAt ls)) 0 (z .overloads)) sc (restFrom ls z 0) 0 vs
-    → ws ≡ over (typingRows (problemIn ls z) bs (choicesOf (chosenExprs ls z) (part bestChoicesAt (z .disjunctions) sc)) 0 (part bestSortsAt (z .exprs) sc)) old
+    → ws ≡ writtenOver (typingRows (problemIn ls z) bs (choicesOf (chosenExprs ls z) (part bestChoicesAt (z .disjunctions) sc)) 0 (part bestSortsAt (z .exprs) sc)) old
 unfolding problemIn chosenExprs
 typing-handed-out sc old ls bs z s room used us vs ws a b c =
     let P = problemIn ls z in
@@ -189,4 +189,4 @@ typing-handed-out sc old ls bs z s room used us vs ws a b c =
     c
     ∙ ((λ h. chosenNamed (z .exprs) (P .overloads) sc (e h) 0 ((b ∙ ap (baseNamed (z .exprs) bs) a) h))
     ∙ (typing-written P bs sc old ss (z .exprs) (z .disjunctions) (omega (arith, s .few-disjunctions, used)) (s .disjunctions) n room
-    ∙ ap (λ cs. over (typingRows P bs (choicesOf (disjunctions cs) (part bestChoicesAt (z .disjunctions) sc)) 0 ss) old) (sym e)))
+    ∙ ap (λ cs. writtenOver (typingRows P bs (choicesOf (disjunctions cs) (part bestChoicesAt (z .disjunctions) sc)) 0 ss) old) (sym e)))

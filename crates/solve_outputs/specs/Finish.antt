@@ -14,7 +14,7 @@ use Rattle.inference.specs.declared.Solved.the-variants.{NoRoom, NoTyping, Ambi
 use Rattle.inference.specs.Constraints.{nameWords, BaseName, Problem}
 use Rattle.inference.specs.Search.{Candidate, Out, found, missed, ended}
 use Rattle.inference.specs.SolveChecks.{typingWords, choiceWords}
-use Rattle.inference.specs.SolveEntry.{Left, nodesGivenBack, cleared, typingRows, choiceRows, over, countsIn}
+use Rattle.inference.specs.SolveEntry.{SolveLeft, nodesGivenBack, cleared, typingRows, choiceRows, writtenOver, countsIn}
 use Rattle.search_state.specs.declared.Sizes.{Sizes}
 use Rattle.search_state.specs.Memory.{problemIn, scratchUsed}
 use Rattle.search_state.specs.Searching.{Sized}
@@ -38,8 +38,8 @@ abbrev pub settled : List ℕ → Answered → Settled
 settled ws a = record { sorts = ws; told = a }
 
 -- and with all lent memory: "Scratch is zero after 15 to 18 and 0", "node rows past the entry length zero"
-abbrev pub leftOf : Solved → (sorts nodes binds scratch typing measure choices : List ℕ) → Left
-leftOf r ws ns bs sc ts ms hs =
+abbrev pub solveLeft : Solved → (sorts nodes binds scratch typing measure choices : List ℕ) → SolveLeft
+solveLeft r ws ns bs sc ts ms hs =
     record {
       answer = r;
       sorts = ws;
@@ -51,9 +51,9 @@ leftOf r ws ns bs sc ts ms hs =
       choices = hs;
     }
 
-abbrev pub leftBy : Lengths → (nodes binds scratch : List ℕ) → Settled → Left
-leftBy k ns bs sc s =
-    leftOf (s .told .answer) (s .sorts) (nodesGivenBack (k .nodes) (k .arguments) ns) bs (cleared sc)
+abbrev pub solveLeftBy : Lengths → (nodes binds scratch : List ℕ) → Settled → SolveLeft
+solveLeftBy k ns bs sc s =
+    solveLeft (s .told .answer) (s .sorts) (nodesGivenBack (k .nodes) (k .arguments) ns) bs (cleared sc)
     (s .told .typing) (s .told .measure) (s .told .choices)
 
 -- for a problem with base names, and outputs to be written over
@@ -62,21 +62,21 @@ module _ (P : Problem) (names : List BaseName) (ts ms hs : List ℕ) where
   handedOut n c =
       answered
       (Typing (record { counts = n; components = length (c .measure); choices = length (c .choices) }))
-      (over (typingRows P names (c .choices) 0 (c .sorts)) ts) (over (c .measure) ms)
-      (over (choiceRows (c .choices)) hs)
+      (writtenOver (typingRows P names (c .choices) 0 (c .sorts)) ts) (writtenOver (c .measure) ms)
+      (writtenOver (choiceRows (c .choices)) hs)
 
-  abbrev pub judgedBy : Counts → Candidate → Bool → Answered
-  judgedBy n c true = answered (Ambiguous n) ts ms hs
-  judgedBy n c false = handedOut n c
+  abbrev pub judgedOutBy : Counts → Candidate → Bool → Answered
+  judgedOutBy n c true = answered (Ambiguous n) ts ms hs
+  judgedOutBy n c false = handedOut n c
 
-  abbrev pub judged : Counts → Option Candidate → Answered
-  judged n none = answered (NoTyping n) ts ms hs
-  judged n (some c) = judgedBy n c (c .duplicate)
+  abbrev pub judgedOut : Counts → Option Candidate → Answered
+  judgedOut n none = answered (NoTyping n) ts ms hs
+  judgedOut n (some c) = judgedOutBy n c (c .duplicate)
 
   -- k is what the call began with
   abbrev pub settledBy : Lengths → Out (Unit {0}) → Settled
-  settledBy k (found w) = settled (w .lent .sorts) (judged (countsIn (w .lent)) (w .best))
-  settledBy k (missed w) = settled (w .lent .sorts) (judged (countsIn (w .lent)) (w .best))
+  settledBy k (found w) = settled (w .lent .sorts) (judgedOut (countsIn (w .lent)) (w .best))
+  settledBy k (missed w) = settled (w .lent .sorts) (judgedOut (countsIn (w .lent)) (w .best))
   settledBy k (ended c W) =
       settled (givenBack (k .sorts) (k .entries) (W .sorts)) (answered (NoRoom c) ts ms hs)
 

@@ -8,7 +8,7 @@ use Rattle.resolved_sort.specs.Storage.{maxSorts, maxEntries}
 use Rattle.inference.specs.declared.Solved.{Solved}
 use Rattle.inference.specs.declared.Solved.the-variants.{Refused, NoRoom, NoTyping, Ambiguous, Typing}
 use Rattle.inference.specs.Constraints.{maxConstraints, maxComponents}
-use Rattle.inference.specs.SolveEntry.{Left}
+use Rattle.inference.specs.SolveEntry.{SolveLeft}
 use Rattle.words.specs.Bits.{bit8, bit24, bit40, bit52}
 
 abbrev pub packCounts : Counts → ℕ
@@ -27,15 +27,15 @@ pub record CountsWithin (k : Counts) : Type 0 where
   pub sorts : k .sorts ≤ maxSorts
   pub entries : k .entries ≤ maxEntries
 
-abbrev pub Told : Solved → Type 0
-Told (Refused c) = (1 ≤ c) × (c ≤ 14)
-Told (NoRoom c) = (15 ≤ c) × (c ≤ 16)
-Told (NoTyping k) = CountsWithin k
-Told (Ambiguous k) = CountsWithin k
-Told (Typing o) = CountsWithin (o .counts) × (o .components ≤ maxComponents) × (o .choices ≤ maxConstraints)
+abbrev pub SolvedWithin : Solved → Type 0
+SolvedWithin (Refused c) = (1 ≤ c) × (c ≤ 14)
+SolvedWithin (NoRoom c) = (15 ≤ c) × (c ≤ 16)
+SolvedWithin (NoTyping k) = CountsWithin k
+SolvedWithin (Ambiguous k) = CountsWithin k
+SolvedWithin (Typing o) = CountsWithin (o .counts) × (o .components ≤ maxComponents) × (o .choices ≤ maxConstraints)
 
 -- the packed answer, and all lent memory
-pub record Packed : Type 0 where
+pub record PackedSolve : Type 0 where
   pub result : ℕ
   pub sorts : List ℕ
   pub nodes : List ℕ
@@ -45,8 +45,8 @@ pub record Packed : Type 0 where
   pub measure : List ℕ
   pub choices : List ℕ
 
-abbrev pub packed : ℕ → (sorts nodes binds scratch typing measure choices : List ℕ) → Packed
-packed r ws ns bs sc ts ms hs =
+abbrev pub packedSolve : ℕ → (sorts nodes binds scratch typing measure choices : List ℕ) → PackedSolve
+packedSolve r ws ns bs sc ts ms hs =
     record {
       result = r;
       sorts = ws;
@@ -58,7 +58,7 @@ packed r ws ns bs sc ts ms hs =
       choices = hs;
     }
 
-abbrev pub packLeft : Left → Packed
-packLeft l =
-    packed (packSolved (l .answer)) (l .sorts) (l .nodes) (l .binds) (l .scratch) (l .typing) (l .measure)
+abbrev pub packSolveLeft : SolveLeft → PackedSolve
+packSolveLeft l =
+    packedSolve (packSolved (l .answer)) (l .sorts) (l .nodes) (l .binds) (l .scratch) (l .typing) (l .measure)
     (l .choices)

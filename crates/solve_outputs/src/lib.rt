@@ -48,7 +48,7 @@ ghost use Rattle.inference.specs.Constraints.{maxConstraints, maxComponents, na
 ghost use Rattle.inference.specs.Constraints.{overloadAt, baseNameAt, rowsFrom};
 ghost use Rattle.inference.specs.Names.{overloadIn, nameKind, nameSort};
 ghost use Rattle.inference.specs.SolveChecks.{typingWords, choiceWords, disjunctionFor};
-ghost use Rattle.inference.specs.SolveEntry.{nodesGivenBack, cleared, typingRows, choiceRows, over};
+ghost use Rattle.inference.specs.SolveEntry.{nodesGivenBack, cleared, typingRows, choiceRows, writtenOver};
 ghost use Rattle.search_state.specs.Memory.{overloadsAt, problemIn, restFrom, chosenExprs, choicesOf, bestSortsAt};
 ghost use Rattle.search_state.specs.Memory.{bestMeasureAt, bestChoicesAt, scratchUsed, candidateOf, bestOf, outOf};
 ghost use Rattle.words.specs.Words.{part};
@@ -56,12 +56,12 @@ ghost use Rattle.search_state.specs.Searching.{Sized};
 ghost use Rattle.solve_outputs.specs.Written.{walked, choiceBy, namedRows, noName};
 ghost use Rattle.solve_outputs.specs.Written.{named, baseNamed, nameBy, chosenNamed};
 ghost use Rattle.inference.specs.declared.Solved.the-variants.{Typing};
-ghost use Rattle.solve_checks.specs.Calls.{partOf};
+ghost use Rattle.solve_checks.specs.Calls.{problemCall};
 ghost use Rattle.solve_checks.specs.Call.{lengthsOf};
 ghost use Rattle.solve_outputs.specs.Begin.{CountsFit, RowsFit, sizesOf, noIncumbent, nothingTaken};
-ghost use Rattle.solve_outputs.specs.Packed.{packCounts, packSolved, CountsWithin, Told};
-ghost use Rattle.solve_outputs.specs.Finish.{answered, settled, leftOf, leftBy, handedOut};
-ghost use Rattle.solve_outputs.specs.Finish.{judged, settledBy, Handable, SortsReturnable, NodesReturnable};
+ghost use Rattle.solve_outputs.specs.Packed.{packCounts, packSolved, CountsWithin, SolvedWithin};
+ghost use Rattle.solve_outputs.specs.Finish.{answered, settled, solveLeft, solveLeftBy, handedOut};
+ghost use Rattle.solve_outputs.specs.Finish.{judgedOut, settledBy, Handable, SortsReturnable, NodesReturnable};
 
 // All words set to zero.
 fn clear(words: &mut [u16])
@@ -92,7 +92,7 @@ fn write_measure(measure: &mut [u16], scratch: &[u16], sizes: Sizes)
         ⌝ }
     ensures { λ _. ⌜
         now (measure .exit)
-        ≡ over (part bestMeasureAt (sizes .components) (now (scratch .entry))) (now (measure .entry))
+        ≡ writtenOver (part bestMeasureAt (sizes .components) (now (scratch .entry))) (now (measure .entry))
         ⌝ }
 {
     copy(
@@ -149,7 +149,7 @@ fn write_choices(choices: &mut [u16], scratch: &[u16], lists: &[u16], sizes: Siz
         ⌝ }
     ensures { λ _. ⌜
         now (choices .exit)
-        ≡ over (choiceRows (choicesOf (chosenExprs (now (lists .entry)) sizes)
+        ≡ writtenOver (choiceRows (choicesOf (chosenExprs (now (lists .entry)) sizes)
         (part bestChoicesAt (sizes .disjunctions) (now (scratch .entry)))))
         (now (choices .entry))
         ⌝ }
@@ -331,7 +331,7 @@ fn write_typing(
         ⌝ }
     ensures { λ _. ⌜
         now (typing .exit)
-        ≡ over (typingRows (problemIn (now (lists .entry)) sizes)
+        ≡ writtenOver (typingRows (problemIn (now (lists .entry)) sizes)
         (rowsFrom (baseNameAt (now (names .entry))) 0 «name_count»)
         (choicesOf (chosenExprs (now (lists .entry)) sizes)
         (part bestChoicesAt (sizes .disjunctions) (now (scratch .entry))))
@@ -360,8 +360,8 @@ pub fn lengths_of(given: Given) -> Lengths
 
 // How many rows the lists of the problem have, and how many components and choices a leaf has.
 pub fn sizes_of(constraints: &[u16], given: Given) -> Sizes
-    requires { ⌜ RowsFit (partOf given [] [] (now constraints) [] []) ⌝ }
-    ensures { λ r. ⌜ r ≡ sizesOf (partOf given [] [] (now (constraints .entry)) [] []) ⌝ }
+    requires { ⌜ RowsFit (problemCall given [] [] (now constraints) [] []) ⌝ }
+    ensures { λ r. ⌜ r ≡ sizesOf (problemCall given [] [] (now (constraints .entry)) [] []) ⌝ }
 {
     let count = given.constraints as u16;
     let parts = components(constraints, count);
@@ -452,7 +452,7 @@ fn judge(
         ⌝ }
     ensures { λ r. ⌜
         answered r (now (typing .exit)) (now (measure .exit)) (now (choices .exit))
-        ≡ judged (problemIn (now (lists .entry)) sizes)
+        ≡ judgedOut (problemIn (now (lists .entry)) sizes)
         (rowsFrom (baseNameAt (now (names .entry))) 0 «name_count»)
         (now (typing .entry)) (now (measure .entry)) (now (choices .entry))
         (record { sorts = st .lengths .sorts; entries = st .lengths .entries })
@@ -574,9 +574,9 @@ pub fn finish(
         ⌝ }
     ensures { λ r. ⌜
         ((bs : List ℕ)
-        → leftOf r (now (sorts .exit)) (now (nodes .exit)) bs
+        → solveLeft r (now (sorts .exit)) (now (nodes .exit)) bs
         (now (scratch .exit)) (now (typing .exit)) (now (measure .exit)) (now (choices .exit))
-        ≡ leftBy lengths (now (nodes .entry)) bs (now (scratch .entry))
+        ≡ solveLeftBy lengths (now (nodes .entry)) bs (now (scratch .entry))
         (settledBy (problemIn (now (lists .entry)) sizes)
         (rowsFrom (baseNameAt (now (names .entry))) 0 «name_count»)
         (now (typing .entry)) (now (measure .entry)) (now (choices .entry)) lengths
@@ -611,7 +611,7 @@ fn pack_counts(counts: Counts) -> u64
 
 // All counts of a typing.
 fn pack_outputs(outputs: Outputs) -> u64
-    requires { ⌜ Told (Typing outputs) ⌝ }
+    requires { ⌜ SolvedWithin (Typing outputs) ⌝ }
     ensures { λ r. ⌜ r ≡ packSolved (Typing outputs) ⌝ }
 {
     let counts = outputs.counts;
@@ -620,7 +620,7 @@ fn pack_outputs(outputs: Outputs) -> u64
 
 // The code of document 01 and the counts of an answer as one number, for callers in other languages.
 pub fn pack_solved(answer: Solved) -> u64
-    requires { ⌜ Told answer ⌝ }
+    requires { ⌜ SolvedWithin answer ⌝ }
     ensures { λ r. ⌜ r ≡ packSolved answer ⌝ }
 {
     match answer {

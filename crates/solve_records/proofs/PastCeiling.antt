@@ -12,7 +12,7 @@ use lib.ListN.{length, getD, take, length-take}
 use lib.Seq.{getD-take}
 use borrow.Author.Tests.{leb-true, leb-false, le-leb}
 use Rattle.resolved_sort.specs.Checks.{Check, firstFailing, allBelow, sortRowChecks}
-use Rattle.resolved_sort.specs.Entries.{orElse}
+use Rattle.resolved_sort.specs.Entries.{refusedOr}
 use Rattle.resolved_sort.proofs.FirstFailing.{first-fails}
 use Rattle.unification.specs.NodeChecks.{nodeChecks}
 use Rattle.unification.specs.Making.{Lent}
@@ -23,7 +23,7 @@ use Rattle.inference.specs.declared.Solved.the-variants.{Typing}
 use Rattle.inference.specs.Constraints.{maxOverloads, maxComponents, target, constraintAt, overloadAt, rowsFrom, Problem}
 use Rattle.inference.specs.Search.{Candidate, Out, found, missed, ended, solve}
 use Rattle.inference.specs.SolveChecks.{Call, placed, listed, given, disjunctions, noTwo, keys, joinsFine, components, rowsWithinLent, allWithinLent, targetFine, exprsFine, namesFine, overloadFine, constraintFine, constraintsFine, outputsLong, longEnough, solveChecks}
-use Rattle.inference.specs.SolveEntry.{problemOf, baseNamesOf, start, lentOf, searched, Left, leftWith, refused, typingRows, choiceRows, over, countsIn, judgedBy, judged, verdict, nothingMet, solveEntry}
+use Rattle.inference.specs.SolveEntry.{problemOf, baseNamesOf, startPath, lentOf, searched, SolveLeft, leftWith, refused, typingRows, choiceRows, writtenOver, countsIn, judgedBy, judged, verdict, nothingMet, solveEntry}
 use Rattle.inference.proofs.Members.{rows-same}
 use Rattle.inference.proofs.Accepted.{within}
 use Rattle.solve_checks.specs.declared.Given.{Given}
@@ -87,7 +87,7 @@ module _ (g : Given) (ws ns bs xs ks cs ss sc ts ms hs : List ℕ) where
   -- a count above the ceiling
   refused-by-1 : (os : List ℕ) → maxOverloads < n → solveEntry (call os) ≡ refused (call []) 1
   unfolding solveEntry
-  refused-by-1 os past = ap (λ (o : Option ℕ). orElse o (refused (call [])) (verdict (call os) (searched (Unit {0}) nothingMet tt (call os)))) (fails (allWithinLent (call os)) refl)
+  refused-by-1 os past = ap (λ (o : Option ℕ). refusedOr o (refused (call [])) (verdict (call os) (searched (Unit {0}) nothingMet tt (call os)))) (fails (allWithinLent (call os)) refl)
     where
       fails : (b : Bool) → allWithinLent (call os) ≡ b → firstFailing (solveChecks (call os)) ≡ some 1
       fails true e = absurd (omega (arith, past, rows-lent (call os) (within (call os) e .3) .overloads))
@@ -140,7 +140,7 @@ module _ (g : Given) (ws ns bs xs ks cs ss sc ts ms hs : List ℕ) where
     by-tie W c true = refl
     by-tie W c false =
         ap (λ (P : Problem). leftWith (call os) (Typing (record { counts = countsIn W; components = length (c .measure); choices = length (c .choices) })) (W .sorts)
-        (over (typingRows P (baseNamesOf (call os)) (c .choices) 0 (c .sorts)) ts) (over (c .measure) ms) (over (choiceRows (c .choices)) hs))
+        (writtenOver (typingRows P (baseNamesOf (call os)) (c .choices) 0 (c .sorts)) ts) (writtenOver (c .measure) ms) (writtenOver (choiceRows (c .choices)) hs))
         problem-same
 
     by-best : (W : Lent) (b : Option Candidate) → judged (call os) W b ≡ judged (call os′) W b
@@ -153,12 +153,12 @@ module _ (g : Given) (ws ns bs xs ks cs ss sc ts ms hs : List ℕ) where
     by-out (ended c W) = refl
 
     searched-same : searched (Unit {0}) nothingMet tt (call os) ≡ searched (Unit {0}) nothingMet tt (call os′)
-    searched-same = ap (λ (P : Problem). solve (Unit {0}) nothingMet P (given (call os)) (start (call os)) (record { lent = lentOf (call os); best = none; met = tt })) problem-same
+    searched-same = ap (λ (P : Problem). solve (Unit {0}) nothingMet P (given (call os)) (startPath (call os)) (record { lent = lentOf (call os); best = none; met = tt })) problem-same
 
     entry-same : solveEntry (call os) ≡ solveEntry (call os′)
     unfolding solveEntry
     entry-same =
-        ap₂ (λ (o : Option ℕ) (L : Left). orElse o (refused (call [])) L) (ap firstFailing checks-same)
+        ap₂ (λ (o : Option ℕ) (L : SolveLeft). refusedOr o (refused (call [])) L) (ap firstFailing checks-same)
         (by-out (searched (Unit {0}) nothingMet tt (call os)) ∙ ap (verdict (call os′)) searched-same)
 
 -- the words of the first k records are the first 3 k words

@@ -16,8 +16,8 @@ ghost use lib.Seq.{sets};
 ghost use Rattle.inference.specs.Constraints.{maxOverloads, overloadWords};
 ghost use Rattle.inference.specs.SolveEntry.{solveEntry};
 ghost use Rattle.solve_checks.specs.Call.{callOf};
-ghost use Rattle.solve_outputs.specs.Finish.{leftOf};
-ghost use Rattle.solve_outputs.specs.Packed.{packed, packLeft};
+ghost use Rattle.solve_outputs.specs.Finish.{solveLeft};
+ghost use Rattle.solve_outputs.specs.Packed.{packedSolve, packSolveLeft};
 ghost use Rattle.solve_entries.specs.Given.{givenOf};
 ghost use Rattle.solve_records.specs.Records.{wordsOf, recordWords, recordAt, wordsFrom, unpacked, wordsOfCount};
 
@@ -107,7 +107,7 @@ fn solve_unpacked(
     choices: &mut [u16],
 ) -> Solved
     ensures { λ r. ⌜
-        leftOf r (now (sorts .exit)) (now (nodes .exit)) (now (binds .exit)) (now (scratch .exit))
+        solveLeft r (now (sorts .exit)) (now (nodes .exit)) (now (binds .exit)) (now (scratch .exit))
         (now (typing .exit)) (now (measure .exit)) (now (choices .exit))
         ≡ solveEntry (callOf given (now (sorts .entry)) (now (nodes .entry)) (now (binds .entry))
         (now (exprs .entry)) (now (names .entry)) (now (constraints .entry)) (take (wordsOfCount n) words)
@@ -153,7 +153,7 @@ pub fn solve_records(
     choices: &mut [u16],
 ) -> Solved
     ensures { λ r. ⌜
-        leftOf r (now (sorts .exit)) (now (nodes .exit)) (now (binds .exit)) (now (scratch .exit))
+        solveLeft r (now (sorts .exit)) (now (nodes .exit)) (now (binds .exit)) (now (scratch .exit))
         (now (typing .exit)) (now (measure .exit)) (now (choices .exit))
         ≡ solveEntry (callOf given (now (sorts .entry)) (now (nodes .entry)) (now (binds .entry))
         (now (exprs .entry)) (now (names .entry)) (now (constraints .entry))
@@ -208,9 +208,9 @@ fn sort_solve_unpacked(
     choices: &mut [u16],
 ) -> u64
     ensures { λ r. ⌜
-        packed r (now (sorts .exit)) (now (nodes .exit)) (now (binds .exit)) (now (scratch .exit))
+        packedSolve r (now (sorts .exit)) (now (nodes .exit)) (now (binds .exit)) (now (scratch .exit))
         (now (typing .exit)) (now (measure .exit)) (now (choices .exit))
-        ≡ packLeft (solveEntry (callOf (givenOf «sort_count» «entry_count» «node_count» «node_entry_count»
+        ≡ packSolveLeft (solveEntry (callOf (givenOf «sort_count» «entry_count» «node_count» «node_entry_count»
         «var_count» «expr_count» «name_count» «constraint_count» «overload_count» «source_count» default)
         (now (sorts .entry)) (now (nodes .entry)) (now (binds .entry)) (now (exprs .entry))
         (now (names .entry)) (now (constraints .entry)) (take (wordsOfCount n) words) (now (sources .entry))
@@ -274,9 +274,9 @@ pub extern "C" fn sort_solve_records(
     choices: &mut [u16],
 ) -> u64
     ensures { λ r. ⌜
-        packed r (now (sorts .exit)) (now (nodes .exit)) (now (binds .exit)) (now (scratch .exit))
+        packedSolve r (now (sorts .exit)) (now (nodes .exit)) (now (binds .exit)) (now (scratch .exit))
         (now (typing .exit)) (now (measure .exit)) (now (choices .exit))
-        ≡ packLeft (solveEntry (callOf (givenOf «sort_count» «entry_count» «node_count» «node_entry_count»
+        ≡ packSolveLeft (solveEntry (callOf (givenOf «sort_count» «entry_count» «node_count» «node_entry_count»
         «var_count» «expr_count» «name_count» «constraint_count» «overload_count» «source_count» default)
         (now (sorts .entry)) (now (nodes .entry)) (now (binds .entry)) (now (exprs .entry))
         (now (names .entry)) (now (constraints .entry))

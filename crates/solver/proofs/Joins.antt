@@ -13,7 +13,7 @@ use Rattle.unification.specs.Checked.{Placed}
 use Rattle.unification.specs.Making.{Lent, lent}
 use Rattle.unification.proofs.Grows.{PlacedIn, Grows, placed-grown}
 use Rattle.inference.specs.Constraints.{Problem, rowsFrom, maxComponents}
-use Rattle.inference.specs.Search.{Path, World, Out, Next as Going, Agreed, joinOf, onMade, orElse, unifying, widening, sequence, joining, measured}
+use Rattle.inference.specs.Search.{Path, World, Out, Going, Agreed, joinOf, onMade, elseTry, unifying, widening, sequence, joining, withComponents}
 use Rattle.inference.specs.SolveEntry.{nothingMet}
 use Rattle.inference.specs.Typing.{All, and-all}
 use Rattle.inference.proofs.Invariant.{SortsOnly, still-placed}
@@ -33,7 +33,7 @@ use Rattle.search_state.specs.declared.Pairs.the-variants.{One}
 use Rattle.search_state.specs.declared.Step.the-variants.{Written}
 use Rattle.search_state.specs.Memory.{problemIn, sourceAt, chosenExprs, choicesOf, trailWords, bestSortsAt, measureAt, bestMeasureAt, choicesAt, bestChoicesAt, pathOf, candidateOf, bestOf, worldOf, solveFrom, nextOf}
 use Rattle.words.specs.Words.{part}
-use Rattle.search_state.specs.Leaves.{ChangedOnly, unifyPairs, PairsPlaced, stepped, agreementOf, Agrees}
+use Rattle.search_state.specs.Leaves.{ChangedOnly, unifyPairs, PairsPlaced, pathAfter, agreementOf, Agrees}
 use Rattle.search_state.specs.Searching.{Sized, Searching, SourcesFine, Agreeing, SamePath, Done, Comes, trying}
 use Rattle.search_state.proofs.Parts.{part-before, part-after, take-unchanged}
 use Rattle.search_state.proofs.After.{searching-grown, done-as, done-after, same-path, or-stops, or-comes, grown-missed}
@@ -135,7 +135,7 @@ module _ (ls : List ℕ) (z : Sizes) (ws ns bs sc : List ℕ) (k : State) (e : B
 
     -- by what was agreed on
     abbrev after : Agreed → World (Unit {0}) → Out (Unit {0})
-    after a v = orElse (unifying (path .binds) (t .0) (a .sort) (λ C. solveFrom ls z i (measured path (a .components) C)) v) (seq path)
+    after a v = elseTry (unifying (path .binds) (t .0) (a .sort) (λ C. solveFrom ls z i (withComponents path (a .components) C)) v) (seq path)
 
     by-agreement : onMade (agreementOf ws₁ ns sc₁ e (run .count) m) after (seq path) w ≡ goal path w
     unfolding joining
@@ -214,11 +214,11 @@ module _ (ls : List ℕ) (z : Sizes) (ws ns bs sc : List ℕ) (k : State) (e : B
         abbrev first : Out (Unit {0})
         first = trying ls z sc₁ e (One t (record { 0 = s .0 })) (Written (run .count)) (Solve i) path₁ w₁
 
-        to-or : orElse first (seq-from path₁) ≡ goal path w
-        unfolding trying unifyPairs unifying stepped nextOf
+        to-or : elseTry first (seq-from path₁) ≡ goal path w
+        unfolding trying unifyPairs unifying pathAfter nextOf
         to-or =
-            (λ j. orElse
-            (unifying (same-path₁ x only k₁ u j .binds) (t .0) (s .0) (λ C. solveFrom ls z i (measured (same-path₁ x only k₁ u j) (part (measureAt + e .measure) (run .count) sc₁) C)) (same-world₁ x only k₁ u j))
+            (λ j. elseTry
+            (unifying (same-path₁ x only k₁ u j .binds) (t .0) (s .0) (λ C. solveFrom ls z i (withComponents (same-path₁ x only k₁ u j) (part (measureAt + e .measure) (run .count) sc₁) C)) (same-world₁ x only k₁ u j))
             (seq-same j (same-path₁ x only k₁ u j)))
             ∙ (sym (ap (λ y. onMade (agreementOf ws₁ ns sc₁ e (run .count) y) after (seq path) w) q) ∙ by-agreement)
 

@@ -9,7 +9,7 @@ use Rattle.unification.specs.Nodes.{bindsOf}
 use Rattle.unification.specs.Checked.{Placed}
 use Rattle.unification.specs.Making.{graph, lent}
 use Rattle.inference.specs.Constraints.{Problem}
-use Rattle.inference.specs.Search.{Path, World, missed, Next as Going, firstFound, literal, litTries, fromNat}
+use Rattle.inference.specs.Search.{Path, World, missed, Going, firstFound, literal, litTries, fromNat}
 use Rattle.inference.specs.SolveEntry.{nothingMet}
 use Rattle.inference.specs.Typing.{none-left, and-all}
 use Rattle.search_state.specs.declared.Sizes.{Sizes}
@@ -25,7 +25,7 @@ use Rattle.search_state.specs.declared.LitAt.the-variants.{Number, Free, Other}
 use Rattle.search_state.specs.declared.Step.the-variants.{Component}
 use Rattle.search_state.specs.declared.Tries.{Tries}
 use Rattle.search_state.specs.Memory.{problemIn, pathOf, worldOf, nextOf}
-use Rattle.search_state.specs.Leaves.{stepWords, branchAfter, stepped, triesFrom, litAt}
+use Rattle.search_state.specs.Leaves.{stepWords, branchAfter, pathAfter, triesFrom, litAt}
 use Rattle.search_state.specs.Searching.{Searching, Comes}
 use Rattle.search_state.proofs.After.{misses, done-as}
 use Rattle.search_state.proofs.Ways.{literalBy, literal-by-what-stands, TriesPlaced}
@@ -53,7 +53,7 @@ module _ (ls : List ℕ) (z : Sizes) (ws ns bs sc : List ℕ) (k : State) (e : B
 
   pub lit-number : (g : ℕ) → x ≡ Number g → (sc₁ : List ℕ) (e₁ : Branch) → sc₁ ≡ stepWords (Component g) e sc → e₁ ≡ branchAfter e (e .trail) (Component g)
       → (ws₂ ns₂ bs₂ sc₂ : List ℕ) (r : Answer) → Comes ls z ws ns bs sc₁ k e₁ (nextOf ls z next) ws₂ ns₂ bs₂ sc₂ r → Comes ls z ws ns bs sc k e goal ws₂ ns₂ bs₂ sc₂ r
-  unfolding stepped
+  unfolding pathAfter
   lit-number g i sc₁ e₁ a b ws₂ ns₂ bs₂ sc₂ r d =
       done-as ls z ws ns bs sc k e (S .ready .nodes) _ _ ws₂ ns₂ bs₂ sc₂ r (by-kind (Number g) i) (went-with ls z ws ns bs sc k e (Component g) next S sc₁ e₁ a b ws₂ ns₂ bs₂ sc₂ r d)
 

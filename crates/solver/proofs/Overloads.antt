@@ -11,7 +11,7 @@ use Rattle.unification.specs.Nodes.{bindsOf}
 use Rattle.unification.specs.Checked.{Placed}
 use Rattle.unification.proofs.Grows.{CheckedLent, placed-grown}
 use Rattle.inference.specs.Constraints.{Problem, rowsFrom, overloadAt}
-use Rattle.inference.specs.Search.{Path, World, Out, Next as Going, andAlso, says, unifying, everyOverload, chosen}
+use Rattle.inference.specs.Search.{Path, World, Out, Going, andAlso, says, unifying, everyOverload, withChoice}
 use Rattle.inference.specs.SolveEntry.{nothingMet}
 use Rattle.inference.proofs.Invariant.{SortsOnly, sorts-only-refl, sorts-only-trans}
 use Rattle.search_state.specs.declared.Sizes.{Sizes}
@@ -28,7 +28,7 @@ use Rattle.search_state.specs.declared.Step.the-variants.{Choice}
 use Rattle.search_state.specs.declared.Went.{Went}
 use Rattle.search_state.specs.declared.Went.the-variants.{On, Stop}
 use Rattle.search_state.specs.Memory.{overloadsAt, problemIn, chosenExprs, pathOf, worldOf, nextOf}
-use Rattle.search_state.specs.Leaves.{unifyPairs, PairsPlaced, stepped, afterOf}
+use Rattle.search_state.specs.Leaves.{unifyPairs, PairsPlaced, pathAfter, afterOf}
 use Rattle.search_state.specs.Searching.{Searching, SamePath, Done, Comes, trying}
 use Rattle.search_state.proofs.Parts.{same-path-refl, same-path-trans}
 use Rattle.search_state.proofs.After.{searching-grown, done-as, done-after, same-path, and-stops, and-goes-on, grown-on}
@@ -123,10 +123,10 @@ module _ (ls : List ℕ) (z : Sizes) (ws₀ ns₀ bs₀ sc₀ : List ℕ) (k₀ 
         first = trying ls z sc e (One p o) (Choice i) next path₁ w₁
 
         to-and : andAlso first b (λ b. from (i + 1) b path) ≡ from i b path w₁
-        unfolding trying unifyPairs unifying stepped everyOverload
+        unfolding trying unifyPairs unifying pathAfter everyOverload
         to-and =
-            ap₂ (λ n u. andAlso (unifying (path₁ .binds) (p .0) n (λ C. nextOf ls z next (chosen path₁ u i C)) w₁) b (λ b. from (i + 1) b path)) v (next-expr ls z ws ns bs sc k e (x .0) next (G .searching))
-            ∙ (ap (λ q. andAlso (unifying (q .binds) (p .0) (place (run .start + i)) (λ C. nextOf ls z next (chosen q (x .0) i C)) w₁) b (λ b. from (i + 1) b path)) same
+            ap₂ (λ n u. andAlso (unifying (path₁ .binds) (p .0) n (λ C. nextOf ls z next (withChoice path₁ u i C)) w₁) b (λ b. from (i + 1) b path)) v (next-expr ls z ws ns bs sc k e (x .0) next (G .searching))
+            ∙ (ap (λ q. andAlso (unifying (q .binds) (p .0) (place (run .start + i)) (λ C. nextOf ls z next (withChoice q (x .0) i C)) w₁) b (λ b. from (i + 1) b path)) same
             ∙ sym (ap (λ os. everyOverload (Unit {0}) nothingMet P (x .0) (p .0) os i b (nextOf ls z next) path w₁) (run-one-left (overloadAt (drop overloadsAt ls)) (run .start) (run .count) i l)))
 
         pub overloads-stop : (c : ℕ) (n : Lengths) → g ≡ Stop c n → Comes ls z ws₀ ns₀ bs₀ sc₀ k₀ e goal ws₂ ns₂ bs₂ sc₂ (Full c n)

@@ -12,7 +12,7 @@ use Rattle.unification.specs.Checked.{Placed}
 use Rattle.unification.specs.Making.{Lent, internContainer, lent}
 use Rattle.unification.proofs.Grows.{CheckedLent, placed-grown}
 use Rattle.inference.specs.Constraints.{Problem}
-use Rattle.inference.specs.Search.{Path, World, Out, missed, Next as Going, Reading, onMade, andAlso, says, unifying, everyReading, bound}
+use Rattle.inference.specs.Search.{Path, World, Out, missed, Going, Reading, onMade, andAlso, says, unifying, everyReading, withBinds}
 use Rattle.inference.specs.SolveEntry.{nothingMet}
 use Rattle.inference.proofs.Invariant.{SortsOnly}
 use Rattle.search_state.specs.declared.Sizes.{Sizes}
@@ -29,13 +29,13 @@ use Rattle.search_state.specs.declared.Step.the-variants.{Nothing}
 use Rattle.search_state.specs.declared.Went.{Went}
 use Rattle.search_state.specs.declared.Went.the-variants.{On, Stop}
 use Rattle.search_state.specs.Memory.{problemIn, pathOf, worldOf, nextOf}
-use Rattle.search_state.specs.Leaves.{PairsPlaced, stepped, madeOf, afterOf}
+use Rattle.search_state.specs.Leaves.{PairsPlaced, pathAfter, madeOf, afterOf}
 use Rattle.search_state.specs.Searching.{Searching, Done, Comes, trying}
 use Rattle.search_state.proofs.Parts.{same-path-refl}
 use Rattle.search_state.proofs.After.{searching-grown, misses, finds, done-as, done-after, and-stops, and-comes, grown-on}
 use Rattle.search_state.proofs.Ways.{two-pairs, container-is-sort, no-room-for-container-is-15, container-always-listed}
 use Rattle.search_steps.specs.Steps.{saysOf, InternsContainer}
-use Rattle.solver.specs.Asked.{bodyOf, opOf, readingAt, readingsFrom}
+use Rattle.solver.specs.Asked.{readingBody, readingOp, readingAt, readingsFrom}
 use Rattle.solver.proofs.Ways.{sort-placed, fixed-placed}
 use Rattle.solver.proofs.Widening.{withLengths}
 use Rattle.inference.proofs.Members.{rows-one-left, rows-none-left}
@@ -75,15 +75,15 @@ module _ (ls : List ℕ) (z : Sizes) (ws ns bs sc : List ℕ) (k : State) (e : B
       done-as ls z ws ns bs sc k e (S .ready .nodes) _ _ ws ns bs sc r (sym (ap (λ rs. rest rs b path w) (rows-none-left readingAt 3 i l)))
       (says-so ls z ws ns bs sc k e (S .ready .nodes) b r q)
 
-  module _ (l : i < 3) (ws₁ : List ℕ) (m : Made) (o : InternsContainer (opOf i) (element .0) ws (k .lengths) ws₁ m) where
-    interned : madeOf ws₁ ns m ≡ internContainer (opOf i) (element .0) W
+  module _ (l : i < 3) (ws₁ : List ℕ) (m : Made) (o : InternsContainer (readingOp i) (element .0) ws (k .lengths) ws₁ m) where
+    interned : madeOf ws₁ ns m ≡ internContainer (readingOp i) (element .0) W
     unfolding InternsContainer
     interned = o ns
 
     -- the reading, by what was interned
     abbrev reads : ℕ → World (Unit {0}) → Out (Unit {0})
     reads s v =
-        andAlso (unifying (path .binds) (body .0) (bodyOf i) (λ C. unifying C (node .0) s (λ D. nextOf ls z next (bound path D))) v) b (λ b. rest (readingsFrom (i + 1)) b path)
+        andAlso (unifying (path .binds) (body .0) (readingBody i) (λ C. unifying C (node .0) s (λ D. nextOf ls z next (withBinds path D))) v) b (λ b. rest (readingsFrom (i + 1)) b path)
 
     by-made : onMade (madeOf ws₁ ns m) reads missed w ≡ goal path w
     unfolding everyReading
@@ -93,17 +93,17 @@ module _ (ls : List ℕ) (z : Sizes) (ws ns bs sc : List ℕ) (k : State) (e : B
     readings-full x q =
         record {
           says = sym (ap (λ y. onMade (madeOf ws₁ ns y) reads missed w) q) ∙ by-made;
-          grown = no-room-for-container-is-15 W (S .ready .nodes) (opOf i) (element .0) he 15 (lent ws₁ ns x) (sym interned ∙ ap (madeOf ws₁ ns) q) .1;
+          grown = no-room-for-container-is-15 W (S .ready .nodes) (readingOp i) (element .0) he 15 (lent ws₁ ns x) (sym interned ∙ ap (madeOf ws₁ ns) q) .1;
           binds = refl;
           path = same-path-refl e sc;
         }
 
     pub readings-none : {A : Type 0} (x : Lengths) → m ≡ NoSort x → A
-    readings-none x q = container-always-listed W (S .ready .nodes) (opOf i) (element .0) he (lent ws₁ ns x) (sym interned ∙ ap (madeOf ws₁ ns) q)
+    readings-none x q = container-always-listed W (S .ready .nodes) (readingOp i) (element .0) he (lent ws₁ ns x) (sym interned ∙ ap (madeOf ws₁ ns) q)
 
     module _ (s : SortId) (x : Lengths) (q : m ≡ At s x) (k₁ : State) (u : k₁ ≡ withLengths k x) where
       is-sort : SortsOnly W (lent ws₁ ns x) × (s .0 < x .sorts)
-      is-sort = container-is-sort W (S .ready .nodes) (opOf i) (element .0) he (s .0) (lent ws₁ ns x) (sym interned ∙ ap (madeOf ws₁ ns) q)
+      is-sort = container-is-sort W (S .ready .nodes) (readingOp i) (element .0) he (s .0) (lent ws₁ ns x) (sym interned ∙ ap (madeOf ws₁ ns) q)
 
       grown : SortsOnly W (lent ws₁ ns (k₁ .lengths))
       grown = subst (λ (y : State). SortsOnly W (lent ws₁ ns (y .lengths))) (sym u) (is-sort .0)
@@ -111,20 +111,20 @@ module _ (ls : List ℕ) (z : Sizes) (ws ns bs sc : List ℕ) (k : State) (e : B
       pub reading-asked : Searching ws₁ ns bs sc ls z k₁ e 0 [] next
       reading-asked = searching-grown ls z ws ns bs sc k e 0 [] next S ws₁ ns bs sc k₁ (grown .grows) refl refl
 
-      pub reading-placed : (rb : InferSortId) → rb .0 ≡ bodyOf i → PairsPlaced (k₁ .lengths) (Two body rb node (record { 0 = s .0 }))
+      pub reading-placed : (rb : InferSortId) → rb .0 ≡ readingBody i → PairsPlaced (k₁ .lengths) (Two body rb node (record { 0 = s .0 }))
       reading-placed rb v = (
         placed-grown W (S .ready .nodes) (lent ws₁ ns (k₁ .lengths)) (grown .grows) (body .0) hb,
-        subst (Placed (k₁ .lengths)) (sym v) (fixed-placed (k₁ .lengths) (reading-asked .suits .six) (bodyOf i) (below i)),
+        subst (Placed (k₁ .lengths)) (sym v) (fixed-placed (k₁ .lengths) (reading-asked .suits .six) (readingBody i) (below i)),
         placed-grown W (S .ready .nodes) (lent ws₁ ns (k₁ .lengths)) (grown .grows) (node .0) hn,
         sort-placed (k₁ .lengths) (reading-asked .ready .nodes .sorts .sorts) (s .0) (subst (λ (y : State). s .0 < y .lengths .sorts) (sym u) (is-sort .1)),
       )
         where
-          below : (n : ℕ) → bodyOf n < 6
+          below : (n : ℕ) → readingBody n < 6
           below zero = omega arith
           below (suc zero) = omega arith
           below (suc (suc n)) = omega arith
 
-      module _ (rb : InferSortId) (v : rb .0 ≡ bodyOf i) (ws₂ ns₂ bs₂ sc₂ : List ℕ) (r : Answer)
+      module _ (rb : InferSortId) (v : rb .0 ≡ readingBody i) (ws₂ ns₂ bs₂ sc₂ : List ℕ) (r : Answer)
           (d : Comes ls z ws₁ ns bs sc k₁ e (trying ls z sc e (Two body rb node (record { 0 = s .0 })) Nothing next) ws₂ ns₂ bs₂ sc₂ r) where
         abbrev path₁ : Path
         path₁ = pathOf ls z (bindsOf bs (k₁ .lengths .variables)) sc e
@@ -140,11 +140,11 @@ module _ (ls : List ℕ) (z : Sizes) (ws ns bs sc : List ℕ) (k : State) (e : B
 
         -- the rest, from here and from the start
         to-and : andAlso first b (λ b. rest (readingsFrom (i + 1)) b path₁) ≡ goal path w
-        unfolding trying stepped
+        unfolding trying pathAfter
         to-and =
-            ap (λ o. andAlso o b (λ b. rest (readingsFrom (i + 1)) b path₁)) (sym (two-pairs (path₁ .binds) body rb w₁ node (record { 0 = s .0 }) (λ D. nextOf ls z next (bound path₁ D))))
-            ∙ (ap (λ n. andAlso (unifying (path₁ .binds) (body .0) n (λ C. unifying C (node .0) (s .0) (λ D. nextOf ls z next (bound path₁ D))) w₁) b (λ b. rest (readingsFrom (i + 1)) b path₁)) v
-            ∙ (ap₂ (λ p y. andAlso (unifying (p .binds) (body .0) (bodyOf i) (λ C. unifying C (node .0) (s .0) (λ D. nextOf ls z next (bound p D))) y) b (λ b. rest (readingsFrom (i + 1)) b p)) same-path-here (ap (worldOf ls z ws₁ ns sc) u)
+            ap (λ o. andAlso o b (λ b. rest (readingsFrom (i + 1)) b path₁)) (sym (two-pairs (path₁ .binds) body rb w₁ node (record { 0 = s .0 }) (λ D. nextOf ls z next (withBinds path₁ D))))
+            ∙ (ap (λ n. andAlso (unifying (path₁ .binds) (body .0) n (λ C. unifying C (node .0) (s .0) (λ D. nextOf ls z next (withBinds path₁ D))) w₁) b (λ b. rest (readingsFrom (i + 1)) b path₁)) v
+            ∙ (ap₂ (λ p y. andAlso (unifying (p .binds) (body .0) (readingBody i) (λ C. unifying C (node .0) (s .0) (λ D. nextOf ls z next (withBinds p D))) y) b (λ b. rest (readingsFrom (i + 1)) b p)) same-path-here (ap (worldOf ls z ws₁ ns sc) u)
             ∙ (sym (ap (λ y. onMade (madeOf ws₁ ns y) reads missed w) q) ∙ by-made)))
 
         from-start : (ws₃ ns₃ bs₃ sc₃ : List ℕ) (a : Answer) → Done ls z ws₁ ns bs sc k₁ e (andAlso first b (λ b. rest (readingsFrom (i + 1)) b path₁)) ws₃ ns₃ bs₃ sc₃ a

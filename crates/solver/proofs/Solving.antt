@@ -12,7 +12,7 @@ use Rattle.unification.specs.Checked.{Placed}
 use Rattle.unification.specs.Making.{Lent, lent}
 use Rattle.unification.proofs.Grows.{PlacedIn}
 use Rattle.inference.specs.Constraints.{Problem, rowsFrom, overloadAt, constraintAt}
-use Rattle.inference.specs.Search.{Path, World, missed, Next as Going, step, solve, leaf, dominatedBy, widening, literal, everyOverload, everyReading, joining}
+use Rattle.inference.specs.Search.{Path, World, missed, Going, step, solve, leaf, dominatedBy, widening, literal, everyOverload, everyReading, joining}
 use Rattle.inference.specs.SolveEntry.{nothingMet}
 use Rattle.inference.specs.Typing.{All, and-all}
 use Rattle.search_state.specs.declared.Sizes.{Sizes}

@@ -13,7 +13,7 @@ use Rattle.unification.specs.Checked.{Placed}
 use Rattle.unification.specs.Making.{graph, lent}
 use Rattle.unification.proofs.Grows.{Grows, placed-grown}
 use Rattle.inference.specs.Constraints.{rowsFrom, Problem}
-use Rattle.inference.specs.Search.{Path, World, Out, Try, Next as Going, orElse, unifying, onYes, firstFound, sequence}
+use Rattle.inference.specs.Search.{Path, World, Out, Try, Going, elseTry, unifying, onYes, firstFound, sequence}
 use Rattle.inference.specs.SolveEntry.{nothingMet}
 use Rattle.inference.specs.Typing.{none-left, and-all}
 use Rattle.search_state.specs.declared.Sizes.{Sizes}
@@ -27,13 +27,13 @@ use Rattle.search_state.specs.declared.Pairs.{Pairs}
 use Rattle.search_state.specs.declared.Step.the-variants.{Component}
 use Rattle.search_state.specs.declared.Tries.{Tries}
 use Rattle.search_state.specs.Memory.{problemIn, pathOf, worldOf, solveFrom, nextOf, sourceAt}
-use Rattle.search_state.specs.Leaves.{unifyPairs, PairsPlaced, stepped, tryAt, triesFrom}
+use Rattle.search_state.specs.Leaves.{unifyPairs, PairsPlaced, pathAfter, tryAt, triesFrom}
 use Rattle.search_state.specs.Searching.{Searching, Done, Comes, trying}
 use Rattle.search_state.proofs.After.{searching-grown, misses, done-as, grown-missed, or-stops, or-comes}
 use Rattle.search_state.proofs.Ways.{TryPlaced, TriesPlaced}
 use Rattle.search_steps.specs.Steps.{pairsOf}
 use Rattle.resolved_sort.specs.declared.ComplexSort.{ComplexSort}
-use Rattle.solver.specs.Asked.{TriesFine, bodyOf, opOf}
+use Rattle.solver.specs.Asked.{TriesFine, readingBody, readingOp}
 use Rattle.inference.proofs.Members.{rows-one-left, rows-none-left}
 
 -- the work left, above what any single constraint can take
@@ -95,10 +95,10 @@ module _ (ls : List ℕ) (z : Sizes) (ws ns bs sc : List ℕ) (k : State) (e : B
       abbrev first : Out (Unit {0})
       first = trying ls z sc e pairs (Component g) next path w
 
-      to-or : orElse first (firstFound (Unit {0}) nothingMet P (triesFrom t (j + 1)) (nextOf ls z next) path) ≡ goal path w
-      unfolding firstFound trying unifyPairs unifying stepped
+      to-or : elseTry first (firstFound (Unit {0}) nothingMet P (triesFrom t (j + 1)) (nextOf ls z next) path) ≡ goal path w
+      unfolding firstFound trying unifyPairs unifying pathAfter
       to-or =
-          ap₂ (λ p c. orElse (onYes (unifyPairs (graph (lent ws ns (k .lengths))) p (bindsOf bs (k .lengths .variables))) (λ C. nextOf ls z next (stepped ls z sc e (Component c) C)) w) (firstFound (Unit {0}) nothingMet P (triesFrom t (j + 1)) (nextOf ls z next) path)) q h
+          ap₂ (λ p c. elseTry (onYes (unifyPairs (graph (lent ws ns (k .lengths))) p (bindsOf bs (k .lengths .variables))) (λ C. nextOf ls z next (pathAfter ls z sc e (Component c) C)) w) (firstFound (Unit {0}) nothingMet P (triesFrom t (j + 1)) (nextOf ls z next) path)) q h
           ∙ sym (ap (λ ts. firstFound (Unit {0}) nothingMet P ts (nextOf ls z next) path w) (rows-one-left (tryAt t) (t .count) j l))
 
       pub tries-stop : ((s : State) → r ≡ Missed s → ⊥) → Comes ls z ws ns bs sc k e goal ws₁ ns₁ bs₁ sc₁ r
@@ -139,11 +139,11 @@ unfolding isPlace
 fixed-placed k l p h = rw (lt-ltb p maxSorts (omega (arith, h)), lt-ltb p (k .sorts) (omega (arith, l, h)))
 
 -- the last reading's body, and the container of all readings but the first
-pub other-body : (i : ℕ) → (i ≡ 0 → ⊥) → (i ≡ 1 → ⊥) → 2 ≡ bodyOf i
+pub other-body : (i : ℕ) → (i ≡ 0 → ⊥) → (i ≡ 1 → ⊥) → 2 ≡ readingBody i
 other-body zero a b = absurd (a refl)
 other-body (suc zero) a b = absurd (b refl)
 other-body (suc (suc i)) a b = refl
 
-pub other-op : (i : ℕ) → (i ≡ 0 → ⊥) → ComplexSort.Bag ≡ opOf i
+pub other-op : (i : ℕ) → (i ≡ 0 → ⊥) → ComplexSort.Bag ≡ readingOp i
 other-op zero a = absurd (a refl)
 other-op (suc i) a = refl

@@ -11,7 +11,7 @@ use Rattle.unification.specs.Checked.{Placed}
 use Rattle.unification.specs.Making.{Lent, made, lent}
 use Rattle.unification.proofs.Grows.{Grows, grows-trans, given-back-grows, placed-grown}
 use Rattle.inference.specs.Constraints.{Problem}
-use Rattle.inference.specs.Search.{Path, World, Out, missed, Next as Going, orElse, onMade, givenBack, unifying, firstFound, widening, wider}
+use Rattle.inference.specs.Search.{Path, World, Out, missed, Going, elseTry, onMade, nodesReturned, unifying, firstFound, widening, wider}
 use Rattle.inference.specs.SolveEntry.{nothingMet}
 use Rattle.inference.proofs.Invariant.{SortsOnly, sorts-only-refl}
 use Rattle.search_state.specs.declared.Sizes.{Sizes}
@@ -26,7 +26,7 @@ use Rattle.search_state.specs.declared.Tries.{Tries}
 use Rattle.search_state.specs.declared.Widenings.{Widenings}
 use Rattle.search_state.specs.declared.Widenings.the-variants.{These, NoList, Full as NoRoom}
 use Rattle.search_state.specs.Memory.{problemIn, pathOf, worldOf, outOf, nextOf}
-use Rattle.search_state.specs.Leaves.{unifyPairs, stepped, triesFrom, widenings, widened, FewTries, Widens, givenBackTo}
+use Rattle.search_state.specs.Leaves.{unifyPairs, pathAfter, triesFrom, widenings, widened, FewTries, FindsWidenings, givenBackTo}
 use Rattle.search_state.specs.Searching.{Searching, Grown, Comes, trying}
 use Rattle.search_state.proofs.Parts.{same-path-refl}
 use Rattle.search_state.proofs.After.{searching-grown, done-as, or-stops, or-comes, grown-missed}
@@ -41,7 +41,7 @@ withLengths k m = record { lengths = m; best = k .best; tied = k .tied }
 -- From where equality missed.
 module _ (ls : List ℕ) (z : Sizes) (ws ns bs sc : List ℕ) (k : State) (e : Branch) (l r : InferSortId) (next : Next) (S : Searching ws ns bs sc ls z k e 1 [] next)
     (x : Placed (k .lengths) (l .0)) (y : Placed (k .lengths) (r .0)) (ws₁ ns₁ : List ℕ) (q : Widenings)
-    (O : Widens ws₁ ns₁ q (widenings (bindsOf bs (k .lengths .variables)) (l .0) (r .0) (lent ws ns (k .lengths)))) where
+    (O : FindsWidenings ws₁ ns₁ q (widenings (bindsOf bs (k .lengths .variables)) (l .0) (r .0) (lent ws ns (k .lengths)))) where
   abbrev P : Problem
   P = problemIn ls z
 
@@ -116,7 +116,7 @@ module _ (ls : List ℕ) (z : Sizes) (ws ns bs sc : List ℕ) (k : State) (e : B
               says =
                   ap (outOf ls z ws₂ ns₂ sc₂) v
                   ∙ (given-back-in-answer ls z ws₂ ns₂ sc₂ a ws ns (k .lengths)
-                  ∙ (ap (givenBack W) (d₁ .says ∙ ap (λ p. firstFound (Unit {0}) nothingMet P (triesFrom t 0) (nextOf ls z next) p (worldOf ls z ws₁ ns₁ sc (withLengths k m))) same-path-there)
+                  ∙ (ap (nodesReturned W) (d₁ .says ∙ ap (λ p. firstFound (Unit {0}) nothingMet P (triesFrom t 0) (nextOf ls z next) p (worldOf ls z ws₁ ns₁ sc (withLengths k m))) same-path-there)
                   ∙ (ap (λ j. onMade (widened ws₁ ns₁ j) (tried (Unit {0}) nothingMet P (nextOf ls z next) path w (l .0) (r .0)) missed w) (sym i) ∙ by-tries)));
               grown = subst (Grown W ws₂ ns₂) (sym v) (back a (d₁ .grown));
               binds = d₁ .binds;
@@ -161,8 +161,8 @@ module _ (ls : List ℕ) (z : Sizes) (ws ns bs sc : List ℕ) (k : State) (e : B
   abbrev equal : Out (Unit {0})
   equal = trying ls z sc e (One l r) (Component 0) next start (worldOf ls z ws ns sc k)
 
-  to-or : orElse equal (wider (Unit {0}) nothingMet (problemIn ls z) (l .0) (r .0) (nextOf ls z next) start) ≡ whole start (worldOf ls z ws ns sc k)
-  unfolding widening trying unifyPairs unifying stepped
+  to-or : elseTry equal (wider (Unit {0}) nothingMet (problemIn ls z) (l .0) (r .0) (nextOf ls z next) start) ≡ whole start (worldOf ls z ws ns sc k)
+  unfolding widening trying unifyPairs unifying pathAfter
   to-or = refl
 
   pub widen-stop : ((s : State) → a ≡ Missed s → ⊥) → Comes ls z ws ns bs sc k e whole ws₁ ns₁ bs₁ sc₁ a

@@ -36,14 +36,14 @@ exprsOfConstraint (Comprehension body node element) = []
 exprsOfConstraint (Join run t) = []
 
 -- the readings of a comprehension by number: Bool and Set, Nat and Bag, Pos and Bag
-abbrev pub bodyOf : ℕ → ℕ
-bodyOf i = getD (1 ∷ 3 ∷ []) i 2
+abbrev pub readingBody : ℕ → ℕ
+readingBody i = getD (1 ∷ 3 ∷ []) i 2
 
-abbrev pub opOf : ℕ → ComplexSort
-opOf i = getD (ComplexSort.Set ∷ []) i ComplexSort.Bag
+abbrev pub readingOp : ℕ → ComplexSort
+readingOp i = getD (ComplexSort.Set ∷ []) i ComplexSort.Bag
 
 abbrev pub readingAt : ℕ → Reading
-readingAt i = record { body = bodyOf i; op = opOf i }
+readingAt i = record { body = readingBody i; op = readingOp i }
 
 abbrev pub readingsFrom : ℕ → List Reading
 readingsFrom i = rowsFrom readingAt i (3 - i)

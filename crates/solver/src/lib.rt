@@ -61,7 +61,7 @@ ghost use Rattle.search_state.specs.declared.Next.the-variants.{Solve, Source};
 ghost use Rattle.search_state.specs.Memory.{overloadsAt, sourceAt, problemIn, solveFrom, nextOf};
 ghost use Rattle.search_state.specs.Leaves.{PairsPlaced, addedComponents, triesFrom};
 ghost use Rattle.search_state.specs.Searching.{Searching, SourcesFine, exprsOf, Comes, trying};
-ghost use Rattle.solver.specs.Asked.{TriesFine, OverloadsFine, exprsOfConstraint, bodyOf, opOf, readingsFrom};
+ghost use Rattle.solver.specs.Asked.{TriesFine, OverloadsFine, exprsOfConstraint, readingBody, readingOp, readingsFrom};
 ghost use Rattle.unification.specs.Making.{lent};
 
 // Solves the constraints from `index` on; answers whether any leaf was reached below this point.
@@ -775,7 +775,7 @@ fn resume(
 
 // The sort of the body, and the container, of a reading: Bool and Set, Nat and Bag, Pos and Bag.
 fn reading_body(reading: u16) -> InferSortId
-    ensures { λ r. ⌜ r .0 ≡ bodyOf reading ⌝ }
+    ensures { λ r. ⌜ r .0 ≡ readingBody reading ⌝ }
 {
     if reading == 0 {
         return InferSortId(1);
@@ -787,7 +787,7 @@ fn reading_body(reading: u16) -> InferSortId
 }
 
 fn reading_op(reading: u16) -> ComplexSort
-    ensures { λ r. ⌜ r ≡ opOf reading ⌝ }
+    ensures { λ r. ⌜ r ≡ readingOp reading ⌝ }
 {
     if reading == 0 {
         return ComplexSort::Set;

@@ -17,7 +17,7 @@ use Rattle.resolved_sort.specs.Tree.{Tree}
 use Rattle.resolved_sort.specs.Interning.{Outcome, made, nothing, full, make}
 use Rattle.resolved_sort.specs.Storage.{maxSorts, maxEntries, fullLength, entriesAt, sortsOf}
 use Rattle.resolved_sort.specs.Checks.{withinLent, rowsFine, noTwoEqual, inList, atCeiling, Check, firstFailing, sortChecks, pairChecks}
-use Rattle.resolved_sort.specs.Entries.{testedOf, orElse, treeAt, stored, left, leftBy, bounded}
+use Rattle.resolved_sort.specs.Entries.{testedOf, refusedOr, treeAt, stored, sortsLeft, sortsLeftBy, bounded}
 use Rattle.resolved_sort.specs.Rows.{storedAt}
 use Rattle.resolved_sort.specs.Bounds.{Asked, boundAt}
 use Rattle.resolved_sort.proofs.FirstFailing.{first-fails, first-passes, append-fails, append-passes, cons-passes}
@@ -100,10 +100,10 @@ module _ (ws : List ℕ) (n e a b : ℕ) (x : firstFailing (pairChecks ws n e a 
 
 -- the answers of an entry
 module _ (ws : List ℕ) (n e a b : ℕ) (t : Tested) (et : t ≡ testedOf (firstFailing (pairChecks ws n e a b))) where
-  pub refused-with : {A : Type 0} (f : ℕ → A) (r : A) (c : ℕ) → t ≡ Refused c → f c ≡ orElse (firstFailing (pairChecks ws n e a b)) f r
+  pub refused-with : {A : Type 0} (f : ℕ → A) (r : A) (c : ℕ) → t ≡ Refused c → f c ≡ refusedOr (firstFailing (pairChecks ws n e a b)) f r
   refused-with f r c h = rw (refused-is (firstFailing (pairChecks ws n e a b)) t c et h)
 
-  pub answered : {A : Type 0} (f : ℕ → A) (r : A) → t ≡ Passed → r ≡ orElse (firstFailing (pairChecks ws n e a b)) f r
+  pub answered : {A : Type 0} (f : ℕ → A) (r : A) → t ≡ Passed → r ≡ refusedOr (firstFailing (pairChecks ws n e a b)) f r
   answered f r h = rw (passed-is (firstFailing (pairChecks ws n e a b)) t et h)
 
   pub none-fails : t ≡ Passed → firstFailing (pairChecks ws n e a b) ≡ none
@@ -123,14 +123,14 @@ module _ (up : Bool) (ws : List ℕ) (n e a b : ℕ) (k : Asked ws n e a b) wher
       (look-whole ws n e (k .checked) a (k .lhs)) (look-whole ws n e (k .checked) b (k .rhs))
 
   by-outcome : (O : Outcome Tree) → Kept ws n e InTree (sortsOf ws n e) O
-      → keptOrGivenBack ((stored ws n e O) .words) n e ((stored ws n e O) .answer) ≡ leftBy ws n e (stored ws n e O) ((stored ws n e O) .answer)
-  unfolding Kept stored keptOrGivenBack leftBy
+      → keptOrGivenBack ((stored ws n e O) .words) n e ((stored ws n e O) .answer) ≡ sortsLeftBy ws n e (stored ws n e O) ((stored ws n e O) .answer)
+  unfolding Kept stored keptOrGivenBack sortsLeftBy
   by-outcome (made v S) h = refl
   by-outcome (nothing S) h = refl
-  by-outcome (full S) h = ap (λ us. left us NoRoom) (made-is-given-back ws n e (k .checked) S (h .0))
+  by-outcome (full S) h = ap (λ us. sortsLeft us NoRoom) (made-is-given-back ws n e (k .checked) S (h .0))
 
-  pub bound-answered : (vs : List ℕ) (j : Joined) → storedAt vs j ≡ boundAt up ws n e a b → (us : List ℕ) (r : Bounded) → left us r ≡ keptOrGivenBack vs n e j
-      → firstFailing (pairChecks ws n e a b) ≡ none → left us r ≡ bounded up ws n e a b
+  pub bound-answered : (vs : List ℕ) (j : Joined) → storedAt vs j ≡ boundAt up ws n e a b → (us : List ℕ) (r : Bounded) → sortsLeft us r ≡ keptOrGivenBack vs n e j
+      → firstFailing (pairChecks ws n e a b) ≡ none → sortsLeft us r ≡ bounded up ws n e a b
   unfolding boundAt bounded
   bound-answered vs j q us r g x =
       g ∙ (ap (λ s. keptOrGivenBack (s .words) n e (s .answer)) q ∙ (by-outcome outcome outcome-kept ∙ rw x))

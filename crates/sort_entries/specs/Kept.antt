@@ -5,9 +5,9 @@ use Rattle.resolved_sort.specs.declared.Joined.{Joined}
 use Rattle.resolved_sort.specs.declared.Joined.the-variants.{At, Nothing, Full}
 use Rattle.resolved_sort.specs.declared.Bounded.the-variants.{Sort, Nothing as NoBound, NoRoom}
 use Rattle.resolved_sort.specs.Storage.{givenBack}
-use Rattle.resolved_sort.specs.Entries.{Left, left}
+use Rattle.resolved_sort.specs.Entries.{SortsLeft, sortsLeft}
 
-unfoldable pub keptOrGivenBack : List ℕ → ℕ → ℕ → Joined → Left
-keptOrGivenBack ws n e (At s k) = left ws (Sort s k)
-keptOrGivenBack ws n e (Nothing k) = left ws (NoBound k)
-keptOrGivenBack ws n e Full = left (givenBack n e ws) NoRoom
+unfoldable pub keptOrGivenBack : List ℕ → ℕ → ℕ → Joined → SortsLeft
+keptOrGivenBack ws n e (At s k) = sortsLeft ws (Sort s k)
+keptOrGivenBack ws n e (Nothing k) = sortsLeft ws (NoBound k)
+keptOrGivenBack ws n e Full = sortsLeft (givenBack n e ws) NoRoom

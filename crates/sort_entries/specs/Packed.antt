@@ -3,7 +3,7 @@
 use mathlib.Core.Bool.{Bool, true, false}
 use Prim.Native.Nat.{ℕ, _+_, _*_, _^_}
 use mathlib.Core.List.{List}
-use Rattle.resolved_sort.specs.Entries.{Left}
+use Rattle.resolved_sort.specs.Entries.{SortsLeft}
 use Rattle.resolved_sort.specs.declared.PartialOrder.{PartialOrder}
 use Rattle.resolved_sort.specs.declared.PartialOrder.the-variants.{Unrelated, Equal, Below, Above}
 use Rattle.resolved_sort.specs.declared.Widening.{Widening}
@@ -54,12 +54,12 @@ packBounded (NoBound k) = k .sorts * bit32 + k .entries * bit48
 packBounded NoRoom = 15
 
 -- the storage at exit, and the packed answer
-pub record Packed : Type 0 where
+pub record PackedSorts : Type 0 where
   pub words : List ℕ
   pub result : ℕ
 
-abbrev pub packed : List ℕ → ℕ → Packed
-packed ws r = record { words = ws; result = r }
+abbrev pub packedSorts : List ℕ → ℕ → PackedSorts
+packedSorts ws r = record { words = ws; result = r }
 
-abbrev pub packLeft : Left → Packed
-packLeft l = packed (l .words) (packBounded (l .answer))
+abbrev pub packSortsLeft : SortsLeft → PackedSorts
+packSortsLeft l = packedSorts (l .words) (packBounded (l .answer))

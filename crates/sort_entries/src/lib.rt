@@ -24,10 +24,10 @@ ghost use Prim.Native.Nat.{_+_, _*_, _<_, _≤_};
 ghost use lib.ListN.{length};
 ghost use Rattle.resolved_sort.specs.Storage.{maxSorts, maxEntries, fullLength};
 ghost use Rattle.resolved_sort.specs.Checks.{firstFailing, pairChecks};
-ghost use Rattle.resolved_sort.specs.Entries.{testedOf, compared, measured, materialized, bounded, left};
+ghost use Rattle.resolved_sort.specs.Entries.{testedOf, compared, measured, materialized, bounded, sortsLeft};
 ghost use Rattle.sort_entries.specs.Kept.{keptOrGivenBack};
 ghost use Rattle.sort_entries.specs.Packed.{packCompared, packMeasured, packMaterialized};
-ghost use Rattle.sort_entries.specs.Packed.{packBounded, packed, packLeft};
+ghost use Rattle.sort_entries.specs.Packed.{packBounded, packedSorts, packSortsLeft};
 
 // Checks 1 to 4, 12 and 14 of a question about two sorts: the first that fails.
 fn test_pair(
@@ -142,7 +142,7 @@ fn kept_or_given_back(
         («sort_count» ≤ maxSorts) × («entry_count» ≤ maxEntries) × (fullLength ≤ length (now sorts))
         ⌝ }
     ensures { λ r. ⌜
-        left (now (sorts .exit)) r ≡ keptOrGivenBack (now (sorts .entry)) «sort_count» «entry_count» joined
+        sortsLeft (now (sorts .exit)) r ≡ keptOrGivenBack (now (sorts .entry)) «sort_count» «entry_count» joined
         ⌝ }
 {
     match joined {
@@ -165,7 +165,7 @@ pub fn join(
     rhs: SortId,
 ) -> Bounded
     ensures { λ r. ⌜
-        left (now (sorts .exit)) r
+        sortsLeft (now (sorts .exit)) r
         ≡ bounded true (now (sorts .entry)) «sort_count» «entry_count» (lhs .0) (rhs .0)
         ⌝ }
 {
@@ -192,7 +192,7 @@ pub fn meet(
     rhs: SortId,
 ) -> Bounded
     ensures { λ r. ⌜
-        left (now (sorts .exit)) r
+        sortsLeft (now (sorts .exit)) r
         ≡ bounded false (now (sorts .entry)) «sort_count» «entry_count» (lhs .0) (rhs .0)
         ⌝ }
 {
@@ -319,8 +319,8 @@ pub extern "C" fn sort_join(
     rhs: u16,
 ) -> u64
     ensures { λ r. ⌜
-        packed (now (sorts .exit)) r
-        ≡ packLeft (bounded true (now (sorts .entry)) «sort_count» «entry_count» lhs rhs)
+        packedSorts (now (sorts .exit)) r
+        ≡ packSortsLeft (bounded true (now (sorts .entry)) «sort_count» «entry_count» lhs rhs)
         ⌝ }
 {
     pack_bounded(join(sorts, sort_count, entry_count, SortId(lhs), SortId(rhs)))
@@ -335,8 +335,8 @@ pub extern "C" fn sort_meet(
     rhs: u16,
 ) -> u64
     ensures { λ r. ⌜
-        packed (now (sorts .exit)) r
-        ≡ packLeft (bounded false (now (sorts .entry)) «sort_count» «entry_count» lhs rhs)
+        packedSorts (now (sorts .exit)) r
+        ≡ packSortsLeft (bounded false (now (sorts .entry)) «sort_count» «entry_count» lhs rhs)
         ⌝ }
 {
     pack_bounded(meet(sorts, sort_count, entry_count, SortId(lhs), SortId(rhs)))

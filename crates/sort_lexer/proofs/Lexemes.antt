@@ -8,33 +8,33 @@ use native.Mathlib.Omega.{arith}
 use lib.ListN.{length, take, drop, length-drop}
 use lib.Seq.{drop-drop, drop-at, take-at}
 use lib.Dec.{eqb}
-use Rattle.sort_text.specs.Tokens.{isLetter, Next, end, word, open-bracket, close-bracket, hash, arrow, bad, run, past, skip, start, dash, nextAt, next}
+use Rattle.sort_text.specs.Tokens.{isLetter, NextToken, end, word, open-bracket, close-bracket, hash, arrow, bad, run, past, skip, start, dash, nextAt, next}
 use Rattle.sort_lexer.specs.declared.Token.{Token}
 use Rattle.sort_lexer.specs.declared.Token.the-variants.{End, Word, Open, Close, Hash, Arrow, Bad}
 use Rattle.sort_lexer.specs.declared.Lexeme.{Lexeme}
-use Rattle.sort_lexer.specs.Lexeme.{place, lexeme, lexemeOf, saidBy, said, least}
+use Rattle.sort_lexer.specs.Lexeme.{offset, lexeme, lexemeOf, saidBy, said, least}
 use Rattle.sort_lexer.proofs.Places.{run-then-past, length-past, drop-place-past, left-without-spaces, skip-goes-on}
 
 -- bs is an end of l
 abbrev Ends : List ℕ → List ℕ → Type 0
-Ends l bs = drop (place l bs) l ≡ bs
+Ends l bs = drop (offset l bs) l ≡ bs
 
 no-longer : (l bs : List ℕ) → Ends l bs → length bs ≤ length l
-no-longer l bs e = omega (arith, ap length e, length-drop (place l bs) l)
+no-longer l bs e = omega (arith, ap length e, length-drop (offset l bs) l)
 
 ends-further : (l bs cs : List ℕ) (k : ℕ) → Ends l bs → drop k bs ≡ cs → length cs + k ≡ length bs → Ends l cs
 ends-further l bs cs k e f n =
-    let g : place l cs ≡ place l bs + k = omega (arith, no-longer l bs e) in
-    ap (λ (i : ℕ). drop i l) g ∙ sym (drop-drop k (place l bs) l) ∙ ap (drop k) e ∙ f
+    let g : offset l cs ≡ offset l bs + k = omega (arith, no-longer l bs e) in
+    ap (λ (i : ℕ). drop i l) g ∙ sym (drop-drop k (offset l bs) l) ∙ ap (drop k) e ∙ f
 
 -- the token n, which was found at bs
-record Right (l bs : List ℕ) (n : Next) : Type 0 where
+record Right (l bs : List ℕ) (n : NextToken) : Type 0 where
   says : n ≡ said l (lexeme l bs n)
-  starts : lexeme l bs n .at ≡ place l bs
-  goes : place l bs + least (lexeme l bs n .token) ≤ lexeme l bs n .next
+  starts : lexeme l bs n .at ≡ offset l bs
+  goes : offset l bs + least (lexeme l bs n .token) ≤ lexeme l bs n .next
   within : lexeme l bs n .next ≤ length l
 
-right-either : (l bs : List ℕ) (q : Bool) (m n : Next) → Right l bs m → Right l bs n → Right l bs (cond q m n)
+right-either : (l bs : List ℕ) (q : Bool) (m n : NextToken) → Right l bs m → Right l bs n → Right l bs (cond q m n)
 right-either l bs true m n f g = f
 right-either l bs false m n f g = g
 
@@ -50,10 +50,10 @@ module _ (p : ℕ → Bool) (l : List ℕ) (b : ℕ) (bs : List ℕ) (e : Ends l
   unfolding lexeme saidBy
   right-word =
       let far : Ends l (past p bs) = ends-further l bs (past p bs) (length (run p bs)) ends-after-byte (sym (ap (drop (length (run p bs))) (run-then-past p bs)) ∙ drop-at (run p bs) (past p bs) (length (run p bs)) refl) (omega (arith, length-past p bs)) in
-      let count : length (b ∷ run p bs) ≡ place l (past p bs) - place l (b ∷ bs) = omega (arith, length-past p bs, no-longer l (b ∷ bs) e) in
-      let it : take (place l (past p bs) - place l (b ∷ bs)) (drop (place l (b ∷ bs)) l) ≡ b ∷ run p bs =
-      ap (take (place l (past p bs) - place l (b ∷ bs))) (e ∙ ap (λ (xs : List ℕ). b ∷ xs) (sym (run-then-past p bs))) ∙ take-at (b ∷ run p bs) (past p bs) (place l (past p bs) - place l (b ∷ bs)) count in
-      record { says = sym (ap (λ (w : List ℕ). word w (drop (place l (past p bs)) l)) it ∙ ap (word (b ∷ run p bs)) far); starts = refl; goes = omega (arith, length-past p bs, no-longer l (b ∷ bs) e); within = omega arith }
+      let count : length (b ∷ run p bs) ≡ offset l (past p bs) - offset l (b ∷ bs) = omega (arith, length-past p bs, no-longer l (b ∷ bs) e) in
+      let it : take (offset l (past p bs) - offset l (b ∷ bs)) (drop (offset l (b ∷ bs)) l) ≡ b ∷ run p bs =
+      ap (take (offset l (past p bs) - offset l (b ∷ bs))) (e ∙ ap (λ (xs : List ℕ). b ∷ xs) (sym (run-then-past p bs))) ∙ take-at (b ∷ run p bs) (past p bs) (offset l (past p bs) - offset l (b ∷ bs)) count in
+      record { says = sym (ap (λ (w : List ℕ). word w (drop (offset l (past p bs)) l)) it ∙ ap (word (b ∷ run p bs)) far); starts = refl; goes = omega (arith, length-past p bs, no-longer l (b ∷ bs) e); within = omega arith }
 
   right-open : Right l (b ∷ bs) (open-bracket bs)
   unfolding lexeme saidBy
@@ -95,7 +95,7 @@ right-next p l at = right-at p l (skip (drop at l)) (drop-place-past (eqb 32) l 
 
 -- r: what `token_at` finds
 module _ (l : List ℕ) (at : ℕ) (r : Lexeme) (e : r ≡ lexemeOf l at) where
-  pub starts-at-place : r .at ≡ place l (skip (drop at l))
+  pub starts-at-place : r .at ≡ offset l (skip (drop at l))
   unfolding lexemeOf
   starts-at-place = ap (λ (x : Lexeme). x .at) e ∙ right-next isLetter l at .starts
 

@@ -8,7 +8,7 @@ use lib.ListN.{length, take, drop, length-append, length-drop, take-append-drop}
 use lib.Seq.{drop-at, take-at}
 use lib.Dec.{eqb}
 use Rattle.sort_text.specs.Tokens.{run, past, skip}
-use Rattle.sort_lexer.specs.Lexeme.{place}
+use Rattle.sort_lexer.specs.Lexeme.{offset}
 
 chosen-then-left : (q : Bool) (b : ℕ) (r s bs : List ℕ) → r ++ s ≡ bs → cond q (b ∷ r) [] ++ cond q s (b ∷ bs) ≡ b ∷ bs
 chosen-then-left true b r s bs e = ap (λ (xs : List ℕ). b ∷ xs) e
@@ -22,22 +22,22 @@ run-then-past p (b ∷ bs) = chosen-then-left (p b) b (run p bs) (past p bs) bs 
 pub length-past : (p : ℕ → Bool) (bs : List ℕ) → length (run p bs) + length (past p bs) ≡ length bs
 length-past p bs = sym (length-append (run p bs) (past p bs)) ∙ ap length (run-then-past p bs)
 
-pub place-drop : (l : List ℕ) (i : ℕ) → i ≤ length l → place l (drop i l) ≡ i
+pub place-drop : (l : List ℕ) (i : ℕ) → i ≤ length l → offset l (drop i l) ≡ i
 place-drop l i h = omega (arith, length-drop i l)
 
-pub drop-place : (l xs bs : List ℕ) → xs ++ bs ≡ l → drop (place l bs) l ≡ bs
+pub drop-place : (l xs bs : List ℕ) → xs ++ bs ≡ l → drop (offset l bs) l ≡ bs
 drop-place l xs bs e = rw (← e) (drop-at xs bs (length (xs ++ bs) - length bs) (omega (arith, length-append xs bs)))
 
-pub drop-place-past : (p : ℕ → Bool) (l : List ℕ) (i : ℕ) → drop (place l (past p (drop i l))) l ≡ past p (drop i l)
+pub drop-place-past : (p : ℕ → Bool) (l : List ℕ) (i : ℕ) → drop (offset l (past p (drop i l))) l ≡ past p (drop i l)
 drop-place-past p l i =
     drop-place l (take i l ++ run p (drop i l)) (past p (drop i l))
     (append-assoc (take i l) (run p (drop i l)) (past p (drop i l)) ∙ ap (λ (xs : List ℕ). take i l ++ xs) (run-then-past p (drop i l)) ∙ take-append-drop i l)
 
-pub place-past-after : (p : ℕ → Bool) (l : List ℕ) (i : ℕ) → i ≤ length l → i ≤ place l (past p (drop i l))
+pub place-past-after : (p : ℕ → Bool) (l : List ℕ) (i : ℕ) → i ≤ length l → i ≤ offset l (past p (drop i l))
 place-past-after p l i h = omega (arith, length-past p (drop i l), length-drop i l)
 
 -- r: the position after the run of bytes from i on
-module _ (p : ℕ → Bool) (l : List ℕ) (i r : ℕ) (e : r ≡ place l (past p (drop i l))) where
+module _ (p : ℕ → Bool) (l : List ℕ) (i r : ℕ) (e : r ≡ offset l (past p (drop i l))) where
   pub left-after-run : drop r l ≡ past p (drop i l)
   left-after-run = ap (λ (j : ℕ). drop j l) e ∙ drop-place-past p l i
 
@@ -53,7 +53,7 @@ module _ (p : ℕ → Bool) (l : List ℕ) (i r : ℕ) (e : r ≡ place l (past 
   run-stays-within = omega arith
 
 -- r: the first position from i on that has no space
-module _ (l : List ℕ) (i r : ℕ) (e : r ≡ place l (skip (drop i l))) where
+module _ (l : List ℕ) (i r : ℕ) (e : r ≡ offset l (skip (drop i l))) where
   pub left-without-spaces : drop r l ≡ skip (drop i l)
   unfolding skip
   left-without-spaces = left-after-run (eqb 32) l i r e

@@ -8,11 +8,11 @@ use native.Mathlib.Numerals.{add-one}
 use lib.ListN.{length, getD, drop, length-drop, drop-of-length-le}
 use lib.Seq.{drop-cons}
 use borrow.Author.Tests.{eq-eqb, ne-eqb}
-use Rattle.sort_text.specs.Tokens.{isLetter, Next, word, open-bracket, close-bracket, hash, arrow, bad, run, past, skip, start, dash, nextAt, next}
+use Rattle.sort_text.specs.Tokens.{isLetter, NextToken, word, open-bracket, close-bracket, hash, arrow, bad, run, past, skip, start, dash, nextAt, next}
 use Rattle.sort_lexer.specs.declared.Token.{Token}
 use Rattle.sort_lexer.specs.declared.Token.the-variants.{End, Word, Open, Close, Hash, Arrow, Bad}
 use Rattle.sort_lexer.specs.declared.Lexeme.{Lexeme}
-use Rattle.sort_lexer.specs.Lexeme.{place, lexeme, lexemeOf}
+use Rattle.sort_lexer.specs.Lexeme.{offset, lexeme, lexemeOf}
 use Rattle.sort_lexer.proofs.Places.{place-drop, left-without-spaces}
 
 -- the token that a byte starts, by the byte
@@ -46,7 +46,7 @@ abbrev found : Token → ℕ → ℕ → Lexeme
 found t i j = record { token = t; at = i; next = j }
 
 -- from: the first position from `at` on that has no space
-module _ (l : List ℕ) (at from : ℕ) (skipped : from ≡ place l (skip (drop at l))) where
+module _ (l : List ℕ) (at from : ℕ) (skipped : from ≡ offset l (skip (drop at l))) where
   without-spaces : skip (drop at l) ≡ drop from l
   without-spaces = sym (left-without-spaces l at from skipped)
 
@@ -55,20 +55,20 @@ module _ (l : List ℕ) (at from : ℕ) (skipped : from ≡ place l (skip (drop 
   no-token-left h = sym (ap (λ (bs : List ℕ). lexeme l bs (nextAt isLetter bs)) (without-spaces ∙ drop-of-length-le l h) ∙ ap (λ (i : ℕ). found End i i) (omega (arith, ap length without-spaces, length-drop from l)))
 
   module _ (h : from < length l) where
-    token-from : (n : Next) → start isLetter (getD l from 0) (drop (from + 1) l) ≡ n → lexemeOf l at ≡ lexeme l (drop from l) n
+    token-from : (n : NextToken) → start isLetter (getD l from 0) (drop (from + 1) l) ≡ n → lexemeOf l at ≡ lexeme l (drop from l) n
     unfolding lexemeOf next
     token-from n e =
         let first : skip (drop at l) ≡ getD l from 0 ∷ drop (from + 1) l = without-spaces ∙ rw (add-one, drop-cons l from 0 h) in
         ap (lexeme l (skip (drop at l))) (ap (nextAt isLetter) first ∙ e) ∙ ap (λ (bs : List ℕ). lexeme l bs n) without-spaces
 
     -- of places that are positions of the line
-    at-positions : (t : Token) (j : ℕ) → j ≤ length l → found t (place l (drop from l)) (place l (drop j l)) ≡ found t from j
-    at-positions t j k = ap (λ (i : ℕ). found t i (place l (drop j l))) (place-drop l from (omega arith)) ∙ ap (found t from) (place-drop l j k)
+    at-positions : (t : Token) (j : ℕ) → j ≤ length l → found t (offset l (drop from l)) (offset l (drop j l)) ≡ found t from j
+    at-positions t j k = ap (λ (i : ℕ). found t i (offset l (drop j l))) (place-drop l from (omega arith)) ∙ ap (found t from) (place-drop l j k)
 
     module _ (q : Bool) (e : q ≡ isLetter (getD l from 0)) where
-      pub a-word : q ≡ true → (to : ℕ) → to ≡ place l (past isLetter (drop (from + 1) l)) → found Word from to ≡ lexemeOf l at
+      pub a-word : q ≡ true → (to : ℕ) → to ≡ offset l (past isLetter (drop (from + 1) l)) → found Word from to ≡ lexemeOf l at
       unfolding lexeme
-      a-word t to f = sym (token-from _ (start-word isLetter (getD l from 0) (drop (from + 1) l) (sym e ∙ t)) ∙ ap (found Word (place l (drop from l))) (sym f) ∙ ap (λ (i : ℕ). found Word i to) (place-drop l from (omega arith)))
+      a-word t to f = sym (token-from _ (start-word isLetter (getD l from 0) (drop (from + 1) l) (sym e ∙ t)) ∙ ap (found Word (offset l (drop from l))) (sym f) ∙ ap (λ (i : ℕ). found Word i to) (place-drop l from (omega arith)))
 
       module _ (no : q ≡ false) where
         pub an-open-bracket : getD l from 0 ≡ 40 → found Open from (from + 1) ≡ lexemeOf l at

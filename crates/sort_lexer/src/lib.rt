@@ -7,7 +7,7 @@ ghost use Prim.Native.Nat.{_-_};
 ghost use lib.ListN.{take, drop};
 ghost use Rattle.sort_text.specs.Tokens.{isLetter, skip, past};
 ghost use Rattle.sort_text.specs.Parse.{sameBytes, meaning};
-ghost use Rattle.sort_lexer.specs.Lexeme.{place, lexemeOf};
+ghost use Rattle.sort_lexer.specs.Lexeme.{offset, lexemeOf};
 ghost use Rattle.sort_lexer.specs.Meant.{meant, containerMeaning};
 
 // A token of a line: a longest run of letters, `(`, `)`, `#`, `->`; any other byte starts a token that cannot follow.
@@ -53,7 +53,7 @@ fn is_letter(b: u8) -> bool
 
 // The first position from `at` on that has no space.
 pub fn skip_spaces(line: &[u8], at: usize) -> usize
-    ensures { λ r. ⌜ r ≡ place (now (line .entry)) (skip (drop at (now (line .entry)))) ⌝ }
+    ensures { λ r. ⌜ r ≡ offset (now (line .entry)) (skip (drop at (now (line .entry)))) ⌝ }
 {
     let mut i = at;
     while i < line.len() {
@@ -67,7 +67,7 @@ pub fn skip_spaces(line: &[u8], at: usize) -> usize
 
 // The end of the run of letters from `at` on.
 fn word_end(line: &[u8], at: usize) -> usize
-    ensures { λ r. ⌜ r ≡ place (now (line .entry)) (past isLetter (drop at (now (line .entry)))) ⌝ }
+    ensures { λ r. ⌜ r ≡ offset (now (line .entry)) (past isLetter (drop at (now (line .entry)))) ⌝ }
 {
     let mut i = at;
     while i < line.len() {

@@ -12,7 +12,7 @@ use Rattle.resolved_sort.specs.declared.ComplexSort.{ComplexSort}
 use Rattle.resolved_sort.specs.declared.Widening.{Widening}
 use Rattle.resolved_sort.specs.declared.Widening.the-variants.{Distance, Nothing as NoDistance}
 use Rattle.resolved_sort.specs.Tree.{primitive, flat, levelOp}
-use Rattle.resolved_sort.specs.Order.{leOp, Steps, given, map₁, map₂, sum, all, distance, distances}
+use Rattle.resolved_sort.specs.Order.{leOp, Steps, onlyIf, map₁, map₂, stoppedSum, allSteps, distance, distances}
 use Rattle.resolved_sort.specs.Storage.{entryAt, entriesOf, lookAll, argsAt}
 use Rattle.resolved_sort.specs.Entries.{treeAt, wideningOf}
 use Rattle.resolved_sort.proofs.Distance.{distance-flips, distance-of-equal}
@@ -20,41 +20,41 @@ use Rattle.resolved_sort.proofs.Pairs.{Unlike, OfPrimitives, OfContainers, OfFu
 use Rattle.resolved_sort.proofs.Unlikes.{unlike-distance}
 use Rattle.sort_order.specs.declared.Amount.{Amount}
 use Rattle.sort_order.specs.declared.Amount.the-variants.{Of, Nothing}
-use Rattle.sort_order.specs.Answers.{amountOf, opSteps, beneath, more}
+use Rattle.sort_order.specs.Answers.{amountOf, opSteps, beneath, moreSteps}
 use Rattle.sort_order.proofs.Runs.{first-arg}
 
 -- What comes before the distance of a part, and that distance: of an operator, of the arguments of a function.
-beneath-op : (b : Bool) (h m : ℕ) (d : Option Steps) → Of h ≡ amountOf (given b (some m))
-    → beneath h 0 (wideningOf d) ≡ wideningOf (given b (map₁ (λ d. record { head = m; interior = all d }) d))
+beneath-op : (b : Bool) (h m : ℕ) (d : Option Steps) → Of h ≡ amountOf (onlyIf b (some m))
+    → beneath h 0 (wideningOf d) ≡ wideningOf (onlyIf b (map₁ (λ d. record { head = m; interior = allSteps d }) d))
 unfolding beneath
 beneath-op true h m none e = refl
 beneath-op true h m (some d) e = let z : h ≡ m = cc in ap₂ Distance z (omega arith)
 beneath-op false h m d e = cc
 
-no-op : (b : Bool) (m : ℕ) (d : Option Steps) → Nothing ≡ amountOf (given b (some m)) → NoDistance ≡ wideningOf (given b (map₁ (λ d. record { head = m; interior = all d }) d))
+no-op : (b : Bool) (m : ℕ) (d : Option Steps) → Nothing ≡ amountOf (onlyIf b (some m)) → NoDistance ≡ wideningOf (onlyIf b (map₁ (λ d. record { head = m; interior = allSteps d }) d))
 no-op true m d e = cc
 no-op false m d e = refl
 
-beneath-args : (x : Option ℕ) (n : ℕ) (d : Option Steps) → Of n ≡ amountOf x → beneath 0 n (wideningOf d) ≡ wideningOf (map₂ (λ n d. record { head = 0; interior = sum n (all d) }) x d)
+beneath-args : (x : Option ℕ) (n : ℕ) (d : Option Steps) → Of n ≡ amountOf x → beneath 0 n (wideningOf d) ≡ wideningOf (map₂ (λ n d. record { head = 0; interior = stoppedSum n (allSteps d) }) x d)
 unfolding beneath
 beneath-args none n d e = cc
 beneath-args (some m) n none e = refl
-beneath-args (some m) n (some d) e = let z : n ≡ m = cc in ap (λ (i : ℕ). Distance 0 (sum i (all d))) z
+beneath-args (some m) n (some d) e = let z : n ≡ m = cc in ap (λ (i : ℕ). Distance 0 (stoppedSum i (allSteps d))) z
 
-no-args : (x : Option ℕ) (d : Option Steps) → Nothing ≡ amountOf x → NoDistance ≡ wideningOf (map₂ (λ n d. record { head = 0; interior = sum n (all d) }) x d)
+no-args : (x : Option ℕ) (d : Option Steps) → Nothing ≡ amountOf x → NoDistance ≡ wideningOf (map₂ (λ n d. record { head = 0; interior = stoppedSum n (allSteps d) }) x d)
 no-args none d e = refl
 no-args (some m) d e = cc
 
-more-args : (d : Option Steps) (h i : ℕ) (x : Option ℕ) → Distance h i ≡ wideningOf d → more (sum h i) (amountOf x) ≡ amountOf (map₂ (λ d n. sum (all d) n) d x)
-unfolding more
+more-args : (d : Option Steps) (h i : ℕ) (x : Option ℕ) → Distance h i ≡ wideningOf d → moreSteps (stoppedSum h i) (amountOf x) ≡ amountOf (map₂ (λ d n. stoppedSum (allSteps d) n) d x)
+unfolding moreSteps
 more-args none h i x e = cc
 more-args (some d) h i none e = refl
 more-args (some d) h i (some m) e =
     let y : h ≡ d .head = cc in
     let z : i ≡ d .interior = cc in
-    ap₂ (λ (j k : ℕ). Of (sum (sum j k) m)) y z
+    ap₂ (λ (j k : ℕ). Of (stoppedSum (stoppedSum j k) m)) y z
 
-no-first : (d : Option Steps) (x : Option ℕ) → NoDistance ≡ wideningOf d → Nothing ≡ amountOf (map₂ (λ d n. sum (all d) n) d x)
+no-first : (d : Option Steps) (x : Option ℕ) → NoDistance ≡ wideningOf d → Nothing ≡ amountOf (map₂ (λ d n. stoppedSum (allSteps d) n) d x)
 no-first none x e = refl
 no-first (some d) x e = cc
 
@@ -113,12 +113,12 @@ module _ (ws : List ℕ) (n : ℕ) where
     first-steps : x ≡ wideningOf (distance false (treeAt ws n (entryAt ws s)) (treeAt ws n (entryAt ws t)))
     first-steps = f ∙ (ap₂ (distanceAt ws n) q p ∙ ap wideningOf (distance-flips true (treeAt ws n (entryAt ws t)) (treeAt ws n (entryAt ws s))))
 
-    pub distances-of-more : {i j k : ℕ} {y z : Amount} → x ≡ Distance i j → k ≡ sum i j → y ≡ amountOf (distances false (argsAt ws n (s + 1) (c - 1)) (argsAt ws n (t + 1) (c - 1)))
-        → z ≡ more k y → z ≡ amountOf (distances false (argsAt ws n s c) (argsAt ws n t c))
+    pub distances-of-more : {i j k : ℕ} {y z : Amount} → x ≡ Distance i j → k ≡ stoppedSum i j → y ≡ amountOf (distances false (argsAt ws n (s + 1) (c - 1)) (argsAt ws n (t + 1) (c - 1)))
+        → z ≡ moreSteps k y → z ≡ amountOf (distances false (argsAt ws n s c) (argsAt ws n t c))
     unfolding distance
     distances-of-more {i} {j} e d g u =
         u
-        ∙ (ap₂ more d g
+        ∙ (ap₂ moreSteps d g
         ∙ (more-args (distance false (treeAt ws n (entryAt ws s)) (treeAt ws n (entryAt ws t))) i j
         (distances false (argsAt ws n (s + 1) (c - 1)) (argsAt ws n (t + 1) (c - 1))) (sym e ∙ first-steps)
         ∙ sym (ap₂ (λ ss ts. amountOf (distances false ss ts)) (first-arg ws n s c h) (first-arg ws n t c h))))

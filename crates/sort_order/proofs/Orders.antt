@@ -11,7 +11,7 @@ use Rattle.resolved_sort.specs.declared.PartialOrder.{PartialOrder}
 use Rattle.resolved_sort.specs.declared.PartialOrder.the-variants.{Unrelated, Equal, Below, Above}
 use Rattle.resolved_sort.specs.declared.Widening.{Widening}
 use Rattle.resolved_sort.specs.Tree.{primitive, flat, family, level, familyOp, levelOp}
-use Rattle.resolved_sort.specs.Order.{leOp, le, order, orderOf, given, distance}
+use Rattle.resolved_sort.specs.Order.{leOp, le, order, orderOf, onlyIf, distance}
 use Rattle.resolved_sort.specs.Entries.{wideningOf}
 use Rattle.sort_order.specs.declared.Amount.{Amount}
 use Rattle.sort_order.specs.declared.Amount.the-variants.{Of, Nothing}
@@ -66,7 +66,7 @@ orderBy x y =
     orderOf (eqb (familyBy x) (familyBy y) && leb (levelBy x) (levelBy y)) (eqb (familyBy x) (familyBy y) && leb (levelBy y) (levelBy x))
 
 abbrev pub distanceBy : Amount → Amount → Widening
-distanceBy x y = wideningOf (given (eqb (familyBy x) (familyBy y) && leb (levelBy x) (levelBy y)) (some (record { head = levelBy y - levelBy x; interior = 0 })))
+distanceBy x y = wideningOf (onlyIf (eqb (familyBy x) (familyBy y) && leb (levelBy x) (levelBy y)) (some (record { head = levelBy y - levelBy x; interior = 0 })))
 
 module _ (l r : Sort) {x y : Amount} (e : x ≡ amountOf (generality l)) (f : y ≡ amountOf (generality r)) where
   pub order-of-primitives : {o : PartialOrder} → o ≡ orderBy x y → o ≡ order (flat (primitive l)) (flat (primitive r))

@@ -10,7 +10,7 @@ use Rattle.resolved_sort.specs.declared.PartialOrder.the-variants.{Unrelated, E
 use Rattle.resolved_sort.specs.declared.Widening.{Widening}
 use Rattle.resolved_sort.specs.declared.Widening.the-variants.{Distance, Nothing as NoDistance}
 use Rattle.resolved_sort.specs.Tree.{primitive, family, level, levelOp}
-use Rattle.resolved_sort.specs.Order.{leOp, orderOf, given, sum}
+use Rattle.resolved_sort.specs.Order.{leOp, orderOf, onlyIf, stoppedSum}
 use Rattle.sort_order.specs.declared.Amount.{Amount}
 use Rattle.sort_order.specs.declared.Amount.the-variants.{Of, Nothing}
 
@@ -42,18 +42,18 @@ amountOf (some n) = Of n
 
 -- the level of a number sort, none for Bool
 unfoldable pub generality : Sort → Option ℕ
-generality s = given (eqb (family (primitive s)) 2) (some (level (primitive s)))
+generality s = onlyIf (eqb (family (primitive s)) 2) (some (level (primitive s)))
 
 -- the step from one container operator up to another
 unfoldable pub opSteps : ComplexSort → ComplexSort → Option ℕ
-opSteps o p = given (leOp true o p) (some (levelOp p - levelOp o))
+opSteps o p = onlyIf (leOp true o p) (some (levelOp p - levelOp o))
 
 -- h head steps, and beneath them n steps and those of a part
 unfoldable pub beneath : ℕ → ℕ → Widening → Widening
-beneath h n (Distance x y) = Distance h (sum n (sum x y))
+beneath h n (Distance x y) = Distance h (stoppedSum n (stoppedSum x y))
 beneath h n NoDistance = NoDistance
 
 -- the steps of a first argument and of the rest
-unfoldable pub more : ℕ → Amount → Amount
-more n (Of m) = Of (sum n m)
-more n Nothing = Nothing
+unfoldable pub moreSteps : ℕ → Amount → Amount
+moreSteps n (Of m) = Of (stoppedSum n m)
+moreSteps n Nothing = Nothing

@@ -18,13 +18,13 @@ ghost use mathlib.Core.Option.{some};
 ghost use Prim.Native.Nat.{_-_, _<_};
 ghost use lib.Dec.{leb};
 ghost use Rattle.resolved_sort.specs.Tree.{primitive, flat};
-ghost use Rattle.resolved_sort.specs.Order.{leOp, order, orderOf, given};
-ghost use Rattle.resolved_sort.specs.Order.{sum as sumOf, distance, distances, materializable};
+ghost use Rattle.resolved_sort.specs.Order.{leOp, order, orderOf, onlyIf};
+ghost use Rattle.resolved_sort.specs.Order.{stoppedSum as sumOf, distance, distances, materializable};
 ghost use Rattle.resolved_sort.specs.Storage.{entriesOf, argsAt};
 ghost use Rattle.resolved_sort.specs.Entries.{treeAt, wideningOf};
 ghost use Rattle.resolved_sort.specs.Rows.{Checked, sameWords};
 ghost use Rattle.resolved_sort.specs.Pairs.{withPrimitive, withContainer, withFunction, pairAt};
-ghost use Rattle.sort_order.specs.Answers.{isBelow, combined, amountOf, generality, opSteps, beneath, more};
+ghost use Rattle.sort_order.specs.Answers.{isBelow, combined, amountOf, generality, opSteps, beneath, moreSteps};
 ghost use Rattle.sort_order.specs.Runs.{argsOrder, Runs};
 
 // A number that may be missing: Option<u32> and Option<u8> in the Rust.
@@ -317,7 +317,7 @@ fn sum(a: u8, b: u8) -> u8
 // The steps from one generality up to another.
 fn number_distance(from: u8, to: u8) -> Widening
     ensures { λ r. ⌜
-        r ≡ wideningOf (given (leb from to) (some (record { head = to - from; interior = 0 })))
+        r ≡ wideningOf (onlyIf (leb from to) (some (record { head = to - from; interior = 0 })))
         ⌝ }
 {
     if from <= to {
@@ -380,7 +380,7 @@ fn within(head: u8, before: u8, part: Widening) -> Widening
 
 // The steps of a first argument and those of the rest.
 fn plus(first: u8, rest: Amount) -> Amount
-    ensures { λ r. ⌜ r ≡ more first rest ⌝ }
+    ensures { λ r. ⌜ r ≡ moreSteps first rest ⌝ }
 {
     match rest {
         Amount::Of(n) => Amount::Of(sum(first, n)),

@@ -8,7 +8,7 @@ use Rattle.resolved_sort.specs.declared.Joined.{Joined}
 use Rattle.resolved_sort.specs.declared.Joined.the-variants.{At, Nothing, Full}
 use Rattle.resolved_sort.specs.Storage.{sortsOf}
 use Rattle.resolved_sort.specs.Checks.{firstFailing}
-use Rattle.resolved_sort.specs.Entries.{orElse, Stored, stored}
+use Rattle.resolved_sort.specs.Entries.{refusedOr, Stored, stored}
 use Rattle.sort_text.specs.declared.Read.the-variants.{Refused}
 use Rattle.sort_text.specs.Parse.{Parsed, parsed, stuck, line}
 use Rattle.sort_text.specs.Reading.{store, readChecks, codeRead, ReadLeft, readLeft, storedBy, readAs, reading}
@@ -33,15 +33,15 @@ unfolding readAs codeRead
 line-code ws n e bs (parsed t cs) = stored-code ws n e (stored ws n e (store t (sortsOf ws n e))) _
 line-code ws n e bs (stuck cs) = refl
 
-by-check : (x : Option ℕ) (ws : List ℕ) (r : ReadLeft) → codeRead ((orElse x (λ c. readLeft ws (Refused c)) r) .answer) ≡ orElse x (λ c. c) (codeRead (r .answer))
+by-check : (x : Option ℕ) (ws : List ℕ) (r : ReadLeft) → codeRead ((refusedOr x (λ c. readLeft ws (Refused c)) r) .answer) ≡ refusedOr x (λ c. c) (codeRead (r .answer))
 unfolding codeRead
 by-check none ws r = refl
 by-check (some c) ws r = refl
 
-else-same : (x : Option ℕ) (m k : ℕ) → m ≡ k → orElse x (λ c. c) m ≡ orElse x (λ c. c) k
+else-same : (x : Option ℕ) (m k : ℕ) → m ≡ k → refusedOr x (λ c. c) m ≡ refusedOr x (λ c. c) k
 else-same x m k e = rw e
 
-pub code-of-reading : (ws : List ℕ) (n e : ℕ) (bs : List ℕ) → codeRead ((reading ws n e bs) .answer) ≡ orElse (firstFailing (readChecks ws n e bs)) (λ c. c) (lineCode ws n e (line bs))
+pub code-of-reading : (ws : List ℕ) (n e : ℕ) (bs : List ℕ) → codeRead ((reading ws n e bs) .answer) ≡ refusedOr (firstFailing (readChecks ws n e bs)) (λ c. c) (lineCode ws n e (line bs))
 unfolding reading
 code-of-reading ws n e bs =
     by-check (firstFailing (readChecks ws n e bs)) ws (readAs ws n e bs (line bs)) ∙ else-same (firstFailing (readChecks ws n e bs)) _ _ (line-code ws n e bs (line bs))

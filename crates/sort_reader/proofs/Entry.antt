@@ -17,7 +17,7 @@ use Rattle.resolved_sort.specs.Tree.{Tree, primitive, flat}
 use Rattle.resolved_sort.specs.Interning.{look, member, Outcome, made, nothing, full}
 use Rattle.resolved_sort.specs.Storage.{maxSorts, maxEntries, fullLength, entriesAt, kindAt, wordsAt, treeOf, Row, givenBack, trees, sortsOf}
 use Rattle.resolved_sort.specs.Checks.{withinLent, fixedSix, atCeiling, Check, firstFailing, sortChecks}
-use Rattle.resolved_sort.specs.Entries.{testedOf, orElse, Stored, stored}
+use Rattle.resolved_sort.specs.Entries.{testedOf, refusedOr, Stored, stored}
 use Rattle.resolved_sort.specs.Rows.{Checked, storedAt}
 use Rattle.resolved_sort.proofs.Below.{below-each}
 use Rattle.resolved_sort.proofs.Numbers.{member-look}

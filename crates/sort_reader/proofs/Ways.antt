@@ -17,7 +17,7 @@ use Rattle.resolved_sort.specs.declared.Counts.{Counts}
 use Rattle.resolved_sort.specs.declared.ComplexSort.{ComplexSort}
 use Rattle.resolved_sort.specs.declared.Joined.{Joined}
 use Rattle.resolved_sort.specs.declared.Joined.the-variants.{At, Nothing, Full}
-use Rattle.resolved_sort.specs.Tree.{Tree, container, function, Trees, end, arg}
+use Rattle.resolved_sort.specs.Tree.{Tree, container, function, Trees, no-args, arg}
 use Rattle.resolved_sort.specs.Interning.{Sorts, look, member, need, Outcome, made, nothing, full, _then_, intern}
 use Rattle.resolved_sort.specs.Storage.{maxEntries, trees, lookAll, sortsOf}
 use Rattle.resolved_sort.specs.Entries.{countsOf, after, Stored, stored}
@@ -33,7 +33,7 @@ use Rattle.resolved_sort.proofs.Reached.{Reached, reached, stopped, ended, reac
 use Rattle.resolved_sort.proofs.BoundsCode.{answer-old, answer-none, members-below}
 use Rattle.resolved_sort.proofs.Pairs.{arity-lookAll}
 use native.Mathlib.Nat.{add-zero}
-use Rattle.sort_text.specs.Postfix.{Short, sixth, opOf, over, Taken, taken, short, takeArguments, applied, mapping, stepOn, top, steps}
+use Rattle.sort_text.specs.Postfix.{Short, sixth, opOf, containing, Popped, popped, not-enough, takeArguments, applied, mapping, stepOn, top, steps}
 use Rattle.sort_text.proofs.Stores.{then-then, append, append-end}
 use Rattle.sort_text.proofs.Running.{InStack, HasSix, stack-extends, six-extends, steps-kept}
 use Rattle.sort_reader.specs.Run.{stackOf, runAt, Running, GoesOn, goOn, argumentsOf}
@@ -73,45 +73,45 @@ stack-suc : (T : List Tree) (ids : List ℕ) (d : ℕ) → stackOf T ids (suc d)
 unfolding stackOf
 stack-suc T ids d = refl
 
-none-taken : (T : List Tree) (us : Trees) (st : List Tree) → taken us st ≡ taken (append (lookAll T []) us) st
+none-taken : (T : List Tree) (us : Trees) (st : List Tree) → popped us st ≡ popped (append (lookAll T []) us) st
 unfolding lookAll append
 none-taken T us st = refl
 
-append-snoc : (ts us : Trees) (t : Tree) → append (append ts (arg t end)) us ≡ append ts (arg t us)
+append-snoc : (ts us : Trees) (t : Tree) → append (append ts (arg t no-args)) us ≡ append ts (arg t us)
 unfolding append
-append-snoc end us t = refl
+append-snoc no-args us t = refl
 append-snoc (arg s ts) us t = ap (arg s) (append-snoc ts us t)
 
-lookAll-snoc : (T : List Tree) (xs : List ℕ) (x : ℕ) → lookAll T (xs ++ (x ∷ [])) ≡ append (lookAll T xs) (arg (look T x) end)
+lookAll-snoc : (T : List Tree) (xs : List ℕ) (x : ℕ) → lookAll T (xs ++ (x ∷ [])) ≡ append (lookAll T xs) (arg (look T x) no-args)
 unfolding lookAll append
 lookAll-snoc T [] x = refl
 lookAll-snoc T (y ∷ ys) x = ap (arg (look T y)) (lookAll-snoc T ys x)
 
 takes-numbers : (T : List Tree) (ids : List ℕ) (base k : ℕ) (us : Trees) → base + k ≤ length ids
-    → takeArguments k us (stackOf T ids (base + k)) ≡ taken (append (lookAll T (take k (drop base ids))) us) (stackOf T ids base)
+    → takeArguments k us (stackOf T ids (base + k)) ≡ popped (append (lookAll T (take k (drop base ids))) us) (stackOf T ids base)
 unfolding takeArguments
-takes-numbers T ids base zero us h = ap (λ d. taken us (stackOf T ids d)) (add-zero base) ∙ none-taken T us (stackOf T ids base)
+takes-numbers T ids base zero us h = ap (λ d. popped us (stackOf T ids d)) (add-zero base) ∙ none-taken T us (stackOf T ids base)
 takes-numbers T ids base (suc k) us h =
     let l : k < length (drop base ids) = omega (arith, length-drop base ids) in
     let d : base + suc k ≡ suc (base + k) = omega arith in
     ap (λ m. takeArguments (suc k) us (stackOf T ids m)) d
     ∙ (ap (takeArguments (suc k) us) (stack-suc T ids (base + k))
     ∙ (takes-numbers T ids base k (arg (look T (getD ids (base + k) 0)) us) (omega arith)
-    ∙ ap (λ ts. taken ts (stackOf T ids base))
+    ∙ ap (λ ts. popped ts (stackOf T ids base))
     (sym (ap (λ xs. append (lookAll T xs) us) (take-suc (drop base ids) k 0 l)
     ∙ (ap (λ ts. append ts us) (lookAll-snoc T (take k (drop base ids)) (getD (drop base ids) k 0))
     ∙ (append-snoc (lookAll T (take k (drop base ids))) us (look T (getD (drop base ids) k 0))
     ∙ ap (λ x. append (lookAll T (take k (drop base ids))) (arg (look T x) us)) (getD-drop base ids k 0)))))))
 
-takes-short : (T : List Tree) (ids : List ℕ) (d k : ℕ) (us : Trees) → d < k → takeArguments k us (stackOf T ids d) ≡ short
+takes-short : (T : List Tree) (ids : List ℕ) (d k : ℕ) (us : Trees) → d < k → takeArguments k us (stackOf T ids d) ≡ not-enough
 unfolding takeArguments stackOf
 takes-short T ids d zero us h = absurd (omega arith)
 takes-short T ids zero (suc k) us h = refl
 takes-short T ids (suc d) (suc k) us h = takes-short T ids d k (arg (look T (getD ids d 0)) us) (omega arith)
 
 takes-all : (T : List Tree) (ids : List ℕ) (base k : ℕ) → base + k ≤ length ids
-    → takeArguments k end (stackOf T ids (base + k)) ≡ taken (lookAll T (take k (drop base ids))) (stackOf T ids base)
-takes-all T ids base k h = takes-numbers T ids base k end h ∙ ap (λ ts. taken ts (stackOf T ids base)) (append-end (lookAll T (take k (drop base ids))))
+    → takeArguments k no-args (stackOf T ids (base + k)) ≡ popped (lookAll T (take k (drop base ids))) (stackOf T ids base)
+takes-all T ids base k h = takes-numbers T ids base k no-args h ∙ ap (λ ts. popped ts (stackOf T ids base)) (append-end (lookAll T (take k (drop base ids))))
 
 all-below : (n : ℕ) (xs : List ℕ) → ((j : ℕ) → j < length xs → getD xs j 0 < n) → AllBelow n xs
 unfolding AllBelow
@@ -126,7 +126,7 @@ over-step : (op : ℕ) (t : Tree) (st : List Tree) (S : Sorts) → 6 ≤ op → 
 unfolding stepOn
 over-step op t st S h l = rw (le-ltb op 6 h, lt-ltb op 11 l)
 
-map-step : (op : ℕ) (r : Tree) (st : List Tree) (S : Sorts) → 11 ≤ op → stepOn op (r ∷ st) S ≡ applied r (takeArguments (op - 16) end st) S
+map-step : (op : ℕ) (r : Tree) (st : List Tree) (S : Sorts) → 11 ≤ op → stepOn op (r ∷ st) S ≡ applied r (takeArguments (op - 16) no-args st) S
 unfolding stepOn
 map-step op r st S h = rw (le-ltb op 6 (omega arith), le-ltb op 11 h)
 
@@ -360,7 +360,7 @@ module _ (ws : List ℕ) (C : Counts) (ops : List ℕ) (i : ℕ) (ids : List ℕ
           whole-is ∙ (ap (λ st. stored ws n e (stepOn op st S then (λ st S. steps later st S))) (stack-cons (depth - 1) (omega arith))
           ∙ (ap (λ O. stored ws n e (O then (λ st S. steps later st S)))
           (map-step op (look T range) (stackOf T ids (depth - 1)) S l
-          ∙ ap (λ x. applied (look T range) x S) (ap₂ (λ j m. takeArguments j end (stackOf T ids m)) (sym ek) d ∙ takes-all T ids base k (omega (arith, len, q .room))))
+          ∙ ap (λ x. applied (look T range) x S) (ap₂ (λ j m. takeArguments j no-args (stackOf T ids m)) (sym ek) d ∙ takes-all T ids base k (omega (arith, len, q .room))))
           ∙ ap (stored ws n e) (then-then (intern arrow S) (λ u S. made (u ∷ stackOf T ids base) S) (λ st S. steps later st S))))
 
       function-parts : partsIn T arrow ≡ true
@@ -386,7 +386,7 @@ module _ (ws : List ℕ) (C : Counts) (ops : List ℕ) (i : ℕ) (ids : List ℕ
         ∙ ap (λ O. stored ws n e (O then (λ st S. steps later st S)))
         (map-step op (look T (getD ids (depth - 1) 0)) (stackOf T ids (depth - 1)) S l
         ∙ ap (λ x. applied (look T (getD ids (depth - 1) 0)) x S)
-        (ap (λ j. takeArguments j end (stackOf T ids (depth - 1))) (sym ek) ∙ takes-short T ids (depth - 1) k end (omega arith)))))
+        (ap (λ j. takeArguments j no-args (stackOf T ids (depth - 1))) (sym ek) ∙ takes-short T ids (depth - 1) k no-args (omega arith)))))
 
 -- copying the numbers of a stack
 pub copied-none : (xs ys : List ℕ) → take 0 xs ≡ take 0 ys

@@ -9,10 +9,10 @@ use lib.ListN.{length, drop, take, set, length-take, length-drop, drop-of-length
 use lib.Seq.{take-suc-set}
 use Rattle.resolved_sort.specs.declared.Sort.{Sort}
 use Rattle.resolved_sort.specs.declared.ComplexSort.{ComplexSort}
-use Rattle.resolved_sort.specs.Tree.{primitive, Tree, flat, container, function, Trees, end as no-args, arg, arity}
+use Rattle.resolved_sort.specs.Tree.{primitive, Tree, flat, container, function, Trees, no-args, arg, arity}
 use Rattle.resolved_sort.specs.Storage.{kindFlat, kindOp}
-use Rattle.sort_text.specs.Tokens.{isLetter, Next, word, open-bracket, close-bracket, hash, arrow, skip, next, end, bad}
-use Rattle.sort_text.specs.Parse.{Parsed, parsed, stuck, _then_, Meaning, basic, over, unknown, meaning, closing, bracketed, operandOf, operandAt, operand, snoc, alone, restAt, rest, sort, ending, line}
+use Rattle.sort_text.specs.Tokens.{isLetter, NextToken, word, open-bracket, close-bracket, hash, arrow, skip, next, end, bad}
+use Rattle.sort_text.specs.Parse.{Parsed, parsed, stuck, _then-read_, WordMeaning, basic, operator, unknown, meaning, closing, bracketed, operandOf, operandAt, operand, snoc, alone, restAt, rest, sort, ending, line}
 use Rattle.sort_text.specs.Postfix.{postfix, postfixes}
 use Rattle.sort_text.proofs.Depth.{sort-is}
 use Rattle.sort_text.proofs.Grammar.{arity-snoc}
@@ -90,15 +90,15 @@ ending-other l t at Arrow i j z = refl
 ending-other l t at Bad i j z = refl
 
 -- the reader's meaning of a word, back from the code's
-abbrev unmeant : Meant → Meaning
+abbrev unmeant : Meant → WordMeaning
 unmeant (Basic s) = basic s
-unmeant (Over o) = over o
+unmeant (Over o) = operator o
 unmeant Unknown = unknown
 
-unmeant-meant : (m : Meaning) → unmeant (meant m) ≡ m
+unmeant-meant : (m : WordMeaning) → unmeant (meant m) ≡ m
 unfolding meant
 unmeant-meant (basic s) = refl
-unmeant-meant (over o) = refl
+unmeant-meant (operator o) = refl
 unmeant-meant unknown = refl
 
 -- the operands alone
@@ -115,7 +115,7 @@ alone-many (arg t no-args) at bs z = absurd (z refl)
 alone-many (arg t (arg u us)) at bs z = refl
 
 -- the rest, by its token
-rest-at-arrow : (k : ℕ) (ts : Trees) (bs cs : List ℕ) → next isLetter bs ≡ arrow cs → rest sort k ts bs ≡ (sort cs then (λ r ds. parsed (function ts r) ds))
+rest-at-arrow : (k : ℕ) (ts : Trees) (bs cs : List ℕ) → next isLetter bs ≡ arrow cs → rest sort k ts bs ≡ (sort cs then-read (λ r ds. parsed (function ts r) ds))
 unfolding rest restAt
 rest-at-arrow zero ts bs cs e = rw e
 rest-at-arrow (suc k) ts bs cs e = rw e
@@ -125,14 +125,14 @@ unfolding rest restAt
 rest-at-last zero ts bs cs f e = rw e
 rest-at-last (suc k) ts bs cs f e = absurd (omega (arith, f))
 
-rest-at-hash : (k j : ℕ) (ts : Trees) (bs cs : List ℕ) → k ≡ suc j → next isLetter bs ≡ hash cs → rest sort k ts bs ≡ (operand sort cs then (λ t ds. rest sort j (snoc ts t) ds))
+rest-at-hash : (k j : ℕ) (ts : Trees) (bs cs : List ℕ) → k ≡ suc j → next isLetter bs ≡ hash cs → rest sort k ts bs ≡ (operand sort cs then-read (λ t ds. rest sort j (snoc ts t) ds))
 unfolding rest restAt
 rest-at-hash k j ts bs cs f e = rw (f, e)
 
 rest-at-other : (l : List ℕ) (k : ℕ) (ts : Trees) (bs : List ℕ) (w : Token) (i j : ℕ) → next isLetter bs ≡ saidBy l w i j → (w ≡ Hash → ⊥) → (w ≡ Arrow → ⊥) → rest sort k ts bs ≡ alone ts (skip bs) bs
 unfolding rest
 rest-at-other l zero ts bs w i j e y z = ap (restAt sort ts (skip bs) bs (λ cs. stuck (skip bs))) e ∙ rest-other l ts (skip bs) bs _ w i j y z
-rest-at-other l (suc k) ts bs w i j e y z = ap (restAt sort ts (skip bs) bs (λ cs. operand sort cs then (λ t ds. rest sort k (snoc ts t) ds))) e ∙ rest-other l ts (skip bs) bs _ w i j y z
+rest-at-other l (suc k) ts bs w i j e y z = ap (restAt sort ts (skip bs) bs (λ cs. operand sort cs then-read (λ t ds. rest sort k (snoc ts t) ds))) e ∙ rest-other l ts (skip bs) bs _ w i j y z
 
 module _ (l : List ℕ) where
   said-stuck : (lo room : ℕ) (front out : List ℕ) (P : Parsed) (p : ℕ) (cs : List ℕ) → P ≡ stuck cs → p ≤ length l → drop p l ≡ cs → Says l lo room front P out (Stuck p)
@@ -159,13 +159,13 @@ module _ (l : List ℕ) where
   did lo room front P out q p m s e = did-at lo room front P out p m (subst (Says l lo room front P out) e s)
 
   stuck-at : (lo room : ℕ) (front : List ℕ) (P : Parsed) (out : List ℕ) (p : ℕ) (K : Tree → List ℕ → Parsed) (lo′ room′ : ℕ) (front′ out′ : List ℕ)
-      → Says l lo room front P out (Stuck p) → Says l lo′ room′ front′ (P then K) out′ (Stuck p)
+      → Says l lo room front P out (Stuck p) → Says l lo′ room′ front′ (P then-read K) out′ (Stuck p)
   unfolding Says
   stuck-at lo room front (parsed t cs) out p K lo′ room′ front′ out′ s = absurd s
   stuck-at lo room front (stuck cs) out p K lo′ room′ front′ out′ s = s
 
   stuck-then : (lo room : ℕ) (front : List ℕ) (P : Parsed) (out : List ℕ) (q : Recognised) (p : ℕ) (K : Tree → List ℕ → Parsed) (lo′ room′ : ℕ) (front′ out′ : List ℕ)
-      → Says l lo room front P out q → q ≡ Stuck p → Says l lo′ room′ front′ (P then K) out′ (Stuck p)
+      → Says l lo room front P out q → q ≡ Stuck p → Says l lo′ room′ front′ (P then-read K) out′ (Stuck p)
   stuck-then lo room front P out q p K lo′ room′ front′ out′ s e = stuck-at lo room front P out p K lo′ room′ front′ out′ (subst (Says l lo room front P out) e s)
 
   wider : (lo lo′ room room′ : ℕ) (front : List ℕ) (P : Parsed) (out : List ℕ) (q : Recognised) → lo′ ≤ lo → room ≤ room′ → Says l lo room front P out q → Says l lo′ room′ front P out q
@@ -223,7 +223,7 @@ module _ (l : List ℕ) where
 
     module _ (f : r .token ≡ Open) (op : ComplexSort) (out : List ℕ) (q : Recognised)
         (s : Says l (r .next + 1) (n + (length l - r .next)) (take n old) (sort (drop (r .next) l)) out q) where
-      bracketed-is : bracketed sort op (skip (drop at l)) (next isLetter (drop at l)) ≡ (sort (drop (r .next) l) then (λ t cs. closing op t (skip cs) (next isLetter cs)))
+      bracketed-is : bracketed sort op (skip (drop at l)) (next isLetter (drop at l)) ≡ (sort (drop (r .next) l) then-read (λ t cs. closing op t (skip cs) (next isLetter cs)))
       unfolding bracketed
       bracketed-is = ap (bracketed sort op (skip (drop at l))) (next-is-open l at r e f)
 
@@ -302,7 +302,7 @@ module _ (l : List ℕ) where
     -- `#` and another operand
     module _ (f : r .token ≡ Hash) (k : ℕ) (z : k ≡ 16 → ⊥) (few : k ≤ 16) (out : List ℕ) (q : Recognised)
         (s : Says l (r .next + 1) (n + (length l - r .next)) (take n old) (operand sort (drop (r .next) l)) out q) where
-      hash-is : (ts : Trees) → rest sort (16 - k) ts (drop at l) ≡ (operand sort (drop (r .next) l) then (λ t ds. rest sort (16 - (k + 1)) (snoc ts t) ds))
+      hash-is : (ts : Trees) → rest sort (16 - k) ts (drop at l) ≡ (operand sort (drop (r .next) l) then-read (λ t ds. rest sort (16 - (k + 1)) (snoc ts t) ds))
       hash-is ts = rest-at-hash (16 - k) (16 - (k + 1)) ts (drop at l) (drop (r .next) l) (omega arith) (next-is-hash l at r e f)
 
       pub rest-passes : (p : ℕ) → q ≡ Stuck p → SaysRest l at old n k out (Stuck p)
@@ -323,7 +323,7 @@ module _ (l : List ℕ) where
     -- `->` and the range
     module _ (f : r .token ≡ Arrow) (k : ℕ) (out : List ℕ) (same : length out ≡ length old) (q : Recognised)
         (s : Says l (r .next + 1) (n + (length l - r .next)) (take n old) (sort (drop (r .next) l)) out q) where
-      arrow-is : (ts : Trees) → rest sort (16 - k) ts (drop at l) ≡ (sort (drop (r .next) l) then (λ t ds. parsed (function ts t) ds))
+      arrow-is : (ts : Trees) → rest sort (16 - k) ts (drop at l) ≡ (sort (drop (r .next) l) then-read (λ t ds. parsed (function ts t) ds))
       arrow-is ts = rest-at-arrow (16 - k) ts (drop at l) (drop (r .next) l) (next-is-arrow l at r e f)
 
       pub range-passes : (p : ℕ) → q ≡ Stuck p → SaysRest l at old n k out (Stuck p)
@@ -340,7 +340,7 @@ module _ (l : List ℕ) where
       range-done p m v i ev front ts w a =
           let d = did (r .next + 1) (n + (length l - r .next)) (take n old) (sort (drop (r .next) l)) out q p m s i in
           let g : at + 2 ≤ r .next = goes-at-least-from l at r e Arrow f h in
-          said-done at room front (set out m v) _ p (m + 1) (function ts (d .sort-read)) (d .left) (arrow-is ts ∙ ap (λ x. x then (λ t ds. parsed (function ts t) ds)) (d .is))
+          said-done at room front (set out m v) _ p (m + 1) (function ts (d .sort-read)) (d .left) (arrow-is ts ∙ ap (λ x. x then-read (λ t ds. parsed (function ts t) ds)) (d .is))
           record {
             further = omega (arith, d .wrote .further);
             within = d .wrote .within;
@@ -379,7 +379,7 @@ module _ (l : List ℕ) where
 
       line-is : line l ≡ ending (d .sort-read) (skip (drop p l)) (next isLetter (drop p l))
       unfolding line
-      line-is = ap (λ x. x then (λ t cs. ending t (skip cs) (next isLetter cs))) (d .is) ∙ ap (λ cs. ending (d .sort-read) (skip cs) (next isLetter cs)) (sym (d .wrote .goes-on))
+      line-is = ap (λ x. x then-read (λ t cs. ending t (skip cs) (next isLetter cs))) (d .is) ∙ ap (λ cs. ending (d .sort-read) (skip cs) (next isLetter cs)) (sym (d .wrote .goes-on))
 
       pub line-done : r .token ≡ End → Says l 0 (length l) [] (line l) out (Done (length l) m)
       unfolding ending

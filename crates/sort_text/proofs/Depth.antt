@@ -6,14 +6,14 @@ use Prim.Native.Nat.{ℕ, zero, suc, _≤_, _<_}
 use native.Mathlib.Omega.{arith}
 use lib.ListN.{length}
 use Rattle.resolved_sort.specs.declared.ComplexSort.{ComplexSort}
-use Rattle.resolved_sort.specs.Tree.{Tree, function, Trees, end as no-args, arg}
-use Rattle.sort_text.specs.Tokens.{isLetter, Next, end, word, open-bracket, close-bracket, hash, arrow, bad, skip, next}
-use Rattle.sort_text.specs.Parse.{Parsed, parsed, stuck, _then_, Meaning, basic, over, unknown, meaning, closing, bracketed, operandOf, operandAt, operand, snoc, restAt, rest, sortTo, sort}
+use Rattle.resolved_sort.specs.Tree.{Tree, function, Trees, no-args, arg}
+use Rattle.sort_text.specs.Tokens.{isLetter, NextToken, end, word, open-bracket, close-bracket, hash, arrow, bad, skip, next}
+use Rattle.sort_text.specs.Parse.{Parsed, parsed, stuck, _then-read_, WordMeaning, basic, operator, unknown, meaning, closing, bracketed, operandOf, operandAt, operand, snoc, restAt, rest, sortTo, sort}
 use Rattle.sort_text.proofs.Suffix.{suffix-length, left, Leaves, operand-suffix, sortTo-suffix}
 use Rattle.sort_text.proofs.Progress.{word-takes, open-bracket-takes, hash-takes, arrow-takes}
 
 -- two ways to go on that agree on what is left
-pub then-same : (p : Parsed) (k l : Tree → List ℕ → Parsed) (n : ℕ) → length (left p) ≤ n → ((t : Tree) (cs : List ℕ) → length cs ≤ n → k t cs ≡ l t cs) → (p then k) ≡ (p then l)
+pub then-same : (p : Parsed) (k l : Tree → List ℕ → Parsed) (n : ℕ) → length (left p) ≤ n → ((t : Tree) (cs : List ℕ) → length cs ≤ n → k t cs ≡ l t cs) → (p then-read k) ≡ (p then-read l)
 then-same (parsed t cs) k l n h e = e t cs h
 then-same (stuck cs) k l n h e = refl
 
@@ -22,10 +22,10 @@ abbrev pub Agree : ℕ → (List ℕ → Parsed) → (List ℕ → Parsed) → T
 Agree n f g = (cs : List ℕ) → length cs < n → f cs ≡ g cs
 
 module _ (f g : List ℕ → Parsed) (n : ℕ) (a : Agree n f g) where
-  bracketed-same : (o : ComplexSort) (at bs : List ℕ) (m : Next) → next isLetter bs ≡ m → length bs ≤ n → bracketed f o at m ≡ bracketed g o at m
+  bracketed-same : (o : ComplexSort) (at bs : List ℕ) (m : NextToken) → next isLetter bs ≡ m → length bs ≤ n → bracketed f o at m ≡ bracketed g o at m
   unfolding bracketed
   bracketed-same o at bs (open-bracket cs) e h =
-      ap (λ p. p then (λ t ds. closing o t (skip ds) (next isLetter ds))) (a cs (omega (arith, open-bracket-takes isLetter bs cs e)))
+      ap (λ p. p then-read (λ t ds. closing o t (skip ds) (next isLetter ds))) (a cs (omega (arith, open-bracket-takes isLetter bs cs e)))
   bracketed-same o at bs end e h = refl
   bracketed-same o at bs (word w cs) e h = refl
   bracketed-same o at bs (close-bracket cs) e h = refl
@@ -33,13 +33,13 @@ module _ (f g : List ℕ → Parsed) (n : ℕ) (a : Agree n f g) where
   bracketed-same o at bs (arrow cs) e h = refl
   bracketed-same o at bs bad e h = refl
 
-  operandOf-same : (at cs : List ℕ) (m : Meaning) → length cs ≤ n → operandOf f at m cs ≡ operandOf g at m cs
+  operandOf-same : (at cs : List ℕ) (m : WordMeaning) → length cs ≤ n → operandOf f at m cs ≡ operandOf g at m cs
   unfolding operandOf
   operandOf-same at cs (basic s) h = refl
-  operandOf-same at cs (over o) h = bracketed-same o (skip cs) cs (next isLetter cs) refl h
+  operandOf-same at cs (operator o) h = bracketed-same o (skip cs) cs (next isLetter cs) refl h
   operandOf-same at cs unknown h = refl
 
-  operandAt-same : (at bs : List ℕ) (m : Next) → next isLetter bs ≡ m → length bs ≤ n → operandAt f at m ≡ operandAt g at m
+  operandAt-same : (at bs : List ℕ) (m : NextToken) → next isLetter bs ≡ m → length bs ≤ n → operandAt f at m ≡ operandAt g at m
   unfolding operandAt
   operandAt-same at bs (word w cs) e h = operandOf-same at cs (meaning w) (omega (arith, word-takes isLetter bs w cs e .0))
   operandAt-same at bs end e h = refl
@@ -54,11 +54,11 @@ module _ (f g : List ℕ → Parsed) (n : ℕ) (a : Agree n f g) where
   unfolding operand
   operand-same bs h = operandAt-same (skip bs) bs (next isLetter bs) refl h
 
-  restAt-same : (ts : Trees) (at bs : List ℕ) (k l : List ℕ → Parsed) (m : Next) → next isLetter bs ≡ m → length bs ≤ n
+  restAt-same : (ts : Trees) (at bs : List ℕ) (k l : List ℕ → Parsed) (m : NextToken) → next isLetter bs ≡ m → length bs ≤ n
       → ((cs : List ℕ) → length cs ≤ n → k cs ≡ l cs) → restAt f ts at bs k m ≡ restAt g ts at bs l m
   unfolding restAt
   restAt-same ts at bs k l (hash cs) e h i = i cs (omega (arith, hash-takes isLetter bs cs e))
-  restAt-same ts at bs k l (arrow cs) e h i = ap (λ p. p then (λ r ds. parsed (function ts r) ds)) (a cs (omega (arith, arrow-takes isLetter bs cs e)))
+  restAt-same ts at bs k l (arrow cs) e h i = ap (λ p. p then-read (λ r ds. parsed (function ts r) ds)) (a cs (omega (arith, arrow-takes isLetter bs cs e)))
   restAt-same ts at bs k l end e h i = refl
   restAt-same ts at bs k l (word w cs) e h i = refl
   restAt-same ts at bs k l (open-bracket cs) e h i = refl
@@ -72,13 +72,13 @@ module _ (f g : List ℕ → Parsed) (n : ℕ) (a : Agree n f g) where
     rest-same (suc k) ts bs h =
         restAt-same ts (skip bs) bs _ _ (next isLetter bs) refl h
         (λ cs i. then-same (operand f cs) _ _ n (omega (arith, suffix-length (left (operand f cs)) cs (operand-suffix f c cs))) (λ t ds j. rest-same k (snoc ts t) ds j)
-        ∙ ap (λ p. p then (λ t ds. rest g k (snoc ts t) ds)) (operand-same cs i))
+        ∙ ap (λ p. p then-read (λ t ds. rest g k (snoc ts t) ds)) (operand-same cs i))
 
     -- So does a sort.
-    pub step-same : (bs : List ℕ) → length bs ≤ n → (operand f bs then (λ t cs. rest f 15 (arg t no-args) cs)) ≡ (operand g bs then (λ t cs. rest g 15 (arg t no-args) cs))
+    pub step-same : (bs : List ℕ) → length bs ≤ n → (operand f bs then-read (λ t cs. rest f 15 (arg t no-args) cs)) ≡ (operand g bs then-read (λ t cs. rest g 15 (arg t no-args) cs))
     step-same bs h =
         then-same (operand f bs) _ _ n (omega (arith, suffix-length (left (operand f bs)) bs (operand-suffix f c bs))) (λ t ds j. rest-same 15 (arg t no-args) ds j)
-        ∙ ap (λ p. p then (λ t cs. rest g 15 (arg t no-args) cs)) (operand-same bs h)
+        ∙ ap (λ p. p then-read (λ t cs. rest g 15 (arg t no-args) cs)) (operand-same bs h)
 
 -- Any depth above the length of the line reads the same.
 pub depth-enough : (d e : ℕ) (bs : List ℕ) → length bs < d → length bs < e → sortTo d bs ≡ sortTo e bs
@@ -92,10 +92,10 @@ pub sortTo-is-sort : (d : ℕ) (bs : List ℕ) → length bs < d → sortTo d bs
 unfolding sort
 sortTo-is-sort d bs h = depth-enough d (suc (length bs)) bs h (omega arith)
 
-sort-at : (bs : List ℕ) → sort bs ≡ (operand (sortTo (length bs)) bs then (λ t cs. rest (sortTo (length bs)) 15 (arg t no-args) cs))
+sort-at : (bs : List ℕ) → sort bs ≡ (operand (sortTo (length bs)) bs then-read (λ t cs. rest (sortTo (length bs)) 15 (arg t no-args) cs))
 unfolding sort sortTo
 sort-at bs = refl
 
 -- `sort` by itself: an operand, and what may follow it, with `sort` for the sorts within.
-pub sort-is : (bs : List ℕ) → sort bs ≡ (operand sort bs then (λ t cs. rest sort 15 (arg t no-args) cs))
+pub sort-is : (bs : List ℕ) → sort bs ≡ (operand sort bs then-read (λ t cs. rest sort 15 (arg t no-args) cs))
 sort-is bs = sort-at bs ∙ step-same (sortTo (length bs)) sort (length bs) (λ cs h. sortTo-is-sort (length bs) cs h) (sortTo-suffix (length bs)) bs (omega arith)

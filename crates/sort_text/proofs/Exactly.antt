@@ -5,14 +5,14 @@ use mathlib.Core.Logic.{_↔_}
 use mathlib.Core.List.{List, []}
 use Prim.Native.Nat.{ℕ, zero, suc, _+_, _-_, _≤_}
 use native.Mathlib.Omega.{arith}
-use Rattle.resolved_sort.specs.Tree.{Tree, function, Trees, end as no-args, arg, arity}
-use Rattle.sort_text.specs.Tokens.{isLetter, Next, end, word, open-bracket, close-bracket, hash, arrow, bad, skip, next}
-use Rattle.sort_text.specs.Parse.{Parsed, parsed, _then_, closing, bracketed, operandOf, operandAt, operand, snoc, alone, restAt, rest, sort, ending, line}
+use Rattle.resolved_sort.specs.Tree.{Tree, function, Trees, no-args, arg, arity}
+use Rattle.sort_text.specs.Tokens.{isLetter, NextToken, end, word, open-bracket, close-bracket, hash, arrow, bad, skip, next}
+use Rattle.sort_text.specs.Parse.{Parsed, parsed, _then-read_, closing, bracketed, operandOf, operandAt, operand, snoc, alone, restAt, rest, sort, ending, line}
 use Rattle.sort_text.proofs.Depth.{sort-is}
 use Rattle.sort_text.proofs.Grammar.{Operand, basic-sort, container-of, SortOf, one-operand, function-of, Operands, first, another, arity-snoc, LineOf, line-derived}
 
 -- the tokens after which a sort is not continued
-abbrev pub Stops : Next → Type 0
+abbrev pub Stops : NextToken → Type 0
 Stops end = Unit {0}
 Stops (word w bs) = Unit {0}
 Stops (open-bracket bs) = Unit {0}
@@ -22,7 +22,7 @@ Stops (arrow bs) = ⊥
 Stops bad = Unit {0}
 
 -- how what follows an operand goes on, by the token
-stops-at : (t : Tree) (at bs : List ℕ) (m : List ℕ → Parsed) (n : Next) → Stops n → restAt sort (arg t no-args) at bs m n ≡ parsed t bs
+stops-at : (t : Tree) (at bs : List ℕ) (m : List ℕ → Parsed) (n : NextToken) → Stops n → restAt sort (arg t no-args) at bs m n ≡ parsed t bs
 unfolding restAt alone
 stops-at t at bs m end h = refl
 stops-at t at bs m (word w cs) h = refl
@@ -37,17 +37,17 @@ unfolding rest
 rest-stops zero t bs h = stops-at t (skip bs) bs _ (next isLetter bs) h
 rest-stops (suc k) t bs h = stops-at t (skip bs) bs _ (next isLetter bs) h
 
-rest-arrow : (k : ℕ) (ts : Trees) (bs cs : List ℕ) → next isLetter bs ≡ arrow cs → rest sort k ts bs ≡ (sort cs then (λ r ds. parsed (function ts r) ds))
+rest-arrow : (k : ℕ) (ts : Trees) (bs cs : List ℕ) → next isLetter bs ≡ arrow cs → rest sort k ts bs ≡ (sort cs then-read (λ r ds. parsed (function ts r) ds))
 unfolding rest restAt
 rest-arrow zero ts bs cs e = ap (restAt sort ts (skip bs) bs _) e
 rest-arrow (suc k) ts bs cs e = ap (restAt sort ts (skip bs) bs _) e
 
-rest-hash : (k : ℕ) (ts : Trees) (bs cs : List ℕ) → next isLetter bs ≡ hash cs → rest sort (suc k) ts bs ≡ (operand sort cs then (λ t ds. rest sort k (snoc ts t) ds))
+rest-hash : (k : ℕ) (ts : Trees) (bs cs : List ℕ) → next isLetter bs ≡ hash cs → rest sort (suc k) ts bs ≡ (operand sort cs then-read (λ t ds. rest sort k (snoc ts t) ds))
 unfolding rest restAt
 rest-hash k ts bs cs e = ap (restAt sort ts (skip bs) bs _) e
 
 abbrev step : List ℕ → Parsed
-step bs = operand sort bs then (λ t cs. rest sort 15 (arg t no-args) cs)
+step bs = operand sort bs then-read (λ t cs. rest sort 15 (arg t no-args) cs)
 
 one-fits : (t : Tree) (k : ℕ) → arity (arg t no-args) + k ≡ 16 → 15 ≡ k
 unfolding arity
@@ -65,26 +65,26 @@ mutual
       ap (operandAt sort (skip bs)) e
       ∙ (ap (λ n. operandOf sort (skip bs) n cs) m
       ∙ (ap (bracketed sort o (skip cs)) b
-      ∙ (ap (λ p. p then (λ u gs. closing o u (skip gs) (next isLetter gs))) (sort-is-read h (subst Stops (sym c) tt)) ∙ ap (closing o t (skip es)) c)))
+      ∙ (ap (λ p. p then-read (λ u gs. closing o u (skip gs) (next isLetter gs))) (sort-is-read h (subst Stops (sym c) tt)) ∙ ap (closing o t (skip es)) c)))
 
   sort-is-read : {bs cs : List ℕ} {t : Tree} → SortOf bs t cs → Stops (next isLetter cs) → sort bs ≡ parsed t cs
   sort-is-read {bs} {cs} {t} (one-operand h) s =
-      sort-is bs ∙ (ap (λ p. p then (λ u gs. rest sort 15 (arg u no-args) gs)) (operand-is-read h) ∙ rest-stops 15 t cs s)
+      sort-is bs ∙ (ap (λ p. p then-read (λ u gs. rest sort 15 (arg u no-args) gs)) (operand-is-read h) ∙ rest-stops 15 t cs s)
   sort-is-read (function-of {bs} {cs} {ds} {es} {ts} {r} h l e k) s =
       let (j, q) = room ts l in
-      sort-is bs ∙ (operands-are-read h j q ∙ (rest-arrow j ts cs ds e ∙ ap (λ p. p then (λ u gs. parsed (function ts u) gs)) (sort-is-read k s)))
+      sort-is bs ∙ (operands-are-read h j q ∙ (rest-arrow j ts cs ds e ∙ ap (λ p. p then-read (λ u gs. parsed (function ts u) gs)) (sort-is-read k s)))
 
   operands-are-read : {bs cs : List ℕ} {ts : Trees} → Operands bs ts cs → (k : ℕ) → arity ts + k ≡ 16 → step bs ≡ rest sort k ts cs
   operands-are-read {cs = cs} (first {t = t} h) k q =
-      ap (λ p. p then (λ u gs. rest sort 15 (arg u no-args) gs)) (operand-is-read h) ∙ ap (λ j. rest sort j (arg t no-args) cs) (one-fits t k q)
+      ap (λ p. p then-read (λ u gs. rest sort 15 (arg u no-args) gs)) (operand-is-read h) ∙ ap (λ j. rest sort j (arg t no-args) cs) (one-fits t k q)
   operands-are-read {cs = es} (another {cs = cs} {ds = ds} {ts = ts} {us = us} {t = t} h e o i) k q =
       operands-are-read h (suc k) (omega (arith, arity-snoc ts t, ap arity i))
-      ∙ (rest-hash k ts cs ds e ∙ (ap (λ p. p then (λ u gs. rest sort k (snoc ts u) gs)) (operand-is-read o) ∙ ap (λ vs. rest sort k vs es) (sym i)))
+      ∙ (rest-hash k ts cs ds e ∙ (ap (λ p. p then-read (λ u gs. rest sort k (snoc ts u) gs)) (operand-is-read o) ∙ ap (λ vs. rest sort k vs es) (sym i)))
 
 line-is-read : (bs cs : List ℕ) (t : Tree) → LineOf bs t cs → line bs ≡ parsed t []
 unfolding line ending
 line-is-read bs cs t h =
-    ap (λ p. p then (λ u gs. ending u (skip gs) (next isLetter gs))) (sort-is-read (h .1) (subst Stops (sym (h .2)) tt)) ∙ ap (ending t (skip (h .0))) (h .2)
+    ap (λ p. p then-read (λ u gs. ending u (skip gs) (next isLetter gs))) (sort-is-read (h .1) (subst Stops (sym (h .2)) tt)) ∙ ap (ending t (skip (h .0))) (h .2)
 
 -- A line is read as a tree exactly where the grammar derives that tree from it.
 pub line-exactly : (bs : List ℕ) (t : Tree) → (line bs ≡ parsed t []) ↔ LineOf bs t []

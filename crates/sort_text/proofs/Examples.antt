@@ -4,7 +4,7 @@ use mathlib.Core.Path.{_≡_, refl}
 use mathlib.Core.List.{[], _∷_, map}
 use Rattle.resolved_sort.specs.declared.Sort.{Sort}
 use Rattle.resolved_sort.specs.declared.ComplexSort.{ComplexSort}
-use Rattle.resolved_sort.specs.Tree.{primitive, Tree, flat, container, function, end as no-args, arg}
+use Rattle.resolved_sort.specs.Tree.{primitive, Tree, flat, container, function, no-args, arg}
 use Rattle.resolved_sort.specs.Tree
 use Rattle.resolved_sort.specs.Order
 use Rattle.sort_text.specs.Tokens

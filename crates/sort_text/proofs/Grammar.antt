@@ -6,16 +6,16 @@ use Prim.Native.Nat.{ℕ, zero, suc, _+_, _≤_}
 use native.Mathlib.Omega.{arith}
 use Rattle.resolved_sort.specs.declared.Sort.{Sort}
 use Rattle.resolved_sort.specs.declared.ComplexSort.{ComplexSort}
-use Rattle.resolved_sort.specs.Tree.{primitive, Tree, flat, container, function, Trees, end as no-args, arg, arity}
-use Rattle.sort_text.specs.Tokens.{isLetter, Next, end, word, open-bracket, close-bracket, hash, arrow, bad, skip, next}
-use Rattle.sort_text.specs.Parse.{Parsed, parsed, _then_, Meaning, basic, over, unknown, meaning, closing, bracketed, operandOf, operandAt, operand, snoc, alone, restAt, rest, sortTo, sort, ending, line}
+use Rattle.resolved_sort.specs.Tree.{primitive, Tree, flat, container, function, Trees, no-args, arg, arity}
+use Rattle.sort_text.specs.Tokens.{isLetter, NextToken, end, word, open-bracket, close-bracket, hash, arrow, bad, skip, next}
+use Rattle.sort_text.specs.Parse.{Parsed, parsed, _then-read_, WordMeaning, basic, operator, unknown, meaning, closing, bracketed, operandOf, operandAt, operand, snoc, alone, restAt, rest, sortTo, sort, ending, line}
 use Rattle.sort_text.proofs.Progress.{IfRead, then-if-read, read}
 
 -- the sort, operand or operands that the bytes begin with, and the bytes after it
 mutual
   pub data Operand : List ℕ → Tree → List ℕ → Type 0 where
     basic-sort : {bs w cs : List ℕ} {s : Sort} → next isLetter bs ≡ word w cs → meaning w ≡ basic s → Operand bs (flat (primitive s)) cs
-    container-of : {bs w cs ds es fs : List ℕ} {o : ComplexSort} {t : Tree} → next isLetter bs ≡ word w cs → meaning w ≡ over o
+    container-of : {bs w cs ds es fs : List ℕ} {o : ComplexSort} {t : Tree} → next isLetter bs ≡ word w cs → meaning w ≡ operator o
         → next isLetter cs ≡ open-bracket ds → SortOf ds t es → next isLetter es ≡ close-bracket fs → Operand bs (container o t) fs
 
   pub data SortOf : List ℕ → Tree → List ℕ → Type 0 where
@@ -52,8 +52,8 @@ unfolding arity snoc
 arity-snoc no-args t = refl
 arity-snoc (arg s ts) t = rw (arity-snoc ts t)
 
-closing-read : (bs : List ℕ) {w cs ds es : List ℕ} {o : ComplexSort} {t : Tree} → next isLetter bs ≡ word w cs → meaning w ≡ over o → next isLetter cs ≡ open-bracket ds → SortOf ds t es
-    → (at : List ℕ) (n : Next) → next isLetter es ≡ n → IfRead (Operand bs) (closing o t at n)
+closing-read : (bs : List ℕ) {w cs ds es : List ℕ} {o : ComplexSort} {t : Tree} → next isLetter bs ≡ word w cs → meaning w ≡ operator o → next isLetter cs ≡ open-bracket ds → SortOf ds t es
+    → (at : List ℕ) (n : NextToken) → next isLetter es ≡ n → IfRead (Operand bs) (closing o t at n)
 unfolding closing
 closing-read bs a b c d at (close-bracket fs) e = container-of a b c d e
 closing-read bs a b c d at end e = tt
@@ -64,8 +64,8 @@ closing-read bs a b c d at (arrow fs) e = tt
 closing-read bs a b c d at bad e = tt
 
 module _ (f : List ℕ → Parsed) (g : Reads f) where
-  bracketed-read : (bs : List ℕ) {w cs : List ℕ} {o : ComplexSort} → next isLetter bs ≡ word w cs → meaning w ≡ over o
-      → (at : List ℕ) (n : Next) → next isLetter cs ≡ n → IfRead (Operand bs) (bracketed f o at n)
+  bracketed-read : (bs : List ℕ) {w cs : List ℕ} {o : ComplexSort} → next isLetter bs ≡ word w cs → meaning w ≡ operator o
+      → (at : List ℕ) (n : NextToken) → next isLetter cs ≡ n → IfRead (Operand bs) (bracketed f o at n)
   unfolding bracketed
   bracketed-read bs a b at (open-bracket ds) e =
       then-if-read (SortOf ds) (Operand bs) (f ds) _ (g ds) (λ t es h. closing-read bs a b e h (skip es) (next isLetter es) refl)
@@ -76,13 +76,13 @@ module _ (f : List ℕ → Parsed) (g : Reads f) where
   bracketed-read bs a b at (arrow ds) e = tt
   bracketed-read bs a b at bad e = tt
 
-  operandOf-read : (bs : List ℕ) {w cs : List ℕ} → next isLetter bs ≡ word w cs → (at : List ℕ) (m : Meaning) → meaning w ≡ m → IfRead (Operand bs) (operandOf f at m cs)
+  operandOf-read : (bs : List ℕ) {w cs : List ℕ} → next isLetter bs ≡ word w cs → (at : List ℕ) (m : WordMeaning) → meaning w ≡ m → IfRead (Operand bs) (operandOf f at m cs)
   unfolding operandOf
   operandOf-read bs a at (basic s) e = basic-sort a e
-  operandOf-read bs {cs = cs} a at (over o) e = bracketed-read bs a e (skip cs) (next isLetter cs) refl
+  operandOf-read bs {cs = cs} a at (operator o) e = bracketed-read bs a e (skip cs) (next isLetter cs) refl
   operandOf-read bs a at unknown e = tt
 
-  operandAt-read : (bs at : List ℕ) (n : Next) → next isLetter bs ≡ n → IfRead (Operand bs) (operandAt f at n)
+  operandAt-read : (bs at : List ℕ) (n : NextToken) → next isLetter bs ≡ n → IfRead (Operand bs) (operandAt f at n)
   unfolding operandAt
   operandAt-read bs at (word w cs) e = operandOf-read bs e at (meaning w) refl
   operandAt-read bs at end e = tt
@@ -96,7 +96,7 @@ module _ (f : List ℕ → Parsed) (g : Reads f) where
   unfolding operand
   operand-read bs = operandAt-read bs (skip bs) (next isLetter bs) refl
 
-  restAt-read : {bs cs : List ℕ} {ts : Trees} → Operands bs ts cs → arity ts ≤ 16 → (at : List ℕ) (m : List ℕ → Parsed) (n : Next) → next isLetter cs ≡ n
+  restAt-read : {bs cs : List ℕ} {ts : Trees} → Operands bs ts cs → arity ts ≤ 16 → (at : List ℕ) (m : List ℕ → Parsed) (n : NextToken) → next isLetter cs ≡ n
       → ((ds : List ℕ) → next isLetter cs ≡ hash ds → IfRead (SortOf bs) (m ds)) → IfRead (SortOf bs) (restAt f ts at cs m n)
   unfolding restAt
   restAt-read a b at m (hash ds) e k = k ds e
@@ -114,7 +114,7 @@ module _ (f : List ℕ → Parsed) (g : Reads f) where
       restAt-read a (omega arith) (skip cs) _ (next isLetter cs) refl
       (λ ds e. then-if-read (Operand ds) (SortOf bs) (operand f ds) _ (operand-read ds) (λ t es h. rest-read k (another a e h refl) (omega (arith, arity-snoc ts t))))
 
-  step-read : (bs : List ℕ) → IfRead (SortOf bs) (operand f bs then (λ t cs. rest f 15 (arg t no-args) cs))
+  step-read : (bs : List ℕ) → IfRead (SortOf bs) (operand f bs then-read (λ t cs. rest f 15 (arg t no-args) cs))
   unfolding arity
   step-read bs = then-if-read (Operand bs) (SortOf bs) (operand f bs) _ (operand-read bs) (λ t cs h. rest-read 15 (first h) (omega arith))
 
@@ -132,7 +132,7 @@ sort-derived bs cs t e = read (SortOf bs) (sort bs) t cs (sortTo-reads _ bs) e
 abbrev pub LineOf : List ℕ → Tree → List ℕ → Type 0
 LineOf bs t cs = (ds : List ℕ) × SortOf bs t ds × (next isLetter ds ≡ end) × (cs ≡ [])
 
-ending-read : {bs cs : List ℕ} {t : Tree} → SortOf bs t cs → (at : List ℕ) (n : Next) → next isLetter cs ≡ n → IfRead (LineOf bs) (ending t at n)
+ending-read : {bs cs : List ℕ} {t : Tree} → SortOf bs t cs → (at : List ℕ) (n : NextToken) → next isLetter cs ≡ n → IfRead (LineOf bs) (ending t at n)
 unfolding ending
 ending-read {cs} h at end e = (cs, h, e, refl)
 ending-read h at (word w ds) e = tt

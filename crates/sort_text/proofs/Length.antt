@@ -9,7 +9,7 @@ use native.Mathlib.Omega.{arith}
 use lib.ListN.{length, length-append}
 use lib.Dec.{eqb}
 use Rattle.resolved_sort.specs.declared.ComplexSort.{ComplexSort}
-use Rattle.resolved_sort.specs.Tree.{Flat, unit, primitive, def, typevar, Tree, flat, container, function, Trees, end as no-args, arg, family, level, familyOp, levelOp}
+use Rattle.resolved_sort.specs.Tree.{Flat, unit, primitive, def, typevar, Tree, flat, container, function, Trees, no-args, arg, family, level, familyOp, levelOp}
 use Rattle.resolved_sort.specs.Order.{leLevel, boundFlat, boundOp, map₁, map₂, bound, bounds}
 use Rattle.sort_text.specs.Tokens.{isLetter}
 use Rattle.sort_text.specs.Parse.{parsed, opWord, snoc, line}

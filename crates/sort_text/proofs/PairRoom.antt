@@ -7,7 +7,7 @@ use Prim.Native.Nat.{ℕ, _+_, _-_, _≤_, _<_}
 use native.Mathlib.Omega.{arith}
 use lib.ListN.{length}
 use Rattle.resolved_sort.specs.declared.ComplexSort.{ComplexSort}
-use Rattle.resolved_sort.specs.Tree.{Flat, Tree, flat, container, function, Trees, end as no-args, arg, arity}
+use Rattle.resolved_sort.specs.Tree.{Flat, Tree, flat, container, function, Trees, no-args, arg, arity}
 use Rattle.resolved_sort.specs.Interning.{Sorts, member, need, Outcome, made, nothing, full, _then_, fits, intern, make}
 use Rattle.resolved_sort.specs.Storage.{sortsOf}
 use Rattle.sort_text.specs.Parse.{parsed, line}

@@ -7,13 +7,13 @@ use Prim.Native.Nat.{ℕ, zero, suc, _+_, _≤_, _<_}
 use native.Mathlib.Omega.{arith}
 use lib.ListN.{length, length-append}
 use lib.Dec.{eqb}
-use Rattle.resolved_sort.specs.Tree.{Tree, end as no-args, arg}
-use Rattle.sort_text.specs.Tokens.{isLetter, Next, end, word, open-bracket, close-bracket, hash, arrow, bad, run, past, skip, dash, start, nextAt, next}
-use Rattle.sort_text.specs.Parse.{Parsed, parsed, stuck, _then_, Meaning, basic, over, unknown, meaning, bracketed, operandOf, operandAt, operand, rest, sortTo, sort}
+use Rattle.resolved_sort.specs.Tree.{Tree, no-args, arg}
+use Rattle.sort_text.specs.Tokens.{isLetter, NextToken, end, word, open-bracket, close-bracket, hash, arrow, bad, run, past, skip, dash, start, nextAt, next}
+use Rattle.sort_text.specs.Parse.{Parsed, parsed, stuck, _then-read_, WordMeaning, basic, operator, unknown, meaning, bracketed, operandOf, operandAt, operand, rest, sortTo, sort}
 use Rattle.sort_text.proofs.Suffix.{after, suffix-length, skip-suffix, next-suffix, run-past, left, Leaves, bracketed-suffix, rest-suffix, sortTo-suffix}
 
 -- the bytes of a token, and 1 for a token that is there
-abbrev pub width : Next → ℕ
+abbrev pub width : NextToken → ℕ
 width end = 0
 width (word w bs) = length w
 width (open-bracket bs) = 1
@@ -22,7 +22,7 @@ width (hash bs) = 1
 width (arrow bs) = 2
 width bad = 0
 
-abbrev pub there : Next → ℕ
+abbrev pub there : NextToken → ℕ
 there end = 0
 there (word w bs) = 1
 there (open-bracket bs) = 1
@@ -32,7 +32,7 @@ there (arrow bs) = 1
 there bad = 0
 
 -- a token at the front of n bytes takes its bytes of them
-abbrev pub Takes : ℕ → List ℕ → Next → Type 0
+abbrev pub Takes : ℕ → List ℕ → NextToken → Type 0
 Takes k at n = (length (after at n) + width n ≤ k) × (there n ≤ width n)
 
 dash-takes : (b : ℕ) (bs : List ℕ) → Takes (suc (length bs)) (b ∷ bs) (dash bs)
@@ -66,7 +66,7 @@ next-takes p bs =
     let h = nextAt-takes p (skip bs) in
     (omega (arith, h .0, suffix-length (skip bs) bs (skip-suffix bs)), h .1)
 
-next-is : (p : ℕ → Bool) (bs : List ℕ) (n : Next) → next p bs ≡ n → Takes (length bs) (skip bs) n
+next-is : (p : ℕ → Bool) (bs : List ℕ) (n : NextToken) → next p bs ≡ n → Takes (length bs) (skip bs) n
 next-is p bs n e = subst (Takes (length bs) (skip bs)) e (next-takes p bs)
 
 -- Every token but the end and a bad one takes at least one byte.
@@ -90,7 +90,7 @@ abbrev pub IfRead : (Tree → List ℕ → Type 0) → Parsed → Type 0
 IfRead P (parsed t cs) = P t cs
 IfRead P (stuck cs) = Unit {0}
 
-pub then-if-read : (P Q : Tree → List ℕ → Type 0) (p : Parsed) (k : Tree → List ℕ → Parsed) → IfRead P p → ((t : Tree) (cs : List ℕ) → P t cs → IfRead Q (k t cs)) → IfRead Q (p then k)
+pub then-if-read : (P Q : Tree → List ℕ → Type 0) (p : Parsed) (k : Tree → List ℕ → Parsed) → IfRead P p → ((t : Tree) (cs : List ℕ) → P t cs → IfRead Q (k t cs)) → IfRead Q (p then-read k)
 then-if-read P Q (parsed t cs) k h f = f t cs h
 then-if-read P Q (stuck cs) k h f = tt
 
@@ -106,15 +106,15 @@ if-read-left (parsed t cs) n h = h
 if-read-left (stuck cs) n h = tt
 
 module _ (f : List ℕ → Parsed) (g : Leaves f) where
-  operandOf-fewer : (at bs cs : List ℕ) (m : Meaning) → length cs < length bs → IfRead (Fewer (length bs)) (operandOf f at m cs)
+  operandOf-fewer : (at bs cs : List ℕ) (m : WordMeaning) → length cs < length bs → IfRead (Fewer (length bs)) (operandOf f at m cs)
   unfolding operandOf
   operandOf-fewer at bs cs (basic s) h = h
-  operandOf-fewer at bs cs (over o) h =
+  operandOf-fewer at bs cs (operator o) h =
       let p = bracketed f o (skip cs) (next isLetter cs) in
       if-read-left p (length bs) (omega (arith, suffix-length (left p) cs (bracketed-suffix f g o (skip cs) cs (next isLetter cs) (skip-suffix cs) (next-suffix isLetter cs))))
   operandOf-fewer at bs cs unknown h = tt
 
-  operandAt-fewer : (at bs : List ℕ) (n : Next) → next isLetter bs ≡ n → IfRead (Fewer (length bs)) (operandAt f at n)
+  operandAt-fewer : (at bs : List ℕ) (n : NextToken) → next isLetter bs ≡ n → IfRead (Fewer (length bs)) (operandAt f at n)
   unfolding operandAt
   operandAt-fewer at bs (word w cs) e = let h = word-takes isLetter bs w cs e in operandOf-fewer at bs cs (meaning w) (omega (arith, h .0, h .1))
   operandAt-fewer at bs end e = tt
@@ -131,7 +131,7 @@ module _ (f : List ℕ → Parsed) (g : Leaves f) where
   pub operand-takes : (bs cs : List ℕ) (t : Tree) → operand f bs ≡ parsed t cs → length cs < length bs
   operand-takes bs cs t e = read (Fewer (length bs)) (operand f bs) t cs (operand-fewer bs) e
 
-  step-fewer : (bs : List ℕ) → IfRead (Fewer (length bs)) (operand f bs then (λ t cs. rest f 15 (arg t no-args) cs))
+  step-fewer : (bs : List ℕ) → IfRead (Fewer (length bs)) (operand f bs then-read (λ t cs. rest f 15 (arg t no-args) cs))
   step-fewer bs =
       then-if-read (Fewer (length bs)) (Fewer (length bs)) (operand f bs) _ (operand-fewer bs)
       (λ t cs h. if-read-left (rest f 15 (arg t no-args) cs) (length bs) (omega (arith, h, suffix-length _ cs (rest-suffix f g 15 (arg t no-args) cs))))

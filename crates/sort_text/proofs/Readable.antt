@@ -4,7 +4,7 @@ use mathlib.Core.Path.{_≡_, refl}
 use mathlib.Core.Bool.{Bool, true, false, not, _&&_, and-eq-true-iff}
 use Prim.Native.Nat.{ℕ, _+_}
 use lib.Dec.{leb}
-use Rattle.resolved_sort.specs.Tree.{Tree, flat, container, function, Trees, end, arg, arity}
+use Rattle.resolved_sort.specs.Tree.{Tree, flat, container, function, Trees, no-args, arg, arity}
 use Rattle.sort_text.specs.Text.{nonempty, flatWritable, writable, writables}
 use Rattle.resolved_sort.specs.Storage.{maxArguments}
 
@@ -21,7 +21,7 @@ unfoldable mutual
 
   -- readable, and no function
   pub arguments : Trees → Bool
-  arguments end = true
+  arguments no-args = true
   arguments (arg t ts) = not (isFunction t) && readable t && arguments ts
 
 -- no function has more than 16 arguments
@@ -32,7 +32,7 @@ unfoldable mutual
   few (function ts r) = leb (arity ts) maxArguments && fews ts && few r
 
   pub fews : Trees → Bool
-  fews end = true
+  fews no-args = true
   fews (arg t ts) = few t && fews ts
 
 -- no argument of a function is a function
@@ -43,7 +43,7 @@ unfoldable mutual
   noFunctionArgument (function ts r) = noFunctions ts && noFunctionArgument r
 
   pub noFunctions : Trees → Bool
-  noFunctions end = true
+  noFunctions no-args = true
   noFunctions (arg t ts) = not (isFunction t) && noFunctionArgument t && noFunctions ts
 
 -- the nodes of a sort
@@ -54,7 +54,7 @@ unfoldable mutual
   size (function ts r) = sizes ts + size r + 1
 
   pub sizes : Trees → ℕ
-  sizes end = 0
+  sizes no-args = 0
   sizes (arg t ts) = size t + sizes ts
 
 pub and-both : (a b : Bool) → a ≡ true → b ≡ true → (a && b) ≡ true
@@ -113,7 +113,7 @@ mutual
       (and-both _ _ (and-both _ _ (h .0) (a .0)) (b .0), and-both _ _ (and-both _ _ (h .1) (a .1)) (b .1), and-both _ _ (a .2) (b .2))
 
   pub arguments-parts : (ts : Trees) → arguments ts ≡ true → PartsAll ts
-  arguments-parts end e = (refl, refl, refl)
+  arguments-parts no-args e = (refl, refl, refl)
   arguments-parts (arg t ts) e =
       let h = argument-readable t ts e in
       let a = readable-parts t (h .1) in
@@ -134,7 +134,7 @@ mutual
       (parts-readable r (and-right (nonempty ts && writables ts) (writable r) w) (and-right (leb (arity ts) maxArguments && fews ts) (few r) f) (and-right (noFunctions ts) (noFunctionArgument r) n))
 
   pub parts-arguments : (ts : Trees) → writables ts ≡ true → fews ts ≡ true → noFunctions ts ≡ true → arguments ts ≡ true
-  parts-arguments end w f n = refl
+  parts-arguments no-args w f n = refl
   parts-arguments (arg t ts) w f n =
       let a = and-left (not (isFunction t) && noFunctionArgument t) (noFunctions ts) n in
       readable-argument t ts (and-left (not (isFunction t)) (noFunctionArgument t) a)

@@ -6,7 +6,7 @@ use mathlib.Core.List.{List, []}
 use mathlib.Core.Option.{some, none}
 use Prim.Native.Nat.{ℕ, _+_}
 use lib.Dec.{eqb, leb}
-use Rattle.resolved_sort.specs.Tree.{Flat, Tree, flat, container, function, Trees, end as no-args, arg, arity, family, level}
+use Rattle.resolved_sort.specs.Tree.{Flat, Tree, flat, container, function, Trees, no-args, arg, arity, family, level}
 use Rattle.resolved_sort.specs.Order.{leLevel, boundFlat, boundOp, bound, bounds}
 use Rattle.sort_text.specs.Parse.{parsed, line}
 use Rattle.sort_text.specs.Text.{nonempty, flatWritable, writable, text}

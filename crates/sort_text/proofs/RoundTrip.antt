@@ -10,10 +10,10 @@ use lib.Dec.{eqb}
 use borrow.Author.Tests.{not-true, leb-true}
 use Rattle.resolved_sort.specs.declared.Sort.{Sort}
 use Rattle.resolved_sort.specs.declared.ComplexSort.{ComplexSort}
-use Rattle.resolved_sort.specs.Tree.{Flat, unit, primitive, def, typevar, Tree, flat, container, function, Trees, end as no-args, arg, arity}
-use Rattle.sort_text.specs.Tokens.{isLetter, Next, word, run, past, skip, start, nextAt, next}
-use Rattle.sort_text.specs.Parse.{parsed, _then_, sameBytes, sortWord, opWord, basic, over, meaning, closing, bracketed, operandOf, operandAt, operand, snoc, alone, restAt, rest, sort, ending, line}
-use Rattle.sort_text.specs.Text.{nonempty, flatWritable, writable, between, arrow, text, texts, more}
+use Rattle.resolved_sort.specs.Tree.{Flat, unit, primitive, def, typevar, Tree, flat, container, function, Trees, no-args, arg, arity}
+use Rattle.sort_text.specs.Tokens.{isLetter, NextToken, word, run, past, skip, start, nextAt, next}
+use Rattle.sort_text.specs.Parse.{parsed, _then-read_, sameBytes, sortWord, opWord, basic, operator, meaning, closing, bracketed, operandOf, operandAt, operand, snoc, alone, restAt, rest, sort, ending, line}
+use Rattle.sort_text.specs.Text.{nonempty, flatWritable, writable, betweenText, arrowText, text, texts, more}
 use Rattle.sort_text.proofs.Depth.{sort-is}
 use Rattle.sort_text.proofs.Readable.{isFunction, readable, arguments, few, noFunctionArgument, and-left, and-right, function-readable, argument-readable, parts-readable}
 use Rattle.sort_text.proofs.WhatIsRead.{line-readable}
@@ -72,7 +72,7 @@ pub next-here : (b : ℕ) (bs : List ℕ) → eqb 32 b ≡ false → next isLett
 unfolding next skip past
 next-here b bs e = next-by b bs (eqb 32 b) e
 
-start-by : (b : ℕ) (bs : List ℕ) (w rs : List ℕ) (t : Bool) (n : Next) → t ≡ true → run isLetter bs ≡ w → past isLetter bs ≡ rs
+start-by : (b : ℕ) (bs : List ℕ) (w rs : List ℕ) (t : Bool) (n : NextToken) → t ≡ true → run isLetter bs ≡ w → past isLetter bs ≡ rs
     → cond t (word (b ∷ run isLetter bs) (past isLetter bs)) n ≡ word (b ∷ w) rs
 start-by b bs w rs true n e h k = ap₂ (λ x y. word (b ∷ x) y) h k
 start-by b bs w rs false n e h k = cc
@@ -106,7 +106,7 @@ meaning-sortWord Sort.Nat = refl
 meaning-sortWord Sort.Int = refl
 meaning-sortWord Sort.Real = refl
 
-pub meaning-opWord : (o : ComplexSort) → meaning (opWord o) ≡ over o
+pub meaning-opWord : (o : ComplexSort) → meaning (opWord o) ≡ operator o
 unfolding meaning sameBytes sortWord opWord
 meaning-opWord ComplexSort.List = refl
 meaning-opWord ComplexSort.Set = refl
@@ -137,7 +137,7 @@ OperandReadsBack t = (rs : List ℕ) → noLetter rs ≡ true → operand sort (
 
 -- an operand alone is a sort
 operand-sort : (t : Tree) → OperandReadsBack t → ReadsBack t
-operand-sort t h rs e = sort-is (text t ++ rs) ∙ (ap (λ p. p then (λ u cs. rest sort 15 (arg u no-args) cs)) (h rs (ending-no-letter e)) ∙ rest-ends t e)
+operand-sort t h rs e = sort-is (text t ++ rs) ∙ (ap (λ p. p then-read (λ u cs. rest sort 15 (arg u no-args) cs)) (h rs (ending-no-letter e)) ∙ rest-ends t e)
 
 operand-flat : (a : Flat) → flatWritable a ≡ true → OperandReadsBack (flat a)
 unfolding operand operandAt operandOf text
@@ -151,11 +151,11 @@ closes : (o : ComplexSort) (t : Tree) (rs : List ℕ) → closing o t (skip (41 
 unfolding closing next skip past start
 closes o t rs = refl
 
-opens : (o : ComplexSort) (at bs : List ℕ) → bracketed sort o at (next isLetter (40 ∷ bs)) ≡ (sort bs then (λ t cs. closing o t (skip cs) (next isLetter cs)))
+opens : (o : ComplexSort) (at bs : List ℕ) → bracketed sort o at (next isLetter (40 ∷ bs)) ≡ (sort bs then-read (λ t cs. closing o t (skip cs) (next isLetter cs)))
 unfolding bracketed next skip past start
 opens o at bs = refl
 
-operand-over : (o : ComplexSort) (bs : List ℕ) → operand sort (opWord o ++ (40 ∷ bs)) ≡ (sort bs then (λ t cs. closing o t (skip cs) (next isLetter cs)))
+operand-over : (o : ComplexSort) (bs : List ℕ) → operand sort (opWord o ++ (40 ∷ bs)) ≡ (sort bs then-read (λ t cs. closing o t (skip cs) (next isLetter cs)))
 unfolding operand operandAt operandOf
 operand-over o bs =
     ap (operandAt sort (skip (opWord o ++ (40 ∷ bs)))) (next-opWord o (40 ∷ bs) refl)
@@ -165,7 +165,7 @@ operand-container : (o : ComplexSort) (t : Tree) → ReadsBack t → OperandRead
 unfolding text
 operand-container o t h rs n =
     ap (operand sort) (append-assoc (opWord o) (40 ∷ (text t ++ (41 ∷ []))) rs ∙ ap (λ x. opWord o ++ (40 ∷ x)) (append-assoc (text t) (41 ∷ []) rs))
-    ∙ (operand-over o (text t ++ (41 ∷ rs)) ∙ (ap (λ p. p then (λ u cs. closing o u (skip cs) (next isLetter cs))) (h (41 ∷ rs) bracket) ∙ closes o t rs))
+    ∙ (operand-over o (text t ++ (41 ∷ rs)) ∙ (ap (λ p. p then-read (λ u cs. closing o u (skip cs) (next isLetter cs))) (h (41 ∷ rs) bracket) ∙ closes o t rs))
 
 -- spaces before a sort
 operand-space : (bs : List ℕ) → operand sort (32 ∷ bs) ≡ operand sort bs
@@ -173,7 +173,7 @@ unfolding operand next skip past
 operand-space bs = refl
 
 pub sort-space : (bs : List ℕ) → sort (32 ∷ bs) ≡ sort bs
-sort-space bs = sort-is (32 ∷ bs) ∙ (ap (λ p. p then (λ u cs. rest sort 15 (arg u no-args) cs)) (operand-space bs) ∙ sym (sort-is bs))
+sort-space bs = sort-is (32 ∷ bs) ∙ (ap (λ p. p then-read (λ u cs. rest sort 15 (arg u no-args) cs)) (operand-space bs) ∙ sym (sort-is bs))
 
 -- the arguments one by one
 unfoldable pub snocs : Trees → Trees → Trees
@@ -193,16 +193,16 @@ snocs-no-args (arg u us) = snocs-cons u no-args us ∙ ap (arg u) (snocs-no-args
 snocs-one : (u : Tree) (us : Trees) → snocs (arg u no-args) us ≡ arg u us
 snocs-one u us = snocs-cons u no-args us ∙ ap (arg u) (snocs-no-args us)
 
-rest-arrow : (k : ℕ) (ts : Trees) (bs : List ℕ) → rest sort k ts (arrow ++ bs) ≡ (sort (32 ∷ bs) then (λ r ds. parsed (function ts r) ds))
+rest-arrow : (k : ℕ) (ts : Trees) (bs : List ℕ) → rest sort k ts (arrowText ++ bs) ≡ (sort (32 ∷ bs) then-read (λ r ds. parsed (function ts r) ds))
 unfolding rest restAt next skip past start
 rest-arrow zero ts bs = refl
 rest-arrow (suc k) ts bs = refl
 
-rest-hash : (k : ℕ) (ts : Trees) (bs : List ℕ) → rest sort (suc k) ts (between ++ bs) ≡ (operand sort (32 ∷ bs) then (λ t ds. rest sort k (snoc ts t) ds))
+rest-hash : (k : ℕ) (ts : Trees) (bs : List ℕ) → rest sort (suc k) ts (betweenText ++ bs) ≡ (operand sort (32 ∷ bs) then-read (λ t ds. rest sort k (snoc ts t) ds))
 unfolding rest restAt next skip past start
 rest-hash k ts bs = refl
 
-more-no-letter : (us : Trees) (bs : List ℕ) → noLetter (more us ++ (arrow ++ bs)) ≡ true
+more-no-letter : (us : Trees) (bs : List ℕ) → noLetter (more us ++ (arrowText ++ bs)) ≡ true
 unfolding more
 more-no-letter no-args bs = refl
 more-no-letter (arg u us) bs = refl
@@ -218,7 +218,7 @@ mutual
   sort-text (container o t) h = operand-sort (container o t) (operand-container o t (sort-text t h))
   sort-text (function ts r) h =
       let p = function-readable ts r h in
-      λ rs e. ap sort (append-assoc (texts ts) (arrow ++ text r) rs) ∙ (sort-is (texts ts ++ (arrow ++ (text r ++ rs)))
+      λ rs e. ap sort (append-assoc (texts ts) (arrowText ++ text r) rs) ∙ (sort-is (texts ts ++ (arrowText ++ (text r ++ rs)))
       ∙ operands-text ts (p .0) (p .2) (leb-true (arity ts) 16 (p .1)) r rs (sort-text r (p .3) rs e))
 
   operand-text : (t : Tree) → not (isFunction t) ≡ true → readable t ≡ true → OperandReadsBack t
@@ -227,25 +227,25 @@ mutual
   operand-text (function ts r) n h = no-function n
 
   operands-text : (ts : Trees) → nonempty ts ≡ true → arguments ts ≡ true → arity ts ≤ 16 → (r : Tree) (rs : List ℕ) → sort (text r ++ rs) ≡ parsed r rs
-      → (operand sort (texts ts ++ (arrow ++ (text r ++ rs))) then (λ t cs. rest sort 15 (arg t no-args) cs)) ≡ parsed (function ts r) rs
+      → (operand sort (texts ts ++ (arrowText ++ (text r ++ rs))) then-read (λ t cs. rest sort 15 (arg t no-args) cs)) ≡ parsed (function ts r) rs
   operands-text no-args s h l r rs e = cc
   operands-text (arg u us) s h l r rs e =
       let p = argument-readable u us h in
-      let x = arrow ++ (text r ++ rs) in
-      ap (λ bs. operand sort bs then (λ t cs. rest sort 15 (arg t no-args) cs)) (append-assoc (text u) (more us) x)
-      ∙ (ap (λ q. q then (λ t cs. rest sort 15 (arg t no-args) cs)) (operand-text u (p .0) (p .1) (more us ++ x) (more-no-letter us (text r ++ rs)))
+      let x = arrowText ++ (text r ++ rs) in
+      ap (λ bs. operand sort bs then-read (λ t cs. rest sort 15 (arg t no-args) cs)) (append-assoc (text u) (more us) x)
+      ∙ (ap (λ q. q then-read (λ t cs. rest sort 15 (arg t no-args) cs)) (operand-text u (p .0) (p .1) (more us ++ x) (more-no-letter us (text r ++ rs)))
       ∙ (more-text us (p .2) 15 (arg u no-args) (omega arith) r rs e ∙ ap (λ ts. parsed (function ts r) rs) (snocs-one u us)))
 
   more-text : (us : Trees) → arguments us ≡ true → (k : ℕ) (ts : Trees) → arity us ≤ k → (r : Tree) (rs : List ℕ) → sort (text r ++ rs) ≡ parsed r rs
-      → rest sort k ts (more us ++ (arrow ++ (text r ++ rs))) ≡ parsed (function (snocs ts us) r) rs
+      → rest sort k ts (more us ++ (arrowText ++ (text r ++ rs))) ≡ parsed (function (snocs ts us) r) rs
   more-text no-args h k ts l r rs e =
-      rest-arrow k ts (text r ++ rs) ∙ ap (λ p. p then (λ r ds. parsed (function ts r) ds)) (sort-space (text r ++ rs) ∙ e)
+      rest-arrow k ts (text r ++ rs) ∙ ap (λ p. p then-read (λ r ds. parsed (function ts r) ds)) (sort-space (text r ++ rs) ∙ e)
   more-text (arg u us) h zero ts l r rs e = absurd (omega arith)
   more-text (arg u us) h (suc k) ts l r rs e =
       let p = argument-readable u us h in
-      let x = arrow ++ (text r ++ rs) in
+      let x = arrowText ++ (text r ++ rs) in
       rest-hash k ts ((text u ++ more us) ++ x)
-      ∙ (ap (λ q. q then (λ t ds. rest sort k (snoc ts t) ds)) (operand-space ((text u ++ more us) ++ x) ∙ (ap (operand sort) (append-assoc (text u) (more us) x)
+      ∙ (ap (λ q. q then-read (λ t ds. rest sort k (snoc ts t) ds)) (operand-space ((text u ++ more us) ++ x) ∙ (ap (operand sort) (append-assoc (text u) (more us) x)
       ∙ operand-text u (p .0) (p .1) (more us ++ x) (more-no-letter us (text r ++ rs))))
       ∙ more-text us (p .2) k (snoc ts u) (omega arith) r rs e)
 
@@ -260,7 +260,7 @@ operand-text-is-read t n h rs e = operand-text t n h rs e
 pub line-of-text : (t : Tree) → readable t ≡ true → line (text t) ≡ parsed t []
 unfolding line ending next skip past
 line-of-text t h =
-    ap line (sym (append-nil (text t))) ∙ ap (λ p. p then (λ u cs. ending u (skip cs) (next isLetter cs))) (sort-text t h [] nothing)
+    ap line (sym (append-nil (text t))) ∙ ap (λ p. p then-read (λ u cs. ending u (skip cs) (next isLetter cs))) (sort-text t h [] nothing)
 
 pub round-trip : (t : Tree) → writable t ≡ true → few t ≡ true → noFunctionArgument t ≡ true → line (text t) ≡ parsed t []
 round-trip t w f n = line-of-text t (parts-readable t w f n)

@@ -8,12 +8,12 @@ use native.Mathlib.Omega.{arith}
 use lib.Dec.{leb, ltb}
 use borrow.Author.Tests.{ltb-true, ltb-false}
 use Rattle.resolved_sort.specs.declared.ComplexSort.{ComplexSort}
-use Rattle.resolved_sort.specs.Tree.{unit, Tree, flat, container, function, Trees, end, arg, arity}
+use Rattle.resolved_sort.specs.Tree.{unit, Tree, flat, container, function, Trees, no-args, arg, arity}
 use Rattle.resolved_sort.specs.Interning.{Sorts, member, Outcome, made, nothing, full, _then_, intern}
 use Rattle.resolved_sort.proofs.RowTrees.{members}
 use Rattle.resolved_sort.proofs.Grown.{Grown}
 use Rattle.resolved_sort.proofs.Kept.{Extends, extends-refl, member-extends, Kept, InTree, kept-then, container-interned, function-interned}
-use Rattle.sort_text.specs.Postfix.{Short, sixth, opOf, over, Taken, taken, short, takeArguments, applied, mapping, stepOn, top, steps}
+use Rattle.sort_text.specs.Postfix.{Short, sixth, opOf, containing, Popped, popped, not-enough, takeArguments, applied, mapping, stepOn, top, steps}
 
 -- the sorts of a stack are in the list
 unfoldable pub InStack : Sorts → List Tree → Type 0
@@ -33,9 +33,9 @@ pub six-extends : (S S′ : Sorts) → Extends S S′ → HasSix S → HasSix S�
 six-extends S S′ x h k l = member-extends S S′ (sixth k) x (h k l)
 
 -- the arguments that are taken off a stack, and what is left
-unfoldable TakenIn : Sorts → ℕ → Taken → Type 0
-TakenIn S k (taken ts st) = (members (S .trees) ts ≡ true) × (arity ts ≡ k) × InStack S st
-TakenIn S k short = Unit {0}
+unfoldable TakenIn : Sorts → ℕ → Popped → Type 0
+TakenIn S k (popped ts st) = (members (S .trees) ts ≡ true) × (arity ts ≡ k) × InStack S st
+TakenIn S k not-enough = Unit {0}
 
 one-more : (k : ℕ) (ts : Trees) (t : Tree) → k + arity (arg t ts) ≡ suc k + arity ts
 unfolding arity
@@ -66,24 +66,24 @@ module _ (ws : List ℕ) (n e : ℕ) where
   unfolding Kept InStack
   pushed S st h u S₁ g x m = (g, extends-refl S₁, (m, stack-extends S S₁ st x h))
 
-  over-kept : (o : ComplexSort) (st : List Tree) (S : Sorts) → Grown ws n e S → InStack S st → Kept ws n e InStack S (over o st S)
+  over-kept : (o : ComplexSort) (st : List Tree) (S : Sorts) → Grown ws n e S → InStack S st → Kept ws n e InStack S (containing o st S)
   unfolding InStack
   over-kept o [] S g h = stack-stays S g
   over-kept o (t ∷ st) S g h = kept-then ws n e InTree InStack S (intern (container o t) S) _ (container-interned ws n e o t S g (h .0)) (pushed S st (h .1))
 
-  applied-kept : (r : Tree) (k : ℕ) (x : Taken) (S : Sorts) → Grown ws n e S → InTree S r → k ≤ 16 → TakenIn S k x → Kept ws n e InStack S (applied r x S)
+  applied-kept : (r : Tree) (k : ℕ) (x : Popped) (S : Sorts) → Grown ws n e S → InTree S r → k ≤ 16 → TakenIn S k x → Kept ws n e InStack S (applied r x S)
   unfolding TakenIn
-  applied-kept r k short S g m l h = stack-stays S g
-  applied-kept r k (taken ts st) S g m l h =
+  applied-kept r k not-enough S g m l h = stack-stays S g
+  applied-kept r k (popped ts st) S g m l h =
       kept-then ws n e InTree InStack S (intern (function ts r) S) _ (function-interned ws n e ts r S g (h .0) (omega (arith, h .1)) m) (pushed S st (h .2))
 
   mapping-kept : (k : ℕ) (st : List Tree) (S : Sorts) → Grown ws n e S → k ≤ 16 → InStack S st → Kept ws n e InStack S (mapping k st S)
   unfolding InStack members arity
   mapping-kept k [] S g l h = stack-stays S g
-  mapping-kept k (r ∷ st) S g l h = applied-kept r (k + 0) (takeArguments k end st) S g (h .0) (omega arith) (takes-in S k end st refl (h .1))
+  mapping-kept k (r ∷ st) S g l h = applied-kept r (k + 0) (takeArguments k no-args st) S g (h .0) (omega arith) (takes-in S k no-args st refl (h .1))
 
   by-step : (b c : Bool) (op : ℕ) (st : List Tree) (S : Sorts) → ltb op 6 ≡ b → op ≤ 32 → Grown ws n e S → HasSix S → InStack S st
-      → Kept ws n e InStack S (cond b (made (sixth op ∷ st) S) (cond c (over (opOf (op - 6)) st S) (mapping (op - 16) st S)))
+      → Kept ws n e InStack S (cond b (made (sixth op ∷ st) S) (cond c (containing (opOf (op - 6)) st S) (mapping (op - 16) st S)))
   unfolding InStack
   by-step true c op st S q l g x h = stack-kept S (sixth op ∷ st) g (x op (ltb-true op 6 q), h)
   by-step false true op st S q l g x h = over-kept (opOf (op - 6)) st S g h

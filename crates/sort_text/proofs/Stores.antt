@@ -11,13 +11,13 @@ use lib.Dec.{leb, ltb}
 use borrow.Author.Tests.{lt-ltb, le-ltb}
 use Rattle.resolved_sort.specs.declared.Sort.{Sort}
 use Rattle.resolved_sort.specs.declared.ComplexSort.{ComplexSort}
-use Rattle.resolved_sort.specs.Tree.{Flat, unit, primitive, def, typevar, Tree, flat, container, function, Trees, end, arg, arity}
+use Rattle.resolved_sort.specs.Tree.{Flat, unit, primitive, def, typevar, Tree, flat, container, function, Trees, no-args, arg, arity}
 use Rattle.resolved_sort.specs.Interning.{Sorts, member, Outcome, made, nothing, full, _then_, fits, intern}
 use Rattle.resolved_sort.specs.Storage.{kindFlat, kindOp}
 use Rattle.resolved_sort.proofs.Numbers.{true-not-false, member-grows}
 use Rattle.sort_text.specs.Text.{nonempty, flatWritable, writable, writables}
 use Rattle.sort_text.specs.Reading.{store, stores}
-use Rattle.sort_text.specs.Postfix.{postfix, postfixes, sixth, opOf, over, Taken, taken, short, takeArguments, applied, mapping, stepOn, top, steps}
+use Rattle.sort_text.specs.Postfix.{postfix, postfixes, sixth, opOf, containing, Popped, popped, not-enough, takeArguments, applied, mapping, stepOn, top, steps}
 
 -- the primitive sorts are in the list
 abbrev pub HasPrimitives : Sorts → Type 0
@@ -60,7 +60,7 @@ mutual
       (λ S₁ k. stores-then r (function ts r) (store r S₁) _ (store-stores r S₁ k) (λ S₂ l. intern-stores (function ts r) S₂ l))
 
   pub stores-store : (ts : Trees) (S : Sorts) → HasPrimitives S → Stores ts (stores ts S)
-  stores-store end S h = made-stores end S h
+  stores-store no-args S h = made-stores no-args S h
   stores-store (arg t ts) S h =
       stores-then t (arg t ts) (store t S) _ (store-stores t S h)
       (λ S₁ k. stores-then ts (arg t ts) (stores ts S₁) _ (stores-store ts S₁ k) (λ S₂ l. made-stores (arg t ts) S₂ l))
@@ -109,16 +109,16 @@ container-step ComplexSort.FBag t ops st S = refl
 
 -- a function's step takes its arguments off the stack again
 unfoldable pub pushes : Trees → List Tree → List Tree
-pushes end st = st
+pushes no-args st = st
 pushes (arg t ts) st = pushes ts (t ∷ st)
 
 unfoldable pub append : Trees → Trees → Trees
-append end us = us
+append no-args us = us
 append (arg t ts) us = arg t (append ts us)
 
-pub append-end : (ts : Trees) → append ts end ≡ ts
+pub append-end : (ts : Trees) → append ts no-args ≡ ts
 unfolding append
-append-end end = refl
+append-end no-args = refl
 append-end (arg t ts) = ap (arg t) (append-end ts)
 
 take-one : (k : ℕ) (us : Trees) (t : Tree) (st : List Tree) → takeArguments (k + 1) us (t ∷ st) ≡ takeArguments k (arg t us) st
@@ -127,16 +127,16 @@ take-one k us t st = ap (λ j. takeArguments j us (t ∷ st)) (add-one k)
 
 takes-pushed : (ts us : Trees) (j : ℕ) (st : List Tree) → takeArguments (arity ts + j) us (pushes ts st) ≡ takeArguments j (append ts us) st
 unfolding pushes append arity
-takes-pushed end us j st = ap (λ k. takeArguments k us st) (omega arith)
+takes-pushed no-args us j st = ap (λ k. takeArguments k us st) (omega arith)
 takes-pushed (arg t ts) us j st =
     let e : arity ts + 1 + j ≡ arity ts + (j + 1) = omega arith in
     ap (λ k. takeArguments k us (pushes ts (t ∷ st))) e ∙ (takes-pushed ts us (j + 1) (t ∷ st) ∙ take-one j (append ts us) t st)
 
-takes-arguments : (ts : Trees) (st : List Tree) → takeArguments (arity ts) end (pushes ts st) ≡ taken ts st
+takes-arguments : (ts : Trees) (st : List Tree) → takeArguments (arity ts) no-args (pushes ts st) ≡ popped ts st
 unfolding takeArguments
 takes-arguments ts st =
     let e : arity ts ≡ arity ts + 0 = omega arith in
-    ap (λ k. takeArguments k end (pushes ts st)) e ∙ (takes-pushed ts end 0 st ∙ ap (λ us. taken us st) (append-end ts))
+    ap (λ k. takeArguments k no-args (pushes ts st)) e ∙ (takes-pushed ts no-args 0 st ∙ ap (λ us. popped us st) (append-end ts))
 
 function-step : (ts : Trees) (r : Tree) (ops : List ℕ) (st : List Tree) (S : Sorts)
     → steps ((16 + arity ts) ∷ ops) (r ∷ pushes ts st) S ≡ ((intern (function ts r) S then (λ u S. made (u ∷ st) S)) then (λ st S. steps ops st S))
@@ -185,7 +185,7 @@ mutual
 
   pub steps-stores : (ts : Trees) → writables ts ≡ true → (ops : List ℕ) (st : List Tree) (S : Sorts) → HasPrimitives S
       → steps (postfixes ts ++ ops) st S ≡ (stores ts S then (λ us S. steps ops (pushes us st) S))
-  steps-stores end w ops st S h = refl
+  steps-stores no-args w ops st S h = refl
   steps-stores (arg t ts) w ops st S h =
       let v = and-eq-true-iff (writable t) (writables ts) .0 w in
       ap (λ l. steps l st S) (append-assoc (postfix t) (postfixes ts) ops)

@@ -9,9 +9,9 @@ use lib.ListN.{length, drop, length-append}
 use lib.Seq.{drop-append-seam}
 use lib.Dec.{eqb}
 use Rattle.resolved_sort.specs.declared.ComplexSort.{ComplexSort}
-use Rattle.resolved_sort.specs.Tree.{Tree, Trees, end as no-args, arg}
-use Rattle.sort_text.specs.Tokens.{isLetter, Next, end, word, open-bracket, close-bracket, hash, arrow, bad, run, past, skip, dash, start, nextAt, next}
-use Rattle.sort_text.specs.Parse.{Parsed, parsed, stuck, _then_, Meaning, basic, over, unknown, meaning, closing, bracketed, operandOf, operandAt, operand, snoc, alone, restAt, rest, sortTo, sort, ending, line}
+use Rattle.resolved_sort.specs.Tree.{Tree, Trees, no-args, arg}
+use Rattle.sort_text.specs.Tokens.{isLetter, NextToken, end, word, open-bracket, close-bracket, hash, arrow, bad, run, past, skip, dash, start, nextAt, next}
+use Rattle.sort_text.specs.Parse.{Parsed, parsed, stuck, _then-read_, WordMeaning, basic, operator, unknown, meaning, closing, bracketed, operandOf, operandAt, operand, snoc, alone, restAt, rest, sortTo, sort, ending, line}
 
 -- the first list is an end of the second
 pub record Suffix (cs bs : List ℕ) : Type 0 where
@@ -59,7 +59,7 @@ run-past p [] = refl
 run-past p (b ∷ bs) = split-by p b bs (p b) (run-past p bs)
 
 -- the bytes after a token; where there is none, the bytes given
-abbrev pub after : List ℕ → Next → List ℕ
+abbrev pub after : List ℕ → NextToken → List ℕ
 after at end = at
 after at (word w bs) = bs
 after at (open-bracket bs) = bs
@@ -109,12 +109,12 @@ left (stuck bs) = bs
 abbrev pub Leaves : (List ℕ → Parsed) → Type 0
 Leaves f = (bs : List ℕ) → Suffix (left (f bs)) bs
 
-pub then-suffix : (p : Parsed) (k : Tree → List ℕ → Parsed) (bs : List ℕ) → Suffix (left p) bs → ((t : Tree) (cs : List ℕ) → Suffix (left (k t cs)) cs) → Suffix (left (p then k)) bs
+pub then-suffix : (p : Parsed) (k : Tree → List ℕ → Parsed) (bs : List ℕ) → Suffix (left p) bs → ((t : Tree) (cs : List ℕ) → Suffix (left (k t cs)) cs) → Suffix (left (p then-read k)) bs
 then-suffix (parsed t cs) k bs h f = suffix-trans (left (k t cs)) cs bs (f t cs) h
 then-suffix (stuck cs) k bs h f = h
 
 -- the readers, each from what its token leaves
-closing-suffix : (o : ComplexSort) (t : Tree) (at bs : List ℕ) (n : Next) → Suffix at bs → Suffix (after at n) bs → Suffix (left (closing o t at n)) bs
+closing-suffix : (o : ComplexSort) (t : Tree) (at bs : List ℕ) (n : NextToken) → Suffix at bs → Suffix (after at n) bs → Suffix (left (closing o t at n)) bs
 unfolding closing
 closing-suffix o t at bs (close-bracket cs) h k = k
 closing-suffix o t at bs end h k = h
@@ -124,7 +124,7 @@ closing-suffix o t at bs (hash cs) h k = h
 closing-suffix o t at bs (arrow cs) h k = h
 closing-suffix o t at bs bad h k = h
 
-ending-suffix : (t : Tree) (at bs : List ℕ) (n : Next) → Suffix at bs → Suffix (left (ending t at n)) bs
+ending-suffix : (t : Tree) (at bs : List ℕ) (n : NextToken) → Suffix at bs → Suffix (left (ending t at n)) bs
 unfolding ending
 ending-suffix t at bs end h = suffix-nil bs
 ending-suffix t at bs (close-bracket cs) h = h
@@ -141,7 +141,7 @@ alone-suffix (arg t no-args) at bs h = suffix-refl bs
 alone-suffix (arg t (arg u us)) at bs h = h
 
 module _ (f : List ℕ → Parsed) (g : Leaves f) where
-  pub bracketed-suffix : (o : ComplexSort) (at bs : List ℕ) (n : Next) → Suffix at bs → Suffix (after at n) bs → Suffix (left (bracketed f o at n)) bs
+  pub bracketed-suffix : (o : ComplexSort) (at bs : List ℕ) (n : NextToken) → Suffix at bs → Suffix (after at n) bs → Suffix (left (bracketed f o at n)) bs
   unfolding bracketed
   bracketed-suffix o at bs (open-bracket cs) h k =
       then-suffix (f cs) _ bs (suffix-trans (left (f cs)) cs bs (g cs) k) (λ t ds. closing-suffix o t (skip ds) ds (next isLetter ds) (skip-suffix ds) (next-suffix isLetter ds))
@@ -152,14 +152,14 @@ module _ (f : List ℕ → Parsed) (g : Leaves f) where
   bracketed-suffix o at bs (arrow cs) h k = h
   bracketed-suffix o at bs bad h k = h
 
-  operandOf-suffix : (at bs cs : List ℕ) (m : Meaning) → Suffix at bs → Suffix cs bs → Suffix (left (operandOf f at m cs)) bs
+  operandOf-suffix : (at bs cs : List ℕ) (m : WordMeaning) → Suffix at bs → Suffix cs bs → Suffix (left (operandOf f at m cs)) bs
   unfolding operandOf
   operandOf-suffix at bs cs (basic s) h k = k
-  operandOf-suffix at bs cs (over o) h k =
+  operandOf-suffix at bs cs (operator o) h k =
       suffix-trans _ cs bs (bracketed-suffix o (skip cs) cs (next isLetter cs) (skip-suffix cs) (next-suffix isLetter cs)) k
   operandOf-suffix at bs cs unknown h k = h
 
-  operandAt-suffix : (at bs : List ℕ) (n : Next) → Suffix at bs → Suffix (after at n) bs → Suffix (left (operandAt f at n)) bs
+  operandAt-suffix : (at bs : List ℕ) (n : NextToken) → Suffix at bs → Suffix (after at n) bs → Suffix (left (operandAt f at n)) bs
   unfolding operandAt
   operandAt-suffix at bs (word w cs) h k = operandOf-suffix at bs cs (meaning w) h k
   operandAt-suffix at bs end h k = h
@@ -173,7 +173,7 @@ module _ (f : List ℕ → Parsed) (g : Leaves f) where
   unfolding operand
   operand-suffix bs = operandAt-suffix (skip bs) bs (next isLetter bs) (skip-suffix bs) (next-suffix isLetter bs)
 
-  restAt-suffix : (ts : Trees) (at bs : List ℕ) (m : List ℕ → Parsed) (n : Next) → Suffix at bs → Suffix (after at n) bs
+  restAt-suffix : (ts : Trees) (at bs : List ℕ) (m : List ℕ → Parsed) (n : NextToken) → Suffix at bs → Suffix (after at n) bs
       → ((cs : List ℕ) → Suffix cs bs → Suffix (left (m cs)) bs) → Suffix (left (restAt f ts at bs m n)) bs
   unfolding restAt
   restAt-suffix ts at bs m (hash cs) h k l = l cs k

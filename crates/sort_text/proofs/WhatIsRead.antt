@@ -7,7 +7,7 @@ use Prim.Native.Nat.{ℕ, _+_, _≤_}
 use native.Mathlib.Omega.{arith}
 use lib.ListN.{length}
 use borrow.Author.Tests.{le-leb}
-use Rattle.resolved_sort.specs.Tree.{Tree, Trees, end as no-args, arg, arity}
+use Rattle.resolved_sort.specs.Tree.{Tree, Trees, no-args, arg, arity}
 use Rattle.sort_text.specs.Tokens.{isLetter}
 use Rattle.sort_text.specs.Parse.{parsed, snoc, sort, line}
 use Rattle.sort_text.specs.Text.{nonempty, writable}

@@ -9,8 +9,8 @@ use lib.Dec.{eqb}
 use Rattle.text_out.specs.Quoted.{bytesOf}
 use Rattle.resolved_sort.specs.declared.Sort.{Sort}
 use Rattle.resolved_sort.specs.declared.ComplexSort.{ComplexSort}
-use Rattle.resolved_sort.specs.Tree.{primitive, Tree, flat, container, function, Trees, end as no-args, arg}
-use Rattle.sort_text.specs.Tokens.{isLetter, Next, end, word, open-bracket, close-bracket, hash, arrow, bad}
+use Rattle.resolved_sort.specs.Tree.{primitive, Tree, flat, container, function, Trees, no-args, arg}
+use Rattle.sort_text.specs.Tokens.{isLetter, NextToken, end, word, open-bracket, close-bracket, hash, arrow, bad}
 use Rattle.sort_text.specs.Tokens.{skip, next}
 use Rattle.resolved_sort.specs.Storage.{maxArguments}
 
@@ -19,11 +19,11 @@ pub data Parsed : Type 0 where
   parsed : Tree → List ℕ → Parsed
   stuck : List ℕ → Parsed
 
-abbrev pub _then_ : Parsed → (Tree → List ℕ → Parsed) → Parsed
-(parsed t bs) then k = k t bs
-(stuck bs) then k = stuck bs
+abbrev pub _then-read_ : Parsed → (Tree → List ℕ → Parsed) → Parsed
+(parsed t bs) then-read k = k t bs
+(stuck bs) then-read k = stuck bs
 
-infixl 20 _then_
+infixl 20 _then-read_
 unfoldable pub sameBytes : List ℕ → List ℕ → Bool
 sameBytes [] [] = true
 sameBytes [] (c ∷ cs) = false
@@ -45,26 +45,26 @@ opWord ComplexSort.FSet = bytesOf "FSet"
 opWord ComplexSort.Bag = bytesOf "Bag"
 opWord ComplexSort.FBag = bytesOf "FBag"
 
-pub data Meaning : Type 0 where
-  basic : Sort → Meaning
-  over : ComplexSort → Meaning
-  unknown : Meaning
+pub data WordMeaning : Type 0 where
+  basic : Sort → WordMeaning
+  operator : ComplexSort → WordMeaning
+  unknown : WordMeaning
 
-unfoldable pub meaning : List ℕ → Meaning
+unfoldable pub meaning : List ℕ → WordMeaning
 meaning w =
     cond (sameBytes w (sortWord Sort.Bool)) (basic Sort.Bool)
     (cond (sameBytes w (sortWord Sort.Pos)) (basic Sort.Pos)
     (cond (sameBytes w (sortWord Sort.Nat)) (basic Sort.Nat)
     (cond (sameBytes w (sortWord Sort.Int)) (basic Sort.Int)
     (cond (sameBytes w (sortWord Sort.Real)) (basic Sort.Real)
-    (cond (sameBytes w (opWord ComplexSort.List)) (over ComplexSort.List)
-    (cond (sameBytes w (opWord ComplexSort.Set)) (over ComplexSort.Set)
-    (cond (sameBytes w (opWord ComplexSort.FSet)) (over ComplexSort.FSet)
-    (cond (sameBytes w (opWord ComplexSort.Bag)) (over ComplexSort.Bag)
-    (cond (sameBytes w (opWord ComplexSort.FBag)) (over ComplexSort.FBag) unknown)))))))))
+    (cond (sameBytes w (opWord ComplexSort.List)) (operator ComplexSort.List)
+    (cond (sameBytes w (opWord ComplexSort.Set)) (operator ComplexSort.Set)
+    (cond (sameBytes w (opWord ComplexSort.FSet)) (operator ComplexSort.FSet)
+    (cond (sameBytes w (opWord ComplexSort.Bag)) (operator ComplexSort.Bag)
+    (cond (sameBytes w (opWord ComplexSort.FBag)) (operator ComplexSort.FBag) unknown)))))))))
 
 -- `)` after the sort in brackets
-unfoldable pub closing : ComplexSort → Tree → List ℕ → Next → Parsed
+unfoldable pub closing : ComplexSort → Tree → List ℕ → NextToken → Parsed
 closing o t at (close-bracket bs) = parsed (container o t) bs
 closing o t at end = stuck at
 closing o t at (word w bs) = stuck at
@@ -74,8 +74,8 @@ closing o t at (arrow bs) = stuck at
 closing o t at bad = stuck at
 
 -- `(` after a container word, the sort in it, and `)`
-unfoldable pub bracketed : (List ℕ → Parsed) → ComplexSort → List ℕ → Next → Parsed
-bracketed sort o at (open-bracket bs) = sort bs then (λ t cs. closing o t (skip cs) (next isLetter cs))
+unfoldable pub bracketed : (List ℕ → Parsed) → ComplexSort → List ℕ → NextToken → Parsed
+bracketed sort o at (open-bracket bs) = sort bs then-read (λ t cs. closing o t (skip cs) (next isLetter cs))
 bracketed sort o at end = stuck at
 bracketed sort o at (word w bs) = stuck at
 bracketed sort o at (close-bracket bs) = stuck at
@@ -83,13 +83,13 @@ bracketed sort o at (hash bs) = stuck at
 bracketed sort o at (arrow bs) = stuck at
 bracketed sort o at bad = stuck at
 
-unfoldable pub operandOf : (List ℕ → Parsed) → List ℕ → Meaning → List ℕ → Parsed
+unfoldable pub operandOf : (List ℕ → Parsed) → List ℕ → WordMeaning → List ℕ → Parsed
 operandOf sort at (basic s) bs = parsed (flat (primitive s)) bs
-operandOf sort at (over o) bs = bracketed sort o (skip bs) (next isLetter bs)
+operandOf sort at (operator o) bs = bracketed sort o (skip bs) (next isLetter bs)
 operandOf sort at unknown bs = stuck at
 
 -- an operand: a basic sort, or a container over a sort in brackets
-unfoldable pub operandAt : (List ℕ → Parsed) → List ℕ → Next → Parsed
+unfoldable pub operandAt : (List ℕ → Parsed) → List ℕ → NextToken → Parsed
 operandAt sort at (word w bs) = operandOf sort at (meaning w) bs
 operandAt sort at end = stuck at
 operandAt sort at (open-bracket bs) = stuck at
@@ -112,9 +112,9 @@ alone (arg t no-args) at bs = parsed t bs
 alone (arg t (arg u us)) at bs = stuck at
 
 -- after the operands ts: `#` and what comes then, `->` and the range, or the end of the sort
-unfoldable pub restAt : (List ℕ → Parsed) → Trees → List ℕ → List ℕ → (List ℕ → Parsed) → Next → Parsed
+unfoldable pub restAt : (List ℕ → Parsed) → Trees → List ℕ → List ℕ → (List ℕ → Parsed) → NextToken → Parsed
 restAt sort ts at bs more (hash cs) = more cs
-restAt sort ts at bs more (arrow cs) = sort cs then (λ r ds. parsed (function ts r) ds)
+restAt sort ts at bs more (arrow cs) = sort cs then-read (λ r ds. parsed (function ts r) ds)
 restAt sort ts at bs more end = alone ts at bs
 restAt sort ts at bs more (word w cs) = alone ts at bs
 restAt sort ts at bs more (open-bracket cs) = alone ts at bs
@@ -125,20 +125,20 @@ restAt sort ts at bs more bad = alone ts at bs
 unfoldable pub rest : (List ℕ → Parsed) → ℕ → Trees → List ℕ → Parsed
 rest sort zero ts bs = restAt sort ts (skip bs) bs (λ cs. stuck (skip bs)) (next isLetter bs)
 rest sort (suc k) ts bs =
-    restAt sort ts (skip bs) bs (λ cs. operand sort cs then (λ t ds. rest sort k (snoc ts t) ds))
+    restAt sort ts (skip bs) bs (λ cs. operand sort cs then-read (λ t ds. rest sort k (snoc ts t) ds))
     (next isLetter bs)
 
 -- a sort, read to a depth of brackets and arrows
 unfoldable pub sortTo : ℕ → List ℕ → Parsed
 sortTo zero bs = stuck bs
-sortTo (suc d) bs = operand (sortTo d) bs then (λ t cs. rest (sortTo d) (maxArguments - 1) (arg t no-args) cs)
+sortTo (suc d) bs = operand (sortTo d) bs then-read (λ t cs. rest (sortTo d) (maxArguments - 1) (arg t no-args) cs)
 
 -- Each bracket and arrow takes a byte of the line, so its length is depth enough.
 unfoldable pub sort : List ℕ → Parsed
 sort bs = sortTo (suc (length bs)) bs
 
 -- after the sort of a line nothing but spaces
-unfoldable pub ending : Tree → List ℕ → Next → Parsed
+unfoldable pub ending : Tree → List ℕ → NextToken → Parsed
 ending t at end = parsed t []
 ending t at (word w bs) = stuck at
 ending t at (open-bracket bs) = stuck at
@@ -148,4 +148,4 @@ ending t at (arrow bs) = stuck at
 ending t at bad = stuck at
 
 unfoldable pub line : List ℕ → Parsed
-line bs = sort bs then (λ t cs. ending t (skip cs) (next isLetter cs))
+line bs = sort bs then-read (λ t cs. ending t (skip cs) (next isLetter cs))

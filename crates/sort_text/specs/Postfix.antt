@@ -7,7 +7,7 @@ use lib.ListN.{length, getD}
 use lib.Dec.{leb, ltb}
 use Rattle.resolved_sort.specs.declared.Sort.{Sort}
 use Rattle.resolved_sort.specs.declared.ComplexSort.{ComplexSort}
-use Rattle.resolved_sort.specs.Tree.{unit, primitive, Tree, flat, container, function, Trees, end, arg, arity}
+use Rattle.resolved_sort.specs.Tree.{unit, primitive, Tree, flat, container, function, Trees, no-args, arg, arity}
 use Rattle.resolved_sort.specs.Interning.{Sorts, Outcome, made, nothing, full, _then_, intern}
 use Rattle.resolved_sort.specs.Storage.{kindFlat, kindOp, functionKind, maxArguments}
 
@@ -23,7 +23,7 @@ unfoldable mutual
   postfix (function ts r) = postfixes ts ++ (postfix r ++ ((functionStep + arity ts) ∷ []))
 
   pub postfixes : Trees → List ℕ
-  postfixes end = []
+  postfixes no-args = []
   postfixes (arg t ts) = postfix t ++ postfixes ts
 
 -- the sorts of the steps 0 to 5, and the operators of the steps 6 to 10
@@ -38,33 +38,33 @@ opOf k =
     getD (ComplexSort.List ∷ ComplexSort.Set ∷ ComplexSort.FSet ∷ ComplexSort.Bag ∷ []) k ComplexSort.FBag
 
 -- A stack of sorts, the last one first.
-abbrev pub over : ComplexSort → List Tree → Sorts → Outcome (List Tree)
-over o [] S = nothing S
-over o (t ∷ st) S = intern (container o t) S then (λ u S. made (u ∷ st) S)
+abbrev pub containing : ComplexSort → List Tree → Sorts → Outcome (List Tree)
+containing o [] S = nothing S
+containing o (t ∷ st) S = intern (container o t) S then (λ u S. made (u ∷ st) S)
 
 -- the k sorts on top, the deepest first, as arguments in front of ts; what is below them
-pub data Taken : Type 0 where
-  taken : Trees → List Tree → Taken
-  short : Taken
+pub data Popped : Type 0 where
+  popped : Trees → List Tree → Popped
+  not-enough : Popped
 
-unfoldable pub takeArguments : ℕ → Trees → List Tree → Taken
-takeArguments zero ts st = taken ts st
-takeArguments (suc k) ts [] = short
+unfoldable pub takeArguments : ℕ → Trees → List Tree → Popped
+takeArguments zero ts st = popped ts st
+takeArguments (suc k) ts [] = not-enough
 takeArguments (suc k) ts (t ∷ st) = takeArguments k (arg t ts) st
 
-abbrev pub applied : Tree → Taken → Sorts → Outcome (List Tree)
-applied r short S = nothing S
-applied r (taken ts st) S = intern (function ts r) S then (λ u S. made (u ∷ st) S)
+abbrev pub applied : Tree → Popped → Sorts → Outcome (List Tree)
+applied r not-enough S = nothing S
+applied r (popped ts st) S = intern (function ts r) S then (λ u S. made (u ∷ st) S)
 
 abbrev pub mapping : ℕ → List Tree → Sorts → Outcome (List Tree)
 mapping k [] S = nothing S
-mapping k (r ∷ st) S = applied r (takeArguments k end st) S
+mapping k (r ∷ st) S = applied r (takeArguments k no-args st) S
 
 -- one step
 unfoldable pub stepOn : ℕ → List Tree → Sorts → Outcome (List Tree)
 stepOn op st S =
     cond (ltb op 6) (made (sixth op ∷ st) S)
-    (cond (ltb op functionKind) (over (opOf (op - 6)) st S) (mapping (op - functionStep) st S))
+    (cond (ltb op functionKind) (containing (opOf (op - 6)) st S) (mapping (op - functionStep) st S))
 
 -- the sort on top when all steps are done
 abbrev pub top : List Tree → Sorts → Outcome Tree

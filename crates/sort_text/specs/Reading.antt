@@ -7,11 +7,11 @@ use lib.ListN.{length}
 use lib.Dec.{leb}
 use Rattle.resolved_sort.specs.declared.Joined.{Joined}
 use Rattle.resolved_sort.specs.declared.Joined.the-variants.{At, Nothing, Full}
-use Rattle.resolved_sort.specs.Tree.{Tree, flat, container, function, Trees, end, arg}
+use Rattle.resolved_sort.specs.Tree.{Tree, flat, container, function, Trees, no-args, arg}
 use Rattle.resolved_sort.specs.Interning.{Sorts, Outcome, made, nothing, full, _then_, intern}
 use Rattle.resolved_sort.specs.Storage.{sortsOf, givenBack}
 use Rattle.resolved_sort.specs.Checks.{Check, firstFailing, sortChecks, atCeiling}
-use Rattle.resolved_sort.specs.Entries.{orElse, Stored, stored}
+use Rattle.resolved_sort.specs.Entries.{refusedOr, Stored, stored}
 use Rattle.sort_text.specs.declared.Read.{Read}
 use Rattle.sort_text.specs.declared.Read.the-variants.{Refused, NotASort, Sort, NoRoom}
 use Rattle.sort_text.specs.Parse.{Parsed, parsed, stuck, line}
@@ -24,7 +24,7 @@ unfoldable mutual
   store (function ts r) S = stores ts S then (λ us S. store r S then (λ v S. intern (function us v) S))
 
   pub stores : Trees → Sorts → Outcome Trees
-  stores end S = made end S
+  stores no-args S = made no-args S
   stores (arg t ts) S = store t S then (λ u S. stores ts S then (λ us S. made (arg u us) S))
 
 -- 19. "A text line is above 200 bytes, its LF not counted."
@@ -66,4 +66,4 @@ readAs ws n e bs (stuck cs) = readLeft ws (NotASort (length bs - length cs))
 
 unfoldable pub reading : List ℕ → ℕ → ℕ → List ℕ → ReadLeft
 reading ws n e bs =
-    orElse (firstFailing (readChecks ws n e bs)) (λ c. readLeft ws (Refused c)) (readAs ws n e bs (line bs))
+    refusedOr (firstFailing (readChecks ws n e bs)) (λ c. readLeft ws (Refused c)) (readAs ws n e bs (line bs))

@@ -5,12 +5,12 @@ use mathlib.Core.List.{List, [], _∷_, _++_}
 use Prim.Native.Nat.{ℕ}
 use Rattle.text_out.specs.Quoted.{bytesOf}
 use Rattle.resolved_sort.specs.Tree.{Flat, unit, primitive, def, typevar, Tree, flat, container, function, Trees}
-use Rattle.resolved_sort.specs.Tree.{end, arg}
+use Rattle.resolved_sort.specs.Tree.{no-args, arg}
 use Rattle.sort_text.specs.Parse.{sortWord, opWord}
 
 -- whether a function has an argument
 abbrev pub nonempty : Trees → Bool
-nonempty end = false
+nonempty no-args = false
 nonempty (arg t ts) = true
 
 abbrev pub flatWritable : Flat → Bool
@@ -26,14 +26,14 @@ unfoldable mutual
   writable (function ts r) = nonempty ts && writables ts && writable r
 
   pub writables : Trees → Bool
-  writables end = true
+  writables no-args = true
   writables (arg t ts) = writable t && writables ts
 
-abbrev pub between : List ℕ
-between = bytesOf " # "
+abbrev pub betweenText : List ℕ
+betweenText = bytesOf " # "
 
-abbrev pub arrow : List ℕ
-arrow = bytesOf " -> "
+abbrev pub arrowText : List ℕ
+arrowText = bytesOf " -> "
 
 abbrev pub flatText : Flat → List ℕ
 flatText unit = []
@@ -49,13 +49,13 @@ unfoldable mutual
   pub text : Tree → List ℕ
   text (flat a) = flatText a
   text (container o t) = opWord o ++ (bytesOf "(" ++ (text t ++ bytesOf ")"))
-  text (function ts r) = texts ts ++ (arrow ++ text r)
+  text (function ts r) = texts ts ++ (arrowText ++ text r)
 
   -- the arguments of a function, joined
   pub texts : Trees → List ℕ
-  texts end = []
+  texts no-args = []
   texts (arg t ts) = argument t (text t) ++ more ts
 
   pub more : Trees → List ℕ
-  more end = []
-  more (arg t ts) = between ++ (argument t (text t) ++ more ts)
+  more no-args = []
+  more (arg t ts) = betweenText ++ (argument t (text t) ++ more ts)

@@ -12,11 +12,11 @@ abbrev pub isLetter : ℕ → Bool
 isLetter b = leb (byteOf "A") b && leb b (byteOf "Z") || leb (byteOf "a") b && leb b (byteOf "z")
 
 -- the next token, with the bytes after it
-pub data Next : Type 0 where
-  end : Next
-  word : List ℕ → List ℕ → Next
-  open-bracket close-bracket hash arrow : List ℕ → Next
-  bad : Next
+pub data NextToken : Type 0 where
+  end : NextToken
+  word : List ℕ → List ℕ → NextToken
+  open-bracket close-bracket hash arrow : List ℕ → NextToken
+  bad : NextToken
 
 -- the run of word bytes at the front, and what follows it
 unfoldable pub run : (ℕ → Bool) → List ℕ → List ℕ
@@ -32,12 +32,12 @@ unfoldable pub skip : List ℕ → List ℕ
 skip = past (eqb (byteOf " "))
 
 -- `-` is a token only with `>` after it
-abbrev pub dash : List ℕ → Next
+abbrev pub dash : List ℕ → NextToken
 dash [] = bad
 dash (b ∷ bs) = cond (eqb b (byteOf ">")) (arrow bs) bad
 
 -- the token that a byte starts
-unfoldable pub start : (ℕ → Bool) → ℕ → List ℕ → Next
+unfoldable pub start : (ℕ → Bool) → ℕ → List ℕ → NextToken
 start p b bs =
     cond (p b) (word (b ∷ run p bs) (past p bs))
     (cond (eqb b (byteOf "(")) (open-bracket bs)
@@ -45,9 +45,9 @@ start p b bs =
     (cond (eqb b (byteOf "#")) (hash bs)
     (cond (eqb b (byteOf "-")) (dash bs) bad))))
 
-abbrev pub nextAt : (ℕ → Bool) → List ℕ → Next
+abbrev pub nextAt : (ℕ → Bool) → List ℕ → NextToken
 nextAt p [] = end
 nextAt p (b ∷ bs) = start p b bs
 
-unfoldable pub next : (ℕ → Bool) → List ℕ → Next
+unfoldable pub next : (ℕ → Bool) → List ℕ → NextToken
 next p bs = nextAt p (skip bs)

@@ -6,7 +6,7 @@ use Prim.Native.Nat.{ℕ}
 use lib.ListN.{length, drop}
 use lib.Dec.{leb}
 use Rattle.resolved_sort.specs.Checks.{Check, firstFailing, sortChecks, inList, atCeiling}
-use Rattle.resolved_sort.specs.Entries.{orElse, treeAt}
+use Rattle.resolved_sort.specs.Entries.{refusedOr, treeAt}
 use Rattle.sort_text.specs.declared.Written.{Written}
 use Rattle.sort_text.specs.declared.Written.the-variants.{Refused, Text}
 use Rattle.sort_text.specs.Text.{writable, text}
@@ -34,6 +34,6 @@ writeLeft out r = record { bytes = out; answer = r }
 -- On a refusal no byte is written, and none past the text in any case.
 unfoldable pub writing : List ℕ → ℕ → ℕ → ℕ → List ℕ → WriteLeft
 writing ws n e a out =
-    orElse (firstFailing (writeChecks ws n e a out)) (λ c. writeLeft out (Refused c))
+    refusedOr (firstFailing (writeChecks ws n e a out)) (λ c. writeLeft out (Refused c))
     (writeLeft (text (treeAt ws n a) ++ drop (length (text (treeAt ws n a))) out)
     (Text (length (text (treeAt ws n a)))))

@@ -13,14 +13,14 @@ use Rattle.resolved_sort.specs.declared.Tested.{Tested}
 use Rattle.resolved_sort.specs.declared.Tested.the-variants.{Refused, Passed}
 use Rattle.resolved_sort.specs.Storage.{maxSorts, maxEntries, fullLength, entriesAt}
 use Rattle.resolved_sort.specs.Checks.{Check, firstFailing, sortChecks, withinLent, rowsFine, noTwoEqual, inList, atCeiling}
-use Rattle.resolved_sort.specs.Entries.{testedOf, orElse, treeAt}
+use Rattle.resolved_sort.specs.Entries.{testedOf, refusedOr, treeAt}
 use Rattle.resolved_sort.proofs.Interned.{Listed}
 use Rattle.resolved_sort.proofs.FirstFailing.{first-fails, first-passes, append-fails, append-passes, cons-passes}
 use Rattle.resolved_sort.proofs.Testing.{refused-is, passed-is}
 use Rattle.sort_text.specs.declared.Written.the-variants.{Refused as NotWritten, Text}
 use Rattle.sort_text.specs.Text.{writable, text}
 use Rattle.sort_text.specs.Writing.{writeChecks, writeLeft, writing}
-use Rattle.sort_writer.specs.Sizes.{most, capped, sizeIf, sized, sizesTo}
+use Rattle.sort_writer.specs.Sizes.{mostSize, capped, sizeIf, sized, sizesTo}
 use Rattle.sort_writer.specs.Puts.{SortRoom}
 use Rattle.text_out.specs.Put.{Put}
 use Rattle.sort_writer.proofs.Front.{put-front}
@@ -56,9 +56,9 @@ module _ (b : Bool) (l : ℕ) (h : b ≡ true → 0 < l) where
   size-none = go b h
     where
       go : (b : Bool) → (b ≡ true → 0 < l) → cond b (capped l) 0 ≡ 0 → b ≡ false
-      go true h z = absurd (by (decLe l most))
+      go true h z = absurd (by (decLe l mostSize))
         where
-          by : Dec (l ≤ most) → ⊥
+          by : Dec (l ≤ mostSize) → ⊥
           by (yes d) = omega (arith, capped-short l d, h refl)
           by (no d) = omega (arith, capped-long l (omega arith))
       go false h z = refl
@@ -69,16 +69,16 @@ size-some true l h = (refl, refl)
 size-some false l h = absurd (h refl)
 
 capped-above : (l m : ℕ) → m < capped l → m < l
-capped-above l m h = go (decLe l most)
+capped-above l m h = go (decLe l mostSize)
   where
-    go : Dec (l ≤ most) → m < l
+    go : Dec (l ≤ mostSize) → m < l
     go (yes d) = omega (arith, capped-short l d)
     go (no d) = omega (arith, capped-long l (omega arith))
 
-capped-within : (l m : ℕ) → m < most → capped l ≤ m → l ≤ m
-capped-within l m h g = go (decLe l most)
+capped-within : (l m : ℕ) → m < mostSize → capped l ≤ m → l ≤ m
+capped-within l m h g = go (decLe l mostSize)
   where
-    go : Dec (l ≤ most) → l ≤ m
+    go : Dec (l ≤ mostSize) → l ≤ m
     go (yes d) = omega (arith, capped-short l d)
     go (no d) = absurd (omega (arith, capped-long l (omega arith)))
 
@@ -143,7 +143,7 @@ module _ (ws : List ℕ) (n e a : ℕ) (out : List ℕ) (t : Tested) (et : t ≡
               ∙ first-fails fourteen _
               (rw (le-leb fullLength (length ws) hw, lt-leb (length (text (treeAt ws n a))) (length out) (capped-above _ _ (omega (arith, written-size .1)))))))
 
-          pub all-pass : size ≤ length out → length out < most → Passed ≡ testedOf (firstFailing (writeChecks ws n e a out))
+          pub all-pass : size ≤ length out → length out < mostSize → Passed ≡ testedOf (firstFailing (writeChecks ws n e a out))
           unfolding atCeiling firstFailing
           all-pass h m =
               ap testedOf
@@ -190,7 +190,7 @@ unfolding writing
 text-fits ws n e a out l h = go (firstFailing (writeChecks ws n e a out)) refl h
   where
     go : (x : Option ℕ) → firstFailing (writeChecks ws n e a out) ≡ x
-        → (orElse x (λ c. writeLeft out (NotWritten c)) (writeLeft (text (treeAt ws n a) ++ drop (length (text (treeAt ws n a))) out) (Text (length (text (treeAt ws n a)))))) .answer ≡ Text l
+        → (refusedOr x (λ c. writeLeft out (NotWritten c)) (writeLeft (text (treeAt ws n a) ++ drop (length (text (treeAt ws n a))) out) (Text (length (text (treeAt ws n a)))))) .answer ≡ Text l
         → l ≤ length out
     go none e₁ q = let z : length (text (treeAt ws n a)) ≡ l = cc in omega (arith, has-room ws n e a out Passed (ap testedOf (sym e₁)) refl .room)
     go (some c) e₁ q = let z : _≡_ {A = ℕ} 0 1 = cc in absurd (omega arith)

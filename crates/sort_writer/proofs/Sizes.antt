@@ -11,27 +11,27 @@ use lib.Dec.{leb}
 use borrow.Author.Tests.{ne-eqb, eq-eqb, le-leb, lt-leb}
 use Rattle.resolved_sort.specs.declared.Sort.{Sort}
 use Rattle.resolved_sort.specs.declared.ComplexSort.{ComplexSort}
-use Rattle.resolved_sort.specs.Tree.{Flat, unit, primitive, def, typevar, Tree, flat, container, function, Trees, end, arg}
+use Rattle.resolved_sort.specs.Tree.{Flat, unit, primitive, def, typevar, Tree, flat, container, function, Trees, no-args, arg}
 use Rattle.sort_text.specs.Parse.{sortWord, opWord}
 use Rattle.sort_text.specs.Text.{nonempty, flatWritable, writable, writables, text, texts, more}
-use Rattle.sort_writer.specs.Sizes.{most, capped, sizeIf, sized, sizedAll, joined}
+use Rattle.sort_writer.specs.Sizes.{mostSize, capped, sizeIf, sized, sizedAll, joined}
 
-pub capped-short : (n : ℕ) → n ≤ most → capped n ≡ n
+pub capped-short : (n : ℕ) → n ≤ mostSize → capped n ≡ n
 unfolding capped
-capped-short n h = rw (le-leb n most h)
+capped-short n h = rw (le-leb n mostSize h)
 
-pub capped-long : (n : ℕ) → most ≤ n → capped n ≡ most
+pub capped-long : (n : ℕ) → mostSize ≤ n → capped n ≡ mostSize
 unfolding capped
-capped-long n h = go (decLe n most)
+capped-long n h = go (decLe n mostSize)
   where
-    go : Dec (n ≤ most) → cond (leb n most) n most ≡ most
-    go (yes l) = rw (le-leb n most l) (omega arith)
-    go (no l) = rw (lt-leb n most (omega arith))
+    go : Dec (n ≤ mostSize) → cond (leb n mostSize) n mostSize ≡ mostSize
+    go (yes l) = rw (le-leb n mostSize l) (omega arith)
+    go (no l) = rw (lt-leb n mostSize (omega arith))
 
 capped-some : (n : ℕ) → 0 < n → capped n ≡ 0 → ⊥
-capped-some n h e = go (decLe n most)
+capped-some n h e = go (decLe n mostSize)
   where
-    go : Dec (n ≤ most) → ⊥
+    go : Dec (n ≤ mostSize) → ⊥
     go (yes l) = omega (arith, capped-short n l)
     go (no l) = omega (arith, capped-long n (omega arith))
 
@@ -48,17 +48,17 @@ module _ (a b : ℕ) (ha : a ≡ 0 → ⊥) (hb : b ≡ 0 → ⊥) where
   unfolding joined
   joined-both = rw (ne-eqb a 0 ha, ne-eqb b 0 hb)
 
-  pub joined-far : most < a + b → most ≡ joined a b
+  pub joined-far : mostSize < a + b → mostSize ≡ joined a b
   joined-far h = sym (joined-both ∙ capped-long (a + b) (omega arith))
 
-  pub joined-whole : a + b ≤ most → a + b ≡ joined a b
+  pub joined-whole : a + b ≤ mostSize → a + b ≡ joined a b
   joined-whole h = sym (joined-both ∙ capped-short (a + b) h)
 
 -- the sizes of two texts
 joined-capped : (a b : ℕ) → 0 < a → 0 < b → joined (capped a) (capped b) ≡ capped (a + b)
-joined-capped a b ha hb = joined-both (capped a) (capped b) (capped-some a ha) (capped-some b hb) ∙ go (decLe a most) (decLe b most)
+joined-capped a b ha hb = joined-both (capped a) (capped b) (capped-some a ha) (capped-some b hb) ∙ go (decLe a mostSize) (decLe b mostSize)
   where
-    go : Dec (a ≤ most) → Dec (b ≤ most) → capped (capped a + capped b) ≡ capped (a + b)
+    go : Dec (a ≤ mostSize) → Dec (b ≤ mostSize) → capped (capped a + capped b) ≡ capped (a + b)
     go (yes l) (yes m) = ap₂ (λ (x y : ℕ). capped (x + y)) (capped-short a l) (capped-short b m)
     go (yes l) (no m) = capped-long (capped a + capped b) (omega (arith, capped-long b (omega arith))) ∙ sym (capped-long (a + b) (omega arith))
     go (no l) m = capped-long (capped a + capped b) (omega (arith, capped-long a (omega arith))) ∙ sym (capped-long (a + b) (omega arith))
@@ -69,7 +69,7 @@ joined-if true true m n h k = joined-capped m n (h refl) (k refl)
 joined-if true false m n h k = sym (joined-with-none (capped m) 0 (capped-some m (h refl)) refl)
 joined-if false d m n h k = sym (joined-none 0 (cond d (capped n) 0) refl)
 
-size-there : (n : ℕ) → n ≤ most → sizeIf true n ≡ n
+size-there : (n : ℕ) → n ≤ mostSize → sizeIf true n ≡ n
 unfolding sizeIf
 size-there n l = capped-short n l
 
@@ -117,7 +117,7 @@ texts-length t ts = length-append (text t) (more ts)
 
 texts-some : (ts : Trees) → (nonempty ts && writables ts) ≡ true → 0 < length (texts ts)
 unfolding writable
-texts-some end e = let z : _≡_ {A = ℕ} 0 1 = cc in absurd (omega arith)
+texts-some no-args e = let z : _≡_ {A = ℕ} 0 1 = cc in absurd (omega arith)
 texts-some (arg t ts) e = omega (arith, texts-length t ts, text-some t (and-eq-true-iff (writable t) (writables ts) .0 e .0))
 
 -- the size of a sort, by its parts
@@ -146,7 +146,7 @@ and-true : (b : Bool) → b ≡ (b && true)
 and-true true = refl
 and-true false = refl
 
-no-more : length (more end) ≡ 0
+no-more : length (more no-args) ≡ 0
 unfolding text
 no-more = refl
 
@@ -155,13 +155,13 @@ unfolding text
 more-length u us = omega arith
 
 -- the size of arguments
-pub size-of-no-arguments : 0 ≡ sizedAll end
+pub size-of-no-arguments : 0 ≡ sizedAll no-args
 unfolding sizedAll sizeIf
 size-of-no-arguments = refl
 
-pub size-of-one : (t : Tree) → sized t ≡ sizedAll (arg t end)
+pub size-of-one : (t : Tree) → sized t ≡ sizedAll (arg t no-args)
 unfolding sized sizedAll writable
-size-of-one t = ap₂ sizeIf (and-true (writable t)) (omega (arith, texts-length t end, no-more))
+size-of-one t = ap₂ sizeIf (and-true (writable t)) (omega (arith, texts-length t no-args, no-more))
 
 pub size-of-more : (t u : Tree) (us : Trees) → joined (sized t) (joined 3 (sizedAll (arg u us))) ≡ sizedAll (arg t (arg u us))
 unfolding sized sizedAll writable

@@ -19,7 +19,7 @@ use Rattle.resolved_sort.proofs.Interned.{listed}
 use Rattle.resolved_sort.proofs.Pairs.{sortOf, Below}
 use Rattle.resolved_sort.proofs.Said.{entry-below, first-entry, topOf, top-below, first-below-top, rest-below-top}
 use Rattle.sort_text.specs.Parse.{sortWord, opWord}
-use Rattle.sort_text.specs.Text.{text, texts, more, between, arrow}
+use Rattle.sort_text.specs.Text.{text, texts, more, betweenText, arrowText}
 use Rattle.sort_writer.specs.Puts.{SortRoom, RunRoom}
 use Rattle.text_out.specs.Put.{Put}
 use Rattle.sort_writer.proofs.Rows.{row-says, row-parts}
@@ -125,11 +125,11 @@ module _ {ws : List ℕ} {n e a : ℕ} {out : List ℕ} {at : ℕ} (k : SortRoom
     abbrev range-text : List ℕ
     range-text = text (treeAt ws n (g .0))
 
-    function-is : text (treeAt ws n a) ≡ args-text ++ (arrow ++ range-text)
+    function-is : text (treeAt ws n a) ≡ args-text ++ (arrowText ++ range-text)
     unfolding sortOf text
     function-is = says (Function d g) t
 
-    all-room : at + length (args-text ++ (arrow ++ range-text)) ≤ length out
+    all-room : at + length (args-text ++ (arrowText ++ range-text)) ≤ length out
     all-room = as-room at (length out) function-is (k .room)
 
     pub arguments-fall : {m : ℕ} → sortLeft a ≡ m → RunCall m ws n e (d .start) (d .count) out at
@@ -141,18 +141,18 @@ module _ {ws : List ℕ} {n e a : ℕ} {out : List ℕ} {at : ℕ} (k : SortRoom
             checked = k .checked;
             inside = b .2;
             args = λ j l. omega (arith, k .below, entry-below ws a (d .start) (d .count) (b .3) j l);
-            room = room-first at (length out) args-text (arrow ++ range-text) all-room;
+            room = room-first at (length out) args-text (arrowText ++ range-text) all-room;
           },
         )
 
     module _ {mid : List ℕ} {p : ℕ} (h : Put out at (texts (argsAt ws n (d .start) (d .count))) mid p) where
-      after-room : p + length (arrow ++ range-text) ≤ length mid
-      after-room = room-behind (arrow ++ range-text) h all-room
+      after-room : p + length (arrowText ++ range-text) ≤ length mid
+      after-room = room-behind (arrowText ++ range-text) h all-room
 
       pub arrow-room : p + 4 ≤ length mid
-      arrow-room = room-first p (length mid) arrow range-text after-room
+      arrow-room = room-first p (length mid) arrowText range-text after-room
 
-      module _ {mid₂ : List ℕ} {p₂ : ℕ} (h₂ : Put mid p arrow mid₂ p₂) where
+      module _ {mid₂ : List ℕ} {p₂ : ℕ} (h₂ : Put mid p arrowText mid₂ p₂) where
         pub range-falls : {m : ℕ} → sortLeft a ≡ m → SortCall m ws n e (g .0) mid₂ p₂
         unfolding Below
         range-falls f =
@@ -171,7 +171,7 @@ one-text : (ws : List ℕ) (n s c : ℕ) → c ≡ 1 → texts (argsAt ws n s c)
 unfolding text lookAll entriesOf
 one-text ws n s c e = rw e (append-nil (text (treeAt ws n (entryAt ws s))))
 
-more-of-some : (t : Tree) (ts : Trees) → more (arg t ts) ≡ between ++ texts (arg t ts)
+more-of-some : (t : Tree) (ts : Trees) → more (arg t ts) ≡ betweenText ++ texts (arg t ts)
 unfolding text
 more-of-some t ts = refl
 
@@ -179,12 +179,12 @@ texts-of : (t : Tree) (ts : Trees) → texts (arg t ts) ≡ text t ++ more ts
 unfolding text
 texts-of t ts = refl
 
-more-texts : (ws : List ℕ) (n s c : ℕ) → (c ≡ 0 → ⊥) → 1 < c → texts (argsAt ws n s c) ≡ text (treeAt ws n (entryAt ws s)) ++ (between ++ texts (argsAt ws n (s + 1) (c - 1)))
+more-texts : (ws : List ℕ) (n s c : ℕ) → (c ≡ 0 → ⊥) → 1 < c → texts (argsAt ws n s c) ≡ text (treeAt ws n (entryAt ws s)) ++ (betweenText ++ texts (argsAt ws n (s + 1) (c - 1)))
 more-texts ws n s c h g =
     let f = args-by-first ws n (s + 1) (c - 1) (λ z. omega arith) in
     ap texts (args-by-first ws n s c h)
     ∙ (texts-of _ _
-    ∙ ap (λ bs. text (treeAt ws n (entryAt ws s)) ++ bs) (ap more f ∙ (more-of-some _ _ ∙ ap (λ ts. between ++ texts ts) (sym f))))
+    ∙ ap (λ bs. text (treeAt ws n (entryAt ws s)) ++ bs) (ap more f ∙ (more-of-some _ _ ∙ ap (λ ts. betweenText ++ texts ts) (sym f))))
 
 module _ {ws : List ℕ} {n e s c : ℕ} {out : List ℕ} {at : ℕ} (k : RunRoom ws n e s c out at) where
   pub none-put : c ≡ 0 → Put out at (texts (argsAt ws n s c)) out at
@@ -210,16 +210,16 @@ module _ {ws : List ℕ} {n e s c : ℕ} {out : List ℕ} {at : ℕ} (k : RunRoo
         abbrev rest-text : List ℕ
         rest-text = texts (argsAt ws n (s + 1) (c - 1))
 
-        all-texts : texts (argsAt ws n s c) ≡ text (treeAt ws n x) ++ (between ++ rest-text)
-        all-texts = more-texts ws n s c h g ∙ ap (λ (i : ℕ). text (treeAt ws n i) ++ (between ++ rest-text)) (sym q)
+        all-texts : texts (argsAt ws n s c) ≡ text (treeAt ws n x) ++ (betweenText ++ rest-text)
+        all-texts = more-texts ws n s c h g ∙ ap (λ (i : ℕ). text (treeAt ws n i) ++ (betweenText ++ rest-text)) (sym q)
 
-        later-room : p + length (between ++ rest-text) ≤ length mid
-        later-room = room-behind (between ++ rest-text) f (as-room at (length out) all-texts (k .room))
+        later-room : p + length (betweenText ++ rest-text) ≤ length mid
+        later-room = room-behind (betweenText ++ rest-text) f (as-room at (length out) all-texts (k .room))
 
         pub between-room : p + 3 ≤ length mid
-        between-room = room-first p (length mid) between rest-text later-room
+        between-room = room-first p (length mid) betweenText rest-text later-room
 
-        module _ {mid₂ : List ℕ} {p₂ : ℕ} (b : Put mid p between mid₂ p₂) where
+        module _ {mid₂ : List ℕ} {p₂ : ℕ} (b : Put mid p betweenText mid₂ p₂) where
           pub rest-falls : {m : ℕ} → runLeft ws s c ≡ m → RunCall m ws n e (s + 1) (c - 1) mid₂ p₂
           rest-falls w = (
             omega (arith, h, rest-below-top ws s c h),

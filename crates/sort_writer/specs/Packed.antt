@@ -16,8 +16,8 @@ pub record PackedWrite : Type 0 where
   pub bytes : List ℕ
   pub result : ℕ
 
-abbrev pub packed : List ℕ → ℕ → PackedWrite
-packed bs r = record { bytes = bs; result = r }
+abbrev pub packedWrite : List ℕ → ℕ → PackedWrite
+packedWrite bs r = record { bytes = bs; result = r }
 
-abbrev pub packLeft : WriteLeft → PackedWrite
-packLeft l = packed (l .bytes) (packWritten (l .answer))
+abbrev pub packWriteLeft : WriteLeft → PackedWrite
+packWriteLeft l = packedWrite (l .bytes) (packWritten (l .answer))

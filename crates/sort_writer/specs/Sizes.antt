@@ -13,11 +13,11 @@ use Rattle.sort_text.specs.Parse.{sortWord, opWord}
 use Rattle.sort_text.specs.Text.{nonempty, writable, writables, text, texts}
 use Rattle.words.specs.Bits.{bit63}
 
-abbrev pub most : ℕ
-most = bit63
+abbrev pub mostSize : ℕ
+mostSize = bit63
 
 unfoldable pub capped : ℕ → ℕ
-capped n = cond (leb n most) n most
+capped n = cond (leb n mostSize) n mostSize
 
 -- the size of a text of n bytes, where there is one
 unfoldable pub sizeIf : Bool → ℕ → ℕ

@@ -29,7 +29,7 @@ ghost use Rattle.sort_writer.specs.Sizes.{joined, runSize, rowSize, size
 ghost use Rattle.sort_writer.specs.Puts.{SortRoom, RunRoom};
 ghost use Rattle.text_out.specs.Put.{Put};
 ghost use Rattle.text_out.specs.Quoted.{bytesOf};
-ghost use Rattle.sort_writer.specs.Packed.{packWritten, packed, packLeft};
+ghost use Rattle.sort_writer.specs.Packed.{packWritten, packedWrite, packWriteLeft};
 
 // The size of two texts one after the other. It stops at 2^63, and where one has no text there is none.
 fn join_sizes(a: usize, b: usize) -> usize
@@ -318,8 +318,8 @@ pub extern "C" fn sort_write(
     out: &mut [u8],
 ) -> u64
     ensures { λ r. ⌜
-        packed (now (out .exit)) r
-        ≡ packLeft (writing (now (sorts .entry)) «sort_count» «entry_count» id (now (out .entry)))
+        packedWrite (now (out .exit)) r
+        ≡ packWriteLeft (writing (now (sorts .entry)) «sort_count» «entry_count» id (now (out .entry)))
         ⌝ }
 {
     pack_written(write(sorts, sort_count, entry_count, SortId(id), out))

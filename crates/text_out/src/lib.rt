@@ -35,13 +35,13 @@ pub fn put_byte(byte: u8, out: &mut [u8], at: usize) -> usize
 pub fn put_text(bytes: &[u8], out: &mut [u8], at: usize) -> usize
     ensures { λ r. ⌜ PutWithin (now (out .entry)) at (now (bytes .entry)) (now (out .exit)) r ⌝ }
 {
-    let mut place = at;
+    let mut cursor = at;
     let mut i: usize = 0;
     while i < bytes.len() {
-        place = put_byte(bytes[i], out, place);
+        cursor = put_byte(bytes[i], out, cursor);
         i += 1;
     }
-    place
+    cursor
 }
 
 // The digit of a number for a unit that it reaches.

@@ -10,7 +10,7 @@ use Prim.Native.Nat.{ℕ, zero, suc}
 use lib.Dec.{eqb}
 use lib.ListN.{set}
 use Rattle.resolved_sort.proofs.Reached.{no-confusion}
-use Rattle.unification.specs.Term.{Head, Term, app, Shape, variable, over, sameHead, put}
+use Rattle.unification.specs.Term.{Head, Term, app, Shape, variable, over, sameHead, substitute}
 use Rattle.unification.specs.Nodes.{isSort, Binds, binding}
 use Rattle.unification.specs.Unify.{Unifies, yes-with, no-way, too-deep, and-then, Occurs, absent, present, unknown, followBound, followAt, follow, occursBound, occursAt, occurs, bindUnless, unifyAll, unifyHeads, unifyVariables, unifyShapes, unifyApart, unifyEnds, unifyFollowed, unifyTo}
 use Rattle.unification.specs.Acyclic.{One, first, later, Stands, at, within, Numbering}
@@ -107,8 +107,8 @@ module _ (P : ℕ → Type 0) (shape shape′ : ℕ → Shape) (A : Agree P shap
 
     pub respects-agrees : (σ : ℕ → Term) → Respects shape B σ ↔ Respects shape′ B σ
     respects-agrees σ = (
-      λ r v q e. r v q e ∙ ap (put σ) (sym (term-agrees (suc q) q (b v q e))),
-      λ r v q e. r v q e ∙ ap (put σ) (term-agrees (suc q) q (b v q e)),
+      λ r v q e. r v q e ∙ ap (substitute σ) (sym (term-agrees (suc q) q (b v q e))),
+      λ r v q e. r v q e ∙ ap (substitute σ) (term-agrees (suc q) q (b v q e)),
     )
 
   -- unify has the same answer, and after a yes the bindings again name only places of P

@@ -8,7 +8,7 @@ use mathlib.Core.Logic.{inl, inr}
 use Prim.Native.Nat.{ℕ, zero, suc, _<_}
 use native.Mathlib.Omega.{arith}
 use Rattle.resolved_sort.specs.Tree.{Tree}
-use Rattle.unification.specs.Term.{Term, var, app, Terms, no-part, part, Shape, variable, over, termOf, put, puts}
+use Rattle.unification.specs.Term.{Term, var, app, Terms, no-part, part, Shape, variable, over, termOf, substitute, substitutes}
 use Rattle.unification.specs.Nodes.{Binds, binding}
 use Rattle.unification.specs.Unify.{deep}
 use Rattle.unification.specs.Solutions.{termOfShape, termTo, termAt, Respects}
@@ -30,15 +30,15 @@ SortTerm t = (u : Tree) × (t ≡ termOf u)
 
 module _ (σ : ℕ → Term) where
   mutual
-    unfolding Formed AllFormed Has OneHas put puts termsFor
+    unfolding Formed AllFormed Has OneHas substitute substitutes termsFor
 
-    pub put-is-sort : (t : Term) → Formed t → ((v : ℕ) → Has v t → SortTerm (σ v)) → SortTerm (put σ t)
+    pub put-is-sort : (t : Term) → Formed t → ((v : ℕ) → Has v t → SortTerm (σ v)) → SortTerm (substitute σ t)
     put-is-sort (var v) f s = s v refl
     put-is-sort (app h ts) f s =
         let r = puts-are-sorts ts (f .1) s in
         (treeOver h (r .0), ap (app h) (r .1) ∙ head-term h (r .0) (subst (HeadOver h) (sym (count-puts σ ts) ∙ (ap count (r .1) ∙ count-for (r .0))) (f .0)))
 
-    puts-are-sorts : (ts : Terms) → AllFormed ts → ((v : ℕ) → OneHas v ts → SortTerm (σ v)) → (us : List Tree) × (puts σ ts ≡ termsFor us)
+    puts-are-sorts : (ts : Terms) → AllFormed ts → ((v : ℕ) → OneHas v ts → SortTerm (σ v)) → (us : List Tree) × (substitutes σ ts ≡ termsFor us)
     puts-are-sorts no-part f s = ([], refl)
     puts-are-sorts (part t ts) f s =
         let x = put-is-sort t (f .0) (λ v h. s v (inl h)) in
@@ -84,7 +84,7 @@ module _ (W : Lent) (c : CheckedLent W) where
   term-formed p x = formed-to (suc p) p (omega arith) x
 
   -- Under an assignment of sorts every place stands for a sort.
-  pub place-has-a-sort : (ρ : ℕ → Tree) (p : ℕ) → PlacedIn W p → (u : Tree) × (put (λ u. termOf (ρ u)) (termAt (graph W) p) ≡ termOf u)
+  pub place-has-a-sort : (ρ : ℕ → Tree) (p : ℕ) → PlacedIn W p → (u : Tree) × (substitute (λ u. termOf (ρ u)) (termAt (graph W) p) ≡ termOf u)
   place-has-a-sort ρ p x = put-is-sort (λ u. termOf (ρ u)) (termAt (graph W) p) (term-formed p x) (λ u h. (ρ u, refl))
 
   -- Sorts for the free variables extend to sorts for all, under which the bindings hold.

@@ -15,7 +15,7 @@ use Rattle.resolved_sort.proofs.Numbers.{true-not-false}
 use Rattle.unification.specs.Term.{Shape, variable, over}
 use Rattle.unification.specs.Nodes.{nodeAt, nodeShape, isPlace, shapeAt, Binds, binding}
 use Rattle.unification.specs.NodeChecks.{bindingsFine}
-use Rattle.unification.specs.Acyclic.{One, first, later, Reaches, here, inside, beyond, Stands, at, within, placeSettled, allSettled, shapeSettled, nodesSettled, bindingSettled, rounds, all, acyclic}
+use Rattle.unification.specs.Acyclic.{One, first, later, Reaches, here, inside, beyond, Stands, at, within, placeSettled, allSettled, shapeSettled, nodesSettled, bindingSettled, rounds, allTrue, acyclic}
 use Rattle.unification.specs.Checked.{ListsFine, listsOf}
 use Rattle.unification.proofs.Numbering.{stands-scoped}
 use Rattle.unification.proofs.Places.{place-below, place-longer, bound-is-place}
@@ -79,8 +79,8 @@ one-open ms (p ∷ ps) e = go (placeSettled ms p) refl e (one-open ms ps)
     go true x e ih = let r = ih e in (r .0, later p ps (r .1), r .2)
     go false x e ih = (p, first ps, x)
 
-one-false : (xs : List Bool) → all xs ≡ false → (x : ℕ) × (x < length xs) × (getD xs x false ≡ false)
-unfolding all
+one-false : (xs : List Bool) → allTrue xs ≡ false → (x : ℕ) × (x < length xs) × (getD xs x false ≡ false)
+unfolding allTrue
 one-false [] e = absurd (true-not-false true refl e)
 one-false (true ∷ xs) e = let r = one-false xs e in (suc (r .0), omega (arith, r .1), r .2)
 one-false (false ∷ xs) e = (0, omega arith, refl)

@@ -17,7 +17,7 @@ use Rattle.unification.specs.Unify.{Unifies, yes-with, no-way, unify}
 use Rattle.unification.specs.Unify as Unify
 use Rattle.unification.specs.Acyclic as Acyclic
 use Rattle.unification.specs.NodeChecks as NodeChecks
-use Rattle.unification.specs.UnifyEntry.{left, unifyEntry}
+use Rattle.unification.specs.UnifyEntry.{bindsLeft, unifyEntry}
 use Rattle.unification.specs.Trail.{undo}
 use Rattle.unification.specs.UnifyEntry as UnifyEntry
 use Rattle.unification.specs.declared.Unified.the-variants.{Refused, Yes, No}
@@ -72,7 +72,7 @@ answers = refl
 -- to another node of its own
 bound : map (λ (b : Binds). Acyclic.acyclic nodes 11 b) (free ∷ (some 1030 ∷ none ∷ none ∷ none ∷ []) ∷ (some 1028 ∷ none ∷ none ∷ none ∷ []) ∷ (some 1025 ∷ some 1024 ∷ none ∷ none ∷ []) ∷ (some 1025 ∷ some 1026 ∷ some 7 ∷ none ∷ []) ∷ (some 1032 ∷ none ∷ none ∷ none ∷ []) ∷ [])
     ≡ true ∷ false ∷ false ∷ false ∷ true ∷ false ∷ []
-unfolding nodes free row Acyclic.acyclic Acyclic.all Acyclic.rounds Acyclic.varsSettled Acyclic.nodesSettled Acyclic.allSettled Nodes.nodeShape Nodes.inferred Nodes.nodeEntriesOf
+unfolding nodes free row Acyclic.acyclic Acyclic.allTrue Acyclic.rounds Acyclic.varsSettled Acyclic.nodesSettled Acyclic.allSettled Nodes.nodeShape Nodes.inferred Nodes.nodeEntriesOf
 bound = refl
 
 -- where v0 is bound to v1 and v3 to v2: ends are followed first, and what is bound to is the end
@@ -124,8 +124,8 @@ no-kind = set full-nodes 16 5
 
 -- A yes binds and leaves the words behind. A no has bound v0 and v1 before it finds Nat for Bool, and gives them back.
 entry-answers : unifyEntry full-sorts 8 2 full-nodes 11 5 none-bound 4 1029 7 ∷ unifyEntry full-sorts 8 2 full-nodes 11 5 none-bound 4 6 1028 ∷ unifyEntry full-sorts 8 2 full-nodes 11 5 v2-to-nat 4 1029 7 ∷ []
-    ≡ left (3 ∷ 2 ∷ 1 ∷ 65535 ∷ 7 ∷ 9 ∷ []) Yes ∷ left (3 ∷ 65535 ∷ 65535 ∷ 65535 ∷ 7 ∷ 9 ∷ []) Yes ∷ left v2-to-nat No ∷ []
-unfolding full-sorts full-nodes none-bound v2-to-nat row sorts nodes unifyEntry UnifyEntry.leftBy UnifyEntry.wordsOf Nodes.bindsOf NodeChecks.unifyChecks Checks.firstFailing NodeChecks.nodesWithinLent NodeChecks.bindingsWithinLent NodeChecks.nodePartsFine NodeChecks.nodeKindFine NodeChecks.nodeFine NodeChecks.nodesFine NodeChecks.bindingsFine NodeChecks.nodeChecks NodeChecks.placeChecks Checks.allBelow Checks.withinLent Checks.fixedSix Checks.partsBelow Checks.rowFine Checks.rowsFine Checks.noTwoEqual Checks.atCeiling Acyclic.acyclic Acyclic.all Acyclic.rounds Acyclic.varsSettled Acyclic.nodesSettled Acyclic.allSettled shapeAt Nodes.isPlace Nodes.sortShape Nodes.nodeShape Nodes.inferred Nodes.nodeEntriesOf Storage.resolved Storage.entriesOf Storage.trees Storage.treeOf Storage.lookAll Interning.look Interning.member Interning.distinct Tree.same Tree.family Tree.level Tree.familyOp Tree.levelOp unify Unify.unifyTo Unify.follow Unify.occurs Term.sameHead Term.kindHead Term.numberHead Storage.kindFlat Storage.partFlat Storage.kindOp
+    ≡ bindsLeft (3 ∷ 2 ∷ 1 ∷ 65535 ∷ 7 ∷ 9 ∷ []) Yes ∷ bindsLeft (3 ∷ 65535 ∷ 65535 ∷ 65535 ∷ 7 ∷ 9 ∷ []) Yes ∷ bindsLeft v2-to-nat No ∷ []
+unfolding full-sorts full-nodes none-bound v2-to-nat row sorts nodes unifyEntry UnifyEntry.bindsLeftBy UnifyEntry.bindingWords Nodes.bindsOf NodeChecks.unifyChecks Checks.firstFailing NodeChecks.nodesWithinLent NodeChecks.bindingsWithinLent NodeChecks.nodePartsFine NodeChecks.nodeKindFine NodeChecks.nodeFine NodeChecks.nodesFine NodeChecks.bindingsFine NodeChecks.nodeChecks NodeChecks.placeChecks Checks.allBelow Checks.withinLent Checks.fixedSix Checks.partsBelow Checks.rowFine Checks.rowsFine Checks.noTwoEqual Checks.atCeiling Acyclic.acyclic Acyclic.allTrue Acyclic.rounds Acyclic.varsSettled Acyclic.nodesSettled Acyclic.allSettled shapeAt Nodes.isPlace Nodes.sortShape Nodes.nodeShape Nodes.inferred Nodes.nodeEntriesOf Storage.resolved Storage.entriesOf Storage.trees Storage.treeOf Storage.lookAll Interning.look Interning.member Interning.distinct Tree.same Tree.family Tree.level Tree.familyOp Tree.levelOp unify Unify.unifyTo Unify.follow Unify.occurs Term.sameHead Term.kindHead Term.numberHead Storage.kindFlat Storage.partFlat Storage.kindOp
 entry-answers = refl
 
 -- each refusal: 1 for each of the three lists, 2 to 6, 7, 12 for each place, 14 for each storage; the words are as given
@@ -143,21 +143,21 @@ refusals : unifyEntry full-sorts 1025 2 full-nodes 11 5 none-bound 4 3 6
     ∷ unifyEntry sorts 8 2 full-nodes 11 5 none-bound 4 3 6
     ∷ unifyEntry full-sorts 8 2 nodes 11 5 none-bound 4 3 6
     ∷ []
-    ≡ left none-bound (Refused 1)
-    ∷ left none-bound (Refused 1)
-    ∷ left none-bound (Refused 1)
-    ∷ left none-bound (Refused 2)
-    ∷ left none-bound (Refused 3)
-    ∷ left none-bound (Refused 4)
-    ∷ left none-bound (Refused 5)
-    ∷ left v3-to-no-place (Refused 6)
-    ∷ left v0-to-its-list (Refused 7)
-    ∷ left none-bound (Refused 12)
-    ∷ left none-bound (Refused 12)
-    ∷ left none-bound (Refused 14)
-    ∷ left none-bound (Refused 14)
+    ≡ bindsLeft none-bound (Refused 1)
+    ∷ bindsLeft none-bound (Refused 1)
+    ∷ bindsLeft none-bound (Refused 1)
+    ∷ bindsLeft none-bound (Refused 2)
+    ∷ bindsLeft none-bound (Refused 3)
+    ∷ bindsLeft none-bound (Refused 4)
+    ∷ bindsLeft none-bound (Refused 5)
+    ∷ bindsLeft v3-to-no-place (Refused 6)
+    ∷ bindsLeft v0-to-its-list (Refused 7)
+    ∷ bindsLeft none-bound (Refused 12)
+    ∷ bindsLeft none-bound (Refused 12)
+    ∷ bindsLeft none-bound (Refused 14)
+    ∷ bindsLeft none-bound (Refused 14)
     ∷ []
-unfolding full-sorts full-nodes none-bound v0-to-its-list v3-to-no-place two-pos own-part bool-twice no-kind row sorts nodes unifyEntry UnifyEntry.leftBy UnifyEntry.wordsOf Nodes.bindsOf NodeChecks.unifyChecks Checks.firstFailing NodeChecks.nodesWithinLent NodeChecks.bindingsWithinLent NodeChecks.nodePartsFine NodeChecks.nodeKindFine NodeChecks.nodeFine NodeChecks.nodesFine NodeChecks.bindingsFine NodeChecks.nodeChecks NodeChecks.placeChecks Checks.allBelow Checks.withinLent Checks.fixedSix Checks.partsBelow Checks.rowFine Checks.rowsFine Checks.noTwoEqual Checks.atCeiling Acyclic.acyclic Acyclic.all Acyclic.rounds Acyclic.varsSettled Acyclic.nodesSettled Acyclic.allSettled shapeAt Nodes.isPlace Nodes.sortShape Nodes.nodeShape Nodes.inferred Nodes.nodeEntriesOf Storage.resolved Storage.entriesOf Storage.trees Storage.treeOf Storage.lookAll Interning.look Interning.member Interning.distinct Tree.same Tree.family Tree.level Tree.familyOp Tree.levelOp unify Unify.unifyTo Unify.follow Unify.occurs Term.sameHead Term.kindHead Term.numberHead Storage.kindFlat Storage.partFlat Storage.kindOp
+unfolding full-sorts full-nodes none-bound v0-to-its-list v3-to-no-place two-pos own-part bool-twice no-kind row sorts nodes unifyEntry UnifyEntry.bindsLeftBy UnifyEntry.bindingWords Nodes.bindsOf NodeChecks.unifyChecks Checks.firstFailing NodeChecks.nodesWithinLent NodeChecks.bindingsWithinLent NodeChecks.nodePartsFine NodeChecks.nodeKindFine NodeChecks.nodeFine NodeChecks.nodesFine NodeChecks.bindingsFine NodeChecks.nodeChecks NodeChecks.placeChecks Checks.allBelow Checks.withinLent Checks.fixedSix Checks.partsBelow Checks.rowFine Checks.rowsFine Checks.noTwoEqual Checks.atCeiling Acyclic.acyclic Acyclic.allTrue Acyclic.rounds Acyclic.varsSettled Acyclic.nodesSettled Acyclic.allSettled shapeAt Nodes.isPlace Nodes.sortShape Nodes.nodeShape Nodes.inferred Nodes.nodeEntriesOf Storage.resolved Storage.entriesOf Storage.trees Storage.treeOf Storage.lookAll Interning.look Interning.member Interning.distinct Tree.same Tree.family Tree.level Tree.familyOp Tree.levelOp unify Unify.unifyTo Unify.follow Unify.occurs Term.sameHead Term.kindHead Term.numberHead Storage.kindFlat Storage.partFlat Storage.kindOp
 refusals = refl
 
 -- two faults at once: the first check that fails
@@ -171,15 +171,15 @@ first-faults : unifyEntry two-pos 8 2 full-nodes 11 5 none-bound 513 3 6
     ∷ unifyEntry sorts 8 2 nodes 11 5 v0-to-its-list 4 3 6
     ∷ unifyEntry sorts 8 2 nodes 11 5 none-bound 4 3 8
     ∷ []
-    ≡ left none-bound (Refused 1)
-    ∷ left none-bound (Refused 2)
-    ∷ left none-bound (Refused 3)
-    ∷ left v0-to-its-list (Refused 4)
-    ∷ left v3-to-no-place (Refused 5)
-    ∷ left v3-to-no-place (Refused 6)
-    ∷ left v0-to-its-list (Refused 7)
-    ∷ left v0-to-its-list (Refused 7)
-    ∷ left none-bound (Refused 12)
+    ≡ bindsLeft none-bound (Refused 1)
+    ∷ bindsLeft none-bound (Refused 2)
+    ∷ bindsLeft none-bound (Refused 3)
+    ∷ bindsLeft v0-to-its-list (Refused 4)
+    ∷ bindsLeft v3-to-no-place (Refused 5)
+    ∷ bindsLeft v3-to-no-place (Refused 6)
+    ∷ bindsLeft v0-to-its-list (Refused 7)
+    ∷ bindsLeft v0-to-its-list (Refused 7)
+    ∷ bindsLeft none-bound (Refused 12)
     ∷ []
-unfolding full-sorts full-nodes none-bound v0-to-its-list v3-to-no-place two-pos own-part bool-twice no-kind row sorts nodes unifyEntry UnifyEntry.leftBy UnifyEntry.wordsOf Nodes.bindsOf NodeChecks.unifyChecks Checks.firstFailing NodeChecks.nodesWithinLent NodeChecks.bindingsWithinLent NodeChecks.nodePartsFine NodeChecks.nodeKindFine NodeChecks.nodeFine NodeChecks.nodesFine NodeChecks.bindingsFine NodeChecks.nodeChecks NodeChecks.placeChecks Checks.allBelow Checks.withinLent Checks.fixedSix Checks.partsBelow Checks.rowFine Checks.rowsFine Checks.noTwoEqual Checks.atCeiling Acyclic.acyclic Acyclic.all Acyclic.rounds Acyclic.varsSettled Acyclic.nodesSettled Acyclic.allSettled shapeAt Nodes.isPlace Nodes.sortShape Nodes.nodeShape Nodes.inferred Nodes.nodeEntriesOf Storage.resolved Storage.entriesOf Storage.trees Storage.treeOf Storage.lookAll Interning.look Interning.member Interning.distinct Tree.same Tree.family Tree.level Tree.familyOp Tree.levelOp unify Unify.unifyTo Unify.follow Unify.occurs Term.sameHead Term.kindHead Term.numberHead Storage.kindFlat Storage.partFlat Storage.kindOp
+unfolding full-sorts full-nodes none-bound v0-to-its-list v3-to-no-place two-pos own-part bool-twice no-kind row sorts nodes unifyEntry UnifyEntry.bindsLeftBy UnifyEntry.bindingWords Nodes.bindsOf NodeChecks.unifyChecks Checks.firstFailing NodeChecks.nodesWithinLent NodeChecks.bindingsWithinLent NodeChecks.nodePartsFine NodeChecks.nodeKindFine NodeChecks.nodeFine NodeChecks.nodesFine NodeChecks.bindingsFine NodeChecks.nodeChecks NodeChecks.placeChecks Checks.allBelow Checks.withinLent Checks.fixedSix Checks.partsBelow Checks.rowFine Checks.rowsFine Checks.noTwoEqual Checks.atCeiling Acyclic.acyclic Acyclic.allTrue Acyclic.rounds Acyclic.varsSettled Acyclic.nodesSettled Acyclic.allSettled shapeAt Nodes.isPlace Nodes.sortShape Nodes.nodeShape Nodes.inferred Nodes.nodeEntriesOf Storage.resolved Storage.entriesOf Storage.trees Storage.treeOf Storage.lookAll Interning.look Interning.member Interning.distinct Tree.same Tree.family Tree.level Tree.familyOp Tree.levelOp unify Unify.unifyTo Unify.follow Unify.occurs Term.sameHead Term.kindHead Term.numberHead Storage.kindFlat Storage.partFlat Storage.kindOp
 first-faults = refl

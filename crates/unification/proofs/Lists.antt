@@ -8,7 +8,7 @@ use native.Mathlib.Omega.{arith}
 use lib.Dec.{eqb, leb, ltb}
 use borrow.Author.Tests.{ltb-true, leb-true}
 use Rattle.resolved_sort.specs.declared.Run.{Run}
-use Rattle.resolved_sort.specs.Tree.{Tree, flat, container, function, Trees, end, arg, arity}
+use Rattle.resolved_sort.specs.Tree.{Tree, flat, container, function, Trees, no-args, arg, arity}
 use Rattle.resolved_sort.specs.Interning.{look}
 use Rattle.resolved_sort.specs.Storage.{maxSorts, kindAt, partAt, startAt, countAt, entriesOf, resolved, rowAt, lookAll, treeOf, trees}
 use Rattle.resolved_sort.specs.Checks.{partsBelow, rowFine}
@@ -81,9 +81,9 @@ mutual
       ap₂ function (z .0) (term-injective r q g)
 
   terms-injective : (ts us : Trees) (xs ys : Terms) → arity ts ≡ arity us → termsOf ts xs ≡ termsOf us ys → (ts ≡ us) × (xs ≡ ys)
-  terms-injective end end xs ys a e = (refl, e)
-  terms-injective end (arg u us) xs ys a e = absurd (omega (arith, a))
-  terms-injective (arg t ts) end xs ys a e = absurd (omega (arith, a))
+  terms-injective no-args no-args xs ys a e = (refl, e)
+  terms-injective no-args (arg u us) xs ys a e = absurd (omega (arith, a))
+  terms-injective (arg t ts) no-args xs ys a e = absurd (omega (arith, a))
   terms-injective (arg t ts) (arg u us) xs ys a e =
       let x : termOf t ≡ termOf u = cc in
       let y : termsOf ts xs ≡ termsOf us ys = cc in

@@ -87,7 +87,7 @@ words : List ℕ
 words = 65535 ∷ 3 ∷ 1033 ∷ 1026 ∷ []
 
 accepted : (firstFailing (unifyChecks (given .sorts) 18 5 (given .nodes) 15 7 words 4 0 1038) ≡ none) × (bindsOf words 4 ≡ binds)
-unfolding row storage lent sorts entries nodes arguments binds given words firstFailing unifyChecks bindsOf NodeChecks.nodesWithinLent NodeChecks.bindingsWithinLent NodeChecks.nodePartsFine NodeChecks.nodeKindFine NodeChecks.nodeFine NodeChecks.nodesFine NodeChecks.bindingsFine NodeChecks.nodeChecks NodeChecks.placeChecks Checks.allBelow Checks.withinLent Checks.fixedSix Checks.partsBelow Checks.rowFine Checks.rowsFine Checks.noTwoEqual Checks.atCeiling Acyclic.acyclic Acyclic.all Acyclic.rounds Acyclic.varsSettled Acyclic.nodesSettled Acyclic.allSettled Nodes.isPlace Nodes.nodeShape Nodes.inferred Nodes.nodeEntriesOf Storage.resolved Storage.entriesOf Storage.trees Storage.treeOf Storage.lookAll Interning.look Interning.member Interning.distinct Tree.same Tree.family Tree.level Tree.familyOp Tree.levelOp
+unfolding row storage lent sorts entries nodes arguments binds given words firstFailing unifyChecks bindsOf NodeChecks.nodesWithinLent NodeChecks.bindingsWithinLent NodeChecks.nodePartsFine NodeChecks.nodeKindFine NodeChecks.nodeFine NodeChecks.nodesFine NodeChecks.bindingsFine NodeChecks.nodeChecks NodeChecks.placeChecks Checks.allBelow Checks.withinLent Checks.fixedSix Checks.partsBelow Checks.rowFine Checks.rowsFine Checks.noTwoEqual Checks.atCeiling Acyclic.acyclic Acyclic.allTrue Acyclic.rounds Acyclic.varsSettled Acyclic.nodesSettled Acyclic.allSettled Nodes.isPlace Nodes.nodeShape Nodes.inferred Nodes.nodeEntriesOf Storage.resolved Storage.entriesOf Storage.trees Storage.treeOf Storage.lookAll Interning.look Interning.member Interning.distinct Tree.same Tree.family Tree.level Tree.familyOp Tree.levelOp
 accepted = (refl, refl)
 
 -- the answer with the storage given and so much more

@@ -6,7 +6,7 @@ use mathlib.Core.List.{List}
 use mathlib.Core.Option.{Option, none, some}
 use Prim.Native.Nat.{ℕ, suc}
 use native.Mathlib.Omega.{arith}
-use Rattle.unification.specs.Term.{Term, var, Shape, put}
+use Rattle.unification.specs.Term.{Term, var, Shape, substitute}
 use Rattle.unification.specs.Nodes.{Binds, binding}
 use Rattle.unification.specs.Unify.{yes-with, deep, deeper, unify}
 use Rattle.unification.specs.Acyclic.{Numbering}
@@ -61,15 +61,15 @@ module _ (W : Lent) (c : CheckedLent W) where
     general-respects = respects-model (graph W) 3072 (lower ws n e ns m d v c) B (general (graph W) B) (value (graph W) B) values-are-a-model
 
     -- what a place stands for under it
-    pub value-is-general : (p : ℕ) → value (graph W) B p ≡ put (general (graph W) B) (termAt (graph W) p)
+    pub value-is-general : (p : ℕ) → value (graph W) B p ≡ substitute (general (graph W) B) (termAt (graph W) p)
     value-is-general p = value-of-model (graph W) 3072 (lower ws n e ns m d v c) B (general (graph W) B) (value (graph W) B) values-are-a-model (suc p) p (omega arith)
 
     -- Every solution is an instance of it.
-    pub instance-of-general : (σ : ℕ → Term) → Respects (graph W) B σ → (u : ℕ) → σ u ≡ put σ (general (graph W) B u)
-    unfolding put
+    pub instance-of-general : (σ : ℕ → Term) → Respects (graph W) B σ → (u : ℕ) → σ u ≡ substitute σ (general (graph W) B u)
+    unfolding substitute
     instance-of-general σ r u = go (binding B u) refl
       where
-        go : (o : Option ℕ) → binding B u ≡ o → σ u ≡ put σ (valueBound var u (value (graph W) B) o)
+        go : (o : Option ℕ) → binding B u ≡ o → σ u ≡ substitute σ (valueBound var u (value (graph W) B) o)
         go none i = refl
         go (some q) i = r u q i ∙ sym (put-value (graph W) deep B A 3072 (lower ws n e ns m d v c) σ r q)
 
@@ -82,10 +82,10 @@ module _ (W : Lent) (c : CheckedLent W) where
         subst (Kept (graph W) v B) y (unify-kept (graph W) 3072 (lower ws n e ns m d v c) v (scoped ws n e ns m d v c) deep (deep-enough ws n e ns m d v c) deeper B l r (b .many) (b .numbered)) .numbering
 
     pub unify-most-general : (Respects (graph W) B (general (graph W) C) × Equates (graph W) (general (graph W) C) l r)
-        × ((σ : ℕ → Term) → Respects (graph W) B σ → Equates (graph W) σ l r → (u : ℕ) → σ u ≡ put σ (general (graph W) C u))
+        × ((σ : ℕ → Term) → Respects (graph W) B σ → Equates (graph W) σ l r → (u : ℕ) → σ u ≡ substitute σ (general (graph W) C u))
     unify-most-general = go C numbered-after (subst (Robinson (graph W) B l r) y (unify-is-robinson ws n e ns m d v c B b l r))
       where
         go : (C : Binds) → Numbering (graph W) (W .lengths .variables) C → Robinson (graph W) B l r (yes-with C)
             → (Respects (graph W) B (general (graph W) C) × Equates (graph W) (general (graph W) C) l r)
-            × ((σ : ℕ → Term) → Respects (graph W) B σ → Equates (graph W) σ l r → (u : ℕ) → σ u ≡ put σ (general (graph W) C u))
+            × ((σ : ℕ → Term) → Respects (graph W) B σ → Equates (graph W) σ l r → (u : ℕ) → σ u ≡ substitute σ (general (graph W) C u))
         go C N (says-yes _ sound complete acyclic solution) = (sound (general (graph W) C) (general-respects C N), λ σ s i. instance-of-general C N σ (complete σ s i))

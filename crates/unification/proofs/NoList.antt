@@ -14,7 +14,7 @@ use Rattle.unification.specs.Unify.{follow, deep}
 use Rattle.unification.specs.Checked.{Ready}
 use Rattle.unification.specs.Related.{relatedContainer}
 use Rattle.unification.specs.Making.{Lent, graph, Makes, made, no-list, no-room, _and-then_, relatedOver, pushFunctions, relatedShape, relatedTo, strictRelated}
-use Rattle.unification.specs.FinalRange.{FreeEnd, free, bound, range}
+use Rattle.unification.specs.FinalRange.{FreeEnd, free, bound-to, range}
 use Rattle.unification.proofs.Rank.{rank, Ranked}
 use Rattle.unification.proofs.Follow.{follow-holds, follow-end}
 use Rattle.unification.proofs.Enough.{follow-some, follow-eq}
@@ -24,7 +24,7 @@ use Rattle.unification.proofs.Theorem.{ready-ranked}
 
 -- A place is so exactly if its end is.
 free-from-end : (shape : ℕ → Shape) (B : Binds) (k p q : ℕ) → follow shape k B p ≡ some q → FreeEnd shape B q → FreeEnd shape B p
-free-from-end shape B = follow-holds shape B (λ p q. FreeEnd shape B q → FreeEnd shape B p) (λ p i h. h) (λ p v r q s b ih h. bound p v r s b (ih h))
+free-from-end shape B = follow-holds shape B (λ p q. FreeEnd shape B q → FreeEnd shape B p) (λ p i h. h) (λ p v r q s b ih h. bound-to p v r s b (ih h))
 
 module _ (shape : ℕ → Shape) (w : ℕ) (B : Binds) (A : Ranked shape w B) where
   variable-ends : (p v : ℕ) → shape p ≡ variable v → binding B v ≡ none → follow shape w B p ≡ some p
@@ -38,7 +38,7 @@ module _ (shape : ℕ → Shape) (w : ℕ) (B : Binds) (A : Ranked shape w B) wh
 
   free-at-end : (p q : ℕ) → follow shape w B p ≡ some q → FreeEnd shape B p → FreeEnd shape B q
   free-at-end _ q e (free p v s b) = let x = variable-ends p v s b in let z : p ≡ q = cc in subst (FreeEnd shape B) z (free p v s b)
-  free-at-end _ q e (bound p v x s b h) = free-at-end x q (sym (binding-followed p v x s b) ∙ e) h
+  free-at-end _ q e (bound-to p v x s b h) = free-at-end x q (sym (binding-followed p v x s b) ∙ e) h
   free-at-end _ q e (range p n ps s h) = let x = head-ends p (functionHead n) ps s in let z : p ≡ q = cc in subst (FreeEnd shape B) z (range p n ps s h)
 
 module _ (W : Lent) (B : Binds) (A : Ranked (graph W) deep B) (up : Bool) where
@@ -77,7 +77,7 @@ module _ (W : Lent) (B : Binds) (A : Ranked (graph W) deep B) (up : Bool) where
   -- and such a place has none
   pub has-none : (p : ℕ) → FreeEnd (graph W) B p → strictRelated up B p W ≡ no-list W
   has-none _ (free p v s b) = related-eq W B A up p ∙ rw (variable-ends (graph W) deep B A p v s b) (rw s)
-  has-none _ (bound p v q s b h) =
+  has-none _ (bound-to p v q s b h) =
       related-eq W B A up p ∙ (rw (binding-followed (graph W) deep B A p v q s b) (sym (related-eq W B A up q)) ∙ has-none q h)
   has-none _ (range p n ps s h) =
       related-eq W B A up p ∙ rw (head-ends (graph W) deep B A p (functionHead n) ps s) (rw s (rw (has-none (getD ps n 0) h)))

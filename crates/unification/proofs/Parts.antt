@@ -7,7 +7,7 @@ use native.Mathlib.Omega.{arith}
 use lib.ListN.{length, getD}
 use Rattle.resolved_sort.specs.Storage.{entryAt, entriesOf}
 use Rattle.resolved_sort.proofs.Reached.{no-confusion}
-use Rattle.unification.specs.Term.{Term, Shape, put, puts}
+use Rattle.unification.specs.Term.{Term, Shape, substitute, substitutes}
 use Rattle.unification.specs.Nodes.{nodeEntryAt, nodeEntriesOf}
 use Rattle.unification.specs.Unify.{Occurs, occursAny}
 use Rattle.unification.specs.Acyclic.{One, first, later}
@@ -79,8 +79,8 @@ pub termsAt-agree : (f g : ℕ → Term) (ps : List ℕ) → ((q : ℕ) → One 
 termsAt-agree f g [] h = refl
 termsAt-agree f g (p ∷ ps) h = let a = h p (first ps) in let b = termsAt-agree f g ps (λ q o. h q (later p ps o)) in cc
 
-pub puts-agree : (σ f g : ℕ → Term) (ps : List ℕ) → ((q : ℕ) → One q ps → put σ (f q) ≡ g q) → puts σ (termsAt f ps) ≡ termsAt g ps
-unfolding puts
+pub puts-agree : (σ f g : ℕ → Term) (ps : List ℕ) → ((q : ℕ) → One q ps → substitute σ (f q) ≡ g q) → substitutes σ (termsAt f ps) ≡ termsAt g ps
+unfolding substitutes
 puts-agree σ f g [] h = refl
 puts-agree σ f g (p ∷ ps) h = let a = h p (first ps) in let b = puts-agree σ f g ps (λ q o. h q (later p ps o)) in cc
 

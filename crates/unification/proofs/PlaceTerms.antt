@@ -13,7 +13,7 @@ use Rattle.resolved_sort.specs.Interning.{look}
 use Rattle.resolved_sort.specs.Storage.{maxSorts, partAt, startAt, countAt, resolved, rowAt, kindFlat, trees}
 use Rattle.resolved_sort.specs.Checks.{fixedSix}
 use Rattle.resolved_sort.proofs.Numbers.{true-not-false}
-use Rattle.unification.specs.Term.{Head, flatHead, Term, over, termOf, put}
+use Rattle.unification.specs.Term.{Head, flatHead, Term, over, termOf, substitute}
 use Rattle.unification.specs.Nodes.{sortShape, isSort, isPlace, shapeAt, Binds}
 use Rattle.unification.specs.Unify.{follow}
 use Rattle.unification.specs.Acyclic.{One}
@@ -30,7 +30,7 @@ use Rattle.unification.proofs.Grows.{CheckedLent, PlacedIn}
 
 -- what a place stands for, with σ for the variables
 abbrev pub termIn : Lent → (ℕ → Term) → ℕ → Term
-termIn W σ p = put σ (termAt (graph W) p)
+termIn W σ p = substitute σ (termAt (graph W) p)
 
 module _ (W : Lent) (c : CheckedLent W) where
   abbrev ws : List ℕ

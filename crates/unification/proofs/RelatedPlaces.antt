@@ -11,12 +11,12 @@ use lib.ListN.{length}
 use lib.Seq.{getD-at, take-at}
 use Rattle.resolved_sort.specs.declared.Sort.{Sort}
 use Rattle.resolved_sort.specs.declared.ComplexSort.{ComplexSort}
-use Rattle.resolved_sort.specs.Tree.{Flat, unit, primitive, def, typevar, Tree, flat, container, function, Trees, end, arg, arity}
+use Rattle.resolved_sort.specs.Tree.{Flat, unit, primitive, def, typevar, Tree, flat, container, function, Trees, no-args, arg, arity}
 use Rattle.resolved_sort.specs.Interning.{look}
 use Rattle.resolved_sort.specs.Storage.{kindFlat, kindOp, trees}
 use Rattle.resolved_sort.specs.Checks.{fixedSix}
 use Rattle.resolved_sort.proofs.Reached.{no-confusion}
-use Rattle.unification.specs.Term.{flatHead, containerHead, functionHead, Term, app, Terms, no-part, part, Shape, over, termOf, termsOf, put}
+use Rattle.unification.specs.Term.{flatHead, containerHead, functionHead, Term, app, Terms, no-part, part, Shape, over, termOf, termsOf, substitute}
 use Rattle.unification.specs.Nodes.{isSort, Binds, bindsOf}
 use Rattle.unification.specs.Unify.{follow, deep}
 use Rattle.unification.specs.Acyclic.{One, first, later}
@@ -56,9 +56,9 @@ function-tree n us (function ts u) e = let z : arity ts ≡ n = cc in let y : us
 parts-split : (val : ℕ → Term) (xs : List ℕ) (r : ℕ) (ts : Trees) (x : Term) → arity ts ≡ length xs → termsAt val (xs ++ (r ∷ [])) ≡ termsOf ts (part x no-part)
     → (val r ≡ x) × ((new : ℕ → Term) (q : ℕ) (y : Term) → ((z : ℕ) → One z xs → new z ≡ val z) → new q ≡ y → termsAt new (xs ++ (q ∷ [])) ≡ termsOf ts (part y no-part))
 unfolding termsOf arity
-parts-split val [] r end x l e = (let z : val r ≡ x = cc in z, λ new q y h f. ap (λ u. part u no-part) f)
+parts-split val [] r no-args x l e = (let z : val r ≡ x = cc in z, λ new q y h f. ap (λ u. part u no-part) f)
 parts-split val [] r (arg t ts) x l e = absurd (omega (arith, l))
-parts-split val (a ∷ xs) r end x l e = absurd (omega (arith, l))
+parts-split val (a ∷ xs) r no-args x l e = absurd (omega (arith, l))
 parts-split val (a ∷ xs) r (arg t ts) x l e =
     let i : val a ≡ termOf t = cc in
     let j : termsAt val (xs ++ (r ∷ [])) ≡ termsOf ts (part x no-part) = cc in
@@ -108,7 +108,7 @@ module _ (W W₁ W₂ : Lent) (c : CheckedLent W) (g : Grows W W₁) (h : Grows 
   functions-terms _ _ y (one-function r p rs ps z s f) (u ∷ us) e =
       let i : termIn W₁ σ r ≡ termOf u = cc in
       let j : each (termIn W₁ σ) rs ≡ each termOf us = cc in
-      let a = other (termIn W₂ σ) r (termOf u) (λ q o. ap (put σ) (term-grown W c W₂ (grows-trans W c W₁ W₂ g h) q (x q o))) (ap (put σ) (term-grown W₁ (g .checked) W₂ h r (y r (first rs))) ∙ i) in
+      let a = other (termIn W₂ σ) r (termOf u) (λ q o. ap (substitute σ) (term-grown W c W₂ (grows-trans W c W₁ W₂ g h) q (x q o))) (ap (substitute σ) (term-grown W₁ (g .checked) W₂ h r (y r (first rs))) ∙ i) in
       ap₂ _∷_ (term-by-shape W₂ (h .checked) σ p ∙ (ap (shapeVal σ (termIn W₂ σ)) s ∙ ap₂ (λ n us. app (functionHead n) us) (sym l) a))
       (functions-terms rs ps (λ q o. y q (later r rs o)) f us j)
 
@@ -163,7 +163,7 @@ module _ (W : Lent) (c : CheckedLent W) (six : fixedSix (W .sorts) (W .lengths .
             container-answer (some p) i W₁ (a ∷ []) (one-placed W₁ a (h .0))
                 (λ σ u e. ap (λ w. w ∷ [])
                 (term-by-shape W₁ (g .checked) σ a ∙ (ap (shapeVal σ (termIn W₁ σ)) (h .1)
-                ∙ ap (λ w. app (containerHead p) (part w no-part)) (ap (put σ) (term-grown W c W₁ g s (parts-placed W c q s (containerHead o) (s ∷ []) x f (first []))) ∙ e)))),
+                ∙ ap (λ w. app (containerHead p) (part w no-part)) (ap (substitute σ) (term-grown W c W₁ g s (parts-placed W c q s (containerHead o) (s ∷ []) x f (first []))) ∙ e)))),
           ))
 
     at-function : (n : ℕ) (xs : List ℕ) (r : ℕ) → length xs ≡ n → n ≤ 16 → graph W q ≡ over (functionHead n) (xs ++ (r ∷ [])) → (O : Makes (List ℕ)) → MadeFrom (Answer r) W O
@@ -213,8 +213,8 @@ module _ (W : Lent) (bs : List ℕ) (ready : ReadyLent W bs) (six : fixedSix (W 
 
   pub strict-related-places : (qs : List ℕ) (W′ : Lent) → strictRelated up (bindsOf bs (W .lengths .variables)) p W ≡ made qs W′
       → Grows W W′ × AllPlaced W′ qs
-      × ((σ : ℕ → Term) → Respects (graph W) (bindsOf bs (W .lengths .variables)) σ → (t : Tree) → put σ (termAt (graph W) p) ≡ termOf t
-      → each (λ q. put σ (termAt (graph W′) q)) qs ≡ each termOf (related up t))
+      × ((σ : ℕ → Term) → Respects (graph W) (bindsOf bs (W .lengths .variables)) σ → (t : Tree) → substitute σ (termAt (graph W) p) ≡ termOf t
+      → each (λ q. substitute σ (termAt (graph W′) q)) qs ≡ each termOf (related up t))
   strict-related-places qs W′ e =
       let h = made-grows (StandForRelated up (bindsOf bs (W .lengths .variables)) W p) W W′ qs (strictRelated up (bindsOf bs (W .lengths .variables)) p W) strict-related-made e in
       (h .0, h .1 .0, h .1 .1)

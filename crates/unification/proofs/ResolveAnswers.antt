@@ -20,7 +20,7 @@ use Rattle.resolved_sort.proofs.Grown.{grown-none}
 use Rattle.resolved_sort.proofs.Reached.{no-confusion}
 use Rattle.unification.specs.declared.Default.{Default}
 use Rattle.unification.specs.declared.Default.the-variants.{Is, Nothing}
-use Rattle.unification.specs.Term.{Term, termOf, put}
+use Rattle.unification.specs.Term.{Term, termOf, substitute}
 use Rattle.unification.specs.Nodes.{Binds, binding}
 use Rattle.unification.specs.Acyclic.{Reaches}
 use Rattle.unification.specs.Solutions.{termAt, Respects}
@@ -41,7 +41,7 @@ FreeHave W B Nothing σ = Unit {0}
 
 -- the place stands for the sort t, whatever the assignment is
 abbrev pub AlwaysStandsFor : Lent → Binds → Default → ℕ → Tree → Type 0
-AlwaysStandsFor W B x p t = (σ : ℕ → Term) → Respects (graph W) B σ → FreeHave W B x σ → put σ (termAt (graph W) p) ≡ termOf t
+AlwaysStandsFor W B x p t = (σ : ℕ → Term) → Respects (graph W) B σ → FreeHave W B x σ → substitute σ (termAt (graph W) p) ≡ termOf t
 
 -- the place reaches a free variable, and there is no default for it
 abbrev pub ReachesFree : Lent → Binds → Default → ℕ → Type 0
@@ -95,7 +95,7 @@ module _ (W : Lent) (c : CheckedLent W) (B : Binds) (b : CheckedBinds W B) (p : 
   module _ (us : List ℕ) where
     pub resolve-answers : (id : SortId) (K : Counts) → answer Nothing ≡ storedAt us (At id K)
         → Grows W (withSortWords W us (K .sorts) (K .entries))
-        × ((id .0 < K .sorts) × ((σ : ℕ → Term) → Respects (graph W) B σ → put σ (termAt (graph W) p) ≡ termOf (look (trees us (K .sorts)) (id .0))))
+        × ((id .0 < K .sorts) × ((σ : ℕ → Term) → Respects (graph W) B σ → substitute σ (termAt (graph W) p) ≡ termOf (look (trees us (K .sorts)) (id .0))))
     resolve-answers id K q =
         let h = leaves-sort W (AlwaysStandsFor W B Nothing p) (ReachesFree W B Nothing p) (answer Nothing) (resolve-leaves Nothing tt) us id K q in
         (h .0, (h .1 .0, λ σ r. h .1 .1 σ r tt))
@@ -109,7 +109,7 @@ module _ (W : Lent) (c : CheckedLent W) (B : Binds) (b : CheckedBinds W B) (p : 
           → Grows W (withSortWords W us (K .sorts) (K .entries))
           × ((id .0 < K .sorts)
           × ((σ : ℕ → Term) → Respects (graph W) B σ → ((u : ℕ) → binding B u ≡ none → σ u ≡ termOf (look (trees ws n) (x .0)))
-          → put σ (termAt (graph W) p) ≡ termOf (look (trees us (K .sorts)) (id .0))))
+          → substitute σ (termAt (graph W) p) ≡ termOf (look (trees us (K .sorts)) (id .0))))
       resolve-or-default-answers id K q = leaves-sort W (AlwaysStandsFor W B (Is x) p) (ReachesFree W B (Is x) p) (answer (Is x)) (resolve-leaves (Is x) l) us id K q
 
       pub resolve-or-default-answers-a-sort : (K : Counts) → answer (Is x) ≡ storedAt us (NotFound K) → ⊥

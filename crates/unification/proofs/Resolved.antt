@@ -12,7 +12,7 @@ use lib.ListN.{length, getD}
 use Rattle.resolved_sort.specs.Tree.{unit, Tree, flat}
 use Rattle.resolved_sort.specs.Interning.{Sorts, member, Outcome, made, nothing, full, _then_, fits, intern}
 use Rattle.resolved_sort.proofs.Reached.{no-confusion}
-use Rattle.unification.specs.Term.{Head, flatHead, containerHead, functionHead, strayHead, Term, var, app, Terms, no-part, part, Shape, variable, over, termOf, termsOf, put, puts}
+use Rattle.unification.specs.Term.{Head, flatHead, containerHead, functionHead, strayHead, Term, var, app, Terms, no-part, part, Shape, variable, over, termOf, termsOf, substitute, substitutes}
 use Rattle.unification.specs.Nodes.{isPlace, shapeAt, Binds, binding}
 use Rattle.unification.specs.Unify.{deep, follow}
 use Rattle.unification.specs.Acyclic.{One, first, later, Reaches, here, inside, beyond}
@@ -101,8 +101,8 @@ head-term (functionHead k) us o =
     ap₂ (λ (h : Head) (ts : Terms). app h ts) (ap functionHead (sym (firsts-arity k us (omega (arith, o .0))))) (function-terms k us (o .0))
 head-term (strayHead x) us o = absurd o
 
-pub count-puts : (σ : ℕ → Term) (ts : Terms) → count (puts σ ts) ≡ count ts
-unfolding count puts
+pub count-puts : (σ : ℕ → Term) (ts : Terms) → count (substitutes σ ts) ≡ count ts
+unfolding count substitutes
 count-puts σ no-part = refl
 count-puts σ (part t ts) = ap suc (count-puts σ ts)
 
@@ -120,34 +120,34 @@ module _ (d : Option Tree) where
   AllGive σ ts = (v : ℕ) → OneHas v ts → Given d (σ v)
 
   abbrev Denotes : Term → Tree → Type 0
-  Denotes t u = (σ : ℕ → Term) → Gives σ t → put σ t ≡ termOf u
+  Denotes t u = (σ : ℕ → Term) → Gives σ t → substitute σ t ≡ termOf u
 
   abbrev AllDenote : Terms → List Tree → Type 0
-  AllDenote ts us = (σ : ℕ → Term) → AllGive σ ts → puts σ ts ≡ termsFor us
+  AllDenote ts us = (σ : ℕ → Term) → AllGive σ ts → substitutes σ ts ≡ termsFor us
 
   abbrev Any : Type 0
   Any = Unit {0}
 
   variable-denotes : (v : ℕ) (S : Sorts) → Says (Denotes (var v)) Any (resolveTerm d (var v) S)
-  unfolding Says resolveTerm put Has
+  unfolding Says resolveTerm substitute Has
   variable-denotes v S = go d
     where
-      go : (x : Option Tree) → Says (λ u. (σ : ℕ → Term) → ((w : ℕ) → Has w (var v) → Given x (σ w)) → put σ (var v) ≡ termOf u) Any (resolveTerm x (var v) S)
+      go : (x : Option Tree) → Says (λ u. (σ : ℕ → Term) → ((w : ℕ) → Has w (var v) → Given x (σ w)) → substitute σ (var v) ≡ termOf u) Any (resolveTerm x (var v) S)
       go none = tt
       go (some y) = λ σ h. h v refl
 
   over-denotes : (h : Head) (ts : Terms) → HeadOver h (count ts) → (us : List Tree) → AllDenote ts us → Denotes (app h ts) (treeOver h us)
-  unfolding put Has
+  unfolding substitute Has
   over-denotes h ts o us a σ z =
       let q = a σ z in
       ap (app h) q ∙ head-term h us (subst (HeadOver h) (sym (count-puts σ ts) ∙ (ap count q ∙ count-for us)) o)
 
   no-part-denotes : (S : Sorts) → Says (AllDenote no-part) Any (made [] S)
-  unfolding Says puts termsFor
+  unfolding Says substitutes termsFor
   no-part-denotes S = λ σ z. refl
 
   part-denotes : (t : Term) (ts : Terms) (u : Tree) (us : List Tree) (S : Sorts) → Denotes t u → AllDenote ts us → Says (AllDenote (part t ts)) Any (made (u ∷ us) S)
-  unfolding Says puts termsFor OneHas
+  unfolding Says substitutes termsFor OneHas
   part-denotes t ts u us S a b = λ σ z. ap₂ part (a σ (λ v x. z v (inl x))) (b σ (λ v x. z v (inr x)))
 
   mutual
@@ -282,22 +282,22 @@ module _ (shape : ℕ → Shape) (w : ℕ) (B : Binds) (A : Ranked shape w B) wh
   -- and under an assignment that respects the bindings it is what the place stands for
   module _ (K : ℕ) (low : Lower shape K) (σ : ℕ → Term) (r : Respects shape B σ) where
     abbrev now : ℕ → Term
-    now p = put σ (termAt shape p)
+    now p = substitute σ (termAt shape p)
 
-    put-value-to : (k p : ℕ) → ρ p < k → put σ (val p) ≡ now p
-    unfolding put
+    put-value-to : (k p : ℕ) → ρ p < k → substitute σ (val p) ≡ now p
+    unfolding substitute
     put-value-to zero p l = absurd (omega (arith, l))
-    put-value-to (suc k) p l = ap (put σ) (Enough.value-eq shape w B A var p) ∙ (go (shape p) refl (put-value-to k) ∙ sym (value-by-shape shape K low σ p))
+    put-value-to (suc k) p l = ap (substitute σ) (Enough.value-eq shape w B A var p) ∙ (go (shape p) refl (put-value-to k) ∙ sym (value-by-shape shape K low σ p))
       where
-        bound : (u : ℕ) (o : Option ℕ) → shape p ≡ variable u → binding B u ≡ o → ((q : ℕ) → ρ q < k → put σ (val q) ≡ now q) → put σ (valueBound var u val o) ≡ σ u
+        bound : (u : ℕ) (o : Option ℕ) → shape p ≡ variable u → binding B u ≡ o → ((q : ℕ) → ρ q < k → substitute σ (val q) ≡ now q) → substitute σ (valueBound var u val o) ≡ σ u
         bound u none s e ih = refl
         bound u (some q) s e ih = ih q (omega (arith, l, rank-var shape w B A p u q s e)) ∙ sym (r u q e)
 
-        go : (s : Shape) → shape p ≡ s → ((q : ℕ) → ρ q < k → put σ (val q) ≡ now q) → put σ (valueAt B var val s) ≡ shapeVal σ now s
+        go : (s : Shape) → shape p ≡ s → ((q : ℕ) → ρ q < k → substitute σ (val q) ≡ now q) → substitute σ (valueAt B var val s) ≡ shapeVal σ now s
         go (variable u) s ih = bound u (binding B u) s refl ih
         go (over h ps) s ih = ap (app h) (puts-agree σ val now ps (λ q o. ih q (omega (arith, l, rank-over shape w B A p h ps s, one-highest ρ ps q o))))
 
-    pub put-value : (p : ℕ) → put σ (val p) ≡ now p
+    pub put-value : (p : ℕ) → substitute σ (val p) ≡ now p
     put-value p = put-value-to w p (A .short p)
 
 -- room ends only at a sort that the list has not and that does not fit
@@ -369,12 +369,12 @@ module _ (ws : List ℕ) (n e : ℕ) (ns : List ℕ) (m d v : ℕ) (c : NodesChe
   pub value-followed : (p q : ℕ) → follow graph deep B p ≡ some q → value graph B p ≡ value graph B q
   value-followed p q f = value-follows graph deep B A deep p q f
 
-  pub put-place : (σ : ℕ → Term) → Respects graph B σ → (p : ℕ) → put σ (value graph B p) ≡ put σ (termAt graph p)
+  pub put-place : (σ : ℕ → Term) → Respects graph B σ → (p : ℕ) → substitute σ (value graph B p) ≡ substitute σ (termAt graph p)
   put-place σ r p = put-value graph deep B A 3072 (lower ws n e ns m d v c) σ r p
 
   module _ (p : ℕ) (S : Sorts) where
     -- A sort is what the place stands for under every assignment.
-    pub resolved-is-every-assignment : isPlace n m p ≡ true → (t : Tree) (S′ : Sorts) → resolve graph B p S ≡ made t S′ → (σ : ℕ → Term) → Respects graph B σ → put σ (termAt graph p) ≡ termOf t
+    pub resolved-is-every-assignment : isPlace n m p ≡ true → (t : Tree) (S′ : Sorts) → resolve graph B p S ≡ made t S′ → (σ : ℕ → Term) → Respects graph B σ → substitute σ (termAt graph p) ≡ termOf t
     resolved-is-every-assignment i t S′ q σ r =
         sym (put-place σ r p) ∙ says-made (Denotes none (value graph B p)) (Unit {0}) (resolve graph B p S) t S′ (resolve-denotes none (value graph B p) S (value-formed ws n e ns m d v c B b p i)) q σ (λ u h. tt)
 
@@ -405,7 +405,7 @@ module _ (ws : List ℕ) (n e : ℕ) (ns : List ℕ) (m d v : ℕ) (c : NodesChe
 
     -- It is what the place stands for where each free variable is the default.
     pub resolve-or-default-is-the-assignment : isPlace n m p ≡ true → (x t : Tree) (S′ : Sorts) → resolveOrDefault graph B p x S ≡ made t S′
-        → (σ : ℕ → Term) → Respects graph B σ → ((u : ℕ) → binding B u ≡ none → σ u ≡ termOf x) → put σ (termAt graph p) ≡ termOf t
+        → (σ : ℕ → Term) → Respects graph B σ → ((u : ℕ) → binding B u ≡ none → σ u ≡ termOf x) → substitute σ (termAt graph p) ≡ termOf t
     resolve-or-default-is-the-assignment i x t S′ q σ r y =
         sym (put-place σ r p)
         ∙ says-made (Denotes (some x) (value graph B p)) (Unit {0}) (resolveOrDefault graph B p x S) t S′ (resolve-denotes (some x) (value graph B p) S (value-formed ws n e ns m d v c B b p i)) q σ

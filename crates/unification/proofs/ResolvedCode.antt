@@ -14,7 +14,7 @@ use Rattle.resolved_sort.specs.declared.Joined.{Joined}
 use Rattle.resolved_sort.specs.declared.Joined.the-variants.{At, Nothing, Full}
 use Rattle.resolved_sort.specs.declared.Found.the-variants.{All, Nothing as NotAll, Full as NoRoom}
 use Rattle.resolved_sort.specs.declared.Domain.{Domain}
-use Rattle.resolved_sort.specs.Tree.{unit, Tree, flat, container, function, Trees, end, arg, arity}
+use Rattle.resolved_sort.specs.Tree.{unit, Tree, flat, container, function, Trees, no-args, arg, arity}
 use Rattle.resolved_sort.specs.Interning.{Sorts, look, member, need, Outcome, made, nothing, full, _then_, intern}
 use Rattle.resolved_sort.specs.Storage.{maxEntries, trees, lookAll, numbers, sortsOf}
 use Rattle.resolved_sort.specs.Entries.{countsOf, after, stored}
@@ -137,7 +137,7 @@ resolve-function d ts r S =
 
 -- the list after the arguments
 module _ (ws : List ℕ) (n e : ℕ) where
-  none-kept : (S : Sorts) → Grown ws n e S → Kept ws n e (InTrees 0) S (made end S)
+  none-kept : (S : Sorts) → Grown ws n e S → Kept ws n e (InTrees 0) S (made no-args S)
   unfolding Kept members arity
   none-kept S g = (g, extends-refl S, (refl, refl))
 

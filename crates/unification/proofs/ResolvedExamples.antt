@@ -7,7 +7,7 @@ use Prim.Native.Nat.{ℕ}
 use lib.ListN.{replicate}
 use Rattle.resolved_sort.specs.declared.Sort.{Sort}
 use Rattle.resolved_sort.specs.declared.ComplexSort.{ComplexSort}
-use Rattle.resolved_sort.specs.Tree.{unit, primitive, Tree, flat, container, function, end, arg}
+use Rattle.resolved_sort.specs.Tree.{unit, primitive, Tree, flat, container, function, no-args, arg}
 use Rattle.resolved_sort.specs.Tree as Tree
 use Rattle.resolved_sort.specs.Interning.{Sorts, made, nothing, full}
 use Rattle.resolved_sort.specs.Interning as Interning
@@ -46,7 +46,7 @@ listOfNat : Tree
 listOfNat = container ComplexSort.List nat
 
 overNat : Tree
-overNat = function (arg listOfNat (arg nat end)) (flat (primitive Sort.Bool))
+overNat = function (arg listOfNat (arg nat no-args)) (flat (primitive Sort.Bool))
 
 six : List Tree
 six = flat unit ∷ flat (primitive Sort.Bool) ∷ flat (primitive Sort.Pos) ∷ nat ∷ flat (primitive Sort.Int) ∷ flat (primitive Sort.Real) ∷ []

@@ -9,7 +9,7 @@ use Prim.Native.Nat.{ℕ, zero, suc, _-_, _<_, _≤_}
 use native.Mathlib.Omega.{arith}
 use native.Mathlib.Numerals.{add-one}
 use lib.ListN.{length, getD}
-use Rattle.resolved_sort.specs.Tree.{unit, Tree, flat, container, function, Trees, end, arg, arity}
+use Rattle.resolved_sort.specs.Tree.{unit, Tree, flat, container, function, Trees, no-args, arg, arity}
 use Rattle.resolved_sort.specs.Interning.{Sorts, look, number, member, need, made, _then_, intern}
 use Rattle.resolved_sort.specs.Storage.{maxEntries, trees}
 use Rattle.resolved_sort.specs.Entries.{after}
@@ -141,17 +141,17 @@ intern-found t S m = rw m
 
 -- the arguments as a list, in front of others
 unfoldable pub listed : Trees → List Tree → List Tree
-listed end us = us
+listed no-args us = us
 listed (arg t ts) us = t ∷ listed ts us
 
 pub firsts-listed : (ts : Trees) (us : List Tree) → firsts (arity ts) (listed ts us) ≡ ts
 unfolding firsts arity listed
-firsts-listed end us = refl
+firsts-listed no-args us = refl
 firsts-listed (arg t ts) us = ap (λ k. firsts k (t ∷ listed ts us)) (add-one (arity ts)) ∙ ap (arg t) (firsts-listed ts us)
 
 pub last-listed : (ts : Trees) (r : Tree) → getD (listed ts (r ∷ [])) (arity ts) (flat unit) ≡ r
 unfolding arity listed
-last-listed end r = refl
+last-listed no-args r = refl
 last-listed (arg t ts) r = ap (λ k. getD (t ∷ listed ts (r ∷ [])) k (flat unit)) (add-one (arity ts)) ∙ last-listed ts r
 
 module _ (d : Option Tree) (S : Sorts) where
@@ -169,7 +169,7 @@ module _ (d : Option Tree) (S : Sorts) where
         ∙ (ap₂ (λ us u. intern (function us u) S) (firsts-listed ts (r ∷ [])) (last-listed ts r) ∙ intern-found (function ts r) S (w .0))
 
     wholes-are-found : (ts : Trees) (xs : Terms) (us : List Tree) → Wholes (S .trees) ts → resolveTerms d xs S ≡ made us S → resolveTerms d (termsOf ts xs) S ≡ made (listed ts us) S
-    wholes-are-found end xs us w q = q
+    wholes-are-found no-args xs us w q = q
     wholes-are-found (arg t ts) xs us w q =
         ap (λ O. O then (λ u S. resolveTerms d (termsOf ts xs) S then (λ us S. made (u ∷ us) S))) (whole-is-found t (w .0))
         ∙ ap (λ O. O then (λ us S. made (t ∷ us) S)) (wholes-are-found ts xs us (w .1) q)

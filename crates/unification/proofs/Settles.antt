@@ -15,7 +15,7 @@ use Rattle.resolved_sort.proofs.Numbers.{true-not-false}
 use Rattle.resolved_sort.proofs.Reached.{no-confusion}
 use Rattle.unification.specs.Term.{strayHead, variable, over}
 use Rattle.unification.specs.Nodes.{nodeAt, nodeShape, Lists, isSort, isPlace, shapeAt, Binds, binding}
-use Rattle.unification.specs.Acyclic.{One, first, later, Stands, at, within, Numbering, placeSettled, allSettled, shapeSettled, nodesSettled, bindingSettled, varsSettled, rounds, all, acyclic}
+use Rattle.unification.specs.Acyclic.{One, first, later, Stands, at, within, Numbering, placeSettled, allSettled, shapeSettled, nodesSettled, bindingSettled, varsSettled, rounds, allTrue, acyclic}
 use Rattle.unification.specs.Checked.{ListsFine, listsOf}
 use Rattle.unification.proofs.Numbering.{numbered}
 use Rattle.unification.proofs.Parts.{none-of}
@@ -90,11 +90,11 @@ bound-inside [] v q e = no-confusion (cc)
 bound-inside (b ∷ B) zero q e = omega arith
 bound-inside (b ∷ B) (suc v) q e = omega (arith, bound-inside B v q e)
 
-all-each : (xs : List Bool) (v : ℕ) → all xs ≡ true → v < length xs → getD xs v false ≡ true
-unfolding all
+all-each : (xs : List Bool) (v : ℕ) → allTrue xs ≡ true → v < length xs → getD xs v false ≡ true
+unfolding allTrue
 all-each [] v e l = absurd (omega (arith, l))
-all-each (x ∷ xs) zero e l = and-eq-true-iff x (all xs) .0 e .0
-all-each (x ∷ xs) (suc v) e l = all-each xs v (and-eq-true-iff x (all xs) .0 e .1) (omega (arith, l))
+all-each (x ∷ xs) zero e l = and-eq-true-iff x (allTrue xs) .0 e .0
+all-each (x ∷ xs) (suc v) e l = all-each xs v (and-eq-true-iff x (allTrue xs) .0 e .1) (omega (arith, l))
 
 pub none-at-first : (n v : ℕ) → getD (replicate n false) v false ≡ false
 none-at-first zero v = refl
@@ -170,7 +170,7 @@ module _ (ws : List ℕ) (n e : ℕ) (ns : List ℕ) (m d v : ℕ) (c : ListsFin
     falls-by : (j : ℕ) → length B ≡ suc j → (x q u : ℕ) → binding B x ≡ some q → Stands (shapeAt L) u q → open-rounds u (length B) < open-rounds x (length B)
     unfolding acyclic open-rounds
     falls-by j l x q u b s =
-        let z : settled (suc j) x ≡ true = all-each (rounds ns m B (suc j)) x (subst (λ (k : ℕ). all (rounds ns m B k) ≡ true) l a) (omega (arith, bound-inside B x q b, length-rounds ns m B (suc j))) in
+        let z : settled (suc j) x ≡ true = all-each (rounds ns m B (suc j)) x (subst (λ (k : ℕ). allTrue (rounds ns m B k) ≡ true) l a) (omega (arith, bound-inside B x q b, length-rounds ns m B (suc j))) in
         let y = one-back j x q u b s z in
         subst (λ (k : ℕ). open-rounds u k < open-rounds x k) (sym l) (rw y (omega (arith, more-open x q u b s j)))
 

@@ -5,7 +5,7 @@ use mathlib.Core.Option.{none, some}
 use Prim.Native.Nat.{ℕ, zero, suc, _+_, _*_, _<_, _≤_}
 use native.Mathlib.Omega.{arith}
 use lib.ListN.{length}
-use Rattle.unification.specs.Term.{Term, app, Shape, variable, over, put}
+use Rattle.unification.specs.Term.{Term, app, Shape, variable, over, substitute}
 use Rattle.unification.specs.Nodes.{Binds, binding}
 use Rattle.unification.specs.Unify.{Unifies, too-deep, no-way, yes-with, unifyTo}
 use Rattle.unification.specs.Acyclic.{Reaches, here, inside, beyond, Acyclic, Numbering}
@@ -31,17 +31,17 @@ module _ (shape : ℕ → Shape) (K : ℕ) (lower : Lower shape K) where
       go (over h ps) e ih = ap (app h) (termsAt-agree (termTo shape k) (termTo shape j) ps (λ q o. let x = lower p q h ps e o in ih q (omega (arith, l, x .0)) (omega (arith, m, x .0))))
 
   abbrev pub value : (ℕ → Term) → ℕ → Term
-  value σ p = put σ (termAt shape p)
+  value σ p = substitute σ (termAt shape p)
 
   -- what a place stands for, by its shape
   pub value-by-shape : (σ : ℕ → Term) (p : ℕ) → value σ p ≡ shapeVal σ (value σ) (shape p)
-  unfolding termTo put
+  unfolding termTo substitute
   value-by-shape σ p = go (shape p) refl
     where
-      go : (s : Shape) → shape p ≡ s → put σ (termOfShape (termTo shape p) s) ≡ shapeVal σ (value σ) s
+      go : (s : Shape) → shape p ≡ s → substitute σ (termOfShape (termTo shape p) s) ≡ shapeVal σ (value σ) s
       go (variable v) e = refl
       go (over h ps) e =
-          ap (app h) (puts-agree σ (termTo shape p) (value σ) ps (λ q o. ap (put σ) (same-at-depth p (suc q) q (lower p q h ps e o .0) (omega arith))))
+          ap (app h) (puts-agree σ (termTo shape p) (value σ) ps (λ q o. ap (substitute σ) (same-at-depth p (suc q) q (lower p q h ps e o .0) (omega arith))))
 
   pub model-of : (B : Binds) (σ : ℕ → Term) → Respects shape B σ → Model shape B σ (value σ)
   model-of B σ r = record { isval = value-by-shape σ; sat = r }

@@ -13,13 +13,13 @@ use Rattle.resolved_sort.specs.Tree.{unit, Tree, flat}
 use Rattle.resolved_sort.specs.Interning.{Sorts}
 use Rattle.resolved_sort.specs.Checks.{fixedSix}
 use Rattle.resolved_sort.proofs.Numbers.{true-not-false}
-use Rattle.unification.specs.Term.{flatHead, containerHead, functionHead, strayHead, Term, var, Shape, variable, over, termOf, put}
+use Rattle.unification.specs.Term.{flatHead, containerHead, functionHead, strayHead, Term, var, Shape, variable, over, termOf, substitute}
 use Rattle.unification.specs.Nodes.{Binds, binding}
 use Rattle.unification.specs.Unify.{deep}
 use Rattle.unification.specs.Solutions.{valueBound, valueAt, termAt, Respects}
 use Rattle.unification.specs.Resolve.{value, resolve, resolveOrDefault}
 use Rattle.unification.specs.Related.{each}
-use Rattle.unification.specs.FinalRange.{FreeEnd, free, bound, range}
+use Rattle.unification.specs.FinalRange.{FreeEnd, free, bound-to, range}
 use Rattle.unification.specs.Making.{Lent, graph, made, no-list, strictRelated}
 use Rattle.unification.proofs.Rank.{rank, Ranked, rank-var}
 use Rattle.unification.proofs.Lists.{lower, scoped}
@@ -55,7 +55,7 @@ module _ (W : Lent) (c : CheckedLent W) (B : Binds) (b : CheckedBinds W B) where
   free-is-open : (p : ℕ) → FreeEnd (graph W) B p → openEnd (val p) ≡ true
   unfolding openEnd
   free-is-open _ (free p u s i) = ap openEnd (value-at p (variable u) s ∙ ap (valueBound var u val) i)
-  free-is-open _ (bound p u q s i h) = ap openEnd (value-at p (variable u) s ∙ ap (valueBound var u val) i) ∙ free-is-open q h
+  free-is-open _ (bound-to p u q s i h) = ap openEnd (value-at p (variable u) s ∙ ap (valueBound var u val) i) ∙ free-is-open q h
   free-is-open _ (range p k ps s h) =
       ap openEnd (value-at p (over (functionHead k) ps) s) ∙ (open-at-part val k ps (omega (arith, function-parts _ p k ps s)) ∙ free-is-open (getD ps k 0) h)
 
@@ -67,7 +67,7 @@ module _ (W : Lent) (c : CheckedLent W) (B : Binds) (b : CheckedBinds W B) where
       ends : (u : ℕ) (o : Option ℕ) → graph W p ≡ variable u → binding B u ≡ o → openEnd (valueBound var u val o) ≡ true
           → ((q : ℕ) → ρ q < k → openEnd (val q) ≡ true → FreeEnd (graph W) B q) → FreeEnd (graph W) B p
       ends u none s i x ih = free p u s i
-      ends u (some q) s i x ih = bound p u q s i (ih q (omega (arith, l, rank-var (graph W) deep B A p u q s i)) x)
+      ends u (some q) s i x ih = bound-to p u q s i (ih q (omega (arith, l, rank-var (graph W) deep B A p u q s i)) x)
 
       go : (s : Shape) → graph W p ≡ s → openEnd (valueAt B var val s) ≡ true → ((q : ℕ) → ρ q < k → openEnd (val q) ≡ true → FreeEnd (graph W) B q) → FreeEnd (graph W) B p
       go (variable u) s x ih = ends u (binding B u) s refl x ih
@@ -83,13 +83,13 @@ module _ (W : Lent) (c : CheckedLent W) (B : Binds) (b : CheckedBinds W B) where
 -- Whatever the first place can stand for, the second can.
 abbrev pub Covers : (ℕ → Shape) → Binds → ℕ → (ℕ → Shape) → Binds → ℕ → Type 0
 Covers shape B p shape′ B′ p′ =
-    (σ : ℕ → Term) → Respects shape B σ → (τ : ℕ → Term) × (Respects shape′ B′ τ × (put τ (termAt shape′ p′) ≡ put σ (termAt shape p)))
+    (σ : ℕ → Term) → Respects shape B σ → (τ : ℕ → Term) × (Respects shape′ B′ τ × (substitute τ (termAt shape′ p′) ≡ substitute σ (termAt shape p)))
 
 module _ (W : Lent) (c : CheckedLent W) (B : Binds) (b : CheckedBinds W B) (p : ℕ) (W′ : Lent) (c′ : CheckedLent W′) (B′ : Binds) (b′ : CheckedBinds W′ B′) (p′ : ℕ) where
-  put-here : (σ : ℕ → Term) → Respects (graph W) B σ → put σ (value (graph W) B p) ≡ put σ (termAt (graph W) p)
+  put-here : (σ : ℕ → Term) → Respects (graph W) B σ → substitute σ (value (graph W) B p) ≡ substitute σ (termAt (graph W) p)
   put-here σ r = put-place (W .sorts) (W .lengths .sorts) (W .lengths .entries) (W .nodes) (W .lengths .nodes) (W .lengths .arguments) (W .lengths .variables) c B b σ r p
 
-  put-there : (σ : ℕ → Term) → Respects (graph W′) B′ σ → put σ (value (graph W′) B′ p′) ≡ put σ (termAt (graph W′) p′)
+  put-there : (σ : ℕ → Term) → Respects (graph W′) B′ σ → substitute σ (value (graph W′) B′ p′) ≡ substitute σ (termAt (graph W′) p′)
   put-there σ r =
       put-place (W′ .sorts) (W′ .lengths .sorts) (W′ .lengths .entries) (W′ .nodes) (W′ .lengths .nodes) (W′ .lengths .arguments) (W′ .lengths .variables) c′ B′ b′ σ r p′
 
@@ -103,13 +103,13 @@ module _ (W : Lent) (c : CheckedLent W) (B : Binds) (b : CheckedBinds W B) (p : 
       let s = solution (graph W′) 3072 (lower (W′ .sorts) (W′ .lengths .sorts) (W′ .lengths .entries) (W′ .nodes) (W′ .lengths .nodes) (W′ .lengths .arguments) (W′ .lengths .variables) c′)
       (W′ .lengths .variables) (scoped (W′ .sorts) (W′ .lengths .sorts) (W′ .lengths .entries) (W′ .nodes) (W′ .lengths .nodes) (W′ .lengths .arguments) (W′ .lengths .variables) c′) deep
       (deep-enough (W′ .sorts) (W′ .lengths .sorts) (W′ .lengths .entries) (W′ .nodes) (W′ .lengths .nodes) (W′ .lengths .arguments) (W′ .lengths .variables) c′) B′ (b′ .numbered)
-      (λ u. put σ (i .0 u)) in (
+      (λ u. substitute σ (i .0 u)) in (
         s .0,
         (
           s .1 .0,
           sym (put-there (s .0) (s .1 .0))
-              ∙ (put-agrees (s .0) (λ u. put σ (i .0 u)) (value (graph W′) B′ p′) (λ u h. s .1 .1 u (stands-free (graph W′) deep B′ (checked-ranks W′ c′ B′ b′) u p′ h .1))
-              ∙ (sym (put-twice σ (i .0) (value (graph W′) B′ p′)) ∙ (ap (put σ) (sym (i .1)) ∙ put-here σ r))),
+              ∙ (put-agrees (s .0) (λ u. substitute σ (i .0 u)) (value (graph W′) B′ p′) (λ u h. s .1 .1 u (stands-free (graph W′) deep B′ (checked-ranks W′ c′ B′ b′) u p′ h .1))
+              ∙ (sym (put-twice σ (i .0) (value (graph W′) B′ p′)) ∙ (ap (substitute σ) (sym (i .1)) ∙ put-here σ r))),
         ),
       )
 
@@ -146,7 +146,7 @@ module _
   -- and what its places stand for
   module _ (six : fixedSix (W .sorts) (W .lengths .sorts) ≡ true) (i : PlacedIn W p) (six′ : fixedSix (W′ .sorts) (W′ .lengths .sorts) ≡ true) (i′ : PlacedIn W′ p′) (up : Bool)
       (qs : List ℕ) (U : Lent) (h : strictRelated up B p W ≡ made qs U) (qs′ : List ℕ) (U′ : Lent) (h′ : strictRelated up B′ p′ W′ ≡ made qs′ U′) where
-    pub places-alike : (σ σ′ : ℕ → Term) → Respects (graph W) B σ → Respects (graph W′) B′ σ′ → (t : Tree) → put σ (termAt (graph W) p) ≡ termOf t → put σ′ (termAt (graph W′) p′) ≡ termOf t
+    pub places-alike : (σ σ′ : ℕ → Term) → Respects (graph W) B σ → Respects (graph W′) B′ σ′ → (t : Tree) → substitute σ (termAt (graph W) p) ≡ termOf t → substitute σ′ (termAt (graph W′) p′) ≡ termOf t
         → each (termIn U σ) qs ≡ each (termIn U′ σ′) qs′
     places-alike σ σ′ r r′ t f f′ =
         let a = made-grows (StandForRelated up B W p) W U qs (strictRelated up B p W) (related-makes W c B b up p six i) h in

@@ -13,7 +13,7 @@ use lib.ListN.{length}
 use Rattle.resolved_sort.specs.declared.Sort.{Sort}
 use Rattle.resolved_sort.specs.declared.ComplexSort.{ComplexSort}
 use Rattle.resolved_sort.specs.Tree.{Flat, unit, primitive, def, typevar, Tree, flat, container, function, Trees, family, level, familyOp, levelOp}
-use Rattle.resolved_sort.specs.Order.{leFlat, leOp, Steps, apart, materializable, map₁, most}
+use Rattle.resolved_sort.specs.Order.{leFlat, leOp, Steps, apart, materializable, map₁, mostSteps}
 use Rattle.resolved_sort.specs.Exact.{total, exact, exacts, stopped}
 use Rattle.resolved_sort.proofs.Heads.{leHead, Reaches, head-exactly, head-flips, flat-injective, op-injective}
 use Rattle.resolved_sort.proofs.Materializable.{Materializes, number, operator, range, materializable-exactly}
@@ -192,9 +192,9 @@ exact-of-equal up s = go (exact up s s) (sym (distance-stops-once up s s) ∙ di
 exacts-of-equal : (up : Bool) (ss : Trees) → exacts up ss ss ≡ some 0
 exacts-of-equal up ss = go (exacts up ss ss) (sym (distances-stop-once up ss ss) ∙ distances-of-equal up ss)
   where
-    go : (o : Option ℕ) → map₁ (min most) o ≡ some 0 → o ≡ some 0
+    go : (o : Option ℕ) → map₁ (min mostSteps) o ≡ some 0 → o ≡ some 0
     go none e = no-confusion (cc)
-    go (some n) e = let z : min most n ≡ 0 = cc in ap some (omega (arith, z))
+    go (some n) e = let z : min mostSteps n ≡ 0 = cc in ap some (omega (arith, z))
 
 -- k steps apart, by the distance without stopping
 abbrev pub Distant : Bool → Tree → Tree → ℕ → Type 0

@@ -13,7 +13,7 @@ use Rattle.resolved_sort.specs.Tree.{unit, primitive, def, typevar, Tree, flat,
 use Rattle.resolved_sort.specs.Checks.{fixedSix}
 use Rattle.resolved_sort.specs.Reference.{Converts, pos-to-nat, nat-to-int, int-to-real, fset-to-set, fbag-to-bag, Widens, stays, then}
 use Rattle.resolved_sort.proofs.Materializable.{isFunction}
-use Rattle.unification.specs.Term.{Term, termOf, put}
+use Rattle.unification.specs.Term.{Term, termOf, substitute}
 use Rattle.unification.specs.Nodes.{bindsOf}
 use Rattle.unification.specs.Solutions.{termAt, Respects}
 use Rattle.unification.specs.Related.{relatedNumbers, relatedContainer, each, related, Member, first, later}
@@ -186,6 +186,6 @@ lists-related up stands t qs e = record { sound = sound; complete = complete }
 
 pub strict-related-exactly : (W : Lent) (bs : List ℕ) → ReadyLent W bs → fixedSix (W .sorts) (W .lengths .sorts) ≡ true → (up : Bool) (p : ℕ) → PlacedIn W p → (qs : List ℕ) (W′ : Lent)
     → strictRelated up (bindsOf bs (W .lengths .variables)) p W ≡ made qs W′ → (σ : ℕ → Term) → Respects (graph W) (bindsOf bs (W .lengths .variables)) σ
-    → (t : Tree) → put σ (termAt (graph W) p) ≡ termOf t → ListsRelated up (λ q. put σ (termAt (graph W′) q)) t qs
+    → (t : Tree) → substitute σ (termAt (graph W) p) ≡ termOf t → ListsRelated up (λ q. substitute σ (termAt (graph W′) q)) t qs
 strict-related-exactly W bs ready six up p x qs W′ e σ r t s =
-    lists-related up (λ q. put σ (termAt (graph W′) q)) t qs (strict-related-places W bs ready six up p x qs W′ e .2 σ r t s)
+    lists-related up (λ q. substitute σ (termAt (graph W′) q)) t qs (strict-related-places W bs ready six up p x qs W′ e .2 σ r t s)

@@ -70,10 +70,10 @@ unfoldable pub rounds : List ℕ → ℕ → Binds → ℕ → List Bool
 rounds ns m B zero = replicate (length B) false
 rounds ns m B (suc k) = varsSettled (nodesSettled ns (rounds ns m B k) m) B
 
-unfoldable pub all : List Bool → Bool
-all [] = true
-all (b ∷ bs) = b && all bs
+unfoldable pub allTrue : List Bool → Bool
+allTrue [] = true
+allTrue (b ∷ bs) = b && allTrue bs
 
 -- as many rounds as there are variables settle all that can be
 unfoldable pub acyclic : List ℕ → ℕ → Binds → Bool
-acyclic ns m B = all (rounds ns m B (length B))
+acyclic ns m B = allTrue (rounds ns m B (length B))

@@ -10,6 +10,6 @@ use Rattle.unification.specs.Nodes.{Binds, binding}
 
 pub data FreeEnd (shape : ℕ → Shape) (B : Binds) : ℕ → Type 0 where
   free : (p v : ℕ) → shape p ≡ variable v → binding B v ≡ none → FreeEnd shape B p
-  bound : (p v q : ℕ) → shape p ≡ variable v → binding B v ≡ some q → FreeEnd shape B q → FreeEnd shape B p
+  bound-to : (p v q : ℕ) → shape p ≡ variable v → binding B v ≡ some q → FreeEnd shape B q → FreeEnd shape B p
   range : (p n : ℕ) (ps : List ℕ) → shape p ≡ over (functionHead n) ps → FreeEnd shape B (getD ps n 0)
       → FreeEnd shape B p

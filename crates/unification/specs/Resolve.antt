@@ -5,7 +5,7 @@ use mathlib.Core.List.{List, [], _∷_}
 use mathlib.Core.Option.{Option, none, some}
 use Prim.Native.Nat.{ℕ, zero, suc, _<_}
 use lib.ListN.{getD}
-use Rattle.resolved_sort.specs.Tree.{unit, Tree, flat, container, function, Trees, end, arg}
+use Rattle.resolved_sort.specs.Tree.{unit, Tree, flat, container, function, Trees, no-args, arg}
 use Rattle.resolved_sort.specs.declared.Counts.{Counts}
 use Rattle.resolved_sort.specs.declared.Joined.{Joined}
 use Rattle.resolved_sort.specs.declared.Joined.the-variants.{At, Nothing as NotFound}
@@ -29,8 +29,8 @@ value shape B p = valueTo shape B var deep p
 
 -- the first n of the sorts as arguments
 unfoldable pub firsts : ℕ → List Tree → Trees
-firsts zero us = end
-firsts (suc n) [] = end
+firsts zero us = no-args
+firsts (suc n) [] = no-args
 firsts (suc n) (u ∷ us) = arg u (firsts n us)
 
 -- the sort of a head over sorts; the head of a number that is no place has none, and unit stands for it
@@ -54,7 +54,7 @@ unfoldable mutual
 
 -- the arguments of a function, left to right
 unfoldable pub resolveArguments : Option Tree → Terms → Sorts → Outcome Trees
-resolveArguments d no-part S = made end S
+resolveArguments d no-part S = made no-args S
 resolveArguments d (part t ts) S =
     resolveTerm d t S then (λ u S. resolveArguments d ts S then (λ us S. made (arg u us) S))
 

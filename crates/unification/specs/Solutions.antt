@@ -4,7 +4,7 @@ use mathlib.Core.Path.{_≡_}
 use mathlib.Core.List.{List, [], _∷_}
 use mathlib.Core.Option.{Option, none, some}
 use Prim.Native.Nat.{ℕ, zero, suc}
-use Rattle.unification.specs.Term.{strayHead, Term, var, app, Terms, no-part, part, Shape, variable, over, put}
+use Rattle.unification.specs.Term.{strayHead, Term, var, app, Terms, no-part, part, Shape, variable, over, substitute}
 use Rattle.unification.specs.Nodes.{Binds, binding}
 use Rattle.unification.specs.Unify.{Unifies, yes-with, no-way}
 use Rattle.unification.specs.Acyclic.{Acyclic}
@@ -43,11 +43,11 @@ module _ (shape : ℕ → Shape) where
 
   -- Under σ, which gives each variable a term, every binding holds.
   abbrev pub Respects : Binds → (ℕ → Term) → Type 0
-  Respects B σ = (v q : ℕ) → binding B v ≡ some q → σ v ≡ put σ (termAt q)
+  Respects B σ = (v q : ℕ) → binding B v ≡ some q → σ v ≡ substitute σ (termAt q)
 
   -- under σ the two places have the same term
   abbrev pub Equates : (ℕ → Term) → ℕ → ℕ → Type 0
-  Equates σ l r = put σ (termAt l) ≡ put σ (termAt r)
+  Equates σ l r = substitute σ (termAt l) ≡ substitute σ (termAt r)
 
   -- Robinson's theorem about an answer. A no: nothing that respects the bindings equates the two sides. A yes: what
   -- respects the new bindings is exactly what respects the old ones and equates the two sides, so they are the most

@@ -4,7 +4,7 @@ use mathlib.Core.List.{List, []}
 use Prim.Native.Nat.{ℕ}
 use lib.Dec.{eqb}
 use Rattle.resolved_sort.specs.declared.ComplexSort.{ComplexSort}
-use Rattle.resolved_sort.specs.Tree.{Flat, Tree, flat, container, function, Trees, end, arg, arity}
+use Rattle.resolved_sort.specs.Tree.{Flat, Tree, flat, container, function, Trees, no-args, arg, arity}
 use Rattle.resolved_sort.specs.Storage.{functionKind, kindFlat, partFlat, kindOp}
 
 -- A head stands over parts: a flat sort over none, a container over one, a function of n arguments over these and then
@@ -63,15 +63,15 @@ unfoldable mutual
 
   -- the terms of arguments, in front of others
   pub termsOf : Trees → Terms → Terms
-  termsOf end us = us
+  termsOf no-args us = us
   termsOf (arg t ts) us = part (termOf t) (termsOf ts us)
 
 -- a term with terms put in for its variables
 unfoldable mutual
-  pub put : (ℕ → Term) → Term → Term
-  put σ (var v) = σ v
-  put σ (app h ts) = app h (puts σ ts)
+  pub substitute : (ℕ → Term) → Term → Term
+  substitute σ (var v) = σ v
+  substitute σ (app h ts) = app h (substitutes σ ts)
 
-  pub puts : (ℕ → Term) → Terms → Terms
-  puts σ no-part = no-part
-  puts σ (part t ts) = part (put σ t) (puts σ ts)
+  pub substitutes : (ℕ → Term) → Terms → Terms
+  substitutes σ no-part = no-part
+  substitutes σ (part t ts) = part (substitute σ t) (substitutes σ ts)

@@ -36,7 +36,7 @@ answerOf (No c) B = no-way
 -- A try with the answer U, from the bindings bs and c variables on the trail: what it leaves. After a yes the bindings
 -- are those of U; after either answer undoing the trail gives back what was there before, each variable on the trail
 -- has been free, and the words past the variables are as they were.
-pub record Tries (ws ns : List ℕ) (k : Lengths) (U : Unifies) (bs ts : List ℕ) (c : ℕ)
+pub record TryLeaves (ws ns : List ℕ) (k : Lengths) (U : Unifies) (bs ts : List ℕ) (c : ℕ)
     (left-bs left-ts : List ℕ) (r : Tried) : Type 0 where
   pub says : U ≡ answerOf r (bindsOf left-bs (k .variables))
   pub undone : undo left-ts c (countOf r - c) left-bs ≡ bs

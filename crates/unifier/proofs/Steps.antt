@@ -24,7 +24,7 @@ use Rattle.unification.specs.Nodes.{isSort, Binds, bindsOf}
 use Rattle.unification.specs.Unify.{Unifies, yes-with, no-way, too-deep, and-then, follow, occurs, bindUnless, unifyAll, unifyHeads, unifyVariables, unifyShapes, unifyApart, unifyEnds, unifyFollowed, unify, deep, deeper}
 use Rattle.unification.specs.Acyclic.{One}
 use Rattle.unification.specs.Checked.{graphOf, Ready, Placed}
-use Rattle.unification.specs.Trail.{frees, Tries}
+use Rattle.unification.specs.Trail.{frees, TryLeaves}
 use Rattle.unification.proofs.Rank.{rank, rank-over, one-highest}
 use Rattle.unification.proofs.Parts.{one-at}
 use Rattle.unification.proofs.Rows.{sort-no-variable}
@@ -38,7 +38,7 @@ use Rattle.unification.proofs.Theorem.{deep-enough, deeper-enough, ready-ranked
 use Rattle.infer_nodes.specs.Parts.{NodesReady, varAt}
 use Rattle.infer_nodes.proofs.Ways.{end-is-placed}
 use Rattle.infer_nodes.proofs.Parts.{same-count}
-use Rattle.unifier.specs.Trying.{Trying, Free, Solid, Stands}
+use Rattle.unifier.specs.Trying.{Trying, Free, Solid, VariableAt}
 use Rattle.unifier.proofs.Tries.{tries-as, binds-nothing, no-try, then-no, then-on, trying-on}
 
 -- what stands at a place, by what was found there
@@ -65,7 +65,7 @@ workOf ws ns bs k p = frees (bindsOf bs (k .variables)) * deep + rank (graphOf w
 pub record Unifying (ws ns : List ℕ) (k : Lengths) (l r n : ℕ) (U : Unifies) (bs₀ ts₀ : List ℕ) (c₀ : ℕ) (bs ts : List ℕ) (c i : ℕ) : Type 0 where
   pub trying : Trying ws ns bs ts k c
   pub alike : Alike ws ns k l r n
-  pub rest : (bs₁ ts₁ : List ℕ) (w : Tried) → Tries ws ns k (unifyAll (graphOf ws ns k) (unify (graphOf ws ns k)) (bindsOf bs (k .variables)) (drop i (partsOf (graphOf ws ns k l))) (drop i (partsOf (graphOf ws ns k r)))) bs ts c bs₁ ts₁ w → Tries ws ns k U bs₀ ts₀ c₀ bs₁ ts₁ w
+  pub rest : (bs₁ ts₁ : List ℕ) (w : Tried) → TryLeaves ws ns k (unifyAll (graphOf ws ns k) (unify (graphOf ws ns k)) (bindsOf bs (k .variables)) (drop i (partsOf (graphOf ws ns k l))) (drop i (partsOf (graphOf ws ns k r)))) bs ts c bs₁ ts₁ w → TryLeaves ws ns k U bs₀ ts₀ c₀ bs₁ ts₁ w
   pub work : workOf ws ns bs k l ≤ workOf ws ns bs₀ k l
   pub same-binds : length bs ≡ length bs₀
   pub same-trail : length ts ≡ length ts₀
@@ -99,7 +99,7 @@ module _ (ws ns bs ts : List ℕ) (k : Lengths) (c : ℕ) (t : Trying ws ns bs t
     at-ends : unify shape B l r ≡ unifyEnds shape (eqb l′ r′) deep (unify shape) B l′ r′
     at-ends = unify-step l r ∙ rw (fl, fr)
 
-    pub same-end : l′ ≡ r′ → Tries ws ns k (unify shape B l r) bs ts c bs ts (Yes c)
+    pub same-end : l′ ≡ r′ → TryLeaves ws ns k (unify shape B l r) bs ts c bs ts (Yes c)
     same-end e = tries-as ws ns k (yes-with B) (unify shape B l r) bs ts c bs ts (Yes c) (sym (at-ends ∙ rw (eq-eqb l′ r′ e))) (binds-nothing ws ns k bs ts c q)
 
     pub left-end-placed : Placed k l′
@@ -130,17 +130,17 @@ module _ (ws ns bs ts : List ℕ) (k : Lengths) (c : ℕ) (t : Trying ws ns bs t
         no-sort-left = rw (variable-is-no-sort l′ (v .0) (is-variable (shape l′) v xv))
 
         module _ (u : SortVar) (xu : Is u ≡ varAt (shape r′)) where
-          pub two-variables : Trying ws ns bs ts k c × Free bs k (v .0) × Free bs k (u .0) × Placed k r′ × Stands ws ns k r′ (u .0)
+          pub two-variables : Trying ws ns bs ts k c × Free bs k (v .0) × Free bs k (u .0) × Placed k r′ × VariableAt ws ns k r′ (u .0)
           two-variables = (t, left-free v xv, right-free u xu, right-end-placed, record { stands = is-variable (shape r′) u xu })
 
-          pub variables-tried : (bs₁ ts₁ : List ℕ) (a : Tried) → Tries ws ns k (unifyVariables shape (eqb (v .0) (u .0)) B (v .0) r′) bs ts c bs₁ ts₁ a → Tries ws ns k (unify shape B l r) bs ts c bs₁ ts₁ a
+          pub variables-tried : (bs₁ ts₁ : List ℕ) (a : Tried) → TryLeaves ws ns k (unifyVariables shape (eqb (v .0) (u .0)) B (v .0) r′) bs ts c bs₁ ts₁ a → TryLeaves ws ns k (unify shape B l r) bs ts c bs₁ ts₁ a
           variables-tried bs₁ ts₁ a = tries-as ws ns k _ _ bs ts c bs₁ ts₁ a (sym (apart ∙ rw no-sort-left (rw (is-variable (shape l′) v xv, is-variable (shape r′) u xu))))
 
         module _ (xr : Nothing ≡ varAt (shape r′)) where
           pub left-variable : Trying ws ns bs ts k c × Free bs k (v .0) × Placed k r′
           left-variable = (t, left-free v xv, right-end-placed)
 
-          pub left-tried : (bs₁ ts₁ : List ℕ) (a : Tried) → Tries ws ns k (bindUnless shape (occurs shape deep B (v .0) r′) B (v .0) r′) bs ts c bs₁ ts₁ a → Tries ws ns k (unify shape B l r) bs ts c bs₁ ts₁ a
+          pub left-tried : (bs₁ ts₁ : List ℕ) (a : Tried) → TryLeaves ws ns k (bindUnless shape (occurs shape deep B (v .0) r′) B (v .0) r′) bs ts c bs₁ ts₁ a → TryLeaves ws ns k (unify shape B l r) bs ts c bs₁ ts₁ a
           left-tried bs₁ ts₁ a = tries-as ws ns k _ _ bs ts c bs₁ ts₁ a (sym (apart ∙ rw no-sort-left (rw (is-variable (shape l′) v xv) (rw (is-solid (shape r′) xr)))))
 
       module _ (xl : Nothing ≡ varAt (shape l′)) where
@@ -151,7 +151,7 @@ module _ (ws ns bs ts : List ℕ) (k : Lengths) (c : ℕ) (t : Trying ws ns bs t
           pub right-variable : Trying ws ns bs ts k c × Free bs k (u .0) × Placed k l′
           right-variable = (t, right-free u xu, left-end-placed)
 
-          pub right-tried : (bs₁ ts₁ : List ℕ) (a : Tried) → Tries ws ns k (bindUnless shape (occurs shape deep B (u .0) l′) B (u .0) l′) bs ts c bs₁ ts₁ a → Tries ws ns k (unify shape B l r) bs ts c bs₁ ts₁ a
+          pub right-tried : (bs₁ ts₁ : List ℕ) (a : Tried) → TryLeaves ws ns k (bindUnless shape (occurs shape deep B (u .0) l′) B (u .0) l′) bs ts c bs₁ ts₁ a → TryLeaves ws ns k (unify shape B l r) bs ts c bs₁ ts₁ a
           right-tried bs₁ ts₁ a = tries-as ws ns k _ _ bs ts c bs₁ ts₁ a (sym (apart ∙ rw no-sort-right (rw (is-variable (shape r′) u xu) (rw (is-solid (shape l′) xl)))))
 
         module _ (xr : Nothing ≡ varAt (shape r′)) where
@@ -161,7 +161,7 @@ module _ (ws ns bs ts : List ℕ) (k : Lengths) (c : ℕ) (t : Trying ws ns bs t
           pub right-solid : Solid ws ns k r′
           right-solid = record { placed = right-end-placed; solid = is-solid (shape r′) xr }
 
-          pub parts-tried : (bs₁ ts₁ : List ℕ) (a : Tried) → Tries ws ns k (unifyApart shape (isSort l′ && isSort r′) deep (unify shape) B l′ r′) bs ts c bs₁ ts₁ a → Tries ws ns k (unify shape B l r) bs ts c bs₁ ts₁ a
+          pub parts-tried : (bs₁ ts₁ : List ℕ) (a : Tried) → TryLeaves ws ns k (unifyApart shape (isSort l′ && isSort r′) deep (unify shape) B l′ r′) bs ts c bs₁ ts₁ a → TryLeaves ws ns k (unify shape B l r) bs ts c bs₁ ts₁ a
           parts-tried bs₁ ts₁ a = tries-as ws ns k _ _ bs ts c bs₁ ts₁ a (sym apart)
 
   -- two ends at which no variable stands
@@ -169,7 +169,7 @@ module _ (ws ns bs ts : List ℕ) (k : Lengths) (c : ℕ) (t : Trying ws ns bs t
     abbrev whole : Unifies
     whole = unifyApart shape (isSort l && isSort r) deep (unify shape) B l r
 
-    pub two-sorts : (b : Bool) → b ≡ (isSort l && isSort r) → b ≡ true → Tries ws ns k whole bs ts c bs ts (No c)
+    pub two-sorts : (b : Bool) → b ≡ (isSort l && isSort r) → b ≡ true → TryLeaves ws ns k whole bs ts c bs ts (No c)
     two-sorts b e x = tries-as ws ns k no-way whole bs ts c bs ts (No c) (sym (ap (λ y. unifyApart shape y deep (unify shape) B l r) (sym e ∙ x))) (no-try ws ns k bs ts c q)
 
     module _ (b : Bool) (e : b ≡ (isSort l && isSort r)) (x : b ≡ false) where
@@ -179,7 +179,7 @@ module _ (ws ns bs ts : List ℕ) (k : Lengths) (c : ℕ) (t : Trying ws ns bs t
           ∙ ap₂ (λ (y z : Shape). unifyShapes shape deep (unify shape) B l y r z) (sl .solid) (sr .solid)
 
       module _ (h : Bool) (eh : h ≡ sameHead (headOf (shape l)) (headOf (shape r))) where
-        pub other-heads : h ≡ false → Tries ws ns k whole bs ts c bs ts (No c)
+        pub other-heads : h ≡ false → TryLeaves ws ns k whole bs ts c bs ts (No c)
         other-heads y =
             tries-as ws ns k no-way whole bs ts c bs ts (No c)
             (sym (by-heads ∙ ap (λ z. unifyHeads shape z (unify shape) B (partsOf (shape l)) (partsOf (shape r))) (sym eh ∙ y))) (no-try ws ns k bs ts c q)
@@ -218,7 +218,7 @@ module _ (ws ns bs ts : List ℕ) (k : Lengths) (c : ℕ) (t : Trying ws ns bs t
     abbrev rest : Unifies
     rest = unifyAll shape (unify shape) B (drop i ps) (drop i qs)
 
-    pub all-parts : n ≤ i → Tries ws ns k U bs₀ ts₀ c₀ bs ts (Yes c)
+    pub all-parts : n ≤ i → TryLeaves ws ns k U bs₀ ts₀ c₀ bs ts (Yes c)
     all-parts e =
         g .rest bs ts (Yes c)
         (tries-as ws ns k (yes-with B) rest bs ts c bs ts (Yes c)
@@ -264,15 +264,15 @@ module _ (ws ns bs ts : List ℕ) (k : Lengths) (c : ℕ) (t : Trying ws ns bs t
             (drop-cons qs i 0 right-inside ∙ ap₂ (λ (z j : ℕ). z ∷ drop j qs) (sym ey) (sym (add-one i))))
 
         module _ (bs₁ ts₁ : List ℕ) where
-          pub part-fails : (m : ℕ) (z : Tried) → z ≡ No m → Tries ws ns k (unify shape B x y) bs ts c bs₁ ts₁ z → Tries ws ns k U bs₀ ts₀ c₀ bs₁ ts₁ (No m)
+          pub part-fails : (m : ℕ) (z : Tried) → z ≡ No m → TryLeaves ws ns k (unify shape B x y) bs ts c bs₁ ts₁ z → TryLeaves ws ns k U bs₀ ts₀ c₀ bs₁ ts₁ (No m)
           part-fails m z e u =
               g .rest bs₁ ts₁ (No m)
               (tries-as ws ns k _ _ bs ts c bs₁ ts₁ (No m) parts-split
-              (then-no ws ns k (unify shape B x y) others bs ts c bs₁ ts₁ m (subst (Tries ws ns k (unify shape B x y) bs ts c bs₁ ts₁) e u)))
+              (then-no ws ns k (unify shape B x y) others bs ts c bs₁ ts₁ m (subst (TryLeaves ws ns k (unify shape B x y) bs ts c bs₁ ts₁) e u)))
 
-          module _ (m : ℕ) (z : Tried) (e : z ≡ Yes m) (u : Tries ws ns k (unify shape B x y) bs ts c bs₁ ts₁ z) where
-            abbrev yes-tried : Tries ws ns k (unify shape B x y) bs ts c bs₁ ts₁ (Yes m)
-            yes-tried = subst (Tries ws ns k (unify shape B x y) bs ts c bs₁ ts₁) e u
+          module _ (m : ℕ) (z : Tried) (e : z ≡ Yes m) (u : TryLeaves ws ns k (unify shape B x y) bs ts c bs₁ ts₁ z) where
+            abbrev yes-tried : TryLeaves ws ns k (unify shape B x y) bs ts c bs₁ ts₁ (Yes m)
+            yes-tried = subst (TryLeaves ws ns k (unify shape B x y) bs ts c bs₁ ts₁) e u
 
             next-by : (X : Unifies) → Kept shape (k .variables) B X → X ≡ yes-with (bindsOf bs₁ (k .variables)) → Next shape (k .variables) B (bindsOf bs₁ (k .variables))
             next-by (yes-with C) n′ s = let w : C ≡ bindsOf bs₁ (k .variables) = cc in subst (Next shape (k .variables) B) w n′

@@ -12,7 +12,7 @@ use Rattle.unification.specs.declared.Lengths.{Lengths}
 use Rattle.unification.specs.declared.Tried.{Tried}
 use Rattle.unification.specs.Nodes.{maxVars, freeWord, Binds, binding, bindingOf, bindsOf}
 use Rattle.unification.specs.Unify.{Unifies}
-use Rattle.unification.specs.Trail.{undo, frees, countOf, Tries}
+use Rattle.unification.specs.Trail.{undo, frees, countOf, TryLeaves}
 use Rattle.resolved_sort.proofs.Reached.{no-confusion}
 use Rattle.unification.proofs.Equations.{frees-few}
 use Rattle.unification.proofs.Passed.{length-binds}
@@ -130,7 +130,7 @@ module _ (ts : List ℕ) (base : ℕ) where
           differ i j l m x (no y) (yes z) = absurd (before i (omega (arith, l, y)) .1 .0 (x ∙ ap at z))
           differ i j l m x (no y) (no z) = h .differ i j (omega (arith, l, y)) (omega (arith, m, z)) x
 
-module _ (ws ns : List ℕ) (k : Lengths) (U : Unifies) (bs ts : List ℕ) (c : ℕ) (bs₁ ts₁ : List ℕ) (r : Tried) (t : Tries ws ns k U bs ts c bs₁ ts₁ r) where
+module _ (ws ns : List ℕ) (k : Lengths) (U : Unifies) (bs ts : List ℕ) (c : ℕ) (bs₁ ts₁ : List ℕ) (r : Tried) (t : TryLeaves ws ns k U bs ts c bs₁ ts₁ r) where
   abbrev B : Binds
   B = bindsOf bs (k .variables)
 

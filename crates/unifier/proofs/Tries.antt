@@ -15,7 +15,7 @@ use Rattle.unification.specs.declared.Tried.the-variants.{Yes, No}
 use Rattle.unification.specs.Nodes.{freeWord, Binds, bindsOf}
 use Rattle.unification.specs.Unify.{Unifies, yes-with, no-way, and-then, absent, ofTest, occurs, bindUnless, unifyVariables, deep}
 use Rattle.unification.specs.Checked.{graphOf, Ready, Placed}
-use Rattle.unification.specs.Trail.{undo, frees, countOf, Tries}
+use Rattle.unification.specs.Trail.{undo, frees, countOf, TryLeaves}
 use Rattle.unification.proofs.Rank.{frees-set}
 use Rattle.unification.proofs.Binding.{binding-numbered}
 use Rattle.unification.proofs.Enough.{occurs-eq}
@@ -23,11 +23,11 @@ use Rattle.unification.proofs.Passed.{length-binds}
 use Rattle.unification.proofs.Lists.{lower, scoped}
 use Rattle.unification.proofs.Places.{place-below}
 use Rattle.unification.proofs.Theorem.{deep-enough, ready-ranked}
-use Rattle.unifier.specs.Trying.{Trying, Free, Stands}
+use Rattle.unifier.specs.Trying.{Trying, Free, VariableAt}
 use Rattle.unifier.proofs.Words.{binds-set, freed, places-set, undo-split, undo-front}
 
 module _ (ws ns : List ℕ) (k : Lengths) where
-  pub tries-as : (U W : Unifies) (bs ts : List ℕ) (c : ℕ) (bs′ ts′ : List ℕ) (r : Tried) → U ≡ W → Tries ws ns k U bs ts c bs′ ts′ r → Tries ws ns k W bs ts c bs′ ts′ r
+  pub tries-as : (U W : Unifies) (bs ts : List ℕ) (c : ℕ) (bs′ ts′ : List ℕ) (r : Tried) → U ≡ W → TryLeaves ws ns k U bs ts c bs′ ts′ r → TryLeaves ws ns k W bs ts c bs′ ts′ r
   tries-as U W bs ts c bs′ ts′ r e t = record { says = sym e ∙ t .says; undone = t .undone; front = t .front; longer = t .longer; spent = t .spent; past = t .past; ready = t .ready }
 
   -- nothing is bound
@@ -35,10 +35,10 @@ module _ (ws ns : List ℕ) (k : Lengths) where
   unfolding undo
   none-undone bs ts c = ap (λ (x : ℕ). undo ts c x bs) (let z : c - c ≡ 0 = omega arith in z)
 
-  pub binds-nothing : (bs ts : List ℕ) (c : ℕ) → Ready ws ns bs k → Tries ws ns k (yes-with (bindsOf bs (k .variables))) bs ts c bs ts (Yes c)
+  pub binds-nothing : (bs ts : List ℕ) (c : ℕ) → Ready ws ns bs k → TryLeaves ws ns k (yes-with (bindsOf bs (k .variables))) bs ts c bs ts (Yes c)
   binds-nothing bs ts c q = record { says = refl; undone = none-undone bs ts c; front = refl; longer = omega arith; spent = refl; past = refl; ready = q }
 
-  pub no-try : (bs ts : List ℕ) (c : ℕ) → Ready ws ns bs k → Tries ws ns k no-way bs ts c bs ts (No c)
+  pub no-try : (bs ts : List ℕ) (c : ℕ) → Ready ws ns bs k → TryLeaves ws ns k no-way bs ts c bs ts (No c)
   no-try bs ts c q = record { says = refl; undone = none-undone bs ts c; front = refl; longer = omega arith; spent = refl; past = refl; ready = q }
 
   -- a variable is bound
@@ -85,7 +85,7 @@ module _ (ws ns : List ℕ) (k : Lengths) where
         ∙ (ap (λ (x : ℕ). set (set bs v w) (getD (set ts c v) x 0) freeWord) (let z : c + 0 ≡ c = omega arith in z)
         ∙ (ap (λ (x : ℕ). set (set bs v w) x freeWord) (getD-set-same ts c v 0 (bind-room .1)) ∙ freed bs (k .variables) v w (f .listed) (f .free)))
 
-    pub one-bound : Tries ws ns k (yes-with (set B v (some w))) bs ts c (set bs v w) (set ts c v) (Yes (c + 1))
+    pub one-bound : TryLeaves ws ns k (yes-with (set B v (some w))) bs ts c (set bs v w) (set ts c v) (Yes (c + 1))
     one-bound =
         record {
           says = ap yes-with (sym as-binding);
@@ -99,11 +99,11 @@ module _ (ws ns : List ℕ) (k : Lengths) where
 
   -- one after another
   module _ (U : Unifies) (g : Binds → Unifies) (bs ts : List ℕ) (c : ℕ) (bs₁ ts₁ : List ℕ) where
-    pub then-no : (d : ℕ) → Tries ws ns k U bs ts c bs₁ ts₁ (No d) → Tries ws ns k (and-then U g) bs ts c bs₁ ts₁ (No d)
+    pub then-no : (d : ℕ) → TryLeaves ws ns k U bs ts c bs₁ ts₁ (No d) → TryLeaves ws ns k (and-then U g) bs ts c bs₁ ts₁ (No d)
     then-no d t = record { says = ap (λ x. and-then x g) (t .says); undone = t .undone; front = t .front; longer = t .longer; spent = t .spent; past = t .past; ready = t .ready }
 
-    pub then-on : (d : ℕ) → Tries ws ns k U bs ts c bs₁ ts₁ (Yes d) → (bs₂ ts₂ : List ℕ) (r : Tried) → Tries ws ns k (g (bindsOf bs₁ (k .variables))) bs₁ ts₁ d bs₂ ts₂ r
-        → Tries ws ns k (and-then U g) bs ts c bs₂ ts₂ r
+    pub then-on : (d : ℕ) → TryLeaves ws ns k U bs ts c bs₁ ts₁ (Yes d) → (bs₂ ts₂ : List ℕ) (r : Tried) → TryLeaves ws ns k (g (bindsOf bs₁ (k .variables))) bs₁ ts₁ d bs₂ ts₂ r
+        → TryLeaves ws ns k (and-then U g) bs ts c bs₂ ts₂ r
     then-on d t bs₂ ts₂ r u =
         record {
           says = ap (λ x. and-then x g) (t .says) ∙ u .says;
@@ -120,7 +120,7 @@ module _ (ws ns : List ℕ) (k : Lengths) where
         }
 
   -- there is room to go on
-  pub trying-on : (U : Unifies) (bs ts : List ℕ) (c : ℕ) (bs₁ ts₁ : List ℕ) (d : ℕ) → Trying ws ns bs ts k c → length ts₁ ≡ length ts → Tries ws ns k U bs ts c bs₁ ts₁ (Yes d) → Trying ws ns bs₁ ts₁ k d
+  pub trying-on : (U : Unifies) (bs ts : List ℕ) (c : ℕ) (bs₁ ts₁ : List ℕ) (d : ℕ) → Trying ws ns bs ts k c → length ts₁ ≡ length ts → TryLeaves ws ns k U bs ts c bs₁ ts₁ (Yes d) → Trying ws ns bs₁ ts₁ k d
   trying-on U bs ts c bs₁ ts₁ d t l u = record { ready = u .ready; room = omega (arith, u .spent, t .room, l); short = omega (arith, t .short, l) }
 
   -- the two ways to bind
@@ -131,11 +131,11 @@ module _ (ws ns : List ℕ) (k : Lengths) where
     abbrev checked : Unifies
     checked = bindUnless (graphOf ws ns k) (occurs (graphOf ws ns k) deep old v w) old v w
 
-    set-yes : (U : Unifies) → occurs (graphOf ws ns k) deep old v w ≡ absent → yes-with (set old v (some w)) ≡ U → (bs₁ ts₁ : List ℕ) → bs₁ ≡ set bs v w → ts₁ ≡ set ts c v → Tries ws ns k U bs ts c bs₁ ts₁ (Yes (c + 1))
+    set-yes : (U : Unifies) → occurs (graphOf ws ns k) deep old v w ≡ absent → yes-with (set old v (some w)) ≡ U → (bs₁ ts₁ : List ℕ) → bs₁ ≡ set bs v w → ts₁ ≡ set ts c v → TryLeaves ws ns k U bs ts c bs₁ ts₁ (Yes (c + 1))
     set-yes U o e bs₁ ts₁ y z = rw (y, z) (tries-as (yes-with (set old v (some w))) U bs ts c (set bs v w) (set ts c v) (Yes (c + 1)) e (one-bound bs ts c t v w f p o))
 
     module _ (b : Bool) (e : occurs (graphOf ws ns k) deep old v w ≡ ofTest b) where
-      pub occurs-no : b ≡ true → Tries ws ns k checked bs ts c bs ts (No c)
+      pub occurs-no : b ≡ true → TryLeaves ws ns k checked bs ts c bs ts (No c)
       occurs-no x = tries-as no-way checked bs ts c bs ts (No c) (sym (ap (λ o. bindUnless (graphOf ws ns k) o old v w) (e ∙ ap ofTest x))) (no-try bs ts c (t .ready))
 
       module _ (x : b ≡ false) where
@@ -145,14 +145,14 @@ module _ (ws ns : List ℕ) (k : Lengths) where
         pub room-to-bind : (v < length bs) × (c < length ts)
         room-to-bind = bind-room bs ts c t v w f p is-absent
 
-        pub bound-yes : (bs₁ ts₁ : List ℕ) → bs₁ ≡ set bs v w → ts₁ ≡ set ts c v → Tries ws ns k checked bs ts c bs₁ ts₁ (Yes (c + 1))
+        pub bound-yes : (bs₁ ts₁ : List ℕ) → bs₁ ≡ set bs v w → ts₁ ≡ set ts c v → TryLeaves ws ns k checked bs ts c bs₁ ts₁ (Yes (c + 1))
         bound-yes = set-yes checked is-absent (sym (ap (λ o. bindUnless (graphOf ws ns k) o old v w) is-absent))
 
-    module _ (u : ℕ) (g : Free bs k u) (s : Stands ws ns k w u) where
+    module _ (u : ℕ) (g : Free bs k u) (s : VariableAt ws ns k w u) where
       abbrev variables : Unifies
       variables = unifyVariables (graphOf ws ns k) (eqb v u) old v w
 
-      pub one-variable : v ≡ u → Tries ws ns k variables bs ts c bs ts (Yes c)
+      pub one-variable : v ≡ u → TryLeaves ws ns k variables bs ts c bs ts (Yes c)
       one-variable e = tries-as (yes-with old) variables bs ts c bs ts (Yes c) (sym (ap (λ b. unifyVariables (graphOf ws ns k) b old v w) (eq-eqb v u e))) (binds-nothing bs ts c (t .ready))
 
       module _ (d : v ≡ u → ⊥) where
@@ -162,7 +162,7 @@ module _ (ws ns : List ℕ) (k : Lengths) where
         pub room-for-variable : (v < length bs) × (c < length ts)
         room-for-variable = bind-room bs ts c t v w f p other-absent
 
-        pub variable-yes : (bs₁ ts₁ : List ℕ) → bs₁ ≡ set bs v w → ts₁ ≡ set ts c v → Tries ws ns k variables bs ts c bs₁ ts₁ (Yes (c + 1))
+        pub variable-yes : (bs₁ ts₁ : List ℕ) → bs₁ ≡ set bs v w → ts₁ ≡ set ts c v → TryLeaves ws ns k variables bs ts c bs₁ ts₁ (Yes (c + 1))
         variable-yes = set-yes variables other-absent (sym (ap (λ b. unifyVariables (graphOf ws ns k) b old v w) (ne-eqb v u d)))
 
 -- undoing, one at a time

@@ -27,5 +27,5 @@ pub record Solid (ws ns : List ℕ) (k : Lengths) (p : ℕ) : Type 0 where
   pub solid : graphOf ws ns k p ≡ over (headOf (graphOf ws ns k p)) (partsOf (graphOf ws ns k p))
 
 -- the variable u stands at the place p
-pub record Stands (ws ns : List ℕ) (k : Lengths) (p u : ℕ) : Type 0 where
+pub record VariableAt (ws ns : List ℕ) (k : Lengths) (p u : ℕ) : Type 0 where
   pub stands : graphOf ws ns k p ≡ variable u

@@ -23,8 +23,8 @@ ghost use Rattle.unification.specs.Nodes.{isSort, bindsOf};
 ghost use Rattle.unification.specs.Unify.{occurs as occursIn, bindUnless, unifyVariables};
 ghost use Rattle.unification.specs.Unify.{unifyApart, unify as unifyOf, deep};
 ghost use Rattle.unification.specs.Checked.{graphOf, Placed};
-ghost use Rattle.unification.specs.Trail.{undo as undoOf, Tries};
-ghost use Rattle.unifier.specs.Trying.{Trying, Free, Solid, Stands};
+ghost use Rattle.unification.specs.Trail.{undo as undoOf, TryLeaves};
+ghost use Rattle.unifier.specs.Trying.{Trying, Free, Solid, VariableAt};
 
 // Binds a variable, and puts it on the trail.
 fn put_binding(binds: &mut [u16], trail: &mut [u16], count: u16, var: SortVar, value: InferSortId)
@@ -72,7 +72,7 @@ fn bind(
         × Placed lengths (value .0)
         ⌝ }
     ensures { λ r. ⌜
-        Tries (now (sorts .entry)) (now (nodes .entry)) lengths
+        TryLeaves (now (sorts .entry)) (now (nodes .entry)) lengths
         (bindUnless (graphOf (now (sorts .entry)) (now (nodes .entry)) lengths)
         (occursIn (graphOf (now (sorts .entry)) (now (nodes .entry)) lengths) deep
         (bindsOf (now (binds .entry)) (lengths .variables)) (var .0) (value .0))
@@ -105,10 +105,10 @@ fn bind_variables(
         × Free (now binds) lengths (lhs .0)
         × Free (now binds) lengths (rhs .0)
         × Placed lengths (value .0)
-        × Stands (now sorts) (now nodes) lengths (value .0) (rhs .0)
+        × VariableAt (now sorts) (now nodes) lengths (value .0) (rhs .0)
         ⌝ }
     ensures { λ r. ⌜
-        Tries (now (sorts .entry)) (now (nodes .entry)) lengths
+        TryLeaves (now (sorts .entry)) (now (nodes .entry)) lengths
         (unifyVariables (graphOf (now (sorts .entry)) (now (nodes .entry)) lengths) (eqb (lhs .0) (rhs .0))
         (bindsOf (now (binds .entry)) (lengths .variables)) (lhs .0) (value .0))
         (now (binds .entry)) (now (trail .entry)) count (now (binds .exit)) (now (trail .exit)) r
@@ -149,7 +149,7 @@ pub fn unify(
         × Placed lengths (rhs .0)
         ⌝ }
     ensures { λ r. ⌜
-        Tries (now (sorts .entry)) (now (nodes .entry)) lengths
+        TryLeaves (now (sorts .entry)) (now (nodes .entry)) lengths
         (unifyOf (graphOf (now (sorts .entry)) (now (nodes .entry)) lengths)
         (bindsOf (now (binds .entry)) (lengths .variables)) (lhs .0) (rhs .0))
         (now (binds .entry)) (now (trail .entry)) count (now (binds .exit)) (now (trail .exit)) r
@@ -200,7 +200,7 @@ fn unify_parts(
         × Solid (now sorts) (now nodes) lengths (r .0)
         ⌝ }
     ensures { λ t. ⌜
-        Tries (now (sorts .entry)) (now (nodes .entry)) lengths
+        TryLeaves (now (sorts .entry)) (now (nodes .entry)) lengths
         (unifyApart (graphOf (now (sorts .entry)) (now (nodes .entry)) lengths)
         (isSort (l .0) && isSort (r .0)) deep
         (unifyOf (graphOf (now (sorts .entry)) (now (nodes .entry)) lengths))

@@ -10,7 +10,7 @@ use Prim.Native.Nat.{ℕ}
 use native.Mathlib.Omega.{arith}
 use lib.ListN.{take}
 use Rattle.resolved_sort.specs.Checks.{withinLent, Check, firstFailing}
-use Rattle.resolved_sort.specs.Entries.{orElse}
+use Rattle.resolved_sort.specs.Entries.{refusedOr}
 use Rattle.resolved_sort.proofs.FirstFailing.{cons-passes}
 use Rattle.unification.specs.declared.Unified.the-variants.{Refused}
 use Rattle.unification.specs.Nodes.{shapeAt, bindsOf}
@@ -39,7 +39,7 @@ module _ (ws : List ℕ) (n e : ℕ) (ns : List ℕ) (m d : ℕ) (bs : List ℕ)
   unfolding unifyEntry codeUnified
   answers-seven = (λ a. go failing (sym (code-of-unified ws n e ns m d bs v l r) ∙ ap codeUnified a), λ f. rw f)
     where
-      go : (o : Option ℕ) → orElse o (λ c. c) 0 ≡ 7 → o ≡ some 7
+      go : (o : Option ℕ) → refusedOr o (λ c. c) 0 ≡ 7 → o ≡ some 7
       go none x = absurd (omega (arith, x))
       go (some c) x = ap some x
 

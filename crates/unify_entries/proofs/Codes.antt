@@ -7,14 +7,14 @@ use mathlib.Core.Option.{Option, none, some}
 use Prim.Native.Nat.{ℕ, _+_, _*_}
 use native.Mathlib.Omega.{arith}
 use Rattle.resolved_sort.specs.Checks.{firstFailing}
-use Rattle.resolved_sort.specs.Entries.{orElse}
+use Rattle.resolved_sort.specs.Entries.{refusedOr}
 use Rattle.unification.specs.declared.Unified.{Unified}
 use Rattle.unification.specs.declared.Unified.the-variants.{Refused, Yes, No}
 use Rattle.unification.specs.Nodes.{shapeAt, bindsOf}
 use Rattle.unification.specs.Unify.{Unifies, yes-with, no-way, too-deep, unify}
 use Rattle.unification.specs.NodeChecks.{nodeChecks, placeChecks, unifyChecks}
 use Rattle.unification.specs.Checked.{listsOf}
-use Rattle.unification.specs.UnifyEntry.{Left, left, leftBy, unifyEntry, codeUnified, packUnified}
+use Rattle.unification.specs.UnifyEntry.{BindsLeft, bindsLeft, bindsLeftBy, unifyEntry, codeUnified, packUnified}
 use Rattle.resolved_sort.proofs.FailingNumber.{Numbered, failing-number}
 
 -- a refusal has the number of a check
@@ -23,8 +23,8 @@ Told (Refused c) = Numbered c
 Told Yes = Unit {0}
 Told No = Unit {0}
 
-left-told : (bs : List ℕ) (v : ℕ) (a : Unifies) → (codeUnified ((leftBy bs v a) .answer) ≡ 0) × Told ((leftBy bs v a) .answer)
-unfolding leftBy codeUnified
+left-told : (bs : List ℕ) (v : ℕ) (a : Unifies) → (codeUnified ((bindsLeftBy bs v a) .answer) ≡ 0) × Told ((bindsLeftBy bs v a) .answer)
+unfolding bindsLeftBy codeUnified
 left-told bs v (yes-with C) = (refl, tt)
 left-told bs v no-way = (refl, tt)
 left-told bs v too-deep = (refl, tt)
@@ -33,14 +33,14 @@ module _ (ws : List ℕ) (n e : ℕ) (ns : List ℕ) (m d : ℕ) (bs : List ℕ)
   abbrev failing : Option ℕ
   failing = firstFailing (unifyChecks ws n e ns m d bs v l r)
 
-  abbrev answered : Left
-  answered = leftBy bs v (unify (shapeAt (listsOf ws n ns m)) (bindsOf bs v) l r)
+  abbrev answered : BindsLeft
+  answered = bindsLeftBy bs v (unify (shapeAt (listsOf ws n ns m)) (bindsOf bs v) l r)
 
-  pub code-of-unified : codeUnified ((unifyEntry ws n e ns m d bs v l r) .answer) ≡ orElse failing (λ c. c) 0
+  pub code-of-unified : codeUnified ((unifyEntry ws n e ns m d bs v l r) .answer) ≡ refusedOr failing (λ c. c) 0
   unfolding unifyEntry codeUnified
   code-of-unified = go failing
     where
-      go : (o : Option ℕ) → codeUnified ((orElse o (λ c. left bs (Refused c)) answered) .answer) ≡ orElse o (λ c. c) 0
+      go : (o : Option ℕ) → codeUnified ((refusedOr o (λ c. bindsLeft bs (Refused c)) answered) .answer) ≡ refusedOr o (λ c. c) 0
       go none = left-told bs v (unify (shapeAt (listsOf ws n ns m)) (bindsOf bs v) l r) .0
       go (some c) = refl
 
@@ -54,7 +54,7 @@ module _ (ws : List ℕ) (n e : ℕ) (ns : List ℕ) (m d : ℕ) (bs : List ℕ)
   unfolding unifyEntry
   entry-told = go failing refl
     where
-      go : (o : Option ℕ) → failing ≡ o → Told ((orElse o (λ c. left bs (Refused c)) answered) .answer)
+      go : (o : Option ℕ) → failing ≡ o → Told ((refusedOr o (λ c. bindsLeft bs (Refused c)) answered) .answer)
       go none x = left-told bs v (unify (shapeAt (listsOf ws n ns m)) (bindsOf bs v) l r) .1
       go (some c) x = refused-by-number c x
 

@@ -11,7 +11,7 @@ use native.Mathlib.Omega.{arith}
 use lib.ListN.{length, drop, length-append, length-drop}
 use lib.Seq.{drop-at}
 use Rattle.resolved_sort.specs.Checks.{firstFailing}
-use Rattle.resolved_sort.specs.Entries.{orElse}
+use Rattle.resolved_sort.specs.Entries.{refusedOr}
 use Rattle.unification.specs.declared.Unified.{Unified}
 use Rattle.unification.specs.declared.Unified.the-variants.{Refused, Yes, No}
 use Rattle.unification.specs.Term.{Term, Shape}
@@ -22,7 +22,7 @@ use Rattle.unification.specs.NodeChecks.{bindingsWithinLent, bindingsFine, node
 use Rattle.unification.specs.Checked.{fineOf, listsOf, Ready}
 use Rattle.unification.specs.Solutions.{Respects, Equates, Robinson, says-no, says-yes}
 use Rattle.unification.specs.Making.{Lent}
-use Rattle.unification.specs.UnifyEntry.{wordsOf, Left, left, leftBy, unifyEntry}
+use Rattle.unification.specs.UnifyEntry.{bindingWords, BindsLeft, bindsLeft, bindsLeftBy, unifyEntry}
 use Rattle.unification.proofs.Places.{place-below}
 use Rattle.unification.proofs.Agree.{Names, unify-names}
 use Rattle.unification.proofs.Grows.{PlacedIn, ready-names, parts-placed}
@@ -85,7 +85,7 @@ module _ (ws : List ℕ) (n e : ℕ) (ns : List ℕ) (m d : ℕ) (bs : List ℕ)
 
     module _ (C : Binds) (y : unify shape B l r ≡ yes-with C) where
       abbrev words : List ℕ
-      words = wordsOf C ++ drop v bs
+      words = bindingWords C ++ drop v bs
 
       many : length C ≡ v
       many = as-many-variables shape B l r C y ∙ length-binds bs v
@@ -97,10 +97,10 @@ module _ (ws : List ℕ) (n e : ℕ) (ns : List ℕ) (m d : ℕ) (bs : List ℕ)
       held = subst (λ (k : ℕ). bindsOf words k ≡ C) many (binds-of-words C (drop v bs) below)
 
       as-long : length words ≡ length bs
-      as-long = omega (arith, length-append (wordsOf C) (drop v bs), length-words C, many, length-drop v bs, checked .long)
+      as-long = omega (arith, length-append (bindingWords C) (drop v bs), length-words C, many, length-drop v bs, checked .long)
 
       rest : drop v words ≡ drop v bs
-      rest = drop-at (wordsOf C) (drop v bs) v (length-words C ∙ many)
+      rest = drop-at (bindingWords C) (drop v bs) v (length-words C ∙ many)
 
       fine : bindingsFine n m C ≡ true
       fine = named-places-fine n m C (names C y)
@@ -121,16 +121,16 @@ module _ (ws : List ℕ) (n e : ℕ) (ns : List ℕ) (m d : ℕ) (bs : List ℕ)
       left-yes : LeftYes words
       left-yes = record { passed = f; solved = rw held solved-by; long = as-long; past = rest; again = ap firstFailing same-checks ∙ f }
 
-    by-answer : (a : Unifies) → unify shape B l r ≡ a → Robinson shape B l r a → (vs : List ℕ) (u : Unified) → left vs u ≡ leftBy bs v a → LeftSays vs u
-    unfolding leftBy
-    by-answer (yes-with C) y x vs u w = subst (λ (z : Left). LeftSays (z .words) (z .answer)) (sym w) (left-yes C y)
-    by-answer no-way y (says-no h) vs u w = subst (λ (z : Left). LeftSays (z .words) (z .answer)) (sym w) (record { passed = f; given = refl; no-solution = h })
+    by-answer : (a : Unifies) → unify shape B l r ≡ a → Robinson shape B l r a → (vs : List ℕ) (u : Unified) → bindsLeft vs u ≡ bindsLeftBy bs v a → LeftSays vs u
+    unfolding bindsLeftBy
+    by-answer (yes-with C) y x vs u w = subst (λ (z : BindsLeft). LeftSays (z .words) (z .answer)) (sym w) (left-yes C y)
+    by-answer no-way y (says-no h) vs u w = subst (λ (z : BindsLeft). LeftSays (z .words) (z .answer)) (sym w) (record { passed = f; given = refl; no-solution = h })
 
   -- Whatever lists, bindings and places the entry is given: what its answer and the words that it leaves say.
-  pub entry-is-robinson : (vs : List ℕ) (u : Unified) → left vs u ≡ unifyEntry ws n e ns m d bs v l r → LeftSays vs u
+  pub entry-is-robinson : (vs : List ℕ) (u : Unified) → bindsLeft vs u ≡ unifyEntry ws n e ns m d bs v l r → LeftSays vs u
   unfolding unifyEntry
   entry-is-robinson vs u w = go failing refl w
     where
-      go : (o : Option ℕ) → failing ≡ o → left vs u ≡ orElse o (λ c. left bs (Refused c)) (leftBy bs v (unify (shapeAt (listsOf ws n ns m)) (bindsOf bs v) l r)) → LeftSays vs u
+      go : (o : Option ℕ) → failing ≡ o → bindsLeft vs u ≡ refusedOr o (λ c. bindsLeft bs (Refused c)) (bindsLeftBy bs v (unify (shapeAt (listsOf ws n ns m)) (bindsOf bs v) l r)) → LeftSays vs u
       go none f w = by-answer f (unify (shapeAt (listsOf ws n ns m)) (bindsOf bs v) l r) refl (is-robinson f) vs u w
-      go (some c) f w = subst (λ (z : Left). LeftSays (z .words) (z .answer)) (sym w) (record { first = f; given = refl })
+      go (some c) f w = subst (λ (z : BindsLeft). LeftSays (z .words) (z .answer)) (sym w) (record { first = f; given = refl })

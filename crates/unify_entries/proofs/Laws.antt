@@ -13,7 +13,7 @@ use Rattle.resolved_sort.specs.declared.Tested.{Tested}
 use Rattle.resolved_sort.specs.declared.Tested.the-variants.{Refused, Passed}
 use Rattle.resolved_sort.specs.Storage.{maxSorts, maxEntries, fullLength}
 use Rattle.resolved_sort.specs.Checks.{withinLent, rowsFine, noTwoEqual, atCeiling, Check, firstFailing, sortRowChecks, sortChecks}
-use Rattle.resolved_sort.specs.Entries.{testedOf, orElse}
+use Rattle.resolved_sort.specs.Entries.{testedOf, refusedOr}
 use Rattle.resolved_sort.proofs.FirstFailing.{first-fails, first-passes, cons-passes}
 use Rattle.resolved_sort.proofs.Testing.{refused-is, passed-is, fails, passes, first-refuses, second-decides, first-of-two, second-of-two, both-of-two}
 use Rattle.unification.specs.declared.Lengths.{Lengths}
@@ -26,8 +26,8 @@ use Rattle.unification.specs.Unify.{Unifies, yes-with, unify}
 use Rattle.unification.specs.Acyclic.{acyclic}
 use Rattle.unification.specs.NodeChecks.{nodesWithinLent, bindingsWithinLent, nodesFine, bindingsFine, nodeChecks, placeChecks, unifyChecks}
 use Rattle.unification.specs.Checked.{listsOf, Ready}
-use Rattle.unification.specs.Trail.{undo, frees, Tries}
-use Rattle.unification.specs.UnifyEntry.{wordsOf, Left, left, leftBy, unifyEntry}
+use Rattle.unification.specs.Trail.{undo, frees, TryLeaves}
+use Rattle.unification.specs.UnifyEntry.{bindingWords, BindsLeft, bindsLeft, bindsLeftBy, unifyEntry}
 use Rattle.unification.proofs.BindingWords.{words-of-binds}
 use Rattle.unification.proofs.Equations.{frees-few}
 use Rattle.unification.proofs.Passed.{length-binds, two-ceilings, passed-ready}
@@ -167,15 +167,15 @@ module _ (ws ns bs : List ℕ) (k : Lengths) (q : Ready ws ns bs k) where
   pub trying : (ts : List ℕ) → length ts ≡ 512 → Trying ws ns bs ts k 0
   trying ts e = record { ready = q; room = omega (arith, frees-few (bindsOf bs (k .variables)), length-binds bs (k .variables), q .nodes .variables, e); short = omega (arith, e) }
 
-  module _ (U : Unifies) (ts bs₁ ts₁ : List ℕ) (t : Tried) (x : Tries ws ns k U bs ts 0 bs₁ ts₁ t) where
-    pub yes-leaves : (c : ℕ) → t ≡ TriedYes c → left bs₁ Yes ≡ leftBy bs (k .variables) U
-    unfolding leftBy
-    yes-leaves c e = sym (ap (leftBy bs (k .variables)) (answer c e) ∙ ap (λ xs. left xs Yes) words)
+  module _ (U : Unifies) (ts bs₁ ts₁ : List ℕ) (t : Tried) (x : TryLeaves ws ns k U bs ts 0 bs₁ ts₁ t) where
+    pub yes-leaves : (c : ℕ) → t ≡ TriedYes c → bindsLeft bs₁ Yes ≡ bindsLeftBy bs (k .variables) U
+    unfolding bindsLeftBy
+    yes-leaves c e = sym (ap (bindsLeftBy bs (k .variables)) (answer c e) ∙ ap (λ xs. bindsLeft xs Yes) words)
       where
         answer : (c : ℕ) → t ≡ TriedYes c → U ≡ yes-with (bindsOf bs₁ (k .variables))
         answer c e = x .says ∙ rw e
 
-        words : wordsOf (bindsOf bs₁ (k .variables)) ++ drop (k .variables) bs ≡ bs₁
+        words : bindingWords (bindsOf bs₁ (k .variables)) ++ drop (k .variables) bs ≡ bs₁
         words =
             ap₂ (λ (xs ys : List ℕ). xs ++ ys) (words-of-binds bs₁ (k .variables) (x .ready .long)) (sym (x .past))
             ∙ take-append-drop (k .variables) bs₁
@@ -185,30 +185,30 @@ module _ (ws ns bs : List ℕ) (k : Lengths) (q : Ready ws ns bs k) where
       trail-long g = (omega arith, omega (arith, g, ends, frees-few (bindsOf bs (k .variables)), length-binds bs (k .variables), q .nodes .variables))
         where
           ends : c + frees (bindsOf bs₁ (k .variables)) ≡ 0 + frees (bindsOf bs (k .variables))
-          ends = subst (λ z. Tries ws ns k U bs ts 0 bs₁ ts₁ z) e x .spent
+          ends = subst (λ z. TryLeaves ws ns k U bs ts 0 bs₁ ts₁ z) e x .spent
 
-      pub no-leaves : (bs₂ : List ℕ) → bs₂ ≡ undo ts₁ 0 (c - 0) bs₁ → left bs₂ No ≡ leftBy bs (k .variables) U
-      unfolding leftBy
-      no-leaves bs₂ u = sym (ap (leftBy bs (k .variables)) (y .says) ∙ ap (λ xs. left xs No) (sym (u ∙ y .undone)))
+      pub no-leaves : (bs₂ : List ℕ) → bs₂ ≡ undo ts₁ 0 (c - 0) bs₁ → bindsLeft bs₂ No ≡ bindsLeftBy bs (k .variables) U
+      unfolding bindsLeftBy
+      no-leaves bs₂ u = sym (ap (bindsLeftBy bs (k .variables)) (y .says) ∙ ap (λ xs. bindsLeft xs No) (sym (u ∙ y .undone)))
         where
-          y : Tries ws ns k U bs ts 0 bs₁ ts₁ (TriedNo c)
-          y = subst (λ z. Tries ws ns k U bs ts 0 bs₁ ts₁ z) e x
+          y : TryLeaves ws ns k U bs ts 0 bs₁ ts₁ (TriedNo c)
+          y = subst (λ z. TryLeaves ws ns k U bs ts 0 bs₁ ts₁ z) e x
 
 -- the entry, by what the checks found
 module _ (ws : List ℕ) (n e : ℕ) (ns : List ℕ) (m d : ℕ) (bs : List ℕ) (v l r : ℕ) (t : Tested) (et : t ≡ testedOf (firstFailing (unifyChecks ws n e ns m d bs v l r))) where
-  abbrev refuse : ℕ → Left
-  refuse c = left bs (NotUnified c)
+  abbrev refuse : ℕ → BindsLeft
+  refuse c = bindsLeft bs (NotUnified c)
 
-  pub refused : (c : ℕ) → t ≡ Refused c → left bs (NotUnified c) ≡ unifyEntry ws n e ns m d bs v l r
+  pub refused : (c : ℕ) → t ≡ Refused c → bindsLeft bs (NotUnified c) ≡ unifyEntry ws n e ns m d bs v l r
   unfolding unifyEntry
   refused c x =
-      sym (ap (λ o. orElse o refuse (leftBy bs v (unify (shapeAt (listsOf ws n ns m)) (bindsOf bs v) l r))) (refused-is (firstFailing (unifyChecks ws n e ns m d bs v l r)) t c et x))
+      sym (ap (λ o. refusedOr o refuse (bindsLeftBy bs v (unify (shapeAt (listsOf ws n ns m)) (bindsOf bs v) l r))) (refused-is (firstFailing (unifyChecks ws n e ns m d bs v l r)) t c et x))
 
   module _ (p : t ≡ Passed) where
     pub none-fails : firstFailing (unifyChecks ws n e ns m d bs v l r) ≡ none
     none-fails = passed-is (firstFailing (unifyChecks ws n e ns m d bs v l r)) t et p
 
-    pub answered : (bs₁ : List ℕ) (u : Unified) → left bs₁ u ≡ leftBy bs v (unify (shapeAt (listsOf ws n ns m)) (bindsOf bs v) l r) → left bs₁ u ≡ unifyEntry ws n e ns m d bs v l r
+    pub answered : (bs₁ : List ℕ) (u : Unified) → bindsLeft bs₁ u ≡ bindsLeftBy bs v (unify (shapeAt (listsOf ws n ns m)) (bindsOf bs v) l r) → bindsLeft bs₁ u ≡ unifyEntry ws n e ns m d bs v l r
     unfolding unifyEntry
     answered bs₁ u x =
-        x ∙ sym (ap (λ o. orElse o refuse (leftBy bs v (unify (shapeAt (listsOf ws n ns m)) (bindsOf bs v) l r))) none-fails)
+        x ∙ sym (ap (λ o. refusedOr o refuse (bindsLeftBy bs v (unify (shapeAt (listsOf ws n ns m)) (bindsOf bs v) l r))) none-fails)

@@ -25,7 +25,7 @@ ghost use Rattle.unification.specs.Nodes.{maxNodes, maxVars, bindsOf};
 ghost use Rattle.unification.specs.Unify.{unify as unifyOf};
 ghost use Rattle.unification.specs.NodeChecks.{nodeChecks, placeChecks, unifyChecks};
 ghost use Rattle.unification.specs.Checked.{graphOf, Ready, Placed};
-ghost use Rattle.unification.specs.UnifyEntry.{left, leftBy, unifyEntry, packUnified, packed, packLeft};
+ghost use Rattle.unification.specs.UnifyEntry.{bindsLeft, bindsLeftBy, unifyEntry, packUnified, packedBinds, packBindsLeft};
 
 // Checks 12 and 14: the first that fails.
 fn test_places(
@@ -148,8 +148,8 @@ fn unify_alone(
         Ready (now sorts) (now nodes) (now binds) lengths × Placed lengths (lhs .0) × Placed lengths (rhs .0)
         ⌝ }
     ensures { λ r. ⌜
-        left (now (binds .exit)) r
-        ≡ leftBy (now (binds .entry)) (lengths .variables)
+        bindsLeft (now (binds .exit)) r
+        ≡ bindsLeftBy (now (binds .entry)) (lengths .variables)
         (unifyOf (graphOf (now (sorts .entry)) (now (nodes .entry)) lengths)
         (bindsOf (now (binds .entry)) (lengths .variables)) (lhs .0) (rhs .0))
         ⌝ }
@@ -181,7 +181,7 @@ pub fn unify(
     rhs: InferSortId,
 ) -> Unified
     ensures { λ r. ⌜
-        left (now (binds .exit)) r
+        bindsLeft (now (binds .exit)) r
         ≡ unifyEntry (now (sorts .entry)) «sort_count» «entry_count» (now (nodes .entry)) «node_count»
         «node_entry_count» (now (binds .entry)) «var_count» (lhs .0) (rhs .0)
         ⌝ }
@@ -239,8 +239,8 @@ pub extern "C" fn sort_unify(
     rhs: u16,
 ) -> u64
     ensures { λ r. ⌜
-        packed (now (binds .exit)) r
-        ≡ packLeft (unifyEntry (now (sorts .entry)) «sort_count» «entry_count» (now (nodes .entry))
+        packedBinds (now (binds .exit)) r
+        ≡ packBindsLeft (unifyEntry (now (sorts .entry)) «sort_count» «entry_count» (now (nodes .entry))
         «node_count» «node_entry_count» (now (binds .entry)) «var_count» lhs rhs)
         ⌝ }
 {

@@ -1,7 +1,7 @@
 -- Each arm is the place of its message. Assumes nothing.
 use native.Mathlib.Omega.{arith}
 use borrow.Author.Needs.{needs}
-use Rattle.list_messages.specs.Messages.{placeOf}
+use Rattle.list_messages.specs.Messages.{messageNumber}
 use Rattle.list_messages.proofs.place_of.Statement.{statement}
 use Rattle.list_messages.proofs.place_of.Tie as tie
 
@@ -105,135 +105,135 @@ enum-told-33 : tie.Need-enum-told-33
 enum-told-33 c = search needs
 
 returns : tie.Need-returns
-unfolding placeOf
+unfolding messageNumber
 returns c = (rw (c .enum-told .given .1), omega arith)
 
 returns-2 : tie.Need-returns-2
-unfolding placeOf
+unfolding messageNumber
 returns-2 c = (rw (c .enum-told2 .given .1), omega arith)
 
 returns-3 : tie.Need-returns-3
-unfolding placeOf
+unfolding messageNumber
 returns-3 c = (rw (c .enum-told3 .given .1), omega arith)
 
 returns-4 : tie.Need-returns-4
-unfolding placeOf
+unfolding messageNumber
 returns-4 c = (rw (c .enum-told4 .given .1), omega arith)
 
 returns-5 : tie.Need-returns-5
-unfolding placeOf
+unfolding messageNumber
 returns-5 c = (rw (c .enum-told5 .given .1), omega arith)
 
 returns-6 : tie.Need-returns-6
-unfolding placeOf
+unfolding messageNumber
 returns-6 c = (rw (c .enum-told6 .given .1), omega arith)
 
 returns-7 : tie.Need-returns-7
-unfolding placeOf
+unfolding messageNumber
 returns-7 c = (rw (c .enum-told7 .given .1), omega arith)
 
 returns-8 : tie.Need-returns-8
-unfolding placeOf
+unfolding messageNumber
 returns-8 c = (rw (c .enum-told8 .given .1), omega arith)
 
 returns-9 : tie.Need-returns-9
-unfolding placeOf
+unfolding messageNumber
 returns-9 c = (rw (c .enum-told9 .given .1), omega arith)
 
 returns-10 : tie.Need-returns-10
-unfolding placeOf
+unfolding messageNumber
 returns-10 c = (rw (c .enum-told10 .given .1), omega arith)
 
 returns-11 : tie.Need-returns-11
-unfolding placeOf
+unfolding messageNumber
 returns-11 c = (rw (c .enum-told11 .given .1), omega arith)
 
 returns-12 : tie.Need-returns-12
-unfolding placeOf
+unfolding messageNumber
 returns-12 c = (rw (c .enum-told12 .given .1), omega arith)
 
 returns-13 : tie.Need-returns-13
-unfolding placeOf
+unfolding messageNumber
 returns-13 c = (rw (c .enum-told13 .given .1), omega arith)
 
 returns-14 : tie.Need-returns-14
-unfolding placeOf
+unfolding messageNumber
 returns-14 c = (rw (c .enum-told14 .given .1), omega arith)
 
 returns-15 : tie.Need-returns-15
-unfolding placeOf
+unfolding messageNumber
 returns-15 c = (rw (c .enum-told15 .given .1), omega arith)
 
 returns-16 : tie.Need-returns-16
-unfolding placeOf
+unfolding messageNumber
 returns-16 c = (rw (c .enum-told16 .given .1), omega arith)
 
 returns-17 : tie.Need-returns-17
-unfolding placeOf
+unfolding messageNumber
 returns-17 c = (rw (c .enum-told17 .given .1), omega arith)
 
 returns-18 : tie.Need-returns-18
-unfolding placeOf
+unfolding messageNumber
 returns-18 c = (rw (c .enum-told18 .given .1), omega arith)
 
 returns-19 : tie.Need-returns-19
-unfolding placeOf
+unfolding messageNumber
 returns-19 c = (rw (c .enum-told19 .given .1), omega arith)
 
 returns-20 : tie.Need-returns-20
-unfolding placeOf
+unfolding messageNumber
 returns-20 c = (rw (c .enum-told20 .given .1), omega arith)
 
 returns-21 : tie.Need-returns-21
-unfolding placeOf
+unfolding messageNumber
 returns-21 c = (rw (c .enum-told21 .given .1), omega arith)
 
 returns-22 : tie.Need-returns-22
-unfolding placeOf
+unfolding messageNumber
 returns-22 c = (rw (c .enum-told22 .given .1), omega arith)
 
 returns-23 : tie.Need-returns-23
-unfolding placeOf
+unfolding messageNumber
 returns-23 c = (rw (c .enum-told23 .given .1), omega arith)
 
 returns-24 : tie.Need-returns-24
-unfolding placeOf
+unfolding messageNumber
 returns-24 c = (rw (c .enum-told24 .given .1), omega arith)
 
 returns-25 : tie.Need-returns-25
-unfolding placeOf
+unfolding messageNumber
 returns-25 c = (rw (c .enum-told25 .given .1), omega arith)
 
 returns-26 : tie.Need-returns-26
-unfolding placeOf
+unfolding messageNumber
 returns-26 c = (rw (c .enum-told26 .given .1), omega arith)
 
 returns-27 : tie.Need-returns-27
-unfolding placeOf
+unfolding messageNumber
 returns-27 c = (rw (c .enum-told27 .given .1), omega arith)
 
 returns-28 : tie.Need-returns-28
-unfolding placeOf
+unfolding messageNumber
 returns-28 c = (rw (c .enum-told28 .given .1), omega arith)
 
 returns-29 : tie.Need-returns-29
-unfolding placeOf
+unfolding messageNumber
 returns-29 c = (rw (c .enum-told29 .given .1), omega arith)
 
 returns-30 : tie.Need-returns-30
-unfolding placeOf
+unfolding messageNumber
 returns-30 c = (rw (c .enum-told30 .given .1), omega arith)
 
 returns-31 : tie.Need-returns-31
-unfolding placeOf
+unfolding messageNumber
 returns-31 c = (rw (c .enum-told31 .given .1), omega arith)
 
 returns-32 : tie.Need-returns-32
-unfolding placeOf
+unfolding messageNumber
 returns-32 c = (rw (c .enum-told32 .given .1), omega arith)
 
 returns-33 : tie.Need-returns-33
-unfolding placeOf
+unfolding messageNumber
 returns-33 c = (rw (c .enum-told33 .given .1), omega arith)
 
 pub place-of-spec : {M : Type 1} → statement M

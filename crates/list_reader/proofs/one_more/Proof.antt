@@ -1,7 +1,7 @@
 -- Each answer by the tests that led to it. Assumes nothing.
 use borrow.Author.Needs.{needs}
 use borrow.Author.Tests.{lt-ltb, le-ltb}
-use Rattle.list_reader.specs.Taking.{oneMore}
+use Rattle.list_reader.specs.Taking.{oneMoreWord}
 use Rattle.list_reader.proofs.one_more.Statement.{statement}
 use Rattle.list_reader.proofs.one_more.Tie as tie
 
@@ -9,11 +9,11 @@ add-result : tie.Need-add-result
 add-result c = search needs
 
 returns : tie.Need-returns
-unfolding oneMore
+unfolding oneMoreWord
 returns c = rw (lt-ltb _ _ (c .if1 .taken))
 
 returns-2 : tie.Need-returns-2
-unfolding oneMore
+unfolding oneMoreWord
 returns-2 c = rw (le-ltb _ _ (c .if1 .left))
 
 pub one-more-spec : {M : Type 1} → statement M

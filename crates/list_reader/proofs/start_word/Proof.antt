@@ -2,7 +2,7 @@
 use borrow.Author.Needs.{needs}
 use lib.ListN.{List·getD-eq-default}
 use mathlib.Core.Path.{refl, sym, _∙_}
-use Rattle.list_memory.specs.Memory.{listStart, starts}
+use Rattle.list_memory.specs.Memory.{listStart, listStarts}
 use Rattle.list_reader.proofs.start_word.Statement.{statement}
 use Rattle.list_reader.proofs.start_word.Tie as tie
 
@@ -18,7 +18,7 @@ returns c = refl
 
 returns-2 : tie.Need-returns-2
 unfolding listStart
-returns-2 c = sym (List·getD-eq-default starts 0 (c .if1 .left))
+returns-2 c = sym (List·getD-eq-default listStarts 0 (c .if1 .left))
 
 pub start-word-spec : {M : Type 1} → statement M
 start-word-spec = tie.close (tie.spec mul-result array-read-result returns returns-2)

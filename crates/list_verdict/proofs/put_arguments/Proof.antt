@@ -4,7 +4,7 @@ use Rattle.text_out.proofs.Within as law
 use Rattle.list_verdict.proofs.RowsPut as rows
 use Rattle.list_verdict.proofs.Ways as way
 use Rattle.text_out.specs.Within.{puts}
-use Rattle.list_verdict.specs.Text.{rowsText, argument, sortName}
+use Rattle.list_verdict.specs.Text.{rowsText, argumentText, sortName}
 use borrow.Author.Needs.{needs}
 use lib.ListN.{length}
 use mathlib.Core.Path.{_≡_, refl, sym, ap}
@@ -13,10 +13,10 @@ use Rattle.list_verdict.proofs.put_arguments.Statement.{statement}
 use Rattle.list_verdict.proofs.put_arguments.Tie as tie
 
 abbrev Inv-loop : tie.InvT-loop
-Inv-loop sorts start count out₀ at place₀ i₀ end out place i = (length out ≡ length out₀) × (puts out₀ at (rowsText (argument sorts) count start) ≡ puts out place (rowsText (argument sorts) (start + count - i) i))
+Inv-loop sorts start count out₀ at place₀ i₀ end out cursor i = (length out ≡ length out₀) × (puts out₀ at (rowsText (argumentText sorts) count start) ≡ puts out cursor (rowsText (argumentText sorts) (start + count - i) i))
 
 abbrev μ-loop : tie.MeasureT-loop
-μ-loop sorts start count out₀ at place₀ i₀ end out place i = start + count - i
+μ-loop sorts start count out₀ at place₀ i₀ end out cursor i = start + count - i
 
 add-end : tie.Need-add-end Inv-loop μ-loop
 add-end c = omega arith
@@ -43,14 +43,14 @@ loop-less : tie.Need-loop-less Inv-loop μ-loop
 loop-less c = omega arith
 
 loop-again : tie.Need-loop-again Inv-loop μ-loop
-unfolding argument
-loop-again c = (search needs, rows.one-row-more (argument (c .before .before .before .before .before .before .before .before .before .before .before .before .before .args .sorts .now)) (c .before .before .before .before .before .before .before .before .before .before .before .before .before .args .start + c .before .before .before .before .before .before .before .before .before .before .before .before .before .args .count) _ _ _ (c .before .before .before .before .before .before .before .before .before .before .loop .i) (c .before .before .before .before .before .before .before .before .before .before .loop .inv .1) (c .before .before .before .before .before .before .before .before .before .loop-test .taken) (law.put-then (c .before .before .before .before .before .before .before .put-byte .ensures) (law.put-as (ap sortName (c .before .before .before .before .word .ensures)) (c .before .before .put-sort-name .ensures))))
+unfolding argumentText
+loop-again c = (search needs, rows.one-row-more (argumentText (c .before .before .before .before .before .before .before .before .before .before .before .before .before .args .sorts .now)) (c .before .before .before .before .before .before .before .before .before .before .before .before .before .args .start + c .before .before .before .before .before .before .before .before .before .before .before .before .before .args .count) _ _ _ (c .before .before .before .before .before .before .before .before .before .before .loop .i) (c .before .before .before .before .before .before .before .before .before .before .loop .inv .1) (c .before .before .before .before .before .before .before .before .before .loop-test .taken) (law.put-then (c .before .before .before .before .before .before .before .put-byte .ensures) (law.put-as (ap sortName (c .before .before .before .before .word .ensures)) (c .before .before .put-sort-name .ensures))))
 
 same-length : tie.Need-same-length Inv-loop μ-loop
 same-length c = omega arith
 
 returns : tie.Need-returns Inv-loop μ-loop
-returns c = record { is = rows.all-rows (argument (c .before .before .before .before .args .sorts .now)) (c .before .before .before .before .args .start + c .before .before .before .before .args .count) _ _ _ (c .before .loop .i) (c .before .loop .inv .1) (c .loop-test .left) }
+returns c = record { is = rows.all-rows (argumentText (c .before .before .before .before .args .sorts .now)) (c .before .before .before .before .args .start + c .before .before .before .before .args .count) _ _ _ (c .before .loop .i) (c .before .loop .inv .1) (c .loop-test .left) }
 
 pub put-arguments-spec : {M : Type 1} → statement M
 put-arguments-spec =

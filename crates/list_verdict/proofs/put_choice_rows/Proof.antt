@@ -12,10 +12,10 @@ use Rattle.list_verdict.proofs.put_choice_rows.Statement.{statement}
 use Rattle.list_verdict.proofs.put_choice_rows.Tie as tie
 
 abbrev Inv-loop : tie.InvT-loop
-Inv-loop choices count out₀ at place₀ i₀ out place i = (length out ≡ length out₀) × (puts out₀ at (rowsText (choice choices) count 0) ≡ puts out place (rowsText (choice choices) (count - i) i))
+Inv-loop choices count out₀ at place₀ i₀ out cursor i = (length out ≡ length out₀) × (puts out₀ at (rowsText (choice choices) count 0) ≡ puts out cursor (rowsText (choice choices) (count - i) i))
 
 abbrev μ-loop : tie.MeasureT-loop
-μ-loop choices count out₀ at place₀ i₀ out place i = count - i
+μ-loop choices count out₀ at place₀ i₀ out cursor i = count - i
 
 loop-holds : tie.Need-loop-holds Inv-loop μ-loop
 loop-holds c = (refl, way.from-zero _ _ _ _)

@@ -14,10 +14,10 @@ use Rattle.list_verdict.proofs.put_components.Statement.{statement}
 use Rattle.list_verdict.proofs.put_components.Tie as tie
 
 abbrev Inv-loop : tie.InvT-loop
-Inv-loop measure count out₀ at place₀ i₀ out place i = (length out ≡ length out₀) × (puts out₀ at (rowsText (component measure) count 0) ≡ puts out place (rowsText (component measure) (count - i) i))
+Inv-loop measure count out₀ at place₀ i₀ out cursor i = (length out ≡ length out₀) × (puts out₀ at (rowsText (component measure) count 0) ≡ puts out cursor (rowsText (component measure) (count - i) i))
 
 abbrev μ-loop : tie.MeasureT-loop
-μ-loop measure count out₀ at place₀ i₀ out place i = count - i
+μ-loop measure count out₀ at place₀ i₀ out cursor i = count - i
 
 loop-holds : tie.Need-loop-holds Inv-loop μ-loop
 loop-holds c = (refl, way.from-zero _ _ _ _)

@@ -12,10 +12,10 @@ use Rattle.list_verdict.proofs.put_exprs.Statement.{statement}
 use Rattle.list_verdict.proofs.put_exprs.Tie as tie
 
 abbrev Inv-loop : tie.InvT-loop
-Inv-loop sorts counts sizes typing count out₀ at place₀ i₀ out place i = (length out ≡ length out₀) × (puts out₀ at (rowsText (exprLine sorts (counts .sorts) typing) count 0) ≡ puts out place (rowsText (exprLine sorts (counts .sorts) typing) (count - i) i))
+Inv-loop sorts counts sizes typing count out₀ at place₀ i₀ out cursor i = (length out ≡ length out₀) × (puts out₀ at (rowsText (exprLine sorts (counts .sorts) typing) count 0) ≡ puts out cursor (rowsText (exprLine sorts (counts .sorts) typing) (count - i) i))
 
 abbrev μ-loop : tie.MeasureT-loop
-μ-loop sorts counts sizes typing count out₀ at place₀ i₀ out place i = count - i
+μ-loop sorts counts sizes typing count out₀ at place₀ i₀ out cursor i = count - i
 
 loop-holds : tie.Need-loop-holds Inv-loop μ-loop
 loop-holds c = (refl, way.from-zero _ _ _ _)

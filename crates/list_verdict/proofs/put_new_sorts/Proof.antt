@@ -12,10 +12,10 @@ use Rattle.list_verdict.proofs.put_new_sorts.Statement.{statement}
 use Rattle.list_verdict.proofs.put_new_sorts.Tie as tie
 
 abbrev Inv-loop : tie.InvT-loop
-Inv-loop sorts given count out₀ at place₀ i₀ out place i = (length out ≡ length out₀) × (puts out₀ at (rowsText (newLine sorts) (count - given) given) ≡ puts out place (rowsText (newLine sorts) (count - i) i))
+Inv-loop sorts given count out₀ at place₀ i₀ out cursor i = (length out ≡ length out₀) × (puts out₀ at (rowsText (newLine sorts) (count - given) given) ≡ puts out cursor (rowsText (newLine sorts) (count - i) i))
 
 abbrev μ-loop : tie.MeasureT-loop
-μ-loop sorts given count out₀ at place₀ i₀ out place i = count - i
+μ-loop sorts given count out₀ at place₀ i₀ out cursor i = count - i
 
 loop-holds : tie.Need-loop-holds Inv-loop μ-loop
 loop-holds c = (refl, refl)

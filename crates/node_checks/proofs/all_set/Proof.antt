@@ -1,7 +1,7 @@
 -- The invariant: the flags passed are set, and the rest decides. Assumes nothing.
 use Prim.Native.Nat.{_-_}
 use Rattle.node_checks.proofs.Settling as law
-use Rattle.unification.specs.Acyclic.{all}
+use Rattle.unification.specs.Acyclic.{allTrue}
 use borrow.Author.Needs.{needs}
 use borrow.Author.Tests.{not-true, not-false}
 use lib.ListN.{length, drop}
@@ -11,7 +11,7 @@ use Rattle.node_checks.proofs.all_set.Statement.{statement}
 use Rattle.node_checks.proofs.all_set.Tie as tie
 
 abbrev Inv-loop : tie.InvT-loop
-Inv-loop flags i₀ i = all flags ≡ all (drop i flags)
+Inv-loop flags i₀ i = allTrue flags ≡ allTrue (drop i flags)
 
 abbrev μ-loop : tie.MeasureT-loop
 μ-loop flags i₀ i = length flags - i

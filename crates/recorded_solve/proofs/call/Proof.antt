@@ -1,7 +1,7 @@
 -- The parts of the words given end within them. Assumes nothing.
 use borrow.Author.Needs.{needs}
 use native.Mathlib.Omega.{arith}
-use Rattle.recorded_solve.specs.Slices.{startOf}
+use Rattle.recorded_solve.specs.Slices.{sliceStart}
 use Rattle.recorded_solve.specs.Outcome.{solved}
 use Rattle.recorded_solve.proofs.call.Statement.{statement}
 use Rattle.recorded_solve.proofs.call.Tie as tie
@@ -76,7 +76,7 @@ same-length-7 : tie.Need-same-length-7
 same-length-7 c = search needs
 
 returns : tie.Need-returns
-unfolding startOf solved
+unfolding sliceStart solved
 returns c = c .before .before .before .before .before .before .before .before .before .before .before .before .before .before .sort-solve .ensures
 
 pub call-spec : {M : Type 1} → statement M

@@ -2,7 +2,7 @@
 use borrow.Author.Needs.{needs}
 use mathlib.Core.Path.{refl}
 use Rattle.recorded_solve.proofs.Parts as law
-use Rattle.recorded_solve.specs.Slices.{startOf}
+use Rattle.recorded_solve.specs.Slices.{sliceStart}
 use Rattle.recorded_solve.proofs.start_of.Statement.{statement}
 use Rattle.recorded_solve.proofs.start_of.Tie as tie
 
@@ -13,7 +13,7 @@ array-read-result : tie.Need-array-read-result
 array-read-result c = search needs
 
 returns : tie.Need-returns
-unfolding startOf
+unfolding sliceStart
 returns c = (refl, law.start-at-most (c .args .slice))
 
 pub start-of-spec : {M : Type 1} → statement M

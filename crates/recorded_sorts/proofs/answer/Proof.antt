@@ -50,10 +50,10 @@ array-read-if5 : tie.Need-array-read-if5
 array-read-if5 c = search needs
 
 returns-5 : tie.Need-returns-5
-returns-5 c = law.agrees (c .before .before .before .before .before .before .before .before .before .args .list .now) (c .before .before .before .before .before .before .before .before .before .args .question) (c .before .before .before .before .before .before .before .before .before .args .fields) (c .before .before .before .before .before .before .before .before .before .args .place) (c .before .before .before .before .before .before .if1 .left) (c .before .before .before .before .before .complete .result) (c .before .before .before .before .before .complete .ensures) (c .before .before .before .before .if2 .left) (c .before .before .before .if3 .left) (c .before .before .if4 .left) (c .before .ask .result) (c .before .ask .ensures) (c .if5 .taken)
+returns-5 c = law.agrees (c .before .before .before .before .before .before .before .before .before .args .list .now) (c .before .before .before .before .before .before .before .before .before .args .question) (c .before .before .before .before .before .before .before .before .before .args .fields) (c .before .before .before .before .before .before .before .before .before .args .progress) (c .before .before .before .before .before .before .if1 .left) (c .before .before .before .before .before .complete .result) (c .before .before .before .before .before .complete .ensures) (c .before .before .before .before .if2 .left) (c .before .before .before .if3 .left) (c .before .before .if4 .left) (c .before .ask .result) (c .before .ask .ensures) (c .if5 .taken)
 
 returns-6 : tie.Need-returns-6
-returns-6 c = law.differs (c .before .before .before .before .before .before .before .before .before .args .list .now) (c .before .before .before .before .before .before .before .before .before .args .question) (c .before .before .before .before .before .before .before .before .before .args .fields) (c .before .before .before .before .before .before .before .before .before .args .place) (c .before .before .before .before .before .before .if1 .left) (c .before .before .before .before .before .complete .result) (c .before .before .before .before .before .complete .ensures) (c .before .before .before .before .if2 .left) (c .before .before .before .if3 .left) (c .before .before .if4 .left) (c .before .ask .result) (c .before .ask .ensures) (c .if5 .left)
+returns-6 c = law.differs (c .before .before .before .before .before .before .before .before .before .args .list .now) (c .before .before .before .before .before .before .before .before .before .args .question) (c .before .before .before .before .before .before .before .before .before .args .fields) (c .before .before .before .before .before .before .before .before .before .args .progress) (c .before .before .before .before .before .before .if1 .left) (c .before .before .before .before .before .complete .result) (c .before .before .before .before .before .complete .ensures) (c .before .before .before .before .if2 .left) (c .before .before .before .if3 .left) (c .before .before .if4 .left) (c .before .ask .result) (c .before .ask .ensures) (c .if5 .left)
 
 pub answer-spec : {M : Type 1} → statement M
 answer-spec =

@@ -1,6 +1,6 @@
 -- By the question: the entry's answer, for join and meet on a copy. Assumes nothing.
 use borrow.Author.Needs.{needs}
-use Rattle.recorded_sorts.specs.Lines.{answerOf}
+use Rattle.recorded_sorts.specs.Lines.{packedAnswer}
 use Rattle.recorded_sorts.proofs.ask.Statement.{statement}
 use Rattle.recorded_sorts.proofs.ask.Tie as tie
 
@@ -35,23 +35,23 @@ meet-on-requires : tie.Need-meet-on-requires
 meet-on-requires c κs = search needs
 
 returns : tie.Need-returns
-unfolding answerOf
+unfolding packedAnswer
 returns c = rw (c .before .before .enum-told .given .1) (c .sort-partial-cmp .ensures)
 
 returns-2 : tie.Need-returns-2
-unfolding answerOf
+unfolding packedAnswer
 returns-2 c = rw (c .before .before .enum-told2 .given .1) (c .sort-widening-distance .ensures)
 
 returns-3 : tie.Need-returns-3
-unfolding answerOf
+unfolding packedAnswer
 returns-3 c = rw (c .before .before .enum-told3 .given .1) (c .sort-is-materializable .ensures)
 
 returns-4 : tie.Need-returns-4
-unfolding answerOf
+unfolding packedAnswer
 returns-4 c = rw (c .before .before .enum-told4 .given .1) (c .join-on .ensures)
 
 returns-5 : tie.Need-returns-5
-unfolding answerOf
+unfolding packedAnswer
 returns-5 c = rw (c .before .before .enum-told5 .given .1) (c .meet-on .ensures)
 
 pub ask-spec : {M : Type 1} → statement M

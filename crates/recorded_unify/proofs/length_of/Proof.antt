@@ -1,6 +1,6 @@
 -- By the part. Assumes nothing.
 use borrow.Author.Needs.{needs}
-use Rattle.recorded_unify.specs.Lines.{lengthOf}
+use Rattle.recorded_unify.specs.Lines.{partLength}
 use Rattle.recorded_unify.proofs.length_of.Statement.{statement}
 use Rattle.recorded_unify.proofs.length_of.Tie as tie
 
@@ -20,23 +20,23 @@ enum-told-5 : tie.Need-enum-told-5
 enum-told-5 c = search needs
 
 returns : tie.Need-returns
-unfolding lengthOf
+unfolding partLength
 returns c = rw (c .enum-told .given .1)
 
 returns-2 : tie.Need-returns-2
-unfolding lengthOf
+unfolding partLength
 returns-2 c = rw (c .enum-told2 .given .1)
 
 returns-3 : tie.Need-returns-3
-unfolding lengthOf
+unfolding partLength
 returns-3 c = rw (c .enum-told3 .given .1)
 
 returns-4 : tie.Need-returns-4
-unfolding lengthOf
+unfolding partLength
 returns-4 c = rw (c .enum-told4 .given .1)
 
 returns-5 : tie.Need-returns-5
-unfolding lengthOf
+unfolding partLength
 returns-5 c = rw (c .enum-told5 .given .1)
 
 pub length-of-spec : {M : Type 1} → statement M

@@ -1,6 +1,6 @@
 -- By the part. Assumes nothing.
 use borrow.Author.Needs.{needs}
-use Rattle.recorded_unify.specs.Lines.{startOf}
+use Rattle.recorded_unify.specs.Lines.{partStart}
 use native.Mathlib.Omega.{arith}
 use Rattle.recorded_unify.proofs.start_of.Statement.{statement}
 use Rattle.recorded_unify.proofs.start_of.Tie as tie
@@ -21,23 +21,23 @@ enum-told-5 : tie.Need-enum-told-5
 enum-told-5 c = search needs
 
 returns : tie.Need-returns
-unfolding startOf
+unfolding partStart
 returns c = (rw (c .enum-told .given .1), omega arith)
 
 returns-2 : tie.Need-returns-2
-unfolding startOf
+unfolding partStart
 returns-2 c = (rw (c .enum-told2 .given .1), omega arith)
 
 returns-3 : tie.Need-returns-3
-unfolding startOf
+unfolding partStart
 returns-3 c = (rw (c .enum-told3 .given .1), omega arith)
 
 returns-4 : tie.Need-returns-4
-unfolding startOf
+unfolding partStart
 returns-4 c = (rw (c .enum-told4 .given .1), omega arith)
 
 returns-5 : tie.Need-returns-5
-unfolding startOf
+unfolding partStart
 returns-5 c = (rw (c .enum-told5 .given .1), omega arith)
 
 pub start-of-spec : {M : Type 1} → statement M

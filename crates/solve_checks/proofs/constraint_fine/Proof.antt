@@ -3,7 +3,7 @@ use mathlib.Core.Path.{sym, ap, _∙_}
 use mathlib.Core.List.{[]}
 use borrow.Author.Needs.{needs}
 use Rattle.inference.specs.SolveChecks.{targetFine, overloadFine, constraintFine}
-use Rattle.solve_checks.specs.Calls.{partOf}
+use Rattle.solve_checks.specs.Calls.{problemCall}
 use Rattle.solve_checks.proofs.constraint_fine.Statement.{statement}
 use Rattle.solve_checks.proofs.constraint_fine.Tie as tie
 
@@ -22,8 +22,8 @@ constraint-fine-spec =
     (λ c κs. search needs)
     (λ c. search needs)
     (λ c κs. search needs)
-    (λ c. let a = c .before .before .before .before .before .before .args in c .sub-fine .ensures ∙ sym (ap (constraintFine (partOf (a .given) [] [] [] (a .overloads .now) (a .sources .now)) (a .b)) (c .before .before .says .given .1)))
-    (λ c. let a = c .before .before .before .before .before .before .args in c .lit-fine .ensures ∙ sym (ap (constraintFine (partOf (a .given) [] [] [] (a .overloads .now) (a .sources .now)) (a .b)) (c .before .before .says2 .given .1)))
-    (λ c. let a = c .before .before .before .before .before .before .args in c .disjunction-fine .ensures ∙ sym (ap (constraintFine (partOf (a .given) [] [] [] (a .overloads .now) (a .sources .now)) (a .b)) (c .before .before .says3 .given .1)))
-    (λ c. let a = c .before .before .before .before .before .before .args in c .comprehension-fine .ensures ∙ sym (ap (constraintFine (partOf (a .given) [] [] [] (a .overloads .now) (a .sources .now)) (a .b)) (c .before .before .says4 .given .1)))
-    (λ c. let a = c .before .before .before .before .before .before .args in c .join-fine .ensures ∙ sym (ap (constraintFine (partOf (a .given) [] [] [] (a .overloads .now) (a .sources .now)) (a .b)) (c .before .before .says5 .given .1))))
+    (λ c. let a = c .before .before .before .before .before .before .args in c .sub-fine .ensures ∙ sym (ap (constraintFine (problemCall (a .given) [] [] [] (a .overloads .now) (a .sources .now)) (a .b)) (c .before .before .says .given .1)))
+    (λ c. let a = c .before .before .before .before .before .before .args in c .lit-fine .ensures ∙ sym (ap (constraintFine (problemCall (a .given) [] [] [] (a .overloads .now) (a .sources .now)) (a .b)) (c .before .before .says2 .given .1)))
+    (λ c. let a = c .before .before .before .before .before .before .args in c .disjunction-fine .ensures ∙ sym (ap (constraintFine (problemCall (a .given) [] [] [] (a .overloads .now) (a .sources .now)) (a .b)) (c .before .before .says3 .given .1)))
+    (λ c. let a = c .before .before .before .before .before .before .args in c .comprehension-fine .ensures ∙ sym (ap (constraintFine (problemCall (a .given) [] [] [] (a .overloads .now) (a .sources .now)) (a .b)) (c .before .before .says4 .given .1)))
+    (λ c. let a = c .before .before .before .before .before .before .args in c .join-fine .ensures ∙ sym (ap (constraintFine (problemCall (a .given) [] [] [] (a .overloads .now) (a .sources .now)) (a .b)) (c .before .before .says5 .given .1))))

@@ -9,13 +9,13 @@ use borrow.Author.Tests.{not-true, not-false}
 use Rattle.resolved_sort.specs.Checks.{allBelow}
 use Rattle.sort_checks.proofs.Below as below
 use Rattle.inference.specs.SolveChecks.{constraintsFine}
-use Rattle.solve_checks.specs.Calls.{partOf}
-use Rattle.solve_checks.specs.Tests.{rowFine}
+use Rattle.solve_checks.specs.Calls.{problemCall}
+use Rattle.solve_checks.specs.Tests.{constraintRowFine}
 use Rattle.solve_checks.proofs.constraints_fine.Statement.{statement}
 use Rattle.solve_checks.proofs.constraints_fine.Tie as tie
 
 abbrev Inv-loop : tie.InvT-loop
-Inv-loop constraints overloads sources given count i₀ i = (i ≤ count) × (allBelow i (rowFine (partOf given [] [] constraints overloads sources)) ≡ true)
+Inv-loop constraints overloads sources given count i₀ i = (i ≤ count) × (allBelow i (constraintRowFine (problemCall given [] [] constraints overloads sources)) ≡ true)
 
 abbrev μ-loop : tie.MeasureT-loop
 μ-loop constraints overloads sources given count i₀ i = count - i
@@ -30,8 +30,8 @@ constraints-fine-spec =
     (λ c. omega arith)
     (λ c. (omega arith, below.allBelow-zero _))
     (λ c κs. search needs)
-    (λ c. let a = c .before .before .before .before .before .before .before .before .args in below.tested-not (rowFine (partOf (a .given) [] [] (a .constraints .now) (a .overloads .now) (a .sources .now))) (c .before .before .before .loop .i) (c .before .row-fine .result) (c .before .row-fine .ensures) (a .given .constraints) (c .before .before .loop-test .taken) (not-true _ (c .if1 .taken)))
+    (λ c. let a = c .before .before .before .before .before .before .before .before .args in below.tested-not (constraintRowFine (problemCall (a .given) [] [] (a .constraints .now) (a .overloads .now) (a .sources .now))) (c .before .before .before .loop .i) (c .before .row-fine .result) (c .before .row-fine .ensures) (a .given .constraints) (c .before .before .loop-test .taken) (not-true _ (c .if1 .taken)))
     (λ c. omega arith)
     (λ c. omega arith)
-    (λ c. let a = c .before .before .before .before .before .before .before .before .args in (omega arith, below.tested-more (rowFine (partOf (a .given) [] [] (a .constraints .now) (a .overloads .now) (a .sources .now))) (c .before .before .before .loop .i) (c .before .row-fine .result) (c .before .row-fine .ensures) (not-false _ (c .if1 .left)) (c .before .before .before .loop .inv .1)))
+    (λ c. let a = c .before .before .before .before .before .before .before .before .args in (omega arith, below.tested-more (constraintRowFine (problemCall (a .given) [] [] (a .constraints .now) (a .overloads .now) (a .sources .now))) (c .before .before .before .loop .i) (c .before .row-fine .result) (c .before .row-fine .ensures) (not-false _ (c .if1 .left)) (c .before .before .before .loop .inv .1)))
     (λ c. below.allBelow-done _ _ (c .before .loop .i) (omega arith) (omega arith) (c .before .loop .inv .1)))

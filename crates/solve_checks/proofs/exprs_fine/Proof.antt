@@ -10,13 +10,13 @@ use Rattle.resolved_sort.specs.Checks.{allBelow}
 use Rattle.unification.specs.Nodes.{isPlace}
 use Rattle.sort_checks.proofs.Below as below
 use Rattle.inference.specs.SolveChecks.{placed, exprsFine}
-use Rattle.solve_checks.specs.Calls.{partOf}
+use Rattle.solve_checks.specs.Calls.{problemCall}
 use Rattle.solve_checks.specs.Tests.{exprFine}
 use Rattle.solve_checks.proofs.exprs_fine.Statement.{statement}
 use Rattle.solve_checks.proofs.exprs_fine.Tie as tie
 
 abbrev Inv-loop : tie.InvT-loop
-Inv-loop exprs given count i₀ i = (i ≤ count) × (allBelow i (exprFine (partOf given exprs [] [] [] [])) ≡ true)
+Inv-loop exprs given count i₀ i = (i ≤ count) × (allBelow i (exprFine (problemCall given exprs [] [] [] [])) ≡ true)
 
 abbrev μ-loop : tie.MeasureT-loop
 μ-loop exprs given count i₀ i = count - i
@@ -31,8 +31,8 @@ exprs-fine-spec =
     (λ c. (omega arith, below.allBelow-zero _))
     (λ c κs. search needs)
     (λ c κs. search needs)
-    (λ c. let a = c .before .before .before .before .before .before .args in below.tested-not (exprFine (partOf (a .given) (a .exprs .now) [] [] [] [])) (c .before .before .before .before .loop .i) (c .before .placed .result) (c .before .placed .ensures ∙ ap (isPlace (a .given .sorts) (a .given .nodes)) (c .before .before .word .ensures)) (a .given .exprs) (c .before .before .before .loop-test .taken) (not-true _ (c .if1 .taken)))
+    (λ c. let a = c .before .before .before .before .before .before .args in below.tested-not (exprFine (problemCall (a .given) (a .exprs .now) [] [] [] [])) (c .before .before .before .before .loop .i) (c .before .placed .result) (c .before .placed .ensures ∙ ap (isPlace (a .given .sorts) (a .given .nodes)) (c .before .before .word .ensures)) (a .given .exprs) (c .before .before .before .loop-test .taken) (not-true _ (c .if1 .taken)))
     (λ c. omega arith)
     (λ c. omega arith)
-    (λ c. let a = c .before .before .before .before .before .before .args in (omega arith, below.tested-more (exprFine (partOf (a .given) (a .exprs .now) [] [] [] [])) (c .before .before .before .before .loop .i) (c .before .placed .result) (c .before .placed .ensures ∙ ap (isPlace (a .given .sorts) (a .given .nodes)) (c .before .before .word .ensures)) (not-false _ (c .if1 .left)) (c .before .before .before .before .loop .inv .1)))
+    (λ c. let a = c .before .before .before .before .before .before .args in (omega arith, below.tested-more (exprFine (problemCall (a .given) (a .exprs .now) [] [] [] [])) (c .before .before .before .before .loop .i) (c .before .placed .result) (c .before .placed .ensures ∙ ap (isPlace (a .given .sorts) (a .given .nodes)) (c .before .before .word .ensures)) (not-false _ (c .if1 .left)) (c .before .before .before .before .loop .inv .1)))
     (λ c. below.allBelow-done _ _ (c .before .loop .i) (omega arith) (omega arith) (c .before .loop .inv .1)))

@@ -8,7 +8,7 @@ use lib.ListN.{getD}
 use borrow.Author.Needs.{needs}
 use borrow.Author.Tests.{le-ltb, lt-ltb}
 use Rattle.inference.specs.SolveChecks.{targetFine}
-use Rattle.solve_checks.specs.Calls.{partOf}
+use Rattle.solve_checks.specs.Calls.{problemCall}
 use Rattle.solve_checks.proofs.Fine as fine
 use Rattle.solve_checks.proofs.name_fine.Statement.{statement}
 use Rattle.solve_checks.proofs.name_fine.Tie as tie
@@ -29,4 +29,4 @@ name-fine-spec =
     (λ c. omega (arith, c .before .before .before .before .before .pre))
     (λ c κs. search needs)
     (λ c κs. search needs)
-    (λ c. let a = c .before .before .before .before .before .before .before .args in fine.then (ltb (getD (a .names .now) (3 * (a .i)) 0) (a .given .exprs)) _ (ltb (getD (a .names .now) (3 * (a .i)) 0) (a .given .exprs)) refl (lt-ltb _ _ (subst (λ (k : ℕ). k < (a .given .exprs)) (c .before .before .before .before .before .word .ensures) (c .before .before .before .if1 .left))) _ (c .target-fine .ensures ∙ ap₂ (targetFine (partOf (a .given) [] [] [] [] [])) (c .before .before .word2 .ensures) (c .before .word3 .ensures))))
+    (λ c. let a = c .before .before .before .before .before .before .before .args in fine.then (ltb (getD (a .names .now) (3 * (a .i)) 0) (a .given .exprs)) _ (ltb (getD (a .names .now) (3 * (a .i)) 0) (a .given .exprs)) refl (lt-ltb _ _ (subst (λ (k : ℕ). k < (a .given .exprs)) (c .before .before .before .before .before .word .ensures) (c .before .before .before .if1 .left))) _ (c .target-fine .ensures ∙ ap₂ (targetFine (problemCall (a .given) [] [] [] [] [])) (c .before .before .word2 .ensures) (c .before .word3 .ensures))))

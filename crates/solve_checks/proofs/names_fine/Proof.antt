@@ -8,13 +8,13 @@ use borrow.Author.Tests.{not-true, not-false}
 use Rattle.resolved_sort.specs.Checks.{allBelow}
 use Rattle.sort_checks.proofs.Below as below
 use Rattle.inference.specs.SolveChecks.{namesFine}
-use Rattle.solve_checks.specs.Calls.{partOf}
+use Rattle.solve_checks.specs.Calls.{problemCall}
 use Rattle.solve_checks.specs.Tests.{nameFine}
 use Rattle.solve_checks.proofs.names_fine.Statement.{statement}
 use Rattle.solve_checks.proofs.names_fine.Tie as tie
 
 abbrev Inv-loop : tie.InvT-loop
-Inv-loop names given count i₀ i = (i ≤ count) × (allBelow i (nameFine (partOf given [] names [] [] [])) ≡ true)
+Inv-loop names given count i₀ i = (i ≤ count) × (allBelow i (nameFine (problemCall given [] names [] [] [])) ≡ true)
 
 abbrev μ-loop : tie.MeasureT-loop
 μ-loop names given count i₀ i = count - i
@@ -28,8 +28,8 @@ names-fine-spec =
     μ-loop
     (λ c. (omega arith, below.allBelow-zero _))
     (λ c κs. omega (arith, c .loop-test .taken, c .before .before .before .pre))
-    (λ c. let a = c .before .before .before .before .before .args in below.tested-not (nameFine (partOf (a .given) [] (a .names .now) [] [] [])) (c .before .before .before .loop .i) (c .before .name-fine .result) (c .before .name-fine .ensures) (a .given .names) (c .before .before .loop-test .taken) (not-true _ (c .if1 .taken)))
+    (λ c. let a = c .before .before .before .before .before .args in below.tested-not (nameFine (problemCall (a .given) [] (a .names .now) [] [] [])) (c .before .before .before .loop .i) (c .before .name-fine .result) (c .before .name-fine .ensures) (a .given .names) (c .before .before .loop-test .taken) (not-true _ (c .if1 .taken)))
     (λ c. omega arith)
     (λ c. omega arith)
-    (λ c. let a = c .before .before .before .before .before .args in (omega arith, below.tested-more (nameFine (partOf (a .given) [] (a .names .now) [] [] [])) (c .before .before .before .loop .i) (c .before .name-fine .result) (c .before .name-fine .ensures) (not-false _ (c .if1 .left)) (c .before .before .before .loop .inv .1)))
+    (λ c. let a = c .before .before .before .before .before .args in (omega arith, below.tested-more (nameFine (problemCall (a .given) [] (a .names .now) [] [] [])) (c .before .before .before .loop .i) (c .before .name-fine .result) (c .before .name-fine .ensures) (not-false _ (c .if1 .left)) (c .before .before .before .loop .inv .1)))
     (λ c. below.allBelow-done _ _ (c .before .loop .i) (omega arith) (omega arith) (c .before .loop .inv .1)))

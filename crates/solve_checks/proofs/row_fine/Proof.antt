@@ -8,7 +8,7 @@ use borrow.Author.Needs.{needs}
 use borrow.Author.Tests.{le-leb, lt-leb}
 use Rattle.inference.specs.Constraints.{constraintAt}
 use Rattle.inference.specs.SolveChecks.{constraintFine}
-use Rattle.solve_checks.specs.Calls.{partOf}
+use Rattle.solve_checks.specs.Calls.{problemCall}
 use Rattle.solve_checks.proofs.Fine as fine
 use Rattle.solve_checks.proofs.row_fine.Statement.{statement}
 use Rattle.solve_checks.proofs.row_fine.Tie as tie
@@ -24,4 +24,4 @@ row-fine-spec =
     (λ c κs. search needs)
     (λ c κs. search needs)
     (λ c κs. search needs)
-    (λ c. let a = c .before .before .before .before .before .before .before .before .args in fine.then (leb (getD (a .constraints .now) (5 * (a .i)) 0) 4) _ (leb (getD (a .constraints .now) (5 * (a .i)) 0) 4) refl (le-leb _ _ (subst (λ (k : ℕ). k ≤ 4) (c .before .before .before .before .word .ensures) (c .before .before .before .if1 .left))) _ (c .constraint-fine .ensures ∙ (ap₂ (constraintFine (partOf (a .given) [] [] [] (a .overloads .now) (a .sources .now))) (c .before .before .word2 .ensures) (c .before .constraint-at .ensures) ∙ fine.same-constraint-fine (a .given) (a .constraints .now) (a .overloads .now) (a .sources .now) (getD (a .constraints .now) (5 * (a .i) + 2) 0) (constraintAt (a .constraints .now) (a .i))))))
+    (λ c. let a = c .before .before .before .before .before .before .before .before .args in fine.then (leb (getD (a .constraints .now) (5 * (a .i)) 0) 4) _ (leb (getD (a .constraints .now) (5 * (a .i)) 0) 4) refl (le-leb _ _ (subst (λ (k : ℕ). k ≤ 4) (c .before .before .before .before .word .ensures) (c .before .before .before .if1 .left))) _ (c .constraint-fine .ensures ∙ (ap₂ (constraintFine (problemCall (a .given) [] [] [] (a .overloads .now) (a .sources .now))) (c .before .before .word2 .ensures) (c .before .constraint-at .ensures) ∙ fine.same-constraint-fine (a .given) (a .constraints .now) (a .overloads .now) (a .sources .now) (getD (a .constraints .now) (5 * (a .i) + 2) 0) (constraintAt (a .constraints .now) (a .i))))))

@@ -11,14 +11,14 @@ use Rattle.resolved_sort.specs.Checks.{allBelow}
 use Rattle.unification.specs.Nodes.{isPlace}
 use Rattle.sort_checks.proofs.Below as below
 use Rattle.inference.specs.SolveChecks.{placed}
-use Rattle.solve_checks.specs.Calls.{partOf}
+use Rattle.solve_checks.specs.Calls.{problemCall}
 use Rattle.solve_checks.specs.Tests.{sourceFine}
 use Rattle.solve_checks.proofs.Fine as fine
 use Rattle.solve_checks.proofs.sources_fine.Statement.{statement}
 use Rattle.solve_checks.proofs.sources_fine.Tie as tie
 
 abbrev Inv-loop : tie.InvT-loop
-Inv-loop sources given start count j₀ j = (j ≤ count) × (allBelow j (λ k. sourceFine (partOf given [] [] [] [] sources) (start + k)) ≡ true)
+Inv-loop sources given start count j₀ j = (j ≤ count) × (allBelow j (λ k. sourceFine (problemCall given [] [] [] [] sources) (start + k)) ≡ true)
 
 abbrev μ-loop : tie.MeasureT-loop
 μ-loop sources given start count j₀ j = count - j
@@ -39,8 +39,8 @@ sources-fine-spec =
     (λ c. omega arith)
     (λ c κs. search needs)
     (λ c κs. search needs)
-    (λ c. let a = c .before .before .before .before .before .before .before .before .args in fine.then (leb (a .run .start + a .run .count) (a .given .sources)) _ (leb (a .run .start + a .run .count) (a .given .sources)) refl (le-leb _ _ (c .before .before .before .before .before .if1 .left)) false (below.tested-not (λ k. sourceFine (partOf (a .given) [] [] [] [] (a .sources .now)) (a .run .start + k)) (c .before .before .before .before .loop .j) (c .before .placed .result) (c .before .placed .ensures ∙ ap (isPlace (a .given .sorts) (a .given .nodes)) (c .before .before .word .ensures)) (a .run .count) (c .before .before .before .loop-test .taken) (not-true _ (c .if2 .taken))))
+    (λ c. let a = c .before .before .before .before .before .before .before .before .args in fine.then (leb (a .run .start + a .run .count) (a .given .sources)) _ (leb (a .run .start + a .run .count) (a .given .sources)) refl (le-leb _ _ (c .before .before .before .before .before .if1 .left)) false (below.tested-not (λ k. sourceFine (problemCall (a .given) [] [] [] [] (a .sources .now)) (a .run .start + k)) (c .before .before .before .before .loop .j) (c .before .placed .result) (c .before .placed .ensures ∙ ap (isPlace (a .given .sorts) (a .given .nodes)) (c .before .before .word .ensures)) (a .run .count) (c .before .before .before .loop-test .taken) (not-true _ (c .if2 .taken))))
     (λ c. omega arith)
     (λ c. omega arith)
-    (λ c. let a = c .before .before .before .before .before .before .before .before .args in (omega arith, below.tested-more (λ k. sourceFine (partOf (a .given) [] [] [] [] (a .sources .now)) (a .run .start + k)) (c .before .before .before .before .loop .j) (c .before .placed .result) (c .before .placed .ensures ∙ ap (isPlace (a .given .sorts) (a .given .nodes)) (c .before .before .word .ensures)) (not-false _ (c .if2 .left)) (c .before .before .before .before .loop .inv .1)))
+    (λ c. let a = c .before .before .before .before .before .before .before .before .args in (omega arith, below.tested-more (λ k. sourceFine (problemCall (a .given) [] [] [] [] (a .sources .now)) (a .run .start + k)) (c .before .before .before .before .loop .j) (c .before .placed .result) (c .before .placed .ensures ∙ ap (isPlace (a .given .sorts) (a .given .nodes)) (c .before .before .word .ensures)) (not-false _ (c .if2 .left)) (c .before .before .before .before .loop .inv .1)))
     (λ c. let a = c .before .before .before .before .before .args in fine.then (leb (a .run .start + a .run .count) (a .given .sources)) _ (leb (a .run .start + a .run .count) (a .given .sources)) refl (le-leb _ _ (c .before .before .if1 .left)) true (below.allBelow-done _ _ (c .before .loop .j) (omega arith) (omega arith) (c .before .loop .inv .1))))

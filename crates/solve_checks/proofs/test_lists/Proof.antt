@@ -3,7 +3,7 @@ use mathlib.Core.Path.{ap, _∙_}
 use mathlib.Core.List.{[]}
 use borrow.Author.Needs.{needs}
 use Rattle.resolved_sort.specs.Checks.{firstFailing}
-use Rattle.solve_checks.specs.Calls.{partOf}
+use Rattle.solve_checks.specs.Calls.{problemCall}
 use Rattle.solve_checks.proofs.Ceilings as ceiling
 use Rattle.solve_checks.proofs.Testing as law
 use Rattle.resolved_sort.specs.Entries.{testedOf}
@@ -18,6 +18,6 @@ test-lists-spec =
     (λ c κs. search needs)
     (λ c. search needs)
     (λ c. search needs)
-    (λ c κs. let a = c .before .before .before .before .before .before .before .before .before .before .args in (ceiling.expr-ceiling (partOf (a .given) (a .exprs .now) (a .names .now) (a .constraints .now) (a .overloads .now) (a .sources .now)) (c .before .before .before .before .before .before .before .before .before .before .pre), ceiling.constraint-ceiling (partOf (a .given) (a .exprs .now) (a .names .now) (a .constraints .now) (a .overloads .now) (a .sources .now)) (c .before .before .before .before .before .before .before .before .before .before .pre)))
+    (λ c κs. let a = c .before .before .before .before .before .before .before .before .before .before .args in (ceiling.expr-ceiling (problemCall (a .given) (a .exprs .now) (a .names .now) (a .constraints .now) (a .overloads .now) (a .sources .now)) (c .before .before .before .before .before .before .before .before .before .before .pre), ceiling.constraint-ceiling (problemCall (a .given) (a .exprs .now) (a .names .now) (a .constraints .now) (a .overloads .now) (a .sources .now)) (c .before .before .before .before .before .before .before .before .before .before .pre)))
     (λ c. let a = c .before .before .before .before .before .before .before .before .before .before .before .args in (λ o. tests.first-refuses _ _ (c .before .before .before .test-rows .result) (c .before .before .before .test-rows .ensures ∙ ap (λ cs. testedOf (firstFailing cs)) (law.same-row-checks (a .given) (a .sorts .now) (a .nodes .now) [] (a .exprs .now) (a .names .now) (a .constraints .now) (a .overloads .now) (a .sources .now) (a .room) o)) _ (c .before .code .given .1)))
     (λ c. let a = c .before .before .before .before .before .before .before .before .before .before .before .args in (λ o. tests.second-decides _ _ (c .before .before .before .test-rows .result) (c .before .before .before .test-rows .ensures ∙ ap (λ cs. testedOf (firstFailing cs)) (law.same-row-checks (a .given) (a .sorts .now) (a .nodes .now) [] (a .exprs .now) (a .names .now) (a .constraints .now) (a .overloads .now) (a .sources .now) (a .room) o)) (c .before .enum-told .given .1) _ (c .test-last .ensures o ∙ ap (λ cs. testedOf (firstFailing cs)) (law.same-last-checks (a .given) (a .sorts .now) (a .nodes .now) [] (a .exprs .now) (a .names .now) (a .constraints .now) (a .overloads .now) (a .sources .now) (a .room) o)))))

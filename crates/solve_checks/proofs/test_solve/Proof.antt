@@ -2,7 +2,7 @@
 use mathlib.Core.Path.{sym, _∙_}
 use borrow.Author.Needs.{needs}
 use borrow.Author.Tests.{not-false}
-use Rattle.solve_checks.specs.Calls.{callIn}
+use Rattle.solve_checks.specs.Calls.{roomCall}
 use Rattle.solve_checks.proofs.Testing as law
 use Rattle.solve_checks.proofs.test_solve.Statement.{statement}
 use Rattle.solve_checks.proofs.test_solve.Tie as tie
@@ -12,10 +12,10 @@ test-solve-spec =
     tie.close
     (tie.spec
     (λ c κs. search needs)
-    (λ c. let a = c .before .before .before .before .before .before .before .before .before .before .args in (λ o. law.outside (callIn (a .given) (a .sorts .now) (a .nodes .now) (a .binds .now) (a .exprs .now) (a .names .now) (a .constraints .now) (a .overloads .now) (a .sources .now) (a .room) o) (c .before .all-within-lent .result) (c .before .all-within-lent .ensures ∙ law.same-within (a .given) (a .sorts .now) (a .nodes .now) (a .binds .now) (a .exprs .now) (a .names .now) (a .constraints .now) (a .overloads .now) (a .sources .now) (a .room) o) (c .if1 .taken)))
+    (λ c. let a = c .before .before .before .before .before .before .before .before .before .before .args in (λ o. law.outside (roomCall (a .given) (a .sorts .now) (a .nodes .now) (a .binds .now) (a .exprs .now) (a .names .now) (a .constraints .now) (a .overloads .now) (a .sources .now) (a .room) o) (c .before .all-within-lent .result) (c .before .all-within-lent .ensures ∙ law.same-within (a .given) (a .sorts .now) (a .nodes .now) (a .binds .now) (a .exprs .now) (a .names .now) (a .constraints .now) (a .overloads .now) (a .sources .now) (a .room) o) (c .if1 .taken)))
     (λ c κs. search needs)
     (λ c. search needs)
     (λ c. search needs)
     (λ c κs. sym (c .before .before .before .before .all-within-lent .ensures) ∙ not-false _ (c .before .before .before .if1 .left))
-    (λ c. let a = c .before .before .before .before .before .before .before .before .before .before .before .before .before .before .args in (λ o. law.sorts-refused (callIn (a .given) (a .sorts .now) (a .nodes .now) (a .binds .now) (a .exprs .now) (a .names .now) (a .constraints .now) (a .overloads .now) (a .sources .now) (a .room) o) (c .before .before .before .before .before .all-within-lent .result) (c .before .before .before .before .before .all-within-lent .ensures ∙ law.same-within (a .given) (a .sorts .now) (a .nodes .now) (a .binds .now) (a .exprs .now) (a .names .now) (a .constraints .now) (a .overloads .now) (a .sources .now) (a .room) o) (c .before .before .before .before .if1 .left) (c .before .before .before .test-sorts .result) (c .before .before .before .test-sorts .ensures) _ (c .before .code .given .1)))
-    (λ c. let a = c .before .before .before .before .before .before .before .before .before .before .before .before .before .before .args in (λ o. law.rest-decides (callIn (a .given) (a .sorts .now) (a .nodes .now) (a .binds .now) (a .exprs .now) (a .names .now) (a .constraints .now) (a .overloads .now) (a .sources .now) (a .room) o) (c .before .before .before .before .before .all-within-lent .result) (c .before .before .before .before .before .all-within-lent .ensures ∙ law.same-within (a .given) (a .sorts .now) (a .nodes .now) (a .binds .now) (a .exprs .now) (a .names .now) (a .constraints .now) (a .overloads .now) (a .sources .now) (a .room) o) (c .before .before .before .before .if1 .left) (c .before .before .before .test-sorts .result) (c .before .before .before .test-sorts .ensures) (c .before .enum-told .given .1) _ (c .test-rest .ensures o))))
+    (λ c. let a = c .before .before .before .before .before .before .before .before .before .before .before .before .before .before .args in (λ o. law.sorts-refused (roomCall (a .given) (a .sorts .now) (a .nodes .now) (a .binds .now) (a .exprs .now) (a .names .now) (a .constraints .now) (a .overloads .now) (a .sources .now) (a .room) o) (c .before .before .before .before .before .all-within-lent .result) (c .before .before .before .before .before .all-within-lent .ensures ∙ law.same-within (a .given) (a .sorts .now) (a .nodes .now) (a .binds .now) (a .exprs .now) (a .names .now) (a .constraints .now) (a .overloads .now) (a .sources .now) (a .room) o) (c .before .before .before .before .if1 .left) (c .before .before .before .test-sorts .result) (c .before .before .before .test-sorts .ensures) _ (c .before .code .given .1)))
+    (λ c. let a = c .before .before .before .before .before .before .before .before .before .before .before .before .before .before .args in (λ o. law.rest-decides (roomCall (a .given) (a .sorts .now) (a .nodes .now) (a .binds .now) (a .exprs .now) (a .names .now) (a .constraints .now) (a .overloads .now) (a .sources .now) (a .room) o) (c .before .before .before .before .before .all-within-lent .result) (c .before .before .before .before .before .all-within-lent .ensures ∙ law.same-within (a .given) (a .sorts .now) (a .nodes .now) (a .binds .now) (a .exprs .now) (a .names .now) (a .constraints .now) (a .overloads .now) (a .sources .now) (a .room) o) (c .before .before .before .before .if1 .left) (c .before .before .before .test-sorts .result) (c .before .before .before .test-sorts .ensures) (c .before .enum-told .given .1) _ (c .test-rest .ensures o))))

@@ -2,7 +2,7 @@
 use mathlib.Core.Path.{sym, ap, subst, _∙_}
 use Prim.Native.Nat.{_+_}
 use borrow.Author.Needs.{needs}
-use Rattle.solve_outputs.specs.Packed.{packSolved, Told}
+use Rattle.solve_outputs.specs.Packed.{packSolved, SolvedWithin}
 use Rattle.solve_outputs.proofs.pack_solved.Statement.{statement}
 use Rattle.solve_outputs.proofs.pack_solved.Tie as tie
 
@@ -16,13 +16,13 @@ pack-solved-spec =
     (λ c. search needs)
     (λ c. search needs)
     (λ c. search needs)
-    (λ c κs. subst Told (c .before .answer3 .given .1) (c .before .before .before .pre))
+    (λ c κs. subst SolvedWithin (c .before .answer3 .given .1) (c .before .before .before .pre))
     (λ c. search needs)
     (λ c. search needs)
-    (λ c κs. subst Told (c .before .answer4 .given .1) (c .before .before .before .pre))
+    (λ c κs. subst SolvedWithin (c .before .answer4 .given .1) (c .before .before .before .pre))
     (λ c. search needs)
     (λ c. search needs)
-    (λ c κs. subst Told (c .before .answer5 .given .1) (c .before .before .before .pre))
+    (λ c κs. subst SolvedWithin (c .before .answer5 .given .1) (c .before .before .before .pre))
     (λ c. sym (ap packSolved (c .before .answer .given .1)))
     (λ c. sym (ap packSolved (c .before .answer2 .given .1)))
     (λ c. ap (λ n. 17 + n) (c .pack-counts .ensures) ∙ sym (ap packSolved (c .before .before .answer3 .given .1)))

@@ -48,7 +48,7 @@ use Rattle.solve_checks.proofs.Given as G
 use Rattle.solve_checks.proofs.Given.Laws as G′
 use Rattle.inference.specs.SolveEntry.{solveEntry}
 use Rattle.solve_checks.specs.Call.{callOf}
-use Rattle.solve_outputs.specs.Finish.{leftOf}
+use Rattle.solve_outputs.specs.Finish.{solveLeft}
 use Rattle.solve_records.specs.declared.OverloadRecord.{OverloadRecord}
 use Rattle.solve_records.specs.Records.{unpacked, wordsOfCount}
 use Rattle.solve_records.proofs.Frames.{at, full, releases, nest, opened, closed, fopened, fclosed}
@@ -153,9 +153,9 @@ module _ {M : Type 1} (𝓤 : URA M) (H : Heap 𝓤) (A : Atoms 𝓤) (W : Laws 
   exits r w ws e₁ =
       qed W (‵ (S.the-row .own r (w ∷ [])) ∷ nest tokens-passed ∷ raw (ensured 𝓤 H A solve.ended (solve.clauses 𝓤 H A mem run) (κ₀, (κ₁, (κ₂, (κ₃, (κ₄, (κ₅, (κ₇, (κ₈, (κ₉, (κ₁₀, (κ₁₁, tt))))))))))) (args-passed ws) tt r) ∷ nest again ∷ ‵ (flft κ₆ q₆) ∷ ‵ Os ∷ []) ∵
       move ! (2 ∷ []) $
-      use1 W (some (λ (zs : Lasts solve.ended (κ₀, (κ₁, (κ₂, (κ₃, (κ₄, (κ₅, (κ₇, (κ₈, (κ₉, (κ₁₀, (κ₁₁, tt))))))))))) (args-passed ws)). ‵ (lasts solve.ended (κ₀, (κ₁, (κ₂, (κ₃, (κ₄, (κ₅, (κ₇, (κ₈, (κ₉, (κ₁₀, (κ₁₁, tt))))))))))) (args-passed ws) zs) ⊛ raw (fact 𝓤 (leftOf r (zs .0) (zs .1 .0) (zs .1 .1 .0) (zs .1 .1 .1 .1 .1 .1 .1 .1 .1 .1 .0) (zs .1 .1 .1 .1 .1 .1 .1 .1 .1 .1 .1 .0) (zs .1 .1 .1 .1 .1 .1 .1 .1 .1 .1 .1 .1 .0) (zs .1 .1 .1 .1 .1 .1 .1 .1 .1 .1 .1 .1 .1 .0) ≡ solveEntry (callOf x₈ (x₀ .now) (x₁ .now) (x₂ .now) (x₃ .now) (x₄ .now) (x₅ .now) (take (wordsOfCount (length (x₆ .now))) ws) (x₇ .now) (x₉ .now) (x₁₀ .now) (x₁₁ .now) (x₁₂ .now)))))) (id⊢ 𝓤 _) $ pick ! (λ zs. split ! $
+      use1 W (some (λ (zs : Lasts solve.ended (κ₀, (κ₁, (κ₂, (κ₃, (κ₄, (κ₅, (κ₇, (κ₈, (κ₉, (κ₁₀, (κ₁₁, tt))))))))))) (args-passed ws)). ‵ (lasts solve.ended (κ₀, (κ₁, (κ₂, (κ₃, (κ₄, (κ₅, (κ₇, (κ₈, (κ₉, (κ₁₀, (κ₁₁, tt))))))))))) (args-passed ws) zs) ⊛ raw (fact 𝓤 (solveLeft r (zs .0) (zs .1 .0) (zs .1 .1 .0) (zs .1 .1 .1 .1 .1 .1 .1 .1 .1 .1 .0) (zs .1 .1 .1 .1 .1 .1 .1 .1 .1 .1 .1 .0) (zs .1 .1 .1 .1 .1 .1 .1 .1 .1 .1 .1 .1 .0) (zs .1 .1 .1 .1 .1 .1 .1 .1 .1 .1 .1 .1 .1 .0) ≡ solveEntry (callOf x₈ (x₀ .now) (x₁ .now) (x₂ .now) (x₃ .now) (x₄ .now) (x₅ .now) (take (wordsOfCount (length (x₆ .now))) ws) (x₇ .now) (x₉ .now) (x₁₀ .now) (x₁₁ .now) (x₁₂ .now)))))) (id⊢ 𝓤 _) $ pick ! (λ zs. split ! $
       move ! (1 ∷ []) $
-      heard ! (leftOf r (zs .0) (zs .1 .0) (zs .1 .1 .0) (zs .1 .1 .1 .1 .1 .1 .1 .1 .1 .1 .0) (zs .1 .1 .1 .1 .1 .1 .1 .1 .1 .1 .1 .0) (zs .1 .1 .1 .1 .1 .1 .1 .1 .1 .1 .1 .1 .0) (zs .1 .1 .1 .1 .1 .1 .1 .1 .1 .1 .1 .1 .1 .0) ≡ solveEntry (callOf x₈ (x₀ .now) (x₁ .now) (x₂ .now) (x₃ .now) (x₄ .now) (x₅ .now) (take (wordsOfCount (length (x₆ .now))) ws) (x₇ .now) (x₉ .now) (x₁₀ .now) (x₁₁ .now) (x₁₂ .now))) (λ e.
+      heard ! (solveLeft r (zs .0) (zs .1 .0) (zs .1 .1 .0) (zs .1 .1 .1 .1 .1 .1 .1 .1 .1 .1 .0) (zs .1 .1 .1 .1 .1 .1 .1 .1 .1 .1 .1 .0) (zs .1 .1 .1 .1 .1 .1 .1 .1 .1 .1 .1 .1 .0) (zs .1 .1 .1 .1 .1 .1 .1 .1 .1 .1 .1 .1 .1 .0) ≡ solveEntry (callOf x₈ (x₀ .now) (x₁ .now) (x₂ .now) (x₃ .now) (x₄ .now) (x₅ .now) (take (wordsOfCount (length (x₆ .now))) ws) (x₇ .now) (x₉ .now) (x₁₀ .now) (x₁₁ .now) (x₁₂ .now))) (λ e.
       fopened ! (fsep (finally u16 (x₀ .name) (zs .0)) (feq ℕ (length (zs .0)) (length (x₀ .now))) ∷ fsep (finally u16 (x₁ .name) (zs .1 .0)) (feq ℕ (length (zs .1 .0)) (length (x₁ .now))) ∷ fsep (finally u16 (x₂ .name) (zs .1 .1 .0)) (feq ℕ (length (zs .1 .1 .0)) (length (x₂ .now))) ∷ ftrue ∷ ftrue ∷ ftrue ∷ ftrue ∷ ftrue ∷ ftrue ∷ ftrue ∷ fsep (finally u16 (x₉ .name) (zs .1 .1 .1 .1 .1 .1 .1 .1 .1 .1 .0)) (feq ℕ (length (zs .1 .1 .1 .1 .1 .1 .1 .1 .1 .1 .0)) (length (x₉ .now))) ∷ fsep (finally u16 (x₁₀ .name) (zs .1 .1 .1 .1 .1 .1 .1 .1 .1 .1 .1 .0)) (feq ℕ (length (zs .1 .1 .1 .1 .1 .1 .1 .1 .1 .1 .1 .0)) (length (x₁₀ .now))) ∷ fsep (finally u16 (x₁₁ .name) (zs .1 .1 .1 .1 .1 .1 .1 .1 .1 .1 .1 .1 .0)) (feq ℕ (length (zs .1 .1 .1 .1 .1 .1 .1 .1 .1 .1 .1 .1 .0)) (length (x₁₁ .now))) ∷ fsep (finally u16 (x₁₂ .name) (zs .1 .1 .1 .1 .1 .1 .1 .1 .1 .1 .1 .1 .1 .0)) (feq ℕ (length (zs .1 .1 .1 .1 .1 .1 .1 .1 .1 .1 .1 .1 .1 .0)) (length (x₁₂ .now))) ∷ []) $
       fsplit ! $ move ! (1 ∷ []) $ feqL ! (λ n₀. move ! (1 ∷ []) $ fsplit ! $ move ! (1 ∷ []) $ feqL ! (λ n₁. move ! (2 ∷ []) $ fsplit ! $ move ! (1 ∷ []) $ feqL ! (λ n₂. move ! (10 ∷ []) $ fsplit ! $ move ! (1 ∷ []) $ feqL ! (λ n₉. move ! (11 ∷ []) $ fsplit ! $
       move ! (1 ∷ []) $ feqL ! (λ n₁₀. move ! (12 ∷ []) $ fsplit ! $ move ! (1 ∷ []) $ feqL ! (λ n₁₁. move ! (13 ∷ []) $ fsplit ! $ move ! (1 ∷ []) $ feqL ! (λ n₁₂. move ! (15 ∷ []) $ opened ! tokens-passed $ move ! (26 ∷ []) $ opened ! again $

@@ -40,7 +40,7 @@ use denote.Exit.{yes}
 use denote.Signature.{plain}
 use Rattle.inference.specs.SolveEntry.{solveEntry}
 use Rattle.solve_checks.specs.Call.{callOf}
-use Rattle.solve_outputs.specs.Packed.{packed, packLeft}
+use Rattle.solve_outputs.specs.Packed.{packedSolve, packSolveLeft}
 use Rattle.solve_entries.specs.Given.{givenOf as countsOf}
 use Rattle.solve_records.specs.declared.OverloadRecord.{OverloadRecord}
 use Rattle.solve_records.specs.Records.{unpacked, wordsOfCount}
@@ -149,14 +149,14 @@ module _ {M : Type 1} (𝓤 : URA M) (H : Heap 𝓤) (A : Atoms 𝓤) (W : Laws 
   exits r w ws e₁ =
       qed W (‵ (u64 .own r (w ∷ [])) ∷ nest tokens-passed ∷ raw (ensured 𝓤 H A solve.ended (solve.clauses 𝓤 H A mem run) (κ₀, (κ₁, (κ₂, (κ₃, (κ₄, (κ₅, (κ₇, (κ₈, (κ₉, (κ₁₀, (κ₁₁, tt))))))))))) (args-passed ws) tt r) ∷ nest again ∷ ‵ (flft κ₆ q₆) ∷ ‵ Os ∷ []) ∵
       move ! (2 ∷ []) $
-      use1 W (some (λ (zs : Lasts solve.ended (κ₀, (κ₁, (κ₂, (κ₃, (κ₄, (κ₅, (κ₇, (κ₈, (κ₉, (κ₁₀, (κ₁₁, tt))))))))))) (args-passed ws)). ‵ (lasts solve.ended (κ₀, (κ₁, (κ₂, (κ₃, (κ₄, (κ₅, (κ₇, (κ₈, (κ₉, (κ₁₀, (κ₁₁, tt))))))))))) (args-passed ws) zs) ⊛ raw (fact 𝓤 (packed r (zs .0) (zs .1 .1 .1 .0) (zs .1 .1 .1 .1 .1 .1 .0) (zs .1 .1 .1 .1 .1 .1 .1 .1 .1 .1 .1 .1 .1 .1 .1 .1 .1 .1 .1 .1 .0) (zs .1 .1 .1 .1 .1 .1 .1 .1 .1 .1 .1 .1 .1 .1 .1 .1 .1 .1 .1 .1 .1 .0) (zs .1 .1 .1 .1 .1 .1 .1 .1 .1 .1 .1 .1 .1 .1 .1 .1 .1 .1 .1 .1 .1 .1 .0) (zs .1 .1 .1 .1 .1 .1 .1 .1 .1 .1 .1 .1 .1 .1 .1 .1 .1 .1 .1 .1 .1 .1 .1 .0) ≡ packLeft (solveEntry (callOf (countsOf x₁ x₂ x₄ x₅ x₇ x₉ x₁₁ x₁₃ x₁₅ x₁₇ x₁₈) (x₀ .now) (x₃ .now) (x₆ .now) (x₈ .now) (x₁₀ .now) (x₁₂ .now) (take (wordsOfCount (length (x₁₄ .now))) ws) (x₁₆ .now) (x₁₉ .now) (x₂₀ .now) (x₂₁ .now) (x₂₂ .now))))))) (id⊢ 𝓤 _) $ pick ! (λ zs. split ! $
+      use1 W (some (λ (zs : Lasts solve.ended (κ₀, (κ₁, (κ₂, (κ₃, (κ₄, (κ₅, (κ₇, (κ₈, (κ₉, (κ₁₀, (κ₁₁, tt))))))))))) (args-passed ws)). ‵ (lasts solve.ended (κ₀, (κ₁, (κ₂, (κ₃, (κ₄, (κ₅, (κ₇, (κ₈, (κ₉, (κ₁₀, (κ₁₁, tt))))))))))) (args-passed ws) zs) ⊛ raw (fact 𝓤 (packedSolve r (zs .0) (zs .1 .1 .1 .0) (zs .1 .1 .1 .1 .1 .1 .0) (zs .1 .1 .1 .1 .1 .1 .1 .1 .1 .1 .1 .1 .1 .1 .1 .1 .1 .1 .1 .1 .0) (zs .1 .1 .1 .1 .1 .1 .1 .1 .1 .1 .1 .1 .1 .1 .1 .1 .1 .1 .1 .1 .1 .0) (zs .1 .1 .1 .1 .1 .1 .1 .1 .1 .1 .1 .1 .1 .1 .1 .1 .1 .1 .1 .1 .1 .1 .0) (zs .1 .1 .1 .1 .1 .1 .1 .1 .1 .1 .1 .1 .1 .1 .1 .1 .1 .1 .1 .1 .1 .1 .1 .0) ≡ packSolveLeft (solveEntry (callOf (countsOf x₁ x₂ x₄ x₅ x₇ x₉ x₁₁ x₁₃ x₁₅ x₁₇ x₁₈) (x₀ .now) (x₃ .now) (x₆ .now) (x₈ .now) (x₁₀ .now) (x₁₂ .now) (take (wordsOfCount (length (x₁₄ .now))) ws) (x₁₆ .now) (x₁₉ .now) (x₂₀ .now) (x₂₁ .now) (x₂₂ .now))))))) (id⊢ 𝓤 _) $ pick ! (λ zs. split ! $
       move ! (1 ∷ []) $
-      heard ! (packed r (zs .0) (zs .1 .1 .1 .0) (zs .1 .1 .1 .1 .1 .1 .0) (zs .1 .1 .1 .1 .1 .1 .1 .1 .1 .1 .1 .1 .1 .1 .1 .1 .1 .1 .1 .1 .0) (zs .1 .1 .1 .1 .1 .1 .1 .1 .1 .1 .1 .1 .1 .1 .1 .1 .1 .1 .1 .1 .1 .0) (zs .1 .1 .1 .1 .1 .1 .1 .1 .1 .1 .1 .1 .1 .1 .1 .1 .1 .1 .1 .1 .1 .1 .0) (zs .1 .1 .1 .1 .1 .1 .1 .1 .1 .1 .1 .1 .1 .1 .1 .1 .1 .1 .1 .1 .1 .1 .1 .0) ≡ packLeft (solveEntry (callOf (countsOf x₁ x₂ x₄ x₅ x₇ x₉ x₁₁ x₁₃ x₁₅ x₁₇ x₁₈) (x₀ .now) (x₃ .now) (x₆ .now) (x₈ .now) (x₁₀ .now) (x₁₂ .now) (take (wordsOfCount (length (x₁₄ .now))) ws) (x₁₆ .now) (x₁₉ .now) (x₂₀ .now) (x₂₁ .now) (x₂₂ .now)))) (λ e.
+      heard ! (packedSolve r (zs .0) (zs .1 .1 .1 .0) (zs .1 .1 .1 .1 .1 .1 .0) (zs .1 .1 .1 .1 .1 .1 .1 .1 .1 .1 .1 .1 .1 .1 .1 .1 .1 .1 .1 .1 .0) (zs .1 .1 .1 .1 .1 .1 .1 .1 .1 .1 .1 .1 .1 .1 .1 .1 .1 .1 .1 .1 .1 .0) (zs .1 .1 .1 .1 .1 .1 .1 .1 .1 .1 .1 .1 .1 .1 .1 .1 .1 .1 .1 .1 .1 .1 .0) (zs .1 .1 .1 .1 .1 .1 .1 .1 .1 .1 .1 .1 .1 .1 .1 .1 .1 .1 .1 .1 .1 .1 .1 .0) ≡ packSolveLeft (solveEntry (callOf (countsOf x₁ x₂ x₄ x₅ x₇ x₉ x₁₁ x₁₃ x₁₅ x₁₇ x₁₈) (x₀ .now) (x₃ .now) (x₆ .now) (x₈ .now) (x₁₀ .now) (x₁₂ .now) (take (wordsOfCount (length (x₁₄ .now))) ws) (x₁₆ .now) (x₁₉ .now) (x₂₀ .now) (x₂₁ .now) (x₂₂ .now)))) (λ e.
       fopened ! (fsep (finally u16 (x₀ .name) (zs .0)) (feq ℕ (length (zs .0)) (length (x₀ .now))) ∷ ftrue ∷ ftrue ∷ fsep (finally u16 (x₃ .name) (zs .1 .1 .1 .0)) (feq ℕ (length (zs .1 .1 .1 .0)) (length (x₃ .now))) ∷ ftrue ∷ ftrue ∷ fsep (finally u16 (x₆ .name) (zs .1 .1 .1 .1 .1 .1 .0)) (feq ℕ (length (zs .1 .1 .1 .1 .1 .1 .0)) (length (x₆ .now))) ∷ ftrue ∷ ftrue ∷ ftrue ∷ ftrue ∷ ftrue ∷ ftrue ∷ ftrue ∷ ftrue ∷ ftrue ∷ ftrue ∷ ftrue ∷ ftrue ∷ ftrue ∷ fsep (finally u16 (x₁₉ .name) (zs .1 .1 .1 .1 .1 .1 .1 .1 .1 .1 .1 .1 .1 .1 .1 .1 .1 .1 .1 .1 .0)) (feq ℕ (length (zs .1 .1 .1 .1 .1 .1 .1 .1 .1 .1 .1 .1 .1 .1 .1 .1 .1 .1 .1 .1 .0)) (length (x₁₉ .now))) ∷ fsep (finally u16 (x₂₀ .name) (zs .1 .1 .1 .1 .1 .1 .1 .1 .1 .1 .1 .1 .1 .1 .1 .1 .1 .1 .1 .1 .1 .0)) (feq ℕ (length (zs .1 .1 .1 .1 .1 .1 .1 .1 .1 .1 .1 .1 .1 .1 .1 .1 .1 .1 .1 .1 .1 .0)) (length (x₂₀ .now))) ∷ fsep (finally u16 (x₂₁ .name) (zs .1 .1 .1 .1 .1 .1 .1 .1 .1 .1 .1 .1 .1 .1 .1 .1 .1 .1 .1 .1 .1 .1 .0)) (feq ℕ (length (zs .1 .1 .1 .1 .1 .1 .1 .1 .1 .1 .1 .1 .1 .1 .1 .1 .1 .1 .1 .1 .1 .1 .0)) (length (x₂₁ .now))) ∷ fsep (finally u16 (x₂₂ .name) (zs .1 .1 .1 .1 .1 .1 .1 .1 .1 .1 .1 .1 .1 .1 .1 .1 .1 .1 .1 .1 .1 .1 .1 .0)) (feq ℕ (length (zs .1 .1 .1 .1 .1 .1 .1 .1 .1 .1 .1 .1 .1 .1 .1 .1 .1 .1 .1 .1 .1 .1 .1 .0)) (length (x₂₂ .now))) ∷ []) $
       fsplit ! $ move ! (1 ∷ []) $ feqL ! (λ n₀. move ! (3 ∷ []) $ fsplit ! $ move ! (1 ∷ []) $ feqL ! (λ n₃. move ! (6 ∷ []) $ fsplit ! $ move ! (1 ∷ []) $ feqL ! (λ n₆. move ! (20 ∷ []) $ fsplit ! $ move ! (1 ∷ []) $ feqL ! (λ n₁₉. move ! (21 ∷ []) $ fsplit ! $
       move ! (1 ∷ []) $ feqL ! (λ n₂₀. move ! (22 ∷ []) $ fsplit ! $ move ! (1 ∷ []) $ feqL ! (λ n₂₁. move ! (23 ∷ []) $ fsplit ! $ move ! (1 ∷ []) $ feqL ! (λ n₂₂. move ! (25 ∷ []) $ opened ! tokens-passed $ move ! (36 ∷ []) $ opened ! again $
       suffices ! _ (ends-at 𝓤 H A entry.ended stayed (entry.clauses 𝓤 H A mem run) W (((κ₀, (κ₁, (κ₂, (κ₃, (κ₄, (κ₅, (κ₆, (κ₇, (κ₈, (κ₉, (κ₁₀, (κ₁₁, tt)))))))))))), (q₀, (q₁, (q₂, (q₃, (q₄, (q₅, (q₆, (q₇, (q₈, (q₉, (q₁₀, (q₁₁, tt)))))))))))), tt, a, vals), tt) w r (zs .0, (tt, (tt, (zs .1 .1 .1 .0, (tt, (tt, (zs .1 .1 .1 .1 .1 .1 .0, (tt, (tt, (tt, (tt, (tt, (tt, (tt, (tt, (tt, (tt, (tt, (tt, (zs .1 .1 .1 .1 .1 .1 .1 .1 .1 .1 .1 .1 .1 .1 .1 .1 .1 .1 .1 .1 .0, (zs .1 .1 .1 .1 .1 .1 .1 .1 .1 .1 .1 .1 .1 .1 .1 .1 .1 .1 .1 .1 .1 .0, (zs .1 .1 .1 .1 .1 .1 .1 .1 .1 .1 .1 .1 .1 .1 .1 .1 .1 .1 .1 .1 .1 .1 .0, (zs .1 .1 .1 .1 .1 .1 .1 .1 .1 .1 .1 .1 .1 .1 .1 .1 .1 .1 .1 .1 .1 .1 .1 .0, tt))))))))))))))))))))))) (n₀, (tt, (tt, (n₃, (tt, (tt, (n₆, (tt, (tt, (tt, (tt, (tt, (tt, (tt, (tt, (tt, (tt, (tt, (tt, (n₁₉, (n₂₀, (n₂₁, (n₂₂, tt)))))))))))))))))))))))) $
-      says ! (e ∙ ap (λ (l : List ℕ). packLeft (solveEntry (callOf (countsOf x₁ x₂ x₄ x₅ x₇ x₉ x₁₁ x₁₃ x₁₅ x₁₇ x₁₈) (x₀ .now) (x₃ .now) (x₆ .now) (x₈ .now) (x₁₀ .now) (x₁₂ .now) l (x₁₆ .now) (x₁₉ .now) (x₂₀ .now) (x₂₁ .now) (x₂₂ .now)))) (ap (λ (l : List ℕ). take (wordsOfCount (length (x₁₄ .now))) l) e₁ ∙ words-looked-at (x₁₄ .now))) $
+      says ! (e ∙ ap (λ (l : List ℕ). packSolveLeft (solveEntry (callOf (countsOf x₁ x₂ x₄ x₅ x₇ x₉ x₁₁ x₁₃ x₁₅ x₁₇ x₁₈) (x₀ .now) (x₃ .now) (x₆ .now) (x₈ .now) (x₁₀ .now) (x₁₂ .now) l (x₁₆ .now) (x₁₉ .now) (x₂₀ .now) (x₂₁ .now) (x₂₂ .now)))) (ap (λ (l : List ℕ). take (wordsOfCount (length (x₁₄ .now))) l) e₁ ∙ words-looked-at (x₁₄ .now))) $
       owned ! usize (Is usize) (uint-makes 𝓤 H A W w64) x₁ _ (refl, f₁) $ owned ! usize (Is usize) (uint-makes 𝓤 H A W w64) x₂ _ (refl, f₂) $ owned ! usize (Is usize) (uint-makes 𝓤 H A W w64) x₄ _ (refl, f₄) $
       owned ! usize (Is usize) (uint-makes 𝓤 H A W w64) x₅ _ (refl, f₅) $ owned ! usize (Is usize) (uint-makes 𝓤 H A W w64) x₇ _ (refl, f₇) $ owned ! usize (Is usize) (uint-makes 𝓤 H A W w64) x₉ _ (refl, f₉) $
       owned ! usize (Is usize) (uint-makes 𝓤 H A W w64) x₁₁ _ (refl, f₁₁) $ owned ! usize (Is usize) (uint-makes 𝓤 H A W w64) x₁₃ _ (refl, f₁₃) $ owned ! usize (Is usize) (uint-makes 𝓤 H A W w64) x₁₅ _ (refl, f₁₅) $

@@ -2,7 +2,7 @@
 use borrow.Author.Needs.{needs}
 use mathlib.Core.Path.{refl, sym, ap}
 use Rattle.resolved_sort.specs.declared.Bounded.the-variants.{NoRoom}
-use Rattle.resolved_sort.specs.Entries.{left}
+use Rattle.resolved_sort.specs.Entries.{sortsLeft}
 use Rattle.sort_entries.specs.Kept.{keptOrGivenBack}
 use Rattle.sort_entries.proofs.kept_or_given_back.Statement.{statement}
 use Rattle.sort_entries.proofs.kept_or_given_back.Tie as tie
@@ -19,4 +19,4 @@ kept-or-given-back-spec =
     (λ c. rw (c .before .joined .given .1))
     (λ c. rw (c .before .joined2 .given .1))
     (λ c. search needs)
-    (λ c. rw (c .before .before .before .before .enum-told .given .1) (ap (λ us. left us NoRoom) (c .before .before .give-back .ensures))))
+    (λ c. rw (c .before .before .before .before .enum-told .given .1) (ap (λ us. sortsLeft us NoRoom) (c .before .before .give-back .ensures))))

@@ -1,7 +1,7 @@
 -- The entry's answer, packed, beside what it left. Assumes nothing.
 use borrow.Author.Needs.{needs}
 use mathlib.Core.Path.{_∙_, ap}
-use Rattle.sort_entries.specs.Packed.{packed, packLeft}
+use Rattle.sort_entries.specs.Packed.{packedSorts, packSortsLeft}
 use Rattle.sort_entries.proofs.sort_join.Statement.{statement}
 use Rattle.sort_entries.proofs.sort_join.Tie as tie
 
@@ -12,4 +12,4 @@ sort-join-spec =
     (λ c κs. search needs)
     (λ c κs. search needs)
     (λ c. search needs)
-    (λ c. ap (packed _) (c .pack-bounded .ensures) ∙ ap packLeft (c .before .before .before .join .ensures)))
+    (λ c. ap (packedSorts _) (c .pack-bounded .ensures) ∙ ap packSortsLeft (c .before .before .before .join .ensures)))

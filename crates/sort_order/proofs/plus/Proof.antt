@@ -1,11 +1,11 @@
 -- Each arm is the definition's clause. Assumes nothing.
 use borrow.Author.Needs.{needs}
-use Rattle.sort_order.specs.Answers.{more}
+use Rattle.sort_order.specs.Answers.{moreSteps}
 use Rattle.sort_order.proofs.plus.Statement.{statement}
 use Rattle.sort_order.proofs.plus.Tie as tie
 
 pub plus-spec : {M : Type 1} → statement M
-unfolding more
+unfolding moreSteps
 plus-spec =
     tie.close
     (tie.spec

@@ -10,10 +10,10 @@ use Rattle.text_out.proofs.put_text.Statement.{statement}
 use Rattle.text_out.proofs.put_text.Tie as tie
 
 abbrev Inv-loop : tie.InvT-loop
-Inv-loop bytes out₀ at place₀ i₀ out place i = (i ≤ length bytes) × (length out ≡ length out₀) × (puts out₀ at bytes ≡ puts out place (drop i bytes))
+Inv-loop bytes out₀ at place₀ i₀ out cursor i = (i ≤ length bytes) × (length out ≡ length out₀) × (puts out₀ at bytes ≡ puts out cursor (drop i bytes))
 
 abbrev μ-loop : tie.MeasureT-loop
-μ-loop bytes out₀ at place₀ i₀ out place i = length bytes - i
+μ-loop bytes out₀ at place₀ i₀ out cursor i = length bytes - i
 
 loop-holds : tie.Need-loop-holds Inv-loop μ-loop
 loop-holds c = (omega arith, refl, refl)

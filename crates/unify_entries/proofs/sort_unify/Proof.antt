@@ -1,5 +1,5 @@
 -- The answer, packed, beside what was left. Assumes nothing.
-use Rattle.unification.specs.UnifyEntry.{packed, packLeft}
+use Rattle.unification.specs.UnifyEntry.{packedBinds, packBindsLeft}
 use borrow.Author.Needs.{needs}
 use mathlib.Core.Path.{_≡_, refl, sym, ap, subst, _∙_}
 use Rattle.unify_entries.proofs.sort_unify.Statement.{statement}
@@ -12,4 +12,4 @@ sort-unify-spec =
     (λ c κs. search needs)
     (λ c κs. search needs)
     (λ c. search needs)
-    (λ c. ap (packed _) (c .pack-unified .ensures) ∙ ap packLeft (c .before .before .before .unify .ensures)))
+    (λ c. ap (packedBinds _) (c .pack-unified .ensures) ∙ ap packBindsLeft (c .before .before .before .unify .ensures)))
