@@ -42,57 +42,57 @@ countsOf (NoTyping k) = some k
 countsOf (Ambiguous k) = some k
 countsOf (Typing o) = some (o .counts)
 
-module _ (I : Call) where
-  -- the sorts of ws, of which k counts, have grown from those given
-  pub record SortsGrown (ws : List ℕ) (k : Counts) : Type 0 where
-    pub old : Agrees (I .sorts) ws (I .lengths .sorts) (I .lengths .entries)
-    pub more : I .lengths .sorts ≤ k .sorts
-    pub more-entries : I .lengths .entries ≤ k .entries
-    pub checked : Checked ws (k .sorts) (k .entries)
-    pub as-long : length ws ≡ length (I .sorts)
+-- the sorts of ws, of which k counts, have grown from those given
+pub record SortsGrown (I : Call) (ws : List ℕ) (k : Counts) : Type 0 where
+  pub old : Agrees (I .sorts) ws (I .lengths .sorts) (I .lengths .entries)
+  pub more : I .lengths .sorts ≤ k .sorts
+  pub more-entries : I .lengths .entries ≤ k .entries
+  pub checked : Checked ws (k .sorts) (k .entries)
+  pub as-long : length ws ≡ length (I .sorts)
 
-  grown : (W : Lent) → Grows (lentOf I) W → SortsGrown (W .sorts) (countsIn W)
+-- where the search stands at its end: as many nodes as given, with their words; and given words also where room ended
+pub record ListsKept (I : Call) (W : Lent) : Type 0 where
+  pub sorts : Agrees (I .sorts) (W .sorts) (I .lengths .sorts) (I .lengths .entries)
+  pub nodes : NodesAgree (I .nodes) (W .nodes) (I .lengths .nodes) (I .lengths .arguments)
+  pub as-long : (length (W .sorts) ≡ length (I .sorts)) × (length (W .nodes) ≡ length (I .nodes))
+
+abbrev pub Ends : Call → {Met : Type 0} → Out Met → Type 0
+Ends I (found w) = ListsKept I (w .lent) × (w .lent .lengths .nodes ≡ I .lengths .nodes) × (w .lent .lengths .arguments ≡ I .lengths .arguments)
+Ends I (missed w) = ListsKept I (w .lent) × (w .lent .lengths .nodes ≡ I .lengths .nodes) × (w .lent .lengths .arguments ≡ I .lengths .arguments)
+Ends I (ended c W) = ListsKept I W
+
+module _ (I : Call) where
+  grown : (W : Lent) → Grows (lentOf I) W → SortsGrown I (W .sorts) (countsIn W)
   grown W g = record { old = g .sort-words; more = g .sorts; more-entries = g .entries; checked = g .checked .sorts; as-long = g .as-long .0 }
 
-  by-candidate : (W : Lent) (c : Candidate) (b : Bool) → Grows (lentOf I) W → (k : Counts) → countsOf (judgedBy I W c b .answer) ≡ some k → SortsGrown (judgedBy I W c b .sorts) k
-  by-candidate W c true g k e = let q : countsIn W ≡ k = cc in subst (SortsGrown (W .sorts)) q (grown W g)
-  by-candidate W c false g k e = let q : countsIn W ≡ k = cc in subst (SortsGrown (W .sorts)) q (grown W g)
+  by-candidate : (W : Lent) (c : Candidate) (b : Bool) → Grows (lentOf I) W → (k : Counts) → countsOf (judgedBy I W c b .answer) ≡ some k → SortsGrown I (judgedBy I W c b .sorts) k
+  by-candidate W c true g k e = let q : countsIn W ≡ k = cc in subst (SortsGrown I (W .sorts)) q (grown W g)
+  by-candidate W c false g k e = let q : countsIn W ≡ k = cc in subst (SortsGrown I (W .sorts)) q (grown W g)
 
-  by-best : (W : Lent) (b : Option Candidate) → Grows (lentOf I) W → (k : Counts) → countsOf (judged I W b .answer) ≡ some k → SortsGrown (judged I W b .sorts) k
-  by-best W none g k e = let q : countsIn W ≡ k = cc in subst (SortsGrown (W .sorts)) q (grown W g)
+  by-best : (W : Lent) (b : Option Candidate) → Grows (lentOf I) W → (k : Counts) → countsOf (judged I W b .answer) ≡ some k → SortsGrown I (judged I W b .sorts) k
+  by-best W none g k e = let q : countsIn W ≡ k = cc in subst (SortsGrown I (W .sorts)) q (grown W g)
   by-best W (some c) g k e = by-candidate W c (c .duplicate) g k e
 
   -- After 0, 17 and 18 the sorts have grown.
-  pub sorts-only-grow : (k : Counts) → countsOf (solveEntry I .answer) ≡ some k → SortsGrown (solveEntry I .sorts) k
+  pub sorts-only-grow : (k : Counts) → countsOf (solveEntry I .answer) ≡ some k → SortsGrown I (solveEntry I .sorts) k
   unfolding Leaves
   sorts-only-grow k =
-      refused-or-searched I (λ L. countsOf (L .answer) ≡ some k → SortsGrown (L .sorts) k) (λ c l e. no-confusion cc)
+      refused-or-searched I (λ L. countsOf (L .answer) ≡ some k → SortsGrown I (L .sorts) k) (λ c l e. no-confusion cc)
       (λ A. ends (searched (Unit {0}) nothingMet tt I) (search-leaves I A (Unit {0}) nothingMet tt))
     where
-      ends : (O : Out (Unit {0})) → Leaves (lentOf I) (bindsOf (I .binds) (I .lengths .variables)) (problemOf I) (Unit {0}) (lentOf I) O → countsOf (verdict I O .answer) ≡ some k → SortsGrown (verdict I O .sorts) k
+      ends : (O : Out (Unit {0})) → Leaves (lentOf I) (bindsOf (I .binds) (I .lengths .variables)) (problemOf I) (Unit {0}) (lentOf I) O → countsOf (verdict I O .answer) ≡ some k → SortsGrown I (verdict I O .sorts) k
       ends (found w) l e = by-best (w .lent) (w .best) (l .only .grows) k e
       ends (missed w) l e = by-best (w .lent) (w .best) (l .only .grows) k e
       ends (ended d W) l e = no-confusion cc
 
-  -- where the search stands at its end: as many nodes as given, with their words; and given words also where room ended
-  pub record ListsKept (W : Lent) : Type 0 where
-    pub sorts : Agrees (I .sorts) (W .sorts) (I .lengths .sorts) (I .lengths .entries)
-    pub nodes : NodesAgree (I .nodes) (W .nodes) (I .lengths .nodes) (I .lengths .arguments)
-    pub as-long : (length (W .sorts) ≡ length (I .sorts)) × (length (W .nodes) ≡ length (I .nodes))
-
-  abbrev pub Ends : {Met : Type 0} → Out Met → Type 0
-  Ends (found w) = ListsKept (w .lent) × (w .lent .lengths .nodes ≡ I .lengths .nodes) × (w .lent .lengths .arguments ≡ I .lengths .arguments)
-  Ends (missed w) = ListsKept (w .lent) × (w .lent .lengths .nodes ≡ I .lengths .nodes) × (w .lent .lengths .arguments ≡ I .lengths .arguments)
-  Ends (ended c W) = ListsKept W
-
-  kept : (W : Lent) → Grows (lentOf I) W → ListsKept W
+  kept : (W : Lent) → Grows (lentOf I) W → ListsKept I W
   kept W g = record { sorts = g .sort-words; nodes = g .node-words; as-long = g .as-long }
 
-  pub search-gives-nodes-back : firstFailing (solveChecks I) ≡ none → (Met : Type 0) (meet : Components → Met → Met) (m : Met) → Ends (searched Met meet m I)
+  pub search-gives-nodes-back : firstFailing (solveChecks I) ≡ none → (Met : Type 0) (meet : Components → Met → Met) (m : Met) → Ends I (searched Met meet m I)
   unfolding Leaves
   search-gives-nodes-back f Met meet m = go (searched Met meet m I) (search-leaves I (accepted I f) Met meet m)
     where
-      go : (O : Out Met) → Leaves (lentOf I) (bindsOf (I .binds) (I .lengths .variables)) (problemOf I) Met (lentOf I) O → Ends O
+      go : (O : Out Met) → Leaves (lentOf I) (bindsOf (I .binds) (I .lengths .variables)) (problemOf I) Met (lentOf I) O → Ends I O
       go (found w) l = (kept (w .lent) (l .only .grows), l .only .nodes, l .only .arguments)
       go (missed w) l = (kept (w .lent) (l .only .grows), l .only .nodes, l .only .arguments)
       go (ended d W) l = kept W l

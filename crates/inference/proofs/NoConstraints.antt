@@ -21,6 +21,10 @@ use Rattle.inference.proofs.Accepted.{Accepted, accepted, passed-is-sea
 use Rattle.inference.proofs.Invariant.{sorts-only-refl}
 use Rattle.inference.proofs.MakingSorts.{MadeSorts, StandAll, resolve-all-makes}
 
+-- a typing, or no room for a sort
+abbrev pub TypingOr15 : Solved → Type 0
+TypingOr15 r = ((o : Outputs) × (r ≡ Typing o)) ⊎ (r ≡ NoRoom 15)
+
 module _ (I : Call) where
   abbrev W : Lent
   W = lentOf I
@@ -30,10 +34,6 @@ module _ (I : Call) where
 
   abbrev first-world : World (Unit {0})
   first-world = record { lent = W; best = none; met = tt }
-
-  -- a typing, or no room for a sort
-  abbrev TypingOr15 : Solved → Type 0
-  TypingOr15 r = ((o : Outputs) × (r ≡ Typing o)) ⊎ (r ≡ NoRoom 15)
 
   by-made : (O : Makes (List ℕ)) → MadeSorts (λ W′ ss. StandAll W (startPath I .binds) (Is (record { 0 = I .default })) W′ (P .exprs) ss) ⊥ W O
       → TypingOr15

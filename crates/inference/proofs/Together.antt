@@ -84,6 +84,17 @@ typed-long : (W₀ : Lent) (look : ℕ → Tree) (ρ : Assignment) (ps ss : List
 typed-long W₀ look ρ _ _ all-typed = refl
 typed-long W₀ look ρ _ _ (and-typed p s ps ss h t) = ap suc (typed-long W₀ look ρ ps ss t)
 
+-- What a typing comes with: one assignment under which it holds together, and under which its components are those of its constraints; and the names in
+-- its rows.
+pub record Explained (I : Call) (L : SolveLeft) (o : Outputs) : Type 0 where
+  pub assignment : Assignment
+  pub bound : (v q : ℕ) → binding (bindsOf (I .binds) (I .lengths .variables)) v ≡ some q → Has (graph (lentOf I)) assignment q (assignment v)
+  pub typed : Typed (graph (lentOf I)) (treeAt (L .sorts) (o .counts .sorts)) assignment (problemOf I .exprs) (sortsOut I L)
+  pub listed : AllBelow (o .counts .sorts) (sortsOut I L)
+  pub components : Costing (graph (lentOf I)) (sortIn (lentOf I)) (problemOf I) (choicesOut L o) assignment (problemOf I .constraints) (measureOut L o)
+  pub names : (x : ℕ) → x < I .rows .exprs
+      → (getD (L .typing) (3 * x + 1) 0 ≡ nameKind (nameOf (problemOf I) (baseNamesOf I) (choicesOut L o) x)) × (getD (L .typing) (3 * x + 2) 0 ≡ nameSort (nameOf (problemOf I) (baseNamesOf I) (choicesOut L o) x))
+
 module _ (I : Call) where
   abbrev W₀ : Lent
   W₀ = lentOf I
@@ -101,18 +112,7 @@ module _ (I : Call) where
       solve-goes W₀ B₀ P (A .ready .nodes) (A .six) Met meet (A .default) (A .exprs) (P .constraints) [] refl (A .constraints) (startPath I) (record { lent = W₀; best = none; met = m })
       (record { grown = grows-refl W₀ (A .ready .nodes); binds = A .ready .binds; refines = λ σ r. r; costs = λ ρ r. nothing-costs }) tt
 
-  -- What a typing comes with: one assignment under which it holds together, and under which its components are those of its constraints; and the names in
-  -- its rows.
-  pub record Explained (L : SolveLeft) (o : Outputs) : Type 0 where
-    pub assignment : Assignment
-    pub bound : (v q : ℕ) → binding B₀ v ≡ some q → Has (graph W₀) assignment q (assignment v)
-    pub typed : Typed (graph W₀) (treeAt (L .sorts) (o .counts .sorts)) assignment (P .exprs) (sortsOut I L)
-    pub listed : AllBelow (o .counts .sorts) (sortsOut I L)
-    pub components : Costing (graph W₀) (sortIn W₀) P (choicesOut L o) assignment (P .constraints) (measureOut L o)
-    pub names : (x : ℕ) → x < I .rows .exprs
-        → (getD (L .typing) (3 * x + 1) 0 ≡ nameKind (nameOf P (baseNamesOf I) (choicesOut L o) x)) × (getD (L .typing) (3 * x + 2) 0 ≡ nameSort (nameOf P (baseNamesOf I) (choicesOut L o) x))
-
-  explained : (W : Lent) (c : Candidate) → Fine W₀ B₀ P W c → (o : Outputs) → judgedBy I W c false .answer ≡ Typing o → Explained (judgedBy I W c false) o
+  explained : (W : Lent) (c : Candidate) → Fine W₀ B₀ P W c → (o : Outputs) → judgedBy I W c false .answer ≡ Typing o → Explained I (judgedBy I W c false) o
   explained W c f o e =
       let L : SolveLeft = judgedBy I W c false in
       let q : o ≡ record { counts = countsIn W; components = length (c .measure); choices = length (c .choices) } = cc in
@@ -140,25 +140,25 @@ module _ (I : Call) where
             );
       }
 
-  by-candidate : (W : Lent) (c : Candidate) → Fine W₀ B₀ P W c → (o : Outputs) (b : Bool) → judgedBy I W c b .answer ≡ Typing o → Explained (judgedBy I W c b) o
+  by-candidate : (W : Lent) (c : Candidate) → Fine W₀ B₀ P W c → (o : Outputs) (b : Bool) → judgedBy I W c b .answer ≡ Typing o → Explained I (judgedBy I W c b) o
   by-candidate W c f o true e = no-confusion cc
   by-candidate W c f o false e = explained W c f o e
 
-  by-best : (W : Lent) (b : Option Candidate) → FineBest W₀ B₀ P W b → (o : Outputs) → judged I W b .answer ≡ Typing o → Explained (judged I W b) o
+  by-best : (W : Lent) (b : Option Candidate) → FineBest W₀ B₀ P W b → (o : Outputs) → judged I W b .answer ≡ Typing o → Explained I (judged I W b) o
   unfolding FineBest
   by-best W none f o e = no-confusion cc
   by-best W (some c) f o e = by-candidate W c f o (c .duplicate) e
 
-  by-verdict : (O : Out (Unit {0})) → Leaves W₀ B₀ P (Unit {0}) W₀ O → (o : Outputs) → verdict I O .answer ≡ Typing o → Explained (verdict I O) o
+  by-verdict : (O : Out (Unit {0})) → Leaves W₀ B₀ P (Unit {0}) W₀ O → (o : Outputs) → verdict I O .answer ≡ Typing o → Explained I (verdict I O) o
   unfolding Leaves
   by-verdict (found w) l o e = by-best (w .lent) (w .best) (l .best) o e
   by-verdict (missed w) l o e = by-best (w .lent) (w .best) (l .best) o e
   by-verdict (ended d W) l o e = no-confusion cc
 
   -- Every typing is explained: no premise but code 0.
-  pub every-typing-is-explained : (o : Outputs) → solveEntry I .answer ≡ Typing o → Explained (solveEntry I) o
+  pub every-typing-is-explained : (o : Outputs) → solveEntry I .answer ≡ Typing o → Explained I (solveEntry I) o
   every-typing-is-explained o =
-      refused-or-searched I (λ L. L .answer ≡ Typing o → Explained L o) (λ c l e. no-confusion cc)
+      refused-or-searched I (λ L. L .answer ≡ Typing o → Explained I L o) (λ c l e. no-confusion cc)
       (λ A. by-verdict (searched (Unit {0}) nothingMet tt I) (search-leaves A (Unit {0}) nothingMet tt) o)
 
   -- Demand 3.

@@ -16,13 +16,10 @@ use Rattle.inference.specs.SolveChecks.{Call, solveChecks}
 use Rattle.inference.specs.SolveEntry.{SolveLeft, problemOf, lentOf, solveEntry, sortsOut, choicesOut}
 use Rattle.inference.specs.Typing.{HoldsTogether}
 use Rattle.inference.proofs.Together.{Explained, every-typing-is-explained, typing-holds-together}
-use Rattle.inference.proofs.NoConstraints.{no-constraints-is-a-typing}
+use Rattle.inference.proofs.NoConstraints.{TypingOr15, no-constraints-is-a-typing}
 use Rattle.solve_checks.specs.declared.Given.{Given}
 use Rattle.solve_checks.specs.Call.{callOf}
 use Rattle.solve_outputs.specs.Finish.{solveLeft}
-
-abbrev pub TypingOr15 : Solved → Type 0
-TypingOr15 r = ((o : Outputs) × (r ≡ Typing o)) ⊎ (r ≡ NoRoom 15)
 
 -- what the entry is given, and what it answers and leaves
 module _ (g : Given) (ws ns bs xs ks cs os ss sc ts ms hs : List ℕ) (r : Solved) (ws′ ns′ bs′ sc′ ts′ ms′ hs′ : List ℕ)

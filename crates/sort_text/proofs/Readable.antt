@@ -5,13 +5,9 @@ use mathlib.Core.Bool.{Bool, true, false, not, _&&_, and-eq-true-iff}
 use Prim.Native.Nat.{ℕ, _+_}
 use lib.Dec.{leb}
 use Rattle.resolved_sort.specs.Tree.{Tree, flat, container, function, Trees, no-args, arg, arity}
+use Rattle.resolved_sort.proofs.Materializable.{isFunction}
 use Rattle.sort_text.specs.Text.{nonempty, flatWritable, writable, writables}
 use Rattle.resolved_sort.specs.Storage.{maxArguments}
-
-abbrev pub isFunction : Tree → Bool
-isFunction (flat a) = false
-isFunction (container o t) = false
-isFunction (function ts r) = true
 
 unfoldable mutual
   pub readable : Tree → Bool

@@ -10,7 +10,8 @@ use Rattle.resolved_sort.specs.Tree.{Flat, Tree, flat, container, function, Tre
 use Rattle.resolved_sort.specs.Order.{leLevel, boundFlat, boundOp, bound, bounds}
 use Rattle.sort_text.specs.Parse.{parsed, line}
 use Rattle.sort_text.specs.Text.{nonempty, flatWritable, writable, text}
-use Rattle.sort_text.proofs.Readable.{isFunction, readable, arguments, function-readable, readable-function, argument-readable, readable-argument, readable-parts}
+use Rattle.resolved_sort.proofs.Materializable.{isFunction}
+use Rattle.sort_text.proofs.Readable.{readable, arguments, function-readable, readable-function, argument-readable, readable-argument, readable-parts}
 use Rattle.sort_text.proofs.WhatIsRead.{line-readable}
 use Rattle.sort_text.proofs.RoundTrip.{line-of-text}
 use Rattle.sort_text.proofs.Length.{IfSome, map₁-if-some, map₂-if-some, any, if-some-is}

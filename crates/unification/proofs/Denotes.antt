@@ -22,27 +22,27 @@ module _ (shape shape′ : ℕ → Shape) where
     both-no : SameAnswer no-way no-way
     both-yes : (C C′ : Binds) → ((σ : ℕ → Term) → Respects shape C σ ↔ Respects shape′ C′ σ) → SameAnswer (yes-with C) (yes-with C′)
 
-  module _ (B : Binds) (l r : ℕ) (B′ : Binds) (l′ r′ : ℕ) where
-    same-solutions : SameProblem B l r B′ l′ r′ → (σ : ℕ → Term) → (Respects shape B σ × Equates shape σ l r) ↔ (Respects shape′ B′ σ × Equates shape′ σ l′ r′)
-    same-solutions s σ = (
-      λ h. (s .respects σ .0 (h .0), s .equates σ (h .0) .0 (h .1)),
-      λ h. let b = s .respects σ .1 (h .0) in (b, s .equates σ b .1 (h .1)),
-    )
+module _ (shape shape′ : ℕ → Shape) (B : Binds) (l r : ℕ) (B′ : Binds) (l′ r′ : ℕ) where
+  same-solutions : SameProblem shape shape′ B l r B′ l′ r′ → (σ : ℕ → Term) → (Respects shape B σ × Equates shape σ l r) ↔ (Respects shape′ B′ σ × Equates shape′ σ l′ r′)
+  same-solutions s σ = (
+    λ h. (s .respects σ .0 (h .0), s .equates σ (h .0) .0 (h .1)),
+    λ h. let b = s .respects σ .1 (h .0) in (b, s .equates σ b .1 (h .1)),
+  )
 
-    pub same-answer : SameProblem B l r B′ l′ r′ → (a a′ : Unifies) → Robinson shape B l r a → Robinson shape′ B′ l′ r′ a′ → SameAnswer a a′
-    same-answer s _ _ (says-no n) (says-no n′) = both-no
-    same-answer s _ _ (says-no n) (says-yes C′ to′ from′ a′ ex′) =
-        let h = same-solutions s (ex′ var .0) .1 (to′ (ex′ var .0) (ex′ var .1 .0)) in
-        absurd (n (ex′ var .0) (h .0) (h .1))
-    same-answer s _ _ (says-yes C to from a ex) (says-no n′) =
-        let h = same-solutions s (ex var .0) .0 (to (ex var .0) (ex var .1 .0)) in
-        absurd (n′ (ex var .0) (h .0) (h .1))
-    same-answer s _ _ (says-yes C to from a ex) (says-yes C′ to′ from′ a′ ex′) =
-        both-yes C C′
-        (λ σ. (
-          λ t. let h = same-solutions s σ .0 (to σ t) in from′ σ (h .0) (h .1),
-          λ t. let h = same-solutions s σ .1 (to′ σ t) in from σ (h .0) (h .1),
-        ))
+  pub same-answer : SameProblem shape shape′ B l r B′ l′ r′ → (a a′ : Unifies) → Robinson shape B l r a → Robinson shape′ B′ l′ r′ a′ → SameAnswer shape shape′ a a′
+  same-answer s _ _ (says-no n) (says-no n′) = both-no
+  same-answer s _ _ (says-no n) (says-yes C′ to′ from′ a′ ex′) =
+      let h = same-solutions s (ex′ var .0) .1 (to′ (ex′ var .0) (ex′ var .1 .0)) in
+      absurd (n (ex′ var .0) (h .0) (h .1))
+  same-answer s _ _ (says-yes C to from a ex) (says-no n′) =
+      let h = same-solutions s (ex var .0) .0 (to (ex var .0) (ex var .1 .0)) in
+      absurd (n′ (ex var .0) (h .0) (h .1))
+  same-answer s _ _ (says-yes C to from a ex) (says-yes C′ to′ from′ a′ ex′) =
+      both-yes C C′
+      (λ σ. (
+        λ t. let h = same-solutions s σ .0 (to σ t) in from′ σ (h .0) (h .1),
+        λ t. let h = same-solutions s σ .1 (to′ σ t) in from σ (h .0) (h .1),
+      ))
 
 -- The same for two calls of unify, each on lists and bindings that passed their checks.
 module _

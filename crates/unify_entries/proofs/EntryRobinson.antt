@@ -61,7 +61,8 @@ module _ (ws : List ℕ) (n e : ℕ) (ns : List ℕ) (m d : ℕ) (bs : List ℕ)
   LeftSays vs No = LeftNo vs
   LeftSays vs Yes = LeftYes vs
 
-  module _ (f : failing ≡ none) where
+module _ (ws : List ℕ) (n e : ℕ) (ns : List ℕ) (m d : ℕ) (bs : List ℕ) (v l r : ℕ) where
+  module _ (f : failing ws n e ns m d bs v l r ≡ none) where
     abbrev shape : ℕ → Shape
     shape = shapeAt (listsOf ws n ns m)
 
@@ -118,19 +119,19 @@ module _ (ws : List ℕ) (n e : ℕ) (ns : List ℕ) (m d : ℕ) (bs : List ℕ)
       unfolding unifyChecks nodeChecks bindingsWithinLent
       same-checks = rw (held, as-long, fine, settled, chain ws n e ns m d bs v l r f .6, chain ws n e ns m d bs v l r f .7)
 
-      left-yes : LeftYes words
+      left-yes : LeftYes ws n e ns m d bs v l r words
       left-yes = record { passed = f; solved = rw held solved-by; long = as-long; past = rest; again = ap firstFailing same-checks ∙ f }
 
-    by-answer : (a : Unifies) → unify shape B l r ≡ a → Robinson shape B l r a → (vs : List ℕ) (u : Unified) → bindsLeft vs u ≡ bindsLeftBy bs v a → LeftSays vs u
+    by-answer : (a : Unifies) → unify shape B l r ≡ a → Robinson shape B l r a → (vs : List ℕ) (u : Unified) → bindsLeft vs u ≡ bindsLeftBy bs v a → LeftSays ws n e ns m d bs v l r vs u
     unfolding bindsLeftBy
-    by-answer (yes-with C) y x vs u w = subst (λ (z : BindsLeft). LeftSays (z .words) (z .answer)) (sym w) (left-yes C y)
-    by-answer no-way y (says-no h) vs u w = subst (λ (z : BindsLeft). LeftSays (z .words) (z .answer)) (sym w) (record { passed = f; given = refl; no-solution = h })
+    by-answer (yes-with C) y x vs u w = subst (λ (z : BindsLeft). LeftSays ws n e ns m d bs v l r (z .words) (z .answer)) (sym w) (left-yes C y)
+    by-answer no-way y (says-no h) vs u w = subst (λ (z : BindsLeft). LeftSays ws n e ns m d bs v l r (z .words) (z .answer)) (sym w) (record { passed = f; given = refl; no-solution = h })
 
   -- Whatever lists, bindings and places the entry is given: what its answer and the words that it leaves say.
-  pub entry-is-robinson : (vs : List ℕ) (u : Unified) → bindsLeft vs u ≡ unifyEntry ws n e ns m d bs v l r → LeftSays vs u
+  pub entry-is-robinson : (vs : List ℕ) (u : Unified) → bindsLeft vs u ≡ unifyEntry ws n e ns m d bs v l r → LeftSays ws n e ns m d bs v l r vs u
   unfolding unifyEntry
-  entry-is-robinson vs u w = go failing refl w
+  entry-is-robinson vs u w = go (failing ws n e ns m d bs v l r) refl w
     where
-      go : (o : Option ℕ) → failing ≡ o → bindsLeft vs u ≡ refusedOr o (λ c. bindsLeft bs (Refused c)) (bindsLeftBy bs v (unify (shapeAt (listsOf ws n ns m)) (bindsOf bs v) l r)) → LeftSays vs u
+      go : (o : Option ℕ) → failing ws n e ns m d bs v l r ≡ o → bindsLeft vs u ≡ refusedOr o (λ c. bindsLeft bs (Refused c)) (bindsLeftBy bs v (unify (shapeAt (listsOf ws n ns m)) (bindsOf bs v) l r)) → LeftSays ws n e ns m d bs v l r vs u
       go none f w = by-answer f (unify (shapeAt (listsOf ws n ns m)) (bindsOf bs v) l r) refl (is-robinson f) vs u w
-      go (some c) f w = subst (λ (z : BindsLeft). LeftSays (z .words) (z .answer)) (sym w) (record { first = f; given = refl })
+      go (some c) f w = subst (λ (z : BindsLeft). LeftSays ws n e ns m d bs v l r (z .words) (z .answer)) (sym w) (record { first = f; given = refl })
