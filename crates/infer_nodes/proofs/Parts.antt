@@ -20,7 +20,8 @@ use Rattle.unification.specs.declared.Lengths.{Lengths}
 use Rattle.unification.specs.declared.InferSort.the-variants.{Function}
 use Rattle.unification.specs.declared.SortVar.{SortVar}
 use Rattle.unification.specs.declared.VarAt.the-variants.{Is, Nothing}
-use Rattle.unification.specs.Term.{Head, Shape, variable, over, headOf, partsOf, kindHead, numberHead, sameHead}
+use Rattle.unification.specs.Term.{Head, Shape, variable, over, kindHead, numberHead, sameHead}
+use Rattle.unification.specs.Inner.Term.{headOf, partsOf}
 use Rattle.unification.specs.Nodes.{nodeKindAt, nodePartAt, nodeStartAt, nodeCountAt, nodeEntryAt, nodeEntriesOf, inferred, nodeAt, sortShape, nodeShape}
 use Rattle.unification.specs.NodeChecks.{nodeKindFine, nodePartsFine, nodeFine}
 use Rattle.unification.specs.Checked.{graphOf, Placed}
@@ -28,7 +29,7 @@ use Rattle.unification.proofs.Parts.{Runs, sort-runs, node-runs, run-length}
 use Rattle.unification.proofs.Places.{sort-below, node-below}
 use Rattle.unification.proofs.Rows.{node-function-fine, sort-no-variable, node-fine-parts}
 use Rattle.unification.proofs.Lists.{sort-fine, node-fine}
-use Rattle.infer_nodes.specs.Parts.{NodesReady, varAt, numberIn, countIn, partIn, SmallCount}
+use Rattle.infer_nodes.specs.Inner.Parts.{NodesReady, varAt, numberIn, countIn, partIn, SmallCount}
 use Rattle.infer_nodes.proofs.Shapes.{at-sort, at-node}
 
 -- the functions on a row of words

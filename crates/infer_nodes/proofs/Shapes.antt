@@ -15,7 +15,7 @@ use Rattle.unification.specs.NodeChecks.{nodePartsFine}
 use Rattle.unification.specs.Checked.{graphOf, Placed}
 use Rattle.unification.proofs.Lists.{scoped, node-parts-fine}
 use Rattle.unification.proofs.Places.{node-below}
-use Rattle.infer_nodes.specs.Parts.{NodesReady}
+use Rattle.infer_nodes.specs.Inner.Parts.{NodesReady}
 
 module _ (ws ns : List ℕ) (k : Lengths) (q : NodesReady ws ns k) where
   abbrev shape : ℕ → Shape

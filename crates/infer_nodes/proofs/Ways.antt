@@ -33,7 +33,7 @@ use Rattle.unification.proofs.Follow.{follow-holds, follow-end, follow-names}
 use Rattle.unification.proofs.Theorem.{ready-ranked}
 use Rattle.unification.proofs.Enough.{follow-eq, occurs-eq, end-no-higher}
 use Rattle.unification.proofs.Lists.{sort-parts-fine}
-use Rattle.infer_nodes.specs.Bound.{boundTo, RunPlaced}
+use Rattle.infer_nodes.specs.Inner.Bound.{boundTo, RunPlaced}
 use Rattle.infer_nodes.proofs.Shapes.{at-sort, shape-of-node, parts-fine, shape-of-variable, variable-in-list}
 
 abbrev ops : List ComplexSort

@@ -1,3 +1,2 @@
 -- What the contracts of this crate cite beside the definitions of the unifier.
-pub mod Bound
-pub mod Parts
+pub mod Inner

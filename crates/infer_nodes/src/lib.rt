@@ -21,14 +21,14 @@ ghost use mathlib.Core.Path.{_≡_};
 ghost use mathlib.Core.Option.{some};
 ghost use Prim.Native.Nat.{_+_, _*_, _<_, _≤_};
 ghost use lib.ListN.{length, getD};
-ghost use Rattle.unification.specs.Term.{headOf, partsOf, kindHead, numberHead, sameHead};
-ghost use Rattle.unification.specs.Nodes.{nodeEntriesAt, opOfKind, nodeAt, nodeEntryAt, nodeEntriesOf};
-ghost use Rattle.unification.specs.Nodes.{bindingOf, bindsOf};
+ghost use Rattle.unification.specs.Inner.Term.{headOf, partsOf};
+ghost use Rattle.unification.specs.Term.{kindHead, numberHead, sameHead};
+ghost use Rattle.unification.specs.Nodes.{nodeEntriesAt, opOfKind, nodeAt, nodeEntryAt, nodeEntriesOf, bindingOf, bindsOf};
 ghost use Rattle.unification.specs.Unify.{ofTest, follow, occursAny, occurs as occursIn, deep};
 ghost use Rattle.unification.specs.Checked.{graphOf, Ready, Placed};
 ghost use Rattle.unification.specs.Resolve.{withCounts};
-ghost use Rattle.infer_nodes.specs.Bound.{boundTo, RunPlaced};
-ghost use Rattle.infer_nodes.specs.Parts.{NodesReady, varAt, numberIn, countIn, partIn, SmallCount};
+ghost use Rattle.infer_nodes.specs.Inner.Bound.{boundTo, RunPlaced};
+ghost use Rattle.infer_nodes.specs.Inner.Parts.{NodesReady, varAt, numberIn, countIn, partIn, SmallCount};
 
 // The sorts in use, and the lengths with other sorts in use.
 pub fn counts_of(lengths: Lengths) -> Counts

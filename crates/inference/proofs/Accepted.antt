@@ -11,22 +11,18 @@ use lib.Dec.{leb, ltb}
 use lib.ListN.{length, getD, take, drop}
 use borrow.Author.Tests.{ltb-true, leb-true}
 use Rattle.resolved_sort.specs.declared.Run.{Run}
-use Rattle.resolved_sort.specs.declared.SortId.{SortId}
 use Rattle.resolved_sort.specs.Checks.{Check, firstFailing, withinLent, fixedSix, rowsFine, noTwoEqual, atCeiling}
 use Rattle.resolved_sort.specs.Entries.{refusedOr}
 use Rattle.resolved_sort.proofs.Below.{below-each}
 use Rattle.resolved_sort.proofs.Reached.{no-confusion}
 use Rattle.resolved_sort.proofs.FirstFailing.{cons-passes}
-use Rattle.unification.specs.declared.InferSortId.{InferSortId}
 use Rattle.unification.specs.Nodes.{fullNodes, bindsOf}
 use Rattle.unification.specs.Acyclic.{acyclic}
 use Rattle.unification.specs.NodeChecks.{nodesWithinLent, bindingsWithinLent, nodesFine, bindingsFine, nodeChecks}
 use Rattle.unification.specs.Checked.{Ready}
 use Rattle.unification.specs.Making.{Lent}
-use Rattle.unification.proofs.Grows.{PlacedIn}
+use Rattle.unification.specs.Growing.{PlacedIn}
 use Rattle.unification.proofs.Passed.{passed-ready}
-use Rattle.inference.specs.declared.ExprId.{ExprId}
-use Rattle.inference.specs.declared.LitKind.{LitKind}
 use Rattle.inference.specs.declared.Overload.{Overload}
 use Rattle.inference.specs.declared.Constraint.{Constraint}
 use Rattle.inference.specs.declared.Constraint.the-variants.{Sub, Lit, Disjunction, Comprehension, Join}
@@ -36,6 +32,7 @@ use Rattle.inference.specs.SolveChecks.{Call, placed, given, disjunction
 use Rattle.inference.specs.SolveEntry.{problemOf, lentOf, SolveLeft, searched, refused, verdict, nothingMet, solveEntry}
 use Rattle.inference.specs.Typing.{All}
 use Rattle.inference.proofs.Members.{length-rows, all-rows, row-at, all-rows-at, run-at}
+use Rattle.inference.specs.Inner.Listed.{Listed, sub-listed, lit-listed, disjunction-listed, comprehension-listed, join-listed}
 
 -- a refusal is the code of a check, and these are not 0
 abbrev above0 : List Check → Bool
@@ -53,17 +50,6 @@ refusal-above-0 (d ∷ cs) a n e = go (d .passes) e (refusal-above-0 cs (both .1
     go : (b : Bool) → cond b (firstFailing cs) (some (d .code)) ≡ some n → (firstFailing cs ≡ some n → 0 < n) → 0 < n
     go true e h = h e
     go false e h = let z : d .code ≡ n = cc in omega (arith, ltb-true 0 (d .code) (both .0), z)
-
--- A constraint whose places and sorts are those of the lists W.
-pub data Listed (W : Lent) (P : Problem) : Constraint → Type 0 where
-  sub-listed : (l r : InferSortId) → PlacedIn W (l .0) → PlacedIn W (r .0) → Listed W P (Sub l r)
-  lit-listed : (p : InferSortId) (kind : LitKind) → PlacedIn W (p .0) → Listed W P (Lit p kind)
-  disjunction-listed : (x : ExprId) (p : InferSortId) (run : Run) → PlacedIn W (p .0) → run .start + run .count ≤ length (P .overloads)
-      → ((i : ℕ) → i < run .count → PlacedIn W (overloadIn (P .overloads) run i .sort .0)) → Listed W P (Disjunction x p run)
-  comprehension-listed : (body node : InferSortId) (element : SortId) → PlacedIn W (body .0) → PlacedIn W (node .0) → element .0 < W .lengths .sorts
-      → Listed W P (Comprehension body node element)
-  join-listed : (run : Run) (t : InferSortId) → PlacedIn W (t .0) → run .start + run .count ≤ length (P .sources)
-      → All (PlacedIn W) (take (run .count) (drop (run .start) (P .sources))) → Listed W P (Join run t)
 
 module _ (I : Call) where
   abbrev W : Lent

@@ -22,13 +22,14 @@ use Rattle.unification.specs.Term.{flatHead, Shape, over, termOf}
 use Rattle.unification.specs.Nodes.{Binds}
 use Rattle.unification.specs.Unify.{follow, deep}
 use Rattle.unification.specs.Making.{Lent, graph, internContainer}
-use Rattle.unification.proofs.Exact.{shapeVal}
+use Rattle.unification.specs.Exact.{shapeVal}
 use Rattle.unification.proofs.Rows.{ShapeFormed, variable-formed, flat-formed, container-formed, function-formed}
 use Rattle.unification.proofs.Follow.{follow-names}
-use Rattle.unification.proofs.Grows.{CheckedLent, PlacedIn, placed-grown}
+use Rattle.unification.specs.Growing.{CheckedLent, PlacedIn, termIn}
+use Rattle.unification.proofs.Grows.{placed-grown}
 use Rattle.unification.proofs.BindsGrow.{binds-name-places}
 use Rattle.unification.proofs.MakingGrows.{IsSort}
-use Rattle.unification.proofs.PlaceTerms.{termIn, placed-formed, sort-placed, term-by-shape, term-at-end, sort-term, primitive-placed, primitive-term}
+use Rattle.unification.proofs.PlaceTerms.{placed-formed, sort-placed, term-by-shape, term-at-end, sort-term, primitive-placed, primitive-term}
 use Rattle.unification.proofs.Assignments.{place-has-a-sort}
 use Rattle.inference.specs.declared.ExprId.{ExprId}
 use Rattle.inference.specs.declared.LitKind.{LitKind}

@@ -25,7 +25,8 @@ use Rattle.unification.specs.Unify.{Unifies, yes-with, no-way, too-deep, deep, 
 use Rattle.unification.specs.Related.{each}
 use Rattle.unification.specs.Resolve.{value, termResolved}
 use Rattle.unification.specs.Making.{Lent, graph, Makes, made, no-list, no-room, withNodesOf, internContainer, strictRelated}
-use Rattle.unification.proofs.BoundStays.{Extends, extends-refl, extends-trans, unify-extends}
+use Rattle.unification.specs.Growing.{Extends}
+use Rattle.unification.proofs.BoundStays.{extends-refl, extends-trans, unify-extends}
 use Rattle.unification.proofs.Outcomes.{Each, Any, each-then, each-container}
 use Rattle.unification.proofs.Room.{no-room-is-15-or-16}
 use Rattle.unification.proofs.StandsAlike.{length-each}

@@ -25,14 +25,16 @@ use Rattle.inference.specs.declared.Constraint.the-variants.{Sub, Lit, D
 use Rattle.inference.specs.Constraints.{BaseName, Problem}
 use Rattle.inference.specs.Measure.{Components}
 use Rattle.inference.specs.Search.{Choice, Path, Candidate, World, Out, found, missed, ended, lending, leaf, solve}
-use Rattle.inference.specs.Names.{runFor, overloadIn, targetIn, chosenName, baseName, nameOf}
+use Rattle.inference.specs.Names.{runFor, targetIn, chosenName, baseName, nameOf}
 use Rattle.inference.specs.Typing.{All, none-left, and-all, In, here, there}
 use Rattle.inference.specs.SolveChecks.{Call, given, disjunctionFor, disjunctions, among, noTwo, componentsOf, components}
-use Rattle.inference.specs.SolveEntry.{problemOf, baseNamesOf, startPath, lentOf, searched, SolveLeft, writtenOver, countsIn, typed, judgedBy, judged, verdict, nothingMet, solveEntry, codeSolved, choicesOut}
+use Rattle.inference.specs.SolveEntry.{problemOf, baseNamesOf, startPath, lentOf, searched, SolveLeft, countsIn, typed, judgedBy, judged, verdict, nothingMet, solveEntry, codeSolved, choicesOut}
 use Rattle.inference.proofs.Members.{not-in-nothing, in-cases, first-in, in-right}
 use Rattle.inference.proofs.HandedOut.{choices-read}
-use Rattle.inference.proofs.Accepted.{Listed, sub-listed, lit-listed, disjunction-listed, comprehension-listed, join-listed, Accepted, refused-or-searched}
+use Rattle.inference.specs.Inner.Listed.{Listed, sub-listed, lit-listed, disjunction-listed, comprehension-listed, join-listed}
+use Rattle.inference.proofs.Accepted.{Accepted, refused-or-searched}
 use Rattle.inference.proofs.Branches.{newcomer, NoChoice, Chooses, Choosing, none-to-choose, and-chooses, widthOf, width, Goes, leaf-goes, search-goes}
+use Rattle.inference.specs.Named.{exprOf, choice, ChosenFor, Named}
 
 -- a candidate with the components and choices of the constraints
 pub record Fits (P : Problem) (cs : List Constraint) (c : Candidate) : Type 0 where
@@ -85,9 +87,6 @@ unfolding width components
 width-is-components W P _ none-left = refl
 width-is-components W P _ (and-all c cs f a) = ap₂ _+_ (width-of-one W P c f) (width-is-components W P cs a)
 
-abbrev pub exprOf : Choice → ℕ
-exprOf k = k .expr
-
 -- one choice for each disjunction, in the order of the constraints
 pub choices-in-order : (cs : List Constraint) (ks : List Choice) → Choosing cs ks → map exprOf ks ≡ disjunctions cs
 unfolding disjunctions Chooses
@@ -103,10 +102,6 @@ choices-in-order _ _ (and-chooses c cs ks ls x y) = go c x (choices-in-order cs 
     go (Disjunction e p run) x h = ap (λ js. map exprOf (js ++ ls)) (x .2) ∙ ap (λ xs. e .0 ∷ xs) h
     go (Comprehension body node element) x h = nothing x h
     go (Join run t) x h = nothing x h
-
--- the overload at position i, for the expression x
-abbrev pub choice : ℕ → ℕ → Choice
-choice x i = record { expr = x; position = i }
 
 -- its position below its run's count
 pub disjunction-has-choice : (x : ExprId) (p : InferSortId) (run : Run) (cs : List Constraint) (ks : List Choice) → Choosing cs ks → In (Disjunction x p run) cs
@@ -219,14 +214,6 @@ unfolding chosenName
 not-chosen P x [] a = refl
 not-chosen P x (k ∷ ks) a = let q = not-among x (k .expr) (map exprOf ks) a in rw (ne-eqb (k .expr) x (λ e. q .0 (sym e))) (not-chosen P x ks (q .1))
 
--- The choice of a disjunction, and the name it gives.
-pub record ChosenFor (P : Problem) (bs : List BaseName) (ks : List Choice) (x : ExprId) (run : Run) : Type 0 where
-  pub position : ℕ
-  pub below : position < run .count
-  pub among-choices : In (choice (x .0) position) ks
-  pub only : (j : ℕ) → In (choice (x .0) j) ks → j ≡ position
-  pub name : nameOf P bs ks (x .0) ≡ some (overloadIn (P .overloads) run position .target)
-
 module _ (P : Problem) (bs : List BaseName) (ks : List Choice) (choosing : Choosing (P .constraints) ks) (n : noTwo (disjunctions (P .constraints)) ≡ true) where
   pub disjunction-named : (x : ExprId) (p : InferSortId) (run : Run) → In (Disjunction x p run) (P .constraints) → ChosenFor P bs ks x run
   unfolding nameOf
@@ -278,19 +265,6 @@ code-0-typed I =
     let w : World (Unit {0}) = record { lent = lentOf I; best = none; met = tt } in
     refused-or-searched I (λ left. codeSolved (left .answer) ≡ 0 → IsTyping I left) (λ c l q. absurd (omega (arith, l, q)))
     (λ A. searched-typed I A w tt (searched (Unit {0}) nothingMet tt I) (search-fits (Unit {0}) nothingMet (problemOf I) (given I) (startPath I .binds) w))
-
--- Measure and choices as handed out, ks being the choices: how many components and choices there are; the choices in the order of the constraints, one for
--- each disjunction; and the names that they give.
-pub record Named (I : Call) (left : SolveLeft) (o : Outputs) (ks : List Choice) : Type 0 where
-  pub measure : Components
-  pub measure-handed-out : left .measure ≡ writtenOver measure (I .measure)
-  pub handed-out : o .components ≡ length measure
-  pub component-count : length measure ≡ components (given I)
-  pub choice-count : o .choices ≡ length ks
-  pub in-order : map exprOf ks ≡ disjunctions (given I)
-  pub once : (x i j : ℕ) → In (choice x i) ks → In (choice x j) ks → i ≡ j
-  pub chosen : (x : ExprId) (p : InferSortId) (run : Run) → In (Disjunction x p run) (given I) → ChosenFor (problemOf I) (baseNamesOf I) ks x run
-  pub others : (x : ℕ) → among x (disjunctions (given I)) ≡ false → nameOf (problemOf I) (baseNamesOf I) ks x ≡ baseName (baseNamesOf I) x
 
 pub names-and-choices : (I : Call) (o : Outputs) → solveEntry I .answer ≡ Typing o → Named I (solveEntry I) o (choicesOut (solveEntry I) o)
 unfolding codeSolved

@@ -22,14 +22,7 @@ use Rattle.inference.specs.declared.Constraint.the-variants.{Sub, Lit, D
 use Rattle.inference.specs.Constraints.{Problem}
 use Rattle.inference.specs.Search.{Choice}
 use Rattle.inference.specs.Names.{overloadIn}
-use Rattle.inference.specs.Typing.{Assignment, Has, admits, All, and-all, In, here, there, ReadAs, Into, Typed, and-typed, Meets, meets-sub, meets-lit, meets-disjunction, meets-comprehension, meets-join}
-
--- the sorts of numbers
-pub data Number : Tree → Type 0 where
-  is-pos : Number (flat (primitive Sort.Pos))
-  is-nat : Number (flat (primitive Sort.Nat))
-  is-int : Number (flat (primitive Sort.Int))
-  is-real : Number (flat (primitive Sort.Real))
+use Rattle.inference.specs.Typing.{Assignment, Has, admits, All, and-all, In, here, there, ReadAs, Into, Typed, and-typed, Meets, meets-sub, meets-lit, meets-disjunction, meets-comprehension, meets-join, Number, is-pos, is-nat, is-int, is-real}
 
 admitted-is-a-number : (kind : LitKind) (s : Sort) → admits kind s ≡ true → Number (flat (primitive s))
 admitted-is-a-number Positive Sort.Bool a = no-confusion cc

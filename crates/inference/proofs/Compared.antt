@@ -9,7 +9,7 @@ use Rattle.inference.specs.declared.Solved.{Solved}
 use Rattle.inference.specs.declared.Solved.the-variants.{Refused, NoRoom, NoTyping, Ambiguous, Typing}
 use Rattle.inference.specs.Search.{Choice}
 use Rattle.inference.specs.SolveEntry.{SolveLeft, codeSolved, measureOut, choicesOut}
-use Rattle.inference.proofs.Situations.{Given, solved, row, sub, lit, disjunction, comprehension, join}
+use Rattle.inference.specs.Situations.{Given, solved, row, sub, lit, disjunction, comprehension, join}
 
 given : List ℕ → List ℕ → List ℕ → List ℕ → List ℕ → List ℕ → List ℕ → List ℕ → List ℕ → List ℕ → ℕ → Given
 given sorts entries nodes arguments binds exprs names constraints overloads sources default =

@@ -22,6 +22,7 @@ use Rattle.inference.specs.Measure.{Components, Ranking, smaller, equal,
 use Rattle.inference.specs.Search.{resolveAll, joinOf, Path, Candidate, withBinds, withComponents, withChoice, Try, widerTries, narrowerTries, litComponent, litTries, Reading, readings, World, Out, found, missed, ended, lending, elseTry, andAlso, says, onYes, unifying, onMade, nodesReturned, firstFound, narrower, wider, widening, atSort, literalAt, literalEnd, literal, everyReading, everyOverload, sequence, joining, step, keeping, replace, markedTied, leafBy, leafOver, leaf, dominatedBy, unlessDominated, solve}
 use Rattle.inference.specs.SolveChecks.{Call, given}
 use Rattle.inference.specs.SolveEntry.{problemOf, startPath, lentOf, searched, verdict, nothingMet}
+use Rattle.inference.specs.Leaves.{history}
 
 module _ {Met Met′ : Type 0} (f : Met → Met′) where
   abbrev pub mapWorld : World Met → World Met′
@@ -214,10 +215,6 @@ pub verdict-forgets : {Met Met′ : Type 0} (f : Met → Met′) (I : Call) (o :
 verdict-forgets f I (found w) = refl
 verdict-forgets f I (missed w) = refl
 verdict-forgets f I (ended c W) = refl
-
--- the measures of all leaves met, the last first
-abbrev pub history : Call → Out (List Components)
-history I = searched (List Components) _∷_ [] I
 
 pub history-has-the-verdict : (I : Call) → verdict I (history I) ≡ verdict I (searched (Unit {0}) nothingMet tt I)
 history-has-the-verdict I =

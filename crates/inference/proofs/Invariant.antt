@@ -16,8 +16,9 @@ use Rattle.unification.specs.Nodes.{Binds}
 use Rattle.unification.specs.Unify.{Unifies, yes-with, no-way, too-deep, unify}
 use Rattle.unification.specs.Solutions.{Respects, Equates}
 use Rattle.unification.specs.Making.{Lent, graph, withNodesOf}
-use Rattle.unification.proofs.Grows.{CheckedLent, PlacedIn, Grows, grows-refl, grows-trans, given-back-grows, placed-grown, term-grown, respects-grown}
-use Rattle.unification.proofs.BindsGrow.{CheckedBinds, binds-name-places, checked-binds-grown}
+use Rattle.unification.specs.Growing.{CheckedLent, PlacedIn, Grows, CheckedBinds}
+use Rattle.unification.proofs.Grows.{grows-refl, grows-trans, given-back-grows, placed-grown, term-grown, respects-grown}
+use Rattle.unification.proofs.BindsGrow.{binds-name-places, checked-binds-grown}
 use Rattle.unification.proofs.Answers.{Agreeing, yes-agrees}
 use Rattle.inference.specs.declared.Constraint.{Constraint}
 use Rattle.inference.specs.Constraints.{Problem}
@@ -25,6 +26,7 @@ use Rattle.inference.specs.Measure.{Components}
 use Rattle.inference.specs.Search.{Choice, Path, Candidate, World, Out, found, missed, ended, lending, elseTry, andAlso, says, onYes, unifying, nodesReturned, sortIn}
 use Rattle.inference.specs.Typing.{Assignment, Has, All, none-left, and-all, Typed, all-typed, and-typed}
 use Rattle.inference.specs.Components.{Costing}
+use Rattle.inference.specs.Inner.Listed.{SortsOnly}
 
 -- what is claimed of the choices on a branch, an assignment and the measure
 abbrev pub Claim : Type 1
@@ -33,12 +35,6 @@ Claim = List Choice → Assignment → Components → Type 0
 -- an assignment as terms
 abbrev pub terms : Assignment → ℕ → Term
 terms ρ v = termOf (ρ v)
-
--- the lists have grown by sorts only
-pub record SortsOnly (W W′ : Lent) : Type 0 where
-  pub grows : Grows W W′
-  pub nodes : W′ .lengths .nodes ≡ W .lengths .nodes
-  pub arguments : W′ .lengths .arguments ≡ W .lengths .arguments
 
 pub sorts-only-refl : (W : Lent) → CheckedLent W → SortsOnly W W
 sorts-only-refl W c = record { grows = grows-refl W c; nodes = refl; arguments = refl }

@@ -10,7 +10,8 @@ use Rattle.unification.specs.Nodes.{Binds}
 use Rattle.unification.specs.Related.{each}
 use Rattle.unification.specs.Solutions.{Respects}
 use Rattle.unification.specs.Making.{Lent, graph}
-use Rattle.unification.proofs.Grows.{CheckedLent, PlacedIn, Grows, placed-grown, respects-grown}
+use Rattle.unification.specs.Growing.{CheckedLent, PlacedIn, Grows}
+use Rattle.unification.proofs.Grows.{placed-grown, respects-grown}
 use Rattle.unification.proofs.BindsGrow.{binds-name-places}
 use Rattle.unification.proofs.PlaceTerms.{sort-placed, sort-term}
 use Rattle.inference.specs.Constraints.{Problem}

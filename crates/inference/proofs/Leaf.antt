@@ -10,7 +10,7 @@ use Rattle.unification.specs.Term.{termOf}
 use Rattle.unification.specs.Nodes.{Binds, binding}
 use Rattle.unification.specs.Solutions.{Respects}
 use Rattle.unification.specs.Making.{Lent, graph}
-use Rattle.unification.proofs.Grows.{CheckedLent, PlacedIn, Grows}
+use Rattle.unification.specs.Growing.{CheckedLent, PlacedIn, Grows}
 use Rattle.unification.proofs.Assignments.{sorts-extend}
 use Rattle.inference.specs.Constraints.{Problem}
 use Rattle.inference.specs.Measure.{Components, Ranking, smaller, equal, greater, compare}

@@ -5,38 +5,27 @@ use mathlib.Core.Path.{_≡_, refl, sym, ap, ap₂, subst, _∙_}
 use mathlib.Core.Bool.{Bool, true, false, _||_, or-comm}
 use mathlib.Core.List.{List, [], _∷_, _++_, append-assoc}
 use mathlib.Core.Option.{Option, none, some}
-use mathlib.Core.Logic.{inl, inr, _↔_}
-use Prim.Native.Nat.{ℕ, _+_, _<_}
+use mathlib.Core.Logic.{inl, inr}
+use Prim.Native.Nat.{_+_, _<_}
 use native.Mathlib.Omega.{arith}
 use lib.Dec.{ltb}
 use lib.ListN.{length}
 use borrow.Author.Tests.{ltb-true, ltb-false, lt-ltb}
 use Rattle.resolved_sort.specs.Checks.{firstFailing}
 use Rattle.unification.specs.Making.{Lent}
-use Rattle.inference.specs.declared.Outputs.{Outputs}
-use Rattle.inference.specs.declared.Solved.the-variants.{Typing}
 use Rattle.inference.specs.declared.Constraint.{Constraint}
 use Rattle.inference.specs.Constraints.{Problem}
-use Rattle.inference.specs.Measure.{Components, Ranking, smaller, equal, greater, compare}
+use Rattle.inference.specs.Measure.{Components, smaller, equal, greater, compare, AtMost}
 use Rattle.inference.specs.Search.{Path, Candidate, World, Out, found, missed, ended, lending, keeping, markedTied, leaf, solve}
 use Rattle.inference.specs.Typing.{All, none-left, and-all, In, here, there}
 use Rattle.inference.specs.SolveChecks.{Call, given, solveChecks}
-use Rattle.inference.specs.SolveEntry.{problemOf, startPath, lentOf, SolveLeft, writtenOver, countsIn, judgedBy, judged, verdict, solveEntry, codeSolved}
+use Rattle.inference.specs.SolveEntry.{problemOf, startPath, lentOf, writtenOver, countsIn, judgedBy, judged, verdict, solveEntry, codeSolved}
 use Rattle.inference.proofs.Accepted.{passed-is-searched}
 use Rattle.inference.proofs.Members.{not-in-nothing, in-all, all-weaker}
-use Rattle.inference.proofs.Measures.{compare-self, equal-are-one, AtMost, smaller-is-at-most, at-most-self, smaller-below, at-most-each-other-are-one, greater-mirrored}
-use Rattle.inference.proofs.Forgets.{history, history-has-the-verdict}
+use Rattle.inference.proofs.Measures.{compare-self, equal-are-one, smaller-is-at-most, at-most-self, smaller-below, at-most-each-other-are-one, greater-mirrored}
+use Rattle.inference.specs.Leaves.{history, once, times, Least, metOf, leavesMet, codeOf, ByLeaves}
+use Rattle.inference.proofs.Forgets.{history-has-the-verdict}
 use Rattle.inference.proofs.Branches.{newcomer, Goes, leaf-goes, search-goes}
-
--- how often a measure is among measures
-abbrev once : Ranking → ℕ
-once smaller = 0
-once equal = 1
-once greater = 0
-
-unfoldable pub times : Components → List Components → ℕ
-times m [] = 0
-times m (n ∷ ns) = once (compare m n) + times m ns
 
 among-counted : (m : Components) (ms : List Components) → In m ms → 0 < times m ms
 unfolding times
@@ -47,11 +36,6 @@ smaller-not-counted : (m : Components) (ms : List Components) → All (λ n. com
 unfolding times
 smaller-not-counted m _ none-left = refl
 smaller-not-counted m _ (and-all n ms e a) = rw e (omega (arith, smaller-not-counted m ms a))
-
--- the least of measures
-pub record Least (m : Components) (ms : List Components) : Type 0 where
-  pub among : In m ms
-  pub at-most : All (AtMost m) ms
 
 pub least-is-one : (m n : Components) (ms : List Components) → Least m ms → Least n ms → m ≡ n
 least-is-one m n ms a b = at-most-each-other-are-one m n (in-all (AtMost m) n ms (a .at-most) (b .among)) (in-all (AtMost n) m ms (b .at-most) (a .among))
@@ -161,33 +145,6 @@ module _ (P : Problem) where
   -- every branch of the search
   pub search-meets : (cs : List Constraint) (e : Path) (w : World Met) → Goes Went w (solve Met _∷_ P cs e w)
   search-meets cs e = search-goes Met _∷_ P Went stays after cs e (λ e′ a. leaf-meets e′)
-
--- the measures kept at the end of the search; where room ended the lists alone are left, and no law speaks of leaves
-abbrev pub metOf : Out (List Components) → List Components
-metOf (found w) = w .met
-metOf (missed w) = w .met
-metOf (ended c W) = []
-
--- the measures of the leaves that a call meets where it has room, the last first
-abbrev pub leavesMet : Call → List Components
-leavesMet I = metOf (history I)
-
-abbrev pub codeOf : SolveLeft → ℕ
-codeOf left = codeSolved (left .answer)
-
--- m is handed out as the measure
-pub record HandsOut (I : Call) (left : SolveLeft) (m : Components) : Type 0 where
-  pub outputs : Outputs
-  pub answer : left .answer ≡ Typing outputs
-  pub count : outputs .components ≡ length m
-  pub measure : left .measure ≡ writtenOver m (I .measure)
-
--- the verdict by the leaves met
-pub record ByLeaves (I : Call) (left : SolveLeft) (ms : List Components) : Type 0 where
-  pub none-met : (codeOf left ≡ 17) ↔ (ms ≡ [])
-  pub least-met-often : (codeOf left ≡ 18) ↔ ((m : Components) × Least m ms × (1 < times m ms))
-  pub least-met-once : (codeOf left ≡ 0) ↔ ((m : Components) × Least m ms × (times m ms ≡ 1))
-  pub least-handed-out : codeOf left ≡ 0 → (m : Components) → Least m ms → HandsOut I left m
 
 module _ (I : Call) (W : Lent) (ms : List Components) where
   least-of-none : ms ≡ [] → (m : Components) → Least m ms → ⊥

@@ -9,16 +9,12 @@ use Prim.Native.Nat.{ℕ, _*_, _≤_}
 use native.Mathlib.Omega.{arith}
 use lib.ListN.{length}
 use Rattle.resolved_sort.specs.declared.Counts.{Counts}
-use Rattle.resolved_sort.specs.Rows.{Checked}
 use Rattle.resolved_sort.specs.Checks.{firstFailing}
-use Rattle.resolved_sort.proofs.Append.{Agrees}
 use Rattle.resolved_sort.proofs.GivenBack.{zeroed-agrees}
 use Rattle.resolved_sort.proofs.Reached.{no-confusion}
 use Rattle.unification.specs.Nodes.{maxNodes, maxNodeEntries, nodeEntriesAt, fullNodes, bindsOf}
 use Rattle.unification.specs.Making.{Lent}
-use Rattle.unification.proofs.Grows.{Grows, NodesAgree}
-use Rattle.inference.specs.declared.Solved.{Solved}
-use Rattle.inference.specs.declared.Solved.the-variants.{Refused, NoRoom, NoTyping, Ambiguous, Typing}
+use Rattle.unification.specs.Growing.{Grows, NodesAgree}
 use Rattle.inference.specs.Measure.{Components}
 use Rattle.inference.specs.Search.{Candidate, Out, found, missed, ended}
 use Rattle.inference.specs.SolveChecks.{Call, solveChecks}
@@ -26,6 +22,7 @@ use Rattle.inference.specs.SolveEntry.{problemOf, lentOf, nodesGivenBack
 use Rattle.inference.proofs.Invariant.{Leaves}
 use Rattle.inference.proofs.Accepted.{accepted, refused-or-searched}
 use Rattle.inference.proofs.Together.{search-leaves}
+use Rattle.inference.specs.ListsLeft.{countsOf, SortsGrown, ListsKept, Ends}
 
 -- nodes that read the same below the counts are given back alike
 pub nodes-given-back-agree : (m d : ℕ) → m ≤ maxNodes → d ≤ maxNodeEntries → (ns ns′ : List ℕ) → fullNodes ≤ length ns → length ns′ ≡ length ns → NodesAgree ns ns′ m d
@@ -33,33 +30,6 @@ pub nodes-given-back-agree : (m d : ℕ) → m ≤ maxNodes → d ≤ maxNodeEnt
 unfolding nodesGivenBack
 nodes-given-back-agree m d hm hd ns ns′ long same a =
     zeroed-agrees (4 * m) nodeEntriesAt d (omega arith) ns ns′ (omega arith) same (a .rows) (a .entries)
-
--- the counts that an answer gives of a list that is kept
-abbrev pub countsOf : Solved → Option Counts
-countsOf (Refused c) = none
-countsOf (NoRoom c) = none
-countsOf (NoTyping k) = some k
-countsOf (Ambiguous k) = some k
-countsOf (Typing o) = some (o .counts)
-
--- the sorts of ws, of which k counts, have grown from those given
-pub record SortsGrown (I : Call) (ws : List ℕ) (k : Counts) : Type 0 where
-  pub old : Agrees (I .sorts) ws (I .lengths .sorts) (I .lengths .entries)
-  pub more : I .lengths .sorts ≤ k .sorts
-  pub more-entries : I .lengths .entries ≤ k .entries
-  pub checked : Checked ws (k .sorts) (k .entries)
-  pub as-long : length ws ≡ length (I .sorts)
-
--- where the search stands at its end: as many nodes as given, with their words; and given words also where room ended
-pub record ListsKept (I : Call) (W : Lent) : Type 0 where
-  pub sorts : Agrees (I .sorts) (W .sorts) (I .lengths .sorts) (I .lengths .entries)
-  pub nodes : NodesAgree (I .nodes) (W .nodes) (I .lengths .nodes) (I .lengths .arguments)
-  pub as-long : (length (W .sorts) ≡ length (I .sorts)) × (length (W .nodes) ≡ length (I .nodes))
-
-abbrev pub Ends : Call → {Met : Type 0} → Out Met → Type 0
-Ends I (found w) = ListsKept I (w .lent) × (w .lent .lengths .nodes ≡ I .lengths .nodes) × (w .lent .lengths .arguments ≡ I .lengths .arguments)
-Ends I (missed w) = ListsKept I (w .lent) × (w .lent .lengths .nodes ≡ I .lengths .nodes) × (w .lent .lengths .arguments ≡ I .lengths .arguments)
-Ends I (ended c W) = ListsKept I W
 
 module _ (I : Call) where
   grown : (W : Lent) → Grows (lentOf I) W → SortsGrown I (W .sorts) (countsIn W)

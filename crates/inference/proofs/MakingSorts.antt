@@ -25,8 +25,9 @@ use Rattle.unification.specs.Nodes.{Binds}
 use Rattle.unification.specs.Related.{each}
 use Rattle.unification.specs.Resolve.{value, DefaultBelow, termResolved}
 use Rattle.unification.specs.Making.{Lent, graph, Makes, made, no-list, no-room, _and-then_, withSorts, internContainer}
-use Rattle.unification.proofs.Grows.{CheckedLent, PlacedIn, Grows, placed-grown, term-grown, respects-grown}
-use Rattle.unification.proofs.BindsGrow.{CheckedBinds, binds-name-places, checked-binds-grown}
+use Rattle.unification.specs.Growing.{CheckedLent, PlacedIn, Grows, CheckedBinds}
+use Rattle.unification.proofs.Grows.{placed-grown, term-grown, respects-grown}
+use Rattle.unification.proofs.BindsGrow.{binds-name-places, checked-binds-grown}
 use Rattle.unification.proofs.MakingGrows.{MadeFrom, IsSort, container-grows}
 use Rattle.unification.proofs.SortsLeft.{SortWith, Leaves as LeavesSorts}
 use Rattle.unification.proofs.ResolveAnswers.{FreeHave, AlwaysStandsFor, ReachesFree, resolve-leaves}
@@ -36,7 +37,8 @@ use Rattle.inference.specs.Search.{Path, World, Out, lending, onMade, ma
 use Rattle.inference.specs.Measure.{Components}
 use Rattle.inference.specs.Typing.{All, and-all}
 use Rattle.inference.specs.Components.{where-there, joins}
-use Rattle.inference.proofs.Invariant.{Claim, SortsOnly, sorts-only-refl, sorts-only-trans, Sound, FineBest, Leaves, leaves-from, sound-grown, fine-grown}
+use Rattle.inference.proofs.Invariant.{Claim, sorts-only-refl, sorts-only-trans, Sound, FineBest, Leaves, leaves-from, sound-grown, fine-grown}
+use Rattle.inference.specs.Inner.Listed.{SortsOnly}
 
 -- only sorts were made, and what is made is so; none only if N; no room is 15
 unfoldable pub MadeSorts : {A : Type 0} → (Lent → A → Type 0) → Type 0 → Lent → Makes A → Type 0

@@ -10,7 +10,7 @@ use lib.Dec.{ltb}
 use lib.ListN.{length, take, drop}
 use borrow.Author.Tests.{ltb-true, ltb-false, lt-ltb, le-ltb}
 use Rattle.resolved_sort.proofs.Reached.{no-confusion}
-use Rattle.inference.specs.Measure.{Components, Ranking, smaller, equal, greater, compare, isGreater, worse}
+use Rattle.inference.specs.Measure.{Components, Ranking, smaller, equal, greater, compare, isGreater, worse, mirrored, AtMost}
 
 data Tri (x y : ℕ) : Type 0 where
   below : x < y → Tri x y
@@ -45,12 +45,6 @@ pub first-difference-decides :
     × (y < x → compare (x ∷ xs) (y ∷ ys) ≡ greater)
     × (x ≡ y → compare (x ∷ xs) (y ∷ ys) ≡ compare xs ys)
 first-difference-decides x y xs ys = (compare-below x y xs ys, compare-above x y xs ys, compare-level x y xs ys)
-
--- the other way round
-abbrev pub mirrored : Ranking → Ranking
-mirrored smaller = greater
-mirrored equal = equal
-mirrored greater = smaller
 
 pub compare-mirrored : (xs ys : Components) → compare ys xs ≡ mirrored (compare xs ys)
 unfolding compare
@@ -101,10 +95,6 @@ smaller-trans (x ∷ xs) (y ∷ ys) (z ∷ zs) e f = go (tri x y) (tri y z) (sma
     go (below l) (level j) h = compare-below x z xs zs (omega (arith, l, j))
     go (level i) (below m) h = compare-below x z xs zs (omega (arith, i, m))
     go (level i) (level j) h = compare-level x z xs zs (i ∙ j) ∙ h (sym (compare-level x y xs ys i) ∙ e) (sym (compare-level y z ys zs j) ∙ f)
-
--- the order: smaller or equal
-abbrev pub AtMost : Components → Components → Type 0
-AtMost xs ys = isGreater (compare xs ys) ≡ false
 
 pub at-most-is-smaller-or-one : (xs ys : Components) → AtMost xs ys → (compare xs ys ≡ smaller) ⊎ (xs ≡ ys)
 at-most-is-smaller-or-one xs ys a = go (compare xs ys) refl a

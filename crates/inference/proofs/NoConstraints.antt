@@ -4,26 +4,20 @@ use mathlib.Core.Path.{_≡_, refl, sym, subst, ap}
 use mathlib.Core.Bool.{false}
 use mathlib.Core.List.{List, []}
 use mathlib.Core.Option.{none}
-use mathlib.Core.Logic.{_⊎_, inl, inr}
+use mathlib.Core.Logic.{inl, inr}
 use Prim.Native.Nat.{ℕ}
 use Rattle.resolved_sort.specs.Checks.{firstFailing}
 use Rattle.unification.specs.declared.Default.the-variants.{Is}
 use Rattle.unification.specs.Making.{Lent, Makes, made, no-list, no-room}
 use Rattle.inference.specs.declared.Constraint.{Constraint}
-use Rattle.inference.specs.declared.Outputs.{Outputs}
-use Rattle.inference.specs.declared.Solved.{Solved}
-use Rattle.inference.specs.declared.Solved.the-variants.{NoRoom, Typing}
+use Rattle.inference.specs.declared.Solved.the-variants.{NoRoom}
 use Rattle.inference.specs.Constraints.{constraintAt, rowsFrom, Problem}
 use Rattle.inference.specs.Search.{World, found, missed, keeping, onMade, resolveAll, leaf, solve}
 use Rattle.inference.specs.SolveChecks.{Call, given, solveChecks}
-use Rattle.inference.specs.SolveEntry.{SolveLeft, problemOf, startPath, lentOf, verdict, nothingMet, solveEntry}
+use Rattle.inference.specs.SolveEntry.{SolveLeft, problemOf, startPath, lentOf, verdict, nothingMet, solveEntry, TypingOr15}
 use Rattle.inference.proofs.Accepted.{Accepted, accepted, passed-is-searched}
 use Rattle.inference.proofs.Invariant.{sorts-only-refl}
 use Rattle.inference.proofs.MakingSorts.{MadeSorts, StandAll, resolve-all-makes}
-
--- a typing, or no room for a sort
-abbrev pub TypingOr15 : Solved → Type 0
-TypingOr15 r = ((o : Outputs) × (r ≡ Typing o)) ⊎ (r ≡ NoRoom 15)
 
 module _ (I : Call) where
   abbrev W : Lent

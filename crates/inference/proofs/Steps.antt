@@ -8,7 +8,7 @@ use lib.ListN.{take, drop}
 use Rattle.resolved_sort.specs.Checks.{fixedSix}
 use Rattle.unification.specs.Nodes.{Binds}
 use Rattle.unification.specs.Making.{Lent, graph}
-use Rattle.unification.proofs.Grows.{CheckedLent, PlacedIn}
+use Rattle.unification.specs.Growing.{CheckedLent, PlacedIn}
 use Rattle.inference.specs.declared.Constraint.{Constraint}
 use Rattle.inference.specs.declared.Constraint.the-variants.{Sub, Lit, Disjunction, Comprehension, Join}
 use Rattle.inference.specs.Constraints.{Problem}
@@ -22,7 +22,7 @@ use Rattle.inference.proofs.Joining.{joining-goes}
 use Rattle.inference.proofs.Leaf.{leaf-goes}
 use Rattle.inference.proofs.Widening.{widening-goes, sequence-goes}
 use Rattle.inference.proofs.Alternatives.{disjunction-goes, comprehension-goes, literal-goes}
-use Rattle.inference.proofs.Accepted.{Listed, sub-listed, lit-listed, disjunction-listed, comprehension-listed, join-listed}
+use Rattle.inference.specs.Inner.Listed.{Listed, sub-listed, lit-listed, disjunction-listed, comprehension-listed, join-listed}
 
 module _ (W₀ : Lent) (B₀ : Binds) (P : Problem) where
   -- what is met stays met when there are more choices

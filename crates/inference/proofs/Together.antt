@@ -3,11 +3,11 @@
 -- the incumbent. Assumes nothing.
 use mathlib.Core.Path.{_≡_, refl, sym, subst, ap, _∙_}
 use mathlib.Core.Bool.{Bool, true, false}
-use mathlib.Core.List.{List, [], _∷_, _++_}
+use mathlib.Core.List.{List, [], _∷_}
 use mathlib.Core.Option.{Option, none, some}
-use Prim.Native.Nat.{ℕ, zero, suc, _+_, _*_, _<_}
+use Prim.Native.Nat.{ℕ, suc, _+_, _*_}
 use native.Mathlib.Omega.{arith}
-use lib.ListN.{length, getD, take}
+use lib.ListN.{length, getD}
 use lib.Seq.{take-append-seam}
 use Rattle.resolved_sort.specs.declared.Sort.{Sort}
 use Rattle.resolved_sort.specs.Tree.{Tree}
@@ -16,7 +16,7 @@ use Rattle.resolved_sort.specs.Rows.{AllBelow}
 use Rattle.resolved_sort.specs.Entries.{treeAt}
 use Rattle.resolved_sort.proofs.Materializable.{materializable-refl}
 use Rattle.resolved_sort.proofs.Reached.{no-confusion}
-use Rattle.unification.specs.Nodes.{Binds, binding, bindsOf}
+use Rattle.unification.specs.Nodes.{Binds, bindsOf}
 use Rattle.unification.specs.Making.{Lent, graph}
 use Rattle.unification.proofs.Grows.{grows-refl}
 use Rattle.unification.proofs.Wider.{nearest-first}
@@ -25,10 +25,10 @@ use Rattle.inference.specs.declared.LitKind.the-variants.{Positive, Natu
 use Rattle.inference.specs.declared.Constraint.{Constraint}
 use Rattle.inference.specs.declared.Outputs.{Outputs}
 use Rattle.inference.specs.declared.Solved.the-variants.{Typing}
-use Rattle.inference.specs.Constraints.{rowsFrom, Problem}
+use Rattle.inference.specs.Constraints.{Problem}
 use Rattle.inference.specs.Measure.{Components}
 use Rattle.inference.specs.Search.{Choice, Candidate, Out, found, missed, ended, sortIn, litComponent}
-use Rattle.inference.specs.Typing.{Assignment, Has, admits, All, none-left, and-all, Into, Typed, all-typed, and-typed, Meets, meets-sub, meets-lit, meets-join, HoldsTogether}
+use Rattle.inference.specs.Typing.{Assignment, admits, All, none-left, and-all, Into, Typed, all-typed, and-typed, Meets, meets-sub, meets-lit, meets-join, HoldsTogether}
 use Rattle.inference.specs.Components.{Widened, equal-to, wider-by, Heads, no-heads, and-head, Sequence, no-source, and-source, Costs, sub-costs, lit-costs, disjunction-costs, comprehension-costs, agreed-costs, sequence-costs, Costing, nothing-costs, and-costs}
 use Rattle.inference.specs.SolveChecks.{Call}
 use Rattle.inference.specs.Names.{nameOf, nameKind, nameSort}
@@ -39,6 +39,7 @@ use Rattle.inference.proofs.HandedOut.{sort-row, kind-row, name-row, ro
 use Rattle.inference.proofs.Choices.{names-and-choices}
 use Rattle.inference.proofs.Accepted.{Accepted, refused-or-searched}
 use Rattle.inference.proofs.Steps.{solve-goes}
+use Rattle.inference.specs.Explained.{Explained}
 
 -- what is met at a cost is met
 pub widened-materializes : (s t : Tree) (n : ℕ) → Widened s t n → materializable s t ≡ true
@@ -83,17 +84,6 @@ module _ (W₀ : Lent) (B₀ : Binds) (P : Problem) (ch : List Choice) (ρ : Ass
 typed-long : (W₀ : Lent) (look : ℕ → Tree) (ρ : Assignment) (ps ss : List ℕ) → Typed (graph W₀) look ρ ps ss → length ss ≡ length ps
 typed-long W₀ look ρ _ _ all-typed = refl
 typed-long W₀ look ρ _ _ (and-typed p s ps ss h t) = ap suc (typed-long W₀ look ρ ps ss t)
-
--- What a typing comes with: one assignment under which it holds together, and under which its components are those of its constraints; and the names in
--- its rows.
-pub record Explained (I : Call) (L : SolveLeft) (o : Outputs) : Type 0 where
-  pub assignment : Assignment
-  pub bound : (v q : ℕ) → binding (bindsOf (I .binds) (I .lengths .variables)) v ≡ some q → Has (graph (lentOf I)) assignment q (assignment v)
-  pub typed : Typed (graph (lentOf I)) (treeAt (L .sorts) (o .counts .sorts)) assignment (problemOf I .exprs) (sortsOut I L)
-  pub listed : AllBelow (o .counts .sorts) (sortsOut I L)
-  pub components : Costing (graph (lentOf I)) (sortIn (lentOf I)) (problemOf I) (choicesOut L o) assignment (problemOf I .constraints) (measureOut L o)
-  pub names : (x : ℕ) → x < I .rows .exprs
-      → (getD (L .typing) (3 * x + 1) 0 ≡ nameKind (nameOf (problemOf I) (baseNamesOf I) (choicesOut L o) x)) × (getD (L .typing) (3 * x + 2) 0 ≡ nameSort (nameOf (problemOf I) (baseNamesOf I) (choicesOut L o) x))
 
 module _ (I : Call) where
   abbrev W₀ : Lent

@@ -6,7 +6,8 @@ use Rattle.unification.specs.Term.{substitute}
 use Rattle.unification.specs.Nodes.{Binds}
 use Rattle.unification.specs.Solutions.{Respects, Equates}
 use Rattle.unification.specs.Making.{Lent, graph}
-use Rattle.unification.proofs.Grows.{CheckedLent, PlacedIn, Grows, placed-grown, term-grown, respects-grown}
+use Rattle.unification.specs.Growing.{CheckedLent, PlacedIn, Grows}
+use Rattle.unification.proofs.Grows.{placed-grown, term-grown, respects-grown}
 use Rattle.unification.proofs.BindsGrow.{binds-name-places}
 use Rattle.inference.specs.Constraints.{Problem}
 use Rattle.inference.specs.Measure.{Components}

@@ -15,11 +15,11 @@ use Rattle.unification.specs.Solutions.{Respects}
 use Rattle.unification.specs.Related.{related, Member, first, later}
 use Rattle.unification.specs.Making.{Lent, graph, Makes, made, no-list, no-room, strictRelated}
 use Rattle.unification.proofs.Lists.{term-injective}
-use Rattle.unification.proofs.Grows.{CheckedLent, PlacedIn, Grows, grows-trans, placed-grown, respects-grown}
+use Rattle.unification.specs.Growing.{CheckedLent, PlacedIn, Grows, termIn}
+use Rattle.unification.proofs.Grows.{grows-trans, placed-grown, respects-grown}
 use Rattle.unification.proofs.BindsGrow.{binds-name-places}
 use Rattle.unification.proofs.MakingGrows.{MadeFrom, made-grows}
 use Rattle.unification.proofs.Wider.{member-each, each-member, narrower-is-wider}
-use Rattle.unification.proofs.PlaceTerms.{termIn}
 use Rattle.unification.proofs.RelatedPlaces.{StandForRelated}
 use Rattle.unification.proofs.RelatedBinds.{no-list-is-free, related-makes}
 use Rattle.unification.proofs.Assignments.{place-has-a-sort}

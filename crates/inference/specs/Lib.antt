@@ -8,3 +8,9 @@ pub mod RowsLent
 pub mod SolveEntry
 pub mod Typing
 pub mod Components
+pub mod Explained
+pub mod Inner
+pub mod Leaves
+pub mod ListsLeft
+pub mod Named
+pub mod Situations

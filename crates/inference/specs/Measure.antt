@@ -5,6 +5,7 @@ use mathlib.Core.List.{List, [], _∷_}
 use Prim.Native.Nat.{ℕ}
 use lib.Dec.{ltb}
 use lib.ListN.{length, take}
+use mathlib.Core.Path.{_≡_}
 
 abbrev pub Components : Type 0
 Components = List ℕ
@@ -28,3 +29,13 @@ isGreater greater = true
 -- tie.
 unfoldable pub worse : Components → Components → Bool
 worse xs best = isGreater (compare xs (take (length xs) best))
+
+-- the other way round
+abbrev pub mirrored : Ranking → Ranking
+mirrored smaller = greater
+mirrored equal = equal
+mirrored greater = smaller
+
+-- the order: smaller or equal
+abbrev pub AtMost : Components → Components → Type 0
+AtMost xs ys = isGreater (compare xs ys) ≡ false

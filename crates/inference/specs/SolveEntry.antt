@@ -20,6 +20,8 @@ use Rattle.inference.specs.Measure.{Components}
 use Rattle.inference.specs.Search.{Choice, Path, Candidate, Out, found, missed, ended, solve}
 use Rattle.inference.specs.Names.{nameOf, nameKind, nameSort}
 use Rattle.inference.specs.SolveChecks.{Call, typingWords, choiceWords, given, solveChecks}
+use mathlib.Core.Path.{_≡_}
+use mathlib.Core.Logic.{_⊎_}
 
 -- the words of a list in use, one by one
 abbrev pub wordsInUse : List ℕ → ℕ → List ℕ
@@ -165,3 +167,7 @@ choiceAt ws i = record { expr = getD ws (choiceWords * i) 0; position = getD ws 
 
 abbrev pub choicesOut : SolveLeft → Outputs → List Choice
 choicesOut L o = rowsFrom (choiceAt (L .choices)) 0 (o .choices)
+
+-- a typing, or no room for a sort
+abbrev pub TypingOr15 : Solved → Type 0
+TypingOr15 r = ((o : Outputs) × (r ≡ Typing o)) ⊎ (r ≡ NoRoom 15)

@@ -103,3 +103,10 @@ pub record HoldsTogether (shape : ℕ → Shape) (given left : ℕ → Tree) (co
   pub meets : All (Meets shape given P choices assignment) (P .constraints)
   pub once : (x i j : ℕ) → In (record { expr = x; position = i }) choices
       → In (record { expr = x; position = j }) choices → i ≡ j
+
+-- the sorts of numbers
+pub data Number : Tree → Type 0 where
+  is-pos : Number (flat (primitive Sort.Pos))
+  is-nat : Number (flat (primitive Sort.Nat))
+  is-int : Number (flat (primitive Sort.Int))
+  is-real : Number (flat (primitive Sort.Real))

@@ -1,7 +1,6 @@
 -- An answer told by its case, and what is left after asking and telling. Assumes nothing.
 use mathlib.Core.Path.{_≡_, refl, sym, _∙_, ap, subst}
-use mathlib.Core.List.{List, [], _++_, append-nil}
-use mathlib.Core.Option.{some}
+use mathlib.Core.List.{List, _++_, append-nil}
 use Prim.Native.Nat.{ℕ}
 use Rattle.resolved_sort.specs.declared.Counts.{Counts}
 use Rattle.resolved_sort.specs.Rows.{Checked}
@@ -9,13 +8,16 @@ use Rattle.inference.specs.declared.Outputs.{Outputs}
 use Rattle.inference.specs.declared.Solved.{Solved}
 use Rattle.inference.specs.declared.Solved.the-variants.{Refused, NoRoom, NoTyping, Ambiguous, Typing}
 use Rattle.inference.specs.SolveChecks.{Call}
-use Rattle.inference.specs.SolveEntry.{SolveLeft, solveEntry, codeSolved}
-use Rattle.inference.proofs.ListsLeft.{countsOf, sorts-only-grow}
-use Rattle.text_out.specs.Within.{buffer, puts, PutWithin}
+use Rattle.inference.specs.SolveEntry.{solveEntry, codeSolved}
+use Rattle.inference.specs.ListsLeft.{countsOf}
+use Rattle.inference.proofs.ListsLeft.{sorts-only-grow}
+use Rattle.text_out.specs.Within.{buffer, puts}
+use Rattle.text_out.specs.Inner.Within.{PutWithin}
 use Rattle.list_verdict.specs.Text.{verdictLine, newLines, typingText}
 use Rattle.list_call.specs.Lists.{callCount, sortsIn, typingIn, measureIn, choicesIn, callOn}
-use Rattle.list_solve.specs.Asked.{ListAnswer, listAnswer, listAnswerOf}
-use Rattle.list_answers.specs.Answer.{linesUnder, toldText, Tellable, Told, told, toldOf, answerText, answerLeft}
+use Rattle.list_solve.specs.Inner.Asked.{ListAnswer, listAnswer, listAnswerOf}
+use Rattle.list_answers.specs.Answer.{linesUnder, toldText, answerText, answerLeft}
+use Rattle.list_answers.specs.Inner.Answer.{Tellable, Told, told, toldOf}
 
 -- by the case of the answer
 module _ (g x : ℕ) (r : Solved) (ss ts ms cs : List ℕ) where

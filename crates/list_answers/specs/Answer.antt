@@ -1,7 +1,6 @@
 -- What the solver answers about a list, as text, and what is left of the buffer that it goes into.
 use mathlib.Core.List.{List, [], _++_}
 use Prim.Native.Nat.{ℕ}
-use Rattle.resolved_sort.specs.Rows.{Checked}
 use Rattle.inference.specs.declared.Solved.{Solved}
 use Rattle.inference.specs.declared.Solved.the-variants.{Refused, NoRoom, NoTyping, Ambiguous, Typing}
 use Rattle.inference.specs.SolveEntry.{SolveLeft, solveEntry, codeSolved}
@@ -25,30 +24,6 @@ toldText g x r ss ts ms cs = verdictLine (codeSolved r) ++ linesUnder g x r ss t
 -- what a call left, told
 abbrev pub leftText : ℕ → ℕ → SolveLeft → List ℕ
 leftText g x L = toldText g x (L .answer) (L .sorts) (L .typing) (L .measure) (L .choices)
-
--- sorts are checked where they are to be written
-abbrev pub Tellable : Solved → List ℕ → Type 0
-Tellable (Refused c) ss = Unit {0}
-Tellable (NoRoom c) ss = Unit {0}
-Tellable (NoTyping k) ss = Unit {0}
-Tellable (Ambiguous k) ss = Unit {0}
-Tellable (Typing o) ss = Checked ss (o .counts .sorts) (o .counts .entries)
-
--- the text in the buffer, and the slices that are told, as a call leaves them
-pub record Told : Type 0 where
-  pub text : Buffer
-  pub sorts : List ℕ
-  pub typing : List ℕ
-  pub measure : List ℕ
-  pub choices : List ℕ
-
-abbrev pub told : Buffer → (sorts typing measure choices : List ℕ) → Told
-told b ss ts ms cs = record { text = b; sorts = ss; typing = ts; measure = ms; choices = cs }
-
-abbrev pub toldOf : List ℕ → List ℕ → SolveLeft → Told
-toldOf ws out L =
-    told (puts out 0 (leftText (callCount ws sortList) (callCount ws exprList) L))
-    (L .sorts) (L .typing) (L .measure) (L .choices)
 
 -- The answer about a list, from byte 0 on; what finds no room is lost.
 unfoldable pub answerText : List ℕ → List ℕ

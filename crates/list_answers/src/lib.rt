@@ -21,10 +21,12 @@ ghost use mathlib.Core.Path.{_≡_};
 ghost use Prim.Native.Nat.{_≤_};
 ghost use lib.ListN.{length};
 ghost use Rattle.inference.specs.SolveEntry.{solveEntry};
-ghost use Rattle.text_out.specs.Within.{buffer, PutWithin};
+ghost use Rattle.text_out.specs.Within.{buffer};
+ghost use Rattle.text_out.specs.Inner.Within.{PutWithin};
 ghost use Rattle.list_memory.specs.Memory.{rowsAt};
 ghost use Rattle.list_call.specs.Lists.{callOn};
-ghost use Rattle.list_answers.specs.Answer.{toldText, Tellable, told as toldLeft, toldOf, answerLeft};
+ghost use Rattle.list_answers.specs.Answer.{toldText, answerLeft};
+ghost use Rattle.list_answers.specs.Inner.Answer.{Tellable, told as toldLeft, toldOf};
 
 // An answer of the solver as text.
 fn tell(

@@ -84,17 +84,10 @@ ghost use mathlib.Core.Path.{_≡_};
 ghost use mathlib.Core.Bool.{true, false};
 ghost use Prim.Native.Nat.{_≤_, _+_, _-_};
 ghost use lib.ListN.{getD};
-ghost use Rattle.list_tokens.specs.Tokens.{mostClass};
-ghost use Rattle.list_forms.specs.Items.{inRange as within, isSortWord, isPlaceWord, isOf, tokenAt, wordOf, wordAt};
-ghost use Rattle.list_forms.specs.Items.{fitsFrom, allFrom, listFits, functionFits};
-ghost use Rattle.list_forms.specs.Plans.{expected as expectedOf, emptyPlan as nothingGiven, rowsPlan, rowPlan};
-ghost use Rattle.list_forms.specs.Plans.{withFree, withRun, withPuts, withPut, addUp, grown as grownOf};
-ghost use Rattle.list_forms.specs.Lines.{isNext, functionPlan, sortRow, sortPlan, varPlan, varsPlan};
-ghost use Rattle.list_forms.specs.Lines.{boundPlan, bindPlan, nodeRow, nodePlan, exprPlan, nameRow, namePlan};
-ghost use Rattle.list_forms.specs.Lines.{defaultPlan, constraintRow, subPlan, litPlan, comprehensionPlan};
-ghost use Rattle.list_forms.specs.Lines.{disjunctionPlan, overloadRow, overloadPlan, joinPlan, sourcesPlan};
-ghost use Rattle.list_forms.specs.Lines.{entriesPlan, constraintPlan, padPlan, countedBy, countPlan};
-ghost use Rattle.list_forms.specs.Lines.{lendPlan, unusualPlan, constraintsPlan, planOf, asksOther};
+ghost use Rattle.list_tokens.specs.Inner.Tokens.{mostClass};
+ghost use Rattle.list_forms.specs.Items.{inRange as within, isSortWord, isPlaceWord, isOf, tokenAt, wordOf, wordAt, fitsFrom, allFrom, listFits, functionFits};
+ghost use Rattle.list_forms.specs.Plans.{expected as expectedOf, emptyPlan as nothingGiven, rowsPlan, rowPlan, withFree, withRun, withPuts, withPut, addUp, grown as grownOf};
+ghost use Rattle.list_forms.specs.Lines.{isNext, functionPlan, sortRow, sortPlan, varPlan, varsPlan, boundPlan, bindPlan, nodeRow, nodePlan, exprPlan, nameRow, namePlan, defaultPlan, constraintRow, subPlan, litPlan, comprehensionPlan, disjunctionPlan, overloadRow, overloadPlan, joinPlan, sourcesPlan, entriesPlan, constraintPlan, padPlan, countedBy, countPlan, lendPlan, unusualPlan, constraintsPlan, planOf, asksOther};
 
 // What a line gives. First `free` free variables; then the words from `from` to before `to` of the line as rows of the
 // list `run`; then `times` rows of the list `list`, whose second word rises by one from row to row where `rising`; then

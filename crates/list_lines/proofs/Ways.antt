@@ -1,20 +1,19 @@
 -- What is put for a line is what is printed for what it came to. Assumes nothing.
-use mathlib.Core.Path.{_≡_, refl, sym, ap, _∙_}
+use mathlib.Core.Path.{_≡_, sym, ap, _∙_}
 use mathlib.Core.Bool.{Bool, true, false}
 use mathlib.Core.List.{List, [], _∷_, _++_}
 use Prim.Native.Nat.{ℕ}
-use lib.Dec.{eqb}
-use lib.ListN.{getD}
 use borrow.Author.Tests.{ne-eqb}
 use Rattle.list_memory.specs.declared.Form.{Form}
 use Rattle.list_memory.specs.declared.Heard.{Heard}
 use Rattle.list_memory.specs.declared.Heard.the-variants.{Quiet, Begins, Asks, AsksOther, Bad}
-use Rattle.list_memory.specs.Memory.{Taken, taken}
+use Rattle.list_memory.specs.Memory.{taken}
 use Rattle.text_out.specs.Quoted.{bytesOf}
 use Rattle.list_messages.specs.Messages.{badText}
 use Rattle.list_reader.specs.Taking.{lineTaken}
-use Rattle.list_answers.specs.Answer.{answerText, answerLeft}
-use Rattle.text_out.specs.Within.{Buffer, buffer, puts, PutWithin}
+use Rattle.list_answers.specs.Answer.{answerLeft}
+use Rattle.text_out.specs.Within.{Buffer, buffer}
+use Rattle.text_out.specs.Inner.Within.{PutWithin}
 use Rattle.text_out.proofs.Within.{put-none, put-as, put-then}
 use Rattle.list_lines.specs.declared.Said.{Said}
 use Rattle.list_lines.specs.Lines.{unaskedText, stageOf, printed, numbered, LineLeft, lineLeft, lineLeftBy, heardLine}

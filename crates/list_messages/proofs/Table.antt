@@ -5,14 +5,11 @@ use Prim.Native.Nat.{ℕ, zero, suc, _+_, _-_, _<_}
 use native.Mathlib.Omega.{arith}
 use lib.ListN.{getD, take, drop}
 use Rattle.list_memory.specs.declared.Form.{Form}
-use Rattle.list_memory.specs.declared.Form.the-variants.{Printable, Length, List as FormList, Question, Asked}
-use Rattle.list_memory.specs.declared.Form.the-variants.{Keyword, Next, Bare, Sort, Node, Entries, NodeEntries, Pad}
-use Rattle.list_memory.specs.declared.Form.the-variants.{Var, Vars, Bind, Unbound, Expr, Name, Names, Default, Sub}
-use Rattle.list_memory.specs.declared.Form.the-variants.{Lit, Comprehension, Disjunction, Overload, Join, Sources}
-use Rattle.list_memory.specs.declared.Form.the-variants.{Constraint, Count, Lend, Ceilings, Asks}
-use Rattle.text_out.specs.Within.{PutWithin}
+use Rattle.list_memory.specs.declared.Form.the-variants.{Printable, Length, List as FormList, Question, Asked, Keyword, Next, Bare, Sort, Node, Entries, NodeEntries, Pad, Var, Vars, Bind, Unbound, Expr, Name, Names, Default, Sub, Lit, Comprehension, Disjunction, Overload, Join, Sources, Constraint, Count, Lend, Ceilings, Asks}
+use Rattle.text_out.specs.Inner.Within.{PutWithin}
 use Rattle.text_out.proofs.Within.{put-as}
-use Rattle.list_messages.specs.Messages.{messageNumber, formText}
+use Rattle.list_messages.specs.Inner.Messages.{messageNumber}
+use Rattle.list_messages.specs.Messages.{formText}
 
 -- where each message begins, and the bytes of all, as in the code
 unfoldable pub starts : List ℕ

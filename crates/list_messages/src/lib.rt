@@ -4,8 +4,9 @@ use sort_lexer::between;
 use text_out::put_text;
 ghost use mathlib.Core.Path.{_≡_};
 ghost use Prim.Native.Nat.{_<_};
-ghost use Rattle.text_out.specs.Within.{PutWithin};
-ghost use Rattle.list_messages.specs.Messages.{messageNumber, formText, badText};
+ghost use Rattle.text_out.specs.Inner.Within.{PutWithin};
+ghost use Rattle.list_messages.specs.Inner.Messages.{messageNumber};
+ghost use Rattle.list_messages.specs.Messages.{formText, badText};
 
 // Where each message begins in the bytes of all, and the last one ends.
 const STARTS: [usize; 34] = [

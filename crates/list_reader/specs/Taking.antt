@@ -3,7 +3,7 @@
 -- reader: a line not of the format ends its list and not the program; an answer is not looked at, and a question may
 -- have more than one; counts of rows stop at 65,535, where the oracle stops the program; a 513th base name is a line
 -- not of the format, and so is a line `ceilings`.
-use mathlib.Core.Bool.{Bool, true, false, cond}
+use mathlib.Core.Bool.{Bool, false, cond}
 use mathlib.Core.List.{List, [], _∷_}
 use Prim.Native.Nat.{ℕ, zero, suc, _+_, _-_}
 use lib.Dec.{ltb, eqb}
@@ -13,9 +13,7 @@ use Rattle.sort_text.specs.Reading.{maxLine}
 use Rattle.unification.specs.Nodes.{freeWord}
 use Rattle.list_memory.specs.declared.Form.{Form}
 use Rattle.list_memory.specs.declared.Heard.{Heard}
-use Rattle.list_memory.specs.Memory.{mostRows, listWords, widthOf, ceilingOf, listRowAt, rowsAt, rowsGiven}
-use Rattle.list_memory.specs.Memory.{sortList, entryList, varList, defaultAt, stageAt, noList, readingStage}
-use Rattle.list_memory.specs.Memory.{askedStage, badStage, Taken, taken}
+use Rattle.list_memory.specs.Memory.{mostRows, listWords, widthOf, ceilingOf, listRowAt, rowsAt, rowsGiven, sortList, entryList, varList, defaultAt, stageAt, noList, readingStage, askedStage, badStage, Taken, taken}
 use Rattle.list_tokens.specs.declared.Tokens.{Tokens}
 use Rattle.list_tokens.specs.declared.Start.{Start}
 use Rattle.list_tokens.specs.Words.{kBare, kAsk, kSolve}
@@ -23,10 +21,6 @@ use Rattle.list_tokens.specs.Tokens.{tokensOf, printableFrom, lineStart}
 use Rattle.list_forms.specs.declared.Plan.{Plan}
 use Rattle.list_forms.specs.Items.{tokenAt, wordAt, form, fitsForm}
 use Rattle.list_forms.specs.Lines.{planOf, asksOther}
-
--- rows begin at most so far on
-abbrev pub mostPlace : ℕ
-mostPlace = 1048576
 
 -- m words of a row from word i of it on, put from a word on
 unfoldable pub putWords : ℕ → List ℕ → ℕ → List ℕ → ℕ → List ℕ

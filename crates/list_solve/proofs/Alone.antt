@@ -7,7 +7,7 @@ use Rattle.inference.specs.SolveEntry.{solveEntry}
 use Rattle.solve_checks.specs.declared.Given.{Given}
 use Rattle.solve_outputs.specs.Finish.{solveLeft}
 use Rattle.list_call.specs.Lists.{givenIn, nodesIn, bindsIn, scratchIn, callBy, callOn}
-use Rattle.list_solve.specs.Asked.{listAnswer, listAnswerOf}
+use Rattle.list_solve.specs.Inner.Asked.{listAnswer, listAnswerOf}
 
 pub asked-alone :
     (ws ss ns bs xs ts ms cs : List ℕ) (g : Given) → g ≡ givenIn ws → ns ≡ nodesIn ws → bs ≡ bindsIn ws → xs ≡ scratchIn ws

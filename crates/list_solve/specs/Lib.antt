@@ -1,2 +1,2 @@
 -- What the contract of this crate cites.
-pub mod Asked
+pub mod Inner

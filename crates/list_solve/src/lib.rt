@@ -18,7 +18,7 @@ ghost use lib.ListN.{length};
 ghost use Rattle.inference.specs.SolveEntry.{solveEntry};
 ghost use Rattle.list_memory.specs.Memory.{rowsAt};
 ghost use Rattle.list_call.specs.Lists.{callOn};
-ghost use Rattle.list_solve.specs.Asked.{listAnswer, listAnswerOf};
+ghost use Rattle.list_solve.specs.Inner.Asked.{listAnswer, listAnswerOf};
 
 // The solver asked about a list, with nodes, bindings and scratch of its own.
 pub fn ask(

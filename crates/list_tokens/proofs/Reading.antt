@@ -1,18 +1,16 @@
 -- Reading words one by one comes to the words of the line. Assumes nothing.
 use mathlib.Core.Path.{_≡_, refl, sym, ap, _∙_}
-use mathlib.Core.Bool.{Bool, true, false, not}
-use mathlib.Core.List.{List, [], _∷_}
+use mathlib.Core.Bool.{not}
+use mathlib.Core.List.{List}
 use Prim.Native.Nat.{ℕ, zero, suc, _+_, _-_, _<_, _≤_}
 use native.Mathlib.Omega.{arith}
-use lib.Dec.{eqb}
-use lib.ListN.{length, getD, set, take, drop, replicate, length-drop, length-set, length-replicate}
+use lib.ListN.{length, getD, set, take, drop, replicate, length-drop, length-set}
 use lib.Seq.{getD-drop}
 use borrow.Author.Tests.{eq-eqb, ne-eqb}
 use Rattle.sort_text.specs.Tokens.{run, past, skip}
-use Rattle.sort_lexer.specs.Lexeme.{offset}
+use Rattle.sort_lexer.specs.Inner.Lexeme.{offset}
 use Rattle.sort_lexer.proofs.Places as places
 use Rattle.sort_lexer.proofs.Runs as runs
-use Rattle.list_tokens.specs.declared.Tokens.{Tokens}
 use Rattle.list_tokens.specs.declared.Start.the-variants.{Skipped, Answer, NewList, Other}
 use Rattle.list_tokens.specs.Tokens.{inWord, tokenOf, tokensRead, tokensFrom, tokensOf, lineStart}
 

@@ -33,10 +33,6 @@ exprClass = 327680
 abbrev pub fixedClass : ℕ
 fixedClass = 393216
 
--- classes are at most so high, numbers are up to mostNumber, and `noNumber` stands for no number
-abbrev pub mostClass : ℕ
-mostClass = 1048576
-
 abbrev pub mostNumber : ℕ
 mostNumber = 65535
 

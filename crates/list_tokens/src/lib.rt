@@ -9,11 +9,10 @@ ghost use mathlib.Core.List.{[]};
 ghost use lib.ListN.{drop, getD};
 ghost use Rattle.sort_text.specs.Parse.{sameBytes};
 ghost use Rattle.sort_text.specs.Tokens.{past};
-ghost use Rattle.sort_lexer.specs.Lexeme.{offset};
+ghost use Rattle.sort_lexer.specs.Inner.Lexeme.{offset};
 ghost use Rattle.list_tokens.specs.Words.{words, keywordOf};
-ghost use Rattle.list_tokens.specs.Tokens.{mostClass, decimalRead, numberRead, classOf, nameToken, tokenOf, inWord};
-ghost use Rattle.list_tokens.specs.Tokens.{tokensOf};
-ghost use Rattle.list_tokens.specs.Tokens.{printableFrom, lineStart};
+ghost use Rattle.list_tokens.specs.Inner.Tokens.{mostClass};
+ghost use Rattle.list_tokens.specs.Tokens.{decimalRead, numberRead, classOf, nameToken, tokenOf, inWord, tokensOf, printableFrom, lineStart};
 
 // The words of a line, each as a number, and how many there are.
 pub struct Tokens {

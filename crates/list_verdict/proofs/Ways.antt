@@ -1,33 +1,31 @@
 -- The pieces of text by the tests on the way to them. Assumes nothing.
-use mathlib.Core.Path.{_≡_, refl, sym, _∙_, ap, ap₂}
+use mathlib.Core.Path.{_≡_, refl, sym, _∙_, ap}
 use mathlib.Core.Bool.{Bool, true, false, _&&_}
 use mathlib.Core.List.{List, [], _∷_, _++_}
-use Prim.Native.Nat.{ℕ, _+_, _-_, _*_, _<_, _≤_}
+use Prim.Native.Nat.{ℕ, _+_, _-_, _<_, _≤_}
 use native.Mathlib.Omega.{arith}
 use native.Mathlib.Decide.{decLe}
 use lib.Dec.{leb}
-use lib.ListN.{length, getD, take, drop, replicate, length-replicate, List·getD-eq-default}
-use lib.Seq.{sets, length-sets, length-take-le, sets-eq, take-at}
+use lib.ListN.{length, getD, take, replicate, length-replicate, List·getD-eq-default}
+use lib.Seq.{length-sets, length-take-le, sets-eq, take-at}
 use borrow.Author.Tests.{lt-ltb, le-ltb, le-leb, lt-leb, eq-eqb, ne-eqb}
 use Rattle.resolved_sort.specs.declared.Counts.{Counts}
 use Rattle.resolved_sort.specs.Tree.{Tree, flat, unit}
 use Rattle.resolved_sort.specs.Interning.{look}
-use Rattle.resolved_sort.specs.Storage.{kindAt, partAt, startAt, countAt, trees, functionKind}
+use Rattle.resolved_sort.specs.Storage.{kindAt, partAt, startAt, countAt, trees}
 use Rattle.resolved_sort.specs.Entries.{treeAt}
-use Rattle.resolved_sort.proofs.Interned.{Listed}
 use Rattle.resolved_sort.proofs.Trees.{length-trees}
 use Rattle.sort_text.specs.Text.{writable, text, arrowText}
-use Rattle.sort_writer.specs.Sizes.{mostSize, capped, sizeIf, sized, sizesTo}
-use Rattle.sort_writer.specs.Puts.{SortRoom}
+use Rattle.sort_writer.specs.Inner.Sizes.{mostSize, sizeIf, sized}
+use Rattle.sort_writer.specs.Inner.Puts.{SortRoom}
 use Rattle.text_out.specs.Put.{Put}
 use Rattle.sort_writer.proofs.Sizes.{capped-short, capped-long, text-some}
 use Rattle.sort_writer.proofs.Fills.{sizes-right}
-use Rattle.text_out.specs.Within.{puts, PutWithin}
+use Rattle.text_out.specs.Within.{puts}
 use Rattle.list_verdict.specs.Words.{kindWords, kindWord, verdictMessages, message, variableText, builtinText, opText, noChoicesText}
 use Rattle.list_verdict.specs.Text.{rowsText, name, sortName, short, sortText, targetText, separator, choice, choiceList, argumentText, parts}
 use Rattle.text_out.specs.Decimal.{decimal}
-use Rattle.list_verdict.specs.Room.{SizesOf}
-use Rattle.text_out.proofs.Within.{put-as, put-none}
+use Rattle.list_verdict.specs.Inner.Room.{SizesOf}
 
 -- words past those of the lists
 more : (a b : ℕ) → a ≤ b → (b ≡ a → ⊥) → a + 1 ≤ b

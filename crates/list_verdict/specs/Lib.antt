@@ -1,4 +1,4 @@
 -- What the contracts of this crate cite.
 pub mod Words
 pub mod Text
-pub mod Room
+pub mod Inner

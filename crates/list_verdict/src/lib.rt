@@ -16,12 +16,10 @@ use text_out::put_text;
 use words::word;
 ghost use Prim.Native.Nat.{_+_, _*_, _<_, _≤_};
 ghost use Rattle.resolved_sort.specs.Rows.{Checked};
-ghost use Rattle.text_out.specs.Within.{PutWithin};
+ghost use Rattle.text_out.specs.Inner.Within.{PutWithin};
 ghost use Rattle.list_verdict.specs.Words.{kindWord, message};
-ghost use Rattle.list_verdict.specs.Text.{rowsText, name, sortName, sortText, targetText, exprLine, separator};
-ghost use Rattle.list_verdict.specs.Text.{component, measureLine, choice, choiceList, choicesLine, argumentText};
-ghost use Rattle.list_verdict.specs.Text.{parts, newLine, verdictLine, newLines, typingText};
-ghost use Rattle.list_verdict.specs.Room.{SizesOf};
+ghost use Rattle.list_verdict.specs.Text.{rowsText, name, sortName, sortText, targetText, exprLine, separator, component, measureLine, choice, choiceList, choicesLine, argumentText, parts, newLine, verdictLine, newLines, typingText};
+ghost use Rattle.list_verdict.specs.Inner.Room.{SizesOf};
 
 // A letter and a number.
 fn put_name(letter: u8, n: u16, out: &mut [u8], at: usize) -> usize

@@ -21,7 +21,7 @@ use Rattle.unification.specs.Nodes.{nodeKindAt, nodeAt, isPlace, freeWord, Bind
 use Rattle.unification.specs.NodeChecks.{nodesWithinLent, bindingsWithinLent, nodePartsFine, nodeKindFine, nodeFine, bindingFine, bindingsFine}
 use Rattle.unification.proofs.Passed.{length-binds}
 use Rattle.infer_nodes.proofs.Ways.{binding-word}
-use Rattle.node_checks.specs.Tests.{argPlaced}
+use Rattle.node_checks.specs.Inner.Tests.{argPlaced}
 
 -- check 1
 module _ (ns : List ℕ) (m d : ℕ) where

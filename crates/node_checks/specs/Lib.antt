@@ -1,2 +1,2 @@
 -- What the contracts of this crate cite beside the checks.
-pub mod Tests
+pub mod Inner

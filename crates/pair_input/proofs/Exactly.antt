@@ -3,16 +3,16 @@
 use mathlib.Core.Path.{_≡_, refl, sym, _∙_, ap, ap₂}
 use mathlib.Core.Bool.{Bool, true, false, cond}
 use mathlib.Core.List.{List, [], _∷_, _++_, append-assoc, append-nil}
-use Prim.Native.Nat.{ℕ, _+_, _<_, _≤_}
+use Prim.Native.Nat.{ℕ, _+_}
 use native.Mathlib.Omega.{arith}
 use lib.ListN.{length, take, length-append, length-take}
 use lib.Seq.{take-all, take-append-le}
 use lib.Dec.{eqb, ltb}
-use borrow.Author.Tests.{ltb-true, ltb-false, lt-ltb, le-ltb}
+use borrow.Author.Tests.{ltb-true, ltb-false, le-ltb}
 use Rattle.pair_line.specs.PairProgram.{onto, lines, lineOf, single, pair, withFirst, pairs, output}
 use Rattle.pair_line.specs.Answers.{withLf}
 use Rattle.pair_line.proofs.Lines.{line-long}
-use Rattle.pair_input.specs.ByteByByte.{Lines, first, second, mostHeld, holding, Turned, turned, takeByte, onward, takeBytes, atEnd}
+use Rattle.pair_input.specs.ByteByByte.{Lines, first, second, mostHeld, holding, Turned, turned, takeByte, onward, takeBytes, atEnd, whole, inTurn}
 
 abbrev held : List ℕ → List ℕ
 held l = take mostHeld l
@@ -167,15 +167,6 @@ in-parts h [] ys = refl
 in-parts h (b ∷ xs) ys =
     ap (onward (takeByte h b .output)) (in-parts (takeByte h b .lines) xs ys)
     ∙ ap (turned _) (sym (append-assoc (takeByte h b .output) (takeBytes (takeByte h b .lines) xs .output) _))
-
--- An input in any number of parts: the outputs of the parts in turn, and what the end prints, are `output` of the whole.
-abbrev pub whole : List (List ℕ) → List ℕ
-whole [] = []
-whole (p ∷ ps) = p ++ whole ps
-
-abbrev pub inTurn : Lines → List (List ℕ) → List ℕ
-inTurn h [] = atEnd h
-inTurn h (p ∷ ps) = takeBytes h p .output ++ inTurn (takeBytes h p .lines) ps
 
 parts-from : (ps : List (List ℕ)) (h : Lines) → inTurn h ps ≡ printed (takeBytes h (whole ps))
 unfolding takeBytes

@@ -5,7 +5,7 @@ use mathlib.Core.List.{List, [], _∷_, _++_, append-nil}
 use Prim.Native.Nat.{ℕ, zero, suc, _+_, _-_, _<_, _≤_}
 use native.Mathlib.Omega.{arith}
 use native.Mathlib.Numerals.{add-one}
-use lib.ListN.{length, take, drop, getD, set, length-take, length-drop, length-set}
+use lib.ListN.{length, take, drop, getD, set, length-drop}
 use lib.Seq.{take-all, take-take, take-add, take-suc, take-set-le, drop-set-add, take-suc-set, length-take-le}
 use lib.Dec.{eqb, ltb}
 use borrow.Author.Tests.{ltb-true, ltb-false, lt-ltb, le-ltb, eq-eqb, ne-eqb}
@@ -17,8 +17,9 @@ use Rattle.pair_line.specs.Answers.{withLf}
 use Rattle.pair_line.proofs.Ways.{pair-has-room, single-has-room}
 use Rattle.pair_input.specs.declared.Held.{Held}
 use Rattle.pair_input.specs.declared.Held.the-variants.{First, Second}
-use Rattle.pair_input.specs.ByteByByte.{Lines, first, second, mostHeld, holding, Turned, turned, takeByte, onward, takeBytes, atEnd}
-use Rattle.pair_input.specs.Held.{lineAt, linesOf, Fits, Holds, Holding, Turns, Feeds}
+use Rattle.pair_input.specs.ByteByByte.{Lines, first, second, mostHeld, holding, Turned, turned, takeByte, takeBytes, atEnd}
+use Rattle.pair_input.specs.Held.{lineAt, linesOf, Fits, Holds, Turns, Feeds}
+use Rattle.pair_input.specs.Inner.Held.{Holding}
 use Rattle.pair_input.proofs.Exactly.{in-parts}
 
 -- one byte more of a line

@@ -7,7 +7,7 @@ use lib.ListN.{length}
 use lib.Dec.{eqb, ltb}
 use Rattle.text_out.specs.Quoted.{byteOf}
 use Rattle.sort_text.specs.Reading.{maxLine}
-use Rattle.pair_line.specs.PairProgram.{lineOf, single, pair}
+use Rattle.pair_line.specs.PairProgram.{lineOf, single, pair, lines, output}
 use Rattle.pair_line.specs.Answers.{withLf}
 
 -- In the first line of a pair, with its bytes so far; or in the second, with the first line and the bytes so far.
@@ -49,3 +49,12 @@ atEnd (first []) = []
 atEnd (first (b ∷ l)) = withLf (single (lineOf (b ∷ l)))
 atEnd (second l []) = withLf (single (lineOf l))
 atEnd (second l (b ∷ m)) = withLf (pair l (b ∷ m))
+
+-- An input in any number of parts: the outputs of the parts in turn, and what the end prints, are `output` of the whole.
+abbrev pub whole : List (List ℕ) → List ℕ
+whole [] = []
+whole (p ∷ ps) = p ++ whole ps
+
+abbrev pub inTurn : Lines → List (List ℕ) → List ℕ
+inTurn h [] = atEnd h
+inTurn h (p ∷ ps) = takeBytes h p .output ++ inTurn (takeBytes h p .lines) ps

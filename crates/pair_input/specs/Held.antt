@@ -1,6 +1,5 @@
 -- The lines held in a memory of 402 bytes, one behind the other, and what the functions that take bytes leave.
 use mathlib.Core.Path.{_≡_}
-use mathlib.Core.Bool.{Bool, true}
 use mathlib.Core.List.{List}
 use Prim.Native.Nat.{ℕ, _+_, _<_, _≤_}
 use lib.ListN.{length, take, drop}
@@ -8,7 +7,7 @@ use Rattle.text_out.specs.Put.{Put}
 use Rattle.pair_line.specs.Room.{lineRoom}
 use Rattle.pair_input.specs.declared.Held.{Held}
 use Rattle.pair_input.specs.declared.Held.the-variants.{First, Second}
-use Rattle.pair_input.specs.ByteByByte.{Lines, first, second, mostHeld, holding, Turned, takeByte, takeBytes}
+use Rattle.pair_input.specs.ByteByByte.{Lines, first, second, mostHeld, Turned, takeBytes}
 
 -- the line of `count` bytes from `start` on
 abbrev pub lineAt : List ℕ → ℕ → ℕ → List ℕ
@@ -27,12 +26,6 @@ pub record Holds (memory : List ℕ) (held : Held) : Type 0 where
   pub fits : Fits held
   pub long : mostHeld + mostHeld ≤ length memory
 
--- a byte more of the line from `start` on; what stands before it stays
-pub record Holding (memory : List ℕ) (start count byte : ℕ) (left : List ℕ) (next : ℕ) : Type 0 where
-  pub line : lineAt left start next ≡ holding (lineAt memory start count) byte
-  pub before : take start left ≡ take start memory
-  pub few : next ≤ mostHeld
-
 -- what a turn of the program leaves: the lines, and what is printed, put into the buffer from `at` on
 pub record Turns (t : Turned) (out : List ℕ) (at : ℕ) (memory : List ℕ) (held : Held) (left : List ℕ)
     (next : ℕ) : Type 0 where
@@ -50,9 +43,3 @@ pub record Feeds (memory : List ℕ) (held : Held) (bytes out : List ℕ) (left-
   pub goes : (k : ℕ) → k < used
       → length (takeBytes (linesOf memory held) (take k bytes) .output) + lineRoom ≤ length out
   pub stops : used < length bytes → length out < at + lineRoom
-
--- All bytes are taken, unless the program ends before.
-pub record BytesTaken (memory : List ℕ) (held : Held) (bytes : List ℕ) (left-memory : List ℕ) (left-held : Held)
-    (more : Bool) : Type 0 where
-  pub holds : Holds left-memory left-held
-  pub lines : more ≡ true → linesOf left-memory left-held ≡ takeBytes (linesOf memory held) bytes .lines

@@ -10,7 +10,8 @@ ghost use Rattle.text_out.specs.Put.{Put};
 ghost use Rattle.pair_line.specs.Room.{lineRoom};
 ghost use Rattle.pair_line.specs.Answers.{withLf};
 ghost use Rattle.pair_input.specs.ByteByByte.{mostHeld, takeByte, atEnd};
-ghost use Rattle.pair_input.specs.Held.{lineAt, linesOf, Holds, Holding, Turns, Feeds};
+ghost use Rattle.pair_input.specs.Held.{lineAt, linesOf, Holds, Turns, Feeds};
+ghost use Rattle.pair_input.specs.Inner.Held.{Holding};
 
 // How many bytes are held: of the first line of a pair; or of the first line and, behind it, of the second.
 pub enum Held {

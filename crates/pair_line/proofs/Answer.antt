@@ -18,8 +18,10 @@ use Rattle.sort_text.proofs.Length.{line-wide}
 use Rattle.pair_line.proofs.PairLength.{answer-length}
 use Rattle.text_out.specs.Put.{Put}
 use Rattle.text_out.proofs.Put.{put-then, put-as, put-length}
-use Rattle.pair_line.specs.Room.{OfLine, Grows, BothRead, BoundRoom}
-use Rattle.pair_line.specs.Answers.{stepsText, withLf}
+use Rattle.pair_line.specs.Room.{OfLine, BoundRoom}
+use Rattle.pair_line.specs.Inner.Room.{Grows, BothRead}
+use Rattle.pair_line.specs.Inner.Answers.{stepsText}
+use Rattle.pair_line.specs.Answers.{withLf}
 
 -- the parts, each with what stands behind it
 abbrev orderPart : PartialOrder → List ℕ

@@ -1,10 +1,10 @@
 -- Join and meet in a storage with room: room does not end, the answer is the join or meet of the two sorts, and the storage has grown by
 -- it. By the laws of making, read off the callee's equation. Assumes nothing.
-use mathlib.Core.Path.{_≡_, refl, sym, _∙_, ap, ap₂, subst}
+use mathlib.Core.Path.{_≡_, sym, _∙_, ap, subst}
 use mathlib.Core.Bool.{Bool}
 use mathlib.Core.List.{List, [], _++_}
-use mathlib.Core.Option.{Option, none, some}
-use Prim.Native.Nat.{ℕ, _+_, _-_, _<_, _≤_}
+use mathlib.Core.Option.{none, some}
+use Prim.Native.Nat.{ℕ, _+_, _-_, _≤_}
 use native.Mathlib.Omega.{arith}
 use lib.ListN.{length, length-append}
 use Rattle.resolved_sort.specs.declared.SortId.{SortId}
@@ -13,25 +13,27 @@ use Rattle.resolved_sort.specs.declared.Joined.{Joined}
 use Rattle.resolved_sort.specs.declared.Joined.the-variants.{At, Nothing, Full}
 use Rattle.resolved_sort.specs.Tree.{Tree}
 use Rattle.resolved_sort.specs.Order.{bound}
-use Rattle.resolved_sort.specs.Interning.{Sorts, Outcome, made, nothing, full, make}
+use Rattle.resolved_sort.specs.Interning.{Sorts, Outcome, nothing, make}
 use Rattle.resolved_sort.specs.Storage.{sortsOf}
 use Rattle.resolved_sort.specs.Entries.{treeAt, countsOf, after, stored}
 use Rattle.resolved_sort.specs.Rows.{storedAt}
 use Rattle.resolved_sort.specs.Bounds.{boundAt}
-use Rattle.resolved_sort.proofs.Grown.{Grown, grown-none}
-use Rattle.resolved_sort.proofs.Kept.{Kept, InTree, make-kept}
+use Rattle.resolved_sort.specs.Growing.{Grown, Kept, InTree, Answers}
+use Rattle.resolved_sort.proofs.Grown.{grown-none}
+use Rattle.resolved_sort.proofs.Kept.{make-kept}
 use Rattle.resolved_sort.proofs.Stored.{look-whole}
-use Rattle.resolved_sort.proofs.Made.{Answers, make-answers}
+use Rattle.resolved_sort.proofs.Made.{make-answers}
 use Rattle.resolved_sort.proofs.Reached.{Reached, reached, stopped, ended, reached-checked, reached-below, reached-sort}
 use Rattle.sort_text.specs.Text.{text}
 use Rattle.pair_line.specs.PairProgram.{sortOrNone, noneText, comma}
-use Rattle.sort_text.proofs.Readable.{size}
+use Rattle.sort_text.specs.Readable.{size}
 use Rattle.sort_text.proofs.WhatIsRead.{line-nodes}
 use Rattle.sort_text.proofs.Sizes.{entriesOf, entries-below-size, Spent, Within, AnyTree, make-within, make-not-full}
-use Rattle.sort_writer.specs.Puts.{SortRoom}
+use Rattle.sort_writer.specs.Inner.Puts.{SortRoom}
 use Rattle.text_out.specs.Put.{Put}
 use Rattle.text_out.proofs.Put.{put-then, put-as, put-length}
-use Rattle.pair_line.specs.Room.{Grows, BoundRoom}
+use Rattle.pair_line.specs.Inner.Room.{Grows}
+use Rattle.pair_line.specs.Room.{BoundRoom}
 use Rattle.pair_line.proofs.Grows.{grows}
 
 module _ (up : Bool) (ws : List ℕ) (n e a b : ℕ) (out : List ℕ) (at : ℕ) (q : BoundRoom up ws n e a b out at) where

@@ -1,8 +1,8 @@
 -- The fixed six sorts, put into any storage of full length, are a checked list. By their kinds. Assumes nothing.
-use mathlib.Core.Path.{_≡_, refl, sym, _∙_, ap, ap₂}
+use mathlib.Core.Path.{_≡_, refl, _∙_, ap, ap₂}
 use mathlib.Core.Bool.{true, _&&_}
 use mathlib.Core.List.{List, [], _∷_, _++_}
-use Prim.Native.Nat.{ℕ, zero, suc, _+_, _*_, _<_, _≤_}
+use Prim.Native.Nat.{ℕ, zero, suc, _+_, _<_, _≤_}
 use native.Mathlib.Omega.{arith}
 use lib.ListN.{length, getD, set, length-set}
 use lib.Seq.{getD-set-same, getD-set-other}
@@ -13,11 +13,11 @@ use Rattle.resolved_sort.specs.Tree.{Tree, same, family, level}
 use Rattle.resolved_sort.specs.Interning.{member, distinct}
 use Rattle.resolved_sort.specs.Storage.{fullLength, kindAt, partAt, startAt, countAt, wordsAt, trees, resolved}
 use Rattle.resolved_sort.specs.Checks.{allBelow, fixedSix, partsBelow, rowFine, rowsFine, noTwoEqual}
-use Rattle.resolved_sort.specs.Rows.{Checked}
 use Rattle.sort_text.specs.Postfix.{sixth}
 use Rattle.sort_text.proofs.Readable.{and-both}
 use Rattle.sort_reader.proofs.Entry.{tree-of-six}
-use Rattle.pair_line.specs.Room.{putSix, Begun}
+use Rattle.pair_line.specs.Inner.Room.{putSix}
+use Rattle.pair_line.specs.Room.{Begun}
 
 module _ (ws : List ℕ) (l : fullLength ≤ length ws) where
   long : (us : List ℕ) (i v : ℕ) → fullLength ≤ length us → fullLength ≤ length (set us i v)

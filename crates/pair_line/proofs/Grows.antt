@@ -1,9 +1,9 @@
 -- A list that has grown from a checked storage by at most 200 sorts and entries: its storage has the old sorts under their numbers, and
 -- begins with the fixed six if the old one does. Assumes nothing.
-use mathlib.Core.Path.{_≡_, refl, sym, _∙_, ap, subst}
-use mathlib.Core.Bool.{true, _&&_, and-eq-true-iff}
+use mathlib.Core.Path.{_≡_, refl, _∙_}
+use mathlib.Core.Bool.{true, and-eq-true-iff}
 use mathlib.Core.List.{List}
-use Prim.Native.Nat.{ℕ, zero, suc, _+_, _-_, _<_, _≤_}
+use Prim.Native.Nat.{ℕ, zero, suc, _+_, _-_, _≤_}
 use native.Mathlib.Omega.{arith}
 use lib.ListN.{length}
 use lib.Dec.{eqb, leb}
@@ -15,11 +15,12 @@ use Rattle.resolved_sort.specs.Checks.{allBelow, fixedSix}
 use Rattle.resolved_sort.specs.Entries.{countsOf, after}
 use Rattle.resolved_sort.specs.Rows.{Checked}
 use Rattle.resolved_sort.proofs.Trees.{length-trees}
-use Rattle.resolved_sort.proofs.Grown.{Grown}
+use Rattle.resolved_sort.specs.Growing.{Grown}
 use Rattle.resolved_sort.proofs.Unchanged.{longer, unchanged, look-unchanged}
 use Rattle.sort_text.proofs.Readable.{and-both}
 use Rattle.sort_text.proofs.Sizes.{Spent}
-use Rattle.pair_line.specs.Room.{Begun, Grows}
+use Rattle.pair_line.specs.Room.{Begun}
+use Rattle.pair_line.specs.Inner.Room.{Grows}
 
 module _ (ws : List ℕ) (n e : ℕ) (c : Checked ws n e) (S : Sorts) (g : Grown ws n e S) (k j : ℕ) (s : Spent k j (sortsOf ws n e) S) (p : k ≤ 200) (q : j ≤ 200) where
   grown-on : Grows ws n e (after ws n e S) (length (S .trees)) (maxEntries - S .entries)

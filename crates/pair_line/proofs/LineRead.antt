@@ -2,21 +2,19 @@
 -- stored under the number that is answered, or the line is no sort from the place answered. Assumes nothing.
 use mathlib.Core.Path.{_≡_, refl, sym, _∙_, ap, ap₂, subst}
 use mathlib.Core.Bool.{Bool, true, false}
-use mathlib.Core.List.{List, [], _∷_}
+use mathlib.Core.List.{List, _∷_}
 use Prim.Native.Nat.{ℕ, _+_, _-_, _<_, _≤_}
 use native.Mathlib.Omega.{arith}
 use lib.ListN.{length, drop}
 use Rattle.resolved_sort.specs.declared.SortId.{SortId}
 use Rattle.resolved_sort.specs.declared.Counts.{Counts}
-use Rattle.resolved_sort.specs.declared.Joined.{Joined}
 use Rattle.resolved_sort.specs.declared.Joined.the-variants.{At}
 use Rattle.resolved_sort.specs.Tree.{Tree}
 use Rattle.resolved_sort.specs.Interning.{Sorts, number, Outcome, made, nothing, full}
-use Rattle.resolved_sort.specs.Storage.{sortsOf, givenBack}
-use Rattle.resolved_sort.specs.Entries.{treeAt, countsOf, after, stored}
+use Rattle.resolved_sort.specs.Storage.{sortsOf}
+use Rattle.resolved_sort.specs.Entries.{treeAt, countsOf, stored}
 use Rattle.resolved_sort.specs.Rows.{storedAt}
 use Rattle.resolved_sort.proofs.Numbers.{true-not-false}
-use Rattle.resolved_sort.proofs.Kept.{Kept, InTree}
 use Rattle.resolved_sort.proofs.Reached.{no-confusion, Reached, reached, reached-below, reached-sort}
 use Rattle.sort_text.specs.declared.Read.{Read}
 use Rattle.sort_text.specs.declared.Read.the-variants.{Refused, NotASort, Sort, NoRoom}
@@ -24,13 +22,14 @@ use Rattle.sort_text.specs.Parse.{Parsed, parsed, stuck, line}
 use Rattle.sort_text.specs.Reading.{store, readLeft, storedBy, readAs}
 use Rattle.pair_line.specs.PairProgram.{good, wrong, lineOf}
 use Rattle.sort_text.proofs.Suffix.{unread-end}
-use Rattle.sort_text.proofs.Readable.{size}
+use Rattle.sort_text.specs.Readable.{size}
 use Rattle.sort_text.proofs.WhatIsRead.{line-nodes}
 use Rattle.sort_text.proofs.Sizes.{entriesOf, entries-below-size, Spent, Within}
 use Rattle.sort_text.proofs.PairRoom.{Is, Makes, store-within, store-makes}
-use Rattle.sort_reader.specs.Tested.{Passes}
+use Rattle.sort_reader.specs.Inner.Tested.{Passes}
 use Rattle.sort_reader.proofs.Entry.{store-kept}
-use Rattle.pair_line.specs.Room.{OfLine, Begun, Grows}
+use Rattle.pair_line.specs.Room.{OfLine, Begun}
+use Rattle.pair_line.specs.Inner.Room.{Grows}
 use Rattle.pair_line.proofs.Grows.{grows, begun-still}
 use Rattle.pair_line.proofs.Lines.{line-good, line-wrong}
 

@@ -11,10 +11,10 @@ use lib.Dec.{ltb}
 use borrow.Author.Tests.{leb-true}
 use Rattle.resolved_sort.specs.Tree.{Tree}
 use Rattle.resolved_sort.specs.Order.{bound, Steps, distance, materializable}
-use Rattle.sort_text.specs.Parse.{Parsed, parsed, stuck, line}
+use Rattle.sort_text.specs.Parse.{Parsed, parsed, stuck, line, left}
 use Rattle.sort_text.specs.Reading.{shortLine}
 use Rattle.pair_line.specs.PairProgram.{smallDecimal, sortOrNone, stepsOrNone, yesOrNo, answer, Line, good, wrong, read, lineOf, withFirst, withSecond, single, pair}
-use Rattle.sort_text.proofs.Suffix.{suffix-length, left, line-suffix}
+use Rattle.sort_text.proofs.Suffix.{suffix-length, line-suffix}
 use Rattle.sort_text.proofs.Length.{wide, text-length, bound-wide, line-wide}
 
 decimal-by : (a b : Bool) (n : ℕ) → length (cond a ((48 + n) ∷ []) (cond b ((48 + n / 10) ∷ (48 + n % 10) ∷ []) ((48 + n / 100) ∷ (48 + n / 10 % 10) ∷ (48 + n % 10) ∷ []))) ≤ 3

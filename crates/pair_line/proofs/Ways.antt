@@ -21,12 +21,14 @@ use Rattle.pair_line.specs.PairProgram.{noneText, smallDecimal, comma, a
 use Rattle.pair_line.proofs.PairLength.{pair-length, single-length}
 use Rattle.sort_recogniser.specs.declared.Recognised.{Recognised}
 use Rattle.sort_recogniser.specs.declared.Recognised.the-variants.{Done, Stuck}
-use Rattle.sort_recogniser.specs.Says.{Says}
+use Rattle.sort_recogniser.specs.Inner.Says.{Says}
 use Rattle.text_out.specs.Put.{Put}
 use Rattle.text_out.proofs.Put.{put-then, put-as, put-length}
 use Rattle.sort_writer.proofs.Front.{put-front}
-use Rattle.pair_line.specs.Room.{lineRoom, OfLine, Begun, FirstRead, BothRead}
-use Rattle.pair_line.specs.Answers.{stepsText, withLf, outputLeft}
+use Rattle.pair_line.specs.Room.{lineRoom, OfLine, Begun}
+use Rattle.pair_line.specs.Inner.Room.{FirstRead, BothRead}
+use Rattle.pair_line.specs.Inner.Answers.{stepsText}
+use Rattle.pair_line.specs.Answers.{withLf, outputLeft}
 use Rattle.pair_line.proofs.Lines.{line-long, line-good, line-wrong}
 use Rattle.pair_line.proofs.LineRead.{ReadSort, read-sort, no-sort}
 

@@ -5,19 +5,11 @@ use mathlib.Core.List.{List, _++_}
 use Prim.Native.Nat.{ℕ}
 use lib.ListN.{length, drop}
 use lib.Dec.{leb}
-use Rattle.resolved_sort.specs.declared.Widening.{Widening}
-use Rattle.resolved_sort.specs.declared.Widening.the-variants.{Distance, Nothing}
 use Rattle.text_out.specs.Quoted.{bytesOf}
-use Rattle.sort_text.specs.declared.Written.{Written}
 use Rattle.sort_text.specs.declared.Written.the-variants.{Refused, Text}
 use Rattle.sort_text.specs.Writing.{WriteLeft, writeLeft}
-use Rattle.pair_line.specs.PairProgram.{noneText, smallDecimal, Line, lineOf, pair, single}
+use Rattle.pair_line.specs.PairProgram.{lineOf, pair, single}
 use Rattle.pair_line.specs.Room.{lineRoom}
-
--- `stepsOrNone` of what the code answers
-abbrev pub stepsText : Widening → List ℕ
-stepsText Nothing = noneText
-stepsText (Distance head interior) = smallDecimal head ++ (bytesOf " " ++ smallDecimal interior)
 
 abbrev pub withLf : List ℕ → List ℕ
 withLf bs = bs ++ bytesOf "\n"

@@ -3,8 +3,8 @@
 use mathlib.Core.Path.{_≡_}
 use mathlib.Core.Bool.{Bool, true}
 use mathlib.Core.List.{List, [], _++_}
-use Prim.Native.Nat.{ℕ, _+_, _*_, _<_, _≤_}
-use lib.ListN.{length, set}
+use Prim.Native.Nat.{ℕ, _+_, _*_, _≤_}
+use lib.ListN.{length}
 use Rattle.resolved_sort.specs.Tree.{Tree}
 use Rattle.resolved_sort.specs.Order.{bound}
 use Rattle.resolved_sort.specs.Checks.{fixedSix}
@@ -19,10 +19,6 @@ use Rattle.pair_line.specs.PairProgram.{sortOrNone, comma}
 abbrev pub lineRoom : ℕ
 lineRoom = 816
 
--- The fixed six sorts in a storage: their kinds are their numbers.
-unfoldable pub putSix : List ℕ → List ℕ
-putSix ws = set (set (set (set (set (set ws 0 0) 4 1) 8 2) 12 3) 16 4) 20 5
-
 -- the sort of a line that is not too long
 pub record OfLine (t : Tree) : Type 0 where
   pub bytes : List ℕ
@@ -36,29 +32,6 @@ pub record Begun (ws : List ℕ) (n e k : ℕ) : Type 0 where
   pub six : fixedSix ws n ≡ true
   pub sorts : n ≤ 6 + k
   pub entries : e ≤ k
-
--- The second storage has the sorts of the first under their numbers, and at most maxLine more sorts and entries.
-pub record Grows (ws : List ℕ) (n e : ℕ) (vs : List ℕ) (m d : ℕ) : Type 0 where
-  pub checked : Checked vs m d
-  pub longer : n ≤ m
-  pub same : (i : ℕ) → i < n → treeAt vs m i ≡ treeAt ws n i
-  pub sorts : m ≤ n + maxLine
-  pub entries : d ≤ e + maxLine
-
--- the first line of a pair is read
-pub record FirstRead (ws : List ℕ) (n e a : ℕ) (out : List ℕ) (at : ℕ) : Type 0 where
-  pub begun : Begun ws n e maxLine
-  pub below : a < n
-  pub of-line : OfLine (treeAt ws n a)
-  pub room : at + lineRoom ≤ length out
-
--- both lines of a pair are read
-pub record BothRead (ws : List ℕ) (n e a b : ℕ) (out : List ℕ) (at : ℕ) : Type 0 where
-  pub asked : Asked ws n e a b
-  pub of-line : OfLine (treeAt ws n a)
-  pub sorts : n ≤ 6 + 2 * maxLine
-  pub entries : e ≤ 2 * maxLine
-  pub room : at + lineRoom ≤ length out
 
 -- a join or meet and its text have room
 pub record BoundRoom (up : Bool) (ws : List ℕ) (n e a b : ℕ) (out : List ℕ) (at : ℕ) : Type 0 where

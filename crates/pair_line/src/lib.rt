@@ -27,15 +27,15 @@ ghost use lib.ListN.{length, drop};
 ghost use Rattle.resolved_sort.specs.Order.{bound as boundOf};
 ghost use Rattle.resolved_sort.specs.Storage.{fullLength};
 ghost use Rattle.resolved_sort.specs.Entries.{treeAt};
-ghost use Rattle.pair_line.specs.PairProgram.{digitByte as digitOf, smallDecimal, sign, sortOrNone, yesOrNo, comma};
-ghost use Rattle.pair_line.specs.PairProgram.{answer, lineOf};
-ghost use Rattle.pair_line.specs.PairProgram.{withSecond, pair as pairOf, single as singleOf};
+ghost use Rattle.pair_line.specs.PairProgram.{digitByte as digitOf, smallDecimal, sign, sortOrNone, yesOrNo, comma, answer, lineOf, withSecond, pair as pairOf, single as singleOf};
 ghost use Rattle.sort_text.specs.Writing.{writeLeft};
 ghost use Rattle.sort_text.specs.Reading.{maxLine};
 ghost use Rattle.text_out.specs.Put.{Put};
 ghost use Rattle.text_out.specs.Quoted.{bytesOf};
-ghost use Rattle.pair_line.specs.Room.{lineRoom, putSix, Begun, Grows, FirstRead, BothRead, BoundRoom};
-ghost use Rattle.pair_line.specs.Answers.{stepsText, withLf, pairLeft, singleLeft};
+ghost use Rattle.pair_line.specs.Room.{lineRoom, Begun, BoundRoom};
+ghost use Rattle.pair_line.specs.Inner.Room.{putSix, Grows, FirstRead, BothRead};
+ghost use Rattle.pair_line.specs.Inner.Answers.{stepsText};
+ghost use Rattle.pair_line.specs.Answers.{withLf, pairLeft, singleLeft};
 
 // How much of the sort storage is in use, and where in the buffer the next byte goes.
 struct Used {

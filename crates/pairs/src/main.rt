@@ -15,7 +15,8 @@ use pair_input::finish;
 ghost use Prim.Native.Nat.{_≤_};
 ghost use lib.ListN.{length};
 ghost use Rattle.pair_line.specs.Room.{lineRoom};
-ghost use Rattle.pair_input.specs.Held.{Holds, BytesTaken};
+ghost use Rattle.pair_input.specs.Held.{Holds};
+ghost use Rattle.pair_input.specs.Inner.Held.{BytesTaken};
 
 // The lines that are held, and whether the program goes on.
 struct State {

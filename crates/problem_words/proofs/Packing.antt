@@ -9,10 +9,10 @@ use Rattle.resolved_sort.proofs.Append.{getD-sets-before, getD-sets-at}
 use Rattle.inference.specs.Constraints.{target, constraint, constraintAt, overloadAt}
 use Rattle.inference.proofs.Members.{rows-same}
 use Rattle.search_state.specs.declared.Sizes.{Sizes}
-use Rattle.search_state.specs.Memory.{overloadsAt, sourcesAt, exprsAt, sourceAt, exprAt, problemIn}
+use Rattle.search_state.specs.Inner.Memory.{overloadsAt, sourcesAt, exprsAt, sourceAt, exprAt, problemIn}
 use Rattle.words.specs.Words.{part}
 use Rattle.words.proofs.Parts.{length-part, part-at}
-use Rattle.problem_words.specs.Packed.{problemFrom, Packable}
+use Rattle.problem_words.specs.Inner.Packed.{problemFrom, Packable}
 
 stored : (l vs : List ℕ) (at n : ℕ) → at + n ≤ length l → n ≤ length vs → (j : ℕ) → j < n → getD (sets l at (part 0 n vs)) (at + j) 0 ≡ getD vs j 0
 stored l vs at n h k j i =

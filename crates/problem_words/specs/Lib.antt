@@ -1,2 +1,2 @@
 -- A problem in words: what a caller gives, and what is packed.
-pub mod Packed
+pub mod Inner

@@ -19,8 +19,8 @@ ghost use mathlib.Core.Path.{_≡_};
 ghost use Prim.Native.Nat.{_+_};
 ghost use lib.ListN.{drop};
 ghost use Rattle.inference.specs.Constraints.{overloadAt, litKind, target, constraint, constraintAt};
-ghost use Rattle.search_state.specs.Memory.{overloadsAt, sourceAt, problemIn};
-ghost use Rattle.problem_words.specs.Packed.{problemFrom, Packable};
+ghost use Rattle.search_state.specs.Inner.Memory.{overloadsAt, sourceAt, problemIn};
+ghost use Rattle.problem_words.specs.Inner.Packed.{problemFrom, Packable};
 
 // Packs the lists of a problem: constraints, overloads, sources and places of expressions, each at its ceiling.
 pub fn pack(

@@ -5,10 +5,10 @@ use Prim.Native.Nat.{ℕ}
 use lib.Seq.{sets}
 use Rattle.words.specs.Words.{part}
 use Rattle.recorded_solve.specs.declared.HeldCounts.{HeldCounts}
-use Rattle.solve_outputs.specs.Packed.{PackedSolve, packedSolve}
-use Rattle.recorded_solve.specs.Outcome.{solved}
-use Rattle.recorded_solve.specs.Slices.{sliceStart, countsHeld, callHeldWith, callHeld, keptIn, leftHeld}
-use Rattle.recorded_solve.specs.Lines.{reply, askOf}
+use Rattle.solve_outputs.specs.Packed.{packedSolve}
+use Rattle.recorded_solve.specs.Inner.Outcome.{solved}
+use Rattle.recorded_solve.specs.Inner.Slices.{sliceStart, countsHeld, callHeldWith, callHeld, keptIn, leftHeld}
+use Rattle.recorded_solve.specs.Inner.Lines.{reply, askOf}
 
 module _ (us ss ns bs xs ts ms cs : List ℕ) where
   pub all-kept :

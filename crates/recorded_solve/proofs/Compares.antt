@@ -6,7 +6,7 @@ use native.Mathlib.Omega.{arith}
 use lib.ListN.{getD}
 use borrow.Author.Tests.{eq-eqb, ne-eqb}
 use Rattle.replay.specs.declared.Verdict.the-variants.{Agrees, LeavesOther}
-use Rattle.recorded_solve.specs.Lines.{comparedFrom}
+use Rattle.recorded_solve.specs.Inner.Lines.{comparedFrom}
 
 other-at :
     (m : ℕ) (ws : List ℕ) (at : ℕ) (values : List ℕ) (i : ℕ) → (getD ws at 0 ≡ getD values i 0 → ⊥)

@@ -10,8 +10,8 @@ use borrow.Author.Tests.{leb-true, lt-ltb, le-ltb}
 use Rattle.replay.specs.declared.Fields.{Fields}
 use Rattle.recorded_solve.specs.declared.Span.{Span}
 use Rattle.recorded_solve.specs.declared.Expected.the-variants.{Is, Nothing}
-use Rattle.recorded_solve.specs.Slices.{sliceStarts, sliceStart}
-use Rattle.recorded_solve.specs.Lines.{noSpan, spanOf, Standing, recordedOf}
+use Rattle.recorded_solve.specs.Inner.Slices.{sliceStarts, sliceStart}
+use Rattle.recorded_solve.specs.Inner.Lines.{noSpan, spanOf, Standing, recordedOf}
 
 abbrev allAtMost : ℕ → List ℕ → Bool
 allAtMost b [] = true

@@ -2,20 +2,20 @@
 use mathlib.Core.Path.{_≡_, sym, ap, _∙_}
 use mathlib.Core.Bool.{Bool, true, false, not}
 use mathlib.Core.List.{List}
-use Prim.Native.Nat.{ℕ, _<_, _≤_}
-use lib.ListN.{length, getD, replicate}
+use Prim.Native.Nat.{ℕ}
+use lib.ListN.{length, getD}
 use borrow.Author.Tests.{eq-eqb, ne-eqb, not-true, not-false}
 use Rattle.replay.specs.declared.Fields.{Fields}
 use Rattle.replay.specs.declared.Verdict.{Verdict}
 use Rattle.replay.specs.declared.Verdict.the-variants.{Quiet, Agrees, Differs, NotOfForm}
-use Rattle.replay.specs.Numbers.{fieldsOf}
-use Rattle.replay.specs.Lines.{kept, storeFrom}
+use Rattle.replay.specs.Inner.Numbers.{fieldsOf}
+use Rattle.replay.specs.Inner.Lines.{kept, storeFrom}
 use Rattle.recorded_solve.specs.declared.Letter.{Letter}
 use Rattle.recorded_solve.specs.declared.Letter.the-variants.{List as NewList, Gives, Asks, Left, Other}
 use Rattle.recorded_solve.specs.declared.Span.{Span}
 use Rattle.recorded_solve.specs.declared.Expected.{Expected}
 use Rattle.recorded_solve.specs.declared.Expected.the-variants.{Is, Nothing}
-use Rattle.recorded_solve.specs.Lines.{letterOf, spanOf, WordsSaid, wordsSaid, noWords, beginLine, storeOf, comparedFrom, compareOf, recordedOf, reply, askOf, askLine, Stepped, stepped, givenAfter, leftAfter, byLetter, stepOf}
+use Rattle.recorded_solve.specs.Inner.Lines.{letterOf, spanOf, wordsSaid, noWords, beginLine, storeOf, comparedFrom, compareOf, recordedOf, reply, askOf, askLine, Stepped, stepped, givenAfter, leftAfter, byLetter, stepOf}
 
 pub other-letter : (b : ℕ) → (b ≡ 76 → ⊥) → (b ≡ 83 → ⊥) → (b ≡ 81 → ⊥) → (b ≡ 88 → ⊥) → Other ≡ letterOf b
 unfolding letterOf

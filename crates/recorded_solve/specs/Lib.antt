@@ -1,4 +1,2 @@
 -- What the contracts of this crate cite.
-pub mod Slices
-pub mod Outcome
-pub mod Lines
+pub mod Inner

@@ -32,13 +32,11 @@ use words::word;
 ghost use mathlib.Core.Path.{_≡_};
 ghost use Prim.Native.Nat.{_≤_};
 ghost use lib.ListN.{length};
-ghost use Rattle.replay.specs.Lines.{maxWords, nearEnough};
-ghost use Rattle.recorded_solve.specs.Slices.{countsAt, sliceStart, countHeld, countsHeld, callHeldWith, keptIn};
+ghost use Rattle.replay.specs.Inner.Lines.{maxWords, nearEnough};
+ghost use Rattle.recorded_solve.specs.Inner.Slices.{countsAt, sliceStart, countHeld, countsHeld, callHeldWith, keptIn};
 ghost use Rattle.solve_outputs.specs.Packed.{packedSolve};
-ghost use Rattle.recorded_solve.specs.Outcome.{solved};
-ghost use Rattle.recorded_solve.specs.Lines.{letterOf, noSpan, Standing, comparedFrom, recordedOf};
-ghost use Rattle.recorded_solve.specs.Lines.{wordsSaid, reply, askOf, beginLine, storeOf};
-ghost use Rattle.recorded_solve.specs.Lines.{compareOf, askLine, stepped, stepOf};
+ghost use Rattle.recorded_solve.specs.Inner.Outcome.{solved};
+ghost use Rattle.recorded_solve.specs.Inner.Lines.{letterOf, noSpan, Standing, comparedFrom, recordedOf, wordsSaid, reply, askOf, beginLine, storeOf, compareOf, askLine, stepped, stepOf};
 
 // Where the slices stand in the words held, after the sorts, each at its ceiling (base names, which have none, have as
 // many rows as there are expressions); and after the scratch the counts, the last of which is the default sort.

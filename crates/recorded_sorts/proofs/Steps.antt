@@ -12,9 +12,9 @@ use Rattle.recorded_sorts.specs.declared.Letter.the-variants.{List as Ne
 use Rattle.recorded_sorts.specs.declared.Progress.{Progress}
 use Rattle.replay.specs.declared.Verdict.the-variants.{Quiet, Agrees, Differs}
 use Rattle.recorded_sorts.specs.declared.LineStep.{LineStep}
-use Rattle.replay.specs.Numbers.{fieldsOf}
-use Rattle.replay.specs.Lines.{kept, storeFrom}
-use Rattle.recorded_sorts.specs.Lines.{letterOf, complete, lineStep, notOfForm, Stepped, stepped, keepOf, beginLine, rowLine, runLine, packedAnswer, askLine, byLetter, stepOf}
+use Rattle.replay.specs.Inner.Numbers.{fieldsOf}
+use Rattle.replay.specs.Inner.Lines.{kept, storeFrom}
+use Rattle.recorded_sorts.specs.Inner.Lines.{letterOf, complete, lineStep, notOfForm, Stepped, stepped, keepOf, beginLine, rowLine, runLine, packedAnswer, askLine, byLetter, stepOf}
 
 pub other-letter :
     (b : ℕ) → (b ≡ 76 → ⊥) → (b ≡ 114 → ⊥) → (b ≡ 97 → ⊥) → (b ≡ 99 → ⊥) → (b ≡ 100 → ⊥) → (b ≡ 109 → ⊥) → (b ≡ 106 → ⊥) → (b ≡ 107 → ⊥)

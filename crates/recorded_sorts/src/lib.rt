@@ -19,9 +19,8 @@ use sort_entries::sort_widening_distance;
 use words::MOST_WORD;
 ghost use mathlib.Core.Path.{_≡_};
 ghost use Prim.Native.Nat.{_+_, _*_, _≤_};
-ghost use Rattle.replay.specs.Lines.{nearEnough};
-ghost use Rattle.recorded_sorts.specs.Lines.{letterOf, complete as isComplete, stepped, keepOf, beginLine, rowLine};
-ghost use Rattle.recorded_sorts.specs.Lines.{runLine, packedAnswer, askLine, stepOf, notOfForm, started};
+ghost use Rattle.replay.specs.Inner.Lines.{nearEnough};
+ghost use Rattle.recorded_sorts.specs.Inner.Lines.{letterOf, complete as isComplete, stepped, keepOf, beginLine, rowLine, runLine, packedAnswer, askLine, stepOf, notOfForm, started};
 
 // The ceilings of a list, as numbers of a line.
 const SORTS: u64 = 1024;

@@ -5,9 +5,8 @@ use Prim.Native.Nat.{ℕ, zero, suc, _+_, _-_, _<_, _≤_}
 use native.Mathlib.Omega.{arith}
 use lib.ListN.{getD}
 use borrow.Author.Tests.{eq-eqb, ne-eqb}
-use Rattle.replay.specs.declared.Verdict.{Verdict}
 use Rattle.replay.specs.declared.Verdict.the-variants.{Agrees, Differs, BindsOther}
-use Rattle.recorded_unify.specs.Lines.{judgedFrom, judgedOf}
+use Rattle.recorded_unify.specs.Inner.Lines.{judgedFrom, judgedOf}
 
 other-at : (m : ℕ) (ws bs : List ℕ) (i : ℕ) → (getD bs i 0 ≡ getD ws (20992 + i) 0 → ⊥) → BindsOther i ≡ judgedFrom (suc m) ws bs i
 unfolding judgedFrom

@@ -9,13 +9,13 @@ use Rattle.unification.specs.UnifyEntry.{packedBinds}
 use Rattle.replay.specs.declared.Fields.{Fields}
 use Rattle.replay.specs.declared.Verdict.{Verdict}
 use Rattle.replay.specs.declared.Verdict.the-variants.{Quiet}
-use Rattle.replay.specs.Numbers.{fieldsOf, fieldAt}
+use Rattle.replay.specs.Inner.Numbers.{fieldsOf, fieldAt}
 use Rattle.recorded_unify.specs.declared.Part.{Part}
 use Rattle.recorded_unify.specs.declared.Letter.{Letter}
 use Rattle.recorded_unify.specs.declared.Letter.the-variants.{List as NewList, Row, Words, Binds, Asks, Other}
 use Rattle.recorded_unify.specs.declared.Progress.{Progress}
 use Rattle.recorded_unify.specs.declared.LineStep.{LineStep}
-use Rattle.recorded_unify.specs.Lines.{letterOf, complete, lineStep, notOfForm, Stepped, stepped, beginLine, rowLine, runLine, bindingsIn, renewed, bindsLine, unified, judgedOf, judgedReply, askLine, renewedStep, byLetter, stepOf}
+use Rattle.recorded_unify.specs.Inner.Lines.{letterOf, complete, lineStep, notOfForm, Stepped, stepped, beginLine, rowLine, runLine, bindingsIn, renewed, bindsLine, unified, judgedOf, judgedReply, askLine, renewedStep, byLetter, stepOf}
 
 module _ (ws : List ℕ) (f : Fields) (p : Progress) where
   pub binds-count : (r : LineStep) → r ≡ notOfForm p → (f .count ≡ 2 → ⊥) → stepped ws r ≡ bindsLine ws f p

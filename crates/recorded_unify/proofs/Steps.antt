@@ -7,13 +7,13 @@ use borrow.Author.Tests.{lt-ltb, le-ltb, le-leb, lt-leb, eq-eqb, ne-eqb, not-tru
 use Rattle.unification.specs.declared.Lengths.{Lengths}
 use Rattle.replay.specs.declared.Fields.{Fields}
 use Rattle.replay.specs.declared.Verdict.the-variants.{Quiet}
-use Rattle.replay.specs.Lines.{kept, storeFrom}
+use Rattle.replay.specs.Inner.Lines.{kept, storeFrom}
 use Rattle.recorded_unify.specs.declared.Part.{Part}
 use Rattle.recorded_unify.specs.declared.Letter.the-variants.{Other}
 use Rattle.recorded_unify.specs.declared.Progress.{Progress}
 use Rattle.recorded_unify.specs.declared.LineStep.{LineStep}
-use Rattle.replay.specs.Numbers.{fieldAt}
-use Rattle.recorded_unify.specs.Lines.{letterOf, partStart, partLength, lengths, withLength, noLengths, progressOf, complete, lineStep, notOfForm, Stepped, stepped, beginLine, keepOf, rowLine, runLine}
+use Rattle.replay.specs.Inner.Numbers.{fieldAt}
+use Rattle.recorded_unify.specs.Inner.Lines.{letterOf, partStart, partLength, lengths, withLength, noLengths, progressOf, complete, lineStep, notOfForm, Stepped, stepped, beginLine, keepOf, rowLine, runLine}
 
 pub other-letter :
     (b : ℕ) → (b ≡ 76 → ⊥) → (b ≡ 114 → ⊥) → (b ≡ 97 → ⊥) → (b ≡ 110 → ⊥) → (b ≡ 98 → ⊥) → (b ≡ 118 → ⊥) → (b ≡ 119 → ⊥) → (b ≡ 117 → ⊥)

@@ -22,11 +22,8 @@ ghost use mathlib.Core.Path.{_≡_};
 ghost use Prim.Native.Nat.{_≤_};
 ghost use lib.ListN.{length};
 ghost use Rattle.unification.specs.UnifyEntry.{packedBinds};
-ghost use Rattle.replay.specs.Lines.{nearEnough};
-ghost use Rattle.recorded_unify.specs.Lines.{bindingsAt, letterOf, partStart, partLength, withLength};
-ghost use Rattle.recorded_unify.specs.Lines.{noLengths, started, complete as isComplete, lineStep, notOfForm};
-ghost use Rattle.recorded_unify.specs.Lines.{stepped, beginLine, keepOf, rowLine, runLine, renewed};
-ghost use Rattle.recorded_unify.specs.Lines.{bindingsIn, bindsLine, unified, judgedOf, askLine, stepOf};
+ghost use Rattle.replay.specs.Inner.Lines.{nearEnough};
+ghost use Rattle.recorded_unify.specs.Inner.Lines.{bindingsAt, letterOf, partStart, partLength, withLength, noLengths, started, complete as isComplete, lineStep, notOfForm, stepped, beginLine, keepOf, rowLine, runLine, renewed, bindingsIn, bindsLine, unified, judgedOf, askLine, stepOf};
 
 // The parts of a list stand one after another in its words: sorts and their entries as the entry takes them, nodes and
 // theirs, the bindings, and at last the bindings that the next question leaves.

@@ -25,13 +25,15 @@ use Rattle.unification.specs.declared.InferSort.the-variants.{Generic, Function
 use Rattle.unification.specs.declared.Three.{Three}
 use Rattle.unification.specs.declared.Listed.the-variants.{These, NoList}
 use Rattle.unification.specs.declared.Related.{Related}
-use Rattle.unification.specs.Term.{Head, flatHead, containerHead, functionHead, Shape, variable, over, partsOf}
+use Rattle.unification.specs.Term.{Head, flatHead, containerHead, functionHead, Shape, variable, over}
+use Rattle.unification.specs.Inner.Term.{partsOf}
 use Rattle.unification.specs.Nodes.{nodeEntriesOf, nodeAt, sortShape, Binds, bindsOf}
 use Rattle.unification.specs.Unify.{follow, deep}
 use Rattle.unification.specs.Acyclic.{first}
 use Rattle.unification.specs.Checked.{graphOf, Ready, Placed}
 use Rattle.unification.specs.Related.{relatedContainer}
-use Rattle.unification.specs.Making.{Lent, Makes, made, _and-then_, relatedOver, pushFunctions, relatedPlaces, relatedEnd, strictRelated, lent}
+use Rattle.unification.specs.Making.{Lent, Makes, made, _and-then_, relatedOver, pushFunctions, relatedPlaces, relatedEnd, strictRelated}
+use Rattle.unification.specs.Inner.Making.{lent}
 use Rattle.unification.proofs.Follow.{follow-end}
 use Rattle.unification.proofs.Rank.{rank}
 use Rattle.unification.proofs.Theorem.{ready-ranked}
@@ -41,10 +43,10 @@ use Rattle.unification.proofs.Grows.{parts-placed}
 use Rattle.unification.proofs.Parts.{one-at}
 use Rattle.unification.proofs.PlaceTerms.{placed-formed, sort-part-below}
 use Rattle.unification.proofs.Rows.{ShapeFormed, variable-formed, flat-formed, container-formed, function-formed}
-use Rattle.infer_nodes.specs.Parts.{NodesReady}
+use Rattle.infer_nodes.specs.Inner.Parts.{NodesReady}
 use Rattle.infer_nodes.proofs.Shapes.{at-sort, shape-of-variable}
 use Rattle.infer_nodes.proofs.Ways as ways
-use Rattle.related_sorts.specs.Outcome.{relatedMade, AreThese, IsFunction, FunctionAt, Relates}
+use Rattle.related_sorts.specs.Inner.Outcome.{relatedMade, AreThese, IsFunction, FunctionAt, Relates}
 use Rattle.related_sorts.proofs.Laws.{relates-as, no-places}
 
 -- a function has at most 16 arguments

@@ -2,13 +2,13 @@
 use mathlib.Core.Path.{_≡_, refl, ap, ap₂, sym, _∙_, subst}
 use mathlib.Core.List.{List, [], _∷_, _++_, append-nil, append-assoc}
 use mathlib.Core.Option.{Option, none, some}
-use mathlib.Core.Bool.{Bool, true, false, cond, _&&_}
-use Prim.Native.Nat.{ℕ, zero, suc, _+_, _-_, _<_, _≤_}
+use mathlib.Core.Bool.{Bool, true, false, cond}
+use Prim.Native.Nat.{ℕ, _+_, _-_, _<_, _≤_}
 use native.Mathlib.Omega.{arith}
 use native.Mathlib.Numerals.{add-one}
-use lib.ListN.{length, getD, set, take, drop, drop-of-length-le, length-set}
-use lib.Seq.{sets, drop-cons, take-suc, take-suc-set, take-all, length-take-le, getD-take}
-use lib.Dec.{eqb, leb, ltb}
+use lib.ListN.{length, getD, set, take, drop, drop-of-length-le}
+use lib.Seq.{sets, drop-cons, take-suc, take-suc-set, length-take-le, getD-take}
+use lib.Dec.{eqb}
 use borrow.Author.Tests.{lt-ltb, le-ltb, le-leb, lt-leb}
 use Rattle.resolved_sort.specs.declared.ComplexSort.{ComplexSort}
 use Rattle.resolved_sort.specs.declared.SortId.{SortId}
@@ -19,24 +19,25 @@ use Rattle.resolved_sort.specs.declared.Joined.{Joined}
 use Rattle.resolved_sort.specs.declared.Joined.the-variants.{At as JoinedAt, Nothing as JoinedNothing, Full as JoinedFull}
 use Rattle.resolved_sort.specs.Tree.{Tree, container}
 use Rattle.resolved_sort.specs.Interning.{look, member, made as made-sort, full, fits, intern}
-use Rattle.resolved_sort.specs.Storage.{maxSorts, functionKind, Row, kindOp, putRow, trees, sortsOf}
+use Rattle.resolved_sort.specs.Storage.{functionKind, Row, kindOp, putRow, trees, sortsOf}
 use Rattle.resolved_sort.specs.Entries.{Stored, stored}
 use Rattle.resolved_sort.specs.Rows.{Checked, storedAt}
-use Rattle.resolved_sort.specs.Bounds.{internAt, opBound}
+use Rattle.resolved_sort.specs.Bounds.{internAt}
+use Rattle.resolved_sort.specs.Inner.Bounds.{opBound}
 use Rattle.resolved_sort.proofs.Grown.{after-none, more}
 use Rattle.sort_interner.proofs.Runs.{length-given}
 use Rattle.unification.specs.declared.Lengths.{Lengths}
 use Rattle.unification.specs.declared.Pushed.{Pushed}
 use Rattle.unification.specs.declared.Pushed.the-variants.{At, Full as NoRoom}
-use Rattle.unification.specs.declared.Listed.{Listed}
 use Rattle.unification.specs.declared.Listed.the-variants.{These, NoList, Full}
 use Rattle.unification.specs.declared.Three.{Three}
 use Rattle.unification.specs.declared.Related.{Related}
 use Rattle.unification.specs.Nodes.{maxNodes, maxNodeEntries, nodeEntriesAt}
 use Rattle.unification.specs.Related.{relatedContainer}
-use Rattle.unification.specs.Making.{Lent, Makes, made, no-list, no-room, _and-then_, only, withSorts, pushNode, appendNode, internContainer, relatedOver, pushFunctions, lent}
+use Rattle.unification.specs.Making.{Lent, Makes, made, no-list, no-room, _and-then_, only, withSorts, pushNode, appendNode, internContainer, relatedOver, pushFunctions}
+use Rattle.unification.specs.Inner.Making.{lent}
 use Rattle.unification.specs.Resolve.{withCounts}
-use Rattle.related_sorts.specs.Outcome.{row, pushed, relatedMadeBy, relatedMade, AreThese, RangesBy, Ranges, Relates}
+use Rattle.related_sorts.specs.Inner.Outcome.{row, pushed, relatedMadeBy, relatedMade, AreThese, RangesBy, Ranges, Relates}
 
 -- numbers
 pub are-these : (r t : Three) → r ≡ t → (ps : List ℕ) → take (t .count) (t .ids) ≡ ps → t .count ≤ 3 → AreThese r ps

@@ -39,16 +39,15 @@ ghost use Prim.Native.Nat.{_+_, _<_, _≤_};
 ghost use lib.ListN.{take, drop};
 ghost use Rattle.resolved_sort.specs.Tree.{primitive};
 ghost use Rattle.resolved_sort.specs.Storage.{maxSorts, maxArguments};
-ghost use Rattle.resolved_sort.specs.Bounds.{opBound};
+ghost use Rattle.resolved_sort.specs.Inner.Bounds.{opBound};
 ghost use Rattle.resolved_sort.specs.Rows.{Checked};
-ghost use Rattle.unification.specs.Term.{partsOf};
+ghost use Rattle.unification.specs.Inner.Term.{partsOf};
 ghost use Rattle.unification.specs.Nodes.{bindsOf};
 ghost use Rattle.unification.specs.Checked.{graphOf, Ready, Placed};
 ghost use Rattle.unification.specs.Related.{relatedContainer};
-ghost use Rattle.unification.specs.Making.{made, _and-then_, pushNode, relatedOver, lent};
-ghost use Rattle.unification.specs.Making.{pushFunctions, relatedPlaces, strictRelated};
-ghost use Rattle.related_sorts.specs.Outcome.{pushed, relatedMade, row, AreThese};
-ghost use Rattle.related_sorts.specs.Outcome.{IsFunction, FunctionAt, Ranges, Relates};
+ghost use Rattle.unification.specs.Making.{made, _and-then_, pushNode, relatedOver, pushFunctions, relatedPlaces, strictRelated};
+ghost use Rattle.unification.specs.Inner.Making.{lent};
+ghost use Rattle.related_sorts.specs.Inner.Outcome.{pushed, relatedMade, row, AreThese, IsFunction, FunctionAt, Ranges, Relates};
 
 // The numbers strictly above or below `sort`, in ascending distance.
 fn related_numbers(sort: Sort, up: bool) -> Three

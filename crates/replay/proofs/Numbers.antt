@@ -9,7 +9,7 @@ use lib.ListN.{length, getD, set, drop, drop-of-length-le}
 use lib.Seq.{drop-cons}
 use borrow.Author.Tests.{lt-ltb, le-ltb, le-leb, lt-leb, eq-eqb, ne-eqb}
 use Rattle.replay.specs.declared.Number.the-variants.{Is, Nothing}
-use Rattle.replay.specs.Numbers.{isDigit, digits, valueAfter, tooLarge, numberOf, numberAt, endedOf, noFields, allRead, afterNumber, fieldsFrom}
+use Rattle.replay.specs.Inner.Numbers.{isDigit, digits, valueAfter, tooLarge, numberOf, numberAt, endedOf, noFields, allRead, afterNumber, fieldsFrom}
 
 pub digits-end : (line : List ℕ) (i : ℕ) → length line ≤ i → digits (drop i line) ≡ []
 unfolding digits

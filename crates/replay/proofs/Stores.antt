@@ -6,7 +6,7 @@ use Prim.Native.Nat.{ℕ, zero, suc, _+_, _-_, _<_, _≤_}
 use native.Mathlib.Omega.{arith}
 use lib.ListN.{getD, set}
 use borrow.Author.Tests.{lt-ltb, le-ltb}
-use Rattle.replay.specs.Lines.{kept, storeFrom}
+use Rattle.replay.specs.Inner.Lines.{kept, storeFrom}
 
 none-at : (m : ℕ) (ws : List ℕ) (at : ℕ) (values : List ℕ) (i : ℕ) → 65535 < getD values i 0 → kept ws false ≡ storeFrom (suc m) ws at values i
 unfolding storeFrom

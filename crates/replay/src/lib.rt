@@ -6,8 +6,8 @@ use words::MOST_WORD;
 use words::put;
 ghost use mathlib.Core.Path.{_≡_};
 ghost use Prim.Native.Nat.{_+_, _*_, _≤_};
-ghost use Rattle.replay.specs.Numbers.{maxFields, numberAt, endedOf, fieldsOf, noFields};
-ghost use Rattle.replay.specs.Lines.{nearEnough, kept, storeFrom, oneMore, countedOf};
+ghost use Rattle.replay.specs.Inner.Numbers.{maxFields, numberAt, endedOf, fieldsOf, noFields};
+ghost use Rattle.replay.specs.Inner.Lines.{nearEnough, kept, storeFrom, oneMore, countedOf};
 
 // How many numbers a line has at most, how many words of a list it gives at most, and the largest count.
 pub const MAX_FIELDS: usize = 18;

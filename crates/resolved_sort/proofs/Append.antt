@@ -1,29 +1,30 @@
 -- What a new row leaves: the rows and entries before it read as before, the new row reads as it was given, and the list
 -- of sorts is one longer. A checked list stays checked. Assumes nothing.
 use mathlib.Core.Path.{_≡_, refl, sym, _∙_, ap, ap₂, subst}
-use mathlib.Core.Bool.{Bool, true, false, cond, not, _&&_, and-eq-true-iff}
+use mathlib.Core.Bool.{Bool, true, false, cond, and-eq-true-iff}
 use mathlib.Core.Logic.{_≢_}
 use mathlib.Core.List.{List, [], _∷_, _++_}
 use Prim.Native.Nat.{ℕ, zero, suc, _+_, _-_, _*_, _<_, _≤_}
 use native.Mathlib.Omega.{arith}
 use native.Mathlib.Nat.{add-zero}
 use native.Mathlib.Decide.{ℕ-discrete}
-use lib.ListN.{length, getD, set, length-set, length-append}
+use lib.ListN.{length, getD, set, length-set}
 use lib.Seq.{sets, length-sets, getD-set-same, getD-set-other}
-use lib.Dec.{eqb, leb, ltb}
-use borrow.Author.Tests.{ltb-true, leb-true, eqb-true, eqb-false, eq-eqb, ne-eqb, lt-ltb, le-ltb, le-leb}
+use lib.Dec.{eqb, ltb}
+use borrow.Author.Tests.{ltb-true, eqb-true, eqb-false, eq-eqb, lt-ltb}
 use Rattle.resolved_sort.specs.declared.Sort.{Sort}
 use Rattle.resolved_sort.specs.declared.ComplexSort.{ComplexSort}
 use Rattle.resolved_sort.specs.Tree.{Flat, unit, primitive, def, typevar, Tree, flat, container, function, Trees, no-args, arg, arity}
-use Rattle.resolved_sort.specs.Interning.{look, number, member, distinct, need}
-use Rattle.resolved_sort.specs.Storage.{maxSorts, maxEntries, fullLength, entriesAt, lastKind, functionKind, kindAt, partAt, startAt, countAt, entryAt, entriesOf, Row, wordsAt, treeOf, trees, rowOf, numbers, kindFlat, kindOp, partFlat, putRow, appendRow, append}
+use Rattle.resolved_sort.specs.Interning.{number, member, distinct, need}
+use Rattle.resolved_sort.specs.Storage.{maxSorts, maxEntries, fullLength, entriesAt, functionKind, kindAt, partAt, startAt, countAt, entryAt, entriesOf, Row, wordsAt, trees, rowOf, numbers, kindFlat, kindOp, partFlat, putRow, appendRow}
 use Rattle.resolved_sort.specs.Checks.{rowFine, rowsFine, noTwoEqual}
 use Rattle.resolved_sort.specs.Rows.{Checked}
 use Rattle.resolved_sort.proofs.Below.{below-each, each-below}
 use Rattle.resolved_sort.proofs.Numbers.{distinct-snoc, number-below}
 use Rattle.resolved_sort.proofs.Trees.{length-trees}
-use Rattle.resolved_sort.proofs.RowTrees.{AllBelow, Within, row, plain-within, named-within, container-within, row-within, tree-of-row, partsIn, members, numbers-below, by-kind}
-use Rattle.resolved_sort.proofs.Fine.{RunInside, run-inside, row-fine}
+use Rattle.resolved_sort.proofs.RowTrees.{AllBelow, Within, row, plain-within, named-within, container-within, row-within, tree-of-row, numbers-below}
+use Rattle.resolved_sort.specs.Growing.{partsIn, members, Agrees, Fresh}
+use Rattle.resolved_sort.proofs.Fine.{run-inside, row-fine}
 
 -- a run of stores
 pub getD-sets-before : (vs l : List ℕ) (i j : ℕ) → j < i → getD (sets l i vs) j 0 ≡ getD l j 0
@@ -96,15 +97,6 @@ entries-agree ws us s zero h = refl
 entries-agree ws us s (suc c) h =
     ap₂ _∷_ (ap (entryAt ws) (sym (add-zero s)) ∙ (h 0 (omega arith) ∙ ap (entryAt us) (add-zero s)))
     (entries-agree ws us (s + 1) c (λ j l. ap (entryAt ws) (omega arith) ∙ (h (suc j) (omega arith) ∙ ap (entryAt us) (omega arith))))
-
--- Storage that reads the same below n rows and e entries.
-pub record Agrees (ws us : List ℕ) (n e : ℕ) : Type 0 where
-  pub words : (i : ℕ) → i < 4 * n → getD us i 0 ≡ getD ws i 0
-  pub kinds : (i : ℕ) → i < n → kindAt us i ≡ kindAt ws i
-  pub parts : (i : ℕ) → i < n → partAt us i ≡ partAt ws i
-  pub starts : (i : ℕ) → i < n → startAt us i ≡ startAt ws i
-  pub counts : (i : ℕ) → i < n → countAt us i ≡ countAt ws i
-  pub entries : (j : ℕ) → j < e → entryAt us j ≡ entryAt ws j
 
 module _ (ws us : List ℕ) (n e : ℕ) (a : Agrees ws us n e) (f : rowsFine ws n e ≡ true) where
   args-agree : (i : ℕ) → i < n → (b : Bool) → eqb (kindAt ws i) functionKind ≡ b
@@ -243,15 +235,6 @@ unfolding rowOf need
 length-args T (flat a) = refl
 length-args T (container o s) = refl
 length-args T (function ts u) = length-numbers T ts
-
--- A new sort, with its parts in the list and at most 16 arguments, appended to a checked list with room for it.
-pub record Fresh (ws : List ℕ) (n e : ℕ) (t : Tree) : Type 0 where
-  pub checked : Checked ws n e
-  pub absent : member (trees ws n) t ≡ false
-  pub parts : partsIn (trees ws n) t ≡ true
-  pub short : need t ≤ 16
-  pub room : n < maxSorts
-  pub space : e + need t ≤ maxEntries
 
 module _ (ws : List ℕ) (n e : ℕ) (t : Tree) (f : Fresh ws n e t) where
   abbrev next : List ℕ

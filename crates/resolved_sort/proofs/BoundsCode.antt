@@ -1,13 +1,12 @@
 -- Join and meet as the code meets them: each law's premises are what a callee ensures, what a test says or what a match
 -- binds, and its conclusion is the call's own equation. Assumes nothing.
 use mathlib.Core.Path.{_≡_, refl, sym, _∙_, ap, ap₂, subst}
-use mathlib.Core.Bool.{Bool, true, false, cond, not, _&&_, and-eq-true-iff}
-use mathlib.Core.List.{List, [], _∷_, _++_}
+use mathlib.Core.Bool.{Bool, true, false, cond, not, and-eq-true-iff}
+use mathlib.Core.List.{List, [], _∷_}
 use mathlib.Core.Option.{Option, none, some}
-use Prim.Native.Nat.{ℕ, zero, suc, _+_, _-_, _<_, _≤_}
+use Prim.Native.Nat.{ℕ, _-_, _<_}
 use native.Mathlib.Omega.{arith}
-use lib.ListN.{length, take}
-use lib.Dec.{eqb, leb}
+use lib.Dec.{eqb}
 use borrow.Author.Tests.{eq-eqb, ne-eqb}
 use Rattle.resolved_sort.specs.declared.SortId.{SortId}
 use Rattle.resolved_sort.specs.declared.Sort.{Sort}
@@ -19,23 +18,25 @@ use Rattle.resolved_sort.specs.declared.Side.{Side}
 use Rattle.resolved_sort.specs.declared.Side.the-variants.{Lhs, Rhs, Neither}
 use Rattle.resolved_sort.specs.declared.OpBound.{OpBound}
 use Rattle.resolved_sort.specs.declared.OpBound.the-variants.{Is, Nothing as NoOp}
-use Rattle.resolved_sort.specs.Tree.{Flat, primitive, Tree, flat, container, function, Trees, no-args, arg, arity, family, level, same}
+use Rattle.resolved_sort.specs.Tree.{Flat, primitive, Tree, flat, container, function, Trees, arity, family, level, same}
 use Rattle.resolved_sort.specs.Order.{leLevel, boundFlat, boundOp}
-use Rattle.resolved_sort.specs.Interning.{Sorts, look, number, member, need, Outcome, made, nothing, full, _then_, where-some, intern, make, makes}
-use Rattle.resolved_sort.specs.Storage.{maxEntries, Row, kindOp, functionKind, trees, rowOf, lookAll, numbers, sortsOf}
-use Rattle.resolved_sort.specs.Entries.{countsOf, after, Stored, stored}
+use Rattle.resolved_sort.specs.Interning.{Sorts, look, number, member, need, Outcome, made, nothing, _then_, where-some, intern, make, makes}
+use Rattle.resolved_sort.specs.Storage.{maxEntries, kindOp, functionKind, trees, rowOf, lookAll, sortsOf}
+use Rattle.resolved_sort.specs.Entries.{countsOf, stored}
 use Rattle.resolved_sort.specs.Rows.{Checked, storedAt, internRow}
-use Rattle.resolved_sort.specs.Bounds.{boundAt, containerAt, functionAt, internAt, sideOf, opBound}
+use Rattle.resolved_sort.specs.Bounds.{boundAt, internAt}
+use Rattle.resolved_sort.specs.Inner.Bounds.{containerAt, sideOf, opBound}
 use Rattle.resolved_sort.proofs.Same.{same-exactly}
 use Rattle.resolved_sort.proofs.Numbers.{true-not-false, same-refl, number-look, member-look, look-injective}
 use Rattle.resolved_sort.proofs.Trees.{length-trees}
-use Rattle.resolved_sort.proofs.RowTrees.{AllBelow, partsIn, members, numbers-lookAll}
+use Rattle.resolved_sort.proofs.RowTrees.{AllBelow, numbers-lookAll}
+use Rattle.resolved_sort.specs.Growing.{partsIn, members, Kept, InTree}
 use Rattle.resolved_sort.proofs.Interned.{listed, trees-differ}
-use Rattle.resolved_sort.proofs.Pairs.{Unlike, flats, functions, OfPrimitives, OfContainers, OfFunctions}
-use Rattle.resolved_sort.proofs.Grown.{Grown, grown-none, after-none}
-use Rattle.resolved_sort.proofs.Kept.{Kept, InTree, make-kept, container-interned, function-interned, Whole}
-use Rattle.resolved_sort.proofs.Stored.{internRow-interns, counts-kept, look-whole}
-use Rattle.resolved_sort.proofs.Reached.{Reached, reached, stopped, ended, reached-checked, reached-list, reached-trees, reached-below, reached-sort, reached-sorts, stored-again, intern-after}
+use Rattle.resolved_sort.proofs.Pairs.{Unlike, flats, functions, OfPrimitives, OfContainers}
+use Rattle.resolved_sort.proofs.Grown.{grown-none, after-none}
+use Rattle.resolved_sort.proofs.Kept.{make-kept}
+use Rattle.resolved_sort.proofs.Stored.{internRow-interns, look-whole}
+use Rattle.resolved_sort.proofs.Reached.{Reached, reached, stopped, ended, reached-checked, reached-below, reached-sort, intern-after}
 
 -- the clauses of `make`, by what is known of the two sorts
 flat-itself : (up : Bool) (a : Flat) → boundFlat up a a ≡ some a

@@ -1,48 +1,43 @@
 -- Join and meet of functions as the code meets them: the arguments one after another, then the range, then the whole,
 -- each call going on from the list that the one before it reached. Assumes nothing.
 use mathlib.Core.Path.{_≡_, refl, sym, _∙_, ap, ap₂, subst}
-use mathlib.Core.Bool.{Bool, true, false, cond, not, _&&_, and-eq-true-iff}
-use mathlib.Core.List.{List, [], _∷_, _++_}
-use Prim.Native.Nat.{ℕ, zero, suc, _+_, _-_, _<_, _≤_}
+use mathlib.Core.Bool.{Bool, true}
+use mathlib.Core.List.{List, _∷_}
+use Prim.Native.Nat.{ℕ, suc, _+_, _-_, _<_, _≤_}
 use native.Mathlib.Omega.{arith}
 use native.Mathlib.Nat.{add-zero, sub-zero}
 use native.Mathlib.Numerals.{add-one}
-use lib.ListN.{length, take, set, replicate, length-replicate}
-use lib.Seq.{sets, sets-eq, take-append-seam}
+use lib.ListN.{length, set, replicate}
+use lib.Seq.{sets}
 use Rattle.resolved_sort.specs.declared.SortId.{SortId}
 use Rattle.resolved_sort.specs.declared.Run.{Run}
-use Rattle.resolved_sort.specs.declared.ResolvedSort.{ResolvedSort}
-use Rattle.resolved_sort.specs.declared.ResolvedSort.the-variants.{Unit as UnitRow, Primitive, Container, Function, Def, TypeVar}
+use Rattle.resolved_sort.specs.declared.ResolvedSort.the-variants.{Function}
 use Rattle.resolved_sort.specs.declared.Counts.{Counts}
 use Rattle.resolved_sort.specs.declared.Joined.{Joined}
 use Rattle.resolved_sort.specs.declared.Joined.the-variants.{At, Nothing, Full}
-use Rattle.resolved_sort.specs.declared.Found.{Found}
 use Rattle.resolved_sort.specs.declared.Found.the-variants.{All, Nothing as NotAll, Full as NoRoom}
 use Rattle.resolved_sort.specs.declared.Domain.{Domain}
-use Rattle.resolved_sort.specs.declared.Pair.{Pair}
 use Rattle.resolved_sort.specs.declared.Pair.the-variants.{Functions}
-use Rattle.resolved_sort.specs.Tree.{Tree, flat, container, function, Trees, no-args, arg, arity}
-use Rattle.resolved_sort.specs.Interning.{Sorts, look, number, member, need, Outcome, made, nothing, full, _then_, intern, make, makes}
+use Rattle.resolved_sort.specs.Tree.{Tree, function, Trees, no-args, arg, arity}
+use Rattle.resolved_sort.specs.Interning.{Sorts, look, number, member, Outcome, made, nothing, full, _then_, make, makes}
 use Rattle.resolved_sort.specs.Storage.{maxEntries, lastKind, functionKind, kindAt, partAt, startAt, countAt, entryAt, entriesOf, resolved, rowAt, trees, lookAll, numbers, sortsOf}
-use Rattle.resolved_sort.specs.Checks.{rowFine, rowsFine}
-use Rattle.resolved_sort.specs.Entries.{countsOf, after, Stored, stored}
+use Rattle.resolved_sort.specs.Entries.{countsOf, after, stored}
 use Rattle.resolved_sort.specs.Rows.{Checked, storedAt}
-use Rattle.resolved_sort.specs.Pairs.{pairOf, pairAt}
-use Rattle.resolved_sort.specs.Bounds.{Asked, boundAt, internAt, TwoFunctions, StoredDomain, storedDomain, argumentsFrom, domainOf, boundDomain, functionAt}
-use Rattle.resolved_sort.proofs.Below.{below-each}
-use Rattle.resolved_sort.proofs.Numbers.{number-grows, look-injective}
-use Rattle.resolved_sort.proofs.Trees.{length-trees}
-use Rattle.resolved_sort.proofs.RowTrees.{AllBelow, weaken-all, below-run, by-kind, within-longer, members, lookAll-numbers, numbers-below}
-use Rattle.resolved_sort.proofs.Interned.{listed, trees-differ, row-below}
-use Rattle.resolved_sort.proofs.Fine.{run-inside, RunInside, run-below}
-use Rattle.resolved_sort.proofs.Pairs.{Says, pair-says, sortOf, Below, look-says, row-parts, arity-run}
-use Rattle.resolved_sort.proofs.Append.{Agrees}
-use Rattle.resolved_sort.proofs.Grown.{Grown, grown-none, after-none, after-both, grown-both, sorts-again}
-use Rattle.resolved_sort.proofs.Unchanged.{longer, entries-longer, unchanged, look-unchanged, run-unchanged}
-use Rattle.resolved_sort.proofs.Kept.{Extends, extends-refl, member-extends, members-extends, Kept, InTree, InTrees, make-kept, makes-kept, kept-then, Whole, Wholes, whole-extends, wholes-extend}
+use Rattle.resolved_sort.specs.Inner.Pairs.{pairAt}
+use Rattle.resolved_sort.specs.Bounds.{Asked, boundAt}
+use Rattle.resolved_sort.specs.Inner.Bounds.{TwoFunctions, storedDomain, argumentsFrom, domainOf, boundDomain}
+use Rattle.resolved_sort.proofs.Numbers.{number-grows}
+use Rattle.resolved_sort.proofs.RowTrees.{AllBelow, weaken-all, below-run, by-kind}
+use Rattle.resolved_sort.proofs.Interned.{listed, row-below}
+use Rattle.resolved_sort.proofs.Fine.{run-below}
+use Rattle.resolved_sort.proofs.Pairs.{Says, pair-says, sortOf, Below, look-says, row-parts}
+use Rattle.resolved_sort.specs.Growing.{Agrees, Grown, Extends, Kept, InTree, Wholes}
+use Rattle.resolved_sort.proofs.Grown.{grown-none, after-none, after-both, sorts-again}
+use Rattle.resolved_sort.proofs.Unchanged.{longer, unchanged, run-unchanged}
+use Rattle.resolved_sort.proofs.Kept.{InTrees, make-kept, makes-kept, wholes-extend}
 use Rattle.resolved_sort.proofs.Stored.{look-whole, wholes-below}
-use Rattle.resolved_sort.proofs.Reached.{Reached, reached, stopped, ended, reached-checked, reached-list, reached-trees, reached-below, reached-sort, reached-sorts, stored-again, intern-after, here}
-use Rattle.resolved_sort.proofs.BoundsCode.{make-functions, answer-none, counts-are}
+use Rattle.resolved_sort.proofs.Reached.{Reached, reached, stopped, ended, reached-checked, reached-sorts, here}
+use Rattle.resolved_sort.proofs.BoundsCode.{counts-are}
 
 -- a row that says a function is of the function's kind
 function-kind : (p : ℕ) (run : Run) (k : ℕ) → k ≤ lastKind → (d : Run) (r : SortId) → resolved k p run ≡ Function d r → k ≡ functionKind

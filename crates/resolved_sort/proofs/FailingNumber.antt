@@ -3,15 +3,11 @@ use mathlib.Core.Path.{_≡_, subst, refl, sym, _∙_}
 use mathlib.Core.Bool.{Bool, true, false, cond}
 use mathlib.Core.List.{List, [], _∷_, _++_}
 use mathlib.Core.Option.{some, Option, none}
-use Prim.Native.Nat.{ℕ, _≤_}
+use Prim.Native.Nat.{ℕ}
 use native.Mathlib.Omega.{arith}
 use Rattle.resolved_sort.specs.Checks.{Check, firstFailing}
 use mathlib.Core.Logic.{_↔_}
 use Rattle.resolved_sort.proofs.FirstFailing.{first-fails, first-passes, append-fails, append-passes}
-
--- the numbers of checks
-abbrev pub Numbered : ℕ → Type 0
-Numbered c = (1 ≤ c) × (c ≤ 14)
 
 -- what holds of the number of each check holds of the one that fails
 module _ (P : ℕ → Type 0) where

@@ -1,37 +1,38 @@
 -- Join and meet of two functions as the code meets them: after the arguments the range goes on from the list that they
 -- reached, and the whole from the list that the range reached. Assumes nothing.
 use mathlib.Core.Path.{_≡_, refl, sym, _∙_, ap, ap₂, subst}
-use mathlib.Core.Bool.{Bool, true, false, not, _&&_, and-eq-true-iff}
-use mathlib.Core.List.{List, [], _∷_, _++_}
-use Prim.Native.Nat.{ℕ, zero, suc, _+_, _-_, _<_, _≤_}
+use mathlib.Core.Bool.{Bool, true, not, and-eq-true-iff}
+use mathlib.Core.List.{List, _∷_}
+use Prim.Native.Nat.{ℕ, _+_, _-_, _<_, _≤_}
 use native.Mathlib.Omega.{arith}
-use native.Mathlib.Nat.{add-zero, sub-zero}
-use lib.ListN.{length, take, drop, replicate, length-replicate, length-append}
+use native.Mathlib.Nat.{sub-zero}
+use lib.ListN.{length, take, replicate, length-replicate, length-append}
 use lib.Seq.{sets, sets-eq, take-append-seam}
 use Rattle.resolved_sort.specs.declared.SortId.{SortId}
 use Rattle.resolved_sort.specs.declared.Counts.{Counts}
 use Rattle.resolved_sort.specs.declared.Joined.{Joined}
 use Rattle.resolved_sort.specs.declared.Joined.the-variants.{At, Nothing, Full}
-use Rattle.resolved_sort.specs.declared.Found.{Found}
 use Rattle.resolved_sort.specs.declared.Found.the-variants.{All, Nothing as NotAll, Full as NoRoom}
 use Rattle.resolved_sort.specs.declared.Domain.{Domain}
 use Rattle.resolved_sort.specs.Tree.{Tree, function, Trees, no-args, arg, arity}
-use Rattle.resolved_sort.specs.Interning.{Sorts, look, number, member, need, Outcome, made, nothing, full, _then_, intern, make, makes}
-use Rattle.resolved_sort.specs.Storage.{maxEntries, functionKind, kindAt, partAt, startAt, countAt, entriesOf, trees, lookAll, numbers, sortsOf}
-use Rattle.resolved_sort.specs.Entries.{countsOf, after, Stored, stored}
+use Rattle.resolved_sort.specs.Interning.{Sorts, look, member, need, Outcome, made, nothing, full, _then_, intern, make, makes}
+use Rattle.resolved_sort.specs.Storage.{maxEntries, partAt, startAt, countAt, trees, lookAll, numbers, sortsOf}
+use Rattle.resolved_sort.specs.Entries.{countsOf, after, stored}
 use Rattle.resolved_sort.specs.Rows.{Checked, storedAt}
-use Rattle.resolved_sort.specs.Bounds.{Asked, boundAt, internAt, TwoFunctions, StoredDomain, storedDomain, argumentsFrom, domainOf, boundDomain, functionAt}
+use Rattle.resolved_sort.specs.Bounds.{Asked, boundAt, internAt}
+use Rattle.resolved_sort.specs.Inner.Bounds.{TwoFunctions, storedDomain, argumentsFrom, domainOf, boundDomain, functionAt}
 use Rattle.resolved_sort.proofs.Numbers.{look-injective}
 use Rattle.resolved_sort.proofs.Trees.{length-trees}
-use Rattle.resolved_sort.proofs.RowTrees.{AllBelow, weaken-all, members, partsIn, lookAll-numbers, numbers-below}
+use Rattle.resolved_sort.proofs.RowTrees.{AllBelow, weaken-all, lookAll-numbers, numbers-below}
+use Rattle.resolved_sort.specs.Growing.{members, partsIn, Grown, Extends, Kept, InTree}
 use Rattle.resolved_sort.proofs.Interned.{listed, trees-differ}
 use Rattle.resolved_sort.proofs.Pairs.{arity-run}
 use Rattle.resolved_sort.proofs.Append.{length-numbers}
-use Rattle.resolved_sort.proofs.Grown.{Grown, grown-none, grown-both, sorts-again}
+use Rattle.resolved_sort.proofs.Grown.{grown-none, sorts-again}
 use Rattle.resolved_sort.proofs.Unchanged.{longer, look-unchanged}
-use Rattle.resolved_sort.proofs.Kept.{Extends, members-extends, Kept, InTree, InTrees, make-kept, makes-kept, intern-kept, Whole, whole-extends}
+use Rattle.resolved_sort.proofs.Kept.{members-extends, InTrees, make-kept, makes-kept, intern-kept, whole-extends}
 use Rattle.resolved_sort.proofs.Stored.{look-whole}
-use Rattle.resolved_sort.proofs.Reached.{no-confusion, Reached, reached, stopped, ended, reached-checked, reached-list, reached-trees, reached-below, reached-sort, reached-sorts, stored-again, intern-after, here}
+use Rattle.resolved_sort.proofs.Reached.{no-confusion, Reached, reached, stopped, ended, reached-checked, reached-trees, reached-below, reached-sort, reached-sorts, stored-again, intern-after}
 use Rattle.resolved_sort.proofs.BoundsCode.{make-functions}
 use Rattle.resolved_sort.proofs.DomainCode.{number-extends, range-below, few-arguments, function-sort, arguments-whole}
 

@@ -1,18 +1,17 @@
 -- What 15 gives back is the storage as it was below the entry lengths, and zero past them: two storages that agree there
 -- are given back alike. Assumes nothing.
-use mathlib.Core.Path.{_≡_, refl, sym, _∙_, ap, ap₂, subst}
-use mathlib.Core.List.{List, [], _∷_, _++_}
+use mathlib.Core.Path.{_≡_, sym, _∙_, ap, ap₂}
+use mathlib.Core.List.{List, [], _++_}
 use Prim.Native.Nat.{ℕ, _+_, _-_, _*_, _<_, _≤_}
 use native.Mathlib.Omega.{arith}
-use lib.ListN.{length, getD, take, drop, replicate, length-append, length-drop, length-replicate, length-take, drop-of-length-le}
+use lib.ListN.{length, getD, take, drop, replicate, length-append, length-drop, length-replicate, drop-of-length-le}
 use lib.Seq.{length-take-le, take-append-add, getD-take, getD-drop, ext-getD}
 use Rattle.resolved_sort.specs.Interning.{Sorts}
 use Rattle.resolved_sort.specs.Storage.{maxSorts, maxEntries, fullLength, entriesAt, givenBack}
 use Rattle.words.specs.Words.{zeros}
 use Rattle.resolved_sort.specs.Entries.{after}
 use Rattle.resolved_sort.specs.Rows.{Checked}
-use Rattle.resolved_sort.proofs.Append.{Agrees}
-use Rattle.resolved_sort.proofs.Grown.{Grown}
+use Rattle.resolved_sort.specs.Growing.{Agrees, Grown}
 use Rattle.resolved_sort.proofs.Unchanged.{unchanged, length-after}
 
 -- Storage of two parts, of which the words from a up to b and from b + e on are cleared: what counts is what stands before a and in the e words from b on.

@@ -1,25 +1,20 @@
 -- Lists of sorts that grow from a checked storage by appending: what is then stored reads as the list, is checked again,
 -- and growing in two steps is growing in one. Assumes nothing.
-use mathlib.Core.Path.{_≡_, refl, sym, _∙_, ap, ap₂, subst}
-use mathlib.Core.Bool.{Bool, true, false, cond, _&&_, and-eq-true-iff}
+use mathlib.Core.Path.{_≡_, sym, _∙_, ap, ap₂, subst}
 use mathlib.Core.List.{List, [], _∷_, _++_, append-assoc, append-nil}
-use Prim.Native.Nat.{ℕ, zero, suc, _+_, _-_, _*_, _<_, _≤_}
+use Prim.Native.Nat.{ℕ, suc, _+_, _-_}
 use native.Mathlib.Omega.{arith}
 use native.Mathlib.Nat.{add-zero}
 use lib.ListN.{length, drop, length-append, drop-of-length-le}
-use lib.Seq.{drop-append-add, drop-append-seam}
+use lib.Seq.{drop-append-seam}
 use Rattle.resolved_sort.specs.Tree.{Tree}
-use Rattle.resolved_sort.specs.Interning.{Sorts, member, need}
-use Rattle.resolved_sort.specs.Storage.{maxSorts, maxEntries, fullLength, trees, rowOf, appendRow, append, sortsOf, written}
+use Rattle.resolved_sort.specs.Interning.{Sorts, need}
+use Rattle.resolved_sort.specs.Storage.{maxSorts, maxEntries, trees, rowOf, appendRow, append, sortsOf, written}
 use Rattle.resolved_sort.specs.Entries.{after}
 use Rattle.resolved_sort.specs.Rows.{Checked}
 use Rattle.resolved_sort.proofs.Trees.{length-trees}
-use Rattle.resolved_sort.proofs.Append.{Fresh, trees-append, checked-append}
-
--- the entries that sorts take
-unfoldable pub needs : List Tree → ℕ
-needs [] = 0
-needs (t ∷ ts) = need t + needs ts
+use Rattle.resolved_sort.specs.Growing.{Fresh, needs, Grown}
+use Rattle.resolved_sort.proofs.Append.{trees-append, checked-append}
 
 needs-append : (xs ys : List Tree) → needs (xs ++ ys) ≡ needs xs + needs ys
 unfolding needs
@@ -32,14 +27,6 @@ written-append ws T e [] ys = rw (append-nil T, add-zero e)
 written-append ws T e (x ∷ xs) ys =
     ap₂ (λ (U : List Tree) (d : ℕ). written (written (append ws T e x) (T ++ (x ∷ [])) (e + need x) xs) U d ys) (sym (append-assoc T (x ∷ []) xs)) (omega arith)
     ∙ written-append (append ws T e x) (T ++ (x ∷ [])) (e + need x) xs ys
-
-pub record Grown (ws : List ℕ) (n e : ℕ) (S : Sorts) : Type 0 where
-  pub prefix : S .trees ≡ trees ws n ++ drop n (S .trees)
-  pub reads : trees (after ws n e S) (length (S .trees)) ≡ S .trees
-  pub rows : S .rows ≡ maxSorts - length (S .trees)
-  pub entries : S .entries ≤ maxEntries
-  pub used : maxEntries - S .entries ≡ e + needs (drop n (S .trees))
-  pub checked : Checked (after ws n e S) (length (S .trees)) (maxEntries - S .entries)
 
 -- the list as it was given
 module _ (ws : List ℕ) (n e : ℕ) (k : Checked ws n e) where

@@ -1,25 +1,26 @@
 -- In a checked list the scan for an equal row is the search for an equal sort: rows are equal exactly if the sorts that
 -- they denote are. So interning by rows is interning by structure. Assumes nothing.
 use mathlib.Core.Path.{_≡_, refl, sym, _∙_, ap, ap₂}
-use mathlib.Core.Bool.{Bool, true, false, cond, not, _&&_, and-eq-true-iff}
+use mathlib.Core.Bool.{Bool, true, false, _&&_, and-eq-true-iff}
 use mathlib.Core.Logic.{_↔_}
-use mathlib.Core.List.{List, [], _∷_, _++_}
-use Prim.Native.Nat.{ℕ, zero, suc, _+_, _-_, _*_, _<_, _≤_}
+use mathlib.Core.List.{List, [], _∷_}
+use Prim.Native.Nat.{ℕ, _-_, _<_}
 use native.Mathlib.Omega.{arith}
 use native.Mathlib.Nat.{add-zero, zero-add}
-use lib.ListN.{length, getD}
-use lib.Dec.{eqb, leb, ltb}
-use borrow.Author.Tests.{ltb-true, leb-true, eqb-true, eq-eqb}
+use lib.ListN.{length}
+use lib.Dec.{eqb}
+use borrow.Author.Tests.{eqb-true, eq-eqb}
 use Rattle.resolved_sort.specs.Tree.{Tree, same}
-use Rattle.resolved_sort.specs.Interning.{look, number, member, distinct}
+use Rattle.resolved_sort.specs.Interning.{look, number, distinct}
 use Rattle.resolved_sort.specs.Storage.{Row, wordsAt, treeOf, rowOf, trees}
 use Rattle.resolved_sort.specs.Checks.{rowFine, rowsFine, noTwoEqual}
 use Rattle.resolved_sort.specs.Rows.{Checked, sameWords, sameRow, firstFrom, findRow}
 use Rattle.resolved_sort.proofs.Below.{below-each}
 use Rattle.resolved_sort.proofs.Same.{same-exactly}
-use Rattle.resolved_sort.proofs.Numbers.{true-not-false, first-is-number}
+use Rattle.resolved_sort.proofs.Numbers.{first-is-number}
 use Rattle.resolved_sort.proofs.Trees.{length-trees, look-row, look-longer}
-use Rattle.resolved_sort.proofs.RowTrees.{Within, row-within, row-of-tree, tree-of-row, treeOf-agrees, within-longer, partsIn}
+use Rattle.resolved_sort.proofs.RowTrees.{Within, row-within, row-of-tree, tree-of-row, treeOf-agrees, within-longer}
+use Rattle.resolved_sort.specs.Growing.{partsIn, Listed}
 
 -- two tests that pass together are equal
 pub tests-agree : (a b : Bool) → (a ≡ true → b ≡ true) → (b ≡ true → a ≡ true) → a ≡ b
@@ -55,11 +56,6 @@ row-same r = rw (eq-eqb (r .kind) (r .kind) refl, eq-eqb (r .part) (r .part) ref
 
 pub sameRow-exactly : (r s : Row) → (sameRow r s ≡ true) ↔ (r ≡ s)
 sameRow-exactly r s = (rows-equal r s, λ e. rw e (row-same s))
-
--- what checks 3 and 4 have shown
-pub record Listed (ws : List ℕ) (n e : ℕ) : Type 0 where
-  pub fine : rowsFine ws n e ≡ true
-  pub differ : noTwoEqual ws n ≡ true
 
 pub listed : {ws : List ℕ} {n e : ℕ} → Checked ws n e → Listed ws n e
 listed k = record { fine = k .fine; differ = k .differ }

@@ -16,13 +16,8 @@ use Rattle.resolved_sort.specs.Interning.{Sorts, member, need, Outcome, 
 use Rattle.resolved_sort.specs.Storage.{maxSorts, maxEntries, trees}
 use Rattle.resolved_sort.specs.Entries.{after}
 use Rattle.resolved_sort.proofs.Numbers.{member-grows, member-snoc-last}
-use Rattle.resolved_sort.proofs.RowTrees.{partsIn, members}
-use Rattle.resolved_sort.proofs.Append.{Fresh}
-use Rattle.resolved_sort.proofs.Grown.{Grown, grown-one, grown-both}
-
--- the second list begins with the first
-abbrev pub Extends : Sorts → Sorts → Type 0
-Extends S S′ = (U : List Tree) × (S′ .trees ≡ S .trees ++ U)
+use Rattle.resolved_sort.specs.Growing.{partsIn, members, Fresh, Grown, Extends, Whole, Wholes, InTree, Kept}
+use Rattle.resolved_sort.proofs.Grown.{grown-one, grown-both}
 
 pub extends-refl : (S : Sorts) → Extends S S
 extends-refl S = ([], sym (append-nil (S .trees)))
@@ -39,17 +34,6 @@ members-extends S S′ no-args x m = refl
 members-extends S S′ (arg t ts) x m =
     let p = and-eq-true-iff (member (S .trees) t) (members (S .trees) ts) .0 m in
     and-eq-true-iff (member (S′ .trees) t) (members (S′ .trees) ts) .1 (member-extends S S′ t x (p .0), members-extends S S′ ts x (p .1))
-
--- all parts of a sort, and the sort, are in the list, and no function has more than 16 arguments
-unfoldable mutual
-  pub Whole : List Tree → Tree → Type 0
-  Whole T (flat a) = member T (flat a) ≡ true
-  Whole T (container o s) = (member T (container o s) ≡ true) × Whole T s
-  Whole T (function ss r) = (member T (function ss r) ≡ true) × Wholes T ss × Whole T r × (arity ss ≤ 16)
-
-  pub Wholes : List Tree → Trees → Type 0
-  Wholes T no-args = Unit {0}
-  Wholes T (arg t ts) = Whole T t × Wholes T ts
 
 mutual
   unfolding Whole Wholes
@@ -69,17 +53,8 @@ whole-extends S S′ t x w = rw (x .1) (whole-grows (S .trees) (x .0) t w)
 pub wholes-extend : (S S′ : Sorts) (ts : Trees) → Extends S S′ → Wholes (S .trees) ts → Wholes (S′ .trees) ts
 wholes-extend S S′ ts x w = rw (x .1) (wholes-grow (S .trees) (x .0) ts w)
 
-abbrev pub InTree : Sorts → Tree → Type 0
-InTree S t = member (S .trees) t ≡ true
-
 abbrev pub InTrees : ℕ → Sorts → Trees → Type 0
 InTrees n S ts = (members (S .trees) ts ≡ true) × (arity ts ≡ n)
-
--- an outcome whose list has grown from the storage and extends another, with its answer in it
-unfoldable pub Kept : (ws : List ℕ) (n e : ℕ) {A : Type 0} → (Sorts → A → Type 0) → Sorts → Outcome A → Type 0
-Kept ws n e In S₀ (made a S) = Grown ws n e S × Extends S₀ S × In S a
-Kept ws n e In S₀ (nothing S) = Grown ws n e S × Extends S₀ S
-Kept ws n e In S₀ (full S) = Grown ws n e S × Extends S₀ S
 
 module _ (ws : List ℕ) (n e : ℕ) where
   pub kept-before : {B : Type 0} (On : Sorts → B → Type 0) (S₀ S : Sorts) → Extends S₀ S → (P : Outcome B) → Kept ws n e On S P → Kept ws n e On S₀ P

@@ -1,25 +1,17 @@
 -- Join and meet with storage answer as join and meet on trees: the bound where there is one, none where there is none,
 -- as long as there is room. By the clauses of `make`. Assumes nothing.
-use mathlib.Core.Path.{_≡_, refl, sym, _∙_, ap, ap₂, subst}
+use mathlib.Core.Path.{_≡_, refl, sym, _∙_, ap}
 use mathlib.Core.Bool.{Bool, true, false, cond, not}
-use mathlib.Core.List.{List}
 use mathlib.Core.Option.{Option, none, some}
-use Prim.Native.Nat.{ℕ, _+_}
-use native.Mathlib.Omega.{arith}
-use lib.Dec.{eqb, leb, ltb}
+use Prim.Native.Nat.{_+_}
+use lib.Dec.{eqb}
 use borrow.Author.Tests.{eqb-false}
-use Rattle.resolved_sort.specs.declared.ComplexSort.{ComplexSort}
-use Rattle.resolved_sort.specs.Tree.{Flat, Tree, flat, container, function, Trees, no-args, arg, arity, same}
-use Rattle.resolved_sort.specs.Order.{boundFlat, boundOp, map₁, map₂, bound, bounds}
-use Rattle.resolved_sort.specs.Interning.{Sorts, member, Outcome, made, nothing, full, _then_, where-some, fits, intern, make, makes, need}
+use Rattle.resolved_sort.specs.Tree.{Tree, flat, container, function, Trees, no-args, arg, arity, same}
+use Rattle.resolved_sort.specs.Order.{boundFlat, boundOp, map₂, bound, bounds}
+use Rattle.resolved_sort.specs.Interning.{Sorts, member, Outcome, made, nothing, full, _then_, where-some, fits, intern, make, makes}
 use Rattle.resolved_sort.proofs.Same.{same-exactly}
 use Rattle.resolved_sort.proofs.Bounds.{bound-idempotent}
-
--- an outcome with the answer x, unless room ended
-unfoldable pub Answers : {A : Type 0} → Option A → Outcome A → Type 0
-Answers x (made a S) = x ≡ some a
-Answers x (nothing S) = x ≡ none
-Answers x (full S) = Unit {0}
+use Rattle.resolved_sort.specs.Growing.{Answers}
 
 answers-then : {A B : Type 0} (x : Option A) (y : Option B) (O : Outcome A) (k : A → Sorts → Outcome B)
     → Answers x O → (x ≡ none → y ≡ none) → ((a : A) (S : Sorts) → x ≡ some a → Answers y (k a S)) → Answers y (O then k)

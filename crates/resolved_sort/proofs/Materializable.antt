@@ -9,7 +9,7 @@ use native.Mathlib.Omega.{arith}
 use Rattle.resolved_sort.specs.declared.Sort.{Sort}
 use Rattle.resolved_sort.specs.declared.ComplexSort.{ComplexSort}
 use Rattle.resolved_sort.specs.Tree.{Flat, primitive, Tree, flat, container, function, Trees, no-args, arg, family, level, familyOp, levelOp, same}
-use Rattle.resolved_sort.specs.Order.{leFlat, leOp, le, Steps, allSteps, distance, materializable}
+use Rattle.resolved_sort.specs.Order.{leFlat, leOp, le, Steps, allSteps, distance, materializable, isFunction}
 use Rattle.resolved_sort.proofs.Heads.{head-refl, head-trans}
 use Rattle.resolved_sort.proofs.Same.{same-exactly, sames-exactly}
 use Rattle.resolved_sort.proofs.Order.{Le, Le.flats, Le.containers, Le.functions, Le-refl, Les-refl, le-exactly, le-antisym}
@@ -67,12 +67,6 @@ materializable-below s t e = le-exactly true s t .1 (below (to-materializes s t 
 
 pub materializable-antisym : (s t : Tree) → materializable s t ≡ true → materializable t s ≡ true → s ≡ t
 materializable-antisym s t e f = le-antisym true s t (materializable-below s t e) (materializable-below t s f)
-
--- How far a materializable pair is apart.
-abbrev pub isFunction : Tree → Bool
-isFunction (flat a) = false
-isFunction (container o s) = false
-isFunction (function ss r) = true
 
 interior-zero : {s t : Tree} → isFunction s ≡ false → Materializes s t → (h : ℕ) × (distance true s t ≡ some (record { head = h; interior = 0 }))
 unfolding distance

@@ -7,7 +7,7 @@ use Rattle.resolved_sort.specs.declared.ComplexSort.{ComplexSort}
 use Rattle.resolved_sort.specs.declared.PartialOrder.{PartialOrder}
 use Rattle.resolved_sort.specs.declared.PartialOrder.the-variants.{Unrelated, Equal, Below, Above}
 use Rattle.resolved_sort.specs.Tree.{Flat, Tree, flat, container, function, Trees, no-args, arg, family, level, familyOp, levelOp}
-use Rattle.resolved_sort.specs.Order.{leFlat, leOp, le, les, order, orderOf}
+use Rattle.resolved_sort.specs.Order.{leFlat, leOp, le, les, order, orderOf, Says}
 use Rattle.resolved_sort.proofs.Heads.{head-refl, head-trans, head-flips, head-antisym, flat-injective, op-injective}
 
 -- The rules: flat sorts by heads, containers by operator and part, functions by arguments the other way and range.
@@ -116,13 +116,6 @@ mutual
   les-flips up no-args (arg t ts) = refl
   les-flips up (arg s ss) no-args = refl
   les-flips up (arg s ss) (arg t ts) = ap₂ _&&_ (le-flips up s t) (les-flips up ss ts)
-
--- What each answer of `order` says.
-abbrev pub Says : Tree → Tree → PartialOrder → Type 0
-Says s t Equal = s ≡ t
-Says s t Below = (le true s t ≡ true) × (s ≢ t)
-Says s t Above = (le true t s ≡ true) × (s ≢ t)
-Says s t Unrelated = (le true s t ≡ false) × (le true t s ≡ false)
 
 module _ (s t : Tree) where
   order-is : (x y : Bool) → le true s t ≡ x → le true t s ≡ y → order s t ≡ orderOf x y

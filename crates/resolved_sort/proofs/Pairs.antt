@@ -1,12 +1,12 @@
 -- What two rows side by side say of their sorts, in a checked list: by the pair that the code takes apart. Where the
 -- pair is none of the three, the two sorts have nothing in common. Assumes nothing.
-use mathlib.Core.Path.{_≡_, refl, sym, _∙_, ap, ap₂, subst}
-use mathlib.Core.Bool.{Bool, true, false, cond, _&&_}
+use mathlib.Core.Path.{_≡_, refl, sym, _∙_, ap, subst}
+use mathlib.Core.Bool.{Bool, true, false, cond}
 use mathlib.Core.List.{List, [], _∷_}
-use Prim.Native.Nat.{ℕ, zero, suc, _+_, _*_, _<_, _≤_}
+use Prim.Native.Nat.{ℕ, zero, suc, _+_, _<_, _≤_}
 use native.Mathlib.Omega.{arith}
-use lib.ListN.{length, getD}
-use lib.Dec.{eqb, leb, ltb}
+use lib.ListN.{length}
+use lib.Dec.{eqb}
 use borrow.Author.Tests.{eqb-true, eqb-false}
 use Rattle.resolved_sort.specs.declared.SortId.{SortId}
 use Rattle.resolved_sort.specs.declared.Sort.{Sort}
@@ -16,17 +16,17 @@ use Rattle.resolved_sort.specs.declared.ResolvedSort.{ResolvedSort}
 use Rattle.resolved_sort.specs.declared.ResolvedSort.the-variants.{Unit as UnitRow, Primitive, Container, Function, Def, TypeVar}
 use Rattle.resolved_sort.specs.declared.Pair.{Pair}
 use Rattle.resolved_sort.specs.declared.Pair.the-variants.{Primitives, Containers, Functions, Other}
-use Rattle.resolved_sort.specs.Tree.{Flat, unit, primitive, def, typevar, Tree, flat, container, function, Trees, no-args, arg, arity, family, same}
+use Rattle.resolved_sort.specs.Tree.{Flat, unit, primitive, def, typevar, Tree, flat, container, function, Trees, arity, family}
 use Rattle.resolved_sort.specs.Interning.{look}
-use Rattle.resolved_sort.specs.Storage.{maxEntries, lastKind, functionKind, kindAt, partAt, startAt, countAt, entryAt, entriesOf, Row, wordsAt, resolved, rowAt, lookAll, treeOf, trees}
+use Rattle.resolved_sort.specs.Storage.{lastKind, functionKind, kindAt, partAt, startAt, countAt, entriesOf, resolved, rowAt, lookAll, treeOf, trees}
 use Rattle.resolved_sort.specs.Checks.{rowFine, rowsFine}
 use Rattle.resolved_sort.specs.Rows.{Checked}
-use Rattle.resolved_sort.specs.Pairs.{withPrimitive, withContainer, withFunction, pairOf, pairAt}
+use Rattle.resolved_sort.specs.Inner.Pairs.{withPrimitive, withContainer, withFunction, pairOf, pairAt}
 use Rattle.resolved_sort.proofs.Below.{below-each}
 use Rattle.resolved_sort.proofs.Numbers.{look-injective}
 use Rattle.resolved_sort.proofs.Trees.{length-trees}
-use Rattle.resolved_sort.proofs.RowTrees.{AllBelow, Within, row, read, by-kind}
-use Rattle.resolved_sort.proofs.Fine.{RunInside, run-inside}
+use Rattle.resolved_sort.proofs.RowTrees.{AllBelow, Within, read, by-kind}
+use Rattle.resolved_sort.proofs.Fine.{run-inside}
 use Rattle.resolved_sort.proofs.Interned.{listed, trees-differ, row-below, look-tree}
 
 -- the sort that a row says, with the sorts of the list given

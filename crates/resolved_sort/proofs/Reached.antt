@@ -2,7 +2,7 @@
 -- after it goes on from there as if the two were one. Assumes nothing.
 use mathlib.Core.Path.{_≡_, refl, _∙_, ap, ap₂, subst}
 use mathlib.Core.Bool.{true}
-use mathlib.Core.List.{List, []}
+use mathlib.Core.List.{List}
 use Prim.Native.Nat.{ℕ, _-_, _<_, _≤_}
 use native.Mathlib.Omega.{arith}
 use lib.ListN.{length}
@@ -15,10 +15,10 @@ use Rattle.resolved_sort.specs.Storage.{maxEntries, trees, sortsOf}
 use Rattle.resolved_sort.specs.Entries.{countsOf, after, stored}
 use Rattle.resolved_sort.specs.Rows.{Checked, storedAt}
 use Rattle.resolved_sort.specs.Bounds.{internAt}
-use Rattle.resolved_sort.proofs.RowTrees.{partsIn}
+use Rattle.resolved_sort.specs.Growing.{partsIn, Grown, Extends, Kept, InTree}
 use Rattle.resolved_sort.proofs.Numbers.{look-number, number-below}
-use Rattle.resolved_sort.proofs.Grown.{Grown, grown-none, after-both, sorts-again}
-use Rattle.resolved_sort.proofs.Kept.{Extends, Kept, InTree, intern-kept}
+use Rattle.resolved_sort.proofs.Grown.{grown-none, after-both, sorts-again}
+use Rattle.resolved_sort.proofs.Kept.{intern-kept}
 
 pub no-confusion : _≡_ {A = ℕ} 0 1 → {A : Type 0} → A
 no-confusion e = absurd (omega arith)

@@ -9,11 +9,11 @@ use native.Mathlib.Omega.{arith}
 use Rattle.resolved_sort.specs.declared.Sort.{Sort}
 use Rattle.resolved_sort.specs.declared.ComplexSort.{ComplexSort}
 use Rattle.resolved_sort.specs.Tree.{Flat, unit, primitive, def, typevar, Tree, flat, container, family, level, familyOp, levelOp}
-use Rattle.resolved_sort.specs.Order.{leFlat, leOp, le, materializable}
+use Rattle.resolved_sort.specs.Order.{leFlat, leOp, le, materializable, isFunction}
 use Rattle.resolved_sort.specs.Reference.{Converts, pos-to-nat, nat-to-int, int-to-real, fset-to-set, fbag-to-bag, Widens, stays, then}
 use Rattle.resolved_sort.proofs.Heads.{leHead, head-exactly, flat-injective, op-injective}
 use Rattle.resolved_sort.proofs.Order.{le-refl}
-use Rattle.resolved_sort.proofs.Materializable.{Materializes, number, operator, range, isFunction, materializable-exactly, materializable-refl, materializable-trans}
+use Rattle.resolved_sort.proofs.Materializable.{Materializes, number, operator, range, materializable-exactly, materializable-refl, materializable-trans}
 
 -- From the reference to the tables.
 converts-materializes : {s t : Tree} → Converts s t → Materializes s t

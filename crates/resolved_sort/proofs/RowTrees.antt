@@ -1,26 +1,24 @@
 -- Rows and sorts over a list in which no two sorts are equal: a row whose parts have numbers in the list is the row of
 -- its sort, and a sort whose parts are in the list is the sort of its row. By the fourteen kinds. Assumes nothing.
-use mathlib.Core.Path.{_≡_, refl, sym, _∙_, ap, ap₂, subst}
-use mathlib.Core.Bool.{Bool, true, false, cond, not, _&&_, and-eq-true-iff}
-use mathlib.Core.List.{List, [], _∷_, _++_}
-use Prim.Native.Nat.{ℕ, zero, suc, _+_, _*_, _<_, _≤_}
+use mathlib.Core.Path.{_≡_, refl, sym, ap, ap₂, subst}
+use mathlib.Core.Bool.{Bool, true, cond, _&&_, and-eq-true-iff}
+use mathlib.Core.List.{List, [], _∷_}
+use Prim.Native.Nat.{ℕ, zero, suc, _+_, _<_, _≤_}
 use native.Mathlib.Omega.{arith}
 use native.Mathlib.Nat.{add-zero}
-use lib.ListN.{length, getD}
+use lib.ListN.{length}
 use lib.Dec.{eqb, leb, ltb}
 use borrow.Author.Tests.{ltb-true, leb-true}
 use Rattle.resolved_sort.specs.declared.Sort.{Sort}
 use Rattle.resolved_sort.specs.declared.ComplexSort.{ComplexSort}
-use Rattle.resolved_sort.specs.declared.Run.{Run}
-use Rattle.resolved_sort.specs.declared.ResolvedSort.{ResolvedSort}
-use Rattle.resolved_sort.specs.declared.ResolvedSort.the-variants.{Unit as UnitRow, Primitive, Container, Function, Def, TypeVar}
-use Rattle.resolved_sort.specs.Tree.{Flat, unit, primitive, def, typevar, Tree, flat, container, function, Trees, no-args, arg, same}
+use Rattle.resolved_sort.specs.Tree.{unit, primitive, def, typevar, Tree, flat, container, function, Trees, no-args, arg}
 use Rattle.resolved_sort.specs.Interning.{look, number, member, distinct}
 use Rattle.resolved_sort.specs.Storage.{lastKind, functionKind, kindAt, partAt, startAt, countAt, entryAt, entriesOf, Row, wordsAt, resolved, rowAt, lookAll, treeOf, numbers, rowOf, kindFlat, kindOp, partFlat}
 use Rattle.resolved_sort.specs.Checks.{allBelow, partsBelow, rowFine}
 unfoldable pub use Rattle.resolved_sort.specs.Rows.{AllBelow}
 use Rattle.resolved_sort.proofs.Below.{below-each}
 use Rattle.resolved_sort.proofs.Numbers.{look-number, number-look, number-below}
+use Rattle.resolved_sort.specs.Growing.{members, partsIn}
 
 -- a row whose parts are numbered below l, with nothing in the words that are not looked at
 pub record Within (l : ℕ) (r : Row) : Type 0 where
@@ -92,16 +90,6 @@ row-of-tree T r d w =
     (λ p xs w. named-row T d p xs 12 (omega arith) w)
     (λ p xs w. named-row T d p xs 13 (omega arith) w)
     (r .kind) (w .known) (r .part) (r .args) w
-
--- the parts of a sort are in the list
-unfoldable pub members : List Tree → Trees → Bool
-members T no-args = true
-members T (arg t ts) = member T t && members T ts
-
-unfoldable pub partsIn : List Tree → Tree → Bool
-partsIn T (flat a) = true
-partsIn T (container o s) = member T s
-partsIn T (function ts u) = members T ts && member T u
 
 pub lookAll-numbers : (T : List Tree) (ts : Trees) → members T ts ≡ true → lookAll T (numbers T ts) ≡ ts
 unfolding numbers lookAll members

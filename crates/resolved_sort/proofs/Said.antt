@@ -12,7 +12,7 @@ use Rattle.resolved_sort.specs.declared.Pair.the-variants.{Primitives, C
 use Rattle.resolved_sort.specs.Interning.{look}
 use Rattle.resolved_sort.specs.Storage.{entryAt, entriesOf, trees}
 use Rattle.resolved_sort.specs.Rows.{Checked}
-use Rattle.resolved_sort.specs.Pairs.{pairAt}
+use Rattle.resolved_sort.specs.Inner.Pairs.{pairAt}
 use Rattle.resolved_sort.proofs.RowTrees.{AllBelow}
 use Rattle.resolved_sort.proofs.Pairs.{Unlike, OfPrimitives, OfContainers, OfFunctions, SortsSay, pair-of-sorts}
 

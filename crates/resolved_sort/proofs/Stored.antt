@@ -1,34 +1,29 @@
 -- What the code's interning leaves is what interning by structure leaves: the scan finds the sort's number, and a new row
 -- is the new sort's. And every sort of a checked list has all its parts in the list. Assumes nothing.
-use mathlib.Core.Path.{_≡_, refl, sym, _∙_, ap, ap₂, subst}
-use mathlib.Core.Bool.{Bool, true, false, cond, not, _&&_, and-eq-true-iff}
+use mathlib.Core.Path.{_≡_, refl, sym, _∙_, ap, subst}
+use mathlib.Core.Bool.{Bool, true, false, _&&_, and-eq-true-iff}
 use mathlib.Core.List.{List, [], _∷_, _++_}
-use Prim.Native.Nat.{ℕ, zero, suc, _+_, _-_, _*_, _<_, _≤_}
+use Prim.Native.Nat.{ℕ, zero, suc, _+_, _-_, _<_, _≤_}
 use native.Mathlib.Omega.{arith}
-use native.Mathlib.Numerals.{add-one}
-use lib.ListN.{length, drop, length-append}
-use lib.Dec.{eqb, leb, ltb}
-use borrow.Author.Tests.{ltb-true, leb-true, lt-ltb, le-ltb, le-leb, ltb-false, leb-false, lt-leb}
-use Rattle.resolved_sort.specs.declared.Counts.{Counts}
-use Rattle.resolved_sort.specs.declared.SortId.{SortId}
-use Rattle.resolved_sort.specs.declared.ComplexSort.{ComplexSort}
+use lib.ListN.{length}
+use lib.Dec.{leb, ltb}
+use borrow.Author.Tests.{ltb-true, leb-true, lt-ltb, le-ltb, le-leb}
 use Rattle.resolved_sort.specs.declared.ResolvedSort.{ResolvedSort}
 use Rattle.resolved_sort.specs.declared.ResolvedSort.the-variants.{Unit as UnitRow, Primitive, Container, Function, Def, TypeVar}
-use Rattle.resolved_sort.specs.declared.Joined.{Joined}
-use Rattle.resolved_sort.specs.declared.Joined.the-variants.{At, Nothing, Full}
-use Rattle.resolved_sort.specs.Tree.{Tree, flat, container, function, Trees, no-args, arg, arity}
-use Rattle.resolved_sort.specs.Interning.{Sorts, look, number, member, need, Outcome, made, nothing, full, fits, intern}
-use Rattle.resolved_sort.specs.Storage.{maxSorts, maxEntries, Row, rowAt, trees, rowOf, appendRow, sortsOf, written, functionKind, entriesOf, lookAll}
-use Rattle.resolved_sort.specs.Entries.{after, countsOf, Stored, stored}
+use Rattle.resolved_sort.specs.declared.Joined.the-variants.{At, Full}
+use Rattle.resolved_sort.specs.Tree.{Tree}
+use Rattle.resolved_sort.specs.Interning.{look, number, member, need, made, full, fits, intern}
+use Rattle.resolved_sort.specs.Storage.{maxSorts, maxEntries, rowAt, trees, rowOf, appendRow, sortsOf, entriesOf, lookAll}
+use Rattle.resolved_sort.specs.Entries.{countsOf, stored}
 use Rattle.resolved_sort.specs.Rows.{Checked, findRow, storedAt, joinedAt, internRow}
-use Rattle.resolved_sort.proofs.Numbers.{number-below, number-past, true-not-false, member-look, number-grows, number-snoc, number-look}
+use Rattle.resolved_sort.proofs.Numbers.{number-below, number-past, member-look, number-snoc}
 use Rattle.resolved_sort.proofs.Trees.{length-trees}
-use Rattle.resolved_sort.proofs.RowTrees.{AllBelow, partsIn, members}
-use Rattle.resolved_sort.proofs.Interned.{listed, tests-agree, find-is-number, trees-differ}
+use Rattle.resolved_sort.proofs.RowTrees.{AllBelow}
+use Rattle.resolved_sort.specs.Growing.{partsIn, Whole, Wholes}
+use Rattle.resolved_sort.proofs.Interned.{listed, tests-agree, find-is-number}
 use Rattle.resolved_sort.proofs.Pairs.{sortOf, Below, look-says, row-parts, arity-run}
 use Rattle.resolved_sort.proofs.Append.{length-args}
-use Rattle.resolved_sort.proofs.Grown.{Grown, after-none, more, after-one, length-more}
-use Rattle.resolved_sort.proofs.Kept.{Whole, Wholes}
+use Rattle.resolved_sort.proofs.Grown.{after-none, more, after-one, length-more}
 
 module _ (ws : List ℕ) (n e : ℕ) (k : Checked ws n e) (t : Tree) (p : partsIn (trees ws n) t ≡ true) where
   abbrev T : List Tree

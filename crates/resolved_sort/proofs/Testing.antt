@@ -5,7 +5,7 @@ use Prim.Native.Nat.{ℕ}
 use native.Mathlib.Omega.{arith}
 use Rattle.resolved_sort.specs.declared.Tested.{Tested}
 use Rattle.resolved_sort.specs.declared.Tested.the-variants.{Refused, Passed}
-use Rattle.resolved_sort.specs.Entries.{testedOf}
+use Rattle.resolved_sort.specs.Inner.Entries.{testedOf}
 use mathlib.Core.List.{List, [], _∷_, _++_}
 use mathlib.Core.Bool.{Bool, true, false, not, _&&_}
 use borrow.Author.Tests.{not-true, not-false}

@@ -1,27 +1,23 @@
 -- Check 4 on rows: no two rows are the same exactly if no two sorts are equal, once check 3 has passed. By induction on
 -- the list: where the rows before a row are distinct, it is the same as one of them exactly if its sort is among theirs.
 -- Assumes nothing.
-use mathlib.Core.Path.{_≡_, refl, sym, _∙_, ap, ap₂, subst}
-use mathlib.Core.Bool.{Bool, true, false, cond, not, _&&_, and-eq-true-iff}
-use mathlib.Core.List.{List, [], _∷_, _++_}
-use Prim.Native.Nat.{ℕ, zero, suc, _+_, _<_, _≤_}
+use mathlib.Core.Path.{_≡_, refl, sym, _∙_, ap, subst}
+use mathlib.Core.Bool.{Bool, true, false, not, and-eq-true-iff}
+use mathlib.Core.List.{List}
+use Prim.Native.Nat.{ℕ, zero, suc, _<_}
 use native.Mathlib.Omega.{arith}
 use lib.ListN.{length}
 use borrow.Author.Tests.{not-true}
-use Rattle.resolved_sort.specs.Tree.{Tree, same}
 use Rattle.resolved_sort.specs.Interning.{look, number, member, distinct}
 use Rattle.resolved_sort.specs.Storage.{wordsAt, treeOf, rowOf, trees}
 use Rattle.resolved_sort.specs.Checks.{allBelow, rowFine, rowsFine, noTwoEqual}
-use Rattle.resolved_sort.specs.Rows.{sameRow}
+use Rattle.resolved_sort.specs.Rows.{sameRow, rowsDiffer}
 use Rattle.resolved_sort.proofs.Below.{below-each, each-below}
 use Rattle.resolved_sort.proofs.Numbers.{true-not-false, distinct-snoc, look-number, number-below, look-injective}
-use Rattle.resolved_sort.proofs.Same.{same-exactly}
 use Rattle.resolved_sort.proofs.Trees.{length-trees}
 use Rattle.resolved_sort.proofs.RowTrees.{Within, row-within, row-of-tree}
-use Rattle.resolved_sort.proofs.Interned.{Listed, trees-differ, tests-agree, sameRow-exactly, look-tree, row-of-look}
-
-abbrev pub rowsDiffer : List ℕ → ℕ → Bool
-rowsDiffer ws n = allBelow n (λ j. allBelow j (λ i. not (sameRow (wordsAt ws i) (wordsAt ws j))))
+use Rattle.resolved_sort.specs.Growing.{Listed}
+use Rattle.resolved_sort.proofs.Interned.{trees-differ, tests-agree, sameRow-exactly, look-tree, row-of-look}
 
 module _ (ws : List ℕ) (e : ℕ) where
   -- the rows before row m, all different, do not have its sort if none of them is the same row

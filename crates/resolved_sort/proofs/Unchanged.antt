@@ -1,20 +1,20 @@
 -- A storage that has grown reads as before below its entry lengths: rows, entries, and so the sorts of old numbers.
 -- By induction on the new sorts. Assumes nothing.
-use mathlib.Core.Path.{_≡_, refl, sym, _∙_, ap, ap₂, subst}
+use mathlib.Core.Path.{_≡_, refl, sym, _∙_, ap, subst}
 use mathlib.Core.List.{List, [], _∷_, _++_}
-use Prim.Native.Nat.{ℕ, zero, suc, _+_, _-_, _*_, _<_, _≤_}
+use Prim.Native.Nat.{ℕ, _+_, _-_, _<_, _≤_}
 use native.Mathlib.Omega.{arith}
 use lib.ListN.{length, drop, length-append, length-drop}
-use Rattle.resolved_sort.specs.Tree.{Tree, Trees}
+use Rattle.resolved_sort.specs.Tree.{Tree}
 use Rattle.resolved_sort.specs.Interning.{Sorts, look, need}
-use Rattle.resolved_sort.specs.Storage.{maxSorts, maxEntries, fullLength, entriesOf, lookAll, trees, rowOf, appendRow, append, written}
+use Rattle.resolved_sort.specs.Storage.{maxSorts, maxEntries, fullLength, entriesOf, lookAll, trees, rowOf, append, written}
 use Rattle.resolved_sort.specs.Entries.{after}
 use Rattle.resolved_sort.specs.Rows.{Checked}
 use Rattle.resolved_sort.proofs.Numbers.{look-grows}
 use Rattle.resolved_sort.proofs.Trees.{length-trees}
 use Rattle.resolved_sort.proofs.RowTrees.{AllBelow, lookAll-agrees}
-use Rattle.resolved_sort.proofs.Append.{Agrees, append-agrees, length-appendRow, length-new, length-args, entries-agree}
-use Rattle.resolved_sort.proofs.Grown.{Grown, needs}
+use Rattle.resolved_sort.specs.Growing.{Agrees, Grown, needs}
+use Rattle.resolved_sort.proofs.Append.{append-agrees, length-appendRow, length-new, length-args, entries-agree}
 
 pub agrees-refl : (ws : List ℕ) (n e : ℕ) → Agrees ws ws n e
 agrees-refl ws n e = record { words = λ i h. refl; kinds = λ i h. refl; parts = λ i h. refl; starts = λ i h. refl; counts = λ i h. refl; entries = λ j h. refl }

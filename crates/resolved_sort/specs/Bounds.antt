@@ -1,28 +1,11 @@
 -- Join and meet of two numbers of a list, and of the arguments of two functions, as the code's contracts cite them.
-use mathlib.Core.Bool.{Bool, true, false, cond, not}
-use mathlib.Core.List.{List, [], _∷_}
-use mathlib.Core.Option.{Option, none, some}
-use mathlib.Core.Path.{_≡_}
-use Prim.Native.Nat.{ℕ, _+_, _-_, _<_, _≤_}
-use lib.ListN.{replicate, take}
-use lib.Seq.{sets}
-use lib.Dec.{eqb}
-use Rattle.resolved_sort.specs.declared.Sort.{Sort}
-use Rattle.resolved_sort.specs.declared.ComplexSort.{ComplexSort}
-use Rattle.resolved_sort.specs.declared.Side.{Side}
-use Rattle.resolved_sort.specs.declared.Side.the-variants.{Lhs, Rhs, Neither}
-use Rattle.resolved_sort.specs.declared.OpBound.{OpBound}
-use Rattle.resolved_sort.specs.declared.OpBound.the-variants.{Is, Nothing as NoOp}
-use Rattle.resolved_sort.specs.declared.Found.{Found}
-use Rattle.resolved_sort.specs.declared.Found.the-variants.{All, Nothing, Full}
-use Rattle.resolved_sort.specs.declared.Domain.{Domain}
-use Rattle.resolved_sort.specs.Tree.{primitive, Tree, container, function, Trees, family, level}
-use Rattle.resolved_sort.specs.Order.{leLevel, boundOp}
-use Rattle.resolved_sort.specs.Interning.{Sorts, look, Outcome, made, nothing, full}
-use Rattle.resolved_sort.specs.Interning.{_then_, where-some, intern, make, makes}
-use Rattle.resolved_sort.specs.Storage.{maxArguments, functionKind, kindAt, partAt, startAt, countAt}
-use Rattle.resolved_sort.specs.Storage.{entriesOf, lookAll, numbers, trees, sortsOf}
-use Rattle.resolved_sort.specs.Entries.{countsOf, after, Stored, stored}
+use mathlib.Core.Bool.{Bool}
+use mathlib.Core.List.{List}
+use Prim.Native.Nat.{ℕ, _<_}
+use Rattle.resolved_sort.specs.Tree.{Tree}
+use Rattle.resolved_sort.specs.Interning.{look, intern, make}
+use Rattle.resolved_sort.specs.Storage.{trees, sortsOf}
+use Rattle.resolved_sort.specs.Entries.{Stored, stored}
 use Rattle.resolved_sort.specs.Rows.{Checked}
 
 -- a and b are numbers of a checked list
@@ -35,63 +18,6 @@ pub record Asked (ws : List ℕ) (n e a b : ℕ) : Type 0 where
 unfoldable pub boundAt : Bool → List ℕ → ℕ → ℕ → ℕ → ℕ → Stored
 boundAt up ws n e a b = stored ws n e (make up (look (trees ws n) a) (look (trees ws n) b) (sortsOf ws n e))
 
--- the join or meet of two containers of a list, by operators and parts
-unfoldable pub containerAt : Bool → List ℕ → ℕ → ℕ → ComplexSort → ℕ → ComplexSort → ℕ → Stored
-containerAt up ws n e o s p t =
-    stored ws n e
-    (where-some (boundOp up o p) (sortsOf ws n e)
-    (λ q. make up (look (trees ws n) s) (look (trees ws n) t) (sortsOf ws n e)
-    then (λ v S. intern (container q v) S)))
-
 -- a sort of a list interned, and what that leaves
 unfoldable pub internAt : List ℕ → ℕ → ℕ → Tree → Stored
 internAt ws n e t = stored ws n e (intern t (sortsOf ws n e))
-
-abbrev pub sideOf : Bool → Sort → Sort → Side
-sideOf up l r =
-    cond (eqb (family (primitive l)) (family (primitive r)))
-    (cond (leLevel up (level (primitive l)) (level (primitive r))) Rhs Lhs) Neither
-
-abbrev pub opBound : Option ComplexSort → OpBound
-opBound none = NoOp
-opBound (some o) = Is o
-
--- a and b are functions of a checked list with as many arguments
-pub record TwoFunctions (ws : List ℕ) (n e a b : ℕ) : Type 0 where
-  pub asked : Asked ws n e a b
-  pub lhs-function : kindAt ws a ≡ functionKind
-  pub rhs-function : kindAt ws b ≡ functionKind
-  pub as-many : countAt ws a ≡ countAt ws b
-
-pub record StoredDomain : Type 0 where
-  pub words : List ℕ
-  pub domain : Domain
-
-abbrev pub storedDomain : List ℕ → Domain → StoredDomain
-storedDomain ws d = record { words = ws; domain = d }
-
--- the sorts of the arguments from the i-th on
-abbrev pub argumentsFrom : List ℕ → ℕ → ℕ → ℕ → Trees
-argumentsFrom ws n a i = lookAll (trees ws n) (entriesOf ws (startAt ws a + i) (countAt ws a - i))
-
--- the numbers of the answers stored from the i-th of the ids on; no ids where an answer is missing
-unfoldable pub domainOf : List ℕ → ℕ → ℕ → ℕ → List ℕ → Outcome Trees → StoredDomain
-domainOf ws n e i ids (made vs S) =
-    storedDomain (after ws n e S)
-    (record { ids = sets ids i (numbers (S .trees) vs); found = All (countsOf S) })
-domainOf ws n e i ids (nothing S) =
-    storedDomain (after ws n e S) (record { ids = replicate maxArguments 0; found = Nothing (countsOf S) })
-domainOf ws n e i ids (full S) = storedDomain (after ws n e S) (record { ids = replicate maxArguments 0; found = Full })
-
--- the joins or meets of the arguments of a and b from the i-th on
-unfoldable pub boundDomain : Bool → List ℕ → ℕ → ℕ → ℕ → ℕ → ℕ → List ℕ → StoredDomain
-boundDomain up ws n e a b i ids =
-    domainOf ws n e i ids (makes up (argumentsFrom ws n a i) (argumentsFrom ws n b i) (sortsOf ws n e))
-
--- the join or meet of two functions of a list: the arguments the other way, then the range, then the whole
-unfoldable pub functionAt : Bool → List ℕ → ℕ → ℕ → ℕ → ℕ → Stored
-functionAt up ws n e a b =
-    stored ws n e
-    (makes (not up) (argumentsFrom ws n a 0) (argumentsFrom ws n b 0) (sortsOf ws n e)
-    then (λ vs S. make up (look (trees ws n) (partAt ws a)) (look (trees ws n) (partAt ws b)) S
-    then (λ v S. intern (function vs v) S)))

@@ -1,17 +1,15 @@
 -- Checks 1 to 4, 12 and 14 of document 01 over the lent sort storage ws with n sorts and e entries given, each true
 -- where the check passes; the first that fails is the refusal.
-use mathlib.Core.Bool.{Bool, true, false, cond, _&&_}
+use mathlib.Core.Bool.{Bool, true, cond, _&&_}
 use mathlib.Core.List.{List, [], _∷_, _++_}
 use mathlib.Core.Option.{Option, none, some}
-use Prim.Native.Nat.{ℕ, zero, suc, _+_, _-_, _*_}
+use Prim.Native.Nat.{ℕ, zero, suc, _+_, _-_, _*_, _≤_}
 use lib.ListN.{length}
 use lib.Dec.{eqb, leb, ltb}
 use Rattle.resolved_sort.specs.declared.ResolvedSort.{ResolvedSort}
-use Rattle.resolved_sort.specs.declared.ResolvedSort.the-variants.{Unit, Primitive, Container}
-use Rattle.resolved_sort.specs.declared.ResolvedSort.the-variants.{Function, Def, TypeVar}
+use Rattle.resolved_sort.specs.declared.ResolvedSort.the-variants.{Unit, Primitive, Container, Function, Def, TypeVar}
 use Rattle.resolved_sort.specs.Interning.{distinct}
-use Rattle.resolved_sort.specs.Storage.{maxSorts, maxEntries, maxArguments, rowWords, entriesAt}
-use Rattle.resolved_sort.specs.Storage.{fullLength, kindAt, entryAt, rowAt, lastKind, trees}
+use Rattle.resolved_sort.specs.Storage.{maxSorts, maxEntries, maxArguments, rowWords, entriesAt, fullLength, kindAt, entryAt, rowAt, lastKind, trees}
 
 -- p holds of every number below n
 unfoldable pub allBelow : ℕ → (ℕ → Bool) → Bool
@@ -85,3 +83,7 @@ pairChecks ws n e a b =
     sortChecks ws n e
     ++ (record { code = 12; passes = inList n a && inList n b } ∷ record { code = 14; passes = atCeiling ws }
     ∷ [])
+
+-- the numbers of checks
+abbrev pub Numbered : ℕ → Type 0
+Numbered c = (1 ≤ c) × (c ≤ 14)

@@ -1,6 +1,6 @@
 -- What each entry of the sorts layer answers and leaves in the lent storage, for every input: document 01, "Verdict
 -- codes" and "Sorts (002)".
-use mathlib.Core.Bool.{Bool, true, false}
+use mathlib.Core.Bool.{Bool, true}
 use mathlib.Core.List.{List}
 use mathlib.Core.Option.{Option, none, some}
 use Prim.Native.Nat.{ℕ, _-_}
@@ -13,14 +13,11 @@ use Rattle.resolved_sort.specs.declared.Widening.the-variants.{Distance,
 use Rattle.resolved_sort.specs.declared.Compared.{Compared}
 use Rattle.resolved_sort.specs.declared.Compared.the-variants.{Refused as NotCompared, Ordered}
 use Rattle.resolved_sort.specs.declared.Bounded.{Bounded}
-use Rattle.resolved_sort.specs.declared.Bounded.the-variants.{Refused as NotBounded, Sort}
-use Rattle.resolved_sort.specs.declared.Bounded.the-variants.{Nothing as NoBound, NoRoom}
+use Rattle.resolved_sort.specs.declared.Bounded.the-variants.{Refused as NotBounded, Sort, Nothing as NoBound, NoRoom}
 use Rattle.resolved_sort.specs.declared.Measured.{Measured}
 use Rattle.resolved_sort.specs.declared.Measured.the-variants.{Refused as NotMeasured, Steps as StepsOf}
 use Rattle.resolved_sort.specs.declared.Materialized.{Materialized}
 use Rattle.resolved_sort.specs.declared.Materialized.the-variants.{Refused as NotMaterialized, Answer}
-use Rattle.resolved_sort.specs.declared.Tested.{Tested}
-use Rattle.resolved_sort.specs.declared.Tested.the-variants.{Refused, Passed}
 use Rattle.resolved_sort.specs.Tree.{Tree}
 use Rattle.resolved_sort.specs.Order.{order, Steps, distance, materializable}
 use Rattle.resolved_sort.specs.Interning.{Sorts, look, number, Outcome, made, nothing, full, make}
@@ -49,11 +46,6 @@ codeMeasured (StepsOf d) = 0
 unfoldable pub codeMaterialized : Materialized → ℕ
 codeMaterialized (NotMaterialized c) = c
 codeMaterialized (Answer b) = 0
-
--- what the checks of a call found
-abbrev pub testedOf : Option ℕ → Tested
-testedOf none = Passed
-testedOf (some c) = Refused c
 
 -- refused with the first failing check, else answered
 abbrev pub refusedOr : {A : Type 0} → Option ℕ → (ℕ → A) → A → A

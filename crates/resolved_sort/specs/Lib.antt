@@ -8,5 +8,6 @@ pub mod Storage
 pub mod Checks
 pub mod Entries
 pub mod Rows
-pub mod Pairs
 pub mod Bounds
+pub mod Growing
+pub mod Inner

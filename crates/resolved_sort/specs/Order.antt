@@ -6,8 +6,9 @@ use lib.Dec.{eqb, leb}
 use Rattle.resolved_sort.specs.declared.ComplexSort.{ComplexSort}
 use Rattle.resolved_sort.specs.declared.PartialOrder.{PartialOrder}
 use Rattle.resolved_sort.specs.declared.PartialOrder.the-variants.{Unrelated, Equal, Below, Above}
-use Rattle.resolved_sort.specs.Tree.{Flat, Tree, flat, container, function, Trees, no-args}
-use Rattle.resolved_sort.specs.Tree.{arg, family, level, familyOp, levelOp, same, sames}
+use Rattle.resolved_sort.specs.Tree.{Flat, Tree, flat, container, function, Trees, no-args, arg, family, level, familyOp, levelOp, same, sames}
+use mathlib.Core.Path.{_≡_}
+use mathlib.Core.Logic.{_≢_}
 
 -- A direction: up true reads "equal to or below", up false "equal to or above". With it the functions below call
 -- themselves on parts of their first sort, though a function's arguments go the other way.
@@ -156,3 +157,16 @@ materializable (container o s) (function ts u) = false
 materializable (function ss r) (flat b) = false
 materializable (function ss r) (container p t) = false
 materializable (function ss r) (function ts u) = sames ss ts && materializable r u
+
+-- What each answer of `order` says.
+abbrev pub Says : Tree → Tree → PartialOrder → Type 0
+Says s t Equal = s ≡ t
+Says s t Below = (le true s t ≡ true) × (s ≢ t)
+Says s t Above = (le true t s ≡ true) × (s ≢ t)
+Says s t Unrelated = (le true s t ≡ false) × (le true t s ≡ false)
+
+-- How far a materializable pair is apart.
+abbrev pub isFunction : Tree → Bool
+isFunction (flat a) = false
+isFunction (container o s) = false
+isFunction (function ss r) = true

@@ -1,16 +1,15 @@
 -- Interning as the code does it, on rows: a scan for an equal row, else one more row. The law that this is interning by
 -- structure stands in proofs/.
-use mathlib.Core.Bool.{Bool, true, false, cond, _&&_}
+use mathlib.Core.Bool.{Bool, true, false, cond, _&&_, not}
 use mathlib.Core.List.{List, [], _∷_}
 use Prim.Native.Nat.{ℕ, zero, suc, _+_, _<_, _≤_}
 use lib.ListN.{length}
 use lib.Dec.{eqb, leb, ltb}
 use mathlib.Core.Path.{_≡_}
-use Rattle.resolved_sort.specs.declared.Counts.{Counts}
 use Rattle.resolved_sort.specs.declared.Joined.{Joined}
-use Rattle.resolved_sort.specs.declared.Joined.the-variants.{At, Nothing, Full}
+use Rattle.resolved_sort.specs.declared.Joined.the-variants.{At, Full}
 use Rattle.resolved_sort.specs.Storage.{maxSorts, maxEntries, fullLength, Row, wordsAt, appendRow}
-use Rattle.resolved_sort.specs.Checks.{rowsFine, noTwoEqual}
+use Rattle.resolved_sort.specs.Checks.{rowsFine, noTwoEqual, allBelow}
 use Rattle.resolved_sort.specs.Entries.{Stored}
 
 -- What the checks before a call have shown of the lent words: n sorts and e entries that pass checks 1, 3, 4 and 14.
@@ -56,3 +55,6 @@ internRow ws n e r =
     (cond (ltb n maxSorts && leb (e + length (r .args)) maxEntries)
     (storedAt (appendRow ws n e r) (joinedAt n (n + 1) (e + length (r .args))))
     (storedAt ws Full))
+
+abbrev pub rowsDiffer : List ℕ → ℕ → Bool
+rowsDiffer ws n = allBelow n (λ j. allBelow j (λ i. not (sameRow (wordsAt ws i) (wordsAt ws j))))

@@ -10,10 +10,8 @@ use Rattle.resolved_sort.specs.declared.Sort.{Sort}
 use Rattle.resolved_sort.specs.declared.ComplexSort.{ComplexSort}
 use Rattle.resolved_sort.specs.declared.Run.{Run}
 use Rattle.resolved_sort.specs.declared.ResolvedSort.{ResolvedSort}
-use Rattle.resolved_sort.specs.declared.ResolvedSort.the-variants.{Unit, Primitive, Container}
-use Rattle.resolved_sort.specs.declared.ResolvedSort.the-variants.{Function, Def, TypeVar}
-use Rattle.resolved_sort.specs.Tree.{Flat, unit, primitive, def, typevar, Tree}
-use Rattle.resolved_sort.specs.Tree.{flat, container, function, Trees, no-args, arg}
+use Rattle.resolved_sort.specs.declared.ResolvedSort.the-variants.{Unit, Primitive, Container, Function, Def, TypeVar}
+use Rattle.resolved_sort.specs.Tree.{Flat, unit, primitive, def, typevar, Tree, flat, container, function, Trees, no-args, arg}
 use Rattle.resolved_sort.specs.Interning.{Sorts, look, number, need}
 use Rattle.words.specs.Words.{zeros}
 
@@ -123,10 +121,6 @@ treeOf T r =
 unfoldable pub trees : List ℕ → ℕ → List Tree
 trees ws zero = []
 trees ws (suc n) = trees ws n ++ (treeOf (trees ws n) (wordsAt ws n) ∷ [])
-
--- the sorts of the c entries from s on
-abbrev pub argsAt : List ℕ → ℕ → ℕ → ℕ → Trees
-argsAt ws n s c = lookAll (trees ws n) (entriesOf ws s c)
 
 -- The list of n sorts and e entries, with the room up to the ceilings.
 abbrev pub sortsOf : List ℕ → ℕ → ℕ → Sorts

@@ -16,16 +16,18 @@ use Rattle.resolved_sort.specs.Tree.{function}
 use Rattle.resolved_sort.specs.Interning.{look}
 use Rattle.resolved_sort.specs.Storage.{trees, lookAll}
 use Rattle.resolved_sort.specs.Rows.{Checked, AllBelow, storedAt}
-use Rattle.resolved_sort.specs.Bounds.{internAt, storedDomain}
+use Rattle.resolved_sort.specs.Bounds.{internAt}
+use Rattle.resolved_sort.specs.Inner.Bounds.{storedDomain}
 use Rattle.unification.specs.declared.Lengths.{Lengths}
 use Rattle.unification.specs.declared.Default.{Default}
 use Rattle.unification.specs.Term.{functionHead, Term, app, Terms}
 use Rattle.unification.specs.Nodes.{nodeEntryAt, nodeEntriesOf}
 use Rattle.unification.specs.Checked.{Ready, Placed}
 use Rattle.unification.specs.Solutions.{termsAt}
-use Rattle.unification.specs.Resolve.{DefaultBelow, valueIn, termResolved, argumentsResolved, withCounts}
+use Rattle.unification.specs.Resolve.{DefaultBelow, termResolved, argumentsResolved, withCounts}
+use Rattle.unification.specs.Inner.Resolve.{valueIn}
 use Rattle.unification.proofs.Exact.{size, sizes}
-use Rattle.infer_nodes.specs.Bound.{RunPlaced}
+use Rattle.infer_nodes.specs.Inner.Bound.{RunPlaced}
 use Rattle.resolver.proofs.Laws as law
 
 -- the m arguments from s on, and the function of them and the range g

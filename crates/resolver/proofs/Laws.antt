@@ -19,10 +19,12 @@ use Rattle.resolved_sort.specs.Interning.{Sorts, look}
 use Rattle.resolved_sort.specs.Storage.{maxSorts, trees, sortsOf, lookAll}
 use Rattle.resolved_sort.specs.Entries.{countsOf, after, stored}
 use Rattle.resolved_sort.specs.Rows.{Checked, AllBelow, storedAt}
-use Rattle.resolved_sort.specs.Bounds.{internAt, StoredDomain, storedDomain, domainOf}
+use Rattle.resolved_sort.specs.Bounds.{internAt}
+use Rattle.resolved_sort.specs.Inner.Bounds.{StoredDomain, storedDomain, domainOf}
 use Rattle.resolved_sort.proofs.Numbers.{member-look}
 use Rattle.resolved_sort.proofs.Trees.{length-trees}
-use Rattle.resolved_sort.proofs.Grown.{Grown, grown-none}
+use Rattle.resolved_sort.specs.Growing.{Grown}
+use Rattle.resolved_sort.proofs.Grown.{grown-none}
 use Rattle.resolved_sort.proofs.Unchanged.{longer}
 use Rattle.resolved_sort.proofs.BoundsCode.{answer-old, answer-none}
 use Rattle.resolved_sort.proofs.Reached.{Reached}
@@ -39,7 +41,8 @@ use Rattle.unification.specs.Nodes.{nodeEntryAt, nodeEntriesOf, nodeAt, Binds, 
 use Rattle.unification.specs.Unify.{follow, deep}
 use Rattle.unification.specs.Checked.{graphOf, Ready, Placed}
 use Rattle.unification.specs.Solutions.{termsAt}
-use Rattle.unification.specs.Resolve.{resolveTerm, resolveArguments, freeSort, DefaultBelow, defaultOf, defaultIn, valueIn, termResolved, argumentsResolved, withCounts}
+use Rattle.unification.specs.Resolve.{resolveTerm, resolveArguments, DefaultBelow, defaultOf, defaultIn, termResolved, argumentsResolved, withCounts}
+use Rattle.unification.specs.Inner.Resolve.{freeSort, valueIn}
 use Rattle.unification.proofs.Exact.{size, sizes}
 use Rattle.unification.proofs.Parts.{node-runs, each-of-run}
 use Rattle.unification.proofs.Places.{sort-below}
@@ -49,7 +52,7 @@ use Rattle.unification.proofs.ResolvedSorts.{count, Formed, AllFormed, DefaultI
 use Rattle.unification.proofs.ResolvedPlaces.{count-terms, terms-formed, value-formed, sort-place-is-found}
 use Rattle.unification.proofs.Resolved.{value-followed}
 use Rattle.unification.proofs.ResolvedCode as code
-use Rattle.infer_nodes.specs.Bound.{RunPlaced}
+use Rattle.infer_nodes.specs.Inner.Bound.{RunPlaced}
 use Rattle.infer_nodes.proofs.Shapes.{shape-of-variable}
 use Rattle.infer_nodes.proofs.Ways as ways
 

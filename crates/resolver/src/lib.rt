@@ -26,8 +26,9 @@ ghost use Rattle.unification.specs.Term.{functionHead, app};
 ghost use Rattle.unification.specs.Nodes.{nodeEntriesOf};
 ghost use Rattle.unification.specs.Checked.{Ready, Placed};
 ghost use Rattle.unification.specs.Solutions.{termsAt};
-ghost use Rattle.unification.specs.Resolve.{freeSort, DefaultBelow, valueIn, termResolved};
-ghost use Rattle.infer_nodes.specs.Bound.{RunPlaced};
+ghost use Rattle.unification.specs.Inner.Resolve.{freeSort, valueIn};
+ghost use Rattle.unification.specs.Resolve.{DefaultBelow, termResolved};
+ghost use Rattle.infer_nodes.specs.Inner.Bound.{RunPlaced};
 
 // Extracts the resolved sort denoted by `id`, or nothing when a free variable remains, i.e. the
 // sort is underdetermined.

@@ -14,7 +14,8 @@ use Rattle.resolved_sort.proofs.RowTrees.{weaken-all}
 use Rattle.unification.specs.declared.Lengths.{Lengths}
 use Rattle.unification.specs.declared.Default.the-variants.{Nothing}
 use Rattle.unification.specs.Nodes.{Binds, bindsOf}
-use Rattle.unification.specs.Making.{Lent, Makes, made, no-list, _and-then_, lent}
+use Rattle.unification.specs.Making.{Lent, Makes, made, no-list, _and-then_}
+use Rattle.unification.specs.Inner.Making.{lent}
 use Rattle.unification.proofs.StandsAlike.{length-each}
 use Rattle.inference.specs.Constraints.{maxSources, maxComponents, rowsFrom}
 use Rattle.inference.specs.Search.{Agreed, resolveAll, joinAll, allInto, agreedBy, agreed, joinOf}
@@ -25,11 +26,11 @@ use Rattle.search_state.specs.declared.Made.{Made}
 use Rattle.search_state.specs.declared.Made.the-variants.{At as Is, Nothing as NoSort, Full as NoRoom}
 use Rattle.search_state.specs.declared.Extracted.{Extracted}
 use Rattle.search_state.specs.declared.Extracted.the-variants.{All, Nothing as Without, Full as NotAll}
-use Rattle.search_state.specs.Memory.{sourceAt, measureAt, scratchUsed}
+use Rattle.search_state.specs.Inner.Memory.{sourceAt, measureAt, scratchUsed}
 use Rattle.words.specs.Words.{part}
-use Rattle.search_state.specs.Leaves.{ChangedOnly, madeOf, Agrees, extractedOf}
-use Rattle.search_state.specs.Searching.{Agreeing}
-use Rattle.search_join.specs.Sources.{Resolved}
+use Rattle.search_state.specs.Inner.Leaves.{ChangedOnly, madeOf, Agrees, extractedOf}
+use Rattle.search_state.specs.Inner.Searching.{Agreeing}
+use Rattle.search_join.specs.Inner.Sources.{Resolved}
 use Rattle.search_join.proofs.Lists.{length-first, firsts-left, first-below}
 use Rattle.search_join.proofs.Joining.{LeavesSort, joins-leave}
 use Rattle.search_join.proofs.Heads.{headTo, headsTo}

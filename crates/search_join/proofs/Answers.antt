@@ -17,13 +17,14 @@ use Rattle.resolved_sort.proofs.Reached.{no-confusion}
 use Rattle.unification.specs.declared.Lengths.{Lengths}
 use Rattle.unification.specs.declared.Default.the-variants.{Nothing}
 use Rattle.unification.specs.Nodes.{bindsOf}
-use Rattle.unification.specs.Resolve.{valueIn, termResolved, withCounts}
+use Rattle.unification.specs.Inner.Resolve.{valueIn}
+use Rattle.unification.specs.Resolve.{termResolved, withCounts}
 use Rattle.inference.specs.Search.{makesSort, resolveIn, joinIn, headSteps}
 use Rattle.search_state.specs.declared.Made.{Made}
 use Rattle.search_state.specs.declared.Made.the-variants.{At as Is, Nothing as NoSort, Full as NoRoom}
-use Rattle.search_state.specs.Leaves.{madeOf}
-use Rattle.search_join.specs.Sources.{madeFrom}
-use Rattle.unification.specs.Making.{lent}
+use Rattle.search_state.specs.Inner.Leaves.{madeOf}
+use Rattle.search_join.specs.Inner.Sources.{madeFrom}
+use Rattle.unification.specs.Inner.Making.{lent}
 
 module _ (k : Lengths) (j : Joined) where
   pub from-sort : (id : SortId) (c : Counts) → j ≡ At id c → (l : Lengths) → l ≡ withCounts k c → Is id l ≡ madeFrom k j

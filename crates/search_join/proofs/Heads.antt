@@ -14,9 +14,10 @@ use Rattle.resolved_sort.specs.Entries.{treeAt}
 use Rattle.resolved_sort.specs.Rows.{Checked}
 use Rattle.unification.specs.declared.Lengths.{Lengths}
 use Rattle.unification.specs.Related.{each}
-use Rattle.unification.specs.Making.{Lent, lent}
+use Rattle.unification.specs.Making.{Lent}
+use Rattle.unification.specs.Inner.Making.{lent}
 use Rattle.inference.specs.Search.{headSteps, allInto}
-use Rattle.search_join.specs.Sources.{Resolved}
+use Rattle.search_join.specs.Inner.Sources.{Resolved}
 use Rattle.search_join.proofs.Lists.{length-first, first-at, firsts-left, first-below}
 
 -- a sort of the list into another

@@ -24,12 +24,13 @@ use Rattle.resolved_sort.proofs.Unchanged.{longer}
 use Rattle.resolved_sort.proofs.Reached.{Reached, reached, reached-checked, reached-below, reached-sorts}
 use Rattle.resolved_sort.proofs.RowTrees.{weaken-all}
 use Rattle.unification.specs.declared.Lengths.{Lengths}
-use Rattle.unification.specs.Making.{Lent, Makes, made, no-list, no-room, _and-then_, lent}
+use Rattle.unification.specs.Making.{Lent, Makes, made, no-list, no-room, _and-then_}
+use Rattle.unification.specs.Inner.Making.{lent}
 use Rattle.inference.specs.Search.{makesSort, joinIn, joinAll}
 use Rattle.search_state.specs.declared.Made.{Made}
 use Rattle.search_state.specs.declared.Made.the-variants.{At as Is, Nothing as NoSort, Full as NoRoom}
-use Rattle.search_state.specs.Leaves.{madeOf}
-use Rattle.search_join.specs.Sources.{Resolved}
+use Rattle.search_state.specs.Inner.Leaves.{madeOf}
+use Rattle.search_join.specs.Inner.Sources.{Resolved}
 use Rattle.search_join.proofs.Lists.{length-first, firsts-left, first-below}
 
 -- a sort of a list that passes its checks and has all that W has

@@ -12,20 +12,23 @@ use Rattle.unification.specs.declared.Lengths.{Lengths}
 use Rattle.unification.specs.declared.Default.the-variants.{Nothing}
 use Rattle.unification.specs.Nodes.{Binds, bindsOf}
 use Rattle.unification.specs.Checked.{Ready, Placed}
-use Rattle.unification.specs.Making.{Lent, Makes, made, no-list, no-room, _and-then_, lent}
-use Rattle.unification.proofs.Grows.{PlacedIn, ready-grown, placed-grown, same-binds}
+use Rattle.unification.specs.Making.{Lent, Makes, made, no-list, no-room, _and-then_}
+use Rattle.unification.specs.Inner.Making.{lent}
+use Rattle.unification.specs.Growing.{PlacedIn}
+use Rattle.unification.proofs.Grows.{ready-grown, placed-grown, same-binds}
 use Rattle.unification.proofs.SortsLeft.{SortWith}
 use Rattle.unification.proofs.ResolveAnswers.{AlwaysStandsFor}
 use Rattle.inference.specs.Constraints.{rowsFrom}
 use Rattle.inference.specs.Search.{resolveIn, resolveAll}
-use Rattle.inference.proofs.Invariant.{SortsOnly, sorts-only-refl, sorts-only-trans}
+use Rattle.inference.specs.Inner.Listed.{SortsOnly}
+use Rattle.inference.proofs.Invariant.{sorts-only-refl, sorts-only-trans}
 use Rattle.inference.proofs.MakingSorts.{MadeSorts, NoDefault, resolve-makes}
 use Rattle.search_state.specs.declared.Made.{Made}
 use Rattle.search_state.specs.declared.Made.the-variants.{At as Is, Nothing as NoSort, Full as NoRoom}
 use Rattle.search_state.specs.declared.Extracted.the-variants.{All, Nothing as Without, Full as NotAll}
-use Rattle.search_state.specs.Memory.{sourceAt}
-use Rattle.search_state.specs.Leaves.{madeOf, extractedOf}
-use Rattle.search_join.specs.Sources.{Sources}
+use Rattle.search_state.specs.Inner.Memory.{sourceAt}
+use Rattle.search_state.specs.Inner.Leaves.{madeOf, extractedOf}
+use Rattle.search_join.specs.Inner.Sources.{Sources}
 use Rattle.search_join.proofs.Lists.{one-more}
 use Rattle.inference.proofs.Members.{each-row, run-one-left}
 

@@ -1,2 +1,2 @@
 -- What the functions of this crate ask for and answer.
-pub mod Sources
+pub mod Inner

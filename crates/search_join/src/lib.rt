@@ -37,13 +37,12 @@ ghost use Rattle.unification.specs.Nodes.{bindsOf};
 ghost use Rattle.unification.specs.Checked.{Ready, Placed};
 ghost use Rattle.unification.specs.Related.{each};
 ghost use Rattle.inference.specs.Constraints.{maxComponents, rowsFrom};
-ghost use Rattle.inference.specs.Search.{resolveIn, joinIn, resolveAll, joinAll};
-ghost use Rattle.inference.specs.Search.{headSteps, allInto, agreed as agreedOn, joinOf};
-ghost use Rattle.search_state.specs.Memory.{sourceAt, measureAt, scratchUsed};
-ghost use Rattle.search_state.specs.Leaves.{madeOf, extractedOf, Agrees};
-ghost use Rattle.search_state.specs.Searching.{Agreeing};
-ghost use Rattle.search_join.specs.Sources.{madeFrom, Sources, Resolved};
-ghost use Rattle.unification.specs.Making.{lent};
+ghost use Rattle.inference.specs.Search.{resolveIn, joinIn, resolveAll, joinAll, headSteps, allInto, agreed as agreedOn, joinOf};
+ghost use Rattle.search_state.specs.Inner.Memory.{sourceAt, measureAt, scratchUsed};
+ghost use Rattle.search_state.specs.Inner.Leaves.{madeOf, extractedOf, Agrees};
+ghost use Rattle.search_state.specs.Inner.Searching.{Agreeing};
+ghost use Rattle.search_join.specs.Inner.Sources.{madeFrom, Sources, Resolved};
+ghost use Rattle.unification.specs.Inner.Making.{lent};
 
 // An answer of resolve or join with the lengths then. Where room ends, nothing is counted in.
 fn made_from(lengths: Lengths, joined: Joined) -> Made

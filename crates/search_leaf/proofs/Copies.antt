@@ -10,13 +10,13 @@ use lib.Seq.{length-take-le, take-at, drop-at, getD-take, getD-drop, paste-zero,
 use Rattle.inference.specs.Constraints.{maxExprs, maxConstraints, maxComponents}
 use Rattle.search_state.specs.declared.Sizes.{Sizes}
 use Rattle.search_state.specs.declared.Branch.{Branch}
-use Rattle.search_state.specs.Memory.{trailWords, bestSortsAt, measureAt, bestMeasureAt, choicesAt, bestChoicesAt, scratchUsed}
+use Rattle.search_state.specs.Inner.Memory.{trailWords, bestSortsAt, measureAt, bestMeasureAt, choicesAt, bestChoicesAt, scratchUsed}
 use Rattle.words.specs.Words.{part}
-use Rattle.search_state.specs.Leaves.{ChangedOnly}
-use Rattle.search_state.specs.Searching.{SamePath}
+use Rattle.search_state.specs.Inner.Leaves.{ChangedOnly}
+use Rattle.search_state.specs.Inner.Searching.{SamePath}
 use Rattle.search_state.proofs.Parts.{part-before, part-after, changed-wider, same-path-trans, measure-changes-no-path, choices-change-no-path}
 use Rattle.words.proofs.Parts.{length-part}
-use Rattle.search_leaf.specs.Leaf.{copied, keptAsBest, Keepable}
+use Rattle.search_leaf.specs.Inner.Leaf.{copied, keptAsBest, Keepable}
 
 -- i of n words are copied
 pub record Copying (a b n : ℕ) (sc₀ sc : List ℕ) (i : ℕ) : Type 0 where

@@ -11,8 +11,9 @@ use Rattle.resolved_sort.proofs.Reached.{no-confusion}
 use Rattle.unification.specs.declared.Lengths.{Lengths}
 use Rattle.unification.specs.declared.Default.the-variants.{Is}
 use Rattle.unification.specs.Nodes.{Binds, bindsOf}
-use Rattle.unification.specs.Making.{Lent, Makes, lent}
-use Rattle.unification.proofs.Grows.{CheckedLent}
+use Rattle.unification.specs.Making.{Lent, Makes}
+use Rattle.unification.specs.Inner.Making.{lent}
+use Rattle.unification.specs.Growing.{CheckedLent}
 use Rattle.inference.specs.Constraints.{maxConstraints, maxComponents, rowsFrom}
 use Rattle.inference.specs.Measure.{Components, Ranking, smaller, equal, greater, compare}
 use Rattle.inference.specs.Search.{Choice, Path, World, Out, found, missed, onMade, keeping, replace, leafBy, leafOver, leaf}
@@ -28,12 +29,12 @@ use Rattle.search_state.specs.declared.Extracted.{Extracted}
 use Rattle.search_state.specs.declared.Extracted.the-variants.{All, Nothing as Without, Full as NotAll}
 use Rattle.search_state.specs.declared.Ordering.{Ordering}
 use Rattle.search_state.specs.declared.Ordering.the-variants.{Less, Equal, Greater}
-use Rattle.search_state.specs.Memory.{exprAt, problemIn, chosenExprs, bestSortsAt, measureAt, bestMeasureAt, choicesAt, bestChoicesAt, scratchUsed, choicesOf, pathOf, candidateOf, bestOf, worldOf}
+use Rattle.search_state.specs.Inner.Memory.{exprAt, problemIn, chosenExprs, bestSortsAt, measureAt, bestMeasureAt, choicesAt, bestChoicesAt, scratchUsed, choicesOf, pathOf, candidateOf, bestOf, worldOf}
 use Rattle.words.specs.Words.{part}
-use Rattle.search_state.specs.Leaves.{extractedOf, Extracts, rankingOf}
-use Rattle.search_state.specs.Searching.{AtLeaf, SamePath, Comes}
+use Rattle.search_state.specs.Inner.Leaves.{extractedOf, Extracts, rankingOf}
+use Rattle.search_state.specs.Inner.Searching.{AtLeaf, SamePath, Comes}
 use Rattle.search_state.proofs.Parts.{changed-wider, same-path-refl, same-path-trans, sorts-change-no-path}
-use Rattle.search_leaf.specs.Leaf.{rankedBy, Readable, sortsFrom, keptAsBest, Keepable}
+use Rattle.search_leaf.specs.Inner.Leaf.{rankedBy, Readable, sortsFrom, keptAsBest, Keepable}
 use Rattle.search_leaf.proofs.Copies.{kept-measure, kept-choices, kept-sorts, kept-path}
 
 -- the state with an incumbent

@@ -17,12 +17,12 @@ use Rattle.search_state.specs.declared.State.{State}
 use Rattle.search_state.specs.declared.Branch.{Branch}
 use Rattle.search_state.specs.declared.Ordering.{Ordering}
 use Rattle.search_state.specs.declared.Ordering.the-variants.{Less, Equal, Greater}
-use Rattle.search_state.specs.Memory.{problemIn, measureAt, bestMeasureAt, scratchUsed, candidateOf, bestOf}
+use Rattle.search_state.specs.Inner.Memory.{problemIn, measureAt, bestMeasureAt, scratchUsed, candidateOf, bestOf}
 use Rattle.words.specs.Words.{part}
-use Rattle.search_state.specs.Leaves.{rankingOf}
-use Rattle.search_state.specs.Searching.{Comparable}
+use Rattle.search_state.specs.Inner.Leaves.{rankingOf}
+use Rattle.search_state.specs.Inner.Searching.{Comparable}
 use Rattle.words.proofs.Parts.{length-part, take-part, part-first}
-use Rattle.search_leaf.specs.Leaf.{ranked, rankedBy, IsDominated}
+use Rattle.search_leaf.specs.Inner.Leaf.{ranked, rankedBy, IsDominated}
 
 -- the components from the i-th on
 abbrev rankedFrom : List ℕ → ℕ → ℕ → Ranking

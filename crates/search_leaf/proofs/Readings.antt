@@ -17,23 +17,26 @@ use Rattle.unification.specs.declared.Default.{Default}
 use Rattle.unification.specs.declared.Default.the-variants.{Is}
 use Rattle.unification.specs.Nodes.{Binds, bindsOf}
 use Rattle.unification.specs.Checked.{Ready, Placed}
-use Rattle.unification.specs.Resolve.{valueIn, termResolved, withCounts}
-use Rattle.unification.specs.Making.{Lent, Makes, made, no-list, no-room, _and-then_, lent}
+use Rattle.unification.specs.Inner.Resolve.{valueIn}
+use Rattle.unification.specs.Resolve.{termResolved, withCounts}
+use Rattle.unification.specs.Making.{Lent, Makes, made, no-list, no-room, _and-then_}
+use Rattle.unification.specs.Inner.Making.{lent}
 use Rattle.unification.proofs.Grows.{placed-grown, ready-grown}
 use Rattle.unification.proofs.SortsLeft.{SortWith}
 use Rattle.unification.proofs.ResolveAnswers.{AlwaysStandsFor}
 use Rattle.inference.specs.Constraints.{rowsFrom}
 use Rattle.inference.specs.Search.{makesSort, resolveIn, resolveAll}
 use Rattle.inference.proofs.Members.{each-row-at}
-use Rattle.inference.proofs.Invariant.{SortsOnly, sorts-only-refl, sorts-only-trans}
+use Rattle.inference.specs.Inner.Listed.{SortsOnly}
+use Rattle.inference.proofs.Invariant.{sorts-only-refl, sorts-only-trans}
 use Rattle.inference.proofs.MakingSorts.{MadeSorts, resolve-makes}
 use Rattle.search_state.specs.declared.Extracted.the-variants.{All, Nothing as Without, Full as NotAll}
-use Rattle.search_state.specs.Memory.{exprAt, bestSortsAt}
+use Rattle.search_state.specs.Inner.Memory.{exprAt, bestSortsAt}
 use Rattle.words.specs.Words.{part}
-use Rattle.search_state.specs.Leaves.{ChangedOnly, Extracts}
+use Rattle.search_state.specs.Inner.Leaves.{ChangedOnly, Extracts}
 use Rattle.search_state.proofs.Parts.{changed-none, changed-then, changed-by-set}
 use Rattle.words.proofs.Parts.{part-set-end}
-use Rattle.search_leaf.specs.Leaf.{Readable, sortsFrom}
+use Rattle.search_leaf.specs.Inner.Leaf.{Readable, sortsFrom}
 
 -- resolving a place, by what the code answers
 pub resolved-in : (ws ns bs : List ℕ) (k : Lengths) (x : Default) (p : ℕ) (vs : List ℕ) (w : Joined) → storedAt vs w ≡ termResolved ws k x (valueIn ws ns bs k p)

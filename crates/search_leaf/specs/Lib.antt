@@ -1,2 +1,2 @@
 -- What the functions at a leaf ask for and leave.
-pub mod Leaf
+pub mod Inner

@@ -26,12 +26,11 @@ ghost use lib.ListN.{length};
 ghost use Rattle.inference.specs.Constraints.{maxComponents};
 ghost use Rattle.inference.specs.Search.{replace as replaceLeaf, leaf as leafNext};
 ghost use Rattle.inference.specs.SolveEntry.{nothingMet};
-ghost use Rattle.search_state.specs.Memory.{problemIn, bestSortsAt, scratchUsed};
-ghost use Rattle.search_state.specs.Leaves.{rankingOf, Extracts};
-ghost use Rattle.search_state.specs.Searching.{AtLeaf, Comparable, Comes};
-ghost use Rattle.search_leaf.specs.Leaf.{ranked, rankedBy, IsDominated, Readable};
-ghost use Rattle.search_leaf.specs.Leaf.{sortsFrom, copied, keptAsBest, Keepable};
-ghost use Rattle.unification.specs.Making.{lent};
+ghost use Rattle.search_state.specs.Inner.Memory.{problemIn, bestSortsAt, scratchUsed};
+ghost use Rattle.search_state.specs.Inner.Leaves.{rankingOf, Extracts};
+ghost use Rattle.search_state.specs.Inner.Searching.{AtLeaf, Comparable, Comes};
+ghost use Rattle.search_leaf.specs.Inner.Leaf.{ranked, rankedBy, IsDominated, Readable, sortsFrom, copied, keptAsBest, Keepable};
+ghost use Rattle.unification.specs.Inner.Making.{lent};
 
 // How the first n components compare with the incumbent's, from the front: the first that differ decide.
 fn compare(scratch: &[u16], n: u16) -> Ordering

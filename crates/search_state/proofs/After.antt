@@ -9,15 +9,17 @@ use lib.ListN.{length}
 use Rattle.unification.specs.declared.Lengths.{Lengths}
 use Rattle.unification.specs.Nodes.{bindsOf}
 use Rattle.unification.specs.Trail.{frees}
-use Rattle.unification.specs.Making.{Lent, lent}
-use Rattle.unification.proofs.Grows.{CheckedLent, PlacedIn, Grows, placed-grown, grows-trans, ready-grown}
+use Rattle.unification.specs.Making.{Lent}
+use Rattle.unification.specs.Inner.Making.{lent}
+use Rattle.unification.specs.Growing.{CheckedLent, PlacedIn, Grows}
+use Rattle.unification.proofs.Grows.{placed-grown, grows-trans, ready-grown}
 use Rattle.inference.specs.declared.Constraint.{Constraint}
 use Rattle.inference.specs.Constraints.{Problem}
 use Rattle.inference.specs.Search.{Path, World, Out, found, missed, elseTry, andAlso, Going}
 use Rattle.inference.specs.SolveEntry.{nothingMet}
 use Rattle.inference.specs.Typing.{All, none-left, and-all}
-use Rattle.inference.proofs.Accepted.{Listed, sub-listed, lit-listed, disjunction-listed, comprehension-listed, join-listed}
-use Rattle.inference.proofs.Invariant.{SortsOnly, sorts-only-refl, sorts-only-trans, still-placed}
+use Rattle.inference.specs.Inner.Listed.{Listed, sub-listed, lit-listed, disjunction-listed, comprehension-listed, join-listed, SortsOnly}
+use Rattle.inference.proofs.Invariant.{sorts-only-refl, sorts-only-trans, still-placed}
 use Rattle.search_state.specs.declared.Sizes.{Sizes}
 use Rattle.search_state.specs.declared.State.{State}
 use Rattle.search_state.specs.declared.Branch.{Branch}
@@ -27,9 +29,9 @@ use Rattle.search_state.specs.declared.Next.{Next}
 use Rattle.search_state.specs.declared.Next.the-variants.{Solve, Source}
 use Rattle.search_state.specs.declared.Went.{Went}
 use Rattle.search_state.specs.declared.Went.the-variants.{On, Stop}
-use Rattle.search_state.specs.Memory.{problemIn, trailWords, chosenExprs, choicesOf, pathOf, worldOf, outOf}
-use Rattle.search_state.specs.Leaves.{afterOf}
-use Rattle.search_state.specs.Searching.{Suits, NextFine, Searching, Grown, SamePath, Done, Comes}
+use Rattle.search_state.specs.Inner.Memory.{problemIn, trailWords, chosenExprs, choicesOf, pathOf, worldOf, outOf}
+use Rattle.search_state.specs.Inner.Leaves.{afterOf}
+use Rattle.search_state.specs.Inner.Searching.{Suits, NextFine, Searching, Grown, SamePath, Done, Comes}
 use Rattle.search_state.proofs.Parts.{same-path-refl, same-path-trans}
 
 -- What suits lists suits lists that have grown from them.

@@ -8,10 +8,10 @@ use lib.ListN.{set, take, length-set}
 use lib.Seq.{take-set-le, drop-set-lt}
 use Rattle.inference.specs.Constraints.{maxConstraints, maxComponents}
 use Rattle.search_state.specs.declared.Branch.{Branch}
-use Rattle.search_state.specs.Memory.{choicesOf, trailWords, bestSortsAt, measureAt, bestMeasureAt, choicesAt, bestChoicesAt, scratchUsed}
+use Rattle.search_state.specs.Inner.Memory.{choicesOf, trailWords, bestSortsAt, measureAt, bestMeasureAt, choicesAt, bestChoicesAt, scratchUsed}
 use Rattle.words.specs.Words.{part}
-use Rattle.search_state.specs.Leaves.{ChangedOnly}
-use Rattle.search_state.specs.Searching.{SamePath}
+use Rattle.search_state.specs.Inner.Leaves.{ChangedOnly}
+use Rattle.search_state.specs.Inner.Searching.{SamePath}
 use Rattle.words.proofs.Parts.{part-in-front, drop-longer, part-in-back, take-shorter}
 
 -- no choices without positions

@@ -13,17 +13,17 @@ use Rattle.resolved_sort.specs.declared.ComplexSort.{ComplexSort}
 use Rattle.resolved_sort.specs.Tree.{Flat, unit, primitive, def, typevar, container}
 use Rattle.resolved_sort.specs.Interning.{look}
 use Rattle.resolved_sort.specs.Storage.{kindFlat, kindOp, trees}
-use Rattle.unification.specs.Term.{flatHead, containerHead, functionHead, Shape, over}
+use Rattle.unification.specs.Term.{containerHead, functionHead, Shape, over}
 use Rattle.unification.specs.Nodes.{isSort, Binds}
 use Rattle.unification.specs.Unify.{follow, deep}
-use Rattle.unification.specs.Acyclic.{One, first, later}
+use Rattle.unification.specs.Acyclic.{first, later}
 use Rattle.unification.specs.Related.{relatedNumbers, relatedContainer, each}
 use Rattle.unification.specs.Making.{Lent, graph, Makes, _and-then_, pushNode, internContainer, only, relatedOver, pushFunctions, relatedPlaces, relatedShape, relatedEnd, relatedTo, strictRelated}
 use Rattle.unification.proofs.Parts.{none-of, one-of-one, one-last, one-front}
 use Rattle.unification.proofs.Rows.{ShapeFormed, variable-formed, flat-formed, container-formed, function-formed}
 use Rattle.unification.proofs.Follow.{follow-names}
-use Rattle.unification.proofs.Agree.{Names}
-use Rattle.unification.proofs.Grows.{CheckedLent, PlacedIn, Grows, parts-placed, grows-refl, placed-grown}
+use Rattle.unification.specs.Growing.{Names, CheckedLent, PlacedIn}
+use Rattle.unification.proofs.Grows.{parts-placed, grows-refl, placed-grown}
 use Rattle.unification.proofs.NodesGrow.{container-row}
 use Rattle.unification.proofs.MakingGrows.{MadeFrom, made-then, made-so, AllPlaced, HasShape, push-grows, IsSort, container-grows, Functions, no-function, one-function, functions-grow}
 use Rattle.unification.proofs.PlaceTerms.{sort-placed, placed-formed, sort-part-below}

@@ -14,9 +14,11 @@ use Rattle.unification.specs.Term.{flatHead, containerHead, functionHead, stray
 use Rattle.unification.specs.Nodes.{Binds}
 use Rattle.unification.specs.Unify.{Unifies, yes-with, no-way, too-deep, and-then as after-yes, follow, deep, unify}
 use Rattle.unification.specs.Acyclic.{first, later}
-use Rattle.unification.specs.Making.{Lent, graph, Makes, made, no-list, no-room, _and-then_, internContainer, strictRelated, lent}
-use Rattle.unification.proofs.Grows.{CheckedLent, PlacedIn, Grows, grows-refl, placed-grown}
-use Rattle.unification.proofs.BindsGrow.{CheckedBinds, binds-name-places}
+use Rattle.unification.specs.Making.{Lent, graph, Makes, made, no-list, no-room, _and-then_, internContainer, strictRelated}
+use Rattle.unification.specs.Inner.Making.{lent}
+use Rattle.unification.specs.Growing.{CheckedLent, PlacedIn, Grows, CheckedBinds}
+use Rattle.unification.proofs.Grows.{grows-refl, placed-grown}
+use Rattle.unification.proofs.BindsGrow.{binds-name-places}
 use Rattle.unification.proofs.Outcomes.{Each, Any, each-container}
 use Rattle.unification.proofs.MakingGrows.{MadeFrom, AllPlaced, IsSort}
 use Rattle.unification.proofs.RelatedBinds.{no-list-is-free}
@@ -24,8 +26,8 @@ use Rattle.inference.specs.declared.LitKind.{LitKind}
 use Rattle.inference.specs.Constraints.{Problem}
 use Rattle.inference.specs.Measure.{Components}
 use Rattle.inference.specs.Search.{Path, Try, World, Out, missed, withComponents, widerTries, narrowerTries, litComponent, litTries, onYes, unifying, onMade, lending, nodesReturned, sortIn, Going, firstFound, narrower, wider, atSort, literalAt, literalEnd, literal}
-use Rattle.inference.specs.Typing.{All, none-left, and-all}
-use Rattle.inference.proofs.Invariant.{SortsOnly}
+use Rattle.inference.specs.Typing.{none-left, and-all}
+use Rattle.inference.specs.Inner.Listed.{SortsOnly}
 use Rattle.inference.proofs.MakingSorts.{MadeSorts, container-makes}
 use Rattle.search_state.specs.declared.Sizes.{Sizes}
 use Rattle.search_state.specs.declared.Answer.{Answer}
@@ -33,9 +35,10 @@ use Rattle.search_state.specs.declared.Answer.the-variants.{Found, Misse
 use Rattle.search_state.specs.declared.Pairs.the-variants.{Two}
 use Rattle.search_state.specs.declared.LitAt.{LitAt}
 use Rattle.search_state.specs.declared.LitAt.the-variants.{Number, Free, Other}
-use Rattle.search_state.specs.Memory.{outOf}
-use Rattle.search_state.specs.Leaves.{unifyPairs, where-no-list, widenings, litNumber, litShape, litEnd, litAt, givenBackTo}
+use Rattle.search_state.specs.Inner.Memory.{outOf}
+use Rattle.search_state.specs.Inner.Leaves.{unifyPairs, where-no-list, widenings, litNumber, litShape, litEnd, litAt, givenBackTo}
 use Rattle.search_state.proofs.RelatedPlaced.{related-placed}
+use Rattle.search_state.specs.Inner.Placed.{TriesPlaced}
 
 -- nodes given back in the answer
 pub given-back-in-answer : (ls : List ℕ) (z : Sizes) (ws ns sc : List ℕ) (r : Answer) (ws₀ ns₀ : List ℕ) (k : Lengths) → outOf ls z ws ns sc (givenBackTo k r) ≡ nodesReturned (lent ws₀ ns₀ k) (outOf ls z ws ns sc r)
@@ -108,13 +111,6 @@ module _ (Met : Type 0) (meet : Components → Met → Met) (P : Problem) (k : G
     pub literal-by-what-stands : literal Met meet P kind p k e w ≡ literalBy (litAt kind (graph (w .lent)) (e .binds) p)
     unfolding literal litAt
     literal-by-what-stands = by-end (follow (graph (w .lent)) deep (e .binds) p)
-
--- a try of places
-abbrev pub TryPlaced : Lent → Try → Type 0
-TryPlaced W t = PlacedIn W (t .left) × PlacedIn W (t .right)
-
-abbrev pub TriesPlaced : Lent → List Try → Type 0
-TriesPlaced W ts = All (TryPlaced W) ts
 
 wider-placed : (W : Lent) (r i : ℕ) (ps : List ℕ) → PlacedIn W r → AllPlaced W ps → TriesPlaced W (widerTries r i ps)
 wider-placed W r i [] x y = none-left

@@ -1,4 +1,2 @@
 -- The search as it stands in memory, and what its code asks for and leaves.
-pub mod Memory
-pub mod Leaves
-pub mod Searching
+pub mod Inner

@@ -15,7 +15,7 @@ use Rattle.unification.specs.Nodes.{Binds, bindsOf}
 use Rattle.unification.specs.Unify.{Unifies, yes-with, no-way}
 use Rattle.unification.specs.Checked.{graphOf}
 use Rattle.unification.specs.Trail.{undo, countOf, answerOf}
-use Rattle.unifier.specs.Trying.{Trying}
+use Rattle.unifier.specs.Inner.Trying.{Trying}
 use Rattle.unifier.proofs.Words.{undo-front}
 use Rattle.unifier.proofs.Tries.{binds-nothing}
 use Rattle.inference.specs.Constraints.{maxConstraints, maxComponents, constraintAt, rowsFrom}
@@ -31,13 +31,13 @@ use Rattle.search_state.specs.declared.Next.{Next}
 use Rattle.search_state.specs.declared.Pairs.{Pairs}
 use Rattle.search_state.specs.declared.Step.{Step}
 use Rattle.search_state.specs.declared.Step.the-variants.{Nothing, Component, Written, Choice}
-use Rattle.search_state.specs.Memory.{problemIn, chosenExprs, trailWords, bestSortsAt, measureAt, bestMeasureAt, choicesAt, bestChoicesAt, scratchUsed, choicesOf, pathOf, candidateOf, bestOf, worldOf, outOf, nextOf}
+use Rattle.search_state.specs.Inner.Memory.{problemIn, chosenExprs, trailWords, bestSortsAt, measureAt, bestMeasureAt, choicesAt, bestChoicesAt, scratchUsed, choicesOf, pathOf, candidateOf, bestOf, worldOf, outOf, nextOf}
 use Rattle.words.specs.Words.{part}
-use Rattle.search_state.specs.Leaves.{unifyPairs, TriesPairs, stepWords, addedComponents, addedChoices, branchAfter, pathAfter}
-use Rattle.search_state.specs.Searching.{Sized, Searching, nextConstraints, nextComponents, exprsOf, Done, Comes, trying}
+use Rattle.search_state.specs.Inner.Leaves.{unifyPairs, TriesPairs, stepWords, addedComponents, addedChoices, branchAfter, pathAfter}
+use Rattle.search_state.specs.Inner.Searching.{Sized, Searching, nextConstraints, nextComponents, exprsOf, Done, Comes, trying}
 use Rattle.words.proofs.Parts.{length-part, take-part, part-append, part-set-end, part-set-before, part-set-after, part-in-back, take-shorter}
 use Rattle.search_state.proofs.Parts.{nothing-chosen}
-use Rattle.unification.specs.Making.{lent}
+use Rattle.unification.specs.Inner.Making.{lent}
 
 -- where only the trail changed, the incumbent is the same
 module _ (ls : List ℕ) (z : Sizes) (sc sc₁ : List ℕ) (r : drop trailWords sc₁ ≡ drop trailWords sc) where

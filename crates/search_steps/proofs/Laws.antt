@@ -23,10 +23,11 @@ use Rattle.unification.specs.declared.Listed.{Listed}
 use Rattle.unification.specs.declared.Related.{Related}
 use Rattle.unification.specs.Nodes.{Binds, bindsOf}
 use Rattle.unification.specs.Checked.{Ready, Placed}
-use Rattle.unification.specs.Making.{Lent, Makes, made, no-list, no-room, _and-then_, withSorts, internContainer, strictRelated, lent}
+use Rattle.unification.specs.Making.{Lent, Makes, made, no-list, no-room, _and-then_, withSorts, internContainer, strictRelated}
+use Rattle.unification.specs.Inner.Making.{lent}
 use Rattle.unification.specs.Resolve.{withCounts}
 use Rattle.unification.proofs.NoList.{no-list-makes-nothing}
-use Rattle.related_sorts.specs.Outcome.{relatedMadeBy, relatedMade, RangesBy, Ranges, Relates}
+use Rattle.related_sorts.specs.Inner.Outcome.{relatedMadeBy, relatedMade, RangesBy, Ranges, Relates}
 use Rattle.related_sorts.proofs.Laws.{full-unchanged, never-none}
 use Rattle.inference.specs.Constraints.{rowsFrom}
 use Rattle.inference.specs.Search.{Try, widerTries, narrowerTries}
@@ -40,9 +41,9 @@ use Rattle.search_state.specs.declared.Tries.{Tries}
 use Rattle.search_state.specs.declared.Widenings.{Widenings}
 use Rattle.search_state.specs.declared.Widenings.the-variants.{These, NoList, Full as NoRoom}
 use Rattle.search_state.specs.declared.Made.{Made}
-use Rattle.search_state.specs.declared.Made.the-variants.{At, Nothing, Full as NoSortRoom}
-use Rattle.search_state.specs.Leaves.{afterOf, withNodes, backTo, givenBackTo, placesOf, tryAt, triesFrom, where-no-list, widenings, widened, FewTries, FindsWidenings}
-use Rattle.search_steps.specs.Steps.{saysOf, pairsOf, InternsContainer, triesAgainst, ListedTries, AsTries}
+use Rattle.search_state.specs.declared.Made.the-variants.{At, Full as NoSortRoom}
+use Rattle.search_state.specs.Inner.Leaves.{afterOf, withNodes, backTo, givenBackTo, placesOf, tryAt, triesFrom, where-no-list, widenings, widened, FewTries, FindsWidenings}
+use Rattle.search_steps.specs.Inner.Steps.{saysOf, pairsOf, InternsContainer, triesAgainst, ListedTries, AsTries}
 
 -- on after an answer
 module _ (r : Answer) (b : Bool) where

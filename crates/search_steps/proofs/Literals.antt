@@ -16,7 +16,7 @@ use Rattle.resolved_sort.specs.Storage.{maxSorts, rowAt}
 use Rattle.resolved_sort.proofs.Reached.{no-confusion}
 use Rattle.sort_order.specs.declared.Amount.{Amount}
 use Rattle.sort_order.specs.declared.Amount.the-variants.{Of, Nothing}
-use Rattle.sort_order.specs.Answers.{amountOf, generality}
+use Rattle.sort_order.specs.Inner.Answers.{amountOf, generality}
 use Rattle.unification.specs.declared.InferSortId.{InferSortId}
 use Rattle.unification.specs.declared.SortVar.{SortVar}
 use Rattle.unification.specs.declared.Lengths.{Lengths}
@@ -34,8 +34,8 @@ use Rattle.inference.specs.Constraints.{rowsFrom}
 use Rattle.inference.specs.Search.{litComponent}
 use Rattle.search_state.specs.declared.LitAt.{LitAt}
 use Rattle.search_state.specs.declared.LitAt.the-variants.{Number, Free, Other}
-use Rattle.search_state.specs.Leaves.{tryAt, litNumber, litShape, litEnd, litAt}
-use Rattle.search_steps.specs.Steps.{litRow, LitTries}
+use Rattle.search_state.specs.Inner.Leaves.{tryAt, litNumber, litShape, litEnd, litAt}
+use Rattle.search_steps.specs.Inner.Steps.{litRow, LitTries}
 
 -- the number sorts for a literal
 positive-places : (j : ℕ) → j < 4 → getD (2 ∷ 3 ∷ 4 ∷ 5 ∷ []) j 0 < 6

@@ -14,15 +14,15 @@ use Rattle.unification.specs.Unify.{Unifies, and-then as after-yes, unify}
 use Rattle.unification.specs.Checked.{graphOf, Placed}
 use Rattle.unification.specs.declared.InferSortId.{InferSortId}
 use Rattle.unification.specs.Trail.{TryLeaves}
-use Rattle.unifier.specs.Trying.{Trying}
+use Rattle.unifier.specs.Inner.Trying.{Trying}
 use Rattle.unifier.proofs.Tries.{then-no, then-on, trying-on}
 use Rattle.search_state.specs.declared.Branch.{Branch}
 use Rattle.search_state.specs.declared.Pairs.{Pairs}
 use Rattle.search_state.specs.declared.Pairs.the-variants.{One, Two}
 use Rattle.search_state.specs.declared.Step.{Step}
 use Rattle.search_state.specs.declared.Step.the-variants.{Nothing, Component, Written, Choice}
-use Rattle.search_state.specs.Memory.{trailWords, measureAt, choicesAt, scratchUsed}
-use Rattle.search_state.specs.Leaves.{unifyPairs, PairsPlaced, TriesPairs, stepWords, addedComponents, branchAfter}
+use Rattle.search_state.specs.Inner.Memory.{trailWords, measureAt, choicesAt, scratchUsed}
+use Rattle.search_state.specs.Inner.Leaves.{unifyPairs, PairsPlaced, TriesPairs, stepWords, addedComponents, branchAfter}
 
 front : (sc ts : List ℕ) → length ts ≡ trailWords → take trailWords (ts ++ drop trailWords sc) ≡ ts
 front sc ts l = take-append-le trailWords ts (drop trailWords sc) (omega (arith, l)) ∙ take-all trailWords ts (omega (arith, l))

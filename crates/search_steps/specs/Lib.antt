@@ -1,2 +1,2 @@
 -- What the contracts of this crate cite beside the definitions of the search in memory.
-pub mod Steps
+pub mod Inner

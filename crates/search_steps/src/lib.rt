@@ -46,18 +46,15 @@ ghost use lib.ListN.{getD, take, length};
 ghost use Rattle.resolved_sort.specs.Rows.{Checked};
 ghost use Rattle.unification.specs.Nodes.{bindsOf};
 ghost use Rattle.unification.specs.Checked.{graphOf, Ready, Placed};
-ghost use Rattle.related_sorts.specs.Outcome.{Ranges};
+ghost use Rattle.related_sorts.specs.Inner.Outcome.{Ranges};
 ghost use Rattle.inference.specs.Search.{litComponent};
 ghost use Rattle.inference.specs.Constraints.{maxConstraints, maxComponents};
-ghost use Rattle.search_state.specs.Memory.{trailWords, scratchUsed};
-ghost use Rattle.search_state.specs.Leaves.{afterOf, withNodes, backTo, givenBackTo, placesOf, tryAt};
-ghost use Rattle.search_state.specs.Leaves.{widenings, FindsWidenings, litNumber, litAt, unifyPairs, PairsPlaced};
-ghost use Rattle.search_state.specs.Leaves.{TriesPairs, stepWords, addedComponents, addedChoices, branchAfter};
-ghost use Rattle.search_steps.specs.Steps.{saysOf, pairsOf, litRow, LitTries};
-ghost use Rattle.search_steps.specs.Steps.{InternsContainer, ListedTries, AsTries};
+ghost use Rattle.search_state.specs.Inner.Memory.{trailWords, scratchUsed};
+ghost use Rattle.search_state.specs.Inner.Leaves.{afterOf, withNodes, backTo, givenBackTo, placesOf, tryAt, widenings, FindsWidenings, litNumber, litAt, unifyPairs, PairsPlaced, TriesPairs, stepWords, addedComponents, addedChoices, branchAfter};
+ghost use Rattle.search_steps.specs.Inner.Steps.{saysOf, pairsOf, litRow, LitTries, InternsContainer, ListedTries, AsTries};
 ghost use Rattle.unification.specs.Unify.{unify as unifyOf};
-ghost use Rattle.unifier.specs.Trying.{Trying};
-ghost use Rattle.unification.specs.Making.{lent};
+ghost use Rattle.unifier.specs.Inner.Trying.{Trying};
+ghost use Rattle.unification.specs.Inner.Making.{lent};
 
 // Makes two places equal.
 fn unify_pair(

@@ -15,8 +15,8 @@ use Rattle.inference.specs.declared.Constraint.the-variants.{Sub, Lit, Disjunct
 use Rattle.inference.specs.Constraints.{maxExprs, maxConstraints, nameWords, constraintAt, rowsFrom}
 use Rattle.inference.specs.SolveChecks.{Call, placed, rowsWithinLent, namesFine, runFine, overloadFine, constraintFine, constraintsFine, given, disjunctionFor, disjunctions, keys}
 use Rattle.inference.proofs.RowsLent.{rows-lent}
-use Rattle.solve_checks.specs.Marks.{allUnder}
-use Rattle.solve_checks.specs.Tests.{nameFine, constraintRowFine}
+use Rattle.solve_checks.specs.Inner.Marks.{allUnder}
+use Rattle.solve_checks.specs.Inner.Tests.{nameFine, constraintRowFine}
 
 module _ (I : Call) (f : rowsWithinLent I ≡ true) where
   pub expr-ceiling : I .rows .exprs ≤ maxExprs

@@ -9,7 +9,7 @@ use borrow.Author.Tests.{lt-ltb, le-ltb, le-leb, lt-leb, eq-eqb, ne-eqb}
 use Rattle.inference.specs.declared.Constraint.{Constraint}
 use Rattle.inference.specs.SolveChecks.{targetFine, overloadFine, constraintFine}
 use Rattle.solve_checks.specs.declared.Given.{Given}
-use Rattle.solve_checks.specs.Calls.{problemCall}
+use Rattle.solve_checks.specs.Inner.Calls.{problemCall}
 
 -- b is what a test found, and x what the check says
 module _ (x y b : Bool) (e : b ≡ x) where

@@ -13,7 +13,7 @@ use Rattle.inference.specs.declared.Constraint.{Constraint}
 use Rattle.inference.specs.declared.Constraint.the-variants.{Sub, Lit, Disjunction, Comprehension, Join}
 use Rattle.inference.specs.Constraints.{maxExprs, rowsFrom}
 use Rattle.inference.specs.SolveChecks.{disjunctionFor, disjunctions, among, noTwo}
-use Rattle.solve_checks.specs.Marks.{Marked, marked, markOf, markBy, allUnder}
+use Rattle.solve_checks.specs.Inner.Marks.{Marked, marked, markOf, markBy, allUnder}
 use Rattle.solve_checks.proofs.RowsLeft.{left, all-left, one-left, none-left}
 use Rattle.unification.proofs.Settles.{none-at-first}
 

@@ -9,7 +9,7 @@ use lib.ListN.{length}
 use borrow.Author.Tests.{le-leb, lt-leb}
 use Rattle.inference.specs.SolveChecks.{Call, rowsWithinLent}
 use Rattle.solve_checks.specs.declared.Given.{Given}
-use Rattle.solve_checks.specs.Calls.{problemCall}
+use Rattle.solve_checks.specs.Inner.Calls.{problemCall}
 
 module _ (g : Given) (xs ks cs os ss : List ℕ) where
   abbrev I : Call

@@ -10,7 +10,7 @@ use borrow.Author.Tests.{le-leb, lt-leb, leb-true, leb-false}
 use Rattle.inference.specs.SolveChecks.{scratchWords, components, disjunctions, outputsLong}
 use Rattle.solve_checks.specs.declared.Given.{Given}
 use Rattle.solve_checks.specs.declared.Room.{Room}
-use Rattle.solve_checks.specs.Calls.{Outs, outputsCall, constraintRows}
+use Rattle.solve_checks.specs.Inner.Calls.{Outs, outputsCall, constraintRows}
 
 half : (d c n : ℕ) → n ≡ c → leb d (c / 2) ≡ leb (2 * d) n
 half d c n e = go (leb d (c / 2)) refl

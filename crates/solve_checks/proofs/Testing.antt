@@ -11,19 +11,18 @@ use Rattle.resolved_sort.specs.declared.Tested.{Tested}
 use Rattle.resolved_sort.specs.declared.Tested.the-variants.{Refused, Passed}
 use Rattle.resolved_sort.specs.Storage.{fullLength}
 use Rattle.resolved_sort.specs.Checks.{Check, firstFailing, atCeiling, sortRowChecks, sortChecks}
-use Rattle.resolved_sort.specs.Entries.{testedOf}
+use Rattle.resolved_sort.specs.Inner.Entries.{testedOf}
 use Rattle.resolved_sort.proofs.FirstFailing.{first-fails, first-passes}
 use Rattle.unification.specs.Nodes.{maxNodes, maxVars, fullNodes}
 use Rattle.unification.proofs.Passed.{node-counts, var-counts}
 use Rattle.resolved_sort.proofs.Testing.{first-of-two, second-of-two, both-of-two, fails, passes, none-left, first-refuses, second-decides}
 use Rattle.inference.specs.Constraints.{maxComponents}
-use Rattle.inference.specs.SolveChecks.{Call, listed, rowsWithinLent, allWithinLent, targetFine, exprsFine, namesFine, overloadFine, constraintsFine, given, disjunctions, noTwo, keys, joinsFine, components, outputsLong, longEnough, solveChecks}
+use Rattle.inference.specs.SolveChecks.{Call, listed, rowsWithinLent, allWithinLent, targetFine, exprsFine, namesFine, overloadFine, constraintsFine, given, disjunctions, noTwo, keys, joinsFine, components, outputsLong, longEnough, solveChecks, rowChecks, lastChecks, listChecks}
 use Rattle.inference.proofs.Accepted.{within}
 use Rattle.solve_checks.specs.declared.Given.{Given}
 use Rattle.solve_checks.specs.declared.Room.{Room}
-use Rattle.solve_checks.specs.Calls.{Outs, roomCall, listsCall, problemCall, outputsCall}
-use Rattle.inference.specs.SolveChecks.{rowChecks, lastChecks, listChecks}
-use Rattle.solve_checks.specs.Parts.{restChecks}
+use Rattle.solve_checks.specs.Inner.Calls.{Outs, roomCall, listsCall, problemCall, outputsCall}
+use Rattle.solve_checks.specs.Inner.Parts.{restChecks}
 
 -- a check of two tests: x is what the first found
 module _ (x x′ y′ : Bool) (ex : x ≡ x′) (code : ℕ) (cs : List Check) where

@@ -35,17 +35,13 @@ ghost use lib.ListN.{length};
 ghost use Rattle.unification.specs.Nodes.{isPlace};
 ghost use Rattle.inference.specs.declared.Constraint.{Constraint};
 ghost use Rattle.inference.specs.Constraints.{maxExprs, maxConstraints, nameWords};
-ghost use Rattle.inference.specs.SolveChecks.{rowsWithinLent, targetFine, exprsFine, namesFine, overloadFine};
-ghost use Rattle.inference.specs.SolveChecks.{runFine, constraintFine, constraintsFine, disjunctionFor, disjunctions};
-ghost use Rattle.inference.specs.SolveChecks.{noTwo, keys, hasSources, joinsFine, componentsOf};
-ghost use Rattle.inference.specs.SolveChecks.{components as componentsIn, outputsLong, allWithinLent, solveChecks};
-ghost use Rattle.solve_checks.specs.Calls.{Outs, problemCall, outputsCall, constraintRows, roomCall, listsCall};
-ghost use Rattle.solve_checks.specs.Marks.{marked, markOf, markBy, allUnder};
-ghost use Rattle.solve_checks.specs.Tests.{nameFine, sourceFine, constraintRowFine};
+ghost use Rattle.inference.specs.SolveChecks.{rowsWithinLent, targetFine, exprsFine, namesFine, overloadFine, runFine, constraintFine, constraintsFine, disjunctionFor, disjunctions, noTwo, keys, hasSources, joinsFine, componentsOf, components as componentsIn, outputsLong, allWithinLent, solveChecks, rowChecks, lastChecks, listChecks};
+ghost use Rattle.solve_checks.specs.Inner.Calls.{Outs, problemCall, outputsCall, constraintRows, roomCall, listsCall};
+ghost use Rattle.solve_checks.specs.Inner.Marks.{marked, markOf, markBy, allUnder};
+ghost use Rattle.solve_checks.specs.Inner.Tests.{nameFine, sourceFine, constraintRowFine};
 ghost use Rattle.resolved_sort.specs.Checks.{firstFailing};
-ghost use Rattle.resolved_sort.specs.Entries.{testedOf};
-ghost use Rattle.inference.specs.SolveChecks.{rowChecks, lastChecks, listChecks};
-ghost use Rattle.solve_checks.specs.Parts.{restChecks};
+ghost use Rattle.resolved_sort.specs.Inner.Entries.{testedOf};
+ghost use Rattle.solve_checks.specs.Inner.Parts.{restChecks};
 
 // How many rows of each list a call gives, as the caller says it, and the default sort.
 pub struct Given {

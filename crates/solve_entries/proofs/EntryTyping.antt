@@ -2,7 +2,6 @@
 use mathlib.Core.Path.{_≡_, sym, ap, _∙_, subst}
 use mathlib.Core.List.{List}
 use mathlib.Core.Option.{none}
-use mathlib.Core.Logic.{_⊎_}
 use Prim.Native.Nat.{ℕ}
 use Rattle.resolved_sort.specs.Checks.{firstFailing}
 use Rattle.resolved_sort.specs.Entries.{treeAt}
@@ -10,13 +9,14 @@ use Rattle.unification.specs.Nodes.{bindsOf}
 use Rattle.unification.specs.Making.{graph}
 use Rattle.inference.specs.declared.Outputs.{Outputs}
 use Rattle.inference.specs.declared.Solved.{Solved}
-use Rattle.inference.specs.declared.Solved.the-variants.{NoRoom, Typing}
+use Rattle.inference.specs.declared.Solved.the-variants.{Typing}
 use Rattle.inference.specs.Search.{sortIn}
 use Rattle.inference.specs.SolveChecks.{Call, solveChecks}
-use Rattle.inference.specs.SolveEntry.{SolveLeft, problemOf, lentOf, solveEntry, sortsOut, choicesOut}
+use Rattle.inference.specs.SolveEntry.{SolveLeft, problemOf, lentOf, solveEntry, sortsOut, choicesOut, TypingOr15}
 use Rattle.inference.specs.Typing.{HoldsTogether}
-use Rattle.inference.proofs.Together.{Explained, every-typing-is-explained, typing-holds-together}
-use Rattle.inference.proofs.NoConstraints.{TypingOr15, no-constraints-is-a-typing}
+use Rattle.inference.specs.Explained.{Explained}
+use Rattle.inference.proofs.Together.{every-typing-is-explained, typing-holds-together}
+use Rattle.inference.proofs.NoConstraints.{no-constraints-is-a-typing}
 use Rattle.solve_checks.specs.declared.Given.{Given}
 use Rattle.solve_checks.specs.Call.{callOf}
 use Rattle.solve_outputs.specs.Finish.{solveLeft}

@@ -9,7 +9,7 @@ use lib.ListN.{length}
 use Rattle.resolved_sort.specs.declared.Tested.{Tested}
 use Rattle.resolved_sort.specs.declared.Tested.the-variants.{Refused, Passed}
 use Rattle.resolved_sort.specs.Checks.{firstFailing}
-use Rattle.resolved_sort.specs.Entries.{testedOf}
+use Rattle.resolved_sort.specs.Inner.Entries.{testedOf}
 use Rattle.resolved_sort.proofs.Testing.{refused-is, passed-is}
 use Rattle.unification.specs.declared.Lengths.{Lengths}
 use Rattle.unification.specs.Nodes.{bindsOf}
@@ -24,14 +24,15 @@ use Rattle.search_state.specs.declared.State.{State}
 use Rattle.search_state.specs.declared.Branch.{Branch}
 use Rattle.search_state.specs.declared.Answer.{Answer}
 use Rattle.search_state.specs.declared.Next.the-variants.{Solve}
-use Rattle.search_state.specs.Memory.{problemWords, problemIn, pathOf, worldOf, outOf, solveFrom}
-use Rattle.search_state.specs.Searching.{Searching, Done, Comes}
-use Rattle.problem_words.specs.Packed.{Packable, problemFrom}
+use Rattle.search_state.specs.Inner.Memory.{problemWords, problemIn, pathOf, worldOf, outOf, solveFrom}
+use Rattle.search_state.specs.Inner.Searching.{Searching, Done, Comes}
+use Rattle.problem_words.specs.Inner.Packed.{Packable, problemFrom}
 use Rattle.solve_checks.specs.declared.Given.{Given}
-use Rattle.solve_checks.specs.Calls.{problemCall}
+use Rattle.solve_checks.specs.Inner.Calls.{problemCall}
 use Rattle.solve_checks.specs.Call.{lengthsOf, callOf}
-use Rattle.solve_outputs.specs.Begin.{CountsFit, RowsFit, sizesOf, noIncumbent, nothingTaken}
-use Rattle.solve_outputs.specs.Finish.{solveLeft, solveLeftBy, settledBy, Handable, SortsReturnable, NodesReturnable}
+use Rattle.solve_outputs.specs.Inner.Begin.{CountsFit, RowsFit, sizesOf, noIncumbent, nothingTaken}
+use Rattle.solve_outputs.specs.Finish.{solveLeft}
+use Rattle.solve_outputs.specs.Inner.Finish.{solveLeftBy, settledBy, Handable, SortsReturnable, NodesReturnable}
 use Rattle.solve_outputs.specs.Packed.{packSolved, SolvedWithin, packedSolve, packSolveLeft}
 use Rattle.solve_outputs.proofs.Codes.{entry-told}
 use Rattle.solve_outputs.proofs.Passed.{counts-fit, rows-fit, packable, packed-problem, begins, handable}

@@ -25,11 +25,12 @@ ghost use Rattle.inference.specs.Constraints.{baseNameAt, rowsFrom};
 ghost use Rattle.inference.specs.SolveChecks.{solveChecks};
 ghost use Rattle.inference.specs.SolveEntry.{solveEntry};
 ghost use Rattle.search_state.specs.declared.Next.the-variants.{Solve};
-ghost use Rattle.search_state.specs.Memory.{problemIn, pathOf, worldOf, solveFrom};
-ghost use Rattle.search_state.specs.Searching.{Searching};
-ghost use Rattle.solve_outputs.specs.Begin.{noIncumbent, nothingTaken};
+ghost use Rattle.search_state.specs.Inner.Memory.{problemIn, pathOf, worldOf, solveFrom};
+ghost use Rattle.search_state.specs.Inner.Searching.{Searching};
+ghost use Rattle.solve_outputs.specs.Inner.Begin.{noIncumbent, nothingTaken};
 ghost use Rattle.solve_checks.specs.Call.{callOf};
-ghost use Rattle.solve_outputs.specs.Finish.{solveLeft, solveLeftBy, settledBy, Handable};
+ghost use Rattle.solve_outputs.specs.Finish.{solveLeft};
+ghost use Rattle.solve_outputs.specs.Inner.Finish.{solveLeftBy, settledBy, Handable};
 ghost use Rattle.solve_outputs.specs.Packed.{packedSolve, packSolveLeft};
 ghost use Rattle.solve_entries.specs.Given.{givenOf};
 

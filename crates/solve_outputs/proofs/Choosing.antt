@@ -15,11 +15,11 @@ use Rattle.inference.specs.SolveChecks.{disjunctions}
 use Rattle.inference.specs.SolveEntry.{choiceRows, writtenOver}
 use Rattle.inference.proofs.Members.{rows-all-left, rows-one-left, rows-none-left}
 use Rattle.search_state.specs.declared.Sizes.{Sizes}
-use Rattle.search_state.specs.Memory.{problemIn, restFrom, chosenExprs, bestChoicesAt, scratchUsed, choicesOf}
+use Rattle.search_state.specs.Inner.Memory.{problemIn, restFrom, chosenExprs, bestChoicesAt, scratchUsed, choicesOf}
 use Rattle.words.specs.Words.{part}
-use Rattle.search_state.specs.Searching.{Sized}
+use Rattle.search_state.specs.Inner.Searching.{Sized}
 use Rattle.words.proofs.Parts.{part-first}
-use Rattle.solve_outputs.specs.Written.{Walked, walked, positionAt, choiceBy}
+use Rattle.solve_outputs.specs.Inner.Written.{Walked, walked, positionAt, choiceBy}
 use Rattle.solve_outputs.proofs.Over.{stored-is-over}
 
 -- the row of one choice

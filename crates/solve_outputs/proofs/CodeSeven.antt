@@ -13,10 +13,9 @@ use Rattle.resolved_sort.specs.Checks.{Check, firstFailing}
 use Rattle.resolved_sort.specs.Entries.{refusedOr}
 use Rattle.resolved_sort.proofs.FirstFailing.{cons-passes}
 use Rattle.unification.specs.Nodes.{Binds, shapeAt, bindsOf}
-use Rattle.unification.specs.Acyclic.{acyclic}
+use Rattle.unification.specs.Acyclic.{acyclic, Cyclic}
 use Rattle.unification.specs.NodeChecks.{bindingsFine, nodeChecks}
 use Rattle.unification.specs.Checked.{ListsFine, listsOf}
-use Rattle.unification.proofs.Cycle.{Cyclic}
 use Rattle.unification.proofs.Theorem.{check-7-exactly}
 use Rattle.unification.proofs.Passed.{length-binds, passed-fine}
 use Rattle.resolved_sort.proofs.FailingNumber.{fails-first}

@@ -9,10 +9,10 @@ use Prim.Native.Nat.{ℕ, _+_, _*_, _%_, _≤_}
 use native.Mathlib.Omega.{arith}
 use lib.ListN.{length, length-map}
 use Rattle.resolved_sort.specs.declared.Counts.{Counts}
-use Rattle.resolved_sort.specs.Checks.{firstFailing}
+use Rattle.resolved_sort.specs.Checks.{firstFailing, Numbered}
 use Rattle.unification.specs.NodeChecks.{nodeChecks}
 use Rattle.unification.specs.Making.{Lent}
-use Rattle.resolved_sort.proofs.FailingNumber.{Numbered, failing-number}
+use Rattle.resolved_sort.proofs.FailingNumber.{failing-number}
 use Rattle.inference.specs.declared.Outputs.{Outputs}
 use Rattle.inference.specs.declared.Solved.{Solved}
 use Rattle.inference.specs.declared.Solved.the-variants.{Refused, NoRoom, NoTyping, Ambiguous, Typing}
@@ -20,9 +20,11 @@ use Rattle.inference.specs.Search.{Candidate, World, Out, found, missed, ended}
 use Rattle.inference.specs.SolveChecks.{Call, given, solveChecks}
 use Rattle.inference.specs.SolveEntry.{problemOf, startPath, lentOf, searched, SolveLeft, judged, judgedBy, verdict, nothingMet, solveEntry, codeSolved, choicesOut}
 use Rattle.inference.proofs.Accepted.{passed-is-searched}
-use Rattle.inference.proofs.ListsLeft.{countsOf, sorts-only-grow}
+use Rattle.inference.specs.ListsLeft.{countsOf}
+use Rattle.inference.proofs.ListsLeft.{sorts-only-grow}
 use Rattle.inference.proofs.Branches.{Goes, Ends}
-use Rattle.inference.proofs.Choices.{Fitting, search-fits, exprOf, names-and-choices}
+use Rattle.inference.proofs.Choices.{Fitting, search-fits, names-and-choices}
+use Rattle.inference.specs.Named.{exprOf}
 use Rattle.solve_outputs.specs.Packed.{packSolved, CountsWithin, SolvedWithin}
 use Rattle.solve_outputs.proofs.Passed.{rows-fit}
 

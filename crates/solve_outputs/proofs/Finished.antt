@@ -10,24 +10,26 @@ use lib.ListN.{length, replicate}
 use Rattle.resolved_sort.specs.Checks.{firstFailing}
 use Rattle.resolved_sort.proofs.GivenBack.{given-back-agrees}
 use Rattle.unification.specs.Nodes.{bindsOf}
-use Rattle.unification.specs.Making.{Lent, lent}
-use Rattle.unification.proofs.Grows.{CheckedLent, NodesAgree}
+use Rattle.unification.specs.Making.{Lent}
+use Rattle.unification.specs.Inner.Making.{lent}
+use Rattle.unification.specs.Growing.{CheckedLent, NodesAgree}
 use Rattle.inference.specs.declared.Solved.the-variants.{NoRoom}
 use Rattle.inference.specs.Constraints.{BaseName}
 use Rattle.inference.specs.Search.{Candidate, Out, found, missed, ended, solve}
 use Rattle.inference.specs.SolveChecks.{Call, solveChecks}
 use Rattle.inference.specs.SolveEntry.{problemOf, baseNamesOf, lentOf, searched, SolveLeft, cleared, leftWith, countsIn, judged, judgedBy, verdict, nothingMet, solveEntry}
 use Rattle.inference.proofs.Accepted.{passed-is-searched}
-use Rattle.inference.proofs.ListsLeft.{nodes-given-back-agree, Ends, search-gives-nodes-back}
+use Rattle.inference.proofs.ListsLeft.{nodes-given-back-agree, search-gives-nodes-back}
+use Rattle.inference.specs.ListsLeft.{Ends}
 use Rattle.search_state.specs.declared.Sizes.{Sizes}
 use Rattle.search_state.specs.declared.State.{State}
 use Rattle.search_state.specs.declared.Branch.{Branch}
 use Rattle.search_state.specs.declared.Answer.{Answer}
 use Rattle.search_state.specs.declared.Answer.the-variants.{Found, Missed, Full}
-use Rattle.search_state.specs.Memory.{problemIn, chosenExprs, bestOf, pathOf, worldOf, outOf, solveFrom}
-use Rattle.search_state.specs.Searching.{Grown, Done}
-use Rattle.solve_outputs.specs.Begin.{sizesOf, noIncumbent, nothingTaken}
-use Rattle.solve_outputs.specs.Finish.{Settled, settled, solveLeftBy, handedOut, settledBy, judgedOut as judgedIn, judgedOutBy as judgedByIn}
+use Rattle.search_state.specs.Inner.Memory.{problemIn, chosenExprs, bestOf, pathOf, worldOf, outOf, solveFrom}
+use Rattle.search_state.specs.Inner.Searching.{Grown, Done}
+use Rattle.solve_outputs.specs.Inner.Begin.{sizesOf, noIncumbent, nothingTaken}
+use Rattle.solve_outputs.specs.Inner.Finish.{Settled, settled, solveLeftBy, handedOut, settledBy, judgedOut as judgedIn, judgedOutBy as judgedByIn}
 use Rattle.solve_outputs.proofs.Passed.{passed-accepted, rest-is-all}
 use Rattle.search_state.proofs.Parts.{nothing-chosen}
 

@@ -20,13 +20,14 @@ use Rattle.search_state.specs.declared.Sizes.{Sizes}
 use Rattle.search_state.specs.declared.State.{State}
 use Rattle.search_state.specs.declared.Answer.{Answer}
 use Rattle.search_state.specs.declared.Answer.the-variants.{Found, Missed, Full}
-use Rattle.search_state.specs.Memory.{problemIn, chosenExprs, choicesOf, bestSortsAt, bestMeasureAt, bestChoicesAt, candidateOf, bestOf, outOf}
+use Rattle.search_state.specs.Inner.Memory.{problemIn, chosenExprs, choicesOf, bestSortsAt, bestMeasureAt, bestChoicesAt, candidateOf, bestOf, outOf}
 use Rattle.words.specs.Words.{part}
 use Rattle.words.proofs.Parts.{length-part}
 use Rattle.solve_checks.specs.declared.Given.{Given}
-use Rattle.solve_checks.specs.Calls.{problemCall, constraintRows}
-use Rattle.solve_outputs.specs.Begin.{sizesOf}
-use Rattle.solve_outputs.specs.Finish.{Answered, answered, Settled, settled, solveLeft, solveLeftBy, handedOut, judgedOut, settledBy, Handable}
+use Rattle.solve_checks.specs.Inner.Calls.{problemCall, constraintRows}
+use Rattle.solve_outputs.specs.Inner.Begin.{sizesOf}
+use Rattle.solve_outputs.specs.Inner.Finish.{Answered, answered, Settled, settled, solveLeftBy, handedOut, judgedOut, settledBy, Handable}
+use Rattle.solve_outputs.specs.Finish.{solveLeft}
 
 pub sizes-counted : (g : Given) (cs : List ℕ) (n d : ℕ) → n ≡ components (constraintRows cs (g .constraints)) → d ≡ length (disjunctions (constraintRows cs (g .constraints)))
     → record { exprs = g .exprs; constraints = g .constraints; overloads = g .overloads; sources = g .sources; components = n; disjunctions = d; default = record { 0 = g .default } }

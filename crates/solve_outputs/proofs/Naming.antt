@@ -23,11 +23,11 @@ use Rattle.inference.specs.Names.{overloadIn, nameKind, nameSort}
 use Rattle.inference.specs.SolveChecks.{disjunctionFor, disjunctions}
 use Rattle.inference.proofs.Members.{row-at, row-past, rows-all-left, rows-one-left, rows-none-left}
 use Rattle.search_state.specs.declared.Sizes.{Sizes}
-use Rattle.search_state.specs.Memory.{overloadsAt, problemIn, restFrom, bestSortsAt}
+use Rattle.search_state.specs.Inner.Memory.{overloadsAt, problemIn, restFrom, bestSortsAt}
 use Rattle.words.specs.Words.{part}
-use Rattle.search_state.specs.Searching.{Sized}
+use Rattle.search_state.specs.Inner.Searching.{Sized}
 use Rattle.words.proofs.Parts.{part-first}
-use Rattle.solve_outputs.specs.Written.{Walked, walked, positionAt, namedRows, noName, named, baseNamed, nameBy, chosenNamed}
+use Rattle.solve_outputs.specs.Inner.Written.{Walked, walked, positionAt, namedRows, noName, named, baseNamed, nameBy, chosenNamed}
 use Rattle.solve_outputs.proofs.Choosing.{choices-in-all}
 
 module _ (n : ℕ) (ts : List ℕ) (x : ℕ) (t : NameTarget) where

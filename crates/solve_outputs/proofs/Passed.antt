@@ -25,11 +25,11 @@ use Rattle.inference.specs.RowsLent.{RowsLent}
 use Rattle.inference.proofs.RowsLent.{rows-lent}
 use Rattle.inference.proofs.Accepted.{Accepted, accepted, within, Passing, passing}
 use Rattle.search_state.specs.declared.Next.the-variants.{Solve}
-use Rattle.search_state.specs.Memory.{problemIn, restFrom, chosenExprs, problemWords}
-use Rattle.search_state.specs.Searching.{Suits, Sized, Searching}
-use Rattle.problem_words.specs.Packed.{problemFrom, Packable}
-use Rattle.solve_outputs.specs.Begin.{CountsFit, RowsFit, sizesOf, noIncumbent, nothingTaken}
-use Rattle.solve_outputs.specs.Finish.{Handable}
+use Rattle.search_state.specs.Inner.Memory.{problemIn, restFrom, chosenExprs, problemWords}
+use Rattle.search_state.specs.Inner.Searching.{Suits, Sized, Searching}
+use Rattle.problem_words.specs.Inner.Packed.{problemFrom, Packable}
+use Rattle.solve_outputs.specs.Inner.Begin.{CountsFit, RowsFit, sizesOf, noIncumbent, nothingTaken}
+use Rattle.solve_outputs.specs.Inner.Finish.{Handable}
 
 -- at most one disjunction for a constraint
 few-disjunctions : (cs : List Constraint) → length (disjunctions cs) ≤ length cs

@@ -23,11 +23,11 @@ use Rattle.inference.specs.SolveChecks.{disjunctions}
 use Rattle.inference.specs.SolveEntry.{typingRows, writtenOver}
 use Rattle.inference.proofs.Members.{rows-all-left}
 use Rattle.search_state.specs.declared.Sizes.{Sizes}
-use Rattle.search_state.specs.Memory.{overloadsAt, problemIn, restFrom, chosenExprs, choicesOf, bestSortsAt, bestChoicesAt, scratchUsed}
+use Rattle.search_state.specs.Inner.Memory.{overloadsAt, problemIn, restFrom, chosenExprs, choicesOf, bestSortsAt, bestChoicesAt, scratchUsed}
 use Rattle.words.specs.Words.{part}
-use Rattle.search_state.specs.Searching.{Sized}
+use Rattle.search_state.specs.Inner.Searching.{Sized}
 use Rattle.words.proofs.Parts.{length-part, part-first}
-use Rattle.solve_outputs.specs.Written.{positionAt, namedRows, noName, named, baseNamed, chosenNamed}
+use Rattle.solve_outputs.specs.Inner.Written.{positionAt, namedRows, noName, named, baseNamed, chosenNamed}
 use Rattle.solve_outputs.proofs.Over.{stored-is-over}
 
 -- Rows with names.

@@ -1,5 +1,4 @@
 -- What the solver hands out, step by step.
-pub mod Written
-pub mod Begin
 pub mod Finish
 pub mod Packed
+pub mod Inner

@@ -44,24 +44,21 @@ ghost use lib.ListN.{length, drop};
 ghost use lib.Seq.{sets};
 ghost use mathlib.Core.Bool.{false};
 ghost use Rattle.unification.specs.Nodes.{maxNodes, maxNodeEntries, fullNodes};
-ghost use Rattle.inference.specs.Constraints.{maxConstraints, maxComponents, nameWords};
-ghost use Rattle.inference.specs.Constraints.{overloadAt, baseNameAt, rowsFrom};
+ghost use Rattle.inference.specs.Constraints.{maxConstraints, maxComponents, nameWords, overloadAt, baseNameAt, rowsFrom};
 ghost use Rattle.inference.specs.Names.{overloadIn, nameKind, nameSort};
 ghost use Rattle.inference.specs.SolveChecks.{typingWords, choiceWords, disjunctionFor};
 ghost use Rattle.inference.specs.SolveEntry.{nodesGivenBack, cleared, typingRows, choiceRows, writtenOver};
-ghost use Rattle.search_state.specs.Memory.{overloadsAt, problemIn, restFrom, chosenExprs, choicesOf, bestSortsAt};
-ghost use Rattle.search_state.specs.Memory.{bestMeasureAt, bestChoicesAt, scratchUsed, candidateOf, bestOf, outOf};
+ghost use Rattle.search_state.specs.Inner.Memory.{overloadsAt, problemIn, restFrom, chosenExprs, choicesOf, bestSortsAt, bestMeasureAt, bestChoicesAt, scratchUsed, candidateOf, bestOf, outOf};
 ghost use Rattle.words.specs.Words.{part};
-ghost use Rattle.search_state.specs.Searching.{Sized};
-ghost use Rattle.solve_outputs.specs.Written.{walked, choiceBy, namedRows, noName};
-ghost use Rattle.solve_outputs.specs.Written.{named, baseNamed, nameBy, chosenNamed};
+ghost use Rattle.search_state.specs.Inner.Searching.{Sized};
+ghost use Rattle.solve_outputs.specs.Inner.Written.{walked, choiceBy, namedRows, noName, named, baseNamed, nameBy, chosenNamed};
 ghost use Rattle.inference.specs.declared.Solved.the-variants.{Typing};
-ghost use Rattle.solve_checks.specs.Calls.{problemCall};
+ghost use Rattle.solve_checks.specs.Inner.Calls.{problemCall};
 ghost use Rattle.solve_checks.specs.Call.{lengthsOf};
-ghost use Rattle.solve_outputs.specs.Begin.{CountsFit, RowsFit, sizesOf, noIncumbent, nothingTaken};
+ghost use Rattle.solve_outputs.specs.Inner.Begin.{CountsFit, RowsFit, sizesOf, noIncumbent, nothingTaken};
 ghost use Rattle.solve_outputs.specs.Packed.{packCounts, packSolved, CountsWithin, SolvedWithin};
-ghost use Rattle.solve_outputs.specs.Finish.{answered, settled, solveLeft, solveLeftBy, handedOut};
-ghost use Rattle.solve_outputs.specs.Finish.{judgedOut, settledBy, Handable, SortsReturnable, NodesReturnable};
+ghost use Rattle.solve_outputs.specs.Inner.Finish.{answered, settled, solveLeftBy, handedOut, judgedOut, settledBy, Handable, SortsReturnable, NodesReturnable};
+ghost use Rattle.solve_outputs.specs.Finish.{solveLeft};
 
 // All words set to zero.
 fn clear(words: &mut [u16])

@@ -1,13 +1,14 @@
 -- What unpacking a list of records does, as facts of lists. Assumes nothing.
 use mathlib.Core.Path.{_≡_, refl, sym, ap, _∙_}
-use Prim.Native.Nat.{ℕ, zero, suc, _+_, _-_, _*_, _<_, _≤_, min}
+use Prim.Native.Nat.{ℕ, suc, _+_, _-_, _*_, _<_, _≤_}
 use native.Mathlib.Omega.{arith}
 use mathlib.Core.List.{List, [], _∷_, _++_}
-use lib.ListN.{length, take, drop, set, replicate, length-append, length-take, length-replicate, drop-of-length-le}
+use lib.ListN.{length, take, drop, set, replicate, length-take, length-replicate, drop-of-length-le}
 use lib.Seq.{sets, sets-eq, drop-cons, getD-take, take-append-seam}
 use Rattle.inference.specs.Constraints.{maxOverloads}
 use Rattle.solve_records.specs.declared.OverloadRecord.{OverloadRecord}
-use Rattle.solve_records.specs.Records.{wordsOf, recordWords, noRecord, recordAt, wordsFrom, unpacked, wordsOfCount}
+use Rattle.solve_records.specs.Records.{wordsOf, recordWords}
+use Rattle.solve_records.specs.Inner.Records.{noRecord, recordAt, wordsFrom, unpacked, wordsOfCount}
 
 one-on : (i : ℕ) → 3 * i + 1 ≡ suc (3 * i)
 one-on i = omega arith

@@ -19,7 +19,8 @@ ghost use Rattle.solve_checks.specs.Call.{callOf};
 ghost use Rattle.solve_outputs.specs.Finish.{solveLeft};
 ghost use Rattle.solve_outputs.specs.Packed.{packedSolve, packSolveLeft};
 ghost use Rattle.solve_entries.specs.Given.{givenOf};
-ghost use Rattle.solve_records.specs.Records.{wordsOf, recordWords, recordAt, wordsFrom, unpacked, wordsOfCount};
+ghost use Rattle.solve_records.specs.Records.{wordsOf, recordWords};
+ghost use Rattle.solve_records.specs.Inner.Records.{recordAt, wordsFrom, unpacked, wordsOfCount};
 
 // What a name resolved to, as the caller says it: kind 1 a variable, 2 an operation with its sort, 3 a built-in. Any
 // other kind is refused with 9, so the kind is a word: of an enum such a word would be no value.

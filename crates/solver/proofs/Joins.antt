@@ -10,13 +10,16 @@ use Rattle.unification.specs.declared.InferSortId.{InferSortId}
 use Rattle.unification.specs.declared.Lengths.{Lengths}
 use Rattle.unification.specs.Nodes.{bindsOf}
 use Rattle.unification.specs.Checked.{Placed}
-use Rattle.unification.specs.Making.{Lent, lent}
-use Rattle.unification.proofs.Grows.{PlacedIn, Grows, placed-grown}
+use Rattle.unification.specs.Making.{Lent}
+use Rattle.unification.specs.Inner.Making.{lent}
+use Rattle.unification.specs.Growing.{PlacedIn, Grows}
+use Rattle.unification.proofs.Grows.{placed-grown}
 use Rattle.inference.specs.Constraints.{Problem, rowsFrom, maxComponents}
 use Rattle.inference.specs.Search.{Path, World, Out, Going, Agreed, joinOf, onMade, elseTry, unifying, widening, sequence, joining, withComponents}
 use Rattle.inference.specs.SolveEntry.{nothingMet}
 use Rattle.inference.specs.Typing.{All, and-all}
-use Rattle.inference.proofs.Invariant.{SortsOnly, still-placed}
+use Rattle.inference.specs.Inner.Listed.{SortsOnly}
+use Rattle.inference.proofs.Invariant.{still-placed}
 use Rattle.search_state.specs.declared.Sizes.{Sizes}
 use Rattle.search_state.specs.declared.State.{State}
 use Rattle.search_state.specs.declared.Branch.{Branch}
@@ -31,10 +34,10 @@ use Rattle.search_state.specs.declared.Made.the-variants.{At, Nothing as NoSort
 use Rattle.search_state.specs.declared.Next.the-variants.{Solve, Source}
 use Rattle.search_state.specs.declared.Pairs.the-variants.{One}
 use Rattle.search_state.specs.declared.Step.the-variants.{Written}
-use Rattle.search_state.specs.Memory.{problemIn, sourceAt, chosenExprs, choicesOf, trailWords, bestSortsAt, measureAt, bestMeasureAt, choicesAt, bestChoicesAt, pathOf, candidateOf, bestOf, worldOf, solveFrom, nextOf}
+use Rattle.search_state.specs.Inner.Memory.{problemIn, sourceAt, chosenExprs, choicesOf, trailWords, bestSortsAt, measureAt, bestMeasureAt, choicesAt, bestChoicesAt, pathOf, candidateOf, bestOf, worldOf, solveFrom, nextOf}
 use Rattle.words.specs.Words.{part}
-use Rattle.search_state.specs.Leaves.{ChangedOnly, unifyPairs, PairsPlaced, pathAfter, agreementOf, Agrees}
-use Rattle.search_state.specs.Searching.{Sized, Searching, SourcesFine, Agreeing, SamePath, Done, Comes, trying}
+use Rattle.search_state.specs.Inner.Leaves.{ChangedOnly, unifyPairs, PairsPlaced, pathAfter, agreementOf, Agrees}
+use Rattle.search_state.specs.Inner.Searching.{Sized, Searching, SourcesFine, Agreeing, SamePath, Done, Comes, trying}
 use Rattle.search_state.proofs.Parts.{part-before, part-after, take-unchanged}
 use Rattle.search_state.proofs.After.{searching-grown, done-as, done-after, same-path, or-stops, or-comes, grown-missed}
 use Rattle.solver.proofs.Ways.{sort-placed, after-missed}

@@ -7,9 +7,10 @@ use native.Mathlib.Omega.{arith}
 use Rattle.unification.specs.declared.InferSortId.{InferSortId}
 use Rattle.unification.specs.Nodes.{bindsOf}
 use Rattle.unification.specs.Checked.{Placed}
-use Rattle.unification.specs.Making.{graph, lent}
+use Rattle.unification.specs.Making.{graph}
+use Rattle.unification.specs.Inner.Making.{lent}
 use Rattle.inference.specs.Constraints.{Problem}
-use Rattle.inference.specs.Search.{Path, World, missed, Going, firstFound, literal, litTries, fromNat}
+use Rattle.inference.specs.Search.{Path, World, Going, firstFound, literal, litTries, fromNat}
 use Rattle.inference.specs.SolveEntry.{nothingMet}
 use Rattle.inference.specs.Typing.{none-left, and-all}
 use Rattle.search_state.specs.declared.Sizes.{Sizes}
@@ -24,14 +25,15 @@ use Rattle.search_state.specs.declared.LitAt.{LitAt}
 use Rattle.search_state.specs.declared.LitAt.the-variants.{Number, Free, Other}
 use Rattle.search_state.specs.declared.Step.the-variants.{Component}
 use Rattle.search_state.specs.declared.Tries.{Tries}
-use Rattle.search_state.specs.Memory.{problemIn, pathOf, worldOf, nextOf}
-use Rattle.search_state.specs.Leaves.{stepWords, branchAfter, pathAfter, triesFrom, litAt}
-use Rattle.search_state.specs.Searching.{Searching, Comes}
+use Rattle.search_state.specs.Inner.Memory.{problemIn, pathOf, worldOf, nextOf}
+use Rattle.search_state.specs.Inner.Leaves.{stepWords, branchAfter, pathAfter, triesFrom, litAt}
+use Rattle.search_state.specs.Inner.Searching.{Searching, Comes}
 use Rattle.search_state.proofs.After.{misses, done-as}
-use Rattle.search_state.proofs.Ways.{literalBy, literal-by-what-stands, TriesPlaced}
-use Rattle.search_steps.specs.Steps.{LitTries}
+use Rattle.search_state.proofs.Ways.{literalBy, literal-by-what-stands}
+use Rattle.search_state.specs.Inner.Placed.{TriesPlaced}
+use Rattle.search_steps.specs.Inner.Steps.{LitTries}
 use Rattle.search_steps.proofs.Attempt.{went-with}
-use Rattle.solver.specs.Asked.{TriesFine}
+use Rattle.solver.specs.Inner.Asked.{TriesFine}
 use Rattle.solver.proofs.Ways.{fixed-placed}
 
 module _ (ls : List ℕ) (z : Sizes) (ws ns bs sc : List ℕ) (k : State) (e : Branch) (p : InferSortId) (kind : LitKind) (next : Next) (S : Searching ws ns bs sc ls z k e 1 [] next)

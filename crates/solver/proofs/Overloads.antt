@@ -9,11 +9,13 @@ use Rattle.unification.specs.declared.InferSortId.{InferSortId}
 use Rattle.unification.specs.declared.Lengths.{Lengths}
 use Rattle.unification.specs.Nodes.{bindsOf}
 use Rattle.unification.specs.Checked.{Placed}
-use Rattle.unification.proofs.Grows.{CheckedLent, placed-grown}
+use Rattle.unification.specs.Growing.{CheckedLent}
+use Rattle.unification.proofs.Grows.{placed-grown}
 use Rattle.inference.specs.Constraints.{Problem, rowsFrom, overloadAt}
 use Rattle.inference.specs.Search.{Path, World, Out, Going, andAlso, says, unifying, everyOverload, withChoice}
 use Rattle.inference.specs.SolveEntry.{nothingMet}
-use Rattle.inference.proofs.Invariant.{SortsOnly, sorts-only-refl, sorts-only-trans}
+use Rattle.inference.specs.Inner.Listed.{SortsOnly}
+use Rattle.inference.proofs.Invariant.{sorts-only-refl, sorts-only-trans}
 use Rattle.search_state.specs.declared.Sizes.{Sizes}
 use Rattle.search_state.specs.declared.State.{State}
 use Rattle.search_state.specs.declared.Branch.{Branch}
@@ -27,16 +29,16 @@ use Rattle.search_state.specs.declared.Pairs.the-variants.{One}
 use Rattle.search_state.specs.declared.Step.the-variants.{Choice}
 use Rattle.search_state.specs.declared.Went.{Went}
 use Rattle.search_state.specs.declared.Went.the-variants.{On, Stop}
-use Rattle.search_state.specs.Memory.{overloadsAt, problemIn, chosenExprs, pathOf, worldOf, nextOf}
-use Rattle.search_state.specs.Leaves.{unifyPairs, PairsPlaced, pathAfter, afterOf}
-use Rattle.search_state.specs.Searching.{Searching, SamePath, Done, Comes, trying}
+use Rattle.search_state.specs.Inner.Memory.{overloadsAt, problemIn, chosenExprs, pathOf, worldOf, nextOf}
+use Rattle.search_state.specs.Inner.Leaves.{unifyPairs, PairsPlaced, pathAfter, afterOf}
+use Rattle.search_state.specs.Inner.Searching.{Searching, SamePath, Done, Comes, trying}
 use Rattle.search_state.proofs.Parts.{same-path-refl, same-path-trans}
 use Rattle.search_state.proofs.After.{searching-grown, done-as, done-after, same-path, and-stops, and-goes-on, grown-on}
-use Rattle.search_steps.specs.Steps.{saysOf}
-use Rattle.solver.specs.Asked.{OverloadsFine}
+use Rattle.search_steps.specs.Inner.Steps.{saysOf}
+use Rattle.solver.specs.Inner.Asked.{OverloadsFine}
 use Rattle.solver.proofs.Readings.{says-so}
 use Rattle.inference.proofs.Members.{run-one-left}
-use Rattle.unification.specs.Making.{lent}
+use Rattle.unification.specs.Inner.Making.{lent}
 
 -- the expression of the next choice
 pub next-expr : (ls : List ℕ) (z : Sizes) (ws ns bs sc : List ℕ) (k : State) (e : Branch) (x : ℕ) (next : Next) → Searching ws ns bs sc ls z k e 0 (x ∷ []) next → getD (chosenExprs ls z) (e .choices) 0 ≡ x

@@ -9,12 +9,14 @@ use Rattle.unification.specs.declared.InferSortId.{InferSortId}
 use Rattle.unification.specs.declared.Lengths.{Lengths}
 use Rattle.unification.specs.Nodes.{bindsOf}
 use Rattle.unification.specs.Checked.{Placed}
-use Rattle.unification.specs.Making.{Lent, internContainer, lent}
-use Rattle.unification.proofs.Grows.{CheckedLent, placed-grown}
+use Rattle.unification.specs.Making.{Lent, internContainer}
+use Rattle.unification.specs.Inner.Making.{lent}
+use Rattle.unification.specs.Growing.{CheckedLent}
+use Rattle.unification.proofs.Grows.{placed-grown}
 use Rattle.inference.specs.Constraints.{Problem}
 use Rattle.inference.specs.Search.{Path, World, Out, missed, Going, Reading, onMade, andAlso, says, unifying, everyReading, withBinds}
 use Rattle.inference.specs.SolveEntry.{nothingMet}
-use Rattle.inference.proofs.Invariant.{SortsOnly}
+use Rattle.inference.specs.Inner.Listed.{SortsOnly}
 use Rattle.search_state.specs.declared.Sizes.{Sizes}
 use Rattle.search_state.specs.declared.State.{State}
 use Rattle.search_state.specs.declared.Branch.{Branch}
@@ -28,14 +30,14 @@ use Rattle.search_state.specs.declared.Pairs.the-variants.{Two}
 use Rattle.search_state.specs.declared.Step.the-variants.{Nothing}
 use Rattle.search_state.specs.declared.Went.{Went}
 use Rattle.search_state.specs.declared.Went.the-variants.{On, Stop}
-use Rattle.search_state.specs.Memory.{problemIn, pathOf, worldOf, nextOf}
-use Rattle.search_state.specs.Leaves.{PairsPlaced, pathAfter, madeOf, afterOf}
-use Rattle.search_state.specs.Searching.{Searching, Done, Comes, trying}
+use Rattle.search_state.specs.Inner.Memory.{problemIn, pathOf, worldOf, nextOf}
+use Rattle.search_state.specs.Inner.Leaves.{PairsPlaced, pathAfter, madeOf, afterOf}
+use Rattle.search_state.specs.Inner.Searching.{Searching, Done, Comes, trying}
 use Rattle.search_state.proofs.Parts.{same-path-refl}
 use Rattle.search_state.proofs.After.{searching-grown, misses, finds, done-as, done-after, and-stops, and-comes, grown-on}
 use Rattle.search_state.proofs.Ways.{two-pairs, container-is-sort, no-room-for-container-is-15, container-always-listed}
-use Rattle.search_steps.specs.Steps.{saysOf, InternsContainer}
-use Rattle.solver.specs.Asked.{readingBody, readingOp, readingAt, readingsFrom}
+use Rattle.search_steps.specs.Inner.Steps.{saysOf, InternsContainer}
+use Rattle.solver.specs.Inner.Asked.{readingBody, readingOp, readingAt, readingsFrom}
 use Rattle.solver.proofs.Ways.{sort-placed, fixed-placed}
 use Rattle.solver.proofs.Widening.{withLengths}
 use Rattle.inference.proofs.Members.{rows-one-left, rows-none-left}

@@ -9,8 +9,9 @@ use lib.ListN.{length, take, drop, length-drop}
 use Rattle.unification.specs.declared.InferSortId.{InferSortId}
 use Rattle.unification.specs.Nodes.{bindsOf}
 use Rattle.unification.specs.Checked.{Placed}
-use Rattle.unification.specs.Making.{Lent, lent}
-use Rattle.unification.proofs.Grows.{PlacedIn}
+use Rattle.unification.specs.Making.{Lent}
+use Rattle.unification.specs.Inner.Making.{lent}
+use Rattle.unification.specs.Growing.{PlacedIn}
 use Rattle.inference.specs.Constraints.{Problem, rowsFrom, overloadAt, constraintAt}
 use Rattle.inference.specs.Search.{Path, World, missed, Going, step, solve, leaf, dominatedBy, widening, literal, everyOverload, everyReading, joining}
 use Rattle.inference.specs.SolveEntry.{nothingMet}
@@ -30,13 +31,13 @@ use Rattle.inference.specs.declared.Constraint.the-variants.{Sub, Lit, Disjunct
 use Rattle.inference.specs.SolveChecks.{componentsOf, components, disjunctionFor, disjunctions}
 use Rattle.inference.specs.Names.{overloadIn}
 use Rattle.inference.proofs.Members.{length-rows, row-at, run-at, rows-one-left, each-row, rows-none-left}
-use Rattle.inference.proofs.Accepted.{Listed, sub-listed, lit-listed, disjunction-listed, comprehension-listed, join-listed}
+use Rattle.inference.specs.Inner.Listed.{Listed, sub-listed, lit-listed, disjunction-listed, comprehension-listed, join-listed}
 use Rattle.search_state.specs.declared.Next.the-variants.{Solve}
-use Rattle.search_state.specs.Memory.{overloadsAt, sourceAt, problemIn, restFrom, chosenExprs, measureAt, pathOf, bestOf, worldOf, solveFrom, nextOf}
+use Rattle.search_state.specs.Inner.Memory.{overloadsAt, sourceAt, problemIn, restFrom, chosenExprs, measureAt, pathOf, bestOf, worldOf, solveFrom, nextOf}
 use Rattle.words.specs.Words.{part}
-use Rattle.search_state.specs.Searching.{Searching, SourcesFine, AtLeaf, Comparable, Comes}
+use Rattle.search_state.specs.Inner.Searching.{Searching, SourcesFine, AtLeaf, Comparable, Comes}
 use Rattle.search_state.proofs.After.{misses, done-as}
-use Rattle.solver.specs.Asked.{OverloadsFine, exprsOfConstraint, readingsFrom}
+use Rattle.solver.specs.Inner.Asked.{OverloadsFine, exprsOfConstraint, readingsFrom}
 
 -- one of the rows
 all-taken : {A : Type 0} (R : A → Type 0) (x : A) (xs : List A) → All R (x ∷ xs) → R x × All R xs

@@ -10,8 +10,10 @@ use borrow.Author.Tests.{lt-ltb}
 use Rattle.resolved_sort.specs.Storage.{maxSorts}
 use Rattle.unification.specs.Nodes.{isPlace, bindsOf}
 use Rattle.unification.specs.Checked.{Placed}
-use Rattle.unification.specs.Making.{graph, lent}
-use Rattle.unification.proofs.Grows.{Grows, placed-grown}
+use Rattle.unification.specs.Making.{graph}
+use Rattle.unification.specs.Inner.Making.{lent}
+use Rattle.unification.specs.Growing.{Grows}
+use Rattle.unification.proofs.Grows.{placed-grown}
 use Rattle.inference.specs.Constraints.{rowsFrom, Problem}
 use Rattle.inference.specs.Search.{Path, World, Out, Try, Going, elseTry, unifying, onYes, firstFound, sequence}
 use Rattle.inference.specs.SolveEntry.{nothingMet}
@@ -26,14 +28,14 @@ use Rattle.search_state.specs.declared.Next.the-variants.{Solve, Source}
 use Rattle.search_state.specs.declared.Pairs.{Pairs}
 use Rattle.search_state.specs.declared.Step.the-variants.{Component}
 use Rattle.search_state.specs.declared.Tries.{Tries}
-use Rattle.search_state.specs.Memory.{problemIn, pathOf, worldOf, solveFrom, nextOf, sourceAt}
-use Rattle.search_state.specs.Leaves.{unifyPairs, PairsPlaced, pathAfter, tryAt, triesFrom}
-use Rattle.search_state.specs.Searching.{Searching, Done, Comes, trying}
+use Rattle.search_state.specs.Inner.Memory.{problemIn, pathOf, worldOf, solveFrom, nextOf, sourceAt}
+use Rattle.search_state.specs.Inner.Leaves.{unifyPairs, PairsPlaced, pathAfter, tryAt, triesFrom}
+use Rattle.search_state.specs.Inner.Searching.{Searching, Done, Comes, trying}
 use Rattle.search_state.proofs.After.{searching-grown, misses, done-as, grown-missed, or-stops, or-comes}
-use Rattle.search_state.proofs.Ways.{TryPlaced, TriesPlaced}
-use Rattle.search_steps.specs.Steps.{pairsOf}
+use Rattle.search_state.specs.Inner.Placed.{TryPlaced, TriesPlaced}
+use Rattle.search_steps.specs.Inner.Steps.{pairsOf}
 use Rattle.resolved_sort.specs.declared.ComplexSort.{ComplexSort}
-use Rattle.solver.specs.Asked.{TriesFine, readingBody, readingOp}
+use Rattle.solver.specs.Inner.Asked.{TriesFine, readingBody, readingOp}
 use Rattle.inference.proofs.Members.{rows-one-left, rows-none-left}
 
 -- the work left, above what any single constraint can take

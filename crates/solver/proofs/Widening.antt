@@ -8,12 +8,15 @@ use Rattle.unification.specs.declared.InferSortId.{InferSortId}
 use Rattle.unification.specs.declared.Lengths.{Lengths}
 use Rattle.unification.specs.Nodes.{bindsOf}
 use Rattle.unification.specs.Checked.{Placed}
-use Rattle.unification.specs.Making.{Lent, made, lent}
-use Rattle.unification.proofs.Grows.{Grows, grows-trans, given-back-grows, placed-grown}
+use Rattle.unification.specs.Making.{Lent, made}
+use Rattle.unification.specs.Inner.Making.{lent}
+use Rattle.unification.specs.Growing.{Grows}
+use Rattle.unification.proofs.Grows.{grows-trans, given-back-grows, placed-grown}
 use Rattle.inference.specs.Constraints.{Problem}
 use Rattle.inference.specs.Search.{Path, World, Out, missed, Going, elseTry, onMade, nodesReturned, unifying, firstFound, widening, wider}
 use Rattle.inference.specs.SolveEntry.{nothingMet}
-use Rattle.inference.proofs.Invariant.{SortsOnly, sorts-only-refl}
+use Rattle.inference.specs.Inner.Listed.{SortsOnly}
+use Rattle.inference.proofs.Invariant.{sorts-only-refl}
 use Rattle.search_state.specs.declared.Sizes.{Sizes}
 use Rattle.search_state.specs.declared.State.{State}
 use Rattle.search_state.specs.declared.Branch.{Branch}
@@ -25,13 +28,13 @@ use Rattle.search_state.specs.declared.Step.the-variants.{Component}
 use Rattle.search_state.specs.declared.Tries.{Tries}
 use Rattle.search_state.specs.declared.Widenings.{Widenings}
 use Rattle.search_state.specs.declared.Widenings.the-variants.{These, NoList, Full as NoRoom}
-use Rattle.search_state.specs.Memory.{problemIn, pathOf, worldOf, outOf, nextOf}
-use Rattle.search_state.specs.Leaves.{unifyPairs, pathAfter, triesFrom, widenings, widened, FewTries, FindsWidenings, givenBackTo}
-use Rattle.search_state.specs.Searching.{Searching, Grown, Comes, trying}
+use Rattle.search_state.specs.Inner.Memory.{problemIn, pathOf, worldOf, outOf, nextOf}
+use Rattle.search_state.specs.Inner.Leaves.{unifyPairs, pathAfter, triesFrom, widenings, widened, FewTries, FindsWidenings, givenBackTo}
+use Rattle.search_state.specs.Inner.Searching.{Searching, Grown, Comes, trying}
 use Rattle.search_state.proofs.Parts.{same-path-refl}
 use Rattle.search_state.proofs.After.{searching-grown, done-as, or-stops, or-comes, grown-missed}
 use Rattle.search_state.proofs.Ways.{tried, wider-by-widenings, given-back-in-answer, tries-are-placed, no-tries-makes-nothing, no-room-for-tries-grows}
-use Rattle.solver.specs.Asked.{TriesFine}
+use Rattle.solver.specs.Inner.Asked.{TriesFine}
 use Rattle.solver.proofs.Ways.{after-missed}
 
 -- the state with other lengths

@@ -1,16 +1,15 @@
 -- Of two heads, what the tests of family and level pick is what the definition picks. Assumes nothing.
 use mathlib.Core.Path.{_≡_, refl, sym, _∙_}
 use mathlib.Core.Bool.{Bool, true, false, cond}
-use mathlib.Core.Option.{Option, none, some}
+use mathlib.Core.Option.{none, some}
 use Prim.Native.Nat.{ℕ}
 use lib.Dec.{eqb}
 use borrow.Author.Tests.{eq-eqb, ne-eqb}
 use Rattle.resolved_sort.specs.declared.ComplexSort.{ComplexSort}
-use Rattle.resolved_sort.specs.declared.OpBound.{OpBound}
 use Rattle.resolved_sort.specs.declared.OpBound.the-variants.{Is, Nothing}
 use Rattle.resolved_sort.specs.Tree.{familyOp, levelOp}
 use Rattle.resolved_sort.specs.Order.{leLevel, boundOp}
-use Rattle.resolved_sort.specs.Bounds.{opBound}
+use Rattle.resolved_sort.specs.Inner.Bounds.{opBound}
 
 module _ {A : Type 0} (up : Bool) (f g l m : ℕ) (far near neither : A) where
   abbrev pub picked : A

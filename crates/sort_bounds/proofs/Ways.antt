@@ -1,6 +1,6 @@
 -- The laws of join and meet with the premises that `bound` has at each of its ways: what the pair of rows is, and what
 -- the callee left. Assumes nothing.
-use mathlib.Core.Path.{_≡_, refl, sym, _∙_, ap, ap₂, subst}
+use mathlib.Core.Path.{_≡_, sym, _∙_, ap, ap₂, subst}
 use mathlib.Core.Bool.{Bool, not}
 use mathlib.Core.List.{List}
 use Prim.Native.Nat.{ℕ, _+_, _<_, _≤_}
@@ -21,8 +21,9 @@ use Rattle.resolved_sort.specs.Tree.{function as functionSort}
 use Rattle.resolved_sort.specs.Interning.{look}
 use Rattle.resolved_sort.specs.Storage.{trees, lookAll, countAt, startAt, partAt, entryAt}
 use Rattle.resolved_sort.specs.Rows.{Checked, AllBelow, storedAt}
-use Rattle.resolved_sort.specs.Pairs.{pairAt}
-use Rattle.resolved_sort.specs.Bounds.{Asked, boundAt, internAt, containerAt, functionAt, sideOf, TwoFunctions, storedDomain, boundDomain}
+use Rattle.resolved_sort.specs.Inner.Pairs.{pairAt}
+use Rattle.resolved_sort.specs.Bounds.{Asked, boundAt, internAt}
+use Rattle.resolved_sort.specs.Inner.Bounds.{containerAt, functionAt, sideOf, TwoFunctions, storedDomain, boundDomain}
 use Rattle.resolved_sort.proofs.Pairs.{SortsSay, OfPrimitives, OfContainers, pair-of-sorts}
 use Rattle.resolved_sort.proofs.BoundsCode as law
 use Rattle.resolved_sort.proofs.DomainCode as domain

@@ -25,8 +25,8 @@ ghost use Rattle.resolved_sort.specs.Tree.{primitive, family, level, familyOp, 
 ghost use Rattle.resolved_sort.specs.Order.{leLevel, boundOp as boundOfOps};
 ghost use Rattle.resolved_sort.specs.Storage.{partAt, startAt, countAt, entryAt};
 ghost use Rattle.resolved_sort.specs.Rows.{storedAt};
-ghost use Rattle.resolved_sort.specs.Bounds.{Asked, boundAt, containerAt, functionAt, sideOf};
-ghost use Rattle.resolved_sort.specs.Bounds.{opBound, TwoFunctions, storedDomain, boundDomain};
+ghost use Rattle.resolved_sort.specs.Bounds.{Asked, boundAt};
+ghost use Rattle.resolved_sort.specs.Inner.Bounds.{containerAt, functionAt, sideOf, opBound, TwoFunctions, storedDomain, boundDomain};
 
 // The range of a function, the number of its arguments, and its i-th argument.
 fn part(sorts: &[u16], id: SortId) -> SortId

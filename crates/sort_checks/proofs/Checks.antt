@@ -13,7 +13,7 @@ use Rattle.resolved_sort.specs.declared.ResolvedSort.{ResolvedSort}
 use Rattle.resolved_sort.specs.declared.ResolvedSort.the-variants.{Function}
 use Rattle.resolved_sort.specs.Storage.{kindAt, entryAt, rowAt}
 use Rattle.resolved_sort.specs.Checks.{withinLent, fixedSix, allBelow, partsBelow, rowFine}
-use Rattle.sort_checks.specs.Tests.{ownKind, argBelow}
+use Rattle.sort_checks.specs.Inner.Tests.{ownKind, argBelow}
 use Rattle.sort_checks.proofs.Below as law
 
 leb-same : (a b c d : ℕ) → (a ≤ b → c ≤ d) → (b < a → d < c) → leb a b ≡ leb c d

@@ -9,10 +9,10 @@ use borrow.Author.Tests.{not-true, not-false, leb-true}
 use Rattle.resolved_sort.specs.declared.Tested.the-variants.{Refused, Passed}
 use Rattle.resolved_sort.specs.Storage.{maxSorts, maxEntries, entriesAt}
 use Rattle.resolved_sort.specs.Checks.{withinLent, fixedSix, rowsFine, noTwoEqual, Check, firstFailing, sortChecks}
-use Rattle.resolved_sort.specs.Entries.{testedOf}
+use Rattle.resolved_sort.specs.Inner.Entries.{testedOf}
 use Rattle.resolved_sort.proofs.FirstFailing.{first-fails, first-passes}
 use Rattle.resolved_sort.proofs.Twice.{rows-differ-exactly}
-use Rattle.sort_checks.specs.Tests.{noSameRows, newRow, otherRow}
+use Rattle.sort_checks.specs.Inner.Tests.{noSameRows, newRow, otherRow}
 
 -- checks 1 to 4
 module _ (ws : List ℕ) (n e : ℕ) where

@@ -6,7 +6,7 @@ use Prim.Native.Nat.{ℕ, _+_, _<_, _≤_}
 use Rattle.resolved_sort.specs.Storage.{wordsAt}
 use Rattle.resolved_sort.specs.Checks.{allBelow}
 use Rattle.resolved_sort.specs.Rows.{sameRow}
-use Rattle.sort_checks.specs.Tests.{otherRow, newRow}
+use Rattle.sort_checks.specs.Inner.Tests.{otherRow, newRow}
 use Rattle.sort_checks.proofs.Below as law
 
 module _ (ws : List ℕ) (j i : ℕ) where

@@ -15,10 +15,9 @@ use words::word;
 ghost use mathlib.Core.Path.{_≡_};
 ghost use Prim.Native.Nat.{_+_, _≤_};
 ghost use Rattle.resolved_sort.specs.Storage.{maxSorts};
-ghost use Rattle.resolved_sort.specs.Checks.{firstFailing, sortChecks, withinLent, fixedSix};
-ghost use Rattle.resolved_sort.specs.Checks.{partsBelow, rowFine, rowsFine, allBelow};
-ghost use Rattle.resolved_sort.specs.Entries.{testedOf};
-ghost use Rattle.sort_checks.specs.Tests.{argBelow, newRow, noSameRows};
+ghost use Rattle.resolved_sort.specs.Checks.{firstFailing, sortChecks, withinLent, fixedSix, partsBelow, rowFine, rowsFine, allBelow};
+ghost use Rattle.resolved_sort.specs.Inner.Entries.{testedOf};
+ghost use Rattle.sort_checks.specs.Inner.Tests.{argBelow, newRow, noSameRows};
 
 // Check 1: n sorts and e entries are within the ceilings and within what was lent. Neither may be past the slice's end.
 pub fn within_lent(sorts: &[u16], n: usize, e: usize) -> bool

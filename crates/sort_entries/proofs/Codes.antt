@@ -1,35 +1,26 @@
 -- Document 01's number of each outcome: the first failing check's, 15 where room ended, else 0; and the packed answer is that number with
 -- the values above it. By the cases of the first failing check and of the answers. Assumes nothing.
 use mathlib.Core.Path.{_≡_, refl}
-use mathlib.Core.Bool.{Bool, true, false}
+use mathlib.Core.Bool.{Bool}
 use mathlib.Core.List.{List}
 use mathlib.Core.Option.{Option, none, some}
 use Prim.Native.Nat.{ℕ, _+_, _*_}
 use native.Mathlib.Omega.{arith}
 use Rattle.resolved_sort.specs.declared.PartialOrder.{PartialOrder}
 use Rattle.resolved_sort.specs.declared.Widening.{Widening}
-use Rattle.resolved_sort.specs.declared.Widening.the-variants.{Distance, Nothing as NoDistance}
 use Rattle.resolved_sort.specs.declared.Joined.{Joined}
 use Rattle.resolved_sort.specs.declared.Joined.the-variants.{At, Nothing, Full}
-use Rattle.resolved_sort.specs.declared.Compared.{Compared}
 use Rattle.resolved_sort.specs.declared.Compared.the-variants.{Refused as NotCompared, Ordered}
 use Rattle.resolved_sort.specs.declared.Bounded.{Bounded}
 use Rattle.resolved_sort.specs.declared.Bounded.the-variants.{Refused as NotBounded, Sort, Nothing as NoBound, NoRoom}
-use Rattle.resolved_sort.specs.declared.Measured.{Measured}
 use Rattle.resolved_sort.specs.declared.Measured.the-variants.{Refused as NotMeasured, Steps}
-use Rattle.resolved_sort.specs.declared.Materialized.{Materialized}
 use Rattle.resolved_sort.specs.declared.Materialized.the-variants.{Refused as NotMaterialized, Answer}
 use Rattle.resolved_sort.specs.Interning.{make}
 use Rattle.resolved_sort.specs.Storage.{sortsOf}
 use Rattle.resolved_sort.specs.Checks.{firstFailing, pairChecks}
-use Rattle.resolved_sort.specs.Entries.{treeAt, codeCompared, codeBounded, codeMeasured, codeMaterialized, refusedOr, Stored, stored, SortsLeft, sortsLeft, sortsLeftBy, compared, measured, materialized, bounded}
-use Rattle.sort_entries.specs.Packed.{orderCode, packCompared, packMeasured, packMaterialized, packBounded}
-
--- 15 where room ended
-abbrev pub roomCode : Joined → ℕ
-roomCode (At s k) = 0
-roomCode (Nothing k) = 0
-roomCode Full = 15
+use Rattle.resolved_sort.specs.Entries.{treeAt, codeCompared, codeBounded, codeMeasured, codeMaterialized, refusedOr, Stored, stored, sortsLeft, sortsLeftBy, compared, measured, materialized, bounded}
+use Rattle.sort_entries.specs.Packed.{packBounded}
+use Rattle.sort_entries.specs.Codes.{roomCode, boundedValues}
 
 compared-by : (x : Option ℕ) (o : PartialOrder) → codeCompared (refusedOr x NotCompared (Ordered o)) ≡ refusedOr x (λ c. c) 0
 unfolding codeCompared
@@ -74,13 +65,6 @@ module _ (ws : List ℕ) (n e a b : ℕ) where
       ≡ refusedOr (firstFailing (pairChecks ws n e a b)) (λ c. c) (roomCode ((stored ws n e (make up (treeAt ws n a) (treeAt ws n b) (sortsOf ws n e))) .answer))
   unfolding bounded
   code-of-bounded up = bounded-by (firstFailing (pairChecks ws n e a b)) ws n e _
-
--- the values above the code
-abbrev pub boundedValues : Bounded → ℕ
-boundedValues (NotBounded c) = 0
-boundedValues (Sort s k) = 1 + s .0 * 256 + k .sorts * 16777216 + k .entries * 1099511627776
-boundedValues (NoBound k) = k .sorts * 16777216 + k .entries * 1099511627776
-boundedValues NoRoom = 0
 
 pub bounded-packed : (r : Bounded) → packBounded r ≡ codeBounded r + 256 * boundedValues r
 unfolding codeBounded

@@ -17,15 +17,17 @@ use Rattle.resolved_sort.specs.Tree.{Tree}
 use Rattle.resolved_sort.specs.Interning.{Outcome, made, nothing, full, make}
 use Rattle.resolved_sort.specs.Storage.{maxSorts, maxEntries, fullLength, entriesAt, sortsOf}
 use Rattle.resolved_sort.specs.Checks.{withinLent, rowsFine, noTwoEqual, inList, atCeiling, Check, firstFailing, sortChecks, pairChecks}
-use Rattle.resolved_sort.specs.Entries.{testedOf, refusedOr, treeAt, stored, sortsLeft, sortsLeftBy, bounded}
+use Rattle.resolved_sort.specs.Inner.Entries.{testedOf}
+use Rattle.resolved_sort.specs.Entries.{refusedOr, treeAt, stored, sortsLeft, sortsLeftBy, bounded}
 use Rattle.resolved_sort.specs.Rows.{storedAt}
 use Rattle.resolved_sort.specs.Bounds.{Asked, boundAt}
 use Rattle.resolved_sort.proofs.FirstFailing.{first-fails, first-passes, append-fails, append-passes, cons-passes}
 use Rattle.resolved_sort.proofs.Grown.{grown-none}
-use Rattle.resolved_sort.proofs.Kept.{Kept, InTree, make-kept}
+use Rattle.resolved_sort.specs.Growing.{Kept, InTree}
+use Rattle.resolved_sort.proofs.Kept.{make-kept}
 use Rattle.resolved_sort.proofs.Stored.{look-whole}
 use Rattle.resolved_sort.proofs.GivenBack.{made-is-given-back}
-use Rattle.sort_entries.specs.Kept.{keptOrGivenBack}
+use Rattle.sort_entries.specs.Inner.Kept.{keptOrGivenBack}
 use Rattle.resolved_sort.proofs.Testing.{refused-is, passed-is}
 
 -- checks 12 and 14

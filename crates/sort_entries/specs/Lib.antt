@@ -1,3 +1,4 @@
 -- What the contracts of this crate cite beside the definitions of the sorts layer.
-pub mod Kept
 pub mod Packed
+pub mod Codes
+pub mod Inner

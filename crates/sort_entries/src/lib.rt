@@ -24,10 +24,10 @@ ghost use Prim.Native.Nat.{_+_, _*_, _<_, _≤_};
 ghost use lib.ListN.{length};
 ghost use Rattle.resolved_sort.specs.Storage.{maxSorts, maxEntries, fullLength};
 ghost use Rattle.resolved_sort.specs.Checks.{firstFailing, pairChecks};
-ghost use Rattle.resolved_sort.specs.Entries.{testedOf, compared, measured, materialized, bounded, sortsLeft};
-ghost use Rattle.sort_entries.specs.Kept.{keptOrGivenBack};
-ghost use Rattle.sort_entries.specs.Packed.{packCompared, packMeasured, packMaterialized};
-ghost use Rattle.sort_entries.specs.Packed.{packBounded, packedSorts, packSortsLeft};
+ghost use Rattle.resolved_sort.specs.Inner.Entries.{testedOf};
+ghost use Rattle.resolved_sort.specs.Entries.{compared, measured, materialized, bounded, sortsLeft};
+ghost use Rattle.sort_entries.specs.Inner.Kept.{keptOrGivenBack};
+ghost use Rattle.sort_entries.specs.Packed.{packCompared, packMeasured, packMaterialized, packBounded, packedSorts, packSortsLeft};
 
 // Checks 1 to 4, 12 and 14 of a question about two sorts: the first that fails.
 fn test_pair(

@@ -1,5 +1,5 @@
 -- The scan for a row, one turn after another. Assumes nothing.
-use mathlib.Core.Path.{_≡_, sym, ap, _∙_}
+use mathlib.Core.Path.{_≡_, sym, _∙_}
 use mathlib.Core.Bool.{Bool, true, false, cond}
 use mathlib.Core.List.{List}
 use Prim.Native.Nat.{ℕ, suc, _+_, _-_, _<_, _≤_}
@@ -7,7 +7,7 @@ use native.Mathlib.Omega.{arith}
 use native.Mathlib.Nat.{sub-zero}
 use Rattle.resolved_sort.specs.Storage.{Row}
 use Rattle.resolved_sort.specs.Rows.{firstFrom, findRow}
-use Rattle.sort_interner.specs.Tests.{isRow}
+use Rattle.sort_interner.specs.Inner.Tests.{isRow}
 
 firstFrom-suc : (p : ℕ → Bool) (m k i : ℕ) → m ≡ suc k → firstFrom p m i ≡ cond (p i) i (firstFrom p k (i + 1))
 unfolding firstFrom

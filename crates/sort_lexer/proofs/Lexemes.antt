@@ -12,7 +12,7 @@ use Rattle.sort_text.specs.Tokens.{isLetter, NextToken, end, word, open-bracket
 use Rattle.sort_lexer.specs.declared.Token.{Token}
 use Rattle.sort_lexer.specs.declared.Token.the-variants.{End, Word, Open, Close, Hash, Arrow, Bad}
 use Rattle.sort_lexer.specs.declared.Lexeme.{Lexeme}
-use Rattle.sort_lexer.specs.Lexeme.{offset, lexeme, lexemeOf, saidBy, said, least}
+use Rattle.sort_lexer.specs.Inner.Lexeme.{offset, lexeme, lexemeOf, saidBy, said, least}
 use Rattle.sort_lexer.proofs.Places.{run-then-past, length-past, drop-place-past, left-without-spaces, skip-goes-on}
 
 -- bs is an end of l

@@ -8,7 +8,7 @@ use lib.ListN.{length, take, drop, length-append, length-drop, take-append-drop}
 use lib.Seq.{drop-at, take-at}
 use lib.Dec.{eqb}
 use Rattle.sort_text.specs.Tokens.{run, past, skip}
-use Rattle.sort_lexer.specs.Lexeme.{offset}
+use Rattle.sort_lexer.specs.Inner.Lexeme.{offset}
 
 chosen-then-left : (q : Bool) (b : ℕ) (r s bs : List ℕ) → r ++ s ≡ bs → cond q (b ∷ r) [] ++ cond q s (b ∷ bs) ≡ b ∷ bs
 chosen-then-left true b r s bs e = ap (λ (xs : List ℕ). b ∷ xs) e

@@ -10,7 +10,7 @@ use lib.Seq.{drop-cons}
 use lib.Dec.{eqb}
 use borrow.Author.Tests.{eq-eqb, ne-eqb}
 use Rattle.sort_text.specs.Tokens.{skip, past}
-use Rattle.sort_lexer.specs.Lexeme.{offset}
+use Rattle.sort_lexer.specs.Inner.Lexeme.{offset}
 use Rattle.sort_lexer.proofs.Places.{place-drop}
 
 module _ (p : ℕ → Bool) (l : List ℕ) (at i : ℕ) (inv : past p (drop at l) ≡ past p (drop i l)) where

@@ -12,7 +12,7 @@ use Rattle.sort_text.specs.Tokens.{isLetter, NextToken, word, open-bracket, clo
 use Rattle.sort_lexer.specs.declared.Token.{Token}
 use Rattle.sort_lexer.specs.declared.Token.the-variants.{End, Word, Open, Close, Hash, Arrow, Bad}
 use Rattle.sort_lexer.specs.declared.Lexeme.{Lexeme}
-use Rattle.sort_lexer.specs.Lexeme.{offset, lexeme, lexemeOf}
+use Rattle.sort_lexer.specs.Inner.Lexeme.{offset, lexeme, lexemeOf}
 use Rattle.sort_lexer.proofs.Places.{place-drop, left-without-spaces}
 
 -- the token that a byte starts, by the byte

@@ -1,3 +1,2 @@
 -- Tokens with their positions, and what a word says, as the code answers them.
-pub mod Lexeme
-pub mod Meant
+pub mod Inner

@@ -7,8 +7,8 @@ ghost use Prim.Native.Nat.{_-_};
 ghost use lib.ListN.{take, drop};
 ghost use Rattle.sort_text.specs.Tokens.{isLetter, skip, past};
 ghost use Rattle.sort_text.specs.Parse.{sameBytes, meaning};
-ghost use Rattle.sort_lexer.specs.Lexeme.{offset, lexemeOf};
-ghost use Rattle.sort_lexer.specs.Meant.{meant, containerMeaning};
+ghost use Rattle.sort_lexer.specs.Inner.Lexeme.{offset, lexemeOf};
+ghost use Rattle.sort_lexer.specs.Inner.Meant.{meant, containerMeaning};
 
 // A token of a line: a longest run of letters, `(`, `)`, `#`, `->`; any other byte starts a token that cannot follow.
 pub enum Token {

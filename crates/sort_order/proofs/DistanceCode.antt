@@ -13,14 +13,15 @@ use Rattle.resolved_sort.specs.declared.Widening.{Widening}
 use Rattle.resolved_sort.specs.declared.Widening.the-variants.{Distance, Nothing as NoDistance}
 use Rattle.resolved_sort.specs.Tree.{primitive, flat, levelOp}
 use Rattle.resolved_sort.specs.Order.{leOp, Steps, onlyIf, map₁, map₂, stoppedSum, allSteps, distance, distances}
-use Rattle.resolved_sort.specs.Storage.{entryAt, entriesOf, lookAll, argsAt}
+use Rattle.resolved_sort.specs.Storage.{entryAt, entriesOf, lookAll}
+use Rattle.resolved_sort.specs.Inner.Storage.{argsAt}
 use Rattle.resolved_sort.specs.Entries.{treeAt, wideningOf}
 use Rattle.resolved_sort.proofs.Distance.{distance-flips, distance-of-equal}
 use Rattle.resolved_sort.proofs.Pairs.{Unlike, OfPrimitives, OfContainers, OfFunctions}
 use Rattle.resolved_sort.proofs.Unlikes.{unlike-distance}
 use Rattle.sort_order.specs.declared.Amount.{Amount}
 use Rattle.sort_order.specs.declared.Amount.the-variants.{Of, Nothing}
-use Rattle.sort_order.specs.Answers.{amountOf, opSteps, beneath, moreSteps}
+use Rattle.sort_order.specs.Inner.Answers.{amountOf, opSteps, beneath, moreSteps}
 use Rattle.sort_order.proofs.Runs.{first-arg}
 
 -- What comes before the distance of a part, and that distance: of an operator, of the arguments of a function.

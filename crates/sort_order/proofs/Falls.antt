@@ -10,7 +10,7 @@ use Rattle.resolved_sort.specs.Storage.{entryAt, entriesOf}
 use Rattle.resolved_sort.specs.Rows.{Checked}
 use Rattle.resolved_sort.proofs.Pairs.{OfContainers, OfFunctions}
 use Rattle.resolved_sort.proofs.Said.{topOf, top-below, first-below-top, rest-below-top}
-use Rattle.sort_order.specs.Runs.{Runs}
+use Rattle.sort_order.specs.Inner.Runs.{Runs}
 use Rattle.sort_order.proofs.Runs.{runs-of-functions, lhs-first, rhs-first, runs-rest}
 
 -- what is left for two sorts, and for two runs of c entries; a run has at most 16

@@ -22,7 +22,7 @@ use Rattle.resolved_sort.proofs.Materializable.{materializable-refl}
 use Rattle.resolved_sort.proofs.SameNumbers.{number-of-tree, same-by-number, sames-by-entries}
 use Rattle.resolved_sort.proofs.Pairs.{Unlike, OfPrimitives, OfContainers, OfFunctions}
 use Rattle.resolved_sort.proofs.Unlikes.{unlike-materializable}
-use Rattle.sort_order.specs.Answers.{isBelow}
+use Rattle.sort_order.specs.Inner.Answers.{isBelow}
 
 -- Below is "equal to or below" of two that differ.
 below-of-different : (x y : Bool) → (x ≡ true → y ≡ true → ⊥) → isBelow (orderOf x y) ≡ x

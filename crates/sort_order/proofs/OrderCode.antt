@@ -11,13 +11,14 @@ use Rattle.resolved_sort.specs.declared.PartialOrder.{PartialOrder}
 use Rattle.resolved_sort.specs.declared.PartialOrder.the-variants.{Unrelated, Equal}
 use Rattle.resolved_sort.specs.Tree.{primitive, Tree, flat, container, function, Trees, arg}
 use Rattle.resolved_sort.specs.Order.{leOp, le, les, order, orderOf}
-use Rattle.resolved_sort.specs.Storage.{entryAt, entriesOf, lookAll, argsAt}
+use Rattle.resolved_sort.specs.Storage.{entryAt, entriesOf, lookAll}
+use Rattle.resolved_sort.specs.Inner.Storage.{argsAt}
 use Rattle.resolved_sort.specs.Entries.{treeAt}
 use Rattle.resolved_sort.proofs.Order.{le-refl, le-flips}
 use Rattle.resolved_sort.proofs.Pairs.{Unlike, OfPrimitives, OfContainers, OfFunctions}
 use Rattle.resolved_sort.proofs.Unlikes.{unlike-order}
-use Rattle.sort_order.specs.Answers.{combined}
-use Rattle.sort_order.specs.Runs.{argsOrder}
+use Rattle.sort_order.specs.Inner.Answers.{combined}
+use Rattle.sort_order.specs.Inner.Runs.{argsOrder}
 use Rattle.sort_order.proofs.Orders.{combined-orders}
 use Rattle.sort_order.proofs.Runs.{first-arg}
 

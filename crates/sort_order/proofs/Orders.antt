@@ -15,7 +15,7 @@ use Rattle.resolved_sort.specs.Order.{leOp, le, order, orderOf, onlyIf, distanc
 use Rattle.resolved_sort.specs.Entries.{wideningOf}
 use Rattle.sort_order.specs.declared.Amount.{Amount}
 use Rattle.sort_order.specs.declared.Amount.the-variants.{Of, Nothing}
-use Rattle.sort_order.specs.Answers.{combined, amountOf, generality, opSteps}
+use Rattle.sort_order.specs.Inner.Answers.{combined, amountOf, generality, opSteps}
 
 pub combined-equal : (o : PartialOrder) → o ≡ combined Equal o
 unfolding combined

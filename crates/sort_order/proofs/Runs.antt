@@ -5,12 +5,13 @@ use Prim.Native.Nat.{ℕ, _+_, _-_, _<_}
 use native.Mathlib.Omega.{arith}
 use Rattle.resolved_sort.specs.declared.SortId.{SortId}
 use Rattle.resolved_sort.specs.Tree.{arg}
-use Rattle.resolved_sort.specs.Storage.{entryAt, lookAll, argsAt}
+use Rattle.resolved_sort.specs.Storage.{entryAt, lookAll}
+use Rattle.resolved_sort.specs.Inner.Storage.{argsAt}
 use Rattle.resolved_sort.specs.Entries.{treeAt}
 use Rattle.resolved_sort.specs.Rows.{Checked}
 use Rattle.resolved_sort.proofs.Pairs.{OfFunctions}
 use Rattle.resolved_sort.proofs.Said.{entry-below, first-entry}
-use Rattle.sort_order.specs.Runs.{Runs}
+use Rattle.sort_order.specs.Inner.Runs.{Runs}
 
 pub runs-of-functions : {ws : List ℕ} {n e a b c ls rs : ℕ} {lr rr : SortId} → Checked ws n e → a < n → b < n → OfFunctions ws n e a b c ls lr rs rr → Runs ws n e ls rs c
 runs-of-functions {ws} {n} {e} {a} {b} {c} {ls} {rs} k ha hb f =

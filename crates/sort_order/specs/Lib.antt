@@ -1,3 +1,2 @@
 -- What the contracts of this crate cite beside the definitions of the sorts layer.
-pub mod Answers
-pub mod Runs
+pub mod Inner

@@ -12,15 +12,7 @@ use Rattle.resolved_sort.specs.Entries.{refusedOr, Stored, stored}
 use Rattle.sort_text.specs.declared.Read.the-variants.{Refused}
 use Rattle.sort_text.specs.Parse.{Parsed, parsed, stuck, line}
 use Rattle.sort_text.specs.Reading.{store, readChecks, codeRead, ReadLeft, readLeft, storedBy, readAs, reading}
-
-abbrev pub roomCode : Joined → ℕ
-roomCode (At s k) = 0
-roomCode (Nothing k) = 15
-roomCode Full = 15
-
-abbrev pub lineCode : List ℕ → ℕ → ℕ → Parsed → ℕ
-lineCode ws n e (parsed t cs) = roomCode ((stored ws n e (store t (sortsOf ws n e))) .answer)
-lineCode ws n e (stuck cs) = 20
+use Rattle.sort_reader.specs.Codes.{roomCode, lineCode}
 
 stored-code : (ws : List ℕ) (n e : ℕ) (r : Stored) (j : Joined) → codeRead ((storedBy ws n e r j) .answer) ≡ roomCode j
 unfolding storedBy codeRead

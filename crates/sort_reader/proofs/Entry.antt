@@ -1,46 +1,45 @@
 -- The tests of a line, one after another; what the recognised steps store; and what stays of it. Assumes nothing.
-use mathlib.Core.Path.{_≡_, refl, sym, _∙_, ap, ap₂, subst}
-use mathlib.Core.Bool.{Bool, true, false, cond, _&&_, and-eq-true-iff}
-use mathlib.Core.List.{List, [], _∷_, _++_}
-use mathlib.Core.Option.{Option, none, some}
-use Prim.Native.Nat.{ℕ, zero, suc, _+_, _-_, _*_, _≤_, _<_}
+use mathlib.Core.Path.{_≡_, refl, sym, _∙_, ap, subst}
+use mathlib.Core.Bool.{Bool, true, _&&_, and-eq-true-iff}
+use mathlib.Core.List.{List, [], _∷_}
+use Prim.Native.Nat.{ℕ, zero, suc, _-_, _*_, _≤_, _<_}
 use native.Mathlib.Omega.{arith}
-use lib.ListN.{length, getD, take, drop, length-take, length-drop}
-use lib.Dec.{leb, ltb, eqb}
+use lib.ListN.{length, take, drop, length-take, length-drop}
+use lib.Dec.{leb, eqb}
 use borrow.Author.Tests.{leb-true, le-leb, lt-leb, eqb-true}
 use Rattle.resolved_sort.specs.declared.Sort as Sorts
 use Rattle.resolved_sort.specs.declared.Tested.{Tested}
 use Rattle.resolved_sort.specs.declared.Tested.the-variants.{Refused, Passed}
 use Rattle.resolved_sort.specs.declared.Joined.{Joined}
-use Rattle.resolved_sort.specs.declared.Joined.the-variants.{At, Nothing, Full}
-use Rattle.resolved_sort.specs.Tree.{Tree, primitive, flat}
+use Rattle.resolved_sort.specs.Tree.{Tree}
 use Rattle.resolved_sort.specs.Interning.{look, member, Outcome, made, nothing, full}
-use Rattle.resolved_sort.specs.Storage.{maxSorts, maxEntries, fullLength, entriesAt, kindAt, wordsAt, treeOf, Row, givenBack, trees, sortsOf}
+use Rattle.resolved_sort.specs.Storage.{maxSorts, maxEntries, fullLength, entriesAt, kindAt, wordsAt, treeOf, Row, trees, sortsOf}
 use Rattle.resolved_sort.specs.Checks.{withinLent, fixedSix, atCeiling, Check, firstFailing, sortChecks}
-use Rattle.resolved_sort.specs.Entries.{testedOf, refusedOr, Stored, stored}
-use Rattle.resolved_sort.specs.Rows.{Checked, storedAt}
+use Rattle.resolved_sort.specs.Inner.Entries.{testedOf}
+use Rattle.resolved_sort.specs.Entries.{stored}
+use Rattle.resolved_sort.specs.Rows.{storedAt}
 use Rattle.resolved_sort.proofs.Below.{below-each}
 use Rattle.resolved_sort.proofs.Numbers.{member-look}
 use Rattle.resolved_sort.proofs.Trees.{length-trees, look-row}
 use Rattle.resolved_sort.proofs.Grown.{grown-none}
-use Rattle.resolved_sort.proofs.Kept.{Kept, InTree}
+use Rattle.resolved_sort.specs.Growing.{Kept, InTree}
 use Rattle.resolved_sort.proofs.GivenBack.{made-is-given-back}
 use Rattle.resolved_sort.proofs.FirstFailing.{first-fails, first-passes, append-fails, append-passes, cons-passes}
 use Rattle.resolved_sort.proofs.Testing.{refused-is, passed-is}
 use Rattle.sort_text.specs.declared.Read.{Read}
 use Rattle.sort_text.specs.declared.Read.the-variants.{Refused as NotRead, NotASort, Sort, NoRoom}
 use Rattle.sort_text.specs.Parse.{Parsed, parsed, stuck, line}
-use Rattle.sort_text.specs.Postfix.{Short, sixth, postfix, steps}
-use Rattle.sort_text.specs.Reading.{store, shortLine, readChecks, ReadLeft, readLeft, storedBy, readAs, reading}
-use Rattle.sort_text.proofs.Stores.{HasPrimitives, steps-are-store}
-use Rattle.sort_text.proofs.Running.{HasSix, InStack, steps-kept}
+use Rattle.sort_text.specs.Postfix.{Short, sixth, postfix, steps, HasPrimitives, HasSix, InStack}
+use Rattle.sort_text.specs.Reading.{store, shortLine, readChecks, readLeft, storedBy, readAs, reading}
+use Rattle.sort_text.proofs.Stores.{steps-are-store}
+use Rattle.sort_text.proofs.Running.{steps-kept}
 use Rattle.sort_text.proofs.WhatIsRead.{line-writable}
 use Rattle.sort_text.proofs.LineSteps.{line-steps-short}
 use Rattle.sort_recogniser.specs.declared.Recognised.{Recognised}
 use Rattle.sort_recogniser.specs.declared.Recognised.the-variants.{Done, Stuck}
-use Rattle.sort_recogniser.specs.Says.{Wrote, Says}
-use Rattle.sort_reader.specs.Run.{stackOf, runAt, Running}
-use Rattle.sort_reader.specs.Tested.{Passes, keptOrNoRoom}
+use Rattle.sort_recogniser.specs.Inner.Says.{Says}
+use Rattle.sort_reader.specs.Inner.Run.{stackOf, runAt, Running}
+use Rattle.sort_reader.specs.Inner.Tested.{Passes, keptOrNoRoom}
 
 -- checks 14 and 19
 module _ (ws : List ℕ) (n e : ℕ) (bs : List ℕ) (t : Tested) (et : t ≡ testedOf (firstFailing (sortChecks ws n e))) where

@@ -1,42 +1,40 @@
 -- The steps on a stack of numbers as the code meets them: each law's premises are what a callee ensures, what a test says or what a
 -- match binds, and its conclusion is the call's own equation. Assumes nothing.
 use mathlib.Core.Path.{_≡_, refl, sym, _∙_, ap, ap₂, subst}
-use mathlib.Core.Bool.{Bool, true, false, cond, _&&_, and-eq-true-iff}
+use mathlib.Core.Bool.{Bool, true, false, and-eq-true-iff}
 use mathlib.Core.List.{List, [], _∷_, _++_}
-use mathlib.Core.Logic.{_≢_}
 use Prim.Native.Nat.{ℕ, zero, suc, _+_, _-_, _≤_, _<_}
 use native.Mathlib.Omega.{arith}
 use native.Mathlib.Numerals.{add-one}
 use native.Mathlib.Decide.{ℕ-discrete}
-use lib.ListN.{length, getD, drop, take, set, length-set, drop-of-length-le, length-take, length-drop}
+use lib.ListN.{length, getD, drop, take, set, drop-of-length-le, length-take, length-drop}
 use lib.Seq.{drop-cons, take-suc, take-suc-set, getD-set-same, getD-set-other, getD-drop, getD-take}
-use lib.Dec.{leb, ltb}
+use lib.Dec.{ltb}
 use borrow.Author.Tests.{lt-ltb, le-ltb}
 use Rattle.resolved_sort.specs.declared.SortId.{SortId}
 use Rattle.resolved_sort.specs.declared.Counts.{Counts}
-use Rattle.resolved_sort.specs.declared.ComplexSort.{ComplexSort}
 use Rattle.resolved_sort.specs.declared.Joined.{Joined}
 use Rattle.resolved_sort.specs.declared.Joined.the-variants.{At, Nothing, Full}
 use Rattle.resolved_sort.specs.Tree.{Tree, container, function, Trees, no-args, arg}
-use Rattle.resolved_sort.specs.Interning.{Sorts, look, member, need, Outcome, made, nothing, full, _then_, intern}
+use Rattle.resolved_sort.specs.Interning.{Sorts, look, member, need, made, nothing, _then_, intern}
 use Rattle.resolved_sort.specs.Storage.{maxEntries, trees, lookAll, sortsOf}
-use Rattle.resolved_sort.specs.Entries.{countsOf, after, Stored, stored}
-use Rattle.resolved_sort.specs.Rows.{Checked, AllBelow, storedAt}
+use Rattle.resolved_sort.specs.Entries.{after, Stored, stored}
+use Rattle.resolved_sort.specs.Rows.{AllBelow, storedAt}
 use Rattle.resolved_sort.specs.Bounds.{internAt}
 use Rattle.resolved_sort.proofs.Numbers.{member-look, look-grows}
 use Rattle.resolved_sort.proofs.Trees.{length-trees}
-use Rattle.resolved_sort.proofs.RowTrees.{partsIn, members}
-use Rattle.resolved_sort.proofs.Grown.{Grown, grown-none, sorts-again}
-use Rattle.resolved_sort.proofs.Unchanged.{longer, look-unchanged}
-use Rattle.resolved_sort.proofs.Kept.{Kept, InTree, Extends, intern-kept}
+use Rattle.resolved_sort.specs.Growing.{partsIn, members, Kept, InTree}
+use Rattle.resolved_sort.proofs.Grown.{grown-none}
+use Rattle.resolved_sort.proofs.Unchanged.{longer}
+use Rattle.resolved_sort.proofs.Kept.{intern-kept}
 use Rattle.resolved_sort.proofs.Reached.{Reached, reached, stopped, ended, reached-checked, reached-list, reached-trees, reached-below, reached-sort, reached-sorts, stored-again, here}
 use Rattle.resolved_sort.proofs.BoundsCode.{answer-old, answer-none, members-below}
 use Rattle.resolved_sort.proofs.Pairs.{arity-lookAll}
 use native.Mathlib.Nat.{add-zero}
-use Rattle.sort_text.specs.Postfix.{Short, sixth, opOf, containing, Popped, popped, not-enough, takeArguments, applied, mapping, stepOn, top, steps}
+use Rattle.sort_text.specs.Postfix.{Short, sixth, opOf, popped, not-enough, takeArguments, applied, stepOn, steps, InStack, HasSix}
 use Rattle.sort_text.proofs.Stores.{then-then, append, append-end}
-use Rattle.sort_text.proofs.Running.{InStack, HasSix, stack-extends, six-extends, steps-kept}
-use Rattle.sort_reader.specs.Run.{stackOf, runAt, Running, GoesOn, goOn, argumentsOf}
+use Rattle.sort_text.proofs.Running.{stack-extends, six-extends, steps-kept}
+use Rattle.sort_reader.specs.Inner.Run.{stackOf, runAt, Running, GoesOn, goOn, argumentsOf}
 
 -- stacks
 stack-in : (ws : List ℕ) (n e : ℕ) (ids : List ℕ) (d : ℕ) → ((j : ℕ) → j < d → getD ids j 0 < n) → InStack (sortsOf ws n e) (stackOf (trees ws n) ids d)

@@ -1,3 +1,3 @@
 -- What the contracts of this crate cite beside the definitions of sort text.
-pub mod Run
-pub mod Tested
+pub mod Codes
+pub mod Inner

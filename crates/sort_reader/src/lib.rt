@@ -20,13 +20,13 @@ ghost use Prim.Native.Nat.{_+_, _-_, _<_, _≤_};
 ghost use lib.ListN.{length, drop, take, getD};
 ghost use Rattle.resolved_sort.specs.Rows.{storedAt};
 ghost use Rattle.sort_text.specs.Postfix.{opOf};
-ghost use Rattle.sort_reader.specs.Run.{maxStack, runAt, Running, GoesOn, goOn, argumentsOf};
+ghost use Rattle.sort_reader.specs.Inner.Run.{maxStack, runAt, Running, GoesOn, goOn, argumentsOf};
 ghost use Rattle.resolved_sort.specs.Storage.{maxSorts, maxEntries, fullLength, maxArguments};
 ghost use Rattle.resolved_sort.specs.Checks.{firstFailing};
-ghost use Rattle.resolved_sort.specs.Entries.{testedOf};
+ghost use Rattle.resolved_sort.specs.Inner.Entries.{testedOf};
 ghost use Rattle.sort_text.specs.Parse.{line as lineOf};
 ghost use Rattle.sort_text.specs.Reading.{readChecks, readLeft, readAs, reading};
-ghost use Rattle.sort_reader.specs.Tested.{Passes, keptOrNoRoom};
+ghost use Rattle.sort_reader.specs.Inner.Tested.{Passes, keptOrNoRoom};
 
 // The operator of a container step.
 fn operator(step: u8) -> ComplexSort

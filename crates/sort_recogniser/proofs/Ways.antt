@@ -5,13 +5,13 @@ use mathlib.Core.List.{List, [], _∷_, _++_, append-assoc, append-nil}
 use Prim.Native.Nat.{ℕ, zero, suc, _+_, _-_, _≤_, _<_}
 use native.Mathlib.Omega.{arith}
 use native.Mathlib.Numerals.{add-one}
-use lib.ListN.{length, drop, take, set, length-take, length-drop, drop-of-length-le}
+use lib.ListN.{length, drop, take, set, drop-of-length-le}
 use lib.Seq.{take-suc-set}
 use Rattle.resolved_sort.specs.declared.Sort.{Sort}
 use Rattle.resolved_sort.specs.declared.ComplexSort.{ComplexSort}
 use Rattle.resolved_sort.specs.Tree.{primitive, Tree, flat, container, function, Trees, no-args, arg, arity}
 use Rattle.resolved_sort.specs.Storage.{kindFlat, kindOp}
-use Rattle.sort_text.specs.Tokens.{isLetter, NextToken, word, open-bracket, close-bracket, hash, arrow, skip, next, end, bad}
+use Rattle.sort_text.specs.Tokens.{isLetter, hash, arrow, skip, next}
 use Rattle.sort_text.specs.Parse.{Parsed, parsed, stuck, _then-read_, WordMeaning, basic, operator, unknown, meaning, closing, bracketed, operandOf, operandAt, operand, snoc, alone, restAt, rest, sort, ending, line}
 use Rattle.sort_text.specs.Postfix.{postfix, postfixes}
 use Rattle.sort_text.proofs.Depth.{sort-is}
@@ -21,12 +21,12 @@ use Rattle.sort_lexer.specs.declared.Token.the-variants.{End, Word, Open, Close
 use Rattle.sort_lexer.specs.declared.Lexeme.{Lexeme}
 use Rattle.sort_lexer.specs.declared.Meaning.{Meaning as Meant}
 use Rattle.sort_lexer.specs.declared.Meaning.the-variants.{Basic, Over, Unknown}
-use Rattle.sort_lexer.specs.Lexeme.{lexemeOf, saidBy, said, least}
-use Rattle.sort_lexer.specs.Meant.{meant}
+use Rattle.sort_lexer.specs.Inner.Lexeme.{lexemeOf, saidBy, said, least}
+use Rattle.sort_lexer.specs.Inner.Meant.{meant}
 use Rattle.sort_lexer.proofs.Lexemes.{starts-without-spaces, ends-within, goes-on, goes-at-least-from, next-is-said, next-is-word, next-is-open, next-is-close, next-is-hash, next-is-arrow, next-is-end}
 use Rattle.sort_recogniser.specs.declared.Recognised.{Recognised}
 use Rattle.sort_recogniser.specs.declared.Recognised.the-variants.{Done, Stuck}
-use Rattle.sort_recogniser.specs.Says.{Wrote, Says, SaysClosing, SaysRest}
+use Rattle.sort_recogniser.specs.Inner.Says.{Wrote, Says, SaysClosing, SaysRest}
 
 -- one step more
 one-more : (out : List ℕ) (m v : ℕ) → m < length out → take (m + 1) (set out m v) ≡ take m out ++ (v ∷ [])

@@ -1,2 +1,2 @@
 -- What the contracts of this crate cite beside the definitions of sort text.
-pub mod Says
+pub mod Inner

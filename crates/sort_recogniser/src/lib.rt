@@ -15,7 +15,7 @@ ghost use lib.ListN.{length, drop, take};
 ghost use Rattle.resolved_sort.specs.Tree.{primitive};
 ghost use Rattle.resolved_sort.specs.Storage.{kindFlat, kindOp, maxArguments};
 ghost use Rattle.sort_text.specs.Tokens.{isLetter, skip, next};
-ghost use Rattle.sort_recogniser.specs.Says.{Says, SaysClosing, SaysRest};
+ghost use Rattle.sort_recogniser.specs.Inner.Says.{Says, SaysClosing, SaysRest};
 ghost use Rattle.sort_text.specs.Parse as Parse;
 
 // The position after a sort and the number of steps written; or where the first token stands that cannot follow.

@@ -8,8 +8,8 @@ use lib.ListN.{length}
 use Rattle.resolved_sort.specs.declared.ComplexSort.{ComplexSort}
 use Rattle.resolved_sort.specs.Tree.{Tree, function, Trees, no-args, arg}
 use Rattle.sort_text.specs.Tokens.{isLetter, NextToken, end, word, open-bracket, close-bracket, hash, arrow, bad, skip, next}
-use Rattle.sort_text.specs.Parse.{Parsed, parsed, stuck, _then-read_, WordMeaning, basic, operator, unknown, meaning, closing, bracketed, operandOf, operandAt, operand, snoc, restAt, rest, sortTo, sort}
-use Rattle.sort_text.proofs.Suffix.{suffix-length, left, Leaves, operand-suffix, sortTo-suffix}
+use Rattle.sort_text.specs.Parse.{Parsed, parsed, stuck, _then-read_, WordMeaning, basic, operator, unknown, meaning, closing, bracketed, operandOf, operandAt, operand, snoc, restAt, rest, sortTo, sort, left, Leaves}
+use Rattle.sort_text.proofs.Suffix.{suffix-length, operand-suffix, sortTo-suffix}
 use Rattle.sort_text.proofs.Progress.{word-takes, open-bracket-takes, hash-takes, arrow-takes}
 
 -- two ways to go on that agree on what is left

@@ -9,7 +9,8 @@ use Rattle.resolved_sort.specs.Tree.{Tree, function, Trees, no-args, arg, arity
 use Rattle.sort_text.specs.Tokens.{isLetter, NextToken, end, word, open-bracket, close-bracket, hash, arrow, bad, skip, next}
 use Rattle.sort_text.specs.Parse.{Parsed, parsed, _then-read_, closing, bracketed, operandOf, operandAt, operand, snoc, alone, restAt, rest, sort, ending, line}
 use Rattle.sort_text.proofs.Depth.{sort-is}
-use Rattle.sort_text.proofs.Grammar.{Operand, basic-sort, container-of, SortOf, one-operand, function-of, Operands, first, another, arity-snoc, LineOf, line-derived}
+use Rattle.sort_text.specs.Grammar.{Operand, basic-sort, container-of, SortOf, one-operand, function-of, Operands, first, another, LineOf}
+use Rattle.sort_text.proofs.Grammar.{arity-snoc, line-derived}
 
 -- the tokens after which a sort is not continued
 abbrev pub Stops : NextToken → Type 0

@@ -1,30 +1,15 @@
 -- The grammar as derivations: what each answer of the reader rests on, so that a law of read sorts goes by induction on how they
 -- were read. A sort that is read has a derivation, by the clauses of the definitions. Assumes nothing.
 use mathlib.Core.Path.{_≡_, refl}
-use mathlib.Core.List.{List, []}
+use mathlib.Core.List.{List}
 use Prim.Native.Nat.{ℕ, zero, suc, _+_, _≤_}
 use native.Mathlib.Omega.{arith}
-use Rattle.resolved_sort.specs.declared.Sort.{Sort}
 use Rattle.resolved_sort.specs.declared.ComplexSort.{ComplexSort}
-use Rattle.resolved_sort.specs.Tree.{primitive, Tree, flat, container, function, Trees, no-args, arg, arity}
+use Rattle.resolved_sort.specs.Tree.{Tree, Trees, no-args, arg, arity}
 use Rattle.sort_text.specs.Tokens.{isLetter, NextToken, end, word, open-bracket, close-bracket, hash, arrow, bad, skip, next}
 use Rattle.sort_text.specs.Parse.{Parsed, parsed, _then-read_, WordMeaning, basic, operator, unknown, meaning, closing, bracketed, operandOf, operandAt, operand, snoc, alone, restAt, rest, sortTo, sort, ending, line}
 use Rattle.sort_text.proofs.Progress.{IfRead, then-if-read, read}
-
--- the sort, operand or operands that the bytes begin with, and the bytes after it
-mutual
-  pub data Operand : List ℕ → Tree → List ℕ → Type 0 where
-    basic-sort : {bs w cs : List ℕ} {s : Sort} → next isLetter bs ≡ word w cs → meaning w ≡ basic s → Operand bs (flat (primitive s)) cs
-    container-of : {bs w cs ds es fs : List ℕ} {o : ComplexSort} {t : Tree} → next isLetter bs ≡ word w cs → meaning w ≡ operator o
-        → next isLetter cs ≡ open-bracket ds → SortOf ds t es → next isLetter es ≡ close-bracket fs → Operand bs (container o t) fs
-
-  pub data SortOf : List ℕ → Tree → List ℕ → Type 0 where
-    one-operand : {bs cs : List ℕ} {t : Tree} → Operand bs t cs → SortOf bs t cs
-    function-of : {bs cs ds es : List ℕ} {ts : Trees} {r : Tree} → Operands bs ts cs → arity ts ≤ 16 → next isLetter cs ≡ arrow ds → SortOf ds r es → SortOf bs (function ts r) es
-
-  pub data Operands : List ℕ → Trees → List ℕ → Type 0 where
-    first : {bs cs : List ℕ} {t : Tree} → Operand bs t cs → Operands bs (arg t no-args) cs
-    another : {bs cs ds es : List ℕ} {ts us : Trees} {t : Tree} → Operands bs ts cs → next isLetter cs ≡ hash ds → Operand ds t es → us ≡ snoc ts t → Operands bs us es
+use Rattle.sort_text.specs.Grammar.{Operand, SortOf, Operands, basic-sort, container-of, one-operand, function-of, first, another, LineOf}
 
 -- a reader of sorts
 abbrev pub Reads : (List ℕ → Parsed) → Type 0
@@ -127,10 +112,6 @@ sortTo-reads (suc d) bs = step-read (sortTo d) (sortTo-reads d) bs
 pub sort-derived : (bs cs : List ℕ) (t : Tree) → sort bs ≡ parsed t cs → SortOf bs t cs
 unfolding sort
 sort-derived bs cs t e = read (SortOf bs) (sort bs) t cs (sortTo-reads _ bs) e
-
--- a sort of a line, with what is left after it: spaces only
-abbrev pub LineOf : List ℕ → Tree → List ℕ → Type 0
-LineOf bs t cs = (ds : List ℕ) × SortOf bs t ds × (next isLetter ds ≡ end) × (cs ≡ [])
 
 ending-read : {bs cs : List ℕ} {t : Tree} → SortOf bs t cs → (at : List ℕ) (n : NextToken) → next isLetter cs ≡ n → IfRead (LineOf bs) (ending t at n)
 unfolding ending

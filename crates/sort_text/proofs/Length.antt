@@ -15,7 +15,8 @@ use Rattle.sort_text.specs.Tokens.{isLetter}
 use Rattle.sort_text.specs.Parse.{parsed, opWord, snoc, line}
 use Rattle.sort_text.specs.Text.{flatText, text, texts, more}
 use Rattle.sort_text.proofs.Progress.{word-takes, open-bracket-takes, close-bracket-takes, hash-takes, arrow-takes}
-use Rattle.sort_text.proofs.Grammar.{Operand, basic-sort, container-of, SortOf, one-operand, function-of, Operands, first, another, line-derived}
+use Rattle.sort_text.specs.Grammar.{Operand, basic-sort, container-of, SortOf, one-operand, function-of, Operands, first, another}
+use Rattle.sort_text.proofs.Grammar.{line-derived}
 use Rattle.sort_text.proofs.Words.{sortWord-length, opWord-length, basic-long, over-long}
 
 -- the length of the text, were every word of four letters

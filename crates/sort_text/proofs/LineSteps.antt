@@ -13,7 +13,8 @@ use Rattle.resolved_sort.specs.Tree.{Flat, unit, primitive, def, typevar, Tree,
 use Rattle.resolved_sort.specs.Storage.{kindFlat, kindOp}
 use Rattle.sort_text.specs.Parse.{parsed, line}
 use Rattle.sort_text.specs.Postfix.{postfix, postfixes, Short}
-use Rattle.sort_text.proofs.Readable.{readable, arguments, size, sizes, function-readable, argument-readable}
+use Rattle.sort_text.specs.Readable.{readable, arguments, size, sizes}
+use Rattle.sort_text.proofs.Readable.{function-readable, argument-readable}
 use Rattle.sort_text.proofs.WhatIsRead.{line-readable, line-nodes}
 use Rattle.sort_text.proofs.Sizes.{entries-below-size}
 

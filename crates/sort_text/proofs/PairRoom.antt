@@ -12,9 +12,10 @@ use Rattle.resolved_sort.specs.Interning.{Sorts, member, need, Outcome, made, n
 use Rattle.resolved_sort.specs.Storage.{sortsOf}
 use Rattle.sort_text.specs.Parse.{parsed, line}
 use Rattle.sort_text.specs.Reading.{store, stores}
-use Rattle.sort_text.proofs.Readable.{size, sizes}
+use Rattle.sort_text.specs.Readable.{size, sizes}
 use Rattle.sort_text.proofs.WhatIsRead.{line-nodes}
 use Rattle.sort_text.proofs.Sizes.{entriesOf, entriesIn, entries-below-size, Spent, Within, within-more, within-then, intern-within, made-within, AnyTree, make-within}
+use Rattle.sort_text.specs.PairRoom.{listAfter, isFull, twoStored, PairFits}
 
 abbrev pub Is : {A : Type 0} → A → A → Type 0
 Is t u = u ≡ t
@@ -94,17 +95,6 @@ mutual
   stores-make no-args S = tt
   stores-make (arg t ts) S = makes-then (store t S) _ (store-makes t S) (λ u S₁. makes-then (stores ts S₁) _ (stores-make ts S₁) (λ us S₂. tt))
 
--- the list that an outcome leaves, and whether room had ended
-unfoldable pub listAfter : {A : Type 0} → Outcome A → Sorts
-listAfter (made a S) = S
-listAfter (nothing S) = S
-listAfter (full S) = S
-
-unfoldable pub isFull : {A : Type 0} → Outcome A → Bool
-isFull (made a S) = false
-isFull (nothing S) = false
-isFull (full S) = true
-
 pub within-fits : {A : Type 0} (In : A → Type 0) (k j : ℕ) (S : Sorts) (O : Outcome A) → Within In k j S O → (isFull O ≡ false) × Spent k j S (listAfter O)
 unfolding Within isFull listAfter
 within-fits In k j S (made a S′) h = (refl, h .1)
@@ -121,16 +111,6 @@ make-fits up s t S p q =
     let l = entries-below-size s in
     within-fits AnyTree (size s) (size s) S (make up s t S)
     (within-more AnyTree (size s) (entriesOf s) (size s) (size s) S (make up s t S) (omega arith) (omega arith) (make-within up s t S p (omega arith)))
-
--- Both sorts of a pair stored, then their join, then their meet, each from what the one before leaves: none finds room ended.
-abbrev pub twoStored : Tree → Tree → Sorts → Sorts
-twoStored s t S = listAfter (store t (listAfter (store s S)))
-
-pub record PairFits (s t : Tree) (S : Sorts) : Type 0 where
-  pub first : isFull (store s S) ≡ false
-  pub second : isFull (store t (listAfter (store s S))) ≡ false
-  pub join : isFull (make true s t (twoStored s t S)) ≡ false
-  pub meet : isFull (make false s t (listAfter (make true s t (twoStored s t S)))) ≡ false
 
 -- 800 sorts and 800 entries are room enough.
 pub pair-fits : (bs cs bs′ cs′ : List ℕ) (s t : Tree) (S : Sorts) → length bs ≤ 200 → length bs′ ≤ 200 → line bs ≡ parsed s cs → line bs′ ≡ parsed t cs′

@@ -9,8 +9,8 @@ use lib.ListN.{length, length-append}
 use lib.Dec.{eqb}
 use Rattle.resolved_sort.specs.Tree.{Tree, no-args, arg}
 use Rattle.sort_text.specs.Tokens.{isLetter, NextToken, end, word, open-bracket, close-bracket, hash, arrow, bad, run, past, skip, dash, start, nextAt, next}
-use Rattle.sort_text.specs.Parse.{Parsed, parsed, stuck, _then-read_, WordMeaning, basic, operator, unknown, meaning, bracketed, operandOf, operandAt, operand, rest, sortTo, sort}
-use Rattle.sort_text.proofs.Suffix.{after, suffix-length, skip-suffix, next-suffix, run-past, left, Leaves, bracketed-suffix, rest-suffix, sortTo-suffix}
+use Rattle.sort_text.specs.Parse.{Parsed, parsed, stuck, _then-read_, WordMeaning, basic, operator, unknown, meaning, bracketed, operandOf, operandAt, operand, rest, sortTo, sort, left, Leaves}
+use Rattle.sort_text.proofs.Suffix.{after, suffix-length, skip-suffix, next-suffix, run-past, bracketed-suffix, rest-suffix, sortTo-suffix}
 
 -- the bytes of a token, and 1 for a token that is there
 abbrev pub width : NextToken → ℕ

@@ -7,11 +7,11 @@ use mathlib.Core.Option.{some, none}
 use Prim.Native.Nat.{ℕ, _+_}
 use lib.Dec.{eqb, leb}
 use Rattle.resolved_sort.specs.Tree.{Flat, Tree, flat, container, function, Trees, no-args, arg, arity, family, level}
-use Rattle.resolved_sort.specs.Order.{leLevel, boundFlat, boundOp, bound, bounds}
+use Rattle.resolved_sort.specs.Order.{leLevel, boundFlat, boundOp, bound, bounds, isFunction}
 use Rattle.sort_text.specs.Parse.{parsed, line}
 use Rattle.sort_text.specs.Text.{nonempty, flatWritable, writable, text}
-use Rattle.resolved_sort.proofs.Materializable.{isFunction}
-use Rattle.sort_text.proofs.Readable.{readable, arguments, function-readable, readable-function, argument-readable, readable-argument, readable-parts}
+use Rattle.sort_text.specs.Readable.{readable, arguments}
+use Rattle.sort_text.proofs.Readable.{function-readable, readable-function, argument-readable, readable-argument, readable-parts}
 use Rattle.sort_text.proofs.WhatIsRead.{line-readable}
 use Rattle.sort_text.proofs.RoundTrip.{line-of-text}
 use Rattle.sort_text.proofs.Length.{IfSome, map₁-if-some, map₂-if-some, any, if-some-is}

@@ -15,8 +15,9 @@ use Rattle.sort_text.specs.Tokens.{isLetter, NextToken, word, run, past,
 use Rattle.sort_text.specs.Parse.{parsed, _then-read_, sameBytes, sortWord, opWord, basic, operator, meaning, closing, bracketed, operandOf, operandAt, operand, snoc, alone, restAt, rest, sort, ending, line}
 use Rattle.sort_text.specs.Text.{nonempty, flatWritable, writable, betweenText, arrowText, text, texts, more}
 use Rattle.sort_text.proofs.Depth.{sort-is}
-use Rattle.resolved_sort.proofs.Materializable.{isFunction}
-use Rattle.sort_text.proofs.Readable.{readable, arguments, few, noFunctionArgument, and-left, and-right, function-readable, argument-readable, parts-readable}
+use Rattle.resolved_sort.specs.Order.{isFunction}
+use Rattle.sort_text.specs.Readable.{readable, arguments, few, noFunctionArgument}
+use Rattle.sort_text.proofs.Readable.{and-left, and-right, function-readable, argument-readable, parts-readable}
 use Rattle.sort_text.proofs.WhatIsRead.{line-readable}
 
 -- a word of letters before what starts with no letter is one token

@@ -1,28 +1,18 @@
 -- Steps keep the list grown from its storage, with the stack's sorts in it, as long as no step makes a function of more than 16
 -- arguments. By the clauses of `steps`. Assumes nothing.
-use mathlib.Core.Path.{_≡_, refl, sym, _∙_, ap, subst}
-use mathlib.Core.Bool.{Bool, true, false, cond, _&&_, and-eq-true-iff}
-use mathlib.Core.List.{List, [], _∷_, _++_}
-use Prim.Native.Nat.{ℕ, zero, suc, _+_, _-_, _≤_, _<_}
+use mathlib.Core.Path.{_≡_, refl, subst}
+use mathlib.Core.Bool.{Bool, true, false, cond, and-eq-true-iff}
+use mathlib.Core.List.{List, [], _∷_}
+use Prim.Native.Nat.{ℕ, zero, suc, _+_, _-_, _≤_}
 use native.Mathlib.Omega.{arith}
-use lib.Dec.{leb, ltb}
-use borrow.Author.Tests.{ltb-true, ltb-false}
+use lib.Dec.{ltb}
+use borrow.Author.Tests.{ltb-true}
 use Rattle.resolved_sort.specs.declared.ComplexSort.{ComplexSort}
-use Rattle.resolved_sort.specs.Tree.{unit, Tree, flat, container, function, Trees, no-args, arg, arity}
-use Rattle.resolved_sort.specs.Interning.{Sorts, member, Outcome, made, nothing, full, _then_, intern}
-use Rattle.resolved_sort.proofs.RowTrees.{members}
-use Rattle.resolved_sort.proofs.Grown.{Grown}
-use Rattle.resolved_sort.proofs.Kept.{Extends, extends-refl, member-extends, Kept, InTree, kept-then, container-interned, function-interned}
-use Rattle.sort_text.specs.Postfix.{Short, sixth, opOf, containing, Popped, popped, not-enough, takeArguments, applied, mapping, stepOn, top, steps}
-
--- the sorts of a stack are in the list
-unfoldable pub InStack : Sorts → List Tree → Type 0
-InStack S [] = Unit {0}
-InStack S (t ∷ st) = (member (S .trees) t ≡ true) × InStack S st
-
--- the fixed six are in the list
-abbrev pub HasSix : Sorts → Type 0
-HasSix S = (k : ℕ) → k < 6 → member (S .trees) (sixth k) ≡ true
+use Rattle.resolved_sort.specs.Tree.{Tree, container, function, Trees, no-args, arg, arity}
+use Rattle.resolved_sort.specs.Interning.{Sorts, member, made, nothing, _then_, intern}
+use Rattle.resolved_sort.specs.Growing.{members, Grown, Extends, Kept, InTree}
+use Rattle.resolved_sort.proofs.Kept.{extends-refl, member-extends, kept-then, container-interned, function-interned}
+use Rattle.sort_text.specs.Postfix.{Short, sixth, opOf, containing, Popped, popped, not-enough, takeArguments, applied, mapping, stepOn, top, steps, InStack, HasSix}
 
 pub stack-extends : (S S′ : Sorts) (st : List Tree) → Extends S S′ → InStack S st → InStack S′ st
 unfolding InStack

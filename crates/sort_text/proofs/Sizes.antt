@@ -14,7 +14,8 @@ use Rattle.resolved_sort.specs.Tree.{Tree, flat, container, function, Trees, no
 use Rattle.resolved_sort.specs.Order.{boundFlat, boundOp, bound, bounds}
 use Rattle.resolved_sort.specs.Interning.{Sorts, member, need, Outcome, made, nothing, full, _then_, where-some, fits, intern, make, makes}
 use Rattle.resolved_sort.proofs.Numbers.{true-not-false}
-use Rattle.sort_text.proofs.Readable.{size, sizes, and-both}
+use Rattle.sort_text.specs.Readable.{size, sizes}
+use Rattle.sort_text.proofs.Readable.{and-both}
 use Rattle.sort_text.proofs.Length.{IfSome, map₁-if-some, map₂-if-some, any, if-some-is}
 
 -- join and meet have as many nodes as their sorts

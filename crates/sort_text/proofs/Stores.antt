@@ -1,14 +1,12 @@
 -- Storing a sort: it answers that sort or ends for want of room, and carrying out the steps of a sort is storing it. By the clauses
 -- of `store`. Assumes nothing.
-use mathlib.Core.Path.{_≡_, refl, sym, _∙_, ap, ap₂, subst}
+use mathlib.Core.Path.{_≡_, refl, sym, _∙_, ap, subst}
 use mathlib.Core.Bool.{Bool, true, false, cond, _&&_, and-eq-true-iff}
 use mathlib.Core.List.{List, [], _∷_, _++_, append-assoc, append-nil}
-use Prim.Native.Nat.{ℕ, zero, suc, _+_, _-_, _≤_, _<_}
+use Prim.Native.Nat.{ℕ, _+_, _-_}
 use native.Mathlib.Omega.{arith}
 use native.Mathlib.Numerals.{add-one}
-use lib.ListN.{length}
-use lib.Dec.{leb, ltb}
-use borrow.Author.Tests.{lt-ltb, le-ltb}
+use borrow.Author.Tests.{le-ltb}
 use Rattle.resolved_sort.specs.declared.Sort.{Sort}
 use Rattle.resolved_sort.specs.declared.ComplexSort.{ComplexSort}
 use Rattle.resolved_sort.specs.Tree.{Flat, unit, primitive, def, typevar, Tree, flat, container, function, Trees, no-args, arg, arity}
@@ -17,11 +15,7 @@ use Rattle.resolved_sort.specs.Storage.{kindFlat, kindOp}
 use Rattle.resolved_sort.proofs.Numbers.{true-not-false, member-grows}
 use Rattle.sort_text.specs.Text.{nonempty, flatWritable, writable, writables}
 use Rattle.sort_text.specs.Reading.{store, stores}
-use Rattle.sort_text.specs.Postfix.{postfix, postfixes, sixth, opOf, containing, Popped, popped, not-enough, takeArguments, applied, mapping, stepOn, top, steps}
-
--- the primitive sorts are in the list
-abbrev pub HasPrimitives : Sorts → Type 0
-HasPrimitives S = (s : Sort) → member (S .trees) (flat (primitive s)) ≡ true
+use Rattle.sort_text.specs.Postfix.{postfix, postfixes, popped, takeArguments, stepOn, steps, HasPrimitives}
 
 -- an outcome that is the answer t, with the primitive sorts still in the list, or that room has ended
 unfoldable pub Stores : {A : Type 0} → A → Outcome A → Type 0

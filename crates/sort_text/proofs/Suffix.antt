@@ -11,12 +11,7 @@ use lib.Dec.{eqb}
 use Rattle.resolved_sort.specs.declared.ComplexSort.{ComplexSort}
 use Rattle.resolved_sort.specs.Tree.{Tree, Trees, no-args, arg}
 use Rattle.sort_text.specs.Tokens.{isLetter, NextToken, end, word, open-bracket, close-bracket, hash, arrow, bad, run, past, skip, dash, start, nextAt, next}
-use Rattle.sort_text.specs.Parse.{Parsed, parsed, stuck, _then-read_, WordMeaning, basic, operator, unknown, meaning, closing, bracketed, operandOf, operandAt, operand, snoc, alone, restAt, rest, sortTo, sort, ending, line}
-
--- the first list is an end of the second
-pub record Suffix (cs bs : List ℕ) : Type 0 where
-  pub front : List ℕ
-  pub whole : bs ≡ front ++ cs
+use Rattle.sort_text.specs.Parse.{Parsed, parsed, stuck, _then-read_, WordMeaning, basic, operator, unknown, meaning, closing, bracketed, operandOf, operandAt, operand, snoc, alone, restAt, rest, sortTo, sort, ending, line, Suffix, left, Leaves}
 
 pub suffix-refl : (bs : List ℕ) → Suffix bs bs
 suffix-refl bs = record { front = []; whole = refl }
@@ -99,15 +94,6 @@ nextAt-suffix p (b ∷ bs) = start-suffix p b bs
 pub next-suffix : (p : ℕ → Bool) (bs : List ℕ) → Suffix (after (skip bs) (next p bs)) bs
 unfolding next
 next-suffix p bs = suffix-trans (after (skip bs) (nextAt p (skip bs))) (skip bs) bs (nextAt-suffix p (skip bs)) (skip-suffix bs)
-
--- what an answer leaves of the line
-abbrev pub left : Parsed → List ℕ
-left (parsed t bs) = bs
-left (stuck bs) = bs
-
--- a reader that leaves an end of what it is given
-abbrev pub Leaves : (List ℕ → Parsed) → Type 0
-Leaves f = (bs : List ℕ) → Suffix (left (f bs)) bs
 
 pub then-suffix : (p : Parsed) (k : Tree → List ℕ → Parsed) (bs : List ℕ) → Suffix (left p) bs → ((t : Tree) (cs : List ℕ) → Suffix (left (k t cs)) cs) → Suffix (left (p then-read k)) bs
 then-suffix (parsed t cs) k bs h f = suffix-trans (left (k t cs)) cs bs (f t cs) h

@@ -12,9 +12,11 @@ use Rattle.sort_text.specs.Tokens.{isLetter}
 use Rattle.sort_text.specs.Parse.{parsed, snoc, sort, line}
 use Rattle.sort_text.specs.Text.{nonempty, writable}
 use Rattle.sort_text.proofs.Progress.{word-takes, open-bracket-takes, close-bracket-takes, hash-takes, arrow-takes}
-use Rattle.sort_text.proofs.Grammar.{Operand, basic-sort, container-of, SortOf, one-operand, function-of, Operands, first, another, sort-derived, line-derived}
-use Rattle.resolved_sort.proofs.Materializable.{isFunction}
-use Rattle.sort_text.proofs.Readable.{readable, arguments, few, noFunctionArgument, size, sizes, readable-function, readable-argument, argument-readable, readable-parts}
+use Rattle.sort_text.specs.Grammar.{Operand, basic-sort, container-of, SortOf, one-operand, function-of, Operands, first, another}
+use Rattle.sort_text.proofs.Grammar.{sort-derived, line-derived}
+use Rattle.resolved_sort.specs.Order.{isFunction}
+use Rattle.sort_text.specs.Readable.{readable, arguments, few, noFunctionArgument, size, sizes}
+use Rattle.sort_text.proofs.Readable.{readable-function, readable-argument, argument-readable, readable-parts}
 
 pub nonempty-snoc : (ts : Trees) (t : Tree) → nonempty (snoc ts t) ≡ true
 unfolding snoc

@@ -5,3 +5,6 @@ pub mod Text
 pub mod Reading
 pub mod Postfix
 pub mod Writing
+pub mod Grammar
+pub mod PairRoom
+pub mod Readable

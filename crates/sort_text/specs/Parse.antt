@@ -10,9 +10,9 @@ use Rattle.text_out.specs.Quoted.{bytesOf}
 use Rattle.resolved_sort.specs.declared.Sort.{Sort}
 use Rattle.resolved_sort.specs.declared.ComplexSort.{ComplexSort}
 use Rattle.resolved_sort.specs.Tree.{primitive, Tree, flat, container, function, Trees, no-args, arg}
-use Rattle.sort_text.specs.Tokens.{isLetter, NextToken, end, word, open-bracket, close-bracket, hash, arrow, bad}
-use Rattle.sort_text.specs.Tokens.{skip, next}
+use Rattle.sort_text.specs.Tokens.{isLetter, NextToken, end, word, open-bracket, close-bracket, hash, arrow, bad, skip, next}
 use Rattle.resolved_sort.specs.Storage.{maxArguments}
+use mathlib.Core.Path.{_≡_}
 
 -- a sort and what is left of the line after it, or what is left from the first token that cannot follow
 pub data Parsed : Type 0 where
@@ -149,3 +149,17 @@ ending t at bad = stuck at
 
 unfoldable pub line : List ℕ → Parsed
 line bs = sort bs then-read (λ t cs. ending t (skip cs) (next isLetter cs))
+
+-- the first list is an end of the second
+pub record Suffix (cs bs : List ℕ) : Type 0 where
+  pub front : List ℕ
+  pub whole : bs ≡ front ++ cs
+
+-- what an answer leaves of the line
+abbrev pub left : Parsed → List ℕ
+left (parsed t bs) = bs
+left (stuck bs) = bs
+
+-- a reader that leaves an end of what it is given
+abbrev pub Leaves : (List ℕ → Parsed) → Type 0
+Leaves f = (bs : List ℕ) → Suffix (left (f bs)) bs

@@ -1,15 +1,16 @@
 -- A sort as a list of steps, parts first: the order in which a line's sorts are stored. Recognising a line writes the
 -- steps, storing carries them out on a stack, so that a line which is no sort stores nothing.
-use mathlib.Core.Bool.{Bool, true, false, cond}
+use mathlib.Core.Bool.{Bool, true, cond}
 use mathlib.Core.List.{List, [], _∷_, _++_}
-use Prim.Native.Nat.{ℕ, zero, suc, _+_, _-_, _≤_}
-use lib.ListN.{length, getD}
-use lib.Dec.{leb, ltb}
+use Prim.Native.Nat.{ℕ, zero, suc, _+_, _-_, _≤_, _<_}
+use lib.ListN.{getD}
+use lib.Dec.{ltb}
 use Rattle.resolved_sort.specs.declared.Sort.{Sort}
 use Rattle.resolved_sort.specs.declared.ComplexSort.{ComplexSort}
 use Rattle.resolved_sort.specs.Tree.{unit, primitive, Tree, flat, container, function, Trees, no-args, arg, arity}
-use Rattle.resolved_sort.specs.Interning.{Sorts, Outcome, made, nothing, full, _then_, intern}
+use Rattle.resolved_sort.specs.Interning.{Sorts, Outcome, made, nothing, _then_, intern, member}
 use Rattle.resolved_sort.specs.Storage.{kindFlat, kindOp, functionKind, maxArguments}
+use mathlib.Core.Path.{_≡_}
 
 -- The steps: 0 to 5 the fixed six sorts, 6 to 10 a container over the sort before, functionStep + k a function of the k
 -- sorts before the range before.
@@ -79,3 +80,16 @@ steps (op ∷ ops) st S = stepOn op st S then (λ st S. steps ops st S)
 unfoldable pub Short : List ℕ → Type 0
 Short [] = Unit {0}
 Short (op ∷ ops) = (op ≤ functionStep + maxArguments) × Short ops
+
+-- the sorts of a stack are in the list
+unfoldable pub InStack : Sorts → List Tree → Type 0
+InStack S [] = Unit {0}
+InStack S (t ∷ st) = (member (S .trees) t ≡ true) × InStack S st
+
+-- the fixed six are in the list
+abbrev pub HasSix : Sorts → Type 0
+HasSix S = (k : ℕ) → k < 6 → member (S .trees) (sixth k) ≡ true
+
+-- the primitive sorts are in the list
+abbrev pub HasPrimitives : Sorts → Type 0
+HasPrimitives S = (s : Sort) → member (S .trees) (flat (primitive s)) ≡ true

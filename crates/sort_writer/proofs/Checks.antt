@@ -1,5 +1,5 @@
 -- The checks of writing, as the tests find the first that fails, and what it means that none fails. Assumes nothing.
-use mathlib.Core.Path.{_≡_, refl, sym, _∙_, ap, ap₂}
+use mathlib.Core.Path.{_≡_, refl, sym, _∙_, ap}
 use mathlib.Core.Bool.{Bool, true, false, cond, _&&_, and-eq-true-iff}
 use mathlib.Core.List.{List, [], _∷_, _++_}
 use mathlib.Core.Option.{Option, none, some}
@@ -13,15 +13,16 @@ use Rattle.resolved_sort.specs.declared.Tested.{Tested}
 use Rattle.resolved_sort.specs.declared.Tested.the-variants.{Refused, Passed}
 use Rattle.resolved_sort.specs.Storage.{maxSorts, maxEntries, fullLength, entriesAt}
 use Rattle.resolved_sort.specs.Checks.{Check, firstFailing, sortChecks, withinLent, rowsFine, noTwoEqual, inList, atCeiling}
-use Rattle.resolved_sort.specs.Entries.{testedOf, refusedOr, treeAt}
-use Rattle.resolved_sort.proofs.Interned.{Listed}
+use Rattle.resolved_sort.specs.Inner.Entries.{testedOf}
+use Rattle.resolved_sort.specs.Entries.{refusedOr, treeAt}
+use Rattle.resolved_sort.specs.Growing.{Listed}
 use Rattle.resolved_sort.proofs.FirstFailing.{first-fails, first-passes, append-fails, append-passes, cons-passes}
 use Rattle.resolved_sort.proofs.Testing.{refused-is, passed-is}
 use Rattle.sort_text.specs.declared.Written.the-variants.{Refused as NotWritten, Text}
 use Rattle.sort_text.specs.Text.{writable, text}
 use Rattle.sort_text.specs.Writing.{writeChecks, writeLeft, writing}
-use Rattle.sort_writer.specs.Sizes.{mostSize, capped, sizeIf, sized, sizesTo}
-use Rattle.sort_writer.specs.Puts.{SortRoom}
+use Rattle.sort_writer.specs.Inner.Sizes.{mostSize, capped, sizeIf, sized, sizesTo}
+use Rattle.sort_writer.specs.Inner.Puts.{SortRoom}
 use Rattle.text_out.specs.Put.{Put}
 use Rattle.sort_writer.proofs.Front.{put-front}
 use Rattle.sort_writer.proofs.Sizes.{capped-short, capped-long, text-some}

@@ -14,10 +14,10 @@ use Rattle.resolved_sort.specs.Tree.{unit, def, typevar, Tree}
 use Rattle.resolved_sort.specs.Interning.{look}
 use Rattle.resolved_sort.specs.Storage.{entryAt, entriesOf, rowAt, lookAll, trees}
 use Rattle.resolved_sort.specs.Rows.{AllBelow}
-use Rattle.resolved_sort.proofs.Interned.{Listed}
+use Rattle.resolved_sort.specs.Growing.{Listed}
 use Rattle.resolved_sort.proofs.Pairs.{sortOf, Below}
 use Rattle.resolved_sort.proofs.Said.{first-entry}
-use Rattle.sort_writer.specs.Sizes.{sized, sizedAll, joined, runSize, rowSize, sizesTo}
+use Rattle.sort_writer.specs.Inner.Sizes.{sized, sizedAll, joined, runSize, rowSize, sizesTo}
 use Rattle.sort_writer.proofs.Rows.{row-says, row-parts}
 use Rattle.sort_writer.proofs.Sizes.{size-of-none, size-of-primitive, size-of-container, size-of-function, size-of-no-arguments, size-of-one, size-of-more}
 

@@ -10,7 +10,8 @@ use Rattle.resolved_sort.specs.Checks.{rowFine, rowsFine}
 use Rattle.resolved_sort.proofs.Below.{below-each}
 use Rattle.resolved_sort.proofs.Fine.{run-inside}
 use Rattle.resolved_sort.proofs.RowTrees.{Within, read, by-kind}
-use Rattle.resolved_sort.proofs.Interned.{Listed, row-below, look-tree}
+use Rattle.resolved_sort.specs.Growing.{Listed}
+use Rattle.resolved_sort.proofs.Interned.{row-below, look-tree}
 use Rattle.resolved_sort.proofs.Pairs.{sortOf, Below}
 
 module _ (ws : List ℕ) (T : List Tree) (e i p s c : ℕ) where

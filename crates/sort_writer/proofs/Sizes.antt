@@ -14,7 +14,7 @@ use Rattle.resolved_sort.specs.declared.ComplexSort.{ComplexSort}
 use Rattle.resolved_sort.specs.Tree.{Flat, unit, primitive, def, typevar, Tree, flat, container, function, Trees, no-args, arg}
 use Rattle.sort_text.specs.Parse.{sortWord, opWord}
 use Rattle.sort_text.specs.Text.{nonempty, flatWritable, writable, writables, text, texts, more}
-use Rattle.sort_writer.specs.Sizes.{mostSize, capped, sizeIf, sized, sizedAll, joined}
+use Rattle.sort_writer.specs.Inner.Sizes.{mostSize, capped, sizeIf, sized, sizedAll, joined}
 
 pub capped-short : (n : ℕ) → n ≤ mostSize → capped n ≡ n
 unfolding capped

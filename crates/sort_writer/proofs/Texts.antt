@@ -13,14 +13,15 @@ use Rattle.resolved_sort.specs.declared.Run.{Run}
 use Rattle.resolved_sort.specs.declared.ResolvedSort.{ResolvedSort}
 use Rattle.resolved_sort.specs.declared.ResolvedSort.the-variants.{Unit as UnitRow, Primitive, Container, Function, Def, TypeVar}
 use Rattle.resolved_sort.specs.Tree.{Tree, Trees, arg}
-use Rattle.resolved_sort.specs.Storage.{entryAt, entriesOf, rowAt, lookAll, trees, argsAt}
+use Rattle.resolved_sort.specs.Storage.{entryAt, entriesOf, rowAt, lookAll, trees}
+use Rattle.resolved_sort.specs.Inner.Storage.{argsAt}
 use Rattle.resolved_sort.specs.Entries.{treeAt}
 use Rattle.resolved_sort.proofs.Interned.{listed}
 use Rattle.resolved_sort.proofs.Pairs.{sortOf, Below}
 use Rattle.resolved_sort.proofs.Said.{entry-below, first-entry, topOf, top-below, first-below-top, rest-below-top}
 use Rattle.sort_text.specs.Parse.{sortWord, opWord}
 use Rattle.sort_text.specs.Text.{text, texts, more, betweenText, arrowText}
-use Rattle.sort_writer.specs.Puts.{SortRoom, RunRoom}
+use Rattle.sort_writer.specs.Inner.Puts.{SortRoom, RunRoom}
 use Rattle.text_out.specs.Put.{Put}
 use Rattle.sort_writer.proofs.Rows.{row-says, row-parts}
 use Rattle.text_out.proofs.Put.{put-none, put-then, put-as, put-length}

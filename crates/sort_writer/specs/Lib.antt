@@ -1,4 +1,3 @@
 -- What the contracts of this crate cite beside the definitions of sort text.
-pub mod Sizes
-pub mod Puts
 pub mod Packed
+pub mod Inner

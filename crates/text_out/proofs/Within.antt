@@ -2,7 +2,7 @@
 use mathlib.Core.Path.{_≡_, refl, sym, _∙_, ap, ap₂}
 use mathlib.Core.Bool.{cond}
 use mathlib.Core.List.{List, [], _∷_, _++_}
-use Prim.Native.Nat.{ℕ, zero, suc, _+_, _-_, _/_, _%_, _<_, _≤_}
+use Prim.Native.Nat.{ℕ, suc, _+_, _-_, _/_, _%_, _<_, _≤_}
 use native.Mathlib.Omega.{arith}
 use native.Mathlib.Nat.{add-zero}
 use native.Mathlib.Numerals.{add-one}
@@ -10,7 +10,8 @@ use lib.Dec.{ltb}
 use lib.ListN.{length, getD, drop, set, length-set, drop-of-length-le}
 use lib.Seq.{sets, set-out, drop-cons}
 use borrow.Author.Tests.{lt-ltb, le-ltb}
-use Rattle.text_out.specs.Within.{Buffer, buffer, puts, PutWithin}
+use Rattle.text_out.specs.Within.{Buffer, buffer, puts}
+use Rattle.text_out.specs.Inner.Within.{PutWithin}
 use Rattle.text_out.specs.Decimal.{digit}
 
 pub puts-append : (out : List ℕ) (at : ℕ) (xs ys : List ℕ) → puts out at (xs ++ ys) ≡ puts (puts out at xs .bytes) (puts out at xs .at) ys

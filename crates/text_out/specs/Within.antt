@@ -1,6 +1,5 @@
 -- Bytes put into a buffer one after another, as far as it has room: past its end they are lost, and the place stays
 -- there.
-use mathlib.Core.Path.{_≡_}
 use mathlib.Core.Bool.{cond}
 use mathlib.Core.List.{List, [], _∷_}
 use Prim.Native.Nat.{ℕ, _+_}
@@ -18,7 +17,3 @@ buffer out at = record { bytes = out; at = at }
 unfoldable pub puts : List ℕ → ℕ → List ℕ → Buffer
 puts out at [] = buffer out at
 puts out at (b ∷ bs) = puts (set out at b) (cond (ltb at (length out)) (at + 1) at) bs
-
--- The bytes bs put from `at` on leave this buffer, and the next byte goes there.
-pub record PutWithin (out : List ℕ) (at : ℕ) (bs : List ℕ) (left : List ℕ) (next : ℕ) : Type 0 where
-  pub is : buffer left next ≡ puts out at bs

@@ -18,15 +18,12 @@ use Rattle.unification.specs.Solutions.{termOfShape, termTo, valueBound,
 use Rattle.unification.proofs.Rank.{rankBound, rankAt, rank, highest-agree}
 use Rattle.unification.proofs.Parts.{termsAt-agree, occursAny-agree}
 use Rattle.unification.proofs.Follow.{follow-names}
+use Rattle.unification.specs.Growing.{Names}
 
 -- the places of P have their parts in P, and the same shape in both graphs
 pub record Agree (P : ℕ → Type 0) (shape shape′ : ℕ → Shape) : Type 0 where
   pub parts : (p q : ℕ) (h : Head) (ps : List ℕ) → P p → shape p ≡ over h ps → One q ps → P q
   pub same : (p : ℕ) → P p → shape′ p ≡ shape p
-
--- the bindings name only places of P
-abbrev pub Names : (ℕ → Type 0) → Binds → Type 0
-Names P B = (v q : ℕ) → binding B v ≡ some q → P q
 
 module _ (P : ℕ → Type 0) (shape shape′ : ℕ → Shape) (A : Agree P shape shape′) where
   pub term-agrees : (k p : ℕ) → P p → termTo shape′ k p ≡ termTo shape k p

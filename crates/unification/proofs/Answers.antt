@@ -1,20 +1,21 @@
 -- What a yes of unify gives whoever goes on from it: bindings that pass their checks again, under which the two places are equal and whatever
 -- respects them respected the bindings before. By Robinson's theorem and by the places that bindings name. Assumes nothing.
-use mathlib.Core.Path.{_≡_, refl, subst, _∙_}
-use Prim.Native.Nat.{ℕ, zero, suc}
-use lib.ListN.{length}
-use Rattle.unification.specs.Term.{Term, Shape}
-use Rattle.unification.specs.Nodes.{isPlace, Binds, binding}
-use Rattle.unification.specs.Unify.{Unifies, yes-with, unify, deep, deeper}
+use mathlib.Core.Path.{_≡_, subst, _∙_}
+use Prim.Native.Nat.{ℕ}
+use Rattle.unification.specs.Term.{Term}
+use Rattle.unification.specs.Nodes.{Binds}
+use Rattle.unification.specs.Unify.{yes-with, unify, deep, deeper}
 use Rattle.unification.specs.Solutions.{Respects, Equates, Robinson, says-yes}
 use Rattle.unification.specs.Making.{Lent, graph}
 use Rattle.unification.proofs.Lists.{lower, scoped}
-use Rattle.unification.proofs.Robinson.{Next, Kept, unify-kept}
+use Rattle.unification.specs.Exact.{Next, Kept}
+use Rattle.unification.proofs.Robinson.{unify-kept}
 use Rattle.unification.proofs.Theorem.{deep-enough, unify-is-robinson}
-use Rattle.unification.proofs.Agree.{Names, unify-names}
-use Rattle.unification.proofs.Grows.{CheckedLent, PlacedIn, grows-refl, agree-grown}
+use Rattle.unification.specs.Growing.{Names, CheckedLent, PlacedIn, CheckedBinds}
+use Rattle.unification.proofs.Agree.{unify-names}
+use Rattle.unification.proofs.Grows.{grows-refl, agree-grown}
 use Rattle.unification.proofs.BindingWords.{named-places-fine}
-use Rattle.unification.proofs.BindsGrow.{CheckedBinds, binds-name-places}
+use Rattle.unification.proofs.BindsGrow.{binds-name-places}
 
 -- C is a yes for l and r from the bindings B
 pub record Agreeing (W : Lent) (B : Binds) (l r : ℕ) (C : Binds) : Type 0 where

@@ -21,8 +21,8 @@ use Rattle.unification.proofs.Theorem.{deep-enough, checked-ranked}
 use Rattle.unification.proofs.ResolvedSorts.{count, HeadOver, Formed, AllFormed}
 use Rattle.unification.proofs.ResolvedPlaces.{ShapeOver, count-terms, terms-formed, place-over, value-formed}
 use Rattle.unification.proofs.Resolved.{Has, OneHas, termsFor, count-for, head-term, count-puts, stands-free, put-place}
-use Rattle.unification.proofs.Grows.{CheckedLent, PlacedIn, parts-placed}
-use Rattle.unification.proofs.BindsGrow.{CheckedBinds}
+use Rattle.unification.specs.Growing.{CheckedLent, PlacedIn, CheckedBinds}
+use Rattle.unification.proofs.Grows.{parts-placed}
 
 -- a term that is a sort's
 abbrev pub SortTerm : Term → Type 0

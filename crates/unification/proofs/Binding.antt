@@ -12,10 +12,10 @@ use borrow.Author.Tests.{eq-eqb}
 use Rattle.resolved_sort.proofs.Reached.{no-confusion}
 use Rattle.unification.specs.Term.{Head, Shape, variable, over}
 use Rattle.unification.specs.Nodes.{Binds, binding}
-use Rattle.unification.specs.Acyclic.{One, first, later, Stands, at, within, Numbering}
+use Rattle.unification.specs.Acyclic.{One, first, later, Stands, at, within, Numbering, Lower}
 use Rattle.unification.specs.Unify.{Occurs, unknown, absent, present, or-else, ofTest, occursAny, occursBound, occurs}
 use Rattle.unification.proofs.Rank.{Ranked}
-use Rattle.unification.proofs.Numbering.{numbered, Lower, numbered-ranked}
+use Rattle.unification.proofs.Numbering.{numbered, numbered-ranked}
 use Rattle.unification.proofs.Enough.{occurs-eq, occurs-known}
 
 -- in a list of parts

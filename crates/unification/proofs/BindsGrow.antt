@@ -4,12 +4,8 @@ use Rattle.unification.specs.Nodes.{Binds}
 use Rattle.unification.specs.Checked.{listsOf, BindsChecked}
 use Rattle.unification.specs.Making.{Lent}
 use Rattle.unification.proofs.Places.{bound-is-place}
-use Rattle.unification.proofs.Agree.{Names}
-use Rattle.unification.proofs.Grows.{CheckedLent, PlacedIn, Grows, binds-grown}
-
--- bindings of as many variables as the lists have, that passed their checks with them
-abbrev pub CheckedBinds : Lent → Binds → Type 0
-CheckedBinds W B = BindsChecked (listsOf (W .sorts) (W .lengths .sorts) (W .nodes) (W .lengths .nodes)) (W .lengths .variables) B
+use Rattle.unification.specs.Growing.{Names, CheckedLent, PlacedIn, Grows, CheckedBinds}
+use Rattle.unification.proofs.Grows.{binds-grown}
 
 pub binds-name-places : (W : Lent) (B : Binds) → CheckedBinds W B → Names (PlacedIn W) B
 binds-name-places W B b u q e = bound-is-place (W .lengths .sorts) (W .lengths .nodes) B u q (b .places) e

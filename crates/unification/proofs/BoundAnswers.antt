@@ -13,9 +13,10 @@ use Rattle.resolved_sort.specs.Bounds.{boundAt}
 use Rattle.resolved_sort.proofs.Grown.{grown-none}
 use Rattle.resolved_sort.proofs.Kept.{make-kept}
 use Rattle.resolved_sort.proofs.Stored.{look-whole}
-use Rattle.resolved_sort.proofs.Made.{Answers, make-answers}
+use Rattle.resolved_sort.specs.Growing.{Answers}
+use Rattle.resolved_sort.proofs.Made.{make-answers}
 use Rattle.unification.specs.Making.{Lent}
-use Rattle.unification.proofs.Grows.{CheckedLent}
+use Rattle.unification.specs.Growing.{CheckedLent}
 use Rattle.unification.proofs.SortsLeft.{Leaves, left-by}
 
 module _ (W : Lent) (c : CheckedLent W) (up : Bool) (a b : ℕ) (x : a < W .lengths .sorts) (y : b < W .lengths .sorts) where

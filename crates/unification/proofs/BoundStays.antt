@@ -13,11 +13,7 @@ use Rattle.resolved_sort.proofs.Reached.{no-confusion}
 use Rattle.unification.specs.Nodes.{isSort, Binds, binding}
 use Rattle.unification.specs.Unify.{Unifies, yes-with, no-way, too-deep, and-then, Occurs, absent, present, unknown, follow, occurs, bindUnless, unifyAll, unifyHeads, unifyVariables, unifyShapes, unifyApart, unifyEnds, unifyFollowed, unifyTo, unify, deep, deeper}
 use Rattle.unification.proofs.Follow.{follow-end}
-
--- C binds what B binds, in the same way, and as many variables
-pub record Extends (B C : Binds) : Type 0 where
-  pub stays : (u q : ℕ) → binding B u ≡ some q → binding C u ≡ some q
-  pub long : length C ≡ length B
+use Rattle.unification.specs.Growing.{Extends}
 
 pub extends-refl : (B : Binds) → Extends B B
 extends-refl B = record { stays = λ u q e. e; long = refl }

@@ -15,17 +15,13 @@ use Rattle.resolved_sort.proofs.Numbers.{true-not-false}
 use Rattle.unification.specs.Term.{Shape, variable, over}
 use Rattle.unification.specs.Nodes.{nodeAt, nodeShape, isPlace, shapeAt, Binds, binding}
 use Rattle.unification.specs.NodeChecks.{bindingsFine}
-use Rattle.unification.specs.Acyclic.{One, first, later, Reaches, here, inside, beyond, Stands, at, within, placeSettled, allSettled, shapeSettled, nodesSettled, bindingSettled, rounds, allTrue, acyclic}
+use Rattle.unification.specs.Acyclic.{One, first, later, Reaches, here, inside, beyond, Stands, at, within, placeSettled, allSettled, shapeSettled, nodesSettled, bindingSettled, rounds, allTrue, acyclic, Cyclic}
 use Rattle.unification.specs.Checked.{ListsFine, listsOf}
 use Rattle.unification.proofs.Numbering.{stands-scoped}
 use Rattle.unification.proofs.Places.{place-below, place-longer, bound-is-place}
 use Rattle.unification.proofs.Rows.{node-parts}
 use Rattle.unification.proofs.FineLists.{node-parts-fine, Place, is-sort, is-node, is-stray, place, scoped}
 use Rattle.unification.proofs.Settles.{node-flag, node-is, var-is, length-rounds, settled-longer}
-
--- some variable reaches itself
-abbrev pub Cyclic : (ℕ → Shape) → Binds → Type 0
-Cyclic shape B = (u : ℕ) × (q : ℕ) × (binding B u ≡ some q) × Reaches shape B u q
 
 -- The pigeonhole principle. A walk of k steps goes through k + 1 numbers below n. Where two steps in a row make one, a walk of n steps below n
 -- comes back to some number.

@@ -6,21 +6,10 @@ use mathlib.Core.Logic.{_↔_}
 use Prim.Native.Nat.{ℕ}
 use Rattle.unification.specs.Term.{Term, var, Shape}
 use Rattle.unification.specs.Nodes.{shapeAt, Binds}
-use Rattle.unification.specs.Unify.{Unifies, yes-with, no-way, unify}
+use Rattle.unification.specs.Unify.{Unifies, unify}
 use Rattle.unification.specs.Checked.{NodesChecked, listsOf, BindsChecked}
-use Rattle.unification.specs.Solutions.{Respects, Equates, Robinson, says-no, says-yes}
+use Rattle.unification.specs.Solutions.{Respects, Equates, Robinson, says-no, says-yes, SameProblem, SameAnswer, both-no, both-yes}
 use Rattle.unification.proofs.Theorem.{unify-is-robinson}
-
-module _ (shape shape′ : ℕ → Shape) where
-  -- Two problems of unify with the same solutions: bindings, and a left and a right place, each in its own lists.
-  pub record SameProblem (B : Binds) (l r : ℕ) (B′ : Binds) (l′ r′ : ℕ) : Type 0 where
-    pub respects : (σ : ℕ → Term) → Respects shape B σ ↔ Respects shape′ B′ σ
-    pub equates : (σ : ℕ → Term) → Respects shape B σ → Equates shape σ l r ↔ Equates shape′ σ l′ r′
-
-  -- Two answers that say the same: both no, or both yes with bindings that the same terms respect.
-  pub data SameAnswer : Unifies → Unifies → Type 0 where
-    both-no : SameAnswer no-way no-way
-    both-yes : (C C′ : Binds) → ((σ : ℕ → Term) → Respects shape C σ ↔ Respects shape′ C′ σ) → SameAnswer (yes-with C) (yes-with C′)
 
 module _ (shape shape′ : ℕ → Shape) (B : Binds) (l r : ℕ) (B′ : Binds) (l′ r′ : ℕ) where
   same-solutions : SameProblem shape shape′ B l r B′ l′ r′ → (σ : ℕ → Term) → (Respects shape B σ × Equates shape σ l r) ↔ (Respects shape′ B′ σ × Equates shape′ σ l′ r′)

@@ -12,7 +12,7 @@ use Rattle.unification.specs.Term.{Term, app, Shape, variable, over}
 use Rattle.unification.specs.Nodes.{Binds, binding}
 use Rattle.unification.specs.Unify.{Occurs, unknown, absent, present, or-else, ofTest, followBound, followAt, follow, occursAny, occursBound, occursAt, occurs}
 use Rattle.unification.specs.Solutions.{valueBound, valueAt, valueTo}
-use Rattle.unification.proofs.Exact.{shapeVal, Model}
+use Rattle.unification.specs.Exact.{shapeVal, Model}
 use Rattle.unification.proofs.Rank.{highest, rank, Ranked, rank-var, rank-over, one-highest}
 use Rattle.unification.proofs.Parts.{termsAt-agree, occursAny-agree}
 use Rattle.unification.proofs.Follow.{follow-holds}

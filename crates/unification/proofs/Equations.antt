@@ -10,13 +10,14 @@ use lib.Dec.{eqb}
 use lib.ListN.{length}
 use Rattle.unification.specs.Term.{Shape, variable, over, sameHead}
 use Rattle.unification.specs.Nodes.{isSort, Binds}
-use Rattle.unification.specs.Acyclic.{Numbering}
+use Rattle.unification.specs.Acyclic.{Numbering, Lower}
 use Rattle.unification.specs.Trail.{frees}
 use Rattle.unification.specs.Unify.{Unifies, too-deep, no-way, yes-with, and-then, follow, unifyAll, unifyHeads, unifyShapes, unifyApart, unifyEnds, unifyFollowed, unifyTo}
 use Rattle.unification.proofs.Rank.{highest, rank, Ranked, rank-over}
-use Rattle.unification.proofs.Numbering.{Lower, numbered-ranked}
+use Rattle.unification.proofs.Numbering.{numbered-ranked}
 use Rattle.unification.proofs.Enough.{follow-some}
-use Rattle.unification.proofs.Robinson.{Next, Kept, next-trans, next-refl, unify-kept, depth-left, unify-known}
+use Rattle.unification.specs.Exact.{Next, Kept}
+use Rattle.unification.proofs.Robinson.{next-trans, next-refl, unify-kept, depth-left, unify-known}
 
 pub frees-few : (B : Binds) → frees B ≤ length B
 frees-few [] = omega arith

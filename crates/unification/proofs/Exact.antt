@@ -19,6 +19,7 @@ use Rattle.unification.specs.Solutions.{termsAt}
 use Rattle.unification.proofs.Heads.{same-head-true, same-head-refl}
 use Rattle.unification.proofs.Follow.{follow-holds, follow-end}
 use Rattle.unification.specs.Unify.{Unifies, too-deep, no-way, yes-with, and-then, Occurs, unknown, absent, present, or-else, ofTest, follow, occursAny, occursBound, occursAt, occurs, bindUnless, unifyAll, unifyHeads, unifyVariables, unifyShapes, unifyApart, unifyEnds, unifyFollowed, unifyTo}
+use Rattle.unification.specs.Exact.{shapeVal, Model, Exact, Apart}
 
 unfoldable mutual
   pub size : Term → ℕ
@@ -28,23 +29,6 @@ unfoldable mutual
   pub sizes : Terms → ℕ
   sizes no-part = 0
   sizes (part t ts) = size t + sizes ts
-
-abbrev pub shapeVal : (ℕ → Term) → (ℕ → Term) → Shape → Term
-shapeVal σ val (variable v) = σ v
-shapeVal σ val (over h ps) = app h (termsAt val ps)
-
--- σ gives each variable a term, val gives each place the term that it then stands for, and every binding of B holds
-pub record Model (shape : ℕ → Shape) (B : Binds) (σ val : ℕ → Term) : Type 0 where
-  pub isval : (p : ℕ) → val p ≡ shapeVal σ val (shape p)
-  pub sat : (v q : ℕ) → binding B v ≡ some q → σ v ≡ val q
-
--- an answer is exact for an equation E on models of B
-abbrev pub Exact : (ℕ → Shape) → Binds → ((ℕ → Term) → Type 0) → Unifies → Type 0
-Exact shape B E too-deep = Unit {0}
-Exact shape B E no-way = (σ val : ℕ → Term) → Model shape B σ val → E val → ⊥
-Exact shape B E (yes-with B′) = (length B′ ≡ length B)
-    × ((σ val : ℕ → Term) → Model shape B′ σ val → Model shape B σ val × E val)
-    × ((σ val : ℕ → Term) → Model shape B σ val → E val → Model shape B′ σ val)
 
 -- following bindings
 pub follow-value : (shape : ℕ → Shape) (B : Binds) (σ val : ℕ → Term) → Model shape B σ val → (k p q : ℕ) → follow shape k B p ≡ some q → val p ≡ val q
@@ -228,10 +212,6 @@ shapes-exact shape k f n scoped ih B len l r (over h ps) (variable w) sl sr fl f
     exact-move shape B (λ val. val r ≡ val l) (λ val. val l ≡ val r) (λ σ val M e. sym e) (λ σ val M e. sym e) (bindUnless shape (occurs shape k B w l) B w l)
     (bind-unless-exact shape k B w r l h ps (rw len (scoped r w sr)) (fr w sr) sr sl)
 shapes-exact shape k f n scoped ih B len l r (over h ps) (over h′ ps′) sl sr fl fr = heads-exact shape f n ih B len l r h h′ ps ps′ sl sr
-
--- two sorts with different numbers have different terms
-abbrev pub Apart : (ℕ → Shape) → Type 0
-Apart shape = (l r : ℕ) → isSort l ≡ true → isSort r ≡ true → (l ≡ r → ⊥) → (σ val : ℕ → Term) → ((p : ℕ) → val p ≡ shapeVal σ val (shape p)) → val l ≡ val r → ⊥
 
 module _ (shape : ℕ → Shape) (apart : Apart shape) (n : ℕ) (scoped : (p v : ℕ) → shape p ≡ variable v → v < n) where
   ends-exact : (k : ℕ) (f : Binds → ℕ → ℕ → Unifies) → ((B : Binds) (a b : ℕ) → length B ≡ n → Exact shape B (λ val. val a ≡ val b) (f B a b))

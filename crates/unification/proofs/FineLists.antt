@@ -15,9 +15,8 @@ use Rattle.resolved_sort.proofs.Reached.{no-confusion}
 use Rattle.unification.specs.Term.{Head, strayHead, variable, over}
 use Rattle.unification.specs.Nodes.{nodeAt, sortShape, nodeShape, Lists, isSort, isPlace, shapeAt}
 use Rattle.unification.specs.NodeChecks.{nodePartsFine, nodeFine}
-use Rattle.unification.specs.Acyclic.{One}
+use Rattle.unification.specs.Acyclic.{One, Lower}
 use Rattle.unification.specs.Checked.{ListsFine, listsOf}
-use Rattle.unification.proofs.Numbering.{Lower}
 use Rattle.unification.proofs.Parts.{none-of}
 use Rattle.unification.proofs.Places.{sort-is-place, place-below, place-longer}
 use Rattle.unification.proofs.Rows.{sort-parts, node-parts, node-variable, sort-no-variable, ShapeFormed, sort-formed, node-formed, node-fine-parts, nodes-fine-each}

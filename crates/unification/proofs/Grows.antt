@@ -7,12 +7,8 @@ use mathlib.Core.Logic.{_↔_}
 use Prim.Native.Nat.{ℕ, zero, suc, _+_, _-_, _*_, _<_, _≤_}
 use native.Mathlib.Omega.{arith}
 use native.Mathlib.Nat.{add-zero}
-use lib.ListN.{length, getD}
 use borrow.Author.Tests.{ltb-true, ltb-false}
-use Rattle.resolved_sort.specs.Interning.{look}
-use Rattle.resolved_sort.specs.Storage.{maxSorts, rowAt, trees}
-use Rattle.resolved_sort.specs.Checks.{fixedSix}
-use Rattle.resolved_sort.proofs.Append.{Agrees}
+use Rattle.resolved_sort.specs.Storage.{maxSorts, rowAt}
 use Rattle.resolved_sort.proofs.Unchanged.{agrees-refl, agrees-trans}
 use Rattle.resolved_sort.proofs.Below.{each-below}
 use Rattle.unification.specs.declared.InferSort.{InferSort}
@@ -22,44 +18,15 @@ use Rattle.unification.specs.Nodes.{nodeKindAt, nodeEntryAt, nodeEntries
 use Rattle.unification.specs.Unify.{unify, deep, deeper}
 use Rattle.unification.specs.Acyclic.{One}
 use Rattle.unification.specs.NodeChecks.{nodePartsFine, nodeKindFine, nodeFine, nodesFine}
-use Rattle.unification.specs.Checked.{NodesChecked, listsOf, BindsChecked, Ready, Placed}
+use Rattle.unification.specs.Checked.{listsOf, BindsChecked}
 use Rattle.unification.specs.Solutions.{termAt, Respects}
 use Rattle.unification.specs.Resolve.{value}
 use Rattle.unification.specs.Making.{Lent, graph, withNodesOf}
 use Rattle.unification.proofs.Places.{sort-below, node-below, place-longer, bound-is-place, bindings-longer}
 use Rattle.unification.proofs.Rows.{node-function-fine, fine-tests, node-fine-parts, nodes-fine-each}
 use Rattle.unification.proofs.Lists.{part-is-place}
-use Rattle.unification.proofs.Agree.{Agree, Names, term-agrees, value-agrees, numbering-agrees, respects-agrees, unify-agrees}
-
--- lists that passed their checks; and bindings with them
-abbrev pub CheckedLent : Lent → Type 0
-CheckedLent W = NodesChecked (W .sorts) (W .lengths .sorts) (W .lengths .entries) (W .nodes) (W .lengths .nodes) (W .lengths .arguments) (W .lengths .variables)
-
-abbrev pub ReadyLent : Lent → List ℕ → Type 0
-ReadyLent W bs = Ready (W .sorts) (W .nodes) bs (W .lengths)
-
-abbrev pub PlacedIn : Lent → ℕ → Type 0
-PlacedIn W = Placed (W .lengths)
-
--- node storage that reads the same below m rows and d entries
-pub record NodesAgree (ns ns′ : List ℕ) (m d : ℕ) : Type 0 where
-  pub rows : (j : ℕ) → j < 4 * m → getD ns′ j 0 ≡ getD ns j 0
-  pub entries : (j : ℕ) → j < d → nodeEntryAt ns′ j ≡ nodeEntryAt ns j
-
--- W has grown to W′: lists that pass their checks again, with all that W has under its old numbers
-pub record Grows (W W′ : Lent) : Type 0 where
-  pub checked : CheckedLent W′
-  pub sorts : W .lengths .sorts ≤ W′ .lengths .sorts
-  pub entries : W .lengths .entries ≤ W′ .lengths .entries
-  pub nodes : W .lengths .nodes ≤ W′ .lengths .nodes
-  pub arguments : W .lengths .arguments ≤ W′ .lengths .arguments
-  pub variables : W′ .lengths .variables ≡ W .lengths .variables
-  pub sort-words : Agrees (W .sorts) (W′ .sorts) (W .lengths .sorts) (W .lengths .entries)
-  pub node-words : NodesAgree (W .nodes) (W′ .nodes) (W .lengths .nodes) (W .lengths .arguments)
-  pub as-long : (length (W′ .sorts) ≡ length (W .sorts)) × (length (W′ .nodes) ≡ length (W .nodes))
-  pub same : (p : ℕ) → PlacedIn W p → graph W′ p ≡ graph W p
-  pub looks : (i : ℕ) → i < W .lengths .sorts → look (trees (W′ .sorts) (W′ .lengths .sorts)) i ≡ look (trees (W .sorts) (W .lengths .sorts)) i
-  pub fixed : fixedSix (W .sorts) (W .lengths .sorts) ≡ true → fixedSix (W′ .sorts) (W′ .lengths .sorts) ≡ true
+use Rattle.unification.proofs.Agree.{Agree, term-agrees, value-agrees, numbering-agrees, respects-agrees, unify-agrees}
+use Rattle.unification.specs.Growing.{Names, CheckedLent, ReadyLent, PlacedIn, NodesAgree, Grows}
 
 -- old rows that read the same have the same shape
 pub rows-same : (W W′ : Lent) → W .lengths .sorts ≤ W′ .lengths .sorts → W .lengths .nodes ≤ W′ .lengths .nodes

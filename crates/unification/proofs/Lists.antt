@@ -21,11 +21,10 @@ use Rattle.resolved_sort.proofs.Reached.{no-confusion}
 use Rattle.unification.specs.Term.{Head, functionHead, strayHead, Term, app, Terms, no-part, part, Shape, variable, over, termOf, termsOf}
 use Rattle.unification.specs.Nodes.{nodeAt, sortShape, Lists, isSort, isPlace, shapeAt}
 use Rattle.unification.specs.NodeChecks.{nodePartsFine, nodeFine}
-use Rattle.unification.specs.Acyclic.{One}
+use Rattle.unification.specs.Acyclic.{One, Lower}
 use Rattle.unification.specs.Checked.{ListsFine, NodesChecked, fineOf, listsOf}
 use Rattle.unification.specs.Solutions.{termsAt}
-use Rattle.unification.proofs.Exact.{shapeVal, Apart}
-use Rattle.unification.proofs.Numbering.{Lower}
+use Rattle.unification.specs.Exact.{shapeVal, Apart}
 use Rattle.unification.proofs.Parts.{termsAt-agree}
 use Rattle.unification.proofs.Places.{sort-is-place}
 use Rattle.unification.proofs.FineLists.{Place, is-sort, is-node, is-stray, place}

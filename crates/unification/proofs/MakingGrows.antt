@@ -18,13 +18,15 @@ use Rattle.resolved_sort.specs.Bounds.{internAt}
 use Rattle.resolved_sort.proofs.Numbers.{look-number, number-below, member-look}
 use Rattle.resolved_sort.proofs.Trees.{length-trees}
 use Rattle.resolved_sort.proofs.Grown.{grown-none}
-use Rattle.resolved_sort.proofs.Kept.{Kept, InTree, container-interned}
-use Rattle.resolved_sort.proofs.Made.{Answers, intern-answers}
+use Rattle.resolved_sort.specs.Growing.{Kept, InTree, Answers}
+use Rattle.resolved_sort.proofs.Kept.{container-interned}
+use Rattle.resolved_sort.proofs.Made.{intern-answers}
 use Rattle.unification.specs.Term.{functionHead, Shape, over}
 use Rattle.unification.specs.Nodes.{maxNodes, maxNodeEntries}
 use Rattle.unification.specs.Acyclic.{One, first, later}
 use Rattle.unification.specs.Making.{Lent, graph, Makes, made, no-list, no-room, _and-then_, appendNode, pushNode, withSorts, internContainer, pushFunctions}
-use Rattle.unification.proofs.Grows.{CheckedLent, PlacedIn, Grows, placed-grown, grows-refl, grows-trans}
+use Rattle.unification.specs.Growing.{CheckedLent, PlacedIn, Grows}
+use Rattle.unification.proofs.Grows.{placed-grown, grows-refl, grows-trans}
 use Rattle.unification.proofs.Outcomes.{Each, each-weaker}
 use Rattle.unification.proofs.SortsGrow.{sorts-grow}
 use Rattle.unification.proofs.NodesGrow.{FineRow, function-row, node-grows, new-node-placed, new-node-shape}

@@ -6,27 +6,23 @@ use mathlib.Core.List.{List}
 use mathlib.Core.Option.{Option, none, some}
 use Prim.Native.Nat.{ℕ, suc}
 use native.Mathlib.Omega.{arith}
-use Rattle.unification.specs.Term.{Term, var, Shape, substitute}
+use Rattle.unification.specs.Term.{Term, var, substitute}
 use Rattle.unification.specs.Nodes.{Binds, binding}
 use Rattle.unification.specs.Unify.{yes-with, deep, deeper, unify}
 use Rattle.unification.specs.Acyclic.{Numbering}
 use Rattle.unification.specs.Solutions.{valueBound, termAt, Respects, Equates, Robinson, says-yes}
-use Rattle.unification.specs.Resolve.{value}
+use Rattle.unification.specs.Resolve.{value, general}
 use Rattle.unification.specs.Making.{Lent, graph}
-use Rattle.unification.proofs.Exact.{Model}
+use Rattle.unification.specs.Exact.{Model, Kept}
 use Rattle.unification.proofs.Rank.{Ranked}
 use Rattle.unification.proofs.Numbering.{numbered-ranked}
 use Rattle.unification.proofs.Enough.{model}
 use Rattle.unification.proofs.Lists.{lower, scoped}
-use Rattle.unification.proofs.Robinson.{Kept, unify-kept}
+use Rattle.unification.proofs.Robinson.{unify-kept}
 use Rattle.unification.proofs.Solved.{value-of-model, respects-model}
 use Rattle.unification.proofs.Theorem.{deep-enough, unify-is-robinson}
 use Rattle.unification.proofs.Resolved.{put-value}
-use Rattle.unification.proofs.Grows.{CheckedLent}
-use Rattle.unification.proofs.BindsGrow.{CheckedBinds}
-
-abbrev pub general : (ℕ → Shape) → Binds → ℕ → Term
-general shape B u = valueBound var u (value shape B) (binding B u)
+use Rattle.unification.specs.Growing.{CheckedLent, CheckedBinds}
 
 module _ (W : Lent) (c : CheckedLent W) where
   abbrev ws : List ℕ

@@ -26,7 +26,8 @@ use Rattle.unification.specs.NodeChecks.{nodePartsFine, nodeKindFine, no
 use Rattle.unification.specs.Acyclic.{One}
 use Rattle.unification.specs.Checked.{Placed}
 use Rattle.unification.specs.Making.{Lent, graph, appendNode}
-use Rattle.unification.proofs.Grows.{CheckedLent, PlacedIn, Grows, rows-same, NodesAgree, node-fine-longer, node-shape-same}
+use Rattle.unification.specs.Growing.{CheckedLent, PlacedIn, Grows, NodesAgree}
+use Rattle.unification.proofs.Grows.{rows-same, node-fine-longer, node-shape-same}
 use Rattle.unification.proofs.Parts.{one-at}
 use Rattle.unification.proofs.Rows.{fine-tests}
 

@@ -10,9 +10,9 @@ use native.Mathlib.Nat.{mul-le-mul-right}
 use native.Mathlib.Decide.{ℕ-discrete}
 use lib.Dec.{ltb}
 use borrow.Author.Tests.{ltb-true, lt-ltb, le-ltb}
-use Rattle.unification.specs.Term.{Head, Shape, variable, over}
+use Rattle.unification.specs.Term.{Shape, variable, over}
 use Rattle.unification.specs.Nodes.{Binds, binding}
-use Rattle.unification.specs.Acyclic.{One, first, later, Stands, at, within, Numbering}
+use Rattle.unification.specs.Acyclic.{One, first, later, Stands, at, within, Numbering, Lower}
 use Rattle.unification.proofs.Rank.{highest, rankBound, rankAt, rank, Ranked}
 
 -- how many of the first n have a number below x
@@ -67,10 +67,6 @@ module _ (shape : ℕ → Shape) (n : ℕ) (scoped : (p v : ℕ) → shape p ≡
 highest-below : (g : ℕ → ℕ) (c : ℕ) (ps : List ℕ) → ((q : ℕ) → One q ps → g q < c) → highest g ps ≤ c
 highest-below g c [] h = omega arith
 highest-below g c (p ∷ ps) h = omega (arith, h p (first ps), highest-below g c ps (λ q o. h q (later p ps o)))
-
--- parts are numbered below the sort that they are parts of, and what has parts is below the ceiling K of places
-abbrev pub Lower : (ℕ → Shape) → ℕ → Type 0
-Lower shape K = (p q : ℕ) (h : Head) (ps : List ℕ) → shape p ≡ over h ps → One q ps → (q < p) × (p < K)
 
 module _ (shape : ℕ → Shape) (K : ℕ) (lower : Lower shape K) (n : ℕ) (B : Binds) (N : Numbering shape n B) where
   rank-bounded : (k p m : ℕ) → ((u : ℕ) → Stands shape u p → N .number u < m) → rank shape k B p ≤ m * suc K + min p K

@@ -14,7 +14,8 @@ use Rattle.resolved_sort.specs.Interning.{Sorts, look, Outcome, made as interne
 use Rattle.resolved_sort.specs.Storage.{maxSorts, functionKind, kindOp, Row, trees, sortsOf}
 use Rattle.resolved_sort.specs.Entries.{Stored, stored}
 use Rattle.resolved_sort.specs.Bounds.{internAt}
-use Rattle.resolved_sort.proofs.Made.{Answers, intern-answers}
+use Rattle.resolved_sort.specs.Growing.{Answers}
+use Rattle.resolved_sort.proofs.Made.{intern-answers}
 use Rattle.resolved_sort.proofs.Reached.{no-confusion}
 use Rattle.unification.specs.Nodes.{maxNodes, maxNodeEntries}
 use Rattle.unification.specs.Making.{Lent, Makes, made, no-list, no-room, _and-then_, appendNode, pushNode, withSorts, internContainer, only, relatedOver, pushFunctions}

@@ -13,24 +13,20 @@ use Rattle.resolved_sort.specs.Interning.{look}
 use Rattle.resolved_sort.specs.Storage.{maxSorts, partAt, startAt, countAt, resolved, rowAt, kindFlat, trees}
 use Rattle.resolved_sort.specs.Checks.{fixedSix}
 use Rattle.resolved_sort.proofs.Numbers.{true-not-false}
-use Rattle.unification.specs.Term.{Head, flatHead, Term, over, termOf, substitute}
+use Rattle.unification.specs.Term.{Head, flatHead, Term, over, termOf}
 use Rattle.unification.specs.Nodes.{sortShape, isSort, isPlace, shapeAt, Binds}
 use Rattle.unification.specs.Unify.{follow}
-use Rattle.unification.specs.Acyclic.{One}
-use Rattle.unification.specs.Solutions.{termAt, Respects}
+use Rattle.unification.specs.Acyclic.{One, Lower}
+use Rattle.unification.specs.Solutions.{Respects}
 use Rattle.unification.specs.Making.{Lent, graph}
-use Rattle.unification.proofs.Exact.{shapeVal, follow-value}
-use Rattle.unification.proofs.Numbering.{Lower}
+use Rattle.unification.specs.Exact.{shapeVal}
+use Rattle.unification.proofs.Exact.{follow-value}
 use Rattle.unification.proofs.Places.{sort-is-place}
 use Rattle.unification.proofs.Rows.{sort-parts, ShapeFormed, fixed-six-kinds}
 use Rattle.unification.proofs.FineLists.{Place, is-sort, is-node, is-stray, place}
 use Rattle.unification.proofs.Lists.{sort-parts-fine, lower, sort-value, place-formed}
 use Rattle.unification.proofs.Solved.{value-by-shape, model-of}
-use Rattle.unification.proofs.Grows.{CheckedLent, PlacedIn}
-
--- what a place stands for, with σ for the variables
-abbrev pub termIn : Lent → (ℕ → Term) → ℕ → Term
-termIn W σ p = substitute σ (termAt (graph W) p)
+use Rattle.unification.specs.Growing.{CheckedLent, PlacedIn, termIn}
 
 module _ (W : Lent) (c : CheckedLent W) where
   abbrev ws : List ℕ

@@ -10,8 +10,8 @@ use Rattle.unification.specs.FinalRange.{FreeEnd}
 use Rattle.unification.specs.Making.{Lent, graph, no-list, strictRelated}
 use Rattle.unification.proofs.Rank.{Ranked}
 use Rattle.unification.proofs.Theorem.{checked-ranked}
-use Rattle.unification.proofs.Grows.{CheckedLent, PlacedIn}
-use Rattle.unification.proofs.BindsGrow.{CheckedBinds, binds-name-places}
+use Rattle.unification.specs.Growing.{CheckedLent, PlacedIn, CheckedBinds}
+use Rattle.unification.proofs.BindsGrow.{binds-name-places}
 use Rattle.unification.proofs.MakingGrows.{MadeFrom}
 use Rattle.unification.proofs.NoList.{OnlyFree, only-free, has-none}
 use Rattle.unification.proofs.RelatedPlaces.{StandForRelated, related-made}

@@ -23,15 +23,15 @@ use Rattle.unification.specs.Acyclic.{One, first, later}
 use Rattle.unification.specs.Solutions.{termsAt, termAt, Respects}
 use Rattle.unification.specs.Related.{relatedNumbers, relatedContainer, each, overPart, related}
 use Rattle.unification.specs.Making.{Lent, graph, Makes, made, _and-then_, pushNode, internContainer, only, relatedOver, pushFunctions, relatedPlaces, relatedShape, relatedEnd, relatedTo, strictRelated}
-use Rattle.unification.proofs.Exact.{shapeVal}
+use Rattle.unification.specs.Exact.{shapeVal}
 use Rattle.unification.proofs.Parts.{none-of, one-of-one, one-last, one-front}
 use Rattle.unification.proofs.Rows.{ShapeFormed, variable-formed, flat-formed, container-formed, function-formed}
 use Rattle.unification.proofs.Follow.{follow-names}
-use Rattle.unification.proofs.Agree.{Names}
-use Rattle.unification.proofs.Grows.{CheckedLent, ReadyLent, PlacedIn, Grows, ready-names, parts-placed, grows-refl, grows-trans, placed-grown, term-grown}
+use Rattle.unification.specs.Growing.{Names, CheckedLent, ReadyLent, PlacedIn, Grows, termIn}
+use Rattle.unification.proofs.Grows.{ready-names, parts-placed, grows-refl, grows-trans, placed-grown, term-grown}
 use Rattle.unification.proofs.NodesGrow.{container-row}
 use Rattle.unification.proofs.MakingGrows.{MadeFrom, made-then, made-so, made-grows, AllPlaced, HasShape, push-grows, IsSort, container-grows, Functions, no-function, one-function, functions-grow}
-use Rattle.unification.proofs.PlaceTerms.{sort-placed, termIn, placed-formed, sort-part-below, term-by-shape, term-at-end, sort-term, primitive-placed, primitive-term}
+use Rattle.unification.proofs.PlaceTerms.{sort-placed, placed-formed, sort-part-below, term-by-shape, term-at-end, sort-term, primitive-placed, primitive-term}
 
 -- the sort of a term with a known head
 flat-tree : (a : Flat) (us : Terms) (t : Tree) → app (flatHead a) us ≡ termOf t → t ≡ flat a

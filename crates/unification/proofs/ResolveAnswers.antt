@@ -29,10 +29,8 @@ use Rattle.unification.specs.Making.{Lent, graph}
 use Rattle.unification.proofs.ResolvedSorts.{resolve-kept}
 use Rattle.unification.proofs.ResolvedPlaces.{value-formed}
 use Rattle.unification.proofs.Resolved.{resolved-is-every-assignment, resolve-none-exactly, resolve-or-default-never-none, resolve-or-default-is-the-assignment}
-use Rattle.unification.proofs.Grows.{CheckedLent, PlacedIn, Grows}
-use Rattle.unification.proofs.BindsGrow.{CheckedBinds}
-use Rattle.unification.proofs.SortsGrow.{withSortWords}
-use Rattle.unification.proofs.SortsLeft.{ReadsAs, Leaves, left-by, leaves-sort, leaves-none, leaves-full}
+use Rattle.unification.specs.Growing.{CheckedLent, PlacedIn, Grows, CheckedBinds, withSortWords, ReadsAs}
+use Rattle.unification.proofs.SortsLeft.{Leaves, left-by, leaves-sort, leaves-none, leaves-full}
 
 -- each free variable has the default, where there is one
 abbrev pub FreeHave : Lent → Binds → Default → (ℕ → Term) → Type 0

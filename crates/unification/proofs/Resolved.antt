@@ -15,14 +15,14 @@ use Rattle.resolved_sort.proofs.Reached.{no-confusion}
 use Rattle.unification.specs.Term.{Head, flatHead, containerHead, functionHead, strayHead, Term, var, app, Terms, no-part, part, Shape, variable, over, termOf, termsOf, substitute, substitutes}
 use Rattle.unification.specs.Nodes.{isPlace, shapeAt, Binds, binding}
 use Rattle.unification.specs.Unify.{deep, follow}
-use Rattle.unification.specs.Acyclic.{One, first, later, Reaches, here, inside, beyond}
+use Rattle.unification.specs.Acyclic.{One, first, later, Reaches, here, inside, beyond, Lower}
 use Rattle.unification.specs.Checked.{NodesChecked, listsOf, BindsChecked}
 use Rattle.unification.specs.Solutions.{termsAt, valueBound, valueAt, valueTo, termAt, Respects}
-use Rattle.unification.specs.Resolve.{value, firsts, treeOver, resolveTerm, resolveTerms, resolve, resolveOrDefault}
-use Rattle.unification.proofs.Exact.{shapeVal, follow-value}
+use Rattle.unification.specs.Resolve.{value, firsts, treeOver, resolveTerm, resolveTerms, resolve, resolveOrDefault, NoRoomFor, Determined, determined, underdetermined, out-of-room}
+use Rattle.unification.specs.Exact.{shapeVal}
+use Rattle.unification.proofs.Exact.{follow-value}
 use Rattle.unification.proofs.Rank.{highest, rank, Ranked, rank-var, rank-over, one-highest}
 use Rattle.unification.proofs.Parts.{puts-agree}
-use Rattle.unification.proofs.Numbering.{Lower}
 use Rattle.unification.proofs.Enough.{model}
 use Rattle.unification.proofs.Enough as Enough
 use Rattle.unification.proofs.Solved.{value-by-shape, solution}
@@ -300,12 +300,6 @@ module _ (shape : ℕ → Shape) (w : ℕ) (B : Binds) (A : Ranked shape w B) wh
     pub put-value : (p : ℕ) → substitute σ (val p) ≡ now p
     put-value p = put-value-to w p (A .short p)
 
--- room ends only at a sort that the list has not and that does not fit
-pub record NoRoomFor (S : Sorts) : Type 0 where
-  pub sort : Tree
-  pub absent : member (S .trees) sort ≡ false
-  pub too-big : fits sort S ≡ false
-
 unfoldable Ends : {A : Type 0} → Outcome A → Type 0
 Ends (made a S) = Unit {0}
 Ends (nothing S) = Unit {0}
@@ -347,12 +341,6 @@ mutual
   resolves-end d no-part S = made-ends [] S
   resolves-end d (part t ts) S =
       ends-then (resolveTerm d t S) _ (resolve-ends d t S) (λ u S₁. ends-then (resolveTerms d ts S₁) _ (resolves-end d ts S₁) (λ us S₂. made-ends (u ∷ us) S₂))
-
--- An answer of resolve by what is free: a sort, where the place reaches no free variable; none, where it reaches one; or room ended.
-pub data Determined (shape : ℕ → Shape) (B : Binds) (p : ℕ) : Outcome Tree → Type 0 where
-  determined : (t : Tree) (S : Sorts) → ((u : ℕ) → Reaches shape B u p → binding B u ≡ none → ⊥) → Determined shape B p (made t S)
-  underdetermined : (S : Sorts) (u : ℕ) → Reaches shape B u p → binding B u ≡ none → Determined shape B p (nothing S)
-  out-of-room : (S : Sorts) → NoRoomFor S → Determined shape B p (full S)
 
 module _ (ws : List ℕ) (n e : ℕ) (ns : List ℕ) (m d v : ℕ) (c : NodesChecked ws n e ns m d v) (B : Binds) (b : BindsChecked (listsOf ws n ns m) v B) where
   abbrev graph : ℕ → Shape

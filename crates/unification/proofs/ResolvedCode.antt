@@ -19,11 +19,13 @@ use Rattle.resolved_sort.specs.Interning.{Sorts, look, member, need, Outcome, m
 use Rattle.resolved_sort.specs.Storage.{maxEntries, trees, lookAll, numbers, sortsOf}
 use Rattle.resolved_sort.specs.Entries.{countsOf, after, stored}
 use Rattle.resolved_sort.specs.Rows.{Checked, storedAt, AllBelow}
-use Rattle.resolved_sort.specs.Bounds.{internAt, storedDomain, domainOf}
-use Rattle.resolved_sort.proofs.RowTrees.{weaken-all, partsIn, members, lookAll-numbers, numbers-below}
+use Rattle.resolved_sort.specs.Bounds.{internAt}
+use Rattle.resolved_sort.specs.Inner.Bounds.{storedDomain, domainOf}
+use Rattle.resolved_sort.proofs.RowTrees.{weaken-all, lookAll-numbers, numbers-below}
+use Rattle.resolved_sort.specs.Growing.{partsIn, members, Grown, Extends, Kept, InTree}
 use Rattle.resolved_sort.proofs.Append.{length-numbers}
-use Rattle.resolved_sort.proofs.Grown.{Grown, grown-none, after-none, sorts-again}
-use Rattle.resolved_sort.proofs.Kept.{Extends, extends-refl, member-extends, members-extends, Kept, InTree, InTrees, kept-then, intern-kept}
+use Rattle.resolved_sort.proofs.Grown.{grown-none, after-none, sorts-again}
+use Rattle.resolved_sort.proofs.Kept.{extends-refl, member-extends, members-extends, InTrees, kept-then, intern-kept}
 use Rattle.resolved_sort.proofs.Reached.{Reached, reached, stopped, ended, reached-checked, reached-list, reached-trees, reached-below, reached-sort, reached-sorts, stored-again, intern-after}
 use Rattle.resolved_sort.proofs.BoundsCode.{counts-are}
 use Rattle.resolved_sort.proofs.DomainCode.{domain-glue}

@@ -13,7 +13,7 @@ use Rattle.resolved_sort.specs.Storage.{trees}
 use Rattle.resolved_sort.specs.Entries.{after}
 use Rattle.resolved_sort.proofs.Numbers.{member-look, member-grows}
 use Rattle.resolved_sort.proofs.Trees.{length-trees}
-use Rattle.resolved_sort.proofs.Grown.{Grown}
+use Rattle.resolved_sort.specs.Growing.{Grown}
 use Rattle.unification.specs.Term.{Term, var, Shape, variable, over, termOf}
 use Rattle.unification.specs.Nodes.{Lists, isPlace, shapeAt, Binds, binding}
 use Rattle.unification.specs.Unify.{deep}
@@ -27,8 +27,8 @@ use Rattle.unification.proofs.Places.{bound-is-place}
 use Rattle.unification.proofs.Rows.{ShapeFormed, variable-formed, flat-formed, container-formed, function-formed}
 use Rattle.unification.proofs.Lists.{part-is-place, place-formed, sort-value}
 use Rattle.unification.proofs.Theorem.{checked-ranked}
-use Rattle.unification.proofs.Agree.{Names}
-use Rattle.unification.proofs.Grows.{PlacedIn, Grows, placed-grown, value-grown}
+use Rattle.unification.specs.Growing.{Names, PlacedIn, Grows}
+use Rattle.unification.proofs.Grows.{placed-grown, value-grown}
 use Rattle.unification.proofs.SortsGrow.{withMoreSorts, sorts-grow}
 use Rattle.unification.proofs.ResolvedSorts.{count, HeadOver, Formed, AllFormed, sort-is-found}
 

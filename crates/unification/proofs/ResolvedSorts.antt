@@ -14,9 +14,9 @@ use Rattle.resolved_sort.specs.Interning.{Sorts, look, number, member, need, ma
 use Rattle.resolved_sort.specs.Storage.{maxEntries, trees}
 use Rattle.resolved_sort.specs.Entries.{after}
 use Rattle.resolved_sort.proofs.Numbers.{look-number, number-below}
-use Rattle.resolved_sort.proofs.RowTrees.{partsIn, members}
-use Rattle.resolved_sort.proofs.Grown.{Grown, grown-none, sorts-again}
-use Rattle.resolved_sort.proofs.Kept.{Extends, extends-refl, member-extends, Kept, InTree, kept-then, intern-kept, container-interned, function-interned, Whole, Wholes}
+use Rattle.resolved_sort.specs.Growing.{partsIn, members, Grown, Extends, Kept, InTree, Whole, Wholes}
+use Rattle.resolved_sort.proofs.Grown.{grown-none, sorts-again}
+use Rattle.resolved_sort.proofs.Kept.{extends-refl, member-extends, kept-then, intern-kept, container-interned, function-interned}
 use Rattle.resolved_sort.proofs.Stored.{look-whole}
 use Rattle.unification.specs.Term.{Head, flatHead, containerHead, functionHead, strayHead, Term, var, app, Terms, no-part, part, termOf, termsOf}
 use Rattle.unification.specs.Resolve.{firsts, treeOver, resolveTerm, resolveTerms}

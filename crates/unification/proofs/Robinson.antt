@@ -14,25 +14,15 @@ use lib.ListN.{length, set, length-set}
 use Rattle.resolved_sort.proofs.Reached.{no-confusion}
 use Rattle.unification.specs.Term.{Shape, variable, over, sameHead}
 use Rattle.unification.specs.Nodes.{isSort, Binds, binding}
-use Rattle.unification.specs.Acyclic.{Numbering}
+use Rattle.unification.specs.Acyclic.{Numbering, Lower}
 use Rattle.unification.specs.Trail.{frees}
 use Rattle.unification.specs.Unify.{Unifies, too-deep, no-way, yes-with, and-then, Occurs, unknown, absent, present, follow, occurs, bindUnless, unifyAll, unifyHeads, unifyVariables, unifyShapes, unifyApart, unifyEnds, unifyFollowed, unifyTo}
 use Rattle.unification.proofs.Rank.{highest, rank, Ranked, rank-over, frees-set}
 use Rattle.unification.proofs.Follow.{follow-end}
-use Rattle.unification.proofs.Numbering.{Lower, numbered-ranked}
+use Rattle.unification.proofs.Numbering.{numbered-ranked}
 use Rattle.unification.proofs.Enough.{follow-some, occurs-eq, occurs-known}
 use Rattle.unification.proofs.Binding.{binding-numbered}
-
--- What a yes leaves: numbered bindings, of the same length, and either the same or with fewer free.
-pub record Next (shape : ℕ → Shape) (n : ℕ) (B C : Binds) : Type 0 where
-  pub numbering : Numbering shape n C
-  pub long : length C ≡ length B
-  pub fewer : (C ≡ B) ⊎ (frees C < frees B)
-
-abbrev pub Kept : (ℕ → Shape) → ℕ → Binds → Unifies → Type 0
-Kept shape n B too-deep = Unit {0}
-Kept shape n B no-way = Unit {0}
-Kept shape n B (yes-with C) = Next shape n B C
+use Rattle.unification.specs.Exact.{Next, Kept}
 
 pub next-trans : (shape : ℕ → Shape) (n : ℕ) (B C D : Binds) → Next shape n B C → Next shape n C D → Next shape n B D
 next-trans shape n B C D x y = record { numbering = y .numbering; long = y .long ∙ x .long; fewer = go (x .fewer) (y .fewer) }

@@ -8,14 +8,15 @@ use lib.ListN.{length}
 use Rattle.unification.specs.Term.{Term, app, Shape, variable, over, substitute}
 use Rattle.unification.specs.Nodes.{Binds, binding}
 use Rattle.unification.specs.Unify.{Unifies, too-deep, no-way, yes-with, unifyTo}
-use Rattle.unification.specs.Acyclic.{Reaches, here, inside, beyond, Acyclic, Numbering}
+use Rattle.unification.specs.Acyclic.{Reaches, here, inside, beyond, Acyclic, Numbering, Lower}
 use Rattle.unification.specs.Solutions.{termOfShape, termTo, termAt, valueBound, valueTo, Respects, Robinson, says-no, says-yes}
-use Rattle.unification.proofs.Exact.{shapeVal, Model, Exact, Apart, unify-exact}
+use Rattle.unification.specs.Exact.{shapeVal, Model, Exact, Apart, Kept}
+use Rattle.unification.proofs.Exact.{unify-exact}
 use Rattle.unification.proofs.Rank.{rank, Ranked, rank-var, rank-over, one-highest}
 use Rattle.unification.proofs.Parts.{termsAt-agree, puts-agree}
-use Rattle.unification.proofs.Numbering.{Lower, numbered-ranked}
+use Rattle.unification.proofs.Numbering.{numbered-ranked}
 use Rattle.unification.proofs.Enough.{model}
-use Rattle.unification.proofs.Robinson.{Kept, unify-kept}
+use Rattle.unification.proofs.Robinson.{unify-kept}
 use Rattle.unification.proofs.Equations.{unify-answers}
 
 module _ (shape : ℕ → Shape) (K : ℕ) (lower : Lower shape K) where

@@ -17,8 +17,8 @@ use Rattle.resolved_sort.specs.Checks.{fixedSix, partsBelow}
 use Rattle.resolved_sort.specs.Rows.{Checked}
 use Rattle.resolved_sort.proofs.Below.{each-below}
 use Rattle.resolved_sort.proofs.Trees.{look-longer}
-use Rattle.resolved_sort.proofs.Append.{Agrees, entries-agree, rows-agree, trees-agree}
-use Rattle.resolved_sort.proofs.Grown.{Grown}
+use Rattle.resolved_sort.specs.Growing.{Agrees, Grown}
+use Rattle.resolved_sort.proofs.Append.{entries-agree, rows-agree, trees-agree}
 use Rattle.resolved_sort.proofs.Unchanged.{longer, entries-longer, unchanged, length-after}
 use Rattle.unification.specs.Term.{functionHead, over}
 use Rattle.unification.specs.Nodes.{sortShape}
@@ -28,16 +28,8 @@ use Rattle.unification.specs.Checked.{Ready}
 use Rattle.unification.specs.Making.{Lent}
 use Rattle.unification.proofs.Lists.{sort-parts-fine}
 use Rattle.unification.proofs.Rows.{sort-function-fine, fixed-six-kinds}
-use Rattle.unification.proofs.Grows.{CheckedLent, Grows, rows-same, node-fine-longer, ready-grown}
-
--- the lists with other words for the sorts, of which n sorts and e entries count
-abbrev pub withSortWords : Lent → List ℕ → ℕ → ℕ → Lent
-withSortWords W us n e =
-    record {
-      sorts = us;
-      nodes = W .nodes;
-      lengths = record { sorts = n; entries = e; nodes = W .lengths .nodes; arguments = W .lengths .arguments; variables = W .lengths .variables };
-    }
+use Rattle.unification.specs.Growing.{CheckedLent, Grows, withSortWords}
+use Rattle.unification.proofs.Grows.{rows-same, node-fine-longer, ready-grown}
 
 -- the lists with the sorts S
 abbrev pub withMoreSorts : Lent → Sorts → Lent

@@ -21,21 +21,16 @@ use Rattle.resolved_sort.proofs.Below.{below-each, each-below}
 use Rattle.resolved_sort.proofs.Numbers.{look-number, number-below}
 use Rattle.resolved_sort.proofs.RowTrees.{row-within}
 use Rattle.resolved_sort.proofs.Fine.{run-inside, row-fine}
-use Rattle.resolved_sort.proofs.Append.{Agrees, rows-agree, trees-agree}
-use Rattle.resolved_sort.proofs.Grown.{Grown}
+use Rattle.resolved_sort.specs.Growing.{Agrees, Grown, Kept, InTree}
+use Rattle.resolved_sort.proofs.Append.{rows-agree, trees-agree}
 use Rattle.resolved_sort.proofs.Unchanged.{longer, unchanged, length-after}
-use Rattle.resolved_sort.proofs.Kept.{Kept, InTree}
 use Rattle.unification.specs.Making.{Lent}
-use Rattle.unification.proofs.Grows.{CheckedLent, Grows}
-use Rattle.unification.proofs.SortsGrow.{withSortWords, agreeing-sorts-grow, sorts-grow}
+use Rattle.unification.specs.Growing.{CheckedLent, Grows, withSortWords, ReadsAs}
+use Rattle.unification.proofs.SortsGrow.{agreeing-sorts-grow, sorts-grow}
 
 -- a number of the list, with a sort of which P holds
 abbrev pub SortWith : (Tree → Type 0) → Lent → ℕ → Type 0
 SortWith P W a = (a < W .lengths .sorts) × P (look (trees (W .sorts) (W .lengths .sorts)) a)
-
--- words that read as those of W below its lengths
-abbrev pub ReadsAs : Lent → List ℕ → Type 0
-ReadsAs W us = Agrees (W .sorts) us (W .lengths .sorts) (W .lengths .entries) × (length us ≡ length (W .sorts))
 
 -- A call on W answered and left the words us: a sort of which P holds; or none, and N; or there was no room.
 unfoldable pub Leaves : (Tree → Type 0) → Type 0 → Lent → List ℕ → Joined → Type 0

@@ -17,7 +17,7 @@ use Rattle.unification.specs.Term.{flatHead, containerHead, functionHead
 use Rattle.unification.specs.Nodes.{Binds, binding}
 use Rattle.unification.specs.Unify.{deep}
 use Rattle.unification.specs.Solutions.{valueBound, valueAt, termAt, Respects}
-use Rattle.unification.specs.Resolve.{value, resolve, resolveOrDefault}
+use Rattle.unification.specs.Resolve.{value, resolve, resolveOrDefault, general}
 use Rattle.unification.specs.Related.{each}
 use Rattle.unification.specs.FinalRange.{FreeEnd, free, bound-to, range}
 use Rattle.unification.specs.Making.{Lent, graph, made, no-list, strictRelated}
@@ -27,13 +27,11 @@ use Rattle.unification.proofs.Solved.{solution}
 use Rattle.unification.proofs.Theorem.{deep-enough}
 use Rattle.unification.proofs.Resolved.{value-eq, put-place, stands-free}
 use Rattle.unification.proofs.RelatedEq.{function-parts, range-lower}
-use Rattle.unification.proofs.Grows.{CheckedLent, PlacedIn}
-use Rattle.unification.proofs.BindsGrow.{CheckedBinds}
+use Rattle.unification.specs.Growing.{CheckedLent, PlacedIn, CheckedBinds, termIn}
 use Rattle.unification.proofs.Assignments.{place-has-a-sort, sorts-extend}
-use Rattle.unification.proofs.MostGeneral.{general, general-respects, value-is-general}
+use Rattle.unification.proofs.MostGeneral.{general-respects, value-is-general}
 use Rattle.unification.proofs.UpToNames.{Instance, SameButNames, instances-same-but-names, put-agrees, put-twice, resolve-up-to-names, openEnd, open-up-to-names, open-at-part}
 use Rattle.unification.proofs.MakingGrows.{made-grows}
-use Rattle.unification.proofs.PlaceTerms.{termIn}
 use Rattle.unification.proofs.RelatedPlaces.{StandForRelated}
 use Rattle.unification.proofs.RelatedBinds.{checked-ranks, no-list-is-free, free-is-no-list, related-makes}
 

@@ -10,7 +10,7 @@ use lib.ListN.{length}
 use Rattle.unification.specs.declared.Lengths.{Lengths}
 use Rattle.unification.specs.Nodes.{maxVars, shapeAt, Binds, bindsOf}
 use Rattle.unification.specs.Unify.{deep, deeper, unify}
-use Rattle.unification.specs.Acyclic.{Acyclic, acyclic}
+use Rattle.unification.specs.Acyclic.{Acyclic, acyclic, Cyclic}
 use Rattle.unification.specs.NodeChecks.{bindingsFine}
 use Rattle.unification.specs.Checked.{ListsFine, NodesChecked, fineOf, listsOf, BindsChecked, graphOf, Ready}
 use Rattle.unification.specs.Solutions.{Robinson}
@@ -19,7 +19,7 @@ use Rattle.unification.proofs.Numbering.{numbered-ranked}
 use Rattle.unification.proofs.FineLists as fine
 use Rattle.unification.proofs.Lists.{lower, scoped, apart}
 use Rattle.unification.proofs.Settles.{acyclic-numbered}
-use Rattle.unification.proofs.Cycle.{Cyclic, refused-cyclic}
+use Rattle.unification.proofs.Cycle.{refused-cyclic}
 use Rattle.unification.proofs.Solved.{robinson, numbered-acyclic}
 
 deep-for : (v : ℕ) → v ≤ maxVars → suc v * 3073 + 3072 < deep

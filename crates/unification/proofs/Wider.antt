@@ -3,7 +3,7 @@
 -- it is as long as the level; and where a sort is the i-th narrower one of another, that is the i-th wider one of it. As family and level determine a
 -- head, whatever is i + 1 steps away is the i-th. Assumes nothing.
 use mathlib.Core.Path.{_≡_, refl, ap, sym, _∙_, subst}
-use mathlib.Core.Bool.{Bool, true, false, cond, not}
+use mathlib.Core.Bool.{Bool, true, false, not}
 use mathlib.Core.List.{List, [], _∷_}
 use mathlib.Core.Option.{some, Option, none}
 use mathlib.Core.Logic.{_↔_, _≢_}
@@ -13,17 +13,14 @@ use lib.ListN.{length}
 use Rattle.resolved_sort.specs.declared.Sort.{Sort}
 use Rattle.resolved_sort.specs.declared.ComplexSort.{ComplexSort}
 use Rattle.resolved_sort.specs.Tree.{Flat, unit, primitive, def, typevar, Tree, flat, container, function, Trees, family, level, familyOp, levelOp}
-use Rattle.resolved_sort.specs.Order.{leFlat, leOp, Steps, apart, materializable, map₁, mostSteps}
+use Rattle.resolved_sort.specs.Order.{leFlat, leOp, Steps, apart, map₁, mostSteps}
 use Rattle.resolved_sort.specs.Exact.{total, exact, exacts, stopped}
 use Rattle.resolved_sort.proofs.Heads.{leHead, Reaches, head-exactly, head-flips, flat-injective, op-injective}
 use Rattle.resolved_sort.proofs.Materializable.{Materializes, number, operator, range, materializable-exactly}
 use Rattle.resolved_sort.proofs.Distance.{distance-of-equal, distances-of-equal, distance-stops-once, distances-stop-once}
 use Rattle.resolved_sort.proofs.Reached.{no-confusion}
 use Rattle.unification.specs.Related.{relatedNumbers, relatedContainer, each, related, Member, first, later}
-
--- u is materializable from t (up true), or t from u
-abbrev pub reaches : Bool → Tree → Tree → Bool
-reaches up t u = cond up (materializable t u) (materializable u t)
+use Rattle.unification.specs.Reference.{reaches, Distant}
 
 member-below : {A : Type 0} (xs : List A) (i : ℕ) → i < length xs → (x : A) × Member x i xs
 member-below [] i l = absurd (omega (arith, l))
@@ -195,10 +192,6 @@ exacts-of-equal up ss = go (exacts up ss ss) (sym (distances-stop-once up ss ss)
     go : (o : Option ℕ) → map₁ (min mostSteps) o ≡ some 0 → o ≡ some 0
     go none e = no-confusion (cc)
     go (some n) e = let z : min mostSteps n ≡ 0 = cc in ap some (omega (arith, z))
-
--- k steps apart, by the distance without stopping
-abbrev pub Distant : Bool → Tree → Tree → ℕ → Type 0
-Distant up t u k = (s : Steps) × (exact up t u ≡ some s) × (total s ≡ k)
 
 away-distant : (up : Bool) (t u : Tree) (k : ℕ) → Away up t u k → Distant up t u k
 unfolding exact

@@ -12,20 +12,16 @@ use Rattle.resolved_sort.specs.declared.ComplexSort.{ComplexSort}
 use Rattle.resolved_sort.specs.Tree.{unit, primitive, def, typevar, Tree, flat, container, function, Trees}
 use Rattle.resolved_sort.specs.Checks.{fixedSix}
 use Rattle.resolved_sort.specs.Reference.{Converts, pos-to-nat, nat-to-int, int-to-real, fset-to-set, fbag-to-bag, Widens, stays, then}
-use Rattle.resolved_sort.proofs.Materializable.{isFunction}
+use Rattle.resolved_sort.specs.Order.{isFunction}
 use Rattle.unification.specs.Term.{Term, termOf, substitute}
 use Rattle.unification.specs.Nodes.{bindsOf}
 use Rattle.unification.specs.Solutions.{termAt, Respects}
 use Rattle.unification.specs.Related.{relatedNumbers, relatedContainer, each, related, Member, first, later}
 use Rattle.unification.specs.Making.{Lent, graph, made, strictRelated}
-use Rattle.unification.proofs.Grows.{ReadyLent, PlacedIn}
-use Rattle.unification.proofs.Wider.{reaches, member-each, each-member, Distant, nearest-first, related-exactly}
+use Rattle.unification.specs.Growing.{ReadyLent, PlacedIn}
+use Rattle.unification.specs.Reference.{reaches, Distant, Conversions, no-more, and-then, ListsRelated}
+use Rattle.unification.proofs.Wider.{member-each, each-member, nearest-first, related-exactly}
 use Rattle.unification.proofs.RelatedPlaces.{strict-related-places}
-
--- so many conversions, one after another
-pub data Conversions : ℕ → Tree → Tree → Type 0 where
-  no-more : {s : Tree} → Conversions zero s s
-  and-then : {k : ℕ} {s t u : Tree} → Conversions k s t → Converts t u → Conversions (suc k) s u
 
 pub widens-counted : (s t : Tree) → Widens s t ↔ ((k : ℕ) × Conversions k s t)
 widens-counted s t = (count, λ x. forget (x .1))
@@ -162,12 +158,6 @@ narrower-by-conversions t u i f = (narrower-converts u i t f, converts-narrower 
 pub function-by-range : (up : Bool) (ss : Trees) (r u : Tree) (i : ℕ) → Member u i (related up (function ss r)) ↔ ((w : Tree) × (u ≡ function ss w) × Member w i (related up r))
 unfolding related
 function-by-range up ss r u i = (λ h. each-member (function ss) u i (related up r) h, λ x. rw (x .1) (member-each (function ss) (x .2)))
-
--- What the places of a wider (narrower) list stand for, where the place asked about stands for t: the i-th for a sort that is materializable in the
--- direction, unequal to t, and i + 1 steps from it; and every such sort is listed.
-pub record ListsRelated (up : Bool) (stands : ℕ → Term) (t : Tree) (qs : List ℕ) : Type 0 where
-  pub sound : (q i : ℕ) → Member q i qs → (u : Tree) × (stands q ≡ termOf u) × (reaches up t u ≡ true) × (t ≢ u) × Distant up t u (suc i)
-  pub complete : (u : Tree) → reaches up t u ≡ true → t ≢ u → (i : ℕ) × (q : ℕ) × Member q i qs × (stands q ≡ termOf u) × Distant up t u (suc i)
 
 lists-related : (up : Bool) (stands : ℕ → Term) (t : Tree) (qs : List ℕ) → each stands qs ≡ each termOf (related up t) → ListsRelated up stands t qs
 lists-related up stands t qs e = record { sound = sound; complete = complete }

@@ -77,3 +77,11 @@ allTrue (b ∷ bs) = b && allTrue bs
 -- as many rounds as there are variables settle all that can be
 unfoldable pub acyclic : List ℕ → ℕ → Binds → Bool
 acyclic ns m B = allTrue (rounds ns m B (length B))
+
+-- some variable reaches itself
+abbrev pub Cyclic : (ℕ → Shape) → Binds → Type 0
+Cyclic shape B = (u : ℕ) × (q : ℕ) × (binding B u ≡ some q) × Reaches shape B u q
+
+-- parts are numbered below the sort that they are parts of, and what has parts is below the ceiling K of places
+abbrev pub Lower : (ℕ → Shape) → ℕ → Type 0
+Lower shape K = (p q : ℕ) (h : Head) (ps : List ℕ) → shape p ≡ over h ps → One q ps → (q < p) × (p < K)

@@ -12,3 +12,7 @@ pub mod Resolve
 pub mod Related
 pub mod Making
 pub mod FinalRange
+pub mod Exact
+pub mod Growing
+pub mod Reference
+pub mod Inner

@@ -29,9 +29,6 @@ pub record Lent : Type 0 where
   pub nodes : List ℕ
   pub lengths : Lengths
 
-abbrev pub lent : List ℕ → List ℕ → Lengths → Lent
-lent ws ns k = record { sorts = ws; nodes = ns; lengths = k }
-
 abbrev pub graph : Lent → ℕ → Shape
 graph W = graphOf (W .sorts) (W .nodes) (W .lengths)
 

@@ -7,21 +7,20 @@ use Prim.Native.Nat.{ℕ, zero, suc, _<_}
 use lib.ListN.{getD}
 use Rattle.resolved_sort.specs.Tree.{unit, Tree, flat, container, function, Trees, no-args, arg}
 use Rattle.resolved_sort.specs.declared.Counts.{Counts}
-use Rattle.resolved_sort.specs.declared.Joined.{Joined}
-use Rattle.resolved_sort.specs.declared.Joined.the-variants.{At, Nothing as NotFound}
-use Rattle.resolved_sort.specs.Interning.{Sorts, look, Outcome, made, _then_, where-some, intern}
+use Rattle.resolved_sort.specs.Interning.{Sorts, look, Outcome, made, _then_, where-some, intern, member, nothing, full, fits}
 use Rattle.resolved_sort.specs.Storage.{trees, sortsOf}
 use Rattle.resolved_sort.specs.Entries.{Stored, stored}
-use Rattle.resolved_sort.specs.Bounds.{StoredDomain, domainOf}
+use Rattle.resolved_sort.specs.Inner.Bounds.{StoredDomain, domainOf}
 use Rattle.unification.specs.declared.Lengths.{Lengths}
 use Rattle.unification.specs.declared.Default.{Default}
 use Rattle.unification.specs.declared.Default.the-variants.{Is, Nothing}
-use Rattle.unification.specs.Term.{Head, flatHead, containerHead, functionHead, strayHead, Term}
-use Rattle.unification.specs.Term.{var, app, Terms, no-part, part, Shape}
-use Rattle.unification.specs.Nodes.{Binds, bindsOf}
+use Rattle.unification.specs.Term.{Head, flatHead, containerHead, functionHead, strayHead, Term, var, app, Terms, no-part, part, Shape}
+use Rattle.unification.specs.Nodes.{Binds, binding}
 use Rattle.unification.specs.Unify.{deep}
-use Rattle.unification.specs.Checked.{graphOf}
-use Rattle.unification.specs.Solutions.{valueTo}
+use Rattle.unification.specs.Solutions.{valueTo, valueBound}
+use mathlib.Core.Path.{_≡_}
+use mathlib.Core.Bool.{false}
+use Rattle.unification.specs.Acyclic.{Reaches}
 
 -- the term of a place through the bindings; what is free stays a variable
 abbrev pub value : (ℕ → Shape) → Binds → ℕ → Term
@@ -70,11 +69,6 @@ abbrev pub defaultOf : List Tree → Default → Option Tree
 defaultOf T (Is d) = some (look T (d .0))
 defaultOf T Nothing = none
 
--- what a free variable answers
-abbrev pub freeSort : Counts → Default → Joined
-freeSort c (Is d) = At d c
-freeSort c Nothing = NotFound c
-
 abbrev pub DefaultBelow : ℕ → Default → Type 0
 DefaultBelow n (Is d) = d .0 < n
 DefaultBelow n Nothing = Unit {0}
@@ -82,9 +76,6 @@ DefaultBelow n Nothing = Unit {0}
 -- the default, and the term of a place
 abbrev pub defaultIn : List ℕ → Lengths → Default → Option Tree
 defaultIn ws k x = defaultOf (trees ws (k .sorts)) x
-
-abbrev pub valueIn : List ℕ → List ℕ → List ℕ → Lengths → ℕ → Term
-valueIn ws ns bs k p = value (graphOf ws ns k) (bindsOf bs (k .variables)) p
 
 unfoldable pub termResolved : List ℕ → Lengths → Default → Term → Stored
 termResolved ws k x t =
@@ -104,3 +95,18 @@ withCounts k c =
       arguments = k .arguments;
       variables = k .variables;
     }
+
+abbrev pub general : (ℕ → Shape) → Binds → ℕ → Term
+general shape B u = valueBound var u (value shape B) (binding B u)
+
+-- room ends only at a sort that the list has not and that does not fit
+pub record NoRoomFor (S : Sorts) : Type 0 where
+  pub sort : Tree
+  pub absent : member (S .trees) sort ≡ false
+  pub too-big : fits sort S ≡ false
+
+-- An answer of resolve by what is free: a sort, where the place reaches no free variable; none, where it reaches one; or room ended.
+pub data Determined (shape : ℕ → Shape) (B : Binds) (p : ℕ) : Outcome Tree → Type 0 where
+  determined : (t : Tree) (S : Sorts) → ((u : ℕ) → Reaches shape B u p → binding B u ≡ none → ⊥) → Determined shape B p (made t S)
+  underdetermined : (S : Sorts) (u : ℕ) → Reaches shape B u p → binding B u ≡ none → Determined shape B p (nothing S)
+  out-of-room : (S : Sorts) → NoRoomFor S → Determined shape B p (full S)

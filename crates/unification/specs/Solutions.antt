@@ -8,6 +8,7 @@ use Rattle.unification.specs.Term.{strayHead, Term, var, app, Terms, no-
 use Rattle.unification.specs.Nodes.{Binds, binding}
 use Rattle.unification.specs.Unify.{Unifies, yes-with, no-way}
 use Rattle.unification.specs.Acyclic.{Acyclic}
+use mathlib.Core.Logic.{_↔_}
 
 -- a shape, with terms for the places under it
 abbrev pub termsAt : (ℕ → Term) → List ℕ → Terms
@@ -60,3 +61,14 @@ module _ (shape : ℕ → Shape) where
         → ((free : ℕ → Term)
         → (σ : ℕ → Term) × (Respects C σ × ((v : ℕ) → binding C v ≡ none → σ v ≡ free v)))
         → Robinson B l r (yes-with C)
+
+module _ (shape shape′ : ℕ → Shape) where
+  -- Two problems of unify with the same solutions: bindings, and a left and a right place, each in its own lists.
+  pub record SameProblem (B : Binds) (l r : ℕ) (B′ : Binds) (l′ r′ : ℕ) : Type 0 where
+    pub respects : (σ : ℕ → Term) → Respects shape B σ ↔ Respects shape′ B′ σ
+    pub equates : (σ : ℕ → Term) → Respects shape B σ → Equates shape σ l r ↔ Equates shape′ σ l′ r′
+
+  -- Two answers that say the same: both no, or both yes with bindings that the same terms respect.
+  pub data SameAnswer : Unifies → Unifies → Type 0 where
+    both-no : SameAnswer no-way no-way
+    both-yes : (C C′ : Binds) → ((σ : ℕ → Term) → Respects shape C σ ↔ Respects shape′ C′ σ) → SameAnswer (yes-with C) (yes-with C′)

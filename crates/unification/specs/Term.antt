@@ -1,6 +1,6 @@
 -- Terms: sorts that may hold inference variables. And what stands at a place: one shape for sorts and nodes.
 use mathlib.Core.Bool.{Bool, _&&_}
-use mathlib.Core.List.{List, []}
+use mathlib.Core.List.{List}
 use Prim.Native.Nat.{ℕ}
 use lib.Dec.{eqb}
 use Rattle.resolved_sort.specs.declared.ComplexSort.{ComplexSort}
@@ -28,15 +28,6 @@ mutual
 pub data Shape : Type 0 where
   variable : ℕ → Shape
   over : Head → List ℕ → Shape
-
--- the head and the parts; a variable has no parts, and for a head one of its own
-abbrev pub headOf : Shape → Head
-headOf (variable v) = strayHead v
-headOf (over h ps) = h
-
-abbrev pub partsOf : Shape → List ℕ
-partsOf (variable v) = []
-partsOf (over h ps) = ps
 
 -- equal heads: of one kind and one number
 unfoldable pub kindHead : Head → ℕ

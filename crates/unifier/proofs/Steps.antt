@@ -19,7 +19,8 @@ use Rattle.unification.specs.declared.SortVar.{SortVar}
 use Rattle.unification.specs.declared.VarAt.the-variants.{Is, Nothing}
 use Rattle.unification.specs.declared.Tried.{Tried}
 use Rattle.unification.specs.declared.Tried.the-variants.{Yes, No}
-use Rattle.unification.specs.Term.{Head, Shape, variable, over, headOf, partsOf, sameHead}
+use Rattle.unification.specs.Term.{Head, Shape, variable, over, sameHead}
+use Rattle.unification.specs.Inner.Term.{headOf, partsOf}
 use Rattle.unification.specs.Nodes.{isSort, Binds, bindsOf}
 use Rattle.unification.specs.Unify.{Unifies, yes-with, no-way, too-deep, and-then, follow, occurs, bindUnless, unifyAll, unifyHeads, unifyVariables, unifyShapes, unifyApart, unifyEnds, unifyFollowed, unify, deep, deeper}
 use Rattle.unification.specs.Acyclic.{One}
@@ -32,13 +33,14 @@ use Rattle.unification.proofs.Follow.{follow-end}
 use Rattle.unification.proofs.Enough.{end-no-higher}
 use Rattle.unification.proofs.FineLists.{Place, is-sort, is-node, is-stray, place}
 use Rattle.unification.proofs.Lists.{lower, scoped, part-is-place}
-use Rattle.unification.proofs.Robinson.{Next, Kept, unify-kept}
+use Rattle.unification.specs.Exact.{Next, Kept}
+use Rattle.unification.proofs.Robinson.{unify-kept}
 use Rattle.unification.proofs.Equations.{unify-eq}
 use Rattle.unification.proofs.Theorem.{deep-enough, deeper-enough, ready-ranked}
-use Rattle.infer_nodes.specs.Parts.{NodesReady, varAt}
+use Rattle.infer_nodes.specs.Inner.Parts.{NodesReady, varAt}
 use Rattle.infer_nodes.proofs.Ways.{end-is-placed}
 use Rattle.infer_nodes.proofs.Parts.{same-count}
-use Rattle.unifier.specs.Trying.{Trying, Free, Solid, VariableAt}
+use Rattle.unifier.specs.Inner.Trying.{Trying, Free, Solid, VariableAt}
 use Rattle.unifier.proofs.Tries.{tries-as, binds-nothing, no-try, then-no, then-on, trying-on}
 
 -- what stands at a place, by what was found there

@@ -10,23 +10,14 @@ use lib.ListN.{length, getD, set, length-set}
 use lib.Seq.{getD-set-other}
 use Rattle.unification.specs.declared.Lengths.{Lengths}
 use Rattle.unification.specs.declared.Tried.{Tried}
-use Rattle.unification.specs.Nodes.{maxVars, freeWord, Binds, binding, bindingOf, bindsOf}
+use Rattle.unification.specs.Nodes.{freeWord, Binds, binding, bindingOf, bindsOf}
 use Rattle.unification.specs.Unify.{Unifies}
 use Rattle.unification.specs.Trail.{undo, frees, countOf, TryLeaves}
 use Rattle.resolved_sort.proofs.Reached.{no-confusion}
 use Rattle.unification.proofs.Equations.{frees-few}
 use Rattle.unification.proofs.Passed.{length-binds}
 use Rattle.unification.proofs.Settles.{bound-inside}
-
--- The trail ts from c on, up to d, and the bindings before it, B, and after it, C, of v variables.
-pub record OnTrail (ts : List ℕ) (c d v : ℕ) (B C : Binds) : Type 0 where
-  pub listed : (j : ℕ) → c ≤ j → j < d → getD ts j 0 < v
-  pub free-before : (j : ℕ) → c ≤ j → j < d → binding B (getD ts j 0) ≡ none
-  pub bound-after : (j : ℕ) → c ≤ j → j < d → (q : ℕ) × (binding C (getD ts j 0) ≡ some q)
-  pub once : (i j : ℕ) → c ≤ i → i < d → c ≤ j → j < d → getD ts i 0 ≡ getD ts j 0 → i ≡ j
-  pub every : (u q : ℕ) → binding B u ≡ none → binding C u ≡ some q → (j : ℕ) × (c ≤ j) × (j < d) × (getD ts j 0 ≡ u)
-  pub stays : (u q : ℕ) → binding B u ≡ some q → binding C u ≡ some q
-  pub few : (d - c ≤ v) × (v ≤ maxVars)
+use Rattle.unifier.specs.OnTrail.{OnTrail}
 
 -- a variable set free
 free-there : (B : Binds) (x : ℕ) → binding (set B x none) x ≡ none

@@ -23,7 +23,7 @@ use Rattle.unification.proofs.Passed.{length-binds}
 use Rattle.unification.proofs.Lists.{lower, scoped}
 use Rattle.unification.proofs.Places.{place-below}
 use Rattle.unification.proofs.Theorem.{deep-enough, ready-ranked}
-use Rattle.unifier.specs.Trying.{Trying, Free, VariableAt}
+use Rattle.unifier.specs.Inner.Trying.{Trying, Free, VariableAt}
 use Rattle.unifier.proofs.Words.{binds-set, freed, places-set, undo-split, undo-front}
 
 module _ (ws ns : List ℕ) (k : Lengths) where

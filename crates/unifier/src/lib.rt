@@ -20,11 +20,10 @@ ghost use Prim.Native.Nat.{_+_, _-_, _<_, _≤_};
 ghost use lib.ListN.{length, set};
 ghost use lib.Dec.{eqb};
 ghost use Rattle.unification.specs.Nodes.{isSort, bindsOf};
-ghost use Rattle.unification.specs.Unify.{occurs as occursIn, bindUnless, unifyVariables};
-ghost use Rattle.unification.specs.Unify.{unifyApart, unify as unifyOf, deep};
+ghost use Rattle.unification.specs.Unify.{occurs as occursIn, bindUnless, unifyVariables, unifyApart, unify as unifyOf, deep};
 ghost use Rattle.unification.specs.Checked.{graphOf, Placed};
 ghost use Rattle.unification.specs.Trail.{undo as undoOf, TryLeaves};
-ghost use Rattle.unifier.specs.Trying.{Trying, Free, Solid, VariableAt};
+ghost use Rattle.unifier.specs.Inner.Trying.{Trying, Free, Solid, VariableAt};
 
 // Binds a variable, and puts it on the trail.
 fn put_binding(binds: &mut [u16], trail: &mut [u16], count: u16, var: SortVar, value: InferSortId)

@@ -14,11 +14,10 @@ use Rattle.resolved_sort.specs.Entries.{refusedOr}
 use Rattle.resolved_sort.proofs.FirstFailing.{cons-passes}
 use Rattle.unification.specs.declared.Unified.the-variants.{Refused}
 use Rattle.unification.specs.Nodes.{shapeAt, bindsOf}
-use Rattle.unification.specs.Acyclic.{acyclic}
+use Rattle.unification.specs.Acyclic.{acyclic, Cyclic}
 use Rattle.unification.specs.NodeChecks.{nodesWithinLent, bindingsWithinLent, bindingsFine, nodeChecks, placeChecks, unifyChecks}
 use Rattle.unification.specs.Checked.{ListsFine, listsOf}
 use Rattle.unification.specs.UnifyEntry.{unifyEntry, codeUnified}
-use Rattle.unification.proofs.Cycle.{Cyclic}
 use Rattle.unification.proofs.Theorem.{check-7-exactly}
 use Rattle.unification.proofs.Passed.{length-binds, passed-fine}
 use Rattle.unify_entries.proofs.Codes.{code-of-unified}

@@ -6,7 +6,7 @@ use mathlib.Core.List.{List}
 use mathlib.Core.Option.{Option, none, some}
 use Prim.Native.Nat.{ℕ, _+_, _*_}
 use native.Mathlib.Omega.{arith}
-use Rattle.resolved_sort.specs.Checks.{firstFailing}
+use Rattle.resolved_sort.specs.Checks.{firstFailing, Numbered}
 use Rattle.resolved_sort.specs.Entries.{refusedOr}
 use Rattle.unification.specs.declared.Unified.{Unified}
 use Rattle.unification.specs.declared.Unified.the-variants.{Refused, Yes, No}
@@ -15,13 +15,8 @@ use Rattle.unification.specs.Unify.{Unifies, yes-with, no-way, too-deep, unify}
 use Rattle.unification.specs.NodeChecks.{nodeChecks, placeChecks, unifyChecks}
 use Rattle.unification.specs.Checked.{listsOf}
 use Rattle.unification.specs.UnifyEntry.{BindsLeft, bindsLeft, bindsLeftBy, unifyEntry, codeUnified, packUnified}
-use Rattle.resolved_sort.proofs.FailingNumber.{Numbered, failing-number}
-
--- a refusal has the number of a check
-abbrev pub Told : Unified → Type 0
-Told (Refused c) = Numbered c
-Told Yes = Unit {0}
-Told No = Unit {0}
+use Rattle.resolved_sort.proofs.FailingNumber.{failing-number}
+use Rattle.unify_entries.specs.Codes.{Told, yesUnified}
 
 left-told : (bs : List ℕ) (v : ℕ) (a : Unifies) → (codeUnified ((bindsLeftBy bs v a) .answer) ≡ 0) × Told ((bindsLeftBy bs v a) .answer)
 unfolding bindsLeftBy codeUnified
@@ -57,12 +52,6 @@ module _ (ws : List ℕ) (n e : ℕ) (ns : List ℕ) (m d : ℕ) (bs : List ℕ)
       go : (o : Option ℕ) → failing ≡ o → Told ((refusedOr o (λ c. bindsLeft bs (Refused c)) answered) .answer)
       go none x = left-told bs v (unify (shapeAt (listsOf ws n ns m)) (bindsOf bs v) l r) .1
       go (some c) x = refused-by-number c x
-
--- 1 for a yes
-abbrev pub yesUnified : Unified → ℕ
-yesUnified (Refused c) = 0
-yesUnified Yes = 1
-yesUnified No = 0
 
 pub unified-packed : (u : Unified) → packUnified u ≡ codeUnified u + 256 * yesUnified u
 unfolding packUnified codeUnified

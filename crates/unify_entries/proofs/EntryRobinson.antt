@@ -13,53 +13,26 @@ use lib.Seq.{drop-at}
 use Rattle.resolved_sort.specs.Checks.{firstFailing}
 use Rattle.resolved_sort.specs.Entries.{refusedOr}
 use Rattle.unification.specs.declared.Unified.{Unified}
-use Rattle.unification.specs.declared.Unified.the-variants.{Refused, Yes, No}
-use Rattle.unification.specs.Term.{Term, Shape}
+use Rattle.unification.specs.declared.Unified.the-variants.{Refused}
+use Rattle.unification.specs.Term.{Shape}
 use Rattle.unification.specs.Nodes.{shapeAt, freeWord, Binds, binding, bindsOf}
 use Rattle.unification.specs.Unify.{Unifies, yes-with, no-way, unify, deep, deeper}
 use Rattle.unification.specs.Acyclic.{acyclic}
 use Rattle.unification.specs.NodeChecks.{bindingsWithinLent, bindingsFine, nodeChecks, unifyChecks}
 use Rattle.unification.specs.Checked.{fineOf, listsOf, Ready}
-use Rattle.unification.specs.Solutions.{Respects, Equates, Robinson, says-no, says-yes}
+use Rattle.unification.specs.Solutions.{Robinson, says-no, says-yes}
 use Rattle.unification.specs.Making.{Lent}
 use Rattle.unification.specs.UnifyEntry.{bindingWords, BindsLeft, bindsLeft, bindsLeftBy, unifyEntry}
 use Rattle.unification.proofs.Places.{place-below}
-use Rattle.unification.proofs.Agree.{Names, unify-names}
-use Rattle.unification.proofs.Grows.{PlacedIn, ready-names, parts-placed}
+use Rattle.unification.specs.Growing.{Names, PlacedIn}
+use Rattle.unification.proofs.Agree.{unify-names}
+use Rattle.unification.proofs.Grows.{ready-names, parts-placed}
 use Rattle.unification.proofs.BindingWords.{length-words, binds-of-words, named-places-fine}
 use Rattle.unification.proofs.BoundStays.{as-many-variables}
 use Rattle.unification.proofs.Theorem.{unify-is-robinson, check-7-exactly}
 use Rattle.unification.proofs.Passed.{length-binds}
 use Rattle.unify_entries.proofs.Laws.{chain, ready, lhs-placed, rhs-placed}
-
-module _ (ws : List ℕ) (n e : ℕ) (ns : List ℕ) (m d : ℕ) (bs : List ℕ) (v l r : ℕ) where
-  -- the answer to the checks
-  abbrev pub failing : Option ℕ
-  failing = firstFailing (unifyChecks ws n e ns m d bs v l r)
-
-  -- A refusal: the first failing check, and the words as given.
-  pub record LeftRefused (vs : List ℕ) (c : ℕ) : Type 1 where
-    pub first : failing ≡ some c
-    pub given : vs ≡ bs
-
-  -- A no: the words as given, and nothing that respects their bindings makes the two places equal.
-  pub record LeftNo (vs : List ℕ) : Type 1 where
-    pub passed : failing ≡ none
-    pub given : vs ≡ bs
-    pub no-solution : (σ : ℕ → Term) → Respects (shapeAt (listsOf ws n ns m)) (bindsOf bs v) σ → Equates (shapeAt (listsOf ws n ns m)) σ l r → ⊥
-
-  -- A yes: the bindings in the words are Robinson's, the words past the variables are as given, and the words pass all checks.
-  pub record LeftYes (vs : List ℕ) : Type 1 where
-    pub passed : failing ≡ none
-    pub solved : Robinson (shapeAt (listsOf ws n ns m)) (bindsOf bs v) l r (yes-with (bindsOf vs v))
-    pub long : length vs ≡ length bs
-    pub past : drop v vs ≡ drop v bs
-    pub again : firstFailing (unifyChecks ws n e ns m d vs v l r) ≡ none
-
-  abbrev pub LeftSays : List ℕ → Unified → Type 1
-  LeftSays vs (Refused c) = LeftRefused vs c
-  LeftSays vs No = LeftNo vs
-  LeftSays vs Yes = LeftYes vs
+use Rattle.unify_entries.specs.Left.{failing, LeftYes, LeftSays}
 
 module _ (ws : List ℕ) (n e : ℕ) (ns : List ℕ) (m d : ℕ) (bs : List ℕ) (v l r : ℕ) where
   module _ (f : failing ws n e ns m d bs v l r ≡ none) where

@@ -13,7 +13,8 @@ use Rattle.resolved_sort.specs.declared.Tested.{Tested}
 use Rattle.resolved_sort.specs.declared.Tested.the-variants.{Refused, Passed}
 use Rattle.resolved_sort.specs.Storage.{maxSorts, maxEntries, fullLength}
 use Rattle.resolved_sort.specs.Checks.{withinLent, rowsFine, noTwoEqual, atCeiling, Check, firstFailing, sortRowChecks, sortChecks}
-use Rattle.resolved_sort.specs.Entries.{testedOf, refusedOr}
+use Rattle.resolved_sort.specs.Inner.Entries.{testedOf}
+use Rattle.resolved_sort.specs.Entries.{refusedOr}
 use Rattle.resolved_sort.proofs.FirstFailing.{first-fails, first-passes, cons-passes}
 use Rattle.resolved_sort.proofs.Testing.{refused-is, passed-is, fails, passes, first-refuses, second-decides, first-of-two, second-of-two, both-of-two}
 use Rattle.unification.specs.declared.Lengths.{Lengths}
@@ -32,7 +33,7 @@ use Rattle.unification.proofs.BindingWords.{words-of-binds}
 use Rattle.unification.proofs.Equations.{frees-few}
 use Rattle.unification.proofs.Passed.{length-binds, two-ceilings, passed-ready}
 use Rattle.unification.proofs.Passed as passed
-use Rattle.unifier.specs.Trying.{Trying}
+use Rattle.unifier.specs.Inner.Trying.{Trying}
 
 module _ (ws : List ℕ) (n : ℕ) (ns : List ℕ) (m l r : ℕ) where
   abbrev fourteen : Check

@@ -20,7 +20,7 @@ ghost use mathlib.Core.Path.{_≡_};
 ghost use mathlib.Core.List.{_++_};
 ghost use Prim.Native.Nat.{_≤_};
 ghost use Rattle.resolved_sort.specs.Checks.{firstFailing};
-ghost use Rattle.resolved_sort.specs.Entries.{testedOf};
+ghost use Rattle.resolved_sort.specs.Inner.Entries.{testedOf};
 ghost use Rattle.unification.specs.Nodes.{maxNodes, maxVars, bindsOf};
 ghost use Rattle.unification.specs.Unify.{unify as unifyOf};
 ghost use Rattle.unification.specs.NodeChecks.{nodeChecks, placeChecks, unifyChecks};

@@ -1,9 +1,6 @@
 -- The largest word, and the bits at which the fields of packed answers begin.
 use Prim.Native.Nat.{ℕ}
 
-abbrev pub mostWord : ℕ
-mostWord = 65535
-
 abbrev pub bit8 : ℕ
 bit8 = 256
 

@@ -1,7 +1,7 @@
 -- Each arm is the place of its message. Assumes nothing.
 use native.Mathlib.Omega.{arith}
 use borrow.Author.Needs.{needs}
-use Rattle.list_messages.specs.Messages.{messageNumber}
+use Rattle.list_messages.specs.Inner.Messages.{messageNumber}
 use Rattle.list_messages.proofs.place_of.Statement.{statement}
 use Rattle.list_messages.proofs.place_of.Tie as tie
 

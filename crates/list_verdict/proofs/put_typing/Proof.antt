@@ -1,10 +1,6 @@
 -- The sizes are found once; then the lines of expressions, the measure and the choices. Assumes nothing.
-use Prim.Native.Nat.{ℕ}
 use Rattle.text_out.proofs.Within as law
-use Rattle.list_verdict.specs.Room.{SizesOf}
 use Rattle.list_verdict.specs.Text.{typingText}
-use lib.ListN.{length-replicate}
-use native.Mathlib.Omega.{arith}
 use borrow.Author.Needs.{needs}
 use Rattle.list_verdict.proofs.put_typing.Statement.{statement}
 use Rattle.list_verdict.proofs.put_typing.Tie as tie

@@ -1,13 +1,13 @@
 -- The invariant: every argument passed is a place. Assumes nothing.
 use Prim.Native.Nat.{_-_, _≤_}
-use Rattle.node_checks.specs.Tests.{argPlaced}
+use Rattle.node_checks.specs.Inner.Tests.{argPlaced}
 use Rattle.resolved_sort.specs.Checks.{allBelow}
 use Rattle.sort_checks.proofs.Below as below
 use Rattle.unification.specs.Nodes.{isPlace}
 use borrow.Author.Needs.{needs}
 use borrow.Author.Tests.{not-true, not-false}
 use mathlib.Core.Bool.{true}
-use mathlib.Core.Path.{_≡_, refl, sym, ap, _∙_}
+use mathlib.Core.Path.{_≡_, ap, _∙_}
 use native.Mathlib.Omega.{arith}
 use Rattle.node_checks.proofs.arguments_placed.Statement.{statement}
 use Rattle.node_checks.proofs.arguments_placed.Tie as tie

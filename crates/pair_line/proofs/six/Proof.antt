@@ -1,6 +1,6 @@
 -- Six words set. Assumes nothing.
 use Rattle.pair_line.proofs.FixedSix as law
-use Rattle.pair_line.specs.Room.{putSix}
+use Rattle.pair_line.specs.Inner.Room.{putSix}
 use borrow.Author.Needs.{needs}
 use mathlib.Core.Path.{refl}
 use native.Mathlib.Omega.{arith}

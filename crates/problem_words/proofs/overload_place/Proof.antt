@@ -3,7 +3,7 @@ use mathlib.Core.Path.{_∙_, sym}
 use Prim.Native.Nat.{_+_, _*_}
 use lib.Seq.{getD-drop}
 use borrow.Author.Needs.{needs}
-use Rattle.search_state.specs.Memory.{overloadsAt}
+use Rattle.search_state.specs.Inner.Memory.{overloadsAt}
 use Rattle.problem_words.proofs.overload_place.Statement.{statement}
 use Rattle.problem_words.proofs.overload_place.Tie as tie
 

@@ -1,7 +1,7 @@
 -- Each answer by the tests that led to it. Assumes nothing.
 use borrow.Author.Needs.{needs}
 use Rattle.recorded_solve.proofs.Steps as law
-use Rattle.recorded_solve.specs.Lines.{noWords}
+use Rattle.recorded_solve.specs.Inner.Lines.{noWords}
 use Rattle.recorded_solve.proofs.begin.Statement.{statement}
 use Rattle.recorded_solve.proofs.begin.Tie as tie
 

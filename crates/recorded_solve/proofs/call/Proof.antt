@@ -1,8 +1,8 @@
 -- The parts of the words given end within them. Assumes nothing.
 use borrow.Author.Needs.{needs}
 use native.Mathlib.Omega.{arith}
-use Rattle.recorded_solve.specs.Slices.{sliceStart}
-use Rattle.recorded_solve.specs.Outcome.{solved}
+use Rattle.recorded_solve.specs.Inner.Slices.{sliceStart}
+use Rattle.recorded_solve.specs.Inner.Outcome.{solved}
 use Rattle.recorded_solve.proofs.call.Statement.{statement}
 use Rattle.recorded_solve.proofs.call.Tie as tie
 

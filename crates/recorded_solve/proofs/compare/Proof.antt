@@ -4,7 +4,7 @@ use borrow.Author.Needs.{needs}
 use mathlib.Core.Path.{_≡_, sym, _∙_}
 use native.Mathlib.Omega.{arith}
 use Rattle.recorded_solve.proofs.Compares as law
-use Rattle.recorded_solve.specs.Lines.{comparedFrom}
+use Rattle.recorded_solve.specs.Inner.Lines.{comparedFrom}
 use Rattle.recorded_solve.proofs.compare.Statement.{statement}
 use Rattle.recorded_solve.proofs.compare.Tie as tie
 

@@ -1,6 +1,6 @@
 -- Each arm rewrites by the letter it tested; past the four the definition tests each. Assumes nothing.
 use Rattle.recorded_solve.proofs.Steps as law
-use Rattle.recorded_solve.specs.Lines.{letterOf}
+use Rattle.recorded_solve.specs.Inner.Lines.{letterOf}
 use Rattle.recorded_solve.proofs.letter_of.Statement.{statement}
 use Rattle.recorded_solve.proofs.letter_of.Tie as tie
 

@@ -2,7 +2,7 @@
 use borrow.Author.Needs.{needs}
 use mathlib.Core.Path.{refl}
 use Rattle.recorded_solve.proofs.Parts as law
-use Rattle.recorded_solve.specs.Slices.{sliceStart}
+use Rattle.recorded_solve.specs.Inner.Slices.{sliceStart}
 use Rattle.recorded_solve.proofs.start_of.Statement.{statement}
 use Rattle.recorded_solve.proofs.start_of.Tie as tie
 

@@ -1,6 +1,6 @@
 -- By the question: the entry's answer, for join and meet on a copy. Assumes nothing.
 use borrow.Author.Needs.{needs}
-use Rattle.recorded_sorts.specs.Lines.{packedAnswer}
+use Rattle.recorded_sorts.specs.Inner.Lines.{packedAnswer}
 use Rattle.recorded_sorts.proofs.ask.Statement.{statement}
 use Rattle.recorded_sorts.proofs.ask.Tie as tie
 

@@ -1,6 +1,6 @@
 -- By the first test. Assumes nothing.
 use borrow.Author.Tests.{eq-eqb, ne-eqb}
-use Rattle.recorded_sorts.specs.Lines.{complete}
+use Rattle.recorded_sorts.specs.Inner.Lines.{complete}
 use Rattle.recorded_sorts.proofs.complete.Statement.{statement}
 use Rattle.recorded_sorts.proofs.complete.Tie as tie
 

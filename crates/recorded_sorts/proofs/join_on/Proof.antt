@@ -1,7 +1,7 @@
 -- The entry's answer. Assumes nothing.
 use borrow.Author.Needs.{needs}
 use mathlib.Core.Path.{ap}
-use Rattle.recorded_sorts.specs.Lines.{packedAnswer}
+use Rattle.recorded_sorts.specs.Inner.Lines.{packedAnswer}
 use Rattle.sort_entries.specs.Packed.{PackedSorts}
 use Rattle.recorded_sorts.proofs.join_on.Statement.{statement}
 use Rattle.recorded_sorts.proofs.join_on.Tie as tie

@@ -1,6 +1,6 @@
 -- Each arm rewrites by the letter it tested; past the eight the definition tests each. Assumes nothing.
 use Rattle.recorded_sorts.proofs.Steps as law
-use Rattle.recorded_sorts.specs.Lines.{letterOf}
+use Rattle.recorded_sorts.specs.Inner.Lines.{letterOf}
 use Rattle.recorded_sorts.proofs.letter_of.Statement.{statement}
 use Rattle.recorded_sorts.proofs.letter_of.Tie as tie
 

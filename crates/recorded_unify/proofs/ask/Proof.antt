@@ -3,7 +3,7 @@ use borrow.Author.Needs.{needs}
 use lib.Seq.{length-take-le}
 use mathlib.Core.Path.{sym}
 use native.Mathlib.Omega.{arith}
-use Rattle.recorded_unify.specs.Lines.{unified}
+use Rattle.recorded_unify.specs.Inner.Lines.{unified}
 use Rattle.recorded_unify.proofs.ask.Statement.{statement}
 use Rattle.recorded_unify.proofs.ask.Tie as tie
 

@@ -1,6 +1,6 @@
 -- By the first test that fails. Assumes nothing.
 use borrow.Author.Tests.{eq-eqb, ne-eqb}
-use Rattle.recorded_unify.specs.Lines.{complete}
+use Rattle.recorded_unify.specs.Inner.Lines.{complete}
 use Rattle.recorded_unify.proofs.complete.Statement.{statement}
 use Rattle.recorded_unify.proofs.complete.Tie as tie
 

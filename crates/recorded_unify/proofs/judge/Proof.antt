@@ -3,7 +3,7 @@ use Prim.Native.Nat.{_-_, _≤_}
 use mathlib.Core.Path.{_≡_, sym, _∙_}
 use native.Mathlib.Omega.{arith}
 use Rattle.recorded_unify.proofs.Judging as law
-use Rattle.recorded_unify.specs.Lines.{judgedFrom, judgedOf}
+use Rattle.recorded_unify.specs.Inner.Lines.{judgedFrom, judgedOf}
 use Rattle.recorded_unify.proofs.judge.Statement.{statement}
 use Rattle.recorded_unify.proofs.judge.Tie as tie
 

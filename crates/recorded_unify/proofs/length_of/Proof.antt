@@ -1,6 +1,6 @@
 -- By the part. Assumes nothing.
 use borrow.Author.Needs.{needs}
-use Rattle.recorded_unify.specs.Lines.{partLength}
+use Rattle.recorded_unify.specs.Inner.Lines.{partLength}
 use Rattle.recorded_unify.proofs.length_of.Statement.{statement}
 use Rattle.recorded_unify.proofs.length_of.Tie as tie
 

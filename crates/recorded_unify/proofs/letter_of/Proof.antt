@@ -1,6 +1,6 @@
 -- Each arm rewrites by the letter it tested; past the eight the definition tests each. Assumes nothing.
 use Rattle.recorded_unify.proofs.Steps as law
-use Rattle.recorded_unify.specs.Lines.{letterOf}
+use Rattle.recorded_unify.specs.Inner.Lines.{letterOf}
 use Rattle.recorded_unify.proofs.letter_of.Statement.{statement}
 use Rattle.recorded_unify.proofs.letter_of.Tie as tie
 

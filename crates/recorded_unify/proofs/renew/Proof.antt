@@ -5,7 +5,7 @@ use lib.ListN.{length}
 use lib.Seq.{sets}
 use native.Mathlib.Omega.{arith}
 use Rattle.problem_words.proofs.Wholes as law
-use Rattle.recorded_unify.specs.Lines.{bindingsIn, renewed}
+use Rattle.recorded_unify.specs.Inner.Lines.{renewed}
 use Rattle.recorded_unify.proofs.renew.Statement.{statement}
 use Rattle.recorded_unify.proofs.renew.Tie as tie
 

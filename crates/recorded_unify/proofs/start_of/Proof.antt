@@ -1,6 +1,6 @@
 -- By the part. Assumes nothing.
 use borrow.Author.Needs.{needs}
-use Rattle.recorded_unify.specs.Lines.{partStart}
+use Rattle.recorded_unify.specs.Inner.Lines.{partStart}
 use native.Mathlib.Omega.{arith}
 use Rattle.recorded_unify.proofs.start_of.Statement.{statement}
 use Rattle.recorded_unify.proofs.start_of.Tie as tie

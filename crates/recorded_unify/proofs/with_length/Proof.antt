@@ -1,6 +1,6 @@
 -- By the part. Assumes nothing.
 use borrow.Author.Needs.{needs}
-use Rattle.recorded_unify.specs.Lines.{withLength}
+use Rattle.recorded_unify.specs.Inner.Lines.{withLength}
 use Rattle.recorded_unify.proofs.with_length.Statement.{statement}
 use Rattle.recorded_unify.proofs.with_length.Tie as tie
 

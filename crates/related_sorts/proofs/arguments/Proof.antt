@@ -2,10 +2,9 @@
 use Prim.Native.Nat.{_-_, _≤_}
 use Rattle.related_sorts.proofs.Laws as law
 use Rattle.unification.specs.Checked.{graphOf}
-use Rattle.unification.specs.Term.{partsOf}
-use borrow.Author.Needs.{needs}
+use Rattle.unification.specs.Inner.Term.{partsOf}
 use lib.ListN.{length, take, length-set}
-use mathlib.Core.Path.{_≡_, refl, sym, ap, ap₂, subst, _∙_}
+use mathlib.Core.Path.{_≡_, refl, _∙_}
 use native.Mathlib.Omega.{arith}
 use Rattle.related_sorts.proofs.arguments.Statement.{statement}
 use Rattle.related_sorts.proofs.arguments.Tie as tie

@@ -1,10 +1,10 @@
 -- By the direction and the operator. Assumes nothing.
-use Rattle.resolved_sort.specs.Bounds.{opBound}
+use Rattle.resolved_sort.specs.Inner.Bounds.{opBound}
 use Rattle.resolved_sort.specs.declared.ComplexSort.{ComplexSort}
 use Rattle.unification.specs.Related.{relatedContainer}
 use borrow.Author.Needs.{needs}
 use mathlib.Core.Bool.{Bool}
-use mathlib.Core.Path.{_≡_, refl, sym, ap, ap₂, subst, _∙_}
+use mathlib.Core.Path.{sym, ap₂}
 use Rattle.related_sorts.proofs.related_container.Statement.{statement}
 use Rattle.related_sorts.proofs.related_container.Tie as tie
 

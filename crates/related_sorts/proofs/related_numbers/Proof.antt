@@ -1,10 +1,10 @@
 -- By the direction. Assumes nothing.
 use Rattle.resolved_sort.specs.Tree.{primitive}
 use Rattle.unification.specs.Making.{relatedPlaces}
-use Rattle.related_sorts.specs.Outcome.{AreThese}
+use Rattle.related_sorts.specs.Inner.Outcome.{AreThese}
 use borrow.Author.Needs.{needs}
 use mathlib.Core.Bool.{Bool}
-use mathlib.Core.Path.{_≡_, refl, sym, ap, ap₂, subst, _∙_}
+use mathlib.Core.Path.{sym, subst}
 use Rattle.related_sorts.proofs.related_numbers.Statement.{statement}
 use Rattle.related_sorts.proofs.related_numbers.Tie as tie
 

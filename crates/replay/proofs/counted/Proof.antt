@@ -1,6 +1,6 @@
 -- By the verdict. Assumes nothing.
 use borrow.Author.Needs.{needs}
-use Rattle.replay.specs.Lines.{countedOf}
+use Rattle.replay.specs.Inner.Lines.{countedOf}
 use Rattle.replay.proofs.counted.Statement.{statement}
 use Rattle.replay.proofs.counted.Tie as tie
 

@@ -6,7 +6,7 @@ use lib.ListN.{length, length-set}
 use mathlib.Core.Path.{_≡_, refl, sym, _∙_}
 use native.Mathlib.Omega.{arith}
 use Rattle.replay.proofs.Numbers as law
-use Rattle.replay.specs.Numbers.{fieldsFrom, fieldsOf}
+use Rattle.replay.specs.Inner.Numbers.{fieldsFrom, fieldsOf}
 use Rattle.replay.proofs.fields_of.Statement.{statement}
 use Rattle.replay.proofs.fields_of.Tie as tie
 

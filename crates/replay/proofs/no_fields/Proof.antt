@@ -1,6 +1,6 @@
 -- As it is. Assumes nothing.
 use mathlib.Core.Path.{refl}
-use Rattle.replay.specs.Numbers.{noFields}
+use Rattle.replay.specs.Inner.Numbers.{noFields}
 use Rattle.replay.proofs.no_fields.Statement.{statement}
 use Rattle.replay.proofs.no_fields.Tie as tie
 

@@ -1,7 +1,7 @@
 -- By the test. Assumes nothing.
 use borrow.Author.Needs.{needs}
 use borrow.Author.Tests.{lt-ltb, le-ltb}
-use Rattle.replay.specs.Lines.{oneMore}
+use Rattle.replay.specs.Inner.Lines.{oneMore}
 use Rattle.replay.proofs.one_more.Statement.{statement}
 use Rattle.replay.proofs.one_more.Tie as tie
 

@@ -5,7 +5,7 @@ use lib.ListN.{length}
 use mathlib.Core.Path.{_≡_, refl, sym, _∙_}
 use native.Mathlib.Omega.{arith}
 use Rattle.replay.proofs.Stores as law
-use Rattle.replay.specs.Lines.{storeFrom}
+use Rattle.replay.specs.Inner.Lines.{storeFrom}
 use Rattle.replay.proofs.store.Statement.{statement}
 use Rattle.replay.proofs.store.Tie as tie
 

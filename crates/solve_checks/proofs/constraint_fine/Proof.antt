@@ -3,7 +3,7 @@ use mathlib.Core.Path.{sym, ap, _∙_}
 use mathlib.Core.List.{[]}
 use borrow.Author.Needs.{needs}
 use Rattle.inference.specs.SolveChecks.{targetFine, overloadFine, constraintFine}
-use Rattle.solve_checks.specs.Calls.{problemCall}
+use Rattle.solve_checks.specs.Inner.Calls.{problemCall}
 use Rattle.solve_checks.proofs.constraint_fine.Statement.{statement}
 use Rattle.solve_checks.proofs.constraint_fine.Tie as tie
 

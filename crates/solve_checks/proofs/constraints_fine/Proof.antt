@@ -9,8 +9,8 @@ use borrow.Author.Tests.{not-true, not-false}
 use Rattle.resolved_sort.specs.Checks.{allBelow}
 use Rattle.sort_checks.proofs.Below as below
 use Rattle.inference.specs.SolveChecks.{constraintsFine}
-use Rattle.solve_checks.specs.Calls.{problemCall}
-use Rattle.solve_checks.specs.Tests.{constraintRowFine}
+use Rattle.solve_checks.specs.Inner.Calls.{problemCall}
+use Rattle.solve_checks.specs.Inner.Tests.{constraintRowFine}
 use Rattle.solve_checks.proofs.constraints_fine.Statement.{statement}
 use Rattle.solve_checks.proofs.constraints_fine.Tie as tie
 

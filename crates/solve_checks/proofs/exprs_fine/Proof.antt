@@ -10,8 +10,8 @@ use Rattle.resolved_sort.specs.Checks.{allBelow}
 use Rattle.unification.specs.Nodes.{isPlace}
 use Rattle.sort_checks.proofs.Below as below
 use Rattle.inference.specs.SolveChecks.{placed, exprsFine}
-use Rattle.solve_checks.specs.Calls.{problemCall}
-use Rattle.solve_checks.specs.Tests.{exprFine}
+use Rattle.solve_checks.specs.Inner.Calls.{problemCall}
+use Rattle.solve_checks.specs.Inner.Tests.{exprFine}
 use Rattle.solve_checks.proofs.exprs_fine.Statement.{statement}
 use Rattle.solve_checks.proofs.exprs_fine.Tie as tie
 

@@ -4,7 +4,7 @@ use mathlib.Core.Bool.{false, not}
 use lib.ListN.{List·getD-eq-default}
 use lib.Seq.{set-out}
 use borrow.Author.Needs.{needs}
-use Rattle.solve_checks.specs.Marks.{marked}
+use Rattle.solve_checks.specs.Inner.Marks.{marked}
 use Rattle.solve_checks.proofs.mark.Statement.{statement}
 use Rattle.solve_checks.proofs.mark.Tie as tie
 

@@ -1,7 +1,7 @@
 -- By what the constraint says. Assumes nothing.
 use mathlib.Core.Path.{sym, ap, _∙_}
 use borrow.Author.Needs.{needs}
-use Rattle.solve_checks.specs.Marks.{markBy}
+use Rattle.solve_checks.specs.Inner.Marks.{markBy}
 use Rattle.solve_checks.proofs.mark_by.Statement.{statement}
 use Rattle.solve_checks.proofs.mark_by.Tie as tie
 

@@ -8,8 +8,8 @@ use borrow.Author.Tests.{not-true, not-false}
 use Rattle.resolved_sort.specs.Checks.{allBelow}
 use Rattle.sort_checks.proofs.Below as below
 use Rattle.inference.specs.SolveChecks.{namesFine}
-use Rattle.solve_checks.specs.Calls.{problemCall}
-use Rattle.solve_checks.specs.Tests.{nameFine}
+use Rattle.solve_checks.specs.Inner.Calls.{problemCall}
+use Rattle.solve_checks.specs.Inner.Tests.{nameFine}
 use Rattle.solve_checks.proofs.names_fine.Statement.{statement}
 use Rattle.solve_checks.proofs.names_fine.Tie as tie
 

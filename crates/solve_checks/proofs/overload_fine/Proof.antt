@@ -5,7 +5,7 @@ use borrow.Author.Needs.{needs}
 use borrow.Author.Tests.{not-true, not-false}
 use Rattle.unification.specs.Nodes.{isPlace}
 use Rattle.inference.specs.SolveChecks.{placed, targetFine, overloadFine}
-use Rattle.solve_checks.specs.Calls.{problemCall}
+use Rattle.solve_checks.specs.Inner.Calls.{problemCall}
 use Rattle.solve_checks.proofs.Fine as fine
 use Rattle.solve_checks.proofs.overload_fine.Statement.{statement}
 use Rattle.solve_checks.proofs.overload_fine.Tie as tie

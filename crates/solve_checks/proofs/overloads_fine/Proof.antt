@@ -10,7 +10,7 @@ use borrow.Author.Tests.{not-true, not-false, le-leb, lt-leb}
 use Rattle.resolved_sort.specs.Checks.{allBelow}
 use Rattle.sort_checks.proofs.Below as below
 use Rattle.inference.specs.SolveChecks.{overloadFine}
-use Rattle.solve_checks.specs.Calls.{problemCall}
+use Rattle.solve_checks.specs.Inner.Calls.{problemCall}
 use Rattle.solve_checks.proofs.Fine as fine
 use Rattle.solve_checks.proofs.overloads_fine.Statement.{statement}
 use Rattle.solve_checks.proofs.overloads_fine.Tie as tie

@@ -8,7 +8,7 @@ use borrow.Author.Needs.{needs}
 use borrow.Author.Tests.{le-leb, lt-leb}
 use Rattle.inference.specs.Constraints.{constraintAt}
 use Rattle.inference.specs.SolveChecks.{constraintFine}
-use Rattle.solve_checks.specs.Calls.{problemCall}
+use Rattle.solve_checks.specs.Inner.Calls.{problemCall}
 use Rattle.solve_checks.proofs.Fine as fine
 use Rattle.solve_checks.proofs.row_fine.Statement.{statement}
 use Rattle.solve_checks.proofs.row_fine.Tie as tie

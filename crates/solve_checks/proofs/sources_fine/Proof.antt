@@ -11,8 +11,8 @@ use Rattle.resolved_sort.specs.Checks.{allBelow}
 use Rattle.unification.specs.Nodes.{isPlace}
 use Rattle.sort_checks.proofs.Below as below
 use Rattle.inference.specs.SolveChecks.{placed}
-use Rattle.solve_checks.specs.Calls.{problemCall}
-use Rattle.solve_checks.specs.Tests.{sourceFine}
+use Rattle.solve_checks.specs.Inner.Calls.{problemCall}
+use Rattle.solve_checks.specs.Inner.Tests.{sourceFine}
 use Rattle.solve_checks.proofs.Fine as fine
 use Rattle.solve_checks.proofs.sources_fine.Statement.{statement}
 use Rattle.solve_checks.proofs.sources_fine.Tie as tie

@@ -4,7 +4,7 @@ use mathlib.Core.List.{[]}
 use native.Mathlib.Omega.{arith}
 use borrow.Author.Needs.{needs}
 use Rattle.inference.specs.SolveChecks.{components}
-use Rattle.solve_checks.specs.Calls.{roomCall}
+use Rattle.solve_checks.specs.Inner.Calls.{roomCall}
 use Rattle.solve_checks.proofs.Testing as law
 use Rattle.solve_checks.proofs.test_last.Statement.{statement}
 use Rattle.solve_checks.proofs.test_last.Tie as tie

@@ -3,10 +3,10 @@ use mathlib.Core.Path.{ap, _∙_}
 use mathlib.Core.List.{[]}
 use borrow.Author.Needs.{needs}
 use Rattle.resolved_sort.specs.Checks.{firstFailing}
-use Rattle.solve_checks.specs.Calls.{problemCall}
+use Rattle.solve_checks.specs.Inner.Calls.{problemCall}
 use Rattle.solve_checks.proofs.Ceilings as ceiling
 use Rattle.solve_checks.proofs.Testing as law
-use Rattle.resolved_sort.specs.Entries.{testedOf}
+use Rattle.resolved_sort.specs.Inner.Entries.{testedOf}
 use Rattle.resolved_sort.proofs.Testing as tests
 use Rattle.solve_checks.proofs.test_lists.Statement.{statement}
 use Rattle.solve_checks.proofs.test_lists.Tie as tie

@@ -2,10 +2,10 @@
 use mathlib.Core.Path.{ap, _∙_}
 use borrow.Author.Needs.{needs}
 use Rattle.resolved_sort.specs.Checks.{firstFailing}
-use Rattle.solve_checks.specs.Calls.{listsCall, noRoom, noOuts}
+use Rattle.solve_checks.specs.Inner.Calls.{listsCall, noRoom, noOuts}
 use Rattle.solve_checks.proofs.Testing as law
 use Rattle.inference.proofs.Accepted.{within}
-use Rattle.resolved_sort.specs.Entries.{testedOf}
+use Rattle.resolved_sort.specs.Inner.Entries.{testedOf}
 use Rattle.resolved_sort.proofs.Testing as tests
 use Rattle.solve_checks.proofs.test_rest.Statement.{statement}
 use Rattle.solve_checks.proofs.test_rest.Tie as tie

@@ -5,7 +5,7 @@ use native.Mathlib.Omega.{arith}
 use borrow.Author.Needs.{needs}
 use borrow.Author.Tests.{not-false}
 use Rattle.inference.specs.SolveChecks.{targetFine, overloadFine, exprsFine, namesFine, constraintsFine}
-use Rattle.solve_checks.specs.Calls.{problemCall}
+use Rattle.solve_checks.specs.Inner.Calls.{problemCall}
 use Rattle.solve_checks.proofs.Ceilings as ceiling
 use Rattle.solve_checks.proofs.Testing as law
 use Rattle.solve_checks.proofs.test_rows.Statement.{statement}

@@ -2,7 +2,7 @@
 use mathlib.Core.Path.{sym, _∙_}
 use borrow.Author.Needs.{needs}
 use borrow.Author.Tests.{not-false}
-use Rattle.solve_checks.specs.Calls.{roomCall}
+use Rattle.solve_checks.specs.Inner.Calls.{roomCall}
 use Rattle.solve_checks.proofs.Testing as law
 use Rattle.solve_checks.proofs.test_solve.Statement.{statement}
 use Rattle.solve_checks.proofs.test_solve.Tie as tie

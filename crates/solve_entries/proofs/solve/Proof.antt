@@ -1,6 +1,6 @@
 -- `solve` meets its contract: the first failing check, or what the search comes to. Assumes nothing.
 use Rattle.solve_entries.proofs.Laws as law
-use Rattle.solve_outputs.specs.Begin.{outsOf}
+use Rattle.solve_outputs.specs.Inner.Begin.{outsOf}
 use borrow.Author.Needs.{needs}
 use Rattle.solve_entries.proofs.solve.Statement.{statement}
 use Rattle.solve_entries.proofs.solve.Tie as tie

@@ -1,7 +1,7 @@
 -- Each arm is the definition's clause for its constructor. Assumes nothing.
 use borrow.Author.Needs.{needs}
 use native.Mathlib.Omega.{arith}
-use Rattle.solve_outputs.specs.Written.{nameBy}
+use Rattle.solve_outputs.specs.Inner.Written.{nameBy}
 use Rattle.solve_outputs.proofs.Naming.{overloads, one-at-least, name-by}
 use Rattle.solve_outputs.proofs.name_choice.Statement.{statement}
 use Rattle.solve_outputs.proofs.name_choice.Tie as tie

@@ -1,6 +1,6 @@
 -- Each arm is the definition's clause for its constructor. Assumes nothing.
 use borrow.Author.Needs.{needs}
-use Rattle.solve_outputs.specs.Written.{choiceBy}
+use Rattle.solve_outputs.specs.Inner.Written.{choiceBy}
 use Rattle.solve_outputs.proofs.Choosing.{choice-put}
 use Rattle.solve_outputs.proofs.write_choice.Statement.{statement}
 use Rattle.solve_outputs.proofs.write_choice.Tie as tie

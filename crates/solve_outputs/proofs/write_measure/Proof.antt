@@ -2,7 +2,7 @@
 use mathlib.Core.Path.{_∙_}
 use native.Mathlib.Omega.{arith}
 use borrow.Author.Needs.{needs}
-use Rattle.search_state.specs.Memory.{bestMeasureAt}
+use Rattle.search_state.specs.Inner.Memory.{bestMeasureAt}
 use Rattle.words.specs.Words.{part}
 use Rattle.words.proofs.Parts.{length-part}
 use Rattle.solve_outputs.proofs.Over.{stored-is-over}

@@ -1,7 +1,7 @@
 -- `solve_records::record_at` meets its contract: a walk of its MIR, by hand, after the logic's `Denote/Examples/Slices/At.antt`. The element is a struct of six bytes.
 -- Assumes nothing.
-use mathlib.Core.Path.{_≡_, refl, sym}
-use Prim.Native.Nat.{ℕ, _<_, _^_, _*_, _+_}
+use mathlib.Core.Path.{refl, sym}
+use Prim.Native.Nat.{ℕ, _<_, _^_, _*_}
 use native.Mathlib.Omega.{arith}
 use mathlib.Core.List.{List, [], _∷_}
 use lib.ListN.{length, getD}
@@ -37,7 +37,7 @@ use denote.Triple.Table.{entered}
 use denote.Triple.Walked.{says, needs, Stays, stay-none-slice, stay-none, walkOf, goes-none-slice, goes-none, Walks, ends-at, walked, walk-meets}
 use denote.Exit.{yes}
 use Rattle.solve_records.specs.declared.OverloadRecord.{OverloadRecord}
-use Rattle.solve_records.specs.Records.{noRecord}
+use Rattle.solve_records.specs.Inner.Records.{noRecord}
 use Rattle.solve_records.proofs.OverloadRecord as T
 use Rattle.solve_records.proofs.OverloadRecord.Laws as T′
 use Rattle.solve_records.proofs.record_at.Key.{name as #solve-records·record-at}

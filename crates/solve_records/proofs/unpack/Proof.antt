@@ -2,7 +2,7 @@
 -- The array is made as one value, taken apart into its elements, lent as a slice for a lifetime that is made for the call, and comes back as one value, which is the result.
 -- Assumes nothing.
 use mathlib.Core.Path.{_≡_, refl, sym, ap, subst, _∙_}
-use Prim.Native.Nat.{ℕ, _<_, _^_, _*_}
+use Prim.Native.Nat.{ℕ, _<_}
 use mathlib.Core.List.{List, [], _∷_}
 use lib.Dec.{lit<}
 use lib.ListN.{length, replicate}
@@ -19,7 +19,7 @@ use prog.Wp.{Heap, Calls, Loops, WpFn, Tables}
 use ghost.Atoms.{Atoms, sem}
 use contract.Monad.{Fun, fact}
 use contract.Running.{givenOf, tables, tablesOf}
-use types.Kit.{Given, ‵, raw, some, later, mean, _⊛_, ⋆, _$_, _∵_, !, qed, by, move, drop, use1, use2, use3, split, join, pick, rewrite, fsplit, fjoin, feqL, suffices, frame, await, show, done}
+use types.Kit.{Given, ‵, raw, some, later, _⊛_, ⋆, _$_, _∵_, !, qed, by, move, drop, use1, use2, use3, split, join, pick, rewrite, fsplit, fjoin, feqL, suffices, frame, await, show, done}
 use types.SemTy.{Arr}
 use types.Tokens.{lft-new, lft-end}
 use types.Run.{look, init, stop, from, load, lit, addr, of-opd, and-then, no-more, assigns, land, returns, enter, alloc1, alloc0, params1, pass1, pass0}
@@ -45,7 +45,7 @@ use denote.Triple.Walked.{says, Stays, stay-none-slice, walkOf, goes-none-slice,
 use denote.Exit.{yes}
 use denote.Signature.{plain}
 use Rattle.solve_records.specs.declared.OverloadRecord.{OverloadRecord}
-use Rattle.solve_records.specs.Records.{wordsFrom}
+use Rattle.solve_records.specs.Inner.Records.{wordsFrom}
 use Rattle.solve_records.proofs.Arrays.{array-to-cells, cells-to-array}
 use Rattle.solve_records.proofs.Frames.{full, releases, big-lit, is-unit}
 use Rattle.solve_records.proofs.OverloadRecord as T

@@ -5,7 +5,7 @@ use Prim.Native.Nat.{_-_, _≤_}
 use native.Mathlib.Omega.{arith}
 use borrow.Author.Needs.{needs}
 use Rattle.resolved_sort.specs.Checks.{allBelow}
-use Rattle.sort_checks.specs.Tests.{otherRow}
+use Rattle.sort_checks.specs.Inner.Tests.{otherRow}
 use Rattle.sort_checks.proofs.Below.{allBelow-zero}
 use Rattle.sort_checks.proofs.New as law
 use Rattle.sort_checks.proofs.new_row.Statement.{statement}

@@ -6,7 +6,7 @@ use native.Mathlib.Omega.{arith}
 use borrow.Author.Tests.{not-true, not-false}
 use borrow.Author.Needs.{needs}
 use Rattle.resolved_sort.specs.Checks.{allBelow}
-use Rattle.sort_checks.specs.Tests.{newRow, noSameRows}
+use Rattle.sort_checks.specs.Inner.Tests.{newRow, noSameRows}
 use Rattle.sort_checks.proofs.Below as law
 use Rattle.sort_checks.proofs.no_two_equal_rows.Statement.{statement}
 use Rattle.sort_checks.proofs.no_two_equal_rows.Tie as tie

@@ -1,9 +1,9 @@
 -- By the three answers. Assumes nothing.
 use borrow.Author.Needs.{needs}
-use mathlib.Core.Path.{refl, sym, ap}
+use mathlib.Core.Path.{ap}
 use Rattle.resolved_sort.specs.declared.Bounded.the-variants.{NoRoom}
 use Rattle.resolved_sort.specs.Entries.{sortsLeft}
-use Rattle.sort_entries.specs.Kept.{keptOrGivenBack}
+use Rattle.sort_entries.specs.Inner.Kept.{keptOrGivenBack}
 use Rattle.sort_entries.proofs.kept_or_given_back.Statement.{statement}
 use Rattle.sort_entries.proofs.kept_or_given_back.Tie as tie
 

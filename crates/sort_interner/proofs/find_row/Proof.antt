@@ -4,7 +4,7 @@ use Prim.Native.Nat.{_-_, _≤_}
 use native.Mathlib.Omega.{arith}
 use borrow.Author.Needs.{needs}
 use Rattle.resolved_sort.specs.Rows.{firstFrom, findRow}
-use Rattle.sort_interner.specs.Tests.{isRow}
+use Rattle.sort_interner.specs.Inner.Tests.{isRow}
 use Rattle.sort_interner.proofs.Find as law
 use Rattle.sort_interner.proofs.Interned.{rowWith}
 use Rattle.sort_interner.proofs.find_row.Statement.{statement}

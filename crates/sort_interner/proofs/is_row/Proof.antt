@@ -1,7 +1,7 @@
 -- Kind and part decide where they differ, else the arguments. Assumes nothing.
 use mathlib.Core.Path.{refl}
 use borrow.Author.Needs.{needs}
-use Rattle.sort_interner.specs.Tests.{isRow}
+use Rattle.sort_interner.specs.Inner.Tests.{isRow}
 use Rattle.sort_interner.proofs.Rows as law
 use Rattle.sort_interner.proofs.is_row.Statement.{statement}
 use Rattle.sort_interner.proofs.is_row.Tie as tie

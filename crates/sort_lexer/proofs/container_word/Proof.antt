@@ -2,7 +2,7 @@
 use mathlib.Core.Path.{sym, _∙_}
 use borrow.Author.Needs.{needs}
 use Rattle.sort_text.specs.Parse.{opWord}
-use Rattle.sort_lexer.specs.Meant.{meant, containerMeaning}
+use Rattle.sort_lexer.specs.Inner.Meant.{meant, containerMeaning}
 use Rattle.sort_lexer.proofs.container_word.Statement.{statement}
 use Rattle.sort_lexer.proofs.container_word.Tie as tie
 

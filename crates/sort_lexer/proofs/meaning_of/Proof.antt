@@ -2,7 +2,7 @@
 use mathlib.Core.Path.{sym, _∙_}
 use borrow.Author.Needs.{needs}
 use Rattle.sort_text.specs.Parse.{sortWord, meaning}
-use Rattle.sort_lexer.specs.Meant.{meant, containerMeaning}
+use Rattle.sort_lexer.specs.Inner.Meant.{meant, containerMeaning}
 use Rattle.sort_lexer.proofs.meaning_of.Statement.{statement}
 use Rattle.sort_lexer.proofs.meaning_of.Tie as tie
 

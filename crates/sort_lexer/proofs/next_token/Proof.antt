@@ -42,7 +42,7 @@ use denote.Triple.Table.{entered, cited}
 use denote.Triple.Walked.{says, Stays, stay-none, walkOf, goes-none, Walks, ends-at, walked, walk-meets}
 use denote.Exit.{yes}
 use denote.Triple.Clauses.{ensured, lasts}
-use Rattle.sort_lexer.specs.Lexeme.{lexemeOf}
+use Rattle.sort_lexer.specs.Inner.Lexeme.{lexemeOf}
 use Rattle.sort_lexer.specs.declared.Reader.{Reader}
 use Rattle.sort_lexer.specs.declared.Lexeme.{Lexeme}
 use Rattle.sort_lexer.proofs.Reader as T

@@ -4,7 +4,7 @@ use mathlib.Core.List.{List}
 use Prim.Native.Nat.{ℕ}
 use borrow.Author.Needs.{needs}
 use Rattle.sort_text.specs.Parse.{meaning}
-use Rattle.sort_lexer.specs.Meant.{meant}
+use Rattle.sort_lexer.specs.Inner.Meant.{meant}
 use Rattle.sort_lexer.proofs.word_meaning.Statement.{statement}
 use Rattle.sort_lexer.proofs.word_meaning.Tie as tie
 

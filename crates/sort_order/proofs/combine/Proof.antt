@@ -1,6 +1,6 @@
 -- Each arm is a row of the table. Assumes nothing.
 use borrow.Author.Needs.{needs}
-use Rattle.sort_order.specs.Answers.{combined}
+use Rattle.sort_order.specs.Inner.Answers.{combined}
 use Rattle.sort_order.proofs.Orders.{combined-equal}
 use Rattle.sort_order.proofs.combine.Statement.{statement}
 use Rattle.sort_order.proofs.combine.Tie as tie

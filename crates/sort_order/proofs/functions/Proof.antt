@@ -1,6 +1,6 @@
 -- The test is the definition's. Assumes nothing.
 use borrow.Author.Tests.{eq-eqb, ne-eqb}
-use Rattle.resolved_sort.specs.Pairs.{withFunction}
+use Rattle.resolved_sort.specs.Inner.Pairs.{withFunction}
 use Rattle.sort_order.proofs.functions.Statement.{statement}
 use Rattle.sort_order.proofs.functions.Tie as tie
 

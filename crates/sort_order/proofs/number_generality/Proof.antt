@@ -1,7 +1,7 @@
 -- Each arm computes from the sort's family and level. Assumes nothing.
 use borrow.Author.Needs.{needs}
 use Rattle.resolved_sort.specs.Tree.{family, level}
-use Rattle.sort_order.specs.Answers.{generality}
+use Rattle.sort_order.specs.Inner.Answers.{generality}
 use Rattle.sort_order.proofs.number_generality.Statement.{statement}
 use Rattle.sort_order.proofs.number_generality.Tie as tie
 

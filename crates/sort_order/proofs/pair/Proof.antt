@@ -1,7 +1,7 @@
 -- The row on the left picks the definition's clause. Assumes nothing.
 use mathlib.Core.Path.{_∙_}
 use borrow.Author.Needs.{needs}
-use Rattle.resolved_sort.specs.Pairs.{pairOf}
+use Rattle.resolved_sort.specs.Inner.Pairs.{pairOf}
 use Rattle.sort_order.proofs.Rows.{pair-of-read}
 use Rattle.sort_order.proofs.pair.Statement.{statement}
 use Rattle.sort_order.proofs.pair.Tie as tie

@@ -1,6 +1,6 @@
 -- Each arm is the definition's clause. Assumes nothing.
 use borrow.Author.Needs.{needs}
-use Rattle.sort_order.specs.Answers.{moreSteps}
+use Rattle.sort_order.specs.Inner.Answers.{moreSteps}
 use Rattle.sort_order.proofs.plus.Statement.{statement}
 use Rattle.sort_order.proofs.plus.Tie as tie
 

@@ -1,5 +1,5 @@
 -- Each arm is the definition's clause. Assumes nothing.
-use Rattle.resolved_sort.specs.Pairs.{withContainer}
+use Rattle.resolved_sort.specs.Inner.Pairs.{withContainer}
 use borrow.Author.Needs.{needs}
 use Rattle.sort_order.proofs.with_container.Statement.{statement}
 use Rattle.sort_order.proofs.with_container.Tie as tie

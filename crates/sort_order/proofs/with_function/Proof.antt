@@ -1,6 +1,6 @@
 -- Each arm is the definition's clause. Assumes nothing.
 use mathlib.Core.Path.{_∙_}
-use Rattle.resolved_sort.specs.Pairs.{withFunction}
+use Rattle.resolved_sort.specs.Inner.Pairs.{withFunction}
 use borrow.Author.Needs.{needs}
 use Rattle.sort_order.proofs.with_function.Statement.{statement}
 use Rattle.sort_order.proofs.with_function.Tie as tie

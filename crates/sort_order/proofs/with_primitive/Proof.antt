@@ -1,5 +1,5 @@
 -- Each arm is the definition's clause. Assumes nothing.
-use Rattle.resolved_sort.specs.Pairs.{withPrimitive}
+use Rattle.resolved_sort.specs.Inner.Pairs.{withPrimitive}
 use borrow.Author.Needs.{needs}
 use Rattle.sort_order.proofs.with_primitive.Statement.{statement}
 use Rattle.sort_order.proofs.with_primitive.Tie as tie

@@ -1,6 +1,6 @@
 -- Each arm is the definition's clause. Assumes nothing.
 use borrow.Author.Needs.{needs}
-use Rattle.sort_order.specs.Answers.{beneath}
+use Rattle.sort_order.specs.Inner.Answers.{beneath}
 use Rattle.sort_order.proofs.within.Statement.{statement}
 use Rattle.sort_order.proofs.within.Tie as tie
 

@@ -1,9 +1,9 @@
 -- By the three answers. Assumes nothing.
 use borrow.Author.Needs.{needs}
-use mathlib.Core.Path.{refl, sym, ap}
+use mathlib.Core.Path.{ap}
 use Rattle.sort_text.specs.declared.Read.the-variants.{NoRoom}
 use Rattle.sort_text.specs.Reading.{readLeft}
-use Rattle.sort_reader.specs.Tested.{keptOrNoRoom}
+use Rattle.sort_reader.specs.Inner.Tested.{keptOrNoRoom}
 use Rattle.sort_reader.proofs.kept_or_no_room.Statement.{statement}
 use Rattle.sort_reader.proofs.kept_or_no_room.Tie as tie
 

@@ -4,7 +4,7 @@ use Prim.Native.Nat.{_+_, _-_, _<_}
 use native.Mathlib.Omega.{arith}
 use borrow.Author.Needs.{needs}
 use Rattle.resolved_sort.specs.Storage.{entriesOf}
-use Rattle.sort_writer.specs.Sizes.{runSize}
+use Rattle.sort_writer.specs.Inner.Sizes.{runSize}
 use Rattle.sort_writer.proofs.Fills as law
 use Rattle.sort_writer.proofs.arguments_size.Statement.{statement}
 use Rattle.sort_writer.proofs.arguments_size.Tie as tie

@@ -4,7 +4,7 @@ use Prim.Native.Nat.{_-_, _≤_}
 use native.Mathlib.Omega.{arith}
 use lib.ListN.{length, length-set}
 use borrow.Author.Needs.{needs}
-use Rattle.sort_writer.specs.Sizes.{sizesTo}
+use Rattle.sort_writer.specs.Inner.Sizes.{sizesTo}
 use Rattle.sort_writer.proofs.Fills as law
 use Rattle.sort_writer.proofs.fill_sizes.Statement.{statement}
 use Rattle.sort_writer.proofs.fill_sizes.Tie as tie

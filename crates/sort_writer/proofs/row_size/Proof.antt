@@ -1,7 +1,7 @@
 -- By the arms, each size is the one that the row says. Assumes nothing.
 use mathlib.Core.Path.{_∙_, ap, ap₂, sym}
 use borrow.Author.Needs.{needs}
-use Rattle.sort_writer.specs.Sizes.{joined, rowSize}
+use Rattle.sort_writer.specs.Inner.Sizes.{joined, rowSize}
 use Rattle.sort_writer.proofs.row_size.Statement.{statement}
 use Rattle.sort_writer.proofs.row_size.Tie as tie
 

@@ -10,7 +10,7 @@ use mathlib.Core.List.{[], _∷_, _++_}
 use Rattle.unification.specs.Term.{functionHead, app}
 use Rattle.unification.specs.Nodes.{nodeEntriesOf}
 use Rattle.unification.specs.Solutions.{termsAt}
-use Rattle.unification.specs.Resolve.{valueIn}
+use Rattle.unification.specs.Inner.Resolve.{valueIn}
 use Rattle.unification.proofs.Exact.{size}
 
 abbrev pub μ-resolve-function : Measures 3 resolve-function-kinds.ps ℕ

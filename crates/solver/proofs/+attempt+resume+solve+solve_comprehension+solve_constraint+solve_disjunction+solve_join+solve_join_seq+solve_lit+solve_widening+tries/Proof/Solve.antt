@@ -5,7 +5,7 @@ use Rattle.solver.proofs.solve_constraint.Reads as solve-constraint
 use Rattle.problem_words.proofs.constraint_at.Reads as constraint-at-reads
 use Rattle.search_leaf.proofs.dominated.Reads as dominated-reads
 use Rattle.search_leaf.proofs.leaf.Reads as leaf-reads
-use Rattle.search_leaf.specs.Leaf.{IsDominated}
+use Rattle.search_leaf.specs.Inner.Leaf.{IsDominated}
 use mathlib.Core.Path.{refl}
 use native.Mathlib.Omega.{arith}
 use Rattle.solver.proofs.Solving as sv

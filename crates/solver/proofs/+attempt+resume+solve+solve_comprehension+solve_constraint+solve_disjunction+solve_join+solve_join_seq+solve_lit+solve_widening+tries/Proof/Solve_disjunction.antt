@@ -8,7 +8,7 @@ use Rattle.search_steps.proofs.says.Reads as says-reads
 use mathlib.Core.Path.{ap, _∙_}
 use native.Mathlib.Omega.{arith}
 use lib.ListN.{length, getD}
-use Rattle.search_state.specs.Memory.{chosenExprs}
+use Rattle.search_state.specs.Inner.Memory.{chosenExprs}
 use Rattle.solver.proofs.Overloads as ov
 use Rattle.solver.proofs.Overloads.{Going-on}
 use Rattle.solver.proofs.+attempt+resume+solve+solve_comprehension+solve_constraint+solve_disjunction+solve_join+solve_join_seq+solve_lit+solve_widening+tries.Proof.Common.{attempt-below, solve-disjunction-at}

@@ -16,17 +16,8 @@ use Rattle.sort_interner.proofs.generic.Reads as generic-reads
 use Rattle.sort_reader.proofs.argument_count.Reads as argument-count-reads
 use Rattle.sort_reader.proofs.arguments.Reads as arguments-reads
 use Rattle.sort_reader.proofs.operator.Reads as operator-reads
-use mathlib.Core.Path.{_≡_, refl, sym, _∙_, ap, subst}
-use native.Mathlib.Omega.{arith}
-use lib.ListN.{length, take, getD}
-use borrow.Author.Needs.{needs}
-use Rattle.resolved_sort.specs.Tree.{container, function}
-use Rattle.resolved_sort.specs.Interning.{look}
-use Rattle.resolved_sort.specs.Storage.{trees, lookAll}
-use Rattle.resolved_sort.specs.Bounds.{internAt}
-use Rattle.sort_reader.specs.Run.{argumentsOf, GoesOn, goOn}
+use lib.ListN.{length}
 use Rattle.sort_reader.proofs.Ways as way
-use Rattle.resolved_sort.specs.Rows.{AllBelow}
 
 abbrev pub μ-go-on : Measures 2 go-on-kinds.ps ℕ
 μ-go-on κs a = (length (a .1 .1 .0 .now) - a .1 .1 .1 .0) * 3

@@ -1,7 +1,5 @@
 -- A function step: too few arguments, or interned and gone on with. Assumes nothing.
-use Prim.Native.Nat.{ℕ, _<_, _+_, _-_, _*_}
-use borrow.Fn.Kinds.{In}
-use borrow.Fn.PlainCycle.{Measures, is, falls, and}
+use Prim.Native.Nat.{ℕ, _-_}
 use Rattle.sort_reader.proofs.go_on.Reads as go-on
 use Rattle.sort_reader.proofs.go_on.Kinds as go-on-kinds
 use Rattle.sort_reader.proofs.+go_on+run_from+run_function.Lts-go_on as go-on-lts
@@ -16,18 +14,18 @@ use Rattle.sort_interner.proofs.generic.Reads as generic-reads
 use Rattle.sort_reader.proofs.argument_count.Reads as argument-count-reads
 use Rattle.sort_reader.proofs.arguments.Reads as arguments-reads
 use Rattle.sort_reader.proofs.operator.Reads as operator-reads
-use mathlib.Core.Path.{_≡_, refl, sym, _∙_, ap, subst}
+use mathlib.Core.Path.{sym, _∙_, ap, subst}
 use native.Mathlib.Omega.{arith}
-use lib.ListN.{length, take, getD}
+use lib.ListN.{getD}
 use borrow.Author.Needs.{needs}
-use Rattle.resolved_sort.specs.Tree.{container, function}
+use Rattle.resolved_sort.specs.Tree.{function}
 use Rattle.resolved_sort.specs.Interning.{look}
 use Rattle.resolved_sort.specs.Storage.{trees, lookAll}
 use Rattle.resolved_sort.specs.Bounds.{internAt}
-use Rattle.sort_reader.specs.Run.{argumentsOf, GoesOn, goOn}
+use Rattle.sort_reader.specs.Inner.Run.{argumentsOf}
 use Rattle.sort_reader.proofs.Ways as way
 use Rattle.resolved_sort.specs.Rows.{AllBelow}
-use Rattle.sort_reader.proofs.+go_on+run_from+run_function.Proof.Common.{go-on-at, go-on-below, run-from-at, run-from-below, run-function-at, run-function-below}
+use Rattle.sort_reader.proofs.+go_on+run_from+run_function.Proof.Common.{go-on-below, run-function-at}
 
 pub part : (M : Type 1) (t : ℕ) → run-function-lts.Closed (argument-count-reads.Asked, argument-count-reads.Learnt, arguments-reads.Asked, arguments-reads.Learnt, function-reads.Asked, function-reads.Learnt, go-on-below t, go-on.Post) (run-function-at t) run-function.Post M
 part M t =

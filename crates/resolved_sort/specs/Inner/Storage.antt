@@ -1,0 +1,9 @@
+-- What only contracts of inner functions cite, beside `specs/Storage.antt`.
+use mathlib.Core.List.{List}
+use Prim.Native.Nat.{ℕ}
+use Rattle.resolved_sort.specs.Tree.{Trees}
+use Rattle.resolved_sort.specs.Storage.{entriesOf, lookAll, trees}
+
+-- the sorts of the c entries from s on
+abbrev pub argsAt : List ℕ → ℕ → ℕ → ℕ → Trees
+argsAt ws n s c = lookAll (trees ws n) (entriesOf ws s c)

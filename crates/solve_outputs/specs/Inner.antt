@@ -1,0 +1,4 @@
+-- What only contracts of inner functions cite.
+pub mod Begin
+pub mod Finish
+pub mod Written

@@ -1,0 +1,4 @@
+-- What only contracts of inner functions cite.
+pub mod Making
+pub mod Resolve
+pub mod Term
