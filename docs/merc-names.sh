@@ -4,7 +4,10 @@
 # named, and no cell is above 160 characters. Prints what is missing; the status is 0 where nothing is.
 cd "$(dirname "$0")/.." || exit 2
 doc=docs/MERC.md
-merc=oracle/src-merc
+merc=$(dirname "$(find oracle -name SHA256SUMS | head -1)")
+for file in resolved_sort unification inference; do
+    [ -f "$merc/$file.rs" ] || { echo "merc-names: no $file.rs of merc in oracle" >&2; exit 2; }
+done
 missing=0
 miss() { echo "$1"; missing=1; }
 
