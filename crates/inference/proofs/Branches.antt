@@ -25,7 +25,7 @@ use Rattle.unification.specs.Unify.{Unifies, yes-with, no-way, too-deep, deep, 
 use Rattle.unification.specs.Related.{each}
 use Rattle.unification.specs.Resolve.{value, termResolved}
 use Rattle.unification.specs.Making.{Lent, graph, Makes, made, no-list, no-room, withNodesOf, internContainer, strictRelated}
-use Rattle.unification.specs.Growing.{Extends}
+use Rattle.unification.specs.Growing.{BindsExtend}
 use Rattle.unification.proofs.BoundStays.{extends-refl, extends-trans, unify-extends}
 use Rattle.unification.proofs.Outcomes.{Each, Any, each-then, each-container}
 use Rattle.unification.proofs.Room.{no-room-is-15-or-16}
@@ -112,18 +112,18 @@ pub record Adds (e : Path) (n : ℕ) (K : List Choice → Type 0) (e′ : Path) 
   pub more : List Choice
   pub choices : e′ .choices ≡ e .choices ++ more
   pub fine : K more
-  pub binds : Extends (e .binds) (e′ .binds)
+  pub binds : BindsExtend (e .binds) (e′ .binds)
 
 abbrev pub NoChoice : List Choice → Type 0
 NoChoice ks = ks ≡ []
 
-adds-components : (e : Path) (ns : Components) (n : ℕ) → length ns ≡ n → (C : Binds) → Extends (e .binds) C → Adds e n NoChoice (withComponents e ns C)
+adds-components : (e : Path) (ns : Components) (n : ℕ) → length ns ≡ n → (C : Binds) → BindsExtend (e .binds) C → Adds e n NoChoice (withComponents e ns C)
 adds-components e ns n i C x = record { components = ns; measure = refl; many = i; more = []; choices = sym (append-nil (e .choices)); fine = refl; binds = x }
 
-adds-choices : (e : Path) (ks : List Choice) (K : List Choice → Type 0) → K ks → (C : Binds) → Extends (e .binds) C → Adds e 0 K (record { binds = C; measure = e .measure; choices = e .choices ++ ks })
+adds-choices : (e : Path) (ks : List Choice) (K : List Choice → Type 0) → K ks → (C : Binds) → BindsExtend (e .binds) C → Adds e 0 K (record { binds = C; measure = e .measure; choices = e .choices ++ ks })
 adds-choices e ks K h C x = record { components = []; measure = sym (append-nil (e .measure)); many = refl; more = ks; choices = refl; fine = h; binds = x }
 
-adds-nothing : (e : Path) (K : List Choice → Type 0) → K [] → (C : Binds) → Extends (e .binds) C → Adds e 0 K (withBinds e C)
+adds-nothing : (e : Path) (K : List Choice → Type 0) → K [] → (C : Binds) → BindsExtend (e .binds) C → Adds e 0 K (withBinds e C)
 adds-nothing e K h C x = record { components = []; measure = sym (append-nil (e .measure)); many = refl; more = []; choices = sym (append-nil (e .choices)); fine = h; binds = x }
 
 -- one stretch after another
@@ -206,7 +206,7 @@ module _ (Met : Type 0) (meet : Components → Met → Met) (P : Problem) (Went 
   says-goes u w true x = x
   says-goes u w false x = x
 
-  unifying-goes : (B : Binds) (l r : ℕ) (k : Binds → World Met → Out Met) (w : World Met) → ((C : Binds) → Extends B C → Goes Went w (k C w)) → Goes Went w (unifying B l r k w)
+  unifying-goes : (B : Binds) (l r : ℕ) (k : Binds → World Met → Out Met) (w : World Met) → ((C : Binds) → BindsExtend B C → Goes Went w (k C w)) → Goes Went w (unifying B l r k w)
   unfolding unifying
   unifying-goes B l r k w h = go (unify (graph (w .lent)) B l r) refl
     where
@@ -236,7 +236,7 @@ module _ (Met : Type 0) (meet : Components → Met → Met) (P : Problem) (Went 
   lent-goes w W k h = goes-after w (lending w W) (stays w W) (k (lending w W)) (h (lending w W))
 
   module _ (k : Path → World Met → Out Met) (e : Path) where
-    module _ (h : (n : ℕ) (C : Binds) → Extends (e .binds) C → From (k (withComponents e (n ∷ []) C))) where
+    module _ (h : (n : ℕ) (C : Binds) → BindsExtend (e .binds) C → From (k (withComponents e (n ∷ []) C))) where
       first-found-goes : (ts : List Try) → From (firstFound Met meet P ts k e)
       unfolding firstFound
       first-found-goes [] w = missed-goes w (w .lent)
@@ -283,7 +283,7 @@ module _ (Met : Type 0) (meet : Components → Met → Met) (P : Problem) (Went 
           go none = missed-goes w (w .lent)
           go (some q) = by (graph (w .lent) q)
 
-    every-reading-goes : ((D : Binds) → Extends (e .binds) D → From (k (withBinds e D))) → (rs : List Reading) (body node element : ℕ) (b : Bool) (u w : World Met) → Went u b w
+    every-reading-goes : ((D : Binds) → BindsExtend (e .binds) D → From (k (withBinds e D))) → (rs : List Reading) (body node element : ℕ) (b : Bool) (u w : World Met) → Went u b w
         → Goes Went u (everyReading Met meet P rs body node element b k e w)
     unfolding everyReading
     every-reading-goes h [] body node element b u w x = says-goes u w b x
@@ -295,7 +295,7 @@ module _ (Met : Type 0) (meet : Components → Met → Met) (P : Problem) (Went 
         (λ a. everyReading Met meet P rs body node element a k e) (λ a v y. every-reading-goes h rs body node element a u v y))
         (λ W i. absurd i)
 
-    every-overload-goes : (x p : ℕ) (os : List Overload) (i : ℕ) → ((j : ℕ) → j < i + length os → (C : Binds) → Extends (e .binds) C → From (k (withChoice e x j C))) → (b : Bool) (u w : World Met) → Went u b w
+    every-overload-goes : (x p : ℕ) (os : List Overload) (i : ℕ) → ((j : ℕ) → j < i + length os → (C : Binds) → BindsExtend (e .binds) C → From (k (withChoice e x j C))) → (b : Bool) (u w : World Met) → Went u b w
         → Goes Went u (everyOverload Met meet P x p os i b k e w)
     unfolding everyOverload
     every-overload-goes x p [] i h b u w y = says-goes u w b y

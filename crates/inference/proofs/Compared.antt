@@ -9,7 +9,7 @@ use Rattle.inference.specs.declared.Solved.{Solved}
 use Rattle.inference.specs.declared.Solved.the-variants.{Refused, NoRoom, NoTyping, Ambiguous, Typing}
 use Rattle.inference.specs.Search.{Choice}
 use Rattle.inference.specs.SolveEntry.{SolveLeft, codeSolved, measureOut, choicesOut}
-use Rattle.inference.specs.Situations.{Given, solved, row, sub, lit, disjunction, comprehension, join}
+use Rattle.inference.specs.Situations.{Given, solvedList, fourWords, rowSub, rowLit, rowDisjunction, rowComprehension, rowJoin}
 
 given : List ℕ → List ℕ → List ℕ → List ℕ → List ℕ → List ℕ → List ℕ → List ℕ → List ℕ → List ℕ → ℕ → Given
 given sorts entries nodes arguments binds exprs names constraints overloads sources default =
@@ -58,7 +58,7 @@ outcomeBy G L (Ambiguous k) = keeping G L k [] [] []
 outcomeBy G L (Typing o) = keeping G L (o .counts) (take (3 * length (G .exprs)) (L .typing)) (measureOut L o) (choicesOut L o)
 
 pub outcomeOf : Given → Outcome
-outcomeOf G = outcomeBy G (solved G) (solved G .answer)
+outcomeOf G = outcomeBy G (solvedList G) (solvedList G .answer)
 
 -- an expression of a typing: its sort, kind of name and sort of name
 expr : ℕ → ℕ → ℕ → List ℕ → List ℕ
@@ -75,137 +75,137 @@ pub cases : List Case
 cases =
     -- finite set to set
     (
-      given (row 7 3 0 0 []) [] (row 14 0 0 0 (row 8 1024 0 0 [])) [] (65535 ∷ []) (1024 ∷ []) [] (sub 1025 6 []) [] [] 1,
+      given (fourWords 7 3 0 0 []) [] (fourWords 14 0 0 0 (fourWords 8 1024 0 0 [])) [] (65535 ∷ []) (1024 ∷ []) [] (rowSub 1025 6 []) [] [] 1,
       outcome 0 (expr 3 0 0 []) (1 ∷ []) [] [] [],
     )
     -- comprehension with body Nat
     ∷ (
-      given (row 9 2 0 0 []) [] (row 14 0 0 0 []) [] (65535 ∷ []) (1024 ∷ []) [] (comprehension 3 1024 2 []) [] [] 1,
-      outcome 0 (expr 6 0 0 []) [] [] (row 7 2 0 0 []) [],
+      given (fourWords 9 2 0 0 []) [] (fourWords 14 0 0 0 []) [] (65535 ∷ []) (1024 ∷ []) [] (rowComprehension 3 1024 2 []) [] [] 1,
+      outcome 0 (expr 6 0 0 []) [] [] (fourWords 7 2 0 0 []) [],
     )
     -- join of finite sets
     ∷ (
-      given (row 8 2 0 0 (row 8 3 0 0 [])) [] (row 14 0 0 0 []) [] (65535 ∷ []) (1024 ∷ []) [] (join 1024 0 2 []) [] (6 ∷ 7 ∷ []) 1,
-      outcome 17 [] [] [] (row 7 3 0 0 (row 7 2 0 0 [])) [],
+      given (fourWords 8 2 0 0 (fourWords 8 3 0 0 [])) [] (fourWords 14 0 0 0 []) [] (65535 ∷ []) (1024 ∷ []) [] (rowJoin 1024 0 2 []) [] (6 ∷ 7 ∷ []) 1,
+      outcome 17 [] [] [] (fourWords 7 3 0 0 (fourWords 7 2 0 0 [])) [],
     )
     -- Sub first
     ∷ (
-      given [] [] (row 14 0 0 0 (row 14 1 0 0 [])) [] (65535 ∷ 65535 ∷ []) (1024 ∷ 1025 ∷ []) [] (sub 1024 1025 (disjunction 0 1024 0 2 (disjunction 1 1025 2 2 []))) (2 ∷ 2 ∷ 2 ∷ 2 ∷ 1 ∷ 1 ∷ 2 ∷ 3 ∷ 3 ∷ 2 ∷ 4 ∷ 4 ∷ []) [] 1,
+      given [] [] (fourWords 14 0 0 0 (fourWords 14 1 0 0 [])) [] (65535 ∷ 65535 ∷ []) (1024 ∷ 1025 ∷ []) [] (rowSub 1024 1025 (rowDisjunction 0 1024 0 2 (rowDisjunction 1 1025 2 2 []))) (2 ∷ 2 ∷ 2 ∷ 2 ∷ 1 ∷ 1 ∷ 2 ∷ 3 ∷ 3 ∷ 2 ∷ 4 ∷ 4 ∷ []) [] 1,
       outcome 17 [] [] [] [] [],
     )
     -- disjunctions first
     ∷ (
-      given [] [] (row 14 0 0 0 (row 14 1 0 0 [])) [] (65535 ∷ 65535 ∷ []) (1024 ∷ 1025 ∷ []) [] (disjunction 0 1024 0 2 (disjunction 1 1025 2 2 (sub 1024 1025 []))) (2 ∷ 2 ∷ 2 ∷ 2 ∷ 1 ∷ 1 ∷ 2 ∷ 3 ∷ 3 ∷ 2 ∷ 4 ∷ 4 ∷ []) [] 1,
+      given [] [] (fourWords 14 0 0 0 (fourWords 14 1 0 0 [])) [] (65535 ∷ 65535 ∷ []) (1024 ∷ 1025 ∷ []) [] (rowDisjunction 0 1024 0 2 (rowDisjunction 1 1025 2 2 (rowSub 1024 1025 []))) (2 ∷ 2 ∷ 2 ∷ 2 ∷ 1 ∷ 1 ∷ 2 ∷ 3 ∷ 3 ∷ 2 ∷ 4 ∷ 4 ∷ []) [] 1,
       outcome 0 (expr 2 2 2 (expr 3 2 3 [])) (1 ∷ []) (choice 0 0 (choice 1 0 [])) [] [],
     )
     -- made in a dropped branch
     ∷ (
-      given (row 8 1 0 0 []) [] (row 14 0 0 0 (row 14 1 0 0 [])) [] (65535 ∷ 65535 ∷ []) (1024 ∷ 1025 ∷ []) [] (disjunction 0 1024 0 2 (sub 6 1025 (sub 1024 3 []))) (2 ∷ 3 ∷ 3 ∷ 2 ∷ 2 ∷ 2 ∷ []) [] 1,
-      outcome 0 (expr 3 2 3 (expr 6 0 0 [])) (0 ∷ 0 ∷ []) (choice 0 0 []) (row 7 1 0 0 []) [],
+      given (fourWords 8 1 0 0 []) [] (fourWords 14 0 0 0 (fourWords 14 1 0 0 [])) [] (65535 ∷ 65535 ∷ []) (1024 ∷ 1025 ∷ []) [] (rowDisjunction 0 1024 0 2 (rowSub 6 1025 (rowSub 1024 3 []))) (2 ∷ 3 ∷ 3 ∷ 2 ∷ 2 ∷ 2 ∷ []) [] 1,
+      outcome 0 (expr 3 2 3 (expr 6 0 0 [])) (0 ∷ 0 ∷ []) (choice 0 0 []) (fourWords 7 1 0 0 []) [],
     )
     -- nothing dropped between a Join's sources
     ∷ (
-      given (row 8 3 0 0 (row 11 3 0 1 (row 11 6 1 1 []))) (3 ∷ 2 ∷ []) (row 14 0 0 0 (row 14 1 0 0 (row 11 1025 0 1 []))) (1024 ∷ []) (65535 ∷ 65535 ∷ []) (1026 ∷ []) [] (disjunction 0 1026 0 2 (join 3 0 2 [])) (1 ∷ 0 ∷ 7 ∷ 1 ∷ 0 ∷ 8 ∷ []) (1024 ∷ 1025 ∷ []) 1,
-      outcome 0 (expr 7 1 0 []) (0 ∷ 0 ∷ []) (choice 0 0 []) (row 7 3 0 0 []) [],
+      given (fourWords 8 3 0 0 (fourWords 11 3 0 1 (fourWords 11 6 1 1 []))) (3 ∷ 2 ∷ []) (fourWords 14 0 0 0 (fourWords 14 1 0 0 (fourWords 11 1025 0 1 []))) (1024 ∷ []) (65535 ∷ 65535 ∷ []) (1026 ∷ []) [] (rowDisjunction 0 1026 0 2 (rowJoin 3 0 2 [])) (1 ∷ 0 ∷ 7 ∷ 1 ∷ 0 ∷ 8 ∷ []) (1024 ∷ 1025 ∷ []) 1,
+      outcome 0 (expr 7 1 0 []) (0 ∷ 0 ∷ []) (choice 0 0 []) (fourWords 7 3 0 0 []) [],
     )
     -- comprehension makes both
     ∷ (
-      given [] [] (row 14 0 0 0 []) [] (65535 ∷ []) (1024 ∷ []) [] (comprehension 3 1024 2 []) [] [] 1,
-      outcome 0 (expr 7 0 0 []) [] [] (row 7 2 0 0 (row 9 2 0 0 [])) [],
+      given [] [] (fourWords 14 0 0 0 []) [] (65535 ∷ []) (1024 ∷ []) [] (rowComprehension 3 1024 2 []) [] [] 1,
+      outcome 0 (expr 7 0 0 []) [] [] (fourWords 7 2 0 0 (fourWords 9 2 0 0 [])) [],
     )
     -- Join with an open second source
     ∷ (
-      given [] [] (row 14 0 0 0 (row 6 3 0 0 (row 14 1 0 0 []))) [] (65535 ∷ 65535 ∷ []) (1024 ∷ []) [] (join 1026 0 2 []) [] (1025 ∷ 1024 ∷ []) 1,
-      outcome 0 (expr 6 0 0 []) (0 ∷ 0 ∷ []) [] (row 6 3 0 0 []) [],
+      given [] [] (fourWords 14 0 0 0 (fourWords 6 3 0 0 (fourWords 14 1 0 0 []))) [] (65535 ∷ 65535 ∷ []) (1024 ∷ []) [] (rowJoin 1026 0 2 []) [] (1025 ∷ 1024 ∷ []) 1,
+      outcome 0 (expr 6 0 0 []) (0 ∷ 0 ∷ []) [] (fourWords 6 3 0 0 []) [],
     )
     -- function source that stops inside
     ∷ (
-      given [] [] (row 14 0 0 0 (row 6 3 0 0 (row 11 1 0 2 (row 14 1 0 0 [])))) (1025 ∷ 1024 ∷ []) (65535 ∷ 65535 ∷ []) [] [] (join 1027 0 1 []) [] (1026 ∷ []) 1,
-      outcome 0 [] (0 ∷ []) [] (row 6 3 0 0 []) [],
+      given [] [] (fourWords 14 0 0 0 (fourWords 6 3 0 0 (fourWords 11 1 0 2 (fourWords 14 1 0 0 [])))) (1025 ∷ 1024 ∷ []) (65535 ∷ 65535 ∷ []) [] [] (rowJoin 1027 0 1 []) [] (1026 ∷ []) 1,
+      outcome 0 [] (0 ∷ []) [] (fourWords 6 3 0 0 []) [],
     )
     -- widening of a nested function
     ∷ (
-      given (row 11 2 0 1 (row 11 6 1 1 [])) (1 ∷ 1 ∷ []) [] [] [] [] [] (sub 7 3 []) [] [] 1,
+      given (fourWords 11 2 0 1 (fourWords 11 6 1 1 [])) (1 ∷ 1 ∷ []) [] [] [] [] [] (rowSub 7 3 []) [] [] 1,
       outcome 17 [] [] [] [] [],
     )
     -- node room used again, room for one node entry
     ∷ (
-      given (row 11 4 0 1 []) (1 ∷ []) (row 14 0 0 0 []) (replicate 4095 0) (65535 ∷ []) (1024 ∷ []) [] (disjunction 0 1024 0 2 (sub 6 1024 [])) (2 ∷ 1 ∷ 1 ∷ 2 ∷ 3 ∷ 3 ∷ []) [] 1,
+      given (fourWords 11 4 0 1 []) (1 ∷ []) (fourWords 14 0 0 0 []) (replicate 4095 0) (65535 ∷ []) (1024 ∷ []) [] (rowDisjunction 0 1024 0 2 (rowSub 6 1024 [])) (2 ∷ 1 ∷ 1 ∷ 2 ∷ 3 ∷ 3 ∷ []) [] 1,
       outcome 17 [] [] [] [] [],
     )
     -- a list on the left
     ∷ (
-      given (row 8 1 0 0 (row 7 3 0 0 [])) [] [] [] [] [] [] (sub 6 7 []) [] [] 1,
-      outcome 17 [] [] [] (row 7 1 0 0 []) [],
+      given (fourWords 8 1 0 0 (fourWords 7 3 0 0 [])) [] [] [] [] [] [] (rowSub 6 7 []) [] [] 1,
+      outcome 17 [] [] [] (fourWords 7 1 0 0 []) [],
     )
     -- Join of three
     ∷ (
-      given (row 8 3 0 0 (row 7 2 0 0 (row 8 4 0 0 []))) [] (row 14 0 0 0 []) [] (65535 ∷ []) [] [] (join 1024 0 3 []) [] (6 ∷ 7 ∷ 8 ∷ []) 1,
-      outcome 17 [] [] [] (row 7 3 0 0 (row 7 4 0 0 [])) [],
+      given (fourWords 8 3 0 0 (fourWords 7 2 0 0 (fourWords 8 4 0 0 []))) [] (fourWords 14 0 0 0 []) [] (65535 ∷ []) [] [] (rowJoin 1024 0 3 []) [] (6 ∷ 7 ∷ 8 ∷ []) 1,
+      outcome 17 [] [] [] (fourWords 7 3 0 0 (fourWords 7 4 0 0 [])) [],
     )
     -- a tie
     ∷ (
-      given [] [] (row 14 0 0 0 (row 6 1024 0 0 [])) [] (65535 ∷ []) (1025 ∷ []) [] (disjunction 0 1024 0 2 []) (2 ∷ 3 ∷ 3 ∷ 2 ∷ 2 ∷ 2 ∷ []) [] 1,
-      outcome 18 [] [] [] (row 6 3 0 0 []) [],
+      given [] [] (fourWords 14 0 0 0 (fourWords 6 1024 0 0 [])) [] (65535 ∷ []) (1025 ∷ []) [] (rowDisjunction 0 1024 0 2 []) (2 ∷ 3 ∷ 3 ∷ 2 ∷ 2 ∷ 2 ∷ []) [] 1,
+      outcome 18 [] [] [] (fourWords 6 3 0 0 []) [],
     )
     -- equality first
     ∷ (
-      given (row 8 3 0 0 []) [] [] [] [] [] [] (sub 6 6 []) [] [] 1,
+      given (fourWords 8 3 0 0 []) [] [] [] [] [] [] (rowSub 6 6 []) [] [] 1,
       outcome 0 [] (0 ∷ []) [] [] [],
     )
     -- no list on the left
     ∷ (
-      given (row 11 5 0 1 []) (1 ∷ []) (row 14 0 0 0 (row 11 1024 0 1 [])) (1 ∷ []) (65535 ∷ []) (1024 ∷ []) [] (sub 1025 6 (disjunction 0 1024 0 1 [])) (2 ∷ 4 ∷ 4 ∷ []) [] 1,
+      given (fourWords 11 5 0 1 []) (1 ∷ []) (fourWords 14 0 0 0 (fourWords 11 1024 0 1 [])) (1 ∷ []) (65535 ∷ []) (1024 ∷ []) [] (rowSub 1025 6 (rowDisjunction 0 1024 0 1 [])) (2 ∷ 4 ∷ 4 ∷ []) [] 1,
       outcome 0 (expr 4 2 4 []) (1 ∷ []) (choice 0 0 []) [] [],
     )
     -- entry list full
     ∷ (
-      given [] (replicate 4096 0) (row 11 3 0 1 []) (1 ∷ []) [] (1024 ∷ []) [] [] [] [] 1,
+      given [] (replicate 4096 0) (fourWords 11 3 0 1 []) (1 ∷ []) [] (1024 ∷ []) [] [] [] [] 1,
       outcome 15 [] [] [] [] [],
     )
     -- entry list full, no arguments
     ∷ (
-      given [] (replicate 4096 0) (row 11 3 0 0 []) [] [] (1024 ∷ []) [] [] [] [] 1,
-      outcome 0 (expr 6 0 0 []) [] [] (row 11 3 4096 0 []) [],
+      given [] (replicate 4096 0) (fourWords 11 3 0 0 []) [] [] (1024 ∷ []) [] [] [] [] 1,
+      outcome 0 (expr 6 0 0 []) [] [] (fourWords 11 3 4096 0 []) [],
     )
     -- narrower list
     ∷ (
-      given [] [] (row 14 0 0 0 []) [] (65535 ∷ []) (1024 ∷ []) [] (sub 1024 5 (disjunction 0 1024 0 2 [])) (2 ∷ 2 ∷ 2 ∷ 2 ∷ 3 ∷ 3 ∷ []) [] 1,
+      given [] [] (fourWords 14 0 0 0 []) [] (65535 ∷ []) (1024 ∷ []) [] (rowSub 1024 5 (rowDisjunction 0 1024 0 2 [])) (2 ∷ 2 ∷ 2 ∷ 2 ∷ 3 ∷ 3 ∷ []) [] 1,
       outcome 0 (expr 3 2 3 []) (2 ∷ []) (choice 0 1 []) [] [],
     )
     -- from the front
     ∷ (
-      given [] [] (row 14 0 0 0 []) [] (65535 ∷ []) (1024 ∷ []) [] (disjunction 0 1024 0 2 (sub 1024 3 (sub 2 1024 []))) (2 ∷ 2 ∷ 2 ∷ 2 ∷ 3 ∷ 3 ∷ []) [] 1,
+      given [] [] (fourWords 14 0 0 0 []) [] (65535 ∷ []) (1024 ∷ []) [] (rowDisjunction 0 1024 0 2 (rowSub 1024 3 (rowSub 2 1024 []))) (2 ∷ 2 ∷ 2 ∷ 2 ∷ 3 ∷ 3 ∷ []) [] 1,
       outcome 0 (expr 3 2 3 []) (0 ∷ 1 ∷ []) (choice 0 1 []) [] [],
     )
     -- literal on Bool
     ∷ (
-      given [] [] [] [] [] [] [] (lit 1 0 []) [] [] 1,
+      given [] [] [] [] [] [] [] (rowLit 1 0 []) [] [] 1,
       outcome 17 [] [] [] [] [],
     )
     -- literal on a container
     ∷ (
-      given [] [] (row 14 0 0 0 (row 6 1024 0 0 [])) [] (65535 ∷ []) [] [] (lit 1025 1 []) [] [] 1,
+      given [] [] (fourWords 14 0 0 0 (fourWords 6 1024 0 0 [])) [] (65535 ∷ []) [] [] (rowLit 1025 1 []) [] [] 1,
       outcome 17 [] [] [] [] [],
     )
     -- empty list on the left
     ∷ (
-      given [] [] [] [] [] [] [] (sub 1 3 []) [] [] 1,
+      given [] [] [] [] [] [] [] (rowSub 1 3 []) [] [] 1,
       outcome 17 [] [] [] [] [],
     )
     -- empty list on the left, a container on the right
     ∷ (
-      given (row 7 3 0 0 []) [] [] [] [] [] [] (sub 1 6 []) [] [] 1,
+      given (fourWords 7 3 0 0 []) [] [] [] [] [] [] (rowSub 1 6 []) [] [] 1,
       outcome 17 [] [] [] [] [],
     )
     -- target among the sources
     ∷ (
-      given [] [] (row 14 0 0 0 []) [] (65535 ∷ []) (1024 ∷ []) [] (join 1024 0 2 []) [] (1024 ∷ 3 ∷ []) 1,
+      given [] [] (fourWords 14 0 0 0 []) [] (65535 ∷ []) (1024 ∷ []) [] (rowJoin 1024 0 2 []) [] (1024 ∷ 3 ∷ []) 1,
       outcome 0 (expr 3 0 0 []) (0 ∷ 0 ∷ []) [] [] [],
     )
     -- Join past the join
     ∷ (
-      given [] [] [] [] [] [] [] (join 4 0 2 []) [] (2 ∷ 3 ∷ []) 1,
+      given [] [] [] [] [] [] [] (rowJoin 4 0 2 []) [] (2 ∷ 3 ∷ []) 1,
       outcome 0 [] (2 ∷ 1 ∷ []) [] [] [],
     )
     -- nothing
@@ -215,42 +215,42 @@ cases =
     )
     -- one overload twice
     ∷ (
-      given [] [] (row 14 0 0 0 []) [] (65535 ∷ []) (1024 ∷ []) [] (disjunction 0 1024 0 2 []) (2 ∷ 3 ∷ 3 ∷ 2 ∷ 3 ∷ 3 ∷ []) [] 1,
+      given [] [] (fourWords 14 0 0 0 []) [] (65535 ∷ []) (1024 ∷ []) [] (rowDisjunction 0 1024 0 2 []) (2 ∷ 3 ∷ 3 ∷ 2 ∷ 3 ∷ 3 ∷ []) [] 1,
       outcome 18 [] [] [] [] [],
     )
     -- a tie that is beaten
     ∷ (
-      given [] [] (row 14 0 0 0 []) [] (65535 ∷ []) (1024 ∷ []) [] (disjunction 0 1024 0 3 (sub 1024 3 [])) (2 ∷ 2 ∷ 2 ∷ 2 ∷ 2 ∷ 2 ∷ 2 ∷ 3 ∷ 3 ∷ []) [] 1,
+      given [] [] (fourWords 14 0 0 0 []) [] (65535 ∷ []) (1024 ∷ []) [] (rowDisjunction 0 1024 0 3 (rowSub 1024 3 [])) (2 ∷ 2 ∷ 2 ∷ 2 ∷ 2 ∷ 2 ∷ 2 ∷ 3 ∷ 3 ∷ []) [] 1,
       outcome 0 (expr 3 2 3 []) (0 ∷ []) (choice 0 2 []) [] [],
     )
     -- no overloads
     ∷ (
-      given [] [] [] [] [] (3 ∷ []) [] (disjunction 0 3 0 0 []) [] [] 1,
+      given [] [] [] [] [] (3 ∷ []) [] (rowDisjunction 0 3 0 0 []) [] [] 1,
       outcome 17 [] [] [] [] [],
     )
     -- base name overwritten
     ∷ (
-      given [] [] (row 14 0 0 0 []) [] (65535 ∷ []) (1024 ∷ 1 ∷ []) (0 ∷ 1 ∷ 0 ∷ 1 ∷ 3 ∷ 0 ∷ []) (disjunction 0 3 0 2 []) (2 ∷ 2 ∷ 2 ∷ 2 ∷ 3 ∷ 3 ∷ []) [] 1,
+      given [] [] (fourWords 14 0 0 0 []) [] (65535 ∷ []) (1024 ∷ 1 ∷ []) (0 ∷ 1 ∷ 0 ∷ 1 ∷ 3 ∷ 0 ∷ []) (rowDisjunction 0 3 0 2 []) (2 ∷ 2 ∷ 2 ∷ 2 ∷ 3 ∷ 3 ∷ []) [] 1,
       outcome 0 (expr 1 2 3 (expr 1 3 0 [])) [] (choice 0 1 []) [] [],
     )
     -- default inside
     ∷ (
-      given [] [] (row 14 0 0 0 (row 6 1024 0 0 (row 11 1024 0 1 []))) (1025 ∷ []) (65535 ∷ []) (1026 ∷ []) [] [] [] [] 3,
-      outcome 0 (expr 7 0 0 []) [] [] (row 6 3 0 0 (row 11 3 0 1 [])) (6 ∷ []),
+      given [] [] (fourWords 14 0 0 0 (fourWords 6 1024 0 0 (fourWords 11 1024 0 1 []))) (1025 ∷ []) (65535 ∷ []) (1026 ∷ []) [] [] [] [] 3,
+      outcome 0 (expr 7 0 0 []) [] [] (fourWords 6 3 0 0 (fourWords 11 3 0 1 [])) (6 ∷ []),
     )
     -- given bindings
     ∷ (
-      given [] [] (row 14 0 0 0 (row 14 1 0 0 (row 6 1025 0 0 []))) [] (1026 ∷ 2 ∷ []) (1024 ∷ []) [] [] [] [] 1,
-      outcome 0 (expr 6 0 0 []) [] [] (row 6 2 0 0 []) [],
+      given [] [] (fourWords 14 0 0 0 (fourWords 14 1 0 0 (fourWords 6 1025 0 0 []))) [] (1026 ∷ 2 ∷ []) (1024 ∷ []) [] [] [] [] 1,
+      outcome 0 (expr 6 0 0 []) [] [] (fourWords 6 2 0 0 []) [],
     )
     -- empty run at the end
     ∷ (
-      given (row 11 1 1 0 []) (1 ∷ []) [] [] [] [] [] [] [] [] 1,
+      given (fourWords 11 1 1 0 []) (1 ∷ []) [] [] [] [] [] [] [] [] 1,
       outcome 0 [] [] [] [] [],
     )
     -- overlapping runs
     ∷ (
-      given (row 11 3 0 2 (row 11 3 0 1 [])) (1 ∷ 3 ∷ []) [] [] [] (7 ∷ []) [] [] [] [] 1,
+      given (fourWords 11 3 0 2 (fourWords 11 3 0 1 [])) (1 ∷ 3 ∷ []) [] [] [] (7 ∷ []) [] [] [] [] 1,
       outcome 0 (expr 7 0 0 []) [] [] [] [],
     )
     -- stray overload
@@ -260,36 +260,36 @@ cases =
     )
     -- solve seed 1 size 2 number 3505
     ∷ (
-      given [] [] (row 14 0 0 0 (row 14 1 0 0 (row 14 2 0 0 (row 10 1024 0 0 (row 14 3 0 0 (row 14 4 0 0 [])))))) [] (5 ∷ 2 ∷ 65535 ∷ 65535 ∷ 65535 ∷ []) [] [] (join 1027 0 2 (sub 1027 1027 (comprehension 1029 1028 1 []))) [] (1027 ∷ 1027 ∷ []) 3,
-      outcome 18 [] [] [] (row 10 5 0 0 (row 7 1 0 0 (row 9 1 0 0 []))) [],
+      given [] [] (fourWords 14 0 0 0 (fourWords 14 1 0 0 (fourWords 14 2 0 0 (fourWords 10 1024 0 0 (fourWords 14 3 0 0 (fourWords 14 4 0 0 [])))))) [] (5 ∷ 2 ∷ 65535 ∷ 65535 ∷ 65535 ∷ []) [] [] (rowJoin 1027 0 2 (rowSub 1027 1027 (rowComprehension 1029 1028 1 []))) [] (1027 ∷ 1027 ∷ []) 3,
+      outcome 18 [] [] [] (fourWords 10 5 0 0 (fourWords 7 1 0 0 (fourWords 9 1 0 0 []))) [],
     )
     -- solve seed 1 size 2 number 8934
     ∷ (
-      given (row 10 3 0 0 []) [] (row 14 0 0 0 (row 14 1 0 0 (row 14 2 0 0 (row 11 1025 0 3 (row 11 1027 3 1 (row 8 1024 0 0 [])))))) (1 ∷ 3 ∷ 1025 ∷ 1024 ∷ []) (2 ∷ 65535 ∷ 65535 ∷ []) (3 ∷ 1024 ∷ []) (0 ∷ 3 ∷ 0 ∷ []) (lit 1026 0 (join 1029 0 1 (join 1026 1 1 []))) [] (1029 ∷ 3 ∷ []) 1,
-      outcome 0 (expr 3 3 0 (expr 2 0 0 [])) (1 ∷ 0 ∷ 0 ∷ []) [] (row 8 2 0 0 []) [],
+      given (fourWords 10 3 0 0 []) [] (fourWords 14 0 0 0 (fourWords 14 1 0 0 (fourWords 14 2 0 0 (fourWords 11 1025 0 3 (fourWords 11 1027 3 1 (fourWords 8 1024 0 0 [])))))) (1 ∷ 3 ∷ 1025 ∷ 1024 ∷ []) (2 ∷ 65535 ∷ 65535 ∷ []) (3 ∷ 1024 ∷ []) (0 ∷ 3 ∷ 0 ∷ []) (rowLit 1026 0 (rowJoin 1029 0 1 (rowJoin 1026 1 1 []))) [] (1029 ∷ 3 ∷ []) 1,
+      outcome 0 (expr 3 3 0 (expr 2 0 0 [])) (1 ∷ 0 ∷ 0 ∷ []) [] (fourWords 8 2 0 0 []) [],
     )
     -- join seed 1 size 2 number 836
     ∷ (
-      given (row 12 65535 0 0 (row 12 1 0 0 [])) [] (row 8 6 0 0 (row 14 1 0 0 [])) [] (65535 ∷ 65535 ∷ []) (1024 ∷ 1025 ∷ 5 ∷ 1025 ∷ []) (1 ∷ 2 ∷ 7 ∷ []) (disjunction 1 1025 0 2 (sub 2 1025 (join 1024 0 2 (sub 1025 2 [])))) (2 ∷ 3 ∷ 3 ∷ 2 ∷ 2 ∷ 2 ∷ []) (1024 ∷ 1024 ∷ []) 1,
-      outcome 0 (expr 8 0 0 (expr 2 2 2 (expr 5 0 0 (expr 2 0 0 [])))) (0 ∷ 0 ∷ 0 ∷ 0 ∷ []) (choice 1 1 []) (row 8 6 0 0 []) [],
+      given (fourWords 12 65535 0 0 (fourWords 12 1 0 0 [])) [] (fourWords 8 6 0 0 (fourWords 14 1 0 0 [])) [] (65535 ∷ 65535 ∷ []) (1024 ∷ 1025 ∷ 5 ∷ 1025 ∷ []) (1 ∷ 2 ∷ 7 ∷ []) (rowDisjunction 1 1025 0 2 (rowSub 2 1025 (rowJoin 1024 0 2 (rowSub 1025 2 [])))) (2 ∷ 3 ∷ 3 ∷ 2 ∷ 2 ∷ 2 ∷ []) (1024 ∷ 1024 ∷ []) 1,
+      outcome 0 (expr 8 0 0 (expr 2 2 2 (expr 5 0 0 (expr 2 0 0 [])))) (0 ∷ 0 ∷ 0 ∷ 0 ∷ []) (choice 1 1 []) (fourWords 8 6 0 0 []) [],
     )
     -- join seed 1 size 2 number 10868
     ∷ (
-      given [] [] (row 14 0 0 0 (row 14 1 0 0 (row 14 2 0 0 (row 14 3 0 0 (row 11 1024 0 1 (row 7 5 0 0 (row 10 1025 0 0 (row 14 4 0 0 [])))))))) (1025 ∷ []) (65535 ∷ 65535 ∷ 65535 ∷ 65535 ∷ 65535 ∷ []) (5 ∷ 1027 ∷ []) [] (comprehension 1027 1031 4 (join 1029 0 1 (sub 1030 1030 (join 1026 1 3 [])))) [] (1029 ∷ 1027 ∷ 3 ∷ 4 ∷ []) 1,
-      outcome 0 (expr 5 0 0 (expr 3 0 0 [])) (0 ∷ 0 ∷ 1 ∷ 1 ∷ 0 ∷ []) [] (row 7 4 0 0 (row 7 5 0 0 (row 9 4 0 0 []))) [],
+      given [] [] (fourWords 14 0 0 0 (fourWords 14 1 0 0 (fourWords 14 2 0 0 (fourWords 14 3 0 0 (fourWords 11 1024 0 1 (fourWords 7 5 0 0 (fourWords 10 1025 0 0 (fourWords 14 4 0 0 [])))))))) (1025 ∷ []) (65535 ∷ 65535 ∷ 65535 ∷ 65535 ∷ 65535 ∷ []) (5 ∷ 1027 ∷ []) [] (rowComprehension 1027 1031 4 (rowJoin 1029 0 1 (rowSub 1030 1030 (rowJoin 1026 1 3 [])))) [] (1029 ∷ 1027 ∷ 3 ∷ 4 ∷ []) 1,
+      outcome 0 (expr 5 0 0 (expr 3 0 0 [])) (0 ∷ 0 ∷ 1 ∷ 1 ∷ 0 ∷ []) [] (fourWords 7 4 0 0 (fourWords 7 5 0 0 (fourWords 9 4 0 0 []))) [],
     )
     -- choice seed 1 size 2 number 2767
     ∷ (
-      given [] [] (row 14 0 0 0 (row 14 1 0 0 (row 10 0 0 0 (row 14 2 0 0 (row 14 3 0 0 []))))) [] (65535 ∷ 65535 ∷ 65535 ∷ 1024 ∷ []) (1024 ∷ 1028 ∷ []) (0 ∷ 3 ∷ 0 ∷ []) (disjunction 0 1024 0 1 (comprehension 2 1027 3 (disjunction 1 1028 1 2 (sub 1028 5 (sub 1027 1027 []))))) (2 ∷ 1 ∷ 1024 ∷ 2 ∷ 3 ∷ 3 ∷ 2 ∷ 2 ∷ 2 ∷ []) [] 5,
-      outcome 0 (expr 3 2 1 (expr 3 2 3 [])) (2 ∷ 0 ∷ []) (choice 0 0 (choice 1 0 [])) (row 7 3 0 0 (row 9 3 0 0 [])) [],
+      given [] [] (fourWords 14 0 0 0 (fourWords 14 1 0 0 (fourWords 10 0 0 0 (fourWords 14 2 0 0 (fourWords 14 3 0 0 []))))) [] (65535 ∷ 65535 ∷ 65535 ∷ 1024 ∷ []) (1024 ∷ 1028 ∷ []) (0 ∷ 3 ∷ 0 ∷ []) (rowDisjunction 0 1024 0 1 (rowComprehension 2 1027 3 (rowDisjunction 1 1028 1 2 (rowSub 1028 5 (rowSub 1027 1027 []))))) (2 ∷ 1 ∷ 1024 ∷ 2 ∷ 3 ∷ 3 ∷ 2 ∷ 2 ∷ 2 ∷ []) [] 5,
+      outcome 0 (expr 3 2 1 (expr 3 2 3 [])) (2 ∷ 0 ∷ []) (choice 0 0 (choice 1 0 [])) (fourWords 7 3 0 0 (fourWords 9 3 0 0 [])) [],
     )
     -- entries seed 1 size 2 number 3872
     ∷ (
-      given (row 11 5 0 0 (row 11 2 0 2 (row 6 2 0 0 (row 10 1 0 0 [])))) (2 ∷ 2 ∷ []) (row 14 0 0 0 (row 14 1 0 0 (row 11 1024 0 1 []))) (1025 ∷ (replicate 4094 0)) (65535 ∷ 65535 ∷ []) (0 ∷ 1024 ∷ 1024 ∷ []) [] (sub 7 2 []) [] [] 1,
+      given (fourWords 11 5 0 0 (fourWords 11 2 0 2 (fourWords 6 2 0 0 (fourWords 10 1 0 0 [])))) (2 ∷ 2 ∷ []) (fourWords 14 0 0 0 (fourWords 14 1 0 0 (fourWords 11 1024 0 1 []))) (1025 ∷ (replicate 4094 0)) (65535 ∷ 65535 ∷ []) (0 ∷ 1024 ∷ 1024 ∷ []) [] (rowSub 7 2 []) [] [] 1,
       outcome 16 [] [] [] [] [],
     )
     ∷ []
 
 pub compared : map (λ (c : Case). outcomeOf (c .0)) cases ≡ map (λ (c : Case). c .1) cases
-unfolding solved row sub lit disjunction comprehension join given outcome between keeping outcomeOf expr choice cases
+unfolding solvedList fourWords rowSub rowLit rowDisjunction rowComprehension rowJoin given outcome between keeping outcomeOf expr choice cases
 compared = refl

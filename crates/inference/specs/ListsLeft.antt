@@ -15,12 +15,12 @@ use Rattle.inference.specs.Search.{Out, found, missed, ended}
 use Rattle.inference.specs.SolveChecks.{Call}
 
 -- the counts that an answer gives of a list that is kept
-abbrev pub countsOf : Solved → Option Counts
-countsOf (Refused c) = none
-countsOf (NoRoom c) = none
-countsOf (NoTyping k) = some k
-countsOf (Ambiguous k) = some k
-countsOf (Typing o) = some (o .counts)
+abbrev pub countsTold : Solved → Option Counts
+countsTold (Refused c) = none
+countsTold (NoRoom c) = none
+countsTold (NoTyping k) = some k
+countsTold (Ambiguous k) = some k
+countsTold (Typing o) = some (o .counts)
 
 -- the sorts of ws, of which k counts, have grown from those given
 pub record SortsGrown (I : Call) (ws : List ℕ) (k : Counts) : Type 0 where

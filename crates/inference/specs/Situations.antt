@@ -48,11 +48,11 @@ pub record Given : Type 0 where
   pub sources : List ℕ
   pub default : ℕ
 
-unfoldable pub row : ℕ → ℕ → ℕ → ℕ → List ℕ → List ℕ
-row kind part start count ws = kind ∷ part ∷ start ∷ count ∷ ws
+unfoldable pub fourWords : ℕ → ℕ → ℕ → ℕ → List ℕ → List ℕ
+fourWords kind part start count ws = kind ∷ part ∷ start ∷ count ∷ ws
 
 abbrev pub six : List ℕ → List ℕ
-six ws = row 0 0 0 0 (row 1 0 0 0 (row 2 0 0 0 (row 3 0 0 0 (row 4 0 0 0 (row 5 0 0 0 ws)))))
+six ws = fourWords 0 0 0 0 (fourWords 1 0 0 0 (fourWords 2 0 0 0 (fourWords 3 0 0 0 (fourWords 4 0 0 0 (fourWords 5 0 0 0 ws)))))
 
 abbrev pub storage : ℕ → List ℕ → List ℕ → List ℕ
 storage n rows entries = rows ++ (replicate (n - length rows) 0 ++ (entries ++ replicate (4096 - length entries) 0))
@@ -92,9 +92,9 @@ callOf G =
     }
 
 -- The outcome of a list. To unfold it is to unfold all that it is computed through.
-unfoldable pub solved : Given → SolveLeft
-unfolding Checks.allBelow Checks.withinLent Checks.fixedSix Checks.partsBelow Checks.rowFine Checks.rowsFine Checks.noTwoEqual Checks.atCeiling Checks.firstFailing Tree.arity Tree.family Tree.level Tree.familyOp Tree.levelOp Tree.same Tree.sames Entries.stored Interning.look Interning.number Interning.member Interning.distinct Interning.need Interning.intern Interning.make Interning.makes Order.boundFlat Order.boundOp Order.distance Order.distances Order.materializable Bounds.boundAt Bounds.internAt Storage.resolved Storage.entriesOf Storage.lookAll Storage.treeOf Storage.trees Storage.kindFlat Storage.kindOp Storage.partFlat Storage.numbers Storage.rowOf Storage.putRow Storage.appendRow Storage.written Term.kindHead Term.numberHead Term.sameHead Acyclic.allSettled Acyclic.nodesSettled Acyclic.varsSettled Acyclic.rounds Acyclic.allTrue Acyclic.acyclic Resolve.firsts Resolve.treeOver Resolve.resolveTerm Resolve.resolveTerms Resolve.termResolved Related.relatedNumbers Related.relatedContainer NodeChecks.nodesWithinLent NodeChecks.bindingsWithinLent NodeChecks.nodePartsFine NodeChecks.nodeKindFine NodeChecks.nodeFine NodeChecks.nodesFine NodeChecks.bindingsFine NodeChecks.nodeChecks Making.appendNode Making.pushNode Making.internContainer Making.pushFunctions Making.relatedTo Making.strictRelated Unify.follow Unify.occurs Unify.unifyTo Unify.unify Nodes.nodeEntriesOf Nodes.inferred Nodes.sortShape Nodes.nodeShape Nodes.isPlace Nodes.shapeAt Nodes.bindsOf Solutions.valueTo Names.runFor Names.chosenName Names.baseName Names.nameOf Constraints.target Constraints.litKind Constraints.constraint Constraints.rowsFrom Search.resolveIn Search.joinIn Search.resolveAll Search.joinAll Search.agreed Search.joinOf Search.litComponent Search.unifying Search.firstFound Search.widening Search.literal Search.everyReading Search.everyOverload Search.sequence Search.joining Search.step Search.leaf Search.solve SolveEntry.typingRows SolveEntry.choiceRows SolveEntry.solveEntry SolveEntry.codeSolved Measure.compare Measure.worse SolveChecks.allWithinLent SolveChecks.rowsWithinLent SolveChecks.outputsLong SolveChecks.targetFine SolveChecks.exprsFine SolveChecks.namesFine SolveChecks.overloadFine SolveChecks.constraintsFine SolveChecks.disjunctions SolveChecks.among SolveChecks.noTwo SolveChecks.joinsFine SolveChecks.components SolveChecks.longEnough SolveChecks.solveChecks row six storage callOf
-solved G = solveEntry (callOf G)
+unfoldable pub solvedList : Given → SolveLeft
+unfolding Checks.allBelow Checks.withinLent Checks.fixedSix Checks.partsBelow Checks.rowFine Checks.rowsFine Checks.noTwoEqual Checks.atCeiling Checks.firstFailing Tree.arity Tree.family Tree.level Tree.familyOp Tree.levelOp Tree.same Tree.sames Entries.stored Interning.look Interning.number Interning.member Interning.distinct Interning.need Interning.intern Interning.make Interning.makes Order.boundFlat Order.boundOp Order.distance Order.distances Order.materializable Bounds.boundAt Bounds.internAt Storage.resolved Storage.entriesOf Storage.lookAll Storage.treeOf Storage.trees Storage.kindFlat Storage.kindOp Storage.partFlat Storage.numbers Storage.rowOf Storage.putRow Storage.appendRow Storage.written Term.kindHead Term.numberHead Term.sameHead Acyclic.allSettled Acyclic.nodesSettled Acyclic.varsSettled Acyclic.rounds Acyclic.allTrue Acyclic.acyclic Resolve.firsts Resolve.treeOver Resolve.resolveTerm Resolve.resolveTerms Resolve.termResolved Related.relatedNumbers Related.relatedContainer NodeChecks.nodesWithinLent NodeChecks.bindingsWithinLent NodeChecks.nodePartsFine NodeChecks.nodeKindFine NodeChecks.nodeFine NodeChecks.nodesFine NodeChecks.bindingsFine NodeChecks.nodeChecks Making.appendNode Making.pushNode Making.internContainer Making.pushFunctions Making.relatedTo Making.strictRelated Unify.follow Unify.occurs Unify.unifyTo Unify.unify Nodes.nodeEntriesOf Nodes.inferred Nodes.sortShape Nodes.nodeShape Nodes.isPlace Nodes.shapeAt Nodes.bindsOf Solutions.valueTo Names.runFor Names.chosenName Names.baseName Names.nameOf Constraints.target Constraints.litKind Constraints.constraint Constraints.rowsFrom Search.resolveIn Search.joinIn Search.resolveAll Search.joinAll Search.agreed Search.joinOf Search.litComponent Search.unifying Search.firstFound Search.widening Search.literal Search.everyReading Search.everyOverload Search.sequence Search.joining Search.step Search.leaf Search.solve SolveEntry.typingRows SolveEntry.choiceRows SolveEntry.solveEntry SolveEntry.codeSolved Measure.compare Measure.worse SolveChecks.allWithinLent SolveChecks.rowsWithinLent SolveChecks.outputsLong SolveChecks.targetFine SolveChecks.exprsFine SolveChecks.namesFine SolveChecks.overloadFine SolveChecks.constraintsFine SolveChecks.disjunctions SolveChecks.among SolveChecks.noTwo SolveChecks.joinsFine SolveChecks.components SolveChecks.longEnough SolveChecks.solveChecks fourWords six storage callOf
+solvedList G = solveEntry (callOf G)
 
 -- what a run came to: the code, and for a typing the sorts of the expressions and the measure
 pub record Ran : Type 0 where
@@ -115,8 +115,8 @@ upTo n = Constraints.rowsFrom (λ i. i) 0 n
 abbrev pub ranOf : SolveLeft → List ℕ → Ran
 ranOf L xs = record { code = codeSolved (L .answer); sorts = typedOf L (L .answer) xs .0; measure = typedOf L (L .answer) xs .1 }
 
-abbrev pub run : Given → Ran
-run G = ranOf (solved G) (upTo (length (G .exprs)))
+abbrev pub ranList : Given → Ran
+ranList G = ranOf (solvedList G) (upTo (length (G .exprs)))
 
 abbrev pub free : ℕ
 free = 65535
@@ -140,28 +140,28 @@ nat = 3
 abbrev pub real : ℕ
 real = 5
 
-unfoldable pub sub : ℕ → ℕ → List ℕ → List ℕ
-sub l r cs = 0 ∷ l ∷ r ∷ 0 ∷ 0 ∷ cs
+unfoldable pub rowSub : ℕ → ℕ → List ℕ → List ℕ
+rowSub l r cs = 0 ∷ l ∷ r ∷ 0 ∷ 0 ∷ cs
 
-unfoldable pub lit : ℕ → ℕ → List ℕ → List ℕ
-lit p kind cs = 1 ∷ p ∷ kind ∷ 0 ∷ 0 ∷ cs
+unfoldable pub rowLit : ℕ → ℕ → List ℕ → List ℕ
+rowLit p kind cs = 1 ∷ p ∷ kind ∷ 0 ∷ 0 ∷ cs
 
-unfoldable pub disjunction : ℕ → ℕ → ℕ → ℕ → List ℕ → List ℕ
-disjunction x p start count cs = 2 ∷ x ∷ p ∷ start ∷ count ∷ cs
+unfoldable pub rowDisjunction : ℕ → ℕ → ℕ → ℕ → List ℕ → List ℕ
+rowDisjunction x p start count cs = 2 ∷ x ∷ p ∷ start ∷ count ∷ cs
 
-unfoldable pub comprehension : ℕ → ℕ → ℕ → List ℕ → List ℕ
-comprehension body node element cs = 3 ∷ body ∷ node ∷ element ∷ 0 ∷ cs
+unfoldable pub rowComprehension : ℕ → ℕ → ℕ → List ℕ → List ℕ
+rowComprehension body node element cs = 3 ∷ body ∷ node ∷ element ∷ 0 ∷ cs
 
-unfoldable pub join : ℕ → ℕ → ℕ → List ℕ → List ℕ
-join t start count cs = 4 ∷ t ∷ start ∷ count ∷ 0 ∷ cs
+unfoldable pub rowJoin : ℕ → ℕ → ℕ → List ℕ → List ℕ
+rowJoin t start count cs = 4 ∷ t ∷ start ∷ count ∷ 0 ∷ cs
 
 -- one free expression with the variable 0, and constraints
-abbrev pub alone : List ℕ → Given
-alone cs =
+abbrev pub oneVariable : List ℕ → Given
+oneVariable cs =
     record {
       sorts = [];
       entries = [];
-      nodes = row 14 0 0 0 [];
+      nodes = fourWords 14 0 0 0 [];
       arguments = [];
       binds = free ∷ [];
       exprs = v0 ∷ [];
@@ -178,7 +178,7 @@ listed cs =
     record {
       sorts = [];
       entries = [];
-      nodes = row 14 0 0 0 (row 6 v0 0 0 []);
+      nodes = fourWords 14 0 0 0 (fourWords 6 v0 0 0 []);
       arguments = [];
       binds = free ∷ [];
       exprs = v0 ∷ v1 ∷ [];
@@ -195,7 +195,7 @@ comprehended cs =
     record {
       sorts = [];
       entries = [];
-      nodes = row 14 0 0 0 (row 14 1 0 0 []);
+      nodes = fourWords 14 0 0 0 (fourWords 14 1 0 0 []);
       arguments = [];
       binds = free ∷ free ∷ [];
       exprs = v0 ∷ v1 ∷ [];
@@ -210,9 +210,9 @@ comprehended cs =
 abbrev pub functions : List ℕ → Given
 functions cs =
     record {
-      sorts = row 11 pos 0 1 (row 11 nat 1 1 []);
+      sorts = fourWords 11 pos 0 1 (fourWords 11 nat 1 1 []);
       entries = bool ∷ bool ∷ [];
-      nodes = row 14 0 0 0 [];
+      nodes = fourWords 14 0 0 0 [];
       arguments = [];
       binds = free ∷ [];
       exprs = v0 ∷ [];
@@ -223,43 +223,43 @@ functions cs =
       default = bool;
     }
 
-abbrev pub typing : List Tree → List ℕ → Ran
-typing ts ms = record { code = 0; sorts = ts; measure = ms }
+abbrev pub typedAs : List Tree → List ℕ → Ran
+typedAs ts ms = record { code = 0; sorts = ts; measure = ms }
 
-abbrev pub verdict : ℕ → Ran
-verdict c = record { code = c; sorts = []; measure = [] }
+abbrev pub cameTo : ℕ → Ran
+cameTo c = record { code = c; sorts = []; measure = [] }
 
-abbrev pub sort : Sort → Tree
-sort s = flat (primitive s)
+abbrev pub numberSort : Sort → Tree
+numberSort s = flat (primitive s)
 
 -- a run and what document 01 says of it
-abbrev pub Run : Type 0
-Run = Given × Ran
+abbrev pub Situation : Type 0
+Situation = Given × Ran
 
-abbrev pub situations : List (List Run)
+abbrev pub situations : List (List Situation)
 situations =
     -- "No constraints, one free expression, default Bool: typing Bool, []."
-    ((alone [], typing (sort Sort.Bool ∷ []) []) ∷ [])
+    ((oneVariable [], typedAs (numberSort Sort.Bool ∷ []) []) ∷ [])
     -- "Literal '0': Nat [1]; on Pos: 17."
-    ∷ ((alone (lit v0 1 []), typing (sort Sort.Nat ∷ []) (1 ∷ [])) ∷ (alone (lit pos 1 []), verdict 17) ∷ [])
+    ∷ ((oneVariable (rowLit v0 1 []), typedAs (numberSort Sort.Nat ∷ []) (1 ∷ [])) ∷ (oneVariable (rowLit pos 1 []), cameTo 17) ∷ [])
     -- "Literal '7': Pos [0]."
-    ∷ ((alone (lit v0 0 []), typing (sort Sort.Pos ∷ []) (0 ∷ [])) ∷ [])
+    ∷ ((oneVariable (rowLit v0 0 []), typedAs (numberSort Sort.Pos ∷ []) (0 ∷ [])) ∷ [])
     -- "Sub Pos to Real: [3]."
-    ∷ ((alone (sub pos real []), typing (sort Sort.Bool ∷ []) (3 ∷ [])) ∷ [])
+    ∷ ((oneVariable (rowSub pos real []), typedAs (numberSort Sort.Bool ∷ []) (3 ∷ [])) ∷ [])
     -- "Sub Nat to Pos: 17."
-    ∷ ((alone (sub nat pos []), verdict 17) ∷ [])
+    ∷ ((oneVariable (rowSub nat pos []), cameTo 17) ∷ [])
     -- "Sub v to List(v): 17."
-    ∷ ((listed (sub v0 v1 []), verdict 17) ∷ [])
+    ∷ ((listed (rowSub v0 v1 []), cameTo 17) ∷ [])
     -- "Comprehension, free body: 18."
-    ∷ ((comprehended (comprehension v0 v1 pos []), verdict 18) ∷ [])
+    ∷ ((comprehended (rowComprehension v0 v1 pos []), cameTo 18) ∷ [])
     -- "Disjunction of Nat and Pos: 18."
-    ∷ ((alone (disjunction 0 v0 0 2 []), verdict 18) ∷ [])
+    ∷ ((oneVariable (rowDisjunction 0 v0 0 2 []), cameTo 18) ∷ [])
     -- "Followed by Sub of it to Nat: Nat [0]."
-    ∷ ((alone (disjunction 0 v0 0 2 (sub v0 nat [])), typing (sort Sort.Nat ∷ []) (0 ∷ [])) ∷ [])
+    ∷ ((oneVariable (rowDisjunction 0 v0 0 2 (rowSub v0 nat [])), typedAs (numberSort Sort.Nat ∷ []) (0 ∷ [])) ∷ [])
     -- "Join of Pos, Nat: Nat [1, 0]."
-    ∷ ((alone (join v0 0 2 []), typing (sort Sort.Nat ∷ []) (1 ∷ 0 ∷ [])) ∷ [])
+    ∷ ((oneVariable (rowJoin v0 0 2 []), typedAs (numberSort Sort.Nat ∷ []) (1 ∷ 0 ∷ [])) ∷ [])
     -- "Join of Bool -> Pos, Bool -> Nat: Bool -> Nat [0, 0]; as two Subs [1, 0]."
-    ∷ ((functions (join v0 0 2 []), typing (function (arg (sort Sort.Bool) no-args) (sort Sort.Nat) ∷ []) (0 ∷ 0 ∷ []))
-    ∷ (functions (sub 6 v0 (sub 7 v0 [])), typing (function (arg (sort Sort.Bool) no-args) (sort Sort.Nat) ∷ []) (1 ∷ 0 ∷ []))
+    ∷ ((functions (rowJoin v0 0 2 []), typedAs (function (arg (numberSort Sort.Bool) no-args) (numberSort Sort.Nat) ∷ []) (0 ∷ 0 ∷ []))
+    ∷ (functions (rowSub 6 v0 (rowSub 7 v0 [])), typedAs (function (arg (numberSort Sort.Bool) no-args) (numberSort Sort.Nat) ∷ []) (1 ∷ 0 ∷ []))
     ∷ [])
     ∷ []

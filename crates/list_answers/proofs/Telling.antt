@@ -9,7 +9,7 @@ use Rattle.inference.specs.declared.Solved.{Solved}
 use Rattle.inference.specs.declared.Solved.the-variants.{Refused, NoRoom, NoTyping, Ambiguous, Typing}
 use Rattle.inference.specs.SolveChecks.{Call}
 use Rattle.inference.specs.SolveEntry.{solveEntry, codeSolved}
-use Rattle.inference.specs.ListsLeft.{countsOf}
+use Rattle.inference.specs.ListsLeft.{countsTold}
 use Rattle.inference.proofs.ListsLeft.{sorts-only-grow}
 use Rattle.text_out.specs.Within.{buffer, puts}
 use Rattle.text_out.specs.Inner.Within.{PutWithin}
@@ -55,7 +55,7 @@ left-tellable I = go (solveEntry I .answer) refl
     go (NoRoom c) e = tt
     go (NoTyping k) e = tt
     go (Ambiguous k) e = tt
-    go (Typing o) e = sorts-only-grow I (o .counts) (ap countsOf e) .checked
+    go (Typing o) e = sorts-only-grow I (o .counts) (ap countsTold e) .checked
 
 -- What is left after asking and telling.
 module _ (I : Call) (r : Solved) (ss ts ms cs : List ℕ) (e : listAnswer r ss ts ms cs ≡ listAnswerOf (solveEntry I)) where

@@ -8,7 +8,7 @@ use Rattle.resolved_sort.specs.Storage.{fullLength}
 use Rattle.unification.specs.Nodes.{maxVars, fullNodes}
 use Rattle.inference.specs.Constraints.{maxExprs, maxSources, maxComponents}
 use Rattle.inference.specs.SolveChecks.{scratchWords, Call}
-use Rattle.list_memory.specs.Memory.{nameWords, constraintWords, overloadWords, typingWords, choiceWords, rowsGiven}
+use Rattle.list_memory.specs.Memory.{listNameWords, listConstraintWords, listOverloadWords, listTypingWords, listChoiceWords, rowsGiven}
 use Rattle.list_memory.specs.Memory.{listSortsAt, listNodesAt, listBindsAt, listExprsAt, listNamesAt, listConstraintsAt}
 use Rattle.list_memory.specs.Memory.{listOverloadsAt, listSourcesAt, listTypingAt, listMeasureAt, listChoicesAt}
 use Rattle.list_memory.specs.Memory.{listScratchAt, sortList, entryList, nodeList, nodeEntryList, varList, exprList}
@@ -50,25 +50,25 @@ module _ (ws : List ℕ) where
   exprsIn = sliceLent ws listExprsAt 3 (1 * rowsGiven ws exprList) maxExprs
 
   abbrev pub namesIn : List ℕ
-  namesIn = sliceLent ws listNamesAt 4 (3 * rowsGiven ws nameList) nameWords
+  namesIn = sliceLent ws listNamesAt 4 (3 * rowsGiven ws nameList) listNameWords
 
   abbrev pub constraintsIn : List ℕ
-  constraintsIn = sliceLent ws listConstraintsAt 5 (5 * rowsGiven ws constraintList) constraintWords
+  constraintsIn = sliceLent ws listConstraintsAt 5 (5 * rowsGiven ws constraintList) listConstraintWords
 
   abbrev pub overloadsIn : List ℕ
-  overloadsIn = sliceLent ws listOverloadsAt 6 (3 * rowsGiven ws overloadList) overloadWords
+  overloadsIn = sliceLent ws listOverloadsAt 6 (3 * rowsGiven ws overloadList) listOverloadWords
 
   abbrev pub sourcesIn : List ℕ
   sourcesIn = sliceLent ws listSourcesAt 7 (1 * rowsGiven ws sourceList) maxSources
 
   abbrev pub typingIn : List ℕ
-  typingIn = sliceLent ws listTypingAt 9 typingWords typingWords
+  typingIn = sliceLent ws listTypingAt 9 listTypingWords listTypingWords
 
   abbrev pub measureIn : List ℕ
   measureIn = sliceLent ws listMeasureAt 10 maxComponents maxComponents
 
   abbrev pub choicesIn : List ℕ
-  choicesIn = sliceLent ws listChoicesAt 11 choiceWords choiceWords
+  choicesIn = sliceLent ws listChoicesAt 11 listChoiceWords listChoiceWords
 
   abbrev pub scratchIn : List ℕ
   scratchIn = sliceLent ws listScratchAt 8 scratchWords scratchWords

@@ -6,7 +6,7 @@ use Prim.Native.Nat.{ℕ, _+_, _-_}
 use lib.Dec.{ltb, leb, eqb}
 use lib.ListN.{getD}
 use Rattle.list_memory.specs.declared.Form.{Form}
-use Rattle.resolved_sort.specs.Storage.{functionKind}
+use Rattle.resolved_sort.specs.Storage.{functionKind, defKind}
 use Rattle.unification.specs.Nodes.{maxVars, variableKind, freeWord}
 use Rattle.list_memory.specs.Memory.{maxNames, listBindsAt, rowsGiven, defaultAt, countsAt, countsToldAt, lentAt}
 use Rattle.list_memory.specs.Memory.{lentToldAt}
@@ -29,9 +29,6 @@ isNext ws t i class k = eqb (tokenAt t i) (class + rowsGiven ws k)
 
 -- kinds of rows that have no name elsewhere; the word of a container is so far above its kind; nodes that `pad` makes
 -- are `List Bool`
-abbrev pub defKind : ℕ
-defKind = 12
-
 abbrev pub typeVarKind : ℕ
 typeVarKind = 13
 

@@ -14,20 +14,20 @@ abbrev pub maxNames : ℕ
 maxNames = 512
 
 -- how many words the slices have at their ceilings, where that is not the ceiling itself
-abbrev pub nameWords : ℕ
-nameWords = 3 * maxNames
+abbrev pub listNameWords : ℕ
+listNameWords = 3 * maxNames
 
-abbrev pub constraintWords : ℕ
-constraintWords = 5 * maxConstraints
+abbrev pub listConstraintWords : ℕ
+listConstraintWords = 5 * maxConstraints
 
-abbrev pub overloadWords : ℕ
-overloadWords = 3 * maxOverloads
+abbrev pub listOverloadWords : ℕ
+listOverloadWords = 3 * maxOverloads
 
-abbrev pub typingWords : ℕ
-typingWords = 3 * maxExprs
+abbrev pub listTypingWords : ℕ
+listTypingWords = 3 * maxExprs
 
-abbrev pub choiceWords : ℕ
-choiceWords = 2 * maxConstraints
+abbrev pub listChoiceWords : ℕ
+listChoiceWords = 2 * maxConstraints
 
 -- where the slices begin
 abbrev pub listSortsAt : ℕ
@@ -46,25 +46,25 @@ abbrev pub listNamesAt : ℕ
 listNamesAt = listExprsAt + maxExprs
 
 abbrev pub listConstraintsAt : ℕ
-listConstraintsAt = listNamesAt + nameWords
+listConstraintsAt = listNamesAt + listNameWords
 
 abbrev pub listOverloadsAt : ℕ
-listOverloadsAt = listConstraintsAt + constraintWords
+listOverloadsAt = listConstraintsAt + listConstraintWords
 
 abbrev pub listSourcesAt : ℕ
-listSourcesAt = listOverloadsAt + overloadWords
+listSourcesAt = listOverloadsAt + listOverloadWords
 
 abbrev pub listTypingAt : ℕ
 listTypingAt = listSourcesAt + maxSources
 
 abbrev pub listMeasureAt : ℕ
-listMeasureAt = listTypingAt + typingWords
+listMeasureAt = listTypingAt + listTypingWords
 
 abbrev pub listChoicesAt : ℕ
 listChoicesAt = listMeasureAt + maxComponents
 
 abbrev pub listScratchAt : ℕ
-listScratchAt = listChoicesAt + choiceWords
+listScratchAt = listChoicesAt + listChoiceWords
 
 -- the lists by number
 abbrev pub sortList : ℕ

@@ -10,7 +10,7 @@ use Rattle.sort_text.specs.Parse.{sortWord, opWord}
 use Rattle.sort_text.specs.Text.{writable, text}
 use Rattle.text_out.specs.Within.{puts, buffer}
 use Rattle.list_verdict.specs.Words.{kindWord, message}
-use Rattle.list_verdict.specs.Text.{rowsText, name, sortName, short, sortText, targetText, exprLine, separator, component, measureLine, choice, choiceList, choicesLine, argumentText, parts, newLine, verdictLine, newLines, typingText}
+use Rattle.list_verdict.specs.Text.{rowsText, name, sortName, short, sortText, targetText, exprLine, separator, component, measureLine, choiceText, choiceList, choicesLine, argumentText, parts, newLine, verdictLine, newLines, typingText}
 use Rattle.text_out.specs.Decimal.{digit, decimal}
 
 -- the fixed six, s6 Set Pos, s7 fn Bool s6 -> Nat, s8 Def 40513
@@ -55,7 +55,7 @@ pub pieces-as-told :
     ∷ (49 ∷ 56 ∷ 32 ∷ 97 ∷ 109 ∷ 98 ∷ 105 ∷ 103 ∷ 117 ∷ 111 ∷ 117 ∷ 115 ∷ 58 ∷ 32 ∷ 115 ∷ 101 ∷ 118 ∷ 101 ∷ 114 ∷ 97 ∷ 108 ∷ 32 ∷ 108 ∷ 101 ∷ 97 ∷ 118 ∷ 101 ∷ 115 ∷ 32 ∷ 104 ∷ 97 ∷ 118 ∷ 101 ∷ 32 ∷ 116 ∷ 104 ∷ 101 ∷ 32 ∷ 108 ∷ 101 ∷ 97 ∷ 115 ∷ 116 ∷ 32 ∷ 109 ∷ 101 ∷ 97 ∷ 115 ∷ 117 ∷ 114 ∷ 101 ∷ 10 ∷ [])
     ∷ (48 ∷ 32 ∷ 97 ∷ 32 ∷ 116 ∷ 121 ∷ 112 ∷ 105 ∷ 110 ∷ 103 ∷ 10 ∷ [])
     ∷ (55 ∷ 32 ∷ 97 ∷ 32 ∷ 118 ∷ 97 ∷ 114 ∷ 105 ∷ 97 ∷ 98 ∷ 108 ∷ 101 ∷ 32 ∷ 114 ∷ 101 ∷ 97 ∷ 99 ∷ 104 ∷ 101 ∷ 115 ∷ 32 ∷ 105 ∷ 116 ∷ 115 ∷ 101 ∷ 108 ∷ 102 ∷ 10 ∷ []) ∷ []
-unfolding look resolved lookAll treeOf trees entriesOf sortWord opWord writable text kindWord message rowsText digit decimal name sortName short sortText targetText exprLine separator component measureLine choice choiceList choicesLine argumentText parts newLine verdictLine newLines typingText
+unfolding look resolved lookAll treeOf trees entriesOf sortWord opWord writable text kindWord message rowsText digit decimal name sortName short sortText targetText exprLine separator component measureLine choiceText choiceList choicesLine argumentText parts newLine verdictLine newLines typingText
 pieces-as-told = refl
 
 -- Bytes past the end are lost, and the place stays there.

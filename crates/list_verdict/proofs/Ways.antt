@@ -23,7 +23,7 @@ use Rattle.sort_writer.proofs.Sizes.{capped-short, capped-long, text-some}
 use Rattle.sort_writer.proofs.Fills.{sizes-right}
 use Rattle.text_out.specs.Within.{puts}
 use Rattle.list_verdict.specs.Words.{kindWords, kindWord, verdictMessages, message, variableText, builtinText, opText, noChoicesText}
-use Rattle.list_verdict.specs.Text.{rowsText, name, sortName, short, sortText, targetText, separator, choice, choiceList, argumentText, parts}
+use Rattle.list_verdict.specs.Text.{rowsText, name, sortName, short, sortText, targetText, separator, choiceText, choiceList, argumentText, parts}
 use Rattle.text_out.specs.Decimal.{decimal}
 use Rattle.list_verdict.specs.Inner.Room.{SizesOf}
 
@@ -69,7 +69,7 @@ pub no-choices : (cs : List ℕ) (m : ℕ) → m ≡ 0 → noChoicesText ≡ cho
 unfolding choiceList
 no-choices cs m h = rw (eq-eqb m 0 h)
 
-pub some-choices : (cs : List ℕ) (m : ℕ) → (m ≡ 0 → ⊥) → rowsText (choice cs) m 0 ≡ choiceList cs m
+pub some-choices : (cs : List ℕ) (m : ℕ) → (m ≡ 0 → ⊥) → rowsText (choiceText cs) m 0 ≡ choiceList cs m
 unfolding choiceList
 some-choices cs m h = rw (ne-eqb m 0 h)
 

@@ -65,11 +65,11 @@ unfoldable pub measureLine : List ℕ → ℕ → List ℕ
 measureLine ms m = measureText ++ (rowsText (component ms) m 0 ++ bytesOf "]\n")
 
 -- `choices e1 0, e4 2`, `choices none`
-unfoldable pub choice : List ℕ → ℕ → List ℕ
-choice cs i = separator i ++ (name (byteOf "e") (getD cs (2 * i) 0) ++ (bytesOf " " ++ decimal (getD cs (2 * i + 1) 0)))
+unfoldable pub choiceText : List ℕ → ℕ → List ℕ
+choiceText cs i = separator i ++ (name (byteOf "e") (getD cs (2 * i) 0) ++ (bytesOf " " ++ decimal (getD cs (2 * i + 1) 0)))
 
 unfoldable pub choiceList : List ℕ → ℕ → List ℕ
-choiceList cs m = cond (eqb m 0) noChoicesText (rowsText (choice cs) m 0)
+choiceList cs m = cond (eqb m 0) noChoicesText (rowsText (choiceText cs) m 0)
 
 unfoldable pub choicesLine : List ℕ → ℕ → List ℕ
 choicesLine cs m = choicesText ++ (choiceList cs m ++ bytesOf "\n")

@@ -18,7 +18,7 @@ ghost use Prim.Native.Nat.{_+_, _*_, _<_, _≤_};
 ghost use Rattle.resolved_sort.specs.Rows.{Checked};
 ghost use Rattle.text_out.specs.Inner.Within.{PutWithin};
 ghost use Rattle.list_verdict.specs.Words.{kindWord, message};
-ghost use Rattle.list_verdict.specs.Text.{rowsText, name, sortName, sortText, targetText, exprLine, separator, component, measureLine, choice, choiceList, choicesLine, argumentText, parts, newLine, verdictLine, newLines, typingText};
+ghost use Rattle.list_verdict.specs.Text.{rowsText, name, sortName, sortText, targetText, exprLine, separator, component, measureLine, choiceText, choiceList, choicesLine, argumentText, parts, newLine, verdictLine, newLines, typingText};
 ghost use Rattle.list_verdict.specs.Inner.Room.{SizesOf};
 
 // A letter and a number.
@@ -208,7 +208,7 @@ fn put_measure(measure: &[u16], count: u16, out: &mut [u8], at: usize) -> usize
 
 // A chosen overload: its expression and its position.
 fn put_choice(choices: &[u16], i: u16, out: &mut [u8], at: usize) -> usize
-    ensures { λ r. ⌜ PutWithin (now (out .entry)) at (choice (now (choices .entry)) i) (now (out .exit)) r ⌝ }
+    ensures { λ r. ⌜ PutWithin (now (out .entry)) at (choiceText (now (choices .entry)) i) (now (out .exit)) r ⌝ }
 {
     let row = 2 * (i as usize);
     let expr = put_comma(i, out, at);
@@ -220,7 +220,7 @@ fn put_choice(choices: &[u16], i: u16, out: &mut [u8], at: usize) -> usize
 // The chosen overloads, in the order handed out.
 fn put_choice_rows(choices: &[u16], count: u16, out: &mut [u8], at: usize) -> usize
     ensures { λ r. ⌜
-        PutWithin (now (out .entry)) at (rowsText (choice (now (choices .entry))) count 0) (now (out .exit)) r
+        PutWithin (now (out .entry)) at (rowsText (choiceText (now (choices .entry))) count 0) (now (out .exit)) r
         ⌝ }
 {
     let mut cursor = at;

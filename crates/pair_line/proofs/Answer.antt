@@ -19,7 +19,7 @@ use Rattle.pair_line.proofs.PairLength.{answer-length}
 use Rattle.text_out.specs.Put.{Put}
 use Rattle.text_out.proofs.Put.{put-then, put-as, put-length}
 use Rattle.pair_line.specs.Room.{OfLine, BoundRoom}
-use Rattle.pair_line.specs.Inner.Room.{Grows, BothRead}
+use Rattle.pair_line.specs.Inner.Room.{RoomGrows, BothRead}
 use Rattle.pair_line.specs.Inner.Answers.{stepsText}
 use Rattle.pair_line.specs.Answers.{withLf}
 
@@ -94,7 +94,7 @@ module _ (ws : List ℕ) (n e a b : ℕ) (out : List ℕ) (at : ℕ) (q : BothRe
           room = omega (arith, h₁ .behind, put-length h₁, parts-room, q .room);
         }
 
-    module _ (ws₁ : List ℕ) (n₁ e₁ : ℕ) (out₂ : List ℕ) (at₂ : ℕ) (h₂ : Put out₁ at₁ joinPart out₂ at₂) (g₁ : Grows ws n e ws₁ n₁ e₁) where
+    module _ (ws₁ : List ℕ) (n₁ e₁ : ℕ) (out₂ : List ℕ) (at₂ : ℕ) (h₂ : Put out₁ at₁ joinPart out₂ at₂) (g₁ : RoomGrows ws n e ws₁ n₁ e₁) where
       same-lhs : treeAt ws₁ n₁ a ≡ s
       same-lhs = g₁ .same a (q .asked .lhs)
 
@@ -114,7 +114,7 @@ module _ (ws : List ℕ) (n e a b : ℕ) (out : List ℕ) (at : ℕ) (q : BothRe
             room = omega (arith, ap length meet-part, h₁ .behind, put-length h₁, h₂ .behind, put-length h₂, parts-room, q .room);
           }
 
-      module _ (ws₂ : List ℕ) (n₂ e₂ : ℕ) (out₃ : List ℕ) (at₃ : ℕ) (h₃ : Put out₂ at₂ (boundPart false (treeAt ws₁ n₁ a) (treeAt ws₁ n₁ b)) out₃ at₃) (g₂ : Grows ws₁ n₁ e₁ ws₂ n₂ e₂) where
+      module _ (ws₂ : List ℕ) (n₂ e₂ : ℕ) (out₃ : List ℕ) (at₃ : ℕ) (h₃ : Put out₂ at₂ (boundPart false (treeAt ws₁ n₁ a) (treeAt ws₁ n₁ b)) out₃ at₃) (g₂ : RoomGrows ws₁ n₁ e₁ ws₂ n₂ e₂) where
         pub last-asked : Checked ws₂ n₂ e₂ × (a < n₂) × (b < n₂)
         last-asked = (g₂ .checked, omega (arith, q .asked .lhs, g₁ .longer, g₂ .longer), omega (arith, q .asked .rhs, g₁ .longer, g₂ .longer))
 

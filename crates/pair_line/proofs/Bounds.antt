@@ -18,7 +18,7 @@ use Rattle.resolved_sort.specs.Storage.{sortsOf}
 use Rattle.resolved_sort.specs.Entries.{treeAt, countsOf, after, stored}
 use Rattle.resolved_sort.specs.Rows.{storedAt}
 use Rattle.resolved_sort.specs.Bounds.{boundAt}
-use Rattle.resolved_sort.specs.Growing.{Grown, Kept, InTree, Answers}
+use Rattle.resolved_sort.specs.Growing.{Grown, SortsKept, InTree, Answers}
 use Rattle.resolved_sort.proofs.Grown.{grown-none}
 use Rattle.resolved_sort.proofs.Kept.{make-kept}
 use Rattle.resolved_sort.proofs.Stored.{look-whole}
@@ -32,7 +32,7 @@ use Rattle.sort_text.proofs.Sizes.{entriesOf, entries-below-size, Spent, Within
 use Rattle.sort_writer.specs.Inner.Puts.{SortRoom}
 use Rattle.text_out.specs.Put.{Put}
 use Rattle.text_out.proofs.Put.{put-then, put-as, put-length}
-use Rattle.pair_line.specs.Inner.Room.{Grows}
+use Rattle.pair_line.specs.Inner.Room.{RoomGrows}
 use Rattle.pair_line.specs.Room.{BoundRoom}
 use Rattle.pair_line.proofs.Grows.{grows}
 
@@ -52,7 +52,7 @@ module _ (up : Bool) (ws : List ℕ) (n e a b : ℕ) (out : List ℕ) (at : ℕ)
   within : Within AnyTree (size s) (entriesOf s) (sortsOf ws n e) O
   within = make-within up s t (sortsOf ws n e) (omega (arith, nodes, q .sorts)) (omega (arith, nodes, entries-below-size s, q .entries))
 
-  kept : Kept ws n e InTree (sortsOf ws n e) O
+  kept : SortsKept ws n e InTree (sortsOf ws n e) O
   kept =
       make-kept ws n e up s t (sortsOf ws n e) (grown-none ws n e (q .asked .checked)) (look-whole ws n e (q .asked .checked) a (q .asked .lhs))
       (look-whole ws n e (q .asked .checked) b (q .asked .rhs))
@@ -75,7 +75,7 @@ module _ (up : Bool) (ws : List ℕ) (n e a b : ℕ) (out : List ℕ) (at : ℕ)
       unfolding Within
       spent = subst (Within AnyTree (size s) (entriesOf s) (sortsOf ws n e)) (r .is) within .1
 
-      pub bound-grows : Grows ws n e vs (K .sorts) (K .entries)
+      pub bound-grows : RoomGrows ws n e vs (K .sorts) (K .entries)
       bound-grows = grows ws n e (q .asked .checked) (r .sorts) (r .grown) (size s) (entriesOf s) spent nodes (omega (arith, nodes, entries-below-size s)) vs K (r .words) (r .counted)
 
       bound-text : text (treeAt vs (K .sorts) (u .0)) ≡ sortOrNone (bound up s t)
@@ -113,10 +113,10 @@ module _ (up : Bool) (ws : List ℕ) (n e a b : ℕ) (out : List ℕ) (at : ℕ)
       none-spent = subst (Within AnyTree (size s) (entriesOf s) (sortsOf ws n e)) (it .1) within
 
       none-grown : Grown ws n e (it .0)
-      unfolding Kept
-      none-grown = subst (Kept ws n e InTree (sortsOf ws n e)) (it .1) kept .0
+      unfolding SortsKept
+      none-grown = subst (SortsKept ws n e InTree (sortsOf ws n e)) (it .1) kept .0
 
-      pub none-grows : Grows ws n e vs (K .sorts) (K .entries)
+      pub none-grows : RoomGrows ws n e vs (K .sorts) (K .entries)
       none-grows = grows ws n e (q .asked .checked) (it .0) none-grown (size s) (entriesOf s) none-spent nodes (omega (arith, nodes, entries-below-size s)) vs K (it .2) (it .3)
 
       is-none-text : noneText ++ comma [] ≡ sortOrNone (bound up s t) ++ comma []

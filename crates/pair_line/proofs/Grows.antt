@@ -20,10 +20,10 @@ use Rattle.resolved_sort.proofs.Unchanged.{longer, unchanged, look-unchanged}
 use Rattle.sort_text.proofs.Readable.{and-both}
 use Rattle.sort_text.proofs.Sizes.{Spent}
 use Rattle.pair_line.specs.Room.{Begun}
-use Rattle.pair_line.specs.Inner.Room.{Grows}
+use Rattle.pair_line.specs.Inner.Room.{RoomGrows}
 
 module _ (ws : List ℕ) (n e : ℕ) (c : Checked ws n e) (S : Sorts) (g : Grown ws n e S) (k j : ℕ) (s : Spent k j (sortsOf ws n e) S) (p : k ≤ 200) (q : j ≤ 200) where
-  grown-on : Grows ws n e (after ws n e S) (length (S .trees)) (maxEntries - S .entries)
+  grown-on : RoomGrows ws n e (after ws n e S) (length (S .trees)) (maxEntries - S .entries)
   grown-on =
       record {
         checked = g .checked;
@@ -50,7 +50,7 @@ module _ (ws : List ℕ) (n e : ℕ) (c : Checked ws n e) (S : Sorts) (g : Grown
 
   -- as a call leaves it: its words and its counts
   module _ (vs : List ℕ) (K : Counts) (v : vs ≡ after ws n e S) (d : K ≡ countsOf S) where
-    pub grows : Grows ws n e vs (K .sorts) (K .entries)
+    pub grows : RoomGrows ws n e vs (K .sorts) (K .entries)
     grows = rw (v, d) grown-on
 
     pub begun-still : (m : ℕ) → Begun ws n e m → Begun vs (K .sorts) (K .entries) (m + 200)

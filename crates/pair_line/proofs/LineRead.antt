@@ -29,7 +29,7 @@ use Rattle.sort_text.proofs.PairRoom.{Is, Makes, store-within, store-makes}
 use Rattle.sort_reader.specs.Inner.Tested.{Passes}
 use Rattle.sort_reader.proofs.Entry.{store-kept}
 use Rattle.pair_line.specs.Room.{OfLine, Begun}
-use Rattle.pair_line.specs.Inner.Room.{Grows}
+use Rattle.pair_line.specs.Inner.Room.{RoomGrows}
 use Rattle.pair_line.proofs.Grows.{grows, begun-still}
 use Rattle.pair_line.proofs.Lines.{line-good, line-wrong}
 
@@ -50,7 +50,7 @@ module _ (ws : List ℕ) (n e k : ℕ) (bs : List ℕ) (b : Begun ws n e k) (few
     pub is-good : lineOf bs ≡ good (treeAt vs (K .sorts) (u .0))
     pub below : u .0 < K .sorts
     pub begun : Begun vs (K .sorts) (K .entries) (k + 200)
-    pub grown : Grows ws n e vs (K .sorts) (K .entries)
+    pub grown : RoomGrows ws n e vs (K .sorts) (K .entries)
 
   module _ (t : Tree) (cs : List ℕ) (is : line bs ≡ parsed t cs) where
     nodes : size t ≤ 200

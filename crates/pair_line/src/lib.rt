@@ -33,7 +33,7 @@ ghost use Rattle.sort_text.specs.Reading.{maxLine};
 ghost use Rattle.text_out.specs.Put.{Put};
 ghost use Rattle.text_out.specs.Quoted.{bytesOf};
 ghost use Rattle.pair_line.specs.Room.{lineRoom, Begun, BoundRoom};
-ghost use Rattle.pair_line.specs.Inner.Room.{putSix, Grows, FirstRead, BothRead};
+ghost use Rattle.pair_line.specs.Inner.Room.{putSix, RoomGrows, FirstRead, BothRead};
 ghost use Rattle.pair_line.specs.Inner.Answers.{stepsText};
 ghost use Rattle.pair_line.specs.Answers.{withLf, pairLeft, singleLeft};
 
@@ -111,7 +111,7 @@ fn put_bound(
         (sortOrNone (boundOf up (treeAt (now (sorts .entry)) (counts .sorts) (lhs .0))
         (treeAt (now (sorts .entry)) (counts .sorts) (rhs .0))) ++ comma [])
         (now (out .exit)) (r .at)
-        × Grows (now (sorts .entry)) (counts .sorts) (counts .entries)
+        × RoomGrows (now (sorts .entry)) (counts .sorts) (counts .entries)
         (now (sorts .exit)) (r .counts .sorts) (r .counts .entries)
         ⌝ }
 {

@@ -33,7 +33,7 @@ ghost use mathlib.Core.Path.{_≡_};
 ghost use Prim.Native.Nat.{_≤_};
 ghost use lib.ListN.{length};
 ghost use Rattle.replay.specs.Inner.Lines.{maxWords, nearEnough};
-ghost use Rattle.recorded_solve.specs.Inner.Slices.{countsAt, sliceStart, countHeld, countsHeld, callHeldWith, keptIn};
+ghost use Rattle.recorded_solve.specs.Inner.Slices.{heldCountsAt, sliceStart, countHeld, countsHeld, callHeldWith, keptIn};
 ghost use Rattle.solve_outputs.specs.Packed.{packedSolve};
 ghost use Rattle.recorded_solve.specs.Inner.Outcome.{solved};
 ghost use Rattle.recorded_solve.specs.Inner.Lines.{letterOf, noSpan, Standing, comparedFrom, recordedOf, wordsSaid, reply, askOf, beginLine, storeOf, compareOf, askLine, stepped, stepOf};
@@ -139,7 +139,7 @@ fn letter_of(letter: u8) -> Letter
 // The word at which a slice starts, and past the last one the first count.
 fn start_of(slice: usize) -> usize
     requires { ⌜ slice ≤ 12 ⌝ }
-    ensures { λ r. ⌜ (r ≡ sliceStart slice) × (r ≤ countsAt) ⌝ }
+    ensures { λ r. ⌜ (r ≡ sliceStart slice) × (r ≤ heldCountsAt) ⌝ }
 {
     let starts = [
         0usize,
@@ -325,7 +325,7 @@ fn call(
     measure: &mut [u16],
     choices: &mut [u16],
 ) -> u64
-    requires { ⌜ countsAt ≤ length (now given) ⌝ }
+    requires { ⌜ heldCountsAt ≤ length (now given) ⌝ }
     ensures { λ r. ⌜
         packedSolve r (now (sorts .exit)) (now (nodes .exit)) (now (binds .exit)) (now (scratch .exit))
         (now (typing .exit)) (now (measure .exit)) (now (choices .exit))

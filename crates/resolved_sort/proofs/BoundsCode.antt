@@ -30,7 +30,7 @@ use Rattle.resolved_sort.proofs.Same.{same-exactly}
 use Rattle.resolved_sort.proofs.Numbers.{true-not-false, same-refl, number-look, member-look, look-injective}
 use Rattle.resolved_sort.proofs.Trees.{length-trees}
 use Rattle.resolved_sort.proofs.RowTrees.{AllBelow, numbers-lookAll}
-use Rattle.resolved_sort.specs.Growing.{partsIn, members, Kept, InTree}
+use Rattle.resolved_sort.specs.Growing.{partsIn, members, SortsKept, InTree}
 use Rattle.resolved_sort.proofs.Interned.{listed, trees-differ}
 use Rattle.resolved_sort.proofs.Pairs.{Unlike, flats, functions, OfPrimitives, OfContainers}
 use Rattle.resolved_sort.proofs.Grown.{grown-none, after-none}
@@ -191,7 +191,7 @@ module _ (ws : List ℕ) (C : Counts) (k : Checked ws (C .sorts) (C .entries)) w
       abbrev part : Outcome Tree
       part = make up (look T (s .0)) (look T (t .0)) S
 
-      part-kept : Kept ws n e InTree S part
+      part-kept : SortsKept ws n e InTree S part
       part-kept = make-kept ws n e up (look T (s .0)) (look T (t .0)) S (grown-none ws n e k) (look-whole ws n e k (s .0) hs) (look-whole ws n e k (t .0) ht)
 
       to-part : storedAt vs r ≡ stored ws n e part

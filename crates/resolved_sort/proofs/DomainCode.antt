@@ -31,7 +31,7 @@ use Rattle.resolved_sort.proofs.RowTrees.{AllBelow, weaken-all, below-r
 use Rattle.resolved_sort.proofs.Interned.{listed, row-below}
 use Rattle.resolved_sort.proofs.Fine.{run-below}
 use Rattle.resolved_sort.proofs.Pairs.{Says, pair-says, sortOf, Below, look-says, row-parts}
-use Rattle.resolved_sort.specs.Growing.{Agrees, Grown, Extends, Kept, InTree, Wholes}
+use Rattle.resolved_sort.specs.Growing.{Agrees, Grown, SortsExtend, SortsKept, InTree, Wholes}
 use Rattle.resolved_sort.proofs.Grown.{grown-none, after-none, after-both, sorts-again}
 use Rattle.resolved_sort.proofs.Unchanged.{longer, unchanged, run-unchanged}
 use Rattle.resolved_sort.proofs.Kept.{InTrees, make-kept, makes-kept, wholes-extend}
@@ -128,13 +128,13 @@ part-of-all : (l : ℕ) (ws : List ℕ) (s c i : ℕ) → i ≤ c → AllBelow l
 part-of-all l ws s c i h b = below-run ws l (s + i) (c - i) (λ j q. subst (λ x. entryAt ws x < l) (omega arith) (run-below ws l s c b (i + j) (omega arith)))
 
 -- the rest of the arguments, after the first was made
-pub number-extends : (S S′ : Sorts) (t : Tree) → Extends S S′ → member (S .trees) t ≡ true → number (S′ .trees) t ≡ number (S .trees) t
+pub number-extends : (S S′ : Sorts) (t : Tree) → SortsExtend S S′ → member (S .trees) t ≡ true → number (S′ .trees) t ≡ number (S .trees) t
 number-extends S S′ t x m = ap (λ T. number T t) (x .1) ∙ number-grows (S .trees) (x .0) t m
 
 pub domain-glue : (ws : List ℕ) (n e : ℕ) (S : Sorts) → Grown ws n e S → (v : Tree) → member (S .trees) v ≡ true → (c : ℕ) → c ≡ number (S .trees) v → (i : ℕ) (ids : List ℕ) (k : ℕ) (O : Outcome Trees)
-    → Kept (after ws n e S) (length (S .trees)) (maxEntries - S .entries) (InTrees k) S O
+    → SortsKept (after ws n e S) (length (S .trees)) (maxEntries - S .entries) (InTrees k) S O
     → domainOf (after ws n e S) (length (S .trees)) (maxEntries - S .entries) (i + 1) (set ids i c) O ≡ domainOf ws n e i ids (O then (λ vs S. made (arg v vs) S))
-unfolding Kept domainOf numbers
+unfolding SortsKept domainOf numbers
 domain-glue ws n e S g v m c q i ids k (made vs S′) h =
     let w = after-both ws n e S S′ g (h .0) in
     let d : c ≡ number (S′ .trees) v = q ∙ sym (number-extends S S′ v (h .1) m) in
@@ -222,7 +222,7 @@ module _ (up : Bool) (ws : List ℕ) (C : Counts) (a b : ℕ) (f : TwoFunctions 
     unfolding boundDomain makes
     domain-is = rw (arguments-cons ws n a i h, arguments-cons ws n b i (omega (arith, f .as-many)))
 
-    first-kept : Kept ws n e InTree S first
+    first-kept : SortsKept ws n e InTree S first
     first-kept =
         make-kept ws n e up (look (trees ws n) x) (look (trees ws n) y) S (grown-none ws n e k)
         (look-whole ws n e k x (arguments-asked .lhs)) (look-whole ws n e k y (arguments-asked .rhs))
@@ -272,7 +272,7 @@ module _ (up : Bool) (ws : List ℕ) (C : Counts) (a b : ℕ) (f : TwoFunctions 
         abbrev S₁ : Sorts
         S₁ = there .sorts
 
-        rest-kept : Kept (after ws n e S₁) (length (S₁ .trees)) (maxEntries - S₁ .entries) (InTrees (arity (argumentsFrom ws n a (i + 1)))) S₁ (rest S₁)
+        rest-kept : SortsKept (after ws n e S₁) (length (S₁ .trees)) (maxEntries - S₁ .entries) (InTrees (arity (argumentsFrom ws n a (i + 1)))) S₁ (rest S₁)
         rest-kept =
             makes-kept (after ws n e S₁) (length (S₁ .trees)) (maxEntries - S₁ .entries) up (argumentsFrom ws n a (i + 1)) (argumentsFrom ws n b (i + 1)) S₁
             (here ws n e S first vs c K there)

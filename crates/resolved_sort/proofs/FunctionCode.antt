@@ -24,7 +24,7 @@ use Rattle.resolved_sort.specs.Inner.Bounds.{TwoFunctions, storedDomain,
 use Rattle.resolved_sort.proofs.Numbers.{look-injective}
 use Rattle.resolved_sort.proofs.Trees.{length-trees}
 use Rattle.resolved_sort.proofs.RowTrees.{AllBelow, weaken-all, lookAll-numbers, numbers-below}
-use Rattle.resolved_sort.specs.Growing.{members, partsIn, Grown, Extends, Kept, InTree}
+use Rattle.resolved_sort.specs.Growing.{members, partsIn, Grown, SortsExtend, SortsKept, InTree}
 use Rattle.resolved_sort.proofs.Interned.{listed, trees-differ}
 use Rattle.resolved_sort.proofs.Pairs.{arity-run}
 use Rattle.resolved_sort.proofs.Append.{length-numbers}
@@ -45,13 +45,13 @@ pub record ReachedAll (ws : List ℕ) (n e : ℕ) (S₀ : Sorts) (k : ℕ) (O : 
   pub stored-ids : d .ids ≡ sets (replicate 16 0) 0 (numbers (sorts .trees) args)
   pub counted : K ≡ countsOf sorts
   pub grown : Grown ws n e sorts
-  pub extends : Extends S₀ sorts
+  pub extends : SortsExtend S₀ sorts
   pub inside : members (sorts .trees) args ≡ true
   pub as-many : arity args ≡ k
 
-pub reached-all : (ws : List ℕ) (n e : ℕ) (S₀ : Sorts) (k : ℕ) (O : Outcome Trees) → Kept ws n e (InTrees k) S₀ O
+pub reached-all : (ws : List ℕ) (n e : ℕ) (S₀ : Sorts) (k : ℕ) (O : Outcome Trees) → SortsKept ws n e (InTrees k) S₀ O
     → (vs : List ℕ) (d : Domain) (K : Counts) → storedDomain vs d ≡ domainOf ws n e 0 (replicate 16 0) O → d .found ≡ All K → ReachedAll ws n e S₀ k O vs d K
-unfolding Kept domainOf
+unfolding SortsKept domainOf
 reached-all ws n e S₀ k (made ts S) h vs d K q z =
     let a : All K ≡ All (countsOf S) = sym z ∙ ap (λ r. r .domain .found) q in
     record { args = ts; sorts = S; is = refl; words = ap (λ r. r .words) q; stored-ids = ap (λ r. r .domain .ids) q; counted = cc; grown = h .0; extends = h .1; inside = h .2 .0; as-many = h .2 .1 }
@@ -86,7 +86,7 @@ pub stored-full : (ws : List ℕ) (n e : ℕ) (S : Sorts) (vs : List ℕ) → vs
 unfolding stored
 stored-full ws n e S vs w = λ j. record { words = w j; answer = Full }
 
-pub numbers-extend : (S S′ : Sorts) (ts : Trees) → Extends S S′ → members (S .trees) ts ≡ true → numbers (S′ .trees) ts ≡ numbers (S .trees) ts
+pub numbers-extend : (S S′ : Sorts) (ts : Trees) → SortsExtend S S′ → members (S .trees) ts ≡ true → numbers (S′ .trees) ts ≡ numbers (S .trees) ts
 unfolding numbers members
 numbers-extend S S′ no-args x m = refl
 numbers-extend S S′ (arg t ts) x m =
@@ -130,7 +130,7 @@ module _ (up : Bool) (ws : List ℕ) (C : Counts) (a b : ℕ) (f : TwoFunctions 
   unfolding functionAt
   function-is = refl
 
-  arguments-kept : Kept ws n e (InTrees (arity (argumentsFrom ws n a 0))) S arguments
+  arguments-kept : SortsKept ws n e (InTrees (arity (argumentsFrom ws n a 0))) S arguments
   arguments-kept =
       makes-kept ws n e (not up) (argumentsFrom ws n a 0) (argumentsFrom ws n b 0) S (grown-none ws n e k)
       (arguments-whole ws n e k S (grown-none ws n e k) a (f .asked .lhs) (f .lhs-function) 0 (omega arith))
@@ -186,7 +186,7 @@ module _ (up : Bool) (ws : List ℕ) (C : Counts) (a b : ℕ) (f : TwoFunctions 
           range-asked-at : (vs : List ℕ) (K : Counts) → vs ≡ w₁ → K ≡ countsOf S₁ → Asked vs (K .sorts) (K .entries) (partAt ws a) (partAt ws b)
           range-asked-at vs K w c = rw (w, c) (record { checked = there .grown .checked; lhs = omega (arith, lhs-range, more); rhs = omega (arith, rhs-range, more) })
 
-      range-kept : Kept w₁ n₁ e₁ InTree S₁ (range S₁)
+      range-kept : SortsKept w₁ n₁ e₁ InTree S₁ (range S₁)
       range-kept =
           make-kept w₁ n₁ e₁ up (look T (partAt ws a)) (look T (partAt ws b)) S₁ grown-here
           (whole-extends S S₁ _ (there .extends) (look-whole ws n e k (partAt ws a) lhs-range))

@@ -20,7 +20,7 @@ use Rattle.resolved_sort.proofs.Same.{same-exactly}
 use Rattle.resolved_sort.proofs.Numbers.{first-is-number}
 use Rattle.resolved_sort.proofs.Trees.{length-trees, look-row, look-longer}
 use Rattle.resolved_sort.proofs.RowTrees.{Within, row-within, row-of-tree, tree-of-row, treeOf-agrees, within-longer}
-use Rattle.resolved_sort.specs.Growing.{partsIn, Listed}
+use Rattle.resolved_sort.specs.Growing.{partsIn, ListFine}
 
 -- two tests that pass together are equal
 pub tests-agree : (a b : Bool) → (a ≡ true → b ≡ true) → (b ≡ true → a ≡ true) → a ≡ b
@@ -57,10 +57,10 @@ row-same r = rw (eq-eqb (r .kind) (r .kind) refl, eq-eqb (r .part) (r .part) ref
 pub sameRow-exactly : (r s : Row) → (sameRow r s ≡ true) ↔ (r ≡ s)
 sameRow-exactly r s = (rows-equal r s, λ e. rw e (row-same s))
 
-pub listed : {ws : List ℕ} {n e : ℕ} → Checked ws n e → Listed ws n e
+pub listed : {ws : List ℕ} {n e : ℕ} → Checked ws n e → ListFine ws n e
 listed k = record { fine = k .fine; differ = k .differ }
 
-module _ (ws : List ℕ) (n e : ℕ) (k : Listed ws n e) where
+module _ (ws : List ℕ) (n e : ℕ) (k : ListFine ws n e) where
   pub trees-differ : distinct (trees ws n) ≡ true
   unfolding noTwoEqual
   trees-differ = k .differ

@@ -16,19 +16,19 @@ use Rattle.resolved_sort.specs.Interning.{Sorts, member, need, Outcome, 
 use Rattle.resolved_sort.specs.Storage.{maxSorts, maxEntries, trees}
 use Rattle.resolved_sort.specs.Entries.{after}
 use Rattle.resolved_sort.proofs.Numbers.{member-grows, member-snoc-last}
-use Rattle.resolved_sort.specs.Growing.{partsIn, members, Fresh, Grown, Extends, Whole, Wholes, InTree, Kept}
+use Rattle.resolved_sort.specs.Growing.{partsIn, members, Fresh, Grown, SortsExtend, Whole, Wholes, InTree, SortsKept}
 use Rattle.resolved_sort.proofs.Grown.{grown-one, grown-both}
 
-pub extends-refl : (S : Sorts) → Extends S S
+pub extends-refl : (S : Sorts) → SortsExtend S S
 extends-refl S = ([], sym (append-nil (S .trees)))
 
-pub extends-trans : (S₁ S₂ S₃ : Sorts) → Extends S₁ S₂ → Extends S₂ S₃ → Extends S₁ S₃
+pub extends-trans : (S₁ S₂ S₃ : Sorts) → SortsExtend S₁ S₂ → SortsExtend S₂ S₃ → SortsExtend S₁ S₃
 extends-trans S₁ S₂ S₃ a b = (a .0 ++ b .0, b .1 ∙ (ap (λ T. T ++ b .0) (a .1) ∙ append-assoc (S₁ .trees) (a .0) (b .0)))
 
-pub member-extends : (S S′ : Sorts) (t : Tree) → Extends S S′ → member (S .trees) t ≡ true → member (S′ .trees) t ≡ true
+pub member-extends : (S S′ : Sorts) (t : Tree) → SortsExtend S S′ → member (S .trees) t ≡ true → member (S′ .trees) t ≡ true
 member-extends S S′ t x m = rw (x .1) (member-grows (S .trees) (x .0) t m)
 
-pub members-extends : (S S′ : Sorts) (ts : Trees) → Extends S S′ → members (S .trees) ts ≡ true → members (S′ .trees) ts ≡ true
+pub members-extends : (S S′ : Sorts) (ts : Trees) → SortsExtend S S′ → members (S .trees) ts ≡ true → members (S′ .trees) ts ≡ true
 unfolding members
 members-extends S S′ no-args x m = refl
 members-extends S S′ (arg t ts) x m =
@@ -47,32 +47,32 @@ mutual
   wholes-grow T U no-args w = tt
   wholes-grow T U (arg t ts) w = (whole-grows T U t (w .0), wholes-grow T U ts (w .1))
 
-pub whole-extends : (S S′ : Sorts) (t : Tree) → Extends S S′ → Whole (S .trees) t → Whole (S′ .trees) t
+pub whole-extends : (S S′ : Sorts) (t : Tree) → SortsExtend S S′ → Whole (S .trees) t → Whole (S′ .trees) t
 whole-extends S S′ t x w = rw (x .1) (whole-grows (S .trees) (x .0) t w)
 
-pub wholes-extend : (S S′ : Sorts) (ts : Trees) → Extends S S′ → Wholes (S .trees) ts → Wholes (S′ .trees) ts
+pub wholes-extend : (S S′ : Sorts) (ts : Trees) → SortsExtend S S′ → Wholes (S .trees) ts → Wholes (S′ .trees) ts
 wholes-extend S S′ ts x w = rw (x .1) (wholes-grow (S .trees) (x .0) ts w)
 
 abbrev pub InTrees : ℕ → Sorts → Trees → Type 0
 InTrees n S ts = (members (S .trees) ts ≡ true) × (arity ts ≡ n)
 
 module _ (ws : List ℕ) (n e : ℕ) where
-  pub kept-before : {B : Type 0} (On : Sorts → B → Type 0) (S₀ S : Sorts) → Extends S₀ S → (P : Outcome B) → Kept ws n e On S P → Kept ws n e On S₀ P
-  unfolding Kept
+  pub kept-before : {B : Type 0} (On : Sorts → B → Type 0) (S₀ S : Sorts) → SortsExtend S₀ S → (P : Outcome B) → SortsKept ws n e On S P → SortsKept ws n e On S₀ P
+  unfolding SortsKept
   kept-before On S₀ S x (made b S′) g = (g .0, extends-trans S₀ S S′ x (g .1), g .2)
   kept-before On S₀ S x (nothing S′) g = (g .0, extends-trans S₀ S S′ x (g .1))
   kept-before On S₀ S x (full S′) g = (g .0, extends-trans S₀ S S′ x (g .1))
 
   pub kept-then : {A B : Type 0} (In : Sorts → A → Type 0) (On : Sorts → B → Type 0) (S₀ : Sorts) (O : Outcome A) (k : A → Sorts → Outcome B)
-      → Kept ws n e In S₀ O → ((a : A) (S : Sorts) → Grown ws n e S → Extends S₀ S → In S a → Kept ws n e On S (k a S)) → Kept ws n e On S₀ (O then k)
-  unfolding Kept
+      → SortsKept ws n e In S₀ O → ((a : A) (S : Sorts) → Grown ws n e S → SortsExtend S₀ S → In S a → SortsKept ws n e On S (k a S)) → SortsKept ws n e On S₀ (O then k)
+  unfolding SortsKept
   kept-then In On S₀ (made a S) k h f = kept-before On S₀ S (h .1) (k a S) (f a S (h .0) (h .1) (h .2))
   kept-then In On S₀ (nothing S) k h f = h
   kept-then In On S₀ (full S) k h f = h
 
   kept-some : {A B : Type 0} (On : Sorts → B → Type 0) (S : Sorts) (x : Option A) (k : A → Outcome B)
-      → Grown ws n e S → ((a : A) → x ≡ some a → Kept ws n e On S (k a)) → Kept ws n e On S (where-some x S k)
-  unfolding Kept
+      → Grown ws n e S → ((a : A) → x ≡ some a → SortsKept ws n e On S (k a)) → SortsKept ws n e On S (where-some x S k)
+  unfolding SortsKept
   kept-some On S none k g f = (g, extends-refl S)
   kept-some On S (some a) k g f = f a refl
 
@@ -98,13 +98,13 @@ module _ (ws : List ℕ) (n e : ℕ) where
         (subst (Grown (after ws n e S) (length (S .trees)) (maxEntries - S .entries)) (λ i. record { trees = g .reads i ++ (t ∷ []); rows = x i; entries = y i })
         (grown-one (after ws n e S) (length (S .trees)) (maxEntries - S .entries) t (fresh m f)))
 
-    intern-by : (b c : Bool) → member (S .trees) t ≡ b → fits t S ≡ c → Kept ws n e InTree S (cond b (made t S) (cond c (made t grown) (full S)))
-    unfolding Kept
+    intern-by : (b c : Bool) → member (S .trees) t ≡ b → fits t S ≡ c → SortsKept ws n e InTree S (cond b (made t S) (cond c (made t grown) (full S)))
+    unfolding SortsKept
     intern-by true c m f = (g, extends-refl S, m)
     intern-by false true m f = (grown-more m f, ((t ∷ []), refl), member-snoc-last (S .trees) t)
     intern-by false false m f = (g, extends-refl S)
 
-    pub intern-kept : Kept ws n e InTree S (intern t S)
+    pub intern-kept : SortsKept ws n e InTree S (intern t S)
     unfolding intern
     intern-kept = intern-by (member (S .trees) t) (fits t S) refl refl
 
@@ -115,24 +115,24 @@ module _ (ws : List ℕ) (n e : ℕ) where
   one-of-two P a b c false l h x y = let z : _≡_ {A = ℕ} 0 1 = cc in absurd (omega arith)
 
   flat-kept : (up : Bool) (a b : Flat) (S : Sorts) → Grown ws n e S → InTree S (flat a) → InTree S (flat b) → (c : Flat) → boundFlat up a b ≡ some c
-      → Kept ws n e InTree S (made (flat c) S)
-  unfolding Kept boundFlat
+      → SortsKept ws n e InTree S (made (flat c) S)
+  unfolding SortsKept boundFlat
   flat-kept up a b S g x y c h =
       (g, extends-refl S, one-of-two (λ d. InTree S (flat d)) a b c (eqb (family a) (family b)) (leLevel up (level a) (level b)) h x y)
 
-  stays : {A : Type 0} (In : Sorts → A → Type 0) (S : Sorts) → Grown ws n e S → Kept ws n e In S (nothing S)
-  unfolding Kept
+  stays : {A : Type 0} (In : Sorts → A → Type 0) (S : Sorts) → Grown ws n e S → SortsKept ws n e In S (nothing S)
+  unfolding SortsKept
   stays In S g = (g, extends-refl S)
 
-  itself : (S : Sorts) (t : Tree) → Grown ws n e S → InTree S t → Kept ws n e InTree S (made t S)
-  unfolding Kept
+  itself : (S : Sorts) (t : Tree) → Grown ws n e S → InTree S t → SortsKept ws n e InTree S (made t S)
+  unfolding SortsKept
   itself S t g m = (g, extends-refl S, m)
 
-  pub container-interned : (q : ComplexSort) (v : Tree) (S : Sorts) → Grown ws n e S → InTree S v → Kept ws n e InTree S (intern (container q v) S)
+  pub container-interned : (q : ComplexSort) (v : Tree) (S : Sorts) → Grown ws n e S → InTree S v → SortsKept ws n e InTree S (intern (container q v) S)
   unfolding partsIn need
   container-interned q v S g m = intern-kept S g (container q v) m (omega arith)
 
-  pub function-interned : (vs : Trees) (v : Tree) (S : Sorts) → Grown ws n e S → members (S .trees) vs ≡ true → arity vs ≤ 16 → InTree S v → Kept ws n e InTree S (intern (function vs v) S)
+  pub function-interned : (vs : Trees) (v : Tree) (S : Sorts) → Grown ws n e S → members (S .trees) vs ≡ true → arity vs ≤ 16 → InTree S v → SortsKept ws n e InTree S (intern (function vs v) S)
   unfolding partsIn need
   function-interned vs v S g m l w = intern-kept S g (function vs v) (and-eq-true-iff (members (S .trees) vs) (member (S .trees) v) .1 (m, w)) l
 
@@ -140,39 +140,39 @@ module _ (ws : List ℕ) (n e : ℕ) where
   by-test P true x y p q = p
   by-test P false x y p q = q
 
-  none-made : (S : Sorts) → Grown ws n e S → Kept ws n e (InTrees 0) S (made no-args S)
-  unfolding Kept members arity
+  none-made : (S : Sorts) → Grown ws n e S → SortsKept ws n e (InTrees 0) S (made no-args S)
+  unfolding SortsKept members arity
   none-made S g = (g, extends-refl S, (refl, refl))
 
-  one-made : (v : Tree) (k : ℕ) (S S₀ : Sorts) → InTree S₀ v → Grown ws n e S → Extends S₀ S → (vs : Trees) → InTrees k S vs → Kept ws n e (InTrees (k + 1)) S (made (arg v vs) S)
-  unfolding Kept members arity
+  one-made : (v : Tree) (k : ℕ) (S S₀ : Sorts) → InTree S₀ v → Grown ws n e S → SortsExtend S₀ S → (vs : Trees) → InTrees k S vs → SortsKept ws n e (InTrees (k + 1)) S (made (arg v vs) S)
+  unfolding SortsKept members arity
   one-made v k S S₀ m g x vs h =
       (g, extends-refl S, (and-eq-true-iff (member (S .trees) v) (members (S .trees) vs) .1 (member-extends S₀ S v x m, h .0), ap (λ j. j + 1) (h .1)))
 
   mutual
     unfolding make makes Whole Wholes arity
 
-    pub make-kept : (up : Bool) (s t : Tree) (S : Sorts) → Grown ws n e S → Whole (S .trees) s → Whole (S .trees) t → Kept ws n e InTree S (make up s t S)
+    pub make-kept : (up : Bool) (s t : Tree) (S : Sorts) → Grown ws n e S → Whole (S .trees) s → Whole (S .trees) t → SortsKept ws n e InTree S (make up s t S)
     make-kept up (flat a) (flat b) S g x y = kept-some InTree S (boundFlat up a b) (λ c. made (flat c) S) g (flat-kept up a b S g x y)
     make-kept up (flat a) (container p t) S g x y = stays InTree S g
     make-kept up (flat a) (function ts u) S g x y = stays InTree S g
     make-kept up (container o s) (flat b) S g x y = stays InTree S g
     make-kept up (container o s) (container p t) S g x y =
-        by-test (Kept ws n e InTree S) (same (container o s) (container p t)) _ _ (itself S (container o s) g (x .0))
+        by-test (SortsKept ws n e InTree S) (same (container o s) (container p t)) _ _ (itself S (container o s) g (x .0))
         (kept-some InTree S (boundOp up o p) _ g
         (λ q h. kept-then InTree InTree S (make up s t S) _ (make-kept up s t S g (x .1) (y .1)) (λ v S₁ g₁ x₁ m. container-interned q v S₁ g₁ m)))
     make-kept up (container o s) (function ts u) S g x y = stays InTree S g
     make-kept up (function ss r) (flat b) S g x y = stays InTree S g
     make-kept up (function ss r) (container p t) S g x y = stays InTree S g
     make-kept up (function ss r) (function ts u) S g x y =
-        by-test (Kept ws n e InTree S) (same (function ss r) (function ts u)) _ _ (itself S (function ss r) g (x .0))
-        (by-test (Kept ws n e InTree S) (eqb (arity ss) (arity ts)) _ _
+        by-test (SortsKept ws n e InTree S) (same (function ss r) (function ts u)) _ _ (itself S (function ss r) g (x .0))
+        (by-test (SortsKept ws n e InTree S) (eqb (arity ss) (arity ts)) _ _
         (kept-then (InTrees (arity ss)) InTree S (makes (not up) ss ts S) _ (makes-kept (not up) ss ts S g (x .1) (y .1))
         (λ vs S₁ g₁ x₁ m. kept-then InTree InTree S₁ (make up r u S₁) _ (make-kept up r u S₁ g₁ (whole-extends S S₁ r x₁ (x .2)) (whole-extends S S₁ u x₁ (y .2)))
         (λ v S₂ g₂ x₂ w. function-interned vs v S₂ g₂ (members-extends S₁ S₂ vs x₂ (m .0)) (omega (arith, x .3, m .1)) w)))
         (stays InTree S g))
 
-    pub makes-kept : (up : Bool) (ss ts : Trees) (S : Sorts) → Grown ws n e S → Wholes (S .trees) ss → Wholes (S .trees) ts → Kept ws n e (InTrees (arity ss)) S (makes up ss ts S)
+    pub makes-kept : (up : Bool) (ss ts : Trees) (S : Sorts) → Grown ws n e S → Wholes (S .trees) ss → Wholes (S .trees) ts → SortsKept ws n e (InTrees (arity ss)) S (makes up ss ts S)
     makes-kept up no-args no-args S g x y = none-made S g
     makes-kept up no-args (arg t ts) S g x y = stays (InTrees 0) S g
     makes-kept up (arg s ss) no-args S g x y = stays (InTrees (arity (arg s ss))) S g

@@ -7,7 +7,7 @@ use Rattle.resolved_sort.specs.declared.ComplexSort.{ComplexSort}
 use Rattle.resolved_sort.specs.declared.PartialOrder.{PartialOrder}
 use Rattle.resolved_sort.specs.declared.PartialOrder.the-variants.{Unrelated, Equal, Below, Above}
 use Rattle.resolved_sort.specs.Tree.{Flat, Tree, flat, container, function, Trees, no-args, arg, family, level, familyOp, levelOp}
-use Rattle.resolved_sort.specs.Order.{leFlat, leOp, le, les, order, orderOf, Says}
+use Rattle.resolved_sort.specs.Order.{leFlat, leOp, le, les, order, orderOf, OrderSays}
 use Rattle.resolved_sort.proofs.Heads.{head-refl, head-trans, head-flips, head-antisym, flat-injective, op-injective}
 
 -- The rules: flat sorts by heads, containers by operator and part, functions by arguments the other way and range.
@@ -122,10 +122,10 @@ module _ (s t : Tree) where
   unfolding order
   order-is x y e f = ap₂ orderOf e (le-flips false s t ∙ f)
 
-  pub order-says : Says s t (order s t)
+  pub order-says : OrderSays s t (order s t)
   order-says = go (le true s t) refl (le true t s) refl
     where
-      go : (x : Bool) → le true s t ≡ x → (y : Bool) → le true t s ≡ y → Says s t (order s t)
+      go : (x : Bool) → le true s t ≡ x → (y : Bool) → le true t s ≡ y → OrderSays s t (order s t)
       go true e true f = rw (order-is true true e f) (le-antisym true s t e f)
       go true e false f = rw (order-is true false e f) (e, λ i. true≢false (sym (rw i (le-refl true t)) ∙ f))
       go false e true f = rw (order-is false true e f) (f, λ i. true≢false (sym (rw i (le-refl true t)) ∙ e))
@@ -138,10 +138,10 @@ strict s t e n = go (le true t s) refl
     go true f = absurd (n (le-antisym true s t e f))
     go false f = refl
 
-pub order-exactly : (s t : Tree) (answer : PartialOrder) → (order s t ≡ answer) ↔ Says s t answer
+pub order-exactly : (s t : Tree) (answer : PartialOrder) → (order s t ≡ answer) ↔ OrderSays s t answer
 order-exactly s t answer = (λ e. rw e at (order-says s t), back answer)
   where
-    back : (answer : PartialOrder) → Says s t answer → order s t ≡ answer
+    back : (answer : PartialOrder) → OrderSays s t answer → order s t ≡ answer
     back Equal e = order-is s t true true (rw e (le-refl true t)) (rw e (le-refl true t))
     back Below h = order-is s t true false (h .0) (strict s t (h .0) (h .1))
     back Above h = order-is s t false true (strict t s (h .0) (λ e. h .1 (sym e))) (h .0)

@@ -15,7 +15,7 @@ use Rattle.resolved_sort.specs.Storage.{maxEntries, trees, sortsOf}
 use Rattle.resolved_sort.specs.Entries.{countsOf, after, stored}
 use Rattle.resolved_sort.specs.Rows.{Checked, storedAt}
 use Rattle.resolved_sort.specs.Bounds.{internAt}
-use Rattle.resolved_sort.specs.Growing.{partsIn, Grown, Extends, Kept, InTree}
+use Rattle.resolved_sort.specs.Growing.{partsIn, Grown, SortsExtend, SortsKept, InTree}
 use Rattle.resolved_sort.proofs.Numbers.{look-number, number-below}
 use Rattle.resolved_sort.proofs.Grown.{grown-none, after-both, sorts-again}
 use Rattle.resolved_sort.proofs.Kept.{intern-kept}
@@ -32,12 +32,12 @@ pub record Reached (ws : List ℕ) (n e : ℕ) (S₀ : Sorts) (O : Outcome Tree)
   pub numbered : c .0 ≡ number (sorts .trees) sort
   pub counted : k ≡ countsOf sorts
   pub grown : Grown ws n e sorts
-  pub extends : Extends S₀ sorts
+  pub extends : SortsExtend S₀ sorts
   pub inside : member (sorts .trees) sort ≡ true
 
-pub reached : (ws : List ℕ) (n e : ℕ) (S₀ : Sorts) (O : Outcome Tree) → Kept ws n e InTree S₀ O
+pub reached : (ws : List ℕ) (n e : ℕ) (S₀ : Sorts) (O : Outcome Tree) → SortsKept ws n e InTree S₀ O
     → (vs : List ℕ) (c : SortId) (k : Counts) → storedAt vs (At c k) ≡ stored ws n e O → Reached ws n e S₀ O vs c k
-unfolding Kept stored
+unfolding SortsKept stored
 reached ws n e S₀ (made v S) h vs c k q =
     let a : At c k ≡ At (record { 0 = number (S .trees) v }) (countsOf S) = ap (λ r. r .answer) q in
     record { sort = v; sorts = S; is = refl; words = ap (λ r. r .words) q; numbered = cc; counted = cc; grown = h .0; extends = h .1; inside = h .2 }
@@ -78,8 +78,8 @@ module _ (ws : List ℕ) (n e : ℕ) (S₀ : Sorts) (O : Outcome Tree) (vs : Lis
 
 -- two calls, one after the other, leave what the two as one leave
 pub stored-again : (ws : List ℕ) (n e : ℕ) (S : Sorts) → Grown ws n e S → (S₀ : Sorts) (O : Outcome Tree)
-    → Kept (after ws n e S) (length (S .trees)) (maxEntries - S .entries) InTree S₀ O → stored (after ws n e S) (length (S .trees)) (maxEntries - S .entries) O ≡ stored ws n e O
-unfolding Kept stored
+    → SortsKept (after ws n e S) (length (S .trees)) (maxEntries - S .entries) InTree S₀ O → stored (after ws n e S) (length (S .trees)) (maxEntries - S .entries) O ≡ stored ws n e O
+unfolding SortsKept stored
 stored-again ws n e S g S₀ (made v S′) h = rw (after-both ws n e S S′ g (h .0))
 stored-again ws n e S g S₀ (nothing S′) h = rw (after-both ws n e S S′ g (h .0))
 stored-again ws n e S g S₀ (full S′) h = rw (after-both ws n e S S′ g (h .0))

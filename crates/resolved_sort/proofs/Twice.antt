@@ -16,12 +16,12 @@ use Rattle.resolved_sort.proofs.Below.{below-each, each-below}
 use Rattle.resolved_sort.proofs.Numbers.{true-not-false, distinct-snoc, look-number, number-below, look-injective}
 use Rattle.resolved_sort.proofs.Trees.{length-trees}
 use Rattle.resolved_sort.proofs.RowTrees.{Within, row-within, row-of-tree}
-use Rattle.resolved_sort.specs.Growing.{Listed}
+use Rattle.resolved_sort.specs.Growing.{ListFine}
 use Rattle.resolved_sort.proofs.Interned.{trees-differ, tests-agree, sameRow-exactly, look-tree, row-of-look}
 
 module _ (ws : List ℕ) (e : ℕ) where
   -- the rows before row m, all different, do not have its sort if none of them is the same row
-  sort-is-new : (m : ℕ) → Listed ws m e → rowFine ws e m ≡ true → ((i : ℕ) → i < m → sameRow (wordsAt ws i) (wordsAt ws m) ≡ false)
+  sort-is-new : (m : ℕ) → ListFine ws m e → rowFine ws e m ≡ true → ((i : ℕ) → i < m → sameRow (wordsAt ws i) (wordsAt ws m) ≡ false)
       → (b : Bool) → member (trees ws m) (treeOf (trees ws m) (wordsAt ws m)) ≡ b → b ≡ false
   sort-is-new m k f h false q = refl
   sort-is-new m k f h true q =
@@ -33,7 +33,7 @@ module _ (ws : List ℕ) (e : ℕ) where
       sym (row-of-look ws m e k i l) ∙ (ap (rowOf (trees ws m)) (look-number (trees ws m) t q) ∙ row-of-tree (trees ws m) (wordsAt ws m) (trees-differ ws m e k) w) in
       absurd (true-not-false _ (sameRow-exactly _ _ .1 r) (h i l))
 
-  listed-before : (m : ℕ) → rowsFine ws m e ≡ true → distinct (trees ws m) ≡ true → Listed ws m e
+  listed-before : (m : ℕ) → rowsFine ws m e ≡ true → distinct (trees ws m) ≡ true → ListFine ws m e
   unfolding noTwoEqual
   listed-before m f d = record { fine = f; differ = d }
 
@@ -48,7 +48,7 @@ module _ (ws : List ℕ) (e : ℕ) where
       (sort-is-new m (listed-before m (p .0) d) (p .1)
       (λ i l. not-true _ (below-each m (λ i. not (sameRow (wordsAt ws i) (wordsAt ws m))) (q .1) i l)) _ refl)
 
-  module _ (n : ℕ) (k : Listed ws n e) where
+  module _ (n : ℕ) (k : ListFine ws n e) where
     rows-not-same : (j : ℕ) → j < n → (i : ℕ) → i < j → (b : Bool) → sameRow (wordsAt ws i) (wordsAt ws j) ≡ b → not b ≡ true
     rows-not-same j h i l false q = refl
     rows-not-same j h i l true q =

@@ -54,8 +54,8 @@ pub record Grown (ws : List ℕ) (n e : ℕ) (S : Sorts) : Type 0 where
   pub checked : Checked (after ws n e S) (length (S .trees)) (maxEntries - S .entries)
 
 -- the second list begins with the first
-abbrev pub Extends : Sorts → Sorts → Type 0
-Extends S S′ = (U : List Tree) × (S′ .trees ≡ S .trees ++ U)
+abbrev pub SortsExtend : Sorts → Sorts → Type 0
+SortsExtend S S′ = (U : List Tree) × (S′ .trees ≡ S .trees ++ U)
 
 -- all parts of a sort, and the sort, are in the list, and no function has more than 16 arguments
 unfoldable mutual
@@ -72,13 +72,13 @@ abbrev pub InTree : Sorts → Tree → Type 0
 InTree S t = member (S .trees) t ≡ true
 
 -- an outcome whose list has grown from the storage and extends another, with its answer in it
-unfoldable pub Kept : (ws : List ℕ) (n e : ℕ) {A : Type 0} → (Sorts → A → Type 0) → Sorts → Outcome A → Type 0
-Kept ws n e In S₀ (made a S) = Grown ws n e S × Extends S₀ S × In S a
-Kept ws n e In S₀ (nothing S) = Grown ws n e S × Extends S₀ S
-Kept ws n e In S₀ (full S) = Grown ws n e S × Extends S₀ S
+unfoldable pub SortsKept : (ws : List ℕ) (n e : ℕ) {A : Type 0} → (Sorts → A → Type 0) → Sorts → Outcome A → Type 0
+SortsKept ws n e In S₀ (made a S) = Grown ws n e S × SortsExtend S₀ S × In S a
+SortsKept ws n e In S₀ (nothing S) = Grown ws n e S × SortsExtend S₀ S
+SortsKept ws n e In S₀ (full S) = Grown ws n e S × SortsExtend S₀ S
 
 -- what checks 3 and 4 have shown
-pub record Listed (ws : List ℕ) (n e : ℕ) : Type 0 where
+pub record ListFine (ws : List ℕ) (n e : ℕ) : Type 0 where
   pub fine : rowsFine ws n e ≡ true
   pub differ : noTwoEqual ws n ≡ true
 

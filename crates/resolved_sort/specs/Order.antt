@@ -159,11 +159,11 @@ materializable (function ss r) (container p t) = false
 materializable (function ss r) (function ts u) = sames ss ts && materializable r u
 
 -- What each answer of `order` says.
-abbrev pub Says : Tree → Tree → PartialOrder → Type 0
-Says s t Equal = s ≡ t
-Says s t Below = (le true s t ≡ true) × (s ≢ t)
-Says s t Above = (le true t s ≡ true) × (s ≢ t)
-Says s t Unrelated = (le true s t ≡ false) × (le true t s ≡ false)
+abbrev pub OrderSays : Tree → Tree → PartialOrder → Type 0
+OrderSays s t Equal = s ≡ t
+OrderSays s t Below = (le true s t ≡ true) × (s ≢ t)
+OrderSays s t Above = (le true t s ≡ true) × (s ≢ t)
+OrderSays s t Unrelated = (le true s t ≡ false) × (le true t s ≡ false)
 
 -- How far a materializable pair is apart.
 abbrev pub isFunction : Tree → Bool

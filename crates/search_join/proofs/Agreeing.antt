@@ -28,7 +28,7 @@ use Rattle.search_state.specs.declared.Extracted.{Extracted}
 use Rattle.search_state.specs.declared.Extracted.the-variants.{All, Nothing as Without, Full as NotAll}
 use Rattle.search_state.specs.Inner.Memory.{sourceAt, measureAt, scratchUsed}
 use Rattle.words.specs.Words.{part}
-use Rattle.search_state.specs.Inner.Leaves.{ChangedOnly, madeOf, Agrees, extractedOf}
+use Rattle.search_state.specs.Inner.Leaves.{ChangedOnly, madeOf, AgreesOn, extractedOf}
 use Rattle.search_state.specs.Inner.Searching.{Agreeing}
 use Rattle.search_join.specs.Inner.Sources.{Resolved}
 use Rattle.search_join.proofs.Lists.{length-first, firsts-left, first-below}
@@ -60,7 +60,7 @@ module _ (ws : List ℕ) (k : Lengths) (ids : List ℕ) (m : ℕ) (sc : List ℕ
   long : m ≤ length ids
   long = asked .0 .there
 
-  pub nothing-agrees : m ≡ 0 → (ns : List ℕ) → Agrees ns sc e m (agreed (take m ids) (lent ws ns k)) ws sc (NoSort k)
+  pub nothing-agrees : m ≡ 0 → (ns : List ℕ) → AgreesOn ns sc e m (agreed (take m ids) (lent ws ns k)) ws sc (NoSort k)
   unfolding agreed
   nothing-agrees z ns = record { says = ap (λ (n : ℕ). agreed (take n ids) (lent ws ns k)) (sym z); changed = unchanged sc (measureAt + e .measure) (measureAt + e .measure + m) }
 
@@ -82,10 +82,10 @@ module _ (ws : List ℕ) (k : Lengths) (ids : List ℕ) (m : ℕ) (sc : List ℕ
       by x z ns =
           ap (λ y. by-join (madeOf vs ns y)) (sym z) ∙ (ap by-join (er ns) ∙ agreed-first (lent ws ns k))
 
-      pub join-stops : (l : Lengths) → r ≡ NoSort l → (ns : List ℕ) → Agrees ns sc e m (agreed (take m ids) (lent ws ns k)) vs sc (NoSort l)
+      pub join-stops : (l : Lengths) → r ≡ NoSort l → (ns : List ℕ) → AgreesOn ns sc e m (agreed (take m ids) (lent ws ns k)) vs sc (NoSort l)
       join-stops l z ns = record { says = by (NoSort l) z ns; changed = unchanged sc (measureAt + e .measure) (measureAt + e .measure + m) }
 
-      pub join-ends : (l : Lengths) → r ≡ NoRoom l → (ns : List ℕ) → Agrees ns sc e m (agreed (take m ids) (lent ws ns k)) vs sc (NoRoom l)
+      pub join-ends : (l : Lengths) → r ≡ NoRoom l → (ns : List ℕ) → AgreesOn ns sc e m (agreed (take m ids) (lent ws ns k)) vs sc (NoRoom l)
       join-ends l z ns = record { says = by (NoRoom l) z ns; changed = unchanged sc (measureAt + e .measure) (measureAt + e .measure + m) }
 
       module _ (c : SortId) (l : Lengths) (z : r ≡ Is c l) where
@@ -110,11 +110,11 @@ module _ (ws : List ℕ) (k : Lengths) (ids : List ℕ) (m : ℕ) (sc : List ℕ
           by-test x f ns =
               ap (λ y. cond y (made (record { sort = c .0; components = heads }) (lent vs ns l)) (no-list (lent vs ns l))) (sym f ∙ eb ns) ∙ by (Is c l) z ns
 
-          pub not-materializable : b ≡ false → (ns : List ℕ) → Agrees ns sc e m (agreed (take m ids) (lent ws ns k)) vs sc (NoSort l)
+          pub not-materializable : b ≡ false → (ns : List ℕ) → AgreesOn ns sc e m (agreed (take m ids) (lent ws ns k)) vs sc (NoSort l)
           not-materializable f ns = record { says = by-test false f ns; changed = unchanged sc (measureAt + e .measure) (measureAt + e .measure + m) }
 
           pub they-agree : b ≡ true → (sc′ : List ℕ) → sc′ ≡ sets sc (measureAt + e .measure) heads
-              → (ns : List ℕ) → Agrees ns sc e m (agreed (take m ids) (lent ws ns k)) vs sc′ (Is c l)
+              → (ns : List ℕ) → AgreesOn ns sc e m (agreed (take m ids) (lent ws ns k)) vs sc′ (Is c l)
           they-agree f sc′ es ns =
               let many : length heads ≡ m = length-each (headTo vs (l .sorts) (c .0)) (take m ids) ∙ length-first ids m long in
               record {
@@ -141,10 +141,10 @@ module _ (ws ns bs sc ls : List ℕ) (k : Lengths) (e : Branch) (run : Run) (ask
     unfolding joinOf
     by-sources x z = ap (λ O. O and-then agreed) (ap (extractedOf vs ns ids 0 (run .count)) (sym z) ∙ er)
 
-    pub sources-stop : (l : Lengths) → r ≡ Without l → Agrees ns sc e (run .count) (joinOf B ps W) vs sc (NoSort l)
+    pub sources-stop : (l : Lengths) → r ≡ Without l → AgreesOn ns sc e (run .count) (joinOf B ps W) vs sc (NoSort l)
     sources-stop l z = record { says = by-sources (Without l) z; changed = unchanged sc (measureAt + e .measure) (measureAt + e .measure + run .count) }
 
-    pub sources-end : (l : Lengths) → r ≡ NotAll l → Agrees ns sc e (run .count) (joinOf B ps W) vs sc (NoRoom l)
+    pub sources-end : (l : Lengths) → r ≡ NotAll l → AgreesOn ns sc e (run .count) (joinOf B ps W) vs sc (NoRoom l)
     sources-end l z = record { says = by-sources (NotAll l) z; changed = unchanged sc (measureAt + e .measure) (measureAt + e .measure + run .count) }
 
     module _ (len : length ids ≡ maxSources) (l : Lengths) (z : r ≡ All l) where
@@ -165,6 +165,6 @@ module _ (ws ns bs sc ls : List ℕ) (k : Lengths) (e : Branch) (run : Run) (ask
               subst (MadeSorts (λ U ss. StandAll W B Nothing U ps ss) (NoDefault Nothing) W) (sym er ∙ ap (extractedOf vs ns ids 0 (run .count)) z)
               (resolve-all-makes W (asked .ready .nodes) B (asked .ready .binds) Nothing tt ps (asked .placed) W (sorts-only-refl W (asked .ready .nodes)))
 
-      pub sources-agree : (us sc′ : List ℕ) (x : Made) → ((os : List ℕ) → Agrees os sc e (run .count) (agreed (take (run .count) ids) (lent vs os l)) us sc′ x)
-          → Agrees ns sc e (run .count) (joinOf B ps W) us sc′ x
-      sources-agree us sc′ x a = subst (λ O. Agrees ns sc e (run .count) O us sc′ x) (by-sources (All l) z) (a ns)
+      pub sources-agree : (us sc′ : List ℕ) (x : Made) → ((os : List ℕ) → AgreesOn os sc e (run .count) (agreed (take (run .count) ids) (lent vs os l)) us sc′ x)
+          → AgreesOn ns sc e (run .count) (joinOf B ps W) us sc′ x
+      sources-agree us sc′ x a = subst (λ O. AgreesOn ns sc e (run .count) O us sc′ x) (by-sources (All l) z) (a ns)

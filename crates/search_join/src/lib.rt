@@ -39,7 +39,7 @@ ghost use Rattle.unification.specs.Related.{each};
 ghost use Rattle.inference.specs.Constraints.{maxComponents, rowsFrom};
 ghost use Rattle.inference.specs.Search.{resolveIn, joinIn, resolveAll, joinAll, headSteps, allInto, agreed as agreedOn, joinOf};
 ghost use Rattle.search_state.specs.Inner.Memory.{sourceAt, measureAt, scratchUsed};
-ghost use Rattle.search_state.specs.Inner.Leaves.{madeOf, extractedOf, Agrees};
+ghost use Rattle.search_state.specs.Inner.Leaves.{madeOf, extractedOf, AgreesOn};
 ghost use Rattle.search_state.specs.Inner.Searching.{Agreeing};
 ghost use Rattle.search_join.specs.Inner.Sources.{madeFrom, Sources, Resolved};
 ghost use Rattle.unification.specs.Inner.Making.{lent};
@@ -245,7 +245,7 @@ fn agreement(
         ⌝ }
     ensures { λ r. ⌜
         ((ns : List ℕ)
-        → Agrees ns (now (scratch .entry)) at count
+        → AgreesOn ns (now (scratch .entry)) at count
         (agreedOn (take count (now (ids .entry))) (lent (now (sorts .entry)) ns lengths))
         (now (sorts .exit)) (now (scratch .exit)) r)
         ⌝ }
@@ -279,7 +279,7 @@ pub fn agreed(
 ) -> Made
     requires { ⌜ Agreeing (now sorts) (now nodes) (now binds) (now scratch) (now lists) lengths at sources ⌝ }
     ensures { λ r. ⌜
-        Agrees (now (nodes .entry)) (now (scratch .entry)) at (sources .count)
+        AgreesOn (now (nodes .entry)) (now (scratch .entry)) at (sources .count)
         (joinOf (bindsOf (now (binds .entry)) (lengths .variables))
         (rowsFrom (sourceAt (now (lists .entry))) (sources .start) (sources .count))
         (lent (now (sorts .entry)) (now (nodes .entry)) lengths))

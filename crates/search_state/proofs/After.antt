@@ -31,7 +31,7 @@ use Rattle.search_state.specs.declared.Went.{Went}
 use Rattle.search_state.specs.declared.Went.the-variants.{On, Stop}
 use Rattle.search_state.specs.Inner.Memory.{problemIn, trailWords, chosenExprs, choicesOf, pathOf, worldOf, outOf}
 use Rattle.search_state.specs.Inner.Leaves.{afterOf}
-use Rattle.search_state.specs.Inner.Searching.{Suits, NextFine, Searching, Grown, SamePath, Done, Comes}
+use Rattle.search_state.specs.Inner.Searching.{Suits, NextFine, Searching, SearchGrown, SamePath, Done, Comes}
 use Rattle.search_state.proofs.Parts.{same-path-refl, same-path-trans}
 
 -- What suits lists suits lists that have grown from them.
@@ -104,7 +104,7 @@ module _ (ls : List ℕ) (z : Sizes) (ws ns bs sc : List ℕ) (k : State) (e : B
     abbrev W₁ : Lent
     W₁ = lent ws₁ ns₁ (k₁ .lengths)
 
-    grown-then : (ws₂ ns₂ : List ℕ) (r : Answer) → Grown W₁ ws₂ ns₂ r → Grown W ws₂ ns₂ r
+    grown-then : (ws₂ ns₂ : List ℕ) (r : Answer) → SearchGrown W₁ ws₂ ns₂ r → SearchGrown W ws₂ ns₂ r
     grown-then ws₂ ns₂ (Found k₂) h = sorts-only-trans W W₁ (lent ws₂ ns₂ (k₂ .lengths)) c g h
     grown-then ws₂ ns₂ (Missed k₂) h = sorts-only-trans W W₁ (lent ws₂ ns₂ (k₂ .lengths)) c g h
     grown-then ws₂ ns₂ (Full d k₂) h = grows-trans W c W₁ (lent ws₂ ns₂ k₂) (g .grows) h
@@ -131,12 +131,12 @@ module _ (ls : List ℕ) (z : Sizes) (ws ns bs sc : List ℕ) (k : State) (e : B
   -- after a first part
   module _ (O : Out (Unit {0})) (ws₁ ns₁ bs₁ sc₁ : List ℕ) (r : Answer) (d : Done ls z ws ns bs sc k e O ws₁ ns₁ bs₁ sc₁ r) where
     pub grown-missed : (k₁ : State) → r ≡ Missed k₁ → SortsOnly W (lent ws₁ ns₁ (k₁ .lengths))
-    grown-missed k₁ q = subst (Grown W ws₁ ns₁) q (d .grown)
+    grown-missed k₁ q = subst (SearchGrown W ws₁ ns₁) q (d .grown)
 
     pub grown-on : (b : Bool) (v : Went) → v ≡ afterOf r b → (k₁ : State) (b₁ : Bool) → v ≡ On k₁ b₁ → SortsOnly W (lent ws₁ ns₁ (k₁ .lengths))
     grown-on b v q k₁ b₁ x = go r (d .grown) (sym q ∙ x)
       where
-        go : (r : Answer) → Grown W ws₁ ns₁ r → afterOf r b ≡ On k₁ b₁ → SortsOnly W (lent ws₁ ns₁ (k₁ .lengths))
+        go : (r : Answer) → SearchGrown W ws₁ ns₁ r → afterOf r b ≡ On k₁ b₁ → SortsOnly W (lent ws₁ ns₁ (k₁ .lengths))
         go (Found s) h y = subst (λ (s : State). SortsOnly W (lent ws₁ ns₁ (s .lengths))) (let z : s ≡ k₁ = cc in z) h
         go (Missed s) h y = subst (λ (s : State). SortsOnly W (lent ws₁ ns₁ (s .lengths))) (let z : s ≡ k₁ = cc in z) h
         go (Full x l) h y = absurd (let z : _≡_ {A = ℕ} 0 1 = cc in omega arith)
@@ -165,14 +165,14 @@ module _ (ls : List ℕ) (z : Sizes) (ws ns bs sc : List ℕ) (k : State) (e : B
       pub and-stops : (x : ℕ) (l : Lengths) → v ≡ Stop x l → Done ls z ws ns bs sc k e (andAlso O b f) ws₁ ns₁ bs₁ sc₁ (Full x l)
       and-stops x l y = go r refl (d .grown) (sym q ∙ y)
         where
-          go : (s : Answer) → r ≡ s → Grown W ws₁ ns₁ s → afterOf s b ≡ Stop x l → Done ls z ws ns bs sc k e (andAlso O b f) ws₁ ns₁ bs₁ sc₁ (Full x l)
+          go : (s : Answer) → r ≡ s → SearchGrown W ws₁ ns₁ s → afterOf s b ≡ Stop x l → Done ls z ws ns bs sc k e (andAlso O b f) ws₁ ns₁ bs₁ sc₁ (Full x l)
           go (Found s) e h y = absurd (let z : _≡_ {A = ℕ} 0 1 = cc in omega arith)
           go (Missed s) e h y = absurd (let z : _≡_ {A = ℕ} 0 1 = cc in omega arith)
           go (Full x′ l′) e h y =
               let i : Full x′ l′ ≡ Full x l = cc in
               record {
                 says = ap (λ o. andAlso o b f) (sym (ap (outOf ls z ws₁ ns₁ sc₁) (e ∙ i)) ∙ d .says);
-                grown = subst (Grown W ws₁ ns₁) i h;
+                grown = subst (SearchGrown W ws₁ ns₁) i h;
                 binds = d .binds;
                 path = d .path;
               }

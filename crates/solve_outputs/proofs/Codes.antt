@@ -20,7 +20,7 @@ use Rattle.inference.specs.Search.{Candidate, World, Out, found, missed, ended}
 use Rattle.inference.specs.SolveChecks.{Call, given, solveChecks}
 use Rattle.inference.specs.SolveEntry.{problemOf, startPath, lentOf, searched, SolveLeft, judged, judgedBy, verdict, nothingMet, solveEntry, codeSolved, choicesOut}
 use Rattle.inference.proofs.Accepted.{passed-is-searched}
-use Rattle.inference.specs.ListsLeft.{countsOf}
+use Rattle.inference.specs.ListsLeft.{countsTold}
 use Rattle.inference.proofs.ListsLeft.{sorts-only-grow}
 use Rattle.inference.proofs.Branches.{Goes, Ends}
 use Rattle.inference.proofs.Choices.{Fitting, search-fits, names-and-choices}
@@ -65,19 +65,19 @@ module _ (I : Call) where
         subst (λ (L : SolveLeft). Searched (L .answer)) (sym (passed-is-searched I x))
         (by-out w (searched (Unit {0}) nothingMet tt I) (search-fits (Unit {0}) nothingMet (problemOf I) (given I) (startPath I .binds) w))
 
-    within : (k : Counts) → countsOf (solveEntry I .answer) ≡ some k → CountsWithin k
+    within : (k : Counts) → countsTold (solveEntry I .answer) ≡ some k → CountsWithin k
     within k e = let g = sorts-only-grow I k e in record { sorts = g .checked .sorts; entries = g .checked .entries }
 
     by-answer : (r : Solved) → solveEntry I .answer ≡ r → Searched r → SolvedWithin r
     by-answer (Refused c) e s = absurd s
     by-answer (NoRoom c) e (inl i) = (omega (arith, i), omega (arith, i))
     by-answer (NoRoom c) e (inr i) = (omega (arith, i), omega (arith, i))
-    by-answer (NoTyping k) e s = within k (ap countsOf e)
-    by-answer (Ambiguous k) e s = within k (ap countsOf e)
+    by-answer (NoTyping k) e s = within k (ap countsTold e)
+    by-answer (Ambiguous k) e s = within k (ap countsTold e)
     by-answer (Typing o) e s =
         let n = names-and-choices I o e in
         let f = rows-fit I x in
-        (within (o .counts) (ap countsOf e), omega (arith, n .handed-out, n .component-count, f .components), omega (arith, n .choice-count, sym (length-map (choicesOut (solveEntry I) o) exprOf) ∙ ap length (n .in-order), f .disjunctions))
+        (within (o .counts) (ap countsTold e), omega (arith, n .handed-out, n .component-count, f .components), omega (arith, n .choice-count, sym (length-map (choicesOut (solveEntry I) o) exprOf) ∙ ap length (n .in-order), f .disjunctions))
 
     passed-told : SolvedWithin (solveEntry I .answer)
     passed-told = by-answer (solveEntry I .answer) refl searched-answers

@@ -27,7 +27,7 @@ use Rattle.search_state.specs.declared.Branch.{Branch}
 use Rattle.search_state.specs.declared.Answer.{Answer}
 use Rattle.search_state.specs.declared.Answer.the-variants.{Found, Missed, Full}
 use Rattle.search_state.specs.Inner.Memory.{problemIn, chosenExprs, bestOf, pathOf, worldOf, outOf, solveFrom}
-use Rattle.search_state.specs.Inner.Searching.{Grown, Done}
+use Rattle.search_state.specs.Inner.Searching.{SearchGrown, Done}
 use Rattle.solve_outputs.specs.Inner.Begin.{sizesOf, noIncumbent, nothingTaken}
 use Rattle.solve_outputs.specs.Inner.Finish.{Settled, settled, solveLeftBy, handedOut, settledBy, judgedOut as judgedIn, judgedOutBy as judgedByIn}
 use Rattle.solve_outputs.proofs.Passed.{passed-accepted, rest-is-all}
@@ -39,7 +39,7 @@ module _ (ls : List ℕ) (z : Sizes) (ws ns bs sc : List ℕ) (k : State) (e : B
   abbrev W : Lent
   W = lent ws ns (k .lengths)
 
-  nodes-kept : (r : Answer) → Grown W ws′ ns′ r → NodesAgree ns ns′ (k .lengths .nodes) (k .lengths .arguments) × (length ns′ ≡ length ns)
+  nodes-kept : (r : Answer) → SearchGrown W ws′ ns′ r → NodesAgree ns ns′ (k .lengths .nodes) (k .lengths .arguments) × (length ns′ ≡ length ns)
   nodes-kept (Found s) g = (g .grows .node-words, g .grows .as-long .1)
   nodes-kept (Missed s) g = (g .grows .node-words, g .grows .as-long .1)
   nodes-kept (Full x l) g = (g .node-words, g .as-long .1)

@@ -36,7 +36,7 @@ use Rattle.search_state.specs.declared.Pairs.the-variants.{One}
 use Rattle.search_state.specs.declared.Step.the-variants.{Written}
 use Rattle.search_state.specs.Inner.Memory.{problemIn, sourceAt, chosenExprs, choicesOf, trailWords, bestSortsAt, measureAt, bestMeasureAt, choicesAt, bestChoicesAt, pathOf, candidateOf, bestOf, worldOf, solveFrom, nextOf}
 use Rattle.words.specs.Words.{part}
-use Rattle.search_state.specs.Inner.Leaves.{ChangedOnly, unifyPairs, PairsPlaced, pathAfter, agreementOf, Agrees}
+use Rattle.search_state.specs.Inner.Leaves.{ChangedOnly, unifyPairs, PairsPlaced, pathAfter, agreementOf, AgreesOn}
 use Rattle.search_state.specs.Inner.Searching.{Sized, Searching, SourcesFine, Agreeing, SamePath, Done, Comes, trying}
 use Rattle.search_state.proofs.Parts.{part-before, part-after, take-unchanged}
 use Rattle.search_state.proofs.After.{searching-grown, done-as, done-after, same-path, or-stops, or-comes, grown-missed}
@@ -126,7 +126,7 @@ module _ (ls : List ℕ) (z : Sizes) (ws ns bs sc : List ℕ) (k : State) (e : B
         few = s .few;
       }
 
-  module _ (ws₁ sc₁ : List ℕ) (m : Made) (A : Agrees ns sc e (run .count) (joinOf (bindsOf bs (k .lengths .variables)) ps W) ws₁ sc₁ m) where
+  module _ (ws₁ sc₁ : List ℕ) (m : Made) (A : AgreesOn ns sc e (run .count) (joinOf (bindsOf bs (k .lengths .variables)) ps W) ws₁ sc₁ m) where
     same-words : SamePath e sc sc₁
     same-words = behind-measure ls z (S .sized) sc sc₁ e (run .count) (omega (arith, S .trail)) room (A .changed)
 

@@ -30,7 +30,7 @@ use Rattle.search_state.specs.declared.Widenings.{Widenings}
 use Rattle.search_state.specs.declared.Widenings.the-variants.{These, NoList, Full as NoRoom}
 use Rattle.search_state.specs.Inner.Memory.{problemIn, pathOf, worldOf, outOf, nextOf}
 use Rattle.search_state.specs.Inner.Leaves.{unifyPairs, pathAfter, triesFrom, widenings, widened, FewTries, FindsWidenings, givenBackTo}
-use Rattle.search_state.specs.Inner.Searching.{Searching, Grown, Comes, trying}
+use Rattle.search_state.specs.Inner.Searching.{Searching, SearchGrown, Comes, trying}
 use Rattle.search_state.proofs.Parts.{same-path-refl}
 use Rattle.search_state.proofs.After.{searching-grown, done-as, or-stops, or-comes, grown-missed}
 use Rattle.search_state.proofs.Ways.{tried, wider-by-widenings, given-back-in-answer, tries-are-placed, no-tries-makes-nothing, no-room-for-tries-grows}
@@ -95,7 +95,7 @@ module _ (ls : List ℕ) (z : Sizes) (ws ns bs sc : List ℕ) (k : State) (e : B
         d₁ : Comes ls z ws₁ ns₁ bs sc (withLengths k m) e (firstFound (Unit {0}) nothingMet P (triesFrom t 0) (nextOf ls z next)) ws₂ ns₂ bs₂ sc₂ a
         d₁ = subst (λ (s : State). Comes ls z ws₁ ns₁ bs sc s e (firstFound (Unit {0}) nothingMet P (triesFrom t 0) (nextOf ls z next)) ws₂ ns₂ bs₂ sc₂ a) u d
 
-        back : (a : Answer) → Grown (lent ws₁ ns₁ m) ws₂ ns₂ a → Grown W ws₂ ns₂ (givenBackTo (k .lengths) a)
+        back : (a : Answer) → SearchGrown (lent ws₁ ns₁ m) ws₂ ns₂ a → SearchGrown W ws₂ ns₂ (givenBackTo (k .lengths) a)
         back (Found s) g =
             record {
               grows = given-back-grows W (lent ws₂ ns₂ (s .lengths)) (S .ready .nodes) (grows-trans W (S .ready .nodes) (lent ws₁ ns₁ m) (lent ws₂ ns₂ (s .lengths)) grown (g .grows));
@@ -121,7 +121,7 @@ module _ (ls : List ℕ) (z : Sizes) (ws ns bs sc : List ℕ) (k : State) (e : B
                   ∙ (given-back-in-answer ls z ws₂ ns₂ sc₂ a ws ns (k .lengths)
                   ∙ (ap (nodesReturned W) (d₁ .says ∙ ap (λ p. firstFound (Unit {0}) nothingMet P (triesFrom t 0) (nextOf ls z next) p (worldOf ls z ws₁ ns₁ sc (withLengths k m))) same-path-there)
                   ∙ (ap (λ j. onMade (widened ws₁ ns₁ j) (tried (Unit {0}) nothingMet P (nextOf ls z next) path w (l .0) (r .0)) missed w) (sym i) ∙ by-tries)));
-              grown = subst (Grown W ws₂ ns₂) (sym v) (back a (d₁ .grown));
+              grown = subst (SearchGrown W ws₂ ns₂) (sym v) (back a (d₁ .grown));
               binds = d₁ .binds;
               path = d₁ .path;
             }

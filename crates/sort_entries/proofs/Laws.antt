@@ -23,7 +23,7 @@ use Rattle.resolved_sort.specs.Rows.{storedAt}
 use Rattle.resolved_sort.specs.Bounds.{Asked, boundAt}
 use Rattle.resolved_sort.proofs.FirstFailing.{first-fails, first-passes, append-fails, append-passes, cons-passes}
 use Rattle.resolved_sort.proofs.Grown.{grown-none}
-use Rattle.resolved_sort.specs.Growing.{Kept, InTree}
+use Rattle.resolved_sort.specs.Growing.{SortsKept, InTree}
 use Rattle.resolved_sort.proofs.Kept.{make-kept}
 use Rattle.resolved_sort.proofs.Stored.{look-whole}
 use Rattle.resolved_sort.proofs.GivenBack.{made-is-given-back}
@@ -119,14 +119,14 @@ module _ (up : Bool) (ws : List ℕ) (n e a b : ℕ) (k : Asked ws n e a b) wher
   abbrev outcome : Outcome Tree
   outcome = make up (treeAt ws n a) (treeAt ws n b) (sortsOf ws n e)
 
-  outcome-kept : Kept ws n e InTree (sortsOf ws n e) outcome
+  outcome-kept : SortsKept ws n e InTree (sortsOf ws n e) outcome
   outcome-kept =
       make-kept ws n e up (treeAt ws n a) (treeAt ws n b) (sortsOf ws n e) (grown-none ws n e (k .checked))
       (look-whole ws n e (k .checked) a (k .lhs)) (look-whole ws n e (k .checked) b (k .rhs))
 
-  by-outcome : (O : Outcome Tree) → Kept ws n e InTree (sortsOf ws n e) O
+  by-outcome : (O : Outcome Tree) → SortsKept ws n e InTree (sortsOf ws n e) O
       → keptOrGivenBack ((stored ws n e O) .words) n e ((stored ws n e O) .answer) ≡ sortsLeftBy ws n e (stored ws n e O) ((stored ws n e O) .answer)
-  unfolding Kept stored keptOrGivenBack sortsLeftBy
+  unfolding SortsKept stored keptOrGivenBack sortsLeftBy
   by-outcome (made v S) h = refl
   by-outcome (nothing S) h = refl
   by-outcome (full S) h = ap (λ us. sortsLeft us NoRoom) (made-is-given-back ws n e (k .checked) S (h .0))

@@ -12,9 +12,9 @@ use Rattle.resolved_sort.specs.Entries.{refusedOr, Stored, stored}
 use Rattle.sort_text.specs.declared.Read.the-variants.{Refused}
 use Rattle.sort_text.specs.Parse.{Parsed, parsed, stuck, line}
 use Rattle.sort_text.specs.Reading.{store, readChecks, codeRead, ReadLeft, readLeft, storedBy, readAs, reading}
-use Rattle.sort_reader.specs.Codes.{roomCode, lineCode}
+use Rattle.sort_reader.specs.Codes.{storeCode, lineCode}
 
-stored-code : (ws : List ℕ) (n e : ℕ) (r : Stored) (j : Joined) → codeRead ((storedBy ws n e r j) .answer) ≡ roomCode j
+stored-code : (ws : List ℕ) (n e : ℕ) (r : Stored) (j : Joined) → codeRead ((storedBy ws n e r j) .answer) ≡ storeCode j
 unfolding storedBy codeRead
 stored-code ws n e r (At s k) = refl
 stored-code ws n e r (Nothing k) = refl

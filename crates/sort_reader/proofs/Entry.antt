@@ -22,7 +22,7 @@ use Rattle.resolved_sort.proofs.Below.{below-each}
 use Rattle.resolved_sort.proofs.Numbers.{member-look}
 use Rattle.resolved_sort.proofs.Trees.{length-trees, look-row}
 use Rattle.resolved_sort.proofs.Grown.{grown-none}
-use Rattle.resolved_sort.specs.Growing.{Kept, InTree}
+use Rattle.resolved_sort.specs.Growing.{SortsKept, InTree}
 use Rattle.resolved_sort.proofs.GivenBack.{made-is-given-back}
 use Rattle.resolved_sort.proofs.FirstFailing.{first-fails, first-passes, append-fails, append-passes, cons-passes}
 use Rattle.resolved_sort.proofs.Testing.{refused-is, passed-is}
@@ -141,9 +141,9 @@ module _ (ws : List ℕ) (n e : ℕ) (bs : List ℕ) (q : Passes ws n e bs) wher
     store-is : steps (postfix t) [] (sortsOf ws n e) ≡ store t (sortsOf ws n e)
     store-is = steps-are-store t (line-writable bs cs t is) (sortsOf ws n e) primitives-in
 
-    pub store-kept : Kept ws n e InTree (sortsOf ws n e) (store t (sortsOf ws n e))
+    pub store-kept : SortsKept ws n e InTree (sortsOf ws n e) (store t (sortsOf ws n e))
     unfolding InStack
-    store-kept = subst (Kept ws n e InTree (sortsOf ws n e)) store-is (steps-kept ws n e (postfix t) [] (sortsOf ws n e) (line-steps-short bs cs t is) (grown-none ws n e (q .checked)) six-in tt)
+    store-kept = subst (SortsKept ws n e InTree (sortsOf ws n e)) store-is (steps-kept ws n e (postfix t) [] (sortsOf ws n e) (line-steps-short bs cs t is) (grown-none ws n e (q .checked)) six-in tt)
 
   -- a line that is no sort
   not-a-sort-at : (P : Parsed) (out : List ℕ) (p : ℕ) → Says bs 0 (length bs) [] P out (Stuck p) → readLeft ws (NotASort p) ≡ readAs ws n e bs P
@@ -194,9 +194,9 @@ module _ (ws : List ℕ) (n e : ℕ) (bs : List ℕ) (q : Passes ws n e bs) wher
       unfolding runAt stackOf
       run-is ids = ap (λ ops. stored ws n e (steps ops [] (sortsOf ws n e))) (it .written) ∙ ap (stored ws n e) (store-is (it .left) (it .sort) (it .is))
 
-      by-outcome : (O : Outcome Tree) → Kept ws n e InTree (sortsOf ws n e) O
+      by-outcome : (O : Outcome Tree) → SortsKept ws n e InTree (sortsOf ws n e) O
           → keptOrNoRoom ((stored ws n e O) .words) n e ((stored ws n e O) .answer) ≡ storedBy ws n e (stored ws n e O) ((stored ws n e O) .answer)
-      unfolding Kept stored keptOrNoRoom storedBy
+      unfolding SortsKept stored keptOrNoRoom storedBy
       by-outcome (made v S) h = refl
       by-outcome (nothing S) h = ap (λ us. readLeft us NoRoom) (made-is-given-back ws n e (q .checked) S (h .0))
       by-outcome (full S) h = ap (λ us. readLeft us NoRoom) (made-is-given-back ws n e (q .checked) S (h .0))

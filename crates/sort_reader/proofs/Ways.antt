@@ -23,7 +23,7 @@ use Rattle.resolved_sort.specs.Rows.{AllBelow, storedAt}
 use Rattle.resolved_sort.specs.Bounds.{internAt}
 use Rattle.resolved_sort.proofs.Numbers.{member-look, look-grows}
 use Rattle.resolved_sort.proofs.Trees.{length-trees}
-use Rattle.resolved_sort.specs.Growing.{partsIn, members, Kept, InTree}
+use Rattle.resolved_sort.specs.Growing.{partsIn, members, SortsKept, InTree}
 use Rattle.resolved_sort.proofs.Grown.{grown-none}
 use Rattle.resolved_sort.proofs.Unchanged.{longer}
 use Rattle.resolved_sort.proofs.Kept.{intern-kept}
@@ -216,7 +216,7 @@ module _ (ws : List ℕ) (C : Counts) (ops : List ℕ) (i : ℕ) (ids : List ℕ
     -- a sort interned, and then on the stack at base
     module _ (t : Tree) (base : ℕ) (hb : base < depth) (p : partsIn T t ≡ true) (few : need t ≤ 16)
         (is : whole ≡ stored ws n e (intern t S then (λ u S. steps later (u ∷ stackOf T ids base) S))) (vs : List ℕ) where
-      interned-kept : Kept ws n e InTree S (intern t S)
+      interned-kept : SortsKept ws n e InTree S (intern t S)
       interned-kept = intern-kept ws n e S (grown-none ws n e (q .checked)) t p few
 
       module _ (c : SortId) (K : Counts) (ej : storedAt vs (At c K) ≡ internAt ws n e t) where
@@ -262,7 +262,7 @@ module _ (ws : List ℕ) (C : Counts) (ops : List ℕ) (i : ℕ) (ids : List ℕ
             ap₂ (λ us k. stored us (k .sorts) (k .entries) (steps later (there .sort ∷ stackOf T ids base) (there .sorts))) (there .words) (there .counted)
             ∙ stored-again ws n e (there .sorts) (there .grown) (there .sorts) (steps later (there .sort ∷ stackOf T ids base) (there .sorts)) later-kept
           where
-            later-kept : Kept (after ws n e (there .sorts)) (length (there .sorts .trees)) (maxEntries - there .sorts .entries) InTree (there .sorts) (steps later (there .sort ∷ stackOf T ids base) (there .sorts))
+            later-kept : SortsKept (after ws n e (there .sorts)) (length (there .sorts .trees)) (maxEntries - there .sorts .entries) InTree (there .sorts) (steps later (there .sort ∷ stackOf T ids base) (there .sorts))
             later-kept =
                 steps-kept (after ws n e (there .sorts)) (length (there .sorts .trees)) (maxEntries - there .sorts .entries) later (there .sort ∷ stackOf T ids base) (there .sorts)
                 (short-left .1) (here ws n e S (intern t S) vs c K there) (six-extends S (there .sorts) (there .extends) six-in)

@@ -8,11 +8,11 @@ use Rattle.resolved_sort.specs.Entries.{stored}
 use Rattle.sort_text.specs.Parse.{Parsed, parsed, stuck}
 use Rattle.sort_text.specs.Reading.{store}
 
-abbrev pub roomCode : Joined → ℕ
-roomCode (At s k) = 0
-roomCode (Nothing k) = 15
-roomCode Full = 15
+abbrev pub storeCode : Joined → ℕ
+storeCode (At s k) = 0
+storeCode (Nothing k) = 15
+storeCode Full = 15
 
 abbrev pub lineCode : List ℕ → ℕ → ℕ → Parsed → ℕ
-lineCode ws n e (parsed t cs) = roomCode ((stored ws n e (store t (sortsOf ws n e))) .answer)
+lineCode ws n e (parsed t cs) = storeCode ((stored ws n e (store t (sortsOf ws n e))) .answer)
 lineCode ws n e (stuck cs) = 20

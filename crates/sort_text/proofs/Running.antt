@@ -10,16 +10,16 @@ use borrow.Author.Tests.{ltb-true}
 use Rattle.resolved_sort.specs.declared.ComplexSort.{ComplexSort}
 use Rattle.resolved_sort.specs.Tree.{Tree, container, function, Trees, no-args, arg, arity}
 use Rattle.resolved_sort.specs.Interning.{Sorts, member, made, nothing, _then_, intern}
-use Rattle.resolved_sort.specs.Growing.{members, Grown, Extends, Kept, InTree}
+use Rattle.resolved_sort.specs.Growing.{members, Grown, SortsExtend, SortsKept, InTree}
 use Rattle.resolved_sort.proofs.Kept.{extends-refl, member-extends, kept-then, container-interned, function-interned}
 use Rattle.sort_text.specs.Postfix.{Short, sixth, opOf, containing, Popped, popped, not-enough, takeArguments, applied, mapping, stepOn, top, steps, InStack, HasSix}
 
-pub stack-extends : (S S′ : Sorts) (st : List Tree) → Extends S S′ → InStack S st → InStack S′ st
+pub stack-extends : (S S′ : Sorts) (st : List Tree) → SortsExtend S S′ → InStack S st → InStack S′ st
 unfolding InStack
 stack-extends S S′ [] x h = tt
 stack-extends S S′ (t ∷ st) x h = (member-extends S S′ t x (h .0), stack-extends S S′ st x (h .1))
 
-pub six-extends : (S S′ : Sorts) → Extends S S′ → HasSix S → HasSix S′
+pub six-extends : (S S′ : Sorts) → SortsExtend S S′ → HasSix S → HasSix S′
 six-extends S S′ x h k l = member-extends S S′ (sixth k) x (h k l)
 
 -- the arguments that are taken off a stack, and what is left
@@ -44,51 +44,51 @@ takes-in S (suc k) ts (t ∷ st) m h =
     (takes-in S k (arg t ts) st (and-members S t ts (h .0) m) (h .1))
 
 module _ (ws : List ℕ) (n e : ℕ) where
-  stack-kept : (S : Sorts) (st : List Tree) → Grown ws n e S → InStack S st → Kept ws n e InStack S (made st S)
-  unfolding Kept
+  stack-kept : (S : Sorts) (st : List Tree) → Grown ws n e S → InStack S st → SortsKept ws n e InStack S (made st S)
+  unfolding SortsKept
   stack-kept S st g h = (g, extends-refl S, h)
 
-  stack-stays : (S : Sorts) → Grown ws n e S → Kept ws n e InStack S (nothing S)
-  unfolding Kept
+  stack-stays : (S : Sorts) → Grown ws n e S → SortsKept ws n e InStack S (nothing S)
+  unfolding SortsKept
   stack-stays S g = (g, extends-refl S)
 
-  pushed : (S : Sorts) (st : List Tree) → InStack S st → (u : Tree) (S₁ : Sorts) → Grown ws n e S₁ → Extends S S₁ → InTree S₁ u → Kept ws n e InStack S₁ (made (u ∷ st) S₁)
-  unfolding Kept InStack
+  pushed : (S : Sorts) (st : List Tree) → InStack S st → (u : Tree) (S₁ : Sorts) → Grown ws n e S₁ → SortsExtend S S₁ → InTree S₁ u → SortsKept ws n e InStack S₁ (made (u ∷ st) S₁)
+  unfolding SortsKept InStack
   pushed S st h u S₁ g x m = (g, extends-refl S₁, (m, stack-extends S S₁ st x h))
 
-  over-kept : (o : ComplexSort) (st : List Tree) (S : Sorts) → Grown ws n e S → InStack S st → Kept ws n e InStack S (containing o st S)
+  over-kept : (o : ComplexSort) (st : List Tree) (S : Sorts) → Grown ws n e S → InStack S st → SortsKept ws n e InStack S (containing o st S)
   unfolding InStack
   over-kept o [] S g h = stack-stays S g
   over-kept o (t ∷ st) S g h = kept-then ws n e InTree InStack S (intern (container o t) S) _ (container-interned ws n e o t S g (h .0)) (pushed S st (h .1))
 
-  applied-kept : (r : Tree) (k : ℕ) (x : Popped) (S : Sorts) → Grown ws n e S → InTree S r → k ≤ 16 → TakenIn S k x → Kept ws n e InStack S (applied r x S)
+  applied-kept : (r : Tree) (k : ℕ) (x : Popped) (S : Sorts) → Grown ws n e S → InTree S r → k ≤ 16 → TakenIn S k x → SortsKept ws n e InStack S (applied r x S)
   unfolding TakenIn
   applied-kept r k not-enough S g m l h = stack-stays S g
   applied-kept r k (popped ts st) S g m l h =
       kept-then ws n e InTree InStack S (intern (function ts r) S) _ (function-interned ws n e ts r S g (h .0) (omega (arith, h .1)) m) (pushed S st (h .2))
 
-  mapping-kept : (k : ℕ) (st : List Tree) (S : Sorts) → Grown ws n e S → k ≤ 16 → InStack S st → Kept ws n e InStack S (mapping k st S)
+  mapping-kept : (k : ℕ) (st : List Tree) (S : Sorts) → Grown ws n e S → k ≤ 16 → InStack S st → SortsKept ws n e InStack S (mapping k st S)
   unfolding InStack members arity
   mapping-kept k [] S g l h = stack-stays S g
   mapping-kept k (r ∷ st) S g l h = applied-kept r (k + 0) (takeArguments k no-args st) S g (h .0) (omega arith) (takes-in S k no-args st refl (h .1))
 
   by-step : (b c : Bool) (op : ℕ) (st : List Tree) (S : Sorts) → ltb op 6 ≡ b → op ≤ 32 → Grown ws n e S → HasSix S → InStack S st
-      → Kept ws n e InStack S (cond b (made (sixth op ∷ st) S) (cond c (containing (opOf (op - 6)) st S) (mapping (op - 16) st S)))
+      → SortsKept ws n e InStack S (cond b (made (sixth op ∷ st) S) (cond c (containing (opOf (op - 6)) st S) (mapping (op - 16) st S)))
   unfolding InStack
   by-step true c op st S q l g x h = stack-kept S (sixth op ∷ st) g (x op (ltb-true op 6 q), h)
   by-step false true op st S q l g x h = over-kept (opOf (op - 6)) st S g h
   by-step false false op st S q l g x h = mapping-kept (op - 16) st S g (omega arith) h
 
-  pub step-kept : (op : ℕ) (st : List Tree) (S : Sorts) → op ≤ 32 → Grown ws n e S → HasSix S → InStack S st → Kept ws n e InStack S (stepOn op st S)
+  pub step-kept : (op : ℕ) (st : List Tree) (S : Sorts) → op ≤ 32 → Grown ws n e S → HasSix S → InStack S st → SortsKept ws n e InStack S (stepOn op st S)
   unfolding stepOn
   step-kept op st S l g x h = by-step (ltb op 6) (ltb op 11) op st S refl l g x h
 
-  top-kept : (st : List Tree) (S : Sorts) → Grown ws n e S → InStack S st → Kept ws n e InTree S (top st S)
-  unfolding Kept InStack
+  top-kept : (st : List Tree) (S : Sorts) → Grown ws n e S → InStack S st → SortsKept ws n e InTree S (top st S)
+  unfolding SortsKept InStack
   top-kept [] S g h = (g, extends-refl S)
   top-kept (t ∷ st) S g h = (g, extends-refl S, h .0)
 
-  pub steps-kept : (ops : List ℕ) (st : List Tree) (S : Sorts) → Short ops → Grown ws n e S → HasSix S → InStack S st → Kept ws n e InTree S (steps ops st S)
+  pub steps-kept : (ops : List ℕ) (st : List Tree) (S : Sorts) → Short ops → Grown ws n e S → HasSix S → InStack S st → SortsKept ws n e InTree S (steps ops st S)
   unfolding steps Short
   steps-kept [] st S q g x h = top-kept st S g h
   steps-kept (op ∷ ops) st S q g x h =

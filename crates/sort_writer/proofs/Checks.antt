@@ -15,7 +15,7 @@ use Rattle.resolved_sort.specs.Storage.{maxSorts, maxEntries, fullLength, entri
 use Rattle.resolved_sort.specs.Checks.{Check, firstFailing, sortChecks, withinLent, rowsFine, noTwoEqual, inList, atCeiling}
 use Rattle.resolved_sort.specs.Inner.Entries.{testedOf}
 use Rattle.resolved_sort.specs.Entries.{refusedOr, treeAt}
-use Rattle.resolved_sort.specs.Growing.{Listed}
+use Rattle.resolved_sort.specs.Growing.{ListFine}
 use Rattle.resolved_sort.proofs.FirstFailing.{first-fails, first-passes, append-fails, append-passes, cons-passes}
 use Rattle.resolved_sort.proofs.Testing.{refused-is, passed-is}
 use Rattle.sort_text.specs.declared.Written.the-variants.{Refused as NotWritten, Text}
@@ -47,7 +47,7 @@ module _ (ws : List ℕ) (n e : ℕ) (x : firstFailing (sortChecks ws n e) ≡ n
       let c₄ = cons-passes _ _ (c₃ .1) in
       (c₁ .0, c₃ .0, c₄ .0)
 
-  in-order : Listed ws n e
+  in-order : ListFine ws n e
   in-order = record { fine = chain .1; differ = chain .2 }
 
 -- a size is 0 exactly where there is no text, and else it is the length as far as 2^63

@@ -14,7 +14,7 @@ use Rattle.resolved_sort.specs.Tree.{unit, def, typevar, Tree}
 use Rattle.resolved_sort.specs.Interning.{look}
 use Rattle.resolved_sort.specs.Storage.{entryAt, entriesOf, rowAt, lookAll, trees}
 use Rattle.resolved_sort.specs.Rows.{AllBelow}
-use Rattle.resolved_sort.specs.Growing.{Listed}
+use Rattle.resolved_sort.specs.Growing.{ListFine}
 use Rattle.resolved_sort.proofs.Pairs.{sortOf, Below}
 use Rattle.resolved_sort.proofs.Said.{first-entry}
 use Rattle.sort_writer.specs.Inner.Sizes.{sized, sizedAll, joined, runSize, rowSize, sizesTo}
@@ -87,7 +87,7 @@ module _ (T : List Tree) (zs : List ℕ) (l : ℕ) (right : (x : ℕ) → x < l 
   row-right ws e (Def n) h = size-of-none (def n) refl
   row-right ws e (TypeVar n) h = size-of-none (typevar n) refl
 
-module _ (ws zs : List ℕ) (n e : ℕ) (k : Listed ws n e) (room : n ≤ length zs) where
+module _ (ws zs : List ℕ) (n e : ℕ) (k : ListFine ws n e) (room : n ≤ length zs) where
   length-sizes : (m : ℕ) → length (sizesTo ws zs m) ≡ length zs
   unfolding sizesTo
   length-sizes zero = refl

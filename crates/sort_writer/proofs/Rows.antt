@@ -10,7 +10,7 @@ use Rattle.resolved_sort.specs.Checks.{rowFine, rowsFine}
 use Rattle.resolved_sort.proofs.Below.{below-each}
 use Rattle.resolved_sort.proofs.Fine.{run-inside}
 use Rattle.resolved_sort.proofs.RowTrees.{Within, read, by-kind}
-use Rattle.resolved_sort.specs.Growing.{Listed}
+use Rattle.resolved_sort.specs.Growing.{ListFine}
 use Rattle.resolved_sort.proofs.Interned.{row-below, look-tree}
 use Rattle.resolved_sort.proofs.Pairs.{sortOf, Below}
 
@@ -42,7 +42,7 @@ module _ (ws : List ℕ) (T : List Tree) (e i p s c : ℕ) where
       (λ w f. tt)
       k l
 
-module _ (ws : List ℕ) (n e : ℕ) (k : Listed ws n e) (i : ℕ) (h : i < n) where
+module _ (ws : List ℕ) (n e : ℕ) (k : ListFine ws n e) (i : ℕ) (h : i < n) where
   pub row-says : look (trees ws n) i ≡ sortOf ws (trees ws n) (rowAt ws i)
   row-says = look-tree ws n e k i h ∙ said ws (trees ws n) e i (partAt ws i) (startAt ws i) (countAt ws i) (kindAt ws i) (row-below ws n e k i h .known)
 

@@ -13,15 +13,15 @@ use Rattle.resolved_sort.proofs.Reached.{no-confusion}
 use Rattle.unification.specs.Nodes.{isSort, Binds, binding}
 use Rattle.unification.specs.Unify.{Unifies, yes-with, no-way, too-deep, and-then, Occurs, absent, present, unknown, follow, occurs, bindUnless, unifyAll, unifyHeads, unifyVariables, unifyShapes, unifyApart, unifyEnds, unifyFollowed, unifyTo, unify, deep, deeper}
 use Rattle.unification.proofs.Follow.{follow-end}
-use Rattle.unification.specs.Growing.{Extends}
+use Rattle.unification.specs.Growing.{BindsExtend}
 
-pub extends-refl : (B : Binds) → Extends B B
+pub extends-refl : (B : Binds) → BindsExtend B B
 extends-refl B = record { stays = λ u q e. e; long = refl }
 
-pub extends-trans : (B C D : Binds) → Extends B C → Extends C D → Extends B D
+pub extends-trans : (B C D : Binds) → BindsExtend B C → BindsExtend C D → BindsExtend B D
 extends-trans B C D x y = record { stays = λ u q e. y .stays u q (x .stays u q e); long = y .long ∙ x .long }
 
-extends-set : (B : Binds) (v r : ℕ) → binding B v ≡ none → Extends B (set B v (some r))
+extends-set : (B : Binds) (v r : ℕ) → binding B v ≡ none → BindsExtend B (set B v (some r))
 extends-set B v r free =
     record {
       stays = λ u q e. getD-set-other B v u (some r) none (λ i. let z : none ≡ some q = sym free ∙ (ap (binding B) (sym i) ∙ e) in no-confusion cc) ∙ e;
@@ -32,7 +32,7 @@ extends-set B v r free =
 abbrev Adds : Binds → Unifies → Type 0
 Adds B too-deep = Unit {0}
 Adds B no-way = Unit {0}
-Adds B (yes-with C) = Extends B C
+Adds B (yes-with C) = BindsExtend B C
 
 module _ (shape : ℕ → Shape) where
   all-adds : (f : Binds → ℕ → ℕ → Unifies) → ((B : Binds) (a b : ℕ) → Adds B (f B a b)) → (ps qs : List ℕ) (B : Binds) → Adds B (unifyAll shape f B ps qs)
@@ -41,7 +41,7 @@ module _ (shape : ℕ → Shape) where
   all-adds f h (p ∷ ps) [] B = tt
   all-adds f h (p ∷ ps) (q ∷ qs) B = go (f B p q) (h B p q) (all-adds f h ps qs)
     where
-      then : (C : Binds) → Extends B C → (a : Unifies) → Adds C a → Adds B a
+      then : (C : Binds) → BindsExtend B C → (a : Unifies) → Adds C a → Adds B a
       then C x too-deep y = tt
       then C x no-way y = tt
       then C x (yes-with D) y = extends-trans B C D x y
@@ -93,7 +93,7 @@ module _ (shape : ℕ → Shape) where
       followed (some p) x (some q) y ih = ends (eqb p q) p q (λ v. follow-end shape B w l p v x) (λ v. follow-end shape B w r q v y) ih
 
   -- A yes of unify extends the bindings: as many variables, and what was bound is bound to the same place.
-  pub unify-extends : (B : Binds) (l r : ℕ) (C : Binds) → unify shape B l r ≡ yes-with C → Extends B C
+  pub unify-extends : (B : Binds) (l r : ℕ) (C : Binds) → unify shape B l r ≡ yes-with C → BindsExtend B C
   unfolding unify
   unify-extends B l r C e = rw e at (unify-adds deep deeper B l r)
 

@@ -16,7 +16,7 @@ use Rattle.unification.specs.Unify.{Unifies, too-deep, no-way, yes-with,
 use Rattle.unification.proofs.Rank.{highest, rank, Ranked, rank-over}
 use Rattle.unification.proofs.Numbering.{numbered-ranked}
 use Rattle.unification.proofs.Enough.{follow-some}
-use Rattle.unification.specs.Exact.{Next, Kept}
+use Rattle.unification.specs.Exact.{Next, BindsKept}
 use Rattle.unification.proofs.Robinson.{next-trans, next-refl, unify-kept, depth-left, unify-known}
 
 pub frees-few : (B : Binds) → frees B ≤ length B
@@ -28,7 +28,7 @@ module _ (shape : ℕ → Shape) (K : ℕ) (lower : Lower shape K) (n : ℕ) (sc
   abbrev ranks : (B : Binds) → Numbering shape n B → Ranked shape w B
   ranks B N = numbered-ranked shape K lower n B N w deep
 
-  list-agrees : (f g : Binds → ℕ → ℕ → Unifies) → ((B : Binds) (a b : ℕ) → length B ≡ n → Numbering shape n B → Kept shape n B (f B a b))
+  list-agrees : (f g : Binds → ℕ → ℕ → Unifies) → ((B : Binds) (a b : ℕ) → length B ≡ n → Numbering shape n B → BindsKept shape n B (f B a b))
       → (B : Binds) (m : ℕ)
       → ((C : Binds) → length C ≡ n → Next shape n B C → (a b : ℕ) → rank shape w B a < m → g C a b ≡ f C a b)
       → (xs ys : List ℕ) (C : Binds) → length C ≡ n → Next shape n B C → highest (rank shape w B) xs < suc m → unifyAll shape g C xs ys ≡ unifyAll shape f C xs ys
@@ -38,7 +38,7 @@ module _ (shape : ℕ → Shape) (K : ℕ) (lower : Lower shape K) (n : ℕ) (sc
   list-agrees f g kept B m ih (x ∷ xs) (y ∷ ys) C len N lt =
       rw (ih C len N x y (omega arith)) (go (f C x y) (kept C x y len (N .numbering)) (list-agrees f g kept B m ih xs ys))
     where
-      go : (r : Unifies) → Kept shape n C r
+      go : (r : Unifies) → BindsKept shape n C r
           → ((D : Binds) → length D ≡ n → Next shape n B D → highest (rank shape w B) xs < suc m → unifyAll shape g D xs ys ≡ unifyAll shape f D xs ys)
           → and-then r (λ D. unifyAll shape g D xs ys) ≡ and-then r (λ D. unifyAll shape f D xs ys)
       go too-deep K t = refl

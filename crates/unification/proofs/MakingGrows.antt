@@ -18,7 +18,7 @@ use Rattle.resolved_sort.specs.Bounds.{internAt}
 use Rattle.resolved_sort.proofs.Numbers.{look-number, number-below, member-look}
 use Rattle.resolved_sort.proofs.Trees.{length-trees}
 use Rattle.resolved_sort.proofs.Grown.{grown-none}
-use Rattle.resolved_sort.specs.Growing.{Kept, InTree, Answers}
+use Rattle.resolved_sort.specs.Growing.{SortsKept, InTree, Answers}
 use Rattle.resolved_sort.proofs.Kept.{container-interned}
 use Rattle.resolved_sort.proofs.Made.{intern-answers}
 use Rattle.unification.specs.Term.{functionHead, Shape, over}
@@ -95,14 +95,14 @@ module _ (W : Lent) (c : CheckedLent W) (o : ComplexSort) (s : ℕ) (l : s < W .
   abbrev new : Tree
   new = container o (look T s)
 
-  interned : Kept (W .sorts) n e InTree (sortsOf (W .sorts) n e) (intern new (sortsOf (W .sorts) n e))
+  interned : SortsKept (W .sorts) n e InTree (sortsOf (W .sorts) n e) (intern new (sortsOf (W .sorts) n e))
   interned =
       container-interned (W .sorts) n e o (look T s) (sortsOf (W .sorts) n e) (grown-none (W .sorts) n e (c .sorts))
       (member-look T s (omega (arith, l, length-trees (W .sorts) n)))
 
-  sort-made : (O : Outcome Tree) → Kept (W .sorts) n e InTree (sortsOf (W .sorts) n e) O → Answers (some new) O
+  sort-made : (O : Outcome Tree) → SortsKept (W .sorts) n e InTree (sortsOf (W .sorts) n e) O → Answers (some new) O
       → MadeFrom (IsSort new) W (withSorts W (stored (W .sorts) n e O) (stored (W .sorts) n e O .answer))
-  unfolding MadeFrom Kept Answers stored
+  unfolding MadeFrom SortsKept Answers stored
   sort-made (has-made t S) k a =
       let b : new ≡ t = cc in
       (sorts-grow W c S (k .0), (number-below (S .trees) t (k .2), ap (λ U. look U (number (S .trees) t)) (k .0 .reads) ∙ (look-number (S .trees) t (k .2) ∙ sym b)))

@@ -13,7 +13,7 @@ use Rattle.unification.specs.Acyclic.{Numbering}
 use Rattle.unification.specs.Solutions.{valueBound, termAt, Respects, Equates, Robinson, says-yes}
 use Rattle.unification.specs.Resolve.{value, general}
 use Rattle.unification.specs.Making.{Lent, graph}
-use Rattle.unification.specs.Exact.{Model, Kept}
+use Rattle.unification.specs.Exact.{Model, BindsKept}
 use Rattle.unification.proofs.Rank.{Ranked}
 use Rattle.unification.proofs.Numbering.{numbered-ranked}
 use Rattle.unification.proofs.Enough.{model}
@@ -75,7 +75,7 @@ module _ (W : Lent) (c : CheckedLent W) where
     pub numbered-after : Numbering (graph W) (W .lengths .variables) C
     unfolding unify
     numbered-after =
-        subst (Kept (graph W) v B) y (unify-kept (graph W) 3072 (lower ws n e ns m d v c) v (scoped ws n e ns m d v c) deep (deep-enough ws n e ns m d v c) deeper B l r (b .many) (b .numbered)) .numbering
+        subst (BindsKept (graph W) v B) y (unify-kept (graph W) 3072 (lower ws n e ns m d v c) v (scoped ws n e ns m d v c) deep (deep-enough ws n e ns m d v c) deeper B l r (b .many) (b .numbered)) .numbering
 
     pub unify-most-general : (Respects (graph W) B (general (graph W) C) × Equates (graph W) (general (graph W) C) l r)
         × ((σ : ℕ → Term) → Respects (graph W) B σ → Equates (graph W) σ l r → (u : ℕ) → σ u ≡ substitute σ (general (graph W) C u))

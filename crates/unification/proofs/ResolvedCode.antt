@@ -22,7 +22,7 @@ use Rattle.resolved_sort.specs.Rows.{Checked, storedAt, AllBelow}
 use Rattle.resolved_sort.specs.Bounds.{internAt}
 use Rattle.resolved_sort.specs.Inner.Bounds.{storedDomain, domainOf}
 use Rattle.resolved_sort.proofs.RowTrees.{weaken-all, lookAll-numbers, numbers-below}
-use Rattle.resolved_sort.specs.Growing.{partsIn, members, Grown, Extends, Kept, InTree}
+use Rattle.resolved_sort.specs.Growing.{partsIn, members, Grown, SortsExtend, SortsKept, InTree}
 use Rattle.resolved_sort.proofs.Append.{length-numbers}
 use Rattle.resolved_sort.proofs.Grown.{grown-none, after-none, sorts-again}
 use Rattle.resolved_sort.proofs.Kept.{extends-refl, member-extends, members-extends, InTrees, kept-then, intern-kept}
@@ -139,16 +139,16 @@ resolve-function d ts r S =
 
 -- the list after the arguments
 module _ (ws : List ℕ) (n e : ℕ) where
-  none-kept : (S : Sorts) → Grown ws n e S → Kept ws n e (InTrees 0) S (made no-args S)
-  unfolding Kept members arity
+  none-kept : (S : Sorts) → Grown ws n e S → SortsKept ws n e (InTrees 0) S (made no-args S)
+  unfolding SortsKept members arity
   none-kept S g = (g, extends-refl S, (refl, refl))
 
-  one-kept : (u : Tree) (k : ℕ) (S₀ S : Sorts) → InTree S₀ u → Grown ws n e S → Extends S₀ S → (us : Trees) → InTrees k S us → Kept ws n e (InTrees (suc k)) S (made (arg u us) S)
-  unfolding Kept members arity
+  one-kept : (u : Tree) (k : ℕ) (S₀ S : Sorts) → InTree S₀ u → Grown ws n e S → SortsExtend S₀ S → (us : Trees) → InTrees k S us → SortsKept ws n e (InTrees (suc k)) S (made (arg u us) S)
+  unfolding SortsKept members arity
   one-kept u k S₀ S m g x us h =
       (g, extends-refl S, (and-eq-true-iff (member (S .trees) u) (members (S .trees) us) .1 (member-extends S₀ S u x m, h .0), omega (arith, h .1)))
 
-  pub arguments-kept : (d : Option Tree) (ts : Terms) (S : Sorts) → Grown ws n e S → DefaultIn d S → AllFormed ts → Kept ws n e (InTrees (count ts)) S (resolveArguments d ts S)
+  pub arguments-kept : (d : Option Tree) (ts : Terms) (S : Sorts) → Grown ws n e S → DefaultIn d S → AllFormed ts → SortsKept ws n e (InTrees (count ts)) S (resolveArguments d ts S)
   unfolding resolveArguments AllFormed count
   arguments-kept d no-part S g i f = none-kept S g
   arguments-kept d (part t ts) S g i f =
@@ -185,7 +185,7 @@ module _ (ws : List ℕ) (C : Counts) (k : Checked ws (C .sorts) (C .entries)) (
     abbrev one : Outcome Tree
     one = resolveTerm x t S
 
-    one-is-kept : Kept ws n e InTree S one
+    one-is-kept : SortsKept ws n e InTree S one
     one-is-kept = resolve-kept ws n e x t S (grown-none ws n e k) i f
 
     part-stopped : (K : Counts) → r ≡ Nothing K → (S₁ : Sorts) × (one ≡ nothing S₁) × (vs ≡ after ws n e S₁) × (K ≡ countsOf S₁)
@@ -269,7 +269,7 @@ module _ (ws : List ℕ) (C : Counts) (k : Checked ws (C .sorts) (C .entries)) (
     abbrev functionTerm : Term
     functionTerm = app (functionHead (count ts)) (withLast ts t)
 
-    arguments-are-kept : Kept ws n e (InTrees (count ts)) S arguments
+    arguments-are-kept : SortsKept ws n e (InTrees (count ts)) S arguments
     arguments-are-kept = arguments-kept ws n e x ts S (grown-none ws n e k) i fs
 
     module _ (vs : List ℕ) (a : Domain) (q : storedDomain vs a ≡ domainOf ws n e 0 (replicate 16 0) arguments) where
@@ -309,7 +309,7 @@ module _ (ws : List ℕ) (C : Counts) (k : Checked ws (C .sorts) (C .entries)) (
         arguments-list : sortsOf vs (K .sorts) (K .entries) ≡ S₁
         arguments-list = left-reads ws n e S₁ (arguments-reached .grown) vs K (arguments-reached .words) (arguments-reached .counted)
 
-        range-kept : Kept w₁ n₁ e₁ InTree S₁ (range S₁)
+        range-kept : SortsKept w₁ n₁ e₁ InTree S₁ (range S₁)
         range-kept = resolve-kept w₁ n₁ e₁ x t S₁ grown-here default-here f
 
         function-then : resolveTerm x functionTerm S ≡ (range S₁ then (λ u S. intern (function (arguments-reached .args) u) S))

@@ -14,7 +14,7 @@ use Rattle.resolved_sort.specs.Interning.{Sorts, look, number, member, need, ma
 use Rattle.resolved_sort.specs.Storage.{maxEntries, trees}
 use Rattle.resolved_sort.specs.Entries.{after}
 use Rattle.resolved_sort.proofs.Numbers.{look-number, number-below}
-use Rattle.resolved_sort.specs.Growing.{partsIn, members, Grown, Extends, Kept, InTree, Whole, Wholes}
+use Rattle.resolved_sort.specs.Growing.{partsIn, members, Grown, SortsExtend, SortsKept, InTree, Whole, Wholes}
 use Rattle.resolved_sort.proofs.Grown.{grown-none, sorts-again}
 use Rattle.resolved_sort.proofs.Kept.{extends-refl, member-extends, kept-then, intern-kept, container-interned, function-interned}
 use Rattle.resolved_sort.proofs.Stored.{look-whole}
@@ -56,7 +56,7 @@ abbrev pub DefaultIn : Option Tree → Sorts → Type 0
 DefaultIn none S = Unit {0}
 DefaultIn (some t) S = InTree S t
 
-pub default-extends : (d : Option Tree) (S S′ : Sorts) → Extends S S′ → DefaultIn d S → DefaultIn d S′
+pub default-extends : (d : Option Tree) (S S′ : Sorts) → SortsExtend S S′ → DefaultIn d S → DefaultIn d S′
 default-extends none S S′ x i = tt
 default-extends (some t) S S′ x i = member-extends S S′ t x i
 
@@ -80,7 +80,7 @@ one-in T (u ∷ us) (suc k) l a = one-in T us k (omega arith) (a .1)
 
 module _ (ws : List ℕ) (n e : ℕ) where
   -- a head interned over sorts of the list
-  pub head-interned : (h : Head) (us : List Tree) (k : ℕ) (S : Sorts) → Grown ws n e S → HeadOver h k → InLists k S us → Kept ws n e InTree S (intern (treeOver h us) S)
+  pub head-interned : (h : Head) (us : List Tree) (k : ℕ) (S : Sorts) → Grown ws n e S → HeadOver h k → InLists k S us → SortsKept ws n e InTree S (intern (treeOver h us) S)
   unfolding treeOver partsIn need
   head-interned (flatHead a) us k S g o m = intern-kept ws n e S g (flat a) refl (omega arith)
   head-interned (containerHead q) us k S g o m = container-interned ws n e q (getD us 0 (flat unit)) S g (one-in (S .trees) us 0 (omega (arith, o, m .1)) (m .0))
@@ -89,29 +89,29 @@ module _ (ws : List ℕ) (n e : ℕ) where
       (one-in (S .trees) us j (omega (arith, o .0, m .1)) (m .0))
   head-interned (strayHead x) us k S g o m = absurd o
 
-  none-resolved : (S : Sorts) → Grown ws n e S → Kept ws n e (InLists 0) S (made [] S)
-  unfolding Kept AllIn
+  none-resolved : (S : Sorts) → Grown ws n e S → SortsKept ws n e (InLists 0) S (made [] S)
+  unfolding SortsKept AllIn
   none-resolved S g = (g, extends-refl S, (tt, refl))
 
-  one-resolved : (u : Tree) (k : ℕ) (S₀ S : Sorts) → InTree S₀ u → Grown ws n e S → Extends S₀ S → (us : List Tree) → InLists k S us → Kept ws n e (InLists (suc k)) S (made (u ∷ us) S)
-  unfolding Kept AllIn
+  one-resolved : (u : Tree) (k : ℕ) (S₀ S : Sorts) → InTree S₀ u → Grown ws n e S → SortsExtend S₀ S → (us : List Tree) → InLists k S us → SortsKept ws n e (InLists (suc k)) S (made (u ∷ us) S)
+  unfolding SortsKept AllIn
   one-resolved u k S₀ S m g x us a = (g, extends-refl S, ((member-extends S₀ S u x m, a .0), ap suc (a .1)))
 
-  default-kept : (d : Option Tree) (v : ℕ) (S : Sorts) → Grown ws n e S → DefaultIn d S → Kept ws n e InTree S (resolveTerm d (var v) S)
-  unfolding Kept resolveTerm
+  default-kept : (d : Option Tree) (v : ℕ) (S : Sorts) → Grown ws n e S → DefaultIn d S → SortsKept ws n e InTree S (resolveTerm d (var v) S)
+  unfolding SortsKept resolveTerm
   default-kept none v S g i = (g, extends-refl S)
   default-kept (some t) v S g i = (g, extends-refl S, i)
 
   mutual
     unfolding resolveTerm resolveTerms Formed AllFormed count
 
-    pub resolve-kept : (d : Option Tree) (t : Term) (S : Sorts) → Grown ws n e S → DefaultIn d S → Formed t → Kept ws n e InTree S (resolveTerm d t S)
+    pub resolve-kept : (d : Option Tree) (t : Term) (S : Sorts) → Grown ws n e S → DefaultIn d S → Formed t → SortsKept ws n e InTree S (resolveTerm d t S)
     resolve-kept d (var v) S g i f = default-kept d v S g i
     resolve-kept d (app h ts) S g i f =
         kept-then ws n e (InLists (count ts)) InTree S (resolveTerms d ts S) _ (resolves-kept d ts S g i (f .1))
         (λ us S₁ g₁ x₁ m. head-interned h us (count ts) S₁ g₁ (f .0) m)
 
-    pub resolves-kept : (d : Option Tree) (ts : Terms) (S : Sorts) → Grown ws n e S → DefaultIn d S → AllFormed ts → Kept ws n e (InLists (count ts)) S (resolveTerms d ts S)
+    pub resolves-kept : (d : Option Tree) (ts : Terms) (S : Sorts) → Grown ws n e S → DefaultIn d S → AllFormed ts → SortsKept ws n e (InLists (count ts)) S (resolveTerms d ts S)
     resolves-kept d no-part S g i f = none-resolved S g
     resolves-kept d (part t ts) S g i f =
         kept-then ws n e InTree (InLists (suc (count ts))) S (resolveTerm d t S) _ (resolve-kept d t S g i (f .0))

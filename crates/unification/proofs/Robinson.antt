@@ -22,7 +22,7 @@ use Rattle.unification.proofs.Follow.{follow-end}
 use Rattle.unification.proofs.Numbering.{numbered-ranked}
 use Rattle.unification.proofs.Enough.{follow-some, occurs-eq, occurs-known}
 use Rattle.unification.proofs.Binding.{binding-numbered}
-use Rattle.unification.specs.Exact.{Next, Kept}
+use Rattle.unification.specs.Exact.{Next, BindsKept}
 
 pub next-trans : (shape : ℕ → Shape) (n : ℕ) (B C D : Binds) → Next shape n B C → Next shape n C D → Next shape n B D
 next-trans shape n B C D x y = record { numbering = y .numbering; long = y .long ∙ x .long; fewer = go (x .fewer) (y .fewer) }
@@ -45,82 +45,82 @@ module _ (shape : ℕ → Shape) (K : ℕ) (lower : Lower shape K) (n : ℕ) (sc
       let e = frees-set B v r lt free in
       record { numbering = binding-numbered shape K lower n scoped w deep B N v r free lt o; long = length-set B v (some r); fewer = inr (omega arith) }
 
-  list-kept : (f : Binds → ℕ → ℕ → Unifies) → ((B : Binds) (a b : ℕ) → length B ≡ n → Numbering shape n B → Kept shape n B (f B a b))
-      → (xs ys : List ℕ) (B : Binds) → length B ≡ n → Numbering shape n B → Kept shape n B (unifyAll shape f B xs ys)
+  list-kept : (f : Binds → ℕ → ℕ → Unifies) → ((B : Binds) (a b : ℕ) → length B ≡ n → Numbering shape n B → BindsKept shape n B (f B a b))
+      → (xs ys : List ℕ) (B : Binds) → length B ≡ n → Numbering shape n B → BindsKept shape n B (unifyAll shape f B xs ys)
   list-kept f ih [] [] B len N = next-refl shape n B N
   list-kept f ih [] (y ∷ ys) B len N = tt
   list-kept f ih (x ∷ xs) [] B len N = tt
   list-kept f ih (x ∷ xs) (y ∷ ys) B len N = go (f B x y) (ih B x y len N) (list-kept f ih xs ys)
     where
-      then : (C : Binds) → Next shape n B C → (r : Unifies) → Kept shape n C r → Kept shape n B r
+      then : (C : Binds) → Next shape n B C → (r : Unifies) → BindsKept shape n C r → BindsKept shape n B r
       then C x too-deep y = tt
       then C x no-way y = tt
       then C x (yes-with D) y = next-trans shape n B C D x y
 
-      go : (r : Unifies) → Kept shape n B r → ((C : Binds) → length C ≡ n → Numbering shape n C → Kept shape n C (unifyAll shape f C xs ys))
-          → Kept shape n B (and-then r (λ C. unifyAll shape f C xs ys))
+      go : (r : Unifies) → BindsKept shape n B r → ((C : Binds) → length C ≡ n → Numbering shape n C → BindsKept shape n C (unifyAll shape f C xs ys))
+          → BindsKept shape n B (and-then r (λ C. unifyAll shape f C xs ys))
       go too-deep x t = tt
       go no-way x t = tt
       go (yes-with C) x t = then C x (unifyAll shape f C xs ys) (t C (x .long ∙ len) (x .numbering))
 
-  bind-kept : (B : Binds) → Numbering shape n B → (v r : ℕ) → v < length B → binding B v ≡ none → Kept shape n B (bindUnless shape (occurs shape w B v r) B v r)
+  bind-kept : (B : Binds) → Numbering shape n B → (v r : ℕ) → v < length B → binding B v ≡ none → BindsKept shape n B (bindUnless shape (occurs shape w B v r) B v r)
   bind-kept B N v r lt free = go (occurs shape w B v r) refl
     where
-      go : (a : Occurs) → occurs shape w B v r ≡ a → Kept shape n B (bindUnless shape a B v r)
+      go : (a : Occurs) → occurs shape w B v r ≡ a → BindsKept shape n B (bindUnless shape a B v r)
       go unknown o = tt
       go present o = tt
       go absent o = bound-next B N v r lt free o
 
   vars-kept : (B : Binds) → Numbering shape n B → (v u r : ℕ) → v < length B → binding B v ≡ none → binding B u ≡ none → shape r ≡ variable u
-      → Kept shape n B (unifyVariables shape (eqb v u) B v r)
+      → BindsKept shape n B (unifyVariables shape (eqb v u) B v r)
   vars-kept B N v u r lt free fr sr = go (eqb v u) refl
     where
-      go : (b : Bool) → eqb v u ≡ b → Kept shape n B (unifyVariables shape b B v r)
+      go : (b : Bool) → eqb v u ≡ b → BindsKept shape n B (unifyVariables shape b B v r)
       go true e = next-refl shape n B N
       go false e =
           let o : occurs shape w B v r ≡ absent = occurs-eq shape w B (ranks B N) v r ∙ rw sr (rw fr (rw e)) in
           bound-next B N v r lt free o
 
-  ends-kept : (f : Binds → ℕ → ℕ → Unifies) → ((B : Binds) (a b : ℕ) → length B ≡ n → Numbering shape n B → Kept shape n B (f B a b))
+  ends-kept : (f : Binds → ℕ → ℕ → Unifies) → ((B : Binds) (a b : ℕ) → length B ≡ n → Numbering shape n B → BindsKept shape n B (f B a b))
       → (B : Binds) → length B ≡ n → Numbering shape n B → (l r : ℕ) (s t : Shape) → shape l ≡ s → shape r ≡ t
       → ((v : ℕ) → shape l ≡ variable v → binding B v ≡ none) → ((v : ℕ) → shape r ≡ variable v → binding B v ≡ none)
-      → Kept shape n B (unifyShapes shape w f B l s r t)
+      → BindsKept shape n B (unifyShapes shape w f B l s r t)
   ends-kept f ih B len N l r (variable v) (variable u) sl sr fl fr = vars-kept B N v u r (rw len (scoped l v sl)) (fl v sl) (fr u sr) sr
   ends-kept f ih B len N l r (variable v) (over h ps) sl sr fl fr = bind-kept B N v r (rw len (scoped l v sl)) (fl v sl)
   ends-kept f ih B len N l r (over h ps) (variable u) sl sr fl fr = bind-kept B N u l (rw len (scoped r u sr)) (fr u sr)
   ends-kept f ih B len N l r (over h ps) (over g qs) sl sr fl fr = go (sameHead h g)
     where
-      go : (b : Bool) → Kept shape n B (unifyHeads shape b f B ps qs)
+      go : (b : Bool) → BindsKept shape n B (unifyHeads shape b f B ps qs)
       go true = list-kept f ih ps qs B len N
       go false = tt
 
-  end-kept : (f : Binds → ℕ → ℕ → Unifies) → ((B : Binds) (a b : ℕ) → length B ≡ n → Numbering shape n B → Kept shape n B (f B a b))
+  end-kept : (f : Binds → ℕ → ℕ → Unifies) → ((B : Binds) (a b : ℕ) → length B ≡ n → Numbering shape n B → BindsKept shape n B (f B a b))
       → (B : Binds) → length B ≡ n → Numbering shape n B → (l r : ℕ)
       → ((v : ℕ) → shape l ≡ variable v → binding B v ≡ none) → ((v : ℕ) → shape r ≡ variable v → binding B v ≡ none)
-      → (b : Bool) → Kept shape n B (unifyEnds shape b w f B l r)
+      → (b : Bool) → BindsKept shape n B (unifyEnds shape b w f B l r)
   end-kept f ih B len N l r fl fr true = next-refl shape n B N
   end-kept f ih B len N l r fl fr false = go (isSort l && isSort r)
     where
-      go : (c : Bool) → Kept shape n B (unifyApart shape c w f B l r)
+      go : (c : Bool) → BindsKept shape n B (unifyApart shape c w f B l r)
       go true = tt
       go false = ends-kept f ih B len N l r (shape l) (shape r) refl refl fl fr
 
   -- a yes keeps the variables numbered
-  pub unify-kept : (k : ℕ) (B : Binds) (l r : ℕ) → length B ≡ n → Numbering shape n B → Kept shape n B (unifyTo shape w k B l r)
+  pub unify-kept : (k : ℕ) (B : Binds) (l r : ℕ) → length B ≡ n → Numbering shape n B → BindsKept shape n B (unifyTo shape w k B l r)
   unfolding unifyTo
   unify-kept zero B l r len N = tt
   unify-kept (suc k) B l r len N = go (follow shape w B l) refl (follow shape w B r) refl (unify-kept k)
     where
       go : (a : Option ℕ) → follow shape w B l ≡ a → (b : Option ℕ) → follow shape w B r ≡ b
-          → ((B : Binds) (a b : ℕ) → length B ≡ n → Numbering shape n B → Kept shape n B (unifyTo shape w k B a b))
-          → Kept shape n B (unifyFollowed shape w (unifyTo shape w k) B a b)
+          → ((B : Binds) (a b : ℕ) → length B ≡ n → Numbering shape n B → BindsKept shape n B (unifyTo shape w k B a b))
+          → BindsKept shape n B (unifyFollowed shape w (unifyTo shape w k) B a b)
       go none el b er ih = tt
       go (some l′) el none er ih = tt
       go (some l′) el (some r′) er ih =
           end-kept (unifyTo shape w k) ih B len N l′ r′ (λ v. follow-end shape B w l l′ v el) (λ v. follow-end shape B w r r′ v er) (eqb l′ r′)
 
   -- The depth is enough where it covers the free variables times w, and the rank of the left place.
-  list-known : (f : Binds → ℕ → ℕ → Unifies) → ((B : Binds) (a b : ℕ) → length B ≡ n → Numbering shape n B → Kept shape n B (f B a b))
+  list-known : (f : Binds → ℕ → ℕ → Unifies) → ((B : Binds) (a b : ℕ) → length B ≡ n → Numbering shape n B → BindsKept shape n B (f B a b))
       → (B : Binds) (m : ℕ)
       → ((C : Binds) → length C ≡ n → Next shape n B C → (a b : ℕ) → rank shape w B a < m → f C a b ≡ too-deep → ⊥)
       → (xs ys : List ℕ) (C : Binds) → length C ≡ n → Next shape n B C → highest (rank shape w B) xs < suc m → unifyAll shape f C xs ys ≡ too-deep → ⊥
@@ -129,7 +129,7 @@ module _ (shape : ℕ → Shape) (K : ℕ) (lower : Lower shape K) (n : ℕ) (sc
   list-known f kept B m ih (x ∷ xs) [] C len N lt e = no-confusion (cc)
   list-known f kept B m ih (x ∷ xs) (y ∷ ys) C len N lt e = go (f C x y) refl (kept C x y len (N .numbering)) e (list-known f kept B m ih xs ys)
     where
-      go : (r : Unifies) → f C x y ≡ r → Kept shape n C r → and-then r (λ D. unifyAll shape f D xs ys) ≡ too-deep
+      go : (r : Unifies) → f C x y ≡ r → BindsKept shape n C r → and-then r (λ D. unifyAll shape f D xs ys) ≡ too-deep
           → ((D : Binds) → length D ≡ n → Next shape n B D → highest (rank shape w B) xs < suc m → unifyAll shape f D xs ys ≡ too-deep → ⊥) → ⊥
       go too-deep i z e t = ih C len N x y (omega arith) i
       go no-way i z e t = no-confusion (cc)

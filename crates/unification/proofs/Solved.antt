@@ -10,7 +10,7 @@ use Rattle.unification.specs.Nodes.{Binds, binding}
 use Rattle.unification.specs.Unify.{Unifies, too-deep, no-way, yes-with, unifyTo}
 use Rattle.unification.specs.Acyclic.{Reaches, here, inside, beyond, Acyclic, Numbering, Lower}
 use Rattle.unification.specs.Solutions.{termOfShape, termTo, termAt, valueBound, valueTo, Respects, Robinson, says-no, says-yes}
-use Rattle.unification.specs.Exact.{shapeVal, Model, Exact, Apart, Kept}
+use Rattle.unification.specs.Exact.{shapeVal, Model, Exact, Apart, BindsKept}
 use Rattle.unification.proofs.Exact.{unify-exact}
 use Rattle.unification.proofs.Rank.{rank, Ranked, rank-var, rank-over, one-highest}
 use Rattle.unification.proofs.Parts.{termsAt-agree, puts-agree}
@@ -93,7 +93,7 @@ module _ (shape : ℕ → Shape) (K : ℕ) (lower : Lower shape K) where
           go (unifyTo shape w x B l r) (unify-exact shape apart n scoped w x B l r len) (unify-kept shape K lower n scoped w deep x B l r len N)
           (unify-answers shape K lower n scoped w deep x deeper B l r len N)
         where
-          go : (a : Unifies) → Exact shape B (λ val. val l ≡ val r) a → Kept shape n B a → (a ≡ too-deep → ⊥) → Robinson shape B l r a
+          go : (a : Unifies) → Exact shape B (λ val. val l ≡ val r) a → BindsKept shape n B a → (a ≡ too-deep → ⊥) → Robinson shape B l r a
           go too-deep e k z = absurd (z refl)
           go no-way e k z = says-no (λ σ m q. e σ (value σ) (model-of B σ m) q)
           go (yes-with C) e k z =

@@ -21,7 +21,7 @@ use Rattle.resolved_sort.proofs.Below.{below-each, each-below}
 use Rattle.resolved_sort.proofs.Numbers.{look-number, number-below}
 use Rattle.resolved_sort.proofs.RowTrees.{row-within}
 use Rattle.resolved_sort.proofs.Fine.{run-inside, row-fine}
-use Rattle.resolved_sort.specs.Growing.{Agrees, Grown, Kept, InTree}
+use Rattle.resolved_sort.specs.Growing.{Agrees, Grown, SortsKept, InTree}
 use Rattle.resolved_sort.proofs.Append.{rows-agree, trees-agree}
 use Rattle.resolved_sort.proofs.Unchanged.{longer, unchanged, length-after}
 use Rattle.unification.specs.Making.{Lent}
@@ -80,9 +80,9 @@ module _ (W : Lent) (c : CheckedLent W) where
     old-sorts-grow = agreeing-sorts-grow W c us n e old-checked (omega arith) (omega arith) (length-after ws n e (c .sorts) S g) old
 
   module _ (P : Tree → Type 0) (N : Type 0) where
-    pub left-by : (S₀ : Sorts) (O : Outcome Tree) → Kept ws n e InTree S₀ O → ((t : Tree) (S : Sorts) → O ≡ made t S → P t) → ((S : Sorts) → O ≡ nothing S → N)
+    pub left-by : (S₀ : Sorts) (O : Outcome Tree) → SortsKept ws n e InTree S₀ O → ((t : Tree) (S : Sorts) → O ≡ made t S → P t) → ((S : Sorts) → O ≡ nothing S → N)
         → Leaves P N W (stored ws n e O .words) (stored ws n e O .answer)
-    unfolding Leaves Kept stored
+    unfolding Leaves SortsKept stored
     left-by S₀ (made t S) k h f = (
       sorts-grow W c S (k .0),
       (number-below (S .trees) t (k .2), subst P (sym (ap (λ T. look T (number (S .trees) t)) (k .0 .reads) ∙ look-number (S .trees) t (k .2))) (h t S refl)),

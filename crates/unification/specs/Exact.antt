@@ -39,7 +39,7 @@ pub record Next (shape : ℕ → Shape) (n : ℕ) (B C : Binds) : Type 0 where
   pub long : length C ≡ length B
   pub fewer : (C ≡ B) ⊎ (frees C < frees B)
 
-abbrev pub Kept : (ℕ → Shape) → ℕ → Binds → Unifies → Type 0
-Kept shape n B too-deep = Unit {0}
-Kept shape n B no-way = Unit {0}
-Kept shape n B (yes-with C) = Next shape n B C
+abbrev pub BindsKept : (ℕ → Shape) → ℕ → Binds → Unifies → Type 0
+BindsKept shape n B too-deep = Unit {0}
+BindsKept shape n B no-way = Unit {0}
+BindsKept shape n B (yes-with C) = Next shape n B C

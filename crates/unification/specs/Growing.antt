@@ -63,7 +63,7 @@ abbrev pub ReadsAs : Lent → List ℕ → Type 0
 ReadsAs W us = Agrees (W .sorts) us (W .lengths .sorts) (W .lengths .entries) × (length us ≡ length (W .sorts))
 
 -- C binds what B binds, in the same way, and as many variables
-pub record Extends (B C : Binds) : Type 0 where
+pub record BindsExtend (B C : Binds) : Type 0 where
   pub stays : (u q : ℕ) → binding B u ≡ some q → binding C u ≡ some q
   pub long : length C ≡ length B
 

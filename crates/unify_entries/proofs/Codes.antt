@@ -16,9 +16,9 @@ use Rattle.unification.specs.NodeChecks.{nodeChecks, placeChecks, unifyChecks}
 use Rattle.unification.specs.Checked.{listsOf}
 use Rattle.unification.specs.UnifyEntry.{BindsLeft, bindsLeft, bindsLeftBy, unifyEntry, codeUnified, packUnified}
 use Rattle.resolved_sort.proofs.FailingNumber.{failing-number}
-use Rattle.unify_entries.specs.Codes.{Told, yesUnified}
+use Rattle.unify_entries.specs.Codes.{UnifiedWithin, yesUnified}
 
-left-told : (bs : List ℕ) (v : ℕ) (a : Unifies) → (codeUnified ((bindsLeftBy bs v a) .answer) ≡ 0) × Told ((bindsLeftBy bs v a) .answer)
+left-told : (bs : List ℕ) (v : ℕ) (a : Unifies) → (codeUnified ((bindsLeftBy bs v a) .answer) ≡ 0) × UnifiedWithin ((bindsLeftBy bs v a) .answer)
 unfolding bindsLeftBy codeUnified
 left-told bs v (yes-with C) = (refl, tt)
 left-told bs v no-way = (refl, tt)
@@ -45,11 +45,11 @@ module _ (ws : List ℕ) (n e : ℕ) (ns : List ℕ) (m d : ℕ) (bs : List ℕ)
       ((omega arith, omega arith), ((omega arith, omega arith), ((omega arith, omega arith), ((omega arith, omega arith), ((omega arith, omega arith), ((omega arith, omega arith), ((omega arith, omega arith), ((omega arith, omega arith), ((omega arith, omega arith), tt)))))))))
       x
 
-  pub entry-told : Told ((unifyEntry ws n e ns m d bs v l r) .answer)
+  pub entry-told : UnifiedWithin ((unifyEntry ws n e ns m d bs v l r) .answer)
   unfolding unifyEntry
   entry-told = go failing refl
     where
-      go : (o : Option ℕ) → failing ≡ o → Told ((refusedOr o (λ c. bindsLeft bs (Refused c)) answered) .answer)
+      go : (o : Option ℕ) → failing ≡ o → UnifiedWithin ((refusedOr o (λ c. bindsLeft bs (Refused c)) answered) .answer)
       go none x = left-told bs v (unify (shapeAt (listsOf ws n ns m)) (bindsOf bs v) l r) .1
       go (some c) x = refused-by-number c x
 
@@ -60,7 +60,7 @@ unified-packed Yes = refl
 unified-packed No = refl
 
 -- the packed answer tells the answers apart
-pub packed-tells : (u w : Unified) → Told u → Told w → packUnified u ≡ packUnified w → u ≡ w
+pub packed-tells : (u w : Unified) → UnifiedWithin u → UnifiedWithin w → packUnified u ≡ packUnified w → u ≡ w
 unfolding packUnified
 packed-tells (Refused c) (Refused k) x y e = ap Refused e
 packed-tells (Refused c) Yes x y e = absurd (omega (arith, x .1, e))

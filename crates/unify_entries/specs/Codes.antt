@@ -5,10 +5,10 @@ use Rattle.unification.specs.declared.Unified.the-variants.{Refused, Yes, No}
 use Rattle.resolved_sort.specs.Checks.{Numbered}
 
 -- a refusal has the number of a check
-abbrev pub Told : Unified → Type 0
-Told (Refused c) = Numbered c
-Told Yes = Unit {0}
-Told No = Unit {0}
+abbrev pub UnifiedWithin : Unified → Type 0
+UnifiedWithin (Refused c) = Numbered c
+UnifiedWithin Yes = Unit {0}
+UnifiedWithin No = Unit {0}
 
 -- 1 for a yes
 abbrev pub yesUnified : Unified → ℕ

@@ -1,6 +1,6 @@
 -- Comma, expression, space and position. Assumes nothing.
 use Rattle.text_out.proofs.Within as law
-use Rattle.list_verdict.specs.Text.{name, choice}
+use Rattle.list_verdict.specs.Text.{name, choiceText}
 use Rattle.text_out.specs.Decimal.{decimal}
 use mathlib.Core.Path.{ap}
 use borrow.Author.Needs.{needs}
@@ -35,7 +35,7 @@ same-length : tie.Need-same-length
 same-length c = search needs
 
 returns : tie.Need-returns
-unfolding choice
+unfolding choiceText
 returns c = law.put-then (c .before .before .before .before .before .before .before .before .before .before .before .before .before .before .before .before .put-comma .ensures) (law.put-then (law.put-as (ap (name 101) (c .before .before .before .before .before .before .before .before .before .before .before .before .before .word .ensures)) (c .before .before .before .before .before .before .before .before .before .before .before .put-name .ensures)) (law.put-then (c .before .before .before .before .before .before .before .put-byte .ensures) (law.put-as (ap decimal (c .before .before .before .before .word2 .ensures)) (c .before .before .put-number .ensures))))
 
 pub put-choice-spec : {M : Type 1} → statement M

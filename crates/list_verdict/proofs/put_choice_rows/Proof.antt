@@ -3,7 +3,7 @@ use Prim.Native.Nat.{_-_}
 use Rattle.list_verdict.proofs.RowsPut as rows
 use Rattle.list_verdict.proofs.Ways as way
 use Rattle.text_out.specs.Within.{puts}
-use Rattle.list_verdict.specs.Text.{rowsText, choice}
+use Rattle.list_verdict.specs.Text.{rowsText, choiceText}
 use borrow.Author.Needs.{needs}
 use lib.ListN.{length}
 use mathlib.Core.Path.{_≡_, refl, sym, ap}
@@ -12,7 +12,7 @@ use Rattle.list_verdict.proofs.put_choice_rows.Statement.{statement}
 use Rattle.list_verdict.proofs.put_choice_rows.Tie as tie
 
 abbrev Inv-loop : tie.InvT-loop
-Inv-loop choices count out₀ at place₀ i₀ out cursor i = (length out ≡ length out₀) × (puts out₀ at (rowsText (choice choices) count 0) ≡ puts out cursor (rowsText (choice choices) (count - i) i))
+Inv-loop choices count out₀ at place₀ i₀ out cursor i = (length out ≡ length out₀) × (puts out₀ at (rowsText (choiceText choices) count 0) ≡ puts out cursor (rowsText (choiceText choices) (count - i) i))
 
 abbrev μ-loop : tie.MeasureT-loop
 μ-loop choices count out₀ at place₀ i₀ out cursor i = count - i
@@ -30,13 +30,13 @@ loop-less : tie.Need-loop-less Inv-loop μ-loop
 loop-less c = omega arith
 
 loop-again : tie.Need-loop-again Inv-loop μ-loop
-loop-again c = (search needs, rows.one-row-more (choice (c .before .before .before .before .before .before .before .before .args .choices .now)) (c .before .before .before .before .before .before .before .before .args .count) _ _ _ (c .before .before .before .before .before .loop .i) (c .before .before .before .before .before .loop .inv .1) (c .before .before .before .before .loop-test .taken) (c .before .before .put-choice .ensures))
+loop-again c = (search needs, rows.one-row-more (choiceText (c .before .before .before .before .before .before .before .before .args .choices .now)) (c .before .before .before .before .before .before .before .before .args .count) _ _ _ (c .before .before .before .before .before .loop .i) (c .before .before .before .before .before .loop .inv .1) (c .before .before .before .before .loop-test .taken) (c .before .before .put-choice .ensures))
 
 same-length : tie.Need-same-length Inv-loop μ-loop
 same-length c = omega arith
 
 returns : tie.Need-returns Inv-loop μ-loop
-returns c = record { is = rows.all-rows (choice (c .before .before .before .before .args .choices .now)) (c .before .before .before .before .args .count) _ _ _ (c .before .loop .i) (c .before .loop .inv .1) (c .loop-test .left) }
+returns c = record { is = rows.all-rows (choiceText (c .before .before .before .before .args .choices .now)) (c .before .before .before .before .args .count) _ _ _ (c .before .loop .i) (c .before .loop .inv .1) (c .loop-test .left) }
 
 pub put-choice-rows-spec : {M : Type 1} → statement M
 put-choice-rows-spec =

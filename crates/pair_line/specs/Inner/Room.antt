@@ -14,7 +14,7 @@ unfoldable pub putSix : List ℕ → List ℕ
 putSix ws = set (set (set (set (set (set ws 0 0) 4 1) 8 2) 12 3) 16 4) 20 5
 
 -- The second storage has the sorts of the first under their numbers, and at most maxLine more sorts and entries.
-pub record Grows (ws : List ℕ) (n e : ℕ) (vs : List ℕ) (m d : ℕ) : Type 0 where
+pub record RoomGrows (ws : List ℕ) (n e : ℕ) (vs : List ℕ) (m d : ℕ) : Type 0 where
   pub checked : Checked vs m d
   pub longer : n ≤ m
   pub same : (i : ℕ) → i < n → treeAt vs m i ≡ treeAt ws n i

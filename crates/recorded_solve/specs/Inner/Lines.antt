@@ -12,14 +12,14 @@ use Rattle.replay.specs.declared.Fields.{Fields}
 use Rattle.replay.specs.declared.Verdict.{Verdict}
 use Rattle.replay.specs.declared.Verdict.the-variants.{Quiet, Agrees, LeavesOther, NotOfForm}
 use Rattle.replay.specs.Inner.Numbers.{maxFields, fieldsOf, fieldAt}
-use Rattle.replay.specs.Inner.Lines.{maxWords, nearEnough, Kept, storeFrom, verdictOf}
+use Rattle.replay.specs.Inner.Lines.{maxWords, nearEnough, LineKept, storeFrom, verdictOf}
 use Rattle.recorded_solve.specs.declared.Letter.{Letter}
 use Rattle.recorded_solve.specs.declared.Letter.the-variants.{List as NewList, Gives, Asks, Left, Other}
 use Rattle.recorded_solve.specs.declared.Span.{Span}
 use Rattle.recorded_solve.specs.declared.Expected.{Expected}
 use Rattle.recorded_solve.specs.declared.Expected.the-variants.{Is, Nothing}
 use Rattle.recorded_solve.specs.Inner.Outcome.{solved}
-use Rattle.recorded_solve.specs.Inner.Slices.{countsAt, sliceStart, callHeld, leftHeld}
+use Rattle.recorded_solve.specs.Inner.Slices.{heldCountsAt, sliceStart, callHeld, leftHeld}
 
 -- how many counts a list has, the last slice, all words held, and the largest code and count of what is handed out that
 -- a packed answer has
@@ -54,7 +54,7 @@ spanOf f =
     cond (ltb (f .count) 2) noSpan
     (cond (ltb maxFields (f .count)) noSpan
     (cond (ltb lastSlice (fieldAt f 0)) noSpan
-    (cond (ltb countsAt (fieldAt f 1)) noSpan
+    (cond (ltb heldCountsAt (fieldAt f 1)) noSpan
     (cond (ltb (sliceStart (fieldAt f 0 + 1)) (sliceStart (fieldAt f 0) + fieldAt f 1 + (f .count - 2))) noSpan
     (record { start = sliceStart (fieldAt f 0) + fieldAt f 1; count = f .count - 2; good = true })))))
 
@@ -75,7 +75,7 @@ wordsSaid ws v = record { words = ws; verdict = v }
 abbrev pub quietIf : Bool → Verdict
 quietIf all = cond all Quiet NotOfForm
 
-abbrev pub wordsSaidOf : Kept → WordsSaid
+abbrev pub wordsSaidOf : LineKept → WordsSaid
 wordsSaidOf k = wordsSaid (k .words) (quietIf (k .all))
 
 unfoldable pub noWords : List ℕ
@@ -84,7 +84,7 @@ noWords = replicate heldWords 0
 -- a new list: all words are zero but its counts
 unfoldable pub beginLine : List ℕ → Fields → WordsSaid
 beginLine ws f =
-    cond (eqb (f .count) counts) (wordsSaidOf (storeFrom counts noWords countsAt (f .values) 0)) (wordsSaid ws NotOfForm)
+    cond (eqb (f .count) counts) (wordsSaidOf (storeFrom counts noWords heldCountsAt (f .values) 0)) (wordsSaid ws NotOfForm)
 
 -- words given
 unfoldable pub storeOf : List ℕ → Fields → WordsSaid

@@ -10,46 +10,46 @@ use Rattle.solve_outputs.specs.Packed.{PackedSolve}
 
 -- Where each slice starts: sorts, nodes, bindings, places of expressions, base names, constraints, overloads, sources,
 -- typing, measure, choices, scratch; and where the counts start.
-abbrev pub nodesAt : ℕ
-nodesAt = 8192
+abbrev pub heldNodesAt : ℕ
+heldNodesAt = 8192
 
-abbrev pub bindsAt : ℕ
-bindsAt = 20480
+abbrev pub heldBindsAt : ℕ
+heldBindsAt = 20480
 
-abbrev pub exprsAt : ℕ
-exprsAt = 20992
+abbrev pub heldExprsAt : ℕ
+heldExprsAt = 20992
 
-abbrev pub namesAt : ℕ
-namesAt = 21504
+abbrev pub heldNamesAt : ℕ
+heldNamesAt = 21504
 
-abbrev pub constraintsAt : ℕ
-constraintsAt = 23040
+abbrev pub heldConstraintsAt : ℕ
+heldConstraintsAt = 23040
 
-abbrev pub overloadsAt : ℕ
-overloadsAt = 24320
+abbrev pub heldOverloadsAt : ℕ
+heldOverloadsAt = 24320
 
-abbrev pub sourcesAt : ℕ
-sourcesAt = 27392
+abbrev pub heldSourcesAt : ℕ
+heldSourcesAt = 27392
 
-abbrev pub typingAt : ℕ
-typingAt = 27648
+abbrev pub heldTypingAt : ℕ
+heldTypingAt = 27648
 
-abbrev pub measureAt : ℕ
-measureAt = 29184
+abbrev pub heldMeasureAt : ℕ
+heldMeasureAt = 29184
 
-abbrev pub choicesAt : ℕ
-choicesAt = 29440
+abbrev pub heldChoicesAt : ℕ
+heldChoicesAt = 29440
 
-abbrev pub scratchAt : ℕ
-scratchAt = 29952
+abbrev pub heldScratchAt : ℕ
+heldScratchAt = 29952
 
-abbrev pub countsAt : ℕ
-countsAt = 34048
+abbrev pub heldCountsAt : ℕ
+heldCountsAt = 34048
 
 abbrev pub sliceStarts : List ℕ
 sliceStarts =
-    0 ∷ nodesAt ∷ bindsAt ∷ exprsAt ∷ namesAt ∷ constraintsAt ∷ overloadsAt ∷ sourcesAt ∷ typingAt ∷ measureAt
-    ∷ choicesAt ∷ scratchAt ∷ countsAt ∷ []
+    0 ∷ heldNodesAt ∷ heldBindsAt ∷ heldExprsAt ∷ heldNamesAt ∷ heldConstraintsAt ∷ heldOverloadsAt ∷ heldSourcesAt ∷ heldTypingAt ∷ heldMeasureAt
+    ∷ heldChoicesAt ∷ heldScratchAt ∷ heldCountsAt ∷ []
 
 unfoldable pub sliceStart : ℕ → ℕ
 sliceStart k = getD sliceStarts k 0
@@ -58,7 +58,7 @@ abbrev pub sliceOf : ℕ → List ℕ → List ℕ
 sliceOf k ws = part (sliceStart k) (sliceStart (k + 1) - sliceStart k) ws
 
 abbrev pub countHeld : List ℕ → ℕ → ℕ
-countHeld ws i = getD ws (countsAt + i) 0
+countHeld ws i = getD ws (heldCountsAt + i) 0
 
 abbrev pub countsHeld : List ℕ → HeldCounts
 countsHeld ws =
@@ -119,8 +119,8 @@ callHeld ws =
 -- words held, with other slices in the places of those that a call may change
 abbrev pub keptIn : List ℕ → (sorts nodes binds scratch typing measure choices : List ℕ) → List ℕ
 keptIn ws ss ns bs xs ts ms cs =
-    sets (sets (sets (sets (sets (sets (sets ws 0 ss) nodesAt ns) bindsAt bs) scratchAt xs) typingAt ts)
-    measureAt ms) choicesAt cs
+    sets (sets (sets (sets (sets (sets (sets ws 0 ss) heldNodesAt ns) heldBindsAt bs) heldScratchAt xs) heldTypingAt ts)
+    heldMeasureAt ms) heldChoicesAt cs
 
 abbrev pub leftHeld : List ℕ → PackedSolve → List ℕ
 leftHeld ws p = keptIn ws (p .sorts) (p .nodes) (p .binds) (p .scratch) (p .typing) (p .measure) (p .choices)

@@ -19,7 +19,7 @@ use Rattle.replay.specs.declared.Verdict.{Verdict}
 use Rattle.replay.specs.declared.Verdict.the-variants.{Quiet, NotOfForm}
 use Rattle.recorded_sorts.specs.declared.LineStep.{LineStep}
 use Rattle.replay.specs.Inner.Numbers.{fieldsOf, fieldAt}
-use Rattle.replay.specs.Inner.Lines.{maxWords, Kept, storeFrom, verdictOf}
+use Rattle.replay.specs.Inner.Lines.{maxWords, LineKept, storeFrom, verdictOf}
 
 unfoldable pub letterOf : ℕ → Letter
 letterOf b =
@@ -53,7 +53,7 @@ pub record Stepped : Type 0 where
 abbrev pub stepped : List ℕ → LineStep → Stepped
 stepped ws s = record { words = ws; result = s }
 
-abbrev pub keptStep : Progress → Progress → Kept → Stepped
+abbrev pub keptStep : Progress → Progress → LineKept → Stepped
 keptStep p next k = stepped (k .words) (cond (k .all) (lineStep next Quiet) (notOfForm p))
 
 -- the next words of a list

@@ -16,7 +16,7 @@ use Rattle.replay.specs.declared.Fields.{Fields}
 use Rattle.replay.specs.declared.Verdict.{Verdict}
 use Rattle.replay.specs.declared.Verdict.the-variants.{Quiet, Agrees, Differs, BindsOther, NotOfForm}
 use Rattle.replay.specs.Inner.Numbers.{fieldsOf, fieldAt}
-use Rattle.replay.specs.Inner.Lines.{maxWords, Kept, storeFrom}
+use Rattle.replay.specs.Inner.Lines.{maxWords, LineKept, storeFrom}
 use Rattle.recorded_unify.specs.declared.Part.{Part}
 use Rattle.recorded_unify.specs.declared.Part.the-variants.{Sorts, Entries, Nodes, Arguments, Bindings}
 use Rattle.recorded_unify.specs.declared.Letter.{Letter}
@@ -123,7 +123,7 @@ beginLine f p =
     (notOfForm p))
     (notOfForm p)
 
-abbrev pub keptStep : Progress → Progress → Kept → Stepped
+abbrev pub keptStep : Progress → Progress → LineKept → Stepped
 keptStep p next k = stepped (k .words) (cond (k .all) (lineStep next Quiet) (notOfForm p))
 
 -- words of a part stored from a word on, so that it then has a length

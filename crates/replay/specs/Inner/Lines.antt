@@ -21,15 +21,15 @@ abbrev pub mostCount : ℕ
 mostCount = 18446744073709551615
 
 -- words, and whether all numbers were words
-pub record Kept : Type 0 where
+pub record LineKept : Type 0 where
   pub words : List ℕ
   pub all : Bool
 
-abbrev pub kept : List ℕ → Bool → Kept
+abbrev pub kept : List ℕ → Bool → LineKept
 kept ws b = record { words = ws; all = b }
 
 -- m numbers from the i-th on stored from a word on, up to the first that is no word
-unfoldable pub storeFrom : ℕ → List ℕ → ℕ → List ℕ → ℕ → Kept
+unfoldable pub storeFrom : ℕ → List ℕ → ℕ → List ℕ → ℕ → LineKept
 storeFrom zero ws at values i = kept ws true
 storeFrom (suc m) ws at values i =
     cond (ltb mostWord (getD values i 0)) (kept ws false)

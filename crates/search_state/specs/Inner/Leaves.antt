@@ -174,7 +174,7 @@ agreementOf ws ns sc e n (At s k) =
 agreementOf ws ns sc e n (NoSort k) = no-list (lent ws ns k)
 agreementOf ws ns sc e n (NoSortRoom k) = no-room 15 (lent ws ns k)
 
-pub record Agrees (ns sc : List ℕ) (e : Branch) (n : ℕ) (O : Makes Agreed) (ws′ sc′ : List ℕ) (r : Made)
+pub record AgreesOn (ns sc : List ℕ) (e : Branch) (n : ℕ) (O : Makes Agreed) (ws′ sc′ : List ℕ) (r : Made)
     : Type 0 where
   pub says : agreementOf ws′ ns sc′ e n r ≡ O
   pub changed : ChangedOnly (measureAt + e .measure) (measureAt + e .measure + n) sc sc′

@@ -115,10 +115,10 @@ exprsOf ls z e (Written n) = []
 exprsOf ls z e (Choice i) = getD (chosenExprs ls z) (e .choices) 0 ∷ []
 
 -- lists that have grown: by sorts only, unless room ended
-abbrev pub Grown : Lent → List ℕ → List ℕ → Answer → Type 0
-Grown W ws ns (Found k) = SortsOnly W (lent ws ns (k .lengths))
-Grown W ws ns (Missed k) = SortsOnly W (lent ws ns (k .lengths))
-Grown W ws ns (Full c k) = Grows W (lent ws ns k)
+abbrev pub SearchGrown : Lent → List ℕ → List ℕ → Answer → Type 0
+SearchGrown W ws ns (Found k) = SortsOnly W (lent ws ns (k .lengths))
+SearchGrown W ws ns (Missed k) = SortsOnly W (lent ws ns (k .lengths))
+SearchGrown W ws ns (Full c k) = Grows W (lent ws ns k)
 
 -- what the branch has taken on stands in the scratch as before
 pub record SamePath (e : Branch) (sc sc′ : List ℕ) : Type 0 where
@@ -132,7 +132,7 @@ pub record SamePath (e : Branch) (sc sc′ : List ℕ) : Type 0 where
 pub record Done (ls : List ℕ) (z : Sizes) (ws ns bs sc : List ℕ) (k : State) (e : Branch) (O : Out (Unit {0}))
     (ws′ ns′ bs′ sc′ : List ℕ) (r : Answer) : Type 0 where
   pub says : outOf ls z ws′ ns′ sc′ r ≡ O
-  pub grown : Grown (lent ws ns (k .lengths)) ws′ ns′ r
+  pub grown : SearchGrown (lent ws ns (k .lengths)) ws′ ns′ r
   pub binds : bs′ ≡ bs
   pub path : SamePath e sc sc′
 
