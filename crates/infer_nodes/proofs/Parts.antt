@@ -62,7 +62,8 @@ module _ (ws : List ℕ) (row kind : ℕ) (e : kind ≡ getD ws row 0) where
   unfolding countIn
   count-of-name d l m = rw (sym e, ne-eqb kind 11 d, le-ltb kind 6 l, le-ltb kind 11 m)
 
-  pub part-argument : (at i start count r : ℕ) → kind ≡ 11 → count ≡ getD ws (row + 3) 0 → i < count → start ≡ getD ws (row + 2) 0 → r ≡ getD ws (at + (start + i)) 0 → r ≡ partIn ws at row i
+  pub part-argument : (at i start count r : ℕ) → kind ≡ 11 → count ≡ getD ws (row + 3) 0 → i < count
+      → start ≡ getD ws (row + 2) 0 → r ≡ getD ws (at + (start + i)) 0 → r ≡ partIn ws at row i
   unfolding partIn
   part-argument at i start count r k c l s x = x ∙ rw (sym e, eq-eqb kind 11 k, sym c, lt-ltb i count l, sym s)
 
@@ -82,7 +83,8 @@ module _ (entry : ℕ → ℕ) (entries : ℕ → ℕ → List ℕ) (R : Runs en
   pub argument-of : (c s i r : ℕ) → i < c → getD (entries s c ++ (r ∷ [])) i 0 ≡ entry (s + i)
   argument-of zero s i r l = absurd (omega (arith, l))
   argument-of (suc c) s zero r l = ap (λ xs. getD (xs ++ (r ∷ [])) 0 0) (R .more s c) ∙ ap entry (let z : s ≡ s + 0 = omega arith in z)
-  argument-of (suc c) s (suc i) r l = ap (λ xs. getD (xs ++ (r ∷ [])) (suc i) 0) (R .more s c) ∙ (argument-of c (s + 1) i r (omega (arith, l)) ∙ ap entry (let z : s + 1 + i ≡ s + suc i = omega arith in z))
+  argument-of (suc c) s (suc i) r l = ap (λ xs. getD (xs ++ (r ∷ [])) (suc i) 0) (R .more s c) ∙
+      (argument-of c (s + 1) i r (omega (arith, l)) ∙ ap entry (let z : s + 1 + i ≡ s + suc i = omega arith in z))
 
   pub range-of : (s c r : ℕ) → getD (entries s c ++ (r ∷ [])) c 0 ≡ r
   range-of s c r = ap (λ (j : ℕ). getD (entries s c ++ (r ∷ [])) j 0) (sym (run-length entry entries R s c)) ∙ getD-append-seam (entries s c) r [] 0
@@ -204,7 +206,8 @@ function-small : (ns : List ℕ) (d n v j : ℕ) → nodeKindAt ns j ≡ 11 → 
 unfolding inferred
 function-small ns d n v j f x =
     let run : Run = record { start = nodeStartAt ns j; count = nodeCountAt ns j } in
-    let y : nodePartsFine ns d n v j (Function run (record { 0 = nodePartAt ns j })) ≡ true = subst (λ (m : ℕ). nodePartsFine ns d n v j (inferred m (nodePartAt ns j) run) ≡ true) f x in
+    let y : nodePartsFine ns d n v j (Function run (record { 0 = nodePartAt ns j })) ≡ true = subst
+    (λ (m : ℕ). nodePartsFine ns d n v j (inferred m (nodePartAt ns j) run) ≡ true) f x in
     node-function-fine ns d n v j run (nodePartAt ns j) y .short
 
 -- at a place
@@ -220,7 +223,9 @@ module _ (ws ns : List ℕ) (k : Lengths) (q : NodesReady ws ns k) (p : ℕ) (e 
     unfolding rowFine
     says-sort =
         subst (λ x. Says x (entryAt ws) (kindAt ws p) (partAt ws p) (startAt ws p) (countAt ws p)) (sym (at-sort ws ns k q p e l))
-        (sort-says ws (partAt ws p) (startAt ws p) (countAt ws p) (kindAt ws p) (leb-true (kindAt ws p) 13 (and-eq-true-iff (leb (kindAt ws p) 13) (partsBelow ws (k .entries) p (rowAt ws p)) .0 (row-is-fine l) .0)))
+        (sort-says ws (partAt ws p) (startAt ws p) (countAt ws p) (kindAt ws p) (leb-true (kindAt ws p) 13
+        (and-eq-true-iff (leb (kindAt ws p) 13) (partsBelow ws (k .entries) p (rowAt ws p)) .0
+        (row-is-fine l) .0)))
 
     pub kind-of-sort : (r : ℕ) → r ≡ getD ws (4 * p) 0 → r ≡ kindHead (headOf s)
     kind-of-sort r x = x ∙ says-sort .kind
@@ -256,7 +261,8 @@ module _ (ws ns : List ℕ) (k : Lengths) (q : NodesReady ws ns k) (p : ℕ) (e 
     says-node : Says s (nodeEntryAt ns) (nodeKindAt ns j) (nodePartAt ns j) (nodeStartAt ns j) (nodeCountAt ns j)
     says-node =
         subst (λ x. Says x (nodeEntryAt ns) (nodeKindAt ns j) (nodePartAt ns j) (nodeStartAt ns j) (nodeCountAt ns j)) (sym (at-node ws ns k q p e l))
-        (node-says ns (nodePartAt ns j) (nodeStartAt ns j) (nodeCountAt ns j) (nodeKindAt ns j) (node-fine-parts ns (k .arguments) (k .sorts) (k .variables) j node-is-fine .0))
+        (node-says ns (nodePartAt ns j) (nodeStartAt ns j) (nodeCountAt ns j) (nodeKindAt ns j) (node-fine-parts ns
+        (k .arguments) (k .sorts) (k .variables) j node-is-fine .0))
 
     pub kind-of-node : (r : ℕ) → r ≡ getD ns (4 * j) 0 → r ≡ kindHead (headOf s)
     kind-of-node r x = x ∙ says-node .kind
@@ -304,12 +310,14 @@ counts-agree k j a b c d e f = go (ℕ-discrete k 11)
   where
     go : Dec (k ≡ 11) → countBy k c ≡ countBy j d
     go (yes i) =
-        let x : c ≡ d = sym (ap (λ t. cond t c (cond (leb 12 k) a 0)) (eq-eqb k 11 i)) ∙ (f ∙ ap (λ t. cond t d (cond (leb 12 j) b 0)) (eq-eqb j 11 (sym e ∙ i))) in
+        let x : c ≡ d = sym (ap (λ t. cond t c (cond (leb 12 k) a 0)) (eq-eqb k 11 i)) ∙
+        (f ∙ ap (λ t. cond t d (cond (leb 12 j) b 0)) (eq-eqb j 11 (sym e ∙ i))) in
         ap (λ t. cond t (c + 1) (cond (ltb k 6) 0 (cond (ltb k 11) 1 0))) (eq-eqb k 11 i)
         ∙ (ap (λ (y : ℕ). y + 1) x ∙ sym (ap (λ t. cond t (d + 1) (cond (ltb j 6) 0 (cond (ltb j 11) 1 0))) (eq-eqb j 11 (sym e ∙ i))))
     go (no n) =
         ap (λ t. cond t (c + 1) (cond (ltb k 6) 0 (cond (ltb k 11) 1 0))) (ne-eqb k 11 n)
-        ∙ (ap (λ (y : ℕ). cond (ltb y 6) 0 (cond (ltb y 11) 1 0)) e ∙ sym (ap (λ t. cond t (d + 1) (cond (ltb j 6) 0 (cond (ltb j 11) 1 0))) (ne-eqb j 11 (λ m. n (e ∙ m)))))
+        ∙ (ap (λ (y : ℕ). cond (ltb y 6) 0 (cond (ltb y 11) 1 0)) e ∙ sym
+        (ap (λ t. cond t (d + 1) (cond (ltb j 6) 0 (cond (ltb j 11) 1 0))) (ne-eqb j 11 (λ m. n (e ∙ m)))))
 
 record Row (s : Shape) : Type 0 where
   entry : ℕ → ℕ
@@ -323,12 +331,29 @@ row-at : (ws ns : List ℕ) (k : Lengths) (q : NodesReady ws ns k) (p : ℕ) →
 row-at ws ns k q p e = go (ltb p maxSorts) refl
   where
     go : (b : Bool) → ltb p maxSorts ≡ b → Row (graphOf ws ns k p)
-    go true x = record { entry = entryAt ws; kind = kindAt ws p; part = partAt ws p; start = startAt ws p; count = countAt ws p; says = says-sort ws ns k q p e (ltb-true p maxSorts x) }
+    go true x = record {
+      entry = entryAt ws;
+      kind = kindAt ws p;
+      part = partAt ws p;
+      start = startAt ws p;
+      count =
+          countAt ws p;
+      says = says-sort ws ns k q p e (ltb-true p maxSorts x);
+    }
     go false x =
         let l = ltb-false p maxSorts x in
-        record { entry = nodeEntryAt ns; kind = nodeKindAt ns (p - maxSorts); part = nodePartAt ns (p - maxSorts); start = nodeStartAt ns (p - maxSorts); count = nodeCountAt ns (p - maxSorts); says = says-node ws ns k q p e l }
+        record {
+          entry = nodeEntryAt ns;
+          kind = nodeKindAt ns (p - maxSorts);
+          part = nodePartAt ns (p - maxSorts);
+          start = nodeStartAt ns (p - maxSorts);
+          count = nodeCountAt ns (p - maxSorts);
+          says = says-node ws ns k q p
+              e l;
+        }
 
-pub same-count : (ws ns : List ℕ) (k : Lengths) (q : NodesReady ws ns k) (l r : ℕ) → Placed k l → Placed k r → sameHead (headOf (graphOf ws ns k l)) (headOf (graphOf ws ns k r)) ≡ true
+pub same-count : (ws ns : List ℕ) (k : Lengths) (q : NodesReady ws ns k) (l r : ℕ) → Placed k l → Placed k r
+    → sameHead (headOf (graphOf ws ns k l)) (headOf (graphOf ws ns k r)) ≡ true
     → length (partsOf (graphOf ws ns k l)) ≡ length (partsOf (graphOf ws ns k r))
 unfolding sameHead
 same-count ws ns k q l r pl pr h =

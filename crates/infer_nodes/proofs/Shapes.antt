@@ -34,7 +34,9 @@ module _ (ws ns : List ℕ) (k : Lengths) (q : NodesReady ws ns k) where
     shape-of-node = at-node p e l ∙ ap (nodeShape ns) (sym i)
 
     pub parts-fine : nodePartsFine ns (k .arguments) (k .sorts) (k .variables) (p - maxSorts) r ≡ true
-    parts-fine = ap (nodePartsFine ns (k .arguments) (k .sorts) (k .variables) (p - maxSorts)) i ∙ node-parts-fine ws (k .sorts) (k .entries) ns (k .nodes) (k .arguments) (k .variables) q (p - maxSorts) (node-below (k .sorts) (k .nodes) p l e)
+    parts-fine = ap (nodePartsFine ns (k .arguments) (k .sorts) (k .variables) (p - maxSorts)) i ∙ node-parts-fine ws
+        (k .sorts) (k .entries) ns (k .nodes) (k .arguments) (k .variables) q (p - maxSorts) (node-below (k .sorts)
+        (k .nodes) p l e)
 
     module _ (u : SortVar) (x : r ≡ Var u) where
       pub shape-of-variable : shape p ≡ variable (u .0)

@@ -20,7 +20,9 @@ use Rattle.unification.specs.declared.SortVar.{SortVar}
 use Rattle.unification.specs.declared.InferSort.{InferSort}
 use Rattle.unification.specs.declared.InferSort.the-variants.{Generic, Function, Var}
 use Rattle.unification.specs.Term.{containerHead, functionHead, Shape, variable, over}
-use Rattle.unification.specs.Nodes.{nodeKindAt, nodePartAt, nodeStartAt, nodeCountAt, nodeEntryAt, nodeEntriesOf, opOfKind, inferred, nodeAt, sortShape, nodeShape, isPlace, Binds, binding, freeWord, bindingOf, bindsOf}
+use Rattle.unification.specs.Nodes.{nodeKindAt, nodePartAt, nodeStartAt, nodeCountAt, nodeEntryAt, nodeEntriesOf}
+use Rattle.unification.specs.Nodes.{opOfKind, inferred, nodeAt, sortShape, nodeShape, isPlace, Binds, binding}
+use Rattle.unification.specs.Nodes.{freeWord, bindingOf, bindsOf}
 use Rattle.unification.specs.NodeChecks.{nodePartsFine}
 use Rattle.unification.specs.Unify.{Occurs, absent, present, unknown, or-else, ofTest, followAt, follow, occursAny, occursAt, occurs, deep}
 use Rattle.unification.specs.Acyclic.{One, first, later}
@@ -90,7 +92,8 @@ pub op-last : (kind : ℕ) → 10 ≤ kind → ComplexSort.FBag ≡ opOfKind kin
 op-last kind l = past-ops (kind - 6) (omega (arith, l))
 
 module _ (ns : List ℕ) (i kind part : ℕ) (ek : kind ≡ nodeKindAt ns i) (ep : part ≡ nodePartAt ns i) where
-  pub says-function : (start count : ℕ) → start ≡ nodeStartAt ns i → count ≡ nodeCountAt ns i → kind ≡ 11 → Function (record { start = start; count = count }) (record { 0 = part }) ≡ nodeAt ns i
+  pub says-function : (start count : ℕ) → start ≡ nodeStartAt ns i → count ≡ nodeCountAt ns i → kind ≡ 11
+      → Function (record { start = start; count = count }) (record { 0 = part }) ≡ nodeAt ns i
   unfolding inferred
   says-function start count es ec e = rw (sym ek, sym ep, sym es, sym ec, eq-eqb kind 11 e)
 
@@ -130,7 +133,8 @@ module _ (ws ns bs : List ℕ) (k : Lengths) (q : Ready ws ns bs k) where
 
     module _ (u : SortVar) (x : r ≡ Var u) where
       pub variable-bound : bindingOf (getD bs (u .0) 0) ≡ boundTo (shape p) B
-      variable-bound = sym (ap (λ y. boundTo y B) (shape-of-variable ws ns k (q .nodes) p e l r i u x) ∙ binding-word bs (k .variables) (u .0) (variable-in-list ws ns k (q .nodes) p e l r i u x))
+      variable-bound = sym (ap (λ y. boundTo y B) (shape-of-variable ws ns k (q .nodes) p e l r i u x) ∙ binding-word
+          bs (k .variables) (u .0) (variable-in-list ws ns k (q .nodes) p e l r i u x))
 
   -- following
   pub begun : (p next : ℕ) → Placed k p → bindingOf next ≡ boundTo (shape p) B → Following shape B k p p next
@@ -190,9 +194,12 @@ module _ (ws ns bs : List ℕ) (k : Lengths) (q : Ready ws ns bs k) where
   sort-absent u zero p l m = absurd (omega (arith, l))
   sort-absent u (suc j) p l m = occurs-eq shape deep B ranked u p ∙ go (shape p) (sort-shape-of p m) (sort-absent u j)
     where
-      go : (s : Shape) → s ≡ sortShape ws (rowAt ws p) → ((x : ℕ) → x < j → x < k .sorts → occurs shape deep B u x ≡ absent) → occursAt shape s B u (occurs shape deep B u) ≡ absent
+      go : (s : Shape) → s ≡ sortShape ws (rowAt ws p) → ((x : ℕ) → x < j → x < k .sorts
+          → occurs shape deep B u x ≡ absent) → occursAt shape s B u (occurs shape deep B u) ≡ absent
       go (variable v) s ih = sort-no-variable ws v (rowAt ws p) (sym s)
-      go (over h ps) s ih = any-absent (occurs shape deep B u) ps (λ x o. let y = sort-parts ws (k .entries) p (rowAt ws p) (sort-parts-fine ws (k .sorts) (k .entries) ns (k .nodes) (k .arguments) (k .variables) (q .nodes) p m) x h ps (sym s) o in ih x (omega (arith, l, y)) (omega (arith, m, y)))
+      go (over h ps) s ih = any-absent (occurs shape deep B u) ps (λ x o. let y = sort-parts ws (k .entries) p
+          (rowAt ws p) (sort-parts-fine ws (k .sorts) (k .entries) ns (k .nodes) (k .arguments) (k .variables)
+          (q .nodes) p m) x h ps (sym s) o in ih x (omega (arith, l, y)) (omega (arith, m, y)))
 
   -- places among the parts of a node
   among-fewer : (i x : ℕ) → i ≤ k .nodes → isPlace (k .sorts) i x ≡ true → Placed k x
@@ -240,7 +247,8 @@ module _ (ws ns bs : List ℕ) (k : Lengths) (q : Ready ws ns bs k) where
         unfolding nodePartsFine
         subsort-placed =
             among-fewer (end - maxSorts) (s .0) (omega (arith, node-below (k .sorts) (k .nodes) end l end-placed))
-            (subst (λ y. nodePartsFine ns (k .arguments) (k .sorts) (k .variables) (end - maxSorts) y ≡ true) x (parts-fine ws ns k (q .nodes) end end-placed l r i))
+            (subst (λ y. nodePartsFine ns (k .arguments) (k .sorts) (k .variables) (end - maxSorts) y ≡ true) x
+            (parts-fine ws ns k (q .nodes) end end-placed l r i))
 
         pub subsort-lower : ρ (s .0) < ρ p
         subsort-lower = omega (arith, end-rank, rank-over shape deep B ranked end (containerHead op) (s .0 ∷ []) generic-shape)
@@ -259,14 +267,19 @@ module _ (ws ns bs : List ℕ) (k : Lengths) (q : Ready ws ns bs k) where
         function-fine : FunctionFine (isPlace (k .sorts) (end - maxSorts)) (nodeEntryAt ns) (k .arguments) d (s .0)
         function-fine =
             node-function-fine ns (k .arguments) (k .sorts) (k .variables) (end - maxSorts) d (s .0)
-            (subst (λ y. nodePartsFine ns (k .arguments) (k .sorts) (k .variables) (end - maxSorts) y ≡ true) x (parts-fine ws ns k (q .nodes) end end-placed l r i))
+            (subst (λ y. nodePartsFine ns (k .arguments) (k .sorts) (k .variables) (end - maxSorts) y ≡ true) x
+            (parts-fine ws ns k (q .nodes) end end-placed l r i))
 
         part-placed : (y : ℕ) → isPlace (k .sorts) (end - maxSorts) y ≡ true → Placed k y
         part-placed y = among-fewer (end - maxSorts) y (omega (arith, node-below (k .sorts) (k .nodes) end l end-placed))
 
         pub run-placed : RunPlaced ns k (d .start) (d .count)
         run-placed =
-            record { places = λ j h. part-placed (nodeEntryAt ns (d .start + j)) (function-fine .each-fits j h); short = function-fine .short; inside = function-fine .inside }
+            record {
+              places = λ j h. part-placed (nodeEntryAt ns (d .start + j)) (function-fine .each-fits j h);
+              short = function-fine .short;
+              inside = function-fine .inside;
+            }
 
         pub range-placed : Placed k (s .0)
         range-placed = part-placed (s .0) (function-fine .range-fits)
@@ -286,7 +299,8 @@ module _ (ws ns bs : List ℕ) (k : Lengths) (q : Ready ws ns bs k) where
         pub occurs-in-domain : (b : Bool) → occursAny shape (occurs shape deep B u) args ≡ ofTest b → b ≡ true → occurs shape deep B u p ≡ ofTest true
         occurs-in-domain b y z = by-parts ∙ ap (λ o. or-else o (occurs shape deep B u (s .0))) (y ∙ ap ofTest z)
 
-        pub occurs-in-range : (b c : Bool) → occursAny shape (occurs shape deep B u) args ≡ ofTest b → b ≡ false → occurs shape deep B u (s .0) ≡ ofTest c → occurs shape deep B u p ≡ ofTest c
+        pub occurs-in-range : (b c : Bool) → occursAny shape (occurs shape deep B u) args ≡ ofTest b → b ≡ false
+            → occurs shape deep B u (s .0) ≡ ofTest c → occurs shape deep B u p ≡ ofTest c
         occurs-in-range b c y z w = by-parts ∙ (ap (λ o. or-else o (occurs shape deep B u (s .0))) (y ∙ ap ofTest z) ∙ w)
 
   -- a run of arguments

@@ -28,7 +28,10 @@ use Rattle.inference.specs.declared.Constraint.{Constraint}
 use Rattle.inference.specs.declared.Constraint.the-variants.{Sub, Lit, Disjunction, Comprehension, Join}
 use Rattle.inference.specs.Constraints.{maxComponents, constraintAt, overloadAt, Problem}
 use Rattle.inference.specs.Names.{overloadIn}
-use Rattle.inference.specs.SolveChecks.{Call, placed, given, disjunctions, noTwo, keys, rowsWithinLent, allWithinLent, exprsFine, namesFine, overloadFine, targetFine, runFine, constraintFine, constraintsFine, outputsLong, longEnough, solveChecks, joinsFine, components as componentCount}
+use Rattle.inference.specs.SolveChecks.{Call, placed, given, disjunctions, noTwo, keys, rowsWithinLent}
+use Rattle.inference.specs.SolveChecks.{allWithinLent, exprsFine, namesFine, overloadFine, targetFine, runFine}
+use Rattle.inference.specs.SolveChecks.{constraintFine, constraintsFine, outputsLong, longEnough, solveChecks}
+use Rattle.inference.specs.SolveChecks.{joinsFine, components as componentCount}
 use Rattle.inference.specs.SolveEntry.{problemOf, lentOf, SolveLeft, searched, refused, verdict, nothingMet, solveEntry}
 use Rattle.inference.specs.Typing.{All}
 use Rattle.inference.proofs.Members.{length-rows, all-rows, row-at, all-rows-at, run-at}
@@ -63,14 +66,16 @@ module _ (I : Call) where
       let x = and-eq-true-iff (leb (run .start + run .count) (I .rows .overloads)) _ .0 f in
       omega (arith, leb-true (run .start + run .count) (I .rows .overloads) (x .0), length-rows (overloadAt (I .overloads)) 0 (I .rows .overloads))
 
-  overload-placed : (run : Run) → runFine I (I .rows .overloads) (overloadFine I) run ≡ true → (i : ℕ) → i < run .count → PlacedIn W (overloadIn (P .overloads) run i .sort .0)
+  overload-placed : (run : Run) → runFine I (I .rows .overloads) (overloadFine I) run ≡ true → (i : ℕ)
+      → i < run .count → PlacedIn W (overloadIn (P .overloads) run i .sort .0)
   unfolding overloadFine
   overload-placed run f i l =
       let x = and-eq-true-iff (leb (run .start + run .count) (I .rows .overloads)) _ .0 f in
       let s = leb-true (run .start + run .count) (I .rows .overloads) (x .0) in
       let y = below-each (run .count) (λ j. overloadFine I (run .start + j)) (x .1) i l in
       let z = and-eq-true-iff (targetFine I (getD (I .overloads) (3 * (run .start + i)) 0) (getD (I .overloads) (3 * (run .start + i) + 1) 0)) _ .0 y in
-      subst (λ (o : Overload). PlacedIn W (o .sort .0)) (sym (row-at (overloadAt (I .overloads)) _ (I .rows .overloads) (run .start + i) (omega (arith, s, l)))) (z .1)
+      subst (λ (o : Overload). PlacedIn W (o .sort .0)) (sym (row-at (overloadAt (I .overloads)) _
+      (I .rows .overloads) (run .start + i) (omega (arith, s, l)))) (z .1)
 
   sources-placed : (run : Run) → runFine I (I .rows .sources) (λ j. placed I (getD (I .sources) j 0)) run ≡ true
       → (run .start + run .count ≤ length (P .sources)) × All (PlacedIn W) (take (run .count) (drop (run .start) (P .sources)))
@@ -79,7 +84,8 @@ module _ (I : Call) where
       let s = leb-true (run .start + run .count) (I .rows .sources) (x .0) in (
         omega (arith, s, length-rows (λ i. getD (I .sources) i 0) 0 (I .rows .sources)),
         subst (All (PlacedIn W)) (sym (run-at (λ i. getD (I .sources) i 0) (I .rows .sources) (run .start) (run .count) s))
-            (all-rows (PlacedIn W) (λ i. getD (I .sources) i 0) (run .start) (run .count) (λ j l. below-each (run .count) (λ j. placed I (getD (I .sources) (run .start + j) 0)) (x .1) j l)),
+            (all-rows (PlacedIn W) (λ i. getD (I .sources) i 0) (run .start) (run .count) (λ j l. below-each
+            (run .count) (λ j. placed I (getD (I .sources) (run .start + j) 0)) (x .1) j l)),
       )
 
   listed-by : (b : ℕ) (c : Constraint) → constraintFine I b c ≡ true → Listed W P c
@@ -101,12 +107,15 @@ module _ (I : Call) where
   constraint-listed : constraintsFine I ≡ true → (j : ℕ) → j < I .rows .constraints → Listed W P (constraintAt (I .constraints) j)
   unfolding constraintsFine
   constraint-listed f j l =
-      let x = below-each (I .rows .constraints) (λ i. leb (getD (I .constraints) (5 * i) 0) 4 && constraintFine I (getD (I .constraints) (5 * i + 2) 0) (constraintAt (I .constraints) i)) f j l in
+      let x = below-each (I .rows .constraints) (λ i. leb (getD (I .constraints) (5 * i) 0) 4 && constraintFine I
+      (getD (I .constraints) (5 * i + 2) 0) (constraintAt (I .constraints) i)) f j l in
       listed-by (getD (I .constraints) (5 * j + 2) 0) (constraintAt (I .constraints) j)
-      (and-eq-true-iff (leb (getD (I .constraints) (5 * j) 0) 4) (constraintFine I (getD (I .constraints) (5 * j + 2) 0) (constraintAt (I .constraints) j)) .0 x .1)
+      (and-eq-true-iff (leb (getD (I .constraints) (5 * j) 0) 4) (constraintFine I (getD (I .constraints) (5 * j + 2)
+      0) (constraintAt (I .constraints) j)) .0 x .1)
 
   pub within : allWithinLent I ≡ true
-      → (withinLent (I .sorts) (I .lengths .sorts) (I .lengths .entries) ≡ true) × (nodesWithinLent (I .nodes) (I .lengths .nodes) (I .lengths .arguments) ≡ true)
+      → (withinLent (I .sorts) (I .lengths .sorts) (I .lengths .entries) ≡ true) × (nodesWithinLent (I .nodes)
+      (I .lengths .nodes) (I .lengths .arguments) ≡ true)
       × (bindingsWithinLent (I .binds) (I .lengths .variables) ≡ true) × (rowsWithinLent I ≡ true)
   unfolding allWithinLent
   within f =
@@ -190,11 +199,14 @@ module _ (I : Call) where
       let e = and-eq-true-iff (exprsFine I) (namesFine I) .0 (c .exprs-and-names) in
       record {
         ready =
-            passed-ready (I .sorts) (I .lengths .sorts) (I .lengths .entries) (I .nodes) (I .lengths .nodes) (I .lengths .arguments) (I .binds) (I .lengths .variables) (w .0) (w .1) (w .2) (c .rows) (c .differ) (c .nodes)
+            passed-ready (I .sorts) (I .lengths .sorts) (I .lengths .entries) (I .nodes) (I .lengths .nodes)
+            (I .lengths .arguments) (I .binds) (I .lengths .variables) (w .0) (w .1) (w .2) (c .rows) (c .differ)
+            (c .nodes)
             (c .binds) (c .no-cycle) (l .0) (l .1);
         six = c .six;
         default = ltb-true (I .default) (I .lengths .sorts) (c .default);
-        exprs = all-rows-at (PlacedIn W) (λ i. getD (I .exprs) i 0) (I .rows .exprs) (λ j m. below-each (I .rows .exprs) (λ i. placed I (getD (I .exprs) i 0)) (e .0) j m);
+        exprs = all-rows-at (PlacedIn W) (λ i. getD (I .exprs) i 0) (I .rows .exprs) (λ j m. below-each
+            (I .rows .exprs) (λ i. placed I (getD (I .exprs) i 0)) (e .0) j m);
         constraints = all-rows-at (Listed W P) (constraintAt (I .constraints)) (I .rows .constraints) (constraint-listed (c .constraints));
         one-disjunction-each = and-eq-true-iff (noTwo (disjunctions (given I))) (noTwo (keys I)) .0 (c .one-each) .0;
       }
@@ -204,7 +216,8 @@ module _ (I : Call) where
   codes-above-0 = refl
 
   -- By the first check that fails, or where none does.
-  pub refused-or-searched : (T : SolveLeft → Type 0) → ((c : ℕ) → 0 < c → T (refused I c)) → (Accepted → T (verdict I (searched (Unit {0}) nothingMet tt I))) → T (solveEntry I)
+  pub refused-or-searched : (T : SolveLeft → Type 0) → ((c : ℕ) → 0 < c → T (refused I c))
+      → (Accepted → T (verdict I (searched (Unit {0}) nothingMet tt I))) → T (solveEntry I)
   unfolding solveEntry
   refused-or-searched T r a = go (firstFailing (solveChecks I)) refl
     where

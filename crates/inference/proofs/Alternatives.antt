@@ -39,10 +39,14 @@ use Rattle.inference.specs.declared.NameTarget.the-variants.{Variable}
 use Rattle.inference.specs.declared.Constraint.the-variants.{Disjunction}
 use Rattle.inference.specs.Constraints.{Problem}
 use Rattle.inference.specs.Measure.{Components}
-use Rattle.inference.specs.Search.{sortIn, Choice, Path, withBinds, withComponents, withChoice, litComponent, fromNat, litTries, Reading, readings, World, Out, missed, unifying, atSort, literalAt, literalEnd, literal, everyReading, everyOverload, step}
+use Rattle.inference.specs.Search.{sortIn, Choice, Path, withBinds, withComponents, withChoice, litComponent}
+use Rattle.inference.specs.Search.{fromNat, litTries, Reading, readings, World, Out, missed, unifying, atSort}
+use Rattle.inference.specs.Search.{literalAt, literalEnd, literal, everyReading, everyOverload, step}
 use Rattle.inference.specs.Names.{overloadIn}
 use Rattle.inference.specs.Typing.{Assignment, Has, All, none-left, and-all, ReadAs, as-set, as-bag, as-bag-of-pos}
-use Rattle.inference.proofs.Invariant.{Claim, terms, Sound, FineBest, Leaves, Goes, same-sort, equal-have-one-sort, and-also-leaves, says-leaves, missed-leaves, unifying-leaves}
+use Rattle.inference.proofs.Invariant.{Claim, terms, Sound, FineBest, Leaves, Goes, same-sort}
+use Rattle.inference.proofs.Invariant.{equal-have-one-sort, and-also-leaves, says-leaves, missed-leaves}
+use Rattle.inference.proofs.Invariant.{unifying-leaves}
 use Rattle.inference.proofs.MakingSorts.{container-makes, on-made-leaves}
 use Rattle.inference.proofs.Tries.{Leads, first-found-leaves}
 
@@ -54,9 +58,11 @@ module _
     (W₀ : Lent) (B₀ : Binds) (P : Problem) (c₀ : CheckedLent W₀) (six : fixedSix (W₀ .sorts) (W₀ .lengths .sorts) ≡ true)
     (Met : Type 0) (meet : Components → Met → Met) where
   -- two of the places given, made equal: they have a sort, the same
-  given-leaves : (e : Path) (w : World Met) (Q : Claim) → Sound W₀ B₀ P (w .lent) e Q → FineBest W₀ B₀ P (w .lent) (w .best) → (l r : ℕ) → PlacedIn W₀ l → PlacedIn W₀ r
+  given-leaves : (e : Path) (w : World Met) (Q : Claim) → Sound W₀ B₀ P (w .lent) e Q
+      → FineBest W₀ B₀ P (w .lent) (w .best) → (l r : ℕ) → PlacedIn W₀ l → PlacedIn W₀ r
       → (ms : Components) (cs : List Choice) (R : Claim)
-      → ((ρ : Assignment) (t : Tree) → Q (e .choices) ρ (e .measure) → Has (graph W₀) ρ l t → Has (graph W₀) ρ r t → R cs ρ ms) → (k : Binds → World Met → Out Met)
+      → ((ρ : Assignment) (t : Tree) → Q (e .choices) ρ (e .measure) → Has (graph W₀) ρ l t → Has (graph W₀) ρ r t
+      → R cs ρ ms) → (k : Binds → World Met → Out Met)
       → ((C : Binds) → Sound W₀ B₀ P (w .lent) (record { binds = C; measure = ms; choices = cs }) R → Leaves W₀ B₀ P Met (w .lent) (k C w))
       → Leaves W₀ B₀ P Met (w .lent) (unifying (e .binds) l r k w)
   given-leaves e w Q s f l r x y ms cs R h =
@@ -66,18 +72,22 @@ module _
       h ρ (t .0) q (t .1) (equal-have-one-sort W₀ c₀ (w .lent) g ρ l r (t .0) x y i (t .1)))
 
   -- one of the places given and a primitive sort
-  primitive-leaves : (e : Path) (w : World Met) (Q : Claim) → Sound W₀ B₀ P (w .lent) e Q → FineBest W₀ B₀ P (w .lent) (w .best) → (p : ℕ) → PlacedIn W₀ p → (s : Sort)
-      → (ms : Components) (cs : List Choice) (R : Claim) → ((ρ : Assignment) → Q (e .choices) ρ (e .measure) → Has (graph W₀) ρ p (flat (primitive s)) → R cs ρ ms)
+  primitive-leaves : (e : Path) (w : World Met) (Q : Claim) → Sound W₀ B₀ P (w .lent) e Q
+      → FineBest W₀ B₀ P (w .lent) (w .best) → (p : ℕ) → PlacedIn W₀ p → (s : Sort)
+      → (ms : Components) (cs : List Choice) (R : Claim) → ((ρ : Assignment) → Q (e .choices) ρ (e .measure)
+      → Has (graph W₀) ρ p (flat (primitive s)) → R cs ρ ms)
       → (k : Binds → World Met → Out Met)
       → ((C : Binds) → Sound W₀ B₀ P (w .lent) (record { binds = C; measure = ms; choices = cs }) R → Leaves W₀ B₀ P Met (w .lent) (k C w))
       → Leaves W₀ B₀ P Met (w .lent) (unifying (e .binds) p (kindFlat (primitive s)) k w)
   primitive-leaves e w Q S f p x s ms cs R h =
-      given-leaves e w Q S f p (kindFlat (primitive s)) x (primitive-placed W₀ c₀ six s) ms cs R (λ ρ t q u v. h ρ q (u ∙ (sym v ∙ primitive-term W₀ c₀ six (terms ρ) s)))
+      given-leaves e w Q S f p (kindFlat (primitive s)) x (primitive-placed W₀ c₀ six s) ms cs R (λ ρ t q u v. h ρ q
+      (u ∙ (sym v ∙ primitive-term W₀ c₀ six (terms ρ) s)))
 
   -- Every overload. The overload at position j of the list is at position i + j of the choice.
   module _ (x p : ℕ) (y : PlacedIn W₀ p) (Q R : Claim) (k : Path → World Met → Out Met) (on : Goes W₀ B₀ P Met R k) (d : Overload) where
     pub every-overload-goes : (os : List Overload) (i : ℕ) → ((j : ℕ) → j < length os → PlacedIn W₀ (getD os j d .sort .0))
-        → ((j : ℕ) → j < length os → (ch : List Choice) (ρ : Assignment) (ms : Components) (t : Tree) → Q ch ρ ms → Has (graph W₀) ρ p t → Has (graph W₀) ρ (getD os j d .sort .0) t
+        → ((j : ℕ) → j < length os → (ch : List Choice) (ρ : Assignment) (ms : Components) (t : Tree) → Q ch ρ ms
+        → Has (graph W₀) ρ p t → Has (graph W₀) ρ (getD os j d .sort .0) t
         → R (ch ++ (record { expr = x; position = i + j } ∷ [])) ρ ms)
         → (b : Bool) → Goes W₀ B₀ P Met Q (everyOverload Met meet P x p os i b k)
     unfolding everyOverload
@@ -85,12 +95,14 @@ module _
     every-overload-goes (o ∷ os) i a h b e w s f =
         and-also-leaves W₀ B₀ P Met e w Q s c₀ _ b (λ b. everyOverload Met meet P x p os (i + 1) b k e)
         (given-leaves e w Q s f p (o .sort .0) y (a 0 (omega arith)) (e .measure) (e .choices ++ (record { expr = x; position = i } ∷ [])) R
-        (λ ρ t q u v. at-position R x (i + 0) i (add-zero i) (e .choices) ρ (e .measure) (h 0 (omega arith) (e .choices) ρ (e .measure) t q u v)) (λ C. k (withChoice e x i C))
+        (λ ρ t q u v. at-position R x (i + 0) i (add-zero i) (e .choices) ρ (e .measure) (h 0 (omega arith)
+        (e .choices) ρ (e .measure) t q u v)) (λ C. k (withChoice e x i C))
         (λ C z. on (withChoice e x i C) w z f))
         (λ b v _ s′ f′. every-overload-goes os (i + 1) (λ j l. a (suc j) (omega (arith, l)))
         (λ j l ch ρ ms t q u v. at-position R x (i + suc j) (i + 1 + j) (omega arith) ch ρ ms (h (suc j) (omega (arith, l)) ch ρ ms t q u v)) b e v s′ f′)
 
-  pub disjunction-goes : (x : ExprId) (p : InferSortId) (run : Run) → PlacedIn W₀ (p .0) → ((i : ℕ) → i < run .count → PlacedIn W₀ (overloadIn (P .overloads) run i .sort .0)) → (Q R : Claim)
+  pub disjunction-goes : (x : ExprId) (p : InferSortId) (run : Run) → PlacedIn W₀ (p .0) → ((i : ℕ) → i < run .count
+      → PlacedIn W₀ (overloadIn (P .overloads) run i .sort .0)) → (Q R : Claim)
       → ((ch : List Choice) (ρ : Assignment) (ms : Components) (i : ℕ) (t : Tree) → Q ch ρ ms → i < run .count → Has (graph W₀) ρ (p .0) t
       → Has (graph W₀) ρ (overloadIn (P .overloads) run i .sort .0) t → R (ch ++ (record { expr = x .0; position = i } ∷ [])) ρ ms)
       → (k : Path → World Met → Out Met) → Goes W₀ B₀ P Met R k → Goes W₀ B₀ P Met Q (step Met meet P (Disjunction x p run) k)
@@ -128,7 +140,8 @@ module _
         (container-makes (w .lent) (S .grown .checked) o element (omega (arith, l, S .grown .sorts))) _ missed
         (λ a v g S₁ f₁ i. and-also-leaves W₀ B₀ P Met e v Q S₁ c₀ _ b (λ b. everyReading Met meet P rs body node element b k e)
         (primitive-leaves e v Q S₁ f₁ body x s (e .measure) (e .choices) M (λ ρ q u. (q, u)) (λ C. unifying C node a (λ D. k (withBinds e D)))
-        (λ C S₂. unifying-leaves W₀ B₀ P Met (withBinds e C) v M S₂ f₁ node a (placed-grown W₀ c₀ (v .lent) (S₁ .grown) node y) (sort-placed (v .lent) (S₁ .grown .checked) a (i .0))
+        (λ C S₂. unifying-leaves W₀ B₀ P Met (withBinds e C) v M S₂ f₁ node a (placed-grown W₀ c₀ (v .lent)
+        (S₁ .grown) node y) (sort-placed (v .lent) (S₁ .grown .checked) a (i .0))
         (e .measure) (e .choices) R
         (λ ρ _ j m. h (e .choices) ρ (e .measure) (flat (primitive s)) (container o (sortIn W₀ element)) (m .0) (m .1)
         (same-sort W₀ c₀ (v .lent) (S₁ .grown) ρ node (container o (sortIn W₀ element)) y .0
@@ -149,7 +162,8 @@ module _
   -- A literal: at a number sort the place has that sort, whatever the assignment; at a free place one number sort after another.
   module _
       (kind : LitKind) (p : ℕ) (x : PlacedIn W₀ p) (Q R : Claim)
-      (h : (ch : List Choice) (ρ : Assignment) (ms : Components) (s : Sort) (g : ℕ) → Q ch ρ ms → Has (graph W₀) ρ p (flat (primitive s)) → litComponent kind s ≡ some g
+      (h : (ch : List Choice) (ρ : Assignment) (ms : Components) (s : Sort) (g : ℕ) → Q ch ρ ms
+      → Has (graph W₀) ρ p (flat (primitive s)) → litComponent kind s ≡ some g
       → R ch ρ (ms ++ (g ∷ []))) (k : Path → World Met → Out Met) (on : Goes W₀ B₀ P Met R k) where
     -- on a branch, by the end of the place
     module _ (e : Path) (w : World Met) (S : Sound W₀ B₀ P (w .lent) e Q) (f : FineBest W₀ B₀ P (w .lent) (w .best)) where
@@ -181,7 +195,8 @@ module _
       nothing-found = missed-leaves W₀ B₀ P Met w (S .grown .checked) f
 
       module _ (q : ℕ) (i : follow (graph W) deep (e .binds) p ≡ some q) where
-        at-sort : (s : Sort) → graph W q ≡ over (flatHead (primitive s)) [] → (o : Option ℕ) → litComponent kind s ≡ o → Leaves W₀ B₀ P Met W (atSort Met meet P o k e w)
+        at-sort : (s : Sort) → graph W q ≡ over (flatHead (primitive s)) [] → (o : Option ℕ) → litComponent kind s ≡ o
+            → Leaves W₀ B₀ P Met W (atSort Met meet P o k e w)
         unfolding termOf
         at-sort s j none l = nothing-found
         at-sort s j (some g) l =
@@ -214,7 +229,8 @@ module _
       at-end none i = nothing-found
       at-end (some q) i =
           at-shape q i (graph W q) refl
-          (placed-formed W (S .grown .checked) q (follow-names (graph W) (e .binds) (PlacedIn W) (binds-name-places W (e .binds) (S .binds)) deep p q (placed-grown W₀ c₀ W (S .grown) p x) i))
+          (placed-formed W (S .grown .checked) q (follow-names (graph W) (e .binds) (PlacedIn W) (binds-name-places W
+          (e .binds) (S .binds)) deep p q (placed-grown W₀ c₀ W (S .grown) p x) i))
 
     pub literal-goes : Goes W₀ B₀ P Met Q (literal Met meet P kind p k)
     unfolding literal

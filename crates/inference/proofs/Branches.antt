@@ -38,7 +38,14 @@ use Rattle.inference.specs.declared.Constraint.{Constraint}
 use Rattle.inference.specs.declared.Constraint.the-variants.{Sub, Lit, Disjunction, Comprehension, Join}
 use Rattle.inference.specs.Constraints.{Problem}
 use Rattle.inference.specs.Measure.{Components, Ranking, smaller, equal, greater, compare}
-use Rattle.inference.specs.Search.{makesSort, resolveIn, joinIn, resolveAll, Agreed, joinAll, sortIn, headSteps, allInto, agreed, joinOf, Choice, Path, Candidate, withBinds, withComponents, withChoice, Try, widerTries, narrowerTries, litComponent, litTries, Reading, readings, World, Out, found, missed, ended, lending, elseTry, andAlso, says, onYes, unifying, onMade, nodesReturned, firstFound, narrower, wider, widening, atSort, literalAt, literalEnd, literal, everyReading, everyOverload, sequence, joining, step, keeping, replace, markedTied, leafBy, leafOver, leaf, dominatedBy, unlessDominated, solve}
+use Rattle.inference.specs.Search.{makesSort, resolveIn, joinIn, resolveAll, Agreed, joinAll, sortIn}
+use Rattle.inference.specs.Search.{headSteps, allInto, agreed, joinOf, Choice, Path, Candidate, withBinds}
+use Rattle.inference.specs.Search.{withComponents, withChoice, Try, widerTries, narrowerTries, litComponent}
+use Rattle.inference.specs.Search.{litTries, Reading, readings, World, Out, found, missed, ended, lending}
+use Rattle.inference.specs.Search.{elseTry, andAlso, says, onYes, unifying, onMade, nodesReturned, firstFound}
+use Rattle.inference.specs.Search.{narrower, wider, widening, atSort, literalAt, literalEnd, literal}
+use Rattle.inference.specs.Search.{everyReading, everyOverload, sequence, joining, step, keeping, replace}
+use Rattle.inference.specs.Search.{markedTied, leafBy, leafOver, leaf, dominatedBy, unlessDominated, solve}
 
 -- Room that ends is that of sorts or that of nodes.
 abbrev pub Ends : ℕ → Type 0
@@ -63,11 +70,13 @@ sort-ends W r Full = inl refl
 
 resolve-in-ends : (x : Default) (B : Binds) (p : ℕ) (W : Lent) → Each Any Perhaps EndsIn (resolveIn x B p W)
 unfolding resolveIn
-resolve-in-ends x B p W = sort-ends W (termResolved (W .sorts) (W .lengths) x (value (graph W) B p)) (termResolved (W .sorts) (W .lengths) x (value (graph W) B p) .answer)
+resolve-in-ends x B p W = sort-ends W (termResolved (W .sorts) (W .lengths) x (value (graph W) B p))
+    (termResolved (W .sorts) (W .lengths) x (value (graph W) B p) .answer)
 
 join-in-ends : (a b : ℕ) (W : Lent) → Each Any Perhaps EndsIn (joinIn a b W)
 unfolding joinIn
-join-in-ends a b W = sort-ends W (boundAt true (W .sorts) (W .lengths .sorts) (W .lengths .entries) a b) (boundAt true (W .sorts) (W .lengths .sorts) (W .lengths .entries) a b .answer)
+join-in-ends a b W = sort-ends W (boundAt true (W .sorts) (W .lengths .sorts) (W .lengths .entries) a b)
+    (boundAt true (W .sorts) (W .lengths .sorts) (W .lengths .entries) a b .answer)
 
 -- as many sorts as there are places
 one-sort-each : (x : Default) (B : Binds) (ps : List ℕ) (W : Lent) → Each (λ ss W. length ss ≡ length ps) Perhaps EndsIn (resolveAll x B ps W)
@@ -75,7 +84,8 @@ unfolding resolveAll
 one-sort-each x B [] W = refl
 one-sort-each x B (p ∷ ps) W =
     each-then Any (λ ss W. length ss ≡ suc (length ps)) Perhaps EndsIn (resolveIn x B p W) _ (resolve-in-ends x B p W)
-    (λ s W′ u. each-then (λ ss W. length ss ≡ length ps) (λ ss W. length ss ≡ suc (length ps)) Perhaps EndsIn (resolveAll x B ps W′) _ (one-sort-each x B ps W′) (λ ss U i. ap suc i))
+    (λ s W′ u. each-then (λ ss W. length ss ≡ length ps) (λ ss W. length ss ≡ suc (length ps)) Perhaps EndsIn
+    (resolveAll x B ps W′) _ (one-sort-each x B ps W′) (λ ss U i. ap suc i))
 
 join-all-ends : (a : ℕ) (bs : List ℕ) (W : Lent) → Each Any Perhaps EndsIn (joinAll a bs W)
 unfolding joinAll
@@ -120,14 +130,24 @@ NoChoice ks = ks ≡ []
 adds-components : (e : Path) (ns : Components) (n : ℕ) → length ns ≡ n → (C : Binds) → BindsExtend (e .binds) C → Adds e n NoChoice (withComponents e ns C)
 adds-components e ns n i C x = record { components = ns; measure = refl; many = i; more = []; choices = sym (append-nil (e .choices)); fine = refl; binds = x }
 
-adds-choices : (e : Path) (ks : List Choice) (K : List Choice → Type 0) → K ks → (C : Binds) → BindsExtend (e .binds) C → Adds e 0 K (record { binds = C; measure = e .measure; choices = e .choices ++ ks })
+adds-choices : (e : Path) (ks : List Choice) (K : List Choice → Type 0) → K ks → (C : Binds)
+    → BindsExtend (e .binds) C → Adds e 0 K (record { binds = C; measure = e .measure; choices = e .choices ++ ks })
 adds-choices e ks K h C x = record { components = []; measure = sym (append-nil (e .measure)); many = refl; more = ks; choices = refl; fine = h; binds = x }
 
 adds-nothing : (e : Path) (K : List Choice → Type 0) → K [] → (C : Binds) → BindsExtend (e .binds) C → Adds e 0 K (withBinds e C)
-adds-nothing e K h C x = record { components = []; measure = sym (append-nil (e .measure)); many = refl; more = []; choices = sym (append-nil (e .choices)); fine = h; binds = x }
+adds-nothing e K h C x = record {
+  components = [];
+  measure = sym (append-nil (e .measure));
+  many = refl;
+  more = [];
+  choices = sym (append-nil (e .choices));
+  fine = h;
+  binds = x;
+}
 
 -- one stretch after another
-adds-after : (e e′ e″ : Path) (n m l : ℕ) (K L M : List Choice → Type 0) → Adds e n K e′ → Adds e′ m L e″ → n + m ≡ l → ((ks ls : List Choice) → K ks → L ls → M (ks ++ ls)) → Adds e l M e″
+adds-after : (e e′ e″ : Path) (n m l : ℕ) (K L M : List Choice → Type 0) → Adds e n K e′ → Adds e′ m L e″ → n + m ≡ l
+    → ((ks ls : List Choice) → K ks → L ls → M (ks ++ ls)) → Adds e l M e″
 adds-after e e′ e″ n m l K L M a b s f =
     record {
       components = a .components ++ b .components;
@@ -175,7 +195,8 @@ module _ {Met : Type 0} (Went : World Met → Bool → World Met → Type 0) whe
   Goes w (missed v) = Went w false v
   Goes w (ended c W) = Ends c
 
-module _ (Met : Type 0) (meet : Components → Met → Met) (P : Problem) (Went : World Met → Bool → World Met → Type 0) (stays : (w : World Met) (W : Lent) → Went w false (lending w W))
+module _ (Met : Type 0) (meet : Components → Met → Met) (P : Problem) (Went : World Met → Bool → World Met
+    → Type 0) (stays : (w : World Met) (W : Lent) → Went w false (lending w W))
     (after : (u v w : World Met) (a b : Bool) → Went u a v → Went v b w → Went u (a || b) w) where
   goes-after : (u v : World Met) → Went u false v → (o : Out Met) → Goes Went v o → Goes Went u o
   unfolding Goes
@@ -206,7 +227,8 @@ module _ (Met : Type 0) (meet : Components → Met → Met) (P : Problem) (Went 
   says-goes u w true x = x
   says-goes u w false x = x
 
-  unifying-goes : (B : Binds) (l r : ℕ) (k : Binds → World Met → Out Met) (w : World Met) → ((C : Binds) → BindsExtend B C → Goes Went w (k C w)) → Goes Went w (unifying B l r k w)
+  unifying-goes : (B : Binds) (l r : ℕ) (k : Binds → World Met → Out Met) (w : World Met)
+      → ((C : Binds) → BindsExtend B C → Goes Went w (k C w)) → Goes Went w (unifying B l r k w)
   unfolding unifying
   unifying-goes B l r k w h = go (unify (graph (w .lent)) B l r) refl
     where
@@ -215,7 +237,8 @@ module _ (Met : Type 0) (meet : Components → Met → Met) (P : Problem) (Went 
       go no-way q = missed-goes w (w .lent)
       go too-deep q = missed-goes w (w .lent)
 
-  on-made-goes : {A : Type 0} (In : A → Lent → Type 0) (N : Lent → Type 0) (m : Makes A) → Each In N EndsIn m → (u w : World Met) (k : A → World Met → Out Met) (g : World Met → Out Met)
+  on-made-goes : {A : Type 0} (In : A → Lent → Type 0) (N : Lent → Type 0) (m : Makes A) → Each In N EndsIn m
+      → (u w : World Met) (k : A → World Met → Out Met) (g : World Met → Out Met)
       → ((a : A) (W : Lent) → In a W → Goes Went u (k a (lending w W))) → ((W : Lent) → N W → Goes Went u (g (lending w W))) → Goes Went u (onMade m k g w)
   unfolding Goes
   on-made-goes In N (made a W) h u w k g x y = x a W h
@@ -224,7 +247,8 @@ module _ (Met : Type 0) (meet : Components → Met → Met) (P : Problem) (Went 
 
   given-back-goes : (U : Lent) (w : World Met) (o : Out Met) → Goes Went w o → Goes Went w (nodesReturned U o)
   unfolding Goes
-  given-back-goes U w (found v) x = subst (λ a. Went w a (lending v (withNodesOf U (v .lent)))) (or-false true) (after w v _ true false x (stays v (withNodesOf U (v .lent))))
+  given-back-goes U w (found v) x = subst (λ a. Went w a (lending v (withNodesOf U (v .lent)))) (or-false true)
+      (after w v _ true false x (stays v (withNodesOf U (v .lent))))
   given-back-goes U w (missed v) x = after w v _ false false x (stays v (withNodesOf U (v .lent)))
   given-back-goes U w (ended c W) x = x
 
@@ -241,7 +265,8 @@ module _ (Met : Type 0) (meet : Components → Met → Met) (P : Problem) (Went 
       unfolding firstFound
       first-found-goes [] w = missed-goes w (w .lent)
       first-found-goes (t ∷ ts) w =
-          or-else-goes w _ (unifying-goes (e .binds) (t .left) (t .right) _ w (λ C x. h (t .component) C x w)) (firstFound Met meet P ts k e) (first-found-goes ts)
+          or-else-goes w _ (unifying-goes (e .binds) (t .left) (t .right) _ w (λ C x. h (t .component) C x w))
+          (firstFound Met meet P ts k e) (first-found-goes ts)
 
       -- the tries over what was made, whose nodes are given back
       tried-goes : (w : World Met) (W : Lent) (ts : List Try) → Goes Went w (nodesReturned (w .lent) (firstFound Met meet P ts k e (lending w W)))
@@ -254,7 +279,8 @@ module _ (Met : Type 0) (meet : Components → Met → Met) (P : Problem) (Went 
 
       wider-goes : (l r : ℕ) → From (wider Met meet P l r k e)
       wider-goes l r w =
-          on-made-goes Any Perhaps (strictRelated true (e .binds) l (w .lent)) (ends-each _ (no-room-is-15-or-16 (w .lent) true (e .binds) l)) w w _ (narrower Met meet P l r k e)
+          on-made-goes Any Perhaps (strictRelated true (e .binds) l (w .lent))
+          (ends-each _ (no-room-is-15-or-16 (w .lent) true (e .binds) l)) w w _ (narrower Met meet P l r k e)
           (λ ps W u. tried-goes w W (widerTries r 1 ps)) (λ W u. lent-goes w W (narrower Met meet P l r k e) (narrower-goes l r))
 
       widening-goes : (l r : ℕ) → From (widening Met meet P l r k e)
@@ -283,57 +309,69 @@ module _ (Met : Type 0) (meet : Components → Met → Met) (P : Problem) (Went 
           go none = missed-goes w (w .lent)
           go (some q) = by (graph (w .lent) q)
 
-    every-reading-goes : ((D : Binds) → BindsExtend (e .binds) D → From (k (withBinds e D))) → (rs : List Reading) (body node element : ℕ) (b : Bool) (u w : World Met) → Went u b w
+    every-reading-goes : ((D : Binds) → BindsExtend (e .binds) D → From (k (withBinds e D)))
+        → (rs : List Reading) (body node element : ℕ) (b : Bool) (u w : World Met) → Went u b w
         → Goes Went u (everyReading Met meet P rs body node element b k e w)
     unfolding everyReading
     every-reading-goes h [] body node element b u w x = says-goes u w b x
     every-reading-goes h (r ∷ rs) body node element b u w x =
-        on-made-goes Any (λ W. ⊥) (internContainer (r .op) element (w .lent)) (each-container (λ W. ⊥) EndsIn Any (r .op) element (w .lent) (λ p W. tt) (inl refl)) u w _ missed
+        on-made-goes Any (λ W. ⊥) (internContainer (r .op) element (w .lent)) (each-container (λ W. ⊥) EndsIn Any
+        (r .op) element (w .lent) (λ p W. tt) (inl refl)) u w _ missed
         (λ s W i.
         and-also-goes u (lending w W) b (subst (λ a. Went u a (lending w W)) (or-false b) (after u w (lending w W) b false x (stays w W))) _
-        (unifying-goes (e .binds) body (r .body) _ (lending w W) (λ C x. unifying-goes C node s _ (lending w W) (λ D y. h D (extends-trans (e .binds) C D x y) (lending w W))))
+        (unifying-goes (e .binds) body (r .body) _ (lending w W) (λ C x. unifying-goes C node s _ (lending w W)
+        (λ D y. h D (extends-trans (e .binds) C D x y) (lending w W))))
         (λ a. everyReading Met meet P rs body node element a k e) (λ a v y. every-reading-goes h rs body node element a u v y))
         (λ W i. absurd i)
 
-    every-overload-goes : (x p : ℕ) (os : List Overload) (i : ℕ) → ((j : ℕ) → j < i + length os → (C : Binds) → BindsExtend (e .binds) C → From (k (withChoice e x j C))) → (b : Bool) (u w : World Met) → Went u b w
+    every-overload-goes : (x p : ℕ) (os : List Overload) (i : ℕ) → ((j : ℕ) → j < i + length os → (C : Binds)
+        → BindsExtend (e .binds) C → From (k (withChoice e x j C))) → (b : Bool) (u w : World Met) → Went u b w
         → Goes Went u (everyOverload Met meet P x p os i b k e w)
     unfolding everyOverload
     every-overload-goes x p [] i h b u w y = says-goes u w b y
     every-overload-goes x p (o ∷ os) i h b u w y =
-        and-also-goes u w b y _ (unifying-goes (e .binds) p (o .sort .0) _ w (λ C z. h i (omega arith) C z w)) (λ a. everyOverload Met meet P x p os (i + 1) a k e)
+        and-also-goes u w b y _ (unifying-goes (e .binds) p (o .sort .0) _ w (λ C z. h i (omega arith) C z w))
+        (λ a. everyOverload Met meet P x p os (i + 1) a k e)
         (λ a v z. every-overload-goes x p os (i + 1) (λ j l. h j (omega (arith, l))) a u v z)
 
-  sequence-goes : (ss : List ℕ) (t : ℕ) (k : Path → World Met → Out Met) (e : Path) → ((e′ : Path) → Adds e (length ss) NoChoice e′ → From (k e′)) → From (sequence Met meet P ss t k e)
+  sequence-goes : (ss : List ℕ) (t : ℕ) (k : Path → World Met → Out Met) (e : Path)
+      → ((e′ : Path) → Adds e (length ss) NoChoice e′ → From (k e′)) → From (sequence Met meet P ss t k e)
   unfolding sequence
   sequence-goes [] t k e h = h e (adds-nothing e NoChoice refl (e .binds) (extends-refl (e .binds)))
   sequence-goes (s ∷ ss) t k e h =
       widening-goes (sequence Met meet P ss t k) e
       (λ n C x.
       sequence-goes ss t k (withComponents e (n ∷ []) C)
-      (λ e′ a. h e′ (adds-after e _ e′ 1 (length ss) _ NoChoice NoChoice NoChoice (adds-components e (n ∷ []) 1 refl C x) a (omega arith) (λ ks ls i j. ap₂ _++_ i j))))
+      (λ e′ a. h e′ (adds-after e _ e′ 1 (length ss) _ NoChoice NoChoice NoChoice (adds-components e (n ∷ []) 1 refl C
+      x) a (omega arith) (λ ks ls i j. ap₂ _++_ i j))))
       s t
 
-  joining-goes : (ss : List ℕ) (t : ℕ) (k : Path → World Met → Out Met) (e : Path) → ((e′ : Path) → Adds e (length ss) NoChoice e′ → From (k e′)) → From (joining Met meet P ss t k e)
+  joining-goes : (ss : List ℕ) (t : ℕ) (k : Path → World Met → Out Met) (e : Path)
+      → ((e′ : Path) → Adds e (length ss) NoChoice e′ → From (k e′)) → From (joining Met meet P ss t k e)
   unfolding joining
   joining-goes ss t k e h w =
       on-made-goes (AsMany (length ss)) Perhaps (joinOf (e .binds) ss (w .lent)) (join-of-each (e .binds) ss (w .lent)) w w _ (sequence Met meet P ss t k e)
       (λ a W i. lent-goes w W
       (λ v. elseTry (unifying (e .binds) t (a .sort) (λ C. k (withComponents e (a .components) C)) v) (sequence Met meet P ss t k e))
-      (λ v. or-else-goes v _ (unifying-goes (e .binds) t (a .sort) _ v (λ C x. h _ (adds-components e (a .components) (length ss) i C x) v)) (sequence Met meet P ss t k e) (sequence-goes ss t k e h)))
+      (λ v. or-else-goes v _ (unifying-goes (e .binds) t (a .sort) _ v (λ C x. h _ (adds-components e (a .components)
+      (length ss) i C x) v)) (sequence Met meet P ss t k e) (sequence-goes ss t k e h)))
       (λ W u. lent-goes w W (sequence Met meet P ss t k e) (sequence-goes ss t k e h))
 
-  disjunction-goes : (x : ExprId) (p : InferSortId) (run : Run) (k : Path → World Met → Out Met) (e : Path) → ((e′ : Path) → Adds e 0 (Chooses (Disjunction x p run)) e′ → From (k e′))
+  disjunction-goes : (x : ExprId) (p : InferSortId) (run : Run) (k : Path → World Met → Out Met) (e : Path)
+      → ((e′ : Path) → Adds e 0 (Chooses (Disjunction x p run)) e′ → From (k e′))
       → From (step Met meet P (Disjunction x p run) k e)
   unfolding step Chooses
   disjunction-goes x p run k e h w =
       every-overload-goes k e (x .0) (p .0) os 0
-      (λ j l C y. h _ (adds-choices e (record { expr = x .0; position = j } ∷ []) (Chooses (Disjunction x p run)) (j, omega (arith, l, length-take (run .count) (drop (run .start) (P .overloads))), refl) C y))
+      (λ j l C y. h _ (adds-choices e (record { expr = x .0; position = j } ∷ []) (Chooses (Disjunction x p run))
+      (j, omega (arith, l, length-take (run .count) (drop (run .start) (P .overloads))), refl) C y))
       false w w (stays w (w .lent))
     where
       os : List Overload
       os = take (run .count) (drop (run .start) (P .overloads))
 
-  step-goes : (c : Constraint) (k : Path → World Met → Out Met) (e : Path) → ((e′ : Path) → Adds e (widthOf P c) (Chooses c) e′ → From (k e′)) → From (step Met meet P c k e)
+  step-goes : (c : Constraint) (k : Path → World Met → Out Met) (e : Path)
+      → ((e′ : Path) → Adds e (widthOf P c) (Chooses c) e′ → From (k e′)) → From (step Met meet P c k e)
   unfolding step widthOf Chooses
   step-goes (Sub l r) k e h = widening-goes k e (λ n C x. h _ (adds-components e (n ∷ []) 1 refl C x)) (l .0) (r .0)
   step-goes (Lit p kind) k e h = literal-goes k e (λ n C x. h _ (adds-components e (n ∷ []) 1 refl C x)) kind (p .0)
@@ -351,7 +389,8 @@ module _ (Met : Type 0) (meet : Components → Met → Met) (P : Problem) (Went 
 
   -- A leaf: the first, and then one smaller than the incumbent, equal or greater. Where not all of its sorts are made it is not met.
   module _ (e : Path) (w : World Met) where
-    replace-goes : ((ss : List ℕ) (W : Lent) → Went w true (keeping Met meet P (lending w W) (e .measure) (newcomer e ss))) → Goes Went w (replace Met meet P e w)
+    replace-goes : ((ss : List ℕ) (W : Lent) → Went w true (keeping Met meet P (lending w W) (e .measure)
+        (newcomer e ss))) → Goes Went w (replace Met meet P e w)
     unfolding Goes
     replace-goes h =
         on-made-goes (λ ss W. length ss ≡ length (P .exprs)) Perhaps (resolveAll (Is (record { 0 = P .default })) (e .binds) (P .exprs) (w .lent))
@@ -360,8 +399,10 @@ module _ (Met : Type 0) (meet : Components → Met → Met) (P : Problem) (Went 
     pub leaf-goes : (w .best ≡ none → (ss : List ℕ) (W : Lent) → Went w true (keeping Met meet P (lending w W) (e .measure) (newcomer e ss)))
         → ((c : Candidate) → w .best ≡ some c → compare (e .measure) (c .measure) ≡ smaller → (ss : List ℕ) (W : Lent)
         → Went w true (keeping Met meet P (lending w W) (e .measure) (newcomer e ss)))
-        → ((c : Candidate) → w .best ≡ some c → compare (e .measure) (c .measure) ≡ equal → Went w true (keeping Met meet P w (e .measure) (markedTied Met meet P c)))
-        → ((c : Candidate) → w .best ≡ some c → compare (e .measure) (c .measure) ≡ greater → Went w true (keeping Met meet P w (e .measure) c)) → Goes Went w (leaf Met meet P e w)
+        → ((c : Candidate) → w .best ≡ some c → compare (e .measure) (c .measure) ≡ equal
+        → Went w true (keeping Met meet P w (e .measure) (markedTied Met meet P c)))
+        → ((c : Candidate) → w .best ≡ some c → compare (e .measure) (c .measure) ≡ greater
+        → Went w true (keeping Met meet P w (e .measure) c)) → Goes Went w (leaf Met meet P e w)
     unfolding leaf Goes
     leaf-goes first less same more = go (w .best) refl
       where
@@ -375,10 +416,12 @@ module _ (Met : Type 0) (meet : Components → Met → Met) (P : Problem) (Went 
         go (some c) q = by c q (compare (e .measure) (c .measure)) refl
 
   -- What holds of every leaf that the search reaches holds of the search.
-  pub search-goes : (cs : List Constraint) (e : Path) → ((e′ : Path) → Adds e (width P cs) (Choosing cs) e′ → From (leaf Met meet P e′)) → From (solve Met meet P cs e)
+  pub search-goes : (cs : List Constraint) (e : Path) → ((e′ : Path) → Adds e (width P cs) (Choosing cs) e′
+      → From (leaf Met meet P e′)) → From (solve Met meet P cs e)
   unfolding solve width
   search-goes [] e h = unless-goes (leaf Met meet P) e (h e (adds-nothing e (Choosing []) none-to-choose (e .binds) (extends-refl (e .binds))))
   search-goes (c ∷ cs) e h =
       unless-goes (step Met meet P c (solve Met meet P cs)) e
       (step-goes c (solve Met meet P cs) e
-      (λ e′ a. search-goes cs e′ (λ e″ b. h e″ (adds-after e e′ e″ (widthOf P c) (width P cs) _ (Chooses c) (Choosing cs) (Choosing (c ∷ cs)) a b refl (λ ks ls x y. and-chooses c cs ks ls x y)))))
+      (λ e′ a. search-goes cs e′ (λ e″ b. h e″ (adds-after e e′ e″ (widthOf P c) (width P cs) _ (Chooses c)
+      (Choosing cs) (Choosing (c ∷ cs)) a b refl (λ ks ls x y. and-chooses c cs ks ls x y)))))

@@ -28,7 +28,9 @@ use Rattle.inference.specs.Search.{Choice, Path, Candidate, World, Out, 
 use Rattle.inference.specs.Names.{runFor, targetIn, chosenName, baseName, nameOf}
 use Rattle.inference.specs.Typing.{All, none-left, and-all, In, here, there}
 use Rattle.inference.specs.SolveChecks.{Call, given, disjunctionFor, disjunctions, among, noTwo, componentsOf, components}
-use Rattle.inference.specs.SolveEntry.{problemOf, baseNamesOf, startPath, lentOf, searched, SolveLeft, countsIn, typed, judgedBy, judged, verdict, nothingMet, solveEntry, codeSolved, choicesOut}
+use Rattle.inference.specs.SolveEntry.{problemOf, baseNamesOf, startPath, lentOf, searched, SolveLeft}
+use Rattle.inference.specs.SolveEntry.{countsIn, typed, judgedBy, judged, verdict, nothingMet, solveEntry}
+use Rattle.inference.specs.SolveEntry.{codeSolved, choicesOut}
 use Rattle.inference.proofs.Members.{not-in-nothing, in-cases, first-in, in-right}
 use Rattle.inference.proofs.HandedOut.{choices-read}
 use Rattle.inference.specs.Inner.Listed.{Listed, sub-listed, lit-listed, disjunction-listed, comprehension-listed, join-listed}
@@ -80,7 +82,13 @@ width-of-one W P _ (sub-listed l r x y) = refl
 width-of-one W P _ (lit-listed p kind x) = refl
 width-of-one W P _ (disjunction-listed e p run x l y) = refl
 width-of-one W P _ (comprehension-listed body node element x y l) = refl
-width-of-one W P _ (join-listed run t x f a) = omega (arith, f, length-take (run .count) (drop (run .start) (P .sources)), length-drop (run .start) (P .sources))
+width-of-one W P _ (join-listed run t x f a) = omega (
+  arith,
+  f,
+  length-take (run .count) (drop (run .start)
+      (P .sources)),
+  length-drop (run .start) (P .sources),
+)
 
 pub width-is-components : (W : Lent) (P : Problem) (cs : List Constraint) → All (Listed W P) cs → width P cs ≡ components cs
 unfolding width components
@@ -156,7 +164,8 @@ one-choice x i j (k ∷ ks) n a b = go (in-cases (choice x i) k ks a) (in-cases 
     rest = no-two-first (k .expr) (map exprOf ks) n
 
     twice : (n : ℕ) → choice x n ≡ k → (m : ℕ) → In (choice x m) ks → ⊥
-    twice n e m l = let z : true ≡ false = sym (choice-among (choice x m) ks l) ∙ (ap (λ y. among y (map exprOf ks)) (ap exprOf e) ∙ rest .0) in no-confusion (cc)
+    twice n e m l = let z : true ≡ false = sym (choice-among (choice x m) ks l) ∙ (ap (λ y. among y (map exprOf ks))
+        (ap exprOf e) ∙ rest .0) in no-confusion (cc)
 
     go : (choice x i ≡ k) ⊎ In (choice x i) ks → (choice x j ≡ k) ⊎ In (choice x j) ks → (In (choice x i) ks → In (choice x j) ks → i ≡ j) → i ≡ j
     go (inl e) (inl f) h = ap (λ k. k .position) (e ∙ sym f)
@@ -177,7 +186,8 @@ disjunction-among x p run _ (there c cs i) = go c (disjunction-among x p run cs 
     go (Comprehension body node element) h = h
     go (Join r t) h = h
 
-pub run-of-disjunction : (x : ExprId) (p : InferSortId) (run : Run) (cs : List Constraint) → noTwo (disjunctions cs) ≡ true → In (Disjunction x p run) cs → runFor (x .0) cs ≡ some run
+pub run-of-disjunction : (x : ExprId) (p : InferSortId) (run : Run) (cs : List Constraint)
+    → noTwo (disjunctions cs) ≡ true → In (Disjunction x p run) cs → runFor (x .0) cs ≡ some run
 unfolding disjunctions runFor
 run-of-disjunction x p run _ n (here cs) = rw (eq-eqb (x .0) (x .0) refl)
 run-of-disjunction x p run _ n (there c cs i) = go c n (λ m. run-of-disjunction x p run cs m i)
@@ -188,13 +198,16 @@ run-of-disjunction x p run _ n (there c cs i) = go c n (λ m. run-of-disjunction
     go (Lit q kind) n h = h n
     go (Disjunction y q r) n h =
         let z = no-two-first (y .0) (disjunctions cs) n in
-        let other : eqb (y .0) (x .0) ≡ false = ne-eqb (y .0) (x .0) (λ e. let f : true ≡ false = sym (disjunction-among x p run cs i) ∙ (ap (λ v. among v (disjunctions cs)) (sym e) ∙ z .0) in no-confusion (cc)) in
+        let other : eqb (y .0) (x .0) ≡ false = ne-eqb (y .0) (x .0) (λ e. let f : true ≡ false = sym
+        (disjunction-among x p run cs i) ∙ (ap (λ v. among v (disjunctions cs)) (sym e) ∙ z .0) in no-confusion
+        (cc)) in
         rw other (h (z .1))
     go (Comprehension body node element) n h = h n
     go (Join r t) n h = h n
 
 -- the name that a choice gives
-chosen-name : (P : Problem) (x i : ℕ) (ks : List Choice) → In (choice x i) ks → ((j : ℕ) → In (choice x j) ks → j ≡ i) → chosenName P ks x ≡ targetIn (P .overloads) i (runFor x (P .constraints))
+chosen-name : (P : Problem) (x i : ℕ) (ks : List Choice) → In (choice x i) ks → ((j : ℕ) → In (choice x j) ks → j ≡ i)
+    → chosenName P ks x ≡ targetIn (P .overloads) i (runFor x (P .constraints))
 unfolding chosenName
 chosen-name P x i [] a u = absurd (not-in-nothing _ a)
 chosen-name P x i (k ∷ ks) a u = go (eqb (k .expr) x) refl (chosen-name P x i ks)
@@ -202,7 +215,8 @@ chosen-name P x i (k ∷ ks) a u = go (eqb (k .expr) x) refl (chosen-name P x i 
     go : (b : Bool) → eqb (k .expr) x ≡ b
         → (In (choice x i) ks → ((j : ℕ) → In (choice x j) ks → j ≡ i) → chosenName P ks x ≡ targetIn (P .overloads) i (runFor x (P .constraints)))
         → cond b (targetIn (P .overloads) (k .position) (runFor x (P .constraints))) (chosenName P ks x) ≡ targetIn (P .overloads) i (runFor x (P .constraints))
-    go true e h = ap (λ n. targetIn (P .overloads) n (runFor x (P .constraints))) (u (k .position) (first-in _ k ks (ap (λ y. choice y (k .position)) (sym (eqb-true (k .expr) x e)))))
+    go true e h = ap (λ n. targetIn (P .overloads) n (runFor x (P .constraints)))
+        (u (k .position) (first-in _ k ks (ap (λ y. choice y (k .position)) (sym (eqb-true (k .expr) x e)))))
     go false e h = by (in-cases (choice x i) k ks a)
       where
         by : (choice x i ≡ k) ⊎ In (choice x i) ks → chosenName P ks x ≡ targetIn (P .overloads) i (runFor x (P .constraints))
@@ -214,7 +228,8 @@ unfolding chosenName
 not-chosen P x [] a = refl
 not-chosen P x (k ∷ ks) a = let q = not-among x (k .expr) (map exprOf ks) a in rw (ne-eqb (k .expr) x (λ e. q .0 (sym e))) (not-chosen P x ks (q .1))
 
-module _ (P : Problem) (bs : List BaseName) (ks : List Choice) (choosing : Choosing (P .constraints) ks) (n : noTwo (disjunctions (P .constraints)) ≡ true) where
+module _ (P : Problem) (bs : List BaseName) (ks : List Choice) (choosing : Choosing (P .constraints) ks)
+    (n : noTwo (disjunctions (P .constraints)) ≡ true) where
   pub disjunction-named : (x : ExprId) (p : InferSortId) (run : Run) → In (Disjunction x p run) (P .constraints) → ChosenFor P bs ks x run
   unfolding nameOf
   disjunction-named x p run i =
@@ -251,7 +266,8 @@ module _ (I : Call) (A : Accepted I) where
       go true q = absurd (omega (arith, q))
       go false q = record { accepted = A; lent = W; candidate = c; is = refl; fits = f }
 
-  searched-typed : (w : World (Unit {0})) → FitsBest (problemOf I) (given I) (w .best) → (o : Out (Unit {0})) → Goes (Fitting (Unit {0}) nothingMet (problemOf I) (given I)) w o
+  searched-typed : (w : World (Unit {0})) → FitsBest (problemOf I) (given I) (w .best) → (o : Out (Unit {0}))
+      → Goes (Fitting (Unit {0}) nothingMet (problemOf I) (given I)) w o
       → codeSolved (verdict I o .answer) ≡ 0 → IsTyping I (verdict I o)
   unfolding Goes codeSolved
   searched-typed w f (found v) x q = judged-typed (v .lent) (v .best) (x f) q
@@ -278,7 +294,9 @@ names-and-choices I o e = named (solveEntry I) (t .is) e
         let ks = t .candidate .choices in
         let b : typed I (t .lent) (t .candidate) .answer ≡ Typing o = ap (λ (z : SolveLeft). z .answer) (sym i) ∙ a in
         let q : o ≡ record { counts = countsIn (t .lent); components = length (t .candidate .measure); choices = length (t .candidate .choices) } = cc in
-        let r : choicesOut L o ≡ ks = ap (λ (z : SolveLeft). choicesOut z o) i ∙ (ap (λ (z : Outputs). choicesOut (typed I (t .lent) (t .candidate)) z) q ∙ choices-read (t .candidate .choices) _) in
+        let r : choicesOut L o ≡ ks = ap (λ (z : SolveLeft). choicesOut z o) i ∙
+        (ap (λ (z : Outputs). choicesOut (typed I (t .lent) (t .candidate)) z) q ∙ choices-read
+        (t .candidate .choices) _) in
         let two : noTwo (map exprOf ks) ≡ true = ap noTwo (choices-in-order (given I) ks (t .fits .choices)) ∙ t .accepted .one-disjunction-each in
         subst (Named I L o) (sym r)
         (record {

@@ -22,7 +22,9 @@ use Rattle.inference.specs.declared.Constraint.the-variants.{Sub, Lit, D
 use Rattle.inference.specs.Constraints.{Problem}
 use Rattle.inference.specs.Search.{Choice}
 use Rattle.inference.specs.Names.{overloadIn}
-use Rattle.inference.specs.Typing.{Assignment, Has, admits, All, and-all, In, here, there, ReadAs, Into, Typed, and-typed, Meets, meets-sub, meets-lit, meets-disjunction, meets-comprehension, meets-join, Number, is-pos, is-nat, is-int, is-real}
+use Rattle.inference.specs.Typing.{Assignment, Has, admits, All, and-all, In, here, there, ReadAs, Into, Typed}
+use Rattle.inference.specs.Typing.{and-typed, Meets, meets-sub, meets-lit, meets-disjunction}
+use Rattle.inference.specs.Typing.{meets-comprehension, meets-join, Number, is-pos, is-nat, is-int, is-real}
 
 admitted-is-a-number : (kind : LitKind) (s : Sort) → admits kind s ≡ true → Number (flat (primitive s))
 admitted-is-a-number Positive Sort.Bool a = no-confusion cc
@@ -41,7 +43,8 @@ module _ (shape : ℕ → Shape) (look : ℕ → Tree) (P : Problem) (σ : Assig
   not-into p s t h f i = let q = one-sort p s (i .sort) h (i .has) in true-not-false (materializable s t) (rw q (i .into)) f
 
   module _ (ch : List Choice) where
-    pub sub-rules-out : (l r : InferSortId) (s t : Tree) → Has shape σ (l .0) s → Has shape σ (r .0) t → materializable s t ≡ false → Meets shape look P ch σ (Sub l r) → ⊥
+    pub sub-rules-out : (l r : InferSortId) (s t : Tree) → Has shape σ (l .0) s → Has shape σ (r .0) t
+        → materializable s t ≡ false → Meets shape look P ch σ (Sub l r) → ⊥
     sub-rules-out l r s t h g f (meets-sub _ _ u k i) = let q = one-sort (r .0) t u g k in not-into (l .0) s u h (rw q at f) i
 
     pub literal-is-a-number : (p : InferSortId) (kind : LitKind) (t : Tree) → Has shape σ (p .0) t → Meets shape look P ch σ (Lit p kind) → Number t
@@ -71,7 +74,8 @@ module _ (shape : ℕ → Shape) (look : ℕ → Tree) (P : Problem) (σ : Assig
         let p = one-sort (body .0) s s′ h h′ in let q = one-sort (node .0) t t′ g g′ in rw (p, q) r
 
     -- a Join one of whose sources is not materializable into the target
-    pub join-rules-out : (run : Run) (t : InferSortId) (u : Tree) → Has shape σ (t .0) u → (p : ℕ) (s : Tree) → In p (take (run .count) (drop (run .start) (P .sources))) → Has shape σ p s
+    pub join-rules-out : (run : Run) (t : InferSortId) (u : Tree) → Has shape σ (t .0) u → (p : ℕ) (s : Tree)
+        → In p (take (run .count) (drop (run .start) (P .sources))) → Has shape σ p s
         → materializable s u ≡ false → Meets shape look P ch σ (Join run t) → ⊥
     join-rules-out run t u h p s i g f (meets-join _ _ u′ h′ a) = go (take (run .count) (drop (run .start) (P .sources))) i a
       where
@@ -80,14 +84,17 @@ module _ (shape : ℕ → Shape) (look : ℕ → Tree) (P : Problem) (σ : Assig
         go _ (there y ps j) (and-all _ _ x xs) = go ps j xs
 
     -- an overload chosen that has another sort: where every choice for the expression names position i
-    pub disjunction-rules-out : (x : ExprId) (p : InferSortId) (run : Run) (i : ℕ) (s t : Tree) → ((j : ℕ) → In (record { expr = x .0; position = j }) ch → j ≡ i) → Has shape σ (p .0) s
+    pub disjunction-rules-out : (x : ExprId) (p : InferSortId) (run : Run) (i : ℕ) (s t : Tree)
+        → ((j : ℕ) → In (record { expr = x .0; position = j }) ch → j ≡ i) → Has shape σ (p .0) s
         → Has shape σ (overloadIn (P .overloads) run i .sort .0) t → (s ≡ t → ⊥) → Meets shape look P ch σ (Disjunction x p run) → ⊥
     disjunction-rules-out x p run i s t only h g f (meets-disjunction _ _ _ j u m l h′ g′) =
         let q = only j m in
         f (one-sort (p .0) s u h h′ ∙ one-sort (overloadIn (P .overloads) run i .sort .0) u t (rw (sym q) g′) g)
 
     -- a disjunction without a choice
-    pub disjunction-has-a-choice : (x : ExprId) (p : InferSortId) (run : Run) → ((j : ℕ) → In (record { expr = x .0; position = j }) ch → ⊥) → Meets shape look P ch σ (Disjunction x p run) → ⊥
+    pub disjunction-has-a-choice : (x : ExprId) (p : InferSortId) (run : Run)
+        → ((j : ℕ) → In (record { expr = x .0; position = j }) ch → ⊥) → Meets shape look P ch σ (Disjunction x p run)
+        → ⊥
     disjunction-has-a-choice x p run none (meets-disjunction _ _ _ j u m l h g) = none j m
 
   -- a variable that has another sort than what it is bound to

@@ -19,7 +19,13 @@ use Rattle.inference.specs.declared.Constraint.{Constraint}
 use Rattle.inference.specs.declared.Constraint.the-variants.{Sub, Lit, Disjunction, Comprehension, Join}
 use Rattle.inference.specs.Constraints.{Problem}
 use Rattle.inference.specs.Measure.{Components, Ranking, smaller, equal, greater, compare}
-use Rattle.inference.specs.Search.{resolveAll, joinOf, Path, Candidate, withBinds, withComponents, withChoice, Try, widerTries, narrowerTries, litComponent, litTries, Reading, readings, World, Out, found, missed, ended, lending, elseTry, andAlso, says, onYes, unifying, onMade, nodesReturned, firstFound, narrower, wider, widening, atSort, literalAt, literalEnd, literal, everyReading, everyOverload, sequence, joining, step, keeping, replace, markedTied, leafBy, leafOver, leaf, dominatedBy, unlessDominated, solve}
+use Rattle.inference.specs.Search.{resolveAll, joinOf, Path, Candidate, withBinds, withComponents, withChoice}
+use Rattle.inference.specs.Search.{Try, widerTries, narrowerTries, litComponent, litTries, Reading, readings}
+use Rattle.inference.specs.Search.{World, Out, found, missed, ended, lending, elseTry, andAlso, says, onYes}
+use Rattle.inference.specs.Search.{unifying, onMade, nodesReturned, firstFound, narrower, wider, widening}
+use Rattle.inference.specs.Search.{atSort, literalAt, literalEnd, literal, everyReading, everyOverload}
+use Rattle.inference.specs.Search.{sequence, joining, step, keeping, replace, markedTied, leafBy, leafOver}
+use Rattle.inference.specs.Search.{leaf, dominatedBy, unlessDominated, solve}
 use Rattle.inference.specs.SolveChecks.{Call, given}
 use Rattle.inference.specs.SolveEntry.{problemOf, startPath, lentOf, searched, verdict, nothingMet}
 use Rattle.inference.specs.Leaves.{history}
@@ -40,13 +46,15 @@ module _ {Met Met′ : Type 0} (f : Met → Met′) where
   abbrev Alike : (World Met → Out Met) → (World Met′ → Out Met′) → Type 0
   Alike k k′ = (w : World Met) → Image (k w) (k′ (mapWorld w))
 
-  or-else-alike : (o : Out Met) (o′ : Out Met′) → Image o o′ → (g : World Met → Out Met) (g′ : World Met′ → Out Met′) → Alike g g′ → Image (elseTry o g) (elseTry o′ g′)
+  or-else-alike : (o : Out Met) (o′ : Out Met′) → Image o o′ → (g : World Met → Out Met) (g′ : World Met′ → Out Met′)
+      → Alike g g′ → Image (elseTry o g) (elseTry o′ g′)
   unfolding Image
   or-else-alike (found w) o′ e g g′ h = ap (λ o. elseTry o g′) e
   or-else-alike (missed w) o′ e g g′ h = h w ∙ ap (λ o. elseTry o g′) e
   or-else-alike (ended c W) o′ e g g′ h = ap (λ o. elseTry o g′) e
 
-  and-also-alike : (o : Out Met) (o′ : Out Met′) → Image o o′ → (b : Bool) (g : Bool → World Met → Out Met) (g′ : Bool → World Met′ → Out Met′) → ((b : Bool) → Alike (g b) (g′ b))
+  and-also-alike : (o : Out Met) (o′ : Out Met′) → Image o o′ → (b : Bool) (g : Bool → World Met → Out Met) (g′ : Bool
+      → World Met′ → Out Met′) → ((b : Bool) → Alike (g b) (g′ b))
       → Image (andAlso o b g) (andAlso o′ b g′)
   unfolding Image
   and-also-alike (found w) o′ e b g g′ h = h true w ∙ ap (λ o. andAlso o b g′) e
@@ -62,7 +70,8 @@ module _ {Met Met′ : Type 0} (f : Met → Met′) where
   says-alike true w = refl
   says-alike false w = refl
 
-  unifying-alike : (B : Binds) (l r : ℕ) (k : Binds → World Met → Out Met) (k′ : Binds → World Met′ → Out Met′) → ((C : Binds) → Alike (k C) (k′ C)) → Alike (unifying B l r k) (unifying B l r k′)
+  unifying-alike : (B : Binds) (l r : ℕ) (k : Binds → World Met → Out Met) (k′ : Binds → World Met′ → Out Met′)
+      → ((C : Binds) → Alike (k C) (k′ C)) → Alike (unifying B l r k) (unifying B l r k′)
   unfolding unifying
   unifying-alike B l r k k′ h w = go (unify (graph (w .lent)) B l r)
     where
@@ -71,7 +80,8 @@ module _ {Met Met′ : Type 0} (f : Met → Met′) where
       go no-way = missed-alike w
       go too-deep = missed-alike w
 
-  on-made-alike : {A : Type 0} (m : Makes A) (k : A → World Met → Out Met) (k′ : A → World Met′ → Out Met′) (g : World Met → Out Met) (g′ : World Met′ → Out Met′)
+  on-made-alike : {A : Type 0} (m : Makes A) (k : A → World Met → Out Met) (k′ : A → World Met′
+      → Out Met′) (g : World Met → Out Met) (g′ : World Met′ → Out Met′)
       → ((a : A) → Alike (k a) (k′ a)) → Alike g g′ → Alike (onMade m k g) (onMade m k′ g′)
   unfolding Image
   on-made-alike (made a W) k k′ g g′ h i w = h a (lending w W)
@@ -84,7 +94,8 @@ module _ {Met Met′ : Type 0} (f : Met → Met′) where
   given-back-alike U (missed w) o′ e = ap (nodesReturned U) e
   given-back-alike U (ended c W) o′ e = ap (nodesReturned U) e
 
-module _ (Met Met′ : Type 0) (meet : Components → Met → Met) (meet′ : Components → Met′ → Met′) (f : Met → Met′) (commutes : (m : Components) (x : Met) → f (meet m x) ≡ meet′ m (f x)) (P : Problem) where
+module _ (Met Met′ : Type 0) (meet : Components → Met → Met) (meet′ : Components → Met′ → Met′) (f : Met
+    → Met′) (commutes : (m : Components) (x : Met) → f (meet m x) ≡ meet′ m (f x)) (P : Problem) where
   -- what comes next, on every path
   abbrev Nexts : (Path → World Met → Out Met) → (Path → World Met′ → Out Met′) → Type 0
   Nexts k k′ = (e : Path) → Alike f (k e) (k′ e)
@@ -94,12 +105,15 @@ module _ (Met Met′ : Type 0) (meet : Components → Met → Met) (meet′ : Co
     unfolding firstFound
     first-found-alike [] e w = missed-alike f w
     first-found-alike (t ∷ ts) e w =
-        or-else-alike f _ _ (unifying-alike f (e .binds) (t .left) (t .right) _ _ (λ C. h (withComponents e (t .component ∷ []) C)) w) (firstFound Met meet P ts k e) (firstFound Met′ meet′ P ts k′ e)
+        or-else-alike f _ _ (unifying-alike f (e .binds) (t .left) (t .right) _ _
+        (λ C. h (withComponents e (t .component ∷ []) C)) w) (firstFound Met meet P ts k e) (firstFound Met′ meet′
+        P ts k′ e)
         (first-found-alike ts e)
 
     narrower-alike : (l r : ℕ) → Nexts (narrower Met meet P l r k) (narrower Met′ meet′ P l r k′)
     narrower-alike l r e w =
-        on-made-alike f (strictRelated false (e .binds) r (w .lent)) _ _ missed missed (λ ps v. given-back-alike f (w .lent) _ _ (first-found-alike (narrowerTries l 1 ps) e v)) (missed-alike f) w
+        on-made-alike f (strictRelated false (e .binds) r (w .lent)) _ _ missed missed (λ ps v. given-back-alike f
+        (w .lent) _ _ (first-found-alike (narrowerTries l 1 ps) e v)) (missed-alike f) w
 
     wider-alike : (l r : ℕ) → Nexts (wider Met meet P l r k) (wider Met′ meet′ P l r k′)
     wider-alike l r e w =
@@ -109,7 +123,8 @@ module _ (Met Met′ : Type 0) (meet : Components → Met → Met) (meet′ : Co
     widening-alike : (l r : ℕ) → Nexts (widening Met meet P l r k) (widening Met′ meet′ P l r k′)
     unfolding widening
     widening-alike l r e w =
-        or-else-alike f _ _ (unifying-alike f (e .binds) l r _ _ (λ C. h (withComponents e (0 ∷ []) C)) w) (wider Met meet P l r k e) (wider Met′ meet′ P l r k′ e) (wider-alike l r e)
+        or-else-alike f _ _ (unifying-alike f (e .binds) l r _ _ (λ C. h (withComponents e (0 ∷ []) C)) w)
+        (wider Met meet P l r k e) (wider Met′ meet′ P l r k′ e) (wider-alike l r e)
 
     at-sort-alike : (g : Option ℕ) → Nexts (atSort Met meet P g k) (atSort Met′ meet′ P g k′)
     at-sort-alike none e w = missed-alike f w
@@ -133,36 +148,46 @@ module _ (Met Met′ : Type 0) (meet : Components → Met → Met) (meet′ : Co
         go none = missed-alike f w
         go (some q) = by (graph (w .lent) q)
 
-    every-reading-alike : (rs : List Reading) (body node element : ℕ) (b : Bool) → Nexts (everyReading Met meet P rs body node element b k) (everyReading Met′ meet′ P rs body node element b k′)
+    every-reading-alike : (rs : List Reading) (body node element : ℕ) (b : Bool)
+        → Nexts (everyReading Met meet P rs body node element b k) (everyReading Met′ meet′ P rs body node element b
+        k′)
     unfolding everyReading
     every-reading-alike [] body node element b e w = says-alike f b w
     every-reading-alike (r ∷ rs) body node element b e w =
         on-made-alike f (internContainer (r .op) element (w .lent)) _ _ missed missed
         (λ s v. and-also-alike f _ _ (unifying-alike f (e .binds) body (r .body) _ _ (λ C. unifying-alike f C node s _ _ (λ D. h (withBinds e D))) v) b
-        (λ b. everyReading Met meet P rs body node element b k e) (λ b. everyReading Met′ meet′ P rs body node element b k′ e) (λ b. every-reading-alike rs body node element b e))
+        (λ b. everyReading Met meet P rs body node element b k e) (λ b. everyReading Met′ meet′ P rs body node element
+        b k′ e) (λ b. every-reading-alike rs body node element b e))
         (missed-alike f) w
 
-    every-overload-alike : (x p : ℕ) (os : List Overload) (i : ℕ) (b : Bool) → Nexts (everyOverload Met meet P x p os i b k) (everyOverload Met′ meet′ P x p os i b k′)
+    every-overload-alike : (x p : ℕ) (os : List Overload) (i : ℕ) (b : Bool)
+        → Nexts (everyOverload Met meet P x p os i b k) (everyOverload Met′ meet′ P x p os i b k′)
     unfolding everyOverload
     every-overload-alike x p [] i b e w = says-alike f b w
     every-overload-alike x p (o ∷ os) i b e w =
-        and-also-alike f _ _ (unifying-alike f (e .binds) p (o .sort .0) _ _ (λ C. h (withChoice e x i C)) w) b (λ b. everyOverload Met meet P x p os (i + 1) b k e)
+        and-also-alike f _ _ (unifying-alike f (e .binds) p (o .sort .0) _ _ (λ C. h (withChoice e x i C)) w) b
+        (λ b. everyOverload Met meet P x p os (i + 1) b k e)
         (λ b. everyOverload Met′ meet′ P x p os (i + 1) b k′ e) (λ b. every-overload-alike x p os (i + 1) b e)
 
-  sequence-alike : (ss : List ℕ) (t : ℕ) (k : Path → World Met → Out Met) (k′ : Path → World Met′ → Out Met′) → Nexts k k′ → Nexts (sequence Met meet P ss t k) (sequence Met′ meet′ P ss t k′)
+  sequence-alike : (ss : List ℕ) (t : ℕ) (k : Path → World Met → Out Met) (k′ : Path → World Met′ → Out Met′)
+      → Nexts k k′ → Nexts (sequence Met meet P ss t k) (sequence Met′ meet′ P ss t k′)
   unfolding sequence
   sequence-alike [] t k k′ h = h
   sequence-alike (s ∷ ss) t k k′ h = widening-alike (sequence Met meet P ss t k) (sequence Met′ meet′ P ss t k′) (sequence-alike ss t k k′ h) s t
 
-  joining-alike : (ss : List ℕ) (t : ℕ) (k : Path → World Met → Out Met) (k′ : Path → World Met′ → Out Met′) → Nexts k k′ → Nexts (joining Met meet P ss t k) (joining Met′ meet′ P ss t k′)
+  joining-alike : (ss : List ℕ) (t : ℕ) (k : Path → World Met → Out Met) (k′ : Path → World Met′ → Out Met′)
+      → Nexts k k′ → Nexts (joining Met meet P ss t k) (joining Met′ meet′ P ss t k′)
   unfolding joining
   joining-alike ss t k k′ h e w =
       on-made-alike f (joinOf (e .binds) ss (w .lent)) _ _ (sequence Met meet P ss t k e) (sequence Met′ meet′ P ss t k′ e)
-      (λ a v. or-else-alike f _ _ (unifying-alike f (e .binds) t (a .sort) _ _ (λ C. h (withComponents e (a .components) C)) v) (sequence Met meet P ss t k e) (sequence Met′ meet′ P ss t k′ e)
+      (λ a v. or-else-alike f _ _ (unifying-alike f (e .binds) t (a .sort) _ _
+      (λ C. h (withComponents e (a .components) C)) v) (sequence Met meet P ss t k e) (sequence Met′ meet′ P ss t
+      k′ e)
       (sequence-alike ss t k k′ h e))
       (sequence-alike ss t k k′ h e) w
 
-  step-alike : (c : Constraint) (k : Path → World Met → Out Met) (k′ : Path → World Met′ → Out Met′) → Nexts k k′ → Nexts (step Met meet P c k) (step Met′ meet′ P c k′)
+  step-alike : (c : Constraint) (k : Path → World Met → Out Met) (k′ : Path → World Met′ → Out Met′) → Nexts k k′
+      → Nexts (step Met meet P c k) (step Met′ meet′ P c k′)
   unfolding step
   step-alike (Sub l r) k k′ h = widening-alike k k′ h (l .0) (r .0)
   step-alike (Lit p kind) k k′ h = literal-alike k k′ h kind (p .0)
@@ -194,7 +219,8 @@ module _ (Met Met′ : Type 0) (meet : Components → Met → Met) (meet′ : Co
       go none = replace-alike e w
       go (some c) = by (compare (e .measure) (c .measure)) c
 
-  unless-alike : (k : Path → World Met → Out Met) (k′ : Path → World Met′ → Out Met′) → Nexts k k′ → Nexts (unlessDominated Met meet P k) (unlessDominated Met′ meet′ P k′)
+  unless-alike : (k : Path → World Met → Out Met) (k′ : Path → World Met′ → Out Met′) → Nexts k k′
+      → Nexts (unlessDominated Met meet P k) (unlessDominated Met′ meet′ P k′)
   unless-alike k k′ h e w = go (dominatedBy Met meet P (e .measure) (w .best))
     where
       go : (b : Bool) → Image f (cond b (missed w) (k e w)) (cond b (missed (mapWorld f w)) (k′ e (mapWorld f w)))
@@ -204,7 +230,8 @@ module _ (Met Met′ : Type 0) (meet : Components → Met → Met) (meet′ : Co
   solve-alike : (cs : List Constraint) → Nexts (solve Met meet P cs) (solve Met′ meet′ P cs)
   unfolding solve
   solve-alike [] = unless-alike (leaf Met meet P) (leaf Met′ meet′ P) leaf-alike
-  solve-alike (c ∷ cs) = unless-alike (step Met meet P c (solve Met meet P cs)) (step Met′ meet′ P c (solve Met′ meet′ P cs)) (step-alike c (solve Met meet P cs) (solve Met′ meet′ P cs) (solve-alike cs))
+  solve-alike (c ∷ cs) = unless-alike (step Met meet P c (solve Met meet P cs)) (step Met′ meet′ P c
+      (solve Met′ meet′ P cs)) (step-alike c (solve Met meet P cs) (solve Met′ meet′ P cs) (solve-alike cs))
 
   pub forgets : (cs : List Constraint) (e : Path) (w : World Met) → mapOut f (solve Met meet P cs e w) ≡ solve Met′ meet′ P cs e (mapWorld f w)
   unfolding Image
@@ -220,4 +247,5 @@ pub history-has-the-verdict : (I : Call) → verdict I (history I) ≡ verdict I
 history-has-the-verdict I =
     sym (verdict-forgets {Met′ = Unit {0}} (λ ms. tt) I (history I))
     ∙ ap (verdict I)
-    (forgets (List Components) (Unit {0}) _∷_ nothingMet (λ ms. tt) (λ m ms. refl) (problemOf I) (given I) (startPath I) (record { lent = lentOf I; best = none; met = [] }))
+    (forgets (List Components) (Unit {0}) _∷_ nothingMet (λ ms. tt) (λ m ms. refl) (problemOf I) (given I)
+    (startPath I) (record { lent = lentOf I; best = none; met = [] }))

@@ -23,7 +23,8 @@ use Rattle.unification.proofs.Answers.{Agreeing, yes-agrees}
 use Rattle.inference.specs.declared.Constraint.{Constraint}
 use Rattle.inference.specs.Constraints.{Problem}
 use Rattle.inference.specs.Measure.{Components}
-use Rattle.inference.specs.Search.{Choice, Path, Candidate, World, Out, found, missed, ended, lending, elseTry, andAlso, says, onYes, unifying, nodesReturned, sortIn}
+use Rattle.inference.specs.Search.{Choice, Path, Candidate, World, Out, found, missed, ended, lending, elseTry}
+use Rattle.inference.specs.Search.{andAlso, says, onYes, unifying, nodesReturned, sortIn}
 use Rattle.inference.specs.Typing.{Assignment, Has, All, none-left, and-all, Typed, all-typed, and-typed}
 use Rattle.inference.specs.Components.{Costing}
 use Rattle.inference.specs.Inner.Listed.{SortsOnly}
@@ -40,7 +41,12 @@ pub sorts-only-refl : (W : Lent) → CheckedLent W → SortsOnly W W
 sorts-only-refl W c = record { grows = grows-refl W c; nodes = refl; arguments = refl }
 
 pub sorts-only-trans : (W W′ W″ : Lent) → CheckedLent W → SortsOnly W W′ → SortsOnly W′ W″ → SortsOnly W W″
-sorts-only-trans W W′ W″ c g h = record { grows = grows-trans W c W′ W″ (g .grows) (h .grows); nodes = h .nodes ∙ g .nodes; arguments = h .arguments ∙ g .arguments }
+sorts-only-trans W W′ W″ c g h = record {
+  grows = grows-trans W c W′ W″ (g .grows) (h .grows);
+  nodes = h .nodes ∙
+      g .nodes;
+  arguments = h .arguments ∙ g .arguments;
+}
 
 -- Places of the lists given, in lists that have grown: they are places, and have the sort that they had.
 module _ (W₀ : Lent) (c₀ : CheckedLent W₀) (W : Lent) (g : Grows W₀ W) where
@@ -51,7 +57,8 @@ module _ (W₀ : Lent) (c₀ : CheckedLent W₀) (W : Lent) (g : Grows W₀ W) w
   pub same-sort : (ρ : Assignment) (p : ℕ) (t : Tree) → PlacedIn W₀ p → Has (graph W) ρ p t ↔ Has (graph W₀) ρ p t
   same-sort ρ p t x = let y = ap (substitute (terms ρ)) (term-grown W₀ c₀ W g p x) in (λ h. sym y ∙ h, λ h. y ∙ h)
 
-  pub equal-have-one-sort : (ρ : Assignment) (l r : ℕ) (t : Tree) → PlacedIn W₀ l → PlacedIn W₀ r → Equates (graph W) (terms ρ) l r → Has (graph W₀) ρ l t → Has (graph W₀) ρ r t
+  pub equal-have-one-sort : (ρ : Assignment) (l r : ℕ) (t : Tree) → PlacedIn W₀ l → PlacedIn W₀ r
+      → Equates (graph W) (terms ρ) l r → Has (graph W₀) ρ l t → Has (graph W₀) ρ r t
   equal-have-one-sort ρ l r t x y q h = same-sort ρ r t y .0 (sym q ∙ same-sort ρ l t x .1 h)
 
 module _ (W₀ : Lent) (B₀ : Binds) (P : Problem) where
@@ -145,7 +152,8 @@ module _ (W₀ : Lent) (B₀ : Binds) (P : Problem) where
         costs = λ ρ r. s .costs ρ (back (terms ρ) r);
       }
 
-  pub typed-grown : (W W′ : Lent) → Grows W W′ → (ρ : Assignment) (ps ss : List ℕ) → AllBelow (W .lengths .sorts) ss → Typed (graph W₀) (sortIn W) ρ ps ss → Typed (graph W₀) (sortIn W′) ρ ps ss
+  pub typed-grown : (W W′ : Lent) → Grows W W′ → (ρ : Assignment) (ps ss : List ℕ) → AllBelow (W .lengths .sorts) ss
+      → Typed (graph W₀) (sortIn W) ρ ps ss → Typed (graph W₀) (sortIn W′) ρ ps ss
   unfolding AllBelow
   typed-grown W W′ g ρ _ _ a all-typed = all-typed
   typed-grown W W′ g ρ _ _ a (and-typed p s ps ss h t) = and-typed p s ps ss (h ∙ ap termOf (sym (g .looks s (a .0)))) (typed-grown W W′ g ρ ps ss (a .1) t)
@@ -165,7 +173,8 @@ module _ (W₀ : Lent) (B₀ : Binds) (P : Problem) where
 
   module _ (Met : Type 0) where
     -- what goes on where R is claimed goes on where Q is, which says more
-    pub weaker-goes : (Q R : Claim) → ((ch : List Choice) (ρ : Assignment) (ms : Components) → Q ch ρ ms → R ch ρ ms) → (k : Path → World Met → Out Met) → Goes Met R k → Goes Met Q k
+    pub weaker-goes : (Q R : Claim) → ((ch : List Choice) (ρ : Assignment) (ms : Components) → Q ch ρ ms → R ch ρ ms)
+        → (k : Path → World Met → Out Met) → Goes Met R k → Goes Met Q k
     weaker-goes Q R h k g e w s f =
         g e w (record { grown = s .grown; binds = s .binds; refines = s .refines; costs = λ ρ r. h (e .choices) ρ (e .measure) (s .costs ρ r) }) f
 
@@ -176,7 +185,8 @@ module _ (W₀ : Lent) (B₀ : Binds) (P : Problem) where
 
       after-leaves : CheckedLent W₀ → (f : World Met → Out Met) → After f → (v : World Met) → Went Met (w .lent) v → Leaves Met (w .lent) (f v)
       after-leaves c₀ f y v x =
-          leaves-from Met (w .lent) (s .grown .checked) (v .lent) (x .only) (f v) (y v (x .only .grows) (sound-grown (w .lent) (v .lent) e Q c₀ s (x .only .grows)) (x .best))
+          leaves-from Met (w .lent) (s .grown .checked) (v .lent) (x .only) (f v) (y v (x .only .grows)
+          (sound-grown (w .lent) (v .lent) e Q c₀ s (x .only .grows)) (x .best))
 
       -- "where nothing was found, what else"
       pub or-else-leaves : CheckedLent W₀ → (o : Out Met) (f : World Met → Out Met) → Leaves Met (w .lent) o → After f → Leaves Met (w .lent) (elseTry o f)
@@ -185,16 +195,21 @@ module _ (W₀ : Lent) (B₀ : Binds) (P : Problem) where
       or-else-leaves c₀ (missed v) f x y = after-leaves c₀ f y v x
       or-else-leaves c₀ (ended b W) f x y = x
 
-      pub and-also-leaves : CheckedLent W₀ → (o : Out Met) (b : Bool) (f : Bool → World Met → Out Met) → Leaves Met (w .lent) o → ((b : Bool) → After (f b)) → Leaves Met (w .lent) (andAlso o b f)
+      pub and-also-leaves : CheckedLent W₀ → (o : Out Met) (b : Bool) (f : Bool → World Met → Out Met)
+          → Leaves Met (w .lent) o → ((b : Bool) → After (f b)) → Leaves Met (w .lent) (andAlso o b f)
       unfolding Leaves
       and-also-leaves c₀ (found v) b f x y = after-leaves c₀ (f true) (y true) v x
       and-also-leaves c₀ (missed v) b f x y = after-leaves c₀ (f b) (y b) v x
       and-also-leaves c₀ (ended d W) b f x y = x
 
       -- Two places made equal, and on from there, where R is claimed of every assignment that makes them equal.
-      pub unifying-leaves : FineBest (w .lent) (w .best) → (l r : ℕ) → PlacedIn (w .lent) l → PlacedIn (w .lent) r → (ms : Components) (cs : List Choice) (R : Claim)
-          → ((ρ : Assignment) → Respects (graph (w .lent)) (e .binds) (terms ρ) → Equates (graph (w .lent)) (terms ρ) l r → Q (e .choices) ρ (e .measure) → R cs ρ ms)
-          → (k : Binds → World Met → Out Met) → ((C : Binds) → Sound (w .lent) (record { binds = C; measure = ms; choices = cs }) R → Leaves Met (w .lent) (k C w))
+      pub unifying-leaves : FineBest (w .lent) (w .best) → (l r : ℕ) → PlacedIn (w .lent) l → PlacedIn (w .lent) r
+          → (ms : Components) (cs : List Choice) (R : Claim)
+          → ((ρ : Assignment) → Respects (graph (w .lent)) (e .binds) (terms ρ) → Equates (graph (w .lent)) (terms ρ)
+          l r → Q (e .choices) ρ (e .measure) → R cs ρ ms)
+          → (k : Binds → World Met → Out Met)
+          → ((C : Binds) → Sound (w .lent) (record { binds = C; measure = ms; choices = cs }) R
+          → Leaves Met (w .lent) (k C w))
           → Leaves Met (w .lent) (unifying (e .binds) l r k w)
       unfolding unifying
       unifying-leaves f l r x y ms cs R h k on = go (unify (graph (w .lent)) (e .binds) l r) refl

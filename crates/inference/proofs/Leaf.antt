@@ -19,7 +19,8 @@ use Rattle.inference.specs.Typing.{Assignment, Typed, all-typed, and-typ
 use Rattle.inference.proofs.Invariant.{Claim, terms, Cost, Sound, Fine, FineBest, Leaves, Goes, sorts-only-refl, still-placed, same-sort, missed-leaves}
 use Rattle.inference.proofs.MakingSorts.{StandAll, all-stand, and-stands, stand-below, resolve-all-makes, on-made-leaves}
 
-module _ (W₀ : Lent) (B₀ : Binds) (P : Problem) (c₀ : CheckedLent W₀) (below : P .default < W₀ .lengths .sorts) (placed : All (PlacedIn W₀) (P .exprs)) (Met : Type 0) (meet : Components → Met → Met)
+module _ (W₀ : Lent) (B₀ : Binds) (P : Problem) (c₀ : CheckedLent W₀) (below : P .default < W₀ .lengths .sorts)
+    (placed : All (PlacedIn W₀) (P .exprs)) (Met : Type 0) (meet : Components → Met → Met)
   where
     -- every constraint is passed
     abbrev AllPassed : Claim
@@ -32,7 +33,8 @@ module _ (W₀ : Lent) (B₀ : Binds) (P : Problem) (c₀ : CheckedLent W₀) (b
       typed-here _ _ (and-all _ _ i is) (and-stands p s ps ss l f t) =
           and-typed p s ps ss (same-sort W₀ c₀ W g ρ p (sortIn W′ s) i .0 (f (terms ρ) r free)) (typed-here ps ss is t)
 
-    replace-leaves : (e : Path) (w : World Met) → Sound W₀ B₀ P (w .lent) e AllPassed → FineBest W₀ B₀ P (w .lent) (w .best) → Leaves W₀ B₀ P Met (w .lent) (replace Met meet P e w)
+    replace-leaves : (e : Path) (w : World Met) → Sound W₀ B₀ P (w .lent) e AllPassed
+        → FineBest W₀ B₀ P (w .lent) (w .best) → Leaves W₀ B₀ P Met (w .lent) (replace Met meet P e w)
     unfolding Leaves FineBest
     replace-leaves e w s b =
         let W = w .lent in
@@ -56,7 +58,8 @@ module _ (W₀ : Lent) (B₀ : Binds) (P : Problem) (c₀ : CheckedLent W₀) (b
         })
         (λ v s′ b′. missed-leaves W₀ B₀ P Met v (s′ .grown .checked) b′)
 
-    by-rank : (r : Ranking) (d : Candidate) (e : Path) (w : World Met) → Sound W₀ B₀ P (w .lent) e AllPassed → FineBest W₀ B₀ P (w .lent) (w .best) → Fine W₀ B₀ P (w .lent) d
+    by-rank : (r : Ranking) (d : Candidate) (e : Path) (w : World Met) → Sound W₀ B₀ P (w .lent) e AllPassed
+        → FineBest W₀ B₀ P (w .lent) (w .best) → Fine W₀ B₀ P (w .lent) d
         → Leaves W₀ B₀ P Met (w .lent) (leafBy Met meet P r d e w)
     unfolding Leaves FineBest
     by-rank smaller d e w s b f = replace-leaves e w s b
@@ -67,7 +70,8 @@ module _ (W₀ : Lent) (B₀ : Binds) (P : Problem) (c₀ : CheckedLent W₀) (b
         }
     by-rank greater d e w s b f = record { only = sorts-only-refl (w .lent) (s .grown .checked); best = f }
 
-    over-best : (o : Option Candidate) (e : Path) (w : World Met) → Sound W₀ B₀ P (w .lent) e AllPassed → FineBest W₀ B₀ P (w .lent) (w .best) → FineBest W₀ B₀ P (w .lent) o
+    over-best : (o : Option Candidate) (e : Path) (w : World Met) → Sound W₀ B₀ P (w .lent) e AllPassed
+        → FineBest W₀ B₀ P (w .lent) (w .best) → FineBest W₀ B₀ P (w .lent) o
         → Leaves W₀ B₀ P Met (w .lent) (leafOver Met meet P o e w)
     unfolding FineBest
     over-best none e w s b f = replace-leaves e w s b

@@ -22,7 +22,8 @@ use Rattle.inference.specs.SolveChecks.{Call, given, solveChecks}
 use Rattle.inference.specs.SolveEntry.{problemOf, startPath, lentOf, writtenOver, countsIn, judgedBy, judged, verdict, solveEntry, codeSolved}
 use Rattle.inference.proofs.Accepted.{passed-is-searched}
 use Rattle.inference.proofs.Members.{not-in-nothing, in-all, all-weaker}
-use Rattle.inference.proofs.Measures.{compare-self, equal-are-one, smaller-is-at-most, at-most-self, smaller-below, at-most-each-other-are-one, greater-mirrored}
+use Rattle.inference.proofs.Measures.{compare-self, equal-are-one, smaller-is-at-most, at-most-self}
+use Rattle.inference.proofs.Measures.{smaller-below, at-most-each-other-are-one, greater-mirrored}
 use Rattle.inference.specs.Leaves.{history, once, times, Least, metOf, leavesMet, codeOf, ByLeaves}
 use Rattle.inference.proofs.Forgets.{history-has-the-verdict}
 use Rattle.inference.proofs.Branches.{newcomer, Goes, leaf-goes, search-goes}
@@ -69,7 +70,8 @@ module _ (c : Candidate) (ms : List Components) where
   smaller-stands : c .duplicate ≡ false → (b : Candidate) → compare (c .measure) (b .measure) ≡ smaller → Stands b ms → Stands c (c .measure ∷ ms)
   smaller-stands d b e s = new-stands d (all-weaker (AtMost (b .measure)) _ (λ n a. smaller-below (c .measure) (b .measure) n e a) ms (s .least .at-most))
 
-  equal-stands : (b : Candidate) → c .measure ≡ b .measure → c .duplicate ≡ true → (m : Components) → compare m (b .measure) ≡ equal → Stands b ms → Stands c (m ∷ ms)
+  equal-stands : (b : Candidate) → c .measure ≡ b .measure → c .duplicate ≡ true → (m : Components)
+      → compare m (b .measure) ≡ equal → Stands b ms → Stands c (m ∷ ms)
   unfolding times
   equal-stands b i d m e s =
       let j : m ≡ c .measure = equal-are-one m (b .measure) e ∙ sym i in
@@ -126,7 +128,8 @@ module _ (P : Problem) where
   Met = List Components
 
   -- one leaf more
-  meets : (w : World Met) (W : Lent) (m : Components) (c : Candidate) → (Kept (w .best) (w .met) → Stands c (m ∷ w .met)) → Went w true (keeping Met _∷_ P (lending w W) m c)
+  meets : (w : World Met) (W : Lent) (m : Components) (c : Candidate) → (Kept (w .best) (w .met)
+      → Stands c (m ∷ w .met)) → Went w true (keeping Met _∷_ P (lending w W) m c)
   unfolding Kept
   meets w W m c h = record { leaves = m ∷ []; met = refl; found = refl; kept = h }
 
@@ -136,7 +139,8 @@ module _ (P : Problem) where
       leaf-goes Met _∷_ P Went stays after e w
       (λ q ss W. meets w W (e .measure) (newcomer e ss) (λ k. first-stands (newcomer e ss) (w .met) refl (subst (λ b. Kept b (w .met)) q k)))
       (λ c q i ss W. meets w W (e .measure) (newcomer e ss) (λ k. smaller-stands (newcomer e ss) (w .met) refl c i (before c q k)))
-      (λ c q i. meets w (w .lent) (e .measure) (markedTied Met _∷_ P c) (λ k. equal-stands (markedTied Met _∷_ P c) (w .met) c refl refl (e .measure) i (before c q k)))
+      (λ c q i. meets w (w .lent) (e .measure) (markedTied Met _∷_ P c) (λ k. equal-stands (markedTied Met _∷_ P c)
+      (w .met) c refl refl (e .measure) i (before c q k)))
       (λ c q i. meets w (w .lent) (e .measure) c (λ k. greater-stands c (w .met) (e .measure) i (before c q k)))
     where
       before : (c : Candidate) → w .best ≡ some c → Kept (w .best) (w .met) → Stands c (w .met)
@@ -167,14 +171,37 @@ module _ (I : Call) (W : Lent) (ms : List Components) where
       record {
         none-met = (λ q. absurd (omega (arith, q)), λ e. absurd (least-of-none e (c .measure) (s .least)));
         least-met-often = (λ q. (c .measure, s .least, often), λ x. refl);
-        least-met-once = (λ q. absurd (omega (arith, q)), λ x. absurd (omega (arith, often, x .2, ap (λ n. times n ms) (least-is-one (x .0) (c .measure) ms (x .1) (s .least)))));
+        least-met-once = (
+          λ q. absurd (omega (arith, q)),
+          λ x. absurd (omega (
+            arith,
+            often,
+            x .2,
+            ap (λ n. times n ms)
+                (least-is-one (x .0) (c .measure) ms (x .1) (s .least)),
+          )),
+        );
         least-handed-out = λ q m l. absurd (omega (arith, q));
       }
   some-judged c s false d =
-      let one : times (c .measure) ms ≡ 1 = omega (arith, ltb-false 1 (times (c .measure) ms) (sym (s .duplicate) ∙ d), among-counted (c .measure) ms (s .least .among)) in
+      let one : times (c .measure) ms ≡ 1 = omega (
+        arith,
+        ltb-false 1 (times (c .measure) ms) (sym (s .duplicate) ∙
+            d),
+        among-counted (c .measure) ms (s .least .among),
+      ) in
       record {
         none-met = (λ q. absurd (omega (arith, q)), λ e. absurd (least-of-none e (c .measure) (s .least)));
-        least-met-often = (λ q. absurd (omega (arith, q)), λ x. absurd (omega (arith, one, x .2, ap (λ n. times n ms) (least-is-one (x .0) (c .measure) ms (x .1) (s .least)))));
+        least-met-often = (
+          λ q. absurd (omega (arith, q)),
+          λ x. absurd (omega (
+            arith,
+            one,
+            x .2,
+            ap (λ n. times n ms)
+                (least-is-one (x .0) (c .measure) ms (x .1) (s .least)),
+          )),
+        );
         least-met-once = (λ q. (c .measure, s .least, one), λ x. refl);
         least-handed-out =
             λ q m l.
@@ -193,7 +220,8 @@ module _ (I : Call) (W : Lent) (ms : List Components) where
   judged-by-leaves (some c) k = some-judged c k (c .duplicate) refl
 
 -- a search from no incumbent
-searched-by-leaves : (I : Call) (w : World (List Components)) → Kept (w .best) (w .met) → (o : Out (List Components)) → Goes Went w o → (codeOf (verdict I o) ≡ 15 → ⊥) → (codeOf (verdict I o) ≡ 16 → ⊥)
+searched-by-leaves : (I : Call) (w : World (List Components)) → Kept (w .best) (w .met) → (o : Out (List Components))
+    → Goes Went w o → (codeOf (verdict I o) ≡ 15 → ⊥) → (codeOf (verdict I o) ≡ 16 → ⊥)
     → ByLeaves I (verdict I o) (metOf o)
 unfolding Goes codeSolved
 searched-by-leaves I w k (found v) x f s = judged-by-leaves I (v .lent) (v .met) (v .best) (x .kept k)
@@ -201,10 +229,12 @@ searched-by-leaves I w k (missed v) x f s = judged-by-leaves I (v .lent) (v .met
 searched-by-leaves I w k (ended c W) (inl i) f s = absurd (f i)
 searched-by-leaves I w k (ended c W) (inr i) f s = absurd (s i)
 
-pub verdict-by-leaves : (I : Call) → firstFailing (solveChecks I) ≡ none → (codeOf (solveEntry I) ≡ 15 → ⊥) → (codeOf (solveEntry I) ≡ 16 → ⊥) → ByLeaves I (solveEntry I) (leavesMet I)
+pub verdict-by-leaves : (I : Call) → firstFailing (solveChecks I) ≡ none → (codeOf (solveEntry I) ≡ 15 → ⊥)
+    → (codeOf (solveEntry I) ≡ 16 → ⊥) → ByLeaves I (solveEntry I) (leavesMet I)
 unfolding Kept
 verdict-by-leaves I e f s =
     let i = passed-is-searched I e ∙ sym (history-has-the-verdict I) in
     subst (λ left. ByLeaves I left (leavesMet I)) (sym i)
-    (searched-by-leaves I (record { lent = lentOf I; best = none; met = [] }) refl (history I) (search-meets (problemOf I) (given I) (startPath I) (record { lent = lentOf I; best = none; met = [] }))
+    (searched-by-leaves I (record { lent = lentOf I; best = none; met = [] }) refl (history I)
+    (search-meets (problemOf I) (given I) (startPath I) (record { lent = lentOf I; best = none; met = [] }))
     (λ q. f (ap codeOf i ∙ q)) (λ q. s (ap codeOf i ∙ q)))

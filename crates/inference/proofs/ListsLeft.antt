@@ -25,7 +25,8 @@ use Rattle.inference.proofs.Together.{search-leaves}
 use Rattle.inference.specs.ListsLeft.{countsTold, SortsGrown, ListsKept, Ends}
 
 -- nodes that read the same below the counts are given back alike
-pub nodes-given-back-agree : (m d : ℕ) → m ≤ maxNodes → d ≤ maxNodeEntries → (ns ns′ : List ℕ) → fullNodes ≤ length ns → length ns′ ≡ length ns → NodesAgree ns ns′ m d
+pub nodes-given-back-agree : (m d : ℕ) → m ≤ maxNodes → d ≤ maxNodeEntries → (ns ns′ : List ℕ) → fullNodes ≤ length ns
+    → length ns′ ≡ length ns → NodesAgree ns ns′ m d
     → nodesGivenBack m d ns′ ≡ nodesGivenBack m d ns
 unfolding nodesGivenBack
 nodes-given-back-agree m d hm hd ns ns′ long same a =
@@ -35,11 +36,13 @@ module _ (I : Call) where
   grown : (W : Lent) → Grows (lentOf I) W → SortsGrown I (W .sorts) (countsIn W)
   grown W g = record { old = g .sort-words; more = g .sorts; more-entries = g .entries; checked = g .checked .sorts; as-long = g .as-long .0 }
 
-  by-candidate : (W : Lent) (c : Candidate) (b : Bool) → Grows (lentOf I) W → (k : Counts) → countsTold (judgedBy I W c b .answer) ≡ some k → SortsGrown I (judgedBy I W c b .sorts) k
+  by-candidate : (W : Lent) (c : Candidate) (b : Bool) → Grows (lentOf I) W → (k : Counts)
+      → countsTold (judgedBy I W c b .answer) ≡ some k → SortsGrown I (judgedBy I W c b .sorts) k
   by-candidate W c true g k e = let q : countsIn W ≡ k = cc in subst (SortsGrown I (W .sorts)) q (grown W g)
   by-candidate W c false g k e = let q : countsIn W ≡ k = cc in subst (SortsGrown I (W .sorts)) q (grown W g)
 
-  by-best : (W : Lent) (b : Option Candidate) → Grows (lentOf I) W → (k : Counts) → countsTold (judged I W b .answer) ≡ some k → SortsGrown I (judged I W b .sorts) k
+  by-best : (W : Lent) (b : Option Candidate) → Grows (lentOf I) W → (k : Counts) → countsTold (judged I W b .answer)
+      ≡ some k → SortsGrown I (judged I W b .sorts) k
   by-best W none g k e = let q : countsIn W ≡ k = cc in subst (SortsGrown I (W .sorts)) q (grown W g)
   by-best W (some c) g k e = by-candidate W c (c .duplicate) g k e
 
@@ -50,7 +53,8 @@ module _ (I : Call) where
       refused-or-searched I (λ L. countsTold (L .answer) ≡ some k → SortsGrown I (L .sorts) k) (λ c l e. no-confusion cc)
       (λ A. ends (searched (Unit {0}) nothingMet tt I) (search-leaves I A (Unit {0}) nothingMet tt))
     where
-      ends : (O : Out (Unit {0})) → Leaves (lentOf I) (bindsOf (I .binds) (I .lengths .variables)) (problemOf I) (Unit {0}) (lentOf I) O → countsTold (verdict I O .answer) ≡ some k → SortsGrown I (verdict I O .sorts) k
+      ends : (O : Out (Unit {0})) → Leaves (lentOf I) (bindsOf (I .binds) (I .lengths .variables)) (problemOf I)
+          (Unit {0}) (lentOf I) O → countsTold (verdict I O .answer) ≡ some k → SortsGrown I (verdict I O .sorts) k
       ends (found w) l e = by-best (w .lent) (w .best) (l .only .grows) k e
       ends (missed w) l e = by-best (w .lent) (w .best) (l .only .grows) k e
       ends (ended d W) l e = no-confusion cc

@@ -33,7 +33,8 @@ use Rattle.unification.proofs.SortsLeft.{SortWith, Leaves as LeavesSorts}
 use Rattle.unification.proofs.ResolveAnswers.{FreeHave, AlwaysStandsFor, ReachesFree, resolve-leaves}
 use Rattle.unification.proofs.BoundAnswers.{bound-leaves}
 use Rattle.inference.specs.Constraints.{Problem}
-use Rattle.inference.specs.Search.{Path, World, Out, lending, onMade, makesSort, resolveIn, joinIn, resolveAll, Agreed, joinAll, sortIn, headSteps, allInto, agreedBy, agreed, joinOf}
+use Rattle.inference.specs.Search.{Path, World, Out, lending, onMade, makesSort, resolveIn, joinIn, resolveAll}
+use Rattle.inference.specs.Search.{Agreed, joinAll, sortIn, headSteps, allInto, agreedBy, agreed, joinOf}
 use Rattle.inference.specs.Measure.{Components}
 use Rattle.inference.specs.Typing.{All, and-all}
 use Rattle.inference.specs.Components.{where-there, joins}
@@ -47,7 +48,8 @@ MadeSorts In N W (no-list W′) = SortsOnly W W′ × N
 MadeSorts In N W (no-room c W′) = SortsOnly W W′ × (c ≡ 15)
 
 -- one after the other
-pub sorts-then : {A B : Type 0} (In : Lent → A → Type 0) (On : Lent → B → Type 0) (N : Type 0) (W : Lent) → CheckedLent W → (O : Makes A) (f : A → Lent → Makes B) → MadeSorts In N W O
+pub sorts-then : {A B : Type 0} (In : Lent → A → Type 0) (On : Lent → B → Type 0) (N : Type 0) (W : Lent)
+    → CheckedLent W → (O : Makes A) (f : A → Lent → Makes B) → MadeSorts In N W O
     → ((a : A) (W′ : Lent) → SortsOnly W W′ → In W′ a → MadeSorts On N W′ (f a W′)) → MadeSorts On N W (O and-then f)
 unfolding MadeSorts
 sorts-then In On N W c (made a W′) f h k = after (f a W′) (k a W′ (h .0) (h .1))
@@ -59,7 +61,8 @@ sorts-then In On N W c (made a W′) f h k = after (f a W′) (k a W′ (h .0) (
 sorts-then In On N W c (no-list W′) f h k = h
 sorts-then In On N W c (no-room d W′) f h k = h
 
-sorts-so : {A : Type 0} (In On : Lent → A → Type 0) (N : Type 0) (W : Lent) (O : Makes A) → MadeSorts In N W O → ((a : A) (W′ : Lent) → SortsOnly W W′ → In W′ a → On W′ a) → MadeSorts On N W O
+sorts-so : {A : Type 0} (In On : Lent → A → Type 0) (N : Type 0) (W : Lent) (O : Makes A) → MadeSorts In N W O
+    → ((a : A) (W′ : Lent) → SortsOnly W W′ → In W′ a → On W′ a) → MadeSorts On N W O
 unfolding MadeSorts
 sorts-so In On N W (made a W′) h k = (h .0, k a W′ (h .0) (h .1))
 sorts-so In On N W (no-list W′) h k = h
@@ -73,23 +76,27 @@ some-none In N W (no-list W′) h = (h .0, tt)
 some-none In N W (no-room d W′) h = h
 
 -- a call that makes sorts, by what it leaves
-makes-sort : (T : Tree → Type 0) (N : Type 0) (W : Lent) (r : Stored) (j : Joined) → LeavesSorts T N W (r .words) j → MadeSorts (SortWith T) N W (makesSort W r j)
+makes-sort : (T : Tree → Type 0) (N : Type 0) (W : Lent) (r : Stored) (j : Joined) → LeavesSorts T N W (r .words) j
+    → MadeSorts (SortWith T) N W (makesSort W r j)
 unfolding LeavesSorts MadeSorts
 makes-sort T N W r (At id k) h = (record { grows = h .0; nodes = refl; arguments = refl }, h .1)
 makes-sort T N W r (NotThere k) h = (record { grows = h .0; nodes = refl; arguments = refl }, h .1)
 makes-sort T N W r Full h = (record { grows = h .0; nodes = refl; arguments = refl }, refl)
 
 -- a container that is interned
-pub container-makes : (W : Lent) → CheckedLent W → (o : ComplexSort) (s : ℕ) → s < W .lengths .sorts → MadeSorts (IsSort (container o (sortIn W s))) (Unit {0}) W (internContainer o s W)
+pub container-makes : (W : Lent) → CheckedLent W → (o : ComplexSort) (s : ℕ) → s < W .lengths .sorts
+    → MadeSorts (IsSort (container o (sortIn W s))) (Unit {0}) W (internContainer o s W)
 unfolding MadeSorts MadeFrom internContainer
 container-makes W c o s l = go (internAt (W .sorts) (W .lengths .sorts) (W .lengths .entries) (container o (sortIn W s))) (container-grows W c o s l)
   where
-    by : (r : Stored) (j : Joined) → MadeFrom (IsSort (container o (sortIn W s))) W (withSorts W r j) → MadeSorts (IsSort (container o (sortIn W s))) (Unit {0}) W (withSorts W r j)
+    by : (r : Stored) (j : Joined) → MadeFrom (IsSort (container o (sortIn W s))) W (withSorts W r j)
+        → MadeSorts (IsSort (container o (sortIn W s))) (Unit {0}) W (withSorts W r j)
     by r (At id k) m = (record { grows = m .0; nodes = refl; arguments = refl }, m .1)
     by r (NotThere k) m = (record { grows = m; nodes = refl; arguments = refl }, tt)
     by r Full m = (record { grows = m; nodes = refl; arguments = refl }, refl)
 
-    go : (r : Stored) → MadeFrom (IsSort (container o (sortIn W s))) W (withSorts W r (r .answer)) → MadeSorts (IsSort (container o (sortIn W s))) (Unit {0}) W (withSorts W r (r .answer))
+    go : (r : Stored) → MadeFrom (IsSort (container o (sortIn W s))) W (withSorts W r (r .answer))
+        → MadeSorts (IsSort (container o (sortIn W s))) (Unit {0}) W (withSorts W r (r .answer))
     go r = by r (r .answer)
 
 -- there is no default
@@ -98,18 +105,23 @@ NoDefault (Is d) = ⊥
 NoDefault Nothing = Unit {0}
 
 module _ (W : Lent) (c : CheckedLent W) where
-  pub join-makes : (a b : ℕ) → a < W .lengths .sorts → b < W .lengths .sorts → MadeSorts (SortWith (λ u. join (sortIn W a) (sortIn W b) ≡ some u)) (Unit {0}) W (joinIn a b W)
+  pub join-makes : (a b : ℕ) → a < W .lengths .sorts → b < W .lengths .sorts
+      → MadeSorts (SortWith (λ u. join (sortIn W a) (sortIn W b) ≡ some u)) (Unit {0}) W (joinIn a b W)
   unfolding joinIn
   join-makes a b x y =
       some-none (SortWith (λ u. join (sortIn W a) (sortIn W b) ≡ some u)) (join (sortIn W a) (sortIn W b) ≡ none) W _
-      (makes-sort (λ u. join (sortIn W a) (sortIn W b) ≡ some u) (join (sortIn W a) (sortIn W b) ≡ none) W (boundAt true (W .sorts) (W .lengths .sorts) (W .lengths .entries) a b) _ (bound-leaves W c true a b x y))
+      (makes-sort (λ u. join (sortIn W a) (sortIn W b) ≡ some u) (join (sortIn W a) (sortIn W b) ≡ none) W
+      (boundAt true (W .sorts) (W .lengths .sorts) (W .lengths .entries) a b) _ (bound-leaves W c true a b x y))
 
   module _ (B : Binds) (b : CheckedBinds W B) where
-    pub resolve-makes : (x : Default) → DefaultBelow (W .lengths .sorts) x → (p : ℕ) → PlacedIn W p → MadeSorts (SortWith (AlwaysStandsFor W B x p)) (NoDefault x) W (resolveIn x B p W)
+    pub resolve-makes : (x : Default) → DefaultBelow (W .lengths .sorts) x → (p : ℕ) → PlacedIn W p
+        → MadeSorts (SortWith (AlwaysStandsFor W B x p)) (NoDefault x) W (resolveIn x B p W)
     unfolding resolveIn
-    resolve-makes x l p i = without x (makes-sort (AlwaysStandsFor W B x p) (ReachesFree W B x p) W (termResolved (W .sorts) (W .lengths) x (value (graph W) B p)) _ (resolve-leaves W c B b p i x l))
+    resolve-makes x l p i = without x (makes-sort (AlwaysStandsFor W B x p) (ReachesFree W B x p) W
+        (termResolved (W .sorts) (W .lengths) x (value (graph W) B p)) _ (resolve-leaves W c B b p i x l))
       where
-        without : (y : Default) → MadeSorts (SortWith (AlwaysStandsFor W B x p)) (ReachesFree W B y p) W (resolveIn x B p W) → MadeSorts (SortWith (AlwaysStandsFor W B x p)) (NoDefault y) W (resolveIn x B p W)
+        without : (y : Default) → MadeSorts (SortWith (AlwaysStandsFor W B x p)) (ReachesFree W B y p) W
+            (resolveIn x B p W) → MadeSorts (SortWith (AlwaysStandsFor W B x p)) (NoDefault y) W (resolveIn x B p W)
         without (Is d) h = h
         without Nothing h = some-none (SortWith (AlwaysStandsFor W B x p)) (ReachesFree W B Nothing p) W (resolveIn x B p W) h
 
@@ -125,18 +137,22 @@ pub joins-make : (bs : List ℕ) (W : Lent) → CheckedLent W → (a : ℕ) → 
 unfolding MadeSorts joinAll joins AllBelow
 joins-make [] W c a x y = (sorts-only-refl W c, (x, refl))
 joins-make (b ∷ bs) W c a x y =
-    sorts-then (SortWith (λ u. join (sortIn W a) (sortIn W b) ≡ some u)) (SortWith (λ u. joins (sortIn W a) (each (sortIn W) (b ∷ bs)) ≡ some u)) (Unit {0}) W c (joinIn a b W) (λ j W′. joinAll j bs W′)
+    sorts-then (SortWith (λ u. join (sortIn W a) (sortIn W b) ≡ some u))
+    (SortWith (λ u. joins (sortIn W a) (each (sortIn W) (b ∷ bs)) ≡ some u)) (Unit {0}) W c (joinIn a b W)
+    (λ j W′. joinAll j bs W′)
     (join-makes W c a b x (y .0))
     (λ j W′ g h.
     let z : each (sortIn W′) bs ≡ each (sortIn W) bs = looks-grown W W′ (g .grows) bs (y .1) in
-    sorts-so (SortWith (λ u. joins (sortIn W′ j) (each (sortIn W′) bs) ≡ some u)) (SortWith (λ u. joins (sortIn W a) (each (sortIn W) (b ∷ bs)) ≡ some u)) (Unit {0}) W′ (joinAll j bs W′)
+    sorts-so (SortWith (λ u. joins (sortIn W′ j) (each (sortIn W′) bs) ≡ some u))
+    (SortWith (λ u. joins (sortIn W a) (each (sortIn W) (b ∷ bs)) ≡ some u)) (Unit {0}) W′ (joinAll j bs W′)
     (joins-make bs W′ (g .grows .checked) j (h .0) (weaken-all (W .lengths .sorts) (W′ .lengths .sorts) bs (g .grows .sorts) (y .1)))
     (λ i W″ g′ h′. (h′ .0, ap (λ o. where-there o (λ u. joins u (each (sortIn W) bs))) (h .1) ∙ (ap (joins (sortIn W′ j)) (sym z) ∙ h′ .1))))
 
 -- Each of the places of W stands for the sort of its number in W′, whatever the assignment is.
 pub data StandAll (W : Lent) (B : Binds) (x : Default) (W′ : Lent) : List ℕ → List ℕ → Type 0 where
   all-stand : StandAll W B x W′ [] []
-  and-stands : (p s : ℕ) (ps ss : List ℕ) → s < W′ .lengths .sorts → AlwaysStandsFor W B x p (sortIn W′ s) → StandAll W B x W′ ps ss → StandAll W B x W′ (p ∷ ps) (s ∷ ss)
+  and-stands : (p s : ℕ) (ps ss : List ℕ) → s < W′ .lengths .sorts → AlwaysStandsFor W B x p (sortIn W′ s)
+      → StandAll W B x W′ ps ss → StandAll W B x W′ (p ∷ ps) (s ∷ ss)
 
 pub stand-below : (W : Lent) (B : Binds) (x : Default) (W′ : Lent) (ps ss : List ℕ) → StandAll W B x W′ ps ss → AllBelow (W′ .lengths .sorts) ss
 unfolding AllBelow
@@ -162,24 +178,30 @@ module _ (W : Lent) (c : CheckedLent W) (B : Binds) (b : CheckedBinds W B) (x : 
   stands-before W′ g p i t f σ r h =
       ap (substitute σ) (sym (term-grown W c W′ g p i)) ∙ f σ (respects-grown W c W′ g B (binds-name-places W B b) σ .0 r) (free-grown W W′ B x l g σ h)
 
-  pub resolve-all-makes : (ps : List ℕ) → All (PlacedIn W) ps → (W₁ : Lent) → SortsOnly W W₁ → MadeSorts (λ W′ ss. StandAll W B x W′ ps ss) (NoDefault x) W₁ (resolveAll x B ps W₁)
+  pub resolve-all-makes : (ps : List ℕ) → All (PlacedIn W) ps → (W₁ : Lent) → SortsOnly W W₁
+      → MadeSorts (λ W′ ss. StandAll W B x W′ ps ss) (NoDefault x) W₁ (resolveAll x B ps W₁)
   unfolding resolveAll MadeSorts
   resolve-all-makes [] i W₁ g = (sorts-only-refl W₁ (g .grows .checked), all-stand)
   resolve-all-makes (p ∷ ps) (and-all _ _ i is) W₁ g =
       sorts-then (SortWith (AlwaysStandsFor W₁ B x p)) (λ W′ ss. StandAll W B x W′ (p ∷ ps) ss) (NoDefault x) W₁ (g .grows .checked) (resolveIn x B p W₁) _
-      (resolve-makes W₁ (g .grows .checked) B (checked-binds-grown W W₁ B c b (g .grows)) x (default-grown x (W .lengths .sorts) (W₁ .lengths .sorts) (g .grows .sorts) l) p (placed-grown W c W₁ (g .grows) p i))
+      (resolve-makes W₁ (g .grows .checked) B (checked-binds-grown W W₁ B c b (g .grows)) x
+      (default-grown x (W .lengths .sorts) (W₁ .lengths .sorts) (g .grows .sorts) l) p (placed-grown W c W₁
+      (g .grows) p i))
       (λ s W₂ h f.
       let gh : SortsOnly W W₂ = sorts-only-trans W W₁ W₂ c g h in
-      sorts-then (λ W′ ss. StandAll W B x W′ ps ss) (λ W′ ss. StandAll W B x W′ (p ∷ ps) ss) (NoDefault x) W₂ (h .grows .checked) (resolveAll x B ps W₂) _ (resolve-all-makes ps is W₂ gh)
+      sorts-then (λ W′ ss. StandAll W B x W′ ps ss) (λ W′ ss. StandAll W B x W′ (p ∷ ps) ss) (NoDefault x) W₂
+      (h .grows .checked) (resolveAll x B ps W₂) _ (resolve-all-makes ps is W₂ gh)
       (λ ss W₃ k t. (
         sorts-only-refl W₃ (k .grows .checked),
-        and-stands p s ps ss (omega (arith, f .0, k .grows .sorts)) (stands-before W₁ (g .grows) p i (sortIn W₃ s) (λ σ r y. f .1 σ r y ∙ ap termOf (sym (k .grows .looks s (f .0))))) t,
+        and-stands p s ps ss (omega (arith, f .0, k .grows .sorts)) (stands-before W₁ (g .grows) p i (sortIn W₃ s)
+            (λ σ r y. f .1 σ r y ∙ ap termOf (sym (k .grows .looks s (f .0))))) t,
       )))
 
 -- Sorts that are each materializable into t, with their head distances.
 pub data HeadsAre (t : Tree) : List Tree → Components → Type 0 where
   no-heads : HeadsAre t [] []
-  and-head-is : (s : Tree) (d : Steps) (ss : List Tree) (ns : Components) → materializable s t ≡ true → distance true s t ≡ some d → HeadsAre t ss ns → HeadsAre t (s ∷ ss) (d .head ∷ ns)
+  and-head-is : (s : Tree) (d : Steps) (ss : List Tree) (ns : Components) → materializable s t ≡ true
+      → distance true s t ≡ some d → HeadsAre t ss ns → HeadsAre t (s ∷ ss) (d .head ∷ ns)
 
 abbrev pub JoinsTo : List Tree → Tree → Type 0
 JoinsTo [] u = ⊥
@@ -191,30 +213,42 @@ pub record IsAgreed (ts : List Tree) (W : Lent) (a : Agreed) : Type 0 where
   pub joined : JoinsTo ts (sortIn W (a .sort))
   pub heads : HeadsAre (sortIn W (a .sort)) ts (a .components)
 
-heads-are : (W : Lent) (j : ℕ) (ss : List ℕ) → allInto W j ss ≡ true → HeadsAre (sortIn W j) (each (sortIn W) ss) (each (λ s. headSteps (distance true (sortIn W s) (sortIn W j))) ss)
+heads-are : (W : Lent) (j : ℕ) (ss : List ℕ) → allInto W j ss ≡ true → HeadsAre (sortIn W j) (each (sortIn W) ss)
+    (each (λ s. headSteps (distance true (sortIn W s) (sortIn W j))) ss)
 heads-are W j [] f = no-heads
 heads-are W j (s ∷ ss) f =
     let x = and-eq-true-iff (materializable (sortIn W s) (sortIn W j)) (allInto W j ss) .0 f in
     let d = distance-exists-exactly true (sortIn W s) (sortIn W j) .1 (materializable-below (sortIn W s) (sortIn W j) (x .0)) in
-    subst (λ o. HeadsAre (sortIn W j) (each (sortIn W) (s ∷ ss)) (headSteps o ∷ each (λ s. headSteps (distance true (sortIn W s) (sortIn W j))) ss)) (sym (d .1))
-    (and-head-is (sortIn W s) (d .0) (each (sortIn W) ss) (each (λ s. headSteps (distance true (sortIn W s) (sortIn W j))) ss) (x .0) (d .1) (heads-are W j ss (x .1)))
+    subst (λ o. HeadsAre (sortIn W j) (each (sortIn W) (s ∷ ss)) (headSteps o ∷ each
+    (λ s. headSteps (distance true (sortIn W s) (sortIn W j))) ss)) (sym (d .1))
+    (and-head-is (sortIn W s) (d .0) (each (sortIn W) ss)
+    (each (λ s. headSteps (distance true (sortIn W s) (sortIn W j))) ss) (x .0) (d .1) (heads-are W j ss (x .1)))
 
-pub agreed-makes : (ss : List ℕ) (W : Lent) → CheckedLent W → AllBelow (W .lengths .sorts) ss → MadeSorts (IsAgreed (each (sortIn W) ss)) (Unit {0}) W (agreed ss W)
+pub agreed-makes : (ss : List ℕ) (W : Lent) → CheckedLent W → AllBelow (W .lengths .sorts) ss
+    → MadeSorts (IsAgreed (each (sortIn W) ss)) (Unit {0}) W (agreed ss W)
 unfolding agreed MadeSorts AllBelow
 agreed-makes [] W c a = (sorts-only-refl W c, tt)
 agreed-makes (s ∷ ss) W c a =
-    sorts-then (SortWith (λ u. joins (sortIn W s) (each (sortIn W) ss) ≡ some u)) (IsAgreed (each (sortIn W) (s ∷ ss))) (Unit {0}) W c (joinAll s ss W) (λ j W′. agreedBy W′ (s ∷ ss) j)
+    sorts-then (SortWith (λ u. joins (sortIn W s) (each (sortIn W) ss) ≡ some u))
+    (IsAgreed (each (sortIn W) (s ∷ ss))) (Unit {0}) W c (joinAll s ss W) (λ j W′. agreedBy W′ (s ∷ ss) j)
     (joins-make ss W c s (a .0) (a .1))
     (λ j W′ g h. by W′ g j h (allInto W′ j (s ∷ ss)) refl)
   where
     by : (W′ : Lent) → SortsOnly W W′ → (j : ℕ) → SortWith (λ u. joins (sortIn W s) (each (sortIn W) ss) ≡ some u) W′ j → (q : Bool) → allInto W′ j (s ∷ ss) ≡ q
-        → MadeSorts (IsAgreed (each (sortIn W) (s ∷ ss))) (Unit {0}) W′ (cond q (made (record { sort = j; components = each (λ s. headSteps (distance true (sortIn W′ s) (sortIn W′ j))) (s ∷ ss) }) W′) (no-list W′))
+        → MadeSorts (IsAgreed (each (sortIn W) (s ∷ ss))) (Unit {0}) W′
+        (cond q (made (record {
+          sort = j;
+          components = each (λ s. headSteps (distance true (sortIn W′ s)
+              (sortIn W′ j))) (s ∷ ss);
+        }) W′) (no-list W′))
     by W′ g j h true f = (
       sorts-only-refl W′ (g .grows .checked),
       record {
         number = h .0;
         joined = h .1;
-        heads = subst (λ ts. HeadsAre (sortIn W′ j) ts (each (λ s. headSteps (distance true (sortIn W′ s) (sortIn W′ j))) (s ∷ ss))) (looks-grown W W′ (g .grows) (s ∷ ss) a) (heads-are W′ j (s ∷ ss) f);
+        heads = subst (λ ts. HeadsAre (sortIn W′ j) ts
+            (each (λ s. headSteps (distance true (sortIn W′ s) (sortIn W′ j))) (s ∷ ss))) (looks-grown W W′ (g .grows)
+            (s ∷ ss) a) (heads-are W′ j (s ∷ ss) f);
       },
     )
     by W′ g j h false f = (sorts-only-refl W′ (g .grows .checked), tt)
@@ -226,24 +260,31 @@ pub record Agree (W : Lent) (B : Binds) (ps : List ℕ) (W′ : Lent) (a : Agree
   pub stand : StandAll W B Nothing lists ps sorts
   pub agreed : IsAgreed (each (sortIn lists) sorts) W′ a
 
-pub join-of-makes : (W : Lent) (c : CheckedLent W) (B : Binds) (b : CheckedBinds W B) (ps : List ℕ) → All (PlacedIn W) ps → MadeSorts (Agree W B ps) (Unit {0}) W (joinOf B ps W)
+pub join-of-makes : (W : Lent) (c : CheckedLent W) (B : Binds) (b : CheckedBinds W B) (ps : List ℕ)
+    → All (PlacedIn W) ps → MadeSorts (Agree W B ps) (Unit {0}) W (joinOf B ps W)
 unfolding joinOf
 join-of-makes W c B b ps i =
-    sorts-then (λ W′ ss. StandAll W B Nothing W′ ps ss) (Agree W B ps) (Unit {0}) W c (resolveAll Nothing B ps W) agreed (resolve-all-makes W c B b Nothing tt ps i W (sorts-only-refl W c))
+    sorts-then (λ W′ ss. StandAll W B Nothing W′ ps ss) (Agree W B ps) (Unit {0}) W c (resolveAll Nothing B ps W)
+    agreed (resolve-all-makes W c B b Nothing tt ps i W (sorts-only-refl W c))
     (λ ss W′ g t.
-    sorts-so (IsAgreed (each (sortIn W′) ss)) (Agree W B ps) (Unit {0}) W′ (agreed ss W′) (agreed-makes ss W′ (g .grows .checked) (stand-below W B Nothing W′ ps ss t))
+    sorts-so (IsAgreed (each (sortIn W′) ss)) (Agree W B ps) (Unit {0}) W′ (agreed ss W′) (agreed-makes ss W′
+    (g .grows .checked) (stand-below W B Nothing W′ ps ss t))
     (λ a W″ h q. record { lists = W′; sorts = ss; stand = t; agreed = q }))
 
 -- On with what was made, where only sorts were.
 module _ (W₀ : Lent) (B₀ : Binds) (P : Problem) (c₀ : CheckedLent W₀) (Met : Type 0) where
-  pub on-made-leaves : {A : Type 0} (In : Lent → A → Type 0) (N : Type 0) (e : Path) (w : World Met) (Q : Claim) → Sound W₀ B₀ P (w .lent) e Q → FineBest W₀ B₀ P (w .lent) (w .best)
+  pub on-made-leaves : {A : Type 0} (In : Lent → A → Type 0) (N : Type 0) (e : Path) (w : World Met) (Q : Claim)
+      → Sound W₀ B₀ P (w .lent) e Q → FineBest W₀ B₀ P (w .lent) (w .best)
       → (O : Makes A) → MadeSorts In N (w .lent) O → (k : A → World Met → Out Met) (f : World Met → Out Met)
-      → ((a : A) (v : World Met) → Grows (w .lent) (v .lent) → Sound W₀ B₀ P (v .lent) e Q → FineBest W₀ B₀ P (v .lent) (v .best) → In (v .lent) a → Leaves W₀ B₀ P Met (v .lent) (k a v))
-      → ((v : World Met) → Sound W₀ B₀ P (v .lent) e Q → FineBest W₀ B₀ P (v .lent) (v .best) → Leaves W₀ B₀ P Met (v .lent) (f v)) → Leaves W₀ B₀ P Met (w .lent) (onMade O k f w)
+      → ((a : A) (v : World Met) → Grows (w .lent) (v .lent) → Sound W₀ B₀ P (v .lent) e Q
+      → FineBest W₀ B₀ P (v .lent) (v .best) → In (v .lent) a → Leaves W₀ B₀ P Met (v .lent) (k a v))
+      → ((v : World Met) → Sound W₀ B₀ P (v .lent) e Q → FineBest W₀ B₀ P (v .lent) (v .best)
+      → Leaves W₀ B₀ P Met (v .lent) (f v)) → Leaves W₀ B₀ P Met (w .lent) (onMade O k f w)
   unfolding MadeSorts Leaves
   on-made-leaves In N e w Q s b (made a W′) m k f x y =
       leaves-from W₀ B₀ P Met (w .lent) (s .grown .checked) W′ (m .0) (k a (lending w W′))
-      (x a (lending w W′) (m .0 .grows) (sound-grown W₀ B₀ P (w .lent) W′ e Q c₀ s (m .0 .grows)) (fine-grown W₀ B₀ P (w .lent) W′ (m .0 .grows) (w .best) b) (m .1))
+      (x a (lending w W′) (m .0 .grows) (sound-grown W₀ B₀ P (w .lent) W′ e Q c₀ s (m .0 .grows)) (fine-grown W₀ B₀ P
+      (w .lent) W′ (m .0 .grows) (w .best) b) (m .1))
   on-made-leaves In N e w Q s b (no-list W′) m k f x y =
       leaves-from W₀ B₀ P Met (w .lent) (s .grown .checked) W′ (m .0) (f (lending w W′))
       (y (lending w W′) (sound-grown W₀ B₀ P (w .lent) W′ e Q c₀ s (m .0 .grows)) (fine-grown W₀ B₀ P (w .lent) W′ (m .0 .grows) (w .best) b))

@@ -155,9 +155,11 @@ not-worse-extended [] best w = at-most-self best
 not-worse-extended (x ∷ xs) [] w = no-confusion (cc)
 not-worse-extended (x ∷ xs) (b ∷ bs) w = go (tri x b) (not-worse-extended xs bs)
   where
-    go : Tri x b → (isGreater (compare xs (take (length xs) bs)) ≡ false → AtMost (xs ++ drop (length xs) bs) bs) → AtMost (x ∷ xs ++ drop (length xs) bs) (b ∷ bs)
+    go : Tri x b → (isGreater (compare xs (take (length xs) bs)) ≡ false → AtMost (xs ++ drop (length xs) bs) bs)
+        → AtMost (x ∷ xs ++ drop (length xs) bs) (b ∷ bs)
     go (below l) h = ap isGreater (compare-below x b (xs ++ drop (length xs) bs) bs l)
-    go (level i) h = ap isGreater (compare-level x b (xs ++ drop (length xs) bs) bs i) ∙ h (sym (ap isGreater (compare-level x b xs (take (length xs) bs) i)) ∙ w)
+    go (level i) h = ap isGreater (compare-level x b (xs ++ drop (length xs) bs) bs i) ∙ h
+        (sym (ap isGreater (compare-level x b xs (take (length xs) bs) i)) ∙ w)
     go (above l) h = let z : true ≡ false = sym (ap isGreater (compare-above x b xs (take (length xs) bs) l)) ∙ w in no-confusion (cc)
 
 pub worse-exactly-if-extensions-greater : (xs best : Components) → (worse xs best ≡ true) ↔ ((ys : Components) → compare (xs ++ ys) best ≡ greater)

@@ -96,7 +96,8 @@ module _ {A : Type 0} where
   rows-alike row row′ i zero h = refl
   rows-alike row row′ i (suc n) h =
       let a : row i ≡ row′ i = ap row (sym (add-zero i)) ∙ (h 0 (omega arith) ∙ ap row′ (add-zero i)) in
-      let b : rowsFrom row (i + 1) n ≡ rowsFrom row′ (i + 1) n = rows-alike row row′ (i + 1) n (λ j l. ap row (omega arith) ∙ (h (suc j) (omega (arith, l)) ∙ ap row′ (omega arith))) in
+      let b : rowsFrom row (i + 1) n ≡ rowsFrom row′ (i + 1) n = rows-alike row row′ (i + 1) n
+      (λ j l. ap row (omega arith) ∙ (h (suc j) (omega (arith, l)) ∙ ap row′ (omega arith))) in
       cc
 
   pub rows-same : (row row′ : ℕ → A) (n : ℕ) → ((j : ℕ) → j < n → row j ≡ row′ j) → rowsFrom row 0 n ≡ rowsFrom row′ 0 n

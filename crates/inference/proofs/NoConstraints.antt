@@ -31,7 +31,9 @@ module _ (I : Call) where
 
   by-made : (O : Makes (List ℕ)) → MadeSorts (λ W′ ss. StandAll W (startPath I .binds) (Is (record { 0 = I .default })) W′ (P .exprs) ss) ⊥ W O
       → TypingOr15
-      (verdict I (onMade O (λ ss v. found (keeping (Unit {0}) nothingMet P v (startPath I .measure) (record { measure = startPath I .measure; sorts = ss; choices = startPath I .choices; duplicate = false }))) missed first-world) .answer)
+      (verdict I (onMade O (λ ss v. found (keeping (Unit {0}) nothingMet P v (startPath I .measure)
+      (record { measure = startPath I .measure; sorts = ss; choices = startPath I .choices; duplicate = false })))
+      missed first-world) .answer)
   unfolding MadeSorts
   by-made (made ss W′) h = inl (_, refl)
   by-made (no-list W′) h = absurd (h .1)
@@ -41,7 +43,8 @@ module _ (I : Call) where
   unfolding solve leaf
   one-leaf A =
       by-made (resolveAll (Is (record { 0 = I .default })) (startPath I .binds) (P .exprs) W)
-      (resolve-all-makes W (A .ready .nodes) (startPath I .binds) (A .ready .binds) (Is (record { 0 = I .default })) (A .default) (P .exprs) (A .exprs) W (sorts-only-refl W (A .ready .nodes)))
+      (resolve-all-makes W (A .ready .nodes) (startPath I .binds) (A .ready .binds) (Is (record { 0 = I .default }))
+      (A .default) (P .exprs) (A .exprs) W (sorts-only-refl W (A .ready .nodes)))
 
   none-given : I .rows .constraints ≡ 0 → given I ≡ []
   unfolding rowsFrom
@@ -50,4 +53,5 @@ module _ (I : Call) where
   pub no-constraints-is-a-typing : firstFailing (solveChecks I) ≡ none → I .rows .constraints ≡ 0 → TypingOr15 (solveEntry I .answer)
   no-constraints-is-a-typing f e =
       subst (λ (L : SolveLeft). TypingOr15 (L .answer)) (sym (passed-is-searched I f))
-      (subst (λ (cs : List Constraint). TypingOr15 (verdict I (solve (Unit {0}) nothingMet P cs (startPath I) first-world) .answer)) (sym (none-given e)) (one-leaf (accepted I f)))
+      (subst (λ (cs : List Constraint). TypingOr15 (verdict I (solve (Unit {0}) nothingMet P cs (startPath I)
+      first-world) .answer)) (sym (none-given e)) (one-leaf (accepted I f)))

@@ -28,11 +28,17 @@ use Rattle.inference.specs.declared.Solved.the-variants.{Typing}
 use Rattle.inference.specs.Constraints.{Problem}
 use Rattle.inference.specs.Measure.{Components}
 use Rattle.inference.specs.Search.{Choice, Candidate, Out, found, missed, ended, sortIn, litComponent}
-use Rattle.inference.specs.Typing.{Assignment, admits, All, none-left, and-all, Into, Typed, all-typed, and-typed, Meets, meets-sub, meets-lit, meets-join, HoldsTogether}
-use Rattle.inference.specs.Components.{Widened, equal-to, wider-by, Heads, no-heads, and-head, Sequence, no-source, and-source, Costs, sub-costs, lit-costs, disjunction-costs, comprehension-costs, agreed-costs, sequence-costs, Costing, nothing-costs, and-costs}
+use Rattle.inference.specs.Typing.{Assignment, admits, All, none-left, and-all, Into, Typed, all-typed}
+use Rattle.inference.specs.Typing.{and-typed, Meets, meets-sub, meets-lit, meets-join, HoldsTogether}
+use Rattle.inference.specs.Components.{Widened, equal-to, wider-by, Heads, no-heads, and-head, Sequence}
+use Rattle.inference.specs.Components.{no-source, and-source, Costs, sub-costs, lit-costs, disjunction-costs}
+use Rattle.inference.specs.Components.{comprehension-costs, agreed-costs, sequence-costs, Costing}
+use Rattle.inference.specs.Components.{nothing-costs, and-costs}
 use Rattle.inference.specs.SolveChecks.{Call}
 use Rattle.inference.specs.Names.{nameOf, nameKind, nameSort}
-use Rattle.inference.specs.SolveEntry.{problemOf, baseNamesOf, startPath, lentOf, searched, SolveLeft, countsIn, judged, judgedBy, verdict, nothingMet, solveEntry, sortsOut, measureOut, choicesOut}
+use Rattle.inference.specs.SolveEntry.{problemOf, baseNamesOf, startPath, lentOf, searched, SolveLeft}
+use Rattle.inference.specs.SolveEntry.{countsIn, judged, judgedBy, verdict, nothingMet, solveEntry, sortsOut}
+use Rattle.inference.specs.SolveEntry.{measureOut, choicesOut}
 use Rattle.inference.proofs.Members.{length-rows}
 use Rattle.inference.proofs.Invariant.{Cost, Fine, FineBest, Leaves}
 use Rattle.inference.proofs.HandedOut.{sort-row, kind-row, name-row, rows-are, choices-read}
@@ -66,7 +72,8 @@ module _ (W₀ : Lent) (B₀ : Binds) (P : Problem) (ch : List Choice) (ρ : Ass
 
   sequence-into : (t : Tree) (ps : List ℕ) (ns : Components) → Sequence (graph W₀) ρ t ps ns → All (Into (graph W₀) ρ t) ps
   sequence-into t _ _ no-source = none-left
-  sequence-into t _ _ (and-source p s n ps ns h w x) = and-all p ps (record { sort = s; has = h; into = widened-materializes s t n w }) (sequence-into t ps ns x)
+  sequence-into t _ _ (and-source p s n ps ns h w x) = and-all p ps
+      (record { sort = s; has = h; into = widened-materializes s t n w }) (sequence-into t ps ns x)
 
   costs-meet : (c : Constraint) (ns : Components) → Costs (graph W₀) (sortIn W₀) P ch ρ c ns → Meets (graph W₀) (sortIn W₀) P ch ρ c
   costs-meet _ _ (sub-costs l r s t n h g w) = meets-sub l r t g (record { sort = s; has = h; into = widened-materializes s t n w })
@@ -99,7 +106,8 @@ module _ (I : Call) where
   pub search-leaves : Accepted I → (Met : Type 0) (meet : Components → Met → Met) (m : Met) → Leaves W₀ B₀ P Met W₀ (searched Met meet m I)
   unfolding FineBest
   search-leaves A Met meet m =
-      solve-goes W₀ B₀ P (A .ready .nodes) (A .six) Met meet (A .default) (A .exprs) (P .constraints) [] refl (A .constraints) (startPath I) (record { lent = W₀; best = none; met = m })
+      solve-goes W₀ B₀ P (A .ready .nodes) (A .six) Met meet (A .default) (A .exprs) (P .constraints) [] refl
+      (A .constraints) (startPath I) (record { lent = W₀; best = none; met = m })
       (record { grown = grows-refl W₀ (A .ready .nodes); binds = A .ready .binds; refines = λ σ r. r; costs = λ ρ r. nothing-costs }) tt
 
   explained : (W : Lent) (c : Candidate) → Fine W₀ B₀ P W c → (o : Outputs) → judgedBy I W c false .answer ≡ Typing o → Explained I (judgedBy I W c false) o
@@ -107,7 +115,8 @@ module _ (I : Call) where
       let L : SolveLeft = judgedBy I W c false in
       let q : o ≡ record { counts = countsIn W; components = length (c .measure); choices = length (c .choices) } = cc in
       let x : o .counts .sorts ≡ W .lengths .sorts = ap (λ (z : Outputs). z .counts .sorts) q in
-      let many : length (c .sorts) ≡ I .rows .exprs = typed-long W₀ (sortIn W) (f .assignment) (P .exprs) (c .sorts) (f .typed) ∙ length-rows (λ i. getD (I .exprs) i 0) 0 (I .rows .exprs) in
+      let many : length (c .sorts) ≡ I .rows .exprs = typed-long W₀ (sortIn W) (f .assignment) (P .exprs) (c .sorts)
+      (f .typed) ∙ length-rows (λ i. getD (I .exprs) i 0) 0 (I .rows .exprs) in
       let ss : sortsOut I L ≡ c .sorts =
       rows-are 0 (c .sorts) (λ i. getD (L .typing) (3 * i) 0) 0 (I .rows .exprs) (sym many)
       (λ j l. ap (λ (i : ℕ). getD (L .typing) i 0) (omega arith) ∙ sort-row P (baseNamesOf I) (c .choices) 0 (c .sorts) _ j l) in
@@ -124,13 +133,17 @@ module _ (I : Call) where
             subst (λ ns. Costing (graph W₀) (sortIn W₀) P (choicesOut L o) (f .assignment) (P .constraints) ns) (sym ms)
             (subst (λ zs. Costing (graph W₀) (sortIn W₀) P zs (f .assignment) (P .constraints) (c .measure)) (sym ks) (f .costs));
         names =
-            λ y l. subst (λ zs. (getD (L .typing) (3 * y + 1) 0 ≡ nameKind (nameOf P (baseNamesOf I) zs y)) × (getD (L .typing) (3 * y + 2) 0 ≡ nameSort (nameOf P (baseNamesOf I) zs y))) (sym ks) (
-              kind-row P (baseNamesOf I) (c .choices) 0 (c .sorts) _ y (omega (arith, l, many)) ∙ ap (λ z. nameKind (nameOf P (baseNamesOf I) (c .choices) z)) (omega arith),
-              name-row P (baseNamesOf I) (c .choices) 0 (c .sorts) _ y (omega (arith, l, many)) ∙ ap (λ z. nameSort (nameOf P (baseNamesOf I) (c .choices) z)) (omega arith),
+            λ y l. subst (λ zs. (getD (L .typing) (3 * y + 1) 0 ≡ nameKind (nameOf P (baseNamesOf I) zs y)) ×
+            (getD (L .typing) (3 * y + 2) 0 ≡ nameSort (nameOf P (baseNamesOf I) zs y))) (sym ks) (
+              kind-row P (baseNamesOf I) (c .choices) 0 (c .sorts) _ y (omega (arith, l, many)) ∙ ap
+                  (λ z. nameKind (nameOf P (baseNamesOf I) (c .choices) z)) (omega arith),
+              name-row P (baseNamesOf I) (c .choices) 0 (c .sorts) _ y (omega (arith, l, many)) ∙ ap
+                  (λ z. nameSort (nameOf P (baseNamesOf I) (c .choices) z)) (omega arith),
             );
       }
 
-  by-candidate : (W : Lent) (c : Candidate) → Fine W₀ B₀ P W c → (o : Outputs) (b : Bool) → judgedBy I W c b .answer ≡ Typing o → Explained I (judgedBy I W c b) o
+  by-candidate : (W : Lent) (c : Candidate) → Fine W₀ B₀ P W c → (o : Outputs) (b : Bool)
+      → judgedBy I W c b .answer ≡ Typing o → Explained I (judgedBy I W c b) o
   by-candidate W c f o true e = no-confusion cc
   by-candidate W c f o false e = explained W c f o e
 
@@ -153,7 +166,8 @@ module _ (I : Call) where
 
   -- Demand 3.
   pub typing-holds-together : (o : Outputs) → solveEntry I .answer ≡ Typing o
-      → HoldsTogether (graph W₀) (sortIn W₀) (treeAt (solveEntry I .sorts) (o .counts .sorts)) (o .counts .sorts) B₀ P (sortsOut I (solveEntry I)) (choicesOut (solveEntry I) o)
+      → HoldsTogether (graph W₀) (sortIn W₀) (treeAt (solveEntry I .sorts) (o .counts .sorts)) (o .counts .sorts) B₀ P
+      (sortsOut I (solveEntry I)) (choicesOut (solveEntry I) o)
   typing-holds-together o e =
       let x = every-typing-is-explained o e in
       record {

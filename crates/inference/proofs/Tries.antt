@@ -35,7 +35,8 @@ module _ (W₀ : Lent) (B₀ : Binds) (P : Problem) (c₀ : CheckedLent W₀) (M
           right = placed-grown W c W′ g (t .right) (x .right);
           so =
               λ ρ r q. x .so ρ (respects-grown W c W′ g (e .binds) (binds-name-places W (e .binds) (s .binds)) (terms ρ) .1 r)
-              (ap (substitute (terms ρ)) (sym (term-grown W c W′ g (t .left) (x .left))) ∙ (q ∙ ap (substitute (terms ρ)) (term-grown W c W′ g (t .right) (x .right))));
+              (ap (substitute (terms ρ)) (sym (term-grown W c W′ g (t .left) (x .left))) ∙
+              (q ∙ ap (substitute (terms ρ)) (term-grown W c W′ g (t .right) (x .right))));
         })
         (lead-grown W W′ s g ts xs)
 
@@ -47,7 +48,8 @@ module _ (W₀ : Lent) (B₀ : Binds) (P : Problem) (c₀ : CheckedLent W₀) (M
           (λ C s′. g (withComponents e (t .component ∷ []) C) w s′ f)
 
       -- "It stops at the first try that found."
-      pub first-found-leaves : (ts : List Try) (w : World Met) → Sound W₀ B₀ P (w .lent) e Q → FineBest W₀ B₀ P (w .lent) (w .best) → All (Leads (w .lent) e Q R) ts
+      pub first-found-leaves : (ts : List Try) (w : World Met) → Sound W₀ B₀ P (w .lent) e Q
+          → FineBest W₀ B₀ P (w .lent) (w .best) → All (Leads (w .lent) e Q R) ts
           → Leaves W₀ B₀ P Met (w .lent) (firstFound Met meet P ts k e w)
       unfolding firstFound
       first-found-leaves [] w s f none-left = missed-leaves W₀ B₀ P Met w (s .grown .checked) f

@@ -1,4 +1,5 @@
--- The verdict by the leaves that the search met: "17. The search ended with no typing. 18. The least measure was met by more than one leaf".
+-- The verdict by the leaves that the search met: "17. The search ended with no typing. 18. The least measure was
+-- met by more than one leaf".
 use mathlib.Core.Path.{_≡_}
 use mathlib.Core.List.{List, [], _∷_}
 use Prim.Native.Nat.{ℕ, _+_, _<_}

@@ -37,6 +37,8 @@ pub record ListsKept (I : Call) (W : Lent) : Type 0 where
   pub as-long : (length (W .sorts) ≡ length (I .sorts)) × (length (W .nodes) ≡ length (I .nodes))
 
 abbrev pub Ends : Call → {Met : Type 0} → Out Met → Type 0
-Ends I (found w) = ListsKept I (w .lent) × (w .lent .lengths .nodes ≡ I .lengths .nodes) × (w .lent .lengths .arguments ≡ I .lengths .arguments)
-Ends I (missed w) = ListsKept I (w .lent) × (w .lent .lengths .nodes ≡ I .lengths .nodes) × (w .lent .lengths .arguments ≡ I .lengths .arguments)
+Ends I (found w) = ListsKept I (w .lent) × (w .lent .lengths .nodes ≡ I .lengths .nodes) ×
+    (w .lent .lengths .arguments ≡ I .lengths .arguments)
+Ends I (missed w) = ListsKept I (w .lent) × (w .lent .lengths .nodes ≡ I .lengths .nodes) ×
+    (w .lent .lengths .arguments ≡ I .lengths .arguments)
 Ends I (ended c W) = ListsKept I W

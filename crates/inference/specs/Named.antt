@@ -1,4 +1,5 @@
--- Names and choices of a typing: each disjunction's choice once, in the order of the constraints, and the name of each expression.
+-- Names and choices of a typing: each disjunction's choice once, in the order of the constraints, and the name of
+-- each expression.
 use mathlib.Core.Path.{_≡_}
 use mathlib.Core.Bool.{false}
 use mathlib.Core.List.{List, map}
@@ -33,7 +34,8 @@ pub record ChosenFor (P : Problem) (bs : List BaseName) (ks : List Choice) (x : 
   pub only : (j : ℕ) → In (choice (x .0) j) ks → j ≡ position
   pub name : nameOf P bs ks (x .0) ≡ some (overloadIn (P .overloads) run position .target)
 
--- Measure and choices as handed out, ks being the choices: how many components and choices there are; the choices in the order of the constraints, one for
+-- Measure and choices as handed out, ks being the choices: how many components and choices there are; the choices
+-- in the order of the constraints, one for
 -- each disjunction; and the names that they give.
 pub record Named (I : Call) (left : SolveLeft) (o : Outputs) (ks : List Choice) : Type 0 where
   pub measure : Components
@@ -43,5 +45,7 @@ pub record Named (I : Call) (left : SolveLeft) (o : Outputs) (ks : List Choice) 
   pub choice-count : o .choices ≡ length ks
   pub in-order : map exprOf ks ≡ disjunctions (given I)
   pub once : (x i j : ℕ) → In (choice x i) ks → In (choice x j) ks → i ≡ j
-  pub chosen : (x : ExprId) (p : InferSortId) (run : Run) → In (Disjunction x p run) (given I) → ChosenFor (problemOf I) (baseNamesOf I) ks x run
-  pub others : (x : ℕ) → among x (disjunctions (given I)) ≡ false → nameOf (problemOf I) (baseNamesOf I) ks x ≡ baseName (baseNamesOf I) x
+  pub chosen : (x : ExprId) (p : InferSortId) (run : Run) → In (Disjunction x p run) (given I)
+      → ChosenFor (problemOf I) (baseNamesOf I) ks x run
+  pub others : (x : ℕ) → among x (disjunctions (given I)) ≡ false → nameOf (problemOf I) (baseNamesOf I) ks x ≡
+      baseName (baseNamesOf I) x

@@ -1,4 +1,5 @@
--- The 11 starred situations of document 01, as one list with its 13 runs: what is given, and code, sorts of the expressions and measure.
+-- The 11 starred situations of document 01, as one list with its 13 runs: what is given, and code, sorts of the
+-- expressions and measure.
 use mathlib.Core.Bool.{Bool}
 use mathlib.Core.List.{List, [], _∷_, _++_, map}
 use Prim.Native.Nat.{ℕ, _+_, _*_, _-_, _/_}
@@ -33,7 +34,8 @@ use Rattle.inference.specs.SolveChecks as SolveChecks
 use Rattle.inference.specs.SolveEntry.{SolveLeft, solveEntry, codeSolved}
 use Rattle.inference.specs.SolveEntry as SolveEntry
 
--- a list: sorts after the fixed six with their entries, nodes with their arguments, variables, expressions, base names, constraints, overloads,
+-- a list: sorts after the fixed six with their entries, nodes with their arguments, variables, expressions, base
+-- names, constraints, overloads,
 -- sources, default
 pub record Given : Type 0 where
   pub sorts : List ℕ
@@ -52,7 +54,8 @@ unfoldable pub fourWords : ℕ → ℕ → ℕ → ℕ → List ℕ → List ℕ
 fourWords kind part start count ws = kind ∷ part ∷ start ∷ count ∷ ws
 
 abbrev pub six : List ℕ → List ℕ
-six ws = fourWords 0 0 0 0 (fourWords 1 0 0 0 (fourWords 2 0 0 0 (fourWords 3 0 0 0 (fourWords 4 0 0 0 (fourWords 5 0 0 0 ws)))))
+six ws = fourWords 0 0 0 0 (fourWords 1 0 0 0 (fourWords 2 0 0 0 (fourWords 3 0 0 0 (fourWords 4 0 0 0
+    (fourWords 5 0 0 0 ws)))))
 
 abbrev pub storage : ℕ → List ℕ → List ℕ → List ℕ
 storage n rows entries = rows ++ (replicate (n - length rows) 0 ++ (entries ++ replicate (4096 - length entries) 0))
@@ -93,7 +96,29 @@ callOf G =
 
 -- The outcome of a list. To unfold it is to unfold all that it is computed through.
 unfoldable pub solvedList : Given → SolveLeft
-unfolding Checks.allBelow Checks.withinLent Checks.fixedSix Checks.partsBelow Checks.rowFine Checks.rowsFine Checks.noTwoEqual Checks.atCeiling Checks.firstFailing Tree.arity Tree.family Tree.level Tree.familyOp Tree.levelOp Tree.same Tree.sames Entries.stored Interning.look Interning.number Interning.member Interning.distinct Interning.need Interning.intern Interning.make Interning.makes Order.boundFlat Order.boundOp Order.distance Order.distances Order.materializable Bounds.boundAt Bounds.internAt Storage.resolved Storage.entriesOf Storage.lookAll Storage.treeOf Storage.trees Storage.kindFlat Storage.kindOp Storage.partFlat Storage.numbers Storage.rowOf Storage.putRow Storage.appendRow Storage.written Term.kindHead Term.numberHead Term.sameHead Acyclic.allSettled Acyclic.nodesSettled Acyclic.varsSettled Acyclic.rounds Acyclic.allTrue Acyclic.acyclic Resolve.firsts Resolve.treeOver Resolve.resolveTerm Resolve.resolveTerms Resolve.termResolved Related.relatedNumbers Related.relatedContainer NodeChecks.nodesWithinLent NodeChecks.bindingsWithinLent NodeChecks.nodePartsFine NodeChecks.nodeKindFine NodeChecks.nodeFine NodeChecks.nodesFine NodeChecks.bindingsFine NodeChecks.nodeChecks Making.appendNode Making.pushNode Making.internContainer Making.pushFunctions Making.relatedTo Making.strictRelated Unify.follow Unify.occurs Unify.unifyTo Unify.unify Nodes.nodeEntriesOf Nodes.inferred Nodes.sortShape Nodes.nodeShape Nodes.isPlace Nodes.shapeAt Nodes.bindsOf Solutions.valueTo Names.runFor Names.chosenName Names.baseName Names.nameOf Constraints.target Constraints.litKind Constraints.constraint Constraints.rowsFrom Search.resolveIn Search.joinIn Search.resolveAll Search.joinAll Search.agreed Search.joinOf Search.litComponent Search.unifying Search.firstFound Search.widening Search.literal Search.everyReading Search.everyOverload Search.sequence Search.joining Search.step Search.leaf Search.solve SolveEntry.typingRows SolveEntry.choiceRows SolveEntry.solveEntry SolveEntry.codeSolved Measure.compare Measure.worse SolveChecks.allWithinLent SolveChecks.rowsWithinLent SolveChecks.outputsLong SolveChecks.targetFine SolveChecks.exprsFine SolveChecks.namesFine SolveChecks.overloadFine SolveChecks.constraintsFine SolveChecks.disjunctions SolveChecks.among SolveChecks.noTwo SolveChecks.joinsFine SolveChecks.components SolveChecks.longEnough SolveChecks.solveChecks fourWords six storage callOf
+unfolding Checks.allBelow Checks.withinLent Checks.fixedSix Checks.partsBelow Checks.rowFine Checks.rowsFine
+    Checks.noTwoEqual Checks.atCeiling Checks.firstFailing Tree.arity Tree.family Tree.level Tree.familyOp
+    Tree.levelOp Tree.same Tree.sames Entries.stored Interning.look Interning.number Interning.member
+    Interning.distinct Interning.need Interning.intern Interning.make Interning.makes Order.boundFlat Order.boundOp
+    Order.distance Order.distances Order.materializable Bounds.boundAt Bounds.internAt Storage.resolved
+    Storage.entriesOf Storage.lookAll Storage.treeOf Storage.trees Storage.kindFlat Storage.kindOp Storage.partFlat
+    Storage.numbers Storage.rowOf Storage.putRow Storage.appendRow Storage.written Term.kindHead Term.numberHead
+    Term.sameHead Acyclic.allSettled Acyclic.nodesSettled Acyclic.varsSettled Acyclic.rounds Acyclic.allTrue
+    Acyclic.acyclic Resolve.firsts Resolve.treeOver Resolve.resolveTerm Resolve.resolveTerms Resolve.termResolved
+    Related.relatedNumbers Related.relatedContainer NodeChecks.nodesWithinLent NodeChecks.bindingsWithinLent
+    NodeChecks.nodePartsFine NodeChecks.nodeKindFine NodeChecks.nodeFine NodeChecks.nodesFine
+    NodeChecks.bindingsFine NodeChecks.nodeChecks Making.appendNode Making.pushNode Making.internContainer
+    Making.pushFunctions Making.relatedTo Making.strictRelated Unify.follow Unify.occurs Unify.unifyTo Unify.unify
+    Nodes.nodeEntriesOf Nodes.inferred Nodes.sortShape Nodes.nodeShape Nodes.isPlace Nodes.shapeAt Nodes.bindsOf
+    Solutions.valueTo Names.runFor Names.chosenName Names.baseName Names.nameOf Constraints.target
+    Constraints.litKind Constraints.constraint Constraints.rowsFrom Search.resolveIn Search.joinIn Search.resolveAll
+    Search.joinAll Search.agreed Search.joinOf Search.litComponent Search.unifying Search.firstFound Search.widening
+    Search.literal Search.everyReading Search.everyOverload Search.sequence Search.joining Search.step Search.leaf
+    Search.solve SolveEntry.typingRows SolveEntry.choiceRows SolveEntry.solveEntry SolveEntry.codeSolved
+    Measure.compare Measure.worse SolveChecks.allWithinLent SolveChecks.rowsWithinLent SolveChecks.outputsLong
+    SolveChecks.targetFine SolveChecks.exprsFine SolveChecks.namesFine SolveChecks.overloadFine
+    SolveChecks.constraintsFine SolveChecks.disjunctions SolveChecks.among SolveChecks.noTwo SolveChecks.joinsFine
+    SolveChecks.components SolveChecks.longEnough SolveChecks.solveChecks fourWords six storage callOf
 solvedList G = solveEntry (callOf G)
 
 -- what a run came to: the code, and for a typing the sorts of the expressions and the measure
@@ -107,13 +132,22 @@ typedOf L (Refused c) xs = ([], [])
 typedOf L (NoRoom c) xs = ([], [])
 typedOf L (NoTyping k) xs = ([], [])
 typedOf L (Ambiguous k) xs = ([], [])
-typedOf L (Typing o) xs = (map (λ i. treeAt (L .sorts) (o .counts .sorts) (getD (L .typing) (3 * i) 0)) xs, take (o .components) (L .measure))
+typedOf L (Typing o) xs = (
+  map (λ i. treeAt (L .sorts) (o .counts .sorts) (getD (L .typing) (3 * i) 0)) xs,
+  take
+      (o .components) (L .measure),
+)
 
 abbrev pub upTo : ℕ → List ℕ
 upTo n = Constraints.rowsFrom (λ i. i) 0 n
 
 abbrev pub ranOf : SolveLeft → List ℕ → Ran
-ranOf L xs = record { code = codeSolved (L .answer); sorts = typedOf L (L .answer) xs .0; measure = typedOf L (L .answer) xs .1 }
+ranOf L xs = record {
+  code = codeSolved (L .answer);
+  sorts = typedOf L (L .answer) xs .0;
+  measure = typedOf L
+      (L .answer) xs .1;
+}
 
 abbrev pub ranList : Given → Ran
 ranList G = ranOf (solvedList G) (upTo (length (G .exprs)))
@@ -241,7 +275,10 @@ situations =
     -- "No constraints, one free expression, default Bool: typing Bool, []."
     ((oneVariable [], typedAs (numberSort Sort.Bool ∷ []) []) ∷ [])
     -- "Literal '0': Nat [1]; on Pos: 17."
-    ∷ ((oneVariable (rowLit v0 1 []), typedAs (numberSort Sort.Nat ∷ []) (1 ∷ [])) ∷ (oneVariable (rowLit pos 1 []), cameTo 17) ∷ [])
+    ∷ ((oneVariable (rowLit v0 1 []), typedAs (numberSort Sort.Nat ∷ []) (1 ∷ [])) ∷ (
+      oneVariable (rowLit pos 1 []),
+      cameTo 17,
+    ) ∷ [])
     -- "Literal '7': Pos [0]."
     ∷ ((oneVariable (rowLit v0 0 []), typedAs (numberSort Sort.Pos ∷ []) (0 ∷ [])) ∷ [])
     -- "Sub Pos to Real: [3]."
@@ -259,7 +296,15 @@ situations =
     -- "Join of Pos, Nat: Nat [1, 0]."
     ∷ ((oneVariable (rowJoin v0 0 2 []), typedAs (numberSort Sort.Nat ∷ []) (1 ∷ 0 ∷ [])) ∷ [])
     -- "Join of Bool -> Pos, Bool -> Nat: Bool -> Nat [0, 0]; as two Subs [1, 0]."
-    ∷ ((functions (rowJoin v0 0 2 []), typedAs (function (arg (numberSort Sort.Bool) no-args) (numberSort Sort.Nat) ∷ []) (0 ∷ 0 ∷ []))
-    ∷ (functions (rowSub 6 v0 (rowSub 7 v0 [])), typedAs (function (arg (numberSort Sort.Bool) no-args) (numberSort Sort.Nat) ∷ []) (1 ∷ 0 ∷ []))
+    ∷ ((
+      functions (rowJoin v0 0 2 []),
+      typedAs (function (arg (numberSort Sort.Bool) no-args) (numberSort Sort.Nat)
+          ∷ []) (0 ∷ 0 ∷ []),
+    )
+    ∷ (
+      functions (rowSub 6 v0 (rowSub 7 v0 [])),
+      typedAs (function (arg (numberSort Sort.Bool) no-args)
+          (numberSort Sort.Nat) ∷ []) (1 ∷ 0 ∷ []),
+    )
     ∷ [])
     ∷ []

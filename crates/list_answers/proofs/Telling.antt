@@ -39,7 +39,8 @@ module _ (g x : ℕ) (r : Solved) (ss ts ms cs : List ℕ) where
 
   pub typing-told :
       (o : Outputs) → r ≡ Typing o
-      → verdictLine 0 ++ (typingText ss (o .counts .sorts) ts ms cs x (o .components) (o .choices) ++ newLines ss g (o .counts .sorts)) ≡ toldText g x r ss ts ms cs
+      → verdictLine 0 ++ (typingText ss (o .counts .sorts) ts ms cs x (o .components) (o .choices) ++ newLines ss g
+      (o .counts .sorts)) ≡ toldText g x r ss ts ms cs
   unfolding toldText codeSolved linesUnder
   typing-told o e = ap (λ (a : Solved). toldText g x a ss ts ms cs) (sym e)
 
@@ -67,7 +68,8 @@ module _ (I : Call) (r : Solved) (ss ts ms cs : List ℕ) (e : listAnswer r ss t
       → told (buffer left n) ss ts ms cs ≡ toldOf ws out (solveEntry I)
   asked-and-told ws out g x eg ex p =
       (λ i. told (p .is i) ss ts ms cs)
-      ∙ (λ i. told (puts out 0 (toldText (eg i) (ex i) (e i .answer) (e i .sorts) (e i .typing) (e i .measure) (e i .choices))) (e i .sorts) (e i .typing) (e i .measure) (e i .choices))
+      ∙ (λ i. told (puts out 0 (toldText (eg i) (ex i) (e i .answer) (e i .sorts) (e i .typing) (e i .measure)
+      (e i .choices))) (e i .sorts) (e i .typing) (e i .measure) (e i .choices))
 
 -- the slices that are told, as the list lends them
 pub all-lent :

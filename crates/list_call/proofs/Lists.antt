@@ -64,5 +64,6 @@ module _ (ws : List ℕ) (start top : ℕ) (old xs : List ℕ) (room : start + t
   unfolding sliceLent
   front-lent j n m g h = ap (take m) copied ∙ (take-take m top (drop start ws) h ∙ ap (λ (k : ℕ). take k (drop start ws)) g)
 
-pub rows-lent : (ws xs : List ℕ) (start j k top n : ℕ) → xs ≡ sliceLent ws start j n top → n ≡ rowsGiven ws k → xs ≡ sliceLent ws start j (1 * rowsGiven ws k) top
+pub rows-lent : (ws xs : List ℕ) (start j k top n : ℕ) → xs ≡ sliceLent ws start j n top → n ≡ rowsGiven ws k
+    → xs ≡ sliceLent ws start j (1 * rowsGiven ws k) top
 rows-lent ws xs start j k top n e h = e ∙ ap (λ (m : ℕ). sliceLent ws start j m top) (let z : n ≡ 1 * rowsGiven ws k = omega (arith, h) in z)

@@ -8,7 +8,8 @@ use Rattle.resolved_sort.specs.Storage.{fullLength}
 use Rattle.unification.specs.Nodes.{maxVars, fullNodes}
 use Rattle.inference.specs.Constraints.{maxExprs, maxSources, maxComponents}
 use Rattle.inference.specs.SolveChecks.{scratchWords, Call}
-use Rattle.list_memory.specs.Memory.{listNameWords, listConstraintWords, listOverloadWords, listTypingWords, listChoiceWords, rowsGiven}
+use Rattle.list_memory.specs.Memory.{listNameWords, listConstraintWords, listOverloadWords, listTypingWords}
+use Rattle.list_memory.specs.Memory.{listChoiceWords, rowsGiven}
 use Rattle.list_memory.specs.Memory.{listSortsAt, listNodesAt, listBindsAt, listExprsAt, listNamesAt, listConstraintsAt}
 use Rattle.list_memory.specs.Memory.{listOverloadsAt, listSourcesAt, listTypingAt, listMeasureAt, listChoicesAt}
 use Rattle.list_memory.specs.Memory.{listScratchAt, sortList, entryList, nodeList, nodeEntryList, varList, exprList}

@@ -94,7 +94,15 @@ lines-of-rows :
     ∷ (0 ∷ 0 ∷ 0 ∷ 0 ∷ 0 ∷ 0 ∷ 0 ∷ 0 ∷ 0 ∷ 0 ∷ 0 ∷ 34058 ∷ 65535 ∷ 34112 ∷ 0 ∷ [])
     ∷ []
     ∷ []
-unfolding planned summary Items.inRange Items.isSortWord Items.isPlaceWord Items.isOf Items.wordOf Items.wordAt Items.fitsFrom Items.allFrom Items.listFits Items.functionFits Plans.expected Plans.emptyPlan Plans.rowsPlan Plans.withFree Plans.withRun Plans.withPuts Plans.addUp Plans.grown Lines.isNext Lines.functionPlan Lines.sortRow Lines.sortPlan Lines.varPlan Lines.varsPlan Lines.boundPlan Lines.bindPlan Lines.nodeRow Lines.nodePlan Lines.exprPlan Lines.nameRow Lines.namePlan Lines.defaultPlan Lines.subPlan Lines.litPlan Lines.comprehensionPlan Lines.disjunctionPlan Lines.overloadPlan Lines.joinPlan Lines.sourcesPlan Lines.entriesPlan Lines.constraintPlan Lines.padPlan Lines.countedBy Lines.countPlan Lines.lendPlan Lines.unusualPlan Lines.constraintsPlan Lines.planOf bytesOf Words.words Words.placeIn Words.keywordOf Tokens.decimalRead Tokens.numberRead Tokens.classOf Tokens.nameToken Tokens.tokenOf Tokens.tokensFrom sameBytes run past skip
+unfolding planned summary Items.inRange Items.isSortWord Items.isPlaceWord Items.isOf Items.wordOf Items.wordAt
+    Items.fitsFrom Items.allFrom Items.listFits Items.functionFits Plans.expected Plans.emptyPlan Plans.rowsPlan
+    Plans.withFree Plans.withRun Plans.withPuts Plans.addUp Plans.grown Lines.isNext Lines.functionPlan Lines.sortRow
+    Lines.sortPlan Lines.varPlan Lines.varsPlan Lines.boundPlan Lines.bindPlan Lines.nodeRow Lines.nodePlan
+    Lines.exprPlan Lines.nameRow Lines.namePlan Lines.defaultPlan Lines.subPlan Lines.litPlan Lines.comprehensionPlan
+    Lines.disjunctionPlan Lines.overloadPlan Lines.joinPlan Lines.sourcesPlan Lines.entriesPlan Lines.constraintPlan
+    Lines.padPlan Lines.countedBy Lines.countPlan Lines.lendPlan Lines.unusualPlan Lines.constraintsPlan Lines.planOf
+    bytesOf Words.words Words.placeIn Words.keywordOf Tokens.decimalRead Tokens.numberRead Tokens.classOf
+    Tokens.nameToken Tokens.tokenOf Tokens.tokensFrom sameBytes run past skip
 lines-of-rows = refl
 
 lines-of-constraints :
@@ -173,5 +181,13 @@ lines-of-constraints :
     ∷ []
     ∷ []
     ∷ []
-unfolding planned summary Items.inRange Items.isSortWord Items.isPlaceWord Items.isOf Items.wordOf Items.wordAt Items.fitsFrom Items.allFrom Items.listFits Items.functionFits Plans.expected Plans.emptyPlan Plans.rowsPlan Plans.withFree Plans.withRun Plans.withPuts Plans.addUp Plans.grown Lines.isNext Lines.functionPlan Lines.sortRow Lines.sortPlan Lines.varPlan Lines.varsPlan Lines.boundPlan Lines.bindPlan Lines.nodeRow Lines.nodePlan Lines.exprPlan Lines.nameRow Lines.namePlan Lines.defaultPlan Lines.subPlan Lines.litPlan Lines.comprehensionPlan Lines.disjunctionPlan Lines.overloadPlan Lines.joinPlan Lines.sourcesPlan Lines.entriesPlan Lines.constraintPlan Lines.padPlan Lines.countedBy Lines.countPlan Lines.lendPlan Lines.unusualPlan Lines.constraintsPlan Lines.planOf bytesOf Words.words Words.placeIn Words.keywordOf Tokens.decimalRead Tokens.numberRead Tokens.classOf Tokens.nameToken Tokens.tokenOf Tokens.tokensFrom sameBytes run past skip
+unfolding planned summary Items.inRange Items.isSortWord Items.isPlaceWord Items.isOf Items.wordOf Items.wordAt
+    Items.fitsFrom Items.allFrom Items.listFits Items.functionFits Plans.expected Plans.emptyPlan Plans.rowsPlan
+    Plans.withFree Plans.withRun Plans.withPuts Plans.addUp Plans.grown Lines.isNext Lines.functionPlan Lines.sortRow
+    Lines.sortPlan Lines.varPlan Lines.varsPlan Lines.boundPlan Lines.bindPlan Lines.nodeRow Lines.nodePlan
+    Lines.exprPlan Lines.nameRow Lines.namePlan Lines.defaultPlan Lines.subPlan Lines.litPlan Lines.comprehensionPlan
+    Lines.disjunctionPlan Lines.overloadPlan Lines.joinPlan Lines.sourcesPlan Lines.entriesPlan Lines.constraintPlan
+    Lines.padPlan Lines.countedBy Lines.countPlan Lines.lendPlan Lines.unusualPlan Lines.constraintsPlan Lines.planOf
+    bytesOf Words.words Words.placeIn Words.keywordOf Tokens.decimalRead Tokens.numberRead Tokens.classOf
+    Tokens.nameToken Tokens.tokenOf Tokens.tokensFrom sameBytes run past skip
 lines-of-constraints = refl

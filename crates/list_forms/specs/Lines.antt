@@ -15,7 +15,8 @@ use Rattle.list_memory.specs.Memory.{exprList, nameList, constraintList, overlo
 use Rattle.list_tokens.specs.declared.Tokens.{Tokens}
 use Rattle.list_tokens.specs.Words as word
 use Rattle.list_forms.specs.declared.Plan.{Plan}
-use Rattle.list_forms.specs.Items.{N, S, P, nN, vN, eN, fixedWord, containerWord, literalWord, sliceWord, anyWord, tokenAt}
+use Rattle.list_forms.specs.Items.{N, S, P, nN, vN, eN, fixedWord, containerWord, literalWord, sliceWord}
+use Rattle.list_forms.specs.Items.{anyWord, tokenAt}
 use Rattle.list_forms.specs.Items.{wordAt, form, fitsForm, listFits, functionFits}
 use Rattle.list_forms.specs.Plans.{expected, emptyPlan, rowsPlan, rowPlan, withFree, withRun, withPuts, withPut}
 use Rattle.list_forms.specs.Plans.{grown}
@@ -44,7 +45,8 @@ boolSort = 1
 -- a function row of list k, with its arguments in list e
 unfoldable pub functionPlan : List ℕ → Tokens → ℕ → ℕ → Plan
 functionPlan ws t k e =
-    withRun (rowPlan k (fiveWords functionKind (wordAt t (t .count - 1)) (rowsGiven ws e) (t .count - 5) 0)) e 3 (t .count - 2)
+    withRun (rowPlan k (fiveWords functionKind (wordAt t (t .count - 1)) (rowsGiven ws e) (t .count - 5) 0)) e 3
+    (t .count - 2)
 
 -- sort sK List S, sort sK fn S ... -> S, sort sK Def N, sort sK TypeVar N, sort sK unit, sort sK raw KIND PART START
 -- COUNT
@@ -54,7 +56,8 @@ sortRow ws t =
     (rowPlan sortList (fiveWords (wordAt t 2 - listOfLessKind) (wordAt t 3) 0 0 0))
     (cond (functionFits t S) (functionPlan ws t sortList entryList)
     (cond (fitsForm t (form word.kSort S word.kDef N 0 0 0)) (rowPlan sortList (fiveWords defKind (wordAt t 3) 0 0 0))
-    (cond (fitsForm t (form word.kSort S word.kTypeVar N 0 0 0)) (rowPlan sortList (fiveWords typeVarKind (wordAt t 3) 0 0 0))
+    (cond (fitsForm t (form word.kSort S word.kTypeVar N 0 0 0)) (rowPlan sortList (fiveWords typeVarKind
+    (wordAt t 3) 0 0 0))
     (cond (fitsForm t (form word.kSort S fixedWord 0 0 0 0)) (rowPlan sortList (fiveWords (wordAt t 2) 0 0 0 0))
     (cond (fitsForm t (form word.kSort S word.kRaw N N N N))
     (rowPlan sortList (fiveWords (wordAt t 3) (wordAt t 4) (wordAt t 5) (wordAt t 6) 0))
@@ -98,7 +101,8 @@ nodeRow ws t =
     cond (fitsForm t (form word.kNode nN containerWord P 0 0 0))
     (rowPlan nodeList (fiveWords (wordAt t 2 - listOfLessKind) (wordAt t 3) 0 0 0))
     (cond (functionFits t P) (functionPlan ws t nodeList nodeEntryList)
-    (cond (fitsForm t (form word.kNode nN word.kVar vN 0 0 0)) (rowPlan nodeList (fiveWords variableKind (wordAt t 3) 0 0 0))
+    (cond (fitsForm t (form word.kNode nN word.kVar vN 0 0 0)) (rowPlan nodeList (fiveWords variableKind
+    (wordAt t 3) 0 0 0))
     (cond (fitsForm t (form word.kNode nN word.kRaw N N N N))
     (rowPlan nodeList (fiveWords (wordAt t 3) (wordAt t 4) (wordAt t 5) (wordAt t 6) 0))
     (expected Form.Node))))
@@ -110,7 +114,8 @@ nodePlan ws t = cond (isNext ws t 1 nN nodeList) (nodeRow ws t) (expected Form.N
 unfoldable pub exprPlan : List ℕ → Tokens → Plan
 exprPlan ws t =
     cond (isNext ws t 1 eN exprList)
-    (cond (fitsForm t (form word.kExpr eN P 0 0 0 0)) (rowPlan exprList (fiveWords (wordAt t 2) 0 0 0 0)) (expected Form.Expr))
+    (cond (fitsForm t (form word.kExpr eN P 0 0 0 0)) (rowPlan exprList (fiveWords (wordAt t 2) 0 0 0 0))
+    (expected Form.Expr))
     (expected Form.Next)
 
 -- name eN variable, name eN builtin, name eN op S, name eN raw KIND SORT; the program holds maxNames base names
@@ -118,7 +123,8 @@ unfoldable pub nameRow : Tokens → Plan
 nameRow t =
     cond (fitsForm t (form word.kName eN word.kVariable 0 0 0 0)) (rowPlan nameList (fiveWords (wordAt t 1) 1 0 0 0))
     (cond (fitsForm t (form word.kName eN word.kBuiltin 0 0 0 0)) (rowPlan nameList (fiveWords (wordAt t 1) 3 0 0 0))
-    (cond (fitsForm t (form word.kName eN word.kOp S 0 0 0)) (rowPlan nameList (fiveWords (wordAt t 1) 2 (wordAt t 3) 0 0))
+    (cond (fitsForm t (form word.kName eN word.kOp S 0 0 0)) (rowPlan nameList (fiveWords (wordAt t 1) 2
+    (wordAt t 3) 0 0))
     (cond (fitsForm t (form word.kName eN word.kRaw N N 0 0))
     (rowPlan nameList (fiveWords (wordAt t 1) (wordAt t 3) (wordAt t 4) 0 0))
     (expected Form.Name))))
@@ -129,7 +135,8 @@ namePlan ws t = cond (ltb (rowsGiven ws nameList) maxNames) (nameRow t) (expecte
 -- default S
 unfoldable pub defaultPlan : Tokens → Plan
 defaultPlan t =
-    cond (fitsForm t (form word.kDefault S 0 0 0 0 0)) (withPut emptyPlan defaultAt (wordAt t 1)) (expected Form.Default)
+    cond (fitsForm t (form word.kDefault S 0 0 0 0 0)) (withPut emptyPlan defaultAt (wordAt t 1))
+    (expected Form.Default)
 
 -- a constraint row, and what kind of line it is of
 abbrev pub constraintRow : List ℕ → ℕ → Plan
@@ -170,7 +177,8 @@ unfoldable pub overloadPlan : List ℕ → Tokens → Plan
 overloadPlan ws t =
     cond (fitsForm t (form word.kOverload word.kVariable P 0 0 0 0)) (overloadRow ws (fiveWords 1 0 (wordAt t 2) 0 0))
     (cond (fitsForm t (form word.kOverload word.kBuiltin P 0 0 0 0)) (overloadRow ws (fiveWords 3 0 (wordAt t 2) 0 0))
-    (cond (fitsForm t (form word.kOverload word.kOp S P 0 0 0)) (overloadRow ws (fiveWords 2 (wordAt t 2) (wordAt t 3) 0 0))
+    (cond (fitsForm t (form word.kOverload word.kOp S P 0 0 0)) (overloadRow ws (fiveWords 2 (wordAt t 2)
+    (wordAt t 3) 0 0))
     (cond (fitsForm t (form word.kOverload word.kRaw N N N 0 0))
     (overloadRow ws (fiveWords (wordAt t 2) (wordAt t 3) (wordAt t 4) 0 0))
     (expected Form.Overload))))
@@ -179,7 +187,8 @@ overloadPlan ws t =
 unfoldable pub joinPlan : List ℕ → Tokens → Plan
 joinPlan ws t =
     cond (listFits t P)
-    (withRun (constraintRow (fiveWords 4 (wordAt t 1) (rowsGiven ws sourceList) (t .count - 2) 0) aJoin) sourceList 2 (t .count))
+    (withRun (constraintRow (fiveWords 4 (wordAt t 1) (rowsGiven ws sourceList) (t .count - 2) 0) aJoin) sourceList
+    2 (t .count))
     (expected Form.Join)
 
 -- sources P ...

@@ -85,9 +85,16 @@ ghost use mathlib.Core.Bool.{true, false};
 ghost use Prim.Native.Nat.{_≤_, _+_, _-_};
 ghost use lib.ListN.{getD};
 ghost use Rattle.list_tokens.specs.Inner.Tokens.{mostClass};
-ghost use Rattle.list_forms.specs.Items.{inRange as within, isSortWord, isPlaceWord, isOf, tokenAt, wordOf, wordAt, fitsFrom, allFrom, listFits, functionFits};
-ghost use Rattle.list_forms.specs.Plans.{expected as expectedOf, emptyPlan as nothingGiven, rowsPlan, rowPlan, withFree, withRun, withPuts, withPut, addUp, grown as grownOf};
-ghost use Rattle.list_forms.specs.Lines.{isNext, functionPlan, sortRow, sortPlan, varPlan, varsPlan, boundPlan, bindPlan, nodeRow, nodePlan, exprPlan, nameRow, namePlan, defaultPlan, constraintRow, subPlan, litPlan, comprehensionPlan, disjunctionPlan, overloadRow, overloadPlan, joinPlan, sourcesPlan, entriesPlan, constraintPlan, padPlan, countedBy, countPlan, lendPlan, unusualPlan, constraintsPlan, planOf, asksOther};
+ghost use Rattle.list_forms.specs.Items.{inRange as within, isSortWord, isPlaceWord, isOf, tokenAt, wordOf};
+ghost use Rattle.list_forms.specs.Items.{wordAt, fitsFrom, allFrom, listFits, functionFits};
+ghost use Rattle.list_forms.specs.Plans.{expected as expectedOf, emptyPlan as nothingGiven, rowsPlan, rowPlan};
+ghost use Rattle.list_forms.specs.Plans.{withFree, withRun, withPuts, withPut, addUp, grown as grownOf};
+ghost use Rattle.list_forms.specs.Lines.{isNext, functionPlan, sortRow, sortPlan, varPlan, varsPlan, boundPlan};
+ghost use Rattle.list_forms.specs.Lines.{bindPlan, nodeRow, nodePlan, exprPlan, nameRow, namePlan, defaultPlan};
+ghost use Rattle.list_forms.specs.Lines.{constraintRow, subPlan, litPlan, comprehensionPlan, disjunctionPlan};
+ghost use Rattle.list_forms.specs.Lines.{overloadRow, overloadPlan, joinPlan, sourcesPlan, entriesPlan};
+ghost use Rattle.list_forms.specs.Lines.{constraintPlan, padPlan, countedBy, countPlan, lendPlan, unusualPlan};
+ghost use Rattle.list_forms.specs.Lines.{constraintsPlan, planOf, asksOther};
 
 // What a line gives. First `free` free variables; then the words from `from` to before `to` of the line as rows of the
 // list `run`; then `times` rows of the list `list`, whose second word rises by one from row to row where `rising`; then

@@ -33,7 +33,9 @@ module _ (ws line out : List ℕ) {vs : List ℕ} {h : Heard} (e : taken vs h �
   unfolding numbered printed
   quiet-said k = line-said Quiet k (put-none out 0)
 
-  pub title-said : h ≡ Begins → (stage : ℕ) → stage ≡ stageOf ws → {mid : List ℕ} {at : ℕ} → PutWithin out 0 (unaskedText stage) mid at → {left : List ℕ} {end : ℕ} → PutWithin mid at (line ++ (10 ∷ [])) left end
+  pub title-said : h ≡ Begins → (stage : ℕ) → stage ≡ stageOf ws → {mid : List ℕ} {at : ℕ}
+      → PutWithin out 0 (unaskedText stage) mid at → {left : List ℕ} {end : ℕ} → PutWithin mid at (line ++ (10 ∷ []))
+      left end
       → lineLeft vs left (said false end) ≡ heardLine ws line out
   unfolding numbered printed
   title-said k stage s p q = line-said Begins k (put-then (put-as (ap unaskedText s) p) q)
@@ -47,7 +49,8 @@ module _ (ws line out : List ℕ) {vs : List ℕ} {h : Heard} (e : taken vs h �
   unfolding numbered printed
   other-said k p = line-said AsksOther k p
 
-  pub bad-said : (f : Form) → h ≡ Bad f → {left : List ℕ} {end : ℕ} → PutWithin out 0 (badText f) left end → lineLeft vs left (said true end) ≡ heardLine ws line out
+  pub bad-said : (f : Form) → h ≡ Bad f → {left : List ℕ} {end : ℕ} → PutWithin out 0 (badText f) left end
+      → lineLeft vs left (said true end) ≡ heardLine ws line out
   unfolding numbered printed
   bad-said f k p = line-said (Bad f) k p
 

@@ -5,7 +5,11 @@ use Prim.Native.Nat.{ℕ, zero, suc, _+_, _-_, _<_}
 use native.Mathlib.Omega.{arith}
 use lib.ListN.{getD, take, drop}
 use Rattle.list_memory.specs.declared.Form.{Form}
-use Rattle.list_memory.specs.declared.Form.the-variants.{Printable, Length, List as FormList, Question, Asked, Keyword, Next, Bare, Sort, Node, Entries, NodeEntries, Pad, Var, Vars, Bind, Unbound, Expr, Name, Names, Default, Sub, Lit, Comprehension, Disjunction, Overload, Join, Sources, Constraint, Count, Lend, Ceilings, Asks}
+use Rattle.list_memory.specs.declared.Form.the-variants.{Printable, Length, List as FormList, Question, Asked}
+use Rattle.list_memory.specs.declared.Form.the-variants.{Keyword, Next, Bare, Sort, Node, Entries, NodeEntries, Pad}
+use Rattle.list_memory.specs.declared.Form.the-variants.{Var, Vars, Bind, Unbound, Expr, Name, Names, Default, Sub}
+use Rattle.list_memory.specs.declared.Form.the-variants.{Lit, Comprehension, Disjunction, Overload, Join, Sources}
+use Rattle.list_memory.specs.declared.Form.the-variants.{Constraint, Count, Lend, Ceilings, Asks}
 use Rattle.text_out.specs.Inner.Within.{PutWithin}
 use Rattle.text_out.proofs.Within.{put-as}
 use Rattle.list_messages.specs.Inner.Messages.{messageNumber}
@@ -13,7 +17,8 @@ use Rattle.list_messages.specs.Messages.{formText}
 
 -- where each message begins, and the bytes of all, as in the code
 unfoldable pub starts : List ℕ
-starts = 0 ∷ 33 ∷ 50 ∷ 76 ∷ 103 ∷ 132 ∷ 171 ∷ 213 ∷ 240 ∷ 374 ∷ 476 ∷ 489 ∷ 507 ∷ 568 ∷ 577 ∷ 583 ∷ 592 ∷ 642 ∷ 651 ∷ 717 ∷ 773 ∷ 782 ∷ 789 ∷ 820 ∷ 839 ∷ 855 ∷ 933 ∷ 945 ∷ 958 ∷ 978 ∷ 1096 ∷ 1241 ∷ 1294 ∷ 1336 ∷ []
+starts = 0 ∷ 33 ∷ 50 ∷ 76 ∷ 103 ∷ 132 ∷ 171 ∷ 213 ∷ 240 ∷ 374 ∷ 476 ∷ 489 ∷ 507 ∷ 568 ∷ 577 ∷ 583 ∷ 592 ∷ 642 ∷ 651 ∷
+    717 ∷ 773 ∷ 782 ∷ 789 ∷ 820 ∷ 839 ∷ 855 ∷ 933 ∷ 945 ∷ 958 ∷ 978 ∷ 1096 ∷ 1241 ∷ 1294 ∷ 1336 ∷ []
 
 abbrev pub messages : List (List ℕ)
 messages =
@@ -92,5 +97,7 @@ message-of-the-table form b k h p e =
     ∙ ap (λ (j : ℕ). getD messages j []) p ∙ at-its-place form
 
 -- the bytes from one start to the next, put
-pub message-is-put : (form : Form) (b : List ℕ) (k : ℕ) → (k ≡ messageNumber form) × (k < 33) → b ≡ cut k → {out : List ℕ} {at : ℕ} {left : List ℕ} {r : ℕ} → PutWithin out at b left r → PutWithin out at (formText form) left r
+pub message-is-put : (form : Form) (b : List ℕ) (k : ℕ) → (k ≡ messageNumber form) × (k < 33) → b ≡ cut k
+    → {out : List ℕ} {at : ℕ} {left : List ℕ} {r : ℕ} → PutWithin out at b left r
+    → PutWithin out at (formText form) left r
 message-is-put form b k p e h = put-as (message-of-the-table form b k (p .1) (p .0) e) h

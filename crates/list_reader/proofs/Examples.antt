@@ -36,7 +36,8 @@ told ws places (text ∷ texts) = let r = lineTaken ws (bytesOf text) in first (
 
 -- a list that has begun, without the fixed six
 lines-of-a-list :
-    told (set (replicate 34112 0) 34103 1) (23040 ∷ 23041 ∷ 23042 ∷ 23043 ∷ 23044 ∷ 23045 ∷ 24320 ∷ 24321 ∷ 24322 ∷ 24323 ∷ 34048 ∷ 34049 ∷ 34050 ∷ 34051 ∷ 34052 ∷ 34053 ∷ 34054 ∷ 34055 ∷ 34056 ∷ 34057 ∷ 34103 ∷ 34104 ∷ [])
+    told (set (replicate 34112 0) 34103 1) (23040 ∷ 23041 ∷ 23042 ∷ 23043 ∷ 23044 ∷ 23045 ∷ 24320 ∷ 24321 ∷ 24322 ∷
+    24323 ∷ 34048 ∷ 34049 ∷ 34050 ∷ 34051 ∷ 34052 ∷ 34053 ∷ 34054 ∷ 34055 ∷ 34056 ∷ 34057 ∷ 34103 ∷ 34104 ∷ [])
     ("disjunction e0 n0"
     ∷ "overload op Nat n0"
     ∷ [])
@@ -44,7 +45,19 @@ lines-of-a-list :
       heards = Quiet ∷ Quiet ∷ [];
       words = 2 ∷ 0 ∷ 1024 ∷ 0 ∷ 1 ∷ 0 ∷ 2 ∷ 3 ∷ 1024 ∷ 0 ∷ 0 ∷ 0 ∷ 0 ∷ 0 ∷ 0 ∷ 0 ∷ 0 ∷ 1 ∷ 1 ∷ 0 ∷ 1 ∷ 1 ∷ [];
     }
-unfolding told first zeros Memory.listStart Memory.widthOf Memory.ceilingOf bytesOf Words.words Words.placeIn Words.keywordOf Tokens.decimalRead Tokens.numberRead Tokens.classOf Tokens.nameToken Tokens.tokenOf Tokens.tokensFrom Tokens.tokensOf Tokens.printableFrom Tokens.lineStart sameBytes run past skip Items.inRange Items.isSortWord Items.isPlaceWord Items.isOf Items.wordOf Items.wordAt Items.fitsFrom Items.allFrom Items.listFits Items.functionFits Plans.expected Plans.emptyPlan Plans.rowsPlan Plans.withFree Plans.withRun Plans.withPuts Plans.addUp Plans.grown Lines.isNext Lines.functionPlan Lines.sortRow Lines.sortPlan Lines.varPlan Lines.varsPlan Lines.boundPlan Lines.bindPlan Lines.nodeRow Lines.nodePlan Lines.exprPlan Lines.nameRow Lines.namePlan Lines.defaultPlan Lines.subPlan Lines.litPlan Lines.comprehensionPlan Lines.disjunctionPlan Lines.overloadPlan Lines.joinPlan Lines.sourcesPlan Lines.entriesPlan Lines.constraintPlan Lines.padPlan Lines.countedBy Lines.countPlan Lines.lendPlan Lines.unusualPlan Lines.constraintsPlan Lines.planOf Lines.asksOther Taking.putWords Taking.oneMoreWord Taking.appended Taking.nextNumber Taking.appendTimes Taking.appendRun Taking.carried Taking.badLine Taking.begun Taking.bareTaken Taking.planTaken Taking.questionTaken Taking.wordsTaken Taking.otherTaken Taking.answerTaken Taking.listTaken Taking.byStart Taking.lineTaken
+unfolding told first zeros Memory.listStart Memory.widthOf Memory.ceilingOf bytesOf Words.words Words.placeIn
+    Words.keywordOf Tokens.decimalRead Tokens.numberRead Tokens.classOf Tokens.nameToken Tokens.tokenOf
+    Tokens.tokensFrom Tokens.tokensOf Tokens.printableFrom Tokens.lineStart sameBytes run past skip Items.inRange
+    Items.isSortWord Items.isPlaceWord Items.isOf Items.wordOf Items.wordAt Items.fitsFrom Items.allFrom
+    Items.listFits Items.functionFits Plans.expected Plans.emptyPlan Plans.rowsPlan Plans.withFree Plans.withRun
+    Plans.withPuts Plans.addUp Plans.grown Lines.isNext Lines.functionPlan Lines.sortRow Lines.sortPlan Lines.varPlan
+    Lines.varsPlan Lines.boundPlan Lines.bindPlan Lines.nodeRow Lines.nodePlan Lines.exprPlan Lines.nameRow
+    Lines.namePlan Lines.defaultPlan Lines.subPlan Lines.litPlan Lines.comprehensionPlan Lines.disjunctionPlan
+    Lines.overloadPlan Lines.joinPlan Lines.sourcesPlan Lines.entriesPlan Lines.constraintPlan Lines.padPlan
+    Lines.countedBy Lines.countPlan Lines.lendPlan Lines.unusualPlan Lines.constraintsPlan Lines.planOf
+    Lines.asksOther Taking.putWords Taking.oneMoreWord Taking.appended Taking.nextNumber Taking.appendTimes
+    Taking.appendRun Taking.carried Taking.badLine Taking.begun Taking.bareTaken Taking.planTaken Taking.questionTaken
+    Taking.wordsTaken Taking.otherTaken Taking.answerTaken Taking.listTaken Taking.byStart Taking.lineTaken
 lines-of-a-list = refl
 
 -- before any list
@@ -52,5 +65,17 @@ lines-before-a-list :
     map (λ (text : String). (lineTaken [] (bytesOf text)) .heard)
     ("" ∷ "  # sub" ∷ "sub n0 n1" ∷ "? solve" ∷ "= 0" ∷ "list" ∷ [])
     ≡ Quiet ∷ Quiet ∷ Bad Form.List ∷ Bad Form.List ∷ Bad Form.Question ∷ Begins ∷ []
-unfolding told first zeros Memory.listStart Memory.widthOf Memory.ceilingOf bytesOf Words.words Words.placeIn Words.keywordOf Tokens.decimalRead Tokens.numberRead Tokens.classOf Tokens.nameToken Tokens.tokenOf Tokens.tokensFrom Tokens.tokensOf Tokens.printableFrom Tokens.lineStart sameBytes run past skip Items.inRange Items.isSortWord Items.isPlaceWord Items.isOf Items.wordOf Items.wordAt Items.fitsFrom Items.allFrom Items.listFits Items.functionFits Plans.expected Plans.emptyPlan Plans.rowsPlan Plans.withFree Plans.withRun Plans.withPuts Plans.addUp Plans.grown Lines.isNext Lines.functionPlan Lines.sortRow Lines.sortPlan Lines.varPlan Lines.varsPlan Lines.boundPlan Lines.bindPlan Lines.nodeRow Lines.nodePlan Lines.exprPlan Lines.nameRow Lines.namePlan Lines.defaultPlan Lines.subPlan Lines.litPlan Lines.comprehensionPlan Lines.disjunctionPlan Lines.overloadPlan Lines.joinPlan Lines.sourcesPlan Lines.entriesPlan Lines.constraintPlan Lines.padPlan Lines.countedBy Lines.countPlan Lines.lendPlan Lines.unusualPlan Lines.constraintsPlan Lines.planOf Lines.asksOther Taking.putWords Taking.oneMoreWord Taking.appended Taking.nextNumber Taking.appendTimes Taking.appendRun Taking.carried Taking.badLine Taking.begun Taking.bareTaken Taking.planTaken Taking.questionTaken Taking.wordsTaken Taking.otherTaken Taking.answerTaken Taking.listTaken Taking.byStart Taking.lineTaken
+unfolding told first zeros Memory.listStart Memory.widthOf Memory.ceilingOf bytesOf Words.words Words.placeIn
+    Words.keywordOf Tokens.decimalRead Tokens.numberRead Tokens.classOf Tokens.nameToken Tokens.tokenOf
+    Tokens.tokensFrom Tokens.tokensOf Tokens.printableFrom Tokens.lineStart sameBytes run past skip Items.inRange
+    Items.isSortWord Items.isPlaceWord Items.isOf Items.wordOf Items.wordAt Items.fitsFrom Items.allFrom
+    Items.listFits Items.functionFits Plans.expected Plans.emptyPlan Plans.rowsPlan Plans.withFree Plans.withRun
+    Plans.withPuts Plans.addUp Plans.grown Lines.isNext Lines.functionPlan Lines.sortRow Lines.sortPlan Lines.varPlan
+    Lines.varsPlan Lines.boundPlan Lines.bindPlan Lines.nodeRow Lines.nodePlan Lines.exprPlan Lines.nameRow
+    Lines.namePlan Lines.defaultPlan Lines.subPlan Lines.litPlan Lines.comprehensionPlan Lines.disjunctionPlan
+    Lines.overloadPlan Lines.joinPlan Lines.sourcesPlan Lines.entriesPlan Lines.constraintPlan Lines.padPlan
+    Lines.countedBy Lines.countPlan Lines.lendPlan Lines.unusualPlan Lines.constraintsPlan Lines.planOf
+    Lines.asksOther Taking.putWords Taking.oneMoreWord Taking.appended Taking.nextNumber Taking.appendTimes
+    Taking.appendRun Taking.carried Taking.badLine Taking.begun Taking.bareTaken Taking.planTaken Taking.questionTaken
+    Taking.wordsTaken Taking.otherTaken Taking.answerTaken Taking.listTaken Taking.byStart Taking.lineTaken
 lines-before-a-list = refl

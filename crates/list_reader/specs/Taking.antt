@@ -13,7 +13,9 @@ use Rattle.sort_text.specs.Reading.{maxLine}
 use Rattle.unification.specs.Nodes.{freeWord}
 use Rattle.list_memory.specs.declared.Form.{Form}
 use Rattle.list_memory.specs.declared.Heard.{Heard}
-use Rattle.list_memory.specs.Memory.{mostRows, listWords, widthOf, ceilingOf, listRowAt, rowsAt, rowsGiven, sortList, entryList, varList, defaultAt, stageAt, noList, readingStage, askedStage, badStage, Taken, taken}
+use Rattle.list_memory.specs.Memory.{mostRows, listWords, widthOf, ceilingOf, listRowAt, rowsAt, rowsGiven}
+use Rattle.list_memory.specs.Memory.{sortList, entryList, varList, defaultAt, stageAt, noList, readingStage}
+use Rattle.list_memory.specs.Memory.{askedStage, badStage, Taken, taken}
 use Rattle.list_tokens.specs.declared.Tokens.{Tokens}
 use Rattle.list_tokens.specs.declared.Start.{Start}
 use Rattle.list_tokens.specs.Words.{kBare, kAsk, kSolve}

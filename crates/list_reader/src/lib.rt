@@ -55,7 +55,9 @@ ghost use mathlib.Core.Path.{_≡_};
 ghost use Prim.Native.Nat.{_≤_, _+_, _-_};
 ghost use Rattle.list_memory.specs.Memory.{taken, listStart, widthOf, ceilingOf, listRowAt};
 ghost use Rattle.list_reader.specs.Inner.Taking.{mostPlace};
-ghost use Rattle.list_reader.specs.Taking.{putWords, oneMoreWord, appended, nextNumber, appendTimes, appendRun, carried, badLine, begun, bareTaken, planTaken, questionTaken, wordsTaken, otherTaken, answerTaken, listTaken, lineTaken};
+ghost use Rattle.list_reader.specs.Taking.{putWords, oneMoreWord, appended, nextNumber, appendTimes, appendRun};
+ghost use Rattle.list_reader.specs.Taking.{carried, badLine, begun, bareTaken, planTaken, questionTaken};
+ghost use Rattle.list_reader.specs.Taking.{wordsTaken, otherTaken, answerTaken, listTaken, lineTaken};
 
 // Where the rows of each list begin, how many words a row has, and how many rows are kept.
 const STARTS: [u16; LISTS] = [

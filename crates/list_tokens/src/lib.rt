@@ -12,7 +12,8 @@ ghost use Rattle.sort_text.specs.Tokens.{past};
 ghost use Rattle.sort_lexer.specs.Inner.Lexeme.{offset};
 ghost use Rattle.list_tokens.specs.Words.{words, keywordOf};
 ghost use Rattle.list_tokens.specs.Inner.Tokens.{mostClass};
-ghost use Rattle.list_tokens.specs.Tokens.{decimalRead, numberRead, classOf, nameToken, tokenOf, inWord, tokensOf, printableFrom, lineStart};
+ghost use Rattle.list_tokens.specs.Tokens.{decimalRead, numberRead, classOf, nameToken, tokenOf, inWord};
+ghost use Rattle.list_tokens.specs.Tokens.{tokensOf, printableFrom, lineStart};
 
 // The words of a line, each as a number, and how many there are.
 pub struct Tokens {

@@ -108,7 +108,8 @@ module _ (ws : List ℕ) (i k p : ℕ) (ek : k ≡ kindAt ws i) (ep : p ≡ part
         rw (le-ltb (kindAt ws i) 6 y, lt-ltb (kindAt ws i) 11 z) (ap (λ (x : ℕ). 32 ∷ sortName x) ep)
 
     module _ (b : 11 ≤ k) where
-      pub arguments-and-range : k ≡ 11 → (s c : ℕ) → s ≡ startAt ws i → c ≡ countAt ws i → rowsText (argumentText ws) c s ++ (arrowText ++ sortName p) ≡ parts ws i
+      pub arguments-and-range : k ≡ 11 → (s c : ℕ) → s ≡ startAt ws i → c ≡ countAt ws i
+          → rowsText (argumentText ws) c s ++ (arrowText ++ sortName p) ≡ parts ws i
       unfolding parts
       arguments-and-range h s c es ec =
           let x : 6 ≤ kindAt ws i = omega arith in
@@ -161,7 +162,8 @@ module _ (ws : List ℕ) (k : Counts) (zs : List ℕ) (s : ℕ) where
   pub past-the-sorts : k .sorts ≤ s → name 115 s ≡ sortText ws (k .sorts) s
   unfolding look short writable
   past-the-sorts h = number-for
-      (ap (λ (t : Tree). writable t && leb (length (text t)) 200) (List·getD-eq-default (trees ws (k .sorts)) (flat unit) (omega (arith, length-trees ws (k .sorts)))))
+      (ap (λ (t : Tree). writable t && leb (length (text t)) 200) (List·getD-eq-default (trees ws (k .sorts))
+      (flat unit) (omega (arith, length-trees ws (k .sorts)))))
 
   module _ (q : SizesOf ws k zs) (below : s < k .sorts) (size : ℕ) (es : size ≡ getD zs s 0) where
     size-is : size ≡ sizeIf (writable (treeAt ws (k .sorts) s)) (length (text (treeAt ws (k .sorts) s)))
@@ -169,7 +171,11 @@ module _ (ws : List ℕ) (k : Counts) (zs : List ℕ) (s : ℕ) where
     size-is =
         es
         ∙ (ap (λ (l : List ℕ). getD l s 0) (q .sizes)
-        ∙ sizes-right ws (replicate 1024 0) (k .sorts) (k .entries) (record { fine = q .checked .fine; differ = q .checked .differ }) (omega (arith, q .checked .sorts, length-replicate {A = ℕ} 1024 0))
+        ∙ sizes-right ws (replicate 1024 0) (k .sorts) (k .entries) (record {
+          fine = q .checked .fine;
+          differ =
+              q .checked .differ;
+        }) (omega (arith, q .checked .sorts, length-replicate {A = ℕ} 1024 0))
         (k .sorts) (omega arith) s below)
 
     pub no-text : size ≡ 0 → name 115 s ≡ sortText ws (k .sorts) s

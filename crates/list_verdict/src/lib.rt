@@ -18,7 +18,9 @@ ghost use Prim.Native.Nat.{_+_, _*_, _<_, _≤_};
 ghost use Rattle.resolved_sort.specs.Rows.{Checked};
 ghost use Rattle.text_out.specs.Inner.Within.{PutWithin};
 ghost use Rattle.list_verdict.specs.Words.{kindWord, message};
-ghost use Rattle.list_verdict.specs.Text.{rowsText, name, sortName, sortText, targetText, exprLine, separator, component, measureLine, choiceText, choiceList, choicesLine, argumentText, parts, newLine, verdictLine, newLines, typingText};
+ghost use Rattle.list_verdict.specs.Text.{rowsText, name, sortName, sortText, targetText, exprLine, separator};
+ghost use Rattle.list_verdict.specs.Text.{component, measureLine, choiceText, choiceList, choicesLine};
+ghost use Rattle.list_verdict.specs.Text.{argumentText, parts, newLine, verdictLine, newLines, typingText};
 ghost use Rattle.list_verdict.specs.Inner.Room.{SizesOf};
 
 // A letter and a number.

@@ -90,13 +90,16 @@ module _ (ns : List ℕ) (m : ℕ) (B : Binds) where
   still-all k (suc d) e =
       subst (λ n. allTrue (rounds ns m B n) ≡ true) (let q : suc (k + d) ≡ k + suc d = omega arith in q)
       (of-all (rounds ns m B (suc (k + d)))
-      (λ i l. round-more (k + d) i (all-of (rounds ns m B (k + d)) (still-all k d e) i (omega (arith, l, length-rounds ns m B (k + d), length-rounds ns m B (suc (k + d)))))))
+      (λ i l. round-more (k + d) i (all-of (rounds ns m B (k + d)) (still-all k d e) i
+      (omega (arith, l, length-rounds ns m B (k + d), length-rounds ns m B (suc (k + d)))))))
 
   -- all variables settled after some rounds
   pub settled-early : (k : ℕ) → k ≤ length B → allTrue (rounds ns m B k) ≡ true → true ≡ acyclic ns m B
   unfolding acyclic
-  settled-early k l e = sym (subst (λ n. allTrue (rounds ns m B n) ≡ true) (let q : k + (length B - k) ≡ length B = omega (arith, l) in q) (still-all k (length B - k) e))
+  settled-early k l e = sym (subst (λ n. allTrue (rounds ns m B n) ≡ true) (let q : k + (length B - k) ≡ length B =
+      omega (arith, l) in q) (still-all k (length B - k) e))
 
   -- the same of the flags in memory, after one round more
-  pub settled-here : (vs : List Bool) (r v : ℕ) → v ≡ length B → r < v → vs ≡ rounds ns m B (r + 1) → (b : Bool) → b ≡ allTrue vs → b ≡ true → true ≡ acyclic ns m B
+  pub settled-here : (vs : List Bool) (r v : ℕ) → v ≡ length B → r < v → vs ≡ rounds ns m B (r + 1) → (b : Bool)
+      → b ≡ allTrue vs → b ≡ true → true ≡ acyclic ns m B
   settled-here vs r v q l e b f g = settled-early (r + 1) (omega (arith, q, l)) (sym (ap allTrue e) ∙ (sym f ∙ g))

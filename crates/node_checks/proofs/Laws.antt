@@ -110,7 +110,8 @@ module _ (ns : List ℕ) (d n v i : ℕ) (says : InferSort) where
   unfolding nodePartsFine
   generic-fine op s r e x = x ∙ sym (ap (nodePartsFine ns d n v i) e)
 
-  pub function-is : (domain : Run) (s : InferSortId) (r : Bool) → says ≡ Function domain s → r ≡ nodePartsFine ns d n v i (Function domain s) → r ≡ nodePartsFine ns d n v i says
+  pub function-is : (domain : Run) (s : InferSortId) (r : Bool) → says ≡ Function domain s
+      → r ≡ nodePartsFine ns d n v i (Function domain s) → r ≡ nodePartsFine ns d n v i says
   function-is domain s r e x = x ∙ sym (ap (nodePartsFine ns d n v i) e)
 
 module _ (ns : List ℕ) (d n v i : ℕ) (b : Bool) (e : b ≡ nodeKindFine (nodeKindAt ns i)) where

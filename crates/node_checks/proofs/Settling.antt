@@ -41,7 +41,11 @@ module _ (ns : List ℕ) (ms : List Bool) (s c : ℕ) where
     pub left : allSettled ms (nodeEntriesOf ns s c) ≡ allSettled ms (nodeEntriesOf ns (s + j) (c - j))
 
   pub run-begins : Run-left 0
-  run-begins = record { within = omega arith; left = ap₂ (λ (x y : ℕ). allSettled ms (nodeEntriesOf ns x y)) (let z : s ≡ s + 0 = omega arith in z) (let z : c ≡ c - 0 = omega arith in z) }
+  run-begins = record {
+    within = omega arith;
+    left = ap₂ (λ (x y : ℕ). allSettled ms (nodeEntriesOf ns x y))
+        (let z : s ≡ s + 0 = omega arith in z) (let z : c ≡ c - 0 = omega arith in z);
+  }
 
   module _ (j : ℕ) (p : Run-left j) where
     module _ (l : j < c) (b : Bool) (e : b ≡ placeSettled ms (nodeEntryAt ns (s + j))) where
@@ -56,7 +60,11 @@ module _ (ns : List ℕ) (ms : List Bool) (s c : ℕ) where
       argument-open x = sym (one-and-rest ∙ ap (λ y. y && allSettled ms (nodeEntriesOf ns (s + (j + 1)) (c - (j + 1)))) x)
 
       pub argument-passed : b ≡ true → Run-left (j + 1)
-      argument-passed x = record { within = omega (arith, l); left = one-and-rest ∙ ap (λ y. y && allSettled ms (nodeEntriesOf ns (s + (j + 1)) (c - (j + 1)))) x }
+      argument-passed x = record {
+        within = omega (arith, l);
+        left = one-and-rest ∙ ap (λ y. y && allSettled ms
+            (nodeEntriesOf ns (s + (j + 1)) (c - (j + 1)))) x;
+      }
 
     pub run-ends : c ≤ j → true ≡ allSettled ms (nodeEntriesOf ns s c)
     unfolding allSettled nodeEntriesOf
@@ -66,7 +74,8 @@ module _ (ns : List ℕ) (ms : List Bool) (s c : ℕ) where
 settled-last : (ms : List Bool) (xs : List ℕ) (y : ℕ) → allSettled ms (xs ++ (y ∷ [])) ≡ (allSettled ms xs && placeSettled ms y)
 unfolding allSettled
 settled-last ms [] y = and-true (placeSettled ms y)
-settled-last ms (x ∷ xs) y = ap (λ z. placeSettled ms x && z) (settled-last ms xs y) ∙ sym (and-assoc (placeSettled ms x) (allSettled ms xs) (placeSettled ms y))
+settled-last ms (x ∷ xs) y = ap (λ z. placeSettled ms x && z) (settled-last ms xs y) ∙ sym
+    (and-assoc (placeSettled ms x) (allSettled ms xs) (placeSettled ms y))
 
 module _ (ns : List ℕ) (vs ms : List Bool) (i : ℕ) (r : InferSort) (e : r ≡ nodeAt ns i) where
   abbrev whole : Bool
@@ -98,24 +107,29 @@ module _ (ns : List ℕ) (vs : List Bool) where
   unfolding nodesSettled
   none-of-nodes fs = refl
 
-  pub one-more-node : (fs : List Bool) (i : ℕ) → i < length fs → take i fs ≡ nodesSettled ns vs i → (b : Bool) → b ≡ shapeSettled vs (take i fs) (nodeShape ns (nodeAt ns i))
+  pub one-more-node : (fs : List Bool) (i : ℕ) → i < length fs → take i fs ≡ nodesSettled ns vs i → (b : Bool)
+      → b ≡ shapeSettled vs (take i fs) (nodeShape ns (nodeAt ns i))
       → take (i + 1) (set fs i b) ≡ nodesSettled ns vs (i + 1)
   unfolding nodesSettled
   one-more-node fs i l e b x =
       ap (λ (j : ℕ). take j (set fs i b)) (add-one i)
       ∙ (take-suc-set fs i b l
-      ∙ (ap₂ (λ (ys : List Bool) (y : Bool). ys ++ (y ∷ [])) e (x ∙ ap (λ ys. shapeSettled vs ys (nodeShape ns (nodeAt ns i))) e) ∙ ap (nodesSettled ns vs) (sym (add-one i))))
+      ∙ (ap₂ (λ (ys : List Bool) (y : Bool). ys ++ (y ∷ [])) e
+      (x ∙ ap (λ ys. shapeSettled vs ys (nodeShape ns (nodeAt ns i))) e) ∙ ap (nodesSettled ns vs)
+      (sym (add-one i))))
 
 -- variables one after another
 module _ (bs : List ℕ) (v : ℕ) (ms : List Bool) where
   abbrev new : List Bool
   new = varsSettled ms (bindsOf bs v)
 
-  pub one-more-var : (fs : List Bool) (x : ℕ) → x < v → v ≤ length fs → take x fs ≡ take x new → (b : Bool) → b ≡ bindingSettled ms (bindingOf (getD bs x 0)) → take (x + 1) (set fs x b) ≡ take (x + 1) new
+  pub one-more-var : (fs : List Bool) (x : ℕ) → x < v → v ≤ length fs → take x fs ≡ take x new → (b : Bool)
+      → b ≡ bindingSettled ms (bindingOf (getD bs x 0)) → take (x + 1) (set fs x b) ≡ take (x + 1) new
   one-more-var fs x l m e b y =
       ap (λ (j : ℕ). take j (set fs x b)) (add-one x)
       ∙ (take-suc-set fs x b (omega (arith, l, m))
-      ∙ (ap₂ (λ (ys : List Bool) (z : Bool). ys ++ (z ∷ [])) e (y ∙ sym (var-is ms (bindsOf bs v) x (omega (arith, l, length-binds bs v)) ∙ ap (bindingSettled ms) (binding-word bs v x l)))
+      ∙ (ap₂ (λ (ys : List Bool) (z : Bool). ys ++ (z ∷ [])) e (y ∙ sym (var-is ms (bindsOf bs v) x
+      (omega (arith, l, length-binds bs v)) ∙ ap (bindingSettled ms) (binding-word bs v x l)))
       ∙ (sym (take-suc new x false (omega (arith, l, length-vars ms (bindsOf bs v), length-binds bs v))) ∙ ap (λ (j : ℕ). take j new) (sym (add-one x)))))
 
   pub all-vars : (fs : List Bool) (x : ℕ) → x ≡ v → take x fs ≡ take x new → take v fs ≡ new
@@ -146,12 +160,14 @@ no-rounds ns bs m v l = take-falses 512 v l ∙ ap (λ (n : ℕ). replicate n fa
     take-falses zero (suc v) l = absurd (omega (arith, l))
     take-falses (suc n) (suc v) l = ap (λ xs. false ∷ xs) (take-falses n v (omega (arith, l)))
 
-pub one-round : (ns bs : List ℕ) (m v r : ℕ) (vs fs us : List Bool) → take v vs ≡ rounds ns m (bindsOf bs v) r → take m fs ≡ nodesSettled ns (take v vs) m → take v us ≡ varsSettled (take m fs) (bindsOf bs v)
+pub one-round : (ns bs : List ℕ) (m v r : ℕ) (vs fs us : List Bool) → take v vs ≡ rounds ns m (bindsOf bs v) r
+    → take m fs ≡ nodesSettled ns (take v vs) m → take v us ≡ varsSettled (take m fs) (bindsOf bs v)
     → take v us ≡ rounds ns m (bindsOf bs v) (r + 1)
 unfolding rounds
 one-round ns bs m v r vs fs us e f g =
     g ∙ (ap (λ ms. varsSettled ms (bindsOf bs v)) (f ∙ ap (λ ys. nodesSettled ns ys m) e) ∙ ap (rounds ns m (bindsOf bs v)) (sym (add-one r)))
 
-pub rounds-over : (ns bs : List ℕ) (m v r : ℕ) (vs : List Bool) → r ≡ v → take v vs ≡ rounds ns m (bindsOf bs v) r → (b : Bool) → b ≡ allTrue (take v vs) → b ≡ acyclic ns m (bindsOf bs v)
+pub rounds-over : (ns bs : List ℕ) (m v r : ℕ) (vs : List Bool) → r ≡ v → take v vs ≡ rounds ns m (bindsOf bs v) r
+    → (b : Bool) → b ≡ allTrue (take v vs) → b ≡ acyclic ns m (bindsOf bs v)
 unfolding acyclic
 rounds-over ns bs m v r vs i e b x = x ∙ (ap allTrue e ∙ ap (λ (n : ℕ). allTrue (rounds ns m (bindsOf bs v) n)) (i ∙ sym (length-binds bs v)))

@@ -27,10 +27,13 @@ ghost use mathlib.Core.Bool.{false};
 ghost use lib.ListN.{length, getD, take};
 ghost use Rattle.resolved_sort.specs.Checks.{allBelow, firstFailing};
 ghost use Rattle.unification.specs.declared.InferSort.{InferSort};
-ghost use Rattle.unification.specs.Nodes.{maxNodes, isPlace, bindingOf, bindsOf, maxVars, nodeEntriesOf, nodeAt, nodeShape};
-ghost use Rattle.unification.specs.NodeChecks.{nodesWithinLent, bindingsWithinLent, nodePartsFine, nodeKindFine, nodeFine, nodesFine, bindingFine, bindingsFine, nodeChecks};
+ghost use Rattle.unification.specs.Nodes.{maxNodes, isPlace, bindingOf, bindsOf, maxVars, nodeEntriesOf, nodeAt};
+ghost use Rattle.unification.specs.Nodes.{nodeShape};
+ghost use Rattle.unification.specs.NodeChecks.{nodesWithinLent, bindingsWithinLent, nodePartsFine, nodeKindFine};
+ghost use Rattle.unification.specs.NodeChecks.{nodeFine, nodesFine, bindingFine, bindingsFine, nodeChecks};
 ghost use Rattle.node_checks.specs.Inner.Tests.{argPlaced};
-ghost use Rattle.unification.specs.Acyclic.{placeSettled, allSettled, shapeSettled, nodesSettled, bindingSettled, varsSettled, allTrue, acyclic as acyclicOf};
+ghost use Rattle.unification.specs.Acyclic.{placeSettled, allSettled, shapeSettled, nodesSettled, bindingSettled};
+ghost use Rattle.unification.specs.Acyclic.{varsSettled, allTrue, acyclic as acyclicOf};
 ghost use Rattle.resolved_sort.specs.Inner.Entries.{testedOf};
 
 // Check 1: m nodes and d entries are within the ceilings and within what was lent.

@@ -138,7 +138,8 @@ module _ (bs : List ℕ) (on-first : (l : List ℕ) → printed (takeBytes (firs
   second-by : (l m : List ℕ) (b : ℕ) (t : Bool) → eqb b 10 ≡ t → then-printed (takeByte (second (held l) (held m)) b) ≡ pairs (l ∷ glue m (lines (b ∷ bs)))
   second-by l m b true e =
       ap then-printed (second-lf l m b e)
-      ∙ (ap (λ x. withLf (pair l m) ++ x) (on-first [] ∙ ap pairs (glue-none (lines bs))) ∙ (pair-first l m (lines bs) ∙ ap (λ ls. pairs (l ∷ ls)) (sym (after-lf m b bs e))))
+      ∙ (ap (λ x. withLf (pair l m) ++ x) (on-first [] ∙ ap pairs (glue-none (lines bs))) ∙ (pair-first l m (lines bs)
+      ∙ ap (λ ls. pairs (l ∷ ls)) (sym (after-lf m b bs e))))
   second-by l m b false e = ap then-printed (second-byte l m b e) ∙ (on-second l (m ++ (b ∷ [])) ∙ ap (λ ls. pairs (l ∷ ls)) (after-byte m b bs e))
 
 mutual
@@ -147,7 +148,8 @@ mutual
   from-first : (bs l : List ℕ) → printed (takeBytes (first (held l)) bs) ≡ pairs (glue l (lines bs))
   from-first [] l = end-first l ∙ ap (λ ls. pairs (glue l ls)) (sym no-lines)
   from-first (b ∷ bs) l =
-      printed-onward (takeByte (first (held l)) b .output) (takeBytes (takeByte (first (held l)) b .lines) bs) ∙ first-by bs (λ x. from-first bs x) (λ x y. from-second bs x y) l b (eqb b 10) refl
+      printed-onward (takeByte (first (held l)) b .output) (takeBytes (takeByte (first (held l)) b .lines) bs) ∙
+      first-by bs (λ x. from-first bs x) (λ x y. from-second bs x y) l b (eqb b 10) refl
 
   from-second : (bs l m : List ℕ) → printed (takeBytes (second (held l) (held m)) bs) ≡ pairs (l ∷ glue m (lines bs))
   from-second [] l m = end-second l m ∙ ap (λ ls. pairs (l ∷ glue m ls)) (sym no-lines)

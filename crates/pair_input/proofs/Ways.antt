@@ -35,7 +35,8 @@ module _ (memory : List ℕ) (start count byte : ℕ) (s : start ≤ mostHeld) (
             ap (λ us. take (count + 1) us) (drop-set-add start memory count byte)
             ∙ (ap (λ (k : ℕ). take k (set (drop start memory) count byte)) (add-one count)
             ∙ (take-suc-set (drop start memory) count byte (omega (arith, length-drop start memory, s, h, l))
-            ∙ sym (ap (λ b. cond b (lineAt memory start count ++ (byte ∷ [])) (lineAt memory start count)) (ap (λ (k : ℕ). ltb k mostHeld) line-length ∙ lt-ltb count mostHeld h))));
+            ∙ sym (ap (λ b. cond b (lineAt memory start count ++ (byte ∷ [])) (lineAt memory start count))
+            (ap (λ (k : ℕ). ltb k mostHeld) line-length ∙ lt-ltb count mostHeld h))));
         before = take-set-le start memory (start + count) byte (omega arith);
         few = omega (arith, h);
       }
@@ -44,7 +45,8 @@ module _ (memory : List ℕ) (start count byte : ℕ) (s : start ≤ mostHeld) (
   unfolding holding
   line-is-full h =
       record {
-        line = sym (ap (λ b. cond b (lineAt memory start count ++ (byte ∷ [])) (lineAt memory start count)) (ap (λ (k : ℕ). ltb k mostHeld) line-length ∙ le-ltb count mostHeld h));
+        line = sym (ap (λ b. cond b (lineAt memory start count ++ (byte ∷ [])) (lineAt memory start count))
+            (ap (λ (k : ℕ). ltb k mostHeld) line-length ∙ le-ltb count mostHeld h));
         before = refl;
         few = c;
       }
@@ -63,14 +65,21 @@ module _ (memory : List ℕ) (held : Held) (byte : ℕ) (out : List ℕ) (at : �
     pub first-ends : byte ≡ 10 → Turns (takeByte (linesOf memory held) byte) out at memory (Second n 0) out at
     unfolding takeByte linesOf Fits
     first-ends e =
-        let t : takeByte (linesOf memory held) byte ≡ turned (second (lineAt memory 0 n) []) [] = ap (λ h. takeByte h byte) lines-first ∙ rw (eq-eqb byte 10 e) in
-        record { holds = record { fits = (first-few, omega arith); long = q .long }; lines = sym (ap (λ x. x .lines) t); put = put-as (sym (ap (λ x. x .output) t)) (put-none out at) }
+        let t : takeByte (linesOf memory held) byte ≡ turned (second (lineAt memory 0 n) []) [] = ap
+        (λ h. takeByte h byte) lines-first ∙ rw (eq-eqb byte 10 e) in
+        record {
+          holds = record { fits = (first-few, omega arith); long = q .long };
+          lines = sym (ap (λ x. x .lines)
+              t);
+          put = put-as (sym (ap (λ x. x .output) t)) (put-none out at);
+        }
 
     pub first-goes-on : (byte ≡ 10 → ⊥) → (left : List ℕ) (next : ℕ) → length left ≡ length memory → Holding memory 0 n byte left next
         → Turns (takeByte (linesOf memory held) byte) out at left (First next) out at
     unfolding takeByte linesOf Fits
     first-goes-on d left next k h =
-        let t : takeByte (linesOf memory held) byte ≡ turned (first (holding (lineAt memory 0 n) byte)) [] = ap (λ x. takeByte x byte) lines-first ∙ rw (ne-eqb byte 10 d) in
+        let t : takeByte (linesOf memory held) byte ≡ turned (first (holding (lineAt memory 0 n) byte)) [] = ap
+        (λ x. takeByte x byte) lines-first ∙ rw (ne-eqb byte 10 d) in
         record {
           holds = record { fits = h .few; long = omega (arith, k, q .long) };
           lines = ap first (h .line) ∙ sym (ap (λ x. x .lines) t);
@@ -93,14 +102,17 @@ module _ (memory : List ℕ) (held : Held) (byte : ℕ) (out : List ℕ) (at : �
         → Turns (takeByte (linesOf memory held) byte) out at memory (First 0) left next
     unfolding takeByte linesOf Fits
     second-ends e left next h =
-        let t : takeByte (linesOf memory held) byte ≡ turned (first []) (withLf (pair (lineAt memory 0 n) (lineAt memory n m))) = ap (λ x. takeByte x byte) lines-second ∙ rw (eq-eqb byte 10 e) in
+        let t : takeByte (linesOf memory held) byte ≡ turned (first [])
+        (withLf (pair (lineAt memory 0 n) (lineAt memory n m))) = ap (λ x. takeByte x byte) lines-second ∙
+        rw (eq-eqb byte 10 e) in
         record { holds = record { fits = omega arith; long = q .long }; lines = sym (ap (λ x. x .lines) t); put = put-as (sym (ap (λ x. x .output) t)) h }
 
     pub second-goes-on : (byte ≡ 10 → ⊥) → (left : List ℕ) (next : ℕ) → length left ≡ length memory → Holding memory n m byte left next
         → Turns (takeByte (linesOf memory held) byte) out at left (Second n next) out at
     unfolding takeByte linesOf Fits
     second-goes-on d left next k h =
-        let t : takeByte (linesOf memory held) byte ≡ turned (second (lineAt memory 0 n) (holding (lineAt memory n m) byte)) [] = ap (λ x. takeByte x byte) lines-second ∙ rw (ne-eqb byte 10 d) in
+        let t : takeByte (linesOf memory held) byte ≡ turned (second (lineAt memory 0 n) (holding (lineAt memory n m)
+        byte)) [] = ap (λ x. takeByte x byte) lines-second ∙ rw (ne-eqb byte 10 d) in
         record {
           holds = record { fits = (second-few .0, h .few); long = omega (arith, k, q .long) };
           lines = ap₂ second (h .before) (h .line) ∙ sym (ap (λ x. x .lines) t);
@@ -129,9 +141,18 @@ pub record Feeding (memory : List ℕ) (held : Held) (bytes out : List ℕ) (mem
 pub nothing-fed : (memory : List ℕ) (held : Held) (bytes out : List ℕ) → Holds memory held → Feeding memory held bytes out memory held out 0 0
 unfolding takeBytes
 nothing-fed memory held bytes out q =
-    record { turns = record { holds = q; lines = refl; put = put-none out 0 }; within = omega arith; fits = omega arith; goes = λ k l. absurd (omega (arith, l)); memory-long = refl; out-long = refl }
+    record {
+      turns = record { holds = q; lines = refl; put = put-none out 0 };
+      within = omega arith;
+      fits = omega
+          arith;
+      goes = λ k l. absurd (omega (arith, l));
+      memory-long = refl;
+      out-long = refl;
+    }
 
-module _ (memory : List ℕ) (held : Held) (bytes out memory₁ : List ℕ) (held₁ : Held) (out₁ : List ℕ) (used at : ℕ) (f : Feeding memory held bytes out memory₁ held₁ out₁ used at) where
+module _ (memory : List ℕ) (held : Held) (bytes out memory₁ : List ℕ) (held₁ : Held) (out₁ : List ℕ) (used at : ℕ)
+    (f : Feeding memory held bytes out memory₁ held₁ out₁ used at) where
   module _ (u : used < length bytes) where
     pub fed-full : length out₁ - at < lineRoom → Feeds memory held bytes out memory₁ held₁ out₁ used at
     fed-full h = record { turns = f .turns; within = f .within; fits = f .fits; goes = f .goes; stops = λ x. omega (arith, h, f .out-long, f .fits) }
@@ -154,18 +175,22 @@ module _ (memory : List ℕ) (held : Held) (bytes out memory₁ : List ℕ) (hel
         ∙ ap (λ o. turned (t₂ .lines) (t₁ .output ++ o)) (append-nil (t₂ .output))))
 
     -- there was room for this byte too
-    goes-on : lineRoom ≤ length out₁ - at → (j : ℕ) (b : Bool) → ltb j used ≡ b → j < used + 1 → length (takeBytes (linesOf memory held) (take j bytes) .output) + lineRoom ≤ length out
+    goes-on : lineRoom ≤ length out₁ - at → (j : ℕ) (b : Bool) → ltb j used ≡ b → j < used + 1
+        → length (takeBytes (linesOf memory held) (take j bytes) .output) + lineRoom ≤ length out
     goes-on h j true e l = f .goes j (ltb-true j used e)
     goes-on h j false e l =
         let i : j ≡ used = omega (arith, ltb-false j used e, l) in
-        subst (λ (x : ℕ). length (takeBytes (linesOf memory held) (take x bytes) .output) + lineRoom ≤ length out) (sym i) (omega (arith, f .turns .put .behind, h, f .out-long))
+        subst (λ (x : ℕ). length (takeBytes (linesOf memory held) (take x bytes) .output) + lineRoom ≤ length out)
+        (sym i) (omega (arith, f .turns .put .behind, h, f .out-long))
 
     pub byte-fed : lineRoom ≤ length out₁ - at → (memory₂ : List ℕ) (held₂ : Held) (out₂ : List ℕ) (next : ℕ) → length memory₂ ≡ length memory₁
-        → Turns (takeByte (linesOf memory₁ held₁) (getD bytes used 0)) out₁ at memory₂ held₂ out₂ next → Feeding memory held bytes out memory₂ held₂ out₂ (used + 1) next
+        → Turns (takeByte (linesOf memory₁ held₁) (getD bytes used 0)) out₁ at memory₂ held₂ out₂ next
+        → Feeding memory held bytes out memory₂ held₂ out₂ (used + 1) next
     byte-fed h memory₂ held₂ out₂ next k g =
         let g′ = subst (λ x. Turns (takeByte x (getD bytes used 0)) out₁ at memory₂ held₂ out₂ next) (f .turns .lines) g in
         record {
-          turns = subst (λ x. Turns x out 0 memory₂ held₂ out₂ next) (sym next-byte) (record { holds = g′ .holds; lines = g′ .lines; put = put-then (f .turns .put) (g′ .put) });
+          turns = subst (λ x. Turns x out 0 memory₂ held₂ out₂ next) (sym next-byte)
+              (record { holds = g′ .holds; lines = g′ .lines; put = put-then (f .turns .put) (g′ .put) });
           within = omega (arith, u);
           fits = omega (arith, h, f .out-long, g′ .put .behind, byte-output (t₁ .lines) (getD bytes used 0), put-length (g′ .put));
           goes = λ j l. goes-on h j (ltb j used) refl l;
@@ -179,7 +204,12 @@ module _ (memory : List ℕ) (held : Held) (bytes out memory₁ : List ℕ) (hel
 -- the end of the input
 module _ (memory : List ℕ) (held : Held) (out : List ℕ) (q : Holds memory held) where
   line-is-some : (start n : ℕ) → (n ≡ 0 → ⊥) → start + n ≤ length memory → (b : ℕ) × (l : List ℕ) × (lineAt memory start n ≡ b ∷ l)
-  line-is-some start n d h = some (lineAt memory start n) (omega (arith, length-take-le n (drop start memory) (omega (arith, h, length-drop start memory)), positive n d)) refl
+  line-is-some start n d h = some (lineAt memory start n) (omega (
+    arith,
+    length-take-le n (drop start memory)
+        (omega (arith, h, length-drop start memory)),
+    positive n d,
+  )) refl
     where
       positive : (k : ℕ) → (k ≡ 0 → ⊥) → 0 < k
       positive zero e = absurd (e refl)
@@ -197,7 +227,8 @@ module _ (memory : List ℕ) (held : Held) (out : List ℕ) (q : Holds memory he
     unfolding atEnd linesOf
     none-left e = put-as (sym (ap (λ h. atEnd (linesOf memory h)) (i ∙ ap First e))) (put-none out 0)
 
-    pub one-left : (n ≡ 0 → ⊥) → (left : List ℕ) (r : ℕ) → Put out 0 (withLf (single (lineOf (lineAt memory 0 n)))) left r → Put out 0 (atEnd (linesOf memory held)) left r
+    pub one-left : (n ≡ 0 → ⊥) → (left : List ℕ) (r : ℕ) → Put out 0 (withLf (single (lineOf (lineAt memory 0 n))))
+        left r → Put out 0 (atEnd (linesOf memory held)) left r
     unfolding atEnd linesOf
     one-left d left r h =
         let x = line-is-some 0 n d (omega (arith, first-inside)) in
@@ -207,18 +238,23 @@ module _ (memory : List ℕ) (held : Held) (out : List ℕ) (q : Holds memory he
     pub pair-inside : n + m ≤ length memory
     pair-inside = both-inside memory held 0 out 0 q n m i
 
-    pub single-left : m ≡ 0 → (left : List ℕ) (r : ℕ) → Put out 0 (withLf (single (lineOf (lineAt memory 0 n)))) left r → Put out 0 (atEnd (linesOf memory held)) left r
+    pub single-left : m ≡ 0 → (left : List ℕ) (r : ℕ) → Put out 0 (withLf (single (lineOf (lineAt memory 0 n)))) left
+        r → Put out 0 (atEnd (linesOf memory held)) left r
     unfolding atEnd linesOf
     single-left e left r h = put-as (sym (ap (λ k. atEnd (linesOf memory k)) (i ∙ ap (Second n) e))) h
 
-    pub pair-left : (m ≡ 0 → ⊥) → (left : List ℕ) (r : ℕ) → Put out 0 (withLf (pair (lineAt memory 0 n) (lineAt memory n m))) left r → Put out 0 (atEnd (linesOf memory held)) left r
+    pub pair-left : (m ≡ 0 → ⊥) → (left : List ℕ) (r : ℕ)
+        → Put out 0 (withLf (pair (lineAt memory 0 n) (lineAt memory n m))) left r
+        → Put out 0 (atEnd (linesOf memory held)) left r
     unfolding atEnd linesOf
     pair-left d left r h =
         let x = line-is-some n m d pair-inside in
-        put-as (ap (λ l. withLf (pair (lineAt memory 0 n) l)) (x .2) ∙ sym (ap (λ k. atEnd (linesOf memory k)) i ∙ ap (λ l. atEnd (second (lineAt memory 0 n) l)) (x .2))) h
+        put-as (ap (λ l. withLf (pair (lineAt memory 0 n) l)) (x .2) ∙ sym (ap (λ k. atEnd (linesOf memory k)) i ∙ ap
+        (λ l. atEnd (second (lineAt memory 0 n) l)) (x .2))) h
 
 -- Where there are bytes and the buffer has room for a line, at least one byte is taken.
-pub feeds-some : (memory : List ℕ) (held : Held) (bytes out memory₁ : List ℕ) (held₁ : Held) (out₁ : List ℕ) (used at : ℕ) → Feeds memory held bytes out memory₁ held₁ out₁ used at
+pub feeds-some : (memory : List ℕ) (held : Held) (bytes out memory₁ : List ℕ) (held₁ : Held) (out₁ : List ℕ)
+    (used at : ℕ) → Feeds memory held bytes out memory₁ held₁ out₁ used at
     → 0 < length bytes → lineRoom ≤ length out → 0 < used
 unfolding takeBytes
 feeds-some memory held bytes out memory₁ held₁ out₁ zero at f b l = absurd (omega (arith, f .stops b, f .turns .put .behind, l))
@@ -242,7 +278,8 @@ end-inside h p l = omega (arith, p .behind, end-output h, put-length p, l)
 
 -- The lines held after a part of the input, and after the next part of it.
 pub fed-further : (h : Lines) (bytes : List ℕ) (from used : ℕ) → from + used ≤ length bytes
-    → takeBytes (takeBytes h (take from bytes) .lines) (take used (take (length bytes - from) (drop from bytes))) .lines ≡ takeBytes h (take (from + used) bytes) .lines
+    → takeBytes (takeBytes h (take from bytes) .lines) (take used (take (length bytes - from)
+    (drop from bytes))) .lines ≡ takeBytes h (take (from + used) bytes) .lines
 fed-further h bytes from used l =
     ap (λ us. takeBytes (takeBytes h (take from bytes) .lines) us .lines) (take-take used (length bytes - from) (drop from bytes) (omega (arith, l)))
     ∙ sym (ap (λ us. takeBytes h us .lines) (take-add from used bytes) ∙ ap (λ x. x .lines) (in-parts h (take from bytes) (take used (drop from bytes))))

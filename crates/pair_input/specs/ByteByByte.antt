@@ -50,7 +50,8 @@ atEnd (first (b ∷ l)) = withLf (single (lineOf (b ∷ l)))
 atEnd (second l []) = withLf (single (lineOf l))
 atEnd (second l (b ∷ m)) = withLf (pair l (b ∷ m))
 
--- An input in any number of parts: the outputs of the parts in turn, and what the end prints, are `output` of the whole.
+-- An input in any number of parts: the outputs of the parts in turn, and what the end prints, are `output` of the
+-- whole.
 abbrev pub whole : List (List ℕ) → List ℕ
 whole [] = []
 whole (p ∷ ps) = p ++ whole ps

@@ -60,8 +60,15 @@ module _ (ws : List ℕ) (n e a b : ℕ) (out : List ℕ) (at : ℕ) (q : BothRe
 
   whole-room : length (withLf (answer s t)) ≤ 816
   whole-room =
-      omega
-      (arith, answer-length s t (omega (arith, line-wide (q .of-line .bytes) (q .of-line .left) s (q .of-line .is), q .of-line .short)), length-append (answer s t) (10 ∷ []))
+      omega (
+        arith,
+        answer-length s t (omega (
+          arith,
+          line-wide (q .of-line .bytes) (q .of-line .left) s (q .of-line .is),
+          q .of-line .short,
+        )),
+        length-append (answer s t) (10 ∷ []),
+      )
 
   abbrev joinPart : List ℕ
   joinPart = boundPart true s t
@@ -80,8 +87,14 @@ module _ (ws : List ℕ) (n e a b : ℕ) (out : List ℕ) (at : ℕ) (q : BothRe
 
   parts-room : 3 + (length joinPart + (length meetPart + (length stepsPart + length yesPart))) ≤ 816
   parts-room =
-      omega
-      (arith, whole-room, ap length is-parts, length-append joinPart (meetPart ++ (stepsPart ++ yesPart)), length-append meetPart (stepsPart ++ yesPart), length-append stepsPart yesPart)
+      omega (
+        arith,
+        whole-room,
+        ap length is-parts,
+        length-append joinPart (meetPart ++ (stepsPart ++ yesPart)),
+        length-append meetPart (stepsPart ++ yesPart),
+        length-append stepsPart yesPart,
+      )
 
   module _ (o : PartialOrder) (eo : o ≡ order s t) (out₁ : List ℕ) (at₁ : ℕ) (h₁ : Put out at (orderPart o) out₁ at₁) where
     pub join-room : BoundRoom true ws n e a b out₁ at₁
@@ -114,7 +127,8 @@ module _ (ws : List ℕ) (n e a b : ℕ) (out : List ℕ) (at : ℕ) (q : BothRe
             room = omega (arith, ap length meet-part, h₁ .behind, put-length h₁, h₂ .behind, put-length h₂, parts-room, q .room);
           }
 
-      module _ (ws₂ : List ℕ) (n₂ e₂ : ℕ) (out₃ : List ℕ) (at₃ : ℕ) (h₃ : Put out₂ at₂ (boundPart false (treeAt ws₁ n₁ a) (treeAt ws₁ n₁ b)) out₃ at₃) (g₂ : RoomGrows ws₁ n₁ e₁ ws₂ n₂ e₂) where
+      module _ (ws₂ : List ℕ) (n₂ e₂ : ℕ) (out₃ : List ℕ) (at₃ : ℕ) (h₃ : Put out₂ at₂
+          (boundPart false (treeAt ws₁ n₁ a) (treeAt ws₁ n₁ b)) out₃ at₃) (g₂ : RoomGrows ws₁ n₁ e₁ ws₂ n₂ e₂) where
         pub last-asked : Checked ws₂ n₂ e₂ × (a < n₂) × (b < n₂)
         last-asked = (g₂ .checked, omega (arith, q .asked .lhs, g₁ .longer, g₂ .longer), omega (arith, q .asked .rhs, g₁ .longer, g₂ .longer))
 
@@ -132,7 +146,18 @@ module _ (ws : List ℕ) (n e a b : ℕ) (out : List ℕ) (at : ℕ) (q : BothRe
           steps-part = ap (λ x. stepsText x ++ comma []) (ew ∙ ap₂ (λ x y. wideningOf (distance true x y)) same-lhs₂ same-rhs₂)
 
           pub steps-room : at₃ + length (stepsText w ++ comma []) ≤ length out₃
-          steps-room = omega (arith, ap length steps-part, h₁ .behind, put-length h₁, h₂ .behind, put-length h₂, h₃′ .behind, put-length h₃′, parts-room, q .room)
+          steps-room = omega (
+            arith,
+            ap length steps-part,
+            h₁ .behind,
+            put-length h₁,
+            h₂ .behind,
+            put-length h₂,
+            h₃′ .behind,
+            put-length h₃′,
+            parts-room,
+            q .room,
+          )
 
           module _ (out₄ : List ℕ) (at₄ : ℕ) (h₄ : Put out₃ at₃ (stepsText w ++ comma []) out₄ at₄) where
             h₄′ : Put out₃ at₃ stepsPart out₄ at₄
@@ -144,8 +169,20 @@ module _ (ws : List ℕ) (n e a b : ℕ) (out : List ℕ) (at : ℕ) (q : BothRe
 
               pub yes-room : at₄ + length (withLf (yesOrNo y)) ≤ length out₄
               yes-room =
-                  omega
-                  (arith, ap length yes-part, h₁ .behind, put-length h₁, h₂ .behind, put-length h₂, h₃′ .behind, put-length h₃′, h₄′ .behind, put-length h₄′, parts-room, q .room)
+                  omega (
+                    arith,
+                    ap length yes-part,
+                    h₁ .behind,
+                    put-length h₁,
+                    h₂ .behind,
+                    put-length h₂,
+                    h₃′ .behind,
+                    put-length h₃′,
+                    h₄′ .behind,
+                    put-length h₄′,
+                    parts-room,
+                    q .room,
+                  )
 
               pub answer-put : (out₅ : List ℕ) (r : ℕ) → Put out₄ at₄ (withLf (yesOrNo y)) out₅ r → Put out at (withLf (answer s t)) out₅ r
               answer-put out₅ r h₅ =

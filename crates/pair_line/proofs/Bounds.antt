@@ -76,7 +76,8 @@ module _ (up : Bool) (ws : List ℕ) (n e a b : ℕ) (out : List ℕ) (at : ℕ)
       spent = subst (Within AnyTree (size s) (entriesOf s) (sortsOf ws n e)) (r .is) within .1
 
       pub bound-grows : RoomGrows ws n e vs (K .sorts) (K .entries)
-      bound-grows = grows ws n e (q .asked .checked) (r .sorts) (r .grown) (size s) (entriesOf s) spent nodes (omega (arith, nodes, entries-below-size s)) vs K (r .words) (r .counted)
+      bound-grows = grows ws n e (q .asked .checked) (r .sorts) (r .grown) (size s) (entriesOf s) spent nodes
+          (omega (arith, nodes, entries-below-size s)) vs K (r .words) (r .counted)
 
       bound-text : text (treeAt vs (K .sorts) (u .0)) ≡ sortOrNone (bound up s t)
       bound-text = ap text (reached-sort ws n e (sortsOf ws n e) O vs u K r) ∙ sym (ap sortOrNone is-bound)
@@ -117,7 +118,8 @@ module _ (up : Bool) (ws : List ℕ) (n e a b : ℕ) (out : List ℕ) (at : ℕ)
       none-grown = subst (SortsKept ws n e InTree (sortsOf ws n e)) (it .1) kept .0
 
       pub none-grows : RoomGrows ws n e vs (K .sorts) (K .entries)
-      none-grows = grows ws n e (q .asked .checked) (it .0) none-grown (size s) (entriesOf s) none-spent nodes (omega (arith, nodes, entries-below-size s)) vs K (it .2) (it .3)
+      none-grows = grows ws n e (q .asked .checked) (it .0) none-grown (size s) (entriesOf s) none-spent nodes
+          (omega (arith, nodes, entries-below-size s)) vs K (it .2) (it .3)
 
       is-none-text : noneText ++ comma [] ≡ sortOrNone (bound up s t) ++ comma []
       is-none-text = sym (ap (λ x. sortOrNone x ++ comma []) is-none)

@@ -61,9 +61,12 @@ module _ (ws : List ℕ) (l : fullLength ≤ length ws) where
   kinds : (k : ℕ) → k < 6 → kindAt (putSix ws) k ≡ k
   unfolding putSix
   kinds zero h =
-      stays w4 20 0 5 0 (omega arith) (stays w3 16 0 4 0 (omega arith) (stays w2 12 0 3 0 (omega arith) (stays w1 8 0 2 0 (omega arith) (stays w0 4 0 1 0 (omega arith) (getD-set-same ws 0 0 0 (omega (arith, l)))))))
+      stays w4 20 0 5 0 (omega arith) (stays w3 16 0 4 0 (omega arith) (stays w2 12 0 3 0 (omega arith)
+      (stays w1 8 0 2 0 (omega arith) (stays w0 4 0 1 0 (omega arith) (getD-set-same ws 0 0 0
+      (omega (arith, l)))))))
   kinds (suc zero) h =
-      stays w4 20 4 5 1 (omega arith) (stays w3 16 4 4 1 (omega arith) (stays w2 12 4 3 1 (omega arith) (stays w1 8 4 2 1 (omega arith) (getD-set-same w0 4 1 0 (omega (arith, long-0))))))
+      stays w4 20 4 5 1 (omega arith) (stays w3 16 4 4 1 (omega arith) (stays w2 12 4 3 1 (omega arith)
+      (stays w1 8 4 2 1 (omega arith) (getD-set-same w0 4 1 0 (omega (arith, long-0))))))
   kinds (suc (suc zero)) h =
       stays w4 20 8 5 2 (omega arith) (stays w3 16 8 4 2 (omega arith) (stays w2 12 8 3 2 (omega arith) (getD-set-same w1 8 2 0 (omega (arith, long-1)))))
   kinds (suc (suc (suc zero))) h = stays w4 20 12 5 3 (omega arith) (stays w3 16 12 4 3 (omega arith) (getD-set-same w2 12 3 0 (omega (arith, long-2))))
@@ -82,7 +85,15 @@ module _ (ws : List ℕ) (l : fullLength ≤ length ws) where
 
   is-six : fixedSix (putSix ws) 6 ≡ true
   unfolding fixedSix allBelow
-  is-six = rw (eqb-itself 0 (omega arith), eqb-itself 1 (omega arith), eqb-itself 2 (omega arith), eqb-itself 3 (omega arith), eqb-itself 4 (omega arith), eqb-itself 5 (omega arith))
+  is-six = rw (
+    eqb-itself 0 (omega arith),
+    eqb-itself 1 (omega arith),
+    eqb-itself 2 (omega arith),
+    eqb-itself 3
+        (omega arith),
+    eqb-itself 4 (omega arith),
+    eqb-itself 5 (omega arith),
+  )
 
   -- a row of one of the six kinds has no parts
   fine-at : (k i part : ℕ) (us : List ℕ) → k < 6 → (run : Run) → partsBelow us 0 i (resolved k part run) ≡ true
@@ -98,12 +109,22 @@ module _ (ws : List ℕ) (l : fullLength ≤ length ws) where
   row-fine : (k : ℕ) → k < 6 → rowFine (putSix ws) 0 k ≡ true
   unfolding rowFine
   row-fine k h =
-      ap (λ x. leb x 13 && partsBelow (putSix ws) 0 k (resolved x (partAt (putSix ws) k) (record { start = startAt (putSix ws) k; count = countAt (putSix ws) k }))) (kinds k h)
-      ∙ and-both (leb k 13) _ (le-leb k 13 (omega (arith, h))) (fine-at k k (partAt (putSix ws) k) (putSix ws) h (record { start = startAt (putSix ws) k; count = countAt (putSix ws) k }))
+      ap (λ x. leb x 13 && partsBelow (putSix ws) 0 k (resolved x (partAt (putSix ws) k)
+      (record { start = startAt (putSix ws) k; count = countAt (putSix ws) k }))) (kinds k h)
+      ∙ and-both (leb k 13) _ (le-leb k 13 (omega (arith, h))) (fine-at k k (partAt (putSix ws) k) (putSix ws) h
+      (record { start = startAt (putSix ws) k; count = countAt (putSix ws) k }))
 
   all-fine : rowsFine (putSix ws) 6 0 ≡ true
   unfolding rowsFine allBelow
-  all-fine = rw (row-fine 0 (omega arith), row-fine 1 (omega arith), row-fine 2 (omega arith), row-fine 3 (omega arith), row-fine 4 (omega arith), row-fine 5 (omega arith))
+  all-fine = rw (
+    row-fine 0 (omega arith),
+    row-fine 1 (omega arith),
+    row-fine 2 (omega arith),
+    row-fine 3
+        (omega arith),
+    row-fine 4 (omega arith),
+    row-fine 5 (omega arith),
+  )
 
   one-more : (n : ℕ) (T : List Tree) → n < 6 → trees (putSix ws) n ≡ T → trees (putSix ws) (suc n) ≡ T ++ (sixth n ∷ [])
   unfolding trees
@@ -115,7 +136,8 @@ module _ (ws : List ℕ) (l : fullLength ≤ length ws) where
 
   six-trees : trees (putSix ws) 6 ≡ sixth 0 ∷ sixth 1 ∷ sixth 2 ∷ sixth 3 ∷ sixth 4 ∷ sixth 5 ∷ []
   six-trees =
-      one-more 5 _ (omega arith) (one-more 4 _ (omega arith) (one-more 3 _ (omega arith) (one-more 2 _ (omega arith) (one-more 1 _ (omega arith) (one-more 0 [] (omega arith) no-trees)))))
+      one-more 5 _ (omega arith) (one-more 4 _ (omega arith) (one-more 3 _ (omega arith) (one-more 2 _ (omega arith)
+      (one-more 1 _ (omega arith) (one-more 0 [] (omega arith) no-trees)))))
 
   no-two-equal : noTwoEqual (putSix ws) 6 ≡ true
   unfolding noTwoEqual distinct member same family level

@@ -22,7 +22,8 @@ use Rattle.sort_text.proofs.Sizes.{Spent}
 use Rattle.pair_line.specs.Room.{Begun}
 use Rattle.pair_line.specs.Inner.Room.{RoomGrows}
 
-module _ (ws : List ℕ) (n e : ℕ) (c : Checked ws n e) (S : Sorts) (g : Grown ws n e S) (k j : ℕ) (s : Spent k j (sortsOf ws n e) S) (p : k ≤ 200) (q : j ≤ 200) where
+module _ (ws : List ℕ) (n e : ℕ) (c : Checked ws n e) (S : Sorts) (g : Grown ws n e S) (k j : ℕ)
+    (s : Spent k j (sortsOf ws n e) S) (p : k ≤ 200) (q : j ≤ 200) where
   grown-on : RoomGrows ws n e (after ws n e S) (length (S .trees)) (maxEntries - S .entries)
   grown-on =
       record {
@@ -46,7 +47,16 @@ module _ (ws : List ℕ) (n e : ℕ) (c : Checked ws n e) (S : Sorts) (g : Grown
       and-both (leb 6 (length (S .trees))) _ (le-leb 6 (length (S .trees)) (omega (arith, l, longer ws n e c S g))) (same-kinds 6 l ∙ a .1)
 
   begun-on : (m : ℕ) → Begun ws n e m → Begun (after ws n e S) (length (S .trees)) (maxEntries - S .entries) (m + 200)
-  begun-on m b = record { checked = g .checked; six = six-stays (b .six); sorts = omega (arith, grown-on .sorts, b .sorts); entries = omega (arith, grown-on .entries, b .entries) }
+  begun-on m b = record {
+    checked = g .checked;
+    six = six-stays (b .six);
+    sorts = omega (
+      arith,
+      grown-on .sorts,
+      b .sorts,
+    );
+    entries = omega (arith, grown-on .entries, b .entries);
+  }
 
   -- as a call leaves it: its words and its counts
   module _ (vs : List ℕ) (K : Counts) (v : vs ≡ after ws n e S) (d : K ≡ countsOf S) where

@@ -59,11 +59,13 @@ module _ (ws : List ℕ) (n e k : ℕ) (bs : List ℕ) (b : Begun ws n e k) (few
     within : Within (Is t) (size t) (entriesOf t) (sortsOf ws n e) (store t (sortsOf ws n e))
     within = store-within t (sortsOf ws n e) (omega (arith, nodes, b .sorts, few)) (omega (arith, nodes, entries-below-size t, b .entries, few))
 
-    spent-by : (v : Tree) (S : Sorts) → Within (Is t) (size t) (entriesOf t) (sortsOf ws n e) (made v S) → (v ≡ t) × Spent (size t) (entriesOf t) (sortsOf ws n e) S
+    spent-by : (v : Tree) (S : Sorts) → Within (Is t) (size t) (entriesOf t) (sortsOf ws n e) (made v S)
+        → (v ≡ t) × Spent (size t) (entriesOf t) (sortsOf ws n e) S
     unfolding Within
     spent-by v S w = w
 
-    sort-from : (vs : List ℕ) (u : SortId) (K : Counts) (O : Outcome Tree) → Within (Is t) (size t) (entriesOf t) (sortsOf ws n e) O → Reached ws n e (sortsOf ws n e) O vs u K → ReadSort vs u K
+    sort-from : (vs : List ℕ) (u : SortId) (K : Counts) (O : Outcome Tree) → Within (Is t) (size t) (entriesOf t)
+        (sortsOf ws n e) O → Reached ws n e (sortsOf ws n e) O vs u K → ReadSort vs u K
     sort-from vs u K O w r =
         let x = spent-by (r .sort) (r .sorts) (subst (Within (Is t) (size t) (entriesOf t) (sortsOf ws n e)) (r .is) w) in
         let y : t ≡ treeAt vs (K .sorts) (u .0) = sym (reached-sort ws n e (sortsOf ws n e) O vs u K r ∙ x .0) in
@@ -72,11 +74,14 @@ module _ (ws : List ℕ) (n e k : ℕ) (bs : List ℕ) (b : Begun ws n e k) (few
           of-line = record { bytes = bs; left = cs; is = is′; short = l };
           is-good = line-good bs cs (treeAt vs (K .sorts) (u .0)) l is′;
           below = reached-below ws n e (sortsOf ws n e) O vs u K r;
-          begun = begun-still ws n e (b .checked) (r .sorts) (r .grown) (size t) (entriesOf t) (x .1) nodes (omega (arith, nodes, entries-below-size t)) vs K (r .words) (r .counted) k b;
-          grown = grows ws n e (b .checked) (r .sorts) (r .grown) (size t) (entriesOf t) (x .1) nodes (omega (arith, nodes, entries-below-size t)) vs K (r .words) (r .counted);
+          begun = begun-still ws n e (b .checked) (r .sorts) (r .grown) (size t) (entriesOf t) (x .1) nodes
+              (omega (arith, nodes, entries-below-size t)) vs K (r .words) (r .counted) k b;
+          grown = grows ws n e (b .checked) (r .sorts) (r .grown) (size t) (entriesOf t) (x .1) nodes
+              (omega (arith, nodes, entries-below-size t)) vs K (r .words) (r .counted);
         }
 
-    as-stored : (vs : List ℕ) (u : SortId) (K : Counts) (O : Outcome Tree) → readLeft vs (Sort u K) ≡ storedBy ws n e (stored ws n e O) ((stored ws n e O) .answer)
+    as-stored : (vs : List ℕ) (u : SortId) (K : Counts) (O : Outcome Tree) → readLeft vs (Sort u K) ≡ storedBy ws n e
+        (stored ws n e O) ((stored ws n e O) .answer)
         → storedAt vs (At u K) ≡ stored ws n e O
     unfolding storedBy stored
     as-stored vs u K (made v S) q =
@@ -89,9 +94,11 @@ module _ (ws : List ℕ) (n e k : ℕ) (bs : List ℕ) (b : Begun ws n e k) (few
     unfolding readAs
     read-sort-of vs u K q =
         sort-from vs u K (store t (sortsOf ws n e)) within
-        (reached ws n e (sortsOf ws n e) (store t (sortsOf ws n e)) (store-kept ws n e bs passes cs t is) vs u K (as-stored vs u K (store t (sortsOf ws n e)) q))
+        (reached ws n e (sortsOf ws n e) (store t (sortsOf ws n e)) (store-kept ws n e bs passes cs t is) vs u K
+        (as-stored vs u K (store t (sortsOf ws n e)) q))
 
-    no-room-by : (vs : List ℕ) (O : Outcome Tree) → Makes O → Within (Is t) (size t) (entriesOf t) (sortsOf ws n e) O → readLeft vs NoRoom ≡ storedBy ws n e (stored ws n e O) ((stored ws n e O) .answer) → ⊥
+    no-room-by : (vs : List ℕ) (O : Outcome Tree) → Makes O → Within (Is t) (size t) (entriesOf t) (sortsOf ws n e) O
+        → readLeft vs NoRoom ≡ storedBy ws n e (stored ws n e O) ((stored ws n e O) .answer) → ⊥
     unfolding storedBy stored Makes Within
     no-room-by vs (made v S) m w q = let a : NoRoom ≡ Sort (record { 0 = number (S .trees) v }) (countsOf S) = ap (λ r. r .answer) q in no-confusion (cc)
     no-room-by vs (nothing S) m w q = m

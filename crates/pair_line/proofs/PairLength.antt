@@ -13,11 +13,13 @@ use Rattle.resolved_sort.specs.Tree.{Tree}
 use Rattle.resolved_sort.specs.Order.{bound, Steps, distance, materializable}
 use Rattle.sort_text.specs.Parse.{Parsed, parsed, stuck, line, left}
 use Rattle.sort_text.specs.Reading.{shortLine}
-use Rattle.pair_line.specs.PairProgram.{smallDecimal, sortOrNone, stepsOrNone, yesOrNo, answer, Line, good, wrong, read, lineOf, withFirst, withSecond, single, pair}
+use Rattle.pair_line.specs.PairProgram.{smallDecimal, sortOrNone, stepsOrNone, yesOrNo, answer, Line, good}
+use Rattle.pair_line.specs.PairProgram.{wrong, read, lineOf, withFirst, withSecond, single, pair}
 use Rattle.sort_text.proofs.Suffix.{suffix-length, line-suffix}
 use Rattle.sort_text.proofs.Length.{wide, text-length, bound-wide, line-wide}
 
-decimal-by : (a b : Bool) (n : ℕ) → length (cond a ((48 + n) ∷ []) (cond b ((48 + n / 10) ∷ (48 + n % 10) ∷ []) ((48 + n / 100) ∷ (48 + n / 10 % 10) ∷ (48 + n % 10) ∷ []))) ≤ 3
+decimal-by : (a b : Bool) (n : ℕ) → length (cond a ((48 + n) ∷ []) (cond b ((48 + n / 10) ∷ (48 + n % 10) ∷ [])
+    ((48 + n / 100) ∷ (48 + n / 10 % 10) ∷ (48 + n % 10) ∷ []))) ≤ 3
 decimal-by true b n = omega arith
 decimal-by false true n = omega arith
 decimal-by false false n = omega arith
@@ -44,7 +46,14 @@ bound-length up s t n h k = go (bound up s t) refl
 pub answer-length : (s t : Tree) → wide s ≤ 398 → length (answer s t) ≤ 815
 unfolding answer
 answer-length s t h =
-    simp length-append (omega (arith, bound-length true s t 398 h (omega arith), bound-length false s t 398 h (omega arith), steps-length (distance true s t), yes-length (materializable s t)))
+    simp length-append (omega (
+      arith,
+      bound-length true s t 398 h (omega arith),
+      bound-length false s t 398 h
+          (omega arith),
+      steps-length (distance true s t),
+      yes-length (materializable s t),
+    ))
 
 -- what a line prints, or the width of its sort
 abbrev Small : Line → Type 0

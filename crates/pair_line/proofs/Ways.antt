@@ -46,7 +46,8 @@ unfolding smallDecimal
 decimal-three n g = rw (le-ltb n 10 (omega (arith, g)), le-ltb n 100 g)
 
 -- a line that is no sort
-module _ (bs : List ℕ) (p : ℕ) (out : List ℕ) (at : ℕ) (l : length bs ≤ 200) (room : at + 816 ≤ length out) (out₁ : List ℕ) (at₁ : ℕ) (h₁ : Put out at (50 ∷ 48 ∷ 58 ∷ []) out₁ at₁) where
+module _ (bs : List ℕ) (p : ℕ) (out : List ℕ) (at : ℕ) (l : length bs ≤ 200) (room : at + 816 ≤ length out)
+    (out₁ : List ℕ) (at₁ : ℕ) (h₁ : Put out at (50 ∷ 48 ∷ 58 ∷ []) out₁ at₁) where
   module _ (us : List ℕ) (e : us ≡ drop p bs) where
     pub unread-room : at₁ + length us ≤ length out₁
     unread-room = omega (arith, ap length e, length-drop p bs, l, room, h₁ .behind, put-length h₁)
@@ -60,10 +61,13 @@ module _ (bs : List ℕ) (p : ℕ) (out : List ℕ) (at : ℕ) (l : length bs �
 
 -- the second line, the first being read
 module _ (ws : List ℕ) (n e a : ℕ) (second out : List ℕ) (at : ℕ) (q : FirstRead ws n e a out at) where
-  second-as : (m : Line) (bs : List ℕ) → withSecond (treeAt ws n a) m ≡ bs → lineOf second ≡ m → (out₁ : List ℕ) (r : ℕ) → Put out at (withLf bs) out₁ r → Put out at (withLf (withSecond (treeAt ws n a) (lineOf second))) out₁ r
+  second-as : (m : Line) (bs : List ℕ) → withSecond (treeAt ws n a) m ≡ bs → lineOf second ≡ m
+      → (out₁ : List ℕ) (r : ℕ) → Put out at (withLf bs) out₁ r
+      → Put out at (withLf (withSecond (treeAt ws n a) (lineOf second))) out₁ r
   second-as m bs f i out₁ r h = put-as (ap withLf (sym (ap (withSecond (treeAt ws n a)) i ∙ f))) h
 
-  pub second-long : 200 < length second → (out₁ : List ℕ) (r : ℕ) → Put out at (withLf (49 ∷ 57 ∷ [])) out₁ r → Put out at (withLf (withSecond (treeAt ws n a) (lineOf second))) out₁ r
+  pub second-long : 200 < length second → (out₁ : List ℕ) (r : ℕ) → Put out at (withLf (49 ∷ 57 ∷ [])) out₁ r
+      → Put out at (withLf (withSecond (treeAt ws n a) (lineOf second))) out₁ r
   second-long l = second-as (wrong (49 ∷ 57 ∷ [])) _ refl (line-long second l)
 
   module _ (l : length second ≤ 200) (vs : List ℕ) (x : Read) (f : readLeft vs x ≡ readAs ws n e second (line second)) where
@@ -94,7 +98,8 @@ module _ (ws : List ℕ) (n e a : ℕ) (second out : List ℕ) (at : ℕ) (q : F
 
 -- the first line
 module _ (ws first second out : List ℕ) (at : ℕ) (b : Begun ws 6 0 0) (room : at + 816 ≤ length out) where
-  first-as : (m : Line) (bs : List ℕ) → withFirst m (lineOf second) ≡ bs → lineOf first ≡ m → (out₁ : List ℕ) (r : ℕ) → Put out at (withLf bs) out₁ r → Put out at (withLf (pair first second)) out₁ r
+  first-as : (m : Line) (bs : List ℕ) → withFirst m (lineOf second) ≡ bs → lineOf first ≡ m → (out₁ : List ℕ) (r : ℕ)
+      → Put out at (withLf bs) out₁ r → Put out at (withLf (pair first second)) out₁ r
   unfolding pair
   first-as m bs f i out₁ r h = put-as (ap withLf (sym (ap (λ x. withFirst x (lineOf second)) i ∙ f))) h
 
@@ -109,10 +114,13 @@ module _ (ws first second out : List ℕ) (at : ℕ) (b : Begun ws 6 0 0) (room 
       pub first-read : FirstRead vs (K .sorts) (K .entries) (u .0) out at
       first-read = record { begun = first-it .begun; below = first-it .below; of-line = first-it .of-line; room = room }
 
-      pub first-put : (out₁ : List ℕ) (r : ℕ) → Put out at (withLf (withSecond (treeAt vs (K .sorts) (u .0)) (lineOf second))) out₁ r → Put out at (withLf (pair first second)) out₁ r
+      pub first-put : (out₁ : List ℕ) (r : ℕ)
+          → Put out at (withLf (withSecond (treeAt vs (K .sorts) (u .0)) (lineOf second))) out₁ r
+          → Put out at (withLf (pair first second)) out₁ r
       first-put = first-as (good (treeAt vs (K .sorts) (u .0))) _ refl (first-it .is-good)
 
-    pub first-unread : (p : ℕ) → x ≡ NotASort p → (out₁ : List ℕ) (r : ℕ) → Put out at (withLf (50 ∷ 48 ∷ 58 ∷ drop p first)) out₁ r → Put out at (withLf (pair first second)) out₁ r
+    pub first-unread : (p : ℕ) → x ≡ NotASort p → (out₁ : List ℕ) (r : ℕ)
+        → Put out at (withLf (50 ∷ 48 ∷ 58 ∷ drop p first)) out₁ r → Put out at (withLf (pair first second)) out₁ r
     first-unread p i = first-as (wrong (50 ∷ 48 ∷ 58 ∷ drop p first)) _ refl (no-sort ws 6 0 0 first b (omega arith) l vs x f p i)
 
 -- a line alone
@@ -134,10 +142,12 @@ module _ (bs out : List ℕ) (at : ℕ) where
     wrong-by (parsed t cs) i p w = absurd w
     wrong-by (stuck cs) i p w = line-wrong bs cs l i ∙ ap (λ y. wrong (50 ∷ 48 ∷ 58 ∷ y)) (sym (w .1))
 
-    pub single-good : (p m : ℕ) → x ≡ Done p m → (out₁ : List ℕ) (r : ℕ) → Put out at (withLf (50 ∷ 49 ∷ [])) out₁ r → Put out at (withLf (single (lineOf bs))) out₁ r
+    pub single-good : (p m : ℕ) → x ≡ Done p m → (out₁ : List ℕ) (r : ℕ) → Put out at (withLf (50 ∷ 49 ∷ [])) out₁ r
+        → Put out at (withLf (single (lineOf bs))) out₁ r
     single-good p m i = let y = good-by (line bs) refl p m (subst (Says bs 0 (length bs) [] (line bs) steps) i f) in single-as (good (y .0)) (y .1)
 
-    pub single-unread : (p : ℕ) → x ≡ Stuck p → (out₁ : List ℕ) (r : ℕ) → Put out at (withLf (50 ∷ 48 ∷ 58 ∷ drop p bs)) out₁ r → Put out at (withLf (single (lineOf bs))) out₁ r
+    pub single-unread : (p : ℕ) → x ≡ Stuck p → (out₁ : List ℕ) (r : ℕ)
+        → Put out at (withLf (50 ∷ 48 ∷ 58 ∷ drop p bs)) out₁ r → Put out at (withLf (single (lineOf bs))) out₁ r
     single-unread p i = single-as (wrong (50 ∷ 48 ∷ 58 ∷ drop p bs)) (wrong-by (line bs) refl p (subst (Says bs 0 (length bs) [] (line bs) steps) i f))
 
 -- the entries
@@ -145,7 +155,8 @@ pub buffer-short : (bs out : List ℕ) → length out < lineRoom → writeLeft o
 unfolding outputLeft
 buffer-short bs out h = rw (lt-leb lineRoom (length out) h)
 
-pub line-left : (bs out : List ℕ) → lineRoom ≤ length out → length bs ≤ lineRoom → (left : List ℕ) (r : ℕ) → Put out 0 bs left r → writeLeft left (Text r) ≡ outputLeft bs out
+pub line-left : (bs out : List ℕ) → lineRoom ≤ length out → length bs ≤ lineRoom → (left : List ℕ) (r : ℕ)
+    → Put out 0 bs left r → writeLeft left (Text r) ≡ outputLeft bs out
 unfolding outputLeft
 line-left bs out h l left r p = rw (le-leb lineRoom (length out) h) (put-front (omega arith) p)
 
@@ -163,7 +174,14 @@ module _ (steps : Widening) (out : List ℕ) (at : ℕ) (room : at + length (ste
     is-steps = sym (ap (λ s. stepsText s ++ comma []) e ∙ append-assoc (smallDecimal head) (32 ∷ smallDecimal interior) (comma []))
 
     lengths : at + (length (smallDecimal head) + (1 + (length (smallDecimal interior) + 2))) ≤ length out
-    lengths = omega (arith, room, ap length is-steps, length-append (smallDecimal head) ((32 ∷ []) ++ (smallDecimal interior ++ comma [])), length-append (smallDecimal interior) (comma []))
+    lengths = omega (
+      arith,
+      room,
+      ap length is-steps,
+      length-append (smallDecimal head)
+          ((32 ∷ []) ++ (smallDecimal interior ++ comma [])),
+      length-append (smallDecimal interior) (comma []),
+    )
 
     pub head-room : at + length (smallDecimal head) ≤ length out
     head-room = omega (arith, lengths)

@@ -17,7 +17,8 @@ use Rattle.problem_words.specs.Inner.Packed.{problemFrom, Packable}
 stored : (l vs : List ℕ) (at n : ℕ) → at + n ≤ length l → n ≤ length vs → (j : ℕ) → j < n → getD (sets l at (part 0 n vs)) (at + j) 0 ≡ getD vs j 0
 stored l vs at n h k j i =
     let e = length-part 0 n vs (omega (arith, k)) in
-    getD-sets-at (part 0 n vs) l at j (omega (arith, e, h)) (omega (arith, e, i)) ∙ (part-at 0 n vs j i ∙ ap (λ m. getD vs m 0) (let z : 0 + j ≡ j = omega arith in z))
+    getD-sets-at (part 0 n vs) l at j (omega (arith, e, h)) (omega (arith, e, i)) ∙ (part-at 0 n vs j i ∙ ap
+    (λ m. getD vs m 0) (let z : 0 + j ≡ j = omega arith in z))
 
 module _ (old xs cs os ss : List ℕ) (z : Sizes) (p : Packable old xs cs os ss z)
     (l1 l2 l3 l4 : List ℕ)

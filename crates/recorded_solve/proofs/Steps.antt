@@ -15,7 +15,9 @@ use Rattle.recorded_solve.specs.declared.Letter.the-variants.{List as Ne
 use Rattle.recorded_solve.specs.declared.Span.{Span}
 use Rattle.recorded_solve.specs.declared.Expected.{Expected}
 use Rattle.recorded_solve.specs.declared.Expected.the-variants.{Is, Nothing}
-use Rattle.recorded_solve.specs.Inner.Lines.{letterOf, spanOf, wordsSaid, noWords, beginLine, storeOf, comparedFrom, compareOf, recordedOf, reply, askOf, askLine, Stepped, stepped, givenAfter, leftAfter, byLetter, stepOf}
+use Rattle.recorded_solve.specs.Inner.Lines.{letterOf, spanOf, wordsSaid, noWords, beginLine, storeOf}
+use Rattle.recorded_solve.specs.Inner.Lines.{comparedFrom, compareOf, recordedOf, reply, askOf, askLine}
+use Rattle.recorded_solve.specs.Inner.Lines.{Stepped, stepped, givenAfter, leftAfter, byLetter, stepOf}
 
 pub other-letter : (b : ℕ) → (b ≡ 76 → ⊥) → (b ≡ 83 → ⊥) → (b ≡ 81 → ⊥) → (b ≡ 88 → ⊥) → Other ≡ letterOf b
 unfolding letterOf

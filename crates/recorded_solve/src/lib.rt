@@ -33,10 +33,13 @@ ghost use mathlib.Core.Path.{_≡_};
 ghost use Prim.Native.Nat.{_≤_};
 ghost use lib.ListN.{length};
 ghost use Rattle.replay.specs.Inner.Lines.{maxWords, nearEnough};
-ghost use Rattle.recorded_solve.specs.Inner.Slices.{heldCountsAt, sliceStart, countHeld, countsHeld, callHeldWith, keptIn};
+ghost use Rattle.recorded_solve.specs.Inner.Slices.{heldCountsAt, sliceStart, countHeld, countsHeld};
+ghost use Rattle.recorded_solve.specs.Inner.Slices.{callHeldWith, keptIn};
 ghost use Rattle.solve_outputs.specs.Packed.{packedSolve};
 ghost use Rattle.recorded_solve.specs.Inner.Outcome.{solved};
-ghost use Rattle.recorded_solve.specs.Inner.Lines.{letterOf, noSpan, Standing, comparedFrom, recordedOf, wordsSaid, reply, askOf, beginLine, storeOf, compareOf, askLine, stepped, stepOf};
+ghost use Rattle.recorded_solve.specs.Inner.Lines.{letterOf, noSpan, Standing, comparedFrom, recordedOf};
+ghost use Rattle.recorded_solve.specs.Inner.Lines.{wordsSaid, reply, askOf, beginLine, storeOf, compareOf};
+ghost use Rattle.recorded_solve.specs.Inner.Lines.{askLine, stepped, stepOf};
 
 // Where the slices stand in the words held, after the sorts, each at its ceiling (base names, which have none, have as
 // many rows as there are expressions); and after the scratch the counts, the last of which is the default sort.

@@ -14,7 +14,9 @@ use Rattle.replay.specs.declared.Verdict.the-variants.{Quiet, Agrees, Differs}
 use Rattle.recorded_sorts.specs.declared.LineStep.{LineStep}
 use Rattle.replay.specs.Inner.Numbers.{fieldsOf}
 use Rattle.replay.specs.Inner.Lines.{kept, storeFrom}
-use Rattle.recorded_sorts.specs.Inner.Lines.{letterOf, complete, lineStep, notOfForm, Stepped, stepped, keepOf, beginLine, rowLine, runLine, packedAnswer, askLine, byLetter, stepOf}
+use Rattle.recorded_sorts.specs.Inner.Lines.{letterOf, complete, lineStep, notOfForm, Stepped, stepped, keepOf}
+use Rattle.recorded_sorts.specs.Inner.Lines.{beginLine, rowLine, runLine, packedAnswer, askLine, byLetter}
+use Rattle.recorded_sorts.specs.Inner.Lines.{stepOf}
 
 pub other-letter :
     (b : ℕ) → (b ≡ 76 → ⊥) → (b ≡ 114 → ⊥) → (b ≡ 97 → ⊥) → (b ≡ 99 → ⊥) → (b ≡ 100 → ⊥) → (b ≡ 109 → ⊥) → (b ≡ 106 → ⊥) → (b ≡ 107 → ⊥)

@@ -20,7 +20,9 @@ use words::MOST_WORD;
 ghost use mathlib.Core.Path.{_≡_};
 ghost use Prim.Native.Nat.{_+_, _*_, _≤_};
 ghost use Rattle.replay.specs.Inner.Lines.{nearEnough};
-ghost use Rattle.recorded_sorts.specs.Inner.Lines.{letterOf, complete as isComplete, stepped, keepOf, beginLine, rowLine, runLine, packedAnswer, askLine, stepOf, notOfForm, started};
+ghost use Rattle.recorded_sorts.specs.Inner.Lines.{letterOf, complete as isComplete, stepped, keepOf};
+ghost use Rattle.recorded_sorts.specs.Inner.Lines.{beginLine, rowLine, runLine, packedAnswer, askLine, stepOf};
+ghost use Rattle.recorded_sorts.specs.Inner.Lines.{notOfForm, started};
 
 // The ceilings of a list, as numbers of a line.
 const SORTS: u64 = 1024;

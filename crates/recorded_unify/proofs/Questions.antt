@@ -15,7 +15,10 @@ use Rattle.recorded_unify.specs.declared.Letter.{Letter}
 use Rattle.recorded_unify.specs.declared.Letter.the-variants.{List as NewList, Row, Words, Binds, Asks, Other}
 use Rattle.recorded_unify.specs.declared.Progress.{Progress}
 use Rattle.recorded_unify.specs.declared.LineStep.{LineStep}
-use Rattle.recorded_unify.specs.Inner.Lines.{letterOf, complete, lineStep, notOfForm, Stepped, stepped, beginLine, rowLine, runLine, bindingsIn, renewed, bindsLine, unified, judgedOf, judgedReply, askLine, renewedStep, byLetter, stepOf}
+use Rattle.recorded_unify.specs.Inner.Lines.{letterOf, complete, lineStep, notOfForm, Stepped, stepped}
+use Rattle.recorded_unify.specs.Inner.Lines.{beginLine, rowLine, runLine, bindingsIn, renewed, bindsLine}
+use Rattle.recorded_unify.specs.Inner.Lines.{unified, judgedOf, judgedReply, askLine, renewedStep, byLetter}
+use Rattle.recorded_unify.specs.Inner.Lines.{stepOf}
 
 module _ (ws : List ℕ) (f : Fields) (p : Progress) where
   pub binds-count : (r : LineStep) → r ≡ notOfForm p → (f .count ≡ 2 → ⊥) → stepped ws r ≡ bindsLine ws f p

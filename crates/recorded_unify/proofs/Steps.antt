@@ -13,7 +13,9 @@ use Rattle.recorded_unify.specs.declared.Letter.the-variants.{Other}
 use Rattle.recorded_unify.specs.declared.Progress.{Progress}
 use Rattle.recorded_unify.specs.declared.LineStep.{LineStep}
 use Rattle.replay.specs.Inner.Numbers.{fieldAt}
-use Rattle.recorded_unify.specs.Inner.Lines.{letterOf, partStart, partLength, lengths, withLength, noLengths, progressOf, complete, lineStep, notOfForm, Stepped, stepped, beginLine, keepOf, rowLine, runLine}
+use Rattle.recorded_unify.specs.Inner.Lines.{letterOf, partStart, partLength, lengths, withLength, noLengths}
+use Rattle.recorded_unify.specs.Inner.Lines.{progressOf, complete, lineStep, notOfForm, Stepped, stepped}
+use Rattle.recorded_unify.specs.Inner.Lines.{beginLine, keepOf, rowLine, runLine}
 
 pub other-letter :
     (b : ℕ) → (b ≡ 76 → ⊥) → (b ≡ 114 → ⊥) → (b ≡ 97 → ⊥) → (b ≡ 110 → ⊥) → (b ≡ 98 → ⊥) → (b ≡ 118 → ⊥) → (b ≡ 119 → ⊥) → (b ≡ 117 → ⊥)
@@ -101,7 +103,8 @@ module _ (ws : List ℕ) (base : ℕ) (f : Fields) (p : Progress) (q : Part) (k 
     unfolding keepOf
     keep-all n read l r e = rw (e, l, le-ltb _ _ few, sym stored, not-false b n)
 
-module _ (ws : List ℕ) (q : Part) (f : Fields) (p : Progress) (read total : ℕ) (isRead : read ≡ partLength (p .read) q) (isTotal : total ≡ partLength (p .total) q) where
+module _ (ws : List ℕ) (q : Part) (f : Fields) (p : Progress) (read total : ℕ) (isRead : read ≡ partLength (p .read)
+    q) (isTotal : total ≡ partLength (p .total) q) where
   pub row-count : (r : LineStep) → r ≡ notOfForm p → (f .count ≡ 4 → ⊥) → stepped ws r ≡ rowLine ws q f p
   unfolding rowLine
   row-count r bad h = rw (bad, ne-eqb _ _ h)

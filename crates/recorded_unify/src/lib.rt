@@ -23,7 +23,11 @@ ghost use Prim.Native.Nat.{_≤_};
 ghost use lib.ListN.{length};
 ghost use Rattle.unification.specs.UnifyEntry.{packedBinds};
 ghost use Rattle.replay.specs.Inner.Lines.{nearEnough};
-ghost use Rattle.recorded_unify.specs.Inner.Lines.{bindingsAt, letterOf, partStart, partLength, withLength, noLengths, started, complete as isComplete, lineStep, notOfForm, stepped, beginLine, keepOf, rowLine, runLine, renewed, bindingsIn, bindsLine, unified, judgedOf, askLine, stepOf};
+ghost use Rattle.recorded_unify.specs.Inner.Lines.{bindingsAt, letterOf, partStart, partLength, withLength};
+ghost use Rattle.recorded_unify.specs.Inner.Lines.{noLengths, started, complete as isComplete, lineStep};
+ghost use Rattle.recorded_unify.specs.Inner.Lines.{notOfForm, stepped, beginLine, keepOf, rowLine, runLine};
+ghost use Rattle.recorded_unify.specs.Inner.Lines.{renewed, bindingsIn, bindsLine, unified, judgedOf, askLine};
+ghost use Rattle.recorded_unify.specs.Inner.Lines.{stepOf};
 
 // The parts of a list stand one after another in its words: sorts and their entries as the entry takes them, nodes and
 // theirs, the bindings, and at last the bindings that the next question leaves.

@@ -38,7 +38,9 @@ use Rattle.unification.proofs.Follow.{follow-end}
 use Rattle.unification.proofs.Rank.{rank}
 use Rattle.unification.proofs.Theorem.{ready-ranked}
 use Rattle.unification.proofs.Enough.{follow-eq, end-no-higher}
-use Rattle.unification.proofs.RelatedEq.{function-parts, related-equation, no-list-at-variable, places-at-flat, made-at-sort-container, made-at-node-container, range-lower-than-place, made-at-function}
+use Rattle.unification.proofs.RelatedEq.{function-parts, related-equation, no-list-at-variable, places-at-flat}
+use Rattle.unification.proofs.RelatedEq.{made-at-sort-container, made-at-node-container, range-lower-than-place}
+use Rattle.unification.proofs.RelatedEq.{made-at-function}
 use Rattle.unification.proofs.Grows.{parts-placed}
 use Rattle.unification.proofs.Parts.{one-at}
 use Rattle.unification.proofs.PlaceTerms.{placed-formed, sort-part-below}
@@ -108,7 +110,8 @@ module _ (ws ns bs : List ℕ) (k : Lengths) (q : Ready ws ns bs k) (up : Bool) 
       unfolding sortShape
       typevar-has-none n e = relates-as ws ns b (no-places ws ns k b y) (sym (flat-answer (typevar n) (sort-is (TypeVar n) e)))
 
-    pub numbers-related : (s : Sort) → r ≡ Primitive s → (t : Three) → AreThese t (relatedPlaces up (primitive s)) → Relates ws ns (record { ids = t .ids; listed = These (t .count) k }) (answer p)
+    pub numbers-related : (s : Sort) → r ≡ Primitive s → (t : Three) → AreThese t (relatedPlaces up (primitive s))
+        → Relates ws ns (record { ids = t .ids; listed = These (t .count) k }) (answer p)
     unfolding sortShape
     numbers-related s e t a =
         record { says = ap (λ (xs : List ℕ). made xs W) (a .says) ∙ sym (flat-answer (primitive s) (sort-is (Primitive s) e)); few = a .few }
@@ -156,7 +159,8 @@ module _ (ws ns bs : List ℕ) (k : Lengths) (q : Ready ws ns bs k) (up : Bool) 
           relates-as ws ms b u (sym (made-at-node-container W bs q up p end f o (s .0) (ways.generic-shape ws ns bs k q 0 p end i f l r j o s y) l))
 
       pub node-function-at : (d : Run) (g : InferSortId) → r ≡ Function d g → FunctionAt ws ns k end
-      node-function-at d g y = function-at end end-placed (d .count) (nodeEntriesOf ns (d .start) (d .count) ++ (g .0 ∷ [])) (ways.function-shape ws ns bs k q 0 p end i f l r j d g y)
+      node-function-at d g y = function-at end end-placed (d .count) (nodeEntriesOf ns (d .start) (d .count) ++
+          (g .0 ∷ [])) (ways.function-shape ws ns bs k q 0 p end i f l r j d g y)
 
       pub variable-has-no-list : (v : SortVar) → r ≡ Var v → (zs : List ℕ) → Relates ws ns (record { ids = zs; listed = NoList k }) (answer p)
       variable-has-no-list v y zs =
@@ -178,14 +182,16 @@ module _ (ws ns bs : List ℕ) (k : Lengths) (q : Ready ws ns bs k) (up : Bool) 
 
     module _ (g : ℕ) (e : g ≡ getD ps n 0) where
       pub range-placed : Placed k g
-      range-placed = subst (Placed k) (sym e) (parts-placed W (q .nodes) p (getD ps n 0) (functionHead n) ps (I .placed) (I .stands) (one-at ps n (omega (arith, I .many))))
+      range-placed = subst (Placed k) (sym e) (parts-placed W (q .nodes) p (getD ps n 0) (functionHead n) ps
+          (I .placed) (I .stands) (one-at ps n (omega (arith, I .many))))
 
       pub range-lower : rank shape deep B g < rank shape deep B p
       range-lower =
           subst (λ (x : ℕ). rank shape deep B x < rank shape deep B p) (sym e)
           (range-lower-than-place W bs q up p p (own-end p (functionHead n) ps (I .stands)) n ps (I .stands))
 
-      pub functions-related : (vs ms₁ : List ℕ) (a : Related) → Relates vs ms₁ a (answer g) → (xs : List ℕ) → take n xs ≡ take n ps → (ms₂ : List ℕ) (b : Related)
+      pub functions-related : (vs ms₁ : List ℕ) (a : Related) → Relates vs ms₁ a (answer g) → (xs : List ℕ)
+          → take n xs ≡ take n ps → (ms₂ : List ℕ) (b : Related)
           → Relates vs ms₂ b (relatedMade vs ms₁ a and-then pushFunctions (take n xs)) → Relates vs ms₂ b (answer p)
       functions-related vs ms₁ a u xs x ms₂ b w =
           relates-as vs ms₂ b w

@@ -34,7 +34,8 @@ use Rattle.unification.specs.declared.Three.{Three}
 use Rattle.unification.specs.declared.Related.{Related}
 use Rattle.unification.specs.Nodes.{maxNodes, maxNodeEntries, nodeEntriesAt}
 use Rattle.unification.specs.Related.{relatedContainer}
-use Rattle.unification.specs.Making.{Lent, Makes, made, no-list, no-room, _and-then_, only, withSorts, pushNode, appendNode, internContainer, relatedOver, pushFunctions}
+use Rattle.unification.specs.Making.{Lent, Makes, made, no-list, no-room, _and-then_, only, withSorts, pushNode}
+use Rattle.unification.specs.Making.{appendNode, internContainer, relatedOver, pushFunctions}
 use Rattle.unification.specs.Inner.Making.{lent}
 use Rattle.unification.specs.Resolve.{withCounts}
 use Rattle.related_sorts.specs.Inner.Outcome.{row, pushed, relatedMadeBy, relatedMade, AreThese, RangesBy, Ranges, Relates}
@@ -65,16 +66,33 @@ module _ (ws ns : List ℕ) (k : Lengths) (kind part : ℕ) (ids : List ℕ) (co
 
     pub node-made : k .arguments + count ≤ maxNodeEntries → (start : ℕ) → start ≡ cond (eqb kind functionKind) (k .arguments) 0 → (ns₁ ns₂ : List ℕ)
         → ns₁ ≡ putRow ns (k .nodes) kind part start count → ns₂ ≡ sets ns₁ (4096 + (4096 + k .arguments)) (take count ids)
-        → pushed ws ns₂ k (At (1024 + k .nodes) (record { sorts = k .sorts; entries = k .entries; nodes = k .nodes + 1; arguments = k .arguments + count; variables = k .variables })) ≡ pushNode r W
+        → pushed ws ns₂ k (At (1024 + k .nodes) (record {
+          sorts = k .sorts;
+          entries = k .entries;
+          nodes = k .nodes +
+              1;
+          arguments = k .arguments + count;
+          variables = k .variables;
+        })) ≡ pushNode r W
     unfolding pushNode appendNode
     node-made h start es ns₁ ns₂ e₁ e₂ =
         rw (lt-ltb (k .nodes) maxNodes l, many, le-leb (k .arguments + count) maxNodeEntries h)
         (ap
-        (λ ms. made (1024 + k .nodes) (lent ws ms (record { sorts = k .sorts; entries = k .entries; nodes = k .nodes + 1; arguments = k .arguments + count; variables = k .variables })))
-        (e₂ ∙ ap₂ (λ (xs : List ℕ) (j : ℕ). sets xs j (take count ids)) (e₁ ∙ ap (λ (s : ℕ). putRow ns (k .nodes) kind part s count) es) (let z : 4096 + (4096 + k .arguments) ≡ nodeEntriesAt + k .arguments = omega arith in z)))
+        (λ ms. made (1024 + k .nodes) (lent ws ms (record {
+          sorts = k .sorts;
+          entries = k .entries;
+          nodes = k .nodes +
+              1;
+          arguments = k .arguments + count;
+          variables = k .variables;
+        })))
+        (e₂ ∙ ap₂ (λ (xs : List ℕ) (j : ℕ). sets xs j (take count ids)) (e₁ ∙ ap (λ (s : ℕ). putRow ns (k .nodes) kind
+        part s count) es) (let z : 4096 + (4096 + k .arguments) ≡ nodeEntriesAt + k .arguments = omega arith in
+        z)))
 
 -- the parts of a place, one after another
-pub one-more-part : (ps ids : List ℕ) (i : ℕ) → i < length ids → i < length ps → take i ids ≡ take i ps → (x : ℕ) → x ≡ getD ps i 0 → take (i + 1) (set ids i x) ≡ take (i + 1) ps
+pub one-more-part : (ps ids : List ℕ) (i : ℕ) → i < length ids → i < length ps → take i ids ≡ take i ps → (x : ℕ)
+    → x ≡ getD ps i 0 → take (i + 1) (set ids i x) ≡ take (i + 1) ps
 one-more-part ps ids i l m e x y =
     ap (λ (j : ℕ). take j (set ids i x)) (add-one i)
     ∙ (take-suc-set ids i x l ∙ (ap₂ (λ (xs : List ℕ) (z : ℕ). xs ++ (z ∷ [])) e y ∙ (sym (take-suc ps i 0 m) ∙ ap (λ (j : ℕ). take j ps) (sym (add-one i)))))
@@ -102,62 +120,75 @@ module _ (ws : List ℕ) (xs : List ℕ) (ranges : List ℕ) (n : ℕ) (three : 
   all-pushed ns k i ids e =
       record {
         says =
-            sym (ap (λ (ys : List ℕ). pushFunctions xs ys (lent ws ns k) and-then (λ ps W. made (take i ids ++ ps) W)) (drop-of-length-le (take n ranges) {i = i} (omega (arith, long, e)))
+            sym (ap (λ (ys : List ℕ). pushFunctions xs ys (lent ws ns k) and-then (λ ps W. made (take i ids ++ ps) W))
+            (drop-of-length-le (take n ranges) {i = i} (omega (arith, long, e)))
             ∙ (ap (λ ys. made ys (lent ws ns k)) (append-nil (take i ids)) ∙ ap (λ (j : ℕ). made (take j ids) (lent ws ns k)) e));
         few = few;
       }
 
-  module _ (ns : List ℕ) (k : Lengths) (i : ℕ) (ids : List ℕ) (l : i < n) (ns₁ : List ℕ) (p : Pushed) (e : pushed ws ns₁ k p ≡ pushNode (row functionKind (getD ranges i 0) xs) (lent ws ns k)) where
+  module _ (ns : List ℕ) (k : Lengths) (i : ℕ) (ids : List ℕ) (l : i < n) (ns₁ : List ℕ) (p : Pushed)
+      (e : pushed ws ns₁ k p ≡ pushNode (row functionKind (getD ranges i 0) xs) (lent ws ns k)) where
     one-and-rest : rest i ≡ getD ranges i 0 ∷ rest (i + 1)
     one-and-rest =
         drop-cons (take n ranges) i 0 (omega (arith, l, long))
         ∙ ap₂ (λ (x j : ℕ). x ∷ drop j (take n ranges)) (getD-take n ranges i 0 l) (sym (add-one i))
 
-    step : from ns k i ids ≡ (pushed ws ns₁ k p and-then (λ q W. pushFunctions xs (rest (i + 1)) W and-then (λ ps W. made (q ∷ ps) W)) and-then (λ ps W. made (take i ids ++ ps) W))
+    step : from ns k i ids ≡ (pushed ws ns₁ k p and-then (λ q W. pushFunctions xs (rest (i + 1)) W and-then
+        (λ ps W. made (q ∷ ps) W)) and-then (λ ps W. made (take i ids ++ ps) W))
     unfolding pushFunctions
     step =
         ap (λ (ys : List ℕ). pushFunctions xs ys (lent ws ns k) and-then (λ ps W. made (take i ids ++ ps) W)) one-and-rest
-        ∙ ap (λ O. O and-then (λ q W. pushFunctions xs (rest (i + 1)) W and-then (λ ps W. made (q ∷ ps) W)) and-then (λ ps W. made (take i ids ++ ps) W)) (sym e)
+        ∙ ap (λ O. O and-then (λ q W. pushFunctions xs (rest (i + 1)) W and-then (λ ps W. made (q ∷ ps) W)) and-then
+        (λ ps W. made (take i ids ++ ps) W)) (sym e)
 
     pub push-ends : p ≡ NoRoom → (zs : List ℕ) → Relates ws ns₁ (record { ids = zs; listed = Full 16 k }) (from ns k i ids)
     push-ends z zs =
         record {
           says =
-              sym (step ∙ ap (λ y. pushed ws ns₁ k y and-then (λ q W. pushFunctions xs (rest (i + 1)) W and-then (λ ps W. made (q ∷ ps) W)) and-then (λ ps W. made (take i ids ++ ps) W)) z);
+              sym (step ∙ ap (λ y. pushed ws ns₁ k y and-then (λ q W. pushFunctions xs (rest (i + 1)) W and-then
+              (λ ps W. made (q ∷ ps) W)) and-then (λ ps W. made (take i ids ++ ps) W)) z);
           few = tt;
         }
 
-    pub push-goes-on : (q : ℕ) (k′ : Lengths) → p ≡ At q k′ → i < length ids → (ids′ : List ℕ) → ids′ ≡ set ids i q → (ns₂ : List ℕ) (a : Related) → Relates ws ns₂ a (from ns₁ k′ (i + 1) ids′)
+    pub push-goes-on : (q : ℕ) (k′ : Lengths) → p ≡ At q k′ → i < length ids → (ids′ : List ℕ) → ids′ ≡ set ids i q
+        → (ns₂ : List ℕ) (a : Related) → Relates ws ns₂ a (from ns₁ k′ (i + 1) ids′)
         → Relates ws ns₂ a (from ns k i ids)
     push-goes-on q k′ z h ids′ ei ns₂ a u =
         relates-as ws ns₂ a u
         (ap (λ (ys : List ℕ). pushFunctions xs (rest (i + 1)) (lent ws ns₁ k′) and-then (λ ps W. made (ys ++ ps) W)) firsts
         ∙ (go (pushFunctions xs (rest (i + 1)) (lent ws ns₁ k′))
-        ∙ sym (step ∙ ap (λ y. pushed ws ns₁ k y and-then (λ q W. pushFunctions xs (rest (i + 1)) W and-then (λ ps W. made (q ∷ ps) W)) and-then (λ ps W. made (take i ids ++ ps) W)) z)))
+        ∙ sym (step ∙ ap (λ y. pushed ws ns₁ k y and-then (λ q W. pushFunctions xs (rest (i + 1)) W and-then
+        (λ ps W. made (q ∷ ps) W)) and-then (λ ps W. made (take i ids ++ ps) W)) z)))
       where
         firsts : take (i + 1) ids′ ≡ take i ids ++ (q ∷ [])
         firsts = ap₂ (λ (j : ℕ) (ys : List ℕ). take j ys) (add-one i) ei ∙ take-suc-set ids i q h
 
-        go : (O : Makes (List ℕ)) → (O and-then (λ ps W. made ((take i ids ++ (q ∷ [])) ++ ps) W)) ≡ (O and-then (λ ps W. made (q ∷ ps) W) and-then (λ ps W. made (take i ids ++ ps) W))
+        go : (O : Makes (List ℕ)) → (O and-then (λ ps W. made ((take i ids ++ (q ∷ [])) ++ ps) W)) ≡
+            (O and-then (λ ps W. made (q ∷ ps) W) and-then (λ ps W. made (take i ids ++ ps) W))
         go (made ps W) = ap (λ ys. made ys W) (append-assoc (take i ids) (q ∷ []) ps)
         go (no-list W) = refl
         go (no-room c W) = refl
 
 -- over the related ranges
 module _ (ws ns : List ℕ) (a : Related) (xs : List ℕ) where
-  pub no-ranges : (k : Lengths) → a .listed ≡ NoList k → (zs : List ℕ) → Relates ws ns (record { ids = zs; listed = NoList k }) (relatedMade ws ns a and-then pushFunctions xs)
+  pub no-ranges : (k : Lengths) → a .listed ≡ NoList k → (zs : List ℕ)
+      → Relates ws ns (record { ids = zs; listed = NoList k }) (relatedMade ws ns a and-then pushFunctions xs)
   no-ranges k e zs = record { says = sym (ap (λ y. relatedMadeBy ws ns (a .ids) y and-then pushFunctions xs) e); few = tt }
 
-  pub no-room-for-ranges : (c : ℕ) (k : Lengths) → a .listed ≡ Full c k → (zs : List ℕ) → Relates ws ns (record { ids = zs; listed = Full c k }) (relatedMade ws ns a and-then pushFunctions xs)
+  pub no-room-for-ranges : (c : ℕ) (k : Lengths) → a .listed ≡ Full c k → (zs : List ℕ)
+      → Relates ws ns (record { ids = zs; listed = Full c k }) (relatedMade ws ns a and-then pushFunctions xs)
   no-room-for-ranges c k e zs = record { says = sym (ap (λ y. relatedMadeBy ws ns (a .ids) y and-then pushFunctions xs) e); few = tt }
 
   module _ (n : ℕ) (k : Lengths) (e : a .listed ≡ These n k) where
     pub few-ranges : Ranges a → n ≤ 3
     few-ranges r = subst RangesBy e r
 
-    pub ranges-pushed : (ids ns₁ : List ℕ) (b : Related) → Relates ws ns₁ b (pushFunctions xs (drop 0 (take n (a .ids))) (lent ws ns k) and-then (λ ps W. made (take 0 ids ++ ps) W))
+    pub ranges-pushed : (ids ns₁ : List ℕ) (b : Related)
+        → Relates ws ns₁ b (pushFunctions xs (drop 0 (take n (a .ids))) (lent ws ns k) and-then
+        (λ ps W. made (take 0 ids ++ ps) W))
         → Relates ws ns₁ b (relatedMade ws ns a and-then pushFunctions xs)
-    ranges-pushed ids ns₁ b u = relates-as ws ns₁ b u (go (pushFunctions xs (take n (a .ids)) (lent ws ns k)) ∙ sym (ap (λ y. relatedMadeBy ws ns (a .ids) y and-then pushFunctions xs) e))
+    ranges-pushed ids ns₁ b u = relates-as ws ns₁ b u (go (pushFunctions xs (take n (a .ids)) (lent ws ns k)) ∙ sym
+        (ap (λ y. relatedMadeBy ws ns (a .ids) y and-then pushFunctions xs) e))
       where
         go : (O : Makes (List ℕ)) → (O and-then (λ ps W. made ps W)) ≡ O
         go (made ps W) = refl
@@ -166,7 +197,8 @@ module _ (ws ns : List ℕ) (a : Related) (xs : List ℕ) where
 
 -- interning that found no room has changed nothing, and it never answers that there is none
 module _ (ws : List ℕ) (n e : ℕ) (k : Checked ws n e) (t : Tree) (ws₁ : List ℕ) where
-  full-by : (a b : Bool) → storedAt ws₁ JoinedFull ≡ stored ws n e (cond a (made-sort t (sortsOf ws n e)) (cond b (made-sort t (more ws n e t)) (full (sortsOf ws n e)))) → ws₁ ≡ ws
+  full-by : (a b : Bool) → storedAt ws₁ JoinedFull ≡ stored ws n e (cond a (made-sort t (sortsOf ws n e))
+      (cond b (made-sort t (more ws n e t)) (full (sortsOf ws n e)))) → ws₁ ≡ ws
   unfolding stored
   full-by true b x = absurd (let y = ap (λ (r : Stored). r .answer) x in let z : _≡_ {A = ℕ} 0 1 = cc in omega arith)
   full-by false true x = absurd (let y = ap (λ (r : Stored). r .answer) x in let z : _≡_ {A = ℕ} 0 1 = cc in omega arith)
@@ -176,7 +208,8 @@ module _ (ws : List ℕ) (n e : ℕ) (k : Checked ws n e) (t : Tree) (ws₁ : Li
   unfolding internAt intern
   full-unchanged x = full-by (member (trees ws n) t) (fits t (sortsOf ws n e)) x
 
-  none-by : {A : Type 0} (K : Counts) (a b : Bool) → storedAt ws₁ (JoinedNothing K) ≡ stored ws n e (cond a (made-sort t (sortsOf ws n e)) (cond b (made-sort t (more ws n e t)) (full (sortsOf ws n e)))) → A
+  none-by : {A : Type 0} (K : Counts) (a b : Bool) → storedAt ws₁ (JoinedNothing K) ≡ stored ws n e
+      (cond a (made-sort t (sortsOf ws n e)) (cond b (made-sort t (more ws n e t)) (full (sortsOf ws n e)))) → A
   unfolding stored
   none-by K true b x = absurd (let y = ap (λ (r : Stored). r .answer) x in let z : _≡_ {A = ℕ} 0 1 = cc in omega arith)
   none-by K false true x = absurd (let y = ap (λ (r : Stored). r .answer) x in let z : _≡_ {A = ℕ} 0 1 = cc in omega arith)
@@ -187,10 +220,12 @@ module _ (ws : List ℕ) (n e : ℕ) (k : Checked ws n e) (t : Tree) (ws₁ : Li
   never-none K x = none-by K (member (trees ws n) t) (fits t (sortsOf ws n e)) x
 
 -- no place, and one
-pub no-places : (ws ns : List ℕ) (k : Lengths) (a : Related) → a ≡ record { ids = 0 ∷ 0 ∷ 0 ∷ []; listed = These 0 k } → Relates ws ns a (made [] (lent ws ns k))
+pub no-places : (ws ns : List ℕ) (k : Lengths) (a : Related) → a ≡ record { ids = 0 ∷ 0 ∷ 0 ∷ []; listed = These 0 k }
+    → Relates ws ns a (made [] (lent ws ns k))
 no-places ws ns k a y = record { says = ap (relatedMade ws ns) y; few = subst Ranges (sym y) (omega arith) }
 
-one-place : (ws ns : List ℕ) (p : ℕ) (k : Lengths) (a : Related) → a ≡ record { ids = p ∷ 0 ∷ 0 ∷ []; listed = These 1 k } → Relates ws ns a (made (p ∷ []) (lent ws ns k))
+one-place : (ws ns : List ℕ) (p : ℕ) (k : Lengths) (a : Related)
+    → a ≡ record { ids = p ∷ 0 ∷ 0 ∷ []; listed = These 1 k } → Relates ws ns a (made (p ∷ []) (lent ws ns k))
 one-place ws ns p k a y = record { says = ap (relatedMade ws ns) y; few = subst Ranges (sym y) (omega arith) }
 
 -- containers
@@ -205,7 +240,8 @@ module _ (up : Bool) (o : ComplexSort) (b : OpBound) (e : b ≡ opBound (related
 
   pub no-container : b ≡ NoOp → (sort : Bool) (s : ℕ) (ws ns : List ℕ) (k : Lengths) (a : Related) → a ≡ record { ids = 0 ∷ 0 ∷ 0 ∷ []; listed = These 0 k }
       → Relates ws ns a (relatedOver (relatedContainer up o) sort s (lent ws ns k))
-  no-container z sort s ws ns k a y = relates-as ws ns a (no-places ws ns k a y) (sym (ap (λ x. relatedOver x sort s (lent ws ns k)) (op-none (relatedContainer up o) (sym e ∙ z))))
+  no-container z sort s ws ns k a y = relates-as ws ns a (no-places ws ns k a y)
+      (sym (ap (λ x. relatedOver x sort s (lent ws ns k)) (op-none (relatedContainer up o) (sym e ∙ z))))
 
   module _ (q : ComplexSort) (z : b ≡ Is q) (s : ℕ) (ws ns : List ℕ) (k : Lengths) where
     is-some : relatedContainer up o ≡ some q
@@ -221,23 +257,31 @@ module _ (up : Bool) (o : ComplexSort) (b : OpBound) (e : b ≡ opBound (related
       unfolding internContainer
       sort-of = ap (λ x. relatedOver x true s (lent ws ns k)) is-some ∙ ap (λ (r : Stored). withSorts (lent ws ns k) r (r .answer) and-then only) interned
 
-      pub container-interned : (id : SortId) (K : Counts) → j ≡ JoinedAt id K → (k′ : Lengths) → k′ ≡ withCounts k K → (a : Related) → a ≡ record { ids = id .0 ∷ 0 ∷ 0 ∷ []; listed = These 1 k′ }
+      pub container-interned : (id : SortId) (K : Counts) → j ≡ JoinedAt id K → (k′ : Lengths) → k′ ≡ withCounts k K
+          → (a : Related) → a ≡ record { ids = id .0 ∷ 0 ∷ 0 ∷ []; listed = These 1 k′ }
           → Relates ws₁ ns a (relatedOver (relatedContainer up o) true s (lent ws ns k))
       container-interned id K x k′ ek a y =
-          relates-as ws₁ ns a (one-place ws₁ ns (id .0) k′ a y) (ap (λ (l : Lengths). made (id .0 ∷ []) (lent ws₁ ns l)) ek ∙ sym (sort-of ∙ ap (λ w. withSorts (lent ws ns k) (storedAt ws₁ j) w and-then only) x))
+          relates-as ws₁ ns a (one-place ws₁ ns (id .0) k′ a y) (ap (λ (l : Lengths). made (id .0 ∷ [])
+          (lent ws₁ ns l)) ek ∙ sym (sort-of ∙ ap (λ w. withSorts (lent ws ns k) (storedAt ws₁ j) w and-then only)
+          x))
 
       module _ (ck : Checked ws (k .sorts) (k .entries)) where
-        pub no-room-for-sort : j ≡ JoinedFull → (zs : List ℕ) → Relates ws₁ ns (record { ids = zs; listed = Full 15 k }) (relatedOver (relatedContainer up o) true s (lent ws ns k))
+        pub no-room-for-sort : j ≡ JoinedFull → (zs : List ℕ)
+            → Relates ws₁ ns (record { ids = zs; listed = Full 15 k }) (relatedOver (relatedContainer up o) true s
+            (lent ws ns k))
         no-room-for-sort x zs =
             relates-as ws₁ ns (record { ids = zs; listed = Full 15 k }) (record { says = refl; few = tt })
-            (ap (λ (ys : List ℕ). no-room 15 (lent ys ns k)) (full-unchanged ws (k .sorts) (k .entries) ck (container q (look (trees ws (k .sorts)) s)) ws₁ (ap (storedAt ws₁) (sym x) ∙ sym interned))
+            (ap (λ (ys : List ℕ). no-room 15 (lent ys ns k)) (full-unchanged ws (k .sorts) (k .entries) ck
+            (container q (look (trees ws (k .sorts)) s)) ws₁ (ap (storedAt ws₁) (sym x) ∙ sym interned))
             ∙ sym (sort-of ∙ ap (λ w. withSorts (lent ws ns k) (storedAt ws₁ j) w and-then only) x))
 
         pub always-interned : (K : Counts) → j ≡ JoinedNothing K → (a : Related) → Relates ws₁ ns a (relatedOver (relatedContainer up o) true s (lent ws ns k))
-        always-interned K x a = never-none ws (k .sorts) (k .entries) ck (container q (look (trees ws (k .sorts)) s)) ws₁ K (ap (storedAt ws₁) (sym x) ∙ sym interned)
+        always-interned K x a = never-none ws (k .sorts) (k .entries) ck (container q (look (trees ws (k .sorts)) s))
+            ws₁ K (ap (storedAt ws₁) (sym x) ∙ sym interned)
 
     -- of a node
-    module _ (ns₁ : List ℕ) (p : Pushed) (kind : ℕ) (ek : kind ≡ kindOp q) (xs : List ℕ) (none-there : xs ≡ []) (ep : pushed ws ns₁ k p ≡ pushNode (row kind s xs) (lent ws ns k)) where
+    module _ (ns₁ : List ℕ) (p : Pushed) (kind : ℕ) (ek : kind ≡ kindOp q) (xs : List ℕ) (none-there : xs ≡ [])
+        (ep : pushed ws ns₁ k p ≡ pushNode (row kind s xs) (lent ws ns k)) where
       node-of : relatedOver (relatedContainer up o) false s (lent ws ns k) ≡ (pushed ws ns₁ k p and-then only)
       node-of =
           ap (λ x. relatedOver x false s (lent ws ns k)) is-some
@@ -247,5 +291,7 @@ module _ (up : Bool) (o : ComplexSort) (b : OpBound) (e : b ≡ opBound (related
           → Relates ws ns₁ a (relatedOver (relatedContainer up o) false s (lent ws ns k))
       container-pushed c k′ x a y = relates-as ws ns₁ a (one-place ws ns₁ c k′ a y) (sym (node-of ∙ ap (λ w. pushed ws ns₁ k w and-then only) x))
 
-      pub no-room-for-container : p ≡ NoRoom → (zs : List ℕ) → Relates ws ns₁ (record { ids = zs; listed = Full 16 k }) (relatedOver (relatedContainer up o) false s (lent ws ns k))
+      pub no-room-for-container : p ≡ NoRoom → (zs : List ℕ)
+          → Relates ws ns₁ (record { ids = zs; listed = Full 16 k }) (relatedOver (relatedContainer up o) false s
+          (lent ws ns k))
       no-room-for-container x zs = record { says = sym (node-of ∙ ap (λ w. pushed ws ns₁ k w and-then only) x); few = tt }

@@ -45,9 +45,11 @@ ghost use Rattle.unification.specs.Inner.Term.{partsOf};
 ghost use Rattle.unification.specs.Nodes.{bindsOf};
 ghost use Rattle.unification.specs.Checked.{graphOf, Ready, Placed};
 ghost use Rattle.unification.specs.Related.{relatedContainer};
-ghost use Rattle.unification.specs.Making.{made, _and-then_, pushNode, relatedOver, pushFunctions, relatedPlaces, strictRelated};
+ghost use Rattle.unification.specs.Making.{made, _and-then_, pushNode, relatedOver, pushFunctions, relatedPlaces};
+ghost use Rattle.unification.specs.Making.{strictRelated};
 ghost use Rattle.unification.specs.Inner.Making.{lent};
-ghost use Rattle.related_sorts.specs.Inner.Outcome.{pushed, relatedMade, row, AreThese, IsFunction, FunctionAt, Ranges, Relates};
+ghost use Rattle.related_sorts.specs.Inner.Outcome.{pushed, relatedMade, row, AreThese, IsFunction, FunctionAt};
+ghost use Rattle.related_sorts.specs.Inner.Outcome.{Ranges, Relates};
 
 // The numbers strictly above or below `sort`, in ascending distance.
 fn related_numbers(sort: Sort, up: bool) -> Three

@@ -16,7 +16,9 @@ use Rattle.resolved_sort.specs.declared.Sort.{Sort}
 use Rattle.resolved_sort.specs.declared.ComplexSort.{ComplexSort}
 use Rattle.resolved_sort.specs.Tree.{Flat, unit, primitive, def, typevar, Tree, flat, container, function, Trees, no-args, arg, arity}
 use Rattle.resolved_sort.specs.Interning.{number, member, distinct, need}
-use Rattle.resolved_sort.specs.Storage.{maxSorts, maxEntries, fullLength, entriesAt, functionKind, kindAt, partAt, startAt, countAt, entryAt, entriesOf, Row, wordsAt, trees, rowOf, numbers, kindFlat, kindOp, partFlat, putRow, appendRow}
+use Rattle.resolved_sort.specs.Storage.{maxSorts, maxEntries, fullLength, entriesAt, functionKind, kindAt}
+use Rattle.resolved_sort.specs.Storage.{partAt, startAt, countAt, entryAt, entriesOf, Row, wordsAt, trees}
+use Rattle.resolved_sort.specs.Storage.{rowOf, numbers, kindFlat, kindOp, partFlat, putRow, appendRow}
 use Rattle.resolved_sort.specs.Checks.{rowFine, rowsFine, noTwoEqual}
 use Rattle.resolved_sort.specs.Rows.{Checked}
 use Rattle.resolved_sort.proofs.Below.{below-each, each-below}
@@ -58,7 +60,8 @@ module _ (ws : List ℕ) (i k p s c : ℕ) where
   pub putRow-other : (j : ℕ) → j ≢ 4 * i → j ≢ 4 * i + 1 → j ≢ 4 * i + 2 → j ≢ 4 * i + 3 → getD (putRow ws i k p s c) j 0 ≡ getD ws j 0
   unfolding putRow
   putRow-other j a b d f =
-      getD-set-other w3 (4 * i + 3) j c 0 f ∙ (getD-set-other w2 (4 * i + 2) j s 0 d ∙ (getD-set-other w1 (4 * i + 1) j p 0 b ∙ getD-set-other ws (4 * i) j k 0 a))
+      getD-set-other w3 (4 * i + 3) j c 0 f ∙ (getD-set-other w2 (4 * i + 2) j s 0 d ∙ (getD-set-other w1 (4 * i + 1)
+      j p 0 b ∙ getD-set-other ws (4 * i) j k 0 a))
 
   module _ (room : 4 * i + 3 < length ws) where
     pub putRow-kind : kindAt (putRow ws i k p s c) i ≡ k
@@ -127,7 +130,8 @@ module _ (ws us : List ℕ) where
 
 pub length-appendRow : (ws : List ℕ) (n e : ℕ) (r : Row) → length (appendRow ws n e r) ≡ length ws
 unfolding appendRow
-length-appendRow ws n e r = length-sets (putRow ws n (r .kind) (r .part) (cond (eqb (r .kind) functionKind) e 0) (length (r .args))) (entriesAt + e) (r .args) ∙ length-putRow ws n (r .kind) (r .part) _ (length (r .args))
+length-appendRow ws n e r = length-sets (putRow ws n (r .kind) (r .part) (cond (eqb (r .kind) functionKind) e 0)
+    (length (r .args))) (entriesAt + e) (r .args) ∙ length-putRow ws n (r .kind) (r .part) _ (length (r .args))
 
 -- one more row, where there is room for it
 module _ (ws : List ℕ) (n e : ℕ) (r : Row) (long : fullLength ≤ length ws) (room : n < maxSorts) (space : e + length (r .args) ≤ maxEntries) where
@@ -223,7 +227,14 @@ rowOf-within T (container o s) h =
     container-within [] 0 (length T) (number T s) 0 0 (kindOp o) (op-kind o .0) (op-kind o .1) (lt-ltb _ _ (number-below T s h))
 rowOf-within T (function ts u) h =
     let p = and-eq-true-iff (members T ts) (member T u) .0 h in
-    record { known = omega arith; plain = λ l. absurd (omega arith); part = λ l m. number-below T u (p .1); no-run = λ n. absurd (n refl); args = numbers-below T ts (p .0) }
+    record {
+      known = omega arith;
+      plain = λ l. absurd (omega arith);
+      part = λ l m. number-below T u (p .1);
+      no-run =
+          λ n. absurd (n refl);
+      args = numbers-below T ts (p .0);
+    }
 
 pub length-numbers : (T : List Tree) (ts : Trees) → length (numbers T ts) ≡ arity ts
 unfolding numbers arity

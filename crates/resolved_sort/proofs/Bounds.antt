@@ -30,7 +30,8 @@ one-arity ends ends = refl
 one-arity (args p ps) (args q qs) = omega (arith, one-arity ps qs)
 
 -- What lies beyond two sorts of one kind is of that kind, and its parts lie beyond their parts.
-beyond-flats : {up : Bool} {a b : Flat} {w : Tree} → Le up (flat a) w → Le up (flat b) w → (c : Flat) × (w ≡ flat c) × (leFlat up a c ≡ true) × (leFlat up b c ≡ true)
+beyond-flats : {up : Bool} {a b : Flat} {w : Tree} → Le up (flat a) w → Le up (flat b) w
+    → (c : Flat) × (w ≡ flat c) × (leFlat up a c ≡ true) × (leFlat up b c ≡ true)
 beyond-flats (flats h) (flats k) = (_, refl, h, k)
 
 beyond-containers : (up : Bool) (o p : ComplexSort) (s t w : Tree) → Le up (container o s) w → Le up (container p t) w
@@ -45,7 +46,8 @@ beyond-args : (up : Bool) (s t : Tree) (ss ts ws : Trees) → Les up (arg s ss) 
     → (v : Tree) × (vs : Trees) × (ws ≡ arg v vs) × (Le up s v × Le up t v) × (Les up ss vs × Les up ts vs)
 beyond-args up s t ss ts ws (args x xs) (args y ys) = (_, _, refl, (x, y), (xs, ys))
 
-bound-of-flats : (up : Bool) (a b : Flat) (x : Option Flat) → LeastBound (λ a b. leFlat up a b ≡ true) a b x → LeastBound (Le up) (flat a) (flat b) (map₁ flat x)
+bound-of-flats : (up : Bool) (a b : Flat) (x : Option Flat) → LeastBound (λ a b. leFlat up a b ≡ true) a b x
+    → LeastBound (Le up) (flat a) (flat b) (map₁ flat x)
 bound-of-flats up a b none h = λ w p. let z = beyond-flats (p .0) (p .1) in h (z .0) (z .2, z .3)
 bound-of-flats up a b (some u) h =
     ((flats (h .0 .0), flats (h .0 .1)), λ w p. let z = beyond-flats (p .0) (p .1) in rw (z .1) (flats (h .1 (z .0) (z .2, z .3))))
@@ -59,19 +61,22 @@ mutual
   Le-bound up (flat a) (function ts u) = λ w h. omega (arith, one-kind (h .0) (h .1))
   Le-bound up (container o s) (flat b) = λ w h. omega (arith, one-kind (h .0) (h .1))
   Le-bound up (container o s) (container p t) =
-      least-of-two (λ o p. leOp up o p ≡ true) (Le up) (Le up) container (λ o p s t. containers) (beyond-containers up) o p s t (boundOp up o p) (bound up s t) (op-bound up o p) (Le-bound up s t)
+      least-of-two (λ o p. leOp up o p ≡ true) (Le up) (Le up) container (λ o p s t. containers) (beyond-containers
+      up) o p s t (boundOp up o p) (bound up s t) (op-bound up o p) (Le-bound up s t)
   Le-bound up (container o s) (function ts u) = λ w h. omega (arith, one-kind (h .0) (h .1))
   Le-bound up (function ss r) (flat b) = λ w h. omega (arith, one-kind (h .0) (h .1))
   Le-bound up (function ss r) (container p t) = λ w h. omega (arith, one-kind (h .0) (h .1))
   Le-bound up (function ss r) (function ts u) =
-      least-of-two (Les (not up)) (Le up) (Le up) function (λ ss ts r u. functions) (beyond-functions up) ss ts r u (bounds (not up) ss ts) (bound up r u) (Les-bound (not up) ss ts) (Le-bound up r u)
+      least-of-two (Les (not up)) (Le up) (Le up) function (λ ss ts r u. functions) (beyond-functions up) ss ts r u
+      (bounds (not up) ss ts) (bound up r u) (Les-bound (not up) ss ts) (Le-bound up r u)
 
   Les-bound : (up : Bool) (ss ts : Trees) → LeastBound (Les up) ss ts (bounds up ss ts)
   Les-bound up no-args no-args = ((ends, ends), λ w p. p .0)
   Les-bound up no-args (arg t ts) = λ w h. omega (arith, one-arity (h .0) (h .1))
   Les-bound up (arg s ss) no-args = λ w h. omega (arith, one-arity (h .0) (h .1))
   Les-bound up (arg s ss) (arg t ts) =
-      least-of-two (Le up) (Les up) (Les up) arg (λ s t ss ts. args) (beyond-args up) s t ss ts (bound up s t) (bounds up ss ts) (Le-bound up s t) (Les-bound up ss ts)
+      least-of-two (Le up) (Les up) (Les up) arg (λ s t ss ts. args) (beyond-args up) s t ss ts (bound up s t)
+      (bounds up ss ts) (Le-bound up s t) (Les-bound up ss ts)
 
 -- The order as a relation.
 abbrev pub IsLe : Bool → Tree → Tree → Type 0
@@ -109,7 +114,8 @@ module _ (up : Bool) where
 
   pub bound-associates : (s t u : Tree) → bind (bound up s t) (λ x. bound up x u) ≡ bind (bound up t u) (bound up s)
   bound-associates s t u =
-      least-unique (IsLe up) (le-antisym up) _ _ _ (least-of-three (IsLe up) (le-trans up) s t u (bound up s t) (λ x. bound up x u) (bound-least s t) (λ x. bound-least x u))
+      least-unique (IsLe up) (le-antisym up) _ _ _ (least-of-three (IsLe up) (le-trans up) s t u (bound up s t)
+      (λ x. bound up x u) (bound-least s t) (λ x. bound-least x u))
       (least-of-same (IsLe up) _ _ (λ c p. (p .2, p .0, p .1)) (λ c p. (p .1, p .2, p .0)) (bind (bound up t u) (bound up s))
       (least-of-three (IsLe up) (le-trans up) t u s (bound up t u) (bound up s) (bound-least t u) (λ x. rw (bound-commutes s x) (bound-least x s))))
 

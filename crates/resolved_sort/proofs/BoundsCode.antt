@@ -157,13 +157,15 @@ module _ (ws : List ℕ) (C : Counts) (k : Checked ws (C .sorts) (C .entries)) w
             → (x : Side → Joined) → x Rhs ≡ At b C → x Lhs ≡ At a C → x Neither ≡ Nothing C
             → storedAt ws (x s) ≡ stored ws n e (where-some (cond f (some (cond g (primitive r) (primitive l))) none) S (λ c. made (flat c) S))
         by-side true true q x er el en = ap (λ y. storedAt ws (x y)) q ∙ (ap (storedAt ws) er ∙ (answer-old b hb ∙ ap (λ t. stored ws n e (made t S)) (o .rhs)))
-        by-side true false q x er el en = ap (λ y. storedAt ws (x y)) q ∙ (ap (storedAt ws) el ∙ (answer-old a ha ∙ ap (λ t. stored ws n e (made t S)) (o .lhs)))
+        by-side true false q x er el en = ap (λ y. storedAt ws (x y)) q ∙ (ap (storedAt ws) el ∙ (answer-old a ha ∙ ap
+            (λ t. stored ws n e (made t S)) (o .lhs)))
         by-side false g q x er el en = ap (λ y. storedAt ws (x y)) q ∙ (ap (storedAt ws) en ∙ answer-none)
 
         pub bound-number : storedAt ws (sideAnswer a b C s) ≡ boundAt up ws n e (a .0) (b .0)
         unfolding boundAt boundFlat
         bound-number =
-            by-side (eqb (family (primitive l)) (family (primitive r))) (leLevel up (level (primitive l)) (level (primitive r))) es (sideAnswer a b C) refl refl refl
+            by-side (eqb (family (primitive l)) (family (primitive r))) (leLevel up (level (primitive l))
+            (level (primitive r))) es (sideAnswer a b C) refl refl refl
             ∙ ap (stored ws n e) (sym made-number)
 
       module _ (o : ComplexSort) (s : SortId) (p : ComplexSort) (t : SortId) (c : OfContainers ws n e (a .0) (b .0) o s p t) where
@@ -171,10 +173,12 @@ module _ (ws : List ℕ) (C : Counts) (k : Checked ws (C .sorts) (C .entries)) w
         unfolding containerAt boundAt
         bound-container =
             ap (stored ws n e)
-            (sym (ap₂ (λ x y. make up x y S) (c .lhs) (c .rhs) ∙ make-containers up o p (look T (s .0)) (look T (t .0)) S (λ q. differ (c .lhs ∙ (q ∙ sym (c .rhs))))))
+            (sym (ap₂ (λ x y. make up x y S) (c .lhs) (c .rhs) ∙ make-containers up o p (look T (s .0))
+            (look T (t .0)) S (λ q. differ (c .lhs ∙ (q ∙ sym (c .rhs))))))
 
   -- two containers, by operators and parts
-  module _ (up : Bool) (o : ComplexSort) (s : SortId) (p : ComplexSort) (t : SortId) (hs : s .0 < n) (ht : t .0 < n) (x : OpBound) (ex : x ≡ opBound (boundOp up o p)) where
+  module _ (up : Bool) (o : ComplexSort) (s : SortId) (p : ComplexSort) (t : SortId) (hs : s .0 < n) (ht : t .0 < n)
+      (x : OpBound) (ex : x ≡ opBound (boundOp up o p)) where
     no-op : (y : Option ComplexSort) → x ≡ opBound y → x ≡ NoOp → y ≡ none
     no-op none q z = refl
     no-op (some d) q z = let w : Is d ≡ NoOp = sym q ∙ z in let v : _≡_ {A = ℕ} 0 1 = cc in absurd (omega arith)
@@ -239,7 +243,8 @@ module _ (ws : List ℕ) (C : Counts) (k : Checked ws (C .sorts) (C .entries)) w
   number-at : (i : ℕ) → i < n → number T (look T i) ≡ i
   number-at i h = number-look T i (trees-differ ws n e (listed k)) (omega (arith, length-trees ws n))
 
-  pub generic-interns : (o : ComplexSort) (s : ℕ) → s < n → internRow ws n e (record { kind = kindOp o; part = s; args = [] }) ≡ internAt ws n e (container o (look T s))
+  pub generic-interns : (o : ComplexSort) (s : ℕ) → s < n
+      → internRow ws n e (record { kind = kindOp o; part = s; args = [] }) ≡ internAt ws n e (container o (look T s))
   unfolding internAt rowOf partsIn
   generic-interns o s h =
       ap (λ j. internRow ws n e (record { kind = kindOp o; part = j; args = [] })) (sym (number-at s h))
@@ -256,4 +261,5 @@ module _ (ws : List ℕ) (C : Counts) (k : Checked ws (C .sorts) (C .entries)) w
   function-interns xs s b h =
       ap₂ (λ j ys. internRow ws n e (record { kind = functionKind; part = j; args = ys })) (sym (number-at s h))
       (sym (numbers-lookAll T xs (trees-differ ws n e (listed k)) (subst (λ l. AllBelow l xs) (sym (length-trees ws n)) b)))
-      ∙ internRow-interns ws n e k (function (lookAll T xs) (look T s)) (and-eq-true-iff (members T (lookAll T xs)) (member T (look T s)) .1 (members-below xs b, member-at s h))
+      ∙ internRow-interns ws n e k (function (lookAll T xs) (look T s)) (and-eq-true-iff (members T (lookAll T xs))
+      (member T (look T s)) .1 (members-below xs b, member-at s h))

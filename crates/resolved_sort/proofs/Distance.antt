@@ -9,7 +9,8 @@ use Prim.Native.Nat.{ℕ, min, _≤_}
 use native.Mathlib.Omega.{arith}
 use Rattle.resolved_sort.specs.declared.Sort.{Sort}
 use Rattle.resolved_sort.specs.declared.ComplexSort.{ComplexSort}
-use Rattle.resolved_sort.specs.Tree.{Flat, unit, primitive, def, typevar, Tree, flat, container, function, Trees, no-args, arg, family, level, familyOp, levelOp}
+use Rattle.resolved_sort.specs.Tree.{Flat, unit, primitive, def, typevar, Tree, flat, container, function}
+use Rattle.resolved_sort.specs.Tree.{Trees, no-args, arg, family, level, familyOp, levelOp}
 use Rattle.resolved_sort.specs.Order.{leFlat, leOp, le, les, Steps, apart, onlyIf, mostSteps, map₁, map₂, distance, distances}
 use Rattle.resolved_sort.specs.Exact.{exact, exacts, stopped}
 use Rattle.resolved_sort.proofs.Heads.{head-refl, head-flips}
@@ -109,7 +110,8 @@ map-given : {A B : Type 0} (f : A → B) (b : Bool) (x : Option A) → onlyIf b 
 map-given f true x = refl
 map-given f false x = refl
 
-map-map₁ : {A B C D : Type 0} (F : B → D) (f : A → B) (h : C → D) (G : A → C) → ((a : A) → F (f a) ≡ h (G a)) → (x : Option A) → map₁ F (map₁ f x) ≡ map₁ h (map₁ G x)
+map-map₁ : {A B C D : Type 0} (F : B → D) (f : A → B) (h : C → D) (G : A → C) → ((a : A) → F (f a) ≡ h (G a))
+    → (x : Option A) → map₁ F (map₁ f x) ≡ map₁ h (map₁ G x)
 map-map₁ F f h G e none = refl
 map-map₁ F f h G e (some a) = ap some (e a)
 
@@ -149,21 +151,26 @@ mutual
   unfolding distance exact
 
   pub distance-stops-once : (up : Bool) (s t : Tree) → distance up s t ≡ map₁ stopped (exact up s t)
-  distance-stops-once up (flat a) (flat b) = ap (λ d. onlyIf (leFlat up a b) (some d)) (steps (apart-stops up _ _ (level-small a) (level-small b)) refl) ∙ map-given stopped (leFlat up a b) _
+  distance-stops-once up (flat a) (flat b) = ap (λ d. onlyIf (leFlat up a b) (some d))
+      (steps (apart-stops up _ _ (level-small a) (level-small b)) refl) ∙ map-given stopped (leFlat up a b) _
   distance-stops-once up (flat a) (container p t) = refl
   distance-stops-once up (flat a) (function ts u) = refl
   distance-stops-once up (container o s) (flat b) = refl
   distance-stops-once up (container o s) (container p t) =
-      rw (distance-stops-once up s t) (ap (onlyIf (leOp up o p)) (map-map₁ _ stopped stopped _ (λ d. steps (apart-stops up _ _ (levelOp-small o) (levelOp-small p)) (omega arith)) (exact up s t)) ∙ map-given stopped (leOp up o p) _)
+      rw (distance-stops-once up s t) (ap (onlyIf (leOp up o p)) (map-map₁ _ stopped stopped _
+      (λ d. steps (apart-stops up _ _ (levelOp-small o) (levelOp-small p)) (omega arith)) (exact up s t)) ∙
+      map-given stopped (leOp up o p) _)
   distance-stops-once up (container o s) (function ts u) = refl
   distance-stops-once up (function ss r) (flat b) = refl
   distance-stops-once up (function ss r) (container p t) = refl
   distance-stops-once up (function ss r) (function ts u) =
-      rw (distances-stop-once (not up) ss ts, distance-stops-once up r u) (map-map₂ _ (min mostSteps) stopped stopped _ (λ n d. steps refl (omega arith)) (exacts (not up) ss ts) (exact up r u))
+      rw (distances-stop-once (not up) ss ts, distance-stops-once up r u) (map-map₂ _ (min mostSteps) stopped stopped
+      _ (λ n d. steps refl (omega arith)) (exacts (not up) ss ts) (exact up r u))
 
   pub distances-stop-once : (up : Bool) (ss ts : Trees) → distances up ss ts ≡ map₁ (min mostSteps) (exacts up ss ts)
   distances-stop-once up no-args no-args = refl
   distances-stop-once up no-args (arg t ts) = refl
   distances-stop-once up (arg s ss) no-args = refl
   distances-stop-once up (arg s ss) (arg t ts) =
-      rw (distance-stops-once up s t, distances-stop-once up ss ts) (map-map₂ _ stopped (min mostSteps) (min mostSteps) _ (λ d n. omega arith) (exact up s t) (exacts up ss ts))
+      rw (distance-stops-once up s t, distances-stop-once up ss ts) (map-map₂ _ stopped (min mostSteps)
+      (min mostSteps) _ (λ d n. omega arith) (exact up s t) (exacts up ss ts))

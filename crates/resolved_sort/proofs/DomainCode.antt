@@ -20,7 +20,8 @@ use Rattle.resolved_sort.specs.declared.Domain.{Domain}
 use Rattle.resolved_sort.specs.declared.Pair.the-variants.{Functions}
 use Rattle.resolved_sort.specs.Tree.{Tree, function, Trees, no-args, arg, arity}
 use Rattle.resolved_sort.specs.Interning.{Sorts, look, number, member, Outcome, made, nothing, full, _then_, make, makes}
-use Rattle.resolved_sort.specs.Storage.{maxEntries, lastKind, functionKind, kindAt, partAt, startAt, countAt, entryAt, entriesOf, resolved, rowAt, trees, lookAll, numbers, sortsOf}
+use Rattle.resolved_sort.specs.Storage.{maxEntries, lastKind, functionKind, kindAt, partAt, startAt, countAt}
+use Rattle.resolved_sort.specs.Storage.{entryAt, entriesOf, resolved, rowAt, trees, lookAll, numbers, sortsOf}
 use Rattle.resolved_sort.specs.Entries.{countsOf, after, stored}
 use Rattle.resolved_sort.specs.Rows.{Checked, storedAt}
 use Rattle.resolved_sort.specs.Inner.Pairs.{pairAt}
@@ -60,7 +61,8 @@ function-kind p run k l =
     (λ d r q. let z : _≡_ {A = ℕ} 0 1 = cc in absurd (omega arith))
     k l
 
-function-says : (ws : List ℕ) (i : ℕ) → kindAt ws i ≡ functionKind → rowAt ws i ≡ Function (record { start = startAt ws i; count = countAt ws i }) (record { 0 = partAt ws i })
+function-says : (ws : List ℕ) (i : ℕ) → kindAt ws i ≡ functionKind
+    → rowAt ws i ≡ Function (record { start = startAt ws i; count = countAt ws i }) (record { 0 = partAt ws i })
 unfolding resolved
 function-says ws i h = rw h
 
@@ -73,8 +75,10 @@ module _ (ws : List ℕ) (n e a b : ℕ) where
   unfolding Says
   two-functions k c ls lr rs rr q =
       let s = subst (Says (rowAt ws a) (rowAt ws b)) q (pair-says (rowAt ws a) (rowAt ws b)) in
-      let ka = function-kind (partAt ws a) (record { start = startAt ws a; count = countAt ws a }) (kindAt ws a) (row-below ws n e (listed (k .checked)) a (k .lhs) .known) _ _ (s .0) in
-      let kb = function-kind (partAt ws b) (record { start = startAt ws b; count = countAt ws b }) (kindAt ws b) (row-below ws n e (listed (k .checked)) b (k .rhs) .known) _ _ (s .1) in
+      let ka = function-kind (partAt ws a) (record { start = startAt ws a; count = countAt ws a }) (kindAt ws a)
+      (row-below ws n e (listed (k .checked)) a (k .lhs) .known) _ _ (s .0) in
+      let kb = function-kind (partAt ws b) (record { start = startAt ws b; count = countAt ws b }) (kindAt ws b)
+      (row-below ws n e (listed (k .checked)) b (k .rhs) .known) _ _ (s .1) in
       let x = sym (function-says ws a ka) ∙ s .0 in
       let y = sym (function-says ws b kb) ∙ s .1 in
       record { asked = k; lhs-function = ka; rhs-function = kb; as-many = same-count _ _ _ _ x ∙ sym (same-count _ _ _ _ y) }
@@ -106,7 +110,8 @@ module _ (ws : List ℕ) (n e : ℕ) (k : Checked ws n e) (a : ℕ) (ha : a < n)
   unfolding sortOf
   function-sort =
       look-says ws n e k a ha ∙ (ap (sortOf ws (trees ws n)) (function-says ws a f)
-      ∙ ap₂ (λ s c. function (lookAll (trees ws n) (entriesOf ws s c)) (look (trees ws n) (partAt ws a))) (sym (add-zero (startAt ws a))) (sym (sub-zero (countAt ws a))))
+      ∙ ap₂ (λ s c. function (lookAll (trees ws n) (entriesOf ws s c)) (look (trees ws n) (partAt ws a)))
+      (sym (add-zero (startAt ws a))) (sym (sub-zero (countAt ws a))))
 
 -- one argument and the rest
 run-cons : (ws : List ℕ) (s c i : ℕ) → i < c → entriesOf ws (s + i) (c - i) ≡ entryAt ws (s + i) ∷ entriesOf ws (s + (i + 1)) (c - (i + 1))
@@ -116,7 +121,8 @@ run-cons ws s c i h =
     let y : s + i + 1 ≡ s + (i + 1) = omega arith in
     ap (entriesOf ws (s + i)) x ∙ ap (λ j. entryAt ws (s + i) ∷ entriesOf ws j (c - (i + 1))) y
 
-arguments-cons : (ws : List ℕ) (n a i : ℕ) → i < countAt ws a → argumentsFrom ws n a i ≡ arg (look (trees ws n) (entryAt ws (startAt ws a + i))) (argumentsFrom ws n a (i + 1))
+arguments-cons : (ws : List ℕ) (n a i : ℕ) → i < countAt ws a
+    → argumentsFrom ws n a i ≡ arg (look (trees ws n) (entryAt ws (startAt ws a + i))) (argumentsFrom ws n a (i + 1))
 unfolding lookAll
 arguments-cons ws n a i h = ap (lookAll (trees ws n)) (run-cons ws (startAt ws a) (countAt ws a) i h)
 
@@ -131,9 +137,11 @@ part-of-all l ws s c i h b = below-run ws l (s + i) (c - i) (λ j q. subst (λ x
 pub number-extends : (S S′ : Sorts) (t : Tree) → SortsExtend S S′ → member (S .trees) t ≡ true → number (S′ .trees) t ≡ number (S .trees) t
 number-extends S S′ t x m = ap (λ T. number T t) (x .1) ∙ number-grows (S .trees) (x .0) t m
 
-pub domain-glue : (ws : List ℕ) (n e : ℕ) (S : Sorts) → Grown ws n e S → (v : Tree) → member (S .trees) v ≡ true → (c : ℕ) → c ≡ number (S .trees) v → (i : ℕ) (ids : List ℕ) (k : ℕ) (O : Outcome Trees)
+pub domain-glue : (ws : List ℕ) (n e : ℕ) (S : Sorts) → Grown ws n e S → (v : Tree) → member (S .trees) v ≡ true
+    → (c : ℕ) → c ≡ number (S .trees) v → (i : ℕ) (ids : List ℕ) (k : ℕ) (O : Outcome Trees)
     → SortsKept (after ws n e S) (length (S .trees)) (maxEntries - S .entries) (InTrees k) S O
-    → domainOf (after ws n e S) (length (S .trees)) (maxEntries - S .entries) (i + 1) (set ids i c) O ≡ domainOf ws n e i ids (O then (λ vs S. made (arg v vs) S))
+    → domainOf (after ws n e S) (length (S .trees)) (maxEntries - S .entries) (i + 1) (set ids i c) O ≡ domainOf ws n
+    e i ids (O then (λ vs S. made (arg v vs) S))
 unfolding SortsKept domainOf numbers
 domain-glue ws n e S g v m c q i ids k (made vs S′) h =
     let w = after-both ws n e S S′ g (h .0) in
@@ -153,15 +161,18 @@ module _ (ws : List ℕ) (n e : ℕ) (k : Checked ws n e) (S : Sorts) (g : Grown
       ap₂ (λ s c. lookAll (trees (after ws n e S) (length (S .trees))) (entriesOf (after ws n e S) (s + i) (c - i)))
       (unchanged ws n e k S g .starts a ha) (unchanged ws n e k S g .counts a ha)
       ∙ run-unchanged ws n e k S g (startAt ws a + i) (countAt ws a - i) (omega (arith, run-inside-entries ws n e k a ha f))
-      (part-of-all n ws (startAt ws a) (countAt ws a) i h (weaken-all a n (entriesOf ws (startAt ws a) (countAt ws a)) (omega arith) (arguments-below ws n e k a ha f)))
+      (part-of-all n ws (startAt ws a) (countAt ws a) i h (weaken-all a n (entriesOf ws (startAt ws a) (countAt ws a))
+      (omega arith) (arguments-below ws n e k a ha f)))
 
   pub arguments-whole : (i : ℕ) → i ≤ countAt ws a → Wholes (trees ws n) (argumentsFrom ws n a i)
   arguments-whole i h =
       wholes-below ws n e k n (look-whole ws n e k) (entriesOf ws (startAt ws a + i) (countAt ws a - i))
-      (part-of-all n ws (startAt ws a) (countAt ws a) i h (weaken-all a n (entriesOf ws (startAt ws a) (countAt ws a)) (omega arith) (arguments-below ws n e k a ha f)))
+      (part-of-all n ws (startAt ws a) (countAt ws a) i h (weaken-all a n (entriesOf ws (startAt ws a) (countAt ws a))
+      (omega arith) (arguments-below ws n e k a ha f)))
 
 -- the arguments of two functions, from the i-th on, in the list that a call reached
-domain-after : (up : Bool) (ws : List ℕ) (n e a b : ℕ) (f : TwoFunctions ws n e a b) (S : Sorts) → Grown ws n e S → (i : ℕ) → i ≤ countAt ws a → (ids vs : List ℕ) (K : Counts)
+domain-after : (up : Bool) (ws : List ℕ) (n e a b : ℕ) (f : TwoFunctions ws n e a b) (S : Sorts) → Grown ws n e S
+    → (i : ℕ) → i ≤ countAt ws a → (ids vs : List ℕ) (K : Counts)
     → vs ≡ after ws n e S → K ≡ countsOf S
     → boundDomain up vs (K .sorts) (K .entries) a b i ids
     ≡ domainOf (after ws n e S) (length (S .trees)) (maxEntries - S .entries) i ids (makes up (argumentsFrom ws n a i) (argumentsFrom ws n b i) S)
@@ -260,7 +271,12 @@ module _ (up : Bool) (ws : List ℕ) (C : Counts) (a b : ℕ) (f : TwoFunctions 
         pub domain-next : TwoFunctions vs (K .sorts) (K .entries) a b
         domain-next =
             record {
-              asked = record { checked = reached-checked ws n e S first vs c K there; lhs = omega (arith, f .asked .lhs, more-sorts); rhs = omega (arith, f .asked .rhs, more-sorts) };
+              asked = record {
+                checked = reached-checked ws n e S first vs c K there;
+                lhs = omega
+                    (arith, f .asked .lhs, more-sorts);
+                rhs = omega (arith, f .asked .rhs, more-sorts);
+              };
               lhs-function = same-rows .kinds a (f .asked .lhs) ∙ f .lhs-function;
               rhs-function = same-rows .kinds b (f .asked .rhs) ∙ f .rhs-function;
               as-many = same-rows .counts a (f .asked .lhs) ∙ (f .as-many ∙ sym (same-rows .counts b (f .asked .rhs)));
@@ -277,7 +293,8 @@ module _ (up : Bool) (ws : List ℕ) (C : Counts) (a b : ℕ) (f : TwoFunctions 
             makes-kept (after ws n e S₁) (length (S₁ .trees)) (maxEntries - S₁ .entries) up (argumentsFrom ws n a (i + 1)) (argumentsFrom ws n b (i + 1)) S₁
             (here ws n e S first vs c K there)
             (wholes-extend S S₁ _ (there .extends) (arguments-whole ws n e k S (grown-none ws n e k) a (f .asked .lhs) (f .lhs-function) (i + 1) (omega arith)))
-            (wholes-extend S S₁ _ (there .extends) (arguments-whole ws n e k S (grown-none ws n e k) b (f .asked .rhs) (f .rhs-function) (i + 1) (omega (arith, f .as-many))))
+            (wholes-extend S S₁ _ (there .extends) (arguments-whole ws n e k S (grown-none ws n e k) b (f .asked .rhs)
+            (f .rhs-function) (i + 1) (omega (arith, f .as-many))))
 
         pub domain-made : (us : List ℕ) (d : Domain) → storedDomain us d ≡ boundDomain up vs (K .sorts) (K .entries) a b (i + 1) (set ids i (c .0))
             → storedDomain us d ≡ boundDomain up ws n e a b i ids

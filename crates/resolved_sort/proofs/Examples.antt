@@ -89,7 +89,8 @@ pairs-are-answered : map answers (
     ∷ answer Equal (some (flat (def 7))) (some (flat (def 7))) (far 0 0) true
     ∷ answer Unrelated none none none false
     ∷ []
-unfolding order Order.le Order.les bound Order.bounds Order.boundFlat Order.boundOp distance Order.distances materializable Tree.same Tree.sames Tree.family Tree.level Tree.familyOp Tree.levelOp
+unfolding order Order.le Order.les bound Order.bounds Order.boundFlat Order.boundOp distance Order.distances
+    materializable Tree.same Tree.sames Tree.family Tree.level Tree.familyOp Tree.levelOp
 pairs-are-answered = refl
 
 -- What join makes, in order, also where the answer is none: FSet(Pos) on the way to FSet(Nat) # Bool -> Bool and

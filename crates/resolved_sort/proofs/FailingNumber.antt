@@ -48,5 +48,8 @@ module _ (xs : List Check) (k : Check) (ys : List Check) where
         go false x = refl
 
     pub fails-first : (firstFailing (xs ++ (k ∷ ys)) ≡ some (k .code)) ↔ ((firstFailing xs ≡ none) × (k .passes ≡ false))
-    fails-first =
-        (λ e. let p = first-passed e in (p, this-fails (sym (append-passes xs (k ∷ ys) p) ∙ e)), λ h. append-passes xs (k ∷ ys) (h .0) ∙ first-fails k ys (h .1))
+    fails-first = (
+      λ e. let p = first-passed e in (p, this-fails (sym (append-passes xs (k ∷ ys) p) ∙ e)),
+      λ h. append-passes xs
+          (k ∷ ys) (h .0) ∙ first-fails k ys (h .1),
+    )

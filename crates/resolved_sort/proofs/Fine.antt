@@ -42,7 +42,8 @@ module _ (ws : List ℕ) (e i p s c : ℕ) where
       let x = and-eq-true-iff (leb c 16) (leb (s + c) e) .0 (v .0) in
       (leb-true c 16 (x .0), leb-true (s + c) e (x .1))
 
-  function-passes : Within i (record { kind = 11; part = p; args = entriesOf ws s c }) → (c ≤ 16) × (s + c ≤ e) → (leb c 16 && leb (s + c) e && ltb p i && allBelow c (λ j. ltb (entryAt ws (s + j)) i)) ≡ true
+  function-passes : Within i (record { kind = 11; part = p; args = entriesOf ws s c }) → (c ≤ 16) × (s + c ≤ e)
+      → (leb c 16 && leb (s + c) e && ltb p i && allBelow c (λ j. ltb (entryAt ws (s + j)) i)) ≡ true
   function-passes w f =
       rw (le-leb c 16 (f .0), le-leb (s + c) e (f .1), lt-ltb p i (w .part (omega arith) (omega arith)))
       (each-below c (λ j. ltb (entryAt ws (s + j)) i) (λ j l. lt-ltb _ _ (run-below ws i s c (w .args) j l)))

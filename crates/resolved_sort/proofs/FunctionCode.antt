@@ -32,7 +32,9 @@ use Rattle.resolved_sort.proofs.Grown.{grown-none, sorts-again}
 use Rattle.resolved_sort.proofs.Unchanged.{longer, look-unchanged}
 use Rattle.resolved_sort.proofs.Kept.{members-extends, InTrees, make-kept, makes-kept, intern-kept, whole-extends}
 use Rattle.resolved_sort.proofs.Stored.{look-whole}
-use Rattle.resolved_sort.proofs.Reached.{no-confusion, Reached, reached, stopped, ended, reached-checked, reached-trees, reached-below, reached-sort, reached-sorts, stored-again, intern-after}
+use Rattle.resolved_sort.proofs.Reached.{no-confusion, Reached, reached, stopped, ended, reached-checked}
+use Rattle.resolved_sort.proofs.Reached.{reached-trees, reached-below, reached-sort, reached-sorts}
+use Rattle.resolved_sort.proofs.Reached.{stored-again, intern-after}
 use Rattle.resolved_sort.proofs.BoundsCode.{make-functions}
 use Rattle.resolved_sort.proofs.DomainCode.{number-extends, range-below, few-arguments, function-sort, arguments-whole}
 
@@ -54,18 +56,31 @@ pub reached-all : (ws : List ℕ) (n e : ℕ) (S₀ : Sorts) (k : ℕ) (O : Outc
 unfolding SortsKept domainOf
 reached-all ws n e S₀ k (made ts S) h vs d K q z =
     let a : All K ≡ All (countsOf S) = sym z ∙ ap (λ r. r .domain .found) q in
-    record { args = ts; sorts = S; is = refl; words = ap (λ r. r .words) q; stored-ids = ap (λ r. r .domain .ids) q; counted = cc; grown = h .0; extends = h .1; inside = h .2 .0; as-many = h .2 .1 }
+    record {
+      args = ts;
+      sorts = S;
+      is = refl;
+      words = ap (λ r. r .words) q;
+      stored-ids = ap (λ r. r .domain .ids) q;
+      counted = cc;
+      grown = h .0;
+      extends = h .1;
+      inside = h .2 .0;
+      as-many = h .2 .1;
+    }
 reached-all ws n e S₀ k (nothing S) h vs d K q z = let a : All K ≡ NotAll (countsOf S) = sym z ∙ ap (λ r. r .domain .found) q in no-confusion (cc)
 reached-all ws n e S₀ k (full S) h vs d K q z = let a : All K ≡ NoRoom = sym z ∙ ap (λ r. r .domain .found) q in no-confusion (cc)
 
-pub stopped-all : (ws : List ℕ) (n e : ℕ) (O : Outcome Trees) (vs : List ℕ) (d : Domain) (K : Counts) → storedDomain vs d ≡ domainOf ws n e 0 (replicate 16 0) O → d .found ≡ NotAll K
+pub stopped-all : (ws : List ℕ) (n e : ℕ) (O : Outcome Trees) (vs : List ℕ) (d : Domain) (K : Counts)
+    → storedDomain vs d ≡ domainOf ws n e 0 (replicate 16 0) O → d .found ≡ NotAll K
     → (S : Sorts) × (O ≡ nothing S) × (vs ≡ after ws n e S) × (K ≡ countsOf S)
 unfolding domainOf
 stopped-all ws n e (made ts S) vs d K q z = let a : NotAll K ≡ All (countsOf S) = sym z ∙ ap (λ r. r .domain .found) q in no-confusion (cc)
 stopped-all ws n e (nothing S) vs d K q z = let a : NotAll K ≡ NotAll (countsOf S) = sym z ∙ ap (λ r. r .domain .found) q in (S, refl, ap (λ r. r .words) q, cc)
 stopped-all ws n e (full S) vs d K q z = let a : NotAll K ≡ NoRoom = sym z ∙ ap (λ r. r .domain .found) q in no-confusion (cc)
 
-pub ended-all : (ws : List ℕ) (n e : ℕ) (O : Outcome Trees) (vs : List ℕ) (d : Domain) → storedDomain vs d ≡ domainOf ws n e 0 (replicate 16 0) O → d .found ≡ NoRoom
+pub ended-all : (ws : List ℕ) (n e : ℕ) (O : Outcome Trees) (vs : List ℕ) (d : Domain)
+    → storedDomain vs d ≡ domainOf ws n e 0 (replicate 16 0) O → d .found ≡ NoRoom
     → (S : Sorts) × (O ≡ full S) × (vs ≡ after ws n e S)
 unfolding domainOf
 ended-all ws n e (made ts S) vs d q z = let a : NoRoom ≡ All (countsOf S) = sym z ∙ ap (λ r. r .domain .found) q in no-confusion (cc)
@@ -78,7 +93,8 @@ first-ids xs h =
     ap (take (length xs)) (sets-eq xs (replicate 16 0) 0 (omega (arith, length-replicate {A = ℕ} 16 0)))
     ∙ take-append-seam xs _
 
-pub stored-nothing : (ws : List ℕ) (n e : ℕ) (S : Sorts) (vs : List ℕ) (K : Counts) → vs ≡ after ws n e S → K ≡ countsOf S → storedAt vs (Nothing K) ≡ stored ws n e (nothing S)
+pub stored-nothing : (ws : List ℕ) (n e : ℕ) (S : Sorts) (vs : List ℕ) (K : Counts) → vs ≡ after ws n e S
+    → K ≡ countsOf S → storedAt vs (Nothing K) ≡ stored ws n e (nothing S)
 unfolding stored
 stored-nothing ws n e S vs K w c = λ j. record { words = w j; answer = Nothing (c j) }
 
@@ -96,7 +112,8 @@ numbers-extend S S′ (arg t ts) x m =
 -- the join or meet of two old sorts in the list that a call reached
 range-after : (ws : List ℕ) (n e : ℕ) (k : Checked ws n e) (S : Sorts) (g : Grown ws n e S) (up : Bool) (x y : ℕ) → x < n → y < n → (vs : List ℕ) (K : Counts)
     → vs ≡ after ws n e S → K ≡ countsOf S
-    → boundAt up vs (K .sorts) (K .entries) x y ≡ stored (after ws n e S) (length (S .trees)) (maxEntries - S .entries) (make up (look (trees ws n) x) (look (trees ws n) y) S)
+    → boundAt up vs (K .sorts) (K .entries) x y ≡ stored (after ws n e S) (length (S .trees))
+    (maxEntries - S .entries) (make up (look (trees ws n) x) (look (trees ws n) y) S)
 unfolding boundAt
 range-after ws n e k S g up x y hx hy vs K w c =
     rw (w, c) (rw (look-unchanged ws n e k S g x hx, look-unchanged ws n e k S g y hy, sorts-again ws n e S g))
@@ -184,7 +201,12 @@ module _ (up : Bool) (ws : List ℕ) (C : Counts) (a b : ℕ) (f : TwoFunctions 
       range-asked = range-asked-at vs K (there .words) (there .counted)
         where
           range-asked-at : (vs : List ℕ) (K : Counts) → vs ≡ w₁ → K ≡ countsOf S₁ → Asked vs (K .sorts) (K .entries) (partAt ws a) (partAt ws b)
-          range-asked-at vs K w c = rw (w, c) (record { checked = there .grown .checked; lhs = omega (arith, lhs-range, more); rhs = omega (arith, rhs-range, more) })
+          range-asked-at vs K w c = rw (w, c) (record {
+            checked = there .grown .checked;
+            lhs = omega
+                (arith, lhs-range, more);
+            rhs = omega (arith, rhs-range, more);
+          })
 
       range-kept : SortsKept w₁ n₁ e₁ InTree S₁ (range S₁)
       range-kept =
@@ -240,7 +262,13 @@ module _ (up : Bool) (ws : List ℕ) (C : Counts) (a b : ℕ) (f : TwoFunctions 
 
           sorts-grow : n₁ ≤ K₂ .sorts
           sorts-grow =
-              omega (arith, reached-sorts w₁ n₁ e₁ S₁ (range S₁) us c K₂ then-there, ap length (then-there .extends .1), length-append (S₁ .trees) (then-there .extends .0))
+              omega (
+                arith,
+                reached-sorts w₁ n₁ e₁ S₁ (range S₁) us c K₂ then-there,
+                ap length
+                    (then-there .extends .1),
+                length-append (S₁ .trees) (then-there .extends .0),
+              )
 
           pub function-ids-below : AllBelow (K₂ .sorts) (take (countAt ws a) (d .ids))
           function-ids-below =
@@ -252,19 +280,28 @@ module _ (up : Bool) (ws : List ℕ) (C : Counts) (a b : ℕ) (f : TwoFunctions 
 
           args-there : lookAll (trees us (K₂ .sorts)) (take (countAt ws a) (d .ids)) ≡ there .args
           args-there =
-              ap₂ lookAll (reached-trees w₁ n₁ e₁ S₁ (range S₁) us c K₂ then-there) (ids-are ∙ sym (numbers-extend S₁ S₂ (there .args) (then-there .extends) (there .inside)))
+              ap₂ lookAll (reached-trees w₁ n₁ e₁ S₁ (range S₁) us c K₂ then-there)
+              (ids-are ∙ sym (numbers-extend S₁ S₂ (there .args) (then-there .extends) (there .inside)))
               ∙ lookAll-numbers (S₂ .trees) (there .args) members-there
 
           few : arity (there .args) ≤ 16
           few =
-              omega (arith, there .as-many, arity-run ws T (startAt ws a + 0) (countAt ws a - 0), sub-zero (countAt ws a), few-arguments ws n e k a (f .asked .lhs) (f .lhs-function))
+              omega (
+                arith,
+                there .as-many,
+                arity-run ws T (startAt ws a + 0) (countAt ws a - 0),
+                sub-zero
+                    (countAt ws a),
+                few-arguments ws n e k a (f .asked .lhs) (f .lhs-function),
+              )
 
           parts-there : partsIn (S₂ .trees) (function (there .args) (then-there .sort)) ≡ true
           unfolding partsIn
           parts-there = and-eq-true-iff (members (S₂ .trees) (there .args)) (member (S₂ .trees) (then-there .sort)) .1 (members-there, then-there .inside)
 
           pub function-made : (zs : List ℕ) (w : Joined)
-              → storedAt zs w ≡ internAt us (K₂ .sorts) (K₂ .entries) (function (lookAll (trees us (K₂ .sorts)) (take (countAt ws a) (d .ids))) (look (trees us (K₂ .sorts)) (c .0)))
+              → storedAt zs w ≡ internAt us (K₂ .sorts) (K₂ .entries) (function (lookAll (trees us (K₂ .sorts))
+              (take (countAt ws a) (d .ids))) (look (trees us (K₂ .sorts)) (c .0)))
               → storedAt zs w ≡ functionAt up ws n e a b
           unfolding need
           function-made zs w g =
@@ -282,9 +319,11 @@ bound-functions up ws n e a b f d =
     let l = function-sort ws n e k a (f .asked .lhs) (f .lhs-function) in
     let r = function-sort ws n e k b (f .asked .rhs) (f .rhs-function) in
     let differ : look (trees ws n) a ≡ look (trees ws n) b → ⊥ =
-    λ q. d (look-injective (trees ws n) a b (trees-differ ws n e (listed k)) (omega (arith, length-trees ws n, f .asked .lhs)) (omega (arith, length-trees ws n, f .asked .rhs)) q) in
+    λ q. d (look-injective (trees ws n) a b (trees-differ ws n e (listed k))
+    (omega (arith, length-trees ws n, f .asked .lhs)) (omega (arith, length-trees ws n, f .asked .rhs)) q) in
     ap (stored ws n e)
     (sym (ap₂ (λ x y. make up x y (sortsOf ws n e)) l r
     ∙ make-functions up (argumentsFrom ws n a 0) (argumentsFrom ws n b 0) (look (trees ws n) (partAt ws a)) (look (trees ws n) (partAt ws b)) (sortsOf ws n e)
     (λ q. differ (l ∙ (q ∙ sym r)))
-    (arity-run ws (trees ws n) (startAt ws a + 0) (countAt ws a - 0) ∙ (ap (λ c. c - 0) (f .as-many) ∙ sym (arity-run ws (trees ws n) (startAt ws b + 0) (countAt ws b - 0))))))
+    (arity-run ws (trees ws n) (startAt ws a + 0) (countAt ws a - 0) ∙ (ap (λ c. c - 0) (f .as-many) ∙ sym
+    (arity-run ws (trees ws n) (startAt ws b + 0) (countAt ws b - 0))))))

@@ -73,7 +73,8 @@ module _ (ws : List ℕ) (n e : ℕ) (t : Tree) where
         rows = rw length-more (omega arith);
         entries = omega arith;
         used = rw one-new (omega (arith, f .space));
-        checked = rw (after-one, length-more) (subst (Checked (appendRow ws n e (rowOf (trees ws n) t)) (suc n)) (omega (arith, f .space)) (checked-append ws n e t f));
+        checked = rw (after-one, length-more) (subst (Checked (appendRow ws n e (rowOf (trees ws n) t)) (suc n))
+            (omega (arith, f .space)) (checked-append ws n e t f));
       }
 
 -- in two steps
@@ -89,7 +90,8 @@ module _ (ws : List ℕ) (n e : ℕ) (S₁ S₂ : Sorts) (g : Grown ws n e S₁)
 
   module _ (h : Grown then-words then-sorts then-entries S₂) where
     split : S₂ .trees ≡ trees ws n ++ (drop n (S₁ .trees) ++ drop then-sorts (S₂ .trees))
-    split = h .prefix ∙ (ap (λ T. T ++ drop then-sorts (S₂ .trees)) (g .reads ∙ g .prefix) ∙ append-assoc (trees ws n) (drop n (S₁ .trees)) (drop then-sorts (S₂ .trees)))
+    split = h .prefix ∙ (ap (λ T. T ++ drop then-sorts (S₂ .trees)) (g .reads ∙ g .prefix) ∙ append-assoc (trees ws n)
+        (drop n (S₁ .trees)) (drop then-sorts (S₂ .trees)))
 
     all-new : drop n (S₂ .trees) ≡ drop n (S₁ .trees) ++ drop then-sorts (S₂ .trees)
     all-new =

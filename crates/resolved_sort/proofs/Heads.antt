@@ -78,7 +78,8 @@ module _ {A : Type 0} (family level : A → ℕ) (up : Bool) where
   pub head-flips : (a b : A) → leHead family level up a b ≡ leHead family level (not up) b a
   head-flips a b = ap₂ _&&_ (eqb-flips (family a) (family b)) (level-flips up (level a) (level b))
 
-  pub head-antisym : ((a b : A) → family a ≡ family b → level a ≡ level b → a ≡ b) → (a b : A) → leHead family level up a b ≡ true → leHead family level up b a ≡ true → a ≡ b
+  pub head-antisym : ((a b : A) → family a ≡ family b → level a ≡ level b → a ≡ b) → (a b : A)
+      → leHead family level up a b ≡ true → leHead family level up b a ≡ true → a ≡ b
   head-antisym injective a b e f =
       let h = head-exactly a b .0 e in
       let k = head-exactly b a .0 f in

@@ -57,14 +57,16 @@ abbrev pub InTrees : ℕ → Sorts → Trees → Type 0
 InTrees n S ts = (members (S .trees) ts ≡ true) × (arity ts ≡ n)
 
 module _ (ws : List ℕ) (n e : ℕ) where
-  pub kept-before : {B : Type 0} (On : Sorts → B → Type 0) (S₀ S : Sorts) → SortsExtend S₀ S → (P : Outcome B) → SortsKept ws n e On S P → SortsKept ws n e On S₀ P
+  pub kept-before : {B : Type 0} (On : Sorts → B → Type 0) (S₀ S : Sorts) → SortsExtend S₀ S → (P : Outcome B)
+      → SortsKept ws n e On S P → SortsKept ws n e On S₀ P
   unfolding SortsKept
   kept-before On S₀ S x (made b S′) g = (g .0, extends-trans S₀ S S′ x (g .1), g .2)
   kept-before On S₀ S x (nothing S′) g = (g .0, extends-trans S₀ S S′ x (g .1))
   kept-before On S₀ S x (full S′) g = (g .0, extends-trans S₀ S S′ x (g .1))
 
   pub kept-then : {A B : Type 0} (In : Sorts → A → Type 0) (On : Sorts → B → Type 0) (S₀ : Sorts) (O : Outcome A) (k : A → Sorts → Outcome B)
-      → SortsKept ws n e In S₀ O → ((a : A) (S : Sorts) → Grown ws n e S → SortsExtend S₀ S → In S a → SortsKept ws n e On S (k a S)) → SortsKept ws n e On S₀ (O then k)
+      → SortsKept ws n e In S₀ O → ((a : A) (S : Sorts) → Grown ws n e S → SortsExtend S₀ S → In S a
+      → SortsKept ws n e On S (k a S)) → SortsKept ws n e On S₀ (O then k)
   unfolding SortsKept
   kept-then In On S₀ (made a S) k h f = kept-before On S₀ S (h .1) (k a S) (f a S (h .0) (h .1) (h .2))
   kept-then In On S₀ (nothing S) k h f = h
@@ -86,7 +88,15 @@ module _ (ws : List ℕ) (n e : ℕ) where
         let h = and-eq-true-iff (ltb 0 (S .rows)) (leb (need t) (S .entries)) .0 f in
         let a = ltb-true 0 (S .rows) (h .0) in
         let b = leb-true (need t) (S .entries) (h .1) in
-        record { checked = g .checked; absent = rw (g .reads) m; parts = rw (g .reads) p; short = q; room = omega (arith, g .rows, a); space = omega (arith, b, g .entries) }
+        record {
+          checked = g .checked;
+          absent = rw (g .reads) m;
+          parts = rw (g .reads) p;
+          short = q;
+          room = omega
+              (arith, g .rows, a);
+          space = omega (arith, b, g .entries);
+        }
 
     grown-more : member (S .trees) t ≡ false → fits t S ≡ true → Grown ws n e grown
     grown-more m f =
@@ -95,7 +105,8 @@ module _ (ws : List ℕ) (n e : ℕ) where
         let x : maxSorts - length (S .trees) - 1 ≡ S .rows - 1 = omega (arith, g .rows) in
         let y : maxEntries - (maxEntries - S .entries) - need t ≡ S .entries - need t = omega (arith, b, g .entries) in
         grown-both ws n e S grown g
-        (subst (Grown (after ws n e S) (length (S .trees)) (maxEntries - S .entries)) (λ i. record { trees = g .reads i ++ (t ∷ []); rows = x i; entries = y i })
+        (subst (Grown (after ws n e S) (length (S .trees)) (maxEntries - S .entries))
+        (λ i. record { trees = g .reads i ++ (t ∷ []); rows = x i; entries = y i })
         (grown-one (after ws n e S) (length (S .trees)) (maxEntries - S .entries) t (fresh m f)))
 
     intern-by : (b c : Bool) → member (S .trees) t ≡ b → fits t S ≡ c → SortsKept ws n e InTree S (cond b (made t S) (cond c (made t grown) (full S)))
@@ -132,7 +143,8 @@ module _ (ws : List ℕ) (n e : ℕ) where
   unfolding partsIn need
   container-interned q v S g m = intern-kept S g (container q v) m (omega arith)
 
-  pub function-interned : (vs : Trees) (v : Tree) (S : Sorts) → Grown ws n e S → members (S .trees) vs ≡ true → arity vs ≤ 16 → InTree S v → SortsKept ws n e InTree S (intern (function vs v) S)
+  pub function-interned : (vs : Trees) (v : Tree) (S : Sorts) → Grown ws n e S → members (S .trees) vs ≡ true
+      → arity vs ≤ 16 → InTree S v → SortsKept ws n e InTree S (intern (function vs v) S)
   unfolding partsIn need
   function-interned vs v S g m l w = intern-kept S g (function vs v) (and-eq-true-iff (members (S .trees) vs) (member (S .trees) v) .1 (m, w)) l
 
@@ -144,7 +156,8 @@ module _ (ws : List ℕ) (n e : ℕ) where
   unfolding SortsKept members arity
   none-made S g = (g, extends-refl S, (refl, refl))
 
-  one-made : (v : Tree) (k : ℕ) (S S₀ : Sorts) → InTree S₀ v → Grown ws n e S → SortsExtend S₀ S → (vs : Trees) → InTrees k S vs → SortsKept ws n e (InTrees (k + 1)) S (made (arg v vs) S)
+  one-made : (v : Tree) (k : ℕ) (S S₀ : Sorts) → InTree S₀ v → Grown ws n e S → SortsExtend S₀ S → (vs : Trees)
+      → InTrees k S vs → SortsKept ws n e (InTrees (k + 1)) S (made (arg v vs) S)
   unfolding SortsKept members arity
   one-made v k S S₀ m g x vs h =
       (g, extends-refl S, (and-eq-true-iff (member (S .trees) v) (members (S .trees) vs) .1 (member-extends S₀ S v x m, h .0), ap (λ j. j + 1) (h .1)))
@@ -168,11 +181,13 @@ module _ (ws : List ℕ) (n e : ℕ) where
         by-test (SortsKept ws n e InTree S) (same (function ss r) (function ts u)) _ _ (itself S (function ss r) g (x .0))
         (by-test (SortsKept ws n e InTree S) (eqb (arity ss) (arity ts)) _ _
         (kept-then (InTrees (arity ss)) InTree S (makes (not up) ss ts S) _ (makes-kept (not up) ss ts S g (x .1) (y .1))
-        (λ vs S₁ g₁ x₁ m. kept-then InTree InTree S₁ (make up r u S₁) _ (make-kept up r u S₁ g₁ (whole-extends S S₁ r x₁ (x .2)) (whole-extends S S₁ u x₁ (y .2)))
+        (λ vs S₁ g₁ x₁ m. kept-then InTree InTree S₁ (make up r u S₁) _ (make-kept up r u S₁ g₁ (whole-extends S S₁ r
+        x₁ (x .2)) (whole-extends S S₁ u x₁ (y .2)))
         (λ v S₂ g₂ x₂ w. function-interned vs v S₂ g₂ (members-extends S₁ S₂ vs x₂ (m .0)) (omega (arith, x .3, m .1)) w)))
         (stays InTree S g))
 
-    pub makes-kept : (up : Bool) (ss ts : Trees) (S : Sorts) → Grown ws n e S → Wholes (S .trees) ss → Wholes (S .trees) ts → SortsKept ws n e (InTrees (arity ss)) S (makes up ss ts S)
+    pub makes-kept : (up : Bool) (ss ts : Trees) (S : Sorts) → Grown ws n e S → Wholes (S .trees) ss
+        → Wholes (S .trees) ts → SortsKept ws n e (InTrees (arity ss)) S (makes up ss ts S)
     makes-kept up no-args no-args S g x y = none-made S g
     makes-kept up no-args (arg t ts) S g x y = stays (InTrees 0) S g
     makes-kept up (arg s ss) no-args S g x y = stays (InTrees (arity (arg s ss))) S g

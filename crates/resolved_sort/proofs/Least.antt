@@ -47,7 +47,8 @@ least-moves R S same a b (some u) h =
 module _ {A B C : Type 0} (R : A → A → Type 0) (S : B → B → Type 0) (T : C → C → Type 0) (make : A → B → C)
     (together : (a c : A) (b d : B) → R a c → S b d → T (make a b) (make c d))
     (under : (a a′ : A) (b b′ : B) (w : C) → T (make a b) w → T (make a′ b′) w → (c : A) × (d : B) × (w ≡ make c d) × (R a c × R a′ c) × (S b d × S b′ d)) where
-  pub least-of-two : (a a′ : A) (b b′ : B) (x : Option A) (y : Option B) → LeastBound R a a′ x → LeastBound S b b′ y → LeastBound T (make a b) (make a′ b′) (map₂ make x y)
+  pub least-of-two : (a a′ : A) (b b′ : B) (x : Option A) (y : Option B) → LeastBound R a a′ x → LeastBound S b b′ y
+      → LeastBound T (make a b) (make a′ b′) (map₂ make x y)
   least-of-two a a′ b b′ none y h k = λ w p. let z = under a a′ b b′ w (p .0) (p .1) in h (z .0) (z .3)
   least-of-two a a′ b b′ (some u) none h k = λ w p. let z = under a a′ b b′ w (p .0) (p .1) in k (z .1) (z .4)
   least-of-two a a′ b b′ (some u) (some v) h k = (

@@ -82,7 +82,8 @@ interior-of-range (range {ss} {r} {u} p) =
     (h .0, h .1, rw (distances-of-equal false ss, h .1) (ap some (steps refl (omega arith))))
 
 -- Flat sorts and containers: no interior steps.
-pub materializable-interior-zero : (s t : Tree) → isFunction s ≡ false → materializable s t ≡ true → (h : ℕ) × (distance true s t ≡ some (record { head = h; interior = 0 }))
+pub materializable-interior-zero : (s t : Tree) → isFunction s ≡ false → materializable s t ≡ true
+    → (h : ℕ) × (distance true s t ≡ some (record { head = h; interior = 0 }))
 materializable-interior-zero s t i e = interior-zero i (to-materializes s t e)
 
 -- Functions: the range's head and interior steps together.
@@ -94,6 +95,7 @@ materializable-interior-of-range ss ts r u e = interior-of-range (to-materialize
 abbrev pub boolTo : Sort → Tree
 boolTo a = function (arg (flat (primitive Sort.Bool)) no-args) (flat (primitive a))
 
-pub interior-of-functions-one : (materializable (boolTo Sort.Pos) (boolTo Sort.Nat) ≡ true) × (distance true (boolTo Sort.Pos) (boolTo Sort.Nat) ≡ some (record { head = 0; interior = 1 }))
+pub interior-of-functions-one : (materializable (boolTo Sort.Pos) (boolTo Sort.Nat) ≡ true) ×
+    (distance true (boolTo Sort.Pos) (boolTo Sort.Nat) ≡ some (record { head = 0; interior = 1 }))
 unfolding materializable distance same family level
 interior-of-functions-one = (refl, refl)

@@ -69,10 +69,12 @@ Below ws e i (Def n) = Unit {0}
 Below ws e i (TypeVar n) = Unit {0}
 
 module _ (ws : List ℕ) (e i p s c : ℕ) where
-  parts-below : (k : ℕ) → k ≤ lastKind → Within i (read ws e i p s c k) → (k ≡ functionKind → (c ≤ 16) × (s + c ≤ e)) → Below ws e i (resolved k p (record { start = s; count = c }))
+  parts-below : (k : ℕ) → k ≤ lastKind → Within i (read ws e i p s c k) → (k ≡ functionKind → (c ≤ 16) × (s + c ≤ e))
+      → Below ws e i (resolved k p (record { start = s; count = c }))
   unfolding Below resolved
   parts-below k l =
-      by-kind (λ k. Within i (read ws e i p s c k) → (k ≡ functionKind → (c ≤ 16) × (s + c ≤ e)) → Below ws e i (resolved k p (record { start = s; count = c })))
+      by-kind (λ k. Within i (read ws e i p s c k) → (k ≡ functionKind → (c ≤ 16) × (s + c ≤ e))
+      → Below ws e i (resolved k p (record { start = s; count = c })))
       (λ w f. tt)
       (λ w f. tt)
       (λ w f. tt)
@@ -141,7 +143,8 @@ Says R Q (Containers o s p t) = (R ≡ Container o s) × (Q ≡ Container p t)
 Says R Q (Functions c ls lr rs rr) = (R ≡ Function (record { start = ls; count = c }) lr) × (Q ≡ Function (record { start = rs; count = c }) rr)
 Says R Q Other = (ws : List ℕ) (T : List Tree) → (sortOf ws T R ≡ sortOf ws T Q → ⊥) → Unlike (sortOf ws T R) (sortOf ws T Q)
 
-functions-say : (d c : Run) (r u : SortId) (b : Bool) → eqb (d .count) (c .count) ≡ b → Says (Function d r) (Function c u) (cond b (Functions (d .count) (d .start) r (c .start) u) Other)
+functions-say : (d c : Run) (r u : SortId) (b : Bool) → eqb (d .count) (c .count) ≡ b
+    → Says (Function d r) (Function c u) (cond b (Functions (d .count) (d .start) r (c .start) u) Other)
 unfolding Says sortOf
 functions-say d c r u true q = (refl, ap (λ (k : ℕ). Function (record { start = c .start; count = k }) u) (sym (eqb-true _ _ q)))
 functions-say d c r u false q =

@@ -78,7 +78,8 @@ module _ (ws : List ℕ) (n e : ℕ) (S₀ : Sorts) (O : Outcome Tree) (vs : Lis
 
 -- two calls, one after the other, leave what the two as one leave
 pub stored-again : (ws : List ℕ) (n e : ℕ) (S : Sorts) → Grown ws n e S → (S₀ : Sorts) (O : Outcome Tree)
-    → SortsKept (after ws n e S) (length (S .trees)) (maxEntries - S .entries) InTree S₀ O → stored (after ws n e S) (length (S .trees)) (maxEntries - S .entries) O ≡ stored ws n e O
+    → SortsKept (after ws n e S) (length (S .trees)) (maxEntries - S .entries) InTree S₀ O
+    → stored (after ws n e S) (length (S .trees)) (maxEntries - S .entries) O ≡ stored ws n e O
 unfolding SortsKept stored
 stored-again ws n e S g S₀ (made v S′) h = rw (after-both ws n e S S′ g (h .0))
 stored-again ws n e S g S₀ (nothing S′) h = rw (after-both ws n e S S′ g (h .0))

@@ -13,7 +13,9 @@ use Rattle.resolved_sort.specs.declared.Sort.{Sort}
 use Rattle.resolved_sort.specs.declared.ComplexSort.{ComplexSort}
 use Rattle.resolved_sort.specs.Tree.{unit, primitive, def, typevar, Tree, flat, container, function, Trees, no-args, arg}
 use Rattle.resolved_sort.specs.Interning.{look, number, member, distinct}
-use Rattle.resolved_sort.specs.Storage.{lastKind, functionKind, kindAt, partAt, startAt, countAt, entryAt, entriesOf, Row, wordsAt, resolved, rowAt, lookAll, treeOf, numbers, rowOf, kindFlat, kindOp, partFlat}
+use Rattle.resolved_sort.specs.Storage.{lastKind, functionKind, kindAt, partAt, startAt, countAt, entryAt}
+use Rattle.resolved_sort.specs.Storage.{entriesOf, Row, wordsAt, resolved, rowAt, lookAll, treeOf, numbers}
+use Rattle.resolved_sort.specs.Storage.{rowOf, kindFlat, kindOp, partFlat}
 use Rattle.resolved_sort.specs.Checks.{allBelow, partsBelow, rowFine}
 unfoldable pub use Rattle.resolved_sort.specs.Rows.{AllBelow}
 use Rattle.resolved_sort.proofs.Below.{below-each}
@@ -44,7 +46,8 @@ by-kind P p0 p1 p2 p3 p4 p5 p6 p7 p8 p9 p10 p11 p12 p13 (suc (suc (suc (suc (suc
 by-kind P p0 p1 p2 p3 p4 p5 p6 p7 p8 p9 p10 p11 p12 p13 (suc (suc (suc (suc (suc (suc (suc (suc (suc (suc (suc zero))))))))))) h = p11
 by-kind P p0 p1 p2 p3 p4 p5 p6 p7 p8 p9 p10 p11 p12 p13 (suc (suc (suc (suc (suc (suc (suc (suc (suc (suc (suc (suc zero)))))))))))) h = p12
 by-kind P p0 p1 p2 p3 p4 p5 p6 p7 p8 p9 p10 p11 p12 p13 (suc (suc (suc (suc (suc (suc (suc (suc (suc (suc (suc (suc (suc zero))))))))))))) h = p13
-by-kind P p0 p1 p2 p3 p4 p5 p6 p7 p8 p9 p10 p11 p12 p13 (suc (suc (suc (suc (suc (suc (suc (suc (suc (suc (suc (suc (suc (suc k)))))))))))))) h = absurd (omega arith)
+by-kind P p0 p1 p2 p3 p4 p5 p6 p7 p8 p9 p10 p11 p12 p13
+    (suc (suc (suc (suc (suc (suc (suc (suc (suc (suc (suc (suc (suc (suc k)))))))))))))) h = absurd (omega arith)
 
 abbrev pub row : ℕ → ℕ → List ℕ → Row
 row k p xs = record { kind = k; part = p; args = xs }
@@ -65,7 +68,8 @@ module _ (T : List Tree) (d : distinct T ≡ true) (p : ℕ) (xs : List ℕ) whe
   container-row k l h w = parts-make-row k (number T (look T p)) p [] xs (number-look T p d (w .part l (omega arith))) (sym (w .no-run (λ e. omega arith)))
 
   function-row : Within (length T) (row 11 p xs) → row 11 (number T (look T p)) (numbers T (lookAll T xs)) ≡ row 11 p xs
-  function-row w = parts-make-row 11 (number T (look T p)) p (numbers T (lookAll T xs)) xs (number-look T p d (w .part (omega arith) (omega arith))) (numbers-lookAll T xs d (w .args))
+  function-row w = parts-make-row 11 (number T (look T p)) p (numbers T (lookAll T xs)) xs (number-look T p d
+      (w .part (omega arith) (omega arith))) (numbers-lookAll T xs d (w .args))
 
   named-row : (k : ℕ) → 11 < k → Within (length T) (row k p xs) → row k p [] ≡ row k p xs
   named-row k h w = parts-make-row k p p [] xs refl (sym (w .no-run (λ e. omega arith)))

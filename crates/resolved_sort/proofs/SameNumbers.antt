@@ -29,7 +29,8 @@ module _ {ws : List ℕ} {n e : ℕ} (k : Checked ws n e) where
       (λ t. eq-eqb a b (number-of-tree ha hb (same-exactly _ _ .0 t)))
       (λ t. same-exactly _ _ .1 (ap (look (trees ws n)) (eqb-true a b t)))
 
-  pub sames-by-entries : {l m : ℕ} → l ≤ n → m ≤ n → (xs ys : List ℕ) → AllBelow l xs → AllBelow m ys → sames (lookAll (trees ws n) xs) (lookAll (trees ws n) ys) ≡ sameWords xs ys
+  pub sames-by-entries : {l m : ℕ} → l ≤ n → m ≤ n → (xs ys : List ℕ) → AllBelow l xs → AllBelow m ys
+      → sames (lookAll (trees ws n) xs) (lookAll (trees ws n) ys) ≡ sameWords xs ys
   unfolding same sameWords lookAll AllBelow
   sames-by-entries hl hm [] [] f g = refl
   sames-by-entries hl hm [] (y ∷ ys) f g = refl

@@ -47,11 +47,20 @@ module _ (ws : List ℕ) (n e : ℕ) (k : Checked ws n e) (t : Tree) (p : partsI
       (λ h. let x = and-eq-true-iff (ltb n maxSorts) (leb (e + length (rowOf T t .args)) maxEntries) .0 h in
       let y = ltb-true n maxSorts (x .0) in
       let z = leb-true (e + length (rowOf T t .args)) maxEntries (x .1) in
-      and-eq-true-iff (ltb 0 (maxSorts - n)) (leb (need t) (maxEntries - e)) .1 (lt-ltb 0 (maxSorts - n) (omega arith), le-leb (need t) (maxEntries - e) (omega (arith, length-args T t))))
+      and-eq-true-iff (ltb 0 (maxSorts - n)) (leb (need t) (maxEntries - e)) .1 (
+        lt-ltb 0 (maxSorts - n)
+            (omega arith),
+        le-leb (need t) (maxEntries - e) (omega (arith, length-args T t)),
+      ))
       (λ h. let x = and-eq-true-iff (ltb 0 (maxSorts - n)) (leb (need t) (maxEntries - e)) .0 h in
       let y = ltb-true 0 (maxSorts - n) (x .0) in
       let z = leb-true (need t) (maxEntries - e) (x .1) in
-      and-eq-true-iff (ltb n maxSorts) (leb (e + length (rowOf T t .args)) maxEntries) .1 (lt-ltb n maxSorts (omega arith), le-leb (e + length (rowOf T t .args)) maxEntries (omega (arith, length-args T t, k .entries))))
+      and-eq-true-iff (ltb n maxSorts) (leb (e + length (rowOf T t .args)) maxEntries) .1 (
+        lt-ltb n maxSorts
+            (omega arith),
+        le-leb (e + length (rowOf T t .args)) maxEntries
+            (omega (arith, length-args T t, k .entries)),
+      ))
 
   one-found : storedAt ws (joinedAt (findRow ws n (rowOf T t)) n e) ≡ stored ws n e (made t (sortsOf ws n e))
   unfolding stored
@@ -92,7 +101,8 @@ module _ (ws : List ℕ) (n e : ℕ) (k : Checked ws n e) where
   member-at : (i : ℕ) → i < n → member (trees ws n) (look (trees ws n) i) ≡ true
   member-at i h = member-look (trees ws n) i (omega (arith, length-trees ws n))
 
-  pub wholes-below : (m : ℕ) → ((i : ℕ) → i < m → Whole (trees ws n) (look (trees ws n) i)) → (xs : List ℕ) → AllBelow m xs → Wholes (trees ws n) (lookAll (trees ws n) xs)
+  pub wholes-below : (m : ℕ) → ((i : ℕ) → i < m → Whole (trees ws n) (look (trees ws n) i)) → (xs : List ℕ)
+      → AllBelow m xs → Wholes (trees ws n) (lookAll (trees ws n) xs)
   unfolding Wholes lookAll AllBelow
   wholes-below m f [] b = tt
   wholes-below m f (x ∷ xs) b = (f x (b .0), wholes-below m f xs (b .1))
@@ -103,8 +113,13 @@ module _ (ws : List ℕ) (n e : ℕ) (k : Checked ws n e) where
   whole-row i h f UnitRow b m = m
   whole-row i h f (Primitive s) b m = m
   whole-row i h f (Container op subsort) b m = (m, f (subsort .0) b)
-  whole-row i h f (Function domain range) b m =
-      (m, wholes-below i f (entriesOf ws (domain .start) (domain .count)) (b .3), f (range .0) (b .0), omega (arith, b .1, arity-run ws (trees ws n) (domain .start) (domain .count)))
+  whole-row i h f (Function domain range) b m = (
+    m,
+    wholes-below i f (entriesOf ws (domain .start) (domain .count)) (b .3),
+    f (range .0) (b .0),
+    omega
+        (arith, b .1, arity-run ws (trees ws n) (domain .start) (domain .count)),
+  )
   whole-row i h f (Def c) b m = m
   whole-row i h f (TypeVar c) b m = m
 

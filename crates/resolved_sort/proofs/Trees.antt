@@ -24,7 +24,8 @@ pub look-last : (ws : List ℕ) (n : ℕ) → look (trees ws (suc n)) n ≡ tree
 unfolding look trees
 look-last ws n = getD-at (trees ws n) _ [] (flat unit) n (length-trees ws n)
 
-longer-by-one : (ws : List ℕ) (n m i : ℕ) → i < n → n ≤ suc m → (n ≤ m → look (trees ws m) i ≡ look (trees ws n) i) → Dec (n ≤ m) → look (trees ws (suc m)) i ≡ look (trees ws n) i
+longer-by-one : (ws : List ℕ) (n m i : ℕ) → i < n → n ≤ suc m → (n ≤ m → look (trees ws m) i ≡ look (trees ws n) i)
+    → Dec (n ≤ m) → look (trees ws (suc m)) i ≡ look (trees ws n) i
 longer-by-one ws n m i h l ih (yes d) = look-snoc ws m i (omega arith) ∙ ih d
 longer-by-one ws n m i h l ih (no d) = ap (λ k. look (trees ws k) i) (omega arith)
 

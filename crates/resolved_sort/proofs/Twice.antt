@@ -30,7 +30,8 @@ module _ (ws : List ℕ) (e : ℕ) where
       let l : i < m = subst (λ j. i < j) (length-trees ws m) (number-below (trees ws m) t q) in
       let w : Within (length (trees ws m)) (wordsAt ws m) = rw (length-trees ws m) (row-within ws e m f) in
       let r : wordsAt ws i ≡ wordsAt ws m =
-      sym (row-of-look ws m e k i l) ∙ (ap (rowOf (trees ws m)) (look-number (trees ws m) t q) ∙ row-of-tree (trees ws m) (wordsAt ws m) (trees-differ ws m e k) w) in
+      sym (row-of-look ws m e k i l) ∙ (ap (rowOf (trees ws m)) (look-number (trees ws m) t q) ∙ row-of-tree
+      (trees ws m) (wordsAt ws m) (trees-differ ws m e k) w) in
       absurd (true-not-false _ (sameRow-exactly _ _ .1 r) (h i l))
 
   listed-before : (m : ℕ) → rowsFine ws m e ≡ true → distinct (trees ws m) ≡ true → ListFine ws m e

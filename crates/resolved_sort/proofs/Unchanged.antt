@@ -45,7 +45,11 @@ written-agrees ws T e (x ∷ xs) l r s =
     let more : length (T ++ (x ∷ [])) ≡ length T + 1 = length-append T (x ∷ []) in
     agrees-trans ws (append ws T e x) _ (length T) (length (T ++ (x ∷ []))) e (e + need x) (omega arith) (omega arith)
     (append-agrees ws (length T) e (rowOf T x) l room space)
-    (written-agrees (append ws T e x) (T ++ (x ∷ [])) (e + need x) xs (omega (arith, length-new ws (length T) e (rowOf T x) l room space)) (omega arith) (omega arith))
+    (written-agrees (append ws T e x) (T ++ (x ∷ [])) (e + need x) xs (omega (
+      arith,
+      length-new ws (length T) e
+          (rowOf T x) l room space,
+    )) (omega arith) (omega arith))
 
 module _ (ws : List ℕ) (n e : ℕ) (k : Checked ws n e) (S : Sorts) (g : Grown ws n e S) where
   pub longer : n ≤ length (S .trees)

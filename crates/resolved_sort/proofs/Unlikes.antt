@@ -11,7 +11,9 @@ use Rattle.resolved_sort.specs.Order.{le, les, order, Steps, distance, m
 use Rattle.resolved_sort.proofs.Numbers.{true-not-false}
 use Rattle.resolved_sort.proofs.Distance.{distance-exists-exactly}
 use Rattle.resolved_sort.proofs.Materializable.{materializable-below}
-use Rattle.resolved_sort.proofs.Pairs.{Unlike, Unlike.flats, Unlike.flat-container, Unlike.flat-function, Unlike.container-flat, Unlike.container-function, Unlike.function-flat, Unlike.function-container, Unlike.functions}
+use Rattle.resolved_sort.proofs.Pairs.{Unlike, Unlike.flats, Unlike.flat-container, Unlike.flat-function}
+use Rattle.resolved_sort.proofs.Pairs.{Unlike.container-flat, Unlike.container-function, Unlike.function-flat}
+use Rattle.resolved_sort.proofs.Pairs.{Unlike.function-container, Unlike.functions}
 
 -- runs of different lengths
 pub les-of-lengths : (up : Bool) (ss ts : Trees) → (arity ss ≡ arity ts → ⊥) → les up ss ts ≡ false

@@ -7,9 +7,11 @@ use Prim.Native.Nat.{ℕ, zero, suc, _+_, _-_, _*_, _≤_}
 use lib.ListN.{length}
 use lib.Dec.{eqb, leb, ltb}
 use Rattle.resolved_sort.specs.declared.ResolvedSort.{ResolvedSort}
-use Rattle.resolved_sort.specs.declared.ResolvedSort.the-variants.{Unit, Primitive, Container, Function, Def, TypeVar}
+use Rattle.resolved_sort.specs.declared.ResolvedSort.the-variants.{Unit, Primitive, Container, Function, Def}
+use Rattle.resolved_sort.specs.declared.ResolvedSort.the-variants.{TypeVar}
 use Rattle.resolved_sort.specs.Interning.{distinct}
-use Rattle.resolved_sort.specs.Storage.{maxSorts, maxEntries, maxArguments, rowWords, entriesAt, fullLength, kindAt, entryAt, rowAt, lastKind, trees}
+use Rattle.resolved_sort.specs.Storage.{maxSorts, maxEntries, maxArguments, rowWords, entriesAt, fullLength}
+use Rattle.resolved_sort.specs.Storage.{kindAt, entryAt, rowAt, lastKind, trees}
 
 -- p holds of every number below n
 unfoldable pub allBelow : ℕ → (ℕ → Bool) → Bool

@@ -13,7 +13,8 @@ use Rattle.resolved_sort.specs.declared.Widening.the-variants.{Distance,
 use Rattle.resolved_sort.specs.declared.Compared.{Compared}
 use Rattle.resolved_sort.specs.declared.Compared.the-variants.{Refused as NotCompared, Ordered}
 use Rattle.resolved_sort.specs.declared.Bounded.{Bounded}
-use Rattle.resolved_sort.specs.declared.Bounded.the-variants.{Refused as NotBounded, Sort, Nothing as NoBound, NoRoom}
+use Rattle.resolved_sort.specs.declared.Bounded.the-variants.{Refused as NotBounded, Sort}
+use Rattle.resolved_sort.specs.declared.Bounded.the-variants.{Nothing as NoBound, NoRoom}
 use Rattle.resolved_sort.specs.declared.Measured.{Measured}
 use Rattle.resolved_sort.specs.declared.Measured.the-variants.{Refused as NotMeasured, Steps as StepsOf}
 use Rattle.resolved_sort.specs.declared.Materialized.{Materialized}

@@ -1,4 +1,5 @@
--- Lists of sorts that grow: what stays as it was, and what a new sort asks for. The laws on interning and making speak of these.
+-- Lists of sorts that grow: what stays as it was, and what a new sort asks for. The laws on interning and making
+-- speak of these.
 use mathlib.Core.Path.{_≡_}
 use mathlib.Core.Bool.{Bool, true, false, _&&_}
 use mathlib.Core.List.{List, [], _∷_, _++_}

@@ -7,7 +7,8 @@ use Prim.Native.Nat.{ℕ, zero, suc, _+_, _-_}
 use lib.ListN.{getD}
 use lib.Dec.{eqb, leb, ltb}
 use Rattle.resolved_sort.specs.declared.ComplexSort.{ComplexSort}
-use Rattle.resolved_sort.specs.Tree.{Flat, unit, Tree, flat, container, function, Trees, no-args, arg, arity, same}
+use Rattle.resolved_sort.specs.Tree.{Flat, unit, Tree, flat, container, function, Trees, no-args, arg, arity}
+use Rattle.resolved_sort.specs.Tree.{same}
 use Rattle.resolved_sort.specs.Order.{boundFlat, boundOp}
 
 -- The sorts of a list, by number, and how many more rows and argument entries fit.

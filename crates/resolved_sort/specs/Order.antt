@@ -6,7 +6,8 @@ use lib.Dec.{eqb, leb}
 use Rattle.resolved_sort.specs.declared.ComplexSort.{ComplexSort}
 use Rattle.resolved_sort.specs.declared.PartialOrder.{PartialOrder}
 use Rattle.resolved_sort.specs.declared.PartialOrder.the-variants.{Unrelated, Equal, Below, Above}
-use Rattle.resolved_sort.specs.Tree.{Flat, Tree, flat, container, function, Trees, no-args, arg, family, level, familyOp, levelOp, same, sames}
+use Rattle.resolved_sort.specs.Tree.{Flat, Tree, flat, container, function, Trees, no-args, arg, family}
+use Rattle.resolved_sort.specs.Tree.{level, familyOp, levelOp, same, sames}
 use mathlib.Core.Path.{_≡_}
 use mathlib.Core.Logic.{_≢_}
 
@@ -135,7 +136,8 @@ unfoldable mutual
   distance up (function ss r) (flat b) = none
   distance up (function ss r) (container p t) = none
   distance up (function ss r) (function ts u) =
-      map₂ (λ n d. record { head = 0; interior = stoppedSum n (allSteps d) }) (distances (not up) ss ts) (distance up r u)
+      map₂ (λ n d. record { head = 0; interior = stoppedSum n (allSteps d) }) (distances (not up) ss ts)
+      (distance up r u)
 
   pub distances : Bool → Trees → Trees → Option ℕ
   distances up no-args no-args = some 0

@@ -10,8 +10,10 @@ use Rattle.resolved_sort.specs.declared.Sort.{Sort}
 use Rattle.resolved_sort.specs.declared.ComplexSort.{ComplexSort}
 use Rattle.resolved_sort.specs.declared.Run.{Run}
 use Rattle.resolved_sort.specs.declared.ResolvedSort.{ResolvedSort}
-use Rattle.resolved_sort.specs.declared.ResolvedSort.the-variants.{Unit, Primitive, Container, Function, Def, TypeVar}
-use Rattle.resolved_sort.specs.Tree.{Flat, unit, primitive, def, typevar, Tree, flat, container, function, Trees, no-args, arg}
+use Rattle.resolved_sort.specs.declared.ResolvedSort.the-variants.{Unit, Primitive, Container, Function, Def}
+use Rattle.resolved_sort.specs.declared.ResolvedSort.the-variants.{TypeVar}
+use Rattle.resolved_sort.specs.Tree.{Flat, unit, primitive, def, typevar, Tree, flat, container, function}
+use Rattle.resolved_sort.specs.Tree.{Trees, no-args, arg}
 use Rattle.resolved_sort.specs.Interning.{Sorts, look, number, need}
 use Rattle.words.specs.Words.{zeros}
 

@@ -1,5 +1,6 @@
 -- The loop over a function's arguments. Its invariant: to resolve all of them from the lists at entry is to resolve those that are left from the lists
--- now, with the ids made so far in place. Each law answers a place of the code: its premises are the invariant and what the callees ensure there. Assumes nothing.
+-- now, with the ids made so far in place. Each law answers a place of the code: its premises are the invariant and
+-- what the callees ensure there. Assumes nothing.
 use mathlib.Core.Path.{_≡_, refl, sym, _∙_, ap, ap₂, subst}
 use mathlib.Core.List.{List, [], _∷_, _++_}
 use Prim.Native.Nat.{ℕ, _+_, _-_, _<_, _≤_}
@@ -48,7 +49,8 @@ pub record Going (ns bs : List ℕ) (x : Default) (s m g : ℕ) (ws₀ : List �
   pub counted : k ≡ withCounts k₀ (record { sorts = k .sorts; entries = k .entries })
   pub long : length ws ≡ length ws₀
   pub smaller : sizes (argumentTerms ws ns bs k (s + i) (m - i)) ≤ sizes (argumentTerms ws₀ ns bs k₀ s m)
-  pub same : argumentsResolved ws k x (argumentTerms ws ns bs k (s + i) (m - i)) i ids ≡ argumentsResolved ws₀ k₀ x (argumentTerms ws₀ ns bs k₀ s m) 0 (replicate 16 0)
+  pub same : argumentsResolved ws k x (argumentTerms ws ns bs k (s + i) (m - i)) i ids ≡ argumentsResolved ws₀ k₀ x
+      (argumentTerms ws₀ ns bs k₀ s m) 0 (replicate 16 0)
 
 pub start : (ws ns bs : List ℕ) (k : Lengths) (x : Default) (s m g : ℕ) → Ready ws ns bs k × DefaultBelow (k .sorts) x × RunPlaced ns k s m × Placed k g
     → Going ns bs x s m g ws k ws (replicate 16 0) k 0
@@ -62,7 +64,8 @@ start ws ns bs k x s m g p = record {
   same = simp unary-clauses;
 }
 
-module _ (ns bs : List ℕ) (x : Default) (s m g : ℕ) (ws₀ : List ℕ) (k₀ : Lengths) (ws ids : List ℕ) (k : Lengths) (i : ℕ) (G : Going ns bs x s m g ws₀ k₀ ws ids k i) where
+module _ (ns bs : List ℕ) (x : Default) (s m g : ℕ) (ws₀ : List ℕ) (k₀ : Lengths) (ws ids : List ℕ) (k : Lengths)
+    (i : ℕ) (G : Going ns bs x s m g ws₀ k₀ ws ids k i) where
   parts : sizes (argumentTerms ws₀ ns bs k₀ s m) + size (valueIn ws₀ ns bs k₀ g) < size (functionTerm ws₀ ns bs k₀ s m g)
   parts = omega (arith, law.function-parts ws₀ ns bs k₀ (G .entered .0) x (G .entered .1) s m g (G .entered .2) (G .entered .3))
 
@@ -86,19 +89,27 @@ module _ (ns bs : List ℕ) (x : Default) (s m g : ℕ) (ws₀ : List ℕ) (k₀
       module _ (vs : List ℕ) (w : Joined) (ew : storedAt vs w ≡ termResolved ws k x (valueIn ws ns bs k a)) where
         pub argument-stops : (K : Counts) → w ≡ Nothing K → storedAt vs (Nothing K) ≡ termResolved ws₀ k₀ x (functionTerm ws₀ ns bs k₀ s m g)
         argument-stops K z =
-            law.function-stops ws₀ ns bs k₀ (G .entered .0) x (G .entered .1) s m g (G .entered .2) (G .entered .3) vs (record { ids = replicate 16 0; found = NotAll K })
+            law.function-stops ws₀ ns bs k₀ (G .entered .0) x (G .entered .1) s m g (G .entered .2) (G .entered .3) vs
+            (record { ids = replicate 16 0; found = NotAll K })
             (law.arguments-stop ws ns bs k (G .ready .0) x (G .ready .1) (s + i) (m - i) i (G .ready .2) ids left a ea vs w ew K z ∙ G .same)
             K refl
 
         pub argument-ends : w ≡ Full → storedAt vs Full ≡ termResolved ws₀ k₀ x (functionTerm ws₀ ns bs k₀ s m g)
         argument-ends z =
-            law.function-ends ws₀ ns bs k₀ (G .entered .0) x (G .entered .1) s m g (G .entered .2) (G .entered .3) vs (record { ids = replicate 16 0; found = NoRoom })
+            law.function-ends ws₀ ns bs k₀ (G .entered .0) x (G .entered .1) s m g (G .entered .2) (G .entered .3) vs
+            (record { ids = replicate 16 0; found = NoRoom })
             (law.arguments-end ws ns bs k (G .ready .0) x (G .ready .1) (s + i) (m - i) i (G .ready .2) ids left a ea vs w ew z ∙ G .same) refl
 
-        pub next : length vs ≡ length ws → (c : SortId) (K : Counts) → w ≡ At c K → (k′ : Lengths) → k′ ≡ withCounts k K → Going ns bs x s m g ws₀ k₀ vs (set ids i (c .0)) k′ (i + 1)
+        pub next : length vs ≡ length ws → (c : SortId) (K : Counts) → w ≡ At c K → (k′ : Lengths)
+            → k′ ≡ withCounts k K → Going ns bs x s m g ws₀ k₀ vs (set ids i (c .0)) k′ (i + 1)
         next l c K z k′ ek = record {
           entered = G .entered;
-          ready = (there .0, there .1, subst (λ (j : ℕ). RunPlaced ns k′ j (m - (i + 1))) further (subst (λ (j : ℕ). RunPlaced ns k′ (s + i + 1) j) fewer (there .2)));
+          ready = (
+            there .0,
+            there .1,
+            subst (λ (j : ℕ). RunPlaced ns k′ j (m - (i + 1))) further
+                (subst (λ (j : ℕ). RunPlaced ns k′ (s + i + 1) j) fewer (there .2)),
+          );
           within = omega (arith, h);
           counted = rw ek (ap (λ (y : Lengths). withCounts y K) (G .counted));
           long = l ∙ G .long;
@@ -124,7 +135,8 @@ module _ (ns bs : List ℕ) (x : Default) (s m g : ℕ) (ws₀ : List ℕ) (k₀
             same-sizes : sizes (argumentTerms vs ns bs k′ (s + i + 1) (m - i - 1)) ≡ sizes (argumentTerms ws ns bs k (s + i + 1) (m - i - 1))
             same-sizes = law.rest-same ws ns bs k (G .ready .0) x (G .ready .1) (s + i) (m - i) i (G .ready .2) ids left a ea vs w ew c K z k′ ek
 
-            on : argumentsResolved vs k′ x (argumentTerms vs ns bs k′ (s + i + 1) (m - i - 1)) (i + 1) (set ids i (c .0)) ≡ argumentsResolved ws k x (argumentTerms ws ns bs k (s + i) (m - i)) i ids
+            on : argumentsResolved vs k′ x (argumentTerms vs ns bs k′ (s + i + 1) (m - i - 1)) (i + 1)
+                (set ids i (c .0)) ≡ argumentsResolved ws k x (argumentTerms ws ns bs k (s + i) (m - i)) i ids
             on = law.arguments-made ws ns bs k (G .ready .0) x (G .ready .1) (s + i) (m - i) i (G .ready .2) ids left a ea vs w ew c K z k′ ek
 
   -- no argument is left: the range, and the whole
@@ -136,24 +148,34 @@ module _ (ns bs : List ℕ) (x : Default) (s m g : ℕ) (ws₀ : List ℕ) (k₀
     made = law.no-arguments ws ns bs k (G .ready .0) x (G .ready .1) (s + i) (m - i) i (G .ready .2) ids (omega (arith, h)) (countsIn k) refl ∙ G .same
 
     pub range-ready : Ready ws ns bs k × DefaultBelow (k .sorts) x × Placed k g
-    range-ready = law.range-ready ws₀ ns bs k₀ (G .entered .0) x (G .entered .1) s m g (G .entered .2) (G .entered .3) ws all made (countsIn k) refl k (G .counted)
+    range-ready = law.range-ready ws₀ ns bs k₀ (G .entered .0) x (G .entered .1) s m g (G .entered .2) (G .entered .3)
+        ws all made (countsIn k) refl k (G .counted)
 
     pub range-falls : size (valueIn ws ns bs k g) < size (functionTerm ws₀ ns bs k₀ s m g)
     range-falls =
-        omega (arith, parts, law.range-same ws₀ ns bs k₀ (G .entered .0) x (G .entered .1) s m g (G .entered .2) (G .entered .3) ws all made (countsIn k) refl k (G .counted))
+        omega (
+          arith,
+          parts,
+          law.range-same ws₀ ns bs k₀ (G .entered .0) x (G .entered .1) s m g (G .entered .2)
+              (G .entered .3) ws all made (countsIn k) refl k (G .counted),
+        )
 
     module _ (vs : List ℕ) (w : Joined) (ew : storedAt vs w ≡ termResolved ws k x (valueIn ws ns bs k g)) where
       pub range-stops : (K : Counts) → w ≡ Nothing K → storedAt vs (Nothing K) ≡ termResolved ws₀ k₀ x (functionTerm ws₀ ns bs k₀ s m g)
-      range-stops = law.range-stops ws₀ ns bs k₀ (G .entered .0) x (G .entered .1) s m g (G .entered .2) (G .entered .3) ws all made (countsIn k) refl k (G .counted) vs w ew
+      range-stops = law.range-stops ws₀ ns bs k₀ (G .entered .0) x (G .entered .1) s m g (G .entered .2)
+          (G .entered .3) ws all made (countsIn k) refl k (G .counted) vs w ew
 
       pub range-ends : w ≡ Full → storedAt vs Full ≡ termResolved ws₀ k₀ x (functionTerm ws₀ ns bs k₀ s m g)
-      range-ends = law.range-ends ws₀ ns bs k₀ (G .entered .0) x (G .entered .1) s m g (G .entered .2) (G .entered .3) ws all made (countsIn k) refl k (G .counted) vs w ew
+      range-ends = law.range-ends ws₀ ns bs k₀ (G .entered .0) x (G .entered .1) s m g (G .entered .2) (G .entered .3)
+          ws all made (countsIn k) refl k (G .counted) vs w ew
 
       module _ (c : SortId) (K : Counts) (z : w ≡ At c K) where
         pub function-asked : Checked vs (K .sorts) (K .entries) × (c .0 < K .sorts) × (m ≤ 16) × AllBelow (K .sorts) (take m ids)
-        function-asked = law.function-asked ws₀ ns bs k₀ (G .entered .0) x (G .entered .1) s m g (G .entered .2) (G .entered .3) ws all made (countsIn k) refl k (G .counted) vs w ew c K z
+        function-asked = law.function-asked ws₀ ns bs k₀ (G .entered .0) x (G .entered .1) s m g (G .entered .2)
+            (G .entered .3) ws all made (countsIn k) refl k (G .counted) vs w ew c K z
 
         pub function-made : (us : List ℕ) (v : Joined)
             → storedAt us v ≡ internAt vs (K .sorts) (K .entries) (function (lookAll (trees vs (K .sorts)) (take m ids)) (look (trees vs (K .sorts)) (c .0)))
             → storedAt us v ≡ termResolved ws₀ k₀ x (functionTerm ws₀ ns bs k₀ s m g)
-        function-made = law.function-made ws₀ ns bs k₀ (G .entered .0) x (G .entered .1) s m g (G .entered .2) (G .entered .3) ws all made (countsIn k) refl k (G .counted) vs w ew c K z
+        function-made = law.function-made ws₀ ns bs k₀ (G .entered .0) x (G .entered .1) s m g (G .entered .2)
+            (G .entered .3) ws all made (countsIn k) refl k (G .counted) vs w ew c K z

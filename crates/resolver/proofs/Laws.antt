@@ -103,7 +103,8 @@ module _ (ws ns bs : List ℕ) (k : Lengths) (q : Ready ws ns bs k) (x : Default
   formed p i = value-formed ws n e ns (k .nodes) (k .arguments) (k .variables) (q .nodes) B (q .binds) p i
 
   run-formed : (s c : ℕ) → RunPlaced ns k s c → AllFormed (termsAt val (nodeEntriesOf ns s c))
-  run-formed s c r = terms-formed val (nodeEntriesOf ns s c) (λ p o. formed p (each-of-run (nodeEntryAt ns) (nodeEntriesOf ns) (node-runs ns) (Placed k) s c (r .places) p o))
+  run-formed s c r = terms-formed val (nodeEntriesOf ns s c) (λ p o. formed p (each-of-run (nodeEntryAt ns)
+      (nodeEntriesOf ns) (node-runs ns) (Placed k) s c (r .places) p o))
 
   run-count : (s c : ℕ) → count (termsAt val (nodeEntriesOf ns s c)) ≡ c
   run-count s c = count-terms val (nodeEntriesOf ns s c) ∙ length-node-entries ns s c
@@ -130,7 +131,8 @@ module _ (ws ns bs : List ℕ) (k : Lengths) (q : Ready ws ns bs k) (x : Default
           ap (storedAt ws) (v ∙ ap (λ d. freeSort d x) z)
           ∙ (go x dx
           ∙ ap (λ t. stored ws n e (resolveTerm X t S))
-          (sym (code.value-of-variable ws n e ns (k .nodes) (k .arguments) (k .variables) (q .nodes) B (q .binds) p end f (u .0) (shape-of-variable ws ns k (q .nodes) end end-placed l r j u y))))
+          (sym (code.value-of-variable ws n e ns (k .nodes) (k .arguments) (k .variables) (q .nodes) B (q .binds) p
+          end f (u .0) (shape-of-variable ws ns k (q .nodes) end end-placed l r j u y))))
         where
           go : (y : Default) → DefaultBelow n y → storedAt ws (freeSort C y) ≡ stored ws n e (resolveTerm (defaultOf (trees ws n) y) (var (u .0)) S)
           go (Is d) b = answer-old ws C checked d b
@@ -142,7 +144,8 @@ module _ (ws ns bs : List ℕ) (k : Lengths) (q : Ready ws ns bs k) (x : Default
 
         is-container : val p ≡ term
         is-container =
-            code.value-of-container ws n e ns (k .nodes) (k .arguments) (k .variables) (q .nodes) B (q .binds) p end f o (s .0) (ways.generic-shape ws ns bs k q 0 p end i f l r j o s y)
+            code.value-of-container ws n e ns (k .nodes) (k .arguments) (k .variables) (q .nodes) B (q .binds) p end f
+            o (s .0) (ways.generic-shape ws ns bs k q 0 p end i f l r j o s y)
 
         pub part-placed : Placed k (s .0)
         part-placed = ways.subsort-placed ws ns bs k q 0 p end i f l r j o s y
@@ -174,7 +177,8 @@ module _ (ws ns bs : List ℕ) (k : Lengths) (q : Ready ws ns bs k) (x : Default
               code.part-below ws C checked X default-in (val (s .0)) (formed (s .0) part-placed) vs a ea′ c K z,
             )
 
-            pub container-made : (us : List ℕ) (w : Joined) → storedAt us w ≡ internAt vs (K .sorts) (K .entries) (container o (look (trees vs (K .sorts)) (c .0))) → storedAt us w ≡ termResolved ws k x (val p)
+            pub container-made : (us : List ℕ) (w : Joined) → storedAt us w ≡ internAt vs (K .sorts) (K .entries)
+                (container o (look (trees vs (K .sorts)) (c .0))) → storedAt us w ≡ termResolved ws k x (val p)
             unfolding termResolved
             container-made us w g = code.container-made ws C checked X default-in (val (s .0)) (formed (s .0) part-placed) vs a ea′ c K z o us w g ∙ whole
 
@@ -191,17 +195,21 @@ module _ (ws ns bs : List ℕ) (k : Lengths) (q : Ready ws ns bs k) (x : Default
         pub is-function : val p ≡ app (functionHead (d .count)) (termsAt val (args ++ (s .0 ∷ [])))
         is-function =
             code.value-of-function ws n e ns (k .nodes) (k .arguments) (k .variables) (q .nodes) B (q .binds) p end f args (s .0)
-            (ways.function-shape ws ns bs k q 0 p end i f l r j d s y ∙ ap (λ (c : ℕ). over (functionHead c) (args ++ (s .0 ∷ []))) (sym (length-node-entries ns (d .start) (d .count))))
+            (ways.function-shape ws ns bs k q 0 p end i f l r j d s y ∙ ap (λ (c : ℕ). over (functionHead c)
+            (args ++ (s .0 ∷ []))) (sym (length-node-entries ns (d .start) (d .count))))
             ∙ ap₂ (λ (c : ℕ) (ts : Terms). app (functionHead c) ts) (run-count (d .start) (d .count)) (sym (code.terms-with-last val args (s .0)))
 
         pub function-size : size (app (functionHead (d .count)) (termsAt val (args ++ (s .0 ∷ [])))) ≡ size (val p)
         function-size = ap size (sym is-function)
 
-        pub function-resolved : (vs : List ℕ) (w : Joined) → storedAt vs w ≡ termResolved ws k x (app (functionHead (d .count)) (termsAt val (args ++ (s .0 ∷ [])))) → storedAt vs w ≡ termResolved ws k x (val p)
+        pub function-resolved : (vs : List ℕ) (w : Joined) → storedAt vs w ≡ termResolved ws k x
+            (app (functionHead (d .count)) (termsAt val (args ++ (s .0 ∷ [])))) → storedAt vs w ≡ termResolved ws k x
+            (val p)
         function-resolved vs w g = g ∙ ap (termResolved ws k x) (sym is-function)
 
   -- from the lists that a call has left
-  module _ (S₁ : Sorts) (g : Grown ws n e S₁) (vs : List ℕ) (K : Counts) (w : vs ≡ after ws n e S₁) (c : K ≡ countsOf S₁) (k′ : Lengths) (ek : k′ ≡ withCounts k K) where
+  module _ (S₁ : Sorts) (g : Grown ws n e S₁) (vs : List ℕ) (K : Counts) (w : vs ≡ after ws n e S₁)
+      (c : K ≡ countsOf S₁) (k′ : Lengths) (ek : k′ ≡ withCounts k K) where
     ready-left : Ready vs ns bs k′
     ready-left = rw (ek, w, c) (ready-with-more-sorts ws ns bs k q S₁ g)
 
@@ -234,11 +242,15 @@ module _ (ws ns bs : List ℕ) (k : Lengths) (q : Ready ws ns bs k) (x : Default
     values-left : (s m : ℕ) → RunPlaced ns k s m → termsAt (valueIn vs ns bs k′) (nodeEntriesOf ns s m) ≡ termsAt val (nodeEntriesOf ns s m)
     values-left s m r =
         rw ek
-        (code.left-values ws n e ns (k .nodes) (k .arguments) (k .variables) (q .nodes) B (q .binds) S₁ g vs K w c (nodeEntriesOf ns s m) (λ p o. each-of-run (nodeEntryAt ns) (nodeEntriesOf ns) (node-runs ns) (Placed k) s m (r .places) p o))
+        (code.left-values ws n e ns (k .nodes) (k .arguments) (k .variables) (q .nodes) B (q .binds) S₁ g vs K w c
+        (nodeEntriesOf ns s m) (λ p o. each-of-run (nodeEntryAt ns) (nodeEntriesOf ns) (node-runs ns) (Placed k) s
+        m (r .places) p o))
 
-    resolved-left : (p : ℕ) → Placed k p → termResolved vs k′ x (valueIn vs ns bs k′ p) ≡ stored vs (K .sorts) (K .entries) (resolveTerm X (val p) (sortsOf vs (K .sorts) (K .entries)))
+    resolved-left : (p : ℕ) → Placed k p → termResolved vs k′ x (valueIn vs ns bs k′ p) ≡ stored vs (K .sorts)
+        (K .entries) (resolveTerm X (val p) (sortsOf vs (K .sorts) (K .entries)))
     unfolding termResolved
-    resolved-left p i = ap (termResolved vs k′ x) (value-left p i) ∙ rw ek (ap (λ y. stored vs (K .sorts) (K .entries) (resolveTerm y (val p) (sortsOf vs (K .sorts) (K .entries)))) default-same)
+    resolved-left p i = ap (termResolved vs k′ x) (value-left p i) ∙ rw ek (ap (λ y. stored vs (K .sorts) (K .entries)
+        (resolveTerm y (val p) (sortsOf vs (K .sorts) (K .entries)))) default-same)
 
     arguments-left : (s m : ℕ) → RunPlaced ns k s m → (t : ℕ) (ids : List ℕ)
         → argumentsResolved vs k′ x (termsAt (valueIn vs ns bs k′) (nodeEntriesOf ns s m)) t ids
@@ -246,7 +258,8 @@ module _ (ws ns bs : List ℕ) (k : Lengths) (q : Ready ws ns bs k) (x : Default
     unfolding argumentsResolved
     arguments-left s m r t ids =
         ap (λ ts. argumentsResolved vs k′ x ts t ids) (values-left s m r)
-        ∙ rw ek (ap (λ y. domainOf vs (K .sorts) (K .entries) t ids (resolveArguments y (termsAt val (nodeEntriesOf ns s m)) (sortsOf vs (K .sorts) (K .entries)))) default-same)
+        ∙ rw ek (ap (λ y. domainOf vs (K .sorts) (K .entries) t ids (resolveArguments y
+        (termsAt val (nodeEntriesOf ns s m)) (sortsOf vs (K .sorts) (K .entries)))) default-same)
 
   -- a run of arguments
   module _ (s m t : ℕ) (r : RunPlaced ns k s m) (ids : List ℕ) where
@@ -291,7 +304,8 @@ module _ (ws ns bs : List ℕ) (k : Lengths) (q : Ready ws ns bs k) (x : Default
         back : argumentsResolved ws k x (part (val a) rest) t ids ≡ argumentsResolved ws k x run t ids
         back = ap (λ ts. argumentsResolved ws k x ts t ids) (sym first-and-rest)
 
-        pub arguments-stop : (K : Counts) → w ≡ Nothing K → storedDomain vs (record { ids = replicate 16 0; found = NotAll K }) ≡ argumentsResolved ws k x run t ids
+        pub arguments-stop : (K : Counts) → w ≡ Nothing K
+            → storedDomain vs (record { ids = replicate 16 0; found = NotAll K }) ≡ argumentsResolved ws k x run t ids
         unfolding argumentsResolved
         arguments-stop K z = code.arguments-stop ws C checked X default-in (val a) (formed a first-here) vs w ew′ rest t ids K z ∙ back
 
@@ -313,11 +327,14 @@ module _ (ws ns bs : List ℕ) (k : Lengths) (q : Ready ws ns bs k) (x : Default
           pub rest-same : sizes (termsAt (valueIn vs ns bs k′) (nodeEntriesOf ns (s + 1) (m - 1))) ≡ sizes rest
           rest-same = ap sizes (values-left (reached .sorts) (reached .grown) vs K (reached .words) (reached .counted) k′ ek (s + 1) (m - 1) rest-run)
 
-          pub arguments-made : argumentsResolved vs k′ x (termsAt (valueIn vs ns bs k′) (nodeEntriesOf ns (s + 1) (m - 1))) (t + 1) (set ids t (c .0)) ≡ argumentsResolved ws k x run t ids
+          pub arguments-made : argumentsResolved vs k′ x (termsAt (valueIn vs ns bs k′) (nodeEntriesOf ns (s + 1)
+              (m - 1))) (t + 1) (set ids t (c .0)) ≡ argumentsResolved ws k x run t ids
           unfolding argumentsResolved
           arguments-made =
-              code.arguments-made ws C checked X default-in (val a) (formed a first-here) vs w ew′ c K z rest (run-formed (s + 1) (m - 1) rest-run) t ids (there .words) (there .domain)
-              (arguments-left (reached .sorts) (reached .grown) vs K (reached .words) (reached .counted) k′ ek (s + 1) (m - 1) rest-run (t + 1) (set ids t (c .0)))
+              code.arguments-made ws C checked X default-in (val a) (formed a first-here) vs w ew′ c K z rest
+              (run-formed (s + 1) (m - 1) rest-run) t ids (there .words) (there .domain)
+              (arguments-left (reached .sorts) (reached .grown) vs K (reached .words) (reached .counted) k′ ek (s + 1)
+              (m - 1) rest-run (t + 1) (set ids t (c .0)))
               ∙ back
             where
               there : StoredDomain
@@ -391,9 +408,11 @@ module _ (ws ns bs : List ℕ) (k : Lengths) (q : Ready ws ns bs k) (x : Default
             )
 
             pub function-made : (zs : List ℕ) (v : Joined)
-                → storedAt zs v ≡ internAt us (K₂ .sorts) (K₂ .entries) (function (lookAll (trees us (K₂ .sorts)) (take m (a .ids))) (look (trees us (K₂ .sorts)) (c .0)))
+                → storedAt zs v ≡ internAt us (K₂ .sorts) (K₂ .entries) (function (lookAll (trees us (K₂ .sorts))
+                (take m (a .ids))) (look (trees us (K₂ .sorts)) (c .0)))
                 → storedAt zs v ≡ termResolved ws k x term-of-function
             function-made zs v h =
                 code.function-made ws C checked X default-in ts (run-formed s m r) few (val g) (formed g i) vs a ed K z us w ew″ c K₂ y zs v
-                (h ∙ ap (λ (j : ℕ). internAt us (K₂ .sorts) (K₂ .entries) (function (lookAll (trees us (K₂ .sorts)) (take j (a .ids))) (look (trees us (K₂ .sorts)) (c .0)))) (sym (run-count s m)))
+                (h ∙ ap (λ (j : ℕ). internAt us (K₂ .sorts) (K₂ .entries) (function (lookAll (trees us (K₂ .sorts))
+                (take j (a .ids))) (look (trees us (K₂ .sorts)) (c .0)))) (sym (run-count s m)))
                 ∙ to-whole

@@ -50,7 +50,12 @@ part-sets vs l a n e h =
     ∙ (ap (take n) (drop-at (take a l) (vs ++ drop (a + length vs) l) a (length-take-le a l (omega (arith, h)))) ∙ take-at vs (drop (a + length vs) l) n e)
 
 stored-changes-only : (vs l : List ℕ) (a n : ℕ) → length vs ≡ n → ChangedOnly a (a + n) l (sets l a vs)
-stored-changes-only vs l a n e = record { front = take-sets vs l a a (omega arith); back = drop-sets vs l (a + n) a (omega (arith, e)); long = length-sets l a vs }
+stored-changes-only vs l a n e = record {
+  front = take-sets vs l a a (omega arith);
+  back = drop-sets vs l (a + n) a
+      (omega (arith, e));
+  long = length-sets l a vs;
+}
 
 unchanged : (l : List ℕ) (a b : ℕ) → ChangedOnly a b l l
 unchanged l a b = record { front = refl; back = refl; long = refl }
@@ -62,7 +67,11 @@ module _ (ws : List ℕ) (k : Lengths) (ids : List ℕ) (m : ℕ) (sc : List ℕ
 
   pub nothing-agrees : m ≡ 0 → (ns : List ℕ) → AgreesOn ns sc e m (agreed (take m ids) (lent ws ns k)) ws sc (NoSort k)
   unfolding agreed
-  nothing-agrees z ns = record { says = ap (λ (n : ℕ). agreed (take n ids) (lent ws ns k)) (sym z); changed = unchanged sc (measureAt + e .measure) (measureAt + e .measure + m) }
+  nothing-agrees z ns = record {
+    says = ap (λ (n : ℕ). agreed (take n ids) (lent ws ns k)) (sym z);
+    changed =
+        unchanged sc (measureAt + e .measure) (measureAt + e .measure + m);
+  }
 
   module _ (not-none : m ≡ 0 → ⊥) where
     some-left : 0 < m
@@ -93,7 +102,8 @@ module _ (ws : List ℕ) (k : Lengths) (ids : List ℕ) (m : ℕ) (sc : List ℕ
         unfolding AllBelow
         left =
             subst (LeavesSort (lent ws [] k)) (sym (er []) ∙ ap (madeOf vs []) z)
-            (joins-leave (drop 1 (take m ids)) (lent ws [] k) (getD ids 0 0) (asked .0 .checked) (first-below ids m long 0 some-left (k .sorts) (asked .0 .below)) others)
+            (joins-leave (drop 1 (take m ids)) (lent ws [] k) (getD ids 0 0) (asked .0 .checked) (first-below ids m
+            long 0 some-left (k .sorts) (asked .0 .below)) others)
           where
             others : AllBelow (k .sorts) (drop 1 (take m ids))
             others = (subst (AllBelow (k .sorts)) (firsts-left ids m long 0 some-left) (asked .0 .below)) .1
@@ -106,7 +116,8 @@ module _ (ws : List ℕ) (k : Lengths) (ids : List ℕ) (m : ℕ) (sc : List ℕ
           abbrev heads : List ℕ
           heads = headsTo vs (l .sorts) (c .0) (take m ids)
 
-          by-test : (x : Bool) → b ≡ x → (ns : List ℕ) → cond x (made (record { sort = c .0; components = heads }) (lent vs ns l)) (no-list (lent vs ns l)) ≡ agreed (take m ids) (lent ws ns k)
+          by-test : (x : Bool) → b ≡ x → (ns : List ℕ) → cond x (made (record { sort = c .0; components = heads })
+              (lent vs ns l)) (no-list (lent vs ns l)) ≡ agreed (take m ids) (lent ws ns k)
           by-test x f ns =
               ap (λ y. cond y (made (record { sort = c .0; components = heads }) (lent vs ns l)) (no-list (lent vs ns l))) (sym f ∙ eb ns) ∙ by (Is c l) z ns
 
@@ -122,7 +133,8 @@ module _ (ws : List ℕ) (k : Lengths) (ids : List ℕ) (m : ℕ) (sc : List ℕ
                     ap (λ cs. made (record { sort = c .0; components = cs }) (lent vs ns l))
                     (ap (part (measureAt + e .measure) m) es ∙ part-sets heads sc (measureAt + e .measure) m many (omega (arith, asked .1, asked .2)))
                     ∙ by-test true f ns;
-                changed = subst (ChangedOnly (measureAt + e .measure) (measureAt + e .measure + m) sc) (sym es) (stored-changes-only heads sc (measureAt + e .measure) m many);
+                changed = subst (ChangedOnly (measureAt + e .measure) (measureAt + e .measure + m) sc) (sym es)
+                    (stored-changes-only heads sc (measureAt + e .measure) m many);
               }
 
 -- The sources of a Join.
@@ -165,6 +177,7 @@ module _ (ws ns bs sc ls : List ℕ) (k : Lengths) (e : Branch) (run : Run) (ask
               subst (MadeSorts (λ U ss. StandAll W B Nothing U ps ss) (NoDefault Nothing) W) (sym er ∙ ap (extractedOf vs ns ids 0 (run .count)) z)
               (resolve-all-makes W (asked .ready .nodes) B (asked .ready .binds) Nothing tt ps (asked .placed) W (sorts-only-refl W (asked .ready .nodes)))
 
-      pub sources-agree : (us sc′ : List ℕ) (x : Made) → ((os : List ℕ) → AgreesOn os sc e (run .count) (agreed (take (run .count) ids) (lent vs os l)) us sc′ x)
+      pub sources-agree : (us sc′ : List ℕ) (x : Made)
+          → ((os : List ℕ) → AgreesOn os sc e (run .count) (agreed (take (run .count) ids) (lent vs os l)) us sc′ x)
           → AgreesOn ns sc e (run .count) (joinOf B ps W) us sc′ x
       sources-agree us sc′ x a = subst (λ O. AgreesOn ns sc e (run .count) O us sc′ x) (by-sources (All l) z) (a ns)

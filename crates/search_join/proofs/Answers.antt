@@ -50,7 +50,8 @@ module _ (ws ns : List ℕ) (k : Lengths) (vs : List ℕ) where
   unfolding resolveIn
   sort-made bs p j r e f = made-by j r e (termResolved ws k Nothing (valueIn ws ns bs k p)) f
 
-  pub join-made : (a b : ℕ) (j : Joined) (r : Made) → r ≡ madeFrom k j → storedAt vs j ≡ boundAt true ws (k .sorts) (k .entries) a b → madeOf vs ns r ≡ joinIn a b (lent ws ns k)
+  pub join-made : (a b : ℕ) (j : Joined) (r : Made) → r ≡ madeFrom k j → storedAt vs j ≡ boundAt true ws (k .sorts)
+      (k .entries) a b → madeOf vs ns r ≡ joinIn a b (lent ws ns k)
   unfolding joinIn
   join-made a b j r e f = made-by j r e (boundAt true ws (k .sorts) (k .entries) a b) f
 

@@ -33,7 +33,8 @@ module _ (W : Lent) (j : ℕ) where
   one-out : (xs : List ℕ) (i : ℕ) → i < length xs → Into (W .sorts) (W .lengths .sorts) j (getD xs i 0) ≡ false → allInto W j xs ≡ false
   one-out [] i l e = absurd (omega (arith, l))
   one-out (x ∷ xs) zero l e = ap (λ b. b && allInto W j xs) e
-  one-out (x ∷ xs) (suc i) l e = ap (λ b. Into (W .sorts) (W .lengths .sorts) j x && b) (one-out xs i (omega (arith, l)) e) ∙ and-false (Into (W .sorts) (W .lengths .sorts) j x)
+  one-out (x ∷ xs) (suc i) l e = ap (λ b. Into (W .sorts) (W .lengths .sorts) j x && b)
+      (one-out xs i (omega (arith, l)) e) ∙ and-false (Into (W .sorts) (W .lengths .sorts) j x)
     where
       and-false : (b : Bool) → b && false ≡ false
       and-false true = refl
@@ -73,7 +74,8 @@ module _ (ws : List ℕ) (k : Lengths) (ids : List ℕ) (m : ℕ) (j : ℕ) (ask
           (one-out (lent ws ns k) j (take m ids) i (omega (arith, h, length-first ids m long))
           (ap (Into ws (k .sorts) j) (first-at ids m long i h) ∙ (ap (λ (n : ℕ). Into ws n j (getD ids i 0)) (sym same-sorts) ∙ (at-word ∙ f))))
 
-      pub one-more-is : b ≡ true → ((x : ℕ) → x < i → Into ws (C .sorts) j (getD ids x 0) ≡ true) → (x : ℕ) → x < i + 1 → Into ws (C .sorts) j (getD ids x 0) ≡ true
+      pub one-more-is : b ≡ true → ((x : ℕ) → x < i → Into ws (C .sorts) j (getD ids x 0) ≡ true) → (x : ℕ)
+          → x < i + 1 → Into ws (C .sorts) j (getD ids x 0) ≡ true
       one-more-is f g = below-more _ _ g (at-word ∙ f)
 
   pub all-are : (i : ℕ) → m ≤ i → ((x : ℕ) → x < i → Into ws (C .sorts) j (getD ids x 0) ≡ true) → (ns : List ℕ) → true ≡ allInto (lent ws ns k) j (take m ids)

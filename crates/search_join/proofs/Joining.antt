@@ -62,7 +62,8 @@ module _ (W : Lent) (a b : ℕ) (q : AskedIn W a b) where
   unfolding boundAt
   join-reaches c K z =
       reached ws n e (sortsOf ws n e) O
-      (make-kept ws n e true (look (trees ws n) a) (look (trees ws n) b) (sortsOf ws n e) (grown-none ws n e (q .checked)) (look-whole ws n e (q .checked) a (q .lhs)) (look-whole ws n e (q .checked) b (q .rhs)))
+      (make-kept ws n e true (look (trees ws n) a) (look (trees ws n) b) (sortsOf ws n e) (grown-none ws n e
+      (q .checked)) (look-whole ws n e (q .checked) a (q .lhs)) (look-whole ws n e (q .checked) b (q .rhs)))
       (r .words) c K (ap (storedAt (r .words)) (sym z))
 
   join-leaves : LeavesSort W (joinIn a b W)
@@ -80,7 +81,8 @@ module _ (W : Lent) (a b : ℕ) (q : AskedIn W a b) where
       go Full z = tt
 
 leaves-then : (W : Lent) (O : Makes ℕ) (f : ℕ → Lent → Makes ℕ) → LeavesSort W O
-    → ((c : ℕ) (U : Lent) → Checked (U .sorts) (U .lengths .sorts) (U .lengths .entries) → c < U .lengths .sorts → W .lengths .sorts ≤ U .lengths .sorts → LeavesSort U (f c U)) → LeavesSort W (O and-then f)
+    → ((c : ℕ) (U : Lent) → Checked (U .sorts) (U .lengths .sorts) (U .lengths .entries) → c < U .lengths .sorts
+    → W .lengths .sorts ≤ U .lengths .sorts → LeavesSort U (f c U)) → LeavesSort W (O and-then f)
 leaves-then W (made c U) f x g = on (f c U) (g c U (x .0) (x .1) (x .2))
   where
     on : (Q : Makes ℕ) → LeavesSort U Q → LeavesSort W Q
@@ -90,7 +92,8 @@ leaves-then W (made c U) f x g = on (f c U) (g c U (x .0) (x .1) (x .2))
 leaves-then W (no-list U) f x g = tt
 leaves-then W (no-room d U) f x g = tt
 
-pub joins-leave : (bs : List ℕ) (W : Lent) (a : ℕ) → Checked (W .sorts) (W .lengths .sorts) (W .lengths .entries) → a < W .lengths .sorts → AllBelow (W .lengths .sorts) bs
+pub joins-leave : (bs : List ℕ) (W : Lent) (a : ℕ) → Checked (W .sorts) (W .lengths .sorts) (W .lengths .entries)
+    → a < W .lengths .sorts → AllBelow (W .lengths .sorts) bs
     → LeavesSort W (joinAll a bs W)
 unfolding joinAll AllBelow
 joins-leave [] W a c x y = (c, x, omega arith)
@@ -150,11 +153,17 @@ module _ (ids : List ℕ) (m : ℕ) (ws₀ : List ℕ) (k₀ : Lengths) (ws : Li
 
         pub next : length vs ≡ length ws → (c : SortId) (l : Lengths) → r ≡ Is c l → Going ids m ws₀ k₀ vs (c .0) l (i + 1)
         next f c l z =
-            let x : LeavesSort (lent ws [] k) (made (c .0) (lent vs [] l)) = subst (LeavesSort (lent ws [] k)) (sym (er []) ∙ ap (madeOf vs []) z) (join-leaves (lent ws [] k) lub b asked) in
+            let x : LeavesSort (lent ws [] k) (made (c .0) (lent vs [] l)) = subst (LeavesSort (lent ws [] k))
+            (sym (er []) ∙ ap (madeOf vs []) z) (join-leaves (lent ws [] k) lub b asked) in
             record {
               within = omega (arith, h);
               long = f ∙ G .long;
-              resolved = record { checked = x .0; there = G .resolved .there; below = weaken-all (k .sorts) (l .sorts) (take m ids) (x .2) (G .resolved .below) };
+              resolved = record {
+                checked = x .0;
+                there = G .resolved .there;
+                below = weaken-all (k .sorts) (l .sorts)
+                    (take m ids) (x .2) (G .resolved .below);
+              };
               below = x .1;
               same = by (Is c l) z;
             }

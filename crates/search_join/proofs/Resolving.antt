@@ -56,7 +56,8 @@ pub record Going (ns bs ls : List ℕ) (s m : ℕ) (ws₀ ids₀ : List ℕ) (k�
   pub within : i ≤ m
   pub many : length ids ≡ length ids₀
   pub grown : SortsOnly (lent ws₀ ns k₀) (lent ws ns k)
-  pub same : before (take i ids) (allOf (bindsOf bs (k₀ .variables)) ls (s + i) (m - i) (lent ws ns k)) ≡ allOf (bindsOf bs (k₀ .variables)) ls s m (lent ws₀ ns k₀)
+  pub same : before (take i ids) (allOf (bindsOf bs (k₀ .variables)) ls (s + i) (m - i) (lent ws ns k)) ≡ allOf
+      (bindsOf bs (k₀ .variables)) ls s m (lent ws₀ ns k₀)
 
 pub start : (ws ns bs ls ids : List ℕ) (k : Lengths) (run : Run) → Sources ws ns bs ls ids k run → Going ns bs ls (run .start) (run .count) ws ids k ws ids k 0
 start ws ns bs ls ids k run e =
@@ -68,7 +69,8 @@ start ws ns bs ls ids k run e =
       same = simp unary-clauses (before-none (allOf (bindsOf bs (k .variables)) ls (run .start) (run .count) (lent ws ns k)));
     }
 
-module _ (ns bs ls : List ℕ) (s m : ℕ) (ws₀ ids₀ : List ℕ) (k₀ : Lengths) (ws ids : List ℕ) (k : Lengths) (i : ℕ) (G : Going ns bs ls s m ws₀ ids₀ k₀ ws ids k i) where
+module _ (ns bs ls : List ℕ) (s m : ℕ) (ws₀ ids₀ : List ℕ) (k₀ : Lengths) (ws ids : List ℕ) (k : Lengths) (i : ℕ)
+    (G : Going ns bs ls s m ws₀ ids₀ k₀ ws ids k i) where
   abbrev W₀ : Lent
   W₀ = lent ws₀ ns k₀
 
@@ -96,8 +98,11 @@ module _ (ns bs ls : List ℕ) (s m : ℕ) (ws₀ ids₀ : List ℕ) (k₀ : Len
 
     module _ (p : ℕ) (e : p ≡ sourceAt ls (s + i)) where
       pub source-ready : Ready ws ns bs k × Placed k p
-      source-ready =
-          (ready, placed-grown W₀ (G .entered .ready .nodes) W (G .grown .grows) p (subst (PlacedIn W₀) (sym e) (each-row (PlacedIn W₀) (sourceAt ls) s m (G .entered .placed) i h)))
+      source-ready = (
+        ready,
+        placed-grown W₀ (G .entered .ready .nodes) W (G .grown .grows) p (subst (PlacedIn W₀) (sym e)
+            (each-row (PlacedIn W₀) (sourceAt ls) s m (G .entered .placed) i h)),
+      )
 
       abbrev rest : ℕ → Lent → Makes (List ℕ)
       rest c U = allOf B ls (s + (i + 1)) (m - (i + 1)) U and-then (λ ss W. made (c ∷ ss) W)
@@ -129,7 +134,8 @@ module _ (ns bs ls : List ℕ) (s m : ℕ) (ws₀ ids₀ : List ℕ) (k₀ : Len
               many = ap length ex ∙ (length-set ids i (c .0) ∙ G .many);
               grown = sorts-only-trans W₀ W (lent vs ns l) (G .entered .ready .nodes) (G .grown) (made-sorts .0);
               same =
-                  ap (λ ys. before ys (allOf B ls (s + (i + 1)) (m - (i + 1)) (lent vs ns l))) (ap (take (i + 1)) ex ∙ one-more ids i (c .0) (omega (arith, G .many, G .entered .room, h)))
+                  ap (λ ys. before ys (allOf B ls (s + (i + 1)) (m - (i + 1)) (lent vs ns l))) (ap (take (i + 1)) ex ∙
+                  one-more ids i (c .0) (omega (arith, G .many, G .entered .room, h)))
                   ∙ (before-one (take i ids) (c .0) (allOf B ls (s + (i + 1)) (m - (i + 1)) (lent vs ns l)) ∙ by (Is c l) z);
             }
           where

@@ -52,7 +52,8 @@ module _ (a b n : ℕ) (sc : List ℕ) (apart : a + n ≤ b) (inside : b + n ≤
   pub copied-there : part b n (copied a b n sc) ≡ part a n sc
   copied-there =
       ap (part b n) split
-      ∙ (ap (take n) (drop-at (take b sc) (part a n sc ++ drop (b + n) sc) b b-long) ∙ take-at (part a n sc) (drop (b + n) sc) n (length-part a n sc (omega (arith, apart, inside))))
+      ∙ (ap (take n) (drop-at (take b sc) (part a n sc ++ drop (b + n) sc) b b-long) ∙ take-at (part a n sc)
+      (drop (b + n) sc) n (length-part a n sc (omega (arith, apart, inside))))
 
   pub copied-before : (j : ℕ) → j < b → getD (copied a b n sc) j 0 ≡ getD sc j 0
   copied-before j l =
@@ -71,7 +72,8 @@ module _ (a b n : ℕ) (sc₀ sc : List ℕ) (i : ℕ) (G : Copying a b n sc₀ 
         within = omega (arith, h);
         same =
             ap (λ (xs : List ℕ). set xs (b + i) (getD xs (a + i) 0)) (G .same)
-            ∙ (ap (set (copied a b i sc₀) (b + i)) (copied-before a b i sc₀ (omega (arith, G .apart, h)) (omega (arith, G .inside, h)) (a + i) (omega (arith, G .apart, h)) ∙ sym (getD-drop a sc₀ i 0))
+            ∙ (ap (set (copied a b i sc₀) (b + i)) (copied-before a b i sc₀ (omega (arith, G .apart, h))
+            (omega (arith, G .inside, h)) (a + i) (omega (arith, G .apart, h)) ∙ sym (getD-drop a sc₀ i 0))
             ∙ (paste-suc sc₀ b (drop a sc₀) i 0 (omega (arith, G .inside, h)) (omega (arith, length-drop a sc₀, G .apart, G .inside, h))
             ∙ ap (λ (j : ℕ). copied a b j sc₀) (sym (add-one i))));
       }
@@ -80,7 +82,8 @@ module _ (a b n : ℕ) (sc₀ sc : List ℕ) (i : ℕ) (G : Copying a b n sc₀ 
   all-copied h = let e : i ≡ n = omega (arith, h, G .within) in G .same ∙ ap (λ (j : ℕ). copied a b j sc₀) e
 
 -- What is kept.
-pub kept-by-two : (z : Sizes) (sc one two : List ℕ) → one ≡ copied measureAt bestMeasureAt (z .components) sc → two ≡ copied choicesAt bestChoicesAt (z .disjunctions) one → two ≡ keptAsBest z sc
+pub kept-by-two : (z : Sizes) (sc one two : List ℕ) → one ≡ copied measureAt bestMeasureAt (z .components) sc
+    → two ≡ copied choicesAt bestChoicesAt (z .disjunctions) one → two ≡ keptAsBest z sc
 unfolding keptAsBest
 kept-by-two z sc one two f g = g ∙ ap (copied choicesAt bestChoicesAt (z .disjunctions)) f
 
@@ -105,7 +108,8 @@ module _ (z : Sizes) (sc : List ℕ) (p : Keepable z sc) where
   second-changes : ChangedOnly bestChoicesAt scratchUsed one (keptAsBest z sc)
   unfolding keptAsBest
   second-changes =
-      changed-wider bestChoicesAt (bestChoicesAt + z .disjunctions) bestChoicesAt scratchUsed one (keptAsBest z sc) (omega arith) (omega (arith, p .disjunctions))
+      changed-wider bestChoicesAt (bestChoicesAt + z .disjunctions) bestChoicesAt scratchUsed one (keptAsBest z sc)
+      (omega arith) (omega (arith, p .disjunctions))
       (copied-changes choicesAt bestChoicesAt (z .disjunctions) one (choices-room one one-long .0) (choices-room one one-long .1))
 
   pub kept-measure : part bestMeasureAt (z .components) (keptAsBest z sc) ≡ part measureAt (z .components) sc
@@ -126,4 +130,5 @@ module _ (z : Sizes) (sc : List ℕ) (p : Keepable z sc) where
 
   pub kept-path : (e : Branch) → e .trail ≤ trailWords → e .measure ≤ maxComponents → e .choices ≤ maxConstraints → SamePath e sc (keptAsBest z sc)
   kept-path e t m c =
-      same-path-trans e sc one (keptAsBest z sc) (measure-changes-no-path e t m c sc one first-changes) (choices-change-no-path e t m c one (keptAsBest z sc) second-changes)
+      same-path-trans e sc one (keptAsBest z sc) (measure-changes-no-path e t m c sc one first-changes)
+      (choices-change-no-path e t m c one (keptAsBest z sc) second-changes)

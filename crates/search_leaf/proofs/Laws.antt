@@ -29,7 +29,9 @@ use Rattle.search_state.specs.declared.Extracted.{Extracted}
 use Rattle.search_state.specs.declared.Extracted.the-variants.{All, Nothing as Without, Full as NotAll}
 use Rattle.search_state.specs.declared.Ordering.{Ordering}
 use Rattle.search_state.specs.declared.Ordering.the-variants.{Less, Equal, Greater}
-use Rattle.search_state.specs.Inner.Memory.{exprAt, problemIn, chosenExprs, bestSortsAt, measureAt, bestMeasureAt, choicesAt, bestChoicesAt, scratchUsed, choicesOf, pathOf, candidateOf, bestOf, worldOf}
+use Rattle.search_state.specs.Inner.Memory.{exprAt, problemIn, chosenExprs, bestSortsAt, measureAt, bestMeasureAt}
+use Rattle.search_state.specs.Inner.Memory.{choicesAt, bestChoicesAt, scratchUsed, choicesOf, pathOf, candidateOf}
+use Rattle.search_state.specs.Inner.Memory.{bestOf, worldOf}
 use Rattle.words.specs.Words.{part}
 use Rattle.search_state.specs.Inner.Leaves.{extractedOf, Extracts, rankingOf}
 use Rattle.search_state.specs.Inner.Searching.{AtLeaf, SamePath, Comes}
@@ -84,11 +86,13 @@ module _ (ws ns bs sc ls : List ℕ) (z : Sizes) (k : State) (e : Branch) (p : A
     makes : Making r
     makes =
         subst (MadeSorts Sorts ⊥ W) (sym (q .says))
-        (resolve-all-makes W checked B (p .ready .binds) (Is (z .default)) (readable .default) (rowsFrom (exprAt ls) 0 (z .exprs)) (readable .placed) W (sorts-only-refl W checked))
+        (resolve-all-makes W checked B (p .ready .binds) (Is (z .default)) (readable .default) (rowsFrom (exprAt ls) 0
+        (z .exprs)) (readable .placed) W (sorts-only-refl W checked))
 
     abbrev next-incumbent : List ℕ → World (Unit {0}) → Out (Unit {0})
     next-incumbent ss v =
-        found (keeping (Unit {0}) nothingMet (problemIn ls z) v (here .measure) (record { measure = here .measure; sorts = ss; choices = here .choices; duplicate = false }))
+        found (keeping (Unit {0}) nothingMet (problemIn ls z) v (here .measure)
+        (record { measure = here .measure; sorts = ss; choices = here .choices; duplicate = false }))
 
     abbrev Says : Extracted → Type 0
     Says x = onMade (extractedOf ws′ ns sc′ bestSortsAt (z .exprs) x) next-incumbent missed world ≡ replaced
@@ -155,7 +159,8 @@ module _ (ws ns bs sc ls : List ℕ) (z : Sizes) (k : State) (e : Branch) (p : A
   ranksAs equal = found (worldOf ls z ws ns sc (incumbent (k .lengths) true))
   ranksAs greater = found world
 
-  leaf-ranks : (r : Ordering) → rankingOf r ≡ rankedBy (k .best) sc (e .measure) → ranksAs (rankingOf r) ≡ leaf (Unit {0}) nothingMet (problemIn ls z) here world
+  leaf-ranks : (r : Ordering) → rankingOf r ≡ rankedBy (k .best) sc (e .measure)
+      → ranksAs (rankingOf r) ≡ leaf (Unit {0}) nothingMet (problemIn ls z) here world
   unfolding leaf rankedBy bestOf candidateOf
   leaf-ranks r q = go (k .best) refl (rankingOf r) q
     where
@@ -164,7 +169,8 @@ module _ (ws ns bs sc ls : List ℕ) (z : Sizes) (k : State) (e : Branch) (p : A
       by equal f = refl
       by greater f = ap (λ (b : Bool). found (worldOf ls z ws ns sc (record { lengths = k .lengths; best = b; tied = k .tied }))) f
 
-      go : (b : Bool) → k .best ≡ b → (R : Ranking) → R ≡ rankedBy b sc (e .measure) → ranksAs R ≡ leafOver (Unit {0}) nothingMet (problemIn ls z) (bestOf ls z sc b (k .tied)) here world
+      go : (b : Bool) → k .best ≡ b → (R : Ranking) → R ≡ rankedBy b sc (e .measure)
+          → ranksAs R ≡ leafOver (Unit {0}) nothingMet (problemIn ls z) (bestOf ls z sc b (k .tied)) here world
       go true f R x =
           by R f
           ∙ ap (λ (Q : Ranking). leafBy (Unit {0}) nothingMet (problemIn ls z) Q (candidateOf ls z sc (k .tied)) here world)
@@ -180,7 +186,9 @@ module _ (ws ns bs sc ls : List ℕ) (z : Sizes) (k : State) (e : Branch) (p : A
     leaf-is : (o : Ordering) → r ≡ o → ranksAs (rankingOf o) ≡ leaf (Unit {0}) nothingMet (problemIn ls z) here world
     leaf-is o f = subst (λ (x : Ordering). ranksAs (rankingOf x) ≡ leaf (Unit {0}) nothingMet (problemIn ls z) here world) f (leaf-ranks r q)
 
-    pub less-replaces : r ≡ Less → (ws′ sc′ : List ℕ) (a : Answer) → Comes ls z ws ns bs sc k e (replace (Unit {0}) nothingMet (problemIn ls z)) ws′ ns bs sc′ a → ComesTo ws′ sc′ a
+    pub less-replaces : r ≡ Less → (ws′ sc′ : List ℕ) (a : Answer)
+        → Comes ls z ws ns bs sc k e (replace (Unit {0}) nothingMet (problemIn ls z)) ws′ ns bs sc′ a
+        → ComesTo ws′ sc′ a
     less-replaces f ws′ sc′ a d = record { says = d .says ∙ leaf-is Less f; grown = d .grown; binds = d .binds; path = d .path }
 
     pub equal-marks : r ≡ Equal → ComesTo ws sc (Found (incumbent (k .lengths) true))

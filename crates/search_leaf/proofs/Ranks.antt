@@ -82,7 +82,8 @@ unfolding rankedBy
 rank-without best sc n e = rw e
 
 -- Dominated is greater than as many components of the incumbent.
-pub dominated-is-greater : (sc : List ℕ) (z : Sizes) (k : State) (e : Branch) → Comparable sc z e → (r : Ordering) → rankingOf r ≡ rankedBy (k .best) sc (e .measure)
+pub dominated-is-greater : (sc : List ℕ) (z : Sizes) (k : State) (e : Branch) → Comparable sc z e → (r : Ordering)
+    → rankingOf r ≡ rankedBy (k .best) sc (e .measure)
     → (o : Ordering) → r ≡ o → IsDominated sc z k e (isGreater (rankingOf o))
 unfolding IsDominated rankedBy bestOf candidateOf worse
 dominated-is-greater sc z k e p r q o f ls = ap (λ (x : Ordering). isGreater (rankingOf x)) (sym f) ∙ go (k .best) q
@@ -92,6 +93,7 @@ dominated-is-greater sc z k e p r q o f ls = ap (λ (x : Ordering). isGreater (r
         ap (λ (n : ℕ). take n (part bestMeasureAt (z .components) sc)) (length-part measureAt (e .measure) sc (omega (arith, p .few, p .fits, p .long)))
         ∙ take-part bestMeasureAt (e .measure) (z .components) sc (p .few)
 
-    go : (b : Bool) → rankingOf r ≡ rankedBy b sc (e .measure) → isGreater (rankingOf r) ≡ dominatedBy (Unit {0}) nothingMet (problemIn ls z) (part measureAt (e .measure) sc) (bestOf ls z sc b (k .tied))
+    go : (b : Bool) → rankingOf r ≡ rankedBy b sc (e .measure) → isGreater (rankingOf r) ≡ dominatedBy (Unit {0})
+        nothingMet (problemIn ls z) (part measureAt (e .measure) sc) (bestOf ls z sc b (k .tied))
     go true f = ap isGreater (f ∙ ap (compare (part measureAt (e .measure) sc)) (sym same))
     go false f = ap isGreater f

@@ -39,7 +39,8 @@ use Rattle.words.proofs.Parts.{part-set-end}
 use Rattle.search_leaf.specs.Inner.Leaf.{Readable, sortsFrom}
 
 -- resolving a place, by what the code answers
-pub resolved-in : (ws ns bs : List ℕ) (k : Lengths) (x : Default) (p : ℕ) (vs : List ℕ) (w : Joined) → storedAt vs w ≡ termResolved ws k x (valueIn ws ns bs k p)
+pub resolved-in : (ws ns bs : List ℕ) (k : Lengths) (x : Default) (p : ℕ) (vs : List ℕ) (w : Joined)
+    → storedAt vs w ≡ termResolved ws k x (valueIn ws ns bs k p)
     → resolveIn x (bindsOf bs (k .variables)) p (lent ws ns k) ≡ makesSort (lent ws ns k) (storedAt vs w) w
 unfolding resolveIn
 resolved-in ws ns bs k x p vs w e = ap (λ (r : Stored). makesSort (lent ws ns k) r (r .answer)) (sym e)
@@ -57,7 +58,9 @@ nothing-before (made ss W) = refl
 nothing-before (no-list W) = refl
 nothing-before (no-room c W) = refl
 
-one-before : (xs ys : List ℕ) (s : ℕ) → ys ≡ xs ++ (s ∷ []) → (O : Makes (List ℕ)) → O and-then (λ ss W. made (ys ++ ss) W) ≡ (O and-then (λ ss W. made (s ∷ ss) W)) and-then (λ ss W. made (xs ++ ss) W)
+one-before : (xs ys : List ℕ) (s : ℕ) → ys ≡ xs ++ (s ∷ []) → (O : Makes (List ℕ))
+    → O and-then (λ ss W. made (ys ++ ss) W) ≡ (O and-then (λ ss W. made (s ∷ ss) W)) and-then
+    (λ ss W. made (xs ++ ss) W)
 one-before xs ys s e (made ss W) = ap (λ (zs : List ℕ). made zs W) (ap (λ (zs : List ℕ). zs ++ ss) e ∙ append-assoc xs (s ∷ []) ss)
 one-before xs ys s e (no-list W) = refl
 one-before xs ys s e (no-room c W) = refl
@@ -72,7 +75,8 @@ start ws ns bs sc ls d n k p =
       same = simp unary-clauses (nothing-before (sortsFrom bs ls d 0 n (lent ws ns k)));
     }
 
-module _ (ns bs ls : List ℕ) (d : SortId) (n : ℕ) (ws₀ sc₀ : List ℕ) (k₀ : Lengths) (ws sc : List ℕ) (k : Lengths) (i : ℕ) (G : Extracting ns bs ls d n ws₀ sc₀ k₀ ws sc k i) where
+module _ (ns bs ls : List ℕ) (d : SortId) (n : ℕ) (ws₀ sc₀ : List ℕ) (k₀ : Lengths) (ws sc : List ℕ) (k : Lengths)
+    (i : ℕ) (G : Extracting ns bs ls d n ws₀ sc₀ k₀ ws sc k i) where
   abbrev W₀ : Lent
   W₀ = lent ws₀ ns k₀
 
@@ -100,7 +104,8 @@ module _ (ns bs ls : List ℕ) (d : SortId) (n : ℕ) (ws₀ sc₀ : List ℕ) (
   module _ (h : i < n) (p : ℕ) (ep : p ≡ exprAt ls i) where
     placed : Placed k p
     placed =
-        subst (Placed k) (sym ep) (placed-grown W₀ (G .entered .ready .nodes) W (G .only .grows) (exprAt ls i) (each-row-at (Placed k₀) (exprAt ls) n (G .entered .placed) i h))
+        subst (Placed k) (sym ep) (placed-grown W₀ (G .entered .ready .nodes) W (G .only .grows) (exprAt ls i)
+        (each-row-at (Placed k₀) (exprAt ls) n (G .entered .placed) i h))
 
     pub asked : Ready ws ns bs k × Placed k p × (d .0 < k .sorts)
     asked = (ready, placed, default)
@@ -140,15 +145,18 @@ module _ (ns bs ls : List ℕ) (d : SortId) (n : ℕ) (ws₀ sc₀ : List ℕ) (
             changed = G .changed;
           }
 
-      pub next : (c : SortId) (K : Counts) → w ≡ At c K → (k′ : Lengths) → k′ ≡ withCounts k K → (sc′ : List ℕ) → sc′ ≡ set sc (bestSortsAt + i) (c .0) → Extracting ns bs ls d n ws₀ sc₀ k₀ vs sc′ k′ (i + 1)
+      pub next : (c : SortId) (K : Counts) → w ≡ At c K → (k′ : Lengths) → k′ ≡ withCounts k K → (sc′ : List ℕ)
+          → sc′ ≡ set sc (bestSortsAt + i) (c .0) → Extracting ns bs ls d n ws₀ sc₀ k₀ vs sc′ k′ (i + 1)
       unfolding MadeSorts
-      next c K z k′ ek sc′ es = subst (λ (j : Lengths). Extracting ns bs ls d n ws₀ sc₀ k₀ vs sc′ j (i + 1)) (sym ek) (subst (λ (ys : List ℕ). Extracting ns bs ls d n ws₀ sc₀ k₀ vs ys (withCounts k K) (i + 1)) (sym es) there)
+      next c K z k′ ek sc′ es = subst (λ (j : Lengths). Extracting ns bs ls d n ws₀ sc₀ k₀ vs sc′ j (i + 1)) (sym ek)
+          (subst (λ (ys : List ℕ). Extracting ns bs ls d n ws₀ sc₀ k₀ vs ys (withCounts k K) (i + 1)) (sym es) there)
         where
           only : SortsOnly W (lent vs ns (withCounts k K))
           only = subst (λ (v : Joined). MadeSorts (SortWith (AlwaysStandsFor W B (Is d) p)) ⊥ W (makesSort W (storedAt vs v) v)) z makes .0
 
           last : part bestSortsAt (i + 1) (set sc (bestSortsAt + i) (c .0)) ≡ part bestSortsAt i sc ++ (c .0 ∷ [])
-          last = ap (λ (j : ℕ). part bestSortsAt j (set sc (bestSortsAt + i) (c .0))) (add-one i) ∙ part-set-end bestSortsAt i sc (c .0) (omega (arith, h, G .entered .few, G .entered .long, scratch-long))
+          last = ap (λ (j : ℕ). part bestSortsAt j (set sc (bestSortsAt + i) (c .0))) (add-one i) ∙ part-set-end
+              bestSortsAt i sc (c .0) (omega (arith, h, G .entered .few, G .entered .long, scratch-long))
 
           there : Extracting ns bs ls d n ws₀ sc₀ k₀ vs (set sc (bestSortsAt + i) (c .0)) (withCounts k K) (i + 1)
           there =
@@ -157,9 +165,12 @@ module _ (ns bs ls : List ℕ) (d : SortId) (n : ℕ) (ws₀ sc₀ : List ℕ) (
                 within = omega (arith, h);
                 only = sorts-only-trans W₀ W (lent vs ns (withCounts k K)) (G .entered .ready .nodes) (G .only) only;
                 changed =
-                    changed-then bestSortsAt (bestSortsAt + n) sc₀ sc (set sc (bestSortsAt + i) (c .0)) (G .changed) (changed-by-set bestSortsAt (bestSortsAt + n) sc (bestSortsAt + i) (c .0) (omega arith) (omega (arith, h)));
+                    changed-then bestSortsAt (bestSortsAt + n) sc₀ sc (set sc (bestSortsAt + i) (c .0)) (G .changed)
+                    (changed-by-set bestSortsAt (bestSortsAt + n) sc (bestSortsAt + i) (c .0) (omega arith)
+                    (omega (arith, h)));
                 same =
-                    one-before (part bestSortsAt i sc) (part bestSortsAt (i + 1) (set sc (bestSortsAt + i) (c .0))) (c .0) last (rest (lent vs ns (withCounts k K)))
+                    one-before (part bestSortsAt i sc) (part bestSortsAt (i + 1) (set sc (bestSortsAt + i) (c .0)))
+                    (c .0) last (rest (lent vs ns (withCounts k K)))
                     ∙ subst (λ (v : Joined). afterFirst (makesSort W (storedAt vs v) v) ≡ whole) z on;
               }
 

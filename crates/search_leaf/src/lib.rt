@@ -29,7 +29,8 @@ ghost use Rattle.inference.specs.SolveEntry.{nothingMet};
 ghost use Rattle.search_state.specs.Inner.Memory.{problemIn, bestSortsAt, scratchUsed};
 ghost use Rattle.search_state.specs.Inner.Leaves.{rankingOf, Extracts};
 ghost use Rattle.search_state.specs.Inner.Searching.{AtLeaf, Comparable, Comes};
-ghost use Rattle.search_leaf.specs.Inner.Leaf.{ranked, rankedBy, IsDominated, Readable, sortsFrom, copied, keptAsBest, Keepable};
+ghost use Rattle.search_leaf.specs.Inner.Leaf.{ranked, rankedBy, IsDominated, Readable, sortsFrom, copied};
+ghost use Rattle.search_leaf.specs.Inner.Leaf.{keptAsBest, Keepable};
 ghost use Rattle.unification.specs.Inner.Making.{lent};
 
 // How the first n components compare with the incumbent's, from the front: the first that differ decide.

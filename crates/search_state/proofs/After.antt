@@ -43,7 +43,8 @@ module _ (W W′ : Lent) (c : CheckedLent W) (g : Grows W W′) where
   listed-grown P _ (sub-listed l r x y) = sub-listed l r (placed (l .0) x) (placed (r .0) y)
   listed-grown P _ (lit-listed p kind x) = lit-listed p kind (placed (p .0) x)
   listed-grown P _ (disjunction-listed e p run x l y) = disjunction-listed e p run (placed (p .0) x) l (λ i h. placed _ (y i h))
-  listed-grown P _ (comprehension-listed body node element x y l) = comprehension-listed body node element (placed (body .0) x) (placed (node .0) y) (omega (arith, l, g .sorts))
+  listed-grown P _ (comprehension-listed body node element x y l) = comprehension-listed body node element
+      (placed (body .0) x) (placed (node .0) y) (omega (arith, l, g .sorts))
   listed-grown P _ (join-listed run t x l y) = join-listed run t (placed (t .0) x) l (still-placed W c W′ g _ y)
 
   all-listed-grown : (P : Problem) (xs : List Constraint) → All (Listed W P) xs → All (Listed W′ P) xs
@@ -65,8 +66,10 @@ module _ (W W′ : Lent) (c : CheckedLent W) (g : Grows W W′) where
       (f .0, record { ordered = f .1 .ordered; inside = f .1 .inside; target = placed (t .0) (f .1 .target); placed = still-placed W c W′ g _ (f .1 .placed) })
 
 -- What is asked for on a branch holds on lists that have grown, with the same bindings.
-module _ (ls : List ℕ) (z : Sizes) (ws ns bs sc : List ℕ) (k : State) (e : Branch) (more : ℕ) (xs : List ℕ) (next : Next) (s : Searching ws ns bs sc ls z k e more xs next) where
-  pub searching-grown : (ws′ ns′ bs′ sc′ : List ℕ) (k′ : State) → Grows (lent ws ns (k .lengths)) (lent ws′ ns′ (k′ .lengths)) → bs′ ≡ bs → length sc′ ≡ length sc
+module _ (ls : List ℕ) (z : Sizes) (ws ns bs sc : List ℕ) (k : State) (e : Branch) (more : ℕ) (xs : List ℕ)
+    (next : Next) (s : Searching ws ns bs sc ls z k e more xs next) where
+  pub searching-grown : (ws′ ns′ bs′ sc′ : List ℕ) (k′ : State)
+      → Grows (lent ws ns (k .lengths)) (lent ws′ ns′ (k′ .lengths)) → bs′ ≡ bs → length sc′ ≡ length sc
       → Searching ws′ ns′ bs′ sc′ ls z k′ e more xs next
   searching-grown ws′ ns′ bs′ sc′ k′ g b l =
       subst (λ ys. Searching ws′ ns′ ys sc′ ls z k′ e more xs next) (sym b)
@@ -97,7 +100,8 @@ module _ (ls : List ℕ) (z : Sizes) (ws ns bs sc : List ℕ) (k : State) (e : B
   pub finds : Done ls z ws ns bs sc k e (found (worldOf ls z ws ns sc k)) ws ns bs sc (Found k)
   finds = record { says = refl; grown = sorts-only-refl W c; binds = refl; path = same-path-refl e sc }
 
-  pub done-as : (O Q : Out (Unit {0})) (ws′ ns′ bs′ sc′ : List ℕ) (r : Answer) → O ≡ Q → Done ls z ws ns bs sc k e O ws′ ns′ bs′ sc′ r → Done ls z ws ns bs sc k e Q ws′ ns′ bs′ sc′ r
+  pub done-as : (O Q : Out (Unit {0})) (ws′ ns′ bs′ sc′ : List ℕ) (r : Answer) → O ≡ Q
+      → Done ls z ws ns bs sc k e O ws′ ns′ bs′ sc′ r → Done ls z ws ns bs sc k e Q ws′ ns′ bs′ sc′ r
   done-as O Q ws′ ns′ bs′ sc′ r q d = record { says = d .says ∙ q; grown = d .grown; binds = d .binds; path = d .path }
 
   module _ (ws₁ ns₁ bs₁ sc₁ : List ℕ) (k₁ : State) (g : SortsOnly W (lent ws₁ ns₁ (k₁ .lengths))) (b : bs₁ ≡ bs) (p : SamePath e sc sc₁) where
@@ -118,11 +122,13 @@ module _ (ls : List ℕ) (z : Sizes) (ws ns bs sc : List ℕ) (k : State) (e : B
         }
 
     -- what is done after it is done from the start
-    pub done-after : (O : Out (Unit {0})) (ws₂ ns₂ bs₂ sc₂ : List ℕ) (r : Answer) → Done ls z ws₁ ns₁ bs₁ sc₁ k₁ e O ws₂ ns₂ bs₂ sc₂ r → Done ls z ws ns bs sc k e O ws₂ ns₂ bs₂ sc₂ r
+    pub done-after : (O : Out (Unit {0})) (ws₂ ns₂ bs₂ sc₂ : List ℕ) (r : Answer)
+        → Done ls z ws₁ ns₁ bs₁ sc₁ k₁ e O ws₂ ns₂ bs₂ sc₂ r → Done ls z ws ns bs sc k e O ws₂ ns₂ bs₂ sc₂ r
     done-after O ws₂ ns₂ bs₂ sc₂ r d =
         record { says = d .says; grown = grown-then ws₂ ns₂ r (d .grown); binds = d .binds ∙ b; path = same-path-trans e sc sc₁ sc₂ p (d .path) }
 
-    pub comes-after : (f : Going (Unit {0}) nothingMet (problemIn ls z)) (ws₂ ns₂ bs₂ sc₂ : List ℕ) (r : Answer) → Comes ls z ws₁ ns₁ bs₁ sc₁ k₁ e f ws₂ ns₂ bs₂ sc₂ r
+    pub comes-after : (f : Going (Unit {0}) nothingMet (problemIn ls z)) (ws₂ ns₂ bs₂ sc₂ : List ℕ) (r : Answer)
+        → Comes ls z ws₁ ns₁ bs₁ sc₁ k₁ e f ws₂ ns₂ bs₂ sc₂ r
         → Done ls z ws ns bs sc k e (f path (worldOf ls z ws₁ ns₁ sc₁ k₁)) ws₂ ns₂ bs₂ sc₂ r
     comes-after f ws₂ ns₂ bs₂ sc₂ r d =
         done-after (f path (worldOf ls z ws₁ ns₁ sc₁ k₁)) ws₂ ns₂ bs₂ sc₂ r

@@ -18,14 +18,17 @@ use Rattle.unification.specs.Nodes.{isSort, Binds}
 use Rattle.unification.specs.Unify.{follow, deep}
 use Rattle.unification.specs.Acyclic.{first, later}
 use Rattle.unification.specs.Related.{relatedNumbers, relatedContainer, each}
-use Rattle.unification.specs.Making.{Lent, graph, Makes, _and-then_, pushNode, internContainer, only, relatedOver, pushFunctions, relatedPlaces, relatedShape, relatedEnd, relatedTo, strictRelated}
+use Rattle.unification.specs.Making.{Lent, graph, Makes, _and-then_, pushNode, internContainer, only, relatedOver}
+use Rattle.unification.specs.Making.{pushFunctions, relatedPlaces, relatedShape, relatedEnd, relatedTo}
+use Rattle.unification.specs.Making.{strictRelated}
 use Rattle.unification.proofs.Parts.{none-of, one-of-one, one-last, one-front}
 use Rattle.unification.proofs.Rows.{ShapeFormed, variable-formed, flat-formed, container-formed, function-formed}
 use Rattle.unification.proofs.Follow.{follow-names}
 use Rattle.unification.specs.Growing.{Names, CheckedLent, PlacedIn}
 use Rattle.unification.proofs.Grows.{parts-placed, grows-refl, placed-grown}
 use Rattle.unification.proofs.NodesGrow.{container-row}
-use Rattle.unification.proofs.MakingGrows.{MadeFrom, made-then, made-so, AllPlaced, HasShape, push-grows, IsSort, container-grows, Functions, no-function, one-function, functions-grow}
+use Rattle.unification.proofs.MakingGrows.{MadeFrom, made-then, made-so, AllPlaced, HasShape, push-grows, IsSort}
+use Rattle.unification.proofs.MakingGrows.{container-grows, Functions, no-function, one-function, functions-grow}
 use Rattle.unification.proofs.PlaceTerms.{sort-placed, placed-formed, sort-part-below}
 
 primitive-fixed : (s : Sort) → kindFlat (primitive s) < 6
@@ -57,7 +60,8 @@ module _ (W : Lent) (c : CheckedLent W) (six : 6 ≤ W .lengths .sorts) (up : Bo
 
   -- by the shape at the end
   module _ (q : ℕ) (x : PlacedIn W q) where
-    at-container : (o : ComplexSort) (s : ℕ) → graph W q ≡ over (containerHead o) (s ∷ []) → (y : Option ComplexSort) (sort : Bool) → isSort q ≡ sort → MadeFrom AllPlaced W (relatedOver y sort s W)
+    at-container : (o : ComplexSort) (s : ℕ) → graph W q ≡ over (containerHead o) (s ∷ [])
+        → (y : Option ComplexSort) (sort : Bool) → isSort q ≡ sort → MadeFrom AllPlaced W (relatedOver y sort s W)
     unfolding MadeFrom
     at-container o s f none sort j = (grows-refl W c, λ z i. none-of z [] i refl)
     at-container o s f (some p) true j =
@@ -66,10 +70,12 @@ module _ (W : Lent) (c : CheckedLent W) (six : 6 ≤ W .lengths .sorts) (up : Bo
         (λ a W₁ g h. (grows-refl W₁ (g .checked), one-placed W₁ a (sort-placed W₁ (g .checked) a (h .0))))
     at-container o s f (some p) false j =
         made-then (HasShape (over (containerHead p) (s ∷ []))) AllPlaced W c (pushNode (record { kind = kindOp p; part = s; args = [] }) W) only
-        (push-grows W c (record { kind = kindOp p; part = s; args = [] }) (over (containerHead p) (s ∷ [])) (container-row p s (parts-placed W c q s (containerHead o) (s ∷ []) x f (first []))))
+        (push-grows W c (record { kind = kindOp p; part = s; args = [] }) (over (containerHead p) (s ∷ []))
+        (container-row p s (parts-placed W c q s (containerHead o) (s ∷ []) x f (first []))))
         (λ a W₁ g h. (grows-refl W₁ (g .checked), one-placed W₁ a (h .0)))
 
-    at-function : (n : ℕ) (xs : List ℕ) (r : ℕ) → length xs ≡ n → n ≤ 16 → graph W q ≡ over (functionHead n) (xs ++ (r ∷ [])) → (O : Makes (List ℕ)) → MadeFrom AllPlaced W O
+    at-function : (n : ℕ) (xs : List ℕ) (r : ℕ) → length xs ≡ n → n ≤ 16 → graph W q ≡ over (functionHead n)
+        (xs ++ (r ∷ [])) → (O : Makes (List ℕ)) → MadeFrom AllPlaced W O
         → MadeFrom AllPlaced W (O and-then (pushFunctions xs))
     at-function n xs r len few f O ih =
         made-then AllPlaced AllPlaced W c O (pushFunctions xs) ih
@@ -93,7 +99,9 @@ module _ (W : Lent) (c : CheckedLent W) (six : 6 ≤ W .lengths .sorts) (up : Bo
             rw (getD-at xs r [] 0 n len, take-at xs (r ∷ []) n len)
             (at-function q y n xs r len few f (relatedTo up B k r W) (ih r (parts-placed W c q r (functionHead n) (xs ++ (r ∷ [])) y f (one-last xs r))))
 
-        ends : (o : Option ℕ) → follow (graph W) deep B p ≡ o → ((r : ℕ) → PlacedIn W r → MadeFrom AllPlaced W (relatedTo up B k r W)) → MadeFrom AllPlaced W (relatedEnd up (relatedTo up B k) o W)
+        ends : (o : Option ℕ) → follow (graph W) deep B p ≡ o → ((r : ℕ) → PlacedIn W r
+            → MadeFrom AllPlaced W (relatedTo up B k r W)) → MadeFrom AllPlaced W (relatedEnd up (relatedTo up B k) o
+            W)
         ends none f ih = grows-refl W c
         ends (some q) f ih = let y = follow-names (graph W) B (PlacedIn W) b deep p q x f in shapes q y (graph W q) refl (placed-formed W c q y) ih
 

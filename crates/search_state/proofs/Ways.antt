@@ -25,7 +25,9 @@ use Rattle.unification.proofs.RelatedBinds.{no-list-is-free}
 use Rattle.inference.specs.declared.LitKind.{LitKind}
 use Rattle.inference.specs.Constraints.{Problem}
 use Rattle.inference.specs.Measure.{Components}
-use Rattle.inference.specs.Search.{Path, Try, World, Out, missed, withComponents, widerTries, narrowerTries, litComponent, litTries, onYes, unifying, onMade, lending, nodesReturned, sortIn, Going, firstFound, narrower, wider, atSort, literalAt, literalEnd, literal}
+use Rattle.inference.specs.Search.{Path, Try, World, Out, missed, withComponents, widerTries, narrowerTries}
+use Rattle.inference.specs.Search.{litComponent, litTries, onYes, unifying, onMade, lending, nodesReturned, sortIn}
+use Rattle.inference.specs.Search.{Going, firstFound, narrower, wider, atSort, literalAt, literalEnd, literal}
 use Rattle.inference.specs.Typing.{none-left, and-all}
 use Rattle.inference.specs.Inner.Listed.{SortsOnly}
 use Rattle.inference.proofs.MakingSorts.{MadeSorts, container-makes}
@@ -41,14 +43,17 @@ use Rattle.search_state.proofs.RelatedPlaced.{related-placed}
 use Rattle.search_state.specs.Inner.Placed.{TriesPlaced}
 
 -- nodes given back in the answer
-pub given-back-in-answer : (ls : List ℕ) (z : Sizes) (ws ns sc : List ℕ) (r : Answer) (ws₀ ns₀ : List ℕ) (k : Lengths) → outOf ls z ws ns sc (givenBackTo k r) ≡ nodesReturned (lent ws₀ ns₀ k) (outOf ls z ws ns sc r)
+pub given-back-in-answer : (ls : List ℕ) (z : Sizes) (ws ns sc : List ℕ) (r : Answer) (ws₀ ns₀ : List ℕ) (k : Lengths)
+    → outOf ls z ws ns sc (givenBackTo k r) ≡ nodesReturned (lent ws₀ ns₀ k) (outOf ls z ws ns sc r)
 given-back-in-answer ls z ws ns sc (Found s) ws₀ ns₀ k = refl
 given-back-in-answer ls z ws ns sc (Missed s) ws₀ ns₀ k = refl
 given-back-in-answer ls z ws ns sc (Full c l) ws₀ ns₀ k = refl
 
 -- the pairs of a try
 module _ {Met : Type 0} (B : Binds) (l r : InferSortId) (w : World Met) where
-  pub two-pairs : (p q : InferSortId) (k : Binds → World Met → Out Met) → unifying B (l .0) (r .0) (λ C. unifying C (p .0) (q .0) k) w ≡ onYes (unifyPairs (graph (w .lent)) (Two l r p q) B) k w
+  pub two-pairs : (p q : InferSortId) (k : Binds → World Met → Out Met)
+      → unifying B (l .0) (r .0) (λ C. unifying C (p .0) (q .0) k) w ≡ onYes (unifyPairs (graph (w .lent))
+      (Two l r p q) B) k w
   unfolding unifying unifyPairs
   two-pairs p q k = go (unify (graph (w .lent)) B (l .0) (r .0))
     where
@@ -69,13 +74,15 @@ module _ (Met : Type 0) (meet : Components → Met → Met) (P : Problem) (k : G
     by-narrower (no-list X) = refl
     by-narrower (no-room c X) = refl
 
-    pub wider-by-widenings : CheckedLent (w .lent) → CheckedBinds (w .lent) (e .binds) → wider Met meet P l r k e w ≡ onMade (widenings (e .binds) l r (w .lent)) tried missed w
+    pub wider-by-widenings : CheckedLent (w .lent) → CheckedBinds (w .lent) (e .binds)
+        → wider Met meet P l r k e w ≡ onMade (widenings (e .binds) l r (w .lent)) tried missed w
     unfolding widenings
     wider-by-widenings c b = go (strictRelated true (e .binds) l (w .lent)) (λ U i. no-list-is-free (w .lent) c (e .binds) b true l U i .1)
       where
         go : (O : Makes (List ℕ)) → ((U : Lent) → O ≡ no-list U → U ≡ w .lent)
             → onMade O (λ ps. tried (widerTries r 1 ps)) (narrower Met meet P l r k e) w
-            ≡ onMade (where-no-list (O and-then (λ ps X. made (widerTries r 1 ps) X)) (λ U. strictRelated false (e .binds) r U and-then (λ ps X. made (narrowerTries l 1 ps) X))) tried missed w
+            ≡ onMade (where-no-list (O and-then (λ ps X. made (widerTries r 1 ps) X)) (λ U. strictRelated false
+            (e .binds) r U and-then (λ ps X. made (narrowerTries l 1 ps) X))) tried missed w
         go (made ps X) h = refl
         go (no-list U) h =
             ap (λ X. narrower Met meet P l r k e (lending w X)) (h U refl)
@@ -125,7 +132,8 @@ module _ (W : Lent) (c : CheckedLent W) (six : 6 ≤ W .lengths .sorts) (B : Bin
   abbrev Leaves : Makes (List Try) → Type 0
   Leaves = Each (λ ts W′. Grows W W′ × TriesPlaced W′ ts) (λ W′. W′ ≡ W) (λ d W′. Grows W W′)
 
-  listed : (up : Bool) (p : ℕ) → PlacedIn W p → (tries : List ℕ → List Try) → ((ps : List ℕ) (W′ : Lent) → Grows W W′ → AllPlaced W′ ps → TriesPlaced W′ (tries ps))
+  listed : (up : Bool) (p : ℕ) → PlacedIn W p → (tries : List ℕ → List Try) → ((ps : List ℕ) (W′ : Lent) → Grows W W′
+      → AllPlaced W′ ps → TriesPlaced W′ (tries ps))
       → Leaves (strictRelated up B p W and-then (λ ps X. made (tries ps) X))
   unfolding MadeFrom
   listed up p at tries h = go (strictRelated up B p W) (related-placed W c six up B (binds-name-places W B b) p at) (λ U i. no-list-is-free W c B b up p U i .1)

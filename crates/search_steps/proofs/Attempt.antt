@@ -31,7 +31,9 @@ use Rattle.search_state.specs.declared.Next.{Next}
 use Rattle.search_state.specs.declared.Pairs.{Pairs}
 use Rattle.search_state.specs.declared.Step.{Step}
 use Rattle.search_state.specs.declared.Step.the-variants.{Nothing, Component, Written, Choice}
-use Rattle.search_state.specs.Inner.Memory.{problemIn, chosenExprs, trailWords, bestSortsAt, measureAt, bestMeasureAt, choicesAt, bestChoicesAt, scratchUsed, choicesOf, pathOf, candidateOf, bestOf, worldOf, outOf, nextOf}
+use Rattle.search_state.specs.Inner.Memory.{problemIn, chosenExprs, trailWords, bestSortsAt, measureAt}
+use Rattle.search_state.specs.Inner.Memory.{bestMeasureAt, choicesAt, bestChoicesAt, scratchUsed, choicesOf, pathOf}
+use Rattle.search_state.specs.Inner.Memory.{candidateOf, bestOf, worldOf, outOf, nextOf}
 use Rattle.words.specs.Words.{part}
 use Rattle.search_state.specs.Inner.Leaves.{unifyPairs, TriesPairs, stepWords, addedComponents, addedChoices, branchAfter, pathAfter}
 use Rattle.search_state.specs.Inner.Searching.{Sized, Searching, nextConstraints, nextComponents, exprsOf, Done, Comes, trying}
@@ -57,14 +59,16 @@ module _ (ls : List ℕ) (z : Sizes) (sc sc₁ : List ℕ) (r : drop trailWords 
       })) none
 
 -- one choice more
-choose-more : (xs is : List ℕ) (i : ℕ) → length is < length xs → choicesOf xs (is ++ (i ∷ [])) ≡ choicesOf xs is ++ (record { expr = getD xs (length is) 0; position = i } ∷ [])
+choose-more : (xs is : List ℕ) (i : ℕ) → length is < length xs → choicesOf xs (is ++ (i ∷ [])) ≡ choicesOf xs is ++
+    (record { expr = getD xs (length is) 0; position = i } ∷ [])
 unfolding choicesOf
 choose-more [] is i l = absurd (omega (arith, l))
 choose-more (x ∷ xs) [] i l = ap (λ cs. record { expr = x; position = i } ∷ cs) (nothing-chosen xs)
 choose-more (x ∷ xs) (j ∷ is) i l = ap (λ cs. record { expr = x; position = j } ∷ cs) (choose-more xs is i (omega (arith, l)))
 
 -- What a step writes, by its kind: behind the branch's own words, and not among the incumbent's.
-module _ (ls : List ℕ) (z : Sizes) (few : Sized (problemIn ls z) z) (sc sc₁ : List ℕ) (long : scratchUsed ≤ length sc₁) (r : drop trailWords sc₁ ≡ drop trailWords sc) (e : Branch) where
+module _ (ls : List ℕ) (z : Sizes) (few : Sized (problemIn ls z) z) (sc sc₁ : List ℕ) (long : scratchUsed ≤ length
+    sc₁) (r : drop trailWords sc₁ ≡ drop trailWords sc) (e : Branch) where
   same : (a n : ℕ) → trailWords ≤ a → part a n sc₁ ≡ part a n sc
   same = part-same ls z sc sc₁ r
 
@@ -95,14 +99,16 @@ module _ (ls : List ℕ) (z : Sizes) (few : Sized (problemIn ls z) z) (sc sc₁ 
   step-best-measure : (s : Step) → Room s → (n : ℕ) → n ≤ 256 → part bestMeasureAt n (stepWords s e sc₁) ≡ part bestMeasureAt n sc
   unfolding stepWords
   step-best-measure Nothing h n l = same bestMeasureAt n (omega arith)
-  step-best-measure (Component c) h n l = part-set-before bestMeasureAt n sc₁ (measureAt + e .measure) c (omega (arith, h .0)) ∙ same bestMeasureAt n (omega arith)
+  step-best-measure (Component c) h n l = part-set-before bestMeasureAt n sc₁ (measureAt + e .measure) c
+      (omega (arith, h .0)) ∙ same bestMeasureAt n (omega arith)
   step-best-measure (Written m) h n l = same bestMeasureAt n (omega arith)
   step-best-measure (Choice i) h n l = part-set-after bestMeasureAt n sc₁ (choicesAt + e .choices) i (omega (arith, l)) ∙ same bestMeasureAt n (omega arith)
 
   step-best-choices : (s : Step) → Room s → (n : ℕ) → part bestChoicesAt n (stepWords s e sc₁) ≡ part bestChoicesAt n sc
   unfolding stepWords
   step-best-choices Nothing h n = same bestChoicesAt n (omega arith)
-  step-best-choices (Component c) h n = part-set-before bestChoicesAt n sc₁ (measureAt + e .measure) c (omega (arith, h .0)) ∙ same bestChoicesAt n (omega arith)
+  step-best-choices (Component c) h n = part-set-before bestChoicesAt n sc₁ (measureAt + e .measure) c
+      (omega (arith, h .0)) ∙ same bestChoicesAt n (omega arith)
   step-best-choices (Written m) h n = same bestChoicesAt n (omega arith)
   step-best-choices (Choice i) h n = part-set-before bestChoicesAt n sc₁ (choicesAt + e .choices) i (omega (arith, h .1)) ∙ same bestChoicesAt n (omega arith)
 
@@ -124,25 +130,32 @@ module _ (ls : List ℕ) (z : Sizes) (few : Sized (problemIn ls z) z) (sc sc₁ 
   step-measure Nothing h = same measureAt (e .measure) (omega arith)
   step-measure (Component c) h = part-set-after measureAt (e .measure) sc₁ (measureAt + e .measure) c (omega arith) ∙ same measureAt (e .measure) (omega arith)
   step-measure (Written m) h = same measureAt (e .measure) (omega arith)
-  step-measure (Choice i) h = part-set-after measureAt (e .measure) sc₁ (choicesAt + e .choices) i (omega (arith, h .0)) ∙ same measureAt (e .measure) (omega arith)
+  step-measure (Choice i) h = part-set-after measureAt (e .measure) sc₁ (choicesAt + e .choices) i
+      (omega (arith, h .0)) ∙ same measureAt (e .measure) (omega arith)
 
   pub step-choices : (s : Step) → Room s → part choicesAt (e .choices) (stepWords s e sc₁) ≡ part choicesAt (e .choices) sc
   unfolding stepWords
   step-choices Nothing h = same choicesAt (e .choices) (omega arith)
-  step-choices (Component c) h = part-set-before choicesAt (e .choices) sc₁ (measureAt + e .measure) c (omega (arith, h .0)) ∙ same choicesAt (e .choices) (omega arith)
+  step-choices (Component c) h = part-set-before choicesAt (e .choices) sc₁ (measureAt + e .measure) c
+      (omega (arith, h .0)) ∙ same choicesAt (e .choices) (omega arith)
   step-choices (Written m) h = same choicesAt (e .choices) (omega arith)
   step-choices (Choice i) h = part-set-after choicesAt (e .choices) sc₁ (choicesAt + e .choices) i (omega arith) ∙ same choicesAt (e .choices) (omega arith)
 
   -- one word more at their ends
-  more-measure : (c : ℕ) → e .measure < maxComponents → part measureAt (e .measure + 1) (set sc₁ (measureAt + e .measure) c) ≡ part measureAt (e .measure) sc ++ (c ∷ [])
+  more-measure : (c : ℕ) → e .measure < maxComponents
+      → part measureAt (e .measure + 1) (set sc₁ (measureAt + e .measure) c) ≡ part measureAt (e .measure) sc ++
+      (c ∷ [])
   more-measure c l =
       ap (λ n. part measureAt n (set sc₁ (measureAt + e .measure) c)) (add-one (e .measure))
       ∙ (part-set-end measureAt (e .measure) sc₁ c (omega (arith, l, long)) ∙ ap (λ xs. xs ++ (c ∷ [])) (same measureAt (e .measure) (omega arith)))
 
   written-measure : (m : ℕ) → part measureAt (e .measure + m) sc₁ ≡ part measureAt (e .measure) sc ++ part (measureAt + e .measure) m sc
-  written-measure m = part-append measureAt (e .measure) m sc₁ ∙ ap₂ _++_ (same measureAt (e .measure) (omega arith)) (same (measureAt + e .measure) m (omega arith))
+  written-measure m = part-append measureAt (e .measure) m sc₁ ∙ ap₂ _++_ (same measureAt (e .measure) (omega arith))
+      (same (measureAt + e .measure) m (omega arith))
 
-  more-choices : (i : ℕ) → e .choices < maxConstraints → part choicesAt (e .choices + 1) (set sc₁ (choicesAt + e .choices) i) ≡ part choicesAt (e .choices) sc ++ (i ∷ [])
+  more-choices : (i : ℕ) → e .choices < maxConstraints
+      → part choicesAt (e .choices + 1) (set sc₁ (choicesAt + e .choices) i) ≡ part choicesAt (e .choices) sc ++
+      (i ∷ [])
   more-choices i l =
       ap (λ n. part choicesAt n (set sc₁ (choicesAt + e .choices) i)) (add-one (e .choices))
       ∙ (part-set-end choicesAt (e .choices) sc₁ i (omega (arith, l, long)) ∙ ap (λ xs. xs ++ (i ∷ [])) (same choicesAt (e .choices) (omega arith)))
@@ -155,7 +168,8 @@ module _ (ls : List ℕ) (z : Sizes) (few : Sized (problemIn ls z) z) (sc sc₁ 
   Chooses s = e .choices + addedChoices s ≤ length D
 
   chosen-more : (i : ℕ) → e .choices < length D → e .choices < maxConstraints
-      → choicesOf D (part choicesAt (e .choices + 1) (set sc₁ (choicesAt + e .choices) i)) ≡ choicesOf D (part choicesAt (e .choices) sc) ++ (record { expr = getD D (e .choices) 0; position = i } ∷ [])
+      → choicesOf D (part choicesAt (e .choices + 1) (set sc₁ (choicesAt + e .choices) i)) ≡ choicesOf D
+      (part choicesAt (e .choices) sc) ++ (record { expr = getD D (e .choices) 0; position = i } ∷ [])
   chosen-more i l m =
       let n : length (part choicesAt (e .choices) sc) ≡ e .choices =
       ap length (sym (same choicesAt (e .choices) (omega arith))) ∙ length-part choicesAt (e .choices) sc₁ (omega (arith, m, long)) in
@@ -166,7 +180,11 @@ module _ (ls : List ℕ) (z : Sizes) (few : Sized (problemIn ls z) z) (sc sc₁ 
   -- the path after a step
   pub step-path : (s : Step) → Room s → Chooses s → (d : ℕ) (C : Binds) → pathOf ls z C (stepWords s e sc₁) (branchAfter e d s) ≡ pathAfter ls z sc e s C
   unfolding stepWords pathAfter
-  step-path Nothing h g d C = λ i. record { binds = C; measure = same measureAt (e .measure) (omega arith) i; choices = choicesOf D (same choicesAt (e .choices) (omega arith) i) }
+  step-path Nothing h g d C = λ i. record {
+    binds = C;
+    measure = same measureAt (e .measure) (omega arith) i;
+    choices = choicesOf D (same choicesAt (e .choices) (omega arith) i);
+  }
   step-path (Component c) h g d C =
       λ i. record { binds = C; measure = more-measure c (omega (arith, h .0)) i; choices = choicesOf D (step-choices (Component c) h i) }
   step-path (Written m) h g d C = λ i. record { binds = C; measure = written-measure m i; choices = choicesOf D (same choicesAt (e .choices) (omega arith) i) }
@@ -181,7 +199,8 @@ module _ (ls : List ℕ) (z : Sizes) (ws ns bs sc : List ℕ) (k : State) (e : B
 
   same-exprs : length E ≡ z .disjunctions
   unfolding chosenExprs problemIn
-  same-exprs = ap (λ n. length (disjunctions (rowsFrom (constraintAt ls) 0 n))) (let q : z .constraints - 0 ≡ z .constraints = omega arith in q) ∙ S .sized .disjunctions
+  same-exprs = ap (λ n. length (disjunctions (rowsFrom (constraintAt ls) 0 n))) (let q : z .constraints - 0 ≡
+      z .constraints = omega arith in q) ∙ S .sized .disjunctions
 
   longer : (s : Step) (xs : List ℕ) → drop (e .choices) E ≡ exprsOf ls z e s ++ xs → e .choices ≤ z .disjunctions → e .choices + addedChoices s ≤ length E
   longer Nothing xs q l = omega (arith, l, same-exprs)
@@ -271,7 +290,8 @@ module _ (ls : List ℕ) (z : Sizes) (ws ns bs sc : List ℕ) (k : State) (e : B
     pub tried-no : (d : ℕ) → t ≡ No d → (bs₂ : List ℕ) → bs₂ ≡ undo sc₁ (e .trail) (d - e .trail) bs₁ → Done ls z ws ns bs sc k e tried ws ns bs₂ sc₁ (Missed k)
     tried-no d q bs₂ b =
         record {
-          says = (λ i. missed-with (best-same ls z sc sc₁ (u .rest) (k .best) (k .tied) i)) ∙ sym (ap (λ x. onYes x (λ C. nextOf ls z next (pathAfter ls z sc e s C)) (worldOf ls z ws ns sc k)) no);
+          says = (λ i. missed-with (best-same ls z sc sc₁ (u .rest) (k .best) (k .tied) i)) ∙ sym
+              (ap (λ x. onYes x (λ C. nextOf ls z next (pathAfter ls z sc e s C)) (worldOf ls z ws ns sc k)) no);
           grown = sorts-only-refl (lent ws ns (k .lengths)) (S .ready .nodes);
           binds = b ∙ (ap (λ n. undo sc₁ (e .trail) (n - e .trail) bs₁) (sym (ap countOf q)) ∙ freed-again sc₁ refl);
           path =
@@ -369,7 +389,8 @@ module _ (ls : List ℕ) (z : Sizes) (ws ns bs sc : List ℕ) (k : State) (e : B
     unfolding trying
     attempt-no = tried-no _ bs₁ sc₁ t u
 
-    pub attempt-yes : (d : ℕ) → t ≡ Yes d → (sc₂ : List ℕ) (e₂ : Branch) → sc₂ ≡ stepWords s e sc₁ → e₂ ≡ branchAfter e d s → (ws₃ ns₃ bs₃ sc₃ : List ℕ) (r : Answer)
+    pub attempt-yes : (d : ℕ) → t ≡ Yes d → (sc₂ : List ℕ) (e₂ : Branch) → sc₂ ≡ stepWords s e sc₁
+        → e₂ ≡ branchAfter e d s → (ws₃ ns₃ bs₃ sc₃ : List ℕ) (r : Answer)
         → Comes ls z ws ns bs₁ sc₂ k e₂ (nextOf ls z next) ws₃ ns₃ bs₃ sc₃ r → (bs₄ : List ℕ) → bs₄ ≡ undo sc₃ (e .trail) (d - e .trail) bs₃
         → Comes ls z ws ns bs sc k e (trying ls z sc e pairs s next) ws₃ ns₃ bs₄ sc₃ r
     unfolding trying

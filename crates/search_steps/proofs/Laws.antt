@@ -42,7 +42,8 @@ use Rattle.search_state.specs.declared.Widenings.{Widenings}
 use Rattle.search_state.specs.declared.Widenings.the-variants.{These, NoList, Full as NoRoom}
 use Rattle.search_state.specs.declared.Made.{Made}
 use Rattle.search_state.specs.declared.Made.the-variants.{At, Full as NoSortRoom}
-use Rattle.search_state.specs.Inner.Leaves.{afterOf, withNodes, backTo, givenBackTo, placesOf, tryAt, triesFrom, where-no-list, widenings, widened, FewTries, FindsWidenings}
+use Rattle.search_state.specs.Inner.Leaves.{afterOf, withNodes, backTo, givenBackTo, placesOf, tryAt, triesFrom}
+use Rattle.search_state.specs.Inner.Leaves.{where-no-list, widenings, widened, FewTries, FindsWidenings}
 use Rattle.search_steps.specs.Inner.Steps.{saysOf, pairsOf, InternsContainer, triesAgainst, ListedTries, AsTries}
 
 -- on after an answer
@@ -63,7 +64,8 @@ pub says-missed : (b : Bool) (k : State) → b ≡ false → Missed k ≡ saysOf
 says-missed b k e = sym (ap (λ x. saysOf x k) e)
 
 -- nodes given back
-pub back-with-nodes : (k : Lengths) (s t : State) (l : Lengths) → l ≡ withNodes k (s .lengths) → t ≡ record { lengths = l; best = s .best; tied = s .tied } → t ≡ backTo k s
+pub back-with-nodes : (k : Lengths) (s t : State) (l : Lengths) → l ≡ withNodes k (s .lengths)
+    → t ≡ record { lengths = l; best = s .best; tied = s .tied } → t ≡ backTo k s
 back-with-nodes k s t l e f = f ∙ ap (λ (x : Lengths). record { lengths = x; best = s .best; tied = s .tied }) e
 
 module _ (k : Lengths) (r : Answer) where
@@ -122,7 +124,8 @@ module _ (o : ComplexSort) (s : ℕ) (ws : List ℕ) (k : Lengths) (c : Counts) 
       pub no-room-for-container : j ≡ JoinedFull → InternsContainer o s ws k ws₁ (NoSortRoom k)
       unfolding InternsContainer
       no-room-for-container x ns =
-          ap (λ (ys : List ℕ). no-room 15 (lent ys ns k)) (full-unchanged ws (k .sorts) (k .entries) ck (container o (look (trees ws (k .sorts)) s)) ws₁ (ap (storedAt ws₁) (sym x) ∙ interned))
+          ap (λ (ys : List ℕ). no-room 15 (lent ys ns k)) (full-unchanged ws (k .sorts) (k .entries) ck
+          (container o (look (trees ws (k .sorts)) s)) ws₁ (ap (storedAt ws₁) (sym x) ∙ interned))
           ∙ (ap (withSorts (lent ws ns k) (storedAt ws₁ j)) (sym x) ∙ makes ns)
 
       pub always-interned : (K : Counts) → j ≡ JoinedNothing K → (r : Made) → InternsContainer o s ws k ws₁ r
@@ -151,10 +154,12 @@ three-places (a ∷ b ∷ []) e = absurd (omega (arith, e))
 three-places (a ∷ b ∷ c ∷ []) e = refl
 three-places (a ∷ b ∷ c ∷ d ∷ ids) e = absurd (omega (arith, e))
 
-pub tries-listed : (up : Bool) (o : InferSortId) (ids : List ℕ) → length ids ≡ 3 → (n : ℕ) → n ≤ 3 → ListedTries up (o .0) (take n ids) (triesOver (getD ids 0 0) (getD ids 1 0) (getD ids 2 0) n o up)
+pub tries-listed : (up : Bool) (o : InferSortId) (ids : List ℕ) → length ids ≡ 3 → (n : ℕ) → n ≤ 3
+    → ListedTries up (o .0) (take n ids) (triesOver (getD ids 0 0) (getD ids 1 0) (getD ids 2 0) n o up)
 tries-listed up o ids e n l =
     record {
-      says = tries-against up o (getD ids 0 0) (getD ids 1 0) (getD ids 2 0) n l ∙ ap (λ (xs : List ℕ). triesAgainst up (o .0) 1 (take n xs)) (three-places ids e);
+      says = tries-against up o (getD ids 0 0) (getD ids 1 0) (getD ids 2 0) n l ∙ ap (λ (xs : List ℕ). triesAgainst
+          up (o .0) 1 (take n xs)) (three-places ids e);
       few = omega (arith, l);
       first = refl;
     }
@@ -181,7 +186,8 @@ module _ (up : Bool) (o : ℕ) (a : Related) where
   no-room-as-tries c k e = record { says = as-listed (Listed.Full c k) e; few = tt }
 
 -- The tries of a widening: what the left side lists, as tries; where it has no list nothing was made, and the right side is asked.
-module _ (ws ns bs : List ℕ) (k : Lengths) (q : Ready ws ns bs k) (l r : ℕ) (ws₁ ns₁ : List ℕ) (a : Related) (h : Relates ws₁ ns₁ a (strictRelated true (bindsOf bs (k .variables)) l (lent ws ns k)))
+module _ (ws ns bs : List ℕ) (k : Lengths) (q : Ready ws ns bs k) (l r : ℕ) (ws₁ ns₁ : List ℕ) (a : Related)
+    (h : Relates ws₁ ns₁ a (strictRelated true (bindsOf bs (k .variables)) l (lent ws ns k)))
     (x : Widenings) (t : AsTries true r a x) where
   abbrev W : Lent
   W = lent ws ns k
@@ -219,16 +225,23 @@ module _ (ws ns bs : List ℕ) (k : Lengths) (q : Ready ws ns bs k) (l r : ℕ) 
         no-list-makes-nothing W bs q true l (lent ws₁ ns₁ k′) (not-listed (strictRelated true B l W) (ap (widened ws₁ ns₁) (sym e) ∙ left-tried))
 
     pub right-asked : Placed k r → Ready ws₁ ns₁ bs k′ × Placed k′ r
-    right-asked i = (subst (λ (U : Lent). Ready (U .sorts) (U .nodes) bs (U .lengths)) (sym nothing-made) q, subst (λ (U : Lent). Placed (U .lengths) r) (sym nothing-made) i)
+    right-asked i = (
+      subst (λ (U : Lent). Ready (U .sorts) (U .nodes) bs (U .lengths)) (sym nothing-made) q,
+      subst
+          (λ (U : Lent). Placed (U .lengths) r) (sym nothing-made) i,
+    )
 
-    pub narrower-tried : (ws₂ ns₂ : List ℕ) (a₂ : Related) → Relates ws₂ ns₂ a₂ (strictRelated false (bindsOf bs (k′ .variables)) r (lent ws₁ ns₁ k′)) → (y : Widenings) → AsTries false l a₂ y
+    pub narrower-tried : (ws₂ ns₂ : List ℕ) (a₂ : Related)
+        → Relates ws₂ ns₂ a₂ (strictRelated false (bindsOf bs (k′ .variables)) r (lent ws₁ ns₁ k′)) → (y : Widenings)
+        → AsTries false l a₂ y
         → FindsWidenings ws₂ ns₂ y (widenings B l r W)
     narrower-tried ws₂ ns₂ a₂ h₂ y t₂ =
         record {
           says =
               t₂ .says ws₂ ns₂
               ∙ (ap (λ O. O and-then (λ ps X. made (narrowerTries l 1 ps) X)) (h₂ .says)
-              ∙ (ap (λ (n : ℕ). strictRelated false (bindsOf bs n) r (lent ws₁ ns₁ k′) and-then (λ ps X. made (narrowerTries l 1 ps) X)) (ap (λ (U : Lent). U .lengths .variables) nothing-made)
+              ∙ (ap (λ (n : ℕ). strictRelated false (bindsOf bs n) r (lent ws₁ ns₁ k′) and-then
+              (λ ps X. made (narrowerTries l 1 ps) X)) (ap (λ (U : Lent). U .lengths .variables) nothing-made)
               ∙ from-left (NoList k′) e));
           few = t₂ .few;
         }

@@ -135,7 +135,8 @@ row-by-shape kind ws (Def n) = refl
 row-by-shape kind ws (TypeVar n) = refl
 
 -- at the end of a place
-module _ (ws ns bs : List ℕ) (k : Lengths) (q : Ready ws ns bs k) (kind : LitKind) (p : ℕ) (i : Placed k p) (end : ℕ) (f : follow (graphOf ws ns k) deep (bindsOf bs (k .variables)) p ≡ some end) where
+module _ (ws ns bs : List ℕ) (k : Lengths) (q : Ready ws ns bs k) (kind : LitKind) (p : ℕ) (i : Placed k p) (end : ℕ)
+    (f : follow (graphOf ws ns k) deep (bindsOf bs (k .variables)) p ≡ some end) where
   abbrev shape : ℕ → Shape
   shape = graphOf ws ns k
 

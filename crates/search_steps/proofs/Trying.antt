@@ -49,7 +49,8 @@ module _ (ws ns : List ℕ) (k : Lengths) (U : Unifies) (bs sc : List ℕ) (c : 
     pub then-not : (d : ℕ) → TriesPairs ws ns k U bs sc c bs₁ sc₁ (No d) → TriesPairs ws ns k (after-yes U g) bs sc c bs₁ sc₁ (No d)
     then-not d t = record { tries = then-no ws ns k U g bs (take trailWords sc) c bs₁ (take trailWords sc₁) d (t .tries); rest = t .rest; long = t .long }
 
-    pub then-also : (d : ℕ) → TriesPairs ws ns k U bs sc c bs₁ sc₁ (Yes d) → (bs₂ sc₂ : List ℕ) (r : Tried) → TriesPairs ws ns k (g (bindsOf bs₁ (k .variables))) bs₁ sc₁ d bs₂ sc₂ r
+    pub then-also : (d : ℕ) → TriesPairs ws ns k U bs sc c bs₁ sc₁ (Yes d) → (bs₂ sc₂ : List ℕ) (r : Tried)
+        → TriesPairs ws ns k (g (bindsOf bs₁ (k .variables))) bs₁ sc₁ d bs₂ sc₂ r
         → TriesPairs ws ns k (after-yes U g) bs sc c bs₂ sc₂ r
     then-also d t bs₂ sc₂ r u =
         record {
@@ -59,7 +60,8 @@ module _ (ws ns : List ℕ) (k : Lengths) (U : Unifies) (bs sc : List ℕ) (c : 
         }
 
   -- there is room to go on
-  pub trying-pairs : (bs₁ sc₁ : List ℕ) (d : ℕ) → Trying ws ns bs (take trailWords sc) k c → TriesPairs ws ns k U bs sc c bs₁ sc₁ (Yes d) → Trying ws ns bs₁ (take trailWords sc₁) k d
+  pub trying-pairs : (bs₁ sc₁ : List ℕ) (d : ℕ) → Trying ws ns bs (take trailWords sc) k c
+      → TriesPairs ws ns k U bs sc c bs₁ sc₁ (Yes d) → Trying ws ns bs₁ (take trailWords sc₁) k d
   trying-pairs bs₁ sc₁ d t u =
       trying-on ws ns k U bs (take trailWords sc) c bs₁ (take trailWords sc₁) d t
       (length-take-le trailWords sc₁ (omega (arith, long, u .long)) ∙ sym (length-take-le trailWords sc (omega (arith, long)))) (u .tries)
@@ -73,7 +75,8 @@ module _ (sc : List ℕ) (e : Branch) (t : ℕ) (s : Step) where
   unfolding stepWords
   pushes-nothing q = rw q (refl, refl)
 
-  pub pushes-component : (c : ℕ) → s ≡ Component c → Pushes sc e t s (set sc (measureAt + e .measure) c) (record { trail = t; measure = e .measure + 1; choices = e .choices })
+  pub pushes-component : (c : ℕ) → s ≡ Component c → Pushes sc e t s (set sc (measureAt + e .measure) c)
+      (record { trail = t; measure = e .measure + 1; choices = e .choices })
   unfolding stepWords
   pushes-component c q = rw q (refl, refl)
 
@@ -81,7 +84,8 @@ module _ (sc : List ℕ) (e : Branch) (t : ℕ) (s : Step) where
   unfolding stepWords
   pushes-written n q = rw q (refl, refl)
 
-  pub pushes-choice : (i : ℕ) → s ≡ Choice i → Pushes sc e t s (set sc (choicesAt + e .choices) i) (record { trail = t; measure = e .measure; choices = e .choices + 1 })
+  pub pushes-choice : (i : ℕ) → s ≡ Choice i → Pushes sc e t s (set sc (choicesAt + e .choices) i)
+      (record { trail = t; measure = e .measure; choices = e .choices + 1 })
   unfolding stepWords
   pushes-choice i q = rw q (refl, refl)
 
@@ -93,14 +97,16 @@ written-room e s n q l = rw q at l
 pub one-placed : (k : Lengths) (p : Pairs) (l r : InferSortId) → p ≡ One l r → PairsPlaced k p → Placed k (l .0) × Placed k (r .0)
 one-placed k p l r q h = rw q at h
 
-pub two-placed : (k : Lengths) (p : Pairs) (l r l′ r′ : InferSortId) → p ≡ Two l r l′ r′ → PairsPlaced k p → Placed k (l .0) × Placed k (r .0) × Placed k (l′ .0) × Placed k (r′ .0)
+pub two-placed : (k : Lengths) (p : Pairs) (l r l′ r′ : InferSortId) → p ≡ Two l r l′ r′ → PairsPlaced k p
+    → Placed k (l .0) × Placed k (r .0) × Placed k (l′ .0) × Placed k (r′ .0)
 two-placed k p l r l′ r′ q h = rw q at h
 
 module _ (ws ns : List ℕ) (k : Lengths) (bs sc : List ℕ) (c : ℕ) (long : scratchUsed ≤ length sc) (p : Pairs) where
   abbrev U : Unifies
   U = unifyPairs (graphOf ws ns k) p (bindsOf bs (k .variables))
 
-  pub one-tried : (l r : InferSortId) → p ≡ One l r → (bs′ sc′ : List ℕ) (t : Tried) → TriesPairs ws ns k (unify (graphOf ws ns k) (bindsOf bs (k .variables)) (l .0) (r .0)) bs sc c bs′ sc′ t
+  pub one-tried : (l r : InferSortId) → p ≡ One l r → (bs′ sc′ : List ℕ) (t : Tried)
+      → TriesPairs ws ns k (unify (graphOf ws ns k) (bindsOf bs (k .variables)) (l .0) (r .0)) bs sc c bs′ sc′ t
       → TriesPairs ws ns k U bs sc c bs′ sc′ t
   unfolding unifyPairs
   one-tried l r q bs′ sc′ t x = rw q x
@@ -111,7 +117,8 @@ module _ (ws ns : List ℕ) (k : Lengths) (bs sc : List ℕ) (c : ℕ) (long : s
     unfolding unifyPairs
     two-not d y =
         rw q
-        (then-not ws ns k (unify (graphOf ws ns k) (bindsOf bs (k .variables)) (l .0) (r .0)) bs sc c long (λ C. unify (graphOf ws ns k) C (l′ .0) (r′ .0)) bs₁ sc₁ d
+        (then-not ws ns k (unify (graphOf ws ns k) (bindsOf bs (k .variables)) (l .0) (r .0)) bs sc c long
+        (λ C. unify (graphOf ws ns k) C (l′ .0) (r′ .0)) bs₁ sc₁ d
         (subst (TriesPairs ws ns k _ bs sc c bs₁ sc₁) y x))
 
     pub two-tried : (d : ℕ) → t ≡ Yes d → (bs₂ sc₂ : List ℕ) (u : Tried)
@@ -119,8 +126,10 @@ module _ (ws ns : List ℕ) (k : Lengths) (bs sc : List ℕ) (c : ℕ) (long : s
     unfolding unifyPairs
     two-tried d y bs₂ sc₂ u z =
         rw q
-        (then-also ws ns k (unify (graphOf ws ns k) (bindsOf bs (k .variables)) (l .0) (r .0)) bs sc c long (λ C. unify (graphOf ws ns k) C (l′ .0) (r′ .0)) bs₁ sc₁ d
+        (then-also ws ns k (unify (graphOf ws ns k) (bindsOf bs (k .variables)) (l .0) (r .0)) bs sc c long
+        (λ C. unify (graphOf ws ns k) C (l′ .0) (r′ .0)) bs₁ sc₁ d
         (subst (TriesPairs ws ns k _ bs sc c bs₁ sc₁) y x) bs₂ sc₂ u z)
 
     pub two-go-on : (d : ℕ) → t ≡ Yes d → Trying ws ns bs (take trailWords sc) k c → Trying ws ns bs₁ (take trailWords sc₁) k d
-    two-go-on d y w = trying-pairs ws ns k (unify (graphOf ws ns k) (bindsOf bs (k .variables)) (l .0) (r .0)) bs sc c long bs₁ sc₁ d w (subst (TriesPairs ws ns k _ bs sc c bs₁ sc₁) y x)
+    two-go-on d y w = trying-pairs ws ns k (unify (graphOf ws ns k) (bindsOf bs (k .variables)) (l .0) (r .0)) bs sc c
+        long bs₁ sc₁ d w (subst (TriesPairs ws ns k _ bs sc c bs₁ sc₁) y x)

@@ -13,7 +13,8 @@ use Rattle.resolved_sort.proofs.Below.{and-left, and-right, below-each}
 use Rattle.inference.specs.declared.Constraint.{Constraint}
 use Rattle.inference.specs.declared.Constraint.the-variants.{Sub, Lit, Disjunction, Comprehension, Join}
 use Rattle.inference.specs.Constraints.{maxExprs, maxConstraints, nameWords, constraintAt, rowsFrom}
-use Rattle.inference.specs.SolveChecks.{Call, placed, rowsWithinLent, namesFine, runFine, overloadFine, constraintFine, constraintsFine, given, disjunctionFor, disjunctions, keys}
+use Rattle.inference.specs.SolveChecks.{Call, placed, rowsWithinLent, namesFine, runFine, overloadFine}
+use Rattle.inference.specs.SolveChecks.{constraintFine, constraintsFine, given, disjunctionFor, disjunctions, keys}
 use Rattle.inference.proofs.RowsLent.{rows-lent}
 use Rattle.solve_checks.specs.Inner.Marks.{allUnder}
 use Rattle.solve_checks.specs.Inner.Tests.{nameFine, constraintRowFine}

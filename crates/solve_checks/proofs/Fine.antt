@@ -43,6 +43,7 @@ module _ (g : Given) (kind sort : ℕ) where
       other-kind f = sym (simp (lt-ltb 0 kind (omega (arith, d)), le-leb kind 3 h, ne-eqb kind 2 f))
 
 -- the lists that no constraint looks at make no difference
-pub same-constraint-fine : (g : Given) (cs os ss : List ℕ) (b : ℕ) (c : Constraint) → constraintFine (problemCall g [] [] [] os ss) b c ≡ constraintFine (problemCall g [] [] cs os ss) b c
+pub same-constraint-fine : (g : Given) (cs os ss : List ℕ) (b : ℕ) (c : Constraint)
+    → constraintFine (problemCall g [] [] [] os ss) b c ≡ constraintFine (problemCall g [] [] cs os ss) b c
 unfolding overloadFine targetFine
 same-constraint-fine g cs os ss b c = refl

@@ -28,9 +28,11 @@ noneSeen seen (x ∷ xs) = not (getD seen x false) && noneSeen seen xs
 -- one mark more
 module _ (seen : List Bool) (x : ℕ) (l : x < length seen) where
   hides-first : (y : ℕ) (ys : List ℕ) → noneSeen (set seen x true) ys ≡ (noneSeen seen ys && not (among x ys)) → (b : Bool) → eqb x y ≡ b
-      → (not (getD (set seen x true) y false) && noneSeen (set seen x true) ys) ≡ ((not (getD seen y false) && noneSeen seen ys) && not (cond b true (among x ys)))
+      → (not (getD (set seen x true) y false) && noneSeen (set seen x true) ys) ≡
+      ((not (getD seen y false) && noneSeen seen ys) && not (cond b true (among x ys)))
   hides-first y ys ih true e =
-      ap (λ z. not z && noneSeen (set seen x true) ys) (ap (λ (w : ℕ). getD (set seen x true) w false) (sym (eqb-true x y e)) ∙ getD-set-same seen x true false l)
+      ap (λ z. not z && noneSeen (set seen x true) ys) (ap (λ (w : ℕ). getD (set seen x true) w false)
+      (sym (eqb-true x y e)) ∙ getD-set-same seen x true false l)
       ∙ sym (and-false (not (getD seen y false) && noneSeen seen ys))
   hides-first y ys ih false e =
       ap₂ (λ (z w : Bool). not z && w) (getD-set-other seen x y true false (λ q. eqb-false x y e (sym q))) ih
@@ -115,7 +117,8 @@ module _ (row : ℕ → ℕ) (n : ℕ) where
     numbers-differ l = end numbers seen (left row n i) (p .1) u (none-left row n i l)
 
 -- the expressions that constraints are disjunctions for
-mark-steps : (seen : List Bool) (c : Constraint) (xs : List ℕ) → freshFrom seen (disjunctionFor c xs) ≡ ((markBy seen c) .fresh && freshFrom ((markBy seen c) .seen) xs)
+mark-steps : (seen : List Bool) (c : Constraint) (xs : List ℕ) → freshFrom seen (disjunctionFor c xs) ≡
+    ((markBy seen c) .fresh && freshFrom ((markBy seen c) .seen) xs)
 unfolding freshFrom
 mark-steps seen (Sub l r) xs = refl
 mark-steps seen (Lit p kind) xs = refl
@@ -143,7 +146,8 @@ module _ (row : ℕ → Constraint) (n : ℕ) where
       disjunction-step =
           ap (λ cs. freshFrom seen (disjunctions cs)) (one-left row n i l ∙ ap (λ d. d ∷ left row n (i + 1)) (sym e))
           ∙ (mark-steps seen c (exprs-left (i + 1))
-          ∙ sym (ap₂ (λ (y : Bool) (ys : List Bool). y && freshFrom ys (exprs-left (i + 1))) (ap (λ (k : Marked). k .fresh) m) (ap (λ (k : Marked). k .seen) m)))
+          ∙ sym (ap₂ (λ (y : Bool) (ys : List Bool). y && freshFrom ys (exprs-left (i + 1)))
+          (ap (λ (k : Marked). k .fresh) m) (ap (λ (k : Marked). k .seen) m)))
 
       pub disjunction-twice : b ≡ false → false ≡ noTwo exprs
       disjunction-twice = twice exprs seen (exprs-left i) (p .1) seen₁ b (exprs-left (i + 1)) disjunction-step u

@@ -47,7 +47,8 @@ module _ (g : Given) (xs ks cs os ss : List ℕ) where
   unfolding rowsWithinLent
   sources-above h = simp (lt-leb (g .sources) 256 h, and-false)
 
-  pub by-sources : g .exprs ≤ 512 → g .exprs ≤ length xs → g .names ≤ length ks / 3 → g .constraints ≤ 256 → 5 * g .constraints ≤ length cs → g .overloads ≤ 1024
+  pub by-sources : g .exprs ≤ 512 → g .exprs ≤ length xs → g .names ≤ length ks / 3 → g .constraints ≤ 256
+      → 5 * g .constraints ≤ length cs → g .overloads ≤ 1024
       → 3 * g .overloads ≤ length os → g .sources ≤ 256 → leb (g .sources) (length ss) ≡ rowsWithinLent I
   unfolding rowsWithinLent
   by-sources a b c d e f h i =

@@ -36,7 +36,8 @@ module _ (g : Given) (cs : List ℕ) (room : Room) (o : Outs room) where
     unfolding outputsLong
     measure-short h = simp (lt-leb (components (constraintRows cs (g .constraints))) (length (o .measure)) (omega (arith, h, e, o .measure-length)), and-false)
 
-    pub by-choices : 4096 ≤ room .scratch → 3 * g .exprs ≤ room .typing → m ≤ room .measure → (d : ℕ) → d ≡ length (disjunctions (constraintRows cs (g .constraints)))
+    pub by-choices : 4096 ≤ room .scratch → 3 * g .exprs ≤ room .typing → m ≤ room .measure → (d : ℕ)
+        → d ≡ length (disjunctions (constraintRows cs (g .constraints)))
         → leb d (room .choices / 2) ≡ whole
     unfolding outputsLong
     by-choices s t h d f =

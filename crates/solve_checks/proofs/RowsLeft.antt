@@ -25,7 +25,8 @@ module _ {A : Type 0} (row : ℕ → A) (n : ℕ) where
   none-left = rows-none-left row n
 
 -- a sum f of rows, each of which adds a
-module _ (f : List Constraint → ℕ) (a : Constraint → ℕ) (empty : f [] ≡ 0) (more : (c : Constraint) (cs : List Constraint) → f (c ∷ cs) ≡ a c + f cs) (row : ℕ → Constraint) (n : ℕ) where
+module _ (f : List Constraint → ℕ) (a : Constraint → ℕ) (empty : f [] ≡ 0) (more : (c : Constraint)
+    (cs : List Constraint) → f (c ∷ cs) ≡ a c + f cs) (row : ℕ → Constraint) (n : ℕ) where
   pub record Summed (i sum : ℕ) : Type 0 where
     pub within : i ≤ n
     pub left-over : sum + f (left row n i) ≡ f (rowsFrom row 0 n)

@@ -17,7 +17,10 @@ use Rattle.unification.specs.Nodes.{maxNodes, maxVars, fullNodes}
 use Rattle.unification.proofs.Passed.{node-counts, var-counts}
 use Rattle.resolved_sort.proofs.Testing.{first-of-two, second-of-two, both-of-two, fails, passes, none-left, first-refuses, second-decides}
 use Rattle.inference.specs.Constraints.{maxComponents}
-use Rattle.inference.specs.SolveChecks.{Call, listed, rowsWithinLent, allWithinLent, targetFine, exprsFine, namesFine, overloadFine, constraintsFine, given, disjunctions, noTwo, keys, joinsFine, components, outputsLong, longEnough, solveChecks, rowChecks, lastChecks, listChecks}
+use Rattle.inference.specs.SolveChecks.{Call, listed, rowsWithinLent, allWithinLent, targetFine, exprsFine}
+use Rattle.inference.specs.SolveChecks.{namesFine, overloadFine, constraintsFine, given, disjunctions, noTwo, keys}
+use Rattle.inference.specs.SolveChecks.{joinsFine, components, outputsLong, longEnough, solveChecks, rowChecks}
+use Rattle.inference.specs.SolveChecks.{lastChecks, listChecks}
 use Rattle.inference.proofs.Accepted.{within}
 use Rattle.solve_checks.specs.declared.Given.{Given}
 use Rattle.solve_checks.specs.declared.Room.{Room}
@@ -100,12 +103,14 @@ module _ (I : Call) where
 
       pub many-components : maxComponents < n → Refused 11 ≡ testedOf (firstFailing last)
       many-components l =
-          second-of-pair x (joinsFine (given I)) (leb (components (given I)) maxComponents) ex 11 (twelve ∷ fourteen ∷ []) hx (leb n maxComponents) few (ap not (lt-leb n maxComponents l))
+          second-of-pair x (joinsFine (given I)) (leb (components (given I)) maxComponents) ex 11 (twelve ∷ fourteen ∷
+          []) hx (leb n maxComponents) few (ap not (lt-leb n maxComponents l))
 
       module _ (m : n ≤ maxComponents) where
         past-11 : (t : Tested) → t ≡ testedOf (firstFailing (twelve ∷ fourteen ∷ [])) → t ≡ testedOf (firstFailing last)
         past-11 =
-            pair-passes x (joinsFine (given I)) (leb (components (given I)) maxComponents) ex 11 (twelve ∷ fourteen ∷ []) hx (leb n maxComponents) few (ap not (le-leb n maxComponents m))
+            pair-passes x (joinsFine (given I)) (leb (components (given I)) maxComponents) ex 11 (twelve ∷ fourteen ∷
+            []) hx (leb n maxComponents) few (ap not (le-leb n maxComponents m))
 
         pub default-stray : I .lengths .sorts ≤ I .default → Refused 12 ≡ testedOf (firstFailing last)
         default-stray l = past-11 (Refused 12) (fails (listed I (I .default)) _ refl 12 (fourteen ∷ []) (ap not (le-ltb (I .default) (I .lengths .sorts) l)))
@@ -134,7 +139,12 @@ module _ (I : Call) where
             unfolding longEnough atCeiling firstFailing
             last-passes l k h =
                 past-12 Passed
-                (ap testedOf (sym (first-passes fourteen [] (simp (le-leb fullLength (length (I .sorts)) l, le-leb fullNodes (length (I .nodes)) k, sym ev ∙ not-false v h)))))
+                (ap testedOf (sym (first-passes fourteen [] (simp (
+                  le-leb fullLength (length (I .sorts)) l,
+                  le-leb
+                      fullNodes (length (I .nodes)) k,
+                  sym ev ∙ not-false v h,
+                )))))
 
 -- what a check does not look at
 module _ (g : Given) (ws ns bs xs ks cs os ss : List ℕ) (room : Room) (o : Outs room) where
@@ -166,8 +176,10 @@ module _ (g : Given) (ws ns bs xs ks cs os ss : List ℕ) (room : Room) (o : Out
 pub graph-ceilings : (I : Call) → allWithinLent I ≡ true → (I .lengths .nodes ≤ maxNodes) × (I .lengths .variables ≤ maxVars)
 graph-ceilings I f =
     let w = within I f in (
-      node-counts (I .sorts) (I .lengths .sorts) (I .lengths .entries) (I .nodes) (I .lengths .nodes) (I .lengths .arguments) (I .binds) (I .lengths .variables) (w .0) (w .1) (w .2) .0,
-      var-counts (I .sorts) (I .lengths .sorts) (I .lengths .entries) (I .nodes) (I .lengths .nodes) (I .lengths .arguments) (I .binds) (I .lengths .variables) (w .0) (w .1) (w .2) .0,
+      node-counts (I .sorts) (I .lengths .sorts) (I .lengths .entries) (I .nodes) (I .lengths .nodes)
+          (I .lengths .arguments) (I .binds) (I .lengths .variables) (w .0) (w .1) (w .2) .0,
+      var-counts (I .sorts) (I .lengths .sorts) (I .lengths .entries) (I .nodes) (I .lengths .nodes)
+          (I .lengths .arguments) (I .binds) (I .lengths .variables) (w .0) (w .1) (w .2) .0,
     )
 
 -- check 1, checks 2 to 4, and then the rest

@@ -32,10 +32,12 @@ module _ (g : Given) (ws ns bs xs ks cs os ss sc ts ms hs : List ℕ) (r : Solve
 
   -- Where it answers a typing, there is one assignment under which the whole list holds together, with the sorts and choices that stand in the words left.
   pub entry-holds-together : (o : Outputs) → r ≡ Typing o
-      → HoldsTogether (graph (lentOf I)) (sortIn (lentOf I)) (treeAt (L .sorts) (o .counts .sorts)) (o .counts .sorts) (bindsOf bs (g .variables)) (problemOf I) (sortsOut I L) (choicesOut L o)
+      → HoldsTogether (graph (lentOf I)) (sortIn (lentOf I)) (treeAt (L .sorts) (o .counts .sorts)) (o .counts .sorts)
+      (bindsOf bs (g .variables)) (problemOf I) (sortsOut I L) (choicesOut L o)
   entry-holds-together o q =
       subst
-      (λ (M : SolveLeft). HoldsTogether (graph (lentOf I)) (sortIn (lentOf I)) (treeAt (M .sorts) (o .counts .sorts)) (o .counts .sorts) (bindsOf bs (g .variables)) (problemOf I) (sortsOut I M) (choicesOut M o))
+      (λ (M : SolveLeft). HoldsTogether (graph (lentOf I)) (sortIn (lentOf I)) (treeAt (M .sorts) (o .counts .sorts))
+      (o .counts .sorts) (bindsOf bs (g .variables)) (problemOf I) (sortsOut I M) (choicesOut M o))
       (sym e) (typing-holds-together I o (sym (ap (λ (M : SolveLeft). M .answer) e) ∙ q))
 
   -- and each component and name is what document 01 says

@@ -42,12 +42,14 @@ use Rattle.solve_outputs.proofs.Finished.{left-by-search, left-is-outcome}
 module _ (ls : List ℕ) (z : Sizes) (ws ns bs sc : List ℕ) (k : Lengths) (st : State) (q : st ≡ noIncumbent k) (at : Branch) (p : at ≡ nothingTaken)
     (S : Searching ws ns bs sc ls z (noIncumbent k) nothingTaken 0 [] (Solve 0)) where
   pub starts : Searching ws ns bs sc ls z st at 0 [] (Solve 0)
-  starts = subst (λ (x : State). Searching ws ns bs sc ls z x at 0 [] (Solve 0)) (sym q) (subst (λ (y : Branch). Searching ws ns bs sc ls z (noIncumbent k) y 0 [] (Solve 0)) (sym p) S)
+  starts = subst (λ (x : State). Searching ws ns bs sc ls z x at 0 [] (Solve 0)) (sym q)
+      (subst (λ (y : Branch). Searching ws ns bs sc ls z (noIncumbent k) y 0 [] (Solve 0)) (sym p) S)
 
   abbrev O : Out (Unit {0})
   O = solveFrom ls z 0 (pathOf ls z (bindsOf bs (k .variables)) sc nothingTaken) (worldOf ls z ws ns sc (noIncumbent k))
 
-  pub room-after : (ks : List ℕ) (n : ℕ) (ts ms hs : List ℕ) → Handable sc ls ks n z ts ms hs → (ws′ ns′ sc′ : List ℕ) → length ws′ ≡ length ws → length ns′ ≡ length ns → length sc′ ≡ length sc
+  pub room-after : (ks : List ℕ) (n : ℕ) (ts ms hs : List ℕ) → Handable sc ls ks n z ts ms hs → (ws′ ns′ sc′ : List ℕ)
+      → length ws′ ≡ length ws → length ns′ ≡ length ns → length sc′ ≡ length sc
       → Handable sc′ ls ks n z ts ms hs × SortsReturnable ws′ k × NodesReturnable ns′ k
   room-after ks n ts ms hs h ws′ ns′ sc′ a b c = (
     record { sized = h .sized; used = omega (arith, h .used, c); names = h .names; typing = h .typing; measure = h .measure; choices = h .choices },
@@ -65,7 +67,8 @@ module _ (ls : List ℕ) (z : Sizes) (ws ns bs sc : List ℕ) (k : Lengths) (st 
         → L ≡ solveLeftBy k ns′ bs′ sc′ (settledBy (problemIn ls z) (rowsFrom (baseNameAt ks) 0 n) ts ms hs k (outOf ls z ws′ ns′ sc′ r))
         → L ≡ solveLeftBy k ns bs sc (settledBy (problemIn ls z) (rowsFrom (baseNameAt ks) 0 n) ts ms hs k O)
     search-left ks n ts ms hs L e =
-        left-by-search ls z ws ns bs sc (noIncumbent k) nothingTaken O ws′ ns′ bs′ sc′ r (S .ready .nodes) from-nothing (rowsFrom (baseNameAt ks) 0 n) ts ms hs L e
+        left-by-search ls z ws ns bs sc (noIncumbent k) nothingTaken O ws′ ns′ bs′ sc′ r (S .ready .nodes)
+        from-nothing (rowsFrom (baseNameAt ks) 0 n) ts ms hs L e
 
 -- A call.
 module _ (g : Given) (ws ns bs xs ks cs os ss sc ts ms hs : List ℕ) where
@@ -89,7 +92,14 @@ module _ (g : Given) (ws ns bs xs ks cs os ss sc ts ms hs : List ℕ) where
     pub sizes-fit : RowsFit (problemCall g [] [] cs [] [])
     sizes-fit =
         let r = rows-fit I f in
-        record { exprs = r .exprs; constraints = r .constraints; overloads = r .overloads; sources = r .sources; components = r .components; disjunctions = r .disjunctions }
+        record {
+          exprs = r .exprs;
+          constraints = r .constraints;
+          overloads = r .overloads;
+          sources = r .sources;
+          components = r .components;
+          disjunctions = r .disjunctions;
+        }
 
     module _ (z : Sizes) (q : z ≡ sizesOf (problemCall g [] [] cs [] [])) where
       same-sizes : z ≡ sizesOf I
@@ -107,7 +117,8 @@ module _ (g : Given) (ws ns bs xs ks cs os ss sc ts ms hs : List ℕ) where
           pub search-asked : Searching ws ns bs sc ls z (noIncumbent k) nothingTaken 0 [] (Solve 0) × Handable sc ls ks (g .names) z ts ms hs
           search-asked = (
             subst (λ (y : Sizes). Searching ws ns bs sc ls y (noIncumbent k) nothingTaken 0 [] (Solve 0)) (sym same-sizes)
-                (subst (λ (m : Lengths). Searching ws ns bs sc ls (sizesOf I) (noIncumbent m) nothingTaken 0 [] (Solve 0)) (sym v) (begins I f ls says-problem)),
+                (subst (λ (m : Lengths). Searching ws ns bs sc ls (sizesOf I) (noIncumbent m) nothingTaken 0 []
+                (Solve 0)) (sym v) (begins I f ls says-problem)),
             subst (λ (y : Sizes). Handable sc ls ks (g .names) y ts ms hs) (sym same-sizes) (handable I f ls says-problem sc refl),
           )
 
@@ -120,7 +131,8 @@ module _ (g : Given) (ws ns bs xs ks cs os ss sc ts ms hs : List ℕ) where
               e
               ∙ ((λ i. solveLeftBy (v i) ns bs sc
               (settledBy (problemIn ls (same-sizes i)) (rowsFrom (baseNameAt ks) 0 (g .names)) ts ms hs (v i)
-              (solveFrom ls (same-sizes i) 0 (pathOf ls (same-sizes i) (bindsOf bs (v i .variables)) sc nothingTaken) (worldOf ls (same-sizes i) ws ns sc (noIncumbent (v i))))))
+              (solveFrom ls (same-sizes i) 0 (pathOf ls (same-sizes i) (bindsOf bs (v i .variables)) sc nothingTaken)
+              (worldOf ls (same-sizes i) ws ns sc (noIncumbent (v i))))))
               ∙ left-is-outcome I f ls says-problem)
 
 -- The answer as one number.

@@ -60,8 +60,10 @@ module _ (sc old : List ℕ) (d : ℕ) (all : List ℕ) where
               let b : suc (suc (2 * k)) ≡ 2 * (k + 1) = omega arith in
               p .left
               ∙ (ap (λ i. sets ch (2 * k) (choiceRows (choicesOf (x .0 ∷ disjunctions cs) (part (bestChoicesAt + k) i sc)))) m
-              ∙ (ap (λ is. sets ch (2 * k) (choiceRows (choicesOf (x .0 ∷ disjunctions cs) is))) (part-first (bestChoicesAt + k) (d - (k + 1)) sc (omega (arith, fits, room)))
-              ∙ (λ i. sets (set (set ch (2 * k) (x .0)) (a i) (positionAt sc k)) (b i) (choiceRows (choicesOf (disjunctions cs) (part (f i) (d - (k + 1)) sc))))));
+              ∙ (ap (λ is. sets ch (2 * k) (choiceRows (choicesOf (x .0 ∷ disjunctions cs) is)))
+              (part-first (bestChoicesAt + k) (d - (k + 1)) sc (omega (arith, fits, room)))
+              ∙ (λ i. sets (set (set ch (2 * k) (x .0)) (a i) (positionAt sc k)) (b i)
+              (choiceRows (choicesOf (disjunctions cs) (part (f i) (d - (k + 1)) sc))))));
         }
     one-by (Comprehension body node element) p = record { count = p .count; long = p .long; left = p .left }
     one-by (Join run t) p = record { count = p .count; long = p .long; left = p .left }
@@ -110,7 +112,8 @@ module _ (sc old ls : List ℕ) (n : ℕ) where
     pub choices-few : k ≤ maxConstraints
     choices-few = omega (arith, p .few, p .choosing .count)
 
-    pub choices-go-on : i < n → (c : Constraint) → c ≡ constraintAt ls i → (ch′ : List ℕ) (k′ : ℕ) → walked ch′ k′ ≡ choiceBy sc c ch k → ChoicesLeft ch′ k′ (i + 1)
+    pub choices-go-on : i < n → (c : Constraint) → c ≡ constraintAt ls i → (ch′ : List ℕ) (k′ : ℕ)
+        → walked ch′ k′ ≡ choiceBy sc c ch k → ChoicesLeft ch′ k′ (i + 1)
     choices-go-on l c e ch′ k′ y =
         record {
           within = omega (arith, l);
@@ -118,7 +121,8 @@ module _ (sc old ls : List ℕ) (n : ℕ) where
           fits = p .fits;
           choosing =
               one-chosen sc old total whole (p .fits) (rest (i + 1)) ch k (constraintAt ls i)
-              (subst (λ cs. Choosing sc old total whole cs ch k) (rows-one-left (constraintAt ls) n i l) (p .choosing)) ch′ k′ (y ∙ ap (λ c. choiceBy sc c ch k) e);
+              (subst (λ cs. Choosing sc old total whole cs ch k) (rows-one-left (constraintAt ls) n i l)
+              (p .choosing)) ch′ k′ (y ∙ ap (λ c. choiceBy sc c ch k) e);
         }
 
     all-stored : n ≤ i → ch ≡ whole

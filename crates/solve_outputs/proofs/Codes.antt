@@ -1,5 +1,6 @@
 -- The numbers that the solver's answer has: a refusal is by a check, 1 to 14; no room is 15 or 16; sorts, entries, components and choices are within their
--- ceilings. By the first failing check and by what the search leaves. So the packed answer has document 01's number in its low byte and tells all answers apart: by the
+-- ceilings. By the first failing check and by what the search leaves. So the packed answer has document 01's number
+-- in its low byte and tells all answers apart: by the
 -- cases of two answers. Assumes nothing.
 use mathlib.Core.Path.{_≡_, refl, sym, ap, subst, _∙_}
 use mathlib.Core.Bool.{Bool, true, false}
@@ -18,7 +19,8 @@ use Rattle.inference.specs.declared.Solved.{Solved}
 use Rattle.inference.specs.declared.Solved.the-variants.{Refused, NoRoom, NoTyping, Ambiguous, Typing}
 use Rattle.inference.specs.Search.{Candidate, World, Out, found, missed, ended}
 use Rattle.inference.specs.SolveChecks.{Call, given, solveChecks}
-use Rattle.inference.specs.SolveEntry.{problemOf, startPath, lentOf, searched, SolveLeft, judged, judgedBy, verdict, nothingMet, solveEntry, codeSolved, choicesOut}
+use Rattle.inference.specs.SolveEntry.{problemOf, startPath, lentOf, searched, SolveLeft, judged, judgedBy, verdict}
+use Rattle.inference.specs.SolveEntry.{nothingMet, solveEntry, codeSolved, choicesOut}
 use Rattle.inference.proofs.Accepted.{passed-is-searched}
 use Rattle.inference.specs.ListsLeft.{countsTold}
 use Rattle.inference.proofs.ListsLeft.{sorts-only-grow}
@@ -31,8 +33,43 @@ use Rattle.solve_outputs.proofs.Passed.{rows-fit}
 module _ (I : Call) where
   refused-by-number : (c : ℕ) → firstFailing (solveChecks I) ≡ some c → Numbered c
   unfolding solveChecks nodeChecks
-  refused-by-number c x = failing-number Numbered (solveChecks I) c
-      ((omega arith, omega arith), ((omega arith, omega arith), ((omega arith, omega arith), ((omega arith, omega arith), ((omega arith, omega arith), ((omega arith, omega arith), ((omega arith, omega arith), ((omega arith, omega arith), ((omega arith, omega arith), ((omega arith, omega arith), ((omega arith, omega arith), ((omega arith, omega arith), ((omega arith, omega arith), tt)))))))))))))
+  refused-by-number c x = failing-number Numbered (solveChecks I) c (
+    (omega arith, omega arith),
+    (
+      (omega arith, omega arith),
+      (
+        (omega arith, omega arith),
+        (
+          (omega arith, omega arith),
+          (
+            (omega arith, omega arith),
+            (
+              (omega arith, omega arith),
+              (
+                (omega arith, omega arith),
+                (
+                  (omega arith, omega arith),
+                  (
+                    (omega arith, omega arith),
+                    (
+                      (omega arith, omega arith),
+                      (
+                        (omega arith, omega arith),
+                        (
+                          (omega arith, omega arith),
+                          ((omega arith, omega arith), tt),
+                        ),
+                      ),
+                    ),
+                  ),
+                ),
+              ),
+            ),
+          ),
+        ),
+      ),
+    ),
+  )
       x
 
   -- what the search alone can answer
@@ -76,8 +113,16 @@ module _ (I : Call) where
     by-answer (Ambiguous k) e s = within k (ap countsTold e)
     by-answer (Typing o) e s =
         let n = names-and-choices I o e in
-        let f = rows-fit I x in
-        (within (o .counts) (ap countsTold e), omega (arith, n .handed-out, n .component-count, f .components), omega (arith, n .choice-count, sym (length-map (choicesOut (solveEntry I) o) exprOf) ∙ ap length (n .in-order), f .disjunctions))
+        let f = rows-fit I x in (
+          within (o .counts) (ap countsTold e),
+          omega (arith, n .handed-out, n .component-count, f .components),
+          omega (
+            arith,
+            n .choice-count,
+            sym (length-map (choicesOut (solveEntry I) o) exprOf) ∙ ap length (n .in-order),
+            f .disjunctions,
+          ),
+        )
 
     passed-told : SolvedWithin (solveEntry I .answer)
     passed-told = by-answer (solveEntry I .answer) refl searched-answers

@@ -17,7 +17,8 @@ use Rattle.inference.specs.declared.Solved.the-variants.{NoRoom}
 use Rattle.inference.specs.Constraints.{BaseName}
 use Rattle.inference.specs.Search.{Candidate, Out, found, missed, ended, solve}
 use Rattle.inference.specs.SolveChecks.{Call, solveChecks}
-use Rattle.inference.specs.SolveEntry.{problemOf, baseNamesOf, lentOf, searched, SolveLeft, cleared, leftWith, countsIn, judged, judgedBy, verdict, nothingMet, solveEntry}
+use Rattle.inference.specs.SolveEntry.{problemOf, baseNamesOf, lentOf, searched, SolveLeft, cleared, leftWith}
+use Rattle.inference.specs.SolveEntry.{countsIn, judged, judgedBy, verdict, nothingMet, solveEntry}
 use Rattle.inference.proofs.Accepted.{passed-is-searched}
 use Rattle.inference.proofs.ListsLeft.{nodes-given-back-agree, search-gives-nodes-back}
 use Rattle.inference.specs.ListsLeft.{Ends}
@@ -34,7 +35,8 @@ use Rattle.solve_outputs.proofs.Passed.{passed-accepted, rest-is-all}
 use Rattle.search_state.proofs.Parts.{nothing-chosen}
 
 -- what is left depends on what the search comes to alone
-module _ (ls : List ℕ) (z : Sizes) (ws ns bs sc : List ℕ) (k : State) (e : Branch) (O : Out (Unit {0})) (ws′ ns′ bs′ sc′ : List ℕ) (r : Answer) (c : CheckedLent (lent ws ns (k .lengths)))
+module _ (ls : List ℕ) (z : Sizes) (ws ns bs sc : List ℕ) (k : State) (e : Branch) (O : Out (Unit {0}))
+    (ws′ ns′ bs′ sc′ : List ℕ) (r : Answer) (c : CheckedLent (lent ws ns (k .lengths)))
     (d : Done ls z ws ns bs sc k e O ws′ ns′ bs′ sc′ r) where
   abbrev W : Lent
   W = lent ws ns (k .lengths)
@@ -80,7 +82,9 @@ module _ (I : Call) (x : firstFailing (solveChecks I) ≡ none) where
   by-tie W c true = refl
   by-tie W c false = refl
 
-  by-best : (W : Lent) (b : Option Candidate) → leaves (settled (W .sorts) (judgedIn (problemOf I) (baseNamesOf I) (I .typing) (I .measure) (I .choices) (countsIn W) b)) ≡ judged I W b
+  by-best : (W : Lent) (b : Option Candidate)
+      → leaves (settled (W .sorts) (judgedIn (problemOf I) (baseNamesOf I) (I .typing) (I .measure) (I .choices)
+      (countsIn W) b)) ≡ judged I W b
   by-best W none = refl
   by-best W (some c) = by-tie W c (c .duplicate)
 

@@ -29,8 +29,17 @@ use Rattle.solve_outputs.specs.Inner.Begin.{sizesOf}
 use Rattle.solve_outputs.specs.Inner.Finish.{Answered, answered, Settled, settled, solveLeftBy, handedOut, judgedOut, settledBy, Handable}
 use Rattle.solve_outputs.specs.Finish.{solveLeft}
 
-pub sizes-counted : (g : Given) (cs : List ℕ) (n d : ℕ) → n ≡ components (constraintRows cs (g .constraints)) → d ≡ length (disjunctions (constraintRows cs (g .constraints)))
-    → record { exprs = g .exprs; constraints = g .constraints; overloads = g .overloads; sources = g .sources; components = n; disjunctions = d; default = record { 0 = g .default } }
+pub sizes-counted : (g : Given) (cs : List ℕ) (n d : ℕ) → n ≡ components (constraintRows cs (g .constraints))
+    → d ≡ length (disjunctions (constraintRows cs (g .constraints)))
+    → record {
+      exprs = g .exprs;
+      constraints = g .constraints;
+      overloads = g .overloads;
+      sources = g .sources;
+      components = n;
+      disjunctions = d;
+      default = record { 0 = g .default };
+    }
     ≡ sizesOf (problemCall g [] [] cs [] [])
 unfolding sizesOf
 sizes-counted g cs n d a b =
@@ -71,17 +80,29 @@ module _ (sc ls ks : List ℕ) (n : ℕ) (z : Sizes) (ts ms hs : List ℕ) (h : 
       ∙ many-exprs)
 
   pub hands-out : (k : Counts) (ts′ ms′ hs′ : List ℕ)
-      → ts′ ≡ writtenOver (typingRows (problemIn ls z) names (choicesOf (chosenExprs ls z) (part bestChoicesAt (z .disjunctions) sc)) 0 (part bestSortsAt (z .exprs) sc)) ts
-      → ms′ ≡ writtenOver (part bestMeasureAt (z .components) sc) ms → hs′ ≡ writtenOver (choiceRows (choicesOf (chosenExprs ls z) (part bestChoicesAt (z .disjunctions) sc))) hs
-      → answered (Typing (record { counts = k; components = z .components; choices = z .disjunctions })) ts′ ms′ hs′ ≡ handedOut (problemIn ls z) names ts ms hs k (candidateOf ls z sc false)
+      → ts′ ≡ writtenOver (typingRows (problemIn ls z) names (choicesOf (chosenExprs ls z) (part bestChoicesAt
+      (z .disjunctions) sc)) 0 (part bestSortsAt (z .exprs) sc)) ts
+      → ms′ ≡ writtenOver (part bestMeasureAt (z .components) sc) ms
+      → hs′ ≡ writtenOver (choiceRows (choicesOf (chosenExprs ls z) (part bestChoicesAt (z .disjunctions) sc))) hs
+      → answered (Typing (record { counts = k; components = z .components; choices = z .disjunctions })) ts′ ms′ hs′ ≡
+      handedOut (problemIn ls z) names ts ms hs k (candidateOf ls z sc false)
   unfolding handedOut candidateOf
   hands-out k ts′ ms′ hs′ a b c =
-      λ i. record { answer = Typing (record { counts = k; components = many-components i; choices = many-choices i }); typing = a i; measure = b i; choices = c i }
+      λ i. record {
+        answer = Typing (record { counts = k; components = many-components i; choices = many-choices i });
+        typing = a i;
+        measure = b i;
+        choices = c i;
+      }
 
   -- by whether there is an incumbent, and whether it is tied
   module _ (st : State) (k : Counts) (e : k ≡ record { sorts = st .lengths .sorts; entries = st .lengths .entries }) where
     abbrev judgment : Answered
-    judgment = judgedOut (problemIn ls z) names ts ms hs (record { sorts = st .lengths .sorts; entries = st .lengths .entries }) (bestOf ls z sc (st .best) (st .tied))
+    judgment = judgedOut (problemIn ls z) names ts ms hs (record {
+      sorts = st .lengths .sorts;
+      entries =
+          st .lengths .entries;
+    }) (bestOf ls z sc (st .best) (st .tied))
 
     pub no-incumbent : not (st .best) ≡ true → answered (NoTyping k) ts ms hs ≡ judgment
     unfolding bestOf
@@ -102,7 +123,10 @@ module _ (ws ns sc ls ks : List ℕ) (n : ℕ) (z : Sizes) (ts ms hs : List ℕ)
   outcome r = settledBy (problemIn ls z) (rowsFrom (baseNameAt ks) 0 n) ts ms hs k (outOf ls z ws ns sc r)
 
   abbrev judges : State → Answered
-  judges st = judgedOut (problemIn ls z) (rowsFrom (baseNameAt ks) 0 n) ts ms hs (record { sorts = st .lengths .sorts; entries = st .lengths .entries }) (bestOf ls z sc (st .best) (st .tied))
+  judges st = judgedOut (problemIn ls z) (rowsFrom (baseNameAt ks) 0 n) ts ms hs (record {
+    sorts = st .lengths .sorts;
+    entries = st .lengths .entries;
+  }) (bestOf ls z sc (st .best) (st .tied))
 
   pub found-settles : (st : State) → r ≡ Found st → (a : Answered) → a ≡ judges st → settled ws a ≡ outcome r
   found-settles st e a q = ap (settled ws) q ∙ sym (ap outcome e)
@@ -110,7 +134,8 @@ module _ (ws ns sc ls ks : List ℕ) (n : ℕ) (z : Sizes) (ts ms hs : List ℕ)
   pub missed-settles : (st : State) → r ≡ Missed st → (a : Answered) → a ≡ judges st → settled ws a ≡ outcome r
   missed-settles st e a q = ap (settled ws) q ∙ sym (ap outcome e)
 
-  pub ended-settles : (c : ℕ) (m : Lengths) → r ≡ Full c m → (us : List ℕ) → us ≡ givenBack (k .sorts) (k .entries) ws → settled us (answered (NoRoom c) ts ms hs) ≡ outcome r
+  pub ended-settles : (c : ℕ) (m : Lengths) → r ≡ Full c m → (us : List ℕ) → us ≡ givenBack (k .sorts) (k .entries) ws
+      → settled us (answered (NoRoom c) ts ms hs) ≡ outcome r
   ended-settles c m e us q = ap (λ us. settled us (answered (NoRoom c) ts ms hs)) q ∙ sym (ap outcome e)
 
 -- all lent memory

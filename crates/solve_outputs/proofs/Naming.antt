@@ -31,7 +31,8 @@ use Rattle.solve_outputs.specs.Inner.Written.{Walked, walked, positionAt
 use Rattle.solve_outputs.proofs.Choosing.{choices-in-all}
 
 module _ (n : ℕ) (ts : List ℕ) (x : ℕ) (t : NameTarget) where
-  pub named-inside : x < n → (ws vs : List ℕ) (a b : ℕ) → a ≡ nameKind (some t) → ws ≡ set ts (3 * x + 1) a → b ≡ nameSort (some t) → vs ≡ set ws (3 * x + 2) b → vs ≡ named n ts x t
+  pub named-inside : x < n → (ws vs : List ℕ) (a b : ℕ) → a ≡ nameKind (some t) → ws ≡ set ts (3 * x + 1) a
+      → b ≡ nameSort (some t) → vs ≡ set ws (3 * x + 2) b → vs ≡ named n ts x t
   unfolding named
   named-inside l ws vs a b p q r s =
       (s ∙ λ j. set ((q ∙ ap (set ts (3 * x + 1)) p) j) (3 * x + 2) (r j))
@@ -110,7 +111,8 @@ module _ (sc old : List ℕ) (n : ℕ) where
               p .left
               ∙ (ap (λ m. sets ts (3 * x) (namedRows noName x (part (bestSortsAt + x) m sc))) m
               ∙ (ap (λ ss. sets ts (3 * x) (namedRows noName x ss)) (part-first (bestSortsAt + x) (n - (x + 1)) sc (omega (arith, fits, l)))
-              ∙ ((λ h. sets (set (set (set ts (3 * x) (getD sc (bestSortsAt + x) 0)) (i h) 0) (j h) 0) (k h) (namedRows noName (x + 1) (part (f h) (n - (x + 1)) sc)))
+              ∙ ((λ h. sets (set (set (set ts (3 * x) (getD sc (bestSortsAt + x) 0)) (i h) 0) (j h) 0) (k h)
+              (namedRows noName (x + 1) (part (f h) (n - (x + 1)) sc)))
               ∙ ap (λ r. sets r (3 * (x + 1)) (namedRows noName (x + 1) (part (bestSortsAt + (x + 1)) (n - (x + 1)) sc))) (sym q))));
         }
 
@@ -141,14 +143,16 @@ module _ (names old : List ℕ) (n m : ℕ) where
           done =
               e
               ∙ ((λ h. named n (p .done h) (a h) ((d ∙ λ h. target (b h) (c h)) h))
-              ∙ (ap (λ j. named n (baseNamed n (rowsFrom (baseNameAt names) j (m - j)) old) (baseNameAt names (i - 1) .key) (baseNameAt names (i - 1) .target)) (sym j)
+              ∙ (ap (λ j. named n (baseNamed n (rowsFrom (baseNameAt names) j (m - j)) old)
+              (baseNameAt names (i - 1) .key) (baseNameAt names (i - 1) .target)) (sym j)
               ∙ ap (λ bs. baseNamed n bs old) (sym (rows-one-left (baseNameAt names) m (i - 1) (omega (arith, l, p .within))))));
         }
 
     pub base-end : i ≤ 0 → ts ≡ baseNamed n (rowsFrom (baseNameAt names) 0 m) old
     base-end l =
         p .done
-        ∙ (ap (λ j. baseNamed n (rowsFrom (baseNameAt names) j (m - j)) old) (let z : i ≡ 0 = omega (arith, l) in z) ∙ ap (λ bs. baseNamed n bs old) (rows-all-left (baseNameAt names) m))
+        ∙ (ap (λ j. baseNamed n (rowsFrom (baseNameAt names) j (m - j)) old) (let z : i ≡ 0 = omega (arith, l) in z) ∙
+        ap (λ bs. baseNamed n bs old) (rows-all-left (baseNameAt names) m))
 
 -- how many choices constraints have
 pub choices-more : (c : Constraint) (cs : List Constraint) → length (disjunctions (c ∷ cs)) ≡ length (disjunctionFor c []) + length (disjunctions cs)
@@ -162,7 +166,8 @@ choices-more (Join run t) cs = omega arith
 -- one constraint more before those whose names are there
 module _ (n : ℕ) (os : List Overload) (sc old : List ℕ) (cs : List Constraint) where
   one-named : (ts : List ℕ) (k : ℕ) → ts ≡ chosenNamed n os sc cs k old → (c : Constraint) → length (disjunctionFor c []) ≤ k
-      → (nameBy n os sc c ts k .words ≡ chosenNamed n os sc (c ∷ cs) (nameBy n os sc c ts k .count) old) × (nameBy n os sc c ts k .count + length (disjunctionFor c []) ≡ k)
+      → (nameBy n os sc c ts k .words ≡ chosenNamed n os sc (c ∷ cs) (nameBy n os sc c ts k .count) old) ×
+      (nameBy n os sc c ts k .count + length (disjunctionFor c []) ≡ k)
   unfolding nameBy chosenNamed
   one-named ts k e (Sub l r) h = (e, omega arith)
   one-named ts k e (Lit p kind) h = (e, omega arith)
@@ -196,7 +201,8 @@ module _ (sc old ls : List ℕ) (z : Sizes) where
   fewer-left zero l = omega arith
   fewer-left (suc i) l =
       let j : i + 1 ≡ suc i = omega arith in
-      let e = ap (λ cs. length (disjunctions cs)) (rows-one-left (constraintAt ls) (z .constraints) i (omega (arith, l))) ∙ choices-more (constraintAt ls i) (restFrom ls z (i + 1)) in
+      let e = ap (λ cs. length (disjunctions cs)) (rows-one-left (constraintAt ls) (z .constraints) i
+      (omega (arith, l))) ∙ choices-more (constraintAt ls i) (restFrom ls z (i + 1)) in
       omega (arith, fewer-left i (omega (arith, l)), e, ap (λ j. length (disjunctions (restFrom ls z j))) j)
 
   module _ (s : Sized (problemIn ls z) z) where
@@ -223,9 +229,11 @@ module _ (sc old ls : List ℕ) (z : Sizes) where
         back = omega (arith, l)
 
         rest-is : restFrom ls z (i - 1) ≡ constraintAt ls (i - 1) ∷ restFrom ls z i
-        rest-is = rows-one-left (constraintAt ls) (z .constraints) (i - 1) (omega (arith, l, p .within)) ∙ ap (λ j. constraintAt ls (i - 1) ∷ restFrom ls z j) back
+        rest-is = rows-one-left (constraintAt ls) (z .constraints) (i - 1) (omega (arith, l, p .within)) ∙ ap
+            (λ j. constraintAt ls (i - 1) ∷ restFrom ls z j) back
 
-        count-is : length (disjunctions (restFrom ls z (i - 1))) ≡ length (disjunctionFor (constraintAt ls (i - 1)) []) + length (disjunctions (restFrom ls z i))
+        count-is : length (disjunctions (restFrom ls z (i - 1))) ≡ length (disjunctionFor (constraintAt ls (i - 1))
+            []) + length (disjunctions (restFrom ls z i))
         count-is = ap (λ cs. length (disjunctions cs)) rest-is ∙ choices-more (constraintAt ls (i - 1)) (restFrom ls z i)
 
         own-choice : length (disjunctionFor (constraintAt ls (i - 1)) []) ≤ k
@@ -234,17 +242,20 @@ module _ (sc old ls : List ℕ) (z : Sizes) where
         pub names-enough : (c : Constraint) → c ≡ constraintAt ls (i - 1) → length (disjunctionFor c []) ≤ k
         names-enough c e = subst (λ c. length (disjunctionFor c []) ≤ k) (sym e) own-choice
 
-        pub names-go-on : (c : Constraint) → c ≡ constraintAt ls (i - 1) → (ws : List ℕ) (k′ : ℕ) → walked ws k′ ≡ nameBy (z .exprs) overloads sc c ts k → NamesLeft ws k′ (i - 1)
+        pub names-go-on : (c : Constraint) → c ≡ constraintAt ls (i - 1) → (ws : List ℕ) (k′ : ℕ)
+            → walked ws k′ ≡ nameBy (z .exprs) overloads sc c ts k → NamesLeft ws k′ (i - 1)
         names-go-on c e ws k′ y =
             let q : walked ws k′ ≡ nameBy (z .exprs) overloads sc (constraintAt ls (i - 1)) ts k = y ∙ ap (λ c. nameBy (z .exprs) overloads sc c ts k) e in
             let o = one-named (z .exprs) overloads sc old (restFrom ls z i) ts k (p .done) (constraintAt ls (i - 1)) own-choice in
             let r : ws ≡ chosenNamed (z .exprs) overloads sc (constraintAt ls (i - 1) ∷ restFrom ls z i) k′ old =
             subst (λ (w : Walked). w .words ≡ chosenNamed (z .exprs) overloads sc (constraintAt ls (i - 1) ∷ restFrom ls z i) (w .count) old) (sym q) (o .0) in
-            let f : k′ + length (disjunctionFor (constraintAt ls (i - 1)) []) ≡ k = subst (λ (w : Walked). w .count + length (disjunctionFor (constraintAt ls (i - 1)) []) ≡ k) (sym q) (o .1) in
+            let f : k′ + length (disjunctionFor (constraintAt ls (i - 1)) []) ≡ k = subst (λ (w : Walked). w .count +
+            length (disjunctionFor (constraintAt ls (i - 1)) []) ≡ k) (sym q) (o .1) in
             record {
               within = omega (arith, p .within);
               count = omega (arith, f, count-is, p .count);
-              long = ap (λ (w : Walked). length (w .words)) q ∙ (length-by (z .exprs) overloads sc old (restFrom ls z i) ts k (constraintAt ls (i - 1)) ∙ p .long);
+              long = ap (λ (w : Walked). length (w .words)) q ∙ (length-by (z .exprs) overloads sc old
+                  (restFrom ls z i) ts k (constraintAt ls (i - 1)) ∙ p .long);
               done = r ∙ ap (λ cs. chosenNamed (z .exprs) overloads sc cs k′ old) (sym rest-is);
             }
 

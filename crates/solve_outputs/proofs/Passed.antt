@@ -1,4 +1,5 @@
--- What a call that no check refuses gives the search to begin with, and what comes after the search: counts and rows within their ceilings, room in the outputs,
+-- What a call that no check refuses gives the search to begin with, and what comes after the search: counts and rows
+-- within their ceilings, room in the outputs,
 -- and a first branch. The checks taken apart; the packed lists say the call's problem. Assumes nothing.
 use mathlib.Core.Path.{_≡_, refl, sym, ap, subst, _∙_}
 use mathlib.Core.Bool.{true, _&&_}
@@ -91,7 +92,8 @@ module _ (I : Call) (x : firstFailing (solveChecks I) ≡ none) where
         constraints = r .constraints;
         overloads = r .overloads;
         sources = r .sources;
-        components = leb-true (components (given I)) maxComponents (and-right (joinsFine (given I)) (leb (components (given I)) maxComponents) (all-pass .components));
+        components = leb-true (components (given I)) maxComponents (and-right (joinsFine (given I))
+            (leb (components (given I)) maxComponents) (all-pass .components));
         disjunctions = omega (arith, few-disjunctions (given I), length-rows (constraintAt (I .constraints)) 0 (I .rows .constraints), r .constraints);
       }
 
@@ -154,14 +156,21 @@ module _ (I : Call) (x : firstFailing (solveChecks I) ≡ none) where
           suits = suits;
           sized = sized;
           long = omega (arith, passed-outputs .scratch);
-          trail = omega (arith, frees-few (bindsOf (I .binds) (I .lengths .variables)), length-binds (I .binds) (I .lengths .variables), A .ready .nodes .variables);
+          trail = omega (
+            arith,
+            frees-few (bindsOf (I .binds) (I .lengths .variables)),
+            length-binds (I .binds)
+                (I .lengths .variables),
+            A .ready .nodes .variables,
+          );
           fine = omega arith;
           measure = let z : components (restFrom ls (sizesOf I) 0) ≡ components (given I) = ap components rest-is-all in omega (arith, z);
           choices = refl;
           few = omega arith;
         }
 
-    pub handable : (sc : List ℕ) → length sc ≡ length (I .scratch) → Handable sc ls (I .names) (I .rows .names) (sizesOf I) (I .typing) (I .measure) (I .choices)
+    pub handable : (sc : List ℕ) → length sc ≡ length (I .scratch) → Handable sc ls (I .names) (I .rows .names)
+        (sizesOf I) (I .typing) (I .measure) (I .choices)
     unfolding sizesOf
     handable sc l =
         record {

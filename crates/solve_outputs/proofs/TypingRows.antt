@@ -44,7 +44,8 @@ unfolding namedRows
 rows-alike name name′ x [] h = refl
 rows-alike name name′ x (s ∷ ss) h =
     let a : name x ≡ name′ x = ap name (omega arith) ∙ (h 0 (omega arith) ∙ ap name′ (omega arith)) in
-    let b : namedRows name (x + 1) ss ≡ namedRows name′ (x + 1) ss = rows-alike name name′ (x + 1) ss (λ j l. ap name (omega arith) ∙ (h (suc j) (omega (arith, l)) ∙ ap name′ (omega arith))) in
+    let b : namedRows name (x + 1) ss ≡ namedRows name′ (x + 1) ss = rows-alike name name′ (x + 1) ss
+    (λ j l. ap name (omega arith) ∙ (h (suc j) (omega (arith, l)) ∙ ap name′ (omega arith))) in
     λ i. s ∷ nameKind (a i) ∷ nameSort (a i) ∷ b i
 
 -- one name more
@@ -72,7 +73,8 @@ module _ (name : Named) (t : Option NameTarget) (rest : List ℕ) where
       let p : 3 * suc j + 1 ≡ suc (suc (suc (3 * j + 1))) = omega arith in
       let q : 3 * suc j + 2 ≡ suc (suc (suc (3 * j + 2))) = omega arith in
       let a = other-name (x + suc j) x t name (λ e. omega (arith, e)) in
-      let b = name-stored (x + 1) ss j (omega (arith, l)) ∙ ap (λ y. namedRows (with-name y t name) (x + 1) ss ++ rest) (let z : x + 1 + j ≡ x + suc j = omega arith in z) in
+      let b = name-stored (x + 1) ss j (omega (arith, l)) ∙ ap (λ y. namedRows (with-name y t name) (x + 1) ss ++
+      rest) (let z : x + 1 + j ≡ x + suc j = omega arith in z) in
       (λ i. set (set (namedRows name x (s ∷ ss) ++ rest) (p i) (nameKind t)) (q i) (nameSort t)) ∙ λ i. s ∷ nameKind (a i) ∷ nameSort (a i) ∷ b i
 
 -- where there is no row, none changes
@@ -81,9 +83,11 @@ module _ (name : Named) (ss rest : List ℕ) (y : ℕ) (t : NameTarget) where
   unfolding named
   rows-named = go (ltb y (length ss)) refl
     where
-      go : (u : Bool) → ltb y (length ss) ≡ u → cond u (stored name (some t) rest (namedRows name 0 ss ++ rest) y) (namedRows name 0 ss ++ rest) ≡ namedRows (with-name y (some t) name) 0 ss ++ rest
+      go : (u : Bool) → ltb y (length ss) ≡ u → cond u (stored name (some t) rest (namedRows name 0 ss ++ rest) y)
+          (namedRows name 0 ss ++ rest) ≡ namedRows (with-name y (some t) name) 0 ss ++ rest
       go true e =
-          name-stored name (some t) rest 0 ss y (ltb-true y (length ss) e) ∙ ap (λ y. namedRows (with-name y (some t) name) 0 ss ++ rest) (let z : 0 + y ≡ y = omega arith in z)
+          name-stored name (some t) rest 0 ss y (ltb-true y (length ss) e) ∙ ap (λ y. namedRows (with-name y (some t)
+          name) 0 ss ++ rest) (let z : 0 + y ≡ y = omega arith in z)
       go false e =
           let h = ltb-false y (length ss) e in
           ap (λ rs. rs ++ rest) (rows-alike name (with-name y (some t) name) 0 ss (λ j l. other-name y (0 + j) (some t) name (λ e. omega (arith, e, h, l))))
@@ -113,7 +117,8 @@ module _ (os : List Overload) (sc : List ℕ) where
   or-else-cond false a b c t e = refl
 
   module _ (name : Named) (ss rest : List ℕ) where
-    rows-chosen-named : (cs : List Constraint) (k : ℕ) → chosenNamed (length ss) os sc cs k (namedRows name 0 ss ++ rest) ≡ namedRows (overBase cs k name) 0 ss ++ rest
+    rows-chosen-named : (cs : List Constraint) (k : ℕ) → chosenNamed (length ss) os sc cs k (namedRows name 0 ss ++
+        rest) ≡ namedRows (overBase cs k name) 0 ss ++ rest
     unfolding chosenNamed ownChosen
     rows-chosen-named [] k = refl
     rows-chosen-named (Sub l r ∷ cs) k = rows-chosen-named cs k
@@ -130,7 +135,8 @@ module _ (os : List Overload) (sc : List ℕ) where
 
 module _ (P : Problem) (sc : List ℕ) (d : ℕ) (fits : bestChoicesAt + d ≤ length sc) (x : ℕ) where
   -- by whether the constraint is for x
-  own-by-test : (u : Bool) (run : Run) (cs : List Constraint) (i : ℕ) (own more : Option NameTarget) → runFor x (P .constraints) ≡ orElse (cond u (some run) none) (runFor x cs)
+  own-by-test : (u : Bool) (run : Run) (cs : List Constraint) (i : ℕ) (own more : Option NameTarget)
+      → runFor x (P .constraints) ≡ orElse (cond u (some run) none) (runFor x cs)
       → (runFor x (P .constraints) ≡ runFor x cs → own ≡ more)
       → cond u (some (overloadIn (P .overloads) run i .target)) own ≡ cond u (targetIn (P .overloads) i (runFor x (P .constraints))) more
   own-by-test true run cs i own more e f = sym (ap (targetIn (P .overloads) i) e)
@@ -144,9 +150,12 @@ module _ (P : Problem) (sc : List ℕ) (d : ℕ) (fits : bestChoicesAt + d ≤ l
   own-is-chosen (Lit p kind ∷ cs) k h e = own-is-chosen cs k h e
   own-is-chosen (Disjunction y p run ∷ cs) k h e =
       own-by-test (eqb (y .0) x) run cs (positionAt sc k) _ _ e (own-is-chosen cs (k + 1) (omega (arith, h)))
-      ∙ sym (ap (λ m. chosenName P (choicesOf (y .0 ∷ disjunctions cs) (part (bestChoicesAt + k) m sc)) x) (let z : d - k ≡ suc (d - (k + 1)) = omega (arith, h) in z)
+      ∙ sym (ap (λ m. chosenName P (choicesOf (y .0 ∷ disjunctions cs) (part (bestChoicesAt + k) m sc)) x)
+      (let z : d - k ≡ suc (d - (k + 1)) = omega (arith, h) in z)
       ∙ (ap (λ is. chosenName P (choicesOf (y .0 ∷ disjunctions cs) is) x) (part-first (bestChoicesAt + k) (d - (k + 1)) sc (omega (arith, fits, h)))
-      ∙ ap (λ m. chosenName P (record { expr = y .0; position = positionAt sc k } ∷ choicesOf (disjunctions cs) (part m (d - (k + 1)) sc)) x) (let z : suc (bestChoicesAt + k) ≡ bestChoicesAt + (k + 1) = omega arith in z)))
+      ∙ ap (λ m. chosenName P (record { expr = y .0; position = positionAt sc k } ∷ choicesOf (disjunctions cs)
+      (part m (d - (k + 1)) sc)) x) (let z : suc (bestChoicesAt + k) ≡ bestChoicesAt + (k + 1) = omega arith in
+      z)))
   own-is-chosen (Comprehension body node element ∷ cs) k h e = own-is-chosen cs k h e
   own-is-chosen (Join run t ∷ cs) k h e = own-is-chosen cs k h e
 
@@ -156,7 +165,8 @@ unfolding namedRows typingRows
 rows-of-typing P bs ks x [] = refl
 rows-of-typing P bs ks x (s ∷ ss) = ap (λ rs. s ∷ nameKind (nameOf P bs ks x) ∷ nameSort (nameOf P bs ks x) ∷ rs) (rows-of-typing P bs ks (x + 1) ss)
 
-pub typing-written : (P : Problem) (bs : List BaseName) (sc old ss : List ℕ) (n d : ℕ) → bestChoicesAt + d ≤ length sc → length (disjunctions (P .constraints)) ≡ d
+pub typing-written : (P : Problem) (bs : List BaseName) (sc old ss : List ℕ) (n d : ℕ) → bestChoicesAt + d ≤ length sc
+    → length (disjunctions (P .constraints)) ≡ d
     → length ss ≡ n → 3 * n ≤ length old
     → chosenNamed n (P .overloads) sc (P .constraints) 0 (baseNamed n bs (sets old 0 (namedRows noName 0 ss)))
     ≡ writtenOver (typingRows P bs (choicesOf (disjunctions (P .constraints)) (part bestChoicesAt d sc)) 0 ss) old
@@ -165,13 +175,17 @@ typing-written P bs sc old ss n d fits all e room =
     let ks = choicesOf (disjunctions (P .constraints)) (part bestChoicesAt d sc) in
     let a = stored-is-over (namedRows noName 0 ss) old (omega (arith, length-rows noName 0 ss, e, room)) in
     let b : length (namedRows noName 0 ss) ≡ length (namedRows (nameOf P bs ks) 0 ss) = length-rows noName 0 ss ∙ sym (length-rows (nameOf P bs ks) 0 ss) in
-    let c : (x : ℕ) → ownChosen (P .overloads) sc (P .constraints) 0 x ≡ chosenName P ks x = λ x. own-is-chosen P sc d fits x (P .constraints) 0 (omega (arith, all)) refl ∙ ap (λ m. chosenName P (choicesOf (disjunctions (P .constraints)) (part bestChoicesAt m sc)) x) (let z : d - 0 ≡ d = omega arith in z) in
+    let c : (x : ℕ) → ownChosen (P .overloads) sc (P .constraints) 0 x ≡ chosenName P ks x = λ x. own-is-chosen P sc d
+    fits x (P .constraints) 0 (omega (arith, all)) refl ∙ ap (λ m. chosenName P
+    (choicesOf (disjunctions (P .constraints)) (part bestChoicesAt m sc)) x) (let z : d - 0 ≡ d = omega arith in
+    z) in
     let rest = drop (length (namedRows noName 0 ss)) old in
     ap (λ m. chosenNamed m (P .overloads) sc (P .constraints) 0 (baseNamed m bs (sets old 0 (namedRows noName 0 ss)))) (sym e)
     ∙ (ap (λ ts. chosenNamed (length ss) (P .overloads) sc (P .constraints) 0 (baseNamed (length ss) bs ts)) a
     ∙ (ap (chosenNamed (length ss) (P .overloads) sc (P .constraints) 0) (rows-base-named ss rest bs)
     ∙ (rows-chosen-named (P .overloads) sc (baseName bs) ss rest (P .constraints) 0
-    ∙ (ap (λ rs. rs ++ rest) (rows-alike (overBase (P .overloads) sc (P .constraints) 0 (baseName bs)) (nameOf P bs ks) 0 ss (λ j l. ap (λ (o : Option NameTarget). orElse o (baseName bs (0 + j))) (c (0 + j))))
+    ∙ (ap (λ rs. rs ++ rest) (rows-alike (overBase (P .overloads) sc (P .constraints) 0 (baseName bs))
+    (nameOf P bs ks) 0 ss (λ j l. ap (λ (o : Option NameTarget). orElse o (baseName bs (0 + j))) (c (0 + j))))
     ∙ (ap (λ m. namedRows (nameOf P bs ks) 0 ss ++ drop m old) b
     ∙ ap (λ rs. rs ++ drop (length rs) old) (rows-of-typing P bs ks 0 ss))))))
 
@@ -179,7 +193,8 @@ typing-written P bs sc old ss n d fits all e room =
 pub typing-handed-out : (sc old ls : List ℕ) (bs : List BaseName) (z : Sizes) → Sized (problemIn ls z) z → 3 * z .exprs ≤ length old → scratchUsed ≤ length sc
     → (us vs ws : List ℕ) → us ≡ sets old 0 (namedRows noName 0 (part bestSortsAt (z .exprs) sc)) → vs ≡ baseNamed (z .exprs) bs us
     → ws ≡ chosenNamed (z .exprs) (rowsFrom (overloadAt (drop overloadsAt ls)) 0 (z .overloads)) sc (restFrom ls z 0) 0 vs
-    → ws ≡ writtenOver (typingRows (problemIn ls z) bs (choicesOf (chosenExprs ls z) (part bestChoicesAt (z .disjunctions) sc)) 0 (part bestSortsAt (z .exprs) sc)) old
+    → ws ≡ writtenOver (typingRows (problemIn ls z) bs (choicesOf (chosenExprs ls z) (part bestChoicesAt
+    (z .disjunctions) sc)) 0 (part bestSortsAt (z .exprs) sc)) old
 unfolding problemIn chosenExprs
 typing-handed-out sc old ls bs z s room used us vs ws a b c =
     let P = problemIn ls z in

@@ -68,8 +68,10 @@ module _ {M : Type 1} {𝓤 : URA M} {H : Heap 𝓤} {A : Atoms 𝓤} {K : Type 
 
   pub ends-unit : K → {C : Calls 𝓤 H} {Λ : Loops 𝓤 H} {Kf : Val → SProp 𝓤} (ls : List Local) (l : ℕ) (bs : List ℕ) (cs : List Cell)
       → Step K W Γ (prop (Kf vunit)) (cells 𝓤 (local tyUnit valueLocal ∷ ls) (l ∷ bs) (empty ∷ cs) Γ)
-      (runs C Λ (envAt 𝓤 H (local tyUnit valueLocal ∷ ls) (l ∷ bs)) (seq (assign (place 0 []) (rvOpd opdUnit)) return) (atRet (envAt 𝓤 H (local tyUnit valueLocal ∷ ls) (l ∷ bs)) Kf))
-  ends-unit t ls l bs cs = step (λ s. assigns t (of-opd t (unit-lit t)) (from t (stop t)) (init t 0 refl (tt, tt)) $ returns t (look t 0 refl) $ releases t (local tyUnit valueLocal ∷ ls) (l ∷ bs) (full vunit ∷ cs) $ s)
+      (runs C Λ (envAt 𝓤 H (local tyUnit valueLocal ∷ ls) (l ∷ bs)) (seq (assign (place 0 []) (rvOpd opdUnit)) return)
+      (atRet (envAt 𝓤 H (local tyUnit valueLocal ∷ ls) (l ∷ bs)) Kf))
+  ends-unit t ls l bs cs = step (λ s. assigns t (of-opd t (unit-lit t)) (from t (stop t)) (init t 0 refl (tt, tt)) $
+      returns t (look t 0 refl) $ releases t (local tyUnit valueLocal ∷ ls) (l ∷ bs) (full vunit ∷ cs) $ s)
 
   pub big-lit : K → {E : Env 𝓤 H} {w : Width} {n : ℕ} → Fits w n → Opd K W Γ E (intBig w n) (vint w n)
   big-lit t {E} {w} {n} f = record { go = λ Kt h. via 𝓤 (Kt (vint w n)) h (guardI 𝓤 (Fits w n) (Kt (vint w n)) f) }

@@ -1,4 +1,5 @@
--- Records past the ceiling change nothing, so the first 1,024 may stand for all. A count above the ceiling is refused by check 1, whatever the overloads are. Under
+-- Records past the ceiling change nothing, so the first 1,024 may stand for all. A count above the ceiling is refused
+-- by check 1, whatever the overloads are. Under
 -- another count only the words of its rows are looked at: by the checks, by the search and by the names handed out; and these words both lists share.
 -- Assumes nothing.
 use mathlib.Core.Path.{_≡_, refl, sym, ap, ap₂, _∙_}
@@ -22,8 +23,13 @@ use Rattle.inference.specs.declared.Constraint.the-variants.{Sub, Lit, Disjunct
 use Rattle.inference.specs.declared.Solved.the-variants.{Typing}
 use Rattle.inference.specs.Constraints.{maxOverloads, maxComponents, target, constraintAt, overloadAt, rowsFrom, Problem}
 use Rattle.inference.specs.Search.{Candidate, Out, found, missed, ended, solve}
-use Rattle.inference.specs.SolveChecks.{Call, placed, listed, given, disjunctions, noTwo, keys, joinsFine, components, rowsWithinLent, allWithinLent, targetFine, exprsFine, namesFine, overloadFine, constraintFine, constraintsFine, outputsLong, longEnough, solveChecks}
-use Rattle.inference.specs.SolveEntry.{problemOf, baseNamesOf, startPath, lentOf, searched, SolveLeft, leftWith, refused, typingRows, choiceRows, writtenOver, countsIn, judgedBy, judged, verdict, nothingMet, solveEntry}
+use Rattle.inference.specs.SolveChecks.{Call, placed, listed, given, disjunctions, noTwo, keys, joinsFine}
+use Rattle.inference.specs.SolveChecks.{components, rowsWithinLent, allWithinLent, targetFine, exprsFine, namesFine}
+use Rattle.inference.specs.SolveChecks.{overloadFine, constraintFine, constraintsFine, outputsLong, longEnough}
+use Rattle.inference.specs.SolveChecks.{solveChecks}
+use Rattle.inference.specs.SolveEntry.{problemOf, baseNamesOf, startPath, lentOf, searched, SolveLeft, leftWith}
+use Rattle.inference.specs.SolveEntry.{refused, typingRows, choiceRows, writtenOver, countsIn, judgedBy, judged}
+use Rattle.inference.specs.SolveEntry.{verdict, nothingMet, solveEntry}
 use Rattle.inference.proofs.Members.{rows-same}
 use Rattle.inference.proofs.Accepted.{within}
 use Rattle.solve_checks.specs.declared.Given.{Given}
@@ -87,7 +93,8 @@ module _ (g : Given) (ws ns bs xs ks cs ss sc ts ms hs : List ℕ) where
   -- a count above the ceiling
   refused-by-1 : (os : List ℕ) → maxOverloads < n → solveEntry (call os) ≡ refused (call []) 1
   unfolding solveEntry
-  refused-by-1 os past = ap (λ (o : Option ℕ). refusedOr o (refused (call [])) (verdict (call os) (searched (Unit {0}) nothingMet tt (call os)))) (fails (allWithinLent (call os)) refl)
+  refused-by-1 os past = ap (λ (o : Option ℕ). refusedOr o (refused (call [])) (verdict (call os) (searched (Unit {0})
+      nothingMet tt (call os)))) (fails (allWithinLent (call os)) refl)
     where
       fails : (b : Bool) → allWithinLent (call os) ≡ b → firstFailing (solveChecks (call os)) ≡ some 1
       fails true e = absurd (omega (arith, past, rows-lent (call os) (within (call os) e .3) .overloads))
@@ -104,7 +111,14 @@ module _ (g : Given) (ws ns bs xs ks cs ss sc ts ms hs : List ℕ) where
 
     problem-same : problemOf (call os) ≡ problemOf (call os′)
     problem-same =
-        ap (λ (rows : List Overload). record { constraints = given (call os); overloads = rows; sources = problemOf (call os) .sources; exprs = problemOf (call os) .exprs; default = g .default })
+        ap (λ (rows : List Overload). record {
+          constraints = given (call os);
+          overloads = rows;
+          sources = problemOf
+              (call os) .sources;
+          exprs = problemOf (call os) .exprs;
+          default = g .default;
+        })
         (rows-same (overloadAt os) (overloadAt os′) n overload-same)
 
     fine-same : (i : ℕ) → i < n → overloadFine (call os) i ≡ overloadFine (call os′) i
@@ -119,14 +133,17 @@ module _ (g : Given) (ws ns bs xs ks cs ss sc ts ms hs : List ℕ) where
     constraint-same b (Sub l r) = refl
     constraint-same b (Lit p kind) = refl
     constraint-same b (Disjunction x p run) =
-        ap (λ (t : Bool). ltb (x .0) (g .exprs) && placed (call os) (p .0) && t) (run-same n (overloadFine (call os)) (overloadFine (call os′)) fine-same (run .start) (run .count))
+        ap (λ (t : Bool). ltb (x .0) (g .exprs) && placed (call os) (p .0) && t) (run-same n (overloadFine (call os))
+        (overloadFine (call os′)) fine-same (run .start) (run .count))
     constraint-same b (Comprehension body node element) = refl
     constraint-same b (Join run t) = refl
 
     constraints-same : constraintsFine (call os) ≡ constraintsFine (call os′)
     unfolding constraintsFine
     constraints-same =
-        below-same (λ i. leb (getD cs (5 * i) 0) 4 && constraintFine (call os) (getD cs (5 * i + 2) 0) (constraintAt cs i)) (λ i. leb (getD cs (5 * i) 0) 4 && constraintFine (call os′) (getD cs (5 * i + 2) 0) (constraintAt cs i)) (g .constraints)
+        below-same (λ i. leb (getD cs (5 * i) 0) 4 && constraintFine (call os) (getD cs (5 * i + 2) 0)
+        (constraintAt cs i)) (λ i. leb (getD cs (5 * i) 0) 4 && constraintFine (call os′) (getD cs (5 * i + 2) 0)
+        (constraintAt cs i)) (g .constraints)
         (λ i l. ap (λ (t : Bool). leb (getD cs (5 * i) 0) 4 && t) (constraint-same (getD cs (5 * i + 2) 0) (constraintAt cs i)))
 
     within-same : allWithinLent (call os) ≡ allWithinLent (call os′)
@@ -139,8 +156,14 @@ module _ (g : Given) (ws ns bs xs ks cs ss sc ts ms hs : List ℕ) where
     by-tie : (W : Lent) (c : Candidate) (b : Bool) → judgedBy (call os) W c b ≡ judgedBy (call os′) W c b
     by-tie W c true = refl
     by-tie W c false =
-        ap (λ (P : Problem). leftWith (call os) (Typing (record { counts = countsIn W; components = length (c .measure); choices = length (c .choices) })) (W .sorts)
-        (writtenOver (typingRows P (baseNamesOf (call os)) (c .choices) 0 (c .sorts)) ts) (writtenOver (c .measure) ms) (writtenOver (choiceRows (c .choices)) hs))
+        ap (λ (P : Problem). leftWith (call os) (Typing (record {
+          counts = countsIn W;
+          components = length
+              (c .measure);
+          choices = length (c .choices);
+        })) (W .sorts)
+        (writtenOver (typingRows P (baseNamesOf (call os)) (c .choices) 0 (c .sorts)) ts) (writtenOver (c .measure)
+        ms) (writtenOver (choiceRows (c .choices)) hs))
         problem-same
 
     by-best : (W : Lent) (b : Option Candidate) → judged (call os) W b ≡ judged (call os′) W b
@@ -153,7 +176,8 @@ module _ (g : Given) (ws ns bs xs ks cs ss sc ts ms hs : List ℕ) where
     by-out (ended c W) = refl
 
     searched-same : searched (Unit {0}) nothingMet tt (call os) ≡ searched (Unit {0}) nothingMet tt (call os′)
-    searched-same = ap (λ (P : Problem). solve (Unit {0}) nothingMet P (given (call os)) (startPath (call os)) (record { lent = lentOf (call os); best = none; met = tt })) problem-same
+    searched-same = ap (λ (P : Problem). solve (Unit {0}) nothingMet P (given (call os)) (startPath (call os))
+        (record { lent = lentOf (call os); best = none; met = tt })) problem-same
 
     entry-same : solveEntry (call os) ≡ solveEntry (call os′)
     unfolding solveEntry
@@ -172,7 +196,8 @@ first-words (suc k) (o ∷ rs) =
 
 -- Whatever else the call is given.
 pub records-past-the-ceiling-change-nothing : (g : Given) (ws ns bs xs ks cs ss sc ts ms hs : List ℕ) (rs : List OverloadRecord)
-    → solveEntry (callOf g ws ns bs xs ks cs (recordWords (take maxOverloads rs)) ss sc ts ms hs) ≡ solveEntry (callOf g ws ns bs xs ks cs (recordWords rs) ss sc ts ms hs)
+    → solveEntry (callOf g ws ns bs xs ks cs (recordWords (take maxOverloads rs)) ss sc ts ms hs) ≡ solveEntry
+    (callOf g ws ns bs xs ks cs (recordWords rs) ss sc ts ms hs)
 records-past-the-ceiling-change-nothing g ws ns bs xs ks cs ss sc ts ms hs rs = go (leb (g .overloads) maxOverloads) refl
   where
     few : List ℕ
@@ -184,12 +209,15 @@ records-past-the-ceiling-change-nothing g ws ns bs xs ks cs ss sc ts ms hs rs = 
     few-long : length few ≡ 3 * min maxOverloads (length rs)
     few-long = three-words-each (take maxOverloads rs) ∙ ap (λ (m : ℕ). 3 * m) (length-take maxOverloads rs)
 
-    go : (b : Bool) → leb (g .overloads) maxOverloads ≡ b → solveEntry (callOf g ws ns bs xs ks cs few ss sc ts ms hs) ≡ solveEntry (callOf g ws ns bs xs ks cs all ss sc ts ms hs)
+    go : (b : Bool) → leb (g .overloads) maxOverloads ≡ b → solveEntry (callOf g ws ns bs xs ks cs few ss sc ts ms hs)
+        ≡ solveEntry (callOf g ws ns bs xs ks cs all ss sc ts ms hs)
     go false e =
         let past = leb-false (g .overloads) maxOverloads e in
         refused-by-1 g ws ns bs xs ks cs ss sc ts ms hs few past ∙ sym (refused-by-1 g ws ns bs xs ks cs ss sc ts ms hs all past)
     go true e =
         let c = leb-true (g .overloads) maxOverloads e in
         entry-same g ws ns bs xs ks cs ss sc ts ms hs few all
-        (leb-same (3 * g .overloads) (length few) (3 * g .overloads) (length all) (λ l. omega (arith, l, few-long, three-words-each rs)) (λ l. omega (arith, l, c, few-long, three-words-each rs)))
+        (leb-same (3 * g .overloads) (length few) (3 * g .overloads) (length all)
+        (λ l. omega (arith, l, few-long, three-words-each rs))
+        (λ l. omega (arith, l, c, few-long, three-words-each rs)))
         (λ i l. ap (λ (l : List ℕ). getD l i 0) (first-words maxOverloads rs) ∙ getD-take (3 * maxOverloads) all i 0 (omega (arith, l, c)))

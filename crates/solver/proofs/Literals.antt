@@ -36,7 +36,8 @@ use Rattle.search_steps.proofs.Attempt.{went-with}
 use Rattle.solver.specs.Inner.Asked.{TriesFine}
 use Rattle.solver.proofs.Ways.{fixed-placed}
 
-module _ (ls : List ℕ) (z : Sizes) (ws ns bs sc : List ℕ) (k : State) (e : Branch) (p : InferSortId) (kind : LitKind) (next : Next) (S : Searching ws ns bs sc ls z k e 1 [] next)
+module _ (ls : List ℕ) (z : Sizes) (ws ns bs sc : List ℕ) (k : State) (e : Branch) (p : InferSortId) (kind : LitKind)
+    (next : Next) (S : Searching ws ns bs sc ls z k e 1 [] next)
     (h : Placed (k .lengths) (p .0)) (x : LitAt) (q : x ≡ litAt kind (graph (lent ws ns (k .lengths))) (bindsOf bs (k .lengths .variables)) (p .0)) where
   abbrev P : Problem
   P = problemIn ls z
@@ -51,13 +52,16 @@ module _ (ls : List ℕ) (z : Sizes) (ws ns bs sc : List ℕ) (k : State) (e : B
   goal = literal (Unit {0}) nothingMet P kind (p .0) (nextOf ls z next)
 
   by-kind : (y : LitAt) → x ≡ y → literalBy (Unit {0}) nothingMet P (nextOf ls z next) path w kind (p .0) y ≡ goal path w
-  by-kind y i = ap (literalBy (Unit {0}) nothingMet P (nextOf ls z next) path w kind (p .0)) (sym i ∙ q) ∙ sym (literal-by-what-stands (Unit {0}) nothingMet P (nextOf ls z next) path w kind (p .0))
+  by-kind y i = ap (literalBy (Unit {0}) nothingMet P (nextOf ls z next) path w kind (p .0)) (sym i ∙ q) ∙ sym
+      (literal-by-what-stands (Unit {0}) nothingMet P (nextOf ls z next) path w kind (p .0))
 
   pub lit-number : (g : ℕ) → x ≡ Number g → (sc₁ : List ℕ) (e₁ : Branch) → sc₁ ≡ stepWords (Component g) e sc → e₁ ≡ branchAfter e (e .trail) (Component g)
-      → (ws₂ ns₂ bs₂ sc₂ : List ℕ) (r : Answer) → Comes ls z ws ns bs sc₁ k e₁ (nextOf ls z next) ws₂ ns₂ bs₂ sc₂ r → Comes ls z ws ns bs sc k e goal ws₂ ns₂ bs₂ sc₂ r
+      → (ws₂ ns₂ bs₂ sc₂ : List ℕ) (r : Answer) → Comes ls z ws ns bs sc₁ k e₁ (nextOf ls z next) ws₂ ns₂ bs₂ sc₂ r
+      → Comes ls z ws ns bs sc k e goal ws₂ ns₂ bs₂ sc₂ r
   unfolding pathAfter
   lit-number g i sc₁ e₁ a b ws₂ ns₂ bs₂ sc₂ r d =
-      done-as ls z ws ns bs sc k e (S .ready .nodes) _ _ ws₂ ns₂ bs₂ sc₂ r (by-kind (Number g) i) (went-with ls z ws ns bs sc k e (Component g) next S sc₁ e₁ a b ws₂ ns₂ bs₂ sc₂ r d)
+      done-as ls z ws ns bs sc k e (S .ready .nodes) _ _ ws₂ ns₂ bs₂ sc₂ r (by-kind (Number g) i) (went-with ls z ws
+      ns bs sc k e (Component g) next S sc₁ e₁ a b ws₂ ns₂ bs₂ sc₂ r d)
 
   pub lit-other : x ≡ Other → Comes ls z ws ns bs sc k e goal ws ns bs sc (Missed k)
   lit-other i = done-as ls z ws ns bs sc k e (S .ready .nodes) _ _ ws ns bs sc (Missed k) (by-kind Other i) (misses ls z ws ns bs sc k e (S .ready .nodes))
@@ -66,7 +70,8 @@ module _ (ls : List ℕ) (z : Sizes) (ws ns bs sc : List ℕ) (k : State) (e : B
     from-nat : TriesPlaced (lent ws ns (k .lengths)) (fromNat (p .0))
     from-nat =
         and-all _ _ (h, fixed-placed (k .lengths) (S .suits .six) 3 (omega arith))
-        (and-all _ _ (h, fixed-placed (k .lengths) (S .suits .six) 4 (omega arith)) (and-all _ _ (h, fixed-placed (k .lengths) (S .suits .six) 5 (omega arith)) none-left))
+        (and-all _ _ (h, fixed-placed (k .lengths) (S .suits .six) 4 (omega arith))
+        (and-all _ _ (h, fixed-placed (k .lengths) (S .suits .six) 5 (omega arith)) none-left))
 
     numbers-placed : (kind : LitKind) → TriesPlaced (lent ws ns (k .lengths)) (litTries kind (p .0))
     numbers-placed Positive = and-all _ _ (h, fixed-placed (k .lengths) (S .suits .six) 2 (omega arith)) from-nat
@@ -75,7 +80,9 @@ module _ (ls : List ℕ) (z : Sizes) (ws ns bs sc : List ℕ) (k : State) (e : B
     pub lit-fine : TriesFine (lent ws ns (k .lengths)) t 0
     lit-fine = record { few = f .few; first = f .first; placed = subst (TriesPlaced (lent ws ns (k .lengths))) (sym (f .says)) (numbers-placed kind) }
 
-    pub lit-free : x ≡ Free → (ws₂ ns₂ bs₂ sc₂ : List ℕ) (r : Answer) → Comes ls z ws ns bs sc k e (firstFound (Unit {0}) nothingMet P (triesFrom t 0) (nextOf ls z next)) ws₂ ns₂ bs₂ sc₂ r
+    pub lit-free : x ≡ Free → (ws₂ ns₂ bs₂ sc₂ : List ℕ) (r : Answer)
+        → Comes ls z ws ns bs sc k e (firstFound (Unit {0}) nothingMet P (triesFrom t 0) (nextOf ls z next)) ws₂ ns₂
+        bs₂ sc₂ r
         → Comes ls z ws ns bs sc k e goal ws₂ ns₂ bs₂ sc₂ r
     lit-free i ws₂ ns₂ bs₂ sc₂ r d =
         done-as ls z ws ns bs sc k e (S .ready .nodes) _ _ ws₂ ns₂ bs₂ sc₂ r

@@ -43,7 +43,8 @@ use Rattle.solver.proofs.Widening.{withLengths}
 use Rattle.inference.proofs.Members.{rows-one-left, rows-none-left}
 
 -- whether a leaf was found so far
-pub says-so : (ls : List ℕ) (z : Sizes) (ws ns bs sc : List ℕ) (k : State) (e : Branch) → CheckedLent (lent ws ns (k .lengths)) → (b : Bool) (r : Answer) → r ≡ saysOf b k
+pub says-so : (ls : List ℕ) (z : Sizes) (ws ns bs sc : List ℕ) (k : State) (e : Branch)
+    → CheckedLent (lent ws ns (k .lengths)) → (b : Bool) (r : Answer) → r ≡ saysOf b k
     → Done ls z ws ns bs sc k e (says b (worldOf ls z ws ns sc k)) ws ns bs sc r
 says-so ls z ws ns bs sc k e c b r q = subst (Done ls z ws ns bs sc k e (says b (worldOf ls z ws ns sc k)) ws ns bs sc) (sym q) (go b)
   where
@@ -52,7 +53,8 @@ says-so ls z ws ns bs sc k e c b r q = subst (Done ls z ws ns bs sc k e (says b 
     go false = misses ls z ws ns bs sc k e c
 
 module _ (ls : List ℕ) (z : Sizes) (ws ns bs sc : List ℕ) (k : State) (e : Branch) (body node : InferSortId) (element : SortId) (i : ℕ) (b : Bool) (next : Next)
-    (S : Searching ws ns bs sc ls z k e 0 [] next) (hb : Placed (k .lengths) (body .0)) (hn : Placed (k .lengths) (node .0)) (he : element .0 < k .lengths .sorts) where
+    (S : Searching ws ns bs sc ls z k e 0 [] next) (hb : Placed (k .lengths) (body .0)) (hn : Placed (k .lengths)
+    (node .0)) (he : element .0 < k .lengths .sorts) where
   abbrev P : Problem
   P = problemIn ls z
 
@@ -85,7 +87,8 @@ module _ (ls : List ℕ) (z : Sizes) (ws ns bs sc : List ℕ) (k : State) (e : B
     -- the reading, by what was interned
     abbrev reads : ℕ → World (Unit {0}) → Out (Unit {0})
     reads s v =
-        andAlso (unifying (path .binds) (body .0) (readingBody i) (λ C. unifying C (node .0) s (λ D. nextOf ls z next (withBinds path D))) v) b (λ b. rest (readingsFrom (i + 1)) b path)
+        andAlso (unifying (path .binds) (body .0) (readingBody i) (λ C. unifying C (node .0) s (λ D. nextOf ls z next
+        (withBinds path D))) v) b (λ b. rest (readingsFrom (i + 1)) b path)
 
     by-made : onMade (madeOf ws₁ ns m) reads missed w ≡ goal path w
     unfolding everyReading
@@ -144,12 +147,18 @@ module _ (ls : List ℕ) (z : Sizes) (ws ns bs sc : List ℕ) (k : State) (e : B
         to-and : andAlso first b (λ b. rest (readingsFrom (i + 1)) b path₁) ≡ goal path w
         unfolding trying pathAfter
         to-and =
-            ap (λ o. andAlso o b (λ b. rest (readingsFrom (i + 1)) b path₁)) (sym (two-pairs (path₁ .binds) body rb w₁ node (record { 0 = s .0 }) (λ D. nextOf ls z next (withBinds path₁ D))))
-            ∙ (ap (λ n. andAlso (unifying (path₁ .binds) (body .0) n (λ C. unifying C (node .0) (s .0) (λ D. nextOf ls z next (withBinds path₁ D))) w₁) b (λ b. rest (readingsFrom (i + 1)) b path₁)) v
-            ∙ (ap₂ (λ p y. andAlso (unifying (p .binds) (body .0) (readingBody i) (λ C. unifying C (node .0) (s .0) (λ D. nextOf ls z next (withBinds p D))) y) b (λ b. rest (readingsFrom (i + 1)) b p)) same-path-here (ap (worldOf ls z ws₁ ns sc) u)
+            ap (λ o. andAlso o b (λ b. rest (readingsFrom (i + 1)) b path₁)) (sym (two-pairs (path₁ .binds) body rb w₁
+            node (record { 0 = s .0 }) (λ D. nextOf ls z next (withBinds path₁ D))))
+            ∙ (ap (λ n. andAlso (unifying (path₁ .binds) (body .0) n (λ C. unifying C (node .0) (s .0)
+            (λ D. nextOf ls z next (withBinds path₁ D))) w₁) b (λ b. rest (readingsFrom (i + 1)) b path₁)) v
+            ∙ (ap₂ (λ p y. andAlso (unifying (p .binds) (body .0) (readingBody i) (λ C. unifying C (node .0) (s .0)
+            (λ D. nextOf ls z next (withBinds p D))) y) b (λ b. rest (readingsFrom (i + 1)) b p)) same-path-here
+            (ap (worldOf ls z ws₁ ns sc) u)
             ∙ (sym (ap (λ y. onMade (madeOf ws₁ ns y) reads missed w) q) ∙ by-made)))
 
-        from-start : (ws₃ ns₃ bs₃ sc₃ : List ℕ) (a : Answer) → Done ls z ws₁ ns bs sc k₁ e (andAlso first b (λ b. rest (readingsFrom (i + 1)) b path₁)) ws₃ ns₃ bs₃ sc₃ a
+        from-start : (ws₃ ns₃ bs₃ sc₃ : List ℕ) (a : Answer)
+            → Done ls z ws₁ ns bs sc k₁ e (andAlso first b (λ b. rest (readingsFrom (i + 1)) b path₁)) ws₃ ns₃ bs₃ sc₃
+            a
             → Comes ls z ws ns bs sc k e goal ws₃ ns₃ bs₃ sc₃ a
         from-start ws₃ ns₃ bs₃ sc₃ a y =
             done-as ls z ws ns bs sc k e (S .ready .nodes) _ _ ws₃ ns₃ bs₃ sc₃ a to-and
@@ -171,11 +180,14 @@ module _ (ls : List ℕ) (z : Sizes) (ws ns bs sc : List ℕ) (k : State) (e : B
             pub reading-places : Placed (k₂ .lengths) (body .0) × Placed (k₂ .lengths) (node .0) × (element .0 < k₂ .lengths .sorts)
             reading-places =
                 let up : (p : ℕ) → Placed (k .lengths) p → Placed (k₂ .lengths) p =
-                λ p h. placed-grown (lent ws₁ ns (k₁ .lengths)) (reading-asked .ready .nodes) (lent ws₂ ns₂ (k₂ .lengths)) (grown₂ .grows) p (placed-grown W (S .ready .nodes) (lent ws₁ ns (k₁ .lengths)) (grown .grows) p h) in
+                λ p h. placed-grown (lent ws₁ ns (k₁ .lengths)) (reading-asked .ready .nodes)
+                (lent ws₂ ns₂ (k₂ .lengths)) (grown₂ .grows) p (placed-grown W (S .ready .nodes)
+                (lent ws₁ ns (k₁ .lengths)) (grown .grows) p h) in
                 (up (body .0) hb, up (node .0) hn, omega (arith, he, grown .grows .sorts, grown₂ .grows .sorts))
 
             pub readings-on : (ws₃ ns₃ bs₃ sc₃ : List ℕ) (a : Answer) → Comes ls z ws₂ ns₂ bs₂ sc₂ k₂ e (rest (readingsFrom (i + 1)) b₂) ws₃ ns₃ bs₃ sc₃ a
                 → Comes ls z ws ns bs sc k e goal ws₃ ns₃ bs₃ sc₃ a
             readings-on ws₃ ns₃ bs₃ sc₃ a x =
                 from-start ws₃ ns₃ bs₃ sc₃ a
-                (and-comes ls z ws₁ ns bs sc k₁ e (reading-asked .ready .nodes) first ws₂ ns₂ bs₂ sc₂ r d b (rest (readingsFrom (i + 1))) g y k₂ b₂ h ws₃ ns₃ bs₃ sc₃ a x)
+                (and-comes ls z ws₁ ns bs sc k₁ e (reading-asked .ready .nodes) first ws₂ ns₂ bs₂ sc₂ r d b
+                (rest (readingsFrom (i + 1))) g y k₂ b₂ h ws₃ ns₃ bs₃ sc₃ a x)

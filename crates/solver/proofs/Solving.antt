@@ -58,7 +58,8 @@ module _ (ls : List ℕ) (z : Sizes) (ws ns bs sc : List ℕ) (k : State) (e : B
   body [] = leaf (Unit {0}) nothingMet P
   body (c ∷ cs) = step (Unit {0}) nothingMet P c (solve (Unit {0}) nothingMet P cs)
 
-  by-domination : (cs : List Constraint) → cond (dominatedBy (Unit {0}) nothingMet P (path .measure) (w .best)) (missed w) (body cs path w) ≡ solve (Unit {0}) nothingMet P cs path w
+  by-domination : (cs : List Constraint) → cond (dominatedBy (Unit {0}) nothingMet P (path .measure) (w .best))
+      (missed w) (body cs path w) ≡ solve (Unit {0}) nothingMet P cs path w
   unfolding solve
   by-domination [] = refl
   by-domination (c ∷ cs) = refl
@@ -72,24 +73,30 @@ module _ (ls : List ℕ) (z : Sizes) (ws ns bs sc : List ℕ) (k : State) (e : B
 
     pub solve-dominated : b ≡ true → Comes ls z ws ns bs sc k e (solveFrom ls z i) ws ns bs sc (Missed k)
     solve-dominated t =
-        done-as ls z ws ns bs sc k e (S .ready .nodes) _ _ ws ns bs sc (Missed k) (ap (λ x. cond x (missed w) (body (restFrom ls z i) path w)) (sym t) ∙ to-cond (restFrom ls z i))
+        done-as ls z ws ns bs sc k e (S .ready .nodes) _ _ ws ns bs sc (Missed k)
+        (ap (λ x. cond x (missed w) (body (restFrom ls z i) path w)) (sym t) ∙ to-cond (restFrom ls z i))
         (misses ls z ws ns bs sc k e (S .ready .nodes))
 
     module _ (f : b ≡ false) where
       on : (cs : List Constraint) → body cs path w ≡ solve (Unit {0}) nothingMet P cs path w
       on cs = ap (λ x. cond x (missed w) (body cs path w)) (sym f) ∙ to-cond cs
 
-      pub solve-leaf : z .constraints ≤ i → (ws₁ ns₁ bs₁ sc₁ : List ℕ) (r : Answer) → Comes ls z ws ns bs sc k e (leaf (Unit {0}) nothingMet P) ws₁ ns₁ bs₁ sc₁ r
+      pub solve-leaf : z .constraints ≤ i → (ws₁ ns₁ bs₁ sc₁ : List ℕ) (r : Answer)
+          → Comes ls z ws ns bs sc k e (leaf (Unit {0}) nothingMet P) ws₁ ns₁ bs₁ sc₁ r
           → Comes ls z ws ns bs sc k e (solveFrom ls z i) ws₁ ns₁ bs₁ sc₁ r
       solve-leaf l ws₁ ns₁ bs₁ sc₁ r d =
-          done-as ls z ws ns bs sc k e (S .ready .nodes) _ _ ws₁ ns₁ bs₁ sc₁ r (on [] ∙ ap (λ cs. solve (Unit {0}) nothingMet P cs path w) (sym (rows-none-left (constraintAt ls) (z .constraints) i l))) d
+          done-as ls z ws ns bs sc k e (S .ready .nodes) _ _ ws₁ ns₁ bs₁ sc₁ r
+          (on [] ∙ ap (λ cs. solve (Unit {0}) nothingMet P cs path w) (sym (rows-none-left (constraintAt ls)
+          (z .constraints) i l))) d
 
       pub solve-on : i < z .constraints → (c : Constraint) → c ≡ constraintAt ls i → (ws₁ ns₁ bs₁ sc₁ : List ℕ) (r : Answer)
-          → Comes ls z ws ns bs sc k e (step (Unit {0}) nothingMet P c (solveFrom ls z (i + 1))) ws₁ ns₁ bs₁ sc₁ r → Comes ls z ws ns bs sc k e (solveFrom ls z i) ws₁ ns₁ bs₁ sc₁ r
+          → Comes ls z ws ns bs sc k e (step (Unit {0}) nothingMet P c (solveFrom ls z (i + 1))) ws₁ ns₁ bs₁ sc₁ r
+          → Comes ls z ws ns bs sc k e (solveFrom ls z i) ws₁ ns₁ bs₁ sc₁ r
       solve-on l c h ws₁ ns₁ bs₁ sc₁ r d =
           done-as ls z ws ns bs sc k e (S .ready .nodes) _ _ ws₁ ns₁ bs₁ sc₁ r
           (ap (λ x. step (Unit {0}) nothingMet P x (solveFrom ls z (i + 1)) path w) h
-          ∙ (on (constraintAt ls i ∷ restFrom ls z (i + 1)) ∙ ap (λ cs. solve (Unit {0}) nothingMet P cs path w) (sym (rows-one-left (constraintAt ls) (z .constraints) i l)))) d
+          ∙ (on (constraintAt ls i ∷ restFrom ls z (i + 1)) ∙ ap (λ cs. solve (Unit {0}) nothingMet P cs path w)
+          (sym (rows-one-left (constraintAt ls) (z .constraints) i l)))) d
 
   -- past the last constraint
   module _ (l : z .constraints ≤ i) where
@@ -98,7 +105,8 @@ module _ (ls : List ℕ) (z : Sizes) (ws ns bs sc : List ℕ) (k : State) (e : B
 
     all-chosen : length (chosenExprs ls z) ≡ z .disjunctions
     unfolding chosenExprs problemIn
-    all-chosen = ap (λ n. length (disjunctions (rowsFrom (constraintAt ls) 0 n))) (let q : z .constraints - 0 ≡ z .constraints = omega arith in q) ∙ S .sized .disjunctions
+    all-chosen = ap (λ n. length (disjunctions (rowsFrom (constraintAt ls) 0 n))) (let q : z .constraints - 0 ≡
+        z .constraints = omega arith in q) ∙ S .sized .disjunctions
 
     pub at-leaf : AtLeaf ws ns bs sc ls z k e
     unfolding components disjunctions
@@ -147,7 +155,8 @@ module _ (ls : List ℕ) (z : Sizes) (ws ns bs sc : List ℕ) (k : State) (e : B
         (each-row (Listed (lent ws ns (k .lengths)) P) (constraintAt ls) 0 (z .constraints) (S .suits .constraints) i l)
 
 -- One constraint by its kind.
-module _ (ls : List ℕ) (z : Sizes) (ws ns bs sc : List ℕ) (k : State) (e : Branch) (c : Constraint) (i : ℕ) (S : Searching ws ns bs sc ls z k e (componentsOf c) (exprsOfConstraint c) (Solve i))
+module _ (ls : List ℕ) (z : Sizes) (ws ns bs sc : List ℕ) (k : State) (e : Branch) (c : Constraint) (i : ℕ)
+    (S : Searching ws ns bs sc ls z k e (componentsOf c) (exprsOfConstraint c) (Solve i))
     (L : Listed (lent ws ns (k .lengths)) (problemIn ls z) c) where
   abbrev Q : Problem
   Q = problemIn ls z
@@ -165,18 +174,22 @@ module _ (ls : List ℕ) (z : Sizes) (ws ns bs sc : List ℕ) (k : State) (e : B
   listed-as d q = subst (Listed U Q) q L
 
   module _ (ws₁ ns₁ bs₁ sc₁ : List ℕ) (r : Answer) where
-    pub step-sub : (x y : InferSortId) → c ≡ Sub x y → Comes ls z ws ns bs sc k e (widening (Unit {0}) nothingMet Q (x .0) (y .0) (nextOf ls z (Solve i))) ws₁ ns₁ bs₁ sc₁ r
+    pub step-sub : (x y : InferSortId) → c ≡ Sub x y → Comes ls z ws ns bs sc k e (widening (Unit {0}) nothingMet Q
+        (x .0) (y .0) (nextOf ls z (Solve i))) ws₁ ns₁ bs₁ sc₁ r
         → Comes ls z ws ns bs sc k e goal ws₁ ns₁ bs₁ sc₁ r
     unfolding step nextOf
     step-sub x y q d = rw q d
 
-    pub step-literal : (p : InferSortId) (kind : LitKind) → c ≡ Lit p kind → Comes ls z ws ns bs sc k e (literal (Unit {0}) nothingMet Q kind (p .0) (nextOf ls z (Solve i))) ws₁ ns₁ bs₁ sc₁ r
+    pub step-literal : (p : InferSortId) (kind : LitKind) → c ≡ Lit p kind
+        → Comes ls z ws ns bs sc k e (literal (Unit {0}) nothingMet Q kind (p .0) (nextOf ls z (Solve i))) ws₁ ns₁ bs₁
+        sc₁ r
         → Comes ls z ws ns bs sc k e goal ws₁ ns₁ bs₁ sc₁ r
     unfolding step nextOf
     step-literal p kind q d = rw q d
 
     pub step-readings : (x y : InferSortId) (s : SortId) → c ≡ Comprehension x y s
-        → Comes ls z ws ns bs sc k e (everyReading (Unit {0}) nothingMet Q (readingsFrom 0) (x .0) (y .0) (s .0) false (nextOf ls z (Solve i))) ws₁ ns₁ bs₁ sc₁ r
+        → Comes ls z ws ns bs sc k e (everyReading (Unit {0}) nothingMet Q (readingsFrom 0) (x .0) (y .0) (s .0) false
+        (nextOf ls z (Solve i))) ws₁ ns₁ bs₁ sc₁ r
         → Comes ls z ws ns bs sc k e goal ws₁ ns₁ bs₁ sc₁ r
     unfolding step nextOf rowsFrom
     step-readings x y s q d = rw q d
@@ -185,7 +198,11 @@ module _ (ls : List ℕ) (z : Sizes) (ws ns bs sc : List ℕ) (k : State) (e : B
   sub-placed x y q = go (Sub x y) (listed-as (Sub x y) q) refl
     where
       go : (d : Constraint) → Listed U Q d → d ≡ Sub x y → Placed (k .lengths) (x .0) × Placed (k .lengths) (y .0)
-      go _ (sub-listed l r a b) h = (subst (λ (p : InferSortId). Placed (k .lengths) (p .0)) (let m : l ≡ x = cc in m) a, subst (λ (p : InferSortId). Placed (k .lengths) (p .0)) (let m : r ≡ y = cc in m) b)
+      go _ (sub-listed l r a b) h = (
+        subst (λ (p : InferSortId). Placed (k .lengths) (p .0)) (let m : l ≡ x = cc in m)
+            a,
+        subst (λ (p : InferSortId). Placed (k .lengths) (p .0)) (let m : r ≡ y = cc in m) b,
+      )
       go _ (lit-listed p kind a) h = absurd (let m : _≡_ {A = ℕ} 0 1 = cc in omega arith)
       go _ (disjunction-listed x p run a l b) h = absurd (let m : _≡_ {A = ℕ} 0 1 = cc in omega arith)
       go _ (comprehension-listed body node element a b l) h = absurd (let m : _≡_ {A = ℕ} 0 1 = cc in omega arith)
@@ -201,7 +218,8 @@ module _ (ls : List ℕ) (z : Sizes) (ws ns bs sc : List ℕ) (k : State) (e : B
       go _ (comprehension-listed body node element a b l) h = absurd (let m : _≡_ {A = ℕ} 0 1 = cc in omega arith)
       go _ (join-listed run t a l b) h = absurd (let m : _≡_ {A = ℕ} 0 1 = cc in omega arith)
 
-  pub readings-placed : (x y : InferSortId) (s : SortId) → c ≡ Comprehension x y s → Placed (k .lengths) (x .0) × Placed (k .lengths) (y .0) × (s .0 < k .lengths .sorts)
+  pub readings-placed : (x y : InferSortId) (s : SortId) → c ≡ Comprehension x y s
+      → Placed (k .lengths) (x .0) × Placed (k .lengths) (y .0) × (s .0 < k .lengths .sorts)
   readings-placed x y s q = go (Comprehension x y s) (listed-as (Comprehension x y s) q) refl
     where
       go : (d : Constraint) → Listed U Q d → d ≡ Comprehension x y s → Placed (k .lengths) (x .0) × Placed (k .lengths) (y .0) × (s .0 < k .lengths .sorts)
@@ -232,7 +250,12 @@ module _ (ls : List ℕ) (z : Sizes) (ws ns bs sc : List ℕ) (k : State) (e : B
         go _ (disjunction-listed y p′ run′ a l b) h =
             let i : run′ ≡ run = cc in
             record {
-              inside = omega (arith, subst (λ (m : Run). m .start + m .count ≤ length (Q .overloads)) i l, length-rows (overloadAt (drop overloadsAt ls)) 0 (z .overloads));
+              inside = omega (
+                arith,
+                subst (λ (m : Run). m .start + m .count ≤ length (Q .overloads)) i l,
+                length-rows
+                    (overloadAt (drop overloadsAt ls)) 0 (z .overloads),
+              );
               place = subst (λ (m : InferSortId). Placed (k .lengths) (m .0)) (let m : p′ ≡ p = cc in m) a;
               placed = subst (λ (m : Run). (j : ℕ) → j < m .count → Placed (k .lengths) (overloadIn (Q .overloads) m j .sort .0)) i b;
             }
@@ -246,12 +269,16 @@ module _ (ls : List ℕ) (z : Sizes) (ws ns bs sc : List ℕ) (k : State) (e : B
           inside = rows .inside;
           place = rows .place;
           placed =
-              λ j l. subst (λ (o : Overload). Placed (k .lengths) (o .sort .0)) (row-at (overloadAt (drop overloadsAt ls)) _ (z .overloads) (run .start + j) (omega (arith, rows .inside, l)))
+              λ j l. subst (λ (o : Overload). Placed (k .lengths) (o .sort .0))
+              (row-at (overloadAt (drop overloadsAt ls)) _ (z .overloads) (run .start + j)
+              (omega (arith, rows .inside, l)))
               (rows .placed j l);
         }
 
     pub step-overloads : (ws₁ ns₁ bs₁ sc₁ : List ℕ) (r : Answer)
-        → Comes ls z ws ns bs sc k e (everyOverload (Unit {0}) nothingMet Q (x .0) (p .0) (rowsFrom (overloadAt (drop overloadsAt ls)) (run .start) (run .count)) 0 false (nextOf ls z (Solve i))) ws₁ ns₁ bs₁ sc₁ r
+        → Comes ls z ws ns bs sc k e (everyOverload (Unit {0}) nothingMet Q (x .0) (p .0)
+        (rowsFrom (overloadAt (drop overloadsAt ls)) (run .start) (run .count)) 0 false (nextOf ls z (Solve i)))
+        ws₁ ns₁ bs₁ sc₁ r
         → Comes ls z ws ns bs sc k e goal ws₁ ns₁ bs₁ sc₁ r
     unfolding step nextOf problemIn
     step-overloads ws₁ ns₁ bs₁ sc₁ r d = rw (q, run-at (overloadAt (drop overloadsAt ls)) (z .overloads) (run .start) (run .count) (rows .inside)) d
@@ -288,12 +315,14 @@ module _ (ls : List ℕ) (z : Sizes) (ws ns bs sc : List ℕ) (k : State) (e : B
           inside = sources .inside;
           target = sources .target;
           placed =
-              subst (λ n. All (PlacedIn U) (rowsFrom (sourceAt ls) (run .start) n)) (let m : run .count ≡ run .start + run .count - run .start = omega arith in m)
+              subst (λ n. All (PlacedIn U) (rowsFrom (sourceAt ls) (run .start) n)) (let m : run .count ≡ run .start +
+              run .count - run .start = omega arith in m)
               (subst (All (PlacedIn U)) (run-at (sourceAt ls) (z .sources) (run .start) (run .count) (sources .inside)) (sources .placed));
         }
 
     pub step-joined : (ws₁ ns₁ bs₁ sc₁ : List ℕ) (r : Answer)
-        → Comes ls z ws ns bs sc k e (joining (Unit {0}) nothingMet Q (rowsFrom (sourceAt ls) (run .start) (run .count)) (t .0) (solveFrom ls z i)) ws₁ ns₁ bs₁ sc₁ r
+        → Comes ls z ws ns bs sc k e (joining (Unit {0}) nothingMet Q (rowsFrom (sourceAt ls) (run .start)
+        (run .count)) (t .0) (solveFrom ls z i)) ws₁ ns₁ bs₁ sc₁ r
         → Comes ls z ws ns bs sc k e goal ws₁ ns₁ bs₁ sc₁ r
     unfolding step problemIn
     step-joined ws₁ ns₁ bs₁ sc₁ r d = rw (q, run-at (sourceAt ls) (z .sources) (run .start) (run .count) (sources .inside)) d

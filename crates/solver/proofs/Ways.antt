@@ -49,12 +49,14 @@ module _ (ls : List ℕ) (z : Sizes) (ws ns bs sc : List ℕ) (k : State) (e : B
   next-is x q more xs s = subst (Searching ws ns bs sc ls z k e more xs) q s
 
   module _ (ws′ ns′ bs′ sc′ : List ℕ) (r : Answer) where
-    pub next-solve : (i : ℕ) → next ≡ Solve i → Comes ls z ws ns bs sc k e (solveFrom ls z i) ws′ ns′ bs′ sc′ r → Comes ls z ws ns bs sc k e (nextOf ls z next) ws′ ns′ bs′ sc′ r
+    pub next-solve : (i : ℕ) → next ≡ Solve i → Comes ls z ws ns bs sc k e (solveFrom ls z i) ws′ ns′ bs′ sc′ r
+        → Comes ls z ws ns bs sc k e (nextOf ls z next) ws′ ns′ bs′ sc′ r
     unfolding nextOf
     next-solve i q d = rw q d
 
     pub next-source : (t : InferSortId) (j n i : ℕ) → next ≡ Source t j n i
-        → Comes ls z ws ns bs sc k e (sequence (Unit {0}) nothingMet (problemIn ls z) (rowsFrom (sourceAt ls) j (n - j)) (t .0) (solveFrom ls z i)) ws′ ns′ bs′ sc′ r
+        → Comes ls z ws ns bs sc k e (sequence (Unit {0}) nothingMet (problemIn ls z) (rowsFrom (sourceAt ls) j
+        (n - j)) (t .0) (solveFrom ls z i)) ws′ ns′ bs′ sc′ r
         → Comes ls z ws ns bs sc k e (nextOf ls z next) ws′ ns′ bs′ sc′ r
     unfolding nextOf
     next-source t j n i q d = rw q d
@@ -73,7 +75,9 @@ module _ (ls : List ℕ) (z : Sizes) (ws ns bs sc : List ℕ) (k : State) (e : B
 
   pub tries-done : t .count ≤ j → Comes ls z ws ns bs sc k e goal ws ns bs sc (Missed k)
   unfolding firstFound
-  tries-done l = done-as ls z ws ns bs sc k e (S .ready .nodes) _ _ ws ns bs sc (Missed k) (sym (ap (λ ts. firstFound (Unit {0}) nothingMet P ts (nextOf ls z next) path (worldOf ls z ws ns sc k)) (rows-none-left (tryAt t) (t .count) j l)))
+  tries-done l = done-as ls z ws ns bs sc k e (S .ready .nodes) _ _ ws ns bs sc (Missed k)
+      (sym (ap (λ ts. firstFound (Unit {0}) nothingMet P ts (nextOf ls z next) path (worldOf ls z ws ns sc k))
+      (rows-none-left (tryAt t) (t .count) j l)))
       (misses ls z ws ns bs sc k e (S .ready .nodes))
 
   module _ (l : j < t .count) (pairs : Pairs) (q : pairs ≡ pairsOf (tryAt t j)) (g : ℕ) (h : g ≡ tryAt t j .component) where
@@ -81,7 +85,8 @@ module _ (ls : List ℕ) (z : Sizes) (ws ns bs sc : List ℕ) (k : State) (e : B
         → TryPlaced (lent ws ns (k .lengths)) (tryAt t j) × TriesPlaced (lent ws ns (k .lengths)) ts
     first-placed ts i a = both (subst (TriesPlaced (lent ws ns (k .lengths))) i a)
       where
-        both : TriesPlaced (lent ws ns (k .lengths)) (tryAt t j ∷ ts) → TryPlaced (lent ws ns (k .lengths)) (tryAt t j) × TriesPlaced (lent ws ns (k .lengths)) ts
+        both : TriesPlaced (lent ws ns (k .lengths)) (tryAt t j ∷ ts) → TryPlaced (lent ws ns (k .lengths))
+            (tryAt t j) × TriesPlaced (lent ws ns (k .lengths)) ts
         both (and-all _ _ x y) = (x, y)
 
     placed-here : TryPlaced (lent ws ns (k .lengths)) (tryAt t j) × TriesPlaced (lent ws ns (k .lengths)) (triesFrom t (j + 1))
@@ -100,11 +105,14 @@ module _ (ls : List ℕ) (z : Sizes) (ws ns bs sc : List ℕ) (k : State) (e : B
       to-or : elseTry first (firstFound (Unit {0}) nothingMet P (triesFrom t (j + 1)) (nextOf ls z next) path) ≡ goal path w
       unfolding firstFound trying unifyPairs unifying pathAfter
       to-or =
-          ap₂ (λ p c. elseTry (onYes (unifyPairs (graph (lent ws ns (k .lengths))) p (bindsOf bs (k .lengths .variables))) (λ C. nextOf ls z next (pathAfter ls z sc e (Component c) C)) w) (firstFound (Unit {0}) nothingMet P (triesFrom t (j + 1)) (nextOf ls z next) path)) q h
+          ap₂ (λ p c. elseTry (onYes (unifyPairs (graph (lent ws ns (k .lengths))) p
+          (bindsOf bs (k .lengths .variables))) (λ C. nextOf ls z next (pathAfter ls z sc e (Component c) C)) w)
+          (firstFound (Unit {0}) nothingMet P (triesFrom t (j + 1)) (nextOf ls z next) path)) q h
           ∙ sym (ap (λ ts. firstFound (Unit {0}) nothingMet P ts (nextOf ls z next) path w) (rows-one-left (tryAt t) (t .count) j l))
 
       pub tries-stop : ((s : State) → r ≡ Missed s → ⊥) → Comes ls z ws ns bs sc k e goal ws₁ ns₁ bs₁ sc₁ r
-      tries-stop n = done-as ls z ws ns bs sc k e (S .ready .nodes) _ _ ws₁ ns₁ bs₁ sc₁ r to-or (or-stops ls z ws ns bs sc k e (S .ready .nodes) first ws₁ ns₁ bs₁ sc₁ r d _ n)
+      tries-stop n = done-as ls z ws ns bs sc k e (S .ready .nodes) _ _ ws₁ ns₁ bs₁ sc₁ r to-or (or-stops ls z ws ns
+          bs sc k e (S .ready .nodes) first ws₁ ns₁ bs₁ sc₁ r d _ n)
 
       pub tries-fine : (k₁ : State) → r ≡ Missed k₁ → TriesFine (lent ws₁ ns₁ (k₁ .lengths)) t (j + 1)
       tries-fine k₁ x = record { few = F .few; first = F .first; placed = all-grown (triesFrom t (j + 1)) (placed-here .1) }
@@ -115,21 +123,28 @@ module _ (ls : List ℕ) (z : Sizes) (ws ns bs sc : List ℕ) (k : State) (e : B
           all-grown : (ts : List Try) → TriesPlaced (lent ws ns (k .lengths)) ts → TriesPlaced (lent ws₁ ns₁ (k₁ .lengths)) ts
           all-grown _ none-left = none-left
           all-grown _ (and-all u us a rest) =
-              and-all u us (placed-grown _ (S .ready .nodes) _ grown (u .left) (a .0), placed-grown _ (S .ready .nodes) _ grown (u .right) (a .1)) (all-grown us rest)
+              and-all u us (
+                placed-grown _ (S .ready .nodes) _ grown (u .left) (a .0),
+                placed-grown _
+                    (S .ready .nodes) _ grown (u .right) (a .1),
+              ) (all-grown us rest)
 
       pub tries-next : (k₁ : State) → r ≡ Missed k₁ → (ws₂ ns₂ bs₂ sc₂ : List ℕ) (r₂ : Answer)
           → Comes ls z ws₁ ns₁ bs₁ sc₁ k₁ e (firstFound (Unit {0}) nothingMet P (triesFrom t (j + 1)) (nextOf ls z next)) ws₂ ns₂ bs₂ sc₂ r₂
           → Comes ls z ws ns bs sc k e goal ws₂ ns₂ bs₂ sc₂ r₂
       tries-next k₁ x ws₂ ns₂ bs₂ sc₂ r₂ y =
           done-as ls z ws ns bs sc k e (S .ready .nodes) _ _ ws₂ ns₂ bs₂ sc₂ r₂ to-or
-          (or-comes ls z ws ns bs sc k e (S .ready .nodes) first ws₁ ns₁ bs₁ sc₁ r d (firstFound (Unit {0}) nothingMet P (triesFrom t (j + 1)) (nextOf ls z next)) k₁ x ws₂ ns₂ bs₂ sc₂ r₂ y)
+          (or-comes ls z ws ns bs sc k e (S .ready .nodes) first ws₁ ns₁ bs₁ sc₁ r d (firstFound (Unit {0}) nothingMet
+          P (triesFrom t (j + 1)) (nextOf ls z next)) k₁ x ws₂ ns₂ bs₂ sc₂ r₂ y)
 
 -- what is asked for after a first part that missed
-pub after-missed : (ls : List ℕ) (z : Sizes) (ws ns bs sc : List ℕ) (k : State) (e : Branch) (more : ℕ) (xs : List ℕ) (next : Next) → Searching ws ns bs sc ls z k e more xs next
+pub after-missed : (ls : List ℕ) (z : Sizes) (ws ns bs sc : List ℕ) (k : State) (e : Branch) (more : ℕ) (xs : List ℕ)
+    (next : Next) → Searching ws ns bs sc ls z k e more xs next
     → (O : Out (Unit {0})) (ws₁ ns₁ bs₁ sc₁ : List ℕ) (r : Answer) → Done ls z ws ns bs sc k e O ws₁ ns₁ bs₁ sc₁ r → (k₁ : State) → r ≡ Missed k₁
     → Searching ws₁ ns₁ bs₁ sc₁ ls z k₁ e more xs next
 after-missed ls z ws ns bs sc k e more xs next s O ws₁ ns₁ bs₁ sc₁ r d k₁ q =
-    searching-grown ls z ws ns bs sc k e more xs next s ws₁ ns₁ bs₁ sc₁ k₁ (grown-missed ls z ws ns bs sc k e (s .ready .nodes) O ws₁ ns₁ bs₁ sc₁ r d k₁ q .grows) (d .binds) (d .path .long)
+    searching-grown ls z ws ns bs sc k e more xs next s ws₁ ns₁ bs₁ sc₁ k₁ (grown-missed ls z ws ns bs sc k e
+    (s .ready .nodes) O ws₁ ns₁ bs₁ sc₁ r d k₁ q .grows) (d .binds) (d .path .long)
 
 -- the fixed sorts, and every sort of the list, are places
 pub sort-placed : (k : Lengths) → k .sorts ≤ maxSorts → (p : ℕ) → p < k .sorts → Placed k p

@@ -42,7 +42,8 @@ abbrev pub withLengths : State → Lengths → State
 withLengths k m = record { lengths = m; best = k .best; tied = k .tied }
 
 -- From where equality missed.
-module _ (ls : List ℕ) (z : Sizes) (ws ns bs sc : List ℕ) (k : State) (e : Branch) (l r : InferSortId) (next : Next) (S : Searching ws ns bs sc ls z k e 1 [] next)
+module _ (ls : List ℕ) (z : Sizes) (ws ns bs sc : List ℕ) (k : State) (e : Branch) (l r : InferSortId) (next : Next)
+    (S : Searching ws ns bs sc ls z k e 1 [] next)
     (x : Placed (k .lengths) (l .0)) (y : Placed (k .lengths) (r .0)) (ws₁ ns₁ : List ℕ) (q : Widenings)
     (O : FindsWidenings ws₁ ns₁ q (widenings (bindsOf bs (k .lengths .variables)) (l .0) (r .0) (lent ws ns (k .lengths)))) where
   abbrev P : Problem
@@ -70,7 +71,8 @@ module _ (ls : List ℕ) (z : Sizes) (ws ns bs sc : List ℕ) (k : State) (e : B
     there = sym (sym (ap (widened ws₁ ns₁) i) ∙ O .says)
 
     grown : Grows W (lent ws₁ ns₁ m)
-    grown = tries-are-placed W (S .ready .nodes) (S .suits .six) (bindsOf bs (k .lengths .variables)) (S .ready .binds) (l .0) (r .0) x y (triesFrom t 0) (lent ws₁ ns₁ m) there .0
+    grown = tries-are-placed W (S .ready .nodes) (S .suits .six) (bindsOf bs (k .lengths .variables))
+        (S .ready .binds) (l .0) (r .0) x y (triesFrom t 0) (lent ws₁ ns₁ m) there .0
 
     few : FewTries (These t m)
     few = subst FewTries i (O .few)
@@ -81,30 +83,35 @@ module _ (ls : List ℕ) (z : Sizes) (ws ns bs sc : List ℕ) (k : State) (e : B
           few = few .0;
           first = omega (arith, few .1);
           placed =
-              tries-are-placed W (S .ready .nodes) (S .suits .six) (bindsOf bs (k .lengths .variables)) (S .ready .binds) (l .0) (r .0) x y (triesFrom t 0) (lent ws₁ ns₁ m) there .1;
+              tries-are-placed W (S .ready .nodes) (S .suits .six) (bindsOf bs (k .lengths .variables))
+              (S .ready .binds) (l .0) (r .0) x y (triesFrom t 0) (lent ws₁ ns₁ m) there .1;
         }
 
     module _ (k₁ : State) (u : k₁ ≡ withLengths k m) where
       pub tries-asked : Searching ws₁ ns₁ bs sc ls z k₁ e 1 [] next
-      tries-asked = subst (λ (s : State). Searching ws₁ ns₁ bs sc ls z s e 1 [] next) (sym u) (searching-grown ls z ws ns bs sc k e 1 [] next S ws₁ ns₁ bs sc (withLengths k m) grown refl refl)
+      tries-asked = subst (λ (s : State). Searching ws₁ ns₁ bs sc ls z s e 1 [] next) (sym u) (searching-grown ls z ws
+          ns bs sc k e 1 [] next S ws₁ ns₁ bs sc (withLengths k m) grown refl refl)
 
       pub tries-fine-here : TriesFine (lent ws₁ ns₁ (k₁ .lengths)) t 0
       tries-fine-here = subst (λ (s : State). TriesFine (lent ws₁ ns₁ (s .lengths)) t 0) (sym u) tries-fine-first
 
-      module _ (ws₂ ns₂ bs₂ sc₂ : List ℕ) (a : Answer) (d : Comes ls z ws₁ ns₁ bs sc k₁ e (firstFound (Unit {0}) nothingMet P (triesFrom t 0) (nextOf ls z next)) ws₂ ns₂ bs₂ sc₂ a) where
+      module _ (ws₂ ns₂ bs₂ sc₂ : List ℕ) (a : Answer) (d : Comes ls z ws₁ ns₁ bs sc k₁ e (firstFound (Unit {0})
+          nothingMet P (triesFrom t 0) (nextOf ls z next)) ws₂ ns₂ bs₂ sc₂ a) where
         d₁ : Comes ls z ws₁ ns₁ bs sc (withLengths k m) e (firstFound (Unit {0}) nothingMet P (triesFrom t 0) (nextOf ls z next)) ws₂ ns₂ bs₂ sc₂ a
         d₁ = subst (λ (s : State). Comes ls z ws₁ ns₁ bs sc s e (firstFound (Unit {0}) nothingMet P (triesFrom t 0) (nextOf ls z next)) ws₂ ns₂ bs₂ sc₂ a) u d
 
         back : (a : Answer) → SearchGrown (lent ws₁ ns₁ m) ws₂ ns₂ a → SearchGrown W ws₂ ns₂ (givenBackTo (k .lengths) a)
         back (Found s) g =
             record {
-              grows = given-back-grows W (lent ws₂ ns₂ (s .lengths)) (S .ready .nodes) (grows-trans W (S .ready .nodes) (lent ws₁ ns₁ m) (lent ws₂ ns₂ (s .lengths)) grown (g .grows));
+              grows = given-back-grows W (lent ws₂ ns₂ (s .lengths)) (S .ready .nodes)
+                  (grows-trans W (S .ready .nodes) (lent ws₁ ns₁ m) (lent ws₂ ns₂ (s .lengths)) grown (g .grows));
               nodes = refl;
               arguments = refl;
             }
         back (Missed s) g =
             record {
-              grows = given-back-grows W (lent ws₂ ns₂ (s .lengths)) (S .ready .nodes) (grows-trans W (S .ready .nodes) (lent ws₁ ns₁ m) (lent ws₂ ns₂ (s .lengths)) grown (g .grows));
+              grows = given-back-grows W (lent ws₂ ns₂ (s .lengths)) (S .ready .nodes)
+                  (grows-trans W (S .ready .nodes) (lent ws₁ ns₁ m) (lent ws₂ ns₂ (s .lengths)) grown (g .grows));
               nodes = refl;
               arguments = refl;
             }
@@ -119,8 +126,10 @@ module _ (ls : List ℕ) (z : Sizes) (ws ns bs sc : List ℕ) (k : State) (e : B
               says =
                   ap (outOf ls z ws₂ ns₂ sc₂) v
                   ∙ (given-back-in-answer ls z ws₂ ns₂ sc₂ a ws ns (k .lengths)
-                  ∙ (ap (nodesReturned W) (d₁ .says ∙ ap (λ p. firstFound (Unit {0}) nothingMet P (triesFrom t 0) (nextOf ls z next) p (worldOf ls z ws₁ ns₁ sc (withLengths k m))) same-path-there)
-                  ∙ (ap (λ j. onMade (widened ws₁ ns₁ j) (tried (Unit {0}) nothingMet P (nextOf ls z next) path w (l .0) (r .0)) missed w) (sym i) ∙ by-tries)));
+                  ∙ (ap (nodesReturned W) (d₁ .says ∙ ap (λ p. firstFound (Unit {0}) nothingMet P (triesFrom t 0)
+                  (nextOf ls z next) p (worldOf ls z ws₁ ns₁ sc (withLengths k m))) same-path-there)
+                  ∙ (ap (λ j. onMade (widened ws₁ ns₁ j) (tried (Unit {0}) nothingMet P (nextOf ls z next) path w
+                  (l .0) (r .0)) missed w) (sym i) ∙ by-tries)));
               grown = subst (SearchGrown W ws₂ ns₂) (sym v) (back a (d₁ .grown));
               binds = d₁ .binds;
               path = d₁ .path;
@@ -146,14 +155,16 @@ module _ (ls : List ℕ) (z : Sizes) (ws ns bs sc : List ℕ) (k : State) (e : B
       record {
         says = ap (λ j. onMade (widened ws₁ ns₁ j) (tried (Unit {0}) nothingMet P (nextOf ls z next) path w (l .0) (r .0)) missed w) (sym i) ∙ by-tries;
         grown =
-            no-room-for-tries-grows W (S .ready .nodes) (S .suits .six) (bindsOf bs (k .lengths .variables)) (S .ready .binds) (l .0) (r .0) x y c (lent ws₁ ns₁ m)
+            no-room-for-tries-grows W (S .ready .nodes) (S .suits .six) (bindsOf bs (k .lengths .variables))
+            (S .ready .binds) (l .0) (r .0) x y c (lent ws₁ ns₁ m)
             (sym (sym (ap (widened ws₁ ns₁) i) ∙ O .says));
         binds = refl;
         path = same-path-refl e sc;
       }
 
 -- The whole of it, after equality.
-module _ (ls : List ℕ) (z : Sizes) (ws ns bs sc : List ℕ) (k : State) (e : Branch) (l r : InferSortId) (next : Next) (S : Searching ws ns bs sc ls z k e 1 [] next)
+module _ (ls : List ℕ) (z : Sizes) (ws ns bs sc : List ℕ) (k : State) (e : Branch) (l r : InferSortId) (next : Next)
+    (S : Searching ws ns bs sc ls z k e 1 [] next)
     (ws₁ ns₁ bs₁ sc₁ : List ℕ) (a : Answer) (d : Comes ls z ws ns bs sc k e (trying ls z sc e (One l r) (Component 0) next) ws₁ ns₁ bs₁ sc₁ a) where
   abbrev whole : Going (Unit {0}) nothingMet (problemIn ls z)
   whole = widening (Unit {0}) nothingMet (problemIn ls z) (l .0) (r .0) (nextOf ls z next)
@@ -169,17 +180,22 @@ module _ (ls : List ℕ) (z : Sizes) (ws ns bs sc : List ℕ) (k : State) (e : B
   to-or = refl
 
   pub widen-stop : ((s : State) → a ≡ Missed s → ⊥) → Comes ls z ws ns bs sc k e whole ws₁ ns₁ bs₁ sc₁ a
-  widen-stop n = done-as ls z ws ns bs sc k e (S .ready .nodes) _ _ ws₁ ns₁ bs₁ sc₁ a to-or (or-stops ls z ws ns bs sc k e (S .ready .nodes) equal ws₁ ns₁ bs₁ sc₁ a d _ n)
+  widen-stop n = done-as ls z ws ns bs sc k e (S .ready .nodes) _ _ ws₁ ns₁ bs₁ sc₁ a to-or (or-stops ls z ws ns bs sc
+      k e (S .ready .nodes) equal ws₁ ns₁ bs₁ sc₁ a d _ n)
 
   module _ (k₁ : State) (q : a ≡ Missed k₁) where
     pub still-there : (p : ℕ) → Placed (k .lengths) p → Placed (k₁ .lengths) p
-    still-there p h = placed-grown (lent ws ns (k .lengths)) (S .ready .nodes) (lent ws₁ ns₁ (k₁ .lengths)) (grown-missed ls z ws ns bs sc k e (S .ready .nodes) equal ws₁ ns₁ bs₁ sc₁ a d k₁ q .grows) p h
+    still-there p h = placed-grown (lent ws ns (k .lengths)) (S .ready .nodes) (lent ws₁ ns₁ (k₁ .lengths))
+        (grown-missed ls z ws ns bs sc k e (S .ready .nodes) equal ws₁ ns₁ bs₁ sc₁ a d k₁ q .grows) p h
 
     pub asked-again : Searching ws₁ ns₁ bs₁ sc₁ ls z k₁ e 1 [] next
     asked-again = after-missed ls z ws ns bs sc k e 1 [] next S equal ws₁ ns₁ bs₁ sc₁ a d k₁ q
 
-    pub widen-on : (ws₂ ns₂ bs₂ sc₂ : List ℕ) (o : Answer) → Comes ls z ws₁ ns₁ bs₁ sc₁ k₁ e (wider (Unit {0}) nothingMet (problemIn ls z) (l .0) (r .0) (nextOf ls z next)) ws₂ ns₂ bs₂ sc₂ o
+    pub widen-on : (ws₂ ns₂ bs₂ sc₂ : List ℕ) (o : Answer)
+        → Comes ls z ws₁ ns₁ bs₁ sc₁ k₁ e (wider (Unit {0}) nothingMet (problemIn ls z) (l .0) (r .0)
+        (nextOf ls z next)) ws₂ ns₂ bs₂ sc₂ o
         → Comes ls z ws ns bs sc k e whole ws₂ ns₂ bs₂ sc₂ o
     widen-on ws₂ ns₂ bs₂ sc₂ o x =
         done-as ls z ws ns bs sc k e (S .ready .nodes) _ _ ws₂ ns₂ bs₂ sc₂ o to-or
-        (or-comes ls z ws ns bs sc k e (S .ready .nodes) equal ws₁ ns₁ bs₁ sc₁ a d (wider (Unit {0}) nothingMet (problemIn ls z) (l .0) (r .0) (nextOf ls z next)) k₁ q ws₂ ns₂ bs₂ sc₂ o x)
+        (or-comes ls z ws ns bs sc k e (S .ready .nodes) equal ws₁ ns₁ bs₁ sc₁ a d (wider (Unit {0}) nothingMet
+        (problemIn ls z) (l .0) (r .0) (nextOf ls z next)) k₁ q ws₂ ns₂ bs₂ sc₂ o x)

@@ -51,7 +51,8 @@ ghost use mathlib.Core.List.{[], _∷_};
 ghost use Prim.Native.Nat.{_+_, _-_, _<_};
 ghost use lib.ListN.{drop};
 ghost use Rattle.inference.specs.Constraints.{overloadAt, rowsFrom};
-ghost use Rattle.inference.specs.Search.{widening, firstFound, literal, everyReading, everyOverload, sequence, joining, step as stepOf};
+ghost use Rattle.inference.specs.Search.{widening, firstFound, literal, everyReading, everyOverload, sequence};
+ghost use Rattle.inference.specs.Search.{joining, step as stepOf};
 ghost use Rattle.inference.specs.SolveChecks.{componentsOf};
 ghost use Rattle.inference.specs.SolveEntry.{nothingMet};
 ghost use Rattle.unification.specs.Checked.{Placed};
@@ -60,7 +61,8 @@ ghost use Rattle.search_state.specs.declared.Next.the-variants.{Solve, Source};
 ghost use Rattle.search_state.specs.Inner.Memory.{overloadsAt, sourceAt, problemIn, solveFrom, nextOf};
 ghost use Rattle.search_state.specs.Inner.Leaves.{PairsPlaced, addedComponents, triesFrom};
 ghost use Rattle.search_state.specs.Inner.Searching.{Searching, SourcesFine, exprsOf, Comes, trying};
-ghost use Rattle.solver.specs.Inner.Asked.{TriesFine, OverloadsFine, exprsOfConstraint, readingBody, readingOp, readingsFrom};
+ghost use Rattle.solver.specs.Inner.Asked.{TriesFine, OverloadsFine, exprsOfConstraint, readingBody, readingOp};
+ghost use Rattle.solver.specs.Inner.Asked.{readingsFrom};
 ghost use Rattle.unification.specs.Inner.Making.{lent};
 
 // Solves the constraints from `index` on; answers whether any leaf was reached below this point.

@@ -35,7 +35,8 @@ module _ (ws : List ℕ) (C : Counts) (up : Bool) (a b : SortId) (q : Asked ws (
 
   module _ (d : a .0 ≡ b .0 → ⊥) (x : Pair) (ex : x ≡ pairAt ws (a .0) (b .0)) where
     say : (y : Pair) → x ≡ y → SortsSay ws (C .sorts) (C .entries) (a .0) (b .0) y
-    say y e = subst (SortsSay ws (C .sorts) (C .entries) (a .0) (b .0)) (sym ex ∙ e) (pair-of-sorts ws (C .sorts) (C .entries) (a .0) (b .0) (q .checked) (q .lhs) (q .rhs) d)
+    say y e = subst (SortsSay ws (C .sorts) (C .entries) (a .0) (b .0)) (sym ex ∙ e) (pair-of-sorts ws (C .sorts)
+        (C .entries) (a .0) (b .0) (q .checked) (q .lhs) (q .rhs) d)
 
     pub other : x ≡ Other → storedAt ws (Nothing C) ≡ boundAt up ws (C .sorts) (C .entries) (a .0) (b .0)
     unfolding SortsSay
@@ -46,7 +47,8 @@ module _ (ws : List ℕ) (C : Counts) (up : Bool) (a b : SortId) (q : Asked ws (
       unfolding SortsSay
       primitives = say (Primitives l r) e
 
-      pub number : (s : Side) → s ≡ sideOf up l r → (y : Side) → s ≡ y → storedAt ws (law.sideAnswer a b C y) ≡ boundAt up ws (C .sorts) (C .entries) (a .0) (b .0)
+      pub number : (s : Side) → s ≡ sideOf up l r → (y : Side) → s ≡ y → storedAt ws (law.sideAnswer a b C y) ≡
+          boundAt up ws (C .sorts) (C .entries) (a .0) (b .0)
       number s es y h =
           ap (λ z. storedAt ws (law.sideAnswer a b C z)) (sym h) ∙ law.bound-number ws C (q .checked) up a b (q .lhs) (q .rhs) d l r primitives s es
 
@@ -62,18 +64,21 @@ module _ (ws : List ℕ) (C : Counts) (up : Bool) (a b : SortId) (q : Asked ws (
       pub parts-below : s .0 + t .0 + 2 ≤ a .0 + b .0
       parts-below = omega (arith, containers .lhs-below, containers .rhs-below)
 
-      pub container : (vs : List ℕ) (r : Joined) → storedAt vs r ≡ containerAt up ws (C .sorts) (C .entries) o (s .0) p (t .0) → storedAt vs r ≡ boundAt up ws (C .sorts) (C .entries) (a .0) (b .0)
+      pub container : (vs : List ℕ) (r : Joined) → storedAt vs r ≡ containerAt up ws (C .sorts) (C .entries) o (s .0)
+          p (t .0) → storedAt vs r ≡ boundAt up ws (C .sorts) (C .entries) (a .0) (b .0)
       container vs r h = h ∙ law.bound-container ws C (q .checked) up a b (q .lhs) (q .rhs) d o s p t containers
 
     module _ (c ls : ℕ) (lr : SortId) (rs : ℕ) (rr : SortId) (e : x ≡ Functions c ls lr rs rr) where
       pub functions-asked : TwoFunctions ws (C .sorts) (C .entries) (a .0) (b .0)
       functions-asked = domain.two-functions ws (C .sorts) (C .entries) (a .0) (b .0) q c ls lr rs rr (sym ex ∙ e)
 
-      pub function : (vs : List ℕ) (r : Joined) → storedAt vs r ≡ functionAt up ws (C .sorts) (C .entries) (a .0) (b .0) → storedAt vs r ≡ boundAt up ws (C .sorts) (C .entries) (a .0) (b .0)
+      pub function : (vs : List ℕ) (r : Joined) → storedAt vs r ≡ functionAt up ws (C .sorts) (C .entries) (a .0)
+          (b .0) → storedAt vs r ≡ boundAt up ws (C .sorts) (C .entries) (a .0) (b .0)
       function vs r h = h ∙ functions.bound-functions up ws (C .sorts) (C .entries) (a .0) (b .0) functions-asked d
 
 -- The arguments of two functions from the i-th on, as `bound_domain` reads them.
-module _ (ws : List ℕ) (C : Counts) (up : Bool) (a b : ℕ) (f : TwoFunctions ws (C .sorts) (C .entries) a b) (i : ℕ) (hi : i ≤ countAt ws a) (ids : List ℕ) (count : ℕ) (ec : count ≡ countAt ws a) where
+module _ (ws : List ℕ) (C : Counts) (up : Bool) (a b : ℕ) (f : TwoFunctions ws (C .sorts) (C .entries) a b) (i : ℕ)
+    (hi : i ≤ countAt ws a) (ids : List ℕ) (count : ℕ) (ec : count ≡ countAt ws a) where
   pub domain-done : i ≡ count → storedDomain ws (record { ids = ids; found = All C }) ≡ boundDomain (not up) ws (C .sorts) (C .entries) a b i ids
   domain-done e = domain.domain-done (not up) ws C a b f i ids (e ∙ ec)
 
@@ -96,10 +101,13 @@ module _ (ws : List ℕ) (C : Counts) (up : Bool) (a b : ℕ) (f : TwoFunctions 
         by-entries : storedAt vs j ≡ boundAt (not up) ws (C .sorts) (C .entries) (entryAt ws (startAt ws a + i)) (entryAt ws (startAt ws b + i))
         by-entries = ej ∙ ap₂ (boundAt (not up) ws (C .sorts) (C .entries)) el er
 
-        pub domain-stops : (K : Counts) → j ≡ Nothing K → storedDomain vs (record { ids = replicate 16 0; found = NotAll K }) ≡ boundDomain (not up) ws (C .sorts) (C .entries) a b i ids
+        pub domain-stops : (K : Counts) → j ≡ Nothing K
+            → storedDomain vs (record { ids = replicate 16 0; found = NotAll K }) ≡ boundDomain (not up) ws (C .sorts)
+            (C .entries) a b i ids
         domain-stops = domain.domain-stops (not up) ws C a b f i ids one-left vs j by-entries
 
-        pub domain-ends : j ≡ Full → storedDomain vs (record { ids = replicate 16 0; found = NoRoom }) ≡ boundDomain (not up) ws (C .sorts) (C .entries) a b i ids
+        pub domain-ends : j ≡ Full → storedDomain vs (record { ids = replicate 16 0; found = NoRoom }) ≡ boundDomain
+            (not up) ws (C .sorts) (C .entries) a b i ids
         domain-ends = domain.domain-ends (not up) ws C a b f i ids one-left vs j by-entries
 
         module _ (c : SortId) (K : Counts) (z : j ≡ At c K) where
@@ -114,7 +122,8 @@ module _ (ws : List ℕ) (C : Counts) (up : Bool) (a b : ℕ) (f : TwoFunctions 
           domain-made = domain.domain-made (not up) ws C a b f i ids one-left vs j by-entries c K z
 
 -- Two functions, as `bound_function` reads them.
-module _ (ws : List ℕ) (C : Counts) (up : Bool) (a b : ℕ) (f : TwoFunctions ws (C .sorts) (C .entries) a b) (pa pb : SortId) (ea : pa .0 ≡ partAt ws a) (eb : pb .0 ≡ partAt ws b) (count : ℕ) (ec : count ≡ countAt ws a)
+module _ (ws : List ℕ) (C : Counts) (up : Bool) (a b : ℕ) (f : TwoFunctions ws (C .sorts) (C .entries) a b)
+    (pa pb : SortId) (ea : pa .0 ≡ partAt ws a) (eb : pb .0 ≡ partAt ws b) (count : ℕ) (ec : count ≡ countAt ws a)
     (vs : List ℕ) (d : Domain) (q : storedDomain vs d ≡ boundDomain (not up) ws (C .sorts) (C .entries) a b 0 (replicate 16 0)) where
   pub function-stops : (K : Counts) → d .found ≡ NotAll K → storedAt vs (Nothing K) ≡ functionAt up ws (C .sorts) (C .entries) a b
   function-stops = functions.function-stops up ws C a b f vs d q
@@ -156,8 +165,10 @@ module _ (ws : List ℕ) (C : Counts) (up : Bool) (a b : ℕ) (f : TwoFunctions 
         )
 
         pub whole-made : (zs : List ℕ) (w : Joined)
-            → storedAt zs w ≡ internAt us (K₂ .sorts) (K₂ .entries) (functionSort (lookAll (trees us (K₂ .sorts)) (take count (d .ids))) (look (trees us (K₂ .sorts)) (c .0)))
+            → storedAt zs w ≡ internAt us (K₂ .sorts) (K₂ .entries) (functionSort (lookAll (trees us (K₂ .sorts))
+            (take count (d .ids))) (look (trees us (K₂ .sorts)) (c .0)))
             → storedAt zs w ≡ functionAt up ws (C .sorts) (C .entries) a b
         whole-made zs w h =
             functions.function-made up ws C a b f vs d q K z us j by-parts c K₂ y zs w
-            (h ∙ ap (λ m. internAt us (K₂ .sorts) (K₂ .entries) (functionSort (lookAll (trees us (K₂ .sorts)) (take m (d .ids))) (look (trees us (K₂ .sorts)) (c .0)))) ec)
+            (h ∙ ap (λ m. internAt us (K₂ .sorts) (K₂ .entries) (functionSort (lookAll (trees us (K₂ .sorts))
+            (take m (d .ids))) (look (trees us (K₂ .sorts)) (c .0)))) ec)

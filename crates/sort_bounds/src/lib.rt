@@ -26,7 +26,8 @@ ghost use Rattle.resolved_sort.specs.Order.{leLevel, boundOp as boundOfOps};
 ghost use Rattle.resolved_sort.specs.Storage.{partAt, startAt, countAt, entryAt};
 ghost use Rattle.resolved_sort.specs.Rows.{storedAt};
 ghost use Rattle.resolved_sort.specs.Bounds.{Asked, boundAt};
-ghost use Rattle.resolved_sort.specs.Inner.Bounds.{containerAt, functionAt, sideOf, opBound, TwoFunctions, storedDomain, boundDomain};
+ghost use Rattle.resolved_sort.specs.Inner.Bounds.{containerAt, functionAt, sideOf, opBound, TwoFunctions};
+ghost use Rattle.resolved_sort.specs.Inner.Bounds.{storedDomain, boundDomain};
 
 // The range of a function, the number of its arguments, and its i-th argument.
 fn part(sorts: &[u16], id: SortId) -> SortId

@@ -44,7 +44,13 @@ module _ (ws : List ℕ) (n e : ℕ) where
     pub lent-is-by-entries : (e ≡ 0 → ⊥) → leb (4096 + e) (length ws) ≡ withinLent ws n e
     unfolding withinLent
     lent-is-by-entries z =
-        simp (le-leb n 1024 h, le-leb e 4096 k, le-leb (4 * n) (length ws) l, leb-same (4096 + e) (length ws) e (length ws - 4096) (λ x. omega arith) (λ x. omega arith))
+        simp (
+          le-leb n 1024 h,
+          le-leb e 4096 k,
+          le-leb (4 * n) (length ws) l,
+          leb-same (4096 + e) (length ws) e
+              (length ws - 4096) (λ x. omega arith) (λ x. omega arith),
+        )
 
 module _ (ws : List ℕ) (n : ℕ) where
   pub six-false-by-count : n < 6 → false ≡ fixedSix ws n
@@ -86,7 +92,8 @@ module _ (ws : List ℕ) (e i : ℕ) (domain : Run) (range : SortId) where
   unfolding partsBelow
   parts-false-by-range h = simp (le-ltb (range .0) i h, and-false)
 
-  pub parts-is-by-args : domain .count ≤ 16 → domain .start + domain .count ≤ e → range .0 < i → (b : Bool) → b ≡ allBelow (domain .count) (argBelow ws (domain .start) i)
+  pub parts-is-by-args : domain .count ≤ 16 → domain .start + domain .count ≤ e → range .0 < i → (b : Bool)
+      → b ≡ allBelow (domain .count) (argBelow ws (domain .start) i)
       → b ≡ partsBelow ws e i (Function domain range)
   unfolding partsBelow argBelow
   parts-is-by-args h k l b q = rw (le-leb (domain .count) 16 h, le-leb (domain .start + domain .count) e k, lt-ltb (range .0) i l) q

@@ -15,7 +15,8 @@ use words::word;
 ghost use mathlib.Core.Path.{_≡_};
 ghost use Prim.Native.Nat.{_+_, _≤_};
 ghost use Rattle.resolved_sort.specs.Storage.{maxSorts};
-ghost use Rattle.resolved_sort.specs.Checks.{firstFailing, sortChecks, withinLent, fixedSix, partsBelow, rowFine, rowsFine, allBelow};
+ghost use Rattle.resolved_sort.specs.Checks.{firstFailing, sortChecks, withinLent, fixedSix, partsBelow, rowFine};
+ghost use Rattle.resolved_sort.specs.Checks.{rowsFine, allBelow};
 ghost use Rattle.resolved_sort.specs.Inner.Entries.{testedOf};
 ghost use Rattle.sort_checks.specs.Inner.Tests.{argBelow, newRow, noSameRows};
 

@@ -18,7 +18,9 @@ use Rattle.resolved_sort.specs.declared.Materialized.the-variants.{Refused as N
 use Rattle.resolved_sort.specs.Interning.{make}
 use Rattle.resolved_sort.specs.Storage.{sortsOf}
 use Rattle.resolved_sort.specs.Checks.{firstFailing, pairChecks}
-use Rattle.resolved_sort.specs.Entries.{treeAt, codeCompared, codeBounded, codeMeasured, codeMaterialized, refusedOr, Stored, stored, sortsLeft, sortsLeftBy, compared, measured, materialized, bounded}
+use Rattle.resolved_sort.specs.Entries.{treeAt, codeCompared, codeBounded, codeMeasured, codeMaterialized, refusedOr}
+use Rattle.resolved_sort.specs.Entries.{Stored, stored, sortsLeft, sortsLeftBy, compared, measured, materialized}
+use Rattle.resolved_sort.specs.Entries.{bounded}
 use Rattle.sort_entries.specs.Packed.{packBounded}
 use Rattle.sort_entries.specs.Codes.{roomCode, boundedValues}
 
@@ -43,7 +45,9 @@ left-code ws n e r (At s k) = refl
 left-code ws n e r (Nothing k) = refl
 left-code ws n e r Full = refl
 
-bounded-by : (x : Option ℕ) (ws : List ℕ) (n e : ℕ) (r : Stored) → codeBounded ((refusedOr x (λ c. sortsLeft ws (NotBounded c)) (sortsLeftBy ws n e r (r .answer))) .answer) ≡ refusedOr x (λ c. c) (roomCode (r .answer))
+bounded-by : (x : Option ℕ) (ws : List ℕ) (n e : ℕ) (r : Stored)
+    → codeBounded ((refusedOr x (λ c. sortsLeft ws (NotBounded c)) (sortsLeftBy ws n e r (r .answer))) .answer) ≡
+    refusedOr x (λ c. c) (roomCode (r .answer))
 unfolding codeBounded
 bounded-by none ws n e r = left-code ws n e r (r .answer)
 bounded-by (some c) ws n e r = refl
@@ -62,7 +66,8 @@ module _ (ws : List ℕ) (n e a b : ℕ) where
   code-of-materialized = materialized-by (firstFailing (pairChecks ws n e a b)) _
 
   pub code-of-bounded : (up : Bool) → codeBounded ((bounded up ws n e a b) .answer)
-      ≡ refusedOr (firstFailing (pairChecks ws n e a b)) (λ c. c) (roomCode ((stored ws n e (make up (treeAt ws n a) (treeAt ws n b) (sortsOf ws n e))) .answer))
+      ≡ refusedOr (firstFailing (pairChecks ws n e a b)) (λ c. c)
+      (roomCode ((stored ws n e (make up (treeAt ws n a) (treeAt ws n b) (sortsOf ws n e))) .answer))
   unfolding bounded
   code-of-bounded up = bounded-by (firstFailing (pairChecks ws n e a b)) ws n e _
 

@@ -131,7 +131,8 @@ module _ (up : Bool) (ws : List ℕ) (n e a b : ℕ) (k : Asked ws n e a b) wher
   by-outcome (nothing S) h = refl
   by-outcome (full S) h = ap (λ us. sortsLeft us NoRoom) (made-is-given-back ws n e (k .checked) S (h .0))
 
-  pub bound-answered : (vs : List ℕ) (j : Joined) → storedAt vs j ≡ boundAt up ws n e a b → (us : List ℕ) (r : Bounded) → sortsLeft us r ≡ keptOrGivenBack vs n e j
+  pub bound-answered : (vs : List ℕ) (j : Joined) → storedAt vs j ≡ boundAt up ws n e a b
+      → (us : List ℕ) (r : Bounded) → sortsLeft us r ≡ keptOrGivenBack vs n e j
       → firstFailing (pairChecks ws n e a b) ≡ none → sortsLeft us r ≡ bounded up ws n e a b
   unfolding boundAt bounded
   bound-answered vs j q us r g x =

@@ -27,7 +27,8 @@ ghost use Rattle.resolved_sort.specs.Checks.{firstFailing, pairChecks};
 ghost use Rattle.resolved_sort.specs.Inner.Entries.{testedOf};
 ghost use Rattle.resolved_sort.specs.Entries.{compared, measured, materialized, bounded, sortsLeft};
 ghost use Rattle.sort_entries.specs.Inner.Kept.{keptOrGivenBack};
-ghost use Rattle.sort_entries.specs.Packed.{packCompared, packMeasured, packMaterialized, packBounded, packedSorts, packSortsLeft};
+ghost use Rattle.sort_entries.specs.Packed.{packCompared, packMeasured, packMaterialized, packBounded};
+ghost use Rattle.sort_entries.specs.Packed.{packedSorts, packSortsLeft};
 
 // Checks 1 to 4, 12 and 14 of a question about two sorts: the first that fails.
 fn test_pair(

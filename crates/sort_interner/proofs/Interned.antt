@@ -36,9 +36,28 @@ module _ (kind part : ℕ) (ids : List ℕ) (count : ℕ) (len : length ids ≡ 
       module _ (h : c .sorts < 1024) where
         pub intern-is-full-by-entries : 4096 < c .entries + count → storedAt ws Full ≡ internRow ws (c .sorts) (c .entries) (rowWith kind part ids count)
         unfolding internRow
-        intern-is-full-by-entries k = rw (← found, le-ltb i (c .sorts) none, lt-ltb (c .sorts) 1024 h, length-given ids count len few, lt-leb (c .entries + count) 4096 k)
+        intern-is-full-by-entries k = rw (
+          ← found,
+          le-ltb i (c .sorts) none,
+          lt-ltb (c .sorts) 1024 h,
+          length-given
+              ids count len few,
+          lt-leb (c .entries + count) 4096 k,
+        )
 
         pub intern-is-appended : c .entries + count ≤ 4096 → (vs : List ℕ) → vs ≡ appendRow ws (c .sorts) (c .entries) (rowWith kind part ids count)
-            → storedAt vs (At (record { 0 = c .sorts }) (record { sorts = c .sorts + 1; entries = c .entries + count })) ≡ internRow ws (c .sorts) (c .entries) (rowWith kind part ids count)
+            → storedAt vs (At (record { 0 = c .sorts }) (record {
+              sorts = c .sorts + 1;
+              entries = c .entries +
+                  count;
+            })) ≡ internRow ws (c .sorts) (c .entries) (rowWith kind part ids count)
         unfolding internRow
-        intern-is-appended k vs e = rw (← found, le-ltb i (c .sorts) none, lt-ltb (c .sorts) 1024 h, length-given ids count len few, le-leb (c .entries + count) 4096 k, e)
+        intern-is-appended k vs e = rw (
+          ← found,
+          le-ltb i (c .sorts) none,
+          lt-ltb (c .sorts) 1024 h,
+          length-given ids
+              count len few,
+          le-leb (c .entries + count) 4096 k,
+          e,
+        )

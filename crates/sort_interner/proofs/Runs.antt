@@ -70,7 +70,8 @@ module _ (ws ys : List ℕ) (s n k : ℕ) (len : length ys ≡ n) (whole : Bool)
 
     run-differs : (x ≡ y → ⊥) → false ≡ whole
     run-differs e =
-        words-differ (entriesOf ws s n) ys k (omega (arith, length-entriesOf ws s n)) (omega arith) (λ q. e (ex ∙ sym (getD-entriesOf ws s n k h) ∙ q ∙ sym ey)) ∙ sym inv
+        words-differ (entriesOf ws s n) ys k (omega (arith, length-entriesOf ws s n)) (omega arith)
+        (λ q. e (ex ∙ sym (getD-entriesOf ws s n k h) ∙ q ∙ sym ey)) ∙ sym inv
 
 -- two runs of the lent words, of n entries each
 module _ (ws : List ℕ) (s t n k : ℕ) (inv : sameWords (entriesOf ws s n) (entriesOf ws t n) ≡ sameFrom k (entriesOf ws s n) (entriesOf ws t n)) where
@@ -82,7 +83,8 @@ module _ (ws : List ℕ) (s t n k : ℕ) (inv : sameWords (entriesOf ws s n) (en
     runs-same-from-next e = run-same-from-next ws (entriesOf ws t n) s n k (length-entriesOf ws t n) _ inv h x y ex (ey ∙ sym (getD-entriesOf ws t n k h)) e
 
     pub runs-differ : (x ≡ y → ⊥) → (m : ℕ) → n ≡ m → false ≡ sameWords (entriesOf ws s n) (entriesOf ws t m)
-    runs-differ e m same = rw (← same) (run-differs ws (entriesOf ws t n) s n k (length-entriesOf ws t n) _ inv h x y ex (ey ∙ sym (getD-entriesOf ws t n k h)) e)
+    runs-differ e m same = rw (← same) (run-differs ws (entriesOf ws t n) s n k (length-entriesOf ws t n) _ inv h x y
+        ex (ey ∙ sym (getD-entriesOf ws t n k h)) e)
 
 pub runs-differ-by-count : (ws : List ℕ) (s t n m : ℕ) → (n ≡ m → ⊥) → false ≡ sameWords (entriesOf ws s n) (entriesOf ws t m)
 runs-differ-by-count ws s t n m f = run-differs-by-count ws (entriesOf ws t m) s n (λ e. f (e ∙ length-entriesOf ws t m))
@@ -101,4 +103,5 @@ module _ (ws ids : List ℕ) (s n : ℕ) (len : length ids ≡ 16) (few : n ≤ 
       args-same-from-next e = run-same-from-next ws (take n ids) s n k (length-given ids n len few) _ inv h x (getD ids k 0) ex (sym (getD-take n ids k 0 h)) e
 
       pub args-differ : (x ≡ getD ids k 0 → ⊥) → (m : ℕ) → m ≡ n → false ≡ sameWords (entriesOf ws s m) (take n ids)
-      args-differ e m same = rw same (run-differs ws (take n ids) s n k (length-given ids n len few) _ inv h x (getD ids k 0) ex (sym (getD-take n ids k 0 h)) e)
+      args-differ e m same = rw same (run-differs ws (take n ids) s n k (length-given ids n len few) _ inv h x
+          (getD ids k 0) ex (sym (getD-take n ids k 0 h)) e)

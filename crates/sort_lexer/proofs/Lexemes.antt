@@ -49,11 +49,21 @@ module _ (p : ℕ → Bool) (l : List ℕ) (b : ℕ) (bs : List ℕ) (e : Ends l
   right-word : Right l (b ∷ bs) (word (b ∷ run p bs) (past p bs))
   unfolding lexeme saidBy
   right-word =
-      let far : Ends l (past p bs) = ends-further l bs (past p bs) (length (run p bs)) ends-after-byte (sym (ap (drop (length (run p bs))) (run-then-past p bs)) ∙ drop-at (run p bs) (past p bs) (length (run p bs)) refl) (omega (arith, length-past p bs)) in
+      let far : Ends l (past p bs) = ends-further l bs (past p bs) (length (run p bs)) ends-after-byte
+      (sym (ap (drop (length (run p bs))) (run-then-past p bs)) ∙ drop-at (run p bs) (past p bs)
+      (length (run p bs)) refl) (omega (arith, length-past p bs)) in
       let count : length (b ∷ run p bs) ≡ offset l (past p bs) - offset l (b ∷ bs) = omega (arith, length-past p bs, no-longer l (b ∷ bs) e) in
       let it : take (offset l (past p bs) - offset l (b ∷ bs)) (drop (offset l (b ∷ bs)) l) ≡ b ∷ run p bs =
-      ap (take (offset l (past p bs) - offset l (b ∷ bs))) (e ∙ ap (λ (xs : List ℕ). b ∷ xs) (sym (run-then-past p bs))) ∙ take-at (b ∷ run p bs) (past p bs) (offset l (past p bs) - offset l (b ∷ bs)) count in
-      record { says = sym (ap (λ (w : List ℕ). word w (drop (offset l (past p bs)) l)) it ∙ ap (word (b ∷ run p bs)) far); starts = refl; goes = omega (arith, length-past p bs, no-longer l (b ∷ bs) e); within = omega arith }
+      ap (take (offset l (past p bs) - offset l (b ∷ bs))) (e ∙ ap (λ (xs : List ℕ). b ∷ xs)
+      (sym (run-then-past p bs))) ∙ take-at (b ∷ run p bs) (past p bs) (offset l (past p bs) - offset l (b ∷ bs))
+      count in
+      record {
+        says = sym (ap (λ (w : List ℕ). word w (drop (offset l (past p bs)) l)) it ∙ ap (word (b ∷ run p bs))
+            far);
+        starts = refl;
+        goes = omega (arith, length-past p bs, no-longer l (b ∷ bs) e);
+        within = omega arith;
+      }
 
   right-open : Right l (b ∷ bs) (open-bracket bs)
   unfolding lexeme saidBy
@@ -69,7 +79,12 @@ module _ (p : ℕ → Bool) (l : List ℕ) (b : ℕ) (bs : List ℕ) (e : Ends l
 
 right-arrow : (l : List ℕ) (b c : ℕ) (bs : List ℕ) → Ends l (b ∷ c ∷ bs) → Right l (b ∷ c ∷ bs) (arrow bs)
 unfolding lexeme saidBy
-right-arrow l b c bs e = record { says = ap arrow (sym (ends-further l (b ∷ c ∷ bs) bs 2 e refl (omega arith))); starts = refl; goes = omega (arith, no-longer l (b ∷ c ∷ bs) e); within = omega arith }
+right-arrow l b c bs e = record {
+  says = ap arrow (sym (ends-further l (b ∷ c ∷ bs) bs 2 e refl (omega arith)));
+  starts = refl;
+  goes = omega (arith, no-longer l (b ∷ c ∷ bs) e);
+  within = omega arith;
+}
 
 right-dash : (l : List ℕ) (b : ℕ) (bs : List ℕ) → Ends l (b ∷ bs) → Right l (b ∷ bs) (dash bs)
 right-dash l b [] e = right-bad l (b ∷ [])

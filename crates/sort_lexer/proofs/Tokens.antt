@@ -52,7 +52,8 @@ module _ (l : List ℕ) (at from : ℕ) (skipped : from ≡ offset l (skip (drop
 
   pub no-token-left : length l ≤ from → found End from from ≡ lexemeOf l at
   unfolding lexeme lexemeOf next
-  no-token-left h = sym (ap (λ (bs : List ℕ). lexeme l bs (nextAt isLetter bs)) (without-spaces ∙ drop-of-length-le l h) ∙ ap (λ (i : ℕ). found End i i) (omega (arith, ap length without-spaces, length-drop from l)))
+  no-token-left h = sym (ap (λ (bs : List ℕ). lexeme l bs (nextAt isLetter bs)) (without-spaces ∙ drop-of-length-le l
+      h) ∙ ap (λ (i : ℕ). found End i i) (omega (arith, ap length without-spaces, length-drop from l)))
 
   module _ (h : from < length l) where
     token-from : (n : NextToken) → start isLetter (getD l from 0) (drop (from + 1) l) ≡ n → lexemeOf l at ≡ lexeme l (drop from l) n
@@ -68,7 +69,9 @@ module _ (l : List ℕ) (at from : ℕ) (skipped : from ≡ offset l (skip (drop
     module _ (q : Bool) (e : q ≡ isLetter (getD l from 0)) where
       pub a-word : q ≡ true → (to : ℕ) → to ≡ offset l (past isLetter (drop (from + 1) l)) → found Word from to ≡ lexemeOf l at
       unfolding lexeme
-      a-word t to f = sym (token-from _ (start-word isLetter (getD l from 0) (drop (from + 1) l) (sym e ∙ t)) ∙ ap (found Word (offset l (drop from l))) (sym f) ∙ ap (λ (i : ℕ). found Word i to) (place-drop l from (omega arith)))
+      a-word t to f = sym (token-from _ (start-word isLetter (getD l from 0) (drop (from + 1) l) (sym e ∙ t)) ∙ ap
+          (found Word (offset l (drop from l))) (sym f) ∙ ap (λ (i : ℕ). found Word i to) (place-drop l from
+          (omega arith)))
 
       module _ (no : q ≡ false) where
         pub an-open-bracket : getD l from 0 ≡ 40 → found Open from (from + 1) ≡ lexemeOf l at
@@ -87,7 +90,8 @@ module _ (l : List ℕ) (at from : ℕ) (skipped : from ≡ offset l (skip (drop
         unfolding lexeme
         bad-token b = sym (token-from bad b ∙ at-positions Bad from (omega arith))
 
-        pub no-token : (getD l from 0 ≡ 40 → ⊥) → (getD l from 0 ≡ 41 → ⊥) → (getD l from 0 ≡ 35 → ⊥) → (getD l from 0 ≡ 45 → ⊥) → found Bad from from ≡ lexemeOf l at
+        pub no-token : (getD l from 0 ≡ 40 → ⊥) → (getD l from 0 ≡ 41 → ⊥) → (getD l from 0 ≡ 35 → ⊥)
+            → (getD l from 0 ≡ 45 → ⊥) → found Bad from from ≡ lexemeOf l at
         no-token a b c d = bad-token (start-bad isLetter _ _ (sym e ∙ no) a b c d)
 
         module _ (b : getD l from 0 ≡ 45) where
@@ -103,4 +107,5 @@ module _ (l : List ℕ) (at from : ℕ) (skipped : from ≡ offset l (skip (drop
 
             pub an-arrow : getD l (from + 1) 0 ≡ 62 → found Arrow from (from + 2) ≡ lexemeOf l at
             unfolding lexeme
-            an-arrow f = sym (token-from (arrow (drop (from + 2) l)) (start-dash isLetter _ _ (sym e ∙ no) b ∙ ap dash after-dash ∙ rw (eq-eqb (getD l (from + 1) 0) 62 f)) ∙ at-positions Arrow (from + 2) (omega arith))
+            an-arrow f = sym (token-from (arrow (drop (from + 2) l)) (start-dash isLetter _ _ (sym e ∙ no) b ∙ ap dash
+                after-dash ∙ rw (eq-eqb (getD l (from + 1) 0) 62 f)) ∙ at-positions Arrow (from + 2) (omega arith))

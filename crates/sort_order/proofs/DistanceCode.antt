@@ -32,21 +32,25 @@ beneath-op true h m none e = refl
 beneath-op true h m (some d) e = let z : h ≡ m = cc in ap₂ Distance z (omega arith)
 beneath-op false h m d e = cc
 
-no-op : (b : Bool) (m : ℕ) (d : Option Steps) → Nothing ≡ amountOf (onlyIf b (some m)) → NoDistance ≡ wideningOf (onlyIf b (map₁ (λ d. record { head = m; interior = allSteps d }) d))
+no-op : (b : Bool) (m : ℕ) (d : Option Steps) → Nothing ≡ amountOf (onlyIf b (some m))
+    → NoDistance ≡ wideningOf (onlyIf b (map₁ (λ d. record { head = m; interior = allSteps d }) d))
 no-op true m d e = cc
 no-op false m d e = refl
 
-beneath-args : (x : Option ℕ) (n : ℕ) (d : Option Steps) → Of n ≡ amountOf x → beneath 0 n (wideningOf d) ≡ wideningOf (map₂ (λ n d. record { head = 0; interior = stoppedSum n (allSteps d) }) x d)
+beneath-args : (x : Option ℕ) (n : ℕ) (d : Option Steps) → Of n ≡ amountOf x → beneath 0 n (wideningOf d) ≡ wideningOf
+    (map₂ (λ n d. record { head = 0; interior = stoppedSum n (allSteps d) }) x d)
 unfolding beneath
 beneath-args none n d e = cc
 beneath-args (some m) n none e = refl
 beneath-args (some m) n (some d) e = let z : n ≡ m = cc in ap (λ (i : ℕ). Distance 0 (stoppedSum i (allSteps d))) z
 
-no-args : (x : Option ℕ) (d : Option Steps) → Nothing ≡ amountOf x → NoDistance ≡ wideningOf (map₂ (λ n d. record { head = 0; interior = stoppedSum n (allSteps d) }) x d)
+no-args : (x : Option ℕ) (d : Option Steps) → Nothing ≡ amountOf x
+    → NoDistance ≡ wideningOf (map₂ (λ n d. record { head = 0; interior = stoppedSum n (allSteps d) }) x d)
 no-args none d e = refl
 no-args (some m) d e = cc
 
-more-args : (d : Option Steps) (h i : ℕ) (x : Option ℕ) → Distance h i ≡ wideningOf d → moreSteps (stoppedSum h i) (amountOf x) ≡ amountOf (map₂ (λ d n. stoppedSum (allSteps d) n) d x)
+more-args : (d : Option Steps) (h i : ℕ) (x : Option ℕ) → Distance h i ≡ wideningOf d
+    → moreSteps (stoppedSum h i) (amountOf x) ≡ amountOf (map₂ (λ d n. stoppedSum (allSteps d) n) d x)
 unfolding moreSteps
 more-args none h i x e = cc
 more-args (some d) h i none e = refl
@@ -67,7 +71,8 @@ module _ (ws : List ℕ) (n : ℕ) where
   pub distance-of-equals : (a b : ℕ) → a ≡ b → Distance 0 0 ≡ distanceAt ws n a b
   distance-of-equals a b e = sym (ap wideningOf (distance-of-equal true (treeAt ws n a))) ∙ ap (distanceAt ws n a) e
 
-  pub distance-of-primitive : {e a b : ℕ} {l r : Sort} {w : Widening} → OfPrimitives ws n e a b l r → w ≡ wideningOf (distance true (flat (primitive l)) (flat (primitive r)))
+  pub distance-of-primitive : {e a b : ℕ} {l r : Sort} {w : Widening} → OfPrimitives ws n e a b l r
+      → w ≡ wideningOf (distance true (flat (primitive l)) (flat (primitive r)))
       → w ≡ distanceAt ws n a b
   distance-of-primitive h g = g ∙ sym (ap₂ (λ s t. wideningOf (distance true s t)) (h .lhs) (h .rhs))
 
@@ -89,7 +94,8 @@ module _ (ws : List ℕ) (n : ℕ) where
         no-op (leOp true o p) (levelOp p - levelOp o) (distance true (treeAt ws n (s .0)) (treeAt ws n (t .0))) (sym i ∙ g)
         ∙ sym (ap₂ (λ s t. wideningOf (distance true s t)) (h .lhs) (h .rhs))
 
-  module _ {e a b c ls rs : ℕ} {lr rr : SortId} (h : OfFunctions ws n e a b c ls lr rs rr) {x : Amount} (g : x ≡ amountOf (distances false (argsAt ws n ls c) (argsAt ws n rs c))) where
+  module _ {e a b c ls rs : ℕ} {lr rr : SortId} (h : OfFunctions ws n e a b c ls lr rs rr) {x : Amount}
+      (g : x ≡ amountOf (distances false (argsAt ws n ls c) (argsAt ws n rs c))) where
     pub distance-of-functions : {m : ℕ} {y z : Widening} → x ≡ Of m → y ≡ distanceAt ws n (lr .0) (rr .0) → z ≡ beneath 0 m y → z ≡ distanceAt ws n a b
     unfolding distance
     distance-of-functions {m} i j k =
@@ -114,7 +120,8 @@ module _ (ws : List ℕ) (n : ℕ) where
     first-steps : x ≡ wideningOf (distance false (treeAt ws n (entryAt ws s)) (treeAt ws n (entryAt ws t)))
     first-steps = f ∙ (ap₂ (distanceAt ws n) q p ∙ ap wideningOf (distance-flips true (treeAt ws n (entryAt ws t)) (treeAt ws n (entryAt ws s))))
 
-    pub distances-of-more : {i j k : ℕ} {y z : Amount} → x ≡ Distance i j → k ≡ stoppedSum i j → y ≡ amountOf (distances false (argsAt ws n (s + 1) (c - 1)) (argsAt ws n (t + 1) (c - 1)))
+    pub distances-of-more : {i j k : ℕ} {y z : Amount} → x ≡ Distance i j → k ≡ stoppedSum i j
+        → y ≡ amountOf (distances false (argsAt ws n (s + 1) (c - 1)) (argsAt ws n (t + 1) (c - 1)))
         → z ≡ moreSteps k y → z ≡ amountOf (distances false (argsAt ws n s c) (argsAt ws n t c))
     unfolding distance
     distances-of-more {i} {j} e d g u =
@@ -127,6 +134,7 @@ module _ (ws : List ℕ) (n : ℕ) where
     pub no-distances-of-first : x ≡ NoDistance → Nothing ≡ amountOf (distances false (argsAt ws n s c) (argsAt ws n t c))
     unfolding distance
     no-distances-of-first e =
-        no-first (distance false (treeAt ws n (entryAt ws s)) (treeAt ws n (entryAt ws t))) (distances false (argsAt ws n (s + 1) (c - 1)) (argsAt ws n (t + 1) (c - 1)))
+        no-first (distance false (treeAt ws n (entryAt ws s)) (treeAt ws n (entryAt ws t)))
+        (distances false (argsAt ws n (s + 1) (c - 1)) (argsAt ws n (t + 1) (c - 1)))
         (sym e ∙ first-steps)
         ∙ sym (ap₂ (λ ss ts. amountOf (distances false ss ts)) (first-arg ws n s c h) (first-arg ws n t c h))

@@ -37,7 +37,8 @@ below-of-trees s t d = below-of-different (le true s t) (le false s t) (λ e f. 
 
 below-of-ops : (o p : ComplexSort) → (o ≡ p → ⊥) → isBelow (orderOf (leOp true o p) (leOp false o p)) ≡ leOp true o p
 below-of-ops o p d =
-    below-of-different (leOp true o p) (leOp false o p) (λ e f. d (head-antisym familyOp levelOp true op-injective o p e (sym (head-flips familyOp levelOp false o p) ∙ f)))
+    below-of-different (leOp true o p) (leOp false o p) (λ e f. d (head-antisym familyOp levelOp true op-injective o p
+    e (sym (head-flips familyOp levelOp false o p) ∙ f)))
 
 module _ (ws : List ℕ) (n : ℕ) where
   pub materializable-of-equal : (a b : ℕ) → a ≡ b → true ≡ materializable (treeAt ws n a) (treeAt ws n b)
@@ -50,7 +51,8 @@ module _ (ws : List ℕ) (n : ℕ) where
     differ : {s t : Tree} → treeAt ws n a ≡ s → treeAt ws n b ≡ t → s ≡ t → ⊥
     differ p q r = d (number-of-tree k ha hb (p ∙ (r ∙ sym q)))
 
-    pub materializable-of-primitive : {l r : Sort} {x : PartialOrder} {y : Bool} → OfPrimitives ws n e a b l r → x ≡ order (flat (primitive l)) (flat (primitive r)) → y ≡ isBelow x
+    pub materializable-of-primitive : {l r : Sort} {x : PartialOrder} {y : Bool} → OfPrimitives ws n e a b l r
+        → x ≡ order (flat (primitive l)) (flat (primitive r)) → y ≡ isBelow x
         → y ≡ materializable (treeAt ws n a) (treeAt ws n b)
     unfolding le materializable
     materializable-of-primitive {l} {r} h f g =
@@ -74,7 +76,8 @@ module _ (ws : List ℕ) (n : ℕ) where
       pub not-materializable-containers : (s .0 ≡ t .0 → ⊥) → false ≡ materializable (treeAt ws n a) (treeAt ws n b)
       not-materializable-containers q = sym (by-parts ∙ (ap (_&&_ (leOp true o p)) (ne-eqb _ _ q) ∙ and-false (leOp true o p)))
 
-    module _ {c ls rs : ℕ} {lr rr : SortId} (h : OfFunctions ws n e a b c ls lr rs rr) {x : Bool} (f : x ≡ sameWords (entriesOf ws ls c) (entriesOf ws rs c)) where
+    module _ {c ls rs : ℕ} {lr rr : SortId} (h : OfFunctions ws n e a b c ls lr rs rr) {x : Bool} (f : x ≡ sameWords
+        (entriesOf ws ls c) (entriesOf ws rs c)) where
       by-entries : materializable (treeAt ws n a) (treeAt ws n b) ≡ (x && materializable (treeAt ws n (lr .0)) (treeAt ws n (rr .0)))
       unfolding materializable
       by-entries =
@@ -82,7 +85,8 @@ module _ (ws : List ℕ) (n : ℕ) where
           ∙ ap (λ (z : Bool). z && materializable (treeAt ws n (lr .0)) (treeAt ws n (rr .0)))
           (sames-by-entries k (omega arith) (omega arith) (entriesOf ws ls c) (entriesOf ws rs c) (h .lhs-args) (h .rhs-args) ∙ sym f)
 
-      pub materializable-of-functions : {y : Bool} → x ≡ true → y ≡ materializable (treeAt ws n (lr .0)) (treeAt ws n (rr .0)) → y ≡ materializable (treeAt ws n a) (treeAt ws n b)
+      pub materializable-of-functions : {y : Bool} → x ≡ true → y ≡ materializable (treeAt ws n (lr .0))
+          (treeAt ws n (rr .0)) → y ≡ materializable (treeAt ws n a) (treeAt ws n b)
       materializable-of-functions q g = g ∙ sym (by-entries ∙ ap (λ (z : Bool). z && materializable (treeAt ws n (lr .0)) (treeAt ws n (rr .0))) q)
 
       pub not-materializable-functions : x ≡ false → false ≡ materializable (treeAt ws n a) (treeAt ws n b)

@@ -51,12 +51,14 @@ module _ (ws : List ℕ) (n : ℕ) where
   order-of-primitive h g = g ∙ sym (ap₂ order (h .lhs) (h .rhs))
 
   pub order-of-containers : {e a b : ℕ} {o p : ComplexSort} {s t : SortId} {x y z : PartialOrder} → OfContainers ws n e a b o s p t
-      → x ≡ orderOf (leOp true o p) (leOp false o p) → y ≡ order (treeAt ws n (s .0)) (treeAt ws n (t .0)) → z ≡ combined x y → z ≡ order (treeAt ws n a) (treeAt ws n b)
+      → x ≡ orderOf (leOp true o p) (leOp false o p) → y ≡ order (treeAt ws n (s .0)) (treeAt ws n (t .0))
+      → z ≡ combined x y → z ≡ order (treeAt ws n a) (treeAt ws n b)
   order-of-containers {e} {a} {b} {o} {p} {s} {t} h f g i =
       i ∙ (ap₂ combined f g ∙ (order-of-parts o p (treeAt ws n (s .0)) (treeAt ws n (t .0)) ∙ sym (ap₂ order (h .lhs) (h .rhs))))
 
   pub order-of-functions : {e a b c ls rs : ℕ} {lr rr : SortId} {x y z : PartialOrder} → OfFunctions ws n e a b c ls lr rs rr
-      → x ≡ argsOrder (argsAt ws n ls c) (argsAt ws n rs c) → y ≡ order (treeAt ws n (lr .0)) (treeAt ws n (rr .0)) → z ≡ combined x y → z ≡ order (treeAt ws n a) (treeAt ws n b)
+      → x ≡ argsOrder (argsAt ws n ls c) (argsAt ws n rs c) → y ≡ order (treeAt ws n (lr .0)) (treeAt ws n (rr .0))
+      → z ≡ combined x y → z ≡ order (treeAt ws n a) (treeAt ws n b)
   order-of-functions {e} {a} {b} {c} {ls} {rs} {lr} {rr} h f g i =
       i
       ∙ (ap₂ combined f g
@@ -71,7 +73,8 @@ module _ (ws : List ℕ) (n : ℕ) where
   args-of-none s t c e = rw e
 
   -- the first argument, the other way, and the rest
-  pub args-of-more : (s t c : ℕ) {l r : ℕ} {x y z : PartialOrder} → (c ≡ 0 → ⊥) → l ≡ entryAt ws s → r ≡ entryAt ws t → x ≡ order (treeAt ws n r) (treeAt ws n l)
+  pub args-of-more : (s t c : ℕ) {l r : ℕ} {x y z : PartialOrder} → (c ≡ 0 → ⊥) → l ≡ entryAt ws s → r ≡ entryAt ws t
+      → x ≡ order (treeAt ws n r) (treeAt ws n l)
       → y ≡ argsOrder (argsAt ws n (s + 1) (c - 1)) (argsAt ws n (t + 1) (c - 1)) → z ≡ combined x y → z ≡ argsOrder (argsAt ws n s c) (argsAt ws n t c)
   args-of-more s t c {l} {r} h p q f g i =
       i

@@ -66,7 +66,8 @@ orderBy x y =
     orderOf (eqb (familyBy x) (familyBy y) && leb (levelBy x) (levelBy y)) (eqb (familyBy x) (familyBy y) && leb (levelBy y) (levelBy x))
 
 abbrev pub distanceBy : Amount → Amount → Widening
-distanceBy x y = wideningOf (onlyIf (eqb (familyBy x) (familyBy y) && leb (levelBy x) (levelBy y)) (some (record { head = levelBy y - levelBy x; interior = 0 })))
+distanceBy x y = wideningOf (onlyIf (eqb (familyBy x) (familyBy y) && leb (levelBy x) (levelBy y))
+    (some (record { head = levelBy y - levelBy x; interior = 0 })))
 
 module _ (l r : Sort) {x y : Amount} (e : x ≡ amountOf (generality l)) (f : y ≡ amountOf (generality r)) where
   pub order-of-primitives : {o : PartialOrder} → o ≡ orderBy x y → o ≡ order (flat (primitive l)) (flat (primitive r))
@@ -112,5 +113,6 @@ steps-by-order ComplexSort.FBag ComplexSort.FSet = refl
 steps-by-order ComplexSort.FBag ComplexSort.Bag = refl
 steps-by-order ComplexSort.FBag ComplexSort.FBag = refl
 
-pub steps-of-ops : (o p : ComplexSort) {x : PartialOrder} {y : Amount} → x ≡ orderOf (leOp true o p) (leOp false o p) → y ≡ stepsBy x → y ≡ amountOf (opSteps o p)
+pub steps-of-ops : (o p : ComplexSort) {x : PartialOrder} {y : Amount} → x ≡ orderOf (leOp true o p) (leOp false o p)
+    → y ≡ stepsBy x → y ≡ amountOf (opSteps o p)
 steps-of-ops o p e g = g ∙ (ap stepsBy e ∙ steps-by-order o p)

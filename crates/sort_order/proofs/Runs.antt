@@ -13,7 +13,8 @@ use Rattle.resolved_sort.proofs.Pairs.{OfFunctions}
 use Rattle.resolved_sort.proofs.Said.{entry-below, first-entry}
 use Rattle.sort_order.specs.Inner.Runs.{Runs}
 
-pub runs-of-functions : {ws : List ℕ} {n e a b c ls rs : ℕ} {lr rr : SortId} → Checked ws n e → a < n → b < n → OfFunctions ws n e a b c ls lr rs rr → Runs ws n e ls rs c
+pub runs-of-functions : {ws : List ℕ} {n e a b c ls rs : ℕ} {lr rr : SortId} → Checked ws n e → a < n → b < n
+    → OfFunctions ws n e a b c ls lr rs rr → Runs ws n e ls rs c
 runs-of-functions {ws} {n} {e} {a} {b} {c} {ls} {rs} k ha hb f =
     record {
       checked = k;

@@ -18,13 +18,15 @@ ghost use mathlib.Core.Option.{some};
 ghost use Prim.Native.Nat.{_-_, _<_};
 ghost use lib.Dec.{leb};
 ghost use Rattle.resolved_sort.specs.Tree.{primitive, flat};
-ghost use Rattle.resolved_sort.specs.Order.{leOp, order, orderOf, onlyIf, stoppedSum as sumOf, distance, distances, materializable};
+ghost use Rattle.resolved_sort.specs.Order.{leOp, order, orderOf, onlyIf, stoppedSum as sumOf, distance, distances};
+ghost use Rattle.resolved_sort.specs.Order.{materializable};
 ghost use Rattle.resolved_sort.specs.Storage.{entriesOf};
 ghost use Rattle.resolved_sort.specs.Inner.Storage.{argsAt};
 ghost use Rattle.resolved_sort.specs.Entries.{treeAt, wideningOf};
 ghost use Rattle.resolved_sort.specs.Rows.{Checked, sameWords};
 ghost use Rattle.resolved_sort.specs.Inner.Pairs.{withPrimitive, withContainer, withFunction, pairAt};
-ghost use Rattle.sort_order.specs.Inner.Answers.{isBelow, combined, amountOf, generality, opSteps, beneath, moreSteps};
+ghost use Rattle.sort_order.specs.Inner.Answers.{isBelow, combined, amountOf, generality, opSteps, beneath};
+ghost use Rattle.sort_order.specs.Inner.Answers.{moreSteps};
 ghost use Rattle.sort_order.specs.Inner.Runs.{argsOrder, Runs};
 
 // A number that may be missing: Option<u32> and Option<u8> in the Rust.

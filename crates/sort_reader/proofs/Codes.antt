@@ -25,7 +25,8 @@ unfolding readAs codeRead
 line-code ws n e bs (parsed t cs) = stored-code ws n e (stored ws n e (store t (sortsOf ws n e))) _
 line-code ws n e bs (stuck cs) = refl
 
-by-check : (x : Option ℕ) (ws : List ℕ) (r : ReadLeft) → codeRead ((refusedOr x (λ c. readLeft ws (Refused c)) r) .answer) ≡ refusedOr x (λ c. c) (codeRead (r .answer))
+by-check : (x : Option ℕ) (ws : List ℕ) (r : ReadLeft)
+    → codeRead ((refusedOr x (λ c. readLeft ws (Refused c)) r) .answer) ≡ refusedOr x (λ c. c) (codeRead (r .answer))
 unfolding codeRead
 by-check none ws r = refl
 by-check (some c) ws r = refl
@@ -33,7 +34,9 @@ by-check (some c) ws r = refl
 else-same : (x : Option ℕ) (m k : ℕ) → m ≡ k → refusedOr x (λ c. c) m ≡ refusedOr x (λ c. c) k
 else-same x m k e = rw e
 
-pub code-of-reading : (ws : List ℕ) (n e : ℕ) (bs : List ℕ) → codeRead ((reading ws n e bs) .answer) ≡ refusedOr (firstFailing (readChecks ws n e bs)) (λ c. c) (lineCode ws n e (line bs))
+pub code-of-reading : (ws : List ℕ) (n e : ℕ) (bs : List ℕ) → codeRead ((reading ws n e bs) .answer) ≡ refusedOr
+    (firstFailing (readChecks ws n e bs)) (λ c. c) (lineCode ws n e (line bs))
 unfolding reading
 code-of-reading ws n e bs =
-    by-check (firstFailing (readChecks ws n e bs)) ws (readAs ws n e bs (line bs)) ∙ else-same (firstFailing (readChecks ws n e bs)) _ _ (line-code ws n e bs (line bs))
+    by-check (firstFailing (readChecks ws n e bs)) ws (readAs ws n e bs (line bs)) ∙ else-same
+    (firstFailing (readChecks ws n e bs)) _ _ (line-code ws n e bs (line bs))

@@ -99,7 +99,13 @@ module _ (ws : List ℕ) (n e : ℕ) (bs : List ℕ) (t : Tested) (et : t ≡ te
         let b = and-eq-true-iff (leb n maxSorts && leb e maxEntries) (leb (4 * n) (length ws)) .0 (a .0) in
         let d = and-eq-true-iff (leb n maxSorts) (leb e maxEntries) .0 (b .0) in
         record {
-          checked = record { long = leb-true fullLength (length ws) (c₅ .0); sorts = leb-true n maxSorts (d .0); entries = leb-true e maxEntries (d .1); fine = c₃ .0; differ = c₄ .0 };
+          checked = record {
+            long = leb-true fullLength (length ws) (c₅ .0);
+            sorts = leb-true n maxSorts (d .0);
+            entries = leb-true e maxEntries (d .1);
+            fine = c₃ .0;
+            differ = c₄ .0;
+          };
           six = c₂ .0;
           short = leb-true (length bs) 200 (c₆ .0);
         }
@@ -143,7 +149,8 @@ module _ (ws : List ℕ) (n e : ℕ) (bs : List ℕ) (q : Passes ws n e bs) wher
 
     pub store-kept : SortsKept ws n e InTree (sortsOf ws n e) (store t (sortsOf ws n e))
     unfolding InStack
-    store-kept = subst (SortsKept ws n e InTree (sortsOf ws n e)) store-is (steps-kept ws n e (postfix t) [] (sortsOf ws n e) (line-steps-short bs cs t is) (grown-none ws n e (q .checked)) six-in tt)
+    store-kept = subst (SortsKept ws n e InTree (sortsOf ws n e)) store-is (steps-kept ws n e (postfix t) []
+        (sortsOf ws n e) (line-steps-short bs cs t is) (grown-none ws n e (q .checked)) six-in tt)
 
   -- a line that is no sort
   not-a-sort-at : (P : Parsed) (out : List ℕ) (p : ℕ) → Says bs 0 (length bs) [] P out (Stuck p) → readLeft ws (NotASort p) ≡ readAs ws n e bs P
@@ -201,8 +208,11 @@ module _ (ws : List ℕ) (n e : ℕ) (bs : List ℕ) (q : Passes ws n e bs) wher
       by-outcome (nothing S) h = ap (λ us. readLeft us NoRoom) (made-is-given-back ws n e (q .checked) S (h .0))
       by-outcome (full S) h = ap (λ us. readLeft us NoRoom) (made-is-given-back ws n e (q .checked) S (h .0))
 
-      pub read-stored : (ids vs : List ℕ) (j : Joined) → storedAt vs j ≡ runAt ws n e (drop 0 (take m out)) ids 0 → (us : List ℕ) (a : Read) → readLeft us a ≡ keptOrNoRoom vs n e j
+      pub read-stored : (ids vs : List ℕ) (j : Joined) → storedAt vs j ≡ runAt ws n e (drop 0 (take m out)) ids 0
+          → (us : List ℕ) (a : Read) → readLeft us a ≡ keptOrNoRoom vs n e j
           → readLeft us a ≡ readAs ws n e bs (line bs)
       unfolding readAs
       read-stored ids vs j f us a g =
-          g ∙ (ap (λ x. keptOrNoRoom (x .words) n e (x .answer)) (f ∙ run-is ids) ∙ (by-outcome (store (it .sort) (sortsOf ws n e)) (store-kept (it .left) (it .sort) (it .is)) ∙ sym (ap (readAs ws n e bs) (it .is))))
+          g ∙ (ap (λ x. keptOrNoRoom (x .words) n e (x .answer)) (f ∙ run-is ids) ∙
+          (by-outcome (store (it .sort) (sortsOf ws n e)) (store-kept (it .left) (it .sort) (it .is)) ∙ sym
+          (ap (readAs ws n e bs) (it .is))))

@@ -27,7 +27,9 @@ use Rattle.resolved_sort.specs.Growing.{partsIn, members, SortsKept, InTree}
 use Rattle.resolved_sort.proofs.Grown.{grown-none}
 use Rattle.resolved_sort.proofs.Unchanged.{longer}
 use Rattle.resolved_sort.proofs.Kept.{intern-kept}
-use Rattle.resolved_sort.proofs.Reached.{Reached, reached, stopped, ended, reached-checked, reached-list, reached-trees, reached-below, reached-sort, reached-sorts, stored-again, here}
+use Rattle.resolved_sort.proofs.Reached.{Reached, reached, stopped, ended, reached-checked, reached-list}
+use Rattle.resolved_sort.proofs.Reached.{reached-trees, reached-below, reached-sort, reached-sorts, stored-again}
+use Rattle.resolved_sort.proofs.Reached.{here}
 use Rattle.resolved_sort.proofs.BoundsCode.{answer-old, answer-none, members-below}
 use Rattle.resolved_sort.proofs.Pairs.{arity-lookAll}
 use native.Mathlib.Nat.{add-zero}
@@ -53,12 +55,14 @@ unfolding stackOf
 stack-top T ids b v h =
     ap (stackOf T (set ids b v)) (add-one b) ∙ ap₂ (λ x s. look T x ∷ s) (getD-set-same ids b v 0 h) (stack-set T ids b b v (omega arith))
 
-stack-agrees : (T U : List Tree) (ids : List ℕ) (d n : ℕ) → ((j : ℕ) → j < d → getD ids j 0 < n) → ((x : ℕ) → x < n → look T x ≡ look U x) → stackOf T ids d ≡ stackOf U ids d
+stack-agrees : (T U : List Tree) (ids : List ℕ) (d n : ℕ) → ((j : ℕ) → j < d → getD ids j 0 < n) → ((x : ℕ) → x < n
+    → look T x ≡ look U x) → stackOf T ids d ≡ stackOf U ids d
 unfolding stackOf
 stack-agrees T U ids zero n h e = refl
 stack-agrees T U ids (suc d) n h e = ap₂ _∷_ (e (getD ids d 0) (h d (omega arith))) (stack-agrees T U ids d n (λ j l. h j (omega arith)) e)
 
-set-below : (ids : List ℕ) (b v m : ℕ) → b < length ids → v < m → ((j : ℕ) → j < b → getD ids j 0 < m) → (j : ℕ) → j < b + 1 → Dec (j ≡ b) → getD (set ids b v) j 0 < m
+set-below : (ids : List ℕ) (b v m : ℕ) → b < length ids → v < m → ((j : ℕ) → j < b → getD ids j 0 < m) → (j : ℕ)
+    → j < b + 1 → Dec (j ≡ b) → getD (set ids b v) j 0 < m
 set-below ids b v m l hv h j k (yes d) = subst (λ x. getD (set ids b v) x 0 < m) (sym d) (subst (λ y. y < m) (sym (getD-set-same ids b v 0 l)) hv)
 set-below ids b v m l hv h j k (no d) = subst (λ y. y < m) (sym (getD-set-other ids b j v 0 d)) (h j (omega arith))
 
@@ -120,7 +124,8 @@ push-step : (op : ℕ) (st : List Tree) (S : Sorts) → op < 6 → stepOn op st 
 unfolding stepOn
 push-step op st S l = rw (lt-ltb op 6 l)
 
-over-step : (op : ℕ) (t : Tree) (st : List Tree) (S : Sorts) → 6 ≤ op → op < 11 → stepOn op (t ∷ st) S ≡ (intern (container (opOf (op - 6)) t) S then (λ u S. made (u ∷ st) S))
+over-step : (op : ℕ) (t : Tree) (st : List Tree) (S : Sorts) → 6 ≤ op → op < 11
+    → stepOn op (t ∷ st) S ≡ (intern (container (opOf (op - 6)) t) S then (λ u S. made (u ∷ st) S))
 unfolding stepOn
 over-step op t st S h l = rw (le-ltb op 6 h, lt-ltb op 11 l)
 
@@ -133,7 +138,8 @@ unfolding stepOn
 empty-step op S true h e = rw (le-ltb op 6 h, e)
 empty-step op S false h e = rw (le-ltb op 6 h, e)
 
-module _ (ws : List ℕ) (C : Counts) (ops : List ℕ) (i : ℕ) (ids : List ℕ) (len : length ids ≡ 256) (depth : ℕ) (q : Running ws (C .sorts) (C .entries) ops i ids depth) where
+module _ (ws : List ℕ) (C : Counts) (ops : List ℕ) (i : ℕ) (ids : List ℕ) (len : length ids ≡ 256) (depth : ℕ)
+    (q : Running ws (C .sorts) (C .entries) ops i ids depth) where
   abbrev n : ℕ
   n = C .sorts
 
@@ -192,7 +198,8 @@ module _ (ws : List ℕ) (C : Counts) (ops : List ℕ) (i : ℕ) (ids : List ℕ
     unfolding stackOf
     run-short l z =
         answer-none ws C (q .checked)
-        ∙ sym (whole-is ∙ ap (λ O. stored ws n e (O then (λ st S. steps later st S))) (ap (λ d. stepOn op (stackOf T ids d) S) z ∙ empty-step op S (ltb op 11) l refl))
+        ∙ sym (whole-is ∙ ap (λ O. stored ws n e (O then (λ st S. steps later st S)))
+        (ap (λ d. stepOn op (stackOf T ids d) S) z ∙ empty-step op S (ltb op 11) l refl))
 
     -- one of the fixed six on the stack
     module _ (l : op < 6) where
@@ -210,7 +217,8 @@ module _ (ws : List ℕ) (C : Counts) (ops : List ℕ) (i : ℕ) (ids : List ℕ
       pub push-goes-on : (vs : List ℕ) (r : Joined) → storedAt vs r ≡ runAt ws n e later (set ids depth op) (depth + 1) → storedAt vs r ≡ whole
       unfolding runAt
       push-goes-on vs r g =
-          g ∙ (ap (λ st. stored ws n e (steps later st S)) (stack-top T ids depth op (omega (arith, len, q .room)) ∙ ap (λ t. t ∷ stackOf T ids depth) (q .six op l))
+          g ∙ (ap (λ st. stored ws n e (steps later st S)) (stack-top T ids depth op (omega (arith, len, q .room)) ∙
+          ap (λ t. t ∷ stackOf T ids depth) (q .six op l))
           ∙ sym (whole-is ∙ ap (λ O. stored ws n e (O then (λ st S. steps later st S))) (push-step op (stackOf T ids depth) S l)))
 
     -- a sort interned, and then on the stack at base
@@ -229,7 +237,8 @@ module _ (ws : List ℕ) (C : Counts) (ops : List ℕ) (i : ℕ) (ids : List ℕ
 
         look-there : (x : ℕ) → x < n → look (trees vs (K .sorts)) x ≡ look T x
         look-there x l =
-            ap (λ U. look U x) (reached-trees ws n e S (intern t S) vs c K there ∙ there .extends .1) ∙ look-grows T (there .extends .0) x (omega (arith, length-trees ws n))
+            ap (λ U. look U x) (reached-trees ws n e S (intern t S) vs c K there ∙ there .extends .1) ∙ look-grows T
+            (there .extends .0) x (omega (arith, length-trees ws n))
 
         more : n ≤ K .sorts
         more = omega (arith, longer ws n e (q .checked) (there .sorts) (there .grown), reached-sorts ws n e S (intern t S) vs c K there)
@@ -262,14 +271,18 @@ module _ (ws : List ℕ) (C : Counts) (ops : List ℕ) (i : ℕ) (ids : List ℕ
             ap₂ (λ us k. stored us (k .sorts) (k .entries) (steps later (there .sort ∷ stackOf T ids base) (there .sorts))) (there .words) (there .counted)
             ∙ stored-again ws n e (there .sorts) (there .grown) (there .sorts) (steps later (there .sort ∷ stackOf T ids base) (there .sorts)) later-kept
           where
-            later-kept : SortsKept (after ws n e (there .sorts)) (length (there .sorts .trees)) (maxEntries - there .sorts .entries) InTree (there .sorts) (steps later (there .sort ∷ stackOf T ids base) (there .sorts))
+            later-kept : SortsKept (after ws n e (there .sorts)) (length (there .sorts .trees))
+                (maxEntries - there .sorts .entries) InTree (there .sorts) (steps later (there .sort ∷ stackOf T ids
+                base) (there .sorts))
             later-kept =
-                steps-kept (after ws n e (there .sorts)) (length (there .sorts .trees)) (maxEntries - there .sorts .entries) later (there .sort ∷ stackOf T ids base) (there .sorts)
+                steps-kept (after ws n e (there .sorts)) (length (there .sorts .trees))
+                (maxEntries - there .sorts .entries) later (there .sort ∷ stackOf T ids base) (there .sorts)
                 (short-left .1) (here ws n e S (intern t S) vs c K there) (six-extends S (there .sorts) (there .extends) six-in)
                 (on-top (there .sorts) (there .sort) (stackOf T ids base) (there .inside)
                 (stack-extends S (there .sorts) (stackOf T ids base) (there .extends) (stack-in ws n e ids base (λ j l. q .numbers j (omega arith)))))
 
-        made-goes-on : (us : List ℕ) (r : Joined) → storedAt us r ≡ runAt vs (K .sorts) (K .entries) later (set ids base (c .0)) (base + 1) → storedAt us r ≡ whole
+        made-goes-on : (us : List ℕ) (r : Joined) → storedAt us r ≡ runAt vs (K .sorts) (K .entries) later
+            (set ids base (c .0)) (base + 1) → storedAt us r ≡ whole
         made-goes-on us r g =
             g ∙ (on-stack ∙ (after-is ∙ sym (is ∙ ap (λ O. stored ws n e (O then (λ u S. steps later (u ∷ stackOf T ids base) S))) (there .is))))
 
@@ -284,15 +297,18 @@ module _ (ws : List ℕ) (C : Counts) (ops : List ℕ) (i : ℕ) (ids : List ℕ
       unfolding internAt
       to-stored j f = f
 
-      pub gone-on : (j : Joined) → storedAt vs j ≡ internAt ws n e t → (us : List ℕ) (r : Joined) → storedAt us r ≡ goOn vs ops i ids base j → storedAt us r ≡ whole
+      pub gone-on : (j : Joined) → storedAt vs j ≡ internAt ws n e t → (us : List ℕ) (r : Joined)
+          → storedAt us r ≡ goOn vs ops i ids base j → storedAt us r ≡ whole
       unfolding goOn
       gone-on (At c K) f us r g = made-goes-on c K f us r g
       gone-on (Nothing K) f us r g =
           let x = stopped ws n e (intern t S) vs K (to-stored (Nothing K) f) in
-          g ∙ (to-stored (Nothing K) f ∙ (ap (stored ws n e) (x .1) ∙ sym (is ∙ ap (λ O. stored ws n e (O then (λ u S. steps later (u ∷ stackOf T ids base) S))) (x .1))))
+          g ∙ (to-stored (Nothing K) f ∙ (ap (stored ws n e) (x .1) ∙ sym
+          (is ∙ ap (λ O. stored ws n e (O then (λ u S. steps later (u ∷ stackOf T ids base) S))) (x .1))))
       gone-on Full f us r g =
           let x = ended ws n e (intern t S) vs (to-stored Full f) in
-          g ∙ (to-stored Full f ∙ (ap (stored ws n e) (x .1) ∙ sym (is ∙ ap (λ O. stored ws n e (O then (λ u S. steps later (u ∷ stackOf T ids base) S))) (x .1))))
+          g ∙ (to-stored Full f ∙ (ap (stored ws n e) (x .1) ∙ sym
+          (is ∙ ap (λ O. stored ws n e (O then (λ u S. steps later (u ∷ stackOf T ids base) S))) (x .1))))
 
     -- a container step
     module _ (l : 6 ≤ op) (m : op < 11) (z : depth ≡ 0 → ⊥) where
@@ -306,7 +322,8 @@ module _ (ws : List ℕ) (C : Counts) (ops : List ℕ) (i : ℕ) (ids : List ℕ
       container-is =
           whole-is ∙ (ap (λ st. stored ws n e (stepOn op st S then (λ st S. steps later st S))) (stack-cons (depth - 1) (omega arith))
           ∙ (ap (λ O. stored ws n e (O then (λ st S. steps later st S))) (over-step op (look T last) (stackOf T ids (depth - 1)) S l m)
-          ∙ ap (stored ws n e) (then-then (intern (container (opOf (op - 6)) (look T last)) S) (λ u S. made (u ∷ stackOf T ids (depth - 1)) S) (λ st S. steps later st S))))
+          ∙ ap (stored ws n e) (then-then (intern (container (opOf (op - 6)) (look T last)) S)
+          (λ u S. made (u ∷ stackOf T ids (depth - 1)) S) (λ st S. steps later st S))))
 
       container-parts : partsIn T (container (opOf (op - 6)) (look T last)) ≡ true
       unfolding partsIn
@@ -316,10 +333,12 @@ module _ (ws : List ℕ) (C : Counts) (ops : List ℕ) (i : ℕ) (ids : List ℕ
       unfolding need
       container-few = omega arith
 
-      pub container-goes-on : (vs : List ℕ) (j : Joined) → storedAt vs j ≡ internAt ws n e (container (opOf (op - 6)) (look T last)) → GoesOn vs ops i ids (depth - 1) j
+      pub container-goes-on : (vs : List ℕ) (j : Joined) → storedAt vs j ≡ internAt ws n e (container (opOf (op - 6))
+          (look T last)) → GoesOn vs ops i ids (depth - 1) j
       container-goes-on vs = goes-on (container (opOf (op - 6)) (look T last)) (depth - 1) (omega arith) container-parts container-few container-is vs
 
-      pub container-gone-on : (vs : List ℕ) (j : Joined) → storedAt vs j ≡ internAt ws n e (container (opOf (op - 6)) (look T last)) → (us : List ℕ) (r : Joined)
+      pub container-gone-on : (vs : List ℕ) (j : Joined) → storedAt vs j ≡ internAt ws n e (container (opOf (op - 6))
+          (look T last)) → (us : List ℕ) (r : Joined)
           → storedAt us r ≡ goOn vs ops i ids (depth - 1) j → storedAt us r ≡ whole
       container-gone-on vs = gone-on (container (opOf (op - 6)) (look T last)) (depth - 1) (omega arith) container-parts container-few container-is vs
 
@@ -358,7 +377,8 @@ module _ (ws : List ℕ) (C : Counts) (ops : List ℕ) (i : ℕ) (ids : List ℕ
           whole-is ∙ (ap (λ st. stored ws n e (stepOn op st S then (λ st S. steps later st S))) (stack-cons (depth - 1) (omega arith))
           ∙ (ap (λ O. stored ws n e (O then (λ st S. steps later st S)))
           (map-step op (look T range) (stackOf T ids (depth - 1)) S l
-          ∙ ap (λ x. applied (look T range) x S) (ap₂ (λ j m. takeArguments j no-args (stackOf T ids m)) (sym ek) d ∙ takes-all T ids base k (omega (arith, len, q .room))))
+          ∙ ap (λ x. applied (look T range) x S) (ap₂ (λ j m. takeArguments j no-args (stackOf T ids m)) (sym ek) d ∙
+          takes-all T ids base k (omega (arith, len, q .room))))
           ∙ ap (stored ws n e) (then-then (intern arrow S) (λ u S. made (u ∷ stackOf T ids base) S) (λ st S. steps later st S))))
 
       function-parts : partsIn T arrow ≡ true
@@ -374,7 +394,8 @@ module _ (ws : List ℕ) (C : Counts) (ops : List ℕ) (i : ℕ) (ids : List ℕ
       pub function-goes-on : (vs : List ℕ) (j : Joined) → storedAt vs j ≡ internAt ws n e arrow → GoesOn vs ops i ids base j
       function-goes-on vs = goes-on arrow base (omega arith) function-parts function-few function-is vs
 
-      pub function-gone-on : (vs : List ℕ) (j : Joined) → storedAt vs j ≡ internAt ws n e arrow → (us : List ℕ) (r : Joined) → storedAt us r ≡ goOn vs ops i ids base j → storedAt us r ≡ whole
+      pub function-gone-on : (vs : List ℕ) (j : Joined) → storedAt vs j ≡ internAt ws n e arrow
+          → (us : List ℕ) (r : Joined) → storedAt us r ≡ goOn vs ops i ids base j → storedAt us r ≡ whole
       function-gone-on vs = gone-on arrow base (omega arith) function-parts function-few function-is vs
 
     pub too-few : 11 ≤ op → (depth ≡ 0 → ⊥) → (k : ℕ) → k ≡ argumentsOf op → depth ≤ k → storedAt ws (Nothing C) ≡ whole
@@ -409,7 +430,8 @@ pub gone-at : (vs ops : List ℕ) (i : ℕ) (ids : List ℕ) (base : ℕ) (j : J
 unfolding goOn
 gone-at vs ops i ids base j c K e = ap (goOn vs ops i ids base) (sym e)
 
-pub gone-none : (vs ops : List ℕ) (i : ℕ) (ids : List ℕ) (base : ℕ) (j : Joined) (K : Counts) → j ≡ Nothing K → storedAt vs (Nothing K) ≡ goOn vs ops i ids base j
+pub gone-none : (vs ops : List ℕ) (i : ℕ) (ids : List ℕ) (base : ℕ) (j : Joined) (K : Counts) → j ≡ Nothing K
+    → storedAt vs (Nothing K) ≡ goOn vs ops i ids base j
 unfolding goOn
 gone-none vs ops i ids base j K e = ap (goOn vs ops i ids base) (sym e)
 

@@ -12,7 +12,9 @@ use Rattle.resolved_sort.specs.declared.ComplexSort.{ComplexSort}
 use Rattle.resolved_sort.specs.Tree.{primitive, Tree, flat, container, function, Trees, no-args, arg, arity}
 use Rattle.resolved_sort.specs.Storage.{kindFlat, kindOp}
 use Rattle.sort_text.specs.Tokens.{isLetter, hash, arrow, skip, next}
-use Rattle.sort_text.specs.Parse.{Parsed, parsed, stuck, _then-read_, WordMeaning, basic, operator, unknown, meaning, closing, bracketed, operandOf, operandAt, operand, snoc, alone, restAt, rest, sort, ending, line}
+use Rattle.sort_text.specs.Parse.{Parsed, parsed, stuck, _then-read_, WordMeaning, basic, operator, unknown, meaning}
+use Rattle.sort_text.specs.Parse.{closing, bracketed, operandOf, operandAt, operand, snoc, alone, restAt, rest, sort}
+use Rattle.sort_text.specs.Parse.{ending, line}
 use Rattle.sort_text.specs.Postfix.{postfix, postfixes}
 use Rattle.sort_text.proofs.Depth.{sort-is}
 use Rattle.sort_text.proofs.Grammar.{arity-snoc}
@@ -23,7 +25,9 @@ use Rattle.sort_lexer.specs.declared.Meaning.{Meaning as Meant}
 use Rattle.sort_lexer.specs.declared.Meaning.the-variants.{Basic, Over, Unknown}
 use Rattle.sort_lexer.specs.Inner.Lexeme.{lexemeOf, saidBy, said, least}
 use Rattle.sort_lexer.specs.Inner.Meant.{meant}
-use Rattle.sort_lexer.proofs.Lexemes.{starts-without-spaces, ends-within, goes-on, goes-at-least-from, next-is-said, next-is-word, next-is-open, next-is-close, next-is-hash, next-is-arrow, next-is-end}
+use Rattle.sort_lexer.proofs.Lexemes.{starts-without-spaces, ends-within, goes-on, goes-at-least-from, next-is-said}
+use Rattle.sort_lexer.proofs.Lexemes.{next-is-word, next-is-open, next-is-close, next-is-hash, next-is-arrow}
+use Rattle.sort_lexer.proofs.Lexemes.{next-is-end}
 use Rattle.sort_recogniser.specs.declared.Recognised.{Recognised}
 use Rattle.sort_recogniser.specs.declared.Recognised.the-variants.{Done, Stuck}
 use Rattle.sort_recogniser.specs.Inner.Says.{Wrote, Says, SaysClosing, SaysRest}
@@ -69,7 +73,8 @@ operand-other l at Hash i j z = refl
 operand-other l at Arrow i j z = refl
 operand-other l at Bad i j z = refl
 
-rest-other : (l : List ℕ) (ts : Trees) (at bs : List ℕ) (more : List ℕ → Parsed) (k : Token) (i j : ℕ) → (k ≡ Hash → ⊥) → (k ≡ Arrow → ⊥) → restAt sort ts at bs more (saidBy l k i j) ≡ alone ts at bs
+rest-other : (l : List ℕ) (ts : Trees) (at bs : List ℕ) (more : List ℕ → Parsed) (k : Token) (i j : ℕ)
+    → (k ≡ Hash → ⊥) → (k ≡ Arrow → ⊥) → restAt sort ts at bs more (saidBy l k i j) ≡ alone ts at bs
 unfolding restAt saidBy
 rest-other l ts at bs more End i j y z = refl
 rest-other l ts at bs more Word i j y z = refl
@@ -115,7 +120,8 @@ alone-many (arg t no-args) at bs z = absurd (z refl)
 alone-many (arg t (arg u us)) at bs z = refl
 
 -- the rest, by its token
-rest-at-arrow : (k : ℕ) (ts : Trees) (bs cs : List ℕ) → next isLetter bs ≡ arrow cs → rest sort k ts bs ≡ (sort cs then-read (λ r ds. parsed (function ts r) ds))
+rest-at-arrow : (k : ℕ) (ts : Trees) (bs cs : List ℕ) → next isLetter bs ≡ arrow cs
+    → rest sort k ts bs ≡ (sort cs then-read (λ r ds. parsed (function ts r) ds))
 unfolding rest restAt
 rest-at-arrow zero ts bs cs e = rw e
 rest-at-arrow (suc k) ts bs cs e = rw e
@@ -125,21 +131,26 @@ unfolding rest restAt
 rest-at-last zero ts bs cs f e = rw e
 rest-at-last (suc k) ts bs cs f e = absurd (omega (arith, f))
 
-rest-at-hash : (k j : ℕ) (ts : Trees) (bs cs : List ℕ) → k ≡ suc j → next isLetter bs ≡ hash cs → rest sort k ts bs ≡ (operand sort cs then-read (λ t ds. rest sort j (snoc ts t) ds))
+rest-at-hash : (k j : ℕ) (ts : Trees) (bs cs : List ℕ) → k ≡ suc j → next isLetter bs ≡ hash cs
+    → rest sort k ts bs ≡ (operand sort cs then-read (λ t ds. rest sort j (snoc ts t) ds))
 unfolding rest restAt
 rest-at-hash k j ts bs cs f e = rw (f, e)
 
-rest-at-other : (l : List ℕ) (k : ℕ) (ts : Trees) (bs : List ℕ) (w : Token) (i j : ℕ) → next isLetter bs ≡ saidBy l w i j → (w ≡ Hash → ⊥) → (w ≡ Arrow → ⊥) → rest sort k ts bs ≡ alone ts (skip bs) bs
+rest-at-other : (l : List ℕ) (k : ℕ) (ts : Trees) (bs : List ℕ) (w : Token) (i j : ℕ)
+    → next isLetter bs ≡ saidBy l w i j → (w ≡ Hash → ⊥) → (w ≡ Arrow → ⊥) → rest sort k ts bs ≡ alone ts (skip bs) bs
 unfolding rest
 rest-at-other l zero ts bs w i j e y z = ap (restAt sort ts (skip bs) bs (λ cs. stuck (skip bs))) e ∙ rest-other l ts (skip bs) bs _ w i j y z
-rest-at-other l (suc k) ts bs w i j e y z = ap (restAt sort ts (skip bs) bs (λ cs. operand sort cs then-read (λ t ds. rest sort k (snoc ts t) ds))) e ∙ rest-other l ts (skip bs) bs _ w i j y z
+rest-at-other l (suc k) ts bs w i j e y z = ap (restAt sort ts (skip bs) bs (λ cs. operand sort cs then-read
+    (λ t ds. rest sort k (snoc ts t) ds))) e ∙ rest-other l ts (skip bs) bs _ w i j y z
 
 module _ (l : List ℕ) where
-  said-stuck : (lo room : ℕ) (front out : List ℕ) (P : Parsed) (p : ℕ) (cs : List ℕ) → P ≡ stuck cs → p ≤ length l → drop p l ≡ cs → Says l lo room front P out (Stuck p)
+  said-stuck : (lo room : ℕ) (front out : List ℕ) (P : Parsed) (p : ℕ) (cs : List ℕ) → P ≡ stuck cs → p ≤ length l
+      → drop p l ≡ cs → Says l lo room front P out (Stuck p)
   unfolding Says
   said-stuck lo room front out P p cs e h f = rw e (h, f)
 
-  said-done : (lo room : ℕ) (front out : List ℕ) (P : Parsed) (p m : ℕ) (t : Tree) (cs : List ℕ) → P ≡ parsed t cs → Wrote l lo room front t cs out p m → Says l lo room front P out (Done p m)
+  said-done : (lo room : ℕ) (front out : List ℕ) (P : Parsed) (p m : ℕ) (t : Tree) (cs : List ℕ) → P ≡ parsed t cs
+      → Wrote l lo room front t cs out p m → Says l lo room front P out (Done p m)
   unfolding Says
   said-done lo room front out P p m t cs e w = rw e w
 
@@ -155,7 +166,8 @@ module _ (l : List ℕ) where
   did-at lo room front (parsed t cs) out p m s = record { sort-read = t; left = cs; is = refl; wrote = s }
   did-at lo room front (stuck cs) out p m s = absurd s
 
-  did : (lo room : ℕ) (front : List ℕ) (P : Parsed) (out : List ℕ) (q : Recognised) (p m : ℕ) → Says l lo room front P out q → q ≡ Done p m → Did lo room front P out p m
+  did : (lo room : ℕ) (front : List ℕ) (P : Parsed) (out : List ℕ) (q : Recognised) (p m : ℕ)
+      → Says l lo room front P out q → q ≡ Done p m → Did lo room front P out p m
   did lo room front P out q p m s e = did-at lo room front P out p m (subst (Says l lo room front P out) e s)
 
   stuck-at : (lo room : ℕ) (front : List ℕ) (P : Parsed) (out : List ℕ) (p : ℕ) (K : Tree → List ℕ → Parsed) (lo′ room′ : ℕ) (front′ out′ : List ℕ)
@@ -164,11 +176,14 @@ module _ (l : List ℕ) where
   stuck-at lo room front (parsed t cs) out p K lo′ room′ front′ out′ s = absurd s
   stuck-at lo room front (stuck cs) out p K lo′ room′ front′ out′ s = s
 
-  stuck-then : (lo room : ℕ) (front : List ℕ) (P : Parsed) (out : List ℕ) (q : Recognised) (p : ℕ) (K : Tree → List ℕ → Parsed) (lo′ room′ : ℕ) (front′ out′ : List ℕ)
+  stuck-then : (lo room : ℕ) (front : List ℕ) (P : Parsed) (out : List ℕ) (q : Recognised) (p : ℕ) (K : Tree → List ℕ
+      → Parsed) (lo′ room′ : ℕ) (front′ out′ : List ℕ)
       → Says l lo room front P out q → q ≡ Stuck p → Says l lo′ room′ front′ (P then-read K) out′ (Stuck p)
-  stuck-then lo room front P out q p K lo′ room′ front′ out′ s e = stuck-at lo room front P out p K lo′ room′ front′ out′ (subst (Says l lo room front P out) e s)
+  stuck-then lo room front P out q p K lo′ room′ front′ out′ s e = stuck-at lo room front P out p K lo′ room′ front′
+      out′ (subst (Says l lo room front P out) e s)
 
-  wider : (lo lo′ room room′ : ℕ) (front : List ℕ) (P : Parsed) (out : List ℕ) (q : Recognised) → lo′ ≤ lo → room ≤ room′ → Says l lo room front P out q → Says l lo′ room′ front P out q
+  wider : (lo lo′ room room′ : ℕ) (front : List ℕ) (P : Parsed) (out : List ℕ) (q : Recognised) → lo′ ≤ lo
+      → room ≤ room′ → Says l lo room front P out q → Says l lo′ room′ front P out q
   unfolding Says
   wider lo lo′ room room′ front (parsed t cs) out (Done p m) a b s =
       record { further = omega (arith, s .further); within = s .within; goes-on = s .goes-on; fits = omega (arith, s .fits); written = s .written }
@@ -177,7 +192,8 @@ module _ (l : List ℕ) where
   wider lo lo′ room room′ front (stuck cs) out (Stuck p) a b s = s
 
   -- what a recognised sort leaves for the next call
-  pub done-room : (lo room : ℕ) (front : List ℕ) (P : Parsed) (out : List ℕ) (q : Recognised) (p m : ℕ) → Says l lo room front P out q → q ≡ Done p m → (lo ≤ p) × (p ≤ length l) × (m + (length l - p) ≤ room)
+  pub done-room : (lo room : ℕ) (front : List ℕ) (P : Parsed) (out : List ℕ) (q : Recognised) (p m : ℕ)
+      → Says l lo room front P out q → q ≡ Done p m → (lo ≤ p) × (p ≤ length l) × (m + (length l - p) ≤ room)
   done-room lo room front P out q p m s e = let d = did lo room front P out q p m s e in (d .wrote .further, d .wrote .within, d .wrote .fits)
 
   -- the token found at `at`
@@ -200,7 +216,8 @@ module _ (l : List ℕ) where
     closing-done f op v ev front t w =
         let g : at + 1 ≤ r .next = goes-at-least-from l at r e Close f h in
         let d : r .next ≤ length l = ends-within l at r e in
-        said-done at room front (set old n v) _ (r .next) (n + 1) (container op t) (drop (r .next) l) (ap (closing op t (skip (drop at l))) (next-is-close l at r e f))
+        said-done at room front (set old n v) _ (r .next) (n + 1) (container op t) (drop (r .next) l)
+        (ap (closing op t (skip (drop at l))) (next-is-close l at r e f))
         record {
           further = omega arith;
           within = d;
@@ -212,23 +229,30 @@ module _ (l : List ℕ) where
     pub closing-stuck : (r .token ≡ Close → ⊥) → (op : ComplexSort) → SaysClosing l at old n op old (Stuck (r .at))
     unfolding SaysClosing
     closing-stuck z op front t w =
-        said-stuck at room front old _ (r .at) (skip (drop at l)) (ap (closing op t (skip (drop at l))) (next-is-said l at r e) ∙ closing-other l op t (skip (drop at l)) (r .token) (r .at) (r .next) z)
+        said-stuck at room front old _ (r .at) (skip (drop at l)) (ap (closing op t (skip (drop at l)))
+        (next-is-said l at r e) ∙ closing-other l op t (skip (drop at l)) (r .token) (r .at) (r .next) z)
         starts-within (starts-without-spaces l at r e)
 
     -- after a container word
-    pub bracketed-stuck : (r .token ≡ Open → ⊥) → (op : ComplexSort) → Says l at room (take n old) (bracketed sort op (skip (drop at l)) (next isLetter (drop at l))) old (Stuck (r .at))
+    pub bracketed-stuck : (r .token ≡ Open → ⊥) → (op : ComplexSort)
+        → Says l at room (take n old) (bracketed sort op (skip (drop at l)) (next isLetter (drop at l))) old
+        (Stuck (r .at))
     bracketed-stuck z op =
-        said-stuck at room (take n old) old _ (r .at) (skip (drop at l)) (ap (bracketed sort op (skip (drop at l))) (next-is-said l at r e) ∙ bracketed-other l op (skip (drop at l)) (r .token) (r .at) (r .next) z)
+        said-stuck at room (take n old) old _ (r .at) (skip (drop at l)) (ap (bracketed sort op (skip (drop at l)))
+        (next-is-said l at r e) ∙ bracketed-other l op (skip (drop at l)) (r .token) (r .at) (r .next) z)
         starts-within (starts-without-spaces l at r e)
 
     module _ (f : r .token ≡ Open) (op : ComplexSort) (out : List ℕ) (q : Recognised)
         (s : Says l (r .next + 1) (n + (length l - r .next)) (take n old) (sort (drop (r .next) l)) out q) where
-      bracketed-is : bracketed sort op (skip (drop at l)) (next isLetter (drop at l)) ≡ (sort (drop (r .next) l) then-read (λ t cs. closing op t (skip cs) (next isLetter cs)))
+      bracketed-is : bracketed sort op (skip (drop at l)) (next isLetter (drop at l)) ≡ (sort (drop (r .next) l)
+          then-read (λ t cs. closing op t (skip cs) (next isLetter cs)))
       unfolding bracketed
       bracketed-is = ap (bracketed sort op (skip (drop at l))) (next-is-open l at r e f)
 
-      pub bracketed-passes : (p : ℕ) → q ≡ Stuck p → Says l at room (take n old) (bracketed sort op (skip (drop at l)) (next isLetter (drop at l))) out (Stuck p)
-      bracketed-passes p i = rw bracketed-is (stuck-then (r .next + 1) (n + (length l - r .next)) (take n old) (sort (drop (r .next) l)) out q p _ at room (take n old) out s i)
+      pub bracketed-passes : (p : ℕ) → q ≡ Stuck p → Says l at room (take n old) (bracketed sort op (skip (drop at l))
+          (next isLetter (drop at l))) out (Stuck p)
+      bracketed-passes p i = rw bracketed-is (stuck-then (r .next + 1) (n + (length l - r .next)) (take n old)
+          (sort (drop (r .next) l)) out q p _ at room (take n old) out s i)
 
       pub bracketed-goes-on : (p m : ℕ) → q ≡ Done p m → (out′ : List ℕ) (q′ : Recognised) → SaysClosing l p out m op out′ q′
           → Says l at room (take n old) (bracketed sort op (skip (drop at l)) (next isLetter (drop at l))) out′ q′
@@ -237,7 +261,8 @@ module _ (l : List ℕ) where
           let d = did (r .next + 1) (n + (length l - r .next)) (take n old) (sort (drop (r .next) l)) out q p m s i in
           let g : at + 1 ≤ r .next = goes-at-least-from l at r e Open f h in
           rw (bracketed-is, d .is, sym (d .wrote .goes-on))
-          (wider p at (m + (length l - p)) room (take n old) (closing op (d .sort-read) (skip (drop p l)) (next isLetter (drop p l))) out′ q′ (omega (arith, d .wrote .further)) (omega (arith, d .wrote .fits))
+          (wider p at (m + (length l - p)) room (take n old) (closing op (d .sort-read) (skip (drop p l))
+          (next isLetter (drop p l))) out′ q′ (omega (arith, d .wrote .further)) (omega (arith, d .wrote .fits))
           (c (take n old) (d .sort-read) (d .wrote .written)))
 
     -- an operand
@@ -247,7 +272,8 @@ module _ (l : List ℕ) where
 
     pub operand-stuck : (r .token ≡ Word → ⊥) → Says l (at + 1) room (take n old) (operand sort (drop at l)) old (Stuck (r .at))
     operand-stuck z =
-        said-stuck (at + 1) room (take n old) old _ (r .at) (skip (drop at l)) (operand-said ∙ operand-other l (skip (drop at l)) (r .token) (r .at) (r .next) z) starts-within (starts-without-spaces l at r e)
+        said-stuck (at + 1) room (take n old) old _ (r .at) (skip (drop at l)) (operand-said ∙ operand-other l
+        (skip (drop at l)) (r .token) (r .at) (r .next) z) starts-within (starts-without-spaces l at r e)
 
     module _ (f : r .token ≡ Word) (w : Meant) (i : w ≡ meant (meaning (take (r .next - r .at) (drop (r .at) l)))) where
       operand-word : operand sort (drop at l) ≡ operandOf sort (skip (drop at l)) (meaning (take (r .next - r .at) (drop (r .at) l))) (drop (r .next) l)
@@ -255,48 +281,64 @@ module _ (l : List ℕ) where
       operand-word = ap (operandAt sort (skip (drop at l))) (next-is-word l at r e f)
 
       word-is : (m : Meant) → w ≡ m → operand sort (drop at l) ≡ operandOf sort (skip (drop at l)) (unmeant m) (drop (r .next) l)
-      word-is m g = operand-word ∙ ap (λ x. operandOf sort (skip (drop at l)) x (drop (r .next) l)) (sym (unmeant-meant (meaning (take (r .next - r .at) (drop (r .at) l)))) ∙ ap unmeant (sym i ∙ g))
+      word-is m g = operand-word ∙ ap (λ x. operandOf sort (skip (drop at l)) x (drop (r .next) l))
+          (sym (unmeant-meant (meaning (take (r .next - r .at) (drop (r .at) l)))) ∙ ap unmeant (sym i ∙ g))
 
       abbrev after : ℕ
       after = n + (length l - r .next)
 
-      pub operand-basic : (s : Sort) → w ≡ Basic s → (v : ℕ) → v ≡ kindFlat (primitive s) → Says l (at + 1) room (take n old) (operand sort (drop at l)) (set old n v) (Done (r .next) (n + 1))
+      pub operand-basic : (s : Sort) → w ≡ Basic s → (v : ℕ) → v ≡ kindFlat (primitive s)
+          → Says l (at + 1) room (take n old) (operand sort (drop at l)) (set old n v) (Done (r .next) (n + 1))
       unfolding operandOf postfix
       operand-basic s g v ev =
           let x : at + 1 ≤ r .next = goes-at-least-from l at r e Word f h in
           let d : r .next ≤ length l = ends-within l at r e in
           said-done (at + 1) room (take n old) (set old n v) _ (r .next) (n + 1) (flat (primitive s)) (drop (r .next) l) (word-is (Basic s) g)
-          record { further = x; within = d; goes-on = refl; fits = omega arith; written = one-more old n v (omega (arith, fit, x, d)) ∙ ap (λ y. take n old ++ (y ∷ [])) ev }
+          record {
+            further = x;
+            within = d;
+            goes-on = refl;
+            fits = omega arith;
+            written = one-more old n v
+                (omega (arith, fit, x, d)) ∙ ap (λ y. take n old ++ (y ∷ [])) ev;
+          }
 
       pub operand-over : (o : ComplexSort) → w ≡ Over o → (out : List ℕ) (q : Recognised)
-          → Says l (r .next) after (take n old) (bracketed sort o (skip (drop (r .next) l)) (next isLetter (drop (r .next) l))) out q → Says l (at + 1) room (take n old) (operand sort (drop at l)) out q
+          → Says l (r .next) after (take n old) (bracketed sort o (skip (drop (r .next) l))
+          (next isLetter (drop (r .next) l))) out q → Says l (at + 1) room (take n old) (operand sort (drop at l))
+          out q
       unfolding operandOf
       operand-over o g out q s =
           let x : at + 1 ≤ r .next = goes-at-least-from l at r e Word f h in
-          rw (word-is (Over o) g) (wider (r .next) (at + 1) after room (take n old) (bracketed sort o (skip (drop (r .next) l)) (next isLetter (drop (r .next) l))) out q x (omega arith) s)
+          rw (word-is (Over o) g) (wider (r .next) (at + 1) after room (take n old)
+          (bracketed sort o (skip (drop (r .next) l)) (next isLetter (drop (r .next) l))) out q x (omega arith) s)
 
       pub operand-unknown : w ≡ Unknown → Says l (at + 1) room (take n old) (operand sort (drop at l)) old (Stuck (r .at))
       unfolding operandOf
-      operand-unknown g = said-stuck (at + 1) room (take n old) old _ (r .at) (skip (drop at l)) (word-is Unknown g) starts-within (starts-without-spaces l at r e)
+      operand-unknown g = said-stuck (at + 1) room (take n old) old _ (r .at) (skip (drop at l)) (word-is Unknown g)
+          starts-within (starts-without-spaces l at r e)
 
     -- after the operands
     pub rest-full : r .token ≡ Hash → (k : ℕ) → k ≡ 16 → SaysRest l at old n k old (Stuck (r .at))
     unfolding SaysRest
     rest-full f k g front ts w a =
-        said-stuck at room front old _ (r .at) (skip (drop at l)) (rest-at-last (16 - k) ts (drop at l) (drop (r .next) l) (omega arith) (next-is-hash l at r e f)) starts-within (starts-without-spaces l at r e)
+        said-stuck at room front old _ (r .at) (skip (drop at l)) (rest-at-last (16 - k) ts (drop at l)
+        (drop (r .next) l) (omega arith) (next-is-hash l at r e f)) starts-within (starts-without-spaces l at r e)
 
     pub rest-one : (r .token ≡ Hash → ⊥) → (r .token ≡ Arrow → ⊥) → (k : ℕ) → k ≡ 1 → SaysRest l at old n k old (Done at n)
     unfolding SaysRest
     rest-one y z k g front ts w a =
         let o = alone-one ts (skip (drop at l)) (drop at l) (a ∙ g) in
-        said-done at room front old _ at n (o .0) (drop at l) (rest-at-other l (16 - k) ts (drop at l) (r .token) (r .at) (r .next) (next-is-said l at r e) y z ∙ o .1)
+        said-done at room front old _ at n (o .0) (drop at l) (rest-at-other l (16 - k) ts (drop at l) (r .token)
+        (r .at) (r .next) (next-is-said l at r e) y z ∙ o .1)
         record { further = omega arith; within = h; goes-on = refl; fits = omega arith; written = w ∙ ap (λ x. front ++ x) (o .2) }
 
     pub rest-many : (r .token ≡ Hash → ⊥) → (r .token ≡ Arrow → ⊥) → (k : ℕ) → (k ≡ 1 → ⊥) → SaysRest l at old n k old (Stuck (r .at))
     unfolding SaysRest
     rest-many y z k g front ts w a =
         said-stuck at room front old _ (r .at) (skip (drop at l))
-        (rest-at-other l (16 - k) ts (drop at l) (r .token) (r .at) (r .next) (next-is-said l at r e) y z ∙ alone-many ts (skip (drop at l)) (drop at l) (λ b. g (sym a ∙ b)))
+        (rest-at-other l (16 - k) ts (drop at l) (r .token) (r .at) (r .next) (next-is-said l at r e) y z ∙ alone-many
+        ts (skip (drop at l)) (drop at l) (λ b. g (sym a ∙ b)))
         starts-within (starts-without-spaces l at r e)
 
     -- `#` and another operand
@@ -307,7 +349,8 @@ module _ (l : List ℕ) where
 
       pub rest-passes : (p : ℕ) → q ≡ Stuck p → SaysRest l at old n k out (Stuck p)
       unfolding SaysRest
-      rest-passes p i front ts w a = rw (hash-is ts) (stuck-then (r .next + 1) (n + (length l - r .next)) (take n old) (operand sort (drop (r .next) l)) out q p _ at room front out s i)
+      rest-passes p i front ts w a = rw (hash-is ts) (stuck-then (r .next + 1) (n + (length l - r .next)) (take n old)
+          (operand sort (drop (r .next) l)) out q p _ at room front out s i)
 
       pub rest-goes-on : (p m : ℕ) → q ≡ Done p m → (out′ : List ℕ) (q′ : Recognised) → SaysRest l p out m (k + 1) out′ q′ → SaysRest l at old n k out′ q′
       unfolding SaysRest
@@ -315,9 +358,11 @@ module _ (l : List ℕ) where
           let d = did (r .next + 1) (n + (length l - r .next)) (take n old) (operand sort (drop (r .next) l)) out q p m s i in
           let g : at + 1 ≤ r .next = goes-at-least-from l at r e Hash f h in
           let now-written : take m out ≡ front ++ postfixes (snoc ts (d .sort-read)) =
-          d .wrote .written ∙ (ap (λ x. x ++ postfix (d .sort-read)) w ∙ (append-assoc front (postfixes ts) (postfix (d .sort-read)) ∙ ap (λ x. front ++ x) (sym (postfixes-snoc ts (d .sort-read))))) in
+          d .wrote .written ∙ (ap (λ x. x ++ postfix (d .sort-read)) w ∙ (append-assoc front (postfixes ts)
+          (postfix (d .sort-read)) ∙ ap (λ x. front ++ x) (sym (postfixes-snoc ts (d .sort-read))))) in
           rw (hash-is ts, d .is, sym (d .wrote .goes-on))
-          (wider p at (m + (length l - p)) room front (rest sort (16 - (k + 1)) (snoc ts (d .sort-read)) (drop p l)) out′ q′ (omega (arith, d .wrote .further)) (omega (arith, d .wrote .fits))
+          (wider p at (m + (length l - p)) room front (rest sort (16 - (k + 1)) (snoc ts (d .sort-read)) (drop p l))
+          out′ q′ (omega (arith, d .wrote .further)) (omega (arith, d .wrote .fits))
           (c front (snoc ts (d .sort-read)) now-written (arity-snoc ts (d .sort-read) ∙ ap (λ x. x + 1) a)))
 
     -- `->` and the range
@@ -328,7 +373,8 @@ module _ (l : List ℕ) where
 
       pub range-passes : (p : ℕ) → q ≡ Stuck p → SaysRest l at old n k out (Stuck p)
       unfolding SaysRest
-      range-passes p i front ts w a = rw (arrow-is ts) (stuck-then (r .next + 1) (n + (length l - r .next)) (take n old) (sort (drop (r .next) l)) out q p _ at room front out s i)
+      range-passes p i front ts w a = rw (arrow-is ts) (stuck-then (r .next + 1) (n + (length l - r .next))
+          (take n old) (sort (drop (r .next) l)) out q p _ at room front out s i)
 
       pub range-room : (p m : ℕ) → q ≡ Done p m → m < length out
       range-room p m i =
@@ -340,7 +386,8 @@ module _ (l : List ℕ) where
       range-done p m v i ev front ts w a =
           let d = did (r .next + 1) (n + (length l - r .next)) (take n old) (sort (drop (r .next) l)) out q p m s i in
           let g : at + 2 ≤ r .next = goes-at-least-from l at r e Arrow f h in
-          said-done at room front (set out m v) _ p (m + 1) (function ts (d .sort-read)) (d .left) (arrow-is ts ∙ ap (λ x. x then-read (λ t ds. parsed (function ts t) ds)) (d .is))
+          said-done at room front (set out m v) _ p (m + 1) (function ts (d .sort-read)) (d .left)
+          (arrow-is ts ∙ ap (λ x. x then-read (λ t ds. parsed (function ts t) ds)) (d .is))
           record {
             further = omega (arith, d .wrote .further);
             within = d .wrote .within;
@@ -348,20 +395,25 @@ module _ (l : List ℕ) where
             fits = omega (arith, d .wrote .fits, d .wrote .further, d .wrote .within);
             written = one-more out m v (range-room p m i)
                 ∙ (ap₂ (λ xs x. xs ++ (x ∷ [])) (d .wrote .written ∙ ap (λ x. x ++ postfix (d .sort-read)) w) (ev ∙ ap (λ x. 16 + x) (sym a))
-                ∙ (append-assoc (front ++ postfixes ts) (postfix (d .sort-read)) ((16 + arity ts) ∷ []) ∙ append-assoc front (postfixes ts) (postfix (d .sort-read) ++ ((16 + arity ts) ∷ []))));
+                ∙ (append-assoc (front ++ postfixes ts) (postfix (d .sort-read)) ((16 + arity ts) ∷ []) ∙ append-assoc
+                front (postfixes ts) (postfix (d .sort-read) ++ ((16 + arity ts) ∷ []))));
           }
 
   -- a sort: its first operand, and what comes after it
-  module _ (at : ℕ) (old : List ℕ) (n : ℕ) (out : List ℕ) (q : Recognised) (s : Says l (at + 1) (n + (length l - at)) (take n old) (operand sort (drop at l)) out q) where
+  module _ (at : ℕ) (old : List ℕ) (n : ℕ) (out : List ℕ) (q : Recognised) (s : Says l (at + 1) (n + (length l - at))
+      (take n old) (operand sort (drop at l)) out q) where
     pub sort-passes : (p : ℕ) → q ≡ Stuck p → Says l (at + 1) (n + (length l - at)) (take n old) (sort (drop at l)) out (Stuck p)
-    sort-passes p i = rw (sort-is (drop at l)) (stuck-then (at + 1) (n + (length l - at)) (take n old) (operand sort (drop at l)) out q p _ (at + 1) (n + (length l - at)) (take n old) out s i)
+    sort-passes p i = rw (sort-is (drop at l)) (stuck-then (at + 1) (n + (length l - at)) (take n old)
+        (operand sort (drop at l)) out q p _ (at + 1) (n + (length l - at)) (take n old) out s i)
 
-    pub sort-goes-on : (p m : ℕ) → q ≡ Done p m → (out′ : List ℕ) (q′ : Recognised) → SaysRest l p out m 1 out′ q′ → Says l (at + 1) (n + (length l - at)) (take n old) (sort (drop at l)) out′ q′
+    pub sort-goes-on : (p m : ℕ) → q ≡ Done p m → (out′ : List ℕ) (q′ : Recognised) → SaysRest l p out m 1 out′ q′
+        → Says l (at + 1) (n + (length l - at)) (take n old) (sort (drop at l)) out′ q′
     unfolding SaysRest postfixes arity
     sort-goes-on p m i out′ q′ c =
         let d = did (at + 1) (n + (length l - at)) (take n old) (operand sort (drop at l)) out q p m s i in
         rw (sort-is (drop at l), d .is, sym (d .wrote .goes-on))
-        (wider p (at + 1) (m + (length l - p)) (n + (length l - at)) (take n old) (rest sort 15 (arg (d .sort-read) no-args) (drop p l)) out′ q′ (d .wrote .further) (d .wrote .fits)
+        (wider p (at + 1) (m + (length l - p)) (n + (length l - at)) (take n old)
+        (rest sort 15 (arg (d .sort-read) no-args) (drop p l)) out′ q′ (d .wrote .further) (d .wrote .fits)
         (c (take n old) (arg (d .sort-read) no-args) (d .wrote .written ∙ ap (λ x. take n old ++ x) (sym (append-nil (postfix (d .sort-read))))) refl))
 
   -- a line: a sort, and nothing after it
@@ -379,15 +431,25 @@ module _ (l : List ℕ) where
 
       line-is : line l ≡ ending (d .sort-read) (skip (drop p l)) (next isLetter (drop p l))
       unfolding line
-      line-is = ap (λ x. x then-read (λ t cs. ending t (skip cs) (next isLetter cs))) (d .is) ∙ ap (λ cs. ending (d .sort-read) (skip cs) (next isLetter cs)) (sym (d .wrote .goes-on))
+      line-is = ap (λ x. x then-read (λ t cs. ending t (skip cs) (next isLetter cs))) (d .is) ∙ ap
+          (λ cs. ending (d .sort-read) (skip cs) (next isLetter cs)) (sym (d .wrote .goes-on))
 
       pub line-done : r .token ≡ End → Says l 0 (length l) [] (line l) out (Done (length l) m)
       unfolding ending
       line-done f =
           said-done 0 (length l) [] out _ (length l) m (d .sort-read) [] (line-is ∙ ap (ending (d .sort-read) (skip (drop p l))) (next-is-end l p r e f))
-          record { further = omega arith; within = omega arith; goes-on = drop-of-length-le l {i = length l} (omega arith); fits = omega (arith, d .wrote .fits); written = d .wrote .written }
+          record {
+            further = omega arith;
+            within = omega arith;
+            goes-on = drop-of-length-le l {i = length l}
+                (omega arith);
+            fits = omega (arith, d .wrote .fits);
+            written = d .wrote .written;
+          }
 
       pub line-stuck : (r .token ≡ End → ⊥) → Says l 0 (length l) [] (line l) out (Stuck (r .at))
       line-stuck z =
-          said-stuck 0 (length l) [] out _ (r .at) (skip (drop p l)) (line-is ∙ (ap (ending (d .sort-read) (skip (drop p l))) (next-is-said l p r e) ∙ ending-other l (d .sort-read) (skip (drop p l)) (r .token) (r .at) (r .next) z))
+          said-stuck 0 (length l) [] out _ (r .at) (skip (drop p l))
+          (line-is ∙ (ap (ending (d .sort-read) (skip (drop p l))) (next-is-said l p r e) ∙ ending-other l
+          (d .sort-read) (skip (drop p l)) (r .token) (r .at) (r .next) z))
           (omega (arith, goes-on l p r e, ends-within l p r e)) (starts-without-spaces l p r e)

@@ -8,12 +8,15 @@ use lib.ListN.{length}
 use Rattle.resolved_sort.specs.declared.ComplexSort.{ComplexSort}
 use Rattle.resolved_sort.specs.Tree.{Tree, function, Trees, no-args, arg}
 use Rattle.sort_text.specs.Tokens.{isLetter, NextToken, end, word, open-bracket, close-bracket, hash, arrow, bad, skip, next}
-use Rattle.sort_text.specs.Parse.{Parsed, parsed, stuck, _then-read_, WordMeaning, basic, operator, unknown, meaning, closing, bracketed, operandOf, operandAt, operand, snoc, restAt, rest, sortTo, sort, left, Leaves}
+use Rattle.sort_text.specs.Parse.{Parsed, parsed, stuck, _then-read_, WordMeaning, basic, operator, unknown}
+use Rattle.sort_text.specs.Parse.{meaning, closing, bracketed, operandOf, operandAt, operand, snoc, restAt}
+use Rattle.sort_text.specs.Parse.{rest, sortTo, sort, left, Leaves}
 use Rattle.sort_text.proofs.Suffix.{suffix-length, operand-suffix, sortTo-suffix}
 use Rattle.sort_text.proofs.Progress.{word-takes, open-bracket-takes, hash-takes, arrow-takes}
 
 -- two ways to go on that agree on what is left
-pub then-same : (p : Parsed) (k l : Tree → List ℕ → Parsed) (n : ℕ) → length (left p) ≤ n → ((t : Tree) (cs : List ℕ) → length cs ≤ n → k t cs ≡ l t cs) → (p then-read k) ≡ (p then-read l)
+pub then-same : (p : Parsed) (k l : Tree → List ℕ → Parsed) (n : ℕ) → length (left p) ≤ n → ((t : Tree) (cs : List ℕ)
+    → length cs ≤ n → k t cs ≡ l t cs) → (p then-read k) ≡ (p then-read l)
 then-same (parsed t cs) k l n h e = e t cs h
 then-same (stuck cs) k l n h e = refl
 
@@ -71,13 +74,19 @@ module _ (f g : List ℕ → Parsed) (n : ℕ) (a : Agree n f g) where
     rest-same zero ts bs h = restAt-same ts (skip bs) bs _ _ (next isLetter bs) refl h (λ cs i. refl)
     rest-same (suc k) ts bs h =
         restAt-same ts (skip bs) bs _ _ (next isLetter bs) refl h
-        (λ cs i. then-same (operand f cs) _ _ n (omega (arith, suffix-length (left (operand f cs)) cs (operand-suffix f c cs))) (λ t ds j. rest-same k (snoc ts t) ds j)
+        (λ cs i. then-same (operand f cs) _ _ n (omega (
+          arith,
+          suffix-length (left (operand f cs)) cs
+              (operand-suffix f c cs),
+        )) (λ t ds j. rest-same k (snoc ts t) ds j)
         ∙ ap (λ p. p then-read (λ t ds. rest g k (snoc ts t) ds)) (operand-same cs i))
 
     -- So does a sort.
-    pub step-same : (bs : List ℕ) → length bs ≤ n → (operand f bs then-read (λ t cs. rest f 15 (arg t no-args) cs)) ≡ (operand g bs then-read (λ t cs. rest g 15 (arg t no-args) cs))
+    pub step-same : (bs : List ℕ) → length bs ≤ n → (operand f bs then-read (λ t cs. rest f 15 (arg t no-args) cs)) ≡
+        (operand g bs then-read (λ t cs. rest g 15 (arg t no-args) cs))
     step-same bs h =
-        then-same (operand f bs) _ _ n (omega (arith, suffix-length (left (operand f bs)) bs (operand-suffix f c bs))) (λ t ds j. rest-same 15 (arg t no-args) ds j)
+        then-same (operand f bs) _ _ n (omega (arith, suffix-length (left (operand f bs)) bs (operand-suffix f c bs)))
+        (λ t ds j. rest-same 15 (arg t no-args) ds j)
         ∙ ap (λ p. p then-read (λ t cs. rest g 15 (arg t no-args) cs)) (operand-same bs h)
 
 -- Any depth above the length of the line reads the same.

@@ -7,7 +7,8 @@ use Prim.Native.Nat.{ℕ, zero, suc, _+_, _-_, _≤_}
 use native.Mathlib.Omega.{arith}
 use Rattle.resolved_sort.specs.Tree.{Tree, function, Trees, no-args, arg, arity}
 use Rattle.sort_text.specs.Tokens.{isLetter, NextToken, end, word, open-bracket, close-bracket, hash, arrow, bad, skip, next}
-use Rattle.sort_text.specs.Parse.{Parsed, parsed, _then-read_, closing, bracketed, operandOf, operandAt, operand, snoc, alone, restAt, rest, sort, ending, line}
+use Rattle.sort_text.specs.Parse.{Parsed, parsed, _then-read_, closing, bracketed, operandOf, operandAt}
+use Rattle.sort_text.specs.Parse.{operand, snoc, alone, restAt, rest, sort, ending, line}
 use Rattle.sort_text.proofs.Depth.{sort-is}
 use Rattle.sort_text.specs.Grammar.{Operand, basic-sort, container-of, SortOf, one-operand, function-of, Operands, first, another, LineOf}
 use Rattle.sort_text.proofs.Grammar.{arity-snoc, line-derived}
@@ -43,7 +44,8 @@ unfolding rest restAt
 rest-arrow zero ts bs cs e = ap (restAt sort ts (skip bs) bs _) e
 rest-arrow (suc k) ts bs cs e = ap (restAt sort ts (skip bs) bs _) e
 
-rest-hash : (k : ℕ) (ts : Trees) (bs cs : List ℕ) → next isLetter bs ≡ hash cs → rest sort (suc k) ts bs ≡ (operand sort cs then-read (λ t ds. rest sort k (snoc ts t) ds))
+rest-hash : (k : ℕ) (ts : Trees) (bs cs : List ℕ) → next isLetter bs ≡ hash cs
+    → rest sort (suc k) ts bs ≡ (operand sort cs then-read (λ t ds. rest sort k (snoc ts t) ds))
 unfolding rest restAt
 rest-hash k ts bs cs e = ap (restAt sort ts (skip bs) bs _) e
 
@@ -85,7 +87,8 @@ mutual
 line-is-read : (bs cs : List ℕ) (t : Tree) → LineOf bs t cs → line bs ≡ parsed t []
 unfolding line ending
 line-is-read bs cs t h =
-    ap (λ p. p then-read (λ u gs. ending u (skip gs) (next isLetter gs))) (sort-is-read (h .1) (subst Stops (sym (h .2)) tt)) ∙ ap (ending t (skip (h .0))) (h .2)
+    ap (λ p. p then-read (λ u gs. ending u (skip gs) (next isLetter gs))) (sort-is-read (h .1)
+    (subst Stops (sym (h .2)) tt)) ∙ ap (ending t (skip (h .0))) (h .2)
 
 -- A line is read as a tree exactly where the grammar derives that tree from it.
 pub line-exactly : (bs : List ℕ) (t : Tree) → (line bs ≡ parsed t []) ↔ LineOf bs t []

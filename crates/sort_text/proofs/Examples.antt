@@ -22,7 +22,9 @@ pos = flat (primitive Sort.Pos)
 abbrev nat : Tree
 nat = flat (primitive Sort.Nat)
 
--- `Nat # Pos`, `-> Nat`, `Nat # -> Bool`, `List Nat`, `List`, `List(`, `List(Nat`, `List()`, `List(Nat # Pos)`, `Nat Pos`, `NatPos`, `Nat2`, `Nat- >Pos`, `(Nat)`, `Nat)`, `Nat ( Pos`, `Nat #   `, `Nat  ( Pos `, ``, `FSet(Pos)`, `  Nat->Pos#Bool->Nat `, `List(Nat # Pos -> Bool)`, and 17 operands
+-- `Nat # Pos`, `-> Nat`, `Nat # -> Bool`, `List Nat`, `List`, `List(`, `List(Nat`, `List()`, `List(Nat # Pos)`, `Nat
+-- Pos`, `NatPos`, `Nat2`, `Nat- >Pos`, `(Nat)`, `Nat)`, `Nat ( Pos`, `Nat #   `, `Nat  ( Pos `, ``, `FSet(Pos)`, `
+-- Nat->Pos#Bool->Nat `, `List(Nat # Pos -> Bool)`, and 17 operands
 lines-are-read : map line (
     (78 ∷ 97 ∷ 116 ∷ 32 ∷ 35 ∷ 32 ∷ 80 ∷ 111 ∷ 115 ∷ [])
     ∷ (45 ∷ 62 ∷ 32 ∷ 78 ∷ 97 ∷ 116 ∷ [])
@@ -46,7 +48,12 @@ lines-are-read : map line (
     ∷ (70 ∷ 83 ∷ 101 ∷ 116 ∷ 40 ∷ 80 ∷ 111 ∷ 115 ∷ 41 ∷ [])
     ∷ (32 ∷ 32 ∷ 78 ∷ 97 ∷ 116 ∷ 45 ∷ 62 ∷ 80 ∷ 111 ∷ 115 ∷ 35 ∷ 66 ∷ 111 ∷ 111 ∷ 108 ∷ 45 ∷ 62 ∷ 78 ∷ 97 ∷ 116 ∷ 32 ∷ [])
     ∷ (76 ∷ 105 ∷ 115 ∷ 116 ∷ 40 ∷ 78 ∷ 97 ∷ 116 ∷ 32 ∷ 35 ∷ 32 ∷ 80 ∷ 111 ∷ 115 ∷ 32 ∷ 45 ∷ 62 ∷ 32 ∷ 66 ∷ 111 ∷ 111 ∷ 108 ∷ 41 ∷ [])
-    ∷ (78 ∷ 97 ∷ 116 ∷ 32 ∷ 35 ∷ 32 ∷ 78 ∷ 97 ∷ 116 ∷ 32 ∷ 35 ∷ 32 ∷ 78 ∷ 97 ∷ 116 ∷ 32 ∷ 35 ∷ 32 ∷ 78 ∷ 97 ∷ 116 ∷ 32 ∷ 35 ∷ 32 ∷ 78 ∷ 97 ∷ 116 ∷ 32 ∷ 35 ∷ 32 ∷ 78 ∷ 97 ∷ 116 ∷ 32 ∷ 35 ∷ 32 ∷ 78 ∷ 97 ∷ 116 ∷ 32 ∷ 35 ∷ 32 ∷ 78 ∷ 97 ∷ 116 ∷ 32 ∷ 35 ∷ 32 ∷ 78 ∷ 97 ∷ 116 ∷ 32 ∷ 35 ∷ 32 ∷ 78 ∷ 97 ∷ 116 ∷ 32 ∷ 35 ∷ 32 ∷ 78 ∷ 97 ∷ 116 ∷ 32 ∷ 35 ∷ 32 ∷ 78 ∷ 97 ∷ 116 ∷ 32 ∷ 35 ∷ 32 ∷ 78 ∷ 97 ∷ 116 ∷ 32 ∷ 35 ∷ 32 ∷ 78 ∷ 97 ∷ 116 ∷ 32 ∷ 35 ∷ 32 ∷ 78 ∷ 97 ∷ 116 ∷ 32 ∷ 35 ∷ 32 ∷ 78 ∷ 97 ∷ 116 ∷ 32 ∷ 35 ∷ 32 ∷ 78 ∷ 97 ∷ 116 ∷ 32 ∷ 45 ∷ 62 ∷ 32 ∷ 66 ∷ 111 ∷ 111 ∷ 108 ∷ [])
+    ∷ (78 ∷ 97 ∷ 116 ∷ 32 ∷ 35 ∷ 32 ∷ 78 ∷ 97 ∷ 116 ∷ 32 ∷ 35 ∷ 32 ∷ 78 ∷ 97 ∷ 116 ∷ 32 ∷ 35 ∷ 32 ∷ 78 ∷ 97 ∷ 116 ∷ 32
+    ∷ 35 ∷ 32 ∷ 78 ∷ 97 ∷ 116 ∷ 32 ∷ 35 ∷ 32 ∷ 78 ∷ 97 ∷ 116 ∷ 32 ∷ 35 ∷ 32 ∷ 78 ∷ 97 ∷ 116 ∷ 32 ∷ 35 ∷ 32 ∷ 78 ∷
+    97 ∷ 116 ∷ 32 ∷ 35 ∷ 32 ∷ 78 ∷ 97 ∷ 116 ∷ 32 ∷ 35 ∷ 32 ∷ 78 ∷ 97 ∷ 116 ∷ 32 ∷ 35 ∷ 32 ∷ 78 ∷ 97 ∷ 116 ∷ 32 ∷
+    35 ∷ 32 ∷ 78 ∷ 97 ∷ 116 ∷ 32 ∷ 35 ∷ 32 ∷ 78 ∷ 97 ∷ 116 ∷ 32 ∷ 35 ∷ 32 ∷ 78 ∷ 97 ∷ 116 ∷ 32 ∷ 35 ∷ 32 ∷ 78 ∷ 97
+    ∷ 116 ∷ 32 ∷ 35 ∷ 32 ∷ 78 ∷ 97 ∷ 116 ∷ 32 ∷ 35 ∷ 32 ∷ 78 ∷ 97 ∷ 116 ∷ 32 ∷ 45 ∷ 62 ∷ 32 ∷ 66 ∷ 111 ∷ 111 ∷ 108
+    ∷ [])
     ∷ [])
     ≡ stuck []
     ∷ stuck (45 ∷ 62 ∷ 32 ∷ 78 ∷ 97 ∷ 116 ∷ [])
@@ -72,5 +79,7 @@ lines-are-read : map line (
     ∷ parsed (container ComplexSort.List (function (arg nat (arg pos no-args)) bool)) []
     ∷ stuck (35 ∷ 32 ∷ 78 ∷ 97 ∷ 116 ∷ 32 ∷ 45 ∷ 62 ∷ 32 ∷ 66 ∷ 111 ∷ 111 ∷ 108 ∷ [])
     ∷ []
-unfolding line Parse.ending Parse.sort Parse.sortTo Parse.rest Parse.restAt Parse.alone Parse.snoc Parse.operand Parse.operandAt Parse.operandOf Parse.bracketed Parse.closing Parse.meaning Parse.sameBytes Parse.sortWord Parse.opWord Tokens.next Tokens.start Tokens.skip Tokens.run Tokens.past
+unfolding line Parse.ending Parse.sort Parse.sortTo Parse.rest Parse.restAt Parse.alone Parse.snoc Parse.operand
+    Parse.operandAt Parse.operandOf Parse.bracketed Parse.closing Parse.meaning Parse.sameBytes Parse.sortWord
+    Parse.opWord Tokens.next Tokens.start Tokens.skip Tokens.run Tokens.past
 lines-are-read = refl

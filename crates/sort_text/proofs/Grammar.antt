@@ -7,7 +7,9 @@ use native.Mathlib.Omega.{arith}
 use Rattle.resolved_sort.specs.declared.ComplexSort.{ComplexSort}
 use Rattle.resolved_sort.specs.Tree.{Tree, Trees, no-args, arg, arity}
 use Rattle.sort_text.specs.Tokens.{isLetter, NextToken, end, word, open-bracket, close-bracket, hash, arrow, bad, skip, next}
-use Rattle.sort_text.specs.Parse.{Parsed, parsed, _then-read_, WordMeaning, basic, operator, unknown, meaning, closing, bracketed, operandOf, operandAt, operand, snoc, alone, restAt, rest, sortTo, sort, ending, line}
+use Rattle.sort_text.specs.Parse.{Parsed, parsed, _then-read_, WordMeaning, basic, operator, unknown, meaning}
+use Rattle.sort_text.specs.Parse.{closing, bracketed, operandOf, operandAt, operand, snoc, alone, restAt, rest}
+use Rattle.sort_text.specs.Parse.{sortTo, sort, ending, line}
 use Rattle.sort_text.proofs.Progress.{IfRead, then-if-read, read}
 use Rattle.sort_text.specs.Grammar.{Operand, SortOf, Operands, basic-sort, container-of, one-operand, function-of, first, another, LineOf}
 
@@ -37,7 +39,8 @@ unfolding arity snoc
 arity-snoc no-args t = refl
 arity-snoc (arg s ts) t = rw (arity-snoc ts t)
 
-closing-read : (bs : List ℕ) {w cs ds es : List ℕ} {o : ComplexSort} {t : Tree} → next isLetter bs ≡ word w cs → meaning w ≡ operator o → next isLetter cs ≡ open-bracket ds → SortOf ds t es
+closing-read : (bs : List ℕ) {w cs ds es : List ℕ} {o : ComplexSort} {t : Tree} → next isLetter bs ≡ word w cs
+    → meaning w ≡ operator o → next isLetter cs ≡ open-bracket ds → SortOf ds t es
     → (at : List ℕ) (n : NextToken) → next isLetter es ≡ n → IfRead (Operand bs) (closing o t at n)
 unfolding closing
 closing-read bs a b c d at (close-bracket fs) e = container-of a b c d e
@@ -61,7 +64,8 @@ module _ (f : List ℕ → Parsed) (g : Reads f) where
   bracketed-read bs a b at (arrow ds) e = tt
   bracketed-read bs a b at bad e = tt
 
-  operandOf-read : (bs : List ℕ) {w cs : List ℕ} → next isLetter bs ≡ word w cs → (at : List ℕ) (m : WordMeaning) → meaning w ≡ m → IfRead (Operand bs) (operandOf f at m cs)
+  operandOf-read : (bs : List ℕ) {w cs : List ℕ} → next isLetter bs ≡ word w cs → (at : List ℕ) (m : WordMeaning)
+      → meaning w ≡ m → IfRead (Operand bs) (operandOf f at m cs)
   unfolding operandOf
   operandOf-read bs a at (basic s) e = basic-sort a e
   operandOf-read bs {cs = cs} a at (operator o) e = bracketed-read bs a e (skip cs) (next isLetter cs) refl
@@ -97,7 +101,8 @@ module _ (f : List ℕ → Parsed) (g : Reads f) where
   rest-read {cs = cs} zero a b = restAt-read a (omega arith) (skip cs) _ (next isLetter cs) refl (λ ds e. tt)
   rest-read {bs} {cs} (suc k) {ts} a b =
       restAt-read a (omega arith) (skip cs) _ (next isLetter cs) refl
-      (λ ds e. then-if-read (Operand ds) (SortOf bs) (operand f ds) _ (operand-read ds) (λ t es h. rest-read k (another a e h refl) (omega (arith, arity-snoc ts t))))
+      (λ ds e. then-if-read (Operand ds) (SortOf bs) (operand f ds) _ (operand-read ds) (λ t es h. rest-read k
+      (another a e h refl) (omega (arith, arity-snoc ts t))))
 
   step-read : (bs : List ℕ) → IfRead (SortOf bs) (operand f bs then-read (λ t cs. rest f 15 (arg t no-args) cs))
   unfolding arity
@@ -126,4 +131,5 @@ ending-read h at bad e = tt
 pub line-derived : (bs cs : List ℕ) (t : Tree) → line bs ≡ parsed t cs → LineOf bs t cs
 unfolding line sort
 line-derived bs cs t e =
-    read (LineOf bs) (line bs) t cs (then-if-read (SortOf bs) (LineOf bs) (sort bs) _ (sortTo-reads _ bs) (λ u ds h. ending-read h (skip ds) (next isLetter ds) refl)) e
+    read (LineOf bs) (line bs) t cs (then-if-read (SortOf bs) (LineOf bs) (sort bs) _ (sortTo-reads _ bs)
+    (λ u ds h. ending-read h (skip ds) (next isLetter ds) refl)) e

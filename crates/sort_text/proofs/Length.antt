@@ -9,7 +9,8 @@ use native.Mathlib.Omega.{arith}
 use lib.ListN.{length, length-append}
 use lib.Dec.{eqb}
 use Rattle.resolved_sort.specs.declared.ComplexSort.{ComplexSort}
-use Rattle.resolved_sort.specs.Tree.{Flat, unit, primitive, def, typevar, Tree, flat, container, function, Trees, no-args, arg, family, level, familyOp, levelOp}
+use Rattle.resolved_sort.specs.Tree.{Flat, unit, primitive, def, typevar, Tree, flat, container, function, Trees}
+use Rattle.resolved_sort.specs.Tree.{no-args, arg, family, level, familyOp, levelOp}
 use Rattle.resolved_sort.specs.Order.{leLevel, boundFlat, boundOp, map₁, map₂, bound, bounds}
 use Rattle.sort_text.specs.Tokens.{isLetter}
 use Rattle.sort_text.specs.Parse.{parsed, opWord, snoc, line}
@@ -81,7 +82,8 @@ mutual
 
   operands-wide : {bs cs : List ℕ} {ts : Trees} → Operands bs ts cs → wides ts + 2 + 2 * length cs ≤ 2 * length bs
   operands-wide (first h) = omega (arith, operand-wide h)
-  operands-wide (another {cs = cs} {ds = ds} {ts = ts} {t = t} h e k i) = rw i (omega (arith, operands-wide h, hash-takes isLetter cs ds e, operand-wide k, wides-snoc ts t))
+  operands-wide (another {cs = cs} {ds = ds} {ts = ts} {t = t} h e k i) = rw i
+      (omega (arith, operands-wide h, hash-takes isLetter cs ds e, operand-wide k, wides-snoc ts t))
 
 pub line-wide : (bs cs : List ℕ) (t : Tree) → line bs ≡ parsed t cs → wide t + 2 ≤ 2 * length bs
 line-wide bs cs t e = omega (arith, sort-wide (line-derived bs cs t e .1))
@@ -125,13 +127,15 @@ mutual
   wide-if-bound up (flat a) (function ts u) = tt
   wide-if-bound up (container o s) (flat b) = tt
   wide-if-bound up (container o s) (container p t) =
-      map₂-if-some (λ q. Unit {0}) (λ v. wide v ≡ wide s) (λ u. wide u ≡ wide s + 6) container (boundOp up o p) (bound up s t) (any (boundOp up o p)) (wide-if-bound up s t)
+      map₂-if-some (λ q. Unit {0}) (λ v. wide v ≡ wide s) (λ u. wide u ≡ wide s + 6) container (boundOp up o p)
+      (bound up s t) (any (boundOp up o p)) (wide-if-bound up s t)
       (λ q v h k. ap (λ n. n + 6) k)
   wide-if-bound up (container o s) (function ts u) = tt
   wide-if-bound up (function ss r) (flat b) = tt
   wide-if-bound up (function ss r) (container p t) = tt
   wide-if-bound up (function ss r) (function ts u) =
-      map₂-if-some (AsWide ss) (λ v. wide v ≡ wide r) (λ w. wide w ≡ wides ss + 4 + wide r) function (bounds (not up) ss ts) (bound up r u) (wides-if-bound (not up) ss ts) (wide-if-bound up r u)
+      map₂-if-some (AsWide ss) (λ v. wide v ≡ wide r) (λ w. wide w ≡ wides ss + 4 + wide r) function
+      (bounds (not up) ss ts) (bound up r u) (wides-if-bound (not up) ss ts) (wide-if-bound up r u)
       (λ vs v h k. omega (arith, h .0, k))
 
   wides-if-bound : (up : Bool) (ss ts : Trees) → IfSome (AsWide ss) (bounds up ss ts)
@@ -175,7 +179,8 @@ Both s t u = length (text u) ≤ length (text s) + length (text t)
 abbrev BothAll : Trees → Trees → Trees → Type 0
 BothAll ss ts us = (length (texts us) ≤ length (texts ss) + length (texts ts)) × (length (more us) ≤ length (more ss) + length (more ts))
 
-container-both : (o p q : ComplexSort) (s t v : Tree) → length (opWord q) ≤ length (opWord o) + length (opWord p) → Both s t v → Both (container o s) (container p t) (container q v)
+container-both : (o p q : ComplexSort) (s t v : Tree) → length (opWord q) ≤ length (opWord o) + length (opWord p)
+    → Both s t v → Both (container o s) (container p t) (container q v)
 unfolding text
 container-both o p q s t v h k = simp length-append (omega arith)
 
@@ -192,18 +197,21 @@ mutual
 
   both-if-bound : (up : Bool) (s t : Tree) → IfSome (Both s t) (bound up s t)
   both-if-bound up (flat a) (flat b) =
-      map₁-if-some (λ c. length (flatText c) ≤ length (flatText a) + length (flatText b)) (Both (flat a) (flat b)) flat (boundFlat up a b) (flat-bound-text up a b) (λ c h. h)
+      map₁-if-some (λ c. length (flatText c) ≤ length (flatText a) + length (flatText b)) (Both (flat a) (flat b))
+      flat (boundFlat up a b) (flat-bound-text up a b) (λ c h. h)
   both-if-bound up (flat a) (container p t) = tt
   both-if-bound up (flat a) (function ts u) = tt
   both-if-bound up (container o s) (flat b) = tt
   both-if-bound up (container o s) (container p t) =
-      map₂-if-some (λ q. length (opWord q) ≤ length (opWord o) + length (opWord p)) (Both s t) (Both (container o s) (container p t)) container (boundOp up o p) (bound up s t)
+      map₂-if-some (λ q. length (opWord q) ≤ length (opWord o) + length (opWord p)) (Both s t) (Both (container o s)
+      (container p t)) container (boundOp up o p) (bound up s t)
       (op-bound-text up o p) (both-if-bound up s t) (λ q v h k. container-both o p q s t v h k)
   both-if-bound up (container o s) (function ts u) = tt
   both-if-bound up (function ss r) (flat b) = tt
   both-if-bound up (function ss r) (container p t) = tt
   both-if-bound up (function ss r) (function ts u) =
-      map₂-if-some (BothAll ss ts) (Both r u) (Both (function ss r) (function ts u)) function (bounds (not up) ss ts) (bound up r u) (boths-if-bound (not up) ss ts) (both-if-bound up r u)
+      map₂-if-some (BothAll ss ts) (Both r u) (Both (function ss r) (function ts u)) function (bounds (not up) ss ts)
+      (bound up r u) (boths-if-bound (not up) ss ts) (both-if-bound up r u)
       (λ vs v h k. function-both ss ts vs r u v h k)
 
   boths-if-bound : (up : Bool) (ss ts : Trees) → IfSome (BothAll ss ts) (bounds up ss ts)
@@ -211,7 +219,8 @@ mutual
   boths-if-bound up no-args (arg t ts) = tt
   boths-if-bound up (arg s ss) no-args = tt
   boths-if-bound up (arg s ss) (arg t ts) =
-      map₂-if-some (Both s t) (BothAll ss ts) (BothAll (arg s ss) (arg t ts)) arg (bound up s t) (bounds up ss ts) (both-if-bound up s t) (boths-if-bound up ss ts)
+      map₂-if-some (Both s t) (BothAll ss ts) (BothAll (arg s ss) (arg t ts)) arg (bound up s t) (bounds up ss ts)
+      (both-if-bound up s t) (boths-if-bound up ss ts)
       (λ v vs h k. argument-both s t v ss ts vs h k)
 
 pub bound-text-length : (up : Bool) (s t u : Tree) → bound up s t ≡ some u → length (text u) ≤ length (text s) + length (text t)

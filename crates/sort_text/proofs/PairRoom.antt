@@ -14,7 +14,8 @@ use Rattle.sort_text.specs.Parse.{parsed, line}
 use Rattle.sort_text.specs.Reading.{store, stores}
 use Rattle.sort_text.specs.Readable.{size, sizes}
 use Rattle.sort_text.proofs.WhatIsRead.{line-nodes}
-use Rattle.sort_text.proofs.Sizes.{entriesOf, entriesIn, entries-below-size, Spent, Within, within-more, within-then, intern-within, made-within, AnyTree, make-within}
+use Rattle.sort_text.proofs.Sizes.{entriesOf, entriesIn, entries-below-size, Spent, Within, within-more}
+use Rattle.sort_text.proofs.Sizes.{within-then, intern-within, made-within, AnyTree, make-within}
 use Rattle.sort_text.specs.PairRoom.{listAfter, isFull, twoStored, PairFits}
 
 abbrev pub Is : {A : Type 0} → A → A → Type 0
@@ -49,10 +50,14 @@ mutual
       (within-then (Is t) (Is (container o t)) (size t) (entriesOf t) 1 0 S (store t S) _ (store-within t S (omega arith) q)
       (λ u S₁ e x. interned-as (container o t) (container o u) 0 S₁ (ap (container o) e) (container-need o t) (omega (arith, x)) (omega arith)))
   store-within (function ts r) S p q =
-      within-more (Is (function ts r)) (sizes ts + (size r + 1)) (entriesIn ts + (entriesOf r + arity ts)) (sizes ts + size r + 1) (entriesIn ts + entriesOf r + arity ts) S _ (omega arith) (omega arith)
-      (within-then (Is ts) (Is (function ts r)) (sizes ts) (entriesIn ts) (size r + 1) (entriesOf r + arity ts) S (stores ts S) _ (stores-within ts S (omega arith) (omega arith))
-      (λ us S₁ d x. within-then (Is r) (Is (function ts r)) (size r) (entriesOf r) 1 (arity ts) S₁ (store r S₁) _ (store-within r S₁ (omega (arith, x)) (omega (arith, x)))
-      (λ v S₂ e y. interned-as (function ts r) (function us v) (arity ts) S₂ (ap₂ function d e) (function-need ts r) (omega (arith, x, y)) (omega (arith, x, y)))))
+      within-more (Is (function ts r)) (sizes ts + (size r + 1)) (entriesIn ts + (entriesOf r + arity ts))
+      (sizes ts + size r + 1) (entriesIn ts + entriesOf r + arity ts) S _ (omega arith) (omega arith)
+      (within-then (Is ts) (Is (function ts r)) (sizes ts) (entriesIn ts) (size r + 1) (entriesOf r + arity ts) S
+      (stores ts S) _ (stores-within ts S (omega arith) (omega arith))
+      (λ us S₁ d x. within-then (Is r) (Is (function ts r)) (size r) (entriesOf r) 1 (arity ts) S₁ (store r S₁) _
+      (store-within r S₁ (omega (arith, x)) (omega (arith, x)))
+      (λ v S₂ e y. interned-as (function ts r) (function us v) (arity ts) S₂ (ap₂ function d e) (function-need ts r)
+      (omega (arith, x, y)) (omega (arith, x, y)))))
 
   pub stores-within : (ts : Trees) (S : Sorts) → sizes ts ≤ S .rows → entriesIn ts ≤ S .entries → Within (Is ts) (sizes ts) (entriesIn ts) S (stores ts S)
   stores-within no-args S p q = made-within (Is no-args) 0 0 no-args S refl
@@ -78,7 +83,9 @@ intern-makes : (t : Tree) (S : Sorts) → Makes (intern t S)
 unfolding intern Makes
 intern-makes t S = by (member (S .trees) t) (fits t S)
   where
-    by : (b c : Bool) → Makes (cond b (made t S) (cond c (made t (record { trees = S .trees ++ (t ∷ []); rows = S .rows - 1; entries = S .entries - need t })) (full S)))
+    by : (b c : Bool) → Makes (cond b (made t S)
+        (cond c (made t (record { trees = S .trees ++ (t ∷ []); rows = S .rows - 1; entries = S .entries - need t }))
+        (full S)))
     by true c = tt
     by false true = tt
     by false false = tt
@@ -89,7 +96,8 @@ mutual
   pub store-makes : (t : Tree) (S : Sorts) → Makes (store t S)
   store-makes (flat a) S = intern-makes (flat a) S
   store-makes (container o t) S = makes-then (store t S) _ (store-makes t S) (λ u S₁. intern-makes (container o u) S₁)
-  store-makes (function ts r) S = makes-then (stores ts S) _ (stores-make ts S) (λ us S₁. makes-then (store r S₁) _ (store-makes r S₁) (λ v S₂. intern-makes (function us v) S₂))
+  store-makes (function ts r) S = makes-then (stores ts S) _ (stores-make ts S) (λ us S₁. makes-then (store r S₁) _
+      (store-makes r S₁) (λ v S₂. intern-makes (function us v) S₂))
 
   stores-make : (ts : Trees) (S : Sorts) → Makes (stores ts S)
   stores-make no-args S = tt
@@ -101,12 +109,15 @@ within-fits In k j S (made a S′) h = (refl, h .1)
 within-fits In k j S (nothing S′) h = (refl, h)
 within-fits In k j S (full S′) h = absurd h
 
-pub store-fits : (t : Tree) (S : Sorts) → size t ≤ S .rows → size t ≤ S .entries → (isFull (store t S) ≡ false) × Spent (size t) (size t) S (listAfter (store t S))
+pub store-fits : (t : Tree) (S : Sorts) → size t ≤ S .rows → size t ≤ S .entries
+    → (isFull (store t S) ≡ false) × Spent (size t) (size t) S (listAfter (store t S))
 store-fits t S p q =
     let l = entries-below-size t in
-    within-fits (Is t) (size t) (size t) S (store t S) (within-more (Is t) (size t) (entriesOf t) (size t) (size t) S (store t S) (omega arith) (omega arith) (store-within t S p (omega arith)))
+    within-fits (Is t) (size t) (size t) S (store t S) (within-more (Is t) (size t) (entriesOf t) (size t) (size t) S
+    (store t S) (omega arith) (omega arith) (store-within t S p (omega arith)))
 
-pub make-fits : (up : Bool) (s t : Tree) (S : Sorts) → size s ≤ S .rows → size s ≤ S .entries → (isFull (make up s t S) ≡ false) × Spent (size s) (size s) S (listAfter (make up s t S))
+pub make-fits : (up : Bool) (s t : Tree) (S : Sorts) → size s ≤ S .rows → size s ≤ S .entries
+    → (isFull (make up s t S) ≡ false) × Spent (size s) (size s) S (listAfter (make up s t S))
 make-fits up s t S p q =
     let l = entries-below-size s in
     within-fits AnyTree (size s) (size s) S (make up s t S)

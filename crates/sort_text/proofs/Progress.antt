@@ -8,8 +8,11 @@ use native.Mathlib.Omega.{arith}
 use lib.ListN.{length, length-append}
 use lib.Dec.{eqb}
 use Rattle.resolved_sort.specs.Tree.{Tree, no-args, arg}
-use Rattle.sort_text.specs.Tokens.{isLetter, NextToken, end, word, open-bracket, close-bracket, hash, arrow, bad, run, past, skip, dash, start, nextAt, next}
-use Rattle.sort_text.specs.Parse.{Parsed, parsed, stuck, _then-read_, WordMeaning, basic, operator, unknown, meaning, bracketed, operandOf, operandAt, operand, rest, sortTo, sort, left, Leaves}
+use Rattle.sort_text.specs.Tokens.{isLetter, NextToken, end, word, open-bracket, close-bracket, hash, arrow}
+use Rattle.sort_text.specs.Tokens.{bad, run, past, skip, dash, start, nextAt, next}
+use Rattle.sort_text.specs.Parse.{Parsed, parsed, stuck, _then-read_, WordMeaning, basic, operator, unknown}
+use Rattle.sort_text.specs.Parse.{meaning, bracketed, operandOf, operandAt, operand, rest, sortTo, sort, left}
+use Rattle.sort_text.specs.Parse.{Leaves}
 use Rattle.sort_text.proofs.Suffix.{after, suffix-length, skip-suffix, next-suffix, run-past, bracketed-suffix, rest-suffix, sortTo-suffix}
 
 -- the bytes of a token, and 1 for a token that is there
@@ -48,7 +51,8 @@ unfolding start
 start-takes p b bs = go (p b) (eqb b 40) (eqb b 41) (eqb b 35) (eqb b 45)
   where
     go : (l o c h d : Bool)
-        → Takes (suc (length bs)) (b ∷ bs) (cond l (word (b ∷ run p bs) (past p bs)) (cond o (open-bracket bs) (cond c (close-bracket bs) (cond h (hash bs) (cond d (dash bs) bad)))))
+        → Takes (suc (length bs)) (b ∷ bs) (cond l (word (b ∷ run p bs) (past p bs)) (cond o (open-bracket bs)
+        (cond c (close-bracket bs) (cond h (hash bs) (cond d (dash bs) bad)))))
     go true o c h d = (omega (arith, simp length-append at (ap length (run-past p bs))), omega arith)
     go false true c h d = omega arith
     go false false true h d = omega arith
@@ -90,7 +94,8 @@ abbrev pub IfRead : (Tree → List ℕ → Type 0) → Parsed → Type 0
 IfRead P (parsed t cs) = P t cs
 IfRead P (stuck cs) = Unit {0}
 
-pub then-if-read : (P Q : Tree → List ℕ → Type 0) (p : Parsed) (k : Tree → List ℕ → Parsed) → IfRead P p → ((t : Tree) (cs : List ℕ) → P t cs → IfRead Q (k t cs)) → IfRead Q (p then-read k)
+pub then-if-read : (P Q : Tree → List ℕ → Type 0) (p : Parsed) (k : Tree → List ℕ → Parsed) → IfRead P p
+    → ((t : Tree) (cs : List ℕ) → P t cs → IfRead Q (k t cs)) → IfRead Q (p then-read k)
 then-if-read P Q (parsed t cs) k h f = f t cs h
 then-if-read P Q (stuck cs) k h f = tt
 
@@ -111,7 +116,11 @@ module _ (f : List ℕ → Parsed) (g : Leaves f) where
   operandOf-fewer at bs cs (basic s) h = h
   operandOf-fewer at bs cs (operator o) h =
       let p = bracketed f o (skip cs) (next isLetter cs) in
-      if-read-left p (length bs) (omega (arith, suffix-length (left p) cs (bracketed-suffix f g o (skip cs) cs (next isLetter cs) (skip-suffix cs) (next-suffix isLetter cs))))
+      if-read-left p (length bs) (omega (
+        arith,
+        suffix-length (left p) cs (bracketed-suffix f g o (skip cs) cs
+            (next isLetter cs) (skip-suffix cs) (next-suffix isLetter cs)),
+      ))
   operandOf-fewer at bs cs unknown h = tt
 
   operandAt-fewer : (at bs : List ℕ) (n : NextToken) → next isLetter bs ≡ n → IfRead (Fewer (length bs)) (operandAt f at n)

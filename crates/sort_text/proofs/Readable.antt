@@ -31,7 +31,8 @@ function-readable ts r e =
       and-right (nonempty ts && leb (arity ts) maxArguments && arguments ts) (readable r) e,
     )
 
-pub readable-function : (ts : Trees) (r : Tree) → nonempty ts ≡ true → leb (arity ts) maxArguments ≡ true → arguments ts ≡ true → readable r ≡ true → readable (function ts r) ≡ true
+pub readable-function : (ts : Trees) (r : Tree) → nonempty ts ≡ true → leb (arity ts) maxArguments ≡ true
+    → arguments ts ≡ true → readable r ≡ true → readable (function ts r) ≡ true
 unfolding readable
 readable-function ts r a b c d = and-both _ _ (and-both _ _ (and-both _ _ a b) c) d
 
@@ -82,8 +83,11 @@ mutual
       let a = and-left (nonempty ts && writables ts) (writable r) w in
       let b = and-left (leb (arity ts) maxArguments && fews ts) (few r) f in
       readable-function ts r (and-left (nonempty ts) (writables ts) a) (and-left (leb (arity ts) maxArguments) (fews ts) b)
-      (parts-arguments ts (and-right (nonempty ts) (writables ts) a) (and-right (leb (arity ts) maxArguments) (fews ts) b) (and-left (noFunctions ts) (noFunctionArgument r) n))
-      (parts-readable r (and-right (nonempty ts && writables ts) (writable r) w) (and-right (leb (arity ts) maxArguments && fews ts) (few r) f) (and-right (noFunctions ts) (noFunctionArgument r) n))
+      (parts-arguments ts (and-right (nonempty ts) (writables ts) a) (and-right (leb (arity ts) maxArguments)
+      (fews ts) b) (and-left (noFunctions ts) (noFunctionArgument r) n))
+      (parts-readable r (and-right (nonempty ts && writables ts) (writable r) w)
+      (and-right (leb (arity ts) maxArguments && fews ts) (few r) f) (and-right (noFunctions ts)
+      (noFunctionArgument r) n))
 
   pub parts-arguments : (ts : Trees) → writables ts ≡ true → fews ts ≡ true → noFunctions ts ≡ true → arguments ts ≡ true
   parts-arguments no-args w f n = refl
@@ -91,4 +95,5 @@ mutual
       let a = and-left (not (isFunction t) && noFunctionArgument t) (noFunctions ts) n in
       readable-argument t ts (and-left (not (isFunction t)) (noFunctionArgument t) a)
       (parts-readable t (and-left (writable t) (writables ts) w) (and-left (few t) (fews ts) f) (and-right (not (isFunction t)) (noFunctionArgument t) a))
-      (parts-arguments ts (and-right (writable t) (writables ts) w) (and-right (few t) (fews ts) f) (and-right (not (isFunction t) && noFunctionArgument t) (noFunctions ts) n))
+      (parts-arguments ts (and-right (writable t) (writables ts) w) (and-right (few t) (fews ts) f)
+      (and-right (not (isFunction t) && noFunctionArgument t) (noFunctions ts) n))

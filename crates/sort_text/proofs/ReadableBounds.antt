@@ -34,7 +34,8 @@ Like s u = (isFunction u ≡ isFunction s) × (readable u ≡ true)
 abbrev LikeAll : Trees → Trees → Type 0
 LikeAll ss us = (nonempty us ≡ nonempty ss) × (arity us ≡ arity ss) × (arguments us ≡ true)
 
-function-like : (ss : Trees) (r : Tree) → readable (function ss r) ≡ true → (vs : Trees) (v : Tree) → LikeAll ss vs → Like r v → Like (function ss r) (function vs v)
+function-like : (ss : Trees) (r : Tree) → readable (function ss r) ≡ true → (vs : Trees) (v : Tree) → LikeAll ss vs
+    → Like r v → Like (function ss r) (function vs v)
 function-like ss r h vs v a b =
     let p = function-readable ss r h in
     (refl, readable-function vs v (a .0 ∙ p .0) (ap (λ n. leb n maxArguments) (a .1) ∙ p .1) (a .2) (b .1))
@@ -50,19 +51,22 @@ mutual
 
   like-if-bound : (up : Bool) (s t : Tree) → readable s ≡ true → readable t ≡ true → IfSome (Like s) (bound up s t)
   like-if-bound up (flat a) (flat b) h k =
-      map₁-if-some (λ c. flatWritable c ≡ true) (Like (flat a)) flat (boundFlat up a b) (flat-one-of-two (λ c. flatWritable c ≡ true) up a b h k) (λ c i. (refl, i))
+      map₁-if-some (λ c. flatWritable c ≡ true) (Like (flat a)) flat (boundFlat up a b)
+      (flat-one-of-two (λ c. flatWritable c ≡ true) up a b h k) (λ c i. (refl, i))
   like-if-bound up (flat a) (container p t) h k = tt
   like-if-bound up (flat a) (function ts u) h k = tt
   like-if-bound up (container o s) (flat b) h k = tt
   like-if-bound up (container o s) (container p t) h k =
-      map₂-if-some (λ q. Unit {0}) (Like s) (Like (container o s)) container (boundOp up o p) (bound up s t) (any (boundOp up o p)) (like-if-bound up s t h k) (λ q v x y. (refl, y .1))
+      map₂-if-some (λ q. Unit {0}) (Like s) (Like (container o s)) container (boundOp up o p) (bound up s t)
+      (any (boundOp up o p)) (like-if-bound up s t h k) (λ q v x y. (refl, y .1))
   like-if-bound up (container o s) (function ts u) h k = tt
   like-if-bound up (function ss r) (flat b) h k = tt
   like-if-bound up (function ss r) (container p t) h k = tt
   like-if-bound up (function ss r) (function ts u) h k =
       let p = function-readable ss r h in
       let q = function-readable ts u k in
-      map₂-if-some (LikeAll ss) (Like r) (Like (function ss r)) function (bounds (not up) ss ts) (bound up r u) (likes-if-bound (not up) ss ts (p .2) (q .2)) (like-if-bound up r u (p .3) (q .3))
+      map₂-if-some (LikeAll ss) (Like r) (Like (function ss r)) function (bounds (not up) ss ts) (bound up r u)
+      (likes-if-bound (not up) ss ts (p .2) (q .2)) (like-if-bound up r u (p .3) (q .3))
       (function-like ss r h)
 
   likes-if-bound : (up : Bool) (ss ts : Trees) → arguments ss ≡ true → arguments ts ≡ true → IfSome (LikeAll ss) (bounds up ss ts)
@@ -72,13 +76,15 @@ mutual
   likes-if-bound up (arg s ss) (arg t ts) h k =
       let p = argument-readable s ss h in
       let q = argument-readable t ts k in
-      map₂-if-some (Like s) (LikeAll ss) (LikeAll (arg s ss)) arg (bound up s t) (bounds up ss ts) (like-if-bound up s t (p .1) (q .1)) (likes-if-bound up ss ts (p .2) (q .2)) (argument-like s ss h)
+      map₂-if-some (Like s) (LikeAll ss) (LikeAll (arg s ss)) arg (bound up s t) (bounds up ss ts) (like-if-bound up s
+      t (p .1) (q .1)) (likes-if-bound up ss ts (p .2) (q .2)) (argument-like s ss h)
 
 pub bound-readable : (up : Bool) (s t u : Tree) → readable s ≡ true → readable t ≡ true → bound up s t ≡ some u → readable u ≡ true
 bound-readable up s t u h k e = if-some-is (Like s) (bound up s t) u (like-if-bound up s t h k) e .1
 
 -- A join or meet of two lines' sorts is writable, and its text reads back as that sort.
-pub lines-bound-writable : (bs cs bs′ cs′ : List ℕ) (up : Bool) (s t u : Tree) → line bs ≡ parsed s cs → line bs′ ≡ parsed t cs′ → bound up s t ≡ some u → writable u ≡ true
+pub lines-bound-writable : (bs cs bs′ cs′ : List ℕ) (up : Bool) (s t u : Tree) → line bs ≡ parsed s cs
+    → line bs′ ≡ parsed t cs′ → bound up s t ≡ some u → writable u ≡ true
 lines-bound-writable bs cs bs′ cs′ up s t u a b e = readable-parts u (bound-readable up s t u (line-readable bs cs s a) (line-readable bs′ cs′ t b) e) .0
 
 pub lines-bound-read-again : (bs cs bs′ cs′ : List ℕ) (up : Bool) (s t u : Tree) → line bs ≡ parsed s cs → line bs′ ≡ parsed t cs′ → bound up s t ≡ some u

@@ -12,7 +12,9 @@ use Rattle.resolved_sort.specs.declared.Sort.{Sort}
 use Rattle.resolved_sort.specs.declared.ComplexSort.{ComplexSort}
 use Rattle.resolved_sort.specs.Tree.{Flat, unit, primitive, def, typevar, Tree, flat, container, function, Trees, no-args, arg, arity}
 use Rattle.sort_text.specs.Tokens.{isLetter, NextToken, word, run, past, skip, start, nextAt, next}
-use Rattle.sort_text.specs.Parse.{parsed, _then-read_, sameBytes, sortWord, opWord, basic, operator, meaning, closing, bracketed, operandOf, operandAt, operand, snoc, alone, restAt, rest, sort, ending, line}
+use Rattle.sort_text.specs.Parse.{parsed, _then-read_, sameBytes, sortWord, opWord, basic, operator, meaning}
+use Rattle.sort_text.specs.Parse.{closing, bracketed, operandOf, operandAt, operand, snoc, alone, restAt, rest}
+use Rattle.sort_text.specs.Parse.{sort, ending, line}
 use Rattle.sort_text.specs.Text.{nonempty, flatWritable, writable, betweenText, arrowText, text, texts, more}
 use Rattle.sort_text.proofs.Depth.{sort-is}
 use Rattle.resolved_sort.specs.Order.{isFunction}
@@ -58,12 +60,14 @@ past-cons false x y z e h = cc
 pub run-letters : (w rs : List ℕ) → letters w ≡ true → noLetter rs ≡ true → run isLetter (w ++ rs) ≡ w
 unfolding run
 run-letters [] rs h n = run-none rs n
-run-letters (b ∷ w) rs h n = run-cons (isLetter b) b (run isLetter (w ++ rs)) w (and-left (isLetter b) (letters w) h) (run-letters w rs (and-right (isLetter b) (letters w) h) n)
+run-letters (b ∷ w) rs h n = run-cons (isLetter b) b (run isLetter (w ++ rs)) w (and-left (isLetter b) (letters w) h)
+    (run-letters w rs (and-right (isLetter b) (letters w) h) n)
 
 pub past-letters : (w rs : List ℕ) → letters w ≡ true → noLetter rs ≡ true → past isLetter (w ++ rs) ≡ rs
 unfolding past
 past-letters [] rs h n = past-none rs n
-past-letters (b ∷ w) rs h n = past-cons (isLetter b) (past isLetter (w ++ rs)) (b ∷ (w ++ rs)) rs (and-left (isLetter b) (letters w) h) (past-letters w rs (and-right (isLetter b) (letters w) h) n)
+past-letters (b ∷ w) rs h n = past-cons (isLetter b) (past isLetter (w ++ rs)) (b ∷ (w ++ rs)) rs
+    (and-left (isLetter b) (letters w) h) (past-letters w rs (and-right (isLetter b) (letters w) h) n)
 
 -- the token of a byte that is no space
 next-by : (b : ℕ) (bs : List ℕ) (t : Bool) → t ≡ false → nextAt isLetter (cond t (skip bs) (b ∷ bs)) ≡ start isLetter b bs
@@ -79,7 +83,8 @@ start-by : (b : ℕ) (bs : List ℕ) (w rs : List ℕ) (t : Bool) (n : NextToken
 start-by b bs w rs true n e h k = ap₂ (λ x y. word (b ∷ x) y) h k
 start-by b bs w rs false n e h k = cc
 
-pub next-word : (b : ℕ) (w rs : List ℕ) → eqb 32 b ≡ false → isLetter b ≡ true → letters w ≡ true → noLetter rs ≡ true → next isLetter (b ∷ (w ++ rs)) ≡ word (b ∷ w) rs
+pub next-word : (b : ℕ) (w rs : List ℕ) → eqb 32 b ≡ false → isLetter b ≡ true → letters w ≡ true → noLetter rs ≡ true
+    → next isLetter (b ∷ (w ++ rs)) ≡ word (b ∷ w) rs
 unfolding start
 next-word b w rs s l h n = next-here b (w ++ rs) s ∙ start-by b (w ++ rs) w rs (isLetter b) _ l (run-letters w rs h n) (past-letters w rs h n)
 
@@ -153,7 +158,8 @@ closes : (o : ComplexSort) (t : Tree) (rs : List ℕ) → closing o t (skip (41 
 unfolding closing next skip past start
 closes o t rs = refl
 
-opens : (o : ComplexSort) (at bs : List ℕ) → bracketed sort o at (next isLetter (40 ∷ bs)) ≡ (sort bs then-read (λ t cs. closing o t (skip cs) (next isLetter cs)))
+opens : (o : ComplexSort) (at bs : List ℕ) → bracketed sort o at (next isLetter (40 ∷ bs)) ≡ (sort bs then-read
+    (λ t cs. closing o t (skip cs) (next isLetter cs)))
 unfolding bracketed next skip past start
 opens o at bs = refl
 
@@ -200,7 +206,8 @@ unfolding rest restAt next skip past start
 rest-arrow zero ts bs = refl
 rest-arrow (suc k) ts bs = refl
 
-rest-hash : (k : ℕ) (ts : Trees) (bs : List ℕ) → rest sort (suc k) ts (betweenText ++ bs) ≡ (operand sort (32 ∷ bs) then-read (λ t ds. rest sort k (snoc ts t) ds))
+rest-hash : (k : ℕ) (ts : Trees) (bs : List ℕ) → rest sort (suc k) ts (betweenText ++ bs) ≡ (operand sort (32 ∷ bs)
+    then-read (λ t ds. rest sort k (snoc ts t) ds))
 unfolding rest restAt next skip past start
 rest-hash k ts bs = refl
 
@@ -247,7 +254,8 @@ mutual
       let p = argument-readable u us h in
       let x = arrowText ++ (text r ++ rs) in
       rest-hash k ts ((text u ++ more us) ++ x)
-      ∙ (ap (λ q. q then-read (λ t ds. rest sort k (snoc ts t) ds)) (operand-space ((text u ++ more us) ++ x) ∙ (ap (operand sort) (append-assoc (text u) (more us) x)
+      ∙ (ap (λ q. q then-read (λ t ds. rest sort k (snoc ts t) ds)) (operand-space ((text u ++ more us) ++ x) ∙
+      (ap (operand sort) (append-assoc (text u) (more us) x)
       ∙ operand-text u (p .0) (p .1) (more us ++ x) (more-no-letter us (text r ++ rs))))
       ∙ more-text us (p .2) k (snoc ts u) (omega arith) r rs e)
 
@@ -255,7 +263,8 @@ mutual
 pub text-is-read : (t : Tree) → readable t ≡ true → (rs : List ℕ) → Ending rs → sort (text t ++ rs) ≡ parsed t rs
 text-is-read t h rs e = sort-text t h rs e
 
-pub operand-text-is-read : (t : Tree) → not (isFunction t) ≡ true → readable t ≡ true → (rs : List ℕ) → noLetter rs ≡ true → operand sort (text t ++ rs) ≡ parsed t rs
+pub operand-text-is-read : (t : Tree) → not (isFunction t) ≡ true → readable t ≡ true → (rs : List ℕ)
+    → noLetter rs ≡ true → operand sort (text t ++ rs) ≡ parsed t rs
 operand-text-is-read t n h rs e = operand-text t n h rs e
 
 -- Reading the text of a sort gives that sort.

@@ -12,7 +12,8 @@ use Rattle.resolved_sort.specs.Tree.{Tree, container, function, Trees, no-args,
 use Rattle.resolved_sort.specs.Interning.{Sorts, member, made, nothing, _then_, intern}
 use Rattle.resolved_sort.specs.Growing.{members, Grown, SortsExtend, SortsKept, InTree}
 use Rattle.resolved_sort.proofs.Kept.{extends-refl, member-extends, kept-then, container-interned, function-interned}
-use Rattle.sort_text.specs.Postfix.{Short, sixth, opOf, containing, Popped, popped, not-enough, takeArguments, applied, mapping, stepOn, top, steps, InStack, HasSix}
+use Rattle.sort_text.specs.Postfix.{Short, sixth, opOf, containing, Popped, popped, not-enough, takeArguments}
+use Rattle.sort_text.specs.Postfix.{applied, mapping, stepOn, top, steps, InStack, HasSix}
 
 pub stack-extends : (S S′ : Sorts) (st : List Tree) → SortsExtend S S′ → InStack S st → InStack S′ st
 unfolding InStack
@@ -52,7 +53,8 @@ module _ (ws : List ℕ) (n e : ℕ) where
   unfolding SortsKept
   stack-stays S g = (g, extends-refl S)
 
-  pushed : (S : Sorts) (st : List Tree) → InStack S st → (u : Tree) (S₁ : Sorts) → Grown ws n e S₁ → SortsExtend S S₁ → InTree S₁ u → SortsKept ws n e InStack S₁ (made (u ∷ st) S₁)
+  pushed : (S : Sorts) (st : List Tree) → InStack S st → (u : Tree) (S₁ : Sorts) → Grown ws n e S₁ → SortsExtend S S₁
+      → InTree S₁ u → SortsKept ws n e InStack S₁ (made (u ∷ st) S₁)
   unfolding SortsKept InStack
   pushed S st h u S₁ g x m = (g, extends-refl S₁, (m, stack-extends S S₁ st x h))
 
@@ -88,7 +90,8 @@ module _ (ws : List ℕ) (n e : ℕ) where
   top-kept [] S g h = (g, extends-refl S)
   top-kept (t ∷ st) S g h = (g, extends-refl S, h .0)
 
-  pub steps-kept : (ops : List ℕ) (st : List Tree) (S : Sorts) → Short ops → Grown ws n e S → HasSix S → InStack S st → SortsKept ws n e InTree S (steps ops st S)
+  pub steps-kept : (ops : List ℕ) (st : List Tree) (S : Sorts) → Short ops → Grown ws n e S → HasSix S → InStack S st
+      → SortsKept ws n e InTree S (steps ops st S)
   unfolding steps Short
   steps-kept [] st S q g x h = top-kept st S g h
   steps-kept (op ∷ ops) st S q g x h =

@@ -28,13 +28,15 @@ mutual
   size-if-bound up (flat a) (function ts u) = tt
   size-if-bound up (container o s) (flat b) = tt
   size-if-bound up (container o s) (container p t) =
-      map₂-if-some (λ q. Unit {0}) (λ v. size v ≡ size s) (λ u. size u ≡ size s + 1) container (boundOp up o p) (bound up s t) (any (boundOp up o p)) (size-if-bound up s t)
+      map₂-if-some (λ q. Unit {0}) (λ v. size v ≡ size s) (λ u. size u ≡ size s + 1) container (boundOp up o p)
+      (bound up s t) (any (boundOp up o p)) (size-if-bound up s t)
       (λ q v h k. ap (λ n. n + 1) k)
   size-if-bound up (container o s) (function ts u) = tt
   size-if-bound up (function ss r) (flat b) = tt
   size-if-bound up (function ss r) (container p t) = tt
   size-if-bound up (function ss r) (function ts u) =
-      map₂-if-some (λ vs. sizes vs ≡ sizes ss) (λ v. size v ≡ size r) (λ w. size w ≡ sizes ss + size r + 1) function (bounds (not up) ss ts) (bound up r u) (sizes-if-bound (not up) ss ts)
+      map₂-if-some (λ vs. sizes vs ≡ sizes ss) (λ v. size v ≡ size r) (λ w. size w ≡ sizes ss + size r + 1) function
+      (bounds (not up) ss ts) (bound up r u) (sizes-if-bound (not up) ss ts)
       (size-if-bound up r u) (λ vs v h k. omega arith)
 
   sizes-if-bound : (up : Bool) (ss ts : Trees) → IfSome (λ us. sizes us ≡ sizes ss) (bounds up ss ts)
@@ -42,7 +44,8 @@ mutual
   sizes-if-bound up no-args (arg t ts) = tt
   sizes-if-bound up (arg s ss) no-args = tt
   sizes-if-bound up (arg s ss) (arg t ts) =
-      map₂-if-some (λ v. size v ≡ size s) (λ vs. sizes vs ≡ sizes ss) (λ us. sizes us ≡ size s + sizes ss) arg (bound up s t) (bounds up ss ts) (size-if-bound up s t) (sizes-if-bound up ss ts)
+      map₂-if-some (λ v. size v ≡ size s) (λ vs. sizes vs ≡ sizes ss) (λ us. sizes us ≡ size s + sizes ss) arg
+      (bound up s t) (bounds up ss ts) (size-if-bound up s t) (sizes-if-bound up ss ts)
       (λ v vs h k. omega arith)
 
 pub bound-size : (up : Bool) (s t u : Tree) → bound up s t ≡ some u → size u ≡ size s
@@ -92,7 +95,8 @@ within-more In k j k′ j′ S (made a S′) p q h = (h .0, omega (arith, p, q, 
 within-more In k j k′ j′ S (nothing S′) p q h = omega (arith, p, q, h)
 within-more In k j k′ j′ S (full S′) p q h = h
 
-pub within-before : {A : Type 0} (In : A → Type 0) (k j k′ j′ : ℕ) (S S₁ : Sorts) (O : Outcome A) → Spent k j S S₁ → Within In k′ j′ S₁ O → Within In (k + k′) (j + j′) S O
+pub within-before : {A : Type 0} (In : A → Type 0) (k j k′ j′ : ℕ) (S S₁ : Sorts) (O : Outcome A) → Spent k j S S₁
+    → Within In k′ j′ S₁ O → Within In (k + k′) (j + j′) S O
 unfolding Within
 within-before In k j k′ j′ S S₁ (made a S′) x h = (h .0, omega (arith, x, h .1))
 within-before In k j k′ j′ S S₁ (nothing S′) x h = omega (arith, x, h)
@@ -107,7 +111,9 @@ within-then In On k j k′ j′ S (full S₁) f h g = h
 
 -- Interning one sort makes at most one, with its entries.
 intern-by : (t : Tree) (S : Sorts) (b c : Bool) → c ≡ true
-    → Within (λ u. u ≡ t) 1 (need t) S (cond b (made t S) (cond c (made t (record { trees = S .trees ++ (t ∷ []); rows = S .rows - 1; entries = S .entries - need t })) (full S)))
+    → Within (λ u. u ≡ t) 1 (need t) S (cond b (made t S)
+    (cond c (made t (record { trees = S .trees ++ (t ∷ []); rows = S .rows - 1; entries = S .entries - need t }))
+    (full S)))
 unfolding Within
 intern-by t S true c e = (refl, spent-none 1 (need t) S)
 intern-by t S false true e =
@@ -116,13 +122,15 @@ intern-by t S false false e = true-not-false false e refl
 
 pub intern-within : (t : Tree) (S : Sorts) → 0 < S .rows → need t ≤ S .entries → Within (λ u. u ≡ t) 1 (need t) S (intern t S)
 unfolding intern
-intern-within t S p q = intern-by t S (member (S .trees) t) (fits t S) (and-both (ltb 0 (S .rows)) (leb (need t) (S .entries)) (lt-ltb 0 (S .rows) p) (le-leb (need t) (S .entries) q))
+intern-within t S p q = intern-by t S (member (S .trees) t) (fits t S) (and-both (ltb 0 (S .rows))
+    (leb (need t) (S .entries)) (lt-ltb 0 (S .rows) p) (le-leb (need t) (S .entries) q))
 
 -- join and meet
 abbrev pub AnyTree : Tree → Type 0
 AnyTree t = Unit {0}
 
-some-within : {A : Type 0} (k j : ℕ) (S : Sorts) (x : Option A) (f : A → Outcome Tree) → ((a : A) → Within AnyTree k j S (f a)) → Within AnyTree k j S (where-some x S f)
+some-within : {A : Type 0} (k j : ℕ) (S : Sorts) (x : Option A) (f : A → Outcome Tree)
+    → ((a : A) → Within AnyTree k j S (f a)) → Within AnyTree k j S (where-some x S f)
 unfolding Within
 some-within k j S none f h = spent-none k j S
 some-within k j S (some a) f h = h a
@@ -147,7 +155,8 @@ within-weaker In On k j S (full S′) f h = h
 
 container-within : (o : ComplexSort) (t : Tree) (S : Sorts) → 0 < S .rows → Within AnyTree 1 0 S (intern (container o t) S)
 unfolding need
-container-within o t S p = within-weaker (λ u. u ≡ container o t) AnyTree 1 0 S (intern (container o t) S) (λ u e. tt) (intern-within (container o t) S p (omega arith))
+container-within o t S p = within-weaker (λ u. u ≡ container o t) AnyTree 1 0 S (intern (container o t) S) (λ u e. tt)
+    (intern-within (container o t) S p (omega arith))
 
 function-within : (ts : Trees) (r : Tree) (j : ℕ) (S : Sorts) → 0 < S .rows → arity ts ≡ j → j ≤ S .entries → Within AnyTree 1 j S (intern (function ts r) S)
 unfolding need
@@ -173,7 +182,8 @@ mutual
   make-within up (flat a) (function ts u) S p q = none-within AnyTree 1 0 S
   make-within up (container o s) (flat b) S p q = none-within AnyTree (size s + 1) (entriesOf s) S
   make-within up (container o s) (container o′ t) S p q =
-      by-test (Within AnyTree (size s + 1) (entriesOf s) S) (same (container o s) (container o′ t)) _ _ (made-within AnyTree (size s + 1) (entriesOf s) (container o s) S tt)
+      by-test (Within AnyTree (size s + 1) (entriesOf s) S) (same (container o s) (container o′ t)) _ _
+      (made-within AnyTree (size s + 1) (entriesOf s) (container o s) S tt)
       (some-within (size s + 1) (entriesOf s) S (boundOp up o o′) _
       (λ c. within-more AnyTree (size s + 1) (entriesOf s + 0) (size s + 1) (entriesOf s) S _ (omega arith) (omega arith)
       (within-then AnyTree AnyTree (size s) (entriesOf s) 1 0 S (make up s t S) _ (make-within up s t S (omega arith) q)
@@ -187,19 +197,24 @@ mutual
       by-test (Within AnyTree k j S) (same (function ss r) (function ts u)) _ _ (made-within AnyTree k j (function ss r) S tt)
       (by-test (Within AnyTree k j S) (eqb (arity ss) (arity ts)) _ _
       (within-more AnyTree (sizes ss + (size r + 1)) (entriesIn ss + (entriesOf r + arity ss)) k j S _ (omega arith) (omega arith)
-      (within-then (AsMany ss) AnyTree (sizes ss) (entriesIn ss) (size r + 1) (entriesOf r + arity ss) S (makes (not up) ss ts S) _ (makes-within (not up) ss ts S (omega arith) (omega arith))
-      (λ vs S₁ m x. within-then AnyTree AnyTree (size r) (entriesOf r) 1 (arity ss) S₁ (make up r u S₁) _ (make-within up r u S₁ (omega (arith, x)) (omega (arith, x)))
+      (within-then (AsMany ss) AnyTree (sizes ss) (entriesIn ss) (size r + 1) (entriesOf r + arity ss) S
+      (makes (not up) ss ts S) _ (makes-within (not up) ss ts S (omega arith) (omega arith))
+      (λ vs S₁ m x. within-then AnyTree AnyTree (size r) (entriesOf r) 1 (arity ss) S₁ (make up r u S₁) _
+      (make-within up r u S₁ (omega (arith, x)) (omega (arith, x)))
       (λ v S₂ h y. function-within vs v (arity ss) S₂ (omega (arith, x, y)) m (omega (arith, x, y))))))
       (none-within AnyTree k j S))
 
-  makes-within : (up : Bool) (ss ts : Trees) (S : Sorts) → sizes ss ≤ S .rows → entriesIn ss ≤ S .entries → Within (AsMany ss) (sizes ss) (entriesIn ss) S (makes up ss ts S)
+  makes-within : (up : Bool) (ss ts : Trees) (S : Sorts) → sizes ss ≤ S .rows → entriesIn ss ≤ S .entries
+      → Within (AsMany ss) (sizes ss) (entriesIn ss) S (makes up ss ts S)
   makes-within up no-args no-args S p q = made-within (AsMany no-args) 0 0 no-args S refl
   makes-within up no-args (arg t ts) S p q = none-within (AsMany no-args) 0 0 S
   makes-within up (arg s ss) no-args S p q = none-within (AsMany (arg s ss)) (size s + sizes ss) (entriesOf s + entriesIn ss) S
   makes-within up (arg s ss) (arg t ts) S p q =
-      within-then AnyTree (AsMany (arg s ss)) (size s) (entriesOf s) (sizes ss) (entriesIn ss) S (make up s t S) _ (make-within up s t S (omega arith) (omega arith))
+      within-then AnyTree (AsMany (arg s ss)) (size s) (entriesOf s) (sizes ss) (entriesIn ss) S (make up s t S) _
+      (make-within up s t S (omega arith) (omega arith))
       (λ v S₁ h x. within-more (AsMany (arg s ss)) (sizes ss + 0) (entriesIn ss + 0) (sizes ss) (entriesIn ss) S₁ _ (omega arith) (omega arith)
-      (within-then (AsMany ss) (AsMany (arg s ss)) (sizes ss) (entriesIn ss) 0 0 S₁ (makes up ss ts S₁) _ (makes-within up ss ts S₁ (omega (arith, x)) (omega (arith, x)))
+      (within-then (AsMany ss) (AsMany (arg s ss)) (sizes ss) (entriesIn ss) 0 0 S₁ (makes up ss ts S₁) _
+      (makes-within up ss ts S₁ (omega (arith, x)) (omega (arith, x)))
       (λ vs S₂ m y. made-within (AsMany (arg s ss)) 0 0 (arg v vs) S₂ (one-more v s vs ss m))))
 
 -- no outcome within is full

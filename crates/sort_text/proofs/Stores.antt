@@ -23,7 +23,8 @@ Stores t (made u S) = (u ≡ t) × HasPrimitives S
 Stores t (nothing S) = ⊥
 Stores t (full S) = Unit {0}
 
-stores-then : {A B : Type 0} (t : A) (v : B) (O : Outcome A) (k : A → Sorts → Outcome B) → Stores t O → ((S : Sorts) → HasPrimitives S → Stores v (k t S)) → Stores v (O then k)
+stores-then : {A B : Type 0} (t : A) (v : B) (O : Outcome A) (k : A → Sorts → Outcome B) → Stores t O
+    → ((S : Sorts) → HasPrimitives S → Stores v (k t S)) → Stores v (O then k)
 unfolding Stores
 stores-then t v (made u S) k h f = subst (λ w. Stores v (k w S)) (sym (h .0)) (f S (h .1))
 stores-then t v (nothing S) k h f = absurd h
@@ -60,7 +61,8 @@ mutual
       (λ S₁ k. stores-then ts (arg t ts) (stores ts S₁) _ (stores-store ts S₁ k) (λ S₂ l. made-stores (arg t ts) S₂ l))
 
 -- two ways on from an outcome that agree on its answer
-pub then-agree : {A B : Type 0} (t : A) (O : Outcome A) → Stores t O → (f g : A → Sorts → Outcome B) → ((S : Sorts) → HasPrimitives S → f t S ≡ g t S) → (O then f) ≡ (O then g)
+pub then-agree : {A B : Type 0} (t : A) (O : Outcome A) → Stores t O → (f g : A → Sorts → Outcome B)
+    → ((S : Sorts) → HasPrimitives S → f t S ≡ g t S) → (O then f) ≡ (O then g)
 unfolding Stores
 then-agree t (made u S) h f g e = ap (λ w. f w S) (h .0) ∙ (e S (h .1) ∙ ap (λ w. g w S) (sym (h .0)))
 then-agree t (nothing S) h f g e = absurd h
@@ -87,7 +89,8 @@ primitive-step Sort.Real ops st S = refl
 flat-steps : (a : Flat) → flatWritable a ≡ true → (ops : List ℕ) (st : List Tree) (S : Sorts) → HasPrimitives S
     → steps (kindFlat a ∷ ops) st S ≡ (intern (flat a) S then (λ u S. steps ops (u ∷ st) S))
 flat-steps unit w ops st S h = absurd (true-not-false false w refl)
-flat-steps (primitive s) w ops st S h = primitive-step s ops st S ∙ ap (λ O. O then (λ u S. steps ops (u ∷ st) S)) (sym (intern-member (flat (primitive s)) S (h s)))
+flat-steps (primitive s) w ops st S h = primitive-step s ops st S ∙ ap (λ O. O then (λ u S. steps ops (u ∷ st) S))
+    (sym (intern-member (flat (primitive s)) S (h s)))
 flat-steps (def n) w ops st S h = absurd (true-not-false false w refl)
 flat-steps (typevar n) w ops st S h = absurd (true-not-false false w refl)
 
@@ -170,7 +173,8 @@ mutual
       ∙ (then-ext (store t S) _ _ (container-on o ops st) ∙ sym (then-then (store t S) (λ u S. intern (container o u) S) (λ u S. steps ops (u ∷ st) S))))
   steps-store (function ts r) w ops st S h =
       let v = function-writable ts r w in
-      ap (λ l. steps l st S) (append-assoc (postfixes ts) (postfix r ++ ((16 + arity ts) ∷ [])) ops ∙ ap (λ l. postfixes ts ++ l) (append-assoc (postfix r) ((16 + arity ts) ∷ []) ops))
+      ap (λ l. steps l st S) (append-assoc (postfixes ts) (postfix r ++ ((16 + arity ts) ∷ [])) ops ∙ ap
+      (λ l. postfixes ts ++ l) (append-assoc (postfix r) ((16 + arity ts) ∷ []) ops))
       ∙ (steps-stores ts (v .0) (postfix r ++ ((16 + arity ts) ∷ ops)) st S h
       ∙ (then-agree ts (stores ts S) (stores-store ts S h) _ (λ us S. (store r S then (λ x S. intern (function us x) S)) then (λ u S. steps ops (u ∷ st) S))
       (λ S₁ k. steps-store r (v .1) ((16 + arity ts) ∷ ops) (pushes ts st) S₁ k

@@ -10,8 +10,11 @@ use lib.Seq.{drop-append-seam}
 use lib.Dec.{eqb}
 use Rattle.resolved_sort.specs.declared.ComplexSort.{ComplexSort}
 use Rattle.resolved_sort.specs.Tree.{Tree, Trees, no-args, arg}
-use Rattle.sort_text.specs.Tokens.{isLetter, NextToken, end, word, open-bracket, close-bracket, hash, arrow, bad, run, past, skip, dash, start, nextAt, next}
-use Rattle.sort_text.specs.Parse.{Parsed, parsed, stuck, _then-read_, WordMeaning, basic, operator, unknown, meaning, closing, bracketed, operandOf, operandAt, operand, snoc, alone, restAt, rest, sortTo, sort, ending, line, Suffix, left, Leaves}
+use Rattle.sort_text.specs.Tokens.{isLetter, NextToken, end, word, open-bracket, close-bracket, hash, arrow}
+use Rattle.sort_text.specs.Tokens.{bad, run, past, skip, dash, start, nextAt, next}
+use Rattle.sort_text.specs.Parse.{Parsed, parsed, stuck, _then-read_, WordMeaning, basic, operator, unknown}
+use Rattle.sort_text.specs.Parse.{meaning, closing, bracketed, operandOf, operandAt, operand, snoc, alone}
+use Rattle.sort_text.specs.Parse.{restAt, rest, sortTo, sort, ending, line, Suffix, left, Leaves}
 
 pub suffix-refl : (bs : List ℕ) → Suffix bs bs
 suffix-refl bs = record { front = []; whole = refl }
@@ -79,7 +82,8 @@ start-suffix p b bs = go (p b) (eqb b 40) (eqb b 41) (eqb b 35) (eqb b 45)
     one = suffix-cons b bs bs (suffix-refl bs)
 
     go : (l o c h d : Bool)
-        → Suffix (after (b ∷ bs) (cond l (word (b ∷ run p bs) (past p bs)) (cond o (open-bracket bs) (cond c (close-bracket bs) (cond h (hash bs) (cond d (dash bs) bad)))))) (b ∷ bs)
+        → Suffix (after (b ∷ bs) (cond l (word (b ∷ run p bs) (past p bs)) (cond o (open-bracket bs)
+        (cond c (close-bracket bs) (cond h (hash bs) (cond d (dash bs) bad)))))) (b ∷ bs)
     go true o c h d = suffix-cons b (past p bs) bs (past-suffix p bs)
     go false true c h d = one
     go false false true h d = one
@@ -95,7 +99,8 @@ pub next-suffix : (p : ℕ → Bool) (bs : List ℕ) → Suffix (after (skip bs)
 unfolding next
 next-suffix p bs = suffix-trans (after (skip bs) (nextAt p (skip bs))) (skip bs) bs (nextAt-suffix p (skip bs)) (skip-suffix bs)
 
-pub then-suffix : (p : Parsed) (k : Tree → List ℕ → Parsed) (bs : List ℕ) → Suffix (left p) bs → ((t : Tree) (cs : List ℕ) → Suffix (left (k t cs)) cs) → Suffix (left (p then-read k)) bs
+pub then-suffix : (p : Parsed) (k : Tree → List ℕ → Parsed) (bs : List ℕ) → Suffix (left p) bs
+    → ((t : Tree) (cs : List ℕ) → Suffix (left (k t cs)) cs) → Suffix (left (p then-read k)) bs
 then-suffix (parsed t cs) k bs h f = suffix-trans (left (k t cs)) cs bs (f t cs) h
 then-suffix (stuck cs) k bs h f = h
 
@@ -130,7 +135,8 @@ module _ (f : List ℕ → Parsed) (g : Leaves f) where
   pub bracketed-suffix : (o : ComplexSort) (at bs : List ℕ) (n : NextToken) → Suffix at bs → Suffix (after at n) bs → Suffix (left (bracketed f o at n)) bs
   unfolding bracketed
   bracketed-suffix o at bs (open-bracket cs) h k =
-      then-suffix (f cs) _ bs (suffix-trans (left (f cs)) cs bs (g cs) k) (λ t ds. closing-suffix o t (skip ds) ds (next isLetter ds) (skip-suffix ds) (next-suffix isLetter ds))
+      then-suffix (f cs) _ bs (suffix-trans (left (f cs)) cs bs (g cs) k) (λ t ds. closing-suffix o t (skip ds) ds
+      (next isLetter ds) (skip-suffix ds) (next-suffix isLetter ds))
   bracketed-suffix o at bs end h k = h
   bracketed-suffix o at bs (word w cs) h k = h
   bracketed-suffix o at bs (close-bracket cs) h k = h
@@ -182,7 +188,8 @@ pub sortTo-suffix : (d : ℕ) → Leaves (sortTo d)
 unfolding sortTo
 sortTo-suffix zero bs = suffix-refl bs
 sortTo-suffix (suc d) bs =
-    then-suffix (operand (sortTo d) bs) _ bs (operand-suffix (sortTo d) (sortTo-suffix d) bs) (λ t cs. rest-suffix (sortTo d) (sortTo-suffix d) 15 (arg t no-args) cs)
+    then-suffix (operand (sortTo d) bs) _ bs (operand-suffix (sortTo d) (sortTo-suffix d) bs) (λ t cs. rest-suffix
+    (sortTo d) (sortTo-suffix d) 15 (arg t no-args) cs)
 
 pub sort-suffix : Leaves sort
 unfolding sort

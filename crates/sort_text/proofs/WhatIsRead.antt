@@ -70,7 +70,8 @@ mutual
 
   operands-size : {bs cs : List ℕ} {ts : Trees} → Operands bs ts cs → sizes ts + length cs ≤ length bs
   operands-size (first h) = omega (arith, operand-size h)
-  operands-size (another {cs = cs} {ds = ds} {ts = ts} {t = t} h e k i) = rw i (omega (arith, operands-size h, hash-takes isLetter cs ds e, operand-size k, sizes-snoc ts t))
+  operands-size (another {cs = cs} {ds = ds} {ts = ts} {t = t} h e k i) = rw i
+      (omega (arith, operands-size h, hash-takes isLetter cs ds e, operand-size k, sizes-snoc ts t))
 
 -- The nodes of a sort are no more than the bytes that it took.
 pub sort-nodes : (bs cs : List ℕ) (t : Tree) → sort bs ≡ parsed t cs → size t + length cs ≤ length bs

@@ -16,7 +16,8 @@ isFull (made a S) = false
 isFull (nothing S) = false
 isFull (full S) = true
 
--- Both sorts of a pair stored, then their join, then their meet, each from what the one before leaves: none finds room ended.
+-- Both sorts of a pair stored, then their join, then their meet, each from what the one before leaves: none finds
+-- room ended.
 abbrev pub twoStored : Tree → Tree → Sorts → Sorts
 twoStored s t S = listAfter (store t (listAfter (store s S)))
 

@@ -10,7 +10,8 @@ use Rattle.text_out.specs.Quoted.{bytesOf}
 use Rattle.resolved_sort.specs.declared.Sort.{Sort}
 use Rattle.resolved_sort.specs.declared.ComplexSort.{ComplexSort}
 use Rattle.resolved_sort.specs.Tree.{primitive, Tree, flat, container, function, Trees, no-args, arg}
-use Rattle.sort_text.specs.Tokens.{isLetter, NextToken, end, word, open-bracket, close-bracket, hash, arrow, bad, skip, next}
+use Rattle.sort_text.specs.Tokens.{isLetter, NextToken, end, word, open-bracket, close-bracket, hash, arrow}
+use Rattle.sort_text.specs.Tokens.{bad, skip, next}
 use Rattle.resolved_sort.specs.Storage.{maxArguments}
 use mathlib.Core.Path.{_≡_}
 

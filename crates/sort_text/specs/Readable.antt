@@ -1,4 +1,5 @@
--- Sorts that a line can give: writable, at most 16 arguments at each function, no function as argument; and how many nodes they have.
+-- Sorts that a line can give: writable, at most 16 arguments at each function, no function as argument; and how
+-- many nodes they have.
 use mathlib.Core.Bool.{Bool, true, not, _&&_}
 use Prim.Native.Nat.{ℕ, _+_}
 use lib.Dec.{leb}

@@ -118,7 +118,8 @@ module _ (ws : List ℕ) (n e a : ℕ) (out : List ℕ) (t : Tested) (et : t ≡
       size-is : size ≡ sizeIf (writable (treeAt ws n a)) (length (text (treeAt ws n a)))
       unfolding sized
       size-is =
-          es ∙ sizes-right ws (replicate 1024 0) n e (in-order ws n e (passed-is _ t et p)) (omega (arith, few-sorts, length-replicate {A = ℕ} 1024 0)) n (omega arith) a ha
+          es ∙ sizes-right ws (replicate 1024 0) n e (in-order ws n e (passed-is _ t et p))
+          (omega (arith, few-sorts, length-replicate {A = ℕ} 1024 0)) n (omega arith) a ha
 
       pub no-text : size ≡ 0 → Refused 13 ≡ testedOf (firstFailing (writeChecks ws n e a out))
       no-text z = ap testedOf (sym (past-12 ∙ first-fails thirteen _ (size-none _ _ (text-some (treeAt ws n a)) (sym size-is ∙ z))))
@@ -151,7 +152,11 @@ module _ (ws : List ℕ) (n e a : ℕ) (out : List ℕ) (t : Tested) (et : t ≡
               (sym
               (past-13
               ∙ first-passes fourteen []
-              (rw (le-leb fullLength (length ws) hw, le-leb (length (text (treeAt ws n a))) (length out) (capped-within _ _ m (omega (arith, written-size .1)))))))
+              (rw (
+                le-leb fullLength (length ws) hw,
+                le-leb (length (text (treeAt ws n a))) (length out)
+                    (capped-within _ _ m (omega (arith, written-size .1))),
+              ))))
 
 -- what the entry answers
 module _ (ws : List ℕ) (n e a : ℕ) (out : List ℕ) (t : Tested) (et : t ≡ testedOf (firstFailing (writeChecks ws n e a out))) where
@@ -191,7 +196,8 @@ unfolding writing
 text-fits ws n e a out l h = go (firstFailing (writeChecks ws n e a out)) refl h
   where
     go : (x : Option ℕ) → firstFailing (writeChecks ws n e a out) ≡ x
-        → (refusedOr x (λ c. writeLeft out (NotWritten c)) (writeLeft (text (treeAt ws n a) ++ drop (length (text (treeAt ws n a))) out) (Text (length (text (treeAt ws n a)))))) .answer ≡ Text l
+        → (refusedOr x (λ c. writeLeft out (NotWritten c)) (writeLeft (text (treeAt ws n a) ++ drop
+        (length (text (treeAt ws n a))) out) (Text (length (text (treeAt ws n a)))))) .answer ≡ Text l
         → l ≤ length out
     go none e₁ q = let z : length (text (treeAt ws n a)) ≡ l = cc in omega (arith, has-room ws n e a out Passed (ap testedOf (sym e₁)) refl .room)
     go (some c) e₁ q = let z : _≡_ {A = ℕ} 0 1 = cc in absurd (omega arith)

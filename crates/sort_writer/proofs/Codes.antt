@@ -9,11 +9,14 @@ use Rattle.resolved_sort.specs.Entries.{refusedOr}
 use Rattle.sort_text.specs.declared.Written.the-variants.{Refused, Text}
 use Rattle.sort_text.specs.Writing.{writeChecks, codeWritten, writeLeft, writing}
 
-by-check : (x : Option ℕ) (out bs : List ℕ) (m : ℕ) → codeWritten ((refusedOr x (λ c. writeLeft out (Refused c)) (writeLeft bs (Text m))) .answer) ≡ refusedOr x (λ c. c) 0
+by-check : (x : Option ℕ) (out bs : List ℕ) (m : ℕ)
+    → codeWritten ((refusedOr x (λ c. writeLeft out (Refused c)) (writeLeft bs (Text m))) .answer) ≡ refusedOr x
+    (λ c. c) 0
 unfolding codeWritten
 by-check none out bs m = refl
 by-check (some c) out bs m = refl
 
-pub code-of-written : (ws : List ℕ) (n e a : ℕ) (out : List ℕ) → codeWritten ((writing ws n e a out) .answer) ≡ refusedOr (firstFailing (writeChecks ws n e a out)) (λ c. c) 0
+pub code-of-written : (ws : List ℕ) (n e a : ℕ) (out : List ℕ) → codeWritten ((writing ws n e a out) .answer) ≡
+    refusedOr (firstFailing (writeChecks ws n e a out)) (λ c. c) 0
 unfolding writing
 code-of-written ws n e a out = by-check (firstFailing (writeChecks ws n e a out)) out _ _

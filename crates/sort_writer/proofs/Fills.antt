@@ -19,7 +19,8 @@ use Rattle.resolved_sort.proofs.Pairs.{sortOf, Below}
 use Rattle.resolved_sort.proofs.Said.{first-entry}
 use Rattle.sort_writer.specs.Inner.Sizes.{sized, sizedAll, joined, runSize, rowSize, sizesTo}
 use Rattle.sort_writer.proofs.Rows.{row-says, row-parts}
-use Rattle.sort_writer.proofs.Sizes.{size-of-none, size-of-primitive, size-of-container, size-of-function, size-of-no-arguments, size-of-one, size-of-more}
+use Rattle.sort_writer.proofs.Sizes.{size-of-none, size-of-primitive, size-of-container, size-of-function}
+use Rattle.sort_writer.proofs.Sizes.{size-of-no-arguments, size-of-one, size-of-more}
 
 run-more : (zs ws : List ℕ) (x s c : ℕ) → (c ≡ 0 → ⊥) → runSize zs (x ∷ entriesOf ws s c) ≡ joined (getD zs x 0) (joined 3 (runSize zs (entriesOf ws s c)))
 unfolding runSize entriesOf
@@ -102,7 +103,8 @@ module _ (ws zs : List ℕ) (n e : ℕ) (k : ListFine ws n e) (room : n ≤ leng
       let z : i ≡ m = omega arith in
       rw z
       (getD-set-same (sizesTo ws zs m) m _ 0 (omega (arith, length-sizes m))
-      ∙ (row-right (trees ws n) (sizesTo ws zs m) m r ws e (rowAt ws m) (row-parts ws n e k m (omega arith)) ∙ ap sized (sym (row-says ws n e k m (omega arith)))))
+      ∙ (row-right (trees ws n) (sizesTo ws zs m) m r ws e (rowAt ws m) (row-parts ws n e k m (omega arith)) ∙ ap
+      sized (sym (row-says ws n e k m (omega arith)))))
   right-more m h r i l (no d) = getD-set-other (sizesTo ws zs m) m i _ 0 (λ q. omega arith) ∙ r i (omega arith)
 
   -- the size found for each sort is its size

@@ -22,10 +22,12 @@ module _ (ws : List ℕ) (T : List Tree) (e i p s c : ℕ) where
       refl refl refl refl refl refl refl refl refl refl refl refl refl refl
       k l
 
-  parts : (k : ℕ) → k ≤ lastKind → Within i (read ws e i p s c k) → (k ≡ functionKind → (c ≤ 16) × (s + c ≤ e)) → Below ws e i (resolved k p (record { start = s; count = c }))
+  parts : (k : ℕ) → k ≤ lastKind → Within i (read ws e i p s c k) → (k ≡ functionKind → (c ≤ 16) × (s + c ≤ e))
+      → Below ws e i (resolved k p (record { start = s; count = c }))
   unfolding Below resolved
   parts k l =
-      by-kind (λ k. Within i (read ws e i p s c k) → (k ≡ functionKind → (c ≤ 16) × (s + c ≤ e)) → Below ws e i (resolved k p (record { start = s; count = c })))
+      by-kind (λ k. Within i (read ws e i p s c k) → (k ≡ functionKind → (c ≤ 16) × (s + c ≤ e))
+      → Below ws e i (resolved k p (record { start = s; count = c })))
       (λ w f. tt)
       (λ w f. tt)
       (λ w f. tt)

@@ -138,7 +138,8 @@ size-of-container o t =
 pub size-of-function : (ts : Trees) (r : Tree) → joined (sizedAll ts) (joined 4 (sized r)) ≡ sized (function ts r)
 unfolding sized sizedAll writable
 size-of-function ts r =
-    ap (joined (sizeIf (nonempty ts && writables ts) (length (texts ts)))) (joined-word 4 (writable r) (length (text r)) (omega arith) (omega arith) (text-some r))
+    ap (joined (sizeIf (nonempty ts && writables ts) (length (texts ts)))) (joined-word 4 (writable r)
+    (length (text r)) (omega arith) (omega arith) (text-some r))
     ∙ (joined-if (nonempty ts && writables ts) (writable r) (length (texts ts)) (4 + length (text r)) (texts-some ts) (λ e. omega arith)
     ∙ ap (sizeIf (nonempty ts && writables ts && writable r)) (sym (function-length ts r)))
 
@@ -166,6 +167,7 @@ size-of-one t = ap₂ sizeIf (and-true (writable t)) (omega (arith, texts-length
 pub size-of-more : (t u : Tree) (us : Trees) → joined (sized t) (joined 3 (sizedAll (arg u us))) ≡ sizedAll (arg t (arg u us))
 unfolding sized sizedAll writable
 size-of-more t u us =
-    ap (joined (sizeIf (writable t) (length (text t)))) (joined-word 3 (writable u && writables us) (length (texts (arg u us))) (omega arith) (omega arith) (texts-some (arg u us)))
+    ap (joined (sizeIf (writable t) (length (text t)))) (joined-word 3 (writable u && writables us)
+    (length (texts (arg u us))) (omega arith) (omega arith) (texts-some (arg u us)))
     ∙ (joined-if (writable t) (writable u && writables us) (length (text t)) (3 + length (texts (arg u us))) (text-some t) (λ e. omega arith)
     ∙ ap (sizeIf (writable t && (writable u && writables us))) (omega (arith, texts-length t (arg u us), more-length u us)))

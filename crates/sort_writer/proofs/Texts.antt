@@ -27,7 +27,8 @@ use Rattle.sort_writer.proofs.Rows.{row-says, row-parts}
 use Rattle.text_out.proofs.Put.{put-none, put-then, put-as, put-length}
 
 -- room for what comes behind what was put
-room-behind : {out : List ℕ} {at : ℕ} {xs mid : List ℕ} {p : ℕ} (ys : List ℕ) → Put out at xs mid p → at + length (xs ++ ys) ≤ length out → p + length ys ≤ length mid
+room-behind : {out : List ℕ} {at : ℕ} {xs mid : List ℕ} {p : ℕ} (ys : List ℕ) → Put out at xs mid p
+    → at + length (xs ++ ys) ≤ length out → p + length ys ≤ length mid
 room-behind {out} {at} {xs} {mid} {p} ys h l = omega (arith, h .behind, put-length h, length-append xs ys)
 
 room-first : (at n : ℕ) (xs ys : List ℕ) → at + length (xs ++ ys) ≤ n → at + length xs ≤ n
@@ -180,7 +181,9 @@ texts-of : (t : Tree) (ts : Trees) → texts (arg t ts) ≡ text t ++ more ts
 unfolding text
 texts-of t ts = refl
 
-more-texts : (ws : List ℕ) (n s c : ℕ) → (c ≡ 0 → ⊥) → 1 < c → texts (argsAt ws n s c) ≡ text (treeAt ws n (entryAt ws s)) ++ (betweenText ++ texts (argsAt ws n (s + 1) (c - 1)))
+more-texts : (ws : List ℕ) (n s c : ℕ) → (c ≡ 0 → ⊥) → 1 < c
+    → texts (argsAt ws n s c) ≡ text (treeAt ws n (entryAt ws s)) ++ (betweenText ++ texts (argsAt ws n (s + 1)
+    (c - 1)))
 more-texts ws n s c h g =
     let f = args-by-first ws n (s + 1) (c - 1) (λ z. omega arith) in
     ap texts (args-by-first ws n s c h)
@@ -200,7 +203,12 @@ module _ {ws : List ℕ} {n e s c : ℕ} {out : List ℕ} {at : ℕ} (k : RunRoo
     first-falls f =
         let b : entryAt ws s < n = subst (λ (i : ℕ). entryAt ws i < n) (omega arith) (k .args 0 (omega (arith, h))) in (
           omega (arith, h, first-below-top ws s c h),
-          record { checked = k .checked; below = omega arith; room = room-first at (length out) (text (treeAt ws n x)) (more (argsAt ws n (s + 1) (c - 1))) (as-room at (length out) first-text (k .room)) },
+          record {
+            checked = k .checked;
+            below = omega arith;
+            room = room-first at (length out) (text (treeAt ws n x))
+                (more (argsAt ws n (s + 1) (c - 1))) (as-room at (length out) first-text (k .room));
+          },
         )
 
     module _ {mid : List ℕ} {p : ℕ} (f : Put out at (text (treeAt ws n x)) mid p) where

@@ -16,7 +16,8 @@ sets-append l i (x ∷ xs) ys = ap (λ (k : ℕ). sets (sets (set l i x) (suc i)
 pub put-none : (out : List ℕ) (at : ℕ) → Put out at [] out at
 put-none out at = record { bytes = refl; behind = omega arith }
 
-pub put-then : {out : List ℕ} {at : ℕ} {xs mid : List ℕ} {p : ℕ} {ys left : List ℕ} {r : ℕ} → Put out at xs mid p → Put mid p ys left r → Put out at (xs ++ ys) left r
+pub put-then : {out : List ℕ} {at : ℕ} {xs mid : List ℕ} {p : ℕ} {ys left : List ℕ} {r : ℕ} → Put out at xs mid p
+    → Put mid p ys left r → Put out at (xs ++ ys) left r
 put-then {out} {at} {xs} {mid} {p} {ys} h k =
     record {
       bytes = k .bytes ∙ (ap₂ (λ (l : List ℕ) (i : ℕ). sets l i ys) (h .bytes) (h .behind) ∙ sets-append out at xs ys);
@@ -31,7 +32,8 @@ put-length {out} {at} {xs} h = ap length (h .bytes) ∙ length-sets out at xs
 
 -- the loop that puts bytes: putting what is left comes to putting the whole
 module _ (bytes : List ℕ) (at : ℕ) (whole : List ℕ) (out : List ℕ) (i : ℕ) where
-  pub one-byte-more : whole ≡ sets out (at + i) (drop i bytes) → i < length bytes → whole ≡ sets (set out (at + i) (getD bytes i 0)) (at + (i + 1)) (drop (i + 1) bytes)
+  pub one-byte-more : whole ≡ sets out (at + i) (drop i bytes) → i < length bytes
+      → whole ≡ sets (set out (at + i) (getD bytes i 0)) (at + (i + 1)) (drop (i + 1) bytes)
   one-byte-more e h =
       e
       ∙ (ap (sets out (at + i)) (drop-cons bytes i 0 h)

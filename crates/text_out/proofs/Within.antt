@@ -23,7 +23,8 @@ pub put-none : (out : List ℕ) (at : ℕ) → PutWithin out at [] out at
 unfolding puts
 put-none out at = record { is = refl }
 
-pub put-then : {out : List ℕ} {at : ℕ} {xs mid : List ℕ} {p : ℕ} {ys left : List ℕ} {r : ℕ} → PutWithin out at xs mid p → PutWithin mid p ys left r → PutWithin out at (xs ++ ys) left r
+pub put-then : {out : List ℕ} {at : ℕ} {xs mid : List ℕ} {p : ℕ} {ys left : List ℕ} {r : ℕ}
+    → PutWithin out at xs mid p → PutWithin mid p ys left r → PutWithin out at (xs ++ ys) left r
 put-then {out} {at} {xs} {mid} {p} {ys} h k =
     record { is = k .is ∙ (ap (λ (b : Buffer). puts (b .bytes) (b .at) ys) (h .is) ∙ sym (puts-append out at xs ys)) }
 
@@ -44,7 +45,8 @@ pub no-digit : (n unit : ℕ) → n < unit → (out : List ℕ) (at : ℕ) → P
 unfolding digit puts
 no-digit n unit h out at = record { is = rw (lt-ltb n unit h) }
 
-pub a-digit : (n unit : ℕ) → unit ≤ n → {out : List ℕ} {at : ℕ} {left : List ℕ} {r : ℕ} → PutWithin out at ((48 + n / unit % 10) ∷ []) left r → PutWithin out at (digit unit n) left r
+pub a-digit : (n unit : ℕ) → unit ≤ n → {out : List ℕ} {at : ℕ} {left : List ℕ} {r : ℕ}
+    → PutWithin out at ((48 + n / unit % 10) ∷ []) left r → PutWithin out at (digit unit n) left r
 unfolding digit
 a-digit n unit h p = put-as (rw (le-ltb n unit h)) p
 

@@ -12,7 +12,10 @@ use lib.ListN.{set}
 use Rattle.resolved_sort.proofs.Reached.{no-confusion}
 use Rattle.unification.specs.Term.{Head, Term, app, Shape, variable, over, sameHead, substitute}
 use Rattle.unification.specs.Nodes.{isSort, Binds, binding}
-use Rattle.unification.specs.Unify.{Unifies, yes-with, no-way, too-deep, and-then, Occurs, absent, present, unknown, followBound, followAt, follow, occursBound, occursAt, occurs, bindUnless, unifyAll, unifyHeads, unifyVariables, unifyShapes, unifyApart, unifyEnds, unifyFollowed, unifyTo}
+use Rattle.unification.specs.Unify.{Unifies, yes-with, no-way, too-deep, and-then, Occurs, absent, present}
+use Rattle.unification.specs.Unify.{unknown, followBound, followAt, follow, occursBound, occursAt, occurs}
+use Rattle.unification.specs.Unify.{bindUnless, unifyAll, unifyHeads, unifyVariables, unifyShapes, unifyApart}
+use Rattle.unification.specs.Unify.{unifyEnds, unifyFollowed, unifyTo}
 use Rattle.unification.specs.Acyclic.{One, first, later, Stands, at, within, Numbering}
 use Rattle.unification.specs.Solutions.{termOfShape, termTo, valueBound, valueAt, valueTo, Respects}
 use Rattle.unification.proofs.Rank.{rankBound, rankAt, rank, highest-agree}
@@ -52,7 +55,8 @@ module _ (P : ℕ → Type 0) (shape shape′ : ℕ → Shape) (A : Agree P shap
         bound none v e ih = refl
         bound (some q) v e ih = ih q (b v q e)
 
-        go : (s : Shape) → ((q : ℕ) → P q → follow shape′ k B q ≡ follow shape k B q) → followAt shape′ s B p (follow shape′ k B) ≡ followAt shape s B p (follow shape k B)
+        go : (s : Shape) → ((q : ℕ) → P q → follow shape′ k B q ≡ follow shape k B q)
+            → followAt shape′ s B p (follow shape′ k B) ≡ followAt shape s B p (follow shape k B)
         go (variable v) ih = bound (binding B v) v refl ih
         go (over h ps) ih = refl
 
@@ -61,7 +65,8 @@ module _ (P : ℕ → Type 0) (shape shape′ : ℕ → Shape) (A : Agree P shap
     rank-agrees zero p x = refl
     rank-agrees (suc k) p x = rw (A .same p x) (go (shape p) refl (rank-agrees k))
       where
-        bound : (o : Option ℕ) (v : ℕ) → binding B v ≡ o → ((q : ℕ) → P q → rank shape′ k B q ≡ rank shape k B q) → rankBound (rank shape′ k B) o ≡ rankBound (rank shape k B) o
+        bound : (o : Option ℕ) (v : ℕ) → binding B v ≡ o → ((q : ℕ) → P q → rank shape′ k B q ≡ rank shape k B q)
+            → rankBound (rank shape′ k B) o ≡ rankBound (rank shape k B) o
         bound none v e ih = refl
         bound (some q) v e ih = ap suc (ih q (b v q e))
 
@@ -79,7 +84,8 @@ module _ (P : ℕ → Type 0) (shape shape′ : ℕ → Shape) (A : Agree P shap
         bound none v e ih = refl
         bound (some q) v e ih = ih q (b v q e)
 
-        go : (s : Shape) → shape p ≡ s → ((q : ℕ) → P q → valueTo shape′ B d k q ≡ valueTo shape B d k q) → valueAt B d (valueTo shape′ B d k) s ≡ valueAt B d (valueTo shape B d k) s
+        go : (s : Shape) → shape p ≡ s → ((q : ℕ) → P q → valueTo shape′ B d k q ≡ valueTo shape B d k q)
+            → valueAt B d (valueTo shape′ B d k) s ≡ valueAt B d (valueTo shape B d k) s
         go (variable v) e ih = bound (binding B v) v refl ih
         go (over h ps) e ih = ap (app h) (termsAt-agree (valueTo shape′ B d k) (valueTo shape B d k) ps (λ q o. ih q (A .parts p q h ps x e o)))
 
@@ -136,7 +142,8 @@ module _ (P : ℕ → Type 0) (shape shape′ : ℕ → Shape) (A : Agree P shap
   abbrev Answers : (Binds → ℕ → ℕ → Unifies) → (Binds → ℕ → ℕ → Unifies) → Type 0
   Answers f′ f = (B : Binds) (l r : ℕ) → Names P B → P l → P r → Alike (f′ B l r) (f B l r)
 
-  all-alike : (f′ f : Binds → ℕ → ℕ → Unifies) → Answers f′ f → (ps qs : List ℕ) → ((q : ℕ) → One q ps → P q) → ((q : ℕ) → One q qs → P q) → (B : Binds) → Names P B
+  all-alike : (f′ f : Binds → ℕ → ℕ → Unifies) → Answers f′ f → (ps qs : List ℕ) → ((q : ℕ) → One q ps → P q)
+      → ((q : ℕ) → One q qs → P q) → (B : Binds) → Names P B
       → Alike (unifyAll shape′ f′ B ps qs) (unifyAll shape f B ps qs)
   all-alike f′ f h [] [] x y B b = yes-alike B b
   all-alike f′ f h [] (q ∷ qs) x y B b = no-alike
@@ -145,7 +152,8 @@ module _ (P : ℕ → Type 0) (shape shape′ : ℕ → Shape) (A : Agree P shap
       let a = h B p q b (x p (first ps)) (y q (first qs)) in
       rw (a .0) (go (f B p q) (a .1) (all-alike f′ f h ps qs (λ r o. x r (later p ps o)) (λ r o. y r (later q qs o))))
     where
-      go : (a : Unifies) → ((C : Binds) → a ≡ yes-with C → Names P C) → ((C : Binds) → Names P C → Alike (unifyAll shape′ f′ C ps qs) (unifyAll shape f C ps qs))
+      go : (a : Unifies) → ((C : Binds) → a ≡ yes-with C → Names P C) → ((C : Binds) → Names P C
+          → Alike (unifyAll shape′ f′ C ps qs) (unifyAll shape f C ps qs))
           → Alike (and-then a (λ C. unifyAll shape′ f′ C ps qs)) (and-then a (λ C. unifyAll shape f C ps qs))
       go (yes-with C) n ih = ih C (n C refl)
       go no-way n ih = no-alike
@@ -156,7 +164,8 @@ module _ (P : ℕ → Type 0) (shape shape′ : ℕ → Shape) (A : Agree P shap
   unify-alike w zero B l r b x y = deep-alike
   unify-alike w (suc k) B l r b x y =
       rw (follow-agrees B b w l x, follow-agrees B b w r y)
-      (followed (follow shape w B l) (follow shape w B r) (λ q e. follow-names shape B P b w l q x e) (λ q e. follow-names shape B P b w r q y e) (unify-alike w k))
+      (followed (follow shape w B l) (follow shape w B r) (λ q e. follow-names shape B P b w l q x e)
+      (λ q e. follow-names shape B P b w r q y e) (unify-alike w k))
     where
       heads : (h : Bool) (ps qs : List ℕ) → ((q : ℕ) → One q ps → P q) → ((q : ℕ) → One q qs → P q) → Answers (unifyTo shape′ w k) (unifyTo shape w k)
           → Alike (unifyHeads shape′ h (unifyTo shape′ w k) B ps qs) (unifyHeads shape h (unifyTo shape w k) B ps qs)

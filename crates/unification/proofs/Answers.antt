@@ -25,14 +25,17 @@ pub record Agreeing (W : Lent) (B : Binds) (l r : ℕ) (C : Binds) : Type 0 wher
 
 module _ (W : Lent) (c : CheckedLent W) (B : Binds) (b : CheckedBinds W B) (l r : ℕ) (x : PlacedIn W l) (y : PlacedIn W r) where
   robinson : Robinson (graph W) B l r (unify (graph W) B l r)
-  robinson = unify-is-robinson (W .sorts) (W .lengths .sorts) (W .lengths .entries) (W .nodes) (W .lengths .nodes) (W .lengths .arguments) (W .lengths .variables) c B b l r
+  robinson = unify-is-robinson (W .sorts) (W .lengths .sorts) (W .lengths .entries) (W .nodes) (W .lengths .nodes)
+      (W .lengths .arguments) (W .lengths .variables) c B b l r
 
   kept : BindsKept (graph W) (W .lengths .variables) B (unify (graph W) B l r)
   unfolding unify
   kept =
-      unify-kept (graph W) 3072 (lower (W .sorts) (W .lengths .sorts) (W .lengths .entries) (W .nodes) (W .lengths .nodes) (W .lengths .arguments) (W .lengths .variables) c) (W .lengths .variables)
+      unify-kept (graph W) 3072 (lower (W .sorts) (W .lengths .sorts) (W .lengths .entries) (W .nodes)
+      (W .lengths .nodes) (W .lengths .arguments) (W .lengths .variables) c) (W .lengths .variables)
       (scoped (W .sorts) (W .lengths .sorts) (W .lengths .entries) (W .nodes) (W .lengths .nodes) (W .lengths .arguments) (W .lengths .variables) c) deep
-      (deep-enough (W .sorts) (W .lengths .sorts) (W .lengths .entries) (W .nodes) (W .lengths .nodes) (W .lengths .arguments) (W .lengths .variables) c) deeper B l r (b .many) (b .numbered)
+      (deep-enough (W .sorts) (W .lengths .sorts) (W .lengths .entries) (W .nodes) (W .lengths .nodes)
+      (W .lengths .arguments) (W .lengths .variables) c) deeper B l r (b .many) (b .numbered)
 
   names : (C : Binds) → unify (graph W) B l r ≡ yes-with C → Names (PlacedIn W) C
   unfolding unify

@@ -73,7 +73,8 @@ module _ (W : Lent) (c : CheckedLent W) where
   formed-to zero p l x = absurd (omega (arith, l))
   formed-to (suc k) p l x = go (graph W p) refl (place-over ws n e ns m d v c p x) (formed-to k)
     where
-      go : (s : Shape) → graph W p ≡ s → ShapeOver s → ((q : ℕ) → q < k → PlacedIn W q → Formed (termTo (graph W) k q)) → Formed (termOfShape (termTo (graph W) k) s)
+      go : (s : Shape) → graph W p ≡ s → ShapeOver s → ((q : ℕ) → q < k → PlacedIn W q
+          → Formed (termTo (graph W) k q)) → Formed (termOfShape (termTo (graph W) k) s)
       go (variable u) s o ih = tt
       go (over h ps) s o ih = (
         subst (HeadOver h) (sym (count-terms (termTo (graph W) k) ps)) o,
@@ -101,6 +102,7 @@ module _ (W : Lent) (c : CheckedLent W) where
 
     pub sorts-extend : (t : ℕ → Tree) → (ρ : ℕ → Tree) × (Respects (graph W) B (λ u. termOf (ρ u)) × ((u : ℕ) → binding B u ≡ none → ρ u ≡ t u))
     sorts-extend t =
-        let s = solution (graph W) 3072 (lower ws n e ns m d v c) v (scoped ws n e ns m d v c) deep (deep-enough ws n e ns m d v c) B (b .numbered) (λ u. termOf (t u)) in
+        let s = solution (graph W) 3072 (lower ws n e ns m d v c) v (scoped ws n e ns m d v c) deep
+        (deep-enough ws n e ns m d v c) B (b .numbered) (λ u. termOf (t u)) in
         let r = variable-is-sort t (s .0) (s .1 .0) (s .1 .1) in
         (λ u. r u .0, (subst (Respects (graph W) B) (λ i u. r u .1 i) (s .1 .0), λ u i. term-injective (r u .0) (t u) (sym (r u .1) ∙ s .1 .1 u i)))

@@ -33,7 +33,8 @@ any-absent shape f q _ (later p ps o) e = go (f p) e (any-absent shape f q ps o)
     go present e k = no-confusion (cc)
     go unknown e k = no-confusion (cc)
 
-any-present : (shape : ℕ → Shape) (f : ℕ → Occurs) → ((p : ℕ) → f p ≡ unknown → ⊥) → (q : ℕ) (ps : List ℕ) → One q ps → f q ≡ present → occursAny shape f ps ≡ present
+any-present : (shape : ℕ → Shape) (f : ℕ → Occurs) → ((p : ℕ) → f p ≡ unknown → ⊥) → (q : ℕ) (ps : List ℕ) → One q ps
+    → f q ≡ present → occursAny shape f ps ≡ present
 any-present shape f known q _ (first ps) e = rw e
 any-present shape f known q _ (later p ps o) e = go (f p) refl (any-present shape f known q ps o e)
   where
@@ -42,7 +43,8 @@ any-present shape f known q _ (later p ps o) e = go (f p) refl (any-present shap
     go present i k = refl
     go unknown i k = absurd (known p i)
 
-module _ (shape : ℕ → Shape) (K : ℕ) (lower : Lower shape K) (n : ℕ) (scoped : (p v : ℕ) → shape p ≡ variable v → v < n) (w : ℕ) (deep : suc n * suc K + K < w) (B : Binds) (N : Numbering shape n B) where
+module _ (shape : ℕ → Shape) (K : ℕ) (lower : Lower shape K) (n : ℕ) (scoped : (p v : ℕ) → shape p ≡ variable v
+    → v < n) (w : ℕ) (deep : suc n * suc K + K < w) (B : Binds) (N : Numbering shape n B) where
   abbrev ranked : Ranked shape w B
   ranked = numbered-ranked shape K lower n B N w deep
 

@@ -12,4 +12,5 @@ binds-name-places W B b u q e = bound-is-place (W .lengths .sorts) (W .lengths .
 
 pub checked-binds-grown : (W W′ : Lent) (B : Binds) → CheckedLent W → CheckedBinds W B → Grows W W′ → CheckedBinds W′ B
 checked-binds-grown W W′ B c b g =
-    subst (λ v. BindsChecked (listsOf (W′ .sorts) (W′ .lengths .sorts) (W′ .nodes) (W′ .lengths .nodes)) v B) (sym (g .variables)) (binds-grown W c W′ g B (binds-name-places W B b) b)
+    subst (λ v. BindsChecked (listsOf (W′ .sorts) (W′ .lengths .sorts) (W′ .nodes) (W′ .lengths .nodes)) v B)
+    (sym (g .variables)) (binds-grown W c W′ g B (binds-name-places W B b) b)

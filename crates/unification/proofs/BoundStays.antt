@@ -11,7 +11,10 @@ use lib.Seq.{getD-set-other}
 use Rattle.unification.specs.Term.{Shape, variable, over, sameHead}
 use Rattle.resolved_sort.proofs.Reached.{no-confusion}
 use Rattle.unification.specs.Nodes.{isSort, Binds, binding}
-use Rattle.unification.specs.Unify.{Unifies, yes-with, no-way, too-deep, and-then, Occurs, absent, present, unknown, follow, occurs, bindUnless, unifyAll, unifyHeads, unifyVariables, unifyShapes, unifyApart, unifyEnds, unifyFollowed, unifyTo, unify, deep, deeper}
+use Rattle.unification.specs.Unify.{Unifies, yes-with, no-way, too-deep, and-then, Occurs, absent, present}
+use Rattle.unification.specs.Unify.{unknown, follow, occurs, bindUnless, unifyAll, unifyHeads, unifyVariables}
+use Rattle.unification.specs.Unify.{unifyShapes, unifyApart, unifyEnds, unifyFollowed, unifyTo, unify, deep}
+use Rattle.unification.specs.Unify.{deeper}
 use Rattle.unification.proofs.Follow.{follow-end}
 use Rattle.unification.specs.Growing.{BindsExtend}
 

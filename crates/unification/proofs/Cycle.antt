@@ -15,7 +15,9 @@ use Rattle.resolved_sort.proofs.Numbers.{true-not-false}
 use Rattle.unification.specs.Term.{Shape, variable, over}
 use Rattle.unification.specs.Nodes.{nodeAt, nodeShape, isPlace, shapeAt, Binds, binding}
 use Rattle.unification.specs.NodeChecks.{bindingsFine}
-use Rattle.unification.specs.Acyclic.{One, first, later, Reaches, here, inside, beyond, Stands, at, within, placeSettled, allSettled, shapeSettled, nodesSettled, bindingSettled, rounds, allTrue, acyclic, Cyclic}
+use Rattle.unification.specs.Acyclic.{One, first, later, Reaches, here, inside, beyond, Stands, at, within}
+use Rattle.unification.specs.Acyclic.{placeSettled, allSettled, shapeSettled, nodesSettled, bindingSettled}
+use Rattle.unification.specs.Acyclic.{rounds, allTrue, acyclic, Cyclic}
 use Rattle.unification.specs.Checked.{ListsFine, listsOf}
 use Rattle.unification.proofs.Numbering.{stands-scoped}
 use Rattle.unification.proofs.Places.{place-below, place-longer, bound-is-place}
@@ -120,14 +122,16 @@ module _ (ws : List ℕ) (n e : ℕ) (ns : List ℕ) (m d v : ℕ) (c : ListsFin
   open-stands k zero p l f o = absurd (omega (arith, l))
   open-stands k (suc w) p l f o = go (place ws n ns m p) (open-stands k w)
     where
-      node : (i : ℕ) → i < m → p ≡ maxSorts + i → (s : Shape) → shape p ≡ s → nodeShape ns (nodeAt ns i) ≡ s → shapeSettled (rounds ns m B k) (nodesSettled ns (rounds ns m B k) i) s ≡ false
+      node : (i : ℕ) → i < m → p ≡ maxSorts + i → (s : Shape) → shape p ≡ s → nodeShape ns (nodeAt ns i) ≡ s
+          → shapeSettled (rounds ns m B k) (nodesSettled ns (rounds ns m B k) i) s ≡ false
           → OpenBelow k w → Open k p
       node i j x (variable u) g y z ih = (u, at p g, z)
       node i j x (over h ps) g y z ih =
           let r = one-open (nodesSettled ns (rounds ns m B k) i) ps z in
           let a = node-parts ns d n v i (nodeAt ns i) (node-parts-fine ws n e ns m d v c i j) (r .0) h ps y (r .1) in
           let b = place-below n i (r .0) (c .sorts) a in
-          let t = ih (r .0) (omega (arith, b, x, l)) (place-longer n n i m (r .0) (omega arith) (omega (arith, j)) a) (sym (settled-longer ns (rounds ns m B k) n m i (r .0) (omega (arith, j)) a) ∙ r .2) in
+          let t = ih (r .0) (omega (arith, b, x, l)) (place-longer n n i m (r .0) (omega arith) (omega (arith, j)) a)
+          (sym (settled-longer ns (rounds ns m B k) n m i (r .0) (omega (arith, j)) a) ∙ r .2) in
           (t .0, within p (r .0) h ps g (r .1) (t .1), t .2)
 
       go : Place ws n ns m p → OpenBelow k w → Open k p

@@ -12,13 +12,15 @@ use Rattle.unification.specs.Solutions.{Respects, Equates, Robinson, say
 use Rattle.unification.proofs.Theorem.{unify-is-robinson}
 
 module _ (shape shape′ : ℕ → Shape) (B : Binds) (l r : ℕ) (B′ : Binds) (l′ r′ : ℕ) where
-  same-solutions : SameProblem shape shape′ B l r B′ l′ r′ → (σ : ℕ → Term) → (Respects shape B σ × Equates shape σ l r) ↔ (Respects shape′ B′ σ × Equates shape′ σ l′ r′)
+  same-solutions : SameProblem shape shape′ B l r B′ l′ r′ → (σ : ℕ → Term)
+      → (Respects shape B σ × Equates shape σ l r) ↔ (Respects shape′ B′ σ × Equates shape′ σ l′ r′)
   same-solutions s σ = (
     λ h. (s .respects σ .0 (h .0), s .equates σ (h .0) .0 (h .1)),
     λ h. let b = s .respects σ .1 (h .0) in (b, s .equates σ b .1 (h .1)),
   )
 
-  pub same-answer : SameProblem shape shape′ B l r B′ l′ r′ → (a a′ : Unifies) → Robinson shape B l r a → Robinson shape′ B′ l′ r′ a′ → SameAnswer shape shape′ a a′
+  pub same-answer : SameProblem shape shape′ B l r B′ l′ r′ → (a a′ : Unifies) → Robinson shape B l r a
+      → Robinson shape′ B′ l′ r′ a′ → SameAnswer shape shape′ a a′
   same-answer s _ _ (says-no n) (says-no n′) = both-no
   same-answer s _ _ (says-no n) (says-yes C′ to′ from′ a′ ex′) =
       let h = same-solutions s (ex′ var .0) .1 (to′ (ex′ var .0) (ex′ var .1 .0)) in
@@ -36,7 +38,8 @@ module _ (shape shape′ : ℕ → Shape) (B : Binds) (l r : ℕ) (B′ : Binds)
 -- The same for two calls of unify, each on lists and bindings that passed their checks.
 module _
     (ws : List ℕ) (n e : ℕ) (ns : List ℕ) (m d v : ℕ) (c : NodesChecked ws n e ns m d v) (B : Binds) (b : BindsChecked (listsOf ws n ns m) v B)
-    (ws′ : List ℕ) (n′ e′ : ℕ) (ns′ : List ℕ) (m′ d′ v′ : ℕ) (c′ : NodesChecked ws′ n′ e′ ns′ m′ d′ v′) (B′ : Binds) (b′ : BindsChecked (listsOf ws′ n′ ns′ m′) v′ B′) where
+    (ws′ : List ℕ) (n′ e′ : ℕ) (ns′ : List ℕ) (m′ d′ v′ : ℕ) (c′ : NodesChecked ws′ n′ e′ ns′ m′ d′ v′) (B′ : Binds)
+    (b′ : BindsChecked (listsOf ws′ n′ ns′ m′) v′ B′) where
   abbrev shape : ℕ → Shape
   shape = shapeAt (listsOf ws n ns m)
 
@@ -45,4 +48,5 @@ module _
 
   pub unify-same-answer : (l r l′ r′ : ℕ) → SameProblem shape shape′ B l r B′ l′ r′ → SameAnswer shape shape′ (unify shape B l r) (unify shape′ B′ l′ r′)
   unify-same-answer l r l′ r′ s =
-      same-answer shape shape′ B l r B′ l′ r′ s (unify shape B l r) (unify shape′ B′ l′ r′) (unify-is-robinson ws n e ns m d v c B b l r) (unify-is-robinson ws′ n′ e′ ns′ m′ d′ v′ c′ B′ b′ l′ r′)
+      same-answer shape shape′ B l r B′ l′ r′ s (unify shape B l r) (unify shape′ B′ l′ r′) (unify-is-robinson ws n e
+      ns m d v c B b l r) (unify-is-robinson ws′ n′ e′ ns′ m′ d′ v′ c′ B′ b′ l′ r′)

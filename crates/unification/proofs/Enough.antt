@@ -10,7 +10,8 @@ use lib.Dec.{eqb}
 use Rattle.resolved_sort.proofs.Reached.{no-confusion}
 use Rattle.unification.specs.Term.{Term, app, Shape, variable, over}
 use Rattle.unification.specs.Nodes.{Binds, binding}
-use Rattle.unification.specs.Unify.{Occurs, unknown, absent, present, or-else, ofTest, followBound, followAt, follow, occursAny, occursBound, occursAt, occurs}
+use Rattle.unification.specs.Unify.{Occurs, unknown, absent, present, or-else, ofTest, followBound, followAt}
+use Rattle.unification.specs.Unify.{follow, occursAny, occursBound, occursAt, occurs}
 use Rattle.unification.specs.Solutions.{valueBound, valueAt, valueTo}
 use Rattle.unification.specs.Exact.{shapeVal, Model}
 use Rattle.unification.proofs.Rank.{highest, rank, Ranked, rank-var, rank-over, one-highest}
@@ -41,7 +42,8 @@ module _ (shape : ℕ → Shape) (w : ℕ) (B : Binds) (A : Ranked shape w B) wh
 
   -- the end of a place has no higher rank
   pub end-no-higher : (k p q : ℕ) → follow shape k B p ≡ some q → rank shape w B q ≤ rank shape w B p
-  end-no-higher = follow-holds shape B (λ p q. rank shape w B q ≤ rank shape w B p) (λ p i. omega arith) (λ p v r q s b h. omega (arith, h, rank-var shape w B A p v r s b))
+  end-no-higher = follow-holds shape B (λ p q. rank shape w B q ≤ rank shape w B p) (λ p i. omega arith)
+      (λ p v r q s b h. omega (arith, h, rank-var shape w B A p v r s b))
 
   follow-stable : (k p : ℕ) → rank shape w B p < k → follow shape (suc k) B p ≡ follow shape k B p
   unfolding follow
@@ -62,7 +64,8 @@ module _ (shape : ℕ → Shape) (w : ℕ) (B : Binds) (A : Ranked shape w B) wh
   unfolding follow
   follow-eq p = sym (follow-stable w p (A .short p))
 
-  any-known : (f : ℕ → Occurs) (k : ℕ) → ((q : ℕ) → rank shape w B q < k → f q ≡ unknown → ⊥) → (ps : List ℕ) → highest (rank shape w B) ps < suc k → occursAny shape f ps ≡ unknown → ⊥
+  any-known : (f : ℕ → Occurs) (k : ℕ) → ((q : ℕ) → rank shape w B q < k → f q ≡ unknown → ⊥) → (ps : List ℕ)
+      → highest (rank shape w B) ps < suc k → occursAny shape f ps ≡ unknown → ⊥
   any-known f k ih [] lt e = no-confusion (cc)
   any-known f k ih (p ∷ ps) lt e = go (f p) refl e (any-known f k ih ps (omega arith))
     where
@@ -85,7 +88,8 @@ module _ (shape : ℕ → Shape) (w : ℕ) (B : Binds) (A : Ranked shape w B) wh
       bound none u s l e ih = test (eqb v u) e
       bound (some q) u s l e ih = let r = rank-var shape w B A p u q s l in ih q (omega arith) e
 
-      go : (s : Shape) → shape p ≡ s → occursAt shape s B v (occurs shape k B v) ≡ unknown → ((q : ℕ) → rank shape w B q < k → occurs shape k B v q ≡ unknown → ⊥) → ⊥
+      go : (s : Shape) → shape p ≡ s → occursAt shape s B v (occurs shape k B v) ≡ unknown
+          → ((q : ℕ) → rank shape w B q < k → occurs shape k B v q ≡ unknown → ⊥) → ⊥
       go (variable u) s e ih = bound (binding B u) u s refl e ih
       go (over h ps) s e ih = let r = rank-over shape w B A p h ps s in any-known (occurs shape k B v) k ih ps (omega arith) e
 
@@ -95,7 +99,8 @@ module _ (shape : ℕ → Shape) (w : ℕ) (B : Binds) (A : Ranked shape w B) wh
   occurs-stable v zero p lt = absurd (omega arith)
   occurs-stable v (suc k) p lt = go (shape p) refl (occurs-stable v k)
     where
-      bound : (o : Option ℕ) (u : ℕ) → shape p ≡ variable u → binding B u ≡ o → ((q : ℕ) → rank shape w B q < k → occurs shape (suc k) B v q ≡ occurs shape k B v q)
+      bound : (o : Option ℕ) (u : ℕ) → shape p ≡ variable u → binding B u ≡ o → ((q : ℕ) → rank shape w B q < k
+          → occurs shape (suc k) B v q ≡ occurs shape k B v q)
           → occursBound shape o v u (occurs shape (suc k) B v) ≡ occursBound shape o v u (occurs shape k B v)
       bound none u s l ih = refl
       bound (some q) u s l ih = let e = rank-var shape w B A p u q s l in ih q (omega arith)
@@ -103,7 +108,9 @@ module _ (shape : ℕ → Shape) (w : ℕ) (B : Binds) (A : Ranked shape w B) wh
       go : (s : Shape) → shape p ≡ s → ((q : ℕ) → rank shape w B q < k → occurs shape (suc k) B v q ≡ occurs shape k B v q)
           → occursAt shape s B v (occurs shape (suc k) B v) ≡ occursAt shape s B v (occurs shape k B v)
       go (variable u) s ih = bound (binding B u) u s refl ih
-      go (over h ps) s ih = let e = rank-over shape w B A p h ps s in occursAny-agree shape shape (occurs shape (suc k) B v) (occurs shape k B v) ps (λ q o. ih q (omega (arith, e, lt, one-highest (rank shape w B) ps q o)))
+      go (over h ps) s ih = let e = rank-over shape w B A p h ps s in occursAny-agree shape shape
+          (occurs shape (suc k) B v) (occurs shape k B v) ps
+          (λ q o. ih q (omega (arith, e, lt, one-highest (rank shape w B) ps q o)))
 
   pub occurs-eq : (v p : ℕ) → occurs shape w B v p ≡ occursAt shape (shape p) B v (occurs shape w B v)
   unfolding occurs
@@ -114,14 +121,18 @@ module _ (shape : ℕ → Shape) (w : ℕ) (B : Binds) (A : Ranked shape w B) wh
   value-stable d zero p lt = absurd (omega arith)
   value-stable d (suc k) p lt = go (shape p) refl (value-stable d k)
     where
-      bound : (o : Option ℕ) (v : ℕ) → shape p ≡ variable v → binding B v ≡ o → ((q : ℕ) → rank shape w B q < k → valueTo shape B d (suc k) q ≡ valueTo shape B d k q)
+      bound : (o : Option ℕ) (v : ℕ) → shape p ≡ variable v → binding B v ≡ o → ((q : ℕ) → rank shape w B q < k
+          → valueTo shape B d (suc k) q ≡ valueTo shape B d k q)
           → valueBound d v (valueTo shape B d (suc k)) o ≡ valueBound d v (valueTo shape B d k) o
       bound none v s l ih = refl
       bound (some q) v s l ih = let e = rank-var shape w B A p v q s l in ih q (omega arith)
 
-      go : (s : Shape) → shape p ≡ s → ((q : ℕ) → rank shape w B q < k → valueTo shape B d (suc k) q ≡ valueTo shape B d k q) → valueAt B d (valueTo shape B d (suc k)) s ≡ valueAt B d (valueTo shape B d k) s
+      go : (s : Shape) → shape p ≡ s → ((q : ℕ) → rank shape w B q < k → valueTo shape B d (suc k) q ≡ valueTo shape B
+          d k q) → valueAt B d (valueTo shape B d (suc k)) s ≡ valueAt B d (valueTo shape B d k) s
       go (variable v) s ih = bound (binding B v) v s refl ih
-      go (over h ps) s ih = let e = rank-over shape w B A p h ps s in ap (app h) (termsAt-agree (valueTo shape B d (suc k)) (valueTo shape B d k) ps (λ q o. ih q (omega (arith, e, lt, one-highest (rank shape w B) ps q o))))
+      go (over h ps) s ih = let e = rank-over shape w B A p h ps s in ap (app h)
+          (termsAt-agree (valueTo shape B d (suc k)) (valueTo shape B d k) ps
+          (λ q o. ih q (omega (arith, e, lt, one-highest (rank shape w B) ps q o))))
 
   -- what a place stands for, by its shape
   pub value-eq : (d : ℕ → Term) (p : ℕ) → valueTo shape B d w p ≡ valueAt B d (valueTo shape B d w) (shape p)

@@ -12,7 +12,8 @@ use Rattle.unification.specs.Term.{Shape, variable, over, sameHead}
 use Rattle.unification.specs.Nodes.{isSort, Binds}
 use Rattle.unification.specs.Acyclic.{Numbering, Lower}
 use Rattle.unification.specs.Trail.{frees}
-use Rattle.unification.specs.Unify.{Unifies, too-deep, no-way, yes-with, and-then, follow, unifyAll, unifyHeads, unifyShapes, unifyApart, unifyEnds, unifyFollowed, unifyTo}
+use Rattle.unification.specs.Unify.{Unifies, too-deep, no-way, yes-with, and-then, follow, unifyAll}
+use Rattle.unification.specs.Unify.{unifyHeads, unifyShapes, unifyApart, unifyEnds, unifyFollowed, unifyTo}
 use Rattle.unification.proofs.Rank.{highest, rank, Ranked, rank-over}
 use Rattle.unification.proofs.Numbering.{numbered-ranked}
 use Rattle.unification.proofs.Enough.{follow-some}
@@ -24,14 +25,16 @@ frees-few [] = omega arith
 frees-few (none ∷ B) = let a = frees-few B in omega arith
 frees-few (some q ∷ B) = let a = frees-few B in omega arith
 
-module _ (shape : ℕ → Shape) (K : ℕ) (lower : Lower shape K) (n : ℕ) (scoped : (p v : ℕ) → shape p ≡ variable v → v < n) (w : ℕ) (deep : suc n * suc K + K < w) where
+module _ (shape : ℕ → Shape) (K : ℕ) (lower : Lower shape K) (n : ℕ) (scoped : (p v : ℕ) → shape p ≡ variable v
+    → v < n) (w : ℕ) (deep : suc n * suc K + K < w) where
   abbrev ranks : (B : Binds) → Numbering shape n B → Ranked shape w B
   ranks B N = numbered-ranked shape K lower n B N w deep
 
   list-agrees : (f g : Binds → ℕ → ℕ → Unifies) → ((B : Binds) (a b : ℕ) → length B ≡ n → Numbering shape n B → BindsKept shape n B (f B a b))
       → (B : Binds) (m : ℕ)
       → ((C : Binds) → length C ≡ n → Next shape n B C → (a b : ℕ) → rank shape w B a < m → g C a b ≡ f C a b)
-      → (xs ys : List ℕ) (C : Binds) → length C ≡ n → Next shape n B C → highest (rank shape w B) xs < suc m → unifyAll shape g C xs ys ≡ unifyAll shape f C xs ys
+      → (xs ys : List ℕ) (C : Binds) → length C ≡ n → Next shape n B C → highest (rank shape w B) xs < suc m
+      → unifyAll shape g C xs ys ≡ unifyAll shape f C xs ys
   list-agrees f g kept B m ih [] [] C len N lt = refl
   list-agrees f g kept B m ih [] (y ∷ ys) C len N lt = refl
   list-agrees f g kept B m ih (x ∷ xs) [] C len N lt = refl
@@ -45,7 +48,8 @@ module _ (shape : ℕ → Shape) (K : ℕ) (lower : Lower shape K) (n : ℕ) (sc
       go no-way K t = refl
       go (yes-with D) K t = t D (K .long ∙ len) (next-trans shape n B C D N K) (omega arith)
 
-  pub unify-agrees : (k m : ℕ) (B : Binds) (l r : ℕ) → length B ≡ n → Numbering shape n B → frees B * w + rank shape w B l < k → frees B * w + rank shape w B l < m
+  pub unify-agrees : (k m : ℕ) (B : Binds) (l r : ℕ) → length B ≡ n → Numbering shape n B
+      → frees B * w + rank shape w B l < k → frees B * w + rank shape w B l < m
       → unifyTo shape w m B l r ≡ unifyTo shape w k B l r
   unfolding unifyTo
   unify-agrees zero m B l r len F lk lm = absurd (omega arith)
@@ -54,17 +58,22 @@ module _ (shape : ℕ → Shape) (K : ℕ) (lower : Lower shape K) (n : ℕ) (sc
       let A = ranks B F in
       let x = follow-some shape w B A w l (A .short l) in
       rw (x .1) (go (x .0) (x .2) (follow shape w B r)
-      (λ C lC N a b la. unify-agrees k m C a b lC (N .numbering) (depth-left shape K lower n scoped w deep B C F N a (rank shape w B l) k la lk) (depth-left shape K lower n scoped w deep B C F N a (rank shape w B l) m la lm)))
+      (λ C lC N a b la. unify-agrees k m C a b lC (N .numbering) (depth-left shape K lower n scoped w deep B C F N a
+      (rank shape w B l) k la lk) (depth-left shape K lower n scoped w deep B C F N a (rank shape w B l) m la
+      lm)))
     where
       heads : (b : Bool) (ps ps′ : List ℕ) → highest (rank shape w B) ps < suc (rank shape w B l)
-          → ((C : Binds) → length C ≡ n → Next shape n B C → (a b : ℕ) → rank shape w B a < rank shape w B l → unifyTo shape w m C a b ≡ unifyTo shape w k C a b)
+          → ((C : Binds) → length C ≡ n → Next shape n B C → (a b : ℕ) → rank shape w B a < rank shape w B l
+          → unifyTo shape w m C a b ≡ unifyTo shape w k C a b)
           → unifyHeads shape b (unifyTo shape w m) B ps ps′ ≡ unifyHeads shape b (unifyTo shape w k) B ps ps′
       heads true ps ps′ lt ih =
-          list-agrees (unifyTo shape w k) (unifyTo shape w m) (unify-kept shape K lower n scoped w deep k) B (rank shape w B l) ih ps ps′ B len (next-refl shape n B F) lt
+          list-agrees (unifyTo shape w k) (unifyTo shape w m) (unify-kept shape K lower n scoped w deep k) B
+          (rank shape w B l) ih ps ps′ B len (next-refl shape n B F) lt
       heads false ps ps′ lt ih = refl
 
       ends : (l′ r′ : ℕ) → rank shape w B l′ ≤ rank shape w B l → (s t : Shape) → shape l′ ≡ s
-          → ((C : Binds) → length C ≡ n → Next shape n B C → (a b : ℕ) → rank shape w B a < rank shape w B l → unifyTo shape w m C a b ≡ unifyTo shape w k C a b)
+          → ((C : Binds) → length C ≡ n → Next shape n B C → (a b : ℕ) → rank shape w B a < rank shape w B l
+          → unifyTo shape w m C a b ≡ unifyTo shape w k C a b)
           → unifyShapes shape w (unifyTo shape w m) B l′ s r′ t ≡ unifyShapes shape w (unifyTo shape w k) B l′ s r′ t
       ends l′ r′ le (variable v) (variable u) sl ih = refl
       ends l′ r′ le (variable v) (over h ps) sl ih = refl
@@ -74,7 +83,8 @@ module _ (shape : ℕ → Shape) (K : ℕ) (lower : Lower shape K) (n : ℕ) (sc
           heads (sameHead h h′) ps ps′ (omega arith) ih
 
       go : (l′ : ℕ) → rank shape w B l′ ≤ rank shape w B l → (o : Option ℕ)
-          → ((C : Binds) → length C ≡ n → Next shape n B C → (a b : ℕ) → rank shape w B a < rank shape w B l → unifyTo shape w m C a b ≡ unifyTo shape w k C a b)
+          → ((C : Binds) → length C ≡ n → Next shape n B C → (a b : ℕ) → rank shape w B a < rank shape w B l
+          → unifyTo shape w m C a b ≡ unifyTo shape w k C a b)
           → unifyFollowed shape w (unifyTo shape w m) B (some l′) o ≡ unifyFollowed shape w (unifyTo shape w k) B (some l′) o
       go l′ le none ih = refl
       go l′ le (some r′) ih = same-end (eqb l′ r′) (isSort l′ && isSort r′)

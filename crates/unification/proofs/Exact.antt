@@ -18,7 +18,10 @@ use Rattle.unification.specs.Nodes.{isSort, Binds, binding}
 use Rattle.unification.specs.Solutions.{termsAt}
 use Rattle.unification.proofs.Heads.{same-head-true, same-head-refl}
 use Rattle.unification.proofs.Follow.{follow-holds, follow-end}
-use Rattle.unification.specs.Unify.{Unifies, too-deep, no-way, yes-with, and-then, Occurs, unknown, absent, present, or-else, ofTest, follow, occursAny, occursBound, occursAt, occurs, bindUnless, unifyAll, unifyHeads, unifyVariables, unifyShapes, unifyApart, unifyEnds, unifyFollowed, unifyTo}
+use Rattle.unification.specs.Unify.{Unifies, too-deep, no-way, yes-with, and-then, Occurs, unknown, absent}
+use Rattle.unification.specs.Unify.{present, or-else, ofTest, follow, occursAny, occursBound, occursAt, occurs}
+use Rattle.unification.specs.Unify.{bindUnless, unifyAll, unifyHeads, unifyVariables, unifyShapes, unifyApart}
+use Rattle.unification.specs.Unify.{unifyEnds, unifyFollowed, unifyTo}
 use Rattle.unification.specs.Exact.{shapeVal, Model, Exact, Apart}
 
 unfoldable mutual
@@ -68,7 +71,8 @@ unfolding size
 occurs-any-size shape σ val v f ih [] e = no-confusion (cc)
 occurs-any-size shape σ val v f ih (p ∷ ps) e = go (f p) refl e (occurs-any-size shape σ val v f ih ps)
   where
-    go : (a : Occurs) → f p ≡ a → or-else a (occursAny shape f ps) ≡ present → (occursAny shape f ps ≡ present → size (σ v) ≤ sizes (termsAt val ps)) → size (σ v) ≤ size (val p) + sizes (termsAt val ps)
+    go : (a : Occurs) → f p ≡ a → or-else a (occursAny shape f ps) ≡ present → (occursAny shape f ps ≡ present
+        → size (σ v) ≤ sizes (termsAt val ps)) → size (σ v) ≤ size (val p) + sizes (termsAt val ps)
     go unknown fp e h = no-confusion (cc)
     go absent fp e h = let a = h e in omega arith
     go present fp e h = let a = ih p fp in omega arith
@@ -84,7 +88,8 @@ yes-of : (b : Bool) → ofTest b ≡ present → T b
 yes-of true e = tt
 yes-of false e = no-confusion (cc)
 
-occurs-size : (shape : ℕ → Shape) (B : Binds) (σ val : ℕ → Term) → Model shape B σ val → (k v p : ℕ) → occurs shape k B v p ≡ present → size (σ v) ≤ size (val p)
+occurs-size : (shape : ℕ → Shape) (B : Binds) (σ val : ℕ → Term) → Model shape B σ val → (k v p : ℕ)
+    → occurs shape k B v p ≡ present → size (σ v) ≤ size (val p)
 unfolding occurs
 occurs-size shape B σ val M zero v p e = no-confusion (cc)
 occurs-size shape B σ val M (suc k) v p e = go (shape p) refl e (λ q e′. occurs-size shape B σ val M k v q e′)
@@ -137,8 +142,11 @@ list-exact shape f n ih (x ∷ xs) (y ∷ ys) B len = go (f B x y) (ih B x y len
         → Exact shape B (λ val. termsAt val (x ∷ xs) ≡ termsAt val (y ∷ ys)) r
     then B′ h too-deep t = tt
     then B′ h no-way t = λ σ val M e. t σ val (h .2 σ val M (cc)) (cc)
-    then B′ h (yes-with B″) t =
-        (t .0 ∙ h .0, (λ σ val M. let m = t .1 σ val M in let m′ = h .1 σ val (m .0) in (m′ .0, cc (m .1, m′ .1))), λ σ val M e. t .2 σ val (h .2 σ val M (cc)) (cc))
+    then B′ h (yes-with B″) t = (
+      t .0 ∙ h .0,
+      (λ σ val M. let m = t .1 σ val M in let m′ = h .1 σ val (m .0) in (m′ .0, cc (m .1, m′ .1))),
+      λ σ val M e. t .2 σ val (h .2 σ val M (cc)) (cc),
+    )
 
     go : (r : Unifies) → Exact shape B (λ val. val x ≡ val y) r
         → ((B′ : Binds) → length B′ ≡ n → Exact shape B′ (λ val. termsAt val xs ≡ termsAt val ys) (unifyAll shape f B′ xs ys))
@@ -147,7 +155,8 @@ list-exact shape f n ih (x ∷ xs) (y ∷ ys) B len = go (f B x y) (ih B x y len
     go no-way h t = λ σ val M e. h σ val M (cc)
     go (yes-with B′) h t = then B′ h (unifyAll shape f B′ xs ys) (t B′ (h .0 ∙ len))
 
-bind-unless-exact : (shape : ℕ → Shape) (k : ℕ) (B : Binds) (v l r : ℕ) (h : Head) (ps : List ℕ) → v < length B → binding B v ≡ none → shape l ≡ variable v → shape r ≡ over h ps
+bind-unless-exact : (shape : ℕ → Shape) (k : ℕ) (B : Binds) (v l r : ℕ) (h : Head) (ps : List ℕ) → v < length B
+    → binding B v ≡ none → shape l ≡ variable v → shape r ≡ over h ps
     → Exact shape B (λ val. val l ≡ val r) (bindUnless shape (occurs shape k B v r) B v r)
 bind-unless-exact shape k B v l r h ps lt free sl sr = go (occurs shape k B v r) refl
   where
@@ -207,7 +216,8 @@ shapes-exact : (shape : ℕ → Shape) (k : ℕ) (f : Binds → ℕ → ℕ → 
     → ((v : ℕ) → shape l ≡ variable v → binding B v ≡ none) → ((v : ℕ) → shape r ≡ variable v → binding B v ≡ none)
     → Exact shape B (λ val. val l ≡ val r) (unifyShapes shape k f B l s r t)
 shapes-exact shape k f n scoped ih B len l r (variable v) (variable w) sl sr fl fr = variables-exact shape B v w l r (rw len (scoped l v sl)) (fl v sl) sl sr
-shapes-exact shape k f n scoped ih B len l r (variable v) (over h ps) sl sr fl fr = bind-unless-exact shape k B v l r h ps (rw len (scoped l v sl)) (fl v sl) sl sr
+shapes-exact shape k f n scoped ih B len l r (variable v) (over h ps) sl sr fl fr = bind-unless-exact shape k B v l r
+    h ps (rw len (scoped l v sl)) (fl v sl) sl sr
 shapes-exact shape k f n scoped ih B len l r (over h ps) (variable w) sl sr fl fr =
     exact-move shape B (λ val. val r ≡ val l) (λ val. val l ≡ val r) (λ σ val M e. sym e) (λ σ val M e. sym e) (bindUnless shape (occurs shape k B w l) B w l)
     (bind-unless-exact shape k B w r l h ps (rw len (scoped r w sr)) (fr w sr) sr sl)

@@ -48,7 +48,8 @@ unifies l r = unify (shapeAt lists) free l r
 
 -- from left to right
 answers : map (λ (p : ℕ × ℕ). unifies (p .0) (p .1))
-    ((3, 3) ∷ (3, 2) ∷ (1024, 3) ∷ (3, 1024) ∷ (1024, 1025) ∷ (1025, 1024) ∷ (1024, 1032) ∷ (1024, 1028) ∷ (1028, 6) ∷ (6, 1028) ∷ (1029, 7) ∷ (1033, 6) ∷ (1029, 1031) ∷ (1034, 1029)
+    ((3, 3) ∷ (3, 2) ∷ (1024, 3) ∷ (3, 1024) ∷ (1024, 1025) ∷ (1025, 1024) ∷ (1024, 1032) ∷ (1024, 1028) ∷ (1028, 6) ∷
+    (6, 1028) ∷ (1029, 7) ∷ (1033, 6) ∷ (1029, 1031) ∷ (1034, 1029)
     ∷ [])
     ≡ (yes-with free
     ∷ no-way
@@ -65,24 +66,32 @@ answers : map (λ (p : ℕ × ℕ). unifies (p .0) (p .1))
     ∷ yes-with (some 1025 ∷ none ∷ some 1025 ∷ none ∷ [])
     ∷ no-way
     ∷ [])
-unfolding unifies lists sorts nodes free row shapeAt Nodes.isPlace Nodes.sortShape Nodes.nodeShape Nodes.inferred Nodes.nodeEntriesOf Storage.resolved Storage.entriesOf unify Unify.unifyTo Unify.follow Unify.occurs Term.sameHead Term.kindHead Term.numberHead Storage.kindFlat Storage.partFlat Storage.kindOp
+unfolding unifies lists sorts nodes free row shapeAt Nodes.isPlace Nodes.sortShape Nodes.nodeShape Nodes.inferred
+    Nodes.nodeEntriesOf Storage.resolved Storage.entriesOf unify Unify.unifyTo Unify.follow Unify.occurs Term.sameHead
+    Term.kindHead Term.numberHead Storage.kindFlat Storage.partFlat Storage.kindOp
 answers = refl
 
 -- check 7 where nothing is bound; v0 is bound to List(List(v0)); to List(v0); v0 and v1 to each other's nodes; v0 to v1, v1 to v2 and v2 to a sort; v0
 -- to another node of its own
-bound : map (λ (b : Binds). Acyclic.acyclic nodes 11 b) (free ∷ (some 1030 ∷ none ∷ none ∷ none ∷ []) ∷ (some 1028 ∷ none ∷ none ∷ none ∷ []) ∷ (some 1025 ∷ some 1024 ∷ none ∷ none ∷ []) ∷ (some 1025 ∷ some 1026 ∷ some 7 ∷ none ∷ []) ∷ (some 1032 ∷ none ∷ none ∷ none ∷ []) ∷ [])
+bound : map (λ (b : Binds). Acyclic.acyclic nodes 11 b) (free ∷ (some 1030 ∷ none ∷ none ∷ none ∷ []) ∷
+    (some 1028 ∷ none ∷ none ∷ none ∷ []) ∷ (some 1025 ∷ some 1024 ∷ none ∷ none ∷ []) ∷ (some 1025 ∷ some 1026 ∷ some
+    7 ∷ none ∷ []) ∷ (some 1032 ∷ none ∷ none ∷ none ∷ []) ∷ [])
     ≡ true ∷ false ∷ false ∷ false ∷ true ∷ false ∷ []
-unfolding nodes free row Acyclic.acyclic Acyclic.allTrue Acyclic.rounds Acyclic.varsSettled Acyclic.nodesSettled Acyclic.allSettled Nodes.nodeShape Nodes.inferred Nodes.nodeEntriesOf
+unfolding nodes free row Acyclic.acyclic Acyclic.allTrue Acyclic.rounds Acyclic.varsSettled Acyclic.nodesSettled
+    Acyclic.allSettled Nodes.nodeShape Nodes.inferred Nodes.nodeEntriesOf
 bound = refl
 
 -- where v0 is bound to v1 and v3 to v2: ends are followed first, and what is bound to is the end
-followed : map (λ (p : ℕ × ℕ). unify (shapeAt lists) (some 1025 ∷ none ∷ none ∷ some 1026 ∷ []) (p .0) (p .1)) ((1027, 1024) ∷ (1024, 3) ∷ (1026, 1027) ∷ (1025, 1028) ∷ [])
+followed : map (λ (p : ℕ × ℕ). unify (shapeAt lists) (some 1025 ∷ none ∷ none ∷ some 1026 ∷ []) (p .0) (p .1))
+    ((1027, 1024) ∷ (1024, 3) ∷ (1026, 1027) ∷ (1025, 1028) ∷ [])
     ≡ (yes-with (some 1025 ∷ none ∷ some 1025 ∷ some 1026 ∷ [])
     ∷ yes-with (some 1025 ∷ some 3 ∷ none ∷ some 1026 ∷ [])
     ∷ yes-with (some 1025 ∷ none ∷ none ∷ some 1026 ∷ [])
     ∷ no-way
     ∷ [])
-unfolding lists sorts nodes row shapeAt Nodes.isPlace Nodes.sortShape Nodes.nodeShape Nodes.inferred Nodes.nodeEntriesOf Storage.resolved Storage.entriesOf unify Unify.unifyTo Unify.follow Unify.occurs Term.sameHead Term.kindHead Term.numberHead Storage.kindFlat Storage.partFlat Storage.kindOp
+unfolding lists sorts nodes row shapeAt Nodes.isPlace Nodes.sortShape Nodes.nodeShape Nodes.inferred
+    Nodes.nodeEntriesOf Storage.resolved Storage.entriesOf unify Unify.unifyTo Unify.follow Unify.occurs Term.sameHead
+    Term.kindHead Term.numberHead Storage.kindFlat Storage.partFlat Storage.kindOp
 followed = refl
 
 -- of the trail 1, 0, 2 the last two words undone: v0 and v2 are free, v1 and the word behind stay
@@ -123,9 +132,19 @@ no-kind : List ℕ
 no-kind = set full-nodes 16 5
 
 -- A yes binds and leaves the words behind. A no has bound v0 and v1 before it finds Nat for Bool, and gives them back.
-entry-answers : unifyEntry full-sorts 8 2 full-nodes 11 5 none-bound 4 1029 7 ∷ unifyEntry full-sorts 8 2 full-nodes 11 5 none-bound 4 6 1028 ∷ unifyEntry full-sorts 8 2 full-nodes 11 5 v2-to-nat 4 1029 7 ∷ []
+entry-answers : unifyEntry full-sorts 8 2 full-nodes 11 5 none-bound 4 1029 7 ∷ unifyEntry full-sorts 8 2 full-nodes
+    11 5 none-bound 4 6 1028 ∷ unifyEntry full-sorts 8 2 full-nodes 11 5 v2-to-nat 4 1029 7 ∷ []
     ≡ bindsLeft (3 ∷ 2 ∷ 1 ∷ 65535 ∷ 7 ∷ 9 ∷ []) Yes ∷ bindsLeft (3 ∷ 65535 ∷ 65535 ∷ 65535 ∷ 7 ∷ 9 ∷ []) Yes ∷ bindsLeft v2-to-nat No ∷ []
-unfolding full-sorts full-nodes none-bound v2-to-nat row sorts nodes unifyEntry UnifyEntry.bindsLeftBy UnifyEntry.bindingWords Nodes.bindsOf NodeChecks.unifyChecks Checks.firstFailing NodeChecks.nodesWithinLent NodeChecks.bindingsWithinLent NodeChecks.nodePartsFine NodeChecks.nodeKindFine NodeChecks.nodeFine NodeChecks.nodesFine NodeChecks.bindingsFine NodeChecks.nodeChecks NodeChecks.placeChecks Checks.allBelow Checks.withinLent Checks.fixedSix Checks.partsBelow Checks.rowFine Checks.rowsFine Checks.noTwoEqual Checks.atCeiling Acyclic.acyclic Acyclic.allTrue Acyclic.rounds Acyclic.varsSettled Acyclic.nodesSettled Acyclic.allSettled shapeAt Nodes.isPlace Nodes.sortShape Nodes.nodeShape Nodes.inferred Nodes.nodeEntriesOf Storage.resolved Storage.entriesOf Storage.trees Storage.treeOf Storage.lookAll Interning.look Interning.member Interning.distinct Tree.same Tree.family Tree.level Tree.familyOp Tree.levelOp unify Unify.unifyTo Unify.follow Unify.occurs Term.sameHead Term.kindHead Term.numberHead Storage.kindFlat Storage.partFlat Storage.kindOp
+unfolding full-sorts full-nodes none-bound v2-to-nat row sorts nodes unifyEntry UnifyEntry.bindsLeftBy
+    UnifyEntry.bindingWords Nodes.bindsOf NodeChecks.unifyChecks Checks.firstFailing NodeChecks.nodesWithinLent
+    NodeChecks.bindingsWithinLent NodeChecks.nodePartsFine NodeChecks.nodeKindFine NodeChecks.nodeFine
+    NodeChecks.nodesFine NodeChecks.bindingsFine NodeChecks.nodeChecks NodeChecks.placeChecks Checks.allBelow
+    Checks.withinLent Checks.fixedSix Checks.partsBelow Checks.rowFine Checks.rowsFine Checks.noTwoEqual
+    Checks.atCeiling Acyclic.acyclic Acyclic.allTrue Acyclic.rounds Acyclic.varsSettled Acyclic.nodesSettled
+    Acyclic.allSettled shapeAt Nodes.isPlace Nodes.sortShape Nodes.nodeShape Nodes.inferred Nodes.nodeEntriesOf
+    Storage.resolved Storage.entriesOf Storage.trees Storage.treeOf Storage.lookAll Interning.look Interning.member
+    Interning.distinct Tree.same Tree.family Tree.level Tree.familyOp Tree.levelOp unify Unify.unifyTo Unify.follow
+    Unify.occurs Term.sameHead Term.kindHead Term.numberHead Storage.kindFlat Storage.partFlat Storage.kindOp
 entry-answers = refl
 
 -- each refusal: 1 for each of the three lists, 2 to 6, 7, 12 for each place, 14 for each storage; the words are as given
@@ -157,7 +176,17 @@ refusals : unifyEntry full-sorts 1025 2 full-nodes 11 5 none-bound 4 3 6
     ∷ bindsLeft none-bound (Refused 14)
     ∷ bindsLeft none-bound (Refused 14)
     ∷ []
-unfolding full-sorts full-nodes none-bound v0-to-its-list v3-to-no-place two-pos own-part bool-twice no-kind row sorts nodes unifyEntry UnifyEntry.bindsLeftBy UnifyEntry.bindingWords Nodes.bindsOf NodeChecks.unifyChecks Checks.firstFailing NodeChecks.nodesWithinLent NodeChecks.bindingsWithinLent NodeChecks.nodePartsFine NodeChecks.nodeKindFine NodeChecks.nodeFine NodeChecks.nodesFine NodeChecks.bindingsFine NodeChecks.nodeChecks NodeChecks.placeChecks Checks.allBelow Checks.withinLent Checks.fixedSix Checks.partsBelow Checks.rowFine Checks.rowsFine Checks.noTwoEqual Checks.atCeiling Acyclic.acyclic Acyclic.allTrue Acyclic.rounds Acyclic.varsSettled Acyclic.nodesSettled Acyclic.allSettled shapeAt Nodes.isPlace Nodes.sortShape Nodes.nodeShape Nodes.inferred Nodes.nodeEntriesOf Storage.resolved Storage.entriesOf Storage.trees Storage.treeOf Storage.lookAll Interning.look Interning.member Interning.distinct Tree.same Tree.family Tree.level Tree.familyOp Tree.levelOp unify Unify.unifyTo Unify.follow Unify.occurs Term.sameHead Term.kindHead Term.numberHead Storage.kindFlat Storage.partFlat Storage.kindOp
+unfolding full-sorts full-nodes none-bound v0-to-its-list v3-to-no-place two-pos own-part bool-twice no-kind row sorts
+    nodes unifyEntry UnifyEntry.bindsLeftBy UnifyEntry.bindingWords Nodes.bindsOf NodeChecks.unifyChecks
+    Checks.firstFailing NodeChecks.nodesWithinLent NodeChecks.bindingsWithinLent NodeChecks.nodePartsFine
+    NodeChecks.nodeKindFine NodeChecks.nodeFine NodeChecks.nodesFine NodeChecks.bindingsFine NodeChecks.nodeChecks
+    NodeChecks.placeChecks Checks.allBelow Checks.withinLent Checks.fixedSix Checks.partsBelow Checks.rowFine
+    Checks.rowsFine Checks.noTwoEqual Checks.atCeiling Acyclic.acyclic Acyclic.allTrue Acyclic.rounds
+    Acyclic.varsSettled Acyclic.nodesSettled Acyclic.allSettled shapeAt Nodes.isPlace Nodes.sortShape Nodes.nodeShape
+    Nodes.inferred Nodes.nodeEntriesOf Storage.resolved Storage.entriesOf Storage.trees Storage.treeOf Storage.lookAll
+    Interning.look Interning.member Interning.distinct Tree.same Tree.family Tree.level Tree.familyOp Tree.levelOp
+    unify Unify.unifyTo Unify.follow Unify.occurs Term.sameHead Term.kindHead Term.numberHead Storage.kindFlat
+    Storage.partFlat Storage.kindOp
 refusals = refl
 
 -- two faults at once: the first check that fails
@@ -181,5 +210,15 @@ first-faults : unifyEntry two-pos 8 2 full-nodes 11 5 none-bound 513 3 6
     ∷ bindsLeft v0-to-its-list (Refused 7)
     ∷ bindsLeft none-bound (Refused 12)
     ∷ []
-unfolding full-sorts full-nodes none-bound v0-to-its-list v3-to-no-place two-pos own-part bool-twice no-kind row sorts nodes unifyEntry UnifyEntry.bindsLeftBy UnifyEntry.bindingWords Nodes.bindsOf NodeChecks.unifyChecks Checks.firstFailing NodeChecks.nodesWithinLent NodeChecks.bindingsWithinLent NodeChecks.nodePartsFine NodeChecks.nodeKindFine NodeChecks.nodeFine NodeChecks.nodesFine NodeChecks.bindingsFine NodeChecks.nodeChecks NodeChecks.placeChecks Checks.allBelow Checks.withinLent Checks.fixedSix Checks.partsBelow Checks.rowFine Checks.rowsFine Checks.noTwoEqual Checks.atCeiling Acyclic.acyclic Acyclic.allTrue Acyclic.rounds Acyclic.varsSettled Acyclic.nodesSettled Acyclic.allSettled shapeAt Nodes.isPlace Nodes.sortShape Nodes.nodeShape Nodes.inferred Nodes.nodeEntriesOf Storage.resolved Storage.entriesOf Storage.trees Storage.treeOf Storage.lookAll Interning.look Interning.member Interning.distinct Tree.same Tree.family Tree.level Tree.familyOp Tree.levelOp unify Unify.unifyTo Unify.follow Unify.occurs Term.sameHead Term.kindHead Term.numberHead Storage.kindFlat Storage.partFlat Storage.kindOp
+unfolding full-sorts full-nodes none-bound v0-to-its-list v3-to-no-place two-pos own-part bool-twice no-kind row sorts
+    nodes unifyEntry UnifyEntry.bindsLeftBy UnifyEntry.bindingWords Nodes.bindsOf NodeChecks.unifyChecks
+    Checks.firstFailing NodeChecks.nodesWithinLent NodeChecks.bindingsWithinLent NodeChecks.nodePartsFine
+    NodeChecks.nodeKindFine NodeChecks.nodeFine NodeChecks.nodesFine NodeChecks.bindingsFine NodeChecks.nodeChecks
+    NodeChecks.placeChecks Checks.allBelow Checks.withinLent Checks.fixedSix Checks.partsBelow Checks.rowFine
+    Checks.rowsFine Checks.noTwoEqual Checks.atCeiling Acyclic.acyclic Acyclic.allTrue Acyclic.rounds
+    Acyclic.varsSettled Acyclic.nodesSettled Acyclic.allSettled shapeAt Nodes.isPlace Nodes.sortShape Nodes.nodeShape
+    Nodes.inferred Nodes.nodeEntriesOf Storage.resolved Storage.entriesOf Storage.trees Storage.treeOf Storage.lookAll
+    Interning.look Interning.member Interning.distinct Tree.same Tree.family Tree.level Tree.familyOp Tree.levelOp
+    unify Unify.unifyTo Unify.follow Unify.occurs Term.sameHead Term.kindHead Term.numberHead Storage.kindFlat
+    Storage.partFlat Storage.kindOp
 first-faults = refl

@@ -19,7 +19,8 @@ use Rattle.unification.specs.Acyclic.{One, Lower}
 use Rattle.unification.specs.Checked.{ListsFine, listsOf}
 use Rattle.unification.proofs.Parts.{none-of}
 use Rattle.unification.proofs.Places.{sort-is-place, place-below, place-longer}
-use Rattle.unification.proofs.Rows.{sort-parts, node-parts, node-variable, sort-no-variable, ShapeFormed, sort-formed, node-formed, node-fine-parts, nodes-fine-each}
+use Rattle.unification.proofs.Rows.{sort-parts, node-parts, node-variable, sort-no-variable, ShapeFormed}
+use Rattle.unification.proofs.Rows.{sort-formed, node-formed, node-fine-parts, nodes-fine-each}
 
 -- what stands at a place: a sort of the list, a node of the list, or nothing
 module _ (ws : List ℕ) (n : ℕ) (ns : List ℕ) (m : ℕ) where
@@ -82,7 +83,8 @@ module _ (ws : List ℕ) (n e : ℕ) (ns : List ℕ) (m d v : ℕ) (c : ListsFin
     where
       go : Place ws n ns m p → isPlace n m q ≡ true
       go (is-sort a l f) = sort-is-place n m q (c .sorts) (omega (arith, l, sort-parts ws e p (rowAt ws p) (sort-parts-fine p l) q h ps (sym f ∙ s) o))
-      go (is-node i l x f) = place-longer n n i m q (omega arith) (omega (arith, l)) (node-parts ns d n v i (nodeAt ns i) (node-parts-fine i l) q h ps (sym f ∙ s) o)
+      go (is-node i l x f) = place-longer n n i m q (omega arith) (omega (arith, l)) (node-parts ns d n v i
+          (nodeAt ns i) (node-parts-fine i l) q h ps (sym f ∙ s) o)
       go (is-stray z f) = absurd (true-not-false (isPlace n m p) k z)
 
   pub place-formed : (p : ℕ) → isPlace n m p ≡ true → ShapeFormed (shapeAt L p)

@@ -22,7 +22,9 @@ module _ (shape : ℕ → Shape) (B : Binds) where
       here : IsEnd p → some p ≡ some q → R p q
       here i e = let z : p ≡ q = cc in subst (R p) z (end p i)
 
-      bound : (o : Option ℕ) (v : ℕ) → shape p ≡ variable v → binding B v ≡ o → followBound shape o p (follow shape k B) ≡ some q → ((r : ℕ) → follow shape k B r ≡ some q → R r q) → R p q
+      bound : (o : Option ℕ) (v : ℕ) → shape p ≡ variable v → binding B v ≡ o
+          → followBound shape o p (follow shape k B) ≡ some q → ((r : ℕ) → follow shape k B r ≡ some q → R r q)
+          → R p q
       bound none v s b e ih = here (λ u t. let z : v ≡ u = cc in ap (binding B) (sym z) ∙ b) e
       bound (some r) v s b e ih = back p v r q s b (ih r e)
 

@@ -14,7 +14,8 @@ use Rattle.resolved_sort.proofs.Below.{each-below}
 use Rattle.unification.specs.declared.InferSort.{InferSort}
 use Rattle.unification.specs.declared.InferSort.the-variants.{Generic, Function, Var}
 use Rattle.unification.specs.Term.{Head, functionHead, Term, var, over}
-use Rattle.unification.specs.Nodes.{nodeKindAt, nodeEntryAt, nodeEntriesOf, inferred, nodeAt, sortShape, nodeShape, isSort, isPlace, shapeAt, Binds, bindsOf}
+use Rattle.unification.specs.Nodes.{nodeKindAt, nodeEntryAt, nodeEntriesOf, inferred, nodeAt, sortShape}
+use Rattle.unification.specs.Nodes.{nodeShape, isSort, isPlace, shapeAt, Binds, bindsOf}
 use Rattle.unification.specs.Unify.{unify, deep, deeper}
 use Rattle.unification.specs.Acyclic.{One}
 use Rattle.unification.specs.NodeChecks.{nodePartsFine, nodeKindFine, nodeFine, nodesFine}
@@ -34,7 +35,11 @@ pub rows-same : (W W′ : Lent) → W .lengths .sorts ≤ W′ .lengths .sorts �
     → ((i : ℕ) → i < W .lengths .nodes → nodeShape (W′ .nodes) (nodeAt (W′ .nodes) i) ≡ nodeShape (W .nodes) (nodeAt (W .nodes) i))
     → (p : ℕ) → PlacedIn W p → graph W′ p ≡ graph W p
 unfolding shapeAt
-rows-same W W′ l k a b p e = rw (e, place-longer (W .lengths .sorts) (W′ .lengths .sorts) (W .lengths .nodes) (W′ .lengths .nodes) p l k e) (go (isSort p) refl e)
+rows-same W W′ l k a b p e = rw (
+  e,
+  place-longer (W .lengths .sorts) (W′ .lengths .sorts) (W .lengths .nodes)
+      (W′ .lengths .nodes) p l k e,
+) (go (isSort p) refl e)
   where
     go : (s : Bool) → isSort p ≡ s → isPlace (W .lengths .sorts) (W .lengths .nodes) p ≡ true
         → cond s (sortShape (W′ .sorts) (rowAt (W′ .sorts) p)) (nodeShape (W′ .nodes) (nodeAt (W′ .nodes) (p - maxSorts)))
@@ -42,7 +47,8 @@ rows-same W W′ l k a b p e = rw (e, place-longer (W .lengths .sorts) (W′ .le
     go true s e = a p (sort-below (W .lengths .sorts) (W .lengths .nodes) p (ltb-true p maxSorts s) e)
     go false s e = b (p - maxSorts) (node-below (W .lengths .sorts) (W .lengths .nodes) p (ltb-false p maxSorts s) e)
 
-node-entries-agree : (ns ns′ : List ℕ) (s c : ℕ) → ((j : ℕ) → j < c → nodeEntryAt ns′ (s + j) ≡ nodeEntryAt ns (s + j)) → nodeEntriesOf ns′ s c ≡ nodeEntriesOf ns s c
+node-entries-agree : (ns ns′ : List ℕ) (s c : ℕ) → ((j : ℕ) → j < c → nodeEntryAt ns′ (s + j) ≡ nodeEntryAt ns
+    (s + j)) → nodeEntriesOf ns′ s c ≡ nodeEntriesOf ns s c
 unfolding nodeEntriesOf
 node-entries-agree ns ns′ s zero h = refl
 node-entries-agree ns ns′ s (suc c) h =
@@ -174,7 +180,8 @@ module _ (W : Lent) (c : CheckedLent W) where
         nodes = omega (arith, g .nodes, h .nodes);
         arguments = omega (arith, g .arguments, h .arguments);
         variables = h .variables ∙ g .variables;
-        sort-words = agrees-trans (W .sorts) (W′ .sorts) (W″ .sorts) n (W′ .lengths .sorts) (W .lengths .entries) (W′ .lengths .entries) (g .sorts) (g .entries) (g .sort-words) (h .sort-words);
+        sort-words = agrees-trans (W .sorts) (W′ .sorts) (W″ .sorts) n (W′ .lengths .sorts) (W .lengths .entries)
+            (W′ .lengths .entries) (g .sorts) (g .entries) (g .sort-words) (h .sort-words);
         node-words =
             record {
               rows = λ j l. h .node-words .rows j (omega (arith, l, g .nodes)) ∙ g .node-words .rows j l;
@@ -212,7 +219,9 @@ given-back-grows W W′ c g =
             fine =
                 subst (λ v. nodesFine (W′ .nodes) (W .lengths .nodes) (W .lengths .arguments) (W′ .lengths .sorts) v ≡ true) (sym (g .variables))
                 (each-below (W .lengths .nodes) (nodeFine (W′ .nodes) (W .lengths .arguments) (W′ .lengths .sorts) (W .lengths .variables))
-                (node-fine-longer (W .nodes) (W′ .nodes) (W .lengths .nodes) (W .lengths .arguments) (g .node-words) (W .lengths .sorts) (W .lengths .variables) (c .fine) (W .lengths .arguments) (W′ .lengths .sorts) (omega arith) (g .sorts)));
+                (node-fine-longer (W .nodes) (W′ .nodes) (W .lengths .nodes) (W .lengths .arguments) (g .node-words)
+                (W .lengths .sorts) (W .lengths .variables) (c .fine) (W .lengths .arguments) (W′ .lengths .sorts)
+                (omega arith) (g .sorts)));
           };
       sorts = g .sorts;
       entries = g .entries;
@@ -223,7 +232,12 @@ given-back-grows W W′ c g =
       node-words = g .node-words;
       as-long = g .as-long;
       same =
-          λ p x. (rw (place-longer (W .lengths .sorts) (W′ .lengths .sorts) (W .lengths .nodes) (W′ .lengths .nodes) p (g .sorts) (g .nodes) x, place-longer (W .lengths .sorts) (W′ .lengths .sorts) (W .lengths .nodes) (W .lengths .nodes) p (g .sorts) (omega arith) x) refl) ∙ g .same p x;
+          λ p x. (rw (
+            place-longer (W .lengths .sorts) (W′ .lengths .sorts) (W .lengths .nodes) (W′ .lengths .nodes) p
+                (g .sorts) (g .nodes) x,
+            place-longer (W .lengths .sorts) (W′ .lengths .sorts) (W .lengths .nodes)
+                (W .lengths .nodes) p (g .sorts) (omega arith) x,
+          ) refl) ∙ g .same p x;
       looks = g .looks;
       fixed = g .fixed;
     }

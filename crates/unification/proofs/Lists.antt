@@ -52,7 +52,8 @@ module _ (ws : List ℕ) (T : List Tree) (σ : ℕ → Term) (part start count :
   function-says : SaysTheSame 11
   unfolding treeOf termOf sortShape resolved
   function-says =
-      ap₂ (λ (h : Head) (us : Terms). app h us) (ap functionHead (arity-lookAll T (entriesOf ws start count) ∙ length-entries ws start count)) (parts-looked T (entriesOf ws start count) part)
+      ap₂ (λ (h : Head) (us : Terms). app h us) (ap functionHead (arity-lookAll T (entriesOf ws start count) ∙
+      length-entries ws start count)) (parts-looked T (entriesOf ws start count) part)
 
   row-says : (k : ℕ) → k ≤ 13 → SaysTheSame k
   unfolding treeOf termOf sortShape resolved
@@ -137,10 +138,12 @@ module _ (ws : List ℕ) (n e : ℕ) (ns : List ℕ) (m d v : ℕ) (c : NodesChe
     sort-value zero p l x = absurd (omega (arith, l))
     sort-value (suc k) p l x = go (place ws n ns m p) (sort-value k)
       where
-        same : (s : Shape) → sortShape ws (rowAt ws p) ≡ s → ((q : ℕ) → q < k → q < n → val q ≡ termOf (look T q)) → shapeVal σ val s ≡ shapeVal σ (sortValue T) s
+        same : (s : Shape) → sortShape ws (rowAt ws p) ≡ s → ((q : ℕ) → q < k → q < n → val q ≡ termOf (look T q))
+            → shapeVal σ val s ≡ shapeVal σ (sortValue T) s
         same (variable u) i ih = refl
         same (over h ps) i ih =
-            ap (app h) (termsAt-agree val (sortValue T) ps (λ q o. let y = sort-parts ws e p (rowAt ws p) (sort-parts-fine p x) q h ps i o in ih q (omega (arith, l, y)) (omega (arith, x, y))))
+            ap (app h) (termsAt-agree val (sortValue T) ps (λ q o. let y = sort-parts ws e p (rowAt ws p)
+            (sort-parts-fine p x) q h ps i o in ih q (omega (arith, l, y)) (omega (arith, x, y))))
 
         go : Place ws n ns m p → ((q : ℕ) → q < k → q < n → val q ≡ termOf (look T q)) → val p ≡ termOf (look T p)
         go (is-sort a y f) ih = isval p ∙ (ap (shapeVal σ val) f ∙ (same (sortShape ws (rowAt ws p)) refl ih ∙ sym (sort-says σ p x)))
@@ -162,7 +165,8 @@ module _ (ws : List ℕ) (n e : ℕ) (ns : List ℕ) (m d v : ℕ) (c : NodesChe
         (look-injective T l r (trees-differ ws n _ (listed (c .sorts))) (omega (arith, x, length-trees ws n)) (omega (arith, y, length-trees ws n))
         (term-injective (look T l) (look T r) (sym (sort-value (suc l) l (omega arith) x) ∙ (e ∙ sort-value (suc r) r (omega arith) y))))
     apart-by l r (is-sort a x f) (is-stray z g) sl sr ne e = tree-not-stray (look T l) r (sym (sort-value (suc l) l (omega arith) x) ∙ (e ∙ stray-value r g))
-    apart-by l r (is-stray z f) (is-sort b y g) sl sr ne e = tree-not-stray (look T r) l (sym (sort-value (suc r) r (omega arith) y) ∙ (sym e ∙ stray-value l f))
+    apart-by l r (is-stray z f) (is-sort b y g) sl sr ne e = tree-not-stray (look T r) l
+        (sym (sort-value (suc r) r (omega arith) y) ∙ (sym e ∙ stray-value l f))
     apart-by l r (is-stray z f) (is-stray y g) sl sr ne e =
         let h : app (strayHead l) no-part ≡ app (strayHead r) no-part = sym (stray-value l f) ∙ (e ∙ stray-value r g) in
         let k : l ≡ r = cc in

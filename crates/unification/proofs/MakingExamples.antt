@@ -73,7 +73,12 @@ abbrev Case : Type 0
 Case = Bool × ℕ × Makes (List ℕ)
 
 asked : Lent → List Case → List (Makes (List ℕ))
-unfolding strictRelated relatedTo Making.appendNode Making.pushNode Making.internContainer Making.pushFunctions Related.relatedNumbers Related.relatedContainer Unify.follow Nodes.shapeAt Nodes.isPlace Nodes.sortShape Nodes.nodeShape Nodes.inferred Nodes.nodeEntriesOf Storage.resolved Storage.entriesOf Storage.kindFlat Storage.kindOp Storage.partFlat Storage.putRow Storage.appendRow Storage.written Storage.rowOf Storage.numbers Storage.trees Storage.treeOf Storage.lookAll Interning.look Interning.number Interning.member Interning.need Interning.intern Entries.stored Bounds.internAt Tree.same Tree.family Tree.level Tree.familyOp Tree.levelOp
+unfolding strictRelated relatedTo Making.appendNode Making.pushNode Making.internContainer Making.pushFunctions
+    Related.relatedNumbers Related.relatedContainer Unify.follow Nodes.shapeAt Nodes.isPlace Nodes.sortShape
+    Nodes.nodeShape Nodes.inferred Nodes.nodeEntriesOf Storage.resolved Storage.entriesOf Storage.kindFlat
+    Storage.kindOp Storage.partFlat Storage.putRow Storage.appendRow Storage.written Storage.rowOf Storage.numbers
+    Storage.trees Storage.treeOf Storage.lookAll Interning.look Interning.number Interning.member Interning.need
+    Interning.intern Entries.stored Bounds.internAt Tree.same Tree.family Tree.level Tree.familyOp Tree.levelOp
 asked W cases = map (λ (c : Case). strictRelated (c .0) binds (c .1) W) cases
 
 answered : List Case → List (Makes (List ℕ))
@@ -87,7 +92,14 @@ words : List ℕ
 words = 65535 ∷ 3 ∷ 1033 ∷ 1026 ∷ []
 
 accepted : (firstFailing (unifyChecks (given .sorts) 18 5 (given .nodes) 15 7 words 4 0 1038) ≡ none) × (bindsOf words 4 ≡ binds)
-unfolding row storage lent sorts entries nodes arguments binds given words firstFailing unifyChecks bindsOf NodeChecks.nodesWithinLent NodeChecks.bindingsWithinLent NodeChecks.nodePartsFine NodeChecks.nodeKindFine NodeChecks.nodeFine NodeChecks.nodesFine NodeChecks.bindingsFine NodeChecks.nodeChecks NodeChecks.placeChecks Checks.allBelow Checks.withinLent Checks.fixedSix Checks.partsBelow Checks.rowFine Checks.rowsFine Checks.noTwoEqual Checks.atCeiling Acyclic.acyclic Acyclic.allTrue Acyclic.rounds Acyclic.varsSettled Acyclic.nodesSettled Acyclic.allSettled Nodes.isPlace Nodes.nodeShape Nodes.inferred Nodes.nodeEntriesOf Storage.resolved Storage.entriesOf Storage.trees Storage.treeOf Storage.lookAll Interning.look Interning.member Interning.distinct Tree.same Tree.family Tree.level Tree.familyOp Tree.levelOp
+unfolding row storage lent sorts entries nodes arguments binds given words firstFailing unifyChecks bindsOf
+    NodeChecks.nodesWithinLent NodeChecks.bindingsWithinLent NodeChecks.nodePartsFine NodeChecks.nodeKindFine
+    NodeChecks.nodeFine NodeChecks.nodesFine NodeChecks.bindingsFine NodeChecks.nodeChecks NodeChecks.placeChecks
+    Checks.allBelow Checks.withinLent Checks.fixedSix Checks.partsBelow Checks.rowFine Checks.rowsFine
+    Checks.noTwoEqual Checks.atCeiling Acyclic.acyclic Acyclic.allTrue Acyclic.rounds Acyclic.varsSettled
+    Acyclic.nodesSettled Acyclic.allSettled Nodes.isPlace Nodes.nodeShape Nodes.inferred Nodes.nodeEntriesOf
+    Storage.resolved Storage.entriesOf Storage.trees Storage.treeOf Storage.lookAll Interning.look Interning.member
+    Interning.distinct Tree.same Tree.family Tree.level Tree.familyOp Tree.levelOp
 accepted = (refl, refl)
 
 -- the answer with the storage given and so much more
@@ -209,7 +221,8 @@ abbrev cases : List Case
 cases = flats ++ sort-containers ++ node-containers ++ sort-functions ++ node-functions ++ free-ends
 
 places-related : asked given cases ++ asked (lent sorts entries bags arguments) bag-cases ≡ answered (cases ++ bag-cases)
-unfolding bags row storage lent sorts entries nodes arguments binds given asked answered makes only flats sort-containers node-containers sort-functions node-functions free-ends
+unfolding bags row storage lent sorts entries nodes arguments binds given asked answered makes only flats
+    sort-containers node-containers sort-functions node-functions free-ends
 places-related = refl
 
 -- Where room ends. To fill lists: sorts that are all different, nodes of one variable.
@@ -252,8 +265,12 @@ no-node =
 
 -- 2,046 nodes: two fit, and stay where a third is needed
 abbrev two-nodes : List Case
-two-nodes =
-    (up, 1033, made (3070 ∷ 3071 ∷ []) (lent sorts entries (nodes ++ variables 2031 ++ row 11 4 7 2 (row 11 5 9 2 [])) (arguments ++ (1024 ∷ 1 ∷ 1024 ∷ 1 ∷ []))))
+two-nodes = (
+  up,
+  1033,
+  made (3070 ∷ 3071 ∷ []) (lent sorts entries (nodes ++ variables 2031 ++ row 11 4 7 2 (row 11 5 9 2 []))
+      (arguments ++ (1024 ∷ 1 ∷ 1024 ∷ 1 ∷ []))),
+)
     ∷ (up, 13, no-room 16 (lent sorts entries (nodes ++ variables 2031 ++ row 11 3 7 1 (row 11 4 8 1 [])) (arguments ++ (1 ∷ 1 ∷ []))))
     ∷ []
 
@@ -272,7 +289,8 @@ one-entry =
     ∷ (up, 13, no-room 16 (lent sorts entries (nodes ++ row 11 3 4095 1 []) (arguments ++ replicate 4088 0 ++ (1 ∷ []))))
     ∷ []
 
-room-ends : asked full full-cases ++ asked (filled 0 2033 0) no-node ++ asked (filled 0 2031 0) two-nodes ++ asked (filled 0 0 4089) no-entry ++ asked (filled 0 0 4088) one-entry
+room-ends : asked full full-cases ++ asked (filled 0 2033 0) no-node ++ asked (filled 0 2031 0) two-nodes ++ asked
+    (filled 0 0 4089) no-entry ++ asked (filled 0 0 4088) one-entry
     ≡ answered (full-cases ++ no-node ++ two-nodes ++ no-entry ++ one-entry)
 unfolding row storage lent sorts entries nodes arguments binds asked answered defs variables filled full full-cases
 room-ends = refl

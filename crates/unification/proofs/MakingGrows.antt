@@ -24,7 +24,8 @@ use Rattle.resolved_sort.proofs.Made.{intern-answers}
 use Rattle.unification.specs.Term.{functionHead, Shape, over}
 use Rattle.unification.specs.Nodes.{maxNodes, maxNodeEntries}
 use Rattle.unification.specs.Acyclic.{One, first, later}
-use Rattle.unification.specs.Making.{Lent, graph, Makes, made, no-list, no-room, _and-then_, appendNode, pushNode, withSorts, internContainer, pushFunctions}
+use Rattle.unification.specs.Making.{Lent, graph, Makes, made, no-list, no-room, _and-then_, appendNode}
+use Rattle.unification.specs.Making.{pushNode, withSorts, internContainer, pushFunctions}
 use Rattle.unification.specs.Growing.{CheckedLent, PlacedIn, Grows}
 use Rattle.unification.proofs.Grows.{placed-grown, grows-refl, grows-trans}
 use Rattle.unification.proofs.Outcomes.{Each, each-weaker}
@@ -49,7 +50,8 @@ made-then In On W c (made a W′) f h k = made-before On W W′ c (h .0) (f a W�
 made-then In On W c (no-list W′) f h k = h
 made-then In On W c (no-room e W′) f h k = h
 
-pub made-so : {A : Type 0} (In On : Lent → A → Type 0) (W : Lent) (O : Makes A) → MadeFrom In W O → ((a : A) (W′ : Lent) → Grows W W′ → In W′ a → On W′ a) → MadeFrom On W O
+pub made-so : {A : Type 0} (In On : Lent → A → Type 0) (W : Lent) (O : Makes A) → MadeFrom In W O
+    → ((a : A) (W′ : Lent) → Grows W W′ → In W′ a → On W′ a) → MadeFrom On W O
 unfolding MadeFrom
 made-so In On W O h k = each-weaker _ _ (λ W′. Grows W W′) (λ c W′. Grows W W′) O (λ a W′ x. (x .0, k a W′ (x .0) (x .1))) h
 
@@ -104,8 +106,14 @@ module _ (W : Lent) (c : CheckedLent W) (o : ComplexSort) (s : ℕ) (l : s < W .
       → MadeFrom (IsSort new) W (withSorts W (stored (W .sorts) n e O) (stored (W .sorts) n e O .answer))
   unfolding MadeFrom SortsKept Answers stored
   sort-made (has-made t S) k a =
-      let b : new ≡ t = cc in
-      (sorts-grow W c S (k .0), (number-below (S .trees) t (k .2), ap (λ U. look U (number (S .trees) t)) (k .0 .reads) ∙ (look-number (S .trees) t (k .2) ∙ sym b)))
+      let b : new ≡ t = cc in (
+        sorts-grow W c S (k .0),
+        (
+          number-below (S .trees) t (k .2),
+          ap (λ U. look U (number (S .trees) t))
+              (k .0 .reads) ∙ (look-number (S .trees) t (k .2) ∙ sym b),
+        ),
+      )
   sort-made (nothing S) k a = grows-refl W c
   sort-made (full S) k a = grows-refl W c
 
@@ -116,14 +124,18 @@ module _ (W : Lent) (c : CheckedLent W) (o : ComplexSort) (s : ℕ) (l : s < W .
 -- places of functions of xs over the ranges, one for each
 pub data Functions (W : Lent) (xs : List ℕ) : List ℕ → List ℕ → Type 0 where
   no-function : Functions W xs [] []
-  one-function : (r p : ℕ) (rs ps : List ℕ) → PlacedIn W p → graph W p ≡ over (functionHead (length xs)) (xs ++ (r ∷ [])) → Functions W xs rs ps → Functions W xs (r ∷ rs) (p ∷ ps)
+  one-function : (r p : ℕ) (rs ps : List ℕ) → PlacedIn W p → graph W p ≡ over (functionHead (length xs))
+      (xs ++ (r ∷ [])) → Functions W xs rs ps → Functions W xs (r ∷ rs) (p ∷ ps)
 
-pub functions-grow : (W : Lent) → CheckedLent W → (xs : List ℕ) → length xs ≤ 16 → AllPlaced W xs → (rs : List ℕ) → AllPlaced W rs → MadeFrom (λ W′ ps. Functions W′ xs rs ps) W (pushFunctions xs rs W)
+pub functions-grow : (W : Lent) → CheckedLent W → (xs : List ℕ) → length xs ≤ 16 → AllPlaced W xs → (rs : List ℕ)
+    → AllPlaced W rs → MadeFrom (λ W′ ps. Functions W′ xs rs ps) W (pushFunctions xs rs W)
 unfolding MadeFrom pushFunctions
 functions-grow W c xs few x [] y = (grows-refl W c, no-function)
 functions-grow W c xs few x (r ∷ rs) y =
-    made-then (HasShape (over (functionHead (length xs)) (xs ++ (r ∷ [])))) (λ W′ ps. Functions W′ xs (r ∷ rs) ps) W c (pushNode (record { kind = functionKind; part = r; args = xs }) W) _
-    (push-grows W c (record { kind = functionKind; part = r; args = xs }) (over (functionHead (length xs)) (xs ++ (r ∷ []))) (function-row xs r few x (y r (first rs))))
+    made-then (HasShape (over (functionHead (length xs)) (xs ++ (r ∷ [])))) (λ W′ ps. Functions W′ xs (r ∷ rs) ps) W c
+    (pushNode (record { kind = functionKind; part = r; args = xs }) W) _
+    (push-grows W c (record { kind = functionKind; part = r; args = xs }) (over (functionHead (length xs))
+    (xs ++ (r ∷ []))) (function-row xs r few x (y r (first rs))))
     (λ p W₁ g h. made-then (λ W′ ps. Functions W′ xs rs ps) (λ W′ ps. Functions W′ xs (r ∷ rs) ps) W₁ (g .checked) (pushFunctions xs rs W₁) _
     (functions-grow W₁ (g .checked) xs few (λ q z. placed-grown W c W₁ g q (x q z)) rs (λ q z. placed-grown W c W₁ g q (y q (later r rs z))))
     (λ ps W₂ k z. (grows-refl W₂ (k .checked), one-function r p rs ps (placed-grown W₁ (g .checked) W₂ k p (h .0)) (k .same p (h .0) ∙ h .1) z)))

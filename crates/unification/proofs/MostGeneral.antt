@@ -58,7 +58,8 @@ module _ (W : Lent) (c : CheckedLent W) where
 
     -- what a place stands for under it
     pub value-is-general : (p : ℕ) → value (graph W) B p ≡ substitute (general (graph W) B) (termAt (graph W) p)
-    value-is-general p = value-of-model (graph W) 3072 (lower ws n e ns m d v c) B (general (graph W) B) (value (graph W) B) values-are-a-model (suc p) p (omega arith)
+    value-is-general p = value-of-model (graph W) 3072 (lower ws n e ns m d v c) B (general (graph W) B)
+        (value (graph W) B) values-are-a-model (suc p) p (omega arith)
 
     -- Every solution is an instance of it.
     pub instance-of-general : (σ : ℕ → Term) → Respects (graph W) B σ → (u : ℕ) → σ u ≡ substitute σ (general (graph W) B u)
@@ -75,7 +76,8 @@ module _ (W : Lent) (c : CheckedLent W) where
     pub numbered-after : Numbering (graph W) (W .lengths .variables) C
     unfolding unify
     numbered-after =
-        subst (BindsKept (graph W) v B) y (unify-kept (graph W) 3072 (lower ws n e ns m d v c) v (scoped ws n e ns m d v c) deep (deep-enough ws n e ns m d v c) deeper B l r (b .many) (b .numbered)) .numbering
+        subst (BindsKept (graph W) v B) y (unify-kept (graph W) 3072 (lower ws n e ns m d v c) v (scoped ws n e ns m d
+        v c) deep (deep-enough ws n e ns m d v c) deeper B l r (b .many) (b .numbered)) .numbering
 
     pub unify-most-general : (Respects (graph W) B (general (graph W) C) × Equates (graph W) (general (graph W) C) l r)
         × ((σ : ℕ → Term) → Respects (graph W) B σ → Equates (graph W) σ l r → (u : ℕ) → σ u ≡ substitute σ (general (graph W) C u))
@@ -84,4 +86,7 @@ module _ (W : Lent) (c : CheckedLent W) where
         go : (C : Binds) → Numbering (graph W) (W .lengths .variables) C → Robinson (graph W) B l r (yes-with C)
             → (Respects (graph W) B (general (graph W) C) × Equates (graph W) (general (graph W) C) l r)
             × ((σ : ℕ → Term) → Respects (graph W) B σ → Equates (graph W) σ l r → (u : ℕ) → σ u ≡ substitute σ (general (graph W) C u))
-        go C N (says-yes _ sound complete acyclic solution) = (sound (general (graph W) C) (general-respects C N), λ σ s i. instance-of-general C N σ (complete σ s i))
+        go C N (says-yes _ sound complete acyclic solution) = (
+          sound (general (graph W) C) (general-respects C N),
+          λ σ s i. instance-of-general C N σ (complete σ s i),
+        )

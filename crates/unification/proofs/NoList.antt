@@ -13,7 +13,8 @@ use Rattle.unification.specs.Nodes.{isSort, Binds, binding, bindsOf}
 use Rattle.unification.specs.Unify.{follow, deep}
 use Rattle.unification.specs.Checked.{Ready}
 use Rattle.unification.specs.Related.{relatedContainer}
-use Rattle.unification.specs.Making.{Lent, graph, Makes, made, no-list, no-room, _and-then_, relatedOver, pushFunctions, relatedShape, relatedTo, strictRelated}
+use Rattle.unification.specs.Making.{Lent, graph, Makes, made, no-list, no-room, _and-then_, relatedOver}
+use Rattle.unification.specs.Making.{pushFunctions, relatedShape, relatedTo, strictRelated}
 use Rattle.unification.specs.FinalRange.{FreeEnd, free, bound-to, range}
 use Rattle.unification.proofs.Rank.{rank, Ranked}
 use Rattle.unification.proofs.Follow.{follow-holds, follow-end}
@@ -50,13 +51,15 @@ module _ (W : Lent) (B : Binds) (A : Ranked (graph W) deep B) (up : Bool) where
   OnlyFree p x = Each Any (Free p) Any x
 
   -- by the outcome for the range
-  functions : (p r : ℕ) (xs : List ℕ) → (FreeEnd (graph W) B r → FreeEnd (graph W) B p) → (x : Makes (List ℕ)) → OnlyFree r x → OnlyFree p (x and-then (pushFunctions xs))
+  functions : (p r : ℕ) (xs : List ℕ) → (FreeEnd (graph W) B r → FreeEnd (graph W) B p) → (x : Makes (List ℕ))
+      → OnlyFree r x → OnlyFree p (x and-then (pushFunctions xs))
   functions p r xs f (made rs W′) h =
       each-weaker (λ ps W″. length ps ≡ length rs) Any (Free p) Any (pushFunctions xs rs W′) (λ ps W″ e. tt) (each-functions (Free p) Any (λ W″. tt) xs rs W′)
   functions p r xs f (no-list W′) h = (f (h .0), h .1)
   functions p r xs f (no-room c W′) h = tt
 
-  shapes : (p q : ℕ) → follow (graph W) deep B p ≡ some q → (f : ℕ → Lent → Makes (List ℕ)) → ((r : ℕ) → rank (graph W) deep B r < rank (graph W) deep B q → OnlyFree r (f r W))
+  shapes : (p q : ℕ) → follow (graph W) deep B p ≡ some q → (f : ℕ → Lent → Makes (List ℕ))
+      → ((r : ℕ) → rank (graph W) deep B r < rank (graph W) deep B q → OnlyFree r (f r W))
       → (b : Bool) (s : Shape) → graph W q ≡ s → OnlyFree p (relatedShape up f b s W)
   shapes p q e f h b (variable v) s = (free-from-end (graph W) B deep p q e (free q v s (follow-end (graph W) B deep p q v e s)), refl)
   shapes p q e f h b (over (flatHead a) ps) s = tt
@@ -64,7 +67,8 @@ module _ (W : Lent) (B : Binds) (A : Ranked (graph W) deep B) (up : Bool) where
       each-weaker (λ qs W′. length qs ≤ 1) Any (Free p) Any (relatedOver (relatedContainer up o) b (getD ps 0 0) W) (λ qs W′ l. tt)
       (each-over (Free p) Any (relatedContainer up o) b (getD ps 0 0) W tt tt)
   shapes p q e f h b (over (functionHead n) ps) s =
-      functions p (getD ps n 0) (take n ps) (λ x. free-from-end (graph W) B deep p q e (range q n ps s x)) (f (getD ps n 0) W) (h (getD ps n 0) (range-lower W B A q n ps s))
+      functions p (getD ps n 0) (take n ps) (λ x. free-from-end (graph W) B deep p q e (range q n ps s x))
+      (f (getD ps n 0) W) (h (getD ps n 0) (range-lower W B A q n ps s))
   shapes p q e f h b (over (strayHead x) ps) s = tt
 
   pub only-free : (k p : ℕ) → rank (graph W) deep B p < k → OnlyFree p (relatedTo up B k p W)

@@ -21,7 +21,9 @@ use Rattle.resolved_sort.proofs.Append.{getD-sets-before, getD-sets-at, length-
 use Rattle.unification.specs.declared.Lengths.{Lengths}
 use Rattle.unification.specs.declared.InferSort.{InferSort}
 use Rattle.unification.specs.Term.{containerHead, functionHead, Shape, over}
-use Rattle.unification.specs.Nodes.{maxNodes, maxNodeEntries, nodeEntriesAt, fullNodes, nodeKindAt, nodePartAt, nodeStartAt, nodeCountAt, nodeEntryAt, nodeEntriesOf, inferred, nodeAt, nodeShape, isPlace, shapeAt}
+use Rattle.unification.specs.Nodes.{maxNodes, maxNodeEntries, nodeEntriesAt, fullNodes, nodeKindAt, nodePartAt}
+use Rattle.unification.specs.Nodes.{nodeStartAt, nodeCountAt, nodeEntryAt, nodeEntriesOf, inferred, nodeAt}
+use Rattle.unification.specs.Nodes.{nodeShape, isPlace, shapeAt}
 use Rattle.unification.specs.NodeChecks.{nodePartsFine, nodeKindFine, nodeFine, nodesFine}
 use Rattle.unification.specs.Acyclic.{One}
 use Rattle.unification.specs.Checked.{Placed}
@@ -77,15 +79,22 @@ module _ (ns : List ℕ) (m d : ℕ) (r : Row) (long : fullNodes ≤ length ns) 
 
   new-node : nodeAt (newNodes ns m d r) m ≡ inferred (r .kind) (r .part) (record { start = startOf d r; count = length (r .args) })
   new-node =
-      let p : nodePartAt (newNodes ns m d r) m ≡ r .part = before-entries (4 * m + 1) (omega arith) ∙ putRow-part ns m (r .kind) (r .part) (startOf d r) (length (r .args)) (omega arith) in
-      let s : nodeStartAt (newNodes ns m d r) m ≡ startOf d r = before-entries (4 * m + 2) (omega arith) ∙ putRow-start ns m (r .kind) (r .part) (startOf d r) (length (r .args)) (omega arith) in
-      let c : nodeCountAt (newNodes ns m d r) m ≡ length (r .args) = before-entries (4 * m + 3) (omega arith) ∙ putRow-count ns m (r .kind) (r .part) (startOf d r) (length (r .args)) (omega arith) in
+      let p : nodePartAt (newNodes ns m d r) m ≡ r .part = before-entries (4 * m + 1) (omega arith) ∙ putRow-part ns m
+      (r .kind) (r .part) (startOf d r) (length (r .args)) (omega arith) in
+      let s : nodeStartAt (newNodes ns m d r) m ≡ startOf d r = before-entries (4 * m + 2) (omega arith) ∙
+      putRow-start ns m (r .kind) (r .part) (startOf d r) (length (r .args)) (omega arith) in
+      let c : nodeCountAt (newNodes ns m d r) m ≡ length (r .args) = before-entries (4 * m + 3) (omega arith) ∙
+      putRow-count ns m (r .kind) (r .part) (startOf d r) (length (r .args)) (omega arith) in
       λ i. inferred (new-kind i) (p i) (record { start = s i; count = c i })
 
   new-entry : (j : ℕ) → j < length (r .args) → nodeEntryAt (newNodes ns m d r) (d + j) ≡ getD (r .args) j 0
   new-entry j h =
       ap (λ i. getD (newNodes ns m d r) i 0) (omega arith)
-      ∙ getD-sets-at (r .args) (rowPut ns m d r) (nodeEntriesAt + d) j (omega (arith, length-putRow ns m (r .kind) (r .part) (startOf d r) (length (r .args)))) h
+      ∙ getD-sets-at (r .args) (rowPut ns m d r) (nodeEntriesAt + d) j (omega (
+        arith,
+        length-putRow ns m (r .kind)
+            (r .part) (startOf d r) (length (r .args)),
+      )) h
 
   new-entries : nodeEntriesOf (newNodes ns m d r) d (length (r .args)) ≡ r .args
   new-entries = node-entries-are (newNodes ns m d r) (r .args) d new-entry
@@ -108,7 +117,8 @@ container-fine ns d n v i ComplexSort.FSet p run f = f
 container-fine ns d n v i ComplexSort.Bag p run f = f
 container-fine ns d n v i ComplexSort.FBag p run f = f
 
-new-shape-is : (ns : List ℕ) (m d : ℕ) (k : Lengths) (r : Row) (s : Shape) → FineRow k r s → fullNodes ≤ length ns → m < maxNodes → d + length (r .args) ≤ maxNodeEntries
+new-shape-is : (ns : List ℕ) (m d : ℕ) (k : Lengths) (r : Row) (s : Shape) → FineRow k r s → fullNodes ≤ length ns
+    → m < maxNodes → d + length (r .args) ≤ maxNodeEntries
     → nodeShape (newNodes ns m d r) (nodeAt (newNodes ns m d r) m) ≡ s
 unfolding nodeShape inferred
 new-shape-is ns m d k _ _ (container-row o p x) long room space =
@@ -116,9 +126,11 @@ new-shape-is ns m d k _ _ (container-row o p x) long room space =
     ap (nodeShape (newNodes ns m d r)) (new-node ns m d r long room space) ∙ container-shape (newNodes ns m d r) o p _
 new-shape-is ns m d k _ _ (function-row xs p few x y) long room space =
     let r : Row = record { kind = functionKind; part = p; args = xs } in
-    ap (nodeShape (newNodes ns m d r)) (new-node ns m d r long room space) ∙ ap (λ ys. over (functionHead (length xs)) (ys ++ (p ∷ []))) (new-entries ns m d r long room space)
+    ap (nodeShape (newNodes ns m d r)) (new-node ns m d r long room space) ∙ ap (λ ys. over (functionHead (length xs))
+    (ys ++ (p ∷ []))) (new-entries ns m d r long room space)
 
-fine-by : (ns : List ℕ) (d n v i kind : ℕ) (r : InferSort) → nodeKindAt ns i ≡ kind → nodeAt ns i ≡ r → (nodeKindFine kind && nodePartsFine ns d n v i r) ≡ true → nodeFine ns d n v i ≡ true
+fine-by : (ns : List ℕ) (d n v i kind : ℕ) (r : InferSort) → nodeKindAt ns i ≡ kind → nodeAt ns i ≡ r
+    → (nodeKindFine kind && nodePartsFine ns d n v i r) ≡ true → nodeFine ns d n v i ≡ true
 unfolding nodeFine
 fine-by ns d n v i kind r e f x = ap₂ (λ k q. nodeKindFine k && nodePartsFine ns d n v i q) e f ∙ x
 
@@ -128,7 +140,8 @@ unfolding nodeKindFine nodePartsFine inferred
 function-fine ns e n v i p s c few inside y x =
     fine-tests (isPlace n i) (nodeEntryAt ns) e (record { start = s; count = c }) p (record { short = few; inside = inside; range-fits = y; each-fits = x })
 
-new-row-fine : (ns : List ℕ) (k : Lengths) (r : Row) (s : Shape) → FineRow k r s → fullNodes ≤ length ns → k .nodes < maxNodes → k .arguments + length (r .args) ≤ maxNodeEntries
+new-row-fine : (ns : List ℕ) (k : Lengths) (r : Row) (s : Shape) → FineRow k r s → fullNodes ≤ length ns
+    → k .nodes < maxNodes → k .arguments + length (r .args) ≤ maxNodeEntries
     → nodeFine (newNodes ns (k .nodes) (k .arguments) r) (k .arguments + length (r .args)) (k .sorts) (k .variables) (k .nodes) ≡ true
 new-row-fine ns k _ _ (container-row o p x) long room space =
     let r : Row = record { kind = kindOp o; part = p; args = [] } in
@@ -139,11 +152,13 @@ new-row-fine ns k _ _ (function-row xs p few x y) long room space =
     let r : Row = record { kind = functionKind; part = p; args = xs } in
     fine-by (newNodes ns (k .nodes) (k .arguments) r) (k .arguments + length xs) (k .sorts) (k .variables) (k .nodes) functionKind _
     (new-kind ns (k .nodes) (k .arguments) r long room space) (new-node ns (k .nodes) (k .arguments) r long room space)
-    (function-fine (newNodes ns (k .nodes) (k .arguments) r) (k .arguments + length xs) (k .sorts) (k .variables) (k .nodes) p (k .arguments) (length xs) few (omega arith) y
+    (function-fine (newNodes ns (k .nodes) (k .arguments) r) (k .arguments + length xs) (k .sorts) (k .variables)
+    (k .nodes) p (k .arguments) (length xs) few (omega arith) y
     (λ j l. ap (isPlace (k .sorts) (k .nodes)) (new-entry ns (k .nodes) (k .arguments) r long room space j l) ∙ x (getD xs j 0) (one-at xs j l)))
 
 -- A node more: the lists are checked again, and the new place has the row's shape.
-module _ (W : Lent) (c : CheckedLent W) (r : Row) (s : Shape) (f : FineRow (W .lengths) r s) (room : W .lengths .nodes < maxNodes) (space : W .lengths .arguments + length (r .args) ≤ maxNodeEntries) where
+module _ (W : Lent) (c : CheckedLent W) (r : Row) (s : Shape) (f : FineRow (W .lengths) r s) (room : W .lengths .nodes
+    < maxNodes) (space : W .lengths .arguments + length (r .args) ≤ maxNodeEntries) where
   abbrev k : Lengths
   k = W .lengths
 
@@ -159,7 +174,8 @@ module _ (W : Lent) (c : CheckedLent W) (r : Row) (s : Shape) (f : FineRow (W .l
   fine-at : (i : ℕ) → i < m + 1 → Dec (i ≡ m) → nodeFine (newNodes ns m d r) (d + length (r .args)) (k .sorts) (k .variables) i ≡ true
   fine-at i l (yes e) = rw e (new-row-fine ns k r s f (c .long) room space)
   fine-at i l (no e) =
-      node-fine-longer ns (newNodes ns m d r) m d (old-same ns m d r (c .long) room space) (k .sorts) (k .variables) (c .fine) (d + length (r .args)) (k .sorts) (omega arith) (omega arith) i (omega (arith, l, e))
+      node-fine-longer ns (newNodes ns m d r) m d (old-same ns m d r (c .long) room space) (k .sorts) (k .variables)
+      (c .fine) (d + length (r .args)) (k .sorts) (omega arith) (omega arith) i (omega (arith, l, e))
 
   pub node-grows : Grows W (appendNode W r)
   unfolding appendNode nodesFine

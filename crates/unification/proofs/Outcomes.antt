@@ -18,7 +18,8 @@ use Rattle.resolved_sort.specs.Growing.{Answers}
 use Rattle.resolved_sort.proofs.Made.{intern-answers}
 use Rattle.resolved_sort.proofs.Reached.{no-confusion}
 use Rattle.unification.specs.Nodes.{maxNodes, maxNodeEntries}
-use Rattle.unification.specs.Making.{Lent, Makes, made, no-list, no-room, _and-then_, appendNode, pushNode, withSorts, internContainer, only, relatedOver, pushFunctions}
+use Rattle.unification.specs.Making.{Lent, Makes, made, no-list, no-room, _and-then_, appendNode, pushNode}
+use Rattle.unification.specs.Making.{withSorts, internContainer, only, relatedOver, pushFunctions}
 
 abbrev pub Each : {A : Type 0} → (A → Lent → Type 0) → (Lent → Type 0) → (ℕ → Lent → Type 0) → Makes A → Type 0
 Each P N C (made a W) = P a W
@@ -29,13 +30,15 @@ Each P N C (no-room c W) = C c W
 abbrev pub Any : {A : Type 0} → A → Lent → Type 0
 Any a W = Unit {0}
 
-pub each-then : {A D : Type 0} (P : A → Lent → Type 0) (Q : D → Lent → Type 0) (N : Lent → Type 0) (C : ℕ → Lent → Type 0) (x : Makes A) (k : A → Lent → Makes D)
+pub each-then : {A D : Type 0} (P : A → Lent → Type 0) (Q : D → Lent → Type 0) (N : Lent → Type 0) (C : ℕ → Lent
+    → Type 0) (x : Makes A) (k : A → Lent → Makes D)
     → Each P N C x → ((a : A) (W : Lent) → P a W → Each Q N C (k a W)) → Each Q N C (x and-then k)
 each-then P Q N C (made a W) k h then = then a W h
 each-then P Q N C (no-list W) k h then = h
 each-then P Q N C (no-room c W) k h then = h
 
-pub each-weaker : {A : Type 0} (P Q : A → Lent → Type 0) (N : Lent → Type 0) (C : ℕ → Lent → Type 0) (x : Makes A) → ((a : A) (W : Lent) → P a W → Q a W) → Each P N C x → Each Q N C x
+pub each-weaker : {A : Type 0} (P Q : A → Lent → Type 0) (N : Lent → Type 0) (C : ℕ → Lent → Type 0) (x : Makes A)
+    → ((a : A) (W : Lent) → P a W → Q a W) → Each P N C x → Each Q N C x
 each-weaker P Q N C (made a W) f h = f a W h
 each-weaker P Q N C (no-list W) f h = h
 each-weaker P Q N C (no-room c W) f h = h
@@ -54,7 +57,8 @@ module _ (N : Lent → Type 0) (C : ℕ → Lent → Type 0) where
       go false = c
 
   -- interning comes to a sort or to no room
-  pub each-container : (P : ℕ → Lent → Type 0) (o : ComplexSort) (s : ℕ) (W : Lent) → ((p : ℕ) (W′ : Lent) → P p W′) → C 15 W → Each P N C (internContainer o s W)
+  pub each-container : (P : ℕ → Lent → Type 0) (o : ComplexSort) (s : ℕ) (W : Lent) → ((p : ℕ) (W′ : Lent) → P p W′)
+      → C 15 W → Each P N C (internContainer o s W)
   unfolding internContainer internAt stored
   each-container P o s W h c = go (intern (container o part) S) (intern-not-nothing (container o part) S)
     where
@@ -78,7 +82,8 @@ module _ (N : Lent → Type 0) (C : ℕ → Lent → Type 0) where
   each-over (some o) true s W c d =
       each-then Any (λ qs W′. length qs ≤ 1) N C (internContainer o s W) only (each-container Any o s W (λ p W′. tt) c) (λ p W′ h. omega arith)
   each-over (some o) false s W c d =
-      each-then Any (λ qs W′. length qs ≤ 1) N C (pushNode (record { kind = kindOp o; part = s; args = [] }) W) only (each-node Any (record { kind = kindOp o; part = s; args = [] }) W tt d) (λ p W′ h. omega arith)
+      each-then Any (λ qs W′. length qs ≤ 1) N C (pushNode (record { kind = kindOp o; part = s; args = [] }) W) only
+      (each-node Any (record { kind = kindOp o; part = s; args = [] }) W tt d) (λ p W′ h. omega arith)
 
   -- as many functions as there are ranges
   pub each-functions : ((W : Lent) → C 16 W) → (xs rs : List ℕ) (W : Lent) → Each (λ ps W′. length ps ≡ length rs) N C (pushFunctions xs rs W)
@@ -87,4 +92,5 @@ module _ (N : Lent → Type 0) (C : ℕ → Lent → Type 0) where
   each-functions c xs (r ∷ rs) W =
       each-then Any (λ ps W′. length ps ≡ suc (length rs)) N C (pushNode (record { kind = functionKind; part = r; args = xs }) W) _
       (each-node Any (record { kind = functionKind; part = r; args = xs }) W tt (c W))
-      (λ p W′ h. each-then (λ ps W′. length ps ≡ length rs) (λ ps W′. length ps ≡ suc (length rs)) N C (pushFunctions xs rs W′) _ (each-functions c xs rs W′) (λ ps W″ e. ap suc e))
+      (λ p W′ h. each-then (λ ps W′. length ps ≡ length rs) (λ ps W′. length ps ≡ suc (length rs)) N C
+      (pushFunctions xs rs W′) _ (each-functions c xs rs W′) (λ ps W″ e. ap suc e))

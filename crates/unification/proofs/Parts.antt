@@ -84,6 +84,7 @@ unfolding substitutes
 puts-agree σ f g [] h = refl
 puts-agree σ f g (p ∷ ps) h = let a = h p (first ps) in let b = puts-agree σ f g ps (λ q o. h q (later p ps o)) in cc
 
-pub occursAny-agree : (shape shape′ : ℕ → Shape) (f g : ℕ → Occurs) (ps : List ℕ) → ((q : ℕ) → One q ps → f q ≡ g q) → occursAny shape′ f ps ≡ occursAny shape g ps
+pub occursAny-agree : (shape shape′ : ℕ → Shape) (f g : ℕ → Occurs) (ps : List ℕ) → ((q : ℕ) → One q ps → f q ≡ g q)
+    → occursAny shape′ f ps ≡ occursAny shape g ps
 occursAny-agree shape shape′ f g [] h = refl
 occursAny-agree shape shape′ f g (p ∷ ps) h = let a = h p (first ps) in let c = occursAny-agree shape shape′ f g ps (λ q o. h q (later p ps o)) in cc

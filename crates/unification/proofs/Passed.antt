@@ -28,7 +28,8 @@ two-ceilings n top e end x y f =
     let u = and-eq-true-iff (leb n top) (leb e end) .0 (and-eq-true-iff (leb n top && leb e end) x .0 p .0) in
     (leb-true n top (u .0), leb-true e end (u .1))
 
-module _ (ws : List ℕ) (n e : ℕ) (ns : List ℕ) (m d : ℕ) (bs : List ℕ) (v : ℕ) (sorts-within : withinLent ws n e ≡ true) (nodes-within : nodesWithinLent ns m d ≡ true)
+module _ (ws : List ℕ) (n e : ℕ) (ns : List ℕ) (m d : ℕ) (bs : List ℕ) (v : ℕ) (sorts-within : withinLent ws n e ≡
+    true) (nodes-within : nodesWithinLent ns m d ≡ true)
     (binds-within : bindingsWithinLent bs v ≡ true) where
   pub sort-counts : (n ≤ maxSorts) × (e ≤ maxEntries)
   unfolding withinLent
@@ -45,7 +46,8 @@ module _ (ws : List ℕ) (n e : ℕ) (ns : List ℕ) (m d : ℕ) (bs : List ℕ)
   pub passed-fine : rowsFine ws n e ≡ true → nodesFine ns m d n v ≡ true → ListsFine ws n e ns m d v
   passed-fine rows nodes = record { sorts = sort-counts .0; rows = rows; nodes = node-counts .0; variables = var-counts .0; fine = nodes }
 
-  module _ (rows : rowsFine ws n e ≡ true) (differ : noTwoEqual ws n ≡ true) (nodes : nodesFine ns m d n v ≡ true) (binds : bindingsFine n m (bindsOf bs v) ≡ true)
+  module _ (rows : rowsFine ws n e ≡ true) (differ : noTwoEqual ws n ≡ true) (nodes : nodesFine ns m d n v ≡ true)
+      (binds : bindingsFine n m (bindsOf bs v) ≡ true)
       (no-cycle : acyclic ns m (bindsOf bs v) ≡ true) (sorts-long : atCeiling ws ≡ true) (nodes-long : leb fullNodes (length ns) ≡ true) where
     checked : NodesChecked ws n e ns m d v
     unfolding atCeiling
@@ -60,4 +62,9 @@ module _ (ws : List ℕ) (n e : ℕ) (ns : List ℕ) (m d : ℕ) (bs : List ℕ)
         }
 
     pub passed-ready : Ready ws ns bs (record { sorts = n; entries = e; nodes = m; arguments = d; variables = v })
-    passed-ready = record { nodes = checked; binds = binds-checked ws n e ns m d v checked (bindsOf bs v) (length-binds bs v) binds no-cycle; long = var-counts .1 }
+    passed-ready = record {
+      nodes = checked;
+      binds = binds-checked ws n e ns m d v checked (bindsOf bs v)
+          (length-binds bs v) binds no-cycle;
+      long = var-counts .1;
+    }

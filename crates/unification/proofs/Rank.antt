@@ -62,10 +62,12 @@ pub rank-eq : (shape : ℕ → Shape) (w : ℕ) (B : Binds) → Ranked shape w B
 unfolding rank
 rank-eq shape w B A p = sym (stable shape B w p (A .short p))
 
-pub rank-var : (shape : ℕ → Shape) (w : ℕ) (B : Binds) → Ranked shape w B → (p v q : ℕ) → shape p ≡ variable v → binding B v ≡ some q → rank shape w B p ≡ suc (rank shape w B q)
+pub rank-var : (shape : ℕ → Shape) (w : ℕ) (B : Binds) → Ranked shape w B → (p v q : ℕ) → shape p ≡ variable v
+    → binding B v ≡ some q → rank shape w B p ≡ suc (rank shape w B q)
 rank-var shape w B A p v q s l = rank-eq shape w B A p ∙ rw s (rw l)
 
-pub rank-over : (shape : ℕ → Shape) (w : ℕ) (B : Binds) → Ranked shape w B → (p : ℕ) (h : Head) (ps : List ℕ) → shape p ≡ over h ps → rank shape w B p ≡ highest (rank shape w B) ps
+pub rank-over : (shape : ℕ → Shape) (w : ℕ) (B : Binds) → Ranked shape w B → (p : ℕ) (h : Head) (ps : List ℕ)
+    → shape p ≡ over h ps → rank shape w B p ≡ highest (rank shape w B) ps
 rank-over shape w B A p h ps s = rank-eq shape w B A p ∙ rw s
 
 pub frees-set : (B : Binds) (v r : ℕ) → v < length B → binding B v ≡ none → suc (frees (set B v (some r))) ≡ frees B

@@ -18,7 +18,8 @@ use Rattle.unification.proofs.RelatedPlaces.{StandForRelated, related-m
 
 module _ (W : Lent) (c : CheckedLent W) (B : Binds) (b : CheckedBinds W B) where
   pub checked-ranks : Ranked (graph W) deep B
-  checked-ranks = checked-ranked (W .sorts) (W .lengths .sorts) (W .lengths .entries) (W .nodes) (W .lengths .nodes) (W .lengths .arguments) (W .lengths .variables) c B b
+  checked-ranks = checked-ranked (W .sorts) (W .lengths .sorts) (W .lengths .entries) (W .nodes) (W .lengths .nodes)
+      (W .lengths .arguments) (W .lengths .variables) c B b
 
   module _ (up : Bool) (p : ℕ) where
     -- no list exactly where the final range is free, and then nothing is made

@@ -22,7 +22,8 @@ use Rattle.unification.specs.Nodes.{nodeEntriesOf, nodeAt, sortShape, no
 use Rattle.unification.specs.Unify.{follow, deep}
 use Rattle.unification.specs.Checked.{Ready}
 use Rattle.unification.specs.Related.{relatedContainer}
-use Rattle.unification.specs.Making.{Lent, graph, Makes, made, no-list, _and-then_, relatedOver, pushFunctions, relatedPlaces, relatedShape, relatedEnd, relatedTo, strictRelated}
+use Rattle.unification.specs.Making.{Lent, graph, Makes, made, no-list, _and-then_, relatedOver, pushFunctions}
+use Rattle.unification.specs.Making.{relatedPlaces, relatedShape, relatedEnd, relatedTo, strictRelated}
 use Rattle.unification.proofs.Rank.{rank, Ranked, rank-over, one-highest}
 use Rattle.unification.proofs.Enough.{follow-some, end-no-higher}
 use Rattle.unification.proofs.Parts.{one-at}
@@ -54,7 +55,8 @@ pub function-parts : (L : Lists) (q n : ℕ) (ps : List ℕ) → shapeAt L q ≡
 unfolding shapeAt
 function-parts L q n ps e = go (isPlace (L .sort-count) (L .node-count) q) (isSort q) e
   where
-    go : (a b : Bool) → cond a (cond b (sortShape (L .sorts) (rowAt (L .sorts) q)) (nodeShape (L .nodes) (nodeAt (L .nodes) (q - maxSorts)))) (over (strayHead q) []) ≡ over (functionHead n) ps → length ps ≡ suc n
+    go : (a b : Bool) → cond a (cond b (sortShape (L .sorts) (rowAt (L .sorts) q)) (nodeShape (L .nodes)
+        (nodeAt (L .nodes) (q - maxSorts)))) (over (strayHead q) []) ≡ over (functionHead n) ps → length ps ≡ suc n
     go true true e = sort-function-parts (L .sorts) (rowAt (L .sorts) q) n ps e
     go true false e = node-function-parts (L .nodes) (nodeAt (L .nodes) (q - maxSorts)) n ps e
     go false b e = no-confusion (cc)
@@ -66,10 +68,16 @@ module _ (W : Lent) (B : Binds) (A : Ranked (graph W) deep B) where
   -- the range of a function has a lower rank
   pub range-lower : (q n : ℕ) (ps : List ℕ) → graph W q ≡ over (functionHead n) ps → ρ (getD ps n 0) < ρ q
   range-lower q n ps s =
-      omega (arith, rank-over (graph W) deep B A q (functionHead n) ps s, one-highest ρ ps (getD ps n 0) (one-at ps n (omega (arith, function-parts _ q n ps s))))
+      omega (
+        arith,
+        rank-over (graph W) deep B A q (functionHead n) ps s,
+        one-highest ρ ps (getD ps n 0)
+            (one-at ps n (omega (arith, function-parts _ q n ps s))),
+      )
 
   module _ (up : Bool) where
-    agree : (f g : ℕ → Lent → Makes (List ℕ)) (q : ℕ) → ((r : ℕ) → ρ r < ρ q → f r W ≡ g r W) → (b : Bool) (s : Shape) → graph W q ≡ s → relatedShape up f b s W ≡ relatedShape up g b s W
+    agree : (f g : ℕ → Lent → Makes (List ℕ)) (q : ℕ) → ((r : ℕ) → ρ r < ρ q → f r W ≡ g r W) → (b : Bool) (s : Shape)
+        → graph W q ≡ s → relatedShape up f b s W ≡ relatedShape up g b s W
     agree f g q h b (variable v) e = refl
     agree f g q h b (over (flatHead a) ps) e = refl
     agree f g q h b (over (containerHead o) ps) e = refl
@@ -81,7 +89,8 @@ module _ (W : Lent) (B : Binds) (A : Ranked (graph W) deep B) where
     stable zero p l = absurd (omega (arith, l))
     stable (suc k) p l =
         let x = follow-some (graph W) deep B A deep p (A .short p) in
-        rw (x .1) (agree (relatedTo up B (suc k)) (relatedTo up B k) (x .0) (λ r m. stable k r (omega (arith, l, m, x .2))) (isSort (x .0)) (graph W (x .0)) refl)
+        rw (x .1) (agree (relatedTo up B (suc k)) (relatedTo up B k) (x .0) (λ r m. stable k r
+        (omega (arith, l, m, x .2))) (isSort (x .0)) (graph W (x .0)) refl)
 
     at-depth : (k p : ℕ) → ρ p < k → relatedTo up B k p W ≡ relatedEnd up (relatedTo up B k) (follow (graph W) deep B p) W
     unfolding relatedTo
@@ -115,10 +124,12 @@ module _ (W : Lent) (bs : List ℕ) (R : Ready (W .sorts) (W .nodes) bs (W .leng
     -- a container
     module _ (o : ComplexSort) (s : ℕ) (i : graph W q ≡ over (containerHead o) (s ∷ [])) where
       pub made-at-sort-container : q < maxSorts → strictRelated up bound p W ≡ relatedOver (relatedContainer up o) true s W
-      made-at-sort-container l = related-at (over (containerHead o) (s ∷ [])) i ∙ ap (λ (b : Bool). relatedOver (relatedContainer up o) b s W) (lt-ltb q maxSorts l)
+      made-at-sort-container l = related-at (over (containerHead o) (s ∷ [])) i ∙ ap (λ (b : Bool). relatedOver
+          (relatedContainer up o) b s W) (lt-ltb q maxSorts l)
 
       pub made-at-node-container : maxSorts ≤ q → strictRelated up bound p W ≡ relatedOver (relatedContainer up o) false s W
-      made-at-node-container l = related-at (over (containerHead o) (s ∷ [])) i ∙ ap (λ (b : Bool). relatedOver (relatedContainer up o) b s W) (le-ltb q maxSorts l)
+      made-at-node-container l = related-at (over (containerHead o) (s ∷ [])) i ∙ ap (λ (b : Bool). relatedOver
+          (relatedContainer up o) b s W) (le-ltb q maxSorts l)
 
     -- a function
     module _ (n : ℕ) (ps : List ℕ) (i : graph W q ≡ over (functionHead n) ps) where

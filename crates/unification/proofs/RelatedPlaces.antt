@@ -22,7 +22,9 @@ use Rattle.unification.specs.Unify.{follow, deep}
 use Rattle.unification.specs.Acyclic.{One, first, later}
 use Rattle.unification.specs.Solutions.{termsAt, termAt, Respects}
 use Rattle.unification.specs.Related.{relatedNumbers, relatedContainer, each, overPart, related}
-use Rattle.unification.specs.Making.{Lent, graph, Makes, made, _and-then_, pushNode, internContainer, only, relatedOver, pushFunctions, relatedPlaces, relatedShape, relatedEnd, relatedTo, strictRelated}
+use Rattle.unification.specs.Making.{Lent, graph, Makes, made, _and-then_, pushNode, internContainer, only}
+use Rattle.unification.specs.Making.{relatedOver, pushFunctions, relatedPlaces, relatedShape, relatedEnd}
+use Rattle.unification.specs.Making.{relatedTo, strictRelated}
 use Rattle.unification.specs.Exact.{shapeVal}
 use Rattle.unification.proofs.Parts.{none-of, one-of-one, one-last, one-front}
 use Rattle.unification.proofs.Rows.{ShapeFormed, variable-formed, flat-formed, container-formed, function-formed}
@@ -30,8 +32,11 @@ use Rattle.unification.proofs.Follow.{follow-names}
 use Rattle.unification.specs.Growing.{Names, CheckedLent, ReadyLent, PlacedIn, Grows, termIn}
 use Rattle.unification.proofs.Grows.{ready-names, parts-placed, grows-refl, grows-trans, placed-grown, term-grown}
 use Rattle.unification.proofs.NodesGrow.{container-row}
-use Rattle.unification.proofs.MakingGrows.{MadeFrom, made-then, made-so, made-grows, AllPlaced, HasShape, push-grows, IsSort, container-grows, Functions, no-function, one-function, functions-grow}
-use Rattle.unification.proofs.PlaceTerms.{sort-placed, placed-formed, sort-part-below, term-by-shape, term-at-end, sort-term, primitive-placed, primitive-term}
+use Rattle.unification.proofs.MakingGrows.{MadeFrom, made-then, made-so, made-grows, AllPlaced, HasShape}
+use Rattle.unification.proofs.MakingGrows.{push-grows, IsSort, container-grows, Functions, no-function}
+use Rattle.unification.proofs.MakingGrows.{one-function, functions-grow}
+use Rattle.unification.proofs.PlaceTerms.{sort-placed, placed-formed, sort-part-below, term-by-shape}
+use Rattle.unification.proofs.PlaceTerms.{term-at-end, sort-term, primitive-placed, primitive-term}
 
 -- the sort of a term with a known head
 flat-tree : (a : Flat) (us : Terms) (t : Tree) → app (flatHead a) us ≡ termOf t → t ≡ flat a
@@ -46,7 +51,8 @@ container-tree o x (flat b) e = no-confusion (cc)
 container-tree o x (container p u) e = let z : p ≡ o = cc in let y : x ≡ termOf u = cc in (u, ap (λ q. container q u) z, y)
 container-tree o x (function ts r) e = no-confusion (cc)
 
-function-tree : (n : ℕ) (us : Terms) (t : Tree) → app (functionHead n) us ≡ termOf t → (ts : Trees) × (u : Tree) × (t ≡ function ts u) × (arity ts ≡ n) × (us ≡ termsOf ts (part (termOf u) no-part))
+function-tree : (n : ℕ) (us : Terms) (t : Tree) → app (functionHead n) us ≡ termOf t
+    → (ts : Trees) × (u : Tree) × (t ≡ function ts u) × (arity ts ≡ n) × (us ≡ termsOf ts (part (termOf u) no-part))
 unfolding termOf
 function-tree n us (flat b) e = no-confusion (cc)
 function-tree n us (container p u) e = no-confusion (cc)
@@ -54,7 +60,8 @@ function-tree n us (function ts u) e = let z : arity ts ≡ n = cc in let y : us
 
 -- Arguments and a range: what the range stands for, and that another range may be put in its place.
 parts-split : (val : ℕ → Term) (xs : List ℕ) (r : ℕ) (ts : Trees) (x : Term) → arity ts ≡ length xs → termsAt val (xs ++ (r ∷ [])) ≡ termsOf ts (part x no-part)
-    → (val r ≡ x) × ((new : ℕ → Term) (q : ℕ) (y : Term) → ((z : ℕ) → One z xs → new z ≡ val z) → new q ≡ y → termsAt new (xs ++ (q ∷ [])) ≡ termsOf ts (part y no-part))
+    → (val r ≡ x) × ((new : ℕ → Term) (q : ℕ) (y : Term) → ((z : ℕ) → One z xs → new z ≡ val z) → new q ≡ y
+    → termsAt new (xs ++ (q ∷ [])) ≡ termsOf ts (part y no-part))
 unfolding termsOf arity
 parts-split val [] r no-args x l e = (let z : val r ≡ x = cc in z, λ new q y h f. ap (λ u. part u no-part) f)
 parts-split val [] r (arg t ts) x l e = absurd (omega (arith, l))
@@ -97,8 +104,10 @@ functions-placed W xs _ _ (one-function r p rs ps x s f) _ (first _) = x
 functions-placed W xs _ _ (one-function r p rs ps x s f) q (later _ _ o) = functions-placed W xs rs ps f q o
 
 -- functions over ranges stand for the functions over what the ranges stand for
-module _ (W W₁ W₂ : Lent) (c : CheckedLent W) (g : Grows W W₁) (h : Grows W₁ W₂) (σ : ℕ → Term) (xs : List ℕ) (x : AllPlaced W xs) (ts : Trees) (l : arity ts ≡ length xs)
-    (other : (new : ℕ → Term) (q : ℕ) (y : Term) → ((z : ℕ) → One z xs → new z ≡ termIn W σ z) → new q ≡ y → termsAt new (xs ++ (q ∷ [])) ≡ termsOf ts (part y no-part)) where
+module _ (W W₁ W₂ : Lent) (c : CheckedLent W) (g : Grows W W₁) (h : Grows W₁ W₂) (σ : ℕ → Term) (xs : List ℕ)
+    (x : AllPlaced W xs) (ts : Trees) (l : arity ts ≡ length xs)
+    (other : (new : ℕ → Term) (q : ℕ) (y : Term) → ((z : ℕ) → One z xs → new z ≡ termIn W σ z) → new q ≡ y
+    → termsAt new (xs ++ (q ∷ [])) ≡ termsOf ts (part y no-part)) where
   functions-terms : (rs ps : List ℕ) → AllPlaced W₁ rs → Functions W₂ xs rs ps → (us : List Tree) → each (termIn W₁ σ) rs ≡ each termOf us
       → each (termIn W₂ σ) ps ≡ each termOf (each (function ts) us)
   unfolding termOf
@@ -108,7 +117,8 @@ module _ (W W₁ W₂ : Lent) (c : CheckedLent W) (g : Grows W W₁) (h : Grows 
   functions-terms _ _ y (one-function r p rs ps z s f) (u ∷ us) e =
       let i : termIn W₁ σ r ≡ termOf u = cc in
       let j : each (termIn W₁ σ) rs ≡ each termOf us = cc in
-      let a = other (termIn W₂ σ) r (termOf u) (λ q o. ap (substitute σ) (term-grown W c W₂ (grows-trans W c W₁ W₂ g h) q (x q o))) (ap (substitute σ) (term-grown W₁ (g .checked) W₂ h r (y r (first rs))) ∙ i) in
+      let a = other (termIn W₂ σ) r (termOf u) (λ q o. ap (substitute σ) (term-grown W c W₂ (grows-trans W c W₁ W₂ g
+      h) q (x q o))) (ap (substitute σ) (term-grown W₁ (g .checked) W₂ h r (y r (first rs))) ∙ i) in
       ap₂ _∷_ (term-by-shape W₂ (h .checked) σ p ∙ (ap (shapeVal σ (termIn W₂ σ)) s ∙ ap₂ (λ n us. app (functionHead n) us) (sym l) a))
       (functions-terms rs ps (λ q o. y q (later r rs o)) f us j)
 
@@ -149,24 +159,29 @@ module _ (W : Lent) (c : CheckedLent W) (six : fixedSix (W .sorts) (W .lengths .
       at-container none i sort j = (grows-refl W c, container-answer none i W [] (λ z o. none-of z [] o refl) (λ σ u e. refl))
       at-container (some p) i true j =
           let l : s < W .lengths .sorts = sort-part-below W c q s (containerHead o) (s ∷ []) j x f (first []) in
-          made-then (IsSort (container p (look (trees (W .sorts) (W .lengths .sorts)) s))) (Answer q) W c (internContainer p s W) only (container-grows W c p s l)
+          made-then (IsSort (container p (look (trees (W .sorts) (W .lengths .sorts)) s))) (Answer q) W c
+          (internContainer p s W) only (container-grows W c p s l)
           (λ a W₁ g h. (
             grows-refl W₁ (g .checked),
             container-answer (some p) i W₁ (a ∷ []) (one-placed W₁ a (sort-placed W₁ (g .checked) a (h .0)))
-                (λ σ u e. ap (λ w. w ∷ []) (sort-term W₁ (g .checked) σ a (h .0) ∙ (ap termOf (h .1) ∙ ap (λ w. app (containerHead p) (part w no-part)) (sym (sort-term W c σ s l) ∙ e)))),
+                (λ σ u e. ap (λ w. w ∷ []) (sort-term W₁ (g .checked) σ a (h .0) ∙ (ap termOf (h .1) ∙ ap
+                (λ w. app (containerHead p) (part w no-part)) (sym (sort-term W c σ s l) ∙ e)))),
           ))
       at-container (some p) i false j =
           made-then (HasShape (over (containerHead p) (s ∷ []))) (Answer q) W c (pushNode (record { kind = kindOp p; part = s; args = [] }) W) only
-          (push-grows W c (record { kind = kindOp p; part = s; args = [] }) (over (containerHead p) (s ∷ [])) (container-row p s (parts-placed W c q s (containerHead o) (s ∷ []) x f (first []))))
+          (push-grows W c (record { kind = kindOp p; part = s; args = [] }) (over (containerHead p) (s ∷ []))
+          (container-row p s (parts-placed W c q s (containerHead o) (s ∷ []) x f (first []))))
           (λ a W₁ g h. (
             grows-refl W₁ (g .checked),
             container-answer (some p) i W₁ (a ∷ []) (one-placed W₁ a (h .0))
                 (λ σ u e. ap (λ w. w ∷ [])
                 (term-by-shape W₁ (g .checked) σ a ∙ (ap (shapeVal σ (termIn W₁ σ)) (h .1)
-                ∙ ap (λ w. app (containerHead p) (part w no-part)) (ap (substitute σ) (term-grown W c W₁ g s (parts-placed W c q s (containerHead o) (s ∷ []) x f (first []))) ∙ e)))),
+                ∙ ap (λ w. app (containerHead p) (part w no-part)) (ap (substitute σ) (term-grown W c W₁ g s
+                (parts-placed W c q s (containerHead o) (s ∷ []) x f (first []))) ∙ e)))),
           ))
 
-    at-function : (n : ℕ) (xs : List ℕ) (r : ℕ) → length xs ≡ n → n ≤ 16 → graph W q ≡ over (functionHead n) (xs ++ (r ∷ [])) → (O : Makes (List ℕ)) → MadeFrom (Answer r) W O
+    at-function : (n : ℕ) (xs : List ℕ) (r : ℕ) → length xs ≡ n → n ≤ 16 → graph W q ≡ over (functionHead n)
+        (xs ++ (r ∷ [])) → (O : Makes (List ℕ)) → MadeFrom (Answer r) W O
         → MadeFrom (Answer q) W (O and-then (pushFunctions xs))
     unfolding related
     at-function n xs r len few f O ih =
@@ -180,7 +195,8 @@ module _ (W : Lent) (c : CheckedLent W) (six : fixedSix (W .sorts) (W .lengths .
               let i = function-tree n (termsAt (termIn W σ) (xs ++ (r ∷ []))) t (sym (ap (shapeVal σ (termIn W σ)) f) ∙ (sym (term-by-shape W c σ q) ∙ e)) in
               let l : arity (i .0) ≡ length xs = i .3 ∙ sym len in
               let j = parts-split (termIn W σ) xs r (i .0) (termOf (i .1)) l (i .4) in
-              functions-terms W W₁ W₂ c g k σ xs y (i .0) l (j .1) rs ps (h .0) a (related up (i .1)) (h .1 σ R (i .1) (j .0)) ∙ ap (λ u. each termOf (related up u)) (sym (i .2)),
+              functions-terms W W₁ W₂ c g k σ xs y (i .0) l (j .1) rs ps (h .0) a (related up (i .1))
+              (h .1 σ R (i .1) (j .0)) ∙ ap (λ u. each termOf (related up u)) (sym (i .2)),
         )))
 
   pub related-made : (k p : ℕ) → PlacedIn W p → MadeFrom (Answer p) W (relatedTo up B k p W)
@@ -197,7 +213,9 @@ module _ (W : Lent) (c : CheckedLent W) (six : fixedSix (W .sorts) (W .lengths .
           rw (getD-at xs r [] 0 n len, take-at xs (r ∷ []) n len)
           (at-function q y n xs r len few f (relatedTo up B k r W) (ih r (parts-placed W c q r (functionHead n) (xs ++ (r ∷ [])) y f (one-last xs r))))
 
-      ends : (o : Option ℕ) → follow (graph W) deep B p ≡ o → ((r : ℕ) → PlacedIn W r → MadeFrom (Answer r) W (relatedTo up B k r W)) → MadeFrom (Answer p) W (relatedEnd up (relatedTo up B k) o W)
+      ends : (o : Option ℕ) → follow (graph W) deep B p ≡ o → ((r : ℕ) → PlacedIn W r
+          → MadeFrom (Answer r) W (relatedTo up B k r W)) → MadeFrom (Answer p) W (relatedEnd up (relatedTo up B k) o
+          W)
       ends none f ih = grows-refl W c
       ends (some q) f ih =
           let y = follow-names (graph W) B (PlacedIn W) b deep p q x f in
@@ -216,5 +234,6 @@ module _ (W : Lent) (bs : List ℕ) (ready : ReadyLent W bs) (six : fixedSix (W 
       × ((σ : ℕ → Term) → Respects (graph W) (bindsOf bs (W .lengths .variables)) σ → (t : Tree) → substitute σ (termAt (graph W) p) ≡ termOf t
       → each (λ q. substitute σ (termAt (graph W′) q)) qs ≡ each termOf (related up t))
   strict-related-places qs W′ e =
-      let h = made-grows (StandForRelated up (bindsOf bs (W .lengths .variables)) W p) W W′ qs (strictRelated up (bindsOf bs (W .lengths .variables)) p W) strict-related-made e in
+      let h = made-grows (StandForRelated up (bindsOf bs (W .lengths .variables)) W p) W W′ qs
+      (strictRelated up (bindsOf bs (W .lengths .variables)) p W) strict-related-made e in
       (h .0, h .1 .0, h .1 .1)

@@ -28,7 +28,8 @@ use Rattle.unification.specs.Resolve.{value, DefaultBelow, termResolved}
 use Rattle.unification.specs.Making.{Lent, graph}
 use Rattle.unification.proofs.ResolvedSorts.{resolve-kept}
 use Rattle.unification.proofs.ResolvedPlaces.{value-formed}
-use Rattle.unification.proofs.Resolved.{resolved-is-every-assignment, resolve-none-exactly, resolve-or-default-never-none, resolve-or-default-is-the-assignment}
+use Rattle.unification.proofs.Resolved.{resolved-is-every-assignment, resolve-none-exactly}
+use Rattle.unification.proofs.Resolved.{resolve-or-default-never-none, resolve-or-default-is-the-assignment}
 use Rattle.unification.specs.Growing.{CheckedLent, PlacedIn, Grows, CheckedBinds, withSortWords, ReadsAs}
 use Rattle.unification.proofs.SortsLeft.{Leaves, left-by, leaves-sort, leaves-none, leaves-full}
 
@@ -84,7 +85,8 @@ module _ (W : Lent) (c : CheckedLent W) (B : Binds) (b : CheckedBinds W B) (p : 
       (λ S₁ q. resolve-none-exactly ws n e ns m d v c B b p S (λ S₂ f. let z : nothing S₁ ≡ full S₂ = sym q ∙ f in no-confusion (cc)) .0 (S₁, q))
   resolve-leaves (Is x) l =
       left-by W c (AlwaysStandsFor W B (Is x) p) (ReachesFree W B (Is x) p) S _
-      (resolve-kept ws n e (some (look (trees ws n) (x .0))) (value (graph W) B p) S (grown-none ws n e (c .sorts)) (member-look (trees ws n) (x .0) (omega (arith, l, length-trees ws n)))
+      (resolve-kept ws n e (some (look (trees ws n) (x .0))) (value (graph W) B p) S (grown-none ws n e (c .sorts))
+      (member-look (trees ws n) (x .0) (omega (arith, l, length-trees ws n)))
       (value-formed ws n e ns m d v c B b p i))
       (λ t S₁ q σ r z. resolve-or-default-is-the-assignment ws n e ns m d v c B b p S i (look (trees ws n) (x .0)) t S₁ q σ r z)
       (λ S₁ q. resolve-or-default-never-none ws n e ns m d v c B b p S (look (trees ws n) (x .0)) S₁ q)
@@ -108,10 +110,12 @@ module _ (W : Lent) (c : CheckedLent W) (B : Binds) (b : CheckedBinds W B) (p : 
           × ((id .0 < K .sorts)
           × ((σ : ℕ → Term) → Respects (graph W) B σ → ((u : ℕ) → binding B u ≡ none → σ u ≡ termOf (look (trees ws n) (x .0)))
           → substitute σ (termAt (graph W) p) ≡ termOf (look (trees us (K .sorts)) (id .0))))
-      resolve-or-default-answers id K q = leaves-sort W (AlwaysStandsFor W B (Is x) p) (ReachesFree W B (Is x) p) (answer (Is x)) (resolve-leaves (Is x) l) us id K q
+      resolve-or-default-answers id K q = leaves-sort W (AlwaysStandsFor W B (Is x) p) (ReachesFree W B (Is x) p)
+          (answer (Is x)) (resolve-leaves (Is x) l) us id K q
 
       pub resolve-or-default-answers-a-sort : (K : Counts) → answer (Is x) ≡ storedAt us (NotFound K) → ⊥
-      resolve-or-default-answers-a-sort K q = leaves-none W (AlwaysStandsFor W B (Is x) p) (ReachesFree W B (Is x) p) (answer (Is x)) (resolve-leaves (Is x) l) us K q .1
+      resolve-or-default-answers-a-sort K q = leaves-none W (AlwaysStandsFor W B (Is x) p) (ReachesFree W B (Is x) p)
+          (answer (Is x)) (resolve-leaves (Is x) l) us K q .1
 
     pub resolve-has-no-room : (x : Default) → DefaultBelow n x → answer x ≡ storedAt us Full → Grows W (withSortWords W us n e) × ReadsAs W us
     resolve-has-no-room x l q = leaves-full W (AlwaysStandsFor W B x p) (ReachesFree W B x p) (answer x) (resolve-leaves x l) us q

@@ -12,13 +12,17 @@ use lib.ListN.{length, getD}
 use Rattle.resolved_sort.specs.Tree.{unit, Tree, flat}
 use Rattle.resolved_sort.specs.Interning.{Sorts, member, Outcome, made, nothing, full, _then_, fits, intern}
 use Rattle.resolved_sort.proofs.Reached.{no-confusion}
-use Rattle.unification.specs.Term.{Head, flatHead, containerHead, functionHead, strayHead, Term, var, app, Terms, no-part, part, Shape, variable, over, termOf, termsOf, substitute, substitutes}
+use Rattle.unification.specs.Term.{Head, flatHead, containerHead, functionHead, strayHead, Term, var, app}
+use Rattle.unification.specs.Term.{Terms, no-part, part, Shape, variable, over, termOf, termsOf, substitute}
+use Rattle.unification.specs.Term.{substitutes}
 use Rattle.unification.specs.Nodes.{isPlace, shapeAt, Binds, binding}
 use Rattle.unification.specs.Unify.{deep, follow}
 use Rattle.unification.specs.Acyclic.{One, first, later, Reaches, here, inside, beyond, Lower}
 use Rattle.unification.specs.Checked.{NodesChecked, listsOf, BindsChecked}
 use Rattle.unification.specs.Solutions.{termsAt, valueBound, valueAt, valueTo, termAt, Respects}
-use Rattle.unification.specs.Resolve.{value, firsts, treeOver, resolveTerm, resolveTerms, resolve, resolveOrDefault, NoRoomFor, Determined, determined, underdetermined, out-of-room}
+use Rattle.unification.specs.Resolve.{value, firsts, treeOver, resolveTerm, resolveTerms, resolve}
+use Rattle.unification.specs.Resolve.{resolveOrDefault, NoRoomFor, Determined, determined, underdetermined}
+use Rattle.unification.specs.Resolve.{out-of-room}
 use Rattle.unification.specs.Exact.{shapeVal}
 use Rattle.unification.proofs.Exact.{follow-value}
 use Rattle.unification.proofs.Rank.{highest, rank, Ranked, rank-var, rank-over, one-highest}
@@ -132,7 +136,8 @@ module _ (d : Option Tree) where
   unfolding Says resolveTerm substitute Has
   variable-denotes v S = go d
     where
-      go : (x : Option Tree) → Says (λ u. (σ : ℕ → Term) → ((w : ℕ) → Has w (var v) → Given x (σ w)) → substitute σ (var v) ≡ termOf u) Any (resolveTerm x (var v) S)
+      go : (x : Option Tree) → Says (λ u. (σ : ℕ → Term) → ((w : ℕ) → Has w (var v) → Given x (σ w))
+          → substitute σ (var v) ≡ termOf u) Any (resolveTerm x (var v) S)
       go none = tt
       go (some y) = λ σ h. h v refl
 
@@ -146,7 +151,8 @@ module _ (d : Option Tree) where
   unfolding Says substitutes termsFor
   no-part-denotes S = λ σ z. refl
 
-  part-denotes : (t : Term) (ts : Terms) (u : Tree) (us : List Tree) (S : Sorts) → Denotes t u → AllDenote ts us → Says (AllDenote (part t ts)) Any (made (u ∷ us) S)
+  part-denotes : (t : Term) (ts : Terms) (u : Tree) (us : List Tree) (S : Sorts) → Denotes t u → AllDenote ts us
+      → Says (AllDenote (part t ts)) Any (made (u ∷ us) S)
   unfolding Says substitutes termsFor OneHas
   part-denotes t ts u us S a b = λ σ z. ap₂ part (a σ (λ v x. z v (inl x))) (b σ (λ v x. z v (inr x)))
 
@@ -187,7 +193,8 @@ no-part-closed : (S : Sorts) → Says (λ (us : List Tree). AllClosed no-part) (
 unfolding Says OneHas
 no-part-closed S = λ v z. z
 
-part-closed : (t : Term) (ts : Terms) (us : List Tree) (S : Sorts) → Closed t → AllClosed ts → Says (λ us. AllClosed (part t ts)) (OneOpen (part t ts)) (made us S)
+part-closed : (t : Term) (ts : Terms) (us : List Tree) (S : Sorts) → Closed t → AllClosed ts
+    → Says (λ us. AllClosed (part t ts)) (OneOpen (part t ts)) (made us S)
 unfolding Says OneHas
 part-closed t ts us S a b = λ v z. ⊎-elim (a v) (b v) z
 
@@ -203,8 +210,10 @@ mutual
   resolves-closed : (ts : Terms) (S : Sorts) → Says (λ us. AllClosed ts) (OneOpen ts) (resolveTerms none ts S)
   resolves-closed no-part S = no-part-closed S
   resolves-closed (part t ts) S =
-      says-then (λ u. Closed t) (Open t) (λ us. AllClosed (part t ts)) (OneOpen (part t ts)) (resolveTerm none t S) _ (resolve-closed t S) (λ z. (z .0, inl (z .1)))
-      (λ u S₁ a. says-then (λ us. AllClosed ts) (OneOpen ts) (λ us. AllClosed (part t ts)) (OneOpen (part t ts)) (resolveTerms none ts S₁) _ (resolves-closed ts S₁) (λ z. (z .0, inr (z .1)))
+      says-then (λ u. Closed t) (Open t) (λ us. AllClosed (part t ts)) (OneOpen (part t ts)) (resolveTerm none t S) _
+      (resolve-closed t S) (λ z. (z .0, inl (z .1)))
+      (λ u S₁ a. says-then (λ us. AllClosed ts) (OneOpen ts) (λ us. AllClosed (part t ts)) (OneOpen (part t ts))
+      (resolveTerms none ts S₁) _ (resolves-closed ts S₁) (λ z. (z .0, inr (z .1)))
       (λ us S₂ b. part-closed t ts (u ∷ us) S₂ a b))
 
 -- with a default: never none
@@ -218,13 +227,15 @@ mutual
   default-never-none : (x : Tree) (t : Term) (S : Sorts) → Says (λ u. Unit {0}) ⊥ (resolveTerm (some x) t S)
   default-never-none x (var v) S = made-says x S
   default-never-none x (app h ts) S =
-      says-then (λ us. Unit {0}) ⊥ (λ u. Unit {0}) ⊥ (resolveTerms (some x) ts S) _ (defaults-never-none x ts S) (λ z. z) (λ us S₁ a. intern-says (λ u. Unit {0}) ⊥ (treeOver h us) S₁ tt)
+      says-then (λ us. Unit {0}) ⊥ (λ u. Unit {0}) ⊥ (resolveTerms (some x) ts S) _ (defaults-never-none x ts S)
+      (λ z. z) (λ us S₁ a. intern-says (λ u. Unit {0}) ⊥ (treeOver h us) S₁ tt)
 
   defaults-never-none : (x : Tree) (ts : Terms) (S : Sorts) → Says (λ us. Unit {0}) ⊥ (resolveTerms (some x) ts S)
   defaults-never-none x no-part S = made-says [] S
   defaults-never-none x (part t ts) S =
       says-then (λ u. Unit {0}) ⊥ (λ us. Unit {0}) ⊥ (resolveTerm (some x) t S) _ (default-never-none x t S) (λ z. z)
-      (λ u S₁ a. says-then (λ us. Unit {0}) ⊥ (λ us. Unit {0}) ⊥ (resolveTerms (some x) ts S₁) _ (defaults-never-none x ts S₁) (λ z. z) (λ us S₂ b. made-says (u ∷ us) S₂))
+      (λ u S₁ a. says-then (λ us. Unit {0}) ⊥ (λ us. Unit {0}) ⊥ (resolveTerms (some x) ts S₁) _ (defaults-never-none
+      x ts S₁) (λ z. z) (λ us S₂ b. made-says (u ∷ us) S₂))
 
 -- the term of a place through the bindings
 module _ (shape : ℕ → Shape) (w : ℕ) (B : Binds) (A : Ranked shape w B) where
@@ -255,18 +266,21 @@ module _ (shape : ℕ → Shape) (w : ℕ) (B : Binds) (A : Ranked shape w B) wh
   abbrev Free : ℕ → ℕ → Type 0
   Free v p = Reaches shape B v p × (binding B v ≡ none)
 
-  some-part : (v k : ℕ) (ps : List ℕ) → highest ρ ps < suc k → OneHas v (termsAt val ps) → ((q : ℕ) → ρ q < k → Has v (val q) → Free v q) → (q : ℕ) × (One q ps × Free v q)
+  some-part : (v k : ℕ) (ps : List ℕ) → highest ρ ps < suc k → OneHas v (termsAt val ps) → ((q : ℕ) → ρ q < k
+      → Has v (val q) → Free v q) → (q : ℕ) × (One q ps × Free v q)
   unfolding OneHas
   some-part v k [] l h ih = absurd h
   some-part v k (p ∷ ps) l h ih =
-      ⊎-elim (λ x. (p, (first ps, ih p (omega (arith, l)) x))) (λ x. let r = some-part v k ps (omega (arith, l)) x ih in (r .0, (later p ps (r .1 .0), r .1 .1))) h
+      ⊎-elim (λ x. (p, (first ps, ih p (omega (arith, l)) x))) (λ x. let r = some-part v k ps (omega (arith, l)) x
+      ih in (r .0, (later p ps (r .1 .0), r .1 .1))) h
 
   stands-free-to : (v k p : ℕ) → ρ p < k → Has v (val p) → Free v p
   unfolding Has
   stands-free-to v zero p l h = absurd (omega (arith, l))
   stands-free-to v (suc k) p l h = go (shape p) refl (subst (Has v) (Enough.value-eq shape w B A var p) h) (stands-free-to v k)
     where
-      bound : (u : ℕ) (o : Option ℕ) → shape p ≡ variable u → binding B u ≡ o → Has v (valueBound var u val o) → ((q : ℕ) → ρ q < k → Has v (val q) → Free v q) → Free v p
+      bound : (u : ℕ) (o : Option ℕ) → shape p ≡ variable u → binding B u ≡ o → Has v (valueBound var u val o)
+          → ((q : ℕ) → ρ q < k → Has v (val q) → Free v q) → Free v p
       bound u none s e x ih = (here p (s ∙ ap variable (sym x)), ap (binding B) x ∙ e)
       bound u (some q) s e x ih = let y = ih q (omega (arith, l, rank-var shape w B A p u q s e)) x in (beyond p u q s e (y .0), y .1)
 
@@ -287,9 +301,11 @@ module _ (shape : ℕ → Shape) (w : ℕ) (B : Binds) (A : Ranked shape w B) wh
     put-value-to : (k p : ℕ) → ρ p < k → substitute σ (val p) ≡ now p
     unfolding substitute
     put-value-to zero p l = absurd (omega (arith, l))
-    put-value-to (suc k) p l = ap (substitute σ) (Enough.value-eq shape w B A var p) ∙ (go (shape p) refl (put-value-to k) ∙ sym (value-by-shape shape K low σ p))
+    put-value-to (suc k) p l = ap (substitute σ) (Enough.value-eq shape w B A var p) ∙ (go (shape p) refl
+        (put-value-to k) ∙ sym (value-by-shape shape K low σ p))
       where
-        bound : (u : ℕ) (o : Option ℕ) → shape p ≡ variable u → binding B u ≡ o → ((q : ℕ) → ρ q < k → substitute σ (val q) ≡ now q) → substitute σ (valueBound var u val o) ≡ σ u
+        bound : (u : ℕ) (o : Option ℕ) → shape p ≡ variable u → binding B u ≡ o → ((q : ℕ) → ρ q < k
+            → substitute σ (val q) ≡ now q) → substitute σ (valueBound var u val o) ≡ σ u
         bound u none s e ih = refl
         bound u (some q) s e ih = ih q (omega (arith, l, rank-var shape w B A p u q s e)) ∙ sym (r u q e)
 
@@ -362,9 +378,12 @@ module _ (ws : List ℕ) (n e : ℕ) (ns : List ℕ) (m d v : ℕ) (c : NodesChe
 
   module _ (p : ℕ) (S : Sorts) where
     -- A sort is what the place stands for under every assignment.
-    pub resolved-is-every-assignment : isPlace n m p ≡ true → (t : Tree) (S′ : Sorts) → resolve graph B p S ≡ made t S′ → (σ : ℕ → Term) → Respects graph B σ → substitute σ (termAt graph p) ≡ termOf t
+    pub resolved-is-every-assignment : isPlace n m p ≡ true → (t : Tree) (S′ : Sorts)
+        → resolve graph B p S ≡ made t S′ → (σ : ℕ → Term) → Respects graph B σ
+        → substitute σ (termAt graph p) ≡ termOf t
     resolved-is-every-assignment i t S′ q σ r =
-        sym (put-place σ r p) ∙ says-made (Denotes none (value graph B p)) (Unit {0}) (resolve graph B p S) t S′ (resolve-denotes none (value graph B p) S (value-formed ws n e ns m d v c B b p i)) q σ (λ u h. tt)
+        sym (put-place σ r p) ∙ says-made (Denotes none (value graph B p)) (Unit {0}) (resolve graph B p S) t S′
+        (resolve-denotes none (value graph B p) S (value-formed ws n e ns m d v c B b p i)) q σ (λ u h. tt)
 
     determined-by : (O : Outcome Tree) → Says (λ u. Closed (value graph B p)) (Open (value graph B p)) O → Ends O → Determined graph B p O
     unfolding Says Ends
@@ -396,9 +415,11 @@ module _ (ws : List ℕ) (n e : ℕ) (ns : List ℕ) (m d v : ℕ) (c : NodesChe
         → (σ : ℕ → Term) → Respects graph B σ → ((u : ℕ) → binding B u ≡ none → σ u ≡ termOf x) → substitute σ (termAt graph p) ≡ termOf t
     resolve-or-default-is-the-assignment i x t S′ q σ r y =
         sym (put-place σ r p)
-        ∙ says-made (Denotes (some x) (value graph B p)) (Unit {0}) (resolveOrDefault graph B p x S) t S′ (resolve-denotes (some x) (value graph B p) S (value-formed ws n e ns m d v c B b p i)) q σ
+        ∙ says-made (Denotes (some x) (value graph B p)) (Unit {0}) (resolveOrDefault graph B p x S) t S′
+        (resolve-denotes (some x) (value graph B p) S (value-formed ws n e ns m d v c B b p i)) q σ
         (λ u h. y u (stands-free graph deep B A u p h .1))
 
   -- There is such an assignment.
   pub default-assignment : (x : Tree) → (σ : ℕ → Term) × (Respects graph B σ × ((u : ℕ) → binding B u ≡ none → σ u ≡ termOf x))
-  default-assignment x = solution graph 3072 (lower ws n e ns m d v c) v (scoped ws n e ns m d v c) deep (deep-enough ws n e ns m d v c) B (b .numbered) (λ u. termOf x)
+  default-assignment x = solution graph 3072 (lower ws n e ns m d v c) v (scoped ws n e ns m d v c) deep
+      (deep-enough ws n e ns m d v c) B (b .numbered) (λ u. termOf x)

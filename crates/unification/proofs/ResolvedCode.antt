@@ -26,7 +26,9 @@ use Rattle.resolved_sort.specs.Growing.{partsIn, members, Grown, SortsExtend, S
 use Rattle.resolved_sort.proofs.Append.{length-numbers}
 use Rattle.resolved_sort.proofs.Grown.{grown-none, after-none, sorts-again}
 use Rattle.resolved_sort.proofs.Kept.{extends-refl, member-extends, members-extends, InTrees, kept-then, intern-kept}
-use Rattle.resolved_sort.proofs.Reached.{Reached, reached, stopped, ended, reached-checked, reached-list, reached-trees, reached-below, reached-sort, reached-sorts, stored-again, intern-after}
+use Rattle.resolved_sort.proofs.Reached.{Reached, reached, stopped, ended, reached-checked, reached-list}
+use Rattle.resolved_sort.proofs.Reached.{reached-trees, reached-below, reached-sort, reached-sorts, stored-again}
+use Rattle.resolved_sort.proofs.Reached.{intern-after}
 use Rattle.resolved_sort.proofs.BoundsCode.{counts-are}
 use Rattle.resolved_sort.proofs.DomainCode.{domain-glue}
 use Rattle.resolved_sort.proofs.FunctionCode.{ReachedAll, reached-all, stopped-all, ended-all, first-ids, stored-nothing, stored-full, numbers-extend}
@@ -44,7 +46,8 @@ use Rattle.unification.proofs.Places.{bound-is-place}
 use Rattle.unification.proofs.Follow.{follow-end, follow-names}
 use Rattle.unification.proofs.Lists.{part-is-place}
 use Rattle.unification.proofs.Resolved.{value-eq, value-followed}
-use Rattle.unification.proofs.ResolvedSorts.{count, Formed, AllFormed, DefaultIn, default-extends, resolve-kept, grown-there, listed, firsts-listed, last-listed}
+use Rattle.unification.proofs.ResolvedSorts.{count, Formed, AllFormed, DefaultIn, default-extends}
+use Rattle.unification.proofs.ResolvedSorts.{resolve-kept, grown-there, listed, firsts-listed, last-listed}
 
 -- terms, and then one
 unfoldable pub withLast : Terms → Term → Terms
@@ -57,11 +60,15 @@ terms-with-last f [] r = refl
 terms-with-last f (x ∷ xs) r = ap (part (f x)) (terms-with-last f xs r)
 
 -- The clauses of resolve, by the head.
-pub resolve-container : (d : Option Tree) (o : ComplexSort) (t : Term) (S : Sorts) → resolveTerm d (app (containerHead o) (part t no-part)) S ≡ resolveTerm d t S then (λ u S. intern (container o u) S)
+pub resolve-container : (d : Option Tree) (o : ComplexSort) (t : Term) (S : Sorts)
+    → resolveTerm d (app (containerHead o) (part t no-part)) S ≡ resolveTerm d t S then (λ u S. intern (container o u)
+    S)
 unfolding resolveTerm resolveTerms treeOver
 resolve-container d o t S = go (resolveTerm d t S)
   where
-    go : (O : Outcome Tree) → (O then (λ u S. made (u ∷ []) S) then (λ us S. intern (container o (getD us 0 (flat unit))) S)) ≡ (O then (λ u S. intern (container o u) S))
+    go : (O : Outcome Tree)
+        → (O then (λ u S. made (u ∷ []) S) then (λ us S. intern (container o (getD us 0 (flat unit))) S)) ≡
+        (O then (λ u S. intern (container o u) S))
     go (made u S₁) = refl
     go (nothing S₁) = refl
     go (full S₁) = refl
@@ -86,7 +93,8 @@ parts-listed d (part t ts) r S = go (resolveTerm d t S) (parts-listed d ts r)
     rest u (full S₁) = refl
 
     go : (O : Outcome Tree)
-        → ((S : Sorts) → resolveTerms d (withLast ts r) S ≡ (resolveArguments d ts S then (λ us S. resolveTerm d r S then (λ u S. made (listed us (u ∷ [])) S))))
+        → ((S : Sorts) → resolveTerms d (withLast ts r) S ≡ (resolveArguments d ts S then (λ us S. resolveTerm d r S
+        then (λ u S. made (listed us (u ∷ [])) S))))
         → (O then (λ u S. resolveTerms d (withLast ts r) S then (λ us S. made (u ∷ us) S)))
         ≡ (O then (λ u S. resolveArguments d ts S then (λ us S. made (arg u us) S)) then (λ us S. resolveTerm d r S then (λ u S. made (listed us (u ∷ [])) S)))
     go (made u S₁) ih = ap (λ P. P then (λ us S. made (u ∷ us) S)) (ih S₁) ∙ rest u (resolveArguments d ts S₁)
@@ -109,23 +117,28 @@ arguments-counted d (part t ts) S = go (resolveTerm d t S) (arguments-counted d 
     more u (nothing S₁) h = tt
     more u (full S₁) h = tt
 
-    go : (O : Outcome Tree) → ((S : Sorts) → Counted (count ts) (resolveArguments d ts S)) → Counted (suc (count ts)) (O then (λ u S. resolveArguments d ts S then (λ us S. made (arg u us) S)))
+    go : (O : Outcome Tree) → ((S : Sorts) → Counted (count ts) (resolveArguments d ts S))
+        → Counted (suc (count ts)) (O then (λ u S. resolveArguments d ts S then (λ us S. made (arg u us) S)))
     go (made u S₁) ih = more u (resolveArguments d ts S₁) (ih S₁)
     go (nothing S₁) ih = tt
     go (full S₁) ih = tt
 
 pub resolve-function : (d : Option Tree) (ts : Terms) (r : Term) (S : Sorts)
-    → resolveTerm d (app (functionHead (count ts)) (withLast ts r)) S ≡ (resolveArguments d ts S then (λ us S. resolveTerm d r S then (λ u S. intern (function us u) S)))
+    → resolveTerm d (app (functionHead (count ts)) (withLast ts r)) S ≡ (resolveArguments d ts S then
+    (λ us S. resolveTerm d r S then (λ u S. intern (function us u) S)))
 unfolding resolveTerm treeOver Counted
 resolve-function d ts r S =
-    ap (λ P. P then (λ us S. intern (treeOver (functionHead (count ts)) us) S)) (parts-listed d ts r S) ∙ go (resolveArguments d ts S) (arguments-counted d ts S)
+    ap (λ P. P then (λ us S. intern (treeOver (functionHead (count ts)) us) S)) (parts-listed d ts r S) ∙ go
+    (resolveArguments d ts S) (arguments-counted d ts S)
   where
     whole : (us : Trees) (u : Tree) → arity us ≡ count ts → treeOver (functionHead (count ts)) (listed us (u ∷ [])) ≡ function us u
     whole us u h =
-        ap (λ k. function (firsts k (listed us (u ∷ []))) (getD (listed us (u ∷ [])) k (flat unit))) (sym h) ∙ ap₂ function (firsts-listed us (u ∷ [])) (last-listed us u)
+        ap (λ k. function (firsts k (listed us (u ∷ []))) (getD (listed us (u ∷ [])) k (flat unit))) (sym h) ∙ ap₂
+        function (firsts-listed us (u ∷ [])) (last-listed us u)
 
     range : (us : Trees) → arity us ≡ count ts → (O : Outcome Tree)
-        → (O then (λ u S. made (listed us (u ∷ [])) S) then (λ us S. intern (treeOver (functionHead (count ts)) us) S)) ≡ (O then (λ u S. intern (function us u) S))
+        → (O then (λ u S. made (listed us (u ∷ [])) S) then (λ us S. intern (treeOver (functionHead (count ts)) us)
+        S)) ≡ (O then (λ u S. intern (function us u) S))
     range us h (made u S₁) = ap (λ t. intern t S₁) (whole us u h)
     range us h (nothing S₁) = refl
     range us h (full S₁) = refl
@@ -143,12 +156,14 @@ module _ (ws : List ℕ) (n e : ℕ) where
   unfolding SortsKept members arity
   none-kept S g = (g, extends-refl S, (refl, refl))
 
-  one-kept : (u : Tree) (k : ℕ) (S₀ S : Sorts) → InTree S₀ u → Grown ws n e S → SortsExtend S₀ S → (us : Trees) → InTrees k S us → SortsKept ws n e (InTrees (suc k)) S (made (arg u us) S)
+  one-kept : (u : Tree) (k : ℕ) (S₀ S : Sorts) → InTree S₀ u → Grown ws n e S → SortsExtend S₀ S → (us : Trees)
+      → InTrees k S us → SortsKept ws n e (InTrees (suc k)) S (made (arg u us) S)
   unfolding SortsKept members arity
   one-kept u k S₀ S m g x us h =
       (g, extends-refl S, (and-eq-true-iff (member (S .trees) u) (members (S .trees) us) .1 (member-extends S₀ S u x m, h .0), omega (arith, h .1)))
 
-  pub arguments-kept : (d : Option Tree) (ts : Terms) (S : Sorts) → Grown ws n e S → DefaultIn d S → AllFormed ts → SortsKept ws n e (InTrees (count ts)) S (resolveArguments d ts S)
+  pub arguments-kept : (d : Option Tree) (ts : Terms) (S : Sorts) → Grown ws n e S → DefaultIn d S → AllFormed ts
+      → SortsKept ws n e (InTrees (count ts)) S (resolveArguments d ts S)
   unfolding resolveArguments AllFormed count
   arguments-kept d no-part S g i f = none-kept S g
   arguments-kept d (part t ts) S g i f =
@@ -158,7 +173,8 @@ module _ (ws : List ℕ) (n e : ℕ) where
       (λ us S₂ g₂ x₂ h. one-kept u (count ts) S₁ S₂ m g₂ x₂ us h))
 
 -- what a call has left, by the words and the counts that it gave back
-left-reads : (ws : List ℕ) (n e : ℕ) (S : Sorts) → Grown ws n e S → (vs : List ℕ) (K : Counts) → vs ≡ after ws n e S → K ≡ countsOf S → sortsOf vs (K .sorts) (K .entries) ≡ S
+left-reads : (ws : List ℕ) (n e : ℕ) (S : Sorts) → Grown ws n e S → (vs : List ℕ) (K : Counts) → vs ≡ after ws n e S
+    → K ≡ countsOf S → sortsOf vs (K .sorts) (K .entries) ≡ S
 left-reads ws n e S g vs K w c = rw (w, c) (sorts-again ws n e S g)
 
 -- calls from the words ws with the counts C
@@ -194,10 +210,12 @@ module _ (ws : List ℕ) (C : Counts) (k : Checked ws (C .sorts) (C .entries)) (
     part-ended : r ≡ Full → (S₁ : Sorts) × (one ≡ full S₁) × (vs ≡ after ws n e S₁)
     part-ended z = ended ws n e one vs (ap (storedAt vs) (sym z) ∙ er)
 
-    pub container-stops : (o : ComplexSort) (K : Counts) → r ≡ Nothing K → storedAt vs (Nothing K) ≡ stored ws n e (resolveTerm x (app (containerHead o) (part t no-part)) S)
+    pub container-stops : (o : ComplexSort) (K : Counts) → r ≡ Nothing K → storedAt vs (Nothing K) ≡ stored ws n e
+        (resolveTerm x (app (containerHead o) (part t no-part)) S)
     container-stops o K z =
         let g = part-stopped K z in
-        stored-nothing ws n e (g .0) vs K (g .2) (g .3) ∙ ap (stored ws n e) (sym (resolve-container x o t S ∙ ap (λ O. O then (λ u S. intern (container o u) S)) (g .1)))
+        stored-nothing ws n e (g .0) vs K (g .2) (g .3) ∙ ap (stored ws n e) (sym (resolve-container x o t S ∙ ap
+        (λ O. O then (λ u S. intern (container o u) S)) (g .1)))
 
     pub container-ends : (o : ComplexSort) → r ≡ Full → storedAt vs Full ≡ stored ws n e (resolveTerm x (app (containerHead o) (part t no-part)) S)
     container-ends o z =
@@ -235,7 +253,8 @@ module _ (ws : List ℕ) (C : Counts) (k : Checked ws (C .sorts) (C .entries)) (
       part-below = reached-below ws n e S one vs c K part-reached
 
       -- a container is interned over it
-      pub container-made : (o : ComplexSort) (us : List ℕ) (w : Joined) → storedAt us w ≡ internAt vs (K .sorts) (K .entries) (container o (look (trees vs (K .sorts)) (c .0)))
+      pub container-made : (o : ComplexSort) (us : List ℕ) (w : Joined) → storedAt us w ≡ internAt vs (K .sorts)
+          (K .entries) (container o (look (trees vs (K .sorts)) (c .0)))
           → storedAt us w ≡ stored ws n e (resolveTerm x (app (containerHead o) (part t no-part)) S)
       unfolding partsIn need
       container-made o us w q =
@@ -249,10 +268,14 @@ module _ (ws : List ℕ) (C : Counts) (k : Checked ws (C .sorts) (C .entries)) (
           → storedDomain us a ≡ domainOf ws n e j ids (resolveArguments x (part t ts) S)
       unfolding resolveArguments
       arguments-made ts fs j ids us a q =
-          q ∙ (ap (λ U. domainOf vs (K .sorts) (K .entries) (j + 1) (set ids j (c .0)) (resolveArguments x ts U)) (reached-list ws n e S one vs c K part-reached)
-          ∙ (ap₂ (λ ys D. domainOf ys (D .sorts) (D .entries) (j + 1) (set ids j (c .0)) (resolveArguments x ts S′)) (part-reached .words) (part-reached .counted)
-          ∙ (domain-glue ws n e S′ (part-reached .grown) (part-reached .sort) (part-reached .inside) (c .0) (part-reached .numbered) j ids (count ts) (resolveArguments x ts S′)
-          (arguments-kept (after ws n e S′) (length (S′ .trees)) (maxEntries - S′ .entries) x ts S′ (grown-there ws n e S′ (part-reached .grown)) (default-extends x S S′ (part-reached .extends) i) fs)
+          q ∙ (ap (λ U. domainOf vs (K .sorts) (K .entries) (j + 1) (set ids j (c .0)) (resolveArguments x ts U))
+          (reached-list ws n e S one vs c K part-reached)
+          ∙ (ap₂ (λ ys D. domainOf ys (D .sorts) (D .entries) (j + 1) (set ids j (c .0)) (resolveArguments x ts S′))
+          (part-reached .words) (part-reached .counted)
+          ∙ (domain-glue ws n e S′ (part-reached .grown) (part-reached .sort) (part-reached .inside) (c .0)
+          (part-reached .numbered) j ids (count ts) (resolveArguments x ts S′)
+          (arguments-kept (after ws n e S′) (length (S′ .trees)) (maxEntries - S′ .entries) x ts S′
+          (grown-there ws n e S′ (part-reached .grown)) (default-extends x S S′ (part-reached .extends) i) fs)
           ∙ sym (ap (λ O. domainOf ws n e j ids (O then (λ u S. resolveArguments x ts S then (λ us S. made (arg u us) S)))) (part-reached .is)))))
 
   -- a function: the arguments, then the range, then the whole
@@ -315,7 +338,8 @@ module _ (ws : List ℕ) (C : Counts) (k : Checked ws (C .sorts) (C .entries)) (
         function-then : resolveTerm x functionTerm S ≡ (range S₁ then (λ u S. intern (function (arguments-reached .args) u) S))
         function-then = resolve-function x ts t S ∙ ap (λ O. O then whole) (arguments-reached .is)
 
-        module _ (us : List ℕ) (r : Joined) (er : storedAt us r ≡ stored vs (K .sorts) (K .entries) (resolveTerm x t (sortsOf vs (K .sorts) (K .entries)))) where
+        module _ (us : List ℕ) (r : Joined) (er : storedAt us r ≡ stored vs (K .sorts) (K .entries)
+            (resolveTerm x t (sortsOf vs (K .sorts) (K .entries)))) where
           to-range : storedAt us r ≡ stored w₁ n₁ e₁ (range S₁)
           to-range =
               er ∙ (ap (λ U. stored vs (K .sorts) (K .entries) (resolveTerm x t U)) arguments-list
@@ -358,21 +382,30 @@ module _ (ws : List ℕ) (C : Counts) (k : Checked ws (C .sorts) (C .entries)) (
             arguments-count = length-numbers (S₁ .trees) args ∙ arguments-reached .as-many
 
             ids-are : take (count ts) (a .ids) ≡ numbers (S₁ .trees) args
-            ids-are = ap₂ take (sym arguments-count) (arguments-reached .stored-ids) ∙ first-ids (numbers (S₁ .trees) args) (omega (arith, arguments-count, few))
+            ids-are = ap₂ take (sym arguments-count) (arguments-reached .stored-ids) ∙ first-ids (numbers (S₁ .trees)
+                args) (omega (arith, arguments-count, few))
 
             sorts-grow : n₁ ≤ K₂ .sorts
-            sorts-grow = omega (arith, reached-sorts w₁ n₁ e₁ S₁ (range S₁) us c K₂ range-reached, ap length (range-reached .extends .1), length-append (S₁ .trees) (range-reached .extends .0))
+            sorts-grow = omega (
+              arith,
+              reached-sorts w₁ n₁ e₁ S₁ (range S₁) us c K₂ range-reached,
+              ap length
+                  (range-reached .extends .1),
+              length-append (S₁ .trees) (range-reached .extends .0),
+            )
 
             pub function-ids-below : AllBelow (K₂ .sorts) (take (count ts) (a .ids))
             function-ids-below =
-                subst (AllBelow (K₂ .sorts)) (sym ids-are) (weaken-all n₁ (K₂ .sorts) (numbers (S₁ .trees) args) sorts-grow (numbers-below (S₁ .trees) args (arguments-reached .inside)))
+                subst (AllBelow (K₂ .sorts)) (sym ids-are) (weaken-all n₁ (K₂ .sorts) (numbers (S₁ .trees) args)
+                sorts-grow (numbers-below (S₁ .trees) args (arguments-reached .inside)))
 
             members-there : members (S₂ .trees) args ≡ true
             members-there = members-extends S₁ S₂ args (range-reached .extends) (arguments-reached .inside)
 
             args-there : lookAll (trees us (K₂ .sorts)) (take (count ts) (a .ids)) ≡ args
             args-there =
-                ap₂ lookAll (reached-trees w₁ n₁ e₁ S₁ (range S₁) us c K₂ range-reached) (ids-are ∙ sym (numbers-extend S₁ S₂ args (range-reached .extends) (arguments-reached .inside)))
+                ap₂ lookAll (reached-trees w₁ n₁ e₁ S₁ (range S₁) us c K₂ range-reached)
+                (ids-are ∙ sym (numbers-extend S₁ S₂ args (range-reached .extends) (arguments-reached .inside)))
                 ∙ lookAll-numbers (S₂ .trees) args members-there
 
             few-args : arity args ≤ 16
@@ -383,7 +416,8 @@ module _ (ws : List ℕ) (C : Counts) (k : Checked ws (C .sorts) (C .entries)) (
             parts-there = and-eq-true-iff (members (S₂ .trees) args) (member (S₂ .trees) (range-reached .sort)) .1 (members-there, range-reached .inside)
 
             pub function-made : (zs : List ℕ) (w : Joined)
-                → storedAt zs w ≡ internAt us (K₂ .sorts) (K₂ .entries) (function (lookAll (trees us (K₂ .sorts)) (take (count ts) (a .ids))) (look (trees us (K₂ .sorts)) (c .0)))
+                → storedAt zs w ≡ internAt us (K₂ .sorts) (K₂ .entries) (function (lookAll (trees us (K₂ .sorts))
+                (take (count ts) (a .ids))) (look (trees us (K₂ .sorts)) (c .0)))
                 → storedAt zs w ≡ stored ws n e (resolveTerm x functionTerm S)
             unfolding need
             function-made zs w g =
@@ -456,6 +490,7 @@ module _ (ws : List ℕ) (n e : ℕ) (ns : List ℕ) (m d v : ℕ) (c : NodesChe
       pub function-formed : (xs : List ℕ) (r : ℕ) → graph q ≡ over (functionHead (length xs)) (xs ++ (r ∷ []))
           → AllFormed (termsAt val xs) × Formed (val r) × (count (termsAt val xs) ≤ 16)
       function-formed xs r y =
-          let z = formed-split (termsAt val xs) (val r) (subst AllFormed (terms-with-last val xs r) (parts-formed (functionHead (length xs)) (xs ++ (r ∷ [])) y)) in
+          let z = formed-split (termsAt val xs) (val r) (subst AllFormed (terms-with-last val xs r)
+          (parts-formed (functionHead (length xs)) (xs ++ (r ∷ [])) y)) in
           let o = subst ShapeOver y (place-over ws n e ns m d v c q (followed-is-place deep p q i f)) in
           (z .0, z .1, omega (arith, o .1, count-terms val xs))

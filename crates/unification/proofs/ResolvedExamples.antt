@@ -84,5 +84,9 @@ answers : (resolve (shapeAt lists) free 3 given
     ∷ full (made-then [] 0 4096)
     ∷ full (made-then (listOfNat ∷ []) 8 1)
     ∷ [])
-unfolding lists sorts nodes row free bound nat setOfNat listOfNat overNat six given made-then shapeAt Nodes.isPlace Nodes.sortShape Nodes.nodeShape Nodes.inferred Nodes.nodeEntriesOf Storage.resolved Storage.entriesOf Storage.trees Storage.treeOf Storage.lookAll Interning.look Interning.member Interning.need Interning.intern Tree.same Tree.family Tree.level Tree.familyOp Tree.levelOp Tree.arity Solutions.valueTo Resolve.firsts Resolve.treeOver Resolve.resolveTerm
+unfolding lists sorts nodes row free bound nat setOfNat listOfNat overNat six given made-then shapeAt Nodes.isPlace
+    Nodes.sortShape Nodes.nodeShape Nodes.inferred Nodes.nodeEntriesOf Storage.resolved Storage.entriesOf
+    Storage.trees Storage.treeOf Storage.lookAll Interning.look Interning.member Interning.need Interning.intern
+    Tree.same Tree.family Tree.level Tree.familyOp Tree.levelOp Tree.arity Solutions.valueTo Resolve.firsts
+    Resolve.treeOver Resolve.resolveTerm
 answers = refl

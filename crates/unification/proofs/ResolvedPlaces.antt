@@ -66,11 +66,13 @@ module _ (ws : List ℕ) (n e : ℕ) (ns : List ℕ) (m d v : ℕ) (c : NodesChe
     formed-to zero p i = tt
     formed-to (suc k) p i = go (shapeAt L p) refl (place-over p i) (formed-to k)
       where
-        bound : (u : ℕ) (o : Option ℕ) → binding B u ≡ o → ((q : ℕ) → isPlace n m q ≡ true → Formed (valueTo (shapeAt L) B var k q)) → Formed (valueBound var u (valueTo (shapeAt L) B var k) o)
+        bound : (u : ℕ) (o : Option ℕ) → binding B u ≡ o → ((q : ℕ) → isPlace n m q ≡ true
+            → Formed (valueTo (shapeAt L) B var k q)) → Formed (valueBound var u (valueTo (shapeAt L) B var k) o)
         bound u none e ih = tt
         bound u (some q) e ih = ih q (bound-is-place n m B u q (b .places) e)
 
-        go : (s : Shape) → shapeAt L p ≡ s → ShapeOver s → ((q : ℕ) → isPlace n m q ≡ true → Formed (valueTo (shapeAt L) B var k q)) → Formed (valueAt B var (valueTo (shapeAt L) B var k) s)
+        go : (s : Shape) → shapeAt L p ≡ s → ShapeOver s → ((q : ℕ) → isPlace n m q ≡ true
+            → Formed (valueTo (shapeAt L) B var k q)) → Formed (valueAt B var (valueTo (shapeAt L) B var k) s)
         go (variable u) s x ih = bound u (binding B u) refl ih
         go (over h ps) s x ih = (
           subst (HeadOver h) (sym (count-terms (valueTo (shapeAt L) B var k) ps)) x,
@@ -83,14 +85,17 @@ module _ (ws : List ℕ) (n e : ℕ) (ns : List ℕ) (m d v : ℕ) (c : NodesChe
 
     -- the term of a sort is that of its tree
     pub value-of-sort : (p : ℕ) → p < n → value (shapeAt L) B p ≡ termOf (look (trees ws n) p)
-    value-of-sort p l = sort-value ws n e ns m d v c _ (value (shapeAt L) B) (model (shapeAt L) deep B (checked-ranked ws n e ns m d v c B b) var .isval) (suc p) p (omega arith) l
+    value-of-sort p l = sort-value ws n e ns m d v c _ (value (shapeAt L) B) (model (shapeAt L) deep B
+        (checked-ranked ws n e ns m d v c B b) var .isval) (suc p) p (omega arith) l
 
     -- and it is found in every list that grew from the storage
-    pub sort-place-is-found : (S : Sorts) → Grown ws n e S → (x : Option Tree) (p : ℕ) → p < n → resolveTerm x (value (shapeAt L) B p) S ≡ made (look (trees ws n) p) S
+    pub sort-place-is-found : (S : Sorts) → Grown ws n e S → (x : Option Tree) (p : ℕ) → p < n
+        → resolveTerm x (value (shapeAt L) B p) S ≡ made (look (trees ws n) p) S
     sort-place-is-found S g x p l =
         ap (λ t. resolveTerm x t S) (value-of-sort p l)
         ∙ sort-is-found ws n e S g x (look (trees ws n) p)
-        (subst (λ T. member T (look (trees ws n) p) ≡ true) (sym (g .prefix)) (member-grows (trees ws n) _ (look (trees ws n) p) (member-look (trees ws n) p (omega (arith, l, length-trees ws n)))))
+        (subst (λ T. member T (look (trees ws n) p) ≡ true) (sym (g .prefix)) (member-grows (trees ws n) _
+        (look (trees ws n) p) (member-look (trees ws n) p (omega (arith, l, length-trees ws n)))))
 
 -- A list of sorts that has grown: places of before are places, and stand for what they stood for.
 module _ (ws : List ℕ) (n e : ℕ) (ns : List ℕ) (m d v : ℕ) (c : NodesChecked ws n e ns m d v) (S : Sorts) (g : Grown ws n e S) where

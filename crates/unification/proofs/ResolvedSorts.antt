@@ -80,12 +80,15 @@ one-in T (u ∷ us) (suc k) l a = one-in T us k (omega arith) (a .1)
 
 module _ (ws : List ℕ) (n e : ℕ) where
   -- a head interned over sorts of the list
-  pub head-interned : (h : Head) (us : List Tree) (k : ℕ) (S : Sorts) → Grown ws n e S → HeadOver h k → InLists k S us → SortsKept ws n e InTree S (intern (treeOver h us) S)
+  pub head-interned : (h : Head) (us : List Tree) (k : ℕ) (S : Sorts) → Grown ws n e S → HeadOver h k → InLists k S us
+      → SortsKept ws n e InTree S (intern (treeOver h us) S)
   unfolding treeOver partsIn need
   head-interned (flatHead a) us k S g o m = intern-kept ws n e S g (flat a) refl (omega arith)
-  head-interned (containerHead q) us k S g o m = container-interned ws n e q (getD us 0 (flat unit)) S g (one-in (S .trees) us 0 (omega (arith, o, m .1)) (m .0))
+  head-interned (containerHead q) us k S g o m = container-interned ws n e q (getD us 0 (flat unit)) S g
+      (one-in (S .trees) us 0 (omega (arith, o, m .1)) (m .0))
   head-interned (functionHead j) us k S g o m =
-      function-interned ws n e (firsts j us) (getD us j (flat unit)) S g (firsts-in (S .trees) j us (m .0)) (omega (arith, o, m .1, firsts-arity j us (omega (arith, o .0, m .1))))
+      function-interned ws n e (firsts j us) (getD us j (flat unit)) S g (firsts-in (S .trees) j us (m .0))
+      (omega (arith, o, m .1, firsts-arity j us (omega (arith, o .0, m .1))))
       (one-in (S .trees) us j (omega (arith, o .0, m .1)) (m .0))
   head-interned (strayHead x) us k S g o m = absurd o
 
@@ -93,7 +96,8 @@ module _ (ws : List ℕ) (n e : ℕ) where
   unfolding SortsKept AllIn
   none-resolved S g = (g, extends-refl S, (tt, refl))
 
-  one-resolved : (u : Tree) (k : ℕ) (S₀ S : Sorts) → InTree S₀ u → Grown ws n e S → SortsExtend S₀ S → (us : List Tree) → InLists k S us → SortsKept ws n e (InLists (suc k)) S (made (u ∷ us) S)
+  one-resolved : (u : Tree) (k : ℕ) (S₀ S : Sorts) → InTree S₀ u → Grown ws n e S → SortsExtend S₀ S
+      → (us : List Tree) → InLists k S us → SortsKept ws n e (InLists (suc k)) S (made (u ∷ us) S)
   unfolding SortsKept AllIn
   one-resolved u k S₀ S m g x us a = (g, extends-refl S, ((member-extends S₀ S u x m, a .0), ap suc (a .1)))
 
@@ -111,7 +115,8 @@ module _ (ws : List ℕ) (n e : ℕ) where
         kept-then ws n e (InLists (count ts)) InTree S (resolveTerms d ts S) _ (resolves-kept d ts S g i (f .1))
         (λ us S₁ g₁ x₁ m. head-interned h us (count ts) S₁ g₁ (f .0) m)
 
-    pub resolves-kept : (d : Option Tree) (ts : Terms) (S : Sorts) → Grown ws n e S → DefaultIn d S → AllFormed ts → SortsKept ws n e (InLists (count ts)) S (resolveTerms d ts S)
+    pub resolves-kept : (d : Option Tree) (ts : Terms) (S : Sorts) → Grown ws n e S → DefaultIn d S → AllFormed ts
+        → SortsKept ws n e (InLists (count ts)) S (resolveTerms d ts S)
     resolves-kept d no-part S g i f = none-resolved S g
     resolves-kept d (part t ts) S g i f =
         kept-then ws n e InTree (InLists (suc (count ts))) S (resolveTerm d t S) _ (resolve-kept d t S g i (f .0))
@@ -161,14 +166,18 @@ module _ (d : Option Tree) (S : Sorts) where
     whole-is-found : (t : Tree) → Whole (S .trees) t → resolveTerm d (termOf t) S ≡ made t S
     whole-is-found (flat a) w = intern-found (flat a) S w
     whole-is-found (container o t) w =
-        ap (λ O. O then (λ u S. resolveTerms d no-part S then (λ us S. made (u ∷ us) S)) then (λ us S. intern (treeOver (containerHead o) us) S)) (whole-is-found t (w .1))
+        ap (λ O. O then (λ u S. resolveTerms d no-part S then (λ us S. made (u ∷ us) S)) then
+        (λ us S. intern (treeOver (containerHead o) us) S)) (whole-is-found t (w .1))
         ∙ intern-found (container o t) S (w .0)
     whole-is-found (function ts r) w =
         ap (λ O. O then (λ us S. intern (treeOver (functionHead (arity ts)) us) S))
-        (wholes-are-found ts (part (termOf r) no-part) (r ∷ []) (w .1) (ap (λ O. O then (λ u S. resolveTerms d no-part S then (λ us S. made (u ∷ us) S))) (whole-is-found r (w .2))))
+        (wholes-are-found ts (part (termOf r) no-part) (r ∷ []) (w .1)
+        (ap (λ O. O then (λ u S. resolveTerms d no-part S then (λ us S. made (u ∷ us) S)))
+        (whole-is-found r (w .2))))
         ∙ (ap₂ (λ us u. intern (function us u) S) (firsts-listed ts (r ∷ [])) (last-listed ts r) ∙ intern-found (function ts r) S (w .0))
 
-    wholes-are-found : (ts : Trees) (xs : Terms) (us : List Tree) → Wholes (S .trees) ts → resolveTerms d xs S ≡ made us S → resolveTerms d (termsOf ts xs) S ≡ made (listed ts us) S
+    wholes-are-found : (ts : Trees) (xs : Terms) (us : List Tree) → Wholes (S .trees) ts
+        → resolveTerms d xs S ≡ made us S → resolveTerms d (termsOf ts xs) S ≡ made (listed ts us) S
     wholes-are-found no-args xs us w q = q
     wholes-are-found (arg t ts) xs us w q =
         ap (λ O. O then (λ u S. resolveTerms d (termsOf ts xs) S then (λ us S. made (u ∷ us) S))) (whole-is-found t (w .0))
@@ -180,5 +189,6 @@ member-whole ws n e S g t m =
     let w = look-whole (after ws n e S) (length (S .trees)) (maxEntries - S .entries) (g .checked) (number (S .trees) t) (number-below (S .trees) t m) in
     subst (Whole (S .trees)) (look-number (S .trees) t m) (subst (λ T. Whole T (look T (number (S .trees) t))) (g .reads) w)
 
-pub sort-is-found : (ws : List ℕ) (n e : ℕ) (S : Sorts) → Grown ws n e S → (d : Option Tree) (t : Tree) → member (S .trees) t ≡ true → resolveTerm d (termOf t) S ≡ made t S
+pub sort-is-found : (ws : List ℕ) (n e : ℕ) (S : Sorts) → Grown ws n e S → (d : Option Tree) (t : Tree)
+    → member (S .trees) t ≡ true → resolveTerm d (termOf t) S ≡ made t S
 sort-is-found ws n e S g d t m = whole-is-found d S t (member-whole ws n e S g t m)

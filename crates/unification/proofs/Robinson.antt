@@ -16,7 +16,9 @@ use Rattle.unification.specs.Term.{Shape, variable, over, sameHead}
 use Rattle.unification.specs.Nodes.{isSort, Binds, binding}
 use Rattle.unification.specs.Acyclic.{Numbering, Lower}
 use Rattle.unification.specs.Trail.{frees}
-use Rattle.unification.specs.Unify.{Unifies, too-deep, no-way, yes-with, and-then, Occurs, unknown, absent, present, follow, occurs, bindUnless, unifyAll, unifyHeads, unifyVariables, unifyShapes, unifyApart, unifyEnds, unifyFollowed, unifyTo}
+use Rattle.unification.specs.Unify.{Unifies, too-deep, no-way, yes-with, and-then, Occurs, unknown, absent}
+use Rattle.unification.specs.Unify.{present, follow, occurs, bindUnless, unifyAll, unifyHeads, unifyVariables}
+use Rattle.unification.specs.Unify.{unifyShapes, unifyApart, unifyEnds, unifyFollowed, unifyTo}
 use Rattle.unification.proofs.Rank.{highest, rank, Ranked, rank-over, frees-set}
 use Rattle.unification.proofs.Follow.{follow-end}
 use Rattle.unification.proofs.Numbering.{numbered-ranked}
@@ -36,11 +38,13 @@ next-trans shape n B C D x y = record { numbering = y .numbering; long = y .long
 pub next-refl : (shape : ℕ → Shape) (n : ℕ) (B : Binds) → Numbering shape n B → Next shape n B B
 next-refl shape n B N = record { numbering = N; long = refl; fewer = inl refl }
 
-module _ (shape : ℕ → Shape) (K : ℕ) (lower : Lower shape K) (n : ℕ) (scoped : (p v : ℕ) → shape p ≡ variable v → v < n) (w : ℕ) (deep : suc n * suc K + K < w) where
+module _ (shape : ℕ → Shape) (K : ℕ) (lower : Lower shape K) (n : ℕ) (scoped : (p v : ℕ) → shape p ≡ variable v
+    → v < n) (w : ℕ) (deep : suc n * suc K + K < w) where
   abbrev ranks : (B : Binds) → Numbering shape n B → Ranked shape w B
   ranks B N = numbered-ranked shape K lower n B N w deep
 
-  bound-next : (B : Binds) → Numbering shape n B → (v r : ℕ) → v < length B → binding B v ≡ none → occurs shape w B v r ≡ absent → Next shape n B (set B v (some r))
+  bound-next : (B : Binds) → Numbering shape n B → (v r : ℕ) → v < length B → binding B v ≡ none
+      → occurs shape w B v r ≡ absent → Next shape n B (set B v (some r))
   bound-next B N v r lt free o =
       let e = frees-set B v r lt free in
       record { numbering = binding-numbered shape K lower n scoped w deep B N v r free lt o; long = length-set B v (some r); fewer = inr (omega arith) }
@@ -63,7 +67,8 @@ module _ (shape : ℕ → Shape) (K : ℕ) (lower : Lower shape K) (n : ℕ) (sc
       go no-way x t = tt
       go (yes-with C) x t = then C x (unifyAll shape f C xs ys) (t C (x .long ∙ len) (x .numbering))
 
-  bind-kept : (B : Binds) → Numbering shape n B → (v r : ℕ) → v < length B → binding B v ≡ none → BindsKept shape n B (bindUnless shape (occurs shape w B v r) B v r)
+  bind-kept : (B : Binds) → Numbering shape n B → (v r : ℕ) → v < length B → binding B v ≡ none
+      → BindsKept shape n B (bindUnless shape (occurs shape w B v r) B v r)
   bind-kept B N v r lt free = go (occurs shape w B v r) refl
     where
       go : (a : Occurs) → occurs shape w B v r ≡ a → BindsKept shape n B (bindUnless shape a B v r)
@@ -135,7 +140,8 @@ module _ (shape : ℕ → Shape) (K : ℕ) (lower : Lower shape K) (n : ℕ) (sc
       go no-way i z e t = no-confusion (cc)
       go (yes-with D) i z e t = t D (z .long ∙ len) (next-trans shape n B C D N z) (omega arith) e
 
-  pub depth-left : (B C : Binds) → Numbering shape n B → Next shape n B C → (a m k : ℕ) → rank shape w B a < m → frees B * w + m < suc k → frees C * w + rank shape w C a < k
+  pub depth-left : (B C : Binds) → Numbering shape n B → Next shape n B C → (a m k : ℕ) → rank shape w B a < m
+      → frees B * w + m < suc k → frees C * w + rank shape w C a < k
   depth-left B C F N a m k lt le = go (N .fewer)
     where
       go : (C ≡ B) ⊎ (frees C < frees B) → frees C * w + rank shape w C a < k
@@ -145,7 +151,8 @@ module _ (shape : ℕ → Shape) (K : ℕ) (lower : Lower shape K) (n : ℕ) (sc
           let t : suc (frees C) * w ≤ frees B * w = mul-le-mul-right w i in
           omega arith
 
-  pub unify-known : (k : ℕ) (B : Binds) (l r : ℕ) → length B ≡ n → Numbering shape n B → frees B * w + rank shape w B l < k → unifyTo shape w k B l r ≡ too-deep → ⊥
+  pub unify-known : (k : ℕ) (B : Binds) (l r : ℕ) → length B ≡ n → Numbering shape n B
+      → frees B * w + rank shape w B l < k → unifyTo shape w k B l r ≡ too-deep → ⊥
   unfolding unifyTo
   unify-known zero B l r len F le e = omega arith
   unify-known (suc k) B l r len F le e =

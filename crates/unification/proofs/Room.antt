@@ -14,7 +14,8 @@ use Rattle.unification.specs.Term.{flatHead, containerHead, functionHead
 use Rattle.unification.specs.Nodes.{isSort, Binds}
 use Rattle.unification.specs.Unify.{follow, deep}
 use Rattle.unification.specs.Related.{relatedNumbers, relatedContainer}
-use Rattle.unification.specs.Making.{Lent, graph, Makes, made, no-room, relatedOver, pushFunctions, relatedPlaces, relatedShape, relatedEnd, relatedTo, strictRelated}
+use Rattle.unification.specs.Making.{Lent, graph, Makes, made, no-room, relatedOver, pushFunctions}
+use Rattle.unification.specs.Making.{relatedPlaces, relatedShape, relatedEnd, relatedTo, strictRelated}
 use Rattle.unification.proofs.Outcomes.{Each, each-then, each-weaker, each-over, each-functions}
 
 three-at-most : (up : Bool) (a : Flat) → length (relatedPlaces up a) ≤ 3

@@ -52,11 +52,15 @@ module _ (fits : ℕ → Bool) (entry : ℕ → ℕ) (used : ℕ) (domain : Run)
       rw (le-leb (domain .count) 16 (f .short), le-leb (domain .start + domain .count) used (f .inside), f .range-fits)
       (each-below (domain .count) (λ j. fits (entry (domain .start + j))) (f .each-fits))
 
-pub sort-function-fine : (ws : List ℕ) (e i : ℕ) (domain : Run) (range : ℕ) → partsBelow ws e i (SortFunction domain (record { 0 = range })) ≡ true → FunctionFine (λ q. ltb q i) (entryAt ws) e domain range
+pub sort-function-fine : (ws : List ℕ) (e i : ℕ) (domain : Run) (range : ℕ)
+    → partsBelow ws e i (SortFunction domain (record { 0 = range })) ≡ true → FunctionFine (λ q. ltb q i) (entryAt ws)
+    e domain range
 unfolding partsBelow
 sort-function-fine ws e i domain range = tests-fine (λ q. ltb q i) (entryAt ws) e domain range
 
-pub node-function-fine : (ns : List ℕ) (d n v i : ℕ) (domain : Run) (range : ℕ) → nodePartsFine ns d n v i (Function domain (record { 0 = range })) ≡ true → FunctionFine (isPlace n i) (nodeEntryAt ns) d domain range
+pub node-function-fine : (ns : List ℕ) (d n v i : ℕ) (domain : Run) (range : ℕ)
+    → nodePartsFine ns d n v i (Function domain (record { 0 = range })) ≡ true
+    → FunctionFine (isPlace n i) (nodeEntryAt ns) d domain range
 unfolding nodePartsFine
 node-function-fine ns d n v i domain range = tests-fine (isPlace n i) (nodeEntryAt ns) d domain range
 
@@ -68,7 +72,8 @@ fixed-six-kinds ws n f =
     (leb-true 6 n (x .0), λ i l. eqb-true (kindAt ws i) i (below-each 6 (λ i. eqb (kindAt ws i) i) (x .1) i l))
 
 -- a node passed: its kind is known, and its parts are fine
-pub node-fine-parts : (ns : List ℕ) (d n v i : ℕ) → nodeFine ns d n v i ≡ true → (nodeKindFine (nodeKindAt ns i) ≡ true) × (nodePartsFine ns d n v i (nodeAt ns i) ≡ true)
+pub node-fine-parts : (ns : List ℕ) (d n v i : ℕ) → nodeFine ns d n v i ≡ true
+    → (nodeKindFine (nodeKindAt ns i) ≡ true) × (nodePartsFine ns d n v i (nodeAt ns i) ≡ true)
 unfolding nodeFine
 node-fine-parts ns d n v i f = and-eq-true-iff (nodeKindFine (nodeKindAt ns i)) (nodePartsFine ns d n v i (nodeAt ns i)) .0 f
 
@@ -77,24 +82,31 @@ unfolding nodesFine
 nodes-fine-each ns m d n v f = below-each m (nodeFine ns d n v) f
 
 -- parts of a sort, and of a node
-pub sort-parts : (ws : List ℕ) (e i : ℕ) (r : ResolvedSort) → partsBelow ws e i r ≡ true → (q : ℕ) (h : Head) (ps : List ℕ) → sortShape ws r ≡ over h ps → One q ps → q < i
+pub sort-parts : (ws : List ℕ) (e i : ℕ) (r : ResolvedSort) → partsBelow ws e i r ≡ true
+    → (q : ℕ) (h : Head) (ps : List ℕ) → sortShape ws r ≡ over h ps → One q ps → q < i
 unfolding partsBelow sortShape
 sort-parts ws e i UnitRow f q h ps s o = none-of q ps o (let z : ps ≡ [] = cc in z)
 sort-parts ws e i (Primitive x) f q h ps s o = none-of q ps o (let z : ps ≡ [] = cc in z)
-sort-parts ws e i (Container op x) f q h ps s o = subst (λ (z : ℕ). z < i) (sym (one-of-one q (x .0) ps o (let z : ps ≡ x .0 ∷ [] = cc in z))) (ltb-true (x .0) i f)
+sort-parts ws e i (Container op x) f q h ps s o = subst (λ (z : ℕ). z < i)
+    (sym (one-of-one q (x .0) ps o (let z : ps ≡ x .0 ∷ [] = cc in z))) (ltb-true (x .0) i f)
 sort-parts ws e i (SortFunction domain range) f q h ps s o =
     let g = sort-function-fine ws e i domain (range .0) f in
-    each-of-function (entryAt ws) (entriesOf ws) (sort-runs ws) (λ z. z < i) (domain .start) (domain .count) (range .0) (λ j l. ltb-true (entryAt ws (domain .start + j)) i (g .each-fits j l)) (ltb-true (range .0) i (g .range-fits)) q
+    each-of-function (entryAt ws) (entriesOf ws) (sort-runs ws) (λ z. z < i) (domain .start) (domain .count)
+    (range .0) (λ j l. ltb-true (entryAt ws (domain .start + j)) i (g .each-fits j l)) (ltb-true (range .0) i
+    (g .range-fits)) q
     (subst (One q) (let z : ps ≡ entriesOf ws (domain .start) (domain .count) ++ (range .0 ∷ []) = cc in z) o)
 sort-parts ws e i (Def x) f q h ps s o = none-of q ps o (let z : ps ≡ [] = cc in z)
 sort-parts ws e i (TypeVar x) f q h ps s o = none-of q ps o (let z : ps ≡ [] = cc in z)
 
-pub node-parts : (ns : List ℕ) (d n v i : ℕ) (r : InferSort) → nodePartsFine ns d n v i r ≡ true → (q : ℕ) (h : Head) (ps : List ℕ) → nodeShape ns r ≡ over h ps → One q ps → isPlace n i q ≡ true
+pub node-parts : (ns : List ℕ) (d n v i : ℕ) (r : InferSort) → nodePartsFine ns d n v i r ≡ true
+    → (q : ℕ) (h : Head) (ps : List ℕ) → nodeShape ns r ≡ over h ps → One q ps → isPlace n i q ≡ true
 unfolding nodePartsFine nodeShape
-node-parts ns d n v i (Generic op x) f q h ps s o = subst (λ (z : ℕ). isPlace n i z ≡ true) (sym (one-of-one q (x .0) ps o (let z : ps ≡ x .0 ∷ [] = cc in z))) f
+node-parts ns d n v i (Generic op x) f q h ps s o = subst (λ (z : ℕ). isPlace n i z ≡ true)
+    (sym (one-of-one q (x .0) ps o (let z : ps ≡ x .0 ∷ [] = cc in z))) f
 node-parts ns d n v i (Function domain range) f q h ps s o =
     let g = node-function-fine ns d n v i domain (range .0) f in
-    each-of-function (nodeEntryAt ns) (nodeEntriesOf ns) (node-runs ns) (λ z. isPlace n i z ≡ true) (domain .start) (domain .count) (range .0) (g .each-fits) (g .range-fits) q
+    each-of-function (nodeEntryAt ns) (nodeEntriesOf ns) (node-runs ns) (λ z. isPlace n i z ≡ true) (domain .start)
+    (domain .count) (range .0) (g .each-fits) (g .range-fits) q
     (subst (One q) (let z : ps ≡ nodeEntriesOf ns (domain .start) (domain .count) ++ (range .0 ∷ []) = cc in z) o)
 node-parts ns d n v i (Var u) f q h ps s o = no-confusion (cc)
 
@@ -133,7 +145,8 @@ sort-formed ws e i UnitRow f = flat-formed unit
 sort-formed ws e i (Primitive s) f = flat-formed (primitive s)
 sort-formed ws e i (Container op s) f = container-formed op (s .0)
 sort-formed ws e i (SortFunction domain range) f =
-    function-formed (domain .count) (entriesOf ws (domain .start) (domain .count)) (range .0) (length-entries ws (domain .start) (domain .count)) (sort-function-fine ws e i domain (range .0) f .short)
+    function-formed (domain .count) (entriesOf ws (domain .start) (domain .count)) (range .0) (length-entries ws
+    (domain .start) (domain .count)) (sort-function-fine ws e i domain (range .0) f .short)
 sort-formed ws e i (Def n) f = flat-formed (def n)
 sort-formed ws e i (TypeVar n) f = flat-formed (typevar n)
 
@@ -141,5 +154,6 @@ pub node-formed : (ns : List ℕ) (d n v i : ℕ) (r : InferSort) → nodePartsF
 unfolding nodeShape
 node-formed ns d n v i (Generic op s) f = container-formed op (s .0)
 node-formed ns d n v i (Function domain range) f =
-    function-formed (domain .count) (nodeEntriesOf ns (domain .start) (domain .count)) (range .0) (length-node-entries ns (domain .start) (domain .count)) (node-function-fine ns d n v i domain (range .0) f .short)
+    function-formed (domain .count) (nodeEntriesOf ns (domain .start) (domain .count)) (range .0) (length-node-entries
+    ns (domain .start) (domain .count)) (node-function-fine ns d n v i domain (range .0) f .short)
 node-formed ns d n v i (Var u) f = variable-formed (u .0)

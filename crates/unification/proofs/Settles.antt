@@ -15,7 +15,9 @@ use Rattle.resolved_sort.proofs.Numbers.{true-not-false}
 use Rattle.resolved_sort.proofs.Reached.{no-confusion}
 use Rattle.unification.specs.Term.{strayHead, variable, over}
 use Rattle.unification.specs.Nodes.{nodeAt, nodeShape, Lists, isSort, isPlace, shapeAt, Binds, binding}
-use Rattle.unification.specs.Acyclic.{One, first, later, Stands, at, within, Numbering, placeSettled, allSettled, shapeSettled, nodesSettled, bindingSettled, varsSettled, rounds, allTrue, acyclic}
+use Rattle.unification.specs.Acyclic.{One, first, later, Stands, at, within, Numbering, placeSettled}
+use Rattle.unification.specs.Acyclic.{allSettled, shapeSettled, nodesSettled, bindingSettled, varsSettled}
+use Rattle.unification.specs.Acyclic.{rounds, allTrue, acyclic}
 use Rattle.unification.specs.Checked.{ListsFine, listsOf}
 use Rattle.unification.proofs.Numbering.{numbered}
 use Rattle.unification.proofs.Parts.{none-of}
@@ -38,10 +40,12 @@ getD-before [] y i l = absurd (omega (arith, l))
 getD-before (x ∷ xs) y zero l = refl
 getD-before (x ∷ xs) y (suc i) l = getD-before xs y i (omega (arith, l))
 
-node-last : (ns : List ℕ) (vs : List Bool) (i : ℕ) → getD (nodesSettled ns vs (suc i)) i false ≡ shapeSettled vs (nodesSettled ns vs i) (nodeShape ns (nodeAt ns i))
+node-last : (ns : List ℕ) (vs : List Bool) (i : ℕ) → getD (nodesSettled ns vs (suc i)) i false ≡ shapeSettled vs
+    (nodesSettled ns vs i) (nodeShape ns (nodeAt ns i))
 unfolding nodesSettled
 node-last ns vs i =
-    ap (λ (k : ℕ). getD (nodesSettled ns vs i ++ (shapeSettled vs (nodesSettled ns vs i) (nodeShape ns (nodeAt ns i)) ∷ [])) k false) (sym (length-nodes ns vs i))
+    ap (λ (k : ℕ). getD (nodesSettled ns vs i ++ (shapeSettled vs (nodesSettled ns vs i) (nodeShape ns (nodeAt ns i))
+    ∷ [])) k false) (sym (length-nodes ns vs i))
     ∙ getD-append-seam (nodesSettled ns vs i) (shapeSettled vs (nodesSettled ns vs i) (nodeShape ns (nodeAt ns i))) [] false
 
 node-before : (ns : List ℕ) (vs : List Bool) (m i : ℕ) → i < m → getD (nodesSettled ns vs (suc m)) i false ≡ getD (nodesSettled ns vs m) i false
@@ -54,12 +58,14 @@ node-longer ns vs (suc k) i j l =
     ap (λ (x : ℕ). getD (nodesSettled ns vs x) j false) (let z : i + suc k ≡ suc (i + k) = omega arith in z)
     ∙ (node-before ns vs (i + k) j (omega (arith, l)) ∙ node-longer ns vs k i j l)
 
-pub node-is : (ns : List ℕ) (vs : List Bool) (m i : ℕ) → i < m → getD (nodesSettled ns vs m) i false ≡ shapeSettled vs (nodesSettled ns vs i) (nodeShape ns (nodeAt ns i))
+pub node-is : (ns : List ℕ) (vs : List Bool) (m i : ℕ) → i < m → getD (nodesSettled ns vs m) i false ≡ shapeSettled vs
+    (nodesSettled ns vs i) (nodeShape ns (nodeAt ns i))
 node-is ns vs m i l =
     ap (λ (x : ℕ). getD (nodesSettled ns vs x) i false) (let z : m ≡ suc i + (m - suc i) = omega (arith, l) in z)
     ∙ (node-longer ns vs (m - suc i) (suc i) i (omega arith) ∙ node-last ns vs i)
 
-pub settled-longer : (ns : List ℕ) (vs : List Bool) (n m i q : ℕ) → i ≤ m → isPlace n i q ≡ true → placeSettled (nodesSettled ns vs i) q ≡ placeSettled (nodesSettled ns vs m) q
+pub settled-longer : (ns : List ℕ) (vs : List Bool) (n m i q : ℕ) → i ≤ m → isPlace n i q ≡ true
+    → placeSettled (nodesSettled ns vs i) q ≡ placeSettled (nodesSettled ns vs m) q
 unfolding isPlace
 settled-longer ns vs n m i q l e = go (isSort q) refl e
   where
@@ -129,16 +135,25 @@ module _ (ws : List ℕ) (n e : ℕ) (ns : List ℕ) (m d v : ℕ) (c : ListsFin
       go (is-sort a l g) = sort-no-variable ws u (rowAt ws p) (sym g ∙ s)
       go (is-node i l x g) =
           let y : nodeShape ns (nodeAt ns i) ≡ variable u = sym g ∙ s in
-          sym (ap (shapeSettled (rounds ns m B k) (nodesSettled ns (rounds ns m B k) i)) y) ∙ (sym (node-is ns (rounds ns m B k) m i l) ∙ (node-flag (flags k) p i x ∙ f))
+          sym (ap (shapeSettled (rounds ns m B k) (nodesSettled ns (rounds ns m B k) i)) y) ∙
+          (sym (node-is ns (rounds ns m B k) m i l) ∙ (node-flag (flags k) p i x ∙ f))
       go (is-stray z g) = let y : over (strayHead p) [] ≡ variable u = sym g ∙ s in no-confusion (cc)
   stands-settled k u _ (within p q h ps s o t) f = stands-settled k u q t (go (place ws n ns m p))
     where
       go : Place ws n ns m p → placeSettled (flags k) q ≡ true
-      go (is-sort a l g) = sort-settled (flags k) q (omega (arith, sort-parts ws e p (rowAt ws p) (sort-parts-fine ws n e ns m d v c p l) q h ps (sym g ∙ s) o, l, c .sorts))
+      go (is-sort a l g) = sort-settled (flags k) q (omega (
+        arith,
+        sort-parts ws e p (rowAt ws p) (sort-parts-fine ws
+            n e ns m d v c p l) q h ps (sym g ∙ s) o,
+        l,
+        c .sorts,
+      ))
       go (is-node i l x g) =
           let y : nodeShape ns (nodeAt ns i) ≡ over h ps = sym g ∙ s in
-          let z = sym (ap (shapeSettled (rounds ns m B k) (nodesSettled ns (rounds ns m B k) i)) y) ∙ (sym (node-is ns (rounds ns m B k) m i l) ∙ (node-flag (flags k) p i x ∙ f)) in
-          sym (settled-longer ns (rounds ns m B k) n m i q (omega (arith, l)) (node-parts ns d n v i (nodeAt ns i) (node-parts-fine ws n e ns m d v c i l) q h ps y o))
+          let z = sym (ap (shapeSettled (rounds ns m B k) (nodesSettled ns (rounds ns m B k) i)) y) ∙
+          (sym (node-is ns (rounds ns m B k) m i l) ∙ (node-flag (flags k) p i x ∙ f)) in
+          sym (settled-longer ns (rounds ns m B k) n m i q (omega (arith, l)) (node-parts ns d n v i (nodeAt ns i)
+          (node-parts-fine ws n e ns m d v c i l) q h ps y o))
           ∙ all-one (nodesSettled ns (rounds ns m B k) i) q ps o z
       go (is-stray z g) = none-of q ps o (let y : over (strayHead p) [] ≡ over h ps = sym g ∙ s in let w : ps ≡ [] = cc in w)
 
@@ -170,7 +185,12 @@ module _ (ws : List ℕ) (n e : ℕ) (ns : List ℕ) (m d v : ℕ) (c : ListsFin
     falls-by : (j : ℕ) → length B ≡ suc j → (x q u : ℕ) → binding B x ≡ some q → Stands (shapeAt L) u q → open-rounds u (length B) < open-rounds x (length B)
     unfolding acyclic open-rounds
     falls-by j l x q u b s =
-        let z : settled (suc j) x ≡ true = all-each (rounds ns m B (suc j)) x (subst (λ (k : ℕ). allTrue (rounds ns m B k) ≡ true) l a) (omega (arith, bound-inside B x q b, length-rounds ns m B (suc j))) in
+        let z : settled (suc j) x ≡ true = all-each (rounds ns m B (suc j)) x
+        (subst (λ (k : ℕ). allTrue (rounds ns m B k) ≡ true) l a) (omega (
+          arith,
+          bound-inside B x q b,
+          length-rounds ns m B (suc j),
+        )) in
         let y = one-back j x q u b s z in
         subst (λ (k : ℕ). open-rounds u k < open-rounds x k) (sym l) (rw y (omega (arith, more-open x q u b s j)))
 
@@ -179,4 +199,5 @@ module _ (ws : List ℕ) (n e : ℕ) (ns : List ℕ) (m d v : ℕ) (c : ListsFin
 
     -- Check 7 passed: variables are numbered.
     pub acyclic-numbered : Numbering (shapeAt L) v B
-    acyclic-numbered = numbered (shapeAt L) v (scoped ws n e ns m d v c) B (λ x. open-rounds x (length B)) (λ x q u b s. falls-by (length B - 1) (some-variable x q b) x q u b s)
+    acyclic-numbered = numbered (shapeAt L) v (scoped ws n e ns m d v c) B (λ x. open-rounds x (length B))
+        (λ x q u b s. falls-by (length B - 1) (some-variable x q b) x q u b s)

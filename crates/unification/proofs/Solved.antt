@@ -27,9 +27,11 @@ module _ (shape : ℕ → Shape) (K : ℕ) (lower : Lower shape K) where
   same-at-depth (suc k) zero p l m = absurd (omega (arith, m))
   same-at-depth (suc k) (suc j) p l m = go (shape p) refl (same-at-depth k j)
     where
-      go : (s : Shape) → shape p ≡ s → ((q : ℕ) → q < k → q < j → termTo shape k q ≡ termTo shape j q) → termOfShape (termTo shape k) s ≡ termOfShape (termTo shape j) s
+      go : (s : Shape) → shape p ≡ s → ((q : ℕ) → q < k → q < j → termTo shape k q ≡ termTo shape j q)
+          → termOfShape (termTo shape k) s ≡ termOfShape (termTo shape j) s
       go (variable v) e ih = refl
-      go (over h ps) e ih = ap (app h) (termsAt-agree (termTo shape k) (termTo shape j) ps (λ q o. let x = lower p q h ps e o in ih q (omega (arith, l, x .0)) (omega (arith, m, x .0))))
+      go (over h ps) e ih = ap (app h) (termsAt-agree (termTo shape k) (termTo shape j) ps (λ q o. let x = lower p q h
+          ps e o in ih q (omega (arith, l, x .0)) (omega (arith, m, x .0))))
 
   abbrev pub value : (ℕ → Term) → ℕ → Term
   value σ p = substitute σ (termAt shape p)

@@ -52,7 +52,8 @@ module _ (ws us : List ℕ) (n e : ℕ) (a : Agrees ws us n e) where
   sort-shape i (Container op s) f = refl
   sort-shape i (SortFunction domain range) f =
       let l = sort-function-fine ws e i domain (range .0) f .inside in
-      ap (λ xs. over (functionHead (domain .count)) (xs ++ (range .0 ∷ []))) (entries-agree us ws (domain .start) (domain .count) (λ j h. a .entries (domain .start + j) (omega (arith, l, h))))
+      ap (λ xs. over (functionHead (domain .count)) (xs ++ (range .0 ∷ []))) (entries-agree us ws (domain .start)
+      (domain .count) (λ j h. a .entries (domain .start + j) (omega (arith, l, h))))
   sort-shape i (Def x) f = refl
   sort-shape i (TypeVar x) f = refl
 
@@ -60,10 +61,13 @@ module _ (ws us : List ℕ) (n e : ℕ) (a : Agrees ws us n e) where
   unfolding fixedSix
   fixed-six-same m l f =
       let x = fixed-six-kinds ws n f in
-      rw (le-leb 6 m (omega (arith, x .0, l))) (each-below 6 (λ i. eqb (kindAt us i) i) (λ i h. eq-eqb (kindAt us i) i (a .kinds i (omega (arith, x .0, h)) ∙ x .1 i h)))
+      rw (le-leb 6 m (omega (arith, x .0, l))) (each-below 6 (λ i. eqb (kindAt us i) i) (λ i h. eq-eqb (kindAt us i) i
+      (a .kinds i (omega (arith, x .0, h)) ∙ x .1 i h)))
 
 -- words that read as before below the old lengths
-module _ (W : Lent) (c : CheckedLent W) (us : List ℕ) (n′ e′ : ℕ) (k : Checked us n′ e′) (more : W .lengths .sorts ≤ n′) (used : W .lengths .entries ≤ e′) (as-long : length us ≡ length (W .sorts)) (old : Agrees (W .sorts) us (W .lengths .sorts) (W .lengths .entries)) where
+module _ (W : Lent) (c : CheckedLent W) (us : List ℕ) (n′ e′ : ℕ) (k : Checked us n′ e′) (more : W .lengths .sorts ≤
+    n′) (used : W .lengths .entries ≤ e′) (as-long : length us ≡ length (W .sorts)) (old : Agrees (W .sorts) us
+    (W .lengths .sorts) (W .lengths .entries)) where
   abbrev n : ℕ
   n = W .lengths .sorts
 
@@ -83,7 +87,8 @@ module _ (W : Lent) (c : CheckedLent W) (us : List ℕ) (n′ e′ : ℕ) (k : C
               variables = c .variables;
               fine =
                   each-below (W .lengths .nodes) (nodeFine (W .nodes) (W .lengths .arguments) n′ (W .lengths .variables))
-                  (node-fine-longer (W .nodes) (W .nodes) (W .lengths .nodes) (W .lengths .arguments) (record { rows = λ j l. refl; entries = λ j l. refl }) n (W .lengths .variables) (c .fine)
+                  (node-fine-longer (W .nodes) (W .nodes) (W .lengths .nodes) (W .lengths .arguments)
+                  (record { rows = λ j l. refl; entries = λ j l. refl }) n (W .lengths .variables) (c .fine)
                   (W .lengths .arguments) n′ (omega arith) more);
             };
         sorts = more;
@@ -97,7 +102,8 @@ module _ (W : Lent) (c : CheckedLent W) (us : List ℕ) (n′ e′ : ℕ) (k : C
         same =
             rows-same W (withSortWords W us n′ e′) more (omega arith)
             (λ i l. ap (sortShape us) (row-same (W .sorts) us n e old i l)
-            ∙ sort-shape (W .sorts) us n e old i (rowAt (W .sorts) i) (sort-parts-fine (W .sorts) n e (W .nodes) (W .lengths .nodes) (W .lengths .arguments) (W .lengths .variables) c i l))
+            ∙ sort-shape (W .sorts) us n e old i (rowAt (W .sorts) i) (sort-parts-fine (W .sorts) n e (W .nodes)
+            (W .lengths .nodes) (W .lengths .arguments) (W .lengths .variables) c i l))
             (λ i l. refl);
         looks = λ i l. look-longer us n n′ i l more ∙ ap (λ T. look T i) (trees-agree (W .sorts) us n (rows-agree (W .sorts) us n e old (c .sorts .fine)));
         fixed = fixed-six-same (W .sorts) us n e old n′ more;
@@ -107,12 +113,21 @@ module _ (W : Lent) (c : CheckedLent W) (S : Sorts) (g : Grown (W .sorts) (W .le
   pub sorts-grow : Grows W (withMoreSorts W S)
   sorts-grow =
       agreeing-sorts-grow W c (after (W .sorts) (W .lengths .sorts) (W .lengths .entries) S) (length (S .trees)) (maxEntries - S .entries) (g .checked)
-      (longer (W .sorts) (W .lengths .sorts) (W .lengths .entries) (c .sorts) S g) (entries-longer (W .sorts) (W .lengths .sorts) (W .lengths .entries) (c .sorts) S g)
-      (length-after (W .sorts) (W .lengths .sorts) (W .lengths .entries) (c .sorts) S g) (unchanged (W .sorts) (W .lengths .sorts) (W .lengths .entries) (c .sorts) S g)
+      (longer (W .sorts) (W .lengths .sorts) (W .lengths .entries) (c .sorts) S g) (entries-longer (W .sorts)
+      (W .lengths .sorts) (W .lengths .entries) (c .sorts) S g)
+      (length-after (W .sorts) (W .lengths .sorts) (W .lengths .entries) (c .sorts) S g) (unchanged (W .sorts)
+      (W .lengths .sorts) (W .lengths .entries) (c .sorts) S g)
 
 -- The same for lists given apart: ready again, and each place a place.
 pub ready-with-more-sorts : (ws ns bs : List ℕ) (k : Lengths) → Ready ws ns bs k → (S : Sorts) → Grown ws (k .sorts) (k .entries) S
-    → Ready (after ws (k .sorts) (k .entries) S) ns bs (record { sorts = length (S .trees); entries = maxEntries - S .entries; nodes = k .nodes; arguments = k .arguments; variables = k .variables })
+    → Ready (after ws (k .sorts) (k .entries) S) ns bs (record {
+      sorts = length (S .trees);
+      entries = maxEntries -
+          S .entries;
+      nodes = k .nodes;
+      arguments = k .arguments;
+      variables = k .variables;
+    })
 ready-with-more-sorts ws ns bs k r S g =
     let W : Lent = record { sorts = ws; nodes = ns; lengths = k } in
     ready-grown W (withMoreSorts W S) bs r (sorts-grow W (r .nodes) S g)

@@ -80,7 +80,8 @@ module _ (W : Lent) (c : CheckedLent W) where
     old-sorts-grow = agreeing-sorts-grow W c us n e old-checked (omega arith) (omega arith) (length-after ws n e (c .sorts) S g) old
 
   module _ (P : Tree → Type 0) (N : Type 0) where
-    pub left-by : (S₀ : Sorts) (O : Outcome Tree) → SortsKept ws n e InTree S₀ O → ((t : Tree) (S : Sorts) → O ≡ made t S → P t) → ((S : Sorts) → O ≡ nothing S → N)
+    pub left-by : (S₀ : Sorts) (O : Outcome Tree) → SortsKept ws n e InTree S₀ O → ((t : Tree) (S : Sorts)
+        → O ≡ made t S → P t) → ((S : Sorts) → O ≡ nothing S → N)
         → Leaves P N W (stored ws n e O .words) (stored ws n e O .answer)
     unfolding Leaves SortsKept stored
     left-by S₀ (made t S) k h f = (
@@ -92,7 +93,9 @@ module _ (W : Lent) (c : CheckedLent W) where
 
 -- The same by the equation that a call answers.
 module _ (W : Lent) (P : Tree → Type 0) (N : Type 0) (r : Stored) (h : Leaves P N W (r .words) (r .answer)) (us : List ℕ) where
-  pub leaves-sort : (id : SortId) (k : Counts) → r ≡ storedAt us (At id k) → Grows W (withSortWords W us (k .sorts) (k .entries)) × SortWith P (withSortWords W us (k .sorts) (k .entries)) (id .0)
+  pub leaves-sort : (id : SortId) (k : Counts) → r ≡ storedAt us (At id k)
+      → Grows W (withSortWords W us (k .sorts) (k .entries)) × SortWith P (withSortWords W us (k .sorts) (k .entries))
+      (id .0)
   unfolding Leaves
   leaves-sort id k q = subst (λ r. Leaves P N W (r .words) (r .answer)) q h
 

@@ -30,7 +30,9 @@ use Rattle.unification.proofs.RelatedEq.{function-parts, range-lower}
 use Rattle.unification.specs.Growing.{CheckedLent, PlacedIn, CheckedBinds, termIn}
 use Rattle.unification.proofs.Assignments.{place-has-a-sort, sorts-extend}
 use Rattle.unification.proofs.MostGeneral.{general-respects, value-is-general}
-use Rattle.unification.proofs.UpToNames.{Instance, SameButNames, instances-same-but-names, put-agrees, put-twice, resolve-up-to-names, openEnd, open-up-to-names, open-at-part}
+use Rattle.unification.proofs.UpToNames.{Instance, SameButNames, instances-same-but-names, put-agrees}
+use Rattle.unification.proofs.UpToNames.{put-twice, resolve-up-to-names, openEnd, open-up-to-names}
+use Rattle.unification.proofs.UpToNames.{open-at-part}
 use Rattle.unification.proofs.MakingGrows.{made-grows}
 use Rattle.unification.proofs.RelatedPlaces.{StandForRelated}
 use Rattle.unification.proofs.RelatedBinds.{checked-ranks, no-list-is-free, free-is-no-list, related-makes}
@@ -48,7 +50,8 @@ module _ (W : Lent) (c : CheckedLent W) (B : Binds) (b : CheckedBinds W B) where
 
   value-at : (p : ℕ) (s : Shape) → graph W p ≡ s → val p ≡ valueAt B var val s
   value-at p s i =
-      value-eq (W .sorts) (W .lengths .sorts) (W .lengths .entries) (W .nodes) (W .lengths .nodes) (W .lengths .arguments) (W .lengths .variables) c B b p ∙ ap (valueAt B var val) i
+      value-eq (W .sorts) (W .lengths .sorts) (W .lengths .entries) (W .nodes) (W .lengths .nodes)
+      (W .lengths .arguments) (W .lengths .variables) c B b p ∙ ap (valueAt B var val) i
 
   free-is-open : (p : ℕ) → FreeEnd (graph W) B p → openEnd (val p) ≡ true
   unfolding openEnd
@@ -67,12 +70,14 @@ module _ (W : Lent) (c : CheckedLent W) (B : Binds) (b : CheckedBinds W B) where
       ends u none s i x ih = free p u s i
       ends u (some q) s i x ih = bound-to p u q s i (ih q (omega (arith, l, rank-var (graph W) deep B A p u q s i)) x)
 
-      go : (s : Shape) → graph W p ≡ s → openEnd (valueAt B var val s) ≡ true → ((q : ℕ) → ρ q < k → openEnd (val q) ≡ true → FreeEnd (graph W) B q) → FreeEnd (graph W) B p
+      go : (s : Shape) → graph W p ≡ s → openEnd (valueAt B var val s) ≡ true → ((q : ℕ) → ρ q < k
+          → openEnd (val q) ≡ true → FreeEnd (graph W) B q) → FreeEnd (graph W) B p
       go (variable u) s x ih = ends u (binding B u) s refl x ih
       go (over (flatHead a) ps) s x ih = absurd (true-not-false false x refl)
       go (over (containerHead o) ps) s x ih = absurd (true-not-false false x refl)
       go (over (functionHead j) ps) s x ih =
-          range p j ps s (ih (getD ps j 0) (omega (arith, l, range-lower W B A p j ps s)) (sym (open-at-part val j ps (omega (arith, function-parts _ p j ps s))) ∙ x))
+          range p j ps s (ih (getD ps j 0) (omega (arith, l, range-lower W B A p j ps s))
+          (sym (open-at-part val j ps (omega (arith, function-parts _ p j ps s))) ∙ x))
       go (over (strayHead y) ps) s x ih = absurd (true-not-false false x refl)
 
   pub free-end-exactly : (p : ℕ) → FreeEnd (graph W) B p ↔ (openEnd (val p) ≡ true)
@@ -83,13 +88,16 @@ abbrev pub Covers : (ℕ → Shape) → Binds → ℕ → (ℕ → Shape) → Bi
 Covers shape B p shape′ B′ p′ =
     (σ : ℕ → Term) → Respects shape B σ → (τ : ℕ → Term) × (Respects shape′ B′ τ × (substitute τ (termAt shape′ p′) ≡ substitute σ (termAt shape p)))
 
-module _ (W : Lent) (c : CheckedLent W) (B : Binds) (b : CheckedBinds W B) (p : ℕ) (W′ : Lent) (c′ : CheckedLent W′) (B′ : Binds) (b′ : CheckedBinds W′ B′) (p′ : ℕ) where
+module _ (W : Lent) (c : CheckedLent W) (B : Binds) (b : CheckedBinds W B) (p : ℕ) (W′ : Lent) (c′ : CheckedLent W′)
+    (B′ : Binds) (b′ : CheckedBinds W′ B′) (p′ : ℕ) where
   put-here : (σ : ℕ → Term) → Respects (graph W) B σ → substitute σ (value (graph W) B p) ≡ substitute σ (termAt (graph W) p)
-  put-here σ r = put-place (W .sorts) (W .lengths .sorts) (W .lengths .entries) (W .nodes) (W .lengths .nodes) (W .lengths .arguments) (W .lengths .variables) c B b σ r p
+  put-here σ r = put-place (W .sorts) (W .lengths .sorts) (W .lengths .entries) (W .nodes) (W .lengths .nodes)
+      (W .lengths .arguments) (W .lengths .variables) c B b σ r p
 
   put-there : (σ : ℕ → Term) → Respects (graph W′) B′ σ → substitute σ (value (graph W′) B′ p′) ≡ substitute σ (termAt (graph W′) p′)
   put-there σ r =
-      put-place (W′ .sorts) (W′ .lengths .sorts) (W′ .lengths .entries) (W′ .nodes) (W′ .lengths .nodes) (W′ .lengths .arguments) (W′ .lengths .variables) c′ B′ b′ σ r p′
+      put-place (W′ .sorts) (W′ .lengths .sorts) (W′ .lengths .entries) (W′ .nodes) (W′ .lengths .nodes)
+      (W′ .lengths .arguments) (W′ .lengths .variables) c′ B′ b′ σ r p′
 
   to-instance : Covers (graph W) B p (graph W′) B′ p′ → Instance (value (graph W) B p) (value (graph W′) B′ p′)
   to-instance h =
@@ -98,15 +106,19 @@ module _ (W : Lent) (c : CheckedLent W) (B : Binds) (b : CheckedBinds W B) (p : 
 
   from-instance : Instance (value (graph W) B p) (value (graph W′) B′ p′) → Covers (graph W) B p (graph W′) B′ p′
   from-instance i σ r =
-      let s = solution (graph W′) 3072 (lower (W′ .sorts) (W′ .lengths .sorts) (W′ .lengths .entries) (W′ .nodes) (W′ .lengths .nodes) (W′ .lengths .arguments) (W′ .lengths .variables) c′)
-      (W′ .lengths .variables) (scoped (W′ .sorts) (W′ .lengths .sorts) (W′ .lengths .entries) (W′ .nodes) (W′ .lengths .nodes) (W′ .lengths .arguments) (W′ .lengths .variables) c′) deep
-      (deep-enough (W′ .sorts) (W′ .lengths .sorts) (W′ .lengths .entries) (W′ .nodes) (W′ .lengths .nodes) (W′ .lengths .arguments) (W′ .lengths .variables) c′) B′ (b′ .numbered)
+      let s = solution (graph W′) 3072 (lower (W′ .sorts) (W′ .lengths .sorts) (W′ .lengths .entries) (W′ .nodes)
+      (W′ .lengths .nodes) (W′ .lengths .arguments) (W′ .lengths .variables) c′)
+      (W′ .lengths .variables) (scoped (W′ .sorts) (W′ .lengths .sorts) (W′ .lengths .entries) (W′ .nodes)
+      (W′ .lengths .nodes) (W′ .lengths .arguments) (W′ .lengths .variables) c′) deep
+      (deep-enough (W′ .sorts) (W′ .lengths .sorts) (W′ .lengths .entries) (W′ .nodes) (W′ .lengths .nodes)
+      (W′ .lengths .arguments) (W′ .lengths .variables) c′) B′ (b′ .numbered)
       (λ u. substitute σ (i .0 u)) in (
         s .0,
         (
           s .1 .0,
           sym (put-there (s .0) (s .1 .0))
-              ∙ (put-agrees (s .0) (λ u. substitute σ (i .0 u)) (value (graph W′) B′ p′) (λ u h. s .1 .1 u (stands-free (graph W′) deep B′ (checked-ranks W′ c′ B′ b′) u p′ h .1))
+              ∙ (put-agrees (s .0) (λ u. substitute σ (i .0 u)) (value (graph W′) B′ p′)
+              (λ u h. s .1 .1 u (stands-free (graph W′) deep B′ (checked-ranks W′ c′ B′ b′) u p′ h .1))
               ∙ (sym (put-twice σ (i .0) (value (graph W′) B′ p′)) ∙ (ap (substitute σ) (sym (i .1)) ∙ put-here σ r))),
         ),
       )
@@ -139,12 +151,15 @@ module _
   pub no-list-alike : (up : Bool) (U : Lent) → strictRelated up B p W ≡ no-list U → strictRelated up B′ p′ W′ ≡ no-list W′
   no-list-alike up U i =
       let f = free-end-exactly W c B b p .0 (no-list-is-free W c B b up p U i .0) in
-      free-is-no-list W′ c′ B′ b′ up p′ (free-end-exactly W′ c′ B′ b′ p′ .1 (sym (open-up-to-names (value (graph W) B p) (value (graph W′) B′ p′) values-same-but-names) ∙ f))
+      free-is-no-list W′ c′ B′ b′ up p′ (free-end-exactly W′ c′ B′ b′ p′ .1
+      (sym (open-up-to-names (value (graph W) B p) (value (graph W′) B′ p′) values-same-but-names) ∙ f))
 
   -- and what its places stand for
-  module _ (six : fixedSix (W .sorts) (W .lengths .sorts) ≡ true) (i : PlacedIn W p) (six′ : fixedSix (W′ .sorts) (W′ .lengths .sorts) ≡ true) (i′ : PlacedIn W′ p′) (up : Bool)
+  module _ (six : fixedSix (W .sorts) (W .lengths .sorts) ≡ true) (i : PlacedIn W p) (six′ : fixedSix (W′ .sorts)
+      (W′ .lengths .sorts) ≡ true) (i′ : PlacedIn W′ p′) (up : Bool)
       (qs : List ℕ) (U : Lent) (h : strictRelated up B p W ≡ made qs U) (qs′ : List ℕ) (U′ : Lent) (h′ : strictRelated up B′ p′ W′ ≡ made qs′ U′) where
-    pub places-alike : (σ σ′ : ℕ → Term) → Respects (graph W) B σ → Respects (graph W′) B′ σ′ → (t : Tree) → substitute σ (termAt (graph W) p) ≡ termOf t → substitute σ′ (termAt (graph W′) p′) ≡ termOf t
+    pub places-alike : (σ σ′ : ℕ → Term) → Respects (graph W) B σ → Respects (graph W′) B′ σ′ → (t : Tree)
+        → substitute σ (termAt (graph W) p) ≡ termOf t → substitute σ′ (termAt (graph W′) p′) ≡ termOf t
         → each (termIn U σ) qs ≡ each (termIn U′ σ′) qs′
     places-alike σ σ′ r r′ t f f′ =
         let a = made-grows (StandForRelated up B W p) W U qs (strictRelated up B p W) (related-makes W c B b up p six i) h in

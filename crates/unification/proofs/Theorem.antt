@@ -30,7 +30,8 @@ module _ (ws : List ℕ) (n e : ℕ) (ns : List ℕ) (m d v : ℕ) (c : ListsFin
   -- Bindings that pass check 7: no variable reaches itself.
   pub check-7-acyclic : (B : Binds) → acyclic ns m B ≡ true → Acyclic (shapeAt (listsOf ws n ns m)) B
   check-7-acyclic B a =
-      numbered-acyclic (shapeAt (listsOf ws n ns m)) 3072 (fine.lower ws n e ns m d v c) v (fine.scoped ws n e ns m d v c) deep (deep-for v (c .variables)) B (acyclic-numbered ws n e ns m d v c B a)
+      numbered-acyclic (shapeAt (listsOf ws n ns m)) 3072 (fine.lower ws n e ns m d v c) v (fine.scoped ws n e ns m d
+      v c) deep (deep-for v (c .variables)) B (acyclic-numbered ws n e ns m d v c B a)
 
   -- Check 7 passes exactly where no variable reaches itself, and refuses exactly where one does.
   pub check-7-exactly : (B : Binds) → length B ≡ v → bindingsFine n m B ≡ true
@@ -57,13 +58,16 @@ module _ (ws : List ℕ) (n e : ℕ) (ns : List ℕ) (m d v : ℕ) (c : NodesChe
   checked-ranked B b = numbered-ranked (shapeAt (listsOf ws n ns m)) 3072 (lower ws n e ns m d v c) v B (b .numbered) deep deep-enough
 
   -- "Unification is proved against Robinson": every answer of unify on checked lists.
-  pub unify-is-robinson : (B : Binds) → BindsChecked (listsOf ws n ns m) v B → (l r : ℕ) → Robinson (shapeAt (listsOf ws n ns m)) B l r (unify (shapeAt (listsOf ws n ns m)) B l r)
+  pub unify-is-robinson : (B : Binds) → BindsChecked (listsOf ws n ns m) v B → (l r : ℕ)
+      → Robinson (shapeAt (listsOf ws n ns m)) B l r (unify (shapeAt (listsOf ws n ns m)) B l r)
   unfolding unify
   unify-is-robinson B b l r =
-      robinson (shapeAt (listsOf ws n ns m)) 3072 (lower ws n e ns m d v c) v (scoped ws n e ns m d v c) deep deep-enough (apart ws n e ns m d v c) deeper deeper-enough B (b .numbered) (b .many) l r
+      robinson (shapeAt (listsOf ws n ns m)) 3072 (lower ws n e ns m d v c) v (scoped ws n e ns m d v c) deep
+      deep-enough (apart ws n e ns m d v c) deeper deeper-enough B (b .numbered) (b .many) l r
 
   pub binds-checked : (B : Binds) → length B ≡ v → bindingsFine n m B ≡ true → acyclic ns m B ≡ true → BindsChecked (listsOf ws n ns m) v B
   binds-checked B l f a = record { many = l; places = f; numbered = acyclic-numbered ws n e ns m d v (fineOf ws n e ns m d v c) B a }
 
 pub ready-ranked : (ws ns bs : List ℕ) (k : Lengths) → Ready ws ns bs k → Ranked (graphOf ws ns k) deep (bindsOf bs (k .variables))
-ready-ranked ws ns bs k q = checked-ranked ws (k .sorts) (k .entries) ns (k .nodes) (k .arguments) (k .variables) (q .nodes) (bindsOf bs (k .variables)) (q .binds)
+ready-ranked ws ns bs k q = checked-ranked ws (k .sorts) (k .entries) ns (k .nodes) (k .arguments) (k .variables)
+    (q .nodes) (bindsOf bs (k .variables)) (q .binds)

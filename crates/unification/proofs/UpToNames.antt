@@ -40,7 +40,8 @@ mutual
       let z : us ≡ substitutes τ ts = cc in
       ap₂ app x (all-same-but-names σ τ ts us y z)
 
-  all-same-but-names : (σ τ : ℕ → Term) (ts us : Terms) → ts ≡ substitutes σ us → us ≡ substitutes τ ts → substitutes (λ v. var 0) ts ≡ substitutes (λ v. var 0) us
+  all-same-but-names : (σ τ : ℕ → Term) (ts us : Terms) → ts ≡ substitutes σ us → us ≡ substitutes τ ts
+      → substitutes (λ v. var 0) ts ≡ substitutes (λ v. var 0) us
   all-same-but-names σ τ no-part no-part p q = refl
   all-same-but-names σ τ no-part (part u us) p q = no-confusion (cc)
   all-same-but-names σ τ (part t ts) no-part p q = no-confusion (cc)

@@ -45,7 +45,8 @@ data Away (up : Bool) : Tree → Tree → ℕ → Type 0 where
 module _ {A : Type 0} (family level : A → ℕ) (injective : (a b : A) → family a ≡ family b → level a ≡ level b → a ≡ b) (put : A → Tree) where
   -- what is read off the tables of Related
   record Tables : Type 0 where
-    fits : (up : Bool) (a : A) (u : Tree) (i : ℕ) → Member u i (related up (put a)) → (b : A) × (u ≡ put b) × (leHead family level up a b ≡ true) × (apart up (level a) (level b) ≡ suc i)
+    fits : (up : Bool) (a : A) (u : Tree) (i : ℕ) → Member u i (related up (put a))
+        → (b : A) × (u ≡ put b) × (leHead family level up a b ≡ true) × (apart up (level a) (level b) ≡ suc i)
     enough : (b : A) → level b ≤ length (related false (put b))
     turned : (a b : A) (i : ℕ) → Member (put a) i (related false (put b)) → Member (put b) i (related true (put a))
 
@@ -67,7 +68,8 @@ flat-tables : Tables family level flat-injective flat
 unfolding related relatedNumbers family level
 flat-tables = record { fits = fits; enough = enough; turned = turned }
   where
-    fits : (up : Bool) (a : Flat) (u : Tree) (i : ℕ) → Member u i (related up (flat a)) → (b : Flat) × (u ≡ flat b) × (leFlat up a b ≡ true) × (apart up (level a) (level b) ≡ suc i)
+    fits : (up : Bool) (a : Flat) (u : Tree) (i : ℕ) → Member u i (related up (flat a))
+        → (b : Flat) × (u ≡ flat b) × (leFlat up a b ≡ true) × (apart up (level a) (level b) ≡ suc i)
     fits true (primitive Sort.Pos) _ _ first = (primitive Sort.Nat, refl, refl, refl)
     fits true (primitive Sort.Pos) _ _ (later first) = (primitive Sort.Int, refl, refl, refl)
     fits true (primitive Sort.Pos) _ _ (later (later first)) = (primitive Sort.Real, refl, refl, refl)
@@ -126,7 +128,8 @@ member-away : (up : Bool) (t u : Tree) (i : ℕ) → Member u i (related up t) �
 unfolding related
 member-away up (flat a) u i h = let r = flat-tables .fits up a u i h in rw (r .1) (flats a (r .0) (suc i) (r .2) (r .3))
 member-away up (container o s) u i h = let r = operator-tables s .fits up o u i h in rw (r .1) (containers o (r .0) s (suc i) (r .2) (r .3))
-member-away up (function ss t) u i h = let r = each-member (function ss) u i (related up t) h in rw (r .1) (functions ss t (r .0) (suc i) (member-away up t (r .0) i (r .2)))
+member-away up (function ss t) u i h = let r = each-member (function ss) u i (related up t) h in rw (r .1)
+    (functions ss t (r .0) (suc i) (member-away up t (r .0) i (r .2)))
 
 away-member : (up : Bool) (t u : Tree) (i : ℕ) → Away up t u (suc i) → Member u i (related up t)
 unfolding related
@@ -196,7 +199,11 @@ exacts-of-equal up ss = go (exacts up ss ss) (sym (distances-stop-once up ss ss)
 away-distant : (up : Bool) (t u : Tree) (k : ℕ) → Away up t u k → Distant up t u k
 unfolding exact
 away-distant up _ _ k (flats a b _ h e) = (record { head = apart up (level a) (level b); interior = 0 }, rw h, omega (arith, e))
-away-distant up _ _ k (containers o p s _ h e) = (record { head = apart up (levelOp o) (levelOp p); interior = 0 }, rw (h, exact-of-equal up s), omega (arith, e))
+away-distant up _ _ k (containers o p s _ h e) = (
+  record { head = apart up (levelOp o) (levelOp p); interior = 0 },
+  rw (h, exact-of-equal up s),
+  omega (arith, e),
+)
 away-distant up _ _ k (functions ss r u _ h) =
     let x = away-distant up r u k h in
     (record { head = 0; interior = 0 + total (x .0) }, rw (exacts-of-equal (not up) ss, x .1), omega (arith, x .2))
@@ -219,7 +226,11 @@ narrower-is-wider s t i h = away-member true s t i (away-turned (member-away fal
 
 -- The list holds exactly what is materializable in the direction, except the sort itself.
 pub related-exactly : (up : Bool) (t u : Tree) → ((i : ℕ) × Member u i (related up t)) ↔ ((reaches up t u ≡ true) × (t ≢ u))
-related-exactly up t u = (λ h. let x = nearest-first up t u (h .0) .0 (h .1) in (x .0, other (h .0) (x .1)), λ h. let a = away-exactly up t u .0 (h .0) in listed (h .1) (a .0) (a .1))
+related-exactly up t u = (
+  λ h. let x = nearest-first up t u (h .0) .0 (h .1) in (x .0, other (h .0) (x .1)),
+  λ h.
+      let a = away-exactly up t u .0 (h .0) in listed (h .1) (a .0) (a .1),
+)
   where
     other : (i : ℕ) → Distant up t u (suc i) → t ≢ u
     other i d e =

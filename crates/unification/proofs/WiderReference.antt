@@ -122,7 +122,8 @@ module _ (u : Tree) where
       go (inr x) = rw (at-first (rw (wider-of (x .1)) at h)) (and-then no-more (x .1))
   wider-converts (suc i) t f h = go (widest t f) (wider-converts i)
     where
-      go : (related true t ≡ []) ⊎ ((w : Tree) × Converts t w) → ((w : Tree) → isFunction w ≡ false → Member u i (related true w) → Conversions (suc i) w u) → Conversions (suc (suc i)) t u
+      go : (related true t ≡ []) ⊎ ((w : Tree) × Converts t w) → ((w : Tree) → isFunction w ≡ false
+          → Member u i (related true w) → Conversions (suc i) w u) → Conversions (suc (suc i)) t u
       go (inl e) ih = not-in-none u (suc i) (related true t) e h
       go (inr x) ih = before (x .1) (ih (x .0) (converts-flat (x .1) .1) (at-later (rw (wider-of (x .1)) at h)))
 
@@ -139,7 +140,8 @@ module _ (u : Tree) where
       go (inr x) = rw (at-first (rw (narrower-of (x .1)) at h)) (and-then no-more (x .1))
   narrower-converts (suc i) t f h = go (narrowest t f) (narrower-converts i)
     where
-      go : (related false t ≡ []) ⊎ ((w : Tree) × Converts w t) → ((w : Tree) → isFunction w ≡ false → Member u i (related false w) → Conversions (suc i) u w) → Conversions (suc (suc i)) u t
+      go : (related false t ≡ []) ⊎ ((w : Tree) × Converts w t) → ((w : Tree) → isFunction w ≡ false
+          → Member u i (related false w) → Conversions (suc i) u w) → Conversions (suc (suc i)) u t
       go (inl e) ih = not-in-none u (suc i) (related false t) e h
       go (inr x) ih = and-then (ih (x .0) (converts-flat (x .1) .0) (at-later (rw (narrower-of (x .1)) at h))) (x .1)
 
@@ -155,7 +157,8 @@ wider-by-conversions t u i f = (wider-converts u i t f, converts-wider u i t)
 pub narrower-by-conversions : (t u : Tree) (i : ℕ) → isFunction t ≡ false → Member u i (related false t) ↔ Conversions (suc i) u t
 narrower-by-conversions t u i f = (narrower-converts u i t f, converts-narrower u i t)
 
-pub function-by-range : (up : Bool) (ss : Trees) (r u : Tree) (i : ℕ) → Member u i (related up (function ss r)) ↔ ((w : Tree) × (u ≡ function ss w) × Member w i (related up r))
+pub function-by-range : (up : Bool) (ss : Trees) (r u : Tree) (i : ℕ) → Member u i (related up (function ss r)) ↔
+    ((w : Tree) × (u ≡ function ss w) × Member w i (related up r))
 unfolding related
 function-by-range up ss r u i = (λ h. each-member (function ss) u i (related up r) h, λ x. rw (x .1) (member-each (function ss) (x .2)))
 
@@ -174,7 +177,8 @@ lists-related up stands t qs e = record { sound = sound; complete = complete }
         let y = each-member stands (termOf u) (x .0) qs (subst (Member (termOf u) (x .0)) (sym e) (member-each termOf (x .1))) in
         (x .0, y .0, y .2, sym (y .1), nearest-first up t u (x .0) .0 (x .1) .1)
 
-pub strict-related-exactly : (W : Lent) (bs : List ℕ) → ReadyLent W bs → fixedSix (W .sorts) (W .lengths .sorts) ≡ true → (up : Bool) (p : ℕ) → PlacedIn W p → (qs : List ℕ) (W′ : Lent)
+pub strict-related-exactly : (W : Lent) (bs : List ℕ) → ReadyLent W bs → fixedSix (W .sorts) (W .lengths .sorts) ≡
+    true → (up : Bool) (p : ℕ) → PlacedIn W p → (qs : List ℕ) (W′ : Lent)
     → strictRelated up (bindsOf bs (W .lengths .variables)) p W ≡ made qs W′ → (σ : ℕ → Term) → Respects (graph W) (bindsOf bs (W .lengths .variables)) σ
     → (t : Tree) → substitute σ (termAt (graph W) p) ≡ termOf t → ListsRelated up (λ q. substitute σ (termAt (graph W′) q)) t qs
 strict-related-exactly W bs ready six up p x qs W′ e σ r t s =

@@ -31,7 +31,8 @@ Exact shape B E (yes-with B′) = (length B′ ≡ length B)
 
 -- two sorts with different numbers have different terms
 abbrev pub Apart : (ℕ → Shape) → Type 0
-Apart shape = (l r : ℕ) → isSort l ≡ true → isSort r ≡ true → (l ≡ r → ⊥) → (σ val : ℕ → Term) → ((p : ℕ) → val p ≡ shapeVal σ val (shape p)) → val l ≡ val r → ⊥
+Apart shape = (l r : ℕ) → isSort l ≡ true → isSort r ≡ true → (l ≡ r → ⊥) → (σ val : ℕ → Term)
+    → ((p : ℕ) → val p ≡ shapeVal σ val (shape p)) → val l ≡ val r → ⊥
 
 -- What a yes leaves: numbered bindings, of the same length, and either the same or with fewer free.
 pub record Next (shape : ℕ → Shape) (n : ℕ) (B C : Binds) : Type 0 where

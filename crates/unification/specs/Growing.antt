@@ -17,7 +17,8 @@ use mathlib.Core.Option.{some}
 
 -- lists that passed their checks; and bindings with them
 abbrev pub CheckedLent : Lent → Type 0
-CheckedLent W = NodesChecked (W .sorts) (W .lengths .sorts) (W .lengths .entries) (W .nodes) (W .lengths .nodes) (W .lengths .arguments) (W .lengths .variables)
+CheckedLent W = NodesChecked (W .sorts) (W .lengths .sorts) (W .lengths .entries) (W .nodes) (W .lengths .nodes)
+    (W .lengths .arguments) (W .lengths .variables)
 
 abbrev pub ReadyLent : Lent → List ℕ → Type 0
 ReadyLent W bs = Ready (W .sorts) (W .nodes) bs (W .lengths)
@@ -42,12 +43,14 @@ pub record Grows (W W′ : Lent) : Type 0 where
   pub node-words : NodesAgree (W .nodes) (W′ .nodes) (W .lengths .nodes) (W .lengths .arguments)
   pub as-long : (length (W′ .sorts) ≡ length (W .sorts)) × (length (W′ .nodes) ≡ length (W .nodes))
   pub same : (p : ℕ) → PlacedIn W p → graph W′ p ≡ graph W p
-  pub looks : (i : ℕ) → i < W .lengths .sorts → look (trees (W′ .sorts) (W′ .lengths .sorts)) i ≡ look (trees (W .sorts) (W .lengths .sorts)) i
+  pub looks : (i : ℕ) → i < W .lengths .sorts → look (trees (W′ .sorts) (W′ .lengths .sorts)) i ≡ look
+      (trees (W .sorts) (W .lengths .sorts)) i
   pub fixed : fixedSix (W .sorts) (W .lengths .sorts) ≡ true → fixedSix (W′ .sorts) (W′ .lengths .sorts) ≡ true
 
 -- bindings of as many variables as the lists have, that passed their checks with them
 abbrev pub CheckedBinds : Lent → Binds → Type 0
-CheckedBinds W B = BindsChecked (listsOf (W .sorts) (W .lengths .sorts) (W .nodes) (W .lengths .nodes)) (W .lengths .variables) B
+CheckedBinds W B = BindsChecked (listsOf (W .sorts) (W .lengths .sorts) (W .nodes) (W .lengths .nodes))
+    (W .lengths .variables) B
 
 -- the lists with other words for the sorts, of which n sorts and e entries count
 abbrev pub withSortWords : Lent → List ℕ → ℕ → ℕ → Lent
@@ -55,7 +58,13 @@ withSortWords W us n e =
     record {
       sorts = us;
       nodes = W .nodes;
-      lengths = record { sorts = n; entries = e; nodes = W .lengths .nodes; arguments = W .lengths .arguments; variables = W .lengths .variables };
+      lengths = record {
+        sorts = n;
+        entries = e;
+        nodes = W .lengths .nodes;
+        arguments = W .lengths .arguments;
+        variables = W .lengths .variables;
+      };
     }
 
 -- words that read as those of W below its lengths

@@ -7,14 +7,16 @@ use Prim.Native.Nat.{ℕ, zero, suc, _<_}
 use lib.ListN.{getD}
 use Rattle.resolved_sort.specs.Tree.{unit, Tree, flat, container, function, Trees, no-args, arg}
 use Rattle.resolved_sort.specs.declared.Counts.{Counts}
-use Rattle.resolved_sort.specs.Interning.{Sorts, look, Outcome, made, _then_, where-some, intern, member, nothing, full, fits}
+use Rattle.resolved_sort.specs.Interning.{Sorts, look, Outcome, made, _then_, where-some, intern, member, nothing}
+use Rattle.resolved_sort.specs.Interning.{full, fits}
 use Rattle.resolved_sort.specs.Storage.{trees, sortsOf}
 use Rattle.resolved_sort.specs.Entries.{Stored, stored}
 use Rattle.resolved_sort.specs.Inner.Bounds.{StoredDomain, domainOf}
 use Rattle.unification.specs.declared.Lengths.{Lengths}
 use Rattle.unification.specs.declared.Default.{Default}
 use Rattle.unification.specs.declared.Default.the-variants.{Is, Nothing}
-use Rattle.unification.specs.Term.{Head, flatHead, containerHead, functionHead, strayHead, Term, var, app, Terms, no-part, part, Shape}
+use Rattle.unification.specs.Term.{Head, flatHead, containerHead, functionHead, strayHead, Term, var, app}
+use Rattle.unification.specs.Term.{Terms, no-part, part, Shape}
 use Rattle.unification.specs.Nodes.{Binds, binding}
 use Rattle.unification.specs.Unify.{deep}
 use Rattle.unification.specs.Solutions.{valueTo, valueBound}
@@ -105,8 +107,10 @@ pub record NoRoomFor (S : Sorts) : Type 0 where
   pub absent : member (S .trees) sort ≡ false
   pub too-big : fits sort S ≡ false
 
--- An answer of resolve by what is free: a sort, where the place reaches no free variable; none, where it reaches one; or room ended.
+-- An answer of resolve by what is free: a sort, where the place reaches no free variable; none, where it reaches
+-- one; or room ended.
 pub data Determined (shape : ℕ → Shape) (B : Binds) (p : ℕ) : Outcome Tree → Type 0 where
-  determined : (t : Tree) (S : Sorts) → ((u : ℕ) → Reaches shape B u p → binding B u ≡ none → ⊥) → Determined shape B p (made t S)
+  determined : (t : Tree) (S : Sorts) → ((u : ℕ) → Reaches shape B u p → binding B u ≡ none → ⊥)
+      → Determined shape B p (made t S)
   underdetermined : (S : Sorts) (u : ℕ) → Reaches shape B u p → binding B u ≡ none → Determined shape B p (nothing S)
   out-of-room : (S : Sorts) → NoRoomFor S → Determined shape B p (full S)

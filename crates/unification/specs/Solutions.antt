@@ -4,7 +4,8 @@ use mathlib.Core.Path.{_≡_}
 use mathlib.Core.List.{List, [], _∷_}
 use mathlib.Core.Option.{Option, none, some}
 use Prim.Native.Nat.{ℕ, zero, suc}
-use Rattle.unification.specs.Term.{strayHead, Term, var, app, Terms, no-part, part, Shape, variable, over, substitute}
+use Rattle.unification.specs.Term.{strayHead, Term, var, app, Terms, no-part, part, Shape, variable, over}
+use Rattle.unification.specs.Term.{substitute}
 use Rattle.unification.specs.Nodes.{Binds, binding}
 use Rattle.unification.specs.Unify.{Unifies, yes-with, no-way}
 use Rattle.unification.specs.Acyclic.{Acyclic}
@@ -71,4 +72,5 @@ module _ (shape shape′ : ℕ → Shape) where
   -- Two answers that say the same: both no, or both yes with bindings that the same terms respect.
   pub data SameAnswer : Unifies → Unifies → Type 0 where
     both-no : SameAnswer no-way no-way
-    both-yes : (C C′ : Binds) → ((σ : ℕ → Term) → Respects shape C σ ↔ Respects shape′ C′ σ) → SameAnswer (yes-with C) (yes-with C′)
+    both-yes : (C C′ : Binds) → ((σ : ℕ → Term) → Respects shape C σ ↔ Respects shape′ C′ σ)
+        → SameAnswer (yes-with C) (yes-with C′)

@@ -22,7 +22,9 @@ use Rattle.unification.specs.declared.Tried.the-variants.{Yes, No}
 use Rattle.unification.specs.Term.{Head, Shape, variable, over, sameHead}
 use Rattle.unification.specs.Inner.Term.{headOf, partsOf}
 use Rattle.unification.specs.Nodes.{isSort, Binds, bindsOf}
-use Rattle.unification.specs.Unify.{Unifies, yes-with, no-way, too-deep, and-then, follow, occurs, bindUnless, unifyAll, unifyHeads, unifyVariables, unifyShapes, unifyApart, unifyEnds, unifyFollowed, unify, deep, deeper}
+use Rattle.unification.specs.Unify.{Unifies, yes-with, no-way, too-deep, and-then, follow, occurs, bindUnless}
+use Rattle.unification.specs.Unify.{unifyAll, unifyHeads, unifyVariables, unifyShapes, unifyApart, unifyEnds}
+use Rattle.unification.specs.Unify.{unifyFollowed, unify, deep, deeper}
 use Rattle.unification.specs.Acyclic.{One}
 use Rattle.unification.specs.Checked.{graphOf, Ready, Placed}
 use Rattle.unification.specs.Trail.{frees, TryLeaves}
@@ -67,7 +69,9 @@ workOf ws ns bs k p = frees (bindsOf bs (k .variables)) * deep + rank (graphOf w
 pub record Unifying (ws ns : List ℕ) (k : Lengths) (l r n : ℕ) (U : Unifies) (bs₀ ts₀ : List ℕ) (c₀ : ℕ) (bs ts : List ℕ) (c i : ℕ) : Type 0 where
   pub trying : Trying ws ns bs ts k c
   pub alike : Alike ws ns k l r n
-  pub rest : (bs₁ ts₁ : List ℕ) (w : Tried) → TryLeaves ws ns k (unifyAll (graphOf ws ns k) (unify (graphOf ws ns k)) (bindsOf bs (k .variables)) (drop i (partsOf (graphOf ws ns k l))) (drop i (partsOf (graphOf ws ns k r)))) bs ts c bs₁ ts₁ w → TryLeaves ws ns k U bs₀ ts₀ c₀ bs₁ ts₁ w
+  pub rest : (bs₁ ts₁ : List ℕ) (w : Tried) → TryLeaves ws ns k (unifyAll (graphOf ws ns k) (unify (graphOf ws ns k))
+      (bindsOf bs (k .variables)) (drop i (partsOf (graphOf ws ns k l))) (drop i (partsOf (graphOf ws ns k r)))) bs ts
+      c bs₁ ts₁ w → TryLeaves ws ns k U bs₀ ts₀ c₀ bs₁ ts₁ w
   pub work : workOf ws ns bs k l ≤ workOf ws ns bs₀ k l
   pub same-binds : length bs ≡ length bs₀
   pub same-trail : length ts ≡ length ts₀
@@ -86,7 +90,8 @@ module _ (ws ns bs ts : List ℕ) (k : Lengths) (c : ℕ) (t : Trying ws ns bs t
   unfolding unify
   unify-step l r =
       unify-eq shape 3072 (lower ws (k .sorts) (k .entries) ns (k .nodes) (k .arguments) (k .variables) (q .nodes)) (k .variables)
-      (scoped ws (k .sorts) (k .entries) ns (k .nodes) (k .arguments) (k .variables) (q .nodes)) deep (deep-enough ws (k .sorts) (k .entries) ns (k .nodes) (k .arguments) (k .variables) (q .nodes))
+      (scoped ws (k .sorts) (k .entries) ns (k .nodes) (k .arguments) (k .variables) (q .nodes)) deep
+      (deep-enough ws (k .sorts) (k .entries) ns (k .nodes) (k .arguments) (k .variables) (q .nodes))
       deeper (deeper-enough ws (k .sorts) (k .entries) ns (k .nodes) (k .arguments) (k .variables) (q .nodes)) B l r (q .binds .many) (q .binds .numbered)
 
   variable-is-no-sort : (p u : ℕ) → shape p ≡ variable u → isSort p ≡ false
@@ -122,10 +127,20 @@ module _ (ws ns bs ts : List ℕ) (k : Lengths) (c : ℕ) (t : Trying ws ns bs t
       and-false false b e = refl
 
       left-free : (v : SortVar) → Is v ≡ varAt (shape l′) → Free bs k (v .0)
-      left-free v x = let s = is-variable (shape l′) v x in record { listed = scoped ws (k .sorts) (k .entries) ns (k .nodes) (k .arguments) (k .variables) (q .nodes) l′ (v .0) s; free = follow-end shape B deep l l′ (v .0) fl s }
+      left-free v x = let s = is-variable (shape l′) v x in record {
+        listed = scoped ws (k .sorts) (k .entries) ns
+            (k .nodes) (k .arguments) (k .variables) (q .nodes) l′ (v .0) s;
+        free = follow-end shape B deep l l′ (v .0)
+            fl s;
+      }
 
       right-free : (u : SortVar) → Is u ≡ varAt (shape r′) → Free bs k (u .0)
-      right-free u x = let s = is-variable (shape r′) u x in record { listed = scoped ws (k .sorts) (k .entries) ns (k .nodes) (k .arguments) (k .variables) (q .nodes) r′ (u .0) s; free = follow-end shape B deep r r′ (u .0) fr s }
+      right-free u x = let s = is-variable (shape r′) u x in record {
+        listed = scoped ws (k .sorts) (k .entries) ns
+            (k .nodes) (k .arguments) (k .variables) (q .nodes) r′ (u .0) s;
+        free = follow-end shape B deep r r′ (u .0)
+            fr s;
+      }
 
       module _ (v : SortVar) (xv : Is v ≡ varAt (shape l′)) where
         no-sort-left : (isSort l′ && isSort r′) ≡ false
@@ -135,15 +150,21 @@ module _ (ws ns bs ts : List ℕ) (k : Lengths) (c : ℕ) (t : Trying ws ns bs t
           pub two-variables : Trying ws ns bs ts k c × Free bs k (v .0) × Free bs k (u .0) × Placed k r′ × VariableAt ws ns k r′ (u .0)
           two-variables = (t, left-free v xv, right-free u xu, right-end-placed, record { stands = is-variable (shape r′) u xu })
 
-          pub variables-tried : (bs₁ ts₁ : List ℕ) (a : Tried) → TryLeaves ws ns k (unifyVariables shape (eqb (v .0) (u .0)) B (v .0) r′) bs ts c bs₁ ts₁ a → TryLeaves ws ns k (unify shape B l r) bs ts c bs₁ ts₁ a
-          variables-tried bs₁ ts₁ a = tries-as ws ns k _ _ bs ts c bs₁ ts₁ a (sym (apart ∙ rw no-sort-left (rw (is-variable (shape l′) v xv, is-variable (shape r′) u xu))))
+          pub variables-tried : (bs₁ ts₁ : List ℕ) (a : Tried)
+              → TryLeaves ws ns k (unifyVariables shape (eqb (v .0) (u .0)) B (v .0) r′) bs ts c bs₁ ts₁ a
+              → TryLeaves ws ns k (unify shape B l r) bs ts c bs₁ ts₁ a
+          variables-tried bs₁ ts₁ a = tries-as ws ns k _ _ bs ts c bs₁ ts₁ a
+              (sym (apart ∙ rw no-sort-left (rw (is-variable (shape l′) v xv, is-variable (shape r′) u xu))))
 
         module _ (xr : Nothing ≡ varAt (shape r′)) where
           pub left-variable : Trying ws ns bs ts k c × Free bs k (v .0) × Placed k r′
           left-variable = (t, left-free v xv, right-end-placed)
 
-          pub left-tried : (bs₁ ts₁ : List ℕ) (a : Tried) → TryLeaves ws ns k (bindUnless shape (occurs shape deep B (v .0) r′) B (v .0) r′) bs ts c bs₁ ts₁ a → TryLeaves ws ns k (unify shape B l r) bs ts c bs₁ ts₁ a
-          left-tried bs₁ ts₁ a = tries-as ws ns k _ _ bs ts c bs₁ ts₁ a (sym (apart ∙ rw no-sort-left (rw (is-variable (shape l′) v xv) (rw (is-solid (shape r′) xr)))))
+          pub left-tried : (bs₁ ts₁ : List ℕ) (a : Tried)
+              → TryLeaves ws ns k (bindUnless shape (occurs shape deep B (v .0) r′) B (v .0) r′) bs ts c bs₁ ts₁ a
+              → TryLeaves ws ns k (unify shape B l r) bs ts c bs₁ ts₁ a
+          left-tried bs₁ ts₁ a = tries-as ws ns k _ _ bs ts c bs₁ ts₁ a
+              (sym (apart ∙ rw no-sort-left (rw (is-variable (shape l′) v xv) (rw (is-solid (shape r′) xr)))))
 
       module _ (xl : Nothing ≡ varAt (shape l′)) where
         module _ (u : SortVar) (xu : Is u ≡ varAt (shape r′)) where
@@ -153,8 +174,11 @@ module _ (ws ns bs ts : List ℕ) (k : Lengths) (c : ℕ) (t : Trying ws ns bs t
           pub right-variable : Trying ws ns bs ts k c × Free bs k (u .0) × Placed k l′
           right-variable = (t, right-free u xu, left-end-placed)
 
-          pub right-tried : (bs₁ ts₁ : List ℕ) (a : Tried) → TryLeaves ws ns k (bindUnless shape (occurs shape deep B (u .0) l′) B (u .0) l′) bs ts c bs₁ ts₁ a → TryLeaves ws ns k (unify shape B l r) bs ts c bs₁ ts₁ a
-          right-tried bs₁ ts₁ a = tries-as ws ns k _ _ bs ts c bs₁ ts₁ a (sym (apart ∙ rw no-sort-right (rw (is-variable (shape r′) u xu) (rw (is-solid (shape l′) xl)))))
+          pub right-tried : (bs₁ ts₁ : List ℕ) (a : Tried)
+              → TryLeaves ws ns k (bindUnless shape (occurs shape deep B (u .0) l′) B (u .0) l′) bs ts c bs₁ ts₁ a
+              → TryLeaves ws ns k (unify shape B l r) bs ts c bs₁ ts₁ a
+          right-tried bs₁ ts₁ a = tries-as ws ns k _ _ bs ts c bs₁ ts₁ a
+              (sym (apart ∙ rw no-sort-right (rw (is-variable (shape r′) u xu) (rw (is-solid (shape l′) xl)))))
 
         module _ (xr : Nothing ≡ varAt (shape r′)) where
           pub left-solid : Solid ws ns k l′
@@ -163,7 +187,9 @@ module _ (ws ns bs ts : List ℕ) (k : Lengths) (c : ℕ) (t : Trying ws ns bs t
           pub right-solid : Solid ws ns k r′
           right-solid = record { placed = right-end-placed; solid = is-solid (shape r′) xr }
 
-          pub parts-tried : (bs₁ ts₁ : List ℕ) (a : Tried) → TryLeaves ws ns k (unifyApart shape (isSort l′ && isSort r′) deep (unify shape) B l′ r′) bs ts c bs₁ ts₁ a → TryLeaves ws ns k (unify shape B l r) bs ts c bs₁ ts₁ a
+          pub parts-tried : (bs₁ ts₁ : List ℕ) (a : Tried)
+              → TryLeaves ws ns k (unifyApart shape (isSort l′ && isSort r′) deep (unify shape) B l′ r′) bs ts c bs₁
+              ts₁ a → TryLeaves ws ns k (unify shape B l r) bs ts c bs₁ ts₁ a
           parts-tried bs₁ ts₁ a = tries-as ws ns k _ _ bs ts c bs₁ ts₁ a (sym apart)
 
   -- two ends at which no variable stands
@@ -172,7 +198,8 @@ module _ (ws ns bs ts : List ℕ) (k : Lengths) (c : ℕ) (t : Trying ws ns bs t
     whole = unifyApart shape (isSort l && isSort r) deep (unify shape) B l r
 
     pub two-sorts : (b : Bool) → b ≡ (isSort l && isSort r) → b ≡ true → TryLeaves ws ns k whole bs ts c bs ts (No c)
-    two-sorts b e x = tries-as ws ns k no-way whole bs ts c bs ts (No c) (sym (ap (λ y. unifyApart shape y deep (unify shape) B l r) (sym e ∙ x))) (no-try ws ns k bs ts c q)
+    two-sorts b e x = tries-as ws ns k no-way whole bs ts c bs ts (No c)
+        (sym (ap (λ y. unifyApart shape y deep (unify shape) B l r) (sym e ∙ x))) (no-try ws ns k bs ts c q)
 
     module _ (b : Bool) (e : b ≡ (isSort l && isSort r)) (x : b ≡ false) where
       by-heads : whole ≡ unifyHeads shape (sameHead (headOf (shape l)) (headOf (shape r))) (unify shape) B (partsOf (shape l)) (partsOf (shape r))
@@ -194,7 +221,13 @@ module _ (ws ns bs ts : List ℕ) (k : Lengths) (c : ℕ) (t : Trying ws ns bs t
           parts-begin n en =
               record {
                 trying = t;
-                alike = record { left = sl .placed; right = sr .placed; many = en; as-many = en ∙ same-count ws ns k (q .nodes) l r (sl .placed) (sr .placed) (sym eh ∙ y) };
+                alike = record {
+                  left = sl .placed;
+                  right = sr .placed;
+                  many = en;
+                  as-many = en ∙ same-count ws ns k
+                      (q .nodes) l r (sl .placed) (sr .placed) (sym eh ∙ y);
+                };
                 rest = λ bs₁ ts₁ w. tries-as ws ns k _ _ bs ts c bs₁ ts₁ w (sym same-heads);
                 work = omega arith;
                 same-binds = refl;
@@ -224,7 +257,8 @@ module _ (ws ns bs ts : List ℕ) (k : Lengths) (c : ℕ) (t : Trying ws ns bs t
     all-parts e =
         g .rest bs ts (Yes c)
         (tries-as ws ns k (yes-with B) rest bs ts c bs ts (Yes c)
-        (sym (ap₂ (λ (xs ys : List ℕ). unifyAll shape (unify shape) B xs ys) (drop-of-length-le ps {i = i} (omega (arith, e, g .alike .many))) (drop-of-length-le qs {i = i} (omega (arith, e, g .alike .as-many)))))
+        (sym (ap₂ (λ (xs ys : List ℕ). unifyAll shape (unify shape) B xs ys) (drop-of-length-le ps {i = i}
+        (omega (arith, e, g .alike .many))) (drop-of-length-le qs {i = i} (omega (arith, e, g .alike .as-many)))))
         (binds-nothing ws ns k bs ts c q))
 
     module _ (d : i < n) where
@@ -248,11 +282,18 @@ module _ (ws ns bs ts : List ℕ) (k : Lengths) (c : ℕ) (t : Trying ws ns bs t
         left-placed = part-placed l x (headOf (shape l)) ps (g .alike .left) (by-parts (shape l) i left-inside) one-x
 
         pub right-placed : Placed k y
-        right-placed = part-placed r y (headOf (shape r)) qs (g .alike .right) (by-parts (shape r) i right-inside) (subst (λ (z : ℕ). One z qs) (sym ey) (one-at qs i right-inside))
+        right-placed = part-placed r y (headOf (shape r)) qs (g .alike .right) (by-parts (shape r) i right-inside)
+            (subst (λ (z : ℕ). One z qs) (sym ey) (one-at qs i right-inside))
 
         pub part-lower : workOf ws ns bs k x < workOf ws ns bs₀ k l
         part-lower =
-            omega (arith, g .work, rank-over shape deep B (ready-ranked ws ns bs k q) l (headOf (shape l)) ps (by-parts (shape l) i left-inside), one-highest (rank shape deep B) ps x one-x)
+            omega (
+              arith,
+              g .work,
+              rank-over shape deep B (ready-ranked ws ns bs k q) l (headOf (shape l)) ps
+                  (by-parts (shape l) i left-inside),
+              one-highest (rank shape deep B) ps x one-x,
+            )
 
         others : Binds → Unifies
         others C = unifyAll shape (unify shape) C (drop (i + 1) ps) (drop (i + 1) qs)
@@ -266,7 +307,8 @@ module _ (ws ns bs ts : List ℕ) (k : Lengths) (c : ℕ) (t : Trying ws ns bs t
             (drop-cons qs i 0 right-inside ∙ ap₂ (λ (z j : ℕ). z ∷ drop j qs) (sym ey) (sym (add-one i))))
 
         module _ (bs₁ ts₁ : List ℕ) where
-          pub part-fails : (m : ℕ) (z : Tried) → z ≡ No m → TryLeaves ws ns k (unify shape B x y) bs ts c bs₁ ts₁ z → TryLeaves ws ns k U bs₀ ts₀ c₀ bs₁ ts₁ (No m)
+          pub part-fails : (m : ℕ) (z : Tried) → z ≡ No m → TryLeaves ws ns k (unify shape B x y) bs ts c bs₁ ts₁ z
+              → TryLeaves ws ns k U bs₀ ts₀ c₀ bs₁ ts₁ (No m)
           part-fails m z e u =
               g .rest bs₁ ts₁ (No m)
               (tries-as ws ns k _ _ bs ts c bs₁ ts₁ (No m) parts-split
@@ -276,7 +318,8 @@ module _ (ws ns bs ts : List ℕ) (k : Lengths) (c : ℕ) (t : Trying ws ns bs t
             abbrev yes-tried : TryLeaves ws ns k (unify shape B x y) bs ts c bs₁ ts₁ (Yes m)
             yes-tried = subst (TryLeaves ws ns k (unify shape B x y) bs ts c bs₁ ts₁) e u
 
-            next-by : (X : Unifies) → BindsKept shape (k .variables) B X → X ≡ yes-with (bindsOf bs₁ (k .variables)) → Next shape (k .variables) B (bindsOf bs₁ (k .variables))
+            next-by : (X : Unifies) → BindsKept shape (k .variables) B X → X ≡ yes-with (bindsOf bs₁ (k .variables))
+                → Next shape (k .variables) B (bindsOf bs₁ (k .variables))
             next-by (yes-with C) n′ s = let w : C ≡ bindsOf bs₁ (k .variables) = cc in subst (Next shape (k .variables) B) w n′
             next-by no-way n′ s = no-confusion (cc)
             next-by too-deep n′ s = no-confusion (cc)
@@ -287,7 +330,8 @@ module _ (ws ns bs ts : List ℕ) (k : Lengths) (c : ℕ) (t : Trying ws ns bs t
                 next-by (unify shape B x y)
                 (unify-kept shape 3072 (lower ws (k .sorts) (k .entries) ns (k .nodes) (k .arguments) (k .variables) (q .nodes)) (k .variables)
                 (scoped ws (k .sorts) (k .entries) ns (k .nodes) (k .arguments) (k .variables) (q .nodes)) deep
-                (deep-enough ws (k .sorts) (k .entries) ns (k .nodes) (k .arguments) (k .variables) (q .nodes)) deeper B x y (q .binds .many) (q .binds .numbered))
+                (deep-enough ws (k .sorts) (k .entries) ns (k .nodes) (k .arguments) (k .variables) (q .nodes)) deeper
+                B x y (q .binds .many) (q .binds .numbered))
                 (yes-tried .says)
 
             -- fewer variables are free, or the bindings are as before
@@ -306,7 +350,8 @@ module _ (ws ns bs ts : List ℕ) (k : Lengths) (c : ℕ) (t : Trying ws ns bs t
                 record {
                   trying = trying-on ws ns k (unify shape B x y) bs ts c bs₁ ts₁ m t lt yes-tried;
                   alike = g .alike;
-                  rest = λ bs₂ ts₂ w s. g .rest bs₂ ts₂ w (tries-as ws ns k _ _ bs ts c bs₂ ts₂ w parts-split (then-on ws ns k (unify shape B x y) others bs ts c bs₁ ts₁ m yes-tried bs₂ ts₂ w s));
+                  rest = λ bs₂ ts₂ w s. g .rest bs₂ ts₂ w (tries-as ws ns k _ _ bs ts c bs₂ ts₂ w parts-split
+                      (then-on ws ns k (unify shape B x y) others bs ts c bs₁ ts₁ m yes-tried bs₂ ts₂ w s));
                   work = omega (arith, g .work, work-falls);
                   same-binds = lb ∙ g .same-binds;
                   same-trail = lt ∙ g .same-trail;

@@ -145,7 +145,8 @@ module _ (ws ns : List ℕ) (k : Lengths) (U : Unifies) (bs ts : List ℕ) (c : 
   bound j l m = subst (λ (u : ℕ). (q : ℕ) × (binding C u ≡ some q)) (word j l) (told .bound (j - c) (omega (arith, l, m)))
 
   free : (j : ℕ) → c ≤ j → j < countOf r → binding B (getD ts₁ j 0) ≡ none
-  free j l m = sym (ap (λ (D : Binds). binding D (getD ts₁ j 0)) undone) ∙ (ap (binding (freed ts₁ c n C)) (sym (word j l)) ∙ freed-there ts₁ c n C (j - c) (omega (arith, l, m)))
+  free j l m = sym (ap (λ (D : Binds). binding D (getD ts₁ j 0)) undone) ∙ (ap (binding (freed ts₁ c n C))
+      (sym (word j l)) ∙ freed-there ts₁ c n C (j - c) (omega (arith, l, m)))
 
   once : (i j : ℕ) → c ≤ i → i < countOf r → c ≤ j → j < countOf r → getD ts₁ i 0 ≡ getD ts₁ j 0 → i ≡ j
   once i j l m o p x =

@@ -27,8 +27,18 @@ use Rattle.unifier.specs.Inner.Trying.{Trying, Free, VariableAt}
 use Rattle.unifier.proofs.Words.{binds-set, freed, places-set, undo-split, undo-front}
 
 module _ (ws ns : List ℕ) (k : Lengths) where
-  pub tries-as : (U W : Unifies) (bs ts : List ℕ) (c : ℕ) (bs′ ts′ : List ℕ) (r : Tried) → U ≡ W → TryLeaves ws ns k U bs ts c bs′ ts′ r → TryLeaves ws ns k W bs ts c bs′ ts′ r
-  tries-as U W bs ts c bs′ ts′ r e t = record { says = sym e ∙ t .says; undone = t .undone; front = t .front; longer = t .longer; spent = t .spent; past = t .past; ready = t .ready }
+  pub tries-as : (U W : Unifies) (bs ts : List ℕ) (c : ℕ) (bs′ ts′ : List ℕ) (r : Tried) → U ≡ W
+      → TryLeaves ws ns k U bs ts c bs′ ts′ r → TryLeaves ws ns k W bs ts c bs′ ts′ r
+  tries-as U W bs ts c bs′ ts′ r e t = record {
+    says = sym e ∙ t .says;
+    undone = t .undone;
+    front = t .front;
+    longer =
+        t .longer;
+    spent = t .spent;
+    past = t .past;
+    ready = t .ready;
+  }
 
   -- nothing is bound
   none-undone : (bs ts : List ℕ) (c : ℕ) → undo ts c (c - c) bs ≡ bs
@@ -42,7 +52,8 @@ module _ (ws ns : List ℕ) (k : Lengths) where
   no-try bs ts c q = record { says = refl; undone = none-undone bs ts c; front = refl; longer = omega arith; spent = refl; past = refl; ready = q }
 
   -- a variable is bound
-  module _ (bs ts : List ℕ) (c : ℕ) (t : Trying ws ns bs ts k c) (v w : ℕ) (f : Free bs k v) (p : Placed k w) (o : occurs (graphOf ws ns k) deep (bindsOf bs (k .variables)) v w ≡ absent) where
+  module _ (bs ts : List ℕ) (c : ℕ) (t : Trying ws ns bs ts k c) (v w : ℕ) (f : Free bs k v) (p : Placed k w)
+      (o : occurs (graphOf ws ns k) deep (bindsOf bs (k .variables)) v w ≡ absent) where
     abbrev B : Binds
     B = bindsOf bs (k .variables)
 
@@ -71,9 +82,11 @@ module _ (ws ns : List ℕ) (k : Lengths) where
                 places = rw as-binding (places-set (k .sorts) (k .nodes) B v w (t .ready .binds .places) p);
                 numbered =
                     rw as-binding
-                    (binding-numbered (graphOf ws ns k) 3072 (lower ws (k .sorts) (k .entries) ns (k .nodes) (k .arguments) (k .variables) (t .ready .nodes)) (k .variables)
+                    (binding-numbered (graphOf ws ns k) 3072 (lower ws (k .sorts) (k .entries) ns (k .nodes)
+                    (k .arguments) (k .variables) (t .ready .nodes)) (k .variables)
                     (scoped ws (k .sorts) (k .entries) ns (k .nodes) (k .arguments) (k .variables) (t .ready .nodes)) deep
-                    (deep-enough ws (k .sorts) (k .entries) ns (k .nodes) (k .arguments) (k .variables) (t .ready .nodes)) B (t .ready .binds .numbered) v w (f .free) inside o);
+                    (deep-enough ws (k .sorts) (k .entries) ns (k .nodes) (k .arguments) (k .variables)
+                    (t .ready .nodes)) B (t .ready .binds .numbered) v w (f .free) inside o);
               };
           long = omega (arith, t .ready .long, length-set bs v w);
         }
@@ -100,9 +113,19 @@ module _ (ws ns : List ℕ) (k : Lengths) where
   -- one after another
   module _ (U : Unifies) (g : Binds → Unifies) (bs ts : List ℕ) (c : ℕ) (bs₁ ts₁ : List ℕ) where
     pub then-no : (d : ℕ) → TryLeaves ws ns k U bs ts c bs₁ ts₁ (No d) → TryLeaves ws ns k (and-then U g) bs ts c bs₁ ts₁ (No d)
-    then-no d t = record { says = ap (λ x. and-then x g) (t .says); undone = t .undone; front = t .front; longer = t .longer; spent = t .spent; past = t .past; ready = t .ready }
+    then-no d t = record {
+      says = ap (λ x. and-then x g) (t .says);
+      undone = t .undone;
+      front = t .front;
+      longer =
+          t .longer;
+      spent = t .spent;
+      past = t .past;
+      ready = t .ready;
+    }
 
-    pub then-on : (d : ℕ) → TryLeaves ws ns k U bs ts c bs₁ ts₁ (Yes d) → (bs₂ ts₂ : List ℕ) (r : Tried) → TryLeaves ws ns k (g (bindsOf bs₁ (k .variables))) bs₁ ts₁ d bs₂ ts₂ r
+    pub then-on : (d : ℕ) → TryLeaves ws ns k U bs ts c bs₁ ts₁ (Yes d) → (bs₂ ts₂ : List ℕ) (r : Tried)
+        → TryLeaves ws ns k (g (bindsOf bs₁ (k .variables))) bs₁ ts₁ d bs₂ ts₂ r
         → TryLeaves ws ns k (and-then U g) bs ts c bs₂ ts₂ r
     then-on d t bs₂ ts₂ r u =
         record {
@@ -120,7 +143,8 @@ module _ (ws ns : List ℕ) (k : Lengths) where
         }
 
   -- there is room to go on
-  pub trying-on : (U : Unifies) (bs ts : List ℕ) (c : ℕ) (bs₁ ts₁ : List ℕ) (d : ℕ) → Trying ws ns bs ts k c → length ts₁ ≡ length ts → TryLeaves ws ns k U bs ts c bs₁ ts₁ (Yes d) → Trying ws ns bs₁ ts₁ k d
+  pub trying-on : (U : Unifies) (bs ts : List ℕ) (c : ℕ) (bs₁ ts₁ : List ℕ) (d : ℕ) → Trying ws ns bs ts k c
+      → length ts₁ ≡ length ts → TryLeaves ws ns k U bs ts c bs₁ ts₁ (Yes d) → Trying ws ns bs₁ ts₁ k d
   trying-on U bs ts c bs₁ ts₁ d t l u = record { ready = u .ready; room = omega (arith, u .spent, t .room, l); short = omega (arith, t .short, l) }
 
   -- the two ways to bind
@@ -131,12 +155,15 @@ module _ (ws ns : List ℕ) (k : Lengths) where
     abbrev checked : Unifies
     checked = bindUnless (graphOf ws ns k) (occurs (graphOf ws ns k) deep old v w) old v w
 
-    set-yes : (U : Unifies) → occurs (graphOf ws ns k) deep old v w ≡ absent → yes-with (set old v (some w)) ≡ U → (bs₁ ts₁ : List ℕ) → bs₁ ≡ set bs v w → ts₁ ≡ set ts c v → TryLeaves ws ns k U bs ts c bs₁ ts₁ (Yes (c + 1))
-    set-yes U o e bs₁ ts₁ y z = rw (y, z) (tries-as (yes-with (set old v (some w))) U bs ts c (set bs v w) (set ts c v) (Yes (c + 1)) e (one-bound bs ts c t v w f p o))
+    set-yes : (U : Unifies) → occurs (graphOf ws ns k) deep old v w ≡ absent → yes-with (set old v (some w)) ≡ U
+        → (bs₁ ts₁ : List ℕ) → bs₁ ≡ set bs v w → ts₁ ≡ set ts c v → TryLeaves ws ns k U bs ts c bs₁ ts₁ (Yes (c + 1))
+    set-yes U o e bs₁ ts₁ y z = rw (y, z) (tries-as (yes-with (set old v (some w))) U bs ts c (set bs v w)
+        (set ts c v) (Yes (c + 1)) e (one-bound bs ts c t v w f p o))
 
     module _ (b : Bool) (e : occurs (graphOf ws ns k) deep old v w ≡ ofTest b) where
       pub occurs-no : b ≡ true → TryLeaves ws ns k checked bs ts c bs ts (No c)
-      occurs-no x = tries-as no-way checked bs ts c bs ts (No c) (sym (ap (λ o. bindUnless (graphOf ws ns k) o old v w) (e ∙ ap ofTest x))) (no-try bs ts c (t .ready))
+      occurs-no x = tries-as no-way checked bs ts c bs ts (No c)
+          (sym (ap (λ o. bindUnless (graphOf ws ns k) o old v w) (e ∙ ap ofTest x))) (no-try bs ts c (t .ready))
 
       module _ (x : b ≡ false) where
         is-absent : occurs (graphOf ws ns k) deep old v w ≡ absent
@@ -153,7 +180,9 @@ module _ (ws ns : List ℕ) (k : Lengths) where
       variables = unifyVariables (graphOf ws ns k) (eqb v u) old v w
 
       pub one-variable : v ≡ u → TryLeaves ws ns k variables bs ts c bs ts (Yes c)
-      one-variable e = tries-as (yes-with old) variables bs ts c bs ts (Yes c) (sym (ap (λ b. unifyVariables (graphOf ws ns k) b old v w) (eq-eqb v u e))) (binds-nothing bs ts c (t .ready))
+      one-variable e = tries-as (yes-with old) variables bs ts c bs ts (Yes c)
+          (sym (ap (λ b. unifyVariables (graphOf ws ns k) b old v w) (eq-eqb v u e))) (binds-nothing bs ts c
+          (t .ready))
 
       module _ (d : v ≡ u → ⊥) where
         other-absent : occurs (graphOf ws ns k) deep old v w ≡ absent
@@ -176,7 +205,8 @@ module _ (ts : List ℕ) (base count : ℕ) where
   pub undo-begins : (bs : List ℕ) → base ≤ count → Undoing bs bs count
   undo-begins bs l = record { rest = refl; lower = l; upper = omega arith; long = refl }
 
-  pub undo-goes-on : (bs left : List ℕ) (n : ℕ) → Undoing bs left n → base < n → (left₁ : List ℕ) → left₁ ≡ set left (getD ts (n - 1) 0) freeWord → Undoing bs left₁ (n - 1)
+  pub undo-goes-on : (bs left : List ℕ) (n : ℕ) → Undoing bs left n → base < n → (left₁ : List ℕ)
+      → left₁ ≡ set left (getD ts (n - 1) 0) freeWord → Undoing bs left₁ (n - 1)
   unfolding undo
   undo-goes-on bs left n u l left₁ e =
       record {

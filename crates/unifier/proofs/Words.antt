@@ -39,7 +39,11 @@ freed bs n v w l f = set-set bs v w freeWord ∙ (ap (set bs v) (sym (free-word 
 pub places-set : (n m : ℕ) (B : Binds) (v w : ℕ) → bindingsFine n m B ≡ true → isPlace n m w ≡ true → bindingsFine n m (set B v (some w)) ≡ true
 unfolding bindingsFine
 places-set n m [] v w f p = f
-places-set n m (b ∷ B) zero w f p = and-eq-true-iff (isPlace n m w) (bindingsFine n m B) .1 (p, and-eq-true-iff (bindingFine n m b) (bindingsFine n m B) .0 f .1)
+places-set n m (b ∷ B) zero w f p = and-eq-true-iff (isPlace n m w) (bindingsFine n m B) .1 (
+  p,
+  and-eq-true-iff
+      (bindingFine n m b) (bindingsFine n m B) .0 f .1,
+)
 places-set n m (b ∷ B) (suc v) w f p =
     let x = and-eq-true-iff (bindingFine n m b) (bindingsFine n m B) .0 f in
     and-eq-true-iff (bindingFine n m b) (bindingsFine n m (set B v (some w))) .1 (x .0, places-set n m B v w (x .1) p)
@@ -58,5 +62,6 @@ pub undo-front : (ts us : List ℕ) (base n c : ℕ) (bs : List ℕ) → base + 
 unfolding undo
 undo-front ts us base zero c bs l e = refl
 undo-front ts us base (suc n) c bs l e =
-    let x : getD ts (base + n) 0 ≡ getD us (base + n) 0 = sym (getD-take c ts (base + n) 0 (omega (arith, l))) ∙ (ap (λ xs. getD xs (base + n) 0) e ∙ getD-take c us (base + n) 0 (omega (arith, l))) in
+    let x : getD ts (base + n) 0 ≡ getD us (base + n) 0 = sym (getD-take c ts (base + n) 0 (omega (arith, l))) ∙
+    (ap (λ xs. getD xs (base + n) 0) e ∙ getD-take c us (base + n) 0 (omega (arith, l))) in
     ap (λ (y : ℕ). undo ts base n (set bs y freeWord)) x ∙ undo-front ts us base n c (set bs (getD us (base + n) 0) freeWord) (omega (arith, l)) e

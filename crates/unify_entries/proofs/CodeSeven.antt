@@ -45,8 +45,19 @@ module _ (ws : List ℕ) (n e : ℕ) (ns : List ℕ) (m d : ℕ) (bs : List ℕ)
   seventh-fails : (failing ≡ some 7) ↔ ((firstFailing firstSix ≡ none) × (acyclic ns m (bindsOf bs v) ≡ false))
   unfolding unifyChecks nodeChecks placeChecks
   seventh-fails =
-      fails-first firstSix seventh (placeChecks ws n ns m l r)
-      ((λ x. omega (arith, x)), ((λ x. omega (arith, x)), ((λ x. omega (arith, x)), ((λ x. omega (arith, x)), ((λ x. omega (arith, x)), ((λ x. omega (arith, x)), tt))))))
+      fails-first firstSix seventh (placeChecks ws n ns m l r) (
+        (λ x. omega (arith, x)),
+        (
+          (λ x. omega (arith, x)),
+          (
+            (λ x. omega (arith, x)),
+            (
+              (λ x. omega (arith, x)),
+              ((λ x. omega (arith, x)), ((λ x. omega (arith, x)), tt)),
+            ),
+          ),
+        ),
+      )
       ((λ x. omega (arith, x)), ((λ x. omega (arith, x)), tt))
 
   module _ (x : firstFailing firstSix ≡ none) where
@@ -67,6 +78,10 @@ module _ (ws : List ℕ) (n e : ℕ) (ns : List ℕ) (m d : ℕ) (bs : List ℕ)
     refuses-cyclic = check-7-exactly ws n e ns m d v (lists-fine .0) (bindsOf bs v) (length-binds bs v) (lists-fine .1) .1
 
   -- Whatever the entry is given: it answers 7 exactly if checks 1 to 6 pass and some variable reaches itself.
-  pub code-7-exactly : ((unifyEntry ws n e ns m d bs v l r) .answer ≡ Refused 7) ↔ ((firstFailing firstSix ≡ none) × Cyclic (shapeAt (listsOf ws n ns m)) (bindsOf bs v))
-  code-7-exactly =
-      (λ a. let h = seventh-fails .0 (answers-seven .0 a) in (h .0, refuses-cyclic (h .0) .0 (h .1)), λ h. answers-seven .1 (seventh-fails .1 (h .0, refuses-cyclic (h .0) .1 (h .1))))
+  pub code-7-exactly : ((unifyEntry ws n e ns m d bs v l r) .answer ≡ Refused 7) ↔ ((firstFailing firstSix ≡ none) ×
+      Cyclic (shapeAt (listsOf ws n ns m)) (bindsOf bs v))
+  code-7-exactly = (
+    λ a. let h = seventh-fails .0 (answers-seven .0 a) in (h .0, refuses-cyclic (h .0) .0 (h .1)),
+    λ h.
+        answers-seven .1 (seventh-fails .1 (h .0, refuses-cyclic (h .0) .1 (h .1))),
+  )

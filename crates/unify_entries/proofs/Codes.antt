@@ -41,8 +41,25 @@ module _ (ws : List ℕ) (n e : ℕ) (ns : List ℕ) (m d : ℕ) (bs : List ℕ)
 
   pub refused-by-number : (c : ℕ) → failing ≡ some c → Numbered c
   unfolding unifyChecks nodeChecks placeChecks
-  refused-by-number c x = failing-number Numbered (unifyChecks ws n e ns m d bs v l r) c
-      ((omega arith, omega arith), ((omega arith, omega arith), ((omega arith, omega arith), ((omega arith, omega arith), ((omega arith, omega arith), ((omega arith, omega arith), ((omega arith, omega arith), ((omega arith, omega arith), ((omega arith, omega arith), tt)))))))))
+  refused-by-number c x = failing-number Numbered (unifyChecks ws n e ns m d bs v l r) c (
+    (omega arith, omega arith),
+    (
+      (omega arith, omega arith),
+      (
+        (omega arith, omega arith),
+        (
+          (omega arith, omega arith),
+          (
+            (omega arith, omega arith),
+            (
+              (omega arith, omega arith),
+              ((omega arith, omega arith), ((omega arith, omega arith), ((omega arith, omega arith), tt))),
+            ),
+          ),
+        ),
+      ),
+    ),
+  )
       x
 
   pub entry-told : UnifiedWithin ((unifyEntry ws n e ns m d bs v l r) .answer)

@@ -54,7 +54,11 @@ module _ (ws : List ℕ) (n e : ℕ) (ns : List ℕ) (m d : ℕ) (bs : List ℕ)
     names : (C : Binds) → unify shape B l r ≡ yes-with C → Names (PlacedIn lent) C
     unfolding unify
     names C y =
-        unify-names (PlacedIn lent) shape shape (record { parts = parts-placed lent (checked .nodes); same = λ p x. refl }) B (ready-names lent bs checked) deep deeper l r C
+        unify-names (PlacedIn lent) shape shape (record {
+          parts = parts-placed lent (checked .nodes);
+          same = λ p x.
+              refl;
+        }) B (ready-names lent bs checked) deep deeper l r C
         (lhs-placed ws n e ns m d bs v l r f) (rhs-placed ws n e ns m d bs v l r f) y
 
     module _ (C : Binds) (y : unify shape B l r ≡ yes-with C) where
@@ -95,16 +99,21 @@ module _ (ws : List ℕ) (n e : ℕ) (ns : List ℕ) (m d : ℕ) (bs : List ℕ)
       left-yes : LeftYes ws n e ns m d bs v l r words
       left-yes = record { passed = f; solved = rw held solved-by; long = as-long; past = rest; again = ap firstFailing same-checks ∙ f }
 
-    by-answer : (a : Unifies) → unify shape B l r ≡ a → Robinson shape B l r a → (vs : List ℕ) (u : Unified) → bindsLeft vs u ≡ bindsLeftBy bs v a → LeftSays ws n e ns m d bs v l r vs u
+    by-answer : (a : Unifies) → unify shape B l r ≡ a → Robinson shape B l r a → (vs : List ℕ) (u : Unified)
+        → bindsLeft vs u ≡ bindsLeftBy bs v a → LeftSays ws n e ns m d bs v l r vs u
     unfolding bindsLeftBy
     by-answer (yes-with C) y x vs u w = subst (λ (z : BindsLeft). LeftSays ws n e ns m d bs v l r (z .words) (z .answer)) (sym w) (left-yes C y)
-    by-answer no-way y (says-no h) vs u w = subst (λ (z : BindsLeft). LeftSays ws n e ns m d bs v l r (z .words) (z .answer)) (sym w) (record { passed = f; given = refl; no-solution = h })
+    by-answer no-way y (says-no h) vs u w = subst (λ (z : BindsLeft). LeftSays ws n e ns m d bs v l r (z .words)
+        (z .answer)) (sym w) (record { passed = f; given = refl; no-solution = h })
 
   -- Whatever lists, bindings and places the entry is given: what its answer and the words that it leaves say.
   pub entry-is-robinson : (vs : List ℕ) (u : Unified) → bindsLeft vs u ≡ unifyEntry ws n e ns m d bs v l r → LeftSays ws n e ns m d bs v l r vs u
   unfolding unifyEntry
   entry-is-robinson vs u w = go (failing ws n e ns m d bs v l r) refl w
     where
-      go : (o : Option ℕ) → failing ws n e ns m d bs v l r ≡ o → bindsLeft vs u ≡ refusedOr o (λ c. bindsLeft bs (Refused c)) (bindsLeftBy bs v (unify (shapeAt (listsOf ws n ns m)) (bindsOf bs v) l r)) → LeftSays ws n e ns m d bs v l r vs u
+      go : (o : Option ℕ) → failing ws n e ns m d bs v l r ≡ o
+          → bindsLeft vs u ≡ refusedOr o (λ c. bindsLeft bs (Refused c))
+          (bindsLeftBy bs v (unify (shapeAt (listsOf ws n ns m)) (bindsOf bs v) l r))
+          → LeftSays ws n e ns m d bs v l r vs u
       go none f w = by-answer f (unify (shapeAt (listsOf ws n ns m)) (bindsOf bs v) l r) refl (is-robinson f) vs u w
       go (some c) f w = subst (λ (z : BindsLeft). LeftSays ws n e ns m d bs v l r (z .words) (z .answer)) (sym w) (record { first = f; given = refl })

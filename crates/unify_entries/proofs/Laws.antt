@@ -62,7 +62,12 @@ module _ (ws : List ℕ) (n : ℕ) (ns : List ℕ) (m l r : ℕ) where
       module _ (q : fullLength ≤ length ws) where
         pub nodes-short : length ns < fullNodes → Refused 14 ≡ testedOf (firstFailing places)
         unfolding atCeiling
-        nodes-short z = past-12 (Refused 14) (ap testedOf (sym (first-fails fourteen [] (rw (le-leb fullLength (length ws) q, lt-leb fullNodes (length ns) z)))))
+        nodes-short z = past-12 (Refused 14)
+            (ap testedOf (sym (first-fails fourteen [] (rw (
+              le-leb fullLength (length ws) q,
+              lt-leb fullNodes
+                  (length ns) z,
+            )))))
 
         pub all-in-place : fullNodes ≤ length ns → Passed ≡ testedOf (firstFailing places)
         unfolding atCeiling firstFailing
@@ -103,8 +108,11 @@ module _ (ws : List ℕ) (n e : ℕ) (ns : List ℕ) (m d : ℕ) (bs : List ℕ)
           pub ceilings : (m ≤ maxNodes) × (v ≤ maxVars)
           unfolding nodesWithinLent bindingsWithinLent
           ceilings =
-              let w = and-eq-true-iff (leb v maxVars) (leb v (length bs)) .0 (sym ec ∙ not-false c hc) .0 in
-              (two-ceilings m maxNodes d maxNodeEntries (leb (4 * m) (length ns)) (leb d (length ns - nodeEntriesAt)) (sym eb ∙ not-false b hb) .0, leb-true v maxVars w)
+              let w = and-eq-true-iff (leb v maxVars) (leb v (length bs)) .0 (sym ec ∙ not-false c hc) .0 in (
+                two-ceilings m maxNodes d maxNodeEntries (leb (4 * m) (length ns)) (leb d (length ns - nodeEntriesAt))
+                    (sym eb ∙ not-false b hb) .0,
+                leb-true v maxVars w,
+              )
 
           abbrev sorted : List Check
           sorted = sortRowChecks ws n e
@@ -126,8 +134,10 @@ module _ (ws : List ℕ) (n e : ℕ) (ns : List ℕ) (m d : ℕ) (bs : List ℕ)
 
   -- no check fails
   module _ (x : firstFailing all ≡ none) where
-    pub chain : (withinLent ws n e ≡ true) × (nodesWithinLent ns m d ≡ true) × (bindingsWithinLent bs v ≡ true) × (rowsFine ws n e ≡ true) × (noTwoEqual ws n ≡ true) × (nodesFine ns m d n v ≡ true)
-        × (bindingsFine n m (bindsOf bs v) ≡ true) × (acyclic ns m (bindsOf bs v) ≡ true) × (isPlace n m l ≡ true) × (isPlace n m r ≡ true) × (atCeiling ws ≡ true) × (leb fullNodes (length ns) ≡ true)
+    pub chain : (withinLent ws n e ≡ true) × (nodesWithinLent ns m d ≡ true) × (bindingsWithinLent bs v ≡ true) ×
+        (rowsFine ws n e ≡ true) × (noTwoEqual ws n ≡ true) × (nodesFine ns m d n v ≡ true)
+        × (bindingsFine n m (bindsOf bs v) ≡ true) × (acyclic ns m (bindsOf bs v) ≡ true) × (isPlace n m l ≡ true) ×
+        (isPlace n m r ≡ true) × (atCeiling ws ≡ true) × (leb fullNodes (length ns) ≡ true)
     unfolding unifyChecks nodeChecks placeChecks
     chain =
         let c₁ = cons-passes _ _ x in
@@ -166,7 +176,18 @@ module _ (ws : List ℕ) (n e : ℕ) (ns : List ℕ) (m d : ℕ) (bs : List ℕ)
 -- a try on an empty trail
 module _ (ws ns bs : List ℕ) (k : Lengths) (q : Ready ws ns bs k) where
   pub trying : (ts : List ℕ) → length ts ≡ 512 → Trying ws ns bs ts k 0
-  trying ts e = record { ready = q; room = omega (arith, frees-few (bindsOf bs (k .variables)), length-binds bs (k .variables), q .nodes .variables, e); short = omega (arith, e) }
+  trying ts e = record {
+    ready = q;
+    room = omega (
+      arith,
+      frees-few (bindsOf bs (k .variables)),
+      length-binds bs
+          (k .variables),
+      q .nodes .variables,
+      e,
+    );
+    short = omega (arith, e);
+  }
 
   module _ (U : Unifies) (ts bs₁ ts₁ : List ℕ) (t : Tried) (x : TryLeaves ws ns k U bs ts 0 bs₁ ts₁ t) where
     pub yes-leaves : (c : ℕ) → t ≡ TriedYes c → bindsLeft bs₁ Yes ≡ bindsLeftBy bs (k .variables) U
@@ -196,20 +217,23 @@ module _ (ws ns bs : List ℕ) (k : Lengths) (q : Ready ws ns bs k) where
           y = subst (λ z. TryLeaves ws ns k U bs ts 0 bs₁ ts₁ z) e x
 
 -- the entry, by what the checks found
-module _ (ws : List ℕ) (n e : ℕ) (ns : List ℕ) (m d : ℕ) (bs : List ℕ) (v l r : ℕ) (t : Tested) (et : t ≡ testedOf (firstFailing (unifyChecks ws n e ns m d bs v l r))) where
+module _ (ws : List ℕ) (n e : ℕ) (ns : List ℕ) (m d : ℕ) (bs : List ℕ) (v l r : ℕ) (t : Tested) (et : t ≡ testedOf
+    (firstFailing (unifyChecks ws n e ns m d bs v l r))) where
   abbrev refuse : ℕ → BindsLeft
   refuse c = bindsLeft bs (NotUnified c)
 
   pub refused : (c : ℕ) → t ≡ Refused c → bindsLeft bs (NotUnified c) ≡ unifyEntry ws n e ns m d bs v l r
   unfolding unifyEntry
   refused c x =
-      sym (ap (λ o. refusedOr o refuse (bindsLeftBy bs v (unify (shapeAt (listsOf ws n ns m)) (bindsOf bs v) l r))) (refused-is (firstFailing (unifyChecks ws n e ns m d bs v l r)) t c et x))
+      sym (ap (λ o. refusedOr o refuse (bindsLeftBy bs v (unify (shapeAt (listsOf ws n ns m)) (bindsOf bs v) l r)))
+      (refused-is (firstFailing (unifyChecks ws n e ns m d bs v l r)) t c et x))
 
   module _ (p : t ≡ Passed) where
     pub none-fails : firstFailing (unifyChecks ws n e ns m d bs v l r) ≡ none
     none-fails = passed-is (firstFailing (unifyChecks ws n e ns m d bs v l r)) t et p
 
-    pub answered : (bs₁ : List ℕ) (u : Unified) → bindsLeft bs₁ u ≡ bindsLeftBy bs v (unify (shapeAt (listsOf ws n ns m)) (bindsOf bs v) l r) → bindsLeft bs₁ u ≡ unifyEntry ws n e ns m d bs v l r
+    pub answered : (bs₁ : List ℕ) (u : Unified) → bindsLeft bs₁ u ≡ bindsLeftBy bs v
+        (unify (shapeAt (listsOf ws n ns m)) (bindsOf bs v) l r) → bindsLeft bs₁ u ≡ unifyEntry ws n e ns m d bs v l r
     unfolding unifyEntry
     answered bs₁ u x =
         x ∙ sym (ap (λ o. refusedOr o refuse (bindsLeftBy bs v (unify (shapeAt (listsOf ws n ns m)) (bindsOf bs v) l r))) none-fails)

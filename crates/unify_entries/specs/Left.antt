@@ -28,9 +28,11 @@ module _ (ws : List ℕ) (n e : ℕ) (ns : List ℕ) (m d : ℕ) (bs : List ℕ)
   pub record LeftNo (vs : List ℕ) : Type 1 where
     pub passed : failing ≡ none
     pub given : vs ≡ bs
-    pub no-solution : (σ : ℕ → Term) → Respects (shapeAt (listsOf ws n ns m)) (bindsOf bs v) σ → Equates (shapeAt (listsOf ws n ns m)) σ l r → ⊥
+    pub no-solution : (σ : ℕ → Term) → Respects (shapeAt (listsOf ws n ns m)) (bindsOf bs v) σ
+        → Equates (shapeAt (listsOf ws n ns m)) σ l r → ⊥
 
-  -- A yes: the bindings in the words are Robinson's, the words past the variables are as given, and the words pass all checks.
+  -- A yes: the bindings in the words are Robinson's, the words past the variables are as given, and the words pass
+  -- all checks.
   pub record LeftYes (vs : List ℕ) : Type 1 where
     pub passed : failing ≡ none
     pub solved : Robinson (shapeAt (listsOf ws n ns m)) (bindsOf bs v) l r (yes-with (bindsOf vs v))

@@ -11,13 +11,36 @@ pub bound-to-spec : {M : Type 1} → statement M
 bound-to-spec =
     tie.close
     (tie.spec
-    (λ c. law.sort-not-bound (c .before .before .before .before .before .args .sorts .now) (c .before .before .before .before .before .args .nodes .now) (c .before .before .before .before .before .args .binds .now) (c .before .before .before .before .before .args .lengths) (c .before .before .before .before .before .pre .0) (c .before .before .before .before .before .args .id .0) (c .before .before .before .before .before .pre .1) (c .if1 .taken))
+    (λ c.
+    let start = c .before .before .before .before .before in
+    let args = start .args in
+    law.sort-not-bound (args .sorts .now) (args .nodes .now) (args .binds .now) (args .lengths) (start .pre .0) (args .id .0) (start .pre .1) (c .if1 .taken))
     (λ c κs. search needs)
     (λ c. search needs)
     (λ c. search needs)
     (λ c. search needs)
     (λ c. search needs)
     (λ c κs. search needs)
-    (λ c. law.generic-not-bound (c .before .before .before .before .before .before .before .before .before .args .sorts .now) (c .before .before .before .before .before .before .before .before .before .args .nodes .now) (c .before .before .before .before .before .before .before .before .before .args .binds .now) (c .before .before .before .before .before .before .before .before .before .args .lengths) (c .before .before .before .before .before .before .before .before .before .pre .0) (c .before .before .before .before .before .before .before .before .before .args .id .0) (c .before .before .before .before .before .before .before .before .before .pre .1) (c .before .before .before .before .if1 .left) _ (c .before .before .node .ensures) _ _ (c .enum-told .given .1))
-    (λ c. law.function-not-bound (c .before .before .before .before .before .before .before .before .before .args .sorts .now) (c .before .before .before .before .before .before .before .before .before .args .nodes .now) (c .before .before .before .before .before .before .before .before .before .args .binds .now) (c .before .before .before .before .before .before .before .before .before .args .lengths) (c .before .before .before .before .before .before .before .before .before .pre .0) (c .before .before .before .before .before .before .before .before .before .args .id .0) (c .before .before .before .before .before .before .before .before .before .pre .1) (c .before .before .before .before .if1 .left) _ (c .before .before .node .ensures) _ _ (c .enum-told2 .given .1))
-    (λ c. ap bindingOf (c .word .ensures) ∙ law.variable-bound (c .before .before .before .before .before .before .before .before .before .before .before .before .args .sorts .now) (c .before .before .before .before .before .before .before .before .before .before .before .before .args .nodes .now) (c .before .before .before .before .before .before .before .before .before .before .before .before .args .binds .now) (c .before .before .before .before .before .before .before .before .before .before .before .before .args .lengths) (c .before .before .before .before .before .before .before .before .before .before .before .before .pre .0) (c .before .before .before .before .before .before .before .before .before .before .before .before .args .id .0) (c .before .before .before .before .before .before .before .before .before .before .before .before .pre .1) (c .before .before .before .before .before .before .before .if1 .left) _ (c .before .before .before .before .before .node .ensures) _ (c .before .before .before .var .given .1)))
+    (λ c.
+    let at-node = c .before .before in
+    let at-if1 = at-node .before .before in
+    let start = at-if1 .before .before .before .before .before in
+    let args = start .args in
+    law.generic-not-bound (args .sorts .now) (args .nodes .now) (args .binds .now) (args .lengths) (start .pre .0)
+    (args .id .0) (start .pre .1) (at-if1 .if1 .left) _ (at-node .node .ensures) _ _ (c .enum-told .given .1))
+    (λ c.
+    let at-node = c .before .before in
+    let at-if1 = at-node .before .before in
+    let start = at-if1 .before .before .before .before .before in
+    let args = start .args in
+    law.function-not-bound (args .sorts .now) (args .nodes .now) (args .binds .now) (args .lengths) (start .pre .0)
+    (args .id .0) (start .pre .1) (at-if1 .if1 .left) _ (at-node .node .ensures) _ _ (c .enum-told2 .given .1))
+    (λ c.
+    let at-var = c .before .before .before in
+    let at-node = at-var .before .before in
+    let at-if1 = at-node .before .before in
+    let start = at-if1 .before .before .before .before .before in
+    let args = start .args in
+    ap bindingOf (c .word .ensures) ∙ law.variable-bound (args .sorts .now) (args .nodes .now) (args .binds .now)
+    (args .lengths) (start .pre .0) (args .id .0) (start .pre .1) (at-if1 .if1 .left) _ (at-node .node .ensures) _
+    (at-var .var .given .1)))

@@ -12,8 +12,18 @@ kind-at-spec =
     (λ c. search needs)
     (λ c. search needs)
     (λ c κs. search needs)
-    (λ c. law.kind-of-sort (c .before .before .before .before .before .before .args .sorts .now) (c .before .before .before .before .before .before .args .nodes .now) (c .before .before .before .before .before .before .args .lengths) (c .before .before .before .before .before .before .pre .0) (c .before .before .before .before .before .before .args .id .0) (c .before .before .before .before .before .before .pre .1) (c .before .before .if1 .taken) _ (c .word .ensures))
+    (λ c.
+    let at-if1 = c .before .before in
+    let start = at-if1 .before .before .before .before in
+    let args = start .args in
+    law.kind-of-sort (args .sorts .now) (args .nodes .now) (args .lengths) (start .pre .0) (args .id .0)
+    (start .pre .1) (at-if1 .if1 .taken) _ (c .word .ensures))
     (λ c. search needs)
     (λ c. search needs)
     (λ c κs. search needs)
-    (λ c. law.kind-of-node (c .before .before .before .before .before .before .args .sorts .now) (c .before .before .before .before .before .before .args .nodes .now) (c .before .before .before .before .before .before .args .lengths) (c .before .before .before .before .before .before .pre .0) (c .before .before .before .before .before .before .args .id .0) (c .before .before .before .before .before .before .pre .1) (c .before .before .if1 .left) _ (c .word2 .ensures)))
+    (λ c.
+    let at-if1 = c .before .before in
+    let start = at-if1 .before .before .before .before in
+    let args = start .args in
+    law.kind-of-node (args .sorts .now) (args .nodes .now) (args .lengths) (start .pre .0) (args .id .0)
+    (start .pre .1) (at-if1 .if1 .left) _ (c .word2 .ensures)))

@@ -18,7 +18,24 @@ node-spec =
     (λ c κs. search needs)
     (λ c. search needs)
     (λ c κs. search needs)
-    (λ c. law.says-function (c .before .before .before .before .before .before .before .args .nodes .now) (c .before .before .before .before .before .before .before .args .id .0) _ _ (c .before .before .before .before .word .ensures) (c .before .before .before .word2 .ensures) _ _ (c .before .word3 .ensures) (c .word4 .ensures) (c .before .before .if1 .taken))
+    (λ c.
+    let at-if1 = c .before .before in
+    let at-word2 = at-if1 .before in
+    let at-word = at-word2 .before in
+    let start = at-word .before .before .before in
+    law.says-function (start .args .nodes .now) (start .args .id .0) _ _ (at-word .word .ensures)
+    (at-word2 .word2 .ensures) _ _ (c .before .word3 .ensures) (c .word4 .ensures) (at-if1 .if1 .taken))
     (λ c κs. search needs)
-    (λ c. law.says-generic (c .before .before .before .before .before .before .before .args .nodes .now) (c .before .before .before .before .before .before .before .args .id .0) _ _ (c .before .before .before .before .word .ensures) (c .before .before .before .word2 .ensures) _ (c .op-of-kind .ensures) (c .before .before .if1 .left) (c .before .if2 .taken))
-    (λ c. law.says-variable (c .before .before .before .before .before .before .args .nodes .now) (c .before .before .before .before .before .before .args .id .0) _ _ (c .before .before .before .word .ensures) (c .before .before .word2 .ensures) (c .before .if1 .left) (c .if2 .left)))
+    (λ c.
+    let at-if1 = c .before .before in
+    let at-word2 = at-if1 .before in
+    let at-word = at-word2 .before in
+    let start = at-word .before .before .before in
+    law.says-generic (start .args .nodes .now) (start .args .id .0) _ _ (at-word .word .ensures)
+    (at-word2 .word2 .ensures) _ (c .op-of-kind .ensures) (at-if1 .if1 .left) (c .before .if2 .taken))
+    (λ c.
+    let at-word2 = c .before .before in
+    let at-word = at-word2 .before in
+    let start = at-word .before .before .before in
+    law.says-variable (start .args .nodes .now) (start .args .id .0) _ _ (at-word .word .ensures)
+    (at-word2 .word2 .ensures) (c .before .if1 .left) (c .if2 .left)))

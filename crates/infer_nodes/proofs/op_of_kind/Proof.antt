@@ -13,4 +13,8 @@ op-of-kind-spec =
     (λ c. law.op-at 1 (c .before .before .args .kind) (c .if2 .taken))
     (λ c. law.op-at 2 (c .before .before .before .args .kind) (c .if3 .taken))
     (λ c. law.op-at 3 (c .before .before .before .before .args .kind) (c .if4 .taken))
-    (λ c. law.op-last (c .before .before .before .before .args .kind) (omega (arith, c .before .before .before .if1 .left, c .before .before .if2 .left, c .before .if3 .left, c .if4 .left))))
+    (λ c.
+    let at-if2 = c .before .before in
+    let at-if1 = at-if2 .before in
+    let start = at-if1 .before in
+    law.op-last (start .args .kind) (omega (arith, at-if1 .if1 .left, at-if2 .if2 .left, c .before .if3 .left, c .if4 .left))))

@@ -11,9 +11,25 @@ part-spec =
     (tie.spec
     (λ c. search needs)
     (λ c. search needs)
-    (λ c κs. (law.sort-row (c .before .before .before .before .before .args .sorts .now) (c .before .before .before .before .before .args .nodes .now) (c .before .before .before .before .before .args .lengths) (c .before .before .before .before .before .pre .0) (c .before .before .before .before .before .args .id .0) (c .before .before .before .before .before .pre .1) (c .before .if1 .taken), omega arith))
-    (λ c. law.part-of-sort (c .before .before .before .before .before .before .args .sorts .now) (c .before .before .before .before .before .before .args .nodes .now) (c .before .before .before .before .before .before .args .lengths) (c .before .before .before .before .before .before .pre .0) (c .before .before .before .before .before .before .args .id .0) (c .before .before .before .before .before .before .pre .1) (c .before .before .if1 .taken) (c .before .before .before .before .before .before .args .i) _ (c .before .before .before .before .before .before .pre .2) (c .part-in .ensures))
+    (λ c κs.
+    let start = c .before .before .before .before .before in
+    let args = start .args in
+    (law.sort-row (args .sorts .now) (args .nodes .now) (args .lengths) (start .pre .0) (args .id .0) (start .pre .1) (c .before .if1 .taken), omega arith))
+    (λ c.
+    let at-if1 = c .before .before in
+    let start = at-if1 .before .before .before .before in
+    let args = start .args in
+    law.part-of-sort (args .sorts .now) (args .nodes .now) (args .lengths) (start .pre .0) (args .id .0)
+    (start .pre .1) (at-if1 .if1 .taken) (args .i) _ (start .pre .2) (c .part-in .ensures))
     (λ c. search needs)
     (λ c. search needs)
-    (λ c κs. (law.node-row (c .before .before .before .before .before .args .sorts .now) (c .before .before .before .before .before .args .nodes .now) (c .before .before .before .before .before .args .lengths) (c .before .before .before .before .before .pre .0) (c .before .before .before .before .before .args .id .0) (c .before .before .before .before .before .pre .1) (c .before .if1 .left), omega arith))
-    (λ c. law.part-of-node (c .before .before .before .before .before .before .args .sorts .now) (c .before .before .before .before .before .before .args .nodes .now) (c .before .before .before .before .before .before .args .lengths) (c .before .before .before .before .before .before .pre .0) (c .before .before .before .before .before .before .args .id .0) (c .before .before .before .before .before .before .pre .1) (c .before .before .if1 .left) (c .before .before .before .before .before .before .args .i) _ (c .before .before .before .before .before .before .pre .2) (c .part-in2 .ensures)))
+    (λ c κs.
+    let start = c .before .before .before .before .before in
+    let args = start .args in
+    (law.node-row (args .sorts .now) (args .nodes .now) (args .lengths) (start .pre .0) (args .id .0) (start .pre .1) (c .before .if1 .left), omega arith))
+    (λ c.
+    let at-if1 = c .before .before in
+    let start = at-if1 .before .before .before .before in
+    let args = start .args in
+    law.part-of-node (args .sorts .now) (args .nodes .now) (args .lengths) (start .pre .0) (args .id .0)
+    (start .pre .1) (at-if1 .if1 .left) (args .i) _ (start .pre .2) (c .part-in2 .ensures)))

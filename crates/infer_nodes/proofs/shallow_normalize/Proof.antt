@@ -22,9 +22,33 @@ shallow-normalize-spec =
     (tie.spec
     Inv-loop
     μ-loop
-    (λ c κs. (c .before .before .before .pre .0, c .before .before .before .pre .1))
-    (λ c. law.begun (c .before .before .before .before .args .sorts .now) (c .before .before .before .before .args .nodes .now) (c .before .before .before .before .args .binds .now) (c .before .before .before .before .args .lengths) (c .before .before .before .before .pre .0) _ _ (c .before .before .before .before .pre .1) (c .bound-to .ensures))
-    (λ c κs. (c .before .before .before .before .before .before .pre .0, law.next-placed (c .before .before .before .before .before .before .args .sorts .now) (c .before .before .before .before .before .before .args .nodes .now) (c .before .before .before .before .before .before .args .binds .now) (c .before .before .before .before .before .before .args .lengths) (c .before .before .before .before .before .before .pre .0) _ _ _ (c .before .loop .inv) (c .loop-test .taken)))
-    (λ c. law.next-lower (c .before .before .before .before .before .before .before .args .sorts .now) (c .before .before .before .before .before .before .before .args .nodes .now) (c .before .before .before .before .before .before .before .args .binds .now) (c .before .before .before .before .before .before .before .args .lengths) (c .before .before .before .before .before .before .before .pre .0) _ _ _ (c .before .before .loop .inv) (c .before .loop-test .taken))
-    (λ c. law.one-further (c .before .before .before .before .before .before .before .args .sorts .now) (c .before .before .before .before .before .before .before .args .nodes .now) (c .before .before .before .before .before .before .before .args .binds .now) (c .before .before .before .before .before .before .before .args .lengths) (c .before .before .before .before .before .before .before .pre .0) _ _ _ (c .before .before .loop .inv) (c .before .loop-test .taken) _ (c .bound-to2 .ensures))
-    (λ c. law.ends-here (c .before .before .before .before .before .before .args .sorts .now) (c .before .before .before .before .before .before .args .nodes .now) (c .before .before .before .before .before .before .args .binds .now) (c .before .before .before .before .before .before .args .lengths) (c .before .before .before .before .before .before .pre .0) _ _ _ (c .before .loop .inv) (c .loop-test .left)))
+    (λ c κs.
+    let start = c .before .before .before in
+    (start .pre .0, start .pre .1))
+    (λ c.
+    let start = c .before .before .before .before in
+    let args = start .args in
+    law.begun (args .sorts .now) (args .nodes .now) (args .binds .now) (args .lengths) (start .pre .0) _ _ (start .pre .1) (c .bound-to .ensures))
+    (λ c κs.
+    let start = c .before .before .before .before .before .before in
+    let args = start .args in (
+      start .pre .0,
+      law.next-placed (args .sorts .now) (args .nodes .now) (args .binds .now) (args .lengths)
+          (start .pre .0) _ _ _ (c .before .loop .inv) (c .loop-test .taken),
+    ))
+    (λ c.
+    let at-loop = c .before .before in
+    let start = at-loop .before .before .before .before .before in
+    let args = start .args in
+    law.next-lower (args .sorts .now) (args .nodes .now) (args .binds .now) (args .lengths) (start .pre .0) _ _ _
+    (at-loop .loop .inv) (c .before .loop-test .taken))
+    (λ c.
+    let at-loop = c .before .before in
+    let start = at-loop .before .before .before .before .before in
+    let args = start .args in
+    law.one-further (args .sorts .now) (args .nodes .now) (args .binds .now) (args .lengths) (start .pre .0) _ _ _
+    (at-loop .loop .inv) (c .before .loop-test .taken) _ (c .bound-to2 .ensures))
+    (λ c.
+    let start = c .before .before .before .before .before .before in
+    let args = start .args in
+    law.ends-here (args .sorts .now) (args .nodes .now) (args .binds .now) (args .lengths) (start .pre .0) _ _ _ (c .before .loop .inv) (c .loop-test .left)))

@@ -13,11 +13,35 @@ unfolding nodeShape
 variable-at-spec =
     tie.close
     (tie.spec
-    (λ c. law.no-variable (c .before .before .before .before .args .sorts .now) (c .before .before .before .before .args .nodes .now) (c .before .before .before .before .args .lengths) (c .before .before .before .before .pre .0) (c .before .before .before .before .args .id .0) (c .before .before .before .before .pre .1) (c .if1 .taken))
+    (λ c.
+    let start = c .before .before .before .before in
+    let args = start .args in
+    law.no-variable (args .sorts .now) (args .nodes .now) (args .lengths) (start .pre .0) (args .id .0) (start .pre .1) (c .if1 .taken))
     (λ c κs. search needs)
     (λ c. search needs)
     (λ c. search needs)
     (λ c. search needs)
-    (λ c. law.node-not-variable _ _ _ (shape.shape-of-node (c .before .before .before .before .before .before .before .before .args .sorts .now) (c .before .before .before .before .before .before .before .before .args .nodes .now) (c .before .before .before .before .before .before .before .before .args .lengths) (c .before .before .before .before .before .before .before .before .pre .0) (c .before .before .before .before .before .before .before .before .args .id .0) (c .before .before .before .before .before .before .before .before .pre .1) (c .before .before .before .before .if1 .left) _ (c .before .before .node .ensures) ∙ ap (nodeShape (c .before .before .before .before .before .before .before .before .args .nodes .now)) (c .enum-told .given .1)))
-    (λ c. law.node-not-variable _ _ _ (shape.shape-of-node (c .before .before .before .before .before .before .before .before .args .sorts .now) (c .before .before .before .before .before .before .before .before .args .nodes .now) (c .before .before .before .before .before .before .before .before .args .lengths) (c .before .before .before .before .before .before .before .before .pre .0) (c .before .before .before .before .before .before .before .before .args .id .0) (c .before .before .before .before .before .before .before .before .pre .1) (c .before .before .before .before .if1 .left) _ (c .before .before .node .ensures) ∙ ap (nodeShape (c .before .before .before .before .before .before .before .before .args .nodes .now)) (c .enum-told2 .given .1)))
-    (λ c. law.node-variable _ _ (shape.shape-of-variable (c .before .before .before .before .before .before .before .before .before .args .sorts .now) (c .before .before .before .before .before .before .before .before .before .args .nodes .now) (c .before .before .before .before .before .before .before .before .before .args .lengths) (c .before .before .before .before .before .before .before .before .before .pre .0) (c .before .before .before .before .before .before .before .before .before .args .id .0) (c .before .before .before .before .before .before .before .before .before .pre .1) (c .before .before .before .before .before .if1 .left) _ (c .before .before .before .node .ensures) _ (c .before .var .given .1))))
+    (λ c.
+    let at-node = c .before .before in
+    let at-if1 = at-node .before .before in
+    let start = at-if1 .before .before .before .before in
+    let args = start .args in
+    law.node-not-variable _ _ _ (shape.shape-of-node (args .sorts .now) (args .nodes .now) (args .lengths)
+    (start .pre .0) (args .id .0) (start .pre .1) (at-if1 .if1 .left) _ (at-node .node .ensures) ∙ ap
+    (nodeShape (args .nodes .now)) (c .enum-told .given .1)))
+    (λ c.
+    let at-node = c .before .before in
+    let at-if1 = at-node .before .before in
+    let start = at-if1 .before .before .before .before in
+    let args = start .args in
+    law.node-not-variable _ _ _ (shape.shape-of-node (args .sorts .now) (args .nodes .now) (args .lengths)
+    (start .pre .0) (args .id .0) (start .pre .1) (at-if1 .if1 .left) _ (at-node .node .ensures) ∙ ap
+    (nodeShape (args .nodes .now)) (c .enum-told2 .given .1)))
+    (λ c.
+    let at-node = c .before .before .before in
+    let at-if1 = at-node .before .before in
+    let start = at-if1 .before .before .before .before in
+    let args = start .args in
+    law.node-variable _ _ (shape.shape-of-variable (args .sorts .now) (args .nodes .now) (args .lengths)
+    (start .pre .0) (args .id .0) (start .pre .1) (at-if1 .if1 .left) _ (at-node .node .ensures) _
+    (c .before .var .given .1))))

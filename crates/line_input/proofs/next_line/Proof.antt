@@ -41,7 +41,10 @@ loop-less : tie.Need-loop-less Inv-loop μ-loop
 loop-less c = omega arith
 
 loop-again : tie.Need-loop-again Inv-loop μ-loop
-loop-again c = (c .before .before .before .before .read-some .kept .0 ∙ c .before .before .before .before .before .before .before .before .before .before .loop .inv .0, c .before .before .before .before .read-some .kept .1 .0 ∙ c .before .before .before .before .before .before .before .before .before .before .loop .inv .1)
+loop-again c =
+    let at-read-some = c .before .before .before .before in
+    let at-loop = at-read-some .before .before .before .before .before .before in
+    (at-read-some .read-some .kept .0 ∙ at-loop .loop .inv .0, at-read-some .read-some .kept .1 .0 ∙ at-loop .loop .inv .1)
 
 same-length-3 : tie.Need-same-length-3 Inv-loop μ-loop
 same-length-3 c = c .before .loop .inv .0

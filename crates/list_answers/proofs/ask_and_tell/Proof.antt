@@ -14,7 +14,8 @@ ask-requires : tie.Need-ask-requires
 ask-requires c κs = search needs
 
 tell-requires : tie.Need-tell-requires
-tell-requires c κs = law.answer-tellable _ _ _ _ _ _ (c .before .before .before .before .before .before .before .before .before .before .before .before .before .ask .ensures)
+tell-requires c κs = law.answer-tellable _ _ _ _ _ _
+    (c .before .before .before .before .before .before .before .before .before .before .before .before .before .ask .ensures)
 
 same-length : tie.Need-same-length
 same-length c = search needs
@@ -32,7 +33,15 @@ same-length-5 : tie.Need-same-length-5
 same-length-5 c = search needs
 
 returns : tie.Need-returns
-returns c = law.asked-and-told _ _ _ _ _ _ (c .before .before .before .before .before .before .before .before .before .before .before .before .before .before .before .before .ask .ensures) (c .before .before .before .before .before .before .before .before .before .before .before .before .before .before .before .before .before .before .before .before .before .before .before .before .before .before .before .before .before .args .list .now) _ _ _ (c .before .before .before .before .before .before .before .before .before .before .before .before .before .before .before .before .before .before .before .before .before .before .count-of .ensures) (c .before .before .before .before .before .before .before .before .before .before .before .before .before .before .before .before .before .before .before .before .before .count-of2 .ensures) (c .before .before .tell .ensures)
+returns c =
+    let at-tell = c .before .before in
+    let at-ask = at-tell .before .before .before .before .before .before .before .before .before .before
+    .before .before .before .before in
+    let at-count-of2 = at-ask .before .before .before .before .before in
+    let at-count-of = at-count-of2 .before in
+    let start = at-count-of .before .before .before .before .before .before .before in
+    law.asked-and-told _ _ _ _ _ _ (at-ask .ask .ensures) (start .args .list .now) _ _ _
+    (at-count-of .count-of .ensures) (at-count-of2 .count-of2 .ensures) (at-tell .tell .ensures)
 
 pub ask-and-tell-spec : {M : Type 1} → statement M
 ask-and-tell-spec =

@@ -17,7 +17,8 @@ word-requires-2 : tie.Need-word-requires-2
 word-requires-2 c κs = search needs
 
 returns : tie.Need-returns
-returns c = law.told-count (c .before .before .before .before .args .list .now) _ _ _ (c .before .before .word .ensures) (c .word2 .ensures) (c .before .if1 .taken)
+returns c = law.told-count (c .before .before .before .before .args .list .now) _ _ _
+    (c .before .before .word .ensures) (c .word2 .ensures) (c .before .if1 .taken)
 
 add-word-3 : tie.Need-add-word-3
 add-word-3 c = search needs
@@ -26,7 +27,8 @@ word-requires-3 : tie.Need-word-requires-3
 word-requires-3 c κs = search needs
 
 returns-2 : tie.Need-returns-2
-returns-2 c = law.own-count (c .before .before .before .before .args .list .now) _ _ _ (c .before .before .word .ensures) (c .word3 .ensures) (c .before .if1 .left)
+returns-2 c = law.own-count (c .before .before .before .before .args .list .now) _ _ _
+    (c .before .before .word .ensures) (c .word3 .ensures) (c .before .if1 .left)
 
 pub count-of-spec : {M : Type 1} → statement M
 count-of-spec =

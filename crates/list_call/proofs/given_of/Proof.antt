@@ -69,7 +69,22 @@ word-requires : tie.Need-word-requires
 word-requires c κs = search needs
 
 returns : tie.Need-returns
-returns c = law.counts-given (c .before .before .before .before .before .before .before .before .before .before .before .before .args .list .now) _ _ _ _ _ _ _ _ _ _ _ _ refl (c .before .before .before .before .before .before .before .before .before .before .count-of .ensures) (c .before .before .before .before .before .before .before .before .before .count-of2 .ensures) (c .before .before .before .before .before .before .before .before .count-of3 .ensures) (c .before .before .before .before .before .before .before .count-of4 .ensures) (c .before .before .before .before .before .before .count-of5 .ensures) (c .before .before .before .before .before .count-of6 .ensures) (c .before .before .before .before .count-of7 .ensures) (c .before .before .before .count-of8 .ensures) (c .before .before .count-of9 .ensures) (c .before .count-of10 .ensures) (c .word .ensures)
+returns c =
+    let at-count-of9 = c .before .before in
+    let at-count-of8 = at-count-of9 .before in
+    let at-count-of7 = at-count-of8 .before in
+    let at-count-of6 = at-count-of7 .before in
+    let at-count-of5 = at-count-of6 .before in
+    let at-count-of4 = at-count-of5 .before in
+    let at-count-of3 = at-count-of4 .before in
+    let at-count-of2 = at-count-of3 .before in
+    let at-count-of = at-count-of2 .before in
+    let start = at-count-of .before .before in
+    law.counts-given (start .args .list .now) _ _ _ _ _ _ _ _ _ _ _ _ refl (at-count-of .count-of .ensures)
+    (at-count-of2 .count-of2 .ensures) (at-count-of3 .count-of3 .ensures) (at-count-of4 .count-of4 .ensures)
+    (at-count-of5 .count-of5 .ensures) (at-count-of6 .count-of6 .ensures) (at-count-of7 .count-of7 .ensures)
+    (at-count-of8 .count-of8 .ensures) (at-count-of9 .count-of9 .ensures) (c .before .count-of10 .ensures)
+    (c .word .ensures)
 
 pub given-of-spec : {M : Type 1} → statement M
 given-of-spec =

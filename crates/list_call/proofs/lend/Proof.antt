@@ -31,7 +31,8 @@ part-result-end : tie.Need-part-result-end
 part-result-end c = search needs
 
 returns : tie.Need-returns
-returns c = law.part-lent (c .before .before .before .before .args .list .now) _ _ _ _ _ _ _ _ (c .before .before .rows-given .ensures .0) (c .before .length-of .ensures .0) refl
+returns c = law.part-lent (c .before .before .before .before .args .list .now) _ _ _ _ _ _ _ _
+    (c .before .before .rows-given .ensures .0) (c .before .length-of .ensures .0) refl
 
 pub lend-spec : {M : Type 1} → statement M
 lend-spec =

@@ -44,7 +44,17 @@ same-length-7 : tie.Need-same-length-7
 same-length-7 c = search needs
 
 returns : tie.Need-returns
-returns c = law.asked (c .before .before .before .before .before .before .before .before .before .before .before .before .before .before .before .before .before .before .before .before .before .before .before .before .before .before .before .before .before .before .before .before .before .before .before .args .list .now) _ _ _ _ _ _ _ _ _ _ _ _ _ (c .before .before .before .before .before .before .before .before .before .before .before .before .before .before .before .before .before .before .before .before .before .before .before .before .before .before .lend .ensures) (c .before .before .before .before .before .before .before .before .before .before .before .before .before .before .before .before .before .before .before .before .before .before .before .before .before .lend2 .ensures) (c .before .before .before .before .before .before .before .before .before .before .before .before .before .before .before .before .before .before .before .before .before .before .before .before .lend3 .ensures) (c .before .before .before .before .before .before .before .before .before .before .before .before .before .before .before .before .before .before .before .before .before .before .before .lend4 .ensures) (c .before .before .before .before .before .before .before .before .before .before .before .before .before .before .before .before .before .before .before .before .before .before .lend5 .ensures) _ (c .before .before .before .before .before .before .before .before .before .before .before .before .before .before .solve .ensures)
+returns c =
+    let at-solve = c .before .before .before .before .before .before .before .before .before .before .before
+    .before .before .before in
+    let at-lend5 = at-solve .before .before .before .before .before .before .before .before in
+    let at-lend4 = at-lend5 .before in
+    let at-lend3 = at-lend4 .before in
+    let at-lend2 = at-lend3 .before in
+    let at-lend = at-lend2 .before in
+    let start = at-lend .before .before .before .before .before .before .before .before .before in
+    law.asked (start .args .list .now) _ _ _ _ _ _ _ _ _ _ _ _ _ (at-lend .lend .ensures) (at-lend2 .lend2 .ensures)
+    (at-lend3 .lend3 .ensures) (at-lend4 .lend4 .ensures) (at-lend5 .lend5 .ensures) _ (at-solve .solve .ensures)
 
 pub solve-list-spec : {M : Type 1} → statement M
 solve-list-spec =

@@ -20,7 +20,8 @@ cast-result : tie.Need-cast-result
 cast-result c = search needs
 
 returns : tie.Need-returns
-returns c = law.told-length (c .before .before .before .before .args .list .now) _ _ _ _ (c .before .before .word .ensures) (c .word2 .ensures) (c .before .if1 .taken)
+returns c = law.told-length (c .before .before .before .before .args .list .now) _ _ _ _
+    (c .before .before .word .ensures) (c .word2 .ensures) (c .before .if1 .taken)
 
 returns-2 : tie.Need-returns-2
 returns-2 c = law.own-length (c .before .before .before .args .list .now) _ _ _ (c .before .word .ensures) (c .if1 .left)

@@ -22,21 +22,56 @@ with-put-requires c κs = search needs
 
 returns : tie.Need-returns
 unfolding boundPlan
-returns c = rw (← c .before .before .before .before .before .before .before .word .ensures, lt-ltb _ _ (c .before .before .before .before .before .before .if1 .taken), lt-ltb _ _ (c .before .before .before .before .before .if2 .taken), ← c .before .before .before .word2 .ensures, eq-eqb _ _ (c .before .before .if3 .taken), ← c .before .nothing .ensures, ← c .with-put .ensures)
+returns c =
+    let at-if3 = c .before .before in
+    let at-word2 = at-if3 .before in
+    let at-if2 = at-word2 .before .before in
+    let at-if1 = at-if2 .before in
+    let at-word = at-if1 .before in
+    rw (
+      ← at-word .word .ensures,
+      lt-ltb _ _ (at-if1 .if1 .taken),
+      lt-ltb _ _ (at-if2 .if2 .taken),
+      ←
+          at-word2 .word2 .ensures,
+      eq-eqb _ _ (at-if3 .if3 .taken),
+      ← c .before .nothing .ensures,
+      ←
+          c .with-put .ensures,
+    )
 
 expected-requires : tie.Need-expected-requires
 expected-requires c κs = search needs
 
 returns-2 : tie.Need-returns-2
 unfolding boundPlan
-returns-2 c = rw (← c .before .before .before .before .before .before .word .ensures, lt-ltb _ _ (c .before .before .before .before .before .if1 .taken), lt-ltb _ _ (c .before .before .before .before .if2 .taken), ← c .before .before .word2 .ensures, ne-eqb _ _ (c .before .if3 .left), ← c .expected .ensures)
+returns-2 c =
+    let at-word2 = c .before .before in
+    let at-if2 = at-word2 .before .before in
+    let at-if1 = at-if2 .before in
+    let at-word = at-if1 .before in
+    rw (
+      ← at-word .word .ensures,
+      lt-ltb _ _ (at-if1 .if1 .taken),
+      lt-ltb _ _ (at-if2 .if2 .taken),
+      ←
+          at-word2 .word2 .ensures,
+      ne-eqb _ _ (c .before .if3 .left),
+      ← c .expected .ensures,
+    )
 
 nothing-requires-2 : tie.Need-nothing-requires-2
 nothing-requires-2 c κs = search needs
 
 returns-3 : tie.Need-returns-3
 unfolding boundPlan
-returns-3 c = rw (← c .before .before .before .word .ensures, lt-ltb _ _ (c .before .before .if1 .taken), le-ltb _ _ (c .before .if2 .left), ← c .nothing2 .ensures)
+returns-3 c = rw (
+  ← c .before .before .before .word .ensures,
+  lt-ltb _ _ (c .before .before .if1 .taken),
+  le-ltb _ _
+      (c .before .if2 .left),
+  ← c .nothing2 .ensures,
+)
 
 expected-requires-2 : tie.Need-expected-requires-2
 expected-requires-2 c κs = search needs

@@ -27,7 +27,25 @@ constraint-row-requires c κs = search needs
 
 returns : tie.Need-returns
 unfolding constraintPlan
-returns c = rw (← c .before .before .before .before .before .before .before .fits2 .ensures, c .before .before .before .before .before .before .if1 .taken, ← c .before .before .before .before .before .word-at .ensures, ← c .before .before .before .before .word-at2 .ensures, ← c .before .before .before .word-at3 .ensures, ← c .before .before .word-at4 .ensures, ← c .before .word-at5 .ensures, ← c .constraint-row .ensures)
+returns c =
+    let at-word-at4 = c .before .before in
+    let at-word-at3 = at-word-at4 .before in
+    let at-word-at2 = at-word-at3 .before in
+    let at-word-at = at-word-at2 .before in
+    let at-if1 = at-word-at .before in
+    let at-fits2 = at-if1 .before in
+    rw (
+      ← at-fits2 .fits2 .ensures,
+      at-if1 .if1 .taken,
+      ← at-word-at .word-at .ensures,
+      ←
+          at-word-at2 .word-at2 .ensures,
+      ← at-word-at3 .word-at3 .ensures,
+      ← at-word-at4 .word-at4 .ensures,
+      ←
+          c .before .word-at5 .ensures,
+      ← c .constraint-row .ensures,
+    )
 
 expected-requires : tie.Need-expected-requires
 expected-requires c κs = search needs

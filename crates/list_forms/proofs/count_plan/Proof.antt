@@ -31,14 +31,45 @@ with-puts-requires c κs = search needs
 
 returns : tie.Need-returns
 unfolding countPlan
-returns c = rw (← c .before .before .before .before .before .before .before .fits2 .ensures, c .before .before .before .before .before .before .if1 .taken, ← c .before .before .before .before .before .word-at .ensures, ← c .before .before .before .before .counted-by .ensures, lt-ltb _ _ (c .before .before .before .if2 .taken), ← c .before .before .nothing .ensures, ← c .before .word-at2 .ensures, ← c .with-puts .ensures)
+returns c =
+    let at-nothing = c .before .before in
+    let at-if2 = at-nothing .before in
+    let at-counted-by = at-if2 .before in
+    let at-word-at = at-counted-by .before in
+    let at-if1 = at-word-at .before in
+    let at-fits2 = at-if1 .before in
+    rw (
+      ← at-fits2 .fits2 .ensures,
+      at-if1 .if1 .taken,
+      ← at-word-at .word-at .ensures,
+      ←
+          at-counted-by .counted-by .ensures,
+      lt-ltb _ _ (at-if2 .if2 .taken),
+      ← at-nothing .nothing .ensures,
+      ←
+          c .before .word-at2 .ensures,
+      ← c .with-puts .ensures,
+    )
 
 expected-requires : tie.Need-expected-requires
 expected-requires c κs = search needs
 
 returns-2 : tie.Need-returns-2
 unfolding countPlan
-returns-2 c = rw (← c .before .before .before .before .before .fits2 .ensures, c .before .before .before .before .if1 .taken, ← c .before .before .before .word-at .ensures, ← c .before .before .counted-by .ensures, le-ltb _ _ (c .before .if2 .left), ← c .expected .ensures)
+returns-2 c =
+    let at-counted-by = c .before .before in
+    let at-word-at = at-counted-by .before in
+    let at-if1 = at-word-at .before in
+    let at-fits2 = at-if1 .before in
+    rw (
+      ← at-fits2 .fits2 .ensures,
+      at-if1 .if1 .taken,
+      ← at-word-at .word-at .ensures,
+      ←
+          at-counted-by .counted-by .ensures,
+      le-ltb _ _ (c .before .if2 .left),
+      ← c .expected .ensures,
+    )
 
 expected-requires-2 : tie.Need-expected-requires-2
 expected-requires-2 c κs = search needs

@@ -18,7 +18,11 @@ with-put-requires c κs = search needs
 
 returns : tie.Need-returns
 unfolding defaultPlan
-returns c = rw (← c .before .before .before .before .fits2 .ensures, c .before .before .before .if1 .taken, ← c .before .before .nothing .ensures, ← c .before .word-at .ensures, ← c .with-put .ensures)
+returns c =
+    let at-nothing = c .before .before in
+    let at-if1 = at-nothing .before in
+    let at-fits2 = at-if1 .before in
+    rw (← at-fits2 .fits2 .ensures, at-if1 .if1 .taken, ← at-nothing .nothing .ensures, ← c .before .word-at .ensures, ← c .with-put .ensures)
 
 expected-requires : tie.Need-expected-requires
 expected-requires c κs = search needs

@@ -18,14 +18,31 @@ row-plan-requires c κs = search needs
 
 returns : tie.Need-returns
 unfolding exprPlan
-returns c = rw (← c .before .before .before .before .before .is-next .ensures, c .before .before .before .before .if1 .taken, ← c .before .before .before .fits2 .ensures, c .before .before .if2 .taken, ← c .before .word-at .ensures, ← c .row-plan .ensures)
+returns c =
+    let at-if2 = c .before .before in
+    let at-fits2 = at-if2 .before in
+    let at-if1 = at-fits2 .before in
+    let at-is-next = at-if1 .before in
+    rw (
+      ← at-is-next .is-next .ensures,
+      at-if1 .if1 .taken,
+      ← at-fits2 .fits2 .ensures,
+      at-if2 .if2 .taken,
+      ←
+          c .before .word-at .ensures,
+      ← c .row-plan .ensures,
+    )
 
 expected-requires : tie.Need-expected-requires
 expected-requires c κs = search needs
 
 returns-2 : tie.Need-returns-2
 unfolding exprPlan
-returns-2 c = rw (← c .before .before .before .before .is-next .ensures, c .before .before .before .if1 .taken, ← c .before .before .fits2 .ensures, c .before .if2 .left, ← c .expected .ensures)
+returns-2 c =
+    let at-fits2 = c .before .before in
+    let at-if1 = at-fits2 .before in
+    let at-is-next = at-if1 .before in
+    rw (← at-is-next .is-next .ensures, at-if1 .if1 .taken, ← at-fits2 .fits2 .ensures, c .before .if2 .left, ← c .expected .ensures)
 
 expected-requires-2 : tie.Need-expected-requires-2
 expected-requires-2 c κs = search needs

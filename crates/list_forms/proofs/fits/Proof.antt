@@ -46,7 +46,14 @@ loop-less : tie.Need-loop-less Inv-loop μ-loop
 loop-less c = omega arith
 
 loop-again : tie.Need-loop-again Inv-loop μ-loop
-loop-again c = law.fits-so-far _ _ _ (c .before .before .before .before .before .before .loop .inv) (c .before .before .before .before .before .loop-test .taken) (c .before .before .before .before .if1 .left) (c .before .before .before .if2 .left) _ (c .before .before .token-at .ensures) _ (c .before .is-of .ensures) (c .if3 .left)
+loop-again c =
+    let at-token-at = c .before .before in
+    let at-if2 = at-token-at .before in
+    let at-if1 = at-if2 .before in
+    let at-loop-test = at-if1 .before in
+    let at-loop = at-loop-test .before in
+    law.fits-so-far _ _ _ (at-loop .loop .inv) (at-loop-test .loop-test .taken) (at-if1 .if1 .left)
+    (at-if2 .if2 .left) _ (at-token-at .token-at .ensures) _ (c .before .is-of .ensures) (c .if3 .left)
 
 returns-4 : tie.Need-returns-4 Inv-loop μ-loop
 returns-4 c = search law.fits-in-full

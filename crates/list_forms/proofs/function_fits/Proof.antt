@@ -27,7 +27,18 @@ token-at-requires-2 c κs = search needs
 
 returns-3 : tie.Need-returns-3
 unfolding functionFits
-returns-3 c = rw (le-ltb _ _ (c .before .before .before .before .before .if1 .left), ← c .before .before .before .token-at .ensures, eq-eqb _ _ (c .before .before .if2 .left), ← c .before .token-at2 .ensures, ne-eqb _ _ (c .if3 .taken))
+returns-3 c =
+    let at-if2 = c .before .before in
+    let at-token-at = at-if2 .before in
+    let at-if1 = at-token-at .before .before in
+    rw (
+      le-ltb _ _ (at-if1 .if1 .left),
+      ← at-token-at .token-at .ensures,
+      eq-eqb _ _ (at-if2 .if2 .left),
+      ←
+          c .before .token-at2 .ensures,
+      ne-eqb _ _ (c .if3 .taken),
+    )
 
 sub-token-at-2 : tie.Need-sub-token-at-2
 sub-token-at-2 c = search needs
@@ -40,7 +51,25 @@ is-of-requires c κs = search needs
 
 returns-4 : tie.Need-returns-4
 unfolding functionFits
-returns-4 c = rw (le-ltb _ _ (c .before .before .before .before .before .before .before .before .if1 .left), ← c .before .before .before .before .before .before .token-at .ensures, eq-eqb _ _ (c .before .before .before .before .before .if2 .left), ← c .before .before .before .before .token-at2 .ensures, eq-eqb _ _ (c .before .before .before .if3 .left), ← c .before .before .token-at3 .ensures, ← c .before .is-of .ensures, not-true (c .before .is-of .result) (c .if4 .taken))
+returns-4 c =
+    let at-token-at3 = c .before .before in
+    let at-if3 = at-token-at3 .before in
+    let at-token-at2 = at-if3 .before in
+    let at-if2 = at-token-at2 .before in
+    let at-token-at = at-if2 .before in
+    let at-if1 = at-token-at .before .before in
+    rw (
+      le-ltb _ _ (at-if1 .if1 .left),
+      ← at-token-at .token-at .ensures,
+      eq-eqb _ _ (at-if2 .if2 .left),
+      ←
+          at-token-at2 .token-at2 .ensures,
+      eq-eqb _ _ (at-if3 .if3 .left),
+      ← at-token-at3 .token-at3 .ensures,
+      ←
+          c .before .is-of .ensures,
+      not-true (c .before .is-of .result) (c .if4 .taken),
+    )
 
 sub-all-of : tie.Need-sub-all-of
 sub-all-of c = search needs
@@ -50,7 +79,27 @@ all-of-requires c κs = search needs
 
 returns-5 : tie.Need-returns-5
 unfolding functionFits
-returns-5 c = rw (le-ltb _ _ (c .before .before .before .before .before .before .before .before .before .if1 .left), ← c .before .before .before .before .before .before .before .token-at .ensures, eq-eqb _ _ (c .before .before .before .before .before .before .if2 .left), ← c .before .before .before .before .before .token-at2 .ensures, eq-eqb _ _ (c .before .before .before .before .if3 .left), ← c .before .before .before .token-at3 .ensures, ← c .before .before .is-of .ensures, not-false (c .before .before .is-of .result) (c .before .if4 .left), ← c .all-of .ensures)
+returns-5 c =
+    let at-is-of = c .before .before in
+    let at-token-at3 = at-is-of .before in
+    let at-if3 = at-token-at3 .before in
+    let at-token-at2 = at-if3 .before in
+    let at-if2 = at-token-at2 .before in
+    let at-token-at = at-if2 .before in
+    let at-if1 = at-token-at .before .before in
+    rw (
+      le-ltb _ _ (at-if1 .if1 .left),
+      ← at-token-at .token-at .ensures,
+      eq-eqb _ _ (at-if2 .if2 .left),
+      ←
+          at-token-at2 .token-at2 .ensures,
+      eq-eqb _ _ (at-if3 .if3 .left),
+      ← at-token-at3 .token-at3 .ensures,
+      ←
+          at-is-of .is-of .ensures,
+      not-false (at-is-of .is-of .result) (c .before .if4 .left),
+      ← c .all-of .ensures,
+    )
 
 pub function-fits-spec : {M : Type 1} → statement M
 function-fits-spec =

@@ -33,7 +33,23 @@ with-run-requires c κs = search needs
 
 returns : tie.Need-returns
 unfolding functionPlan
-returns c = rw (← c .before .before .before .before .before .before .before .minus .ensures, ← c .before .before .before .before .before .before .minus2 .ensures, ← c .before .before .before .before .before .minus3 .ensures, ← c .before .before .before .before .word-at .ensures, ← c .before .before .word .ensures, ← c .before .row-plan .ensures, ← c .with-run .ensures)
+returns c =
+    let at-word = c .before .before in
+    let at-word-at = at-word .before .before in
+    let at-minus3 = at-word-at .before in
+    let at-minus2 = at-minus3 .before in
+    let at-minus = at-minus2 .before in
+    rw (
+      ← at-minus .minus .ensures,
+      ← at-minus2 .minus2 .ensures,
+      ← at-minus3 .minus3 .ensures,
+      ←
+          at-word-at .word-at .ensures,
+      ← at-word .word .ensures,
+      ← c .before .row-plan .ensures,
+      ←
+          c .with-run .ensures,
+    )
 
 pub function-plan-spec : {M : Type 1} → statement M
 function-plan-spec =

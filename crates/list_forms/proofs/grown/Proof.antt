@@ -16,11 +16,18 @@ cast-rows c = search needs
 
 returns : tie.Need-returns
 unfolding grown
-returns c = rw (← c .before .before .before .before .word .ensures, eq-eqb _ _ (c .before .before .before .if1 .taken), ← c .before .word2 .ensures, eq-eqb _ _ (c .if2 .taken))
+returns c =
+    let at-if1 = c .before .before .before in
+    let at-word = at-if1 .before in
+    rw (← at-word .word .ensures, eq-eqb _ _ (at-if1 .if1 .taken), ← c .before .word2 .ensures, eq-eqb _ _ (c .if2 .taken))
 
 returns-2 : tie.Need-returns-2
 unfolding grown
-returns-2 c = rw (← c .before .before .before .before .before .word .ensures, eq-eqb _ _ (c .before .before .before .before .if1 .taken), ← c .before .before .word2 .ensures, ne-eqb _ _ (c .before .if2 .left), lt-ltb _ _ (c .if3 .taken))
+returns-2 c =
+    let at-word2 = c .before .before in
+    let at-if1 = at-word2 .before .before in
+    let at-word = at-if1 .before in
+    rw (← at-word .word .ensures, eq-eqb _ _ (at-if1 .if1 .taken), ← at-word2 .word2 .ensures, ne-eqb _ _ (c .before .if2 .left), lt-ltb _ _ (c .if3 .taken))
 
 mul-at : tie.Need-mul-at
 mul-at c = search needs
@@ -42,7 +49,24 @@ with-put-requires c κs = search needs
 
 returns-3 : tie.Need-returns-3
 unfolding grown
-returns-3 c = rw (← c .before .before .before .before .before .before .before .before .before .word .ensures, eq-eqb _ _ (c .before .before .before .before .before .before .before .before .if1 .taken), ← c .before .before .before .before .before .before .word2 .ensures, ne-eqb _ _ (c .before .before .before .before .before .if2 .left), le-ltb _ _ (c .before .before .before .before .if3 .left), ← c .before .before .word3 .ensures, ← c .before .add-up .ensures, ← c .with-put .ensures)
+returns-3 c =
+    let at-word3 = c .before .before in
+    let at-if3 = at-word3 .before .before in
+    let at-if2 = at-if3 .before in
+    let at-word2 = at-if2 .before in
+    let at-if1 = at-word2 .before .before in
+    let at-word = at-if1 .before in
+    rw (
+      ← at-word .word .ensures,
+      eq-eqb _ _ (at-if1 .if1 .taken),
+      ← at-word2 .word2 .ensures,
+      ne-eqb _ _
+          (at-if2 .if2 .left),
+      le-ltb _ _ (at-if3 .if3 .left),
+      ← at-word3 .word3 .ensures,
+      ← c .before .add-up .ensures,
+      ← c .with-put .ensures,
+    )
 
 returns-4 : tie.Need-returns-4
 unfolding grown

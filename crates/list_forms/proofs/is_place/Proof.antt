@@ -23,7 +23,11 @@ in-range-requires-3 c κs = search needs
 
 returns-3 : tie.Need-returns-3
 unfolding isPlaceWord
-returns-3 c = rw (← c .before .before .before .before .in-range .ensures, c .before .before .before .if1 .left, ← c .before .before .in-range2 .ensures, c .before .if2 .left, ← c .in-range3 .ensures)
+returns-3 c =
+    let at-in-range2 = c .before .before in
+    let at-if1 = at-in-range2 .before in
+    let at-in-range = at-if1 .before in
+    rw (← at-in-range .in-range .ensures, at-if1 .if1 .left, ← at-in-range2 .in-range2 .ensures, c .before .if2 .left, ← c .in-range3 .ensures)
 
 pub is-place-spec : {M : Type 1} → statement M
 is-place-spec =

@@ -24,7 +24,23 @@ with-run-requires c κs = search needs
 
 returns : tie.Need-returns
 unfolding joinPlan
-returns c = rw (← c .before .before .before .before .before .before .before .list-fits .ensures, c .before .before .before .before .before .before .if1 .taken, ← c .before .before .before .before .before .word-at .ensures, ← c .before .before .before .word .ensures, ← c .before .before .minus .ensures, ← c .before .constraint-row .ensures, ← c .with-run .ensures)
+returns c =
+    let at-minus = c .before .before in
+    let at-word = at-minus .before in
+    let at-word-at = at-word .before .before in
+    let at-if1 = at-word-at .before in
+    let at-list-fits = at-if1 .before in
+    rw (
+      ← at-list-fits .list-fits .ensures,
+      at-if1 .if1 .taken,
+      ← at-word-at .word-at .ensures,
+      ←
+          at-word .word .ensures,
+      ← at-minus .minus .ensures,
+      ← c .before .constraint-row .ensures,
+      ←
+          c .with-run .ensures,
+    )
 
 expected-requires : tie.Need-expected-requires
 expected-requires c κs = search needs

@@ -33,7 +33,22 @@ with-puts-requires c κs = search needs
 
 returns : tie.Need-returns
 unfolding lendPlan
-returns c = rw (← c .before .before .before .before .before .before .fits2 .ensures, c .before .before .before .before .before .if1 .taken, ← c .before .before .before .before .word-at .ensures, ← c .before .before .before .minus .ensures, ← c .before .before .nothing .ensures, ← c .before .word-at2 .ensures, ← c .with-puts .ensures)
+returns c =
+    let at-nothing = c .before .before in
+    let at-minus = at-nothing .before in
+    let at-word-at = at-minus .before in
+    let at-if1 = at-word-at .before in
+    let at-fits2 = at-if1 .before in
+    rw (
+      ← at-fits2 .fits2 .ensures,
+      at-if1 .if1 .taken,
+      ← at-word-at .word-at .ensures,
+      ← at-minus .minus .ensures,
+      ←
+          at-nothing .nothing .ensures,
+      ← c .before .word-at2 .ensures,
+      ← c .with-puts .ensures,
+    )
 
 expected-requires : tie.Need-expected-requires
 expected-requires c κs = search needs

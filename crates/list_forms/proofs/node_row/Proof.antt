@@ -21,7 +21,20 @@ row-plan-requires c κs = search needs
 
 returns : tie.Need-returns
 unfolding nodeRow
-returns c = rw (← c .before .before .before .before .before .fits2 .ensures, c .before .before .before .before .if1 .taken, ← c .before .before .before .word-at .ensures, ← c .before .before .minus .ensures, ← c .before .word-at2 .ensures, ← c .row-plan .ensures)
+returns c =
+    let at-minus = c .before .before in
+    let at-word-at = at-minus .before in
+    let at-if1 = at-word-at .before in
+    let at-fits2 = at-if1 .before in
+    rw (
+      ← at-fits2 .fits2 .ensures,
+      at-if1 .if1 .taken,
+      ← at-word-at .word-at .ensures,
+      ← at-minus .minus .ensures,
+      ←
+          c .before .word-at2 .ensures,
+      ← c .row-plan .ensures,
+    )
 
 function-fits-requires : tie.Need-function-fits-requires
 function-fits-requires c κs = search needs
@@ -31,7 +44,11 @@ function-plan-requires c κs = search needs
 
 returns-2 : tie.Need-returns-2
 unfolding nodeRow
-returns-2 c = rw (← c .before .before .before .before .fits2 .ensures, c .before .before .before .if1 .left, ← c .before .before .function-fits .ensures, c .before .if2 .taken, ← c .function-plan .ensures)
+returns-2 c =
+    let at-function-fits = c .before .before in
+    let at-if1 = at-function-fits .before in
+    let at-fits2 = at-if1 .before in
+    rw (← at-fits2 .fits2 .ensures, at-if1 .if1 .left, ← at-function-fits .function-fits .ensures, c .before .if2 .taken, ← c .function-plan .ensures)
 
 fits-requires-2 : tie.Need-fits-requires-2
 fits-requires-2 c κs = search needs
@@ -44,7 +61,23 @@ row-plan-requires-2 c κs = search needs
 
 returns-3 : tie.Need-returns-3
 unfolding nodeRow
-returns-3 c = rw (← c .before .before .before .before .before .before .before .fits2 .ensures, c .before .before .before .before .before .before .if1 .left, ← c .before .before .before .before .before .function-fits .ensures, c .before .before .before .before .if2 .left, ← c .before .before .before .fits3 .ensures, c .before .before .if3 .taken, ← c .before .word-at3 .ensures, ← c .row-plan2 .ensures)
+returns-3 c =
+    let at-if3 = c .before .before in
+    let at-fits3 = at-if3 .before in
+    let at-if2 = at-fits3 .before in
+    let at-function-fits = at-if2 .before in
+    let at-if1 = at-function-fits .before in
+    let at-fits2 = at-if1 .before in
+    rw (
+      ← at-fits2 .fits2 .ensures,
+      at-if1 .if1 .left,
+      ← at-function-fits .function-fits .ensures,
+      at-if2 .if2 .left,
+      ← at-fits3 .fits3 .ensures,
+      at-if3 .if3 .taken,
+      ← c .before .word-at3 .ensures,
+      ← c .row-plan2 .ensures,
+    )
 
 fits-requires-3 : tie.Need-fits-requires-3
 fits-requires-3 c κs = search needs
@@ -66,14 +99,61 @@ row-plan-requires-3 c κs = search needs
 
 returns-4 : tie.Need-returns-4
 unfolding nodeRow
-returns-4 c = rw (← c .before .before .before .before .before .before .before .before .before .before .before .before .fits2 .ensures, c .before .before .before .before .before .before .before .before .before .before .before .if1 .left, ← c .before .before .before .before .before .before .before .before .before .before .function-fits .ensures, c .before .before .before .before .before .before .before .before .before .if2 .left, ← c .before .before .before .before .before .before .before .before .fits3 .ensures, c .before .before .before .before .before .before .before .if3 .left, ← c .before .before .before .before .before .before .fits4 .ensures, c .before .before .before .before .before .if4 .taken, ← c .before .before .before .before .word-at4 .ensures, ← c .before .before .before .word-at5 .ensures, ← c .before .before .word-at6 .ensures, ← c .before .word-at7 .ensures, ← c .row-plan3 .ensures)
+returns-4 c =
+    let at-word-at6 = c .before .before in
+    let at-word-at5 = at-word-at6 .before in
+    let at-word-at4 = at-word-at5 .before in
+    let at-if4 = at-word-at4 .before in
+    let at-fits4 = at-if4 .before in
+    let at-if3 = at-fits4 .before in
+    let at-fits3 = at-if3 .before in
+    let at-if2 = at-fits3 .before in
+    let at-function-fits = at-if2 .before in
+    let at-if1 = at-function-fits .before in
+    let at-fits2 = at-if1 .before in
+    rw (
+      ← at-fits2 .fits2 .ensures,
+      at-if1 .if1 .left,
+      ← at-function-fits .function-fits .ensures,
+      at-if2 .if2 .left,
+      ← at-fits3 .fits3 .ensures,
+      at-if3 .if3 .left,
+      ← at-fits4 .fits4 .ensures,
+      at-if4 .if4 .taken,
+      ←
+          at-word-at4 .word-at4 .ensures,
+      ← at-word-at5 .word-at5 .ensures,
+      ← at-word-at6 .word-at6 .ensures,
+      ←
+          c .before .word-at7 .ensures,
+      ← c .row-plan3 .ensures,
+    )
 
 expected-requires : tie.Need-expected-requires
 expected-requires c κs = search needs
 
 returns-5 : tie.Need-returns-5
 unfolding nodeRow
-returns-5 c = rw (← c .before .before .before .before .before .before .before .before .fits2 .ensures, c .before .before .before .before .before .before .before .if1 .left, ← c .before .before .before .before .before .before .function-fits .ensures, c .before .before .before .before .before .if2 .left, ← c .before .before .before .before .fits3 .ensures, c .before .before .before .if3 .left, ← c .before .before .fits4 .ensures, c .before .if4 .left, ← c .expected .ensures)
+returns-5 c =
+    let at-fits4 = c .before .before in
+    let at-if3 = at-fits4 .before in
+    let at-fits3 = at-if3 .before in
+    let at-if2 = at-fits3 .before in
+    let at-function-fits = at-if2 .before in
+    let at-if1 = at-function-fits .before in
+    let at-fits2 = at-if1 .before in
+    rw (
+      ← at-fits2 .fits2 .ensures,
+      at-if1 .if1 .left,
+      ← at-function-fits .function-fits .ensures,
+      at-if2 .if2 .left,
+      ← at-fits3 .fits3 .ensures,
+      at-if3 .if3 .left,
+      ← at-fits4 .fits4 .ensures,
+      c .before .if4 .left,
+      ←
+          c .expected .ensures,
+    )
 
 pub node-row-spec : {M : Type 1} → statement M
 node-row-spec =

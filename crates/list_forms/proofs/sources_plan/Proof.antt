@@ -21,7 +21,20 @@ grown-requires c κs = search needs
 
 returns : tie.Need-returns
 unfolding sourcesPlan
-returns c = rw (← c .before .before .before .before .before .list-fits .ensures, c .before .before .before .before .if1 .taken, ← c .before .before .before .minus .ensures, ← c .before .before .nothing .ensures, ← c .before .with-run .ensures, ← c .grown .ensures)
+returns c =
+    let at-nothing = c .before .before in
+    let at-minus = at-nothing .before in
+    let at-if1 = at-minus .before in
+    let at-list-fits = at-if1 .before in
+    rw (
+      ← at-list-fits .list-fits .ensures,
+      at-if1 .if1 .taken,
+      ← at-minus .minus .ensures,
+      ←
+          at-nothing .nothing .ensures,
+      ← c .before .with-run .ensures,
+      ← c .grown .ensures,
+    )
 
 expected-requires : tie.Need-expected-requires
 expected-requires c κs = search needs

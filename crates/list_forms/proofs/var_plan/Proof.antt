@@ -24,21 +24,60 @@ with-free-requires c κs = search needs
 
 returns : tie.Need-returns
 unfolding varPlan
-returns c = rw (← c .before .before .before .before .before .before .before .before .fits2 .ensures, c .before .before .before .before .before .before .before .if1 .taken, ← c .before .before .before .before .before .before .is-next .ensures, c .before .before .before .before .before .if2 .taken, ← c .before .before .before .before .is-next2 .ensures, c .before .before .before .if3 .taken, ← c .before .before .word-at .ensures, ← c .before .row-plan .ensures, ← c .with-free .ensures)
+returns c =
+    let at-word-at = c .before .before in
+    let at-if3 = at-word-at .before in
+    let at-is-next2 = at-if3 .before in
+    let at-if2 = at-is-next2 .before in
+    let at-is-next = at-if2 .before in
+    let at-if1 = at-is-next .before in
+    let at-fits2 = at-if1 .before in
+    rw (
+      ← at-fits2 .fits2 .ensures,
+      at-if1 .if1 .taken,
+      ← at-is-next .is-next .ensures,
+      at-if2 .if2 .taken,
+      ←
+          at-is-next2 .is-next2 .ensures,
+      at-if3 .if3 .taken,
+      ← at-word-at .word-at .ensures,
+      ←
+          c .before .row-plan .ensures,
+      ← c .with-free .ensures,
+    )
 
 expected-requires : tie.Need-expected-requires
 expected-requires c κs = search needs
 
 returns-2 : tie.Need-returns-2
 unfolding varPlan
-returns-2 c = rw (← c .before .before .before .before .before .before .fits2 .ensures, c .before .before .before .before .before .if1 .taken, ← c .before .before .before .before .is-next .ensures, c .before .before .before .if2 .taken, ← c .before .before .is-next2 .ensures, c .before .if3 .left, ← c .expected .ensures)
+returns-2 c =
+    let at-is-next2 = c .before .before in
+    let at-if2 = at-is-next2 .before in
+    let at-is-next = at-if2 .before in
+    let at-if1 = at-is-next .before in
+    let at-fits2 = at-if1 .before in
+    rw (
+      ← at-fits2 .fits2 .ensures,
+      at-if1 .if1 .taken,
+      ← at-is-next .is-next .ensures,
+      at-if2 .if2 .taken,
+      ←
+          at-is-next2 .is-next2 .ensures,
+      c .before .if3 .left,
+      ← c .expected .ensures,
+    )
 
 expected-requires-2 : tie.Need-expected-requires-2
 expected-requires-2 c κs = search needs
 
 returns-3 : tie.Need-returns-3
 unfolding varPlan
-returns-3 c = rw (← c .before .before .before .before .fits2 .ensures, c .before .before .before .if1 .taken, ← c .before .before .is-next .ensures, c .before .if2 .left, ← c .expected2 .ensures)
+returns-3 c =
+    let at-is-next = c .before .before in
+    let at-if1 = at-is-next .before in
+    let at-fits2 = at-if1 .before in
+    rw (← at-fits2 .fits2 .ensures, at-if1 .if1 .taken, ← at-is-next .is-next .ensures, c .before .if2 .left, ← c .expected2 .ensures)
 
 expected-requires-3 : tie.Need-expected-requires-3
 expected-requires-3 c κs = search needs

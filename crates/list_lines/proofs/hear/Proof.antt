@@ -52,26 +52,44 @@ same-length : tie.Need-same-length
 same-length c = search needs
 
 returns-2 : tie.Need-returns-2
-returns-2 c = law.title-said _ _ _ (c .before .before .before .before .before .before .before .before .before .before .take-line .ensures) (c .before .before .before .before .before .before .before .before .enum-told2 .given .1) _ refl (c .before .before .before .before .before .before .put-unasked .ensures) (c .before .before .put-title .ensures)
+returns-2 c =
+    let at-put-title = c .before .before in
+    let at-put-unasked = at-put-title .before .before .before .before in
+    let at-enum-told2 = at-put-unasked .before .before in
+    let at-take-line = at-enum-told2 .before .before in
+    law.title-said _ _ _ (at-take-line .take-line .ensures) (at-enum-told2 .enum-told2 .given .1) _ refl
+    (at-put-unasked .put-unasked .ensures) (at-put-title .put-title .ensures)
 
 same-length-2 : tie.Need-same-length-2
 same-length-2 c = search needs
 
 returns-3 : tie.Need-returns-3
-returns-3 c = law.answer-said _ _ _ (c .before .before .before .before .before .before .before .take-line .ensures) (c .before .before .before .before .before .enum-told3 .given .1) (c .before .before .answer .ensures)
+returns-3 c =
+    let at-answer = c .before .before in
+    let at-enum-told3 = at-answer .before .before .before in
+    let at-take-line = at-enum-told3 .before .before in
+    law.answer-said _ _ _ (at-take-line .take-line .ensures) (at-enum-told3 .enum-told3 .given .1) (at-answer .answer .ensures)
 
 same-length-3 : tie.Need-same-length-3
 same-length-3 c = search needs
 
 returns-4 : tie.Need-returns-4
 unfolding bytesOf
-returns-4 c = law.other-said _ _ _ (c .before .before .before .before .before .before .before .take-line .ensures) (c .before .before .before .before .before .enum-told4 .given .1) (c .before .before .put-text .ensures)
+returns-4 c =
+    let at-put-text = c .before .before in
+    let at-enum-told4 = at-put-text .before .before .before in
+    let at-take-line = at-enum-told4 .before .before in
+    law.other-said _ _ _ (at-take-line .take-line .ensures) (at-enum-told4 .enum-told4 .given .1) (at-put-text .put-text .ensures)
 
 same-length-4 : tie.Need-same-length-4
 same-length-4 c = search needs
 
 returns-5 : tie.Need-returns-5
-returns-5 c = law.bad-said _ _ _ (c .before .before .before .before .before .before .before .take-line .ensures) _ (c .before .before .before .before .before .form .given .1) (c .before .before .put-bad .ensures)
+returns-5 c =
+    let at-put-bad = c .before .before in
+    let at-form = at-put-bad .before .before .before in
+    let at-take-line = at-form .before .before in
+    law.bad-said _ _ _ (at-take-line .take-line .ensures) _ (at-form .form .given .1) (at-put-bad .put-bad .ensures)
 
 pub hear-spec : {M : Type 1} → statement M
 hear-spec =

@@ -25,7 +25,11 @@ same-length c = search needs
 
 returns : tie.Need-returns
 unfolding badText
-returns c = law.put-then (c .before .before .before .before .before .before .before .before .before .before .before .put-text .ensures) (law.put-then (c .before .before .before .before .before .before .before .put-form .ensures) (c .before .before .put-text2 .ensures))
+returns c =
+    let at-put-text2 = c .before .before in
+    let at-put-form = at-put-text2 .before .before .before .before .before in
+    let at-put-text = at-put-form .before .before .before .before in
+    law.put-then (at-put-text .put-text .ensures) (law.put-then (at-put-form .put-form .ensures) (at-put-text2 .put-text2 .ensures))
 
 pub put-bad-spec : {M : Type 1} → statement M
 put-bad-spec =

@@ -34,7 +34,25 @@ put-requires c κs = search needs
 
 returns : tie.Need-returns
 unfolding appended
-returns c = rw (← c .before .before .before .before .before .before .before .before .before .word .ensures, ← c .before .before .before .before .before .before .before .before .ceiling-of .ensures, lt-ltb _ _ (c .before .before .before .before .before .before .before .if1 .taken), ← c .before .before .before .before .before .row-at .ensures .0, ← c .before .before .before .before .width-of .ensures .0, ← c .before .before .before .put-words .ensures, ← c .before .one-more .ensures, ← c .put .ensures)
+returns c =
+    let at-put-words = c .before .before .before in
+    let at-width-of = at-put-words .before in
+    let at-row-at = at-width-of .before in
+    let at-if1 = at-row-at .before .before in
+    let at-ceiling-of = at-if1 .before in
+    let at-word = at-ceiling-of .before in
+    rw (
+      ← at-word .word .ensures,
+      ← at-ceiling-of .ceiling-of .ensures,
+      lt-ltb _ _ (at-if1 .if1 .taken),
+      ←
+          at-row-at .row-at .ensures .0,
+      ← at-width-of .width-of .ensures .0,
+      ← at-put-words .put-words .ensures,
+      ←
+          c .before .one-more .ensures,
+      ← c .put .ensures,
+    )
 
 add-put-2 : tie.Need-add-put-2
 add-put-2 c = search needs
@@ -47,7 +65,11 @@ put-requires-2 c κs = search needs
 
 returns-2 : tie.Need-returns-2
 unfolding appended
-returns-2 c = rw (← c .before .before .before .before .before .word .ensures, ← c .before .before .before .before .ceiling-of .ensures, le-ltb _ _ (c .before .before .before .if1 .left), ← c .before .one-more2 .ensures, ← c .put2 .ensures)
+returns-2 c =
+    let at-if1 = c .before .before .before in
+    let at-ceiling-of = at-if1 .before in
+    let at-word = at-ceiling-of .before in
+    rw (← at-word .word .ensures, ← at-ceiling-of .ceiling-of .ensures, le-ltb _ _ (at-if1 .if1 .left), ← c .before .one-more2 .ensures, ← c .put2 .ensures)
 
 pub append-spec : {M : Type 1} → statement M
 append-spec =

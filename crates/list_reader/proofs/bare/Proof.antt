@@ -19,21 +19,55 @@ put-requires c κs = search needs
 
 returns : tie.Need-returns
 unfolding bareTaken
-returns c = rw (eq-eqb _ _ (c .before .before .before .before .before .before .before .before .before .before .before .before .if1 .taken), ← c .before .before .before .before .before .before .before .before .before .word .ensures, eq-eqb _ _ (c .before .before .before .before .before .before .before .before .if2 .taken), ← c .before .before .before .before .before .word2 .ensures, eq-eqb _ _ (c .before .before .before .before .if3 .taken), ← c .before .before .clear .ensures, ← c .put .ensures)
+returns c =
+    let at-clear = c .before .before in
+    let at-if3 = at-clear .before .before in
+    let at-word2 = at-if3 .before in
+    let at-if2 = at-word2 .before .before .before in
+    let at-word = at-if2 .before in
+    let at-if1 = at-word .before .before .before in
+    rw (
+      eq-eqb _ _ (at-if1 .if1 .taken),
+      ← at-word .word .ensures,
+      eq-eqb _ _ (at-if2 .if2 .taken),
+      ←
+          at-word2 .word2 .ensures,
+      eq-eqb _ _ (at-if3 .if3 .taken),
+      ← at-clear .clear .ensures,
+      ← c .put .ensures,
+    )
 
 bad-requires : tie.Need-bad-requires
 bad-requires c κs = search needs
 
 returns-2 : tie.Need-returns-2
 unfolding bareTaken
-returns-2 c = rw (eq-eqb _ _ (c .before .before .before .before .before .before .before .before .before .before .if1 .taken), ← c .before .before .before .before .before .before .before .word .ensures, eq-eqb _ _ (c .before .before .before .before .before .before .if2 .taken), ← c .before .before .before .word2 .ensures, ne-eqb _ _ (c .before .before .if3 .left), ← c .bad .ensures)
+returns-2 c =
+    let at-if3 = c .before .before in
+    let at-word2 = at-if3 .before in
+    let at-if2 = at-word2 .before .before .before in
+    let at-word = at-if2 .before in
+    let at-if1 = at-word .before .before .before in
+    rw (
+      eq-eqb _ _ (at-if1 .if1 .taken),
+      ← at-word .word .ensures,
+      eq-eqb _ _ (at-if2 .if2 .taken),
+      ←
+          at-word2 .word2 .ensures,
+      ne-eqb _ _ (at-if3 .if3 .left),
+      ← c .bad .ensures,
+    )
 
 bad-requires-2 : tie.Need-bad-requires-2
 bad-requires-2 c κs = search needs
 
 returns-3 : tie.Need-returns-3
 unfolding bareTaken
-returns-3 c = rw (eq-eqb _ _ (c .before .before .before .before .before .before .if1 .taken), ← c .before .before .before .word .ensures, ne-eqb _ _ (c .before .before .if2 .left), ← c .bad2 .ensures)
+returns-3 c =
+    let at-if2 = c .before .before in
+    let at-word = at-if2 .before in
+    let at-if1 = at-word .before .before .before in
+    rw (eq-eqb _ _ (at-if1 .if1 .taken), ← at-word .word .ensures, ne-eqb _ _ (at-if2 .if2 .left), ← c .bad2 .ensures)
 
 bad-requires-3 : tie.Need-bad-requires-3
 bad-requires-3 c κs = search needs

@@ -33,7 +33,28 @@ put-requires-8 c κs = search needs
 
 returns : tie.Need-returns
 unfolding begun
-returns c = rw (← c .before .before .before .before .before .before .before .before .before .before .before .before .before .before .before .before .clear .ensures, ← c .before .before .before .before .before .before .before .before .before .before .before .before .before .before .put .ensures, ← c .before .before .before .before .before .before .before .before .before .before .before .before .put2 .ensures, ← c .before .before .before .before .before .before .before .before .before .before .put3 .ensures, ← c .before .before .before .before .before .before .before .before .put4 .ensures, ← c .before .before .before .before .before .before .put5 .ensures, ← c .before .before .before .before .put6 .ensures, ← c .before .before .put7 .ensures, ← c .put8 .ensures)
+returns c =
+    let at-put7 = c .before .before in
+    let at-put6 = at-put7 .before .before in
+    let at-put5 = at-put6 .before .before in
+    let at-put4 = at-put5 .before .before in
+    let at-put3 = at-put4 .before .before in
+    let at-put2 = at-put3 .before .before in
+    let at-put = at-put2 .before .before in
+    let at-clear = at-put .before .before in
+    rw (
+      ← at-clear .clear .ensures,
+      ← at-put .put .ensures,
+      ← at-put2 .put2 .ensures,
+      ← at-put3 .put3 .ensures,
+      ←
+          at-put4 .put4 .ensures,
+      ← at-put5 .put5 .ensures,
+      ← at-put6 .put6 .ensures,
+      ← at-put7 .put7 .ensures,
+      ←
+          c .put8 .ensures,
+    )
 
 pub begin-spec : {M : Type 1} → statement M
 begin-spec =

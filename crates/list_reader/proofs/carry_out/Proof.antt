@@ -27,7 +27,19 @@ put-requires-2 c κs = search needs
 
 returns : tie.Need-returns
 unfolding carried
-returns c = rw (← c .before .before .before .before .before .before .before .before .before .append-times .ensures, ← c .before .before .before .before .before .before .append-run .ensures, ← c .before .before .before .before .append-times2 .ensures, ← c .before .before .put .ensures, ← c .put2 .ensures)
+returns c =
+    let at-put = c .before .before in
+    let at-append-times2 = at-put .before .before in
+    let at-append-run = at-append-times2 .before .before in
+    let at-append-times = at-append-run .before .before .before in
+    rw (
+      ← at-append-times .append-times .ensures,
+      ← at-append-run .append-run .ensures,
+      ←
+          at-append-times2 .append-times2 .ensures,
+      ← at-put .put .ensures,
+      ← c .put2 .ensures,
+    )
 
 pub carry-out-spec : {M : Type 1} → statement M
 carry-out-spec =

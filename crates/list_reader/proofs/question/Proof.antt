@@ -22,14 +22,24 @@ put-requires-2 c κs = search needs
 
 returns-2 : tie.Need-returns-2
 unfolding questionTaken
-returns-2 c = rw (← c .before .before .before .before .before .fits2 .ensures, c .before .before .before .before .if1 .left, ← c .before .before .before .asks-other .ensures, c .before .before .if2 .taken, ← c .put2 .ensures)
+returns-2 c =
+    let at-if2 = c .before .before in
+    let at-asks-other = at-if2 .before in
+    let at-if1 = at-asks-other .before in
+    let at-fits2 = at-if1 .before in
+    rw (← at-fits2 .fits2 .ensures, at-if1 .if1 .left, ← at-asks-other .asks-other .ensures, at-if2 .if2 .taken, ← c .put2 .ensures)
 
 bad-requires : tie.Need-bad-requires
 bad-requires c κs = search needs
 
 returns-3 : tie.Need-returns-3
 unfolding questionTaken
-returns-3 c = rw (← c .before .before .before .before .before .fits2 .ensures, c .before .before .before .before .if1 .left, ← c .before .before .before .asks-other .ensures, c .before .before .if2 .left, ← c .bad .ensures)
+returns-3 c =
+    let at-if2 = c .before .before in
+    let at-asks-other = at-if2 .before in
+    let at-if1 = at-asks-other .before in
+    let at-fits2 = at-if1 .before in
+    rw (← at-fits2 .fits2 .ensures, at-if1 .if1 .left, ← at-asks-other .asks-other .ensures, at-if2 .if2 .left, ← c .bad .ensures)
 
 pub question-spec : {M : Type 1} → statement M
 question-spec =

@@ -24,7 +24,14 @@ add-result : tie.Need-add-result
 add-result c = omega (arith, law.row-within (c .width-of .result) (c .before .before .args .n) (c .width-of .ensures .1) (search needs))
 
 returns : tie.Need-returns
-returns c = (rw (← c .before .start-word .ensures, ← c .width-of .ensures .0), omega (arith, law.row-within (c .width-of .result) (c .before .before .args .n) (c .width-of .ensures .1) (search needs)))
+returns c = (
+  rw (← c .before .start-word .ensures, ← c .width-of .ensures .0),
+  omega (
+    arith,
+    law.row-within
+        (c .width-of .result) (c .before .before .args .n) (c .width-of .ensures .1) (search needs),
+  ),
+)
 
 pub row-at-spec : {M : Type 1} → statement M
 row-at-spec =

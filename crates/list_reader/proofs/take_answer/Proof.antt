@@ -17,21 +17,43 @@ printable-requires c κs = search needs
 
 returns-2 : tie.Need-returns-2
 unfolding answerTaken
-returns-2 c = rw (← c .before .before .before .before .word .ensures, ne-eqb _ _ (c .before .before .before .if1 .left), ← c .before .before .printable .ensures, c .before .if2 .taken, eq-eqb _ _ (c .if3 .taken))
+returns-2 c =
+    let at-printable = c .before .before in
+    let at-if1 = at-printable .before in
+    let at-word = at-if1 .before in
+    rw (← at-word .word .ensures, ne-eqb _ _ (at-if1 .if1 .left), ← at-printable .printable .ensures, c .before .if2 .taken, eq-eqb _ _ (c .if3 .taken))
 
 bad-requires : tie.Need-bad-requires
 bad-requires c κs = search needs
 
 returns-3 : tie.Need-returns-3
 unfolding answerTaken
-returns-3 c = rw (← c .before .before .before .before .before .before .word .ensures, ne-eqb _ _ (c .before .before .before .before .before .if1 .left), ← c .before .before .before .before .printable .ensures, c .before .before .before .if2 .taken, ne-eqb _ _ (c .before .before .if3 .left), ← c .bad .ensures)
+returns-3 c =
+    let at-if3 = c .before .before in
+    let at-if2 = at-if3 .before in
+    let at-printable = at-if2 .before in
+    let at-if1 = at-printable .before in
+    let at-word = at-if1 .before in
+    rw (
+      ← at-word .word .ensures,
+      ne-eqb _ _ (at-if1 .if1 .left),
+      ← at-printable .printable .ensures,
+      at-if2 .if2 .taken,
+      ne-eqb _ _ (at-if3 .if3 .left),
+      ← c .bad .ensures,
+    )
 
 bad-requires-2 : tie.Need-bad-requires-2
 bad-requires-2 c κs = search needs
 
 returns-4 : tie.Need-returns-4
 unfolding answerTaken
-returns-4 c = rw (← c .before .before .before .before .before .word .ensures, ne-eqb _ _ (c .before .before .before .before .if1 .left), ← c .before .before .before .printable .ensures, c .before .before .if2 .left, ← c .bad2 .ensures)
+returns-4 c =
+    let at-if2 = c .before .before in
+    let at-printable = at-if2 .before in
+    let at-if1 = at-printable .before in
+    let at-word = at-if1 .before in
+    rw (← at-word .word .ensures, ne-eqb _ _ (at-if1 .if1 .left), ← at-printable .printable .ensures, at-if2 .if2 .left, ← c .bad2 .ensures)
 
 pub take-answer-spec : {M : Type 1} → statement M
 take-answer-spec =

@@ -13,14 +13,22 @@ bad-requires c κs = search needs
 
 returns : tie.Need-returns
 unfolding listTaken
-returns c = rw (← c .before .before .before .before .printable .ensures, c .before .before .before .if1 .taken, lt-ltb _ _ (c .before .before .if2 .taken), ← c .bad .ensures)
+returns c =
+    let at-if2 = c .before .before in
+    let at-if1 = at-if2 .before in
+    let at-printable = at-if1 .before in
+    rw (← at-printable .printable .ensures, at-if1 .if1 .taken, lt-ltb _ _ (at-if2 .if2 .taken), ← c .bad .ensures)
 
 begin-requires : tie.Need-begin-requires
 begin-requires c κs = search needs
 
 returns-2 : tie.Need-returns-2
 unfolding listTaken
-returns-2 c = rw (← c .before .before .before .before .printable .ensures, c .before .before .before .if1 .taken, le-ltb _ _ (c .before .before .if2 .left), ← c .begin .ensures)
+returns-2 c =
+    let at-if2 = c .before .before in
+    let at-if1 = at-if2 .before in
+    let at-printable = at-if1 .before in
+    rw (← at-printable .printable .ensures, at-if1 .if1 .taken, le-ltb _ _ (at-if2 .if2 .left), ← c .begin .ensures)
 
 bad-requires-2 : tie.Need-bad-requires-2
 bad-requires-2 c κs = search needs

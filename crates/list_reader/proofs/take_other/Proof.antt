@@ -20,14 +20,42 @@ bad-requires c κs = search needs
 
 returns-2 : tie.Need-returns-2
 unfolding otherTaken
-returns-2 c = rw (← c .before .before .before .before .before .before .word .ensures, ne-eqb _ _ (c .before .before .before .before .before .if1 .left), ← c .before .before .before .before .printable .ensures, c .before .before .before .if2 .taken, lt-ltb _ _ (c .before .before .if3 .taken), ← c .bad .ensures)
+returns-2 c =
+    let at-if3 = c .before .before in
+    let at-if2 = at-if3 .before in
+    let at-printable = at-if2 .before in
+    let at-if1 = at-printable .before in
+    let at-word = at-if1 .before in
+    rw (
+      ← at-word .word .ensures,
+      ne-eqb _ _ (at-if1 .if1 .left),
+      ← at-printable .printable .ensures,
+      at-if2 .if2 .taken,
+      lt-ltb _ _ (at-if3 .if3 .taken),
+      ← c .bad .ensures,
+    )
 
 bad-requires-2 : tie.Need-bad-requires-2
 bad-requires-2 c κs = search needs
 
 returns-3 : tie.Need-returns-3
 unfolding otherTaken
-returns-3 c = rw (← c .before .before .before .before .before .before .before .word .ensures, ne-eqb _ _ (c .before .before .before .before .before .before .if1 .left), ← c .before .before .before .before .before .printable .ensures, c .before .before .before .before .if2 .taken, le-ltb _ _ (c .before .before .before .if3 .left), eq-eqb _ _ (c .before .before .if4 .taken), ← c .bad2 .ensures)
+returns-3 c =
+    let at-if4 = c .before .before in
+    let at-if3 = at-if4 .before in
+    let at-if2 = at-if3 .before in
+    let at-printable = at-if2 .before in
+    let at-if1 = at-printable .before in
+    let at-word = at-if1 .before in
+    rw (
+      ← at-word .word .ensures,
+      ne-eqb _ _ (at-if1 .if1 .left),
+      ← at-printable .printable .ensures,
+      at-if2 .if2 .taken,
+      le-ltb _ _ (at-if3 .if3 .left),
+      eq-eqb _ _ (at-if4 .if4 .taken),
+      ← c .bad2 .ensures,
+    )
 
 tokens-of-requires : tie.Need-tokens-of-requires
 tokens-of-requires c κs = search needs
@@ -37,14 +65,36 @@ take-words-requires c κs = search needs
 
 returns-4 : tie.Need-returns-4
 unfolding otherTaken
-returns-4 c = rw (← c .before .before .before .before .before .before .before .before .word .ensures, ne-eqb _ _ (c .before .before .before .before .before .before .before .if1 .left), ← c .before .before .before .before .before .before .printable .ensures, c .before .before .before .before .before .if2 .taken, le-ltb _ _ (c .before .before .before .before .if3 .left), ne-eqb _ _ (c .before .before .before .if4 .left), ← c .before .tokens-of .ensures, ← c .take-words .ensures)
+returns-4 c =
+    let at-if4 = c .before .before .before in
+    let at-if3 = at-if4 .before in
+    let at-if2 = at-if3 .before in
+    let at-printable = at-if2 .before in
+    let at-if1 = at-printable .before in
+    let at-word = at-if1 .before in
+    rw (
+      ← at-word .word .ensures,
+      ne-eqb _ _ (at-if1 .if1 .left),
+      ← at-printable .printable .ensures,
+      at-if2 .if2 .taken,
+      le-ltb _ _ (at-if3 .if3 .left),
+      ne-eqb _ _ (at-if4 .if4 .left),
+      ←
+          c .before .tokens-of .ensures,
+      ← c .take-words .ensures,
+    )
 
 bad-requires-3 : tie.Need-bad-requires-3
 bad-requires-3 c κs = search needs
 
 returns-5 : tie.Need-returns-5
 unfolding otherTaken
-returns-5 c = rw (← c .before .before .before .before .before .word .ensures, ne-eqb _ _ (c .before .before .before .before .if1 .left), ← c .before .before .before .printable .ensures, c .before .before .if2 .left, ← c .bad3 .ensures)
+returns-5 c =
+    let at-if2 = c .before .before in
+    let at-printable = at-if2 .before in
+    let at-if1 = at-printable .before in
+    let at-word = at-if1 .before in
+    rw (← at-word .word .ensures, ne-eqb _ _ (at-if1 .if1 .left), ← at-printable .printable .ensures, at-if2 .if2 .left, ← c .bad3 .ensures)
 
 pub take-other-spec : {M : Type 1} → statement M
 take-other-spec =

@@ -23,14 +23,33 @@ bad-requires c κs = search needs
 
 returns-2 : tie.Need-returns-2
 unfolding wordsTaken
-returns-2 c = rw (← c .before .before .before .before .before .before .before .token-at .ensures, ne-eqb _ _ (c .before .before .before .before .before .before .if1 .left), ← c .before .before .before .word .ensures, eq-eqb _ _ (c .before .before .if2 .taken), ← c .bad .ensures)
+returns-2 c =
+    let at-if2 = c .before .before in
+    let at-word = at-if2 .before in
+    let at-if1 = at-word .before .before .before in
+    let at-token-at = at-if1 .before in
+    rw (← at-token-at .token-at .ensures, ne-eqb _ _ (at-if1 .if1 .left), ← at-word .word .ensures, eq-eqb _ _ (at-if2 .if2 .taken), ← c .bad .ensures)
 
 bare-requires : tie.Need-bare-requires
 bare-requires c κs = search needs
 
 returns-3 : tie.Need-returns-3
 unfolding wordsTaken
-returns-3 c = rw (← c .before .before .before .before .before .before .before .before .token-at .ensures, ne-eqb _ _ (c .before .before .before .before .before .before .before .if1 .left), ← c .before .before .before .before .word .ensures, ne-eqb _ _ (c .before .before .before .if2 .left), eq-eqb _ _ (c .before .before .if3 .taken), ← c .bare .ensures)
+returns-3 c =
+    let at-if3 = c .before .before in
+    let at-if2 = at-if3 .before in
+    let at-word = at-if2 .before in
+    let at-if1 = at-word .before .before .before in
+    let at-token-at = at-if1 .before in
+    rw (
+      ← at-token-at .token-at .ensures,
+      ne-eqb _ _ (at-if1 .if1 .left),
+      ← at-word .word .ensures,
+      ne-eqb _ _
+          (at-if2 .if2 .left),
+      eq-eqb _ _ (at-if3 .if3 .taken),
+      ← c .bare .ensures,
+    )
 
 plan-of-requires : tie.Need-plan-of-requires
 plan-of-requires c κs = search needs
@@ -40,7 +59,23 @@ give-requires c κs = search needs
 
 returns-4 : tie.Need-returns-4
 unfolding wordsTaken
-returns-4 c = rw (← c .before .before .before .before .before .before .before .before .before .before .token-at .ensures, ne-eqb _ _ (c .before .before .before .before .before .before .before .before .before .if1 .left), ← c .before .before .before .before .before .before .word .ensures, ne-eqb _ _ (c .before .before .before .before .before .if2 .left), ne-eqb _ _ (c .before .before .before .before .if3 .left), ← c .before .before .plan-of .ensures, ← c .give .ensures)
+returns-4 c =
+    let at-plan-of = c .before .before in
+    let at-if3 = at-plan-of .before .before in
+    let at-if2 = at-if3 .before in
+    let at-word = at-if2 .before in
+    let at-if1 = at-word .before .before .before in
+    let at-token-at = at-if1 .before in
+    rw (
+      ← at-token-at .token-at .ensures,
+      ne-eqb _ _ (at-if1 .if1 .left),
+      ← at-word .word .ensures,
+      ne-eqb _ _
+          (at-if2 .if2 .left),
+      ne-eqb _ _ (at-if3 .if3 .left),
+      ← at-plan-of .plan-of .ensures,
+      ← c .give .ensures,
+    )
 
 pub take-words-spec : {M : Type 1} → statement M
 take-words-spec =

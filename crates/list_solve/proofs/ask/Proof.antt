@@ -20,13 +20,21 @@ slice-aggregate-copy-2 : tie.Need-slice-aggregate-copy-2
 slice-aggregate-copy-2 c = sym (length-replicate {A = ℕ} 512 0)
 
 copy-requires-2 : tie.Need-copy-requires-2
-copy-requires-2 c κs = (omega (arith, length-replicate {A = ℕ} 512 0), omega (arith, c .before .before .before .before .before .before .before .before .before .pre))
+copy-requires-2 c κs = (
+  omega (arith, length-replicate {A = ℕ} 512 0),
+  omega
+      (arith, c .before .before .before .before .before .before .before .before .before .pre),
+)
 
 slice-aggregate-copy-3 : tie.Need-slice-aggregate-copy-3
 slice-aggregate-copy-3 c = sym (length-replicate {A = ℕ} 4096 0)
 
 copy-requires-3 : tie.Need-copy-requires-3
-copy-requires-3 c κs = (omega (arith, length-replicate {A = ℕ} 4096 0), omega (arith, c .before .before .before .before .before .before .before .before .before .before .before .before .pre))
+copy-requires-3 c κs = (
+  omega (arith, length-replicate {A = ℕ} 4096 0),
+  omega
+      (arith, c .before .before .before .before .before .before .before .before .before .before .before .before .pre),
+)
 
 length-of-requires : tie.Need-length-of-requires
 length-of-requires c κs = lit≤ tt
@@ -44,25 +52,61 @@ given-of-requires : tie.Need-given-of-requires
 given-of-requires c κs = search needs
 
 array-borrow-prefix-nodes : tie.Need-array-borrow-prefix-nodes
-array-borrow-prefix-nodes c = list.front-within (c .before .before .before .before .before .before .before .before .before .before .before .before .before .before .before .before .before .before .before .before .args .list .now) 8192 12288 _ _ (omega (arith, c .before .before .before .before .before .before .before .before .before .before .before .before .before .before .before .before .before .before .before .before .pre)) (length-replicate {A = ℕ} 12288 0) (c .before .before .before .before .before .before .before .before .before .before .before .before .before .copy .ensures) _ (c .before .before .before .before .before .length-of .ensures .1)
+array-borrow-prefix-nodes c =
+    let at-length-of = c .before .before .before .before .before in
+    let at-copy = at-length-of .before .before .before .before .before .before .before .before in
+    let start = at-copy .before .before .before .before .before .before .before in
+    list.front-within (start .args .list .now) 8192 12288 _ _ (omega (arith, start .pre)) (length-replicate {A = ℕ}
+    12288 0) (at-copy .copy .ensures) _ (at-length-of .length-of .ensures .1)
 
 slice-aggregate-solve-list : tie.Need-slice-aggregate-solve-list
-slice-aggregate-solve-list c = list.front-length (c .before .before .before .before .before .before .before .before .before .before .before .before .before .before .before .before .before .before .before .before .before .args .list .now) 8192 12288 _ _ (omega (arith, c .before .before .before .before .before .before .before .before .before .before .before .before .before .before .before .before .before .before .before .before .before .pre)) (length-replicate {A = ℕ} 12288 0) (c .before .before .before .before .before .before .before .before .before .before .before .before .before .before .copy .ensures) _ (c .before .before .before .before .before .before .length-of .ensures .1)
+slice-aggregate-solve-list c =
+    let at-length-of = c .before .before .before .before .before .before in
+    let at-copy = at-length-of .before .before .before .before .before .before .before .before in
+    let start = at-copy .before .before .before .before .before .before .before in
+    list.front-length (start .args .list .now) 8192 12288 _ _ (omega (arith, start .pre)) (length-replicate {A = ℕ}
+    12288 0) (at-copy .copy .ensures) _ (at-length-of .length-of .ensures .1)
 
 array-borrow-prefix-binds : tie.Need-array-borrow-prefix-binds
-array-borrow-prefix-binds c = list.front-within (c .before .before .before .before .before .before .before .before .before .before .before .before .before .before .before .before .before .before .before .before .before .args .list .now) 20480 512 _ _ (omega (arith, c .before .before .before .before .before .before .before .before .before .before .before .before .before .before .before .before .before .before .before .before .before .pre)) (length-replicate {A = ℕ} 512 0) (c .before .before .before .before .before .before .before .before .before .before .before .copy2 .ensures) _ (c .before .before .before .before .length-of2 .ensures .1)
+array-borrow-prefix-binds c =
+    let at-length-of2 = c .before .before .before .before in
+    let at-copy2 = at-length-of2 .before .before .before .before .before .before .before in
+    let start = at-copy2 .before .before .before .before .before .before .before .before .before .before in
+    list.front-within (start .args .list .now) 20480 512 _ _ (omega (arith, start .pre)) (length-replicate {A = ℕ} 512
+    0) (at-copy2 .copy2 .ensures) _ (at-length-of2 .length-of2 .ensures .1)
 
 slice-aggregate-solve-list-2 : tie.Need-slice-aggregate-solve-list-2
-slice-aggregate-solve-list-2 c = list.front-length (c .before .before .before .before .before .before .before .before .before .before .before .before .before .before .before .before .before .before .before .before .before .before .args .list .now) 20480 512 _ _ (omega (arith, c .before .before .before .before .before .before .before .before .before .before .before .before .before .before .before .before .before .before .before .before .before .before .pre)) (length-replicate {A = ℕ} 512 0) (c .before .before .before .before .before .before .before .before .before .before .before .before .copy2 .ensures) _ (c .before .before .before .before .before .length-of2 .ensures .1)
+slice-aggregate-solve-list-2 c =
+    let at-length-of2 = c .before .before .before .before .before in
+    let at-copy2 = at-length-of2 .before .before .before .before .before .before .before in
+    let start = at-copy2 .before .before .before .before .before .before .before .before .before .before in
+    list.front-length (start .args .list .now) 20480 512 _ _ (omega (arith, start .pre)) (length-replicate {A = ℕ} 512
+    0) (at-copy2 .copy2 .ensures) _ (at-length-of2 .length-of2 .ensures .1)
 
 array-borrow-prefix-scratch : tie.Need-array-borrow-prefix-scratch
-array-borrow-prefix-scratch c = list.front-within (c .before .before .before .before .before .before .before .before .before .before .before .before .before .before .before .before .before .before .before .before .before .before .args .list .now) 29952 4096 _ _ (omega (arith, c .before .before .before .before .before .before .before .before .before .before .before .before .before .before .before .before .before .before .before .before .before .before .pre)) (length-replicate {A = ℕ} 4096 0) (c .before .before .before .before .before .before .before .before .before .copy3 .ensures) _ (c .before .before .before .before .length-of3 .ensures .1)
+array-borrow-prefix-scratch c =
+    let at-length-of3 = c .before .before .before .before in
+    let at-copy3 = at-length-of3 .before .before .before .before .before in
+    let start = at-copy3 .before .before .before .before .before .before .before .before .before .before
+    .before .before .before in
+    list.front-within (start .args .list .now) 29952 4096 _ _ (omega (arith, start .pre)) (length-replicate {A = ℕ}
+    4096 0) (at-copy3 .copy3 .ensures) _ (at-length-of3 .length-of3 .ensures .1)
 
 slice-aggregate-solve-list-3 : tie.Need-slice-aggregate-solve-list-3
-slice-aggregate-solve-list-3 c = list.front-length (c .before .before .before .before .before .before .before .before .before .before .before .before .before .before .before .before .before .before .before .before .before .before .before .args .list .now) 29952 4096 _ _ (omega (arith, c .before .before .before .before .before .before .before .before .before .before .before .before .before .before .before .before .before .before .before .before .before .before .before .pre)) (length-replicate {A = ℕ} 4096 0) (c .before .before .before .before .before .before .before .before .before .before .copy3 .ensures) _ (c .before .before .before .before .before .length-of3 .ensures .1)
+slice-aggregate-solve-list-3 c =
+    let at-length-of3 = c .before .before .before .before .before in
+    let at-copy3 = at-length-of3 .before .before .before .before .before in
+    let start = at-copy3 .before .before .before .before .before .before .before .before .before .before
+    .before .before .before in
+    list.front-length (start .args .list .now) 29952 4096 _ _ (omega (arith, start .pre)) (length-replicate {A = ℕ}
+    4096 0) (at-copy3 .copy3 .ensures) _ (at-length-of3 .length-of3 .ensures .1)
 
 solve-list-requires : tie.Need-solve-list-requires
-solve-list-requires c κs = c .before .before .before .before .before .before .before .before .before .before .before .before .before .before .before .before .before .before .before .before .before .before .before .before .before .before .pre
+solve-list-requires c κs =
+    let start = c .before .before .before .before .before .before .before .before .before .before .before
+    .before .before .before .before .before .before .before .before .before .before .before .before
+    .before .before .before in
+    start .pre
 
 same-length : tie.Need-same-length
 same-length c = c .before .before .before .before .before .before .before .before .before .before .before .solve-list .kept .1 .1 .0
@@ -77,7 +121,29 @@ same-length-4 : tie.Need-same-length-4
 same-length-4 c = c .before .before .before .before .before .before .before .before .before .before .before .solve-list .kept .1 .1 .1 .1 .1 .1 .1 .1 .0
 
 returns : tie.Need-returns
-returns c = law.asked-alone (c .before .before .before .before .before .before .before .before .before .before .before .before .before .before .before .before .before .before .before .before .before .before .before .before .before .before .before .before .before .before .before .before .before .before .before .before .before .before .args .list .now) _ _ _ _ _ _ _ _ (c .before .before .before .before .before .before .before .before .before .before .before .before .before .before .before .before .before .before .before .given-of .ensures) (list.front-lent (c .before .before .before .before .before .before .before .before .before .before .before .before .before .before .before .before .before .before .before .before .before .before .before .before .before .before .before .before .before .before .before .before .before .before .before .before .before .before .args .list .now) 8192 12288 _ _ (omega (arith, c .before .before .before .before .before .before .before .before .before .before .before .before .before .before .before .before .before .before .before .before .before .before .before .before .before .before .before .before .before .before .before .before .before .before .before .before .before .before .pre)) (length-replicate {A = ℕ} 12288 0) (c .before .before .before .before .before .before .before .before .before .before .before .before .before .before .before .before .before .before .before .before .before .before .before .before .before .before .before .before .before .before .before .copy .ensures) _ _ _ (c .before .before .before .before .before .before .before .before .before .before .before .before .before .before .before .before .before .before .before .before .before .before .before .length-of .ensures .0) (c .before .before .before .before .before .before .before .before .before .before .before .before .before .before .before .before .before .before .before .before .before .before .before .length-of .ensures .1)) (list.rows-lent (c .before .before .before .before .before .before .before .before .before .before .before .before .before .before .before .before .before .before .before .before .before .before .before .before .before .before .before .before .before .before .before .before .before .before .before .before .before .before .args .list .now) _ 20480 2 4 512 _ (list.front-lent (c .before .before .before .before .before .before .before .before .before .before .before .before .before .before .before .before .before .before .before .before .before .before .before .before .before .before .before .before .before .before .before .before .before .before .before .before .before .before .args .list .now) 20480 512 _ _ (omega (arith, c .before .before .before .before .before .before .before .before .before .before .before .before .before .before .before .before .before .before .before .before .before .before .before .before .before .before .before .before .before .before .before .before .before .before .before .before .before .before .pre)) (length-replicate {A = ℕ} 512 0) (c .before .before .before .before .before .before .before .before .before .before .before .before .before .before .before .before .before .before .before .before .before .before .before .before .before .before .before .before .copy2 .ensures) _ _ _ (c .before .before .before .before .before .before .before .before .before .before .before .before .before .before .before .before .before .before .before .before .before .length-of2 .ensures .0) (c .before .before .before .before .before .before .before .before .before .before .before .before .before .before .before .before .before .before .before .before .before .length-of2 .ensures .1)) (c .before .before .before .before .before .before .before .before .before .before .before .before .before .before .before .before .before .before .before .before .before .before .rows-given .ensures .0)) (list.front-lent (c .before .before .before .before .before .before .before .before .before .before .before .before .before .before .before .before .before .before .before .before .before .before .before .before .before .before .before .before .before .before .before .before .before .before .before .before .before .before .args .list .now) 29952 4096 _ _ (omega (arith, c .before .before .before .before .before .before .before .before .before .before .before .before .before .before .before .before .before .before .before .before .before .before .before .before .before .before .before .before .before .before .before .before .before .before .before .before .before .before .pre)) (length-replicate {A = ℕ} 4096 0) (c .before .before .before .before .before .before .before .before .before .before .before .before .before .before .before .before .before .before .before .before .before .before .before .before .before .copy3 .ensures) _ _ _ (c .before .before .before .before .before .before .before .before .before .before .before .before .before .before .before .before .before .before .before .before .length-of3 .ensures .0) (c .before .before .before .before .before .before .before .before .before .before .before .before .before .before .before .before .before .before .before .before .length-of3 .ensures .1)) _ _ _ _ _ _ _ _ (c .before .before .before .before .before .before .before .before .before .before .before .solve-list .ensures)
+returns c =
+    let at-solve-list = c .before .before .before .before .before .before .before .before .before .before
+    .before in
+    let at-given-of = at-solve-list .before .before .before .before .before .before .before .before in
+    let at-length-of3 = at-given-of .before in
+    let at-length-of2 = at-length-of3 .before in
+    let at-rows-given = at-length-of2 .before in
+    let at-length-of = at-rows-given .before in
+    let at-copy3 = at-length-of .before .before in
+    let at-copy2 = at-copy3 .before .before .before in
+    let at-copy = at-copy2 .before .before .before in
+    let start = at-copy .before .before .before .before .before .before .before in
+    let args = start .args in
+    law.asked-alone (args .list .now) _ _ _ _ _ _ _ _ (at-given-of .given-of .ensures)
+    (list.front-lent (args .list .now) 8192 12288 _ _ (omega (arith, start .pre)) (length-replicate {A = ℕ} 12288
+    0) (at-copy .copy .ensures) _ _ _ (at-length-of .length-of .ensures .0) (at-length-of .length-of .ensures .1))
+    (list.rows-lent (args .list .now) _ 20480 2 4 512 _ (list.front-lent (args .list .now) 20480 512 _ _
+    (omega (arith, start .pre)) (length-replicate {A = ℕ} 512 0) (at-copy2 .copy2 .ensures) _ _ _
+    (at-length-of2 .length-of2 .ensures .0) (at-length-of2 .length-of2 .ensures .1))
+    (at-rows-given .rows-given .ensures .0)) (list.front-lent (args .list .now) 29952 4096 _ _
+    (omega (arith, start .pre)) (length-replicate {A = ℕ} 4096 0) (at-copy3 .copy3 .ensures) _ _ _
+    (at-length-of3 .length-of3 .ensures .0) (at-length-of3 .length-of3 .ensures .1)) _ _ _ _ _ _ _ _
+    (at-solve-list .solve-list .ensures)
 
 pub ask-spec : {M : Type 1} → statement M
 ask-spec =

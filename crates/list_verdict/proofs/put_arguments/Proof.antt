@@ -13,7 +13,9 @@ use Rattle.list_verdict.proofs.put_arguments.Statement.{statement}
 use Rattle.list_verdict.proofs.put_arguments.Tie as tie
 
 abbrev Inv-loop : tie.InvT-loop
-Inv-loop sorts start count out₀ at place₀ i₀ end out cursor i = (length out ≡ length out₀) × (puts out₀ at (rowsText (argumentText sorts) count start) ≡ puts out cursor (rowsText (argumentText sorts) (start + count - i) i))
+Inv-loop sorts start count out₀ at place₀ i₀ end out cursor i = (length out ≡ length out₀) ×
+    (puts out₀ at (rowsText (argumentText sorts) count start) ≡ puts out cursor (rowsText (argumentText sorts)
+    (start + count - i) i))
 
 abbrev μ-loop : tie.MeasureT-loop
 μ-loop sorts start count out₀ at place₀ i₀ end out cursor i = start + count - i
@@ -44,13 +46,32 @@ loop-less c = omega arith
 
 loop-again : tie.Need-loop-again Inv-loop μ-loop
 unfolding argumentText
-loop-again c = (search needs, rows.one-row-more (argumentText (c .before .before .before .before .before .before .before .before .before .before .before .before .before .args .sorts .now)) (c .before .before .before .before .before .before .before .before .before .before .before .before .before .args .start + c .before .before .before .before .before .before .before .before .before .before .before .before .before .args .count) _ _ _ (c .before .before .before .before .before .before .before .before .before .before .loop .i) (c .before .before .before .before .before .before .before .before .before .before .loop .inv .1) (c .before .before .before .before .before .before .before .before .before .loop-test .taken) (law.put-then (c .before .before .before .before .before .before .before .put-byte .ensures) (law.put-as (ap sortName (c .before .before .before .before .word .ensures)) (c .before .before .put-sort-name .ensures))))
+loop-again c =
+    let at-put-sort-name = c .before .before in
+    let at-word = at-put-sort-name .before .before in
+    let at-put-byte = at-word .before .before .before in
+    let at-loop-test = at-put-byte .before .before in
+    let at-loop = at-loop-test .before in
+    let start = at-loop .before .before .before in
+    let args = start .args in (
+      search needs,
+      rows.one-row-more (argumentText (args .sorts .now)) (args .start + args .count) _ _ _
+          (at-loop .loop .i) (at-loop .loop .inv .1) (at-loop-test .loop-test .taken)
+          (law.put-then (at-put-byte .put-byte .ensures) (law.put-as (ap sortName (at-word .word .ensures))
+          (at-put-sort-name .put-sort-name .ensures))),
+    )
 
 same-length : tie.Need-same-length Inv-loop μ-loop
 same-length c = omega arith
 
 returns : tie.Need-returns Inv-loop μ-loop
-returns c = record { is = rows.all-rows (argumentText (c .before .before .before .before .args .sorts .now)) (c .before .before .before .before .args .start + c .before .before .before .before .args .count) _ _ _ (c .before .loop .i) (c .before .loop .inv .1) (c .loop-test .left) }
+returns c =
+    let start = c .before .before .before .before in
+    let args = start .args in
+    record {
+      is = rows.all-rows (argumentText (args .sorts .now)) (args .start + args .count) _ _ _
+          (c .before .loop .i) (c .before .loop .inv .1) (c .loop-test .left);
+    }
 
 pub put-arguments-spec : {M : Type 1} → statement M
 put-arguments-spec =

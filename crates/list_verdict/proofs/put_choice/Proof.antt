@@ -36,7 +36,16 @@ same-length c = search needs
 
 returns : tie.Need-returns
 unfolding choiceText
-returns c = law.put-then (c .before .before .before .before .before .before .before .before .before .before .before .before .before .before .before .before .put-comma .ensures) (law.put-then (law.put-as (ap (name 101) (c .before .before .before .before .before .before .before .before .before .before .before .before .before .word .ensures)) (c .before .before .before .before .before .before .before .before .before .before .before .put-name .ensures)) (law.put-then (c .before .before .before .before .before .before .before .put-byte .ensures) (law.put-as (ap decimal (c .before .before .before .before .word2 .ensures)) (c .before .before .put-number .ensures))))
+returns c =
+    let at-put-number = c .before .before in
+    let at-word2 = at-put-number .before .before in
+    let at-put-byte = at-word2 .before .before .before in
+    let at-put-name = at-put-byte .before .before .before .before in
+    let at-word = at-put-name .before .before in
+    let at-put-comma = at-word .before .before .before in
+    law.put-then (at-put-comma .put-comma .ensures) (law.put-then (law.put-as (ap (name 101) (at-word .word .ensures))
+    (at-put-name .put-name .ensures)) (law.put-then (at-put-byte .put-byte .ensures)
+    (law.put-as (ap decimal (at-word2 .word2 .ensures)) (at-put-number .put-number .ensures))))
 
 pub put-choice-spec : {M : Type 1} → statement M
 put-choice-spec =

@@ -15,7 +15,11 @@ same-length : tie.Need-same-length
 same-length c = search needs
 
 returns : tie.Need-returns
-returns c = law.put-as (way.no-choices (c .before .before .before .before .before .before .before .before .args .choices .now) _ (c .before .before .before .before .before .if1 .taken)) (c .before .before .put-text .ensures)
+returns c =
+    let at-put-text = c .before .before in
+    let at-if1 = at-put-text .before .before .before in
+    let start = at-if1 .before .before .before in
+    law.put-as (way.no-choices (start .args .choices .now) _ (at-if1 .if1 .taken)) (at-put-text .put-text .ensures)
 
 put-choice-rows-requires : tie.Need-put-choice-rows-requires
 put-choice-rows-requires c κs = search needs
@@ -24,7 +28,11 @@ same-length-2 : tie.Need-same-length-2
 same-length-2 c = search needs
 
 returns-2 : tie.Need-returns-2
-returns-2 c = law.put-as (way.some-choices (c .before .before .before .before .before .before .before .args .choices .now) _ (c .before .before .before .before .if1 .left)) (c .before .before .put-choice-rows .ensures)
+returns-2 c =
+    let at-put-choice-rows = c .before .before in
+    let at-if1 = at-put-choice-rows .before .before in
+    let start = at-if1 .before .before .before in
+    law.put-as (way.some-choices (start .args .choices .now) _ (at-if1 .if1 .left)) (at-put-choice-rows .put-choice-rows .ensures)
 
 pub put-choice-list-spec : {M : Type 1} → statement M
 put-choice-list-spec =

@@ -12,7 +12,9 @@ use Rattle.list_verdict.proofs.put_choice_rows.Statement.{statement}
 use Rattle.list_verdict.proofs.put_choice_rows.Tie as tie
 
 abbrev Inv-loop : tie.InvT-loop
-Inv-loop choices count out₀ at place₀ i₀ out cursor i = (length out ≡ length out₀) × (puts out₀ at (rowsText (choiceText choices) count 0) ≡ puts out cursor (rowsText (choiceText choices) (count - i) i))
+Inv-loop choices count out₀ at place₀ i₀ out cursor i = (length out ≡ length out₀) ×
+    (puts out₀ at (rowsText (choiceText choices) count 0) ≡ puts out cursor (rowsText (choiceText choices) (count - i)
+    i))
 
 abbrev μ-loop : tie.MeasureT-loop
 μ-loop choices count out₀ at place₀ i₀ out cursor i = count - i
@@ -30,13 +32,27 @@ loop-less : tie.Need-loop-less Inv-loop μ-loop
 loop-less c = omega arith
 
 loop-again : tie.Need-loop-again Inv-loop μ-loop
-loop-again c = (search needs, rows.one-row-more (choiceText (c .before .before .before .before .before .before .before .before .args .choices .now)) (c .before .before .before .before .before .before .before .before .args .count) _ _ _ (c .before .before .before .before .before .loop .i) (c .before .before .before .before .before .loop .inv .1) (c .before .before .before .before .loop-test .taken) (c .before .before .put-choice .ensures))
+loop-again c =
+    let at-put-choice = c .before .before in
+    let at-loop-test = at-put-choice .before .before in
+    let at-loop = at-loop-test .before in
+    let start = at-loop .before .before .before in (
+      search needs,
+      rows.one-row-more (choiceText (start .args .choices .now)) (start .args .count) _ _ _
+          (at-loop .loop .i) (at-loop .loop .inv .1) (at-loop-test .loop-test .taken)
+          (at-put-choice .put-choice .ensures),
+    )
 
 same-length : tie.Need-same-length Inv-loop μ-loop
 same-length c = omega arith
 
 returns : tie.Need-returns Inv-loop μ-loop
-returns c = record { is = rows.all-rows (choiceText (c .before .before .before .before .args .choices .now)) (c .before .before .before .before .args .count) _ _ _ (c .before .loop .i) (c .before .loop .inv .1) (c .loop-test .left) }
+returns c =
+    let start = c .before .before .before .before in
+    record {
+      is = rows.all-rows (choiceText (start .args .choices .now)) (start .args .count) _ _ _
+          (c .before .loop .i) (c .before .loop .inv .1) (c .loop-test .left);
+    }
 
 pub put-choice-rows-spec : {M : Type 1} → statement M
 put-choice-rows-spec =

@@ -22,7 +22,11 @@ same-length c = search needs
 
 returns : tie.Need-returns
 unfolding choicesLine
-returns c = law.put-then (c .before .before .before .before .before .before .before .before .before .before .put-text .ensures) (law.put-then (c .before .before .before .before .before .before .put-choice-list .ensures) (c .before .before .put-byte .ensures))
+returns c =
+    let at-put-byte = c .before .before in
+    let at-put-choice-list = at-put-byte .before .before .before .before in
+    let at-put-text = at-put-choice-list .before .before .before .before in
+    law.put-then (at-put-text .put-text .ensures) (law.put-then (at-put-choice-list .put-choice-list .ensures) (at-put-byte .put-byte .ensures))
 
 pub put-choices-spec : {M : Type 1} → statement M
 put-choices-spec =

@@ -14,7 +14,9 @@ use Rattle.list_verdict.proofs.put_components.Statement.{statement}
 use Rattle.list_verdict.proofs.put_components.Tie as tie
 
 abbrev Inv-loop : tie.InvT-loop
-Inv-loop measure count out₀ at place₀ i₀ out cursor i = (length out ≡ length out₀) × (puts out₀ at (rowsText (component measure) count 0) ≡ puts out cursor (rowsText (component measure) (count - i) i))
+Inv-loop measure count out₀ at place₀ i₀ out cursor i = (length out ≡ length out₀) ×
+    (puts out₀ at (rowsText (component measure) count 0) ≡ puts out cursor (rowsText (component measure) (count - i)
+    i))
 
 abbrev μ-loop : tie.MeasureT-loop
 μ-loop measure count out₀ at place₀ i₀ out cursor i = count - i
@@ -42,13 +44,30 @@ loop-less c = omega arith
 
 loop-again : tie.Need-loop-again Inv-loop μ-loop
 unfolding component
-loop-again c = (search needs, rows.one-row-more (component (c .before .before .before .before .before .before .before .before .before .before .before .before .before .args .measure .now)) (c .before .before .before .before .before .before .before .before .before .before .before .before .before .args .count) _ _ _ (c .before .before .before .before .before .before .before .before .before .before .loop .i) (c .before .before .before .before .before .before .before .before .before .before .loop .inv .1) (c .before .before .before .before .before .before .before .before .before .loop-test .taken) (law.put-then (c .before .before .before .before .before .before .before .put-comma .ensures) (law.put-as (ap decimal (c .before .before .before .before .word .ensures)) (c .before .before .put-number .ensures))))
+loop-again c =
+    let at-put-number = c .before .before in
+    let at-word = at-put-number .before .before in
+    let at-put-comma = at-word .before .before .before in
+    let at-loop-test = at-put-comma .before .before in
+    let at-loop = at-loop-test .before in
+    let start = at-loop .before .before .before in (
+      search needs,
+      rows.one-row-more (component (start .args .measure .now)) (start .args .count) _ _ _
+          (at-loop .loop .i) (at-loop .loop .inv .1) (at-loop-test .loop-test .taken)
+          (law.put-then (at-put-comma .put-comma .ensures) (law.put-as (ap decimal (at-word .word .ensures))
+          (at-put-number .put-number .ensures))),
+    )
 
 same-length : tie.Need-same-length Inv-loop μ-loop
 same-length c = omega arith
 
 returns : tie.Need-returns Inv-loop μ-loop
-returns c = record { is = rows.all-rows (component (c .before .before .before .before .args .measure .now)) (c .before .before .before .before .args .count) _ _ _ (c .before .loop .i) (c .before .loop .inv .1) (c .loop-test .left) }
+returns c =
+    let start = c .before .before .before .before in
+    record {
+      is = rows.all-rows (component (start .args .measure .now)) (start .args .count) _ _ _
+          (c .before .loop .i) (c .before .loop .inv .1) (c .loop-test .left);
+    }
 
 pub put-components-spec : {M : Type 1} → statement M
 put-components-spec =

@@ -97,7 +97,20 @@ same-length-7 c = search needs
 
 returns-7 : tie.Need-returns-7
 unfolding message
-returns-7 c = law.put-as (ap message (sym (let z : _≡_ {A = ℕ} (c .before .before .before .before .before .before .before .args .code) 6 = omega (arith, c .before .before .before .before .before .before .before .pre, c .before .before .before .before .before .match .rest .0 .0 .0 .0 .0 .1, c .before .before .before .before .before .match .rest .0 .0 .0 .0 .1, c .before .before .before .before .before .match .rest .0 .0 .0 .1, c .before .before .before .before .before .match .rest .0 .0 .1, c .before .before .before .before .before .match .rest .0 .1, c .before .before .before .before .before .match .rest .1) in z))) (c .before .before .put-text7 .ensures)
+returns-7 c =
+    let at-put-text7 = c .before .before in
+    let at-match = at-put-text7 .before .before .before in
+    let start = at-match .before .before in
+    law.put-as (ap message (sym (let z : _≡_ {A = ℕ} (start .args .code) 6 = omega (
+      arith,
+      start .pre,
+      at-match .match .rest .0 .0 .0 .0 .0 .1,
+      at-match .match .rest .0 .0 .0 .0 .1,
+      at-match .match .rest .0 .0 .0 .1,
+      at-match .match .rest .0 .0 .1,
+      at-match .match .rest .0 .1,
+      at-match .match .rest .1,
+    ) in z))) (at-put-text7 .put-text7 .ensures)
 
 pub put-early-spec : {M : Type 1} → statement M
 put-early-spec =

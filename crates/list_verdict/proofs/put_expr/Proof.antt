@@ -47,7 +47,23 @@ same-length c = search needs
 
 returns : tie.Need-returns
 unfolding exprLine
-returns c = law.put-then (c .before .before .before .before .before .before .before .before .before .before .before .before .before .before .before .before .before .before .before .before .before .before .put-name .ensures) (law.put-then (c .before .before .before .before .before .before .before .before .before .before .before .before .before .before .before .before .before .put-text .ensures) (law.put-then (law.put-as (ap (sortText (c .before .before .before .before .before .before .before .before .before .before .before .before .before .before .before .before .before .before .before .before .before .before .before .before .before .before .before .before .args .sorts .now) (c .before .before .before .before .before .before .before .before .before .before .before .before .before .before .before .before .before .before .before .before .before .before .before .before .before .before .before .before .args .counts .sorts)) (c .before .before .before .before .before .before .before .before .before .before .before .before .before .before .word .ensures)) (c .before .before .before .before .before .before .before .before .before .before .before .before .put-sort-text .ensures)) (law.put-then (law.put-as (ap₂ (targetText (c .before .before .before .before .before .before .before .before .before .before .before .before .before .before .before .before .before .before .before .before .before .before .before .before .before .before .before .before .args .sorts .now) (c .before .before .before .before .before .before .before .before .before .before .before .before .before .before .before .before .before .before .before .before .before .before .before .before .before .before .before .before .args .counts .sorts)) (c .before .before .before .before .before .before .before .before .before .word2 .ensures) (c .before .before .before .before .before .before .before .before .word3 .ensures)) (c .before .before .before .before .before .before .put-target .ensures)) (c .before .before .put-byte .ensures))))
+returns c =
+    let at-put-byte = c .before .before in
+    let at-put-target = at-put-byte .before .before .before .before in
+    let at-word3 = at-put-target .before .before in
+    let at-word2 = at-word3 .before in
+    let at-put-sort-text = at-word2 .before .before .before in
+    let at-word = at-put-sort-text .before .before in
+    let at-put-text = at-word .before .before .before in
+    let at-put-name = at-put-text .before .before .before .before .before in
+    let start = at-put-name .before .before .before .before .before .before in
+    let args = start .args in
+    law.put-then (at-put-name .put-name .ensures) (law.put-then (at-put-text .put-text .ensures)
+    (law.put-then (law.put-as (ap (sortText (args .sorts .now) (args .counts .sorts)) (at-word .word .ensures))
+    (at-put-sort-text .put-sort-text .ensures))
+    (law.put-then (law.put-as (ap₂ (targetText (args .sorts .now) (args .counts .sorts))
+    (at-word2 .word2 .ensures) (at-word3 .word3 .ensures)) (at-put-target .put-target .ensures))
+    (at-put-byte .put-byte .ensures))))
 
 pub put-expr-spec : {M : Type 1} → statement M
 put-expr-spec =

@@ -12,7 +12,9 @@ use Rattle.list_verdict.proofs.put_exprs.Statement.{statement}
 use Rattle.list_verdict.proofs.put_exprs.Tie as tie
 
 abbrev Inv-loop : tie.InvT-loop
-Inv-loop sorts counts sizes typing count out₀ at place₀ i₀ out cursor i = (length out ≡ length out₀) × (puts out₀ at (rowsText (exprLine sorts (counts .sorts) typing) count 0) ≡ puts out cursor (rowsText (exprLine sorts (counts .sorts) typing) (count - i) i))
+Inv-loop sorts counts sizes typing count out₀ at place₀ i₀ out cursor i = (length out ≡ length out₀) ×
+    (puts out₀ at (rowsText (exprLine sorts (counts .sorts) typing) count 0) ≡ puts out cursor
+    (rowsText (exprLine sorts (counts .sorts) typing) (count - i) i))
 
 abbrev μ-loop : tie.MeasureT-loop
 μ-loop sorts counts sizes typing count out₀ at place₀ i₀ out cursor i = count - i
@@ -30,13 +32,29 @@ loop-less : tie.Need-loop-less Inv-loop μ-loop
 loop-less c = omega arith
 
 loop-again : tie.Need-loop-again Inv-loop μ-loop
-loop-again c = (search needs, rows.one-row-more (exprLine (c .before .before .before .before .before .before .before .before .before .before .args .sorts .now) (c .before .before .before .before .before .before .before .before .before .before .args .counts .sorts) (c .before .before .before .before .before .before .before .before .before .before .args .typing .now)) (c .before .before .before .before .before .before .before .before .before .before .args .count) _ _ _ (c .before .before .before .before .before .loop .i) (c .before .before .before .before .before .loop .inv .1) (c .before .before .before .before .loop-test .taken) (c .before .before .put-expr .ensures))
+loop-again c =
+    let at-put-expr = c .before .before in
+    let at-loop-test = at-put-expr .before .before in
+    let at-loop = at-loop-test .before in
+    let start = at-loop .before .before .before .before .before in
+    let args = start .args in (
+      search needs,
+      rows.one-row-more (exprLine (args .sorts .now) (args .counts .sorts) (args .typing .now))
+          (args .count) _ _ _ (at-loop .loop .i) (at-loop .loop .inv .1) (at-loop-test .loop-test .taken)
+          (at-put-expr .put-expr .ensures),
+    )
 
 same-length : tie.Need-same-length Inv-loop μ-loop
 same-length c = omega arith
 
 returns : tie.Need-returns Inv-loop μ-loop
-returns c = record { is = rows.all-rows (exprLine (c .before .before .before .before .before .before .args .sorts .now) (c .before .before .before .before .before .before .args .counts .sorts) (c .before .before .before .before .before .before .args .typing .now)) (c .before .before .before .before .before .before .args .count) _ _ _ (c .before .loop .i) (c .before .loop .inv .1) (c .loop-test .left) }
+returns c =
+    let start = c .before .before .before .before .before .before in
+    let args = start .args in
+    record {
+      is = rows.all-rows (exprLine (args .sorts .now) (args .counts .sorts) (args .typing .now)) (args .count)
+          _ _ _ (c .before .loop .i) (c .before .loop .inv .1) (c .loop-test .left);
+    }
 
 pub put-exprs-spec : {M : Type 1} → statement M
 put-exprs-spec =

@@ -118,7 +118,14 @@ same-length-9 : tie.Need-same-length-9
 same-length-9 c = search needs
 
 returns-9 : tie.Need-returns-9
-returns-9 c = law.put-as (way.other-kind _ (way.past-the-kinds _ (c .before .before .before .before .before .before .if1 .left) (c .before .before .before .before .before .match .rest .0 .0 .0 .0 .0 .0 .1) (c .before .before .before .before .before .match .rest .0 .0 .0 .0 .0 .1) (c .before .before .before .before .before .match .rest .0 .0 .0 .0 .1) (c .before .before .before .before .before .match .rest .0 .0 .0 .1) (c .before .before .before .before .before .match .rest .0 .0 .1) (c .before .before .before .before .before .match .rest .0 .1) (c .before .before .before .before .before .match .rest .1))) (c .before .before .put-text8 .ensures)
+returns-9 c =
+    let at-put-text8 = c .before .before in
+    let at-match = at-put-text8 .before .before .before in
+    let at-if1 = at-match .before in
+    law.put-as (way.other-kind _ (way.past-the-kinds _ (at-if1 .if1 .left)
+    (at-match .match .rest .0 .0 .0 .0 .0 .0 .1) (at-match .match .rest .0 .0 .0 .0 .0 .1)
+    (at-match .match .rest .0 .0 .0 .0 .1) (at-match .match .rest .0 .0 .0 .1) (at-match .match .rest .0 .0 .1)
+    (at-match .match .rest .0 .1) (at-match .match .rest .1))) (at-put-text8 .put-text8 .ensures)
 
 pub put-kind-spec : {M : Type 1} → statement M
 put-kind-spec =

@@ -91,7 +91,9 @@ unfolding message
 returns-7 c = law.put-as (ap message (sym (c .before .before .before .before .before .match .keys5))) (c .before .before .put-text5 .ensures)
 
 returns-8 : tie.Need-returns-8
-returns-8 c = law.put-as (way.no-message _ (c .before .if2 .left) (c .match .rest .0 .0 .0 .0 .1) (c .match .rest .0 .0 .0 .1) (c .match .rest .0 .0 .1) (c .match .rest .0 .1) (c .match .rest .1)) (law.put-none _ _)
+returns-8 c = law.put-as (way.no-message _ (c .before .if2 .left) (c .match .rest .0 .0 .0 .0 .1)
+    (c .match .rest .0 .0 .0 .1) (c .match .rest .0 .0 .1) (c .match .rest .0 .1) (c .match .rest .1))
+    (law.put-none _ _)
 
 pub put-message-spec : {M : Type 1} → statement M
 put-message-spec =

@@ -39,7 +39,18 @@ same-length c = search needs
 
 returns : tie.Need-returns
 unfolding newLine
-returns c = law.put-then (c .before .before .before .before .before .before .before .before .before .before .before .before .before .before .before .before .before .before .before .before .before .before .before .put-text .ensures) (law.put-then (c .before .before .before .before .before .before .before .before .before .before .before .before .before .before .before .before .before .before .before .put-name .ensures) (law.put-then (c .before .before .before .before .before .before .before .before .before .before .before .before .before .before .before .put-byte .ensures) (law.put-then (law.put-as (ap kindWord (c .before .before .before .before .before .before .before .before .before .before .before .before .word .ensures)) (c .before .before .before .before .before .before .before .before .before .before .put-kind .ensures)) (law.put-then (c .before .before .before .before .before .before .put-parts .ensures) (c .before .before .put-byte2 .ensures)))))
+returns c =
+    let at-put-byte2 = c .before .before in
+    let at-put-parts = at-put-byte2 .before .before .before .before in
+    let at-put-kind = at-put-parts .before .before .before .before in
+    let at-word = at-put-kind .before .before in
+    let at-put-byte = at-word .before .before .before in
+    let at-put-name = at-put-byte .before .before .before .before in
+    let at-put-text = at-put-name .before .before .before .before in
+    law.put-then (at-put-text .put-text .ensures) (law.put-then (at-put-name .put-name .ensures)
+    (law.put-then (at-put-byte .put-byte .ensures)
+    (law.put-then (law.put-as (ap kindWord (at-word .word .ensures)) (at-put-kind .put-kind .ensures))
+    (law.put-then (at-put-parts .put-parts .ensures) (at-put-byte2 .put-byte2 .ensures)))))
 
 pub put-new-spec : {M : Type 1} → statement M
 put-new-spec =

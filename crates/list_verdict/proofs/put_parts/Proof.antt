@@ -18,7 +18,11 @@ word-requires-2 : tie.Need-word-requires-2
 word-requires-2 c κs = search needs
 
 returns : tie.Need-returns
-returns c = law.put-as (way.no-part (c .before .before .before .before .before .args .sorts .now) (c .before .before .before .before .before .args .i) _ _ (c .before .before .word .ensures) (c .before .word2 .ensures) (c .if1 .taken)) (law.put-none _ _)
+returns c =
+    let at-word = c .before .before in
+    let start = at-word .before .before .before in
+    law.put-as (way.no-part (start .args .sorts .now) (start .args .i) _ _ (at-word .word .ensures)
+    (c .before .word2 .ensures) (c .if1 .taken)) (law.put-none _ _)
 
 put-byte-requires : tie.Need-put-byte-requires
 put-byte-requires c κs = search needs
@@ -30,7 +34,17 @@ same-length : tie.Need-same-length
 same-length c = search needs
 
 returns-2 : tie.Need-returns-2
-returns-2 c = law.put-as (way.one-part (c .before .before .before .before .before .before .before .before .before .before .before .before .before .before .args .sorts .now) (c .before .before .before .before .before .before .before .before .before .before .before .before .before .before .args .i) _ _ (c .before .before .before .before .before .before .before .before .before .before .before .word .ensures) (c .before .before .before .before .before .before .before .before .before .before .word2 .ensures) (c .before .before .before .before .before .before .before .before .before .if1 .left) (c .before .before .before .before .before .before .before .before .if2 .taken)) (law.put-then (c .before .before .before .before .before .before .put-byte .ensures) (c .before .before .put-sort-name .ensures))
+returns-2 c =
+    let at-put-sort-name = c .before .before in
+    let at-put-byte = at-put-sort-name .before .before .before .before in
+    let at-if2 = at-put-byte .before .before in
+    let at-if1 = at-if2 .before in
+    let at-word2 = at-if1 .before in
+    let at-word = at-word2 .before in
+    let start = at-word .before .before .before in
+    law.put-as (way.one-part (start .args .sorts .now) (start .args .i) _ _ (at-word .word .ensures)
+    (at-word2 .word2 .ensures) (at-if1 .if1 .left) (at-if2 .if2 .taken))
+    (law.put-then (at-put-byte .put-byte .ensures) (at-put-sort-name .put-sort-name .ensures))
 
 add-word-2 : tie.Need-add-word-2
 add-word-2 c = search needs
@@ -60,7 +74,23 @@ same-length-2 : tie.Need-same-length-2
 same-length-2 c = search needs
 
 returns-3 : tie.Need-returns-3
-returns-3 c = law.put-as (way.arguments-and-range (c .before .before .before .before .before .before .before .before .before .before .before .before .before .before .before .before .before .before .before .before .before .before .args .sorts .now) (c .before .before .before .before .before .before .before .before .before .before .before .before .before .before .before .before .before .before .before .before .before .before .args .i) _ _ (c .before .before .before .before .before .before .before .before .before .before .before .before .before .before .before .before .before .before .before .word .ensures) (c .before .before .before .before .before .before .before .before .before .before .before .before .before .before .before .before .before .before .word2 .ensures) (c .before .before .before .before .before .before .before .before .before .before .before .before .before .before .before .before .before .if1 .left) (c .before .before .before .before .before .before .before .before .before .before .before .before .before .before .before .before .if2 .left) (c .before .before .before .before .before .before .before .before .before .before .before .before .before .before .before .if3 .taken) _ _ (c .before .before .before .before .before .before .before .before .before .before .before .before .before .before .word3 .ensures) (c .before .before .before .before .before .before .before .before .before .before .before .before .before .word4 .ensures)) (law.put-then (c .before .before .before .before .before .before .before .before .before .before .before .put-arguments .ensures) (law.put-then (c .before .before .before .before .before .before .put-text .ensures) (c .before .before .put-sort-name2 .ensures)))
+returns-3 c =
+    let at-put-sort-name2 = c .before .before in
+    let at-put-text = at-put-sort-name2 .before .before .before .before in
+    let at-put-arguments = at-put-text .before .before .before .before .before in
+    let at-word4 = at-put-arguments .before .before in
+    let at-word3 = at-word4 .before in
+    let at-if3 = at-word3 .before in
+    let at-if2 = at-if3 .before in
+    let at-if1 = at-if2 .before in
+    let at-word2 = at-if1 .before in
+    let at-word = at-word2 .before in
+    let start = at-word .before .before .before in
+    law.put-as (way.arguments-and-range (start .args .sorts .now) (start .args .i) _ _ (at-word .word .ensures)
+    (at-word2 .word2 .ensures) (at-if1 .if1 .left) (at-if2 .if2 .left) (at-if3 .if3 .taken) _ _
+    (at-word3 .word3 .ensures) (at-word4 .word4 .ensures))
+    (law.put-then (at-put-arguments .put-arguments .ensures) (law.put-then (at-put-text .put-text .ensures)
+    (at-put-sort-name2 .put-sort-name2 .ensures)))
 
 put-byte-requires-2 : tie.Need-put-byte-requires-2
 put-byte-requires-2 c κs = search needs
@@ -72,7 +102,18 @@ same-length-3 : tie.Need-same-length-3
 same-length-3 c = search needs
 
 returns-4 : tie.Need-returns-4
-returns-4 c = law.put-as (way.a-number (c .before .before .before .before .before .before .before .before .before .before .before .before .before .before .before .args .sorts .now) (c .before .before .before .before .before .before .before .before .before .before .before .before .before .before .before .args .i) _ _ (c .before .before .before .before .before .before .before .before .before .before .before .before .word .ensures) (c .before .before .before .before .before .before .before .before .before .before .before .word2 .ensures) (c .before .before .before .before .before .before .before .before .before .before .if1 .left) (c .before .before .before .before .before .before .before .before .before .if2 .left) (c .before .before .before .before .before .before .before .before .if3 .left)) (law.put-then (c .before .before .before .before .before .before .put-byte2 .ensures) (c .before .before .put-number .ensures))
+returns-4 c =
+    let at-put-number = c .before .before in
+    let at-put-byte2 = at-put-number .before .before .before .before in
+    let at-if3 = at-put-byte2 .before .before in
+    let at-if2 = at-if3 .before in
+    let at-if1 = at-if2 .before in
+    let at-word2 = at-if1 .before in
+    let at-word = at-word2 .before in
+    let start = at-word .before .before .before in
+    law.put-as (way.a-number (start .args .sorts .now) (start .args .i) _ _ (at-word .word .ensures)
+    (at-word2 .word2 .ensures) (at-if1 .if1 .left) (at-if2 .if2 .left) (at-if3 .if3 .left))
+    (law.put-then (at-put-byte2 .put-byte2 .ensures) (at-put-number .put-number .ensures))
 
 pub put-parts-spec : {M : Type 1} → statement M
 put-parts-spec =

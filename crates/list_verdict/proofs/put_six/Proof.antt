@@ -84,7 +84,19 @@ same-length-6 c = search needs
 
 returns-6 : tie.Need-returns-6
 unfolding kindWord
-returns-6 c = law.put-as (ap kindWord (sym (let z : _≡_ {A = ℕ} (c .before .before .before .before .before .before .before .args .kind) 5 = omega (arith, c .before .before .before .before .before .before .before .pre, c .before .before .before .before .before .match .rest .0 .0 .0 .0 .1, c .before .before .before .before .before .match .rest .0 .0 .0 .1, c .before .before .before .before .before .match .rest .0 .0 .1, c .before .before .before .before .before .match .rest .0 .1, c .before .before .before .before .before .match .rest .1) in z))) (c .before .before .put-text6 .ensures)
+returns-6 c =
+    let at-put-text6 = c .before .before in
+    let at-match = at-put-text6 .before .before .before in
+    let start = at-match .before .before in
+    law.put-as (ap kindWord (sym (let z : _≡_ {A = ℕ} (start .args .kind) 5 = omega (
+      arith,
+      start .pre,
+      at-match .match .rest .0 .0 .0 .0 .1,
+      at-match .match .rest .0 .0 .0 .1,
+      at-match .match .rest .0 .0 .1,
+      at-match .match .rest .0 .1,
+      at-match .match .rest .1,
+    ) in z))) (at-put-text6 .put-text6 .ensures)
 
 pub put-six-spec : {M : Type 1} → statement M
 put-six-spec =

@@ -15,7 +15,12 @@ same-length : tie.Need-same-length
 same-length c = search needs
 
 returns : tie.Need-returns
-returns c = law.put-as (way.past-the-sorts (c .before .before .before .before .before .before .before .before .before .args .sorts .now) (c .before .before .before .before .before .before .before .before .before .args .counts) (c .before .before .before .before .before .before .before .before .before .args .sizes .now) _ (c .before .before .before .before .if1 .taken)) (c .before .before .put-name .ensures)
+returns c =
+    let at-put-name = c .before .before in
+    let at-if1 = at-put-name .before .before in
+    let start = at-if1 .before .before .before .before .before in
+    let args = start .args in
+    law.put-as (way.past-the-sorts (args .sorts .now) (args .counts) (args .sizes .now) _ (at-if1 .if1 .taken)) (at-put-name .put-name .ensures)
 
 size-at-requires : tie.Need-size-at-requires
 size-at-requires c κs = search needs
@@ -27,7 +32,15 @@ same-length-2 : tie.Need-same-length-2
 same-length-2 c = search needs
 
 returns-2 : tie.Need-returns-2
-returns-2 c = law.put-as (way.no-text (c .before .before .before .before .before .before .before .before .before .before .before .args .sorts .now) (c .before .before .before .before .before .before .before .before .before .before .before .args .counts) (c .before .before .before .before .before .before .before .before .before .before .before .args .sizes .now) _ (c .before .before .before .before .before .before .before .before .before .before .before .pre) (c .before .before .before .before .before .before .if1 .left) _ (c .before .before .before .before .before .size-at .ensures) (c .before .before .before .before .if2 .taken)) (c .before .before .put-name2 .ensures)
+returns-2 c =
+    let at-put-name2 = c .before .before in
+    let at-if2 = at-put-name2 .before .before in
+    let at-size-at = at-if2 .before in
+    let at-if1 = at-size-at .before in
+    let start = at-if1 .before .before .before .before .before in
+    let args = start .args in
+    law.put-as (way.no-text (args .sorts .now) (args .counts) (args .sizes .now) _ (start .pre) (at-if1 .if1 .left) _
+    (at-size-at .size-at .ensures) (at-if2 .if2 .taken)) (at-put-name2 .put-name2 .ensures)
 
 put-name-requires-3 : tie.Need-put-name-requires-3
 put-name-requires-3 c κs = search needs
@@ -36,19 +49,53 @@ same-length-3 : tie.Need-same-length-3
 same-length-3 c = search needs
 
 returns-3 : tie.Need-returns-3
-returns-3 c = law.put-as (way.long-text (c .before .before .before .before .before .before .before .before .before .before .before .before .args .sorts .now) (c .before .before .before .before .before .before .before .before .before .before .before .before .args .counts) (c .before .before .before .before .before .before .before .before .before .before .before .before .args .sizes .now) _ (c .before .before .before .before .before .before .before .before .before .before .before .before .pre) (c .before .before .before .before .before .before .before .if1 .left) _ (c .before .before .before .before .before .before .size-at .ensures) (c .before .before .before .before .if3 .taken)) (c .before .before .put-name3 .ensures)
+returns-3 c =
+    let at-put-name3 = c .before .before in
+    let at-if3 = at-put-name3 .before .before in
+    let at-size-at = at-if3 .before .before in
+    let at-if1 = at-size-at .before in
+    let start = at-if1 .before .before .before .before .before in
+    let args = start .args in
+    law.put-as (way.long-text (args .sorts .now) (args .counts) (args .sizes .now) _ (start .pre) (at-if1 .if1 .left)
+    _ (at-size-at .size-at .ensures) (at-if3 .if3 .taken)) (at-put-name3 .put-name3 .ensures)
 
 slice-aggregate-put-sort : tie.Need-slice-aggregate-put-sort
 slice-aggregate-put-sort c = search needs
 
 put-sort-requires : tie.Need-put-sort-requires
-put-sort-requires c κs = way.has-room (c .before .before .before .before .before .before .before .before .before .args .sorts .now) (c .before .before .before .before .before .before .before .before .before .args .counts) (c .before .before .before .before .before .before .before .before .before .args .sizes .now) _ (c .before .before .before .before .before .before .before .before .before .pre) (c .before .before .before .before .if1 .left) _ (c .before .before .before .size-at .ensures) (c .before .before .if2 .left) (c .before .if3 .left) _ (length-replicate {A = ℕ} 200 0)
+put-sort-requires c κs =
+    let at-if2 = c .before .before in
+    let at-size-at = at-if2 .before in
+    let at-if1 = at-size-at .before in
+    let start = at-if1 .before .before .before .before .before in
+    let args = start .args in
+    way.has-room (args .sorts .now) (args .counts) (args .sizes .now) _ (start .pre) (at-if1 .if1 .left) _
+    (at-size-at .size-at .ensures) (at-if2 .if2 .left) (c .before .if3 .left) _ (length-replicate {A = ℕ} 200 0)
 
 array-share-prefix-text : tie.Need-array-share-prefix-text
-array-share-prefix-text c = way.text-ends (c .before .before .before .before .before .before .before .before .before .before .before .args .sorts .now) (c .before .before .before .before .before .before .before .before .before .before .before .args .counts) (c .before .before .before .before .before .before .before .before .before .before .before .args .sizes .now) _ (c .before .before .before .before .before .before .before .before .before .before .before .pre) (c .before .before .before .before .before .before .if1 .left) _ (c .before .before .before .before .before .size-at .ensures) (c .before .before .before .before .if2 .left) (c .before .before .before .if3 .left) _ (length-replicate {A = ℕ} 200 0) _ _ (c .before .put-sort .ensures)
+array-share-prefix-text c =
+    let at-if3 = c .before .before .before in
+    let at-if2 = at-if3 .before in
+    let at-size-at = at-if2 .before in
+    let at-if1 = at-size-at .before in
+    let start = at-if1 .before .before .before .before .before in
+    let args = start .args in
+    way.text-ends (args .sorts .now) (args .counts) (args .sizes .now) _ (start .pre) (at-if1 .if1 .left) _
+    (at-size-at .size-at .ensures) (at-if2 .if2 .left) (at-if3 .if3 .left) _ (length-replicate {A = ℕ} 200 0) _ _
+    (c .before .put-sort .ensures)
 
 slice-aggregate-put-text : tie.Need-slice-aggregate-put-text
-slice-aggregate-put-text c = way.text-length (c .before .before .before .before .before .before .before .before .before .before .before .before .args .sorts .now) (c .before .before .before .before .before .before .before .before .before .before .before .before .args .counts) (c .before .before .before .before .before .before .before .before .before .before .before .before .args .sizes .now) _ (c .before .before .before .before .before .before .before .before .before .before .before .before .pre) (c .before .before .before .before .before .before .before .if1 .left) _ (c .before .before .before .before .before .before .size-at .ensures) (c .before .before .before .before .before .if2 .left) (c .before .before .before .before .if3 .left) _ (length-replicate {A = ℕ} 200 0) _ _ (c .before .before .put-sort .ensures)
+slice-aggregate-put-text c =
+    let at-put-sort = c .before .before in
+    let at-if3 = at-put-sort .before .before in
+    let at-if2 = at-if3 .before in
+    let at-size-at = at-if2 .before in
+    let at-if1 = at-size-at .before in
+    let start = at-if1 .before .before .before .before .before in
+    let args = start .args in
+    way.text-length (args .sorts .now) (args .counts) (args .sizes .now) _ (start .pre) (at-if1 .if1 .left) _
+    (at-size-at .size-at .ensures) (at-if2 .if2 .left) (at-if3 .if3 .left) _ (length-replicate {A = ℕ} 200 0) _ _
+    (at-put-sort .put-sort .ensures)
 
 put-text-requires : tie.Need-put-text-requires
 put-text-requires c κs = search needs
@@ -57,7 +104,18 @@ same-length-4 : tie.Need-same-length-4
 same-length-4 c = search needs
 
 returns-4 : tie.Need-returns-4
-returns-4 c = law.put-as (way.whole-text (c .before .before .before .before .before .before .before .before .before .before .before .before .before .before .before .before .args .sorts .now) (c .before .before .before .before .before .before .before .before .before .before .before .before .before .before .before .before .args .counts) (c .before .before .before .before .before .before .before .before .before .before .before .before .before .before .before .before .args .sizes .now) _ (c .before .before .before .before .before .before .before .before .before .before .before .before .before .before .before .before .pre) (c .before .before .before .before .before .before .before .before .before .before .before .if1 .left) _ (c .before .before .before .before .before .before .before .before .before .before .size-at .ensures) (c .before .before .before .before .before .before .before .before .before .if2 .left) (c .before .before .before .before .before .before .before .before .if3 .left) _ (length-replicate {A = ℕ} 200 0) _ _ (c .before .before .before .before .before .before .put-sort .ensures)) (c .before .before .put-text .ensures)
+returns-4 c =
+    let at-put-text = c .before .before in
+    let at-put-sort = at-put-text .before .before .before .before in
+    let at-if3 = at-put-sort .before .before in
+    let at-if2 = at-if3 .before in
+    let at-size-at = at-if2 .before in
+    let at-if1 = at-size-at .before in
+    let start = at-if1 .before .before .before .before .before in
+    let args = start .args in
+    law.put-as (way.whole-text (args .sorts .now) (args .counts) (args .sizes .now) _ (start .pre) (at-if1 .if1 .left)
+    _ (at-size-at .size-at .ensures) (at-if2 .if2 .left) (at-if3 .if3 .left) _ (length-replicate {A = ℕ} 200 0) _
+    _ (at-put-sort .put-sort .ensures)) (at-put-text .put-text .ensures)
 
 pub put-sort-text-spec : {M : Type 1} → statement M
 put-sort-text-spec =

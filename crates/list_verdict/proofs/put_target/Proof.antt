@@ -15,7 +15,11 @@ same-length : tie.Need-same-length
 same-length c = search needs
 
 returns : tie.Need-returns
-returns c = law.put-as (way.variable-told (c .before .before .before .before .before .before .before .before .before .args .sorts .now) (c .before .before .before .before .before .before .before .before .before .args .counts .sorts) _ _ (c .before .before .before .before .before .if1 .taken)) (c .before .before .put-text .ensures)
+returns c =
+    let at-put-text = c .before .before in
+    let at-if1 = at-put-text .before .before .before in
+    let start = at-if1 .before .before .before .before in
+    law.put-as (way.variable-told (start .args .sorts .now) (start .args .counts .sorts) _ _ (at-if1 .if1 .taken)) (at-put-text .put-text .ensures)
 
 slice-aggregate-put-text-2 : tie.Need-slice-aggregate-put-text-2
 slice-aggregate-put-text-2 c = search needs
@@ -30,7 +34,15 @@ same-length-2 : tie.Need-same-length-2
 same-length-2 c = search needs
 
 returns-2 : tie.Need-returns-2
-returns-2 c = law.put-as (way.op-told (c .before .before .before .before .before .before .before .before .before .before .before .before .before .before .args .sorts .now) (c .before .before .before .before .before .before .before .before .before .before .before .before .before .before .args .counts .sorts) _ _ (c .before .before .before .before .before .before .before .before .before .before .if1 .left) (c .before .before .before .before .before .before .before .before .before .if2 .taken)) (law.put-then (c .before .before .before .before .before .before .put-text2 .ensures) (c .before .before .put-sort-text .ensures))
+returns-2 c =
+    let at-put-sort-text = c .before .before in
+    let at-put-text2 = at-put-sort-text .before .before .before .before in
+    let at-if2 = at-put-text2 .before .before .before in
+    let at-if1 = at-if2 .before in
+    let start = at-if1 .before .before .before .before in
+    law.put-as (way.op-told (start .args .sorts .now) (start .args .counts .sorts) _ _ (at-if1 .if1 .left)
+    (at-if2 .if2 .taken)) (law.put-then (at-put-text2 .put-text2 .ensures)
+    (at-put-sort-text .put-sort-text .ensures))
 
 slice-aggregate-put-text-3 : tie.Need-slice-aggregate-put-text-3
 slice-aggregate-put-text-3 c = search needs
@@ -42,10 +54,21 @@ same-length-3 : tie.Need-same-length-3
 same-length-3 c = search needs
 
 returns-3 : tie.Need-returns-3
-returns-3 c = law.put-as (way.builtin-told (c .before .before .before .before .before .before .before .before .before .before .before .args .sorts .now) (c .before .before .before .before .before .before .before .before .before .before .before .args .counts .sorts) _ _ (c .before .before .before .before .before .before .before .if1 .left) (c .before .before .before .before .before .before .if2 .left) (c .before .before .before .before .before .if3 .taken)) (c .before .before .put-text3 .ensures)
+returns-3 c =
+    let at-put-text3 = c .before .before in
+    let at-if3 = at-put-text3 .before .before .before in
+    let at-if2 = at-if3 .before in
+    let at-if1 = at-if2 .before in
+    let start = at-if1 .before .before .before .before in
+    law.put-as (way.builtin-told (start .args .sorts .now) (start .args .counts .sorts) _ _ (at-if1 .if1 .left)
+    (at-if2 .if2 .left) (at-if3 .if3 .taken)) (at-put-text3 .put-text3 .ensures)
 
 returns-4 : tie.Need-returns-4
-returns-4 c = law.put-as (way.nothing-told (c .before .before .before .before .before .before .args .sorts .now) (c .before .before .before .before .before .before .args .counts .sorts) _ _ (c .before .before .if1 .left) (c .before .if2 .left) (c .if3 .left)) (law.put-none _ _)
+returns-4 c =
+    let at-if1 = c .before .before in
+    let start = at-if1 .before .before .before .before in
+    law.put-as (way.nothing-told (start .args .sorts .now) (start .args .counts .sorts) _ _ (at-if1 .if1 .left)
+    (c .before .if2 .left) (c .if3 .left)) (law.put-none _ _)
 
 pub put-target-spec : {M : Type 1} → statement M
 put-target-spec =

@@ -31,7 +31,11 @@ same-length c = search needs
 
 returns : tie.Need-returns
 unfolding typingText
-returns c = law.put-then (c .before .before .before .before .before .before .before .before .before .before .put-exprs .ensures) (law.put-then (c .before .before .before .before .before .before .put-measure .ensures) (c .before .before .put-choices .ensures))
+returns c =
+    let at-put-choices = c .before .before in
+    let at-put-measure = at-put-choices .before .before .before .before in
+    let at-put-exprs = at-put-measure .before .before .before .before in
+    law.put-then (at-put-exprs .put-exprs .ensures) (law.put-then (at-put-measure .put-measure .ensures) (at-put-choices .put-choices .ensures))
 
 pub put-typing-spec : {M : Type 1} → statement M
 put-typing-spec =

@@ -22,7 +22,13 @@ same-length c = search needs
 
 returns : tie.Need-returns
 unfolding verdictLine
-returns c = law.put-then (c .before .before .before .before .before .before .before .before .before .before .before .before .before .before .put-number .ensures) (law.put-then (c .before .before .before .before .before .before .before .before .before .before .put-byte .ensures) (law.put-then (c .before .before .before .before .before .before .put-message .ensures) (c .before .before .put-byte2 .ensures)))
+returns c =
+    let at-put-byte2 = c .before .before in
+    let at-put-message = at-put-byte2 .before .before .before .before in
+    let at-put-byte = at-put-message .before .before .before .before in
+    let at-put-number = at-put-byte .before .before .before .before in
+    law.put-then (at-put-number .put-number .ensures) (law.put-then (at-put-byte .put-byte .ensures)
+    (law.put-then (at-put-message .put-message .ensures) (at-put-byte2 .put-byte2 .ensures)))
 
 pub put-verdict-spec : {M : Type 1} → statement M
 put-verdict-spec =

@@ -24,8 +24,16 @@ all-set-spec =
     μ-loop
     (λ c. refl)
     (λ c. c .before .loop-test .taken)
-    (λ c. law.flag-open (c .before .before .before .before .args .flags .now) (c .before .before .before .loop .i) (c .before .before .loop-test .taken) (c .before .before .before .loop .inv) (not-true _ (c .if1 .taken)))
+    (λ c.
+    let at-loop-test = c .before .before in
+    let at-loop = at-loop-test .before in
+    let start = at-loop .before in
+    law.flag-open (start .args .flags .now) (at-loop .loop .i) (at-loop-test .loop-test .taken) (at-loop .loop .inv) (not-true _ (c .if1 .taken)))
     (λ c. search needs)
     (λ c. omega (arith, c .before .before .loop-test .taken))
-    (λ c. law.flag-passed (c .before .before .before .before .args .flags .now) (c .before .before .before .loop .i) (c .before .before .loop-test .taken) (c .before .before .before .loop .inv) (not-false _ (c .if1 .left)))
+    (λ c.
+    let at-loop-test = c .before .before in
+    let at-loop = at-loop-test .before in
+    let start = at-loop .before in
+    law.flag-passed (start .args .flags .now) (at-loop .loop .i) (at-loop-test .loop-test .taken) (at-loop .loop .inv) (not-false _ (c .if1 .left)))
     (λ c. law.flags-all (c .before .before .args .flags .now) (c .before .loop .i) (c .loop-test .left) (c .before .loop .inv)))

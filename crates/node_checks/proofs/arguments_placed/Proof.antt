@@ -30,8 +30,25 @@ arguments-placed-spec =
     (λ c. omega arith)
     (λ c κs. search needs)
     (λ c κs. search needs)
-    (λ c. below.tested-not (argPlaced (c .before .before .before .before .before .before .args .nodes .now) (c .before .before .before .before .before .before .args .n) (c .before .before .before .before .before .before .args .i) (c .before .before .before .before .before .before .args .start)) (c .before .before .before .before .loop .j) (c .before .is-place .result) (c .before .is-place .ensures ∙ ap (isPlace (c .before .before .before .before .before .before .args .n) (c .before .before .before .before .before .before .args .i)) (c .before .before .word .ensures)) (c .before .before .before .before .before .before .args .count) (c .before .before .before .loop-test .taken) (not-true _ (c .if1 .taken)))
+    (λ c.
+    let at-word = c .before .before in
+    let at-loop-test = at-word .before in
+    let at-loop = at-loop-test .before in
+    let start = at-loop .before .before in
+    let args = start .args in
+    below.tested-not (argPlaced (args .nodes .now) (args .n) (args .i) (args .start)) (at-loop .loop .j)
+    (c .before .is-place .result) (c .before .is-place .ensures ∙ ap (isPlace (args .n) (args .i))
+    (at-word .word .ensures)) (args .count) (at-loop-test .loop-test .taken) (not-true _ (c .if1 .taken)))
     (λ c. omega arith)
     (λ c. omega arith)
-    (λ c. (omega arith, below.tested-more (argPlaced (c .before .before .before .before .before .before .args .nodes .now) (c .before .before .before .before .before .before .args .n) (c .before .before .before .before .before .before .args .i) (c .before .before .before .before .before .before .args .start)) (c .before .before .before .before .loop .j) (c .before .is-place .result) (c .before .is-place .ensures ∙ ap (isPlace (c .before .before .before .before .before .before .args .n) (c .before .before .before .before .before .before .args .i)) (c .before .before .word .ensures)) (not-false _ (c .if1 .left)) (c .before .before .before .before .loop .inv .1)))
+    (λ c.
+    let at-word = c .before .before in
+    let at-loop = at-word .before .before in
+    let start = at-loop .before .before in
+    let args = start .args in (
+      omega arith,
+      below.tested-more (argPlaced (args .nodes .now) (args .n) (args .i) (args .start))
+          (at-loop .loop .j) (c .before .is-place .result) (c .before .is-place .ensures ∙ ap (isPlace (args .n)
+          (args .i)) (at-word .word .ensures)) (not-false _ (c .if1 .left)) (at-loop .loop .inv .1),
+    ))
     (λ c. below.allBelow-done _ _ (c .before .loop .j) (omega arith) (omega arith) (c .before .loop .inv .1)))

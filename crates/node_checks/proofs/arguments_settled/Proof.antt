@@ -28,8 +28,29 @@ arguments-settled-spec =
     (λ c. omega (arith, c .loop-test .taken))
     (λ c κs. search needs)
     (λ c κs. search needs)
-    (λ c. law.argument-open (c .before .before .before .before .before .before .before .args .nodes .now) (c .before .before .before .before .before .before .before .args .flags .now) (c .before .before .before .before .before .before .before .args .start) (c .before .before .before .before .before .before .before .args .count) (c .before .before .before .before .loop .j) (c .before .before .before .before .loop .inv) (c .before .before .before .loop-test .taken) (c .before .place-settled .result) (c .before .place-settled .ensures ∙ ap (placeSettled (c .before .before .before .before .before .before .before .args .flags .now)) (c .before .before .word .ensures)) (not-true _ (c .if1 .taken)))
+    (λ c.
+    let at-word = c .before .before in
+    let at-loop-test = at-word .before in
+    let at-loop = at-loop-test .before in
+    let start = at-loop .before .before .before in
+    let args = start .args in
+    law.argument-open (args .nodes .now) (args .flags .now) (args .start) (args .count) (at-loop .loop .j)
+    (at-loop .loop .inv) (at-loop-test .loop-test .taken) (c .before .place-settled .result)
+    (c .before .place-settled .ensures ∙ ap (placeSettled (args .flags .now)) (at-word .word .ensures))
+    (not-true _ (c .if1 .taken)))
     (λ c. omega (arith, c .before .before .before .loop-test .taken))
     (λ c. omega (arith, c .before .before .before .loop-test .taken))
-    (λ c. law.argument-passed (c .before .before .before .before .before .before .before .args .nodes .now) (c .before .before .before .before .before .before .before .args .flags .now) (c .before .before .before .before .before .before .before .args .start) (c .before .before .before .before .before .before .before .args .count) (c .before .before .before .before .loop .j) (c .before .before .before .before .loop .inv) (c .before .before .before .loop-test .taken) (c .before .place-settled .result) (c .before .place-settled .ensures ∙ ap (placeSettled (c .before .before .before .before .before .before .before .args .flags .now)) (c .before .before .word .ensures)) (not-false _ (c .if1 .left)))
-    (λ c. law.run-ends (c .before .before .before .before .args .nodes .now) (c .before .before .before .before .args .flags .now) (c .before .before .before .before .args .start) (c .before .before .before .before .args .count) (c .before .loop .j) (c .before .loop .inv) (c .loop-test .left)))
+    (λ c.
+    let at-word = c .before .before in
+    let at-loop-test = at-word .before in
+    let at-loop = at-loop-test .before in
+    let start = at-loop .before .before .before in
+    let args = start .args in
+    law.argument-passed (args .nodes .now) (args .flags .now) (args .start) (args .count) (at-loop .loop .j)
+    (at-loop .loop .inv) (at-loop-test .loop-test .taken) (c .before .place-settled .result)
+    (c .before .place-settled .ensures ∙ ap (placeSettled (args .flags .now)) (at-word .word .ensures))
+    (not-false _ (c .if1 .left)))
+    (λ c.
+    let start = c .before .before .before .before in
+    let args = start .args in
+    law.run-ends (args .nodes .now) (args .flags .now) (args .start) (args .count) (c .before .loop .j) (c .before .loop .inv) (c .loop-test .left)))

@@ -10,4 +10,7 @@ binding-fine-spec =
     (tie.spec
     (λ c. law.free-fine (c .before .args .n) (c .before .args .m) (c .before .args .w) (c .if1 .taken))
     (λ c κs. search needs)
-    (λ c. law.bound-fine (c .before .before .args .n) (c .before .before .args .m) (c .before .before .args .w) (c .before .if1 .left) _ (c .is-place .ensures)))
+    (λ c.
+    let start = c .before .before in
+    let args = start .args in
+    law.bound-fine (args .n) (args .m) (args .w) (c .before .if1 .left) _ (c .is-place .ensures)))

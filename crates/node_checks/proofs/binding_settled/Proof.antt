@@ -11,4 +11,6 @@ binding-settled-spec =
     (tie.spec
     (λ c. law.free-settled (c .before .before .args .flags .now) (c .before .before .args .w) (c .if1 .taken))
     (λ c κs. search needs)
-    (λ c. law.bound-settled (c .before .before .before .args .flags .now) (c .before .before .before .args .w) (c .before .if1 .left) _ (c .place-settled .ensures)))
+    (λ c.
+    let start = c .before .before .before in
+    law.bound-settled (start .args .flags .now) (start .args .w) (c .before .if1 .left) _ (c .place-settled .ensures)))

@@ -26,8 +26,27 @@ bindings-fine-spec =
     (λ c. law.none-passed _ _ _ _)
     (λ c κs. search needs)
     (λ c κs. search needs)
-    (λ c. law.bad-binding (c .before .before .before .before .before .before .args .binds .now) (c .before .before .before .before .before .before .args .v) (c .before .before .before .before .before .before .args .n) (c .before .before .before .before .before .before .args .m) (c .before .before .before .before .loop .i) (c .before .before .before .before .loop .inv) (c .before .before .before .loop-test .taken) (c .before .binding-fine .result) (c .before .binding-fine .ensures ∙ ap (λ w. bindingFine (c .before .before .before .before .before .before .args .n) (c .before .before .before .before .before .before .args .m) (bindingOf w)) (c .before .before .word .ensures)) (not-true _ (c .if1 .taken)))
+    (λ c.
+    let at-word = c .before .before in
+    let at-loop-test = at-word .before in
+    let at-loop = at-loop-test .before in
+    let start = at-loop .before .before in
+    let args = start .args in
+    law.bad-binding (args .binds .now) (args .v) (args .n) (args .m) (at-loop .loop .i) (at-loop .loop .inv)
+    (at-loop-test .loop-test .taken) (c .before .binding-fine .result) (c .before .binding-fine .ensures ∙ ap
+    (λ w. bindingFine (args .n) (args .m) (bindingOf w)) (at-word .word .ensures)) (not-true _ (c .if1 .taken)))
     (λ c. omega arith)
     (λ c. omega (arith, c .before .before .before .loop-test .taken))
-    (λ c. law.one-passed (c .before .before .before .before .before .before .args .binds .now) (c .before .before .before .before .before .before .args .v) (c .before .before .before .before .before .before .args .n) (c .before .before .before .before .before .before .args .m) (c .before .before .before .before .loop .i) (c .before .before .before .before .loop .inv) (c .before .before .before .loop-test .taken) (c .before .binding-fine .result) (c .before .binding-fine .ensures ∙ ap (λ w. bindingFine (c .before .before .before .before .before .before .args .n) (c .before .before .before .before .before .before .args .m) (bindingOf w)) (c .before .before .word .ensures)) (not-false _ (c .if1 .left)))
-    (λ c. law.all-passed (c .before .before .before .args .binds .now) (c .before .before .before .args .v) (c .before .before .before .args .n) (c .before .before .before .args .m) (c .before .loop .i) (c .before .loop .inv) (c .loop-test .left)))
+    (λ c.
+    let at-word = c .before .before in
+    let at-loop-test = at-word .before in
+    let at-loop = at-loop-test .before in
+    let start = at-loop .before .before in
+    let args = start .args in
+    law.one-passed (args .binds .now) (args .v) (args .n) (args .m) (at-loop .loop .i) (at-loop .loop .inv)
+    (at-loop-test .loop-test .taken) (c .before .binding-fine .result) (c .before .binding-fine .ensures ∙ ap
+    (λ w. bindingFine (args .n) (args .m) (bindingOf w)) (at-word .word .ensures)) (not-false _ (c .if1 .left)))
+    (λ c.
+    let start = c .before .before .before in
+    let args = start .args in
+    law.all-passed (args .binds .now) (args .v) (args .n) (args .m) (c .before .loop .i) (c .before .loop .inv) (c .loop-test .left)))

@@ -10,12 +10,32 @@ pub function-fine-spec : {M : Type 1} → statement M
 function-fine-spec =
     tie.close
     (tie.spec
-    (λ c. law.many-arguments (c .before .before .args .nodes .now) (c .before .before .args .d) (c .before .before .args .n) (c .before .before .args .v) (c .before .before .args .i) (c .before .before .args .domain) (c .before .before .args .range) (c .if1 .taken))
+    (λ c.
+    let start = c .before .before in
+    let args = start .args in
+    law.many-arguments (args .nodes .now) (args .d) (args .n) (args .v) (args .i) (args .domain) (args .range) (c .if1 .taken))
     (λ c. search needs)
     (λ c. search needs)
     (λ c. search needs)
-    (λ c. law.run-outside (c .before .before .before .args .nodes .now) (c .before .before .before .args .d) (c .before .before .before .args .n) (c .before .before .before .args .v) (c .before .before .before .args .i) (c .before .before .before .args .domain) (c .before .before .before .args .range) (c .before .if1 .left) (c .if2 .taken))
+    (λ c.
+    let start = c .before .before .before in
+    let args = start .args in
+    law.run-outside (args .nodes .now) (args .d) (args .n) (args .v) (args .i) (args .domain) (args .range) (c .before .if1 .left) (c .if2 .taken))
     (λ c κs. search needs)
-    (λ c. law.range-stray (c .before .before .before .before .before .args .nodes .now) (c .before .before .before .before .before .args .d) (c .before .before .before .before .before .args .n) (c .before .before .before .before .before .args .v) (c .before .before .before .before .before .args .i) (c .before .before .before .before .before .args .domain) (c .before .before .before .before .before .args .range) (c .before .before .before .if1 .left) (c .before .before .if2 .left) _ (c .before .is-place .ensures) (not-true _ (c .if3 .taken)))
+    (λ c.
+    let at-if2 = c .before .before in
+    let at-if1 = at-if2 .before in
+    let start = at-if1 .before .before in
+    let args = start .args in
+    law.range-stray (args .nodes .now) (args .d) (args .n) (args .v) (args .i) (args .domain) (args .range)
+    (at-if1 .if1 .left) (at-if2 .if2 .left) _ (c .before .is-place .ensures) (not-true _ (c .if3 .taken)))
     (λ c κs. search needs)
-    (λ c. law.by-arguments (c .before .before .before .before .before .before .args .nodes .now) (c .before .before .before .before .before .before .args .d) (c .before .before .before .before .before .before .args .n) (c .before .before .before .before .before .before .args .v) (c .before .before .before .before .before .before .args .i) (c .before .before .before .before .before .before .args .domain) (c .before .before .before .before .before .before .args .range) (c .before .before .before .before .if1 .left) (c .before .before .before .if2 .left) _ (c .before .before .is-place .ensures) (not-false _ (c .before .if3 .left)) _ (c .arguments-placed .ensures)))
+    (λ c.
+    let at-is-place = c .before .before in
+    let at-if2 = at-is-place .before in
+    let at-if1 = at-if2 .before in
+    let start = at-if1 .before .before in
+    let args = start .args in
+    law.by-arguments (args .nodes .now) (args .d) (args .n) (args .v) (args .i) (args .domain) (args .range)
+    (at-if1 .if1 .left) (at-if2 .if2 .left) _ (at-is-place .is-place .ensures)
+    (not-false _ (c .before .if3 .left)) _ (c .arguments-placed .ensures)))

@@ -15,8 +15,22 @@ node-fine-spec =
     (λ c. omega (arith, c .before .pre))
     (λ c κs. search needs)
     (λ c κs. search needs)
-    (λ c. law.unknown-kind (c .before .before .before .before .args .nodes .now) (c .before .before .before .before .args .d) (c .before .before .before .before .args .n) (c .before .before .before .before .args .v) (c .before .before .before .before .args .i) (c .before .kind-fine .result) (c .before .kind-fine .ensures ∙ ap nodeKindFine (c .before .before .word .ensures)) (not-true _ (c .if1 .taken)))
+    (λ c.
+    let at-word = c .before .before in
+    let start = at-word .before .before in
+    let args = start .args in
+    law.unknown-kind (args .nodes .now) (args .d) (args .n) (args .v) (args .i) (c .before .kind-fine .result)
+    (c .before .kind-fine .ensures ∙ ap nodeKindFine (at-word .word .ensures)) (not-true _ (c .if1 .taken)))
     (λ c. omega (arith, c .before .before .before .before .pre))
     (λ c κs. search needs)
     (λ c κs. search needs)
-    (λ c. law.kind-then-parts (c .before .before .before .before .before .before .args .nodes .now) (c .before .before .before .before .before .before .args .d) (c .before .before .before .before .before .before .args .n) (c .before .before .before .before .before .before .args .v) (c .before .before .before .before .before .before .args .i) (c .before .before .before .kind-fine .result) (c .before .before .before .kind-fine .ensures ∙ ap nodeKindFine (c .before .before .before .before .word .ensures)) (not-false _ (c .before .before .if1 .left)) _ (c .parts-fine .ensures ∙ ap (nodePartsFine (c .before .before .before .before .before .before .args .nodes .now) (c .before .before .before .before .before .before .args .d) (c .before .before .before .before .before .before .args .n) (c .before .before .before .before .before .before .args .v) (c .before .before .before .before .before .before .args .i)) (c .before .node .ensures))))
+    (λ c.
+    let at-if1 = c .before .before in
+    let at-kind-fine = at-if1 .before in
+    let at-word = at-kind-fine .before in
+    let start = at-word .before .before in
+    let args = start .args in
+    law.kind-then-parts (args .nodes .now) (args .d) (args .n) (args .v) (args .i) (at-kind-fine .kind-fine .result)
+    (at-kind-fine .kind-fine .ensures ∙ ap nodeKindFine (at-word .word .ensures))
+    (not-false _ (at-if1 .if1 .left)) _ (c .parts-fine .ensures ∙ ap (nodePartsFine (args .nodes .now) (args .d)
+    (args .n) (args .v) (args .i)) (c .before .node .ensures))))

@@ -26,8 +26,23 @@ nodes-fine-spec =
     μ-loop
     (λ c. (omega arith, below.allBelow-zero _))
     (λ c κs. omega (arith, c .loop-test .taken, c .before .before .before .pre))
-    (λ c. below.tested-not (nodeFine (c .before .before .before .before .before .args .nodes .now) (c .before .before .before .before .before .args .d) (c .before .before .before .before .before .args .n) (c .before .before .before .before .before .args .v)) (c .before .before .before .loop .i) (c .before .node-fine .result) (c .before .node-fine .ensures) (c .before .before .before .before .before .args .m) (c .before .before .loop-test .taken) (not-true _ (c .if1 .taken)))
+    (λ c.
+    let at-loop-test = c .before .before in
+    let at-loop = at-loop-test .before in
+    let start = at-loop .before .before in
+    let args = start .args in
+    below.tested-not (nodeFine (args .nodes .now) (args .d) (args .n) (args .v)) (at-loop .loop .i)
+    (c .before .node-fine .result) (c .before .node-fine .ensures) (args .m) (at-loop-test .loop-test .taken)
+    (not-true _ (c .if1 .taken)))
     (λ c. omega arith)
     (λ c. omega arith)
-    (λ c. (omega arith, below.tested-more (nodeFine (c .before .before .before .before .before .args .nodes .now) (c .before .before .before .before .before .args .d) (c .before .before .before .before .before .args .n) (c .before .before .before .before .before .args .v)) (c .before .before .before .loop .i) (c .before .node-fine .result) (c .before .node-fine .ensures) (not-false _ (c .if1 .left)) (c .before .before .before .loop .inv .1)))
+    (λ c.
+    let at-loop = c .before .before .before in
+    let start = at-loop .before .before in
+    let args = start .args in (
+      omega arith,
+      below.tested-more (nodeFine (args .nodes .now) (args .d) (args .n) (args .v)) (at-loop .loop .i)
+          (c .before .node-fine .result) (c .before .node-fine .ensures) (not-false _ (c .if1 .left))
+          (at-loop .loop .inv .1),
+    ))
     (λ c. below.allBelow-done _ _ (c .before .loop .i) (omega arith) (omega arith) (c .before .loop .inv .1)))

@@ -10,9 +10,25 @@ nodes-within-lent-spec =
     tie.close
     (tie.spec
     (λ c. law.nodes-above (c .before .args .nodes .now) (c .before .args .m) (c .before .args .d) (c .if1 .taken))
-    (λ c. law.entries-above (c .before .before .args .nodes .now) (c .before .before .args .m) (c .before .before .args .d) (c .if2 .taken))
+    (λ c.
+    let start = c .before .before in
+    let args = start .args in
+    law.entries-above (args .nodes .now) (args .m) (args .d) (c .if2 .taken))
     (λ c. omega (arith, c .before .if1 .left))
-    (λ c. law.words-short (c .before .before .before .args .nodes .now) (c .before .before .before .args .m) (c .before .before .before .args .d) (c .if3 .taken))
-    (λ c. law.no-entries (c .before .before .before .before .args .nodes .now) (c .before .before .before .before .args .m) (c .before .before .before .before .args .d) (c .before .before .before .if1 .left) (c .before .before .if2 .left) (c .before .if3 .left) (c .if4 .taken))
+    (λ c.
+    let start = c .before .before .before in
+    let args = start .args in
+    law.words-short (args .nodes .now) (args .m) (args .d) (c .if3 .taken))
+    (λ c.
+    let at-if2 = c .before .before in
+    let at-if1 = at-if2 .before in
+    let start = at-if1 .before in
+    let args = start .args in
+    law.no-entries (args .nodes .now) (args .m) (args .d) (at-if1 .if1 .left) (at-if2 .if2 .left) (c .before .if3 .left) (c .if4 .taken))
     (λ c. omega (arith, c .before .before .if2 .left))
-    (λ c. law.by-entries (c .before .before .before .before .args .nodes .now) (c .before .before .before .before .args .m) (c .before .before .before .before .args .d) (c .before .before .before .if1 .left) (c .before .before .if2 .left) (c .before .if3 .left) (c .if4 .left)))
+    (λ c.
+    let at-if2 = c .before .before in
+    let at-if1 = at-if2 .before in
+    let start = at-if1 .before in
+    let args = start .args in
+    law.by-entries (args .nodes .now) (args .m) (args .d) (at-if1 .if1 .left) (at-if2 .if2 .left) (c .before .if3 .left) (c .if4 .left)))

@@ -17,6 +17,18 @@ parts-fine-spec =
     (λ c κs. search needs)
     (λ c. search needs)
     (λ c. search needs)
-    (λ c. law.generic-fine (c .before .before .before .before .before .args .nodes .now) (c .before .before .before .before .before .args .d) (c .before .before .before .before .before .args .n) (c .before .before .before .before .before .args .v) (c .before .before .before .before .before .args .i) (c .before .before .before .before .before .args .says) _ _ _ (c .before .before .says .given .1) (c .is-place .ensures))
-    (λ c. law.function-is (c .before .before .before .before .before .args .nodes .now) (c .before .before .before .before .before .args .d) (c .before .before .before .before .before .args .n) (c .before .before .before .before .before .args .v) (c .before .before .before .before .before .args .i) (c .before .before .before .before .before .args .says) _ _ _ (c .before .before .says2 .given .1) (c .function-fine .ensures))
-    (λ c. law.variable-fine (c .before .before .before .before .before .args .nodes .now) (c .before .before .before .before .before .args .d) (c .before .before .before .before .before .args .n) (c .before .before .before .before .before .args .v) (c .before .before .before .before .before .args .i) (c .before .before .before .before .before .args .says) _ (c .before .before .says3 .given .1)))
+    (λ c.
+    let at-says = c .before .before in
+    let start = at-says .before .before .before in
+    let args = start .args in
+    law.generic-fine (args .nodes .now) (args .d) (args .n) (args .v) (args .i) (args .says) _ _ _ (at-says .says .given .1) (c .is-place .ensures))
+    (λ c.
+    let at-says2 = c .before .before in
+    let start = at-says2 .before .before .before in
+    let args = start .args in
+    law.function-is (args .nodes .now) (args .d) (args .n) (args .v) (args .i) (args .says) _ _ _ (at-says2 .says2 .given .1) (c .function-fine .ensures))
+    (λ c.
+    let at-says3 = c .before .before in
+    let start = at-says3 .before .before .before in
+    let args = start .args in
+    law.variable-fine (args .nodes .now) (args .d) (args .n) (args .v) (args .i) (args .says) _ (at-says3 .says3 .given .1)))

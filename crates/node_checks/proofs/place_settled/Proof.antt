@@ -12,4 +12,6 @@ place-settled-spec =
     (λ c. law.sort-is-settled (c .before .before .args .flags .now) (c .before .before .args .place) (c .if1 .taken))
     (λ c. search needs)
     (λ c κs. search needs)
-    (λ c. law.flag-settles (c .before .before .before .args .flags .now) (c .before .before .before .args .place) (c .before .if1 .left) _ (c .flag .ensures)))
+    (λ c.
+    let start = c .before .before .before in
+    law.flag-settles (start .args .flags .now) (start .args .place) (c .before .if1 .left) _ (c .flag .ensures)))

@@ -22,14 +22,45 @@ settle-nodes-spec =
     (tie.spec
     Inv-loop
     μ-loop
-    (λ c. (omega arith, refl, law.none-of-nodes (c .before .before .before .args .nodes .now) (c .before .before .before .args .vars .now) (c .before .before .before .args .flags .now)))
+    (λ c.
+    let start = c .before .before .before in
+    let args = start .args in
+    (omega arith, refl, law.none-of-nodes (args .nodes .now) (args .vars .now) (args .flags .now)))
     (λ c. omega (arith, c .loop-test .taken, c .before .before .before .before .before .pre .1, c .before .loop .inv .1))
-    (λ c. sym (length-take-le (c .before .before .loop .i) (c .before .before .loop .flags) (omega (arith, c .before .loop-test .taken, c .before .before .before .before .before .before .pre .1, c .before .before .loop .inv .1))))
+    (λ c.
+    let at-loop = c .before .before in
+    let start = at-loop .before .before .before .before in
+    sym (length-take-le (at-loop .loop .i) (at-loop .loop .flags) (omega (arith, c .before .loop-test .taken, start .pre .1, at-loop .loop .inv .1))))
     (λ c. omega (arith, c .before .loop-test .taken, c .before .before .before .before .before .before .pre .0))
     (λ c κs. search needs)
-    (λ c. omega (arith, c .before .before .loop-test .taken, c .before .before .before .before .before .before .before .pre .1, c .before .before .before .loop .inv .1))
+    (λ c.
+    let at-loop-test = c .before .before in
+    let at-loop = at-loop-test .before in
+    let start = at-loop .before .before .before .before in
+    omega (arith, at-loop-test .loop-test .taken, start .pre .1, at-loop .loop .inv .1))
     (λ c. omega (arith, c .before .before .loop-test .taken))
     (λ c. omega (arith, c .before .before .loop-test .taken))
-    (λ c. (omega (arith, c .before .before .loop-test .taken), length-set (c .before .before .before .loop .flags) (c .before .before .before .loop .i) _ ∙ c .before .before .before .loop .inv .1, law.one-more-node (c .before .before .before .before .before .before .before .args .nodes .now) (c .before .before .before .before .before .before .before .args .vars .now) (c .before .before .before .loop .flags) (c .before .before .before .loop .i) (omega (arith, c .before .before .loop-test .taken, c .before .before .before .before .before .before .before .pre .1, c .before .before .before .loop .inv .1)) (c .before .before .before .loop .inv .2) _ (c .node-settled .ensures)))
+    (λ c.
+    let at-loop-test = c .before .before in
+    let at-loop = at-loop-test .before in
+    let start = at-loop .before .before .before .before in (
+      omega (arith, at-loop-test .loop-test .taken),
+      length-set (at-loop .loop .flags) (at-loop .loop .i) _ ∙
+          at-loop .loop .inv .1,
+      law.one-more-node (start .args .nodes .now) (start .args .vars .now)
+          (at-loop .loop .flags) (at-loop .loop .i) (omega (
+            arith,
+            at-loop-test .loop-test .taken,
+            start .pre .1,
+            at-loop .loop .inv .1,
+          )) (at-loop .loop .inv .2) _ (c .node-settled .ensures),
+    ))
     (λ c. c .before .loop .inv .1)
-    (λ c. ap (λ (j : ℕ). take j (c .before .loop .flags)) (let z : c .before .before .before .before .before .args .m ≡ c .before .loop .i = omega (arith, c .loop-test .left, c .before .loop .inv .0) in z) ∙ (c .before .loop .inv .2 ∙ ap (nodesSettled (c .before .before .before .before .before .args .nodes .now) (c .before .before .before .before .before .args .vars .now)) (let z : c .before .loop .i ≡ c .before .before .before .before .before .args .m = omega (arith, c .loop-test .left, c .before .loop .inv .0) in z))))
+    (λ c.
+    let at-loop = c .before in
+    let start = at-loop .before .before .before .before in
+    let args = start .args in
+    ap (λ (j : ℕ). take j (at-loop .loop .flags)) (let z : args .m ≡ at-loop .loop .i = omega
+    (arith, c .loop-test .left, at-loop .loop .inv .0) in z) ∙ (at-loop .loop .inv .2 ∙ ap
+    (nodesSettled (args .nodes .now) (args .vars .now)) (let z : at-loop .loop .i ≡ args .m = omega
+    (arith, c .loop-test .left, at-loop .loop .inv .0) in z))))

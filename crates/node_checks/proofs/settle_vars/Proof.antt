@@ -25,9 +25,30 @@ settle-vars-spec =
     (λ c. (omega arith, refl, refl))
     (λ c κs. search needs)
     (λ c κs. search needs)
-    (λ c. omega (arith, c .before .before .loop-test .taken, c .before .before .before .before .before .before .before .pre, c .before .before .before .loop .inv .1))
+    (λ c.
+    let at-loop-test = c .before .before in
+    let at-loop = at-loop-test .before in
+    let start = at-loop .before .before .before .before in
+    omega (arith, at-loop-test .loop-test .taken, start .pre, at-loop .loop .inv .1))
     (λ c. omega (arith, c .before .before .loop-test .taken))
     (λ c. omega (arith, c .before .before .loop-test .taken))
-    (λ c. (omega (arith, c .before .before .loop-test .taken), length-set (c .before .before .before .loop .vars) (c .before .before .before .loop .x) _ ∙ c .before .before .before .loop .inv .1, law.one-more-var (c .before .before .before .before .before .before .before .args .binds .now) (c .before .before .before .before .before .before .before .args .v) (c .before .before .before .before .before .before .before .args .flags .now) (c .before .before .before .loop .vars) (c .before .before .before .loop .x) (c .before .before .loop-test .taken) (omega (arith, c .before .before .before .before .before .before .before .pre, c .before .before .before .loop .inv .1)) (c .before .before .before .loop .inv .2) _ (c .binding-settled .ensures ∙ ap (λ w. bindingSettled (c .before .before .before .before .before .before .before .args .flags .now) (bindingOf w)) (c .before .word .ensures))))
+    (λ c.
+    let at-loop-test = c .before .before in
+    let at-loop = at-loop-test .before in
+    let start = at-loop .before .before .before .before in
+    let args = start .args in (
+      omega (arith, at-loop-test .loop-test .taken),
+      length-set (at-loop .loop .vars) (at-loop .loop .x) _ ∙
+          at-loop .loop .inv .1,
+      law.one-more-var (args .binds .now) (args .v) (args .flags .now) (at-loop .loop .vars)
+          (at-loop .loop .x) (at-loop-test .loop-test .taken) (omega (arith, start .pre, at-loop .loop .inv .1))
+          (at-loop .loop .inv .2) _ (c .binding-settled .ensures ∙ ap (λ w. bindingSettled (args .flags .now)
+          (bindingOf w)) (c .before .word .ensures)),
+    ))
     (λ c. c .before .loop .inv .1)
-    (λ c. law.all-vars (c .before .before .before .before .before .args .binds .now) (c .before .before .before .before .before .args .v) (c .before .before .before .before .before .args .flags .now) (c .before .loop .vars) (c .before .loop .x) (omega (arith, c .loop-test .left, c .before .loop .inv .0)) (c .before .loop .inv .2)))
+    (λ c.
+    let at-loop = c .before in
+    let start = at-loop .before .before .before .before in
+    let args = start .args in
+    law.all-vars (args .binds .now) (args .v) (args .flags .now) (at-loop .loop .vars) (at-loop .loop .x)
+    (omega (arith, c .loop-test .left, at-loop .loop .inv .0)) (at-loop .loop .inv .2)))

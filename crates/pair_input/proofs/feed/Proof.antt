@@ -26,10 +26,23 @@ feed-spec =
     (λ c. c .before .before .loop .inv .out-long)
     (λ c. law.fed-full _ _ _ _ _ _ _ _ _ (c .before .before .loop .inv) (c .before .loop-test .taken) (c .if1 .taken))
     (λ c. c .before .before .before .loop-test .taken)
-    (λ c κs. law.byte-room _ _ _ _ _ _ _ _ _ (c .before .before .before .before .before .loop .inv) (c .before .before .before .before .loop-test .taken) (c .before .before .before .if1 .left))
-    (λ c. omega (arith, c .before .before .before .before .before .before .before .before .before .loop-test .taken, c .before .before .before .before .before .before .before .before .before .before .before .before .before .before .good .1 .1 .0))
+    (λ c κs.
+    let at-if1 = c .before .before .before in
+    let at-loop-test = at-if1 .before in
+    let at-loop = at-loop-test .before in
+    law.byte-room _ _ _ _ _ _ _ _ _ (at-loop .loop .inv) (at-loop-test .loop-test .taken) (at-if1 .if1 .left))
+    (λ c.
+    let at-loop-test = c .before .before .before .before .before .before .before .before .before in
+    let at-good = at-loop-test .before .before .before .before .before in
+    omega (arith, at-loop-test .loop-test .taken, at-good .good .1 .1 .0))
     (λ c. omega (arith, c .before .before .before .before .before .before .before .before .before .loop-test .taken))
-    (λ c. law.byte-fed _ _ _ _ _ _ _ _ _ (c .before .before .before .before .before .before .before .before .before .before .loop .inv) (c .before .before .before .before .before .before .before .before .before .loop-test .taken) (c .before .before .before .before .before .before .before .before .if1 .left) _ _ _ _ (c .before .before .before .before .take-byte .kept .0) (c .before .before .before .before .take-byte .ensures))
+    (λ c.
+    let at-take-byte = c .before .before .before .before in
+    let at-if1 = at-take-byte .before .before .before .before in
+    let at-loop-test = at-if1 .before in
+    let at-loop = at-loop-test .before in
+    law.byte-fed _ _ _ _ _ _ _ _ _ (at-loop .loop .inv) (at-loop-test .loop-test .taken) (at-if1 .if1 .left) _ _ _ _
+    (at-take-byte .take-byte .kept .0) (at-take-byte .take-byte .ensures))
     (λ c. c .before .loop .inv .memory-long)
     (λ c. c .before .loop .inv .out-long)
     (λ c. law.all-fed _ _ _ _ _ _ _ _ _ (c .before .loop .inv) (c .loop-test .left)))

@@ -12,16 +12,57 @@ finish-spec =
     tie.close
     (tie.spec
     (λ c. search needs)
-    (λ c. law.none-left (c .before .before .before .before .before .before .args .memory .now) (c .before .before .before .before .before .before .args .held) (c .before .before .before .before .before .before .args .out .now) (c .before .before .before .before .before .before .pre .0) _ (c .before .before .held .given .1) (c .if1 .taken))
-    (λ c. sym (length-take-le _ (c .before .before .before .before .before .before .before .args .memory .now) (law.first-inside (c .before .before .before .before .before .before .before .args .memory .now) (c .before .before .before .before .before .before .before .args .held) (c .before .before .before .before .before .before .before .args .out .now) (c .before .before .before .before .before .before .before .pre .0) _ (c .before .before .before .held .given .1))))
+    (λ c.
+    let at-held = c .before .before in
+    let start = at-held .before .before .before .before in
+    let args = start .args in
+    law.none-left (args .memory .now) (args .held) (args .out .now) (start .pre .0) _ (at-held .held .given .1) (c .if1 .taken))
+    (λ c.
+    let at-held = c .before .before .before in
+    let start = at-held .before .before .before .before in
+    let args = start .args in
+    sym (length-take-le _ (args .memory .now) (law.first-inside (args .memory .now) (args .held) (args .out .now) (start .pre .0) _ (at-held .held .given .1))))
     (λ c κs. search needs)
     (λ c. search needs)
-    (λ c. sym (length-take-le _ (c .before .before .before .before .before .before .before .args .memory .now) (omega (arith, law.pair-inside (c .before .before .before .before .before .before .before .args .memory .now) (c .before .before .before .before .before .before .before .args .held) (c .before .before .before .before .before .before .before .args .out .now) (c .before .before .before .before .before .before .before .pre .0) _ _ (c .before .before .before .held2 .given .1)))))
+    (λ c.
+    let at-held2 = c .before .before .before in
+    let start = at-held2 .before .before .before .before in
+    let args = start .args in
+    sym (length-take-le _ (args .memory .now) (omega (
+      arith,
+      law.pair-inside (args .memory .now) (args .held)
+          (args .out .now) (start .pre .0) _ _ (at-held2 .held2 .given .1),
+    ))))
     (λ c κs. search needs)
     (λ c. search needs)
-    (λ c. law.single-left (c .before .before .before .before .before .before .before .before .before .before .before .args .memory .now) (c .before .before .before .before .before .before .before .before .before .before .before .args .held) (c .before .before .before .before .before .before .before .before .before .before .before .args .out .now) (c .before .before .before .before .before .before .before .before .before .before .before .pre .0) _ _ (c .before .before .before .before .before .before .before .held2 .given .1) (c .before .before .before .before .before .if2 .taken) _ _ (c .before .before .put-single2 .ensures))
-    (λ c κs. (law.pair-inside (c .before .before .before .before .before .before .before .args .memory .now) (c .before .before .before .before .before .before .before .args .held) (c .before .before .before .before .before .before .before .args .out .now) (c .before .before .before .before .before .before .before .pre .0) _ _ (c .before .before .before .held2 .given .1), c .before .before .before .before .before .before .before .pre .1))
+    (λ c.
+    let at-put-single2 = c .before .before in
+    let at-if2 = at-put-single2 .before .before .before in
+    let at-held2 = at-if2 .before .before in
+    let start = at-held2 .before .before .before .before in
+    let args = start .args in
+    law.single-left (args .memory .now) (args .held) (args .out .now) (start .pre .0) _ _ (at-held2 .held2 .given .1)
+    (at-if2 .if2 .taken) _ _ (at-put-single2 .put-single2 .ensures))
+    (λ c κs.
+    let at-held2 = c .before .before .before in
+    let start = at-held2 .before .before .before .before in
+    let args = start .args in
+    (law.pair-inside (args .memory .now) (args .held) (args .out .now) (start .pre .0) _ _ (at-held2 .held2 .given .1), start .pre .1))
     (λ c. search needs)
-    (λ c. law.one-left (c .before .before .before .before .before .before .before .before .before .before .before .args .memory .now) (c .before .before .before .before .before .before .before .before .before .before .before .args .held) (c .before .before .before .before .before .before .before .before .before .before .before .args .out .now) (c .before .before .before .before .before .before .before .before .before .before .before .pre .0) _ (c .before .before .before .before .before .before .before .held .given .1) (c .before .before .before .before .before .if1 .left) _ _ (c .before .before .put-single .ensures))
+    (λ c.
+    let at-put-single = c .before .before in
+    let at-if1 = at-put-single .before .before .before in
+    let at-held = at-if1 .before .before in
+    let start = at-held .before .before .before .before in
+    let args = start .args in
+    law.one-left (args .memory .now) (args .held) (args .out .now) (start .pre .0) _ (at-held .held .given .1)
+    (at-if1 .if1 .left) _ _ (at-put-single .put-single .ensures))
     (λ c. search needs)
-    (λ c. law.pair-left (c .before .before .before .before .before .before .before .before .before .before .args .memory .now) (c .before .before .before .before .before .before .before .before .before .before .args .held) (c .before .before .before .before .before .before .before .before .before .before .args .out .now) (c .before .before .before .before .before .before .before .before .before .before .pre .0) _ _ (c .before .before .before .before .before .before .held2 .given .1) (c .before .before .before .before .if2 .left) _ _ (c .before .before .put-held .ensures)))
+    (λ c.
+    let at-put-held = c .before .before in
+    let at-if2 = at-put-held .before .before in
+    let at-held2 = at-if2 .before .before in
+    let start = at-held2 .before .before .before .before in
+    let args = start .args in
+    law.pair-left (args .memory .now) (args .held) (args .out .now) (start .pre .0) _ _ (at-held2 .held2 .given .1)
+    (at-if2 .if2 .left) _ _ (at-put-held .put-held .ensures)))

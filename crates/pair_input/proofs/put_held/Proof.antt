@@ -15,11 +15,19 @@ pub put-held-spec : {M : Type 1} → statement M
 put-held-spec =
     tie.close
     (tie.spec
-    (λ c. sym (length-take-le (c .before .before .before .args .first) (c .before .before .before .args .memory .now) (omega (arith, c .before .before .before .pre .0))))
+    (λ c.
+    let start = c .before .before .before in
+    sym (length-take-le (start .args .first) (start .args .memory .now) (omega (arith, start .pre .0))))
     (λ c. search needs)
     (λ c. search needs)
     (λ c. search needs)
     (λ c. search needs)
     (λ c κs. search needs)
     (λ c. search needs)
-    (λ c. put-as (let e : c .before .before .before .before .before .before .before .before .args .first + c .before .before .before .before .before .before .before .before .args .second - c .before .before .before .before .before .before .before .before .args .first ≡ c .before .before .before .before .before .before .before .before .args .second = omega arith in ap (λ k. withLf (pair (take (c .before .before .before .before .before .before .before .before .args .first) (c .before .before .before .before .before .before .before .before .args .memory .now)) (take k (drop (c .before .before .before .before .before .before .before .before .args .first) (c .before .before .before .before .before .before .before .before .args .memory .now))))) e) (c .before .before .put-pair .ensures)))
+    (λ c.
+    let at-put-pair = c .before .before in
+    let start = at-put-pair .before .before .before .before .before .before in
+    let args = start .args in
+    put-as (let e : args .first + args .second - args .first ≡ args .second = omega arith in ap
+    (λ k. withLf (pair (take (args .first) (args .memory .now))
+    (take k (drop (args .first) (args .memory .now))))) e) (at-put-pair .put-pair .ensures)))

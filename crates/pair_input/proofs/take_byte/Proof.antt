@@ -10,15 +10,61 @@ take-byte-spec =
     tie.close
     (tie.spec
     (λ c. search needs)
-    (λ c. law.first-ends (c .before .before .before .before .before .before .args .memory .now) (c .before .before .before .before .before .before .args .held) (c .before .before .before .before .before .before .args .byte) (c .before .before .before .before .before .before .args .out .now) (c .before .before .before .before .before .before .args .at) (c .before .before .before .before .before .before .pre .0) _ (c .before .before .held .given .1) (c .if1 .taken))
-    (λ c κs. (omega arith, law.first-few (c .before .before .before .before .before .before .before .args .memory .now) (c .before .before .before .before .before .before .before .args .held) (c .before .before .before .before .before .before .before .args .byte) (c .before .before .before .before .before .before .before .args .out .now) (c .before .before .before .before .before .before .before .args .at) (c .before .before .before .before .before .before .before .pre .0) _ (c .before .before .before .held .given .1), c .before .before .before .before .before .before .before .pre .0 .long))
+    (λ c.
+    let at-held = c .before .before in
+    let start = at-held .before .before .before .before in
+    let args = start .args in
+    law.first-ends (args .memory .now) (args .held) (args .byte) (args .out .now) (args .at) (start .pre .0) _ (at-held .held .given .1) (c .if1 .taken))
+    (λ c κs.
+    let at-held = c .before .before .before in
+    let start = at-held .before .before .before .before in
+    let args = start .args in (
+      omega arith,
+      law.first-few (args .memory .now) (args .held) (args .byte) (args .out .now) (args .at)
+          (start .pre .0) _ (at-held .held .given .1),
+      start .pre .0 .long,
+    ))
     (λ c. search needs)
-    (λ c κs. (law.both-inside (c .before .before .before .before .before .before .before .before .args .memory .now) (c .before .before .before .before .before .before .before .before .args .held) (c .before .before .before .before .before .before .before .before .args .byte) (c .before .before .before .before .before .before .before .before .args .out .now) (c .before .before .before .before .before .before .before .before .args .at) (c .before .before .before .before .before .before .before .before .pre .0) _ _ (c .before .before .before .before .held2 .given .1), c .before .before .before .before .before .before .before .before .pre .1))
+    (λ c κs.
+    let at-held2 = c .before .before .before .before in
+    let start = at-held2 .before .before .before .before in
+    let args = start .args in
+    (law.both-inside (args .memory .now) (args .held) (args .byte) (args .out .now) (args .at) (start .pre .0) _ _ (at-held2 .held2 .given .1), start .pre .1))
     (λ c. search needs)
     (λ c. search needs)
-    (λ c. law.second-ends (c .before .before .before .before .before .before .before .before .before .before .before .args .memory .now) (c .before .before .before .before .before .before .before .before .before .before .before .args .held) (c .before .before .before .before .before .before .before .before .before .before .before .args .byte) (c .before .before .before .before .before .before .before .before .before .before .before .args .out .now) (c .before .before .before .before .before .before .before .before .before .before .before .args .at) (c .before .before .before .before .before .before .before .before .before .before .before .pre .0) _ _ (c .before .before .before .before .before .before .before .held2 .given .1) (c .before .before .before .before .before .if2 .taken) _ _ (c .before .before .put-held .ensures))
-    (λ c κs. (law.second-few (c .before .before .before .before .before .before .before .args .memory .now) (c .before .before .before .before .before .before .before .args .held) (c .before .before .before .before .before .before .before .args .byte) (c .before .before .before .before .before .before .before .args .out .now) (c .before .before .before .before .before .before .before .args .at) (c .before .before .before .before .before .before .before .pre .0) _ _ (c .before .before .before .held2 .given .1) .0, law.second-few (c .before .before .before .before .before .before .before .args .memory .now) (c .before .before .before .before .before .before .before .args .held) (c .before .before .before .before .before .before .before .args .byte) (c .before .before .before .before .before .before .before .args .out .now) (c .before .before .before .before .before .before .before .args .at) (c .before .before .before .before .before .before .before .pre .0) _ _ (c .before .before .before .held2 .given .1) .1, c .before .before .before .before .before .before .before .pre .0 .long))
+    (λ c.
+    let at-put-held = c .before .before in
+    let at-if2 = at-put-held .before .before .before in
+    let at-held2 = at-if2 .before .before in
+    let start = at-held2 .before .before .before .before in
+    let args = start .args in
+    law.second-ends (args .memory .now) (args .held) (args .byte) (args .out .now) (args .at) (start .pre .0) _ _
+    (at-held2 .held2 .given .1) (at-if2 .if2 .taken) _ _ (at-put-held .put-held .ensures))
+    (λ c κs.
+    let at-held2 = c .before .before .before in
+    let start = at-held2 .before .before .before .before in
+    let args = start .args in (
+      law.second-few (args .memory .now) (args .held) (args .byte) (args .out .now) (args .at) (start .pre .0) _ _
+          (at-held2 .held2 .given .1) .0,
+      law.second-few (args .memory .now) (args .held) (args .byte) (args .out .now)
+          (args .at) (start .pre .0) _ _ (at-held2 .held2 .given .1) .1,
+      start .pre .0 .long,
+    ))
     (λ c. search needs)
-    (λ c. law.first-goes-on (c .before .before .before .before .before .before .before .before .before .before .args .memory .now) (c .before .before .before .before .before .before .before .before .before .before .args .held) (c .before .before .before .before .before .before .before .before .before .before .args .byte) (c .before .before .before .before .before .before .before .before .before .before .args .out .now) (c .before .before .before .before .before .before .before .before .before .before .args .at) (c .before .before .before .before .before .before .before .before .before .before .pre .0) _ (c .before .before .before .before .before .before .held .given .1) (c .before .before .before .before .if1 .left) _ _ (c .before .before .hold .kept .0) (c .before .before .hold .ensures))
+    (λ c.
+    let at-hold = c .before .before in
+    let at-if1 = at-hold .before .before in
+    let at-held = at-if1 .before .before in
+    let start = at-held .before .before .before .before in
+    let args = start .args in
+    law.first-goes-on (args .memory .now) (args .held) (args .byte) (args .out .now) (args .at) (start .pre .0) _
+    (at-held .held .given .1) (at-if1 .if1 .left) _ _ (at-hold .hold .kept .0) (at-hold .hold .ensures))
     (λ c. search needs)
-    (λ c. law.second-goes-on (c .before .before .before .before .before .before .before .before .before .before .args .memory .now) (c .before .before .before .before .before .before .before .before .before .before .args .held) (c .before .before .before .before .before .before .before .before .before .before .args .byte) (c .before .before .before .before .before .before .before .before .before .before .args .out .now) (c .before .before .before .before .before .before .before .before .before .before .args .at) (c .before .before .before .before .before .before .before .before .before .before .pre .0) _ _ (c .before .before .before .before .before .before .held2 .given .1) (c .before .before .before .before .if2 .left) _ _ (c .before .before .hold2 .kept .0) (c .before .before .hold2 .ensures)))
+    (λ c.
+    let at-hold2 = c .before .before in
+    let at-if2 = at-hold2 .before .before in
+    let at-held2 = at-if2 .before .before in
+    let start = at-held2 .before .before .before .before in
+    let args = start .args in
+    law.second-goes-on (args .memory .now) (args .held) (args .byte) (args .out .now) (args .at) (start .pre .0) _ _
+    (at-held2 .held2 .given .1) (at-if2 .if2 .left) _ _ (at-hold2 .hold2 .kept .0) (at-hold2 .hold2 .ensures)))

@@ -11,4 +11,8 @@ pair-spec =
     (λ c. law.buffer-short _ _ (c .if1 .taken))
     (λ c κs. search needs)
     (λ c. search needs)
-    (λ c. law.line-left _ _ (c .before .before .before .before .if1 .left) (law.pair-has-room (c .before .before .before .before .before .before .before .before .args .first .now) (c .before .before .before .before .before .before .before .before .args .second .now)) _ _ (c .before .before .put-pair .ensures)))
+    (λ c.
+    let at-put-pair = c .before .before in
+    let at-if1 = at-put-pair .before .before in
+    let start = at-if1 .before .before .before .before in
+    law.line-left _ _ (at-if1 .if1 .left) (law.pair-has-room (start .args .first .now) (start .args .second .now)) _ _ (at-put-pair .put-pair .ensures)))

@@ -30,4 +30,5 @@ put-order-spec =
     (λ c. search needs)
     (λ c. put-as (ap (λ o. sign o ∷ comma []) (sym (c .before .before .before .before .before .enum-told3 .given .1))) (c .before .before .put-bytes3 .ensures))
     (λ c. search needs)
-    (λ c. put-as (ap (λ o. sign o ∷ comma []) (sym (c .before .before .before .before .before .enum-told4 .given .1))) (c .before .before .put-bytes4 .ensures)))
+    (λ c. put-as (ap (λ o. sign o ∷ comma []) (sym (c .before .before .before .before .before .enum-told4 .given .1)))
+    (c .before .before .put-bytes4 .ensures)))

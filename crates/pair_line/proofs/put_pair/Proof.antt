@@ -14,6 +14,9 @@ put-pair-spec =
     (λ c. search needs)
     (λ c κs. search needs)
     (λ c. search needs)
-    (λ c κs. (subst (λ us. Begun us 6 0 0) (sym (c .before .before .before .six .ensures)) (six-begun _ (omega arith)), c .before .before .before .before .before .before .before .before .pre))
+    (λ c κs.
+    let at-six = c .before .before .before in
+    let start = at-six .before .before .before .before .before in
+    (subst (λ us. Begun us 6 0 0) (sym (at-six .six .ensures)) (six-begun _ (omega arith)), start .pre))
     (λ c. search needs)
     (λ c. search needs))

@@ -13,23 +13,61 @@ put-second-spec =
     (λ c. search needs)
     (λ c κs. search needs)
     (λ c. search needs)
-    (λ c. law.second-long _ _ _ _ _ _ _ (c .before .before .before .before .before .before .before .before .before .pre) (c .before .before .before .before .before .if1 .taken) _ _ (c .before .before .put-bytes .ensures))
+    (λ c.
+    let at-put-bytes = c .before .before in
+    let at-if1 = at-put-bytes .before .before .before in
+    let start = at-if1 .before .before .before .before in
+    law.second-long _ _ _ _ _ _ _ (start .pre) (at-if1 .if1 .taken) _ _ (at-put-bytes .put-bytes .ensures))
     (λ c. search needs)
     (λ c. search needs)
-    (λ c κs. read.passes _ _ _ 200 _ (c .before .before .before .before .before .before .before .pre .begun) (omega arith) (c .before .before .before .if1 .left))
+    (λ c κs.
+    let at-if1 = c .before .before .before in
+    let start = at-if1 .before .before .before .before in
+    read.passes _ _ _ 200 _ (start .pre .begun) (omega arith) (at-if1 .if1 .left))
     (λ c. search needs)
-    (λ c κs. law.both-read _ _ _ _ _ _ _ (c .before .before .before .before .before .before .before .before .before .before .before .before .before .before .before .pre) (c .before .before .before .before .before .before .before .before .before .before .before .if1 .left) _ _ (c .before .before .before .before .before .before .before .read-line .ensures) _ _ (c .before .before .before .rhs .given .1))
+    (λ c κs.
+    let at-rhs = c .before .before .before in
+    let at-read-line = at-rhs .before .before .before .before in
+    let at-if1 = at-read-line .before .before .before .before in
+    let start = at-if1 .before .before .before .before in
+    law.both-read _ _ _ _ _ _ _ (start .pre) (at-if1 .if1 .left) _ _ (at-read-line .read-line .ensures) _ _ (at-rhs .rhs .given .1))
     (λ c. search needs)
-    (λ c κs. (c .before .before .before .before .before .before .before .before .before .before .if1 .left, c .before .before .before .before .before .before .before .before .before .before .before .before .before .before .pre .room))
+    (λ c κs.
+    let at-if1 = c .before .before .before .before .before .before .before .before .before .before in
+    let start = at-if1 .before .before .before .before in
+    (at-if1 .if1 .left, start .pre .room))
     (λ c. search needs)
     (λ c. search needs)
     (λ c. search needs)
     (λ c. search needs)
-    (λ c. law.second-put _ _ _ _ _ _ _ (c .before .before .before .before .before .before .before .before .before .before .before .before .before .before .before .before .before .before .before .before .pre) (c .before .before .before .before .before .before .before .before .before .before .before .before .before .before .before .before .if1 .left) _ _ (c .before .before .before .before .before .before .before .before .before .before .before .before .read-line .ensures) _ _ (c .before .before .before .before .before .before .before .before .rhs .given .1) _ _ (c .before .before .before .before .put-answer .ensures))
+    (λ c.
+    let at-put-answer = c .before .before .before .before in
+    let at-rhs = at-put-answer .before .before .before .before in
+    let at-read-line = at-rhs .before .before .before .before in
+    let at-if1 = at-read-line .before .before .before .before in
+    let start = at-if1 .before .before .before .before in
+    law.second-put _ _ _ _ _ _ _ (start .pre) (at-if1 .if1 .left) _ _ (at-read-line .read-line .ensures) _ _
+    (at-rhs .rhs .given .1) _ _ (at-put-answer .put-answer .ensures))
     (λ c. search needs)
     (λ c. search needs)
-    (λ c. law.second-unread _ _ _ _ _ _ _ (c .before .before .before .before .before .before .before .before .before .before .before .before .before .before .before .before .before .pre) (c .before .before .before .before .before .before .before .before .before .before .before .before .before .if1 .left) _ _ (c .before .before .before .before .before .before .before .before .before .read-line .ensures) _ (c .before .before .before .before .before .from .given .1) _ _ (c .before .before .put-unread .ensures))
+    (λ c.
+    let at-put-unread = c .before .before in
+    let at-from = at-put-unread .before .before .before in
+    let at-read-line = at-from .before .before .before .before in
+    let at-if1 = at-read-line .before .before .before .before in
+    let start = at-if1 .before .before .before .before in
+    law.second-unread _ _ _ _ _ _ _ (start .pre) (at-if1 .if1 .left) _ _ (at-read-line .read-line .ensures) _
+    (at-from .from .given .1) _ _ (at-put-unread .put-unread .ensures))
     (λ c. search needs)
-    (λ c. absurd (read.not-refused _ _ _ 200 _ (c .before .before .before .before .before .before .before .before .before .before .before .before .pre .begun) (omega arith) (c .before .before .before .before .before .before .before .before .if1 .left) _ _ (c .before .before .before .before .read-line .ensures) _ (c .enum-told .given .1)))
+    (λ c.
+    let at-read-line = c .before .before .before .before in
+    let at-if1 = at-read-line .before .before .before .before in
+    let start = at-if1 .before .before .before .before in
+    absurd (read.not-refused _ _ _ 200 _ (start .pre .begun) (omega arith) (at-if1 .if1 .left) _ _
+    (at-read-line .read-line .ensures) _ (c .enum-told .given .1)))
     (λ c. search needs)
-    (λ c. absurd (read.has-room _ _ _ 200 _ (c .before .before .before .before .before .before .before .before .before .before .before .before .pre .begun) (omega arith) (c .before .before .before .before .before .before .before .before .if1 .left) _ _ (c .before .before .before .before .read-line .ensures) (c .enum-told2 .given .1))))
+    (λ c.
+    let at-read-line = c .before .before .before .before in
+    let at-if1 = at-read-line .before .before .before .before in
+    let start = at-if1 .before .before .before .before in
+    absurd (read.has-room _ _ _ 200 _ (start .pre .begun) (omega arith) (at-if1 .if1 .left) _ _ (at-read-line .read-line .ensures) (c .enum-told2 .given .1))))

@@ -20,6 +20,17 @@ put-single-spec =
     (λ c. search needs)
     (λ c κs. search needs)
     (λ c. search needs)
-    (λ c. law.single-good _ _ _ (c .before .before .before .before .before .before .before .before .before .before .if1 .left) _ _ (c .before .before .before .before .before .before .before .before .recognise .ensures) _ _ (c .before .before .before .before .before .enum-told .given .1) _ _ (c .before .before .put-bytes2 .ensures))
+    (λ c.
+    let at-put-bytes2 = c .before .before in
+    let at-enum-told = at-put-bytes2 .before .before .before in
+    let at-recognise = at-enum-told .before .before .before in
+    let at-if1 = at-recognise .before .before in
+    law.single-good _ _ _ (at-if1 .if1 .left) _ _ (at-recognise .recognise .ensures) _ _
+    (at-enum-told .enum-told .given .1) _ _ (at-put-bytes2 .put-bytes2 .ensures))
     (λ c. search needs)
-    (λ c. law.single-unread _ _ _ (c .before .before .before .before .before .before .before .before .before .before .if1 .left) _ _ (c .before .before .before .before .before .before .before .before .recognise .ensures) _ (c .before .before .before .before .before .from .given .1) _ _ (c .before .before .put-unread .ensures)))
+    (λ c.
+    let at-put-unread = c .before .before in
+    let at-from = at-put-unread .before .before .before in
+    let at-recognise = at-from .before .before .before in
+    let at-if1 = at-recognise .before .before in
+    law.single-unread _ _ _ (at-if1 .if1 .left) _ _ (at-recognise .recognise .ensures) _ (at-from .from .given .1) _ _ (at-put-unread .put-unread .ensures)))

@@ -11,8 +11,29 @@ put-unread-spec =
     (λ c. search needs)
     (λ c κs. search needs)
     (λ c κs. search needs)
-    (λ c κs. law.unread-room (c .before .before .before .before .before .before .before .before .before .args .line .now) (c .before .before .before .before .before .before .before .before .before .args .from) (c .before .before .before .before .before .before .before .before .before .args .out .now) (c .before .before .before .before .before .before .before .before .before .args .at) (c .before .before .before .before .before .before .before .before .before .pre .0) (c .before .before .before .before .before .before .before .before .before .pre .1) _ _ (c .before .before .before .before .put-bytes .ensures) _ (c .before .unread .ensures))
+    (λ c κs.
+    let at-put-bytes = c .before .before .before .before in
+    let start = at-put-bytes .before .before .before .before .before in
+    let args = start .args in
+    law.unread-room (args .line .now) (args .from) (args .out .now) (args .at) (start .pre .0) (start .pre .1) _ _
+    (at-put-bytes .put-bytes .ensures) _ (c .before .unread .ensures))
     (λ c. search needs)
-    (λ c κs. law.lf-room (c .before .before .before .before .before .before .before .before .before .before .before .before .before .before .args .line .now) (c .before .before .before .before .before .before .before .before .before .before .before .before .before .before .args .from) (c .before .before .before .before .before .before .before .before .before .before .before .before .before .before .args .out .now) (c .before .before .before .before .before .before .before .before .before .before .before .before .before .before .args .at) (c .before .before .before .before .before .before .before .before .before .before .before .before .before .before .pre .0) (c .before .before .before .before .before .before .before .before .before .before .before .before .before .before .pre .1) _ _ (c .before .before .before .before .before .before .before .before .before .put-bytes .ensures) _ (c .before .before .before .before .before .before .unread .ensures) _ _ (c .before .before .before .before .put-bytes2 .ensures))
+    (λ c κs.
+    let at-put-bytes2 = c .before .before .before .before in
+    let at-unread = at-put-bytes2 .before .before in
+    let at-put-bytes = at-unread .before .before .before in
+    let start = at-put-bytes .before .before .before .before .before in
+    let args = start .args in
+    law.lf-room (args .line .now) (args .from) (args .out .now) (args .at) (start .pre .0) (start .pre .1) _ _
+    (at-put-bytes .put-bytes .ensures) _ (at-unread .unread .ensures) _ _ (at-put-bytes2 .put-bytes2 .ensures))
     (λ c. search needs)
-    (λ c. law.unread-put (c .before .before .before .before .before .before .before .before .before .before .before .before .before .before .before .before .before .args .line .now) (c .before .before .before .before .before .before .before .before .before .before .before .before .before .before .before .before .before .args .from) (c .before .before .before .before .before .before .before .before .before .before .before .before .before .before .before .before .before .args .out .now) (c .before .before .before .before .before .before .before .before .before .before .before .before .before .before .before .before .before .args .at) (c .before .before .before .before .before .before .before .before .before .before .before .before .before .before .before .before .before .pre .0) (c .before .before .before .before .before .before .before .before .before .before .before .before .before .before .before .before .before .pre .1) _ _ (c .before .before .before .before .before .before .before .before .before .before .before .before .put-bytes .ensures) _ (c .before .before .before .before .before .before .before .before .before .unread .ensures) _ _ (c .before .before .before .before .before .before .before .put-bytes2 .ensures) _ _ (c .before .before .put-bytes3 .ensures)))
+    (λ c.
+    let at-put-bytes3 = c .before .before in
+    let at-put-bytes2 = at-put-bytes3 .before .before .before .before .before in
+    let at-unread = at-put-bytes2 .before .before in
+    let at-put-bytes = at-unread .before .before .before in
+    let start = at-put-bytes .before .before .before .before .before in
+    let args = start .args in
+    law.unread-put (args .line .now) (args .from) (args .out .now) (args .at) (start .pre .0) (start .pre .1) _ _
+    (at-put-bytes .put-bytes .ensures) _ (at-unread .unread .ensures) _ _ (at-put-bytes2 .put-bytes2 .ensures) _ _
+    (at-put-bytes3 .put-bytes3 .ensures)))

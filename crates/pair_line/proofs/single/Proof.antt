@@ -11,4 +11,8 @@ single-spec =
     (λ c. law.buffer-short _ _ (c .if1 .taken))
     (λ c κs. search needs)
     (λ c. search needs)
-    (λ c. law.line-left _ _ (c .before .before .before .before .if1 .left) (law.single-has-room (c .before .before .before .before .before .before .before .args .line .now)) _ _ (c .before .before .put-single .ensures)))
+    (λ c.
+    let at-put-single = c .before .before in
+    let at-if1 = at-put-single .before .before in
+    let start = at-if1 .before .before .before in
+    law.line-left _ _ (at-if1 .if1 .left) (law.single-has-room (start .args .line .now)) _ _ (at-put-single .put-single .ensures)))

@@ -13,7 +13,10 @@ at-end-spec =
     (tie.spec
     (λ c κs. search needs)
     (λ c. law.end-inside _ (c .before .before .finish .ensures) (c .before .before .before .before .before .before .pre .1))
-    (λ c. sym (length-take-le _ _ (law.end-inside _ (c .before .before .before .finish .ensures) (c .before .before .before .before .before .before .before .pre .1))))
+    (λ c.
+    let at-finish = c .before .before .before in
+    let start = at-finish .before .before .before .before in
+    sym (length-take-le _ _ (law.end-inside _ (at-finish .finish .ensures) (start .pre .1))))
     (λ c κs. search needs)
     (λ c. search needs)
     (λ c κs. search needs)

@@ -24,10 +24,19 @@ read-all-spec =
     (λ c. c .before .before .before .loop .inv .2)
     (λ c. c .before .before .before .loop .inv .1)
     (λ c. search needs)
-    (λ c κs. (c .before .before .before .before .before .loop .inv .0, omega (arith, c .before .before .before .before .before .loop .inv .1, c .before .before .before .before .before .before .before .before .pre .1)))
+    (λ c κs.
+    let at-loop = c .before .before .before .before .before in
+    let start = at-loop .before .before .before in
+    (at-loop .loop .inv .0, omega (arith, at-loop .loop .inv .1, start .pre .1)))
     (λ c. omega arith)
     (λ c. omega arith)
-    (λ c. (c .before .before .before .before .read-some .ensures, c .before .before .before .before .read-some .kept .1 .1 .0 ∙ c .before .before .before .before .before .before .before .before .before .before .loop .inv .1, c .before .before .before .before .read-some .kept .0 ∙ c .before .before .before .before .before .before .before .before .before .before .loop .inv .2))
+    (λ c.
+    let at-read-some = c .before .before .before .before in
+    let at-loop = at-read-some .before .before .before .before .before .before in (
+      at-read-some .read-some .ensures,
+      at-read-some .read-some .kept .1 .1 .0 ∙ at-loop .loop .inv .1,
+      at-read-some .read-some .kept .0 ∙ at-loop .loop .inv .2,
+    ))
     (λ c. c .before .loop .inv .2)
     (λ c. c .before .loop .inv .1)
     (λ c. search needs))

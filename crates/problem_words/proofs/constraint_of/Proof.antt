@@ -15,7 +15,8 @@ unfolding constraint
 join-past kind a b c d h =
     sym
     (List·getD-eq-default
-    (Sub (record { 0 = a }) (record { 0 = b }) ∷ Lit (record { 0 = a }) (litKind b) ∷ Disjunction (record { 0 = a }) (record { 0 = b }) (record { start = c; count = d })
+    (Sub (record { 0 = a }) (record { 0 = b }) ∷ Lit (record { 0 = a }) (litKind b) ∷ Disjunction (record { 0 = a })
+    (record { 0 = b }) (record { start = c; count = d })
     ∷ Comprehension (record { 0 = a }) (record { 0 = b }) (record { 0 = c })
     ∷ [])
     (Join (record { start = b; count = c }) (record { 0 = a })) {n = kind} h)
@@ -30,4 +31,7 @@ constraint-of-spec =
     (λ c. rw (c .before .match .keys2, c .lit-kind .ensures))
     (λ c. rw (c .match .keys3))
     (λ c. rw (c .match .keys4))
-    (λ c. join-past (c .before .args .kind) (c .before .args .a) (c .before .args .b) (c .before .args .c) (c .before .args .d) (none-below _ 4 (c .match .rest))))
+    (λ c.
+    let start = c .before in
+    let args = start .args in
+    join-past (args .kind) (args .a) (args .b) (args .c) (args .d) (none-below _ 4 (c .match .rest))))

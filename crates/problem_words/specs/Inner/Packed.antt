@@ -2,7 +2,8 @@
 use mathlib.Core.List.{List}
 use Prim.Native.Nat.{ℕ, _*_, _≤_}
 use lib.ListN.{length}
-use Rattle.inference.specs.Constraints.{maxExprs, maxConstraints, maxOverloads, maxSources, constraintWords, overloadWords, constraintAt, overloadAt, rowsFrom, Problem}
+use Rattle.inference.specs.Constraints.{maxExprs, maxConstraints, maxOverloads, maxSources, constraintWords}
+use Rattle.inference.specs.Constraints.{overloadWords, constraintAt, overloadAt, rowsFrom, Problem}
 use Rattle.inference.specs.SolveEntry.{wordsInUse}
 use Rattle.search_state.specs.declared.Sizes.{Sizes}
 use Rattle.search_state.specs.Inner.Memory.{problemWords}

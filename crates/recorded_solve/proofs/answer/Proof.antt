@@ -23,10 +23,18 @@ ask-requires : tie.Need-ask-requires
 ask-requires c κs = search needs
 
 returns-3 : tie.Need-returns-3
-returns-3 c = law.agrees _ _ _ (c .before .before .before .before .before .before .before .if1 .left) _ (c .before .before .before .before .before .before .recorded .ensures) _ (c .before .before .before .before .expected .given .1) _ _ (c .before .ask .ensures) (c .if2 .taken)
+returns-3 c =
+    let at-expected = c .before .before .before .before in
+    let at-recorded = at-expected .before .before in
+    let at-if1 = at-recorded .before in
+    law.agrees _ _ _ (at-if1 .if1 .left) _ (at-recorded .recorded .ensures) _ (at-expected .expected .given .1) _ _ (c .before .ask .ensures) (c .if2 .taken)
 
 returns-4 : tie.Need-returns-4
-returns-4 c = law.differs _ _ _ (c .before .before .before .before .before .before .before .if1 .left) _ (c .before .before .before .before .before .before .recorded .ensures) _ (c .before .before .before .before .expected .given .1) _ _ (c .before .ask .ensures) (c .if2 .left)
+returns-4 c =
+    let at-expected = c .before .before .before .before in
+    let at-recorded = at-expected .before .before in
+    let at-if1 = at-recorded .before in
+    law.differs _ _ _ (at-if1 .if1 .left) _ (at-recorded .recorded .ensures) _ (at-expected .expected .given .1) _ _ (c .before .ask .ensures) (c .if2 .left)
 
 pub answer-spec : {M : Type 1} → statement M
 answer-spec =

@@ -55,13 +55,24 @@ counts-of-requires : tie.Need-counts-of-requires
 counts-of-requires c κs = search needs
 
 slice-aggregate-call : tie.Need-slice-aggregate-call
-slice-aggregate-call c = sym (c .before .before .before .before .before .before .before .before .before .before .before .before .before .before .before .before .before .before .before .before .before .before .before .before .before .before .before .before .before .copy .kept .0)
+slice-aggregate-call c =
+    let at-copy = c .before .before .before .before .before .before .before .before .before .before .before
+    .before .before .before .before .before .before .before .before .before .before .before .before
+    .before .before .before .before .before .before in
+    sym (at-copy .copy .kept .0)
 
 slice-aggregate-call-2 : tie.Need-slice-aggregate-call-2
-slice-aggregate-call-2 c = sym (c .before .before .before .before .before .before .before .before .before .before .before .before .before .before .before .before .before .before .before .before .before .before .before .before .before .before .copy2 .kept .0)
+slice-aggregate-call-2 c =
+    let at-copy2 = c .before .before .before .before .before .before .before .before .before .before .before
+    .before .before .before .before .before .before .before .before .before .before .before .before
+    .before .before .before in
+    sym (at-copy2 .copy2 .kept .0)
 
 slice-aggregate-call-3 : tie.Need-slice-aggregate-call-3
-slice-aggregate-call-3 c = sym (c .before .before .before .before .before .before .before .before .before .before .before .before .before .before .before .before .before .before .before .before .before .before .before .copy3 .kept .0)
+slice-aggregate-call-3 c =
+    let at-copy3 = c .before .before .before .before .before .before .before .before .before .before .before
+    .before .before .before .before .before .before .before .before .before .before .before .before in
+    sym (at-copy3 .copy3 .kept .0)
 
 slice-aggregate-call-4 : tie.Need-slice-aggregate-call-4
 slice-aggregate-call-4 c = search needs
@@ -82,7 +93,30 @@ keep-requires : tie.Need-keep-requires
 keep-requires c κs = search needs
 
 returns : tie.Need-returns
-returns c = law.asked (c .before .before .before .before .before .before .before .before .before .before .before .before .before .before .before .before .before .before .before .before .before .before .before .before .before .before .before .before .before .before .before .before .before .before .before .before .before .before .before .before .before .before .before .before .before .before .before .before .before .before .before .before .before .before .before .before .args .given .now) _ _ _ _ _ _ _ _ (c .before .before .before .before .before .before .before .before .before .before .before .before .before .before .before .before .before .before .before .before .before .before .before .before .before .counts-of .ensures) (whole.copied-out 0 8192 (c .before .before .before .before .before .before .before .before .before .before .before .before .before .before .before .before .before .before .before .before .before .before .before .before .before .before .before .before .before .before .before .before .before .before .before .before .before .before .before .before .before .before .before .before .before .before .before .before .before .before .before .before .before .before .before .before .args .given .now) _ _ (omega arith) (length-replicate {A = ℕ} 8192 0) (c .before .before .before .before .before .before .before .before .before .before .before .before .before .before .before .before .before .before .before .before .before .before .before .before .before .before .before .before .before .before .before .before .before .before .before .before .before .before .before .before .before .before .before .before .before .before .before .before .before .before .before .before .before .copy .ensures)) (whole.copied-out 8192 12288 (c .before .before .before .before .before .before .before .before .before .before .before .before .before .before .before .before .before .before .before .before .before .before .before .before .before .before .before .before .before .before .before .before .before .before .before .before .before .before .before .before .before .before .before .before .before .before .before .before .before .before .before .before .before .before .before .before .args .given .now) _ _ (omega arith) (length-replicate {A = ℕ} 12288 0) (c .before .before .before .before .before .before .before .before .before .before .before .before .before .before .before .before .before .before .before .before .before .before .before .before .before .before .before .before .before .before .before .before .before .before .before .before .before .before .before .before .before .before .before .before .before .before .before .before .before .copy2 .ensures)) (whole.copied-out 20480 512 (c .before .before .before .before .before .before .before .before .before .before .before .before .before .before .before .before .before .before .before .before .before .before .before .before .before .before .before .before .before .before .before .before .before .before .before .before .before .before .before .before .before .before .before .before .before .before .before .before .before .before .before .before .before .before .before .before .args .given .now) _ _ (omega arith) (length-replicate {A = ℕ} 512 0) (c .before .before .before .before .before .before .before .before .before .before .before .before .before .before .before .before .before .before .before .before .before .before .before .before .before .before .before .before .before .before .before .before .before .before .before .before .before .before .before .before .before .before .before .before .before .copy3 .ensures)) (whole.copied-out 29952 4096 (c .before .before .before .before .before .before .before .before .before .before .before .before .before .before .before .before .before .before .before .before .before .before .before .before .before .before .before .before .before .before .before .before .before .before .before .before .before .before .before .before .before .before .before .before .before .before .before .before .before .before .before .before .before .before .before .before .args .given .now) _ _ (omega arith) (length-replicate {A = ℕ} 4096 0) (c .before .before .before .before .before .before .before .before .before .before .before .before .before .before .before .before .before .before .before .before .before .before .before .before .before .before .before .before .before .before .before .before .before .before .before .before .before .before .before .before .before .copy4 .ensures)) (whole.copied-out 27648 1536 (c .before .before .before .before .before .before .before .before .before .before .before .before .before .before .before .before .before .before .before .before .before .before .before .before .before .before .before .before .before .before .before .before .before .before .before .before .before .before .before .before .before .before .before .before .before .before .before .before .before .before .before .before .before .before .before .before .args .given .now) _ _ (omega arith) (length-replicate {A = ℕ} 1536 0) (c .before .before .before .before .before .before .before .before .before .before .before .before .before .before .before .before .before .before .before .before .before .before .before .before .before .before .before .before .before .before .before .before .before .before .before .before .before .copy5 .ensures)) (whole.copied-out 29184 256 (c .before .before .before .before .before .before .before .before .before .before .before .before .before .before .before .before .before .before .before .before .before .before .before .before .before .before .before .before .before .before .before .before .before .before .before .before .before .before .before .before .before .before .before .before .before .before .before .before .before .before .before .before .before .before .before .before .args .given .now) _ _ (omega arith) (length-replicate {A = ℕ} 256 0) (c .before .before .before .before .before .before .before .before .before .before .before .before .before .before .before .before .before .before .before .before .before .before .before .before .before .before .before .before .before .before .before .before .before .copy6 .ensures)) (whole.copied-out 29440 512 (c .before .before .before .before .before .before .before .before .before .before .before .before .before .before .before .before .before .before .before .before .before .before .before .before .before .before .before .before .before .before .before .before .before .before .before .before .before .before .before .before .before .before .before .before .before .before .before .before .before .before .before .before .before .before .before .before .args .given .now) _ _ (omega arith) (length-replicate {A = ℕ} 512 0) (c .before .before .before .before .before .before .before .before .before .before .before .before .before .before .before .before .before .before .before .before .before .before .before .before .before .before .before .before .before .copy7 .ensures)) _ _ _ _ _ _ _ _ (c .before .before .before .before .before .before .before .before .before .before .before .before .before .before .before .before .before .call .ensures) _ (c .keep .ensures)
+returns c =
+    let at-call = c .before .before .before .before .before .before .before .before .before .before .before
+    .before .before .before .before .before .before in
+    let at-counts-of = at-call .before .before .before .before .before .before .before .before in
+    let at-copy7 = at-counts-of .before .before .before .before in
+    let at-copy6 = at-copy7 .before .before .before .before in
+    let at-copy5 = at-copy6 .before .before .before .before in
+    let at-copy4 = at-copy5 .before .before .before .before in
+    let at-copy3 = at-copy4 .before .before .before .before in
+    let at-copy2 = at-copy3 .before .before .before .before in
+    let at-copy = at-copy2 .before .before .before .before in
+    let start = at-copy .before .before .before in
+    let args = start .args in
+    law.asked (args .given .now) _ _ _ _ _ _ _ _ (at-counts-of .counts-of .ensures) (whole.copied-out 0 8192
+    (args .given .now) _ _ (omega arith) (length-replicate {A = ℕ} 8192 0) (at-copy .copy .ensures))
+    (whole.copied-out 8192 12288 (args .given .now) _ _ (omega arith) (length-replicate {A = ℕ} 12288 0)
+    (at-copy2 .copy2 .ensures)) (whole.copied-out 20480 512 (args .given .now) _ _ (omega arith)
+    (length-replicate {A = ℕ} 512 0) (at-copy3 .copy3 .ensures)) (whole.copied-out 29952 4096 (args .given .now) _
+    _ (omega arith) (length-replicate {A = ℕ} 4096 0) (at-copy4 .copy4 .ensures)) (whole.copied-out 27648 1536
+    (args .given .now) _ _ (omega arith) (length-replicate {A = ℕ} 1536 0) (at-copy5 .copy5 .ensures))
+    (whole.copied-out 29184 256 (args .given .now) _ _ (omega arith) (length-replicate {A = ℕ} 256 0)
+    (at-copy6 .copy6 .ensures)) (whole.copied-out 29440 512 (args .given .now) _ _ (omega arith)
+    (length-replicate {A = ℕ} 512 0) (at-copy7 .copy7 .ensures)) _ _ _ _ _ _ _ _ (at-call .call .ensures) _
+    (c .keep .ensures)
 
 pub ask-spec : {M : Type 1} → statement M
 ask-spec =

@@ -40,7 +40,10 @@ part-sort-solve-start-4 : tie.Need-part-sort-solve-start-4
 part-sort-solve-start-4 c = search needs
 
 part-sort-solve-end-4 : tie.Need-part-sort-solve-end-4
-part-sort-solve-end-4 c = omega (arith, c .before .before .before .before .before .before .before .before .before .before .before .before .before .before .pre)
+part-sort-solve-end-4 c =
+    let start = c .before .before .before .before .before .before .before .before .before .before .before
+    .before .before .before in
+    omega (arith, start .pre)
 
 sub-sort-solve-5 : tie.Need-sub-sort-solve-5
 sub-sort-solve-5 c = search needs
@@ -49,7 +52,10 @@ part-sort-solve-start-5 : tie.Need-part-sort-solve-start-5
 part-sort-solve-start-5 c = search needs
 
 part-sort-solve-end-5 : tie.Need-part-sort-solve-end-5
-part-sort-solve-end-5 c = omega (arith, c .before .before .before .before .before .before .before .before .before .before .before .before .before .before .before .pre)
+part-sort-solve-end-5 c =
+    let start = c .before .before .before .before .before .before .before .before .before .before .before
+    .before .before .before .before in
+    omega (arith, start .pre)
 
 sort-solve-requires : tie.Need-sort-solve-requires
 sort-solve-requires c κs = search needs
@@ -77,7 +83,10 @@ same-length-7 c = search needs
 
 returns : tie.Need-returns
 unfolding sliceStart solved
-returns c = c .before .before .before .before .before .before .before .before .before .before .before .before .before .before .sort-solve .ensures
+returns c =
+    let at-sort-solve = c .before .before .before .before .before .before .before .before .before .before
+    .before .before .before .before in
+    at-sort-solve .sort-solve .ensures
 
 pub call-spec : {M : Type 1} → statement M
 call-spec =

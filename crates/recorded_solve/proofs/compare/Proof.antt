@@ -36,7 +36,8 @@ array-read-if1 : tie.Need-array-read-if1 Inv-loop μ-loop
 array-read-if1 c = omega arith
 
 returns : tie.Need-returns Inv-loop μ-loop
-returns c = law.other _ _ _ _ _ _ (c .before .word .ensures) (c .before .before .loop-test .taken) (c .if1 .taken) ∙ sym (c .before .before .before .loop .inv .1)
+returns c = law.other _ _ _ _ _ _ (c .before .word .ensures) (c .before .before .loop-test .taken) (c .if1 .taken) ∙
+    sym (c .before .before .before .loop .inv .1)
 
 add-i : tie.Need-add-i Inv-loop μ-loop
 add-i c = omega arith
@@ -45,7 +46,11 @@ loop-less : tie.Need-loop-less Inv-loop μ-loop
 loop-less c = omega arith
 
 loop-again : tie.Need-loop-again Inv-loop μ-loop
-loop-again c = (omega arith, c .before .before .before .loop .inv .1 ∙ law.same _ _ _ _ _ _ (c .before .word .ensures) (c .before .before .loop-test .taken) (c .if1 .left))
+loop-again c = (
+  omega arith,
+  c .before .before .before .loop .inv .1 ∙ law.same _ _ _ _ _ _ (c .before .word .ensures)
+      (c .before .before .loop-test .taken) (c .if1 .left),
+)
 
 returns-2 : tie.Need-returns-2 Inv-loop μ-loop
 returns-2 c = law.end _ _ _ _ _ (c .loop-test .left) ∙ sym (c .before .loop .inv .1)

@@ -14,10 +14,16 @@ store-requires : tie.Need-store-requires
 store-requires c κs = search needs
 
 returns-2 : tie.Need-returns-2
-returns-2 c = law.give-all _ _ _ (c .before .before .before .before .before .part-of .ensures .told) (c .before .before .before .if1 .left) _ _ (c .before .store .ensures) (c .if2 .taken)
+returns-2 c =
+    let at-if1 = c .before .before .before in
+    let at-part-of = at-if1 .before .before in
+    law.give-all _ _ _ (at-part-of .part-of .ensures .told) (at-if1 .if1 .left) _ _ (c .before .store .ensures) (c .if2 .taken)
 
 returns-3 : tie.Need-returns-3
-returns-3 c = law.give-some _ _ _ (c .before .before .before .before .before .part-of .ensures .told) (c .before .before .before .if1 .left) _ _ (c .before .store .ensures) (c .if2 .left)
+returns-3 c =
+    let at-if1 = c .before .before .before in
+    let at-part-of = at-if1 .before .before in
+    law.give-some _ _ _ (at-part-of .part-of .ensures .told) (at-if1 .if1 .left) _ _ (c .before .store .ensures) (c .if2 .left)
 
 pub give-spec : {M : Type 1} → statement M
 give-spec = tie.close (tie.spec part-of-requires returns store-requires returns-2 returns-3)

@@ -23,7 +23,8 @@ no-part-requires-3 : tie.Need-no-part-requires-3
 no-part-requires-3 c κs = search needs
 
 returns-3 : tie.Need-returns-3
-returns-3 c = law.no-slice _ (c .no-part3 .result) (c .no-part3 .ensures) (c .before .before .before .if1 .left) (c .before .before .if2 .left) (c .before .if3 .taken)
+returns-3 c = law.no-slice _ (c .no-part3 .result) (c .no-part3 .ensures) (c .before .before .before .if1 .left)
+    (c .before .before .if2 .left) (c .before .if3 .taken)
 
 array-read-at : tie.Need-array-read-at
 array-read-at c = search needs
@@ -32,7 +33,11 @@ no-part-requires-4 : tie.Need-no-part-requires-4
 no-part-requires-4 c κs = search needs
 
 returns-4 : tie.Need-returns-4
-returns-4 c = law.no-word _ (c .no-part4 .result) (c .no-part4 .ensures) (c .before .before .before .before .if1 .left) (c .before .before .before .if2 .left) (c .before .before .if3 .left) (c .before .if4 .taken)
+returns-4 c =
+    let at-if3 = c .before .before in
+    let at-if2 = at-if3 .before in
+    let at-if1 = at-if2 .before in
+    law.no-word _ (c .no-part4 .result) (c .no-part4 .ensures) (at-if1 .if1 .left) (at-if2 .if2 .left) (at-if3 .if3 .left) (c .before .if4 .taken)
 
 start-of-requires : tie.Need-start-of-requires
 start-of-requires c κs = search needs
@@ -53,10 +58,27 @@ no-part-requires-5 : tie.Need-no-part-requires-5
 no-part-requires-5 c κs = search needs
 
 returns-5 : tie.Need-returns-5
-returns-5 c = law.past-the-slice _ (c .no-part5 .result) (c .no-part5 .ensures) (c .before .before .before .before .before .before .before .if1 .left) (c .before .before .before .before .before .before .if2 .left) (c .before .before .before .before .before .if3 .left) (c .before .before .before .before .if4 .left) (c .before .before .before .start-of .result) (c .before .before .start-of2 .result) (c .before .before .before .start-of .ensures .0) (c .before .before .start-of2 .ensures .0) (c .before .if5 .taken)
+returns-5 c =
+    let at-start-of2 = c .before .before in
+    let at-start-of = at-start-of2 .before in
+    let at-if4 = at-start-of .before in
+    let at-if3 = at-if4 .before in
+    let at-if2 = at-if3 .before in
+    let at-if1 = at-if2 .before in
+    law.past-the-slice _ (c .no-part5 .result) (c .no-part5 .ensures) (at-if1 .if1 .left) (at-if2 .if2 .left)
+    (at-if3 .if3 .left) (at-if4 .if4 .left) (at-start-of .start-of .result) (at-start-of2 .start-of2 .result)
+    (at-start-of .start-of .ensures .0) (at-start-of2 .start-of2 .ensures .0) (c .before .if5 .taken)
 
 returns-6 : tie.Need-returns-6
-returns-6 c = law.inside _ (c .before .before .before .before .before .before .if1 .left) (c .before .before .before .before .before .if2 .left) (c .before .before .before .before .if3 .left) (c .before .before .before .if4 .left) (c .before .before .start-of .result) (c .before .start-of2 .result) (c .before .before .start-of .ensures .0) (c .before .start-of2 .ensures .0) (c .if5 .left)
+returns-6 c =
+    let at-start-of = c .before .before in
+    let at-if4 = at-start-of .before in
+    let at-if3 = at-if4 .before in
+    let at-if2 = at-if3 .before in
+    let at-if1 = at-if2 .before in
+    law.inside _ (at-if1 .if1 .left) (at-if2 .if2 .left) (at-if3 .if3 .left) (at-if4 .if4 .left)
+    (at-start-of .start-of .result) (c .before .start-of2 .result) (at-start-of .start-of .ensures .0)
+    (c .before .start-of2 .ensures .0) (c .if5 .left)
 
 pub part-of-spec : {M : Type 1} → statement M
 part-of-spec =

@@ -32,7 +32,11 @@ array-read-choices : tie.Need-array-read-choices
 array-read-choices c = search needs
 
 returns-5 : tie.Need-returns-5
-returns-5 c = law.no-choices _ (c .before .before .before .before .if1 .left) (c .before .before .before .if2 .left) (c .before .before .if3 .left) (c .before .if4 .left) (c .if5 .taken)
+returns-5 c =
+    let at-if3 = c .before .before in
+    let at-if2 = at-if3 .before in
+    let at-if1 = at-if2 .before in
+    law.no-choices _ (at-if1 .if1 .left) (at-if2 .if2 .left) (at-if3 .if3 .left) (c .before .if4 .left) (c .if5 .taken)
 
 mul-t10 : tie.Need-mul-t10
 mul-t10 c = search needs
@@ -59,7 +63,11 @@ add-t26 : tie.Need-add-t26
 add-t26 c = search needs
 
 returns-6 : tie.Need-returns-6
-returns-6 c = law.all-told _ (c .before .before .before .before .if1 .left) (c .before .before .before .if2 .left) (c .before .before .if3 .left) (c .before .if4 .left) (c .if5 .left)
+returns-6 c =
+    let at-if3 = c .before .before in
+    let at-if2 = at-if3 .before in
+    let at-if1 = at-if2 .before in
+    law.all-told _ (at-if1 .if1 .left) (at-if2 .if2 .left) (at-if3 .if3 .left) (c .before .if4 .left) (c .if5 .left)
 
 pub recorded-spec : {M : Type 1} → statement M
 recorded-spec =

@@ -84,7 +84,8 @@ noWords = replicate heldWords 0
 -- a new list: all words are zero but its counts
 unfoldable pub beginLine : List ℕ → Fields → WordsSaid
 beginLine ws f =
-    cond (eqb (f .count) counts) (wordsSaidOf (storeFrom counts noWords heldCountsAt (f .values) 0)) (wordsSaid ws NotOfForm)
+    cond (eqb (f .count) counts) (wordsSaidOf (storeFrom counts noWords heldCountsAt (f .values) 0))
+    (wordsSaid ws NotOfForm)
 
 -- words given
 unfoldable pub storeOf : List ℕ → Fields → WordsSaid
@@ -163,4 +164,5 @@ unfoldable pub stepOf : List ℕ → List ℕ → List ℕ → Stepped
 stepOf ws us line =
     cond (eqb (length line) 0) (stepped ws us NotOfForm)
     (cond (eqb (getD line 0 0) (code "#")) (stepped ws us Quiet)
-    (cond ((fieldsOf line) .good) (byLetter (letterOf (getD line 0 0)) ws us (fieldsOf line)) (stepped ws us NotOfForm)))
+    (cond ((fieldsOf line) .good) (byLetter (letterOf (getD line 0 0)) ws us (fieldsOf line))
+    (stepped ws us NotOfForm)))

@@ -48,7 +48,8 @@ heldCountsAt = 34048
 
 abbrev pub sliceStarts : List ℕ
 sliceStarts =
-    0 ∷ heldNodesAt ∷ heldBindsAt ∷ heldExprsAt ∷ heldNamesAt ∷ heldConstraintsAt ∷ heldOverloadsAt ∷ heldSourcesAt ∷ heldTypingAt ∷ heldMeasureAt
+    0 ∷ heldNodesAt ∷ heldBindsAt ∷ heldExprsAt ∷ heldNamesAt ∷ heldConstraintsAt ∷ heldOverloadsAt ∷ heldSourcesAt
+    ∷ heldTypingAt ∷ heldMeasureAt
     ∷ heldChoicesAt ∷ heldScratchAt ∷ heldCountsAt ∷ []
 
 unfoldable pub sliceStart : ℕ → ℕ

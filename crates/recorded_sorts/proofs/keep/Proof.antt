@@ -20,7 +20,8 @@ not-of-form-requires-2 : tie.Need-not-of-form-requires-2
 not-of-form-requires-2 c κs = search needs
 
 returns-3 : tie.Need-returns-3
-returns-3 c = law.keep-some _ _ _ _ _ _ _ (c .before .before .before .before .if1 .left) (c .before .before .store .ensures) (c .before .if2 .left) _ (c .not-of-form2 .ensures)
+returns-3 c = law.keep-some _ _ _ _ _ _ _ (c .before .before .before .before .if1 .left)
+    (c .before .before .store .ensures) (c .before .if2 .left) _ (c .not-of-form2 .ensures)
 
 pub keep-spec : {M : Type 1} → statement M
 keep-spec =

@@ -11,7 +11,8 @@ use Rattle.resolved_sort.specs.Entries.{compared, measured, materialized, bound
 use Rattle.sort_entries.specs.Packed.{packCompared, packMeasured, packMaterialized, packBounded}
 use Rattle.replay.specs.declared.Fields.{Fields}
 use Rattle.recorded_sorts.specs.declared.Question.{Question}
-use Rattle.recorded_sorts.specs.declared.Question.the-variants.{PartialCmp, WideningDistance, IsMaterializable, Join, Meet}
+use Rattle.recorded_sorts.specs.declared.Question.the-variants.{PartialCmp, WideningDistance}
+use Rattle.recorded_sorts.specs.declared.Question.the-variants.{IsMaterializable, Join, Meet}
 use Rattle.recorded_sorts.specs.declared.Letter.{Letter}
 use Rattle.recorded_sorts.specs.declared.Letter.the-variants.{List as NewList, Row, Arguments, Asks, Other}
 use Rattle.recorded_sorts.specs.declared.Progress.{Progress}

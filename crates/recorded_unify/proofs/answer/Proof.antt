@@ -17,7 +17,11 @@ not-of-form-requires-2 : tie.Need-not-of-form-requires-2
 not-of-form-requires-2 c κs = search needs
 
 returns-2 : tie.Need-returns-2
-returns-2 c = law.answer-incomplete _ _ _ (c .before .before .before .if1 .left) (c .before .before .complete .result) (c .before .before .complete .ensures) _ (c .not-of-form2 .ensures) (c .before .if2 .taken)
+returns-2 c =
+    let at-complete = c .before .before in
+    let at-if1 = at-complete .before in
+    law.answer-incomplete _ _ _ (at-if1 .if1 .left) (at-complete .complete .result) (at-complete .complete .ensures) _
+    (c .not-of-form2 .ensures) (c .before .if2 .taken)
 
 array-read-lhs : tie.Need-array-read-lhs
 array-read-lhs c = search needs
@@ -26,7 +30,12 @@ not-of-form-requires-3 : tie.Need-not-of-form-requires-3
 not-of-form-requires-3 c κs = search needs
 
 returns-3 : tie.Need-returns-3
-returns-3 c = law.answer-lhs _ _ _ (c .before .before .before .before .if1 .left) (c .before .before .before .complete .result) (c .before .before .before .complete .ensures) (c .before .before .if2 .left) _ (c .not-of-form3 .ensures) (c .before .if3 .taken)
+returns-3 c =
+    let at-if2 = c .before .before in
+    let at-complete = at-if2 .before in
+    let at-if1 = at-complete .before in
+    law.answer-lhs _ _ _ (at-if1 .if1 .left) (at-complete .complete .result) (at-complete .complete .ensures)
+    (at-if2 .if2 .left) _ (c .not-of-form3 .ensures) (c .before .if3 .taken)
 
 array-read-rhs : tie.Need-array-read-rhs
 array-read-rhs c = search needs
@@ -35,7 +44,13 @@ not-of-form-requires-4 : tie.Need-not-of-form-requires-4
 not-of-form-requires-4 c κs = search needs
 
 returns-4 : tie.Need-returns-4
-returns-4 c = law.answer-rhs _ _ _ (c .before .before .before .before .before .if1 .left) (c .before .before .before .before .complete .result) (c .before .before .before .before .complete .ensures) (c .before .before .before .if2 .left) (c .before .before .if3 .left) _ (c .not-of-form4 .ensures) (c .before .if4 .taken)
+returns-4 c =
+    let at-if3 = c .before .before in
+    let at-if2 = at-if3 .before in
+    let at-complete = at-if2 .before in
+    let at-if1 = at-complete .before in
+    law.answer-rhs _ _ _ (at-if1 .if1 .left) (at-complete .complete .result) (at-complete .complete .ensures)
+    (at-if2 .if2 .left) (at-if3 .if3 .left) _ (c .not-of-form4 .ensures) (c .before .if4 .taken)
 
 bindings-of-requires : tie.Need-bindings-of-requires
 bindings-of-requires c κs = search needs
@@ -62,7 +77,19 @@ renew-requires : tie.Need-renew-requires
 renew-requires c κs = search needs
 
 returns-5 : tie.Need-returns-5
-returns-5 c = law.answer-well _ _ _ (c .before .before .before .before .before .before .before .before .before .before .before .before .before .before .before .before .if1 .left) (c .before .before .before .before .before .before .before .before .before .before .before .before .before .before .before .complete .result) (c .before .before .before .before .before .before .before .before .before .before .before .before .before .before .before .complete .ensures) (c .before .before .before .before .before .before .before .before .before .before .before .before .before .before .if2 .left) (c .before .before .before .before .before .before .before .before .before .before .before .before .before .if3 .left) (c .before .before .before .before .before .before .before .before .before .before .before .before .if4 .left) (c .before .before .before .before .before .before .before .before .before .before .bindings-of .result) _ _ (c .before .before .before .before .before .before .before .before .before .before .bindings-of .ensures) (c .before .before .before .before .before .before .ask .ensures) _ (c .before .before .judge .ensures) _ (c .renew .ensures)
+returns-5 c =
+    let at-judge = c .before .before in
+    let at-ask = at-judge .before .before .before .before in
+    let at-bindings-of = at-ask .before .before .before .before in
+    let at-if4 = at-bindings-of .before .before in
+    let at-if3 = at-if4 .before in
+    let at-if2 = at-if3 .before in
+    let at-complete = at-if2 .before in
+    let at-if1 = at-complete .before in
+    law.answer-well _ _ _ (at-if1 .if1 .left) (at-complete .complete .result) (at-complete .complete .ensures)
+    (at-if2 .if2 .left) (at-if3 .if3 .left) (at-if4 .if4 .left) (at-bindings-of .bindings-of .result) _ _
+    (at-bindings-of .bindings-of .ensures) (at-ask .ask .ensures) _ (at-judge .judge .ensures) _
+    (c .renew .ensures)
 
 pub answer-spec : {M : Type 1} → statement M
 answer-spec =

@@ -17,7 +17,11 @@ not-of-form-requires-2 : tie.Need-not-of-form-requires-2
 not-of-form-requires-2 c κs = search needs
 
 returns-2 : tie.Need-returns-2
-returns-2 c = law.begin-incomplete _ _ (c .before .before .before .if1 .left) (c .before .before .complete .result) (c .before .before .complete .ensures) (c .not-of-form2 .result) (c .not-of-form2 .ensures) (c .before .if2 .taken)
+returns-2 c =
+    let at-complete = c .before .before in
+    let at-if1 = at-complete .before in
+    law.begin-incomplete _ _ (at-if1 .if1 .left) (at-complete .complete .result) (at-complete .complete .ensures)
+    (c .not-of-form2 .result) (c .not-of-form2 .ensures) (c .before .if2 .taken)
 
 array-read-if3 : tie.Need-array-read-if3
 array-read-if3 c = search needs
@@ -26,7 +30,12 @@ not-of-form-requires-3 : tie.Need-not-of-form-requires-3
 not-of-form-requires-3 c κs = search needs
 
 returns-3 : tie.Need-returns-3
-returns-3 c = law.begin-sorts _ _ (c .before .before .before .before .if1 .left) (c .before .before .before .complete .result) (c .before .before .before .complete .ensures) (c .before .before .if2 .left) (c .not-of-form3 .result) (c .not-of-form3 .ensures) (c .before .if3 .taken)
+returns-3 c =
+    let at-if2 = c .before .before in
+    let at-complete = at-if2 .before in
+    let at-if1 = at-complete .before in
+    law.begin-sorts _ _ (at-if1 .if1 .left) (at-complete .complete .result) (at-complete .complete .ensures)
+    (at-if2 .if2 .left) (c .not-of-form3 .result) (c .not-of-form3 .ensures) (c .before .if3 .taken)
 
 array-read-if4 : tie.Need-array-read-if4
 array-read-if4 c = search needs
@@ -35,7 +44,14 @@ not-of-form-requires-4 : tie.Need-not-of-form-requires-4
 not-of-form-requires-4 c κs = search needs
 
 returns-4 : tie.Need-returns-4
-returns-4 c = law.begin-entries _ _ (c .before .before .before .before .before .if1 .left) (c .before .before .before .before .complete .result) (c .before .before .before .before .complete .ensures) (c .before .before .before .if2 .left) (c .before .before .if3 .left) (c .not-of-form4 .result) (c .not-of-form4 .ensures) (c .before .if4 .taken)
+returns-4 c =
+    let at-if3 = c .before .before in
+    let at-if2 = at-if3 .before in
+    let at-complete = at-if2 .before in
+    let at-if1 = at-complete .before in
+    law.begin-entries _ _ (at-if1 .if1 .left) (at-complete .complete .result) (at-complete .complete .ensures)
+    (at-if2 .if2 .left) (at-if3 .if3 .left) (c .not-of-form4 .result) (c .not-of-form4 .ensures)
+    (c .before .if4 .taken)
 
 array-read-if5 : tie.Need-array-read-if5
 array-read-if5 c = search needs
@@ -44,7 +60,15 @@ not-of-form-requires-5 : tie.Need-not-of-form-requires-5
 not-of-form-requires-5 c κs = search needs
 
 returns-5 : tie.Need-returns-5
-returns-5 c = law.begin-nodes _ _ (c .before .before .before .before .before .before .if1 .left) (c .before .before .before .before .before .complete .result) (c .before .before .before .before .before .complete .ensures) (c .before .before .before .before .if2 .left) (c .before .before .before .if3 .left) (c .before .before .if4 .left) (c .not-of-form5 .result) (c .not-of-form5 .ensures) (c .before .if5 .taken)
+returns-5 c =
+    let at-if4 = c .before .before in
+    let at-if3 = at-if4 .before in
+    let at-if2 = at-if3 .before in
+    let at-complete = at-if2 .before in
+    let at-if1 = at-complete .before in
+    law.begin-nodes _ _ (at-if1 .if1 .left) (at-complete .complete .result) (at-complete .complete .ensures)
+    (at-if2 .if2 .left) (at-if3 .if3 .left) (at-if4 .if4 .left) (c .not-of-form5 .result)
+    (c .not-of-form5 .ensures) (c .before .if5 .taken)
 
 array-read-if6 : tie.Need-array-read-if6
 array-read-if6 c = search needs
@@ -53,7 +77,16 @@ not-of-form-requires-6 : tie.Need-not-of-form-requires-6
 not-of-form-requires-6 c κs = search needs
 
 returns-6 : tie.Need-returns-6
-returns-6 c = law.begin-arguments _ _ (c .before .before .before .before .before .before .before .if1 .left) (c .before .before .before .before .before .before .complete .result) (c .before .before .before .before .before .before .complete .ensures) (c .before .before .before .before .before .if2 .left) (c .before .before .before .before .if3 .left) (c .before .before .before .if4 .left) (c .before .before .if5 .left) (c .not-of-form6 .result) (c .not-of-form6 .ensures) (c .before .if6 .taken)
+returns-6 c =
+    let at-if5 = c .before .before in
+    let at-if4 = at-if5 .before in
+    let at-if3 = at-if4 .before in
+    let at-if2 = at-if3 .before in
+    let at-complete = at-if2 .before in
+    let at-if1 = at-complete .before in
+    law.begin-arguments _ _ (at-if1 .if1 .left) (at-complete .complete .result) (at-complete .complete .ensures)
+    (at-if2 .if2 .left) (at-if3 .if3 .left) (at-if4 .if4 .left) (at-if5 .if5 .left) (c .not-of-form6 .result)
+    (c .not-of-form6 .ensures) (c .before .if6 .taken)
 
 array-read-if7 : tie.Need-array-read-if7
 array-read-if7 c = search needs
@@ -62,7 +95,17 @@ not-of-form-requires-7 : tie.Need-not-of-form-requires-7
 not-of-form-requires-7 c κs = search needs
 
 returns-7 : tie.Need-returns-7
-returns-7 c = law.begin-variables _ _ (c .before .before .before .before .before .before .before .before .if1 .left) (c .before .before .before .before .before .before .before .complete .result) (c .before .before .before .before .before .before .before .complete .ensures) (c .before .before .before .before .before .before .if2 .left) (c .before .before .before .before .before .if3 .left) (c .before .before .before .before .if4 .left) (c .before .before .before .if5 .left) (c .before .before .if6 .left) (c .not-of-form7 .result) (c .not-of-form7 .ensures) (c .before .if7 .taken)
+returns-7 c =
+    let at-if6 = c .before .before in
+    let at-if5 = at-if6 .before in
+    let at-if4 = at-if5 .before in
+    let at-if3 = at-if4 .before in
+    let at-if2 = at-if3 .before in
+    let at-complete = at-if2 .before in
+    let at-if1 = at-complete .before in
+    law.begin-variables _ _ (at-if1 .if1 .left) (at-complete .complete .result) (at-complete .complete .ensures)
+    (at-if2 .if2 .left) (at-if3 .if3 .left) (at-if4 .if4 .left) (at-if5 .if5 .left) (at-if6 .if6 .left)
+    (c .not-of-form7 .result) (c .not-of-form7 .ensures) (c .before .if7 .taken)
 
 array-read-t10 : tie.Need-array-read-t10
 array-read-t10 c = search needs
@@ -101,7 +144,19 @@ quiet-requires : tie.Need-quiet-requires
 quiet-requires c κs = search needs
 
 returns-8 : tie.Need-returns-8
-returns-8 c = law.begin-well _ _ (c .before .before .before .before .before .before .before .before .before .if1 .left) (c .before .before .before .before .before .before .before .before .complete .result) (c .before .before .before .before .before .before .before .before .complete .ensures) (c .before .before .before .before .before .before .before .if2 .left) (c .before .before .before .before .before .before .if3 .left) (c .before .before .before .before .before .if4 .left) (c .before .before .before .before .if5 .left) (c .before .before .before .if6 .left) (c .before .before .if7 .left) (c .before .no-lengths .result) (c .before .no-lengths .ensures) (c .quiet .result) (c .quiet .ensures)
+returns-8 c =
+    let at-if7 = c .before .before in
+    let at-if6 = at-if7 .before in
+    let at-if5 = at-if6 .before in
+    let at-if4 = at-if5 .before in
+    let at-if3 = at-if4 .before in
+    let at-if2 = at-if3 .before in
+    let at-complete = at-if2 .before in
+    let at-if1 = at-complete .before in
+    law.begin-well _ _ (at-if1 .if1 .left) (at-complete .complete .result) (at-complete .complete .ensures)
+    (at-if2 .if2 .left) (at-if3 .if3 .left) (at-if4 .if4 .left) (at-if5 .if5 .left) (at-if6 .if6 .left)
+    (at-if7 .if7 .left) (c .before .no-lengths .result) (c .before .no-lengths .ensures) (c .quiet .result)
+    (c .quiet .ensures)
 
 pub begin-spec : {M : Type 1} → statement M
 begin-spec =

@@ -14,7 +14,8 @@ copy-requires : tie.Need-copy-requires
 copy-requires c κs = search needs
 
 returns : tie.Need-returns
-returns c = law.copied-out 20480 512 (c .before .before .before .before .args .words .now) _ _ (omega arith) (length-replicate {A = ℕ} 512 0) (c .before .copy .ensures)
+returns c = law.copied-out 20480 512 (c .before .before .before .before .args .words .now) _ _ (omega arith)
+    (length-replicate {A = ℕ} 512 0) (c .before .copy .ensures)
 
 pub bindings-of-spec : {M : Type 1} → statement M
 bindings-of-spec = tie.close (tie.spec slice-aggregate-copy copy-requires returns)

@@ -38,7 +38,10 @@ cast-t17 : tie.Need-cast-t17 Inv-loop μ-loop
 cast-t17 c = omega arith
 
 returns-2 : tie.Need-returns-2 Inv-loop μ-loop
-returns-2 c = law.other _ _ _ (c .before .before .before .loop-test .taken) (c .if2 .taken) ∙ sym (c .before .before .before .before .loop .inv .1)
+returns-2 c =
+    let at-loop-test = c .before .before .before in
+    let at-loop = at-loop-test .before in
+    law.other _ _ _ (at-loop-test .loop-test .taken) (c .if2 .taken) ∙ sym (at-loop .loop .inv .1)
 
 add-i : tie.Need-add-i Inv-loop μ-loop
 add-i c = omega arith
@@ -47,7 +50,10 @@ loop-less : tie.Need-loop-less Inv-loop μ-loop
 loop-less c = omega arith
 
 loop-again : tie.Need-loop-again Inv-loop μ-loop
-loop-again c = (omega arith, c .before .before .before .before .loop .inv .1 ∙ law.same _ _ _ (c .before .before .before .loop-test .taken) (c .if2 .left))
+loop-again c =
+    let at-loop-test = c .before .before .before in
+    let at-loop = at-loop-test .before in
+    (omega arith, at-loop .loop .inv .1 ∙ law.same _ _ _ (at-loop-test .loop-test .taken) (c .if2 .left))
 
 returns-3 : tie.Need-returns-3 Inv-loop μ-loop
 returns-3 c = law.end _ _ _ (c .loop-test .left) ∙ sym (c .before .loop .inv .1)

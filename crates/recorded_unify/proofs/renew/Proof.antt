@@ -20,7 +20,13 @@ copy-requires c κs = search needs
 
 returns : tie.Need-returns
 unfolding renewed
-returns c = law.copied-in 20992 512 (c .before .before .before .before .before .args .words .now) (c .before .before .before .bindings-of .result) _ (ap length (c .before .before .before .bindings-of .ensures) ∙ law.part-length 20480 512 (c .before .before .before .before .before .args .words .now) (omega arith)) (c .copy .ensures) ∙ ap (sets (c .before .before .before .before .before .args .words .now) 20992) (c .before .before .before .bindings-of .ensures)
+returns c =
+    let at-bindings-of = c .before .before .before in
+    let start = at-bindings-of .before .before in
+    let args = start .args in
+    law.copied-in 20992 512 (args .words .now) (at-bindings-of .bindings-of .result) _
+    (ap length (at-bindings-of .bindings-of .ensures) ∙ law.part-length 20480 512 (args .words .now)
+    (omega arith)) (c .copy .ensures) ∙ ap (sets (args .words .now) 20992) (at-bindings-of .bindings-of .ensures)
 
 pub renew-spec : {M : Type 1} → statement M
 renew-spec = tie.close (tie.spec bindings-of-requires slice-aggregate-copy copy-requires returns)

@@ -26,7 +26,11 @@ not-of-form-requires-2 : tie.Need-not-of-form-requires-2
 not-of-form-requires-2 c κs = search needs
 
 returns-3 : tie.Need-returns-3
-returns-3 c = law.line-bad _ _ _ (c .before .before .before .before .before .before .if1 .left) (c .before .before .before .before .if2 .left) _ (c .before .before .before .fields-of .ensures) _ (c .not-of-form2 .ensures) (c .before .if3 .taken)
+returns-3 c =
+    let at-fields-of = c .before .before .before in
+    let at-if2 = at-fields-of .before in
+    let at-if1 = at-if2 .before .before in
+    law.line-bad _ _ _ (at-if1 .if1 .left) (at-if2 .if2 .left) _ (at-fields-of .fields-of .ensures) _ (c .not-of-form2 .ensures) (c .before .if3 .taken)
 
 letter-of-requires : tie.Need-letter-of-requires
 letter-of-requires c κs = search needs
@@ -71,22 +75,75 @@ not-of-form-requires-3 : tie.Need-not-of-form-requires-3
 not-of-form-requires-3 c κs = search needs
 
 returns-4 : tie.Need-returns-4
-returns-4 c = law.line-well _ _ _ (c .before .before .before .before .before .before .before .before .before .if1 .left) (c .before .before .before .before .before .before .before .if2 .left) _ (c .before .before .before .before .before .before .fields-of .ensures) (c .before .before .before .before .if3 .left) _ (c .before .before .before .letter-of .ensures) _ (law.by-list _ _ _ _ (c .before .enum-told .given .1) _ (c .begin .ensures))
+returns-4 c =
+    let at-letter-of = c .before .before .before in
+    let at-if3 = at-letter-of .before in
+    let at-fields-of = at-if3 .before .before in
+    let at-if2 = at-fields-of .before in
+    let at-if1 = at-if2 .before .before in
+    law.line-well _ _ _ (at-if1 .if1 .left) (at-if2 .if2 .left) _ (at-fields-of .fields-of .ensures)
+    (at-if3 .if3 .left) _ (at-letter-of .letter-of .ensures) _ (law.by-list _ _ _ _
+    (c .before .enum-told .given .1) _ (c .begin .ensures))
 
 returns-5 : tie.Need-returns-5
-returns-5 c = law.line-well _ _ _ (c .before .before .before .before .before .before .before .before .before .before .before .if1 .left) (c .before .before .before .before .before .before .before .before .before .if2 .left) _ (c .before .before .before .before .before .before .before .before .fields-of .ensures) (c .before .before .before .before .before .before .if3 .left) _ (c .before .before .before .before .before .letter-of .ensures) _ (law.by-row _ _ _ _ _ (c .before .before .before .part .given .1) _ (c .row .ensures))
+returns-5 c =
+    let at-part = c .before .before .before in
+    let at-letter-of = at-part .before .before in
+    let at-if3 = at-letter-of .before in
+    let at-fields-of = at-if3 .before .before in
+    let at-if2 = at-fields-of .before in
+    let at-if1 = at-if2 .before .before in
+    law.line-well _ _ _ (at-if1 .if1 .left) (at-if2 .if2 .left) _ (at-fields-of .fields-of .ensures)
+    (at-if3 .if3 .left) _ (at-letter-of .letter-of .ensures) _ (law.by-row _ _ _ _ _ (at-part .part .given .1) _
+    (c .row .ensures))
 
 returns-6 : tie.Need-returns-6
-returns-6 c = law.line-well _ _ _ (c .before .before .before .before .before .before .before .before .before .before .before .before .before .if1 .left) (c .before .before .before .before .before .before .before .before .before .before .before .if2 .left) _ (c .before .before .before .before .before .before .before .before .before .before .fields-of .ensures) (c .before .before .before .before .before .before .before .before .if3 .left) _ (c .before .before .before .before .before .before .before .letter-of .ensures) _ (law.by-words _ _ _ _ _ (c .before .before .before .before .before .part2 .given .1) _ _ (c .before .before .run .ensures) _ (c .renew .ensures))
+returns-6 c =
+    let at-run = c .before .before in
+    let at-part2 = at-run .before .before .before in
+    let at-letter-of = at-part2 .before .before in
+    let at-if3 = at-letter-of .before in
+    let at-fields-of = at-if3 .before .before in
+    let at-if2 = at-fields-of .before in
+    let at-if1 = at-if2 .before .before in
+    law.line-well _ _ _ (at-if1 .if1 .left) (at-if2 .if2 .left) _ (at-fields-of .fields-of .ensures)
+    (at-if3 .if3 .left) _ (at-letter-of .letter-of .ensures) _ (law.by-words _ _ _ _ _ (at-part2 .part2 .given .1)
+    _ _ (at-run .run .ensures) _ (c .renew .ensures))
 
 returns-7 : tie.Need-returns-7
-returns-7 c = law.line-well _ _ _ (c .before .before .before .before .before .before .before .before .before .before .if1 .left) (c .before .before .before .before .before .before .before .before .if2 .left) _ (c .before .before .before .before .before .before .before .fields-of .ensures) (c .before .before .before .before .before .if3 .left) _ (c .before .before .before .before .letter-of .ensures) _ (law.by-binds _ _ _ _ (c .before .before .enum-told2 .given .1) _ (c .binds .ensures))
+returns-7 c =
+    let at-enum-told2 = c .before .before in
+    let at-letter-of = at-enum-told2 .before .before in
+    let at-if3 = at-letter-of .before in
+    let at-fields-of = at-if3 .before .before in
+    let at-if2 = at-fields-of .before in
+    let at-if1 = at-if2 .before .before in
+    law.line-well _ _ _ (at-if1 .if1 .left) (at-if2 .if2 .left) _ (at-fields-of .fields-of .ensures)
+    (at-if3 .if3 .left) _ (at-letter-of .letter-of .ensures) _ (law.by-binds _ _ _ _
+    (at-enum-told2 .enum-told2 .given .1) _ (c .binds .ensures))
 
 returns-8 : tie.Need-returns-8
-returns-8 c = law.line-well _ _ _ (c .before .before .before .before .before .before .before .before .before .before .if1 .left) (c .before .before .before .before .before .before .before .before .if2 .left) _ (c .before .before .before .before .before .before .before .fields-of .ensures) (c .before .before .before .before .before .if3 .left) _ (c .before .before .before .before .letter-of .ensures) _ (law.by-question _ _ _ _ (c .before .before .enum-told3 .given .1) _ (c .answer .ensures))
+returns-8 c =
+    let at-enum-told3 = c .before .before in
+    let at-letter-of = at-enum-told3 .before .before in
+    let at-if3 = at-letter-of .before in
+    let at-fields-of = at-if3 .before .before in
+    let at-if2 = at-fields-of .before in
+    let at-if1 = at-if2 .before .before in
+    law.line-well _ _ _ (at-if1 .if1 .left) (at-if2 .if2 .left) _ (at-fields-of .fields-of .ensures)
+    (at-if3 .if3 .left) _ (at-letter-of .letter-of .ensures) _ (law.by-question _ _ _ _
+    (at-enum-told3 .enum-told3 .given .1) _ (c .answer .ensures))
 
 returns-9 : tie.Need-returns-9
-returns-9 c = law.line-well _ _ _ (c .before .before .before .before .before .before .before .before .before .if1 .left) (c .before .before .before .before .before .before .before .if2 .left) _ (c .before .before .before .before .before .before .fields-of .ensures) (c .before .before .before .before .if3 .left) _ (c .before .before .before .letter-of .ensures) _ (law.by-other _ _ _ _ (c .before .enum-told4 .given .1) _ (c .not-of-form3 .ensures))
+returns-9 c =
+    let at-letter-of = c .before .before .before in
+    let at-if3 = at-letter-of .before in
+    let at-fields-of = at-if3 .before .before in
+    let at-if2 = at-fields-of .before in
+    let at-if1 = at-if2 .before .before in
+    law.line-well _ _ _ (at-if1 .if1 .left) (at-if2 .if2 .left) _ (at-fields-of .fields-of .ensures)
+    (at-if3 .if3 .left) _ (at-letter-of .letter-of .ensures) _ (law.by-other _ _ _ _
+    (c .before .enum-told4 .given .1) _ (c .not-of-form3 .ensures))
 
 pub replay-line-spec : {M : Type 1} → statement M
 replay-line-spec =

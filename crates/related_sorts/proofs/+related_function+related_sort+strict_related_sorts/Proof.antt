@@ -11,4 +11,6 @@ use Rattle.related_sorts.proofs.+related_function+related_sort+strict_r
 use Rattle.related_sorts.proofs.+related_function+related_sort+strict_related_sorts.Proof.Strict_related_sorts as part-strict-related-sorts
 
 pub +related-function+related-sort+strict-related-sorts-spec : {M : Type 1} → statement M
-+related-function+related-sort+strict-related-sorts-spec {M} = close common.μ-related-function common.μ-related-sort common.μ-strict-related-sorts (part-related-function.part M) (part-related-sort.part M) (part-strict-related-sorts.part M)
++related-function+related-sort+strict-related-sorts-spec {M} = close common.μ-related-function common.μ-related-sort
+    common.μ-strict-related-sorts (part-related-function.part M) (part-related-sort.part M)
+    (part-strict-related-sorts.part M)

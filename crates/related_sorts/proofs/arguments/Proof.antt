@@ -22,11 +22,27 @@ arguments-spec =
     Inv-loop
     μ-loop
     (λ c. (omega arith, refl, refl))
-    (λ c κs. (c .before .before .before .before .pre .nodes, c .before .before .before .before .pre .placed, omega (arith, c .loop-test .taken, c .before .before .before .before .pre .many)))
+    (λ c κs.
+    let start = c .before .before .before .before in
+    (start .pre .nodes, start .pre .placed, omega (arith, c .loop-test .taken, start .pre .many)))
     (λ c. omega arith)
     (λ c. omega (arith, c .before .loop-test .taken, c .before .before .before .before .before .pre .few))
     (λ c. omega (arith, c .before .loop-test .taken, c .before .before .before .before .before .pre .few))
     (λ c. omega (arith, c .before .loop-test .taken, c .before .before .before .before .before .pre .few))
     (λ c. omega (arith, c .before .loop-test .taken))
-    (λ c. (omega (arith, c .before .loop-test .taken), length-set (c .before .before .loop .ids) (c .before .before .loop .i) _ ∙ c .before .before .loop .inv .1, law.one-more-part _ (c .before .before .loop .ids) (c .before .before .loop .i) (omega (arith, c .before .loop-test .taken, c .before .before .before .before .before .pre .few, c .before .before .loop .inv .1)) (omega (arith, c .before .loop-test .taken, c .before .before .before .before .before .pre .many)) (c .before .before .loop .inv .2) _ (c .part .ensures)))
-    (λ c. law.parts-stored _ _ (c .before .loop .i) (c .before .before .before .before .args .count) (omega (arith, c .loop-test .left, c .before .loop .inv .0)) (c .before .loop .inv .2)))
+    (λ c.
+    let at-loop-test = c .before in
+    let at-loop = at-loop-test .before in
+    let start = at-loop .before .before .before in (
+      omega (arith, at-loop-test .loop-test .taken),
+      length-set (at-loop .loop .ids) (at-loop .loop .i) _ ∙
+          at-loop .loop .inv .1,
+      law.one-more-part _ (at-loop .loop .ids) (at-loop .loop .i)
+          (omega (arith, at-loop-test .loop-test .taken, start .pre .few, at-loop .loop .inv .1))
+          (omega (arith, at-loop-test .loop-test .taken, start .pre .many)) (at-loop .loop .inv .2) _
+          (c .part .ensures),
+    ))
+    (λ c.
+    let at-loop = c .before in
+    let start = at-loop .before .before .before in
+    law.parts-stored _ _ (at-loop .loop .i) (start .args .count) (omega (arith, c .loop-test .left, at-loop .loop .inv .0)) (at-loop .loop .inv .2)))

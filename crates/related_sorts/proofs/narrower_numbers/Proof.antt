@@ -31,4 +31,5 @@ narrower-numbers-spec =
     (λ c. law.are-these _ _ (c .three2 .ensures) _ (sym (ap (λ (s : Sort). relatedPlaces false (primitive s)) (c .before .enum-told2 .given .1))) (omega arith))
     (λ c. law.are-these _ _ (c .three3 .ensures) _ (sym (ap (λ (s : Sort). relatedPlaces false (primitive s)) (c .before .enum-told3 .given .1))) (omega arith))
     (λ c. law.are-these _ _ (c .three4 .ensures) _ (sym (ap (λ (s : Sort). relatedPlaces false (primitive s)) (c .before .enum-told4 .given .1))) (omega arith))
-    (λ c. law.are-these _ _ (c .three5 .ensures) _ (sym (ap (λ (s : Sort). relatedPlaces false (primitive s)) (c .before .enum-told5 .given .1))) (omega arith)))
+    (λ c. law.are-these _ _ (c .three5 .ensures) _ (sym (ap (λ (s : Sort). relatedPlaces false (primitive s))
+    (c .before .enum-told5 .given .1))) (omega arith)))

@@ -12,10 +12,32 @@ over-ranges-spec =
     tie.close
     (tie.spec
     (λ c. search needs)
-    (λ c κs. (c .before .before .before .before .before .before .before .pre .1, omega arith, law.few-ranges (c .before .before .before .before .before .before .before .args .sorts .now) (c .before .before .before .before .before .before .before .args .nodes .now) (c .before .before .before .before .before .before .before .args .found) (take (c .before .before .before .before .before .before .before .args .count) (c .before .before .before .before .before .before .before .args .domain)) _ _ (c .before .before .listed .given .1) (c .before .before .before .before .before .before .before .pre .0)))
+    (λ c κs.
+    let at-listed = c .before .before in
+    let start = at-listed .before .before .before .before .before in
+    let args = start .args in (
+      start .pre .1,
+      omega arith,
+      law.few-ranges (args .sorts .now) (args .nodes .now) (args .found)
+          (take (args .count) (args .domain)) _ _ (at-listed .listed .given .1) (start .pre .0),
+    ))
     (λ c. search needs)
     (λ c. search needs)
     (λ c. search needs)
-    (λ c. law.ranges-pushed (c .before .before .before .before .before .before .before .before .before .before .args .sorts .now) (c .before .before .before .before .before .before .before .before .before .before .args .nodes .now) (c .before .before .before .before .before .before .before .before .before .before .args .found) (take (c .before .before .before .before .before .before .before .before .before .before .args .count) (c .before .before .before .before .before .before .before .before .before .before .args .domain)) _ _ (c .before .before .before .before .before .listed .given .1) (replicate 3 0) (c .before .before .push-functions .last .1 .0) (c .before .before .push-functions .result) (c .before .before .push-functions .ensures))
-    (λ c. law.no-ranges (c .before .before .before .before .before .before .args .sorts .now) (c .before .before .before .before .before .before .args .nodes .now) (c .before .before .before .before .before .before .args .found) (take (c .before .before .before .before .before .before .args .count) (c .before .before .before .before .before .before .args .domain)) _ (c .before .listed2 .given .1) (replicate 3 0))
-    (λ c. law.no-room-for-ranges (c .before .before .before .before .before .before .args .sorts .now) (c .before .before .before .before .before .before .args .nodes .now) (c .before .before .before .before .before .before .args .found) (take (c .before .before .before .before .before .before .args .count) (c .before .before .before .before .before .before .args .domain)) _ _ (c .before .listed3 .given .1) (replicate 3 0)))
+    (λ c.
+    let at-push-functions = c .before .before in
+    let at-listed = at-push-functions .before .before .before in
+    let start = at-listed .before .before .before .before .before in
+    let args = start .args in
+    law.ranges-pushed (args .sorts .now) (args .nodes .now) (args .found) (take (args .count) (args .domain)) _ _
+    (at-listed .listed .given .1) (replicate 3 0) (at-push-functions .push-functions .last .1 .0)
+    (at-push-functions .push-functions .result) (at-push-functions .push-functions .ensures))
+    (λ c.
+    let start = c .before .before .before .before .before .before in
+    let args = start .args in
+    law.no-ranges (args .sorts .now) (args .nodes .now) (args .found) (take (args .count) (args .domain)) _ (c .before .listed2 .given .1) (replicate 3 0))
+    (λ c.
+    let start = c .before .before .before .before .before .before in
+    let args = start .args in
+    law.no-room-for-ranges (args .sorts .now) (args .nodes .now) (args .found) (take (args .count) (args .domain)) _ _
+    (c .before .listed3 .given .1) (replicate 3 0)))

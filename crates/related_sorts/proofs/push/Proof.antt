@@ -9,10 +9,17 @@ pub push-spec : {M : Type 1} → statement M
 push-spec =
     tie.close
     (tie.spec
-    (λ c. law.no-row (c .before .before .before .args .sorts .now) (c .before .before .before .args .nodes .now) (c .before .before .before .args .lengths) (c .before .before .before .args .kind) (c .before .before .before .args .part) (c .before .before .before .args .ids) (c .before .before .before .args .count) (search needs) (c .before .before .before .pre) (c .if1 .taken))
+    (λ c. law.no-row (c .before .before .before .args .sorts .now) (c .before .before .before .args .nodes .now)
+    (c .before .before .before .args .lengths) (c .before .before .before .args .kind)
+    (c .before .before .before .args .part) (c .before .before .before .args .ids)
+    (c .before .before .before .args .count) (search needs) (c .before .before .before .pre) (c .if1 .taken))
     (λ c. search needs)
     (λ c. search needs)
-    (λ c. law.no-entries (c .before .before .before .before .args .sorts .now) (c .before .before .before .before .args .nodes .now) (c .before .before .before .before .args .lengths) (c .before .before .before .before .args .kind) (c .before .before .before .before .args .part) (c .before .before .before .before .args .ids) (c .before .before .before .before .args .count) (search needs) (c .before .before .before .before .pre) (c .before .if1 .left) (c .if2 .taken))
+    (λ c. law.no-entries (c .before .before .before .before .args .sorts .now)
+    (c .before .before .before .before .args .nodes .now) (c .before .before .before .before .args .lengths)
+    (c .before .before .before .before .args .kind) (c .before .before .before .before .args .part)
+    (c .before .before .before .before .args .ids) (c .before .before .before .before .args .count) (search needs)
+    (c .before .before .before .before .pre) (c .before .if1 .left) (c .if2 .taken))
     (λ c κs. search needs)
     (λ c κs. search needs)
     (λ c. search needs)

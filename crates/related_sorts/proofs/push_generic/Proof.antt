@@ -21,7 +21,34 @@ push-generic-spec =
     (λ c. search needs)
     (λ c κs. search needs)
     (λ c. search needs)
-    (λ c. law.container-pushed (c .before .before .before .before .before .before .before .before .before .before .before .before .before .before .before .args .up) (c .before .before .before .before .before .before .before .before .before .before .before .before .before .before .before .args .op) (c .before .before .before .before .before .before .before .before .before .before .before .before .related-container .result) (c .before .before .before .before .before .before .before .before .before .before .before .before .related-container .ensures) _ (c .before .before .before .before .before .before .before .before .before .before .related-op .given .1) (c .before .before .before .before .before .before .before .before .before .before .before .before .before .before .before .args .subsort .0) (c .before .before .before .before .before .before .before .before .before .before .before .before .before .before .before .args .sorts .now) (c .before .before .before .before .before .before .before .before .before .before .before .before .before .before .before .args .nodes .now) (c .before .before .before .before .before .before .before .before .before .before .before .before .before .before .before .args .lengths) _ (c .before .before .before .before .before .before .push .result) _ (c .before .before .before .before .before .before .before .kind-of-op .ensures) _ refl (c .before .before .before .before .before .before .push .ensures) _ _ (c .before .before .place .given .1) _ (c .only .ensures))
+    (λ c.
+    let at-place = c .before .before in
+    let at-push = at-place .before .before .before .before in
+    let at-kind-of-op = at-push .before in
+    let at-related-op = at-kind-of-op .before .before .before in
+    let at-related-container = at-related-op .before .before in
+    let start = at-related-container .before .before .before in
+    let args = start .args in
+    law.container-pushed (args .up) (args .op) (at-related-container .related-container .result)
+    (at-related-container .related-container .ensures) _ (at-related-op .related-op .given .1) (args .subsort .0)
+    (args .sorts .now) (args .nodes .now) (args .lengths) _ (at-push .push .result) _
+    (at-kind-of-op .kind-of-op .ensures) _ refl (at-push .push .ensures) _ _ (at-place .place .given .1) _
+    (c .only .ensures))
     (λ c. search needs)
-    (λ c. law.no-room-for-container (c .before .before .before .before .before .before .before .before .before .before .before .before .before .args .up) (c .before .before .before .before .before .before .before .before .before .before .before .before .before .args .op) (c .before .before .before .before .before .before .before .before .before .before .related-container .result) (c .before .before .before .before .before .before .before .before .before .before .related-container .ensures) _ (c .before .before .before .before .before .before .before .before .related-op .given .1) (c .before .before .before .before .before .before .before .before .before .before .before .before .before .args .subsort .0) (c .before .before .before .before .before .before .before .before .before .before .before .before .before .args .sorts .now) (c .before .before .before .before .before .before .before .before .before .before .before .before .before .args .nodes .now) (c .before .before .before .before .before .before .before .before .before .before .before .before .before .args .lengths) _ (c .before .before .before .before .push .result) _ (c .before .before .before .before .before .kind-of-op .ensures) _ refl (c .before .before .before .before .push .ensures) (c .enum-told .given .1) (replicate 3 0))
-    (λ c. law.no-container (c .before .before .before .before .before .before .args .up) (c .before .before .before .before .before .before .args .op) (c .before .before .before .related-container .result) (c .before .before .before .related-container .ensures) (c .before .enum-told2 .given .1) _ _ _ _ _ _ (c .none .ensures)))
+    (λ c.
+    let at-push = c .before .before .before .before in
+    let at-kind-of-op = at-push .before in
+    let at-related-op = at-kind-of-op .before .before .before in
+    let at-related-container = at-related-op .before .before in
+    let start = at-related-container .before .before .before in
+    let args = start .args in
+    law.no-room-for-container (args .up) (args .op) (at-related-container .related-container .result)
+    (at-related-container .related-container .ensures) _ (at-related-op .related-op .given .1) (args .subsort .0)
+    (args .sorts .now) (args .nodes .now) (args .lengths) _ (at-push .push .result) _
+    (at-kind-of-op .kind-of-op .ensures) _ refl (at-push .push .ensures) (c .enum-told .given .1) (replicate 3 0))
+    (λ c.
+    let at-related-container = c .before .before .before in
+    let start = at-related-container .before .before .before in
+    law.no-container (start .args .up) (start .args .op) (at-related-container .related-container .result)
+    (at-related-container .related-container .ensures) (c .before .enum-told2 .given .1) _ _ _ _ _ _
+    (c .none .ensures)))

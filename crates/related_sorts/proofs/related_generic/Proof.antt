@@ -18,7 +18,13 @@ related-generic-spec =
     (λ c κs. search needs)
     (λ c. search needs)
     (λ c κs. search needs)
-    (λ c κs. (subst (λ (k : Counts). Checked (c .before .before .before .before .before .before .before .before .args .sorts .now) (k .sorts) (k .entries)) (sym (c .counts-of .ensures)) (c .before .before .before .before .before .before .before .before .pre .0), subst (λ (k : Counts). c .before .before .before .before .before .before .before .before .args .subsort .0 < k .sorts) (sym (c .counts-of .ensures)) (c .before .before .before .before .before .before .before .before .pre .1)))
+    (λ c κs.
+    let start = c .before .before .before .before .before .before .before .before in (
+      subst (λ (k : Counts). Checked (start .args .sorts .now) (k .sorts) (k .entries)) (sym (c .counts-of .ensures))
+          (start .pre .0),
+      subst (λ (k : Counts). start .args .subsort .0 < k .sorts) (sym (c .counts-of .ensures))
+          (start .pre .1),
+    ))
     (λ c. search needs)
     (λ c κs. search needs)
     (λ c κs. search needs)
@@ -27,9 +33,48 @@ related-generic-spec =
     (λ c. search needs)
     (λ c κs. search needs)
     (λ c. search needs)
-    (λ c. law.container-interned (c .before .before .before .before .before .before .before .before .before .before .before .before .before .before .before .before .args .up) (c .before .before .before .before .before .before .before .before .before .before .before .before .before .before .before .before .args .op) (c .before .before .before .before .before .before .before .before .before .before .before .before .before .related-container .result) (c .before .before .before .before .before .before .before .before .before .before .before .before .before .related-container .ensures) _ (c .before .before .before .before .before .before .before .before .before .before .before .related-op .given .1) (c .before .before .before .before .before .before .before .before .before .before .before .before .before .before .before .before .args .subsort .0) (c .before .before .before .before .before .before .before .before .before .before .before .before .before .before .before .before .args .sorts .now) (c .before .before .before .before .before .before .before .before .before .before .before .before .before .before .before .before .args .nodes .now) (c .before .before .before .before .before .before .before .before .before .before .before .before .before .before .before .before .args .lengths) _ (c .before .before .before .before .before .before .before .before .counts-of .ensures) _ (c .before .before .before .before .before .before .before .generic .result) (c .before .before .before .before .before .before .before .generic .ensures) _ _ (c .before .before .before .id .given .1) _ (c .before .with-counts .ensures) _ (c .only .ensures))
+    (λ c.
+    let at-id = c .before .before .before in
+    let at-generic = at-id .before .before .before .before in
+    let at-counts-of = at-generic .before in
+    let at-related-op = at-counts-of .before .before .before in
+    let at-related-container = at-related-op .before .before in
+    let start = at-related-container .before .before .before in
+    let args = start .args in
+    law.container-interned (args .up) (args .op) (at-related-container .related-container .result)
+    (at-related-container .related-container .ensures) _ (at-related-op .related-op .given .1) (args .subsort .0)
+    (args .sorts .now) (args .nodes .now) (args .lengths) _ (at-counts-of .counts-of .ensures) _
+    (at-generic .generic .result) (at-generic .generic .ensures) _ _ (at-id .id .given .1) _
+    (c .before .with-counts .ensures) _ (c .only .ensures))
     (λ c. search needs)
-    (λ c. law.always-interned (c .before .before .before .before .before .before .before .before .before .before .before .before .before .args .up) (c .before .before .before .before .before .before .before .before .before .before .before .before .before .args .op) (c .before .before .before .before .before .before .before .before .before .before .related-container .result) (c .before .before .before .before .before .before .before .before .before .before .related-container .ensures) _ (c .before .before .before .before .before .before .before .before .related-op .given .1) (c .before .before .before .before .before .before .before .before .before .before .before .before .before .args .subsort .0) (c .before .before .before .before .before .before .before .before .before .before .before .before .before .args .sorts .now) (c .before .before .before .before .before .before .before .before .before .before .before .before .before .args .nodes .now) (c .before .before .before .before .before .before .before .before .before .before .before .before .before .args .lengths) _ (c .before .before .before .before .before .counts-of .ensures) _ (c .before .before .before .before .generic .result) (c .before .before .before .before .generic .ensures) (c .before .before .before .before .before .before .before .before .before .before .before .before .before .pre .0) _ (c .enum-told .given .1) (record { ids = replicate 3 0; listed = NoList (c .before .before .before .before .before .before .before .before .before .before .before .before .before .args .lengths) }))
+    (λ c.
+    let at-generic = c .before .before .before .before in
+    let at-counts-of = at-generic .before in
+    let at-related-op = at-counts-of .before .before .before in
+    let at-related-container = at-related-op .before .before in
+    let start = at-related-container .before .before .before in
+    let args = start .args in
+    law.always-interned (args .up) (args .op) (at-related-container .related-container .result)
+    (at-related-container .related-container .ensures) _ (at-related-op .related-op .given .1) (args .subsort .0)
+    (args .sorts .now) (args .nodes .now) (args .lengths) _ (at-counts-of .counts-of .ensures) _
+    (at-generic .generic .result) (at-generic .generic .ensures) (start .pre .0) _ (c .enum-told .given .1)
+    (record { ids = replicate 3 0; listed = NoList (args .lengths) }))
     (λ c. search needs)
-    (λ c. law.no-room-for-sort (c .before .before .before .before .before .before .before .before .before .before .before .before .before .args .up) (c .before .before .before .before .before .before .before .before .before .before .before .before .before .args .op) (c .before .before .before .before .before .before .before .before .before .before .related-container .result) (c .before .before .before .before .before .before .before .before .before .before .related-container .ensures) _ (c .before .before .before .before .before .before .before .before .related-op .given .1) (c .before .before .before .before .before .before .before .before .before .before .before .before .before .args .subsort .0) (c .before .before .before .before .before .before .before .before .before .before .before .before .before .args .sorts .now) (c .before .before .before .before .before .before .before .before .before .before .before .before .before .args .nodes .now) (c .before .before .before .before .before .before .before .before .before .before .before .before .before .args .lengths) _ (c .before .before .before .before .before .counts-of .ensures) _ (c .before .before .before .before .generic .result) (c .before .before .before .before .generic .ensures) (c .before .before .before .before .before .before .before .before .before .before .before .before .before .pre .0) (c .enum-told2 .given .1) (replicate 3 0))
-    (λ c. law.no-container (c .before .before .before .before .before .before .args .up) (c .before .before .before .before .before .before .args .op) (c .before .before .before .related-container .result) (c .before .before .before .related-container .ensures) (c .before .enum-told3 .given .1) _ _ _ _ _ _ (c .none .ensures)))
+    (λ c.
+    let at-generic = c .before .before .before .before in
+    let at-counts-of = at-generic .before in
+    let at-related-op = at-counts-of .before .before .before in
+    let at-related-container = at-related-op .before .before in
+    let start = at-related-container .before .before .before in
+    let args = start .args in
+    law.no-room-for-sort (args .up) (args .op) (at-related-container .related-container .result)
+    (at-related-container .related-container .ensures) _ (at-related-op .related-op .given .1) (args .subsort .0)
+    (args .sorts .now) (args .nodes .now) (args .lengths) _ (at-counts-of .counts-of .ensures) _
+    (at-generic .generic .result) (at-generic .generic .ensures) (start .pre .0) (c .enum-told2 .given .1)
+    (replicate 3 0))
+    (λ c.
+    let at-related-container = c .before .before .before in
+    let start = at-related-container .before .before .before in
+    law.no-container (start .args .up) (start .args .op) (at-related-container .related-container .result)
+    (at-related-container .related-container .ensures) (c .before .enum-told3 .given .1) _ _ _ _ _ _
+    (c .none .ensures)))

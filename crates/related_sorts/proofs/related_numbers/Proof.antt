@@ -13,6 +13,10 @@ related-numbers-spec =
     tie.close
     (tie.spec
     (λ c κs. search needs)
-    (λ c. subst (λ (u : Bool). AreThese (c .wider-numbers .result) (relatedPlaces u (primitive (c .before .before .args .sort)))) (sym (c .before .if1 .taken)) (c .wider-numbers .ensures))
+    (λ c. subst (λ (u : Bool). AreThese (c .wider-numbers .result)
+    (relatedPlaces u (primitive (c .before .before .args .sort)))) (sym (c .before .if1 .taken))
+    (c .wider-numbers .ensures))
     (λ c κs. search needs)
-    (λ c. subst (λ (u : Bool). AreThese (c .narrower-numbers .result) (relatedPlaces u (primitive (c .before .before .args .sort)))) (sym (c .before .if1 .left)) (c .narrower-numbers .ensures)))
+    (λ c. subst (λ (u : Bool). AreThese (c .narrower-numbers .result)
+    (relatedPlaces u (primitive (c .before .before .args .sort)))) (sym (c .before .if1 .left))
+    (c .narrower-numbers .ensures)))

@@ -59,15 +59,30 @@ returns-2 c = rw (c .before .enum-told2 .given .1, c .before .before .before .on
 
 returns-3 : tie.Need-returns-3
 unfolding countedOf
-returns-3 c = rw (c .before .before .enum-told3 .given .1, c .before .before .before .before .one-more .ensures, c .before .one-more3 .ensures, c .one-more4 .ensures)
+returns-3 c = rw (
+  c .before .before .enum-told3 .given .1,
+  c .before .before .before .before .one-more .ensures,
+  c .before .one-more3 .ensures,
+  c .one-more4 .ensures,
+)
 
 returns-4 : tie.Need-returns-4
 unfolding countedOf
-returns-4 c = rw (c .before .before .enum-told4 .given .1, c .before .before .before .before .one-more .ensures, c .before .one-more5 .ensures, c .one-more6 .ensures)
+returns-4 c = rw (
+  c .before .before .enum-told4 .given .1,
+  c .before .before .before .before .one-more .ensures,
+  c .before .one-more5 .ensures,
+  c .one-more6 .ensures,
+)
 
 returns-5 : tie.Need-returns-5
 unfolding countedOf
-returns-5 c = rw (c .before .before .enum-told5 .given .1, c .before .before .before .before .one-more .ensures, c .before .one-more7 .ensures, c .one-more8 .ensures)
+returns-5 c = rw (
+  c .before .before .enum-told5 .given .1,
+  c .before .before .before .before .one-more .ensures,
+  c .before .one-more7 .ensures,
+  c .one-more8 .ensures,
+)
 
 returns-6 : tie.Need-returns-6
 unfolding countedOf

@@ -30,7 +30,10 @@ no-fields-requires : tie.Need-no-fields-requires Inv-loop μ-loop
 no-fields-requires c κs = search needs
 
 returns-2 : tie.Need-returns-2 Inv-loop μ-loop
-returns-2 c = c .no-fields .ensures ∙ law.fields-no-space _ _ _ _ _ (c .before .before .before .if1 .left) (c .before .if2 .taken) ∙ (c .before .before .before .before .before .loop .inv .2)
+returns-2 c =
+    let at-if1 = c .before .before .before in
+    let at-loop = at-if1 .before .before in
+    c .no-fields .ensures ∙ law.fields-no-space _ _ _ _ _ (at-if1 .if1 .left) (c .before .if2 .taken) ∙ (at-loop .loop .inv .2)
 
 add-number-at : tie.Need-add-number-at Inv-loop μ-loop
 add-number-at c = omega arith
@@ -48,7 +51,13 @@ no-fields-requires-2 : tie.Need-no-fields-requires-2 Inv-loop μ-loop
 no-fields-requires-2 c κs = search needs
 
 returns-3 : tie.Need-returns-3 Inv-loop μ-loop
-returns-3 c = c .no-fields2 .ensures ∙ law.fields-no-number _ _ _ _ _ (c .before .before .before .before .before .before .if1 .left) (c .before .before .before .before .if2 .left) (sym (c .before .before .before .number-at .ensures) ∙ c .before .enum-told .given .1) ∙ (c .before .before .before .before .before .before .before .before .loop .inv .2)
+returns-3 c =
+    let at-number-at = c .before .before .before in
+    let at-if2 = at-number-at .before in
+    let at-if1 = at-if2 .before .before in
+    let at-loop = at-if1 .before .before in
+    c .no-fields2 .ensures ∙ law.fields-no-number _ _ _ _ _ (at-if1 .if1 .left) (at-if2 .if2 .left)
+    (sym (at-number-at .number-at .ensures) ∙ c .before .enum-told .given .1) ∙ (at-loop .loop .inv .2)
 
 mul-values : tie.Need-mul-values Inv-loop μ-loop
 mul-values c = omega arith
@@ -63,7 +72,18 @@ loop-less : tie.Need-loop-less Inv-loop μ-loop
 loop-less c = omega arith
 
 loop-again : tie.Need-loop-again Inv-loop μ-loop
-loop-again c = (omega arith, simp length-set (c .before .before .before .before .before .before .before .before .loop .inv .1), sym (law.fields-more _ _ _ _ _ _ (c .before .before .before .before .before .before .before .loop-test .taken) (c .before .before .before .before .before .before .if1 .left) (c .before .before .before .before .if2 .left) (sym (c .before .before .before .number-at .ensures) ∙ c .before .value .given .1)) ∙ c .before .before .before .before .before .before .before .before .loop .inv .2)
+loop-again c =
+    let at-number-at = c .before .before .before in
+    let at-if2 = at-number-at .before in
+    let at-if1 = at-if2 .before .before in
+    let at-loop-test = at-if1 .before in
+    let at-loop = at-loop-test .before in (
+      omega arith,
+      simp length-set (at-loop .loop .inv .1),
+      sym (law.fields-more _ _ _ _ _ _
+          (at-loop-test .loop-test .taken) (at-if1 .if1 .left) (at-if2 .if2 .left)
+          (sym (at-number-at .number-at .ensures) ∙ c .before .value .given .1)) ∙ at-loop .loop .inv .2,
+    )
 
 returns-4 : tie.Need-returns-4 Inv-loop μ-loop
 returns-4 c = law.fields-ended _ _ _ _ _ (c .if3 .taken) ∙ (c .before .before .loop .inv .2)
@@ -72,7 +92,8 @@ no-fields-requires-3 : tie.Need-no-fields-requires-3 Inv-loop μ-loop
 no-fields-requires-3 c κs = search needs
 
 returns-5 : tie.Need-returns-5 Inv-loop μ-loop
-returns-5 c = c .no-fields3 .ensures ∙ law.fields-over _ _ _ _ (c .before .before .loop-test .left) (c .before .if3 .left) ∙ (c .before .before .before .loop .inv .2)
+returns-5 c = c .no-fields3 .ensures ∙ law.fields-over _ _ _ _ (c .before .before .loop-test .left)
+    (c .before .if3 .left) ∙ (c .before .before .before .loop .inv .2)
 
 pub fields-of-spec : {M : Type 1} → statement M
 fields-of-spec =

@@ -25,16 +25,28 @@ ended-requires : tie.Need-ended-requires Inv-loop μ-loop
 ended-requires c κs = search needs
 
 returns : tie.Need-returns Inv-loop μ-loop
-returns c = c .ended .ensures ∙ law.going-ends _ _ _ _ (c .before .before .before .before .loop .inv) (law.digits-low _ _ (c .before .before .before .loop-test .taken) (c .before .if1 .taken))
+returns c =
+    let at-loop-test = c .before .before .before in
+    let at-loop = at-loop-test .before in
+    c .ended .ensures ∙ law.going-ends _ _ _ _ (at-loop .loop .inv) (law.digits-low _ _ (at-loop-test .loop-test .taken) (c .before .if1 .taken))
 
 ended-requires-2 : tie.Need-ended-requires-2 Inv-loop μ-loop
 ended-requires-2 c κs = search needs
 
 returns-2 : tie.Need-returns-2 Inv-loop μ-loop
-returns-2 c = c .ended2 .ensures ∙ law.going-ends _ _ _ _ (c .before .before .before .before .before .loop .inv) (law.digits-high _ _ (c .before .before .before .before .loop-test .taken) (c .before .before .if1 .left) (c .before .if2 .taken))
+returns-2 c =
+    let at-if1 = c .before .before in
+    let at-loop-test = at-if1 .before .before in
+    let at-loop = at-loop-test .before in
+    c .ended2 .ensures ∙ law.going-ends _ _ _ _ (at-loop .loop .inv) (law.digits-high _ _
+    (at-loop-test .loop-test .taken) (at-if1 .if1 .left) (c .before .if2 .taken))
 
 returns-3 : tie.Need-returns-3 Inv-loop μ-loop
-returns-3 c = law.going-large _ _ _ _ (c .before .before .before .before .before .loop .inv) (c .before .before .before .before .loop-test .taken) (c .before .before .if1 .left) (c .before .if2 .left) (c .if3 .taken)
+returns-3 c =
+    let at-if1 = c .before .before in
+    let at-loop-test = at-if1 .before .before in
+    let at-loop = at-loop-test .before in
+    law.going-large _ _ _ _ (at-loop .loop .inv) (at-loop-test .loop-test .taken) (at-if1 .if1 .left) (c .before .if2 .left) (c .if3 .taken)
 
 mul-value : tie.Need-mul-value Inv-loop μ-loop
 mul-value c = omega arith
@@ -52,7 +64,13 @@ loop-less : tie.Need-loop-less Inv-loop μ-loop
 loop-less c = omega arith
 
 loop-again : tie.Need-loop-again Inv-loop μ-loop
-loop-again c = rw (c .wide .ensures) (law.going-more _ _ _ _ (c .before .before .before .before .before .before .loop .inv) (c .before .before .before .before .before .loop-test .taken) (c .before .before .before .if1 .left) (c .before .before .if2 .left) (c .before .if3 .left))
+loop-again c =
+    let at-if2 = c .before .before in
+    let at-if1 = at-if2 .before in
+    let at-loop-test = at-if1 .before .before in
+    let at-loop = at-loop-test .before in
+    rw (c .wide .ensures) (law.going-more _ _ _ _ (at-loop .loop .inv) (at-loop-test .loop-test .taken)
+    (at-if1 .if1 .left) (at-if2 .if2 .left) (c .before .if3 .left))
 
 ended-requires-3 : tie.Need-ended-requires-3 Inv-loop μ-loop
 ended-requires-3 c κs = search needs

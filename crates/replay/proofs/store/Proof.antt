@@ -10,7 +10,8 @@ use Rattle.replay.proofs.store.Statement.{statement}
 use Rattle.replay.proofs.store.Tie as tie
 
 abbrev Inv-loop : tie.InvT-loop
-Inv-loop list₀ base first count values i₀ list i = (i ≤ count) × (length list ≡ length list₀) × (storeFrom count list₀ base values first ≡ storeFrom (count - i) list (base + i) values (first + i))
+Inv-loop list₀ base first count values i₀ list i = (i ≤ count) × (length list ≡ length list₀) × (storeFrom count list₀
+    base values first ≡ storeFrom (count - i) list (base + i) values (first + i))
 
 abbrev μ-loop : tie.MeasureT-loop
 μ-loop list₀ base first count values i₀ list i = count - i
@@ -49,7 +50,16 @@ loop-less : tie.Need-loop-less Inv-loop μ-loop
 loop-less c = omega arith
 
 loop-again : tie.Need-loop-again Inv-loop μ-loop
-loop-again c = (omega arith, c .before .before .put .kept .0 ∙ c .before .before .before .before .before .before .loop .inv .1, c .before .before .before .before .before .before .loop .inv .2 ∙ law.more _ _ _ _ _ _ (c .before .before .before .before .before .loop-test .taken) (c .before .before .before .before .if1 .left) _ (c .before .before .put .ensures))
+loop-again c =
+    let at-put = c .before .before in
+    let at-if1 = at-put .before .before in
+    let at-loop-test = at-if1 .before in
+    let at-loop = at-loop-test .before in (
+      omega arith,
+      at-put .put .kept .0 ∙ at-loop .loop .inv .1,
+      at-loop .loop .inv .2 ∙ law.more _ _ _ _ _ _
+          (at-loop-test .loop-test .taken) (at-if1 .if1 .left) _ (at-put .put .ensures),
+    )
 
 same-length-2 : tie.Need-same-length-2 Inv-loop μ-loop
 same-length-2 c = c .before .loop .inv .1

@@ -17,8 +17,10 @@ use Rattle.resolved_sort.specs.declared.Found.the-variants.{All, Nothing
 use Rattle.resolved_sort.specs.declared.Domain.{Domain}
 use Rattle.resolved_sort.specs.Tree.{primitive, container, function, Trees, family, level}
 use Rattle.resolved_sort.specs.Order.{leLevel, boundOp}
-use Rattle.resolved_sort.specs.Interning.{look, Outcome, made, nothing, full, _then_, where-some, intern, make, makes}
-use Rattle.resolved_sort.specs.Storage.{maxArguments, functionKind, kindAt, partAt, startAt, countAt, entriesOf, lookAll, numbers, trees, sortsOf}
+use Rattle.resolved_sort.specs.Interning.{look, Outcome, made, nothing, full, _then_, where-some, intern}
+use Rattle.resolved_sort.specs.Interning.{make, makes}
+use Rattle.resolved_sort.specs.Storage.{maxArguments, functionKind, kindAt, partAt, startAt, countAt}
+use Rattle.resolved_sort.specs.Storage.{entriesOf, lookAll, numbers, trees, sortsOf}
 use Rattle.resolved_sort.specs.Entries.{countsOf, after, Stored, stored}
 use Rattle.resolved_sort.specs.Bounds.{Asked}
 

@@ -8,7 +8,8 @@ use Rattle.resolved_sort.specs.declared.Sort.{Sort}
 use Rattle.resolved_sort.specs.declared.ComplexSort.{ComplexSort}
 use Rattle.resolved_sort.specs.declared.Run.{Run}
 use Rattle.resolved_sort.specs.declared.ResolvedSort.{ResolvedSort}
-use Rattle.resolved_sort.specs.declared.ResolvedSort.the-variants.{Unit, Primitive, Container, Function, Def, TypeVar}
+use Rattle.resolved_sort.specs.declared.ResolvedSort.the-variants.{Unit, Primitive, Container, Function, Def}
+use Rattle.resolved_sort.specs.declared.ResolvedSort.the-variants.{TypeVar}
 use Rattle.resolved_sort.specs.declared.Pair.{Pair}
 use Rattle.resolved_sort.specs.declared.Pair.the-variants.{Primitives, Containers, Functions, Other}
 use Rattle.resolved_sort.specs.Storage.{rowAt}

@@ -17,7 +17,13 @@ slice-aggregate-agreement : tie.Need-slice-aggregate-agreement
 slice-aggregate-agreement c = search needs
 
 agreement-requires : tie.Need-agreement-requires
-agreement-requires c κs = law.resolved _ _ _ _ _ _ _ _ (c .before .before .before .before .before .before .before .before .before .before .before .before .before .before .before .before .before .pre) _ _ (c .before .before .before .before .before .before .before .before .before .resolve-sources .result) (c .before .before .before .before .before .before .before .before .before .resolve-sources .ensures) (c .before .before .before .before .before .before .before .before .before .resolve-sources .kept .1 .1 .1 .1 .0) _ (c .before .before .before .before .here .given .1)
+agreement-requires c κs =
+    let at-here = c .before .before .before .before in
+    let at-resolve-sources = at-here .before .before .before .before .before in
+    let start = at-resolve-sources .before .before .before .before .before .before .before .before in
+    law.resolved _ _ _ _ _ _ _ _ (start .pre) _ _ (at-resolve-sources .resolve-sources .result)
+    (at-resolve-sources .resolve-sources .ensures) (at-resolve-sources .resolve-sources .kept .1 .1 .1 .1 .0) _
+    (at-here .here .given .1)
 
 enum-known-here-2 : tie.Need-enum-known-here-2
 enum-known-here-2 c = search needs
@@ -32,19 +38,34 @@ same-length-2 : tie.Need-same-length-2
 same-length-2 c = search needs
 
 returns : tie.Need-returns
-returns c = law.sources-agree _ _ _ _ _ _ _ _ (c .before .before .before .before .before .before .before .before .before .before .before .before .before .before .before .before .before .before .before .before .before .before .pre) _ _ (c .before .before .before .before .before .before .before .before .before .before .before .before .before .before .resolve-sources .result) (c .before .before .before .before .before .before .before .before .before .before .before .before .before .before .resolve-sources .ensures) (c .before .before .before .before .before .before .before .before .before .before .before .before .before .before .resolve-sources .kept .1 .1 .1 .1 .0) _ (c .before .before .before .before .before .before .before .before .before .here .given .1) _ _ _ (c .before .before .before .before .agreement .ensures)
+returns c =
+    let at-agreement = c .before .before .before .before in
+    let at-here = at-agreement .before .before .before .before .before in
+    let at-resolve-sources = at-here .before .before .before .before .before in
+    let start = at-resolve-sources .before .before .before .before .before .before .before .before in
+    law.sources-agree _ _ _ _ _ _ _ _ (start .pre) _ _ (at-resolve-sources .resolve-sources .result)
+    (at-resolve-sources .resolve-sources .ensures) (at-resolve-sources .resolve-sources .kept .1 .1 .1 .1 .0) _
+    (at-here .here .given .1) _ _ _ (at-agreement .agreement .ensures)
 
 same-length-3 : tie.Need-same-length-3
 same-length-3 c = search needs
 
 returns-2 : tie.Need-returns-2
-returns-2 c = law.sources-stop _ _ _ _ _ _ _ _ (c .before .before .before .before .before .before .before .before .before .before .before .before .before .before .pre) _ _ (c .before .before .before .before .before .before .resolve-sources .result) (c .before .before .before .before .before .before .resolve-sources .ensures) _ (c .before .here2 .given .1)
+returns-2 c =
+    let at-resolve-sources = c .before .before .before .before .before .before in
+    let start = at-resolve-sources .before .before .before .before .before .before .before .before in
+    law.sources-stop _ _ _ _ _ _ _ _ (start .pre) _ _ (at-resolve-sources .resolve-sources .result)
+    (at-resolve-sources .resolve-sources .ensures) _ (c .before .here2 .given .1)
 
 same-length-4 : tie.Need-same-length-4
 same-length-4 c = search needs
 
 returns-3 : tie.Need-returns-3
-returns-3 c = law.sources-end _ _ _ _ _ _ _ _ (c .before .before .before .before .before .before .before .before .before .before .before .before .before .before .pre) _ _ (c .before .before .before .before .before .before .resolve-sources .result) (c .before .before .before .before .before .before .resolve-sources .ensures) _ (c .before .here3 .given .1)
+returns-3 c =
+    let at-resolve-sources = c .before .before .before .before .before .before in
+    let start = at-resolve-sources .before .before .before .before .before .before .before .before in
+    law.sources-end _ _ _ _ _ _ _ _ (start .pre) _ _ (at-resolve-sources .resolve-sources .result)
+    (at-resolve-sources .resolve-sources .ensures) _ (c .before .here3 .given .1)
 
 pub agreed-spec : {M : Type 1} → statement M
 agreed-spec =

@@ -18,10 +18,20 @@ enum-told : tie.Need-enum-told
 enum-told c = search needs
 
 returns : tie.Need-returns
-returns c = law.head-is _ _ (law.between (c .before .before .before .before .before .args .sorts .now) (c .before .before .before .before .before .args .counts .sorts) (c .before .before .before .before .before .args .from .0) (c .before .before .before .before .before .args .to .0)) (sym (c .before .head .given .1) ∙ c .before .before .before .widening-distance .ensures)
+returns c =
+    let at-widening-distance = c .before .before .before in
+    let start = at-widening-distance .before .before in
+    let args = start .args in
+    law.head-is _ _ (law.between (args .sorts .now) (args .counts .sorts) (args .from .0) (args .to .0))
+    (sym (c .before .head .given .1) ∙ at-widening-distance .widening-distance .ensures)
 
 returns-2 : tie.Need-returns-2
-returns-2 c = law.no-head (law.between (c .before .before .before .before .args .sorts .now) (c .before .before .before .before .args .counts .sorts) (c .before .before .before .before .args .from .0) (c .before .before .before .before .args .to .0)) (sym (c .enum-told .given .1) ∙ c .before .before .widening-distance .ensures)
+returns-2 c =
+    let at-widening-distance = c .before .before in
+    let start = at-widening-distance .before .before in
+    let args = start .args in
+    law.no-head (law.between (args .sorts .now) (args .counts .sorts) (args .from .0) (args .to .0))
+    (sym (c .enum-told .given .1) ∙ at-widening-distance .widening-distance .ensures)
 
 pub head-distance-spec : {M : Type 1} → statement M
 head-distance-spec = tie.close (tie.spec widening-distance-requires enum-known-head cast-result enum-told returns returns-2)

@@ -36,28 +36,56 @@ enum-known-then : tie.Need-enum-known-then Inv-loop μ-loop
 enum-known-then c = search needs
 
 same-length : tie.Need-same-length Inv-loop μ-loop
-same-length c = c .before .before .before .before .before .join-of .kept .0 ∙ c .before .before .before .before .before .before .before .before .before .loop .inv .long
+same-length c =
+    let at-join-of = c .before .before .before .before .before in
+    let at-loop = at-join-of .before .before .before .before in
+    at-join-of .join-of .kept .0 ∙ at-loop .loop .inv .long
 
 returns : tie.Need-returns Inv-loop μ-loop
-returns c = law.stops _ _ _ _ _ _ _ _ (c .before .before .before .before .before .before .before .before .before .loop .inv) (c .before .before .before .before .before .before .before .before .loop-test .taken) _ (c .before .before .before .before .before .before .word2 .ensures) _ (c .before .before .before .before .before .join-of .result) (c .before .before .before .before .before .join-of .ensures) _ (c .before .then .given .1)
+returns c =
+    let at-join-of = c .before .before .before .before .before in
+    let at-word2 = at-join-of .before in
+    let at-loop-test = at-word2 .before .before in
+    let at-loop = at-loop-test .before in
+    law.stops _ _ _ _ _ _ _ _ (at-loop .loop .inv) (at-loop-test .loop-test .taken) _ (at-word2 .word2 .ensures) _
+    (at-join-of .join-of .result) (at-join-of .join-of .ensures) _ (c .before .then .given .1)
 
 enum-known-then-2 : tie.Need-enum-known-then-2 Inv-loop μ-loop
 enum-known-then-2 c = search needs
 
 same-length-2 : tie.Need-same-length-2 Inv-loop μ-loop
-same-length-2 c = c .before .before .before .before .before .join-of .kept .0 ∙ c .before .before .before .before .before .before .before .before .before .loop .inv .long
+same-length-2 c =
+    let at-join-of = c .before .before .before .before .before in
+    let at-loop = at-join-of .before .before .before .before in
+    at-join-of .join-of .kept .0 ∙ at-loop .loop .inv .long
 
 returns-2 : tie.Need-returns-2 Inv-loop μ-loop
-returns-2 c = law.ends _ _ _ _ _ _ _ _ (c .before .before .before .before .before .before .before .before .before .loop .inv) (c .before .before .before .before .before .before .before .before .loop-test .taken) _ (c .before .before .before .before .before .before .word2 .ensures) _ (c .before .before .before .before .before .join-of .result) (c .before .before .before .before .before .join-of .ensures) _ (c .before .then2 .given .1)
+returns-2 c =
+    let at-join-of = c .before .before .before .before .before in
+    let at-word2 = at-join-of .before in
+    let at-loop-test = at-word2 .before .before in
+    let at-loop = at-loop-test .before in
+    law.ends _ _ _ _ _ _ _ _ (at-loop .loop .inv) (at-loop-test .loop-test .taken) _ (at-word2 .word2 .ensures) _
+    (at-join-of .join-of .result) (at-join-of .join-of .ensures) _ (c .before .then2 .given .1)
 
 add-i : tie.Need-add-i Inv-loop μ-loop
-add-i c = omega (arith, c .before .before .before .before .before .before .before .before .loop-test .taken, c .before .before .before .before .before .before .before .before .before .before .before .before .before .fits .count)
+add-i c =
+    let at-loop-test = c .before .before .before .before .before .before .before .before in
+    let at-fits = at-loop-test .before .before .before .before .before in
+    omega (arith, at-loop-test .loop-test .taken, at-fits .fits .count)
 
 loop-less : tie.Need-loop-less Inv-loop μ-loop
 loop-less c = omega (arith, c .before .before .before .before .before .before .before .before .loop-test .taken)
 
 loop-again : tie.Need-loop-again Inv-loop μ-loop
-loop-again c = law.next _ _ _ _ _ _ _ _ (c .before .before .before .before .before .before .before .before .before .loop .inv) (c .before .before .before .before .before .before .before .before .loop-test .taken) _ (c .before .before .before .before .before .before .word2 .ensures) _ (c .before .before .before .before .before .join-of .result) (c .before .before .before .before .before .join-of .ensures) (c .before .before .before .before .before .join-of .kept .0) _ _ (c .before .sort .given .1)
+loop-again c =
+    let at-join-of = c .before .before .before .before .before in
+    let at-word2 = at-join-of .before in
+    let at-loop-test = at-word2 .before .before in
+    let at-loop = at-loop-test .before in
+    law.next _ _ _ _ _ _ _ _ (at-loop .loop .inv) (at-loop-test .loop-test .taken) _ (at-word2 .word2 .ensures) _
+    (at-join-of .join-of .result) (at-join-of .join-of .ensures) (at-join-of .join-of .kept .0) _ _
+    (c .before .sort .given .1)
 
 same-length-3 : tie.Need-same-length-3 Inv-loop μ-loop
 same-length-3 c = c .before .loop .inv .long

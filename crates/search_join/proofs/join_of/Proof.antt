@@ -17,7 +17,12 @@ same-length : tie.Need-same-length
 same-length c = search needs
 
 returns : tie.Need-returns
-returns c = λ ns. law.join-made _ ns _ _ _ _ _ _ (c .made-from .ensures) (law.with-counts-of _ (c .before .before .before .before .before .before .before .args .lengths) _ (c .before .before .before .before .counts-of .ensures) _ _ _ _ (c .before .before .before .join .ensures))
+returns c =
+    let at-join = c .before .before .before in
+    let at-counts-of = at-join .before in
+    let start = at-counts-of .before .before .before in
+    λ ns. law.join-made _ ns _ _ _ _ _ _ (c .made-from .ensures) (law.with-counts-of _ (start .args .lengths) _
+    (at-counts-of .counts-of .ensures) _ _ _ _ (at-join .join .ensures))
 
 pub join-of-spec : {M : Type 1} → statement M
 join-of-spec = tie.close (tie.spec counts-of-requires join-requires made-from-requires same-length returns)

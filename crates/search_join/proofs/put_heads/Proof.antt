@@ -11,7 +11,8 @@ use Rattle.search_join.proofs.put_heads.Tie as tie
 
 abbrev Inv-loop : tie.InvT-loop
 Inv-loop sorts scratch₀ ids count lub measure counts from i₀ scratch i =
-    (i ≤ count) × (length scratch ≡ length scratch₀) × (sets scratch₀ from (law.headsTo sorts (counts .sorts) (lub .0) (take count ids)) ≡ law.storedFrom sorts (counts .sorts) (lub .0) ids count scratch from i)
+    (i ≤ count) × (length scratch ≡ length scratch₀) × (sets scratch₀ from (law.headsTo sorts (counts .sorts) (lub .0)
+    (take count ids)) ≡ law.storedFrom sorts (counts .sorts) (lub .0) ids count scratch from i)
 
 abbrev μ-loop : tie.MeasureT-loop
 μ-loop sorts scratch₀ ids count lub measure counts from i₀ scratch i = count - i
@@ -32,31 +33,58 @@ word-requires : tie.Need-word-requires Inv-loop μ-loop
 word-requires c κs = search needs
 
 head-distance-requires : tie.Need-head-distance-requires Inv-loop μ-loop
-head-distance-requires c κs = law.two-of-list _ _ _ _ _ (c .before .before .before .before .before .before .before .pre) _ (c .before .before .before .counts-of .ensures) _ (c .before .loop-test .taken) _ (c .word .ensures)
+head-distance-requires c κs =
+    let at-counts-of = c .before .before .before in
+    let start = at-counts-of .before .before .before .before in
+    law.two-of-list _ _ _ _ _ (start .pre) _ (at-counts-of .counts-of .ensures) _ (c .before .loop-test .taken) _ (c .word .ensures)
 
 cast-put : tie.Need-cast-put Inv-loop μ-loop
-cast-put c = omega (arith, c .before .before .before .loop-test .taken, c .before .before .before .before .before .before .before .before .before .fits .count)
+cast-put c =
+    let at-loop-test = c .before .before .before in
+    let at-fits = at-loop-test .before .before .before .before .before .before in
+    omega (arith, at-loop-test .loop-test .taken, at-fits .fits .count)
 
 add-put : tie.Need-add-put Inv-loop μ-loop
-add-put c = omega (arith, c .before .before .before .loop-test .taken, c .before .before .before .before .before .before .before .before .before .fits .count, c .before .before .before .before .before .before .before .before .before .fits .measure)
+add-put c =
+    let at-loop-test = c .before .before .before in
+    let at-fits = at-loop-test .before .before .before .before .before .before in
+    omega (arith, at-loop-test .loop-test .taken, at-fits .fits .count, at-fits .fits .measure)
 
 put-requires : tie.Need-put-requires Inv-loop μ-loop
 put-requires c κs = search needs
 
 add-i : tie.Need-add-i Inv-loop μ-loop
-add-i c = omega (arith, c .before .before .before .before .before .before .loop-test .taken, c .before .before .before .before .before .before .before .before .before .before .before .before .fits .count)
+add-i c =
+    let at-loop-test = c .before .before .before .before .before .before in
+    let at-fits = at-loop-test .before .before .before .before .before .before in
+    omega (arith, at-loop-test .loop-test .taken, at-fits .fits .count)
 
 loop-less : tie.Need-loop-less Inv-loop μ-loop
 loop-less c = omega (arith, c .before .before .before .before .before .before .loop-test .taken)
 
 loop-again : tie.Need-loop-again Inv-loop μ-loop
-loop-again c = (omega (arith, c .before .before .before .before .before .before .loop-test .taken), c .before .before .put .kept .0 ∙ c .before .before .before .before .before .before .before .loop .inv .1, law.heads-next _ _ _ _ _ (c .before .before .before .before .before .before .before .before .before .before .before .before .pre) _ (c .before .before .before .before .before .before .before .before .counts-of .ensures) _ _ _ _ (c .before .before .before .before .before .before .before .loop .inv .2) (c .before .before .before .before .before .before .loop-test .taken) _ (c .before .before .before .before .before .word .ensures) _ (c .before .before .before .before .head-distance .ensures) _ (c .before .before .put .ensures))
+loop-again c =
+    let at-put = c .before .before in
+    let at-head-distance = at-put .before .before in
+    let at-word = at-head-distance .before in
+    let at-loop-test = at-word .before in
+    let at-loop = at-loop-test .before in
+    let at-counts-of = at-loop .before in
+    let start = at-counts-of .before .before .before .before in (
+      omega (arith, at-loop-test .loop-test .taken),
+      at-put .put .kept .0 ∙ at-loop .loop .inv .1,
+      law.heads-next _ _ _
+          _ _ (start .pre) _ (at-counts-of .counts-of .ensures) _ _ _ _ (at-loop .loop .inv .2)
+          (at-loop-test .loop-test .taken) _ (at-word .word .ensures) _ (at-head-distance .head-distance .ensures) _
+          (at-put .put .ensures),
+    )
 
 same-length : tie.Need-same-length Inv-loop μ-loop
 same-length c = c .before .loop .inv .1
 
 returns : tie.Need-returns Inv-loop μ-loop
-returns c = law.heads-end _ _ _ _ _ (c .before .before .before .before .before .before .pre) _ (c .before .before .counts-of .ensures) _ _ _ _ (c .before .loop .inv .2) (c .loop-test .left)
+returns c = law.heads-end _ _ _ _ _ (c .before .before .before .before .before .before .pre) _
+    (c .before .before .counts-of .ensures) _ _ _ _ (c .before .loop .inv .2) (c .loop-test .left)
 
 pub put-heads-spec : {M : Type 1} → statement M
 put-heads-spec =

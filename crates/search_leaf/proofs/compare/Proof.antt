@@ -33,10 +33,19 @@ word-requires-2 : tie.Need-word-requires-2 Inv-loop μ-loop
 word-requires-2 c κs = search needs
 
 returns : tie.Need-returns Inv-loop μ-loop
-returns c = law.less _ _ _ (c .before .before .before .before .loop .inv) (c .before .before .before .loop-test .taken) _ _ (c .before .before .word .ensures) (c .before .word2 .ensures) (c .if1 .taken)
+returns c =
+    let at-word = c .before .before in
+    let at-loop-test = at-word .before in
+    let at-loop = at-loop-test .before in
+    law.less _ _ _ (at-loop .loop .inv) (at-loop-test .loop-test .taken) _ _ (at-word .word .ensures) (c .before .word2 .ensures) (c .if1 .taken)
 
 returns-2 : tie.Need-returns-2 Inv-loop μ-loop
-returns-2 c = law.more _ _ _ (c .before .before .before .before .before .loop .inv) (c .before .before .before .before .loop-test .taken) _ _ (c .before .before .before .word .ensures) (c .before .before .word2 .ensures) (c .if2 .taken)
+returns-2 c =
+    let at-word2 = c .before .before in
+    let at-word = at-word2 .before in
+    let at-loop-test = at-word .before in
+    let at-loop = at-loop-test .before in
+    law.more _ _ _ (at-loop .loop .inv) (at-loop-test .loop-test .taken) _ _ (at-word .word .ensures) (at-word2 .word2 .ensures) (c .if2 .taken)
 
 add-i : tie.Need-add-i Inv-loop μ-loop
 add-i c = search needs
@@ -45,7 +54,13 @@ loop-less : tie.Need-loop-less Inv-loop μ-loop
 loop-less c = search needs
 
 loop-again : tie.Need-loop-again Inv-loop μ-loop
-loop-again c = law.next _ _ _ (c .before .before .before .before .before .loop .inv) (c .before .before .before .before .loop-test .taken) _ _ (c .before .before .before .word .ensures) (c .before .before .word2 .ensures) (c .before .if1 .left) (c .if2 .left)
+loop-again c =
+    let at-word2 = c .before .before in
+    let at-word = at-word2 .before in
+    let at-loop-test = at-word .before in
+    let at-loop = at-loop-test .before in
+    law.next _ _ _ (at-loop .loop .inv) (at-loop-test .loop-test .taken) _ _ (at-word .word .ensures)
+    (at-word2 .word2 .ensures) (c .before .if1 .left) (c .if2 .left)
 
 returns-3 : tie.Need-returns-3 Inv-loop μ-loop
 returns-3 c = law.all-equal _ _ _ (c .before .loop .inv) (c .loop-test .left)

@@ -17,13 +17,25 @@ enum-told-3 : tie.Need-enum-told-3
 enum-told-3 c = search needs
 
 returns : tie.Need-returns
-returns c = law.dominated-is-greater _ (c .before .before .before .before .args .sizes) (c .before .before .before .before .args .st) (c .before .before .before .before .args .at) (c .before .before .before .before .pre) (c .before .before .rank .result) (c .before .before .rank .ensures) _ (c .enum-told .given .1)
+returns c =
+    let at-rank = c .before .before in
+    let start = at-rank .before .before in
+    let args = start .args in
+    law.dominated-is-greater _ (args .sizes) (args .st) (args .at) (start .pre) (at-rank .rank .result) (at-rank .rank .ensures) _ (c .enum-told .given .1)
 
 returns-2 : tie.Need-returns-2
-returns-2 c = law.dominated-is-greater _ (c .before .before .before .before .args .sizes) (c .before .before .before .before .args .st) (c .before .before .before .before .args .at) (c .before .before .before .before .pre) (c .before .before .rank .result) (c .before .before .rank .ensures) _ (c .enum-told2 .given .1)
+returns-2 c =
+    let at-rank = c .before .before in
+    let start = at-rank .before .before in
+    let args = start .args in
+    law.dominated-is-greater _ (args .sizes) (args .st) (args .at) (start .pre) (at-rank .rank .result) (at-rank .rank .ensures) _ (c .enum-told2 .given .1)
 
 returns-3 : tie.Need-returns-3
-returns-3 c = law.dominated-is-greater _ (c .before .before .before .before .args .sizes) (c .before .before .before .before .args .st) (c .before .before .before .before .args .at) (c .before .before .before .before .pre) (c .before .before .rank .result) (c .before .before .rank .ensures) _ (c .enum-told3 .given .1)
+returns-3 c =
+    let at-rank = c .before .before in
+    let start = at-rank .before .before in
+    let args = start .args in
+    law.dominated-is-greater _ (args .sizes) (args .st) (args .at) (start .pre) (at-rank .rank .result) (at-rank .rank .ensures) _ (c .enum-told3 .given .1)
 
 pub dominated-spec : {M : Type 1} → statement M
 dominated-spec =

@@ -6,7 +6,8 @@ use Rattle.search_leaf.proofs.extract.Statement.{statement}
 use Rattle.search_leaf.proofs.extract.Tie as tie
 
 abbrev Inv-loop : tie.InvT-loop
-Inv-loop sorts₀ nodes binds scratch₀ lists count default here₀ i₀ sorts scratch here i = law.Extracting nodes binds lists default count sorts₀ scratch₀ here₀ sorts scratch here i
+Inv-loop sorts₀ nodes binds scratch₀ lists count default here₀ i₀ sorts scratch here i = law.Extracting nodes binds
+    lists default count sorts₀ scratch₀ here₀ sorts scratch here i
 
 abbrev μ-loop : tie.MeasureT-loop
 μ-loop sorts₀ nodes binds scratch₀ lists count default here₀ i₀ sorts scratch here i = count - i
@@ -24,7 +25,8 @@ word-requires : tie.Need-word-requires Inv-loop μ-loop
 word-requires c κs = search needs
 
 resolve-or-default-requires : tie.Need-resolve-or-default-requires Inv-loop μ-loop
-resolve-or-default-requires c κs = law.asked _ _ _ _ _ _ _ _ _ _ _ _ (c .before .before .before .loop .inv) (c .before .before .loop-test .taken) _ (c .before .word .ensures)
+resolve-or-default-requires c κs = law.asked _ _ _ _ _ _ _ _ _ _ _ _ (c .before .before .before .loop .inv)
+    (c .before .before .loop-test .taken) _ (c .before .word .ensures)
 
 enum-known-id : tie.Need-enum-known-id Inv-loop μ-loop
 enum-known-id c = search needs
@@ -54,7 +56,15 @@ same-length-2 : tie.Need-same-length-2 Inv-loop μ-loop
 same-length-2 c = search needs
 
 returns : tie.Need-returns Inv-loop μ-loop
-returns c = law.stops _ _ _ _ _ _ _ _ _ _ _ _ (c .before .before .before .before .before .before .before .before .before .before .loop .inv) (c .before .before .before .before .before .before .before .before .before .loop-test .taken) _ (c .before .before .before .before .before .before .before .before .word .ensures) _ (c .before .before .before .before .before .before .resolve-or-default .result) (c .before .before .before .before .before .before .resolve-or-default .ensures) _ (c .before .before .made .given .1) _ (c .with-counts2 .ensures)
+returns c =
+    let at-made = c .before .before in
+    let at-resolve-or-default = at-made .before .before .before .before in
+    let at-word = at-resolve-or-default .before .before in
+    let at-loop-test = at-word .before in
+    let at-loop = at-loop-test .before in
+    law.stops _ _ _ _ _ _ _ _ _ _ _ _ (at-loop .loop .inv) (at-loop-test .loop-test .taken) _ (at-word .word .ensures)
+    _ (at-resolve-or-default .resolve-or-default .result) (at-resolve-or-default .resolve-or-default .ensures) _
+    (at-made .made .given .1) _ (c .with-counts2 .ensures)
 
 enum-told : tie.Need-enum-told Inv-loop μ-loop
 enum-told c = search needs
@@ -66,7 +76,14 @@ same-length-4 : tie.Need-same-length-4 Inv-loop μ-loop
 same-length-4 c = search needs
 
 returns-2 : tie.Need-returns-2 Inv-loop μ-loop
-returns-2 c = law.ends _ _ _ _ _ _ _ _ _ _ _ _ (c .before .before .before .before .before .before .before .before .loop .inv) (c .before .before .before .before .before .before .before .loop-test .taken) _ (c .before .before .before .before .before .before .word .ensures) _ (c .before .before .before .before .resolve-or-default .result) (c .before .before .before .before .resolve-or-default .ensures) (c .enum-told .given .1)
+returns-2 c =
+    let at-resolve-or-default = c .before .before .before .before in
+    let at-word = at-resolve-or-default .before .before in
+    let at-loop-test = at-word .before in
+    let at-loop = at-loop-test .before in
+    law.ends _ _ _ _ _ _ _ _ _ _ _ _ (at-loop .loop .inv) (at-loop-test .loop-test .taken) _ (at-word .word .ensures)
+    _ (at-resolve-or-default .resolve-or-default .result) (at-resolve-or-default .resolve-or-default .ensures)
+    (c .enum-told .given .1)
 
 add-i : tie.Need-add-i Inv-loop μ-loop
 add-i c = search needs
@@ -75,7 +92,16 @@ loop-less : tie.Need-loop-less Inv-loop μ-loop
 loop-less c = search needs
 
 loop-again : tie.Need-loop-again Inv-loop μ-loop
-loop-again c = law.next _ _ _ _ _ _ _ _ _ _ _ _ (c .before .before .before .before .before .before .before .before .before .before .before .before .before .before .loop .inv) (c .before .before .before .before .before .before .before .before .before .before .before .before .before .loop-test .taken) _ (c .before .before .before .before .before .before .before .before .before .before .before .before .word .ensures) _ (c .before .before .before .before .before .before .before .before .before .before .resolve-or-default .result) (c .before .before .before .before .before .before .before .before .before .before .resolve-or-default .ensures) _ _ (c .before .before .before .before .before .before .id .given .1) _ (c .with-counts .ensures) _ (c .before .before .before .put .ensures)
+loop-again c =
+    let at-put = c .before .before .before in
+    let at-id = at-put .before .before .before in
+    let at-resolve-or-default = at-id .before .before .before .before in
+    let at-word = at-resolve-or-default .before .before in
+    let at-loop-test = at-word .before in
+    let at-loop = at-loop-test .before in
+    law.next _ _ _ _ _ _ _ _ _ _ _ _ (at-loop .loop .inv) (at-loop-test .loop-test .taken) _ (at-word .word .ensures)
+    _ (at-resolve-or-default .resolve-or-default .result) (at-resolve-or-default .resolve-or-default .ensures) _ _
+    (at-id .id .given .1) _ (c .with-counts .ensures) _ (at-put .put .ensures)
 
 same-length-5 : tie.Need-same-length-5 Inv-loop μ-loop
 same-length-5 c = search needs

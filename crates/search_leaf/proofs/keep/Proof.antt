@@ -20,7 +20,11 @@ same-length : tie.Need-same-length
 same-length c = search needs
 
 returns : tie.Need-returns
-returns c = law.kept-by-two (c .before .before .before .before .before .before .before .before .before .before .before .args .sizes) _ _ _ (c .before .before .before .before .before .before .before .copy .ensures) (c .before .before .copy2 .ensures)
+returns c =
+    let at-copy2 = c .before .before in
+    let at-copy = at-copy2 .before .before .before .before .before in
+    let start = at-copy .before .before .before .before in
+    law.kept-by-two (start .args .sizes) _ _ _ (at-copy .copy .ensures) (at-copy2 .copy2 .ensures)
 
 pub keep-spec : {M : Type 1} → statement M
 keep-spec =

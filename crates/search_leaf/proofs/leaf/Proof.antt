@@ -5,7 +5,9 @@ use Rattle.search_leaf.proofs.leaf.Statement.{statement}
 use Rattle.search_leaf.proofs.leaf.Tie as tie
 
 rank-requires : tie.Need-rank-requires
-rank-requires c κs = let s = (c .before .before .before .before .before .before .before) in law.rank-asked (s .args .sorts .now) (s .args .nodes .now) (s .args .binds .now) (s .args .scratch .now) (s .args .lists .now) (s .args .sizes) (s .args .st) (s .args .at) (s .pre)
+rank-requires c κs = let s = (c .before .before .before .before .before .before .before) in law.rank-asked
+    (s .args .sorts .now) (s .args .nodes .now) (s .args .binds .now) (s .args .scratch .now) (s .args .lists .now)
+    (s .args .sizes) (s .args .st) (s .args .at) (s .pre)
 
 enum-told : tie.Need-enum-told
 enum-told c = search needs
@@ -26,19 +28,37 @@ same-length-2 : tie.Need-same-length-2
 same-length-2 c = search needs
 
 returns : tie.Need-returns
-returns c = let s = (c .before .before .before .before .before .before .before .before .before .before .before .before .before .before .before .before .before) in law.less-replaces (s .args .sorts .now) (s .args .nodes .now) (s .args .binds .now) (s .args .scratch .now) (s .args .lists .now) (s .args .sizes) (s .args .st) (s .args .at) (s .pre) (c .before .before .before .before .before .before .before .before .before .rank .result) (c .before .before .before .before .before .before .before .before .before .rank .ensures) (c .before .before .before .before .before .before .before .enum-told .given .1) _ _ _ (c .before .before .before .before .replace .ensures)
+returns c =
+    let at-replace = c .before .before .before .before in
+    let at-enum-told = at-replace .before .before .before in
+    let at-rank = at-enum-told .before .before in
+    let at = at-rank .before .before .before .before .before .before .before .before in
+    let s = (at) in law.less-replaces (s .args .sorts .now) (s .args .nodes .now) (s .args .binds .now)
+    (s .args .scratch .now) (s .args .lists .now) (s .args .sizes) (s .args .st) (s .args .at) (s .pre)
+    (at-rank .rank .result) (at-rank .rank .ensures) (at-enum-told .enum-told .given .1) _ _ _
+    (at-replace .replace .ensures)
 
 same-length-3 : tie.Need-same-length-3
 same-length-3 c = search needs
 
 returns-2 : tie.Need-returns-2
-returns-2 c = let s = (c .before .before .before .before .before .before .before .before .before .before) in law.equal-marks (s .args .sorts .now) (s .args .nodes .now) (s .args .binds .now) (s .args .scratch .now) (s .args .lists .now) (s .args .sizes) (s .args .st) (s .args .at) (s .pre) (c .before .before .rank .result) (c .before .before .rank .ensures) (c .enum-told2 .given .1)
+returns-2 c =
+    let at-rank = c .before .before in
+    let at = at-rank .before .before .before .before .before .before .before .before in
+    let s = (at) in law.equal-marks (s .args .sorts .now) (s .args .nodes .now) (s .args .binds .now)
+    (s .args .scratch .now) (s .args .lists .now) (s .args .sizes) (s .args .st) (s .args .at) (s .pre)
+    (at-rank .rank .result) (at-rank .rank .ensures) (c .enum-told2 .given .1)
 
 same-length-4 : tie.Need-same-length-4
 same-length-4 c = search needs
 
 returns-3 : tie.Need-returns-3
-returns-3 c = let s = (c .before .before .before .before .before .before .before .before .before .before) in law.greater-stays (s .args .sorts .now) (s .args .nodes .now) (s .args .binds .now) (s .args .scratch .now) (s .args .lists .now) (s .args .sizes) (s .args .st) (s .args .at) (s .pre) (c .before .before .rank .result) (c .before .before .rank .ensures) (c .enum-told3 .given .1)
+returns-3 c =
+    let at-rank = c .before .before in
+    let at = at-rank .before .before .before .before .before .before .before .before in
+    let s = (at) in law.greater-stays (s .args .sorts .now) (s .args .nodes .now) (s .args .binds .now)
+    (s .args .scratch .now) (s .args .lists .now) (s .args .sizes) (s .args .st) (s .args .at) (s .pre)
+    (at-rank .rank .result) (at-rank .rank .ensures) (c .enum-told3 .given .1)
 
 pub leaf-spec : {M : Type 1} → statement M
 leaf-spec =

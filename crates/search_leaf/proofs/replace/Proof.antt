@@ -5,13 +5,20 @@ use Rattle.search_leaf.proofs.replace.Statement.{statement}
 use Rattle.search_leaf.proofs.replace.Tie as tie
 
 extract-requires : tie.Need-extract-requires
-extract-requires c κs = let s = (c .before .before .before .before .before .before .before .before) in law.readable (s .args .sorts .now) (s .args .nodes .now) (s .args .binds .now) (s .args .scratch .now) (s .args .lists .now) (s .args .sizes) (s .args .st) (s .args .at) (s .pre)
+extract-requires c κs = let s = (c .before .before .before .before .before .before .before .before) in law.readable
+    (s .args .sorts .now) (s .args .nodes .now) (s .args .binds .now) (s .args .scratch .now) (s .args .lists .now)
+    (s .args .sizes) (s .args .st) (s .args .at) (s .pre)
 
 enum-known-lengths : tie.Need-enum-known-lengths
 enum-known-lengths c = search needs
 
 keep-requires : tie.Need-keep-requires
-keep-requires c κs = let s = (c .before .before .before .before .before .before .before .before .before .before .before .before .before .before .before .before .before) in law.keepable (s .args .sorts .now) (s .args .nodes .now) (s .args .binds .now) (s .args .scratch .now) (s .args .lists .now) (s .args .sizes) (s .args .st) (s .args .at) (s .pre) _ _ (c .before .before .before .before .before .before .before .before .extract .result) (c .before .before .before .before .before .before .before .before .extract .ensures)
+keep-requires c κs =
+    let at-extract = c .before .before .before .before .before .before .before .before in
+    let at = at-extract .before .before .before .before .before .before .before .before .before in
+    let s = (at) in law.keepable (s .args .sorts .now) (s .args .nodes .now) (s .args .binds .now)
+    (s .args .scratch .now) (s .args .lists .now) (s .args .sizes) (s .args .st) (s .args .at) (s .pre) _ _
+    (at-extract .extract .result) (at-extract .extract .ensures)
 
 enum-known-lengths-2 : tie.Need-enum-known-lengths-2
 enum-known-lengths-2 c = search needs
@@ -26,7 +33,15 @@ same-length-2 : tie.Need-same-length-2
 same-length-2 c = search needs
 
 returns : tie.Need-returns
-returns c = let s = (c .before .before .before .before .before .before .before .before .before .before .before .before .before .before .before .before .before .before .before .before) in law.replaces (s .args .sorts .now) (s .args .nodes .now) (s .args .binds .now) (s .args .scratch .now) (s .args .lists .now) (s .args .sizes) (s .args .st) (s .args .at) (s .pre) _ _ (c .before .before .before .before .before .before .before .before .before .before .before .extract .result) (c .before .before .before .before .before .before .before .before .before .before .before .extract .ensures) _ (c .before .before .before .before .before .lengths2 .given .1) _ (c .before .before .keep .ensures)
+returns c =
+    let at-keep = c .before .before in
+    let at-lengths2 = at-keep .before .before .before in
+    let at-extract = at-lengths2 .before .before .before .before .before .before in
+    let at = at-extract .before .before .before .before .before .before .before .before .before in
+    let s = (at) in law.replaces (s .args .sorts .now) (s .args .nodes .now) (s .args .binds .now)
+    (s .args .scratch .now) (s .args .lists .now) (s .args .sizes) (s .args .st) (s .args .at) (s .pre) _ _
+    (at-extract .extract .result) (at-extract .extract .ensures) _ (at-lengths2 .lengths2 .given .1) _
+    (at-keep .keep .ensures)
 
 same-length-3 : tie.Need-same-length-3
 same-length-3 c = search needs
@@ -35,7 +50,12 @@ same-length-4 : tie.Need-same-length-4
 same-length-4 c = search needs
 
 returns-2 : tie.Need-returns-2
-returns-2 c = let s = (c .before .before .before .before .before .before .before .before .before .before .before .before .before .before .before .before) in law.never-without (s .args .sorts .now) (s .args .nodes .now) (s .args .binds .now) (s .args .scratch .now) (s .args .lists .now) (s .args .sizes) (s .args .st) (s .args .at) (s .pre) _ _ (c .before .before .before .before .before .before .before .extract .result) (c .before .before .before .before .before .before .before .extract .ensures) _ (c .before .lengths3 .given .1)
+returns-2 c =
+    let at-extract = c .before .before .before .before .before .before .before in
+    let at = at-extract .before .before .before .before .before .before .before .before .before in
+    let s = (at) in law.never-without (s .args .sorts .now) (s .args .nodes .now) (s .args .binds .now)
+    (s .args .scratch .now) (s .args .lists .now) (s .args .sizes) (s .args .st) (s .args .at) (s .pre) _ _
+    (at-extract .extract .result) (at-extract .extract .ensures) _ (c .before .lengths3 .given .1)
 
 same-length-5 : tie.Need-same-length-5
 same-length-5 c = search needs
@@ -44,7 +64,12 @@ same-length-6 : tie.Need-same-length-6
 same-length-6 c = search needs
 
 returns-3 : tie.Need-returns-3
-returns-3 c = let s = (c .before .before .before .before .before .before .before .before .before .before .before .before .before .before .before .before) in law.room-ends (s .args .sorts .now) (s .args .nodes .now) (s .args .binds .now) (s .args .scratch .now) (s .args .lists .now) (s .args .sizes) (s .args .st) (s .args .at) (s .pre) _ _ (c .before .before .before .before .before .before .before .extract .result) (c .before .before .before .before .before .before .before .extract .ensures) _ (c .before .lengths4 .given .1)
+returns-3 c =
+    let at-extract = c .before .before .before .before .before .before .before in
+    let at = at-extract .before .before .before .before .before .before .before .before .before in
+    let s = (at) in law.room-ends (s .args .sorts .now) (s .args .nodes .now) (s .args .binds .now)
+    (s .args .scratch .now) (s .args .lists .now) (s .args .sizes) (s .args .st) (s .args .at) (s .pre) _ _
+    (at-extract .extract .result) (at-extract .extract .ensures) _ (c .before .lengths4 .given .1)
 
 pub replace-spec : {M : Type 1} → statement M
 replace-spec =

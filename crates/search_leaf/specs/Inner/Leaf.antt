@@ -21,7 +21,8 @@ use Rattle.inference.specs.Typing.{All}
 use Rattle.search_state.specs.declared.Sizes.{Sizes}
 use Rattle.search_state.specs.declared.State.{State}
 use Rattle.search_state.specs.declared.Branch.{Branch}
-use Rattle.search_state.specs.Inner.Memory.{exprAt, problemIn, measureAt, bestMeasureAt, choicesAt, bestChoicesAt, scratchUsed, bestOf}
+use Rattle.search_state.specs.Inner.Memory.{exprAt, problemIn, measureAt, bestMeasureAt, choicesAt, bestChoicesAt}
+use Rattle.search_state.specs.Inner.Memory.{scratchUsed, bestOf}
 use Rattle.words.specs.Words.{part}
 
 -- n components against as many of the incumbent's

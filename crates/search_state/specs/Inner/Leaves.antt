@@ -18,7 +18,8 @@ use Rattle.unification.specs.Inner.Making.{lent}
 use Rattle.inference.specs.declared.LitKind.{LitKind}
 use Rattle.inference.specs.Constraints.{rowsFrom}
 use Rattle.inference.specs.Measure.{Ranking, smaller, equal, greater}
-use Rattle.inference.specs.Search.{Agreed, Path, Try, withBinds, withComponents, withChoice, widerTries, narrowerTries, litComponent}
+use Rattle.inference.specs.Search.{Agreed, Path, Try, withBinds, withComponents, withChoice, widerTries}
+use Rattle.inference.specs.Search.{narrowerTries, litComponent}
 use Rattle.search_state.specs.declared.Sizes.{Sizes}
 use Rattle.search_state.specs.declared.State.{State}
 use Rattle.search_state.specs.declared.Branch.{Branch}

@@ -9,7 +9,8 @@ intern-container-spec =
     tie.close
     (tie.spec
     (λ c κs. search needs)
-    (λ c κs. let a = c .before .before .before in law.container-asked (a .args .op) (a .args .element .0) (a .args .sorts .now) (a .args .lengths) _ (c .counts-of .ensures) (a .pre .0) (a .pre .1))
+    (λ c κs. let a = c .before .before .before in law.container-asked (a .args .op) (a .args .element .0)
+    (a .args .sorts .now) (a .args .lengths) _ (c .counts-of .ensures) (a .pre .0) (a .pre .1))
     (λ c. search needs)
     (λ c κs. search needs)
     (λ c. search needs)
@@ -17,6 +18,12 @@ intern-container-spec =
     (λ c. search needs)
     (λ c. search law.interned-at)
     (λ c. search needs)
-    (λ c. let a = c .before .before .before .before .before .before .before .before in law.always-interned (a .args .op) (a .args .element .0) (a .args .sorts .now) (a .args .lengths) _ (c .before .before .before .before .before .counts-of .ensures) (c .before .before .before .before .generic .last .0) (c .before .before .before .before .generic .result) (c .before .before .before .before .generic .ensures) (a .pre .0) _ (c .enum-told .given .1) _)
+    (λ c.
+    let at-generic = c .before .before .before .before in
+    let at-counts-of = at-generic .before in
+    let at = at-counts-of .before .before .before in
+    let a = at in law.always-interned (a .args .op) (a .args .element .0) (a .args .sorts .now) (a .args .lengths) _
+    (at-counts-of .counts-of .ensures) (at-generic .generic .last .0) (at-generic .generic .result)
+    (at-generic .generic .ensures) (a .pre .0) _ (c .enum-told .given .1) _)
     (λ c. search needs)
     (λ c. search law.no-room-for-container))

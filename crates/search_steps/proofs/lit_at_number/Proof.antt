@@ -13,9 +13,20 @@ lit-at-number-spec =
     (λ c. search needs)
     (λ c. search needs)
     (λ c. search needs)
-    (λ c. literal.natural-is-not-pos _ _ (c .before .before .before .before .before .before .number-generality .ensures) _ _ (c .before .before .before .before .generality .given .1) (c .before .enum-told2 .given .1) (c .if1 .taken))
+    (λ c.
+    let at-generality = c .before .before .before .before in
+    let at-number-generality = at-generality .before .before in
+    literal.natural-is-not-pos _ _ (at-number-generality .number-generality .ensures) _ _
+    (at-generality .generality .given .1) (c .before .enum-told2 .given .1) (c .if1 .taken))
     (λ c. search needs)
     (λ c. search needs)
-    (λ c. literal.number-of-positive _ _ (c .before .before .before .before .before .number-generality .ensures) _ _ (c .before .before .before .generality .given .1) (c .enum-told .given .1))
-    (λ c. literal.number-of-natural _ _ (c .before .before .before .before .before .before .number-generality .ensures) _ _ (c .before .before .before .before .generality .given .1) (c .before .enum-told2 .given .1) (c .if1 .left))
+    (λ c.
+    let at-generality = c .before .before .before in
+    let at-number-generality = at-generality .before .before in
+    literal.number-of-positive _ _ (at-number-generality .number-generality .ensures) _ _ (at-generality .generality .given .1) (c .enum-told .given .1))
+    (λ c.
+    let at-generality = c .before .before .before .before in
+    let at-number-generality = at-generality .before .before in
+    literal.number-of-natural _ _ (at-number-generality .number-generality .ensures) _ _
+    (at-generality .generality .given .1) (c .before .enum-told2 .given .1) (c .if1 .left))
     (λ c. literal.other-at-no-number _ _ (c .before .before .number-generality .ensures) _ (c .enum-told3 .given .1)))

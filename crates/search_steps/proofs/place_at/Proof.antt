@@ -13,4 +13,10 @@ place-at-spec =
     (λ c. search needs)
     (λ c. search needs)
     (λ c. search needs)
-    (λ c. law.no-fifth-place _ (c .before .args .j) (omega (arith, c .match .rest .1, c .match .rest .0 .1, c .match .rest .0 .0 .1, c .match .rest .0 .0 .0 .1))))
+    (λ c. law.no-fifth-place _ (c .before .args .j) (omega (
+      arith,
+      c .match .rest .1,
+      c .match .rest .0 .1,
+      c .match .rest .0 .0 .1,
+      c .match .rest .0 .0 .0 .1,
+    ))))

@@ -32,7 +32,9 @@ enum-known-step-2 : tie.Need-enum-known-step-2
 enum-known-step-2 c = search needs
 
 add-t16 : tie.Need-add-t16
-add-t16 c = omega (arith, law.written-room (c .before .before .before .args .at) _ _ (c .before .step2 .given .1) (c .before .before .before .pre .0))
+add-t16 c =
+    let start = c .before .before .before in
+    omega (arith, law.written-room (start .args .at) _ _ (c .before .step2 .given .1) (start .pre .0))
 
 enum-known-step-3 : tie.Need-enum-known-step-3
 enum-known-step-3 c = search needs

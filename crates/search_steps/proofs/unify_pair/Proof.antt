@@ -26,7 +26,10 @@ same-length-2 : tie.Need-same-length-2
 same-length-2 c = search needs
 
 returns : tie.Need-returns
-returns c = law.at-the-front _ _ _ _ _ _ _ (c .before .before .before .before .before .before .before .before .before .before .before .pre .3) _ _ _ (c .before .before .before .before .unify .kept .1 .1 .1 .0) (c .before .before .before .before .unify .ensures)
+returns c =
+    let at-unify = c .before .before .before .before in
+    let start = at-unify .before .before .before .before .before .before .before in
+    law.at-the-front _ _ _ _ _ _ _ (start .pre .3) _ _ _ (at-unify .unify .kept .1 .1 .1 .0) (at-unify .unify .ensures)
 
 pub unify-pair-spec : {M : Type 1} → statement M
 unify-pair-spec =

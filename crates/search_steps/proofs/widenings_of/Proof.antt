@@ -12,15 +12,53 @@ widenings-of-spec =
     (λ c κs. search needs)
     (λ c. search needs)
     (λ c. search needs)
-    (λ c κs. let a = c .before .before .before .before .before .before .before .before .before .before .before .before .before .before .before .before in law.right-asked (a .args .sorts .now) (a .args .nodes .now) (a .args .binds .now) (a .args .lengths) (a .pre .0) (a .args .lhs .0) (a .args .rhs .0) (c .before .before .before .before .before .before .before .before .before .before .strict-super-sorts .last .0) (c .before .before .before .before .before .before .before .before .before .before .strict-super-sorts .last .1 .0) (c .before .before .before .before .before .before .before .before .before .before .strict-super-sorts .result) (c .before .before .before .before .before .before .before .before .before .before .strict-super-sorts .ensures) (c .before .before .before .before .before .as-tries .result) (c .before .before .before .before .before .as-tries .ensures) _ (c .before .before .before .same .given .1) (a .pre .2))
+    (λ c κs.
+    let at-same = c .before .before .before in
+    let at-as-tries = at-same .before .before in
+    let at-strict-super-sorts = at-as-tries .before .before .before .before .before in
+    let at = at-strict-super-sorts .before .before .before .before .before .before in
+    let a = at in law.right-asked (a .args .sorts .now) (a .args .nodes .now) (a .args .binds .now) (a .args .lengths)
+    (a .pre .0) (a .args .lhs .0) (a .args .rhs .0) (at-strict-super-sorts .strict-super-sorts .last .0)
+    (at-strict-super-sorts .strict-super-sorts .last .1 .0) (at-strict-super-sorts .strict-super-sorts .result)
+    (at-strict-super-sorts .strict-super-sorts .ensures) (at-as-tries .as-tries .result)
+    (at-as-tries .as-tries .ensures) _ (at-same .same .given .1) (a .pre .2))
     (λ c κs. search needs)
     (λ c. search needs)
     (λ c. search needs)
     (λ c. search needs)
-    (λ c. let a = c .before .before .before .before .before .before .before .before .before .before .before .before .before .before in law.wider-tried (a .args .sorts .now) (a .args .nodes .now) (a .args .binds .now) (a .args .lengths) (a .pre .0) (a .args .lhs .0) (a .args .rhs .0) (c .before .before .before .before .before .before .before .before .strict-super-sorts .last .0) (c .before .before .before .before .before .before .before .before .strict-super-sorts .last .1 .0) (c .before .before .before .before .before .before .before .before .strict-super-sorts .result) (c .before .before .before .before .before .before .before .before .strict-super-sorts .ensures) (c .before .before .before .as-tries .result) (c .before .before .before .as-tries .ensures) _ _ (c .before .tries .given .1))
+    (λ c.
+    let at-as-tries = c .before .before .before in
+    let at-strict-super-sorts = at-as-tries .before .before .before .before .before in
+    let at = at-strict-super-sorts .before .before .before .before .before .before in
+    let a = at in law.wider-tried (a .args .sorts .now) (a .args .nodes .now) (a .args .binds .now) (a .args .lengths)
+    (a .pre .0) (a .args .lhs .0) (a .args .rhs .0) (at-strict-super-sorts .strict-super-sorts .last .0)
+    (at-strict-super-sorts .strict-super-sorts .last .1 .0) (at-strict-super-sorts .strict-super-sorts .result)
+    (at-strict-super-sorts .strict-super-sorts .ensures) (at-as-tries .as-tries .result)
+    (at-as-tries .as-tries .ensures) _ _ (c .before .tries .given .1))
     (λ c. search needs)
     (λ c. search needs)
-    (λ c. let a = c .before .before .before .before .before .before .before .before .before .before .before .before .before .before .before .before .before .before .before .before .before .before in law.narrower-tried (a .args .sorts .now) (a .args .nodes .now) (a .args .binds .now) (a .args .lengths) (a .pre .0) (a .args .lhs .0) (a .args .rhs .0) (c .before .before .before .before .before .before .before .before .before .before .before .before .before .before .before .before .strict-super-sorts .last .0) (c .before .before .before .before .before .before .before .before .before .before .before .before .before .before .before .before .strict-super-sorts .last .1 .0) (c .before .before .before .before .before .before .before .before .before .before .before .before .before .before .before .before .strict-super-sorts .result) (c .before .before .before .before .before .before .before .before .before .before .before .before .before .before .before .before .strict-super-sorts .ensures) (c .before .before .before .before .before .before .before .before .before .before .before .as-tries .result) (c .before .before .before .before .before .before .before .before .before .before .before .as-tries .ensures) _ (c .before .before .before .before .before .before .before .before .before .same .given .1) (c .before .before .before .before .before .strict-sub-sorts .last .0) (c .before .before .before .before .before .strict-sub-sorts .last .1 .0) (c .before .before .before .before .before .strict-sub-sorts .result) (c .before .before .before .before .before .strict-sub-sorts .ensures) _ (c .as-tries2 .ensures))
+    (λ c.
+    let at-strict-sub-sorts = c .before .before .before .before .before in
+    let at-same = at-strict-sub-sorts .before .before .before .before in
+    let at-as-tries = at-same .before .before in
+    let at-strict-super-sorts = at-as-tries .before .before .before .before .before in
+    let at = at-strict-super-sorts .before .before .before .before .before .before in
+    let a = at in law.narrower-tried (a .args .sorts .now) (a .args .nodes .now) (a .args .binds .now)
+    (a .args .lengths) (a .pre .0) (a .args .lhs .0) (a .args .rhs .0)
+    (at-strict-super-sorts .strict-super-sorts .last .0) (at-strict-super-sorts .strict-super-sorts .last .1 .0)
+    (at-strict-super-sorts .strict-super-sorts .result) (at-strict-super-sorts .strict-super-sorts .ensures)
+    (at-as-tries .as-tries .result) (at-as-tries .as-tries .ensures) _ (at-same .same .given .1)
+    (at-strict-sub-sorts .strict-sub-sorts .last .0) (at-strict-sub-sorts .strict-sub-sorts .last .1 .0)
+    (at-strict-sub-sorts .strict-sub-sorts .result) (at-strict-sub-sorts .strict-sub-sorts .ensures) _
+    (c .as-tries2 .ensures))
     (λ c. search needs)
     (λ c. search needs)
-    (λ c. let a = c .before .before .before .before .before .before .before .before .before .before .before .before .before .before in law.wider-no-room (a .args .sorts .now) (a .args .nodes .now) (a .args .binds .now) (a .args .lengths) (a .pre .0) (a .args .lhs .0) (a .args .rhs .0) (c .before .before .before .before .before .before .before .before .strict-super-sorts .last .0) (c .before .before .before .before .before .before .before .before .strict-super-sorts .last .1 .0) (c .before .before .before .before .before .before .before .before .strict-super-sorts .result) (c .before .before .before .before .before .before .before .before .strict-super-sorts .ensures) (c .before .before .before .as-tries .result) (c .before .before .before .as-tries .ensures) _ _ (c .before .code .given .1)))
+    (λ c.
+    let at-as-tries = c .before .before .before in
+    let at-strict-super-sorts = at-as-tries .before .before .before .before .before in
+    let at = at-strict-super-sorts .before .before .before .before .before .before in
+    let a = at in law.wider-no-room (a .args .sorts .now) (a .args .nodes .now) (a .args .binds .now)
+    (a .args .lengths) (a .pre .0) (a .args .lhs .0) (a .args .rhs .0)
+    (at-strict-super-sorts .strict-super-sorts .last .0) (at-strict-super-sorts .strict-super-sorts .last .1 .0)
+    (at-strict-super-sorts .strict-super-sorts .result) (at-strict-super-sorts .strict-super-sorts .ensures)
+    (at-as-tries .as-tries .result) (at-as-tries .as-tries .ensures) _ _ (c .before .code .given .1)))

@@ -9,7 +9,8 @@ use Rattle.solve_checks.proofs.components.Statement.{statement}
 use Rattle.solve_checks.proofs.components.Tie as tie
 
 abbrev Inv-loop : tie.InvT-loop
-Inv-loop constraints count sum₀ i₀ sum i = rows.Summed components componentsOf rows.no-components rows.components-more (constraintAt constraints) count i sum × (sum ≤ 65535 * i)
+Inv-loop constraints count sum₀ i₀ sum i = rows.Summed components componentsOf rows.no-components rows.components-more
+    (constraintAt constraints) count i sum × (sum ≤ 65535 * i)
 
 abbrev μ-loop : tie.MeasureT-loop
 μ-loop constraints count sum₀ i₀ sum i = count - i
@@ -20,12 +21,31 @@ components-spec =
     (tie.spec
     Inv-loop
     μ-loop
-    (λ c. let a = c .before .args in (rows.nothing-summed components componentsOf rows.no-components rows.components-more (constraintAt (a .constraints .now)) (a .count), omega arith))
+    (λ c. let a = c .before .args in (
+      rows.nothing-summed components componentsOf rows.no-components
+          rows.components-more (constraintAt (a .constraints .now)) (a .count),
+      omega arith,
+    ))
     (λ c κs. search needs)
     (λ c κs. search needs)
     (λ c. omega arith)
     (λ c. omega arith)
     (λ c. omega arith)
     (λ c. omega arith)
-    (λ c. let a = c .before .before .before .before .before .args in (rows.one-summed components componentsOf rows.no-components rows.components-more (constraintAt (a .constraints .now)) (a .count) (c .before .before .before .loop .i) (c .before .before .before .loop .sum) (c .before .before .before .loop .inv .0) (c .before .before .loop-test .taken) (c .before .constraint-at .result) (c .before .constraint-at .ensures) (c .components-of .result) (c .components-of .ensures), omega arith))
-    (λ c. let a = c .before .before .before .args in rows.all-summed components componentsOf rows.no-components rows.components-more (constraintAt (a .constraints .now)) (a .count) (c .before .loop .i) (c .before .loop .sum) (c .before .loop .inv .0) (c .loop-test .left)))
+    (λ c.
+    let at-loop-test = c .before .before in
+    let at-loop = at-loop-test .before in
+    let start = at-loop .before .before in
+    let a = start .args in (
+      rows.one-summed components componentsOf rows.no-components rows.components-more
+          (constraintAt (a .constraints .now)) (a .count) (at-loop .loop .i) (at-loop .loop .sum)
+          (at-loop .loop .inv .0) (at-loop-test .loop-test .taken) (c .before .constraint-at .result)
+          (c .before .constraint-at .ensures) (c .components-of .result) (c .components-of .ensures),
+      omega arith,
+    ))
+    (λ c.
+    let at-loop = c .before in
+    let start = at-loop .before .before in
+    let a = start .args in rows.all-summed components componentsOf rows.no-components rows.components-more
+    (constraintAt (a .constraints .now)) (a .count) (at-loop .loop .i) (at-loop .loop .sum)
+    (at-loop .loop .inv .0) (c .loop-test .left)))

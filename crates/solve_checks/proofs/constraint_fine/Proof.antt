@@ -22,8 +22,18 @@ constraint-fine-spec =
     (λ c κs. search needs)
     (λ c. search needs)
     (λ c κs. search needs)
-    (λ c. let a = c .before .before .before .before .before .before .args in c .sub-fine .ensures ∙ sym (ap (constraintFine (problemCall (a .given) [] [] [] (a .overloads .now) (a .sources .now)) (a .b)) (c .before .before .says .given .1)))
-    (λ c. let a = c .before .before .before .before .before .before .args in c .lit-fine .ensures ∙ sym (ap (constraintFine (problemCall (a .given) [] [] [] (a .overloads .now) (a .sources .now)) (a .b)) (c .before .before .says2 .given .1)))
-    (λ c. let a = c .before .before .before .before .before .before .args in c .disjunction-fine .ensures ∙ sym (ap (constraintFine (problemCall (a .given) [] [] [] (a .overloads .now) (a .sources .now)) (a .b)) (c .before .before .says3 .given .1)))
-    (λ c. let a = c .before .before .before .before .before .before .args in c .comprehension-fine .ensures ∙ sym (ap (constraintFine (problemCall (a .given) [] [] [] (a .overloads .now) (a .sources .now)) (a .b)) (c .before .before .says4 .given .1)))
-    (λ c. let a = c .before .before .before .before .before .before .args in c .join-fine .ensures ∙ sym (ap (constraintFine (problemCall (a .given) [] [] [] (a .overloads .now) (a .sources .now)) (a .b)) (c .before .before .says5 .given .1))))
+    (λ c. let a = c .before .before .before .before .before .before .args in c .sub-fine .ensures ∙ sym
+    (ap (constraintFine (problemCall (a .given) [] [] [] (a .overloads .now) (a .sources .now)) (a .b))
+    (c .before .before .says .given .1)))
+    (λ c. let a = c .before .before .before .before .before .before .args in c .lit-fine .ensures ∙ sym
+    (ap (constraintFine (problemCall (a .given) [] [] [] (a .overloads .now) (a .sources .now)) (a .b))
+    (c .before .before .says2 .given .1)))
+    (λ c. let a = c .before .before .before .before .before .before .args in c .disjunction-fine .ensures ∙ sym
+    (ap (constraintFine (problemCall (a .given) [] [] [] (a .overloads .now) (a .sources .now)) (a .b))
+    (c .before .before .says3 .given .1)))
+    (λ c. let a = c .before .before .before .before .before .before .args in c .comprehension-fine .ensures ∙ sym
+    (ap (constraintFine (problemCall (a .given) [] [] [] (a .overloads .now) (a .sources .now)) (a .b))
+    (c .before .before .says4 .given .1)))
+    (λ c. let a = c .before .before .before .before .before .before .args in c .join-fine .ensures ∙ sym
+    (ap (constraintFine (problemCall (a .given) [] [] [] (a .overloads .now) (a .sources .now)) (a .b))
+    (c .before .before .says5 .given .1))))

@@ -15,7 +15,8 @@ use Rattle.solve_checks.proofs.constraints_fine.Statement.{statement}
 use Rattle.solve_checks.proofs.constraints_fine.Tie as tie
 
 abbrev Inv-loop : tie.InvT-loop
-Inv-loop constraints overloads sources given count i₀ i = (i ≤ count) × (allBelow i (constraintRowFine (problemCall given [] [] constraints overloads sources)) ≡ true)
+Inv-loop constraints overloads sources given count i₀ i = (i ≤ count) ×
+    (allBelow i (constraintRowFine (problemCall given [] [] constraints overloads sources)) ≡ true)
 
 abbrev μ-loop : tie.MeasureT-loop
 μ-loop constraints overloads sources given count i₀ i = count - i
@@ -30,8 +31,23 @@ constraints-fine-spec =
     (λ c. omega arith)
     (λ c. (omega arith, below.allBelow-zero _))
     (λ c κs. search needs)
-    (λ c. let a = c .before .before .before .before .before .before .before .before .args in below.tested-not (constraintRowFine (problemCall (a .given) [] [] (a .constraints .now) (a .overloads .now) (a .sources .now))) (c .before .before .before .loop .i) (c .before .row-fine .result) (c .before .row-fine .ensures) (a .given .constraints) (c .before .before .loop-test .taken) (not-true _ (c .if1 .taken)))
+    (λ c.
+    let at-loop-test = c .before .before in
+    let at-loop = at-loop-test .before in
+    let start = at-loop .before .before .before .before .before in
+    let a = start .args in below.tested-not (constraintRowFine (problemCall (a .given) [] [] (a .constraints .now)
+    (a .overloads .now) (a .sources .now))) (at-loop .loop .i) (c .before .row-fine .result)
+    (c .before .row-fine .ensures) (a .given .constraints) (at-loop-test .loop-test .taken)
+    (not-true _ (c .if1 .taken)))
     (λ c. omega arith)
     (λ c. omega arith)
-    (λ c. let a = c .before .before .before .before .before .before .before .before .args in (omega arith, below.tested-more (constraintRowFine (problemCall (a .given) [] [] (a .constraints .now) (a .overloads .now) (a .sources .now))) (c .before .before .before .loop .i) (c .before .row-fine .result) (c .before .row-fine .ensures) (not-false _ (c .if1 .left)) (c .before .before .before .loop .inv .1)))
+    (λ c.
+    let at-loop = c .before .before .before in
+    let start = at-loop .before .before .before .before .before in
+    let a = start .args in (
+      omega arith,
+      below.tested-more (constraintRowFine (problemCall (a .given) [] []
+          (a .constraints .now) (a .overloads .now) (a .sources .now))) (at-loop .loop .i) (c .before .row-fine .result)
+          (c .before .row-fine .ensures) (not-false _ (c .if1 .left)) (at-loop .loop .inv .1),
+    ))
     (λ c. below.allBelow-done _ _ (c .before .loop .i) (omega arith) (omega arith) (c .before .loop .inv .1)))

@@ -31,8 +31,26 @@ exprs-fine-spec =
     (λ c. (omega arith, below.allBelow-zero _))
     (λ c κs. search needs)
     (λ c κs. search needs)
-    (λ c. let a = c .before .before .before .before .before .before .args in below.tested-not (exprFine (problemCall (a .given) (a .exprs .now) [] [] [] [])) (c .before .before .before .before .loop .i) (c .before .placed .result) (c .before .placed .ensures ∙ ap (isPlace (a .given .sorts) (a .given .nodes)) (c .before .before .word .ensures)) (a .given .exprs) (c .before .before .before .loop-test .taken) (not-true _ (c .if1 .taken)))
+    (λ c.
+    let at-word = c .before .before in
+    let at-loop-test = at-word .before in
+    let at-loop = at-loop-test .before in
+    let start = at-loop .before .before in
+    let a = start .args in below.tested-not (exprFine (problemCall (a .given) (a .exprs .now) [] [] [] []))
+    (at-loop .loop .i) (c .before .placed .result) (c .before .placed .ensures ∙ ap (isPlace (a .given .sorts)
+    (a .given .nodes)) (at-word .word .ensures)) (a .given .exprs) (at-loop-test .loop-test .taken)
+    (not-true _ (c .if1 .taken)))
     (λ c. omega arith)
     (λ c. omega arith)
-    (λ c. let a = c .before .before .before .before .before .before .args in (omega arith, below.tested-more (exprFine (problemCall (a .given) (a .exprs .now) [] [] [] [])) (c .before .before .before .before .loop .i) (c .before .placed .result) (c .before .placed .ensures ∙ ap (isPlace (a .given .sorts) (a .given .nodes)) (c .before .before .word .ensures)) (not-false _ (c .if1 .left)) (c .before .before .before .before .loop .inv .1)))
+    (λ c.
+    let at-word = c .before .before in
+    let at-loop = at-word .before .before in
+    let start = at-loop .before .before in
+    let a = start .args in (
+      omega arith,
+      below.tested-more (exprFine (problemCall (a .given) (a .exprs .now) [] [] []
+          [])) (at-loop .loop .i) (c .before .placed .result) (c .before .placed .ensures ∙ ap
+          (isPlace (a .given .sorts) (a .given .nodes)) (at-word .word .ensures)) (not-false _ (c .if1 .left))
+          (at-loop .loop .inv .1),
+    ))
     (λ c. below.allBelow-done _ _ (c .before .loop .i) (omega arith) (omega arith) (c .before .loop .inv .1)))

@@ -13,4 +13,5 @@ join-fine-spec =
     (λ c κs. search needs)
     (λ c. fine.first-not _ _ (c .before .placed .result) (c .before .placed .ensures) (not-true _ (c .if1 .taken)))
     (λ c κs. search needs)
-    (λ c. fine.then _ _ (c .before .before .placed .result) (c .before .before .placed .ensures) (not-false _ (c .before .if1 .left)) _ (c .sources-fine .ensures)))
+    (λ c. fine.then _ _ (c .before .before .placed .result) (c .before .before .placed .ensures)
+    (not-false _ (c .before .if1 .left)) _ (c .sources-fine .ensures)))

@@ -23,8 +23,25 @@ joins-fine-spec =
     (λ c. let a = c .before .args in rows.none-joined (constraintAt (a .constraints .now)) (a .count))
     (λ c κs. search needs)
     (λ c κs. search needs)
-    (λ c. let a = c .before .before .before .before .before .before .args in rows.without-sources (constraintAt (a .constraints .now)) (a .count) (c .before .before .before .before .loop .i) (c .before .before .before .before .loop .inv) (c .before .before .before .loop-test .taken) (c .before .before .constraint-at .result) (c .before .before .constraint-at .ensures) (c .before .has-sources .result) (c .before .has-sources .ensures) (not-true _ (c .if1 .taken)))
+    (λ c.
+    let at-constraint-at = c .before .before in
+    let at-loop-test = at-constraint-at .before in
+    let at-loop = at-loop-test .before in
+    let start = at-loop .before .before in
+    let a = start .args in rows.without-sources (constraintAt (a .constraints .now)) (a .count) (at-loop .loop .i)
+    (at-loop .loop .inv) (at-loop-test .loop-test .taken) (at-constraint-at .constraint-at .result)
+    (at-constraint-at .constraint-at .ensures) (c .before .has-sources .result) (c .before .has-sources .ensures)
+    (not-true _ (c .if1 .taken)))
     (λ c. omega arith)
     (λ c. omega arith)
-    (λ c. let a = c .before .before .before .before .before .before .args in rows.one-joined (constraintAt (a .constraints .now)) (a .count) (c .before .before .before .before .loop .i) (c .before .before .before .before .loop .inv) (c .before .before .before .loop-test .taken) (c .before .before .constraint-at .result) (c .before .before .constraint-at .ensures) (c .before .has-sources .result) (c .before .has-sources .ensures) (not-false _ (c .if1 .left)))
-    (λ c. let a = c .before .before .before .args in rows.all-joined (constraintAt (a .constraints .now)) (a .count) (c .before .loop .i) (c .before .loop .inv) (c .loop-test .left)))
+    (λ c.
+    let at-constraint-at = c .before .before in
+    let at-loop-test = at-constraint-at .before in
+    let at-loop = at-loop-test .before in
+    let start = at-loop .before .before in
+    let a = start .args in rows.one-joined (constraintAt (a .constraints .now)) (a .count) (at-loop .loop .i)
+    (at-loop .loop .inv) (at-loop-test .loop-test .taken) (at-constraint-at .constraint-at .result)
+    (at-constraint-at .constraint-at .ensures) (c .before .has-sources .result) (c .before .has-sources .ensures)
+    (not-false _ (c .if1 .left)))
+    (λ c. let a = c .before .before .before .args in rows.all-joined (constraintAt (a .constraints .now)) (a .count)
+    (c .before .loop .i) (c .before .loop .inv) (c .loop-test .left)))

@@ -18,6 +18,10 @@ mark-by-spec =
     (λ c. sym (ap (markBy (c .before .before .before .args .seen .now)) (c .enum-told .given .1)))
     (λ c. sym (ap (markBy (c .before .before .before .args .seen .now)) (c .enum-told2 .given .1)))
     (λ c. search needs)
-    (λ c. c .before .before .mark .ensures ∙ sym (ap (markBy (c .before .before .before .before .before .before .before .before .args .seen .now)) (c .before .before .before .before .before .says .given .1)))
+    (λ c.
+    let at-mark = c .before .before in
+    let at-says = at-mark .before .before .before in
+    let start = at-says .before .before .before in
+    at-mark .mark .ensures ∙ sym (ap (markBy (start .args .seen .now)) (at-says .says .given .1)))
     (λ c. sym (ap (markBy (c .before .before .before .args .seen .now)) (c .enum-told3 .given .1)))
     (λ c. sym (ap (markBy (c .before .before .before .args .seen .now)) (c .enum-told4 .given .1))))

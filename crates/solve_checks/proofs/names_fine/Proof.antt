@@ -28,8 +28,22 @@ names-fine-spec =
     μ-loop
     (λ c. (omega arith, below.allBelow-zero _))
     (λ c κs. omega (arith, c .loop-test .taken, c .before .before .before .pre))
-    (λ c. let a = c .before .before .before .before .before .args in below.tested-not (nameFine (problemCall (a .given) [] (a .names .now) [] [] [])) (c .before .before .before .loop .i) (c .before .name-fine .result) (c .before .name-fine .ensures) (a .given .names) (c .before .before .loop-test .taken) (not-true _ (c .if1 .taken)))
+    (λ c.
+    let at-loop-test = c .before .before in
+    let at-loop = at-loop-test .before in
+    let start = at-loop .before .before in
+    let a = start .args in below.tested-not (nameFine (problemCall (a .given) [] (a .names .now) [] [] []))
+    (at-loop .loop .i) (c .before .name-fine .result) (c .before .name-fine .ensures) (a .given .names)
+    (at-loop-test .loop-test .taken) (not-true _ (c .if1 .taken)))
     (λ c. omega arith)
     (λ c. omega arith)
-    (λ c. let a = c .before .before .before .before .before .args in (omega arith, below.tested-more (nameFine (problemCall (a .given) [] (a .names .now) [] [] [])) (c .before .before .before .loop .i) (c .before .name-fine .result) (c .before .name-fine .ensures) (not-false _ (c .if1 .left)) (c .before .before .before .loop .inv .1)))
+    (λ c.
+    let at-loop = c .before .before .before in
+    let start = at-loop .before .before in
+    let a = start .args in (
+      omega arith,
+      below.tested-more (nameFine (problemCall (a .given) [] (a .names .now) [] []
+          [])) (at-loop .loop .i) (c .before .name-fine .result) (c .before .name-fine .ensures)
+          (not-false _ (c .if1 .left)) (at-loop .loop .inv .1),
+    ))
     (λ c. below.allBelow-done _ _ (c .before .loop .i) (omega arith) (omega arith) (c .before .loop .inv .1)))

@@ -25,8 +25,32 @@ one-disjunction-each-spec =
     (λ c. sym (c .before .before .loop .inv .1 .size))
     (λ c κs. search needs)
     (λ c κs. search needs)
-    (λ c. let a = c .before .before .before .before .before .before .before .before .args in fresh.disjunction-twice (constraintAt (a .constraints .now)) (a .count) (c .before .before .before .before .before .before .before .before .pre) (c .before .before .before .before .before .before .loop .seen) (c .before .before .before .before .before .before .loop .i) (c .before .before .before .before .before .before .loop .inv) (c .before .before .before .before .before .loop-test .taken) (c .before .before .before .constraint-at .result) (c .before .before .before .constraint-at .ensures) (c .before .before .mark-by .last .0) (c .before .before .mark-by .result) (c .before .before .mark-by .ensures) (not-true _ (c .if1 .taken)))
+    (λ c.
+    let at-mark-by = c .before .before in
+    let at-constraint-at = at-mark-by .before in
+    let at-loop-test = at-constraint-at .before .before in
+    let at-loop = at-loop-test .before in
+    let start = at-loop .before .before in
+    let a = start .args in fresh.disjunction-twice (constraintAt (a .constraints .now)) (a .count) (start .pre)
+    (at-loop .loop .seen) (at-loop .loop .i) (at-loop .loop .inv) (at-loop-test .loop-test .taken)
+    (at-constraint-at .constraint-at .result) (at-constraint-at .constraint-at .ensures)
+    (at-mark-by .mark-by .last .0) (at-mark-by .mark-by .result) (at-mark-by .mark-by .ensures)
+    (not-true _ (c .if1 .taken)))
     (λ c. omega arith)
     (λ c. omega arith)
-    (λ c. let a = c .before .before .before .before .before .before .before .before .args in fresh.disjunction-once (constraintAt (a .constraints .now)) (a .count) (c .before .before .before .before .before .before .before .before .pre) (c .before .before .before .before .before .before .loop .seen) (c .before .before .before .before .before .before .loop .i) (c .before .before .before .before .before .before .loop .inv) (c .before .before .before .before .before .loop-test .taken) (c .before .before .before .constraint-at .result) (c .before .before .before .constraint-at .ensures) (c .before .before .mark-by .last .0) (c .before .before .mark-by .result) (c .before .before .mark-by .ensures) (not-false _ (c .if1 .left)) (c .before .before .mark-by .kept .0))
-    (λ c. let a = c .before .before .before .args in fresh.disjunctions-differ (constraintAt (a .constraints .now)) (a .count) (c .before .before .before .pre) (c .before .loop .seen) (c .before .loop .i) (c .before .loop .inv) (c .loop-test .left)))
+    (λ c.
+    let at-mark-by = c .before .before in
+    let at-constraint-at = at-mark-by .before in
+    let at-loop-test = at-constraint-at .before .before in
+    let at-loop = at-loop-test .before in
+    let start = at-loop .before .before in
+    let a = start .args in fresh.disjunction-once (constraintAt (a .constraints .now)) (a .count) (start .pre)
+    (at-loop .loop .seen) (at-loop .loop .i) (at-loop .loop .inv) (at-loop-test .loop-test .taken)
+    (at-constraint-at .constraint-at .result) (at-constraint-at .constraint-at .ensures)
+    (at-mark-by .mark-by .last .0) (at-mark-by .mark-by .result) (at-mark-by .mark-by .ensures)
+    (not-false _ (c .if1 .left)) (at-mark-by .mark-by .kept .0))
+    (λ c.
+    let at-loop = c .before in
+    let start = at-loop .before .before in
+    let a = start .args in fresh.disjunctions-differ (constraintAt (a .constraints .now)) (a .count) (start .pre)
+    (at-loop .loop .seen) (at-loop .loop .i) (at-loop .loop .inv) (c .loop-test .left)))

@@ -26,8 +26,30 @@ one-name-each-spec =
     (λ c. omega (arith, c .before .loop-test .taken, c .before .before .before .before .pre .0))
     (λ c κs. search needs)
     (λ c κs. search needs)
-    (λ c. let a = c .before .before .before .before .before .before .before .before .args in fresh.number-twice (λ k. getD (a .names .now) (3 * k) 0) (a .given .names) (c .before .before .before .before .before .before .before .before .pre .1) (c .before .before .before .before .before .before .loop .seen) (c .before .before .before .before .before .before .loop .i) (c .before .before .before .before .before .before .loop .inv) (c .before .before .before .before .before .loop-test .taken) (c .before .before .before .word .result) (c .before .before .before .word .ensures) (c .before .before .mark .last .0) (c .before .before .mark .result) (c .before .before .mark .ensures) (not-true _ (c .if1 .taken)))
+    (λ c.
+    let at-mark = c .before .before in
+    let at-word = at-mark .before in
+    let at-loop-test = at-word .before .before in
+    let at-loop = at-loop-test .before in
+    let start = at-loop .before .before in
+    let a = start .args in fresh.number-twice (λ k. getD (a .names .now) (3 * k) 0) (a .given .names) (start .pre .1)
+    (at-loop .loop .seen) (at-loop .loop .i) (at-loop .loop .inv) (at-loop-test .loop-test .taken)
+    (at-word .word .result) (at-word .word .ensures) (at-mark .mark .last .0) (at-mark .mark .result)
+    (at-mark .mark .ensures) (not-true _ (c .if1 .taken)))
     (λ c. omega arith)
     (λ c. omega arith)
-    (λ c. let a = c .before .before .before .before .before .before .before .before .args in fresh.number-once (λ k. getD (a .names .now) (3 * k) 0) (a .given .names) (c .before .before .before .before .before .before .before .before .pre .1) (c .before .before .before .before .before .before .loop .seen) (c .before .before .before .before .before .before .loop .i) (c .before .before .before .before .before .before .loop .inv) (c .before .before .before .before .before .loop-test .taken) (c .before .before .before .word .result) (c .before .before .before .word .ensures) (c .before .before .mark .last .0) (c .before .before .mark .result) (c .before .before .mark .ensures) (not-false _ (c .if1 .left)) (c .before .before .mark .kept .0))
-    (λ c. let a = c .before .before .before .args in fresh.numbers-differ (λ k. getD (a .names .now) (3 * k) 0) (a .given .names) (c .before .before .before .pre .1) (c .before .loop .seen) (c .before .loop .i) (c .before .loop .inv) (c .loop-test .left)))
+    (λ c.
+    let at-mark = c .before .before in
+    let at-word = at-mark .before in
+    let at-loop-test = at-word .before .before in
+    let at-loop = at-loop-test .before in
+    let start = at-loop .before .before in
+    let a = start .args in fresh.number-once (λ k. getD (a .names .now) (3 * k) 0) (a .given .names) (start .pre .1)
+    (at-loop .loop .seen) (at-loop .loop .i) (at-loop .loop .inv) (at-loop-test .loop-test .taken)
+    (at-word .word .result) (at-word .word .ensures) (at-mark .mark .last .0) (at-mark .mark .result)
+    (at-mark .mark .ensures) (not-false _ (c .if1 .left)) (at-mark .mark .kept .0))
+    (λ c.
+    let at-loop = c .before in
+    let start = at-loop .before .before in
+    let a = start .args in fresh.numbers-differ (λ k. getD (a .names .now) (3 * k) 0) (a .given .names)
+    (start .pre .1) (at-loop .loop .seen) (at-loop .loop .i) (at-loop .loop .inv) (c .loop-test .left)))

@@ -21,8 +21,23 @@ overload-fine-spec =
     (λ c. search needs)
     (λ c κs. search needs)
     (λ c κs. search needs)
-    (λ c. fine.first-not _ _ (c .before .target-fine .result) (c .before .target-fine .ensures ∙ ap₂ (targetFine (problemCall (c .before .before .before .before .before .args .given) [] [] [] [] [])) (c .before .before .before .word .ensures) (c .before .before .word2 .ensures)) (not-true _ (c .if1 .taken)))
+    (λ c.
+    let at-word2 = c .before .before in
+    let at-word = at-word2 .before in
+    let start = at-word .before .before in
+    fine.first-not _ _ (c .before .target-fine .result) (c .before .target-fine .ensures ∙ ap₂
+    (targetFine (problemCall (start .args .given) [] [] [] [] [])) (at-word .word .ensures)
+    (at-word2 .word2 .ensures)) (not-true _ (c .if1 .taken)))
     (λ c. search needs)
     (λ c κs. search needs)
     (λ c κs. search needs)
-    (λ c. let a = c .before .before .before .before .before .before .before .args in fine.then _ _ (c .before .before .before .target-fine .result) (c .before .before .before .target-fine .ensures ∙ ap₂ (targetFine (problemCall (a .given) [] [] [] [] [])) (c .before .before .before .before .before .word .ensures) (c .before .before .before .before .word2 .ensures)) (not-false _ (c .before .before .if1 .left)) _ (c .placed .ensures ∙ ap (isPlace (a .given .sorts) (a .given .nodes)) (c .before .word3 .ensures))))
+    (λ c.
+    let at-if1 = c .before .before in
+    let at-target-fine = at-if1 .before in
+    let at-word2 = at-target-fine .before in
+    let at-word = at-word2 .before in
+    let start = at-word .before .before in
+    let a = start .args in fine.then _ _ (at-target-fine .target-fine .result) (at-target-fine .target-fine .ensures ∙
+    ap₂ (targetFine (problemCall (a .given) [] [] [] [] [])) (at-word .word .ensures) (at-word2 .word2 .ensures))
+    (not-false _ (at-if1 .if1 .left)) _ (c .placed .ensures ∙ ap (isPlace (a .given .sorts) (a .given .nodes))
+    (c .before .word3 .ensures))))

@@ -30,11 +30,33 @@ overloads-fine-spec =
     (λ c. omega arith)
     (λ c. omega arith)
     (λ c. omega arith)
-    (λ c. let a = c .before .before .before .args in fine.first-not (leb (a .run .start + a .run .count) (a .given .overloads)) _ (leb (a .run .start + a .run .count) (a .given .overloads)) refl (lt-leb _ _ (c .if1 .taken)))
+    (λ c. let a = c .before .before .before .args in fine.first-not (leb (a .run .start + a .run .count)
+    (a .given .overloads)) _ (leb (a .run .start + a .run .count) (a .given .overloads)) refl
+    (lt-leb _ _ (c .if1 .taken)))
     (λ c. (omega arith, below.allBelow-zero _))
     (λ c κs. search needs)
-    (λ c. let a = c .before .before .before .before .before .before .before .args in fine.then (leb (a .run .start + a .run .count) (a .given .overloads)) _ (leb (a .run .start + a .run .count) (a .given .overloads)) refl (le-leb _ _ (c .before .before .before .before .if1 .left)) false (below.tested-not (λ k. overloadFine (problemCall (a .given) [] [] [] (a .overloads .now) []) (a .run .start + k)) (c .before .before .before .loop .j) (c .before .overload-fine .result) (c .before .overload-fine .ensures) (a .run .count) (c .before .before .loop-test .taken) (not-true _ (c .if2 .taken))))
+    (λ c.
+    let at-loop-test = c .before .before in
+    let at-loop = at-loop-test .before in
+    let at-if1 = at-loop .before in
+    let start = at-if1 .before .before .before in
+    let a = start .args in fine.then (leb (a .run .start + a .run .count) (a .given .overloads)) _
+    (leb (a .run .start + a .run .count) (a .given .overloads)) refl (le-leb _ _ (at-if1 .if1 .left)) false
+    (below.tested-not (λ k. overloadFine (problemCall (a .given) [] [] [] (a .overloads .now) [])
+    (a .run .start + k)) (at-loop .loop .j) (c .before .overload-fine .result) (c .before .overload-fine .ensures)
+    (a .run .count) (at-loop-test .loop-test .taken) (not-true _ (c .if2 .taken))))
     (λ c. omega arith)
     (λ c. omega arith)
-    (λ c. let a = c .before .before .before .before .before .before .before .args in (omega arith, below.tested-more (λ k. overloadFine (problemCall (a .given) [] [] [] (a .overloads .now) []) (a .run .start + k)) (c .before .before .before .loop .j) (c .before .overload-fine .result) (c .before .overload-fine .ensures) (not-false _ (c .if2 .left)) (c .before .before .before .loop .inv .1)))
-    (λ c. let a = c .before .before .before .before .before .args in fine.then (leb (a .run .start + a .run .count) (a .given .overloads)) _ (leb (a .run .start + a .run .count) (a .given .overloads)) refl (le-leb _ _ (c .before .before .if1 .left)) true (below.allBelow-done _ _ (c .before .loop .j) (omega arith) (omega arith) (c .before .loop .inv .1))))
+    (λ c.
+    let at-loop = c .before .before .before in
+    let start = at-loop .before .before .before .before in
+    let a = start .args in (
+      omega arith,
+      below.tested-more (λ k. overloadFine (problemCall (a .given) [] [] []
+          (a .overloads .now) []) (a .run .start + k)) (at-loop .loop .j) (c .before .overload-fine .result)
+          (c .before .overload-fine .ensures) (not-false _ (c .if2 .left)) (at-loop .loop .inv .1),
+    ))
+    (λ c. let a = c .before .before .before .before .before .args in fine.then (leb (a .run .start + a .run .count)
+    (a .given .overloads)) _ (leb (a .run .start + a .run .count) (a .given .overloads)) refl
+    (le-leb _ _ (c .before .before .if1 .left)) true (below.allBelow-done _ _ (c .before .loop .j) (omega arith)
+    (omega arith) (c .before .loop .inv .1))))

@@ -19,9 +19,22 @@ row-fine-spec =
     (tie.spec
     (λ c. search needs)
     (λ c κs. search needs)
-    (λ c. let a = c .before .before .before .before .before .args in fine.first-not (leb (getD (a .constraints .now) (5 * (a .i)) 0) 4) _ (leb (getD (a .constraints .now) (5 * (a .i)) 0) 4) refl (lt-leb _ _ (subst (λ (k : ℕ). 4 < k) (c .before .word .ensures) (c .if1 .taken))))
+    (λ c. let a = c .before .before .before .before .before .args in fine.first-not
+    (leb (getD (a .constraints .now) (5 * (a .i)) 0) 4) _ (leb (getD (a .constraints .now) (5 * (a .i)) 0) 4) refl
+    (lt-leb _ _ (subst (λ (k : ℕ). 4 < k) (c .before .word .ensures) (c .if1 .taken))))
     (λ c. search needs)
     (λ c κs. search needs)
     (λ c κs. search needs)
     (λ c κs. search needs)
-    (λ c. let a = c .before .before .before .before .before .before .before .before .args in fine.then (leb (getD (a .constraints .now) (5 * (a .i)) 0) 4) _ (leb (getD (a .constraints .now) (5 * (a .i)) 0) 4) refl (le-leb _ _ (subst (λ (k : ℕ). k ≤ 4) (c .before .before .before .before .word .ensures) (c .before .before .before .if1 .left))) _ (c .constraint-fine .ensures ∙ (ap₂ (constraintFine (problemCall (a .given) [] [] [] (a .overloads .now) (a .sources .now))) (c .before .before .word2 .ensures) (c .before .constraint-at .ensures) ∙ fine.same-constraint-fine (a .given) (a .constraints .now) (a .overloads .now) (a .sources .now) (getD (a .constraints .now) (5 * (a .i) + 2) 0) (constraintAt (a .constraints .now) (a .i))))))
+    (λ c.
+    let at-word2 = c .before .before in
+    let at-if1 = at-word2 .before in
+    let at-word = at-if1 .before in
+    let start = at-word .before .before .before .before in
+    let a = start .args in fine.then (leb (getD (a .constraints .now) (5 * (a .i)) 0) 4) _
+    (leb (getD (a .constraints .now) (5 * (a .i)) 0) 4) refl (le-leb _ _ (subst (λ (k : ℕ). k ≤ 4)
+    (at-word .word .ensures) (at-if1 .if1 .left))) _ (c .constraint-fine .ensures ∙
+    (ap₂ (constraintFine (problemCall (a .given) [] [] [] (a .overloads .now) (a .sources .now)))
+    (at-word2 .word2 .ensures) (c .before .constraint-at .ensures) ∙ fine.same-constraint-fine (a .given)
+    (a .constraints .now) (a .overloads .now) (a .sources .now) (getD (a .constraints .now) (5 * (a .i) + 2) 0)
+    (constraintAt (a .constraints .now) (a .i))))))

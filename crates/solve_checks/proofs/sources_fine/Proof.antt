@@ -32,15 +32,41 @@ sources-fine-spec =
     (λ c. omega arith)
     (λ c. omega arith)
     (λ c. omega arith)
-    (λ c. let a = c .before .before .before .args in fine.first-not (leb (a .run .start + a .run .count) (a .given .sources)) _ (leb (a .run .start + a .run .count) (a .given .sources)) refl (lt-leb _ _ (c .if1 .taken)))
+    (λ c. let a = c .before .before .before .args in fine.first-not (leb (a .run .start + a .run .count)
+    (a .given .sources)) _ (leb (a .run .start + a .run .count) (a .given .sources)) refl
+    (lt-leb _ _ (c .if1 .taken)))
     (λ c. (omega arith, below.allBelow-zero _))
     (λ c. omega arith)
     (λ c. omega arith)
     (λ c. omega arith)
     (λ c κs. search needs)
     (λ c κs. search needs)
-    (λ c. let a = c .before .before .before .before .before .before .before .before .args in fine.then (leb (a .run .start + a .run .count) (a .given .sources)) _ (leb (a .run .start + a .run .count) (a .given .sources)) refl (le-leb _ _ (c .before .before .before .before .before .if1 .left)) false (below.tested-not (λ k. sourceFine (problemCall (a .given) [] [] [] [] (a .sources .now)) (a .run .start + k)) (c .before .before .before .before .loop .j) (c .before .placed .result) (c .before .placed .ensures ∙ ap (isPlace (a .given .sorts) (a .given .nodes)) (c .before .before .word .ensures)) (a .run .count) (c .before .before .before .loop-test .taken) (not-true _ (c .if2 .taken))))
+    (λ c.
+    let at-word = c .before .before in
+    let at-loop-test = at-word .before in
+    let at-loop = at-loop-test .before in
+    let at-if1 = at-loop .before in
+    let start = at-if1 .before .before .before in
+    let a = start .args in fine.then (leb (a .run .start + a .run .count) (a .given .sources)) _
+    (leb (a .run .start + a .run .count) (a .given .sources)) refl (le-leb _ _ (at-if1 .if1 .left)) false
+    (below.tested-not (λ k. sourceFine (problemCall (a .given) [] [] [] [] (a .sources .now)) (a .run .start + k))
+    (at-loop .loop .j) (c .before .placed .result) (c .before .placed .ensures ∙ ap (isPlace (a .given .sorts)
+    (a .given .nodes)) (at-word .word .ensures)) (a .run .count) (at-loop-test .loop-test .taken)
+    (not-true _ (c .if2 .taken))))
     (λ c. omega arith)
     (λ c. omega arith)
-    (λ c. let a = c .before .before .before .before .before .before .before .before .args in (omega arith, below.tested-more (λ k. sourceFine (problemCall (a .given) [] [] [] [] (a .sources .now)) (a .run .start + k)) (c .before .before .before .before .loop .j) (c .before .placed .result) (c .before .placed .ensures ∙ ap (isPlace (a .given .sorts) (a .given .nodes)) (c .before .before .word .ensures)) (not-false _ (c .if2 .left)) (c .before .before .before .before .loop .inv .1)))
-    (λ c. let a = c .before .before .before .before .before .args in fine.then (leb (a .run .start + a .run .count) (a .given .sources)) _ (leb (a .run .start + a .run .count) (a .given .sources)) refl (le-leb _ _ (c .before .before .if1 .left)) true (below.allBelow-done _ _ (c .before .loop .j) (omega arith) (omega arith) (c .before .loop .inv .1))))
+    (λ c.
+    let at-word = c .before .before in
+    let at-loop = at-word .before .before in
+    let start = at-loop .before .before .before .before in
+    let a = start .args in (
+      omega arith,
+      below.tested-more (λ k. sourceFine (problemCall (a .given) [] [] [] []
+          (a .sources .now)) (a .run .start + k)) (at-loop .loop .j) (c .before .placed .result)
+          (c .before .placed .ensures ∙ ap (isPlace (a .given .sorts) (a .given .nodes)) (at-word .word .ensures))
+          (not-false _ (c .if2 .left)) (at-loop .loop .inv .1),
+    ))
+    (λ c. let a = c .before .before .before .before .before .args in fine.then (leb (a .run .start + a .run .count)
+    (a .given .sources)) _ (leb (a .run .start + a .run .count) (a .given .sources)) refl
+    (le-leb _ _ (c .before .before .if1 .left)) true (below.allBelow-done _ _ (c .before .loop .j) (omega arith)
+    (omega arith) (c .before .loop .inv .1))))

@@ -9,5 +9,10 @@ target-fine-spec =
     (tie.spec
     (λ c. let a = c .before .args in fine.no-kind (a .given) (a .kind) (a .sort) (c .if1 .taken))
     (λ c. let a = c .before .before .args in fine.kind-above (a .given) (a .kind) (a .sort) (c .before .if1 .left) (c .if2 .taken))
-    (λ c. let a = c .before .before .before .before .args in fine.operation-by-sort (a .given) (a .kind) (a .sort) (c .before .before .before .if1 .left) (c .before .before .if2 .left) (c .before .if3 .taken))
-    (λ c. let a = c .before .before .before .args in fine.other-kind (a .given) (a .kind) (a .sort) (c .before .before .if1 .left) (c .before .if2 .left) (c .if3 .left)))
+    (λ c.
+    let at-if2 = c .before .before in
+    let at-if1 = at-if2 .before in
+    let start = at-if1 .before in
+    let a = start .args in fine.operation-by-sort (a .given) (a .kind) (a .sort) (at-if1 .if1 .left) (at-if2 .if2 .left) (c .before .if3 .taken))
+    (λ c. let a = c .before .before .before .args in fine.other-kind (a .given) (a .kind) (a .sort)
+    (c .before .before .if1 .left) (c .before .if2 .left) (c .if3 .left)))

@@ -18,6 +18,28 @@ test-lists-spec =
     (λ c κs. search needs)
     (λ c. search needs)
     (λ c. search needs)
-    (λ c κs. let a = c .before .before .before .before .before .before .before .before .before .before .args in (ceiling.expr-ceiling (problemCall (a .given) (a .exprs .now) (a .names .now) (a .constraints .now) (a .overloads .now) (a .sources .now)) (c .before .before .before .before .before .before .before .before .before .before .pre), ceiling.constraint-ceiling (problemCall (a .given) (a .exprs .now) (a .names .now) (a .constraints .now) (a .overloads .now) (a .sources .now)) (c .before .before .before .before .before .before .before .before .before .before .pre)))
-    (λ c. let a = c .before .before .before .before .before .before .before .before .before .before .before .args in (λ o. tests.first-refuses _ _ (c .before .before .before .test-rows .result) (c .before .before .before .test-rows .ensures ∙ ap (λ cs. testedOf (firstFailing cs)) (law.same-row-checks (a .given) (a .sorts .now) (a .nodes .now) [] (a .exprs .now) (a .names .now) (a .constraints .now) (a .overloads .now) (a .sources .now) (a .room) o)) _ (c .before .code .given .1)))
-    (λ c. let a = c .before .before .before .before .before .before .before .before .before .before .before .args in (λ o. tests.second-decides _ _ (c .before .before .before .test-rows .result) (c .before .before .before .test-rows .ensures ∙ ap (λ cs. testedOf (firstFailing cs)) (law.same-row-checks (a .given) (a .sorts .now) (a .nodes .now) [] (a .exprs .now) (a .names .now) (a .constraints .now) (a .overloads .now) (a .sources .now) (a .room) o)) (c .before .enum-told .given .1) _ (c .test-last .ensures o ∙ ap (λ cs. testedOf (firstFailing cs)) (law.same-last-checks (a .given) (a .sorts .now) (a .nodes .now) [] (a .exprs .now) (a .names .now) (a .constraints .now) (a .overloads .now) (a .sources .now) (a .room) o)))))
+    (λ c κs.
+    let start = c .before .before .before .before .before .before .before .before .before .before in
+    let a = start .args in (
+      ceiling.expr-ceiling (problemCall (a .given) (a .exprs .now) (a .names .now)
+          (a .constraints .now) (a .overloads .now) (a .sources .now)) (start .pre),
+      ceiling.constraint-ceiling
+          (problemCall (a .given) (a .exprs .now) (a .names .now) (a .constraints .now) (a .overloads .now)
+          (a .sources .now)) (start .pre),
+    ))
+    (λ c.
+    let at-test-rows = c .before .before .before in
+    let start = at-test-rows .before .before .before .before .before .before .before .before in
+    let a = start .args in (λ o. tests.first-refuses _ _ (at-test-rows .test-rows .result)
+    (at-test-rows .test-rows .ensures ∙ ap (λ cs. testedOf (firstFailing cs)) (law.same-row-checks (a .given)
+    (a .sorts .now) (a .nodes .now) [] (a .exprs .now) (a .names .now) (a .constraints .now) (a .overloads .now)
+    (a .sources .now) (a .room) o)) _ (c .before .code .given .1)))
+    (λ c.
+    let at-test-rows = c .before .before .before in
+    let start = at-test-rows .before .before .before .before .before .before .before .before in
+    let a = start .args in (λ o. tests.second-decides _ _ (at-test-rows .test-rows .result)
+    (at-test-rows .test-rows .ensures ∙ ap (λ cs. testedOf (firstFailing cs)) (law.same-row-checks (a .given)
+    (a .sorts .now) (a .nodes .now) [] (a .exprs .now) (a .names .now) (a .constraints .now) (a .overloads .now)
+    (a .sources .now) (a .room) o)) (c .before .enum-told .given .1) _ (c .test-last .ensures o ∙ ap
+    (λ cs. testedOf (firstFailing cs)) (law.same-last-checks (a .given) (a .sorts .now) (a .nodes .now) []
+    (a .exprs .now) (a .names .now) (a .constraints .now) (a .overloads .now) (a .sources .now) (a .room) o)))))

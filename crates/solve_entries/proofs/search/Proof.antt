@@ -18,10 +18,25 @@ nothing-taken-requires : tie.Need-nothing-taken-requires
 nothing-taken-requires c κs = search needs
 
 solve-requires : tie.Need-solve-requires
-solve-requires c κs = law.starts _ _ _ _ _ _ _ _ (c .before .before .before .before .before .no-incumbent .ensures) _ (c .before .before .before .before .nothing-taken .ensures) (c .before .before .before .before .before .before .before .before .before .before .before .before .before .before .before .pre .0)
+solve-requires c κs =
+    let at-nothing-taken = c .before .before .before .before in
+    let at-no-incumbent = at-nothing-taken .before in
+    let start = at-no-incumbent .before .before .before .before .before .before .before .before .before
+    .before in
+    law.starts _ _ _ _ _ _ _ _ (at-no-incumbent .no-incumbent .ensures) _ (at-nothing-taken .nothing-taken .ensures) (start .pre .0)
 
 finish-requires : tie.Need-finish-requires
-finish-requires c κs = law.room-after _ _ _ _ _ _ _ _ (c .before .before .before .before .before .before .before .before .before .before .before .before .before .before .before .before .before .before .before .before .no-incumbent .ensures) _ (c .before .before .before .before .before .before .before .before .before .before .before .before .before .before .before .before .before .before .before .nothing-taken .ensures) (c .before .before .before .before .before .before .before .before .before .before .before .before .before .before .before .before .before .before .before .before .before .before .before .before .before .before .before .before .before .before .pre .0) _ _ _ _ _ (c .before .before .before .before .before .before .before .before .before .before .before .before .before .before .before .before .before .before .before .before .before .before .before .before .before .before .before .before .before .before .pre .1) (c .before .before .before .before .before .before .before .before .before .before .before .before .before .before .solve .last .0) (c .before .before .before .before .before .before .before .before .before .before .before .before .before .before .solve .last .1 .0) (c .before .before .before .before .before .before .before .before .before .before .before .before .before .before .solve .last .1 .1 .1 .0) (c .before .before .before .before .before .before .before .before .before .before .before .before .before .before .solve .kept .0) (c .before .before .before .before .before .before .before .before .before .before .before .before .before .before .solve .kept .1 .0) (c .before .before .before .before .before .before .before .before .before .before .before .before .before .before .solve .kept .1 .1 .1 .0)
+finish-requires c κs =
+    let at-solve = c .before .before .before .before .before .before .before .before .before .before .before
+    .before .before .before in
+    let at-nothing-taken = at-solve .before .before .before .before .before in
+    let at-no-incumbent = at-nothing-taken .before in
+    let start = at-no-incumbent .before .before .before .before .before .before .before .before .before
+    .before in
+    law.room-after _ _ _ _ _ _ _ _ (at-no-incumbent .no-incumbent .ensures) _
+    (at-nothing-taken .nothing-taken .ensures) (start .pre .0) _ _ _ _ _ (start .pre .1)
+    (at-solve .solve .last .0) (at-solve .solve .last .1 .0) (at-solve .solve .last .1 .1 .1 .0)
+    (at-solve .solve .kept .0) (at-solve .solve .kept .1 .0) (at-solve .solve .kept .1 .1 .1 .0)
 
 same-length : tie.Need-same-length
 same-length c = search needs
@@ -45,7 +60,18 @@ same-length-7 : tie.Need-same-length-7
 same-length-7 c = search needs
 
 returns : tie.Need-returns
-returns c = law.search-left _ _ _ _ _ _ _ _ (c .before .before .before .before .before .before .before .before .before .before .before .before .before .before .before .before .before .before .before .before .before .before .before .before .before .before .before .before .before .before .before .before .before .no-incumbent .ensures) _ (c .before .before .before .before .before .before .before .before .before .before .before .before .before .before .before .before .before .before .before .before .before .before .before .before .before .before .before .before .before .before .before .before .nothing-taken .ensures) (c .before .before .before .before .before .before .before .before .before .before .before .before .before .before .before .before .before .before .before .before .before .before .before .before .before .before .before .before .before .before .before .before .before .before .before .before .before .before .before .before .before .before .before .pre .0) _ _ _ _ _ (c .before .before .before .before .before .before .before .before .before .before .before .before .before .before .before .before .before .before .before .before .before .before .before .before .before .before .before .solve .ensures) (c .before .before .before .before .before .before .before .before .before .before .before .before .before .before .before .before .before .before .before .before .before .before .before .before .before .before .before .before .before .before .before .before .before .before .before .before .before .before .before .before .before .before .before .args .names .now) (c .before .before .before .before .before .before .before .before .before .before .before .before .before .before .before .before .before .before .before .before .before .before .before .before .before .before .before .before .before .before .before .before .before .before .before .before .before .before .before .before .before .before .before .args .name-count) _ _ _ _ (c .before .before .before .before .before .before .before .before .before .before .before .before .finish .ensures _)
+returns c =
+    let at-finish = c .before .before .before .before .before .before .before .before .before .before .before
+    .before in
+    let at-solve = at-finish .before .before .before .before .before .before .before .before .before .before
+    .before .before .before .before .before in
+    let at-nothing-taken = at-solve .before .before .before .before .before in
+    let at-no-incumbent = at-nothing-taken .before in
+    let start = at-no-incumbent .before .before .before .before .before .before .before .before .before
+    .before in
+    law.search-left _ _ _ _ _ _ _ _ (at-no-incumbent .no-incumbent .ensures) _
+    (at-nothing-taken .nothing-taken .ensures) (start .pre .0) _ _ _ _ _ (at-solve .solve .ensures)
+    (start .args .names .now) (start .args .name-count) _ _ _ _ (at-finish .finish .ensures _)
 
 pub search-spec : {M : Type 1} → statement M
 search-spec =

@@ -19,7 +19,14 @@ enum-told : tie.Need-enum-told
 enum-told c = search needs
 
 solve-passed-requires : tie.Need-solve-passed-requires
-solve-passed-requires c κs = law.passes _ _ _ _ _ _ _ _ _ _ _ _ _ _ (c .before .before .before .before .before .before .before .before .before .test-solve .ensures (outsOf (c .before .before .before .before .before .before .before .before .before .before .before .before .before .before .before .before .before .before .before .before .before .before .before .before .before .args .scratch .now) (c .before .before .before .before .before .before .before .before .before .before .before .before .before .before .before .before .before .before .before .before .before .before .before .before .before .args .typing .now) (c .before .before .before .before .before .before .before .before .before .before .before .before .before .before .before .before .before .before .before .before .before .before .before .before .before .args .measure .now) (c .before .before .before .before .before .before .before .before .before .before .before .before .before .before .before .before .before .before .before .before .before .before .before .before .before .args .choices .now))) (c .before .before .before .before .before .before .before .enum-told .given .1)
+solve-passed-requires c κs =
+    let at-enum-told = c .before .before .before .before .before .before .before in
+    let at-test-solve = at-enum-told .before .before in
+    let start = at-test-solve .before .before .before .before .before .before .before .before .before .before
+    .before .before .before .before .before .before in
+    let args = start .args in
+    law.passes _ _ _ _ _ _ _ _ _ _ _ _ _ _ (at-test-solve .test-solve .ensures (outsOf (args .scratch .now)
+    (args .typing .now) (args .measure .now) (args .choices .now))) (at-enum-told .enum-told .given .1)
 
 same-length : tie.Need-same-length
 same-length c = search needs
@@ -31,7 +38,13 @@ same-length-3 : tie.Need-same-length-3
 same-length-3 c = search needs
 
 returns : tie.Need-returns
-returns c = law.refused-so _ _ _ _ _ _ _ _ _ _ _ _ _ _ (c .before .before .before .test-solve .ensures (outsOf (c .before .before .before .before .before .before .before .before .before .before .before .before .before .before .before .before .before .before .before .args .scratch .now) (c .before .before .before .before .before .before .before .before .before .before .before .before .before .before .before .before .before .before .before .args .typing .now) (c .before .before .before .before .before .before .before .before .before .before .before .before .before .before .before .before .before .before .before .args .measure .now) (c .before .before .before .before .before .before .before .before .before .before .before .before .before .before .before .before .before .before .before .args .choices .now))) _ (c .before .code .given .1)
+returns c =
+    let at-test-solve = c .before .before .before in
+    let start = at-test-solve .before .before .before .before .before .before .before .before .before .before
+    .before .before .before .before .before .before in
+    let args = start .args in
+    law.refused-so _ _ _ _ _ _ _ _ _ _ _ _ _ _ (at-test-solve .test-solve .ensures (outsOf (args .scratch .now)
+    (args .typing .now) (args .measure .now) (args .choices .now))) _ (c .before .code .given .1)
 
 same-length-4 : tie.Need-same-length-4
 same-length-4 c = search needs

@@ -12,7 +12,10 @@ solve-requires : tie.Need-solve-requires
 solve-requires c κs = search needs
 
 pack-solved-requires : tie.Need-pack-solved-requires
-pack-solved-requires c κs = law.answer-told _ _ _ _ _ _ _ _ _ (c .before .before .before .before .before .before .before .before .before .before .before .before .before .before .solve .ensures)
+pack-solved-requires c κs =
+    let at-solve = c .before .before .before .before .before .before .before .before .before .before .before
+    .before .before .before in
+    law.answer-told _ _ _ _ _ _ _ _ _ (at-solve .solve .ensures)
 
 same-length : tie.Need-same-length
 same-length c = search needs
@@ -36,7 +39,10 @@ same-length-7 : tie.Need-same-length-7
 same-length-7 c = search needs
 
 returns : tie.Need-returns
-returns c = law.answer-packed _ _ _ _ _ _ _ _ _ (c .before .before .before .before .before .before .before .before .before .before .before .before .before .before .before .solve .ensures) _ (c .pack-solved .ensures)
+returns c =
+    let at-solve = c .before .before .before .before .before .before .before .before .before .before .before
+    .before .before .before .before in
+    law.answer-packed _ _ _ _ _ _ _ _ _ (at-solve .solve .ensures) _ (c .pack-solved .ensures)
 
 pub sort-solve-spec : {M : Type 1} → statement M
 sort-solve-spec =

@@ -9,7 +9,8 @@ use Rattle.solve_lists.proofs.solve_all.Statement.{statement}
 use Rattle.solve_lists.proofs.solve_all.Tie as tie
 
 abbrev Inv-loop : tie.InvT-loop
-Inv-loop list₀ buffer₀ line₀ out₀ read₀ turns₀ list buffer line out read turns = (length buffer ≡ length buffer₀) × (length line ≡ length line₀) × (length out ≡ length out₀) × (turns ≤ 18446744073709551615)
+Inv-loop list₀ buffer₀ line₀ out₀ read₀ turns₀ list buffer line out read turns = (length buffer ≡ length buffer₀) ×
+    (length line ≡ length line₀) × (length out ≡ length out₀) × (turns ≤ 18446744073709551615)
 
 abbrev μ-loop : tie.MeasureT-loop
 μ-loop list₀ buffer₀ line₀ out₀ read₀ turns₀ list buffer line out read turns = turns
@@ -30,13 +31,23 @@ at-end-requires : tie.Need-at-end-requires Inv-loop μ-loop
 at-end-requires c κs = search needs
 
 same-length : tie.Need-same-length Inv-loop μ-loop
-same-length c = c .before .before .before .before .before .before .before .before .before .before .next-line .kept .0 ∙ c .before .before .before .before .before .before .before .before .before .before .before .before .before .before .loop .inv .0
+same-length c =
+    let at-next-line = c .before .before .before .before .before .before .before .before .before .before in
+    let at-loop = at-next-line .before .before .before .before in
+    at-next-line .next-line .kept .0 ∙ at-loop .loop .inv .0
 
 same-length-2 : tie.Need-same-length-2 Inv-loop μ-loop
-same-length-2 c = c .before .before .before .before .before .before .before .before .before .before .next-line .kept .1 .0 ∙ c .before .before .before .before .before .before .before .before .before .before .before .before .before .before .loop .inv .1
+same-length-2 c =
+    let at-next-line = c .before .before .before .before .before .before .before .before .before .before in
+    let at-loop = at-next-line .before .before .before .before in
+    at-next-line .next-line .kept .1 .0 ∙ at-loop .loop .inv .1
 
 same-length-3 : tie.Need-same-length-3 Inv-loop μ-loop
-same-length-3 c = c .before .before .at-end .kept .1 .1 .0 ∙ c .before .before .before .before .before .before .before .before .before .before .before .before .before .before .loop .inv .2
+same-length-3 c =
+    let at-at-end = c .before .before in
+    let at-loop = at-at-end .before .before .before .before .before .before .before .before .before .before
+    .before .before in
+    at-at-end .at-end .kept .1 .1 .0 ∙ at-loop .loop .inv .2
 
 returns : tie.Need-returns Inv-loop μ-loop
 returns c = search needs
@@ -51,25 +62,54 @@ take-line-requires : tie.Need-take-line-requires Inv-loop μ-loop
 take-line-requires c κs = search needs
 
 same-length-4 : tie.Need-same-length-4 Inv-loop μ-loop
-same-length-4 c = c .before .before .before .before .before .before .before .before .before .before .before .before .before .next-line .kept .0 ∙ c .before .before .before .before .before .before .before .before .before .before .before .before .before .before .before .before .before .loop .inv .0
+same-length-4 c =
+    let at-next-line = c .before .before .before .before .before .before .before .before .before .before
+    .before .before .before in
+    let at-loop = at-next-line .before .before .before .before in
+    at-next-line .next-line .kept .0 ∙ at-loop .loop .inv .0
 
 same-length-5 : tie.Need-same-length-5 Inv-loop μ-loop
-same-length-5 c = c .before .before .before .before .before .before .before .before .before .before .before .before .before .next-line .kept .1 .0 ∙ c .before .before .before .before .before .before .before .before .before .before .before .before .before .before .before .before .before .loop .inv .1
+same-length-5 c =
+    let at-next-line = c .before .before .before .before .before .before .before .before .before .before
+    .before .before .before in
+    let at-loop = at-next-line .before .before .before .before in
+    at-next-line .next-line .kept .1 .0 ∙ at-loop .loop .inv .1
 
 same-length-6 : tie.Need-same-length-6 Inv-loop μ-loop
-same-length-6 c = c .before .before .before .take-line .kept .1 .1 .1 .1 .0 ∙ c .before .before .before .before .before .before .before .before .before .before .before .before .before .before .before .before .before .loop .inv .2
+same-length-6 c =
+    let at-take-line = c .before .before .before in
+    let at-loop = at-take-line .before .before .before .before .before .before .before .before .before
+    .before .before .before .before .before in
+    at-take-line .take-line .kept .1 .1 .1 .1 .0 ∙ at-loop .loop .inv .2
 
 returns-2 : tie.Need-returns-2 Inv-loop μ-loop
 returns-2 c = search needs
 
 sub-turns : tie.Need-sub-turns Inv-loop μ-loop
-sub-turns c = omega (arith, c .before .before .before .before .before .before .before .before .before .before .before .before .before .before .before .before .before .loop .inv .3)
+sub-turns c =
+    let at-loop = c .before .before .before .before .before .before .before .before .before .before .before
+    .before .before .before .before .before .before in
+    omega (arith, at-loop .loop .inv .3)
 
 loop-less : tie.Need-loop-less Inv-loop μ-loop
-loop-less c = omega (arith, c .before .before .before .before .before .before .before .before .before .before .before .before .before .before .before .before .before .loop .inv .3)
+loop-less c =
+    let at-loop = c .before .before .before .before .before .before .before .before .before .before .before
+    .before .before .before .before .before .before in
+    omega (arith, at-loop .loop .inv .3)
 
 loop-again : tie.Need-loop-again Inv-loop μ-loop
-loop-again c = (c .before .before .before .before .before .before .before .before .before .before .before .before .before .next-line .kept .0 ∙ c .before .before .before .before .before .before .before .before .before .before .before .before .before .before .before .before .before .loop .inv .0, c .before .before .before .before .before .before .before .before .before .before .before .before .before .next-line .kept .1 .0 ∙ c .before .before .before .before .before .before .before .before .before .before .before .before .before .before .before .before .before .loop .inv .1, c .before .before .before .take-line .kept .1 .1 .1 .1 .0 ∙ c .before .before .before .before .before .before .before .before .before .before .before .before .before .before .before .before .before .loop .inv .2, omega (arith, c .before .before .before .before .before .before .before .before .before .before .before .before .before .before .before .before .before .loop .inv .3))
+loop-again c =
+    let at-take-line = c .before .before .before in
+    let at-next-line = at-take-line .before .before .before .before .before .before .before .before .before
+    .before in
+    let at-loop = at-next-line .before .before .before .before in (
+      at-next-line .next-line .kept .0 ∙ at-loop .loop .inv .0,
+      at-next-line .next-line .kept .1 .0 ∙
+          at-loop .loop .inv .1,
+      at-take-line .take-line .kept .1 .1 .1 .1 .0 ∙ at-loop .loop .inv .2,
+      omega
+          (arith, at-loop .loop .inv .3),
+    )
 
 same-length-7 : tie.Need-same-length-7 Inv-loop μ-loop
 same-length-7 c = c .before .loop .inv .0

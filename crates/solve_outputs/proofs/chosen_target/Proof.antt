@@ -18,5 +18,11 @@ chosen-target-spec =
     (λ c. search needs)
     (λ c κs. search needs)
     (λ c κs. search needs)
-    (λ c. let a = c .before .before .before .before .before .before .args in
-    target-inside (a .lists .now) (a .overloads) (a .run) (a .i) (c .before .before .before .if1 .left) (c .before .before .word .result) (c .before .word2 .result) (c .name-target .result) (c .before .before .word .ensures) (c .before .word2 .ensures) (c .name-target .ensures)))
+    (λ c.
+    let at-word = c .before .before in
+    let at-if1 = at-word .before in
+    let start = at-if1 .before .before .before in
+    let a = start .args in
+    target-inside (a .lists .now) (a .overloads) (a .run) (a .i) (at-if1 .if1 .left) (at-word .word .result)
+    (c .before .word2 .result) (c .name-target .result) (at-word .word .ensures) (c .before .word2 .ensures)
+    (c .name-target .ensures)))

@@ -6,8 +6,15 @@ use Rattle.solve_outputs.proofs.hand_out.Tie as tie
 
 returns : tie.Need-returns
 returns c =
-    let s = c .before .before .before .before .before .before .before .before .before .before .before .before .before .before .before .before .before .before in
-    law.hands-out (s .args .scratch .now) (s .args .lists .now) (s .args .names .now) (s .args .name-count) (s .args .sizes) (s .args .typing .now) (s .args .measure .now) (s .args .choices .now) (s .pre) (s .args .counts) _ _ _ (c .before .before .before .before .before .before .before .before .before .before .write-typing .ensures) (c .before .before .before .before .before .before .write-measure .ensures) (c .before .before .write-choices .ensures)
+    let at-write-choices = c .before .before in
+    let at-write-measure = at-write-choices .before .before .before .before in
+    let at-write-typing = at-write-measure .before .before .before .before in
+    let at = at-write-typing .before .before .before .before .before .before .before .before in
+    let s = at in
+    law.hands-out (s .args .scratch .now) (s .args .lists .now) (s .args .names .now) (s .args .name-count)
+    (s .args .sizes) (s .args .typing .now) (s .args .measure .now) (s .args .choices .now) (s .pre)
+    (s .args .counts) _ _ _ (at-write-typing .write-typing .ensures) (at-write-measure .write-measure .ensures)
+    (at-write-choices .write-choices .ensures)
 
 pub hand-out-spec : {M : Type 1} → statement M
 hand-out-spec =

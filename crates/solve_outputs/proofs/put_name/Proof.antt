@@ -16,7 +16,17 @@ put-name-spec =
     (λ c κs. search needs)
     (λ c κs. search needs)
     (λ c. search needs)
-    (λ c. let a = c .before .before .before .before .before .before .before .before .before .before .before .before .args in
-    named-inside (a .exprs) (a .typing .now) (a .x) (a .name) (c .before .before .before .before .before .before .before .before .before .before .if1 .taken) (c .before .before .before .before .before .before .before .put .last .0) (c .before .before .put2 .last .0) (c .before .before .before .before .before .before .before .before .kind-word .result) (c .before .before .before .sort-word .result) (c .before .before .before .before .before .before .before .before .kind-word .ensures) (c .before .before .before .before .before .before .before .put .ensures) (c .before .before .before .sort-word .ensures) (c .before .before .put2 .ensures))
+    (λ c.
+    let at-put2 = c .before .before in
+    let at-sort-word = at-put2 .before in
+    let at-put = at-sort-word .before .before .before .before in
+    let at-kind-word = at-put .before in
+    let at-if1 = at-kind-word .before .before in
+    let start = at-if1 .before .before in
+    let a = start .args in
+    named-inside (a .exprs) (a .typing .now) (a .x) (a .name) (at-if1 .if1 .taken) (at-put .put .last .0)
+    (at-put2 .put2 .last .0) (at-kind-word .kind-word .result) (at-sort-word .sort-word .result)
+    (at-kind-word .kind-word .ensures) (at-put .put .ensures) (at-sort-word .sort-word .ensures)
+    (at-put2 .put2 .ensures))
     (λ c. let a = c .before .before .args in
     named-outside (a .exprs) (a .typing .now) (a .x) (a .name) (c .if1 .left)))

@@ -6,8 +6,13 @@ use Rattle.solve_outputs.proofs.sizes_of.Tie as tie
 
 returns : tie.Need-returns
 returns c =
-    let a = c .before .before .before .before .before .before .before .args in
-    sizes-counted (a .given) (a .constraints .now) (c .before .before .before .before .components .result) (c .before .before .before .disjunction-count .result) (c .before .before .before .before .components .ensures) (c .before .before .before .disjunction-count .ensures)
+    let at-disjunction-count = c .before .before .before in
+    let at-components = at-disjunction-count .before in
+    let start = at-components .before .before .before in
+    let a = start .args in
+    sizes-counted (a .given) (a .constraints .now) (at-components .components .result)
+    (at-disjunction-count .disjunction-count .result) (at-components .components .ensures)
+    (at-disjunction-count .disjunction-count .ensures)
 
 pub sizes-of-spec : {M : Type 1} → statement M
 sizes-of-spec =

@@ -12,7 +12,10 @@ abbrev μ-loop : tie.MeasureT-loop
 μ-loop typing₀ names name-count exprs i₀ typing i = i
 
 loop-holds : tie.Need-loop-holds Inv-loop μ-loop
-loop-holds c = base-begin (c .before .before .args .names .now) (c .before .before .args .typing .now) (c .before .before .args .exprs) (c .before .before .args .name-count)
+loop-holds c =
+    let start = c .before .before in
+    let args = start .args in
+    base-begin (args .names .now) (args .typing .now) (args .exprs) (args .name-count)
 
 sub-i : tie.Need-sub-i Inv-loop μ-loop
 sub-i c = omega arith
@@ -46,17 +49,31 @@ loop-less c = omega arith
 
 loop-again : tie.Need-loop-again Inv-loop μ-loop
 loop-again c =
-    let a = c .before .before .before .before .before .before .before .before .before .before .before .before .args in
-    let at-loop = c .before .before .before .before .before .before .before .before .before .loop in
-    base-go-on (a .names .now) (a .typing .now) (a .exprs) (a .name-count) (at-loop .typing) (at-loop .i) (at-loop .inv) (c .before .before .before .before .before .before .before .before .loop-test .taken) (c .before .before .before .before .word3 .result) (c .before .before .before .before .before .before .before .word .result) (c .before .before .before .before .before .before .word2 .result) (c .before .before .before .name-target .result) (c .before .before .put-name .last .0) (c .before .before .before .before .word3 .ensures) (c .before .before .before .before .before .before .before .word .ensures) (c .before .before .before .before .before .before .word2 .ensures) (c .before .before .before .name-target .ensures) (c .before .before .put-name .ensures)
+    let at-put-name = c .before .before in
+    let at-name-target = at-put-name .before in
+    let at-word3 = at-name-target .before in
+    let at-word2 = at-word3 .before .before in
+    let at-word = at-word2 .before in
+    let at-loop-test = at-word .before in
+    let at-loop2 = at-loop-test .before in
+    let start = at-loop2 .before .before .before in
+    let a = start .args in
+    let at-loop = at-loop2 .loop in
+    base-go-on (a .names .now) (a .typing .now) (a .exprs) (a .name-count) (at-loop .typing) (at-loop .i)
+    (at-loop .inv) (at-loop-test .loop-test .taken) (at-word3 .word3 .result) (at-word .word .result)
+    (at-word2 .word2 .result) (at-name-target .name-target .result) (at-put-name .put-name .last .0)
+    (at-word3 .word3 .ensures) (at-word .word .ensures) (at-word2 .word2 .ensures)
+    (at-name-target .name-target .ensures) (at-put-name .put-name .ensures)
 
 same-length : tie.Need-same-length Inv-loop μ-loop
 same-length c = c .before .loop .inv .long
 
 returns : tie.Need-returns Inv-loop μ-loop
 returns c =
-    let a = c .before .before .before .before .args in
-    base-end (a .names .now) (a .typing .now) (a .exprs) (a .name-count) (c .before .loop .typing) (c .before .loop .i) (c .before .loop .inv) (c .loop-test .left)
+    let at-loop = c .before in
+    let start = at-loop .before .before .before in
+    let a = start .args in
+    base-end (a .names .now) (a .typing .now) (a .exprs) (a .name-count) (at-loop .loop .typing) (at-loop .loop .i) (at-loop .loop .inv) (c .loop-test .left)
 
 pub write-base-names-spec : {M : Type 1} → statement M
 write-base-names-spec =

@@ -25,6 +25,15 @@ write-choice-spec =
     (λ c. rw (c .enum-told .given .1))
     (λ c. rw (c .enum-told2 .given .1))
     (λ c. search needs)
-    (λ c. choice-put (c .before .before .before .before .before .before .before .before .before .before .before .before .before .before .args .scratch .now) (c .before .before .before .before .before .before .before .before .before .before .before .before .before .before .args .choices .now) (c .before .before .before .before .before .before .before .before .before .before .before .before .before .before .args .says) (c .before .before .before .before .before .before .before .before .before .before .before .before .before .before .args .k) _ _ _ (c .before .before .before .before .before .before .before .before .before .before .says .given .1) (c .before .before .before .before .before .before .before .put .last .0) (c .before .before .put2 .last .0) (c .before .before .before .word .result) (c .before .before .before .before .before .before .before .put .ensures) (c .before .before .before .word .ensures) (c .before .before .put2 .ensures))
+    (λ c.
+    let at-put2 = c .before .before in
+    let at-word = at-put2 .before in
+    let at-put = at-word .before .before .before .before in
+    let at-says = at-put .before .before .before in
+    let start = at-says .before .before .before .before in
+    let args = start .args in
+    choice-put (args .scratch .now) (args .choices .now) (args .says) (args .k) _ _ _ (at-says .says .given .1)
+    (at-put .put .last .0) (at-put2 .put2 .last .0) (at-word .word .result) (at-put .put .ensures)
+    (at-word .word .ensures) (at-put2 .put2 .ensures))
     (λ c. rw (c .enum-told3 .given .1))
     (λ c. rw (c .enum-told4 .given .1)))

@@ -22,8 +22,11 @@ constraint-at-requires c κs = search needs
 
 write-choice-requires : tie.Need-write-choice-requires Inv-loop μ-loop
 write-choice-requires c κs =
-    let a = c .before .before .before .before .before .before .before .args in
-    choices-few (a .scratch .now) (a .choices .now) (a .lists .now) (a .sizes .constraints) (c .before .before .before .loop .choices) (c .before .before .before .loop .k) (c .before .before .before .loop .i) (c .before .before .before .loop .inv)
+    let at-loop = c .before .before .before in
+    let start = at-loop .before .before .before .before in
+    let a = start .args in
+    choices-few (a .scratch .now) (a .choices .now) (a .lists .now) (a .sizes .constraints) (at-loop .loop .choices)
+    (at-loop .loop .k) (at-loop .loop .i) (at-loop .loop .inv)
 
 add-i : tie.Need-add-i Inv-loop μ-loop
 add-i c = omega arith
@@ -33,17 +36,28 @@ loop-less c = omega arith
 
 loop-again : tie.Need-loop-again Inv-loop μ-loop
 loop-again c =
-    let a = c .before .before .before .before .before .before .before .before .before .before .args in
-    let at-loop = c .before .before .before .before .before .before in
-    choices-go-on (a .scratch .now) (a .choices .now) (a .lists .now) (a .sizes .constraints) (at-loop .loop .choices) (at-loop .loop .k) (at-loop .loop .i) (at-loop .loop .inv) (omega arith) _ (c .before .before .before .constraint-at .ensures) (c .before .before .write-choice .last .0) (c .before .before .write-choice .result) (c .before .before .write-choice .ensures)
+    let at-write-choice = c .before .before in
+    let at-constraint-at = at-write-choice .before in
+    let at = at-constraint-at .before .before .before in
+    let start = at .before .before .before .before in
+    let a = start .args in
+    let at-loop = at in
+    choices-go-on (a .scratch .now) (a .choices .now) (a .lists .now) (a .sizes .constraints) (at-loop .loop .choices)
+    (at-loop .loop .k) (at-loop .loop .i) (at-loop .loop .inv) (omega arith) _
+    (at-constraint-at .constraint-at .ensures) (at-write-choice .write-choice .last .0)
+    (at-write-choice .write-choice .result) (at-write-choice .write-choice .ensures)
 
 same-length : tie.Need-same-length Inv-loop μ-loop
 same-length c = c .before .loop .inv .choosing .long
 
 returns : tie.Need-returns Inv-loop μ-loop
 returns c =
-    let s = c .before .before .before .before .before in
-    choices-end (s .args .scratch .now) (s .args .choices .now) (s .args .lists .now) (s .args .sizes) (s .pre .0) (s .pre .1) (s .pre .2) (c .before .loop .choices) (c .before .loop .k) (c .before .loop .i) (c .before .loop .inv) (omega arith)
+    let at-loop = c .before in
+    let at = at-loop .before .before .before .before in
+    let s = at in
+    choices-end (s .args .scratch .now) (s .args .choices .now) (s .args .lists .now) (s .args .sizes) (s .pre .0)
+    (s .pre .1) (s .pre .2) (at-loop .loop .choices) (at-loop .loop .k) (at-loop .loop .i) (at-loop .loop .inv)
+    (omega arith)
 
 pub write-choices-spec : {M : Type 1} → statement M
 write-choices-spec =

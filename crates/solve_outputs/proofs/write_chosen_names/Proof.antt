@@ -13,8 +13,9 @@ abbrev μ-loop : tie.MeasureT-loop
 
 loop-holds : tie.Need-loop-holds Inv-loop μ-loop
 loop-holds c =
-    let a = c .before .before .before .args in
-    names-begin (a .scratch .now) (a .typing .now) (a .lists .now) (a .sizes) (c .before .before .before .pre)
+    let start = c .before .before .before in
+    let a = start .args in
+    names-begin (a .scratch .now) (a .typing .now) (a .lists .now) (a .sizes) (start .pre)
 
 sub-i : tie.Need-sub-i Inv-loop μ-loop
 sub-i c = omega arith
@@ -24,26 +25,46 @@ constraint-at-requires c κs = search needs
 
 name-choice-requires : tie.Need-name-choice-requires Inv-loop μ-loop
 name-choice-requires c κs =
-    let a = c .before .before .before .before .before .before .before .args in
-    let at-loop = c .before .before .before .loop in
-    (names-enough (a .scratch .now) (a .typing .now) (a .lists .now) (a .sizes) (c .before .before .before .before .before .before .before .pre) (at-loop .typing) (at-loop .k) (at-loop .i) (at-loop .inv) (c .before .before .loop-test .taken) (c .constraint-at .result) (c .constraint-at .ensures), names-few (a .scratch .now) (a .typing .now) (a .lists .now) (a .sizes) (c .before .before .before .before .before .before .before .pre) (at-loop .typing) (at-loop .k) (at-loop .i) (at-loop .inv))
+    let at-loop-test = c .before .before in
+    let at-loop2 = at-loop-test .before in
+    let start = at-loop2 .before .before .before .before in
+    let a = start .args in
+    let at-loop = at-loop2 .loop in (
+      names-enough (a .scratch .now) (a .typing .now) (a .lists .now) (a .sizes) (start .pre) (at-loop .typing)
+          (at-loop .k) (at-loop .i) (at-loop .inv) (at-loop-test .loop-test .taken) (c .constraint-at .result)
+          (c .constraint-at .ensures),
+      names-few (a .scratch .now) (a .typing .now) (a .lists .now) (a .sizes)
+          (start .pre) (at-loop .typing) (at-loop .k) (at-loop .i) (at-loop .inv),
+    )
 
 loop-less : tie.Need-loop-less Inv-loop μ-loop
 loop-less c = omega arith
 
 loop-again : tie.Need-loop-again Inv-loop μ-loop
 loop-again c =
-    let a = c .before .before .before .before .before .before .before .before .before .before .args in
-    let at-loop = c .before .before .before .before .before .before .loop in
-    names-go-on (a .scratch .now) (a .typing .now) (a .lists .now) (a .sizes) (c .before .before .before .before .before .before .before .before .before .before .pre) (at-loop .typing) (at-loop .k) (at-loop .i) (at-loop .inv) (c .before .before .before .before .before .loop-test .taken) (c .before .before .before .constraint-at .result) (c .before .before .before .constraint-at .ensures) (c .before .before .name-choice .last .0) (c .before .before .name-choice .result) (c .before .before .name-choice .ensures)
+    let at-name-choice = c .before .before in
+    let at-constraint-at = at-name-choice .before in
+    let at-loop-test = at-constraint-at .before .before in
+    let at-loop2 = at-loop-test .before in
+    let start = at-loop2 .before .before .before .before in
+    let a = start .args in
+    let at-loop = at-loop2 .loop in
+    names-go-on (a .scratch .now) (a .typing .now) (a .lists .now) (a .sizes) (start .pre) (at-loop .typing)
+    (at-loop .k) (at-loop .i) (at-loop .inv) (at-loop-test .loop-test .taken)
+    (at-constraint-at .constraint-at .result) (at-constraint-at .constraint-at .ensures)
+    (at-name-choice .name-choice .last .0) (at-name-choice .name-choice .result)
+    (at-name-choice .name-choice .ensures)
 
 same-length : tie.Need-same-length Inv-loop μ-loop
 same-length c = c .before .loop .inv .long
 
 returns : tie.Need-returns Inv-loop μ-loop
 returns c =
-    let a = c .before .before .before .before .before .args in
-    names-end (a .scratch .now) (a .typing .now) (a .lists .now) (a .sizes) (c .before .before .before .before .before .pre) (c .before .loop .typing) (c .before .loop .k) (c .before .loop .i) (c .before .loop .inv) (c .loop-test .left)
+    let at-loop = c .before in
+    let start = at-loop .before .before .before .before in
+    let a = start .args in
+    names-end (a .scratch .now) (a .typing .now) (a .lists .now) (a .sizes) (start .pre) (at-loop .loop .typing)
+    (at-loop .loop .k) (at-loop .loop .i) (at-loop .loop .inv) (c .loop-test .left)
 
 pub write-chosen-names-spec : {M : Type 1} → statement M
 write-chosen-names-spec =

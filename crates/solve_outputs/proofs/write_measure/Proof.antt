@@ -16,6 +16,15 @@ write-measure-spec =
     (λ c. search needs)
     (λ c κs. search needs)
     (λ c. search needs)
-    (λ c. let a = c .before .before .before .before .before .before .before .args in
-    c .before .before .copy .ensures
-    ∙ stored-is-over (part bestMeasureAt (a .sizes .components) (a .scratch .now)) (a .measure .now) (omega (arith, c .before .before .before .before .before .before .before .pre, length-part bestMeasureAt (a .sizes .components) (a .scratch .now) (omega (arith, c .before .before .before .before .before .before .before .pre))))))
+    (λ c.
+    let at-copy = c .before .before in
+    let start = at-copy .before .before .before .before .before in
+    let a = start .args in
+    at-copy .copy .ensures
+    ∙ stored-is-over (part bestMeasureAt (a .sizes .components) (a .scratch .now)) (a .measure .now)
+    (omega (
+      arith,
+      start .pre,
+      length-part bestMeasureAt (a .sizes .components) (a .scratch .now)
+          (omega (arith, start .pre)),
+    ))))

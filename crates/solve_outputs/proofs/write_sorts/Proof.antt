@@ -13,7 +13,10 @@ abbrev μ-loop : tie.MeasureT-loop
 μ-loop typing₀ scratch exprs x₀ typing x = exprs - x
 
 loop-holds : tie.Need-loop-holds Inv-loop μ-loop
-loop-holds c = sorts-begin (c .before .before .args .scratch .now) (c .before .before .args .typing .now) (c .before .before .args .exprs)
+loop-holds c =
+    let start = c .before .before in
+    let args = start .args in
+    sorts-begin (args .scratch .now) (args .typing .now) (args .exprs)
 
 cast-row : tie.Need-cast-row Inv-loop μ-loop
 cast-row c = omega arith
@@ -53,17 +56,29 @@ loop-less c = omega arith
 
 loop-again : tie.Need-loop-again Inv-loop μ-loop
 loop-again c =
-    let a = c .before .before .before .before .before .before .before .before .before .before .before .before .before .before .before .before .before .args in
-    let at-loop = c .before .before .before .before .before .before .before .before .before .before .before .before .before .before .loop in
-    sorts-go-on (a .scratch .now) (a .typing .now) (a .exprs) (at-loop .typing) (at-loop .x) (at-loop .inv) (c .before .before .before .before .before .before .before .before .before .before .before .before .before .before .before .before .before .pre) (c .before .before .before .before .before .before .before .before .before .before .before .before .before .loop-test .taken) (c .before .before .before .before .before .before .before .before .before .before .before .word .result) (c .before .before .before .before .before .before .before .before .before .before .put .last .0) (c .before .before .before .before .before .before .put2 .last .0) (c .before .before .put3 .last .0) (c .before .before .before .before .before .before .before .before .before .before .before .word .ensures) (c .before .before .before .before .before .before .before .before .before .before .put .ensures) (c .before .before .before .before .before .before .put2 .ensures) (c .before .before .put3 .ensures)
+    let at-put3 = c .before .before in
+    let at-put2 = at-put3 .before .before .before .before in
+    let at-put = at-put2 .before .before .before .before in
+    let at-word = at-put .before in
+    let at-loop-test = at-word .before .before in
+    let at-loop2 = at-loop-test .before in
+    let start = at-loop2 .before .before .before in
+    let a = start .args in
+    let at-loop = at-loop2 .loop in
+    sorts-go-on (a .scratch .now) (a .typing .now) (a .exprs) (at-loop .typing) (at-loop .x) (at-loop .inv)
+    (start .pre) (at-loop-test .loop-test .taken) (at-word .word .result) (at-put .put .last .0)
+    (at-put2 .put2 .last .0) (at-put3 .put3 .last .0) (at-word .word .ensures) (at-put .put .ensures)
+    (at-put2 .put2 .ensures) (at-put3 .put3 .ensures)
 
 same-length : tie.Need-same-length Inv-loop μ-loop
 same-length c = c .before .loop .inv .long
 
 returns : tie.Need-returns Inv-loop μ-loop
 returns c =
-    let a = c .before .before .before .before .args in
-    sorts-end (a .scratch .now) (a .typing .now) (a .exprs) (c .before .loop .typing) (c .before .loop .x) (c .before .loop .inv) (c .loop-test .left)
+    let at-loop = c .before in
+    let start = at-loop .before .before .before in
+    let a = start .args in
+    sorts-end (a .scratch .now) (a .typing .now) (a .exprs) (at-loop .loop .typing) (at-loop .loop .x) (at-loop .loop .inv) (c .loop-test .left)
 
 pub write-sorts-spec : {M : Type 1} → statement M
 write-sorts-spec =

@@ -13,5 +13,14 @@ write-typing-spec =
     (λ c κs. search needs)
     (λ c κs. search needs)
     (λ c. search needs)
-    (λ c. let s = c .before .before .before .before .before .before .before .before .before .before .before .before .before .before .before .before in
-    typing-handed-out (s .args .scratch .now) (s .args .typing .now) (s .args .lists .now) (rowsFrom (baseNameAt (s .args .names .now)) 0 (s .args .name-count)) (s .args .sizes) (s .pre .0) (s .pre .1) (s .pre .3) (c .before .before .before .before .before .before .before .before .before .before .write-sorts .last .0) (c .before .before .before .before .before .before .write-base-names .last .0) (c .before .before .write-chosen-names .last .0) (c .before .before .before .before .before .before .before .before .before .before .write-sorts .ensures) (c .before .before .before .before .before .before .write-base-names .ensures) (c .before .before .write-chosen-names .ensures)))
+    (λ c.
+    let at-write-chosen-names = c .before .before in
+    let at-write-base-names = at-write-chosen-names .before .before .before .before in
+    let at-write-sorts = at-write-base-names .before .before .before .before in
+    let at = at-write-sorts .before .before .before .before .before .before in
+    let s = at in
+    typing-handed-out (s .args .scratch .now) (s .args .typing .now) (s .args .lists .now)
+    (rowsFrom (baseNameAt (s .args .names .now)) 0 (s .args .name-count)) (s .args .sizes) (s .pre .0) (s .pre .1)
+    (s .pre .3) (at-write-sorts .write-sorts .last .0) (at-write-base-names .write-base-names .last .0)
+    (at-write-chosen-names .write-chosen-names .last .0) (at-write-sorts .write-sorts .ensures)
+    (at-write-base-names .write-base-names .ensures) (at-write-chosen-names .write-chosen-names .ensures)))

@@ -13,7 +13,8 @@ use Rattle.inference.specs.declared.Solved.the-variants.{NoRoom, NoTyping, Ambi
 use Rattle.inference.specs.Constraints.{nameWords, BaseName, Problem}
 use Rattle.inference.specs.Search.{Candidate, Out, found, missed, ended}
 use Rattle.inference.specs.SolveChecks.{typingWords, choiceWords}
-use Rattle.inference.specs.SolveEntry.{SolveLeft, nodesGivenBack, cleared, typingRows, choiceRows, writtenOver, countsIn}
+use Rattle.inference.specs.SolveEntry.{SolveLeft, nodesGivenBack, cleared, typingRows, choiceRows, writtenOver}
+use Rattle.inference.specs.SolveEntry.{countsIn}
 use Rattle.search_state.specs.declared.Sizes.{Sizes}
 use Rattle.search_state.specs.Inner.Memory.{problemIn, scratchUsed}
 use Rattle.search_state.specs.Inner.Searching.{Sized}

@@ -1,4 +1,5 @@
--- `solve_records::record_at` meets its contract: a walk of its MIR, by hand, after the logic's `Denote/Examples/Slices/At.antt`. The element is a struct of six bytes.
+-- `solve_records::record_at` meets its contract: a walk of its MIR, by hand, after the logic's
+-- `Denote/Examples/Slices/At.antt`. The element is a struct of six bytes.
 -- Assumes nothing.
 use mathlib.Core.Path.{refl, sym}
 use Prim.Native.Nat.{ℕ, _<_, _^_, _*_}
@@ -19,7 +20,8 @@ use contract.Monad.{Fun}
 use contract.Running.{givenOf, tables, tablesOf}
 use types.Kit.{Given, ‵, _⊛_, ⋆, _$_, _∵_, !, qed, by, move, keep, split, join, rewrite, fsplit, fjoin, suffices, frame, done}
 use types.Part.{whole, sub, look-in}
-use types.Run.{look, look-raw, init, forget, stop, hop, fld, from, load, lit, of-opd, bin, assigns, returns, enter, alloc1, alloc0, params1, pass1, pass0, free1, free0}
+use types.Run.{look, look-raw, init, forget, stop, hop, fld, from, load, lit, of-opd, bin, assigns, returns, enter}
+use types.Run.{alloc1, alloc0, params1, pass1, pass0, free1, free0}
 use sound.WpLaws.{WpFn-mono}
 use denote.RattleType.{RattleType, owns}
 use denote.Laws.{Is, shows}
@@ -57,7 +59,8 @@ stayed = (stay-none-slice (0 ∷ []) tt (plain (λ _. R)) yes, (stay-none (λ _.
 scaled : (i n : ℕ) → i < n → n * 6 < 2 ^ 63 → i * 6 < 2 ^ 64
 scaled i n l r = omega arith
 
-module _ {M : Type 1} (𝓤 : URA M) (H : Heap 𝓤) (A : Atoms 𝓤) (W : Given 𝓤 H A) (mem : Memory → SProp 𝓤) (run : Routine → Fun 𝓤) (κ : Lft) (q : Share) (b o : ℕ) (γ : GName) (ys : List OverloadRecord) (i : ℕ) where
+module _ {M : Type 1} (𝓤 : URA M) (H : Heap 𝓤) (A : Atoms 𝓤) (W : Given 𝓤 H A) (mem : Memory → SProp 𝓤) (run : Routine
+    → Fun 𝓤) (κ : Lft) (q : Share) (b o : ℕ) (γ : GName) (ys : List OverloadRecord) (i : ℕ) where
   abbrev x : RefT (List OverloadRecord) × (ℕ × Unit {0})
   x = (record { ptr = (b, o); name = γ; now = ys }, (i, tt))
 
@@ -73,41 +76,65 @@ module _ {M : Type 1} (𝓤 : URA M) (H : Heap 𝓤) (A : Atoms 𝓤) (W : Given
   abbrev Post : Val → SProp 𝓤
   Post = walkOf 𝓤 H A record-at.ended stayed (record-at.clauses 𝓤 H A mem run) .post (((κ, tt), (q, tt), tt, x, at), tt)
 
-  exits : Is R elem (vals elem) → ent 𝓤 (⋆ 𝓤 H A (‵ (flft κ q) ∷ ‵ (ShrSlice (named 0) κ R .own (x .0) (at .0)) ∷ ‵ (usize .own i (vint w64 i ∷ [])) ∷ [])) (Post mach)
+  exits : Is R elem (vals elem) → ent 𝓤 (⋆ 𝓤 H A (‵ (flft κ q) ∷ ‵ (ShrSlice (named 0) κ R .own (x .0) (at .0)) ∷ ‵
+      (usize .own i (vint w64 i ∷ [])) ∷ [])) (Post mach)
   exits g =
       qed W (‵ (flft κ q) ∷ ‵ (ShrSlice (named 0) κ R .own (x .0) (at .0)) ∷ ‵ (usize .own i (vint w64 i ∷ [])) ∷ []) ∵
-      suffices ! _ (ends-at 𝓤 H A record-at.ended stayed (record-at.clauses 𝓤 H A mem run) W (((κ, tt), (q, tt), tt, x, at), tt) mach elem (tt, (tt, tt)) (tt, (tt, tt))) $ says ! refl $
+      suffices ! _ (ends-at 𝓤 H A record-at.ended stayed (record-at.clauses 𝓤 H A mem run) W
+      (((κ, tt), (q, tt), tt, x, at), tt) mach elem (tt, (tt, tt)) (tt, (tt, tt))) $ says ! refl $
       nothing ! $ move ! (1 ∷ 0 ∷ []) $ join ! $ nothing ! $ move ! (3 ∷ 0 ∷ []) $ fjoin ! $ move ! (2 ∷ 0 ∷ []) $ fjoin ! $ move ! (1 ∷ 0 ∷ []) $
       frame ! $ frame ! $ owned ! R (Is R) (LL.makes T.the-type T′.the-plain 𝓤 H A) elem _ g $ done !
 
   module _ (C : Calls 𝓤 H) (Λ : Loops 𝓤 H) where
-    walk : Room R (length ys) → i < 2 ^ 64 → i < length ys → ent 𝓤 (onEntry 𝓤 H A record-at.signature (κ, tt) (q, tt) x at) (WpFn 𝓤 H C Λ code.function (sliceVal (b, o) (length ys) ∷ vint w64 i ∷ []) Post)
+    walk : Room R (length ys) → i < 2 ^ 64 → i < length ys → ent 𝓤 (onEntry 𝓤 H A record-at.signature (κ, tt) (q, tt)
+        x at) (WpFn 𝓤 H C Λ code.function (sliceVal (b, o) (length ys) ∷ vint w64 i ∷ []) Post)
     walk gn gi l =
-        qed W ((‵ (flft κ q) ⊛ ‵ ftrue) ∷ ‵ (owns (ShrSlice (named 0) κ R ∷ usize ∷ []) x at) ∷ []) ∵ enter ! C Λ code.function (sliceVal (b, o) (length ys) ∷ vint w64 i ∷ []) _ $
+        qed W ((‵ (flft κ q) ⊛ ‵ ftrue) ∷ ‵ (owns (ShrSlice (named 0) κ R ∷ usize ∷ []) x at) ∷ []) ∵ enter ! C Λ
+        code.function (sliceVal (b, o) (length ys) ∷ vint w64 i ∷ []) _ $
         alloc1 ! (λ l₀. alloc1 ! (λ l₁. alloc1 ! (λ l₂. alloc1 ! (λ l₃. alloc1 ! (λ l₄. alloc1 ! (λ l₅. alloc0 ! $ params1 ! $
         pass1 ! (init ! 8 refl (tt, (tt, (record { fits = gn .0 }, tt)))) $ pass1 ! (init ! 6 refl (tt, record { fits = gi })) $ pass0 ! $
-        assigns ! (bin ! (load ! (from ! (stop !)) (look ! 6 refl)) (lit ! tt) (record { fits = scaled i (length ys) l (gn .1) })) (from ! (stop !)) (init ! 4 refl (tt, record { fits = scaled i (length ys) l (gn .1) })) $
-        assigns ! (bin ! (load ! (from ! (fld ! refl (stop !))) (look-in ! 8 (sub ! 0 refl (whole !)))) (load ! (from ! (stop !)) (look ! 4 refl)) tt) (from ! (stop !)) (init ! 2 refl (tt, tt)) $
+        assigns ! (bin ! (load ! (from ! (stop !)) (look ! 6 refl)) (lit ! tt) (record {
+          fits = scaled i (length ys) l
+              (gn .1);
+        })) (from ! (stop !)) (init ! 4 refl (tt, record { fits = scaled i (length ys) l (gn .1) })) $
+        assigns ! (bin ! (load ! (from ! (fld ! refl (stop !))) (look-in ! 8 (sub ! 0 refl (whole !))))
+        (load ! (from ! (stop !)) (look ! 4 refl)) tt) (from ! (stop !)) (init ! 2 refl (tt, tt)) $
         rewrite ! 2 (λ (p : ℕ). ‵ (fat fullShare tyPtr l₄ 0 (vptr b p))) (sym (place-is 6 o i)) refl $
         move ! (13 ∷ []) $ fsplit ! $ fsplit ! $ move ! (1 ∷ []) $ fsplit ! $ move ! (16 ∷ []) $ split ! $ move ! (3 ∷ 0 ∷ []) $
-        looks-slice ! tt R (Is R) (shows 𝓤 H A R) vals (LL.tells T.the-type T′.the-laws) (LL.copy T.the-type T′.the-copy 𝓤 H A W) ys b o (λ q′. elem-out ! R (Is R) (shows 𝓤 H A R) vals (LL.tells T.the-type T′.the-laws) q′ ys i noRecord b o l (λ g.
+        looks-slice ! tt R (Is R) (shows 𝓤 H A R) vals (LL.tells T.the-type T′.the-laws) (LL.copy T.the-type
+        T′.the-copy 𝓤 H A W) ys b o (λ q′. elem-out ! R (Is R) (shows 𝓤 H A R) vals (LL.tells T.the-type
+        T′.the-laws) q′ ys i noRecord b o l (λ g.
         -- [os[i]; what it owns; the others; what shuts; the fractured borrow; true; res; os's fact; i's; _5; …; _4; …; _3; …; _2; …; _1; …; _0; …]
-        assigns ! (of-opd ! (load ! (from ! (hop ! (look ! 11 refl) (stop !))) (look-raw ! 0 refl))) (from ! (stop !)) (init ! 9 refl (LL.lawful T.the-type T′.the-laws 𝓤 H A W .typed elem (vals elem) g .0)) $
-        assigns ! (of-opd ! (load ! (from ! (stop !)) (look ! 9 refl))) (from ! (stop !)) (init ! 19 refl (LL.lawful T.the-type T′.the-laws 𝓤 H A W .typed elem (vals elem) g .0)) $
+        assigns ! (of-opd ! (load ! (from ! (hop ! (look ! 11 refl) (stop !))) (look-raw ! 0 refl))) (from ! (stop !))
+        (init ! 9 refl (LL.lawful T.the-type T′.the-laws 𝓤 H A W .typed elem (vals elem) g .0)) $
+        assigns ! (of-opd ! (load ! (from ! (stop !)) (look ! 9 refl))) (from ! (stop !))
+        (init ! 19 refl (LL.lawful T.the-type T′.the-laws 𝓤 H A W .typed elem (vals elem) g .0)) $
         elem-back ! R q′ ys i noRecord (vals elem) b o l $ shuts-slice ! tt R q′ ys b o $
         returns ! (look ! 16 refl) $ forget ! 6 refl $ forget ! 8 refl $ forget ! 10 refl $ forget ! 12 refl $ forget ! 14 refl $ forget ! 16 refl $
-        move ! (16 ∷ 17 ∷ []) $ free1 ! $ move ! (14 ∷ 15 ∷ []) $ free1 ! $ move ! (12 ∷ 13 ∷ []) $ free1 ! $ move ! (10 ∷ 11 ∷ []) $ free1 ! $ move ! (8 ∷ 9 ∷ []) $ free1 ! $ move ! (6 ∷ 7 ∷ []) $ free1 ! $ free0 ! $
+        move ! (16 ∷ 17 ∷ []) $ free1 ! $ move ! (14 ∷ 15 ∷ []) $ free1 ! $ move ! (12 ∷ 13 ∷ []) $ free1 ! $ move !
+        (10 ∷ 11 ∷ []) $ free1 ! $ move ! (8 ∷ 9 ∷ []) $ free1 ! $ move ! (6 ∷ 7 ∷ []) $ free1 ! $ free0 ! $
         move ! (3 ∷ 1 ∷ []) $ fjoin ! $ move ! (3 ∷ 0 ∷ []) $ fjoin ! $ move ! (3 ∷ []) $ fsplit ! $ keep ! (3 ∷ 2 ∷ 0 ∷ []) $ by ! (exits g)))))))))
 
 module _ {M : Type 1} (𝓤 : URA M) (H : Heap 𝓤) (A : Atoms 𝓤) (W : Given 𝓤 H A) (mem : Memory → SProp 𝓤) (run : Routine → Fun 𝓤) where
   record-at-walks : (C : Calls 𝓤 H) (Λ : Loops 𝓤 H) → Walks 𝓤 H A record-at.ended stayed (WpFn 𝓤 H C Λ code.function) (record-at.clauses 𝓤 H A mem run)
-  record-at-walks C Λ = walked 𝓤 H A record-at.ended stayed (record-at.clauses 𝓤 H A mem run) (WpFn 𝓤 H C Λ code.function) (λ κs. (slice-vals, (uint-vals w64, tt))) (λ κs. (shr-slice-tells (named 0) (κs .0) R, (uint-tells w64, tt)))
+  record-at-walks C Λ = walked 𝓤 H A record-at.ended stayed (record-at.clauses 𝓤 H A mem run)
+      (WpFn 𝓤 H C Λ code.function) (λ κs. (slice-vals, (uint-vals w64, tt))) (λ κs. (
+        shr-slice-tells (named 0) (κs .0)
+            R,
+        (uint-tells w64, tt),
+      ))
       (λ κs qs bounds a g are. needs 𝓤 _ _
       (walk 𝓤 H A W mem run (κs .0) (qs .0) (a .0 .ptr .0) (a .0 .ptr .1) (a .0 .name) (a .0 .now) (a .1 .0) C Λ (are .0 .0 .1) (are .1 .0 .1)))
 
 record-at-meets : {M : Type 1} (𝓤 : URA M) (H : Heap 𝓤) (A : Atoms 𝓤) → Given 𝓤 H A → (mem : Memory → SProp 𝓤) (run : Routine → Fun 𝓤) (𝓣 : Tables 𝓤 H)
     → Meets 𝓤 H A record-at.signature (WpFn 𝓤 H (𝓣 .C) (𝓣 .Λ) code.function) (record-at.spec 𝓤 H A mem run)
-record-at-meets 𝓤 H A W mem run 𝓣 = walk-meets 𝓤 H A record-at.ended stayed W (goes-none-slice 𝓤 H A W 1 (0 ∷ []) tt (plain (λ _. R)) yes, (goes-none 𝓤 H A W 1 (λ _. usize) yes (λ κs x f. refl), tt)) (record-at.clauses 𝓤 H A mem run) (WpFn 𝓤 H (𝓣 .C) (𝓣 .Λ) code.function) (WpFn-mono 𝓤 H (W .laws) 𝓣 code.function) (record-at-walks 𝓤 H A W mem run (𝓣 .C) (𝓣 .Λ))
+record-at-meets 𝓤 H A W mem run 𝓣 = walk-meets 𝓤 H A record-at.ended stayed W (
+  goes-none-slice 𝓤 H A W 1 (0 ∷ []) tt
+      (plain (λ _. R)) yes,
+  (goes-none 𝓤 H A W 1 (λ _. usize) yes (λ κs x f. refl), tt),
+) (record-at.clauses 𝓤 H A mem
+    run) (WpFn 𝓤 H (𝓣 .C) (𝓣 .Λ) code.function) (WpFn-mono 𝓤 H (W .laws) 𝓣 code.function) (record-at-walks 𝓤 H A W mem
+    run (𝓣 .C) (𝓣 .Λ))
 
 pub record-at-spec : {M : Type 1} → stated.statement M
 unfolding code.routine tablesOf

@@ -8,10 +8,18 @@ use Rattle.solve_records.proofs.solve_unpacked.Tie as tie
 
 -- as many words as are lent
 slice-aggregate-solve : tie.Need-slice-aggregate-solve
-slice-aggregate-solve c = sym (length-take-le (3 * c .before .before .before .before .at-most .result) (c .before .before .before .before .before .before .before .before .before .before .before .before .before .before .before .before .args .t7) (search needs))
+slice-aggregate-solve c =
+    let at-at-most = c .before .before .before .before in
+    let start = at-at-most .before .before .before .before .before .before .before .before .before .before
+    .before .before in
+    sym (length-take-le (3 * at-at-most .at-most .result) (start .args .t7) (search needs))
 
 returns : tie.Need-returns
-returns c = rw (sym (c .before .before .before .before .before .before .before .before .before .before .before .before .before .before .before .before .before .before .before .before .before .before .before .at-most .ensures)) (c .before .before .before .before .before .before .before .before .before .before .before .before .before .before .solve .ensures)
+returns c =
+    let at-solve = c .before .before .before .before .before .before .before .before .before .before .before
+    .before .before .before in
+    let at-at-most = at-solve .before .before .before .before .before .before .before .before .before in
+    rw (sym (at-at-most .at-most .ensures)) (at-solve .solve .ensures)
 
 pub solve-unpacked-spec : {M : Type 1} → statement M
 solve-unpacked-spec =

@@ -18,4 +18,7 @@ use Rattle.sort_bounds.proofs.+against+bound+bound_container+bound_doma
 use Rattle.sort_bounds.proofs.+against+bound+bound_container+bound_domain+bound_function+join+meet.Proof.Meet as part-meet
 
 pub +against+bound+bound-container+bound-domain+bound-function+join+meet-spec : {M : Type 1} → statement M
-+against+bound+bound-container+bound-domain+bound-function+join+meet-spec {M} = close common.μ-against common.μ-bound common.μ-bound-container common.μ-bound-domain common.μ-bound-function common.μ-join common.μ-meet (part-against.part M) (part-bound.part M) (part-bound-container.part M) (part-bound-domain.part M) (part-bound-function.part M) (part-join.part M) (part-meet.part M)
++against+bound+bound-container+bound-domain+bound-function+join+meet-spec {M} = close common.μ-against common.μ-bound
+    common.μ-bound-container common.μ-bound-domain common.μ-bound-function common.μ-join common.μ-meet
+    (part-against.part M) (part-bound.part M) (part-bound-container.part M) (part-bound-domain.part M)
+    (part-bound-function.part M) (part-join.part M) (part-meet.part M)

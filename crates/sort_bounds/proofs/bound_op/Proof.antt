@@ -8,13 +8,43 @@ use Rattle.sort_bounds.proofs.bound_op.Statement.{statement}
 use Rattle.sort_bounds.proofs.bound_op.Tie as tie
 
 returns : tie.Need-returns
-returns c = law.picks-far (c .before .before .before .before .before .before .before .args .up) (familyOp (c .before .before .before .before .before .before .before .args .lhs)) (familyOp (c .before .before .before .before .before .before .before .args .rhs)) (levelOp (c .before .before .before .before .before .before .before .args .lhs)) (levelOp (c .before .before .before .before .before .before .before .args .rhs)) (Is (c .before .before .before .before .before .before .before .args .rhs)) (Is (c .before .before .before .before .before .before .before .args .lhs)) Nothing _ _ (c .before .before .before .before .before .before .op-family .ensures) (c .before .before .before .before .before .op-family2 .ensures) (c .before .before .before .before .if1 .taken) _ _ _ (c .before .before .before .op-level .ensures) (c .before .before .op-level2 .ensures) (c .before .reaches .ensures) (c .if2 .taken) ∙ law.op-picked (c .before .before .before .before .before .before .before .args .up) (c .before .before .before .before .before .before .before .args .lhs) (c .before .before .before .before .before .before .before .args .rhs)
+returns c =
+    let at-op-level2 = c .before .before in
+    let at-op-level = at-op-level2 .before in
+    let at-if1 = at-op-level .before in
+    let at-op-family2 = at-if1 .before in
+    let at-op-family = at-op-family2 .before in
+    let start = at-op-family .before in
+    let args = start .args in
+    law.picks-far (args .up) (familyOp (args .lhs)) (familyOp (args .rhs)) (levelOp (args .lhs)) (levelOp (args .rhs))
+    (Is (args .rhs)) (Is (args .lhs)) Nothing _ _ (at-op-family .op-family .ensures)
+    (at-op-family2 .op-family2 .ensures) (at-if1 .if1 .taken) _ _ _ (at-op-level .op-level .ensures)
+    (at-op-level2 .op-level2 .ensures) (c .before .reaches .ensures) (c .if2 .taken) ∙ law.op-picked (args .up)
+    (args .lhs) (args .rhs)
 
 returns-2 : tie.Need-returns-2
-returns-2 c = law.picks-near (c .before .before .before .before .before .before .before .args .up) (familyOp (c .before .before .before .before .before .before .before .args .lhs)) (familyOp (c .before .before .before .before .before .before .before .args .rhs)) (levelOp (c .before .before .before .before .before .before .before .args .lhs)) (levelOp (c .before .before .before .before .before .before .before .args .rhs)) (Is (c .before .before .before .before .before .before .before .args .rhs)) (Is (c .before .before .before .before .before .before .before .args .lhs)) Nothing _ _ (c .before .before .before .before .before .before .op-family .ensures) (c .before .before .before .before .before .op-family2 .ensures) (c .before .before .before .before .if1 .taken) _ _ _ (c .before .before .before .op-level .ensures) (c .before .before .op-level2 .ensures) (c .before .reaches .ensures) (c .if2 .left) ∙ law.op-picked (c .before .before .before .before .before .before .before .args .up) (c .before .before .before .before .before .before .before .args .lhs) (c .before .before .before .before .before .before .before .args .rhs)
+returns-2 c =
+    let at-op-level2 = c .before .before in
+    let at-op-level = at-op-level2 .before in
+    let at-if1 = at-op-level .before in
+    let at-op-family2 = at-if1 .before in
+    let at-op-family = at-op-family2 .before in
+    let start = at-op-family .before in
+    let args = start .args in
+    law.picks-near (args .up) (familyOp (args .lhs)) (familyOp (args .rhs)) (levelOp (args .lhs))
+    (levelOp (args .rhs)) (Is (args .rhs)) (Is (args .lhs)) Nothing _ _ (at-op-family .op-family .ensures)
+    (at-op-family2 .op-family2 .ensures) (at-if1 .if1 .taken) _ _ _ (at-op-level .op-level .ensures)
+    (at-op-level2 .op-level2 .ensures) (c .before .reaches .ensures) (c .if2 .left) ∙ law.op-picked (args .up)
+    (args .lhs) (args .rhs)
 
 returns-3 : tie.Need-returns-3
-returns-3 c = law.picks-neither (c .before .before .before .args .up) (familyOp (c .before .before .before .args .lhs)) (familyOp (c .before .before .before .args .rhs)) (levelOp (c .before .before .before .args .lhs)) (levelOp (c .before .before .before .args .rhs)) (Is (c .before .before .before .args .rhs)) (Is (c .before .before .before .args .lhs)) Nothing _ _ (c .before .before .op-family .ensures) (c .before .op-family2 .ensures) (c .if1 .left) ∙ law.op-picked (c .before .before .before .args .up) (c .before .before .before .args .lhs) (c .before .before .before .args .rhs)
+returns-3 c =
+    let at-op-family = c .before .before in
+    let start = at-op-family .before in
+    let args = start .args in
+    law.picks-neither (args .up) (familyOp (args .lhs)) (familyOp (args .rhs)) (levelOp (args .lhs))
+    (levelOp (args .rhs)) (Is (args .rhs)) (Is (args .lhs)) Nothing _ _ (at-op-family .op-family .ensures)
+    (c .before .op-family2 .ensures) (c .if1 .left) ∙ law.op-picked (args .up) (args .lhs) (args .rhs)
 
 pub bound-op-spec : {M : Type 1} → statement M
 bound-op-spec =

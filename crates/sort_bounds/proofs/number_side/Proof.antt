@@ -7,13 +7,43 @@ use Rattle.sort_bounds.proofs.number_side.Statement.{statement}
 use Rattle.sort_bounds.proofs.number_side.Tie as tie
 
 returns : tie.Need-returns
-returns c = law.picks-far (c .before .before .before .before .before .before .before .args .up) (family (primitive (c .before .before .before .before .before .before .before .args .lhs))) (family (primitive (c .before .before .before .before .before .before .before .args .rhs))) (level (primitive (c .before .before .before .before .before .before .before .args .lhs))) (level (primitive (c .before .before .before .before .before .before .before .args .rhs))) Rhs Lhs Neither _ _ (c .before .before .before .before .before .before .number-family .ensures) (c .before .before .before .before .before .number-family2 .ensures) (c .before .before .before .before .if1 .taken) _ _ _ (c .before .before .before .number-level .ensures) (c .before .before .number-level2 .ensures) (c .before .reaches .ensures) (c .if2 .taken)
+returns c =
+    let at-number-level2 = c .before .before in
+    let at-number-level = at-number-level2 .before in
+    let at-if1 = at-number-level .before in
+    let at-number-family2 = at-if1 .before in
+    let at-number-family = at-number-family2 .before in
+    let start = at-number-family .before in
+    let args = start .args in
+    law.picks-far (args .up) (family (primitive (args .lhs))) (family (primitive (args .rhs)))
+    (level (primitive (args .lhs))) (level (primitive (args .rhs))) Rhs Lhs Neither _ _
+    (at-number-family .number-family .ensures) (at-number-family2 .number-family2 .ensures) (at-if1 .if1 .taken) _
+    _ _ (at-number-level .number-level .ensures) (at-number-level2 .number-level2 .ensures)
+    (c .before .reaches .ensures) (c .if2 .taken)
 
 returns-2 : tie.Need-returns-2
-returns-2 c = law.picks-near (c .before .before .before .before .before .before .before .args .up) (family (primitive (c .before .before .before .before .before .before .before .args .lhs))) (family (primitive (c .before .before .before .before .before .before .before .args .rhs))) (level (primitive (c .before .before .before .before .before .before .before .args .lhs))) (level (primitive (c .before .before .before .before .before .before .before .args .rhs))) Rhs Lhs Neither _ _ (c .before .before .before .before .before .before .number-family .ensures) (c .before .before .before .before .before .number-family2 .ensures) (c .before .before .before .before .if1 .taken) _ _ _ (c .before .before .before .number-level .ensures) (c .before .before .number-level2 .ensures) (c .before .reaches .ensures) (c .if2 .left)
+returns-2 c =
+    let at-number-level2 = c .before .before in
+    let at-number-level = at-number-level2 .before in
+    let at-if1 = at-number-level .before in
+    let at-number-family2 = at-if1 .before in
+    let at-number-family = at-number-family2 .before in
+    let start = at-number-family .before in
+    let args = start .args in
+    law.picks-near (args .up) (family (primitive (args .lhs))) (family (primitive (args .rhs)))
+    (level (primitive (args .lhs))) (level (primitive (args .rhs))) Rhs Lhs Neither _ _
+    (at-number-family .number-family .ensures) (at-number-family2 .number-family2 .ensures) (at-if1 .if1 .taken) _
+    _ _ (at-number-level .number-level .ensures) (at-number-level2 .number-level2 .ensures)
+    (c .before .reaches .ensures) (c .if2 .left)
 
 returns-3 : tie.Need-returns-3
-returns-3 c = law.picks-neither (c .before .before .before .args .up) (family (primitive (c .before .before .before .args .lhs))) (family (primitive (c .before .before .before .args .rhs))) (level (primitive (c .before .before .before .args .lhs))) (level (primitive (c .before .before .before .args .rhs))) Rhs Lhs Neither _ _ (c .before .before .number-family .ensures) (c .before .number-family2 .ensures) (c .if1 .left)
+returns-3 c =
+    let at-number-family = c .before .before in
+    let start = at-number-family .before in
+    let args = start .args in
+    law.picks-neither (args .up) (family (primitive (args .lhs))) (family (primitive (args .rhs)))
+    (level (primitive (args .lhs))) (level (primitive (args .rhs))) Rhs Lhs Neither _ _
+    (at-number-family .number-family .ensures) (c .before .number-family2 .ensures) (c .if1 .left)
 
 pub number-side-spec : {M : Type 1} → statement M
 number-side-spec =

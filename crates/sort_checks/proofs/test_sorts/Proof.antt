@@ -9,11 +9,69 @@ test-sorts-spec =
     tie.close
     (tie.spec
     (λ c κs. search needs)
-    (λ c. law.fails-1 (c .before .before .before .args .sorts .now) (c .before .before .before .args .sort-count) (c .before .before .before .args .entry-count) (c .before .within-lent .result) (c .before .within-lent .ensures) (c .if1 .taken))
+    (λ c.
+    let start = c .before .before .before in
+    let args = start .args in
+    law.fails-1 (args .sorts .now) (args .sort-count) (args .entry-count) (c .before .within-lent .result) (c .before .within-lent .ensures) (c .if1 .taken))
     (λ c κs. search needs)
-    (λ c. law.fails-2 (c .before .before .before .before .before .args .sorts .now) (c .before .before .before .before .before .args .sort-count) (c .before .before .before .before .before .args .entry-count) (c .before .before .before .within-lent .result) (c .before .before .before .within-lent .ensures) (c .before .before .if1 .left) (c .before .fixed-six .result) (c .before .fixed-six .ensures) (c .if2 .taken))
-    (λ c κs. law.few-sorts (c .before .before .before .before .before .args .sorts .now) (c .before .before .before .before .before .args .sort-count) (c .before .before .before .before .before .args .entry-count) (c .before .before .before .within-lent .result) (c .before .before .before .within-lent .ensures) (c .before .before .if1 .left))
-    (λ c. law.fails-3 (c .before .before .before .before .before .before .before .args .sorts .now) (c .before .before .before .before .before .before .before .args .sort-count) (c .before .before .before .before .before .before .before .args .entry-count) (c .before .before .before .before .before .within-lent .result) (c .before .before .before .before .before .within-lent .ensures) (c .before .before .before .before .if1 .left) (c .before .before .before .fixed-six .result) (c .before .before .before .fixed-six .ensures) (c .before .before .if2 .left) (c .before .rows-fine .result) (c .before .rows-fine .ensures) (c .if3 .taken))
-    (λ c κs. law.few-sorts (c .before .before .before .before .before .before .before .args .sorts .now) (c .before .before .before .before .before .before .before .args .sort-count) (c .before .before .before .before .before .before .before .args .entry-count) (c .before .before .before .before .before .within-lent .result) (c .before .before .before .before .before .within-lent .ensures) (c .before .before .before .before .if1 .left))
-    (λ c. law.fails-4 (c .before .before .before .before .before .before .before .before .before .args .sorts .now) (c .before .before .before .before .before .before .before .before .before .args .sort-count) (c .before .before .before .before .before .before .before .before .before .args .entry-count) (c .before .before .before .before .before .before .before .within-lent .result) (c .before .before .before .before .before .before .before .within-lent .ensures) (c .before .before .before .before .before .before .if1 .left) (c .before .before .before .before .before .fixed-six .result) (c .before .before .before .before .before .fixed-six .ensures) (c .before .before .before .before .if2 .left) (c .before .before .before .rows-fine .result) (c .before .before .before .rows-fine .ensures) (c .before .before .if3 .left) (c .before .no-two-equal-rows .result) (c .before .no-two-equal-rows .ensures) (c .if4 .taken))
-    (λ c. law.passes-4 (c .before .before .before .before .before .before .before .before .before .args .sorts .now) (c .before .before .before .before .before .before .before .before .before .args .sort-count) (c .before .before .before .before .before .before .before .before .before .args .entry-count) (c .before .before .before .before .before .before .before .within-lent .result) (c .before .before .before .before .before .before .before .within-lent .ensures) (c .before .before .before .before .before .before .if1 .left) (c .before .before .before .before .before .fixed-six .result) (c .before .before .before .before .before .fixed-six .ensures) (c .before .before .before .before .if2 .left) (c .before .before .before .rows-fine .result) (c .before .before .before .rows-fine .ensures) (c .before .before .if3 .left) (c .before .no-two-equal-rows .result) (c .before .no-two-equal-rows .ensures) (c .if4 .left)))
+    (λ c.
+    let at-if1 = c .before .before in
+    let at-within-lent = at-if1 .before in
+    let start = at-within-lent .before .before in
+    let args = start .args in
+    law.fails-2 (args .sorts .now) (args .sort-count) (args .entry-count) (at-within-lent .within-lent .result)
+    (at-within-lent .within-lent .ensures) (at-if1 .if1 .left) (c .before .fixed-six .result)
+    (c .before .fixed-six .ensures) (c .if2 .taken))
+    (λ c κs.
+    let at-if1 = c .before .before in
+    let at-within-lent = at-if1 .before in
+    let start = at-within-lent .before .before in
+    let args = start .args in
+    law.few-sorts (args .sorts .now) (args .sort-count) (args .entry-count) (at-within-lent .within-lent .result)
+    (at-within-lent .within-lent .ensures) (at-if1 .if1 .left))
+    (λ c.
+    let at-if2 = c .before .before in
+    let at-fixed-six = at-if2 .before in
+    let at-if1 = at-fixed-six .before in
+    let at-within-lent = at-if1 .before in
+    let start = at-within-lent .before .before in
+    let args = start .args in
+    law.fails-3 (args .sorts .now) (args .sort-count) (args .entry-count) (at-within-lent .within-lent .result)
+    (at-within-lent .within-lent .ensures) (at-if1 .if1 .left) (at-fixed-six .fixed-six .result)
+    (at-fixed-six .fixed-six .ensures) (at-if2 .if2 .left) (c .before .rows-fine .result)
+    (c .before .rows-fine .ensures) (c .if3 .taken))
+    (λ c κs.
+    let at-if1 = c .before .before .before .before in
+    let at-within-lent = at-if1 .before in
+    let start = at-within-lent .before .before in
+    let args = start .args in
+    law.few-sorts (args .sorts .now) (args .sort-count) (args .entry-count) (at-within-lent .within-lent .result)
+    (at-within-lent .within-lent .ensures) (at-if1 .if1 .left))
+    (λ c.
+    let at-if3 = c .before .before in
+    let at-rows-fine = at-if3 .before in
+    let at-if2 = at-rows-fine .before in
+    let at-fixed-six = at-if2 .before in
+    let at-if1 = at-fixed-six .before in
+    let at-within-lent = at-if1 .before in
+    let start = at-within-lent .before .before in
+    let args = start .args in
+    law.fails-4 (args .sorts .now) (args .sort-count) (args .entry-count) (at-within-lent .within-lent .result)
+    (at-within-lent .within-lent .ensures) (at-if1 .if1 .left) (at-fixed-six .fixed-six .result)
+    (at-fixed-six .fixed-six .ensures) (at-if2 .if2 .left) (at-rows-fine .rows-fine .result)
+    (at-rows-fine .rows-fine .ensures) (at-if3 .if3 .left) (c .before .no-two-equal-rows .result)
+    (c .before .no-two-equal-rows .ensures) (c .if4 .taken))
+    (λ c.
+    let at-if3 = c .before .before in
+    let at-rows-fine = at-if3 .before in
+    let at-if2 = at-rows-fine .before in
+    let at-fixed-six = at-if2 .before in
+    let at-if1 = at-fixed-six .before in
+    let at-within-lent = at-if1 .before in
+    let start = at-within-lent .before .before in
+    let args = start .args in
+    law.passes-4 (args .sorts .now) (args .sort-count) (args .entry-count) (at-within-lent .within-lent .result)
+    (at-within-lent .within-lent .ensures) (at-if1 .if1 .left) (at-fixed-six .fixed-six .result)
+    (at-fixed-six .fixed-six .ensures) (at-if2 .if2 .left) (at-rows-fine .rows-fine .result)
+    (at-rows-fine .rows-fine .ensures) (at-if3 .if3 .left) (c .before .no-two-equal-rows .result)
+    (c .before .no-two-equal-rows .ensures) (c .if4 .left)))

@@ -18,11 +18,71 @@ meet-spec =
     (λ c κs. search needs)
     (λ c. search needs)
     (λ c. search needs)
-    (λ c. omega (arith, (law.asked (c .before .before .before .before .before .args .sorts .now) (c .before .before .before .before .before .args .sort-count) (c .before .before .before .before .before .args .entry-count) (c .before .before .before .before .before .args .lhs .0) (c .before .before .before .before .before .args .rhs .0) (c .before .before .test-pair .result) (c .before .before .test-pair .ensures) (c .enum-told .given .1)) .checked .sorts))
-    (λ c. omega (arith, (law.asked (c .before .before .before .before .before .args .sorts .now) (c .before .before .before .before .before .args .sort-count) (c .before .before .before .before .before .args .entry-count) (c .before .before .before .before .before .args .lhs .0) (c .before .before .before .before .before .args .rhs .0) (c .before .before .test-pair .result) (c .before .before .test-pair .ensures) (c .enum-told .given .1)) .checked .entries))
-    (λ c κs. law.asked (c .before .before .before .before .before .before .args .sorts .now) (c .before .before .before .before .before .before .args .sort-count) (c .before .before .before .before .before .before .args .entry-count) (c .before .before .before .before .before .before .args .lhs .0) (c .before .before .before .before .before .before .args .rhs .0) (c .before .before .before .test-pair .result) (c .before .before .before .test-pair .ensures) (c .before .enum-told .given .1))
-    (λ c κs. ((law.asked (c .before .before .before .before .before .before .before .before .before .before .args .sorts .now) (c .before .before .before .before .before .before .before .before .before .before .args .sort-count) (c .before .before .before .before .before .before .before .before .before .before .args .entry-count) (c .before .before .before .before .before .before .before .before .before .before .args .lhs .0) (c .before .before .before .before .before .before .before .before .before .before .args .rhs .0) (c .before .before .before .before .before .before .before .test-pair .result) (c .before .before .before .before .before .before .before .test-pair .ensures) (c .before .before .before .before .before .enum-told .given .1)) .checked .sorts, (law.asked (c .before .before .before .before .before .before .before .before .before .before .args .sorts .now) (c .before .before .before .before .before .before .before .before .before .before .args .sort-count) (c .before .before .before .before .before .before .before .before .before .before .args .entry-count) (c .before .before .before .before .before .before .before .before .before .before .args .lhs .0) (c .before .before .before .before .before .before .before .before .before .before .args .rhs .0) (c .before .before .before .before .before .before .before .test-pair .result) (c .before .before .before .before .before .before .before .test-pair .ensures) (c .before .before .before .before .before .enum-told .given .1)) .checked .entries, omega (arith, c .before .before .before .meet .kept .0, (law.asked (c .before .before .before .before .before .before .before .before .before .before .args .sorts .now) (c .before .before .before .before .before .before .before .before .before .before .args .sort-count) (c .before .before .before .before .before .before .before .before .before .before .args .entry-count) (c .before .before .before .before .before .before .before .before .before .before .args .lhs .0) (c .before .before .before .before .before .before .before .before .before .before .args .rhs .0) (c .before .before .before .before .before .before .before .test-pair .result) (c .before .before .before .before .before .before .before .test-pair .ensures) (c .before .before .before .before .before .enum-told .given .1)) .checked .long)))
+    (λ c.
+    let at-test-pair = c .before .before in
+    let start = at-test-pair .before .before .before in
+    let args = start .args in
+    omega (
+      arith,
+      (law.asked (args .sorts .now) (args .sort-count) (args .entry-count) (args .lhs .0) (args .rhs .0)
+          (at-test-pair .test-pair .result) (at-test-pair .test-pair .ensures)
+          (c .enum-told .given .1)) .checked .sorts,
+    ))
+    (λ c.
+    let at-test-pair = c .before .before in
+    let start = at-test-pair .before .before .before in
+    let args = start .args in
+    omega (
+      arith,
+      (law.asked (args .sorts .now) (args .sort-count) (args .entry-count) (args .lhs .0) (args .rhs .0)
+          (at-test-pair .test-pair .result) (at-test-pair .test-pair .ensures)
+          (c .enum-told .given .1)) .checked .entries,
+    ))
+    (λ c κs.
+    let at-test-pair = c .before .before .before in
+    let start = at-test-pair .before .before .before in
+    let args = start .args in
+    law.asked (args .sorts .now) (args .sort-count) (args .entry-count) (args .lhs .0) (args .rhs .0)
+    (at-test-pair .test-pair .result) (at-test-pair .test-pair .ensures) (c .before .enum-told .given .1))
+    (λ c κs.
+    let at-meet = c .before .before .before in
+    let at-enum-told = at-meet .before .before in
+    let at-test-pair = at-enum-told .before .before in
+    let start = at-test-pair .before .before .before in
+    let args = start .args in (
+      (law.asked (args .sorts .now) (args .sort-count) (args .entry-count) (args .lhs .0) (args .rhs .0)
+          (at-test-pair .test-pair .result) (at-test-pair .test-pair .ensures)
+          (at-enum-told .enum-told .given .1)) .checked .sorts,
+      (law.asked (args .sorts .now) (args .sort-count)
+          (args .entry-count) (args .lhs .0) (args .rhs .0) (at-test-pair .test-pair .result)
+          (at-test-pair .test-pair .ensures) (at-enum-told .enum-told .given .1)) .checked .entries,
+      omega (
+        arith,
+        at-meet .meet .kept .0,
+        (law.asked (args .sorts .now) (args .sort-count) (args .entry-count)
+            (args .lhs .0) (args .rhs .0) (at-test-pair .test-pair .result) (at-test-pair .test-pair .ensures)
+            (at-enum-told .enum-told .given .1)) .checked .long,
+      ),
+    ))
     (λ c. search needs)
-    (λ c. law.refused-with (c .before .before .before .before .before .before .args .sorts .now) (c .before .before .before .before .before .before .args .sort-count) (c .before .before .before .before .before .before .args .entry-count) (c .before .before .before .before .before .before .args .lhs .0) (c .before .before .before .before .before .before .args .rhs .0) (c .before .before .before .test-pair .result) (c .before .before .before .test-pair .ensures) (λ code. sortsLeft (c .before .before .before .before .before .before .args .sorts .now) (Refused code)) _ _ (c .before .code .given .1))
+    (λ c.
+    let at-test-pair = c .before .before .before in
+    let start = at-test-pair .before .before .before in
+    let args = start .args in
+    law.refused-with (args .sorts .now) (args .sort-count) (args .entry-count) (args .lhs .0) (args .rhs .0)
+    (at-test-pair .test-pair .result) (at-test-pair .test-pair .ensures) (λ code. sortsLeft (args .sorts .now)
+    (Refused code)) _ _ (c .before .code .given .1))
     (λ c. search needs)
-    (λ c. law.bound-answered false (c .before .before .before .before .before .before .before .before .before .before .before .before .before .args .sorts .now) (c .before .before .before .before .before .before .before .before .before .before .before .before .before .args .sort-count) (c .before .before .before .before .before .before .before .before .before .before .before .before .before .args .entry-count) (c .before .before .before .before .before .before .before .before .before .before .before .before .before .args .lhs .0) (c .before .before .before .before .before .before .before .before .before .before .before .before .before .args .rhs .0) (law.asked (c .before .before .before .before .before .before .before .before .before .before .before .before .before .args .sorts .now) (c .before .before .before .before .before .before .before .before .before .before .before .before .before .args .sort-count) (c .before .before .before .before .before .before .before .before .before .before .before .before .before .args .entry-count) (c .before .before .before .before .before .before .before .before .before .before .before .before .before .args .lhs .0) (c .before .before .before .before .before .before .before .before .before .before .before .before .before .args .rhs .0) (c .before .before .before .before .before .before .before .before .before .before .test-pair .result) (c .before .before .before .before .before .before .before .before .before .before .test-pair .ensures) (c .before .before .before .before .before .before .before .before .enum-told .given .1)) _ _ (c .before .before .before .before .before .before .meet .ensures) _ _ (c .before .before .kept-or-given-back .ensures) (law.none-fails (c .before .before .before .before .before .before .before .before .before .before .before .before .before .args .sorts .now) (c .before .before .before .before .before .before .before .before .before .before .before .before .before .args .sort-count) (c .before .before .before .before .before .before .before .before .before .before .before .before .before .args .entry-count) (c .before .before .before .before .before .before .before .before .before .before .before .before .before .args .lhs .0) (c .before .before .before .before .before .before .before .before .before .before .before .before .before .args .rhs .0) (c .before .before .before .before .before .before .before .before .before .before .test-pair .result) (c .before .before .before .before .before .before .before .before .before .before .test-pair .ensures) (c .before .before .before .before .before .before .before .before .enum-told .given .1))))
+    (λ c.
+    let at-kept-or-given-back = c .before .before in
+    let at-meet = at-kept-or-given-back .before .before .before .before in
+    let at-enum-told = at-meet .before .before in
+    let at-test-pair = at-enum-told .before .before in
+    let start = at-test-pair .before .before .before in
+    let args = start .args in
+    law.bound-answered false (args .sorts .now) (args .sort-count) (args .entry-count) (args .lhs .0) (args .rhs .0)
+    (law.asked (args .sorts .now) (args .sort-count) (args .entry-count) (args .lhs .0) (args .rhs .0)
+    (at-test-pair .test-pair .result) (at-test-pair .test-pair .ensures) (at-enum-told .enum-told .given .1)) _ _
+    (at-meet .meet .ensures) _ _ (at-kept-or-given-back .kept-or-given-back .ensures)
+    (law.none-fails (args .sorts .now) (args .sort-count) (args .entry-count) (args .lhs .0) (args .rhs .0)
+    (at-test-pair .test-pair .result) (at-test-pair .test-pair .ensures) (at-enum-told .enum-told .given .1))))

@@ -12,9 +12,45 @@ test-pair-spec =
     (λ c. search needs)
     (λ c. search needs)
     (λ c. search needs)
-    (λ c. law.lhs-fails (c .before .before .before .before .before .before .args .sorts .now) (c .before .before .before .before .before .before .args .sort-count) (c .before .before .before .before .before .before .args .entry-count) (c .before .before .before .before .before .before .args .lhs .0) (c .before .before .before .before .before .before .args .rhs .0) (c .before .before .before .before .test-sorts .result) (c .before .before .before .before .test-sorts .ensures) (c .before .before .enum-told .given .1) (c .if1 .taken))
+    (λ c.
+    let at-enum-told = c .before .before in
+    let at-test-sorts = at-enum-told .before .before in
+    let start = at-test-sorts .before .before in
+    let args = start .args in
+    law.lhs-fails (args .sorts .now) (args .sort-count) (args .entry-count) (args .lhs .0) (args .rhs .0)
+    (at-test-sorts .test-sorts .result) (at-test-sorts .test-sorts .ensures) (at-enum-told .enum-told .given .1)
+    (c .if1 .taken))
     (λ c. search needs)
-    (λ c. law.rhs-fails (c .before .before .before .before .before .before .before .before .args .sorts .now) (c .before .before .before .before .before .before .before .before .args .sort-count) (c .before .before .before .before .before .before .before .before .args .entry-count) (c .before .before .before .before .before .before .before .before .args .lhs .0) (c .before .before .before .before .before .before .before .before .args .rhs .0) (c .before .before .before .before .before .before .test-sorts .result) (c .before .before .before .before .before .before .test-sorts .ensures) (c .before .before .before .before .enum-told .given .1) (c .before .before .if1 .left) (c .if2 .taken))
-    (λ c. law.length-fails (c .before .before .before .before .before .before .before .before .before .args .sorts .now) (c .before .before .before .before .before .before .before .before .before .args .sort-count) (c .before .before .before .before .before .before .before .before .before .args .entry-count) (c .before .before .before .before .before .before .before .before .before .args .lhs .0) (c .before .before .before .before .before .before .before .before .before .args .rhs .0) (c .before .before .before .before .before .before .before .test-sorts .result) (c .before .before .before .before .before .before .before .test-sorts .ensures) (c .before .before .before .before .before .enum-told .given .1) (c .before .before .before .if1 .left) (c .before .if2 .left) (c .if3 .taken))
-    (λ c. law.sorts-fail (c .before .before .before .before .before .args .sorts .now) (c .before .before .before .before .before .args .sort-count) (c .before .before .before .before .before .args .entry-count) (c .before .before .before .before .before .args .lhs .0) (c .before .before .before .before .before .args .rhs .0) (c .before .before .before .test-sorts .result) (c .before .before .before .test-sorts .ensures) _ (c .before .code .given .1))
-    (λ c. law.all-pass (c .before .before .before .before .before .before .before .before .before .args .sorts .now) (c .before .before .before .before .before .before .before .before .before .args .sort-count) (c .before .before .before .before .before .before .before .before .before .args .entry-count) (c .before .before .before .before .before .before .before .before .before .args .lhs .0) (c .before .before .before .before .before .before .before .before .before .args .rhs .0) (c .before .before .before .before .before .before .before .test-sorts .result) (c .before .before .before .before .before .before .before .test-sorts .ensures) (c .before .before .before .before .before .enum-told .given .1) (c .before .before .before .if1 .left) (c .before .if2 .left) (c .if3 .left)))
+    (λ c.
+    let at-if1 = c .before .before in
+    let at-enum-told = at-if1 .before .before in
+    let at-test-sorts = at-enum-told .before .before in
+    let start = at-test-sorts .before .before in
+    let args = start .args in
+    law.rhs-fails (args .sorts .now) (args .sort-count) (args .entry-count) (args .lhs .0) (args .rhs .0)
+    (at-test-sorts .test-sorts .result) (at-test-sorts .test-sorts .ensures) (at-enum-told .enum-told .given .1)
+    (at-if1 .if1 .left) (c .if2 .taken))
+    (λ c.
+    let at-if1 = c .before .before .before in
+    let at-enum-told = at-if1 .before .before in
+    let at-test-sorts = at-enum-told .before .before in
+    let start = at-test-sorts .before .before in
+    let args = start .args in
+    law.length-fails (args .sorts .now) (args .sort-count) (args .entry-count) (args .lhs .0) (args .rhs .0)
+    (at-test-sorts .test-sorts .result) (at-test-sorts .test-sorts .ensures) (at-enum-told .enum-told .given .1)
+    (at-if1 .if1 .left) (c .before .if2 .left) (c .if3 .taken))
+    (λ c.
+    let at-test-sorts = c .before .before .before in
+    let start = at-test-sorts .before .before in
+    let args = start .args in
+    law.sorts-fail (args .sorts .now) (args .sort-count) (args .entry-count) (args .lhs .0) (args .rhs .0)
+    (at-test-sorts .test-sorts .result) (at-test-sorts .test-sorts .ensures) _ (c .before .code .given .1))
+    (λ c.
+    let at-if1 = c .before .before .before in
+    let at-enum-told = at-if1 .before .before in
+    let at-test-sorts = at-enum-told .before .before in
+    let start = at-test-sorts .before .before in
+    let args = start .args in
+    law.all-pass (args .sorts .now) (args .sort-count) (args .entry-count) (args .lhs .0) (args .rhs .0)
+    (at-test-sorts .test-sorts .result) (at-test-sorts .test-sorts .ensures) (at-enum-told .enum-told .given .1)
+    (at-if1 .if1 .left) (c .before .if2 .left) (c .if3 .left)))

@@ -16,9 +16,11 @@ same-length c = search needs
 
 returns : tie.Need-returns
 returns c =
-    let a = c .before .before .before .before .before .args in
-    let p = c .before .before .before .before .before .pre in
-    c .before .before .intern .ensures ∙ law.function-interns (a .sorts .now) (a .counts) (p .0) (take (a .count) (a .ids)) (a .range .0) (p .3) (p .1)
+    let at-intern = c .before .before in
+    let start = at-intern .before .before .before in
+    let a = start .args in
+    let p = start .pre in
+    at-intern .intern .ensures ∙ law.function-interns (a .sorts .now) (a .counts) (p .0) (take (a .count) (a .ids)) (a .range .0) (p .3) (p .1)
 
 pub function-spec : {M : Type 1} → statement M
 function-spec = tie.close (tie.spec intern-requires same-length returns)

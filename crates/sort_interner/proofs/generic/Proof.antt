@@ -21,10 +21,14 @@ same-length c = search needs
 
 returns : tie.Need-returns
 returns c =
-    let a = c .before .before .before .before .before .before .args in
-    c .before .before .intern .ensures
-    ∙ (ap (λ k. internRow (a .sorts .now) (a .counts .sorts) (a .counts .entries) (record { kind = k; part = a .subsort .0; args = [] })) (c .before .before .before .kind-of-op .ensures)
-    ∙ law.generic-interns (a .sorts .now) (a .counts) (c .before .before .before .before .before .before .pre .0) (a .op) (a .subsort .0) (c .before .before .before .before .before .before .pre .1))
+    let at-intern = c .before .before in
+    let at-kind-of-op = at-intern .before in
+    let start = at-kind-of-op .before .before .before in
+    let a = start .args in
+    at-intern .intern .ensures
+    ∙ (ap (λ k. internRow (a .sorts .now) (a .counts .sorts) (a .counts .entries)
+    (record { kind = k; part = a .subsort .0; args = [] })) (at-kind-of-op .kind-of-op .ensures)
+    ∙ law.generic-interns (a .sorts .now) (a .counts) (start .pre .0) (a .op) (a .subsort .0) (start .pre .1))
 
 pub generic-spec : {M : Type 1} → statement M
 generic-spec = tie.close (tie.spec kind-of-op-requires intern-requires same-length returns)

@@ -17,4 +17,10 @@ is-row-spec =
     (λ c. law.rows-differ-by-part _ _ _ _ (c .before .before .before .kind-at .ensures) refl _ _ (c .before .part-at .ensures) refl (c .if2 .taken))
     (λ c κs. search needs)
     (λ c κs. search needs)
-    (λ c. law.rows-same-by-args _ _ _ _ (c .before .before .before .before .before .kind-at .ensures) refl _ _ (c .before .before .before .part-at .ensures) refl (c .before .before .before .before .if1 .left) (c .before .before .if2 .left) _ _ (c .before .run-at .ensures) refl _ (c .has-args .ensures)))
+    (λ c.
+    let at-if2 = c .before .before in
+    let at-part-at = at-if2 .before in
+    let at-if1 = at-part-at .before in
+    let at-kind-at = at-if1 .before in
+    law.rows-same-by-args _ _ _ _ (at-kind-at .kind-at .ensures) refl _ _ (at-part-at .part-at .ensures) refl
+    (at-if1 .if1 .left) (at-if2 .if2 .left) _ _ (c .before .run-at .ensures) refl _ (c .has-args .ensures)))

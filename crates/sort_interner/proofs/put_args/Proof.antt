@@ -10,7 +10,8 @@ use Rattle.sort_interner.proofs.put_args.Statement.{statement}
 use Rattle.sort_interner.proofs.put_args.Tie as tie
 
 abbrev Inv-loop : tie.InvT-loop
-Inv-loop sorts₀ e n ids i₀ sorts i = (i ≤ n) × (length sorts ≡ length sorts₀) × (sets sorts₀ (4096 + e) (take n ids) ≡ law.setsFrom i sorts (4096 + e) (take n ids))
+Inv-loop sorts₀ e n ids i₀ sorts i = (i ≤ n) × (length sorts ≡ length sorts₀) × (sets sorts₀ (4096 + e) (take n ids) ≡
+    law.setsFrom i sorts (4096 + e) (take n ids))
 
 abbrev μ-loop : tie.MeasureT-loop
 μ-loop sorts₀ e n ids i₀ sorts i = n - i

@@ -36,5 +36,12 @@ same-run-spec =
     (λ c. search law.runs-differ)
     (λ c. omega arith)
     (λ c. omega arith)
-    (λ c. (omega arith, law.runs-same-from-next _ _ _ _ (c .before .before .before .before .loop .k) (c .before .before .before .before .loop .inv .1) (c .before .before .before .loop-test .taken) _ _ (c .before .before .word .ensures) (c .before .word2 .ensures) (c .if2 .left)))
+    (λ c.
+    let at-word = c .before .before in
+    let at-loop-test = at-word .before in
+    let at-loop = at-loop-test .before in (
+      omega arith,
+      law.runs-same-from-next _ _ _ _ (at-loop .loop .k) (at-loop .loop .inv .1)
+          (at-loop-test .loop-test .taken) _ _ (at-word .word .ensures) (c .before .word2 .ensures) (c .if2 .left),
+    ))
     (λ c. search law.runs-same-at-end))

@@ -18,33 +18,59 @@ returns-4 c = search law.a-close-bracket
 
 returns-5 : tie.Need-returns-5
 returns-5 c =
-    let i = c .before .before .before .before in
+    let at-if2 = c .before .before .before in
+    let at = at-if2 .before in
+    let i = at in
     let s = i .before .before .before in
-    law.a-hash (s .before .before .args .line .now) (s .before .before .args .at) (s .skip-spaces .result) (s .skip-spaces .ensures) (i .before .before .if1 .left) (i .is-letter .result) (i .is-letter .ensures) (c .before .before .before .if2 .left) (c .if5 .taken)
+    law.a-hash (s .before .before .args .line .now) (s .before .before .args .at) (s .skip-spaces .result)
+    (s .skip-spaces .ensures) (i .before .before .if1 .left) (i .is-letter .result) (i .is-letter .ensures)
+    (at-if2 .if2 .left) (c .if5 .taken)
 
 returns-6 : tie.Need-returns-6
 returns-6 c =
-    let i = c .before .before .before .before .before .before .before .before in
+    let at-if7 = c .before .before in
+    let at-if6 = at-if7 .before in
+    let at-if2 = at-if6 .before .before .before .before in
+    let at = at-if2 .before in
+    let i = at in
     let s = i .before .before .before in
-    law.an-arrow (s .before .before .args .line .now) (s .before .before .args .at) (s .skip-spaces .result) (s .skip-spaces .ensures) (i .before .before .if1 .left) (i .is-letter .result) (i .is-letter .ensures) (c .before .before .before .before .before .before .before .if2 .left) (c .before .before .before .if6 .taken) (c .before .before .if7 .taken) (c .if8 .taken)
+    law.an-arrow (s .before .before .args .line .now) (s .before .before .args .at) (s .skip-spaces .result)
+    (s .skip-spaces .ensures) (i .before .before .if1 .left) (i .is-letter .result) (i .is-letter .ensures)
+    (at-if2 .if2 .left) (at-if6 .if6 .taken) (at-if7 .if7 .taken) (c .if8 .taken)
 
 returns-7 : tie.Need-returns-7
 returns-7 c =
-    let i = c .before .before .before .before .before .before .before .before in
+    let at-if7 = c .before .before in
+    let at-if6 = at-if7 .before in
+    let at-if2 = at-if6 .before .before .before .before in
+    let at = at-if2 .before in
+    let i = at in
     let s = i .before .before .before in
-    law.a-dash-alone (s .before .before .args .line .now) (s .before .before .args .at) (s .skip-spaces .result) (s .skip-spaces .ensures) (i .before .before .if1 .left) (i .is-letter .result) (i .is-letter .ensures) (c .before .before .before .before .before .before .before .if2 .left) (c .before .before .before .if6 .taken) (c .before .before .if7 .taken) (c .if8 .left)
+    law.a-dash-alone (s .before .before .args .line .now) (s .before .before .args .at) (s .skip-spaces .result)
+    (s .skip-spaces .ensures) (i .before .before .if1 .left) (i .is-letter .result) (i .is-letter .ensures)
+    (at-if2 .if2 .left) (at-if6 .if6 .taken) (at-if7 .if7 .taken) (c .if8 .left)
 
 returns-8 : tie.Need-returns-8
 returns-8 c =
-    let i = c .before .before .before .before .before .before in
+    let at-if2 = c .before .before .before .before .before in
+    let at = at-if2 .before in
+    let i = at in
     let s = i .before .before .before in
-    law.a-dash-at-the-end (s .before .before .args .line .now) (s .before .before .args .at) (s .skip-spaces .result) (s .skip-spaces .ensures) (i .before .before .if1 .left) (i .is-letter .result) (i .is-letter .ensures) (c .before .before .before .before .before .if2 .left) (c .before .if6 .taken) (c .if7 .left)
+    law.a-dash-at-the-end (s .before .before .args .line .now) (s .before .before .args .at) (s .skip-spaces .result)
+    (s .skip-spaces .ensures) (i .before .before .if1 .left) (i .is-letter .result) (i .is-letter .ensures)
+    (at-if2 .if2 .left) (c .before .if6 .taken) (c .if7 .left)
 
 returns-9 : tie.Need-returns-9
 returns-9 c =
-    let i = c .before .before .before .before .before in
+    let at-if4 = c .before .before in
+    let at-if3 = at-if4 .before in
+    let at-if2 = at-if3 .before in
+    let at = at-if2 .before in
+    let i = at in
     let s = i .before .before .before in
-    law.no-token (s .before .before .args .line .now) (s .before .before .args .at) (s .skip-spaces .result) (s .skip-spaces .ensures) (i .before .before .if1 .left) (i .is-letter .result) (i .is-letter .ensures) (c .before .before .before .before .if2 .left) (c .before .before .before .if3 .left) (c .before .before .if4 .left) (c .before .if5 .left) (c .if6 .left)
+    law.no-token (s .before .before .args .line .now) (s .before .before .args .at) (s .skip-spaces .result)
+    (s .skip-spaces .ensures) (i .before .before .if1 .left) (i .is-letter .result) (i .is-letter .ensures)
+    (at-if2 .if2 .left) (at-if3 .if3 .left) (at-if4 .if4 .left) (c .before .if5 .left) (c .if6 .left)
 
 pub token-at-spec : {M : Type 1} → statement M
 token-at-spec =

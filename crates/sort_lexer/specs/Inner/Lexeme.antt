@@ -3,7 +3,8 @@
 use mathlib.Core.List.{List}
 use Prim.Native.Nat.{ℕ, _-_}
 use lib.ListN.{length, take, drop}
-use Rattle.sort_text.specs.Tokens.{isLetter, NextToken, end, word, open-bracket, close-bracket, hash, arrow, bad, skip, next}
+use Rattle.sort_text.specs.Tokens.{isLetter, NextToken, end, word, open-bracket, close-bracket, hash, arrow, bad}
+use Rattle.sort_text.specs.Tokens.{skip, next}
 use Rattle.sort_lexer.specs.declared.Token.{Token}
 use Rattle.sort_lexer.specs.declared.Token.the-variants.{End, Word, Open, Close, Hash, Arrow, Bad}
 use Rattle.sort_lexer.specs.declared.Lexeme.{Lexeme}

@@ -23,8 +23,20 @@ pair-spec =
     (λ c. search needs)
     (λ c. search needs)
     (λ c. pair-of-read (c .before .before .get2 .ensures) (c .before .before .before .get .ensures) (rw (c .enum-told .given .1)))
-    (λ c. pair-of-read (c .before .before .before .before .get2 .ensures) (c .before .before .before .before .before .get .ensures) (c .with-primitive .ensures ∙ rw (c .before .before .sort .given .1)))
-    (λ c. pair-of-read (c .before .before .before .before .get2 .ensures) (c .before .before .before .before .before .get .ensures) (c .with-container .ensures ∙ rw (c .before .before .op .given .1)))
-    (λ c. pair-of-read (c .before .before .before .before .get2 .ensures) (c .before .before .before .before .before .get .ensures) (c .with-function .ensures ∙ rw (c .before .before .domain .given .1)))
+    (λ c.
+    let at-sort = c .before .before in
+    let at-get2 = at-sort .before .before in
+    let at-get = at-get2 .before in
+    pair-of-read (at-get2 .get2 .ensures) (at-get .get .ensures) (c .with-primitive .ensures ∙ rw (at-sort .sort .given .1)))
+    (λ c.
+    let at-op = c .before .before in
+    let at-get2 = at-op .before .before in
+    let at-get = at-get2 .before in
+    pair-of-read (at-get2 .get2 .ensures) (at-get .get .ensures) (c .with-container .ensures ∙ rw (at-op .op .given .1)))
+    (λ c.
+    let at-domain = c .before .before in
+    let at-get2 = at-domain .before .before in
+    let at-get = at-get2 .before in
+    pair-of-read (at-get2 .get2 .ensures) (at-get .get .ensures) (c .with-function .ensures ∙ rw (at-domain .domain .given .1)))
     (λ c. pair-of-read (c .before .before .get2 .ensures) (c .before .before .before .get .ensures) (rw (c .enum-told2 .given .1)))
     (λ c. pair-of-read (c .before .before .get2 .ensures) (c .before .before .before .get .ensures) (rw (c .enum-told3 .given .1))))

@@ -10,7 +10,8 @@ use Rattle.sort_order.proofs.same_arguments.Statement.{statement}
 use Rattle.sort_order.proofs.same_arguments.Tie as tie
 
 abbrev Inv-loop : tie.InvT-loop
-Inv-loop sorts from-start to-start count i₀ i = (i ≤ count) × (sameWords (entriesOf sorts from-start count) (entriesOf sorts to-start count) ≡ law.sameFrom sorts from-start to-start count i)
+Inv-loop sorts from-start to-start count i₀ i = (i ≤ count) × (sameWords (entriesOf sorts from-start count)
+    (entriesOf sorts to-start count) ≡ law.sameFrom sorts from-start to-start count i)
 
 abbrev μ-loop : tie.MeasureT-loop
 μ-loop sorts from-start to-start count i₀ i = count - i
@@ -21,7 +22,10 @@ same-arguments-spec =
     (tie.spec
     Inv-loop
     μ-loop
-    (λ c. (omega arith, law.same-from-start (c .before .args .sorts .now) (c .before .args .from-start) (c .before .args .to-start) (c .before .args .count)))
+    (λ c.
+    let start = c .before in
+    let args = start .args in
+    (omega arith, law.same-from-start (args .sorts .now) (args .from-start) (args .to-start) (args .count)))
     (λ c. omega arith)
     (λ c. omega arith)
     (λ c. omega arith)
@@ -30,9 +34,31 @@ same-arguments-spec =
     (λ c. omega arith)
     (λ c. omega arith)
     (λ c κs. search needs)
-    (λ c. law.same-stops (c .before .before .before .before .before .before .args .sorts .now) (c .before .before .before .before .before .before .args .from-start) (c .before .before .before .before .before .before .args .to-start) (c .before .before .before .before .before .before .args .count) (c .before .before .before .before .loop .i) (c .before .before .before .loop-test .taken) (c .before .before .word .ensures) (c .before .word2 .ensures) (c .if1 .taken) ∙ sym (c .before .before .before .before .loop .inv .1))
+    (λ c.
+    let at-word = c .before .before in
+    let at-loop-test = at-word .before in
+    let at-loop = at-loop-test .before in
+    let start = at-loop .before .before in
+    let args = start .args in
+    law.same-stops (args .sorts .now) (args .from-start) (args .to-start) (args .count) (at-loop .loop .i)
+    (at-loop-test .loop-test .taken) (at-word .word .ensures) (c .before .word2 .ensures) (c .if1 .taken) ∙ sym
+    (at-loop .loop .inv .1))
     (λ c. omega arith)
     (λ c. omega arith)
-    (λ c. (omega arith, c .before .before .before .before .loop .inv .1 ∙ law.same-goes-on (c .before .before .before .before .before .before .args .sorts .now) (c .before .before .before .before .before .before .args .from-start) (c .before .before .before .before .before .before .args .to-start) (c .before .before .before .before .before .before .args .count) (c .before .before .before .before .loop .i) (c .before .before .before .loop-test .taken) (c .before .before .word .ensures) (c .before .word2 .ensures) (c .if1 .left)))
-    (λ c. law.same-at-end (c .before .before .before .args .sorts .now) (c .before .before .before .args .from-start) (c .before .before .before .args .to-start) (c .before .before .before .args .count) (c .before .loop .i) (c .loop-test .left) ∙ sym (c .before .loop .inv .1))
+    (λ c.
+    let at-word = c .before .before in
+    let at-loop-test = at-word .before in
+    let at-loop = at-loop-test .before in
+    let start = at-loop .before .before in
+    let args = start .args in (
+      omega arith,
+      at-loop .loop .inv .1 ∙ law.same-goes-on (args .sorts .now) (args .from-start) (args .to-start)
+          (args .count) (at-loop .loop .i) (at-loop-test .loop-test .taken) (at-word .word .ensures)
+          (c .before .word2 .ensures) (c .if1 .left),
+    ))
+    (λ c.
+    let start = c .before .before .before in
+    let args = start .args in
+    law.same-at-end (args .sorts .now) (args .from-start) (args .to-start) (args .count) (c .before .loop .i)
+    (c .loop-test .left) ∙ sym (c .before .loop .inv .1))
     )

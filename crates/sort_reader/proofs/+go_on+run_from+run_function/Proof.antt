@@ -1,4 +1,5 @@
--- Each call is on a step further along, or on the same step nearer to it: three times the steps left, and the place in the round. Each way by its law. Assumes nothing.
+-- Each call is on a step further along, or on the same step nearer to it: three times the steps left, and the place
+-- in the round. Each way by its law. Assumes nothing.
 mod Common
 mod Go_on
 mod Run_from
@@ -11,4 +12,5 @@ use Rattle.sort_reader.proofs.+go_on+run_from+run_function.Proof.Run_fr
 use Rattle.sort_reader.proofs.+go_on+run_from+run_function.Proof.Run_function as part-run-function
 
 pub +go-on+run-from+run-function-spec : {M : Type 1} → statement M
-+go-on+run-from+run-function-spec {M} = close common.μ-go-on common.μ-run-from common.μ-run-function (part-go-on.part M) (part-run-from.part M) (part-run-function.part M)
++go-on+run-from+run-function-spec {M} = close common.μ-go-on common.μ-run-from common.μ-run-function
+    (part-go-on.part M) (part-run-from.part M) (part-run-function.part M)

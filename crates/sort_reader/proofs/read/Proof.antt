@@ -11,8 +11,26 @@ read-spec =
     (λ c κs. search needs)
     (λ c. search needs)
     (λ c. search needs)
-    (λ c κs. law.passes (c .before .before .before .before .before .before .before .args .sorts .now) (c .before .before .before .before .before .before .before .args .sort-count) (c .before .before .before .before .before .before .before .args .entry-count) (c .before .before .before .before .before .before .before .args .line .now) (c .before .before .before .test-read .result) (c .before .before .before .test-read .ensures) (c .before .enum-told .given .1))
+    (λ c κs.
+    let at-test-read = c .before .before .before in
+    let start = at-test-read .before .before .before .before in
+    let args = start .args in
+    law.passes (args .sorts .now) (args .sort-count) (args .entry-count) (args .line .now)
+    (at-test-read .test-read .result) (at-test-read .test-read .ensures) (c .before .enum-told .given .1))
     (λ c. search needs)
-    (λ c. law.refused (c .before .before .before .before .before .before .before .args .sorts .now) (c .before .before .before .before .before .before .before .args .sort-count) (c .before .before .before .before .before .before .before .args .entry-count) (c .before .before .before .before .before .before .before .args .line .now) (c .before .before .before .test-read .result) (c .before .before .before .test-read .ensures) _ (c .before .code .given .1))
+    (λ c.
+    let at-test-read = c .before .before .before in
+    let start = at-test-read .before .before .before .before in
+    let args = start .args in
+    law.refused (args .sorts .now) (args .sort-count) (args .entry-count) (args .line .now)
+    (at-test-read .test-read .result) (at-test-read .test-read .ensures) _ (c .before .code .given .1))
     (λ c. search needs)
-    (λ c. law.answered (c .before .before .before .before .before .before .before .before .before .before .args .sorts .now) (c .before .before .before .before .before .before .before .before .before .before .args .sort-count) (c .before .before .before .before .before .before .before .before .before .before .args .entry-count) (c .before .before .before .before .before .before .before .before .before .before .args .line .now) (c .before .before .before .before .before .before .test-read .result) (c .before .before .before .before .before .before .test-read .ensures) (c .before .before .before .before .enum-told .given .1) _ _ (c .before .before .read-line .ensures)))
+    (λ c.
+    let at-read-line = c .before .before in
+    let at-enum-told = at-read-line .before .before in
+    let at-test-read = at-enum-told .before .before in
+    let start = at-test-read .before .before .before .before in
+    let args = start .args in
+    law.answered (args .sorts .now) (args .sort-count) (args .entry-count) (args .line .now)
+    (at-test-read .test-read .result) (at-test-read .test-read .ensures) (at-enum-told .enum-told .given .1) _ _
+    (at-read-line .read-line .ensures)))

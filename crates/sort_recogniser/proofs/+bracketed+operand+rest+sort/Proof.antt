@@ -13,4 +13,5 @@ use Rattle.sort_recogniser.proofs.+bracketed+operand+rest+sort.Proof.Re
 use Rattle.sort_recogniser.proofs.+bracketed+operand+rest+sort.Proof.Sort as part-sort
 
 pub +bracketed+operand+rest+sort-spec : {M : Type 1} → statement M
-+bracketed+operand+rest+sort-spec {M} = close common.μ-bracketed common.μ-operand common.μ-rest common.μ-sort (part-bracketed.part M) (part-operand.part M) (part-rest.part M) (part-sort.part M)
++bracketed+operand+rest+sort-spec {M} = close common.μ-bracketed common.μ-operand common.μ-rest common.μ-sort
+    (part-bracketed.part M) (part-operand.part M) (part-rest.part M) (part-sort.part M)

@@ -18,8 +18,28 @@ closing-spec =
     (λ c κs. search needs)
     (λ c. search needs)
     (λ c κs. search needs)
-    (λ c. let g = way.later (c .before .before .before .before .before .before .args .line .now) (c .before .before .before .before .before .before .args .at) (c .before .before .before .before .before .before .pre .0) (c .before .before .before .before .before .before .args .out .now) (c .before .before .before .before .before .before .args .n) (c .before .before .before .before .before .before .pre .1) (c .before .before .before .token-from .result) (c .before .before .before .token-from .ensures) Close (c .before .enum-told .given .1) in let d = way.later-within (c .before .before .before .before .before .before .args .line .now) (c .before .before .before .before .before .before .args .at) (c .before .before .before .before .before .before .pre .0) (c .before .before .before .before .before .before .args .out .now) (c .before .before .before .before .before .before .args .n) (c .before .before .before .before .before .before .pre .1) (c .before .before .before .token-from .result) (c .before .before .before .token-from .ensures) in omega (arith, g, d, c .before .before .before .before .before .before .pre .1))
+    (λ c.
+    let at-token-from = c .before .before .before in
+    let start = at-token-from .before .before .before in
+    let args = start .args in
+    let g = way.later (args .line .now) (args .at) (start .pre .0) (args .out .now) (args .n) (start .pre .1)
+    (at-token-from .token-from .result) (at-token-from .token-from .ensures) Close
+    (c .before .enum-told .given .1) in let d = way.later-within (args .line .now) (args .at) (start .pre .0)
+    (args .out .now) (args .n) (start .pre .1) (at-token-from .token-from .result)
+    (at-token-from .token-from .ensures) in omega (arith, g, d, start .pre .1))
     (λ c. search needs)
     (λ c. search needs)
-    (λ c. way.closing-done (c .before .before .before .before .before .before .args .line .now) (c .before .before .before .before .before .before .args .at) (c .before .before .before .before .before .before .pre .0) (c .before .before .before .before .before .before .args .out .now) (c .before .before .before .before .before .before .args .n) (c .before .before .before .before .before .before .pre .1) (c .before .before .before .token-from .result) (c .before .before .before .token-from .ensures) (c .before .enum-told .given .1) _ _ (c .step-of-op .ensures))
-    (λ c. way.closing-stuck (c .before .before .before .before .args .line .now) (c .before .before .before .before .args .at) (c .before .before .before .before .pre .0) (c .before .before .before .before .args .out .now) (c .before .before .before .before .args .n) (c .before .before .before .before .pre .1) (c .before .token-from .result) (c .before .token-from .ensures) (no-other-token (0 ∷ 1 ∷ 2 ∷ 4 ∷ 5 ∷ 6 ∷ []) (c .before .token-from .result .token) Close (c .match .keys2) tt) _))
+    (λ c.
+    let at-token-from = c .before .before .before in
+    let start = at-token-from .before .before .before in
+    let args = start .args in
+    way.closing-done (args .line .now) (args .at) (start .pre .0) (args .out .now) (args .n) (start .pre .1)
+    (at-token-from .token-from .result) (at-token-from .token-from .ensures) (c .before .enum-told .given .1) _ _
+    (c .step-of-op .ensures))
+    (λ c.
+    let at-token-from = c .before in
+    let start = at-token-from .before .before .before in
+    let args = start .args in
+    way.closing-stuck (args .line .now) (args .at) (start .pre .0) (args .out .now) (args .n) (start .pre .1)
+    (at-token-from .token-from .result) (at-token-from .token-from .ensures) (no-other-token (0 ∷ 1 ∷ 2 ∷ 4 ∷ 5 ∷
+    6 ∷ []) (at-token-from .token-from .result .token) Close (c .match .keys2) tt) _))

@@ -21,8 +21,26 @@ recognise-spec =
     (λ c. search needs)
     (λ c. search needs)
     (λ c. search needs)
-    (λ c. way.line-done (c .before .before .before .before .before .before .before .before .before .before .before .before .args .line .now) _ (c .before .before .before .before .before .before .before .before .before .before .before .before .args .out .now) _ (c .before .before .before .before .before .before .before .before .sort .ensures) _ _ (c .before .before .before .before .p .given .1) (c .before .before .token-from .result) (c .before .before .token-from .ensures) (c .enum-told .given .1))
+    (λ c.
+    let at-token-from = c .before .before in
+    let at-p = at-token-from .before .before in
+    let at-sort = at-p .before .before .before .before in
+    let start = at-sort .before .before .before .before in
+    way.line-done (start .args .line .now) _ (start .args .out .now) _ (at-sort .sort .ensures) _ _
+    (at-p .p .given .1) (at-token-from .token-from .result) (at-token-from .token-from .ensures)
+    (c .enum-told .given .1))
     (λ c. search needs)
-    (λ c. way.line-stuck (c .before .before .before .before .before .before .before .before .before .before .before .args .line .now) _ (c .before .before .before .before .before .before .before .before .before .before .before .args .out .now) _ (c .before .before .before .before .before .before .before .sort .ensures) _ _ (c .before .before .before .p .given .1) (c .before .token-from .result) (c .before .token-from .ensures) (no-other-token (1 ∷ 2 ∷ 3 ∷ 4 ∷ 5 ∷ 6 ∷ []) (c .before .token-from .result .token) End (c .match2 .keys2) tt))
+    (λ c.
+    let at-token-from = c .before in
+    let at-p = at-token-from .before .before in
+    let at-sort = at-p .before .before .before .before in
+    let start = at-sort .before .before .before .before in
+    way.line-stuck (start .args .line .now) _ (start .args .out .now) _ (at-sort .sort .ensures) _ _
+    (at-p .p .given .1) (at-token-from .token-from .result) (at-token-from .token-from .ensures)
+    (no-other-token (1 ∷ 2 ∷ 3 ∷ 4 ∷ 5 ∷ 6 ∷ []) (at-token-from .token-from .result .token) End (c .match2 .keys2)
+    tt))
     (λ c. search needs)
-    (λ c. way.line-passes (c .before .before .before .before .before .before .before .before .before .args .line .now) _ (c .before .before .before .before .before .before .before .before .before .args .out .now) _ (c .before .before .before .before .before .sort .ensures) _ (c .before .p2 .given .1)))
+    (λ c.
+    let at-sort = c .before .before .before .before .before in
+    let start = at-sort .before .before .before .before in
+    way.line-passes (start .args .line .now) _ (start .args .out .now) _ (at-sort .sort .ensures) _ (c .before .p2 .given .1)))

@@ -21,14 +21,36 @@ arguments-size-spec =
     (tie.spec
     Inv-loop
     μ-loop
-    (λ c. law.no-arguments (c .before .before .before .args .sizes .now) (c .before .before .before .args .sorts .now) (c .before .before .before .args .start) (c .before .before .before .args .count) (c .if1 .taken))
+    (λ c.
+    let start = c .before .before .before in
+    let args = start .args in
+    law.no-arguments (args .sizes .now) (args .sorts .now) (args .start) (args .count) (c .if1 .taken))
     (λ c. omega arith)
     (λ c κs. search needs)
-    (λ c. (omega arith, law.last-argument (c .before .before .before .before .args .sizes .now) (c .before .before .before .before .args .sorts .now) (c .before .before .before .before .args .start) (c .before .before .before .before .args .count) (c .before .before .before .before .args .count - 1) _ (omega arith) (c .argument-size .ensures)))
+    (λ c.
+    let start = c .before .before .before .before in
+    let args = start .args in (
+      omega arith,
+      law.last-argument (args .sizes .now) (args .sorts .now) (args .start) (args .count)
+          (args .count - 1) _ (omega arith) (c .argument-size .ensures),
+    ))
     (λ c. omega arith)
     (λ c κs. search needs)
     (λ c κs. search needs)
     (λ c κs. search needs)
     (λ c. omega arith)
-    (λ c. (omega arith, law.one-argument-more (c .before .before .before .before .before .before .before .before .before .args .sizes .now) (c .before .before .before .before .before .before .before .before .before .args .sorts .now) (c .before .before .before .before .before .before .before .before .before .args .start) (c .before .before .before .before .before .before .before .before .before .args .count) (c .before .before .before .before .loop .j) (c .before .before .before .before .loop .j - 1) _ _ _ _ (omega arith) (c .before .before .before .before .loop .inv .0) (c .before .before .before .before .loop .inv .1) (c .before .before .argument-size2 .ensures) (c .before .join-sizes .ensures) (c .join-sizes2 .ensures)))
-    (λ c. law.all-arguments (c .before .before .before .before .before .before .args .sizes .now) (c .before .before .before .before .before .before .args .sorts .now) (c .before .before .before .before .before .before .args .start) (c .before .before .before .before .before .before .args .count) (c .before .loop .j) _ (omega arith) (c .before .loop .inv .1)))
+    (λ c.
+    let at-argument-size2 = c .before .before in
+    let at-loop = at-argument-size2 .before .before in
+    let start = at-loop .before .before .before .before .before in
+    let args = start .args in (
+      omega arith,
+      law.one-argument-more (args .sizes .now) (args .sorts .now) (args .start) (args .count)
+          (at-loop .loop .j) (at-loop .loop .j - 1) _ _ _ _ (omega arith) (at-loop .loop .inv .0)
+          (at-loop .loop .inv .1) (at-argument-size2 .argument-size2 .ensures) (c .before .join-sizes .ensures)
+          (c .join-sizes2 .ensures),
+    ))
+    (λ c.
+    let start = c .before .before .before .before .before .before in
+    let args = start .args in
+    law.all-arguments (args .sizes .now) (args .sorts .now) (args .start) (args .count) (c .before .loop .j) _ (omega arith) (c .before .loop .inv .1)))

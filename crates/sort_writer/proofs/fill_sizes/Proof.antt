@@ -29,6 +29,17 @@ fill-sizes-spec =
     (λ c. omega arith)
     (λ c. omega arith)
     (λ c. omega arith)
-    (λ c. (omega arith, simp length-set (c .before .before .before .before .loop .inv .1), law.one-sort-more (c .before .before .before .before .before .before .before .args .sorts .now) (c .before .before .before .before .before .before .before .args .sizes .now) (c .before .before .before .before .loop .sizes) (c .before .before .before .before .loop .i) _ _ (c .before .before .before .before .loop .inv .2) (c .before .before .get .ensures) (c .row-size .ensures)))
+    (λ c.
+    let at-get = c .before .before in
+    let at-loop = at-get .before .before in
+    let start = at-loop .before .before .before in (
+      omega arith,
+      simp length-set (at-loop .loop .inv .1),
+      law.one-sort-more (start .args .sorts .now)
+          (start .args .sizes .now) (at-loop .loop .sizes) (at-loop .loop .i) _ _ (at-loop .loop .inv .2)
+          (at-get .get .ensures) (c .row-size .ensures),
+    ))
     (λ c. omega arith)
-    (λ c. law.all-sorts (c .before .before .before .before .args .sorts .now) (c .before .before .before .before .args .sizes .now) (c .before .loop .sizes) _ _ (c .before .loop .inv .2) (omega arith)))
+    (λ c.
+    let start = c .before .before .before .before in
+    law.all-sorts (start .args .sorts .now) (start .args .sizes .now) (c .before .loop .sizes) _ _ (c .before .loop .inv .2) (omega arith)))

@@ -11,7 +11,18 @@ join-sizes-spec =
     (tie.spec
     (λ c. law.joined-none (c .before .args .a) (c .before .args .b) (c .if1 .taken))
     (λ c. law.joined-with-none (c .before .before .args .a) (c .before .before .args .b) (c .before .if1 .left) (c .if2 .taken))
-    (λ c. law.joined-far (c .before .before .before .args .a) (c .before .before .before .args .b) (c .before .before .if1 .left) (c .before .if2 .left) (omega arith))
-    (λ c. law.joined-far (c .before .before .before .before .args .a) (c .before .before .before .before .args .b) (c .before .before .before .if1 .left) (c .before .before .if2 .left) (omega arith))
+    (λ c.
+    let at-if1 = c .before .before in
+    let start = at-if1 .before in
+    law.joined-far (start .args .a) (start .args .b) (at-if1 .if1 .left) (c .before .if2 .left) (omega arith))
+    (λ c.
+    let at-if2 = c .before .before in
+    let at-if1 = at-if2 .before in
+    let start = at-if1 .before in
+    law.joined-far (start .args .a) (start .args .b) (at-if1 .if1 .left) (at-if2 .if2 .left) (omega arith))
     (λ c. search needs)
-    (λ c. law.joined-whole (c .before .before .before .before .args .a) (c .before .before .before .before .args .b) (c .before .before .before .if1 .left) (c .before .before .if2 .left) (omega arith)))
+    (λ c.
+    let at-if2 = c .before .before in
+    let at-if1 = at-if2 .before in
+    let start = at-if1 .before in
+    law.joined-whole (start .args .a) (start .args .b) (at-if1 .if1 .left) (at-if2 .if2 .left) (omega arith)))

@@ -24,9 +24,30 @@ row-size-spec =
     (λ c κs. search needs)
     (λ c. search needs)
     (λ c. search needs)
-    (λ c. ap (rowSize (c .before .before .before .before .args .sorts .now) (c .before .before .before .before .args .sizes .now)) (sym (c .enum-told .given .1)))
-    (λ c. c .word-size .ensures ∙ ap (rowSize (c .before .before .before .before .before .before .args .sorts .now) (c .before .before .before .before .before .before .args .sizes .now)) (sym (c .before .before .row .given .1)))
-    (λ c. c .join-sizes .ensures ∙ (ap₂ joined (c .before .before .op-size .ensures) (c .before .size-at .ensures) ∙ ap (rowSize (c .before .before .before .before .before .before .before .before .args .sorts .now) (c .before .before .before .before .before .before .before .before .args .sizes .now)) (sym (c .before .before .before .before .row2 .given .1))))
-    (λ c. c .join-sizes3 .ensures ∙ (ap₂ joined (c .before .before .before .arguments-size .ensures) (c .before .join-sizes2 .ensures ∙ ap (joined 4) (c .before .before .size-at2 .ensures)) ∙ ap (rowSize (c .before .before .before .before .before .before .before .before .before .args .sorts .now) (c .before .before .before .before .before .before .before .before .before .args .sizes .now)) (sym (c .before .before .before .before .before .row3 .given .1))))
-    (λ c. ap (rowSize (c .before .before .before .before .args .sorts .now) (c .before .before .before .before .args .sizes .now)) (sym (c .enum-told2 .given .1)))
-    (λ c. ap (rowSize (c .before .before .before .before .args .sorts .now) (c .before .before .before .before .args .sizes .now)) (sym (c .enum-told3 .given .1))))
+    (λ c.
+    let start = c .before .before .before .before in
+    ap (rowSize (start .args .sorts .now) (start .args .sizes .now)) (sym (c .enum-told .given .1)))
+    (λ c.
+    let at-row = c .before .before in
+    let start = at-row .before .before .before .before in
+    c .word-size .ensures ∙ ap (rowSize (start .args .sorts .now) (start .args .sizes .now)) (sym (at-row .row .given .1)))
+    (λ c.
+    let at-op-size = c .before .before in
+    let at-row2 = at-op-size .before .before in
+    let start = at-row2 .before .before .before .before in
+    c .join-sizes .ensures ∙ (ap₂ joined (at-op-size .op-size .ensures) (c .before .size-at .ensures) ∙ ap
+    (rowSize (start .args .sorts .now) (start .args .sizes .now)) (sym (at-row2 .row2 .given .1))))
+    (λ c.
+    let at-size-at2 = c .before .before in
+    let at-arguments-size = at-size-at2 .before in
+    let at-row3 = at-arguments-size .before .before in
+    let start = at-row3 .before .before .before .before in
+    c .join-sizes3 .ensures ∙ (ap₂ joined (at-arguments-size .arguments-size .ensures)
+    (c .before .join-sizes2 .ensures ∙ ap (joined 4) (at-size-at2 .size-at2 .ensures)) ∙ ap
+    (rowSize (start .args .sorts .now) (start .args .sizes .now)) (sym (at-row3 .row3 .given .1))))
+    (λ c.
+    let start = c .before .before .before .before in
+    ap (rowSize (start .args .sorts .now) (start .args .sizes .now)) (sym (c .enum-told2 .given .1)))
+    (λ c.
+    let start = c .before .before .before .before in
+    ap (rowSize (start .args .sorts .now) (start .args .sizes .now)) (sym (c .enum-told3 .given .1))))

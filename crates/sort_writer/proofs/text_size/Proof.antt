@@ -15,4 +15,7 @@ text-size-spec =
     (λ c κs. search needs)
     (λ c. search needs)
     (λ c κs. search needs)
-    (λ c. c .size-at .ensures ∙ ap (λ (l : List ℕ). getD l (c .before .before .before .before .before .before .args .id .0) 0) (c .before .before .before .fill-sizes .ensures)))
+    (λ c.
+    let at-fill-sizes = c .before .before .before in
+    let start = at-fill-sizes .before .before .before in
+    c .size-at .ensures ∙ ap (λ (l : List ℕ). getD l (start .args .id .0) 0) (at-fill-sizes .fill-sizes .ensures)))

@@ -12,10 +12,46 @@ write-spec =
     (λ c κs. search needs)
     (λ c. search needs)
     (λ c. search needs)
-    (λ c. omega (arith, law.has-room (c .before .before .before .before .before .before .args .sorts .now) (c .before .before .before .before .before .before .args .sort-count) (c .before .before .before .before .before .before .args .entry-count) (c .before .before .before .before .before .before .args .id .0) (c .before .before .before .before .before .before .args .out .now) (c .before .before .test-write .result) (c .before .before .test-write .ensures) (c .enum-told .given .1) .checked .sorts))
-    (λ c. omega (arith, law.has-room (c .before .before .before .before .before .before .args .sorts .now) (c .before .before .before .before .before .before .args .sort-count) (c .before .before .before .before .before .before .args .entry-count) (c .before .before .before .before .before .before .args .id .0) (c .before .before .before .before .before .before .args .out .now) (c .before .before .test-write .result) (c .before .before .test-write .ensures) (c .enum-told .given .1) .checked .entries))
-    (λ c κs. law.has-room (c .before .before .before .before .before .before .before .args .sorts .now) (c .before .before .before .before .before .before .before .args .sort-count) (c .before .before .before .before .before .before .before .args .entry-count) (c .before .before .before .before .before .before .before .args .id .0) (c .before .before .before .before .before .before .before .args .out .now) (c .before .before .before .test-write .result) (c .before .before .before .test-write .ensures) (c .before .enum-told .given .1))
+    (λ c.
+    let at-test-write = c .before .before in
+    let start = at-test-write .before .before .before .before in
+    let args = start .args in
+    omega (
+      arith,
+      law.has-room (args .sorts .now) (args .sort-count) (args .entry-count) (args .id .0)
+          (args .out .now) (at-test-write .test-write .result) (at-test-write .test-write .ensures)
+          (c .enum-told .given .1) .checked .sorts,
+    ))
+    (λ c.
+    let at-test-write = c .before .before in
+    let start = at-test-write .before .before .before .before in
+    let args = start .args in
+    omega (
+      arith,
+      law.has-room (args .sorts .now) (args .sort-count) (args .entry-count) (args .id .0)
+          (args .out .now) (at-test-write .test-write .result) (at-test-write .test-write .ensures)
+          (c .enum-told .given .1) .checked .entries,
+    ))
+    (λ c κs.
+    let at-test-write = c .before .before .before in
+    let start = at-test-write .before .before .before .before in
+    let args = start .args in
+    law.has-room (args .sorts .now) (args .sort-count) (args .entry-count) (args .id .0) (args .out .now)
+    (at-test-write .test-write .result) (at-test-write .test-write .ensures) (c .before .enum-told .given .1))
     (λ c. search needs)
-    (λ c. law.refused (c .before .before .before .before .before .before .before .args .sorts .now) (c .before .before .before .before .before .before .before .args .sort-count) (c .before .before .before .before .before .before .before .args .entry-count) (c .before .before .before .before .before .before .before .args .id .0) (c .before .before .before .before .before .before .before .args .out .now) (c .before .before .before .test-write .result) (c .before .before .before .test-write .ensures) _ (c .before .code .given .1))
+    (λ c.
+    let at-test-write = c .before .before .before in
+    let start = at-test-write .before .before .before .before in
+    let args = start .args in
+    law.refused (args .sorts .now) (args .sort-count) (args .entry-count) (args .id .0) (args .out .now)
+    (at-test-write .test-write .result) (at-test-write .test-write .ensures) _ (c .before .code .given .1))
     (λ c. search needs)
-    (λ c. law.answered (c .before .before .before .before .before .before .before .before .before .before .args .sorts .now) (c .before .before .before .before .before .before .before .before .before .before .args .sort-count) (c .before .before .before .before .before .before .before .before .before .before .args .entry-count) (c .before .before .before .before .before .before .before .before .before .before .args .id .0) (c .before .before .before .before .before .before .before .before .before .before .args .out .now) (c .before .before .before .before .before .before .test-write .result) (c .before .before .before .before .before .before .test-write .ensures) (c .before .before .before .before .enum-told .given .1) (c .before .before .put-sort .ensures)))
+    (λ c.
+    let at-put-sort = c .before .before in
+    let at-enum-told = at-put-sort .before .before in
+    let at-test-write = at-enum-told .before .before in
+    let start = at-test-write .before .before .before .before in
+    let args = start .args in
+    law.answered (args .sorts .now) (args .sort-count) (args .entry-count) (args .id .0) (args .out .now)
+    (at-test-write .test-write .result) (at-test-write .test-write .ensures) (at-enum-told .enum-told .given .1)
+    (at-put-sort .put-sort .ensures)))

@@ -26,7 +26,21 @@ put-bytes-spec =
     (λ c. omega arith)
     (λ c. omega arith)
     (λ c. omega arith)
-    (λ c. (omega arith, simp length-set (c .before .before .loop .inv .1), law.one-byte-more (c .before .before .before .args .bytes .now) (c .before .before .before .args .at) _ (c .before .before .loop .out) (c .before .before .loop .i) (c .before .before .loop .inv .2) (omega arith)))
+    (λ c.
+    let at-loop = c .before .before in
+    let start = at-loop .before in (
+      omega arith,
+      simp length-set (at-loop .loop .inv .1),
+      law.one-byte-more (start .args .bytes .now)
+          (start .args .at) _ (at-loop .loop .out) (at-loop .loop .i) (at-loop .loop .inv .2) (omega arith),
+    ))
     (λ c. omega arith)
     (λ c. omega arith)
-    (λ c. record { bytes = law.all-bytes (c .before .before .args .bytes .now) (c .before .before .args .at) _ (c .before .loop .out) (c .before .loop .i) (c .before .loop .inv .2) (omega arith); behind = omega arith }))
+    (λ c.
+    let at-loop = c .before in
+    let start = at-loop .before in
+    record {
+      bytes = law.all-bytes (start .args .bytes .now) (start .args .at) _ (at-loop .loop .out)
+          (at-loop .loop .i) (at-loop .loop .inv .2) (omega arith);
+      behind = omega arith;
+    }))

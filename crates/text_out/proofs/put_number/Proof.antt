@@ -31,7 +31,15 @@ same-length c = search needs
 
 returns : tie.Need-returns
 unfolding decimal
-returns c = law.put-then (c .before .before .before .before .before .before .before .before .before .before .before .before .before .before .before .before .before .before .put-digit .ensures) (law.put-then (c .before .before .before .before .before .before .before .before .before .before .before .before .before .before .put-digit2 .ensures) (law.put-then (c .before .before .before .before .before .before .before .before .before .before .put-digit3 .ensures) (law.put-then (c .before .before .before .before .before .before .put-digit4 .ensures) (c .before .before .put-byte .ensures))))
+returns c =
+    let at-put-byte = c .before .before in
+    let at-put-digit4 = at-put-byte .before .before .before .before in
+    let at-put-digit3 = at-put-digit4 .before .before .before .before in
+    let at-put-digit2 = at-put-digit3 .before .before .before .before in
+    let at-put-digit = at-put-digit2 .before .before .before .before in
+    law.put-then (at-put-digit .put-digit .ensures) (law.put-then (at-put-digit2 .put-digit2 .ensures)
+    (law.put-then (at-put-digit3 .put-digit3 .ensures) (law.put-then (at-put-digit4 .put-digit4 .ensures)
+    (at-put-byte .put-byte .ensures))))
 
 pub put-number-spec : {M : Type 1} → statement M
 put-number-spec =

@@ -31,13 +31,24 @@ loop-less : tie.Need-loop-less Inv-loop μ-loop
 loop-less c = omega arith
 
 loop-again : tie.Need-loop-again Inv-loop μ-loop
-loop-again c = (omega arith, search needs, law.one-byte-more (c .before .before .before .before .before .before .before .before .before .args .bytes .now) _ _ _ (c .before .before .before .before .before .before .loop .i) (c .before .before .before .before .before .before .loop .inv .2) (omega arith) (c .before .before .put-byte .ensures))
+loop-again c =
+    let at-put-byte = c .before .before in
+    let at-loop = at-put-byte .before .before .before .before in
+    let start = at-loop .before .before .before in (
+      omega arith,
+      search needs,
+      law.one-byte-more (start .args .bytes .now) _ _ _ (at-loop .loop .i)
+          (at-loop .loop .inv .2) (omega arith) (at-put-byte .put-byte .ensures),
+    )
 
 same-length : tie.Need-same-length Inv-loop μ-loop
 same-length c = omega arith
 
 returns : tie.Need-returns Inv-loop μ-loop
-returns c = record { is = law.all-bytes (c .before .before .before .before .args .bytes .now) _ _ _ (c .before .loop .i) (c .before .loop .inv .2) (omega arith) }
+returns c = record {
+  is = law.all-bytes (c .before .before .before .before .args .bytes .now) _ _ _
+      (c .before .loop .i) (c .before .loop .inv .2) (omega arith);
+}
 
 pub put-text-spec : {M : Type 1} → statement M
 put-text-spec =

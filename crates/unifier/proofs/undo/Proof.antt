@@ -19,14 +19,30 @@ undo-spec =
     (tie.spec
     Inv-loop
     μ-loop
-    (λ c. law.undo-begins (c .before .before .args .trail .now) (c .before .before .args .base) (c .before .before .args .count) _ (c .before .before .pre .0))
+    (λ c.
+    let start = c .before .before in
+    let args = start .args in
+    law.undo-begins (args .trail .now) (args .base) (args .count) _ (start .pre .0))
     (λ c. omega (arith, c .loop-test .taken))
     (λ c. search needs)
     (λ c. search needs)
-    (λ c. omega (arith, c .before .before .before .loop .inv .upper, c .before .before .before .before .before .before .pre .1, c .before .before .loop-test .taken))
+    (λ c.
+    let at-loop-test = c .before .before in
+    let at-loop = at-loop-test .before in
+    let start = at-loop .before .before .before in
+    omega (arith, at-loop .loop .inv .upper, start .pre .1, at-loop-test .loop-test .taken))
     (λ c. omega (arith, c .shared-slice-known2 .given (c .before .before .before .loop .n - 1)))
     (λ c κs. search needs)
     (λ c. omega (arith, c .before .before .before .before .before .loop-test .taken))
-    (λ c. law.undo-goes-on (c .before .before .before .before .before .before .before .before .before .args .trail .now) (c .before .before .before .before .before .before .before .before .before .args .base) (c .before .before .before .before .before .before .before .before .before .args .count) _ _ _ (c .before .before .before .before .before .before .loop .inv) (c .before .before .before .before .before .loop-test .taken) _ (c .before .before .put .ensures))
+    (λ c.
+    let at-put = c .before .before in
+    let at-loop-test = at-put .before .before .before in
+    let at-loop = at-loop-test .before in
+    let start = at-loop .before .before .before in
+    let args = start .args in
+    law.undo-goes-on (args .trail .now) (args .base) (args .count) _ _ _ (at-loop .loop .inv) (at-loop-test .loop-test .taken) _ (at-put .put .ensures))
     (λ c. c .before .loop .inv .long)
-    (λ c. law.undo-ends (c .before .before .before .before .args .trail .now) (c .before .before .before .before .args .base) (c .before .before .before .before .args .count) _ _ _ (c .before .loop .inv) (c .loop-test .left)))
+    (λ c.
+    let start = c .before .before .before .before in
+    let args = start .args in
+    law.undo-ends (args .trail .now) (args .base) (args .count) _ _ _ (c .before .loop .inv) (c .loop-test .left)))

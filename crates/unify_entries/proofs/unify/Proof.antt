@@ -13,13 +13,104 @@ unify-spec =
     (λ c κs. search needs)
     (λ c. search needs)
     (λ c. search needs)
-    (λ c. omega (arith, law.sort-counts (c .before .before .before .before .before .before .before .args .sorts .now) (c .before .before .before .before .before .before .before .args .sort-count) (c .before .before .before .before .before .before .before .args .entry-count) (c .before .before .before .before .before .before .before .args .nodes .now) (c .before .before .before .before .before .before .before .args .node-count) (c .before .before .before .before .before .before .before .args .node-entry-count) (c .before .before .before .before .before .before .before .args .binds .now) (c .before .before .before .before .before .before .before .args .var-count) (c .before .before .before .before .before .before .before .args .lhs .0) (c .before .before .before .before .before .before .before .args .rhs .0) (law.none-fails (c .before .before .before .before .before .before .before .args .sorts .now) (c .before .before .before .before .before .before .before .args .sort-count) (c .before .before .before .before .before .before .before .args .entry-count) (c .before .before .before .before .before .before .before .args .nodes .now) (c .before .before .before .before .before .before .before .args .node-count) (c .before .before .before .before .before .before .before .args .node-entry-count) (c .before .before .before .before .before .before .before .args .binds .now) (c .before .before .before .before .before .before .before .args .var-count) (c .before .before .before .before .before .before .before .args .lhs .0) (c .before .before .before .before .before .before .before .args .rhs .0) (c .before .before .test-unify .result) (c .before .before .test-unify .ensures) (c .enum-told .given .1)) .0))
-    (λ c. omega (arith, law.sort-counts (c .before .before .before .before .before .before .before .args .sorts .now) (c .before .before .before .before .before .before .before .args .sort-count) (c .before .before .before .before .before .before .before .args .entry-count) (c .before .before .before .before .before .before .before .args .nodes .now) (c .before .before .before .before .before .before .before .args .node-count) (c .before .before .before .before .before .before .before .args .node-entry-count) (c .before .before .before .before .before .before .before .args .binds .now) (c .before .before .before .before .before .before .before .args .var-count) (c .before .before .before .before .before .before .before .args .lhs .0) (c .before .before .before .before .before .before .before .args .rhs .0) (law.none-fails (c .before .before .before .before .before .before .before .args .sorts .now) (c .before .before .before .before .before .before .before .args .sort-count) (c .before .before .before .before .before .before .before .args .entry-count) (c .before .before .before .before .before .before .before .args .nodes .now) (c .before .before .before .before .before .before .before .args .node-count) (c .before .before .before .before .before .before .before .args .node-entry-count) (c .before .before .before .before .before .before .before .args .binds .now) (c .before .before .before .before .before .before .before .args .var-count) (c .before .before .before .before .before .before .before .args .lhs .0) (c .before .before .before .before .before .before .before .args .rhs .0) (c .before .before .test-unify .result) (c .before .before .test-unify .ensures) (c .enum-told .given .1)) .1))
-    (λ c. omega (arith, law.node-counts (c .before .before .before .before .before .before .before .args .sorts .now) (c .before .before .before .before .before .before .before .args .sort-count) (c .before .before .before .before .before .before .before .args .entry-count) (c .before .before .before .before .before .before .before .args .nodes .now) (c .before .before .before .before .before .before .before .args .node-count) (c .before .before .before .before .before .before .before .args .node-entry-count) (c .before .before .before .before .before .before .before .args .binds .now) (c .before .before .before .before .before .before .before .args .var-count) (c .before .before .before .before .before .before .before .args .lhs .0) (c .before .before .before .before .before .before .before .args .rhs .0) (law.none-fails (c .before .before .before .before .before .before .before .args .sorts .now) (c .before .before .before .before .before .before .before .args .sort-count) (c .before .before .before .before .before .before .before .args .entry-count) (c .before .before .before .before .before .before .before .args .nodes .now) (c .before .before .before .before .before .before .before .args .node-count) (c .before .before .before .before .before .before .before .args .node-entry-count) (c .before .before .before .before .before .before .before .args .binds .now) (c .before .before .before .before .before .before .before .args .var-count) (c .before .before .before .before .before .before .before .args .lhs .0) (c .before .before .before .before .before .before .before .args .rhs .0) (c .before .before .test-unify .result) (c .before .before .test-unify .ensures) (c .enum-told .given .1)) .0))
-    (λ c. omega (arith, law.node-counts (c .before .before .before .before .before .before .before .args .sorts .now) (c .before .before .before .before .before .before .before .args .sort-count) (c .before .before .before .before .before .before .before .args .entry-count) (c .before .before .before .before .before .before .before .args .nodes .now) (c .before .before .before .before .before .before .before .args .node-count) (c .before .before .before .before .before .before .before .args .node-entry-count) (c .before .before .before .before .before .before .before .args .binds .now) (c .before .before .before .before .before .before .before .args .var-count) (c .before .before .before .before .before .before .before .args .lhs .0) (c .before .before .before .before .before .before .before .args .rhs .0) (law.none-fails (c .before .before .before .before .before .before .before .args .sorts .now) (c .before .before .before .before .before .before .before .args .sort-count) (c .before .before .before .before .before .before .before .args .entry-count) (c .before .before .before .before .before .before .before .args .nodes .now) (c .before .before .before .before .before .before .before .args .node-count) (c .before .before .before .before .before .before .before .args .node-entry-count) (c .before .before .before .before .before .before .before .args .binds .now) (c .before .before .before .before .before .before .before .args .var-count) (c .before .before .before .before .before .before .before .args .lhs .0) (c .before .before .before .before .before .before .before .args .rhs .0) (c .before .before .test-unify .result) (c .before .before .test-unify .ensures) (c .enum-told .given .1)) .1))
-    (λ c. omega (arith, law.var-counts (c .before .before .before .before .before .before .before .args .sorts .now) (c .before .before .before .before .before .before .before .args .sort-count) (c .before .before .before .before .before .before .before .args .entry-count) (c .before .before .before .before .before .before .before .args .nodes .now) (c .before .before .before .before .before .before .before .args .node-count) (c .before .before .before .before .before .before .before .args .node-entry-count) (c .before .before .before .before .before .before .before .args .binds .now) (c .before .before .before .before .before .before .before .args .var-count) (c .before .before .before .before .before .before .before .args .lhs .0) (c .before .before .before .before .before .before .before .args .rhs .0) (law.none-fails (c .before .before .before .before .before .before .before .args .sorts .now) (c .before .before .before .before .before .before .before .args .sort-count) (c .before .before .before .before .before .before .before .args .entry-count) (c .before .before .before .before .before .before .before .args .nodes .now) (c .before .before .before .before .before .before .before .args .node-count) (c .before .before .before .before .before .before .before .args .node-entry-count) (c .before .before .before .before .before .before .before .args .binds .now) (c .before .before .before .before .before .before .before .args .var-count) (c .before .before .before .before .before .before .before .args .lhs .0) (c .before .before .before .before .before .before .before .args .rhs .0) (c .before .before .test-unify .result) (c .before .before .test-unify .ensures) (c .enum-told .given .1)) .0))
-    (λ c κs. (law.ready (c .before .before .before .before .before .before .before .before .args .sorts .now) (c .before .before .before .before .before .before .before .before .args .sort-count) (c .before .before .before .before .before .before .before .before .args .entry-count) (c .before .before .before .before .before .before .before .before .args .nodes .now) (c .before .before .before .before .before .before .before .before .args .node-count) (c .before .before .before .before .before .before .before .before .args .node-entry-count) (c .before .before .before .before .before .before .before .before .args .binds .now) (c .before .before .before .before .before .before .before .before .args .var-count) (c .before .before .before .before .before .before .before .before .args .lhs .0) (c .before .before .before .before .before .before .before .before .args .rhs .0) (law.none-fails (c .before .before .before .before .before .before .before .before .args .sorts .now) (c .before .before .before .before .before .before .before .before .args .sort-count) (c .before .before .before .before .before .before .before .before .args .entry-count) (c .before .before .before .before .before .before .before .before .args .nodes .now) (c .before .before .before .before .before .before .before .before .args .node-count) (c .before .before .before .before .before .before .before .before .args .node-entry-count) (c .before .before .before .before .before .before .before .before .args .binds .now) (c .before .before .before .before .before .before .before .before .args .var-count) (c .before .before .before .before .before .before .before .before .args .lhs .0) (c .before .before .before .before .before .before .before .before .args .rhs .0) (c .before .before .before .test-unify .result) (c .before .before .before .test-unify .ensures) (c .before .enum-told .given .1)), law.lhs-placed (c .before .before .before .before .before .before .before .before .args .sorts .now) (c .before .before .before .before .before .before .before .before .args .sort-count) (c .before .before .before .before .before .before .before .before .args .entry-count) (c .before .before .before .before .before .before .before .before .args .nodes .now) (c .before .before .before .before .before .before .before .before .args .node-count) (c .before .before .before .before .before .before .before .before .args .node-entry-count) (c .before .before .before .before .before .before .before .before .args .binds .now) (c .before .before .before .before .before .before .before .before .args .var-count) (c .before .before .before .before .before .before .before .before .args .lhs .0) (c .before .before .before .before .before .before .before .before .args .rhs .0) (law.none-fails (c .before .before .before .before .before .before .before .before .args .sorts .now) (c .before .before .before .before .before .before .before .before .args .sort-count) (c .before .before .before .before .before .before .before .before .args .entry-count) (c .before .before .before .before .before .before .before .before .args .nodes .now) (c .before .before .before .before .before .before .before .before .args .node-count) (c .before .before .before .before .before .before .before .before .args .node-entry-count) (c .before .before .before .before .before .before .before .before .args .binds .now) (c .before .before .before .before .before .before .before .before .args .var-count) (c .before .before .before .before .before .before .before .before .args .lhs .0) (c .before .before .before .before .before .before .before .before .args .rhs .0) (c .before .before .before .test-unify .result) (c .before .before .before .test-unify .ensures) (c .before .enum-told .given .1)), law.rhs-placed (c .before .before .before .before .before .before .before .before .args .sorts .now) (c .before .before .before .before .before .before .before .before .args .sort-count) (c .before .before .before .before .before .before .before .before .args .entry-count) (c .before .before .before .before .before .before .before .before .args .nodes .now) (c .before .before .before .before .before .before .before .before .args .node-count) (c .before .before .before .before .before .before .before .before .args .node-entry-count) (c .before .before .before .before .before .before .before .before .args .binds .now) (c .before .before .before .before .before .before .before .before .args .var-count) (c .before .before .before .before .before .before .before .before .args .lhs .0) (c .before .before .before .before .before .before .before .before .args .rhs .0) (law.none-fails (c .before .before .before .before .before .before .before .before .args .sorts .now) (c .before .before .before .before .before .before .before .before .args .sort-count) (c .before .before .before .before .before .before .before .before .args .entry-count) (c .before .before .before .before .before .before .before .before .args .nodes .now) (c .before .before .before .before .before .before .before .before .args .node-count) (c .before .before .before .before .before .before .before .before .args .node-entry-count) (c .before .before .before .before .before .before .before .before .args .binds .now) (c .before .before .before .before .before .before .before .before .args .var-count) (c .before .before .before .before .before .before .before .before .args .lhs .0) (c .before .before .before .before .before .before .before .before .args .rhs .0) (c .before .before .before .test-unify .result) (c .before .before .before .test-unify .ensures) (c .before .enum-told .given .1))))
+    (λ c.
+    let at-test-unify = c .before .before in
+    let start = at-test-unify .before .before .before .before .before in
+    let args = start .args in
+    omega (
+      arith,
+      law.sort-counts (args .sorts .now) (args .sort-count) (args .entry-count) (args .nodes .now)
+          (args .node-count) (args .node-entry-count) (args .binds .now) (args .var-count) (args .lhs .0) (args .rhs .0)
+          (law.none-fails (args .sorts .now) (args .sort-count) (args .entry-count) (args .nodes .now)
+          (args .node-count) (args .node-entry-count) (args .binds .now) (args .var-count) (args .lhs .0) (args .rhs .0)
+          (at-test-unify .test-unify .result) (at-test-unify .test-unify .ensures) (c .enum-told .given .1)) .0,
+    ))
+    (λ c.
+    let at-test-unify = c .before .before in
+    let start = at-test-unify .before .before .before .before .before in
+    let args = start .args in
+    omega (
+      arith,
+      law.sort-counts (args .sorts .now) (args .sort-count) (args .entry-count) (args .nodes .now)
+          (args .node-count) (args .node-entry-count) (args .binds .now) (args .var-count) (args .lhs .0) (args .rhs .0)
+          (law.none-fails (args .sorts .now) (args .sort-count) (args .entry-count) (args .nodes .now)
+          (args .node-count) (args .node-entry-count) (args .binds .now) (args .var-count) (args .lhs .0) (args .rhs .0)
+          (at-test-unify .test-unify .result) (at-test-unify .test-unify .ensures) (c .enum-told .given .1)) .1,
+    ))
+    (λ c.
+    let at-test-unify = c .before .before in
+    let start = at-test-unify .before .before .before .before .before in
+    let args = start .args in
+    omega (
+      arith,
+      law.node-counts (args .sorts .now) (args .sort-count) (args .entry-count) (args .nodes .now)
+          (args .node-count) (args .node-entry-count) (args .binds .now) (args .var-count) (args .lhs .0) (args .rhs .0)
+          (law.none-fails (args .sorts .now) (args .sort-count) (args .entry-count) (args .nodes .now)
+          (args .node-count) (args .node-entry-count) (args .binds .now) (args .var-count) (args .lhs .0) (args .rhs .0)
+          (at-test-unify .test-unify .result) (at-test-unify .test-unify .ensures) (c .enum-told .given .1)) .0,
+    ))
+    (λ c.
+    let at-test-unify = c .before .before in
+    let start = at-test-unify .before .before .before .before .before in
+    let args = start .args in
+    omega (
+      arith,
+      law.node-counts (args .sorts .now) (args .sort-count) (args .entry-count) (args .nodes .now)
+          (args .node-count) (args .node-entry-count) (args .binds .now) (args .var-count) (args .lhs .0) (args .rhs .0)
+          (law.none-fails (args .sorts .now) (args .sort-count) (args .entry-count) (args .nodes .now)
+          (args .node-count) (args .node-entry-count) (args .binds .now) (args .var-count) (args .lhs .0) (args .rhs .0)
+          (at-test-unify .test-unify .result) (at-test-unify .test-unify .ensures) (c .enum-told .given .1)) .1,
+    ))
+    (λ c.
+    let at-test-unify = c .before .before in
+    let start = at-test-unify .before .before .before .before .before in
+    let args = start .args in
+    omega (
+      arith,
+      law.var-counts (args .sorts .now) (args .sort-count) (args .entry-count) (args .nodes .now)
+          (args .node-count) (args .node-entry-count) (args .binds .now) (args .var-count) (args .lhs .0) (args .rhs .0)
+          (law.none-fails (args .sorts .now) (args .sort-count) (args .entry-count) (args .nodes .now)
+          (args .node-count) (args .node-entry-count) (args .binds .now) (args .var-count) (args .lhs .0) (args .rhs .0)
+          (at-test-unify .test-unify .result) (at-test-unify .test-unify .ensures) (c .enum-told .given .1)) .0,
+    ))
+    (λ c κs.
+    let at-enum-told = c .before in
+    let at-test-unify = at-enum-told .before .before in
+    let start = at-test-unify .before .before .before .before .before in
+    let args = start .args in (
+      law.ready (args .sorts .now) (args .sort-count) (args .entry-count) (args .nodes .now) (args .node-count)
+          (args .node-entry-count) (args .binds .now) (args .var-count) (args .lhs .0) (args .rhs .0)
+          (law.none-fails (args .sorts .now) (args .sort-count) (args .entry-count) (args .nodes .now)
+          (args .node-count) (args .node-entry-count) (args .binds .now) (args .var-count) (args .lhs .0) (args .rhs .0)
+          (at-test-unify .test-unify .result) (at-test-unify .test-unify .ensures) (at-enum-told .enum-told .given .1)),
+      law.lhs-placed (args .sorts .now) (args .sort-count) (args .entry-count) (args .nodes .now) (args .node-count)
+          (args .node-entry-count) (args .binds .now) (args .var-count) (args .lhs .0) (args .rhs .0)
+          (law.none-fails (args .sorts .now) (args .sort-count) (args .entry-count) (args .nodes .now)
+          (args .node-count) (args .node-entry-count) (args .binds .now) (args .var-count) (args .lhs .0) (args .rhs .0)
+          (at-test-unify .test-unify .result) (at-test-unify .test-unify .ensures) (at-enum-told .enum-told .given .1)),
+      law.rhs-placed (args .sorts .now) (args .sort-count) (args .entry-count) (args .nodes .now) (args .node-count)
+          (args .node-entry-count) (args .binds .now) (args .var-count) (args .lhs .0) (args .rhs .0)
+          (law.none-fails (args .sorts .now) (args .sort-count) (args .entry-count) (args .nodes .now)
+          (args .node-count) (args .node-entry-count) (args .binds .now) (args .var-count) (args .lhs .0) (args .rhs .0)
+          (at-test-unify .test-unify .result) (at-test-unify .test-unify .ensures)
+          (at-enum-told .enum-told .given .1)),
+    ))
     (λ c. search needs)
-    (λ c. law.refused (c .before .before .before .before .before .before .before .before .args .sorts .now) (c .before .before .before .before .before .before .before .before .args .sort-count) (c .before .before .before .before .before .before .before .before .args .entry-count) (c .before .before .before .before .before .before .before .before .args .nodes .now) (c .before .before .before .before .before .before .before .before .args .node-count) (c .before .before .before .before .before .before .before .before .args .node-entry-count) (c .before .before .before .before .before .before .before .before .args .binds .now) (c .before .before .before .before .before .before .before .before .args .var-count) (c .before .before .before .before .before .before .before .before .args .lhs .0) (c .before .before .before .before .before .before .before .before .args .rhs .0) (c .before .before .before .test-unify .result) (c .before .before .before .test-unify .ensures) _ (c .before .code .given .1))
+    (λ c.
+    let at-test-unify = c .before .before .before in
+    let start = at-test-unify .before .before .before .before .before in
+    let args = start .args in
+    law.refused (args .sorts .now) (args .sort-count) (args .entry-count) (args .nodes .now) (args .node-count)
+    (args .node-entry-count) (args .binds .now) (args .var-count) (args .lhs .0) (args .rhs .0)
+    (at-test-unify .test-unify .result) (at-test-unify .test-unify .ensures) _ (c .before .code .given .1))
     (λ c. search needs)
-    (λ c. law.answered (c .before .before .before .before .before .before .before .before .before .before .before .args .sorts .now) (c .before .before .before .before .before .before .before .before .before .before .before .args .sort-count) (c .before .before .before .before .before .before .before .before .before .before .before .args .entry-count) (c .before .before .before .before .before .before .before .before .before .before .before .args .nodes .now) (c .before .before .before .before .before .before .before .before .before .before .before .args .node-count) (c .before .before .before .before .before .before .before .before .before .before .before .args .node-entry-count) (c .before .before .before .before .before .before .before .before .before .before .before .args .binds .now) (c .before .before .before .before .before .before .before .before .before .before .before .args .var-count) (c .before .before .before .before .before .before .before .before .before .before .before .args .lhs .0) (c .before .before .before .before .before .before .before .before .before .before .before .args .rhs .0) (c .before .before .before .before .before .before .test-unify .result) (c .before .before .before .before .before .before .test-unify .ensures) (c .before .before .before .before .enum-told .given .1) _ _ (c .before .before .unify-alone .ensures)))
+    (λ c.
+    let at-unify-alone = c .before .before in
+    let at-enum-told = at-unify-alone .before .before in
+    let at-test-unify = at-enum-told .before .before in
+    let start = at-test-unify .before .before .before .before .before in
+    let args = start .args in
+    law.answered (args .sorts .now) (args .sort-count) (args .entry-count) (args .nodes .now) (args .node-count)
+    (args .node-entry-count) (args .binds .now) (args .var-count) (args .lhs .0) (args .rhs .0)
+    (at-test-unify .test-unify .result) (at-test-unify .test-unify .ensures) (at-enum-told .enum-told .given .1) _
+    _ (at-unify-alone .unify-alone .ensures)))

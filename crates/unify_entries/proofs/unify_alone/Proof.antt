@@ -11,12 +11,35 @@ unify-alone-spec =
     tie.close
     (tie.spec
     (λ c. search needs)
-    (λ c κs. (law.trying (c .before .before .before .before .before .args .sorts .now) (c .before .before .before .before .before .args .nodes .now) (c .before .before .before .before .before .args .binds .now) (c .before .before .before .before .before .args .lengths) (c .before .before .before .before .before .pre .0) _ refl, c .before .before .before .before .before .pre .1, c .before .before .before .before .before .pre .2))
+    (λ c κs.
+    let start = c .before .before .before .before .before in
+    let args = start .args in
+    (law.trying (args .sorts .now) (args .nodes .now) (args .binds .now) (args .lengths) (start .pre .0) _ refl, start .pre .1, start .pre .2))
     (λ c. search needs)
     (λ c. search needs)
     (λ c. search needs)
-    (λ c κs. law.trail-long (c .before .before .before .before .before .before .before .before .before .before .before .before .before .before .args .sorts .now) (c .before .before .before .before .before .before .before .before .before .before .before .before .before .before .args .nodes .now) (c .before .before .before .before .before .before .before .before .before .before .before .before .before .before .args .binds .now) (c .before .before .before .before .before .before .before .before .before .before .before .before .before .before .args .lengths) (c .before .before .before .before .before .before .before .before .before .before .before .before .before .before .pre .0) _ _ _ _ (c .before .before .before .before .before .before .before .before .unify .result) (c .before .before .before .before .before .before .before .before .unify .ensures) _ (c .before .before .before .count .given .1) (c .before .before .before .before .before .before .before .before .unify .kept .1 .1 .1 .0))
+    (λ c κs.
+    let at-count = c .before .before .before in
+    let at-unify = at-count .before .before .before .before .before in
+    let start = at-unify .before .before .before .before .before .before in
+    let args = start .args in
+    law.trail-long (args .sorts .now) (args .nodes .now) (args .binds .now) (args .lengths) (start .pre .0) _ _ _ _
+    (at-unify .unify .result) (at-unify .unify .ensures) _ (at-count .count .given .1)
+    (at-unify .unify .kept .1 .1 .1 .0))
     (λ c. search needs)
-    (λ c. law.yes-leaves (c .before .before .before .before .before .before .before .before .before .before .before .args .sorts .now) (c .before .before .before .before .before .before .before .before .before .before .before .args .nodes .now) (c .before .before .before .before .before .before .before .before .before .before .before .args .binds .now) (c .before .before .before .before .before .before .before .before .before .before .before .args .lengths) (c .before .before .before .before .before .before .before .before .before .before .before .pre .0) _ _ _ _ (c .before .before .before .before .before .unify .result) (c .before .before .before .before .before .unify .ensures) _ (c .enum-told .given .1))
+    (λ c.
+    let at-unify = c .before .before .before .before .before in
+    let start = at-unify .before .before .before .before .before .before in
+    let args = start .args in
+    law.yes-leaves (args .sorts .now) (args .nodes .now) (args .binds .now) (args .lengths) (start .pre .0) _ _ _ _
+    (at-unify .unify .result) (at-unify .unify .ensures) _ (c .enum-told .given .1))
     (λ c. search needs)
-    (λ c. law.no-leaves (c .before .before .before .before .before .before .before .before .before .before .before .before .before .before .before .before .before .args .sorts .now) (c .before .before .before .before .before .before .before .before .before .before .before .before .before .before .before .before .before .args .nodes .now) (c .before .before .before .before .before .before .before .before .before .before .before .before .before .before .before .before .before .args .binds .now) (c .before .before .before .before .before .before .before .before .before .before .before .before .before .before .before .before .before .args .lengths) (c .before .before .before .before .before .before .before .before .before .before .before .before .before .before .before .before .before .pre .0) _ _ _ _ (c .before .before .before .before .before .before .before .before .before .before .before .unify .result) (c .before .before .before .before .before .before .before .before .before .before .before .unify .ensures) _ (c .before .before .before .before .before .before .count .given .1) _ (c .before .before .undo .ensures)))
+    (λ c.
+    let at-undo = c .before .before in
+    let at-count = at-undo .before .before .before .before in
+    let at-unify = at-count .before .before .before .before .before in
+    let start = at-unify .before .before .before .before .before .before in
+    let args = start .args in
+    law.no-leaves (args .sorts .now) (args .nodes .now) (args .binds .now) (args .lengths) (start .pre .0) _ _ _ _
+    (at-unify .unify .result) (at-unify .unify .ensures) _ (at-count .count .given .1) _
+    (at-undo .undo .ensures)))

@@ -30,7 +30,13 @@ loop-less : tie.Need-loop-less Inv-loop μ-loop
 loop-less c = omega arith
 
 loop-again : tie.Need-loop-again Inv-loop μ-loop
-loop-again c = (omega arith, simp length-set (c .before .loop .inv .1), zeros-more (c .before .loop .i) _ (c .before .loop .s) _ (c .before .loop .inv .2) (c .loop-test .taken) (omega arith))
+loop-again c =
+    let at-loop = c .before in (
+      omega arith,
+      simp length-set (at-loop .loop .inv .1),
+      zeros-more (at-loop .loop .i) _ (at-loop .loop .s) _
+          (at-loop .loop .inv .2) (c .loop-test .taken) (omega arith),
+    )
 
 same-length : tie.Need-same-length Inv-loop μ-loop
 same-length c = omega arith

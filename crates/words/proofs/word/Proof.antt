@@ -7,4 +7,5 @@ use Rattle.words.proofs.word.Tie as tie
 
 pub word-spec : {M : Type 1} → statement M
 word-spec =
-    tie.close (tie.spec (λ c. search needs) (λ c. search needs) (λ c. search needs) (λ c. sym (List·getD-eq-default (c .before .args .s .now) 0 (c .if1 .left))))
+    tie.close (tie.spec (λ c. search needs) (λ c. search needs) (λ c. search needs)
+    (λ c. sym (List·getD-eq-default (c .before .args .s .now) 0 (c .if1 .left))))

@@ -21,10 +21,12 @@ use Rattle.unification.proofs.Rank.{highest, rank}
 use Rattle.infer_nodes.proofs.Ways as law
 
 abbrev pub μ-occurs : Measures 3 occurs-kinds.ps ℕ
-μ-occurs κs a = (rank (graphOf (a .0 .now) (a .1 .0 .now) (a .1 .1 .1 .0)) deep (bindsOf (a .1 .1 .0 .now) (a .1 .1 .1 .0 .variables)) (a .1 .1 .1 .1 .1 .0 .0)) * 2 + 1
+μ-occurs κs a = (rank (graphOf (a .0 .now) (a .1 .0 .now) (a .1 .1 .1 .0)) deep (bindsOf (a .1 .1 .0 .now)
+    (a .1 .1 .1 .0 .variables)) (a .1 .1 .1 .1 .1 .0 .0)) * 2 + 1
 
 abbrev pub μ-occurs-any : Measures 3 occurs-any-kinds.ps ℕ
-μ-occurs-any κs a = highest (rank (graphOf (a .0 .now) (a .1 .0 .now) (a .1 .1 .1 .0)) deep (bindsOf (a .1 .1 .0 .now) (a .1 .1 .1 .0 .variables))) (nodeEntriesOf (a .1 .0 .now) (a .1 .1 .1 .1 .1 .0) (a .1 .1 .1 .1 .1 .1 .0)) * 2
+μ-occurs-any κs a = highest (rank (graphOf (a .0 .now) (a .1 .0 .now) (a .1 .1 .1 .0)) deep (bindsOf (a .1 .1 .0 .now)
+    (a .1 .1 .1 .0 .variables))) (nodeEntriesOf (a .1 .0 .now) (a .1 .1 .1 .1 .1 .0) (a .1 .1 .1 .1 .1 .1 .0)) * 2
 
 abbrev pub occurs-at : ℕ → In 3 occurs-kinds.ps
 occurs-at t = and 3 occurs-kinds.ps (is 3 occurs-kinds.ps μ-occurs t) occurs.Pre

@@ -20,19 +20,151 @@ use Rattle.unification.proofs.Rank.{highest, rank}
 use Rattle.infer_nodes.proofs.Ways as law
 use Rattle.infer_nodes.proofs.+occurs+occurs_any.Proof.Common.{occurs-at, occurs-below, occurs-any-at, occurs-any-below}
 
-pub part : (M : Type 1) (t : ℕ) → occurs-lts.Closed (shallow-normalize-reads.Asked, shallow-normalize-reads.Learnt, node-reads.Asked, node-reads.Learnt, occurs-below t, occurs.Post, occurs-any-below t, occurs-any.Post) (occurs-at t) occurs.Post M
+pub part : (M : Type 1) (t : ℕ) → occurs-lts.Closed (
+  shallow-normalize-reads.Asked,
+  shallow-normalize-reads.Learnt,
+  node-reads.Asked,
+  node-reads.Learnt,
+  occurs-below t,
+  occurs.Post,
+  occurs-any-below t,
+  occurs-any.Post,
+)
+    (occurs-at t) occurs.Post M
 part M t =
-    occurs-lts.spec (shallow-normalize-reads.Asked, shallow-normalize-reads.Learnt, node-reads.Asked, node-reads.Learnt, occurs-below t, occurs.Post, occurs-any-below t, occurs-any.Post) (occurs-at t) occurs.Post
-    (λ c κs. (c .before .before .before .pre .1 .0, c .before .before .before .pre .1 .1))
-    (λ c. law.occurs-in-sort (c .before .before .before .before .before .before .args .sorts .now) (c .before .before .before .before .before .before .args .nodes .now) (c .before .before .before .before .before .before .args .binds .now) (c .before .before .before .before .before .before .args .lengths) (c .before .before .before .before .before .before .pre .1 .0) (c .before .before .before .before .before .before .args .var .0) (c .before .before .before .before .before .before .args .id .0) _ (c .before .before .before .before .before .before .pre .1 .1) (c .before .before .shallow-normalize .ensures) (c .if1 .taken))
+    occurs-lts.spec (
+      shallow-normalize-reads.Asked,
+      shallow-normalize-reads.Learnt,
+      node-reads.Asked,
+      node-reads.Learnt,
+      occurs-below t,
+      occurs.Post,
+      occurs-any-below t,
+      occurs-any.Post,
+    ) (occurs-at t) occurs.Post
+    (λ c κs.
+    let start = c .before .before .before in
+    (start .pre .1 .0, start .pre .1 .1))
+    (λ c.
+    let at-shallow-normalize = c .before .before in
+    let start = at-shallow-normalize .before .before .before .before in
+    let args = start .args in
+    law.occurs-in-sort (args .sorts .now) (args .nodes .now) (args .binds .now) (args .lengths) (start .pre .1 .0)
+    (args .var .0) (args .id .0) _ (start .pre .1 .1) (at-shallow-normalize .shallow-normalize .ensures)
+    (c .if1 .taken))
     (λ c κs. search needs)
     (λ c. search needs)
-    (λ c κs. (omega (arith, c .before .before .before .before .before .before .before .before .before .before .before .pre .0, law.subsort-lower (c .before .before .before .before .before .before .before .before .before .before .before .args .sorts .now) (c .before .before .before .before .before .before .before .before .before .before .before .args .nodes .now) (c .before .before .before .before .before .before .before .before .before .before .before .args .binds .now) (c .before .before .before .before .before .before .before .before .before .before .before .args .lengths) (c .before .before .before .before .before .before .before .before .before .before .before .pre .1 .0) (c .before .before .before .before .before .before .before .before .before .before .before .args .var .0) (c .before .before .before .before .before .before .before .before .before .before .before .args .id .0) _ (c .before .before .before .before .before .before .before .before .before .before .before .pre .1 .1) (c .before .before .before .before .before .before .before .shallow-normalize .ensures) (c .before .before .before .before .before .if1 .left) _ (c .before .before .before .node .ensures) _ _ (c .before .subsort .given .1)), (c .before .before .before .before .before .before .before .before .before .before .before .pre .1 .0, law.subsort-placed (c .before .before .before .before .before .before .before .before .before .before .before .args .sorts .now) (c .before .before .before .before .before .before .before .before .before .before .before .args .nodes .now) (c .before .before .before .before .before .before .before .before .before .before .before .args .binds .now) (c .before .before .before .before .before .before .before .before .before .before .before .args .lengths) (c .before .before .before .before .before .before .before .before .before .before .before .pre .1 .0) (c .before .before .before .before .before .before .before .before .before .before .before .args .var .0) (c .before .before .before .before .before .before .before .before .before .before .before .args .id .0) _ (c .before .before .before .before .before .before .before .before .before .before .before .pre .1 .1) (c .before .before .before .before .before .before .before .shallow-normalize .ensures) (c .before .before .before .before .before .if1 .left) _ (c .before .before .before .node .ensures) _ _ (c .before .subsort .given .1))))
+    (λ c κs.
+    let at-node = c .before .before .before in
+    let at-if1 = at-node .before .before in
+    let at-shallow-normalize = at-if1 .before .before in
+    let start = at-shallow-normalize .before .before .before .before in
+    let args = start .args in (
+      omega (
+        arith,
+        start .pre .0,
+        law.subsort-lower (args .sorts .now) (args .nodes .now) (args .binds .now)
+            (args .lengths) (start .pre .1 .0) (args .var .0) (args .id .0) _ (start .pre .1 .1)
+            (at-shallow-normalize .shallow-normalize .ensures) (at-if1 .if1 .left) _ (at-node .node .ensures) _ _
+            (c .before .subsort .given .1),
+      ),
+      (
+        start .pre .1 .0,
+        law.subsort-placed (args .sorts .now) (args .nodes .now)
+            (args .binds .now) (args .lengths) (start .pre .1 .0) (args .var .0) (args .id .0) _ (start .pre .1 .1)
+            (at-shallow-normalize .shallow-normalize .ensures) (at-if1 .if1 .left) _ (at-node .node .ensures) _ _
+            (c .before .subsort .given .1),
+      ),
+    ))
     (λ c. search needs)
-    (λ c κs. (omega (arith, c .before .before .before .before .before .before .before .before .before .before .before .pre .0, law.run-lower (c .before .before .before .before .before .before .before .before .before .before .before .args .sorts .now) (c .before .before .before .before .before .before .before .before .before .before .before .args .nodes .now) (c .before .before .before .before .before .before .before .before .before .before .before .args .binds .now) (c .before .before .before .before .before .before .before .before .before .before .before .args .lengths) (c .before .before .before .before .before .before .before .before .before .before .before .pre .1 .0) (c .before .before .before .before .before .before .before .before .before .before .before .args .var .0) (c .before .before .before .before .before .before .before .before .before .before .before .args .id .0) _ (c .before .before .before .before .before .before .before .before .before .before .before .pre .1 .1) (c .before .before .before .before .before .before .before .shallow-normalize .ensures) (c .before .before .before .before .before .if1 .left) _ (c .before .before .before .node .ensures) _ _ (c .before .domain .given .1)), (c .before .before .before .before .before .before .before .before .before .before .before .pre .1 .0, law.run-placed (c .before .before .before .before .before .before .before .before .before .before .before .args .sorts .now) (c .before .before .before .before .before .before .before .before .before .before .before .args .nodes .now) (c .before .before .before .before .before .before .before .before .before .before .before .args .binds .now) (c .before .before .before .before .before .before .before .before .before .before .before .args .lengths) (c .before .before .before .before .before .before .before .before .before .before .before .pre .1 .0) (c .before .before .before .before .before .before .before .before .before .before .before .args .var .0) (c .before .before .before .before .before .before .before .before .before .before .before .args .id .0) _ (c .before .before .before .before .before .before .before .before .before .before .before .pre .1 .1) (c .before .before .before .before .before .before .before .shallow-normalize .ensures) (c .before .before .before .before .before .if1 .left) _ (c .before .before .before .node .ensures) _ _ (c .before .domain .given .1))))
-    (λ c. law.occurs-in-domain (c .before .before .before .before .before .before .before .before .before .before .before .before .before .args .sorts .now) (c .before .before .before .before .before .before .before .before .before .before .before .before .before .args .nodes .now) (c .before .before .before .before .before .before .before .before .before .before .before .before .before .args .binds .now) (c .before .before .before .before .before .before .before .before .before .before .before .before .before .args .lengths) (c .before .before .before .before .before .before .before .before .before .before .before .before .before .pre .1 .0) (c .before .before .before .before .before .before .before .before .before .before .before .before .before .args .var .0) (c .before .before .before .before .before .before .before .before .before .before .before .before .before .args .id .0) _ (c .before .before .before .before .before .before .before .before .before .before .before .before .before .pre .1 .1) (c .before .before .before .before .before .before .before .before .before .shallow-normalize .ensures) (c .before .before .before .before .before .before .before .if1 .left) _ (c .before .before .before .before .before .node .ensures) _ _ (c .before .before .before .domain .given .1) (c .before .occurs-any .result) (c .before .occurs-any .ensures) (c .if2 .taken))
-    (λ c κs. (omega (arith, c .before .before .before .before .before .before .before .before .before .before .before .before .before .pre .0, law.range-lower (c .before .before .before .before .before .before .before .before .before .before .before .before .before .args .sorts .now) (c .before .before .before .before .before .before .before .before .before .before .before .before .before .args .nodes .now) (c .before .before .before .before .before .before .before .before .before .before .before .before .before .args .binds .now) (c .before .before .before .before .before .before .before .before .before .before .before .before .before .args .lengths) (c .before .before .before .before .before .before .before .before .before .before .before .before .before .pre .1 .0) (c .before .before .before .before .before .before .before .before .before .before .before .before .before .args .var .0) (c .before .before .before .before .before .before .before .before .before .before .before .before .before .args .id .0) _ (c .before .before .before .before .before .before .before .before .before .before .before .before .before .pre .1 .1) (c .before .before .before .before .before .before .before .before .before .shallow-normalize .ensures) (c .before .before .before .before .before .before .before .if1 .left) _ (c .before .before .before .before .before .node .ensures) _ _ (c .before .before .before .domain .given .1)), (c .before .before .before .before .before .before .before .before .before .before .before .before .before .pre .1 .0, law.range-placed (c .before .before .before .before .before .before .before .before .before .before .before .before .before .args .sorts .now) (c .before .before .before .before .before .before .before .before .before .before .before .before .before .args .nodes .now) (c .before .before .before .before .before .before .before .before .before .before .before .before .before .args .binds .now) (c .before .before .before .before .before .before .before .before .before .before .before .before .before .args .lengths) (c .before .before .before .before .before .before .before .before .before .before .before .before .before .pre .1 .0) (c .before .before .before .before .before .before .before .before .before .before .before .before .before .args .var .0) (c .before .before .before .before .before .before .before .before .before .before .before .before .before .args .id .0) _ (c .before .before .before .before .before .before .before .before .before .before .before .before .before .pre .1 .1) (c .before .before .before .before .before .before .before .before .before .shallow-normalize .ensures) (c .before .before .before .before .before .before .before .if1 .left) _ (c .before .before .before .before .before .node .ensures) _ _ (c .before .before .before .domain .given .1))))
+    (λ c κs.
+    let at-node = c .before .before .before in
+    let at-if1 = at-node .before .before in
+    let at-shallow-normalize = at-if1 .before .before in
+    let start = at-shallow-normalize .before .before .before .before in
+    let args = start .args in (
+      omega (
+        arith,
+        start .pre .0,
+        law.run-lower (args .sorts .now) (args .nodes .now) (args .binds .now)
+            (args .lengths) (start .pre .1 .0) (args .var .0) (args .id .0) _ (start .pre .1 .1)
+            (at-shallow-normalize .shallow-normalize .ensures) (at-if1 .if1 .left) _ (at-node .node .ensures) _ _
+            (c .before .domain .given .1),
+      ),
+      (
+        start .pre .1 .0,
+        law.run-placed (args .sorts .now) (args .nodes .now)
+            (args .binds .now) (args .lengths) (start .pre .1 .0) (args .var .0) (args .id .0) _ (start .pre .1 .1)
+            (at-shallow-normalize .shallow-normalize .ensures) (at-if1 .if1 .left) _ (at-node .node .ensures) _ _
+            (c .before .domain .given .1),
+      ),
+    ))
+    (λ c.
+    let at-domain = c .before .before .before in
+    let at-node = at-domain .before .before in
+    let at-if1 = at-node .before .before in
+    let at-shallow-normalize = at-if1 .before .before in
+    let start = at-shallow-normalize .before .before .before .before in
+    let args = start .args in
+    law.occurs-in-domain (args .sorts .now) (args .nodes .now) (args .binds .now) (args .lengths) (start .pre .1 .0)
+    (args .var .0) (args .id .0) _ (start .pre .1 .1) (at-shallow-normalize .shallow-normalize .ensures)
+    (at-if1 .if1 .left) _ (at-node .node .ensures) _ _ (at-domain .domain .given .1)
+    (c .before .occurs-any .result) (c .before .occurs-any .ensures) (c .if2 .taken))
+    (λ c κs.
+    let at-domain = c .before .before .before in
+    let at-node = at-domain .before .before in
+    let at-if1 = at-node .before .before in
+    let at-shallow-normalize = at-if1 .before .before in
+    let start = at-shallow-normalize .before .before .before .before in
+    let args = start .args in (
+      omega (
+        arith,
+        start .pre .0,
+        law.range-lower (args .sorts .now) (args .nodes .now) (args .binds .now)
+            (args .lengths) (start .pre .1 .0) (args .var .0) (args .id .0) _ (start .pre .1 .1)
+            (at-shallow-normalize .shallow-normalize .ensures) (at-if1 .if1 .left) _ (at-node .node .ensures) _ _
+            (at-domain .domain .given .1),
+      ),
+      (
+        start .pre .1 .0,
+        law.range-placed (args .sorts .now) (args .nodes .now)
+            (args .binds .now) (args .lengths) (start .pre .1 .0) (args .var .0) (args .id .0) _ (start .pre .1 .1)
+            (at-shallow-normalize .shallow-normalize .ensures) (at-if1 .if1 .left) _ (at-node .node .ensures) _ _
+            (at-domain .domain .given .1),
+      ),
+    ))
     (λ c. search needs)
-    (λ c. law.occurs-in-subsort (c .before .before .before .before .before .before .before .before .before .before .before .before .args .sorts .now) (c .before .before .before .before .before .before .before .before .before .before .before .before .args .nodes .now) (c .before .before .before .before .before .before .before .before .before .before .before .before .args .binds .now) (c .before .before .before .before .before .before .before .before .before .before .before .before .args .lengths) (c .before .before .before .before .before .before .before .before .before .before .before .before .pre .1 .0) (c .before .before .before .before .before .before .before .before .before .before .before .before .args .var .0) (c .before .before .before .before .before .before .before .before .before .before .before .before .args .id .0) _ (c .before .before .before .before .before .before .before .before .before .before .before .before .pre .1 .1) (c .before .before .before .before .before .before .before .before .shallow-normalize .ensures) (c .before .before .before .before .before .before .if1 .left) _ (c .before .before .before .before .node .ensures) _ _ (c .before .before .subsort .given .1) (c .occurs .result) (c .occurs .ensures))
-    (λ c. law.occurs-in-range (c .before .before .before .before .before .before .before .before .before .before .before .before .before .before .args .sorts .now) (c .before .before .before .before .before .before .before .before .before .before .before .before .before .before .args .nodes .now) (c .before .before .before .before .before .before .before .before .before .before .before .before .before .before .args .binds .now) (c .before .before .before .before .before .before .before .before .before .before .before .before .before .before .args .lengths) (c .before .before .before .before .before .before .before .before .before .before .before .before .before .before .pre .1 .0) (c .before .before .before .before .before .before .before .before .before .before .before .before .before .before .args .var .0) (c .before .before .before .before .before .before .before .before .before .before .before .before .before .before .args .id .0) _ (c .before .before .before .before .before .before .before .before .before .before .before .before .before .before .pre .1 .1) (c .before .before .before .before .before .before .before .before .before .before .shallow-normalize .ensures) (c .before .before .before .before .before .before .before .before .if1 .left) _ (c .before .before .before .before .before .before .node .ensures) _ _ (c .before .before .before .before .domain .given .1) (c .before .before .occurs-any .result) (c .occurs2 .result) (c .before .before .occurs-any .ensures) (c .before .if2 .left) (c .occurs2 .ensures))
-    (λ c. law.occurs-at-variable (c .before .before .before .before .before .before .before .before .before .before .before .before .before .args .sorts .now) (c .before .before .before .before .before .before .before .before .before .before .before .before .before .args .nodes .now) (c .before .before .before .before .before .before .before .before .before .before .before .before .before .args .binds .now) (c .before .before .before .before .before .before .before .before .before .before .before .before .before .args .lengths) (c .before .before .before .before .before .before .before .before .before .before .before .before .before .pre .1 .0) (c .before .before .before .before .before .before .before .before .before .before .before .before .before .args .var .0) (c .before .before .before .before .before .before .before .before .before .before .before .before .before .args .id .0) _ (c .before .before .before .before .before .before .before .before .before .before .before .before .before .pre .1 .1) (c .before .before .before .before .before .before .before .before .before .shallow-normalize .ensures) (c .before .before .before .before .before .before .before .if1 .left) _ (c .before .before .before .before .before .node .ensures) _ (c .before .before .before .other .given .1))
+    (λ c.
+    let at-subsort = c .before .before in
+    let at-node = at-subsort .before .before in
+    let at-if1 = at-node .before .before in
+    let at-shallow-normalize = at-if1 .before .before in
+    let start = at-shallow-normalize .before .before .before .before in
+    let args = start .args in
+    law.occurs-in-subsort (args .sorts .now) (args .nodes .now) (args .binds .now) (args .lengths) (start .pre .1 .0)
+    (args .var .0) (args .id .0) _ (start .pre .1 .1) (at-shallow-normalize .shallow-normalize .ensures)
+    (at-if1 .if1 .left) _ (at-node .node .ensures) _ _ (at-subsort .subsort .given .1) (c .occurs .result)
+    (c .occurs .ensures))
+    (λ c.
+    let at-occurs-any = c .before .before in
+    let at-domain = at-occurs-any .before .before in
+    let at-node = at-domain .before .before in
+    let at-if1 = at-node .before .before in
+    let at-shallow-normalize = at-if1 .before .before in
+    let start = at-shallow-normalize .before .before .before .before in
+    let args = start .args in
+    law.occurs-in-range (args .sorts .now) (args .nodes .now) (args .binds .now) (args .lengths) (start .pre .1 .0)
+    (args .var .0) (args .id .0) _ (start .pre .1 .1) (at-shallow-normalize .shallow-normalize .ensures)
+    (at-if1 .if1 .left) _ (at-node .node .ensures) _ _ (at-domain .domain .given .1)
+    (at-occurs-any .occurs-any .result) (c .occurs2 .result) (at-occurs-any .occurs-any .ensures)
+    (c .before .if2 .left) (c .occurs2 .ensures))
+    (λ c.
+    let at-other = c .before .before .before in
+    let at-node = at-other .before .before in
+    let at-if1 = at-node .before .before in
+    let at-shallow-normalize = at-if1 .before .before in
+    let start = at-shallow-normalize .before .before .before .before in
+    let args = start .args in
+    law.occurs-at-variable (args .sorts .now) (args .nodes .now) (args .binds .now) (args .lengths) (start .pre .1 .0)
+    (args .var .0) (args .id .0) _ (start .pre .1 .1) (at-shallow-normalize .shallow-normalize .ensures)
+    (at-if1 .if1 .left) _ (at-node .node .ensures) _ (at-other .other .given .1))

@@ -22,22 +22,80 @@ use Rattle.infer_nodes.proofs.Ways.{Searching}
 use Rattle.infer_nodes.proofs.+occurs+occurs_any.Proof.Common.{occurs-at, occurs-below, occurs-any-at, occurs-any-below}
 
 abbrev Inv-loop : occurs-any-lts.InvT-loop
-Inv-loop sorts nodes binds lengths var start count at₀ left₀ at left = Searching (graphOf sorts nodes lengths) (bindsOf binds (lengths .variables)) nodes lengths (var .0) at₀ left₀ at left
+Inv-loop sorts nodes binds lengths var start count at₀ left₀ at left = Searching (graphOf sorts nodes lengths)
+    (bindsOf binds (lengths .variables)) nodes lengths (var .0) at₀ left₀ at left
 
 abbrev μ-loop : occurs-any-lts.MeasureT-loop
 μ-loop sorts nodes binds lengths var start count at₀ left₀ at left = left
 
-pub part : (M : Type 1) (t : ℕ) → occurs-any-lts.Closed (argument-reads.Asked, argument-reads.Learnt, occurs-below t, occurs.Post) (occurs-any-at t) occurs-any.Post M
+pub part : (M : Type 1) (t : ℕ) → occurs-any-lts.Closed (
+  argument-reads.Asked,
+  argument-reads.Learnt,
+  occurs-below t,
+  occurs.Post,
+) (occurs-any-at t) occurs-any.Post M
 part M t =
     occurs-any-lts.spec (argument-reads.Asked, argument-reads.Learnt, occurs-below t, occurs.Post) (occurs-any-at t) occurs-any.Post
     Inv-loop
     μ-loop
-    (λ c. law.search-begins (c .before .before .before .args .sorts .now) (c .before .before .before .args .nodes .now) (c .before .before .before .args .binds .now) (c .before .before .before .args .lengths) (c .before .before .before .pre .1 .0) _ _ _ (c .before .before .before .pre .1 .1))
+    (λ c.
+    let start = c .before .before .before in
+    let args = start .args in
+    law.search-begins (args .sorts .now) (args .nodes .now) (args .binds .now) (args .lengths) (start .pre .1 .0) _ _ _ (start .pre .1 .1))
     (λ c κs. search needs)
-    (λ c κs. (omega (arith, c .before .before .before .before .before .before .pre .0, law.one-lower (c .before .before .before .before .before .before .args .sorts .now) (c .before .before .before .before .before .before .args .nodes .now) (c .before .before .before .before .before .before .args .binds .now) (c .before .before .before .before .before .before .args .lengths) (c .before .before .before .before .before .before .pre .1 .0) _ _ _ _ _ (c .before .before .loop .inv) (c .before .loop-test .taken) _ (c .argument .ensures)), (c .before .before .before .before .before .before .pre .1 .0, law.one-placed (c .before .before .before .before .before .before .args .sorts .now) (c .before .before .before .before .before .before .args .nodes .now) (c .before .before .before .before .before .before .args .binds .now) (c .before .before .before .before .before .before .args .lengths) (c .before .before .before .before .before .before .pre .1 .0) _ _ _ _ _ (c .before .before .loop .inv) (c .before .loop-test .taken) _ (c .argument .ensures))))
-    (λ c. law.in-one (c .before .before .before .before .before .before .before .before .args .sorts .now) (c .before .before .before .before .before .before .before .before .args .nodes .now) (c .before .before .before .before .before .before .before .before .args .binds .now) (c .before .before .before .before .before .before .before .before .args .lengths) (c .before .before .before .before .before .before .before .before .pre .1 .0) _ _ _ _ _ (c .before .before .before .before .loop .inv) (c .before .before .before .loop-test .taken) _ (c .before .before .argument .ensures) (c .before .occurs .result) (c .before .occurs .ensures) (c .if1 .taken))
-    (λ c. omega (arith, law.more-inside (c .before .before .before .before .before .before .before .before .args .sorts .now) (c .before .before .before .before .before .before .before .before .args .nodes .now) (c .before .before .before .before .before .before .before .before .args .binds .now) (c .before .before .before .before .before .before .before .before .args .lengths) (c .before .before .before .before .before .before .before .before .pre .1 .0) _ _ _ _ _ (c .before .before .before .before .loop .inv) (c .before .before .before .loop-test .taken) _ (c .before .before .argument .ensures), c .before .before .before .before .before .before .before .before .pre .1 .0 .nodes .entries))
+    (λ c κs.
+    let at-loop = c .before .before in
+    let start = at-loop .before .before .before .before in
+    let args = start .args in (
+      omega (
+        arith,
+        start .pre .0,
+        law.one-lower (args .sorts .now) (args .nodes .now) (args .binds .now)
+            (args .lengths) (start .pre .1 .0) _ _ _ _ _ (at-loop .loop .inv) (c .before .loop-test .taken) _
+            (c .argument .ensures),
+      ),
+      (
+        start .pre .1 .0,
+        law.one-placed (args .sorts .now) (args .nodes .now)
+            (args .binds .now) (args .lengths) (start .pre .1 .0) _ _ _ _ _ (at-loop .loop .inv)
+            (c .before .loop-test .taken) _ (c .argument .ensures),
+      ),
+    ))
+    (λ c.
+    let at-argument = c .before .before in
+    let at-loop-test = at-argument .before in
+    let at-loop = at-loop-test .before in
+    let start = at-loop .before .before .before .before in
+    let args = start .args in
+    law.in-one (args .sorts .now) (args .nodes .now) (args .binds .now) (args .lengths) (start .pre .1 .0) _ _ _ _ _
+    (at-loop .loop .inv) (at-loop-test .loop-test .taken) _ (at-argument .argument .ensures)
+    (c .before .occurs .result) (c .before .occurs .ensures) (c .if1 .taken))
+    (λ c.
+    let at-argument = c .before .before in
+    let at-loop-test = at-argument .before in
+    let at-loop = at-loop-test .before in
+    let start = at-loop .before .before .before .before in
+    let args = start .args in
+    omega (
+      arith,
+      law.more-inside (args .sorts .now) (args .nodes .now) (args .binds .now) (args .lengths)
+          (start .pre .1 .0) _ _ _ _ _ (at-loop .loop .inv) (at-loop-test .loop-test .taken) _
+          (at-argument .argument .ensures),
+      start .pre .1 .0 .nodes .entries,
+    ))
     (λ c. omega (arith, c .before .before .before .loop-test .taken))
     (λ c. omega (arith, c .before .before .before .loop-test .taken))
-    (λ c. law.search-goes-on (c .before .before .before .before .before .before .before .before .args .sorts .now) (c .before .before .before .before .before .before .before .before .args .nodes .now) (c .before .before .before .before .before .before .before .before .args .binds .now) (c .before .before .before .before .before .before .before .before .args .lengths) (c .before .before .before .before .before .before .before .before .pre .1 .0) _ _ _ _ _ (c .before .before .before .before .loop .inv) (c .before .before .before .loop-test .taken) _ (c .before .before .argument .ensures) (c .before .occurs .result) (c .before .occurs .ensures) (c .if1 .left))
-    (λ c. law.none-in-run (c .before .before .before .before .before .args .sorts .now) (c .before .before .before .before .before .args .nodes .now) (c .before .before .before .before .before .args .binds .now) (c .before .before .before .before .before .args .lengths) (c .before .before .before .before .before .pre .1 .0) _ _ _ _ _ (c .before .loop .inv) (c .loop-test .left))
+    (λ c.
+    let at-argument = c .before .before in
+    let at-loop-test = at-argument .before in
+    let at-loop = at-loop-test .before in
+    let start = at-loop .before .before .before .before in
+    let args = start .args in
+    law.search-goes-on (args .sorts .now) (args .nodes .now) (args .binds .now) (args .lengths) (start .pre .1 .0) _ _
+    _ _ _ (at-loop .loop .inv) (at-loop-test .loop-test .taken) _ (at-argument .argument .ensures)
+    (c .before .occurs .result) (c .before .occurs .ensures) (c .if1 .left))
+    (λ c.
+    let start = c .before .before .before .before .before in
+    let args = start .args in
+    law.none-in-run (args .sorts .now) (args .nodes .now) (args .binds .now) (args .lengths) (start .pre .1 .0) _ _ _
+    _ _ (c .before .loop .inv) (c .loop-test .left))

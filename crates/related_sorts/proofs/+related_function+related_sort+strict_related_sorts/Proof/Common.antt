@@ -15,13 +15,16 @@ use Rattle.unification.specs.Checked.{graphOf}
 use Rattle.unification.proofs.Rank.{rank}
 
 abbrev pub μ-related-function : Measures 3 related-function-kinds.ps ℕ
-μ-related-function κs a = rank (graphOf (a .0 .now) (a .1 .0 .now) (a .1 .1 .1 .0)) deep (bindsOf (a .1 .1 .0 .now) (a .1 .1 .1 .0 .variables)) (a .1 .1 .1 .1 .0 .0) * 4
+μ-related-function κs a = rank (graphOf (a .0 .now) (a .1 .0 .now) (a .1 .1 .1 .0)) deep (bindsOf (a .1 .1 .0 .now)
+    (a .1 .1 .1 .0 .variables)) (a .1 .1 .1 .1 .0 .0) * 4
 
 abbrev pub μ-related-sort : Measures 3 related-sort-kinds.ps ℕ
-μ-related-sort κs a = rank (graphOf (a .0 .now) (a .1 .0 .now) (a .1 .1 .1 .0)) deep (bindsOf (a .1 .1 .0 .now) (a .1 .1 .1 .0 .variables)) (a .1 .1 .1 .1 .0 .0) * 4 + 1
+μ-related-sort κs a = rank (graphOf (a .0 .now) (a .1 .0 .now) (a .1 .1 .1 .0)) deep (bindsOf (a .1 .1 .0 .now)
+    (a .1 .1 .1 .0 .variables)) (a .1 .1 .1 .1 .0 .0) * 4 + 1
 
 abbrev pub μ-strict-related-sorts : Measures 3 strict-related-sorts-kinds.ps ℕ
-μ-strict-related-sorts κs a = rank (graphOf (a .0 .now) (a .1 .0 .now) (a .1 .1 .1 .0)) deep (bindsOf (a .1 .1 .0 .now) (a .1 .1 .1 .0 .variables)) (a .1 .1 .1 .1 .0 .0) * 4 + 2
+μ-strict-related-sorts κs a = rank (graphOf (a .0 .now) (a .1 .0 .now) (a .1 .1 .1 .0)) deep
+    (bindsOf (a .1 .1 .0 .now) (a .1 .1 .1 .0 .variables)) (a .1 .1 .1 .1 .0 .0) * 4 + 2
 
 abbrev pub related-function-at : ℕ → In 3 related-function-kinds.ps
 related-function-at t =

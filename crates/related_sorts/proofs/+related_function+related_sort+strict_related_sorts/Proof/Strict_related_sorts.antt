@@ -11,28 +11,135 @@ use Prim.Native.Nat.{ℕ}
 use native.Mathlib.Omega.{arith}
 use lib.ListN.{replicate}
 use Rattle.related_sorts.proofs.Ends as law
-use Rattle.related_sorts.proofs.+related_function+related_sort+strict_related_sorts.Proof.Common.{related-function-below, related-sort-below, strict-related-sorts-at}
+use Rattle.related_sorts.proofs.+related_function+related_sort+strict_related_sorts.Proof.Common.{related-function-below}
+use Rattle.related_sorts.proofs.+related_function+related_sort+strict_related_sorts.Proof.Common.{related-sort-below}
+use Rattle.related_sorts.proofs.+related_function+related_sort+strict_related_sorts.Proof.Common.{strict-related-sorts-at}
 
-pub part : (M : Type 1) (t : ℕ) → strict-related-sorts-lts.Closed (shallow-normalize-reads.Asked, shallow-normalize-reads.Learnt, related-sort-below t, related-sort.Post, node-reads.Asked, node-reads.Learnt, push-generic-reads.Asked, push-generic-reads.Learnt, related-function-below t, related-function.Post) (strict-related-sorts-at t) strict-related-sorts.Post M
+pub part : (M : Type 1) (t : ℕ) → strict-related-sorts-lts.Closed (
+  shallow-normalize-reads.Asked,
+  shallow-normalize-reads.Learnt,
+  related-sort-below t,
+  related-sort.Post,
+  node-reads.Asked,
+  node-reads.Learnt,
+  push-generic-reads.Asked,
+  push-generic-reads.Learnt,
+  related-function-below t,
+  related-function.Post,
+)
+    (strict-related-sorts-at t) strict-related-sorts.Post M
 part M t =
-    strict-related-sorts-lts.spec (shallow-normalize-reads.Asked, shallow-normalize-reads.Learnt, related-sort-below t, related-sort.Post, node-reads.Asked, node-reads.Learnt, push-generic-reads.Asked, push-generic-reads.Learnt, related-function-below t, related-function.Post) (strict-related-sorts-at t) strict-related-sorts.Post
-    (λ c κs. (c .before .before .before .before .before .pre .1 .0, c .before .before .before .before .before .pre .1 .1))
-    (λ c κs. (omega (arith, c .before .before .before .before .before .before .before .before .before .before .pre .0, law.end-rank (c .before .before .before .before .before .before .before .before .before .before .args .sorts .now) (c .before .before .before .before .before .before .before .before .before .before .args .nodes .now) (c .before .before .before .before .before .before .before .before .before .before .args .binds .now) (c .before .before .before .before .before .before .before .before .before .before .args .lengths) (c .before .before .before .before .before .before .before .before .before .before .pre .1 .0) (c .before .before .before .before .before .before .before .before .before .before .args .up) (c .before .before .before .before .before .before .before .before .before .before .args .id .0) _ (c .before .before .before .before .before .before .before .before .before .before .pre .1 .1) (c .before .before .before .before .shallow-normalize .ensures)), (c .before .before .before .before .before .before .before .before .before .before .pre .1 .0, law.end-placed (c .before .before .before .before .before .before .before .before .before .before .args .sorts .now) (c .before .before .before .before .before .before .before .before .before .before .args .nodes .now) (c .before .before .before .before .before .before .before .before .before .before .args .binds .now) (c .before .before .before .before .before .before .before .before .before .before .args .lengths) (c .before .before .before .before .before .before .before .before .before .before .pre .1 .0) (c .before .before .before .before .before .before .before .before .before .before .args .up) (c .before .before .before .before .before .before .before .before .before .before .args .id .0) _ (c .before .before .before .before .before .before .before .before .before .before .pre .1 .1) (c .before .before .before .before .shallow-normalize .ensures), c .before .before .if1 .taken)))
+    strict-related-sorts-lts.spec (
+      shallow-normalize-reads.Asked,
+      shallow-normalize-reads.Learnt,
+      related-sort-below
+          t,
+      related-sort.Post,
+      node-reads.Asked,
+      node-reads.Learnt,
+      push-generic-reads.Asked,
+      push-generic-reads.Learnt,
+      related-function-below t,
+      related-function.Post,
+    ) (strict-related-sorts-at t)
+    strict-related-sorts.Post
+    (λ c κs.
+    let start = c .before .before .before .before .before in
+    (start .pre .1 .0, start .pre .1 .1))
+    (λ c κs.
+    let at-if1 = c .before .before in
+    let at-shallow-normalize = at-if1 .before .before in
+    let start = at-shallow-normalize .before .before .before .before .before .before in
+    let args = start .args in (
+      omega (
+        arith,
+        start .pre .0,
+        law.end-rank (args .sorts .now) (args .nodes .now) (args .binds .now)
+            (args .lengths) (start .pre .1 .0) (args .up) (args .id .0) _ (start .pre .1 .1)
+            (at-shallow-normalize .shallow-normalize .ensures),
+      ),
+      (
+        start .pre .1 .0,
+        law.end-placed (args .sorts .now)
+            (args .nodes .now) (args .binds .now) (args .lengths) (start .pre .1 .0) (args .up) (args .id .0) _
+            (start .pre .1 .1) (at-shallow-normalize .shallow-normalize .ensures),
+        at-if1 .if1 .taken,
+      ),
+    ))
     (λ c. c .before .before .before .before .related-sort .kept .0)
     (λ c. c .before .before .before .before .related-sort .kept .1 .0)
-    (λ c. law.answer-from-end (c .before .before .before .before .before .before .before .before .before .before .before .before .before .before .before .args .sorts .now) (c .before .before .before .before .before .before .before .before .before .before .before .before .before .before .before .args .nodes .now) (c .before .before .before .before .before .before .before .before .before .before .before .before .before .before .before .args .binds .now) (c .before .before .before .before .before .before .before .before .before .before .before .before .before .before .before .args .lengths) (c .before .before .before .before .before .before .before .before .before .before .before .before .before .before .before .pre .1 .0) (c .before .before .before .before .before .before .before .before .before .before .before .before .before .before .before .args .up) (c .before .before .before .before .before .before .before .before .before .before .before .before .before .before .before .args .id .0) _ (c .before .before .before .before .before .before .before .before .before .before .before .before .before .before .before .pre .1 .1) (c .before .before .before .before .before .before .before .before .before .shallow-normalize .ensures) _ _ _ (c .before .before .before .before .related-sort .ensures))
+    (λ c.
+    let at-related-sort = c .before .before .before .before in
+    let at-shallow-normalize = at-related-sort .before .before .before .before .before in
+    let start = at-shallow-normalize .before .before .before .before .before .before in
+    let args = start .args in
+    law.answer-from-end (args .sorts .now) (args .nodes .now) (args .binds .now) (args .lengths) (start .pre .1 .0)
+    (args .up) (args .id .0) _ (start .pre .1 .1) (at-shallow-normalize .shallow-normalize .ensures) _ _ _
+    (at-related-sort .related-sort .ensures))
     (λ c κs. tt)
     (λ c. c .match .keys1)
     (λ c κs. tt)
     (λ c. c .match .keys2)
-    (λ c κs. (omega (arith, c .before .before .before .before .before .before .before .before .before .before .before .before .before .before .before .pre .0, law.end-rank (c .before .before .before .before .before .before .before .before .before .before .before .before .before .before .before .args .sorts .now) (c .before .before .before .before .before .before .before .before .before .before .before .before .before .before .before .args .nodes .now) (c .before .before .before .before .before .before .before .before .before .before .before .before .before .before .before .args .binds .now) (c .before .before .before .before .before .before .before .before .before .before .before .before .before .before .before .args .lengths) (c .before .before .before .before .before .before .before .before .before .before .before .before .before .before .before .pre .1 .0) (c .before .before .before .before .before .before .before .before .before .before .before .before .before .before .before .args .up) (c .before .before .before .before .before .before .before .before .before .before .before .before .before .before .before .args .id .0) _ (c .before .before .before .before .before .before .before .before .before .before .before .before .before .before .before .pre .1 .1) (c .before .before .before .before .before .before .before .before .before .shallow-normalize .ensures)), (c .before .before .before .before .before .before .before .before .before .before .before .before .before .before .before .pre .1 .0, law.end-placed (c .before .before .before .before .before .before .before .before .before .before .before .before .before .before .before .args .sorts .now) (c .before .before .before .before .before .before .before .before .before .before .before .before .before .before .before .args .nodes .now) (c .before .before .before .before .before .before .before .before .before .before .before .before .before .before .before .args .binds .now) (c .before .before .before .before .before .before .before .before .before .before .before .before .before .before .before .args .lengths) (c .before .before .before .before .before .before .before .before .before .before .before .before .before .before .before .pre .1 .0) (c .before .before .before .before .before .before .before .before .before .before .before .before .before .before .before .args .up) (c .before .before .before .before .before .before .before .before .before .before .before .before .before .before .before .args .id .0) _ (c .before .before .before .before .before .before .before .before .before .before .before .before .before .before .before .pre .1 .1) (c .before .before .before .before .before .before .before .before .before .shallow-normalize .ensures), law.node-function-at (c .before .before .before .before .before .before .before .before .before .before .before .before .before .before .before .args .sorts .now) (c .before .before .before .before .before .before .before .before .before .before .before .before .before .before .before .args .nodes .now) (c .before .before .before .before .before .before .before .before .before .before .before .before .before .before .before .args .binds .now) (c .before .before .before .before .before .before .before .before .before .before .before .before .before .before .before .args .lengths) (c .before .before .before .before .before .before .before .before .before .before .before .before .before .before .before .pre .1 .0) (c .before .before .before .before .before .before .before .before .before .before .before .before .before .before .before .args .up) (c .before .before .before .before .before .before .before .before .before .before .before .before .before .before .before .args .id .0) _ (c .before .before .before .before .before .before .before .before .before .before .before .before .before .before .before .pre .1 .1) (c .before .before .before .before .before .before .before .before .before .shallow-normalize .ensures) (c .before .before .before .before .before .before .before .if1 .left) _ (c .before .before .before .before .node .ensures) _ _ (c .before .before .enum-told .given .1))))
+    (λ c κs.
+    let at-enum-told = c .before .before in
+    let at-node = at-enum-told .before .before in
+    let at-if1 = at-node .before .before .before in
+    let at-shallow-normalize = at-if1 .before .before in
+    let start = at-shallow-normalize .before .before .before .before .before .before in
+    let args = start .args in (
+      omega (
+        arith,
+        start .pre .0,
+        law.end-rank (args .sorts .now) (args .nodes .now) (args .binds .now)
+            (args .lengths) (start .pre .1 .0) (args .up) (args .id .0) _ (start .pre .1 .1)
+            (at-shallow-normalize .shallow-normalize .ensures),
+      ),
+      (
+        start .pre .1 .0,
+        law.end-placed (args .sorts .now)
+            (args .nodes .now) (args .binds .now) (args .lengths) (start .pre .1 .0) (args .up) (args .id .0) _
+            (start .pre .1 .1) (at-shallow-normalize .shallow-normalize .ensures),
+        law.node-function-at (args .sorts .now)
+            (args .nodes .now) (args .binds .now) (args .lengths) (start .pre .1 .0) (args .up) (args .id .0) _
+            (start .pre .1 .1) (at-shallow-normalize .shallow-normalize .ensures) (at-if1 .if1 .left) _
+            (at-node .node .ensures) _ _ (at-enum-told .enum-told .given .1),
+      ),
+    ))
     (λ c. c .match .keys3)
     (λ c. refl)
     (λ c. c .before .before .push-generic .kept .1 .0)
-    (λ c. law.node-container-related (c .before .before .before .before .before .before .before .before .before .before .before .before .before .before .before .before .before .before .before .args .sorts .now) (c .before .before .before .before .before .before .before .before .before .before .before .before .before .before .before .before .before .before .before .args .nodes .now) (c .before .before .before .before .before .before .before .before .before .before .before .before .before .before .before .before .before .before .before .args .binds .now) (c .before .before .before .before .before .before .before .before .before .before .before .before .before .before .before .before .before .before .before .args .lengths) (c .before .before .before .before .before .before .before .before .before .before .before .before .before .before .before .before .before .before .before .pre .1 .0) (c .before .before .before .before .before .before .before .before .before .before .before .before .before .before .before .before .before .before .before .args .up) (c .before .before .before .before .before .before .before .before .before .before .before .before .before .before .before .before .before .before .before .args .id .0) _ (c .before .before .before .before .before .before .before .before .before .before .before .before .before .before .before .before .before .before .before .pre .1 .1) (c .before .before .before .before .before .before .before .before .before .before .before .before .before .shallow-normalize .ensures) (c .before .before .before .before .before .before .before .before .before .before .before .if1 .left) _ (c .before .before .before .before .before .before .before .before .node .ensures) _ _ (c .before .before .before .before .before .before .op .given .1) _ _ (c .before .before .push-generic .ensures))
+    (λ c.
+    let at-push-generic = c .before .before in
+    let at-op = at-push-generic .before .before .before .before in
+    let at-node = at-op .before .before in
+    let at-if1 = at-node .before .before .before in
+    let at-shallow-normalize = at-if1 .before .before in
+    let start = at-shallow-normalize .before .before .before .before .before .before in
+    let args = start .args in
+    law.node-container-related (args .sorts .now) (args .nodes .now) (args .binds .now) (args .lengths)
+    (start .pre .1 .0) (args .up) (args .id .0) _ (start .pre .1 .1)
+    (at-shallow-normalize .shallow-normalize .ensures) (at-if1 .if1 .left) _ (at-node .node .ensures) _ _
+    (at-op .op .given .1) _ _ (at-push-generic .push-generic .ensures))
     (λ c. c .before .before .before .before .related-function .kept .0)
     (λ c. c .before .before .before .before .related-function .kept .1 .0)
-    (λ c. law.answer-from-end (c .before .before .before .before .before .before .before .before .before .before .before .before .before .before .before .before .before .before .before .before .args .sorts .now) (c .before .before .before .before .before .before .before .before .before .before .before .before .before .before .before .before .before .before .before .before .args .nodes .now) (c .before .before .before .before .before .before .before .before .before .before .before .before .before .before .before .before .before .before .before .before .args .binds .now) (c .before .before .before .before .before .before .before .before .before .before .before .before .before .before .before .before .before .before .before .before .args .lengths) (c .before .before .before .before .before .before .before .before .before .before .before .before .before .before .before .before .before .before .before .before .pre .1 .0) (c .before .before .before .before .before .before .before .before .before .before .before .before .before .before .before .before .before .before .before .before .args .up) (c .before .before .before .before .before .before .before .before .before .before .before .before .before .before .before .before .before .before .before .before .args .id .0) _ (c .before .before .before .before .before .before .before .before .before .before .before .before .before .before .before .before .before .before .before .before .pre .1 .1) (c .before .before .before .before .before .before .before .before .before .before .before .before .before .before .shallow-normalize .ensures) _ _ _ (c .before .before .before .before .related-function .ensures))
+    (λ c.
+    let at-related-function = c .before .before .before .before in
+    let at-shallow-normalize = at-related-function .before .before .before .before .before .before .before
+    .before .before .before in
+    let start = at-shallow-normalize .before .before .before .before .before .before in
+    let args = start .args in
+    law.answer-from-end (args .sorts .now) (args .nodes .now) (args .binds .now) (args .lengths) (start .pre .1 .0)
+    (args .up) (args .id .0) _ (start .pre .1 .1) (at-shallow-normalize .shallow-normalize .ensures) _ _ _
+    (at-related-function .related-function .ensures))
     (λ c. refl)
     (λ c. refl)
-    (λ c. law.variable-has-no-list (c .before .before .before .before .before .before .before .before .before .before .before .before .before .args .sorts .now) (c .before .before .before .before .before .before .before .before .before .before .before .before .before .args .nodes .now) (c .before .before .before .before .before .before .before .before .before .before .before .before .before .args .binds .now) (c .before .before .before .before .before .before .before .before .before .before .before .before .before .args .lengths) (c .before .before .before .before .before .before .before .before .before .before .before .before .before .pre .1 .0) (c .before .before .before .before .before .before .before .before .before .before .before .before .before .args .up) (c .before .before .before .before .before .before .before .before .before .before .before .before .before .args .id .0) _ (c .before .before .before .before .before .before .before .before .before .before .before .before .before .pre .1 .1) (c .before .before .before .before .before .before .before .shallow-normalize .ensures) (c .before .before .before .before .before .if1 .left) _ (c .before .before .node .ensures) _ (c .enum-told2 .given .1) (replicate 3 0))
+    (λ c.
+    let at-node = c .before .before in
+    let at-if1 = at-node .before .before .before in
+    let at-shallow-normalize = at-if1 .before .before in
+    let start = at-shallow-normalize .before .before .before .before .before .before in
+    let args = start .args in
+    law.variable-has-no-list (args .sorts .now) (args .nodes .now) (args .binds .now) (args .lengths)
+    (start .pre .1 .0) (args .up) (args .id .0) _ (start .pre .1 .1)
+    (at-shallow-normalize .shallow-normalize .ensures) (at-if1 .if1 .left) _ (at-node .node .ensures) _
+    (c .enum-told2 .given .1) (replicate 3 0))

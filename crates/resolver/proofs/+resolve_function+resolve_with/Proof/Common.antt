@@ -1,4 +1,5 @@
--- The measures of the cycle: sizes of terms. A call for a part falls by the size; from a place to the function that stands there, of the same size, it falls by one.
+-- The measures of the cycle: sizes of terms. A call for a part falls by the size; from a place to the function that
+-- stands there, of the same size, it falls by one.
 use Prim.Native.Nat.{ℕ, _<_, _+_, _*_}
 use borrow.Fn.Kinds.{In}
 use borrow.Fn.PlainCycle.{Measures, is, falls, and}
@@ -14,7 +15,9 @@ use Rattle.unification.specs.Inner.Resolve.{valueIn}
 use Rattle.unification.proofs.Exact.{size}
 
 abbrev pub μ-resolve-function : Measures 3 resolve-function-kinds.ps ℕ
-μ-resolve-function κs a = size (app (functionHead (a .1 .1 .1 .1 .1 .0 .count)) (termsAt (valueIn (a .0 .now) (a .1 .0 .now) (a .1 .1 .0 .now) (a .1 .1 .1 .0)) (nodeEntriesOf (a .1 .0 .now) (a .1 .1 .1 .1 .1 .0 .start) (a .1 .1 .1 .1 .1 .0 .count) ++ (a .1 .1 .1 .1 .1 .1 .0 .0 ∷ [])))) * 2
+μ-resolve-function κs a = size (app (functionHead (a .1 .1 .1 .1 .1 .0 .count))
+    (termsAt (valueIn (a .0 .now) (a .1 .0 .now) (a .1 .1 .0 .now) (a .1 .1 .1 .0)) (nodeEntriesOf (a .1 .0 .now)
+    (a .1 .1 .1 .1 .1 .0 .start) (a .1 .1 .1 .1 .1 .0 .count) ++ (a .1 .1 .1 .1 .1 .1 .0 .0 ∷ [])))) * 2
 
 abbrev pub μ-resolve-with : Measures 3 resolve-with-kinds.ps ℕ
 μ-resolve-with κs a = size ((valueIn (a .0 .now) (a .1 .0 .now) (a .1 .1 .0 .now) (a .1 .1 .1 .0)) (a .1 .1 .1 .1 .1 .0 .0)) * 2 + 1

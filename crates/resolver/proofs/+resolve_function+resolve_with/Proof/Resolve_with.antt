@@ -14,32 +14,193 @@ use native.Mathlib.Omega.{arith}
 use Rattle.resolver.proofs.Laws as law
 use Rattle.resolver.proofs.+resolve_function+resolve_with.Proof.Common.{resolve-function-below, resolve-with-at, resolve-with-below}
 
-pub part : (M : Type 1) (t : ℕ) → resolve-with-lts.Closed (shallow-normalize-reads.Asked, shallow-normalize-reads.Learnt, counts-of-reads.Asked, counts-of-reads.Learnt, node-reads.Asked, node-reads.Learnt, resolve-with-below t, resolve-with.Post, generic-reads.Asked, generic-reads.Learnt, resolve-function-below t, resolve-function.Post, free-sort-reads.Asked, free-sort-reads.Learnt) (resolve-with-at t) resolve-with.Post M
+pub part : (M : Type 1) (t : ℕ) → resolve-with-lts.Closed (
+  shallow-normalize-reads.Asked,
+  shallow-normalize-reads.Learnt,
+  counts-of-reads.Asked,
+  counts-of-reads.Learnt,
+  node-reads.Asked,
+  node-reads.Learnt,
+  resolve-with-below t,
+  resolve-with.Post,
+  generic-reads.Asked,
+  generic-reads.Learnt,
+  resolve-function-below t,
+  resolve-function.Post,
+  free-sort-reads.Asked,
+  free-sort-reads.Learnt,
+)
+    (resolve-with-at t) resolve-with.Post M
 part M t =
-    resolve-with-lts.spec (shallow-normalize-reads.Asked, shallow-normalize-reads.Learnt, counts-of-reads.Asked, counts-of-reads.Learnt, node-reads.Asked, node-reads.Learnt, resolve-with-below t, resolve-with.Post, generic-reads.Asked, generic-reads.Learnt, resolve-function-below t, resolve-function.Post, free-sort-reads.Asked, free-sort-reads.Learnt) (resolve-with-at t) resolve-with.Post
-    (λ c κs. (c .before .before .before .before .pre .1 .0, c .before .before .before .before .pre .1 .2))
+    resolve-with-lts.spec (
+      shallow-normalize-reads.Asked,
+      shallow-normalize-reads.Learnt,
+      counts-of-reads.Asked,
+      counts-of-reads.Learnt,
+      node-reads.Asked,
+      node-reads.Learnt,
+      resolve-with-below t,
+      resolve-with.Post,
+      generic-reads.Asked,
+      generic-reads.Learnt,
+      resolve-function-below t,
+      resolve-function.Post,
+      free-sort-reads.Asked,
+      free-sort-reads.Learnt,
+    ) (resolve-with-at t) resolve-with.Post
+    (λ c κs.
+    let start = c .before .before .before .before in
+    (start .pre .1 .0, start .pre .1 .2))
     (λ c κs. search needs)
     (λ c. search needs)
-    (λ c. law.sort-found (c .before .before .before .before .before .before .before .before .args .sorts .now) (c .before .before .before .before .before .before .before .before .args .nodes .now) (c .before .before .before .before .before .before .before .before .args .binds .now) (c .before .before .before .before .before .before .before .before .args .lengths) (c .before .before .before .before .before .before .before .before .pre .1 .0) (c .before .before .before .before .before .before .before .before .args .default) (c .before .before .before .before .before .before .before .before .pre .1 .1) (c .before .before .before .before .before .before .before .before .args .id .0) _ (c .before .before .before .before .before .before .before .before .pre .1 .2) (c .before .before .before .shallow-normalize .ensures) (c .before .if1 .taken) _ (c .counts-of .ensures))
+    (λ c.
+    let at-shallow-normalize = c .before .before .before in
+    let start = at-shallow-normalize .before .before .before .before .before in
+    let args = start .args in
+    law.sort-found (args .sorts .now) (args .nodes .now) (args .binds .now) (args .lengths) (start .pre .1 .0)
+    (args .default) (start .pre .1 .1) (args .id .0) _ (start .pre .1 .2)
+    (at-shallow-normalize .shallow-normalize .ensures) (c .before .if1 .taken) _ (c .counts-of .ensures))
     (λ c κs. search needs)
     (λ c. search needs)
-    (λ c κs. (omega (arith, c .before .before .before .before .before .before .before .before .before .before .before .before .before .pre .0, law.part-falls (c .before .before .before .before .before .before .before .before .before .before .before .before .before .args .sorts .now) (c .before .before .before .before .before .before .before .before .before .before .before .before .before .args .nodes .now) (c .before .before .before .before .before .before .before .before .before .before .before .before .before .args .binds .now) (c .before .before .before .before .before .before .before .before .before .before .before .before .before .args .lengths) (c .before .before .before .before .before .before .before .before .before .before .before .before .before .pre .1 .0) (c .before .before .before .before .before .before .before .before .before .before .before .before .before .args .default) (c .before .before .before .before .before .before .before .before .before .before .before .before .before .pre .1 .1) (c .before .before .before .before .before .before .before .before .before .before .before .before .before .args .id .0) _ (c .before .before .before .before .before .before .before .before .before .before .before .before .before .pre .1 .2) (c .before .before .before .before .before .before .before .before .shallow-normalize .ensures) (c .before .before .before .before .before .before .if1 .left) _ (c .before .before .before .before .node .ensures) _ _ (c .before .before .op .given .1)), (c .before .before .before .before .before .before .before .before .before .before .before .before .before .pre .1 .0, c .before .before .before .before .before .before .before .before .before .before .before .before .before .pre .1 .1, law.part-placed (c .before .before .before .before .before .before .before .before .before .before .before .before .before .args .sorts .now) (c .before .before .before .before .before .before .before .before .before .before .before .before .before .args .nodes .now) (c .before .before .before .before .before .before .before .before .before .before .before .before .before .args .binds .now) (c .before .before .before .before .before .before .before .before .before .before .before .before .before .args .lengths) (c .before .before .before .before .before .before .before .before .before .before .before .before .before .pre .1 .0) (c .before .before .before .before .before .before .before .before .before .before .before .before .before .args .default) (c .before .before .before .before .before .before .before .before .before .before .before .before .before .pre .1 .1) (c .before .before .before .before .before .before .before .before .before .before .before .before .before .args .id .0) _ (c .before .before .before .before .before .before .before .before .before .before .before .before .before .pre .1 .2) (c .before .before .before .before .before .before .before .before .shallow-normalize .ensures) (c .before .before .before .before .before .before .if1 .left) _ (c .before .before .before .before .node .ensures) _ _ (c .before .before .op .given .1))))
+    (λ c κs.
+    let at-op = c .before .before in
+    let at-node = at-op .before .before in
+    let at-if1 = at-node .before .before in
+    let at-shallow-normalize = at-if1 .before .before in
+    let start = at-shallow-normalize .before .before .before .before .before in
+    let args = start .args in (
+      omega (
+        arith,
+        start .pre .0,
+        law.part-falls (args .sorts .now) (args .nodes .now) (args .binds .now)
+            (args .lengths) (start .pre .1 .0) (args .default) (start .pre .1 .1) (args .id .0) _ (start .pre .1 .2)
+            (at-shallow-normalize .shallow-normalize .ensures) (at-if1 .if1 .left) _ (at-node .node .ensures) _ _
+            (at-op .op .given .1),
+      ),
+      (
+        start .pre .1 .0,
+        start .pre .1 .1,
+        law.part-placed (args .sorts .now)
+            (args .nodes .now) (args .binds .now) (args .lengths) (start .pre .1 .0) (args .default) (start .pre .1 .1)
+            (args .id .0) _ (start .pre .1 .2) (at-shallow-normalize .shallow-normalize .ensures) (at-if1 .if1 .left) _
+            (at-node .node .ensures) _ _ (at-op .op .given .1),
+      ),
+    ))
     (λ c. search needs)
-    (λ c κs. law.container-asked (c .before .before .before .before .before .before .before .before .before .before .before .before .before .before .before .before .before .before .before .before .args .sorts .now) (c .before .before .before .before .before .before .before .before .before .before .before .before .before .before .before .before .before .before .before .before .args .nodes .now) (c .before .before .before .before .before .before .before .before .before .before .before .before .before .before .before .before .before .before .before .before .args .binds .now) (c .before .before .before .before .before .before .before .before .before .before .before .before .before .before .before .before .before .before .before .before .args .lengths) (c .before .before .before .before .before .before .before .before .before .before .before .before .before .before .before .before .before .before .before .before .pre .1 .0) (c .before .before .before .before .before .before .before .before .before .before .before .before .before .before .before .before .before .before .before .before .args .default) (c .before .before .before .before .before .before .before .before .before .before .before .before .before .before .before .before .before .before .before .before .pre .1 .1) (c .before .before .before .before .before .before .before .before .before .before .before .before .before .before .before .before .before .before .before .before .args .id .0) _ (c .before .before .before .before .before .before .before .before .before .before .before .before .before .before .before .before .before .before .before .before .pre .1 .2) (c .before .before .before .before .before .before .before .before .before .before .before .before .before .before .before .shallow-normalize .ensures) (c .before .before .before .before .before .before .before .before .before .before .before .before .before .if1 .left) _ (c .before .before .before .before .before .before .before .before .before .before .before .node .ensures) _ _ (c .before .before .before .before .before .before .before .before .before .op .given .1) _ (c .before .before .before .before .before .before .resolve-with .result) (c .before .before .before .before .before .before .resolve-with .ensures) _ _ (c .before .before .part .given .1))
+    (λ c κs.
+    let at-part = c .before .before in
+    let at-resolve-with = at-part .before .before .before .before in
+    let at-op = at-resolve-with .before .before .before in
+    let at-node = at-op .before .before in
+    let at-if1 = at-node .before .before in
+    let at-shallow-normalize = at-if1 .before .before in
+    let start = at-shallow-normalize .before .before .before .before .before in
+    let args = start .args in
+    law.container-asked (args .sorts .now) (args .nodes .now) (args .binds .now) (args .lengths) (start .pre .1 .0)
+    (args .default) (start .pre .1 .1) (args .id .0) _ (start .pre .1 .2)
+    (at-shallow-normalize .shallow-normalize .ensures) (at-if1 .if1 .left) _ (at-node .node .ensures) _ _
+    (at-op .op .given .1) _ (at-resolve-with .resolve-with .result) (at-resolve-with .resolve-with .ensures) _ _
+    (at-part .part .given .1))
     (λ c. search needs)
     (λ c. search needs)
     (λ c. search needs)
-    (λ c κs. (omega (arith, c .before .before .before .before .before .before .before .before .before .before .before .before .before .pre .0, law.function-size (c .before .before .before .before .before .before .before .before .before .before .before .before .before .args .sorts .now) (c .before .before .before .before .before .before .before .before .before .before .before .before .before .args .nodes .now) (c .before .before .before .before .before .before .before .before .before .before .before .before .before .args .binds .now) (c .before .before .before .before .before .before .before .before .before .before .before .before .before .args .lengths) (c .before .before .before .before .before .before .before .before .before .before .before .before .before .pre .1 .0) (c .before .before .before .before .before .before .before .before .before .before .before .before .before .args .default) (c .before .before .before .before .before .before .before .before .before .before .before .before .before .pre .1 .1) (c .before .before .before .before .before .before .before .before .before .before .before .before .before .args .id .0) _ (c .before .before .before .before .before .before .before .before .before .before .before .before .before .pre .1 .2) (c .before .before .before .before .before .before .before .before .shallow-normalize .ensures) (c .before .before .before .before .before .before .if1 .left) _ (c .before .before .before .before .node .ensures) _ _ (c .before .before .domain .given .1)), (c .before .before .before .before .before .before .before .before .before .before .before .before .before .pre .1 .0, c .before .before .before .before .before .before .before .before .before .before .before .before .before .pre .1 .1, law.domain-placed (c .before .before .before .before .before .before .before .before .before .before .before .before .before .args .sorts .now) (c .before .before .before .before .before .before .before .before .before .before .before .before .before .args .nodes .now) (c .before .before .before .before .before .before .before .before .before .before .before .before .before .args .binds .now) (c .before .before .before .before .before .before .before .before .before .before .before .before .before .args .lengths) (c .before .before .before .before .before .before .before .before .before .before .before .before .before .pre .1 .0) (c .before .before .before .before .before .before .before .before .before .before .before .before .before .args .default) (c .before .before .before .before .before .before .before .before .before .before .before .before .before .pre .1 .1) (c .before .before .before .before .before .before .before .before .before .before .before .before .before .args .id .0) _ (c .before .before .before .before .before .before .before .before .before .before .before .before .before .pre .1 .2) (c .before .before .before .before .before .before .before .before .shallow-normalize .ensures) (c .before .before .before .before .before .before .if1 .left) _ (c .before .before .before .before .node .ensures) _ _ (c .before .before .domain .given .1), law.range-placed (c .before .before .before .before .before .before .before .before .before .before .before .before .before .args .sorts .now) (c .before .before .before .before .before .before .before .before .before .before .before .before .before .args .nodes .now) (c .before .before .before .before .before .before .before .before .before .before .before .before .before .args .binds .now) (c .before .before .before .before .before .before .before .before .before .before .before .before .before .args .lengths) (c .before .before .before .before .before .before .before .before .before .before .before .before .before .pre .1 .0) (c .before .before .before .before .before .before .before .before .before .before .before .before .before .args .default) (c .before .before .before .before .before .before .before .before .before .before .before .before .before .pre .1 .1) (c .before .before .before .before .before .before .before .before .before .before .before .before .before .args .id .0) _ (c .before .before .before .before .before .before .before .before .before .before .before .before .before .pre .1 .2) (c .before .before .before .before .before .before .before .before .shallow-normalize .ensures) (c .before .before .before .before .before .before .if1 .left) _ (c .before .before .before .before .node .ensures) _ _ (c .before .before .domain .given .1))))
+    (λ c κs.
+    let at-domain = c .before .before in
+    let at-node = at-domain .before .before in
+    let at-if1 = at-node .before .before in
+    let at-shallow-normalize = at-if1 .before .before in
+    let start = at-shallow-normalize .before .before .before .before .before in
+    let args = start .args in (
+      omega (
+        arith,
+        start .pre .0,
+        law.function-size (args .sorts .now) (args .nodes .now) (args .binds .now)
+            (args .lengths) (start .pre .1 .0) (args .default) (start .pre .1 .1) (args .id .0) _ (start .pre .1 .2)
+            (at-shallow-normalize .shallow-normalize .ensures) (at-if1 .if1 .left) _ (at-node .node .ensures) _ _
+            (at-domain .domain .given .1),
+      ),
+      (
+        start .pre .1 .0,
+        start .pre .1 .1,
+        law.domain-placed (args .sorts .now)
+            (args .nodes .now) (args .binds .now) (args .lengths) (start .pre .1 .0) (args .default) (start .pre .1 .1)
+            (args .id .0) _ (start .pre .1 .2) (at-shallow-normalize .shallow-normalize .ensures) (at-if1 .if1 .left) _
+            (at-node .node .ensures) _ _ (at-domain .domain .given .1),
+        law.range-placed (args .sorts .now)
+            (args .nodes .now) (args .binds .now) (args .lengths) (start .pre .1 .0) (args .default) (start .pre .1 .1)
+            (args .id .0) _ (start .pre .1 .2) (at-shallow-normalize .shallow-normalize .ensures) (at-if1 .if1 .left) _
+            (at-node .node .ensures) _ _ (at-domain .domain .given .1),
+      ),
+    ))
     (λ c. search needs)
     (λ c κs. search needs)
     (λ c κs. search needs)
     (λ c. c .before .before .generic .kept .0 ∙ c .before .before .before .before .before .before .before .before .before .resolve-with .kept .0)
-    (λ c. law.container-made (c .before .before .before .before .before .before .before .before .before .before .before .before .before .before .before .before .before .before .before .before .before .before .before .args .sorts .now) (c .before .before .before .before .before .before .before .before .before .before .before .before .before .before .before .before .before .before .before .before .before .before .before .args .nodes .now) (c .before .before .before .before .before .before .before .before .before .before .before .before .before .before .before .before .before .before .before .before .before .before .before .args .binds .now) (c .before .before .before .before .before .before .before .before .before .before .before .before .before .before .before .before .before .before .before .before .before .before .before .args .lengths) (c .before .before .before .before .before .before .before .before .before .before .before .before .before .before .before .before .before .before .before .before .before .before .before .pre .1 .0) (c .before .before .before .before .before .before .before .before .before .before .before .before .before .before .before .before .before .before .before .before .before .before .before .args .default) (c .before .before .before .before .before .before .before .before .before .before .before .before .before .before .before .before .before .before .before .before .before .before .before .pre .1 .1) (c .before .before .before .before .before .before .before .before .before .before .before .before .before .before .before .before .before .before .before .before .before .before .before .args .id .0) _ (c .before .before .before .before .before .before .before .before .before .before .before .before .before .before .before .before .before .before .before .before .before .before .before .pre .1 .2) (c .before .before .before .before .before .before .before .before .before .before .before .before .before .before .before .before .before .before .shallow-normalize .ensures) (c .before .before .before .before .before .before .before .before .before .before .before .before .before .before .before .before .if1 .left) _ (c .before .before .before .before .before .before .before .before .before .before .before .before .before .before .node .ensures) _ _ (c .before .before .before .before .before .before .before .before .before .before .before .before .op .given .1) _ (c .before .before .before .before .before .before .before .before .before .resolve-with .result) (c .before .before .before .before .before .before .before .before .before .resolve-with .ensures) _ _ (c .before .before .before .before .before .part .given .1) _ _ (c .before .before .generic .ensures))
+    (λ c.
+    let at-generic = c .before .before in
+    let at-part = at-generic .before .before .before in
+    let at-resolve-with = at-part .before .before .before .before in
+    let at-op = at-resolve-with .before .before .before in
+    let at-node = at-op .before .before in
+    let at-if1 = at-node .before .before in
+    let at-shallow-normalize = at-if1 .before .before in
+    let start = at-shallow-normalize .before .before .before .before .before in
+    let args = start .args in
+    law.container-made (args .sorts .now) (args .nodes .now) (args .binds .now) (args .lengths) (start .pre .1 .0)
+    (args .default) (start .pre .1 .1) (args .id .0) _ (start .pre .1 .2)
+    (at-shallow-normalize .shallow-normalize .ensures) (at-if1 .if1 .left) _ (at-node .node .ensures) _ _
+    (at-op .op .given .1) _ (at-resolve-with .resolve-with .result) (at-resolve-with .resolve-with .ensures) _ _
+    (at-part .part .given .1) _ _ (at-generic .generic .ensures))
     (λ c. search needs)
-    (λ c. law.container-stops (c .before .before .before .before .before .before .before .before .before .before .before .before .before .before .before .before .before .before .before .args .sorts .now) (c .before .before .before .before .before .before .before .before .before .before .before .before .before .before .before .before .before .before .before .args .nodes .now) (c .before .before .before .before .before .before .before .before .before .before .before .before .before .before .before .before .before .before .before .args .binds .now) (c .before .before .before .before .before .before .before .before .before .before .before .before .before .before .before .before .before .before .before .args .lengths) (c .before .before .before .before .before .before .before .before .before .before .before .before .before .before .before .before .before .before .before .pre .1 .0) (c .before .before .before .before .before .before .before .before .before .before .before .before .before .before .before .before .before .before .before .args .default) (c .before .before .before .before .before .before .before .before .before .before .before .before .before .before .before .before .before .before .before .pre .1 .1) (c .before .before .before .before .before .before .before .before .before .before .before .before .before .before .before .before .before .before .before .args .id .0) _ (c .before .before .before .before .before .before .before .before .before .before .before .before .before .before .before .before .before .before .before .pre .1 .2) (c .before .before .before .before .before .before .before .before .before .before .before .before .before .before .shallow-normalize .ensures) (c .before .before .before .before .before .before .before .before .before .before .before .before .if1 .left) _ (c .before .before .before .before .before .before .before .before .before .before .node .ensures) _ _ (c .before .before .before .before .before .before .before .before .op .given .1) _ (c .before .before .before .before .before .resolve-with .result) (c .before .before .before .before .before .resolve-with .ensures) _ (c .before .made .given .1))
+    (λ c.
+    let at-resolve-with = c .before .before .before .before .before in
+    let at-op = at-resolve-with .before .before .before in
+    let at-node = at-op .before .before in
+    let at-if1 = at-node .before .before in
+    let at-shallow-normalize = at-if1 .before .before in
+    let start = at-shallow-normalize .before .before .before .before .before in
+    let args = start .args in
+    law.container-stops (args .sorts .now) (args .nodes .now) (args .binds .now) (args .lengths) (start .pre .1 .0)
+    (args .default) (start .pre .1 .1) (args .id .0) _ (start .pre .1 .2)
+    (at-shallow-normalize .shallow-normalize .ensures) (at-if1 .if1 .left) _ (at-node .node .ensures) _ _
+    (at-op .op .given .1) _ (at-resolve-with .resolve-with .result) (at-resolve-with .resolve-with .ensures) _
+    (c .before .made .given .1))
     (λ c. search needs)
-    (λ c. law.container-ends (c .before .before .before .before .before .before .before .before .before .before .before .before .before .before .before .before .before .before .args .sorts .now) (c .before .before .before .before .before .before .before .before .before .before .before .before .before .before .before .before .before .before .args .nodes .now) (c .before .before .before .before .before .before .before .before .before .before .before .before .before .before .before .before .before .before .args .binds .now) (c .before .before .before .before .before .before .before .before .before .before .before .before .before .before .before .before .before .before .args .lengths) (c .before .before .before .before .before .before .before .before .before .before .before .before .before .before .before .before .before .before .pre .1 .0) (c .before .before .before .before .before .before .before .before .before .before .before .before .before .before .before .before .before .before .args .default) (c .before .before .before .before .before .before .before .before .before .before .before .before .before .before .before .before .before .before .pre .1 .1) (c .before .before .before .before .before .before .before .before .before .before .before .before .before .before .before .before .before .before .args .id .0) _ (c .before .before .before .before .before .before .before .before .before .before .before .before .before .before .before .before .before .before .pre .1 .2) (c .before .before .before .before .before .before .before .before .before .before .before .before .before .shallow-normalize .ensures) (c .before .before .before .before .before .before .before .before .before .before .before .if1 .left) _ (c .before .before .before .before .before .before .before .before .before .node .ensures) _ _ (c .before .before .before .before .before .before .before .op .given .1) _ (c .before .before .before .before .resolve-with .result) (c .before .before .before .before .resolve-with .ensures) (c .enum-told .given .1))
+    (λ c.
+    let at-resolve-with = c .before .before .before .before in
+    let at-op = at-resolve-with .before .before .before in
+    let at-node = at-op .before .before in
+    let at-if1 = at-node .before .before in
+    let at-shallow-normalize = at-if1 .before .before in
+    let start = at-shallow-normalize .before .before .before .before .before in
+    let args = start .args in
+    law.container-ends (args .sorts .now) (args .nodes .now) (args .binds .now) (args .lengths) (start .pre .1 .0)
+    (args .default) (start .pre .1 .1) (args .id .0) _ (start .pre .1 .2)
+    (at-shallow-normalize .shallow-normalize .ensures) (at-if1 .if1 .left) _ (at-node .node .ensures) _ _
+    (at-op .op .given .1) _ (at-resolve-with .resolve-with .result) (at-resolve-with .resolve-with .ensures)
+    (c .enum-told .given .1))
     (λ c. search needs)
-    (λ c. law.function-resolved (c .before .before .before .before .before .before .before .before .before .before .before .before .before .before .before .before .args .sorts .now) (c .before .before .before .before .before .before .before .before .before .before .before .before .before .before .before .before .args .nodes .now) (c .before .before .before .before .before .before .before .before .before .before .before .before .before .before .before .before .args .binds .now) (c .before .before .before .before .before .before .before .before .before .before .before .before .before .before .before .before .args .lengths) (c .before .before .before .before .before .before .before .before .before .before .before .before .before .before .before .before .pre .1 .0) (c .before .before .before .before .before .before .before .before .before .before .before .before .before .before .before .before .args .default) (c .before .before .before .before .before .before .before .before .before .before .before .before .before .before .before .before .pre .1 .1) (c .before .before .before .before .before .before .before .before .before .before .before .before .before .before .before .before .args .id .0) _ (c .before .before .before .before .before .before .before .before .before .before .before .before .before .before .before .before .pre .1 .2) (c .before .before .before .before .before .before .before .before .before .before .before .shallow-normalize .ensures) (c .before .before .before .before .before .before .before .before .before .if1 .left) _ (c .before .before .before .before .before .before .before .node .ensures) _ _ (c .before .before .before .before .before .domain .given .1) _ _ (c .before .before .resolve-function .ensures))
+    (λ c.
+    let at-resolve-function = c .before .before in
+    let at-domain = at-resolve-function .before .before .before in
+    let at-node = at-domain .before .before in
+    let at-if1 = at-node .before .before in
+    let at-shallow-normalize = at-if1 .before .before in
+    let start = at-shallow-normalize .before .before .before .before .before in
+    let args = start .args in
+    law.function-resolved (args .sorts .now) (args .nodes .now) (args .binds .now) (args .lengths) (start .pre .1 .0)
+    (args .default) (start .pre .1 .1) (args .id .0) _ (start .pre .1 .2)
+    (at-shallow-normalize .shallow-normalize .ensures) (at-if1 .if1 .left) _ (at-node .node .ensures) _ _
+    (at-domain .domain .given .1) _ _ (at-resolve-function .resolve-function .ensures))
     (λ c. search needs)
-    (λ c. law.variable-answers (c .before .before .before .before .before .before .before .before .before .before .before .before .before .args .sorts .now) (c .before .before .before .before .before .before .before .before .before .before .before .before .before .args .nodes .now) (c .before .before .before .before .before .before .before .before .before .before .before .before .before .args .binds .now) (c .before .before .before .before .before .before .before .before .before .before .before .before .before .args .lengths) (c .before .before .before .before .before .before .before .before .before .before .before .before .before .pre .1 .0) (c .before .before .before .before .before .before .before .before .before .before .before .before .before .args .default) (c .before .before .before .before .before .before .before .before .before .before .before .before .before .pre .1 .1) (c .before .before .before .before .before .before .before .before .before .before .before .before .before .args .id .0) _ (c .before .before .before .before .before .before .before .before .before .before .before .before .before .pre .1 .2) (c .before .before .before .before .before .before .before .before .shallow-normalize .ensures) (c .before .before .before .before .before .before .if1 .left) _ (c .before .before .before .before .node .ensures) _ (c .before .before .enum-told2 .given .1) _ (c .before .counts-of2 .ensures) _ (c .free-sort .ensures))
+    (λ c.
+    let at-enum-told2 = c .before .before in
+    let at-node = at-enum-told2 .before .before in
+    let at-if1 = at-node .before .before in
+    let at-shallow-normalize = at-if1 .before .before in
+    let start = at-shallow-normalize .before .before .before .before .before in
+    let args = start .args in
+    law.variable-answers (args .sorts .now) (args .nodes .now) (args .binds .now) (args .lengths) (start .pre .1 .0)
+    (args .default) (start .pre .1 .1) (args .id .0) _ (start .pre .1 .2)
+    (at-shallow-normalize .shallow-normalize .ensures) (at-if1 .if1 .left) _ (at-node .node .ensures) _
+    (at-enum-told2 .enum-told2 .given .1) _ (c .before .counts-of2 .ensures) _ (c .free-sort .ensures))

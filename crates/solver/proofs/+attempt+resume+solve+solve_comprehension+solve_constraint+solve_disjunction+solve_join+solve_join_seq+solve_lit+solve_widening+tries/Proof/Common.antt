@@ -36,7 +36,8 @@ abbrev pub μ-solve : Measures 5 solve-kinds.ps ℕ
 μ-solve κs a = (a .1 .1 .1 .1 .1 .0 .constraints - a .1 .1 .1 .1 .1 .1 .1 .1 .0) * 10000000000
 
 abbrev pub μ-solve-comprehension : Measures 5 solve-comprehension-kinds.ps ℕ
-μ-solve-comprehension κs a = work (a .1 .1 .1 .1 .1 .0 .constraints) (a .1 .1 .1 .1 .1 .1 .1 .1 .1 .1 .1 .1 .1 .0) + 3 + (3 - a .1 .1 .1 .1 .1 .1 .1 .1 .1 .1 .1 .0)
+μ-solve-comprehension κs a = work (a .1 .1 .1 .1 .1 .0 .constraints) (a .1 .1 .1 .1 .1 .1 .1 .1 .1 .1 .1 .1 .1 .0) + 3
+    + (3 - a .1 .1 .1 .1 .1 .1 .1 .1 .1 .1 .1 .0)
 
 abbrev pub μ-solve-constraint : Measures 5 solve-constraint-kinds.ps ℕ
 μ-solve-constraint κs a = (a .1 .1 .1 .1 .1 .0 .constraints - a .1 .1 .1 .1 .1 .1 .1 .1 .1 .0) * 10000000000 + 5000000000
@@ -48,7 +49,8 @@ abbrev pub μ-solve-join : Measures 5 solve-join-kinds.ps ℕ
 μ-solve-join κs a = (a .1 .1 .1 .1 .1 .0 .constraints - a .1 .1 .1 .1 .1 .1 .1 .1 .1 .1 .0) * 10000000000 + 4620000000
 
 abbrev pub μ-solve-join-seq : Measures 5 solve-join-seq-kinds.ps ℕ
-μ-solve-join-seq κs a = (a .1 .1 .1 .1 .1 .0 .constraints - a .1 .1 .1 .1 .1 .1 .1 .1 .1 .1 .1 .0) * 10000000000 + 1 + 70000 * (a .1 .1 .1 .1 .1 .1 .1 .1 .1 .1 .0 - a .1 .1 .1 .1 .1 .1 .1 .1 .1 .0)
+μ-solve-join-seq κs a = (a .1 .1 .1 .1 .1 .0 .constraints - a .1 .1 .1 .1 .1 .1 .1 .1 .1 .1 .1 .0) * 10000000000 + 1 +
+    70000 * (a .1 .1 .1 .1 .1 .1 .1 .1 .1 .1 .0 - a .1 .1 .1 .1 .1 .1 .1 .1 .1 .0)
 
 abbrev pub μ-solve-lit : Measures 5 solve-lit-kinds.ps ℕ
 μ-solve-lit κs a = work (a .1 .1 .1 .1 .1 .0 .constraints) (a .1 .1 .1 .1 .1 .1 .1 .1 .1 .1 .0) + 20
@@ -57,7 +59,8 @@ abbrev pub μ-solve-widening : Measures 5 solve-widening-kinds.ps ℕ
 μ-solve-widening κs a = work (a .1 .1 .1 .1 .1 .0 .constraints) (a .1 .1 .1 .1 .1 .1 .1 .1 .1 .1 .0) + 20
 
 abbrev pub μ-tries : Measures 5 tries-kinds.ps ℕ
-μ-tries κs a = work (a .1 .1 .1 .1 .1 .0 .constraints) (a .1 .1 .1 .1 .1 .1 .1 .1 .1 .1 .0) + 3 + (a .1 .1 .1 .1 .1 .1 .1 .1 .0 .count - a .1 .1 .1 .1 .1 .1 .1 .1 .1 .0)
+μ-tries κs a = work (a .1 .1 .1 .1 .1 .0 .constraints) (a .1 .1 .1 .1 .1 .1 .1 .1 .1 .1 .0) + 3 +
+    (a .1 .1 .1 .1 .1 .1 .1 .1 .0 .count - a .1 .1 .1 .1 .1 .1 .1 .1 .1 .0)
 
 abbrev pub attempt-at : ℕ → In 5 attempt-kinds.ps
 attempt-at t = and 5 attempt-kinds.ps (is 5 attempt-kinds.ps μ-attempt t) attempt.Pre

@@ -6,22 +6,67 @@ use Rattle.solver.proofs.solve_widening.Reads as solve-widening
 use Rattle.problem_words.proofs.source_at.Reads as source-at-reads
 use native.Mathlib.Omega.{arith}
 use Rattle.solver.proofs.Joins as jo
-use Rattle.solver.proofs.+attempt+resume+solve+solve_comprehension+solve_constraint+solve_disjunction+solve_join+solve_join_seq+solve_lit+solve_widening+tries.Proof.Common.{solve-below, solve-join-seq-at, solve-widening-below}
+use Rattle.solver.proofs.+attempt+resume+solve+solve_comprehension+solve_constraint+solve_disjunction+solve_join+solve_join_seq+solve_lit+solve_widening+tries.Proof.Common.{solve-below}
+use Rattle.solver.proofs.+attempt+resume+solve+solve_comprehension+solve_constraint+solve_disjunction+solve_join+solve_join_seq+solve_lit+solve_widening+tries.Proof.Common.{solve-join-seq-at}
+use Rattle.solver.proofs.+attempt+resume+solve+solve_comprehension+solve_constraint+solve_disjunction+solve_join+solve_join_seq+solve_lit+solve_widening+tries.Proof.Common.{solve-widening-below}
 
-pub part : (M : Type 1) (t : ℕ) → solve-join-seq-lts.Closed (solve-below t, solve.Post, source-at-reads.Asked, source-at-reads.Learnt, solve-widening-below t, solve-widening.Post) (solve-join-seq-at t) solve-join-seq.Post M
+pub part : (M : Type 1) (t : ℕ) → solve-join-seq-lts.Closed (
+  solve-below t,
+  solve.Post,
+  source-at-reads.Asked,
+  source-at-reads.Learnt,
+  solve-widening-below t,
+  solve-widening.Post,
+) (solve-join-seq-at t) solve-join-seq.Post M
 part M t =
-    solve-join-seq-lts.spec (solve-below t, solve.Post, source-at-reads.Asked, source-at-reads.Learnt, solve-widening-below t, solve-widening.Post) (solve-join-seq-at t) solve-join-seq.Post
-    (λ c κs. (omega (arith, c .before .before .before .before .before .before .before .before .before .before .pre .0, c .before .before .before .before .if1 .taken), jo.then-asked _ _ _ _ _ _ _ _ _ _ _ _ (c .before .before .before .before .before .before .before .before .before .before .pre .1) (c .before .before .before .before .if1 .taken)))
+    solve-join-seq-lts.spec (
+      solve-below t,
+      solve.Post,
+      source-at-reads.Asked,
+      source-at-reads.Learnt,
+      solve-widening-below t,
+      solve-widening.Post,
+    ) (solve-join-seq-at t) solve-join-seq.Post
+    (λ c κs.
+    let at-if1 = c .before .before .before .before in
+    let start = at-if1 .before .before .before .before .before .before in
+    (omega (arith, start .pre .0, at-if1 .if1 .taken), jo.then-asked _ _ _ _ _ _ _ _ _ _ _ _ (start .pre .1) (at-if1 .if1 .taken)))
     (λ c. c .before .before .before .before .before .before .before .before .solve .kept .0)
     (λ c. c .before .before .before .before .before .before .before .before .solve .kept .1 .0)
     (λ c. c .before .before .before .before .before .before .before .before .solve .kept .1 .1 .0)
     (λ c. c .before .before .before .before .before .before .before .before .solve .kept .1 .1 .1 .0)
-    (λ c. jo.seq-done _ _ _ _ _ _ _ _ _ _ _ _ (c .before .before .before .before .before .before .before .before .before .before .before .before .before .before .before .before .before .before .before .pre .1) (c .before .before .before .before .before .before .before .before .before .before .before .before .before .if1 .taken) _ _ _ _ _ (c .before .before .before .before .before .before .before .before .solve .ensures))
+    (λ c.
+    let at-solve = c .before .before .before .before .before .before .before .before in
+    let at-if1 = at-solve .before .before .before .before .before in
+    let start = at-if1 .before .before .before .before .before .before in
+    jo.seq-done _ _ _ _ _ _ _ _ _ _ _ _ (start .pre .1) (at-if1 .if1 .taken) _ _ _ _ _ (at-solve .solve .ensures))
     (λ c κs. tt)
-    (λ c. omega (arith, c .before .before .before .before .before .if1 .left, c .before .before .before .before .before .before .before .before .before .before .before .pre .1 .fine .1 .inside, c .before .before .before .before .before .before .before .before .before .before .before .pre .1 .sized .sources))
-    (λ c κs. (omega (arith, c .before .before .before .before .before .before .before .before .before .before .before .pre .0, c .before .before .before .before .before .if1 .left), (jo.source-asked _ _ _ _ _ _ _ _ _ _ _ _ (c .before .before .before .before .before .before .before .before .before .before .before .pre .1) (c .before .before .before .before .before .if1 .left) _ (c .before .before .before .before .source-at .ensures), jo.source-placed _ _ _ _ _ _ _ _ _ _ _ _ (c .before .before .before .before .before .before .before .before .before .before .before .pre .1) (c .before .before .before .before .before .if1 .left) _ (c .before .before .before .before .source-at .ensures) .0, jo.source-placed _ _ _ _ _ _ _ _ _ _ _ _ (c .before .before .before .before .before .before .before .before .before .before .before .pre .1) (c .before .before .before .before .before .if1 .left) _ (c .before .before .before .before .source-at .ensures) .1)))
+    (λ c.
+    let at-if1 = c .before .before .before .before .before in
+    let start = at-if1 .before .before .before .before .before .before in
+    omega (arith, at-if1 .if1 .left, start .pre .1 .fine .1 .inside, start .pre .1 .sized .sources))
+    (λ c κs.
+    let at-source-at = c .before .before .before .before in
+    let at-if1 = at-source-at .before in
+    let start = at-if1 .before .before .before .before .before .before in (
+      omega (arith, start .pre .0, at-if1 .if1 .left),
+      (
+        jo.source-asked _ _ _ _ _ _ _ _ _ _ _ _ (start .pre .1)
+            (at-if1 .if1 .left) _ (at-source-at .source-at .ensures),
+        jo.source-placed _ _ _ _ _ _ _ _ _ _ _ _
+            (start .pre .1) (at-if1 .if1 .left) _ (at-source-at .source-at .ensures) .0,
+        jo.source-placed _ _ _ _ _ _ _ _
+            _ _ _ _ (start .pre .1) (at-if1 .if1 .left) _ (at-source-at .source-at .ensures) .1,
+      ),
+    ))
     (λ c. c .before .before .before .before .before .before .before .before .solve-widening .kept .0)
     (λ c. c .before .before .before .before .before .before .before .before .solve-widening .kept .1 .0)
     (λ c. c .before .before .before .before .before .before .before .before .solve-widening .kept .1 .1 .0)
     (λ c. c .before .before .before .before .before .before .before .before .solve-widening .kept .1 .1 .1 .0)
-    (λ c. jo.seq-more _ _ _ _ _ _ _ _ _ _ _ _ (c .before .before .before .before .before .before .before .before .before .before .before .before .before .before .before .before .before .before .before .before .pre .1) (c .before .before .before .before .before .before .before .before .before .before .before .before .before .before .if1 .left) _ (c .before .before .before .before .before .before .before .before .before .before .before .before .before .source-at .ensures) _ _ _ _ _ (c .before .before .before .before .before .before .before .before .solve-widening .ensures))
+    (λ c.
+    let at-solve-widening = c .before .before .before .before .before .before .before .before in
+    let at-source-at = at-solve-widening .before .before .before .before .before in
+    let at-if1 = at-source-at .before in
+    let start = at-if1 .before .before .before .before .before .before in
+    jo.seq-more _ _ _ _ _ _ _ _ _ _ _ _ (start .pre .1) (at-if1 .if1 .left) _ (at-source-at .source-at .ensures) _ _ _
+    _ _ (at-solve-widening .solve-widening .ensures))

@@ -10,38 +10,200 @@ use mathlib.Core.Path.{_∙_}
 use native.Mathlib.Omega.{arith}
 use Rattle.solver.proofs.Widening as wi
 use Rattle.solver.proofs.Told.{not-missed}
-use Rattle.solver.proofs.+attempt+resume+solve+solve_comprehension+solve_constraint+solve_disjunction+solve_join+solve_join_seq+solve_lit+solve_widening+tries.Proof.Common.{attempt-below, solve-widening-at, tries-below}
+use Rattle.solver.proofs.+attempt+resume+solve+solve_comprehension+solve_constraint+solve_disjunction+solve_join+solve_join_seq+solve_lit+solve_widening+tries.Proof.Common.{attempt-below}
+use Rattle.solver.proofs.+attempt+resume+solve+solve_comprehension+solve_constraint+solve_disjunction+solve_join+solve_join_seq+solve_lit+solve_widening+tries.Proof.Common.{solve-widening-at}
+use Rattle.solver.proofs.+attempt+resume+solve+solve_comprehension+solve_constraint+solve_disjunction+solve_join+solve_join_seq+solve_lit+solve_widening+tries.Proof.Common.{tries-below}
 
-pub part : (M : Type 1) (t : ℕ) → solve-widening-lts.Closed (attempt-below t, attempt.Post, widenings-of-reads.Asked, widenings-of-reads.Learnt, with-lengths-reads.Asked, with-lengths-reads.Learnt, tries-below t, tries.Post, give-back-reads.Asked, give-back-reads.Learnt) (solve-widening-at t) solve-widening.Post M
+pub part : (M : Type 1) (t : ℕ) → solve-widening-lts.Closed (
+  attempt-below t,
+  attempt.Post,
+  widenings-of-reads.Asked,
+  widenings-of-reads.Learnt,
+  with-lengths-reads.Asked,
+  with-lengths-reads.Learnt,
+  tries-below t,
+  tries.Post,
+  give-back-reads.Asked,
+  give-back-reads.Learnt,
+) (solve-widening-at t) solve-widening.Post M
 part M t =
-    solve-widening-lts.spec (attempt-below t, attempt.Post, widenings-of-reads.Asked, widenings-of-reads.Learnt, with-lengths-reads.Asked, with-lengths-reads.Learnt, tries-below t, tries.Post, give-back-reads.Asked, give-back-reads.Learnt) (solve-widening-at t) solve-widening.Post
-    (λ c κs. (omega (arith, c .before .before .before .before .before .before .before .before .before .pre .0), (c .before .before .before .before .before .before .before .before .before .pre .1 .0, (c .before .before .before .before .before .before .before .before .before .pre .1 .1, c .before .before .before .before .before .before .before .before .before .pre .1 .2))))
+    solve-widening-lts.spec (
+      attempt-below t,
+      attempt.Post,
+      widenings-of-reads.Asked,
+      widenings-of-reads.Learnt,
+      with-lengths-reads.Asked,
+      with-lengths-reads.Learnt,
+      tries-below t,
+      tries.Post,
+      give-back-reads.Asked,
+      give-back-reads.Learnt,
+    ) (solve-widening-at t) solve-widening.Post
+    (λ c κs.
+    let start = c .before .before .before .before .before .before .before .before .before in
+    (omega (arith, start .pre .0), (start .pre .1 .0, (start .pre .1 .1, start .pre .1 .2))))
     (λ c. c .match .keys1)
     (λ c. c .before .before .before .before .before .before .before .before .before .attempt .kept .0)
     (λ c. c .before .before .before .before .before .before .before .before .before .attempt .kept .1 .0)
     (λ c. c .before .before .before .before .before .before .before .before .before .attempt .kept .1 .1 .0)
     (λ c. c .before .before .before .before .before .before .before .before .before .attempt .kept .1 .1 .1 .0)
-    (λ c. wi.widen-stop _ _ _ _ _ _ _ _ _ _ _ (c .before .before .before .before .before .before .before .before .before .before .before .before .before .before .before .before .before .before .before .pre .1 .0) _ _ _ _ _ (c .before .before .before .before .before .before .before .before .before .attempt .ensures) (not-missed (c .match .keys2)))
-    (λ c κs. ((wi.asked-again _ _ _ _ _ _ _ _ _ _ _ (c .before .before .before .before .before .before .before .before .before .before .before .before .before .before .before .before .before .before .before .before .before .before .before .before .before .pre .1 .0) _ _ _ _ _ (c .before .before .before .before .before .before .before .before .before .before .before .before .before .before .before .attempt .ensures) _ (c .before .before .before .before .before .first .given .1)) .ready, (wi.still-there _ _ _ _ _ _ _ _ _ _ _ (c .before .before .before .before .before .before .before .before .before .before .before .before .before .before .before .before .before .before .before .before .before .before .before .before .before .pre .1 .0) _ _ _ _ _ (c .before .before .before .before .before .before .before .before .before .before .before .before .before .before .before .attempt .ensures) _ (c .before .before .before .before .before .first .given .1) _ (c .before .before .before .before .before .before .before .before .before .before .before .before .before .before .before .before .before .before .before .before .before .before .before .before .before .pre .1 .1)), (wi.still-there _ _ _ _ _ _ _ _ _ _ _ (c .before .before .before .before .before .before .before .before .before .before .before .before .before .before .before .before .before .before .before .before .before .before .before .before .before .pre .1 .0) _ _ _ _ _ (c .before .before .before .before .before .before .before .before .before .before .before .before .before .before .before .attempt .ensures) _ (c .before .before .before .before .before .first .given .1) _ (c .before .before .before .before .before .before .before .before .before .before .before .before .before .before .before .before .before .before .before .before .before .before .before .before .before .pre .1 .2))))
+    (λ c.
+    let at-attempt = c .before .before .before .before .before .before .before .before .before in
+    let start = at-attempt .before .before .before .before .before .before .before .before .before .before in
+    wi.widen-stop _ _ _ _ _ _ _ _ _ _ _ (start .pre .1 .0) _ _ _ _ _ (at-attempt .attempt .ensures) (not-missed (c .match .keys2)))
+    (λ c κs.
+    let at-first = c .before .before .before .before .before in
+    let at-attempt = at-first .before .before .before .before .before .before .before .before .before .before in
+    let start = at-attempt .before .before .before .before .before .before .before .before .before .before in (
+      (wi.asked-again _ _ _ _ _ _ _ _ _ _ _ (start .pre .1 .0) _ _ _ _ _ (at-attempt .attempt .ensures) _
+          (at-first .first .given .1)) .ready,
+      (wi.still-there _ _ _ _ _ _ _ _ _ _ _ (start .pre .1 .0) _ _ _ _ _
+          (at-attempt .attempt .ensures) _ (at-first .first .given .1) _ (start .pre .1 .1)),
+      (wi.still-there _ _ _ _ _
+          _ _ _ _ _ _ (start .pre .1 .0) _ _ _ _ _ (at-attempt .attempt .ensures) _ (at-first .first .given .1) _
+          (start .pre .1 .2)),
+    ))
     (λ c. c .match2 .keys1)
     (λ c κs. tt)
-    (λ c κs. (omega (arith, c .before .before .before .before .before .before .before .before .before .before .before .before .before .before .before .before .before .before .before .before .before .before .before .before .before .before .before .before .before .before .before .before .before .before .before .before .before .before .pre .0, wi.tries-fine-here _ _ _ _ _ _ _ _ _ _ _ (wi.asked-again _ _ _ _ _ _ _ _ _ _ _ (c .before .before .before .before .before .before .before .before .before .before .before .before .before .before .before .before .before .before .before .before .before .before .before .before .before .before .before .before .before .before .before .before .before .before .before .before .before .before .pre .1 .0) _ _ _ _ _ (c .before .before .before .before .before .before .before .before .before .before .before .before .before .before .before .before .before .before .before .before .before .before .before .before .before .before .before .before .attempt .ensures) _ (c .before .before .before .before .before .before .before .before .before .before .before .before .before .before .before .before .before .before .first .given .1)) (wi.still-there _ _ _ _ _ _ _ _ _ _ _ (c .before .before .before .before .before .before .before .before .before .before .before .before .before .before .before .before .before .before .before .before .before .before .before .before .before .before .before .before .before .before .before .before .before .before .before .before .before .before .pre .1 .0) _ _ _ _ _ (c .before .before .before .before .before .before .before .before .before .before .before .before .before .before .before .before .before .before .before .before .before .before .before .before .before .before .before .before .attempt .ensures) _ (c .before .before .before .before .before .before .before .before .before .before .before .before .before .before .before .before .before .before .first .given .1) _ (c .before .before .before .before .before .before .before .before .before .before .before .before .before .before .before .before .before .before .before .before .before .before .before .before .before .before .before .before .before .before .before .before .before .before .before .before .before .before .pre .1 .1)) (wi.still-there _ _ _ _ _ _ _ _ _ _ _ (c .before .before .before .before .before .before .before .before .before .before .before .before .before .before .before .before .before .before .before .before .before .before .before .before .before .before .before .before .before .before .before .before .before .before .before .before .before .before .pre .1 .0) _ _ _ _ _ (c .before .before .before .before .before .before .before .before .before .before .before .before .before .before .before .before .before .before .before .before .before .before .before .before .before .before .before .before .attempt .ensures) _ (c .before .before .before .before .before .before .before .before .before .before .before .before .before .before .before .before .before .before .first .given .1) _ (c .before .before .before .before .before .before .before .before .before .before .before .before .before .before .before .before .before .before .before .before .before .before .before .before .before .before .before .before .before .before .before .before .before .before .before .before .before .before .pre .1 .2)) _ _ _ (c .before .before .before .before .before .before .before .before .before .before .before .before .widenings-of .ensures) _ _ (c .before .before .before .before .before .before .t .given .1) _ (c .with-lengths .ensures) .few), (wi.tries-asked _ _ _ _ _ _ _ _ _ _ _ (wi.asked-again _ _ _ _ _ _ _ _ _ _ _ (c .before .before .before .before .before .before .before .before .before .before .before .before .before .before .before .before .before .before .before .before .before .before .before .before .before .before .before .before .before .before .before .before .before .before .before .before .before .before .pre .1 .0) _ _ _ _ _ (c .before .before .before .before .before .before .before .before .before .before .before .before .before .before .before .before .before .before .before .before .before .before .before .before .before .before .before .before .attempt .ensures) _ (c .before .before .before .before .before .before .before .before .before .before .before .before .before .before .before .before .before .before .first .given .1)) (wi.still-there _ _ _ _ _ _ _ _ _ _ _ (c .before .before .before .before .before .before .before .before .before .before .before .before .before .before .before .before .before .before .before .before .before .before .before .before .before .before .before .before .before .before .before .before .before .before .before .before .before .before .pre .1 .0) _ _ _ _ _ (c .before .before .before .before .before .before .before .before .before .before .before .before .before .before .before .before .before .before .before .before .before .before .before .before .before .before .before .before .attempt .ensures) _ (c .before .before .before .before .before .before .before .before .before .before .before .before .before .before .before .before .before .before .first .given .1) _ (c .before .before .before .before .before .before .before .before .before .before .before .before .before .before .before .before .before .before .before .before .before .before .before .before .before .before .before .before .before .before .before .before .before .before .before .before .before .before .pre .1 .1)) (wi.still-there _ _ _ _ _ _ _ _ _ _ _ (c .before .before .before .before .before .before .before .before .before .before .before .before .before .before .before .before .before .before .before .before .before .before .before .before .before .before .before .before .before .before .before .before .before .before .before .before .before .before .pre .1 .0) _ _ _ _ _ (c .before .before .before .before .before .before .before .before .before .before .before .before .before .before .before .before .before .before .before .before .before .before .before .before .before .before .before .before .attempt .ensures) _ (c .before .before .before .before .before .before .before .before .before .before .before .before .before .before .before .before .before .before .first .given .1) _ (c .before .before .before .before .before .before .before .before .before .before .before .before .before .before .before .before .before .before .before .before .before .before .before .before .before .before .before .before .before .before .before .before .before .before .before .before .before .before .pre .1 .2)) _ _ _ (c .before .before .before .before .before .before .before .before .before .before .before .before .widenings-of .ensures) _ _ (c .before .before .before .before .before .before .t .given .1) _ (c .with-lengths .ensures), wi.tries-fine-here _ _ _ _ _ _ _ _ _ _ _ (wi.asked-again _ _ _ _ _ _ _ _ _ _ _ (c .before .before .before .before .before .before .before .before .before .before .before .before .before .before .before .before .before .before .before .before .before .before .before .before .before .before .before .before .before .before .before .before .before .before .before .before .before .before .pre .1 .0) _ _ _ _ _ (c .before .before .before .before .before .before .before .before .before .before .before .before .before .before .before .before .before .before .before .before .before .before .before .before .before .before .before .before .attempt .ensures) _ (c .before .before .before .before .before .before .before .before .before .before .before .before .before .before .before .before .before .before .first .given .1)) (wi.still-there _ _ _ _ _ _ _ _ _ _ _ (c .before .before .before .before .before .before .before .before .before .before .before .before .before .before .before .before .before .before .before .before .before .before .before .before .before .before .before .before .before .before .before .before .before .before .before .before .before .before .pre .1 .0) _ _ _ _ _ (c .before .before .before .before .before .before .before .before .before .before .before .before .before .before .before .before .before .before .before .before .before .before .before .before .before .before .before .before .attempt .ensures) _ (c .before .before .before .before .before .before .before .before .before .before .before .before .before .before .before .before .before .before .first .given .1) _ (c .before .before .before .before .before .before .before .before .before .before .before .before .before .before .before .before .before .before .before .before .before .before .before .before .before .before .before .before .before .before .before .before .before .before .before .before .before .before .pre .1 .1)) (wi.still-there _ _ _ _ _ _ _ _ _ _ _ (c .before .before .before .before .before .before .before .before .before .before .before .before .before .before .before .before .before .before .before .before .before .before .before .before .before .before .before .before .before .before .before .before .before .before .before .before .before .before .pre .1 .0) _ _ _ _ _ (c .before .before .before .before .before .before .before .before .before .before .before .before .before .before .before .before .before .before .before .before .before .before .before .before .before .before .before .before .attempt .ensures) _ (c .before .before .before .before .before .before .before .before .before .before .before .before .before .before .before .before .before .before .first .given .1) _ (c .before .before .before .before .before .before .before .before .before .before .before .before .before .before .before .before .before .before .before .before .before .before .before .before .before .before .before .before .before .before .before .before .before .before .before .before .before .before .pre .1 .2)) _ _ _ (c .before .before .before .before .before .before .before .before .before .before .before .before .widenings-of .ensures) _ _ (c .before .before .before .before .before .before .t .given .1) _ (c .with-lengths .ensures))))
+    (λ c κs.
+    let at-t = c .before .before .before .before .before .before in
+    let at-widenings-of = at-t .before .before .before .before .before .before in
+    let at-first = at-widenings-of .before .before .before .before .before .before in
+    let at-attempt = at-first .before .before .before .before .before .before .before .before .before .before in
+    let start = at-attempt .before .before .before .before .before .before .before .before .before .before in (
+      omega (
+        arith,
+        start .pre .0,
+        wi.tries-fine-here _ _ _ _ _ _ _ _ _ _ _ (wi.asked-again _ _ _ _ _ _ _ _ _ _ _
+            (start .pre .1 .0) _ _ _ _ _ (at-attempt .attempt .ensures) _ (at-first .first .given .1)) (wi.still-there _ _
+            _ _ _ _ _ _ _ _ _ (start .pre .1 .0) _ _ _ _ _ (at-attempt .attempt .ensures) _ (at-first .first .given .1) _
+            (start .pre .1 .1)) (wi.still-there _ _ _ _ _ _ _ _ _ _ _ (start .pre .1 .0) _ _ _ _ _
+            (at-attempt .attempt .ensures) _ (at-first .first .given .1) _ (start .pre .1 .2)) _ _ _
+            (at-widenings-of .widenings-of .ensures) _ _ (at-t .t .given .1) _ (c .with-lengths .ensures) .few,
+      ),
+      (
+        wi.tries-asked _ _ _ _ _ _ _ _ _ _ _ (wi.asked-again _ _ _ _ _ _ _ _ _ _ _ (start .pre .1 .0) _ _ _ _ _
+            (at-attempt .attempt .ensures) _ (at-first .first .given .1)) (wi.still-there _ _ _ _ _ _ _ _ _ _ _
+            (start .pre .1 .0) _ _ _ _ _ (at-attempt .attempt .ensures) _ (at-first .first .given .1) _
+            (start .pre .1 .1)) (wi.still-there _ _ _ _ _ _ _ _ _ _ _ (start .pre .1 .0) _ _ _ _ _
+            (at-attempt .attempt .ensures) _ (at-first .first .given .1) _ (start .pre .1 .2)) _ _ _
+            (at-widenings-of .widenings-of .ensures) _ _ (at-t .t .given .1) _ (c .with-lengths .ensures),
+        wi.tries-fine-here _ _ _ _ _ _ _ _ _ _ _ (wi.asked-again _ _ _ _ _ _ _ _ _ _ _ (start .pre .1 .0) _ _ _ _ _
+            (at-attempt .attempt .ensures) _ (at-first .first .given .1)) (wi.still-there _ _ _ _ _ _ _ _ _ _ _
+            (start .pre .1 .0) _ _ _ _ _ (at-attempt .attempt .ensures) _ (at-first .first .given .1) _
+            (start .pre .1 .1)) (wi.still-there _ _ _ _ _ _ _ _ _ _ _ (start .pre .1 .0) _ _ _ _ _
+            (at-attempt .attempt .ensures) _ (at-first .first .given .1) _ (start .pre .1 .2)) _ _ _
+            (at-widenings-of .widenings-of .ensures) _ _ (at-t .t .given .1) _ (c .with-lengths .ensures),
+      ),
+    ))
     (λ c κs. tt)
     (λ c. c .match2 .keys2)
     (λ c κs. tt)
     (λ c. c .match2 .keys3)
-    (λ c. c .before .before .before .before .before .before .before .before .before .tries .kept .0 ∙ c .before .before .before .before .before .before .before .before .before .before .before .before .before .before .before .before .before .before .before .before .before .before .widenings-of .kept .0 ∙ c .before .before .before .before .before .before .before .before .before .before .before .before .before .before .before .before .before .before .before .before .before .before .before .before .before .before .before .before .before .before .before .before .before .before .before .before .before .before .attempt .kept .0)
-    (λ c. c .before .before .before .before .before .before .before .before .before .tries .kept .1 .0 ∙ c .before .before .before .before .before .before .before .before .before .before .before .before .before .before .before .before .before .before .before .before .before .before .widenings-of .kept .1 .0 ∙ c .before .before .before .before .before .before .before .before .before .before .before .before .before .before .before .before .before .before .before .before .before .before .before .before .before .before .before .before .before .before .before .before .before .before .before .before .before .before .attempt .kept .1 .0)
-    (λ c. c .before .before .before .before .before .before .before .before .before .tries .kept .1 .1 .0 ∙ c .before .before .before .before .before .before .before .before .before .before .before .before .before .before .before .before .before .before .before .before .before .before .before .before .before .before .before .before .before .before .before .before .before .before .before .before .before .before .attempt .kept .1 .1 .0)
-    (λ c. c .before .before .before .before .before .before .before .before .before .tries .kept .1 .1 .1 .0 ∙ c .before .before .before .before .before .before .before .before .before .before .before .before .before .before .before .before .before .before .before .before .before .before .before .before .before .before .before .before .before .before .before .before .before .before .before .before .before .before .attempt .kept .1 .1 .1 .0)
-    (λ c. wi.widen-on _ _ _ _ _ _ _ _ _ _ _ (c .before .before .before .before .before .before .before .before .before .before .before .before .before .before .before .before .before .before .before .before .before .before .before .before .before .before .before .before .before .before .before .before .before .before .before .before .before .before .before .before .before .before .before .before .before .before .before .before .pre .1 .0) _ _ _ _ _ (c .before .before .before .before .before .before .before .before .before .before .before .before .before .before .before .before .before .before .before .before .before .before .before .before .before .before .before .before .before .before .before .before .before .before .before .before .before .before .attempt .ensures) _ (c .before .before .before .before .before .before .before .before .before .before .before .before .before .before .before .before .before .before .before .before .before .before .before .before .before .before .before .before .first .given .1) _ _ _ _ _ (wi.widen-tries _ _ _ _ _ _ _ _ _ _ _ (wi.asked-again _ _ _ _ _ _ _ _ _ _ _ (c .before .before .before .before .before .before .before .before .before .before .before .before .before .before .before .before .before .before .before .before .before .before .before .before .before .before .before .before .before .before .before .before .before .before .before .before .before .before .before .before .before .before .before .before .before .before .before .before .pre .1 .0) _ _ _ _ _ (c .before .before .before .before .before .before .before .before .before .before .before .before .before .before .before .before .before .before .before .before .before .before .before .before .before .before .before .before .before .before .before .before .before .before .before .before .before .before .attempt .ensures) _ (c .before .before .before .before .before .before .before .before .before .before .before .before .before .before .before .before .before .before .before .before .before .before .before .before .before .before .before .before .first .given .1)) (wi.still-there _ _ _ _ _ _ _ _ _ _ _ (c .before .before .before .before .before .before .before .before .before .before .before .before .before .before .before .before .before .before .before .before .before .before .before .before .before .before .before .before .before .before .before .before .before .before .before .before .before .before .before .before .before .before .before .before .before .before .before .before .pre .1 .0) _ _ _ _ _ (c .before .before .before .before .before .before .before .before .before .before .before .before .before .before .before .before .before .before .before .before .before .before .before .before .before .before .before .before .before .before .before .before .before .before .before .before .before .before .attempt .ensures) _ (c .before .before .before .before .before .before .before .before .before .before .before .before .before .before .before .before .before .before .before .before .before .before .before .before .before .before .before .before .first .given .1) _ (c .before .before .before .before .before .before .before .before .before .before .before .before .before .before .before .before .before .before .before .before .before .before .before .before .before .before .before .before .before .before .before .before .before .before .before .before .before .before .before .before .before .before .before .before .before .before .before .before .pre .1 .1)) (wi.still-there _ _ _ _ _ _ _ _ _ _ _ (c .before .before .before .before .before .before .before .before .before .before .before .before .before .before .before .before .before .before .before .before .before .before .before .before .before .before .before .before .before .before .before .before .before .before .before .before .before .before .before .before .before .before .before .before .before .before .before .before .pre .1 .0) _ _ _ _ _ (c .before .before .before .before .before .before .before .before .before .before .before .before .before .before .before .before .before .before .before .before .before .before .before .before .before .before .before .before .before .before .before .before .before .before .before .before .before .before .attempt .ensures) _ (c .before .before .before .before .before .before .before .before .before .before .before .before .before .before .before .before .before .before .before .before .before .before .before .before .before .before .before .before .first .given .1) _ (c .before .before .before .before .before .before .before .before .before .before .before .before .before .before .before .before .before .before .before .before .before .before .before .before .before .before .before .before .before .before .before .before .before .before .before .before .before .before .before .before .before .before .before .before .before .before .before .before .pre .1 .2)) _ _ _ (c .before .before .before .before .before .before .before .before .before .before .before .before .before .before .before .before .before .before .before .before .before .before .widenings-of .ensures) _ _ (c .before .before .before .before .before .before .before .before .before .before .before .before .before .before .before .before .t .given .1) _ (c .before .before .before .before .before .before .before .before .before .before .with-lengths .ensures) _ _ _ _ _ (c .before .before .before .before .before .before .before .before .before .tries .ensures) _ (c .give-back .ensures)))
-    (λ c. c .before .before .before .before .before .before .before .before .widenings-of .kept .0 ∙ c .before .before .before .before .before .before .before .before .before .before .before .before .before .before .before .before .before .before .before .before .before .before .before .before .attempt .kept .0)
-    (λ c. c .before .before .before .before .before .before .before .before .widenings-of .kept .1 .0 ∙ c .before .before .before .before .before .before .before .before .before .before .before .before .before .before .before .before .before .before .before .before .before .before .before .before .attempt .kept .1 .0)
-    (λ c. c .before .before .before .before .before .before .before .before .before .before .before .before .before .before .before .before .before .before .before .before .before .before .before .before .attempt .kept .1 .1 .0)
-    (λ c. c .before .before .before .before .before .before .before .before .before .before .before .before .before .before .before .before .before .before .before .before .before .before .before .before .attempt .kept .1 .1 .1 .0)
-    (λ c. wi.widen-on _ _ _ _ _ _ _ _ _ _ _ (c .before .before .before .before .before .before .before .before .before .before .before .before .before .before .before .before .before .before .before .before .before .before .before .before .before .before .before .before .before .before .before .before .before .before .pre .1 .0) _ _ _ _ _ (c .before .before .before .before .before .before .before .before .before .before .before .before .before .before .before .before .before .before .before .before .before .before .before .before .attempt .ensures) _ (c .before .before .before .before .before .before .before .before .before .before .before .before .before .before .first .given .1) _ _ _ _ _ (wi.widen-none _ _ _ _ _ _ _ _ _ _ _ (wi.asked-again _ _ _ _ _ _ _ _ _ _ _ (c .before .before .before .before .before .before .before .before .before .before .before .before .before .before .before .before .before .before .before .before .before .before .before .before .before .before .before .before .before .before .before .before .before .before .pre .1 .0) _ _ _ _ _ (c .before .before .before .before .before .before .before .before .before .before .before .before .before .before .before .before .before .before .before .before .before .before .before .before .attempt .ensures) _ (c .before .before .before .before .before .before .before .before .before .before .before .before .before .before .first .given .1)) (wi.still-there _ _ _ _ _ _ _ _ _ _ _ (c .before .before .before .before .before .before .before .before .before .before .before .before .before .before .before .before .before .before .before .before .before .before .before .before .before .before .before .before .before .before .before .before .before .before .pre .1 .0) _ _ _ _ _ (c .before .before .before .before .before .before .before .before .before .before .before .before .before .before .before .before .before .before .before .before .before .before .before .before .attempt .ensures) _ (c .before .before .before .before .before .before .before .before .before .before .before .before .before .before .first .given .1) _ (c .before .before .before .before .before .before .before .before .before .before .before .before .before .before .before .before .before .before .before .before .before .before .before .before .before .before .before .before .before .before .before .before .before .before .pre .1 .1)) (wi.still-there _ _ _ _ _ _ _ _ _ _ _ (c .before .before .before .before .before .before .before .before .before .before .before .before .before .before .before .before .before .before .before .before .before .before .before .before .before .before .before .before .before .before .before .before .before .before .pre .1 .0) _ _ _ _ _ (c .before .before .before .before .before .before .before .before .before .before .before .before .before .before .before .before .before .before .before .before .before .before .before .before .attempt .ensures) _ (c .before .before .before .before .before .before .before .before .before .before .before .before .before .before .first .given .1) _ (c .before .before .before .before .before .before .before .before .before .before .before .before .before .before .before .before .before .before .before .before .before .before .before .before .before .before .before .before .before .before .before .before .before .before .pre .1 .2)) _ _ _ (c .before .before .before .before .before .before .before .before .widenings-of .ensures) _ (c .before .before .made .given .1) _ (c .with-lengths2 .ensures)))
-    (λ c. c .before .before .before .before .before .before .before .widenings-of .kept .0 ∙ c .before .before .before .before .before .before .before .before .before .before .before .before .before .before .before .before .before .before .before .before .before .before .before .attempt .kept .0)
-    (λ c. c .before .before .before .before .before .before .before .widenings-of .kept .1 .0 ∙ c .before .before .before .before .before .before .before .before .before .before .before .before .before .before .before .before .before .before .before .before .before .before .before .attempt .kept .1 .0)
-    (λ c. c .before .before .before .before .before .before .before .before .before .before .before .before .before .before .before .before .before .before .before .before .before .before .before .attempt .kept .1 .1 .0)
-    (λ c. c .before .before .before .before .before .before .before .before .before .before .before .before .before .before .before .before .before .before .before .before .before .before .before .attempt .kept .1 .1 .1 .0)
-    (λ c. wi.widen-on _ _ _ _ _ _ _ _ _ _ _ (c .before .before .before .before .before .before .before .before .before .before .before .before .before .before .before .before .before .before .before .before .before .before .before .before .before .before .before .before .before .before .before .before .before .pre .1 .0) _ _ _ _ _ (c .before .before .before .before .before .before .before .before .before .before .before .before .before .before .before .before .before .before .before .before .before .before .before .attempt .ensures) _ (c .before .before .before .before .before .before .before .before .before .before .before .before .before .first .given .1) _ _ _ _ _ (wi.widen-full _ _ _ _ _ _ _ _ _ _ _ (wi.asked-again _ _ _ _ _ _ _ _ _ _ _ (c .before .before .before .before .before .before .before .before .before .before .before .before .before .before .before .before .before .before .before .before .before .before .before .before .before .before .before .before .before .before .before .before .before .pre .1 .0) _ _ _ _ _ (c .before .before .before .before .before .before .before .before .before .before .before .before .before .before .before .before .before .before .before .before .before .before .before .attempt .ensures) _ (c .before .before .before .before .before .before .before .before .before .before .before .before .before .first .given .1)) (wi.still-there _ _ _ _ _ _ _ _ _ _ _ (c .before .before .before .before .before .before .before .before .before .before .before .before .before .before .before .before .before .before .before .before .before .before .before .before .before .before .before .before .before .before .before .before .before .pre .1 .0) _ _ _ _ _ (c .before .before .before .before .before .before .before .before .before .before .before .before .before .before .before .before .before .before .before .before .before .before .before .attempt .ensures) _ (c .before .before .before .before .before .before .before .before .before .before .before .before .before .first .given .1) _ (c .before .before .before .before .before .before .before .before .before .before .before .before .before .before .before .before .before .before .before .before .before .before .before .before .before .before .before .before .before .before .before .before .before .pre .1 .1)) (wi.still-there _ _ _ _ _ _ _ _ _ _ _ (c .before .before .before .before .before .before .before .before .before .before .before .before .before .before .before .before .before .before .before .before .before .before .before .before .before .before .before .before .before .before .before .before .before .pre .1 .0) _ _ _ _ _ (c .before .before .before .before .before .before .before .before .before .before .before .before .before .before .before .before .before .before .before .before .before .before .before .attempt .ensures) _ (c .before .before .before .before .before .before .before .before .before .before .before .before .before .first .given .1) _ (c .before .before .before .before .before .before .before .before .before .before .before .before .before .before .before .before .before .before .before .before .before .before .before .before .before .before .before .before .before .before .before .before .before .pre .1 .2)) _ _ _ (c .before .before .before .before .before .before .before .widenings-of .ensures) _ _ (c .before .code .given .1)))
+    (λ c.
+    let at-tries = c .before .before .before .before .before .before .before .before .before in
+    let at-widenings-of = at-tries .before .before .before .before .before .before .before .before .before
+    .before .before .before .before in
+    let at-attempt = at-widenings-of .before .before .before .before .before .before .before .before .before
+    .before .before .before .before .before .before .before in
+    at-tries .tries .kept .0 ∙ at-widenings-of .widenings-of .kept .0 ∙ at-attempt .attempt .kept .0)
+    (λ c.
+    let at-tries = c .before .before .before .before .before .before .before .before .before in
+    let at-widenings-of = at-tries .before .before .before .before .before .before .before .before .before
+    .before .before .before .before in
+    let at-attempt = at-widenings-of .before .before .before .before .before .before .before .before .before
+    .before .before .before .before .before .before .before in
+    at-tries .tries .kept .1 .0 ∙ at-widenings-of .widenings-of .kept .1 .0 ∙ at-attempt .attempt .kept .1 .0)
+    (λ c.
+    let at-tries = c .before .before .before .before .before .before .before .before .before in
+    let at-attempt = at-tries .before .before .before .before .before .before .before .before .before .before
+    .before .before .before .before .before .before .before .before .before .before .before .before
+    .before .before .before .before .before .before .before in
+    at-tries .tries .kept .1 .1 .0 ∙ at-attempt .attempt .kept .1 .1 .0)
+    (λ c.
+    let at-tries = c .before .before .before .before .before .before .before .before .before in
+    let at-attempt = at-tries .before .before .before .before .before .before .before .before .before .before
+    .before .before .before .before .before .before .before .before .before .before .before .before
+    .before .before .before .before .before .before .before in
+    at-tries .tries .kept .1 .1 .1 .0 ∙ at-attempt .attempt .kept .1 .1 .1 .0)
+    (λ c.
+    let at-tries = c .before .before .before .before .before .before .before .before .before in
+    let at-with-lengths = at-tries .before in
+    let at-t = at-with-lengths .before .before .before .before .before .before in
+    let at-widenings-of = at-t .before .before .before .before .before .before in
+    let at-first = at-widenings-of .before .before .before .before .before .before in
+    let at-attempt = at-first .before .before .before .before .before .before .before .before .before .before in
+    let start = at-attempt .before .before .before .before .before .before .before .before .before .before in
+    wi.widen-on _ _ _ _ _ _ _ _ _ _ _ (start .pre .1 .0) _ _ _ _ _ (at-attempt .attempt .ensures) _
+    (at-first .first .given .1) _ _ _ _ _ (wi.widen-tries _ _ _ _ _ _ _ _ _ _ _ (wi.asked-again _ _ _ _ _ _ _ _ _
+    _ _ (start .pre .1 .0) _ _ _ _ _ (at-attempt .attempt .ensures) _ (at-first .first .given .1))
+    (wi.still-there _ _ _ _ _ _ _ _ _ _ _ (start .pre .1 .0) _ _ _ _ _ (at-attempt .attempt .ensures) _
+    (at-first .first .given .1) _ (start .pre .1 .1)) (wi.still-there _ _ _ _ _ _ _ _ _ _ _ (start .pre .1 .0) _ _
+    _ _ _ (at-attempt .attempt .ensures) _ (at-first .first .given .1) _ (start .pre .1 .2)) _ _ _
+    (at-widenings-of .widenings-of .ensures) _ _ (at-t .t .given .1) _ (at-with-lengths .with-lengths .ensures) _
+    _ _ _ _ (at-tries .tries .ensures) _ (c .give-back .ensures)))
+    (λ c.
+    let at-widenings-of = c .before .before .before .before .before .before .before .before in
+    let at-attempt = at-widenings-of .before .before .before .before .before .before .before .before .before
+    .before .before .before .before .before .before .before in
+    at-widenings-of .widenings-of .kept .0 ∙ at-attempt .attempt .kept .0)
+    (λ c.
+    let at-widenings-of = c .before .before .before .before .before .before .before .before in
+    let at-attempt = at-widenings-of .before .before .before .before .before .before .before .before .before
+    .before .before .before .before .before .before .before in
+    at-widenings-of .widenings-of .kept .1 .0 ∙ at-attempt .attempt .kept .1 .0)
+    (λ c.
+    let at-attempt = c .before .before .before .before .before .before .before .before .before .before
+    .before .before .before .before .before .before .before .before .before .before .before .before
+    .before .before in
+    at-attempt .attempt .kept .1 .1 .0)
+    (λ c.
+    let at-attempt = c .before .before .before .before .before .before .before .before .before .before
+    .before .before .before .before .before .before .before .before .before .before .before .before
+    .before .before in
+    at-attempt .attempt .kept .1 .1 .1 .0)
+    (λ c.
+    let at-made = c .before .before in
+    let at-widenings-of = at-made .before .before .before .before .before .before in
+    let at-first = at-widenings-of .before .before .before .before .before .before in
+    let at-attempt = at-first .before .before .before .before .before .before .before .before .before .before in
+    let start = at-attempt .before .before .before .before .before .before .before .before .before .before in
+    wi.widen-on _ _ _ _ _ _ _ _ _ _ _ (start .pre .1 .0) _ _ _ _ _ (at-attempt .attempt .ensures) _
+    (at-first .first .given .1) _ _ _ _ _ (wi.widen-none _ _ _ _ _ _ _ _ _ _ _ (wi.asked-again _ _ _ _ _ _ _ _ _ _
+    _ (start .pre .1 .0) _ _ _ _ _ (at-attempt .attempt .ensures) _ (at-first .first .given .1))
+    (wi.still-there _ _ _ _ _ _ _ _ _ _ _ (start .pre .1 .0) _ _ _ _ _ (at-attempt .attempt .ensures) _
+    (at-first .first .given .1) _ (start .pre .1 .1)) (wi.still-there _ _ _ _ _ _ _ _ _ _ _ (start .pre .1 .0) _ _
+    _ _ _ (at-attempt .attempt .ensures) _ (at-first .first .given .1) _ (start .pre .1 .2)) _ _ _
+    (at-widenings-of .widenings-of .ensures) _ (at-made .made .given .1) _ (c .with-lengths2 .ensures)))
+    (λ c.
+    let at-widenings-of = c .before .before .before .before .before .before .before in
+    let at-attempt = at-widenings-of .before .before .before .before .before .before .before .before .before
+    .before .before .before .before .before .before .before in
+    at-widenings-of .widenings-of .kept .0 ∙ at-attempt .attempt .kept .0)
+    (λ c.
+    let at-widenings-of = c .before .before .before .before .before .before .before in
+    let at-attempt = at-widenings-of .before .before .before .before .before .before .before .before .before
+    .before .before .before .before .before .before .before in
+    at-widenings-of .widenings-of .kept .1 .0 ∙ at-attempt .attempt .kept .1 .0)
+    (λ c.
+    let at-attempt = c .before .before .before .before .before .before .before .before .before .before
+    .before .before .before .before .before .before .before .before .before .before .before .before
+    .before in
+    at-attempt .attempt .kept .1 .1 .0)
+    (λ c.
+    let at-attempt = c .before .before .before .before .before .before .before .before .before .before
+    .before .before .before .before .before .before .before .before .before .before .before .before
+    .before in
+    at-attempt .attempt .kept .1 .1 .1 .0)
+    (λ c.
+    let at-widenings-of = c .before .before .before .before .before .before .before in
+    let at-first = at-widenings-of .before .before .before .before .before .before in
+    let at-attempt = at-first .before .before .before .before .before .before .before .before .before .before in
+    let start = at-attempt .before .before .before .before .before .before .before .before .before .before in
+    wi.widen-on _ _ _ _ _ _ _ _ _ _ _ (start .pre .1 .0) _ _ _ _ _ (at-attempt .attempt .ensures) _
+    (at-first .first .given .1) _ _ _ _ _ (wi.widen-full _ _ _ _ _ _ _ _ _ _ _ (wi.asked-again _ _ _ _ _ _ _ _ _ _
+    _ (start .pre .1 .0) _ _ _ _ _ (at-attempt .attempt .ensures) _ (at-first .first .given .1))
+    (wi.still-there _ _ _ _ _ _ _ _ _ _ _ (start .pre .1 .0) _ _ _ _ _ (at-attempt .attempt .ensures) _
+    (at-first .first .given .1) _ (start .pre .1 .1)) (wi.still-there _ _ _ _ _ _ _ _ _ _ _ (start .pre .1 .0) _ _
+    _ _ _ (at-attempt .attempt .ensures) _ (at-first .first .given .1) _ (start .pre .1 .2)) _ _ _
+    (at-widenings-of .widenings-of .ensures) _ _ (c .before .code .given .1)))

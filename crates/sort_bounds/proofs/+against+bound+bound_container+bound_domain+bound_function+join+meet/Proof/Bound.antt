@@ -37,12 +37,47 @@ use Rattle.resolved_sort.proofs.BoundsCode as law
 use Rattle.resolved_sort.proofs.DomainCode as domain
 use Rattle.resolved_sort.proofs.FunctionCode as functions
 use Rattle.sort_bounds.proofs.Ways as way
-use Rattle.sort_bounds.proofs.+against+bound+bound_container+bound_domain+bound_function+join+meet.Proof.Common.{against-at, against-below, bound-at, bound-below, bound-container-at, bound-container-below, bound-domain-at, bound-domain-below, bound-function-at, bound-function-below, join-at, join-below, meet-at, meet-below}
+use Rattle.sort_bounds.proofs.+against+bound+bound_container+bound_domain+bound_function+join+meet.Proof.Common.{against-at}
+use Rattle.sort_bounds.proofs.+against+bound+bound_container+bound_domain+bound_function+join+meet.Proof.Common.{against-below}
+use Rattle.sort_bounds.proofs.+against+bound+bound_container+bound_domain+bound_function+join+meet.Proof.Common.{bound-at}
+use Rattle.sort_bounds.proofs.+against+bound+bound_container+bound_domain+bound_function+join+meet.Proof.Common.{bound-below}
+use Rattle.sort_bounds.proofs.+against+bound+bound_container+bound_domain+bound_function+join+meet.Proof.Common.{bound-container-at}
+use Rattle.sort_bounds.proofs.+against+bound+bound_container+bound_domain+bound_function+join+meet.Proof.Common.{bound-container-below}
+use Rattle.sort_bounds.proofs.+against+bound+bound_container+bound_domain+bound_function+join+meet.Proof.Common.{bound-domain-at}
+use Rattle.sort_bounds.proofs.+against+bound+bound_container+bound_domain+bound_function+join+meet.Proof.Common.{bound-domain-below}
+use Rattle.sort_bounds.proofs.+against+bound+bound_container+bound_domain+bound_function+join+meet.Proof.Common.{bound-function-at}
+use Rattle.sort_bounds.proofs.+against+bound+bound_container+bound_domain+bound_function+join+meet.Proof.Common.{bound-function-below}
+use Rattle.sort_bounds.proofs.+against+bound+bound_container+bound_domain+bound_function+join+meet.Proof.Common.{join-at}
+use Rattle.sort_bounds.proofs.+against+bound+bound_container+bound_domain+bound_function+join+meet.Proof.Common.{join-below}
+use Rattle.sort_bounds.proofs.+against+bound+bound_container+bound_domain+bound_function+join+meet.Proof.Common.{meet-at}
+use Rattle.sort_bounds.proofs.+against+bound+bound_container+bound_domain+bound_function+join+meet.Proof.Common.{meet-below}
 
-pub part : (M : Type 1) (t : ℕ) → bound-lts.Closed (pair-reads.Asked, pair-reads.Learnt, number-side-reads.Asked, number-side-reads.Learnt, bound-container-below t, bound-container.Post, bound-function-below t, bound-function.Post) (bound-at t) bound.Post M
+pub part : (M : Type 1) (t : ℕ) → bound-lts.Closed (
+  pair-reads.Asked,
+  pair-reads.Learnt,
+  number-side-reads.Asked,
+  number-side-reads.Learnt,
+  bound-container-below t,
+  bound-container.Post,
+  bound-function-below t,
+  bound-function.Post,
+) (bound-at t) bound.Post M
 part M t =
-    bound-lts.spec (pair-reads.Asked, pair-reads.Learnt, number-side-reads.Asked, number-side-reads.Learnt, bound-container-below t, bound-container.Post, bound-function-below t, bound-function.Post) (bound-at t) bound.Post
-    (λ c. way.itself (c .before .before .before .before .args .sorts .now) (c .before .before .before .before .args .counts) (c .before .before .before .before .args .up) (c .before .before .before .before .args .lhs) (c .before .before .before .before .args .rhs) (c .before .before .before .before .pre .1) (c .if1 .taken))
+    bound-lts.spec (
+      pair-reads.Asked,
+      pair-reads.Learnt,
+      number-side-reads.Asked,
+      number-side-reads.Learnt,
+      bound-container-below t,
+      bound-container.Post,
+      bound-function-below t,
+      bound-function.Post,
+    ) (bound-at t)
+    bound.Post
+    (λ c.
+    let start = c .before .before .before .before in
+    let args = start .args in
+    way.itself (args .sorts .now) (args .counts) (args .up) (args .lhs) (args .rhs) (start .pre .1) (c .if1 .taken))
     (λ c κs. search needs)
     (λ c. search needs)
     (λ c κs. search needs)
@@ -50,19 +85,95 @@ part M t =
     (λ c. search needs)
     (λ c. search needs)
     (λ c. search needs)
-    (λ c κs. (omega (arith, c .before .before .before .before .before .before .before .before .before .before .pre .0, way.parts-below (c .before .before .before .before .before .before .before .before .before .before .args .sorts .now) (c .before .before .before .before .before .before .before .before .before .before .args .counts) (c .before .before .before .before .before .before .before .before .before .before .args .up) (c .before .before .before .before .before .before .before .before .before .before .args .lhs) (c .before .before .before .before .before .before .before .before .before .before .args .rhs) (c .before .before .before .before .before .before .before .before .before .before .pre .1) (c .before .before .before .before .before .before .if1 .left) (c .before .before .before .before .pair .result) (c .before .before .before .before .pair .ensures) _ _ _ _ (c .before .before .lhs-op .given .1)), way.parts-asked (c .before .before .before .before .before .before .before .before .before .before .args .sorts .now) (c .before .before .before .before .before .before .before .before .before .before .args .counts) (c .before .before .before .before .before .before .before .before .before .before .args .up) (c .before .before .before .before .before .before .before .before .before .before .args .lhs) (c .before .before .before .before .before .before .before .before .before .before .args .rhs) (c .before .before .before .before .before .before .before .before .before .before .pre .1) (c .before .before .before .before .before .before .if1 .left) (c .before .before .before .before .pair .result) (c .before .before .before .before .pair .ensures) _ _ _ _ (c .before .before .lhs-op .given .1)))
+    (λ c κs.
+    let at-lhs-op = c .before .before in
+    let at-pair = at-lhs-op .before .before in
+    let at-if1 = at-pair .before .before in
+    let start = at-if1 .before .before .before .before in
+    let args = start .args in (
+      omega (
+        arith,
+        start .pre .0,
+        way.parts-below (args .sorts .now) (args .counts) (args .up) (args .lhs) (args .rhs)
+            (start .pre .1) (at-if1 .if1 .left) (at-pair .pair .result) (at-pair .pair .ensures) _ _ _ _
+            (at-lhs-op .lhs-op .given .1),
+      ),
+      way.parts-asked (args .sorts .now) (args .counts) (args .up) (args .lhs)
+          (args .rhs) (start .pre .1) (at-if1 .if1 .left) (at-pair .pair .result) (at-pair .pair .ensures) _ _ _ _
+          (at-lhs-op .lhs-op .given .1),
+    ))
     (λ c. search needs)
-    (λ c κs. (omega (arith, c .before .before .before .before .before .before .before .before .before .pre .0), way.functions-asked (c .before .before .before .before .before .before .before .before .before .args .sorts .now) (c .before .before .before .before .before .before .before .before .before .args .counts) (c .before .before .before .before .before .before .before .before .before .args .up) (c .before .before .before .before .before .before .before .before .before .args .lhs) (c .before .before .before .before .before .before .before .before .before .args .rhs) (c .before .before .before .before .before .before .before .before .before .pre .1) (c .before .before .before .before .before .if1 .left) (c .before .before .before .pair .result) (c .before .before .before .pair .ensures) _ _ _ _ _ (c .before .enum-told4 .given .1)))
+    (λ c κs.
+    let at-pair = c .before .before .before in
+    let at-if1 = at-pair .before .before in
+    let start = at-if1 .before .before .before .before in
+    let args = start .args in (
+      omega (arith, start .pre .0),
+      way.functions-asked (args .sorts .now) (args .counts) (args .up) (args .lhs)
+          (args .rhs) (start .pre .1) (at-if1 .if1 .left) (at-pair .pair .result) (at-pair .pair .ensures) _ _ _ _ _
+          (c .before .enum-told4 .given .1),
+    ))
     (λ c. search needs)
     (λ c. search needs)
-    (λ c. way.number (c .before .before .before .before .before .before .before .before .before .before .before .before .args .sorts .now) (c .before .before .before .before .before .before .before .before .before .before .before .before .args .counts) (c .before .before .before .before .before .before .before .before .before .before .before .before .args .up) (c .before .before .before .before .before .before .before .before .before .before .before .before .args .lhs) (c .before .before .before .before .before .before .before .before .before .before .before .before .args .rhs) (c .before .before .before .before .before .before .before .before .before .before .before .before .pre .1) (c .before .before .before .before .before .before .before .before .if1 .left) (c .before .before .before .before .before .before .pair .result) (c .before .before .before .before .before .before .pair .ensures) _ _ (c .before .before .before .before .l .given .1) (c .before .before .number-side .result) (c .before .before .number-side .ensures) _ (c .enum-told .given .1))
+    (λ c.
+    let at-number-side = c .before .before in
+    let at-l = at-number-side .before .before in
+    let at-pair = at-l .before .before in
+    let at-if1 = at-pair .before .before in
+    let start = at-if1 .before .before .before .before in
+    let args = start .args in
+    way.number (args .sorts .now) (args .counts) (args .up) (args .lhs) (args .rhs) (start .pre .1)
+    (at-if1 .if1 .left) (at-pair .pair .result) (at-pair .pair .ensures) _ _ (at-l .l .given .1)
+    (at-number-side .number-side .result) (at-number-side .number-side .ensures) _ (c .enum-told .given .1))
     (λ c. search needs)
-    (λ c. way.number (c .before .before .before .before .before .before .before .before .before .before .before .before .args .sorts .now) (c .before .before .before .before .before .before .before .before .before .before .before .before .args .counts) (c .before .before .before .before .before .before .before .before .before .before .before .before .args .up) (c .before .before .before .before .before .before .before .before .before .before .before .before .args .lhs) (c .before .before .before .before .before .before .before .before .before .before .before .before .args .rhs) (c .before .before .before .before .before .before .before .before .before .before .before .before .pre .1) (c .before .before .before .before .before .before .before .before .if1 .left) (c .before .before .before .before .before .before .pair .result) (c .before .before .before .before .before .before .pair .ensures) _ _ (c .before .before .before .before .l .given .1) (c .before .before .number-side .result) (c .before .before .number-side .ensures) _ (c .enum-told2 .given .1))
+    (λ c.
+    let at-number-side = c .before .before in
+    let at-l = at-number-side .before .before in
+    let at-pair = at-l .before .before in
+    let at-if1 = at-pair .before .before in
+    let start = at-if1 .before .before .before .before in
+    let args = start .args in
+    way.number (args .sorts .now) (args .counts) (args .up) (args .lhs) (args .rhs) (start .pre .1)
+    (at-if1 .if1 .left) (at-pair .pair .result) (at-pair .pair .ensures) _ _ (at-l .l .given .1)
+    (at-number-side .number-side .result) (at-number-side .number-side .ensures) _ (c .enum-told2 .given .1))
     (λ c. search needs)
-    (λ c. way.number (c .before .before .before .before .before .before .before .before .before .before .before .before .args .sorts .now) (c .before .before .before .before .before .before .before .before .before .before .before .before .args .counts) (c .before .before .before .before .before .before .before .before .before .before .before .before .args .up) (c .before .before .before .before .before .before .before .before .before .before .before .before .args .lhs) (c .before .before .before .before .before .before .before .before .before .before .before .before .args .rhs) (c .before .before .before .before .before .before .before .before .before .before .before .before .pre .1) (c .before .before .before .before .before .before .before .before .if1 .left) (c .before .before .before .before .before .before .pair .result) (c .before .before .before .before .before .before .pair .ensures) _ _ (c .before .before .before .before .l .given .1) (c .before .before .number-side .result) (c .before .before .number-side .ensures) _ (c .enum-told3 .given .1))
+    (λ c.
+    let at-number-side = c .before .before in
+    let at-l = at-number-side .before .before in
+    let at-pair = at-l .before .before in
+    let at-if1 = at-pair .before .before in
+    let start = at-if1 .before .before .before .before in
+    let args = start .args in
+    way.number (args .sorts .now) (args .counts) (args .up) (args .lhs) (args .rhs) (start .pre .1)
+    (at-if1 .if1 .left) (at-pair .pair .result) (at-pair .pair .ensures) _ _ (at-l .l .given .1)
+    (at-number-side .number-side .result) (at-number-side .number-side .ensures) _ (c .enum-told3 .given .1))
     (λ c. search needs)
-    (λ c. way.container (c .before .before .before .before .before .before .before .before .before .before .before .before .before .args .sorts .now) (c .before .before .before .before .before .before .before .before .before .before .before .before .before .args .counts) (c .before .before .before .before .before .before .before .before .before .before .before .before .before .args .up) (c .before .before .before .before .before .before .before .before .before .before .before .before .before .args .lhs) (c .before .before .before .before .before .before .before .before .before .before .before .before .before .args .rhs) (c .before .before .before .before .before .before .before .before .before .before .before .before .before .pre .1) (c .before .before .before .before .before .before .before .before .before .if1 .left) (c .before .before .before .before .before .before .before .pair .result) (c .before .before .before .before .before .before .before .pair .ensures) _ _ _ _ (c .before .before .before .before .before .lhs-op .given .1) _ _ (c .before .before .bound-container .ensures))
+    (λ c.
+    let at-bound-container = c .before .before in
+    let at-lhs-op = at-bound-container .before .before .before in
+    let at-pair = at-lhs-op .before .before in
+    let at-if1 = at-pair .before .before in
+    let start = at-if1 .before .before .before .before in
+    let args = start .args in
+    way.container (args .sorts .now) (args .counts) (args .up) (args .lhs) (args .rhs) (start .pre .1)
+    (at-if1 .if1 .left) (at-pair .pair .result) (at-pair .pair .ensures) _ _ _ _ (at-lhs-op .lhs-op .given .1) _ _
+    (at-bound-container .bound-container .ensures))
     (λ c. search needs)
-    (λ c. way.function (c .before .before .before .before .before .before .before .before .before .before .before .before .args .sorts .now) (c .before .before .before .before .before .before .before .before .before .before .before .before .args .counts) (c .before .before .before .before .before .before .before .before .before .before .before .before .args .up) (c .before .before .before .before .before .before .before .before .before .before .before .before .args .lhs) (c .before .before .before .before .before .before .before .before .before .before .before .before .args .rhs) (c .before .before .before .before .before .before .before .before .before .before .before .before .pre .1) (c .before .before .before .before .before .before .before .before .if1 .left) (c .before .before .before .before .before .before .pair .result) (c .before .before .before .before .before .before .pair .ensures) _ _ _ _ _ (c .before .before .before .before .enum-told4 .given .1) _ _ (c .before .before .bound-function .ensures))
+    (λ c.
+    let at-bound-function = c .before .before in
+    let at-enum-told4 = at-bound-function .before .before in
+    let at-pair = at-enum-told4 .before .before in
+    let at-if1 = at-pair .before .before in
+    let start = at-if1 .before .before .before .before in
+    let args = start .args in
+    way.function (args .sorts .now) (args .counts) (args .up) (args .lhs) (args .rhs) (start .pre .1)
+    (at-if1 .if1 .left) (at-pair .pair .result) (at-pair .pair .ensures) _ _ _ _ _
+    (at-enum-told4 .enum-told4 .given .1) _ _ (at-bound-function .bound-function .ensures))
     (λ c. search needs)
-    (λ c. way.other (c .before .before .before .before .before .before .before .before .args .sorts .now) (c .before .before .before .before .before .before .before .before .args .counts) (c .before .before .before .before .before .before .before .before .args .up) (c .before .before .before .before .before .before .before .before .args .lhs) (c .before .before .before .before .before .before .before .before .args .rhs) (c .before .before .before .before .before .before .before .before .pre .1) (c .before .before .before .before .if1 .left) (c .before .before .pair .result) (c .before .before .pair .ensures) (c .enum-told5 .given .1))
+    (λ c.
+    let at-pair = c .before .before in
+    let at-if1 = at-pair .before .before in
+    let start = at-if1 .before .before .before .before in
+    let args = start .args in
+    way.other (args .sorts .now) (args .counts) (args .up) (args .lhs) (args .rhs) (start .pre .1) (at-if1 .if1 .left)
+    (at-pair .pair .result) (at-pair .pair .ensures) (c .enum-told5 .given .1))

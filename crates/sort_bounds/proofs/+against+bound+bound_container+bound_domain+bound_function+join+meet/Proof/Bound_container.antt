@@ -37,23 +37,105 @@ use Rattle.resolved_sort.proofs.BoundsCode as law
 use Rattle.resolved_sort.proofs.DomainCode as domain
 use Rattle.resolved_sort.proofs.FunctionCode as functions
 use Rattle.sort_bounds.proofs.Ways as way
-use Rattle.sort_bounds.proofs.+against+bound+bound_container+bound_domain+bound_function+join+meet.Proof.Common.{against-at, against-below, bound-at, bound-below, bound-container-at, bound-container-below, bound-domain-at, bound-domain-below, bound-function-at, bound-function-below, join-at, join-below, meet-at, meet-below}
+use Rattle.sort_bounds.proofs.+against+bound+bound_container+bound_domain+bound_function+join+meet.Proof.Common.{against-at}
+use Rattle.sort_bounds.proofs.+against+bound+bound_container+bound_domain+bound_function+join+meet.Proof.Common.{against-below}
+use Rattle.sort_bounds.proofs.+against+bound+bound_container+bound_domain+bound_function+join+meet.Proof.Common.{bound-at}
+use Rattle.sort_bounds.proofs.+against+bound+bound_container+bound_domain+bound_function+join+meet.Proof.Common.{bound-below}
+use Rattle.sort_bounds.proofs.+against+bound+bound_container+bound_domain+bound_function+join+meet.Proof.Common.{bound-container-at}
+use Rattle.sort_bounds.proofs.+against+bound+bound_container+bound_domain+bound_function+join+meet.Proof.Common.{bound-container-below}
+use Rattle.sort_bounds.proofs.+against+bound+bound_container+bound_domain+bound_function+join+meet.Proof.Common.{bound-domain-at}
+use Rattle.sort_bounds.proofs.+against+bound+bound_container+bound_domain+bound_function+join+meet.Proof.Common.{bound-domain-below}
+use Rattle.sort_bounds.proofs.+against+bound+bound_container+bound_domain+bound_function+join+meet.Proof.Common.{bound-function-at}
+use Rattle.sort_bounds.proofs.+against+bound+bound_container+bound_domain+bound_function+join+meet.Proof.Common.{bound-function-below}
+use Rattle.sort_bounds.proofs.+against+bound+bound_container+bound_domain+bound_function+join+meet.Proof.Common.{join-at}
+use Rattle.sort_bounds.proofs.+against+bound+bound_container+bound_domain+bound_function+join+meet.Proof.Common.{join-below}
+use Rattle.sort_bounds.proofs.+against+bound+bound_container+bound_domain+bound_function+join+meet.Proof.Common.{meet-at}
+use Rattle.sort_bounds.proofs.+against+bound+bound_container+bound_domain+bound_function+join+meet.Proof.Common.{meet-below}
 
-pub part : (M : Type 1) (t : ℕ) → bound-container-lts.Closed (bound-op-reads.Asked, bound-op-reads.Learnt, bound-below t, bound.Post, generic-reads.Asked, generic-reads.Learnt) (bound-container-at t) bound-container.Post M
+pub part : (M : Type 1) (t : ℕ) → bound-container-lts.Closed (
+  bound-op-reads.Asked,
+  bound-op-reads.Learnt,
+  bound-below
+      t,
+  bound.Post,
+  generic-reads.Asked,
+  generic-reads.Learnt,
+) (bound-container-at t) bound-container.Post M
 part M t =
-    bound-container-lts.spec (bound-op-reads.Asked, bound-op-reads.Learnt, bound-below t, bound.Post, generic-reads.Asked, generic-reads.Learnt) (bound-container-at t) bound-container.Post
+    bound-container-lts.spec (
+      bound-op-reads.Asked,
+      bound-op-reads.Learnt,
+      bound-below t,
+      bound.Post,
+      generic-reads.Asked,
+      generic-reads.Learnt,
+    ) (bound-container-at t) bound-container.Post
     (λ c κs. search needs)
     (λ c. search needs)
-    (λ c κs. (omega (arith, c .before .before .before .before .before .before .pre .0), c .before .before .before .before .before .before .pre .1))
+    (λ c κs.
+    let start = c .before .before .before .before .before .before in
+    (omega (arith, start .pre .0), start .pre .1))
     (λ c. search needs)
-    (λ c κs. (law.container-checked (c .before .before .before .before .before .before .before .before .before .before .before .before .before .args .sorts .now) (c .before .before .before .before .before .before .before .before .before .before .before .before .before .args .counts) (c .before .before .before .before .before .before .before .before .before .before .before .before .before .pre .1 .checked) (c .before .before .before .before .before .before .before .before .before .before .before .before .before .args .up) (c .before .before .before .before .before .before .before .before .before .before .before .before .before .args .lhs-op) (c .before .before .before .before .before .before .before .before .before .before .before .before .before .args .lhs-sub) (c .before .before .before .before .before .before .before .before .before .before .before .before .before .args .rhs-op) (c .before .before .before .before .before .before .before .before .before .before .before .before .before .args .rhs-sub) (c .before .before .before .before .before .before .before .before .before .before .before .before .before .pre .1 .lhs) (c .before .before .before .before .before .before .before .before .before .before .before .before .before .pre .1 .rhs) (c .before .before .before .before .before .before .before .before .before .before .before .bound-op .result) (c .before .before .before .before .before .before .before .before .before .before .before .bound-op .ensures) _ (c .before .before .before .before .before .before .before .before .before .op .given .1) _ (c .before .before .before .before .before .before .bound .result) (c .before .before .before .before .before .before .bound .ensures) _ _ (c .before .before .subsort .given .1), law.container-below (c .before .before .before .before .before .before .before .before .before .before .before .before .before .args .sorts .now) (c .before .before .before .before .before .before .before .before .before .before .before .before .before .args .counts) (c .before .before .before .before .before .before .before .before .before .before .before .before .before .pre .1 .checked) (c .before .before .before .before .before .before .before .before .before .before .before .before .before .args .up) (c .before .before .before .before .before .before .before .before .before .before .before .before .before .args .lhs-op) (c .before .before .before .before .before .before .before .before .before .before .before .before .before .args .lhs-sub) (c .before .before .before .before .before .before .before .before .before .before .before .before .before .args .rhs-op) (c .before .before .before .before .before .before .before .before .before .before .before .before .before .args .rhs-sub) (c .before .before .before .before .before .before .before .before .before .before .before .before .before .pre .1 .lhs) (c .before .before .before .before .before .before .before .before .before .before .before .before .before .pre .1 .rhs) (c .before .before .before .before .before .before .before .before .before .before .before .bound-op .result) (c .before .before .before .before .before .before .before .before .before .before .before .bound-op .ensures) _ (c .before .before .before .before .before .before .before .before .before .op .given .1) _ (c .before .before .before .before .before .before .bound .result) (c .before .before .before .before .before .before .bound .ensures) _ _ (c .before .before .subsort .given .1)))
+    (λ c κs.
+    let at-subsort = c .before .before in
+    let at-bound = at-subsort .before .before .before .before in
+    let at-op = at-bound .before .before .before in
+    let at-bound-op = at-op .before .before in
+    let start = at-bound-op .before .before in
+    let args = start .args in (
+      law.container-checked (args .sorts .now) (args .counts) (start .pre .1 .checked) (args .up) (args .lhs-op)
+          (args .lhs-sub) (args .rhs-op) (args .rhs-sub) (start .pre .1 .lhs) (start .pre .1 .rhs)
+          (at-bound-op .bound-op .result) (at-bound-op .bound-op .ensures) _ (at-op .op .given .1) _
+          (at-bound .bound .result) (at-bound .bound .ensures) _ _ (at-subsort .subsort .given .1),
+      law.container-below
+          (args .sorts .now) (args .counts) (start .pre .1 .checked) (args .up) (args .lhs-op) (args .lhs-sub)
+          (args .rhs-op) (args .rhs-sub) (start .pre .1 .lhs) (start .pre .1 .rhs) (at-bound-op .bound-op .result)
+          (at-bound-op .bound-op .ensures) _ (at-op .op .given .1) _ (at-bound .bound .result)
+          (at-bound .bound .ensures) _ _ (at-subsort .subsort .given .1),
+    ))
     (λ c. search needs)
     (λ c. search needs)
     (λ c. search needs)
     (λ c. c .before .before .generic .kept .0 ∙ c .before .before .before .before .before .before .before .before .before .bound .kept .0)
-    (λ c. law.container-made (c .before .before .before .before .before .before .before .before .before .before .before .before .before .before .before .before .args .sorts .now) (c .before .before .before .before .before .before .before .before .before .before .before .before .before .before .before .before .args .counts) (c .before .before .before .before .before .before .before .before .before .before .before .before .before .before .before .before .pre .1 .checked) (c .before .before .before .before .before .before .before .before .before .before .before .before .before .before .before .before .args .up) (c .before .before .before .before .before .before .before .before .before .before .before .before .before .before .before .before .args .lhs-op) (c .before .before .before .before .before .before .before .before .before .before .before .before .before .before .before .before .args .lhs-sub) (c .before .before .before .before .before .before .before .before .before .before .before .before .before .before .before .before .args .rhs-op) (c .before .before .before .before .before .before .before .before .before .before .before .before .before .before .before .before .args .rhs-sub) (c .before .before .before .before .before .before .before .before .before .before .before .before .before .before .before .before .pre .1 .lhs) (c .before .before .before .before .before .before .before .before .before .before .before .before .before .before .before .before .pre .1 .rhs) (c .before .before .before .before .before .before .before .before .before .before .before .before .before .before .bound-op .result) (c .before .before .before .before .before .before .before .before .before .before .before .before .before .before .bound-op .ensures) _ (c .before .before .before .before .before .before .before .before .before .before .before .before .op .given .1) _ (c .before .before .before .before .before .before .before .before .before .bound .result) (c .before .before .before .before .before .before .before .before .before .bound .ensures) _ _ (c .before .before .before .before .before .subsort .given .1) _ _ (c .before .before .generic .ensures))
+    (λ c.
+    let at-generic = c .before .before in
+    let at-subsort = at-generic .before .before .before in
+    let at-bound = at-subsort .before .before .before .before in
+    let at-op = at-bound .before .before .before in
+    let at-bound-op = at-op .before .before in
+    let start = at-bound-op .before .before in
+    let args = start .args in
+    law.container-made (args .sorts .now) (args .counts) (start .pre .1 .checked) (args .up) (args .lhs-op)
+    (args .lhs-sub) (args .rhs-op) (args .rhs-sub) (start .pre .1 .lhs) (start .pre .1 .rhs)
+    (at-bound-op .bound-op .result) (at-bound-op .bound-op .ensures) _ (at-op .op .given .1) _
+    (at-bound .bound .result) (at-bound .bound .ensures) _ _ (at-subsort .subsort .given .1) _ _
+    (at-generic .generic .ensures))
     (λ c. search needs)
-    (λ c. law.container-stops (c .before .before .before .before .before .before .before .before .before .before .before .before .args .sorts .now) (c .before .before .before .before .before .before .before .before .before .before .before .before .args .counts) (c .before .before .before .before .before .before .before .before .before .before .before .before .pre .1 .checked) (c .before .before .before .before .before .before .before .before .before .before .before .before .args .up) (c .before .before .before .before .before .before .before .before .before .before .before .before .args .lhs-op) (c .before .before .before .before .before .before .before .before .before .before .before .before .args .lhs-sub) (c .before .before .before .before .before .before .before .before .before .before .before .before .args .rhs-op) (c .before .before .before .before .before .before .before .before .before .before .before .before .args .rhs-sub) (c .before .before .before .before .before .before .before .before .before .before .before .before .pre .1 .lhs) (c .before .before .before .before .before .before .before .before .before .before .before .before .pre .1 .rhs) (c .before .before .before .before .before .before .before .before .before .before .bound-op .result) (c .before .before .before .before .before .before .before .before .before .before .bound-op .ensures) _ (c .before .before .before .before .before .before .before .before .op .given .1) _ (c .before .before .before .before .before .bound .result) (c .before .before .before .before .before .bound .ensures) _ (c .before .made .given .1))
+    (λ c.
+    let at-bound = c .before .before .before .before .before in
+    let at-op = at-bound .before .before .before in
+    let at-bound-op = at-op .before .before in
+    let start = at-bound-op .before .before in
+    let args = start .args in
+    law.container-stops (args .sorts .now) (args .counts) (start .pre .1 .checked) (args .up) (args .lhs-op)
+    (args .lhs-sub) (args .rhs-op) (args .rhs-sub) (start .pre .1 .lhs) (start .pre .1 .rhs)
+    (at-bound-op .bound-op .result) (at-bound-op .bound-op .ensures) _ (at-op .op .given .1) _
+    (at-bound .bound .result) (at-bound .bound .ensures) _ (c .before .made .given .1))
     (λ c. search needs)
-    (λ c. law.container-ends (c .before .before .before .before .before .before .before .before .before .before .before .args .sorts .now) (c .before .before .before .before .before .before .before .before .before .before .before .args .counts) (c .before .before .before .before .before .before .before .before .before .before .before .pre .1 .checked) (c .before .before .before .before .before .before .before .before .before .before .before .args .up) (c .before .before .before .before .before .before .before .before .before .before .before .args .lhs-op) (c .before .before .before .before .before .before .before .before .before .before .before .args .lhs-sub) (c .before .before .before .before .before .before .before .before .before .before .before .args .rhs-op) (c .before .before .before .before .before .before .before .before .before .before .before .args .rhs-sub) (c .before .before .before .before .before .before .before .before .before .before .before .pre .1 .lhs) (c .before .before .before .before .before .before .before .before .before .before .before .pre .1 .rhs) (c .before .before .before .before .before .before .before .before .before .bound-op .result) (c .before .before .before .before .before .before .before .before .before .bound-op .ensures) _ (c .before .before .before .before .before .before .before .op .given .1) _ (c .before .before .before .before .bound .result) (c .before .before .before .before .bound .ensures) (c .enum-told .given .1))
-    (λ c. law.container-none (c .before .before .before .before .args .sorts .now) (c .before .before .before .before .args .counts) (c .before .before .before .before .pre .1 .checked) (c .before .before .before .before .args .up) (c .before .before .before .before .args .lhs-op) (c .before .before .before .before .args .lhs-sub) (c .before .before .before .before .args .rhs-op) (c .before .before .before .before .args .rhs-sub) (c .before .before .before .before .pre .1 .lhs) (c .before .before .before .before .pre .1 .rhs) (c .before .before .bound-op .result) (c .before .before .bound-op .ensures) (c .enum-told2 .given .1))
+    (λ c.
+    let at-bound = c .before .before .before .before in
+    let at-op = at-bound .before .before .before in
+    let at-bound-op = at-op .before .before in
+    let start = at-bound-op .before .before in
+    let args = start .args in
+    law.container-ends (args .sorts .now) (args .counts) (start .pre .1 .checked) (args .up) (args .lhs-op)
+    (args .lhs-sub) (args .rhs-op) (args .rhs-sub) (start .pre .1 .lhs) (start .pre .1 .rhs)
+    (at-bound-op .bound-op .result) (at-bound-op .bound-op .ensures) _ (at-op .op .given .1) _
+    (at-bound .bound .result) (at-bound .bound .ensures) (c .enum-told .given .1))
+    (λ c.
+    let at-bound-op = c .before .before in
+    let start = at-bound-op .before .before in
+    let args = start .args in
+    law.container-none (args .sorts .now) (args .counts) (start .pre .1 .checked) (args .up) (args .lhs-op)
+    (args .lhs-sub) (args .rhs-op) (args .rhs-sub) (start .pre .1 .lhs) (start .pre .1 .rhs)
+    (at-bound-op .bound-op .result) (at-bound-op .bound-op .ensures) (c .enum-told2 .given .1))

@@ -37,27 +37,163 @@ use Rattle.resolved_sort.proofs.BoundsCode as law
 use Rattle.resolved_sort.proofs.DomainCode as domain
 use Rattle.resolved_sort.proofs.FunctionCode as functions
 use Rattle.sort_bounds.proofs.Ways as way
-use Rattle.sort_bounds.proofs.+against+bound+bound_container+bound_domain+bound_function+join+meet.Proof.Common.{against-at, against-below, bound-at, bound-below, bound-container-at, bound-container-below, bound-domain-at, bound-domain-below, bound-function-at, bound-function-below, join-at, join-below, meet-at, meet-below}
+use Rattle.sort_bounds.proofs.+against+bound+bound_container+bound_domain+bound_function+join+meet.Proof.Common.{against-at}
+use Rattle.sort_bounds.proofs.+against+bound+bound_container+bound_domain+bound_function+join+meet.Proof.Common.{against-below}
+use Rattle.sort_bounds.proofs.+against+bound+bound_container+bound_domain+bound_function+join+meet.Proof.Common.{bound-at}
+use Rattle.sort_bounds.proofs.+against+bound+bound_container+bound_domain+bound_function+join+meet.Proof.Common.{bound-below}
+use Rattle.sort_bounds.proofs.+against+bound+bound_container+bound_domain+bound_function+join+meet.Proof.Common.{bound-container-at}
+use Rattle.sort_bounds.proofs.+against+bound+bound_container+bound_domain+bound_function+join+meet.Proof.Common.{bound-container-below}
+use Rattle.sort_bounds.proofs.+against+bound+bound_container+bound_domain+bound_function+join+meet.Proof.Common.{bound-domain-at}
+use Rattle.sort_bounds.proofs.+against+bound+bound_container+bound_domain+bound_function+join+meet.Proof.Common.{bound-domain-below}
+use Rattle.sort_bounds.proofs.+against+bound+bound_container+bound_domain+bound_function+join+meet.Proof.Common.{bound-function-at}
+use Rattle.sort_bounds.proofs.+against+bound+bound_container+bound_domain+bound_function+join+meet.Proof.Common.{bound-function-below}
+use Rattle.sort_bounds.proofs.+against+bound+bound_container+bound_domain+bound_function+join+meet.Proof.Common.{join-at}
+use Rattle.sort_bounds.proofs.+against+bound+bound_container+bound_domain+bound_function+join+meet.Proof.Common.{join-below}
+use Rattle.sort_bounds.proofs.+against+bound+bound_container+bound_domain+bound_function+join+meet.Proof.Common.{meet-at}
+use Rattle.sort_bounds.proofs.+against+bound+bound_container+bound_domain+bound_function+join+meet.Proof.Common.{meet-below}
 
-pub part : (M : Type 1) (t : ℕ) → bound-domain-lts.Closed (arguments-reads.Asked, arguments-reads.Learnt, argument-reads.Asked, argument-reads.Learnt, against-below t, against.Post, bound-domain-below t, bound-domain.Post) (bound-domain-at t) bound-domain.Post M
+pub part : (M : Type 1) (t : ℕ) → bound-domain-lts.Closed (
+  arguments-reads.Asked,
+  arguments-reads.Learnt,
+  argument-reads.Asked,
+  argument-reads.Learnt,
+  against-below t,
+  against.Post,
+  bound-domain-below t,
+  bound-domain.Post,
+) (bound-domain-at t) bound-domain.Post M
 part M t =
-    bound-domain-lts.spec (arguments-reads.Asked, arguments-reads.Learnt, argument-reads.Asked, argument-reads.Learnt, against-below t, against.Post, bound-domain-below t, bound-domain.Post) (bound-domain-at t) bound-domain.Post
+    bound-domain-lts.spec (
+      arguments-reads.Asked,
+      arguments-reads.Learnt,
+      argument-reads.Asked,
+      argument-reads.Learnt,
+      against-below t,
+      against.Post,
+      bound-domain-below t,
+      bound-domain.Post,
+    ) (bound-domain-at t) bound-domain.Post
     (λ c κs. search needs)
     (λ c. search needs)
-    (λ c. way.domain-done (c .before .before .before .before .args .sorts .now) (c .before .before .before .before .args .counts) (c .before .before .before .before .args .up) (c .before .before .before .before .args .lhs .0) (c .before .before .before .before .args .rhs .0) (c .before .before .before .before .pre .1 .0) (c .before .before .before .before .args .i) (c .before .before .before .before .pre .1 .1) (c .before .before .before .before .args .ids) (c .before .arguments .result) (c .before .arguments .ensures) (c .if1 .taken))
+    (λ c.
+    let start = c .before .before .before .before in
+    let args = start .args in
+    way.domain-done (args .sorts .now) (args .counts) (args .up) (args .lhs .0) (args .rhs .0) (start .pre .1 .0)
+    (args .i) (start .pre .1 .1) (args .ids) (c .before .arguments .result) (c .before .arguments .ensures)
+    (c .if1 .taken))
     (λ c κs. search needs)
     (λ c κs. search needs)
-    (λ c κs. (omega (arith, c .before .before .before .before .before .before .before .before .before .pre .0, way.arguments-smaller (c .before .before .before .before .before .before .before .before .before .args .sorts .now) (c .before .before .before .before .before .before .before .before .before .args .counts) (c .before .before .before .before .before .before .before .before .before .args .up) (c .before .before .before .before .before .before .before .before .before .args .lhs .0) (c .before .before .before .before .before .before .before .before .before .args .rhs .0) (c .before .before .before .before .before .before .before .before .before .pre .1 .0) (c .before .before .before .before .before .before .before .before .before .args .i) (c .before .before .before .before .before .before .before .before .before .pre .1 .1) (c .before .before .before .before .before .before .before .before .before .args .ids) (c .before .before .before .before .before .before .arguments .result) (c .before .before .before .before .before .before .arguments .ensures) (c .before .before .before .before .before .if1 .left) (c .before .before .before .argument .result) (c .before .argument2 .result) (c .before .before .before .argument .ensures) (c .before .argument2 .ensures)), way.arguments-asked (c .before .before .before .before .before .before .before .before .before .args .sorts .now) (c .before .before .before .before .before .before .before .before .before .args .counts) (c .before .before .before .before .before .before .before .before .before .args .up) (c .before .before .before .before .before .before .before .before .before .args .lhs .0) (c .before .before .before .before .before .before .before .before .before .args .rhs .0) (c .before .before .before .before .before .before .before .before .before .pre .1 .0) (c .before .before .before .before .before .before .before .before .before .args .i) (c .before .before .before .before .before .before .before .before .before .pre .1 .1) (c .before .before .before .before .before .before .before .before .before .args .ids) (c .before .before .before .before .before .before .arguments .result) (c .before .before .before .before .before .before .arguments .ensures) (c .before .before .before .before .before .if1 .left) (c .before .before .before .argument .result) (c .before .argument2 .result) (c .before .before .before .argument .ensures) (c .before .argument2 .ensures)))
+    (λ c κs.
+    let at-argument2 = c .before in
+    let at-argument = at-argument2 .before .before in
+    let at-if1 = at-argument .before .before in
+    let at-arguments = at-if1 .before in
+    let start = at-arguments .before .before .before in
+    let args = start .args in (
+      omega (
+        arith,
+        start .pre .0,
+        way.arguments-smaller (args .sorts .now) (args .counts) (args .up) (args .lhs .0)
+            (args .rhs .0) (start .pre .1 .0) (args .i) (start .pre .1 .1) (args .ids) (at-arguments .arguments .result)
+            (at-arguments .arguments .ensures) (at-if1 .if1 .left) (at-argument .argument .result)
+            (at-argument2 .argument2 .result) (at-argument .argument .ensures) (at-argument2 .argument2 .ensures),
+      ),
+      way.arguments-asked (args .sorts .now) (args .counts) (args .up) (args .lhs .0) (args .rhs .0)
+          (start .pre .1 .0) (args .i) (start .pre .1 .1) (args .ids) (at-arguments .arguments .result)
+          (at-arguments .arguments .ensures) (at-if1 .if1 .left) (at-argument .argument .result)
+          (at-argument2 .argument2 .result) (at-argument .argument .ensures) (at-argument2 .argument2 .ensures),
+    ))
     (λ c. search needs)
     (λ c. omega (arith, c .before .before .before .before .before .before .before .before .before .before .before .if1 .left))
-    (λ c. omega (arith, way.few-left (c .before .before .before .before .before .before .before .before .before .before .before .before .before .before .before .args .sorts .now) (c .before .before .before .before .before .before .before .before .before .before .before .before .before .before .before .args .counts) (c .before .before .before .before .before .before .before .before .before .before .before .before .before .before .before .args .up) (c .before .before .before .before .before .before .before .before .before .before .before .before .before .before .before .args .lhs .0) (c .before .before .before .before .before .before .before .before .before .before .before .before .before .before .before .args .rhs .0) (c .before .before .before .before .before .before .before .before .before .before .before .before .before .before .before .pre .1 .0) (c .before .before .before .before .before .before .before .before .before .before .before .before .before .before .before .args .i) (c .before .before .before .before .before .before .before .before .before .before .before .before .before .before .before .pre .1 .1) (c .before .before .before .before .before .before .before .before .before .before .before .before .before .before .before .args .ids) (c .before .before .before .before .before .before .before .before .before .before .before .before .arguments .result) (c .before .before .before .before .before .before .before .before .before .before .before .before .arguments .ensures) (c .before .before .before .before .before .before .before .before .before .before .before .if1 .left)))
-    (λ c. omega (arith, way.few-left (c .before .before .before .before .before .before .before .before .before .before .before .before .before .before .before .before .args .sorts .now) (c .before .before .before .before .before .before .before .before .before .before .before .before .before .before .before .before .args .counts) (c .before .before .before .before .before .before .before .before .before .before .before .before .before .before .before .before .args .up) (c .before .before .before .before .before .before .before .before .before .before .before .before .before .before .before .before .args .lhs .0) (c .before .before .before .before .before .before .before .before .before .before .before .before .before .before .before .before .args .rhs .0) (c .before .before .before .before .before .before .before .before .before .before .before .before .before .before .before .before .pre .1 .0) (c .before .before .before .before .before .before .before .before .before .before .before .before .before .before .before .before .args .i) (c .before .before .before .before .before .before .before .before .before .before .before .before .before .before .before .before .pre .1 .1) (c .before .before .before .before .before .before .before .before .before .before .before .before .before .before .before .before .args .ids) (c .before .before .before .before .before .before .before .before .before .before .before .before .before .arguments .result) (c .before .before .before .before .before .before .before .before .before .before .before .before .before .arguments .ensures) (c .before .before .before .before .before .before .before .before .before .before .before .before .if1 .left)))
-    (λ c κs. (omega (arith, c .before .before .before .before .before .before .before .before .before .before .before .before .before .before .before .before .pre .0, way.few-left (c .before .before .before .before .before .before .before .before .before .before .before .before .before .before .before .before .args .sorts .now) (c .before .before .before .before .before .before .before .before .before .before .before .before .before .before .before .before .args .counts) (c .before .before .before .before .before .before .before .before .before .before .before .before .before .before .before .before .args .up) (c .before .before .before .before .before .before .before .before .before .before .before .before .before .before .before .before .args .lhs .0) (c .before .before .before .before .before .before .before .before .before .before .before .before .before .before .before .before .args .rhs .0) (c .before .before .before .before .before .before .before .before .before .before .before .before .before .before .before .before .pre .1 .0) (c .before .before .before .before .before .before .before .before .before .before .before .before .before .before .before .before .args .i) (c .before .before .before .before .before .before .before .before .before .before .before .before .before .before .before .before .pre .1 .1) (c .before .before .before .before .before .before .before .before .before .before .before .before .before .before .before .before .args .ids) (c .before .before .before .before .before .before .before .before .before .before .before .before .before .arguments .result) (c .before .before .before .before .before .before .before .before .before .before .before .before .before .arguments .ensures) (c .before .before .before .before .before .before .before .before .before .before .before .before .if1 .left)), way.domain-next (c .before .before .before .before .before .before .before .before .before .before .before .before .before .before .before .before .args .sorts .now) (c .before .before .before .before .before .before .before .before .before .before .before .before .before .before .before .before .args .counts) (c .before .before .before .before .before .before .before .before .before .before .before .before .before .before .before .before .args .up) (c .before .before .before .before .before .before .before .before .before .before .before .before .before .before .before .before .args .lhs .0) (c .before .before .before .before .before .before .before .before .before .before .before .before .before .before .before .before .args .rhs .0) (c .before .before .before .before .before .before .before .before .before .before .before .before .before .before .before .before .pre .1 .0) (c .before .before .before .before .before .before .before .before .before .before .before .before .before .before .before .before .args .i) (c .before .before .before .before .before .before .before .before .before .before .before .before .before .before .before .before .pre .1 .1) (c .before .before .before .before .before .before .before .before .before .before .before .before .before .before .before .before .args .ids) (c .before .before .before .before .before .before .before .before .before .before .before .before .before .arguments .result) (c .before .before .before .before .before .before .before .before .before .before .before .before .before .arguments .ensures) (c .before .before .before .before .before .before .before .before .before .before .before .before .if1 .left) (c .before .before .before .before .before .before .before .before .before .before .argument .result) (c .before .before .before .before .before .before .before .before .argument2 .result) (c .before .before .before .before .before .before .before .before .before .before .argument .ensures) (c .before .before .before .before .before .before .before .before .argument2 .ensures) _ (c .before .before .before .before .before .before .against .result) (c .before .before .before .before .before .before .against .ensures) _ _ (c .before .before .id .given .1)))
+    (λ c.
+    let at-if1 = c .before .before .before .before .before .before .before .before .before .before .before in
+    let at-arguments = at-if1 .before in
+    let start = at-arguments .before .before .before in
+    let args = start .args in
+    omega (
+      arith,
+      way.few-left (args .sorts .now) (args .counts) (args .up) (args .lhs .0) (args .rhs .0)
+          (start .pre .1 .0) (args .i) (start .pre .1 .1) (args .ids) (at-arguments .arguments .result)
+          (at-arguments .arguments .ensures) (at-if1 .if1 .left),
+    ))
+    (λ c.
+    let at-if1 = c .before .before .before .before .before .before .before .before .before .before .before
+    .before in
+    let at-arguments = at-if1 .before in
+    let start = at-arguments .before .before .before in
+    let args = start .args in
+    omega (
+      arith,
+      way.few-left (args .sorts .now) (args .counts) (args .up) (args .lhs .0) (args .rhs .0)
+          (start .pre .1 .0) (args .i) (start .pre .1 .1) (args .ids) (at-arguments .arguments .result)
+          (at-arguments .arguments .ensures) (at-if1 .if1 .left),
+    ))
+    (λ c κs.
+    let at-id = c .before .before in
+    let at-against = at-id .before .before .before .before in
+    let at-argument2 = at-against .before .before in
+    let at-argument = at-argument2 .before .before in
+    let at-if1 = at-argument .before .before in
+    let at-arguments = at-if1 .before in
+    let start = at-arguments .before .before .before in
+    let args = start .args in (
+      omega (
+        arith,
+        start .pre .0,
+        way.few-left (args .sorts .now) (args .counts) (args .up) (args .lhs .0)
+            (args .rhs .0) (start .pre .1 .0) (args .i) (start .pre .1 .1) (args .ids) (at-arguments .arguments .result)
+            (at-arguments .arguments .ensures) (at-if1 .if1 .left),
+      ),
+      way.domain-next (args .sorts .now) (args .counts)
+          (args .up) (args .lhs .0) (args .rhs .0) (start .pre .1 .0) (args .i) (start .pre .1 .1) (args .ids)
+          (at-arguments .arguments .result) (at-arguments .arguments .ensures) (at-if1 .if1 .left)
+          (at-argument .argument .result) (at-argument2 .argument2 .result) (at-argument .argument .ensures)
+          (at-argument2 .argument2 .ensures) _ (at-against .against .result) (at-against .against .ensures) _ _
+          (at-id .id .given .1),
+    ))
     (λ c. search needs)
     (λ c. search needs)
     (λ c. c .before .before .bound-domain .kept .0 ∙ c .before .before .before .before .before .before .before .before .before .against .kept .0)
-    (λ c. way.domain-made (c .before .before .before .before .before .before .before .before .before .before .before .before .before .before .before .before .before .before .before .args .sorts .now) (c .before .before .before .before .before .before .before .before .before .before .before .before .before .before .before .before .before .before .before .args .counts) (c .before .before .before .before .before .before .before .before .before .before .before .before .before .before .before .before .before .before .before .args .up) (c .before .before .before .before .before .before .before .before .before .before .before .before .before .before .before .before .before .before .before .args .lhs .0) (c .before .before .before .before .before .before .before .before .before .before .before .before .before .before .before .before .before .before .before .args .rhs .0) (c .before .before .before .before .before .before .before .before .before .before .before .before .before .before .before .before .before .before .before .pre .1 .0) (c .before .before .before .before .before .before .before .before .before .before .before .before .before .before .before .before .before .before .before .args .i) (c .before .before .before .before .before .before .before .before .before .before .before .before .before .before .before .before .before .before .before .pre .1 .1) (c .before .before .before .before .before .before .before .before .before .before .before .before .before .before .before .before .before .before .before .args .ids) (c .before .before .before .before .before .before .before .before .before .before .before .before .before .before .before .before .arguments .result) (c .before .before .before .before .before .before .before .before .before .before .before .before .before .before .before .before .arguments .ensures) (c .before .before .before .before .before .before .before .before .before .before .before .before .before .before .before .if1 .left) (c .before .before .before .before .before .before .before .before .before .before .before .before .before .argument .result) (c .before .before .before .before .before .before .before .before .before .before .before .argument2 .result) (c .before .before .before .before .before .before .before .before .before .before .before .before .before .argument .ensures) (c .before .before .before .before .before .before .before .before .before .before .before .argument2 .ensures) _ (c .before .before .before .before .before .before .before .before .before .against .result) (c .before .before .before .before .before .before .before .before .before .against .ensures) _ _ (c .before .before .before .before .before .id .given .1) _ _ (c .before .before .bound-domain .ensures))
+    (λ c.
+    let at-bound-domain = c .before .before in
+    let at-id = at-bound-domain .before .before .before in
+    let at-against = at-id .before .before .before .before in
+    let at-argument2 = at-against .before .before in
+    let at-argument = at-argument2 .before .before in
+    let at-if1 = at-argument .before .before in
+    let at-arguments = at-if1 .before in
+    let start = at-arguments .before .before .before in
+    let args = start .args in
+    way.domain-made (args .sorts .now) (args .counts) (args .up) (args .lhs .0) (args .rhs .0) (start .pre .1 .0)
+    (args .i) (start .pre .1 .1) (args .ids) (at-arguments .arguments .result) (at-arguments .arguments .ensures)
+    (at-if1 .if1 .left) (at-argument .argument .result) (at-argument2 .argument2 .result)
+    (at-argument .argument .ensures) (at-argument2 .argument2 .ensures) _ (at-against .against .result)
+    (at-against .against .ensures) _ _ (at-id .id .given .1) _ _ (at-bound-domain .bound-domain .ensures))
     (λ c. search needs)
-    (λ c. way.domain-stops (c .before .before .before .before .before .before .before .before .before .before .before .before .before .before .before .args .sorts .now) (c .before .before .before .before .before .before .before .before .before .before .before .before .before .before .before .args .counts) (c .before .before .before .before .before .before .before .before .before .before .before .before .before .before .before .args .up) (c .before .before .before .before .before .before .before .before .before .before .before .before .before .before .before .args .lhs .0) (c .before .before .before .before .before .before .before .before .before .before .before .before .before .before .before .args .rhs .0) (c .before .before .before .before .before .before .before .before .before .before .before .before .before .before .before .pre .1 .0) (c .before .before .before .before .before .before .before .before .before .before .before .before .before .before .before .args .i) (c .before .before .before .before .before .before .before .before .before .before .before .before .before .before .before .pre .1 .1) (c .before .before .before .before .before .before .before .before .before .before .before .before .before .before .before .args .ids) (c .before .before .before .before .before .before .before .before .before .before .before .before .arguments .result) (c .before .before .before .before .before .before .before .before .before .before .before .before .arguments .ensures) (c .before .before .before .before .before .before .before .before .before .before .before .if1 .left) (c .before .before .before .before .before .before .before .before .before .argument .result) (c .before .before .before .before .before .before .before .argument2 .result) (c .before .before .before .before .before .before .before .before .before .argument .ensures) (c .before .before .before .before .before .before .before .argument2 .ensures) _ (c .before .before .before .before .before .against .result) (c .before .before .before .before .before .against .ensures) _ (c .before .made .given .1))
+    (λ c.
+    let at-against = c .before .before .before .before .before in
+    let at-argument2 = at-against .before .before in
+    let at-argument = at-argument2 .before .before in
+    let at-if1 = at-argument .before .before in
+    let at-arguments = at-if1 .before in
+    let start = at-arguments .before .before .before in
+    let args = start .args in
+    way.domain-stops (args .sorts .now) (args .counts) (args .up) (args .lhs .0) (args .rhs .0) (start .pre .1 .0)
+    (args .i) (start .pre .1 .1) (args .ids) (at-arguments .arguments .result) (at-arguments .arguments .ensures)
+    (at-if1 .if1 .left) (at-argument .argument .result) (at-argument2 .argument2 .result)
+    (at-argument .argument .ensures) (at-argument2 .argument2 .ensures) _ (at-against .against .result)
+    (at-against .against .ensures) _ (c .before .made .given .1))
     (λ c. search needs)
-    (λ c. way.domain-ends (c .before .before .before .before .before .before .before .before .before .before .before .before .before .before .args .sorts .now) (c .before .before .before .before .before .before .before .before .before .before .before .before .before .before .args .counts) (c .before .before .before .before .before .before .before .before .before .before .before .before .before .before .args .up) (c .before .before .before .before .before .before .before .before .before .before .before .before .before .before .args .lhs .0) (c .before .before .before .before .before .before .before .before .before .before .before .before .before .before .args .rhs .0) (c .before .before .before .before .before .before .before .before .before .before .before .before .before .before .pre .1 .0) (c .before .before .before .before .before .before .before .before .before .before .before .before .before .before .args .i) (c .before .before .before .before .before .before .before .before .before .before .before .before .before .before .pre .1 .1) (c .before .before .before .before .before .before .before .before .before .before .before .before .before .before .args .ids) (c .before .before .before .before .before .before .before .before .before .before .before .arguments .result) (c .before .before .before .before .before .before .before .before .before .before .before .arguments .ensures) (c .before .before .before .before .before .before .before .before .before .before .if1 .left) (c .before .before .before .before .before .before .before .before .argument .result) (c .before .before .before .before .before .before .argument2 .result) (c .before .before .before .before .before .before .before .before .argument .ensures) (c .before .before .before .before .before .before .argument2 .ensures) _ (c .before .before .before .before .against .result) (c .before .before .before .before .against .ensures) (c .enum-told .given .1))
+    (λ c.
+    let at-against = c .before .before .before .before in
+    let at-argument2 = at-against .before .before in
+    let at-argument = at-argument2 .before .before in
+    let at-if1 = at-argument .before .before in
+    let at-arguments = at-if1 .before in
+    let start = at-arguments .before .before .before in
+    let args = start .args in
+    way.domain-ends (args .sorts .now) (args .counts) (args .up) (args .lhs .0) (args .rhs .0) (start .pre .1 .0)
+    (args .i) (start .pre .1 .1) (args .ids) (at-arguments .arguments .result) (at-arguments .arguments .ensures)
+    (at-if1 .if1 .left) (at-argument .argument .result) (at-argument2 .argument2 .result)
+    (at-argument .argument .ensures) (at-argument2 .argument2 .ensures) _ (at-against .against .result)
+    (at-against .against .ensures) (c .enum-told .given .1))

@@ -37,30 +37,173 @@ use Rattle.resolved_sort.proofs.BoundsCode as law
 use Rattle.resolved_sort.proofs.DomainCode as domain
 use Rattle.resolved_sort.proofs.FunctionCode as functions
 use Rattle.sort_bounds.proofs.Ways as way
-use Rattle.sort_bounds.proofs.+against+bound+bound_container+bound_domain+bound_function+join+meet.Proof.Common.{against-at, against-below, bound-at, bound-below, bound-container-at, bound-container-below, bound-domain-at, bound-domain-below, bound-function-at, bound-function-below, join-at, join-below, meet-at, meet-below}
+use Rattle.sort_bounds.proofs.+against+bound+bound_container+bound_domain+bound_function+join+meet.Proof.Common.{against-at}
+use Rattle.sort_bounds.proofs.+against+bound+bound_container+bound_domain+bound_function+join+meet.Proof.Common.{against-below}
+use Rattle.sort_bounds.proofs.+against+bound+bound_container+bound_domain+bound_function+join+meet.Proof.Common.{bound-at}
+use Rattle.sort_bounds.proofs.+against+bound+bound_container+bound_domain+bound_function+join+meet.Proof.Common.{bound-below}
+use Rattle.sort_bounds.proofs.+against+bound+bound_container+bound_domain+bound_function+join+meet.Proof.Common.{bound-container-at}
+use Rattle.sort_bounds.proofs.+against+bound+bound_container+bound_domain+bound_function+join+meet.Proof.Common.{bound-container-below}
+use Rattle.sort_bounds.proofs.+against+bound+bound_container+bound_domain+bound_function+join+meet.Proof.Common.{bound-domain-at}
+use Rattle.sort_bounds.proofs.+against+bound+bound_container+bound_domain+bound_function+join+meet.Proof.Common.{bound-domain-below}
+use Rattle.sort_bounds.proofs.+against+bound+bound_container+bound_domain+bound_function+join+meet.Proof.Common.{bound-function-at}
+use Rattle.sort_bounds.proofs.+against+bound+bound_container+bound_domain+bound_function+join+meet.Proof.Common.{bound-function-below}
+use Rattle.sort_bounds.proofs.+against+bound+bound_container+bound_domain+bound_function+join+meet.Proof.Common.{join-at}
+use Rattle.sort_bounds.proofs.+against+bound+bound_container+bound_domain+bound_function+join+meet.Proof.Common.{join-below}
+use Rattle.sort_bounds.proofs.+against+bound+bound_container+bound_domain+bound_function+join+meet.Proof.Common.{meet-at}
+use Rattle.sort_bounds.proofs.+against+bound+bound_container+bound_domain+bound_function+join+meet.Proof.Common.{meet-below}
 
-pub part : (M : Type 1) (t : ℕ) → bound-function-lts.Closed (part-reads.Asked, part-reads.Learnt, arguments-reads.Asked, arguments-reads.Learnt, bound-domain-below t, bound-domain.Post, bound-below t, bound.Post, function-reads.Asked, function-reads.Learnt) (bound-function-at t) bound-function.Post M
+pub part : (M : Type 1) (t : ℕ) → bound-function-lts.Closed (
+  part-reads.Asked,
+  part-reads.Learnt,
+  arguments-reads.Asked,
+  arguments-reads.Learnt,
+  bound-domain-below t,
+  bound-domain.Post,
+  bound-below t,
+  bound.Post,
+  function-reads.Asked,
+  function-reads.Learnt,
+) (bound-function-at t) bound-function.Post M
 part M t =
-    bound-function-lts.spec (part-reads.Asked, part-reads.Learnt, arguments-reads.Asked, arguments-reads.Learnt, bound-domain-below t, bound-domain.Post, bound-below t, bound.Post, function-reads.Asked, function-reads.Learnt) (bound-function-at t) bound-function.Post
+    bound-function-lts.spec (
+      part-reads.Asked,
+      part-reads.Learnt,
+      arguments-reads.Asked,
+      arguments-reads.Learnt,
+      bound-domain-below t,
+      bound-domain.Post,
+      bound-below t,
+      bound.Post,
+      function-reads.Asked,
+      function-reads.Learnt,
+    ) (bound-function-at t) bound-function.Post
     (λ c κs. search needs)
     (λ c κs. search needs)
     (λ c κs. search needs)
-    (λ c κs. (omega (arith, c .before .before .before .before .before .before .before .before .pre .0), (c .before .before .before .before .before .before .before .before .pre .1, omega arith)))
+    (λ c κs.
+    let start = c .before .before .before .before .before .before .before .before in
+    (omega (arith, start .pre .0), (start .pre .1, omega arith)))
     (λ c. search needs)
-    (λ c κs. (omega (arith, c .before .before .before .before .before .before .before .before .before .before .before .before .before .before .before .before .pre .0, way.ranges-smaller (c .before .before .before .before .before .before .before .before .before .before .before .before .before .before .before .before .args .sorts .now) (c .before .before .before .before .before .before .before .before .before .before .before .before .before .before .before .before .args .counts) (c .before .before .before .before .before .before .before .before .before .before .before .before .before .before .before .before .args .up) (c .before .before .before .before .before .before .before .before .before .before .before .before .before .before .before .before .args .lhs .0) (c .before .before .before .before .before .before .before .before .before .before .before .before .before .before .before .before .args .rhs .0) (c .before .before .before .before .before .before .before .before .before .before .before .before .before .before .before .before .pre .1) (c .before .before .before .before .before .before .before .before .before .before .before .before .before .part .result) (c .before .before .before .before .before .before .before .before .before .before .before .part2 .result) (c .before .before .before .before .before .before .before .before .before .before .before .before .before .part .ensures) (c .before .before .before .before .before .before .before .before .before .before .before .part2 .ensures) (c .before .before .before .before .before .before .before .before .before .arguments .result) (c .before .before .before .before .before .before .before .before .before .arguments .ensures) _ (c .before .before .before .before .before .before .before .bound-domain .result) (c .before .before .before .before .before .before .before .bound-domain .ensures)), way.ranges-asked (c .before .before .before .before .before .before .before .before .before .before .before .before .before .before .before .before .args .sorts .now) (c .before .before .before .before .before .before .before .before .before .before .before .before .before .before .before .before .args .counts) (c .before .before .before .before .before .before .before .before .before .before .before .before .before .before .before .before .args .up) (c .before .before .before .before .before .before .before .before .before .before .before .before .before .before .before .before .args .lhs .0) (c .before .before .before .before .before .before .before .before .before .before .before .before .before .before .before .before .args .rhs .0) (c .before .before .before .before .before .before .before .before .before .before .before .before .before .before .before .before .pre .1) (c .before .before .before .before .before .before .before .before .before .before .before .before .before .part .result) (c .before .before .before .before .before .before .before .before .before .before .before .part2 .result) (c .before .before .before .before .before .before .before .before .before .before .before .before .before .part .ensures) (c .before .before .before .before .before .before .before .before .before .before .before .part2 .ensures) (c .before .before .before .before .before .before .before .before .before .arguments .result) (c .before .before .before .before .before .before .before .before .before .arguments .ensures) _ (c .before .before .before .before .before .before .before .bound-domain .result) (c .before .before .before .before .before .before .before .bound-domain .ensures) _ (c .before .before .found .given .1)))
+    (λ c κs.
+    let at-found = c .before .before in
+    let at-bound-domain = at-found .before .before .before .before .before in
+    let at-arguments = at-bound-domain .before .before in
+    let at-part2 = at-arguments .before .before in
+    let at-part = at-part2 .before .before in
+    let start = at-part .before .before .before in
+    let args = start .args in (
+      omega (
+        arith,
+        start .pre .0,
+        way.ranges-smaller (args .sorts .now) (args .counts) (args .up) (args .lhs .0)
+            (args .rhs .0) (start .pre .1) (at-part .part .result) (at-part2 .part2 .result) (at-part .part .ensures)
+            (at-part2 .part2 .ensures) (at-arguments .arguments .result) (at-arguments .arguments .ensures) _
+            (at-bound-domain .bound-domain .result) (at-bound-domain .bound-domain .ensures),
+      ),
+      way.ranges-asked
+          (args .sorts .now) (args .counts) (args .up) (args .lhs .0) (args .rhs .0) (start .pre .1)
+          (at-part .part .result) (at-part2 .part2 .result) (at-part .part .ensures) (at-part2 .part2 .ensures)
+          (at-arguments .arguments .result) (at-arguments .arguments .ensures) _ (at-bound-domain .bound-domain .result)
+          (at-bound-domain .bound-domain .ensures) _ (at-found .found .given .1),
+    ))
     (λ c. search needs)
-    (λ c κs. way.whole-asked (c .before .before .before .before .before .before .before .before .before .before .before .before .before .before .before .before .before .before .before .before .before .before .before .args .sorts .now) (c .before .before .before .before .before .before .before .before .before .before .before .before .before .before .before .before .before .before .before .before .before .before .before .args .counts) (c .before .before .before .before .before .before .before .before .before .before .before .before .before .before .before .before .before .before .before .before .before .before .before .args .up) (c .before .before .before .before .before .before .before .before .before .before .before .before .before .before .before .before .before .before .before .before .before .before .before .args .lhs .0) (c .before .before .before .before .before .before .before .before .before .before .before .before .before .before .before .before .before .before .before .before .before .before .before .args .rhs .0) (c .before .before .before .before .before .before .before .before .before .before .before .before .before .before .before .before .before .before .before .before .before .before .before .pre .1) (c .before .before .before .before .before .before .before .before .before .before .before .before .before .before .before .before .before .before .before .before .part .result) (c .before .before .before .before .before .before .before .before .before .before .before .before .before .before .before .before .before .before .part2 .result) (c .before .before .before .before .before .before .before .before .before .before .before .before .before .before .before .before .before .before .before .before .part .ensures) (c .before .before .before .before .before .before .before .before .before .before .before .before .before .before .before .before .before .before .part2 .ensures) (c .before .before .before .before .before .before .before .before .before .before .before .before .before .before .before .before .arguments .result) (c .before .before .before .before .before .before .before .before .before .before .before .before .before .before .before .before .arguments .ensures) _ (c .before .before .before .before .before .before .before .before .before .before .before .before .before .before .bound-domain .result) (c .before .before .before .before .before .before .before .before .before .before .before .before .before .before .bound-domain .ensures) _ (c .before .before .before .before .before .before .before .before .before .found .given .1) _ (c .before .before .before .before .before .before .bound .result) (c .before .before .before .before .before .before .bound .ensures) _ _ (c .before .before .range .given .1))
+    (λ c κs.
+    let at-range = c .before .before in
+    let at-bound = at-range .before .before .before .before in
+    let at-found = at-bound .before .before .before in
+    let at-bound-domain = at-found .before .before .before .before .before in
+    let at-arguments = at-bound-domain .before .before in
+    let at-part2 = at-arguments .before .before in
+    let at-part = at-part2 .before .before in
+    let start = at-part .before .before .before in
+    let args = start .args in
+    way.whole-asked (args .sorts .now) (args .counts) (args .up) (args .lhs .0) (args .rhs .0) (start .pre .1)
+    (at-part .part .result) (at-part2 .part2 .result) (at-part .part .ensures) (at-part2 .part2 .ensures)
+    (at-arguments .arguments .result) (at-arguments .arguments .ensures) _ (at-bound-domain .bound-domain .result)
+    (at-bound-domain .bound-domain .ensures) _ (at-found .found .given .1) _ (at-bound .bound .result)
+    (at-bound .bound .ensures) _ _ (at-range .range .given .1))
     (λ c. search needs)
     (λ c. search needs)
     (λ c. search needs)
     (λ c. search needs)
-    (λ c. c .before .before .function .kept .0 ∙ c .before .before .before .before .before .before .before .before .before .bound .kept .0 ∙ c .before .before .before .before .before .before .before .before .before .before .before .before .before .before .before .before .before .bound-domain .kept .0)
-    (λ c. way.whole-made (c .before .before .before .before .before .before .before .before .before .before .before .before .before .before .before .before .before .before .before .before .before .before .before .before .before .before .args .sorts .now) (c .before .before .before .before .before .before .before .before .before .before .before .before .before .before .before .before .before .before .before .before .before .before .before .before .before .before .args .counts) (c .before .before .before .before .before .before .before .before .before .before .before .before .before .before .before .before .before .before .before .before .before .before .before .before .before .before .args .up) (c .before .before .before .before .before .before .before .before .before .before .before .before .before .before .before .before .before .before .before .before .before .before .before .before .before .before .args .lhs .0) (c .before .before .before .before .before .before .before .before .before .before .before .before .before .before .before .before .before .before .before .before .before .before .before .before .before .before .args .rhs .0) (c .before .before .before .before .before .before .before .before .before .before .before .before .before .before .before .before .before .before .before .before .before .before .before .before .before .before .pre .1) (c .before .before .before .before .before .before .before .before .before .before .before .before .before .before .before .before .before .before .before .before .before .before .before .part .result) (c .before .before .before .before .before .before .before .before .before .before .before .before .before .before .before .before .before .before .before .before .before .part2 .result) (c .before .before .before .before .before .before .before .before .before .before .before .before .before .before .before .before .before .before .before .before .before .before .before .part .ensures) (c .before .before .before .before .before .before .before .before .before .before .before .before .before .before .before .before .before .before .before .before .before .part2 .ensures) (c .before .before .before .before .before .before .before .before .before .before .before .before .before .before .before .before .before .before .before .arguments .result) (c .before .before .before .before .before .before .before .before .before .before .before .before .before .before .before .before .before .before .before .arguments .ensures) _ (c .before .before .before .before .before .before .before .before .before .before .before .before .before .before .before .before .before .bound-domain .result) (c .before .before .before .before .before .before .before .before .before .before .before .before .before .before .before .before .before .bound-domain .ensures) _ (c .before .before .before .before .before .before .before .before .before .before .before .before .found .given .1) _ (c .before .before .before .before .before .before .before .before .before .bound .result) (c .before .before .before .before .before .before .before .before .before .bound .ensures) _ _ (c .before .before .before .before .before .range .given .1) _ _ (c .before .before .function .ensures))
-    (λ c. c .before .before .before .before .before .bound .kept .0 ∙ c .before .before .before .before .before .before .before .before .before .before .before .before .before .bound-domain .kept .0)
-    (λ c. way.range-stops (c .before .before .before .before .before .before .before .before .before .before .before .before .before .before .before .before .before .before .before .before .before .before .args .sorts .now) (c .before .before .before .before .before .before .before .before .before .before .before .before .before .before .before .before .before .before .before .before .before .before .args .counts) (c .before .before .before .before .before .before .before .before .before .before .before .before .before .before .before .before .before .before .before .before .before .before .args .up) (c .before .before .before .before .before .before .before .before .before .before .before .before .before .before .before .before .before .before .before .before .before .before .args .lhs .0) (c .before .before .before .before .before .before .before .before .before .before .before .before .before .before .before .before .before .before .before .before .before .before .args .rhs .0) (c .before .before .before .before .before .before .before .before .before .before .before .before .before .before .before .before .before .before .before .before .before .before .pre .1) (c .before .before .before .before .before .before .before .before .before .before .before .before .before .before .before .before .before .before .before .part .result) (c .before .before .before .before .before .before .before .before .before .before .before .before .before .before .before .before .before .part2 .result) (c .before .before .before .before .before .before .before .before .before .before .before .before .before .before .before .before .before .before .before .part .ensures) (c .before .before .before .before .before .before .before .before .before .before .before .before .before .before .before .before .before .part2 .ensures) (c .before .before .before .before .before .before .before .before .before .before .before .before .before .before .before .arguments .result) (c .before .before .before .before .before .before .before .before .before .before .before .before .before .before .before .arguments .ensures) _ (c .before .before .before .before .before .before .before .before .before .before .before .before .before .bound-domain .result) (c .before .before .before .before .before .before .before .before .before .before .before .before .before .bound-domain .ensures) _ (c .before .before .before .before .before .before .before .before .found .given .1) _ (c .before .before .before .before .before .bound .result) (c .before .before .before .before .before .bound .ensures) _ (c .before .then-made .given .1))
-    (λ c. c .before .before .before .before .bound .kept .0 ∙ c .before .before .before .before .before .before .before .before .before .before .before .before .bound-domain .kept .0)
-    (λ c. way.range-ends (c .before .before .before .before .before .before .before .before .before .before .before .before .before .before .before .before .before .before .before .before .before .args .sorts .now) (c .before .before .before .before .before .before .before .before .before .before .before .before .before .before .before .before .before .before .before .before .before .args .counts) (c .before .before .before .before .before .before .before .before .before .before .before .before .before .before .before .before .before .before .before .before .before .args .up) (c .before .before .before .before .before .before .before .before .before .before .before .before .before .before .before .before .before .before .before .before .before .args .lhs .0) (c .before .before .before .before .before .before .before .before .before .before .before .before .before .before .before .before .before .before .before .before .before .args .rhs .0) (c .before .before .before .before .before .before .before .before .before .before .before .before .before .before .before .before .before .before .before .before .before .pre .1) (c .before .before .before .before .before .before .before .before .before .before .before .before .before .before .before .before .before .before .part .result) (c .before .before .before .before .before .before .before .before .before .before .before .before .before .before .before .before .part2 .result) (c .before .before .before .before .before .before .before .before .before .before .before .before .before .before .before .before .before .before .part .ensures) (c .before .before .before .before .before .before .before .before .before .before .before .before .before .before .before .before .part2 .ensures) (c .before .before .before .before .before .before .before .before .before .before .before .before .before .before .arguments .result) (c .before .before .before .before .before .before .before .before .before .before .before .before .before .before .arguments .ensures) _ (c .before .before .before .before .before .before .before .before .before .before .before .before .bound-domain .result) (c .before .before .before .before .before .before .before .before .before .before .before .before .bound-domain .ensures) _ (c .before .before .before .before .before .before .before .found .given .1) _ (c .before .before .before .before .bound .result) (c .before .before .before .before .bound .ensures) (c .enum-told .given .1))
+    (λ c.
+    let at-function = c .before .before in
+    let at-bound = at-function .before .before .before .before .before .before .before in
+    let at-bound-domain = at-bound .before .before .before .before .before .before .before .before in
+    at-function .function .kept .0 ∙ at-bound .bound .kept .0 ∙ at-bound-domain .bound-domain .kept .0)
+    (λ c.
+    let at-function = c .before .before in
+    let at-range = at-function .before .before .before in
+    let at-bound = at-range .before .before .before .before in
+    let at-found = at-bound .before .before .before in
+    let at-bound-domain = at-found .before .before .before .before .before in
+    let at-arguments = at-bound-domain .before .before in
+    let at-part2 = at-arguments .before .before in
+    let at-part = at-part2 .before .before in
+    let start = at-part .before .before .before in
+    let args = start .args in
+    way.whole-made (args .sorts .now) (args .counts) (args .up) (args .lhs .0) (args .rhs .0) (start .pre .1)
+    (at-part .part .result) (at-part2 .part2 .result) (at-part .part .ensures) (at-part2 .part2 .ensures)
+    (at-arguments .arguments .result) (at-arguments .arguments .ensures) _ (at-bound-domain .bound-domain .result)
+    (at-bound-domain .bound-domain .ensures) _ (at-found .found .given .1) _ (at-bound .bound .result)
+    (at-bound .bound .ensures) _ _ (at-range .range .given .1) _ _ (at-function .function .ensures))
+    (λ c.
+    let at-bound = c .before .before .before .before .before in
+    let at-bound-domain = at-bound .before .before .before .before .before .before .before .before in
+    at-bound .bound .kept .0 ∙ at-bound-domain .bound-domain .kept .0)
+    (λ c.
+    let at-bound = c .before .before .before .before .before in
+    let at-found = at-bound .before .before .before in
+    let at-bound-domain = at-found .before .before .before .before .before in
+    let at-arguments = at-bound-domain .before .before in
+    let at-part2 = at-arguments .before .before in
+    let at-part = at-part2 .before .before in
+    let start = at-part .before .before .before in
+    let args = start .args in
+    way.range-stops (args .sorts .now) (args .counts) (args .up) (args .lhs .0) (args .rhs .0) (start .pre .1)
+    (at-part .part .result) (at-part2 .part2 .result) (at-part .part .ensures) (at-part2 .part2 .ensures)
+    (at-arguments .arguments .result) (at-arguments .arguments .ensures) _ (at-bound-domain .bound-domain .result)
+    (at-bound-domain .bound-domain .ensures) _ (at-found .found .given .1) _ (at-bound .bound .result)
+    (at-bound .bound .ensures) _ (c .before .then-made .given .1))
+    (λ c.
+    let at-bound = c .before .before .before .before in
+    let at-bound-domain = at-bound .before .before .before .before .before .before .before .before in
+    at-bound .bound .kept .0 ∙ at-bound-domain .bound-domain .kept .0)
+    (λ c.
+    let at-bound = c .before .before .before .before in
+    let at-found = at-bound .before .before .before in
+    let at-bound-domain = at-found .before .before .before .before .before in
+    let at-arguments = at-bound-domain .before .before in
+    let at-part2 = at-arguments .before .before in
+    let at-part = at-part2 .before .before in
+    let start = at-part .before .before .before in
+    let args = start .args in
+    way.range-ends (args .sorts .now) (args .counts) (args .up) (args .lhs .0) (args .rhs .0) (start .pre .1)
+    (at-part .part .result) (at-part2 .part2 .result) (at-part .part .ensures) (at-part2 .part2 .ensures)
+    (at-arguments .arguments .result) (at-arguments .arguments .ensures) _ (at-bound-domain .bound-domain .result)
+    (at-bound-domain .bound-domain .ensures) _ (at-found .found .given .1) _ (at-bound .bound .result)
+    (at-bound .bound .ensures) (c .enum-told .given .1))
     (λ c. search needs)
-    (λ c. way.function-stops (c .before .before .before .before .before .before .before .before .before .before .before .before .before .before .before .args .sorts .now) (c .before .before .before .before .before .before .before .before .before .before .before .before .before .before .before .args .counts) (c .before .before .before .before .before .before .before .before .before .before .before .before .before .before .before .args .up) (c .before .before .before .before .before .before .before .before .before .before .before .before .before .before .before .args .lhs .0) (c .before .before .before .before .before .before .before .before .before .before .before .before .before .before .before .args .rhs .0) (c .before .before .before .before .before .before .before .before .before .before .before .before .before .before .before .pre .1) (c .before .before .before .before .before .before .before .before .before .before .before .before .part .result) (c .before .before .before .before .before .before .before .before .before .before .part2 .result) (c .before .before .before .before .before .before .before .before .before .before .before .before .part .ensures) (c .before .before .before .before .before .before .before .before .before .before .part2 .ensures) (c .before .before .before .before .before .before .before .before .arguments .result) (c .before .before .before .before .before .before .before .before .arguments .ensures) _ (c .before .before .before .before .before .before .bound-domain .result) (c .before .before .before .before .before .before .bound-domain .ensures) _ (c .before .found2 .given .1))
+    (λ c.
+    let at-bound-domain = c .before .before .before .before .before .before in
+    let at-arguments = at-bound-domain .before .before in
+    let at-part2 = at-arguments .before .before in
+    let at-part = at-part2 .before .before in
+    let start = at-part .before .before .before in
+    let args = start .args in
+    way.function-stops (args .sorts .now) (args .counts) (args .up) (args .lhs .0) (args .rhs .0) (start .pre .1)
+    (at-part .part .result) (at-part2 .part2 .result) (at-part .part .ensures) (at-part2 .part2 .ensures)
+    (at-arguments .arguments .result) (at-arguments .arguments .ensures) _ (at-bound-domain .bound-domain .result)
+    (at-bound-domain .bound-domain .ensures) _ (c .before .found2 .given .1))
     (λ c. search needs)
-    (λ c. way.function-ends (c .before .before .before .before .before .before .before .before .before .before .before .before .before .before .args .sorts .now) (c .before .before .before .before .before .before .before .before .before .before .before .before .before .before .args .counts) (c .before .before .before .before .before .before .before .before .before .before .before .before .before .before .args .up) (c .before .before .before .before .before .before .before .before .before .before .before .before .before .before .args .lhs .0) (c .before .before .before .before .before .before .before .before .before .before .before .before .before .before .args .rhs .0) (c .before .before .before .before .before .before .before .before .before .before .before .before .before .before .pre .1) (c .before .before .before .before .before .before .before .before .before .before .before .part .result) (c .before .before .before .before .before .before .before .before .before .part2 .result) (c .before .before .before .before .before .before .before .before .before .before .before .part .ensures) (c .before .before .before .before .before .before .before .before .before .part2 .ensures) (c .before .before .before .before .before .before .before .arguments .result) (c .before .before .before .before .before .before .before .arguments .ensures) _ (c .before .before .before .before .before .bound-domain .result) (c .before .before .before .before .before .bound-domain .ensures) (c .enum-told2 .given .1))
+    (λ c.
+    let at-bound-domain = c .before .before .before .before .before in
+    let at-arguments = at-bound-domain .before .before in
+    let at-part2 = at-arguments .before .before in
+    let at-part = at-part2 .before .before in
+    let start = at-part .before .before .before in
+    let args = start .args in
+    way.function-ends (args .sorts .now) (args .counts) (args .up) (args .lhs .0) (args .rhs .0) (start .pre .1)
+    (at-part .part .result) (at-part2 .part2 .result) (at-part .part .ensures) (at-part2 .part2 .ensures)
+    (at-arguments .arguments .result) (at-arguments .arguments .ensures) _ (at-bound-domain .bound-domain .result)
+    (at-bound-domain .bound-domain .ensures) (c .enum-told2 .given .1))

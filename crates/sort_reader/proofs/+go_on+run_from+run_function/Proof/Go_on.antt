@@ -28,7 +28,10 @@ part M t =
     (λ c. omega (arith, c .before .before .before .before .before .pre .1 .1))
     (λ c. search needs)
     (λ c. omega (arith, c .before .before .before .before .before .before .pre .1 .1))
-    (λ c κs. (omega (arith, c .before .before .before .before .before .before .pre .0, c .before .before .before .before .before .before .pre .1 .2), way.going-at _ _ _ _ _ _ (c .before .before .before .before .before .before .pre .1 .0) _ _ (c .before .before .made .given .1)))
+    (λ c κs.
+    let at-made = c .before .before in
+    let start = at-made .before .before .before .before in
+    (omega (arith, start .pre .0, start .pre .1 .2), way.going-at _ _ _ _ _ _ (start .pre .1 .0) _ _ (at-made .made .given .1)))
     (λ c. search needs)
     (λ c. search needs)
     (λ c. search needs)

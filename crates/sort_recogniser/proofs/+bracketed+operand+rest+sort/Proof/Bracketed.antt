@@ -26,19 +26,94 @@ use borrow.Author.Needs.{needs}
 use Rattle.sort_lexer.specs.declared.Token.the-variants.{End, Word, Open, Close, Hash, Arrow, Bad}
 use Rattle.sort_lexer.proofs.Tags.{no-other-token}
 use Rattle.sort_recogniser.proofs.Ways as way
-use Rattle.sort_recogniser.proofs.+bracketed+operand+rest+sort.Proof.Common.{bracketed-at, bracketed-below, operand-at, operand-below, rest-at, rest-below, sort-at, sort-below}
+use Rattle.sort_recogniser.proofs.+bracketed+operand+rest+sort.Proof.Common.{bracketed-at, bracketed-below}
+use Rattle.sort_recogniser.proofs.+bracketed+operand+rest+sort.Proof.Common.{operand-at, operand-below}
+use Rattle.sort_recogniser.proofs.+bracketed+operand+rest+sort.Proof.Common.{rest-at, rest-below, sort-at}
+use Rattle.sort_recogniser.proofs.+bracketed+operand+rest+sort.Proof.Common.{sort-below}
 
-pub part : (M : Type 1) (t : ℕ) → bracketed-lts.Closed (token-from-reads.Asked, token-from-reads.Learnt, sort-below t, sort.Post, closing-reads.Asked, closing-reads.Learnt) (bracketed-at t) bracketed.Post M
+pub part : (M : Type 1) (t : ℕ) → bracketed-lts.Closed (
+  token-from-reads.Asked,
+  token-from-reads.Learnt,
+  sort-below t,
+  sort.Post,
+  closing-reads.Asked,
+  closing-reads.Learnt,
+) (bracketed-at t) bracketed.Post M
 part M t =
-    bracketed-lts.spec (token-from-reads.Asked, token-from-reads.Learnt, sort-below t, sort.Post, closing-reads.Asked, closing-reads.Learnt) (bracketed-at t) bracketed.Post
+    bracketed-lts.spec (
+      token-from-reads.Asked,
+      token-from-reads.Learnt,
+      sort-below t,
+      sort.Post,
+      closing-reads.Asked,
+      closing-reads.Learnt,
+    ) (bracketed-at t) bracketed.Post
     (λ c κs. search needs)
     (λ c. search needs)
-    (λ c κs. let g = way.later (c .before .before .before .before .before .before .args .line .now) (c .before .before .before .before .before .before .args .at) (c .before .before .before .before .before .before .pre .1 .0) (c .before .before .before .before .before .before .args .out .now) (c .before .before .before .before .before .before .args .n) (c .before .before .before .before .before .before .pre .1 .1) (c .before .before .before .token-from .result) (c .before .before .before .token-from .ensures) Open (c .before .enum-told .given .1) in let d = way.later-within (c .before .before .before .before .before .before .args .line .now) (c .before .before .before .before .before .before .args .at) (c .before .before .before .before .before .before .pre .1 .0) (c .before .before .before .before .before .before .args .out .now) (c .before .before .before .before .before .before .args .n) (c .before .before .before .before .before .before .pre .1 .1) (c .before .before .before .token-from .result) (c .before .before .before .token-from .ensures) in (omega (arith, c .before .before .before .before .before .before .pre .0, g, d), (d, omega (arith, g, d, c .before .before .before .before .before .before .pre .1 .1))))
+    (λ c κs.
+    let at-token-from = c .before .before .before in
+    let start = at-token-from .before .before .before in
+    let args = start .args in
+    let g = way.later (args .line .now) (args .at) (start .pre .1 .0) (args .out .now) (args .n) (start .pre .1 .1)
+    (at-token-from .token-from .result) (at-token-from .token-from .ensures) Open
+    (c .before .enum-told .given .1) in let d = way.later-within (args .line .now) (args .at) (start .pre .1 .0)
+    (args .out .now) (args .n) (start .pre .1 .1) (at-token-from .token-from .result)
+    (at-token-from .token-from .ensures) in (
+      omega (arith, start .pre .0, g, d),
+      (d, omega (arith, g, d, start .pre .1 .1)),
+    ))
     (λ c. search needs)
-    (λ c κs. let g = way.later (c .before .before .before .before .before .before .before .before .before .before .before .before .before .args .line .now) (c .before .before .before .before .before .before .before .before .before .before .before .before .before .args .at) (c .before .before .before .before .before .before .before .before .before .before .before .before .before .pre .1 .0) (c .before .before .before .before .before .before .before .before .before .before .before .before .before .args .out .now) (c .before .before .before .before .before .before .before .before .before .before .before .before .before .args .n) (c .before .before .before .before .before .before .before .before .before .before .before .before .before .pre .1 .1) (c .before .before .before .before .before .before .before .before .before .before .token-from .result) (c .before .before .before .before .before .before .before .before .before .before .token-from .ensures) Open (c .before .before .before .before .before .before .before .before .enum-told .given .1) in let d = way.later-within (c .before .before .before .before .before .before .before .before .before .before .before .before .before .args .line .now) (c .before .before .before .before .before .before .before .before .before .before .before .before .before .args .at) (c .before .before .before .before .before .before .before .before .before .before .before .before .before .pre .1 .0) (c .before .before .before .before .before .before .before .before .before .before .before .before .before .args .out .now) (c .before .before .before .before .before .before .before .before .before .before .before .before .before .args .n) (c .before .before .before .before .before .before .before .before .before .before .before .before .before .pre .1 .1) (c .before .before .before .before .before .before .before .before .before .before .token-from .result) (c .before .before .before .before .before .before .before .before .before .before .token-from .ensures) in let x = way.done-room (c .before .before .before .before .before .before .before .before .before .before .before .before .before .args .line .now) _ _ _ _ _ _ _ _ (c .before .before .before .before .before .before .sort .ensures) (c .before .before .p .given .1) in (x .1, omega (arith, x .2, g, d, c .before .before .before .before .before .before .sort .kept .1 .1 .0, c .before .before .before .before .before .before .before .before .before .before .before .before .before .pre .1 .1)))
+    (λ c κs.
+    let at-p = c .before .before in
+    let at-sort = at-p .before .before .before .before in
+    let at-enum-told = at-sort .before .before in
+    let at-token-from = at-enum-told .before .before in
+    let start = at-token-from .before .before .before in
+    let args = start .args in
+    let g = way.later (args .line .now) (args .at) (start .pre .1 .0) (args .out .now) (args .n) (start .pre .1 .1)
+    (at-token-from .token-from .result) (at-token-from .token-from .ensures) Open
+    (at-enum-told .enum-told .given .1) in let d = way.later-within (args .line .now) (args .at)
+    (start .pre .1 .0) (args .out .now) (args .n) (start .pre .1 .1) (at-token-from .token-from .result)
+    (at-token-from .token-from .ensures) in let x = way.done-room (args .line .now) _ _ _ _ _ _ _ _
+    (at-sort .sort .ensures) (at-p .p .given .1) in (
+      x .1,
+      omega (
+        arith,
+        x .2,
+        g,
+        d,
+        at-sort .sort .kept .1 .1 .0,
+        start .pre .1 .1,
+      ),
+    ))
     (λ c. search needs)
     (λ c. c .before .before .closing .kept .1 .1 .0 ∙ c .before .before .before .before .before .before .before .before .before .sort .kept .1 .1 .0)
-    (λ c. way.bracketed-goes-on (c .before .before .before .before .before .before .before .before .before .before .before .before .before .before .before .before .args .line .now) (c .before .before .before .before .before .before .before .before .before .before .before .before .before .before .before .before .args .at) (c .before .before .before .before .before .before .before .before .before .before .before .before .before .before .before .before .pre .1 .0) (c .before .before .before .before .before .before .before .before .before .before .before .before .before .before .before .before .args .out .now) (c .before .before .before .before .before .before .before .before .before .before .before .before .before .before .before .before .args .n) (c .before .before .before .before .before .before .before .before .before .before .before .before .before .before .before .before .pre .1 .1) (c .before .before .before .before .before .before .before .before .before .before .before .before .before .token-from .result) (c .before .before .before .before .before .before .before .before .before .before .before .before .before .token-from .ensures) (c .before .before .before .before .before .before .before .before .before .before .before .enum-told .given .1) (c .before .before .before .before .before .before .before .before .before .before .before .before .before .before .before .before .args .op) _ _ (c .before .before .before .before .before .before .before .before .before .sort .ensures) _ _ (c .before .before .before .before .before .p .given .1) _ _ (c .before .before .closing .ensures))
+    (λ c.
+    let at-closing = c .before .before in
+    let at-p = at-closing .before .before .before in
+    let at-sort = at-p .before .before .before .before in
+    let at-enum-told = at-sort .before .before in
+    let at-token-from = at-enum-told .before .before in
+    let start = at-token-from .before .before .before in
+    let args = start .args in
+    way.bracketed-goes-on (args .line .now) (args .at) (start .pre .1 .0) (args .out .now) (args .n)
+    (start .pre .1 .1) (at-token-from .token-from .result) (at-token-from .token-from .ensures)
+    (at-enum-told .enum-told .given .1) (args .op) _ _ (at-sort .sort .ensures) _ _ (at-p .p .given .1) _ _
+    (at-closing .closing .ensures))
     (λ c. search needs)
-    (λ c. way.bracketed-passes (c .before .before .before .before .before .before .before .before .before .before .before .before .args .line .now) (c .before .before .before .before .before .before .before .before .before .before .before .before .args .at) (c .before .before .before .before .before .before .before .before .before .before .before .before .pre .1 .0) (c .before .before .before .before .before .before .before .before .before .before .before .before .args .out .now) (c .before .before .before .before .before .before .before .before .before .before .before .before .args .n) (c .before .before .before .before .before .before .before .before .before .before .before .before .pre .1 .1) (c .before .before .before .before .before .before .before .before .before .token-from .result) (c .before .before .before .before .before .before .before .before .before .token-from .ensures) (c .before .before .before .before .before .before .before .enum-told .given .1) (c .before .before .before .before .before .before .before .before .before .before .before .before .args .op) _ _ (c .before .before .before .before .before .sort .ensures) _ (c .before .p2 .given .1))
-    (λ c. way.bracketed-stuck (c .before .before .before .before .args .line .now) (c .before .before .before .before .args .at) (c .before .before .before .before .pre .1 .0) (c .before .before .before .before .args .out .now) (c .before .before .before .before .args .n) (c .before .before .before .before .pre .1 .1) (c .before .token-from .result) (c .before .token-from .ensures) (no-other-token (0 ∷ 1 ∷ 3 ∷ 4 ∷ 5 ∷ 6 ∷ []) (c .before .token-from .result .token) Open (c .match .keys2) tt) (c .before .before .before .before .args .op))
+    (λ c.
+    let at-sort = c .before .before .before .before .before in
+    let at-enum-told = at-sort .before .before in
+    let at-token-from = at-enum-told .before .before in
+    let start = at-token-from .before .before .before in
+    let args = start .args in
+    way.bracketed-passes (args .line .now) (args .at) (start .pre .1 .0) (args .out .now) (args .n) (start .pre .1 .1)
+    (at-token-from .token-from .result) (at-token-from .token-from .ensures) (at-enum-told .enum-told .given .1)
+    (args .op) _ _ (at-sort .sort .ensures) _ (c .before .p2 .given .1))
+    (λ c.
+    let at-token-from = c .before in
+    let start = at-token-from .before .before .before in
+    let args = start .args in
+    way.bracketed-stuck (args .line .now) (args .at) (start .pre .1 .0) (args .out .now) (args .n) (start .pre .1 .1)
+    (at-token-from .token-from .result) (at-token-from .token-from .ensures) (no-other-token (0 ∷ 1 ∷ 3 ∷ 4 ∷ 5 ∷
+    6 ∷ []) (at-token-from .token-from .result .token) Open (c .match .keys2) tt) (args .op))

@@ -26,24 +26,99 @@ use borrow.Author.Needs.{needs}
 use Rattle.sort_lexer.specs.declared.Token.the-variants.{End, Word, Open, Close, Hash, Arrow, Bad}
 use Rattle.sort_lexer.proofs.Tags.{no-other-token}
 use Rattle.sort_recogniser.proofs.Ways as way
-use Rattle.sort_recogniser.proofs.+bracketed+operand+rest+sort.Proof.Common.{bracketed-at, bracketed-below, operand-at, operand-below, rest-at, rest-below, sort-at, sort-below}
+use Rattle.sort_recogniser.proofs.+bracketed+operand+rest+sort.Proof.Common.{bracketed-at, bracketed-below}
+use Rattle.sort_recogniser.proofs.+bracketed+operand+rest+sort.Proof.Common.{operand-at, operand-below}
+use Rattle.sort_recogniser.proofs.+bracketed+operand+rest+sort.Proof.Common.{rest-at, rest-below, sort-at}
+use Rattle.sort_recogniser.proofs.+bracketed+operand+rest+sort.Proof.Common.{sort-below}
 
-pub part : (M : Type 1) (t : ℕ) → operand-lts.Closed (token-from-reads.Asked, token-from-reads.Learnt, word-meaning-reads.Asked, word-meaning-reads.Learnt, step-of-sort-reads.Asked, step-of-sort-reads.Learnt, bracketed-below t, bracketed.Post) (operand-at t) operand.Post M
+pub part : (M : Type 1) (t : ℕ) → operand-lts.Closed (
+  token-from-reads.Asked,
+  token-from-reads.Learnt,
+  word-meaning-reads.Asked,
+  word-meaning-reads.Learnt,
+  step-of-sort-reads.Asked,
+  step-of-sort-reads.Learnt,
+  bracketed-below t,
+  bracketed.Post,
+) (operand-at t) operand.Post M
 part M t =
-    operand-lts.spec (token-from-reads.Asked, token-from-reads.Learnt, word-meaning-reads.Asked, word-meaning-reads.Learnt, step-of-sort-reads.Asked, step-of-sort-reads.Learnt, bracketed-below t, bracketed.Post) (operand-at t) operand.Post
+    operand-lts.spec (
+      token-from-reads.Asked,
+      token-from-reads.Learnt,
+      word-meaning-reads.Asked,
+      word-meaning-reads.Learnt,
+      step-of-sort-reads.Asked,
+      step-of-sort-reads.Learnt,
+      bracketed-below t,
+      bracketed.Post,
+    ) (operand-at t) operand.Post
     (λ c κs. search needs)
     (λ c. search needs)
     (λ c κs. search needs)
     (λ c. search needs)
     (λ c κs. search needs)
-    (λ c. let g = way.later (c .before .before .before .before .before .before .before .before .before .before .args .line .now) (c .before .before .before .before .before .before .before .before .before .before .args .at) (c .before .before .before .before .before .before .before .before .before .before .pre .1 .0) (c .before .before .before .before .before .before .before .before .before .before .args .out .now) (c .before .before .before .before .before .before .before .before .before .before .args .n) (c .before .before .before .before .before .before .before .before .before .before .pre .1 .1) (c .before .before .before .before .before .before .before .token-from .result) (c .before .before .before .before .before .before .before .token-from .ensures) Word (c .before .before .before .before .before .enum-told .given .1) in let d = way.later-within (c .before .before .before .before .before .before .before .before .before .before .args .line .now) (c .before .before .before .before .before .before .before .before .before .before .args .at) (c .before .before .before .before .before .before .before .before .before .before .pre .1 .0) (c .before .before .before .before .before .before .before .before .before .before .args .out .now) (c .before .before .before .before .before .before .before .before .before .before .args .n) (c .before .before .before .before .before .before .before .before .before .before .pre .1 .1) (c .before .before .before .before .before .before .before .token-from .result) (c .before .before .before .before .before .before .before .token-from .ensures) in omega (arith, g, d, c .before .before .before .before .before .before .before .before .before .before .pre .1 .1))
+    (λ c.
+    let at-enum-told = c .before .before .before .before .before in
+    let at-token-from = at-enum-told .before .before in
+    let start = at-token-from .before .before .before in
+    let args = start .args in
+    let g = way.later (args .line .now) (args .at) (start .pre .1 .0) (args .out .now) (args .n) (start .pre .1 .1)
+    (at-token-from .token-from .result) (at-token-from .token-from .ensures) Word
+    (at-enum-told .enum-told .given .1) in let d = way.later-within (args .line .now) (args .at)
+    (start .pre .1 .0) (args .out .now) (args .n) (start .pre .1 .1) (at-token-from .token-from .result)
+    (at-token-from .token-from .ensures) in omega (arith, g, d, start .pre .1 .1))
     (λ c. search needs)
     (λ c. search needs)
-    (λ c κs. let g = way.later (c .before .before .before .before .before .before .before .before .before .before .args .line .now) (c .before .before .before .before .before .before .before .before .before .before .args .at) (c .before .before .before .before .before .before .before .before .before .before .pre .1 .0) (c .before .before .before .before .before .before .before .before .before .before .args .out .now) (c .before .before .before .before .before .before .before .before .before .before .args .n) (c .before .before .before .before .before .before .before .before .before .before .pre .1 .1) (c .before .before .before .before .before .before .before .token-from .result) (c .before .before .before .before .before .before .before .token-from .ensures) Word (c .before .before .before .before .before .enum-told .given .1) in let d = way.later-within (c .before .before .before .before .before .before .before .before .before .before .args .line .now) (c .before .before .before .before .before .before .before .before .before .before .args .at) (c .before .before .before .before .before .before .before .before .before .before .pre .1 .0) (c .before .before .before .before .before .before .before .before .before .before .args .out .now) (c .before .before .before .before .before .before .before .before .before .before .args .n) (c .before .before .before .before .before .before .before .before .before .before .pre .1 .1) (c .before .before .before .before .before .before .before .token-from .result) (c .before .before .before .before .before .before .before .token-from .ensures) in (omega (arith, c .before .before .before .before .before .before .before .before .before .before .pre .0, g, d), (d, omega (arith, g, d, c .before .before .before .before .before .before .before .before .before .before .pre .1 .1))))
+    (λ c κs.
+    let at-enum-told = c .before .before .before .before .before in
+    let at-token-from = at-enum-told .before .before in
+    let start = at-token-from .before .before .before in
+    let args = start .args in
+    let g = way.later (args .line .now) (args .at) (start .pre .1 .0) (args .out .now) (args .n) (start .pre .1 .1)
+    (at-token-from .token-from .result) (at-token-from .token-from .ensures) Word
+    (at-enum-told .enum-told .given .1) in let d = way.later-within (args .line .now) (args .at)
+    (start .pre .1 .0) (args .out .now) (args .n) (start .pre .1 .1) (at-token-from .token-from .result)
+    (at-token-from .token-from .ensures) in (
+      omega (arith, start .pre .0, g, d),
+      (d, omega (arith, g, d, start .pre .1 .1)),
+    ))
     (λ c. search needs)
     (λ c. search needs)
-    (λ c. way.operand-basic (c .before .before .before .before .before .before .before .before .before .before .args .line .now) (c .before .before .before .before .before .before .before .before .before .before .args .at) (c .before .before .before .before .before .before .before .before .before .before .pre .1 .0) (c .before .before .before .before .before .before .before .before .before .before .args .out .now) (c .before .before .before .before .before .before .before .before .before .before .args .n) (c .before .before .before .before .before .before .before .before .before .before .pre .1 .1) (c .before .before .before .before .before .before .before .token-from .result) (c .before .before .before .before .before .before .before .token-from .ensures) (c .before .before .before .before .before .enum-told .given .1) _ (c .before .before .before .before .word-meaning .ensures) _ (c .before .before .s .given .1) _ (c .step-of-sort .ensures))
+    (λ c.
+    let at-s = c .before .before in
+    let at-word-meaning = at-s .before .before in
+    let at-enum-told = at-word-meaning .before in
+    let at-token-from = at-enum-told .before .before in
+    let start = at-token-from .before .before .before in
+    let args = start .args in
+    way.operand-basic (args .line .now) (args .at) (start .pre .1 .0) (args .out .now) (args .n) (start .pre .1 .1)
+    (at-token-from .token-from .result) (at-token-from .token-from .ensures) (at-enum-told .enum-told .given .1) _
+    (at-word-meaning .word-meaning .ensures) _ (at-s .s .given .1) _ (c .step-of-sort .ensures))
     (λ c. search needs)
-    (λ c. way.operand-over (c .before .before .before .before .before .before .before .before .before .before .before .before .before .args .line .now) (c .before .before .before .before .before .before .before .before .before .before .before .before .before .args .at) (c .before .before .before .before .before .before .before .before .before .before .before .before .before .pre .1 .0) (c .before .before .before .before .before .before .before .before .before .before .before .before .before .args .out .now) (c .before .before .before .before .before .before .before .before .before .before .before .before .before .args .n) (c .before .before .before .before .before .before .before .before .before .before .before .before .before .pre .1 .1) (c .before .before .before .before .before .before .before .before .before .before .token-from .result) (c .before .before .before .before .before .before .before .before .before .before .token-from .ensures) (c .before .before .before .before .before .before .before .before .enum-told .given .1) _ (c .before .before .before .before .before .before .before .word-meaning .ensures) _ (c .before .before .before .before .before .op .given .1) _ _ (c .before .before .bracketed .ensures))
-    (λ c. way.operand-unknown (c .before .before .before .before .before .before .before .before .args .line .now) (c .before .before .before .before .before .before .before .before .args .at) (c .before .before .before .before .before .before .before .before .pre .1 .0) (c .before .before .before .before .before .before .before .before .args .out .now) (c .before .before .before .before .before .before .before .before .args .n) (c .before .before .before .before .before .before .before .before .pre .1 .1) (c .before .before .before .before .before .token-from .result) (c .before .before .before .before .before .token-from .ensures) (c .before .before .before .enum-told .given .1) _ (c .before .before .word-meaning .ensures) (c .enum-told2 .given .1))
-    (λ c. way.operand-stuck (c .before .before .before .before .args .line .now) (c .before .before .before .before .args .at) (c .before .before .before .before .pre .1 .0) (c .before .before .before .before .args .out .now) (c .before .before .before .before .args .n) (c .before .before .before .before .pre .1 .1) (c .before .token-from .result) (c .before .token-from .ensures) (no-other-token (0 ∷ 2 ∷ 3 ∷ 4 ∷ 5 ∷ 6 ∷ []) (c .before .token-from .result .token) Word (c .match .keys2) tt))
+    (λ c.
+    let at-bracketed = c .before .before in
+    let at-op = at-bracketed .before .before .before in
+    let at-word-meaning = at-op .before .before in
+    let at-enum-told = at-word-meaning .before in
+    let at-token-from = at-enum-told .before .before in
+    let start = at-token-from .before .before .before in
+    let args = start .args in
+    way.operand-over (args .line .now) (args .at) (start .pre .1 .0) (args .out .now) (args .n) (start .pre .1 .1)
+    (at-token-from .token-from .result) (at-token-from .token-from .ensures) (at-enum-told .enum-told .given .1) _
+    (at-word-meaning .word-meaning .ensures) _ (at-op .op .given .1) _ _ (at-bracketed .bracketed .ensures))
+    (λ c.
+    let at-word-meaning = c .before .before in
+    let at-enum-told = at-word-meaning .before in
+    let at-token-from = at-enum-told .before .before in
+    let start = at-token-from .before .before .before in
+    let args = start .args in
+    way.operand-unknown (args .line .now) (args .at) (start .pre .1 .0) (args .out .now) (args .n) (start .pre .1 .1)
+    (at-token-from .token-from .result) (at-token-from .token-from .ensures) (at-enum-told .enum-told .given .1) _
+    (at-word-meaning .word-meaning .ensures) (c .enum-told2 .given .1))
+    (λ c.
+    let at-token-from = c .before in
+    let start = at-token-from .before .before .before in
+    let args = start .args in
+    way.operand-stuck (args .line .now) (args .at) (start .pre .1 .0) (args .out .now) (args .n) (start .pre .1 .1)
+    (at-token-from .token-from .result) (at-token-from .token-from .ensures) (no-other-token (0 ∷ 2 ∷ 3 ∷ 4 ∷ 5 ∷
+    6 ∷ []) (at-token-from .token-from .result .token) Word (c .match .keys2) tt))

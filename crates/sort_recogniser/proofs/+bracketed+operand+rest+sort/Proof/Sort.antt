@@ -26,16 +26,40 @@ use borrow.Author.Needs.{needs}
 use Rattle.sort_lexer.specs.declared.Token.the-variants.{End, Word, Open, Close, Hash, Arrow, Bad}
 use Rattle.sort_lexer.proofs.Tags.{no-other-token}
 use Rattle.sort_recogniser.proofs.Ways as way
-use Rattle.sort_recogniser.proofs.+bracketed+operand+rest+sort.Proof.Common.{bracketed-at, bracketed-below, operand-at, operand-below, rest-at, rest-below, sort-at, sort-below}
+use Rattle.sort_recogniser.proofs.+bracketed+operand+rest+sort.Proof.Common.{bracketed-at, bracketed-below}
+use Rattle.sort_recogniser.proofs.+bracketed+operand+rest+sort.Proof.Common.{operand-at, operand-below}
+use Rattle.sort_recogniser.proofs.+bracketed+operand+rest+sort.Proof.Common.{rest-at, rest-below, sort-at}
+use Rattle.sort_recogniser.proofs.+bracketed+operand+rest+sort.Proof.Common.{sort-below}
 
 pub part : (M : Type 1) (t : ℕ) → sort-lts.Closed (operand-below t, operand.Post, rest-below t, rest.Post) (sort-at t) sort.Post M
 part M t =
     sort-lts.spec (operand-below t, operand.Post, rest-below t, rest.Post) (sort-at t) sort.Post
-    (λ c κs. (omega (arith, c .before .before .before .pre .0), c .before .before .before .pre .1))
+    (λ c κs.
+    let start = c .before .before .before in
+    (omega (arith, start .pre .0), start .pre .1))
     (λ c. search needs)
-    (λ c κs. let x = way.done-room (c .before .before .before .before .before .before .before .before .before .before .args .line .now) _ _ _ _ _ _ _ _ (c .before .before .before .before .before .before .operand .ensures) (c .before .before .p .given .1) in (omega (arith, c .before .before .before .before .before .before .before .before .before .before .pre .0, x .0, x .1), (x .1, omega (arith, x .2, c .before .before .before .before .before .before .operand .kept .1 .1 .0, c .before .before .before .before .before .before .before .before .before .before .pre .1 .1), omega arith, omega arith)))
+    (λ c κs.
+    let at-p = c .before .before in
+    let at-operand = at-p .before .before .before .before in
+    let start = at-operand .before .before .before .before in
+    let x = way.done-room (start .args .line .now) _ _ _ _ _ _ _ _ (at-operand .operand .ensures)
+    (at-p .p .given .1) in (
+      omega (arith, start .pre .0, x .0, x .1),
+      (x .1, omega (arith, x .2, at-operand .operand .kept .1 .1 .0, start .pre .1 .1), omega arith, omega arith),
+    ))
     (λ c. search needs)
     (λ c. c .before .before .rest .kept .1 .1 .0 ∙ c .before .before .before .before .before .before .before .before .before .operand .kept .1 .1 .0)
-    (λ c. way.sort-goes-on (c .before .before .before .before .before .before .before .before .before .before .before .before .before .args .line .now) (c .before .before .before .before .before .before .before .before .before .before .before .before .before .args .at) (c .before .before .before .before .before .before .before .before .before .before .before .before .before .args .out .now) (c .before .before .before .before .before .before .before .before .before .before .before .before .before .args .n) _ _ (c .before .before .before .before .before .before .before .before .before .operand .ensures) _ _ (c .before .before .before .before .before .p .given .1) _ _ (c .before .before .rest .ensures))
+    (λ c.
+    let at-rest = c .before .before in
+    let at-p = at-rest .before .before .before in
+    let at-operand = at-p .before .before .before .before in
+    let start = at-operand .before .before .before .before in
+    let args = start .args in
+    way.sort-goes-on (args .line .now) (args .at) (args .out .now) (args .n) _ _ (at-operand .operand .ensures) _ _
+    (at-p .p .given .1) _ _ (at-rest .rest .ensures))
     (λ c. search needs)
-    (λ c. way.sort-passes (c .before .before .before .before .before .before .before .before .before .args .line .now) (c .before .before .before .before .before .before .before .before .before .args .at) (c .before .before .before .before .before .before .before .before .before .args .out .now) (c .before .before .before .before .before .before .before .before .before .args .n) _ _ (c .before .before .before .before .before .operand .ensures) _ (c .before .p2 .given .1))
+    (λ c.
+    let at-operand = c .before .before .before .before .before in
+    let start = at-operand .before .before .before .before in
+    let args = start .args in
+    way.sort-passes (args .line .now) (args .at) (args .out .now) (args .n) _ _ (at-operand .operand .ensures) _ (c .before .p2 .given .1))

@@ -27,35 +27,237 @@ use Rattle.unification.proofs.Rank.{rank}
 use Rattle.unifier.proofs.Steps as law
 use Rattle.unifier.proofs.+unify+unify_parts.Proof.Common.{unify-at, unify-below, unify-parts-at, unify-parts-below}
 
-pub part : (M : Type 1) (t : ℕ) → unify-lts.Closed (shallow-normalize-reads.Asked, shallow-normalize-reads.Learnt, variable-at-reads.Asked, variable-at-reads.Learnt, bind-variables-reads.Asked, bind-variables-reads.Learnt, bind-reads.Asked, bind-reads.Learnt, unify-parts-below t, unify-parts.Post) (unify-at t) unify.Post M
+pub part : (M : Type 1) (t : ℕ) → unify-lts.Closed (
+  shallow-normalize-reads.Asked,
+  shallow-normalize-reads.Learnt,
+  variable-at-reads.Asked,
+  variable-at-reads.Learnt,
+  bind-variables-reads.Asked,
+  bind-variables-reads.Learnt,
+  bind-reads.Asked,
+  bind-reads.Learnt,
+  unify-parts-below t,
+  unify-parts.Post,
+) (unify-at t) unify.Post M
 part M t =
-    unify-lts.spec (shallow-normalize-reads.Asked, shallow-normalize-reads.Learnt, variable-at-reads.Asked, variable-at-reads.Learnt, bind-variables-reads.Asked, bind-variables-reads.Learnt, bind-reads.Asked, bind-reads.Learnt, unify-parts-below t, unify-parts.Post) (unify-at t) unify.Post
-    (λ c κs. (c .before .before .before .before .before .pre .1 .0 .ready, c .before .before .before .before .before .pre .1 .1))
-    (λ c κs. (c .before .before .before .before .before .before .before .pre .1 .0 .ready, c .before .before .before .before .before .before .before .pre .1 .2))
+    unify-lts.spec (
+      shallow-normalize-reads.Asked,
+      shallow-normalize-reads.Learnt,
+      variable-at-reads.Asked,
+      variable-at-reads.Learnt,
+      bind-variables-reads.Asked,
+      bind-variables-reads.Learnt,
+      bind-reads.Asked,
+      bind-reads.Learnt,
+      unify-parts-below t,
+      unify-parts.Post,
+    ) (unify-at t) unify.Post
+    (λ c κs.
+    let start = c .before .before .before .before .before in
+    (start .pre .1 .0 .ready, start .pre .1 .1))
+    (λ c κs.
+    let start = c .before .before .before .before .before .before .before in
+    (start .pre .1 .0 .ready, start .pre .1 .2))
     (λ c. search needs)
-    (λ c. law.same-end (c .before .before .before .before .before .before .before .before .before .before .before .args .sorts .now) (c .before .before .before .before .before .before .before .before .before .before .before .args .nodes .now) (c .before .before .before .before .before .before .before .before .before .before .before .args .binds .now) (c .before .before .before .before .before .before .before .before .before .before .before .args .trail .now) (c .before .before .before .before .before .before .before .before .before .before .before .args .lengths) (c .before .before .before .before .before .before .before .before .before .before .before .args .count) (c .before .before .before .before .before .before .before .before .before .before .before .pre .1 .0) (c .before .before .before .before .before .before .before .before .before .before .before .args .lhs .0) (c .before .before .before .before .before .before .before .before .before .before .before .args .rhs .0) _ _ (c .before .before .before .before .before .before .before .before .before .before .before .pre .1 .1) (c .before .before .before .before .before .before .before .before .before .before .before .pre .1 .2) (c .before .before .before .before .before .shallow-normalize .ensures) (c .before .before .before .shallow-normalize2 .ensures) (c .if1 .taken))
-    (λ c κs. (c .before .before .before .before .before .before .before .before .before .before .before .pre .1 .0 .ready .nodes, law.left-end-placed (c .before .before .before .before .before .before .before .before .before .before .before .args .sorts .now) (c .before .before .before .before .before .before .before .before .before .before .before .args .nodes .now) (c .before .before .before .before .before .before .before .before .before .before .before .args .binds .now) (c .before .before .before .before .before .before .before .before .before .before .before .args .trail .now) (c .before .before .before .before .before .before .before .before .before .before .before .args .lengths) (c .before .before .before .before .before .before .before .before .before .before .before .args .count) (c .before .before .before .before .before .before .before .before .before .before .before .pre .1 .0) (c .before .before .before .before .before .before .before .before .before .before .before .args .lhs .0) (c .before .before .before .before .before .before .before .before .before .before .before .args .rhs .0) _ _ (c .before .before .before .before .before .before .before .before .before .before .before .pre .1 .1) (c .before .before .before .before .before .before .before .before .before .before .before .pre .1 .2) (c .before .before .before .before .before .shallow-normalize .ensures) (c .before .before .before .shallow-normalize2 .ensures)))
+    (λ c.
+    let at-shallow-normalize2 = c .before .before .before in
+    let at-shallow-normalize = at-shallow-normalize2 .before .before in
+    let start = at-shallow-normalize .before .before .before .before .before .before in
+    let args = start .args in
+    law.same-end (args .sorts .now) (args .nodes .now) (args .binds .now) (args .trail .now) (args .lengths)
+    (args .count) (start .pre .1 .0) (args .lhs .0) (args .rhs .0) _ _ (start .pre .1 .1) (start .pre .1 .2)
+    (at-shallow-normalize .shallow-normalize .ensures) (at-shallow-normalize2 .shallow-normalize2 .ensures)
+    (c .if1 .taken))
+    (λ c κs.
+    let at-shallow-normalize2 = c .before .before .before in
+    let at-shallow-normalize = at-shallow-normalize2 .before .before in
+    let start = at-shallow-normalize .before .before .before .before .before .before in
+    let args = start .args in (
+      start .pre .1 .0 .ready .nodes,
+      law.left-end-placed (args .sorts .now) (args .nodes .now) (args .binds .now)
+          (args .trail .now) (args .lengths) (args .count) (start .pre .1 .0) (args .lhs .0) (args .rhs .0) _ _
+          (start .pre .1 .1) (start .pre .1 .2) (at-shallow-normalize .shallow-normalize .ensures)
+          (at-shallow-normalize2 .shallow-normalize2 .ensures),
+    ))
     (λ c. search needs)
-    (λ c κs. (c .before .before .before .before .before .before .before .before .before .before .before .before .before .before .before .pre .1 .0 .ready .nodes, law.right-end-placed (c .before .before .before .before .before .before .before .before .before .before .before .before .before .before .before .args .sorts .now) (c .before .before .before .before .before .before .before .before .before .before .before .before .before .before .before .args .nodes .now) (c .before .before .before .before .before .before .before .before .before .before .before .before .before .before .before .args .binds .now) (c .before .before .before .before .before .before .before .before .before .before .before .before .before .before .before .args .trail .now) (c .before .before .before .before .before .before .before .before .before .before .before .before .before .before .before .args .lengths) (c .before .before .before .before .before .before .before .before .before .before .before .before .before .before .before .args .count) (c .before .before .before .before .before .before .before .before .before .before .before .before .before .before .before .pre .1 .0) (c .before .before .before .before .before .before .before .before .before .before .before .before .before .before .before .args .lhs .0) (c .before .before .before .before .before .before .before .before .before .before .before .before .before .before .before .args .rhs .0) _ _ (c .before .before .before .before .before .before .before .before .before .before .before .before .before .before .before .pre .1 .1) (c .before .before .before .before .before .before .before .before .before .before .before .before .before .before .before .pre .1 .2) (c .before .before .before .before .before .before .before .before .before .shallow-normalize .ensures) (c .before .before .before .before .before .before .before .shallow-normalize2 .ensures)))
+    (λ c κs.
+    let at-shallow-normalize2 = c .before .before .before .before .before .before .before in
+    let at-shallow-normalize = at-shallow-normalize2 .before .before in
+    let start = at-shallow-normalize .before .before .before .before .before .before in
+    let args = start .args in (
+      start .pre .1 .0 .ready .nodes,
+      law.right-end-placed (args .sorts .now) (args .nodes .now) (args .binds .now)
+          (args .trail .now) (args .lengths) (args .count) (start .pre .1 .0) (args .lhs .0) (args .rhs .0) _ _
+          (start .pre .1 .1) (start .pre .1 .2) (at-shallow-normalize .shallow-normalize .ensures)
+          (at-shallow-normalize2 .shallow-normalize2 .ensures),
+    ))
     (λ c. search needs)
-    (λ c κs. law.two-variables (c .before .before .before .before .before .before .before .before .before .before .before .before .before .before .before .before .before .before .before .before .before .args .sorts .now) (c .before .before .before .before .before .before .before .before .before .before .before .before .before .before .before .before .before .before .before .before .before .args .nodes .now) (c .before .before .before .before .before .before .before .before .before .before .before .before .before .before .before .before .before .before .before .before .before .args .binds .now) (c .before .before .before .before .before .before .before .before .before .before .before .before .before .before .before .before .before .before .before .before .before .args .trail .now) (c .before .before .before .before .before .before .before .before .before .before .before .before .before .before .before .before .before .before .before .before .before .args .lengths) (c .before .before .before .before .before .before .before .before .before .before .before .before .before .before .before .before .before .before .before .before .before .args .count) (c .before .before .before .before .before .before .before .before .before .before .before .before .before .before .before .before .before .before .before .before .before .pre .1 .0) (c .before .before .before .before .before .before .before .before .before .before .before .before .before .before .before .before .before .before .before .before .before .args .lhs .0) (c .before .before .before .before .before .before .before .before .before .before .before .before .before .before .before .before .before .before .before .before .before .args .rhs .0) _ _ (c .before .before .before .before .before .before .before .before .before .before .before .before .before .before .before .before .before .before .before .before .before .pre .1 .1) (c .before .before .before .before .before .before .before .before .before .before .before .before .before .before .before .before .before .before .before .before .before .pre .1 .2) (c .before .before .before .before .before .before .before .before .before .before .before .before .before .before .before .shallow-normalize .ensures) (c .before .before .before .before .before .before .before .before .before .before .before .before .before .shallow-normalize2 .ensures) (c .before .before .before .before .before .before .before .before .before .before .if1 .left) _ (sym (c .before .before .before .before .before .before .before .left .given .1) ∙ c .before .before .before .before .before .before .before .before .before .variable-at .ensures) _ (sym (c .before .before .before .right .given .1) ∙ c .before .before .before .before .before .variable-at2 .ensures))
+    (λ c κs.
+    let at-right = c .before .before .before in
+    let at-variable-at2 = at-right .before .before in
+    let at-left = at-variable-at2 .before .before in
+    let at-variable-at = at-left .before .before in
+    let at-if1 = at-variable-at .before in
+    let at-shallow-normalize2 = at-if1 .before .before .before in
+    let at-shallow-normalize = at-shallow-normalize2 .before .before in
+    let start = at-shallow-normalize .before .before .before .before .before .before in
+    let args = start .args in
+    law.two-variables (args .sorts .now) (args .nodes .now) (args .binds .now) (args .trail .now) (args .lengths)
+    (args .count) (start .pre .1 .0) (args .lhs .0) (args .rhs .0) _ _ (start .pre .1 .1) (start .pre .1 .2)
+    (at-shallow-normalize .shallow-normalize .ensures) (at-shallow-normalize2 .shallow-normalize2 .ensures)
+    (at-if1 .if1 .left) _ (sym (at-left .left .given .1) ∙ at-variable-at .variable-at .ensures) _
+    (sym (at-right .right .given .1) ∙ at-variable-at2 .variable-at2 .ensures))
     (λ c. search needs)
-    (λ c κs. law.left-variable (c .before .before .before .before .before .before .before .before .before .before .before .before .before .before .before .before .before .before .before .before .args .sorts .now) (c .before .before .before .before .before .before .before .before .before .before .before .before .before .before .before .before .before .before .before .before .args .nodes .now) (c .before .before .before .before .before .before .before .before .before .before .before .before .before .before .before .before .before .before .before .before .args .binds .now) (c .before .before .before .before .before .before .before .before .before .before .before .before .before .before .before .before .before .before .before .before .args .trail .now) (c .before .before .before .before .before .before .before .before .before .before .before .before .before .before .before .before .before .before .before .before .args .lengths) (c .before .before .before .before .before .before .before .before .before .before .before .before .before .before .before .before .before .before .before .before .args .count) (c .before .before .before .before .before .before .before .before .before .before .before .before .before .before .before .before .before .before .before .before .pre .1 .0) (c .before .before .before .before .before .before .before .before .before .before .before .before .before .before .before .before .before .before .before .before .args .lhs .0) (c .before .before .before .before .before .before .before .before .before .before .before .before .before .before .before .before .before .before .before .before .args .rhs .0) _ _ (c .before .before .before .before .before .before .before .before .before .before .before .before .before .before .before .before .before .before .before .before .pre .1 .1) (c .before .before .before .before .before .before .before .before .before .before .before .before .before .before .before .before .before .before .before .before .pre .1 .2) (c .before .before .before .before .before .before .before .before .before .before .before .before .before .before .shallow-normalize .ensures) (c .before .before .before .before .before .before .before .before .before .before .before .before .shallow-normalize2 .ensures) (c .before .before .before .before .before .before .before .before .before .if1 .left) _ (sym (c .before .before .before .before .before .before .left .given .1) ∙ c .before .before .before .before .before .before .before .before .variable-at .ensures) (sym (c .before .before .enum-told .given .1) ∙ c .before .before .before .before .variable-at2 .ensures))
+    (λ c κs.
+    let at-enum-told = c .before .before in
+    let at-variable-at2 = at-enum-told .before .before in
+    let at-left = at-variable-at2 .before .before in
+    let at-variable-at = at-left .before .before in
+    let at-if1 = at-variable-at .before in
+    let at-shallow-normalize2 = at-if1 .before .before .before in
+    let at-shallow-normalize = at-shallow-normalize2 .before .before in
+    let start = at-shallow-normalize .before .before .before .before .before .before in
+    let args = start .args in
+    law.left-variable (args .sorts .now) (args .nodes .now) (args .binds .now) (args .trail .now) (args .lengths)
+    (args .count) (start .pre .1 .0) (args .lhs .0) (args .rhs .0) _ _ (start .pre .1 .1) (start .pre .1 .2)
+    (at-shallow-normalize .shallow-normalize .ensures) (at-shallow-normalize2 .shallow-normalize2 .ensures)
+    (at-if1 .if1 .left) _ (sym (at-left .left .given .1) ∙ at-variable-at .variable-at .ensures)
+    (sym (at-enum-told .enum-told .given .1) ∙ at-variable-at2 .variable-at2 .ensures))
     (λ c. search needs)
-    (λ c κs. (c .before .before .before .before .before .before .before .before .before .before .before .before .before .before .pre .1 .0 .ready .nodes, law.right-end-placed (c .before .before .before .before .before .before .before .before .before .before .before .before .before .before .args .sorts .now) (c .before .before .before .before .before .before .before .before .before .before .before .before .before .before .args .nodes .now) (c .before .before .before .before .before .before .before .before .before .before .before .before .before .before .args .binds .now) (c .before .before .before .before .before .before .before .before .before .before .before .before .before .before .args .trail .now) (c .before .before .before .before .before .before .before .before .before .before .before .before .before .before .args .lengths) (c .before .before .before .before .before .before .before .before .before .before .before .before .before .before .args .count) (c .before .before .before .before .before .before .before .before .before .before .before .before .before .before .pre .1 .0) (c .before .before .before .before .before .before .before .before .before .before .before .before .before .before .args .lhs .0) (c .before .before .before .before .before .before .before .before .before .before .before .before .before .before .args .rhs .0) _ _ (c .before .before .before .before .before .before .before .before .before .before .before .before .before .before .pre .1 .1) (c .before .before .before .before .before .before .before .before .before .before .before .before .before .before .pre .1 .2) (c .before .before .before .before .before .before .before .before .shallow-normalize .ensures) (c .before .before .before .before .before .before .shallow-normalize2 .ensures)))
+    (λ c κs.
+    let at-shallow-normalize2 = c .before .before .before .before .before .before in
+    let at-shallow-normalize = at-shallow-normalize2 .before .before in
+    let start = at-shallow-normalize .before .before .before .before .before .before in
+    let args = start .args in (
+      start .pre .1 .0 .ready .nodes,
+      law.right-end-placed (args .sorts .now) (args .nodes .now) (args .binds .now)
+          (args .trail .now) (args .lengths) (args .count) (start .pre .1 .0) (args .lhs .0) (args .rhs .0) _ _
+          (start .pre .1 .1) (start .pre .1 .2) (at-shallow-normalize .shallow-normalize .ensures)
+          (at-shallow-normalize2 .shallow-normalize2 .ensures),
+    ))
     (λ c. search needs)
-    (λ c κs. law.right-variable (c .before .before .before .before .before .before .before .before .before .before .before .before .before .before .before .before .before .before .before .before .args .sorts .now) (c .before .before .before .before .before .before .before .before .before .before .before .before .before .before .before .before .before .before .before .before .args .nodes .now) (c .before .before .before .before .before .before .before .before .before .before .before .before .before .before .before .before .before .before .before .before .args .binds .now) (c .before .before .before .before .before .before .before .before .before .before .before .before .before .before .before .before .before .before .before .before .args .trail .now) (c .before .before .before .before .before .before .before .before .before .before .before .before .before .before .before .before .before .before .before .before .args .lengths) (c .before .before .before .before .before .before .before .before .before .before .before .before .before .before .before .before .before .before .before .before .args .count) (c .before .before .before .before .before .before .before .before .before .before .before .before .before .before .before .before .before .before .before .before .pre .1 .0) (c .before .before .before .before .before .before .before .before .before .before .before .before .before .before .before .before .before .before .before .before .args .lhs .0) (c .before .before .before .before .before .before .before .before .before .before .before .before .before .before .before .before .before .before .before .before .args .rhs .0) _ _ (c .before .before .before .before .before .before .before .before .before .before .before .before .before .before .before .before .before .before .before .before .pre .1 .1) (c .before .before .before .before .before .before .before .before .before .before .before .before .before .before .before .before .before .before .before .before .pre .1 .2) (c .before .before .before .before .before .before .before .before .before .before .before .before .before .before .shallow-normalize .ensures) (c .before .before .before .before .before .before .before .before .before .before .before .before .shallow-normalize2 .ensures) (c .before .before .before .before .before .before .before .before .before .if1 .left) (sym (c .before .before .before .before .before .before .enum-told2 .given .1) ∙ c .before .before .before .before .before .before .before .before .variable-at .ensures) _ (sym (c .before .before .before .right2 .given .1) ∙ c .before .before .before .before .before .variable-at3 .ensures))
+    (λ c κs.
+    let at-right2 = c .before .before .before in
+    let at-variable-at3 = at-right2 .before .before in
+    let at-enum-told2 = at-variable-at3 .before in
+    let at-variable-at = at-enum-told2 .before .before in
+    let at-if1 = at-variable-at .before in
+    let at-shallow-normalize2 = at-if1 .before .before .before in
+    let at-shallow-normalize = at-shallow-normalize2 .before .before in
+    let start = at-shallow-normalize .before .before .before .before .before .before in
+    let args = start .args in
+    law.right-variable (args .sorts .now) (args .nodes .now) (args .binds .now) (args .trail .now) (args .lengths)
+    (args .count) (start .pre .1 .0) (args .lhs .0) (args .rhs .0) _ _ (start .pre .1 .1) (start .pre .1 .2)
+    (at-shallow-normalize .shallow-normalize .ensures) (at-shallow-normalize2 .shallow-normalize2 .ensures)
+    (at-if1 .if1 .left) (sym (at-enum-told2 .enum-told2 .given .1) ∙ at-variable-at .variable-at .ensures) _
+    (sym (at-right2 .right2 .given .1) ∙ at-variable-at3 .variable-at3 .ensures))
     (λ c. search needs)
-    (λ c κs. (omega (arith, c .before .before .before .before .before .before .before .before .before .before .before .before .before .before .before .before .before .before .before .pre .0, law.left-end-rank (c .before .before .before .before .before .before .before .before .before .before .before .before .before .before .before .before .before .before .before .args .sorts .now) (c .before .before .before .before .before .before .before .before .before .before .before .before .before .before .before .before .before .before .before .args .nodes .now) (c .before .before .before .before .before .before .before .before .before .before .before .before .before .before .before .before .before .before .before .args .binds .now) (c .before .before .before .before .before .before .before .before .before .before .before .before .before .before .before .before .before .before .before .args .trail .now) (c .before .before .before .before .before .before .before .before .before .before .before .before .before .before .before .before .before .before .before .args .lengths) (c .before .before .before .before .before .before .before .before .before .before .before .before .before .before .before .before .before .before .before .args .count) (c .before .before .before .before .before .before .before .before .before .before .before .before .before .before .before .before .before .before .before .pre .1 .0) (c .before .before .before .before .before .before .before .before .before .before .before .before .before .before .before .before .before .before .before .args .lhs .0) (c .before .before .before .before .before .before .before .before .before .before .before .before .before .before .before .before .before .before .before .args .rhs .0) _ _ (c .before .before .before .before .before .before .before .before .before .before .before .before .before .before .before .before .before .before .before .pre .1 .1) (c .before .before .before .before .before .before .before .before .before .before .before .before .before .before .before .before .before .before .before .pre .1 .2) (c .before .before .before .before .before .before .before .before .before .before .before .before .before .shallow-normalize .ensures) (c .before .before .before .before .before .before .before .before .before .before .before .shallow-normalize2 .ensures)), (c .before .before .before .before .before .before .before .before .before .before .before .before .before .before .before .before .before .before .before .pre .1 .0, law.left-solid (c .before .before .before .before .before .before .before .before .before .before .before .before .before .before .before .before .before .before .before .args .sorts .now) (c .before .before .before .before .before .before .before .before .before .before .before .before .before .before .before .before .before .before .before .args .nodes .now) (c .before .before .before .before .before .before .before .before .before .before .before .before .before .before .before .before .before .before .before .args .binds .now) (c .before .before .before .before .before .before .before .before .before .before .before .before .before .before .before .before .before .before .before .args .trail .now) (c .before .before .before .before .before .before .before .before .before .before .before .before .before .before .before .before .before .before .before .args .lengths) (c .before .before .before .before .before .before .before .before .before .before .before .before .before .before .before .before .before .before .before .args .count) (c .before .before .before .before .before .before .before .before .before .before .before .before .before .before .before .before .before .before .before .pre .1 .0) (c .before .before .before .before .before .before .before .before .before .before .before .before .before .before .before .before .before .before .before .args .lhs .0) (c .before .before .before .before .before .before .before .before .before .before .before .before .before .before .before .before .before .before .before .args .rhs .0) _ _ (c .before .before .before .before .before .before .before .before .before .before .before .before .before .before .before .before .before .before .before .pre .1 .1) (c .before .before .before .before .before .before .before .before .before .before .before .before .before .before .before .before .before .before .before .pre .1 .2) (c .before .before .before .before .before .before .before .before .before .before .before .before .before .shallow-normalize .ensures) (c .before .before .before .before .before .before .before .before .before .before .before .shallow-normalize2 .ensures) (c .before .before .before .before .before .before .before .before .if1 .left) (sym (c .before .before .before .before .before .enum-told2 .given .1) ∙ c .before .before .before .before .before .before .before .variable-at .ensures) (sym (c .before .before .enum-told3 .given .1) ∙ c .before .before .before .before .variable-at3 .ensures), law.right-solid (c .before .before .before .before .before .before .before .before .before .before .before .before .before .before .before .before .before .before .before .args .sorts .now) (c .before .before .before .before .before .before .before .before .before .before .before .before .before .before .before .before .before .before .before .args .nodes .now) (c .before .before .before .before .before .before .before .before .before .before .before .before .before .before .before .before .before .before .before .args .binds .now) (c .before .before .before .before .before .before .before .before .before .before .before .before .before .before .before .before .before .before .before .args .trail .now) (c .before .before .before .before .before .before .before .before .before .before .before .before .before .before .before .before .before .before .before .args .lengths) (c .before .before .before .before .before .before .before .before .before .before .before .before .before .before .before .before .before .before .before .args .count) (c .before .before .before .before .before .before .before .before .before .before .before .before .before .before .before .before .before .before .before .pre .1 .0) (c .before .before .before .before .before .before .before .before .before .before .before .before .before .before .before .before .before .before .before .args .lhs .0) (c .before .before .before .before .before .before .before .before .before .before .before .before .before .before .before .before .before .before .before .args .rhs .0) _ _ (c .before .before .before .before .before .before .before .before .before .before .before .before .before .before .before .before .before .before .before .pre .1 .1) (c .before .before .before .before .before .before .before .before .before .before .before .before .before .before .before .before .before .before .before .pre .1 .2) (c .before .before .before .before .before .before .before .before .before .before .before .before .before .shallow-normalize .ensures) (c .before .before .before .before .before .before .before .before .before .before .before .shallow-normalize2 .ensures) (c .before .before .before .before .before .before .before .before .if1 .left) (sym (c .before .before .before .before .before .enum-told2 .given .1) ∙ c .before .before .before .before .before .before .before .variable-at .ensures) (sym (c .before .before .enum-told3 .given .1) ∙ c .before .before .before .before .variable-at3 .ensures))))
+    (λ c κs.
+    let at-enum-told3 = c .before .before in
+    let at-variable-at3 = at-enum-told3 .before .before in
+    let at-enum-told2 = at-variable-at3 .before in
+    let at-variable-at = at-enum-told2 .before .before in
+    let at-if1 = at-variable-at .before in
+    let at-shallow-normalize2 = at-if1 .before .before .before in
+    let at-shallow-normalize = at-shallow-normalize2 .before .before in
+    let start = at-shallow-normalize .before .before .before .before .before .before in
+    let args = start .args in (
+      omega (
+        arith,
+        start .pre .0,
+        law.left-end-rank (args .sorts .now) (args .nodes .now) (args .binds .now)
+            (args .trail .now) (args .lengths) (args .count) (start .pre .1 .0) (args .lhs .0) (args .rhs .0) _ _
+            (start .pre .1 .1) (start .pre .1 .2) (at-shallow-normalize .shallow-normalize .ensures)
+            (at-shallow-normalize2 .shallow-normalize2 .ensures),
+      ),
+      (
+        start .pre .1 .0,
+        law.left-solid (args .sorts .now)
+            (args .nodes .now) (args .binds .now) (args .trail .now) (args .lengths) (args .count) (start .pre .1 .0)
+            (args .lhs .0) (args .rhs .0) _ _ (start .pre .1 .1) (start .pre .1 .2)
+            (at-shallow-normalize .shallow-normalize .ensures) (at-shallow-normalize2 .shallow-normalize2 .ensures)
+            (at-if1 .if1 .left) (sym (at-enum-told2 .enum-told2 .given .1) ∙ at-variable-at .variable-at .ensures)
+            (sym (at-enum-told3 .enum-told3 .given .1) ∙ at-variable-at3 .variable-at3 .ensures),
+        law.right-solid
+            (args .sorts .now) (args .nodes .now) (args .binds .now) (args .trail .now) (args .lengths) (args .count)
+            (start .pre .1 .0) (args .lhs .0) (args .rhs .0) _ _ (start .pre .1 .1) (start .pre .1 .2)
+            (at-shallow-normalize .shallow-normalize .ensures) (at-shallow-normalize2 .shallow-normalize2 .ensures)
+            (at-if1 .if1 .left) (sym (at-enum-told2 .enum-told2 .given .1) ∙ at-variable-at .variable-at .ensures)
+            (sym (at-enum-told3 .enum-told3 .given .1) ∙ at-variable-at3 .variable-at3 .ensures),
+      ),
+    ))
     (λ c. search needs)
     (λ c. search needs)
-    (λ c. law.variables-tried (c .before .before .before .before .before .before .before .before .before .before .before .before .before .before .before .before .before .before .before .before .before .before .before .before .before .before .args .sorts .now) (c .before .before .before .before .before .before .before .before .before .before .before .before .before .before .before .before .before .before .before .before .before .before .before .before .before .before .args .nodes .now) (c .before .before .before .before .before .before .before .before .before .before .before .before .before .before .before .before .before .before .before .before .before .before .before .before .before .before .args .binds .now) (c .before .before .before .before .before .before .before .before .before .before .before .before .before .before .before .before .before .before .before .before .before .before .before .before .before .before .args .trail .now) (c .before .before .before .before .before .before .before .before .before .before .before .before .before .before .before .before .before .before .before .before .before .before .before .before .before .before .args .lengths) (c .before .before .before .before .before .before .before .before .before .before .before .before .before .before .before .before .before .before .before .before .before .before .before .before .before .before .args .count) (c .before .before .before .before .before .before .before .before .before .before .before .before .before .before .before .before .before .before .before .before .before .before .before .before .before .before .pre .1 .0) (c .before .before .before .before .before .before .before .before .before .before .before .before .before .before .before .before .before .before .before .before .before .before .before .before .before .before .args .lhs .0) (c .before .before .before .before .before .before .before .before .before .before .before .before .before .before .before .before .before .before .before .before .before .before .before .before .before .before .args .rhs .0) _ _ (c .before .before .before .before .before .before .before .before .before .before .before .before .before .before .before .before .before .before .before .before .before .before .before .before .before .before .pre .1 .1) (c .before .before .before .before .before .before .before .before .before .before .before .before .before .before .before .before .before .before .before .before .before .before .before .before .before .before .pre .1 .2) (c .before .before .before .before .before .before .before .before .before .before .before .before .before .before .before .before .before .before .before .before .shallow-normalize .ensures) (c .before .before .before .before .before .before .before .before .before .before .before .before .before .before .before .before .before .before .shallow-normalize2 .ensures) (c .before .before .before .before .before .before .before .before .before .before .before .before .before .before .before .if1 .left) _ (sym (c .before .before .before .before .before .before .before .before .before .before .before .before .left .given .1) ∙ c .before .before .before .before .before .before .before .before .before .before .before .before .before .before .variable-at .ensures) _ (sym (c .before .before .before .before .before .before .before .before .right .given .1) ∙ c .before .before .before .before .before .before .before .before .before .before .variable-at2 .ensures) _ _ _ (c .before .before .before .before .bind-variables .ensures))
+    (λ c.
+    let at-bind-variables = c .before .before .before .before in
+    let at-right = at-bind-variables .before .before .before .before in
+    let at-variable-at2 = at-right .before .before in
+    let at-left = at-variable-at2 .before .before in
+    let at-variable-at = at-left .before .before in
+    let at-if1 = at-variable-at .before in
+    let at-shallow-normalize2 = at-if1 .before .before .before in
+    let at-shallow-normalize = at-shallow-normalize2 .before .before in
+    let start = at-shallow-normalize .before .before .before .before .before .before in
+    let args = start .args in
+    law.variables-tried (args .sorts .now) (args .nodes .now) (args .binds .now) (args .trail .now) (args .lengths)
+    (args .count) (start .pre .1 .0) (args .lhs .0) (args .rhs .0) _ _ (start .pre .1 .1) (start .pre .1 .2)
+    (at-shallow-normalize .shallow-normalize .ensures) (at-shallow-normalize2 .shallow-normalize2 .ensures)
+    (at-if1 .if1 .left) _ (sym (at-left .left .given .1) ∙ at-variable-at .variable-at .ensures) _
+    (sym (at-right .right .given .1) ∙ at-variable-at2 .variable-at2 .ensures) _ _ _
+    (at-bind-variables .bind-variables .ensures))
     (λ c. search needs)
     (λ c. search needs)
-    (λ c. law.left-tried (c .before .before .before .before .before .before .before .before .before .before .before .before .before .before .before .before .before .before .before .before .before .before .before .before .before .args .sorts .now) (c .before .before .before .before .before .before .before .before .before .before .before .before .before .before .before .before .before .before .before .before .before .before .before .before .before .args .nodes .now) (c .before .before .before .before .before .before .before .before .before .before .before .before .before .before .before .before .before .before .before .before .before .before .before .before .before .args .binds .now) (c .before .before .before .before .before .before .before .before .before .before .before .before .before .before .before .before .before .before .before .before .before .before .before .before .before .args .trail .now) (c .before .before .before .before .before .before .before .before .before .before .before .before .before .before .before .before .before .before .before .before .before .before .before .before .before .args .lengths) (c .before .before .before .before .before .before .before .before .before .before .before .before .before .before .before .before .before .before .before .before .before .before .before .before .before .args .count) (c .before .before .before .before .before .before .before .before .before .before .before .before .before .before .before .before .before .before .before .before .before .before .before .before .before .pre .1 .0) (c .before .before .before .before .before .before .before .before .before .before .before .before .before .before .before .before .before .before .before .before .before .before .before .before .before .args .lhs .0) (c .before .before .before .before .before .before .before .before .before .before .before .before .before .before .before .before .before .before .before .before .before .before .before .before .before .args .rhs .0) _ _ (c .before .before .before .before .before .before .before .before .before .before .before .before .before .before .before .before .before .before .before .before .before .before .before .before .before .pre .1 .1) (c .before .before .before .before .before .before .before .before .before .before .before .before .before .before .before .before .before .before .before .before .before .before .before .before .before .pre .1 .2) (c .before .before .before .before .before .before .before .before .before .before .before .before .before .before .before .before .before .before .before .shallow-normalize .ensures) (c .before .before .before .before .before .before .before .before .before .before .before .before .before .before .before .before .before .shallow-normalize2 .ensures) (c .before .before .before .before .before .before .before .before .before .before .before .before .before .before .if1 .left) _ (sym (c .before .before .before .before .before .before .before .before .before .before .before .left .given .1) ∙ c .before .before .before .before .before .before .before .before .before .before .before .before .before .variable-at .ensures) (sym (c .before .before .before .before .before .before .before .enum-told .given .1) ∙ c .before .before .before .before .before .before .before .before .before .variable-at2 .ensures) _ _ _ (c .before .before .before .before .bind .ensures))
+    (λ c.
+    let at-bind = c .before .before .before .before in
+    let at-enum-told = at-bind .before .before .before in
+    let at-variable-at2 = at-enum-told .before .before in
+    let at-left = at-variable-at2 .before .before in
+    let at-variable-at = at-left .before .before in
+    let at-if1 = at-variable-at .before in
+    let at-shallow-normalize2 = at-if1 .before .before .before in
+    let at-shallow-normalize = at-shallow-normalize2 .before .before in
+    let start = at-shallow-normalize .before .before .before .before .before .before in
+    let args = start .args in
+    law.left-tried (args .sorts .now) (args .nodes .now) (args .binds .now) (args .trail .now) (args .lengths)
+    (args .count) (start .pre .1 .0) (args .lhs .0) (args .rhs .0) _ _ (start .pre .1 .1) (start .pre .1 .2)
+    (at-shallow-normalize .shallow-normalize .ensures) (at-shallow-normalize2 .shallow-normalize2 .ensures)
+    (at-if1 .if1 .left) _ (sym (at-left .left .given .1) ∙ at-variable-at .variable-at .ensures)
+    (sym (at-enum-told .enum-told .given .1) ∙ at-variable-at2 .variable-at2 .ensures) _ _ _
+    (at-bind .bind .ensures))
     (λ c. search needs)
     (λ c. search needs)
-    (λ c. law.right-tried (c .before .before .before .before .before .before .before .before .before .before .before .before .before .before .before .before .before .before .before .before .before .before .before .before .before .args .sorts .now) (c .before .before .before .before .before .before .before .before .before .before .before .before .before .before .before .before .before .before .before .before .before .before .before .before .before .args .nodes .now) (c .before .before .before .before .before .before .before .before .before .before .before .before .before .before .before .before .before .before .before .before .before .before .before .before .before .args .binds .now) (c .before .before .before .before .before .before .before .before .before .before .before .before .before .before .before .before .before .before .before .before .before .before .before .before .before .args .trail .now) (c .before .before .before .before .before .before .before .before .before .before .before .before .before .before .before .before .before .before .before .before .before .before .before .before .before .args .lengths) (c .before .before .before .before .before .before .before .before .before .before .before .before .before .before .before .before .before .before .before .before .before .before .before .before .before .args .count) (c .before .before .before .before .before .before .before .before .before .before .before .before .before .before .before .before .before .before .before .before .before .before .before .before .before .pre .1 .0) (c .before .before .before .before .before .before .before .before .before .before .before .before .before .before .before .before .before .before .before .before .before .before .before .before .before .args .lhs .0) (c .before .before .before .before .before .before .before .before .before .before .before .before .before .before .before .before .before .before .before .before .before .before .before .before .before .args .rhs .0) _ _ (c .before .before .before .before .before .before .before .before .before .before .before .before .before .before .before .before .before .before .before .before .before .before .before .before .before .pre .1 .1) (c .before .before .before .before .before .before .before .before .before .before .before .before .before .before .before .before .before .before .before .before .before .before .before .before .before .pre .1 .2) (c .before .before .before .before .before .before .before .before .before .before .before .before .before .before .before .before .before .before .before .shallow-normalize .ensures) (c .before .before .before .before .before .before .before .before .before .before .before .before .before .before .before .before .before .shallow-normalize2 .ensures) (c .before .before .before .before .before .before .before .before .before .before .before .before .before .before .if1 .left) (sym (c .before .before .before .before .before .before .before .before .before .before .before .enum-told2 .given .1) ∙ c .before .before .before .before .before .before .before .before .before .before .before .before .before .variable-at .ensures) _ (sym (c .before .before .before .before .before .before .before .before .right2 .given .1) ∙ c .before .before .before .before .before .before .before .before .before .before .variable-at3 .ensures) _ _ _ (c .before .before .before .before .bind2 .ensures))
+    (λ c.
+    let at-bind2 = c .before .before .before .before in
+    let at-right2 = at-bind2 .before .before .before .before in
+    let at-variable-at3 = at-right2 .before .before in
+    let at-enum-told2 = at-variable-at3 .before in
+    let at-variable-at = at-enum-told2 .before .before in
+    let at-if1 = at-variable-at .before in
+    let at-shallow-normalize2 = at-if1 .before .before .before in
+    let at-shallow-normalize = at-shallow-normalize2 .before .before in
+    let start = at-shallow-normalize .before .before .before .before .before .before in
+    let args = start .args in
+    law.right-tried (args .sorts .now) (args .nodes .now) (args .binds .now) (args .trail .now) (args .lengths)
+    (args .count) (start .pre .1 .0) (args .lhs .0) (args .rhs .0) _ _ (start .pre .1 .1) (start .pre .1 .2)
+    (at-shallow-normalize .shallow-normalize .ensures) (at-shallow-normalize2 .shallow-normalize2 .ensures)
+    (at-if1 .if1 .left) (sym (at-enum-told2 .enum-told2 .given .1) ∙ at-variable-at .variable-at .ensures) _
+    (sym (at-right2 .right2 .given .1) ∙ at-variable-at3 .variable-at3 .ensures) _ _ _ (at-bind2 .bind2 .ensures))
     (λ c. search needs)
     (λ c. search needs)
-    (λ c. law.parts-tried (c .before .before .before .before .before .before .before .before .before .before .before .before .before .before .before .before .before .before .before .before .before .before .before .before .args .sorts .now) (c .before .before .before .before .before .before .before .before .before .before .before .before .before .before .before .before .before .before .before .before .before .before .before .before .args .nodes .now) (c .before .before .before .before .before .before .before .before .before .before .before .before .before .before .before .before .before .before .before .before .before .before .before .before .args .binds .now) (c .before .before .before .before .before .before .before .before .before .before .before .before .before .before .before .before .before .before .before .before .before .before .before .before .args .trail .now) (c .before .before .before .before .before .before .before .before .before .before .before .before .before .before .before .before .before .before .before .before .before .before .before .before .args .lengths) (c .before .before .before .before .before .before .before .before .before .before .before .before .before .before .before .before .before .before .before .before .before .before .before .before .args .count) (c .before .before .before .before .before .before .before .before .before .before .before .before .before .before .before .before .before .before .before .before .before .before .before .before .pre .1 .0) (c .before .before .before .before .before .before .before .before .before .before .before .before .before .before .before .before .before .before .before .before .before .before .before .before .args .lhs .0) (c .before .before .before .before .before .before .before .before .before .before .before .before .before .before .before .before .before .before .before .before .before .before .before .before .args .rhs .0) _ _ (c .before .before .before .before .before .before .before .before .before .before .before .before .before .before .before .before .before .before .before .before .before .before .before .before .pre .1 .1) (c .before .before .before .before .before .before .before .before .before .before .before .before .before .before .before .before .before .before .before .before .before .before .before .before .pre .1 .2) (c .before .before .before .before .before .before .before .before .before .before .before .before .before .before .before .before .before .before .shallow-normalize .ensures) (c .before .before .before .before .before .before .before .before .before .before .before .before .before .before .before .before .shallow-normalize2 .ensures) (c .before .before .before .before .before .before .before .before .before .before .before .before .before .if1 .left) (sym (c .before .before .before .before .before .before .before .before .before .before .enum-told2 .given .1) ∙ c .before .before .before .before .before .before .before .before .before .before .before .before .variable-at .ensures) (sym (c .before .before .before .before .before .before .before .enum-told3 .given .1) ∙ c .before .before .before .before .before .before .before .before .before .variable-at3 .ensures) _ _ _ (c .before .before .before .before .unify-parts .ensures))
+    (λ c.
+    let at-unify-parts = c .before .before .before .before in
+    let at-enum-told3 = at-unify-parts .before .before .before in
+    let at-variable-at3 = at-enum-told3 .before .before in
+    let at-enum-told2 = at-variable-at3 .before in
+    let at-variable-at = at-enum-told2 .before .before in
+    let at-if1 = at-variable-at .before in
+    let at-shallow-normalize2 = at-if1 .before .before .before in
+    let at-shallow-normalize = at-shallow-normalize2 .before .before in
+    let start = at-shallow-normalize .before .before .before .before .before .before in
+    let args = start .args in
+    law.parts-tried (args .sorts .now) (args .nodes .now) (args .binds .now) (args .trail .now) (args .lengths)
+    (args .count) (start .pre .1 .0) (args .lhs .0) (args .rhs .0) _ _ (start .pre .1 .1) (start .pre .1 .2)
+    (at-shallow-normalize .shallow-normalize .ensures) (at-shallow-normalize2 .shallow-normalize2 .ensures)
+    (at-if1 .if1 .left) (sym (at-enum-told2 .enum-told2 .given .1) ∙ at-variable-at .variable-at .ensures)
+    (sym (at-enum-told3 .enum-told3 .given .1) ∙ at-variable-at3 .variable-at3 .ensures) _ _ _
+    (at-unify-parts .unify-parts .ensures))

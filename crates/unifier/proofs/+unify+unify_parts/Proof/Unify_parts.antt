@@ -31,33 +31,132 @@ use Rattle.unifier.proofs.+unify+unify_parts.Proof.Common.{unify-at, un
 
 abbrev Inv-loop : unify-parts-lts.InvT-loop
 Inv-loop sorts nodes binds₀ trail₀ lengths count l r n done₀ i₀ binds trail done i =
-    Unifying sorts nodes lengths (l .0) (r .0) n (unifyApart (graphOf sorts nodes lengths) (isSort (l .0) && isSort (r .0)) deep (unifyOf (graphOf sorts nodes lengths)) (bindsOf binds₀ (lengths .variables)) (l .0) (r .0)) binds₀ trail₀ done₀ binds trail done i
+    Unifying sorts nodes lengths (l .0) (r .0) n (unifyApart (graphOf sorts nodes lengths) (isSort (l .0) && isSort
+    (r .0)) deep (unifyOf (graphOf sorts nodes lengths)) (bindsOf binds₀ (lengths .variables)) (l .0) (r .0))
+    binds₀ trail₀ done₀ binds trail done i
 
 abbrev μ-loop : unify-parts-lts.MeasureT-loop
 μ-loop sorts nodes binds₀ trail₀ lengths count l r n done₀ i₀ binds trail done i = n - i
 
-pub part : (M : Type 1) (t : ℕ) → unify-parts-lts.Closed (both-sorts-reads.Asked, both-sorts-reads.Learnt, same-head-reads.Asked, same-head-reads.Learnt, part-count-reads.Asked, part-count-reads.Learnt, part-reads.Asked, part-reads.Learnt, unify-below t, unify.Post) (unify-parts-at t) unify-parts.Post M
+pub part : (M : Type 1) (t : ℕ) → unify-parts-lts.Closed (
+  both-sorts-reads.Asked,
+  both-sorts-reads.Learnt,
+  same-head-reads.Asked,
+  same-head-reads.Learnt,
+  part-count-reads.Asked,
+  part-count-reads.Learnt,
+  part-reads.Asked,
+  part-reads.Learnt,
+  unify-below t,
+  unify.Post,
+) (unify-parts-at t) unify-parts.Post M
 part M t =
-    unify-parts-lts.spec (both-sorts-reads.Asked, both-sorts-reads.Learnt, same-head-reads.Asked, same-head-reads.Learnt, part-count-reads.Asked, part-count-reads.Learnt, part-reads.Asked, part-reads.Learnt, unify-below t, unify.Post) (unify-parts-at t) unify-parts.Post
+    unify-parts-lts.spec (
+      both-sorts-reads.Asked,
+      both-sorts-reads.Learnt,
+      same-head-reads.Asked,
+      same-head-reads.Learnt,
+      part-count-reads.Asked,
+      part-count-reads.Learnt,
+      part-reads.Asked,
+      part-reads.Learnt,
+      unify-below t,
+      unify.Post,
+    ) (unify-parts-at t) unify-parts.Post
     Inv-loop
     μ-loop
     (λ c κs. search needs)
-    (λ c. law.two-sorts (c .before .before .before .before .before .before .args .sorts .now) (c .before .before .before .before .before .before .args .nodes .now) (c .before .before .before .before .before .before .args .binds .now) (c .before .before .before .before .before .before .args .trail .now) (c .before .before .before .before .before .before .args .lengths) (c .before .before .before .before .before .before .args .count) (c .before .before .before .before .before .before .pre .1 .0) (c .before .before .before .before .before .before .args .l .0) (c .before .before .before .before .before .before .args .r .0) (c .before .before .before .before .before .before .pre .1 .1) (c .before .before .before .before .before .before .pre .1 .2) _ (c .before .both-sorts .ensures) (c .if1 .taken))
-    (λ c κs. (c .before .before .before .before .before .before .pre .1 .0 .ready .nodes, c .before .before .before .before .before .before .pre .1 .1 .placed, c .before .before .before .before .before .before .pre .1 .2 .placed))
-    (λ c. law.other-heads (c .before .before .before .before .before .before .before .before .args .sorts .now) (c .before .before .before .before .before .before .before .before .args .nodes .now) (c .before .before .before .before .before .before .before .before .args .binds .now) (c .before .before .before .before .before .before .before .before .args .trail .now) (c .before .before .before .before .before .before .before .before .args .lengths) (c .before .before .before .before .before .before .before .before .args .count) (c .before .before .before .before .before .before .before .before .pre .1 .0) (c .before .before .before .before .before .before .before .before .args .l .0) (c .before .before .before .before .before .before .before .before .args .r .0) (c .before .before .before .before .before .before .before .before .pre .1 .1) (c .before .before .before .before .before .before .before .before .pre .1 .2) _ (c .before .before .before .both-sorts .ensures) (c .before .before .if1 .left) _ (c .before .same-head .ensures) (not-true (c .before .same-head .result) (c .if2 .taken)))
-    (λ c κs. (c .before .before .before .before .before .before .before .before .pre .1 .0 .ready .nodes, c .before .before .before .before .before .before .before .before .pre .1 .1 .placed))
-    (λ c. law.parts-begin (c .before .before .before .before .before .before .before .before .before .args .sorts .now) (c .before .before .before .before .before .before .before .before .before .args .nodes .now) (c .before .before .before .before .before .before .before .before .before .args .binds .now) (c .before .before .before .before .before .before .before .before .before .args .trail .now) (c .before .before .before .before .before .before .before .before .before .args .lengths) (c .before .before .before .before .before .before .before .before .before .args .count) (c .before .before .before .before .before .before .before .before .before .pre .1 .0) (c .before .before .before .before .before .before .before .before .before .args .l .0) (c .before .before .before .before .before .before .before .before .before .args .r .0) (c .before .before .before .before .before .before .before .before .before .pre .1 .1) (c .before .before .before .before .before .before .before .before .before .pre .1 .2) _ (c .before .before .before .before .both-sorts .ensures) (c .before .before .before .if1 .left) _ (c .before .before .same-head .ensures) (not-false (c .before .before .same-head .result) (c .before .if2 .left)) _ (c .part-count .ensures))
+    (λ c.
+    let start = c .before .before .before .before .before .before in
+    let args = start .args in
+    law.two-sorts (args .sorts .now) (args .nodes .now) (args .binds .now) (args .trail .now) (args .lengths)
+    (args .count) (start .pre .1 .0) (args .l .0) (args .r .0) (start .pre .1 .1) (start .pre .1 .2) _
+    (c .before .both-sorts .ensures) (c .if1 .taken))
+    (λ c κs.
+    let start = c .before .before .before .before .before .before in
+    (start .pre .1 .0 .ready .nodes, start .pre .1 .1 .placed, start .pre .1 .2 .placed))
+    (λ c.
+    let at-if1 = c .before .before in
+    let at-both-sorts = at-if1 .before in
+    let start = at-both-sorts .before .before .before .before .before in
+    let args = start .args in
+    law.other-heads (args .sorts .now) (args .nodes .now) (args .binds .now) (args .trail .now) (args .lengths)
+    (args .count) (start .pre .1 .0) (args .l .0) (args .r .0) (start .pre .1 .1) (start .pre .1 .2) _
+    (at-both-sorts .both-sorts .ensures) (at-if1 .if1 .left) _ (c .before .same-head .ensures)
+    (not-true (c .before .same-head .result) (c .if2 .taken)))
+    (λ c κs.
+    let start = c .before .before .before .before .before .before .before .before in
+    (start .pre .1 .0 .ready .nodes, start .pre .1 .1 .placed))
+    (λ c.
+    let at-same-head = c .before .before in
+    let at-if1 = at-same-head .before in
+    let at-both-sorts = at-if1 .before in
+    let start = at-both-sorts .before .before .before .before .before in
+    let args = start .args in
+    law.parts-begin (args .sorts .now) (args .nodes .now) (args .binds .now) (args .trail .now) (args .lengths)
+    (args .count) (start .pre .1 .0) (args .l .0) (args .r .0) (start .pre .1 .1) (start .pre .1 .2) _
+    (at-both-sorts .both-sorts .ensures) (at-if1 .if1 .left) _ (at-same-head .same-head .ensures)
+    (not-false (at-same-head .same-head .result) (c .before .if2 .left)) _ (c .part-count .ensures))
     (λ c κs. law.left-part _ _ _ _ _ _ (c .before .loop .inv .trying) _ _ _ _ _ _ _ _ (c .before .loop .inv) (c .loop-test .taken))
     (λ c κs. law.right-part _ _ _ _ _ _ (c .before .before .loop .inv .trying) _ _ _ _ _ _ _ _ (c .before .before .loop .inv) (c .before .loop-test .taken))
-    (λ c κs. (omega (arith, c .before .before .before .before .before .before .before .before .before .before .before .before .before .before .before .pre .0, law.part-lower _ _ _ _ _ _ (c .before .before .before .before .before .loop .inv .trying) _ _ _ _ _ _ _ _ (c .before .before .before .before .before .loop .inv) (c .before .before .before .before .loop-test .taken) _ _ (c .before .before .before .part .ensures) (c .before .before .part2 .ensures)), (c .before .before .before .before .before .loop .inv .trying, law.left-placed _ _ _ _ _ _ (c .before .before .before .before .before .loop .inv .trying) _ _ _ _ _ _ _ _ (c .before .before .before .before .before .loop .inv) (c .before .before .before .before .loop-test .taken) _ _ (c .before .before .before .part .ensures) (c .before .before .part2 .ensures), law.right-placed _ _ _ _ _ _ (c .before .before .before .before .before .loop .inv .trying) _ _ _ _ _ _ _ _ (c .before .before .before .before .before .loop .inv) (c .before .before .before .before .loop-test .taken) _ _ (c .before .before .before .part .ensures) (c .before .before .part2 .ensures))))
+    (λ c κs.
+    let at-part2 = c .before .before in
+    let at-part = at-part2 .before in
+    let at-loop-test = at-part .before in
+    let at-loop = at-loop-test .before in
+    let start = at-loop .before .before .before .before .before .before .before .before .before .before in (
+      omega (
+        arith,
+        start .pre .0,
+        law.part-lower _ _ _ _ _ _ (at-loop .loop .inv .trying) _ _ _ _ _ _ _ _
+            (at-loop .loop .inv) (at-loop-test .loop-test .taken) _ _ (at-part .part .ensures)
+            (at-part2 .part2 .ensures),
+      ),
+      (
+        at-loop .loop .inv .trying,
+        law.left-placed _ _ _ _ _ _
+            (at-loop .loop .inv .trying) _ _ _ _ _ _ _ _ (at-loop .loop .inv) (at-loop-test .loop-test .taken) _ _
+            (at-part .part .ensures) (at-part2 .part2 .ensures),
+        law.right-placed _ _ _ _ _ _ (at-loop .loop .inv .trying)
+            _ _ _ _ _ _ _ _ (at-loop .loop .inv) (at-loop-test .loop-test .taken) _ _ (at-part .part .ensures)
+            (at-part2 .part2 .ensures),
+      ),
+    ))
     (λ c. c .match .keys1)
-    (λ c. omega (arith, c .before .before .before .before .before .before .before .before .before .before .before .before .loop-test .taken, c .before .before .before .before .before .before .before .before .before .before .before .before .before .before .part-count .ok))
+    (λ c.
+    let at-loop-test = c .before .before .before .before .before .before .before .before .before .before
+    .before .before in
+    let at-part-count = at-loop-test .before .before in
+    omega (arith, at-loop-test .loop-test .taken, at-part-count .part-count .ok))
     (λ c. omega (arith, c .before .before .before .before .before .before .before .before .before .before .before .before .loop-test .taken))
-    (λ c. law.parts-go-on _ _ _ _ _ _ (c .before .before .before .before .before .before .before .before .before .before .before .before .before .loop .inv .trying) _ _ _ _ _ _ _ _ (c .before .before .before .before .before .before .before .before .before .before .before .before .before .loop .inv) (c .before .before .before .before .before .before .before .before .before .before .before .before .loop-test .taken) _ _ (c .before .before .before .before .before .before .before .before .before .before .before .part .ensures) (c .before .before .before .before .before .before .before .before .before .before .part2 .ensures) _ _ _ _ (c .before .more .given .1) (c .before .before .before .before .before .before .before .unify .ensures) (c .before .before .before .before .before .before .before .unify .kept .1 .1 .0) (c .before .before .before .before .before .before .before .unify .kept .1 .1 .1 .0))
+    (λ c.
+    let at-unify = c .before .before .before .before .before .before .before in
+    let at-part2 = at-unify .before .before .before in
+    let at-part = at-part2 .before in
+    let at-loop-test = at-part .before in
+    let at-loop = at-loop-test .before in
+    law.parts-go-on _ _ _ _ _ _ (at-loop .loop .inv .trying) _ _ _ _ _ _ _ _ (at-loop .loop .inv)
+    (at-loop-test .loop-test .taken) _ _ (at-part .part .ensures) (at-part2 .part2 .ensures) _ _ _ _
+    (c .before .more .given .1) (at-unify .unify .ensures) (at-unify .unify .kept .1 .1 .0)
+    (at-unify .unify .kept .1 .1 .1 .0))
     (λ c. c .match .keys2)
-    (λ c. c .before .before .before .before .before .before .before .unify .kept .1 .1 .0 ∙ c .before .before .before .before .before .before .before .before .before .before .before .before .before .loop .inv .same-binds)
-    (λ c. c .before .before .before .before .before .before .before .unify .kept .1 .1 .1 .0 ∙ c .before .before .before .before .before .before .before .before .before .before .before .before .before .loop .inv .same-trail)
-    (λ c. law.part-fails _ _ _ _ _ _ (c .before .before .before .before .before .before .before .before .before .before .before .before .before .loop .inv .trying) _ _ _ _ _ _ _ _ (c .before .before .before .before .before .before .before .before .before .before .before .before .before .loop .inv) (c .before .before .before .before .before .before .before .before .before .before .before .before .loop-test .taken) _ _ (c .before .before .before .before .before .before .before .before .before .before .before .part .ensures) (c .before .before .before .before .before .before .before .before .before .before .part2 .ensures) _ _ _ _ (c .before .more2 .given .1) (c .before .before .before .before .before .before .before .unify .ensures))
+    (λ c.
+    let at-unify = c .before .before .before .before .before .before .before in
+    let at-loop = at-unify .before .before .before .before .before .before in
+    at-unify .unify .kept .1 .1 .0 ∙ at-loop .loop .inv .same-binds)
+    (λ c.
+    let at-unify = c .before .before .before .before .before .before .before in
+    let at-loop = at-unify .before .before .before .before .before .before in
+    at-unify .unify .kept .1 .1 .1 .0 ∙ at-loop .loop .inv .same-trail)
+    (λ c.
+    let at-unify = c .before .before .before .before .before .before .before in
+    let at-part2 = at-unify .before .before .before in
+    let at-part = at-part2 .before in
+    let at-loop-test = at-part .before in
+    let at-loop = at-loop-test .before in
+    law.part-fails _ _ _ _ _ _ (at-loop .loop .inv .trying) _ _ _ _ _ _ _ _ (at-loop .loop .inv)
+    (at-loop-test .loop-test .taken) _ _ (at-part .part .ensures) (at-part2 .part2 .ensures) _ _ _ _
+    (c .before .more2 .given .1) (at-unify .unify .ensures))
     (λ c. c .before .loop .inv .same-binds)
     (λ c. c .before .loop .inv .same-trail)
     (λ c. law.all-parts _ _ _ _ _ _ (c .before .loop .inv .trying) _ _ _ _ _ _ _ _ (c .before .loop .inv) (c .loop-test .left))
