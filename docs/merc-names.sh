@@ -29,7 +29,8 @@ while read -r crate file rest; do
     path=$(find "crates/$crate/specs" -name "$file.antt" 2> /dev/null)
     [ -n "$path" ] || { miss "no file: $crate/$file"; continue; }
     for item in $(echo "$rest" | tr -d '`,'); do
-        grep -qE "(^| )$item .*:" "$path" || miss "not defined: $crate/$file: $item"
+        # shellcheck disable=SC2086 # the file may stand in specs and in specs/Inner
+        grep -qE "(^| )$item .*:" $path || miss "not defined: $crate/$file: $item"
     done
 done < "${TMPDIR:-/tmp}/merc-names.$$"
 rm -f "${TMPDIR:-/tmp}/merc-names.$$"

@@ -27,8 +27,8 @@ use Rattle.resolved_sort.specs.declared.Counts.{Counts}
 use Rattle.inference.specs.declared.Solved.{Solved}
 use Rattle.inference.specs.declared.Solved.the-variants.{Refused, NoRoom, NoTyping, Ambiguous, Typing}
 use Rattle.inference.specs.Search.{Choice}
-use Rattle.inference.specs.SolveEntry.{Left, codeSolved, measureOut, choicesOut}
-use Rattle.inference.proofs.Situations.{Given, solved, row, sub, lit, disjunction, comprehension, join}
+use Rattle.inference.specs.SolveEntry.{SolveLeft, codeSolved, measureOut, choicesOut}
+use Rattle.inference.specs.Situations.{Given, solvedList, fourWords, rowSub, rowLit, rowDisjunction, rowComprehension, rowJoin}
 
 given : List ℕ → List ℕ → List ℕ → List ℕ → List ℕ → List ℕ → List ℕ → List ℕ → List ℕ → List ℕ → ℕ → Given
 given sorts entries nodes arguments binds exprs names constraints overloads sources default =
@@ -64,12 +64,12 @@ between : ℕ → ℕ → List ℕ → List ℕ
 between a b ws = take (b - a) (drop a ws)
 
 -- k counts the sorts that are kept
-keeping : Given → Left → Counts → List ℕ → List ℕ → List Choice → Outcome
+keeping : Given → SolveLeft → Counts → List ℕ → List ℕ → List Choice → Outcome
 keeping G L k typing measure choices =
     outcome (codeSolved (L .answer)) typing measure choices (between (24 + length (G .sorts)) (4 * k .sorts) (L .sorts))
     (between (4096 + length (G .entries)) (4096 + k .entries) (L .sorts))
 
-abbrev outcomeBy : Given → Left → Solved → Outcome
+abbrev outcomeBy : Given → SolveLeft → Solved → Outcome
 outcomeBy G L (Refused c) = outcome c [] [] [] [] []
 outcomeBy G L (NoRoom c) = outcome c [] [] [] [] []
 outcomeBy G L (NoTyping k) = keeping G L k [] [] []
@@ -77,7 +77,7 @@ outcomeBy G L (Ambiguous k) = keeping G L k [] [] []
 outcomeBy G L (Typing o) = keeping G L (o .counts) (take (3 * length (G .exprs)) (L .typing)) (measureOut L o) (choicesOut L o)
 
 pub outcomeOf : Given → Outcome
-outcomeOf G = outcomeBy G (solved G) (solved G .answer)
+outcomeOf G = outcomeBy G (solvedList G) (solvedList G .answer)
 
 -- an expression of a typing: its sort, kind of name and sort of name
 expr : ℕ → ℕ → ℕ → List ℕ → List ℕ
@@ -93,7 +93,7 @@ Case = Given × Outcome
 
 /// What the proof opens of [HEAD] and of the builders.
 const OPENED: &str =
-    "solved row sub lit disjunction comprehension join given outcome between keeping outcomeOf expr choice";
+    "solvedList fourWords rowSub rowLit rowDisjunction rowComprehension rowJoin given outcome between keeping outcomeOf expr choice";
 
 /// Builders for padded lists.
 const DEFS: &str = "defs ";
@@ -102,12 +102,12 @@ const PADDING: &str = "\
 -- n sorts more, Def i, Def (i + 1) and so on
 defs : ℕ → ℕ → List ℕ → List ℕ
 defs i zero ws = ws
-defs i (suc n) ws = row 12 i 0 0 (defs (i + 1) n ws)
+defs i (suc n) ws = fourWords 12 i 0 0 (defs (i + 1) n ws)
 
 -- n times the row of a kind and a part
 repeated : ℕ → ℕ → ℕ → List ℕ → List ℕ
 repeated zero kind part ws = ws
-repeated (suc n) kind part ws = row kind part 0 0 (repeated n kind part ws)
+repeated (suc n) kind part ws = fourWords kind part 0 0 (repeated n kind part ws)
 
 ";
 const PADDING_OPENED: &str = " defs repeated";
@@ -258,7 +258,7 @@ fn rows(rows: &[Row], first: Option<usize>) -> String {
             builders.push(format!("{REPEATED}{same} {} {}", row.kind, row.part));
             at += same;
         } else {
-            builders.push(format!("row {} {} {} {}", row.kind, row.part, row.start, row.count));
+            builders.push(format!("fourWords {} {} {} {}", row.kind, row.part, row.start, row.count));
             at += 1;
         }
     }
@@ -272,11 +272,11 @@ fn count<T: Copy>(list: &[T], passes: impl Fn(usize, T) -> bool) -> usize {
 
 fn constraints(rows: &[[u16; CONSTRAINT]]) -> String {
     let builders = rows.iter().map(|&[kind, a, b, c, d]| match kind {
-        constraint::SUB => format!("sub {a} {b}"),
-        constraint::LIT => format!("lit {a} {b}"),
-        constraint::DISJUNCTION => format!("disjunction {a} {b} {c} {d}"),
-        constraint::COMPREHENSION => format!("comprehension {a} {b} {c}"),
-        constraint::JOIN => format!("join {a} {b} {c}"),
+        constraint::SUB => format!("rowSub {a} {b}"),
+        constraint::LIT => format!("rowLit {a} {b}"),
+        constraint::DISJUNCTION => format!("rowDisjunction {a} {b} {c} {d}"),
+        constraint::COMPREHENSION => format!("rowComprehension {a} {b} {c}"),
+        constraint::JOIN => format!("rowJoin {a} {b} {c}"),
         _ => format!("({kind} ∷ {a} ∷ {b} ∷ {c} ∷ {d} ∷ []) ++"),
     });
     nested(builders.collect())
