@@ -14,7 +14,7 @@ use Rattle.list_tokens.specs.Tokens.{decimalRead, numberRead, classOf, n
 
 -- the words of a text, six at most
 wordsOf : String → List ℕ
-unfolding bytesOf tokensFrom
+unfolding tokensFrom
 wordsOf text = let t = tokensFrom 6 (bytesOf text) (0 ∷ 0 ∷ 0 ∷ 0 ∷ 0 ∷ 0 ∷ []) 0 in take (t .count) (t .values)
 
 -- words of each class; numbers at the border; what is no number and no name
@@ -38,11 +38,11 @@ tokens-of-lines :
     ∷ []
     ∷ []
     ∷ []
-unfolding wordsOf bytesOf words placeIn keywordOf decimalRead numberRead classOf nameToken tokenOf tokensFrom sameBytes run past skip
+unfolding wordsOf words placeIn keywordOf decimalRead numberRead classOf nameToken tokenOf tokensFrom sameBytes run past skip
 tokens-of-lines = refl
 
 starts-of-lines :
     map (λ (text : String). lineStart (bytesOf text)) ("" ∷ "  " ∷ " # sort" ∷ "list" ∷ " list a set" ∷ "lists" ∷ "= 0" ∷ "=0" ∷ "sub n0 n1" ∷ [])
     ≡ Skipped ∷ Skipped ∷ Skipped ∷ NewList ∷ NewList ∷ Other ∷ Answer ∷ Other ∷ Other ∷ []
-unfolding bytesOf words placeIn keywordOf decimalRead numberRead classOf nameToken tokenOf lineStart sameBytes run past skip
+unfolding words placeIn keywordOf decimalRead numberRead classOf nameToken tokenOf lineStart sameBytes run past skip
 starts-of-lines = refl

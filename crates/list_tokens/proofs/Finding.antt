@@ -53,7 +53,7 @@ cutsFrom zero k = []
 cutsFrom (suc m) k = cut k ∷ cutsFrom m (k + 1)
 
 cuts-are-the-words : cutsFrom 64 0 ≡ words
-unfolding words bytesOf starts bytes cut cutsFrom
+unfolding words starts bytes cut cutsFrom
 cuts-are-the-words = refl
 
 cut-at : (m i k : ℕ) → k < m → getD (cutsFrom m i) k [] ≡ cut (i + k)

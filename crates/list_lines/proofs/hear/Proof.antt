@@ -1,5 +1,4 @@
 -- Each arm puts what is printed for what the line came to. Assumes nothing.
-use Rattle.text_out.specs.Quoted.{bytesOf}
 use Rattle.list_lines.proofs.Ways as law
 use mathlib.Core.Path.{refl}
 use borrow.Author.Needs.{needs}
@@ -74,7 +73,6 @@ same-length-3 : tie.Need-same-length-3
 same-length-3 c = search needs
 
 returns-4 : tie.Need-returns-4
-unfolding bytesOf
 returns-4 c =
     let at-put-text = c .before .before in
     let at-enum-told4 = at-put-text .before .before .before in

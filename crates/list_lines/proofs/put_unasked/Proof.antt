@@ -1,5 +1,4 @@
 -- Only stage 1 has something to say. Assumes nothing.
-use Rattle.text_out.specs.Quoted.{bytesOf}
 use Rattle.list_lines.proofs.Ways as law
 use borrow.Author.Needs.{needs}
 use Rattle.list_lines.proofs.put_unasked.Statement.{statement}
@@ -15,7 +14,6 @@ same-length : tie.Need-same-length
 same-length c = search needs
 
 returns : tie.Need-returns
-unfolding bytesOf
 returns c = law.unasked-put _ (c .before .before .before .before .before .if1 .taken) (c .before .before .put-text .ensures)
 
 returns-2 : tie.Need-returns-2

@@ -1,6 +1,5 @@
 -- The bytes between two starts are the word of that place. Assumes nothing.
 use borrow.Author.Needs.{needs}
-use Rattle.text_out.specs.Quoted.{bytesOf}
 use Rattle.list_tokens.proofs.Finding as law
 use Rattle.list_tokens.proofs.is_word.Statement.{statement}
 use Rattle.list_tokens.proofs.is_word.Tie as tie
@@ -30,7 +29,7 @@ same-bytes-requires : tie.Need-same-bytes-requires
 same-bytes-requires c κs = search needs
 
 returns : tie.Need-returns
-unfolding law.starts law.bytes law.cut bytesOf
+unfolding law.starts law.bytes law.cut
 returns c = search law.word-of-the-table
 
 returns-2 : tie.Need-returns-2

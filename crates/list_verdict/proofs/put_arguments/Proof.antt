@@ -46,20 +46,11 @@ loop-less c = omega arith
 
 loop-again : tie.Need-loop-again Inv-loop μ-loop
 unfolding argumentText
-loop-again c =
-    let at-put-sort-name = c .before .before in
-    let at-word = at-put-sort-name .before .before in
-    let at-put-byte = at-word .before .before .before in
-    let at-loop-test = at-put-byte .before .before in
-    let at-loop = at-loop-test .before in
-    let start = at-loop .before .before .before in
-    let args = start .args in (
-      search needs,
-      rows.one-row-more (argumentText (args .sorts .now)) (args .start + args .count) _ _ _
-          (at-loop .loop .i) (at-loop .loop .inv .1) (at-loop-test .loop-test .taken)
-          (law.put-then (at-put-byte .put-byte .ensures) (law.put-as (ap sortName (at-word .word .ensures))
-          (at-put-sort-name .put-sort-name .ensures))),
-    )
+loop-again c = (
+  search needs,
+  rows.one-row-more
+      (argumentText (c .before .before .before .before .before .before .before .before .before .before .before .before .before .args .sorts .now)) (c .before .before .before .before .before .before .before .before .before .before .before .before .before .args .start + c .before .before .before .before .before .before .before .before .before .before .before .before .before .args .count) _ _ _ (c .before .before .before .before .before .before .before .before .before .before .loop .i) (c .before .before .before .before .before .before .before .before .before .before .loop .inv .1) (c .before .before .before .before .before .before .before .before .before .loop-test .taken) (law.put-then (c .before .before .before .before .before .before .before .put-byte .ensures) (law.put-as (ap sortName (c .before .before .before .before .word .ensures)) (c .before .before .put-sort-name .ensures))),
+)
 
 same-length : tie.Need-same-length Inv-loop μ-loop
 same-length c = omega arith

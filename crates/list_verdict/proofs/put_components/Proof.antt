@@ -44,19 +44,11 @@ loop-less c = omega arith
 
 loop-again : tie.Need-loop-again Inv-loop μ-loop
 unfolding component
-loop-again c =
-    let at-put-number = c .before .before in
-    let at-word = at-put-number .before .before in
-    let at-put-comma = at-word .before .before .before in
-    let at-loop-test = at-put-comma .before .before in
-    let at-loop = at-loop-test .before in
-    let start = at-loop .before .before .before in (
-      search needs,
-      rows.one-row-more (component (start .args .measure .now)) (start .args .count) _ _ _
-          (at-loop .loop .i) (at-loop .loop .inv .1) (at-loop-test .loop-test .taken)
-          (law.put-then (at-put-comma .put-comma .ensures) (law.put-as (ap decimal (at-word .word .ensures))
-          (at-put-number .put-number .ensures))),
-    )
+loop-again c = (
+  search needs,
+  rows.one-row-more
+      (component (c .before .before .before .before .before .before .before .before .before .before .before .before .before .args .measure .now)) (c .before .before .before .before .before .before .before .before .before .before .before .before .before .args .count) _ _ _ (c .before .before .before .before .before .before .before .before .before .before .loop .i) (c .before .before .before .before .before .before .before .before .before .before .loop .inv .1) (c .before .before .before .before .before .before .before .before .before .loop-test .taken) (law.put-then (c .before .before .before .before .before .before .before .put-comma .ensures) (law.put-as (ap decimal (c .before .before .before .before .word .ensures)) (c .before .before .put-number .ensures))),
+)
 
 same-length : tie.Need-same-length Inv-loop μ-loop
 same-length c = omega arith

@@ -32,17 +32,16 @@ loop-less : tie.Need-loop-less Inv-loop μ-loop
 loop-less c = omega arith
 
 loop-again : tie.Need-loop-again Inv-loop μ-loop
-loop-again c =
-    let at-put-expr = c .before .before in
-    let at-loop-test = at-put-expr .before .before in
-    let at-loop = at-loop-test .before in
-    let start = at-loop .before .before .before .before .before in
-    let args = start .args in (
-      search needs,
-      rows.one-row-more (exprLine (args .sorts .now) (args .counts .sorts) (args .typing .now))
-          (args .count) _ _ _ (at-loop .loop .i) (at-loop .loop .inv .1) (at-loop-test .loop-test .taken)
-          (at-put-expr .put-expr .ensures),
-    )
+loop-again c = (
+  search needs,
+  rows.one-row-more
+      (exprLine (c .before .before .before .before .before .before .before .before .before .before .args .sorts .now)
+      (c .before .before .before .before .before .before .before .before .before .before .args .counts .sorts)
+      (c .before .before .before .before .before .before .before .before .before .before .args .typing .now))
+      (c .before .before .before .before .before .before .before .before .before .before .args .count) _ _ _
+      (c .before .before .before .before .before .loop .i) (c .before .before .before .before .before .loop .inv .1)
+      (c .before .before .before .before .loop-test .taken) (c .before .before .put-expr .ensures),
+)
 
 same-length : tie.Need-same-length Inv-loop μ-loop
 same-length c = omega arith

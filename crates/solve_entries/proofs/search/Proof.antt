@@ -60,18 +60,8 @@ same-length-7 : tie.Need-same-length-7
 same-length-7 c = search needs
 
 returns : tie.Need-returns
-returns c =
-    let at-finish = c .before .before .before .before .before .before .before .before .before .before .before
-    .before in
-    let at-solve = at-finish .before .before .before .before .before .before .before .before .before .before
-    .before .before .before .before .before in
-    let at-nothing-taken = at-solve .before .before .before .before .before in
-    let at-no-incumbent = at-nothing-taken .before in
-    let start = at-no-incumbent .before .before .before .before .before .before .before .before .before
-    .before in
-    law.search-left _ _ _ _ _ _ _ _ (at-no-incumbent .no-incumbent .ensures) _
-    (at-nothing-taken .nothing-taken .ensures) (start .pre .0) _ _ _ _ _ (at-solve .solve .ensures)
-    (start .args .names .now) (start .args .name-count) _ _ _ _ (at-finish .finish .ensures _)
+returns c = law.search-left _ _ _ _ _ _ _ _
+    (c .before .before .before .before .before .before .before .before .before .before .before .before .before .before .before .before .before .before .before .before .before .before .before .before .before .before .before .before .before .before .before .before .before .no-incumbent .ensures) _ (c .before .before .before .before .before .before .before .before .before .before .before .before .before .before .before .before .before .before .before .before .before .before .before .before .before .before .before .before .before .before .before .before .nothing-taken .ensures) (c .before .before .before .before .before .before .before .before .before .before .before .before .before .before .before .before .before .before .before .before .before .before .before .before .before .before .before .before .before .before .before .before .before .before .before .before .before .before .before .before .before .before .before .pre .0) _ _ _ _ _ (c .before .before .before .before .before .before .before .before .before .before .before .before .before .before .before .before .before .before .before .before .before .before .before .before .before .before .before .solve .ensures) (c .before .before .before .before .before .before .before .before .before .before .before .before .before .before .before .before .before .before .before .before .before .before .before .before .before .before .before .before .before .before .before .before .before .before .before .before .before .before .before .before .before .before .before .args .names .now) (c .before .before .before .before .before .before .before .before .before .before .before .before .before .before .before .before .before .before .before .before .before .before .before .before .before .before .before .before .before .before .before .before .before .before .before .before .before .before .before .before .before .before .before .args .name-count) _ _ _ _ (c .before .before .before .before .before .before .before .before .before .before .before .before .finish .ensures _)
 
 pub search-spec : {M : Type 1} → statement M
 search-spec =

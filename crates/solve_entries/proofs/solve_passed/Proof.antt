@@ -22,22 +22,15 @@ slice-aggregate-pack : tie.Need-slice-aggregate-pack
 slice-aggregate-pack c = search needs
 
 pack-requires : tie.Need-pack-requires
-pack-requires c κs =
-    let start = c .before .before .before .before .before .before .before .before .before .before .before
-    .before .before .before .before in
-    law.can-be-packed _ _ _ _ _ _ _ _ _ _ _ _ _ (start .pre) _ (c .before .sizes-of .ensures) _ (search needs)
+pack-requires c κs = law.can-be-packed _ _ _ _ _ _ _ _ _ _ _ _ _
+    (c .before .before .before .before .before .before .before .before .before .before .before .before .before .before .before .pre) _ (c .before .sizes-of .ensures) _ (search needs)
 
 slice-aggregate-search : tie.Need-slice-aggregate-search
 slice-aggregate-search c = search needs
 
 search-requires : tie.Need-search-requires
-search-requires c κs =
-    let at-pack = c .before .before .before .before .before .before .before .before .before in
-    let at-sizes-of = at-pack .before .before in
-    let at-lengths-of = at-sizes-of .before in
-    let start = at-lengths-of .before .before .before .before .before .before .before .before .before .before
-    .before .before .before in
-    law.search-asked _ _ _ _ _ _ _ _ _ _ _ _ _ (start .pre) _ (at-sizes-of .sizes-of .ensures) _ (at-pack .pack .ensures) _ (at-lengths-of .lengths-of .ensures)
+search-requires c κs = law.search-asked _ _ _ _ _ _ _ _ _ _ _ _ _
+    (c .before .before .before .before .before .before .before .before .before .before .before .before .before .before .before .before .before .before .before .before .before .before .before .before .before .pre) _ (c .before .before .before .before .before .before .before .before .before .before .before .sizes-of .ensures) _ (c .before .before .before .before .before .before .before .before .before .pack .ensures) _ (c .before .before .before .before .before .before .before .before .before .before .before .before .lengths-of .ensures)
 
 same-length : tie.Need-same-length
 same-length c = search needs
@@ -61,16 +54,8 @@ same-length-7 : tie.Need-same-length-7
 same-length-7 c = search needs
 
 returns : tie.Need-returns
-returns c =
-    let at-search = c .before .before .before .before .before .before .before .before .before .before .before
-    .before .before .before in
-    let at-pack = at-search .before .before .before .before .before .before .before .before .before .before in
-    let at-sizes-of = at-pack .before .before in
-    let at-lengths-of = at-sizes-of .before in
-    let start = at-lengths-of .before .before .before .before .before .before .before .before .before .before
-    .before .before .before in
-    law.is-outcome _ _ _ _ _ _ _ _ _ _ _ _ _ (start .pre) _ (at-sizes-of .sizes-of .ensures) _
-    (at-pack .pack .ensures) _ (at-lengths-of .lengths-of .ensures) _ (at-search .search .ensures)
+returns c = law.is-outcome _ _ _ _ _ _ _ _ _ _ _ _ _
+    (c .before .before .before .before .before .before .before .before .before .before .before .before .before .before .before .before .before .before .before .before .before .before .before .before .before .before .before .before .before .before .before .before .before .before .before .before .before .before .before .before .pre) _ (c .before .before .before .before .before .before .before .before .before .before .before .before .before .before .before .before .before .before .before .before .before .before .before .before .before .before .sizes-of .ensures) _ (c .before .before .before .before .before .before .before .before .before .before .before .before .before .before .before .before .before .before .before .before .before .before .before .before .pack .ensures) _ (c .before .before .before .before .before .before .before .before .before .before .before .before .before .before .before .before .before .before .before .before .before .before .before .before .before .before .before .lengths-of .ensures) _ (c .before .before .before .before .before .before .before .before .before .before .before .before .before .before .search .ensures)
 
 pub solve-passed-spec : {M : Type 1} → statement M
 solve-passed-spec =

@@ -46,15 +46,12 @@ loop-less c = search needs
 
 loop-again : tie.Need-loop-again Inv-loop μ-loop
 loop-again c =
-    let at-loop = c .before in
-    let start = at-loop .before in
-    let args = start .args in
-    let l : length (args .t1) ≡ 256 = search needs in
-    let k : at-loop .loop .j < 16 = omega arith in (
+    let l : length (c .before .before .args .t1) ≡ 256 = search needs in
+    let k : c .before .loop .j < 16 = omega arith in (
       omega arith,
-      length-set (at-loop .loop .out) (at-loop .loop .j) _ ∙ at-loop .loop .inv .1,
-      law.copied-one (at-loop .loop .out) (args .t1) (args .base) (at-loop .loop .j) _ (at-loop .loop .inv .2)
-          (omega (arith, at-loop .loop .inv .1)) (omega arith) refl,
+      length-set (c .before .loop .out) (c .before .loop .j) _ ∙ c .before .loop .inv .1,
+      law.copied-one (c .before .loop .out) (c .before .before .args .t1) (c .before .before .args .base) (c .before .loop .j) _ (c .before .loop .inv .2)
+          (omega (arith, c .before .loop .inv .1)) (omega arith) refl,
     )
 
 returns : tie.Need-returns Inv-loop μ-loop

@@ -32,11 +32,10 @@ test-read-spec =
     let args = start .args in
     law.sorts-fail (args .sorts .now) (args .sort-count) (args .entry-count) (args .line .now)
     (at-test-sorts .test-sorts .result) (at-test-sorts .test-sorts .ensures) _ (c .before .code .given .1))
-    (λ c.
-    let at-enum-told = c .before .before in
-    let at-test-sorts = at-enum-told .before .before in
-    let start = at-test-sorts .before .before .before in
-    let args = start .args in
-    law.all-pass (args .sorts .now) (args .sort-count) (args .entry-count) (args .line .now)
-    (at-test-sorts .test-sorts .result) (at-test-sorts .test-sorts .ensures) (at-enum-told .enum-told .given .1)
+    (λ c. law.all-pass (c .before .before .before .before .before .before .before .args .sorts .now)
+    (c .before .before .before .before .before .before .before .args .sort-count)
+    (c .before .before .before .before .before .before .before .args .entry-count)
+    (c .before .before .before .before .before .before .before .args .line .now)
+    (c .before .before .before .before .test-sorts .result)
+    (c .before .before .before .before .test-sorts .ensures) (c .before .before .enum-told .given .1)
     (c .before .if1 .left) (c .if2 .left)))

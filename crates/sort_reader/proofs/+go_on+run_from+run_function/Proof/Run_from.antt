@@ -51,19 +51,19 @@ part M t =
       run-function.Post,
     )
     (run-from-at t) run-from.Post
-    (λ c.
-    let start = c .before .before .before .before in
-    let args = start .args in
-    way.run-none (args .sorts .now) (args .counts) (args .steps .now) (args .i) (args .t5) (search needs)
-    (args .depth) (start .pre .1) (c .before .if1 .taken) (c .if2 .taken))
+    (λ c. way.run-none (c .before .before .before .before .args .sorts .now)
+    (c .before .before .before .before .args .counts) (c .before .before .before .before .args .steps .now)
+    (c .before .before .before .before .args .i) (c .before .before .before .before .args .t5) (search needs)
+    (c .before .before .before .before .args .depth) (c .before .before .before .before .pre .1)
+    (c .before .if1 .taken) (c .if2 .taken))
     (λ c. omega (arith, c .if2 .left))
     (λ c. omega (arith, c .if2 .left, c .before .if1 .taken))
     (λ c. omega (arith, c .if2 .left, c .before .before .before .before .pre .1 .room))
-    (λ c.
-    let start = c .before .before .before .before in
-    let args = start .args in
-    way.run-top (args .sorts .now) (args .counts) (args .steps .now) (args .i) (args .t5) (search needs) (args .depth)
-    (start .pre .1) (c .before .if1 .taken) (c .if2 .left) _ refl)
+    (λ c. way.run-top (c .before .before .before .before .args .sorts .now)
+    (c .before .before .before .before .args .counts) (c .before .before .before .before .args .steps .now)
+    (c .before .before .before .before .args .i) (c .before .before .before .before .args .t5) (search needs)
+    (c .before .before .before .before .args .depth) (c .before .before .before .before .pre .1)
+    (c .before .if1 .taken) (c .if2 .left) _ refl)
     (λ c. search needs)
     (λ c. omega (arith, c .if3 .taken, c .before .before .if1 .left))
     (λ c. omega (arith, c .if3 .taken, c .before .before .if1 .left))
@@ -73,30 +73,41 @@ part M t =
     let at-if1 = c .before .before .before in
     let start = at-if1 .before .before .before in
     omega (arith, at-if1 .if1 .left, start .pre .1 .room))
-    (λ c κs.
-    let at-if1 = c .before .before .before in
-    let start = at-if1 .before .before .before in
-    let args = start .args in (
-      omega (arith, start .pre .0, at-if1 .if1 .left),
-      way.pushed (args .sorts .now) (args .counts) (args .steps .now)
-          (args .i) (args .t5) (search needs) (args .depth) (start .pre .1) (at-if1 .if1 .left)
+    (λ c κs. (
+      omega (
+        arith,
+        c .before .before .before .before .before .before .pre .0,
+        c .before .before .before .if1 .left,
+      ),
+      way.pushed
+          (c .before .before .before .before .before .before .args .sorts .now)
+          (c .before .before .before .before .before .before .args .counts)
+          (c .before .before .before .before .before .before .args .steps .now)
+          (c .before .before .before .before .before .before .args .i)
+          (c .before .before .before .before .before .before .args .t5) (search needs)
+          (c .before .before .before .before .before .before .args .depth)
+          (c .before .before .before .before .before .before .pre .1) (c .before .before .before .if1 .left)
           (c .before .if3 .taken),
     ))
     (λ c. search needs)
-    (λ c.
-    let at-run-from = c .before .before in
-    let at-if3 = at-run-from .before .before in
-    let at-if1 = at-if3 .before .before in
-    let start = at-if1 .before .before .before in
-    let args = start .args in
-    way.push-goes-on (args .sorts .now) (args .counts) (args .steps .now) (args .i) (args .t5) (search needs)
-    (args .depth) (start .pre .1) (at-if1 .if1 .left) (at-if3 .if3 .taken) _ _ (at-run-from .run-from .ensures))
-    (λ c.
-    let at-if1 = c .before .before .before in
-    let start = at-if1 .before .before .before in
-    let args = start .args in
-    way.run-short (args .sorts .now) (args .counts) (args .steps .now) (args .i) (args .t5) (search needs)
-    (args .depth) (start .pre .1) (at-if1 .if1 .left) (c .before .if3 .left) (c .if4 .taken))
+    (λ c. way.push-goes-on
+    (c .before .before .before .before .before .before .before .before .before .args .sorts .now)
+    (c .before .before .before .before .before .before .before .before .before .args .counts)
+    (c .before .before .before .before .before .before .before .before .before .args .steps .now)
+    (c .before .before .before .before .before .before .before .before .before .args .i)
+    (c .before .before .before .before .before .before .before .before .before .args .t5) (search needs)
+    (c .before .before .before .before .before .before .before .before .before .args .depth)
+    (c .before .before .before .before .before .before .before .before .before .pre .1)
+    (c .before .before .before .before .before .before .if1 .left) (c .before .before .before .before .if3 .taken)
+    _ _ (c .before .before .run-from .ensures))
+    (λ c. way.run-short (c .before .before .before .before .before .before .args .sorts .now)
+    (c .before .before .before .before .before .before .args .counts)
+    (c .before .before .before .before .before .before .args .steps .now)
+    (c .before .before .before .before .before .before .args .i)
+    (c .before .before .before .before .before .before .args .t5) (search needs)
+    (c .before .before .before .before .before .before .args .depth)
+    (c .before .before .before .before .before .before .pre .1) (c .before .before .before .if1 .left)
+    (c .before .if3 .left) (c .if4 .taken))
     (λ c κs. (c .before .before .before .if3 .left, c .before .if5 .taken))
     (λ c. omega (arith, c .before .before .before .if4 .left))
     (λ c.
@@ -109,56 +120,29 @@ part M t =
     let at-if4 = c .before .before .before in
     let start = at-if4 .before .before .before .before .before .before in
     omega (arith, at-if4 .if4 .left, start .pre .1 .room))
-    (λ c κs.
-    let at-if5 = c .before .before in
-    let at-if4 = at-if5 .before in
-    let at-if3 = at-if4 .before in
-    let at-if1 = at-if3 .before .before in
-    let start = at-if1 .before .before .before in
-    let args = start .args in (
-      start .pre .1 .checked,
-      way.last-below (args .sorts .now) (args .counts) (args .steps .now) (args .i) (args .t5)
-          (search needs) (args .depth) (start .pre .1) (at-if1 .if1 .left) (at-if3 .if3 .left) (at-if5 .if5 .taken)
-          (at-if4 .if4 .left),
+    (λ c κs. (
+      c .before .before .before .before .before .before .before .before .before .pre .1 .checked,
+      way.last-below (c .before .before .before .before .before .before .before .before .before .args .sorts .now)
+          (c .before .before .before .before .before .before .before .before .before .args .counts)
+          (c .before .before .before .before .before .before .before .before .before .args .steps .now)
+          (c .before .before .before .before .before .before .before .before .before .args .i)
+          (c .before .before .before .before .before .before .before .before .before .args .t5) (search needs)
+          (c .before .before .before .before .before .before .before .before .before .args .depth)
+          (c .before .before .before .before .before .before .before .before .before .pre .1)
+          (c .before .before .before .before .before .before .if1 .left) (c .before .before .before .before .if3 .left)
+          (c .before .before .if5 .taken) (c .before .before .before .if4 .left),
     ))
     (λ c. omega (arith, c .before .before .before .before .before .before .before .if4 .left))
-    (λ c κs.
-    let at-generic = c .before .before .before in
-    let at-operator = at-generic .before in
-    let at-if5 = at-operator .before .before in
-    let at-if4 = at-if5 .before in
-    let at-if3 = at-if4 .before in
-    let at-if1 = at-if3 .before .before in
-    let start = at-if1 .before .before .before in
-    let args = start .args in (
-      omega (arith, start .pre .0),
-      (
-        way.container-goes-on (args .sorts .now) (args .counts) (args .steps .now)
-            (args .i) (args .t5) (search needs) (args .depth) (start .pre .1) (at-if1 .if1 .left) (at-if3 .if3 .left)
-            (at-if5 .if5 .taken) (at-if4 .if4 .left) _ _ (at-generic .generic .ensures ∙ ap
-            (λ o. internAt (args .sorts .now) (args .counts .sorts) (args .counts .entries)
-            (container o (look (trees (args .sorts .now) (args .counts .sorts)) (getD (args .t5) (args .depth - 1) 0))))
-            (at-operator .operator .ensures)),
-        omega (arith, at-if4 .if4 .left, start .pre .1 .room),
-        at-if1 .if1 .left,
+    (λ c κs. (
+      omega (
+        arith,
+        c .before .before .before .before .before .before .before .before .before .before .before .before .before .pre .0,
       ),
+      (way.container-goes-on (c .before .before .before .before .before .before .before .before .before .before .before .before .before .args .sorts .now) (c .before .before .before .before .before .before .before .before .before .before .before .before .before .args .counts) (c .before .before .before .before .before .before .before .before .before .before .before .before .before .args .steps .now) (c .before .before .before .before .before .before .before .before .before .before .before .before .before .args .i) (c .before .before .before .before .before .before .before .before .before .before .before .before .before .args .t5) (search needs) (c .before .before .before .before .before .before .before .before .before .before .before .before .before .args .depth) (c .before .before .before .before .before .before .before .before .before .before .before .before .before .pre .1) (c .before .before .before .before .before .before .before .before .before .before .if1 .left) (c .before .before .before .before .before .before .before .before .if3 .left) (c .before .before .before .before .before .before .if5 .taken) (c .before .before .before .before .before .before .before .if4 .left) _ _ (c .before .before .before .generic .ensures ∙ ap (λ o. internAt (c .before .before .before .before .before .before .before .before .before .before .before .before .before .args .sorts .now) (c .before .before .before .before .before .before .before .before .before .before .before .before .before .args .counts .sorts) (c .before .before .before .before .before .before .before .before .before .before .before .before .before .args .counts .entries) (container o (look (trees (c .before .before .before .before .before .before .before .before .before .before .before .before .before .args .sorts .now) (c .before .before .before .before .before .before .before .before .before .before .before .before .before .args .counts .sorts)) (getD (c .before .before .before .before .before .before .before .before .before .before .before .before .before .args .t5) (c .before .before .before .before .before .before .before .before .before .before .before .before .before .args .depth - 1) 0)))) (c .before .before .before .before .operator .ensures)), omega (arith, c .before .before .before .before .before .before .before .if4 .left, c .before .before .before .before .before .before .before .before .before .before .before .before .before .pre .1 .room), c .before .before .before .before .before .before .before .before .before .before .if1 .left),
     ))
     (λ c. c .before .before .go-on .kept .0 ∙ c .before .before .before .before .before .before .generic .kept .0)
-    (λ c.
-    let at-go-on = c .before .before in
-    let at-generic = at-go-on .before .before .before .before in
-    let at-operator = at-generic .before in
-    let at-if5 = at-operator .before .before in
-    let at-if4 = at-if5 .before in
-    let at-if3 = at-if4 .before in
-    let at-if1 = at-if3 .before .before in
-    let start = at-if1 .before .before .before in
-    let args = start .args in
-    way.container-gone-on (args .sorts .now) (args .counts) (args .steps .now) (args .i) (args .t5) (search needs)
-    (args .depth) (start .pre .1) (at-if1 .if1 .left) (at-if3 .if3 .left) (at-if5 .if5 .taken) (at-if4 .if4 .left)
-    _ _ (at-generic .generic .ensures ∙ ap (λ o. internAt (args .sorts .now) (args .counts .sorts)
-    (args .counts .entries) (container o (look (trees (args .sorts .now) (args .counts .sorts))
-    (getD (args .t5) (args .depth - 1) 0)))) (at-operator .operator .ensures)) _ _ (at-go-on .go-on .ensures))
+    (λ c. way.container-gone-on
+    (c .before .before .before .before .before .before .before .before .before .before .before .before .before .before .before .before .args .sorts .now) (c .before .before .before .before .before .before .before .before .before .before .before .before .before .before .before .before .args .counts) (c .before .before .before .before .before .before .before .before .before .before .before .before .before .before .before .before .args .steps .now) (c .before .before .before .before .before .before .before .before .before .before .before .before .before .before .before .before .args .i) (c .before .before .before .before .before .before .before .before .before .before .before .before .before .before .before .before .args .t5) (search needs) (c .before .before .before .before .before .before .before .before .before .before .before .before .before .before .before .before .args .depth) (c .before .before .before .before .before .before .before .before .before .before .before .before .before .before .before .before .pre .1) (c .before .before .before .before .before .before .before .before .before .before .before .before .before .if1 .left) (c .before .before .before .before .before .before .before .before .before .before .before .if3 .left) (c .before .before .before .before .before .before .before .before .before .if5 .taken) (c .before .before .before .before .before .before .before .before .before .before .if4 .left) _ _ (c .before .before .before .before .before .before .generic .ensures ∙ ap (λ o. internAt (c .before .before .before .before .before .before .before .before .before .before .before .before .before .before .before .before .args .sorts .now) (c .before .before .before .before .before .before .before .before .before .before .before .before .before .before .before .before .args .counts .sorts) (c .before .before .before .before .before .before .before .before .before .before .before .before .before .before .before .before .args .counts .entries) (container o (look (trees (c .before .before .before .before .before .before .before .before .before .before .before .before .before .before .before .before .args .sorts .now) (c .before .before .before .before .before .before .before .before .before .before .before .before .before .before .before .before .args .counts .sorts)) (getD (c .before .before .before .before .before .before .before .before .before .before .before .before .before .before .before .before .args .t5) (c .before .before .before .before .before .before .before .before .before .before .before .before .before .before .before .before .args .depth - 1) 0)))) (c .before .before .before .before .before .before .before .operator .ensures)) _ _ (c .before .before .go-on .ensures))
     (λ c κs.
     let at-if4 = c .before .before in
     let at-if1 = at-if4 .before .before .before in

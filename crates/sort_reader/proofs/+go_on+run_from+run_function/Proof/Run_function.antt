@@ -51,89 +51,135 @@ part M t =
     (run-function-at t) run-function.Post
     (λ c κs. search needs)
     (λ c. omega (arith))
-    (λ c.
-    let start = c .before .before .before .before in
-    let args = start .args in
-    way.too-few (args .sorts .now) (args .counts) (args .steps .now) (args .i) (args .t5) (search needs) (args .depth)
-    (start .pre .1 .0) (start .pre .1 .1) (omega (arith, start .pre .1 .3, start .pre .1 .2))
-    (omega (arith, start .pre .1 .4)) _ (c .before .argument-count .ensures ∙ ap argumentsOf (start .pre .1 .2))
+    (λ c. way.too-few (c .before .before .before .before .args .sorts .now)
+    (c .before .before .before .before .args .counts) (c .before .before .before .before .args .steps .now)
+    (c .before .before .before .before .args .i) (c .before .before .before .before .args .t5) (search needs)
+    (c .before .before .before .before .args .depth) (c .before .before .before .before .pre .1 .0)
+    (c .before .before .before .before .pre .1 .1) (omega (
+      arith,
+      c .before .before .before .before .pre .1 .3,
+      c .before .before .before .before .pre .1 .2,
+    )) (omega (arith, c .before .before .before .before .pre .1 .4)) _
+    (c .before .argument-count .ensures ∙ ap argumentsOf (c .before .before .before .before .pre .1 .2))
     (c .if1 .taken))
     (λ c. omega (arith, c .before .before .before .before .pre .1 .4))
     (λ c. omega (arith, c .if1 .left))
     (λ c. omega (arith, c .if1 .left))
-    (λ c κs.
-    let start = c .before .before .before .before in
-    let args = start .args in (
-      way.few-arguments (args .sorts .now) (args .counts) (args .steps .now) (args .i) (args .t5) (search needs)
-          (args .depth) (start .pre .1 .0) (start .pre .1 .1) (omega (arith, start .pre .1 .3, start .pre .1 .2))
-          (omega (arith, start .pre .1 .4)) _ (c .before .argument-count .ensures ∙ ap argumentsOf (start .pre .1 .2))
+    (λ c κs. (
+      way.few-arguments (c .before .before .before .before .args .sorts .now)
+          (c .before .before .before .before .args .counts) (c .before .before .before .before .args .steps .now)
+          (c .before .before .before .before .args .i) (c .before .before .before .before .args .t5) (search needs)
+          (c .before .before .before .before .args .depth) (c .before .before .before .before .pre .1 .0)
+          (c .before .before .before .before .pre .1 .1) (omega (
+            arith,
+            c .before .before .before .before .pre .1 .3,
+            c .before .before .before .before .pre .1 .2,
+          )) (omega (arith, c .before .before .before .before .pre .1 .4)) _
+          (c .before .argument-count .ensures ∙ ap argumentsOf (c .before .before .before .before .pre .1 .2))
           (c .if1 .left),
       omega (
         arith,
-        way.base-small (args .sorts .now) (args .counts) (args .steps .now) (args .i)
-            (args .t5) (search needs) (args .depth) (start .pre .1 .0) (start .pre .1 .1)
-            (omega (arith, start .pre .1 .3, start .pre .1 .2)) (omega (arith, start .pre .1 .4)) _
-            (c .before .argument-count .ensures ∙ ap argumentsOf (start .pre .1 .2)) (c .if1 .left),
+        way.base-small (c .before .before .before .before .args .sorts .now)
+            (c .before .before .before .before .args .counts) (c .before .before .before .before .args .steps .now)
+            (c .before .before .before .before .args .i) (c .before .before .before .before .args .t5) (search needs)
+            (c .before .before .before .before .args .depth) (c .before .before .before .before .pre .1 .0)
+            (c .before .before .before .before .pre .1 .1) (omega (
+              arith,
+              c .before .before .before .before .pre .1 .3,
+              c .before .before .before .before .pre .1 .2,
+            )) (omega (arith, c .before .before .before .before .pre .1 .4)) _
+            (c .before .argument-count .ensures ∙ ap argumentsOf (c .before .before .before .before .pre .1 .2))
+            (c .if1 .left),
       ),
     ))
     (λ c. omega (arith, c .before .before .if1 .left))
     (λ c. omega (arith, c .before .before .if1 .left))
     (λ c. omega (arith, c .before .before .if1 .left, c .before .before .before .before .before .before .pre .1 .0 .room))
-    (λ c κs.
-    let at-if1 = c .before .before in
-    let at-argument-count = at-if1 .before in
-    let start = at-argument-count .before .before .before in
-    let args = start .args in (
-      start .pre .1 .0 .checked,
-      way.range-below (args .sorts .now) (args .counts) (args .steps .now) (args .i)
-          (args .t5) (search needs) (args .depth) (start .pre .1 .0) (start .pre .1 .1)
-          (omega (arith, start .pre .1 .3, start .pre .1 .2)) (omega (arith, start .pre .1 .4)) _
-          (at-argument-count .argument-count .ensures ∙ ap argumentsOf (start .pre .1 .2)) (at-if1 .if1 .left),
-      way.few-arguments (args .sorts .now) (args .counts) (args .steps .now) (args .i) (args .t5) (search needs)
-          (args .depth) (start .pre .1 .0) (start .pre .1 .1) (omega (arith, start .pre .1 .3, start .pre .1 .2))
-          (omega (arith, start .pre .1 .4)) _ (at-argument-count .argument-count .ensures ∙ ap argumentsOf
-          (start .pre .1 .2)) (at-if1 .if1 .left),
-      subst (AllBelow (args .counts .sorts))
-          (sym (c .before .arguments .ensures)) (way.numbers-below (args .sorts .now) (args .counts) (args .steps .now)
-          (args .i) (args .t5) (search needs) (args .depth) (start .pre .1 .0) (start .pre .1 .1)
-          (omega (arith, start .pre .1 .3, start .pre .1 .2)) (omega (arith, start .pre .1 .4)) _
-          (at-argument-count .argument-count .ensures ∙ ap argumentsOf (start .pre .1 .2)) (at-if1 .if1 .left)),
+    (λ c κs. (
+      c .before .before .before .before .before .before .pre .1 .0 .checked,
+      way.range-below
+          (c .before .before .before .before .before .before .args .sorts .now)
+          (c .before .before .before .before .before .before .args .counts)
+          (c .before .before .before .before .before .before .args .steps .now)
+          (c .before .before .before .before .before .before .args .i)
+          (c .before .before .before .before .before .before .args .t5) (search needs)
+          (c .before .before .before .before .before .before .args .depth)
+          (c .before .before .before .before .before .before .pre .1 .0)
+          (c .before .before .before .before .before .before .pre .1 .1)
+          (omega (
+            arith,
+            c .before .before .before .before .before .before .pre .1 .3,
+            c .before .before .before .before .before .before .pre .1 .2,
+          ))
+          (omega (arith, c .before .before .before .before .before .before .pre .1 .4)) _
+          (c .before .before .before .argument-count .ensures ∙ ap argumentsOf
+          (c .before .before .before .before .before .before .pre .1 .2)) (c .before .before .if1 .left),
+      way.few-arguments (c .before .before .before .before .before .before .args .sorts .now)
+          (c .before .before .before .before .before .before .args .counts)
+          (c .before .before .before .before .before .before .args .steps .now)
+          (c .before .before .before .before .before .before .args .i)
+          (c .before .before .before .before .before .before .args .t5) (search needs)
+          (c .before .before .before .before .before .before .args .depth)
+          (c .before .before .before .before .before .before .pre .1 .0)
+          (c .before .before .before .before .before .before .pre .1 .1)
+          (omega (
+            arith,
+            c .before .before .before .before .before .before .pre .1 .3,
+            c .before .before .before .before .before .before .pre .1 .2,
+          ))
+          (omega (arith, c .before .before .before .before .before .before .pre .1 .4)) _
+          (c .before .before .before .argument-count .ensures ∙ ap argumentsOf
+          (c .before .before .before .before .before .before .pre .1 .2)) (c .before .before .if1 .left),
+      subst
+          (AllBelow (c .before .before .before .before .before .before .args .counts .sorts))
+          (sym (c .before .arguments .ensures)) (way.numbers-below
+          (c .before .before .before .before .before .before .args .sorts .now)
+          (c .before .before .before .before .before .before .args .counts)
+          (c .before .before .before .before .before .before .args .steps .now)
+          (c .before .before .before .before .before .before .args .i)
+          (c .before .before .before .before .before .before .args .t5) (search needs)
+          (c .before .before .before .before .before .before .args .depth)
+          (c .before .before .before .before .before .before .pre .1 .0)
+          (c .before .before .before .before .before .before .pre .1 .1)
+          (omega (
+            arith,
+            c .before .before .before .before .before .before .pre .1 .3,
+            c .before .before .before .before .before .before .pre .1 .2,
+          ))
+          (omega (arith, c .before .before .before .before .before .before .pre .1 .4)) _
+          (c .before .before .before .argument-count .ensures ∙ ap argumentsOf
+          (c .before .before .before .before .before .before .pre .1 .2)) (c .before .before .if1 .left)),
     ))
-    (λ c κs.
-    let at-function = c .before .before .before in
-    let at-arguments = at-function .before .before in
-    let at-if1 = at-arguments .before in
-    let at-argument-count = at-if1 .before in
-    let start = at-argument-count .before .before .before in
-    let args = start .args in (
-      omega (arith, start .pre .0),
+    (λ c κs. (
+      omega (
+        arith,
+        c .before .before .before .before .before .before .before .before .before .before .pre .0,
+      ),
       (
-        way.function-goes-on (args .sorts .now) (args .counts) (args .steps .now)
-            (args .i) (args .t5) (search needs) (args .depth) (start .pre .1 .0) (start .pre .1 .1)
-            (omega (arith, start .pre .1 .3, start .pre .1 .2)) (omega (arith, start .pre .1 .4)) _
-            (at-argument-count .argument-count .ensures ∙ ap argumentsOf (start .pre .1 .2)) (at-if1 .if1 .left) _ _
-            (at-function .function .ensures ∙ ap (λ xs. internAt (args .sorts .now) (args .counts .sorts)
-            (args .counts .entries) (function (lookAll (trees (args .sorts .now) (args .counts .sorts)) xs)
-            (look (trees (args .sorts .now) (args .counts .sorts)) (getD (args .t5) (args .depth - 1) 0))))
-            (at-arguments .arguments .ensures)),
-        omega (arith, at-if1 .if1 .left, start .pre .1 .0 .room),
-        start .pre .1 .1,
+        way.function-goes-on
+            (c .before .before .before .before .before .before .before .before .before .before .args .sorts .now)
+            (c .before .before .before .before .before .before .before .before .before .before .args .counts)
+            (c .before .before .before .before .before .before .before .before .before .before .args .steps .now)
+            (c .before .before .before .before .before .before .before .before .before .before .args .i)
+            (c .before .before .before .before .before .before .before .before .before .before .args .t5) (search needs)
+            (c .before .before .before .before .before .before .before .before .before .before .args .depth)
+            (c .before .before .before .before .before .before .before .before .before .before .pre .1 .0)
+            (c .before .before .before .before .before .before .before .before .before .before .pre .1 .1)
+            (omega (
+              arith,
+              c .before .before .before .before .before .before .before .before .before .before .pre .1 .3,
+              c .before .before .before .before .before .before .before .before .before .before .pre .1 .2,
+            ))
+            (omega (arith, c .before .before .before .before .before .before .before .before .before .before .pre .1 .4))
+            _ (c .before .before .before .before .before .before .before .argument-count .ensures ∙ ap argumentsOf
+            (c .before .before .before .before .before .before .before .before .before .before .pre .1 .2))
+            (c .before .before .before .before .before .before .if1 .left) _ _
+            (c .before .before .before .function .ensures ∙ ap
+            (λ xs. internAt (c .before .before .before .before .before .before .before .before .before .before .args .sorts .now) (c .before .before .before .before .before .before .before .before .before .before .args .counts .sorts) (c .before .before .before .before .before .before .before .before .before .before .args .counts .entries) (function (lookAll (trees (c .before .before .before .before .before .before .before .before .before .before .args .sorts .now) (c .before .before .before .before .before .before .before .before .before .before .args .counts .sorts)) xs) (look (trees (c .before .before .before .before .before .before .before .before .before .before .args .sorts .now) (c .before .before .before .before .before .before .before .before .before .before .args .counts .sorts)) (getD (c .before .before .before .before .before .before .before .before .before .before .args .t5) (c .before .before .before .before .before .before .before .before .before .before .args .depth - 1) 0)))) (c .before .before .before .before .before .arguments .ensures)),
+        omega (arith, c .before .before .before .before .before .before .if1 .left, c .before .before .before .before .before .before .before .before .before .before .pre .1 .0 .room),
+        c .before .before .before .before .before .before .before .before .before .before .pre .1 .1,
       ),
     ))
     (λ c. c .before .before .go-on .kept .0 ∙ c .before .before .before .before .before .before .function .kept .0)
-    (λ c.
-    let at-go-on = c .before .before in
-    let at-function = at-go-on .before .before .before .before in
-    let at-arguments = at-function .before .before in
-    let at-if1 = at-arguments .before in
-    let at-argument-count = at-if1 .before in
-    let start = at-argument-count .before .before .before in
-    let args = start .args in
-    way.function-gone-on (args .sorts .now) (args .counts) (args .steps .now) (args .i) (args .t5) (search needs)
-    (args .depth) (start .pre .1 .0) (start .pre .1 .1) (omega (arith, start .pre .1 .3, start .pre .1 .2))
-    (omega (arith, start .pre .1 .4)) _ (at-argument-count .argument-count .ensures ∙ ap argumentsOf
-    (start .pre .1 .2)) (at-if1 .if1 .left) _ _ (at-function .function .ensures ∙ ap
-    (λ xs. internAt (args .sorts .now) (args .counts .sorts) (args .counts .entries)
-    (function (lookAll (trees (args .sorts .now) (args .counts .sorts)) xs)
-    (look (trees (args .sorts .now) (args .counts .sorts)) (getD (args .t5) (args .depth - 1) 0))))
-    (at-arguments .arguments .ensures)) _ _ (at-go-on .go-on .ensures))
+    (λ c. way.function-gone-on
+    (c .before .before .before .before .before .before .before .before .before .before .before .before .before .args .sorts .now) (c .before .before .before .before .before .before .before .before .before .before .before .before .before .args .counts) (c .before .before .before .before .before .before .before .before .before .before .before .before .before .args .steps .now) (c .before .before .before .before .before .before .before .before .before .before .before .before .before .args .i) (c .before .before .before .before .before .before .before .before .before .before .before .before .before .args .t5) (search needs) (c .before .before .before .before .before .before .before .before .before .before .before .before .before .args .depth) (c .before .before .before .before .before .before .before .before .before .before .before .before .before .pre .1 .0) (c .before .before .before .before .before .before .before .before .before .before .before .before .before .pre .1 .1) (omega (arith, c .before .before .before .before .before .before .before .before .before .before .before .before .before .pre .1 .3, c .before .before .before .before .before .before .before .before .before .before .before .before .before .pre .1 .2)) (omega (arith, c .before .before .before .before .before .before .before .before .before .before .before .before .before .pre .1 .4)) _ (c .before .before .before .before .before .before .before .before .before .before .argument-count .ensures ∙ ap argumentsOf (c .before .before .before .before .before .before .before .before .before .before .before .before .before .pre .1 .2)) (c .before .before .before .before .before .before .before .before .before .if1 .left) _ _ (c .before .before .before .before .before .before .function .ensures ∙ ap (λ xs. internAt (c .before .before .before .before .before .before .before .before .before .before .before .before .before .args .sorts .now) (c .before .before .before .before .before .before .before .before .before .before .before .before .before .args .counts .sorts) (c .before .before .before .before .before .before .before .before .before .before .before .before .before .args .counts .entries) (function (lookAll (trees (c .before .before .before .before .before .before .before .before .before .before .before .before .before .args .sorts .now) (c .before .before .before .before .before .before .before .before .before .before .before .before .before .args .counts .sorts)) xs) (look (trees (c .before .before .before .before .before .before .before .before .before .before .before .before .before .args .sorts .now) (c .before .before .before .before .before .before .before .before .before .before .before .before .before .args .counts .sorts)) (getD (c .before .before .before .before .before .before .before .before .before .before .before .before .before .args .t5) (c .before .before .before .before .before .before .before .before .before .before .before .before .before .args .depth - 1) 0)))) (c .before .before .before .before .before .before .before .before .arguments .ensures)) _ _ (c .before .before .go-on .ensures))
