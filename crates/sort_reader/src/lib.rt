@@ -67,7 +67,7 @@ fn argument_count(step: u8) -> u16
 }
 
 // Carries out the steps from the i-th on, and answers the sort that is then on top of the stack.
-pub fn run_from(
+fn run_from(
     sorts: &mut [u16],
     counts: Counts,
     steps: &[u8],

@@ -49,7 +49,15 @@ unfolding argumentText
 loop-again c = (
   search needs,
   rows.one-row-more
-      (argumentText (c .before .before .before .before .before .before .before .before .before .before .before .before .before .args .sorts .now)) (c .before .before .before .before .before .before .before .before .before .before .before .before .before .args .start + c .before .before .before .before .before .before .before .before .before .before .before .before .before .args .count) _ _ _ (c .before .before .before .before .before .before .before .before .before .before .loop .i) (c .before .before .before .before .before .before .before .before .before .before .loop .inv .1) (c .before .before .before .before .before .before .before .before .before .loop-test .taken) (law.put-then (c .before .before .before .before .before .before .before .put-byte .ensures) (law.put-as (ap sortName (c .before .before .before .before .word .ensures)) (c .before .before .put-sort-name .ensures))),
+      (argumentText (c .before .before .before .before .before .before .before .before .before .before .before .before .before .args .sorts .now))
+      (c .before .before .before .before .before .before .before .before .before .before .before .before .before .args .start
+      + c .before .before .before .before .before .before .before .before .before .before .before .before .before .args .count)
+      _ _ _ (c .before .before .before .before .before .before .before .before .before .before .loop .i)
+      (c .before .before .before .before .before .before .before .before .before .before .loop .inv .1)
+      (c .before .before .before .before .before .before .before .before .before .loop-test .taken)
+      (law.put-then (c .before .before .before .before .before .before .before .put-byte .ensures)
+      (law.put-as (ap sortName (c .before .before .before .before .word .ensures))
+      (c .before .before .put-sort-name .ensures))),
 )
 
 same-length : tie.Need-same-length Inv-loop μ-loop

@@ -47,7 +47,14 @@ unfolding component
 loop-again c = (
   search needs,
   rows.one-row-more
-      (component (c .before .before .before .before .before .before .before .before .before .before .before .before .before .args .measure .now)) (c .before .before .before .before .before .before .before .before .before .before .before .before .before .args .count) _ _ _ (c .before .before .before .before .before .before .before .before .before .before .loop .i) (c .before .before .before .before .before .before .before .before .before .before .loop .inv .1) (c .before .before .before .before .before .before .before .before .before .loop-test .taken) (law.put-then (c .before .before .before .before .before .before .before .put-comma .ensures) (law.put-as (ap decimal (c .before .before .before .before .word .ensures)) (c .before .before .put-number .ensures))),
+      (component (c .before .before .before .before .before .before .before .before .before .before .before .before .before .args .measure .now))
+      (c .before .before .before .before .before .before .before .before .before .before .before .before .before .args .count)
+      _ _ _ (c .before .before .before .before .before .before .before .before .before .before .loop .i)
+      (c .before .before .before .before .before .before .before .before .before .before .loop .inv .1)
+      (c .before .before .before .before .before .before .before .before .before .loop-test .taken)
+      (law.put-then (c .before .before .before .before .before .before .before .put-comma .ensures)
+      (law.put-as (ap decimal (c .before .before .before .before .word .ensures))
+      (c .before .before .put-number .ensures))),
 )
 
 same-length : tie.Need-same-length Inv-loop μ-loop

@@ -23,14 +23,18 @@ slice-aggregate-pack c = search needs
 
 pack-requires : tie.Need-pack-requires
 pack-requires c κs = law.can-be-packed _ _ _ _ _ _ _ _ _ _ _ _ _
-    (c .before .before .before .before .before .before .before .before .before .before .before .before .before .before .before .pre) _ (c .before .sizes-of .ensures) _ (search needs)
+    (c .before .before .before .before .before .before .before .before .before .before .before .before .before .before .before .pre)
+    _ (c .before .sizes-of .ensures) _ (search needs)
 
 slice-aggregate-search : tie.Need-slice-aggregate-search
 slice-aggregate-search c = search needs
 
 search-requires : tie.Need-search-requires
 search-requires c κs = law.search-asked _ _ _ _ _ _ _ _ _ _ _ _ _
-    (c .before .before .before .before .before .before .before .before .before .before .before .before .before .before .before .before .before .before .before .before .before .before .before .before .before .pre) _ (c .before .before .before .before .before .before .before .before .before .before .before .sizes-of .ensures) _ (c .before .before .before .before .before .before .before .before .before .pack .ensures) _ (c .before .before .before .before .before .before .before .before .before .before .before .before .lengths-of .ensures)
+    (c .before .before .before .before .before .before .before .before .before .before .before .before .before .before .before .before .before .before .before .before .before .before .before .before .before .pre)
+    _ (c .before .before .before .before .before .before .before .before .before .before .before .sizes-of .ensures)
+    _ (c .before .before .before .before .before .before .before .before .before .pack .ensures) _
+    (c .before .before .before .before .before .before .before .before .before .before .before .before .lengths-of .ensures)
 
 same-length : tie.Need-same-length
 same-length c = search needs
@@ -55,7 +59,11 @@ same-length-7 c = search needs
 
 returns : tie.Need-returns
 returns c = law.is-outcome _ _ _ _ _ _ _ _ _ _ _ _ _
-    (c .before .before .before .before .before .before .before .before .before .before .before .before .before .before .before .before .before .before .before .before .before .before .before .before .before .before .before .before .before .before .before .before .before .before .before .before .before .before .before .before .pre) _ (c .before .before .before .before .before .before .before .before .before .before .before .before .before .before .before .before .before .before .before .before .before .before .before .before .before .before .sizes-of .ensures) _ (c .before .before .before .before .before .before .before .before .before .before .before .before .before .before .before .before .before .before .before .before .before .before .before .before .pack .ensures) _ (c .before .before .before .before .before .before .before .before .before .before .before .before .before .before .before .before .before .before .before .before .before .before .before .before .before .before .before .lengths-of .ensures) _ (c .before .before .before .before .before .before .before .before .before .before .before .before .before .before .search .ensures)
+    (c .before .before .before .before .before .before .before .before .before .before .before .before .before .before .before .before .before .before .before .before .before .before .before .before .before .before .before .before .before .before .before .before .before .before .before .before .before .before .before .before .pre)
+    _ (c .before .before .before .before .before .before .before .before .before .before .before .before .before .before .before .before .before .before .before .before .before .before .before .before .before .before .sizes-of .ensures)
+    _ (c .before .before .before .before .before .before .before .before .before .before .before .before .before .before .before .before .before .before .before .before .before .before .before .before .pack .ensures)
+    _ (c .before .before .before .before .before .before .before .before .before .before .before .before .before .before .before .before .before .before .before .before .before .before .before .before .before .before .before .lengths-of .ensures)
+    _ (c .before .before .before .before .before .before .before .before .before .before .before .before .before .before .search .ensures)
 
 pub solve-passed-spec : {M : Type 1} → statement M
 solve-passed-spec =

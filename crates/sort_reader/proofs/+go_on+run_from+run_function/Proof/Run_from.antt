@@ -138,11 +138,61 @@ part M t =
         arith,
         c .before .before .before .before .before .before .before .before .before .before .before .before .before .pre .0,
       ),
-      (way.container-goes-on (c .before .before .before .before .before .before .before .before .before .before .before .before .before .args .sorts .now) (c .before .before .before .before .before .before .before .before .before .before .before .before .before .args .counts) (c .before .before .before .before .before .before .before .before .before .before .before .before .before .args .steps .now) (c .before .before .before .before .before .before .before .before .before .before .before .before .before .args .i) (c .before .before .before .before .before .before .before .before .before .before .before .before .before .args .t5) (search needs) (c .before .before .before .before .before .before .before .before .before .before .before .before .before .args .depth) (c .before .before .before .before .before .before .before .before .before .before .before .before .before .pre .1) (c .before .before .before .before .before .before .before .before .before .before .if1 .left) (c .before .before .before .before .before .before .before .before .if3 .left) (c .before .before .before .before .before .before .if5 .taken) (c .before .before .before .before .before .before .before .if4 .left) _ _ (c .before .before .before .generic .ensures ∙ ap (λ o. internAt (c .before .before .before .before .before .before .before .before .before .before .before .before .before .args .sorts .now) (c .before .before .before .before .before .before .before .before .before .before .before .before .before .args .counts .sorts) (c .before .before .before .before .before .before .before .before .before .before .before .before .before .args .counts .entries) (container o (look (trees (c .before .before .before .before .before .before .before .before .before .before .before .before .before .args .sorts .now) (c .before .before .before .before .before .before .before .before .before .before .before .before .before .args .counts .sorts)) (getD (c .before .before .before .before .before .before .before .before .before .before .before .before .before .args .t5) (c .before .before .before .before .before .before .before .before .before .before .before .before .before .args .depth - 1) 0)))) (c .before .before .before .before .operator .ensures)), omega (arith, c .before .before .before .before .before .before .before .if4 .left, c .before .before .before .before .before .before .before .before .before .before .before .before .before .pre .1 .room), c .before .before .before .before .before .before .before .before .before .before .if1 .left),
+      (
+        way.container-goes-on
+            (c .before .before .before .before .before .before .before .before .before .before .before .before .before .args .sorts .now)
+            (c .before .before .before .before .before .before .before .before .before .before .before .before .before .args .counts)
+            (c .before .before .before .before .before .before .before .before .before .before .before .before .before .args .steps .now)
+            (c .before .before .before .before .before .before .before .before .before .before .before .before .before .args .i)
+            (c .before .before .before .before .before .before .before .before .before .before .before .before .before .args .t5)
+            (search needs) (c .before .before .before .before .before .before .before .before .before .before .before .before .before .args .depth)
+            (c .before .before .before .before .before .before .before .before .before .before .before .before .before .pre .1)
+            (c .before .before .before .before .before .before .before .before .before .before .if1 .left)
+            (c .before .before .before .before .before .before .before .before .if3 .left)
+            (c .before .before .before .before .before .before .if5 .taken)
+            (c .before .before .before .before .before .before .before .if4 .left) _ _
+            (c .before .before .before .generic .ensures ∙ ap
+            (λ o. internAt (c .before .before .before .before .before .before .before .before .before .before .before .before .before .args .sorts .now)
+            (c .before .before .before .before .before .before .before .before .before .before .before .before .before .args .counts .sorts)
+            (c .before .before .before .before .before .before .before .before .before .before .before .before .before .args .counts .entries)
+            (container o (look (trees
+            (c .before .before .before .before .before .before .before .before .before .before .before .before .before .args .sorts .now)
+            (c .before .before .before .before .before .before .before .before .before .before .before .before .before .args .counts .sorts))
+            (getD (c .before .before .before .before .before .before .before .before .before .before .before .before .before .args .t5)
+            (c .before .before .before .before .before .before .before .before .before .before .before .before .before .args .depth
+            - 1) 0)))) (c .before .before .before .before .operator .ensures)),
+        omega (
+          arith,
+          c .before .before .before .before .before .before .before .if4 .left,
+          c .before .before .before .before .before .before .before .before .before .before .before .before .before .pre .1 .room,
+        ),
+        c .before .before .before .before .before .before .before .before .before .before .if1 .left,
+      ),
     ))
     (λ c. c .before .before .go-on .kept .0 ∙ c .before .before .before .before .before .before .generic .kept .0)
     (λ c. way.container-gone-on
-    (c .before .before .before .before .before .before .before .before .before .before .before .before .before .before .before .before .args .sorts .now) (c .before .before .before .before .before .before .before .before .before .before .before .before .before .before .before .before .args .counts) (c .before .before .before .before .before .before .before .before .before .before .before .before .before .before .before .before .args .steps .now) (c .before .before .before .before .before .before .before .before .before .before .before .before .before .before .before .before .args .i) (c .before .before .before .before .before .before .before .before .before .before .before .before .before .before .before .before .args .t5) (search needs) (c .before .before .before .before .before .before .before .before .before .before .before .before .before .before .before .before .args .depth) (c .before .before .before .before .before .before .before .before .before .before .before .before .before .before .before .before .pre .1) (c .before .before .before .before .before .before .before .before .before .before .before .before .before .if1 .left) (c .before .before .before .before .before .before .before .before .before .before .before .if3 .left) (c .before .before .before .before .before .before .before .before .before .if5 .taken) (c .before .before .before .before .before .before .before .before .before .before .if4 .left) _ _ (c .before .before .before .before .before .before .generic .ensures ∙ ap (λ o. internAt (c .before .before .before .before .before .before .before .before .before .before .before .before .before .before .before .before .args .sorts .now) (c .before .before .before .before .before .before .before .before .before .before .before .before .before .before .before .before .args .counts .sorts) (c .before .before .before .before .before .before .before .before .before .before .before .before .before .before .before .before .args .counts .entries) (container o (look (trees (c .before .before .before .before .before .before .before .before .before .before .before .before .before .before .before .before .args .sorts .now) (c .before .before .before .before .before .before .before .before .before .before .before .before .before .before .before .before .args .counts .sorts)) (getD (c .before .before .before .before .before .before .before .before .before .before .before .before .before .before .before .before .args .t5) (c .before .before .before .before .before .before .before .before .before .before .before .before .before .before .before .before .args .depth - 1) 0)))) (c .before .before .before .before .before .before .before .operator .ensures)) _ _ (c .before .before .go-on .ensures))
+    (c .before .before .before .before .before .before .before .before .before .before .before .before .before .before .before .before .args .sorts .now)
+    (c .before .before .before .before .before .before .before .before .before .before .before .before .before .before .before .before .args .counts)
+    (c .before .before .before .before .before .before .before .before .before .before .before .before .before .before .before .before .args .steps .now)
+    (c .before .before .before .before .before .before .before .before .before .before .before .before .before .before .before .before .args .i)
+    (c .before .before .before .before .before .before .before .before .before .before .before .before .before .before .before .before .args .t5)
+    (search needs) (c .before .before .before .before .before .before .before .before .before .before .before .before .before .before .before .before .args .depth)
+    (c .before .before .before .before .before .before .before .before .before .before .before .before .before .before .before .before .pre .1)
+    (c .before .before .before .before .before .before .before .before .before .before .before .before .before .if1 .left)
+    (c .before .before .before .before .before .before .before .before .before .before .before .if3 .left)
+    (c .before .before .before .before .before .before .before .before .before .if5 .taken)
+    (c .before .before .before .before .before .before .before .before .before .before .if4 .left) _ _
+    (c .before .before .before .before .before .before .generic .ensures ∙ ap
+    (λ o. internAt (c .before .before .before .before .before .before .before .before .before .before .before .before .before .before .before .before .args .sorts .now)
+    (c .before .before .before .before .before .before .before .before .before .before .before .before .before .before .before .before .args .counts .sorts)
+    (c .before .before .before .before .before .before .before .before .before .before .before .before .before .before .before .before .args .counts .entries)
+    (container o (look (trees
+    (c .before .before .before .before .before .before .before .before .before .before .before .before .before .before .before .before .args .sorts .now)
+    (c .before .before .before .before .before .before .before .before .before .before .before .before .before .before .before .before .args .counts .sorts))
+    (getD (c .before .before .before .before .before .before .before .before .before .before .before .before .before .before .before .before .args .t5)
+    (c .before .before .before .before .before .before .before .before .before .before .before .before .before .before .before .before .args .depth
+    - 1) 0)))) (c .before .before .before .before .before .before .before .operator .ensures)) _ _
+    (c .before .before .go-on .ensures))
     (λ c κs.
     let at-if4 = c .before .before in
     let at-if1 = at-if4 .before .before .before in

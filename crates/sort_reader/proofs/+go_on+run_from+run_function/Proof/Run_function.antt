@@ -175,11 +175,54 @@ part M t =
             (c .before .before .before .before .before .before .before .before .before .before .pre .1 .2))
             (c .before .before .before .before .before .before .if1 .left) _ _
             (c .before .before .before .function .ensures ∙ ap
-            (λ xs. internAt (c .before .before .before .before .before .before .before .before .before .before .args .sorts .now) (c .before .before .before .before .before .before .before .before .before .before .args .counts .sorts) (c .before .before .before .before .before .before .before .before .before .before .args .counts .entries) (function (lookAll (trees (c .before .before .before .before .before .before .before .before .before .before .args .sorts .now) (c .before .before .before .before .before .before .before .before .before .before .args .counts .sorts)) xs) (look (trees (c .before .before .before .before .before .before .before .before .before .before .args .sorts .now) (c .before .before .before .before .before .before .before .before .before .before .args .counts .sorts)) (getD (c .before .before .before .before .before .before .before .before .before .before .args .t5) (c .before .before .before .before .before .before .before .before .before .before .args .depth - 1) 0)))) (c .before .before .before .before .before .arguments .ensures)),
-        omega (arith, c .before .before .before .before .before .before .if1 .left, c .before .before .before .before .before .before .before .before .before .before .pre .1 .0 .room),
+            (λ xs. internAt (c .before .before .before .before .before .before .before .before .before .before .args .sorts .now)
+            (c .before .before .before .before .before .before .before .before .before .before .args .counts .sorts)
+            (c .before .before .before .before .before .before .before .before .before .before .args .counts .entries)
+            (function (lookAll (trees
+            (c .before .before .before .before .before .before .before .before .before .before .args .sorts .now)
+            (c .before .before .before .before .before .before .before .before .before .before .args .counts .sorts))
+            xs) (look (trees (c .before .before .before .before .before .before .before .before .before .before .args .sorts .now)
+            (c .before .before .before .before .before .before .before .before .before .before .args .counts .sorts))
+            (getD (c .before .before .before .before .before .before .before .before .before .before .args .t5)
+            (c .before .before .before .before .before .before .before .before .before .before .args .depth - 1)
+            0)))) (c .before .before .before .before .before .arguments .ensures)),
+        omega (
+          arith,
+          c .before .before .before .before .before .before .if1 .left,
+          c .before .before .before .before .before .before .before .before .before .before .pre .1 .0 .room,
+        ),
         c .before .before .before .before .before .before .before .before .before .before .pre .1 .1,
       ),
     ))
     (λ c. c .before .before .go-on .kept .0 ∙ c .before .before .before .before .before .before .function .kept .0)
     (λ c. way.function-gone-on
-    (c .before .before .before .before .before .before .before .before .before .before .before .before .before .args .sorts .now) (c .before .before .before .before .before .before .before .before .before .before .before .before .before .args .counts) (c .before .before .before .before .before .before .before .before .before .before .before .before .before .args .steps .now) (c .before .before .before .before .before .before .before .before .before .before .before .before .before .args .i) (c .before .before .before .before .before .before .before .before .before .before .before .before .before .args .t5) (search needs) (c .before .before .before .before .before .before .before .before .before .before .before .before .before .args .depth) (c .before .before .before .before .before .before .before .before .before .before .before .before .before .pre .1 .0) (c .before .before .before .before .before .before .before .before .before .before .before .before .before .pre .1 .1) (omega (arith, c .before .before .before .before .before .before .before .before .before .before .before .before .before .pre .1 .3, c .before .before .before .before .before .before .before .before .before .before .before .before .before .pre .1 .2)) (omega (arith, c .before .before .before .before .before .before .before .before .before .before .before .before .before .pre .1 .4)) _ (c .before .before .before .before .before .before .before .before .before .before .argument-count .ensures ∙ ap argumentsOf (c .before .before .before .before .before .before .before .before .before .before .before .before .before .pre .1 .2)) (c .before .before .before .before .before .before .before .before .before .if1 .left) _ _ (c .before .before .before .before .before .before .function .ensures ∙ ap (λ xs. internAt (c .before .before .before .before .before .before .before .before .before .before .before .before .before .args .sorts .now) (c .before .before .before .before .before .before .before .before .before .before .before .before .before .args .counts .sorts) (c .before .before .before .before .before .before .before .before .before .before .before .before .before .args .counts .entries) (function (lookAll (trees (c .before .before .before .before .before .before .before .before .before .before .before .before .before .args .sorts .now) (c .before .before .before .before .before .before .before .before .before .before .before .before .before .args .counts .sorts)) xs) (look (trees (c .before .before .before .before .before .before .before .before .before .before .before .before .before .args .sorts .now) (c .before .before .before .before .before .before .before .before .before .before .before .before .before .args .counts .sorts)) (getD (c .before .before .before .before .before .before .before .before .before .before .before .before .before .args .t5) (c .before .before .before .before .before .before .before .before .before .before .before .before .before .args .depth - 1) 0)))) (c .before .before .before .before .before .before .before .before .arguments .ensures)) _ _ (c .before .before .go-on .ensures))
+    (c .before .before .before .before .before .before .before .before .before .before .before .before .before .args .sorts .now)
+    (c .before .before .before .before .before .before .before .before .before .before .before .before .before .args .counts)
+    (c .before .before .before .before .before .before .before .before .before .before .before .before .before .args .steps .now)
+    (c .before .before .before .before .before .before .before .before .before .before .before .before .before .args .i)
+    (c .before .before .before .before .before .before .before .before .before .before .before .before .before .args .t5)
+    (search needs) (c .before .before .before .before .before .before .before .before .before .before .before .before .before .args .depth)
+    (c .before .before .before .before .before .before .before .before .before .before .before .before .before .pre .1 .0)
+    (c .before .before .before .before .before .before .before .before .before .before .before .before .before .pre .1 .1)
+    (omega (
+      arith,
+      c .before .before .before .before .before .before .before .before .before .before .before .before .before .pre .1 .3,
+      c .before .before .before .before .before .before .before .before .before .before .before .before .before .pre .1 .2,
+    ))
+    (omega (arith, c .before .before .before .before .before .before .before .before .before .before .before .before .before .pre .1 .4))
+    _ (c .before .before .before .before .before .before .before .before .before .before .argument-count .ensures
+    ∙ ap argumentsOf (c .before .before .before .before .before .before .before .before .before .before .before .before .before .pre .1 .2))
+    (c .before .before .before .before .before .before .before .before .before .if1 .left) _ _
+    (c .before .before .before .before .before .before .function .ensures ∙ ap
+    (λ xs. internAt (c .before .before .before .before .before .before .before .before .before .before .before .before .before .args .sorts .now)
+    (c .before .before .before .before .before .before .before .before .before .before .before .before .before .args .counts .sorts)
+    (c .before .before .before .before .before .before .before .before .before .before .before .before .before .args .counts .entries)
+    (function (lookAll (trees
+    (c .before .before .before .before .before .before .before .before .before .before .before .before .before .args .sorts .now)
+    (c .before .before .before .before .before .before .before .before .before .before .before .before .before .args .counts .sorts))
+    xs) (look (trees (c .before .before .before .before .before .before .before .before .before .before .before .before .before .args .sorts .now)
+    (c .before .before .before .before .before .before .before .before .before .before .before .before .before .args .counts .sorts))
+    (getD (c .before .before .before .before .before .before .before .before .before .before .before .before .before .args .t5)
+    (c .before .before .before .before .before .before .before .before .before .before .before .before .before .args .depth
+    - 1) 0)))) (c .before .before .before .before .before .before .before .before .arguments .ensures)) _ _
+    (c .before .before .go-on .ensures))
