@@ -1,13 +1,13 @@
 #!/bin/bash
-# Counts the trusted text: lines of crates/*/specs/**/*.antt without blank lines and comments, by the headings of
+# Counts the trusted text: lines of definitions in crates/*/specs/**/*.antt, without blank lines, comments and imports, by the headings of
 # crates.txt; what stands in specs/Inner, which only inner contracts cite, apart. Prints a table.
 # usage: docs/trusted.sh [--write]
 #   --write   puts the table into README.md, between the marks `<!-- trusted -->` and `<!-- end -->`
 set -euo pipefail
 cd "$(dirname "$0")/.."
 
-# Lines that are neither blank nor comments, of the files on standard input.
-lines() { xargs -r cat | sed '/^ *$/d; /^ *--/d' | wc -l; }
+# Lines that are neither blank, comments nor imports, of the files on standard input.
+lines() { xargs -r cat | sed '/^ *$/d; /^ *--/d; /^use /d; /^pub mod /d' | wc -l; }
 
 row() { printf '| %s | %s | %s | %s |\n' "$@"; }
 

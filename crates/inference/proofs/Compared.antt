@@ -90,30 +90,22 @@ cases =
     )
     -- Sub first
     ∷ (
-      given [] [] (fourWords 14 0 0 0 (fourWords 14 1 0 0 [])) [] (65535 ∷ 65535 ∷ []) (1024 ∷ 1025 ∷ []) []
-          (rowSub 1024 1025 (rowDisjunction 0 1024 0 2 (rowDisjunction 1 1025 2 2 []))) (2 ∷ 2 ∷ 2 ∷ 2 ∷ 1 ∷ 1 ∷ 2 ∷ 3
-          ∷ 3 ∷ 2 ∷ 4 ∷ 4 ∷ []) [] 1,
+      given [] [] (fourWords 14 0 0 0 (fourWords 14 1 0 0 [])) [] (65535 ∷ 65535 ∷ []) (1024 ∷ 1025 ∷ []) [] (rowSub 1024 1025 (rowDisjunction 0 1024 0 2 (rowDisjunction 1 1025 2 2 []))) (2 ∷ 2 ∷ 2 ∷ 2 ∷ 1 ∷ 1 ∷ 2 ∷ 3 ∷ 3 ∷ 2 ∷ 4 ∷ 4 ∷ []) [] 1,
       outcome 17 [] [] [] [] [],
     )
     -- disjunctions first
     ∷ (
-      given [] [] (fourWords 14 0 0 0 (fourWords 14 1 0 0 [])) [] (65535 ∷ 65535 ∷ []) (1024 ∷ 1025 ∷ []) []
-          (rowDisjunction 0 1024 0 2 (rowDisjunction 1 1025 2 2 (rowSub 1024 1025 []))) (2 ∷ 2 ∷ 2 ∷ 2 ∷ 1 ∷ 1 ∷ 2 ∷ 3
-          ∷ 3 ∷ 2 ∷ 4 ∷ 4 ∷ []) [] 1,
+      given [] [] (fourWords 14 0 0 0 (fourWords 14 1 0 0 [])) [] (65535 ∷ 65535 ∷ []) (1024 ∷ 1025 ∷ []) [] (rowDisjunction 0 1024 0 2 (rowDisjunction 1 1025 2 2 (rowSub 1024 1025 []))) (2 ∷ 2 ∷ 2 ∷ 2 ∷ 1 ∷ 1 ∷ 2 ∷ 3 ∷ 3 ∷ 2 ∷ 4 ∷ 4 ∷ []) [] 1,
       outcome 0 (expr 2 2 2 (expr 3 2 3 [])) (1 ∷ []) (choice 0 0 (choice 1 0 [])) [] [],
     )
     -- made in a dropped branch
     ∷ (
-      given (fourWords 8 1 0 0 []) [] (fourWords 14 0 0 0 (fourWords 14 1 0 0 [])) [] (65535 ∷ 65535 ∷ [])
-          (1024 ∷ 1025 ∷ []) [] (rowDisjunction 0 1024 0 2 (rowSub 6 1025 (rowSub 1024 3 []))) (2 ∷ 3 ∷ 3 ∷ 2 ∷ 2 ∷ 2
-          ∷ []) [] 1,
+      given (fourWords 8 1 0 0 []) [] (fourWords 14 0 0 0 (fourWords 14 1 0 0 [])) [] (65535 ∷ 65535 ∷ []) (1024 ∷ 1025 ∷ []) [] (rowDisjunction 0 1024 0 2 (rowSub 6 1025 (rowSub 1024 3 []))) (2 ∷ 3 ∷ 3 ∷ 2 ∷ 2 ∷ 2 ∷ []) [] 1,
       outcome 0 (expr 3 2 3 (expr 6 0 0 [])) (0 ∷ 0 ∷ []) (choice 0 0 []) (fourWords 7 1 0 0 []) [],
     )
     -- nothing dropped between a Join's sources
     ∷ (
-      given (fourWords 8 3 0 0 (fourWords 11 3 0 1 (fourWords 11 6 1 1 []))) (3 ∷ 2 ∷ []) (fourWords 14 0 0 0
-          (fourWords 14 1 0 0 (fourWords 11 1025 0 1 []))) (1024 ∷ []) (65535 ∷ 65535 ∷ []) (1026 ∷ []) []
-          (rowDisjunction 0 1026 0 2 (rowJoin 3 0 2 [])) (1 ∷ 0 ∷ 7 ∷ 1 ∷ 0 ∷ 8 ∷ []) (1024 ∷ 1025 ∷ []) 1,
+      given (fourWords 8 3 0 0 (fourWords 11 3 0 1 (fourWords 11 6 1 1 []))) (3 ∷ 2 ∷ []) (fourWords 14 0 0 0 (fourWords 14 1 0 0 (fourWords 11 1025 0 1 []))) (1024 ∷ []) (65535 ∷ 65535 ∷ []) (1026 ∷ []) [] (rowDisjunction 0 1026 0 2 (rowJoin 3 0 2 [])) (1 ∷ 0 ∷ 7 ∷ 1 ∷ 0 ∷ 8 ∷ []) (1024 ∷ 1025 ∷ []) 1,
       outcome 0 (expr 7 1 0 []) (0 ∷ 0 ∷ []) (choice 0 0 []) (fourWords 7 3 0 0 []) [],
     )
     -- comprehension makes both
@@ -123,14 +115,12 @@ cases =
     )
     -- Join with an open second source
     ∷ (
-      given [] [] (fourWords 14 0 0 0 (fourWords 6 3 0 0 (fourWords 14 1 0 0 []))) [] (65535 ∷ 65535 ∷ []) (1024 ∷ [])
-          [] (rowJoin 1026 0 2 []) [] (1025 ∷ 1024 ∷ []) 1,
+      given [] [] (fourWords 14 0 0 0 (fourWords 6 3 0 0 (fourWords 14 1 0 0 []))) [] (65535 ∷ 65535 ∷ []) (1024 ∷ []) [] (rowJoin 1026 0 2 []) [] (1025 ∷ 1024 ∷ []) 1,
       outcome 0 (expr 6 0 0 []) (0 ∷ 0 ∷ []) [] (fourWords 6 3 0 0 []) [],
     )
     -- function source that stops inside
     ∷ (
-      given [] [] (fourWords 14 0 0 0 (fourWords 6 3 0 0 (fourWords 11 1 0 2 (fourWords 14 1 0 0 []))))
-          (1025 ∷ 1024 ∷ []) (65535 ∷ 65535 ∷ []) [] [] (rowJoin 1027 0 1 []) [] (1026 ∷ []) 1,
+      given [] [] (fourWords 14 0 0 0 (fourWords 6 3 0 0 (fourWords 11 1 0 2 (fourWords 14 1 0 0 [])))) (1025 ∷ 1024 ∷ []) (65535 ∷ 65535 ∷ []) [] [] (rowJoin 1027 0 1 []) [] (1026 ∷ []) 1,
       outcome 0 [] (0 ∷ []) [] (fourWords 6 3 0 0 []) [],
     )
     -- widening of a nested function
@@ -140,8 +130,7 @@ cases =
     )
     -- node room used again, room for one node entry
     ∷ (
-      given (fourWords 11 4 0 1 []) (1 ∷ []) (fourWords 14 0 0 0 []) (replicate 4095 0) (65535 ∷ []) (1024 ∷ []) []
-          (rowDisjunction 0 1024 0 2 (rowSub 6 1024 [])) (2 ∷ 1 ∷ 1 ∷ 2 ∷ 3 ∷ 3 ∷ []) [] 1,
+      given (fourWords 11 4 0 1 []) (1 ∷ []) (fourWords 14 0 0 0 []) (replicate 4095 0) (65535 ∷ []) (1024 ∷ []) [] (rowDisjunction 0 1024 0 2 (rowSub 6 1024 [])) (2 ∷ 1 ∷ 1 ∷ 2 ∷ 3 ∷ 3 ∷ []) [] 1,
       outcome 17 [] [] [] [] [],
     )
     -- a list on the left
@@ -151,14 +140,12 @@ cases =
     )
     -- Join of three
     ∷ (
-      given (fourWords 8 3 0 0 (fourWords 7 2 0 0 (fourWords 8 4 0 0 []))) [] (fourWords 14 0 0 0 []) [] (65535 ∷ [])
-          [] [] (rowJoin 1024 0 3 []) [] (6 ∷ 7 ∷ 8 ∷ []) 1,
+      given (fourWords 8 3 0 0 (fourWords 7 2 0 0 (fourWords 8 4 0 0 []))) [] (fourWords 14 0 0 0 []) [] (65535 ∷ []) [] [] (rowJoin 1024 0 3 []) [] (6 ∷ 7 ∷ 8 ∷ []) 1,
       outcome 17 [] [] [] (fourWords 7 3 0 0 (fourWords 7 4 0 0 [])) [],
     )
     -- a tie
     ∷ (
-      given [] [] (fourWords 14 0 0 0 (fourWords 6 1024 0 0 [])) [] (65535 ∷ []) (1025 ∷ []) [] (rowDisjunction 0 1024
-          0 2 []) (2 ∷ 3 ∷ 3 ∷ 2 ∷ 2 ∷ 2 ∷ []) [] 1,
+      given [] [] (fourWords 14 0 0 0 (fourWords 6 1024 0 0 [])) [] (65535 ∷ []) (1025 ∷ []) [] (rowDisjunction 0 1024 0 2 []) (2 ∷ 3 ∷ 3 ∷ 2 ∷ 2 ∷ 2 ∷ []) [] 1,
       outcome 18 [] [] [] (fourWords 6 3 0 0 []) [],
     )
     -- equality first
@@ -168,8 +155,7 @@ cases =
     )
     -- no list on the left
     ∷ (
-      given (fourWords 11 5 0 1 []) (1 ∷ []) (fourWords 14 0 0 0 (fourWords 11 1024 0 1 [])) (1 ∷ []) (65535 ∷ [])
-          (1024 ∷ []) [] (rowSub 1025 6 (rowDisjunction 0 1024 0 1 [])) (2 ∷ 4 ∷ 4 ∷ []) [] 1,
+      given (fourWords 11 5 0 1 []) (1 ∷ []) (fourWords 14 0 0 0 (fourWords 11 1024 0 1 [])) (1 ∷ []) (65535 ∷ []) (1024 ∷ []) [] (rowSub 1025 6 (rowDisjunction 0 1024 0 1 [])) (2 ∷ 4 ∷ 4 ∷ []) [] 1,
       outcome 0 (expr 4 2 4 []) (1 ∷ []) (choice 0 0 []) [] [],
     )
     -- entry list full
@@ -189,8 +175,7 @@ cases =
     )
     -- from the front
     ∷ (
-      given [] [] (fourWords 14 0 0 0 []) [] (65535 ∷ []) (1024 ∷ []) [] (rowDisjunction 0 1024 0 2
-          (rowSub 1024 3 (rowSub 2 1024 []))) (2 ∷ 2 ∷ 2 ∷ 2 ∷ 3 ∷ 3 ∷ []) [] 1,
+      given [] [] (fourWords 14 0 0 0 []) [] (65535 ∷ []) (1024 ∷ []) [] (rowDisjunction 0 1024 0 2 (rowSub 1024 3 (rowSub 2 1024 []))) (2 ∷ 2 ∷ 2 ∷ 2 ∷ 3 ∷ 3 ∷ []) [] 1,
       outcome 0 (expr 3 2 3 []) (0 ∷ 1 ∷ []) (choice 0 1 []) [] [],
     )
     -- literal on Bool
@@ -235,8 +220,7 @@ cases =
     )
     -- a tie that is beaten
     ∷ (
-      given [] [] (fourWords 14 0 0 0 []) [] (65535 ∷ []) (1024 ∷ []) [] (rowDisjunction 0 1024 0 3
-          (rowSub 1024 3 [])) (2 ∷ 2 ∷ 2 ∷ 2 ∷ 2 ∷ 2 ∷ 2 ∷ 3 ∷ 3 ∷ []) [] 1,
+      given [] [] (fourWords 14 0 0 0 []) [] (65535 ∷ []) (1024 ∷ []) [] (rowDisjunction 0 1024 0 3 (rowSub 1024 3 [])) (2 ∷ 2 ∷ 2 ∷ 2 ∷ 2 ∷ 2 ∷ 2 ∷ 3 ∷ 3 ∷ []) [] 1,
       outcome 0 (expr 3 2 3 []) (0 ∷ []) (choice 0 2 []) [] [],
     )
     -- no overloads
@@ -246,8 +230,7 @@ cases =
     )
     -- base name overwritten
     ∷ (
-      given [] [] (fourWords 14 0 0 0 []) [] (65535 ∷ []) (1024 ∷ 1 ∷ []) (0 ∷ 1 ∷ 0 ∷ 1 ∷ 3 ∷ 0 ∷ [])
-          (rowDisjunction 0 3 0 2 []) (2 ∷ 2 ∷ 2 ∷ 2 ∷ 3 ∷ 3 ∷ []) [] 1,
+      given [] [] (fourWords 14 0 0 0 []) [] (65535 ∷ []) (1024 ∷ 1 ∷ []) (0 ∷ 1 ∷ 0 ∷ 1 ∷ 3 ∷ 0 ∷ []) (rowDisjunction 0 3 0 2 []) (2 ∷ 2 ∷ 2 ∷ 2 ∷ 3 ∷ 3 ∷ []) [] 1,
       outcome 0 (expr 1 2 3 (expr 1 3 0 [])) [] (choice 0 1 []) [] [],
     )
     -- default inside
@@ -277,47 +260,32 @@ cases =
     )
     -- solve seed 1 size 2 number 3505
     ∷ (
-      given [] [] (fourWords 14 0 0 0 (fourWords 14 1 0 0 (fourWords 14 2 0 0 (fourWords 10 1024 0 0
-          (fourWords 14 3 0 0 (fourWords 14 4 0 0 [])))))) [] (5 ∷ 2 ∷ 65535 ∷ 65535 ∷ 65535 ∷ []) [] []
-          (rowJoin 1027 0 2 (rowSub 1027 1027 (rowComprehension 1029 1028 1 []))) [] (1027 ∷ 1027 ∷ []) 3,
+      given [] [] (fourWords 14 0 0 0 (fourWords 14 1 0 0 (fourWords 14 2 0 0 (fourWords 10 1024 0 0 (fourWords 14 3 0 0 (fourWords 14 4 0 0 [])))))) [] (5 ∷ 2 ∷ 65535 ∷ 65535 ∷ 65535 ∷ []) [] [] (rowJoin 1027 0 2 (rowSub 1027 1027 (rowComprehension 1029 1028 1 []))) [] (1027 ∷ 1027 ∷ []) 3,
       outcome 18 [] [] [] (fourWords 10 5 0 0 (fourWords 7 1 0 0 (fourWords 9 1 0 0 []))) [],
     )
     -- solve seed 1 size 2 number 8934
     ∷ (
-      given (fourWords 10 3 0 0 []) [] (fourWords 14 0 0 0 (fourWords 14 1 0 0 (fourWords 14 2 0 0 (fourWords 11 1025
-          0 3 (fourWords 11 1027 3 1 (fourWords 8 1024 0 0 [])))))) (1 ∷ 3 ∷ 1025 ∷ 1024 ∷ []) (2 ∷ 65535 ∷ 65535 ∷
-          []) (3 ∷ 1024 ∷ []) (0 ∷ 3 ∷ 0 ∷ []) (rowLit 1026 0 (rowJoin 1029 0 1 (rowJoin 1026 1 1 []))) []
-          (1029 ∷ 3 ∷ []) 1,
+      given (fourWords 10 3 0 0 []) [] (fourWords 14 0 0 0 (fourWords 14 1 0 0 (fourWords 14 2 0 0 (fourWords 11 1025 0 3 (fourWords 11 1027 3 1 (fourWords 8 1024 0 0 [])))))) (1 ∷ 3 ∷ 1025 ∷ 1024 ∷ []) (2 ∷ 65535 ∷ 65535 ∷ []) (3 ∷ 1024 ∷ []) (0 ∷ 3 ∷ 0 ∷ []) (rowLit 1026 0 (rowJoin 1029 0 1 (rowJoin 1026 1 1 []))) [] (1029 ∷ 3 ∷ []) 1,
       outcome 0 (expr 3 3 0 (expr 2 0 0 [])) (1 ∷ 0 ∷ 0 ∷ []) [] (fourWords 8 2 0 0 []) [],
     )
     -- join seed 1 size 2 number 836
     ∷ (
-      given (fourWords 12 65535 0 0 (fourWords 12 1 0 0 [])) [] (fourWords 8 6 0 0 (fourWords 14 1 0 0 [])) []
-          (65535 ∷ 65535 ∷ []) (1024 ∷ 1025 ∷ 5 ∷ 1025 ∷ []) (1 ∷ 2 ∷ 7 ∷ []) (rowDisjunction 1 1025 0 2
-          (rowSub 2 1025 (rowJoin 1024 0 2 (rowSub 1025 2 [])))) (2 ∷ 3 ∷ 3 ∷ 2 ∷ 2 ∷ 2 ∷ []) (1024 ∷ 1024 ∷ []) 1,
+      given (fourWords 12 65535 0 0 (fourWords 12 1 0 0 [])) [] (fourWords 8 6 0 0 (fourWords 14 1 0 0 [])) [] (65535 ∷ 65535 ∷ []) (1024 ∷ 1025 ∷ 5 ∷ 1025 ∷ []) (1 ∷ 2 ∷ 7 ∷ []) (rowDisjunction 1 1025 0 2 (rowSub 2 1025 (rowJoin 1024 0 2 (rowSub 1025 2 [])))) (2 ∷ 3 ∷ 3 ∷ 2 ∷ 2 ∷ 2 ∷ []) (1024 ∷ 1024 ∷ []) 1,
       outcome 0 (expr 8 0 0 (expr 2 2 2 (expr 5 0 0 (expr 2 0 0 [])))) (0 ∷ 0 ∷ 0 ∷ 0 ∷ []) (choice 1 1 []) (fourWords 8 6 0 0 []) [],
     )
     -- join seed 1 size 2 number 10868
     ∷ (
-      given [] [] (fourWords 14 0 0 0 (fourWords 14 1 0 0 (fourWords 14 2 0 0 (fourWords 14 3 0 0 (fourWords 11 1024 0
-          1 (fourWords 7 5 0 0 (fourWords 10 1025 0 0 (fourWords 14 4 0 0 [])))))))) (1025 ∷ [])
-          (65535 ∷ 65535 ∷ 65535 ∷ 65535 ∷ 65535 ∷ []) (5 ∷ 1027 ∷ []) [] (rowComprehension 1027 1031 4
-          (rowJoin 1029 0 1 (rowSub 1030 1030 (rowJoin 1026 1 3 [])))) [] (1029 ∷ 1027 ∷ 3 ∷ 4 ∷ []) 1,
+      given [] [] (fourWords 14 0 0 0 (fourWords 14 1 0 0 (fourWords 14 2 0 0 (fourWords 14 3 0 0 (fourWords 11 1024 0 1 (fourWords 7 5 0 0 (fourWords 10 1025 0 0 (fourWords 14 4 0 0 [])))))))) (1025 ∷ []) (65535 ∷ 65535 ∷ 65535 ∷ 65535 ∷ 65535 ∷ []) (5 ∷ 1027 ∷ []) [] (rowComprehension 1027 1031 4 (rowJoin 1029 0 1 (rowSub 1030 1030 (rowJoin 1026 1 3 [])))) [] (1029 ∷ 1027 ∷ 3 ∷ 4 ∷ []) 1,
       outcome 0 (expr 5 0 0 (expr 3 0 0 [])) (0 ∷ 0 ∷ 1 ∷ 1 ∷ 0 ∷ []) [] (fourWords 7 4 0 0 (fourWords 7 5 0 0 (fourWords 9 4 0 0 []))) [],
     )
     -- choice seed 1 size 2 number 2767
     ∷ (
-      given [] [] (fourWords 14 0 0 0 (fourWords 14 1 0 0 (fourWords 10 0 0 0 (fourWords 14 2 0 0 (fourWords 14 3 0 0
-          []))))) [] (65535 ∷ 65535 ∷ 65535 ∷ 1024 ∷ []) (1024 ∷ 1028 ∷ []) (0 ∷ 3 ∷ 0 ∷ []) (rowDisjunction 0 1024 0
-          1 (rowComprehension 2 1027 3 (rowDisjunction 1 1028 1 2 (rowSub 1028 5 (rowSub 1027 1027 [])))))
-          (2 ∷ 1 ∷ 1024 ∷ 2 ∷ 3 ∷ 3 ∷ 2 ∷ 2 ∷ 2 ∷ []) [] 5,
+      given [] [] (fourWords 14 0 0 0 (fourWords 14 1 0 0 (fourWords 10 0 0 0 (fourWords 14 2 0 0 (fourWords 14 3 0 0 []))))) [] (65535 ∷ 65535 ∷ 65535 ∷ 1024 ∷ []) (1024 ∷ 1028 ∷ []) (0 ∷ 3 ∷ 0 ∷ []) (rowDisjunction 0 1024 0 1 (rowComprehension 2 1027 3 (rowDisjunction 1 1028 1 2 (rowSub 1028 5 (rowSub 1027 1027 []))))) (2 ∷ 1 ∷ 1024 ∷ 2 ∷ 3 ∷ 3 ∷ 2 ∷ 2 ∷ 2 ∷ []) [] 5,
       outcome 0 (expr 3 2 1 (expr 3 2 3 [])) (2 ∷ 0 ∷ []) (choice 0 0 (choice 1 0 [])) (fourWords 7 3 0 0 (fourWords 9 3 0 0 [])) [],
     )
     -- entries seed 1 size 2 number 3872
     ∷ (
-      given (fourWords 11 5 0 0 (fourWords 11 2 0 2 (fourWords 6 2 0 0 (fourWords 10 1 0 0 [])))) (2 ∷ 2 ∷ [])
-          (fourWords 14 0 0 0 (fourWords 14 1 0 0 (fourWords 11 1024 0 1 []))) (1025 ∷ (replicate 4094 0))
-          (65535 ∷ 65535 ∷ []) (0 ∷ 1024 ∷ 1024 ∷ []) [] (rowSub 7 2 []) [] [] 1,
+      given (fourWords 11 5 0 0 (fourWords 11 2 0 2 (fourWords 6 2 0 0 (fourWords 10 1 0 0 [])))) (2 ∷ 2 ∷ []) (fourWords 14 0 0 0 (fourWords 14 1 0 0 (fourWords 11 1024 0 1 []))) (1025 ∷ (replicate 4094 0)) (65535 ∷ 65535 ∷ []) (0 ∷ 1024 ∷ 1024 ∷ []) [] (rowSub 7 2 []) [] [] 1,
       outcome 16 [] [] [] [] [],
     )
     ∷ []

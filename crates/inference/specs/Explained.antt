@@ -16,9 +16,8 @@ use Rattle.inference.specs.Names.{nameOf, nameKind, nameSort}
 use Rattle.inference.specs.SolveEntry.{problemOf, baseNamesOf, lentOf, SolveLeft, sortsOut, measureOut}
 use Rattle.inference.specs.SolveEntry.{choicesOut}
 
--- What a typing comes with: one assignment under which it holds together, and under which its components are those
--- of its constraints; and the names in
--- its rows.
+-- One assignment under which a typing holds together, and under which its components are those of its constraints;
+-- and the names in its rows.
 pub record Explained (I : Call) (L : SolveLeft) (o : Outputs) : Type 0 where
   pub assignment : Assignment
   pub bound : (v q : ℕ) → binding (bindsOf (I .binds) (I .lengths .variables)) v ≡ some q

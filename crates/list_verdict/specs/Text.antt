@@ -66,7 +66,8 @@ measureLine ms m = measureText ++ (rowsText (component ms) m 0 ++ bytesOf "]\n")
 
 -- `choices e1 0, e4 2`, `choices none`
 unfoldable pub choiceText : List ℕ → ℕ → List ℕ
-choiceText cs i = separator i ++ (name (byteOf "e") (getD cs (2 * i) 0) ++ (bytesOf " " ++ decimal (getD cs (2 * i + 1) 0)))
+choiceText cs i =
+    separator i ++ (name (byteOf "e") (getD cs (2 * i) 0) ++ (bytesOf " " ++ decimal (getD cs (2 * i + 1) 0)))
 
 unfoldable pub choiceList : List ℕ → ℕ → List ℕ
 choiceList cs m = cond (eqb m 0) noChoicesText (rowsText (choiceText cs) m 0)

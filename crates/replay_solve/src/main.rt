@@ -3,8 +3,8 @@
 // how many answers it checked and how many lines differ. The answers are those of questions, one for each list, and the
 // lines of words left. The lines have the form that the crate recorded_solve states.
 //
-// Its file stdin is a copy, byte for byte, of oracle/recorded/solve-words.txt, with the answers of the excerpt of merc:
-// `cp oracle/recorded/solve-words.txt crates/replay_solve/stdin`. Its first lines say how they were made.
+// Its file stdin has the answers of the excerpt of merc. Its first lines say how they were made, and
+// `oracle/compare.sh solve` makes them again and compares.
 use line_input::LineFound;
 use line_input::next_line;
 use line_input::no_input;

@@ -2,9 +2,8 @@
 // answer differs, with the answer that it got, and each line that is not of the form, and at the end it says how many
 // answers it checked and how many lines differ.
 //
-// Its file stdin is a copy, byte for byte, of oracle/recorded/sorts.txt, the recorded answers of the excerpt of merc:
-// `cp oracle/recorded/sorts.txt crates/replay_sorts/stdin`. Its first lines say how they were made, and the lines have
-// the form that the crate replay states.
+// Its file stdin has the recorded answers of the excerpt of merc. Its first lines say how they were made, and
+// `oracle/compare.sh sorts` makes them again and compares; the lines have the form that the crate recorded_sorts states.
 use line_input::LineFound;
 use line_input::next_line;
 use line_input::no_input;

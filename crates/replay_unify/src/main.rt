@@ -2,9 +2,8 @@
 // each line whose answer or whose bindings differ and each line that is not of the form, and at the
 // end it says how many answers it checked and how many lines differ.
 //
-// Its file stdin is a copy, byte for byte, of oracle/recorded/unify.txt, with the answers of the excerpt of merc and
-// the bindings of a model of document 01: `cp oracle/recorded/unify.txt crates/replay_unify/stdin`. Its first lines say
-// how they were made.
+// Its file stdin has the answers of the excerpt of merc and the bindings of a model of document 01. Its first lines say
+// how they were made, and `oracle/compare.sh unify` makes them again and compares.
 use line_input::LineFound;
 use line_input::next_line;
 use line_input::no_input;
