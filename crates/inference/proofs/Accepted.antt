@@ -35,7 +35,7 @@ use Rattle.inference.specs.SolveChecks.{joinsFine, components as compone
 use Rattle.inference.specs.SolveEntry.{problemOf, lentOf, SolveLeft, searched, refused, verdict, nothingMet, solveEntry}
 use Rattle.inference.specs.Typing.{All}
 use Rattle.inference.proofs.Members.{length-rows, all-rows, row-at, all-rows-at, run-at}
-use Rattle.inference.specs.Inner.Listed.{Listed, sub-listed, lit-listed, disjunction-listed, comprehension-listed, join-listed}
+use Rattle.inference.specs.Inner.Listed.{ListedConstraint, sub-listed, lit-listed, disjunction-listed, comprehension-listed, join-listed}
 
 -- a refusal is the code of a check, and these are not 0
 abbrev above0 : List Check → Bool
@@ -88,7 +88,7 @@ module _ (I : Call) where
             (run .count) (λ j. placed I (getD (I .sources) (run .start + j) 0)) (x .1) j l)),
       )
 
-  listed-by : (b : ℕ) (c : Constraint) → constraintFine I b c ≡ true → Listed W P c
+  listed-by : (b : ℕ) (c : Constraint) → constraintFine I b c ≡ true → ListedConstraint W P c
   listed-by b (Sub l r) f = let x = and-eq-true-iff (placed I (l .0)) (placed I (r .0)) .0 f in sub-listed l r (x .0) (x .1)
   listed-by b (Lit p kind) f = lit-listed p kind (and-eq-true-iff (placed I (p .0)) (leb b 1) .0 f .0)
   listed-by b (Disjunction x p run) f =
@@ -104,7 +104,7 @@ module _ (I : Call) where
       let y = sources-placed run (x .1) in
       join-listed run t (x .0) (y .0) (y .1)
 
-  constraint-listed : constraintsFine I ≡ true → (j : ℕ) → j < I .rows .constraints → Listed W P (constraintAt (I .constraints) j)
+  constraint-listed : constraintsFine I ≡ true → (j : ℕ) → j < I .rows .constraints → ListedConstraint W P (constraintAt (I .constraints) j)
   unfolding constraintsFine
   constraint-listed f j l =
       let x = below-each (I .rows .constraints) (λ i. leb (getD (I .constraints) (5 * i) 0) 4 && constraintFine I
@@ -187,7 +187,7 @@ module _ (I : Call) where
     pub six : fixedSix (I .sorts) (I .lengths .sorts) ≡ true
     pub default : I .default < I .lengths .sorts
     pub exprs : All (PlacedIn W) (P .exprs)
-    pub constraints : All (Listed W P) (P .constraints)
+    pub constraints : All (ListedConstraint W P) (P .constraints)
     pub one-disjunction-each : noTwo (disjunctions (P .constraints)) ≡ true
 
   pub accepted : firstFailing (solveChecks I) ≡ none → Accepted
@@ -207,7 +207,7 @@ module _ (I : Call) where
         default = ltb-true (I .default) (I .lengths .sorts) (c .default);
         exprs = all-rows-at (PlacedIn W) (λ i. getD (I .exprs) i 0) (I .rows .exprs) (λ j m. below-each
             (I .rows .exprs) (λ i. placed I (getD (I .exprs) i 0)) (e .0) j m);
-        constraints = all-rows-at (Listed W P) (constraintAt (I .constraints)) (I .rows .constraints) (constraint-listed (c .constraints));
+        constraints = all-rows-at (ListedConstraint W P) (constraintAt (I .constraints)) (I .rows .constraints) (constraint-listed (c .constraints));
         one-disjunction-each = and-eq-true-iff (noTwo (disjunctions (given I))) (noTwo (keys I)) .0 (c .one-each) .0;
       }
 

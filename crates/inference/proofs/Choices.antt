@@ -33,7 +33,7 @@ use Rattle.inference.specs.SolveEntry.{countsIn, typed, judgedBy, judged
 use Rattle.inference.specs.SolveEntry.{codeSolved, choicesOut}
 use Rattle.inference.proofs.Members.{not-in-nothing, in-cases, first-in, in-right}
 use Rattle.inference.proofs.HandedOut.{choices-read}
-use Rattle.inference.specs.Inner.Listed.{Listed, sub-listed, lit-listed, disjunction-listed, comprehension-listed, join-listed}
+use Rattle.inference.specs.Inner.Listed.{ListedConstraint, sub-listed, lit-listed, disjunction-listed, comprehension-listed, join-listed}
 use Rattle.inference.proofs.Accepted.{Accepted, refused-or-searched}
 use Rattle.inference.proofs.Branches.{newcomer, NoChoice, Chooses, Choosing, none-to-choose, and-chooses, widthOf, width, Goes, leaf-goes, search-goes}
 use Rattle.inference.specs.Named.{exprOf, choice, ChosenFor, Named}
@@ -76,7 +76,7 @@ module _ (Met : Type 0) (meet : Components → Met → Met) (P : Problem) (cs : 
       (λ e a. leaf-fits e (ap length (a .measure) ∙ a .many) (subst (Choosing cs) (sym (a .choices)) (a .fine)))
 
 -- as many components as check 11 counts, since the sources of each Join are in their list
-width-of-one : (W : Lent) (P : Problem) (c : Constraint) → Listed W P c → widthOf P c ≡ componentsOf c
+width-of-one : (W : Lent) (P : Problem) (c : Constraint) → ListedConstraint W P c → widthOf P c ≡ componentsOf c
 unfolding widthOf
 width-of-one W P _ (sub-listed l r x y) = refl
 width-of-one W P _ (lit-listed p kind x) = refl
@@ -90,7 +90,7 @@ width-of-one W P _ (join-listed run t x f a) = omega (
   length-drop (run .start) (P .sources),
 )
 
-pub width-is-components : (W : Lent) (P : Problem) (cs : List Constraint) → All (Listed W P) cs → width P cs ≡ components cs
+pub width-is-components : (W : Lent) (P : Problem) (cs : List Constraint) → All (ListedConstraint W P) cs → width P cs ≡ components cs
 unfolding width components
 width-is-components W P _ none-left = refl
 width-is-components W P _ (and-all c cs f a) = ap₂ _+_ (width-of-one W P c f) (width-is-components W P cs a)

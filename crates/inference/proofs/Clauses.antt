@@ -24,9 +24,9 @@ use Rattle.inference.specs.Search.{Choice}
 use Rattle.inference.specs.Names.{overloadIn}
 use Rattle.inference.specs.Typing.{Assignment, Has, admits, All, and-all, In, here, there, ReadAs, Into, Typed}
 use Rattle.inference.specs.Typing.{and-typed, Meets, meets-sub, meets-lit, meets-disjunction}
-use Rattle.inference.specs.Typing.{meets-comprehension, meets-join, Number, is-pos, is-nat, is-int, is-real}
+use Rattle.inference.specs.Typing.{meets-comprehension, meets-join, NumberSort, is-pos, is-nat, is-int, is-real}
 
-admitted-is-a-number : (kind : LitKind) (s : Sort) → admits kind s ≡ true → Number (flat (primitive s))
+admitted-is-a-number : (kind : LitKind) (s : Sort) → admits kind s ≡ true → NumberSort (flat (primitive s))
 admitted-is-a-number Positive Sort.Bool a = no-confusion cc
 admitted-is-a-number Natural Sort.Bool a = no-confusion cc
 admitted-is-a-number kind Sort.Pos a = is-pos
@@ -47,8 +47,8 @@ module _ (shape : ℕ → Shape) (look : ℕ → Tree) (P : Problem) (σ : Assig
         → materializable s t ≡ false → Meets shape look P ch σ (Sub l r) → ⊥
     sub-rules-out l r s t h g f (meets-sub _ _ u k i) = let q = one-sort (r .0) t u g k in not-into (l .0) s u h (rw q at f) i
 
-    pub literal-is-a-number : (p : InferSortId) (kind : LitKind) (t : Tree) → Has shape σ (p .0) t → Meets shape look P ch σ (Lit p kind) → Number t
-    literal-is-a-number p kind t h (meets-lit _ _ s g a) = subst Number (one-sort (p .0) (flat (primitive s)) t g h) (admitted-is-a-number kind s a)
+    pub literal-is-a-number : (p : InferSortId) (kind : LitKind) (t : Tree) → Has shape σ (p .0) t → Meets shape look P ch σ (Lit p kind) → NumberSort t
+    literal-is-a-number p kind t h (meets-lit _ _ s g a) = subst NumberSort (one-sort (p .0) (flat (primitive s)) t g h) (admitted-is-a-number kind s a)
 
     -- Bool for a literal
     pub literal-is-not-bool : (p : InferSortId) (kind : LitKind) → Has shape σ (p .0) (flat (primitive Sort.Bool)) → Meets shape look P ch σ (Lit p kind) → ⊥

@@ -8,7 +8,7 @@ use borrow.Author.Tests.{leb-true}
 use Rattle.resolved_sort.proofs.Below.{and-left, and-right}
 use Rattle.inference.specs.Constraints.{maxExprs, maxConstraints, maxOverloads, maxSources}
 use Rattle.inference.specs.SolveChecks.{Call, rowsWithinLent}
-use Rattle.inference.specs.RowsLent.{RowsLent}
+use Rattle.inference.specs.Inner.RowsLent.{RowsLent}
 
 pub rows-lent : (I : Call) → rowsWithinLent I ≡ true → RowsLent I
 unfolding rowsWithinLent

@@ -25,10 +25,10 @@ use Rattle.inference.specs.Names as Names
 use Rattle.inference.specs.SolveChecks as SolveChecks
 use Rattle.inference.specs.SolveEntry as SolveEntry
 use Rattle.inference.specs.Situations.{solvedList, upTo, ranOf, ranList, rowSub, rowLit, rowDisjunction}
-use Rattle.inference.specs.Situations.{rowComprehension, rowJoin, oneVariable, listed, comprehended, functions}
+use Rattle.inference.specs.Situations.{rowComprehension, rowJoin, oneVariable, withItsList, comprehended, functions}
 use Rattle.inference.specs.Situations.{typedAs, cameTo, numberSort, Situation, situations}
 
 pub starred : map (map (λ (r : Situation). ranList (r .0))) situations ≡ map (map (λ (r : Situation). r .1)) situations
-unfolding solvedList upTo ranOf ranList rowSub rowLit rowDisjunction rowComprehension rowJoin oneVariable listed
+unfolding solvedList upTo ranOf ranList rowSub rowLit rowDisjunction rowComprehension rowJoin oneVariable withItsList
     comprehended functions typedAs cameTo numberSort situations
 starred = refl

@@ -23,7 +23,7 @@ use Rattle.inference.proofs.Joining.{joining-goes}
 use Rattle.inference.proofs.Leaf.{leaf-goes}
 use Rattle.inference.proofs.Widening.{widening-goes, sequence-goes}
 use Rattle.inference.proofs.Alternatives.{disjunction-goes, comprehension-goes, literal-goes}
-use Rattle.inference.specs.Inner.Listed.{Listed, sub-listed, lit-listed, disjunction-listed, comprehension-listed, join-listed}
+use Rattle.inference.specs.Inner.Listed.{ListedConstraint, sub-listed, lit-listed, disjunction-listed, comprehension-listed, join-listed}
 
 module _ (W₀ : Lent) (B₀ : Binds) (P : Problem) where
   -- what is met stays met when there are more choices
@@ -67,7 +67,7 @@ module _ (W₀ : Lent) (B₀ : Binds) (P : Problem) where
   Passed done ch ρ ms = Cost W₀ B₀ P ch ρ done ms
 
   module _ (c₀ : CheckedLent W₀) (six : fixedSix (W₀ .sorts) (W₀ .lengths .sorts) ≡ true) (Met : Type 0) (meet : Components → Met → Met) where
-    pub step-goes : (done : List Constraint) (c : Constraint) → Listed W₀ P c → (k : Going Met meet P)
+    pub step-goes : (done : List Constraint) (c : Constraint) → ListedConstraint W₀ P c → (k : Going Met meet P)
         → Goes W₀ B₀ P Met (Passed (done ++ (c ∷ []))) k → Goes W₀ B₀ P Met (Passed done) (step Met meet P c k)
     unfolding step
     step-goes done _ (sub-listed l r x y) k g =
@@ -104,7 +104,7 @@ module _ (W₀ : Lent) (B₀ : Binds) (P : Problem) where
         go false = g e w s f
 
     module _ (below : P .default < W₀ .lengths .sorts) (placed : All (PlacedIn W₀) (P .exprs)) where
-      pub solve-goes : (cs done : List Constraint) → done ++ cs ≡ P .constraints → All (Listed W₀ P) cs → Goes W₀ B₀ P Met (Passed done) (solve Met meet P cs)
+      pub solve-goes : (cs done : List Constraint) → done ++ cs ≡ P .constraints → All (ListedConstraint W₀ P) cs → Goes W₀ B₀ P Met (Passed done) (solve Met meet P cs)
       unfolding solve
       solve-goes [] done q l =
           unless-goes (leaf Met meet P) (Passed done)

@@ -1,2 +1,3 @@
 -- What only contracts of inner functions cite.
 pub mod Listed
+pub mod RowsLent

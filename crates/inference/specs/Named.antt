@@ -34,9 +34,8 @@ pub record ChosenFor (P : Problem) (bs : List BaseName) (ks : List Choice) (x : 
   pub only : (j : ℕ) → In (choice (x .0) j) ks → j ≡ position
   pub name : nameOf P bs ks (x .0) ≡ some (overloadIn (P .overloads) run position .target)
 
--- Measure and choices as handed out, ks being the choices: how many components and choices there are; the choices
--- in the order of the constraints, one for
--- each disjunction; and the names that they give.
+-- Measure and choices as handed out, ks being the choices: how many components and choices there are; the choices in
+-- the order of the constraints, one for each disjunction; and the names that they give.
 pub record Named (I : Call) (left : SolveLeft) (o : Outputs) (ks : List Choice) : Type 0 where
   pub measure : Components
   pub measure-handed-out : left .measure ≡ writtenOver measure (I .measure)

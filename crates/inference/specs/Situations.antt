@@ -9,12 +9,14 @@ use Rattle.resolved_sort.specs.Tree.{Tree, flat, primitive, function, no-args, 
 use Rattle.resolved_sort.specs.Tree as Tree
 use Rattle.resolved_sort.specs.Order as Order
 use Rattle.resolved_sort.specs.Interning as Interning
+use Rattle.resolved_sort.specs.Storage.{maxSorts, maxEntries, rowWords, entriesAt}
 use Rattle.resolved_sort.specs.Storage as Storage
 use Rattle.resolved_sort.specs.Entries.{treeAt}
 use Rattle.resolved_sort.specs.Entries as Entries
 use Rattle.resolved_sort.specs.Bounds as Bounds
 use Rattle.resolved_sort.specs.Checks as Checks
 use Rattle.unification.specs.Term as Term
+use Rattle.unification.specs.Nodes.{maxNodeEntries, nodeEntriesAt, freeWord}
 use Rattle.unification.specs.Nodes as Nodes
 use Rattle.unification.specs.NodeChecks as NodeChecks
 use Rattle.unification.specs.Acyclic as Acyclic
@@ -25,19 +27,19 @@ use Rattle.unification.specs.Related as Related
 use Rattle.unification.specs.Making as Making
 use Rattle.inference.specs.declared.Solved.{Solved}
 use Rattle.inference.specs.declared.Solved.the-variants.{Refused, NoRoom, NoTyping, Ambiguous, Typing}
+use Rattle.inference.specs.Constraints.{maxConstraints, maxComponents, constraintWords, overloadWords, nameWords}
 use Rattle.inference.specs.Constraints as Constraints
 use Rattle.inference.specs.Measure as Measure
 use Rattle.inference.specs.Search as Search
 use Rattle.inference.specs.Names as Names
-use Rattle.inference.specs.SolveChecks.{Call}
+use Rattle.inference.specs.SolveChecks.{Call, scratchWords, typingWords, choiceWords}
 use Rattle.inference.specs.SolveChecks as SolveChecks
 use Rattle.inference.specs.SolveEntry.{SolveLeft, solveEntry, codeSolved}
 use Rattle.inference.specs.SolveEntry as SolveEntry
 
 -- a list: sorts after the fixed six with their entries, nodes with their arguments, variables, expressions, base
--- names, constraints, overloads,
--- sources, default
-pub record Given : Type 0 where
+-- names, constraints, overloads, sources, default
+pub record GivenList : Type 0 where
   pub sorts : List ℕ
   pub entries : List ℕ
   pub nodes : List ℕ
@@ -57,20 +59,22 @@ abbrev pub six : List ℕ → List ℕ
 six ws = fourWords 0 0 0 0 (fourWords 1 0 0 0 (fourWords 2 0 0 0 (fourWords 3 0 0 0 (fourWords 4 0 0 0
     (fourWords 5 0 0 0 ws)))))
 
-abbrev pub storage : ℕ → List ℕ → List ℕ → List ℕ
-storage n rows entries = rows ++ (replicate (n - length rows) 0 ++ (entries ++ replicate (4096 - length entries) 0))
+-- rows, zeros up to where entries begin, entries, and zeros up to their ceiling
+abbrev pub storage : ℕ → ℕ → List ℕ → List ℕ → List ℕ
+storage begin most rows entries =
+    rows ++ (replicate (begin - length rows) 0 ++ (entries ++ replicate (most - length entries) 0))
 
-abbrev pub callOf : Given → Call
-callOf G =
+abbrev pub situationCall : GivenList → Call
+situationCall G =
     record {
-      sorts = storage 4096 (six (G .sorts)) (G .entries);
-      nodes = storage 8192 (G .nodes) (G .arguments);
+      sorts = storage entriesAt maxEntries (six (G .sorts)) (G .entries);
+      nodes = storage nodeEntriesAt maxNodeEntries (G .nodes) (G .arguments);
       binds = G .binds;
       lengths =
           record {
-            sorts = 6 + length (G .sorts) / 4;
+            sorts = 6 + length (G .sorts) / rowWords;
             entries = length (G .entries);
-            nodes = length (G .nodes) / 4;
+            nodes = length (G .nodes) / rowWords;
             arguments = length (G .arguments);
             variables = length (G .binds);
           };
@@ -82,20 +86,20 @@ callOf G =
       rows =
           record {
             exprs = length (G .exprs);
-            names = length (G .names) / 3;
-            constraints = length (G .constraints) / 5;
-            overloads = length (G .overloads) / 3;
+            names = length (G .names) / nameWords;
+            constraints = length (G .constraints) / constraintWords;
+            overloads = length (G .overloads) / overloadWords;
             sources = length (G .sources);
           };
       default = G .default;
-      scratch = replicate 4096 0;
-      typing = replicate (3 * length (G .exprs)) 0;
-      measure = replicate 256 0;
-      choices = replicate 512 0;
+      scratch = replicate scratchWords 0;
+      typing = replicate (typingWords * length (G .exprs)) 0;
+      measure = replicate maxComponents 0;
+      choices = replicate (choiceWords * maxConstraints) 0;
     }
 
 -- The outcome of a list. To unfold it is to unfold all that it is computed through.
-unfoldable pub solvedList : Given → SolveLeft
+unfoldable pub solvedList : GivenList → SolveLeft
 unfolding Checks.allBelow Checks.withinLent Checks.fixedSix Checks.partsBelow Checks.rowFine Checks.rowsFine
     Checks.noTwoEqual Checks.atCeiling Checks.firstFailing Tree.arity Tree.family Tree.level Tree.familyOp
     Tree.levelOp Tree.same Tree.sames Entries.stored Interning.look Interning.number Interning.member
@@ -118,8 +122,8 @@ unfolding Checks.allBelow Checks.withinLent Checks.fixedSix Checks.partsBelow Ch
     Measure.compare Measure.worse SolveChecks.allWithinLent SolveChecks.rowsWithinLent SolveChecks.outputsLong
     SolveChecks.targetFine SolveChecks.exprsFine SolveChecks.namesFine SolveChecks.overloadFine
     SolveChecks.constraintsFine SolveChecks.disjunctions SolveChecks.among SolveChecks.noTwo SolveChecks.joinsFine
-    SolveChecks.components SolveChecks.longEnough SolveChecks.solveChecks fourWords six storage callOf
-solvedList G = solveEntry (callOf G)
+    SolveChecks.components SolveChecks.longEnough SolveChecks.solveChecks fourWords six storage situationCall
+solvedList G = solveEntry (situationCall G)
 
 -- what a run came to: the code, and for a typing the sorts of the expressions and the measure
 pub record Ran : Type 0 where
@@ -149,18 +153,18 @@ ranOf L xs = record {
       (L .answer) xs .1;
 }
 
-abbrev pub ranList : Given → Ran
+abbrev pub ranList : GivenList → Ran
 ranList G = ranOf (solvedList G) (upTo (length (G .exprs)))
 
 abbrev pub free : ℕ
-free = 65535
+free = freeWord
 
--- the node of variable v; places of nodes start at 1,024
+-- the node of variable v; places of nodes come after those of sorts
 abbrev pub v0 : ℕ
-v0 = 1024
+v0 = maxSorts
 
 abbrev pub v1 : ℕ
-v1 = 1025
+v1 = maxSorts + 1
 
 abbrev pub bool : ℕ
 bool = 1
@@ -190,7 +194,7 @@ unfoldable pub rowJoin : ℕ → ℕ → ℕ → List ℕ → List ℕ
 rowJoin t start count cs = 4 ∷ t ∷ start ∷ count ∷ 0 ∷ cs
 
 -- one free expression with the variable 0, and constraints
-abbrev pub oneVariable : List ℕ → Given
+abbrev pub oneVariable : List ℕ → GivenList
 oneVariable cs =
     record {
       sorts = [];
@@ -207,8 +211,8 @@ oneVariable cs =
     }
 
 -- expressions v0 and List(v0)
-abbrev pub listed : List ℕ → Given
-listed cs =
+abbrev pub withItsList : List ℕ → GivenList
+withItsList cs =
     record {
       sorts = [];
       entries = [];
@@ -224,7 +228,7 @@ listed cs =
     }
 
 -- a free body and a free comprehension
-abbrev pub comprehended : List ℕ → Given
+abbrev pub comprehended : List ℕ → GivenList
 comprehended cs =
     record {
       sorts = [];
@@ -241,7 +245,7 @@ comprehended cs =
     }
 
 -- sorts 6 and 7 are Bool -> Pos and Bool -> Nat
-abbrev pub functions : List ℕ → Given
+abbrev pub functions : List ℕ → GivenList
 functions cs =
     record {
       sorts = fourWords 11 pos 0 1 (fourWords 11 nat 1 1 []);
@@ -268,7 +272,7 @@ numberSort s = flat (primitive s)
 
 -- a run and what document 01 says of it
 abbrev pub Situation : Type 0
-Situation = Given × Ran
+Situation = GivenList × Ran
 
 abbrev pub situations : List (List Situation)
 situations =
@@ -286,7 +290,7 @@ situations =
     -- "Sub Nat to Pos: 17."
     ∷ ((oneVariable (rowSub nat pos []), cameTo 17) ∷ [])
     -- "Sub v to List(v): 17."
-    ∷ ((listed (rowSub v0 v1 []), cameTo 17) ∷ [])
+    ∷ ((withItsList (rowSub v0 v1 []), cameTo 17) ∷ [])
     -- "Comprehension, free body: 18."
     ∷ ((comprehended (rowComprehension v0 v1 pos []), cameTo 18) ∷ [])
     -- "Disjunction of Nat and Pos: 18."

@@ -105,8 +105,8 @@ pub record HoldsTogether (shape : ℕ → Shape) (given left : ℕ → Tree) (co
       → In (record { expr = x; position = j }) choices → i ≡ j
 
 -- the sorts of numbers
-pub data Number : Tree → Type 0 where
-  is-pos : Number (flat (primitive Sort.Pos))
-  is-nat : Number (flat (primitive Sort.Nat))
-  is-int : Number (flat (primitive Sort.Int))
-  is-real : Number (flat (primitive Sort.Real))
+pub data NumberSort : Tree → Type 0 where
+  is-pos : NumberSort (flat (primitive Sort.Pos))
+  is-nat : NumberSort (flat (primitive Sort.Nat))
+  is-int : NumberSort (flat (primitive Sort.Int))
+  is-real : NumberSort (flat (primitive Sort.Real))

@@ -12,7 +12,7 @@ use Rattle.inference.specs.SolveEntry.{solveEntry, codeSolved}
 use Rattle.inference.specs.ListsLeft.{countsTold}
 use Rattle.inference.proofs.ListsLeft.{sorts-only-grow}
 use Rattle.text_out.specs.Within.{buffer, puts}
-use Rattle.text_out.specs.Inner.Within.{PutWithin}
+use Rattle.text_out.specs.Within.{PutWithin}
 use Rattle.list_verdict.specs.Text.{verdictLine, newLines, typingText}
 use Rattle.list_call.specs.Lists.{callCount, sortsIn, typingIn, measureIn, choicesIn, callOn}
 use Rattle.list_solve.specs.Inner.Asked.{ListAnswer, listAnswer, listAnswerOf}

@@ -4,13 +4,13 @@ use inference::MAX_COMPONENTS;
 use inference::Solved;
 use list_call::count_of;
 use list_call::length_of;
-use list_memory::CHOICE_WORDS;
+use list_memory::LIST_CHOICE_WORDS;
 use list_memory::LIST_CHOICES_AT;
 use list_memory::LIST_MEASURE_AT;
 use list_memory::LIST_SORTS_AT;
 use list_memory::LIST_TYPING_AT;
+use list_memory::LIST_TYPING_WORDS;
 use list_memory::LIST_WORDS;
-use list_memory::TYPING_WORDS;
 use list_solve::ask;
 use list_verdict::put_new_sorts;
 use list_verdict::put_typing;
@@ -22,7 +22,7 @@ ghost use Prim.Native.Nat.{_≤_};
 ghost use lib.ListN.{length};
 ghost use Rattle.inference.specs.SolveEntry.{solveEntry};
 ghost use Rattle.text_out.specs.Within.{buffer};
-ghost use Rattle.text_out.specs.Inner.Within.{PutWithin};
+ghost use Rattle.text_out.specs.Within.{PutWithin};
 ghost use Rattle.list_memory.specs.Memory.{rowsAt};
 ghost use Rattle.list_call.specs.Lists.{callOn};
 ghost use Rattle.list_answers.specs.Answer.{toldText, answerLeft};
@@ -108,17 +108,17 @@ pub fn answer(list: &[u16; LIST_WORDS], out: &mut [u8]) -> usize
     ensures { λ r. ⌜ buffer (now (out .exit)) r ≡ answerLeft (now (list .entry)) (now (out .entry)) ⌝ }
 {
     let mut sorts = [0u16; SORT_WORDS];
-    let mut typing = [0u16; TYPING_WORDS];
+    let mut typing = [0u16; LIST_TYPING_WORDS];
     let mut measure = [0u16; MAX_COMPONENTS];
-    let mut choices = [0u16; CHOICE_WORDS];
+    let mut choices = [0u16; LIST_CHOICE_WORDS];
     copy(&mut sorts, 0, list, LIST_SORTS_AT, SORT_WORDS);
-    copy(&mut typing, 0, list, LIST_TYPING_AT, TYPING_WORDS);
+    copy(&mut typing, 0, list, LIST_TYPING_AT, LIST_TYPING_WORDS);
     copy(&mut measure, 0, list, LIST_MEASURE_AT, MAX_COMPONENTS);
-    copy(&mut choices, 0, list, LIST_CHOICES_AT, CHOICE_WORDS);
+    copy(&mut choices, 0, list, LIST_CHOICES_AT, LIST_CHOICE_WORDS);
     let sorts_end = length_of(list, 0, SORT_WORDS, SORT_WORDS);
-    let typing_end = length_of(list, 9, TYPING_WORDS, TYPING_WORDS);
+    let typing_end = length_of(list, 9, LIST_TYPING_WORDS, LIST_TYPING_WORDS);
     let measure_end = length_of(list, 10, MAX_COMPONENTS, MAX_COMPONENTS);
-    let choices_end = length_of(list, 11, CHOICE_WORDS, CHOICE_WORDS);
+    let choices_end = length_of(list, 11, LIST_CHOICE_WORDS, LIST_CHOICE_WORDS);
     ask_and_tell(
         list,
         &mut sorts[..sorts_end],

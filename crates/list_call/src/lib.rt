@@ -3,19 +3,19 @@
 use inference::MAX_EXPRS;
 use inference::MAX_SOURCES;
 use inference::Solved;
-use list_memory::CONSTRAINT_WORDS;
 use list_memory::COUNTS_AT;
 use list_memory::COUNTS_TOLD_AT;
 use list_memory::DEFAULT_AT;
 use list_memory::LENT_AT;
 use list_memory::LENT_TOLD_AT;
+use list_memory::LIST_CONSTRAINT_WORDS;
 use list_memory::LIST_CONSTRAINTS_AT;
 use list_memory::LIST_EXPRS_AT;
+use list_memory::LIST_NAME_WORDS;
 use list_memory::LIST_NAMES_AT;
+use list_memory::LIST_OVERLOAD_WORDS;
 use list_memory::LIST_OVERLOADS_AT;
 use list_memory::LIST_SOURCES_AT;
-use list_memory::NAME_WORDS;
-use list_memory::OVERLOAD_WORDS;
 use list_memory::ROWS_AT;
 use solve_checks::Given;
 use solve_entries::solve;
@@ -122,9 +122,9 @@ pub fn solve_list(
         ⌝ }
 {
     let exprs = lend(list, LIST_EXPRS_AT, 3, 5, 1, MAX_EXPRS);
-    let names = lend(list, LIST_NAMES_AT, 4, 6, 3, NAME_WORDS);
-    let constraints = lend(list, LIST_CONSTRAINTS_AT, 5, 7, 5, CONSTRAINT_WORDS);
-    let overloads = lend(list, LIST_OVERLOADS_AT, 6, 8, 3, OVERLOAD_WORDS);
+    let names = lend(list, LIST_NAMES_AT, 4, 6, 3, LIST_NAME_WORDS);
+    let constraints = lend(list, LIST_CONSTRAINTS_AT, 5, 7, 5, LIST_CONSTRAINT_WORDS);
+    let overloads = lend(list, LIST_OVERLOADS_AT, 6, 8, 3, LIST_OVERLOAD_WORDS);
     let sources = lend(list, LIST_SOURCES_AT, 7, 9, 1, MAX_SOURCES);
     solve(
         sorts,

@@ -101,7 +101,7 @@ unfolding planned summary Items.inRange Items.isSortWord Items.isPlaceWord Items
     Lines.exprPlan Lines.nameRow Lines.namePlan Lines.defaultPlan Lines.subPlan Lines.litPlan Lines.comprehensionPlan
     Lines.disjunctionPlan Lines.overloadPlan Lines.joinPlan Lines.sourcesPlan Lines.entriesPlan Lines.constraintPlan
     Lines.padPlan Lines.countedBy Lines.countPlan Lines.lendPlan Lines.unusualPlan Lines.constraintsPlan Lines.planOf
-    Words.words Words.placeIn Words.keywordOf Tokens.decimalRead Tokens.numberRead Tokens.classOf
+    Words.words Words.positionIn Words.keywordOf Tokens.decimalRead Tokens.numberRead Tokens.classOf
     Tokens.nameToken Tokens.tokenOf Tokens.tokensFrom sameBytes run past skip
 lines-of-rows = refl
 
@@ -188,6 +188,6 @@ unfolding planned summary Items.inRange Items.isSortWord Items.isPlaceWord Items
     Lines.exprPlan Lines.nameRow Lines.namePlan Lines.defaultPlan Lines.subPlan Lines.litPlan Lines.comprehensionPlan
     Lines.disjunctionPlan Lines.overloadPlan Lines.joinPlan Lines.sourcesPlan Lines.entriesPlan Lines.constraintPlan
     Lines.padPlan Lines.countedBy Lines.countPlan Lines.lendPlan Lines.unusualPlan Lines.constraintsPlan Lines.planOf
-    Words.words Words.placeIn Words.keywordOf Tokens.decimalRead Tokens.numberRead Tokens.classOf
+    Words.words Words.positionIn Words.keywordOf Tokens.decimalRead Tokens.numberRead Tokens.classOf
     Tokens.nameToken Tokens.tokenOf Tokens.tokensFrom sameBytes run past skip
 lines-of-constraints = refl

@@ -74,11 +74,13 @@ use list_tokens::NUMBER;
 use list_tokens::SORT_NAME;
 use list_tokens::Tokens;
 use list_tokens::VAR_NAME;
+use resolved_sort::DEF_KIND;
 use resolved_sort::FUNCTION_KIND;
 use resolved_sort::MAX_SORTS;
 use unification::FIRST_NODE;
 use unification::FREE_WORD;
 use unification::MAX_VARS;
+use unification::VARIABLE_KIND;
 use words::word;
 ghost use mathlib.Core.Path.{_≡_};
 ghost use mathlib.Core.Bool.{true, false};
@@ -1050,11 +1052,7 @@ const VARS: u16 = MAX_VARS as u16;
 const NAMES: u16 = MAX_NAMES as u16;
 
 // Kinds of rows; the word of a container is so far above its kind. `pad` makes nodes `List Bool`.
-const DEF_KIND: u16 = 12;
-
 const TYPE_VAR_KIND: u16 = 13;
-
-const VARIABLE_KIND: u16 = 14;
 
 const LIST_KIND: u16 = 6;
 

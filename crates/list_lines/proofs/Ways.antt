@@ -13,7 +13,7 @@ use Rattle.list_messages.specs.Messages.{badText}
 use Rattle.list_reader.specs.Taking.{lineTaken}
 use Rattle.list_answers.specs.Answer.{answerLeft}
 use Rattle.text_out.specs.Within.{Buffer, buffer}
-use Rattle.text_out.specs.Inner.Within.{PutWithin}
+use Rattle.text_out.specs.Within.{PutWithin}
 use Rattle.text_out.proofs.Within.{put-none, put-as, put-then}
 use Rattle.list_lines.specs.declared.Said.{Said}
 use Rattle.list_lines.specs.Lines.{unaskedText, stageOf, printed, numbered, LineLeft, lineLeft, lineLeftBy, heardLine}

@@ -11,7 +11,7 @@ use text_out::put_text;
 ghost use mathlib.Core.Path.{_≡_};
 ghost use mathlib.Core.List.{_++_};
 ghost use Rattle.text_out.specs.Quoted.{bytesOf};
-ghost use Rattle.text_out.specs.Inner.Within.{PutWithin};
+ghost use Rattle.text_out.specs.Within.{PutWithin};
 ghost use Rattle.list_lines.specs.Lines.{unaskedText, stageOf, lineLeft, heardLine};
 
 // Where the output of a line ends in the buffer, and whether the line's number is to stand before it.

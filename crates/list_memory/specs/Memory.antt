@@ -5,8 +5,8 @@ use Prim.Native.Nat.{ℕ, _+_, _*_}
 use lib.ListN.{getD}
 use Rattle.resolved_sort.specs.Storage.{maxSorts, maxEntries, entriesAt, fullLength}
 use Rattle.unification.specs.Nodes.{maxNodes, maxNodeEntries, maxVars, nodeEntriesAt, fullNodes}
-use Rattle.inference.specs.Constraints.{maxExprs, maxConstraints, maxOverloads, maxSources, maxComponents}
-use Rattle.inference.specs.SolveChecks.{scratchWords}
+use Rattle.inference.specs.Constraints.{maxExprs, maxConstraints, maxOverloads, maxSources, maxComponents, constraintWords, overloadWords, nameWords}
+use Rattle.inference.specs.SolveChecks.{scratchWords, typingWords, choiceWords}
 use Rattle.list_memory.specs.declared.Heard.{Heard}
 
 -- the program holds so many base names
@@ -15,19 +15,19 @@ maxNames = 512
 
 -- how many words the slices have at their ceilings, where that is not the ceiling itself
 abbrev pub listNameWords : ℕ
-listNameWords = 3 * maxNames
+listNameWords = nameWords * maxNames
 
 abbrev pub listConstraintWords : ℕ
-listConstraintWords = 5 * maxConstraints
+listConstraintWords = constraintWords * maxConstraints
 
 abbrev pub listOverloadWords : ℕ
-listOverloadWords = 3 * maxOverloads
+listOverloadWords = overloadWords * maxOverloads
 
 abbrev pub listTypingWords : ℕ
-listTypingWords = 3 * maxExprs
+listTypingWords = typingWords * maxExprs
 
 abbrev pub listChoiceWords : ℕ
-listChoiceWords = 2 * maxConstraints
+listChoiceWords = choiceWords * maxConstraints
 
 -- where the slices begin
 abbrev pub listSortsAt : ℕ

@@ -1,11 +1,16 @@
 // A list of the text format (docs/FORMAT.md) as it is being read: which word of one array is what (specs/Memory.antt
 // says it too), and what comes of a line.
+use inference::CHOICE_WORDS;
+use inference::CONSTRAINT_WORDS;
 use inference::MAX_COMPONENTS;
 use inference::MAX_CONSTRAINTS;
 use inference::MAX_EXPRS;
 use inference::MAX_OVERLOADS;
 use inference::MAX_SOURCES;
+use inference::NAME_WORDS;
+use inference::OVERLOAD_WORDS;
 use inference::SCRATCH_WORDS;
+use inference::TYPING_WORDS;
 use resolved_sort::SORT_WORDS;
 use unification::MAX_VARS;
 use unification::NODE_WORDS;
@@ -94,15 +99,15 @@ pub enum Heard {
 pub const MAX_NAMES: usize = 512;
 
 // How many words the slices of a call have at their ceilings, where that is not the ceiling itself.
-pub const NAME_WORDS: usize = 3 * MAX_NAMES;
+pub const LIST_NAME_WORDS: usize = NAME_WORDS * MAX_NAMES;
 
-pub const CONSTRAINT_WORDS: usize = 5 * MAX_CONSTRAINTS;
+pub const LIST_CONSTRAINT_WORDS: usize = CONSTRAINT_WORDS * MAX_CONSTRAINTS;
 
-pub const OVERLOAD_WORDS: usize = 3 * MAX_OVERLOADS;
+pub const LIST_OVERLOAD_WORDS: usize = OVERLOAD_WORDS * MAX_OVERLOADS;
 
-pub const TYPING_WORDS: usize = 3 * MAX_EXPRS;
+pub const LIST_TYPING_WORDS: usize = TYPING_WORDS * MAX_EXPRS;
 
-pub const CHOICE_WORDS: usize = 2 * MAX_CONSTRAINTS;
+pub const LIST_CHOICE_WORDS: usize = CHOICE_WORDS * MAX_CONSTRAINTS;
 
 // Where the slices of a call begin, one behind the other.
 pub const LIST_SORTS_AT: usize = 0;
@@ -115,19 +120,19 @@ pub const LIST_EXPRS_AT: usize = LIST_BINDS_AT + MAX_VARS;
 
 pub const LIST_NAMES_AT: usize = LIST_EXPRS_AT + MAX_EXPRS;
 
-pub const LIST_CONSTRAINTS_AT: usize = LIST_NAMES_AT + NAME_WORDS;
+pub const LIST_CONSTRAINTS_AT: usize = LIST_NAMES_AT + LIST_NAME_WORDS;
 
-pub const LIST_OVERLOADS_AT: usize = LIST_CONSTRAINTS_AT + CONSTRAINT_WORDS;
+pub const LIST_OVERLOADS_AT: usize = LIST_CONSTRAINTS_AT + LIST_CONSTRAINT_WORDS;
 
-pub const LIST_SOURCES_AT: usize = LIST_OVERLOADS_AT + OVERLOAD_WORDS;
+pub const LIST_SOURCES_AT: usize = LIST_OVERLOADS_AT + LIST_OVERLOAD_WORDS;
 
 pub const LIST_TYPING_AT: usize = LIST_SOURCES_AT + MAX_SOURCES;
 
-pub const LIST_MEASURE_AT: usize = LIST_TYPING_AT + TYPING_WORDS;
+pub const LIST_MEASURE_AT: usize = LIST_TYPING_AT + LIST_TYPING_WORDS;
 
 pub const LIST_CHOICES_AT: usize = LIST_MEASURE_AT + MAX_COMPONENTS;
 
-pub const LIST_SCRATCH_AT: usize = LIST_CHOICES_AT + CHOICE_WORDS;
+pub const LIST_SCRATCH_AT: usize = LIST_CHOICES_AT + LIST_CHOICE_WORDS;
 
 // Behind the slices: the rows given of each list; the default sort; the count that a `count` line tells of each list,
 // and whether one told it; the length that a `lend` line tells of each slice, and whether one told it; how far the list

@@ -10,7 +10,7 @@ use Rattle.list_memory.specs.declared.Form.the-variants.{Keyword, Next, Bare, S
 use Rattle.list_memory.specs.declared.Form.the-variants.{Var, Vars, Bind, Unbound, Expr, Name, Names, Default, Sub}
 use Rattle.list_memory.specs.declared.Form.the-variants.{Lit, Comprehension, Disjunction, Overload, Join, Sources}
 use Rattle.list_memory.specs.declared.Form.the-variants.{Constraint, Count, Lend, Ceilings, Asks}
-use Rattle.text_out.specs.Inner.Within.{PutWithin}
+use Rattle.text_out.specs.Within.{PutWithin}
 use Rattle.text_out.proofs.Within.{put-as}
 use Rattle.list_messages.specs.Inner.Messages.{messageNumber}
 use Rattle.list_messages.specs.Messages.{formText}

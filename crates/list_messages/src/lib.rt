@@ -4,7 +4,7 @@ use sort_lexer::between;
 use text_out::put_text;
 ghost use mathlib.Core.Path.{_≡_};
 ghost use Prim.Native.Nat.{_<_};
-ghost use Rattle.text_out.specs.Inner.Within.{PutWithin};
+ghost use Rattle.text_out.specs.Within.{PutWithin};
 ghost use Rattle.list_messages.specs.Inner.Messages.{messageNumber};
 ghost use Rattle.list_messages.specs.Messages.{formText, badText};
 

@@ -45,7 +45,7 @@ lines-of-a-list :
       heards = Quiet ∷ Quiet ∷ [];
       words = 2 ∷ 0 ∷ 1024 ∷ 0 ∷ 1 ∷ 0 ∷ 2 ∷ 3 ∷ 1024 ∷ 0 ∷ 0 ∷ 0 ∷ 0 ∷ 0 ∷ 0 ∷ 0 ∷ 0 ∷ 1 ∷ 1 ∷ 0 ∷ 1 ∷ 1 ∷ [];
     }
-unfolding told first zeros Memory.listStart Memory.widthOf Memory.ceilingOf Words.words Words.placeIn
+unfolding told first zeros Memory.listStart Memory.widthOf Memory.ceilingOf Words.words Words.positionIn
     Words.keywordOf Tokens.decimalRead Tokens.numberRead Tokens.classOf Tokens.nameToken Tokens.tokenOf
     Tokens.tokensFrom Tokens.tokensOf Tokens.printableFrom Tokens.lineStart sameBytes run past skip Items.inRange
     Items.isSortWord Items.isPlaceWord Items.isOf Items.wordOf Items.wordAt Items.fitsFrom Items.allFrom
@@ -65,7 +65,7 @@ lines-before-a-list :
     map (λ (text : String). (lineTaken [] (bytesOf text)) .heard)
     ("" ∷ "  # sub" ∷ "sub n0 n1" ∷ "? solve" ∷ "= 0" ∷ "list" ∷ [])
     ≡ Quiet ∷ Quiet ∷ Bad Form.List ∷ Bad Form.List ∷ Bad Form.Question ∷ Begins ∷ []
-unfolding told first zeros Memory.listStart Memory.widthOf Memory.ceilingOf Words.words Words.placeIn
+unfolding told first zeros Memory.listStart Memory.widthOf Memory.ceilingOf Words.words Words.positionIn
     Words.keywordOf Tokens.decimalRead Tokens.numberRead Tokens.classOf Tokens.nameToken Tokens.tokenOf
     Tokens.tokensFrom Tokens.tokensOf Tokens.printableFrom Tokens.lineStart sameBytes run past skip Items.inRange
     Items.isSortWord Items.isPlaceWord Items.isOf Items.wordOf Items.wordAt Items.fitsFrom Items.allFrom

@@ -8,7 +8,7 @@ use Rattle.sort_text.specs.Parse.{sameBytes}
 use Rattle.sort_text.specs.Tokens.{run, past, skip}
 use Rattle.list_tokens.specs.declared.Start.{Start}
 use Rattle.list_tokens.specs.declared.Start.the-variants.{Skipped, Answer, NewList, Other}
-use Rattle.list_tokens.specs.Words.{words, placeIn, keywordOf}
+use Rattle.list_tokens.specs.Words.{words, positionIn, keywordOf}
 use Rattle.text_out.specs.Quoted.{bytesOf}
 use Rattle.list_tokens.specs.Tokens.{decimalRead, numberRead, classOf, nameToken, tokenOf, tokensFrom, lineStart}
 
@@ -38,11 +38,11 @@ tokens-of-lines :
     ∷ []
     ∷ []
     ∷ []
-unfolding wordsOf words placeIn keywordOf decimalRead numberRead classOf nameToken tokenOf tokensFrom sameBytes run past skip
+unfolding wordsOf words positionIn keywordOf decimalRead numberRead classOf nameToken tokenOf tokensFrom sameBytes run past skip
 tokens-of-lines = refl
 
 starts-of-lines :
     map (λ (text : String). lineStart (bytesOf text)) ("" ∷ "  " ∷ " # sort" ∷ "list" ∷ " list a set" ∷ "lists" ∷ "= 0" ∷ "=0" ∷ "sub n0 n1" ∷ [])
     ≡ Skipped ∷ Skipped ∷ Skipped ∷ NewList ∷ NewList ∷ Other ∷ Answer ∷ Other ∷ Other ∷ []
-unfolding words placeIn keywordOf decimalRead numberRead classOf nameToken tokenOf lineStart sameBytes run past skip
+unfolding words positionIn keywordOf decimalRead numberRead classOf nameToken tokenOf lineStart sameBytes run past skip
 starts-of-lines = refl

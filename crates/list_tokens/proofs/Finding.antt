@@ -11,21 +11,21 @@ use lib.ListN.{length, getD, take, drop, drop-of-length-le}
 use lib.Seq.{drop-cons}
 use borrow.Author.Tests.{ne-eqb}
 use Rattle.sort_text.specs.Parse.{sameBytes}
-use Rattle.list_tokens.specs.Words.{words, placeIn, keywordOf}
+use Rattle.list_tokens.specs.Words.{words, positionIn, keywordOf}
 use Rattle.text_out.specs.Quoted.{bytesOf}
 
-module _ (ws : List (List ℕ)) (w : List ℕ) (k : ℕ) (inv : placeIn ws w 1 ≡ placeIn (drop k ws) w (k + 1)) where
+module _ (ws : List (List ℕ)) (w : List ℕ) (k : ℕ) (inv : positionIn ws w 1 ≡ positionIn (drop k ws) w (k + 1)) where
   module _ (h : k < length ws) (r : Bool) (e : r ≡ sameBytes w (getD ws k [])) where
-    place-here : r ≡ true → k + 1 ≡ placeIn ws w 1
-    unfolding placeIn
+    place-here : r ≡ true → k + 1 ≡ positionIn ws w 1
+    unfolding positionIn
     place-here t = sym (inv ∙ rw (drop-cons ws k [] h, ← e, t))
 
-    place-later : r ≡ false → placeIn ws w 1 ≡ placeIn (drop (k + 1) ws) w ((k + 1) + 1)
-    unfolding placeIn
+    place-later : r ≡ false → positionIn ws w 1 ≡ positionIn (drop (k + 1) ws) w ((k + 1) + 1)
+    unfolding positionIn
     place-later f = inv ∙ rw (add-one k, drop-cons ws k [] h, ← e, f)
 
-  place-nowhere : length ws ≤ k → 0 ≡ placeIn ws w 1
-  unfolding placeIn
+  place-nowhere : length ws ≤ k → 0 ≡ positionIn ws w 1
+  unfolding positionIn
   place-nowhere h = sym (inv ∙ rw (drop-of-length-le ws h))
 
 how-many : length words ≡ 64
@@ -82,7 +82,7 @@ past-the-table w k h = only-empty w ∙ ap (sameBytes w) (sym (past-all words k 
 -- the word w is none of the first k words
 pub record Looked (w : List ℕ) (k : ℕ) : Type 0 where
   pub within : k ≤ 64
-  pub same : placeIn words w 1 ≡ placeIn (drop k words) w (k + 1)
+  pub same : positionIn words w 1 ≡ positionIn (drop k words) w (k + 1)
 
 pub looked-at-none : (w : List ℕ) → Looked w 0
 looked-at-none w = record { within = omega arith; same = refl }

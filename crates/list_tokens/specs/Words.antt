@@ -168,9 +168,9 @@ words =
     ∷ [])
 
 -- the place of a word in a list of them, counted from k on; 0 where it is none of them
-unfoldable pub placeIn : List (List ℕ) → List ℕ → ℕ → ℕ
-placeIn [] w k = 0
-placeIn (x ∷ xs) w k = cond (sameBytes w x) k (placeIn xs w (k + 1))
+unfoldable pub positionIn : List (List ℕ) → List ℕ → ℕ → ℕ
+positionIn [] w k = 0
+positionIn (x ∷ xs) w k = cond (sameBytes w x) k (positionIn xs w (k + 1))
 
 unfoldable pub keywordOf : List ℕ → ℕ
-keywordOf w = placeIn words w 1
+keywordOf w = positionIn words w 1

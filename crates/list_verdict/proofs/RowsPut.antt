@@ -4,7 +4,7 @@ use mathlib.Core.List.{List, _++_}
 use Prim.Native.Nat.{ℕ, suc, _+_, _-_, _<_, _≤_}
 use native.Mathlib.Omega.{arith}
 use Rattle.text_out.specs.Within.{Buffer, buffer, puts}
-use Rattle.text_out.specs.Inner.Within.{PutWithin}
+use Rattle.text_out.specs.Within.{PutWithin}
 use Rattle.list_verdict.specs.Text.{rowsText}
 use Rattle.text_out.proofs.Within.{puts-append}
 

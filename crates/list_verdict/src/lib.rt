@@ -16,7 +16,7 @@ use text_out::put_text;
 use words::word;
 ghost use Prim.Native.Nat.{_+_, _*_, _<_, _≤_};
 ghost use Rattle.resolved_sort.specs.Rows.{Checked};
-ghost use Rattle.text_out.specs.Inner.Within.{PutWithin};
+ghost use Rattle.text_out.specs.Within.{PutWithin};
 ghost use Rattle.list_verdict.specs.Words.{kindWord, message};
 ghost use Rattle.list_verdict.specs.Text.{rowsText, name, sortName, sortText, targetText, exprLine, separator};
 ghost use Rattle.list_verdict.specs.Text.{component, measureLine, choiceText, choiceList, choicesLine};

@@ -1,3 +1,4 @@
+-- The laws of the pair program, and how its code goes.
 pub mod FixedSix
 pub mod Grows
 pub mod Bounds

@@ -1,5 +1,5 @@
--- What the contracts of this crate cite beside the definitions of the pair program.
-pub mod Room
-pub mod Answers
+-- The pair program, and what the contracts of this crate cite.
 pub mod PairProgram
+pub mod Answers
+pub mod Room
 pub mod Inner

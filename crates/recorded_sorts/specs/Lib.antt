@@ -1,1 +1,2 @@
+-- Recorded lines about sorts.
 pub mod Inner

@@ -3,7 +3,7 @@
 // answers it checked and how many lines differ.
 //
 // Its file stdin has the recorded answers of the excerpt of merc. Its first lines say how they were made, and
-// `oracle/compare.sh sorts` makes them again and compares; the lines have the form that the crate recorded_sorts states.
+// `oracle/compare.sh sorts` makes them again and compares. The crate recorded_sorts states the form of the lines.
 use line_input::LineFound;
 use line_input::next_line;
 use line_input::no_input;

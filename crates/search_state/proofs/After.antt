@@ -18,7 +18,7 @@ use Rattle.inference.specs.Constraints.{Problem}
 use Rattle.inference.specs.Search.{Path, World, Out, found, missed, elseTry, andAlso, Going}
 use Rattle.inference.specs.SolveEntry.{nothingMet}
 use Rattle.inference.specs.Typing.{All, none-left, and-all}
-use Rattle.inference.specs.Inner.Listed.{Listed, sub-listed, lit-listed, disjunction-listed, comprehension-listed, join-listed, SortsOnly}
+use Rattle.inference.specs.Inner.Listed.{ListedConstraint, sub-listed, lit-listed, disjunction-listed, comprehension-listed, join-listed, SortsOnly}
 use Rattle.inference.proofs.Invariant.{sorts-only-refl, sorts-only-trans, still-placed}
 use Rattle.search_state.specs.declared.Sizes.{Sizes}
 use Rattle.search_state.specs.declared.State.{State}
@@ -39,7 +39,7 @@ module _ (W W′ : Lent) (c : CheckedLent W) (g : Grows W W′) where
   placed : (p : ℕ) → PlacedIn W p → PlacedIn W′ p
   placed = placed-grown W c W′ g
 
-  listed-grown : (P : Problem) (x : Constraint) → Listed W P x → Listed W′ P x
+  listed-grown : (P : Problem) (x : Constraint) → ListedConstraint W P x → ListedConstraint W′ P x
   listed-grown P _ (sub-listed l r x y) = sub-listed l r (placed (l .0) x) (placed (r .0) y)
   listed-grown P _ (lit-listed p kind x) = lit-listed p kind (placed (p .0) x)
   listed-grown P _ (disjunction-listed e p run x l y) = disjunction-listed e p run (placed (p .0) x) l (λ i h. placed _ (y i h))
@@ -47,7 +47,7 @@ module _ (W W′ : Lent) (c : CheckedLent W) (g : Grows W W′) where
       (placed (body .0) x) (placed (node .0) y) (omega (arith, l, g .sorts))
   listed-grown P _ (join-listed run t x l y) = join-listed run t (placed (t .0) x) l (still-placed W c W′ g _ y)
 
-  all-listed-grown : (P : Problem) (xs : List Constraint) → All (Listed W P) xs → All (Listed W′ P) xs
+  all-listed-grown : (P : Problem) (xs : List Constraint) → All (ListedConstraint W P) xs → All (ListedConstraint W′ P) xs
   all-listed-grown P _ none-left = none-left
   all-listed-grown P _ (and-all x xs h hs) = and-all x xs (listed-grown P x h) (all-listed-grown P xs hs)
 

@@ -22,7 +22,7 @@ use Rattle.inference.specs.Constraints.{maxComponents, constraintAt, Problem}
 use Rattle.inference.specs.SolveChecks.{Call, scratchWords, given, disjunctions, joinsFine, components, outputsLong, longEnough, solveChecks}
 use Rattle.inference.specs.SolveEntry.{problemOf, lentOf}
 use Rattle.inference.proofs.Members.{length-rows, rows-all-left}
-use Rattle.inference.specs.RowsLent.{RowsLent}
+use Rattle.inference.specs.Inner.RowsLent.{RowsLent}
 use Rattle.inference.proofs.RowsLent.{rows-lent}
 use Rattle.inference.proofs.Accepted.{Accepted, accepted, within, Passing, passing}
 use Rattle.search_state.specs.declared.Next.the-variants.{Solve}

@@ -1,2 +1,3 @@
+-- Overload records, as words.
 pub mod Records
 pub mod Inner

@@ -31,7 +31,7 @@ use Rattle.inference.specs.declared.Constraint.the-variants.{Sub, Lit, Disjunct
 use Rattle.inference.specs.SolveChecks.{componentsOf, components, disjunctionFor, disjunctions}
 use Rattle.inference.specs.Names.{overloadIn}
 use Rattle.inference.proofs.Members.{length-rows, row-at, run-at, rows-one-left, each-row, rows-none-left}
-use Rattle.inference.specs.Inner.Listed.{Listed, sub-listed, lit-listed, disjunction-listed, comprehension-listed, join-listed}
+use Rattle.inference.specs.Inner.Listed.{ListedConstraint, sub-listed, lit-listed, disjunction-listed, comprehension-listed, join-listed}
 use Rattle.search_state.specs.declared.Next.the-variants.{Solve}
 use Rattle.search_state.specs.Inner.Memory.{overloadsAt, sourceAt, problemIn, restFrom, chosenExprs, measureAt, pathOf, bestOf, worldOf, solveFrom, nextOf}
 use Rattle.words.specs.Words.{part}
@@ -148,16 +148,16 @@ module _ (ls : List ℕ) (z : Sizes) (ws ns bs sc : List ℕ) (k : State) (e : B
           few = S .few;
         }
 
-    pub constraint-listed : Listed (lent ws ns (k .lengths)) P c
+    pub constraint-listed : ListedConstraint (lent ws ns (k .lengths)) P c
     unfolding problemIn
     constraint-listed =
-        subst (Listed (lent ws ns (k .lengths)) P) (sym (h ∙ ap (constraintAt ls) (let q : i ≡ 0 + i = omega arith in q)))
-        (each-row (Listed (lent ws ns (k .lengths)) P) (constraintAt ls) 0 (z .constraints) (S .suits .constraints) i l)
+        subst (ListedConstraint (lent ws ns (k .lengths)) P) (sym (h ∙ ap (constraintAt ls) (let q : i ≡ 0 + i = omega arith in q)))
+        (each-row (ListedConstraint (lent ws ns (k .lengths)) P) (constraintAt ls) 0 (z .constraints) (S .suits .constraints) i l)
 
 -- One constraint by its kind.
 module _ (ls : List ℕ) (z : Sizes) (ws ns bs sc : List ℕ) (k : State) (e : Branch) (c : Constraint) (i : ℕ)
     (S : Searching ws ns bs sc ls z k e (componentsOf c) (exprsOfConstraint c) (Solve i))
-    (L : Listed (lent ws ns (k .lengths)) (problemIn ls z) c) where
+    (L : ListedConstraint (lent ws ns (k .lengths)) (problemIn ls z) c) where
   abbrev Q : Problem
   Q = problemIn ls z
 
@@ -170,8 +170,8 @@ module _ (ls : List ℕ) (z : Sizes) (ws ns bs sc : List ℕ) (k : State) (e : B
   pub kind-asked : (d : Constraint) → c ≡ d → Searching ws ns bs sc ls z k e (componentsOf d) (exprsOfConstraint d) (Solve i)
   kind-asked d q = subst (λ x. Searching ws ns bs sc ls z k e (componentsOf x) (exprsOfConstraint x) (Solve i)) q S
 
-  listed-as : (d : Constraint) → c ≡ d → Listed U Q d
-  listed-as d q = subst (Listed U Q) q L
+  listed-as : (d : Constraint) → c ≡ d → ListedConstraint U Q d
+  listed-as d q = subst (ListedConstraint U Q) q L
 
   module _ (ws₁ ns₁ bs₁ sc₁ : List ℕ) (r : Answer) where
     pub step-sub : (x y : InferSortId) → c ≡ Sub x y → Comes ls z ws ns bs sc k e (widening (Unit {0}) nothingMet Q
@@ -197,7 +197,7 @@ module _ (ls : List ℕ) (z : Sizes) (ws ns bs sc : List ℕ) (k : State) (e : B
   pub sub-placed : (x y : InferSortId) → c ≡ Sub x y → Placed (k .lengths) (x .0) × Placed (k .lengths) (y .0)
   sub-placed x y q = go (Sub x y) (listed-as (Sub x y) q) refl
     where
-      go : (d : Constraint) → Listed U Q d → d ≡ Sub x y → Placed (k .lengths) (x .0) × Placed (k .lengths) (y .0)
+      go : (d : Constraint) → ListedConstraint U Q d → d ≡ Sub x y → Placed (k .lengths) (x .0) × Placed (k .lengths) (y .0)
       go _ (sub-listed l r a b) h = (
         subst (λ (p : InferSortId). Placed (k .lengths) (p .0)) (let m : l ≡ x = cc in m)
             a,
@@ -211,7 +211,7 @@ module _ (ls : List ℕ) (z : Sizes) (ws ns bs sc : List ℕ) (k : State) (e : B
   pub lit-placed : (x : InferSortId) (kind : LitKind) → c ≡ Lit x kind → Placed (k .lengths) (x .0)
   lit-placed x kind q = go (Lit x kind) (listed-as (Lit x kind) q) refl
     where
-      go : (d : Constraint) → Listed U Q d → d ≡ Lit x kind → Placed (k .lengths) (x .0)
+      go : (d : Constraint) → ListedConstraint U Q d → d ≡ Lit x kind → Placed (k .lengths) (x .0)
       go _ (sub-listed l r a b) h = absurd (let m : _≡_ {A = ℕ} 0 1 = cc in omega arith)
       go _ (lit-listed p kind a) h = subst (λ (p : InferSortId). Placed (k .lengths) (p .0)) (let m : p ≡ x = cc in m) a
       go _ (disjunction-listed x p run a l b) h = absurd (let m : _≡_ {A = ℕ} 0 1 = cc in omega arith)
@@ -222,7 +222,7 @@ module _ (ls : List ℕ) (z : Sizes) (ws ns bs sc : List ℕ) (k : State) (e : B
       → Placed (k .lengths) (x .0) × Placed (k .lengths) (y .0) × (s .0 < k .lengths .sorts)
   readings-placed x y s q = go (Comprehension x y s) (listed-as (Comprehension x y s) q) refl
     where
-      go : (d : Constraint) → Listed U Q d → d ≡ Comprehension x y s → Placed (k .lengths) (x .0) × Placed (k .lengths) (y .0) × (s .0 < k .lengths .sorts)
+      go : (d : Constraint) → ListedConstraint U Q d → d ≡ Comprehension x y s → Placed (k .lengths) (x .0) × Placed (k .lengths) (y .0) × (s .0 < k .lengths .sorts)
       go _ (sub-listed l r a b) h = absurd (let m : _≡_ {A = ℕ} 0 1 = cc in omega arith)
       go _ (lit-listed p kind a) h = absurd (let m : _≡_ {A = ℕ} 0 1 = cc in omega arith)
       go _ (disjunction-listed x p run a l b) h = absurd (let m : _≡_ {A = ℕ} 0 1 = cc in omega arith)
@@ -244,7 +244,7 @@ module _ (ls : List ℕ) (z : Sizes) (ws ns bs sc : List ℕ) (k : State) (e : B
     unfolding problemIn
     rows = go (Disjunction x p run) (listed-as (Disjunction x p run) q) refl
       where
-        go : (d : Constraint) → Listed U Q d → d ≡ Disjunction x p run → Rows
+        go : (d : Constraint) → ListedConstraint U Q d → d ≡ Disjunction x p run → Rows
         go _ (sub-listed l r a b) h = absurd (let m : _≡_ {A = ℕ} 0 1 = cc in omega arith)
         go _ (lit-listed p kind a) h = absurd (let m : _≡_ {A = ℕ} 0 1 = cc in omega arith)
         go _ (disjunction-listed y p′ run′ a l b) h =
@@ -294,7 +294,7 @@ module _ (ls : List ℕ) (z : Sizes) (ws ns bs sc : List ℕ) (k : State) (e : B
     unfolding problemIn
     sources = go (Join run t) (listed-as (Join run t) q) refl
       where
-        go : (d : Constraint) → Listed U Q d → d ≡ Join run t → Sources
+        go : (d : Constraint) → ListedConstraint U Q d → d ≡ Join run t → Sources
         go _ (sub-listed l r a b) h = absurd (let m : _≡_ {A = ℕ} 0 1 = cc in omega arith)
         go _ (lit-listed p kind a) h = absurd (let m : _≡_ {A = ℕ} 0 1 = cc in omega arith)
         go _ (disjunction-listed x p run a l b) h = absurd (let m : _≡_ {A = ℕ} 0 1 = cc in omega arith)

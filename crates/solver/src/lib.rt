@@ -56,7 +56,7 @@ ghost use Rattle.inference.specs.Search.{joining, step as stepOf};
 ghost use Rattle.inference.specs.SolveChecks.{componentsOf};
 ghost use Rattle.inference.specs.SolveEntry.{nothingMet};
 ghost use Rattle.unification.specs.Checked.{Placed};
-ghost use Rattle.inference.specs.Inner.Listed.{Listed};
+ghost use Rattle.inference.specs.Inner.Listed.{ListedConstraint};
 ghost use Rattle.search_state.specs.declared.Next.the-variants.{Solve, Source};
 ghost use Rattle.search_state.specs.Inner.Memory.{overloadsAt, sourceAt, problemIn, solveFrom, nextOf};
 ghost use Rattle.search_state.specs.Inner.Leaves.{PairsPlaced, addedComponents, triesFrom};
@@ -124,7 +124,7 @@ fn solve_constraint(
     requires { ⌜
         Searching (now sorts) (now nodes) (now binds) (now scratch) (now lists) sizes st at
         (componentsOf constraint) (exprsOfConstraint constraint) (Solve then)
-        × Listed (lent (now sorts) (now nodes) (st .lengths)) (problemIn (now lists) sizes) constraint
+        × ListedConstraint (lent (now sorts) (now nodes) (st .lengths)) (problemIn (now lists) sizes) constraint
         ⌝ }
     ensures { λ r. ⌜
         Comes (now (lists .entry)) sizes

@@ -1,2 +1,3 @@
+-- How join and meet go through rows.
 mod Farther
 mod Ways

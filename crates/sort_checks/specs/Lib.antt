@@ -1,1 +1,2 @@
+-- What the checks on sorts cite.
 pub mod Inner

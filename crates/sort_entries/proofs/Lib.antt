@@ -1,2 +1,3 @@
+-- The laws of the entries of the sorts layer.
 pub mod Laws
 pub mod Codes

@@ -1,3 +1,4 @@
+-- How tokens are found in a line.
 pub mod Places
 pub mod Runs
 pub mod Tokens

@@ -1,3 +1,4 @@
+-- How a recognised sort is stored, and the codes of the entry.
 mod Ways
 pub mod Entry
 pub mod Codes

@@ -1,1 +1,2 @@
+-- How a line is recognised.
 mod Ways

@@ -1,3 +1,4 @@
+-- The laws of sort text.
 pub mod Examples
 pub mod Stores
 pub mod Running

@@ -1,10 +1,10 @@
--- Sort text and the pair program, in the order of document 01.
+-- Sort text, in the order of document 01, and room for the sorts of two lines.
 pub mod Tokens
+pub mod Grammar
 pub mod Parse
+pub mod Readable
 pub mod Text
 pub mod Reading
 pub mod Postfix
 pub mod Writing
-pub mod Grammar
 pub mod PairRoom
-pub mod Readable

@@ -1,2 +1,3 @@
+-- What putting bytes leaves.
 pub mod Within
 pub mod Put

@@ -11,7 +11,7 @@ use lib.ListN.{length, getD, drop, set, length-set, drop-of-length-le}
 use lib.Seq.{sets, set-out, drop-cons}
 use borrow.Author.Tests.{lt-ltb, le-ltb}
 use Rattle.text_out.specs.Within.{Buffer, buffer, puts}
-use Rattle.text_out.specs.Inner.Within.{PutWithin}
+use Rattle.text_out.specs.Within.{PutWithin}
 use Rattle.text_out.specs.Decimal.{digit}
 
 pub puts-append : (out : List ℕ) (at : ℕ) (xs ys : List ℕ) → puts out at (xs ++ ys) ≡ puts (puts out at xs .bytes) (puts out at xs .at) ys

@@ -3,4 +3,3 @@ pub mod Quoted
 pub mod Decimal
 pub mod Put
 pub mod Within
-pub mod Inner

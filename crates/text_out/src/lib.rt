@@ -3,7 +3,7 @@
 ghost use mathlib.Core.List.{[], _∷_};
 ghost use Prim.Native.Nat.{_+_, _<_, _≤_};
 ghost use lib.ListN.{length};
-ghost use Rattle.text_out.specs.Inner.Within.{PutWithin};
+ghost use Rattle.text_out.specs.Within.{PutWithin};
 ghost use Rattle.text_out.specs.Decimal.{digit, decimal};
 ghost use Rattle.text_out.specs.Put.{Put};
 

@@ -8,7 +8,7 @@ use Rattle.unification.specs.Unify.{yes-with, unify, deep, deeper}
 use Rattle.unification.specs.Solutions.{Respects, Equates, Robinson, says-yes}
 use Rattle.unification.specs.Making.{Lent, graph}
 use Rattle.unification.proofs.Lists.{lower, scoped}
-use Rattle.unification.specs.Exact.{Next, BindsKept}
+use Rattle.unification.specs.Exact.{YesLeaves, BindsKept}
 use Rattle.unification.proofs.Robinson.{unify-kept}
 use Rattle.unification.proofs.Theorem.{deep-enough, unify-is-robinson}
 use Rattle.unification.specs.Growing.{Names, CheckedLent, PlacedIn, CheckedBinds}
@@ -47,7 +47,7 @@ module _ (W : Lent) (c : CheckedLent W) (B : Binds) (b : CheckedBinds W B) (l r 
   pub yes-agrees : (C : Binds) → unify (graph W) B l r ≡ yes-with C → Agreeing W B l r C
   yes-agrees C e =
       let f = solutions C (subst (Robinson (graph W) B l r) e robinson) in
-      let k : Next (graph W) (W .lengths .variables) B C = subst (BindsKept (graph W) (W .lengths .variables) B) e kept in
+      let k : YesLeaves (graph W) (W .lengths .variables) B C = subst (BindsKept (graph W) (W .lengths .variables) B) e kept in
       record {
         binds = record { many = k .long ∙ b .many; places = named-places-fine (W .lengths .sorts) (W .lengths .nodes) C (names C e); numbered = k .numbering };
         before = λ σ s. f σ s .0;

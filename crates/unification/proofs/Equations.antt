@@ -17,7 +17,7 @@ use Rattle.unification.specs.Unify.{unifyHeads, unifyShapes, unifyApart,
 use Rattle.unification.proofs.Rank.{highest, rank, Ranked, rank-over}
 use Rattle.unification.proofs.Numbering.{numbered-ranked}
 use Rattle.unification.proofs.Enough.{follow-some}
-use Rattle.unification.specs.Exact.{Next, BindsKept}
+use Rattle.unification.specs.Exact.{YesLeaves, BindsKept}
 use Rattle.unification.proofs.Robinson.{next-trans, next-refl, unify-kept, depth-left, unify-known}
 
 pub frees-few : (B : Binds) → frees B ≤ length B
@@ -32,8 +32,8 @@ module _ (shape : ℕ → Shape) (K : ℕ) (lower : Lower shape K) (n : ℕ) (sc
 
   list-agrees : (f g : Binds → ℕ → ℕ → Unifies) → ((B : Binds) (a b : ℕ) → length B ≡ n → Numbering shape n B → BindsKept shape n B (f B a b))
       → (B : Binds) (m : ℕ)
-      → ((C : Binds) → length C ≡ n → Next shape n B C → (a b : ℕ) → rank shape w B a < m → g C a b ≡ f C a b)
-      → (xs ys : List ℕ) (C : Binds) → length C ≡ n → Next shape n B C → highest (rank shape w B) xs < suc m
+      → ((C : Binds) → length C ≡ n → YesLeaves shape n B C → (a b : ℕ) → rank shape w B a < m → g C a b ≡ f C a b)
+      → (xs ys : List ℕ) (C : Binds) → length C ≡ n → YesLeaves shape n B C → highest (rank shape w B) xs < suc m
       → unifyAll shape g C xs ys ≡ unifyAll shape f C xs ys
   list-agrees f g kept B m ih [] [] C len N lt = refl
   list-agrees f g kept B m ih [] (y ∷ ys) C len N lt = refl
@@ -42,7 +42,7 @@ module _ (shape : ℕ → Shape) (K : ℕ) (lower : Lower shape K) (n : ℕ) (sc
       rw (ih C len N x y (omega arith)) (go (f C x y) (kept C x y len (N .numbering)) (list-agrees f g kept B m ih xs ys))
     where
       go : (r : Unifies) → BindsKept shape n C r
-          → ((D : Binds) → length D ≡ n → Next shape n B D → highest (rank shape w B) xs < suc m → unifyAll shape g D xs ys ≡ unifyAll shape f D xs ys)
+          → ((D : Binds) → length D ≡ n → YesLeaves shape n B D → highest (rank shape w B) xs < suc m → unifyAll shape g D xs ys ≡ unifyAll shape f D xs ys)
           → and-then r (λ D. unifyAll shape g D xs ys) ≡ and-then r (λ D. unifyAll shape f D xs ys)
       go too-deep K t = refl
       go no-way K t = refl
@@ -63,7 +63,7 @@ module _ (shape : ℕ → Shape) (K : ℕ) (lower : Lower shape K) (n : ℕ) (sc
       lm)))
     where
       heads : (b : Bool) (ps ps′ : List ℕ) → highest (rank shape w B) ps < suc (rank shape w B l)
-          → ((C : Binds) → length C ≡ n → Next shape n B C → (a b : ℕ) → rank shape w B a < rank shape w B l
+          → ((C : Binds) → length C ≡ n → YesLeaves shape n B C → (a b : ℕ) → rank shape w B a < rank shape w B l
           → unifyTo shape w m C a b ≡ unifyTo shape w k C a b)
           → unifyHeads shape b (unifyTo shape w m) B ps ps′ ≡ unifyHeads shape b (unifyTo shape w k) B ps ps′
       heads true ps ps′ lt ih =
@@ -72,7 +72,7 @@ module _ (shape : ℕ → Shape) (K : ℕ) (lower : Lower shape K) (n : ℕ) (sc
       heads false ps ps′ lt ih = refl
 
       ends : (l′ r′ : ℕ) → rank shape w B l′ ≤ rank shape w B l → (s t : Shape) → shape l′ ≡ s
-          → ((C : Binds) → length C ≡ n → Next shape n B C → (a b : ℕ) → rank shape w B a < rank shape w B l
+          → ((C : Binds) → length C ≡ n → YesLeaves shape n B C → (a b : ℕ) → rank shape w B a < rank shape w B l
           → unifyTo shape w m C a b ≡ unifyTo shape w k C a b)
           → unifyShapes shape w (unifyTo shape w m) B l′ s r′ t ≡ unifyShapes shape w (unifyTo shape w k) B l′ s r′ t
       ends l′ r′ le (variable v) (variable u) sl ih = refl
@@ -83,7 +83,7 @@ module _ (shape : ℕ → Shape) (K : ℕ) (lower : Lower shape K) (n : ℕ) (sc
           heads (sameHead h h′) ps ps′ (omega arith) ih
 
       go : (l′ : ℕ) → rank shape w B l′ ≤ rank shape w B l → (o : Option ℕ)
-          → ((C : Binds) → length C ≡ n → Next shape n B C → (a b : ℕ) → rank shape w B a < rank shape w B l
+          → ((C : Binds) → length C ≡ n → YesLeaves shape n B C → (a b : ℕ) → rank shape w B a < rank shape w B l
           → unifyTo shape w m C a b ≡ unifyTo shape w k C a b)
           → unifyFollowed shape w (unifyTo shape w m) B (some l′) o ≡ unifyFollowed shape w (unifyTo shape w k) B (some l′) o
       go l′ le none ih = refl

@@ -24,9 +24,9 @@ use Rattle.unification.proofs.Follow.{follow-end}
 use Rattle.unification.proofs.Numbering.{numbered-ranked}
 use Rattle.unification.proofs.Enough.{follow-some, occurs-eq, occurs-known}
 use Rattle.unification.proofs.Binding.{binding-numbered}
-use Rattle.unification.specs.Exact.{Next, BindsKept}
+use Rattle.unification.specs.Exact.{YesLeaves, BindsKept}
 
-pub next-trans : (shape : ℕ → Shape) (n : ℕ) (B C D : Binds) → Next shape n B C → Next shape n C D → Next shape n B D
+pub next-trans : (shape : ℕ → Shape) (n : ℕ) (B C D : Binds) → YesLeaves shape n B C → YesLeaves shape n C D → YesLeaves shape n B D
 next-trans shape n B C D x y = record { numbering = y .numbering; long = y .long ∙ x .long; fewer = go (x .fewer) (y .fewer) }
   where
     go : (C ≡ B) ⊎ (frees C < frees B) → (D ≡ C) ⊎ (frees D < frees C) → (D ≡ B) ⊎ (frees D < frees B)
@@ -35,7 +35,7 @@ next-trans shape n B C D x y = record { numbering = y .numbering; long = y .long
     go (inr i) (inl j) = inr (let e = ap frees j in omega arith)
     go (inr i) (inr j) = inr (omega arith)
 
-pub next-refl : (shape : ℕ → Shape) (n : ℕ) (B : Binds) → Numbering shape n B → Next shape n B B
+pub next-refl : (shape : ℕ → Shape) (n : ℕ) (B : Binds) → Numbering shape n B → YesLeaves shape n B B
 next-refl shape n B N = record { numbering = N; long = refl; fewer = inl refl }
 
 module _ (shape : ℕ → Shape) (K : ℕ) (lower : Lower shape K) (n : ℕ) (scoped : (p v : ℕ) → shape p ≡ variable v
@@ -44,7 +44,7 @@ module _ (shape : ℕ → Shape) (K : ℕ) (lower : Lower shape K) (n : ℕ) (sc
   ranks B N = numbered-ranked shape K lower n B N w deep
 
   bound-next : (B : Binds) → Numbering shape n B → (v r : ℕ) → v < length B → binding B v ≡ none
-      → occurs shape w B v r ≡ absent → Next shape n B (set B v (some r))
+      → occurs shape w B v r ≡ absent → YesLeaves shape n B (set B v (some r))
   bound-next B N v r lt free o =
       let e = frees-set B v r lt free in
       record { numbering = binding-numbered shape K lower n scoped w deep B N v r free lt o; long = length-set B v (some r); fewer = inr (omega arith) }
@@ -56,7 +56,7 @@ module _ (shape : ℕ → Shape) (K : ℕ) (lower : Lower shape K) (n : ℕ) (sc
   list-kept f ih (x ∷ xs) [] B len N = tt
   list-kept f ih (x ∷ xs) (y ∷ ys) B len N = go (f B x y) (ih B x y len N) (list-kept f ih xs ys)
     where
-      then : (C : Binds) → Next shape n B C → (r : Unifies) → BindsKept shape n C r → BindsKept shape n B r
+      then : (C : Binds) → YesLeaves shape n B C → (r : Unifies) → BindsKept shape n C r → BindsKept shape n B r
       then C x too-deep y = tt
       then C x no-way y = tt
       then C x (yes-with D) y = next-trans shape n B C D x y
@@ -127,20 +127,20 @@ module _ (shape : ℕ → Shape) (K : ℕ) (lower : Lower shape K) (n : ℕ) (sc
   -- The depth is enough where it covers the free variables times w, and the rank of the left place.
   list-known : (f : Binds → ℕ → ℕ → Unifies) → ((B : Binds) (a b : ℕ) → length B ≡ n → Numbering shape n B → BindsKept shape n B (f B a b))
       → (B : Binds) (m : ℕ)
-      → ((C : Binds) → length C ≡ n → Next shape n B C → (a b : ℕ) → rank shape w B a < m → f C a b ≡ too-deep → ⊥)
-      → (xs ys : List ℕ) (C : Binds) → length C ≡ n → Next shape n B C → highest (rank shape w B) xs < suc m → unifyAll shape f C xs ys ≡ too-deep → ⊥
+      → ((C : Binds) → length C ≡ n → YesLeaves shape n B C → (a b : ℕ) → rank shape w B a < m → f C a b ≡ too-deep → ⊥)
+      → (xs ys : List ℕ) (C : Binds) → length C ≡ n → YesLeaves shape n B C → highest (rank shape w B) xs < suc m → unifyAll shape f C xs ys ≡ too-deep → ⊥
   list-known f kept B m ih [] [] C len N lt e = no-confusion (cc)
   list-known f kept B m ih [] (y ∷ ys) C len N lt e = no-confusion (cc)
   list-known f kept B m ih (x ∷ xs) [] C len N lt e = no-confusion (cc)
   list-known f kept B m ih (x ∷ xs) (y ∷ ys) C len N lt e = go (f C x y) refl (kept C x y len (N .numbering)) e (list-known f kept B m ih xs ys)
     where
       go : (r : Unifies) → f C x y ≡ r → BindsKept shape n C r → and-then r (λ D. unifyAll shape f D xs ys) ≡ too-deep
-          → ((D : Binds) → length D ≡ n → Next shape n B D → highest (rank shape w B) xs < suc m → unifyAll shape f D xs ys ≡ too-deep → ⊥) → ⊥
+          → ((D : Binds) → length D ≡ n → YesLeaves shape n B D → highest (rank shape w B) xs < suc m → unifyAll shape f D xs ys ≡ too-deep → ⊥) → ⊥
       go too-deep i z e t = ih C len N x y (omega arith) i
       go no-way i z e t = no-confusion (cc)
       go (yes-with D) i z e t = t D (z .long ∙ len) (next-trans shape n B C D N z) (omega arith) e
 
-  pub depth-left : (B C : Binds) → Numbering shape n B → Next shape n B C → (a m k : ℕ) → rank shape w B a < m
+  pub depth-left : (B C : Binds) → Numbering shape n B → YesLeaves shape n B C → (a m k : ℕ) → rank shape w B a < m
       → frees B * w + m < suc k → frees C * w + rank shape w C a < k
   depth-left B C F N a m k lt le = go (N .fewer)
     where
@@ -175,14 +175,14 @@ module _ (shape : ℕ → Shape) (K : ℕ) (lower : Lower shape K) (n : ℕ) (sc
       vars false v q e = no-confusion (cc)
 
       heads : (b : Bool) (ps ps′ : List ℕ) → highest (rank shape w B) ps < suc (rank shape w B l) → unifyHeads shape b (unifyTo shape w k) B ps ps′ ≡ too-deep
-          → ((C : Binds) → length C ≡ n → Next shape n B C → (a b : ℕ) → rank shape w B a < rank shape w B l → unifyTo shape w k C a b ≡ too-deep → ⊥) → ⊥
+          → ((C : Binds) → length C ≡ n → YesLeaves shape n B C → (a b : ℕ) → rank shape w B a < rank shape w B l → unifyTo shape w k C a b ≡ too-deep → ⊥) → ⊥
       heads true ps ps′ lt e ih =
           list-known (unifyTo shape w k) (unify-kept k) B (rank shape w B l) ih ps ps′ B len (next-refl shape n B F) lt e
       heads false ps ps′ lt e ih = no-confusion (cc)
 
       ends : (l′ r′ : ℕ) → rank shape w B l′ ≤ rank shape w B l → rank shape w B r′ ≤ rank shape w B r → (s t : Shape) → shape l′ ≡ s → shape r′ ≡ t
           → unifyShapes shape w (unifyTo shape w k) B l′ s r′ t ≡ too-deep
-          → ((C : Binds) → length C ≡ n → Next shape n B C → (a b : ℕ) → rank shape w B a < rank shape w B l → unifyTo shape w k C a b ≡ too-deep → ⊥) → ⊥
+          → ((C : Binds) → length C ≡ n → YesLeaves shape n B C → (a b : ℕ) → rank shape w B a < rank shape w B l → unifyTo shape w k C a b ≡ too-deep → ⊥) → ⊥
       ends l′ r′ ll lr (variable v) (variable u) sl sr e ih = vars (eqb v u) v r′ e
       ends l′ r′ ll lr (variable v) (over h ps) sl sr e ih =
           let A = ranks B F in let x = A .short r in bind v r′ (omega arith) (occurs shape w B v r′) refl e
@@ -194,12 +194,12 @@ module _ (shape : ℕ → Shape) (K : ℕ) (lower : Lower shape K) (n : ℕ) (sc
 
       apart : (l′ r′ : ℕ) → rank shape w B l′ ≤ rank shape w B l → rank shape w B r′ ≤ rank shape w B r → (c : Bool)
           → unifyApart shape c w (unifyTo shape w k) B l′ r′ ≡ too-deep
-          → ((C : Binds) → length C ≡ n → Next shape n B C → (a b : ℕ) → rank shape w B a < rank shape w B l → unifyTo shape w k C a b ≡ too-deep → ⊥) → ⊥
+          → ((C : Binds) → length C ≡ n → YesLeaves shape n B C → (a b : ℕ) → rank shape w B a < rank shape w B l → unifyTo shape w k C a b ≡ too-deep → ⊥) → ⊥
       apart l′ r′ ll lr true e ih = no-confusion (cc)
       apart l′ r′ ll lr false e ih = ends l′ r′ ll lr (shape l′) (shape r′) refl refl e ih
 
       same-ends : (l′ r′ : ℕ) → rank shape w B l′ ≤ rank shape w B l → rank shape w B r′ ≤ rank shape w B r → (b : Bool)
           → unifyEnds shape b w (unifyTo shape w k) B l′ r′ ≡ too-deep
-          → ((C : Binds) → length C ≡ n → Next shape n B C → (a b : ℕ) → rank shape w B a < rank shape w B l → unifyTo shape w k C a b ≡ too-deep → ⊥) → ⊥
+          → ((C : Binds) → length C ≡ n → YesLeaves shape n B C → (a b : ℕ) → rank shape w B a < rank shape w B l → unifyTo shape w k C a b ≡ too-deep → ⊥) → ⊥
       same-ends l′ r′ ll lr true e ih = no-confusion (cc)
       same-ends l′ r′ ll lr false e ih = apart l′ r′ ll lr (isSort l′ && isSort r′) e ih

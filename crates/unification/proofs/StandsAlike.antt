@@ -36,6 +36,7 @@ use Rattle.unification.proofs.UpToNames.{open-at-part}
 use Rattle.unification.proofs.MakingGrows.{made-grows}
 use Rattle.unification.proofs.RelatedPlaces.{StandForRelated}
 use Rattle.unification.proofs.RelatedBinds.{checked-ranks, no-list-is-free, free-is-no-list, related-makes}
+use Rattle.unification.specs.Solutions.{Covers}
 
 -- The final range of a place is free exactly if its value ends in a variable.
 module _ (W : Lent) (c : CheckedLent W) (B : Binds) (b : CheckedBinds W B) where
@@ -82,11 +83,6 @@ module _ (W : Lent) (c : CheckedLent W) (B : Binds) (b : CheckedBinds W B) where
 
   pub free-end-exactly : (p : ℕ) → FreeEnd (graph W) B p ↔ (openEnd (val p) ≡ true)
   free-end-exactly p = (free-is-open p, open-is-free deep p (A .short p))
-
--- Whatever the first place can stand for, the second can.
-abbrev pub Covers : (ℕ → Shape) → Binds → ℕ → (ℕ → Shape) → Binds → ℕ → Type 0
-Covers shape B p shape′ B′ p′ =
-    (σ : ℕ → Term) → Respects shape B σ → (τ : ℕ → Term) × (Respects shape′ B′ τ × (substitute τ (termAt shape′ p′) ≡ substitute σ (termAt shape p)))
 
 module _ (W : Lent) (c : CheckedLent W) (B : Binds) (b : CheckedBinds W B) (p : ℕ) (W′ : Lent) (c′ : CheckedLent W′)
     (B′ : Binds) (b′ : CheckedBinds W′ B′) (p′ : ℕ) where

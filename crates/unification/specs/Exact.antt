@@ -35,7 +35,7 @@ Apart shape = (l r : ℕ) → isSort l ≡ true → isSort r ≡ true → (l ≡
     → ((p : ℕ) → val p ≡ shapeVal σ val (shape p)) → val l ≡ val r → ⊥
 
 -- What a yes leaves: numbered bindings, of the same length, and either the same or with fewer free.
-pub record Next (shape : ℕ → Shape) (n : ℕ) (B C : Binds) : Type 0 where
+pub record YesLeaves (shape : ℕ → Shape) (n : ℕ) (B C : Binds) : Type 0 where
   pub numbering : Numbering shape n C
   pub long : length C ≡ length B
   pub fewer : (C ≡ B) ⊎ (frees C < frees B)
@@ -43,4 +43,4 @@ pub record Next (shape : ℕ → Shape) (n : ℕ) (B C : Binds) : Type 0 where
 abbrev pub BindsKept : (ℕ → Shape) → ℕ → Binds → Unifies → Type 0
 BindsKept shape n B too-deep = Unit {0}
 BindsKept shape n B no-way = Unit {0}
-BindsKept shape n B (yes-with C) = Next shape n B C
+BindsKept shape n B (yes-with C) = YesLeaves shape n B C

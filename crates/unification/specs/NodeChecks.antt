@@ -9,8 +9,7 @@ use Rattle.resolved_sort.specs.Storage.{maxArguments, rowWords, firstContainer,
 use Rattle.resolved_sort.specs.Checks.{allBelow, withinLent, sortRowChecks, atCeiling, Check}
 use Rattle.unification.specs.declared.InferSort.{InferSort}
 use Rattle.unification.specs.declared.InferSort.the-variants.{Generic, Function, Var}
-use Rattle.unification.specs.Nodes.{maxNodes, maxNodeEntries, maxVars, nodeEntriesAt, fullNodes, nodeKindAt}
-use Rattle.unification.specs.Nodes.{nodeEntryAt, variableKind, nodeAt, isPlace, bindsOf}
+use Rattle.unification.specs.Nodes.{maxNodes, maxNodeEntries, maxVars, nodeEntriesAt, fullNodes, nodeKindAt, nodeEntryAt, variableKind, nodeAt, isPlace, bindsOf}
 use Rattle.unification.specs.Acyclic.{acyclic}
 
 -- 1. "A given list is above its ceiling or longer than the storage lent for it."
@@ -32,7 +31,7 @@ nodePartsFine ns d n v i (Function domain range) =
     && allBelow (domain .count) (λ j. isPlace n i (nodeEntryAt ns (domain .start + j)))
 nodePartsFine ns d n v i (Var u) = ltb (u .0) v
 
--- 6 to 11, and 14
+-- kinds: 6 to 10 a container, 11 a function, 14 a variable
 unfoldable pub nodeKindFine : ℕ → Bool
 nodeKindFine k = cond (eqb k variableKind) true (leb firstContainer k && leb k functionKind)
 

@@ -25,9 +25,8 @@ pub data Conversions : ℕ → Tree → Tree → Type 0 where
   no-more : {s : Tree} → Conversions zero s s
   and-then : {k : ℕ} {s t u : Tree} → Conversions k s t → Converts t u → Conversions (suc k) s u
 
--- What the places of a wider (narrower) list stand for, where the place asked about stands for t: the i-th for a
--- sort that is materializable in the
--- direction, unequal to t, and i + 1 steps from it; and every such sort is listed.
+-- What the places of a wider (narrower) list stand for, where the place asked about stands for t: the i-th for a sort
+-- that is materializable in the direction, unequal to t, and i + 1 steps from it; and every such sort is listed.
 pub record ListsRelated (up : Bool) (stands : ℕ → Term) (t : Tree) (qs : List ℕ) : Type 0 where
   pub sound : (q i : ℕ) → Member q i qs → (u : Tree) × (stands q ≡ termOf u) × (reaches up t u ≡ true) × (t ≢ u) ×
       Distant up t u (suc i)

@@ -35,7 +35,7 @@ use Rattle.unification.proofs.Follow.{follow-end}
 use Rattle.unification.proofs.Enough.{end-no-higher}
 use Rattle.unification.proofs.FineLists.{Place, is-sort, is-node, is-stray, place}
 use Rattle.unification.proofs.Lists.{lower, scoped, part-is-place}
-use Rattle.unification.specs.Exact.{Next, BindsKept}
+use Rattle.unification.specs.Exact.{YesLeaves, BindsKept}
 use Rattle.unification.proofs.Robinson.{unify-kept}
 use Rattle.unification.proofs.Equations.{unify-eq}
 use Rattle.unification.proofs.Theorem.{deep-enough, deeper-enough, ready-ranked}
@@ -319,12 +319,12 @@ module _ (ws ns bs ts : List ℕ) (k : Lengths) (c : ℕ) (t : Trying ws ns bs t
             yes-tried = subst (TryLeaves ws ns k (unify shape B x y) bs ts c bs₁ ts₁) e u
 
             next-by : (X : Unifies) → BindsKept shape (k .variables) B X → X ≡ yes-with (bindsOf bs₁ (k .variables))
-                → Next shape (k .variables) B (bindsOf bs₁ (k .variables))
-            next-by (yes-with C) n′ s = let w : C ≡ bindsOf bs₁ (k .variables) = cc in subst (Next shape (k .variables) B) w n′
+                → YesLeaves shape (k .variables) B (bindsOf bs₁ (k .variables))
+            next-by (yes-with C) n′ s = let w : C ≡ bindsOf bs₁ (k .variables) = cc in subst (YesLeaves shape (k .variables) B) w n′
             next-by no-way n′ s = no-confusion (cc)
             next-by too-deep n′ s = no-confusion (cc)
 
-            next : Next shape (k .variables) B (bindsOf bs₁ (k .variables))
+            next : YesLeaves shape (k .variables) B (bindsOf bs₁ (k .variables))
             unfolding unify
             next =
                 next-by (unify shape B x y)

@@ -1,3 +1,3 @@
 -- What the contracts of this crate cite beside the definitions of the unifier.
-pub mod Inner
 pub mod OnTrail
+pub mod Inner

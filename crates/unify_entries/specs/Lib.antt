@@ -1,2 +1,3 @@
+-- What is said of the entry unify.
 pub mod Codes
 pub mod Left

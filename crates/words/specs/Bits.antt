@@ -1,4 +1,4 @@
--- The largest word, and the bits at which the fields of packed answers begin.
+-- The bits at which the fields of packed answers begin.
 use Prim.Native.Nat.{ℕ}
 
 abbrev pub bit8 : ℕ

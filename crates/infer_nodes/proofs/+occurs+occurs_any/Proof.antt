@@ -1,3 +1,4 @@
+-- The occurs check and its walk over parts, one cycle: each call is on a place of lower rank. Assumes nothing.
 mod Common
 mod Occurs
 mod Occurs_any

@@ -16,18 +16,18 @@ use Rattle.inference.specs.Names.{overloadIn}
 use Rattle.inference.specs.Typing.{All}
 
 -- A constraint whose places and sorts are those of the lists W.
-pub data Listed (W : Lent) (P : Problem) : Constraint → Type 0 where
-  sub-listed : (l r : InferSortId) → PlacedIn W (l .0) → PlacedIn W (r .0) → Listed W P (Sub l r)
-  lit-listed : (p : InferSortId) (kind : LitKind) → PlacedIn W (p .0) → Listed W P (Lit p kind)
+pub data ListedConstraint (W : Lent) (P : Problem) : Constraint → Type 0 where
+  sub-listed : (l r : InferSortId) → PlacedIn W (l .0) → PlacedIn W (r .0) → ListedConstraint W P (Sub l r)
+  lit-listed : (p : InferSortId) (kind : LitKind) → PlacedIn W (p .0) → ListedConstraint W P (Lit p kind)
   disjunction-listed : (x : ExprId) (p : InferSortId) (run : Run) → PlacedIn W (p .0)
       → run .start + run .count ≤ length (P .overloads)
       → ((i : ℕ) → i < run .count → PlacedIn W (overloadIn (P .overloads) run i .sort .0))
-      → Listed W P (Disjunction x p run)
+      → ListedConstraint W P (Disjunction x p run)
   comprehension-listed : (body node : InferSortId) (element : SortId) → PlacedIn W (body .0) → PlacedIn W (node .0)
       → element .0 < W .lengths .sorts
-      → Listed W P (Comprehension body node element)
+      → ListedConstraint W P (Comprehension body node element)
   join-listed : (run : Run) (t : InferSortId) → PlacedIn W (t .0) → run .start + run .count ≤ length (P .sources)
-      → All (PlacedIn W) (take (run .count) (drop (run .start) (P .sources))) → Listed W P (Join run t)
+      → All (PlacedIn W) (take (run .count) (drop (run .start) (P .sources))) → ListedConstraint W P (Join run t)
 
 -- the lists have grown by sorts only
 pub record SortsOnly (W W′ : Lent) : Type 0 where

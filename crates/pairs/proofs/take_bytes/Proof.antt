@@ -1,6 +1,6 @@
 -- The invariant: what is held is what the part taken leaves, the part taken is within the bytes, and memory and
--- buffer keep their lengths. The measure is what is left of
--- the bytes, of which each turn takes at least one. What `read` and `write` answer is what the C library's contracts say; nothing else is assumed.
+-- buffer keep their lengths. The measure is what is left of the bytes, of which each turn takes at least one. What
+-- `read` and `write` answer is what the C library's contracts say; nothing else is assumed.
 use Prim.Native.Nat.{_-_, _≤_}
 use Rattle.pair_input.proofs.Ways as law
 use Rattle.pair_input.specs.ByteByByte.{takeBytes}

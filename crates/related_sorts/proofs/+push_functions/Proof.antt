@@ -1,3 +1,4 @@
+-- Function nodes pushed one after the other, a cycle of one: fewer are left each time. Assumes nothing.
 mod Common
 mod Push_functions
 use Rattle.related_sorts.proofs.+push_functions.{statement}

@@ -12,13 +12,12 @@ use Rattle.unification.specs.Making.{Lent, graph}
 use Rattle.unification.specs.Inner.Making.{lent}
 use Rattle.unification.specs.Growing.{PlacedIn, Grows}
 use Rattle.inference.specs.declared.Constraint.{Constraint}
-use Rattle.inference.specs.Constraints.{maxExprs, maxConstraints, maxOverloads, maxSources, maxComponents}
-use Rattle.inference.specs.Constraints.{rowsFrom, Problem}
+use Rattle.inference.specs.Constraints.{maxExprs, maxConstraints, maxOverloads, maxSources, maxComponents, rowsFrom, Problem}
 use Rattle.inference.specs.Search.{Out, Going, onYes}
 use Rattle.inference.specs.SolveChecks.{disjunctions, components}
 use Rattle.inference.specs.SolveEntry.{nothingMet}
 use Rattle.inference.specs.Typing.{All}
-use Rattle.inference.specs.Inner.Listed.{Listed, SortsOnly}
+use Rattle.inference.specs.Inner.Listed.{ListedConstraint, SortsOnly}
 use Rattle.search_state.specs.declared.Sizes.{Sizes}
 use Rattle.search_state.specs.declared.State.{State}
 use Rattle.search_state.specs.declared.Branch.{Branch}
@@ -29,9 +28,7 @@ use Rattle.search_state.specs.declared.Next.the-variants.{Solve, Source}
 use Rattle.search_state.specs.declared.Step.{Step}
 use Rattle.search_state.specs.declared.Step.the-variants.{Nothing, Component, Written, Choice}
 use Rattle.search_state.specs.declared.Pairs.{Pairs}
-use Rattle.search_state.specs.Inner.Memory.{sourceAt, problemIn, restFrom, chosenExprs, trailWords}
-use Rattle.search_state.specs.Inner.Memory.{measureAt, choicesAt, scratchUsed, pathOf, worldOf, outOf}
-use Rattle.search_state.specs.Inner.Memory.{nextOf}
+use Rattle.search_state.specs.Inner.Memory.{sourceAt, problemIn, restFrom, chosenExprs, trailWords, measureAt, choicesAt, scratchUsed, pathOf, worldOf, outOf, nextOf}
 use Rattle.words.specs.Words.{part}
 use Rattle.search_state.specs.Inner.Leaves.{unifyPairs, pathAfter}
 
@@ -40,7 +37,7 @@ pub record Suits (W : Lent) (P : Problem) : Type 0 where
   pub six : 6 ≤ W .lengths .sorts
   pub default : P .default < W .lengths .sorts
   pub exprs : All (PlacedIn W) (P .exprs)
-  pub constraints : All (Listed W P) (P .constraints)
+  pub constraints : All (ListedConstraint W P) (P .constraints)
 
 -- and its sizes are within the ceilings
 pub record Sized (P : Problem) (z : Sizes) : Type 0 where

@@ -1,3 +1,4 @@
+-- The search, one cycle of eleven functions: the work left falls with each call, and the parts are put together here. Assumes nothing.
 mod Common
 mod Attempt
 mod Resume

@@ -1,3 +1,4 @@
+-- Join and meet, one cycle of seven functions over the direction: ranks of parts fall. Assumes nothing.
 mod Common
 mod Against
 mod Bound

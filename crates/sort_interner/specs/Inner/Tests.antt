@@ -1,4 +1,4 @@
--- The tests that checks 2 to 4 make of one row or entry after another, by name.
+-- A row held against another, by name.
 use mathlib.Core.Bool.{Bool}
 use mathlib.Core.List.{List}
 use Prim.Native.Nat.{ℕ}

@@ -1,4 +1,4 @@
--- Bytes put into a buffer one after another.
+-- Room for the text of a sort, and of a run of sorts.
 use mathlib.Core.List.{List}
 use Prim.Native.Nat.{ℕ, _+_, _<_, _≤_}
 use lib.ListN.{length}

@@ -1,3 +1,4 @@
+-- `unify` and its walk over parts, one cycle: free variables times a weight, plus the rank of the left side, falls. Assumes nothing.
 mod Common
 mod Unify
 mod Unify_parts

@@ -1,4 +1,4 @@
--- What only contracts of inner functions cite, beside `specs/Bits.antt`.
+-- The largest word.
 use Prim.Native.Nat.{ℕ}
 
 abbrev pub mostWord : ℕ

@@ -1,3 +1,4 @@
+-- `occurs`: at its end a place is the variable, another variable, or a head whose parts are asked. Assumes nothing.
 use Prim.Native.Nat.{ℕ, _<_, _+_, _*_}
 use borrow.Fn.Kinds.{In}
 use borrow.Fn.PlainCycle.{Measures, is, falls, and}

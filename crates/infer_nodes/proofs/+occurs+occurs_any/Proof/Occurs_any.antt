@@ -1,3 +1,4 @@
+-- `occurs_any`: the parts from the left, each of lower rank than the whole; the first yes ends it. Assumes nothing.
 use Prim.Native.Nat.{ℕ, _<_, _+_, _*_}
 use borrow.Fn.Kinds.{In}
 use borrow.Fn.PlainCycle.{Measures, is, falls, and}

@@ -1,3 +1,4 @@
+-- `push_functions`: a node for the next range, then those for the rest; no room ends it. Assumes nothing.
 use Prim.Native.Nat.{ℕ, _<_, _+_, _-_}
 use borrow.Fn.Kinds.{In}
 use borrow.Fn.PlainCycle.{Measures, is, falls, and}

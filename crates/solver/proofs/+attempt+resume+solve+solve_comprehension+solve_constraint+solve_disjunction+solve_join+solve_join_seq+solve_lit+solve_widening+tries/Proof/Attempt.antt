@@ -1,3 +1,4 @@
+-- `attempt`: places made equal, a step recorded, what comes next, the trail undone: the definition of a try. Assumes nothing.
 use Prim.Native.Nat.{ℕ, _-_}
 use Rattle.solver.proofs.attempt.Reads as attempt
 use Rattle.solver.proofs.+attempt+resume+solve+solve_comprehension+solve_constraint+solve_disjunction+solve_join+solve_join_seq+solve_lit+solve_widening+tries.Lts-attempt as attempt-lts

@@ -1,3 +1,4 @@
+-- `resume`: what a value names as coming next is the definition of going on. Assumes nothing.
 use Prim.Native.Nat.{ℕ, _-_}
 use Rattle.solver.proofs.resume.Reads as resume
 use Rattle.solver.proofs.+attempt+resume+solve+solve_comprehension+solve_constraint+solve_disjunction+solve_join+solve_join_seq+solve_lit+solve_widening+tries.Lts-resume as resume-lts

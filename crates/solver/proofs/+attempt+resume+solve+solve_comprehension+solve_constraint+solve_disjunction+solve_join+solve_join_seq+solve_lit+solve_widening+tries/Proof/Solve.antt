@@ -1,3 +1,4 @@
+-- `solve`: dropped where the prefix is greater than the incumbent's, a leaf at the end, else the next constraint. Assumes nothing.
 use Prim.Native.Nat.{ℕ, _-_}
 use Rattle.solver.proofs.solve.Reads as solve
 use Rattle.solver.proofs.+attempt+resume+solve+solve_comprehension+solve_constraint+solve_disjunction+solve_join+solve_join_seq+solve_lit+solve_widening+tries.Lts-solve as solve-lts

@@ -1,3 +1,4 @@
+-- `solve_comprehension`: a container made and tried for this reading, then the readings left. Assumes nothing.
 use Prim.Native.Nat.{ℕ, _-_}
 use Rattle.solver.proofs.attempt.Reads as attempt
 use Rattle.solver.proofs.solve_comprehension.Reads as solve-comprehension

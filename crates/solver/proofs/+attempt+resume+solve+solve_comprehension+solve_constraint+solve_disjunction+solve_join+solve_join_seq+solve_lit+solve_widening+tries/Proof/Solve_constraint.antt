@@ -1,3 +1,4 @@
+-- `solve_constraint`: the row read is the definition's constraint, and each kind has its function. Assumes nothing.
 use Prim.Native.Nat.{ℕ, _-_}
 use Rattle.solver.proofs.solve_comprehension.Reads as solve-comprehension
 use Rattle.solver.proofs.solve_constraint.Reads as solve-constraint

@@ -1,3 +1,4 @@
+-- `solve_disjunction`: a loop over the overloads, all tried; what is left of them is the definition on the rest. Assumes nothing.
 use Prim.Native.Nat.{ℕ, _-_}
 use Rattle.solver.proofs.attempt.Reads as attempt
 use Rattle.solver.proofs.solve_disjunction.Reads as solve-disjunction

@@ -1,3 +1,4 @@
+-- `solve_join`: the agreed sort tried first, where there is one, and the sources one by one if that found nothing. Assumes nothing.
 use Prim.Native.Nat.{ℕ, _-_}
 use Rattle.solver.proofs.attempt.Reads as attempt
 use Rattle.solver.proofs.solve_join.Reads as solve-join

@@ -1,3 +1,4 @@
+-- `solve_join_seq`: a source as a widening, what comes next being the sources after it. Assumes nothing.
 use Prim.Native.Nat.{ℕ, _-_}
 use Rattle.solver.proofs.solve.Reads as solve
 use Rattle.solver.proofs.solve_join_seq.Reads as solve-join-seq

@@ -1,3 +1,4 @@
+-- `solve_lit`: at a number sort its component, at a free place the tries, else not found. Assumes nothing.
 use Prim.Native.Nat.{ℕ, _-_}
 use Rattle.solver.proofs.resume.Reads as resume
 use Rattle.solver.proofs.solve_lit.Reads as solve-lit

@@ -1,3 +1,4 @@
+-- `solve_widening`: equal first, then the wider or narrower sorts in turn; the nodes made are given back. Assumes nothing.
 use Prim.Native.Nat.{ℕ, _-_}
 use Rattle.solver.proofs.attempt.Reads as attempt
 use Rattle.solver.proofs.solve_widening.Reads as solve-widening

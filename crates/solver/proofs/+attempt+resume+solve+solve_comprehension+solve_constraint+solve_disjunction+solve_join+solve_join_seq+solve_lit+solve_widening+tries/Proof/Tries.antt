@@ -1,3 +1,4 @@
+-- `tries`: one try after another up to the first that found. Assumes nothing.
 use Prim.Native.Nat.{ℕ, _-_}
 use Rattle.solver.proofs.attempt.Reads as attempt
 use Rattle.solver.proofs.tries.Reads as tries

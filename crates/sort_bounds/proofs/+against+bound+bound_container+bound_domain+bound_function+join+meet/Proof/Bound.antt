@@ -1,3 +1,4 @@
+-- `bound`: by the pair of rows, equal sorts, numbers, containers or functions, as the definition goes by trees. Assumes nothing.
 use Prim.Native.Nat.{ℕ, _<_, _+_, _-_, _*_}
 use borrow.Fn.Kinds.{In}
 use borrow.Fn.PlainCycle.{Measures, is, falls, and}

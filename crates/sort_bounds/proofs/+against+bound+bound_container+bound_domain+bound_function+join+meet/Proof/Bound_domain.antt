@@ -1,3 +1,4 @@
+-- `bound_domain`: argument by argument, by a loop, with the sorts made on the way kept. Assumes nothing.
 use Prim.Native.Nat.{ℕ, _<_, _+_, _-_, _*_}
 use borrow.Fn.Kinds.{In}
 use borrow.Fn.PlainCycle.{Measures, is, falls, and}

@@ -1,3 +1,4 @@
+-- `bound_function`: the arguments the other way, then the range, and the function interned. Assumes nothing.
 use Prim.Native.Nat.{ℕ, _<_, _+_, _-_, _*_}
 use borrow.Fn.Kinds.{In}
 use borrow.Fn.PlainCycle.{Measures, is, falls, and}

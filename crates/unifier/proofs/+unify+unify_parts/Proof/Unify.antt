@@ -1,3 +1,4 @@
+-- `unify`: both sides at their ends; by what stands there it binds, says yes or no, or asks the parts. Assumes nothing.
 use Prim.Native.Nat.{ℕ, _<_, _+_, _-_, _*_}
 use borrow.Fn.Kinds.{In}
 use borrow.Fn.PlainCycle.{Measures, is, falls, and}

@@ -1,3 +1,4 @@
+-- `unify_parts`: the arguments by a loop, each under the bindings of those before, and then the range. Assumes nothing.
 use Prim.Native.Nat.{ℕ, _<_, _+_, _-_, _*_}
 use borrow.Fn.Kinds.{In}
 use borrow.Fn.PlainCycle.{Measures, is, falls, and}
