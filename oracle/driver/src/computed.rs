@@ -88,7 +88,7 @@ choice x i cs = record { expr = x; position = i } ∷ cs
 
 -- a list and the excerpt's answer
 abbrev Case : Type 0
-Case = Given × Outcome
+Case = GivenList × Outcome
 ";
 
 /// What the proof opens of [HEAD] and of the builders.
