@@ -5,7 +5,8 @@ use Prim.Native.Nat.{ℕ, _+_, _*_}
 use lib.ListN.{getD}
 use Rattle.resolved_sort.specs.Storage.{maxSorts, maxEntries, entriesAt, fullLength}
 use Rattle.unification.specs.Nodes.{maxNodes, maxNodeEntries, maxVars, nodeEntriesAt, fullNodes}
-use Rattle.inference.specs.Constraints.{maxExprs, maxConstraints, maxOverloads, maxSources, maxComponents, constraintWords, overloadWords, nameWords}
+use Rattle.inference.specs.Constraints.{maxExprs, maxConstraints, maxOverloads, maxSources, maxComponents}
+use Rattle.inference.specs.Constraints.{constraintWords, overloadWords, nameWords}
 use Rattle.inference.specs.SolveChecks.{scratchWords, typingWords, choiceWords}
 use Rattle.list_memory.specs.declared.Heard.{Heard}
 

@@ -9,7 +9,8 @@ use Rattle.resolved_sort.specs.Storage.{maxArguments, rowWords, firstContainer,
 use Rattle.resolved_sort.specs.Checks.{allBelow, withinLent, sortRowChecks, atCeiling, Check}
 use Rattle.unification.specs.declared.InferSort.{InferSort}
 use Rattle.unification.specs.declared.InferSort.the-variants.{Generic, Function, Var}
-use Rattle.unification.specs.Nodes.{maxNodes, maxNodeEntries, maxVars, nodeEntriesAt, fullNodes, nodeKindAt, nodeEntryAt, variableKind, nodeAt, isPlace, bindsOf}
+use Rattle.unification.specs.Nodes.{maxNodes, maxNodeEntries, maxVars, nodeEntriesAt, fullNodes, nodeKindAt}
+use Rattle.unification.specs.Nodes.{nodeEntryAt, variableKind, nodeAt, isPlace, bindsOf}
 use Rattle.unification.specs.Acyclic.{acyclic}
 
 -- 1. "A given list is above its ceiling or longer than the storage lent for it."

@@ -4,7 +4,8 @@ use mathlib.Core.Path.{_≡_}
 use mathlib.Core.List.{List, [], _∷_}
 use mathlib.Core.Option.{Option, none, some}
 use Prim.Native.Nat.{ℕ, zero, suc}
-use Rattle.unification.specs.Term.{strayHead, Term, var, app, Terms, no-part, part, Shape, variable, over, substitute}
+use Rattle.unification.specs.Term.{strayHead, Term, var, app, Terms, no-part, part, Shape, variable, over}
+use Rattle.unification.specs.Term.{substitute}
 use Rattle.unification.specs.Nodes.{Binds, binding}
 use Rattle.unification.specs.Unify.{Unifies, yes-with, no-way}
 use Rattle.unification.specs.Acyclic.{Acyclic}
@@ -77,4 +78,5 @@ module _ (shape shape′ : ℕ → Shape) where
 -- Whatever the first place can stand for, the second can.
 abbrev pub Covers : (ℕ → Shape) → Binds → ℕ → (ℕ → Shape) → Binds → ℕ → Type 0
 Covers shape B p shape′ B′ p′ =
-    (σ : ℕ → Term) → Respects shape B σ → (τ : ℕ → Term) × (Respects shape′ B′ τ × (substitute τ (termAt shape′ p′) ≡ substitute σ (termAt shape p)))
+    (σ : ℕ → Term) → Respects shape B σ → (τ : ℕ → Term) × (Respects shape′ B′ τ × (substitute τ (termAt shape′ p′) ≡
+    substitute σ (termAt shape p)))

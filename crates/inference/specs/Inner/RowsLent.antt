@@ -1,7 +1,8 @@
 -- Check 1 of the lists beside sorts, nodes and bindings, as bounds: counts within their ceilings, and the words lent.
 use Prim.Native.Nat.{_*_, _≤_}
 use lib.ListN.{length}
-use Rattle.inference.specs.Constraints.{maxExprs, maxConstraints, maxOverloads, maxSources, constraintWords, overloadWords, nameWords}
+use Rattle.inference.specs.Constraints.{maxExprs, maxConstraints, maxOverloads, maxSources, constraintWords}
+use Rattle.inference.specs.Constraints.{overloadWords, nameWords}
 use Rattle.inference.specs.SolveChecks.{Call}
 
 pub record RowsLent (I : Call) : Type 0 where

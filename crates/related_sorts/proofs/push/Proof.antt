@@ -28,4 +28,15 @@ push-spec =
     (λ c. search needs)
     (λ c. search needs)
     (λ c. search needs)
-    (λ c. law.node-made (c .before .before .before .before .before .before .before .before .before .before .before .before .before .args .sorts .now) (c .before .before .before .before .before .before .before .before .before .before .before .before .before .args .nodes .now) (c .before .before .before .before .before .before .before .before .before .before .before .before .before .args .lengths) (c .before .before .before .before .before .before .before .before .before .before .before .before .before .args .kind) (c .before .before .before .before .before .before .before .before .before .before .before .before .before .args .part) (c .before .before .before .before .before .before .before .before .before .before .before .before .before .args .ids) (c .before .before .before .before .before .before .before .before .before .before .before .before .before .args .count) (search needs) (c .before .before .before .before .before .before .before .before .before .before .before .before .before .pre) (c .before .before .before .before .before .before .before .before .before .before .if1 .left) (c .before .before .before .before .before .before .before .before .before .if2 .left) _ (c .before .before .before .before .before .before .before .start-of .ensures) _ _ (c .before .before .before .before .before .before .put-row .ensures) (c .before .before .put-args .ensures)))
+    (λ c. law.node-made (c .before .before .before .before .before .before .before .before .before .before .before .before .before .args .sorts .now)
+    (c .before .before .before .before .before .before .before .before .before .before .before .before .before .args .nodes .now)
+    (c .before .before .before .before .before .before .before .before .before .before .before .before .before .args .lengths)
+    (c .before .before .before .before .before .before .before .before .before .before .before .before .before .args .kind)
+    (c .before .before .before .before .before .before .before .before .before .before .before .before .before .args .part)
+    (c .before .before .before .before .before .before .before .before .before .before .before .before .before .args .ids)
+    (c .before .before .before .before .before .before .before .before .before .before .before .before .before .args .count)
+    (search needs) (c .before .before .before .before .before .before .before .before .before .before .before .before .before .pre)
+    (c .before .before .before .before .before .before .before .before .before .before .if1 .left)
+    (c .before .before .before .before .before .before .before .before .before .if2 .left) _
+    (c .before .before .before .before .before .before .before .start-of .ensures) _ _
+    (c .before .before .before .before .before .before .put-row .ensures) (c .before .before .put-args .ensures)))

@@ -12,7 +12,8 @@ use Rattle.unification.specs.Making.{Lent, graph}
 use Rattle.unification.specs.Inner.Making.{lent}
 use Rattle.unification.specs.Growing.{PlacedIn, Grows}
 use Rattle.inference.specs.declared.Constraint.{Constraint}
-use Rattle.inference.specs.Constraints.{maxExprs, maxConstraints, maxOverloads, maxSources, maxComponents, rowsFrom, Problem}
+use Rattle.inference.specs.Constraints.{maxExprs, maxConstraints, maxOverloads, maxSources, maxComponents, rowsFrom}
+use Rattle.inference.specs.Constraints.{Problem}
 use Rattle.inference.specs.Search.{Out, Going, onYes}
 use Rattle.inference.specs.SolveChecks.{disjunctions, components}
 use Rattle.inference.specs.SolveEntry.{nothingMet}
@@ -28,7 +29,8 @@ use Rattle.search_state.specs.declared.Next.the-variants.{Solve, Source}
 use Rattle.search_state.specs.declared.Step.{Step}
 use Rattle.search_state.specs.declared.Step.the-variants.{Nothing, Component, Written, Choice}
 use Rattle.search_state.specs.declared.Pairs.{Pairs}
-use Rattle.search_state.specs.Inner.Memory.{sourceAt, problemIn, restFrom, chosenExprs, trailWords, measureAt, choicesAt, scratchUsed, pathOf, worldOf, outOf, nextOf}
+use Rattle.search_state.specs.Inner.Memory.{sourceAt, problemIn, restFrom, chosenExprs, trailWords, measureAt}
+use Rattle.search_state.specs.Inner.Memory.{choicesAt, scratchUsed, pathOf, worldOf, outOf, nextOf}
 use Rattle.words.specs.Words.{part}
 use Rattle.search_state.specs.Inner.Leaves.{unifyPairs, pathAfter}
 

@@ -21,7 +21,9 @@ rows-within-lent-spec =
     (λ c. let a = c .before .before .before .before .before .before .before .before .before .before .args in
     lent.constraints-short (a .given) (a .exprs .now) (a .names .now) (a .constraints .now) (a .overloads .now)
     (a .sources .now) (c .if5 .taken))
-    (λ c. let a = c .before .before .before .before .before .before .before .before .before .before .before .before .args in lent.overloads-above (a .given) (a .exprs .now) (a .names .now) (a .constraints .now) (a .overloads .now) (a .sources .now) (c .if6 .taken))
+    (λ c. let a = c .before .before .before .before .before .before .before .before .before .before .before .before .args in
+    lent.overloads-above (a .given) (a .exprs .now) (a .names .now) (a .constraints .now) (a .overloads .now)
+    (a .sources .now) (c .if6 .taken))
     (λ c. omega (arith, c .before .if6 .left))
     (λ c.
     let start = c .before .before .before .before .before .before .before .before .before .before .before
