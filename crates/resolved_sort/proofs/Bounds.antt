@@ -1,6 +1,6 @@
 -- Join and meet are the least upper and the greatest lower bound, and exist exactly if some bound exists: one law over the
 -- direction. The least bounds of a sort's parts make the sort's; the parts of flat sorts are heads. Assumes nothing.
-use mathlib.Core.Path.{_≡_, refl, _∙_}
+use mathlib.Core.Path.{_≡_, refl, sym, _∙_}
 use mathlib.Core.Bool.{Bool, true, false, not}
 use mathlib.Core.Option.{Option, none, some, bind}
 use mathlib.Core.Logic.{_↔_}
@@ -119,8 +119,40 @@ module _ (up : Bool) where
       (least-of-same (IsLe up) _ _ (λ c p. (p .2, p .0, p .1)) (λ c p. (p .1, p .2, p .0)) (bind (bound up t u) (bound up s))
       (least-of-three (IsLe up) (le-trans up) t u s (bound up t u) (bound up s) (bound-least t u) (λ x. rw (bound-commutes s x) (bound-least x s))))
 
+-- Order and bounds say each other: s is equal to or below t exactly if t is their join, exactly if s is their meet. Each of
+-- join and meet absorbs the other.
+module _ (up : Bool) where
+  pub le-exactly-bound : (s t : Tree) → (le up s t ≡ true) ↔ (bound up s t ≡ some t)
+  le-exactly-bound s t = (
+    λ e. least-unique (IsLe up) (le-antisym up) _ (bound up s t) (some t) (bound-least up s t) ((e, le-refl up t), λ c p. p .1),
+    λ e. bound-is-bound up s t t e .0,
+  )
+
+  pub bound-absorbs : (s t u : Tree) → bound up s t ≡ some u → bound (not up) u s ≡ some s
+  bound-absorbs s t u e = le-exactly-bound-other s u (bound-is-bound up s t u e .0)
+    where
+      le-exactly-bound-other : (s u : Tree) → le up s u ≡ true → bound (not up) u s ≡ some s
+      le-exactly-bound-other s u h =
+          least-unique (IsLe (not up)) (le-antisym (not up)) _ (bound (not up) u s) (some s) (bound-least (not up) u s)
+          ((sym (le-flips up s u) ∙ h, le-refl (not up) s), λ c p. p .1)
+
 -- The two directions in words of "equal to or below" alone.
 module _ (s t : Tree) where
+  pub below-exactly-join : (le true s t ≡ true) ↔ (join s t ≡ some t)
+  below-exactly-join = le-exactly-bound true s t
+
+  pub below-exactly-meet : (le true s t ≡ true) ↔ (meet s t ≡ some s)
+  below-exactly-meet = (
+    λ e. bound-commutes false s t ∙ le-exactly-bound false t s .0 (sym (le-flips true s t) ∙ e),
+    λ e. le-flips true s t ∙ le-exactly-bound false t s .1 (bound-commutes false t s ∙ e),
+  )
+
+  pub join-absorbs-meet : (u : Tree) → meet s t ≡ some u → join s u ≡ some s
+  join-absorbs-meet u e = bound-commutes true s u ∙ bound-absorbs false s t u e
+
+  pub meet-absorbs-join : (u : Tree) → join s t ≡ some u → meet s u ≡ some s
+  meet-absorbs-join u e = bound-commutes false s u ∙ bound-absorbs true s t u e
+
   pub join-is-upper : (u : Tree) → join s t ≡ some u → (le true s u ≡ true) × (le true t u ≡ true)
   join-is-upper u e = bound-is-bound true s t u e
 

@@ -1,4 +1,4 @@
--- A distance exists exactly where the first sort is equal to or below the second, is (0, 0) between equal sorts, and is the
+-- A distance exists exactly where the first sort is equal to or below the second, is (0, 0) exactly between equal sorts, and is the
 -- exact distance stopped once: stopping at each level equals stopping the whole sum. By the clauses of `distance`; levels are
 -- at most 3, so a head never stops. Assumes nothing.
 use mathlib.Core.Path.{_≡_, refl, ap, ap₂, _∙_}
@@ -11,9 +11,9 @@ use Rattle.resolved_sort.specs.declared.Sort.{Sort}
 use Rattle.resolved_sort.specs.declared.ComplexSort.{ComplexSort}
 use Rattle.resolved_sort.specs.Tree.{Flat, unit, primitive, def, typevar, Tree, flat, container, function}
 use Rattle.resolved_sort.specs.Tree.{Trees, no-args, arg, family, level, familyOp, levelOp}
-use Rattle.resolved_sort.specs.Order.{leFlat, leOp, le, les, Steps, apart, onlyIf, mostSteps, map₁, map₂, distance, distances}
+use Rattle.resolved_sort.specs.Order.{leFlat, leOp, le, les, Steps, apart, onlyIf, allSteps, mostSteps, map₁, map₂, distance, distances}
 use Rattle.resolved_sort.specs.Exact.{exact, exacts, stopped}
-use Rattle.resolved_sort.proofs.Heads.{head-refl, head-flips}
+use Rattle.resolved_sort.proofs.Heads.{leHead, head-exactly, head-refl, head-flips, flat-injective, op-injective}
 
 -- Where there is an answer.
 abbrev present : {A : Type 0} → Option A → Bool
@@ -105,6 +105,76 @@ mutual
   distances-of-equal up no-args = refl
   distances-of-equal up (arg s ss) = rw (distance-of-equal up s, distances-of-equal up ss)
 
+pub steps : {h k i j : ℕ} → h ≡ k → i ≡ j → _≡_ {A = Steps} (record { head = h; interior = i }) (record { head = k; interior = j })
+steps p q = λ i. record { head = p i; interior = q i }
+
+-- And only of equal sorts: nothing is lost by stopping at 255, since a sum that is 0 has no other way.
+abbrev headOf : Option Steps → ℕ
+headOf none = 0
+headOf (some d) = d .head
+
+abbrev no-steps : Steps
+no-steps = record { head = 0; interior = 0 }
+
+given-some : {A : Type 0} (b : Bool) (x : Option A) (a : A) → onlyIf b x ≡ some a → (b ≡ true) × (x ≡ some a)
+given-some true x a e = (refl, e)
+given-some false x a e = absurd (let z : _≡_ {A = ℕ} 0 1 = cc in omega arith)
+
+some-map₁ : {A B : Type 0} (f : A → B) (x : Option A) (b : B) → map₁ f x ≡ some b → (a : A) × (x ≡ some a) × (f a ≡ b)
+some-map₁ f none b e = absurd (let z : _≡_ {A = ℕ} 0 1 = cc in omega arith)
+some-map₁ f (some a) b e = (a, refl, cc)
+
+some-map₂ : {A B C : Type 0} (f : A → B → C) (x : Option A) (y : Option B) (c : C) → map₂ f x y ≡ some c
+    → (a : A) × (b : B) × (x ≡ some a) × (y ≡ some b) × (f a b ≡ c)
+some-map₂ f none y c e = absurd (let z : _≡_ {A = ℕ} 0 1 = cc in omega arith)
+some-map₂ f (some a) none c e = absurd (let z : _≡_ {A = ℕ} 0 1 = cc in omega arith)
+some-map₂ f (some a) (some b) c e = (a, b, refl, refl, cc)
+
+-- heads of one family that are no step apart
+no-step-apart : {A : Type 0} (family level : A → ℕ) (up : Bool) → ((a b : A) → family a ≡ family b → level a ≡ level b → a ≡ b)
+    → (a b : A) → leHead family level up a b ≡ true → apart up (level a) (level b) ≡ 0 → a ≡ b
+no-step-apart family level true injective a b h e = let k = head-exactly family level true a b .0 h in injective a b (k .0) (omega arith)
+no-step-apart family level false injective a b h e = let k = head-exactly family level false a b .0 h in injective a b (k .0) (omega arith)
+
+no-steps-at-all : (d : Steps) → allSteps d ≡ 0 → d ≡ no-steps
+no-steps-at-all d e = steps (omega arith) (omega arith)
+
+mutual
+  unfolding distance
+
+  distance-zero-equal : (up : Bool) (s t : Tree) → distance up s t ≡ some no-steps → s ≡ t
+  distance-zero-equal up (flat a) (flat b) e =
+      let h = given-some (leFlat up a b) _ _ e in
+      ap flat (no-step-apart family level up flat-injective a b (h .0) (ap (λ x. headOf x) (h .1)))
+  distance-zero-equal up (flat a) (container p t) e = absurd (let z : _≡_ {A = ℕ} 0 1 = cc in omega arith)
+  distance-zero-equal up (flat a) (function ts u) e = absurd (let z : _≡_ {A = ℕ} 0 1 = cc in omega arith)
+  distance-zero-equal up (container o s) (flat b) e = absurd (let z : _≡_ {A = ℕ} 0 1 = cc in omega arith)
+  distance-zero-equal up (container o s) (container p t) e =
+      let h = given-some (leOp up o p) _ _ e in
+      let k = some-map₁ _ (distance up s t) _ (h .1) in
+      ap₂ container (no-step-apart familyOp levelOp up op-injective o p (h .0) (ap (λ (d : Steps). d .head) (k .2)))
+      (distance-zero-equal up s t (k .1 ∙ ap some (no-steps-at-all (k .0) (ap (λ (d : Steps). d .interior) (k .2)))))
+  distance-zero-equal up (container o s) (function ts u) e = absurd (let z : _≡_ {A = ℕ} 0 1 = cc in omega arith)
+  distance-zero-equal up (function ss r) (flat b) e = absurd (let z : _≡_ {A = ℕ} 0 1 = cc in omega arith)
+  distance-zero-equal up (function ss r) (container p t) e = absurd (let z : _≡_ {A = ℕ} 0 1 = cc in omega arith)
+  distance-zero-equal up (function ss r) (function ts u) e =
+      let k = some-map₂ _ (distances (not up) ss ts) (distance up r u) _ e in
+      let sum = ap (λ (d : Steps). d .interior) (k .4) in
+      ap₂ function (distances-zero-equal (not up) ss ts (k .2 ∙ ap some (omega arith)))
+      (distance-zero-equal up r u (k .3 ∙ ap some (no-steps-at-all (k .1) (omega arith))))
+
+  distances-zero-equal : (up : Bool) (ss ts : Trees) → distances up ss ts ≡ some 0 → ss ≡ ts
+  distances-zero-equal up no-args no-args e = refl
+  distances-zero-equal up no-args (arg t ts) e = absurd (let z : _≡_ {A = ℕ} 0 1 = cc in omega arith)
+  distances-zero-equal up (arg s ss) no-args e = absurd (let z : _≡_ {A = ℕ} 0 1 = cc in omega arith)
+  distances-zero-equal up (arg s ss) (arg t ts) e =
+      let k = some-map₂ _ (distance up s t) (distances up ss ts) _ e in
+      ap₂ arg (distance-zero-equal up s t (k .2 ∙ ap some (no-steps-at-all (k .0) (omega arith))))
+      (distances-zero-equal up ss ts (k .3 ∙ ap some (omega arith)))
+
+pub distance-zero-exactly : (up : Bool) (s t : Tree) → (distance up s t ≡ some (record { head = 0; interior = 0 })) ↔ (s ≡ t)
+distance-zero-exactly up s t = (distance-zero-equal up s t, λ e. rw e (distance-of-equal up t))
+
 -- Stopping.
 map-given : {A B : Type 0} (f : A → B) (b : Bool) (x : Option A) → onlyIf b (map₁ f x) ≡ map₁ f (onlyIf b x)
 map-given f true x = refl
@@ -143,9 +213,6 @@ levelOp-small ComplexSort.FBag = omega arith
 apart-stops : (up : Bool) (l m : ℕ) → l ≤ 3 → m ≤ 3 → apart up l m ≡ min mostSteps (apart up l m)
 apart-stops true l m h k = omega arith
 apart-stops false l m h k = omega arith
-
-pub steps : {h k i j : ℕ} → h ≡ k → i ≡ j → _≡_ {A = Steps} (record { head = h; interior = i }) (record { head = k; interior = j })
-steps p q = λ i. record { head = p i; interior = q i }
 
 mutual
   unfolding distance exact

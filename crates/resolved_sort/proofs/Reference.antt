@@ -2,18 +2,19 @@
 -- the other way, a head at a level above 0 has a conversion from the head one level lower, so that the levels between two
 -- heads are a chain of conversions. Assumes nothing.
 use mathlib.Core.Path.{_≡_, refl, sym, _∙_}
-use mathlib.Core.Bool.{Bool, true, false, and-true, and-eq-true-iff, false≢true}
+use mathlib.Core.Bool.{Bool, true, false, not, and-true, and-eq-true-iff, false≢true}
 use mathlib.Core.Logic.{_↔_}
 use Prim.Native.Nat.{ℕ, zero, suc, _+_, _-_}
 use native.Mathlib.Omega.{arith}
 use Rattle.resolved_sort.specs.declared.Sort.{Sort}
 use Rattle.resolved_sort.specs.declared.ComplexSort.{ComplexSort}
-use Rattle.resolved_sort.specs.Tree.{Flat, unit, primitive, def, typevar, Tree, flat, container, family, level, familyOp, levelOp}
-use Rattle.resolved_sort.specs.Order.{leFlat, leOp, le, materializable, isFunction}
+use Rattle.resolved_sort.specs.Tree.{Flat, unit, primitive, def, typevar, Tree, flat, container, function, Trees, no-args, arg, family, level, familyOp, levelOp}
+use Rattle.resolved_sort.specs.Order.{leFlat, leOp, le, les, materializable, isFunction}
+use Rattle.resolved_sort.specs.Reference.{Closure, nothing, one, and-then, in-part, in-function, Closures, no-more, both}
 use Rattle.resolved_sort.specs.Reference.{Converts, pos-to-nat, nat-to-int, int-to-real, fset-to-set, fbag-to-bag, Widens, stays, then}
-use Rattle.resolved_sort.proofs.Heads.{leHead, head-exactly, flat-injective, op-injective}
-use Rattle.resolved_sort.proofs.Order.{le-refl}
-use Rattle.resolved_sort.proofs.Materializable.{Materializes, number, operator, range, materializable-exactly, materializable-refl, materializable-trans}
+use Rattle.resolved_sort.proofs.Heads.{leHead, head-exactly, head-refl, head-flips, flat-injective, op-injective}
+use Rattle.resolved_sort.proofs.Order.{Le, flats, containers, functions, Les, ends, args, le-exactly, le-refl, le-trans, les-flips}
+use Rattle.resolved_sort.proofs.Materializable.{Materializes, number, operator, range, materializable-exactly, materializable-below, materializable-refl, materializable-trans}
 
 -- From the reference to the tables.
 converts-materializes : {s t : Tree} → Converts s t → Materializes s t
@@ -94,3 +95,68 @@ op-exactly-widens o p s = (op-widens o p s, λ w. and-eq-true-iff _ _ .0 (widens
 pub container-exactly-widens : (o p : ComplexSort) (s : Tree) → (le true (container o s) (container p s) ≡ true) ↔ Widens (container o s) (container p s)
 unfolding le
 container-exactly-widens o p s = rw (le-refl true s, and-true) (op-exactly-widens o p s)
+
+-- The whole order is the closure of the reference's conversions under containers and functions. The rules of the order in
+-- either direction: a head's levels are a chain of conversions, parts and ranges go the same way, arguments the other.
+widens-closure : {s t : Tree} → Widens s t → Closure s t
+widens-closure stays = nothing
+widens-closure (then w c) = and-then (widens-closure w) (one c)
+
+converts-le : {s t : Tree} → Converts s t → le true s t ≡ true
+converts-le {s} {t} c = materializable-below s t (materializable-exactly s t .1 (converts-materializes c))
+
+-- the closure in a direction
+abbrev Toward : Bool → Tree → Tree → Type 0
+Toward true s t = Closure s t
+Toward false s t = Closure t s
+
+abbrev Towards : Bool → Trees → Trees → Type 0
+Towards true ss ts = Closures ss ts
+Towards false ss ts = Closures ts ss
+
+flat-toward : (up : Bool) (a b : Flat) → leFlat up a b ≡ true → Toward up (flat a) (flat b)
+flat-toward true a b h = widens-closure (flat-widens a b h)
+flat-toward false a b h = widens-closure (flat-widens b a (head-flips family level true b a ∙ h))
+
+container-toward : (up : Bool) (o p : ComplexSort) (s t : Tree) → leOp up o p ≡ true → Toward up s t → Toward up (container o s) (container p t)
+container-toward true o p s t h k = and-then (in-part k) (widens-closure (op-widens o p t h))
+container-toward false o p s t h k = and-then (in-part k) (widens-closure (op-widens p o s (head-flips familyOp levelOp true p o ∙ h)))
+
+function-toward : (up : Bool) (ss ts : Trees) (r u : Tree) → Towards (not up) ss ts → Toward up r u → Toward up (function ss r) (function ts u)
+function-toward true ss ts r u hs h = in-function hs h
+function-toward false ss ts r u hs h = in-function hs h
+
+arg-towards : (up : Bool) (s t : Tree) (ss ts : Trees) → Toward up s t → Towards up ss ts → Towards up (arg s ss) (arg t ts)
+arg-towards true s t ss ts h hs = both h hs
+arg-towards false s t ss ts h hs = both h hs
+
+none-towards : (up : Bool) → Towards up no-args no-args
+none-towards true = no-more
+none-towards false = no-more
+
+mutual
+  le-toward : {up : Bool} {s t : Tree} → Le up s t → Toward up s t
+  le-toward {up} (flats h) = flat-toward up _ _ h
+  le-toward {up} (containers h p) = container-toward up _ _ _ _ h (le-toward p)
+  le-toward {up} (functions ps p) = function-toward up _ _ _ _ (les-towards ps) (le-toward p)
+
+  les-towards : {up : Bool} {ss ts : Trees} → Les up ss ts → Towards up ss ts
+  les-towards {up} ends = none-towards up
+  les-towards {up} (args p ps) = arg-towards up _ _ _ _ (le-toward p) (les-towards ps)
+
+mutual
+  unfolding le
+
+  closure-le : {s t : Tree} → Closure s t → le true s t ≡ true
+  closure-le (nothing {s}) = le-refl true s
+  closure-le (one c) = converts-le c
+  closure-le (and-then {s} {t} {u} h k) = le-trans true s t u (closure-le h) (closure-le k)
+  closure-le (in-part {o} h) = and-eq-true-iff _ _ .1 (head-refl familyOp levelOp true o, closure-le h)
+  closure-le (in-function {ss} {ts} hs h) = and-eq-true-iff _ _ .1 (les-flips false ss ts ∙ closures-les hs, closure-le h)
+
+  closures-les : {ss ts : Trees} → Closures ss ts → les true ss ts ≡ true
+  closures-les no-more = refl
+  closures-les (both h hs) = and-eq-true-iff _ _ .1 (closure-le h, closures-les hs)
+
+pub order-is-the-closure-of-conversions : (s t : Tree) → (le true s t ≡ true) ↔ Closure s t
+order-is-the-closure-of-conversions s t = (λ e. le-toward (le-exactly true s t .0 e), closure-le)
