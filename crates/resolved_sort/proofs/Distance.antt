@@ -1,11 +1,11 @@
 -- A distance exists exactly where the first sort is equal to or below the second, is (0, 0) exactly between equal sorts, and is the
--- exact distance stopped once: stopping at each level equals stopping the whole sum. By the clauses of `distance`; levels are
--- at most 3, so a head never stops. Assumes nothing.
+-- exact distance stopped once: stopping at each level equals stopping the whole sum. Exact distances add up. By the clauses of
+-- `distance`; levels are at most 3, so a head never stops. Assumes nothing.
 use mathlib.Core.Path.{_≡_, refl, ap, ap₂, _∙_}
 use mathlib.Core.Bool.{Bool, true, false, not, _&&_, and-true, false≢true}
 use mathlib.Core.Option.{Option, none, some}
 use mathlib.Core.Logic.{_↔_}
-use Prim.Native.Nat.{ℕ, min, _≤_}
+use Prim.Native.Nat.{ℕ, _+_, min, _≤_}
 use native.Mathlib.Omega.{arith}
 use Rattle.resolved_sort.specs.declared.Sort.{Sort}
 use Rattle.resolved_sort.specs.declared.ComplexSort.{ComplexSort}
@@ -13,7 +13,7 @@ use Rattle.resolved_sort.specs.Tree.{Flat, unit, primitive, def, typevar
 use Rattle.resolved_sort.specs.Tree.{Trees, no-args, arg, family, level, familyOp, levelOp}
 use Rattle.resolved_sort.specs.Order.{leFlat, leOp, le, les, Steps, apart, onlyIf, allSteps, mostSteps, map₁, map₂, distance, distances}
 use Rattle.resolved_sort.specs.Exact.{exact, exacts, stopped}
-use Rattle.resolved_sort.proofs.Heads.{leHead, head-exactly, head-refl, head-flips, flat-injective, op-injective}
+use Rattle.resolved_sort.proofs.Heads.{leHead, head-exactly, head-refl, head-trans, head-flips, flat-injective, op-injective}
 
 -- Where there is an answer.
 abbrev present : {A : Type 0} → Option A → Bool
@@ -241,3 +241,78 @@ mutual
   distances-stop-once up (arg s ss) (arg t ts) =
       rw (distance-stops-once up s t, distances-stop-once up ss ts) (map-map₂ _ stopped (min mostSteps)
       (min mostSteps) _ (λ d n. omega arith) (exact up s t) (exacts up ss ts))
+
+abbrev stepsOf : Option Steps → Steps
+stepsOf none = no-steps
+stepsOf (some d) = d
+
+abbrev numberOf : Option ℕ → ℕ
+numberOf none = 0
+numberOf (some n) = n
+
+-- Distances that do not stop add up: from s to t and on to u is as far as from s to u, at the head and inside.
+abbrev plus : Steps → Steps → Steps
+plus d d′ = record { head = d .head + d′ .head; interior = d .interior + d′ .interior }
+
+-- heads of one family, each at or beyond the one before
+heads-add : {A : Type 0} (family level : A → ℕ) (up : Bool) (a b c : A) → leHead family level up a b ≡ true → leHead family level up b c ≡ true
+    → apart up (level a) (level c) ≡ apart up (level a) (level b) + apart up (level b) (level c)
+heads-add family level true a b c h k = let x = head-exactly family level true a b .0 h in let y = head-exactly family level true b c .0 k in omega arith
+heads-add family level false a b c h k = let x = head-exactly family level false a b .0 h in let y = head-exactly family level false b c .0 k in omega arith
+
+mutual
+  unfolding exact
+
+  pub exact-adds : (up : Bool) (s t u : Tree) (d d′ : Steps) → exact up s t ≡ some d → exact up t u ≡ some d′ → exact up s u ≡ some (plus d d′)
+  exact-adds up (flat a) (flat b) (flat c) d d′ e f =
+      let h = given-some (leFlat up a b) _ _ e in
+      let k = given-some (leFlat up b c) _ _ f in
+      let x = ap stepsOf (h .1) in
+      let y = ap stepsOf (k .1) in
+      rw (head-trans family level up a b c (h .0) (k .0))
+      (ap some (steps (heads-add family level up a b c (h .0) (k .0) ∙ ap₂ _+_ (ap (λ (z : Steps). z .head) x) (ap (λ (z : Steps). z .head) y))
+      (ap₂ _+_ (ap (λ (z : Steps). z .interior) x) (ap (λ (z : Steps). z .interior) y))))
+  exact-adds up (flat a) (flat b) (container q v) d d′ e f = absurd (let z : _≡_ {A = ℕ} 0 1 = cc in omega arith)
+  exact-adds up (flat a) (flat b) (function vs v) d d′ e f = absurd (let z : _≡_ {A = ℕ} 0 1 = cc in omega arith)
+  exact-adds up (flat a) (container p t) u d d′ e f = absurd (let z : _≡_ {A = ℕ} 0 1 = cc in omega arith)
+  exact-adds up (flat a) (function ts t) u d d′ e f = absurd (let z : _≡_ {A = ℕ} 0 1 = cc in omega arith)
+  exact-adds up (container o s) (flat b) u d d′ e f = absurd (let z : _≡_ {A = ℕ} 0 1 = cc in omega arith)
+  exact-adds up (container o s) (container p t) (flat c) d d′ e f = absurd (let z : _≡_ {A = ℕ} 0 1 = cc in omega arith)
+  exact-adds up (container o s) (container p t) (container q v) d d′ e f =
+      let h = given-some (leOp up o p) _ _ e in
+      let k = given-some (leOp up p q) _ _ f in
+      let x = some-map₁ _ (exact up s t) _ (h .1) in
+      let y = some-map₁ _ (exact up t v) _ (k .1) in
+      let xi = ap (λ (z : Steps). z .interior) (x .2) in
+      let yi = ap (λ (z : Steps). z .interior) (y .2) in
+      rw (head-trans familyOp levelOp up o p q (h .0) (k .0), exact-adds up s t v (x .0) (y .0) (x .1) (y .1))
+      (ap some (steps (heads-add familyOp levelOp up o p q (h .0) (k .0) ∙ ap₂ _+_ (ap (λ (z : Steps). z .head) (x .2)) (ap (λ (z : Steps). z .head) (y .2)))
+      (omega arith)))
+  exact-adds up (container o s) (container p t) (function vs v) d d′ e f = absurd (let z : _≡_ {A = ℕ} 0 1 = cc in omega arith)
+  exact-adds up (container o s) (function ts t) u d d′ e f = absurd (let z : _≡_ {A = ℕ} 0 1 = cc in omega arith)
+  exact-adds up (function ss r) (flat b) u d d′ e f = absurd (let z : _≡_ {A = ℕ} 0 1 = cc in omega arith)
+  exact-adds up (function ss r) (container p t) u d d′ e f = absurd (let z : _≡_ {A = ℕ} 0 1 = cc in omega arith)
+  exact-adds up (function ss r) (function ts t) (flat c) d d′ e f = absurd (let z : _≡_ {A = ℕ} 0 1 = cc in omega arith)
+  exact-adds up (function ss r) (function ts t) (container q v) d d′ e f = absurd (let z : _≡_ {A = ℕ} 0 1 = cc in omega arith)
+  exact-adds up (function ss r) (function ts t) (function vs v) d d′ e f =
+      let x = some-map₂ _ (exacts (not up) ss ts) (exact up r t) _ e in
+      let y = some-map₂ _ (exacts (not up) ts vs) (exact up t v) _ f in
+      let xh = ap (λ (z : Steps). z .head) (x .4) in
+      let yh = ap (λ (z : Steps). z .head) (y .4) in
+      let xi = ap (λ (z : Steps). z .interior) (x .4) in
+      let yi = ap (λ (z : Steps). z .interior) (y .4) in
+      rw (exacts-add (not up) ss ts vs (x .0) (y .0) (x .2) (y .2), exact-adds up r t v (x .1) (y .1) (x .3) (y .3))
+      (ap some (steps (omega arith) (omega arith)))
+
+  pub exacts-add : (up : Bool) (ss ts us : Trees) (n m : ℕ) → exacts up ss ts ≡ some n → exacts up ts us ≡ some m → exacts up ss us ≡ some (n + m)
+  exacts-add up no-args no-args no-args n m e f = let x = ap numberOf e in let y = ap numberOf f in ap some (omega arith)
+  exacts-add up no-args no-args (arg u us) n m e f = absurd (let z : _≡_ {A = ℕ} 0 1 = cc in omega arith)
+  exacts-add up no-args (arg t ts) us n m e f = absurd (let z : _≡_ {A = ℕ} 0 1 = cc in omega arith)
+  exacts-add up (arg s ss) no-args us n m e f = absurd (let z : _≡_ {A = ℕ} 0 1 = cc in omega arith)
+  exacts-add up (arg s ss) (arg t ts) no-args n m e f = absurd (let z : _≡_ {A = ℕ} 0 1 = cc in omega arith)
+  exacts-add up (arg s ss) (arg t ts) (arg u us) n m e f =
+      let x = some-map₂ _ (exact up s t) (exacts up ss ts) _ e in
+      let y = some-map₂ _ (exact up t u) (exacts up ts us) _ f in
+      let xs = x .4 in
+      let ys = y .4 in
+      rw (exact-adds up s t u (x .0) (y .0) (x .2) (y .2), exacts-add up ss ts us (x .1) (y .1) (x .3) (y .3)) (ap some (omega arith))

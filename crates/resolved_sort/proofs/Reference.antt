@@ -29,6 +29,21 @@ pub widens-materializable : {s t : Tree} → Widens s t → materializable s t �
 widens-materializable (stays {s}) = materializable-refl s
 widens-materializable (then {s} {t} {u} w c) = materializable-trans s t u (widens-materializable w) (materializable-exactly t u .1 (converts-materializes c))
 
+-- The reference converts no function: its range's conversion is 01's ("function with equal arguments and materializable range").
+from-no-function : {s t : Tree} → Converts s t → isFunction s ≡ false
+from-no-function pos-to-nat = refl
+from-no-function nat-to-int = refl
+from-no-function int-to-real = refl
+from-no-function (fset-to-set s) = refl
+from-no-function (fbag-to-bag s) = refl
+
+pub no-conversion-of-functions : {ss : Trees} {r t : Tree} → Converts (function ss r) t → ⊥
+no-conversion-of-functions c = false≢true (sym (from-no-function c))
+
+pub functions-widen-to-themselves : {ss : Trees} {r t : Tree} → Widens (function ss r) t → t ≡ function ss r
+functions-widen-to-themselves stays = refl
+functions-widen-to-themselves (then w c) = absurd (no-conversion-of-functions (rw (functions-widen-to-themselves w) at c))
+
 -- From the tables to the reference, once for flat sorts and operators: put makes the sort of a head.
 record Lower {A : Type 0} (family level : A → ℕ) (put : A → Tree) (b : A) (l : ℕ) : Type 0 where
   head : A
