@@ -22,6 +22,7 @@ pub mod BoundStays
 pub mod Theorem
 pub mod Passed
 pub mod Denotes
+pub mod RobinsonSays
 pub mod Agree
 pub mod Grows
 pub mod SortsGrow

@@ -51,6 +51,10 @@ module _ (shape : ℕ → Shape) where
   abbrev pub Equates : (ℕ → Term) → ℕ → ℕ → Type 0
   Equates σ l r = substitute σ (termAt l) ≡ substitute σ (termAt r)
 
+  -- under σ the bindings hold, and the two places have the same term
+  abbrev pub Solves : Binds → ℕ → ℕ → (ℕ → Term) → Type 0
+  Solves B l r σ = Respects B σ × Equates σ l r
+
   -- Robinson's theorem about an answer. A no: nothing that respects the bindings equates the two sides. A yes: what
   -- respects the new bindings is exactly what respects the old ones and equates the two sides, so they are the most
   -- general solution; no variable reaches itself; and whatever the variables still free stand for, there is a solution.
