@@ -16,6 +16,7 @@ pub mod Steps
 pub mod HandedOut
 pub mod Together
 pub mod Clauses
+pub mod Costs
 pub mod NoConstraints
 pub mod ListsLeft
 -- the leaves that are met: the order of measures, the verdict, choices and names
@@ -24,6 +25,8 @@ pub mod Forgets
 pub mod Branches
 pub mod LeavesMet
 pub mod Choices
+-- the statements, each read alone
+pub mod Statements
 -- computed: the starred situations, and lists with their answers
 pub mod Situations
 pub mod Compared
