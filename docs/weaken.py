@@ -1,12 +1,12 @@
 #!/usr/bin/env python3
 """Tries weakenings of a crate's definitions and says what refuses each.
 
-usage: docs/weaken.py NAME LIST [LABEL..]
+usage: docs/weaken.py [--laws A,B] NAME LIST [LABEL..]
 
 LIST has a block for each weakening: a line `= LABEL`, then lines as a must-fail edit has them (`file:`, `old:`, `new:`; a `file:` line holds for the
 pairs after it, an `old:` text stands once in its file). Each block is applied to a copy of crates/NAME below target/weaken/ and checked by `rt dev`
-(the environment's RT instead, where set), over an incremental folder of its own. Printed for each: the place of the first error, or NOT REFUSED, or
-BAD where the edit could not be applied. The log is target/weaken/NAME/logs/LABEL. The status is 0 if all were refused.
+(the environment's RT instead, where set), over an incremental folder of its own. With --laws only those files of proofs/ are checked, and those that they
+import: quicker, for laws about definitions alone. Printed for each: the places of the first errors, or NOT REFUSED, or BAD where the edit could not be applied. The log is target/weaken/NAME/logs/LABEL. The status is 0 if all were refused.
 
 Where something refuses, read the log: a definition is pinned if a fact no longer holds, not if the text of a proof no longer fits.
 """
@@ -52,10 +52,30 @@ def applied(crate, lines):
     return None if old else "no replacement"
 
 
+def only(name, crate, laws):
+    """Leaves those files of proofs/, with what they import, and their lines of Lib.antt."""
+    left, todo = set(), list(laws)
+    while todo:
+        law = todo.pop()
+        if law not in left:
+            left.add(law)
+            text = (crate / "proofs" / f"{law}.antt").read_text()
+            todo += re.findall(rf"^use Rattle\.{name}\.proofs\.(\w+)", text, re.M)
+    lib = crate / "proofs" / "Lib.antt"
+    declared = re.findall(r"^pub mod (\w+)$", lib.read_text(), re.M)
+    lib.write_text("".join(f"pub mod {law}\n" for law in declared if law in left))
+    for path in (crate / "proofs").iterdir():
+        if path.suffix == ".antt" and path.stem not in left | {"Lib"}:
+            path.unlink()
+
+
 def main():
-    if len(sys.argv) < 3:
+    words, laws = sys.argv[1:], []
+    if words[:1] == ["--laws"]:
+        laws, words = words[1].split(","), words[2:]
+    if len(words) < 2:
         sys.exit(__doc__)
-    name, wanted = sys.argv[1], sys.argv[3:]
+    name, wanted = words[0], words[2:]
     scratch = ROOT / "target" / "weaken" / name
     (scratch / "target" / "inc").mkdir(parents=True, exist_ok=True)
     (scratch / "logs").mkdir(exist_ok=True)
@@ -74,7 +94,7 @@ def main():
         shutil.copytree(ROOT / "target" / "inc" / name, warm)
     copy = scratch / "crates" / name
     all_refused = True
-    for label, lines in blocks(Path(sys.argv[2])).items():
+    for label, lines in blocks(Path(words[1])).items():
         if wanted and label not in wanted:
             continue
         shutil.rmtree(copy, ignore_errors=True)
@@ -86,6 +106,8 @@ def main():
             print(f"{label}: BAD: {wrong}", flush=True)
             all_refused = False
             continue
+        if laws:
+            only(name, copy, laws)
         began = time.time()
         run = subprocess.run([os.environ.get("RT", "rt"), "dev", name], cwd=scratch, capture_output=True, text=True)
         said = run.stdout + run.stderr
@@ -97,7 +119,7 @@ def main():
             all_refused = False
         elif errors:
             places = dict.fromkeys(place.removeprefix(str(copy) + "/") for place, _ in errors)
-            print(f"{label}: refused at {', '.join(list(places)[:3])} ({took})", flush=True)
+            print(f"{label}: refused at {', '.join(list(places)[:6])} ({took})", flush=True)
         else:
             print(f"{label}: refused, see its log ({took})", flush=True)
     sys.exit(0 if all_refused else 1)

@@ -11,6 +11,7 @@ use Prim.Native.Nat.{ℕ, zero, suc}
 use native.Mathlib.Omega.{arith}
 use lib.ListN.{length, take, drop}
 use Rattle.resolved_sort.specs.declared.Run.{Run}
+use Rattle.resolved_sort.specs.declared.SortId.{SortId}
 use Rattle.resolved_sort.specs.declared.Sort.{Sort}
 use Rattle.resolved_sort.specs.Tree.{Tree, Trees, primitive, flat, function, level, same}
 use Rattle.resolved_sort.specs.Order.{le, join, Steps, distance, map₁, materializable, isFunction}
@@ -27,16 +28,18 @@ use Rattle.unification.specs.Related.{related, Member, first, later}
 use Rattle.unification.specs.Reference.{Distant, Conversions, no-more}
 use Rattle.unification.proofs.Wider.{nearest-first, related-exactly}
 use Rattle.unification.proofs.WiderReference.{wider-by-conversions, function-by-range}
+use Rattle.inference.specs.declared.ExprId.{ExprId}
 use Rattle.inference.specs.declared.LitKind.{LitKind}
 use Rattle.inference.specs.declared.LitKind.the-variants.{Positive, Natural}
 use Rattle.inference.specs.declared.Constraint.{Constraint}
-use Rattle.inference.specs.declared.Constraint.the-variants.{Sub, Lit, Join}
+use Rattle.inference.specs.declared.Constraint.the-variants.{Sub, Lit, Disjunction, Comprehension, Join}
 use Rattle.inference.specs.Constraints.{Problem}
 use Rattle.inference.specs.Measure.{Components}
 use Rattle.inference.specs.Search.{Choice, litComponent}
-use Rattle.inference.specs.Typing.{Assignment, Has, admits}
+use Rattle.inference.specs.Typing.{Assignment, Has, admits, Meets}
 use Rattle.inference.specs.Components.{Widened, equal-to, wider-by, where-there, joins, Heads, no-heads, and-head}
 use Rattle.inference.specs.Components.{Sequence, no-source, and-source, Costs, sub-costs, lit-costs}
+use Rattle.inference.specs.Components.{disjunction-costs, comprehension-costs}
 use Rattle.inference.specs.Components.{agreed-costs, sequence-costs, Costing, nothing-costs, and-costs}
 use Rattle.inference.proofs.Clauses.{one-sort}
 
@@ -182,6 +185,15 @@ module _ (shape : ℕ → Shape) (look : ℕ → Tree) (P : Problem) (ch : List 
   literal-costs-its-generality p Natural _ (lit-costs _ _ Sort.Int g h e) = inr (inr (inl (h, cc)))
   literal-costs-its-generality p Positive _ (lit-costs _ _ Sort.Real g h e) = inr (inr (inr (h, cc)))
   literal-costs-its-generality p Natural _ (lit-costs _ _ Sort.Real g h e) = inr (inr (inr (h, cc)))
+
+  -- Disjunctions and comprehensions are met and cost nothing.
+  pub disjunction-costs-nothing : (x : ExprId) (p : InferSortId) (run : Run) (ns : Components) → Costs shape look P ch σ (Disjunction x p run) ns
+      → (ns ≡ []) × Meets shape look P ch σ (Disjunction x p run)
+  disjunction-costs-nothing x p run _ (disjunction-costs _ _ _ m) = (refl, m)
+
+  pub comprehension-costs-nothing : (body node : InferSortId) (element : SortId) (ns : Components)
+      → Costs shape look P ch σ (Comprehension body node element) ns → (ns ≡ []) × Meets shape look P ch σ (Comprehension body node element)
+  comprehension-costs-nothing body node element _ (comprehension-costs _ _ _ m) = (refl, m)
 
   -- A Join costs one for each source, in their order. Either each is the head of the distance of the source's sort, which is materializable into the
   -- target's, and the target's sort is the least that is equal to or above all of theirs; or each is the component of the source's widening.

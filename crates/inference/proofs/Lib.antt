@@ -15,6 +15,7 @@ pub mod Steps
 -- what a call leaves: a typing that holds together, sorts that only grow
 pub mod HandedOut
 pub mod Together
+pub mod PlacesHave
 pub mod Clauses
 pub mod Costs
 pub mod NoConstraints

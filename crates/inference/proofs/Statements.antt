@@ -16,6 +16,7 @@ use Rattle.resolved_sort.specs.declared.Counts.{Counts}
 use Rattle.resolved_sort.specs.Tree.{Tree, primitive, flat}
 use Rattle.resolved_sort.specs.Storage.{entryAt}
 use Rattle.resolved_sort.specs.Rows.{AllBelow}
+use Rattle.resolved_sort.specs.Checks.{firstFailing}
 use Rattle.resolved_sort.specs.Entries.{treeAt}
 use Rattle.resolved_sort.proofs.SameNumbers.{number-of-tree}
 use Rattle.resolved_sort.proofs.Reached.{no-confusion}
@@ -38,12 +39,12 @@ use Rattle.inference.specs.Search.{Choice, World, Out, ended, says}
 use Rattle.inference.specs.Names.{overloadIn, baseName, nameOf, nameKind, nameSort}
 use Rattle.inference.specs.Typing.{Assignment, Has, In, Typed, all-typed, and-typed, Meets, HoldsTogether}
 use Rattle.inference.specs.Typing.{NumberSort, is-pos, is-nat, is-int, is-real}
-use Rattle.inference.specs.SolveChecks.{Call, given, disjunctions, among, components}
-use Rattle.inference.specs.SolveEntry.{problemOf, baseNamesOf, lentOf, SolveLeft, codeSolved, measureOut}
+use Rattle.inference.specs.SolveChecks.{Call, given, disjunctions, among, components, solveChecks}
+use Rattle.inference.specs.SolveEntry.{problemOf, baseNamesOf, lentOf, SolveLeft, solveEntry, codeSolved, measureOut}
 use Rattle.inference.specs.SolveEntry.{choicesOut, TypingOr15}
 use Rattle.inference.specs.Explained.{Explained}
 use Rattle.inference.specs.Named.{exprOf, choice, Named}
-use Rattle.inference.specs.Leaves.{once, times, Least, codeOf, HandsOut, ByLeaves}
+use Rattle.inference.specs.Leaves.{once, times, Least, metOf, codeOf, HandsOut, ByLeaves}
 use Rattle.inference.specs.ListsLeft.{countsTold, SortsGrown, ListsKept, Ends}
 use Rattle.inference.proofs.Members.{in-all}
 use Rattle.inference.proofs.Measures.{compare-self, equal-are-one}
@@ -106,8 +107,13 @@ module _ (I : Call) (L : SolveLeft) (o : Outputs) (ks : List Choice) (n : Named 
   pub as-many-components : length (measureOut L o) ≡ components (given I)
   as-many-components = ap length measure-is-read ∙ n .component-count
 
-  pub choices-by-disjunction : map exprOf ks ≡ disjunctions (given I)
-  choices-by-disjunction = n .in-order
+  -- the i-th choice is of the i-th disjunction's expression
+  pub choices-by-disjunction : (k : Choice) (i : ℕ) → Member k i ks → Member (k .expr) i (disjunctions (given I))
+  choices-by-disjunction k i m = subst (Member (k .expr) i) (n .in-order) (at k i ks m)
+    where
+      at : (k : Choice) (i : ℕ) (ks : List Choice) → Member k i ks → Member (k .expr) i (map exprOf ks)
+      at k _ _ first = first
+      at k _ (j ∷ ks) (later m) = later (at k _ ks m)
 
   -- a disjunction has one choice, of its own run, and its expression has the name of that overload
   pub one-choice-of-the-run : (x : ExprId) (p : InferSortId) (run : Run) → In (Disjunction x p run) (given I)
@@ -168,6 +174,15 @@ verdict-says I L ms b = (
   b .least-met-once .0,
   b .least-met-often .0,
 )
+
+-- where room ended no leaf is told
+pub no-leaf-told-without-room : (c : ℕ) (W : Lent) → metOf (ended c W) ≡ []
+no-leaf-told-without-room c W = refl
+
+-- "A refusal names the first failing check"
+pub refused-with-the-first-failing : (I : Call) (c : ℕ) → firstFailing (solveChecks I) ≡ some c → codeOf (solveEntry I) ≡ c
+unfolding solveEntry codeSolved
+refused-with-the-first-failing I c e = rw e refl
 
 -- Lists that are left
 pub counts-told-with-each : (k : Counts) (o : Outputs)
