@@ -3,12 +3,14 @@
 use mathlib.Core.Path.{_≡_, sym, subst, _∙_}
 use mathlib.Core.Bool.{true, false}
 use mathlib.Core.List.{List, _∷_}
-use Prim.Native.Nat.{ℕ}
+use mathlib.Core.Logic.{_⊎_, inl, inr}
+use Prim.Native.Nat.{ℕ, _<_}
 use lib.ListN.{take, drop}
 use Rattle.resolved_sort.specs.declared.Run.{Run}
 use Rattle.resolved_sort.specs.declared.SortId.{SortId}
 use Rattle.resolved_sort.specs.declared.Sort.{Sort}
-use Rattle.resolved_sort.specs.Tree.{Tree, primitive, flat}
+use Rattle.resolved_sort.specs.declared.ComplexSort.{ComplexSort}
+use Rattle.resolved_sort.specs.Tree.{Tree, primitive, flat, container}
 use Rattle.resolved_sort.specs.Order.{materializable}
 use Rattle.resolved_sort.proofs.Numbers.{true-not-false}
 use Rattle.resolved_sort.proofs.Reached.{no-confusion}
@@ -22,7 +24,8 @@ use Rattle.inference.specs.declared.Constraint.the-variants.{Sub, Lit, D
 use Rattle.inference.specs.Constraints.{Problem}
 use Rattle.inference.specs.Search.{Choice}
 use Rattle.inference.specs.Names.{overloadIn}
-use Rattle.inference.specs.Typing.{Assignment, Has, admits, All, and-all, In, here, there, ReadAs, Into, Typed}
+use Rattle.inference.specs.Typing.{Assignment, Has, admits, All, and-all, In, here, there, ReadAs, as-set}
+use Rattle.inference.specs.Typing.{as-bag, as-bag-of-pos, Into, Typed}
 use Rattle.inference.specs.Typing.{and-typed, Meets, meets-sub, meets-lit, meets-disjunction}
 use Rattle.inference.specs.Typing.{meets-comprehension, meets-join, NumberSort, is-pos, is-nat, is-int, is-real}
 
@@ -73,6 +76,15 @@ module _ (shape : ℕ → Shape) (look : ℕ → Tree) (P : Problem) (σ : Assig
     comprehension-reads body node element s t h g (meets-comprehension _ _ _ s′ t′ h′ g′ r) =
         let p = one-sort (body .0) s s′ h h′ in let q = one-sort (node .0) t t′ g g′ in rw (p, q) r
 
+    -- "a Set over its element sort with a body of Bool, or a Bag over it with a body of Nat or Pos"
+    pub comprehension-is : (body node : InferSortId) (element : SortId) → Meets shape look P ch σ (Comprehension body node element)
+        → (Has shape σ (body .0) (flat (primitive Sort.Bool)) × Has shape σ (node .0) (container ComplexSort.Set (look (element .0))))
+        ⊎ ((Has shape σ (body .0) (flat (primitive Sort.Nat)) ⊎ Has shape σ (body .0) (flat (primitive Sort.Pos)))
+        × Has shape σ (node .0) (container ComplexSort.Bag (look (element .0))))
+    comprehension-is body node element (meets-comprehension _ _ _ _ _ h g as-set) = inl (h, g)
+    comprehension-is body node element (meets-comprehension _ _ _ _ _ h g as-bag) = inr (inl h, g)
+    comprehension-is body node element (meets-comprehension _ _ _ _ _ h g as-bag-of-pos) = inr (inr h, g)
+
     -- a Join one of whose sources is not materializable into the target
     pub join-rules-out : (run : Run) (t : InferSortId) (u : Tree) → Has shape σ (t .0) u → (p : ℕ) (s : Tree)
         → In p (take (run .count) (drop (run .start) (P .sources))) → Has shape σ p s
@@ -90,6 +102,12 @@ module _ (shape : ℕ → Shape) (look : ℕ → Tree) (P : Problem) (σ : Assig
     disjunction-rules-out x p run i s t only h g f (meets-disjunction _ _ _ j u m l h′ g′) =
         let q = only j m in
         f (one-sort (p .0) s u h h′ ∙ one-sort (overloadIn (P .overloads) run i .sort .0) u t (rw (sym q) g′) g)
+
+    -- "each disjunction has the sort of its chosen overload's place", which is one of its own run
+    pub disjunction-chooses-one-of-its-run : (x : ExprId) (p : InferSortId) (run : Run) → Meets shape look P ch σ (Disjunction x p run)
+        → (i : ℕ) × (i < run .count) × In (record { expr = x .0; position = i }) ch
+        × ((t : Tree) × Has shape σ (p .0) t × Has shape σ (overloadIn (P .overloads) run i .sort .0) t)
+    disjunction-chooses-one-of-its-run x p run (meets-disjunction _ _ _ i t m l h g) = (i, l, m, (t, h, g))
 
     -- a disjunction without a choice
     pub disjunction-has-a-choice : (x : ExprId) (p : InferSortId) (run : Run)

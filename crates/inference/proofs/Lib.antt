@@ -15,7 +15,9 @@ pub mod Steps
 -- what a call leaves: a typing that holds together, sorts that only grow
 pub mod HandedOut
 pub mod Together
+pub mod PlacesHave
 pub mod Clauses
+pub mod Costs
 pub mod NoConstraints
 pub mod ListsLeft
 -- the leaves that are met: the order of measures, the verdict, choices and names
@@ -24,6 +26,8 @@ pub mod Forgets
 pub mod Branches
 pub mod LeavesMet
 pub mod Choices
+-- the statements, each read alone
+pub mod Statements
 -- computed: the starred situations, and lists with their answers
 pub mod Situations
 pub mod Compared
