@@ -80,6 +80,6 @@ lines-are-read : map line (
     ∷ stuck (35 ∷ 32 ∷ 78 ∷ 97 ∷ 116 ∷ 32 ∷ 45 ∷ 62 ∷ 32 ∷ 66 ∷ 111 ∷ 111 ∷ 108 ∷ [])
     ∷ []
 unfolding line Parse.ending Parse.sort Parse.sortTo Parse.rest Parse.restAt Parse.alone Parse.snoc Parse.operand
-    Parse.operandAt Parse.operandOf Parse.bracketed Parse.closing Parse.meaning Parse.sameBytes Parse.sortWord
+    Parse.operandAt Parse.operandOf Parse.bracketed Parse.inBrackets Parse.closing Parse.meaning Parse.sameBytes Parse.sortWord
     Parse.opWord Tokens.next Tokens.start Tokens.skip Tokens.run Tokens.past
 lines-are-read = refl
