@@ -39,12 +39,12 @@ unfolding rest
 rest-stops zero t bs h = stops-at t (skip bs) bs _ (next isLetter bs) h
 rest-stops (suc k) t bs h = stops-at t (skip bs) bs _ (next isLetter bs) h
 
-rest-arrow : (k : ℕ) (ts : Trees) (bs cs : List ℕ) → next isLetter bs ≡ arrow cs → rest sort k ts bs ≡ (sort cs then-read (λ r ds. parsed (function ts r) ds))
+pub rest-arrow : (k : ℕ) (ts : Trees) (bs cs : List ℕ) → next isLetter bs ≡ arrow cs → rest sort k ts bs ≡ (sort cs then-read (λ r ds. parsed (function ts r) ds))
 unfolding rest restAt
 rest-arrow zero ts bs cs e = ap (restAt sort ts (skip bs) bs _) e
 rest-arrow (suc k) ts bs cs e = ap (restAt sort ts (skip bs) bs _) e
 
-rest-hash : (k : ℕ) (ts : Trees) (bs cs : List ℕ) → next isLetter bs ≡ hash cs
+pub rest-hash : (k : ℕ) (ts : Trees) (bs cs : List ℕ) → next isLetter bs ≡ hash cs
     → rest sort (suc k) ts bs ≡ (operand sort cs then-read (λ t ds. rest sort k (snoc ts t) ds))
 unfolding rest restAt
 rest-hash k ts bs cs e = ap (restAt sort ts (skip bs) bs _) e
