@@ -5,14 +5,22 @@ use mathlib.Core.Path.{_≡_, refl, sym, _∙_, ap, subst}
 use mathlib.Core.Logic.{_↔_}
 use mathlib.Core.Bool.{Bool, true, false, cond, not, _&&_}
 use mathlib.Core.List.{List, [], _∷_, _++_}
+use mathlib.Core.Option.{Option, none, some}
 use Prim.Native.Nat.{ℕ, zero, suc, _+_, _-_, _≤_, _<_}
 use native.Mathlib.Omega.{arith}
-use lib.ListN.{length}
+use lib.ListN.{length, drop}
 use lib.Dec.{eqb, ltb}
 use borrow.Author.Tests.{eqb-true, ltb-true, ltb-false}
 use Rattle.resolved_sort.specs.declared.Sort.{Sort}
 use Rattle.resolved_sort.specs.declared.ComplexSort.{ComplexSort}
 use Rattle.resolved_sort.specs.Tree.{primitive, Tree, flat, container, function, Trees, no-args, arg, arity}
+use Rattle.resolved_sort.specs.declared.Joined.{Joined}
+use Rattle.resolved_sort.specs.declared.Joined.the-variants.{At, Nothing, Full}
+use Rattle.resolved_sort.specs.Storage.{sortsOf}
+use Rattle.resolved_sort.specs.Checks.{firstFailing}
+use Rattle.resolved_sort.specs.Entries.{refusedOr, Stored, stored}
+use Rattle.sort_text.specs.declared.Read.the-variants.{Refused, NotASort}
+use Rattle.sort_text.specs.Reading.{store, readChecks, readLeft, storedBy, readAs, reading}
 use Rattle.sort_text.specs.Tokens.{isLetter, NextToken, end, word, open-bracket, close-bracket, hash, arrow, bad}
 use Rattle.sort_text.specs.Tokens.{run, past, skip, dash, start, nextAt, next}
 use Rattle.sort_text.specs.Parse.{Parsed, parsed, stuck, _then-read_, WordMeaning, basic, operator, unknown, meaning}
@@ -21,7 +29,7 @@ use Rattle.sort_text.specs.Parse.{restAt, rest, sort, ending, line}
 use Rattle.sort_text.specs.Grammar.{Operand, basic-sort, container-of, SortOf, one-operand, function-of, Operands, first, another, LineOf}
 use Rattle.sort_text.specs.CannotFollow.{BareToken, bare-word, bare-open, bare-close, bare-hash, bare-arrow, no-token, no-more}
 use Rattle.sort_text.specs.CannotFollow.{bare, beyond, afterTokens, SameTokens, CanBegin, FirstThatCannotFollow}
-use Rattle.sort_text.proofs.Suffix.{sort-suffix}
+use Rattle.sort_text.proofs.Suffix.{sort-suffix, unread-end}
 use Rattle.sort_text.proofs.Progress.{word-takes, open-bracket-takes, hash-takes, arrow-takes, operand-takes}
 use Rattle.sort_text.proofs.Depth.{sort-is}
 use Rattle.sort_text.proofs.Grammar.{Closed, arity-snoc, line-derived}
@@ -838,3 +846,37 @@ stuck-exactly bs cs = (stops-at-the-first-token-that-cannot-follow bs cs, λ x. 
         let h = line-derived bs ds t e in
         absurd (x .cannot-follow (bs, t, (h .0, h .1, h .2, refl), same-refl (suc (x .before)) bs))
     go x (stuck ds) e = ap stuck (first-that-cannot-follow-is-one bs ds cs (stops-at-the-first-token-that-cannot-follow bs ds e) x)
+
+-- Where the line stopped too early, all its tokens can begin a sort.
+pub stopped-too-early : (bs : List ℕ) → line bs ≡ stuck [] → (i : ℕ) × (next isLetter (afterTokens i bs) ≡ end) × CanBegin i bs
+unfolding next
+stopped-too-early bs e =
+    let x = stops-at-the-first-token-that-cannot-follow bs [] e in
+    (x .before, ap (nextAt isLetter) (sym (x .starts-there)), x .can-begin)
+
+-- of what the entry answers
+stored-is-a-sort : (ws : List ℕ) (n e : ℕ) (r : Stored) (j : Joined) (p : ℕ) → (storedBy ws n e r j) .answer ≡ NotASort p → ⊥
+unfolding storedBy
+stored-is-a-sort ws n e r (At s k) p a = let z : _≡_ {A = ℕ} 0 1 = cc in omega arith
+stored-is-a-sort ws n e r (Nothing k) p a = let z : _≡_ {A = ℕ} 0 1 = cc in omega arith
+stored-is-a-sort ws n e r Full p a = let z : _≡_ {A = ℕ} 0 1 = cc in omega arith
+
+read-as : (ws : List ℕ) (n e : ℕ) (bs : List ℕ) (p : ℕ) (q : Parsed) → line bs ≡ q → (readAs ws n e bs q) .answer ≡ NotASort p
+    → FirstThatCannotFollow bs (drop p bs)
+unfolding readAs
+read-as ws n e bs p (parsed t cs) f a =
+    absurd (stored-is-a-sort ws n e (stored ws n e (store t (sortsOf ws n e))) (stored ws n e (store t (sortsOf ws n e)) .answer) p a)
+read-as ws n e bs p (stuck cs) f a =
+    let z : length bs - length cs ≡ p = cc in
+    subst (FirstThatCannotFollow bs) (sym (unread-end bs cs f) ∙ ap (λ k. drop k bs) z) (stops-at-the-first-token-that-cannot-follow bs cs f)
+
+by-checks : (x : Option ℕ) (ws : List ℕ) (n e : ℕ) (bs : List ℕ) (p : ℕ)
+    → (refusedOr x (λ c. readLeft ws (Refused c)) (readAs ws n e bs (line bs))) .answer ≡ NotASort p → FirstThatCannotFollow bs (drop p bs)
+by-checks none ws n e bs p a = read-as ws n e bs p (line bs) refl a
+by-checks (some c) ws n e bs p a = let z : _≡_ {A = ℕ} 0 1 = cc in absurd (omega arith)
+
+-- With 20 the caller gets back the place where the first token stands that cannot follow.
+pub unread-end-cannot-follow : (ws : List ℕ) (n e : ℕ) (bs : List ℕ) (p : ℕ) → (reading ws n e bs) .answer ≡ NotASort p
+    → FirstThatCannotFollow bs (drop p bs)
+unfolding reading
+unread-end-cannot-follow ws n e bs p a = by-checks (firstFailing (readChecks ws n e bs)) ws n e bs p a
