@@ -43,7 +43,7 @@ unfolding output PairProgram.pairs PairProgram.pair PairProgram.lineOf PairProgr
     PairProgram.lines Reading.shortLine Text.text Text.texts Text.more Order.order Order.le Order.les Order.bound
     Order.bounds Order.boundFlat Order.boundOp Order.distance Order.distances Order.materializable Tree.same
     Tree.sames Tree.family Tree.level Tree.familyOp Tree.levelOp line Parse.ending Parse.sort Parse.sortTo Parse.rest
-    Parse.restAt Parse.alone Parse.snoc Parse.operand Parse.operandAt Parse.operandOf Parse.bracketed Parse.closing
+    Parse.restAt Parse.alone Parse.snoc Parse.operand Parse.operandAt Parse.operandOf Parse.bracketed Parse.inBrackets Parse.closing
     Parse.meaning Parse.sameBytes Parse.sortWord Parse.opWord Tokens.next Tokens.start Tokens.skip Tokens.run
     Tokens.past
 inputs-are-answered = refl

@@ -13,7 +13,7 @@ use Rattle.resolved_sort.specs.Tree.{primitive, Tree, flat, container, function
 use Rattle.resolved_sort.specs.Storage.{kindFlat, kindOp}
 use Rattle.sort_text.specs.Tokens.{isLetter, hash, arrow, skip, next}
 use Rattle.sort_text.specs.Parse.{Parsed, parsed, stuck, _then-read_, WordMeaning, basic, operator, unknown, meaning}
-use Rattle.sort_text.specs.Parse.{closing, bracketed, operandOf, operandAt, operand, snoc, alone, restAt, rest, sort}
+use Rattle.sort_text.specs.Parse.{closing, inBrackets, bracketed, operandOf, operandAt, operand, snoc, alone, restAt, rest, sort}
 use Rattle.sort_text.specs.Parse.{ending, line}
 use Rattle.sort_text.specs.Postfix.{postfix, postfixes}
 use Rattle.sort_text.proofs.Depth.{sort-is}
@@ -43,15 +43,15 @@ postfixes-snoc no-args t = append-nil (postfix t)
 postfixes-snoc (arg s ts) t = ap (λ x. postfix s ++ x) (postfixes-snoc ts t) ∙ sym (append-assoc (postfix s) (postfixes ts) (postfix t))
 
 -- tokens that cannot follow
-closing-other : (l : List ℕ) (o : ComplexSort) (t : Tree) (at : List ℕ) (k : Token) (i j : ℕ) → (k ≡ Close → ⊥) → closing o t at (saidBy l k i j) ≡ stuck at
+closing-other : (l : List ℕ) (t : Tree) (at : List ℕ) (k : Token) (i j : ℕ) → (k ≡ Close → ⊥) → closing t at (saidBy l k i j) ≡ stuck at
 unfolding closing saidBy
-closing-other l o t at End i j z = refl
-closing-other l o t at Word i j z = refl
-closing-other l o t at Open i j z = refl
-closing-other l o t at Close i j z = absurd (z refl)
-closing-other l o t at Hash i j z = refl
-closing-other l o t at Arrow i j z = refl
-closing-other l o t at Bad i j z = refl
+closing-other l t at End i j z = refl
+closing-other l t at Word i j z = refl
+closing-other l t at Open i j z = refl
+closing-other l t at Close i j z = absurd (z refl)
+closing-other l t at Hash i j z = refl
+closing-other l t at Arrow i j z = refl
+closing-other l t at Bad i j z = refl
 
 bracketed-other : (l : List ℕ) (o : ComplexSort) (at : List ℕ) (k : Token) (i j : ℕ) → (k ≡ Open → ⊥) → bracketed sort o at (saidBy l k i j) ≡ stuck at
 unfolding bracketed saidBy
@@ -196,6 +196,45 @@ module _ (l : List ℕ) where
       → Says l lo room front P out q → q ≡ Done p m → (lo ≤ p) × (p ≤ length l) × (m + (length l - p) ≤ room)
   done-room lo room front P out q p m s e = let d = did lo room front P out q p m s e in (d .wrote .further, d .wrote .within, d .wrote .fits)
 
+  -- after the sort in brackets
+  module _ (at : ℕ) (h : at ≤ length l) (n : ℕ) (r : Lexeme) (e : r ≡ lexemeOf l at) where
+    pub closing-done : r .token ≡ Close → SaysClosing l at n (Done (r .next) n)
+    unfolding SaysClosing closing
+    closing-done f front out t w =
+        let g : at + 1 ≤ r .next = goes-at-least-from l at r e Close f h in
+        let d : r .next ≤ length l = ends-within l at r e in
+        said-done (at + 1) (n + (length l - at)) front out _ (r .next) n t (drop (r .next) l)
+        (ap (closing t (skip (drop at l))) (next-is-close l at r e f))
+        record { further = g; within = d; goes-on = refl; fits = omega arith; written = w }
+
+    pub closing-stuck : (r .token ≡ Close → ⊥) → SaysClosing l at n (Stuck (r .at))
+    unfolding SaysClosing
+    closing-stuck z front out t w =
+        said-stuck (at + 1) (n + (length l - at)) front out _ (r .at) (skip (drop at l))
+        (ap (closing t (skip (drop at l))) (next-is-said l at r e) ∙ closing-other l t (skip (drop at l)) (r .token) (r .at) (r .next) z)
+        (omega (arith, goes-on l at r e, ends-within l at r e)) (starts-without-spaces l at r e)
+
+  -- a sort in brackets, from the token after `(`
+  module _ (at : ℕ) (old : List ℕ) (n : ℕ) (out : List ℕ) (q : Recognised)
+      (s : Says l (at + 1) (n + (length l - at)) (take n old) (sort (drop at l)) out q) where
+    in-brackets-is : inBrackets sort (drop at l) ≡ (sort (drop at l) then-read (λ t cs. closing t (skip cs) (next isLetter cs)))
+    unfolding inBrackets
+    in-brackets-is = refl
+
+    pub in-brackets-passes : (p : ℕ) → q ≡ Stuck p → Says l (at + 1) (n + (length l - at)) (take n old) (inBrackets sort (drop at l)) out (Stuck p)
+    in-brackets-passes p i = rw in-brackets-is (stuck-then (at + 1) (n + (length l - at)) (take n old)
+        (sort (drop at l)) out q p _ (at + 1) (n + (length l - at)) (take n old) out s i)
+
+    pub in-brackets-goes-on : (p m : ℕ) → q ≡ Done p m → (q′ : Recognised) → SaysClosing l p m q′
+        → Says l (at + 1) (n + (length l - at)) (take n old) (inBrackets sort (drop at l)) out q′
+    unfolding SaysClosing
+    in-brackets-goes-on p m i q′ c =
+        let d = did (at + 1) (n + (length l - at)) (take n old) (sort (drop at l)) out q p m s i in
+        rw (in-brackets-is, d .is, sym (d .wrote .goes-on))
+        (wider (p + 1) (at + 1) (m + (length l - p)) (n + (length l - at)) (take n old) (closing (d .sort-read) (skip (drop p l))
+        (next isLetter (drop p l))) out q′ (omega (arith, d .wrote .further)) (d .wrote .fits)
+        (c (take n old) out (d .sort-read) (d .wrote .written)))
+
   -- the token found at `at`
   module _ (at : ℕ) (h : at ≤ length l) (old : List ℕ) (n : ℕ) (fit : n + (length l - at) ≤ length old) (r : Lexeme) (e : r ≡ lexemeOf l at) where
     starts-within : r .at ≤ length l
@@ -210,29 +249,6 @@ module _ (l : List ℕ) where
     pub later-within : r .next ≤ length l
     later-within = ends-within l at r e
 
-    -- after the sort in brackets
-    pub closing-done : r .token ≡ Close → (op : ComplexSort) (v : ℕ) → v ≡ kindOp op → SaysClosing l at old n op (set old n v) (Done (r .next) (n + 1))
-    unfolding SaysClosing closing postfix
-    closing-done f op v ev front t w =
-        let g : at + 1 ≤ r .next = goes-at-least-from l at r e Close f h in
-        let d : r .next ≤ length l = ends-within l at r e in
-        said-done at room front (set old n v) _ (r .next) (n + 1) (container op t) (drop (r .next) l)
-        (ap (closing op t (skip (drop at l))) (next-is-close l at r e f))
-        record {
-          further = omega arith;
-          within = d;
-          goes-on = refl;
-          fits = omega arith;
-          written = one-more old n v (omega (arith, fit, g, d)) ∙ (ap₂ (λ xs x. xs ++ (x ∷ [])) w ev ∙ append-assoc front (postfix t) (kindOp op ∷ []));
-        }
-
-    pub closing-stuck : (r .token ≡ Close → ⊥) → (op : ComplexSort) → SaysClosing l at old n op old (Stuck (r .at))
-    unfolding SaysClosing
-    closing-stuck z op front t w =
-        said-stuck at room front old _ (r .at) (skip (drop at l)) (ap (closing op t (skip (drop at l)))
-        (next-is-said l at r e) ∙ closing-other l op t (skip (drop at l)) (r .token) (r .at) (r .next) z)
-        starts-within (starts-without-spaces l at r e)
-
     -- after a container word
     pub bracketed-stuck : (r .token ≡ Open → ⊥) → (op : ComplexSort)
         → Says l at room (take n old) (bracketed sort op (skip (drop at l)) (next isLetter (drop at l))) old
@@ -242,28 +258,39 @@ module _ (l : List ℕ) where
         (next-is-said l at r e) ∙ bracketed-other l op (skip (drop at l)) (r .token) (r .at) (r .next) z)
         starts-within (starts-without-spaces l at r e)
 
-    module _ (f : r .token ≡ Open) (op : ComplexSort) (out : List ℕ) (q : Recognised)
-        (s : Says l (r .next + 1) (n + (length l - r .next)) (take n old) (sort (drop (r .next) l)) out q) where
-      bracketed-is : bracketed sort op (skip (drop at l)) (next isLetter (drop at l)) ≡ (sort (drop (r .next) l)
-          then-read (λ t cs. closing op t (skip cs) (next isLetter cs)))
+    module _ (f : r .token ≡ Open) (op : ComplexSort) (out : List ℕ) (same : length out ≡ length old) (q : Recognised)
+        (s : Says l (r .next + 1) (n + (length l - r .next)) (take n old) (inBrackets sort (drop (r .next) l)) out q) where
+      bracketed-is : bracketed sort op (skip (drop at l)) (next isLetter (drop at l)) ≡ (inBrackets sort (drop (r .next) l)
+          then-read (λ t cs. parsed (container op t) cs))
       unfolding bracketed
       bracketed-is = ap (bracketed sort op (skip (drop at l))) (next-is-open l at r e f)
 
       pub bracketed-passes : (p : ℕ) → q ≡ Stuck p → Says l at room (take n old) (bracketed sort op (skip (drop at l))
           (next isLetter (drop at l))) out (Stuck p)
       bracketed-passes p i = rw bracketed-is (stuck-then (r .next + 1) (n + (length l - r .next)) (take n old)
-          (sort (drop (r .next) l)) out q p _ at room (take n old) out s i)
+          (inBrackets sort (drop (r .next) l)) out q p _ at room (take n old) out s i)
 
-      pub bracketed-goes-on : (p m : ℕ) → q ≡ Done p m → (out′ : List ℕ) (q′ : Recognised) → SaysClosing l p out m op out′ q′
-          → Says l at room (take n old) (bracketed sort op (skip (drop at l)) (next isLetter (drop at l))) out′ q′
-      unfolding SaysClosing
-      bracketed-goes-on p m i out′ q′ c =
-          let d = did (r .next + 1) (n + (length l - r .next)) (take n old) (sort (drop (r .next) l)) out q p m s i in
+      pub bracketed-room : (p m : ℕ) → q ≡ Done p m → m < length out
+      bracketed-room p m i =
+          let d = done-room (r .next + 1) (n + (length l - r .next)) (take n old) (inBrackets sort (drop (r .next) l)) out q p m s i in
+          omega (arith, d .2, d .1, d .0, goes-at-least-from l at r e Open f h, fit, same)
+
+      pub bracketed-done : (p m v : ℕ) → q ≡ Done p m → v ≡ kindOp op
+          → Says l at room (take n old) (bracketed sort op (skip (drop at l)) (next isLetter (drop at l))) (set out m v) (Done p (m + 1))
+      unfolding postfix
+      bracketed-done p m v i ev =
+          let d = did (r .next + 1) (n + (length l - r .next)) (take n old) (inBrackets sort (drop (r .next) l)) out q p m s i in
           let g : at + 1 ≤ r .next = goes-at-least-from l at r e Open f h in
-          rw (bracketed-is, d .is, sym (d .wrote .goes-on))
-          (wider p at (m + (length l - p)) room (take n old) (closing op (d .sort-read) (skip (drop p l))
-          (next isLetter (drop p l))) out′ q′ (omega (arith, d .wrote .further)) (omega (arith, d .wrote .fits))
-          (c (take n old) (d .sort-read) (d .wrote .written)))
+          said-done at room (take n old) (set out m v) _ p (m + 1) (container op (d .sort-read)) (d .left)
+          (bracketed-is ∙ ap (λ x. x then-read (λ t cs. parsed (container op t) cs)) (d .is))
+          record {
+            further = omega (arith, d .wrote .further);
+            within = d .wrote .within;
+            goes-on = d .wrote .goes-on;
+            fits = omega (arith, d .wrote .fits, d .wrote .further, d .wrote .within);
+            written = one-more out m v (bracketed-room p m i)
+                ∙ (ap₂ (λ xs x. xs ++ (x ∷ [])) (d .wrote .written) ev ∙ append-assoc (take n old) (postfix (d .sort-read)) (kindOp op ∷ []));
+          }
 
     -- an operand
     operand-said : operand sort (drop at l) ≡ operandAt sort (skip (drop at l)) (said l r)

@@ -51,17 +51,14 @@ fn step_of_op(op: ComplexSort) -> u8
 }
 
 // `)` after the sort in brackets.
-fn closing(line: &[u8], at: usize, out: &mut [u8], n: usize, op: ComplexSort) -> Recognised
-    requires { ⌜ (at ≤ length (now line)) × (n + (length (now line) - at) ≤ length (now out)) ⌝ }
-    ensures { λ r. ⌜ SaysClosing (now (line .entry)) at (now (out .entry)) n op (now (out .exit)) r ⌝ }
+fn closing(line: &[u8], at: usize, n: usize) -> Recognised
+    requires { ⌜ at ≤ length (now line) ⌝ }
+    ensures { λ r. ⌜ SaysClosing (now (line .entry)) at n r ⌝ }
 {
     let found = token_from(line, at);
     let token = found.token;
     match token {
-        Token::Close => {
-            out[n] = step_of_op(op);
-            Recognised::Done(found.next, n + 1)
-        }
+        Token::Close => Recognised::Done(found.next, n),
         _ => Recognised::Stuck(found.at),
     }
 }
@@ -115,7 +112,13 @@ fn bracketed(line: &[u8], at: usize, out: &mut [u8], n: usize, op: ComplexSort) 
     let token = found.token;
     match token {
         Token::Open => match sort(line, found.next, out, n) {
-            Recognised::Done(p, m) => closing(line, p, out, m, op),
+            Recognised::Done(p, m) => match closing(line, p, m) {
+                Recognised::Done(q, k) => {
+                    out[k] = step_of_op(op);
+                    Recognised::Done(q, k + 1)
+                }
+                Recognised::Stuck(q) => Recognised::Stuck(q),
+            },
             Recognised::Stuck(p) => Recognised::Stuck(p),
         },
         _ => Recognised::Stuck(found.at),

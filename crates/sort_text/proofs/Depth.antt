@@ -6,10 +6,10 @@ use Prim.Native.Nat.{ℕ, zero, suc, _≤_, _<_}
 use native.Mathlib.Omega.{arith}
 use lib.ListN.{length}
 use Rattle.resolved_sort.specs.declared.ComplexSort.{ComplexSort}
-use Rattle.resolved_sort.specs.Tree.{Tree, function, Trees, no-args, arg}
+use Rattle.resolved_sort.specs.Tree.{Tree, container, function, Trees, no-args, arg}
 use Rattle.sort_text.specs.Tokens.{isLetter, NextToken, end, word, open-bracket, close-bracket, hash, arrow, bad, skip, next}
 use Rattle.sort_text.specs.Parse.{Parsed, parsed, stuck, _then-read_, WordMeaning, basic, operator, unknown}
-use Rattle.sort_text.specs.Parse.{meaning, closing, bracketed, operandOf, operandAt, operand, snoc, restAt}
+use Rattle.sort_text.specs.Parse.{meaning, closing, inBrackets, bracketed, operandOf, operandAt, operand, snoc, restAt}
 use Rattle.sort_text.specs.Parse.{rest, sortTo, sort, left, Leaves}
 use Rattle.sort_text.proofs.Suffix.{suffix-length, operand-suffix, sortTo-suffix}
 use Rattle.sort_text.proofs.Progress.{word-takes, open-bracket-takes, hash-takes, arrow-takes}
@@ -25,10 +25,14 @@ abbrev pub Agree : ℕ → (List ℕ → Parsed) → (List ℕ → Parsed) → T
 Agree n f g = (cs : List ℕ) → length cs < n → f cs ≡ g cs
 
 module _ (f g : List ℕ → Parsed) (n : ℕ) (a : Agree n f g) where
+  inBrackets-same : (cs : List ℕ) → length cs < n → inBrackets f cs ≡ inBrackets g cs
+  unfolding inBrackets
+  inBrackets-same cs h = ap (λ p. p then-read (λ t ds. closing t (skip ds) (next isLetter ds))) (a cs h)
+
   bracketed-same : (o : ComplexSort) (at bs : List ℕ) (m : NextToken) → next isLetter bs ≡ m → length bs ≤ n → bracketed f o at m ≡ bracketed g o at m
   unfolding bracketed
   bracketed-same o at bs (open-bracket cs) e h =
-      ap (λ p. p then-read (λ t ds. closing o t (skip ds) (next isLetter ds))) (a cs (omega (arith, open-bracket-takes isLetter bs cs e)))
+      ap (λ p. p then-read (λ t ds. parsed (container o t) ds)) (inBrackets-same cs (omega (arith, open-bracket-takes isLetter bs cs e)))
   bracketed-same o at bs end e h = refl
   bracketed-same o at bs (word w cs) e h = refl
   bracketed-same o at bs (close-bracket cs) e h = refl

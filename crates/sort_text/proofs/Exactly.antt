@@ -5,9 +5,9 @@ use mathlib.Core.Logic.{_↔_}
 use mathlib.Core.List.{List, []}
 use Prim.Native.Nat.{ℕ, zero, suc, _+_, _-_, _≤_}
 use native.Mathlib.Omega.{arith}
-use Rattle.resolved_sort.specs.Tree.{Tree, function, Trees, no-args, arg, arity}
+use Rattle.resolved_sort.specs.Tree.{Tree, container, function, Trees, no-args, arg, arity}
 use Rattle.sort_text.specs.Tokens.{isLetter, NextToken, end, word, open-bracket, close-bracket, hash, arrow, bad, skip, next}
-use Rattle.sort_text.specs.Parse.{Parsed, parsed, _then-read_, closing, bracketed, operandOf, operandAt}
+use Rattle.sort_text.specs.Parse.{Parsed, parsed, _then-read_, closing, inBrackets, bracketed, operandOf, operandAt}
 use Rattle.sort_text.specs.Parse.{operand, snoc, alone, restAt, rest, sort, ending, line}
 use Rattle.sort_text.proofs.Depth.{sort-is}
 use Rattle.sort_text.specs.Grammar.{Operand, basic-sort, container-of, SortOf, one-operand, function-of, Operands, first, another, LineOf}
@@ -39,12 +39,12 @@ unfolding rest
 rest-stops zero t bs h = stops-at t (skip bs) bs _ (next isLetter bs) h
 rest-stops (suc k) t bs h = stops-at t (skip bs) bs _ (next isLetter bs) h
 
-rest-arrow : (k : ℕ) (ts : Trees) (bs cs : List ℕ) → next isLetter bs ≡ arrow cs → rest sort k ts bs ≡ (sort cs then-read (λ r ds. parsed (function ts r) ds))
+pub rest-arrow : (k : ℕ) (ts : Trees) (bs cs : List ℕ) → next isLetter bs ≡ arrow cs → rest sort k ts bs ≡ (sort cs then-read (λ r ds. parsed (function ts r) ds))
 unfolding rest restAt
 rest-arrow zero ts bs cs e = ap (restAt sort ts (skip bs) bs _) e
 rest-arrow (suc k) ts bs cs e = ap (restAt sort ts (skip bs) bs _) e
 
-rest-hash : (k : ℕ) (ts : Trees) (bs cs : List ℕ) → next isLetter bs ≡ hash cs
+pub rest-hash : (k : ℕ) (ts : Trees) (bs cs : List ℕ) → next isLetter bs ≡ hash cs
     → rest sort (suc k) ts bs ≡ (operand sort cs then-read (λ t ds. rest sort k (snoc ts t) ds))
 unfolding rest restAt
 rest-hash k ts bs cs e = ap (restAt sort ts (skip bs) bs _) e
@@ -59,8 +59,12 @@ one-fits t k e = omega arith
 room : (ts : Trees) → arity ts ≤ 16 → (k : ℕ) × (arity ts + k ≡ 16)
 room ts l = (16 - arity ts, omega arith)
 
+closed-is-read : (ds es fs : List ℕ) (t : Tree) → sort ds ≡ parsed t es → next isLetter es ≡ close-bracket fs → inBrackets sort ds ≡ parsed t fs
+unfolding inBrackets closing
+closed-is-read ds es fs t h c = ap (λ p. p then-read (λ u gs. closing u (skip gs) (next isLetter gs))) h ∙ ap (closing t (skip es)) c
+
 mutual
-  unfolding operand operandAt operandOf bracketed closing
+  unfolding operand operandAt operandOf bracketed
 
   operand-is-read : {bs cs : List ℕ} {t : Tree} → Operand bs t cs → operand sort bs ≡ parsed t cs
   operand-is-read (basic-sort {bs} {w} {cs} e m) = ap (operandAt sort (skip bs)) e ∙ ap (λ n. operandOf sort (skip bs) n cs) m
@@ -68,7 +72,7 @@ mutual
       ap (operandAt sort (skip bs)) e
       ∙ (ap (λ n. operandOf sort (skip bs) n cs) m
       ∙ (ap (bracketed sort o (skip cs)) b
-      ∙ (ap (λ p. p then-read (λ u gs. closing o u (skip gs) (next isLetter gs))) (sort-is-read h (subst Stops (sym c) tt)) ∙ ap (closing o t (skip es)) c)))
+      ∙ ap (λ p. p then-read (λ u gs. parsed (container o u) gs)) (closed-is-read ds es fs t (sort-is-read h (subst Stops (sym c) tt)) c)))
 
   sort-is-read : {bs cs : List ℕ} {t : Tree} → SortOf bs t cs → Stops (next isLetter cs) → sort bs ≡ parsed t cs
   sort-is-read {bs} {cs} {t} (one-operand h) s =

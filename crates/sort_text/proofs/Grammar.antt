@@ -8,7 +8,7 @@ use Rattle.resolved_sort.specs.declared.ComplexSort.{ComplexSort}
 use Rattle.resolved_sort.specs.Tree.{Tree, Trees, no-args, arg, arity}
 use Rattle.sort_text.specs.Tokens.{isLetter, NextToken, end, word, open-bracket, close-bracket, hash, arrow, bad, skip, next}
 use Rattle.sort_text.specs.Parse.{Parsed, parsed, _then-read_, WordMeaning, basic, operator, unknown, meaning}
-use Rattle.sort_text.specs.Parse.{closing, bracketed, operandOf, operandAt, operand, snoc, alone, restAt, rest}
+use Rattle.sort_text.specs.Parse.{closing, inBrackets, bracketed, operandOf, operandAt, operand, snoc, alone, restAt, rest}
 use Rattle.sort_text.specs.Parse.{sortTo, sort, ending, line}
 use Rattle.sort_text.proofs.Progress.{IfRead, then-if-read, read}
 use Rattle.sort_text.specs.Grammar.{Operand, SortOf, Operands, basic-sort, container-of, one-operand, function-of, first, another, LineOf}
@@ -39,24 +39,30 @@ unfolding arity snoc
 arity-snoc no-args t = refl
 arity-snoc (arg s ts) t = rw (arity-snoc ts t)
 
-closing-read : (bs : List ℕ) {w cs ds es : List ℕ} {o : ComplexSort} {t : Tree} → next isLetter bs ≡ word w cs
-    → meaning w ≡ operator o → next isLetter cs ≡ open-bracket ds → SortOf ds t es
-    → (at : List ℕ) (n : NextToken) → next isLetter es ≡ n → IfRead (Operand bs) (closing o t at n)
+-- a sort and `)`
+abbrev pub Closed : List ℕ → Tree → List ℕ → Type 0
+Closed ds t fs = (es : List ℕ) × SortOf ds t es × (next isLetter es ≡ close-bracket fs)
+
+closing-read : {ds es : List ℕ} {t : Tree} → SortOf ds t es → (at : List ℕ) (n : NextToken) → next isLetter es ≡ n → IfRead (Closed ds) (closing t at n)
 unfolding closing
-closing-read bs a b c d at (close-bracket fs) e = container-of a b c d e
-closing-read bs a b c d at end e = tt
-closing-read bs a b c d at (word w fs) e = tt
-closing-read bs a b c d at (open-bracket fs) e = tt
-closing-read bs a b c d at (hash fs) e = tt
-closing-read bs a b c d at (arrow fs) e = tt
-closing-read bs a b c d at bad e = tt
+closing-read {es = es} d at (close-bracket fs) e = (es, d, e)
+closing-read d at end e = tt
+closing-read d at (word w fs) e = tt
+closing-read d at (open-bracket fs) e = tt
+closing-read d at (hash fs) e = tt
+closing-read d at (arrow fs) e = tt
+closing-read d at bad e = tt
 
 module _ (f : List ℕ → Parsed) (g : Reads f) where
+  inBrackets-read : (ds : List ℕ) → IfRead (Closed ds) (inBrackets f ds)
+  unfolding inBrackets
+  inBrackets-read ds = then-if-read (SortOf ds) (Closed ds) (f ds) _ (g ds) (λ t es h. closing-read h (skip es) (next isLetter es) refl)
+
   bracketed-read : (bs : List ℕ) {w cs : List ℕ} {o : ComplexSort} → next isLetter bs ≡ word w cs → meaning w ≡ operator o
       → (at : List ℕ) (n : NextToken) → next isLetter cs ≡ n → IfRead (Operand bs) (bracketed f o at n)
   unfolding bracketed
   bracketed-read bs a b at (open-bracket ds) e =
-      then-if-read (SortOf ds) (Operand bs) (f ds) _ (g ds) (λ t es h. closing-read bs a b e h (skip es) (next isLetter es) refl)
+      then-if-read (Closed ds) (Operand bs) (inBrackets f ds) _ (inBrackets-read ds) (λ t fs h. container-of a b e (h .1) (h .2))
   bracketed-read bs a b at end e = tt
   bracketed-read bs a b at (word w ds) e = tt
   bracketed-read bs a b at (close-bracket ds) e = tt

@@ -12,6 +12,7 @@ pub mod RoundTrip
 pub mod Words
 pub mod Length
 pub mod Exactly
+pub mod CannotFollow
 pub mod Sizes
 pub mod ReadableBounds
 pub mod PairRoom

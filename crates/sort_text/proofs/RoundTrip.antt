@@ -13,7 +13,7 @@ use Rattle.resolved_sort.specs.declared.ComplexSort.{ComplexSort}
 use Rattle.resolved_sort.specs.Tree.{Flat, unit, primitive, def, typevar, Tree, flat, container, function, Trees, no-args, arg, arity}
 use Rattle.sort_text.specs.Tokens.{isLetter, NextToken, word, run, past, skip, start, nextAt, next}
 use Rattle.sort_text.specs.Parse.{parsed, _then-read_, sameBytes, sortWord, opWord, basic, operator, meaning}
-use Rattle.sort_text.specs.Parse.{closing, bracketed, operandOf, operandAt, operand, snoc, alone, restAt, rest}
+use Rattle.sort_text.specs.Parse.{closing, inBrackets, bracketed, operandOf, operandAt, operand, snoc, alone, restAt, rest}
 use Rattle.sort_text.specs.Parse.{sort, ending, line}
 use Rattle.sort_text.specs.Text.{nonempty, flatWritable, writable, betweenText, arrowText, text, texts, more}
 use Rattle.sort_text.proofs.Depth.{sort-is}
@@ -154,16 +154,21 @@ operand-flat (primitive s) w rs n =
 operand-flat (def k) w rs n = cc
 operand-flat (typevar k) w rs n = cc
 
-closes : (o : ComplexSort) (t : Tree) (rs : List ℕ) → closing o t (skip (41 ∷ rs)) (next isLetter (41 ∷ rs)) ≡ parsed (container o t) rs
+closes : (t : Tree) (rs : List ℕ) → closing t (skip (41 ∷ rs)) (next isLetter (41 ∷ rs)) ≡ parsed t rs
 unfolding closing next skip past start
-closes o t rs = refl
+closes t rs = refl
 
-opens : (o : ComplexSort) (at bs : List ℕ) → bracketed sort o at (next isLetter (40 ∷ bs)) ≡ (sort bs then-read
-    (λ t cs. closing o t (skip cs) (next isLetter cs)))
+-- the text of a sort, and `)`
+in-brackets-read : (t : Tree) → ReadsBack t → (rs : List ℕ) → inBrackets sort (text t ++ (41 ∷ rs)) ≡ parsed t rs
+unfolding inBrackets
+in-brackets-read t h rs = ap (λ p. p then-read (λ u cs. closing u (skip cs) (next isLetter cs))) (h (41 ∷ rs) bracket) ∙ closes t rs
+
+opens : (o : ComplexSort) (at bs : List ℕ) → bracketed sort o at (next isLetter (40 ∷ bs)) ≡ (inBrackets sort bs then-read
+    (λ t cs. parsed (container o t) cs))
 unfolding bracketed next skip past start
 opens o at bs = refl
 
-operand-over : (o : ComplexSort) (bs : List ℕ) → operand sort (opWord o ++ (40 ∷ bs)) ≡ (sort bs then-read (λ t cs. closing o t (skip cs) (next isLetter cs)))
+operand-over : (o : ComplexSort) (bs : List ℕ) → operand sort (opWord o ++ (40 ∷ bs)) ≡ (inBrackets sort bs then-read (λ t cs. parsed (container o t) cs))
 unfolding operand operandAt operandOf
 operand-over o bs =
     ap (operandAt sort (skip (opWord o ++ (40 ∷ bs)))) (next-opWord o (40 ∷ bs) refl)
@@ -173,7 +178,7 @@ operand-container : (o : ComplexSort) (t : Tree) → ReadsBack t → OperandRead
 unfolding text
 operand-container o t h rs n =
     ap (operand sort) (append-assoc (opWord o) (40 ∷ (text t ++ (41 ∷ []))) rs ∙ ap (λ x. opWord o ++ (40 ∷ x)) (append-assoc (text t) (41 ∷ []) rs))
-    ∙ (operand-over o (text t ++ (41 ∷ rs)) ∙ (ap (λ p. p then-read (λ u cs. closing o u (skip cs) (next isLetter cs))) (h (41 ∷ rs) bracket) ∙ closes o t rs))
+    ∙ (operand-over o (text t ++ (41 ∷ rs)) ∙ ap (λ p. p then-read (λ u cs. parsed (container o u) cs)) (in-brackets-read t h rs))
 
 -- spaces before a sort
 operand-space : (bs : List ℕ) → operand sort (32 ∷ bs) ≡ operand sort bs

@@ -13,7 +13,7 @@ use Rattle.resolved_sort.specs.Tree.{Tree, Trees, no-args, arg}
 use Rattle.sort_text.specs.Tokens.{isLetter, NextToken, end, word, open-bracket, close-bracket, hash, arrow}
 use Rattle.sort_text.specs.Tokens.{bad, run, past, skip, dash, start, nextAt, next}
 use Rattle.sort_text.specs.Parse.{Parsed, parsed, stuck, _then-read_, WordMeaning, basic, operator, unknown}
-use Rattle.sort_text.specs.Parse.{meaning, closing, bracketed, operandOf, operandAt, operand, snoc, alone}
+use Rattle.sort_text.specs.Parse.{meaning, closing, inBrackets, bracketed, operandOf, operandAt, operand, snoc, alone}
 use Rattle.sort_text.specs.Parse.{restAt, rest, sortTo, sort, ending, line, Suffix, left, Leaves}
 
 pub suffix-refl : (bs : List ℕ) → Suffix bs bs
@@ -105,15 +105,15 @@ then-suffix (parsed t cs) k bs h f = suffix-trans (left (k t cs)) cs bs (f t cs)
 then-suffix (stuck cs) k bs h f = h
 
 -- the readers, each from what its token leaves
-closing-suffix : (o : ComplexSort) (t : Tree) (at bs : List ℕ) (n : NextToken) → Suffix at bs → Suffix (after at n) bs → Suffix (left (closing o t at n)) bs
+closing-suffix : (t : Tree) (at bs : List ℕ) (n : NextToken) → Suffix at bs → Suffix (after at n) bs → Suffix (left (closing t at n)) bs
 unfolding closing
-closing-suffix o t at bs (close-bracket cs) h k = k
-closing-suffix o t at bs end h k = h
-closing-suffix o t at bs (word w cs) h k = h
-closing-suffix o t at bs (open-bracket cs) h k = h
-closing-suffix o t at bs (hash cs) h k = h
-closing-suffix o t at bs (arrow cs) h k = h
-closing-suffix o t at bs bad h k = h
+closing-suffix t at bs (close-bracket cs) h k = k
+closing-suffix t at bs end h k = h
+closing-suffix t at bs (word w cs) h k = h
+closing-suffix t at bs (open-bracket cs) h k = h
+closing-suffix t at bs (hash cs) h k = h
+closing-suffix t at bs (arrow cs) h k = h
+closing-suffix t at bs bad h k = h
 
 ending-suffix : (t : Tree) (at bs : List ℕ) (n : NextToken) → Suffix at bs → Suffix (left (ending t at n)) bs
 unfolding ending
@@ -132,11 +132,15 @@ alone-suffix (arg t no-args) at bs h = suffix-refl bs
 alone-suffix (arg t (arg u us)) at bs h = h
 
 module _ (f : List ℕ → Parsed) (g : Leaves f) where
+  inBrackets-suffix : (bs : List ℕ) → Suffix (left (inBrackets f bs)) bs
+  unfolding inBrackets
+  inBrackets-suffix bs =
+      then-suffix (f bs) _ bs (g bs) (λ t ds. closing-suffix t (skip ds) ds (next isLetter ds) (skip-suffix ds) (next-suffix isLetter ds))
+
   pub bracketed-suffix : (o : ComplexSort) (at bs : List ℕ) (n : NextToken) → Suffix at bs → Suffix (after at n) bs → Suffix (left (bracketed f o at n)) bs
   unfolding bracketed
   bracketed-suffix o at bs (open-bracket cs) h k =
-      then-suffix (f cs) _ bs (suffix-trans (left (f cs)) cs bs (g cs) k) (λ t ds. closing-suffix o t (skip ds) ds
-      (next isLetter ds) (skip-suffix ds) (next-suffix isLetter ds))
+      then-suffix (inBrackets f cs) _ bs (suffix-trans (left (inBrackets f cs)) cs bs (inBrackets-suffix cs) k) (λ t ds. suffix-refl ds)
   bracketed-suffix o at bs end h k = h
   bracketed-suffix o at bs (word w cs) h k = h
   bracketed-suffix o at bs (close-bracket cs) h k = h

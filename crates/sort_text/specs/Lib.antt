@@ -1,6 +1,7 @@
 -- Sort text, in the order of document 01, and room for the sorts of two lines.
 pub mod Tokens
 pub mod Grammar
+pub mod CannotFollow
 pub mod Parse
 pub mod Readable
 pub mod Text

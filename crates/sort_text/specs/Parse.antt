@@ -65,18 +65,22 @@ meaning w =
     (cond (sameBytes w (opWord ComplexSort.FBag)) (operator ComplexSort.FBag) unknown)))))))))
 
 -- `)` after the sort in brackets
-unfoldable pub closing : ComplexSort → Tree → List ℕ → NextToken → Parsed
-closing o t at (close-bracket bs) = parsed (container o t) bs
-closing o t at end = stuck at
-closing o t at (word w bs) = stuck at
-closing o t at (open-bracket bs) = stuck at
-closing o t at (hash bs) = stuck at
-closing o t at (arrow bs) = stuck at
-closing o t at bad = stuck at
+unfoldable pub closing : Tree → List ℕ → NextToken → Parsed
+closing t at (close-bracket bs) = parsed t bs
+closing t at end = stuck at
+closing t at (word w bs) = stuck at
+closing t at (open-bracket bs) = stuck at
+closing t at (hash bs) = stuck at
+closing t at (arrow bs) = stuck at
+closing t at bad = stuck at
+
+-- after `(`: a sort, and `)`
+unfoldable pub inBrackets : (List ℕ → Parsed) → List ℕ → Parsed
+inBrackets sort bs = sort bs then-read (λ t cs. closing t (skip cs) (next isLetter cs))
 
 -- `(` after a container word, the sort in it, and `)`
 unfoldable pub bracketed : (List ℕ → Parsed) → ComplexSort → List ℕ → NextToken → Parsed
-bracketed sort o at (open-bracket bs) = sort bs then-read (λ t cs. closing o t (skip cs) (next isLetter cs))
+bracketed sort o at (open-bracket bs) = inBrackets sort bs then-read (λ t cs. parsed (container o t) cs)
 bracketed sort o at end = stuck at
 bracketed sort o at (word w bs) = stuck at
 bracketed sort o at (close-bracket bs) = stuck at

@@ -17,29 +17,16 @@ closing-spec =
     (tie.spec
     (λ c κs. search needs)
     (λ c. search needs)
-    (λ c κs. search needs)
     (λ c.
-    let at-token-from = c .before .before .before in
-    let start = at-token-from .before .before .before in
+    let at-token-from = c .before .before in
+    let start = at-token-from .before .before in
     let args = start .args in
-    let g = way.later (args .line .now) (args .at) (start .pre .0) (args .out .now) (args .n) (start .pre .1)
-    (at-token-from .token-from .result) (at-token-from .token-from .ensures) Close
-    (c .before .enum-told .given .1) in let d = way.later-within (args .line .now) (args .at) (start .pre .0)
-    (args .out .now) (args .n) (start .pre .1) (at-token-from .token-from .result)
-    (at-token-from .token-from .ensures) in omega (arith, g, d, start .pre .1))
-    (λ c. search needs)
-    (λ c. search needs)
-    (λ c.
-    let at-token-from = c .before .before .before in
-    let start = at-token-from .before .before .before in
-    let args = start .args in
-    way.closing-done (args .line .now) (args .at) (start .pre .0) (args .out .now) (args .n) (start .pre .1)
-    (at-token-from .token-from .result) (at-token-from .token-from .ensures) (c .before .enum-told .given .1) _ _
-    (c .step-of-op .ensures))
+    way.closing-done (args .line .now) (args .at) (start .pre) (args .n) (at-token-from .token-from .result)
+    (at-token-from .token-from .ensures) (c .enum-told .given .1))
     (λ c.
     let at-token-from = c .before in
-    let start = at-token-from .before .before .before in
+    let start = at-token-from .before .before in
     let args = start .args in
-    way.closing-stuck (args .line .now) (args .at) (start .pre .0) (args .out .now) (args .n) (start .pre .1)
-    (at-token-from .token-from .result) (at-token-from .token-from .ensures) (no-other-token (0 ∷ 1 ∷ 2 ∷ 4 ∷ 5 ∷
-    6 ∷ []) (at-token-from .token-from .result .token) Close (c .match .keys2) tt) _))
+    way.closing-stuck (args .line .now) (args .at) (start .pre) (args .n) (at-token-from .token-from .result)
+    (at-token-from .token-from .ensures) (no-other-token (0 ∷ 1 ∷ 2 ∷ 4 ∷ 5 ∷ 6 ∷ [])
+    (at-token-from .token-from .result .token) Close (c .match .keys2) tt)))

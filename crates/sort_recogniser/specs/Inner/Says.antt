@@ -3,7 +3,6 @@ use mathlib.Core.Path.{_≡_}
 use mathlib.Core.List.{List, _++_}
 use Prim.Native.Nat.{ℕ, _+_, _-_, _≤_}
 use lib.ListN.{length, take, drop}
-use Rattle.resolved_sort.specs.declared.ComplexSort.{ComplexSort}
 use Rattle.resolved_sort.specs.Tree.{Tree, Trees, arity}
 use Rattle.sort_text.specs.Tokens.{isLetter, skip, next}
 use Rattle.sort_text.specs.Parse.{Parsed, parsed, stuck, closing, rest, sort}
@@ -28,12 +27,12 @@ Says line lowest room front (parsed t cs) out (Stuck p) = ⊥
 Says line lowest room front (stuck cs) out (Done p m) = ⊥
 Says line lowest room front (stuck cs) out (Stuck p) = (p ≤ length line) × (drop p line ≡ cs)
 
--- After the n steps of which the last are those of the sort in brackets.
-unfoldable pub SaysClosing : List ℕ → ℕ → List ℕ → ℕ → ComplexSort → List ℕ → Recognised → Type 0
-SaysClosing line at old n op out r =
-    (front : List ℕ) (t : Tree) → take n old ≡ front ++ postfix t
-    → Says line at (n + (length line - at)) front
-    (closing op t (skip (drop at line)) (next isLetter (drop at line))) out r
+-- After the n steps of which the last are those of the sort in brackets: no step is written.
+unfoldable pub SaysClosing : List ℕ → ℕ → ℕ → Recognised → Type 0
+SaysClosing line at n r =
+    (front out : List ℕ) (t : Tree) → take n out ≡ front ++ postfix t
+    → Says line (at + 1) (n + (length line - at)) front
+    (closing t (skip (drop at line)) (next isLetter (drop at line))) out r
 
 -- After the n steps of which the last are those of the k operands.
 unfoldable pub SaysRest : List ℕ → ℕ → List ℕ → ℕ → ℕ → List ℕ → Recognised → Type 0
