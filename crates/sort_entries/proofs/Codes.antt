@@ -1,18 +1,16 @@
--- Document 01's number of each outcome: the first failing check's, 15 where room ended, else 0; and the packed answer is that number with
--- the values above it. By the cases of the first failing check and of the answers. Assumes nothing.
+-- Document 01's number of each outcome: the first failing check's, 15 where room ended, else 0. By the cases of the first failing check and
+-- of the answers. Assumes nothing.
 use mathlib.Core.Path.{_≡_, refl}
 use mathlib.Core.Bool.{Bool}
 use mathlib.Core.List.{List}
 use mathlib.Core.Option.{Option, none, some}
-use Prim.Native.Nat.{ℕ, _+_, _*_}
-use native.Mathlib.Omega.{arith}
+use Prim.Native.Nat.{ℕ}
 use Rattle.resolved_sort.specs.declared.PartialOrder.{PartialOrder}
 use Rattle.resolved_sort.specs.declared.Widening.{Widening}
 use Rattle.resolved_sort.specs.declared.Joined.{Joined}
 use Rattle.resolved_sort.specs.declared.Joined.the-variants.{At, Nothing, Full}
 use Rattle.resolved_sort.specs.declared.Compared.the-variants.{Refused as NotCompared, Ordered}
-use Rattle.resolved_sort.specs.declared.Bounded.{Bounded}
-use Rattle.resolved_sort.specs.declared.Bounded.the-variants.{Refused as NotBounded, Sort, Nothing as NoBound, NoRoom}
+use Rattle.resolved_sort.specs.declared.Bounded.the-variants.{Refused as NotBounded}
 use Rattle.resolved_sort.specs.declared.Measured.the-variants.{Refused as NotMeasured, Steps}
 use Rattle.resolved_sort.specs.declared.Materialized.the-variants.{Refused as NotMaterialized, Answer}
 use Rattle.resolved_sort.specs.Interning.{make}
@@ -21,8 +19,7 @@ use Rattle.resolved_sort.specs.Checks.{firstFailing, pairChecks}
 use Rattle.resolved_sort.specs.Entries.{treeAt, codeCompared, codeBounded, codeMeasured, codeMaterialized, refusedOr}
 use Rattle.resolved_sort.specs.Entries.{Stored, stored, sortsLeft, sortsLeftBy, compared, measured, materialized}
 use Rattle.resolved_sort.specs.Entries.{bounded}
-use Rattle.sort_entries.specs.Packed.{packBounded}
-use Rattle.sort_entries.specs.Codes.{roomCode, boundedValues}
+use Rattle.sort_entries.specs.Codes.{roomCode}
 
 compared-by : (x : Option ℕ) (o : PartialOrder) → codeCompared (refusedOr x NotCompared (Ordered o)) ≡ refusedOr x (λ c. c) 0
 unfolding codeCompared
@@ -70,10 +67,3 @@ module _ (ws : List ℕ) (n e a b : ℕ) where
       (roomCode ((stored ws n e (make up (treeAt ws n a) (treeAt ws n b) (sortsOf ws n e))) .answer))
   unfolding bounded
   code-of-bounded up = bounded-by (firstFailing (pairChecks ws n e a b)) ws n e _
-
-pub bounded-packed : (r : Bounded) → packBounded r ≡ codeBounded r + 256 * boundedValues r
-unfolding codeBounded
-bounded-packed (NotBounded c) = omega arith
-bounded-packed (Sort s k) = omega arith
-bounded-packed (NoBound k) = omega arith
-bounded-packed NoRoom = refl

@@ -119,7 +119,7 @@ module _ (up : Bool) (ws : List ℕ) (n e a b : ℕ) (k : Asked ws n e a b) wher
   abbrev outcome : Outcome Tree
   outcome = make up (treeAt ws n a) (treeAt ws n b) (sortsOf ws n e)
 
-  outcome-kept : SortsKept ws n e InTree (sortsOf ws n e) outcome
+  pub outcome-kept : SortsKept ws n e InTree (sortsOf ws n e) outcome
   outcome-kept =
       make-kept ws n e up (treeAt ws n a) (treeAt ws n b) (sortsOf ws n e) (grown-none ws n e (k .checked))
       (look-whole ws n e (k .checked) a (k .lhs)) (look-whole ws n e (k .checked) b (k .rhs))

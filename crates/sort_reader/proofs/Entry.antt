@@ -135,7 +135,7 @@ module _ (ws : List ℕ) (n e : ℕ) (bs : List ℕ) (q : Passes ws n e bs) wher
   six-in : HasSix (sortsOf ws n e)
   six-in k l = subst (λ t. member (trees ws n) t ≡ true) (look-six k l) (member-look (trees ws n) k (omega (arith, has-six, length-trees ws n)))
 
-  primitives-in : HasPrimitives (sortsOf ws n e)
+  pub primitives-in : HasPrimitives (sortsOf ws n e)
   primitives-in Sorts.Sort.Bool = six-in 1 (omega arith)
   primitives-in Sorts.Sort.Pos = six-in 2 (omega arith)
   primitives-in Sorts.Sort.Nat = six-in 3 (omega arith)

@@ -2,3 +2,4 @@
 mod Ways
 pub mod Entry
 pub mod Codes
+pub mod Answered

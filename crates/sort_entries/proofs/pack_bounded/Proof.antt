@@ -1,7 +1,8 @@
 -- By the answers. Assumes nothing.
 use borrow.Author.Needs.{needs}
-use mathlib.Core.Path.{sym, ap}
+use mathlib.Core.Path.{sym, _∙_, ap}
 use Rattle.sort_entries.specs.Packed.{packBounded}
+use Rattle.sort_entries.proofs.Fields.{bounded-refused, bounded-sort, bounded-nothing, bounded-no-room}
 use Rattle.sort_entries.proofs.pack_bounded.Statement.{statement}
 use Rattle.sort_entries.proofs.pack_bounded.Tie as tie
 
@@ -28,7 +29,7 @@ pack-bounded-spec =
     (λ c. search needs)
     (λ c. search needs)
     (λ c. search needs)
-    (λ c. search needs)
-    (λ c. ap packBounded (sym (c .before .before .before .before .answer2 .given .1)))
-    (λ c. ap packBounded (sym (c .before .before .before .answer3 .given .1)))
-    (λ c. search needs))
+    (λ c. bounded-refused _ ∙ ap packBounded (sym (c .before .answer .given .1)))
+    (λ c. bounded-sort _ _ ∙ ap packBounded (sym (c .before .before .before .before .answer2 .given .1)))
+    (λ c. bounded-nothing _ ∙ ap packBounded (sym (c .before .before .before .answer3 .given .1)))
+    (λ c. bounded-no-room ∙ ap packBounded (sym (c .enum-told .given .1))))

@@ -1,7 +1,9 @@
 -- By the answers. Assumes nothing.
 use borrow.Author.Needs.{needs}
 use mathlib.Core.Path.{sym, _∙_, ap}
-use Rattle.sort_entries.specs.Packed.{packWidening, packMeasured}
+use Rattle.resolved_sort.specs.declared.Measured.the-variants.{Steps}
+use Rattle.sort_entries.specs.Packed.{packMeasured}
+use Rattle.sort_entries.proofs.Fields.{measured-refused, measured-distance, measured-nothing}
 use Rattle.sort_entries.proofs.pack_measured.Statement.{statement}
 use Rattle.sort_entries.proofs.pack_measured.Tie as tie
 
@@ -20,6 +22,8 @@ pack-measured-spec =
     (λ c. search needs)
     (λ c. search needs)
     (λ c. search needs)
-    (λ c. search needs)
-    (λ c. sym (ap packMeasured (c .before .before .before .before .answer2 .given .1) ∙ ap packWidening (c .before .widening .given .1)))
-    (λ c. search needs))
+    (λ c. measured-refused _ ∙ ap packMeasured (sym (c .before .answer .given .1)))
+    (λ c. measured-distance _ _
+    ∙ sym (ap packMeasured (c .before .before .before .before .answer2 .given .1) ∙ ap (λ w. packMeasured (Steps w)) (c .before .widening .given .1)))
+    (λ c. measured-nothing
+    ∙ sym (ap packMeasured (c .before .before .before .answer2 .given .1) ∙ ap (λ w. packMeasured (Steps w)) (c .enum-told .given .1))))

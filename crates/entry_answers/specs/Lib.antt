@@ -1,0 +1,3 @@
+-- What entries answer and leave.
+pub mod Packing
+pub mod SortsLeft
