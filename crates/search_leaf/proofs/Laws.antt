@@ -91,7 +91,7 @@ module _ (ws ns bs sc ls : List ℕ) (z : Sizes) (k : State) (e : Branch) (p : A
 
     abbrev next-incumbent : List ℕ → World (Unit {0}) → Out (Unit {0})
     next-incumbent ss v =
-        found (keeping (Unit {0}) nothingMet (problemIn ls z) v (here .measure)
+        found (keeping (Unit {0}) nothingMet (problemIn ls z) v here
         (record { measure = here .measure; sorts = ss; choices = here .choices; duplicate = false }))
 
     abbrev Says : Extracted → Type 0
