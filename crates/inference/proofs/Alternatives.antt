@@ -56,7 +56,7 @@ at-position R x i j e ch ρ ms h = subst (λ n. R (ch ++ (record { expr = x; pos
 
 module _
     (W₀ : Lent) (B₀ : Binds) (P : Problem) (c₀ : CheckedLent W₀) (six : fixedSix (W₀ .sorts) (W₀ .lengths .sorts) ≡ true)
-    (Met : Type 0) (meet : Components → Met → Met) where
+    (Met : Type 0) (meet : Path → Lent → Met → Met) where
   -- two of the places given, made equal: they have a sort, the same
   given-leaves : (e : Path) (w : World Met) (Q : Claim) → Sound W₀ B₀ P (w .lent) e Q
       → FineBest W₀ B₀ P (w .lent) (w .best) → (l r : ℕ) → PlacedIn W₀ l → PlacedIn W₀ r

@@ -195,7 +195,7 @@ module _ {Met : Type 0} (Went : World Met → Bool → World Met → Type 0) whe
   Goes w (missed v) = Went w false v
   Goes w (ended c W) = Ends c
 
-module _ (Met : Type 0) (meet : Components → Met → Met) (P : Problem) (Went : World Met → Bool → World Met
+module _ (Met : Type 0) (meet : Path → Lent → Met → Met) (P : Problem) (Went : World Met → Bool → World Met
     → Type 0) (stays : (w : World Met) (W : Lent) → Went w false (lending w W))
     (after : (u v w : World Met) (a b : Bool) → Went u a v → Went v b w → Went u (a || b) w) where
   goes-after : (u v : World Met) → Went u false v → (o : Out Met) → Goes Went v o → Goes Went u o
@@ -389,20 +389,20 @@ module _ (Met : Type 0) (meet : Components → Met → Met) (P : Problem) (Went 
 
   -- A leaf: the first, and then one smaller than the incumbent, equal or greater. Where not all of its sorts are made it is not met.
   module _ (e : Path) (w : World Met) where
-    replace-goes : ((ss : List ℕ) (W : Lent) → Went w true (keeping Met meet P (lending w W) (e .measure)
+    replace-goes : ((ss : List ℕ) (W : Lent) → Went w true (keeping Met meet P (lending w W) e
         (newcomer e ss))) → Goes Went w (replace Met meet P e w)
     unfolding Goes
     replace-goes h =
         on-made-goes (λ ss W. length ss ≡ length (P .exprs)) Perhaps (resolveAll (Is (record { 0 = P .default })) (e .binds) (P .exprs) (w .lent))
         (one-sort-each (Is (record { 0 = P .default })) (e .binds) (P .exprs) (w .lent)) w w _ missed (λ ss W i. h ss W) (λ W i. missed-goes w W)
 
-    pub leaf-goes : (w .best ≡ none → (ss : List ℕ) (W : Lent) → Went w true (keeping Met meet P (lending w W) (e .measure) (newcomer e ss)))
+    pub leaf-goes : (w .best ≡ none → (ss : List ℕ) (W : Lent) → Went w true (keeping Met meet P (lending w W) e (newcomer e ss)))
         → ((c : Candidate) → w .best ≡ some c → compare (e .measure) (c .measure) ≡ smaller → (ss : List ℕ) (W : Lent)
-        → Went w true (keeping Met meet P (lending w W) (e .measure) (newcomer e ss)))
+        → Went w true (keeping Met meet P (lending w W) e (newcomer e ss)))
         → ((c : Candidate) → w .best ≡ some c → compare (e .measure) (c .measure) ≡ equal
-        → Went w true (keeping Met meet P w (e .measure) (markedTied Met meet P c)))
+        → Went w true (keeping Met meet P w e (markedTied Met meet P c)))
         → ((c : Candidate) → w .best ≡ some c → compare (e .measure) (c .measure) ≡ greater
-        → Went w true (keeping Met meet P w (e .measure) c)) → Goes Went w (leaf Met meet P e w)
+        → Went w true (keeping Met meet P w e c)) → Goes Went w (leaf Met meet P e w)
     unfolding leaf Goes
     leaf-goes first less same more = go (w .best) refl
       where

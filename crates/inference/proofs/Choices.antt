@@ -23,7 +23,6 @@ use Rattle.inference.specs.declared.Solved.the-variants.{Typing}
 use Rattle.inference.specs.declared.Constraint.{Constraint}
 use Rattle.inference.specs.declared.Constraint.the-variants.{Sub, Lit, Disjunction, Comprehension, Join}
 use Rattle.inference.specs.Constraints.{BaseName, Problem}
-use Rattle.inference.specs.Measure.{Components}
 use Rattle.inference.specs.Search.{Choice, Path, Candidate, World, Out, found, missed, ended, lending, leaf, solve}
 use Rattle.inference.specs.Names.{runFor, targetIn, chosenName, baseName, nameOf}
 use Rattle.inference.specs.Typing.{All, none-left, and-all, In, here, there}
@@ -47,7 +46,7 @@ unfoldable pub FitsBest : Problem → List Constraint → Option Candidate → T
 FitsBest P cs none = Unit {0}
 FitsBest P cs (some c) = Fits P cs c
 
-module _ (Met : Type 0) (meet : Components → Met → Met) (P : Problem) (cs : List Constraint) where
+module _ (Met : Type 0) (meet : Path → Lent → Met → Met) (P : Problem) (cs : List Constraint) where
   abbrev pub Fitting : World Met → Bool → World Met → Type 0
   Fitting u b v = FitsBest P cs (u .best) → FitsBest P cs (v .best)
 

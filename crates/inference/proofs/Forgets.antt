@@ -28,7 +28,7 @@ use Rattle.inference.specs.Search.{sequence, joining, step, keeping, rep
 use Rattle.inference.specs.Search.{leaf, dominatedBy, unlessDominated, solve}
 use Rattle.inference.specs.SolveChecks.{Call, given}
 use Rattle.inference.specs.SolveEntry.{problemOf, startPath, lentOf, searched, verdict, nothingMet}
-use Rattle.inference.specs.Leaves.{history}
+use Rattle.inference.specs.Leaves.{measureMet, history}
 
 module _ {Met Met′ : Type 0} (f : Met → Met′) where
   abbrev pub mapWorld : World Met → World Met′
@@ -94,8 +94,8 @@ module _ {Met Met′ : Type 0} (f : Met → Met′) where
   given-back-alike U (missed w) o′ e = ap (nodesReturned U) e
   given-back-alike U (ended c W) o′ e = ap (nodesReturned U) e
 
-module _ (Met Met′ : Type 0) (meet : Components → Met → Met) (meet′ : Components → Met′ → Met′) (f : Met
-    → Met′) (commutes : (m : Components) (x : Met) → f (meet m x) ≡ meet′ m (f x)) (P : Problem) where
+module _ (Met Met′ : Type 0) (meet : Path → Lent → Met → Met) (meet′ : Path → Lent → Met′ → Met′) (f : Met → Met′)
+    (commutes : (e : Path) (W : Lent) (x : Met) → f (meet e W x) ≡ meet′ e W (f x)) (P : Problem) where
   -- what comes next, on every path
   abbrev Nexts : (Path → World Met → Out Met) → (Path → World Met′ → Out Met′) → Type 0
   Nexts k k′ = (e : Path) → Alike f (k e) (k′ e)
@@ -196,15 +196,15 @@ module _ (Met Met′ : Type 0) (meet : Components → Met → Met) (meet′ : Co
   step-alike (Join run t) k k′ h = joining-alike (take (run .count) (drop (run .start) (P .sources))) (t .0) k k′ h
 
   -- a leaf is met in both
-  keeping-alike : (m : Components) (c : Candidate) (w : World Met)
-      → Image f (found (keeping Met meet P w m c)) (found (keeping Met′ meet′ P (mapWorld f w) m c))
+  keeping-alike : (e : Path) (c : Candidate) (w : World Met)
+      → Image f (found (keeping Met meet P w e c)) (found (keeping Met′ meet′ P (mapWorld f w) e c))
   unfolding Image
-  keeping-alike m c w = ap (λ x. found (record { lent = w .lent; best = some c; met = x })) (commutes m (w .met))
+  keeping-alike e c w = ap (λ x. found (record { lent = w .lent; best = some c; met = x })) (commutes e (w .lent) (w .met))
 
   replace-alike : Nexts (replace Met meet P) (replace Met′ meet′ P)
   replace-alike e w =
       on-made-alike f (resolveAll (Is (record { 0 = P .default })) (e .binds) (P .exprs) (w .lent)) _ _ missed missed
-      (λ ss v. keeping-alike (e .measure) (record { measure = e .measure; sorts = ss; choices = e .choices; duplicate = false }) v) (missed-alike f) w
+      (λ ss v. keeping-alike e (record { measure = e .measure; sorts = ss; choices = e .choices; duplicate = false }) v) (missed-alike f) w
 
   leaf-alike : Nexts (leaf Met meet P) (leaf Met′ meet′ P)
   unfolding leaf
@@ -212,8 +212,8 @@ module _ (Met Met′ : Type 0) (meet : Components → Met → Met) (meet′ : Co
     where
       by : (r : Ranking) (c : Candidate) → Image f (leafBy Met meet P r c e w) (leafBy Met′ meet′ P r c e (mapWorld f w))
       by smaller c = replace-alike e w
-      by equal c = keeping-alike (e .measure) (markedTied Met meet P c) w
-      by greater c = keeping-alike (e .measure) c w
+      by equal c = keeping-alike e (markedTied Met meet P c) w
+      by greater c = keeping-alike e c w
 
       go : (b : Option Candidate) → Image f (leafOver Met meet P b e w) (leafOver Met′ meet′ P b e (mapWorld f w))
       go none = replace-alike e w
@@ -243,9 +243,14 @@ verdict-forgets f I (found w) = refl
 verdict-forgets f I (missed w) = refl
 verdict-forgets f I (ended c W) = refl
 
-pub history-has-the-verdict : (I : Call) → verdict I (history I) ≡ verdict I (searched (Unit {0}) nothingMet tt I)
-history-has-the-verdict I =
-    sym (verdict-forgets {Met′ = Unit {0}} (λ ms. tt) I (history I))
+-- So whatever a search keeps of its leaves, their paths and lists among it, its verdict is the solver's.
+pub keeping-has-no-influence : (Met : Type 0) (meet : Path → Lent → Met → Met) (m : Met) (I : Call)
+    → verdict I (searched Met meet m I) ≡ verdict I (searched (Unit {0}) nothingMet tt I)
+keeping-has-no-influence Met meet m I =
+    sym (verdict-forgets {Met′ = Unit {0}} (λ x. tt) I (searched Met meet m I))
     ∙ ap (verdict I)
-    (forgets (List Components) (Unit {0}) _∷_ nothingMet (λ ms. tt) (λ m ms. refl) (problemOf I) (given I)
-    (startPath I) (record { lent = lentOf I; best = none; met = [] }))
+    (forgets Met (Unit {0}) meet nothingMet (λ x. tt) (λ e W x. refl) (problemOf I) (given I) (startPath I)
+    (record { lent = lentOf I; best = none; met = m }))
+
+pub history-has-the-verdict : (I : Call) → verdict I (history I) ≡ verdict I (searched (Unit {0}) nothingMet tt I)
+history-has-the-verdict I = keeping-has-no-influence (List Components) measureMet [] I

@@ -16,14 +16,14 @@ use Rattle.unification.proofs.BindsGrow.{binds-name-places}
 use Rattle.unification.proofs.PlaceTerms.{sort-placed, sort-term}
 use Rattle.inference.specs.Constraints.{Problem}
 use Rattle.inference.specs.Measure.{Components}
-use Rattle.inference.specs.Search.{Choice, Going, withComponents, joinOf, sortIn, sequence, joining}
+use Rattle.inference.specs.Search.{Path, Choice, Going, withComponents, joinOf, sortIn, sequence, joining}
 use Rattle.inference.specs.Typing.{Assignment, Has, All, and-all}
 use Rattle.inference.specs.Components.{joins, Heads, no-heads, and-head}
 use Rattle.inference.proofs.Invariant.{Claim, terms, Goes, still-placed, same-sort, or-else-leaves, unifying-leaves}
 use Rattle.inference.proofs.MakingSorts.{StandAll, all-stand, and-stands, HeadsAre, no-heads as no-heads-are}
 use Rattle.inference.proofs.MakingSorts.{and-head-is, JoinsTo, Agree, join-of-makes, on-made-leaves}
 
-module _ (W₀ : Lent) (B₀ : Binds) (P : Problem) (c₀ : CheckedLent W₀) (Met : Type 0) (meet : Components → Met → Met) where
+module _ (W₀ : Lent) (B₀ : Binds) (P : Problem) (c₀ : CheckedLent W₀) (Met : Type 0) (meet : Path → Lent → Met → Met) where
   -- sources that agree, under an assignment that respects the bindings
   heads-stand : (W : Lent) → Grows W₀ W → (B : Binds) (W′ : Lent) (ρ : Assignment) → Respects (graph W) B (terms ρ)
       → (u : Tree) (ps ss : List ℕ) (ns : Components)

@@ -13,14 +13,14 @@ use Rattle.unification.specs.Making.{Lent, graph}
 use Rattle.unification.specs.Growing.{CheckedLent, PlacedIn, Grows}
 use Rattle.unification.proofs.Assignments.{sorts-extend}
 use Rattle.inference.specs.Constraints.{Problem}
-use Rattle.inference.specs.Measure.{Components, Ranking, smaller, equal, greater, compare}
+use Rattle.inference.specs.Measure.{Ranking, smaller, equal, greater, compare}
 use Rattle.inference.specs.Search.{Path, Candidate, World, sortIn, resolveAll, leaf, replace, leafBy, leafOver}
 use Rattle.inference.specs.Typing.{Assignment, Typed, all-typed, and-typed, All, and-all}
 use Rattle.inference.proofs.Invariant.{Claim, terms, Cost, Sound, Fine, FineBest, Leaves, Goes, sorts-only-refl, still-placed, same-sort, missed-leaves}
 use Rattle.inference.proofs.MakingSorts.{StandAll, all-stand, and-stands, stand-below, resolve-all-makes, on-made-leaves}
 
 module _ (W₀ : Lent) (B₀ : Binds) (P : Problem) (c₀ : CheckedLent W₀) (below : P .default < W₀ .lengths .sorts)
-    (placed : All (PlacedIn W₀) (P .exprs)) (Met : Type 0) (meet : Components → Met → Met)
+    (placed : All (PlacedIn W₀) (P .exprs)) (Met : Type 0) (meet : Path → Lent → Met → Met)
   where
     -- every constraint is passed
     abbrev AllPassed : Claim

@@ -24,7 +24,7 @@ use Rattle.inference.proofs.Accepted.{passed-is-searched}
 use Rattle.inference.proofs.Members.{not-in-nothing, in-all, all-weaker}
 use Rattle.inference.proofs.Measures.{compare-self, equal-are-one, smaller-is-at-most, at-most-self}
 use Rattle.inference.proofs.Measures.{smaller-below, at-most-each-other-are-one, greater-mirrored}
-use Rattle.inference.specs.Leaves.{history, once, times, Least, metOf, leavesMet, codeOf, ByLeaves}
+use Rattle.inference.specs.Leaves.{measureMet, history, once, times, Least, metOf, leavesMet, codeOf, ByLeaves}
 use Rattle.inference.proofs.Forgets.{history-has-the-verdict}
 use Rattle.inference.proofs.Branches.{newcomer, Goes, leaf-goes, search-goes}
 
@@ -128,27 +128,27 @@ module _ (P : Problem) where
   Met = List Components
 
   -- one leaf more
-  meets : (w : World Met) (W : Lent) (m : Components) (c : Candidate) → (Kept (w .best) (w .met)
-      → Stands c (m ∷ w .met)) → Went w true (keeping Met _∷_ P (lending w W) m c)
+  meets : (w : World Met) (W : Lent) (e : Path) (c : Candidate) → (Kept (w .best) (w .met)
+      → Stands c (e .measure ∷ w .met)) → Went w true (keeping Met measureMet P (lending w W) e c)
   unfolding Kept
-  meets w W m c h = record { leaves = m ∷ []; met = refl; found = refl; kept = h }
+  meets w W e c h = record { leaves = e .measure ∷ []; met = refl; found = refl; kept = h }
 
-  leaf-meets : (e : Path) (w : World Met) → Goes Went w (leaf Met _∷_ P e w)
+  leaf-meets : (e : Path) (w : World Met) → Goes Went w (leaf Met measureMet P e w)
   unfolding Kept
   leaf-meets e w =
-      leaf-goes Met _∷_ P Went stays after e w
-      (λ q ss W. meets w W (e .measure) (newcomer e ss) (λ k. first-stands (newcomer e ss) (w .met) refl (subst (λ b. Kept b (w .met)) q k)))
-      (λ c q i ss W. meets w W (e .measure) (newcomer e ss) (λ k. smaller-stands (newcomer e ss) (w .met) refl c i (before c q k)))
-      (λ c q i. meets w (w .lent) (e .measure) (markedTied Met _∷_ P c) (λ k. equal-stands (markedTied Met _∷_ P c)
+      leaf-goes Met measureMet P Went stays after e w
+      (λ q ss W. meets w W e (newcomer e ss) (λ k. first-stands (newcomer e ss) (w .met) refl (subst (λ b. Kept b (w .met)) q k)))
+      (λ c q i ss W. meets w W e (newcomer e ss) (λ k. smaller-stands (newcomer e ss) (w .met) refl c i (before c q k)))
+      (λ c q i. meets w (w .lent) e (markedTied Met measureMet P c) (λ k. equal-stands (markedTied Met measureMet P c)
       (w .met) c refl refl (e .measure) i (before c q k)))
-      (λ c q i. meets w (w .lent) (e .measure) c (λ k. greater-stands c (w .met) (e .measure) i (before c q k)))
+      (λ c q i. meets w (w .lent) e c (λ k. greater-stands c (w .met) (e .measure) i (before c q k)))
     where
       before : (c : Candidate) → w .best ≡ some c → Kept (w .best) (w .met) → Stands c (w .met)
       before c q k = subst (λ b. Kept b (w .met)) q k
 
   -- every branch of the search
-  pub search-meets : (cs : List Constraint) (e : Path) (w : World Met) → Goes Went w (solve Met _∷_ P cs e w)
-  search-meets cs e = search-goes Met _∷_ P Went stays after cs e (λ e′ a. leaf-meets e′)
+  pub search-meets : (cs : List Constraint) (e : Path) (w : World Met) → Goes Went w (solve Met measureMet P cs e w)
+  search-meets cs e = search-goes Met measureMet P Went stays after cs e (λ e′ a. leaf-meets e′)
 
 module _ (I : Call) (W : Lent) (ms : List Components) where
   least-of-none : ms ≡ [] → (m : Components) → Least m ms → ⊥

@@ -15,8 +15,7 @@ use Rattle.resolved_sort.proofs.Reached.{no-confusion}
 use Rattle.unification.specs.Nodes.{maxNodes, maxNodeEntries, nodeEntriesAt, fullNodes, bindsOf}
 use Rattle.unification.specs.Making.{Lent}
 use Rattle.unification.specs.Growing.{Grows, NodesAgree}
-use Rattle.inference.specs.Measure.{Components}
-use Rattle.inference.specs.Search.{Candidate, Out, found, missed, ended}
+use Rattle.inference.specs.Search.{Path, Candidate, Out, found, missed, ended}
 use Rattle.inference.specs.SolveChecks.{Call, solveChecks}
 use Rattle.inference.specs.SolveEntry.{problemOf, lentOf, nodesGivenBack, judged, judgedBy, verdict, searched, nothingMet, countsIn, solveEntry}
 use Rattle.inference.proofs.Invariant.{Leaves}
@@ -62,7 +61,7 @@ module _ (I : Call) where
   kept : (W : Lent) → Grows (lentOf I) W → ListsKept I W
   kept W g = record { sorts = g .sort-words; nodes = g .node-words; as-long = g .as-long }
 
-  pub search-gives-nodes-back : firstFailing (solveChecks I) ≡ none → (Met : Type 0) (meet : Components → Met → Met) (m : Met) → Ends I (searched Met meet m I)
+  pub search-gives-nodes-back : firstFailing (solveChecks I) ≡ none → (Met : Type 0) (meet : Path → Lent → Met → Met) (m : Met) → Ends I (searched Met meet m I)
   unfolding Leaves
   search-gives-nodes-back f Met meet m = go (searched Met meet m I) (search-leaves I (accepted I f) Met meet m)
     where

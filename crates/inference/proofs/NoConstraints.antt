@@ -31,7 +31,7 @@ module _ (I : Call) where
 
   by-made : (O : Makes (List ℕ)) → MadeSorts (λ W′ ss. StandAll W (startPath I .binds) (Is (record { 0 = I .default })) W′ (P .exprs) ss) ⊥ W O
       → TypingOr15
-      (verdict I (onMade O (λ ss v. found (keeping (Unit {0}) nothingMet P v (startPath I .measure)
+      (verdict I (onMade O (λ ss v. found (keeping (Unit {0}) nothingMet P v (startPath I)
       (record { measure = startPath I .measure; sorts = ss; choices = startPath I .choices; duplicate = false })))
       missed first-world) .answer)
   unfolding MadeSorts

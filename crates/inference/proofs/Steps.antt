@@ -13,7 +13,7 @@ use Rattle.inference.specs.declared.Constraint.{Constraint}
 use Rattle.inference.specs.declared.Constraint.the-variants.{Sub, Lit, Disjunction, Comprehension, Join}
 use Rattle.inference.specs.Constraints.{Problem}
 use Rattle.inference.specs.Measure.{Components}
-use Rattle.inference.specs.Search.{Choice, Going, sortIn, step, solve, leaf, dominatedBy, unlessDominated, missed}
+use Rattle.inference.specs.Search.{Path, Choice, Going, sortIn, step, solve, leaf, dominatedBy, unlessDominated, missed}
 use Rattle.inference.specs.Typing.{Assignment, All, and-all, here, Meets, meets-sub, meets-lit, meets-disjunction, meets-comprehension, meets-join}
 use Rattle.inference.specs.Components.{Costs, sub-costs, lit-costs, disjunction-costs, comprehension-costs}
 use Rattle.inference.specs.Components.{agreed-costs, sequence-costs, nothing-costs, and-costs}
@@ -66,7 +66,7 @@ module _ (W₀ : Lent) (B₀ : Binds) (P : Problem) where
   abbrev pub Passed : List Constraint → Claim
   Passed done ch ρ ms = Cost W₀ B₀ P ch ρ done ms
 
-  module _ (c₀ : CheckedLent W₀) (six : fixedSix (W₀ .sorts) (W₀ .lengths .sorts) ≡ true) (Met : Type 0) (meet : Components → Met → Met) where
+  module _ (c₀ : CheckedLent W₀) (six : fixedSix (W₀ .sorts) (W₀ .lengths .sorts) ≡ true) (Met : Type 0) (meet : Path → Lent → Met → Met) where
     pub step-goes : (done : List Constraint) (c : Constraint) → ListedConstraint W₀ P c → (k : Going Met meet P)
         → Goes W₀ B₀ P Met (Passed (done ++ (c ∷ []))) k → Goes W₀ B₀ P Met (Passed done) (step Met meet P c k)
     unfolding step

@@ -27,7 +27,7 @@ use Rattle.inference.specs.declared.Outputs.{Outputs}
 use Rattle.inference.specs.declared.Solved.the-variants.{Typing}
 use Rattle.inference.specs.Constraints.{Problem}
 use Rattle.inference.specs.Measure.{Components}
-use Rattle.inference.specs.Search.{Choice, Candidate, Out, found, missed, ended, sortIn, litComponent}
+use Rattle.inference.specs.Search.{Path, Choice, Candidate, Out, found, missed, ended, sortIn, litComponent}
 use Rattle.inference.specs.Typing.{Assignment, admits, All, none-left, and-all, Into, Typed, all-typed}
 use Rattle.inference.specs.Typing.{and-typed, Meets, meets-sub, meets-lit, meets-join, HoldsTogether}
 use Rattle.inference.specs.Components.{Widened, equal-to, wider-by, Heads, no-heads, and-head, Sequence}
@@ -103,7 +103,7 @@ module _ (I : Call) where
   P = problemOf I
 
   -- The search of a call that is accepted leaves a fine incumbent.
-  pub search-leaves : Accepted I → (Met : Type 0) (meet : Components → Met → Met) (m : Met) → Leaves W₀ B₀ P Met W₀ (searched Met meet m I)
+  pub search-leaves : Accepted I → (Met : Type 0) (meet : Path → Lent → Met → Met) (m : Met) → Leaves W₀ B₀ P Met W₀ (searched Met meet m I)
   unfolding FineBest
   search-leaves A Met meet m =
       solve-goes W₀ B₀ P (A .ready .nodes) (A .six) Met meet (A .default) (A .exprs) (P .constraints) [] refl

@@ -10,7 +10,6 @@ use Rattle.unification.specs.Growing.{CheckedLent, PlacedIn, Grows}
 use Rattle.unification.proofs.Grows.{placed-grown, term-grown, respects-grown}
 use Rattle.unification.proofs.BindsGrow.{binds-name-places}
 use Rattle.inference.specs.Constraints.{Problem}
-use Rattle.inference.specs.Measure.{Components}
 use Rattle.inference.specs.Search.{Path, Try, World, withComponents, unifying, Going, firstFound}
 use Rattle.inference.specs.Typing.{Assignment, All, none-left, and-all}
 use Rattle.inference.proofs.Invariant.{Claim, terms, Sound, FineBest, Leaves, Goes, or-else-leaves, missed-leaves, unifying-leaves}
@@ -22,7 +21,7 @@ pub record Leads (W : Lent) (e : Path) (Q R : Claim) (t : Try) : Type 0 where
   pub so : (ρ : Assignment) → Respects (graph W) (e .binds) (terms ρ) → Equates (graph W) (terms ρ) (t .left) (t .right) → Q (e .choices) ρ (e .measure)
       → R (e .choices) ρ (e .measure ++ (t .component ∷ []))
 
-module _ (W₀ : Lent) (B₀ : Binds) (P : Problem) (c₀ : CheckedLent W₀) (Met : Type 0) (meet : Components → Met → Met) where
+module _ (W₀ : Lent) (B₀ : Binds) (P : Problem) (c₀ : CheckedLent W₀) (Met : Type 0) (meet : Path → Lent → Met → Met) where
   module _ (e : Path) (Q R : Claim) where
     -- and so on lists that have grown
     pub lead-grown : (W W′ : Lent) → Sound W₀ B₀ P W e Q → Grows W W′ → (ts : List Try) → All (Leads W e Q R) ts → All (Leads W′ e Q R) ts

@@ -51,7 +51,7 @@ member-is-one : {p j : ℕ} {ps : List ℕ} → Member p j ps → One p ps
 member-is-one first = at-first _
 member-is-one (later m) = at-later _ _ (member-is-one m)
 
-module _ (W₀ : Lent) (B₀ : Binds) (P : Problem) (c₀ : CheckedLent W₀) (Met : Type 0) (meet : Components → Met → Met) where
+module _ (W₀ : Lent) (B₀ : Binds) (P : Problem) (c₀ : CheckedLent W₀) (Met : Type 0) (meet : Path → Lent → Met → Met) where
   -- The i-th of the places listed as wider (or narrower) than p stands for the i-th sort wider (narrower) than that of p.
   module _ (e : Path) (Q : Claim) (W : Lent) (s : Sound W₀ B₀ P W e Q) (up : Bool) (p : ℕ) (x : PlacedIn W₀ p)
       (qs : List ℕ) (W′ : Lent) (g : Grows W W′) (a : StandForRelated up (e .binds) W p W′ qs) where

@@ -4,7 +4,8 @@ use mathlib.Core.Path.{_≡_}
 use mathlib.Core.List.{List, [], _∷_}
 use Prim.Native.Nat.{ℕ, _+_, _<_}
 use Rattle.inference.specs.Measure.{Components, Ranking, smaller, equal, greater, compare, AtMost}
-use Rattle.inference.specs.Search.{Out, found, missed, ended}
+use Rattle.unification.specs.Making.{Lent}
+use Rattle.inference.specs.Search.{Path, Out, found, missed, ended}
 use Rattle.inference.specs.SolveChecks.{Call}
 use Rattle.inference.specs.SolveEntry.{searched, SolveLeft, writtenOver, codeSolved}
 use mathlib.Core.Logic.{_↔_}
@@ -14,8 +15,11 @@ use Rattle.inference.specs.declared.Solved.the-variants.{Typing}
 use Rattle.inference.specs.Typing.{All, In}
 
 -- the measures of all leaves met, the last first
+abbrev pub measureMet : Path → Lent → List Components → List Components
+measureMet e W ms = e .measure ∷ ms
+
 abbrev pub history : Call → Out (List Components)
-history I = searched (List Components) _∷_ [] I
+history I = searched (List Components) measureMet [] I
 
 -- how often a measure is among measures
 abbrev pub once : Ranking → ℕ

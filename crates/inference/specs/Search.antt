@@ -224,13 +224,14 @@ module _ {Met : Type 0} where
   nodesReturned U (missed w) = missed (lending w (withNodesOf U (w .lent)))
   nodesReturned U (ended c W) = ended c W
 
-module _ (Met : Type 0) (meet : Components → Met → Met) (P : Problem) where
+module _ (Met : Type 0) (meet : Path → Lent → Met → Met) (P : Problem) where
   -- what comes next
   abbrev pub Going : Type 0
   Going = Path → World Met → Out Met
 
-  abbrev pub keeping : World Met → Components → Candidate → World Met
-  keeping w m c = record { lent = w .lent; best = some c; met = meet m (w .met) }
+  -- the incumbent after a leaf, which is met with its path and the lists as they then are
+  abbrev pub keeping : World Met → Path → Candidate → World Met
+  keeping w e c = record { lent = w .lent; best = some c; met = meet e (w .lent) (w .met) }
 
   -- "It stops at the first try that found."
   -- Tries come cheapest first, so the first that found is the best that the constraint can contribute.
@@ -324,7 +325,7 @@ module _ (Met : Type 0) (meet : Components → Met → Met) (P : Problem) where
   abbrev pub replace : Path → World Met → Out Met
   replace e w =
       onMade (resolveAll (Is (record { 0 = P .default })) (e .binds) (P .exprs) (w .lent))
-      (λ ss v. found (keeping v (e .measure)
+      (λ ss v. found (keeping v e
       (record { measure = e .measure; sorts = ss; choices = e .choices; duplicate = false })))
       missed w
 
@@ -333,8 +334,8 @@ module _ (Met : Type 0) (meet : Components → Met → Met) (P : Problem) where
 
   abbrev pub leafBy : Ranking → Candidate → Path → World Met → Out Met
   leafBy smaller c e w = replace e w
-  leafBy equal c e w = found (keeping w (e .measure) (markedTied c))
-  leafBy greater c e w = found (keeping w (e .measure) c)
+  leafBy equal c e w = found (keeping w e (markedTied c))
+  leafBy greater c e w = found (keeping w e c)
 
   abbrev pub leafOver : Option Candidate → Path → World Met → Out Met
   leafOver none e w = replace e w

@@ -48,7 +48,7 @@ abbrev pub lentOf : Call → Lent
 lentOf I = record { sorts = I .sorts; nodes = I .nodes; lengths = I .lengths }
 
 -- with Met and meet for what is kept of the leaves
-abbrev pub searched : (Met : Type 0) → (Components → Met → Met) → Met → Call → Out Met
+abbrev pub searched : (Met : Type 0) → (Path → Lent → Met → Met) → Met → Call → Out Met
 searched Met meet m I =
     solve Met meet (problemOf I) (given I) (startPath I) (record { lent = lentOf I; best = none; met = m })
 
@@ -140,8 +140,8 @@ verdict I (ended c W) =
     leftWith I (NoRoom c) (givenBack (I .lengths .sorts) (I .lengths .entries) (I .sorts)) (I .typing)
     (I .measure) (I .choices)
 
-abbrev pub nothingMet : Components → Unit {0} → Unit {0}
-nothingMet m u = tt
+abbrev pub nothingMet : Path → Lent → Unit {0} → Unit {0}
+nothingMet e W u = tt
 
 unfoldable pub solveEntry : Call → SolveLeft
 solveEntry I =

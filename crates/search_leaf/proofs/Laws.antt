@@ -91,7 +91,7 @@ module _ (ws ns bs sc ls : List ℕ) (z : Sizes) (k : State) (e : Branch) (p : A
 
     abbrev next-incumbent : List ℕ → World (Unit {0}) → Out (Unit {0})
     next-incumbent ss v =
-        found (keeping (Unit {0}) nothingMet (problemIn ls z) v (here .measure)
+        found (keeping (Unit {0}) nothingMet (problemIn ls z) v here
         (record { measure = here .measure; sorts = ss; choices = here .choices; duplicate = false }))
 
     abbrev Says : Extracted → Type 0
@@ -167,7 +167,7 @@ module _ (ws ns bs sc ls : List ℕ) (z : Sizes) (k : State) (e : Branch) (p : A
       by : (R : Ranking) → k .best ≡ true → ranksAs R ≡ leafBy (Unit {0}) nothingMet (problemIn ls z) R (candidateOf ls z sc (k .tied)) here world
       by smaller f = refl
       by equal f = refl
-      by greater f = ap (λ (b : Bool). found (worldOf ls z ws ns sc (record { lengths = k .lengths; best = b; tied = k .tied }))) f
+      by greater f = ap (λ (b : Bool). found (record { lent = W; best = bestOf ls z sc b (k .tied); met = tt })) f
 
       go : (b : Bool) → k .best ≡ b → (R : Ranking) → R ≡ rankedBy b sc (e .measure)
           → ranksAs R ≡ leafOver (Unit {0}) nothingMet (problemIn ls z) (bestOf ls z sc b (k .tied)) here world

@@ -16,6 +16,7 @@ use search_state::MEASURE_AT;
 use search_state::Ordering;
 use search_state::Sizes;
 use search_state::State;
+use search_state::with_lengths;
 use unification::InferSortId;
 use unification::Lengths;
 use words::put;
@@ -190,11 +191,7 @@ fn replace(
                 tied: false,
             })
         }
-        Extracted::Nothing(lengths) => Answer::Missed(State {
-            lengths,
-            best: st.best,
-            tied: st.tied,
-        }),
+        Extracted::Nothing(lengths) => Answer::Missed(with_lengths(st, lengths)),
         Extracted::Full(lengths) => Answer::Full(15, lengths),
     }
 }

@@ -24,7 +24,6 @@ use Rattle.unification.proofs.MakingGrows.{MadeFrom, AllPlaced, IsSort}
 use Rattle.unification.proofs.RelatedBinds.{no-list-is-free}
 use Rattle.inference.specs.declared.LitKind.{LitKind}
 use Rattle.inference.specs.Constraints.{Problem}
-use Rattle.inference.specs.Measure.{Components}
 use Rattle.inference.specs.Search.{Path, Try, World, Out, missed, withComponents, widerTries, narrowerTries}
 use Rattle.inference.specs.Search.{litComponent, litTries, onYes, unifying, onMade, lending, nodesReturned, sortIn}
 use Rattle.inference.specs.Search.{Going, firstFound, narrower, wider, atSort, literalAt, literalEnd, literal}
@@ -62,7 +61,7 @@ module _ {Met : Type 0} (B : Binds) (l r : InferSortId) (w : World Met) where
       go no-way = refl
       go too-deep = refl
 
-module _ (Met : Type 0) (meet : Components → Met → Met) (P : Problem) (k : Going Met meet P) (e : Path) (w : World Met) where
+module _ (Met : Type 0) (meet : Path → Lent → Met → Met) (P : Problem) (k : Going Met meet P) (e : Path) (w : World Met) where
   -- a widening goes through its tries
   module _ (l r : ℕ) where
     abbrev pub tried : List Try → World Met → Out Met

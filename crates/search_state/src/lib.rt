@@ -2,6 +2,8 @@
 use resolved_sort::SortId;
 use unification::InferSortId;
 use unification::Lengths;
+ghost use mathlib.Core.Path.{_≡_};
+ghost use Rattle.search_state.specs.Inner.Leaves.{withLengths};
 
 // How many rows the lists of a problem have, how many components and choices a leaf has, and the default sort.
 pub struct Sizes {
@@ -22,6 +24,17 @@ pub struct State {
     pub lengths: Lengths,
     pub best: bool,
     pub tied: bool,
+}
+
+// The state with other lengths.
+pub fn with_lengths(st: State, lengths: Lengths) -> State
+    ensures { λ r. ⌜ r ≡ withLengths st lengths ⌝ }
+{
+    State {
+        lengths,
+        best: st.best,
+        tied: st.tied,
+    }
 }
 
 // What a branch has taken on: how many variables are on the trail, and how many components and choices there are.

@@ -42,7 +42,7 @@ use Rattle.search_state.specs.declared.Widenings.{Widenings}
 use Rattle.search_state.specs.declared.Widenings.the-variants.{These, NoList, Full as NoRoom}
 use Rattle.search_state.specs.declared.Made.{Made}
 use Rattle.search_state.specs.declared.Made.the-variants.{At, Full as NoSortRoom}
-use Rattle.search_state.specs.Inner.Leaves.{afterOf, withNodes, backTo, givenBackTo, placesOf, tryAt, triesFrom}
+use Rattle.search_state.specs.Inner.Leaves.{afterOf, withNodes, withLengths, backTo, givenBackTo, placesOf, tryAt, triesFrom}
 use Rattle.search_state.specs.Inner.Leaves.{where-no-list, widenings, widened, FewTries, FindsWidenings}
 use Rattle.search_steps.specs.Inner.Steps.{saysOf, pairsOf, InternsContainer, triesAgainst, ListedTries, AsTries}
 
@@ -65,8 +65,8 @@ says-missed b k e = sym (ap (λ x. saysOf x k) e)
 
 -- nodes given back
 pub back-with-nodes : (k : Lengths) (s t : State) (l : Lengths) → l ≡ withNodes k (s .lengths)
-    → t ≡ record { lengths = l; best = s .best; tied = s .tied } → t ≡ backTo k s
-back-with-nodes k s t l e f = f ∙ ap (λ (x : Lengths). record { lengths = x; best = s .best; tied = s .tied }) e
+    → t ≡ withLengths s l → t ≡ backTo k s
+back-with-nodes k s t l e f = f ∙ ap (withLengths s) e
 
 module _ (k : Lengths) (r : Answer) where
   pub found-back : (s t : State) → r ≡ Found s → t ≡ backTo k s → Found t ≡ givenBackTo k r

@@ -26,6 +26,7 @@ use search_state::Step;
 use search_state::Tries;
 use search_state::Went;
 use search_state::Widenings;
+use search_state::with_lengths;
 use sort_interner::generic;
 use sort_interner::get;
 use sort_order::Amount;
@@ -200,17 +201,6 @@ pub fn says(found: bool, st: State) -> Answer
         return Answer::Found(st);
     }
     Answer::Missed(st)
-}
-
-// The state with other lengths.
-pub fn with_lengths(st: State, lengths: Lengths) -> State
-    ensures { λ r. ⌜ r ≡ record { lengths = lengths; best = st .best; tied = st .tied } ⌝ }
-{
-    State {
-        lengths,
-        best: st.best,
-        tied: st.tied,
-    }
 }
 
 // The nodes made since `kept` given back.

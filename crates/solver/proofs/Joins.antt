@@ -38,12 +38,11 @@ use Rattle.search_state.specs.Inner.Memory.{problemIn, sourceAt, chosenExprs, c
 use Rattle.search_state.specs.Inner.Memory.{measureAt, bestMeasureAt, choicesAt, bestChoicesAt, pathOf, candidateOf}
 use Rattle.search_state.specs.Inner.Memory.{bestOf, worldOf, solveFrom, nextOf}
 use Rattle.words.specs.Words.{part}
-use Rattle.search_state.specs.Inner.Leaves.{ChangedOnly, unifyPairs, PairsPlaced, pathAfter, agreementOf, AgreesOn}
+use Rattle.search_state.specs.Inner.Leaves.{ChangedOnly, unifyPairs, PairsPlaced, pathAfter, agreementOf, AgreesOn, withLengths}
 use Rattle.search_state.specs.Inner.Searching.{Sized, Searching, SourcesFine, Agreeing, SamePath, Done, Comes, trying}
 use Rattle.search_state.proofs.Parts.{part-before, part-after, take-unchanged}
 use Rattle.search_state.proofs.After.{searching-grown, done-as, done-after, same-path, or-stops, or-comes, grown-missed}
 use Rattle.solver.proofs.Ways.{sort-placed, after-missed}
-use Rattle.solver.proofs.Widening.{withLengths}
 use Rattle.inference.proofs.Members.{rows-one-left, rows-none-left}
 
 -- Where only words behind the measure changed, branch and incumbent are the same.

@@ -31,7 +31,7 @@ use Rattle.search_state.specs.declared.Step.the-variants.{Nothing}
 use Rattle.search_state.specs.declared.Went.{Went}
 use Rattle.search_state.specs.declared.Went.the-variants.{On, Stop}
 use Rattle.search_state.specs.Inner.Memory.{problemIn, pathOf, worldOf, nextOf}
-use Rattle.search_state.specs.Inner.Leaves.{PairsPlaced, pathAfter, madeOf, afterOf}
+use Rattle.search_state.specs.Inner.Leaves.{PairsPlaced, pathAfter, madeOf, afterOf, withLengths}
 use Rattle.search_state.specs.Inner.Searching.{Searching, Done, Comes, trying}
 use Rattle.search_state.proofs.Parts.{same-path-refl}
 use Rattle.search_state.proofs.After.{searching-grown, misses, finds, done-as, done-after, and-stops, and-comes, grown-on}
@@ -39,7 +39,6 @@ use Rattle.search_state.proofs.Ways.{two-pairs, container-is-sort, no-room-for-
 use Rattle.search_steps.specs.Inner.Steps.{saysOf, InternsContainer}
 use Rattle.solver.specs.Inner.Asked.{readingBody, readingOp, readingAt, readingsFrom}
 use Rattle.solver.proofs.Ways.{sort-placed, fixed-placed}
-use Rattle.solver.proofs.Widening.{withLengths}
 use Rattle.inference.proofs.Members.{rows-one-left, rows-none-left}
 
 -- whether a leaf was found so far

@@ -29,17 +29,13 @@ use Rattle.search_state.specs.declared.Tries.{Tries}
 use Rattle.search_state.specs.declared.Widenings.{Widenings}
 use Rattle.search_state.specs.declared.Widenings.the-variants.{These, NoList, Full as NoRoom}
 use Rattle.search_state.specs.Inner.Memory.{problemIn, pathOf, worldOf, outOf, nextOf}
-use Rattle.search_state.specs.Inner.Leaves.{unifyPairs, pathAfter, triesFrom, widenings, widened, FewTries, FindsWidenings, givenBackTo}
+use Rattle.search_state.specs.Inner.Leaves.{unifyPairs, pathAfter, triesFrom, widenings, widened, FewTries, FindsWidenings, withLengths, givenBackTo}
 use Rattle.search_state.specs.Inner.Searching.{Searching, SearchGrown, Comes, trying}
 use Rattle.search_state.proofs.Parts.{same-path-refl}
 use Rattle.search_state.proofs.After.{searching-grown, done-as, or-stops, or-comes, grown-missed}
 use Rattle.search_state.proofs.Ways.{tried, wider-by-widenings, given-back-in-answer, tries-are-placed, no-tries-makes-nothing, no-room-for-tries-grows}
 use Rattle.solver.specs.Inner.Asked.{TriesFine}
 use Rattle.solver.proofs.Ways.{after-missed}
-
--- the state with other lengths
-abbrev pub withLengths : State → Lengths → State
-withLengths k m = record { lengths = m; best = k .best; tied = k .tied }
 
 -- From where equality missed.
 module _ (ls : List ℕ) (z : Sizes) (ws ns bs sc : List ℕ) (k : State) (e : Branch) (l r : InferSortId) (next : Next)

@@ -4,17 +4,17 @@
 use mathlib.Core.Path.{_≡_, refl, ap, sym, _∙_, subst}
 use mathlib.Core.List.{List, [], _∷_}
 use mathlib.Core.Option.{Option, none, some}
-use mathlib.Core.Bool.{Bool, true, false, _&&_}
+use mathlib.Core.Bool.{Bool, true, false}
 use mathlib.Core.Logic.{_↔_}
 use Prim.Native.Nat.{ℕ, zero, suc}
 use lib.Dec.{eqb}
 use lib.ListN.{set}
 use Rattle.resolved_sort.proofs.Reached.{no-confusion}
 use Rattle.unification.specs.Term.{Head, Term, app, Shape, variable, over, sameHead, substitute}
-use Rattle.unification.specs.Nodes.{isSort, Binds, binding}
+use Rattle.unification.specs.Nodes.{Binds, binding}
 use Rattle.unification.specs.Unify.{Unifies, yes-with, no-way, too-deep, and-then, Occurs, absent, present}
 use Rattle.unification.specs.Unify.{unknown, followBound, followAt, follow, occursBound, occursAt, occurs}
-use Rattle.unification.specs.Unify.{bindUnless, unifyAll, unifyHeads, unifyVariables, unifyShapes, unifyApart}
+use Rattle.unification.specs.Unify.{bindUnless, unifyAll, unifyHeads, unifyVariables, unifyShapes}
 use Rattle.unification.specs.Unify.{unifyEnds, unifyFollowed, unifyTo}
 use Rattle.unification.specs.Acyclic.{One, first, later, Stands, at, within, Numbering}
 use Rattle.unification.specs.Solutions.{termOfShape, termTo, valueBound, valueAt, valueTo, Respects}
@@ -183,15 +183,10 @@ module _ (P : ℕ → Type 0) (shape shape′ : ℕ → Shape) (A : Agree P shap
       shapes l r x y (over h ps) (variable u) i j ih = rw (occurs-agrees B b u w l x) (bind-alike (occurs shape w B u l) B u l b x)
       shapes l r x y (over h ps) (over g qs) i j ih = heads (sameHead h g) ps qs (λ q o. A .parts l q h ps x i o) (λ q o. A .parts r q g qs y j o) ih
 
-      apart : (c : Bool) (l r : ℕ) → P l → P r → Answers (unifyTo shape′ w k) (unifyTo shape w k)
-          → Alike (unifyApart shape′ c w (unifyTo shape′ w k) B l r) (unifyApart shape c w (unifyTo shape w k) B l r)
-      apart true l r x y ih = no-alike
-      apart false l r x y ih = rw (A .same l x, A .same r y) (shapes l r x y (shape l) (shape r) refl refl ih)
-
       ends : (c : Bool) (l r : ℕ) → P l → P r → Answers (unifyTo shape′ w k) (unifyTo shape w k)
           → Alike (unifyEnds shape′ c w (unifyTo shape′ w k) B l r) (unifyEnds shape c w (unifyTo shape w k) B l r)
       ends true l r x y ih = yes-alike B b
-      ends false l r x y ih = apart (isSort l && isSort r) l r x y ih
+      ends false l r x y ih = rw (A .same l x, A .same r y) (shapes l r x y (shape l) (shape r) refl refl ih)
 
       followed : (o p : Option ℕ) → ((q : ℕ) → o ≡ some q → P q) → ((q : ℕ) → p ≡ some q → P q) → Answers (unifyTo shape′ w k) (unifyTo shape w k)
           → Alike (unifyFollowed shape′ w (unifyTo shape′ w k) B o p) (unifyFollowed shape w (unifyTo shape w k) B o p)

@@ -3,17 +3,17 @@
 use mathlib.Core.Path.{_≡_, refl, sym, _∙_, ap}
 use mathlib.Core.List.{List, [], _∷_}
 use mathlib.Core.Option.{Option, none, some}
-use mathlib.Core.Bool.{Bool, true, false, _&&_}
+use mathlib.Core.Bool.{Bool, true, false}
 use Prim.Native.Nat.{ℕ, zero, suc}
 use lib.Dec.{eqb}
 use lib.ListN.{length, set, length-set}
 use lib.Seq.{getD-set-other}
 use Rattle.unification.specs.Term.{Shape, variable, over, sameHead}
 use Rattle.resolved_sort.proofs.Reached.{no-confusion}
-use Rattle.unification.specs.Nodes.{isSort, Binds, binding}
+use Rattle.unification.specs.Nodes.{Binds, binding}
 use Rattle.unification.specs.Unify.{Unifies, yes-with, no-way, too-deep, and-then, Occurs, absent, present}
 use Rattle.unification.specs.Unify.{unknown, follow, occurs, bindUnless, unifyAll, unifyHeads, unifyVariables}
-use Rattle.unification.specs.Unify.{unifyShapes, unifyApart, unifyEnds, unifyFollowed, unifyTo, unify, deep}
+use Rattle.unification.specs.Unify.{unifyShapes, unifyEnds, unifyFollowed, unifyTo, unify, deep}
 use Rattle.unification.specs.Unify.{deeper}
 use Rattle.unification.proofs.Follow.{follow-end}
 use Rattle.unification.specs.Growing.{BindsExtend}
@@ -79,15 +79,10 @@ module _ (shape : ℕ → Shape) where
       shapes p q (over h ps) (variable u) x y ih = bind (occurs shape w B u p) u p (y u refl)
       shapes p q (over h ps) (over g qs) x y ih = heads (sameHead h g) ps qs ih
 
-      apart : (c : Bool) (p q : ℕ) → ((v : ℕ) → shape p ≡ variable v → binding B v ≡ none) → ((v : ℕ) → shape q ≡ variable v → binding B v ≡ none)
-          → ((B : Binds) (a b : ℕ) → Adds B (unifyTo shape w k B a b)) → Adds B (unifyApart shape c w (unifyTo shape w k) B p q)
-      apart true p q x y ih = tt
-      apart false p q x y ih = shapes p q (shape p) (shape q) x y ih
-
       ends : (b : Bool) (p q : ℕ) → ((v : ℕ) → shape p ≡ variable v → binding B v ≡ none) → ((v : ℕ) → shape q ≡ variable v → binding B v ≡ none)
           → ((B : Binds) (a b : ℕ) → Adds B (unifyTo shape w k B a b)) → Adds B (unifyEnds shape b w (unifyTo shape w k) B p q)
       ends true p q x y ih = extends-refl B
-      ends false p q x y ih = apart (isSort p && isSort q) p q x y ih
+      ends false p q x y ih = shapes p q (shape p) (shape q) x y ih
 
       followed : (a : Option ℕ) → follow shape w B l ≡ a → (b : Option ℕ) → follow shape w B r ≡ b → ((B : Binds) (a b : ℕ) → Adds B (unifyTo shape w k B a b))
           → Adds B (unifyFollowed shape w (unifyTo shape w k) B a b)

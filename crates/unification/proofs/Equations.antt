@@ -2,18 +2,18 @@
 use mathlib.Core.Path.{_≡_, refl, _∙_}
 use mathlib.Core.List.{List, [], _∷_}
 use mathlib.Core.Option.{Option, none, some}
-use mathlib.Core.Bool.{Bool, true, false, _&&_}
+use mathlib.Core.Bool.{Bool, true, false}
 use Prim.Native.Nat.{ℕ, zero, suc, _+_, _*_, _<_, _≤_}
 use native.Mathlib.Nat.{mul-le-mul-right}
 use native.Mathlib.Omega.{arith}
 use lib.Dec.{eqb}
 use lib.ListN.{length}
 use Rattle.unification.specs.Term.{Shape, variable, over, sameHead}
-use Rattle.unification.specs.Nodes.{isSort, Binds}
+use Rattle.unification.specs.Nodes.{Binds}
 use Rattle.unification.specs.Acyclic.{Numbering, Lower}
 use Rattle.unification.specs.Trail.{frees}
 use Rattle.unification.specs.Unify.{Unifies, too-deep, no-way, yes-with, and-then, follow, unifyAll}
-use Rattle.unification.specs.Unify.{unifyHeads, unifyShapes, unifyApart, unifyEnds, unifyFollowed, unifyTo}
+use Rattle.unification.specs.Unify.{unifyHeads, unifyShapes, unifyEnds, unifyFollowed, unifyTo}
 use Rattle.unification.proofs.Rank.{highest, rank, Ranked, rank-over}
 use Rattle.unification.proofs.Numbering.{numbered-ranked}
 use Rattle.unification.proofs.Enough.{follow-some}
@@ -87,15 +87,11 @@ module _ (shape : ℕ → Shape) (K : ℕ) (lower : Lower shape K) (n : ℕ) (sc
           → unifyTo shape w m C a b ≡ unifyTo shape w k C a b)
           → unifyFollowed shape w (unifyTo shape w m) B (some l′) o ≡ unifyFollowed shape w (unifyTo shape w k) B (some l′) o
       go l′ le none ih = refl
-      go l′ le (some r′) ih = same-end (eqb l′ r′) (isSort l′ && isSort r′)
+      go l′ le (some r′) ih = same-end (eqb l′ r′)
         where
-          apart : (c : Bool) → unifyApart shape c w (unifyTo shape w m) B l′ r′ ≡ unifyApart shape c w (unifyTo shape w k) B l′ r′
-          apart true = refl
-          apart false = ends l′ r′ le (shape l′) (shape r′) refl ih
-
-          same-end : (b c : Bool) → unifyEnds shape b w (unifyTo shape w m) B l′ r′ ≡ unifyEnds shape b w (unifyTo shape w k) B l′ r′
-          same-end true c = refl
-          same-end false c = apart (isSort l′ && isSort r′)
+          same-end : (b : Bool) → unifyEnds shape b w (unifyTo shape w m) B l′ r′ ≡ unifyEnds shape b w (unifyTo shape w k) B l′ r′
+          same-end true = refl
+          same-end false = ends l′ r′ le (shape l′) (shape r′) refl ih
 
   -- the depth is enough
   covered : (x : ℕ) → suc n * w ≤ x → (B : Binds) (l : ℕ) → length B ≡ n → Numbering shape n B → frees B * w + rank shape w B l < x

@@ -3,26 +3,26 @@
 use mathlib.Core.Path.{_≡_, refl, ap, sym, _∙_}
 use mathlib.Core.List.{List, [], _∷_}
 use mathlib.Core.Option.{Option, none, some}
-use mathlib.Core.Bool.{Bool, true, false, _&&_, and-eq-true-iff}
+use mathlib.Core.Bool.{Bool, true, false}
 use Prim.Native.Nat.{ℕ, zero, suc, _+_, _<_, _≤_}
 use native.Mathlib.Omega.{arith}
 use native.Mathlib.Decide.{ℕ-discrete}
 use lib.Dec.{eqb, eqb→eq, T}
-use borrow.Author.Tests.{eqb-true, eqb-false}
+use borrow.Author.Tests.{eqb-true}
 use lib.ListN.{length, set, length-set}
 use lib.Seq.{getD-set-same, getD-set-other}
 use Rattle.resolved_sort.proofs.Numbers.{true-not-false}
 use Rattle.resolved_sort.proofs.Reached.{no-confusion}
 use Rattle.unification.specs.Term.{Head, Term, var, app, Terms, no-part, part, Shape, variable, over, sameHead}
-use Rattle.unification.specs.Nodes.{isSort, Binds, binding}
+use Rattle.unification.specs.Nodes.{Binds, binding}
 use Rattle.unification.specs.Solutions.{termsAt}
 use Rattle.unification.proofs.Heads.{same-head-true, same-head-refl}
 use Rattle.unification.proofs.Follow.{follow-holds, follow-end}
 use Rattle.unification.specs.Unify.{Unifies, too-deep, no-way, yes-with, and-then, Occurs, unknown, absent}
 use Rattle.unification.specs.Unify.{present, or-else, ofTest, follow, occursAny, occursBound, occursAt, occurs}
-use Rattle.unification.specs.Unify.{bindUnless, unifyAll, unifyHeads, unifyVariables, unifyShapes, unifyApart}
+use Rattle.unification.specs.Unify.{bindUnless, unifyAll, unifyHeads, unifyVariables, unifyShapes}
 use Rattle.unification.specs.Unify.{unifyEnds, unifyFollowed, unifyTo}
-use Rattle.unification.specs.Exact.{shapeVal, Model, Exact, Apart}
+use Rattle.unification.specs.Exact.{shapeVal, Model, Exact}
 
 unfoldable mutual
   pub size : Term → ℕ
@@ -223,20 +223,16 @@ shapes-exact shape k f n scoped ih B len l r (over h ps) (variable w) sl sr fl f
     (bind-unless-exact shape k B w r l h ps (rw len (scoped r w sr)) (fr w sr) sr sl)
 shapes-exact shape k f n scoped ih B len l r (over h ps) (over h′ ps′) sl sr fl fr = heads-exact shape f n ih B len l r h h′ ps ps′ sl sr
 
-module _ (shape : ℕ → Shape) (apart : Apart shape) (n : ℕ) (scoped : (p v : ℕ) → shape p ≡ variable v → v < n) where
+module _ (shape : ℕ → Shape) (n : ℕ) (scoped : (p v : ℕ) → shape p ≡ variable v → v < n) where
   ends-exact : (k : ℕ) (f : Binds → ℕ → ℕ → Unifies) → ((B : Binds) (a b : ℕ) → length B ≡ n → Exact shape B (λ val. val a ≡ val b) (f B a b))
       → (B : Binds) → length B ≡ n → (l r : ℕ)
       → ((v : ℕ) → shape l ≡ variable v → binding B v ≡ none) → ((v : ℕ) → shape r ≡ variable v → binding B v ≡ none)
       → Exact shape B (λ val. val l ≡ val r) (unifyEnds shape (eqb l r) k f B l r)
   ends-exact k f ih B len l r fl fr = go (eqb l r) refl
     where
-      differ : (b : Bool) → (isSort l && isSort r) ≡ b → (l ≡ r → ⊥) → Exact shape B (λ val. val l ≡ val r) (unifyApart shape b k f B l r)
-      differ true e d = λ σ val M q. let s = and-eq-true-iff (isSort l) (isSort r) .0 e in apart l r (s .0) (s .1) d σ val (M .isval) q
-      differ false e d = shapes-exact shape k f n scoped ih B len l r (shape l) (shape r) refl refl fl fr
-
       go : (b : Bool) → eqb l r ≡ b → Exact shape B (λ val. val l ≡ val r) (unifyEnds shape b k f B l r)
       go true e = (refl, (λ σ val M. (M, ap val (eqb-true l r e))), λ σ val M q. M)
-      go false e = differ (isSort l && isSort r) refl (eqb-false l r e)
+      go false e = shapes-exact shape k f n scoped ih B len l r (shape l) (shape r) refl refl fl fr
 
   -- Every answer of unify is exact.
   pub unify-exact : (w k : ℕ) (B : Binds) (l r : ℕ) → length B ≡ n → Exact shape B (λ val. val l ≡ val r) (unifyTo shape w k B l r)

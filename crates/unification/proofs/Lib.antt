@@ -20,6 +20,7 @@ pub mod Cycle
 pub mod BindingWords
 pub mod BoundStays
 pub mod Theorem
+pub mod SortsByNumber
 pub mod Passed
 pub mod Denotes
 pub mod RobinsonSays

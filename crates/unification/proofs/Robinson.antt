@@ -4,7 +4,7 @@
 use mathlib.Core.Path.{_≡_, refl, ap, _∙_}
 use mathlib.Core.List.{List, [], _∷_}
 use mathlib.Core.Option.{Option, none, some}
-use mathlib.Core.Bool.{Bool, true, false, _&&_}
+use mathlib.Core.Bool.{Bool, true, false}
 use mathlib.Core.Logic.{_⊎_, inl, inr}
 use Prim.Native.Nat.{ℕ, zero, suc, _+_, _*_, _<_, _≤_}
 use native.Mathlib.Nat.{mul-le-mul-right}
@@ -13,12 +13,12 @@ use lib.Dec.{eqb}
 use lib.ListN.{length, set, length-set}
 use Rattle.resolved_sort.proofs.Reached.{no-confusion}
 use Rattle.unification.specs.Term.{Shape, variable, over, sameHead}
-use Rattle.unification.specs.Nodes.{isSort, Binds, binding}
+use Rattle.unification.specs.Nodes.{Binds, binding}
 use Rattle.unification.specs.Acyclic.{Numbering, Lower}
 use Rattle.unification.specs.Trail.{frees}
 use Rattle.unification.specs.Unify.{Unifies, too-deep, no-way, yes-with, and-then, Occurs, unknown, absent}
 use Rattle.unification.specs.Unify.{present, follow, occurs, bindUnless, unifyAll, unifyHeads, unifyVariables}
-use Rattle.unification.specs.Unify.{unifyShapes, unifyApart, unifyEnds, unifyFollowed, unifyTo}
+use Rattle.unification.specs.Unify.{unifyShapes, unifyEnds, unifyFollowed, unifyTo}
 use Rattle.unification.proofs.Rank.{highest, rank, Ranked, rank-over, frees-set}
 use Rattle.unification.proofs.Follow.{follow-end}
 use Rattle.unification.proofs.Numbering.{numbered-ranked}
@@ -104,11 +104,7 @@ module _ (shape : ℕ → Shape) (K : ℕ) (lower : Lower shape K) (n : ℕ) (sc
       → ((v : ℕ) → shape l ≡ variable v → binding B v ≡ none) → ((v : ℕ) → shape r ≡ variable v → binding B v ≡ none)
       → (b : Bool) → BindsKept shape n B (unifyEnds shape b w f B l r)
   end-kept f ih B len N l r fl fr true = next-refl shape n B N
-  end-kept f ih B len N l r fl fr false = go (isSort l && isSort r)
-    where
-      go : (c : Bool) → BindsKept shape n B (unifyApart shape c w f B l r)
-      go true = tt
-      go false = ends-kept f ih B len N l r (shape l) (shape r) refl refl fl fr
+  end-kept f ih B len N l r fl fr false = ends-kept f ih B len N l r (shape l) (shape r) refl refl fl fr
 
   -- a yes keeps the variables numbered
   pub unify-kept : (k : ℕ) (B : Binds) (l r : ℕ) → length B ≡ n → Numbering shape n B → BindsKept shape n B (unifyTo shape w k B l r)
@@ -192,14 +188,8 @@ module _ (shape : ℕ → Shape) (K : ℕ) (lower : Lower shape K) (n : ℕ) (sc
           let q = rank-over shape w B (ranks B F) l′ h ps sl in
           heads (sameHead h h′) ps ps′ (omega arith) e ih
 
-      apart : (l′ r′ : ℕ) → rank shape w B l′ ≤ rank shape w B l → rank shape w B r′ ≤ rank shape w B r → (c : Bool)
-          → unifyApart shape c w (unifyTo shape w k) B l′ r′ ≡ too-deep
-          → ((C : Binds) → length C ≡ n → YesLeaves shape n B C → (a b : ℕ) → rank shape w B a < rank shape w B l → unifyTo shape w k C a b ≡ too-deep → ⊥) → ⊥
-      apart l′ r′ ll lr true e ih = no-confusion (cc)
-      apart l′ r′ ll lr false e ih = ends l′ r′ ll lr (shape l′) (shape r′) refl refl e ih
-
       same-ends : (l′ r′ : ℕ) → rank shape w B l′ ≤ rank shape w B l → rank shape w B r′ ≤ rank shape w B r → (b : Bool)
           → unifyEnds shape b w (unifyTo shape w k) B l′ r′ ≡ too-deep
           → ((C : Binds) → length C ≡ n → YesLeaves shape n B C → (a b : ℕ) → rank shape w B a < rank shape w B l → unifyTo shape w k C a b ≡ too-deep → ⊥) → ⊥
       same-ends l′ r′ ll lr true e ih = no-confusion (cc)
-      same-ends l′ r′ ll lr false e ih = apart l′ r′ ll lr (isSort l′ && isSort r′) e ih
+      same-ends l′ r′ ll lr false e ih = ends l′ r′ ll lr (shape l′) (shape r′) refl refl e ih

@@ -10,7 +10,7 @@ use Rattle.unification.specs.Nodes.{Binds, binding}
 use Rattle.unification.specs.Unify.{Unifies, too-deep, no-way, yes-with, unifyTo}
 use Rattle.unification.specs.Acyclic.{Reaches, here, inside, beyond, Acyclic, Numbering, Lower}
 use Rattle.unification.specs.Solutions.{termOfShape, termTo, termAt, valueBound, valueTo, Respects, Robinson, says-no, says-yes}
-use Rattle.unification.specs.Exact.{shapeVal, Model, Exact, Apart, BindsKept}
+use Rattle.unification.specs.Exact.{shapeVal, Model, Exact, BindsKept}
 use Rattle.unification.proofs.Exact.{unify-exact}
 use Rattle.unification.proofs.Rank.{rank, Ranked, rank-var, rank-over, one-highest}
 use Rattle.unification.proofs.Parts.{termsAt-agree, puts-agree}
@@ -89,10 +89,10 @@ module _ (shape : ℕ → Shape) (K : ℕ) (lower : Lower shape K) where
         let σ : ℕ → Term = λ v. valueBound free v (valueTo shape C free w) (binding C v) in
         (σ, (respects-model C σ (valueTo shape C free w) (model shape w C R free), λ v b. rw b))
 
-    module _ (apart : Apart shape) (x : ℕ) (deeper : suc n * w ≤ x) where
+    module _ (x : ℕ) (deeper : suc n * w ≤ x) where
       pub robinson : (B : Binds) → Numbering shape n B → length B ≡ n → (l r : ℕ) → Robinson shape B l r (unifyTo shape w x B l r)
       robinson B N len l r =
-          go (unifyTo shape w x B l r) (unify-exact shape apart n scoped w x B l r len) (unify-kept shape K lower n scoped w deep x B l r len N)
+          go (unifyTo shape w x B l r) (unify-exact shape n scoped w x B l r len) (unify-kept shape K lower n scoped w deep x B l r len N)
           (unify-answers shape K lower n scoped w deep x deeper B l r len N)
         where
           go : (a : Unifies) → Exact shape B (λ val. val l ≡ val r) a → BindsKept shape n B a → (a ≡ too-deep → ⊥) → Robinson shape B l r a

@@ -17,7 +17,7 @@ use Rattle.unification.specs.Solutions.{Robinson}
 use Rattle.unification.proofs.Rank.{Ranked}
 use Rattle.unification.proofs.Numbering.{numbered-ranked}
 use Rattle.unification.proofs.FineLists as fine
-use Rattle.unification.proofs.Lists.{lower, scoped, apart}
+use Rattle.unification.proofs.Lists.{lower, scoped}
 use Rattle.unification.proofs.Settles.{acyclic-numbered}
 use Rattle.unification.proofs.Cycle.{refused-cyclic}
 use Rattle.unification.proofs.Solved.{robinson, numbered-acyclic}
@@ -63,7 +63,7 @@ module _ (ws : List ℕ) (n e : ℕ) (ns : List ℕ) (m d v : ℕ) (c : NodesChe
   unfolding unify
   unify-is-robinson B b l r =
       robinson (shapeAt (listsOf ws n ns m)) 3072 (lower ws n e ns m d v c) v (scoped ws n e ns m d v c) deep
-      deep-enough (apart ws n e ns m d v c) deeper deeper-enough B (b .numbered) (b .many) l r
+      deep-enough deeper deeper-enough B (b .numbered) (b .many) l r
 
   pub binds-checked : (B : Binds) → length B ≡ v → bindingsFine n m B ≡ true → acyclic ns m B ≡ true → BindsChecked (listsOf ws n ns m) v B
   binds-checked B l f a = record { many = l; places = f; numbered = acyclic-numbered ws n e ns m d v (fineOf ws n e ns m d v c) B a }

@@ -1,13 +1,13 @@
 -- "Unify descends through containers, functions and bindings to any depth, with the occurs check before a binding."
 -- Each definition is one step over the call below it, and goes to a depth; a law says which depth is enough.
-use mathlib.Core.Bool.{Bool, true, false, _&&_}
+use mathlib.Core.Bool.{Bool, true, false}
 use mathlib.Core.List.{List, [], _∷_}
 use mathlib.Core.Option.{Option, none, some}
 use Prim.Native.Nat.{ℕ, zero, suc, _^_}
 use lib.Dec.{eqb}
 use lib.ListN.{set}
 use Rattle.unification.specs.Term.{Shape, variable, over, sameHead}
-use Rattle.unification.specs.Nodes.{isSort, Binds, binding}
+use Rattle.unification.specs.Nodes.{Binds, binding}
 
 -- what unify comes to: the bindings of a yes, a no, or that the depth was not enough
 pub data Unifies : Type 0 where
@@ -100,14 +100,11 @@ module _ (shape : ℕ → Shape) where
   unifyShapes k f B l (over h ps) r (variable u) = bindUnless (occurs k B u l) B u l
   unifyShapes k f B l (over h ps) r (over g qs) = unifyHeads (sameHead h g) f B ps qs
 
-  -- "The same end twice .. is a yes that binds nothing." Two sorts are equal exactly if their numbers are.
-  abbrev pub unifyApart : Bool → ℕ → (Binds → ℕ → ℕ → Unifies) → Binds → ℕ → ℕ → Unifies
-  unifyApart true k f B l r = no-way
-  unifyApart false k f B l r = unifyShapes k f B l (shape l) r (shape r)
-
+  -- "The same end twice .. is a yes that binds nothing." So two sorts that differ are gone down by their one part that
+  -- differs first, and never unify: `different-sorts-do-not-unify`.
   abbrev pub unifyEnds : Bool → ℕ → (Binds → ℕ → ℕ → Unifies) → Binds → ℕ → ℕ → Unifies
   unifyEnds true k f B l r = yes-with B
-  unifyEnds false k f B l r = unifyApart (isSort l && isSort r) k f B l r
+  unifyEnds false k f B l r = unifyShapes k f B l (shape l) r (shape r)
 
   abbrev pub unifyFollowed : ℕ → (Binds → ℕ → ℕ → Unifies) → Binds → Option ℕ → Option ℕ → Unifies
   unifyFollowed k f B none r = too-deep

@@ -1,8 +1,8 @@
 -- Each way of unify: the equation of the definition at the ends of both sides, with what the code has found there. Assumes nothing.
 use mathlib.Core.Path.{_≡_, refl, ap, ap₂, sym, _∙_, subst}
-use mathlib.Core.List.{List, [], _∷_}
+use mathlib.Core.List.{List, _∷_}
 use mathlib.Core.Option.{some}
-use mathlib.Core.Bool.{Bool, true, false, _&&_}
+use mathlib.Core.Bool.{Bool, true, false}
 use mathlib.Core.Logic.{_⊎_, inl, inr}
 use Prim.Native.Nat.{ℕ, _+_, _*_, _<_, _≤_}
 use native.Mathlib.Omega.{arith}
@@ -11,8 +11,7 @@ use native.Mathlib.Numerals.{add-one}
 use lib.ListN.{length, getD, drop, drop-of-length-le}
 use lib.Seq.{drop-cons}
 use lib.Dec.{eqb}
-use borrow.Author.Tests.{eq-eqb, ne-eqb, le-ltb}
-use Rattle.resolved_sort.specs.Storage.{maxSorts, rowAt}
+use borrow.Author.Tests.{eq-eqb, ne-eqb}
 use Rattle.resolved_sort.proofs.Reached.{no-confusion}
 use Rattle.unification.specs.declared.Lengths.{Lengths}
 use Rattle.unification.specs.declared.SortVar.{SortVar}
@@ -21,19 +20,17 @@ use Rattle.unification.specs.declared.Tried.{Tried}
 use Rattle.unification.specs.declared.Tried.the-variants.{Yes, No}
 use Rattle.unification.specs.Term.{Head, Shape, variable, over, sameHead}
 use Rattle.unification.specs.Inner.Term.{headOf, partsOf}
-use Rattle.unification.specs.Nodes.{isSort, Binds, bindsOf}
+use Rattle.unification.specs.Nodes.{Binds, bindsOf}
 use Rattle.unification.specs.Unify.{Unifies, yes-with, no-way, too-deep, and-then, follow, occurs, bindUnless}
-use Rattle.unification.specs.Unify.{unifyAll, unifyHeads, unifyVariables, unifyShapes, unifyApart, unifyEnds}
+use Rattle.unification.specs.Unify.{unifyAll, unifyHeads, unifyVariables, unifyShapes, unifyEnds}
 use Rattle.unification.specs.Unify.{unifyFollowed, unify, deep, deeper}
 use Rattle.unification.specs.Acyclic.{One}
 use Rattle.unification.specs.Checked.{graphOf, Ready, Placed}
 use Rattle.unification.specs.Trail.{frees, TryLeaves}
 use Rattle.unification.proofs.Rank.{rank, rank-over, one-highest}
 use Rattle.unification.proofs.Parts.{one-at}
-use Rattle.unification.proofs.Rows.{sort-no-variable}
 use Rattle.unification.proofs.Follow.{follow-end}
 use Rattle.unification.proofs.Enough.{end-no-higher}
-use Rattle.unification.proofs.FineLists.{Place, is-sort, is-node, is-stray, place}
 use Rattle.unification.proofs.Lists.{lower, scoped, part-is-place}
 use Rattle.unification.specs.Exact.{YesLeaves, BindsKept}
 use Rattle.unification.proofs.Robinson.{unify-kept}
@@ -94,14 +91,6 @@ module _ (ws ns bs ts : List ℕ) (k : Lengths) (c : ℕ) (t : Trying ws ns bs t
       (deep-enough ws (k .sorts) (k .entries) ns (k .nodes) (k .arguments) (k .variables) (q .nodes))
       deeper (deeper-enough ws (k .sorts) (k .entries) ns (k .nodes) (k .arguments) (k .variables) (q .nodes)) B l r (q .binds .many) (q .binds .numbered)
 
-  variable-is-no-sort : (p u : ℕ) → shape p ≡ variable u → isSort p ≡ false
-  variable-is-no-sort p u s = go (place ws (k .sorts) ns (k .nodes) p)
-    where
-      go : Place ws (k .sorts) ns (k .nodes) p → isSort p ≡ false
-      go (is-sort a l g) = sort-no-variable ws u (rowAt ws p) (sym g ∙ s)
-      go (is-node i l x g) = le-ltb p maxSorts (omega (arith, x))
-      go (is-stray z g) = let y : over _ [] ≡ variable u = sym g ∙ s in no-confusion (cc)
-
   module _ (l r l′ r′ : ℕ) (pl : Placed k l) (pr : Placed k r) (fl : follow shape deep B l ≡ some l′) (fr : follow shape deep B r ≡ some r′) where
     at-ends : unify shape B l r ≡ unifyEnds shape (eqb l′ r′) deep (unify shape) B l′ r′
     at-ends = unify-step l r ∙ rw (fl, fr)
@@ -119,12 +108,8 @@ module _ (ws ns bs ts : List ℕ) (k : Lengths) (c : ℕ) (t : Trying ws ns bs t
     left-end-rank = end-no-higher shape deep B (ready-ranked ws ns bs k q) deep l l′ fl
 
     module _ (d : l′ ≡ r′ → ⊥) where
-      apart : unify shape B l r ≡ unifyApart shape (isSort l′ && isSort r′) deep (unify shape) B l′ r′
-      apart = at-ends ∙ rw (ne-eqb l′ r′ d)
-
-      and-false : (a b : Bool) → b ≡ false → (a && b) ≡ false
-      and-false true b e = e
-      and-false false b e = refl
+      by-shapes : unify shape B l r ≡ unifyShapes shape deep (unify shape) B l′ (shape l′) r′ (shape r′)
+      by-shapes = at-ends ∙ rw (ne-eqb l′ r′ d)
 
       left-free : (v : SortVar) → Is v ≡ varAt (shape l′) → Free bs k (v .0)
       left-free v x = let s = is-variable (shape l′) v x in record {
@@ -143,9 +128,6 @@ module _ (ws ns bs ts : List ℕ) (k : Lengths) (c : ℕ) (t : Trying ws ns bs t
       }
 
       module _ (v : SortVar) (xv : Is v ≡ varAt (shape l′)) where
-        no-sort-left : (isSort l′ && isSort r′) ≡ false
-        no-sort-left = rw (variable-is-no-sort l′ (v .0) (is-variable (shape l′) v xv))
-
         module _ (u : SortVar) (xu : Is u ≡ varAt (shape r′)) where
           pub two-variables : Trying ws ns bs ts k c × Free bs k (v .0) × Free bs k (u .0) × Placed k r′ × VariableAt ws ns k r′ (u .0)
           two-variables = (t, left-free v xv, right-free u xu, right-end-placed, record { stands = is-variable (shape r′) u xu })
@@ -154,7 +136,7 @@ module _ (ws ns bs ts : List ℕ) (k : Lengths) (c : ℕ) (t : Trying ws ns bs t
               → TryLeaves ws ns k (unifyVariables shape (eqb (v .0) (u .0)) B (v .0) r′) bs ts c bs₁ ts₁ a
               → TryLeaves ws ns k (unify shape B l r) bs ts c bs₁ ts₁ a
           variables-tried bs₁ ts₁ a = tries-as ws ns k _ _ bs ts c bs₁ ts₁ a
-              (sym (apart ∙ rw no-sort-left (rw (is-variable (shape l′) v xv, is-variable (shape r′) u xu))))
+              (sym (by-shapes ∙ rw (is-variable (shape l′) v xv, is-variable (shape r′) u xu)))
 
         module _ (xr : Nothing ≡ varAt (shape r′)) where
           pub left-variable : Trying ws ns bs ts k c × Free bs k (v .0) × Placed k r′
@@ -164,13 +146,10 @@ module _ (ws ns bs ts : List ℕ) (k : Lengths) (c : ℕ) (t : Trying ws ns bs t
               → TryLeaves ws ns k (bindUnless shape (occurs shape deep B (v .0) r′) B (v .0) r′) bs ts c bs₁ ts₁ a
               → TryLeaves ws ns k (unify shape B l r) bs ts c bs₁ ts₁ a
           left-tried bs₁ ts₁ a = tries-as ws ns k _ _ bs ts c bs₁ ts₁ a
-              (sym (apart ∙ rw no-sort-left (rw (is-variable (shape l′) v xv) (rw (is-solid (shape r′) xr)))))
+              (sym (by-shapes ∙ rw (is-variable (shape l′) v xv) (rw (is-solid (shape r′) xr))))
 
       module _ (xl : Nothing ≡ varAt (shape l′)) where
         module _ (u : SortVar) (xu : Is u ≡ varAt (shape r′)) where
-          no-sort-right : (isSort l′ && isSort r′) ≡ false
-          no-sort-right = and-false (isSort l′) (isSort r′) (variable-is-no-sort r′ (u .0) (is-variable (shape r′) u xu))
-
           pub right-variable : Trying ws ns bs ts k c × Free bs k (u .0) × Placed k l′
           right-variable = (t, right-free u xu, left-end-placed)
 
@@ -178,7 +157,7 @@ module _ (ws ns bs ts : List ℕ) (k : Lengths) (c : ℕ) (t : Trying ws ns bs t
               → TryLeaves ws ns k (bindUnless shape (occurs shape deep B (u .0) l′) B (u .0) l′) bs ts c bs₁ ts₁ a
               → TryLeaves ws ns k (unify shape B l r) bs ts c bs₁ ts₁ a
           right-tried bs₁ ts₁ a = tries-as ws ns k _ _ bs ts c bs₁ ts₁ a
-              (sym (apart ∙ rw no-sort-right (rw (is-variable (shape r′) u xu) (rw (is-solid (shape l′) xl)))))
+              (sym (by-shapes ∙ rw (is-variable (shape r′) u xu) (rw (is-solid (shape l′) xl))))
 
         module _ (xr : Nothing ≡ varAt (shape r′)) where
           pub left-solid : Solid ws ns k l′
@@ -188,51 +167,44 @@ module _ (ws ns bs ts : List ℕ) (k : Lengths) (c : ℕ) (t : Trying ws ns bs t
           right-solid = record { placed = right-end-placed; solid = is-solid (shape r′) xr }
 
           pub parts-tried : (bs₁ ts₁ : List ℕ) (a : Tried)
-              → TryLeaves ws ns k (unifyApart shape (isSort l′ && isSort r′) deep (unify shape) B l′ r′) bs ts c bs₁
+              → TryLeaves ws ns k (unifyShapes shape deep (unify shape) B l′ (shape l′) r′ (shape r′)) bs ts c bs₁
               ts₁ a → TryLeaves ws ns k (unify shape B l r) bs ts c bs₁ ts₁ a
-          parts-tried bs₁ ts₁ a = tries-as ws ns k _ _ bs ts c bs₁ ts₁ a (sym apart)
+          parts-tried bs₁ ts₁ a = tries-as ws ns k _ _ bs ts c bs₁ ts₁ a (sym by-shapes)
 
   -- two ends at which no variable stands
   module _ (l r : ℕ) (sl : Solid ws ns k l) (sr : Solid ws ns k r) where
     abbrev whole : Unifies
-    whole = unifyApart shape (isSort l && isSort r) deep (unify shape) B l r
+    whole = unifyShapes shape deep (unify shape) B l (shape l) r (shape r)
 
-    pub two-sorts : (b : Bool) → b ≡ (isSort l && isSort r) → b ≡ true → TryLeaves ws ns k whole bs ts c bs ts (No c)
-    two-sorts b e x = tries-as ws ns k no-way whole bs ts c bs ts (No c)
-        (sym (ap (λ y. unifyApart shape y deep (unify shape) B l r) (sym e ∙ x))) (no-try ws ns k bs ts c q)
+    by-heads : whole ≡ unifyHeads shape (sameHead (headOf (shape l)) (headOf (shape r))) (unify shape) B (partsOf (shape l)) (partsOf (shape r))
+    by-heads = ap₂ (λ (y z : Shape). unifyShapes shape deep (unify shape) B l y r z) (sl .solid) (sr .solid)
 
-    module _ (b : Bool) (e : b ≡ (isSort l && isSort r)) (x : b ≡ false) where
-      by-heads : whole ≡ unifyHeads shape (sameHead (headOf (shape l)) (headOf (shape r))) (unify shape) B (partsOf (shape l)) (partsOf (shape r))
-      by-heads =
-          ap (λ y. unifyApart shape y deep (unify shape) B l r) (sym e ∙ x)
-          ∙ ap₂ (λ (y z : Shape). unifyShapes shape deep (unify shape) B l y r z) (sl .solid) (sr .solid)
+    module _ (h : Bool) (eh : h ≡ sameHead (headOf (shape l)) (headOf (shape r))) where
+      pub other-heads : h ≡ false → TryLeaves ws ns k whole bs ts c bs ts (No c)
+      other-heads y =
+          tries-as ws ns k no-way whole bs ts c bs ts (No c)
+          (sym (by-heads ∙ ap (λ z. unifyHeads shape z (unify shape) B (partsOf (shape l)) (partsOf (shape r))) (sym eh ∙ y))) (no-try ws ns k bs ts c q)
 
-      module _ (h : Bool) (eh : h ≡ sameHead (headOf (shape l)) (headOf (shape r))) where
-        pub other-heads : h ≡ false → TryLeaves ws ns k whole bs ts c bs ts (No c)
-        other-heads y =
-            tries-as ws ns k no-way whole bs ts c bs ts (No c)
-            (sym (by-heads ∙ ap (λ z. unifyHeads shape z (unify shape) B (partsOf (shape l)) (partsOf (shape r))) (sym eh ∙ y))) (no-try ws ns k bs ts c q)
+      module _ (y : h ≡ true) where
+        same-heads : whole ≡ unifyAll shape (unify shape) B (partsOf (shape l)) (partsOf (shape r))
+        same-heads = by-heads ∙ ap (λ z. unifyHeads shape z (unify shape) B (partsOf (shape l)) (partsOf (shape r))) (sym eh ∙ y)
 
-        module _ (y : h ≡ true) where
-          same-heads : whole ≡ unifyAll shape (unify shape) B (partsOf (shape l)) (partsOf (shape r))
-          same-heads = by-heads ∙ ap (λ z. unifyHeads shape z (unify shape) B (partsOf (shape l)) (partsOf (shape r))) (sym eh ∙ y)
-
-          pub parts-begin : (n : ℕ) → n ≡ length (partsOf (shape l)) → Unifying ws ns k l r n whole bs ts c bs ts c 0
-          parts-begin n en =
-              record {
-                trying = t;
-                alike = record {
-                  left = sl .placed;
-                  right = sr .placed;
-                  many = en;
-                  as-many = en ∙ same-count ws ns k
-                      (q .nodes) l r (sl .placed) (sr .placed) (sym eh ∙ y);
-                };
-                rest = λ bs₁ ts₁ w. tries-as ws ns k _ _ bs ts c bs₁ ts₁ w (sym same-heads);
-                work = omega arith;
-                same-binds = refl;
-                same-trail = refl;
-              }
+        pub parts-begin : (n : ℕ) → n ≡ length (partsOf (shape l)) → Unifying ws ns k l r n whole bs ts c bs ts c 0
+        parts-begin n en =
+            record {
+              trying = t;
+              alike = record {
+                left = sl .placed;
+                right = sr .placed;
+                many = en;
+                as-many = en ∙ same-count ws ns k
+                    (q .nodes) l r (sl .placed) (sr .placed) (sym eh ∙ y);
+              };
+              rest = λ bs₁ ts₁ w. tries-as ws ns k _ _ bs ts c bs₁ ts₁ w (sym same-heads);
+              work = omega arith;
+              same-binds = refl;
+              same-trail = refl;
+            }
 
   -- parts are places of lower rank
   part-placed : (p x : ℕ) (h : Head) (ps : List ℕ) → Placed k p → shape p ≡ over h ps → One x ps → Placed k x

@@ -6,7 +6,6 @@ use infer_nodes::part_count;
 use infer_nodes::same_head;
 use infer_nodes::shallow_normalize;
 use infer_nodes::variable_at;
-use unification::FIRST_NODE;
 use unification::FREE_WORD;
 use unification::InferSortId;
 use unification::Lengths;
@@ -15,12 +14,11 @@ use unification::Tried;
 use unification::VarAt;
 use words::put;
 ghost use mathlib.Core.Path.{_≡_};
-ghost use mathlib.Core.Bool.{_&&_};
 ghost use Prim.Native.Nat.{_+_, _-_, _<_, _≤_};
 ghost use lib.ListN.{length, set};
 ghost use lib.Dec.{eqb};
-ghost use Rattle.unification.specs.Nodes.{isSort, bindsOf};
-ghost use Rattle.unification.specs.Unify.{occurs as occursIn, bindUnless, unifyVariables, unifyApart};
+ghost use Rattle.unification.specs.Nodes.{bindsOf};
+ghost use Rattle.unification.specs.Unify.{occurs as occursIn, bindUnless, unifyVariables, unifyShapes};
 ghost use Rattle.unification.specs.Unify.{unify as unifyOf, deep};
 ghost use Rattle.unification.specs.Checked.{graphOf, Placed};
 ghost use Rattle.unification.specs.Trail.{undo as undoOf, TryLeaves};
@@ -121,16 +119,6 @@ fn bind_variables(
     Tried::Yes(count + 1)
 }
 
-// Whether two places are both interned sorts.
-fn both_sorts(l: InferSortId, r: InferSortId) -> bool
-    ensures { λ b. ⌜ b ≡ (isSort (l .0) && isSort (r .0)) ⌝ }
-{
-    if l.0 < FIRST_NODE {
-        return r.0 < FIRST_NODE;
-    }
-    false
-}
-
 // Makes `lhs` and `rhs` denote the same sort, binding variables as needed, and answers whether they are unifiable. On
 // failure bindings made before the mismatch was found remain; callers undo the trail.
 pub fn unify(
@@ -182,8 +170,9 @@ pub fn unify(
     }
 }
 
-// Two ends that are no variables. Interning is canonical, so two interned sorts are equal exactly when their numbers
-// are. Parts are unified left to right: arguments, and the range of a function last.
+// Two ends that are no variables. Parts are unified left to right: arguments, and the range of a function last.
+// Interning is canonical, so two interned sorts are equal exactly when their numbers are. Equal ones are a yes at once
+// in unify, so of two that differ only the first parts that differ are gone down.
 fn unify_parts(
     sorts: &[u16],
     nodes: &[u16],
@@ -201,16 +190,14 @@ fn unify_parts(
         ⌝ }
     ensures { λ t. ⌜
         TryLeaves (now (sorts .entry)) (now (nodes .entry)) lengths
-        (unifyApart (graphOf (now (sorts .entry)) (now (nodes .entry)) lengths)
-        (isSort (l .0) && isSort (r .0)) deep
+        (unifyShapes (graphOf (now (sorts .entry)) (now (nodes .entry)) lengths) deep
         (unifyOf (graphOf (now (sorts .entry)) (now (nodes .entry)) lengths))
-        (bindsOf (now (binds .entry)) (lengths .variables)) (l .0) (r .0))
+        (bindsOf (now (binds .entry)) (lengths .variables))
+        (l .0) (graphOf (now (sorts .entry)) (now (nodes .entry)) lengths (l .0))
+        (r .0) (graphOf (now (sorts .entry)) (now (nodes .entry)) lengths (r .0)))
         (now (binds .entry)) (now (trail .entry)) count (now (binds .exit)) (now (trail .exit)) t
         ⌝ }
 {
-    if both_sorts(l, r) {
-        return Tried::No(count);
-    }
     if !same_head(sorts, nodes, lengths, l, r) {
         return Tried::No(count);
     }

@@ -23,6 +23,9 @@ keep-requires c κs =
 enum-known-lengths-2 : tie.Need-enum-known-lengths-2
 enum-known-lengths-2 c = search needs
 
+with-lengths-requires : tie.Need-with-lengths-requires
+with-lengths-requires c κs = search needs
+
 enum-known-lengths-3 : tie.Need-enum-known-lengths-3
 enum-known-lengths-3 c = search needs
 
@@ -51,11 +54,12 @@ same-length-4 c = search needs
 
 returns-2 : tie.Need-returns-2
 returns-2 c =
-    let at-extract = c .before .before .before .before .before .before .before in
+    let at-lengths3 = c .before .before in
+    let at-extract = at-lengths3 .before .before .before .before .before .before in
     let at = at-extract .before .before .before .before .before .before .before .before .before in
     let s = (at) in law.never-without (s .args .sorts .now) (s .args .nodes .now) (s .args .binds .now)
     (s .args .scratch .now) (s .args .lists .now) (s .args .sizes) (s .args .st) (s .args .at) (s .pre) _ _
-    (at-extract .extract .result) (at-extract .extract .ensures) _ (c .before .lengths3 .given .1)
+    (at-extract .extract .result) (at-extract .extract .ensures) _ (at-lengths3 .lengths3 .given .1)
 
 same-length-5 : tie.Need-same-length-5
 same-length-5 c = search needs
@@ -79,6 +83,7 @@ replace-spec =
     enum-known-lengths
     keep-requires
     enum-known-lengths-2
+    with-lengths-requires
     enum-known-lengths-3
     same-length
     same-length-2

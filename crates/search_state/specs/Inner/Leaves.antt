@@ -213,8 +213,12 @@ withNodes k l =
       variables = l .variables;
     }
 
+-- the state with other lengths
+abbrev pub withLengths : State → Lengths → State
+withLengths s k = record { lengths = k; best = s .best; tied = s .tied }
+
 abbrev pub backTo : Lengths → State → State
-backTo k s = record { lengths = withNodes k (s .lengths); best = s .best; tied = s .tied }
+backTo k s = withLengths s (withNodes k (s .lengths))
 
 abbrev pub givenBackTo : Lengths → Answer → Answer
 givenBackTo k (Found s) = Found (backTo k s)

@@ -6,7 +6,7 @@ use Rattle.solver.proofs.+attempt+resume+solve+solve_comprehension+solv
 use Rattle.search_steps.proofs.after.Reads as after-reads
 use Rattle.search_steps.proofs.intern_container.Reads as intern-container-reads
 use Rattle.search_steps.proofs.says.Reads as says-reads
-use Rattle.search_steps.proofs.with_lengths.Reads as with-lengths-reads
+use Rattle.search_state.proofs.with_lengths.Reads as with-lengths-reads
 use Rattle.solver.proofs.reading_body.Reads as reading-body-reads
 use Rattle.solver.proofs.reading_op.Reads as reading-op-reads
 use mathlib.Core.Path.{_∙_}

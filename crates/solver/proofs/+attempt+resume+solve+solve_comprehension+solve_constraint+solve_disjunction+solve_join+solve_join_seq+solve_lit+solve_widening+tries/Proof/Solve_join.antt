@@ -5,7 +5,7 @@ use Rattle.solver.proofs.solve_join.Reads as solve-join
 use Rattle.solver.proofs.+attempt+resume+solve+solve_comprehension+solve_constraint+solve_disjunction+solve_join+solve_join_seq+solve_lit+solve_widening+tries.Lts-solve_join as solve-join-lts
 use Rattle.solver.proofs.solve_join_seq.Reads as solve-join-seq
 use Rattle.search_join.proofs.agreed.Reads as agreed-reads
-use Rattle.search_steps.proofs.with_lengths.Reads as with-lengths-reads
+use Rattle.search_state.proofs.with_lengths.Reads as with-lengths-reads
 use mathlib.Core.Path.{refl, _∙_}
 use native.Mathlib.Omega.{arith}
 use Rattle.solver.proofs.Joins as jo

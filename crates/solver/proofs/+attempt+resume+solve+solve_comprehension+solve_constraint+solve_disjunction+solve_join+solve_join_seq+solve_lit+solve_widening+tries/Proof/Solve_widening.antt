@@ -6,7 +6,7 @@ use Rattle.solver.proofs.+attempt+resume+solve+solve_comprehension+solv
 use Rattle.solver.proofs.tries.Reads as tries
 use Rattle.search_steps.proofs.give_back.Reads as give-back-reads
 use Rattle.search_steps.proofs.widenings_of.Reads as widenings-of-reads
-use Rattle.search_steps.proofs.with_lengths.Reads as with-lengths-reads
+use Rattle.search_state.proofs.with_lengths.Reads as with-lengths-reads
 use mathlib.Core.Path.{_∙_}
 use native.Mathlib.Omega.{arith}
 use Rattle.solver.proofs.Widening as wi

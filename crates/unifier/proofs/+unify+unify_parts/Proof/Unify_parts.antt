@@ -15,14 +15,12 @@ use Rattle.infer_nodes.proofs.shallow_normalize.Reads as shallow-normalize-read
 use Rattle.infer_nodes.proofs.variable_at.Reads as variable-at-reads
 use Rattle.unifier.proofs.bind.Reads as bind-reads
 use Rattle.unifier.proofs.bind_variables.Reads as bind-variables-reads
-use Rattle.unifier.proofs.both_sorts.Reads as both-sorts-reads
 use borrow.Author.Needs.{needs}
 use mathlib.Core.Path.{_≡_, refl, sym, ap, _∙_}
-use mathlib.Core.Bool.{_&&_}
 use native.Mathlib.Omega.{arith}
 use borrow.Author.Tests.{not-true, not-false}
-use Rattle.unification.specs.Nodes.{isSort, bindsOf}
-use Rattle.unification.specs.Unify.{unifyApart, unify as unifyOf, deep}
+use Rattle.unification.specs.Nodes.{bindsOf}
+use Rattle.unification.specs.Unify.{unifyShapes, unify as unifyOf, deep}
 use Rattle.unification.specs.Checked.{graphOf}
 use Rattle.unification.specs.Trail.{frees}
 use Rattle.unification.proofs.Rank.{rank}
@@ -32,16 +30,14 @@ use Rattle.unifier.proofs.+unify+unify_parts.Proof.Common.{unify-at, un
 
 abbrev Inv-loop : unify-parts-lts.InvT-loop
 Inv-loop sorts nodes binds₀ trail₀ lengths count l r n done₀ i₀ binds trail done i =
-    Unifying sorts nodes lengths (l .0) (r .0) n (unifyApart (graphOf sorts nodes lengths) (isSort (l .0) && isSort
-    (r .0)) deep (unifyOf (graphOf sorts nodes lengths)) (bindsOf binds₀ (lengths .variables)) (l .0) (r .0))
-    binds₀ trail₀ done₀ binds trail done i
+    Unifying sorts nodes lengths (l .0) (r .0) n (unifyShapes (graphOf sorts nodes lengths) deep (unifyOf (graphOf sorts
+    nodes lengths)) (bindsOf binds₀ (lengths .variables)) (l .0) (graphOf sorts nodes lengths (l .0)) (r .0)
+    (graphOf sorts nodes lengths (r .0))) binds₀ trail₀ done₀ binds trail done i
 
 abbrev μ-loop : unify-parts-lts.MeasureT-loop
 μ-loop sorts nodes binds₀ trail₀ lengths count l r n done₀ i₀ binds trail done i = n - i
 
 pub part : (M : Type 1) (t : ℕ) → unify-parts-lts.Closed (
-  both-sorts-reads.Asked,
-  both-sorts-reads.Learnt,
   same-head-reads.Asked,
   same-head-reads.Learnt,
   part-count-reads.Asked,
@@ -53,8 +49,6 @@ pub part : (M : Type 1) (t : ℕ) → unify-parts-lts.Closed (
 ) (unify-parts-at t) unify-parts.Post M
 part M t =
     unify-parts-lts.spec (
-      both-sorts-reads.Asked,
-      both-sorts-reads.Learnt,
       same-head-reads.Asked,
       same-head-reads.Learnt,
       part-count-reads.Asked,
@@ -66,38 +60,26 @@ part M t =
     ) (unify-parts-at t) unify-parts.Post
     Inv-loop
     μ-loop
-    (λ c κs. search needs)
-    (λ c.
-    let start = c .before .before .before .before .before .before in
-    let args = start .args in
-    law.two-sorts (args .sorts .now) (args .nodes .now) (args .binds .now) (args .trail .now) (args .lengths)
-    (args .count) (start .pre .1 .0) (args .l .0) (args .r .0) (start .pre .1 .1) (start .pre .1 .2) _
-    (c .before .both-sorts .ensures) (c .if1 .taken))
     (λ c κs.
-    let start = c .before .before .before .before .before .before in
+    let start = c .before .before .before .before in
     (start .pre .1 .0 .ready .nodes, start .pre .1 .1 .placed, start .pre .1 .2 .placed))
     (λ c.
-    let at-if1 = c .before .before in
-    let at-both-sorts = at-if1 .before in
-    let start = at-both-sorts .before .before .before .before .before in
+    let start = c .before .before .before .before .before .before in
     let args = start .args in
     law.other-heads (args .sorts .now) (args .nodes .now) (args .binds .now) (args .trail .now) (args .lengths)
     (args .count) (start .pre .1 .0) (args .l .0) (args .r .0) (start .pre .1 .1) (start .pre .1 .2) _
-    (at-both-sorts .both-sorts .ensures) (at-if1 .if1 .left) _ (c .before .same-head .ensures)
-    (not-true (c .before .same-head .result) (c .if2 .taken)))
+    (c .before .same-head .ensures) (not-true (c .before .same-head .result) (c .if1 .taken)))
     (λ c κs.
-    let start = c .before .before .before .before .before .before .before .before in
+    let start = c .before .before .before .before .before .before in
     (start .pre .1 .0 .ready .nodes, start .pre .1 .1 .placed))
     (λ c.
     let at-same-head = c .before .before in
-    let at-if1 = at-same-head .before in
-    let at-both-sorts = at-if1 .before in
-    let start = at-both-sorts .before .before .before .before .before in
+    let start = at-same-head .before .before .before .before .before in
     let args = start .args in
     law.parts-begin (args .sorts .now) (args .nodes .now) (args .binds .now) (args .trail .now) (args .lengths)
     (args .count) (start .pre .1 .0) (args .l .0) (args .r .0) (start .pre .1 .1) (start .pre .1 .2) _
-    (at-both-sorts .both-sorts .ensures) (at-if1 .if1 .left) _ (at-same-head .same-head .ensures)
-    (not-false (at-same-head .same-head .result) (c .before .if2 .left)) _ (c .part-count .ensures))
+    (at-same-head .same-head .ensures) (not-false (at-same-head .same-head .result) (c .before .if1 .left)) _
+    (c .part-count .ensures))
     (λ c κs. law.left-part _ _ _ _ _ _ (c .before .loop .inv .trying) _ _ _ _ _ _ _ _ (c .before .loop .inv) (c .loop-test .taken))
     (λ c κs. law.right-part _ _ _ _ _ _ (c .before .before .loop .inv .trying) _ _ _ _ _ _ _ _ (c .before .before .loop .inv) (c .before .loop-test .taken))
     (λ c κs.
@@ -105,7 +87,7 @@ part M t =
     let at-part = at-part2 .before in
     let at-loop-test = at-part .before in
     let at-loop = at-loop-test .before in
-    let start = at-loop .before .before .before .before .before .before .before .before .before .before in (
+    let start = at-loop .before .before .before .before .before .before .before .before in (
       omega (
         arith,
         start .pre .0,
