@@ -18,6 +18,7 @@ pub mod Together
 pub mod Clauses
 pub mod NoConstraints
 pub mod ListsLeft
+pub mod OutputsLeft
 -- the leaves that are met: the order of measures, the verdict, choices and names
 pub mod Measures
 pub mod Forgets
