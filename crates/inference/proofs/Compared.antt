@@ -113,6 +113,16 @@ cases =
       given [] [] (fourWords 14 0 0 0 []) [] (65535 ∷ []) (1024 ∷ []) [] (rowComprehension 3 1024 2 []) [] [] 1,
       outcome 0 (expr 7 0 0 []) [] [] (fourWords 7 2 0 0 (fourWords 9 2 0 0 [])) [],
     )
+    -- comprehension that no reading fits
+    ∷ (
+      given [] [] (fourWords 14 0 0 0 []) [] (65535 ∷ []) [] [] (rowComprehension 5 1024 2 []) [] [] 1,
+      outcome 17 [] [] [] (fourWords 7 2 0 0 (fourWords 9 2 0 0 [])) [],
+    )
+    -- readings in order
+    ∷ (
+      given [] [] (fourWords 14 0 0 0 (fourWords 14 1 0 0 (fourWords 6 1024 0 0 []))) [] (65535 ∷ 65535 ∷ []) (1026 ∷ []) [] (rowComprehension 1024 1025 2 (rowSub 1024 3 [])) [] [] 1,
+      outcome 0 (expr 8 0 0 []) (0 ∷ []) [] (fourWords 7 2 0 0 (fourWords 9 2 0 0 (fourWords 6 3 0 0 []))) [],
+    )
     -- Join with an open second source
     ∷ (
       given [] [] (fourWords 14 0 0 0 (fourWords 6 3 0 0 (fourWords 14 1 0 0 []))) [] (65535 ∷ 65535 ∷ []) (1024 ∷ []) [] (rowJoin 1026 0 2 []) [] (1025 ∷ 1024 ∷ []) 1,
@@ -132,6 +142,21 @@ cases =
     ∷ (
       given (fourWords 11 4 0 1 []) (1 ∷ []) (fourWords 14 0 0 0 []) (replicate 4095 0) (65535 ∷ []) (1024 ∷ []) [] (rowDisjunction 0 1024 0 2 (rowSub 6 1024 [])) (2 ∷ 1 ∷ 1 ∷ 2 ∷ 3 ∷ 3 ∷ []) [] 1,
       outcome 17 [] [] [] [] [],
+    )
+    -- node room used again after a find
+    ∷ (
+      given (fourWords 11 4 0 1 (fourWords 11 5 1 1 [])) (1 ∷ 1 ∷ []) (fourWords 14 0 0 0 []) (replicate 4095 0) (65535 ∷ []) (1024 ∷ []) [] (rowDisjunction 0 1024 0 2 (rowSub 6 1024 [])) (2 ∷ 7 ∷ 7 ∷ 2 ∷ 3 ∷ 3 ∷ []) [] 1,
+      outcome 0 (expr 7 2 7 []) (1 ∷ []) (choice 0 0 []) [] [],
+    )
+    -- no room for an argument, a sort first
+    ∷ (
+      given (fourWords 11 3 0 1 []) (1 ∷ (replicate 4095 0)) (fourWords 14 0 0 0 (fourWords 11 3 0 1 [])) (2 ∷ (replicate 4095 0)) (65535 ∷ []) [] [] (rowJoin 1024 0 1 (rowSub 6 1 [])) [] (1025 ∷ []) 1,
+      outcome 15 [] [] [] [] [],
+    )
+    -- no room for an argument, a node first
+    ∷ (
+      given (fourWords 11 3 0 1 []) (1 ∷ (replicate 4095 0)) (fourWords 14 0 0 0 (fourWords 11 3 0 1 [])) (2 ∷ (replicate 4095 0)) (65535 ∷ []) [] [] (rowSub 6 1 (rowJoin 1024 0 1 [])) [] (1025 ∷ []) 1,
+      outcome 16 [] [] [] [] [],
     )
     -- a list on the left
     ∷ (
@@ -207,6 +232,16 @@ cases =
     ∷ (
       given [] [] [] [] [] [] [] (rowJoin 4 0 2 []) [] (2 ∷ 3 ∷ []) 1,
       outcome 0 [] (2 ∷ 1 ∷ []) [] [] [],
+    )
+    -- Join past the join for a later constraint
+    ∷ (
+      given [] [] (fourWords 14 0 0 0 []) [] (65535 ∷ []) (1024 ∷ []) [] (rowJoin 1024 0 2 (rowDisjunction 0 1024 0 1 [])) (2 ∷ 4 ∷ 4 ∷ []) (2 ∷ 3 ∷ []) 1,
+      outcome 0 (expr 4 2 4 []) (2 ∷ 1 ∷ []) (choice 0 0 []) [] [],
+    )
+    -- Join without a join
+    ∷ (
+      given (fourWords 8 2 0 0 []) [] (fourWords 14 0 0 0 []) [] (65535 ∷ []) [] [] (rowJoin 1024 0 2 []) [] (6 ∷ 1 ∷ []) 1,
+      outcome 17 [] [] [] (fourWords 7 2 0 0 []) [],
     )
     -- nothing
     ∷ (

@@ -20,6 +20,7 @@ pub mod Clauses
 pub mod Costs
 pub mod NoConstraints
 pub mod ListsLeft
+pub mod OutputsLeft
 -- the leaves that are met: the order of measures, the verdict, choices and names
 pub mod Measures
 pub mod Forgets

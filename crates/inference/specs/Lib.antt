@@ -12,4 +12,5 @@ pub mod Explained
 pub mod Named
 pub mod Leaves
 pub mod ListsLeft
+pub mod OutputsLeft
 pub mod Inner
