@@ -7,6 +7,7 @@ use resolved_sort::FIRST_CONTAINER;
 use resolved_sort::FUNCTION_KIND;
 use resolved_sort::ROW_WORDS;
 use resolved_sort::Run;
+use resolved_sort::SortId;
 use unification::FIRST_NODE;
 use unification::FREE_WORD;
 use unification::InferSort;
@@ -14,6 +15,7 @@ use unification::InferSortId;
 use unification::Lengths;
 use unification::NODE_ENTRIES_AT;
 use unification::NodeId;
+use unification::Place;
 use unification::SortVar;
 use unification::VarAt;
 use words::word;
@@ -28,6 +30,7 @@ ghost use Rattle.unification.specs.Nodes.{bindsOf};
 ghost use Rattle.unification.specs.Unify.{ofTest, follow, occursAny, occurs as occursIn, deep};
 ghost use Rattle.unification.specs.Checked.{graphOf, Ready, Placed};
 ghost use Rattle.unification.specs.Resolve.{withCounts};
+ghost use Rattle.infer_nodes.specs.Inner.Apart.{TakenApart};
 ghost use Rattle.infer_nodes.specs.Inner.Bound.{boundTo, RunPlaced};
 ghost use Rattle.infer_nodes.specs.Inner.Parts.{NodesReady, varAt, numberIn, countIn, partIn, SmallCount};
 
@@ -72,6 +75,16 @@ fn op_of_kind(kind: u16) -> ComplexSort
     ComplexSort::FBag
 }
 
+// Takes a place apart: a sort below FIRST_NODE, else a node, counted from there. No other function does so.
+pub fn taken_apart(id: InferSortId) -> Place
+    ensures { λ r. ⌜ TakenApart (id .0) r ⌝ }
+{
+    if id.0 < FIRST_NODE {
+        return Place::Sort(SortId(id.0));
+    }
+    Place::Node(NodeId(id.0 - FIRST_NODE))
+}
+
 // What a node says.
 pub fn node(nodes: &[u16], id: NodeId) -> InferSort
     ensures { λ r. ⌜ r ≡ nodeAt (now (nodes .entry)) (id .0) ⌝ }
@@ -112,16 +125,16 @@ fn bound_to(sorts: &[u16], nodes: &[u16], binds: &[u16], lengths: Lengths, id: I
         (bindsOf (now (binds .entry)) (lengths .variables))
         ⌝ }
 {
-    if id.0 < FIRST_NODE {
-        return FREE_WORD;
-    }
-    match node(nodes, NodeId(id.0 - FIRST_NODE)) {
-        InferSort::Generic { op: _, subsort: _ } => FREE_WORD,
-        InferSort::Function {
-            domain: _,
-            range: _,
-        } => FREE_WORD,
-        InferSort::Var(var) => word(binds, var.0 as usize),
+    match taken_apart(id) {
+        Place::Sort(_) => FREE_WORD,
+        Place::Node(at) => match node(nodes, at) {
+            InferSort::Generic { op: _, subsort: _ } => FREE_WORD,
+            InferSort::Function {
+                domain: _,
+                range: _,
+            } => FREE_WORD,
+            InferSort::Var(var) => word(binds, var.0 as usize),
+        },
     }
 }
 
@@ -168,26 +181,28 @@ pub fn occurs(
         ⌝ }
 {
     let end = shallow_normalize(sorts, nodes, binds, lengths, id);
-    if end.0 < FIRST_NODE {
-        return false;
-    }
-    match node(nodes, NodeId(end.0 - FIRST_NODE)) {
-        InferSort::Generic { op: _, subsort } => occurs(sorts, nodes, binds, lengths, var, subsort),
-        InferSort::Function { domain, range } => {
-            if occurs_any(
-                sorts,
-                nodes,
-                binds,
-                lengths,
-                var,
-                domain.start,
-                domain.count,
-            ) {
-                return true;
+    match taken_apart(end) {
+        Place::Sort(_) => false,
+        Place::Node(at) => match node(nodes, at) {
+            InferSort::Generic { op: _, subsort } => {
+                occurs(sorts, nodes, binds, lengths, var, subsort)
             }
-            occurs(sorts, nodes, binds, lengths, var, range)
-        }
-        InferSort::Var(other) => var.0 == other.0,
+            InferSort::Function { domain, range } => {
+                if occurs_any(
+                    sorts,
+                    nodes,
+                    binds,
+                    lengths,
+                    var,
+                    domain.start,
+                    domain.count,
+                ) {
+                    return true;
+                }
+                occurs(sorts, nodes, binds, lengths, var, range)
+            }
+            InferSort::Var(other) => var.0 == other.0,
+        },
     }
 }
 
@@ -230,16 +245,16 @@ pub fn variable_at(sorts: &[u16], nodes: &[u16], lengths: Lengths, id: InferSort
     requires { ⌜ NodesReady (now sorts) (now nodes) lengths × Placed lengths (id .0) ⌝ }
     ensures { λ r. ⌜ r ≡ varAt (graphOf (now (sorts .entry)) (now (nodes .entry)) lengths (id .0)) ⌝ }
 {
-    if id.0 < FIRST_NODE {
-        return VarAt::Nothing;
-    }
-    match node(nodes, NodeId(id.0 - FIRST_NODE)) {
-        InferSort::Generic { op: _, subsort: _ } => VarAt::Nothing,
-        InferSort::Function {
-            domain: _,
-            range: _,
-        } => VarAt::Nothing,
-        InferSort::Var(var) => VarAt::Is(var),
+    match taken_apart(id) {
+        Place::Sort(_) => VarAt::Nothing,
+        Place::Node(at) => match node(nodes, at) {
+            InferSort::Generic { op: _, subsort: _ } => VarAt::Nothing,
+            InferSort::Function {
+                domain: _,
+                range: _,
+            } => VarAt::Nothing,
+            InferSort::Var(var) => VarAt::Is(var),
+        },
     }
 }
 
@@ -298,10 +313,10 @@ fn kind_at(sorts: &[u16], nodes: &[u16], lengths: Lengths, id: InferSortId) -> u
         r ≡ kindHead (headOf (graphOf (now (sorts .entry)) (now (nodes .entry)) lengths (id .0)))
         ⌝ }
 {
-    if id.0 < FIRST_NODE {
-        return word(sorts, ROW_WORDS * (id.0 as usize));
+    match taken_apart(id) {
+        Place::Sort(sort) => word(sorts, ROW_WORDS * (sort.0 as usize)),
+        Place::Node(at) => word(nodes, ROW_WORDS * (at.0 as usize)),
     }
-    word(nodes, ROW_WORDS * ((id.0 - FIRST_NODE) as usize))
 }
 
 fn number_at(sorts: &[u16], nodes: &[u16], lengths: Lengths, id: InferSortId) -> u16
@@ -310,10 +325,10 @@ fn number_at(sorts: &[u16], nodes: &[u16], lengths: Lengths, id: InferSortId) ->
         r ≡ numberHead (headOf (graphOf (now (sorts .entry)) (now (nodes .entry)) lengths (id .0)))
         ⌝ }
 {
-    if id.0 < FIRST_NODE {
-        return number_in(sorts, ROW_WORDS * (id.0 as usize));
+    match taken_apart(id) {
+        Place::Sort(sort) => number_in(sorts, ROW_WORDS * (sort.0 as usize)),
+        Place::Node(at) => number_in(nodes, ROW_WORDS * (at.0 as usize)),
     }
-    number_in(nodes, ROW_WORDS * ((id.0 - FIRST_NODE) as usize))
 }
 
 // Whether two places have the same head: constructor, and number of arguments.
@@ -346,10 +361,10 @@ pub fn part_count(sorts: &[u16], nodes: &[u16], lengths: Lengths, id: InferSortI
         r ≡ length (partsOf (graphOf (now (sorts .entry)) (now (nodes .entry)) lengths (id .0)))
         ⌝ }
 {
-    if id.0 < FIRST_NODE {
-        return count_in(sorts, ROW_WORDS * (id.0 as usize));
+    match taken_apart(id) {
+        Place::Sort(sort) => count_in(sorts, ROW_WORDS * (sort.0 as usize)),
+        Place::Node(at) => count_in(nodes, ROW_WORDS * (at.0 as usize)),
     }
-    count_in(nodes, ROW_WORDS * ((id.0 - FIRST_NODE) as usize))
 }
 
 // The i-th part of the sort at a place.
@@ -363,13 +378,8 @@ pub fn part(sorts: &[u16], nodes: &[u16], lengths: Lengths, id: InferSortId, i: 
         r .0 ≡ getD (partsOf (graphOf (now (sorts .entry)) (now (nodes .entry)) lengths (id .0))) i 0
         ⌝ }
 {
-    if id.0 < FIRST_NODE {
-        return part_in(sorts, ENTRIES_AT, ROW_WORDS * (id.0 as usize), i);
+    match taken_apart(id) {
+        Place::Sort(sort) => part_in(sorts, ENTRIES_AT, ROW_WORDS * (sort.0 as usize), i),
+        Place::Node(at) => part_in(nodes, NODE_ENTRIES_AT, ROW_WORDS * (at.0 as usize), i),
     }
-    part_in(
-        nodes,
-        NODE_ENTRIES_AT,
-        ROW_WORDS * ((id.0 - FIRST_NODE) as usize),
-        i,
-    )
 }

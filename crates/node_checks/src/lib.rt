@@ -3,14 +3,13 @@
 // and a sort when all that stands in it is; as many rounds as there are variables settle all that can be, and where all
 // are settled before, no further round is made.
 use infer_nodes::node;
+use infer_nodes::taken_apart;
 use resolved_sort::FIRST_CONTAINER;
 use resolved_sort::FUNCTION_KIND;
 use resolved_sort::MAX_ARGUMENTS;
-use resolved_sort::MAX_SORTS;
 use resolved_sort::ROW_WORDS;
 use resolved_sort::Run;
 use resolved_sort::Tested;
-use unification::FIRST_NODE;
 use unification::FREE_WORD;
 use unification::InferSort;
 use unification::InferSortId;
@@ -19,6 +18,7 @@ use unification::MAX_NODES;
 use unification::MAX_VARS;
 use unification::NODE_ENTRIES_AT;
 use unification::NodeId;
+use unification::Place;
 use unification::VARIABLE_KIND;
 use words::word;
 ghost use mathlib.Core.Path.{_≡_};
@@ -65,27 +65,26 @@ pub fn bindings_within_lent(binds: &[u16], v: usize) -> bool
     v <= binds.len()
 }
 
-// Whether a word names a sort below n or a node below m.
-pub fn is_place(n: usize, m: usize, p: u16) -> bool
-    ensures { λ r. ⌜ r ≡ isPlace n m p ⌝ }
+// Whether a place is a sort below n or a node below m.
+pub fn is_place(n: usize, m: usize, p: InferSortId) -> bool
+    ensures { λ r. ⌜ r ≡ isPlace n m (p .0) ⌝ }
 {
-    let word = p as usize;
-    if word < MAX_SORTS {
-        return word < n;
+    match taken_apart(p) {
+        Place::Sort(sort) => (sort.0 as usize) < n,
+        Place::Node(at) => (at.0 as usize) < m,
     }
-    word - MAX_SORTS < m
 }
 
-// Whether each of the count arguments from start on is a place among n sorts and i nodes.
-fn arguments_placed(nodes: &[u16], n: usize, i: usize, start: u16, count: u16) -> bool
-    ensures { λ r. ⌜ r ≡ allBelow count (argPlaced (now (nodes .entry)) n i start) ⌝ }
+// Whether each of the count arguments from start on is a place among n sorts and m nodes.
+fn arguments_placed(nodes: &[u16], n: usize, m: usize, start: u16, count: u16) -> bool
+    ensures { λ r. ⌜ r ≡ allBelow count (argPlaced (now (nodes .entry)) n m start) ⌝ }
 {
     let mut j: u16 = 0;
     while j < count {
         if !is_place(
             n,
-            i,
-            word(nodes, NODE_ENTRIES_AT + ((start as usize) + (j as usize))),
+            m,
+            InferSortId(word(nodes, NODE_ENTRIES_AT + ((start as usize) + (j as usize)))),
         ) {
             return false;
         }
@@ -107,18 +106,18 @@ fn kind_fine(kind: u16) -> bool
     kind <= FUNCTION_KIND
 }
 
-// Whether a function of node i has at most 16 arguments, a run inside the d entries, and parts that
-// are places below node i.
+// Whether a node that is a function has at most 16 arguments, a run inside the d entries, and parts that are places
+// below it.
 fn function_fine(
     nodes: &[u16],
     d: usize,
     n: usize,
     v: usize,
-    i: usize,
+    id: NodeId,
     domain: Run,
     range: InferSortId,
 ) -> bool
-    ensures { λ r. ⌜ r ≡ nodePartsFine (now (nodes .entry)) d n v i (InferSort.Function domain range) ⌝ }
+    ensures { λ r. ⌜ r ≡ nodePartsFine (now (nodes .entry)) d n v (id .0) (InferSort.Function domain range) ⌝ }
 {
     let start = domain.start;
     let count = domain.count;
@@ -128,19 +127,19 @@ fn function_fine(
     if d < (start as usize) + (count as usize) {
         return false;
     }
-    if !is_place(n, i, range.0) {
+    if !is_place(n, id.0 as usize, range) {
         return false;
     }
-    arguments_placed(nodes, n, i, start, count)
+    arguments_placed(nodes, n, id.0 as usize, start, count)
 }
 
-// Whether the parts of node i are fine: places below it, and a variable below v.
-fn parts_fine(nodes: &[u16], d: usize, n: usize, v: usize, i: usize, says: InferSort) -> bool
-    ensures { λ r. ⌜ r ≡ nodePartsFine (now (nodes .entry)) d n v i says ⌝ }
+// Whether the parts of a node are fine: places below it, and a variable below v.
+fn parts_fine(nodes: &[u16], d: usize, n: usize, v: usize, id: NodeId, says: InferSort) -> bool
+    ensures { λ r. ⌜ r ≡ nodePartsFine (now (nodes .entry)) d n v (id .0) says ⌝ }
 {
     match says {
-        InferSort::Generic { op: _, subsort } => is_place(n, i, subsort.0),
-        InferSort::Function { domain, range } => function_fine(nodes, d, n, v, i, domain, range),
+        InferSort::Generic { op: _, subsort } => is_place(n, id.0 as usize, subsort),
+        InferSort::Function { domain, range } => function_fine(nodes, d, n, v, id, domain, range),
         InferSort::Var(var) => (var.0 as usize) < v,
     }
 }
@@ -152,7 +151,7 @@ fn nodes_fine(nodes: &[u16], m: usize, d: usize, n: usize, v: usize) -> bool
 {
     let mut i: usize = 0;
     while i < m {
-        if !node_fine(nodes, d, n, v, i) {
+        if !node_fine(nodes, d, n, v, NodeId(i as u16)) {
             return false;
         }
         i += 1;
@@ -160,15 +159,14 @@ fn nodes_fine(nodes: &[u16], m: usize, d: usize, n: usize, v: usize) -> bool
     true
 }
 
-// Whether node i is fine.
-fn node_fine(nodes: &[u16], d: usize, n: usize, v: usize, i: usize) -> bool
-    requires { ⌜ i < maxNodes ⌝ }
-    ensures { λ r. ⌜ r ≡ nodeFine (now (nodes .entry)) d n v i ⌝ }
+// Whether a node is fine.
+fn node_fine(nodes: &[u16], d: usize, n: usize, v: usize, id: NodeId) -> bool
+    ensures { λ r. ⌜ r ≡ nodeFine (now (nodes .entry)) d n v (id .0) ⌝ }
 {
-    if !kind_fine(word(nodes, ROW_WORDS * i)) {
+    if !kind_fine(word(nodes, ROW_WORDS * (id.0 as usize))) {
         return false;
     }
-    parts_fine(nodes, d, n, v, i, node(nodes, NodeId(i as u16)))
+    parts_fine(nodes, d, n, v, id, node(nodes, id))
 }
 
 // Check 6: each of the v bindings is free or names a place.
@@ -191,7 +189,7 @@ fn binding_fine(n: usize, m: usize, w: u16) -> bool
     if w == FREE_WORD {
         return true;
     }
-    is_place(n, m, w)
+    is_place(n, m, InferSortId(w))
 }
 
 // The flag at an index; past the end there is none.
@@ -202,13 +200,13 @@ fn flag(flags: &[bool], i: usize) -> bool
 }
 
 // Whether the sort at a place is settled. An interned sort is.
-fn place_settled(flags: &[bool], place: u16) -> bool
-    ensures { λ r. ⌜ r ≡ placeSettled (now (flags .entry)) place ⌝ }
+fn place_settled(flags: &[bool], place: InferSortId) -> bool
+    ensures { λ r. ⌜ r ≡ placeSettled (now (flags .entry)) (place .0) ⌝ }
 {
-    if place < FIRST_NODE {
-        return true;
+    match taken_apart(place) {
+        Place::Sort(_) => true,
+        Place::Node(at) => flag(flags, at.0 as usize),
     }
-    flag(flags, (place - FIRST_NODE) as usize)
 }
 
 // Whether each of a run of arguments is settled.
@@ -219,7 +217,7 @@ fn arguments_settled(nodes: &[u16], flags: &[bool], start: u16, count: u16) -> b
     while j < count {
         if !place_settled(
             flags,
-            word(nodes, NODE_ENTRIES_AT + ((start as usize) + (j as usize))),
+            InferSortId(word(nodes, NODE_ENTRIES_AT + ((start as usize) + (j as usize)))),
         ) {
             return false;
         }
@@ -237,12 +235,12 @@ fn node_settled(nodes: &[u16], vars: &[bool], flags: &[bool], id: NodeId) -> boo
         ⌝ }
 {
     match node(nodes, id) {
-        InferSort::Generic { op: _, subsort } => place_settled(flags, subsort.0),
+        InferSort::Generic { op: _, subsort } => place_settled(flags, subsort),
         InferSort::Function { domain, range } => {
             if !arguments_settled(nodes, flags, domain.start, domain.count) {
                 return false;
             }
-            place_settled(flags, range.0)
+            place_settled(flags, range)
         }
         InferSort::Var(var) => flag(vars, var.0 as usize),
     }
@@ -267,7 +265,7 @@ fn binding_settled(flags: &[bool], w: u16) -> bool
     if w == FREE_WORD {
         return true;
     }
-    place_settled(flags, w)
+    place_settled(flags, InferSortId(w))
 }
 
 // The variables, by the nodes.

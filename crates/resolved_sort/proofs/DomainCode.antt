@@ -26,7 +26,7 @@ use Rattle.resolved_sort.specs.Entries.{countsOf, after, stored}
 use Rattle.resolved_sort.specs.Rows.{Checked, storedAt}
 use Rattle.resolved_sort.specs.Inner.Pairs.{pairAt}
 use Rattle.resolved_sort.specs.Bounds.{Asked, boundAt}
-use Rattle.resolved_sort.specs.Inner.Bounds.{TwoFunctions, storedDomain, argumentsFrom, domainOf, boundDomain}
+use Rattle.resolved_sort.specs.Inner.Bounds.{TwoFunctions, domainLeft, storedDomain, argumentsFrom, domainOf, boundDomain}
 use Rattle.resolved_sort.proofs.Numbers.{number-grows}
 use Rattle.resolved_sort.proofs.RowTrees.{AllBelow, weaken-all, below-run, by-kind}
 use Rattle.resolved_sort.proofs.Interned.{listed, row-below}
@@ -148,11 +148,11 @@ domain-glue ws n e S g v m c q i ids k (made vs S′) h =
     let d : c ≡ number (S′ .trees) v = q ∙ sym (number-extends S S′ v (h .1) m) in
     let l : sets (set ids i c) (i + 1) (numbers (S′ .trees) vs) ≡ sets (set ids i (number (S′ .trees) v)) (suc i) (numbers (S′ .trees) vs) =
     ap₂ (λ x j. sets (set ids i x) j (numbers (S′ .trees) vs)) d (add-one i) in
-    λ j. record { words = w j; domain = record { ids = l j; found = All (countsOf S′) } }
+    λ j. record { words = w j; ids = l j; found = All (countsOf S′) }
 domain-glue ws n e S g v m c q i ids k (nothing S′) h =
-    let w = after-both ws n e S S′ g (h .0) in λ j. record { words = w j; domain = record { ids = replicate 16 0; found = NotAll (countsOf S′) } }
+    let w = after-both ws n e S S′ g (h .0) in λ j. record { words = w j; ids = replicate 16 0; found = NotAll (countsOf S′) }
 domain-glue ws n e S g v m c q i ids k (full S′) h =
-    let w = after-both ws n e S S′ g (h .0) in λ j. record { words = w j; domain = record { ids = replicate 16 0; found = NoRoom } }
+    let w = after-both ws n e S S′ g (h .0) in λ j. record { words = w j; ids = replicate 16 0; found = NoRoom }
 
 -- the arguments of a function, from the i-th on, in a list that has grown
 module _ (ws : List ℕ) (n e : ℕ) (k : Checked ws n e) (S : Sorts) (g : Grown ws n e S) (a : ℕ) (ha : a < n) (f : kindAt ws a ≡ functionKind) where
@@ -199,13 +199,13 @@ module _ (up : Bool) (ws : List ℕ) (C : Counts) (a b : ℕ) (f : TwoFunctions 
   abbrev S : Sorts
   S = sortsOf ws n e
 
-  pub domain-done : i ≡ countAt ws a → storedDomain ws (record { ids = ids; found = All C }) ≡ boundDomain up ws n e a b i ids
+  pub domain-done : i ≡ countAt ws a → domainLeft ws ids (All C) ≡ boundDomain up ws n e a b i ids
   unfolding boundDomain domainOf makes numbers
   domain-done h =
       rw (arguments-end ws n a i h, arguments-end ws n b i (h ∙ f .as-many))
       (let w = sym (after-none ws n e k) in
       let c = sym (counts-are ws C k) in
-      λ x. record { words = w x; domain = record { ids = ids; found = All (c x) } })
+      λ x. record { words = w x; ids = ids; found = All (c x) })
 
   module _ (h : i < countAt ws a) where
     abbrev x : ℕ
@@ -243,18 +243,18 @@ module _ (up : Bool) (ws : List ℕ) (C : Counts) (a b : ℕ) (f : TwoFunctions 
       unfolding boundAt
       to-first = er
 
-      pub domain-stops : (K : Counts) → r ≡ Nothing K → storedDomain vs (record { ids = replicate 16 0; found = NotAll K }) ≡ boundDomain up ws n e a b i ids
+      pub domain-stops : (K : Counts) → r ≡ Nothing K → domainLeft vs (replicate 16 0) (NotAll K) ≡ boundDomain up ws n e a b i ids
       unfolding domainOf
       domain-stops K z =
           let g = stopped ws n e first vs K (ap (storedAt vs) (sym z) ∙ to-first) in
-          (let w = g .2 in let c = g .3 in λ j. record { words = w j; domain = record { ids = replicate 16 0; found = NotAll (c j) } })
+          (let w = g .2 in let c = g .3 in λ j. record { words = w j; ids = replicate 16 0; found = NotAll (c j) })
           ∙ sym (domain-is ∙ ap (λ O. domainOf ws n e i ids (O then (λ v S. rest S then (λ vs S. made (arg v vs) S)))) (g .1))
 
-      pub domain-ends : r ≡ Full → storedDomain vs (record { ids = replicate 16 0; found = NoRoom }) ≡ boundDomain up ws n e a b i ids
+      pub domain-ends : r ≡ Full → domainLeft vs (replicate 16 0) NoRoom ≡ boundDomain up ws n e a b i ids
       unfolding domainOf
       domain-ends z =
           let g = ended ws n e first vs (ap (storedAt vs) (sym z) ∙ to-first) in
-          (let w = g .2 in λ j. record { words = w j; domain = record { ids = replicate 16 0; found = NoRoom } })
+          (let w = g .2 in λ j. record { words = w j; ids = replicate 16 0; found = NoRoom })
           ∙ sym (domain-is ∙ ap (λ O. domainOf ws n e i ids (O then (λ v S. rest S then (λ vs S. made (arg v vs) S)))) (g .1))
 
       module _ (c : SortId) (K : Counts) (z : r ≡ At c K) where

@@ -20,6 +20,7 @@ use Rattle.resolved_sort.specs.Storage.{maxEntries, partAt, startAt, cou
 use Rattle.resolved_sort.specs.Entries.{countsOf, after, stored}
 use Rattle.resolved_sort.specs.Rows.{Checked, storedAt}
 use Rattle.resolved_sort.specs.Bounds.{Asked, boundAt, internAt}
+use Rattle.resolved_sort.specs.Inner.Storage.{sortNumbers}
 use Rattle.resolved_sort.specs.Inner.Bounds.{TwoFunctions, storedDomain, argumentsFrom, domainOf, boundDomain, functionAt}
 use Rattle.resolved_sort.proofs.Numbers.{look-injective}
 use Rattle.resolved_sort.proofs.Trees.{length-trees}
@@ -44,7 +45,7 @@ pub record ReachedAll (ws : List ℕ) (n e : ℕ) (S₀ : Sorts) (k : ℕ) (O : 
   pub sorts : Sorts
   pub is : O ≡ made args sorts
   pub words : vs ≡ after ws n e sorts
-  pub stored-ids : d .ids ≡ sets (replicate 16 0) 0 (numbers (sorts .trees) args)
+  pub stored-ids : sortNumbers (d .ids) ≡ sets (replicate 16 0) 0 (numbers (sorts .trees) args)
   pub counted : K ≡ countsOf sorts
   pub grown : Grown ws n e sorts
   pub extends : SortsExtend S₀ sorts
@@ -55,36 +56,36 @@ pub reached-all : (ws : List ℕ) (n e : ℕ) (S₀ : Sorts) (k : ℕ) (O : Outc
     → (vs : List ℕ) (d : Domain) (K : Counts) → storedDomain vs d ≡ domainOf ws n e 0 (replicate 16 0) O → d .found ≡ All K → ReachedAll ws n e S₀ k O vs d K
 unfolding SortsKept domainOf
 reached-all ws n e S₀ k (made ts S) h vs d K q z =
-    let a : All K ≡ All (countsOf S) = sym z ∙ ap (λ r. r .domain .found) q in
+    let a : All K ≡ All (countsOf S) = sym z ∙ ap (λ r. r .found) q in
     record {
       args = ts;
       sorts = S;
       is = refl;
       words = ap (λ r. r .words) q;
-      stored-ids = ap (λ r. r .domain .ids) q;
+      stored-ids = ap (λ r. r .ids) q;
       counted = cc;
       grown = h .0;
       extends = h .1;
       inside = h .2 .0;
       as-many = h .2 .1;
     }
-reached-all ws n e S₀ k (nothing S) h vs d K q z = let a : All K ≡ NotAll (countsOf S) = sym z ∙ ap (λ r. r .domain .found) q in no-confusion (cc)
-reached-all ws n e S₀ k (full S) h vs d K q z = let a : All K ≡ NoRoom = sym z ∙ ap (λ r. r .domain .found) q in no-confusion (cc)
+reached-all ws n e S₀ k (nothing S) h vs d K q z = let a : All K ≡ NotAll (countsOf S) = sym z ∙ ap (λ r. r .found) q in no-confusion (cc)
+reached-all ws n e S₀ k (full S) h vs d K q z = let a : All K ≡ NoRoom = sym z ∙ ap (λ r. r .found) q in no-confusion (cc)
 
 pub stopped-all : (ws : List ℕ) (n e : ℕ) (O : Outcome Trees) (vs : List ℕ) (d : Domain) (K : Counts)
     → storedDomain vs d ≡ domainOf ws n e 0 (replicate 16 0) O → d .found ≡ NotAll K
     → (S : Sorts) × (O ≡ nothing S) × (vs ≡ after ws n e S) × (K ≡ countsOf S)
 unfolding domainOf
-stopped-all ws n e (made ts S) vs d K q z = let a : NotAll K ≡ All (countsOf S) = sym z ∙ ap (λ r. r .domain .found) q in no-confusion (cc)
-stopped-all ws n e (nothing S) vs d K q z = let a : NotAll K ≡ NotAll (countsOf S) = sym z ∙ ap (λ r. r .domain .found) q in (S, refl, ap (λ r. r .words) q, cc)
-stopped-all ws n e (full S) vs d K q z = let a : NotAll K ≡ NoRoom = sym z ∙ ap (λ r. r .domain .found) q in no-confusion (cc)
+stopped-all ws n e (made ts S) vs d K q z = let a : NotAll K ≡ All (countsOf S) = sym z ∙ ap (λ r. r .found) q in no-confusion (cc)
+stopped-all ws n e (nothing S) vs d K q z = let a : NotAll K ≡ NotAll (countsOf S) = sym z ∙ ap (λ r. r .found) q in (S, refl, ap (λ r. r .words) q, cc)
+stopped-all ws n e (full S) vs d K q z = let a : NotAll K ≡ NoRoom = sym z ∙ ap (λ r. r .found) q in no-confusion (cc)
 
 pub ended-all : (ws : List ℕ) (n e : ℕ) (O : Outcome Trees) (vs : List ℕ) (d : Domain)
     → storedDomain vs d ≡ domainOf ws n e 0 (replicate 16 0) O → d .found ≡ NoRoom
     → (S : Sorts) × (O ≡ full S) × (vs ≡ after ws n e S)
 unfolding domainOf
-ended-all ws n e (made ts S) vs d q z = let a : NoRoom ≡ All (countsOf S) = sym z ∙ ap (λ r. r .domain .found) q in no-confusion (cc)
-ended-all ws n e (nothing S) vs d q z = let a : NoRoom ≡ NotAll (countsOf S) = sym z ∙ ap (λ r. r .domain .found) q in no-confusion (cc)
+ended-all ws n e (made ts S) vs d q z = let a : NoRoom ≡ All (countsOf S) = sym z ∙ ap (λ r. r .found) q in no-confusion (cc)
+ended-all ws n e (nothing S) vs d q z = let a : NoRoom ≡ NotAll (countsOf S) = sym z ∙ ap (λ r. r .found) q in no-confusion (cc)
 ended-all ws n e (full S) vs d q z = (S, refl, ap (λ r. r .words) q)
 
 -- the ids that were stored are the numbers of the answers
@@ -255,7 +256,7 @@ module _ (up : Bool) (ws : List ℕ) (C : Counts) (a b : ℕ) (f : TwoFunctions 
           arguments-count =
               length-numbers (S₁ .trees) (there .args) ∙ (there .as-many ∙ (arity-run ws T (startAt ws a + 0) (countAt ws a - 0) ∙ sub-zero (countAt ws a)))
 
-          ids-are : take (countAt ws a) (d .ids) ≡ numbers (S₁ .trees) (there .args)
+          ids-are : take (countAt ws a) (sortNumbers (d .ids)) ≡ numbers (S₁ .trees) (there .args)
           ids-are =
               ap₂ take (sym arguments-count) (there .stored-ids)
               ∙ first-ids (numbers (S₁ .trees) (there .args)) (omega (arith, arguments-count, few-arguments ws n e k a (f .asked .lhs) (f .lhs-function)))
@@ -270,7 +271,7 @@ module _ (up : Bool) (ws : List ℕ) (C : Counts) (a b : ℕ) (f : TwoFunctions 
                 length-append (S₁ .trees) (then-there .extends .0),
               )
 
-          pub function-ids-below : AllBelow (K₂ .sorts) (take (countAt ws a) (d .ids))
+          pub function-ids-below : AllBelow (K₂ .sorts) (take (countAt ws a) (sortNumbers (d .ids)))
           function-ids-below =
               subst (AllBelow (K₂ .sorts)) (sym ids-are)
               (weaken-all n₁ (K₂ .sorts) (numbers (S₁ .trees) (there .args)) sorts-grow (numbers-below (S₁ .trees) (there .args) (there .inside)))
@@ -278,7 +279,7 @@ module _ (up : Bool) (ws : List ℕ) (C : Counts) (a b : ℕ) (f : TwoFunctions 
           members-there : members (S₂ .trees) (there .args) ≡ true
           members-there = members-extends S₁ S₂ (there .args) (then-there .extends) (there .inside)
 
-          args-there : lookAll (trees us (K₂ .sorts)) (take (countAt ws a) (d .ids)) ≡ there .args
+          args-there : lookAll (trees us (K₂ .sorts)) (take (countAt ws a) (sortNumbers (d .ids))) ≡ there .args
           args-there =
               ap₂ lookAll (reached-trees w₁ n₁ e₁ S₁ (range S₁) us c K₂ then-there)
               (ids-are ∙ sym (numbers-extend S₁ S₂ (there .args) (then-there .extends) (there .inside)))
@@ -301,7 +302,7 @@ module _ (up : Bool) (ws : List ℕ) (C : Counts) (a b : ℕ) (f : TwoFunctions 
 
           pub function-made : (zs : List ℕ) (w : Joined)
               → storedAt zs w ≡ internAt us (K₂ .sorts) (K₂ .entries) (function (lookAll (trees us (K₂ .sorts))
-              (take (countAt ws a) (d .ids))) (look (trees us (K₂ .sorts)) (c .0)))
+              (take (countAt ws a) (sortNumbers (d .ids)))) (look (trees us (K₂ .sorts)) (c .0)))
               → storedAt zs w ≡ functionAt up ws n e a b
           unfolding need
           function-made zs w g =

@@ -27,6 +27,7 @@ pub mod Made
 pub mod Reached
 pub mod Stored
 pub mod BoundsCode
+pub mod SortNumbers
 pub mod DomainCode
 pub mod FunctionCode
 pub mod GivenBack

@@ -137,7 +137,7 @@ pub enum Found {
 
 // The joins or meets of two domains, where there are all of them.
 pub struct Domain {
-    pub ids: [u16; ARGUMENT_WORDS],
+    pub ids: [SortId; ARGUMENT_WORDS],
     pub found: Found,
 }
 

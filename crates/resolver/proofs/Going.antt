@@ -18,7 +18,9 @@ use Rattle.resolved_sort.specs.Interning.{look}
 use Rattle.resolved_sort.specs.Storage.{trees, lookAll}
 use Rattle.resolved_sort.specs.Rows.{Checked, AllBelow, storedAt}
 use Rattle.resolved_sort.specs.Bounds.{internAt}
-use Rattle.resolved_sort.specs.Inner.Bounds.{storedDomain}
+use Rattle.resolved_sort.specs.Inner.Storage.{sortNumbers}
+use Rattle.resolved_sort.specs.Inner.Bounds.{domainLeft, storedDomain}
+use Rattle.resolved_sort.proofs.SortNumbers.{set-sortNumbers, zeros-sortNumbers}
 use Rattle.unification.specs.declared.Lengths.{Lengths}
 use Rattle.unification.specs.declared.Default.{Default}
 use Rattle.unification.specs.Term.{functionHead, Term, app, Terms}
@@ -42,18 +44,18 @@ abbrev countsIn : Lengths → Counts
 countsIn k = record { sorts = k .sorts; entries = k .entries }
 
 -- before the i-th argument; ₀ marks what was at entry
-pub record Going (ns bs : List ℕ) (x : Default) (s m g : ℕ) (ws₀ : List ℕ) (k₀ : Lengths) (ws ids : List ℕ) (k : Lengths) (i : ℕ) : Type 0 where
+pub record Going (ns bs : List ℕ) (x : Default) (s m g : ℕ) (ws₀ : List ℕ) (k₀ : Lengths) (ws : List ℕ) (ids : List SortId) (k : Lengths) (i : ℕ) : Type 0 where
   pub entered : Ready ws₀ ns bs k₀ × DefaultBelow (k₀ .sorts) x × RunPlaced ns k₀ s m × Placed k₀ g
   pub ready : Ready ws ns bs k × DefaultBelow (k .sorts) x × RunPlaced ns k (s + i) (m - i)
   pub within : i ≤ m
   pub counted : k ≡ withCounts k₀ (record { sorts = k .sorts; entries = k .entries })
   pub long : length ws ≡ length ws₀
   pub smaller : sizes (argumentTerms ws ns bs k (s + i) (m - i)) ≤ sizes (argumentTerms ws₀ ns bs k₀ s m)
-  pub same : argumentsResolved ws k x (argumentTerms ws ns bs k (s + i) (m - i)) i ids ≡ argumentsResolved ws₀ k₀ x
+  pub same : argumentsResolved ws k x (argumentTerms ws ns bs k (s + i) (m - i)) i (sortNumbers ids) ≡ argumentsResolved ws₀ k₀ x
       (argumentTerms ws₀ ns bs k₀ s m) 0 (replicate 16 0)
 
 pub start : (ws ns bs : List ℕ) (k : Lengths) (x : Default) (s m g : ℕ) → Ready ws ns bs k × DefaultBelow (k .sorts) x × RunPlaced ns k s m × Placed k g
-    → Going ns bs x s m g ws k ws (replicate 16 0) k 0
+    → Going ns bs x s m g ws k ws (replicate 16 (record { 0 = 0 })) k 0
 start ws ns bs k x s m g p = record {
   entered = p;
   ready = (p .0, p .1, simp unary-clauses (p .2));
@@ -61,10 +63,10 @@ start ws ns bs k x s m g p = record {
   counted = refl;
   long = refl;
   smaller = simp unary-clauses (omega arith);
-  same = simp unary-clauses;
+  same = rw (zeros-sortNumbers 16) (simp unary-clauses);
 }
 
-module _ (ns bs : List ℕ) (x : Default) (s m g : ℕ) (ws₀ : List ℕ) (k₀ : Lengths) (ws ids : List ℕ) (k : Lengths)
+module _ (ns bs : List ℕ) (x : Default) (s m g : ℕ) (ws₀ : List ℕ) (k₀ : Lengths) (ws : List ℕ) (ids : List SortId) (k : Lengths)
     (i : ℕ) (G : Going ns bs x s m g ws₀ k₀ ws ids k i) where
   parts : sizes (argumentTerms ws₀ ns bs k₀ s m) + size (valueIn ws₀ ns bs k₀ g) < size (functionTerm ws₀ ns bs k₀ s m g)
   parts = omega (arith, law.function-parts ws₀ ns bs k₀ (G .entered .0) x (G .entered .1) s m g (G .entered .2) (G .entered .3))
@@ -81,27 +83,27 @@ module _ (ns bs : List ℕ) (x : Default) (s m g : ℕ) (ws₀ : List ℕ) (k₀
 
     module _ (a : ℕ) (ea : a ≡ nodeEntryAt ns (s + i)) where
       pub argument-ready : Ready ws ns bs k × DefaultBelow (k .sorts) x × Placed k a
-      argument-ready = (G .ready .0, G .ready .1, law.first-placed ws ns bs k (G .ready .0) x (G .ready .1) (s + i) (m - i) i (G .ready .2) ids left a ea)
+      argument-ready = (G .ready .0, G .ready .1, law.first-placed ws ns bs k (G .ready .0) x (G .ready .1) (s + i) (m - i) i (G .ready .2) (sortNumbers ids) left a ea)
 
       pub argument-falls : size (valueIn ws ns bs k a) < size (functionTerm ws₀ ns bs k₀ s m g)
-      argument-falls = omega (arith, parts, G .smaller, law.first-falls ws ns bs k (G .ready .0) x (G .ready .1) (s + i) (m - i) i (G .ready .2) ids left a ea)
+      argument-falls = omega (arith, parts, G .smaller, law.first-falls ws ns bs k (G .ready .0) x (G .ready .1) (s + i) (m - i) i (G .ready .2) (sortNumbers ids) left a ea)
 
       module _ (vs : List ℕ) (w : Joined) (ew : storedAt vs w ≡ termResolved ws k x (valueIn ws ns bs k a)) where
         pub argument-stops : (K : Counts) → w ≡ Nothing K → storedAt vs (Nothing K) ≡ termResolved ws₀ k₀ x (functionTerm ws₀ ns bs k₀ s m g)
         argument-stops K z =
             law.function-stops ws₀ ns bs k₀ (G .entered .0) x (G .entered .1) s m g (G .entered .2) (G .entered .3) vs
-            (record { ids = replicate 16 0; found = NotAll K })
-            (law.arguments-stop ws ns bs k (G .ready .0) x (G .ready .1) (s + i) (m - i) i (G .ready .2) ids left a ea vs w ew K z ∙ G .same)
+            (record { ids = replicate 16 (record { 0 = 0 }); found = NotAll K })
+            (ap (λ l. domainLeft vs l (NotAll K)) (zeros-sortNumbers 16) ∙ law.arguments-stop ws ns bs k (G .ready .0) x (G .ready .1) (s + i) (m - i) i (G .ready .2) (sortNumbers ids) left a ea vs w ew K z ∙ G .same)
             K refl
 
         pub argument-ends : w ≡ Full → storedAt vs Full ≡ termResolved ws₀ k₀ x (functionTerm ws₀ ns bs k₀ s m g)
         argument-ends z =
             law.function-ends ws₀ ns bs k₀ (G .entered .0) x (G .entered .1) s m g (G .entered .2) (G .entered .3) vs
-            (record { ids = replicate 16 0; found = NoRoom })
-            (law.arguments-end ws ns bs k (G .ready .0) x (G .ready .1) (s + i) (m - i) i (G .ready .2) ids left a ea vs w ew z ∙ G .same) refl
+            (record { ids = replicate 16 (record { 0 = 0 }); found = NoRoom })
+            (ap (λ l. domainLeft vs l NoRoom) (zeros-sortNumbers 16) ∙ law.arguments-end ws ns bs k (G .ready .0) x (G .ready .1) (s + i) (m - i) i (G .ready .2) (sortNumbers ids) left a ea vs w ew z ∙ G .same) refl
 
         pub next : length vs ≡ length ws → (c : SortId) (K : Counts) → w ≡ At c K → (k′ : Lengths)
-            → k′ ≡ withCounts k K → Going ns bs x s m g ws₀ k₀ vs (set ids i (c .0)) k′ (i + 1)
+            → k′ ≡ withCounts k K → Going ns bs x s m g ws₀ k₀ vs (set ids i c) k′ (i + 1)
         next l c K z k′ ek = record {
           entered = G .entered;
           ready = (
@@ -114,11 +116,11 @@ module _ (ns bs : List ℕ) (x : Default) (s m g : ℕ) (ws₀ : List ℕ) (k₀
           counted = rw ek (ap (λ (y : Lengths). withCounts y K) (G .counted));
           long = l ∙ G .long;
           smaller = omega (arith, G .smaller, ap sizes moved, falls, same-sizes);
-          same = ap (λ ts. argumentsResolved vs k′ x ts (i + 1) (set ids i (c .0))) (sym moved) ∙ (on ∙ G .same);
+          same = ap₂ (λ ts l. argumentsResolved vs k′ x ts (i + 1) l) (sym moved) (set-sortNumbers ids i c) ∙ (on ∙ G .same);
         }
           where
             there : Ready vs ns bs k′ × DefaultBelow (k′ .sorts) x × RunPlaced ns k′ (s + i + 1) (m - i - 1)
-            there = law.rest-ready ws ns bs k (G .ready .0) x (G .ready .1) (s + i) (m - i) i (G .ready .2) ids left a ea vs w ew c K z k′ ek
+            there = law.rest-ready ws ns bs k (G .ready .0) x (G .ready .1) (s + i) (m - i) i (G .ready .2) (sortNumbers ids) left a ea vs w ew c K z k′ ek
 
             further : s + i + 1 ≡ s + (i + 1)
             further = omega arith
@@ -130,14 +132,14 @@ module _ (ns bs : List ℕ) (x : Default) (s m g : ℕ) (ws₀ : List ℕ) (k₀
             moved = ap₂ (λ (j n : ℕ). argumentTerms vs ns bs k′ j n) further fewer
 
             falls : size (valueIn ws ns bs k a) + sizes (argumentTerms ws ns bs k (s + i + 1) (m - i - 1)) ≡ sizes (argumentTerms ws ns bs k (s + i) (m - i))
-            falls = law.first-falls ws ns bs k (G .ready .0) x (G .ready .1) (s + i) (m - i) i (G .ready .2) ids left a ea
+            falls = law.first-falls ws ns bs k (G .ready .0) x (G .ready .1) (s + i) (m - i) i (G .ready .2) (sortNumbers ids) left a ea
 
             same-sizes : sizes (argumentTerms vs ns bs k′ (s + i + 1) (m - i - 1)) ≡ sizes (argumentTerms ws ns bs k (s + i + 1) (m - i - 1))
-            same-sizes = law.rest-same ws ns bs k (G .ready .0) x (G .ready .1) (s + i) (m - i) i (G .ready .2) ids left a ea vs w ew c K z k′ ek
+            same-sizes = law.rest-same ws ns bs k (G .ready .0) x (G .ready .1) (s + i) (m - i) i (G .ready .2) (sortNumbers ids) left a ea vs w ew c K z k′ ek
 
             on : argumentsResolved vs k′ x (argumentTerms vs ns bs k′ (s + i + 1) (m - i - 1)) (i + 1)
-                (set ids i (c .0)) ≡ argumentsResolved ws k x (argumentTerms ws ns bs k (s + i) (m - i)) i ids
-            on = law.arguments-made ws ns bs k (G .ready .0) x (G .ready .1) (s + i) (m - i) i (G .ready .2) ids left a ea vs w ew c K z k′ ek
+                (set (sortNumbers ids) i (c .0)) ≡ argumentsResolved ws k x (argumentTerms ws ns bs k (s + i) (m - i)) i (sortNumbers ids)
+            on = law.arguments-made ws ns bs k (G .ready .0) x (G .ready .1) (s + i) (m - i) i (G .ready .2) (sortNumbers ids) left a ea vs w ew c K z k′ ek
 
   -- no argument is left: the range, and the whole
   module _ (h : m ≤ i) where
@@ -145,7 +147,7 @@ module _ (ns bs : List ℕ) (x : Default) (s m g : ℕ) (ws₀ : List ℕ) (k₀
     all = record { ids = ids; found = All (countsIn k) }
 
     made : storedDomain ws all ≡ argumentsResolved ws₀ k₀ x (argumentTerms ws₀ ns bs k₀ s m) 0 (replicate 16 0)
-    made = law.no-arguments ws ns bs k (G .ready .0) x (G .ready .1) (s + i) (m - i) i (G .ready .2) ids (omega (arith, h)) (countsIn k) refl ∙ G .same
+    made = law.no-arguments ws ns bs k (G .ready .0) x (G .ready .1) (s + i) (m - i) i (G .ready .2) (sortNumbers ids) (omega (arith, h)) (countsIn k) refl ∙ G .same
 
     pub range-ready : Ready ws ns bs k × DefaultBelow (k .sorts) x × Placed k g
     range-ready = law.range-ready ws₀ ns bs k₀ (G .entered .0) x (G .entered .1) s m g (G .entered .2) (G .entered .3)
@@ -170,12 +172,12 @@ module _ (ns bs : List ℕ) (x : Default) (s m g : ℕ) (ws₀ : List ℕ) (k₀
           ws all made (countsIn k) refl k (G .counted) vs w ew
 
       module _ (c : SortId) (K : Counts) (z : w ≡ At c K) where
-        pub function-asked : Checked vs (K .sorts) (K .entries) × (c .0 < K .sorts) × (m ≤ 16) × AllBelow (K .sorts) (take m ids)
+        pub function-asked : Checked vs (K .sorts) (K .entries) × (c .0 < K .sorts) × (m ≤ 16) × AllBelow (K .sorts) (take m (sortNumbers ids))
         function-asked = law.function-asked ws₀ ns bs k₀ (G .entered .0) x (G .entered .1) s m g (G .entered .2)
             (G .entered .3) ws all made (countsIn k) refl k (G .counted) vs w ew c K z
 
         pub function-made : (us : List ℕ) (v : Joined)
-            → storedAt us v ≡ internAt vs (K .sorts) (K .entries) (function (lookAll (trees vs (K .sorts)) (take m ids)) (look (trees vs (K .sorts)) (c .0)))
+            → storedAt us v ≡ internAt vs (K .sorts) (K .entries) (function (lookAll (trees vs (K .sorts)) (take m (sortNumbers ids))) (look (trees vs (K .sorts)) (c .0)))
             → storedAt us v ≡ termResolved ws₀ k₀ x (functionTerm ws₀ ns bs k₀ s m g)
         function-made = law.function-made ws₀ ns bs k₀ (G .entered .0) x (G .entered .1) s m g (G .entered .2)
             (G .entered .3) ws all made (countsIn k) refl k (G .counted) vs w ew c K z

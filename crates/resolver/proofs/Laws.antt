@@ -20,7 +20,8 @@ use Rattle.resolved_sort.specs.Storage.{maxSorts, trees, sortsOf, lookAll}
 use Rattle.resolved_sort.specs.Entries.{countsOf, after, stored}
 use Rattle.resolved_sort.specs.Rows.{Checked, AllBelow, storedAt}
 use Rattle.resolved_sort.specs.Bounds.{internAt}
-use Rattle.resolved_sort.specs.Inner.Bounds.{StoredDomain, storedDomain, domainOf}
+use Rattle.resolved_sort.specs.Inner.Storage.{sortNumbers}
+use Rattle.resolved_sort.specs.Inner.Bounds.{StoredDomain, domainLeft, storedDomain, domainOf}
 use Rattle.resolved_sort.proofs.Numbers.{member-look}
 use Rattle.resolved_sort.proofs.Trees.{length-trees}
 use Rattle.resolved_sort.specs.Growing.{Grown}
@@ -114,11 +115,11 @@ module _ (ws ns bs : List ℕ) (k : Lengths) (q : Ready ws ns bs k) (x : Default
     end-placed : Placed k end
     end-placed = ways.end-is-placed ws ns bs k q p end i f
 
-    pub sort-found : end < maxSorts → (c : Counts) → c ≡ C → storedAt ws (At (record { 0 = end }) c) ≡ termResolved ws k x (val p)
+    pub sort-found : end < maxSorts → (s : SortId) → s .0 ≡ end → (c : Counts) → c ≡ C → storedAt ws (At s c) ≡ termResolved ws k x (val p)
     unfolding termResolved
-    sort-found l c y =
+    sort-found l s es c y =
         let b = sort-below (k .sorts) (k .nodes) end l end-placed in
-        ap (λ z. storedAt ws (At (record { 0 = end }) z)) y
+        ap₂ (λ (m : ℕ) (z : Counts). storedAt ws (At (record { 0 = m }) z)) es y
         ∙ (answer-old ws C checked (record { 0 = end }) b
         ∙ ap (stored ws n e)
         (sym (ap (λ t. resolveTerm X t S) (value-followed ws n e ns (k .nodes) (k .arguments) (k .variables) (q .nodes) B (q .binds) p end f)
@@ -266,10 +267,10 @@ module _ (ws ns bs : List ℕ) (k : Lengths) (q : Ready ws ns bs k) (x : Default
     abbrev run : Terms
     run = termsAt val (nodeEntriesOf ns s m)
 
-    pub no-arguments : m ≡ 0 → (c : Counts) → c ≡ C → storedDomain ws (record { ids = ids; found = All c }) ≡ argumentsResolved ws k x run t ids
+    pub no-arguments : m ≡ 0 → (c : Counts) → c ≡ C → domainLeft ws ids (All c) ≡ argumentsResolved ws k x run t ids
     unfolding argumentsResolved nodeEntriesOf
     no-arguments z c y =
-        ap (λ d. storedDomain ws (record { ids = ids; found = All d })) y
+        ap (λ d. domainLeft ws ids (All d)) y
         ∙ (code.arguments-done ws C checked X default-in t ids
         ∙ ap (λ (a : ℕ). domainOf ws n e t ids (resolveArguments X (termsAt val (nodeEntriesOf ns s a)) S)) (sym z))
 
@@ -305,11 +306,11 @@ module _ (ws ns bs : List ℕ) (k : Lengths) (q : Ready ws ns bs k) (x : Default
         back = ap (λ ts. argumentsResolved ws k x ts t ids) (sym first-and-rest)
 
         pub arguments-stop : (K : Counts) → w ≡ Nothing K
-            → storedDomain vs (record { ids = replicate 16 0; found = NotAll K }) ≡ argumentsResolved ws k x run t ids
+            → domainLeft vs (replicate 16 0) (NotAll K) ≡ argumentsResolved ws k x run t ids
         unfolding argumentsResolved
         arguments-stop K z = code.arguments-stop ws C checked X default-in (val a) (formed a first-here) vs w ew′ rest t ids K z ∙ back
 
-        pub arguments-end : w ≡ Full → storedDomain vs (record { ids = replicate 16 0; found = NoRoom }) ≡ argumentsResolved ws k x run t ids
+        pub arguments-end : w ≡ Full → domainLeft vs (replicate 16 0) NoRoom ≡ argumentsResolved ws k x run t ids
         unfolding argumentsResolved
         arguments-end z = code.arguments-end ws C checked X default-in (val a) (formed a first-here) vs w ew′ rest t ids z ∙ back
 
@@ -332,7 +333,7 @@ module _ (ws ns bs : List ℕ) (k : Lengths) (q : Ready ws ns bs k) (x : Default
           unfolding argumentsResolved
           arguments-made =
               code.arguments-made ws C checked X default-in (val a) (formed a first-here) vs w ew′ c K z rest
-              (run-formed (s + 1) (m - 1) rest-run) t ids (there .words) (there .domain)
+              (run-formed (s + 1) (m - 1) rest-run) t ids there
               (arguments-left (reached .sorts) (reached .grown) vs K (reached .words) (reached .counted) k′ ek (s + 1)
               (m - 1) rest-run (t + 1) (set ids t (c .0)))
               ∙ back
@@ -398,21 +399,21 @@ module _ (ws ns bs : List ℕ) (k : Lengths) (q : Ready ws ns bs k) (x : Default
           range-ends y = code.range-ends ws C checked X default-in ts (run-formed s m r) few (val g) (formed g i) vs a ed K z us w ew″ y ∙ to-whole
 
           module _ (c : SortId) (K₂ : Counts) (y : w ≡ At c K₂) where
-            pub function-asked : Checked us (K₂ .sorts) (K₂ .entries) × (c .0 < K₂ .sorts) × (m ≤ 16) × AllBelow (K₂ .sorts) (take m (a .ids))
+            pub function-asked : Checked us (K₂ .sorts) (K₂ .entries) × (c .0 < K₂ .sorts) × (m ≤ 16) × AllBelow (K₂ .sorts) (take m (sortNumbers (a .ids)))
             function-asked = (
               code.function-checked ws C checked X default-in ts (run-formed s m r) few (val g) (formed g i) vs a ed K z us w ew″ c K₂ y,
               code.function-range-below ws C checked X default-in ts (run-formed s m r) few (val g) (formed g i) vs a ed K z us w ew″ c K₂ y,
               r .short,
-              subst (λ (j : ℕ). AllBelow (K₂ .sorts) (take j (a .ids))) (run-count s m)
+              subst (λ (j : ℕ). AllBelow (K₂ .sorts) (take j (sortNumbers (a .ids)))) (run-count s m)
                   (code.function-ids-below ws C checked X default-in ts (run-formed s m r) few (val g) (formed g i) vs a ed K z us w ew″ c K₂ y),
             )
 
             pub function-made : (zs : List ℕ) (v : Joined)
                 → storedAt zs v ≡ internAt us (K₂ .sorts) (K₂ .entries) (function (lookAll (trees us (K₂ .sorts))
-                (take m (a .ids))) (look (trees us (K₂ .sorts)) (c .0)))
+                (take m (sortNumbers (a .ids)))) (look (trees us (K₂ .sorts)) (c .0)))
                 → storedAt zs v ≡ termResolved ws k x term-of-function
             function-made zs v h =
                 code.function-made ws C checked X default-in ts (run-formed s m r) few (val g) (formed g i) vs a ed K z us w ew″ c K₂ y zs v
                 (h ∙ ap (λ (j : ℕ). internAt us (K₂ .sorts) (K₂ .entries) (function (lookAll (trees us (K₂ .sorts))
-                (take j (a .ids))) (look (trees us (K₂ .sorts)) (c .0)))) (sym (run-count s m)))
+                (take j (sortNumbers (a .ids)))) (look (trees us (K₂ .sorts)) (c .0)))) (sym (run-count s m)))
                 ∙ to-whole

@@ -4,6 +4,7 @@ use infer_nodes::argument;
 use infer_nodes::counts_of;
 use infer_nodes::node;
 use infer_nodes::shallow_normalize;
+use infer_nodes::taken_apart;
 use infer_nodes::with_counts;
 use resolved_sort::ARGUMENT_WORDS;
 use resolved_sort::Counts;
@@ -13,11 +14,10 @@ use resolved_sort::SortId;
 use sort_interner::function;
 use sort_interner::generic;
 use unification::Default;
-use unification::FIRST_NODE;
 use unification::InferSort;
 use unification::InferSortId;
 use unification::Lengths;
-use unification::NodeId;
+use unification::Place;
 ghost use mathlib.Core.Path.{_≡_};
 ghost use mathlib.Core.List.{[], _∷_, _++_};
 ghost use Prim.Native.Nat.{_<_};
@@ -104,32 +104,32 @@ fn resolve_with(
         ⌝ }
 {
     let end = shallow_normalize(sorts, nodes, binds, lengths, id);
-    if end.0 < FIRST_NODE {
-        return Joined::At(SortId(end.0), counts_of(lengths));
-    }
-    match node(nodes, NodeId(end.0 - FIRST_NODE)) {
-        InferSort::Generic { op, subsort } => match resolve_with(
-            sorts,
-            nodes,
-            binds,
-            lengths,
-            default,
-            subsort,
-        ) {
-            Joined::At(part, made) => generic(sorts, made, op, part),
-            Joined::Nothing(made) => Joined::Nothing(made),
-            Joined::Full => Joined::Full,
+    match taken_apart(end) {
+        Place::Sort(sort) => Joined::At(sort, counts_of(lengths)),
+        Place::Node(at) => match node(nodes, at) {
+            InferSort::Generic { op, subsort } => match resolve_with(
+                sorts,
+                nodes,
+                binds,
+                lengths,
+                default,
+                subsort,
+            ) {
+                Joined::At(part, made) => generic(sorts, made, op, part),
+                Joined::Nothing(made) => Joined::Nothing(made),
+                Joined::Full => Joined::Full,
+            },
+            InferSort::Function { domain, range } => resolve_function(
+                sorts,
+                nodes,
+                binds,
+                lengths,
+                default,
+                domain,
+                range,
+            ),
+            InferSort::Var(_) => free_sort(counts_of(lengths), default),
         },
-        InferSort::Function { domain, range } => resolve_function(
-            sorts,
-            nodes,
-            binds,
-            lengths,
-            default,
-            domain,
-            range,
-        ),
-        InferSort::Var(_) => free_sort(counts_of(lengths), default),
     }
 }
 
@@ -160,14 +160,14 @@ fn resolve_function(
 {
     let start = domain.start;
     let count = domain.count;
-    let mut ids = [0u16; ARGUMENT_WORDS];
+    let mut ids = [SortId(0); ARGUMENT_WORDS];
     let mut here = lengths;
     let mut i = 0u16;
     while i < count {
         let next = argument(nodes, start + i);
         match resolve_with(sorts, nodes, binds, here, default, next) {
             Joined::At(id, made) => {
-                ids[i as usize] = id.0;
+                ids[i as usize] = id;
                 here = with_counts(here, made);
             }
             Joined::Nothing(made) => {

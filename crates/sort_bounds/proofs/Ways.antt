@@ -23,7 +23,9 @@ use Rattle.resolved_sort.specs.Storage.{trees, lookAll, countAt, startAt, partA
 use Rattle.resolved_sort.specs.Rows.{Checked, AllBelow, storedAt}
 use Rattle.resolved_sort.specs.Inner.Pairs.{pairAt}
 use Rattle.resolved_sort.specs.Bounds.{Asked, boundAt, internAt}
-use Rattle.resolved_sort.specs.Inner.Bounds.{containerAt, functionAt, sideOf, TwoFunctions, storedDomain, boundDomain}
+use Rattle.resolved_sort.specs.Inner.Bounds.{containerAt, functionAt, sideOf, TwoFunctions, domainLeft, storedDomain, boundDomain}
+use Rattle.resolved_sort.specs.Inner.Storage.{sortNumbers}
+use Rattle.resolved_sort.proofs.SortNumbers.{set-sortNumbers, zeros-sortNumbers}
 use Rattle.resolved_sort.proofs.Pairs.{SortsSay, OfPrimitives, OfContainers, pair-of-sorts}
 use Rattle.resolved_sort.proofs.BoundsCode as law
 use Rattle.resolved_sort.proofs.DomainCode as domain
@@ -78,9 +80,9 @@ module _ (ws : List ℕ) (C : Counts) (up : Bool) (a b : SortId) (q : Asked ws (
 
 -- The arguments of two functions from the i-th on, as `bound_domain` reads them.
 module _ (ws : List ℕ) (C : Counts) (up : Bool) (a b : ℕ) (f : TwoFunctions ws (C .sorts) (C .entries) a b) (i : ℕ)
-    (hi : i ≤ countAt ws a) (ids : List ℕ) (count : ℕ) (ec : count ≡ countAt ws a) where
-  pub domain-done : i ≡ count → storedDomain ws (record { ids = ids; found = All C }) ≡ boundDomain (not up) ws (C .sorts) (C .entries) a b i ids
-  domain-done e = domain.domain-done (not up) ws C a b f i ids (e ∙ ec)
+    (hi : i ≤ countAt ws a) (ids : List SortId) (count : ℕ) (ec : count ≡ countAt ws a) where
+  pub domain-done : i ≡ count → storedDomain ws (record { ids = ids; found = All C }) ≡ boundDomain (not up) ws (C .sorts) (C .entries) a b i (sortNumbers ids)
+  domain-done e = domain.domain-done (not up) ws C a b f i (sortNumbers ids) (e ∙ ec)
 
   module _ (ne : i ≡ count → ⊥) where
     pub one-left : i < countAt ws a
@@ -91,40 +93,45 @@ module _ (ws : List ℕ) (C : Counts) (up : Bool) (a b : ℕ) (f : TwoFunctions 
 
     module _ (l r : SortId) (el : l .0 ≡ entryAt ws (startAt ws a + i)) (er : r .0 ≡ entryAt ws (startAt ws b + i)) where
       pub arguments-asked : Asked ws (C .sorts) (C .entries) (l .0) (r .0)
-      arguments-asked = rw (el, er) (domain.arguments-asked (not up) ws C a b f i ids one-left)
+      arguments-asked = rw (el, er) (domain.arguments-asked (not up) ws C a b f i (sortNumbers ids) one-left)
 
       pub arguments-smaller : l .0 + r .0 + 2 ≤ a + b
       arguments-smaller =
-          omega (arith, el, er, domain.x-below (not up) ws C a b f i ids one-left, domain.y-below (not up) ws C a b f i ids one-left)
+          omega (arith, el, er, domain.x-below (not up) ws C a b f i (sortNumbers ids) one-left, domain.y-below (not up) ws C a b f i (sortNumbers ids) one-left)
 
       module _ (vs : List ℕ) (j : Joined) (ej : storedAt vs j ≡ boundAt (not up) ws (C .sorts) (C .entries) (l .0) (r .0)) where
         by-entries : storedAt vs j ≡ boundAt (not up) ws (C .sorts) (C .entries) (entryAt ws (startAt ws a + i)) (entryAt ws (startAt ws b + i))
         by-entries = ej ∙ ap₂ (boundAt (not up) ws (C .sorts) (C .entries)) el er
 
         pub domain-stops : (K : Counts) → j ≡ Nothing K
-            → storedDomain vs (record { ids = replicate 16 0; found = NotAll K }) ≡ boundDomain (not up) ws (C .sorts)
-            (C .entries) a b i ids
-        domain-stops = domain.domain-stops (not up) ws C a b f i ids one-left vs j by-entries
+            → storedDomain vs (record { ids = replicate 16 (record { 0 = 0 }); found = NotAll K }) ≡ boundDomain (not up) ws (C .sorts)
+            (C .entries) a b i (sortNumbers ids)
+        domain-stops K z = ap (λ l. domainLeft vs l (NotAll K)) (zeros-sortNumbers 16) ∙ domain.domain-stops (not up) ws C a b f i (sortNumbers ids) one-left vs j by-entries K z
 
-        pub domain-ends : j ≡ Full → storedDomain vs (record { ids = replicate 16 0; found = NoRoom }) ≡ boundDomain
-            (not up) ws (C .sorts) (C .entries) a b i ids
-        domain-ends = domain.domain-ends (not up) ws C a b f i ids one-left vs j by-entries
+        pub domain-ends : j ≡ Full → storedDomain vs (record { ids = replicate 16 (record { 0 = 0 }); found = NoRoom }) ≡ boundDomain
+            (not up) ws (C .sorts) (C .entries) a b i (sortNumbers ids)
+        domain-ends z = ap (λ l. domainLeft vs l NoRoom) (zeros-sortNumbers 16) ∙ domain.domain-ends (not up) ws C a b f i (sortNumbers ids) one-left vs j by-entries z
 
         module _ (c : SortId) (K : Counts) (z : j ≡ At c K) where
           pub domain-next : TwoFunctions vs (K .sorts) (K .entries) a b × (i + 1 ≤ countAt vs a)
           domain-next = (
-            domain.domain-next (not up) ws C a b f i ids one-left vs j by-entries c K z,
-            omega (arith, one-left, domain.count-unchanged (not up) ws C a b f i ids one-left vs j by-entries c K z),
+            domain.domain-next (not up) ws C a b f i (sortNumbers ids) one-left vs j by-entries c K z,
+            omega (arith, one-left, domain.count-unchanged (not up) ws C a b f i (sortNumbers ids) one-left vs j by-entries c K z),
           )
 
-          pub domain-made : (us : List ℕ) (d : Domain) → storedDomain us d ≡ boundDomain (not up) vs (K .sorts) (K .entries) a b (i + 1) (set ids i (c .0))
-              → storedDomain us d ≡ boundDomain (not up) ws (C .sorts) (C .entries) a b i ids
-          domain-made = domain.domain-made (not up) ws C a b f i ids one-left vs j by-entries c K z
+          pub domain-made : (us : List ℕ) (d : Domain) → storedDomain us d ≡ boundDomain (not up) vs (K .sorts) (K .entries) a b (i + 1) (sortNumbers (set ids i c))
+              → storedDomain us d ≡ boundDomain (not up) ws (C .sorts) (C .entries) a b i (sortNumbers ids)
+          domain-made us d q =
+              domain.domain-made (not up) ws C a b f i (sortNumbers ids) one-left vs j by-entries c K z us d
+              (q ∙ ap (boundDomain (not up) vs (K .sorts) (K .entries) a b (i + 1)) (set-sortNumbers ids i c))
 
 -- Two functions, as `bound_function` reads them.
 module _ (ws : List ℕ) (C : Counts) (up : Bool) (a b : ℕ) (f : TwoFunctions ws (C .sorts) (C .entries) a b)
     (pa pb : SortId) (ea : pa .0 ≡ partAt ws a) (eb : pb .0 ≡ partAt ws b) (count : ℕ) (ec : count ≡ countAt ws a)
-    (vs : List ℕ) (d : Domain) (q : storedDomain vs d ≡ boundDomain (not up) ws (C .sorts) (C .entries) a b 0 (replicate 16 0)) where
+    (vs : List ℕ) (d : Domain) (q₀ : storedDomain vs d ≡ boundDomain (not up) ws (C .sorts) (C .entries) a b 0 (sortNumbers (replicate 16 (record { 0 = 0 })))) where
+  q : storedDomain vs d ≡ boundDomain (not up) ws (C .sorts) (C .entries) a b 0 (replicate 16 0)
+  q = q₀ ∙ ap (boundDomain (not up) ws (C .sorts) (C .entries) a b 0) (zeros-sortNumbers 16)
+
   pub function-stops : (K : Counts) → d .found ≡ NotAll K → storedAt vs (Nothing K) ≡ functionAt up ws (C .sorts) (C .entries) a b
   function-stops = functions.function-stops up ws C a b f vs d q
 
@@ -156,7 +163,7 @@ module _ (ws : List ℕ) (C : Counts) (up : Bool) (a b : ℕ) (f : TwoFunctions 
       range-ends = functions.range-ends up ws C a b f vs d q K z us j by-parts
 
       module _ (c : SortId) (K₂ : Counts) (y : j ≡ At c K₂) where
-        pub whole-asked : Checked us (K₂ .sorts) (K₂ .entries) × (c .0 < K₂ .sorts) × (count ≤ 16) × AllBelow (K₂ .sorts) (take count (d .ids))
+        pub whole-asked : Checked us (K₂ .sorts) (K₂ .entries) × (c .0 < K₂ .sorts) × (count ≤ 16) × AllBelow (K₂ .sorts) (take count (sortNumbers (d .ids)))
         whole-asked = (
           functions.function-checked up ws C a b f vs d q K z us j by-parts c K₂ y,
           functions.function-range-below up ws C a b f vs d q K z us j by-parts c K₂ y,
@@ -166,9 +173,9 @@ module _ (ws : List ℕ) (C : Counts) (up : Bool) (a b : ℕ) (f : TwoFunctions 
 
         pub whole-made : (zs : List ℕ) (w : Joined)
             → storedAt zs w ≡ internAt us (K₂ .sorts) (K₂ .entries) (functionSort (lookAll (trees us (K₂ .sorts))
-            (take count (d .ids))) (look (trees us (K₂ .sorts)) (c .0)))
+            (take count (sortNumbers (d .ids)))) (look (trees us (K₂ .sorts)) (c .0)))
             → storedAt zs w ≡ functionAt up ws (C .sorts) (C .entries) a b
         whole-made zs w h =
             functions.function-made up ws C a b f vs d q K z us j by-parts c K₂ y zs w
             (h ∙ ap (λ m. internAt us (K₂ .sorts) (K₂ .entries) (functionSort (lookAll (trees us (K₂ .sorts))
-            (take m (d .ids))) (look (trees us (K₂ .sorts)) (c .0)))) ec)
+            (take m (sortNumbers (d .ids)))) (look (trees us (K₂ .sorts)) (c .0)))) ec)

@@ -26,6 +26,7 @@ ghost use Rattle.resolved_sort.specs.Order.{leLevel, boundOp as boundOfOps};
 ghost use Rattle.resolved_sort.specs.Storage.{partAt, startAt, countAt, entryAt};
 ghost use Rattle.resolved_sort.specs.Rows.{storedAt};
 ghost use Rattle.resolved_sort.specs.Bounds.{Asked, boundAt};
+ghost use Rattle.resolved_sort.specs.Inner.Storage.{sortNumbers};
 ghost use Rattle.resolved_sort.specs.Inner.Bounds.{containerAt, functionAt, sideOf, opBound, TwoFunctions};
 ghost use Rattle.resolved_sort.specs.Inner.Bounds.{storedDomain, boundDomain};
 
@@ -244,7 +245,7 @@ fn bound_function(sorts: &mut [u16], counts: Counts, up: bool, lhs: SortId, rhs:
     let lhs_range = part(sorts, lhs);
     let rhs_range = part(sorts, rhs);
     let count = arguments(sorts, lhs);
-    let domain = bound_domain(sorts, counts, up, lhs, rhs, 0, [0u16; ARGUMENT_WORDS]);
+    let domain = bound_domain(sorts, counts, up, lhs, rhs, 0, [SortId(0); ARGUMENT_WORDS]);
     let ids = domain.ids;
     let found = domain.found;
     match found {
@@ -266,7 +267,7 @@ fn bound_domain(
     lhs: SortId,
     rhs: SortId,
     i: u16,
-    ids: [u16; ARGUMENT_WORDS],
+    ids: [SortId; ARGUMENT_WORDS],
 ) -> Domain
     requires { ⌜
         TwoFunctions (now sorts) (counts .sorts) (counts .entries) (lhs .0) (rhs .0)
@@ -274,7 +275,8 @@ fn bound_domain(
         ⌝ }
     ensures { λ r. ⌜
         storedDomain (now (sorts .exit)) r
-        ≡ boundDomain (not up) (now (sorts .entry)) (counts .sorts) (counts .entries) (lhs .0) (rhs .0) i ids
+        ≡ boundDomain (not up) (now (sorts .entry)) (counts .sorts) (counts .entries) (lhs .0) (rhs .0) i
+        (sortNumbers ids)
         ⌝ }
 {
     if i == arguments(sorts, lhs) {
@@ -288,15 +290,15 @@ fn bound_domain(
     match against(sorts, counts, up, l, r) {
         Joined::At(id, made) => {
             let mut next = ids;
-            next[i as usize] = id.0;
+            next[i as usize] = id;
             bound_domain(sorts, made, up, lhs, rhs, i + 1, next)
         }
         Joined::Nothing(made) => Domain {
-            ids: [0u16; ARGUMENT_WORDS],
+            ids: [SortId(0); ARGUMENT_WORDS],
             found: Found::Nothing(made),
         },
         Joined::Full => Domain {
-            ids: [0u16; ARGUMENT_WORDS],
+            ids: [SortId(0); ARGUMENT_WORDS],
             found: Found::Full,
         },
     }

@@ -56,13 +56,13 @@ fn fixed_six(sorts: &[u16], n: usize) -> bool
     true
 }
 
-// Whether each of the count entries from start on names a sort below i. An entry that is i itself does not.
-fn args_below(sorts: &[u16], start: u16, count: u16, i: u16) -> bool
-    ensures { λ r. ⌜ r ≡ allBelow count (argBelow (now (sorts .entry)) start i) ⌝ }
+// Whether each of the count entries from start on names a sort below this one. An entry that is it itself does not.
+fn args_below(sorts: &[u16], start: u16, count: u16, id: SortId) -> bool
+    ensures { λ r. ⌜ r ≡ allBelow count (argBelow (now (sorts .entry)) start (id .0)) ⌝ }
 {
     let mut j: u16 = 0;
     while j < count {
-        if i <= word(sorts, ENTRIES_AT + ((start as usize) + (j as usize))) {
+        if id.0 <= word(sorts, ENTRIES_AT + ((start as usize) + (j as usize))) {
             return false;
         }
         j += 1;
@@ -70,9 +70,9 @@ fn args_below(sorts: &[u16], start: u16, count: u16, i: u16) -> bool
     true
 }
 
-// Whether a function's row i has at most 16 arguments, a run inside the e entries, and parts below i.
-fn function_fine(sorts: &[u16], e: usize, i: u16, domain: Run, range: SortId) -> bool
-    ensures { λ r. ⌜ r ≡ partsBelow (now (sorts .entry)) e i (ResolvedSort.Function domain range) ⌝ }
+// Whether a function's row has at most 16 arguments, a run inside the e entries, and parts below it.
+fn function_fine(sorts: &[u16], e: usize, id: SortId, domain: Run, range: SortId) -> bool
+    ensures { λ r. ⌜ r ≡ partsBelow (now (sorts .entry)) e (id .0) (ResolvedSort.Function domain range) ⌝ }
 {
     let start = domain.start;
     let count = domain.count;
@@ -82,34 +82,34 @@ fn function_fine(sorts: &[u16], e: usize, i: u16, domain: Run, range: SortId) ->
     if e < (start as usize) + (count as usize) {
         return false;
     }
-    if i <= range.0 {
+    if id.0 <= range.0 {
         return false;
     }
-    args_below(sorts, start, count, i)
+    args_below(sorts, start, count, id)
 }
 
-// Whether the parts of row i, which says sort, are numbered below it. A part that is row i itself is not.
-fn parts_below(sorts: &[u16], e: usize, i: u16, sort: ResolvedSort) -> bool
-    ensures { λ r. ⌜ r ≡ partsBelow (now (sorts .entry)) e i sort ⌝ }
+// Whether the parts of a row, which says sort, are numbered below it. A part that is the row itself is not.
+fn parts_below(sorts: &[u16], e: usize, id: SortId, sort: ResolvedSort) -> bool
+    ensures { λ r. ⌜ r ≡ partsBelow (now (sorts .entry)) e (id .0) sort ⌝ }
 {
     match sort {
         ResolvedSort::Unit => true,
         ResolvedSort::Primitive(_) => true,
-        ResolvedSort::Container { op: _, subsort } => subsort.0 < i,
-        ResolvedSort::Function { domain, range } => function_fine(sorts, e, i, domain, range),
+        ResolvedSort::Container { op: _, subsort } => subsort.0 < id.0,
+        ResolvedSort::Function { domain, range } => function_fine(sorts, e, id, domain, range),
         ResolvedSort::Def(_) => true,
         ResolvedSort::TypeVar(_) => true,
     }
 }
 
-// Whether row i is of a known kind and its parts are below it. Kinds above 13 are unknown.
-fn row_fine(sorts: &[u16], e: usize, i: u16) -> bool
-    ensures { λ r. ⌜ r ≡ rowFine (now (sorts .entry)) e i ⌝ }
+// Whether a sort's row is of a known kind and its parts are below it. Kinds above 13 are unknown.
+fn row_fine(sorts: &[u16], e: usize, id: SortId) -> bool
+    ensures { λ r. ⌜ r ≡ rowFine (now (sorts .entry)) e (id .0) ⌝ }
 {
-    if LAST_KIND < word(sorts, ROW_WORDS * (i as usize)) {
+    if LAST_KIND < word(sorts, ROW_WORDS * (id.0 as usize)) {
         return false;
     }
-    parts_below(sorts, e, i, get(sorts, SortId(i)))
+    parts_below(sorts, e, id, get(sorts, id))
 }
 
 // Check 3: each of the n rows is fine. None is left out.
@@ -119,7 +119,7 @@ fn rows_fine(sorts: &[u16], n: usize, e: usize) -> bool
 {
     let mut i: usize = 0;
     while i < n {
-        if !row_fine(sorts, e, i as u16) {
+        if !row_fine(sorts, e, SortId(i as u16)) {
             return false;
         }
         i += 1;
@@ -127,13 +127,13 @@ fn rows_fine(sorts: &[u16], n: usize, e: usize) -> bool
     true
 }
 
-// Whether no row below row j is the same as it. Row j itself does not count.
-fn new_row(sorts: &[u16], j: u16) -> bool
-    ensures { λ r. ⌜ r ≡ newRow (now (sorts .entry)) j ⌝ }
+// Whether no row below a sort's row is the same as it. The row itself does not count.
+fn new_row(sorts: &[u16], id: SortId) -> bool
+    ensures { λ r. ⌜ r ≡ newRow (now (sorts .entry)) (id .0) ⌝ }
 {
     let mut i: u16 = 0;
-    while i < j {
-        if same_rows(sorts, i, j) {
+    while i < id.0 {
+        if same_rows(sorts, SortId(i), id) {
             return false;
         }
         i += 1;
@@ -149,7 +149,7 @@ fn no_two_equal_rows(sorts: &[u16], n: usize) -> bool
 {
     let mut j: usize = 0;
     while j < n {
-        if !new_row(sorts, j as u16) {
+        if !new_row(sorts, SortId(j as u16)) {
             return false;
         }
         j += 1;

@@ -11,11 +11,17 @@ use lib.ListN.{length, getD, take, drop, drop-of-length-le}
 use lib.Seq.{drop-cons, getD-take, length-take-le}
 use lib.Dec.{eqb}
 use borrow.Author.Tests.{eq-eqb, ne-eqb}
+use Rattle.resolved_sort.specs.declared.SortId.{SortId}
 use Rattle.resolved_sort.specs.Storage.{entryAt, entriesOf}
+use Rattle.resolved_sort.specs.Inner.Storage.{sortNumbers}
+use Rattle.resolved_sort.proofs.SortNumbers.{length-sortNumbers, getD-sortNumbers}
 use Rattle.resolved_sort.specs.Rows.{sameWords}
 
-pub length-given : (ids : List ℕ) (n : ℕ) → length ids ≡ 16 → n ≤ 16 → length (take n ids) ≡ n
-length-given ids n len few = length-take-le n ids (omega arith)
+pub length-given : (words : List ℕ) (n : ℕ) → length words ≡ 16 → n ≤ 16 → length (take n words) ≡ n
+length-given words n len few = length-take-le n words (omega arith)
+
+pub length-ids : (ids : List SortId) (n : ℕ) → length ids ≡ 16 → n ≤ 16 → length (take n (sortNumbers ids)) ≡ n
+length-ids ids n len few = length-given (sortNumbers ids) n (length-sortNumbers ids ∙ len) few
 
 pub length-entriesOf : (ws : List ℕ) (s n : ℕ) → length (entriesOf ws s n) ≡ n
 unfolding entriesOf
@@ -89,19 +95,25 @@ module _ (ws : List ℕ) (s t n k : ℕ) (inv : sameWords (entriesOf ws s n) (en
 pub runs-differ-by-count : (ws : List ℕ) (s t n m : ℕ) → (n ≡ m → ⊥) → false ≡ sameWords (entriesOf ws s n) (entriesOf ws t m)
 runs-differ-by-count ws s t n m f = run-differs-by-count ws (entriesOf ws t m) s n (λ e. f (e ∙ length-entriesOf ws t m))
 
--- a run of the lent words and the first n of sixteen words given
-module _ (ws ids : List ℕ) (s n : ℕ) (len : length ids ≡ 16) (few : n ≤ 16) where
-  pub args-differ-by-count : (m : ℕ) → (m ≡ n → ⊥) → false ≡ sameWords (entriesOf ws s m) (take n ids)
-  args-differ-by-count m f = run-differs-by-count ws (take n ids) s m (λ e. f (e ∙ length-given ids n len few))
+-- a run of the lent words and the first n of sixteen sorts given
+module _ (ws : List ℕ) (ids : List SortId) (s n : ℕ) (len : length ids ≡ 16) (few : n ≤ 16) where
+  abbrev given : List ℕ
+  given = take n (sortNumbers ids)
 
-  module _ (k : ℕ) (inv : sameWords (entriesOf ws s n) (take n ids) ≡ sameFrom k (entriesOf ws s n) (take n ids)) where
-    pub args-same-at-end : n ≤ k → (m : ℕ) → m ≡ n → true ≡ sameWords (entriesOf ws s m) (take n ids)
-    args-same-at-end h m same = rw same (run-same-at-end ws (take n ids) s n k (length-given ids n len few) _ inv h)
+  pub args-differ-by-count : (m : ℕ) → (m ≡ n → ⊥) → false ≡ sameWords (entriesOf ws s m) (take n (sortNumbers ids))
+  args-differ-by-count m f = run-differs-by-count ws given s m (λ e. f (e ∙ length-ids ids n len few))
+
+  module _ (k : ℕ) (inv : sameWords (entriesOf ws s n) (take n (sortNumbers ids)) ≡ sameFrom k (entriesOf ws s n) (take n (sortNumbers ids))) where
+    pub args-same-at-end : n ≤ k → (m : ℕ) → m ≡ n → true ≡ sameWords (entriesOf ws s m) (take n (sortNumbers ids))
+    args-same-at-end h m same = rw same (run-same-at-end ws given s n k (length-ids ids n len few) _ inv h)
 
     module _ (h : k < n) (x : ℕ) (ex : x ≡ entryAt ws (s + k)) where
-      pub args-same-from-next : x ≡ getD ids k 0 → sameWords (entriesOf ws s n) (take n ids) ≡ sameFrom (k + 1) (entriesOf ws s n) (take n ids)
-      args-same-from-next e = run-same-from-next ws (take n ids) s n k (length-given ids n len few) _ inv h x (getD ids k 0) ex (sym (getD-take n ids k 0 h)) e
+      at : (getD ids k (record { 0 = 0 })) .0 ≡ getD given k 0
+      at = getD-sortNumbers ids k ∙ sym (getD-take n (sortNumbers ids) k 0 h)
 
-      pub args-differ : (x ≡ getD ids k 0 → ⊥) → (m : ℕ) → m ≡ n → false ≡ sameWords (entriesOf ws s m) (take n ids)
-      args-differ e m same = rw same (run-differs ws (take n ids) s n k (length-given ids n len few) _ inv h x
-          (getD ids k 0) ex (sym (getD-take n ids k 0 h)) e)
+      pub args-same-from-next : x ≡ (getD ids k (record { 0 = 0 })) .0
+          → sameWords (entriesOf ws s n) (take n (sortNumbers ids)) ≡ sameFrom (k + 1) (entriesOf ws s n) (take n (sortNumbers ids))
+      args-same-from-next e = run-same-from-next ws given s n k (length-ids ids n len few) _ inv h x _ ex at e
+
+      pub args-differ : (x ≡ (getD ids k (record { 0 = 0 })) .0 → ⊥) → (m : ℕ) → m ≡ n → false ≡ sameWords (entriesOf ws s m) (take n (sortNumbers ids))
+      args-differ e m same = rw same (run-differs ws given s n k (length-ids ids n len few) _ inv h x _ ex at e)

@@ -1,12 +1,15 @@
 -- A run of stores, one turn after another. Assumes nothing.
-use mathlib.Core.Path.{_≡_, sym, ap, _∙_}
-use mathlib.Core.List.{List}
+use mathlib.Core.Path.{_≡_, sym, ap, ap₂, _∙_}
+use mathlib.Core.List.{List, [], _∷_, _++_}
 use Prim.Native.Nat.{ℕ, suc, _+_, _<_, _≤_}
 use native.Mathlib.Omega.{arith}
 use native.Mathlib.Nat.{add-zero}
 use native.Mathlib.Numerals.{add-one}
 use lib.ListN.{length, getD, take, drop, set, drop-of-length-le}
-use lib.Seq.{sets, drop-cons, getD-take}
+use lib.Seq.{sets, drop-cons, getD-take, take-all, take-suc, take-suc-set}
+use Rattle.resolved_sort.specs.declared.SortId.{SortId}
+use Rattle.resolved_sort.specs.Inner.Storage.{sortNumbers}
+use Rattle.resolved_sort.proofs.SortNumbers.{length-sortNumbers, getD-sortNumbers}
 use Rattle.sort_interner.proofs.Runs.{length-given}
 
 -- the words of xs from i on stored, the first of xs at p
@@ -38,3 +41,15 @@ module _ (ws ids : List ℕ) (p n i : ℕ) (len : length ids ≡ 16) (few : n �
       inv ∙ stored-from-next i ws p (take n ids) (omega (arith, length-given ids n len few))
       ∙ ap (λ x. setsFrom (i + 1) (set ws (p + i) x) p (take n ids)) (getD-take n ids i 0 h)
       ∙ ap (λ l. setsFrom (i + 1) l p (take n ids)) (sym e)
+
+-- the numbers of sixteen sorts given, put one by one
+module _ (ids : List SortId) (ws : List ℕ) (i : ℕ) (len : length ids ≡ 16) (long : length ws ≡ 16) (inv : take i ws ≡ take i (sortNumbers ids)) where
+  pub number-put : i < 16 → take (i + 1) (set ws i ((getD ids i (record { 0 = 0 })) .0)) ≡ take (i + 1) (sortNumbers ids)
+  number-put h =
+      let m : i < length (sortNumbers ids) = omega (arith, length-sortNumbers ids) in
+      ap (λ k. take k (set ws i ((getD ids i (record { 0 = 0 })) .0))) (add-one i)
+      ∙ (take-suc-set ws i _ (omega arith) ∙ (ap₂ (λ xs x. xs ++ (x ∷ [])) inv (getD-sortNumbers ids i)
+      ∙ (sym (take-suc (sortNumbers ids) i 0 m) ∙ ap (λ k. take k (sortNumbers ids)) (sym (add-one i)))))
+
+  pub numbers-put : 16 ≤ i → ws ≡ sortNumbers ids
+  numbers-put h = sym (take-all i ws (omega arith)) ∙ (inv ∙ take-all i (sortNumbers ids) (omega (arith, length-sortNumbers ids)))

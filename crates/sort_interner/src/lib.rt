@@ -27,7 +27,8 @@ ghost use Rattle.resolved_sort.specs.Storage.{maxSorts, maxEntries, maxArgument
 ghost use Rattle.resolved_sort.specs.Storage.{functionKind, resolved, rowAt, entriesOf, wordsAt, kindOp, putRow};
 ghost use Rattle.resolved_sort.specs.Storage.{appendRow, givenBack, trees, lookAll};
 ghost use Rattle.resolved_sort.specs.Rows.{sameWords, sameRow, findRow, storedAt, internRow, Checked, AllBelow};
-ghost use Rattle.sort_interner.specs.Inner.Tests.{isRow};
+ghost use Rattle.resolved_sort.specs.Inner.Storage.{sortNumbers};
+ghost use Rattle.sort_interner.specs.Inner.Tests.{givenRow, isRow};
 ghost use Rattle.resolved_sort.specs.Tree.{container, function as functionSort};
 ghost use Rattle.resolved_sort.specs.Interning.{look};
 ghost use Rattle.resolved_sort.specs.Bounds.{internAt};
@@ -108,31 +109,31 @@ pub fn give_back(sorts: &mut [u16], n: usize, e: usize)
     clear(sorts, ENTRIES_AT + e, end);
 }
 
-// The kind of row i, known or not.
-fn kind_at(sorts: &[u16], i: u16) -> u16
-    ensures { λ r. ⌜ r ≡ (wordsAt (now (sorts .entry)) i) .kind ⌝ }
+// The kind of a sort's row, known or not.
+fn kind_at(sorts: &[u16], id: SortId) -> u16
+    ensures { λ r. ⌜ r ≡ (wordsAt (now (sorts .entry)) (id .0)) .kind ⌝ }
 {
-    word(sorts, ROW_WORDS * (i as usize))
+    word(sorts, ROW_WORDS * (id.0 as usize))
 }
 
-// The part of row i as far as it is looked at: 0 where the kind has none, whatever the word there is.
-fn part_at(sorts: &[u16], i: u16) -> u16
-    ensures { λ r. ⌜ r ≡ (wordsAt (now (sorts .entry)) i) .part ⌝ }
+// The part of a sort's row as far as it is looked at: 0 where the kind has none, whatever the word there is.
+fn part_at(sorts: &[u16], id: SortId) -> u16
+    ensures { λ r. ⌜ r ≡ (wordsAt (now (sorts .entry)) (id .0)) .part ⌝ }
 {
-    if kind_at(sorts, i) < FIRST_CONTAINER {
+    if kind_at(sorts, id) < FIRST_CONTAINER {
         return 0;
     }
-    word(sorts, ROW_WORDS * (i as usize) + 1)
+    word(sorts, ROW_WORDS * (id.0 as usize) + 1)
 }
 
-// The run of row i as far as it is looked at: empty where the row is no function, whatever the words there are.
-fn run_at(sorts: &[u16], i: u16) -> Run
+// The run of a sort's row as far as it is looked at: empty where the row is no function, whatever the words there are.
+fn run_at(sorts: &[u16], id: SortId) -> Run
     ensures { λ r. ⌜
-        entriesOf (now (sorts .entry)) (r .start) (r .count) ≡ (wordsAt (now (sorts .entry)) i) .args
+        entriesOf (now (sorts .entry)) (r .start) (r .count) ≡ (wordsAt (now (sorts .entry)) (id .0)) .args
         ⌝ }
 {
-    if kind_at(sorts, i) == FUNCTION_KIND {
-        let at = ROW_WORDS * (i as usize);
+    if kind_at(sorts, id) == FUNCTION_KIND {
+        let at = ROW_WORDS * (id.0 as usize);
         return Run {
             start: word(sorts, at + 2),
             count: word(sorts, at + 3),
@@ -167,23 +168,28 @@ fn same_run(sorts: &[u16], a: Run, b: Run) -> bool
     true
 }
 
-// Whether rows i and j are the same: kind, part and the contents of the runs. Words not looked at do not count.
-pub fn same_rows(sorts: &[u16], i: u16, j: u16) -> bool
-    ensures { λ r. ⌜ r ≡ sameRow (wordsAt (now (sorts .entry)) i) (wordsAt (now (sorts .entry)) j) ⌝ }
+// Whether the rows of two sorts are the same: kind, part and the contents of the runs. Words not looked at do not
+// count.
+pub fn same_rows(sorts: &[u16], lhs: SortId, rhs: SortId) -> bool
+    ensures { λ r. ⌜
+        r ≡ sameRow (wordsAt (now (sorts .entry)) (lhs .0)) (wordsAt (now (sorts .entry)) (rhs .0))
+        ⌝ }
 {
-    if kind_at(sorts, i) != kind_at(sorts, j) {
+    if kind_at(sorts, lhs) != kind_at(sorts, rhs) {
         return false;
     }
-    if part_at(sorts, i) != part_at(sorts, j) {
+    if part_at(sorts, lhs) != part_at(sorts, rhs) {
         return false;
     }
-    same_run(sorts, run_at(sorts, i), run_at(sorts, j))
+    same_run(sorts, run_at(sorts, lhs), run_at(sorts, rhs))
 }
 
 // Whether a run has the first n of the ids as its entries, and no more.
-fn has_args(sorts: &[u16], a: Run, ids: [u16; ARGUMENT_WORDS], n: u16) -> bool
+fn has_args(sorts: &[u16], a: Run, ids: [SortId; ARGUMENT_WORDS], n: u16) -> bool
     requires { ⌜ n ≤ maxArguments ⌝ }
-    ensures { λ r. ⌜ r ≡ sameWords (entriesOf (now (sorts .entry)) (a .start) (a .count)) (take n ids) ⌝ }
+    ensures { λ r. ⌜
+        r ≡ sameWords (entriesOf (now (sorts .entry)) (a .start) (a .count)) (take n (sortNumbers ids))
+        ⌝ }
 {
     if a.count != n {
         return false;
@@ -192,7 +198,8 @@ fn has_args(sorts: &[u16], a: Run, ids: [u16; ARGUMENT_WORDS], n: u16) -> bool
     let mut k: u16 = 0;
     while k < n {
         let x = word(sorts, ENTRIES_AT + (s + (k as usize)));
-        if x != ids[k as usize] {
+        let id = ids[k as usize];
+        if x != id.0 {
             return false;
         }
         k += 1;
@@ -200,51 +207,47 @@ fn has_args(sorts: &[u16], a: Run, ids: [u16; ARGUMENT_WORDS], n: u16) -> bool
     true
 }
 
-// Whether row i is of this kind, part and arguments. Words not looked at do not count.
+// Whether a sort's row is of this kind, part and arguments. Words not looked at do not count.
 fn is_row(
     sorts: &[u16],
-    i: u16,
+    id: SortId,
     kind: u16,
-    part: u16,
-    ids: [u16; ARGUMENT_WORDS],
+    part: SortId,
+    ids: [SortId; ARGUMENT_WORDS],
     count: u16,
 ) -> bool
     requires { ⌜ count ≤ maxArguments ⌝ }
-    ensures { λ r. ⌜
-        r ≡ isRow (now (sorts .entry)) (record { kind = kind; part = part; args = take count ids }) i
-        ⌝ }
+    ensures { λ r. ⌜ r ≡ isRow (now (sorts .entry)) (givenRow kind part ids count) (id .0) ⌝ }
 {
-    if kind_at(sorts, i) != kind {
+    if kind_at(sorts, id) != kind {
         return false;
     }
-    if part_at(sorts, i) != part {
+    if part_at(sorts, id) != part.0 {
         return false;
     }
-    has_args(sorts, run_at(sorts, i), ids, count)
+    has_args(sorts, run_at(sorts, id), ids, count)
 }
 
-// The first row below n that is of this kind, part and arguments, never a later one; n where there is none.
+// The first sort below n whose row is of this kind, part and arguments, never a later one; n where there is none.
 fn find_row(
     sorts: &[u16],
     n: u16,
     kind: u16,
-    part: u16,
-    ids: [u16; ARGUMENT_WORDS],
+    part: SortId,
+    ids: [SortId; ARGUMENT_WORDS],
     count: u16,
-) -> u16
+) -> SortId
     requires { ⌜ count ≤ maxArguments ⌝ }
-    ensures { λ r. ⌜
-        r ≡ findRow (now (sorts .entry)) n (record { kind = kind; part = part; args = take count ids })
-        ⌝ }
+    ensures { λ r. ⌜ r .0 ≡ findRow (now (sorts .entry)) n (givenRow kind part ids count) ⌝ }
 {
     let mut row: u16 = 0;
     while row < n {
-        if is_row(sorts, row, kind, part, ids, count) {
-            return row;
+        if is_row(sorts, SortId(row), kind, part, ids, count) {
+            return SortId(row);
         }
         row += 1;
     }
-    row
+    SortId(row)
 }
 
 // Row i set to four words. The part of it that lies past the end is left out.
@@ -281,24 +284,35 @@ pub fn start_of(kind: u16, e: u16) -> u16
     if kind == FUNCTION_KIND { e } else { 0 }
 }
 
+// The words of the ids, to be stored.
+fn words_of(ids: [SortId; ARGUMENT_WORDS]) -> [u16; ARGUMENT_WORDS]
+    ensures { λ r. ⌜ r ≡ sortNumbers ids ⌝ }
+{
+    let mut words = [0u16; ARGUMENT_WORDS];
+    let mut i: usize = 0;
+    while i < ARGUMENT_WORDS {
+        let id = ids[i];
+        words[i] = id.0;
+        i += 1;
+    }
+    words
+}
+
 // A row with its arguments appended to n rows and e entries. Only a function's row names a start; of others it is 0.
 fn append_row(
     sorts: &mut [u16],
     n: u16,
     e: u16,
     kind: u16,
-    part: u16,
-    ids: [u16; ARGUMENT_WORDS],
+    part: SortId,
+    ids: [SortId; ARGUMENT_WORDS],
     count: u16,
 )
     requires { ⌜ count ≤ maxArguments ⌝ }
-    ensures { λ _. ⌜
-        now (sorts .exit)
-        ≡ appendRow (now (sorts .entry)) n e (record { kind = kind; part = part; args = take count ids })
-        ⌝ }
+    ensures { λ _. ⌜ now (sorts .exit) ≡ appendRow (now (sorts .entry)) n e (givenRow kind part ids count) ⌝ }
 {
-    put_row(sorts, n, kind, part, start_of(kind, e), count);
-    put_args(sorts, e, ids, count);
+    put_row(sorts, n, kind, part.0, start_of(kind, e), count);
+    put_args(sorts, e, words_of(ids), count);
 }
 
 // The row's number: the first row that is the same, else one more row where there is room. Nothing changes where the
@@ -309,22 +323,21 @@ fn intern(
     sorts: &mut [u16],
     counts: Counts,
     kind: u16,
-    part: u16,
-    ids: [u16; ARGUMENT_WORDS],
+    part: SortId,
+    ids: [SortId; ARGUMENT_WORDS],
     count: u16,
 ) -> Joined
     requires { ⌜ count ≤ maxArguments ⌝ }
     ensures { λ r. ⌜
         storedAt (now (sorts .exit)) r
-        ≡ internRow (now (sorts .entry)) (counts .sorts) (counts .entries)
-        (record { kind = kind; part = part; args = take count ids })
+        ≡ internRow (now (sorts .entry)) (counts .sorts) (counts .entries) (givenRow kind part ids count)
         ⌝ }
 {
     let n = counts.sorts;
     let e = counts.entries;
-    let i = find_row(sorts, n, kind, part, ids, count);
-    if i < n {
-        return Joined::At(SortId(i), counts);
+    let found = find_row(sorts, n, kind, part, ids, count);
+    if found.0 < n {
+        return Joined::At(found, counts);
     }
     if SORT_NUMBERS <= n {
         return Joined::Full;
@@ -355,8 +368,8 @@ pub fn generic(sorts: &mut [u16], counts: Counts, op: ComplexSort, subsort: Sort
         sorts,
         counts,
         kind_of_op(op),
-        subsort.0,
-        [0u16; ARGUMENT_WORDS],
+        subsort,
+        [SortId(0); ARGUMENT_WORDS],
         0,
     )
 }
@@ -365,7 +378,7 @@ pub fn generic(sorts: &mut [u16], counts: Counts, op: ComplexSort, subsort: Sort
 pub fn function(
     sorts: &mut [u16],
     counts: Counts,
-    ids: [u16; ARGUMENT_WORDS],
+    ids: [SortId; ARGUMENT_WORDS],
     count: u16,
     range: SortId,
 ) -> Joined
@@ -373,14 +386,15 @@ pub fn function(
         Checked (now sorts) (counts .sorts) (counts .entries)
         × (range .0 < counts .sorts)
         × (count ≤ maxArguments)
-        × AllBelow (counts .sorts) (take count ids)
+        × AllBelow (counts .sorts) (take count (sortNumbers ids))
         ⌝ }
     ensures { λ r. ⌜
         storedAt (now (sorts .exit)) r
         ≡ internAt (now (sorts .entry)) (counts .sorts) (counts .entries)
-        (functionSort (lookAll (trees (now (sorts .entry)) (counts .sorts)) (take count ids))
+        (functionSort
+        (lookAll (trees (now (sorts .entry)) (counts .sorts)) (take count (sortNumbers ids)))
         (look (trees (now (sorts .entry)) (counts .sorts)) (range .0)))
         ⌝ }
 {
-    intern(sorts, counts, FUNCTION_KIND, range.0, ids, count)
+    intern(sorts, counts, FUNCTION_KIND, range, ids, count)
 }

@@ -7,6 +7,7 @@ use native.Mathlib.Omega.{arith}
 use lib.ListN.{length, take, drop, length-take, length-drop}
 use lib.Dec.{leb, eqb}
 use borrow.Author.Tests.{leb-true, le-leb, lt-leb, eqb-true}
+use Rattle.resolved_sort.specs.declared.SortId.{SortId}
 use Rattle.resolved_sort.specs.declared.Sort as Sorts
 use Rattle.resolved_sort.specs.declared.Tested.{Tested}
 use Rattle.resolved_sort.specs.declared.Tested.the-variants.{Refused, Passed}
@@ -186,7 +187,7 @@ module _ (ws : List ℕ) (n e : ℕ) (bs : List ℕ) (q : Passes ws n e bs) wher
       short-steps : Short (postfix (it .sort))
       short-steps = line-steps-short bs (it .left) (it .sort) (it .is)
 
-      pub runs : (ids : List ℕ) → Running ws n e (take m out) 0 ids 0
+      pub runs : (ids : List SortId) → Running ws n e (take m out) 0 ids 0
       runs ids =
           record {
             checked = q .checked;
@@ -197,7 +198,7 @@ module _ (ws : List ℕ) (n e : ℕ) (bs : List ℕ) (q : Passes ws n e bs) wher
             steps-left = subst Short (sym (it .written)) short-steps;
           }
 
-      run-is : (ids : List ℕ) → runAt ws n e (drop 0 (take m out)) ids 0 ≡ stored ws n e (store (it .sort) (sortsOf ws n e))
+      run-is : (ids : List SortId) → runAt ws n e (drop 0 (take m out)) ids 0 ≡ stored ws n e (store (it .sort) (sortsOf ws n e))
       unfolding runAt stackOf
       run-is ids = ap (λ ops. stored ws n e (steps ops [] (sortsOf ws n e))) (it .written) ∙ ap (stored ws n e) (store-is (it .left) (it .sort) (it .is))
 
@@ -208,7 +209,7 @@ module _ (ws : List ℕ) (n e : ℕ) (bs : List ℕ) (q : Passes ws n e bs) wher
       by-outcome (nothing S) h = ap (λ us. readLeft us NoRoom) (made-is-given-back ws n e (q .checked) S (h .0))
       by-outcome (full S) h = ap (λ us. readLeft us NoRoom) (made-is-given-back ws n e (q .checked) S (h .0))
 
-      pub read-stored : (ids vs : List ℕ) (j : Joined) → storedAt vs j ≡ runAt ws n e (drop 0 (take m out)) ids 0
+      pub read-stored : (ids : List SortId) (vs : List ℕ) (j : Joined) → storedAt vs j ≡ runAt ws n e (drop 0 (take m out)) ids 0
           → (us : List ℕ) (a : Read) → readLeft us a ≡ keptOrNoRoom vs n e j
           → readLeft us a ≡ readAs ws n e bs (line bs)
       unfolding readAs

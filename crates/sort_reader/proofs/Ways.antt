@@ -21,6 +21,8 @@ use Rattle.resolved_sort.specs.Storage.{maxEntries, trees, lookAll, sortsOf}
 use Rattle.resolved_sort.specs.Entries.{after, Stored, stored}
 use Rattle.resolved_sort.specs.Rows.{AllBelow, storedAt}
 use Rattle.resolved_sort.specs.Bounds.{internAt}
+use Rattle.resolved_sort.specs.Inner.Storage.{sortNumbers}
+use Rattle.resolved_sort.proofs.SortNumbers.{length-sortNumbers, getD-sortNumbers, take-sortNumbers, drop-sortNumbers}
 use Rattle.resolved_sort.proofs.Numbers.{member-look, look-grows}
 use Rattle.resolved_sort.proofs.Trees.{length-trees}
 use Rattle.resolved_sort.specs.Growing.{partsIn, members, SortsKept, InTree}
@@ -36,42 +38,43 @@ use native.Mathlib.Nat.{add-zero}
 use Rattle.sort_text.specs.Postfix.{Short, sixth, opOf, popped, not-enough, takeArguments, applied, stepOn, steps, InStack, HasSix}
 use Rattle.sort_text.proofs.Stores.{then-then, append, append-end}
 use Rattle.sort_text.proofs.Running.{stack-extends, six-extends, steps-kept}
-use Rattle.sort_reader.specs.Inner.Run.{stackOf, runAt, Running, GoesOn, goOn, argumentsOf}
+use Rattle.sort_reader.specs.Inner.Run.{idAt, stackOf, runAt, Running, GoesOn, goOn, argumentsOf}
 
 -- stacks
-stack-in : (ws : List ℕ) (n e : ℕ) (ids : List ℕ) (d : ℕ) → ((j : ℕ) → j < d → getD ids j 0 < n) → InStack (sortsOf ws n e) (stackOf (trees ws n) ids d)
+stack-in : (ws : List ℕ) (n e : ℕ) (ids : List SortId) (d : ℕ) → ((j : ℕ) → j < d → idAt ids j < n) → InStack (sortsOf ws n e) (stackOf (trees ws n) ids d)
 unfolding stackOf InStack
 stack-in ws n e ids zero h = tt
 stack-in ws n e ids (suc d) h =
-    (member-look (trees ws n) (getD ids d 0) (omega (arith, length-trees ws n, h d (omega arith))), stack-in ws n e ids d (λ j l. h j (omega arith)))
+    (member-look (trees ws n) (idAt ids d) (omega (arith, length-trees ws n, h d (omega arith))), stack-in ws n e ids d (λ j l. h j (omega arith)))
 
-stack-set : (T : List Tree) (ids : List ℕ) (d b v : ℕ) → d ≤ b → stackOf T (set ids b v) d ≡ stackOf T ids d
+stack-set : (T : List Tree) (ids : List SortId) (d b : ℕ) (v : SortId) → d ≤ b → stackOf T (set ids b v) d ≡ stackOf T ids d
 unfolding stackOf
 stack-set T ids zero b v h = refl
-stack-set T ids (suc d) b v h = ap₂ (λ x s. look T x ∷ s) (getD-set-other ids b d v 0 (λ e. omega arith)) (stack-set T ids d b v (omega arith))
+stack-set T ids (suc d) b v h = ap₂ (λ x s. look T x ∷ s) (ap (λ (x : SortId). x .0) (getD-set-other ids b d v (record { 0 = 0 }) (λ e. omega arith))) (stack-set T ids d b v (omega arith))
 
-stack-top : (T : List Tree) (ids : List ℕ) (b v : ℕ) → b < length ids → stackOf T (set ids b v) (b + 1) ≡ look T v ∷ stackOf T ids b
+stack-top : (T : List Tree) (ids : List SortId) (b : ℕ) (v : SortId) → b < length ids → stackOf T (set ids b v) (b + 1) ≡ look T (v .0) ∷ stackOf T ids b
 unfolding stackOf
 stack-top T ids b v h =
-    ap (stackOf T (set ids b v)) (add-one b) ∙ ap₂ (λ x s. look T x ∷ s) (getD-set-same ids b v 0 h) (stack-set T ids b b v (omega arith))
+    ap (stackOf T (set ids b v)) (add-one b) ∙ ap₂ (λ x s. look T x ∷ s) (ap (λ (x : SortId). x .0) (getD-set-same ids b v (record { 0 = 0 }) h)) (stack-set T ids b b v (omega arith))
 
-stack-agrees : (T U : List Tree) (ids : List ℕ) (d n : ℕ) → ((j : ℕ) → j < d → getD ids j 0 < n) → ((x : ℕ) → x < n
+stack-agrees : (T U : List Tree) (ids : List SortId) (d n : ℕ) → ((j : ℕ) → j < d → idAt ids j < n) → ((x : ℕ) → x < n
     → look T x ≡ look U x) → stackOf T ids d ≡ stackOf U ids d
 unfolding stackOf
 stack-agrees T U ids zero n h e = refl
-stack-agrees T U ids (suc d) n h e = ap₂ _∷_ (e (getD ids d 0) (h d (omega arith))) (stack-agrees T U ids d n (λ j l. h j (omega arith)) e)
+stack-agrees T U ids (suc d) n h e = ap₂ _∷_ (e (idAt ids d) (h d (omega arith))) (stack-agrees T U ids d n (λ j l. h j (omega arith)) e)
 
-set-below : (ids : List ℕ) (b v m : ℕ) → b < length ids → v < m → ((j : ℕ) → j < b → getD ids j 0 < m) → (j : ℕ)
-    → j < b + 1 → Dec (j ≡ b) → getD (set ids b v) j 0 < m
-set-below ids b v m l hv h j k (yes d) = subst (λ x. getD (set ids b v) x 0 < m) (sym d) (subst (λ y. y < m) (sym (getD-set-same ids b v 0 l)) hv)
-set-below ids b v m l hv h j k (no d) = subst (λ y. y < m) (sym (getD-set-other ids b j v 0 d)) (h j (omega arith))
+set-below : (ids : List SortId) (b : ℕ) (v : SortId) (m : ℕ) → b < length ids → v .0 < m → ((j : ℕ) → j < b → idAt ids j < m) → (j : ℕ)
+    → j < b + 1 → Dec (j ≡ b) → idAt (set ids b v) j < m
+set-below ids b v m l hv h j k (yes d) = subst (λ x. idAt (set ids b v) x < m) (sym d)
+    (subst (λ y. y < m) (sym (ap (λ (x : SortId). x .0) (getD-set-same ids b v (record { 0 = 0 }) l))) hv)
+set-below ids b v m l hv h j k (no d) = subst (λ y. y < m) (sym (ap (λ (x : SortId). x .0) (getD-set-other ids b j v (record { 0 = 0 }) d))) (h j (omega arith))
 
 on-top : (S : Sorts) (t : Tree) (st : List Tree) → member (S .trees) t ≡ true → InStack S st → InStack S (t ∷ st)
 unfolding InStack
 on-top S t st m h = (m, h)
 
 -- the arguments of a function step
-stack-suc : (T : List Tree) (ids : List ℕ) (d : ℕ) → stackOf T ids (suc d) ≡ look T (getD ids d 0) ∷ stackOf T ids d
+stack-suc : (T : List Tree) (ids : List SortId) (d : ℕ) → stackOf T ids (suc d) ≡ look T (idAt ids d) ∷ stackOf T ids d
 unfolding stackOf
 stack-suc T ids d = refl
 
@@ -89,31 +92,31 @@ unfolding lookAll append
 lookAll-snoc T [] x = refl
 lookAll-snoc T (y ∷ ys) x = ap (arg (look T y)) (lookAll-snoc T ys x)
 
-takes-numbers : (T : List Tree) (ids : List ℕ) (base k : ℕ) (us : Trees) → base + k ≤ length ids
-    → takeArguments k us (stackOf T ids (base + k)) ≡ popped (append (lookAll T (take k (drop base ids))) us) (stackOf T ids base)
+takes-numbers : (T : List Tree) (ids : List SortId) (base k : ℕ) (us : Trees) → base + k ≤ length ids
+    → takeArguments k us (stackOf T ids (base + k)) ≡ popped (append (lookAll T (take k (drop base (sortNumbers ids)))) us) (stackOf T ids base)
 unfolding takeArguments
 takes-numbers T ids base zero us h = ap (λ d. popped us (stackOf T ids d)) (add-zero base) ∙ none-taken T us (stackOf T ids base)
 takes-numbers T ids base (suc k) us h =
-    let l : k < length (drop base ids) = omega (arith, length-drop base ids) in
+    let l : k < length (drop base (sortNumbers ids)) = omega (arith, length-drop base (sortNumbers ids), length-sortNumbers ids) in
     let d : base + suc k ≡ suc (base + k) = omega arith in
     ap (λ m. takeArguments (suc k) us (stackOf T ids m)) d
     ∙ (ap (takeArguments (suc k) us) (stack-suc T ids (base + k))
-    ∙ (takes-numbers T ids base k (arg (look T (getD ids (base + k) 0)) us) (omega arith)
+    ∙ (takes-numbers T ids base k (arg (look T (idAt ids (base + k))) us) (omega arith)
     ∙ ap (λ ts. popped ts (stackOf T ids base))
-    (sym (ap (λ xs. append (lookAll T xs) us) (take-suc (drop base ids) k 0 l)
-    ∙ (ap (λ ts. append ts us) (lookAll-snoc T (take k (drop base ids)) (getD (drop base ids) k 0))
-    ∙ (append-snoc (lookAll T (take k (drop base ids))) us (look T (getD (drop base ids) k 0))
-    ∙ ap (λ x. append (lookAll T (take k (drop base ids))) (arg (look T x) us)) (getD-drop base ids k 0)))))))
+    (sym (ap (λ xs. append (lookAll T xs) us) (take-suc (drop base (sortNumbers ids)) k 0 l)
+    ∙ (ap (λ ts. append ts us) (lookAll-snoc T (take k (drop base (sortNumbers ids))) (getD (drop base (sortNumbers ids)) k 0))
+    ∙ (append-snoc (lookAll T (take k (drop base (sortNumbers ids)))) us (look T (getD (drop base (sortNumbers ids)) k 0))
+    ∙ ap (λ x. append (lookAll T (take k (drop base (sortNumbers ids)))) (arg (look T x) us)) (getD-drop base (sortNumbers ids) k 0 ∙ sym (getD-sortNumbers ids (base + k)))))))))
 
-takes-short : (T : List Tree) (ids : List ℕ) (d k : ℕ) (us : Trees) → d < k → takeArguments k us (stackOf T ids d) ≡ not-enough
+takes-short : (T : List Tree) (ids : List SortId) (d k : ℕ) (us : Trees) → d < k → takeArguments k us (stackOf T ids d) ≡ not-enough
 unfolding takeArguments stackOf
 takes-short T ids d zero us h = absurd (omega arith)
 takes-short T ids zero (suc k) us h = refl
-takes-short T ids (suc d) (suc k) us h = takes-short T ids d k (arg (look T (getD ids d 0)) us) (omega arith)
+takes-short T ids (suc d) (suc k) us h = takes-short T ids d k (arg (look T (idAt ids d)) us) (omega arith)
 
-takes-all : (T : List Tree) (ids : List ℕ) (base k : ℕ) → base + k ≤ length ids
-    → takeArguments k no-args (stackOf T ids (base + k)) ≡ popped (lookAll T (take k (drop base ids))) (stackOf T ids base)
-takes-all T ids base k h = takes-numbers T ids base k no-args h ∙ ap (λ ts. popped ts (stackOf T ids base)) (append-end (lookAll T (take k (drop base ids))))
+takes-all : (T : List Tree) (ids : List SortId) (base k : ℕ) → base + k ≤ length ids
+    → takeArguments k no-args (stackOf T ids (base + k)) ≡ popped (lookAll T (take k (drop base (sortNumbers ids)))) (stackOf T ids base)
+takes-all T ids base k h = takes-numbers T ids base k no-args h ∙ ap (λ ts. popped ts (stackOf T ids base)) (append-end (lookAll T (take k (drop base (sortNumbers ids)))))
 
 all-below : (n : ℕ) (xs : List ℕ) → ((j : ℕ) → j < length xs → getD xs j 0 < n) → AllBelow n xs
 unfolding AllBelow
@@ -138,7 +141,7 @@ unfolding stepOn
 empty-step op S true h e = rw (le-ltb op 6 h, e)
 empty-step op S false h e = rw (le-ltb op 6 h, e)
 
-module _ (ws : List ℕ) (C : Counts) (ops : List ℕ) (i : ℕ) (ids : List ℕ) (len : length ids ≡ 256) (depth : ℕ)
+module _ (ws : List ℕ) (C : Counts) (ops : List ℕ) (i : ℕ) (ids : List SortId) (len : length ids ≡ 256) (depth : ℕ)
     (q : Running ws (C .sorts) (C .entries) ops i ids depth) where
   abbrev n : ℕ
   n = C .sorts
@@ -159,11 +162,11 @@ module _ (ws : List ℕ) (C : Counts) (ops : List ℕ) (i : ℕ) (ids : List ℕ
   unfolding runAt stackOf steps
   run-none h z = answer-none ws C (q .checked) ∙ rw (drop-of-length-le ops {i = i} h, z)
 
-  stack-cons : (d : ℕ) → depth ≡ suc d → stackOf T ids depth ≡ look T (getD ids d 0) ∷ stackOf T ids d
+  stack-cons : (d : ℕ) → depth ≡ suc d → stackOf T ids depth ≡ look T (idAt ids d) ∷ stackOf T ids d
   unfolding stackOf
   stack-cons d z = rw z
 
-  pub run-top : length ops ≤ i → (depth ≡ 0 → ⊥) → (x : SortId) → x .0 ≡ getD ids (depth - 1) 0 → storedAt ws (At x C) ≡ whole
+  pub run-top : length ops ≤ i → (depth ≡ 0 → ⊥) → (x : SortId) → x .0 ≡ idAt ids (depth - 1) → storedAt ws (At x C) ≡ whole
   unfolding runAt steps
   run-top h z x f =
       let b : x .0 < n = omega (arith, f, q .numbers (depth - 1) (omega arith)) in
@@ -203,21 +206,21 @@ module _ (ws : List ℕ) (C : Counts) (ops : List ℕ) (i : ℕ) (ids : List ℕ
 
     -- one of the fixed six on the stack
     module _ (l : op < 6) where
-      pub pushed : Running ws n e ops (i + 1) (set ids depth op) (depth + 1)
+      pub pushed : Running ws n e ops (i + 1) (set ids depth (record { 0 = op })) (depth + 1)
       pushed =
           record {
             checked = q .checked;
             has-six = q .has-six;
             six = q .six;
-            numbers = λ j m. set-below ids depth op n (omega (arith, len, q .room)) (omega (arith, q .has-six)) (q .numbers) j m (ℕ-discrete j depth);
+            numbers = λ j m. set-below ids depth (record { 0 = op }) n (omega (arith, len, q .room)) (omega (arith, q .has-six)) (q .numbers) j m (ℕ-discrete j depth);
             room = omega (arith, q .room);
             steps-left = short-left .1;
           }
 
-      pub push-goes-on : (vs : List ℕ) (r : Joined) → storedAt vs r ≡ runAt ws n e later (set ids depth op) (depth + 1) → storedAt vs r ≡ whole
+      pub push-goes-on : (vs : List ℕ) (r : Joined) → storedAt vs r ≡ runAt ws n e later (set ids depth (record { 0 = op })) (depth + 1) → storedAt vs r ≡ whole
       unfolding runAt
       push-goes-on vs r g =
-          g ∙ (ap (λ st. stored ws n e (steps later st S)) (stack-top T ids depth op (omega (arith, len, q .room)) ∙
+          g ∙ (ap (λ st. stored ws n e (steps later st S)) (stack-top T ids depth (record { 0 = op }) (omega (arith, len, q .room)) ∙
           ap (λ t. t ∷ stackOf T ids depth) (q .six op l))
           ∙ sym (whole-is ∙ ap (λ O. stored ws n e (O then (λ st S. steps later st S))) (push-step op (stackOf T ids depth) S l)))
 
@@ -243,24 +246,24 @@ module _ (ws : List ℕ) (C : Counts) (ops : List ℕ) (i : ℕ) (ids : List ℕ
         more : n ≤ K .sorts
         more = omega (arith, longer ws n e (q .checked) (there .sorts) (there .grown), reached-sorts ws n e S (intern t S) vs c K there)
 
-        next : Running vs (K .sorts) (K .entries) ops (i + 1) (set ids base (c .0)) (base + 1)
+        next : Running vs (K .sorts) (K .entries) ops (i + 1) (set ids base c) (base + 1)
         next =
             record {
               checked = reached-checked ws n e S (intern t S) vs c K there;
               has-six = omega (arith, q .has-six, more);
               six = λ k l. look-there k (omega (arith, q .has-six)) ∙ q .six k l;
-              numbers = λ j m. set-below ids base (c .0) (K .sorts) (omega (arith, len, q .room)) (reached-below ws n e S (intern t S) vs c K there)
+              numbers = λ j m. set-below ids base c (K .sorts) (omega (arith, len, q .room)) (reached-below ws n e S (intern t S) vs c K there)
                   (λ j l. omega (arith, q .numbers j (omega arith), more)) j m (ℕ-discrete j base);
               room = omega (arith, q .room);
               steps-left = short-left .1;
             }
 
-        on-stack : runAt vs (K .sorts) (K .entries) later (set ids base (c .0)) (base + 1)
+        on-stack : runAt vs (K .sorts) (K .entries) later (set ids base c) (base + 1)
             ≡ stored vs (K .sorts) (K .entries) (steps later (there .sort ∷ stackOf T ids base) (there .sorts))
         unfolding runAt
         on-stack =
             ap₂ (λ st L. stored vs (K .sorts) (K .entries) (steps later st L))
-            (stack-top (trees vs (K .sorts)) ids base (c .0) (omega (arith, len, q .room))
+            (stack-top (trees vs (K .sorts)) ids base c (omega (arith, len, q .room))
             ∙ ap₂ _∷_ (reached-sort ws n e S (intern t S) vs c K there)
             (stack-agrees (trees vs (K .sorts)) T ids base n (λ j l. q .numbers j (omega arith)) look-there))
             (reached-list ws n e S (intern t S) vs c K there)
@@ -282,7 +285,7 @@ module _ (ws : List ℕ) (C : Counts) (ops : List ℕ) (i : ℕ) (ids : List ℕ
                 (stack-extends S (there .sorts) (stackOf T ids base) (there .extends) (stack-in ws n e ids base (λ j l. q .numbers j (omega arith)))))
 
         made-goes-on : (us : List ℕ) (r : Joined) → storedAt us r ≡ runAt vs (K .sorts) (K .entries) later
-            (set ids base (c .0)) (base + 1) → storedAt us r ≡ whole
+            (set ids base c) (base + 1) → storedAt us r ≡ whole
         made-goes-on us r g =
             g ∙ (on-stack ∙ (after-is ∙ sym (is ∙ ap (λ O. stored ws n e (O then (λ u S. steps later (u ∷ stackOf T ids base) S))) (there .is))))
 
@@ -313,7 +316,7 @@ module _ (ws : List ℕ) (C : Counts) (ops : List ℕ) (i : ℕ) (ids : List ℕ
     -- a container step
     module _ (l : 6 ≤ op) (m : op < 11) (z : depth ≡ 0 → ⊥) where
       abbrev last : ℕ
-      last = getD ids (depth - 1) 0
+      last = idAt ids (depth - 1)
 
       pub last-below : last < n
       last-below = q .numbers (depth - 1) (omega arith)
@@ -348,10 +351,10 @@ module _ (ws : List ℕ) (C : Counts) (ops : List ℕ) (i : ℕ) (ids : List ℕ
       base = depth - 1 - k
 
       abbrev range : ℕ
-      range = getD ids (depth - 1) 0
+      range = idAt ids (depth - 1)
 
       abbrev numbers : List ℕ
-      numbers = take k (drop base ids)
+      numbers = take k (drop base (sortNumbers ids))
 
       abbrev arrow : Tree
       arrow = function (lookAll T numbers) (look T range)
@@ -368,8 +371,8 @@ module _ (ws : List ℕ) (C : Counts) (ops : List ℕ) (i : ℕ) (ids : List ℕ
       pub numbers-below : AllBelow n numbers
       numbers-below =
           all-below n numbers
-          (λ j m. let b : j < k = omega (arith, length-take k (drop base ids)) in
-          subst (λ x. x < n) (sym (getD-take k (drop base ids) j 0 b ∙ getD-drop base ids j 0)) (q .numbers (base + j) (omega arith)))
+          (λ j m. let b : j < k = omega (arith, length-take k (drop base (sortNumbers ids))) in
+          subst (λ x. x < n) (sym (getD-take k (drop base (sortNumbers ids)) j 0 b ∙ (getD-drop base (sortNumbers ids) j 0 ∙ sym (getD-sortNumbers ids (base + j))))) (q .numbers (base + j) (omega arith)))
 
       function-is : whole ≡ stored ws n e (intern arrow S then (λ u S. steps later (u ∷ stackOf T ids base) S))
       function-is =
@@ -389,7 +392,7 @@ module _ (ws : List ℕ) (C : Counts) (ops : List ℕ) (i : ℕ) (ids : List ℕ
 
       function-few : need arrow ≤ 16
       unfolding need
-      function-few = omega (arith, few-arguments, arity-lookAll T numbers, length-take k (drop base ids))
+      function-few = omega (arith, few-arguments, arity-lookAll T numbers, length-take k (drop base (sortNumbers ids)))
 
       pub function-goes-on : (vs : List ℕ) (j : Joined) → storedAt vs j ≡ internAt ws n e arrow → GoesOn vs ops i ids base j
       function-goes-on vs = goes-on arrow base (omega arith) function-parts function-few function-is vs
@@ -403,38 +406,41 @@ module _ (ws : List ℕ) (C : Counts) (ops : List ℕ) (i : ℕ) (ids : List ℕ
         answer-none ws C (q .checked)
         ∙ sym (whole-is ∙ (ap (λ st. stored ws n e (stepOn op st S then (λ st S. steps later st S))) (stack-cons (depth - 1) (omega arith))
         ∙ ap (λ O. stored ws n e (O then (λ st S. steps later st S)))
-        (map-step op (look T (getD ids (depth - 1) 0)) (stackOf T ids (depth - 1)) S l
-        ∙ ap (λ x. applied (look T (getD ids (depth - 1) 0)) x S)
+        (map-step op (look T (idAt ids (depth - 1))) (stackOf T ids (depth - 1)) S l
+        ∙ ap (λ x. applied (look T (idAt ids (depth - 1))) x S)
         (ap (λ j. takeArguments j no-args (stackOf T ids (depth - 1))) (sym ek) ∙ takes-short T ids (depth - 1) k no-args (omega arith)))))
 
 -- copying the numbers of a stack
-pub copied-none : (xs ys : List ℕ) → take 0 xs ≡ take 0 ys
-copied-none xs ys = refl
-
-pub copied-one : (out ids : List ℕ) (base j v : ℕ) → take j out ≡ take j (drop base ids) → j < length out → base + j < length ids → v ≡ getD ids (base + j) 0
-    → take (j + 1) (set out j v) ≡ take (j + 1) (drop base ids)
+pub copied-one : (out ids : List SortId) (base j : ℕ) (v : SortId) → take j out ≡ take j (drop base ids) → j < length out → base + j < length ids
+    → v ≡ getD ids (base + j) (record { 0 = 0 }) → take (j + 1) (set out j v) ≡ take (j + 1) (drop base ids)
 copied-one out ids base j v e h l f =
     let m : j < length (drop base ids) = omega (arith, length-drop base ids) in
     ap (λ k. take k (set out j v)) (add-one j)
-    ∙ (take-suc-set out j v h ∙ (ap₂ (λ xs x. xs ++ (x ∷ [])) e (f ∙ sym (getD-drop base ids j 0))
-    ∙ (sym (take-suc (drop base ids) j 0 m) ∙ ap (λ k. take k (drop base ids)) (sym (add-one j)))))
+    ∙ (take-suc-set out j v h ∙ (ap₂ (λ xs x. xs ++ (x ∷ [])) e (f ∙ sym (getD-drop base ids j (record { 0 = 0 })))
+    ∙ (sym (take-suc (drop base ids) j (record { 0 = 0 }) m) ∙ ap (λ k. take k (drop base ids)) (sym (add-one j)))))
+
+-- the numbers of what was copied
+pub copied-numbers : (out ids : List SortId) (base k : ℕ) → take k out ≡ take k (drop base ids)
+    → take k (sortNumbers out) ≡ take k (drop base (sortNumbers ids))
+copied-numbers out ids base k e =
+    sym (take-sortNumbers k out) ∙ (ap sortNumbers e ∙ (take-sortNumbers k (drop base ids) ∙ ap (take k) (drop-sortNumbers base ids)))
 
 -- what going on asks and answers, by what was made
-pub going-at : (vs ops : List ℕ) (i : ℕ) (ids : List ℕ) (base : ℕ) (j : Joined) → GoesOn vs ops i ids base j → (c : SortId) (K : Counts) → j ≡ At c K
-    → Running vs (K .sorts) (K .entries) ops (i + 1) (set ids base (c .0)) (base + 1)
+pub going-at : (vs ops : List ℕ) (i : ℕ) (ids : List SortId) (base : ℕ) (j : Joined) → GoesOn vs ops i ids base j → (c : SortId) (K : Counts) → j ≡ At c K
+    → Running vs (K .sorts) (K .entries) ops (i + 1) (set ids base c) (base + 1)
 unfolding GoesOn
 going-at vs ops i ids base j g c K e = subst (GoesOn vs ops i ids base) e g
 
-pub gone-at : (vs ops : List ℕ) (i : ℕ) (ids : List ℕ) (base : ℕ) (j : Joined) (c : SortId) (K : Counts) → j ≡ At c K
-    → runAt vs (K .sorts) (K .entries) (drop (i + 1) ops) (set ids base (c .0)) (base + 1) ≡ goOn vs ops i ids base j
+pub gone-at : (vs ops : List ℕ) (i : ℕ) (ids : List SortId) (base : ℕ) (j : Joined) (c : SortId) (K : Counts) → j ≡ At c K
+    → runAt vs (K .sorts) (K .entries) (drop (i + 1) ops) (set ids base c) (base + 1) ≡ goOn vs ops i ids base j
 unfolding goOn
 gone-at vs ops i ids base j c K e = ap (goOn vs ops i ids base) (sym e)
 
-pub gone-none : (vs ops : List ℕ) (i : ℕ) (ids : List ℕ) (base : ℕ) (j : Joined) (K : Counts) → j ≡ Nothing K
+pub gone-none : (vs ops : List ℕ) (i : ℕ) (ids : List SortId) (base : ℕ) (j : Joined) (K : Counts) → j ≡ Nothing K
     → storedAt vs (Nothing K) ≡ goOn vs ops i ids base j
 unfolding goOn
 gone-none vs ops i ids base j K e = ap (goOn vs ops i ids base) (sym e)
 
-pub gone-full : (vs ops : List ℕ) (i : ℕ) (ids : List ℕ) (base : ℕ) (j : Joined) → j ≡ Full → storedAt vs Full ≡ goOn vs ops i ids base j
+pub gone-full : (vs ops : List ℕ) (i : ℕ) (ids : List SortId) (base : ℕ) (j : Joined) → j ≡ Full → storedAt vs Full ≡ goOn vs ops i ids base j
 unfolding goOn
 gone-full vs ops i ids base j e = ap (goOn vs ops i ids base) (sym e)

@@ -1,5 +1,6 @@
 // A line read into the sort storage. The steps that recognising it wrote are carried out on a stack of sort numbers;
 // the entry tests all it is lent, recognises the line, and only then stores.
+use resolved_sort::ARGUMENT_WORDS;
 use resolved_sort::ComplexSort;
 use resolved_sort::Counts;
 use resolved_sort::Joined;
@@ -19,6 +20,7 @@ ghost use mathlib.Core.Path.{_≡_};
 ghost use Prim.Native.Nat.{_+_, _-_, _<_, _≤_};
 ghost use lib.ListN.{length, drop, take, getD};
 ghost use Rattle.resolved_sort.specs.Rows.{storedAt};
+ghost use Rattle.resolved_sort.specs.Inner.Storage.{sortNumbers};
 ghost use Rattle.sort_text.specs.Postfix.{opOf};
 ghost use Rattle.sort_reader.specs.Inner.Run.{maxStack, runAt, Running, GoesOn, goOn, argumentsOf};
 ghost use Rattle.resolved_sort.specs.Storage.{maxSorts, maxEntries, fullLength, maxArguments};
@@ -43,11 +45,11 @@ fn operator(step: u8) -> ComplexSort
 }
 
 // The k numbers of a stack from base on.
-fn arguments(ids: [u16; MAX_STACK], base: usize, k: u16) -> [u16; 16]
+fn arguments(ids: [SortId; MAX_STACK], base: usize, k: u16) -> [SortId; ARGUMENT_WORDS]
     requires { ⌜ (k ≤ maxArguments) × (base + k ≤ maxStack) ⌝ }
-    ensures { λ r. ⌜ take k r ≡ take k (drop base ids) ⌝ }
+    ensures { λ r. ⌜ take k (sortNumbers r) ≡ take k (drop base (sortNumbers ids)) ⌝ }
 {
-    let mut out = [0u16; 16];
+    let mut out = [SortId(0); ARGUMENT_WORDS];
     let mut j: u16 = 0;
     while j < k {
         out[j as usize] = ids[base + (j as usize)];
@@ -72,7 +74,7 @@ fn run_from(
     counts: Counts,
     steps: &[u8],
     i: usize,
-    ids: [u16; MAX_STACK],
+    ids: [SortId; MAX_STACK],
     depth: usize,
 ) -> Joined
     requires { ⌜ Running (now sorts) (counts .sorts) (counts .entries) (now steps) i ids depth ⌝ }
@@ -85,19 +87,19 @@ fn run_from(
         if depth == 0 {
             return Joined::Nothing(counts);
         }
-        return Joined::At(SortId(ids[depth - 1]), counts);
+        return Joined::At(ids[depth - 1], counts);
     }
     let step = steps[i];
     if step < 6 {
         let mut next = ids;
-        next[depth] = step as u16;
+        next[depth] = SortId(step as u16);
         return run_from(sorts, counts, steps, i + 1, next, depth + 1);
     }
     if depth == 0 {
         return Joined::Nothing(counts);
     }
     if step < 11 {
-        let made = generic(sorts, counts, operator(step), SortId(ids[depth - 1]));
+        let made = generic(sorts, counts, operator(step), ids[depth - 1]);
         return go_on(sorts, made, steps, i, ids, depth - 1);
     }
     run_function(sorts, counts, steps, i, ids, depth, step)
@@ -109,7 +111,7 @@ fn run_function(
     counts: Counts,
     steps: &[u8],
     i: usize,
-    ids: [u16; MAX_STACK],
+    ids: [SortId; MAX_STACK],
     depth: usize,
     step: u8,
 ) -> Joined
@@ -131,7 +133,7 @@ fn run_function(
     }
     let base = depth - 1 - (k as usize);
     let args = arguments(ids, base, k);
-    let made = function(sorts, counts, args, k, SortId(ids[depth - 1]));
+    let made = function(sorts, counts, args, k, ids[depth - 1]);
     go_on(sorts, made, steps, i, ids, base)
 }
 
@@ -141,7 +143,7 @@ fn go_on(
     made: Joined,
     steps: &[u8],
     i: usize,
-    ids: [u16; MAX_STACK],
+    ids: [SortId; MAX_STACK],
     base: usize,
 ) -> Joined
     requires { ⌜ GoesOn (now sorts) (now steps) i ids base made × (base < maxStack) × (i < length (now steps)) ⌝ }
@@ -152,7 +154,7 @@ fn go_on(
     match made {
         Joined::At(id, counts) => {
             let mut next = ids;
-            next[base] = id.0;
+            next[base] = id;
             run_from(sorts, counts, steps, i + 1, next, base + 1)
         }
         Joined::Nothing(counts) => Joined::Nothing(counts),
@@ -221,7 +223,7 @@ pub fn read_line(sorts: &mut [u16], sort_count: usize, entry_count: usize, line:
                 sorts: sort_count as u16,
                 entries: entry_count as u16,
             };
-            let stored = run_from(sorts, counts, &steps[..count], 0, [0u16; MAX_STACK], 0);
+            let stored = run_from(sorts, counts, &steps[..count], 0, [SortId(0); MAX_STACK], 0);
             kept_or_no_room(sorts, sort_count, entry_count, stored)
         }
     }

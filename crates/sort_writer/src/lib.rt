@@ -53,10 +53,10 @@ fn join_sizes(a: usize, b: usize) -> usize
 }
 
 // The size found for a sort. A number past the sizes has none.
-pub fn size_at(sizes: &[usize], id: u16) -> usize
-    ensures { λ r. ⌜ r ≡ getD (now (sizes .entry)) id 0 ⌝ }
+pub fn size_at(sizes: &[usize], id: SortId) -> usize
+    ensures { λ r. ⌜ r ≡ getD (now (sizes .entry)) (id .0) 0 ⌝ }
 {
-    let i = id as usize;
+    let i = id.0 as usize;
     if i < sizes.len() { sizes[i] } else { 0 }
 }
 
@@ -92,7 +92,7 @@ fn argument_size(sorts: &[u16], sizes: &[usize], start: u16, j: u16) -> usize
 {
     size_at(
         sizes,
-        word(sorts, ENTRIES_AT + ((start as usize) + (j as usize))),
+        SortId(word(sorts, ENTRIES_AT + ((start as usize) + (j as usize)))),
     )
 }
 
@@ -121,13 +121,10 @@ fn row_size(sorts: &[u16], sizes: &[usize], row: ResolvedSort) -> usize
     match row {
         ResolvedSort::Unit => 0,
         ResolvedSort::Primitive(sort) => word_size(sort),
-        ResolvedSort::Container { op, subsort } => join_sizes(
-            op_size(op),
-            size_at(sizes, subsort.0),
-        ),
+        ResolvedSort::Container { op, subsort } => join_sizes(op_size(op), size_at(sizes, subsort)),
         ResolvedSort::Function { domain, range } => {
             let arguments = arguments_size(sorts, sizes, domain.start, domain.count);
-            join_sizes(arguments, join_sizes(4, size_at(sizes, range.0)))
+            join_sizes(arguments, join_sizes(4, size_at(sizes, range)))
         }
         ResolvedSort::Def(_) => 0,
         ResolvedSort::TypeVar(_) => 0,
@@ -155,7 +152,7 @@ fn text_size(sorts: &[u16], n: usize, id: SortId) -> usize
 {
     let mut sizes = [0usize; MAX_SORTS];
     fill_sizes(sorts, n, &mut sizes);
-    size_at(&sizes, id.0)
+    size_at(&sizes, id)
 }
 
 // The word of a basic sort.

@@ -20,7 +20,8 @@ use Rattle.resolved_sort.specs.Storage.{maxEntries, trees, lookAll, numbers, so
 use Rattle.resolved_sort.specs.Entries.{countsOf, after, stored}
 use Rattle.resolved_sort.specs.Rows.{Checked, storedAt, AllBelow}
 use Rattle.resolved_sort.specs.Bounds.{internAt}
-use Rattle.resolved_sort.specs.Inner.Bounds.{storedDomain, domainOf}
+use Rattle.resolved_sort.specs.Inner.Storage.{sortNumbers}
+use Rattle.resolved_sort.specs.Inner.Bounds.{StoredDomain, domainLeft, storedDomain, domainOf}
 use Rattle.resolved_sort.proofs.RowTrees.{weaken-all, lookAll-numbers, numbers-below}
 use Rattle.resolved_sort.specs.Growing.{partsIn, members, Grown, SortsExtend, SortsKept, InTree}
 use Rattle.resolved_sort.proofs.Append.{length-numbers}
@@ -189,12 +190,12 @@ module _ (ws : List ℕ) (C : Counts) (k : Checked ws (C .sorts) (C .entries)) (
   S = sortsOf ws n e
 
   -- no arguments
-  pub arguments-done : (j : ℕ) (ids : List ℕ) → storedDomain ws (record { ids = ids; found = All C }) ≡ domainOf ws n e j ids (resolveArguments x no-part S)
+  pub arguments-done : (j : ℕ) (ids : List ℕ) → domainLeft ws ids (All C) ≡ domainOf ws n e j ids (resolveArguments x no-part S)
   unfolding domainOf resolveArguments numbers
   arguments-done j ids =
       let w = sym (after-none ws n e k) in
       let c = sym (counts-are ws C k) in
-      λ y. record { words = w y; domain = record { ids = ids; found = All (c y) } }
+      λ y. record { words = w y; ids = ids; found = All (c y) }
 
   -- one part resolved
   module _ (t : Term) (f : Formed t) (vs : List ℕ) (r : Joined) (er : storedAt vs r ≡ stored ws n e (resolveTerm x t S)) where
@@ -223,19 +224,19 @@ module _ (ws : List ℕ) (C : Counts) (k : Checked ws (C .sorts) (C .entries)) (
         stored-full ws n e (g .0) vs (g .2) ∙ ap (stored ws n e) (sym (resolve-container x o t S ∙ ap (λ O. O then (λ u S. intern (container o u) S)) (g .1)))
 
     pub arguments-stop : (ts : Terms) (j : ℕ) (ids : List ℕ) (K : Counts) → r ≡ Nothing K
-        → storedDomain vs (record { ids = replicate 16 0; found = NotAll K }) ≡ domainOf ws n e j ids (resolveArguments x (part t ts) S)
+        → domainLeft vs (replicate 16 0) (NotAll K) ≡ domainOf ws n e j ids (resolveArguments x (part t ts) S)
     unfolding domainOf resolveArguments
     arguments-stop ts j ids K z =
         let g = part-stopped K z in
-        (let w = g .2 in let c = g .3 in λ y. record { words = w y; domain = record { ids = replicate 16 0; found = NotAll (c y) } })
+        (let w = g .2 in let c = g .3 in λ y. record { words = w y; ids = replicate 16 0; found = NotAll (c y) })
         ∙ sym (ap (λ O. domainOf ws n e j ids (O then (λ u S. resolveArguments x ts S then (λ us S. made (arg u us) S)))) (g .1))
 
     pub arguments-end : (ts : Terms) (j : ℕ) (ids : List ℕ) → r ≡ Full
-        → storedDomain vs (record { ids = replicate 16 0; found = NoRoom }) ≡ domainOf ws n e j ids (resolveArguments x (part t ts) S)
+        → domainLeft vs (replicate 16 0) NoRoom ≡ domainOf ws n e j ids (resolveArguments x (part t ts) S)
     unfolding domainOf resolveArguments
     arguments-end ts j ids z =
         let g = part-ended z in
-        (let w = g .2 in λ y. record { words = w y; domain = record { ids = replicate 16 0; found = NoRoom } })
+        (let w = g .2 in λ y. record { words = w y; ids = replicate 16 0; found = NoRoom })
         ∙ sym (ap (λ O. domainOf ws n e j ids (O then (λ u S. resolveArguments x ts S then (λ us S. made (arg u us) S)))) (g .1))
 
     module _ (c : SortId) (K : Counts) (z : r ≡ At c K) where
@@ -263,11 +264,11 @@ module _ (ws : List ℕ) (C : Counts) (k : Checked ws (C .sorts) (C .entries)) (
           ∙ ap (stored ws n e) (sym (resolve-container x o t S ∙ ap (λ O. O then (λ u S. intern (container o u) S)) (part-reached .is)))))
 
       -- it is the first argument, and the others follow
-      pub arguments-made : (ts : Terms) → AllFormed ts → (j : ℕ) (ids us : List ℕ) (a : Domain)
-          → storedDomain us a ≡ domainOf vs (K .sorts) (K .entries) (j + 1) (set ids j (c .0)) (resolveArguments x ts (sortsOf vs (K .sorts) (K .entries)))
-          → storedDomain us a ≡ domainOf ws n e j ids (resolveArguments x (part t ts) S)
+      pub arguments-made : (ts : Terms) → AllFormed ts → (j : ℕ) (ids : List ℕ) (d : StoredDomain)
+          → d ≡ domainOf vs (K .sorts) (K .entries) (j + 1) (set ids j (c .0)) (resolveArguments x ts (sortsOf vs (K .sorts) (K .entries)))
+          → d ≡ domainOf ws n e j ids (resolveArguments x (part t ts) S)
       unfolding resolveArguments
-      arguments-made ts fs j ids us a q =
+      arguments-made ts fs j ids d q =
           q ∙ (ap (λ U. domainOf vs (K .sorts) (K .entries) (j + 1) (set ids j (c .0)) (resolveArguments x ts U))
           (reached-list ws n e S one vs c K part-reached)
           ∙ (ap₂ (λ ys D. domainOf ys (D .sorts) (D .entries) (j + 1) (set ids j (c .0)) (resolveArguments x ts S′))
@@ -381,7 +382,7 @@ module _ (ws : List ℕ) (C : Counts) (k : Checked ws (C .sorts) (C .entries)) (
             arguments-count : length (numbers (S₁ .trees) args) ≡ count ts
             arguments-count = length-numbers (S₁ .trees) args ∙ arguments-reached .as-many
 
-            ids-are : take (count ts) (a .ids) ≡ numbers (S₁ .trees) args
+            ids-are : take (count ts) (sortNumbers (a .ids)) ≡ numbers (S₁ .trees) args
             ids-are = ap₂ take (sym arguments-count) (arguments-reached .stored-ids) ∙ first-ids (numbers (S₁ .trees)
                 args) (omega (arith, arguments-count, few))
 
@@ -394,7 +395,7 @@ module _ (ws : List ℕ) (C : Counts) (k : Checked ws (C .sorts) (C .entries)) (
               length-append (S₁ .trees) (range-reached .extends .0),
             )
 
-            pub function-ids-below : AllBelow (K₂ .sorts) (take (count ts) (a .ids))
+            pub function-ids-below : AllBelow (K₂ .sorts) (take (count ts) (sortNumbers (a .ids)))
             function-ids-below =
                 subst (AllBelow (K₂ .sorts)) (sym ids-are) (weaken-all n₁ (K₂ .sorts) (numbers (S₁ .trees) args)
                 sorts-grow (numbers-below (S₁ .trees) args (arguments-reached .inside)))
@@ -402,7 +403,7 @@ module _ (ws : List ℕ) (C : Counts) (k : Checked ws (C .sorts) (C .entries)) (
             members-there : members (S₂ .trees) args ≡ true
             members-there = members-extends S₁ S₂ args (range-reached .extends) (arguments-reached .inside)
 
-            args-there : lookAll (trees us (K₂ .sorts)) (take (count ts) (a .ids)) ≡ args
+            args-there : lookAll (trees us (K₂ .sorts)) (take (count ts) (sortNumbers (a .ids))) ≡ args
             args-there =
                 ap₂ lookAll (reached-trees w₁ n₁ e₁ S₁ (range S₁) us c K₂ range-reached)
                 (ids-are ∙ sym (numbers-extend S₁ S₂ args (range-reached .extends) (arguments-reached .inside)))
@@ -417,7 +418,7 @@ module _ (ws : List ℕ) (C : Counts) (k : Checked ws (C .sorts) (C .entries)) (
 
             pub function-made : (zs : List ℕ) (w : Joined)
                 → storedAt zs w ≡ internAt us (K₂ .sorts) (K₂ .entries) (function (lookAll (trees us (K₂ .sorts))
-                (take (count ts) (a .ids))) (look (trees us (K₂ .sorts)) (c .0)))
+                (take (count ts) (sortNumbers (a .ids)))) (look (trees us (K₂ .sorts)) (c .0)))
                 → storedAt zs w ≡ stored ws n e (resolveTerm x functionTerm S)
             unfolding need
             function-made zs w g =

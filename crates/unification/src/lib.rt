@@ -14,6 +14,12 @@ pub struct NodeId(pub u16);
 // The number of a unification variable.
 pub struct SortVar(pub u16);
 
+// A place taken apart.
+pub enum Place {
+    Sort(SortId),
+    Node(NodeId),
+}
+
 // What a node says. Its parts are places, and the domain of a function is a run of places where the Rust has a Vec.
 // A sort that may still hold variables. What is fully known is a sort number, a leaf; structure is spelled out only
 // around the variables that inference has to solve, such as `List(?t)` for an empty list.

@@ -43,10 +43,10 @@ fn test_places(
         (placeChecks (now (sorts .entry)) «sort_count» (now (nodes .entry)) «node_count» (lhs .0) (rhs .0)))
         ⌝ }
 {
-    if !is_place(sort_count, node_count, lhs.0) {
+    if !is_place(sort_count, node_count, lhs) {
         return Tested::Refused(12);
     }
-    if !is_place(sort_count, node_count, rhs.0) {
+    if !is_place(sort_count, node_count, rhs) {
         return Tested::Refused(12);
     }
     if sorts.len() < SORT_WORDS {

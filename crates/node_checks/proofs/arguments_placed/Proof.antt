@@ -13,10 +13,10 @@ use Rattle.node_checks.proofs.arguments_placed.Statement.{statement}
 use Rattle.node_checks.proofs.arguments_placed.Tie as tie
 
 abbrev Inv-loop : tie.InvT-loop
-Inv-loop nodes n i start count j₀ j = (j ≤ count) × (allBelow j (argPlaced nodes n i start) ≡ true)
+Inv-loop nodes n m start count j₀ j = (j ≤ count) × (allBelow j (argPlaced nodes n m start) ≡ true)
 
 abbrev μ-loop : tie.MeasureT-loop
-μ-loop nodes n i start count j₀ j = count - j
+μ-loop nodes n m start count j₀ j = count - j
 
 pub arguments-placed-spec : {M : Type 1} → statement M
 arguments-placed-spec =
@@ -36,8 +36,8 @@ arguments-placed-spec =
     let at-loop = at-loop-test .before in
     let start = at-loop .before .before in
     let args = start .args in
-    below.tested-not (argPlaced (args .nodes .now) (args .n) (args .i) (args .start)) (at-loop .loop .j)
-    (c .before .is-place .result) (c .before .is-place .ensures ∙ ap (isPlace (args .n) (args .i))
+    below.tested-not (argPlaced (args .nodes .now) (args .n) (args .m) (args .start)) (at-loop .loop .j)
+    (c .before .is-place .result) (c .before .is-place .ensures ∙ ap (isPlace (args .n) (args .m))
     (at-word .word .ensures)) (args .count) (at-loop-test .loop-test .taken) (not-true _ (c .if1 .taken)))
     (λ c. omega arith)
     (λ c. omega arith)
@@ -47,8 +47,8 @@ arguments-placed-spec =
     let start = at-loop .before .before in
     let args = start .args in (
       omega arith,
-      below.tested-more (argPlaced (args .nodes .now) (args .n) (args .i) (args .start))
+      below.tested-more (argPlaced (args .nodes .now) (args .n) (args .m) (args .start))
           (at-loop .loop .j) (c .before .is-place .result) (c .before .is-place .ensures ∙ ap (isPlace (args .n)
-          (args .i)) (at-word .word .ensures)) (not-false _ (c .if1 .left)) (at-loop .loop .inv .1),
+          (args .m)) (at-word .word .ensures)) (not-false _ (c .if1 .left)) (at-loop .loop .inv .1),
     ))
     (λ c. below.allBelow-done _ _ (c .before .loop .j) (omega arith) (omega arith) (c .before .loop .inv .1)))

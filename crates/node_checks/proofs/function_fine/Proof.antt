@@ -13,29 +13,31 @@ function-fine-spec =
     (λ c.
     let start = c .before .before in
     let args = start .args in
-    law.many-arguments (args .nodes .now) (args .d) (args .n) (args .v) (args .i) (args .domain) (args .range) (c .if1 .taken))
+    law.many-arguments (args .nodes .now) (args .d) (args .n) (args .v) (args .id .0) (args .domain) (args .range) (c .if1 .taken))
     (λ c. search needs)
     (λ c. search needs)
     (λ c. search needs)
     (λ c.
     let start = c .before .before .before in
     let args = start .args in
-    law.run-outside (args .nodes .now) (args .d) (args .n) (args .v) (args .i) (args .domain) (args .range) (c .before .if1 .left) (c .if2 .taken))
+    law.run-outside (args .nodes .now) (args .d) (args .n) (args .v) (args .id .0) (args .domain) (args .range) (c .before .if1 .left) (c .if2 .taken))
+    (λ c. search needs)
     (λ c κs. search needs)
     (λ c.
-    let at-if2 = c .before .before in
+    let at-if2 = c .before .before .before in
     let at-if1 = at-if2 .before in
     let start = at-if1 .before .before in
     let args = start .args in
-    law.range-stray (args .nodes .now) (args .d) (args .n) (args .v) (args .i) (args .domain) (args .range)
+    law.range-stray (args .nodes .now) (args .d) (args .n) (args .v) (args .id .0) (args .domain) (args .range)
     (at-if1 .if1 .left) (at-if2 .if2 .left) _ (c .before .is-place .ensures) (not-true _ (c .if3 .taken)))
+    (λ c. search needs)
     (λ c κs. search needs)
     (λ c.
-    let at-is-place = c .before .before in
-    let at-if2 = at-is-place .before in
+    let at-is-place = c .before .before .before in
+    let at-if2 = at-is-place .before .before in
     let at-if1 = at-if2 .before in
     let start = at-if1 .before .before in
     let args = start .args in
-    law.by-arguments (args .nodes .now) (args .d) (args .n) (args .v) (args .i) (args .domain) (args .range)
+    law.by-arguments (args .nodes .now) (args .d) (args .n) (args .v) (args .id .0) (args .domain) (args .range)
     (at-if1 .if1 .left) (at-if2 .if2 .left) _ (at-is-place .is-place .ensures)
-    (not-false _ (c .before .if3 .left)) _ (c .arguments-placed .ensures)))
+    (not-false _ (c .before .before .if3 .left)) _ (c .arguments-placed .ensures)))

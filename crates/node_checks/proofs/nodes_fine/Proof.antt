@@ -25,7 +25,8 @@ nodes-fine-spec =
     Inv-loop
     μ-loop
     (λ c. (omega arith, below.allBelow-zero _))
-    (λ c κs. omega (arith, c .loop-test .taken, c .before .before .before .pre))
+    (λ c. omega (arith, c .loop-test .taken, c .before .before .before .pre))
+    (λ c κs. search needs)
     (λ c.
     let at-loop-test = c .before .before in
     let at-loop = at-loop-test .before in

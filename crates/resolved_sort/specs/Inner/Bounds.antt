@@ -13,6 +13,7 @@ use Rattle.resolved_sort.specs.declared.Side.{Side}
 use Rattle.resolved_sort.specs.declared.Side.the-variants.{Lhs, Rhs, Neither}
 use Rattle.resolved_sort.specs.declared.OpBound.{OpBound}
 use Rattle.resolved_sort.specs.declared.OpBound.the-variants.{Is, Nothing as NoOp}
+use Rattle.resolved_sort.specs.declared.Found.{Found}
 use Rattle.resolved_sort.specs.declared.Found.the-variants.{All, Nothing, Full}
 use Rattle.resolved_sort.specs.declared.Domain.{Domain}
 use Rattle.resolved_sort.specs.Tree.{primitive, container, function, Trees, family, level}
@@ -21,6 +22,7 @@ use Rattle.resolved_sort.specs.Interning.{look, Outcome, made, nothing, 
 use Rattle.resolved_sort.specs.Interning.{make, makes}
 use Rattle.resolved_sort.specs.Storage.{maxArguments, functionKind, kindAt, partAt, startAt, countAt}
 use Rattle.resolved_sort.specs.Storage.{entriesOf, lookAll, numbers, trees, sortsOf}
+use Rattle.resolved_sort.specs.Inner.Storage.{sortNumbers}
 use Rattle.resolved_sort.specs.Entries.{countsOf, after, Stored, stored}
 use Rattle.resolved_sort.specs.Bounds.{Asked}
 
@@ -50,10 +52,14 @@ pub record TwoFunctions (ws : List ℕ) (n e a b : ℕ) : Type 0 where
 
 pub record StoredDomain : Type 0 where
   pub words : List ℕ
-  pub domain : Domain
+  pub ids : List ℕ
+  pub found : Found
+
+abbrev pub domainLeft : List ℕ → List ℕ → Found → StoredDomain
+domainLeft ws ids found = record { words = ws; ids = ids; found = found }
 
 abbrev pub storedDomain : List ℕ → Domain → StoredDomain
-storedDomain ws d = record { words = ws; domain = d }
+storedDomain ws d = domainLeft ws (sortNumbers (d .ids)) (d .found)
 
 -- the sorts of the arguments from the i-th on
 abbrev pub argumentsFrom : List ℕ → ℕ → ℕ → ℕ → Trees
@@ -62,11 +68,9 @@ argumentsFrom ws n a i = lookAll (trees ws n) (entriesOf ws (startAt ws a + i) (
 -- the numbers of the answers stored from the i-th of the ids on; no ids where an answer is missing
 unfoldable pub domainOf : List ℕ → ℕ → ℕ → ℕ → List ℕ → Outcome Trees → StoredDomain
 domainOf ws n e i ids (made vs S) =
-    storedDomain (after ws n e S)
-    (record { ids = sets ids i (numbers (S .trees) vs); found = All (countsOf S) })
-domainOf ws n e i ids (nothing S) =
-    storedDomain (after ws n e S) (record { ids = replicate maxArguments 0; found = Nothing (countsOf S) })
-domainOf ws n e i ids (full S) = storedDomain (after ws n e S) (record { ids = replicate maxArguments 0; found = Full })
+    domainLeft (after ws n e S) (sets ids i (numbers (S .trees) vs)) (All (countsOf S))
+domainOf ws n e i ids (nothing S) = domainLeft (after ws n e S) (replicate maxArguments 0) (Nothing (countsOf S))
+domainOf ws n e i ids (full S) = domainLeft (after ws n e S) (replicate maxArguments 0) Full
 
 -- the joins or meets of the arguments of a and b from the i-th on
 unfoldable pub boundDomain : Bool → List ℕ → ℕ → ℕ → ℕ → ℕ → ℕ → List ℕ → StoredDomain

@@ -1,4 +1,4 @@
--- The loop's invariant: every entry passed is below `i`. Assumes nothing.
+-- The loop's invariant: every entry passed is below the row. Assumes nothing.
 use mathlib.Core.Path.{_≡_}
 use mathlib.Core.Bool.{true}
 use Prim.Native.Nat.{_-_, _≤_}
@@ -12,10 +12,10 @@ use Rattle.sort_checks.proofs.args_below.Statement.{statement}
 use Rattle.sort_checks.proofs.args_below.Tie as tie
 
 abbrev Inv-loop : tie.InvT-loop
-Inv-loop sorts start count i j₀ j = (j ≤ count) × (allBelow j (argBelow sorts start i) ≡ true)
+Inv-loop sorts start count id j₀ j = (j ≤ count) × (allBelow j (argBelow sorts start (id .0)) ≡ true)
 
 abbrev μ-loop : tie.MeasureT-loop
-μ-loop sorts start count i j₀ j = count - j
+μ-loop sorts start count id j₀ j = count - j
 
 pub args-below-spec : {M : Type 1} → statement M
 args-below-spec =

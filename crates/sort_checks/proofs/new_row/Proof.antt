@@ -12,10 +12,10 @@ use Rattle.sort_checks.proofs.new_row.Statement.{statement}
 use Rattle.sort_checks.proofs.new_row.Tie as tie
 
 abbrev Inv-loop : tie.InvT-loop
-Inv-loop sorts j i₀ i = (i ≤ j) × (allBelow i (otherRow sorts j) ≡ true)
+Inv-loop sorts id i₀ i = (i ≤ id .0) × (allBelow i (otherRow sorts (id .0)) ≡ true)
 
 abbrev μ-loop : tie.MeasureT-loop
-μ-loop sorts j i₀ i = j - i
+μ-loop sorts id i₀ i = id .0 - i
 
 pub new-row-spec : {M : Type 1} → statement M
 new-row-spec =

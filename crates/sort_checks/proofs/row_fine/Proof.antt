@@ -9,6 +9,7 @@ row-fine-spec =
     tie.close
     (tie.spec
     (λ c. search needs)
+    (λ c. search needs)
     (λ c κs. search needs)
     (λ c. search law.row-false-by-kind)
     (λ c κs. search needs)

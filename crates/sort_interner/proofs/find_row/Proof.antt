@@ -4,15 +4,14 @@ use Prim.Native.Nat.{_-_, _≤_}
 use native.Mathlib.Omega.{arith}
 use borrow.Author.Needs.{needs}
 use Rattle.resolved_sort.specs.Rows.{firstFrom, findRow}
-use Rattle.sort_interner.specs.Inner.Tests.{isRow}
+use Rattle.sort_interner.specs.Inner.Tests.{givenRow, isRow}
 use Rattle.sort_interner.proofs.Find as law
-use Rattle.sort_interner.proofs.Interned.{rowWith}
 use Rattle.sort_interner.proofs.find_row.Statement.{statement}
 use Rattle.sort_interner.proofs.find_row.Tie as tie
 
 abbrev Inv-loop : tie.InvT-loop
 Inv-loop sorts n kind part ids count row₀ row =
-    (row ≤ n) × (findRow sorts n (rowWith kind part ids count) ≡ firstFrom (isRow sorts (rowWith kind part ids count)) (n - row) row)
+    (row ≤ n) × (findRow sorts n (givenRow kind part ids count) ≡ firstFrom (isRow sorts (givenRow kind part ids count)) (n - row) row)
 
 abbrev μ-loop : tie.MeasureT-loop
 μ-loop sorts n kind part ids count row₀ row = n - row

@@ -2,6 +2,7 @@
 use borrow.Author.Needs.{needs}
 use mathlib.Core.Path.{_∙_}
 use lib.ListN.{take}
+use Rattle.resolved_sort.specs.Inner.Storage.{sortNumbers}
 use Rattle.resolved_sort.proofs.BoundsCode as law
 use Rattle.sort_interner.proofs.function.Statement.{statement}
 use Rattle.sort_interner.proofs.function.Tie as tie
@@ -20,7 +21,7 @@ returns c =
     let start = at-intern .before .before .before in
     let a = start .args in
     let p = start .pre in
-    at-intern .intern .ensures ∙ law.function-interns (a .sorts .now) (a .counts) (p .0) (take (a .count) (a .ids)) (a .range .0) (p .3) (p .1)
+    at-intern .intern .ensures ∙ law.function-interns (a .sorts .now) (a .counts) (p .0) (take (a .count) (sortNumbers (a .ids))) (a .range .0) (p .3) (p .1)
 
 pub function-spec : {M : Type 1} → statement M
 function-spec = tie.close (tie.spec intern-requires same-length returns)

@@ -6,12 +6,13 @@ use lib.ListN.{take}
 use borrow.Author.Needs.{needs}
 use Rattle.resolved_sort.specs.Storage.{entriesOf}
 use Rattle.resolved_sort.specs.Rows.{sameWords}
+use Rattle.resolved_sort.specs.Inner.Storage.{sortNumbers}
 use Rattle.sort_interner.proofs.Runs as law
 use Rattle.sort_interner.proofs.has_args.Statement.{statement}
 use Rattle.sort_interner.proofs.has_args.Tie as tie
 
 abbrev Inv-loop : tie.InvT-loop
-Inv-loop sorts n ids s k₀ k = (k ≤ n) × (sameWords (entriesOf sorts s n) (take n ids) ≡ law.sameFrom k (entriesOf sorts s n) (take n ids))
+Inv-loop sorts n ids s k₀ k = (k ≤ n) × (sameWords (entriesOf sorts s n) (take n (sortNumbers ids)) ≡ law.sameFrom k (entriesOf sorts s n) (take n (sortNumbers ids)))
 
 abbrev μ-loop : tie.MeasureT-loop
 μ-loop sorts n ids s k₀ k = n - k

@@ -14,12 +14,12 @@ is-row-spec =
     (λ c κs. search needs)
     (λ c. law.rows-differ-by-kind _ _ _ _ (c .before .kind-at .ensures) refl (c .if1 .taken))
     (λ c κs. search needs)
-    (λ c. law.rows-differ-by-part _ _ _ _ (c .before .before .before .kind-at .ensures) refl _ _ (c .before .part-at .ensures) refl (c .if2 .taken))
+    (λ c. law.rows-differ-by-part _ _ _ _ (c .before .before .before .before .kind-at .ensures) refl _ _ (c .before .before .part-at .ensures) refl (c .if2 .taken))
     (λ c κs. search needs)
     (λ c κs. search needs)
     (λ c.
     let at-if2 = c .before .before in
-    let at-part-at = at-if2 .before in
+    let at-part-at = at-if2 .before .before in
     let at-if1 = at-part-at .before in
     let at-kind-at = at-if1 .before in
     law.rows-same-by-args _ _ _ _ (at-kind-at .kind-at .ensures) refl _ _ (at-part-at .part-at .ensures) refl

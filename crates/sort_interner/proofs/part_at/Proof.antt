@@ -12,5 +12,6 @@ part-at-spec =
     (λ c. search law.part-is-zero)
     (λ c. search needs)
     (λ c. search needs)
+    (λ c. search needs)
     (λ c κs. search needs)
     (λ c. search law.part-is-word))

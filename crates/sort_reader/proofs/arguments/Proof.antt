@@ -26,8 +26,8 @@ add-out c = search needs
 mul-out : tie.Need-mul-out Inv-loop μ-loop
 mul-out c = search needs
 
-array-read-out : tie.Need-array-read-out Inv-loop μ-loop
-array-read-out c = search needs
+array-copy-out-out : tie.Need-array-copy-out-out Inv-loop μ-loop
+array-copy-out-out c = search needs
 
 cast-out-2 : tie.Need-cast-out-2 Inv-loop μ-loop
 cast-out-2 c = search needs
@@ -35,8 +35,8 @@ cast-out-2 c = search needs
 mul-out-2 : tie.Need-mul-out-2 Inv-loop μ-loop
 mul-out-2 c = search needs
 
-array-write-out : tie.Need-array-write-out Inv-loop μ-loop
-array-write-out c = search needs
+array-set-from-out : tie.Need-array-set-from-out Inv-loop μ-loop
+array-set-from-out c = search needs
 
 add-j : tie.Need-add-j Inv-loop μ-loop
 add-j c = search needs
@@ -46,12 +46,12 @@ loop-less c = search needs
 
 loop-again : tie.Need-loop-again Inv-loop μ-loop
 loop-again c =
-    let l : length (c .before .before .args .t1) ≡ 256 = search needs in
-    let k : c .before .loop .j < 16 = omega arith in (
+    let l : length (c .before .before .before .args .t1) ≡ 256 = search needs in
+    let k : c .before .before .loop .j < 16 = omega arith in (
       omega arith,
-      length-set (c .before .loop .out) (c .before .loop .j) _ ∙ c .before .loop .inv .1,
-      law.copied-one (c .before .loop .out) (c .before .before .args .t1) (c .before .before .args .base) (c .before .loop .j) _ (c .before .loop .inv .2)
-          (omega (arith, c .before .loop .inv .1)) (omega arith) refl,
+      length-set (c .before .before .loop .out) (c .before .before .loop .j) _ ∙ c .before .before .loop .inv .1,
+      law.copied-one (c .before .before .loop .out) (c .before .before .before .args .t1) (c .before .before .before .args .base) (c .before .before .loop .j) _ (c .before .before .loop .inv .2)
+          (omega (arith, c .before .before .loop .inv .1)) (omega arith) refl,
     )
 
 returns : tie.Need-returns Inv-loop μ-loop
@@ -60,7 +60,8 @@ returns c =
     let start = at-loop .before in
     let args = start .args in
     let e : at-loop .loop .j ≡ args .k = omega arith in
-    subst (λ m. take m (at-loop .loop .out) ≡ take m (drop (args .base) (args .t1))) e (at-loop .loop .inv .2)
+    law.copied-numbers (at-loop .loop .out) (args .t1) (args .base) (args .k)
+    (subst (λ m. take m (at-loop .loop .out) ≡ take m (drop (args .base) (args .t1))) e (at-loop .loop .inv .2))
 
 pub arguments-spec : {M : Type 1} → statement M
 arguments-spec =
@@ -72,10 +73,10 @@ arguments-spec =
     cast-out
     add-out
     mul-out
-    array-read-out
+    array-copy-out-out
     cast-out-2
     mul-out-2
-    array-write-out
+    array-set-from-out
     add-j
     loop-less
     loop-again

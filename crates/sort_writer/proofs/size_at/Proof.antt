@@ -12,4 +12,5 @@ size-at-spec =
     (λ c. search needs)
     (λ c. search needs)
     (λ c. search needs)
-    (λ c. sym (List·getD-eq-default (c .before .args .sizes .now) 0 (c .if1 .left))))
+    (λ c. search needs)
+    (λ c. sym (List·getD-eq-default (c .before .before .args .sizes .now) 0 (c .if1 .left))))

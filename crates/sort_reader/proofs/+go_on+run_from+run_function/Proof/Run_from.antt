@@ -21,6 +21,7 @@ use borrow.Author.Needs.{needs}
 use Rattle.resolved_sort.specs.Tree.{container}
 use Rattle.resolved_sort.specs.Interning.{look}
 use Rattle.resolved_sort.specs.Storage.{trees}
+use Rattle.sort_reader.specs.Inner.Run.{idAt}
 use Rattle.resolved_sort.specs.Bounds.{internAt}
 use Rattle.sort_reader.proofs.Ways as way
 use Rattle.sort_reader.proofs.+go_on+run_from+run_function.Proof.Common.{go-on-below, run-from-at, run-from-below, run-function-below}
@@ -59,11 +60,11 @@ part M t =
     (λ c. omega (arith, c .if2 .left))
     (λ c. omega (arith, c .if2 .left, c .before .if1 .taken))
     (λ c. omega (arith, c .if2 .left, c .before .before .before .before .pre .1 .room))
-    (λ c. way.run-top (c .before .before .before .before .args .sorts .now)
-    (c .before .before .before .before .args .counts) (c .before .before .before .before .args .steps .now)
-    (c .before .before .before .before .args .i) (c .before .before .before .before .args .t5) (search needs)
-    (c .before .before .before .before .args .depth) (c .before .before .before .before .pre .1)
-    (c .before .if1 .taken) (c .if2 .left) _ refl)
+    (λ c. way.run-top (c .before .before .before .before .before .args .sorts .now)
+    (c .before .before .before .before .before .args .counts) (c .before .before .before .before .before .args .steps .now)
+    (c .before .before .before .before .before .args .i) (c .before .before .before .before .before .args .t5) (search needs)
+    (c .before .before .before .before .before .args .depth) (c .before .before .before .before .before .pre .1)
+    (c .before .before .if1 .taken) (c .before .if2 .left) _ refl)
     (λ c. search needs)
     (λ c. omega (arith, c .if3 .taken, c .before .before .if1 .left))
     (λ c. omega (arith, c .if3 .taken, c .before .before .if1 .left))
@@ -121,77 +122,75 @@ part M t =
     let start = at-if4 .before .before .before .before .before .before in
     omega (arith, at-if4 .if4 .left, start .pre .1 .room))
     (λ c κs. (
-      c .before .before .before .before .before .before .before .before .before .pre .1 .checked,
-      way.last-below (c .before .before .before .before .before .before .before .before .before .args .sorts .now)
-          (c .before .before .before .before .before .before .before .before .before .args .counts)
-          (c .before .before .before .before .before .before .before .before .before .args .steps .now)
-          (c .before .before .before .before .before .before .before .before .before .args .i)
-          (c .before .before .before .before .before .before .before .before .before .args .t5) (search needs)
-          (c .before .before .before .before .before .before .before .before .before .args .depth)
-          (c .before .before .before .before .before .before .before .before .before .pre .1)
-          (c .before .before .before .before .before .before .if1 .left) (c .before .before .before .before .if3 .left)
-          (c .before .before .if5 .taken) (c .before .before .before .if4 .left),
+      c .before .before .before .before .before .before .before .before .before .before .pre .1 .checked,
+      way.last-below (c .before .before .before .before .before .before .before .before .before .before .args .sorts .now)
+          (c .before .before .before .before .before .before .before .before .before .before .args .counts)
+          (c .before .before .before .before .before .before .before .before .before .before .args .steps .now)
+          (c .before .before .before .before .before .before .before .before .before .before .args .i)
+          (c .before .before .before .before .before .before .before .before .before .before .args .t5) (search needs)
+          (c .before .before .before .before .before .before .before .before .before .before .args .depth)
+          (c .before .before .before .before .before .before .before .before .before .before .pre .1)
+          (c .before .before .before .before .before .before .before .if1 .left) (c .before .before .before .before .before .if3 .left)
+          (c .before .before .before .if5 .taken) (c .before .before .before .before .if4 .left),
     ))
-    (λ c. omega (arith, c .before .before .before .before .before .before .before .if4 .left))
+    (λ c. omega (arith, c .before .before .before .before .before .before .before .before .if4 .left))
     (λ c κs. (
       omega (
         arith,
-        c .before .before .before .before .before .before .before .before .before .before .before .before .before .pre .0,
+        c .before .before .before .before .before .before .before .before .before .before .before .before .before .before .pre .0,
       ),
       (
         way.container-goes-on
-            (c .before .before .before .before .before .before .before .before .before .before .before .before .before .args .sorts .now)
-            (c .before .before .before .before .before .before .before .before .before .before .before .before .before .args .counts)
-            (c .before .before .before .before .before .before .before .before .before .before .before .before .before .args .steps .now)
-            (c .before .before .before .before .before .before .before .before .before .before .before .before .before .args .i)
-            (c .before .before .before .before .before .before .before .before .before .before .before .before .before .args .t5)
-            (search needs) (c .before .before .before .before .before .before .before .before .before .before .before .before .before .args .depth)
-            (c .before .before .before .before .before .before .before .before .before .before .before .before .before .pre .1)
-            (c .before .before .before .before .before .before .before .before .before .before .if1 .left)
-            (c .before .before .before .before .before .before .before .before .if3 .left)
-            (c .before .before .before .before .before .before .if5 .taken)
-            (c .before .before .before .before .before .before .before .if4 .left) _ _
+            (c .before .before .before .before .before .before .before .before .before .before .before .before .before .before .args .sorts .now)
+            (c .before .before .before .before .before .before .before .before .before .before .before .before .before .before .args .counts)
+            (c .before .before .before .before .before .before .before .before .before .before .before .before .before .before .args .steps .now)
+            (c .before .before .before .before .before .before .before .before .before .before .before .before .before .before .args .i)
+            (c .before .before .before .before .before .before .before .before .before .before .before .before .before .before .args .t5)
+            (search needs) (c .before .before .before .before .before .before .before .before .before .before .before .before .before .before .args .depth)
+            (c .before .before .before .before .before .before .before .before .before .before .before .before .before .before .pre .1)
+            (c .before .before .before .before .before .before .before .before .before .before .before .if1 .left)
+            (c .before .before .before .before .before .before .before .before .before .if3 .left)
+            (c .before .before .before .before .before .before .before .if5 .taken)
+            (c .before .before .before .before .before .before .before .before .if4 .left) _ _
             (c .before .before .before .generic .ensures ∙ ap
-            (λ o. internAt (c .before .before .before .before .before .before .before .before .before .before .before .before .before .args .sorts .now)
-            (c .before .before .before .before .before .before .before .before .before .before .before .before .before .args .counts .sorts)
-            (c .before .before .before .before .before .before .before .before .before .before .before .before .before .args .counts .entries)
+            (λ o. internAt (c .before .before .before .before .before .before .before .before .before .before .before .before .before .before .args .sorts .now)
+            (c .before .before .before .before .before .before .before .before .before .before .before .before .before .before .args .counts .sorts)
+            (c .before .before .before .before .before .before .before .before .before .before .before .before .before .before .args .counts .entries)
             (container o (look (trees
-            (c .before .before .before .before .before .before .before .before .before .before .before .before .before .args .sorts .now)
-            (c .before .before .before .before .before .before .before .before .before .before .before .before .before .args .counts .sorts))
-            (getD (c .before .before .before .before .before .before .before .before .before .before .before .before .before .args .t5)
-            (c .before .before .before .before .before .before .before .before .before .before .before .before .before .args .depth
-            - 1) 0)))) (c .before .before .before .before .operator .ensures)),
+            (c .before .before .before .before .before .before .before .before .before .before .before .before .before .before .args .sorts .now)
+            (c .before .before .before .before .before .before .before .before .before .before .before .before .before .before .args .counts .sorts))
+            (idAt (c .before .before .before .before .before .before .before .before .before .before .before .before .before .before .args .t5) (c .before .before .before .before .before .before .before .before .before .before .before .before .before .before .args .depth
+            - 1))))) (c .before .before .before .before .before .operator .ensures)),
         omega (
           arith,
-          c .before .before .before .before .before .before .before .if4 .left,
-          c .before .before .before .before .before .before .before .before .before .before .before .before .before .pre .1 .room,
+          c .before .before .before .before .before .before .before .before .if4 .left,
+          c .before .before .before .before .before .before .before .before .before .before .before .before .before .before .pre .1 .room,
         ),
-        c .before .before .before .before .before .before .before .before .before .before .if1 .left,
+        c .before .before .before .before .before .before .before .before .before .before .before .if1 .left,
       ),
     ))
     (λ c. c .before .before .go-on .kept .0 ∙ c .before .before .before .before .before .before .generic .kept .0)
     (λ c. way.container-gone-on
-    (c .before .before .before .before .before .before .before .before .before .before .before .before .before .before .before .before .args .sorts .now)
-    (c .before .before .before .before .before .before .before .before .before .before .before .before .before .before .before .before .args .counts)
-    (c .before .before .before .before .before .before .before .before .before .before .before .before .before .before .before .before .args .steps .now)
-    (c .before .before .before .before .before .before .before .before .before .before .before .before .before .before .before .before .args .i)
-    (c .before .before .before .before .before .before .before .before .before .before .before .before .before .before .before .before .args .t5)
-    (search needs) (c .before .before .before .before .before .before .before .before .before .before .before .before .before .before .before .before .args .depth)
-    (c .before .before .before .before .before .before .before .before .before .before .before .before .before .before .before .before .pre .1)
-    (c .before .before .before .before .before .before .before .before .before .before .before .before .before .if1 .left)
-    (c .before .before .before .before .before .before .before .before .before .before .before .if3 .left)
-    (c .before .before .before .before .before .before .before .before .before .if5 .taken)
-    (c .before .before .before .before .before .before .before .before .before .before .if4 .left) _ _
+    (c .before .before .before .before .before .before .before .before .before .before .before .before .before .before .before .before .before .args .sorts .now)
+    (c .before .before .before .before .before .before .before .before .before .before .before .before .before .before .before .before .before .args .counts)
+    (c .before .before .before .before .before .before .before .before .before .before .before .before .before .before .before .before .before .args .steps .now)
+    (c .before .before .before .before .before .before .before .before .before .before .before .before .before .before .before .before .before .args .i)
+    (c .before .before .before .before .before .before .before .before .before .before .before .before .before .before .before .before .before .args .t5)
+    (search needs) (c .before .before .before .before .before .before .before .before .before .before .before .before .before .before .before .before .before .args .depth)
+    (c .before .before .before .before .before .before .before .before .before .before .before .before .before .before .before .before .before .pre .1)
+    (c .before .before .before .before .before .before .before .before .before .before .before .before .before .before .if1 .left)
+    (c .before .before .before .before .before .before .before .before .before .before .before .before .if3 .left)
+    (c .before .before .before .before .before .before .before .before .before .before .if5 .taken)
+    (c .before .before .before .before .before .before .before .before .before .before .before .if4 .left) _ _
     (c .before .before .before .before .before .before .generic .ensures ∙ ap
-    (λ o. internAt (c .before .before .before .before .before .before .before .before .before .before .before .before .before .before .before .before .args .sorts .now)
-    (c .before .before .before .before .before .before .before .before .before .before .before .before .before .before .before .before .args .counts .sorts)
-    (c .before .before .before .before .before .before .before .before .before .before .before .before .before .before .before .before .args .counts .entries)
+    (λ o. internAt (c .before .before .before .before .before .before .before .before .before .before .before .before .before .before .before .before .before .args .sorts .now)
+    (c .before .before .before .before .before .before .before .before .before .before .before .before .before .before .before .before .before .args .counts .sorts)
+    (c .before .before .before .before .before .before .before .before .before .before .before .before .before .before .before .before .before .args .counts .entries)
     (container o (look (trees
-    (c .before .before .before .before .before .before .before .before .before .before .before .before .before .before .before .before .args .sorts .now)
-    (c .before .before .before .before .before .before .before .before .before .before .before .before .before .before .before .before .args .counts .sorts))
-    (getD (c .before .before .before .before .before .before .before .before .before .before .before .before .before .before .before .before .args .t5)
-    (c .before .before .before .before .before .before .before .before .before .before .before .before .before .before .before .before .args .depth
-    - 1) 0)))) (c .before .before .before .before .before .before .before .operator .ensures)) _ _
+    (c .before .before .before .before .before .before .before .before .before .before .before .before .before .before .before .before .before .args .sorts .now)
+    (c .before .before .before .before .before .before .before .before .before .before .before .before .before .before .before .before .before .args .counts .sorts))
+    (idAt (c .before .before .before .before .before .before .before .before .before .before .before .before .before .before .before .before .before .args .t5) (c .before .before .before .before .before .before .before .before .before .before .before .before .before .before .before .before .before .args .depth
+    - 1))))) (c .before .before .before .before .before .before .before .before .operator .ensures)) _ _
     (c .before .before .go-on .ensures))
     (λ c κs.
     let at-if4 = c .before .before in

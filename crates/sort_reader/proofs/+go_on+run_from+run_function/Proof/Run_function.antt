@@ -21,6 +21,7 @@ use borrow.Author.Needs.{needs}
 use Rattle.resolved_sort.specs.Tree.{function}
 use Rattle.resolved_sort.specs.Interning.{look}
 use Rattle.resolved_sort.specs.Storage.{trees, lookAll}
+use Rattle.sort_reader.specs.Inner.Run.{idAt}
 use Rattle.resolved_sort.specs.Bounds.{internAt}
 use Rattle.sort_reader.specs.Inner.Run.{argumentsOf}
 use Rattle.sort_reader.proofs.Ways as way
@@ -96,133 +97,130 @@ part M t =
     (λ c. omega (arith, c .before .before .if1 .left))
     (λ c. omega (arith, c .before .before .if1 .left, c .before .before .before .before .before .before .pre .1 .0 .room))
     (λ c κs. (
-      c .before .before .before .before .before .before .pre .1 .0 .checked,
+      c .before .before .before .before .before .before .before .pre .1 .0 .checked,
       way.range-below
-          (c .before .before .before .before .before .before .args .sorts .now)
-          (c .before .before .before .before .before .before .args .counts)
-          (c .before .before .before .before .before .before .args .steps .now)
-          (c .before .before .before .before .before .before .args .i)
-          (c .before .before .before .before .before .before .args .t5) (search needs)
-          (c .before .before .before .before .before .before .args .depth)
-          (c .before .before .before .before .before .before .pre .1 .0)
-          (c .before .before .before .before .before .before .pre .1 .1)
+          (c .before .before .before .before .before .before .before .args .sorts .now)
+          (c .before .before .before .before .before .before .before .args .counts)
+          (c .before .before .before .before .before .before .before .args .steps .now)
+          (c .before .before .before .before .before .before .before .args .i)
+          (c .before .before .before .before .before .before .before .args .t5) (search needs)
+          (c .before .before .before .before .before .before .before .args .depth)
+          (c .before .before .before .before .before .before .before .pre .1 .0)
+          (c .before .before .before .before .before .before .before .pre .1 .1)
           (omega (
             arith,
-            c .before .before .before .before .before .before .pre .1 .3,
-            c .before .before .before .before .before .before .pre .1 .2,
+            c .before .before .before .before .before .before .before .pre .1 .3,
+            c .before .before .before .before .before .before .before .pre .1 .2,
           ))
-          (omega (arith, c .before .before .before .before .before .before .pre .1 .4)) _
-          (c .before .before .before .argument-count .ensures ∙ ap argumentsOf
-          (c .before .before .before .before .before .before .pre .1 .2)) (c .before .before .if1 .left),
-      way.few-arguments (c .before .before .before .before .before .before .args .sorts .now)
-          (c .before .before .before .before .before .before .args .counts)
-          (c .before .before .before .before .before .before .args .steps .now)
-          (c .before .before .before .before .before .before .args .i)
-          (c .before .before .before .before .before .before .args .t5) (search needs)
-          (c .before .before .before .before .before .before .args .depth)
-          (c .before .before .before .before .before .before .pre .1 .0)
-          (c .before .before .before .before .before .before .pre .1 .1)
+          (omega (arith, c .before .before .before .before .before .before .before .pre .1 .4)) _
+          (c .before .before .before .before .argument-count .ensures ∙ ap argumentsOf
+          (c .before .before .before .before .before .before .before .pre .1 .2)) (c .before .before .before .if1 .left),
+      way.few-arguments (c .before .before .before .before .before .before .before .args .sorts .now)
+          (c .before .before .before .before .before .before .before .args .counts)
+          (c .before .before .before .before .before .before .before .args .steps .now)
+          (c .before .before .before .before .before .before .before .args .i)
+          (c .before .before .before .before .before .before .before .args .t5) (search needs)
+          (c .before .before .before .before .before .before .before .args .depth)
+          (c .before .before .before .before .before .before .before .pre .1 .0)
+          (c .before .before .before .before .before .before .before .pre .1 .1)
           (omega (
             arith,
-            c .before .before .before .before .before .before .pre .1 .3,
-            c .before .before .before .before .before .before .pre .1 .2,
+            c .before .before .before .before .before .before .before .pre .1 .3,
+            c .before .before .before .before .before .before .before .pre .1 .2,
           ))
-          (omega (arith, c .before .before .before .before .before .before .pre .1 .4)) _
-          (c .before .before .before .argument-count .ensures ∙ ap argumentsOf
-          (c .before .before .before .before .before .before .pre .1 .2)) (c .before .before .if1 .left),
+          (omega (arith, c .before .before .before .before .before .before .before .pre .1 .4)) _
+          (c .before .before .before .before .argument-count .ensures ∙ ap argumentsOf
+          (c .before .before .before .before .before .before .before .pre .1 .2)) (c .before .before .before .if1 .left),
       subst
-          (AllBelow (c .before .before .before .before .before .before .args .counts .sorts))
-          (sym (c .before .arguments .ensures)) (way.numbers-below
-          (c .before .before .before .before .before .before .args .sorts .now)
-          (c .before .before .before .before .before .before .args .counts)
-          (c .before .before .before .before .before .before .args .steps .now)
-          (c .before .before .before .before .before .before .args .i)
-          (c .before .before .before .before .before .before .args .t5) (search needs)
-          (c .before .before .before .before .before .before .args .depth)
-          (c .before .before .before .before .before .before .pre .1 .0)
-          (c .before .before .before .before .before .before .pre .1 .1)
+          (AllBelow (c .before .before .before .before .before .before .before .args .counts .sorts))
+          (sym (c .before .before .arguments .ensures)) (way.numbers-below
+          (c .before .before .before .before .before .before .before .args .sorts .now)
+          (c .before .before .before .before .before .before .before .args .counts)
+          (c .before .before .before .before .before .before .before .args .steps .now)
+          (c .before .before .before .before .before .before .before .args .i)
+          (c .before .before .before .before .before .before .before .args .t5) (search needs)
+          (c .before .before .before .before .before .before .before .args .depth)
+          (c .before .before .before .before .before .before .before .pre .1 .0)
+          (c .before .before .before .before .before .before .before .pre .1 .1)
           (omega (
             arith,
-            c .before .before .before .before .before .before .pre .1 .3,
-            c .before .before .before .before .before .before .pre .1 .2,
+            c .before .before .before .before .before .before .before .pre .1 .3,
+            c .before .before .before .before .before .before .before .pre .1 .2,
           ))
-          (omega (arith, c .before .before .before .before .before .before .pre .1 .4)) _
-          (c .before .before .before .argument-count .ensures ∙ ap argumentsOf
-          (c .before .before .before .before .before .before .pre .1 .2)) (c .before .before .if1 .left)),
+          (omega (arith, c .before .before .before .before .before .before .before .pre .1 .4)) _
+          (c .before .before .before .before .argument-count .ensures ∙ ap argumentsOf
+          (c .before .before .before .before .before .before .before .pre .1 .2)) (c .before .before .before .if1 .left)),
     ))
     (λ c κs. (
       omega (
         arith,
-        c .before .before .before .before .before .before .before .before .before .before .pre .0,
+        c .before .before .before .before .before .before .before .before .before .before .before .pre .0,
       ),
       (
         way.function-goes-on
-            (c .before .before .before .before .before .before .before .before .before .before .args .sorts .now)
-            (c .before .before .before .before .before .before .before .before .before .before .args .counts)
-            (c .before .before .before .before .before .before .before .before .before .before .args .steps .now)
-            (c .before .before .before .before .before .before .before .before .before .before .args .i)
-            (c .before .before .before .before .before .before .before .before .before .before .args .t5) (search needs)
-            (c .before .before .before .before .before .before .before .before .before .before .args .depth)
-            (c .before .before .before .before .before .before .before .before .before .before .pre .1 .0)
-            (c .before .before .before .before .before .before .before .before .before .before .pre .1 .1)
+            (c .before .before .before .before .before .before .before .before .before .before .before .args .sorts .now)
+            (c .before .before .before .before .before .before .before .before .before .before .before .args .counts)
+            (c .before .before .before .before .before .before .before .before .before .before .before .args .steps .now)
+            (c .before .before .before .before .before .before .before .before .before .before .before .args .i)
+            (c .before .before .before .before .before .before .before .before .before .before .before .args .t5) (search needs)
+            (c .before .before .before .before .before .before .before .before .before .before .before .args .depth)
+            (c .before .before .before .before .before .before .before .before .before .before .before .pre .1 .0)
+            (c .before .before .before .before .before .before .before .before .before .before .before .pre .1 .1)
             (omega (
               arith,
-              c .before .before .before .before .before .before .before .before .before .before .pre .1 .3,
-              c .before .before .before .before .before .before .before .before .before .before .pre .1 .2,
+              c .before .before .before .before .before .before .before .before .before .before .before .pre .1 .3,
+              c .before .before .before .before .before .before .before .before .before .before .before .pre .1 .2,
             ))
-            (omega (arith, c .before .before .before .before .before .before .before .before .before .before .pre .1 .4))
-            _ (c .before .before .before .before .before .before .before .argument-count .ensures ∙ ap argumentsOf
-            (c .before .before .before .before .before .before .before .before .before .before .pre .1 .2))
-            (c .before .before .before .before .before .before .if1 .left) _ _
+            (omega (arith, c .before .before .before .before .before .before .before .before .before .before .before .pre .1 .4))
+            _ (c .before .before .before .before .before .before .before .before .argument-count .ensures ∙ ap argumentsOf
+            (c .before .before .before .before .before .before .before .before .before .before .before .pre .1 .2))
+            (c .before .before .before .before .before .before .before .if1 .left) _ _
             (c .before .before .before .function .ensures ∙ ap
-            (λ xs. internAt (c .before .before .before .before .before .before .before .before .before .before .args .sorts .now)
-            (c .before .before .before .before .before .before .before .before .before .before .args .counts .sorts)
-            (c .before .before .before .before .before .before .before .before .before .before .args .counts .entries)
+            (λ xs. internAt (c .before .before .before .before .before .before .before .before .before .before .before .args .sorts .now)
+            (c .before .before .before .before .before .before .before .before .before .before .before .args .counts .sorts)
+            (c .before .before .before .before .before .before .before .before .before .before .before .args .counts .entries)
             (function (lookAll (trees
-            (c .before .before .before .before .before .before .before .before .before .before .args .sorts .now)
-            (c .before .before .before .before .before .before .before .before .before .before .args .counts .sorts))
-            xs) (look (trees (c .before .before .before .before .before .before .before .before .before .before .args .sorts .now)
-            (c .before .before .before .before .before .before .before .before .before .before .args .counts .sorts))
-            (getD (c .before .before .before .before .before .before .before .before .before .before .args .t5)
-            (c .before .before .before .before .before .before .before .before .before .before .args .depth - 1)
-            0)))) (c .before .before .before .before .before .arguments .ensures)),
+            (c .before .before .before .before .before .before .before .before .before .before .before .args .sorts .now)
+            (c .before .before .before .before .before .before .before .before .before .before .before .args .counts .sorts))
+            xs) (look (trees (c .before .before .before .before .before .before .before .before .before .before .before .args .sorts .now)
+            (c .before .before .before .before .before .before .before .before .before .before .before .args .counts .sorts))
+            (idAt (c .before .before .before .before .before .before .before .before .before .before .before .args .t5) (c .before .before .before .before .before .before .before .before .before .before .before .args .depth - 1))))) (c .before .before .before .before .before .before .arguments .ensures)),
         omega (
           arith,
-          c .before .before .before .before .before .before .if1 .left,
-          c .before .before .before .before .before .before .before .before .before .before .pre .1 .0 .room,
+          c .before .before .before .before .before .before .before .if1 .left,
+          c .before .before .before .before .before .before .before .before .before .before .before .pre .1 .0 .room,
         ),
-        c .before .before .before .before .before .before .before .before .before .before .pre .1 .1,
+        c .before .before .before .before .before .before .before .before .before .before .before .pre .1 .1,
       ),
     ))
     (λ c. c .before .before .go-on .kept .0 ∙ c .before .before .before .before .before .before .function .kept .0)
     (λ c. way.function-gone-on
-    (c .before .before .before .before .before .before .before .before .before .before .before .before .before .args .sorts .now)
-    (c .before .before .before .before .before .before .before .before .before .before .before .before .before .args .counts)
-    (c .before .before .before .before .before .before .before .before .before .before .before .before .before .args .steps .now)
-    (c .before .before .before .before .before .before .before .before .before .before .before .before .before .args .i)
-    (c .before .before .before .before .before .before .before .before .before .before .before .before .before .args .t5)
-    (search needs) (c .before .before .before .before .before .before .before .before .before .before .before .before .before .args .depth)
-    (c .before .before .before .before .before .before .before .before .before .before .before .before .before .pre .1 .0)
-    (c .before .before .before .before .before .before .before .before .before .before .before .before .before .pre .1 .1)
+    (c .before .before .before .before .before .before .before .before .before .before .before .before .before .before .args .sorts .now)
+    (c .before .before .before .before .before .before .before .before .before .before .before .before .before .before .args .counts)
+    (c .before .before .before .before .before .before .before .before .before .before .before .before .before .before .args .steps .now)
+    (c .before .before .before .before .before .before .before .before .before .before .before .before .before .before .args .i)
+    (c .before .before .before .before .before .before .before .before .before .before .before .before .before .before .args .t5)
+    (search needs) (c .before .before .before .before .before .before .before .before .before .before .before .before .before .before .args .depth)
+    (c .before .before .before .before .before .before .before .before .before .before .before .before .before .before .pre .1 .0)
+    (c .before .before .before .before .before .before .before .before .before .before .before .before .before .before .pre .1 .1)
     (omega (
       arith,
-      c .before .before .before .before .before .before .before .before .before .before .before .before .before .pre .1 .3,
-      c .before .before .before .before .before .before .before .before .before .before .before .before .before .pre .1 .2,
+      c .before .before .before .before .before .before .before .before .before .before .before .before .before .before .pre .1 .3,
+      c .before .before .before .before .before .before .before .before .before .before .before .before .before .before .pre .1 .2,
     ))
-    (omega (arith, c .before .before .before .before .before .before .before .before .before .before .before .before .before .pre .1 .4))
-    _ (c .before .before .before .before .before .before .before .before .before .before .argument-count .ensures
-    ∙ ap argumentsOf (c .before .before .before .before .before .before .before .before .before .before .before .before .before .pre .1 .2))
-    (c .before .before .before .before .before .before .before .before .before .if1 .left) _ _
+    (omega (arith, c .before .before .before .before .before .before .before .before .before .before .before .before .before .before .pre .1 .4))
+    _ (c .before .before .before .before .before .before .before .before .before .before .before .argument-count .ensures
+    ∙ ap argumentsOf (c .before .before .before .before .before .before .before .before .before .before .before .before .before .before .pre .1 .2))
+    (c .before .before .before .before .before .before .before .before .before .before .if1 .left) _ _
     (c .before .before .before .before .before .before .function .ensures ∙ ap
-    (λ xs. internAt (c .before .before .before .before .before .before .before .before .before .before .before .before .before .args .sorts .now)
-    (c .before .before .before .before .before .before .before .before .before .before .before .before .before .args .counts .sorts)
-    (c .before .before .before .before .before .before .before .before .before .before .before .before .before .args .counts .entries)
+    (λ xs. internAt (c .before .before .before .before .before .before .before .before .before .before .before .before .before .before .args .sorts .now)
+    (c .before .before .before .before .before .before .before .before .before .before .before .before .before .before .args .counts .sorts)
+    (c .before .before .before .before .before .before .before .before .before .before .before .before .before .before .args .counts .entries)
     (function (lookAll (trees
-    (c .before .before .before .before .before .before .before .before .before .before .before .before .before .args .sorts .now)
-    (c .before .before .before .before .before .before .before .before .before .before .before .before .before .args .counts .sorts))
-    xs) (look (trees (c .before .before .before .before .before .before .before .before .before .before .before .before .before .args .sorts .now)
-    (c .before .before .before .before .before .before .before .before .before .before .before .before .before .args .counts .sorts))
-    (getD (c .before .before .before .before .before .before .before .before .before .before .before .before .before .args .t5)
-    (c .before .before .before .before .before .before .before .before .before .before .before .before .before .args .depth
-    - 1) 0)))) (c .before .before .before .before .before .before .before .before .arguments .ensures)) _ _
+    (c .before .before .before .before .before .before .before .before .before .before .before .before .before .before .args .sorts .now)
+    (c .before .before .before .before .before .before .before .before .before .before .before .before .before .before .args .counts .sorts))
+    xs) (look (trees (c .before .before .before .before .before .before .before .before .before .before .before .before .before .before .args .sorts .now)
+    (c .before .before .before .before .before .before .before .before .before .before .before .before .before .before .args .counts .sorts))
+    (idAt (c .before .before .before .before .before .before .before .before .before .before .before .before .before .before .args .t5) (c .before .before .before .before .before .before .before .before .before .before .before .before .before .before .args .depth
+    - 1))))) (c .before .before .before .before .before .before .before .before .before .arguments .ensures)) _ _
     (c .before .before .go-on .ensures))
