@@ -195,6 +195,26 @@ module _ (shape : ℕ → Shape) (look : ℕ → Tree) (P : Problem) (ch : List 
       → Costs shape look P ch σ (Comprehension body node element) ns → (ns ≡ []) × Meets shape look P ch σ (Comprehension body node element)
   comprehension-costs-nothing body node element _ (comprehension-costs _ _ _ m) = (refl, m)
 
+  -- So what is no Join has one cost under an assignment.
+  literal-cost : (p : InferSortId) (kind : LitKind) (s : Sort) (g : ℕ) (ns : Components) → Has shape σ (p .0) (flat (primitive s))
+      → litComponent kind s ≡ some g → Costs shape look P ch σ (Lit p kind) ns → ns ≡ g ∷ []
+  literal-cost p kind s g _ h e (lit-costs _ _ s′ g′ h′ e′) =
+      let q = one-sort shape look P σ (p .0) (flat (primitive s)) (flat (primitive s′)) h h′ in
+      let r : s ≡ s′ = cc in
+      let z : some g ≡ some g′ = sym e ∙ (ap (litComponent kind) r ∙ e′) in
+      cc
+
+  pub one-cost-unless-a-join : (c : Constraint) (ms ns : Components) → ((run : Run) (t : InferSortId) → c ≡ Join run t → ⊥)
+      → Costs shape look P ch σ c ms → Costs shape look P ch σ c ns → ms ≡ ns
+  one-cost-unless-a-join _ _ ns f (sub-costs l r s t n h g w) y =
+      let z = sub-costs-its-widening l r ns s t h g y in
+      ap (λ k. k ∷ []) (one-component s t n (z .0) w (z .2)) ∙ sym (z .1)
+  one-cost-unless-a-join _ _ ns f (lit-costs p kind s g h e) y = sym (literal-cost p kind s g ns h e y)
+  one-cost-unless-a-join _ _ ns f (disjunction-costs x p run m) y = sym (disjunction-costs-nothing x p run ns y .0)
+  one-cost-unless-a-join _ _ ns f (comprehension-costs body node element m) y = sym (comprehension-costs-nothing body node element ns y .0)
+  one-cost-unless-a-join _ _ ns f (agreed-costs run t s u ss ks h x j) y = absurd (f run t refl)
+  one-cost-unless-a-join _ _ ns f (sequence-costs run t u ks h x) y = absurd (f run t refl)
+
   -- A Join costs one for each source, in their order. Either each is the head of the distance of the source's sort, which is materializable into the
   -- target's, and the target's sort is the least that is equal to or above all of theirs; or each is the component of the source's widening.
   pub join-costs-one-for-each-source : (run : Run) (t : InferSortId) (ns : Components) (u : Tree) → Has shape σ (t .0) u

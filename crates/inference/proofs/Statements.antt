@@ -2,12 +2,13 @@
 -- names and choices; the verdict by leaves; the lists that are left. Each statement is taken apart into facts about numbers, words and sorts, so that
 -- no clause of it can be weakened unseen. Assumes nothing.
 use mathlib.Core.Path.{_≡_, refl, sym, ap, subst, _∙_}
-use mathlib.Core.Bool.{Bool, true, false}
+use mathlib.Core.Bool.{Bool, true, false, cond}
 use mathlib.Core.List.{List, [], _∷_, map}
 use mathlib.Core.Option.{Option, none, some}
 use mathlib.Core.Logic.{_⊎_, inl, inr, _↔_}
 use Prim.Native.Nat.{ℕ, zero, suc, _+_, _*_, _<_}
 use native.Mathlib.Omega.{arith}
+use lib.Dec.{eqb}
 use lib.ListN.{length, getD, length-map}
 use lib.Seq.{take-append-seam}
 use Rattle.resolved_sort.specs.declared.Run.{Run}
@@ -36,7 +37,7 @@ use Rattle.inference.specs.declared.Constraint.the-variants.{Disjunction
 use Rattle.inference.specs.Constraints.{Problem}
 use Rattle.inference.specs.Measure.{Components, Ranking, smaller, equal, greater, compare}
 use Rattle.inference.specs.Search.{Choice, World, Out, ended, says}
-use Rattle.inference.specs.Names.{overloadIn, baseName, nameOf, nameKind, nameSort}
+use Rattle.inference.specs.Names.{runFor, overloadIn, chosenName, baseName, nameOf, nameKind, nameSort}
 use Rattle.inference.specs.Typing.{Assignment, Has, In, Typed, all-typed, and-typed, Meets, HoldsTogether}
 use Rattle.inference.specs.Typing.{NumberSort, is-pos, is-nat, is-int, is-real}
 use Rattle.inference.specs.SolveChecks.{Call, given, disjunctions, among, components, solveChecks}
@@ -137,6 +138,16 @@ module _ (I : Call) (L : SolveLeft) (o : Outputs) (e : Explained I L o) (n : Nam
   pub base-name-is-read : (x : ℕ) → x < I .rows .exprs → among x (disjunctions (given I)) ≡ false
       → (getD (L .typing) (3 * x + 1) 0 ≡ nameKind (baseName (baseNamesOf I) x)) × (getD (L .typing) (3 * x + 2) 0 ≡ nameSort (baseName (baseNamesOf I) x))
   base-name-is-read x l a = let w = e .names x l in let q = n .others x a in (w .0 ∙ ap nameKind q, w .1 ∙ ap nameSort q)
+
+-- a name is chosen only where a disjunction offers a run, whatever the choices are
+pub no-name-chosen-without-a-run : (P : Problem) (ks : List Choice) (x : ℕ) → runFor x (P .constraints) ≡ none → chosenName P ks x ≡ none
+unfolding chosenName
+no-name-chosen-without-a-run P [] x e = refl
+no-name-chosen-without-a-run P (k ∷ ks) x e = rw e (either (eqb (k .expr) x) (no-name-chosen-without-a-run P ks x e))
+  where
+    either : (b : Bool) → chosenName P ks x ≡ none → cond b none (chosenName P ks x) ≡ none
+    either true h = refl
+    either false h = h
 
 -- Leaves: a measure is counted as often as it is there
 pub counted-where-it-is : (m : Components) (ms : List Components) → times m (m ∷ ms) ≡ suc (times m ms)
