@@ -6,15 +6,14 @@ use mathlib.Core.Path.{_≡_, refl, sym, ap, subst, _∙_}
 use mathlib.Core.Bool.{Bool, true, false}
 use mathlib.Core.Logic.{inl, inr}
 use mathlib.Core.Option.{Option, none, some}
-use Prim.Native.Nat.{ℕ, _+_, _*_, _%_, _≤_}
+use Prim.Native.Nat.{ℕ, _%_}
 use native.Mathlib.Omega.{arith}
-use lib.ListN.{length, length-map}
+use lib.ListN.{length, length-map, getD}
 use Rattle.resolved_sort.specs.declared.Counts.{Counts}
 use Rattle.resolved_sort.specs.Checks.{firstFailing, Numbered}
 use Rattle.unification.specs.NodeChecks.{nodeChecks}
 use Rattle.unification.specs.Making.{Lent}
 use Rattle.resolved_sort.proofs.FailingNumber.{failing-number}
-use Rattle.inference.specs.declared.Outputs.{Outputs}
 use Rattle.inference.specs.declared.Solved.{Solved}
 use Rattle.inference.specs.declared.Solved.the-variants.{Refused, NoRoom, NoTyping, Ambiguous, Typing}
 use Rattle.inference.specs.Search.{Candidate, World, Out, found, missed, ended}
@@ -27,7 +26,9 @@ use Rattle.inference.proofs.ListsLeft.{sorts-only-grow}
 use Rattle.inference.proofs.Branches.{Goes, Ends}
 use Rattle.inference.proofs.Choices.{Fitting, search-fits, names-and-choices}
 use Rattle.inference.specs.Named.{exprOf}
-use Rattle.solve_outputs.specs.Packed.{packSolved, CountsWithin, SolvedWithin}
+use Rattle.entry_answers.specs.Packing.{FitFields, FitsWidths}
+use Rattle.entry_answers.proofs.Packing.{codes-told, values-told, code-is-low-byte as low-byte}
+use Rattle.solve_outputs.specs.Packed.{codedSolved, solvedWidths, packSolved, CountsWithin, SolvedWithin}
 use Rattle.solve_outputs.proofs.Passed.{rows-fit}
 
 module _ (I : Call) where
@@ -136,61 +137,56 @@ module _ (I : Call) where
       go none x = passed-told x
       go (some c) x = rw x (refused-by-number c x)
 
+-- numbers within their bounds fit their fields
+solved-fits : (r : Solved) → SolvedWithin r → FitsWidths solvedWidths (codedSolved r)
+unfolding FitFields codeSolved
+solved-fits (Refused c) t = (omega (arith, t .1), tt)
+solved-fits (NoRoom c) t = (omega (arith, t .1), tt)
+solved-fits (NoTyping k) t = (omega arith, (omega (arith, t .sorts), (omega (arith, t .entries), tt)))
+solved-fits (Ambiguous k) t = (omega arith, (omega (arith, t .sorts), (omega (arith, t .entries), tt)))
+solved-fits (Typing o) t =
+    (omega arith, (omega (arith, t .0 .sorts), (omega (arith, t .0 .entries), (omega (arith, t .1), (omega (arith, t .2), tt)))))
+
 -- document 01's number is the low byte
 pub code-is-low-byte : (r : Solved) → SolvedWithin r → packSolved r % 256 ≡ codeSolved r
-unfolding packSolved codeSolved
-code-is-low-byte (Refused c) t = omega (arith, t .1)
-code-is-low-byte (NoRoom c) t = omega (arith, t .1)
-code-is-low-byte (NoTyping k) t = omega arith
-code-is-low-byte (Ambiguous k) t = omega arith
-code-is-low-byte (Typing o) t = omega arith
-
--- counts that are packed alike: the higher ones first, each at most the other
-counts-told : (k l : Counts) → CountsWithin k → CountsWithin l → k .sorts * 256 + k .entries * 16777216 ≡ l .sorts * 256 + l .entries * 16777216 → k ≡ l
-counts-told k l t u e =
-    let x : k .entries ≤ l .entries = omega (arith, e, t .sorts, u .sorts) in
-    let y : l .entries ≤ k .entries = omega (arith, e, t .sorts, u .sorts) in
-    let b : k .entries ≡ l .entries = omega (arith, x, y) in
-    let a : k .sorts ≡ l .sorts = omega (arith, e, b) in
-    λ i. record { sorts = a i; entries = b i }
-
-typing-told : (o p : Outputs) → SolvedWithin (Typing o) → SolvedWithin (Typing p) → packSolved (Typing o) ≡ packSolved (Typing p) → o ≡ p
 unfolding packSolved
-typing-told o p t u e =
-    let x : o .choices ≤ p .choices = omega (arith, e, t .0 .sorts, t .0 .entries, t .1, u .0 .sorts, u .0 .entries, u .1) in
-    let y : p .choices ≤ o .choices = omega (arith, e, t .0 .sorts, t .0 .entries, t .1, u .0 .sorts, u .0 .entries, u .1) in
-    let d : o .choices ≡ p .choices = omega (arith, x, y) in
-    let v : o .components ≤ p .components = omega (arith, e, d, t .0 .sorts, t .0 .entries, u .0 .sorts, u .0 .entries) in
-    let w : p .components ≤ o .components = omega (arith, e, d, t .0 .sorts, t .0 .entries, u .0 .sorts, u .0 .entries) in
-    let c : o .components ≡ p .components = omega (arith, v, w) in
-    let k : o .counts ≡ p .counts = counts-told (o .counts) (p .counts) (t .0) (u .0) (omega (arith, e, c, d)) in
-    λ i. record { counts = k i; components = c i; choices = d i }
+code-is-low-byte r t = low-byte solvedWidths (codedSolved r) (solved-fits r t)
 
 -- the packed answer tells the answers apart
 pub packed-tells : (r s : Solved) → SolvedWithin r → SolvedWithin s → packSolved r ≡ packSolved s → r ≡ s
-unfolding packSolved
-packed-tells (Refused c) (Refused d) t u e = ap Refused e
-packed-tells (Refused c) (NoRoom d) t u e = absurd (omega (arith, e, t .1, u .0))
-packed-tells (Refused c) (NoTyping l) t u e = absurd (omega (arith, e, t .1))
-packed-tells (Refused c) (Ambiguous l) t u e = absurd (omega (arith, e, t .1))
-packed-tells (Refused c) (Typing p) t u e = absurd (omega (arith, e, t .0, t .1))
-packed-tells (NoRoom c) (Refused d) t u e = absurd (omega (arith, e, t .0, u .1))
-packed-tells (NoRoom c) (NoRoom d) t u e = ap NoRoom e
-packed-tells (NoRoom c) (NoTyping l) t u e = absurd (omega (arith, e, t .1))
-packed-tells (NoRoom c) (Ambiguous l) t u e = absurd (omega (arith, e, t .1))
-packed-tells (NoRoom c) (Typing p) t u e = absurd (omega (arith, e, t .0, t .1))
-packed-tells (NoTyping k) (Refused d) t u e = absurd (omega (arith, e, u .1))
-packed-tells (NoTyping k) (NoRoom d) t u e = absurd (omega (arith, e, u .1))
-packed-tells (NoTyping k) (NoTyping l) t u e = ap NoTyping (counts-told k l t u (omega (arith, e)))
-packed-tells (NoTyping k) (Ambiguous l) t u e = absurd (omega (arith, e))
-packed-tells (NoTyping k) (Typing p) t u e = absurd (omega (arith, e))
-packed-tells (Ambiguous k) (Refused d) t u e = absurd (omega (arith, e, u .1))
-packed-tells (Ambiguous k) (NoRoom d) t u e = absurd (omega (arith, e, u .1))
-packed-tells (Ambiguous k) (NoTyping l) t u e = absurd (omega (arith, e))
-packed-tells (Ambiguous k) (Ambiguous l) t u e = ap Ambiguous (counts-told k l t u (omega (arith, e)))
-packed-tells (Ambiguous k) (Typing p) t u e = absurd (omega (arith, e))
-packed-tells (Typing o) (Refused d) t u e = absurd (omega (arith, e, u .0, u .1))
-packed-tells (Typing o) (NoRoom d) t u e = absurd (omega (arith, e, u .0, u .1))
-packed-tells (Typing o) (NoTyping l) t u e = absurd (omega (arith, e))
-packed-tells (Typing o) (Ambiguous l) t u e = absurd (omega (arith, e))
-packed-tells (Typing o) (Typing p) t u e = ap Typing (typing-told o p t u e)
+unfolding packSolved codeSolved
+packed-tells r s t u p =
+    go r s t u (codes-told solvedWidths (codedSolved r) (codedSolved s) (solved-fits r t) (solved-fits s u) p)
+    (values-told solvedWidths (codedSolved r) (codedSolved s) (solved-fits r t) (solved-fits s u) p)
+  where
+    counts : (k l : Counts) → k .sorts ≡ l .sorts → k .entries ≡ l .entries → k ≡ l
+    counts k l a b = λ i. record { sorts = a i; entries = b i }
+
+    go : (r s : Solved) → SolvedWithin r → SolvedWithin s → codedSolved r .code ≡ codedSolved s .code
+        → ((i : ℕ) → getD (codedSolved r .values) i 0 ≡ getD (codedSolved s .values) i 0) → r ≡ s
+    go (Refused c) (Refused d) t u e v = ap Refused e
+    go (Refused c) (NoRoom d) t u e v = absurd (omega (arith, e, t .1, u .0))
+    go (Refused c) (NoTyping l) t u e v = absurd (omega (arith, e, t .1))
+    go (Refused c) (Ambiguous l) t u e v = absurd (omega (arith, e, t .1))
+    go (Refused c) (Typing p) t u e v = absurd (omega (arith, e, t .0))
+    go (NoRoom c) (Refused d) t u e v = absurd (omega (arith, e, t .0, u .1))
+    go (NoRoom c) (NoRoom d) t u e v = ap NoRoom e
+    go (NoRoom c) (NoTyping l) t u e v = absurd (omega (arith, e, t .1))
+    go (NoRoom c) (Ambiguous l) t u e v = absurd (omega (arith, e, t .1))
+    go (NoRoom c) (Typing p) t u e v = absurd (omega (arith, e, t .0))
+    go (NoTyping k) (Refused d) t u e v = absurd (omega (arith, e, u .1))
+    go (NoTyping k) (NoRoom d) t u e v = absurd (omega (arith, e, u .1))
+    go (NoTyping k) (NoTyping l) t u e v = ap NoTyping (counts k l (v 0) (v 1))
+    go (NoTyping k) (Ambiguous l) t u e v = absurd (omega (arith, e))
+    go (NoTyping k) (Typing p) t u e v = absurd (omega (arith, e))
+    go (Ambiguous k) (Refused d) t u e v = absurd (omega (arith, e, u .1))
+    go (Ambiguous k) (NoRoom d) t u e v = absurd (omega (arith, e, u .1))
+    go (Ambiguous k) (NoTyping l) t u e v = absurd (omega (arith, e))
+    go (Ambiguous k) (Ambiguous l) t u e v = ap Ambiguous (counts k l (v 0) (v 1))
+    go (Ambiguous k) (Typing p) t u e v = absurd (omega (arith, e))
+    go (Typing o) (Refused d) t u e v = absurd (omega (arith, e, u .0))
+    go (Typing o) (NoRoom d) t u e v = absurd (omega (arith, e, u .0))
+    go (Typing o) (NoTyping l) t u e v = absurd (omega (arith, e))
+    go (Typing o) (Ambiguous l) t u e v = absurd (omega (arith, e))
+    go (Typing o) (Typing p) t u e v =
+        let k = counts (o .counts) (p .counts) (v 0) (v 1) in λ i. Typing (record { counts = k i; components = v 2 i; choices = v 3 i })

@@ -6,5 +6,6 @@ pub mod TypingRows
 pub mod Finishing
 pub mod Passed
 pub mod Finished
+mod Fields
 pub mod Codes
 pub mod CodeSeven

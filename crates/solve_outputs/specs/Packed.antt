@@ -1,25 +1,33 @@
--- The solver's answer as one number, for callers in other languages: document 01's number in bits 0 to 7; under 0, 17
--- and 18 how many sorts there are in bits 8 to 23 and how many argument entries in bits 24 to 39; under 0 how many
--- components in bits 40 to 51 and how many choices in bits 52 to 63.
-use mathlib.Core.List.{List}
-use Prim.Native.Nat.{ℕ, _+_, _*_, _≤_}
+-- The number and the values of each answer of the solver, and both as one number for callers in other languages:
+-- document 01's number in bits 0 to 7; under 0, 17 and 18 how many sorts there are in bits 8 to 23 and how many argument
+-- entries in bits 24 to 39; under 0 how many components in bits 40 to 51 and how many choices in bits 52 to 63.
+use mathlib.Core.List.{List, [], _∷_}
+use Prim.Native.Nat.{ℕ, _≤_}
+use Rattle.entry_answers.specs.Packing.{CodeAndValues, coded, packed}
 use Rattle.resolved_sort.specs.declared.Counts.{Counts}
 use Rattle.resolved_sort.specs.Storage.{maxSorts, maxEntries}
 use Rattle.inference.specs.declared.Solved.{Solved}
 use Rattle.inference.specs.declared.Solved.the-variants.{Refused, NoRoom, NoTyping, Ambiguous, Typing}
 use Rattle.inference.specs.Constraints.{maxConstraints, maxComponents}
-use Rattle.inference.specs.SolveEntry.{SolveLeft}
-use Rattle.words.specs.Bits.{bit8, bit24, bit40, bit52}
+use Rattle.inference.specs.SolveEntry.{SolveLeft, codeSolved}
 
-abbrev pub packCounts : Counts → ℕ
-packCounts k = k .sorts * bit8 + k .entries * bit24
+-- the counts of sorts and entries after the call; of a typing its components and choices too
+abbrev pub solvedValues : Solved → List ℕ
+solvedValues (Refused c) = []
+solvedValues (NoRoom c) = []
+solvedValues (NoTyping k) = k .sorts ∷ k .entries ∷ []
+solvedValues (Ambiguous k) = k .sorts ∷ k .entries ∷ []
+solvedValues (Typing o) = o .counts .sorts ∷ o .counts .entries ∷ o .components ∷ o .choices ∷ []
+
+-- document 01's number, and these values
+abbrev pub codedSolved : Solved → CodeAndValues
+codedSolved r = coded (codeSolved r) (solvedValues r)
+
+abbrev pub solvedWidths : List ℕ
+solvedWidths = 16 ∷ 16 ∷ 12 ∷ 12 ∷ []
 
 unfoldable pub packSolved : Solved → ℕ
-packSolved (Refused c) = c
-packSolved (NoRoom c) = c
-packSolved (NoTyping k) = 17 + packCounts k
-packSolved (Ambiguous k) = 18 + packCounts k
-packSolved (Typing o) = packCounts (o .counts) + o .components * bit40 + o .choices * bit52
+packSolved r = packed solvedWidths (codedSolved r)
 
 -- the numbers that an answer has: a refusal is by a check, 1 to 14; no room is 15 or 16; counts are
 -- within their ceilings
