@@ -79,7 +79,9 @@ use resolved_sort::FUNCTION_KIND;
 use resolved_sort::MAX_SORTS;
 use unification::FIRST_NODE;
 use unification::FREE_WORD;
+use unification::InferSortId;
 use unification::MAX_VARS;
+use unification::SortVar;
 use unification::VARIABLE_KIND;
 use words::word;
 ghost use mathlib.Core.Path.{_≡_};
@@ -567,15 +569,15 @@ fn vars_plan(t: Tokens) -> Plan
 }
 
 // The binding of a variable that has none yet; one past the ceiling has no word.
-fn bound_plan(list: &[u16; LIST_WORDS], v: u16, p: u16) -> Plan
-    ensures { λ r. ⌜ r ≡ boundPlan (now (list .entry)) v p ⌝ }
+fn bound_plan(list: &[u16; LIST_WORDS], var: SortVar, place: InferSortId) -> Plan
+    ensures { λ r. ⌜ r ≡ boundPlan (now (list .entry)) (var .0) (place .0) ⌝ }
 {
     let rows = word(list, VAR_ROWS_AT);
-    if v < rows {
-        if v < VARS {
-            let at = LIST_BINDS_AT + (v as usize);
+    if var.0 < rows {
+        if var.0 < VARS {
+            let at = LIST_BINDS_AT + (var.0 as usize);
             if word(list, at) == FREE_WORD {
-                return with_put(nothing(), at, p);
+                return with_put(nothing(), at, place.0);
             }
             return expected(Form::Unbound);
         }
@@ -589,7 +591,7 @@ fn bind_plan(list: &[u16; LIST_WORDS], t: Tokens) -> Plan
     ensures { λ r. ⌜ r ≡ bindPlan (now (list .entry)) t ⌝ }
 {
     if fits(t, [K_BIND, VARIABLE, P, 0, 0, 0, 0]) {
-        return bound_plan(list, word_at(t, 1), word_at(t, 2));
+        return bound_plan(list, SortVar(word_at(t, 1)), InferSortId(word_at(t, 2)));
     }
     expected(Form::Bind)
 }

@@ -1,6 +1,7 @@
 // The text of a verdict of the solver: the line of its code; under a typing a line for each expression, the measure and
 // the choices; and a line for each sort that was made. Text goes into the lent buffer as far as it has room: no length
 // has to be known before.
+use inference::ExprId;
 use resolved_sort::Counts;
 use resolved_sort::ENTRIES_AT;
 use resolved_sort::FUNCTION_KIND;
@@ -16,6 +17,7 @@ use text_out::put_text;
 use words::word;
 ghost use Prim.Native.Nat.{_+_, _*_, _<_, _≤_};
 ghost use Rattle.resolved_sort.specs.Rows.{Checked};
+ghost use Rattle.text_out.specs.Quoted.{byteOf};
 ghost use Rattle.text_out.specs.Within.{PutWithin};
 ghost use Rattle.list_verdict.specs.Words.{kindWord, message};
 ghost use Rattle.list_verdict.specs.Text.{rowsText, name, sortName, sortText, targetText, exprLine, separator};
@@ -23,12 +25,19 @@ ghost use Rattle.list_verdict.specs.Text.{component, measureLine, choice
 ghost use Rattle.list_verdict.specs.Text.{argumentText, parts, newLine, verdictLine, newLines, typingText};
 ghost use Rattle.list_verdict.specs.Inner.Room.{SizesOf};
 
-// A letter and a number.
-fn put_name(letter: u8, n: u16, out: &mut [u8], at: usize) -> usize
-    ensures { λ r. ⌜ PutWithin (now (out .entry)) at (name letter n) (now (out .exit)) r ⌝ }
+// A sort by its number, and an expression: a letter and the number.
+fn put_numbered(id: SortId, out: &mut [u8], at: usize) -> usize
+    ensures { λ r. ⌜ PutWithin (now (out .entry)) at (name (byteOf "s") (id .0)) (now (out .exit)) r ⌝ }
 {
-    let digits = put_byte(letter, out, at);
-    put_number(n, out, digits)
+    let digits = put_byte(b's', out, at);
+    put_number(id.0, out, digits)
+}
+
+fn put_expr_name(expr: ExprId, out: &mut [u8], at: usize) -> usize
+    ensures { λ r. ⌜ PutWithin (now (out .entry)) at (name (byteOf "e") (expr .0)) (now (out .exit)) r ⌝ }
+{
+    let digits = put_byte(b'e', out, at);
+    put_number(expr.0, out, digits)
 }
 
 // The word of a kind below 6: of the fixed six sorts.
@@ -164,13 +173,13 @@ pub fn put_verdict(code: u16, out: &mut [u8], at: usize) -> usize
 }
 
 // A sort as the text format names it.
-fn put_sort_name(s: u16, out: &mut [u8], at: usize) -> usize
-    ensures { λ r. ⌜ PutWithin (now (out .entry)) at (sortName s) (now (out .exit)) r ⌝ }
+fn put_sort_name(id: SortId, out: &mut [u8], at: usize) -> usize
+    ensures { λ r. ⌜ PutWithin (now (out .entry)) at (sortName (id .0)) (now (out .exit)) r ⌝ }
 {
-    if s < 6 {
-        return put_six(s, out, at);
+    if id.0 < 6 {
+        return put_six(id.0, out, at);
     }
-    put_name(b's', s, out, at)
+    put_numbered(id, out, at)
 }
 
 // A comma and a space before all but the first.
@@ -214,7 +223,7 @@ fn put_choice(choices: &[u16], i: u16, out: &mut [u8], at: usize) -> usize
 {
     let row = 2 * (i as usize);
     let expr = put_comma(i, out, at);
-    let space = put_name(b'e', word(choices, row), out, expr);
+    let space = put_expr_name(ExprId(word(choices, row)), out, expr);
     let position = put_byte(b' ', out, space);
     put_number(word(choices, row + 1), out, position)
 }
@@ -264,17 +273,17 @@ fn put_arguments(sorts: &[u16], start: u16, count: u16, out: &mut [u8], at: usiz
     let end = (start as usize) + (count as usize);
     while i < end {
         let after = put_byte(b' ', out, cursor);
-        cursor = put_sort_name(word(sorts, ENTRIES_AT + i), out, after);
+        cursor = put_sort_name(SortId(word(sorts, ENTRIES_AT + i)), out, after);
         i += 1;
     }
     cursor
 }
 
 // What follows the kind in the row of a sort.
-fn put_parts(sorts: &[u16], i: u16, out: &mut [u8], at: usize) -> usize
-    ensures { λ r. ⌜ PutWithin (now (out .entry)) at (parts (now (sorts .entry)) i) (now (out .exit)) r ⌝ }
+fn put_parts(sorts: &[u16], id: SortId, out: &mut [u8], at: usize) -> usize
+    ensures { λ r. ⌜ PutWithin (now (out .entry)) at (parts (now (sorts .entry)) (id .0)) (now (out .exit)) r ⌝ }
 {
-    let row = 4 * (i as usize);
+    let row = 4 * (id.0 as usize);
     let kind = word(sorts, row);
     let part = word(sorts, row + 1);
     if kind < 6 {
@@ -282,26 +291,26 @@ fn put_parts(sorts: &[u16], i: u16, out: &mut [u8], at: usize) -> usize
     }
     if kind < FUNCTION_KIND {
         let next = put_byte(b' ', out, at);
-        return put_sort_name(part, out, next);
+        return put_sort_name(SortId(part), out, next);
     }
     if kind == FUNCTION_KIND {
         let arrow = put_arguments(sorts, word(sorts, row + 2), word(sorts, row + 3), out, at);
         let range = put_text(b" -> ", out, arrow);
-        return put_sort_name(part, out, range);
+        return put_sort_name(SortId(part), out, range);
     }
     let next = put_byte(b' ', out, at);
     put_number(part, out, next)
 }
 
 // The line of a sort that was made.
-fn put_new(sorts: &[u16], i: u16, out: &mut [u8], at: usize) -> usize
-    ensures { λ r. ⌜ PutWithin (now (out .entry)) at (newLine (now (sorts .entry)) i) (now (out .exit)) r ⌝ }
+fn put_new(sorts: &[u16], id: SortId, out: &mut [u8], at: usize) -> usize
+    ensures { λ r. ⌜ PutWithin (now (out .entry)) at (newLine (now (sorts .entry)) (id .0)) (now (out .exit)) r ⌝ }
 {
     let number = put_text(b"new ", out, at);
-    let space = put_name(b's', i, out, number);
+    let space = put_numbered(id, out, number);
     let kind = put_byte(b' ', out, space);
-    let rest = put_kind(word(sorts, 4 * (i as usize)), out, kind);
-    let end = put_parts(sorts, i, out, rest);
+    let rest = put_kind(word(sorts, 4 * (id.0 as usize)), out, kind);
+    let end = put_parts(sorts, id, out, rest);
     put_byte(b'\n', out, end)
 }
 
@@ -312,7 +321,7 @@ pub fn put_new_sorts(sorts: &[u16], given: u16, count: u16, out: &mut [u8], at: 
     let mut cursor = at;
     let mut i = given;
     while i < count {
-        cursor = put_new(sorts, i, out, cursor);
+        cursor = put_new(sorts, SortId(i), out, cursor);
         i += 1;
     }
     cursor
@@ -323,27 +332,27 @@ fn put_sort_text(
     sorts: &[u16],
     counts: Counts,
     sizes: &[usize],
-    s: u16,
+    id: SortId,
     out: &mut [u8],
     at: usize,
 ) -> usize
     requires { ⌜ SizesOf (now sorts) counts (now sizes) ⌝ }
     ensures { λ r. ⌜
-        PutWithin (now (out .entry)) at (sortText (now (sorts .entry)) (counts .sorts) s) (now (out .exit)) r
+        PutWithin (now (out .entry)) at (sortText (now (sorts .entry)) (counts .sorts) (id .0)) (now (out .exit)) r
         ⌝ }
 {
-    if counts.sorts <= s {
-        return put_name(b's', s, out, at);
+    if counts.sorts <= id.0 {
+        return put_numbered(id, out, at);
     }
-    let size = size_at(sizes, s);
+    let size = size_at(sizes, id);
     if size == 0 {
-        return put_name(b's', s, out, at);
+        return put_numbered(id, out, at);
     }
     if MAX_LINE < size {
-        return put_name(b's', s, out, at);
+        return put_numbered(id, out, at);
     }
     let mut text = [0u8; MAX_LINE];
-    let end = put_sort(sorts, counts, SortId(s), &mut text, 0);
+    let end = put_sort(sorts, counts, id, &mut text, 0);
     put_text(&text[..end], out, at)
 }
 
@@ -353,13 +362,14 @@ fn put_target(
     counts: Counts,
     sizes: &[usize],
     kind: u16,
-    s: u16,
+    id: SortId,
     out: &mut [u8],
     at: usize,
 ) -> usize
     requires { ⌜ SizesOf (now sorts) counts (now sizes) ⌝ }
     ensures { λ r. ⌜
-        PutWithin (now (out .entry)) at (targetText (now (sorts .entry)) (counts .sorts) kind s) (now (out .exit)) r
+        PutWithin (now (out .entry)) at (targetText (now (sorts .entry)) (counts .sorts) kind (id .0))
+        (now (out .exit)) r
         ⌝ }
 {
     if kind == 1 {
@@ -367,7 +377,7 @@ fn put_target(
     }
     if kind == 2 {
         let sort = put_text(b", op ", out, at);
-        return put_sort_text(sorts, counts, sizes, s, out, sort);
+        return put_sort_text(sorts, counts, sizes, id, out, sort);
     }
     if kind == 3 {
         return put_text(b", builtin", out, at);
@@ -381,28 +391,28 @@ fn put_expr(
     counts: Counts,
     sizes: &[usize],
     typing: &[u16],
-    i: u16,
+    expr: ExprId,
     out: &mut [u8],
     at: usize,
 ) -> usize
     requires { ⌜ SizesOf (now sorts) counts (now sizes) ⌝ }
     ensures { λ r. ⌜
         PutWithin (now (out .entry)) at
-        (exprLine (now (sorts .entry)) (counts .sorts) (now (typing .entry)) i)
+        (exprLine (now (sorts .entry)) (counts .sorts) (now (typing .entry)) (expr .0))
         (now (out .exit)) r
         ⌝ }
 {
-    let row = 3 * (i as usize);
-    let colon = put_name(b'e', i, out, at);
+    let row = 3 * (expr.0 as usize);
+    let colon = put_expr_name(expr, out, at);
     let sort = put_text(b": ", out, colon);
-    let target = put_sort_text(sorts, counts, sizes, word(typing, row), out, sort);
+    let target = put_sort_text(sorts, counts, sizes, SortId(word(typing, row)), out, sort);
     let kind = word(typing, row + 1);
     let end = put_target(
         sorts,
         counts,
         sizes,
         kind,
-        word(typing, row + 2),
+        SortId(word(typing, row + 2)),
         out,
         target,
     );
@@ -429,7 +439,7 @@ fn put_exprs(
     let mut cursor = at;
     let mut i: u16 = 0;
     while i < count {
-        cursor = put_expr(sorts, counts, sizes, typing, i, out, cursor);
+        cursor = put_expr(sorts, counts, sizes, typing, ExprId(i), out, cursor);
         i += 1;
     }
     cursor

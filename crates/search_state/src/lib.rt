@@ -80,7 +80,12 @@ pub enum Step {
 }
 
 // Up to four places.
-pub struct Four(pub u16, pub u16, pub u16, pub u16);
+pub struct Four(
+    pub InferSortId,
+    pub InferSortId,
+    pub InferSortId,
+    pub InferSortId,
+);
 
 // Tries one after another: each of the places against another one, on its left (up) or on its right, the first with the
 // component `first`, each next with one more.

@@ -87,13 +87,13 @@ no-fifth-place f (suc (suc (suc zero))) l = absurd (omega (arith, l))
 no-fifth-place f (suc (suc (suc (suc j)))) l = refl
 
 module _ (t : Tries) (j : ℕ) where
-  pub place-on-left : t .up ≡ true → (p : ℕ) → p ≡ getD (placesOf (t .ids)) j 0 → One (record { 0 = p }) (t .other) ≡ pairsOf (tryAt t j)
+  pub place-on-left : t .up ≡ true → (p : InferSortId) → p .0 ≡ getD (placesOf (t .ids)) j 0 → One p (t .other) ≡ pairsOf (tryAt t j)
   unfolding tryAt
-  place-on-left e p f = rw (e, f)
+  place-on-left e p f = ap (λ (q : ℕ). One (record { 0 = q }) (t .other)) f ∙ rw e
 
-  pub place-on-right : t .up ≡ false → (p : ℕ) → p ≡ getD (placesOf (t .ids)) j 0 → One (t .other) (record { 0 = p }) ≡ pairsOf (tryAt t j)
+  pub place-on-right : t .up ≡ false → (p : InferSortId) → p .0 ≡ getD (placesOf (t .ids)) j 0 → One (t .other) p ≡ pairsOf (tryAt t j)
   unfolding tryAt
-  place-on-right e p f = rw (e, f)
+  place-on-right e p f = ap (λ (q : ℕ). One (t .other) (record { 0 = q })) f ∙ rw e
 
   pub component-of-try : t .first + j ≡ tryAt t j .component
   unfolding tryAt
@@ -131,9 +131,13 @@ module _ (o : ComplexSort) (s : ℕ) (ws : List ℕ) (k : Lengths) (c : Counts) 
       pub always-interned : (K : Counts) → j ≡ JoinedNothing K → (r : Made) → InternsContainer o s ws k ws₁ r
       always-interned K x r = never-none ws (k .sorts) (k .entries) ck (container o (look (trees ws (k .sorts)) s)) ws₁ K (ap (storedAt ws₁) (sym x) ∙ interned)
 
+-- four places of these numbers
+abbrev pub fourOf : ℕ → ℕ → ℕ → ℕ → Four
+fourOf a b c d = record { 0 = record { 0 = a }; 1 = record { 0 = b }; 2 = record { 0 = c }; 3 = record { 0 = d } }
+
 -- the tries of a list of three places at most, one direction as the other
 abbrev triesOver : ℕ → ℕ → ℕ → ℕ → InferSortId → Bool → Tries
-triesOver a b c n o up = record { ids = record { 0 = a; 1 = b; 2 = c; 3 = 0 }; count = n; other = o; up = up; first = 1 }
+triesOver a b c n o up = record { ids = fourOf a b c 0; count = n; other = o; up = up; first = 1 }
 
 tries-against : (up : Bool) (o : InferSortId) (a b c n : ℕ) → n ≤ 3 → triesFrom (triesOver a b c n o up) 0 ≡ triesAgainst up (o .0) 1 (take n (a ∷ b ∷ c ∷ []))
 unfolding rowsFrom tryAt

@@ -36,6 +36,7 @@ use Rattle.search_state.specs.declared.LitAt.{LitAt}
 use Rattle.search_state.specs.declared.LitAt.the-variants.{Number, Free, Other}
 use Rattle.search_state.specs.Inner.Leaves.{tryAt, litNumber, litShape, litEnd, litAt}
 use Rattle.search_steps.specs.Inner.Steps.{litRow, LitTries}
+use Rattle.search_steps.proofs.Laws.{fourOf}
 
 -- the number sorts for a literal
 positive-places : (j : ℕ) → j < 4 → getD (2 ∷ 3 ∷ 4 ∷ 5 ∷ []) j 0 < 6
@@ -52,11 +53,11 @@ natural-places (suc (suc zero)) l = omega arith
 natural-places (suc (suc (suc j))) l = absurd (omega (arith, l))
 
 module _ (kind : LitKind) (id : InferSortId) where
-  pub positive-tries : kind ≡ Positive → LitTries kind id (record { ids = record { 0 = 2; 1 = 3; 2 = 4; 3 = 5 }; count = 4; other = id; up = false; first = 0 })
+  pub positive-tries : kind ≡ Positive → LitTries kind id (record { ids = fourOf 2 3 4 5; count = 4; other = id; up = false; first = 0 })
   unfolding rowsFrom tryAt
   positive-tries e = rw e (record { says = refl; few = omega arith; first = omega arith; places = positive-places; other = refl })
 
-  pub natural-tries : kind ≡ Natural → LitTries kind id (record { ids = record { 0 = 3; 1 = 4; 2 = 5; 3 = 0 }; count = 3; other = id; up = false; first = 1 })
+  pub natural-tries : kind ≡ Natural → LitTries kind id (record { ids = fourOf 3 4 5 0; count = 3; other = id; up = false; first = 1 })
   unfolding rowsFrom tryAt
   natural-tries e = rw e (record { says = refl; few = omega arith; first = omega arith; places = natural-places; other = refl })
 

@@ -4,6 +4,7 @@
 use infer_nodes::counts_of;
 use infer_nodes::node;
 use infer_nodes::shallow_normalize;
+use infer_nodes::taken_apart;
 use infer_nodes::with_counts;
 use inference::LitKind;
 use related_sorts::strict_sub_sorts;
@@ -31,12 +32,11 @@ use sort_interner::generic;
 use sort_interner::get;
 use sort_order::Amount;
 use sort_order::number_generality;
-use unification::FIRST_NODE;
 use unification::InferSort;
 use unification::InferSortId;
 use unification::Lengths;
 use unification::Listed;
-use unification::NodeId;
+use unification::Place;
 use unification::Related;
 use unification::Tried;
 use unifier::unify;
@@ -236,15 +236,15 @@ pub fn give_back(r: Answer, lengths: Lengths) -> Answer
 }
 
 // The j-th of the places.
-fn place_at(ids: Four, j: u16) -> u16
-    ensures { λ r. ⌜ r ≡ getD (placesOf ids) j 0 ⌝ }
+fn place_at(ids: Four, j: u16) -> InferSortId
+    ensures { λ r. ⌜ r .0 ≡ getD (placesOf ids) j 0 ⌝ }
 {
     match j {
         0 => ids.0,
         1 => ids.1,
         2 => ids.2,
         3 => ids.3,
-        _ => 0,
+        _ => InferSortId(0),
     }
 }
 
@@ -253,7 +253,7 @@ pub fn try_pairs(t: Tries, j: u16) -> Pairs
     ensures { λ r. ⌜ r ≡ pairsOf (tryAt t j) ⌝ }
 {
     let ids = t.ids;
-    let place = InferSortId(place_at(ids, j));
+    let place = place_at(ids, j);
     let other = t.other;
     if t.up {
         return Pairs::One(place, other);
@@ -276,14 +276,24 @@ pub fn lit_tries(kind: LitKind, id: InferSortId) -> Tries
 {
     match kind {
         LitKind::Positive => Tries {
-            ids: Four(2, 3, 4, 5),
+            ids: Four(
+                InferSortId(2),
+                InferSortId(3),
+                InferSortId(4),
+                InferSortId(5),
+            ),
             count: 4,
             other: id,
             up: false,
             first: 0,
         },
         LitKind::Natural => Tries {
-            ids: Four(3, 4, 5, 0),
+            ids: Four(
+                InferSortId(3),
+                InferSortId(4),
+                InferSortId(5),
+                InferSortId(0),
+            ),
             count: 3,
             other: id,
             up: false,
@@ -309,16 +319,16 @@ pub fn lit_at(
         ⌝ }
 {
     let end = shallow_normalize(sorts, nodes, binds, lengths, id);
-    if end.0 < FIRST_NODE {
-        return lit_at_row(get(sorts, SortId(end.0)), kind);
-    }
-    match node(nodes, NodeId(end.0 - FIRST_NODE)) {
-        InferSort::Generic { op: _, subsort: _ } => LitAt::Other,
-        InferSort::Function {
-            domain: _,
-            range: _,
-        } => LitAt::Other,
-        InferSort::Var(_) => LitAt::Free,
+    match taken_apart(end) {
+        Place::Sort(sort) => lit_at_row(get(sorts, sort), kind),
+        Place::Node(at) => match node(nodes, at) {
+            InferSort::Generic { op: _, subsort: _ } => LitAt::Other,
+            InferSort::Function {
+                domain: _,
+                range: _,
+            } => LitAt::Other,
+            InferSort::Var(_) => LitAt::Free,
+        },
     }
 }
 
@@ -383,7 +393,12 @@ fn listed_tries(ids: [u16; 3], count: u16, other: InferSortId, up: bool) -> Trie
     ensures { λ r. ⌜ ListedTries up (other .0) (take count ids) r ⌝ }
 {
     Tries {
-        ids: Four(ids[0], ids[1], ids[2], 0),
+        ids: Four(
+            InferSortId(ids[0]),
+            InferSortId(ids[1]),
+            InferSortId(ids[2]),
+            InferSortId(0),
+        ),
         count,
         other,
         up,

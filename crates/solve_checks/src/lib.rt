@@ -60,7 +60,7 @@ pub struct Given {
     pub constraints: usize,
     pub overloads: usize,
     pub sources: usize,
-    pub default: u16,
+    pub default: SortId,
 }
 
 // How many words are lent for scratch and for each output.
@@ -114,9 +114,9 @@ fn rows_within_lent(
     given.sources <= sources.len()
 }
 
-// Whether a word names a sort or a node.
-fn placed(given: Given, place: u16) -> bool
-    ensures { λ r. ⌜ r ≡ isPlace (given .sorts) (given .nodes) place ⌝ }
+// Whether a place is one of the given sorts or nodes.
+fn placed(given: Given, place: InferSortId) -> bool
+    ensures { λ r. ⌜ r ≡ isPlace (given .sorts) (given .nodes) (place .0) ⌝ }
 {
     is_place(given.sorts, given.nodes, place)
 }
@@ -128,7 +128,7 @@ fn exprs_fine(exprs: &[u16], given: Given) -> bool
     let count = given.exprs;
     let mut i: usize = 0;
     while i < count {
-        if !placed(given, word(exprs, i)) {
+        if !placed(given, InferSortId(word(exprs, i))) {
             return false;
         }
         i += 1;
@@ -137,8 +137,8 @@ fn exprs_fine(exprs: &[u16], given: Given) -> bool
 }
 
 // Whether a name target has a known kind and, where it is an operation, a sort of the list.
-fn target_fine(given: Given, kind: u16, sort: u16) -> bool
-    ensures { λ r. ⌜ r ≡ targetFine (problemCall given [] [] [] [] []) kind sort ⌝ }
+fn target_fine(given: Given, kind: u16, sort: SortId) -> bool
+    ensures { λ r. ⌜ r ≡ targetFine (problemCall given [] [] [] [] []) kind (sort .0) ⌝ }
 {
     if kind == 0 {
         return false;
@@ -147,7 +147,7 @@ fn target_fine(given: Given, kind: u16, sort: u16) -> bool
         return false;
     }
     if kind == 2 {
-        return (sort as usize) < given.sorts;
+        return (sort.0 as usize) < given.sorts;
     }
     true
 }
@@ -163,7 +163,7 @@ fn name_fine(names: &[u16], given: Given, i: usize) -> bool
     }
     let kind = word(names, NAME_WORDS * i + 1);
     let sort = word(names, NAME_WORDS * i + 2);
-    target_fine(given, kind, sort)
+    target_fine(given, kind, SortId(sort))
 }
 
 // Check 8: each base name is fine.
@@ -189,10 +189,10 @@ fn overload_fine(overloads: &[u16], given: Given, start: u16, j: u16) -> bool
     let row = OVERLOAD_WORDS * ((start as usize) + (j as usize));
     let kind = word(overloads, row);
     let sort = word(overloads, row + 1);
-    if !target_fine(given, kind, sort) {
+    if !target_fine(given, kind, SortId(sort)) {
         return false;
     }
-    placed(given, word(overloads, row + 2))
+    placed(given, InferSortId(word(overloads, row + 2)))
 }
 
 // Whether a run is inside the overloads, and each of it is fine.
@@ -233,7 +233,10 @@ fn sources_fine(sources: &[u16], given: Given, run: Run) -> bool
     }
     let mut j: u16 = 0;
     while j < count {
-        if !placed(given, word(sources, (start as usize) + (j as usize))) {
+        if !placed(
+            given,
+            InferSortId(word(sources, (start as usize) + (j as usize))),
+        ) {
             return false;
         }
         j += 1;
@@ -245,17 +248,17 @@ fn sources_fine(sources: &[u16], given: Given, run: Run) -> bool
 fn sub_fine(given: Given, lhs: InferSortId, rhs: InferSortId) -> bool
     ensures { λ r. ⌜ r ≡ constraintFine (problemCall given [] [] [] [] []) 0 (Constraint.Sub lhs rhs) ⌝ }
 {
-    if !placed(given, lhs.0) {
+    if !placed(given, lhs) {
         return false;
     }
-    placed(given, rhs.0)
+    placed(given, rhs)
 }
 
 // Lit: a place, and a known kind of literal.
 fn lit_fine(given: Given, b: u16, sort: InferSortId, kind: LitKind) -> bool
     ensures { λ r. ⌜ r ≡ constraintFine (problemCall given [] [] [] [] []) b (Constraint.Lit sort kind) ⌝ }
 {
-    if !placed(given, sort.0) {
+    if !placed(given, sort) {
         return false;
     }
     b <= 1
@@ -278,7 +281,7 @@ fn disjunction_fine(
     if given.exprs <= (expr.0 as usize) {
         return false;
     }
-    if !placed(given, sort.0) {
+    if !placed(given, sort) {
         return false;
     }
     overloads_fine(overloads, given, disjuncts)
@@ -290,10 +293,10 @@ fn comprehension_fine(given: Given, body: InferSortId, node: InferSortId, elemen
         r ≡ constraintFine (problemCall given [] [] [] [] []) 0 (Constraint.Comprehension body node element)
         ⌝ }
 {
-    if !placed(given, body.0) {
+    if !placed(given, body) {
         return false;
     }
-    if !placed(given, node.0) {
+    if !placed(given, node) {
         return false;
     }
     (element.0 as usize) < given.sorts
@@ -305,7 +308,7 @@ fn join_fine(sources: &[u16], given: Given, run: Run, target: InferSortId) -> bo
         r ≡ constraintFine (problemCall given [] [] [] [] (now (sources .entry))) 0 (Constraint.Join run target)
         ⌝ }
 {
-    if !placed(given, target.0) {
+    if !placed(given, target) {
         return false;
     }
     sources_fine(sources, given, run)
@@ -379,11 +382,11 @@ fn constraints_fine(constraints: &[u16], overloads: &[u16], sources: &[u16], giv
     true
 }
 
-// Marks a number, and whether it was not marked yet. Past the end there is nothing to mark.
-fn mark(seen: &mut [bool], x: u16) -> bool
-    ensures { λ r. ⌜ marked (now (seen .exit)) r ≡ markOf (now (seen .entry)) x ⌝ }
+// Marks an expression, and whether it was not marked yet. Past the end there is nothing to mark.
+fn mark(seen: &mut [bool], expr: ExprId) -> bool
+    ensures { λ r. ⌜ marked (now (seen .exit)) r ≡ markOf (now (seen .entry)) (expr .0) ⌝ }
 {
-    let at = x as usize;
+    let at = expr.0 as usize;
     if seen.len() <= at {
         return true;
     }
@@ -403,7 +406,7 @@ fn mark_by(seen: &mut [bool], says: Constraint) -> bool
             expr,
             sort: _,
             disjuncts: _,
-        } => mark(seen, expr.0),
+        } => mark(seen, expr),
         Constraint::Comprehension {
             body: _,
             node: _,
@@ -444,7 +447,7 @@ fn one_name_each(names: &[u16], given: Given) -> bool
     let count = given.names;
     let mut i: usize = 0;
     while i < count {
-        if !mark(&mut seen, word(names, NAME_WORDS * i)) {
+        if !mark(&mut seen, ExprId(word(names, NAME_WORDS * i))) {
             return false;
         }
         i += 1;
@@ -665,7 +668,7 @@ fn test_last(sorts: &[u16], nodes: &[u16], constraints: &[u16], given: Given, ro
     if MAX_COMPONENTS < components(constraints, count) {
         return Tested::Refused(11);
     }
-    if given.sorts <= (given.default as usize) {
+    if given.sorts <= (given.default.0 as usize) {
         return Tested::Refused(12);
     }
     if sorts.len() < SORT_WORDS {

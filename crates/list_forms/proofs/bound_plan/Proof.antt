@@ -8,6 +8,9 @@ use Rattle.list_forms.proofs.bound_plan.Tie as tie
 word-requires : tie.Need-word-requires
 word-requires c κs = search needs
 
+cast-at : tie.Need-cast-at
+cast-at c = search needs
+
 add-at : tie.Need-add-at
 add-at c = search needs
 
@@ -25,9 +28,9 @@ unfolding boundPlan
 returns c =
     let at-if3 = c .before .before in
     let at-word2 = at-if3 .before in
-    let at-if2 = at-word2 .before .before in
-    let at-if1 = at-if2 .before in
-    let at-word = at-if1 .before in
+    let at-if2 = at-word2 .before .before .before in
+    let at-if1 = at-if2 .before .before in
+    let at-word = at-if1 .before .before in
     rw (
       ← at-word .word .ensures,
       lt-ltb _ _ (at-if1 .if1 .taken),
@@ -47,9 +50,9 @@ returns-2 : tie.Need-returns-2
 unfolding boundPlan
 returns-2 c =
     let at-word2 = c .before .before in
-    let at-if2 = at-word2 .before .before in
-    let at-if1 = at-if2 .before in
-    let at-word = at-if1 .before in
+    let at-if2 = at-word2 .before .before .before in
+    let at-if1 = at-if2 .before .before in
+    let at-word = at-if1 .before .before in
     rw (
       ← at-word .word .ensures,
       lt-ltb _ _ (at-if1 .if1 .taken),
@@ -66,8 +69,8 @@ nothing-requires-2 c κs = search needs
 returns-3 : tie.Need-returns-3
 unfolding boundPlan
 returns-3 c = rw (
-  ← c .before .before .before .word .ensures,
-  lt-ltb _ _ (c .before .before .if1 .taken),
+  ← c .before .before .before .before .before .word .ensures,
+  lt-ltb _ _ (c .before .before .before .if1 .taken),
   le-ltb _ _
       (c .before .if2 .left),
   ← c .nothing2 .ensures,
@@ -78,13 +81,14 @@ expected-requires-2 c κs = search needs
 
 returns-4 : tie.Need-returns-4
 unfolding boundPlan
-returns-4 c = rw (← c .before .before .word .ensures, le-ltb _ _ (c .before .if1 .left), ← c .expected2 .ensures)
+returns-4 c = rw (← c .before .before .before .word .ensures, le-ltb _ _ (c .before .if1 .left), ← c .expected2 .ensures)
 
 pub bound-plan-spec : {M : Type 1} → statement M
 bound-plan-spec =
     tie.close
     (tie.spec
     word-requires
+    cast-at
     add-at
     word-requires-2
     nothing-requires

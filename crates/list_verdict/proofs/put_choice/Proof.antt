@@ -16,8 +16,8 @@ put-comma-requires c κs = search needs
 word-requires : tie.Need-word-requires
 word-requires c κs = search needs
 
-put-name-requires : tie.Need-put-name-requires
-put-name-requires c κs = search needs
+put-expr-name-requires : tie.Need-put-expr-name-requires
+put-expr-name-requires c κs = search needs
 
 put-byte-requires : tie.Need-put-byte-requires
 put-byte-requires c κs = search needs
@@ -40,11 +40,11 @@ returns c =
     let at-put-number = c .before .before in
     let at-word2 = at-put-number .before .before in
     let at-put-byte = at-word2 .before .before .before in
-    let at-put-name = at-put-byte .before .before .before .before in
-    let at-word = at-put-name .before .before in
+    let at-put-expr-name = at-put-byte .before .before .before .before in
+    let at-word = at-put-expr-name .before .before in
     let at-put-comma = at-word .before .before .before in
     law.put-then (at-put-comma .put-comma .ensures) (law.put-then (law.put-as (ap (name 101) (at-word .word .ensures))
-    (at-put-name .put-name .ensures)) (law.put-then (at-put-byte .put-byte .ensures)
+    (at-put-expr-name .put-expr-name .ensures)) (law.put-then (at-put-byte .put-byte .ensures)
     (law.put-as (ap decimal (at-word2 .word2 .ensures)) (at-put-number .put-number .ensures))))
 
 pub put-choice-spec : {M : Type 1} → statement M
@@ -54,7 +54,7 @@ put-choice-spec =
     mul-row
     put-comma-requires
     word-requires
-    put-name-requires
+    put-expr-name-requires
     put-byte-requires
     add-word
     word-requires-2

@@ -6,11 +6,14 @@ use borrow.Author.Needs.{needs}
 use Rattle.list_verdict.proofs.put_expr.Statement.{statement}
 use Rattle.list_verdict.proofs.put_expr.Tie as tie
 
+cast-row : tie.Need-cast-row
+cast-row c = search needs
+
 mul-row : tie.Need-mul-row
 mul-row c = search needs
 
-put-name-requires : tie.Need-put-name-requires
-put-name-requires c κs = search needs
+put-expr-name-requires : tie.Need-put-expr-name-requires
+put-expr-name-requires c κs = search needs
 
 slice-aggregate-put-text : tie.Need-slice-aggregate-put-text
 slice-aggregate-put-text c = search needs
@@ -55,10 +58,10 @@ returns c =
     let at-put-sort-text = at-word2 .before .before .before in
     let at-word = at-put-sort-text .before .before in
     let at-put-text = at-word .before .before .before in
-    let at-put-name = at-put-text .before .before .before .before .before in
-    let start = at-put-name .before .before .before .before .before .before in
+    let at-put-expr-name = at-put-text .before .before .before .before .before in
+    let start = at-put-expr-name .before .before .before .before .before .before .before in
     let args = start .args in
-    law.put-then (at-put-name .put-name .ensures) (law.put-then (at-put-text .put-text .ensures)
+    law.put-then (at-put-expr-name .put-expr-name .ensures) (law.put-then (at-put-text .put-text .ensures)
     (law.put-then (law.put-as (ap (sortText (args .sorts .now) (args .counts .sorts)) (at-word .word .ensures))
     (at-put-sort-text .put-sort-text .ensures))
     (law.put-then (law.put-as (ap₂ (targetText (args .sorts .now) (args .counts .sorts))
@@ -69,8 +72,9 @@ pub put-expr-spec : {M : Type 1} → statement M
 put-expr-spec =
     tie.close
     (tie.spec
+    cast-row
     mul-row
-    put-name-requires
+    put-expr-name-requires
     slice-aggregate-put-text
     put-text-requires
     word-requires

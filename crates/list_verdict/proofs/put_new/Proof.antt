@@ -13,11 +13,14 @@ slice-aggregate-put-text c = search needs
 put-text-requires : tie.Need-put-text-requires
 put-text-requires c κs = search needs
 
-put-name-requires : tie.Need-put-name-requires
-put-name-requires c κs = search needs
+put-numbered-requires : tie.Need-put-numbered-requires
+put-numbered-requires c κs = search needs
 
 put-byte-requires : tie.Need-put-byte-requires
 put-byte-requires c κs = search needs
+
+cast-word : tie.Need-cast-word
+cast-word c = search needs
 
 mul-word : tie.Need-mul-word
 mul-word c = search needs
@@ -44,10 +47,10 @@ returns c =
     let at-put-parts = at-put-byte2 .before .before .before .before in
     let at-put-kind = at-put-parts .before .before .before .before in
     let at-word = at-put-kind .before .before in
-    let at-put-byte = at-word .before .before .before in
-    let at-put-name = at-put-byte .before .before .before .before in
-    let at-put-text = at-put-name .before .before .before .before in
-    law.put-then (at-put-text .put-text .ensures) (law.put-then (at-put-name .put-name .ensures)
+    let at-put-byte = at-word .before .before .before .before in
+    let at-put-numbered = at-put-byte .before .before .before .before in
+    let at-put-text = at-put-numbered .before .before .before .before in
+    law.put-then (at-put-text .put-text .ensures) (law.put-then (at-put-numbered .put-numbered .ensures)
     (law.put-then (at-put-byte .put-byte .ensures)
     (law.put-then (law.put-as (ap kindWord (at-word .word .ensures)) (at-put-kind .put-kind .ensures))
     (law.put-then (at-put-parts .put-parts .ensures) (at-put-byte2 .put-byte2 .ensures)))))
@@ -58,8 +61,9 @@ put-new-spec =
     (tie.spec
     slice-aggregate-put-text
     put-text-requires
-    put-name-requires
+    put-numbered-requires
     put-byte-requires
+    cast-word
     mul-word
     word-requires
     put-kind-requires

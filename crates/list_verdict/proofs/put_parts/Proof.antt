@@ -5,6 +5,9 @@ use borrow.Author.Needs.{needs}
 use Rattle.list_verdict.proofs.put_parts.Statement.{statement}
 use Rattle.list_verdict.proofs.put_parts.Tie as tie
 
+cast-row : tie.Need-cast-row
+cast-row c = search needs
+
 mul-row : tie.Need-mul-row
 mul-row c = search needs
 
@@ -20,8 +23,8 @@ word-requires-2 c κs = search needs
 returns : tie.Need-returns
 returns c =
     let at-word = c .before .before in
-    let start = at-word .before .before .before in
-    law.put-as (way.no-part (start .args .sorts .now) (start .args .i) _ _ (at-word .word .ensures)
+    let start = at-word .before .before .before .before in
+    law.put-as (way.no-part (start .args .sorts .now) (start .args .id .0) _ _ (at-word .word .ensures)
     (c .before .word2 .ensures) (c .if1 .taken)) (law.put-none _ _)
 
 put-byte-requires : tie.Need-put-byte-requires
@@ -41,8 +44,8 @@ returns-2 c =
     let at-if1 = at-if2 .before in
     let at-word2 = at-if1 .before in
     let at-word = at-word2 .before in
-    let start = at-word .before .before .before in
-    law.put-as (way.one-part (start .args .sorts .now) (start .args .i) _ _ (at-word .word .ensures)
+    let start = at-word .before .before .before .before in
+    law.put-as (way.one-part (start .args .sorts .now) (start .args .id .0) _ _ (at-word .word .ensures)
     (at-word2 .word2 .ensures) (at-if1 .if1 .left) (at-if2 .if2 .taken))
     (law.put-then (at-put-byte .put-byte .ensures) (at-put-sort-name .put-sort-name .ensures))
 
@@ -85,8 +88,8 @@ returns-3 c =
     let at-if1 = at-if2 .before in
     let at-word2 = at-if1 .before in
     let at-word = at-word2 .before in
-    let start = at-word .before .before .before in
-    law.put-as (way.arguments-and-range (start .args .sorts .now) (start .args .i) _ _ (at-word .word .ensures)
+    let start = at-word .before .before .before .before in
+    law.put-as (way.arguments-and-range (start .args .sorts .now) (start .args .id .0) _ _ (at-word .word .ensures)
     (at-word2 .word2 .ensures) (at-if1 .if1 .left) (at-if2 .if2 .left) (at-if3 .if3 .taken) _ _
     (at-word3 .word3 .ensures) (at-word4 .word4 .ensures))
     (law.put-then (at-put-arguments .put-arguments .ensures) (law.put-then (at-put-text .put-text .ensures)
@@ -110,8 +113,8 @@ returns-4 c =
     let at-if1 = at-if2 .before in
     let at-word2 = at-if1 .before in
     let at-word = at-word2 .before in
-    let start = at-word .before .before .before in
-    law.put-as (way.a-number (start .args .sorts .now) (start .args .i) _ _ (at-word .word .ensures)
+    let start = at-word .before .before .before .before in
+    law.put-as (way.a-number (start .args .sorts .now) (start .args .id .0) _ _ (at-word .word .ensures)
     (at-word2 .word2 .ensures) (at-if1 .if1 .left) (at-if2 .if2 .left) (at-if3 .if3 .left))
     (law.put-then (at-put-byte2 .put-byte2 .ensures) (at-put-number .put-number .ensures))
 
@@ -119,6 +122,7 @@ pub put-parts-spec : {M : Type 1} → statement M
 put-parts-spec =
     tie.close
     (tie.spec
+    cast-row
     mul-row
     word-requires
     add-word

@@ -14,16 +14,16 @@ same-length c = search needs
 returns : tie.Need-returns
 returns c = law.put-as (way.six-name _ (c .before .before .before .before .if1 .taken)) (c .before .before .put-six .ensures)
 
-put-name-requires : tie.Need-put-name-requires
-put-name-requires c κs = search needs
+put-numbered-requires : tie.Need-put-numbered-requires
+put-numbered-requires c κs = search needs
 
 same-length-2 : tie.Need-same-length-2
 same-length-2 c = search needs
 
 returns-2 : tie.Need-returns-2
-returns-2 c = law.put-as (way.plain-name _ (c .before .before .before .before .if1 .left)) (c .before .before .put-name .ensures)
+returns-2 c = law.put-as (way.plain-name _ (c .before .before .before .before .if1 .left)) (c .before .before .put-numbered .ensures)
 
 pub put-sort-name-spec : {M : Type 1} → statement M
 put-sort-name-spec =
     tie.close
-    (tie.spec put-six-requires same-length returns put-name-requires same-length-2 returns-2)
+    (tie.spec put-six-requires same-length returns put-numbered-requires same-length-2 returns-2)

@@ -8,56 +8,56 @@ use borrow.Author.Needs.{needs}
 use Rattle.list_verdict.proofs.put_sort_text.Statement.{statement}
 use Rattle.list_verdict.proofs.put_sort_text.Tie as tie
 
-put-name-requires : tie.Need-put-name-requires
-put-name-requires c κs = search needs
+put-numbered-requires : tie.Need-put-numbered-requires
+put-numbered-requires c κs = search needs
 
 same-length : tie.Need-same-length
 same-length c = search needs
 
 returns : tie.Need-returns
 returns c =
-    let at-put-name = c .before .before in
-    let at-if1 = at-put-name .before .before in
-    let start = at-if1 .before .before .before .before .before in
+    let at-put-numbered = c .before .before in
+    let at-if1 = at-put-numbered .before .before in
+    let start = at-if1 .before .before .before .before .before .before in
     let args = start .args in
-    law.put-as (way.past-the-sorts (args .sorts .now) (args .counts) (args .sizes .now) _ (at-if1 .if1 .taken)) (at-put-name .put-name .ensures)
+    law.put-as (way.past-the-sorts (args .sorts .now) (args .counts) (args .sizes .now) _ (at-if1 .if1 .taken)) (at-put-numbered .put-numbered .ensures)
 
 size-at-requires : tie.Need-size-at-requires
 size-at-requires c κs = search needs
 
-put-name-requires-2 : tie.Need-put-name-requires-2
-put-name-requires-2 c κs = search needs
+put-numbered-requires-2 : tie.Need-put-numbered-requires-2
+put-numbered-requires-2 c κs = search needs
 
 same-length-2 : tie.Need-same-length-2
 same-length-2 c = search needs
 
 returns-2 : tie.Need-returns-2
 returns-2 c =
-    let at-put-name2 = c .before .before in
-    let at-if2 = at-put-name2 .before .before in
+    let at-put-numbered2 = c .before .before in
+    let at-if2 = at-put-numbered2 .before .before in
     let at-size-at = at-if2 .before in
     let at-if1 = at-size-at .before in
-    let start = at-if1 .before .before .before .before .before in
+    let start = at-if1 .before .before .before .before .before .before in
     let args = start .args in
     law.put-as (way.no-text (args .sorts .now) (args .counts) (args .sizes .now) _ (start .pre) (at-if1 .if1 .left) _
-    (at-size-at .size-at .ensures) (at-if2 .if2 .taken)) (at-put-name2 .put-name2 .ensures)
+    (at-size-at .size-at .ensures) (at-if2 .if2 .taken)) (at-put-numbered2 .put-numbered2 .ensures)
 
-put-name-requires-3 : tie.Need-put-name-requires-3
-put-name-requires-3 c κs = search needs
+put-numbered-requires-3 : tie.Need-put-numbered-requires-3
+put-numbered-requires-3 c κs = search needs
 
 same-length-3 : tie.Need-same-length-3
 same-length-3 c = search needs
 
 returns-3 : tie.Need-returns-3
 returns-3 c =
-    let at-put-name3 = c .before .before in
-    let at-if3 = at-put-name3 .before .before in
+    let at-put-numbered3 = c .before .before in
+    let at-if3 = at-put-numbered3 .before .before in
     let at-size-at = at-if3 .before .before in
     let at-if1 = at-size-at .before in
-    let start = at-if1 .before .before .before .before .before in
+    let start = at-if1 .before .before .before .before .before .before in
     let args = start .args in
     law.put-as (way.long-text (args .sorts .now) (args .counts) (args .sizes .now) _ (start .pre) (at-if1 .if1 .left)
-    _ (at-size-at .size-at .ensures) (at-if3 .if3 .taken)) (at-put-name3 .put-name3 .ensures)
+    _ (at-size-at .size-at .ensures) (at-if3 .if3 .taken)) (at-put-numbered3 .put-numbered3 .ensures)
 
 slice-aggregate-put-sort : tie.Need-slice-aggregate-put-sort
 slice-aggregate-put-sort c = search needs
@@ -67,7 +67,7 @@ put-sort-requires c κs =
     let at-if2 = c .before .before in
     let at-size-at = at-if2 .before in
     let at-if1 = at-size-at .before in
-    let start = at-if1 .before .before .before .before .before in
+    let start = at-if1 .before .before .before .before .before .before in
     let args = start .args in
     way.has-room (args .sorts .now) (args .counts) (args .sizes .now) _ (start .pre) (at-if1 .if1 .left) _
     (at-size-at .size-at .ensures) (at-if2 .if2 .left) (c .before .if3 .left) _ (length-replicate {A = ℕ} 200 0)
@@ -78,7 +78,7 @@ array-share-prefix-text c =
     let at-if2 = at-if3 .before in
     let at-size-at = at-if2 .before in
     let at-if1 = at-size-at .before in
-    let start = at-if1 .before .before .before .before .before in
+    let start = at-if1 .before .before .before .before .before .before in
     let args = start .args in
     way.text-ends (args .sorts .now) (args .counts) (args .sizes .now) _ (start .pre) (at-if1 .if1 .left) _
     (at-size-at .size-at .ensures) (at-if2 .if2 .left) (at-if3 .if3 .left) _ (length-replicate {A = ℕ} 200 0) _ _
@@ -91,7 +91,7 @@ slice-aggregate-put-text c =
     let at-if2 = at-if3 .before in
     let at-size-at = at-if2 .before in
     let at-if1 = at-size-at .before in
-    let start = at-if1 .before .before .before .before .before in
+    let start = at-if1 .before .before .before .before .before .before in
     let args = start .args in
     way.text-length (args .sorts .now) (args .counts) (args .sizes .now) _ (start .pre) (at-if1 .if1 .left) _
     (at-size-at .size-at .ensures) (at-if2 .if2 .left) (at-if3 .if3 .left) _ (length-replicate {A = ℕ} 200 0) _ _
@@ -111,7 +111,7 @@ returns-4 c =
     let at-if2 = at-if3 .before in
     let at-size-at = at-if2 .before in
     let at-if1 = at-size-at .before in
-    let start = at-if1 .before .before .before .before .before in
+    let start = at-if1 .before .before .before .before .before .before in
     let args = start .args in
     law.put-as (way.whole-text (args .sorts .now) (args .counts) (args .sizes .now) _ (start .pre) (at-if1 .if1 .left)
     _ (at-size-at .size-at .ensures) (at-if2 .if2 .left) (at-if3 .if3 .left) _ (length-replicate {A = ℕ} 200 0) _
@@ -121,14 +121,14 @@ pub put-sort-text-spec : {M : Type 1} → statement M
 put-sort-text-spec =
     tie.close
     (tie.spec
-    put-name-requires
+    put-numbered-requires
     same-length
     returns
     size-at-requires
-    put-name-requires-2
+    put-numbered-requires-2
     same-length-2
     returns-2
-    put-name-requires-3
+    put-numbered-requires-3
     same-length-3
     returns-3
     slice-aggregate-put-sort

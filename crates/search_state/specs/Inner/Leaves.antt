@@ -102,7 +102,7 @@ pathAfter ls z sc e (Choice i) C = withChoice (pathOf ls z C sc e) (getD (chosen
 
 -- the j-th of tries, and those from it on
 abbrev pub placesOf : Four → List ℕ
-placesOf f = f .0 ∷ f .1 ∷ f .2 ∷ f .3 ∷ []
+placesOf f = f .0 .0 ∷ f .1 .0 ∷ f .2 .0 ∷ f .3 .0 ∷ []
 
 unfoldable pub tryAt : Tries → ℕ → Try
 tryAt t j =

@@ -12,8 +12,9 @@ pub mark-spec : {M : Type 1} → statement M
 mark-spec =
     tie.close
     (tie.spec
-    (λ c. let a = c .before .args in sym (ap₂ marked (set-out (a .seen .now) _ _ (c .if1 .taken))
-    (ap not (List·getD-eq-default (a .seen .now) false {n = a .x} (c .if1 .taken)))))
+    (λ c. search needs)
+    (λ c. let a = c .before .before .args in sym (ap₂ marked (set-out (a .seen .now) _ _ (c .if1 .taken))
+    (ap not (List·getD-eq-default (a .seen .now) false {n = a .expr .0} (c .if1 .taken)))))
     (λ c. search needs)
     (λ c. search needs)
     (λ c. search needs)

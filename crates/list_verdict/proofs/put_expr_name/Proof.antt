@@ -2,8 +2,8 @@
 use Rattle.text_out.proofs.Within as law
 use Rattle.list_verdict.specs.Text.{name}
 use borrow.Author.Needs.{needs}
-use Rattle.list_verdict.proofs.put_name.Statement.{statement}
-use Rattle.list_verdict.proofs.put_name.Tie as tie
+use Rattle.list_verdict.proofs.put_expr_name.Statement.{statement}
+use Rattle.list_verdict.proofs.put_expr_name.Tie as tie
 
 put-byte-requires : tie.Need-put-byte-requires
 put-byte-requires c κs = search needs
@@ -18,5 +18,5 @@ returns : tie.Need-returns
 unfolding name
 returns c = law.put-then (c .before .before .before .before .before .before .put-byte .ensures) (c .before .before .put-number .ensures)
 
-pub put-name-spec : {M : Type 1} → statement M
-put-name-spec = tie.close (tie.spec put-byte-requires put-number-requires same-length returns)
+pub put-expr-name-spec : {M : Type 1} → statement M
+put-expr-name-spec = tie.close (tie.spec put-byte-requires put-number-requires same-length returns)
