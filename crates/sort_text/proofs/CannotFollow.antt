@@ -38,7 +38,7 @@ use Rattle.sort_text.proofs.Readable.{and-both}
 use Rattle.sort_text.proofs.RoundTrip.{noLetter, letters, next-word, next-sortWord, meaning-sortWord}
 
 -- tokens by themselves
-abbrev rebuilt : BareToken → List ℕ → NextToken
+abbrev pub rebuilt : BareToken → List ℕ → NextToken
 rebuilt (bare-word w) bs = word w bs
 rebuilt bare-open bs = open-bracket bs
 rebuilt bare-close bs = close-bracket bs
@@ -62,7 +62,7 @@ again : (bs cs : List ℕ) (n : NextToken) → next isLetter bs ≡ n → bare (
 again bs cs n e a = rebuilt-is (next isLetter cs) ∙ ap (λ b. rebuilt b (beyond (next isLetter cs))) (sym a ∙ ap bare e)
 
 -- lines that begin with the same tokens
-same-refl : (i : ℕ) (bs : List ℕ) → SameTokens i bs bs
+pub same-refl : (i : ℕ) (bs : List ℕ) → SameTokens i bs bs
 unfolding SameTokens
 same-refl zero bs = tt
 same-refl (suc i) bs = (refl, same-refl i (beyond (next isLetter bs)))
@@ -71,17 +71,36 @@ same-next : (bs cs : List ℕ) → SameTokens 1 bs cs → bare (next isLetter bs
 unfolding SameTokens
 same-next bs cs a = a .0
 
+-- a line whose first i tokens are tokens, and neither its end nor a byte that starts none
+abbrev pub IsToken : NextToken → Type 0
+IsToken end = ⊥
+IsToken (word w bs) = Unit {0}
+IsToken (open-bracket bs) = Unit {0}
+IsToken (close-bracket bs) = Unit {0}
+IsToken (hash bs) = Unit {0}
+IsToken (arrow bs) = Unit {0}
+IsToken bad = ⊥
+
+unfoldable pub AllTokens : ℕ → List ℕ → Type 0
+AllTokens zero bs = Unit {0}
+AllTokens (suc i) bs = IsToken (next isLetter bs) × AllTokens i (beyond (next isLetter bs))
+
 -- tokens of one reader and then of another
-unfoldable both : ℕ → ℕ → ℕ
+unfoldable pub both : ℕ → ℕ → ℕ
 both zero j = j
 both (suc i) j = suc (both i j)
 
-both-is : (i j : ℕ) → both i j ≡ i + j
+pub both-is : (i j : ℕ) → both i j ≡ i + j
 unfolding both
 both-is zero j = omega arith
 both-is (suc i) j = omega (arith, both-is i j)
 
-same-fewer : (i j : ℕ) (bs cs : List ℕ) → SameTokens (both i j) bs cs → SameTokens i bs cs
+all-append : (i j : ℕ) (bs : List ℕ) → AllTokens i bs → AllTokens j (afterTokens i bs) → AllTokens (both i j) bs
+unfolding AllTokens afterTokens both
+all-append zero j bs a b = b
+all-append (suc i) j bs a b = (a .0, all-append i j _ (a .1) b)
+
+pub same-fewer : (i j : ℕ) (bs cs : List ℕ) → SameTokens (both i j) bs cs → SameTokens i bs cs
 unfolding SameTokens both
 same-fewer zero j bs cs a = tt
 same-fewer (suc i) j bs cs a = (a .0, same-fewer i j _ _ (a .1))
@@ -91,7 +110,7 @@ unfolding SameTokens afterTokens both
 same-later zero j bs cs a = a
 same-later (suc i) j bs cs a = same-later i j _ _ (a .1)
 
-same-append : (i j : ℕ) (bs cs : List ℕ) → SameTokens i bs cs → SameTokens j (afterTokens i bs) (afterTokens i cs) → SameTokens (both i j) bs cs
+pub same-append : (i j : ℕ) (bs cs : List ℕ) → SameTokens i bs cs → SameTokens j (afterTokens i bs) (afterTokens i cs) → SameTokens (both i j) bs cs
 unfolding SameTokens afterTokens both
 same-append zero j bs cs a b = b
 same-append (suc i) j bs cs a b = (a .0, same-append i j _ _ (a .1) b)
@@ -128,6 +147,7 @@ IsStuck (stuck cs) = Unit {0}
 -- What a reader F makes of bs, beside the relation P: a tree and what is left,
 record Through (P : Relation) (F : List ℕ → Parsed) (bs : List ℕ) (t : Tree) (cs : List ℕ) : Type 0 where
   taken : ℕ
+  tokens : AllTokens taken bs
   left-is : cs ≡ afterTokens taken bs
   fits : (ds : List ℕ) → noLetter ds ≡ true → Fitted P taken bs t ds
   alike : (es : List ℕ) → SameTokens (suc taken) bs es → F es ≡ parsed t (afterTokens taken es)
@@ -135,6 +155,7 @@ record Through (P : Relation) (F : List ℕ → Parsed) (bs : List ℕ) (t : Tre
 -- or what is left from the token that cannot follow.
 record Stopped (P : Relation) (F : List ℕ → Parsed) (bs cs : List ℕ) : Type 0 where
   taken : ℕ
+  tokens : AllTokens taken bs
   left-is : cs ≡ skip (afterTokens taken bs)
   completes : (ds : List ℕ) → noLetter ds ≡ true → Completed P taken bs ds
   alike : (es : List ℕ) → SameTokens (suc taken) bs es → IsStuck (F es)
@@ -160,9 +181,10 @@ record Onward (Q : Tree → Relation) (ds : List ℕ) : Type 0 where
 -- a token that cannot follow, at once
 stops-here : (P : Relation) (F : List ℕ → Parsed) (bs : List ℕ) → ((ds : List ℕ) → noLetter ds ≡ true → Ahead P ds)
     → ((es : List ℕ) → bare (next isLetter bs) ≡ bare (next isLetter es) → IsStuck (F es)) → Stopped P F bs (skip bs)
-unfolding SameTokens afterTokens
+unfolding SameTokens afterTokens AllTokens
 stops-here P F bs a s = record {
   taken = 0;
+  tokens = tt;
   left-is = refl;
   completes = λ ds n. let x = a ds n in record { bytes = x .bytes; tree = x .tree; derived = x .derived; apart = x .apart; same = tt };
   alike = λ es z. s es (z .0);
@@ -173,9 +195,10 @@ data Pure : Tree → List ℕ → Tree → List ℕ → Type 0 where
   pure : {t : Tree} {bs : List ℕ} → Pure t bs t bs
 
 pure-runs : (t : Tree) (bs : List ℕ) → Through (Pure t) (parsed t) bs t bs
-unfolding SameTokens afterTokens
+unfolding SameTokens afterTokens AllTokens
 pure-runs t bs = record {
   taken = 0;
+  tokens = tt;
   left-is = refl;
   fits = λ ds n. record { bytes = ds; derived = pure; apart = n; same = tt; goes-on = refl };
   alike = λ es z. refl;
@@ -189,9 +212,13 @@ record Fronted (R : Relation) (bs ds : List ℕ) (u : Tree) (fs : List ℕ) : Ty
   same : bare (next isLetter bs) ≡ bare (next isLetter bytes)
   goes-on : beyond (next isLetter bytes) ≡ ds
 
-module _ (P R : Relation) (F G : List ℕ → Parsed) (bs cs : List ℕ) (e : beyond (next isLetter bs) ≡ cs)
+module _ (P R : Relation) (F G : List ℕ → Parsed) (bs cs : List ℕ) (e : beyond (next isLetter bs) ≡ cs) (token : IsToken (next isLetter bs))
     (front : (ds fs : List ℕ) (u : Tree) → noLetter ds ≡ true → P ds u fs → Fronted R bs ds u fs)
     (goes : (es : List ℕ) → bare (next isLetter bs) ≡ bare (next isLetter es) → G es ≡ F (beyond (next isLetter es))) where
+  one-more : (i : ℕ) → AllTokens i cs → AllTokens (suc i) bs
+  unfolding AllTokens
+  one-more i a = (token, subst (AllTokens i) (sym e) a)
+
   same-front : (i : ℕ) (fs xs : List ℕ) (u : Tree) (f : Fronted R bs xs u fs) → SameTokens i cs xs → SameTokens (suc i) bs (f .bytes)
   unfolding SameTokens
   same-front i fs xs u f a =
@@ -212,6 +239,7 @@ module _ (P R : Relation) (F G : List ℕ → Parsed) (bs cs : List ℕ) (e : be
   token-runs : (p : Parsed) → Runs P F cs p → Runs R G bs p
   token-runs (parsed t ds) r = record {
     taken = suc (r .taken);
+    tokens = one-more (r .taken) (r .tokens);
     left-is = r .left-is ∙ sym (after-front (r .taken) bs ∙ ap (afterTokens (r .taken)) e);
     fits = λ fs n.
         let x = r .fits fs n in
@@ -229,6 +257,7 @@ module _ (P R : Relation) (F G : List ℕ → Parsed) (bs cs : List ℕ) (e : be
   }
   token-runs (stuck ds) r = record {
     taken = suc (r .taken);
+    tokens = one-more (r .taken) (r .tokens);
     left-is = r .left-is ∙ ap skip (sym (after-front (r .taken) bs ∙ ap (afterTokens (r .taken)) e));
     completes = λ fs n.
         let x = r .completes fs n in
@@ -268,6 +297,7 @@ module _ (P R : Relation) (F : List ℕ → Parsed) (Q : Tree → Relation) (G :
   second-runs : (bs cs : List ℕ) (t : Tree) → Through P F bs t cs → (q : Parsed) → Runs (Q t) (G t) cs q → Runs R (λ xs. F xs then-read G) bs q
   second-runs bs cs t r (parsed u es) s = record {
     taken = both (r .taken) (s .taken);
+    tokens = all-append (r .taken) (s .taken) bs (r .tokens) (subst (AllTokens (s .taken)) (r .left-is) (s .tokens));
     left-is = s .left-is ∙ (ap (afterTokens (s .taken)) (r .left-is) ∙ sym (after-append (r .taken) (s .taken) bs));
     fits = λ ds n.
         let y = s .fits ds n in
@@ -286,6 +316,7 @@ module _ (P R : Relation) (F : List ℕ → Parsed) (Q : Tree → Relation) (G :
   }
   second-runs bs cs t r (stuck es) s = record {
     taken = both (r .taken) (s .taken);
+    tokens = all-append (r .taken) (s .taken) bs (r .tokens) (subst (AllTokens (s .taken)) (r .left-is) (s .tokens));
     left-is = s .left-is ∙ ap skip (ap (afterTokens (s .taken)) (r .left-is) ∙ sym (after-append (r .taken) (s .taken) bs));
     completes = λ ds n.
         let y = s .completes ds n in
@@ -307,6 +338,7 @@ module _ (P R : Relation) (F : List ℕ → Parsed) (Q : Tree → Relation) (G :
   then-runs bs (parsed t cs) r g = second-runs bs cs t r (G t cs) (g t cs refl)
   then-runs bs (stuck cs) r g = record {
     taken = r .taken;
+    tokens = r .tokens;
     left-is = r .left-is;
     completes = λ ds n.
         let y = onward ds n in
@@ -338,7 +370,7 @@ IfWord (hash bs) = Unit {0}
 IfWord (arrow bs) = Unit {0}
 IfWord bad = Unit {0}
 
-run-is-letters : (bs : List ℕ) → letters (run isLetter bs) ≡ true
+pub run-is-letters : (bs : List ℕ) → letters (run isLetter bs) ≡ true
 unfolding run
 run-is-letters [] = refl
 run-is-letters (b ∷ bs) = go (run-is-letters bs) (isLetter b) refl
@@ -384,7 +416,7 @@ letter-no-space b l = go (eqb 32 b) refl
     go true e = let z : isLetter 32 ≡ true = subst (λ x. isLetter x ≡ true) (sym (eqb-true 32 b e)) l in cc
     go false e = refl
 
-spaced : (bs : List ℕ) → next isLetter (32 ∷ bs) ≡ next isLetter bs
+pub spaced : (bs : List ℕ) → next isLetter (32 ∷ bs) ≡ next isLetter bs
 unfolding next skip past
 spaced bs = refl
 
@@ -395,19 +427,19 @@ word-again bs w cs ds e n =
     ∙ (next-word (x .head) (x .tail) ds (letter-no-space (x .head) (x .letter)) (x .letter) (x .all) n ∙ ap (λ v. word v ds) (sym (x .is))))
 
 -- the other tokens
-next-open : (bs : List ℕ) → next isLetter (40 ∷ bs) ≡ open-bracket bs
+pub next-open : (bs : List ℕ) → next isLetter (40 ∷ bs) ≡ open-bracket bs
 unfolding next skip past start
 next-open bs = refl
 
-next-close : (bs : List ℕ) → next isLetter (41 ∷ bs) ≡ close-bracket bs
+pub next-close : (bs : List ℕ) → next isLetter (41 ∷ bs) ≡ close-bracket bs
 unfolding next skip past start
 next-close bs = refl
 
-next-hash : (bs : List ℕ) → next isLetter (35 ∷ bs) ≡ hash bs
+pub next-hash : (bs : List ℕ) → next isLetter (35 ∷ bs) ≡ hash bs
 unfolding next skip past start
 next-hash bs = refl
 
-next-arrow : (bs : List ℕ) → next isLetter (45 ∷ (62 ∷ bs)) ≡ arrow bs
+pub next-arrow : (bs : List ℕ) → next isLetter (45 ∷ (62 ∷ bs)) ≡ arrow bs
 unfolding next skip past start
 next-arrow bs = refl
 
@@ -466,7 +498,7 @@ not-closing t bs n e s =
 closing-runs : (t : Tree) (bs : List ℕ) (n : NextToken) → next isLetter bs ≡ n → Runs (Closes t) (closed t) bs (closing t (skip bs) n)
 unfolding closing
 closing-runs t bs (close-bracket cs) e =
-    token-runs (Pure t) (Closes t) (parsed t) (closed t) bs cs (ap beyond e) (λ ds fs u n p. close-front bs cs e p)
+    token-runs (Pure t) (Closes t) (parsed t) (closed t) bs cs (ap beyond e) (subst IsToken (sym e) tt) (λ ds fs u n p. close-front bs cs e p)
     (λ es a. ap (closing t (skip es)) (again bs es (close-bracket cs) e a)) (parsed t cs) (pure-runs t cs)
 closing-runs t bs end e = not-closing t bs end e (λ at ds. tt)
 closing-runs t bs (word w cs) e = not-closing t bs (word w cs) e (λ at ds. tt)
@@ -529,7 +561,7 @@ bracketed-runs : (m : ℕ) → Below m → (o : ComplexSort) (bs : List ℕ) →
     → Runs (Opens o) (opened o) bs (bracketed sort o (skip bs) n)
 unfolding bracketed
 bracketed-runs m below o bs l (open-bracket cs) e =
-    token-runs (Over o) (Opens o) (contained o) (opened o) bs cs (ap beyond e)
+    token-runs (Over o) (Opens o) (contained o) (opened o) bs cs (ap beyond e) (subst IsToken (sym e) tt)
     (λ ds fs u n p. front-open (Over o) (Opens o) bs cs ds fs u n e (opens (next-open ds) p))
     (λ es a. ap (bracketed sort o (skip es)) (again bs es (open-bracket cs) e a)) (contained o cs)
     (over-runs o cs (below cs (omega (arith, l, open-bracket-takes isLetter bs cs e))))
@@ -560,12 +592,12 @@ operandOf-runs : (m : ℕ) → Below m → (bs : List ℕ) → length bs ≤ m �
     → Runs Operand (operand sort) bs (operandOf sort (skip bs) x cs)
 unfolding operandOf
 operandOf-runs m below bs l w cs e (basic s) f =
-    token-runs (Pure (flat (primitive s))) Operand (parsed (flat (primitive s))) (operand sort) bs cs (ap beyond e)
+    token-runs (Pure (flat (primitive s))) Operand (parsed (flat (primitive s))) (operand sort) bs cs (ap beyond e) (subst IsToken (sym e) tt)
     (λ ds fs u n p. basic-front bs cs w e f n p)
     (λ es a. operand-word es w (beyond (next isLetter es)) (basic s) (again bs es (word w cs) e a) f)
     (parsed (flat (primitive s)) cs) (pure-runs (flat (primitive s)) cs)
 operandOf-runs m below bs l w cs e (operator o) f =
-    token-runs (Opens o) Operand (opened o) (operand sort) bs cs (ap beyond e)
+    token-runs (Opens o) Operand (opened o) (operand sort) bs cs (ap beyond e) (subst IsToken (sym e) tt)
     (λ ds fs u n p. over-front bs cs w e f n p)
     (λ es a. operand-word es w (beyond (next isLetter es)) (operator o) (again bs es (word w cs) e a) f)
     (opened o cs) (bracketed-runs m below o cs (omega (arith, l, word-takes isLetter bs w cs e .0)) (next isLetter cs) refl)
@@ -668,12 +700,13 @@ same-stops : (bs es : List ℕ) → Stops (next isLetter bs) → bare (next isLe
 same-stops bs es h a = subst Stops (sym (again bs es (next isLetter bs) refl a)) (stops-again (next isLetter bs) (beyond (next isLetter es)) h)
 
 alone-runs : (k : ℕ) (ts : Trees) (bs : List ℕ) → arity ts ≤ 16 → Stops (next isLetter bs) → Runs (After ts) (rest sort k ts) bs (alone ts (skip bs) bs)
-unfolding alone SameTokens afterTokens
+unfolding alone SameTokens afterTokens AllTokens
 alone-runs k no-args bs l h =
     stops-here (After no-args) (rest sort k no-args) bs (range-ahead no-args l)
     (λ es a. subst IsStuck (sym (rest-alone k no-args es (same-stops bs es h a))) tt)
 alone-runs k (arg t no-args) bs l h = record {
   taken = 0;
+  tokens = tt;
   left-is = refl;
   fits = λ ds n. record { bytes = ds; derived = λ xs p. one-operand (only-operand t p refl); apart = n; same = tt; goes-on = refl };
   alike = λ es a. rest-alone k (arg t no-args) es (same-stops bs es h (a .0));
@@ -689,7 +722,7 @@ arrow-runs : (m : ℕ) → Below m → (k : ℕ) (ts : Trees) (bs cs : List ℕ)
     → Runs (After ts) (rest sort k ts) bs (rest sort k ts bs)
 arrow-runs m below k ts bs cs a l e =
     subst (Runs (After ts) (rest sort k ts) bs) (sym (rest-arrow k ts bs cs e))
-    (token-runs (AfterArrow ts) (After ts) (λ xs. sort xs then-read (λ r ds. parsed (function ts r) ds)) (rest sort k ts) bs cs (ap beyond e)
+    (token-runs (AfterArrow ts) (After ts) (λ xs. sort xs then-read (λ r ds. parsed (function ts r) ds)) (rest sort k ts) bs cs (ap beyond e) (subst IsToken (sym e) tt)
     (λ ds fs u n p. front-arrow (AfterArrow ts) (After ts) bs cs ds fs u n e (λ xs h. p xs (45 ∷ (62 ∷ ds)) h (next-arrow ds)))
     (λ es z. rest-arrow k ts es (beyond (next isLetter es)) (again bs es (arrow cs) e z))
     (sort cs then-read (λ r ds. parsed (function ts r) ds))
@@ -720,7 +753,7 @@ rest-runs m below (suc k) ts a bs l =
     by-token m below (suc k) ts bs (omega arith) l
     (λ cs e.
     subst (Runs (After ts) (rest sort (suc k) ts) bs) (sym (rest-hash k ts bs cs e))
-    (token-runs (AfterHash ts) (After ts) (λ xs. operand sort xs then-read (λ t ds. rest sort k (snoc ts t) ds)) (rest sort (suc k) ts) bs cs (ap beyond e)
+    (token-runs (AfterHash ts) (After ts) (λ xs. operand sort xs then-read (λ t ds. rest sort k (snoc ts t) ds)) (rest sort (suc k) ts) bs cs (ap beyond e) (subst IsToken (sym e) tt)
     (λ ds fs u n p. front-hash (AfterHash ts) (After ts) bs cs ds fs u n e (λ xs h. p xs (35 ∷ ds) h (next-hash ds)))
     (λ es z. rest-hash k ts es (beyond (next isLetter es)) (again bs es (hash cs) e z))
     (operand sort cs then-read (λ t ds. rest sort k (snoc ts t) ds))
@@ -735,9 +768,9 @@ rest-runs m below (suc k) ts a bs l =
 -- equal readers
 runs-as : (P : Relation) (F G : List ℕ → Parsed) → ((xs : List ℕ) → G xs ≡ F xs) → (bs : List ℕ) (p : Parsed) → Runs P F bs p → Runs P G bs p
 runs-as P F G e bs (parsed t cs) r =
-    record { taken = r .taken; left-is = r .left-is; fits = r .fits; alike = λ es a. e es ∙ r .alike es a }
+    record { taken = r .taken; tokens = r .tokens; left-is = r .left-is; fits = r .fits; alike = λ es a. e es ∙ r .alike es a }
 runs-as P F G e bs (stuck cs) r =
-    record { taken = r .taken; left-is = r .left-is; completes = r .completes; alike = λ es a. subst IsStuck (sym (e es)) (r .alike es a) }
+    record { taken = r .taken; tokens = r .tokens; left-is = r .left-is; completes = r .completes; alike = λ es a. subst IsStuck (sym (e es)) (r .alike es a) }
 
 one-argument : (t : Tree) → arity (arg t no-args) ≡ 1
 unfolding arity
@@ -775,30 +808,38 @@ line-is bs = refl
 no-sort : (cs : List ℕ) (t : Tree) → LineOf cs t [] → IsStuck (sort cs then-read ended) → ⊥
 no-sort cs t h s = subst IsStuck (sym (line-is cs) ∙ line-exactly cs t .1 h) s
 
+-- the law, and that tokens stand before the unread end
+pub record Stop (bs cs : List ℕ) : Type 0 where
+  pub shown : FirstThatCannotFollow bs cs
+  pub tokens : AllTokens (shown .before) bs
+
 abbrev IfStuck : (List ℕ → Type 0) → Parsed → Type 0
 IfStuck P (parsed t cs) = Unit {0}
 IfStuck P (stuck cs) = P cs
 
 ends-here : (bs cs : List ℕ) (t : Tree) → Through SortOf sort bs t cs
-    → ((es : List ℕ) → bare (next isLetter cs) ≡ bare (next isLetter es) → IsStuck (ended t es)) → FirstThatCannotFollow bs (skip cs)
+    → ((es : List ℕ) → bare (next isLetter cs) ≡ bare (next isLetter es) → IsStuck (ended t es)) → Stop bs (skip cs)
 ends-here bs cs t r s = record {
-  before = r .taken;
-  starts-there = ap skip (r .left-is);
-  can-begin = let x = r .fits [] refl in (x .bytes, t, line-ends (x .derived), x .same);
-  cannot-follow = λ y.
-      let a : SameTokens 1 (afterTokens (r .taken) bs) (afterTokens (r .taken) (y .0)) =
-      same-later (r .taken) 1 bs (y .0) (subst (λ k. SameTokens k bs (y .0)) (omega (arith, both-is (r .taken) 1)) (y .3)) in
-      no-sort (y .0) (y .1) (y .2) (subst (λ p. IsStuck (p then-read ended)) (sym (r .alike (y .0) (y .3)))
-      (s (afterTokens (r .taken) (y .0)) (ap (λ x. bare (next isLetter x)) (r .left-is) ∙ same-next (afterTokens (r .taken) bs) (afterTokens (r .taken) (y .0)) a)));
+  tokens = r .tokens;
+  shown = record {
+    before = r .taken;
+    starts-there = ap skip (r .left-is);
+    can-begin = let x = r .fits [] refl in (x .bytes, t, line-ends (x .derived), x .same);
+    cannot-follow = λ y.
+        let a : SameTokens 1 (afterTokens (r .taken) bs) (afterTokens (r .taken) (y .0)) =
+        same-later (r .taken) 1 bs (y .0) (subst (λ k. SameTokens k bs (y .0)) (omega (arith, both-is (r .taken) 1)) (y .3)) in
+        no-sort (y .0) (y .1) (y .2) (subst (λ p. IsStuck (p then-read ended)) (sym (r .alike (y .0) (y .3)))
+        (s (afterTokens (r .taken) (y .0)) (ap (λ x. bare (next isLetter x)) (r .left-is) ∙ same-next (afterTokens (r .taken) bs) (afterTokens (r .taken) (y .0)) a)));
+  };
 }
 
 not-ending : (bs cs : List ℕ) (t : Tree) → Through SortOf sort bs t cs → (n : NextToken) → next isLetter cs ≡ n
-    → ((at ds : List ℕ) → IsStuck (ending t at (rebuilt (bare n) ds))) → FirstThatCannotFollow bs (skip cs)
+    → ((at ds : List ℕ) → IsStuck (ending t at (rebuilt (bare n) ds))) → Stop bs (skip cs)
 not-ending bs cs t r n e s =
     ends-here bs cs t r (λ es a. subst (λ x. IsStuck (ending t (skip es) x)) (sym (again cs es n e a)) (s (skip es) (beyond (next isLetter es))))
 
 ending-stops : (bs cs : List ℕ) (t : Tree) → Through SortOf sort bs t cs → (n : NextToken) → next isLetter cs ≡ n
-    → IfStuck (FirstThatCannotFollow bs) (ending t (skip cs) n)
+    → IfStuck (Stop bs) (ending t (skip cs) n)
 unfolding ending
 ending-stops bs cs t r end e = tt
 ending-stops bs cs t r (word w ds) e = not-ending bs cs t r (word w ds) e (λ at xs. tt)
@@ -808,19 +849,25 @@ ending-stops bs cs t r (hash ds) e = not-ending bs cs t r (hash ds) e (λ at xs.
 ending-stops bs cs t r (arrow ds) e = not-ending bs cs t r (arrow ds) e (λ at xs. tt)
 ending-stops bs cs t r bad e = not-ending bs cs t r bad e (λ at xs. tt)
 
-sort-stops : (bs : List ℕ) (p : Parsed) → Runs SortOf sort bs p → IfStuck (FirstThatCannotFollow bs) (p then-read ended)
+sort-stops : (bs : List ℕ) (p : Parsed) → Runs SortOf sort bs p → IfStuck (Stop bs) (p then-read ended)
 sort-stops bs (parsed t cs) r = ending-stops bs cs t r (next isLetter cs) refl
 sort-stops bs (stuck cs) r = record {
-  before = r .taken;
-  starts-there = r .left-is;
-  can-begin = let x = r .completes [] refl in (x .bytes, x .tree, line-ends (x .derived), x .same);
-  cannot-follow = λ y. no-sort (y .0) (y .1) (y .2) (stuck-then (sort (y .0)) ended (r .alike (y .0) (y .3)));
+  tokens = r .tokens;
+  shown = record {
+    before = r .taken;
+    starts-there = r .left-is;
+    can-begin = let x = r .completes [] refl in (x .bytes, x .tree, line-ends (x .derived), x .same);
+    cannot-follow = λ y. no-sort (y .0) (y .1) (y .2) (stuck-then (sort (y .0)) ended (r .alike (y .0) (y .3)));
+  };
 }
+
+pub stop : (bs cs : List ℕ) → line bs ≡ stuck cs → Stop bs cs
+stop bs cs e =
+    subst (IfStuck (Stop bs)) (sym (line-is bs) ∙ e) (sort-stops bs (sort bs) (sorts-run (suc (length bs)) bs (omega arith)))
 
 -- With 20 the unread end starts at the first token that cannot follow.
 pub stops-at-the-first-token-that-cannot-follow : (bs cs : List ℕ) → line bs ≡ stuck cs → FirstThatCannotFollow bs cs
-stops-at-the-first-token-that-cannot-follow bs cs e =
-    subst (IfStuck (FirstThatCannotFollow bs)) (sym (line-is bs) ∙ e) (sort-stops bs (sort bs) (sorts-run (suc (length bs)) bs (omega arith)))
+stops-at-the-first-token-that-cannot-follow bs cs e = stop bs cs e .shown
 
 -- a beginning of a beginning of a sort is one
 can-begin-fewer : (i j : ℕ) (bs : List ℕ) → i ≤ j → CanBegin j bs → CanBegin i bs
@@ -846,13 +893,6 @@ stuck-exactly bs cs = (stops-at-the-first-token-that-cannot-follow bs cs, λ x. 
         let h = line-derived bs ds t e in
         absurd (x .cannot-follow (bs, t, (h .0, h .1, h .2, refl), same-refl (suc (x .before)) bs))
     go x (stuck ds) e = ap stuck (first-that-cannot-follow-is-one bs ds cs (stops-at-the-first-token-that-cannot-follow bs ds e) x)
-
--- Where the line stopped too early, all its tokens can begin a sort.
-pub stopped-too-early : (bs : List ℕ) → line bs ≡ stuck [] → (i : ℕ) × (next isLetter (afterTokens i bs) ≡ end) × CanBegin i bs
-unfolding next
-stopped-too-early bs e =
-    let x = stops-at-the-first-token-that-cannot-follow bs [] e in
-    (x .before, ap (nextAt isLetter) (sym (x .starts-there)), x .can-begin)
 
 -- of what the entry answers
 stored-is-a-sort : (ws : List ℕ) (n e : ℕ) (r : Stored) (j : Joined) (p : ℕ) → (storedBy ws n e r j) .answer ≡ NotASort p → ⊥

@@ -13,6 +13,7 @@ pub mod Words
 pub mod Length
 pub mod Exactly
 pub mod CannotFollow
+pub mod Beginnings
 pub mod Sizes
 pub mod ReadableBounds
 pub mod PairRoom

@@ -1,6 +1,6 @@
 -- A pair never runs out of room (15): storing a sort makes at most as many sorts and entries as it has nodes, and a line of 200 bytes
 -- has at most 200 nodes. By the clauses of `store`. Assumes nothing.
-use mathlib.Core.Path.{_≡_, refl, sym, ap, ap₂, subst}
+use mathlib.Core.Path.{_≡_, refl, sym, _∙_, ap, ap₂, subst}
 use mathlib.Core.Bool.{Bool, true, false, cond}
 use mathlib.Core.List.{List, [], _∷_, _++_}
 use Prim.Native.Nat.{ℕ, _+_, _-_, _≤_, _<_}
@@ -142,3 +142,35 @@ pair-fits bs cs bs′ cs′ s t S l l′ e e′ p q =
 pub pair-fits-from-six : (bs cs bs′ cs′ ws : List ℕ) (s t : Tree) → length bs ≤ 200 → length bs′ ≤ 200 → line bs ≡ parsed s cs → line bs′ ≡ parsed t cs′
     → PairFits s t (sortsOf ws 6 0)
 pair-fits-from-six bs cs bs′ cs′ ws s t l l′ e e′ = pair-fits bs cs bs′ cs′ s t (sortsOf ws 6 0) l l′ e e′ (omega arith) (omega arith)
+
+-- What fits did not end the room.
+pub fits-is-not-full : {A : Type 0} (o : Outcome A) → isFull o ≡ false → (S : Sorts) → o ≡ full S → ⊥
+unfolding isFull
+fits-is-not-full (made a T) e S f = let z : _≡_ {A = ℕ} 0 1 = cc in omega arith
+fits-is-not-full (nothing T) e S f = let z : _≡_ {A = ℕ} 0 1 = cc in omega arith
+fits-is-not-full (full T) e S f = let z : _≡_ {A = ℕ} 0 1 = cc in omega arith
+
+-- What that says of the four, each after the one before.
+module _ (s t : Tree) (S : Sorts) (p : PairFits s t S) (s′ : Tree) (S₁ : Sorts) (e : store s S ≡ made s′ S₁) where
+  pub second-fits : isFull (store t S₁) ≡ false
+  unfolding listAfter
+  second-fits = subst (λ o. isFull (store t (listAfter o)) ≡ false) e (p .second)
+
+  module _ (t′ : Tree) (S₂ : Sorts) (f : store t S₁ ≡ made t′ S₂) where
+    two-stored : twoStored s t S ≡ S₂
+    unfolding listAfter
+    two-stored = ap (λ o. listAfter (store t (listAfter o))) e ∙ ap listAfter f
+
+    pub join-fits : isFull (make true s t S₂) ≡ false
+    join-fits = subst (λ U. isFull (make true s t U) ≡ false) two-stored (p .join)
+
+    meet-after : isFull (make false s t (listAfter (make true s t S₂))) ≡ false
+    meet-after = subst (λ U. isFull (make false s t (listAfter (make true s t U))) ≡ false) two-stored (p .meet)
+
+    pub meet-fits : (u : Tree) (S₃ : Sorts) → make true s t S₂ ≡ made u S₃ → isFull (make false s t S₃) ≡ false
+    unfolding listAfter
+    meet-fits u S₃ g = subst (λ o. isFull (make false s t (listAfter o)) ≡ false) g meet-after
+
+    pub meet-fits-without-join : (S₃ : Sorts) → make true s t S₂ ≡ nothing S₃ → isFull (make false s t S₃) ≡ false
+    unfolding listAfter
+    meet-fits-without-join S₃ g = subst (λ o. isFull (make false s t (listAfter o)) ≡ false) g meet-after

@@ -3,7 +3,7 @@
 -- cannot follow". Said by the grammar alone: up to there some line that is a sort goes on alike, and with the token
 -- there none does.
 use mathlib.Core.Path.{_≡_}
-use mathlib.Core.List.{List, []}
+use mathlib.Core.List.{List, [], _++_}
 use Prim.Native.Nat.{ℕ, zero, suc}
 use Rattle.resolved_sort.specs.Tree.{Tree}
 use Rattle.sort_text.specs.Tokens.{isLetter, NextToken, end, word, open-bracket, close-bracket, hash, arrow}
@@ -57,3 +57,11 @@ pub record FirstThatCannotFollow (bs cs : List ℕ) : Type 0 where
   pub starts-there : cs ≡ skip (afterTokens before bs)
   pub can-begin : CanBegin before bs
   pub cannot-follow : CanBegin (suc before) bs → ⊥
+
+-- In bytes: what was read before the unread end cs is the beginning of a line that is a sort.
+pub record BeginsASort (bs cs : List ℕ) : Type 0 where
+  pub front : List ℕ
+  pub after : List ℕ
+  pub whole : bs ≡ front ++ cs
+  pub tree : Tree
+  pub is-a-sort : LineOf (front ++ after) tree []
