@@ -21,7 +21,7 @@ use words::put;
 ghost use mathlib.Core.Path.{_≡_};
 ghost use Prim.Native.Nat.{_≤_};
 ghost use lib.ListN.{length};
-ghost use Rattle.unification.specs.UnifyEntry.{packedBinds};
+ghost use Rattle.unify_entries.specs.Packed.{packedBinds};
 ghost use Rattle.replay.specs.Inner.Lines.{nearEnough};
 ghost use Rattle.recorded_unify.specs.Inner.Lines.{bindingsAt, letterOf, partStart, partLength, withLength};
 ghost use Rattle.recorded_unify.specs.Inner.Lines.{noLengths, started, complete as isComplete, lineStep};

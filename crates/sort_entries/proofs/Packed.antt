@@ -36,7 +36,7 @@ use Rattle.entry_answers.proofs.SortsLeft.{counts-within}
 use Rattle.sort_entries.specs.Codes.{orderCode, codedCompared, codedMeasured, codedMaterialized, codedBounded}
 use Rattle.sort_entries.specs.Codes.{ComparedWithin, MeasuredWithin, MaterializedWithin, BoundedWithin}
 use Rattle.sort_entries.specs.Packed.{comparedWidths, measuredWidths, materializedWidths, boundedWidths}
-use Rattle.sort_entries.specs.Packed.{packCompared, packMeasured, packMaterialized, packBounded}
+use Rattle.sort_entries.specs.Packed.{packCompared, packMeasured, packMaterialized, packBounded, packedSorts, packSortsLeft}
 use Rattle.sort_entries.specs.Answered.{BoundSays}
 use Rattle.sort_entries.proofs.Answered.{entry-is-bound}
 
@@ -225,3 +225,12 @@ bounded-tells r s x y p =
     go NoRoom (Sort t l) x y k v = absurd (omega (arith, k))
     go NoRoom (NoBound l) x y k v = absurd (omega (arith, k))
     go NoRoom NoRoom x y k v = refl
+
+-- The same of the exports join and meet: whatever answer their number is read as, it and the words left say what the entry's do.
+pub export-is-bound : (up : Bool) (ws : List ℕ) (n e a b : ℕ) (vs : List ℕ) (p : ℕ) → packedSorts vs p ≡ packSortsLeft (bounded up ws n e a b)
+    → (r : Bounded) → BoundedWithin r → packBounded r ≡ p → BoundSays up ws n e a b vs r
+export-is-bound up ws n e a b vs p q r w x =
+    let words : vs ≡ (bounded up ws n e a b) .words = ap (λ z. z .words) q in
+    let answer : r ≡ (bounded up ws n e a b) .answer =
+    bounded-tells r ((bounded up ws n e a b) .answer) w (bounded-within ws n e a b up) (x ∙ ap (λ z. z .result) q) in
+    entry-is-bound up ws n e a b vs r (λ i. record { words = words i; answer = answer i })

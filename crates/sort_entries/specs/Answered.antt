@@ -31,7 +31,8 @@ module _ (up : Bool) (ws : List ℕ) (n e a b : ℕ) where
     pub is : boundAsked ≡ some (treeAt vs (k .sorts) (s .0))
     pub grew : SortsGrew ws n e vs k
 
-  -- None: there is no join or meet. "Join and meet keep the sorts the Rust's would make, also where the answer is none."
+  -- None: there is no join or meet. "Join and meet keep the sorts the Rust's would make, also where the answer is
+  -- none."
   pub record BoundNone (vs : List ℕ) (k : Counts) : Type 0 where
     pub passed : firstFailing (pairChecks ws n e a b) ≡ none
     pub is : boundAsked ≡ none

@@ -1,5 +1,5 @@
--- The number and the values of each answer of the sorts' entries: document 01's number (`codeCompared` and the like), and
--- for each case the values that come with it.
+-- The number and the values of each answer of the sorts' entries: document 01's number (`codeCompared` and the like),
+-- and for each case the values that come with it.
 use mathlib.Core.Bool.{true, false}
 use mathlib.Core.List.{List, [], _∷_}
 use Prim.Native.Nat.{ℕ, _<_, _≤_}

@@ -1,5 +1,5 @@
--- The number and the values of each answer of read: document 01's number (`codeRead`), and for each case the values that
--- come with it.
+-- The number and the values of each answer of read: document 01's number (`codeRead`), and for each case the values
+-- that come with it.
 use mathlib.Core.Path.{_≡_}
 use mathlib.Core.Logic.{_⊎_}
 use mathlib.Core.List.{List, [], _∷_}

@@ -12,7 +12,6 @@ use Rattle.unification.specs.Nodes.{shapeAt, freeWord, Binds, bindsOf}
 use Rattle.unification.specs.Unify.{Unifies, yes-with, no-way, too-deep, unify}
 use Rattle.unification.specs.NodeChecks.{unifyChecks}
 use Rattle.unification.specs.Checked.{listsOf}
-use Rattle.words.specs.Bits.{bit8}
 
 -- the words of bindings
 abbrev pub bindingWord : Option ℕ → ℕ
@@ -42,23 +41,8 @@ unifyEntry ws n e ns m d bs v l r =
     refusedOr (firstFailing (unifyChecks ws n e ns m d bs v l r)) (λ c. bindsLeft bs (Refused c))
     (bindsLeftBy bs v (unify (shapeAt (listsOf ws n ns m)) (bindsOf bs v) l r))
 
--- Document 01's number of each answer, and the packed one for callers in other languages: bits 8 to 15 are 1 for a yes.
+-- document 01's number of each answer
 unfoldable pub codeUnified : Unified → ℕ
 codeUnified (Refused c) = c
 codeUnified Yes = 0
 codeUnified No = 0
-
-unfoldable pub packUnified : Unified → ℕ
-packUnified (Refused c) = c
-packUnified Yes = bit8
-packUnified No = 0
-
-pub record PackedBinds : Type 0 where
-  pub words : List ℕ
-  pub result : ℕ
-
-abbrev pub packedBinds : List ℕ → ℕ → PackedBinds
-packedBinds bs r = record { words = bs; result = r }
-
-abbrev pub packBindsLeft : BindsLeft → PackedBinds
-packBindsLeft l = packedBinds (l .words) (packUnified (l .answer))

@@ -25,8 +25,8 @@ ghost use Rattle.unification.specs.Nodes.{maxNodes, maxVars, bindsOf};
 ghost use Rattle.unification.specs.Unify.{unify as unifyOf};
 ghost use Rattle.unification.specs.NodeChecks.{nodeChecks, placeChecks, unifyChecks};
 ghost use Rattle.unification.specs.Checked.{graphOf, Ready, Placed};
-ghost use Rattle.unification.specs.UnifyEntry.{bindsLeft, bindsLeftBy, unifyEntry, packUnified, packedBinds};
-ghost use Rattle.unification.specs.UnifyEntry.{packBindsLeft};
+ghost use Rattle.unification.specs.UnifyEntry.{bindsLeft, bindsLeftBy, unifyEntry};
+ghost use Rattle.unify_entries.specs.Packed.{packUnified, packedBinds, packBindsLeft};
 
 // Checks 12 and 14: the first that fails.
 fn test_places(

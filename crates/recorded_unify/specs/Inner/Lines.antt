@@ -10,7 +10,8 @@ use Rattle.unification.specs.declared.Lengths.{Lengths}
 use Rattle.words.specs.Inner.Bits.{mostWord}
 use Rattle.resolved_sort.specs.Storage.{maxSorts, maxEntries, rowWords, entriesAt, fullLength}
 use Rattle.unification.specs.Nodes.{maxNodes, maxNodeEntries, maxVars, fullNodes}
-use Rattle.unification.specs.UnifyEntry.{unifyEntry, PackedBinds, packBindsLeft}
+use Rattle.unification.specs.UnifyEntry.{unifyEntry}
+use Rattle.unify_entries.specs.Packed.{PackedBinds, packBindsLeft}
 use Rattle.words.specs.Words.{part}
 use Rattle.replay.specs.declared.Fields.{Fields}
 use Rattle.replay.specs.declared.Verdict.{Verdict}

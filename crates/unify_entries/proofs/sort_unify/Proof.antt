@@ -1,5 +1,5 @@
 -- The answer, packed, beside what was left. Assumes nothing.
-use Rattle.unification.specs.UnifyEntry.{packedBinds, packBindsLeft}
+use Rattle.unify_entries.specs.Packed.{packedBinds, packBindsLeft}
 use borrow.Author.Needs.{needs}
 use mathlib.Core.Path.{_≡_, refl, sym, ap, subst, _∙_}
 use Rattle.unify_entries.proofs.sort_unify.Statement.{statement}
