@@ -26,11 +26,11 @@ pub counts-given : (ws : List ℕ) (n e m d v x k c o s t : ℕ) (k0 : Given)
       constraints = c;
       overloads = o;
       sources = s;
-      default = t;
+      default = record { 0 = t };
     }
     → n ≡ givenIn ws .sorts → e ≡ givenIn ws .entries → m ≡ givenIn ws .nodes → d ≡ givenIn ws .arguments
     → v ≡ givenIn ws .variables → x ≡ givenIn ws .exprs → k ≡ givenIn ws .names
-    → c ≡ givenIn ws .constraints → o ≡ givenIn ws .overloads → s ≡ givenIn ws .sources → t ≡ givenIn ws .default → k0 ≡ givenIn ws
+    → c ≡ givenIn ws .constraints → o ≡ givenIn ws .overloads → s ≡ givenIn ws .sources → t ≡ givenIn ws .default .0 → k0 ≡ givenIn ws
 counts-given ws n e m d v x k c o s t k0 h e1 e2 e3 e4 e5 e6 e7 e8 e9 e10 e11 =
     h
     ∙ (λ i. record {
@@ -44,5 +44,5 @@ counts-given ws n e m d v x k c o s t k0 h e1 e2 e3 e4 e5 e6 e7 e8 e9 e10 e11 =
       constraints = e8 i;
       overloads = e9 i;
       sources = e10 i;
-      default = e11 i;
+      default = record { 0 = e11 i };
     })

@@ -87,7 +87,7 @@ module _ (ws : List ℕ) where
         constraints = callCount ws constraintList;
         overloads = callCount ws overloadList;
         sources = callCount ws sourceList;
-        default = callDefault ws;
+        default = record { 0 = callDefault ws };
       }
 
   -- the call with these counts and the slices that it may change, and the call as the list tells it

@@ -17,6 +17,7 @@ use list_memory::LIST_OVERLOAD_WORDS;
 use list_memory::LIST_OVERLOADS_AT;
 use list_memory::LIST_SOURCES_AT;
 use list_memory::ROWS_AT;
+use resolved_sort::SortId;
 use solve_checks::Given;
 use solve_entries::solve;
 use words::word;
@@ -62,7 +63,7 @@ pub fn given_of(list: &[u16]) -> Given
         constraints: count_of(list, 7) as usize,
         overloads: count_of(list, 8) as usize,
         sources: count_of(list, 9) as usize,
-        default: word(list, DEFAULT_AT),
+        default: SortId(word(list, DEFAULT_AT)),
     }
 }
 

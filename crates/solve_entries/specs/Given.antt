@@ -16,5 +16,5 @@ givenOf n e m d v x k c o s t =
       constraints = c;
       overloads = o;
       sources = s;
-      default = t;
+      default = record { 0 = t };
     }

@@ -3,6 +3,7 @@
 // caller hands in, the answer and all lent memory at exit are the defined ones.
 use inference::Solved;
 use problem_words::pack;
+use resolved_sort::SortId;
 use resolved_sort::Tested;
 use search_state::PROBLEM_WORDS;
 use search_state::Sizes;
@@ -254,7 +255,7 @@ pub extern "C" fn sort_solve(
         constraints: constraint_count,
         overloads: overload_count,
         sources: source_count,
-        default,
+        default: SortId(default),
     };
     pack_solved(solve(
         sorts,

@@ -38,7 +38,7 @@ pub sizes-counted : (g : Given) (cs : List ℕ) (n d : ℕ) → n ≡ components
       sources = g .sources;
       components = n;
       disjunctions = d;
-      default = record { 0 = g .default };
+      default = g .default;
     }
     ≡ sizesOf (problemCall g [] [] cs [] [])
 unfolding sizesOf
@@ -50,7 +50,7 @@ sizes-counted g cs n d a b =
       sources = g .sources;
       components = a i;
       disjunctions = b i;
-      default = record { 0 = g .default };
+      default = g .default;
     }
 
 -- a choice for each expression

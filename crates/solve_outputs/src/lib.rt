@@ -3,6 +3,7 @@
 use infer_nodes::counts_of;
 use inference::CHOICE_WORDS;
 use inference::Constraint;
+use inference::ExprId;
 use inference::NAME_WORDS;
 use inference::NameTarget;
 use inference::OVERLOAD_WORDS;
@@ -189,11 +190,11 @@ fn sort_word(name: NameTarget) -> u16
 }
 
 // The name of an expression, where it is one of those that have a row.
-fn put_name(typing: &mut [u16], exprs: u16, x: u16, name: NameTarget)
-    ensures { λ _. ⌜ now (typing .exit) ≡ named exprs (now (typing .entry)) x name ⌝ }
+fn put_name(typing: &mut [u16], exprs: u16, expr: ExprId, name: NameTarget)
+    ensures { λ _. ⌜ now (typing .exit) ≡ named exprs (now (typing .entry)) (expr .0) name ⌝ }
 {
-    if x < exprs {
-        let row = TYPING_WORDS * (x as usize);
+    if expr.0 < exprs {
+        let row = TYPING_WORDS * (expr.0 as usize);
         put(typing, row + 1, kind_word(name));
         put(typing, row + 2, sort_word(name));
     }
@@ -231,7 +232,12 @@ fn write_base_names(typing: &mut [u16], names: &[u16], name_count: usize, exprs:
         let row = NAME_WORDS * i;
         let kind = word(names, row + 1);
         let sort = word(names, row + 2);
-        put_name(typing, exprs, word(names, row), name_target(kind, sort));
+        put_name(
+            typing,
+            exprs,
+            ExprId(word(names, row)),
+            name_target(kind, sort),
+        );
     }
 }
 
@@ -282,7 +288,7 @@ fn name_choice(
             put_name(
                 typing,
                 sizes.exprs,
-                expr.0,
+                expr,
                 chosen_target(lists, sizes.overloads, disjuncts, i),
             );
             before
@@ -369,6 +375,7 @@ pub fn sizes_of(constraints: &[u16], given: Given) -> Sizes
     let count = given.constraints as u16;
     let parts = components(constraints, count);
     let choices = disjunction_count(constraints, count);
+    let default = given.default;
     Sizes {
         exprs: given.exprs as u16,
         constraints: count,
@@ -376,7 +383,7 @@ pub fn sizes_of(constraints: &[u16], given: Given) -> Sizes
         sources: given.sources as u16,
         components: parts as u16,
         disjunctions: choices as u16,
-        default: SortId(given.default),
+        default,
     }
 }
 

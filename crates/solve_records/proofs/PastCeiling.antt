@@ -82,7 +82,7 @@ module _ (g : Given) (ws ns bs xs ks cs ss sc ts ms hs : List ℕ) where
       ∷ record { code = 9; passes = b }
       ∷ record { code = 10; passes = noTwo (disjunctions (given (call []))) && noTwo (keys (call [])) }
       ∷ record { code = 11; passes = joinsFine (given (call [])) && leb (components (given (call []))) maxComponents }
-      ∷ record { code = 12; passes = listed (call []) (g .default) }
+      ∷ record { code = 12; passes = listed (call []) (g .default .0) }
       ∷ record { code = 14; passes = longEnough (call []) }
       ∷ []
 
@@ -117,7 +117,7 @@ module _ (g : Given) (ws ns bs xs ks cs ss sc ts ms hs : List ℕ) where
           sources = problemOf
               (call os) .sources;
           exprs = problemOf (call os) .exprs;
-          default = g .default;
+          default = g .default .0;
         })
         (rows-same (overloadAt os) (overloadAt os′) n overload-same)
 

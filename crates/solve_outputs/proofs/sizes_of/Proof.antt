@@ -6,7 +6,7 @@ use Rattle.solve_outputs.proofs.sizes_of.Tie as tie
 
 returns : tie.Need-returns
 returns c =
-    let at-disjunction-count = c .before .before .before in
+    let at-disjunction-count = c .before .before .before .before in
     let at-components = at-disjunction-count .before in
     let start = at-components .before .before .before in
     let a = start .args in
