@@ -144,7 +144,10 @@ module _ (buffer line : List ℕ) (from end before : ℕ) (left : List ℕ) (r :
       let a : r ≡ input (from + length (slice from end buffer)) end (length l) Nothing = t .answer ∙ ap
       (inputOf from end (length (slice from end buffer))) e in
       subst (λ f. SaysLine f (reached (going l) []) (take (r .length) left) (unread buffer r))
-      (sym (ap (λ (x : Input). x .found) a)) (ap (λ x. reached (going x) []) (sym (t .held ∙ ap heldOf e)))
+      (sym (ap (λ (x : Input). x .found) a)) (
+        ap (λ x. reached (going x) []) (sym (t .held ∙ ap heldOf e)),
+        ap (unread buffer) a ∙ drop-of-length-le (take end buffer) {i = from + length (slice from end buffer)} (omega (arith, length-drop from (take end buffer))),
+      )
 
   pub takes-says : SaysLine (r .found) (reached taken []) (take (r .length) left) (unread buffer r)
   takes-says = says-by taken refl
@@ -208,7 +211,7 @@ module _ (buffer₀ line₀ : List ℕ) (current₀ : Input) (buffer line : List
   so-far : (c : Came) → SaysLine (current₀ .found) (reached c []) (take (current₀ .length) line₀) (unread buffer₀ current₀)
       → goesOn (length line₀) (g .parts) c ≡ reached (going (take (current .length) line)) []
   unfolding SaysLine
-  so-far c s = subst (λ x. SaysLine x (goesOn (length line₀) (g .parts) c) (take (current .length) line) (unread buffer current)) f (g .says c s)
+  so-far c s = subst (λ x. SaysLine x (goesOn (length line₀) (g .parts) c) (take (current .length) line) (unread buffer current)) f (g .says c s) .0
 
   -- a read that fails
   read-fails : ReadOn buffer₀ line₀ current₀ buffer′ line (input 0 0 (current .length) Failed) (turns - 1)
@@ -216,7 +219,7 @@ module _ (buffer₀ line₀ : List ℕ) (current₀ : Input) (buffer line : List
   read-fails =
       record {
         parts = g .parts;
-        says = so-far;
+        says = λ c s. (so-far c s, refl);
         behind = g .behind;
         longer = g .longer;
         few = g .few;
@@ -236,7 +239,7 @@ module _ (buffer₀ line₀ : List ℕ) (current₀ : Input) (buffer line : List
   ends-by zero e =
       record {
         parts = g .parts;
-        says = λ c s. ap nextOf (so-far c s) ∙ ap (λ (n : ℕ). nextBy (going (take n line)) []) e;
+        says = λ c s. (ap nextOf (so-far c s) ∙ ap (λ (n : ℕ). nextBy (going (take n line)) []) e, refl, refl);
         behind = subst (λ (n : ℕ). drop n line ≡ drop n line₀) e (g .behind);
         longer = omega (arith, g .longer, e);
         few = omega arith;

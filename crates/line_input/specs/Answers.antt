@@ -19,9 +19,9 @@ unread buffer i = slice (i .at) (i .end) buffer
 -- has failed, or where the turns are used up.
 unfoldable pub SaysLine : LineFound → Reached → (l left : List ℕ) → Type 0
 SaysLine Line g l left = nextOf g ≡ someLine l left []
-SaysLine End g l left = nextOf g ≡ noLine
-SaysLine Failed g l left = g ≡ reached (going l) []
-SaysLine Nothing g l left = g ≡ reached (going l) []
+SaysLine End g l left = (nextOf g ≡ noLine) × (l ≡ []) × (left ≡ [])
+SaysLine Failed g l left = (g ≡ reached (going l) []) × (left ≡ [])
+SaysLine Nothing g l left = (g ≡ reached (going l) []) × (left ≡ [])
 
 -- how often a call reads at most
 abbrev pub mostReads : ℕ
