@@ -1,2 +1,3 @@
--- The laws of answers told.
+-- The laws of answers told, and how long they are.
 pub mod Telling
+pub mod Longest

@@ -1,3 +1,4 @@
 -- What the contracts of this crate cite.
 pub mod Answer
+pub mod Longest
 pub mod Inner

@@ -1,2 +1,3 @@
--- What a line comes to.
+-- What a line comes to, and that what is printed for it has room.
 pub mod Ways
+pub mod Longest

@@ -1,2 +1,3 @@
 -- What the list program prints.
 pub mod Lines
+pub mod Longest

@@ -2,3 +2,4 @@
 pub mod Pieces
 pub mod Ways
 pub mod RowsPut
+pub mod Longest

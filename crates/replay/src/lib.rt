@@ -16,8 +16,8 @@ pub const MAX_WORDS: usize = 16;
 
 const MOST_COUNT: u64 = 18446744073709551615;
 
-// The longest line that is read, in bytes.
-pub const LINE_BYTES: usize = 256;
+// So many bytes of a line are held: one more than a line may have, which shows that it is too long.
+pub const HELD_LINE: usize = 257;
 
 // Past this a number has one digit too many to take another.
 const MOST_VALUE: u64 = 999999999999999999;

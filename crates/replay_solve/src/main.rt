@@ -10,7 +10,7 @@ use line_input::next_line;
 use line_input::no_input;
 use recorded_solve::HELD_WORDS;
 use recorded_solve::replay_line;
-use replay::LINE_BYTES;
+use replay::HELD_LINE;
 use replay::Tally;
 use replay::Verdict;
 use replay::counted;
@@ -23,7 +23,7 @@ struct State {
     found: LineFound,
 }
 
-// A line of the input, of so many bytes. Of one that is longer than its memory it is known that it is not of the form.
+// A line of the input, of so many bytes. One that fills its memory is too long, and not of the form.
 fn take_line(
     given: &mut [u16; HELD_WORDS],
     left: &mut [u16; HELD_WORDS],
@@ -31,7 +31,7 @@ fn take_line(
     length: usize,
     before: Tally,
 ) -> Tally {
-    if line.len() < length {
+    if line.len() <= length {
         let tally = counted(before, Verdict::NotOfForm);
         say(tally.lines, line, Verdict::NotOfForm);
         return tally;
@@ -73,7 +73,7 @@ fn main() {
     let mut given = [0u16; HELD_WORDS];
     let mut left = [0u16; HELD_WORDS];
     let mut buffer = io::buffer();
-    let mut line = [0u8; LINE_BYTES];
+    let mut line = [0u8; HELD_LINE];
     let tally = Tally {
         lines: 0,
         questions: 0,

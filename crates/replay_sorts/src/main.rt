@@ -11,7 +11,7 @@ use recorded_sorts::Progress;
 use recorded_sorts::complete;
 use recorded_sorts::replay_line;
 use recorded_sorts::start;
-use replay::LINE_BYTES;
+use replay::HELD_LINE;
 use replay::Tally;
 use replay::Verdict;
 use replay::counted;
@@ -26,11 +26,11 @@ struct State {
     found: LineFound,
 }
 
-// A line of the input, of so many bytes. Of one that is longer than its memory it is known that it is not of the form.
+// A line of the input, of so many bytes. One that fills its memory is too long, and not of the form.
 fn take_line(list: &mut [u16; SORT_WORDS], line: &[u8], length: usize, state: State) -> State {
     let progress = state.progress;
     let before = state.tally;
-    if line.len() < length {
+    if line.len() <= length {
         let tally = counted(before, Verdict::NotOfForm);
         say(tally.lines, line, Verdict::NotOfForm);
         return State {
@@ -85,7 +85,7 @@ fn replay_all(
 fn main() {
     let mut list = [0u16; SORT_WORDS];
     let mut buffer = io::buffer();
-    let mut line = [0u8; LINE_BYTES];
+    let mut line = [0u8; HELD_LINE];
     let tally = Tally {
         lines: 0,
         questions: 0,
