@@ -307,7 +307,7 @@ fn part_in(words: &[u16], entries: usize, row: usize, i: u16) -> InferSortId
 }
 
 // The kind of the head at a place, and its number.
-fn kind_at(sorts: &[u16], nodes: &[u16], lengths: Lengths, id: InferSortId) -> u16
+pub fn kind_at(sorts: &[u16], nodes: &[u16], lengths: Lengths, id: InferSortId) -> u16
     requires { ⌜ NodesReady (now sorts) (now nodes) lengths × Placed lengths (id .0) ⌝ }
     ensures { λ r. ⌜
         r ≡ kindHead (headOf (graphOf (now (sorts .entry)) (now (nodes .entry)) lengths (id .0)))

@@ -1,13 +1,13 @@
 -- What the definition makes, as the code meets it. Assumes nothing.
 use mathlib.Core.Path.{_≡_, refl, ap, ap₂, sym, _∙_, subst}
-use mathlib.Core.List.{List, [], _∷_, _++_, append-nil, append-assoc}
+use mathlib.Core.List.{List, [], _∷_, _++_}
 use mathlib.Core.Option.{Option, none, some}
 use mathlib.Core.Bool.{Bool, true, false, cond}
-use Prim.Native.Nat.{ℕ, _+_, _-_, _<_, _≤_}
+use Prim.Native.Nat.{ℕ, zero, suc, _+_, _-_, _<_, _≤_}
 use native.Mathlib.Omega.{arith}
 use native.Mathlib.Numerals.{add-one}
-use lib.ListN.{length, getD, set, take, drop, drop-of-length-le}
-use lib.Seq.{sets, drop-cons, take-suc, take-suc-set, length-take-le, getD-take}
+use lib.ListN.{length, getD, set, take}
+use lib.Seq.{sets, take-suc, take-suc-set}
 use lib.Dec.{eqb}
 use borrow.Author.Tests.{lt-ltb, le-ltb, le-leb, lt-leb}
 use Rattle.resolved_sort.specs.declared.ComplexSort.{ComplexSort}
@@ -29,20 +29,21 @@ use Rattle.sort_interner.proofs.Runs.{length-given}
 use Rattle.unification.specs.declared.Lengths.{Lengths}
 use Rattle.unification.specs.declared.Pushed.{Pushed}
 use Rattle.unification.specs.declared.Pushed.the-variants.{At, Full as NoRoom}
-use Rattle.unification.specs.declared.Listed.the-variants.{These, NoList, Full}
+use Rattle.unification.specs.declared.InferSortId.{InferSortId}
 use Rattle.unification.specs.declared.Three.{Three}
 use Rattle.unification.specs.declared.Related.{Related}
+use Rattle.unification.specs.declared.Related.the-variants.{These, NoList, Full}
 use Rattle.unification.specs.Nodes.{maxNodes, maxNodeEntries, nodeEntriesAt}
 use Rattle.unification.specs.Related.{relatedContainer}
 use Rattle.unification.specs.Making.{Lent, Makes, made, no-list, no-room, _and-then_, only, withSorts, pushNode}
 use Rattle.unification.specs.Making.{appendNode, internContainer, relatedOver, pushFunctions}
 use Rattle.unification.specs.Inner.Making.{lent}
 use Rattle.unification.specs.Resolve.{withCounts}
-use Rattle.related_sorts.specs.Inner.Outcome.{row, pushed, relatedMadeBy, relatedMade, AreThese, RangesBy, Ranges, Relates}
+use Rattle.related_sorts.specs.Inner.Outcome.{row, pushed, threePlaces, noPlaces, relatedMade, placeBefore, placesAfter, AreThese, AtMost, Ranges, ListsAtMost, Relates}
 
 -- numbers
-pub are-these : (r t : Three) → r ≡ t → (ps : List ℕ) → take (t .count) (t .ids) ≡ ps → t .count ≤ 3 → AreThese r ps
-are-these r t e ps x l = record { says = ap (λ (y : Three). take (y .count) (y .ids)) e ∙ x; few = subst (λ (y : Three). y .count ≤ 3) (sym e) l }
+pub are-these : (r t : Three) → r ≡ t → (ps : List ℕ) → threePlaces t ≡ ps → t .count ≤ 3 → AreThese r ps
+are-these r t e ps x l = record { says = ap threePlaces e ∙ x; few = subst (λ (y : Three). y .count ≤ 3) (sym e) l }
 
 -- one more node
 module _ (ws ns : List ℕ) (k : Lengths) (kind part : ℕ) (ids : List ℕ) (count : ℕ) (len : length ids ≡ 16) (few : count ≤ 16) where
@@ -66,7 +67,7 @@ module _ (ws ns : List ℕ) (k : Lengths) (kind part : ℕ) (ids : List ℕ) (co
 
     pub node-made : k .arguments + count ≤ maxNodeEntries → (start : ℕ) → start ≡ cond (eqb kind functionKind) (k .arguments) 0 → (ns₁ ns₂ : List ℕ)
         → ns₁ ≡ putRow ns (k .nodes) kind part start count → ns₂ ≡ sets ns₁ (4096 + (4096 + k .arguments)) (take count ids)
-        → pushed ws ns₂ k (At (1024 + k .nodes) (record {
+        → pushed ws ns₂ k (At (record { 0 = 1024 + k .nodes }) (record {
           sorts = k .sorts;
           entries = k .entries;
           nodes = k .nodes +
@@ -101,99 +102,84 @@ pub parts-stored : (ps ids : List ℕ) (i n : ℕ) → i ≡ n → take i ids �
 parts-stored ps ids i n e x = subst (λ (j : ℕ). take j ids ≡ take j ps) e x
 
 -- an answer to one making is that to an equal one
+pub lists-as : (n : ℕ) (ws ns : List ℕ) (a : Related) {O P : Makes (List ℕ)} → ListsAtMost n ws ns a O → O ≡ P → ListsAtMost n ws ns a P
+lists-as n ws ns a r e = record { says = r .says ∙ e; few = r .few }
+
 pub relates-as : (ws ns : List ℕ) (a : Related) {O P : Makes (List ℕ)} → Relates ws ns a O → O ≡ P → Relates ws ns a P
-relates-as ws ns a r e = record { says = r .says ∙ e; few = r .few }
+relates-as ws ns a r e = lists-as 3 ws ns a r e
 
--- functions over ranges, from the i-th on
-module _ (ws : List ℕ) (xs : List ℕ) (ranges : List ℕ) (n : ℕ) (three : length ranges ≡ 3) (few : n ≤ 3) where
-  abbrev rest : ℕ → List ℕ
-  rest i = drop i (take n ranges)
+pub at-most-more : (m n : ℕ) (a : Related) → m ≤ n → AtMost m a → AtMost n a
+at-most-more m n (These t k) l h = omega (arith, l, h)
+at-most-more m n (NoList k) l h = tt
+at-most-more m n (Full c k) l h = tt
 
-  abbrev from : List ℕ → Lengths → ℕ → List ℕ → Makes (List ℕ)
-  from ns k i ids = pushFunctions xs (rest i) (lent ws ns k) and-then (λ ps W. made (take i ids ++ ps) W)
+-- functions over ranges: over the first, and then over the rest
+two-of-three : (c x y z : ℕ) → c ≤ 2 → take c (x ∷ y ∷ []) ≡ take c (x ∷ y ∷ z ∷ [])
+two-of-three zero x y z l = refl
+two-of-three (suc zero) x y z l = refl
+two-of-three (suc (suc zero)) x y z l = refl
+two-of-three (suc (suc (suc c))) x y z l = absurd (omega (arith, l))
 
-  long : length (take n ranges) ≡ n
-  long = length-take-le n ranges (omega (arith, three, few))
+one-and-two : (n c x y z w : ℕ) → n ≡ suc c → c ≤ 2 → take n (x ∷ y ∷ z ∷ []) ≡ x ∷ take c (y ∷ z ∷ w ∷ [])
+one-and-two n c x y z w e l = ap (λ (m : ℕ). take m (x ∷ y ∷ z ∷ [])) e ∙ ap (λ (ys : List ℕ). x ∷ ys) (two-of-three c y z w l)
 
-  pub all-pushed : (ns : List ℕ) (k : Lengths) (i : ℕ) (ids : List ℕ) → i ≡ n → Relates ws ns (record { ids = ids; listed = These n k }) (from ns k i ids)
+module _ (ws xs : List ℕ) (ranges : Three) (few : ranges .count ≤ 3) (ns : List ℕ) (k : Lengths) where
+  abbrev all : Makes (List ℕ)
+  all = pushFunctions xs (threePlaces ranges) (lent ws ns k)
+
+  pub none-over : ranges .count ≡ 0 → (a : Related) → a ≡ These noPlaces k → ListsAtMost (ranges .count) ws ns a all
   unfolding pushFunctions
-  all-pushed ns k i ids e =
+  none-over e a y =
       record {
         says =
-            sym (ap (λ (ys : List ℕ). pushFunctions xs ys (lent ws ns k) and-then (λ ps W. made (take i ids ++ ps) W))
-            (drop-of-length-le (take n ranges) {i = i} (omega (arith, long, e)))
-            ∙ (ap (λ ys. made ys (lent ws ns k)) (append-nil (take i ids)) ∙ ap (λ (j : ℕ). made (take j ids) (lent ws ns k)) e));
-        few = few;
+            ap (relatedMade ws ns) y
+            ∙ sym (ap (λ (n : ℕ). pushFunctions xs (take n (ranges .first .0 ∷ ranges .second .0 ∷ ranges .third .0 ∷ [])) (lent ws ns k)) e);
+        few = subst (AtMost (ranges .count)) (sym y) (omega arith);
       }
 
-  module _ (ns : List ℕ) (k : Lengths) (i : ℕ) (ids : List ℕ) (l : i < n) (ns₁ : List ℕ) (p : Pushed)
-      (e : pushed ws ns₁ k p ≡ pushNode (row functionKind (getD ranges i 0) xs) (lent ws ns k)) where
-    one-and-rest : rest i ≡ getD ranges i 0 ∷ rest (i + 1)
-    one-and-rest =
-        drop-cons (take n ranges) i 0 (omega (arith, l, long))
-        ∙ ap₂ (λ (x j : ℕ). x ∷ drop j (take n ranges)) (getD-take n ranges i 0 l) (sym (add-one i))
+  module _ (h : ranges .count ≡ 0 → ⊥) (ns₁ : List ℕ) (p : Pushed)
+      (e : pushed ws ns₁ k p ≡ pushNode (row functionKind (ranges .first .0) xs) (lent ws ns k)) where
+    abbrev over-rest : ℕ → Lent → Makes (List ℕ)
+    over-rest q W = pushFunctions xs (threePlaces (placesAfter ranges)) W and-then (λ ps W. made (q ∷ ps) W)
 
-    step : from ns k i ids ≡ (pushed ws ns₁ k p and-then (λ q W. pushFunctions xs (rest (i + 1)) W and-then
-        (λ ps W. made (q ∷ ps) W)) and-then (λ ps W. made (take i ids ++ ps) W))
+    split : threePlaces ranges ≡ ranges .first .0 ∷ threePlaces (placesAfter ranges)
+    split =
+        one-and-two (ranges .count) (ranges .count - 1) (ranges .first .0) (ranges .second .0) (ranges .third .0) (ranges .third .0)
+        (omega (arith, h)) (omega (arith, few))
+
+    first-pushed : all ≡ (pushed ws ns₁ k p and-then over-rest)
     unfolding pushFunctions
-    step =
-        ap (λ (ys : List ℕ). pushFunctions xs ys (lent ws ns k) and-then (λ ps W. made (take i ids ++ ps) W)) one-and-rest
-        ∙ ap (λ O. O and-then (λ q W. pushFunctions xs (rest (i + 1)) W and-then (λ ps W. made (q ∷ ps) W)) and-then
-        (λ ps W. made (take i ids ++ ps) W)) (sym e)
+    first-pushed = ap (λ (ys : List ℕ). pushFunctions xs ys (lent ws ns k)) split ∙ ap (λ O. O and-then over-rest) (sym e)
 
-    pub push-ends : p ≡ NoRoom → (zs : List ℕ) → Relates ws ns₁ (record { ids = zs; listed = Full 16 k }) (from ns k i ids)
-    push-ends z zs =
-        record {
-          says =
-              sym (step ∙ ap (λ y. pushed ws ns₁ k y and-then (λ q W. pushFunctions xs (rest (i + 1)) W and-then
-              (λ ps W. made (q ∷ ps) W)) and-then (λ ps W. made (take i ids ++ ps) W)) z);
-          few = tt;
-        }
+    pub push-ends : p ≡ NoRoom → ListsAtMost (ranges .count) ws ns₁ (Full 16 k) all
+    push-ends z = record { says = sym (first-pushed ∙ ap (λ y. pushed ws ns₁ k y and-then over-rest) z); few = tt }
 
-    pub push-goes-on : (q : ℕ) (k′ : Lengths) → p ≡ At q k′ → i < length ids → (ids′ : List ℕ) → ids′ ≡ set ids i q
-        → (ns₂ : List ℕ) (a : Related) → Relates ws ns₂ a (from ns₁ k′ (i + 1) ids′)
-        → Relates ws ns₂ a (from ns k i ids)
-    push-goes-on q k′ z h ids′ ei ns₂ a u =
-        relates-as ws ns₂ a u
-        (ap (λ (ys : List ℕ). pushFunctions xs (rest (i + 1)) (lent ws ns₁ k′) and-then (λ ps W. made (ys ++ ps) W)) firsts
-        ∙ (go (pushFunctions xs (rest (i + 1)) (lent ws ns₁ k′))
-        ∙ sym (step ∙ ap (λ y. pushed ws ns₁ k y and-then (λ q W. pushFunctions xs (rest (i + 1)) W and-then
-        (λ ps W. made (q ∷ ps) W)) and-then (λ ps W. made (take i ids ++ ps) W)) z)))
-      where
-        firsts : take (i + 1) ids′ ≡ take i ids ++ (q ∷ [])
-        firsts = ap₂ (λ (j : ℕ) (ys : List ℕ). take j ys) (add-one i) ei ∙ take-suc-set ids i q h
+    module _ (ns₂ : List ℕ) (a : Related) where
+      pub rest-few : (t : Three) → t ≡ placesAfter ranges → (O : Makes (List ℕ)) → ListsAtMost (t .count) ws ns₂ a O → AtMost 2 a
+      rest-few t et O u = at-most-more (t .count) 2 a (let z = ap (λ (x : Three). x .count) et in omega (arith, few, z)) (u .few)
 
-        go : (O : Makes (List ℕ)) → (O and-then (λ ps W. made ((take i ids ++ (q ∷ [])) ++ ps) W)) ≡
-            (O and-then (λ ps W. made (q ∷ ps) W) and-then (λ ps W. made (take i ids ++ ps) W))
-        go (made ps W) = ap (λ ys. made ys W) (append-assoc (take i ids) (q ∷ []) ps)
-        go (no-list W) = refl
-        go (no-room c W) = refl
+      placed-before : (q : InferSortId) (b : Related) → AtMost (ranges .count - 1) b
+          → (relatedMade ws ns₂ (placeBefore q b) ≡ (relatedMade ws ns₂ b and-then (λ ps W. made (q .0 ∷ ps) W))) × AtMost (ranges .count) (placeBefore q b)
+      placed-before q (These t k′) l = (
+        ap (λ (ys : List ℕ). made ys (lent ws ns₂ k′))
+            (one-and-two (t .count + 1) (t .count) (q .0) (t .first .0) (t .second .0) (t .third .0) (add-one (t .count)) (omega (arith, l, few))),
+        omega (arith, l, h),
+      )
+      placed-before q (NoList k′) l = (refl, tt)
+      placed-before q (Full c k′) l = (refl, tt)
 
--- over the related ranges
-module _ (ws ns : List ℕ) (a : Related) (xs : List ℕ) where
-  pub no-ranges : (k : Lengths) → a .listed ≡ NoList k → (zs : List ℕ)
-      → Relates ws ns (record { ids = zs; listed = NoList k }) (relatedMade ws ns a and-then pushFunctions xs)
-  no-ranges k e zs = record { says = sym (ap (λ y. relatedMadeBy ws ns (a .ids) y and-then pushFunctions xs) e); few = tt }
-
-  pub no-room-for-ranges : (c : ℕ) (k : Lengths) → a .listed ≡ Full c k → (zs : List ℕ)
-      → Relates ws ns (record { ids = zs; listed = Full c k }) (relatedMade ws ns a and-then pushFunctions xs)
-  no-room-for-ranges c k e zs = record { says = sym (ap (λ y. relatedMadeBy ws ns (a .ids) y and-then pushFunctions xs) e); few = tt }
-
-  module _ (n : ℕ) (k : Lengths) (e : a .listed ≡ These n k) where
-    pub few-ranges : Ranges a → n ≤ 3
-    few-ranges r = subst RangesBy e r
-
-    pub ranges-pushed : (ids ns₁ : List ℕ) (b : Related)
-        → Relates ws ns₁ b (pushFunctions xs (drop 0 (take n (a .ids))) (lent ws ns k) and-then
-        (λ ps W. made (take 0 ids ++ ps) W))
-        → Relates ws ns₁ b (relatedMade ws ns a and-then pushFunctions xs)
-    ranges-pushed ids ns₁ b u = relates-as ws ns₁ b u (go (pushFunctions xs (take n (a .ids)) (lent ws ns k)) ∙ sym
-        (ap (λ y. relatedMadeBy ws ns (a .ids) y and-then pushFunctions xs) e))
-      where
-        go : (O : Makes (List ℕ)) → (O and-then (λ ps W. made ps W)) ≡ O
-        go (made ps W) = refl
-        go (no-list W) = refl
-        go (no-room c W) = refl
+      pub push-goes-on : (q : InferSortId) (k′ : Lengths) → p ≡ At q k′
+          → (t : Three) → t ≡ placesAfter ranges → ListsAtMost (t .count) ws ns₂ a (pushFunctions xs (threePlaces t) (lent ws ns₁ k′))
+          → (b : Related) → b ≡ placeBefore q a → ListsAtMost (ranges .count) ws ns₂ b all
+      push-goes-on q k′ z t et v b y =
+          let u = subst (λ (x : Three). ListsAtMost (x .count) ws ns₂ a (pushFunctions xs (threePlaces x) (lent ws ns₁ k′))) et v in
+          let w = placed-before q a (u .few) in
+          record {
+            says =
+                ap (relatedMade ws ns₂) y ∙ (w .0 ∙ (ap (λ O. O and-then (λ ps W. made (q .0 ∷ ps) W)) (u .says)
+                ∙ sym (first-pushed ∙ ap (λ v. pushed ws ns₁ k v and-then over-rest) z)));
+            few = subst (AtMost (ranges .count)) (sym y) (w .1);
+          }
 
 -- interning that found no room has changed nothing, and it never answers that there is none
 module _ (ws : List ℕ) (n e : ℕ) (k : Checked ws n e) (t : Tree) (ws₁ : List ℕ) where
@@ -220,12 +206,13 @@ module _ (ws : List ℕ) (n e : ℕ) (k : Checked ws n e) (t : Tree) (ws₁ : Li
   never-none K x = none-by K (member (trees ws n) t) (fits t (sortsOf ws n e)) x
 
 -- no place, and one
-pub no-places : (ws ns : List ℕ) (k : Lengths) (a : Related) → a ≡ record { ids = 0 ∷ 0 ∷ 0 ∷ []; listed = These 0 k }
-    → Relates ws ns a (made [] (lent ws ns k))
+pub no-places : (ws ns : List ℕ) (k : Lengths) (a : Related) → a ≡ These noPlaces k → Relates ws ns a (made [] (lent ws ns k))
 no-places ws ns k a y = record { says = ap (relatedMade ws ns) y; few = subst Ranges (sym y) (omega arith) }
 
-one-place : (ws ns : List ℕ) (p : ℕ) (k : Lengths) (a : Related)
-    → a ≡ record { ids = p ∷ 0 ∷ 0 ∷ []; listed = These 1 k } → Relates ws ns a (made (p ∷ []) (lent ws ns k))
+abbrev one : InferSortId → Three
+one p = record { first = p; second = p; third = p; count = 1 }
+
+one-place : (ws ns : List ℕ) (p : InferSortId) (k : Lengths) (a : Related) → a ≡ These (one p) k → Relates ws ns a (made (p .0 ∷ []) (lent ws ns k))
 one-place ws ns p k a y = record { says = ap (relatedMade ws ns) y; few = subst Ranges (sym y) (omega arith) }
 
 -- containers
@@ -238,7 +225,7 @@ module _ (up : Bool) (o : ComplexSort) (b : OpBound) (e : b ≡ opBound (related
   op-none none z = refl
   op-none (some p) z = absurd (let w : _≡_ {A = ℕ} 0 1 = cc in omega arith)
 
-  pub no-container : b ≡ NoOp → (sort : Bool) (s : ℕ) (ws ns : List ℕ) (k : Lengths) (a : Related) → a ≡ record { ids = 0 ∷ 0 ∷ 0 ∷ []; listed = These 0 k }
+  pub no-container : b ≡ NoOp → (sort : Bool) (s : ℕ) (ws ns : List ℕ) (k : Lengths) (a : Related) → a ≡ These noPlaces k
       → Relates ws ns a (relatedOver (relatedContainer up o) sort s (lent ws ns k))
   no-container z sort s ws ns k a y = relates-as ws ns a (no-places ws ns k a y)
       (sym (ap (λ x. relatedOver x sort s (lent ws ns k)) (op-none (relatedContainer up o) (sym e ∙ z))))
@@ -258,19 +245,18 @@ module _ (up : Bool) (o : ComplexSort) (b : OpBound) (e : b ≡ opBound (related
       sort-of = ap (λ x. relatedOver x true s (lent ws ns k)) is-some ∙ ap (λ (r : Stored). withSorts (lent ws ns k) r (r .answer) and-then only) interned
 
       pub container-interned : (id : SortId) (K : Counts) → j ≡ JoinedAt id K → (k′ : Lengths) → k′ ≡ withCounts k K
-          → (a : Related) → a ≡ record { ids = id .0 ∷ 0 ∷ 0 ∷ []; listed = These 1 k′ }
+          → (a : Related) → a ≡ These (one (record { 0 = id .0 })) k′
           → Relates ws₁ ns a (relatedOver (relatedContainer up o) true s (lent ws ns k))
       container-interned id K x k′ ek a y =
-          relates-as ws₁ ns a (one-place ws₁ ns (id .0) k′ a y) (ap (λ (l : Lengths). made (id .0 ∷ [])
+          relates-as ws₁ ns a (one-place ws₁ ns (record { 0 = id .0 }) k′ a y) (ap (λ (l : Lengths). made (id .0 ∷ [])
           (lent ws₁ ns l)) ek ∙ sym (sort-of ∙ ap (λ w. withSorts (lent ws ns k) (storedAt ws₁ j) w and-then only)
           x))
 
       module _ (ck : Checked ws (k .sorts) (k .entries)) where
-        pub no-room-for-sort : j ≡ JoinedFull → (zs : List ℕ)
-            → Relates ws₁ ns (record { ids = zs; listed = Full 15 k }) (relatedOver (relatedContainer up o) true s
+        pub no-room-for-sort : j ≡ JoinedFull → Relates ws₁ ns (Full 15 k) (relatedOver (relatedContainer up o) true s
             (lent ws ns k))
-        no-room-for-sort x zs =
-            relates-as ws₁ ns (record { ids = zs; listed = Full 15 k }) (record { says = refl; few = tt })
+        no-room-for-sort x =
+            relates-as ws₁ ns (Full 15 k) (record { says = refl; few = tt })
             (ap (λ (ys : List ℕ). no-room 15 (lent ys ns k)) (full-unchanged ws (k .sorts) (k .entries) ck
             (container q (look (trees ws (k .sorts)) s)) ws₁ (ap (storedAt ws₁) (sym x) ∙ sym interned))
             ∙ sym (sort-of ∙ ap (λ w. withSorts (lent ws ns k) (storedAt ws₁ j) w and-then only) x))
@@ -287,11 +273,10 @@ module _ (up : Bool) (o : ComplexSort) (b : OpBound) (e : b ≡ opBound (related
           ap (λ x. relatedOver x false s (lent ws ns k)) is-some
           ∙ (ap₂ (λ (c : ℕ) (ys : List ℕ). pushNode (row c s ys) (lent ws ns k) and-then only) (sym ek) (sym none-there) ∙ ap (λ O. O and-then only) (sym ep))
 
-      pub container-pushed : (c : ℕ) (k′ : Lengths) → p ≡ At c k′ → (a : Related) → a ≡ record { ids = c ∷ 0 ∷ 0 ∷ []; listed = These 1 k′ }
+      pub container-pushed : (c : InferSortId) (k′ : Lengths) → p ≡ At c k′ → (a : Related) → a ≡ These (one c) k′
           → Relates ws ns₁ a (relatedOver (relatedContainer up o) false s (lent ws ns k))
       container-pushed c k′ x a y = relates-as ws ns₁ a (one-place ws ns₁ c k′ a y) (sym (node-of ∙ ap (λ w. pushed ws ns₁ k w and-then only) x))
 
-      pub no-room-for-container : p ≡ NoRoom → (zs : List ℕ)
-          → Relates ws ns₁ (record { ids = zs; listed = Full 16 k }) (relatedOver (relatedContainer up o) false s
+      pub no-room-for-container : p ≡ NoRoom → Relates ws ns₁ (Full 16 k) (relatedOver (relatedContainer up o) false s
           (lent ws ns k))
-      no-room-for-container x zs = record { says = sym (node-of ∙ ap (λ w. pushed ws ns₁ k w and-then only) x); few = tt }
+      no-room-for-container x = record { says = sym (node-of ∙ ap (λ w. pushed ws ns₁ k w and-then only) x); few = tt }

@@ -1,5 +1,4 @@
 -- The laws of the search in memory.
 pub mod Parts
 pub mod After
-pub mod RelatedPlaced
 pub mod Ways

@@ -38,7 +38,7 @@ use Rattle.search_state.specs.declared.LitAt.{LitAt}
 use Rattle.search_state.specs.declared.LitAt.the-variants.{Number, Free, Other}
 use Rattle.search_state.specs.Inner.Memory.{outOf}
 use Rattle.search_state.specs.Inner.Leaves.{unifyPairs, where-no-list, widenings, litNumber, litShape, litEnd, litAt, givenBackTo}
-use Rattle.search_state.proofs.RelatedPlaced.{related-placed}
+use Rattle.unification.proofs.RelatedPlaced.{related-placed}
 use Rattle.search_state.specs.Inner.Placed.{TriesPlaced}
 
 -- nodes given back in the answer

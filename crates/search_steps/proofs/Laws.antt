@@ -19,7 +19,7 @@ use Rattle.resolved_sort.specs.Bounds.{internAt}
 use Rattle.resolved_sort.proofs.Reached.{no-confusion}
 use Rattle.unification.specs.declared.InferSortId.{InferSortId}
 use Rattle.unification.specs.declared.Lengths.{Lengths}
-use Rattle.unification.specs.declared.Listed.{Listed}
+use Rattle.unification.specs.declared.Three.{Three}
 use Rattle.unification.specs.declared.Related.{Related}
 use Rattle.unification.specs.Nodes.{Binds, bindsOf}
 use Rattle.unification.specs.Checked.{Ready, Placed}
@@ -27,7 +27,8 @@ use Rattle.unification.specs.Making.{Lent, Makes, made, no-list, no-room, _and-
 use Rattle.unification.specs.Inner.Making.{lent}
 use Rattle.unification.specs.Resolve.{withCounts}
 use Rattle.unification.proofs.NoList.{no-list-makes-nothing}
-use Rattle.related_sorts.specs.Inner.Outcome.{relatedMadeBy, relatedMade, RangesBy, Ranges, Relates}
+use Rattle.related_sorts.specs.Inner.Outcome.{threePlaces, relatedMade, Ranges, Relates}
+use Rattle.related_sorts.specs.Inner.Ranges.{SixThere}
 use Rattle.related_sorts.proofs.Laws.{full-unchanged, never-none}
 use Rattle.inference.specs.Constraints.{rowsFrom}
 use Rattle.inference.specs.Search.{Try, widerTries, narrowerTries}
@@ -151,43 +152,31 @@ tries-against false o a b c (suc (suc zero)) l = refl
 tries-against false o a b c (suc (suc (suc zero))) l = refl
 tries-against up o a b c (suc (suc (suc (suc n)))) l = absurd (omega (arith, l))
 
-three-places : (ids : List ℕ) → length ids ≡ 3 → getD ids 0 0 ∷ getD ids 1 0 ∷ getD ids 2 0 ∷ [] ≡ ids
-three-places [] e = absurd (omega (arith, e))
-three-places (a ∷ []) e = absurd (omega (arith, e))
-three-places (a ∷ b ∷ []) e = absurd (omega (arith, e))
-three-places (a ∷ b ∷ c ∷ []) e = refl
-three-places (a ∷ b ∷ c ∷ d ∷ ids) e = absurd (omega (arith, e))
-
-pub tries-listed : (up : Bool) (o : InferSortId) (ids : List ℕ) → length ids ≡ 3 → (n : ℕ) → n ≤ 3
-    → ListedTries up (o .0) (take n ids) (triesOver (getD ids 0 0) (getD ids 1 0) (getD ids 2 0) n o up)
-tries-listed up o ids e n l =
-    record {
-      says = tries-against up o (getD ids 0 0) (getD ids 1 0) (getD ids 2 0) n l ∙ ap (λ (xs : List ℕ). triesAgainst
-          up (o .0) 1 (take n xs)) (three-places ids e);
-      few = omega (arith, l);
-      first = refl;
-    }
+pub tries-listed : (up : Bool) (o : InferSortId) (t : Three) → t .count ≤ 3
+    → ListedTries up (o .0) (threePlaces t) (triesOver (t .first .0) (t .second .0) (t .third .0) (t .count) o up)
+tries-listed up o t l =
+    record { says = tries-against up o (t .first .0) (t .second .0) (t .third .0) (t .count) l; few = omega (arith, l); first = refl }
 
 -- of what was listed
 module _ (up : Bool) (o : ℕ) (a : Related) where
   abbrev inTurn : List ℕ → Lent → Makes (List Try)
   inTurn ps W = made (triesAgainst up o 1 ps) W
 
-  as-listed : (x : Listed) → a .listed ≡ x → (ws ns : List ℕ) → (relatedMadeBy ws ns (a .ids) x and-then inTurn) ≡ (relatedMade ws ns a and-then inTurn)
-  as-listed x e ws ns = sym (ap (λ y. relatedMadeBy ws ns (a .ids) y and-then inTurn) e)
+  as-listed : (x : Related) → a ≡ x → (ws ns : List ℕ) → (relatedMade ws ns x and-then inTurn) ≡ (relatedMade ws ns a and-then inTurn)
+  as-listed x e ws ns = sym (ap (λ (y : Related). relatedMade ws ns y and-then inTurn) e)
 
-  pub few-listed : Ranges a → (n : ℕ) (k : Lengths) → a .listed ≡ Listed.These n k → n ≤ 3
-  few-listed r n k e = subst RangesBy e r
+  pub few-listed : Ranges a → (p : Three) (k : Lengths) → a ≡ Related.These p k → p .count ≤ 3
+  few-listed r p k e = subst Ranges e r
 
-  pub these-as-tries : (n : ℕ) (k : Lengths) → a .listed ≡ Listed.These n k → (t : Tries) → ListedTries up o (take n (a .ids)) t → AsTries up o a (These t k)
-  these-as-tries n k e t h =
-      record { says = λ ws ns. ap (λ ts. made ts (lent ws ns k)) (h .says) ∙ as-listed (Listed.These n k) e ws ns; few = (h .few, h .first) }
+  pub these-as-tries : (p : Three) (k : Lengths) → a ≡ Related.These p k → (t : Tries) → ListedTries up o (threePlaces p) t → AsTries up o a (These t k)
+  these-as-tries p k e t h =
+      record { says = λ ws ns. ap (λ ts. made ts (lent ws ns k)) (h .says) ∙ as-listed (Related.These p k) e ws ns; few = (h .few, h .first) }
 
-  pub no-list-as-tries : (k : Lengths) → a .listed ≡ Listed.NoList k → AsTries up o a (NoList k)
-  no-list-as-tries k e = record { says = as-listed (Listed.NoList k) e; few = tt }
+  pub no-list-as-tries : (k : Lengths) → a ≡ Related.NoList k → AsTries up o a (NoList k)
+  no-list-as-tries k e = record { says = as-listed (Related.NoList k) e; few = tt }
 
-  pub no-room-as-tries : (c : ℕ) (k : Lengths) → a .listed ≡ Listed.Full c k → AsTries up o a (NoRoom c k)
-  no-room-as-tries c k e = record { says = as-listed (Listed.Full c k) e; few = tt }
+  pub no-room-as-tries : (c : ℕ) (k : Lengths) → a ≡ Related.Full c k → AsTries up o a (NoRoom c k)
+  no-room-as-tries c k e = record { says = as-listed (Related.Full c k) e; few = tt }
 
 -- The tries of a widening: what the left side lists, as tries; where it has no list nothing was made, and the right side is asked.
 module _ (ws ns bs : List ℕ) (k : Lengths) (q : Ready ws ns bs k) (l r : ℕ) (ws₁ ns₁ : List ℕ) (a : Related)
@@ -228,11 +217,11 @@ module _ (ws ns bs : List ℕ) (k : Lengths) (q : Ready ws ns bs k) (l r : ℕ) 
     nothing-made =
         no-list-makes-nothing W bs q true l (lent ws₁ ns₁ k′) (not-listed (strictRelated true B l W) (ap (widened ws₁ ns₁) (sym e) ∙ left-tried))
 
-    pub right-asked : Placed k r → Ready ws₁ ns₁ bs k′ × Placed k′ r
-    right-asked i = (
+    pub right-asked : Placed k r → SixThere k → Ready ws₁ ns₁ bs k′ × Placed k′ r × SixThere k′
+    right-asked i six = (
       subst (λ (U : Lent). Ready (U .sorts) (U .nodes) bs (U .lengths)) (sym nothing-made) q,
-      subst
-          (λ (U : Lent). Placed (U .lengths) r) (sym nothing-made) i,
+      subst (λ (U : Lent). Placed (U .lengths) r) (sym nothing-made) i,
+      subst (λ (U : Lent). SixThere (U .lengths)) (sym nothing-made) six,
     )
 
     pub narrower-tried : (ws₂ ns₂ : List ℕ) (a₂ : Related)

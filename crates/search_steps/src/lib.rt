@@ -35,9 +35,9 @@ use sort_order::number_generality;
 use unification::InferSort;
 use unification::InferSortId;
 use unification::Lengths;
-use unification::Listed;
 use unification::Place;
 use unification::Related;
+use unification::Three;
 use unification::Tried;
 use unifier::unify;
 ghost use mathlib.Core.Path.{_≡_};
@@ -47,7 +47,8 @@ ghost use lib.ListN.{getD, take, length};
 ghost use Rattle.resolved_sort.specs.Rows.{Checked};
 ghost use Rattle.unification.specs.Nodes.{bindsOf};
 ghost use Rattle.unification.specs.Checked.{graphOf, Ready, Placed};
-ghost use Rattle.related_sorts.specs.Inner.Outcome.{Ranges};
+ghost use Rattle.related_sorts.specs.Inner.Outcome.{threePlaces, Ranges};
+ghost use Rattle.related_sorts.specs.Inner.Ranges.{SixThere};
 ghost use Rattle.inference.specs.Search.{litComponent};
 ghost use Rattle.inference.specs.Constraints.{maxConstraints, maxComponents};
 ghost use Rattle.search_state.specs.Inner.Memory.{trailWords, scratchUsed};
@@ -388,18 +389,16 @@ pub fn intern_container(
 }
 
 // The places of a list as tries against another place: 1, 2, 3.
-fn listed_tries(ids: [u16; 3], count: u16, other: InferSortId, up: bool) -> Tries
-    requires { ⌜ count ≤ 3 ⌝ }
-    ensures { λ r. ⌜ ListedTries up (other .0) (take count ids) r ⌝ }
+fn listed_tries(places: Three, other: InferSortId, up: bool) -> Tries
+    requires { ⌜ places .count ≤ 3 ⌝ }
+    ensures { λ r. ⌜ ListedTries up (other .0) (threePlaces places) r ⌝ }
 {
+    let first = places.first;
+    let second = places.second;
+    let third = places.third;
     Tries {
-        ids: Four(
-            InferSortId(ids[0]),
-            InferSortId(ids[1]),
-            InferSortId(ids[2]),
-            InferSortId(0),
-        ),
-        count,
+        ids: Four(first, second, third, InferSortId(0)),
+        count: places.count,
         other,
         up,
         first: 1,
@@ -411,14 +410,12 @@ fn as_tries(found: Related, other: InferSortId, up: bool) -> Widenings
     requires { ⌜ Ranges found ⌝ }
     ensures { λ r. ⌜ AsTries up (other .0) found r ⌝ }
 {
-    let ids = found.ids;
-    let listed = found.listed;
-    match listed {
-        Listed::These(count, lengths) => {
-            Widenings::These(listed_tries(ids, count, other, up), lengths)
+    match found {
+        Related::These(places, lengths) => {
+            Widenings::These(listed_tries(places, other, up), lengths)
         }
-        Listed::NoList(lengths) => Widenings::NoList(lengths),
-        Listed::Full(code, lengths) => Widenings::Full(code, lengths),
+        Related::NoList(lengths) => Widenings::NoList(lengths),
+        Related::Full(code, lengths) => Widenings::Full(code, lengths),
     }
 }
 
@@ -434,7 +431,10 @@ pub fn widenings_of(
     rhs: InferSortId,
 ) -> Widenings
     requires { ⌜
-        Ready (now sorts) (now nodes) (now binds) lengths × Placed lengths (lhs .0) × Placed lengths (rhs .0)
+        Ready (now sorts) (now nodes) (now binds) lengths
+        × Placed lengths (lhs .0)
+        × Placed lengths (rhs .0)
+        × SixThere lengths
         ⌝ }
     ensures { λ r. ⌜
         FindsWidenings (now (sorts .exit)) (now (nodes .exit)) r

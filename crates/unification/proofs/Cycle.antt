@@ -28,7 +28,7 @@ use Rattle.unification.proofs.Settles.{node-flag, node-is, var-is, leng
 -- The pigeonhole principle. A walk of k steps goes through k + 1 numbers below n. Where two steps in a row make one, a walk of n steps below n
 -- comes back to some number.
 module _ (Step : ℕ → ℕ → Type 0) (join : (x y z : ℕ) → Step x y → Step y z → Step x z) where
-  data Walk (n : ℕ) : ℕ → ℕ → Type 0 where
+  pub data Walk (n : ℕ) : ℕ → ℕ → Type 0 where
     stay : (x : ℕ) → x < n → Walk n x zero
     step : (x y k : ℕ) → x < n → Step x y → Walk n y k → Walk n x (suc k)
 
@@ -62,7 +62,7 @@ module _ (Step : ℕ → ℕ → Type 0) (join : (x y z : ℕ) → Step x y → 
       let ih = one-fewer n y k w in
       without-first n x y (suc k) l s w (λ b. ⊎-elim inl (λ r. inr (x, λ p t. t, step x (r .0) k b (r .1 x s) (r .2))) ih)
 
-  comes-back : (n x : ℕ) → Walk n x n → (u : ℕ) × Step u u
+  pub comes-back : (n x : ℕ) → Walk n x n → (u : ℕ) × Step u u
   comes-back zero x (stay _ l) = absurd (omega (arith, l))
   comes-back (suc n) x w = ⊎-elim (λ s. (n, s)) (λ r. comes-back n (r .0) (r .2)) (one-fewer n x n w)
 

@@ -39,6 +39,7 @@ pub mod RelatedEq
 pub mod NoList
 pub mod Room
 pub mod PlaceTerms
+pub mod RelatedPlaced
 pub mod RelatedPlaces
 pub mod Examples
 pub mod ResolvedExamples

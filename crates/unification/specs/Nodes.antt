@@ -27,6 +27,10 @@ maxNodeEntries = 4096
 abbrev pub maxVars : ℕ
 maxVars = 512
 
+-- places are the sorts and the nodes
+abbrev pub maxPlaces : ℕ
+maxPlaces = 3072
+
 -- where the entries begin, after the rows of 2,048 nodes, and the length of the storage at its full ceiling
 abbrev pub nodeEntriesAt : ℕ
 nodeEntriesAt = 8192

@@ -72,28 +72,24 @@ pub enum Default {
 
 // Whether a node was made: its place and the lengths then, or no room.
 pub enum Pushed {
-    At(u16, Lengths),
+    At(InferSortId, Lengths),
     Full,
 }
 
-// At most three places.
+// So many of three places: at most three count.
 pub struct Three {
-    pub ids: [u16; 3],
+    pub first: InferSortId,
+    pub second: InferSortId,
+    pub third: InferSortId,
     pub count: u16,
 }
 
-// How listing the strictly related sorts ended, with the lengths then: so many places, no list, or
-// no room with its code.
-pub enum Listed {
-    These(u16, Lengths),
+// How listing the strictly wider or narrower sorts of a place ended, with the lengths then: their places, nearest
+// first; no list; or no room, with its code.
+pub enum Related {
+    These(Three, Lengths),
     NoList(Lengths),
     Full(u16, Lengths),
-}
-
-// The strictly wider or narrower sorts of a place, nearest first.
-pub struct Related {
-    pub ids: [u16; 3],
-    pub listed: Listed,
 }
 
 // Ceilings of document 01: nodes, their argument entries, variables. Node numbers are below NODE_NUMBERS.
@@ -104,6 +100,9 @@ pub const NODE_NUMBERS: u16 = 2048;
 pub const MAX_NODE_ENTRIES: usize = 4096;
 
 pub const MAX_VARS: usize = 512;
+
+// Places are the sorts and the nodes.
+pub const MAX_PLACES: usize = 3072;
 
 // The first place that is a node: below it are the sorts.
 pub const FIRST_NODE: u16 = 1024;

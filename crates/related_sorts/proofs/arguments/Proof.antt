@@ -10,10 +10,10 @@ use Rattle.related_sorts.proofs.arguments.Statement.{statement}
 use Rattle.related_sorts.proofs.arguments.Tie as tie
 
 abbrev Inv-loop : tie.InvT-loop
-Inv-loop sorts nodes lengths id count ids₀ i₀ ids i = (i ≤ count) × (length ids ≡ 16) × (take i ids ≡ take i (partsOf (graphOf sorts nodes lengths (id .0))))
+Inv-loop sorts nodes lengths id count words₀ i₀ words i = (i ≤ count) × (length words ≡ 16) × (take i words ≡ take i (partsOf (graphOf sorts nodes lengths (id .0))))
 
 abbrev μ-loop : tie.MeasureT-loop
-μ-loop sorts nodes lengths id count ids₀ i₀ ids i = count - i
+μ-loop sorts nodes lengths id count words₀ i₀ words i = count - i
 
 pub arguments-spec : {M : Type 1} → statement M
 arguments-spec =
@@ -35,9 +35,9 @@ arguments-spec =
     let at-loop = at-loop-test .before in
     let start = at-loop .before .before .before in (
       omega (arith, at-loop-test .loop-test .taken),
-      length-set (at-loop .loop .ids) (at-loop .loop .i) _ ∙
+      length-set (at-loop .loop .words) (at-loop .loop .i) _ ∙
           at-loop .loop .inv .1,
-      law.one-more-part _ (at-loop .loop .ids) (at-loop .loop .i)
+      law.one-more-part _ (at-loop .loop .words) (at-loop .loop .i)
           (omega (arith, at-loop-test .loop-test .taken, start .pre .few, at-loop .loop .inv .1))
           (omega (arith, at-loop-test .loop-test .taken, start .pre .many)) (at-loop .loop .inv .2) _
           (c .part .ensures),

@@ -45,7 +45,7 @@ push-generic-spec =
     law.no-room-for-container (args .up) (args .op) (at-related-container .related-container .result)
     (at-related-container .related-container .ensures) _ (at-related-op .related-op .given .1) (args .subsort .0)
     (args .sorts .now) (args .nodes .now) (args .lengths) _ (at-push .push .result) _
-    (at-kind-of-op .kind-of-op .ensures) _ refl (at-push .push .ensures) (c .enum-told .given .1) (replicate 3 0))
+    (at-kind-of-op .kind-of-op .ensures) _ refl (at-push .push .ensures) (c .enum-told .given .1))
     (λ c.
     let at-related-container = c .before .before .before in
     let start = at-related-container .before .before .before in

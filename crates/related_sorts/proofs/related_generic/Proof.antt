@@ -3,9 +3,8 @@ use Prim.Native.Nat.{_<_}
 use Rattle.related_sorts.proofs.Laws as law
 use Rattle.resolved_sort.specs.Rows.{Checked}
 use Rattle.resolved_sort.specs.declared.Counts.{Counts}
-use Rattle.unification.specs.declared.Listed.the-variants.{NoList}
+use Rattle.unification.specs.declared.Related.the-variants.{NoList}
 use borrow.Author.Needs.{needs}
-use lib.ListN.{replicate}
 use mathlib.Core.Path.{_≡_, refl, sym, ap, ap₂, subst, _∙_}
 use native.Mathlib.Omega.{arith}
 use Rattle.related_sorts.proofs.related_generic.Statement.{statement}
@@ -58,7 +57,7 @@ related-generic-spec =
     (at-related-container .related-container .ensures) _ (at-related-op .related-op .given .1) (args .subsort .0)
     (args .sorts .now) (args .nodes .now) (args .lengths) _ (at-counts-of .counts-of .ensures) _
     (at-generic .generic .result) (at-generic .generic .ensures) (start .pre .0) _ (c .enum-told .given .1)
-    (record { ids = replicate 3 0; listed = NoList (args .lengths) }))
+    (NoList (args .lengths)))
     (λ c. search needs)
     (λ c.
     let at-generic = c .before .before .before .before in
@@ -70,8 +69,7 @@ related-generic-spec =
     law.no-room-for-sort (args .up) (args .op) (at-related-container .related-container .result)
     (at-related-container .related-container .ensures) _ (at-related-op .related-op .given .1) (args .subsort .0)
     (args .sorts .now) (args .nodes .now) (args .lengths) _ (at-counts-of .counts-of .ensures) _
-    (at-generic .generic .result) (at-generic .generic .ensures) (start .pre .0) (c .enum-told2 .given .1)
-    (replicate 3 0))
+    (at-generic .generic .result) (at-generic .generic .ensures) (start .pre .0) (c .enum-told2 .given .1))
     (λ c.
     let at-related-container = c .before .before .before in
     let start = at-related-container .before .before .before in

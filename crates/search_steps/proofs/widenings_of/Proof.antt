@@ -21,7 +21,7 @@ widenings-of-spec =
     (a .pre .0) (a .args .lhs .0) (a .args .rhs .0) (at-strict-super-sorts .strict-super-sorts .last .0)
     (at-strict-super-sorts .strict-super-sorts .last .1 .0) (at-strict-super-sorts .strict-super-sorts .result)
     (at-strict-super-sorts .strict-super-sorts .ensures) (at-as-tries .as-tries .result)
-    (at-as-tries .as-tries .ensures) _ (at-same .same .given .1) (a .pre .2))
+    (at-as-tries .as-tries .ensures) _ (at-same .same .given .1) (a .pre .2) (a .pre .3))
     (λ c κs. search needs)
     (λ c. search needs)
     (λ c. search needs)

@@ -63,6 +63,8 @@ part M t =
       (wi.still-there _ _ _ _ _
           _ _ _ _ _ _ (start .pre .1 .0) _ _ _ _ _ (at-attempt .attempt .ensures) _ (at-first .first .given .1) _
           (start .pre .1 .2)),
+      (wi.asked-again _ _ _ _ _ _ _ _ _ _ _ (start .pre .1 .0) _ _ _ _ _ (at-attempt .attempt .ensures) _
+          (at-first .first .given .1)) .suits .six,
     ))
     (λ c. c .match2 .keys1)
     (λ c κs. tt)
