@@ -3,7 +3,7 @@
 use mathlib.Core.Path.{_≡_, refl, ap, sym, _∙_, subst}
 use mathlib.Core.List.{List, [], _∷_, _++_}
 use mathlib.Core.Option.{none, some}
-use mathlib.Core.Bool.{Bool, true, false, cond}
+use mathlib.Core.Bool.{Bool, true, false}
 use Prim.Native.Nat.{ℕ, zero, suc, _+_, _-_, _<_, _≤_}
 use native.Mathlib.Omega.{arith}
 use lib.ListN.{getD}
@@ -22,7 +22,7 @@ use Rattle.unification.specs.declared.InferSort.the-variants.{Generic, Function
 use Rattle.unification.specs.Term.{containerHead, functionHead, Shape, variable, over}
 use Rattle.unification.specs.Nodes.{nodeKindAt, nodePartAt, nodeStartAt, nodeCountAt, nodeEntryAt, nodeEntriesOf}
 use Rattle.unification.specs.Nodes.{opOfKind, inferred, nodeAt, sortShape, nodeShape, isPlace, Binds, binding}
-use Rattle.unification.specs.Nodes.{freeWord, bindingOf, bindsOf}
+use Rattle.unification.specs.Nodes.{bindingOf, bindsOf}
 use Rattle.unification.specs.NodeChecks.{nodePartsFine}
 use Rattle.unification.specs.Unify.{Occurs, absent, present, unknown, or-else, ofTest, followAt, follow, occursAny, occursAt, occurs, deep}
 use Rattle.unification.specs.Acyclic.{One, first, later}
@@ -62,11 +62,10 @@ or-absent absent = refl
 or-absent present = refl
 or-absent unknown = refl
 
--- bindings were followed from p to `end`, which is bound to `next` or is an end
-pub record Following (shape : ℕ → Shape) (B : Binds) (k : Lengths) (p end next : ℕ) : Type 0 where
+-- bindings were followed from p to `end`
+pub record Following (shape : ℕ → Shape) (B : Binds) (k : Lengths) (p end : ℕ) : Type 0 where
   pub same : follow shape deep B p ≡ follow shape deep B end
   pub placed : Placed k end
-  pub bound : bindingOf next ≡ boundTo (shape end) B
 
 -- of the c arguments from s on, those before `at` do not hold the variable u; `left` of them are left
 pub record Searching (shape : ℕ → Shape) (B : Binds) (ns : List ℕ) (k : Lengths) (u s c at left : ℕ) : Type 0 where
@@ -137,22 +136,19 @@ module _ (ws ns bs : List ℕ) (k : Lengths) (q : Ready ws ns bs k) where
           bs (k .variables) (u .0) (variable-in-list ws ns k (q .nodes) p e l r i u x))
 
   -- following
-  pub begun : (p next : ℕ) → Placed k p → bindingOf next ≡ boundTo (shape p) B → Following shape B k p p next
-  begun p next e b = record { same = refl; placed = e; bound = b }
+  pub begun : (p : ℕ) → Placed k p → Following shape B k p p
+  begun p e = record { same = refl; placed = e }
 
-  module _ (p end next : ℕ) (f : Following shape B k p end next) where
-    some-next : (next ≡ freeWord → ⊥) → some next ≡ boundTo (shape end) B
-    some-next d = sym (ap (λ b. cond b none (some next)) (ne-eqb next freeWord d)) ∙ f .bound
+  module _ (p end : ℕ) (f : Following shape B k p end) where
+    step-by : (next : ℕ) (s : Shape) → shape end ≡ s → some next ≡ boundTo s B → (v : ℕ) × ((shape end ≡ variable v) × (binding B v ≡ some next))
+    step-by next (variable v) x e = (v, (x, sym e))
+    step-by next (over h ps) x e = no-confusion (cc)
 
-    step-by : (s : Shape) → shape end ≡ s → some next ≡ boundTo s B → (v : ℕ) × ((shape end ≡ variable v) × (binding B v ≡ some next))
-    step-by (variable v) x e = (v, (x, sym e))
-    step-by (over h ps) x e = no-confusion (cc)
-
-    module _ (d : next ≡ freeWord → ⊥) where
+    module _ (next : ℕ) (b : some next ≡ boundTo (shape end) B) where
       step : (v : ℕ) × ((shape end ≡ variable v) × (binding B v ≡ some next))
-      step = step-by (shape end) refl (some-next d)
+      step = step-by next (shape end) refl b
 
-      pub next-placed : Placed k next
+      next-placed : Placed k next
       next-placed = bound-is-place (k .sorts) (k .nodes) B (step .0) next (q .binds .places) (step .1 .1)
 
       pub next-lower : ρ next < ρ end
@@ -161,17 +157,15 @@ module _ (ws ns bs : List ℕ) (k : Lengths) (q : Ready ws ns bs k) where
       goes-on : follow shape deep B end ≡ follow shape deep B next
       goes-on = follow-eq shape deep B ranked end ∙ rw (step .1 .0) (rw (step .1 .1))
 
-      pub one-further : (then : ℕ) → bindingOf then ≡ boundTo (shape next) B → Following shape B k p next then
-      one-further then b = record { same = f .same ∙ goes-on; placed = next-placed; bound = b }
+      pub one-further : Following shape B k p next
+      one-further = record { same = f .same ∙ goes-on; placed = next-placed }
 
     ends-by : (s : Shape) → shape end ≡ s → none ≡ boundTo s B → followAt shape s B end (follow shape deep B) ≡ some end
     ends-by (variable v) x e = rw (sym e)
     ends-by (over h ps) x e = refl
 
-    pub ends-here : next ≡ freeWord → follow shape deep B p ≡ some end
-    ends-here e =
-        let z : none ≡ boundTo (shape end) B = sym (ap (λ b. cond b none (some next)) (eq-eqb next freeWord e)) ∙ f .bound in
-        f .same ∙ (follow-eq shape deep B ranked end ∙ ends-by (shape end) refl z)
+    pub ends-here : none ≡ boundTo (shape end) B → follow shape deep B p ≡ some end
+    ends-here z = f .same ∙ (follow-eq shape deep B ranked end ∙ ends-by (shape end) refl z)
 
   -- the end of a place
   pub end-is-placed : (p end : ℕ) → Placed k p → follow shape deep B p ≡ some end → Placed k end

@@ -8,6 +8,7 @@ use resolved_sort::FUNCTION_KIND;
 use resolved_sort::ROW_WORDS;
 use resolved_sort::Run;
 use resolved_sort::SortId;
+use unification::Bound;
 use unification::FIRST_NODE;
 use unification::FREE_WORD;
 use unification::InferSort;
@@ -31,7 +32,7 @@ ghost use Rattle.unification.specs.Unify.{ofTest, follow, occursAny, occurs as 
 ghost use Rattle.unification.specs.Checked.{graphOf, Ready, Placed};
 ghost use Rattle.unification.specs.Resolve.{withCounts};
 ghost use Rattle.infer_nodes.specs.Inner.Apart.{TakenApart};
-ghost use Rattle.infer_nodes.specs.Inner.Bound.{boundTo, RunPlaced};
+ghost use Rattle.infer_nodes.specs.Inner.Bound.{boundOf, boundTo, RunPlaced};
 ghost use Rattle.infer_nodes.specs.Inner.Parts.{NodesReady, varAt, numberIn, countIn, partIn, SmallCount};
 
 // The sorts in use, and the lengths with other sorts in use.
@@ -116,24 +117,35 @@ pub fn argument(nodes: &[u16], i: u16) -> InferSortId
     InferSortId(word(nodes, NODE_ENTRIES_AT + (i as usize)))
 }
 
-// What the variable at a place is bound to; 65,535 where it is free, and where there is no variable.
-fn bound_to(sorts: &[u16], nodes: &[u16], binds: &[u16], lengths: Lengths, id: InferSortId) -> u16
+// What a variable is bound to.
+fn binding_at(binds: &[u16], var: SortVar) -> Bound
+    ensures { λ r. ⌜ boundOf r ≡ bindingOf (getD (now (binds .entry)) (var .0) 0) ⌝ }
+{
+    let place = word(binds, var.0 as usize);
+    if place == FREE_WORD {
+        return Bound::Free;
+    }
+    Bound::To(InferSortId(place))
+}
+
+// What the variable at a place is bound to. A place without a variable is as one that is free.
+fn bound_to(sorts: &[u16], nodes: &[u16], binds: &[u16], lengths: Lengths, id: InferSortId) -> Bound
     requires { ⌜ Ready (now sorts) (now nodes) (now binds) lengths × Placed lengths (id .0) ⌝ }
     ensures { λ r. ⌜
-        bindingOf r
+        boundOf r
         ≡ boundTo (graphOf (now (sorts .entry)) (now (nodes .entry)) lengths (id .0))
         (bindsOf (now (binds .entry)) (lengths .variables))
         ⌝ }
 {
     match taken_apart(id) {
-        Place::Sort(_) => FREE_WORD,
+        Place::Sort(_) => Bound::Free,
         Place::Node(at) => match node(nodes, at) {
-            InferSort::Generic { op: _, subsort: _ } => FREE_WORD,
+            InferSort::Generic { op: _, subsort: _ } => Bound::Free,
             InferSort::Function {
                 domain: _,
                 range: _,
-            } => FREE_WORD,
-            InferSort::Var(var) => word(binds, var.0 as usize),
+            } => Bound::Free,
+            InferSort::Var(var) => binding_at(binds, var),
         },
     }
 }
@@ -154,13 +166,17 @@ pub fn shallow_normalize(
         ≡ some (r .0)
         ⌝ }
 {
-    let mut end = id.0;
-    let mut next = bound_to(sorts, nodes, binds, lengths, InferSortId(end));
-    while next != FREE_WORD {
-        end = next;
-        next = bound_to(sorts, nodes, binds, lengths, InferSortId(end));
+    let mut end = id;
+    loop {
+        match bound_to(sorts, nodes, binds, lengths, end) {
+            Bound::To(next) => {
+                end = next;
+            }
+            Bound::Free => {
+                return end;
+            }
+        }
     }
-    InferSortId(end)
 }
 
 // Whether `var` occurs in the sort denoted by `id`. An interned sort holds no variable.

@@ -58,6 +58,12 @@ pub enum Tried {
     No(u16),
 }
 
+// What a variable is bound to.
+pub enum Bound {
+    To(InferSortId),
+    Free,
+}
+
 // The variable that stands at a place, where one does.
 pub enum VarAt {
     Is(SortVar),

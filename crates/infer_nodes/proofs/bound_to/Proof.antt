@@ -1,7 +1,7 @@
 -- A sort and a node that is no variable are bound to nothing. Assumes nothing.
 use Rattle.infer_nodes.proofs.Ways as law
 use Rattle.infer_nodes.proofs.Apart as apart
-use Rattle.unification.specs.Nodes.{nodeAt, bindingOf}
+use Rattle.unification.specs.Nodes.{nodeAt}
 use borrow.Author.Needs.{needs}
 use mathlib.Core.Path.{ap, _∙_}
 use native.Mathlib.Omega.{arith}
@@ -16,7 +16,6 @@ bound-to-spec =
     (λ c. search needs)
     (λ c. search needs)
     (λ c κs. search needs)
-    (λ c. search needs)
     (λ c. search needs)
     (λ c. search needs)
     (λ c. search needs)
@@ -46,13 +45,13 @@ bound-to-spec =
     law.function-not-bound (args .sorts .now) (args .nodes .now) (args .binds .now) (args .lengths) (start .pre .0)
     (args .id .0) (start .pre .1) (n .0) _ (at-node .node .ensures ∙ ap (nodeAt (args .nodes .now)) (n .1)) _ _ (c .enum-told3 .given .1))
     (λ c.
-    let at-var = c .before .before .before in
+    let at-var = c .before .before in
     let at-node = at-var .before .before in
     let at-at = at-node .before .before in
     let at-taken = at-at .before .before in
     let start = at-taken .before .before .before .before in
     let args = start .args in
     let n = apart.is-node (args .id .0) _ (at-taken .taken-apart .ensures) _ (at-at .at .given .1) in
-    ap bindingOf (c .word .ensures) ∙ law.variable-bound (args .sorts .now) (args .nodes .now) (args .binds .now)
+    c .binding-at .ensures ∙ law.variable-bound (args .sorts .now) (args .nodes .now) (args .binds .now)
     (args .lengths) (start .pre .0) (args .id .0) (start .pre .1) (n .0) _
     (at-node .node .ensures ∙ ap (nodeAt (args .nodes .now)) (n .1)) _ (at-var .var .given .1)))
