@@ -8,11 +8,14 @@ use native.Mathlib.Omega.{arith}
 use lib.ListN.{length, take, length-append, length-take}
 use lib.Seq.{take-all, take-append-le}
 use lib.Dec.{eqb, ltb}
-use borrow.Author.Tests.{ltb-true, ltb-false, le-ltb}
-use Rattle.pair_line.specs.PairProgram.{onto, lines, lineOf, single, pair, withFirst, pairs, output}
+use borrow.Author.Tests.{ltb-true, ltb-false}
+use Rattle.held_line.specs.Lines.{lines, whole}
+use Rattle.held_line.proofs.Held.{holding-held}
+use Rattle.held_line.proofs.Glued.{glue, glue-none, no-lines, after-lf, after-byte}
+use Rattle.pair_line.specs.PairProgram.{lineOf, single, pair, withFirst, pairs, output}
 use Rattle.pair_line.specs.Answers.{withLf}
 use Rattle.pair_line.proofs.Lines.{line-long}
-use Rattle.pair_input.specs.ByteByByte.{Lines, first, second, mostHeld, holding, Turned, turned, takeByte, onward, takeBytes, atEnd, whole, inTurn}
+use Rattle.pair_input.specs.ByteByByte.{Lines, first, second, mostHeld, Turned, turned, takeByte, onward, takeBytes, atEnd, inTurn}
 
 abbrev held : List ℕ → List ℕ
 held l = take mostHeld l
@@ -31,43 +34,6 @@ pair-held : (l m : List ℕ) → pair (held l) (held m) ≡ pair l m
 unfolding pair
 pair-held l m = ap₂ withFirst (line-held l) (line-held m)
 
-holding-held-by : (l : List ℕ) (b : ℕ) (t : Bool) → ltb (length l) mostHeld ≡ t → holding (held l) b ≡ held (l ++ (b ∷ []))
-unfolding holding
-holding-held-by l b true e =
-    let h = ltb-true (length l) mostHeld e in
-    let a = take-all mostHeld l (omega (arith, h)) in
-    ap (λ x. cond (ltb (length x) mostHeld) (x ++ (b ∷ [])) x) a
-    ∙ (ap (λ x. cond x (l ++ (b ∷ [])) l) e ∙ sym (take-all mostHeld (l ++ (b ∷ [])) (omega (arith, h, length-append l (b ∷ [])))))
-holding-held-by l b false e =
-    let h = ltb-false (length l) mostHeld e in
-    ap (λ x. cond x (held l ++ (b ∷ [])) (held l)) (le-ltb (length (held l)) mostHeld (omega (arith, h, length-take mostHeld l)))
-    ∙ sym (take-append-le mostHeld l (b ∷ []) h)
-
-holding-held : (l : List ℕ) (b : ℕ) → holding (held l) b ≡ held (l ++ (b ∷ []))
-holding-held l b = holding-held-by l b (ltb (length l) mostHeld) refl
-
--- the lines of an input that goes on with the line l
-abbrev glue : List ℕ → List (List ℕ) → List (List ℕ)
-glue [] [] = []
-glue (b ∷ l) [] = (b ∷ l) ∷ []
-glue l (m ∷ ms) = (l ++ m) ∷ ms
-
-glue-none : (ls : List (List ℕ)) → glue [] ls ≡ ls
-glue-none [] = refl
-glue-none (m ∷ ms) = refl
-
-glue-line : (l m : List ℕ) (ms : List (List ℕ)) → glue l (m ∷ ms) ≡ (l ++ m) ∷ ms
-glue-line [] m ms = refl
-glue-line (b ∷ l) m ms = refl
-
-glue-last : (l : List ℕ) (b : ℕ) → glue (l ++ (b ∷ [])) [] ≡ (l ++ (b ∷ [])) ∷ []
-glue-last [] b = refl
-glue-last (c ∷ l) b = refl
-
-glue-onto : (l : List ℕ) (b : ℕ) (ls : List (List ℕ)) → glue (l ++ (b ∷ [])) ls ≡ glue l (onto b ls)
-glue-onto l b [] = glue-last l b ∙ sym (glue-line l (b ∷ []) [])
-glue-onto l b (m ∷ ms) = glue-line (l ++ (b ∷ [])) m ms ∙ (ap (λ x. x ∷ ms) (append-assoc l (b ∷ []) m) ∙ sym (glue-line l (b ∷ m) ms))
-
 -- what is printed from the lines held on
 abbrev printed : Turned → List ℕ
 printed t = t .output ++ atEnd (t .lines)
@@ -85,28 +51,9 @@ unfolding atEnd pairs
 end-second l [] = ap (λ x. withLf (single x)) (line-held l)
 end-second l (b ∷ m) = ap withLf (pair-held l (b ∷ m))
 
-lines-lf : (b : ℕ) (bs : List ℕ) → eqb b 10 ≡ true → lines (b ∷ bs) ≡ [] ∷ lines bs
-unfolding lines
-lines-lf b bs e = rw e
-
-lines-byte : (b : ℕ) (bs : List ℕ) → eqb b 10 ≡ false → lines (b ∷ bs) ≡ onto b (lines bs)
-unfolding lines
-lines-byte b bs e = rw e
-
--- an LF ends a line
-after-lf : (l : List ℕ) (b : ℕ) (bs : List ℕ) → eqb b 10 ≡ true → glue l (lines (b ∷ bs)) ≡ l ∷ lines bs
-after-lf l b bs e = ap (glue l) (lines-lf b bs e) ∙ (glue-line l [] (lines bs) ∙ ap (λ x. x ∷ lines bs) (append-nil l))
-
-after-byte : (l : List ℕ) (b : ℕ) (bs : List ℕ) → eqb b 10 ≡ false → glue (l ++ (b ∷ [])) (lines bs) ≡ glue l (lines (b ∷ bs))
-after-byte l b bs e = glue-onto l b (lines bs) ∙ ap (glue l) (sym (lines-byte b bs e))
-
 pair-first : (l m : List ℕ) (ls : List (List ℕ)) → withLf (pair l m) ++ pairs ls ≡ pairs (l ∷ m ∷ ls)
 unfolding pairs
 pair-first l m ls = append-assoc (pair l m) (10 ∷ []) (pairs ls)
-
-no-lines : lines [] ≡ []
-unfolding lines
-no-lines = refl
 
 -- one byte
 first-lf : (l : List ℕ) (b : ℕ) → eqb b 10 ≡ true → takeByte (first (held l)) b ≡ turned (second (held l) (held [])) []
@@ -115,7 +62,7 @@ first-lf l b e = rw e
 
 first-byte : (l : List ℕ) (b : ℕ) → eqb b 10 ≡ false → takeByte (first (held l)) b ≡ turned (first (held (l ++ (b ∷ [])))) []
 unfolding takeByte
-first-byte l b e = rw e (ap (λ x. turned (first x) []) (holding-held l b))
+first-byte l b e = rw e (ap (λ x. turned (first x) []) (holding-held mostHeld l b))
 
 second-lf : (l m : List ℕ) (b : ℕ) → eqb b 10 ≡ true → takeByte (second (held l) (held m)) b ≡ turned (first (held [])) (withLf (pair l m))
 unfolding takeByte
@@ -123,7 +70,7 @@ second-lf l m b e = rw e (ap (λ x. turned (first []) (withLf x)) (pair-held l m
 
 second-byte : (l m : List ℕ) (b : ℕ) → eqb b 10 ≡ false → takeByte (second (held l) (held m)) b ≡ turned (second (held l) (held (m ++ (b ∷ [])))) []
 unfolding takeByte
-second-byte l m b e = rw e (ap (λ x. turned (second (held l) x) []) (holding-held m b))
+second-byte l m b e = rw e (ap (λ x. turned (second (held l) x) []) (holding-held mostHeld m b))
 
 -- one byte, the rest being known
 module _ (bs : List ℕ) (on-first : (l : List ℕ) → printed (takeBytes (first (held l)) bs) ≡ pairs (glue l (lines bs)))

@@ -5,10 +5,12 @@ use mathlib.Core.List.{List, [], _∷_, _++_, append-nil}
 use Prim.Native.Nat.{ℕ, zero, suc, _+_, _-_, _<_, _≤_}
 use native.Mathlib.Omega.{arith}
 use native.Mathlib.Numerals.{add-one}
-use lib.ListN.{length, take, drop, getD, set, length-drop}
-use lib.Seq.{take-all, take-take, take-add, take-suc, take-set-le, drop-set-add, take-suc-set, length-take-le}
+use lib.ListN.{length, take, drop, getD, length-drop}
+use lib.Seq.{take-all, take-take, take-add, take-suc, length-take-le}
 use lib.Dec.{eqb, ltb}
-use borrow.Author.Tests.{ltb-true, ltb-false, lt-ltb, le-ltb, eq-eqb, ne-eqb}
+use borrow.Author.Tests.{ltb-true, ltb-false, eq-eqb, ne-eqb}
+use Rattle.held_line.specs.Holding.{holding, lineAt, lineKept, heldAt}
+use Rattle.held_line.proofs.Held.{Holding, byte-held}
 use Rattle.pair_line.specs.PairProgram.{lineOf, single, pair}
 use Rattle.text_out.specs.Put.{Put}
 use Rattle.text_out.proofs.Put.{put-none, put-then, put-as, put-length}
@@ -17,39 +19,9 @@ use Rattle.pair_line.specs.Answers.{withLf}
 use Rattle.pair_line.proofs.Ways.{pair-has-room, single-has-room}
 use Rattle.pair_input.specs.declared.Held.{Held}
 use Rattle.pair_input.specs.declared.Held.the-variants.{First, Second}
-use Rattle.pair_input.specs.ByteByByte.{Lines, first, second, mostHeld, holding, Turned, turned, takeByte, takeBytes, atEnd}
-use Rattle.pair_input.specs.Held.{lineAt, linesOf, Fits, Holds, Turns, Feeds}
-use Rattle.pair_input.specs.Inner.Held.{Holding}
+use Rattle.pair_input.specs.ByteByByte.{Lines, first, second, mostHeld, Turned, turned, takeByte, takeBytes, atEnd}
+use Rattle.pair_input.specs.Held.{linesOf, Fits, Holds, InMemory, inMemory, firstInMemory, secondInMemory, byteInMemory, bytesInMemory, Turns, Feeds}
 use Rattle.pair_input.proofs.Exactly.{in-parts}
-
--- one byte more of a line
-module _ (memory : List ℕ) (start count byte : ℕ) (s : start ≤ mostHeld) (c : count ≤ mostHeld) (l : mostHeld + mostHeld ≤ length memory) where
-  line-length : length (lineAt memory start count) ≡ count
-  line-length = length-take-le count (drop start memory) (omega (arith, length-drop start memory, s, c, l))
-
-  pub byte-held : count < mostHeld → Holding memory start count byte (set memory (start + count) byte) (count + 1)
-  unfolding holding
-  byte-held h =
-      record {
-        line =
-            ap (λ us. take (count + 1) us) (drop-set-add start memory count byte)
-            ∙ (ap (λ (k : ℕ). take k (set (drop start memory) count byte)) (add-one count)
-            ∙ (take-suc-set (drop start memory) count byte (omega (arith, length-drop start memory, s, h, l))
-            ∙ sym (ap (λ b. cond b (lineAt memory start count ++ (byte ∷ [])) (lineAt memory start count))
-            (ap (λ (k : ℕ). ltb k mostHeld) line-length ∙ lt-ltb count mostHeld h))));
-        before = take-set-le start memory (start + count) byte (omega arith);
-        few = omega (arith, h);
-      }
-
-  pub line-is-full : mostHeld ≤ count → Holding memory start count byte memory count
-  unfolding holding
-  line-is-full h =
-      record {
-        line = sym (ap (λ b. cond b (lineAt memory start count ++ (byte ∷ [])) (lineAt memory start count))
-            (ap (λ (k : ℕ). ltb k mostHeld) line-length ∙ le-ltb count mostHeld h));
-        before = refl;
-        few = c;
-      }
 
 -- a byte of the input, by what is held
 module _ (memory : List ℕ) (held : Held) (byte : ℕ) (out : List ℕ) (at : ℕ) (q : Holds memory held) where
@@ -62,26 +34,30 @@ module _ (memory : List ℕ) (held : Held) (byte : ℕ) (out : List ℕ) (at : �
     unfolding linesOf
     lines-first = ap (linesOf memory) i
 
-    pub first-ends : byte ≡ 10 → Turns (takeByte (linesOf memory held) byte) out at memory (Second n 0) out at
-    unfolding takeByte linesOf Fits
+    pub first-ends : byte ≡ 10
+        → Turns (takeByte (linesOf memory held) byte) (byteInMemory memory held byte) out at memory (Second n 0) out at
+    unfolding takeByte linesOf Fits byteInMemory
     first-ends e =
         let t : takeByte (linesOf memory held) byte ≡ turned (second (lineAt memory 0 n) []) [] = ap
         (λ h. takeByte h byte) lines-first ∙ rw (eq-eqb byte 10 e) in
         record {
           holds = record { fits = (first-few, omega arith); long = q .long };
+          is-stored = sym (ap (λ h. byteInMemory memory h byte) i ∙ rw (eq-eqb byte 10 e));
           lines = sym (ap (λ x. x .lines)
               t);
           put = put-as (sym (ap (λ x. x .output) t)) (put-none out at);
         }
 
-    pub first-goes-on : (byte ≡ 10 → ⊥) → (left : List ℕ) (next : ℕ) → length left ≡ length memory → Holding memory 0 n byte left next
-        → Turns (takeByte (linesOf memory held) byte) out at left (First next) out at
-    unfolding takeByte linesOf Fits
-    first-goes-on d left next k h =
-        let t : takeByte (linesOf memory held) byte ≡ turned (first (holding (lineAt memory 0 n) byte)) [] = ap
+    pub first-goes-on : (byte ≡ 10 → ⊥) → (left : List ℕ) (next : ℕ) → lineKept left next ≡ heldAt mostHeld memory 0 n byte
+        → Turns (takeByte (linesOf memory held) byte) (byteInMemory memory held byte) out at left (First next) out at
+    unfolding takeByte linesOf Fits byteInMemory
+    first-goes-on d left next k =
+        let h = byte-held mostHeld memory 0 n byte first-few (omega (arith, q .long)) left next k in
+        let t : takeByte (linesOf memory held) byte ≡ turned (first (holding mostHeld (lineAt memory 0 n) byte)) [] = ap
         (λ x. takeByte x byte) lines-first ∙ rw (ne-eqb byte 10 d) in
         record {
-          holds = record { fits = h .few; long = omega (arith, k, q .long) };
+          holds = record { fits = h .few; long = omega (arith, h .long, q .long) };
+          is-stored = ap firstInMemory k ∙ sym (ap (λ x. byteInMemory memory x byte) i ∙ rw (ne-eqb byte 10 d));
           lines = ap first (h .line) ∙ sym (ap (λ x. x .lines) t);
           put = put-as (sym (ap (λ x. x .output) t)) (put-none out at);
         }
@@ -99,22 +75,29 @@ module _ (memory : List ℕ) (held : Held) (byte : ℕ) (out : List ℕ) (at : �
     lines-second = ap (linesOf memory) i
 
     pub second-ends : byte ≡ 10 → (left : List ℕ) (next : ℕ) → Put out at (withLf (pair (lineAt memory 0 n) (lineAt memory n m))) left next
-        → Turns (takeByte (linesOf memory held) byte) out at memory (First 0) left next
-    unfolding takeByte linesOf Fits
+        → Turns (takeByte (linesOf memory held) byte) (byteInMemory memory held byte) out at memory (First 0) left next
+    unfolding takeByte linesOf Fits byteInMemory
     second-ends e left next h =
         let t : takeByte (linesOf memory held) byte ≡ turned (first [])
         (withLf (pair (lineAt memory 0 n) (lineAt memory n m))) = ap (λ x. takeByte x byte) lines-second ∙
         rw (eq-eqb byte 10 e) in
-        record { holds = record { fits = omega arith; long = q .long }; lines = sym (ap (λ x. x .lines) t); put = put-as (sym (ap (λ x. x .output) t)) h }
+        record {
+          holds = record { fits = omega arith; long = q .long };
+          is-stored = sym (ap (λ x. byteInMemory memory x byte) i ∙ rw (eq-eqb byte 10 e));
+          lines = sym (ap (λ x. x .lines) t);
+          put = put-as (sym (ap (λ x. x .output) t)) h;
+        }
 
-    pub second-goes-on : (byte ≡ 10 → ⊥) → (left : List ℕ) (next : ℕ) → length left ≡ length memory → Holding memory n m byte left next
-        → Turns (takeByte (linesOf memory held) byte) out at left (Second n next) out at
-    unfolding takeByte linesOf Fits
-    second-goes-on d left next k h =
-        let t : takeByte (linesOf memory held) byte ≡ turned (second (lineAt memory 0 n) (holding (lineAt memory n m)
+    pub second-goes-on : (byte ≡ 10 → ⊥) → (left : List ℕ) (next : ℕ) → lineKept left next ≡ heldAt mostHeld memory n m byte
+        → Turns (takeByte (linesOf memory held) byte) (byteInMemory memory held byte) out at left (Second n next) out at
+    unfolding takeByte linesOf Fits byteInMemory
+    second-goes-on d left next k =
+        let h = byte-held mostHeld memory n m byte (second-few .1) (omega (arith, second-few .0, q .long)) left next k in
+        let t : takeByte (linesOf memory held) byte ≡ turned (second (lineAt memory 0 n) (holding mostHeld (lineAt memory n m)
         byte)) [] = ap (λ x. takeByte x byte) lines-second ∙ rw (ne-eqb byte 10 d) in
         record {
-          holds = record { fits = (second-few .0, h .few); long = omega (arith, k, q .long) };
+          holds = record { fits = (second-few .0, h .few); long = omega (arith, h .long, q .long) };
+          is-stored = ap (secondInMemory n) k ∙ sym (ap (λ x. byteInMemory memory x byte) i ∙ rw (ne-eqb byte 10 d));
           lines = ap₂ second (h .before) (h .line) ∙ sym (ap (λ x. x .lines) t);
           put = put-as (sym (ap (λ x. x .output) t)) (put-none out at);
         }
@@ -126,12 +109,19 @@ output-by o false h k l = omega arith
 
 byte-output : (h : Lines) (b : ℕ) → length (takeByte h b .output) ≤ lineRoom
 unfolding takeByte
-byte-output (first l) b = output-by [] (eqb b 10) (second l []) (first (holding l b)) (omega arith)
-byte-output (second l m) b = output-by (withLf (pair l m)) (eqb b 10) (first []) (second l (holding m b)) (pair-has-room l m)
+byte-output (first l) b = output-by [] (eqb b 10) (second l []) (first (holding mostHeld l b)) (omega arith)
+byte-output (second l m) b = output-by (withLf (pair l m)) (eqb b 10) (first []) (second l (holding mostHeld m b)) (pair-has-room l m)
+
+stored-then : (xs memory : List ℕ) (held : Held) (b : ℕ)
+    → bytesInMemory memory held (xs ++ (b ∷ []))
+    ≡ byteInMemory (bytesInMemory memory held xs .memory) (bytesInMemory memory held xs .held) b
+unfolding bytesInMemory
+stored-then [] memory held b = refl
+stored-then (x ∷ xs) memory held b = stored-then xs (byteInMemory memory held x .memory) (byteInMemory memory held x .held) b
 
 -- bytes of the input, one after another
 pub record Feeding (memory : List ℕ) (held : Held) (bytes out : List ℕ) (memory′ : List ℕ) (held′ : Held) (out′ : List ℕ) (used at : ℕ) : Type 0 where
-  pub turns : Turns (takeBytes (linesOf memory held) (take used bytes)) out 0 memory′ held′ out′ at
+  pub turns : Turns (takeBytes (linesOf memory held) (take used bytes)) (bytesInMemory memory held (take used bytes)) out 0 memory′ held′ out′ at
   pub within : used ≤ length bytes
   pub fits : at ≤ length out
   pub goes : (k : ℕ) → k < used → length (takeBytes (linesOf memory held) (take k bytes) .output) + lineRoom ≤ length out
@@ -139,10 +129,10 @@ pub record Feeding (memory : List ℕ) (held : Held) (bytes out : List ℕ) (mem
   pub out-long : length out′ ≡ length out
 
 pub nothing-fed : (memory : List ℕ) (held : Held) (bytes out : List ℕ) → Holds memory held → Feeding memory held bytes out memory held out 0 0
-unfolding takeBytes
+unfolding takeBytes bytesInMemory
 nothing-fed memory held bytes out q =
     record {
-      turns = record { holds = q; lines = refl; put = put-none out 0 };
+      turns = record { holds = q; is-stored = refl; lines = refl; put = put-none out 0 };
       within = omega arith;
       fits = omega
           arith;
@@ -174,6 +164,12 @@ module _ (memory : List ℕ) (held : Held) (bytes out memory₁ : List ℕ) (hel
         ∙ (in-parts (linesOf memory held) (take used bytes) (getD bytes used 0 ∷ [])
         ∙ ap (λ o. turned (t₂ .lines) (t₁ .output ++ o)) (append-nil (t₂ .output))))
 
+    next-stored : byteInMemory memory₁ held₁ (getD bytes used 0) ≡ bytesInMemory memory held (take (used + 1) bytes)
+    next-stored =
+        ap (λ (s : InMemory). byteInMemory (s .memory) (s .held) (getD bytes used 0)) (f .turns .is-stored)
+        ∙ sym (ap (λ (k : ℕ). bytesInMemory memory held (take k bytes)) (add-one used)
+        ∙ (ap (bytesInMemory memory held) (take-suc bytes used 0 u) ∙ stored-then (take used bytes) memory held (getD bytes used 0)))
+
     -- there was room for this byte too
     goes-on : lineRoom ≤ length out₁ - at → (j : ℕ) (b : Bool) → ltb j used ≡ b → j < used + 1
         → length (takeBytes (linesOf memory held) (take j bytes) .output) + lineRoom ≤ length out
@@ -184,13 +180,13 @@ module _ (memory : List ℕ) (held : Held) (bytes out memory₁ : List ℕ) (hel
         (sym i) (omega (arith, f .turns .put .behind, h, f .out-long))
 
     pub byte-fed : lineRoom ≤ length out₁ - at → (memory₂ : List ℕ) (held₂ : Held) (out₂ : List ℕ) (next : ℕ) → length memory₂ ≡ length memory₁
-        → Turns (takeByte (linesOf memory₁ held₁) (getD bytes used 0)) out₁ at memory₂ held₂ out₂ next
+        → Turns (takeByte (linesOf memory₁ held₁) (getD bytes used 0)) (byteInMemory memory₁ held₁ (getD bytes used 0)) out₁ at memory₂ held₂ out₂ next
         → Feeding memory held bytes out memory₂ held₂ out₂ (used + 1) next
     byte-fed h memory₂ held₂ out₂ next k g =
-        let g′ = subst (λ x. Turns (takeByte x (getD bytes used 0)) out₁ at memory₂ held₂ out₂ next) (f .turns .lines) g in
+        let g′ = subst (λ x. Turns (takeByte x (getD bytes used 0)) (byteInMemory memory₁ held₁ (getD bytes used 0)) out₁ at memory₂ held₂ out₂ next) (f .turns .lines) g in
         record {
-          turns = subst (λ x. Turns x out 0 memory₂ held₂ out₂ next) (sym next-byte)
-              (record { holds = g′ .holds; lines = g′ .lines; put = put-then (f .turns .put) (g′ .put) });
+          turns = subst (λ x. Turns x (bytesInMemory memory held (take (used + 1) bytes)) out 0 memory₂ held₂ out₂ next) (sym next-byte)
+              (record { holds = g′ .holds; is-stored = g′ .is-stored ∙ next-stored; lines = g′ .lines; put = put-then (f .turns .put) (g′ .put) });
           within = omega (arith, u);
           fits = omega (arith, h, f .out-long, g′ .put .behind, byte-output (t₁ .lines) (getD bytes used 0), put-length (g′ .put));
           goes = λ j l. goes-on h j (ltb j used) refl l;

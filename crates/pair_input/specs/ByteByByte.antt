@@ -3,11 +3,11 @@
 use mathlib.Core.Bool.{cond}
 use mathlib.Core.List.{List, [], _∷_, _++_}
 use Prim.Native.Nat.{ℕ, _+_}
-use lib.ListN.{length}
-use lib.Dec.{eqb, ltb}
+use lib.Dec.{eqb}
 use Rattle.text_out.specs.Quoted.{byteOf}
 use Rattle.sort_text.specs.Reading.{maxLine}
-use Rattle.pair_line.specs.PairProgram.{lineOf, single, pair, lines, output}
+use Rattle.held_line.specs.Holding.{holding}
+use Rattle.pair_line.specs.PairProgram.{lineOf, single, pair}
 use Rattle.pair_line.specs.Answers.{withLf}
 
 -- In the first line of a pair, with its bytes so far; or in the second, with the first line and the bytes so far.
@@ -17,9 +17,6 @@ pub data Lines : Type 0 where
 
 abbrev pub mostHeld : ℕ
 mostHeld = maxLine + 1
-
-unfoldable pub holding : List ℕ → ℕ → List ℕ
-holding l b = cond (ltb (length l) mostHeld) (l ++ (b ∷ [])) l
 
 -- the lines held then, and what is printed
 pub record Turned : Type 0 where
@@ -31,9 +28,9 @@ turned h o = record { lines = h; output = o }
 
 -- a byte of the input
 unfoldable pub takeByte : Lines → ℕ → Turned
-takeByte (first l) b = cond (eqb b (byteOf "\n")) (turned (second l []) []) (turned (first (holding l b)) [])
+takeByte (first l) b = cond (eqb b (byteOf "\n")) (turned (second l []) []) (turned (first (holding mostHeld l b)) [])
 takeByte (second l m) b =
-    cond (eqb b (byteOf "\n")) (turned (first []) (withLf (pair l m))) (turned (second l (holding m b)) [])
+    cond (eqb b (byteOf "\n")) (turned (first []) (withLf (pair l m))) (turned (second l (holding mostHeld m b)) [])
 
 -- bytes one after another
 abbrev pub onward : List ℕ → Turned → Turned
@@ -52,10 +49,6 @@ atEnd (second l (b ∷ m)) = withLf (pair l (b ∷ m))
 
 -- An input in any number of parts: the outputs of the parts in turn, and what the end prints, are `output` of the
 -- whole.
-abbrev pub whole : List (List ℕ) → List ℕ
-whole [] = []
-whole (p ∷ ps) = p ++ whole ps
-
 abbrev pub inTurn : Lines → List (List ℕ) → List ℕ
 inTurn h [] = atEnd h
 inTurn h (p ∷ ps) = takeBytes h p .output ++ inTurn (takeBytes h p .lines) ps

@@ -1,5 +1,6 @@
 // The pair program of document 01 over an input that comes in parts: the lines of a pair are held in a bounded memory,
 // and each pair's line of output is put into a bounded buffer.
+use held_line::hold;
 use pair_line::LINE_ROOM;
 use pair_line::put_pair;
 use pair_line::put_single;
@@ -9,9 +10,9 @@ ghost use Rattle.pair_line.specs.PairProgram.{pair as pairOf};
 ghost use Rattle.text_out.specs.Put.{Put};
 ghost use Rattle.pair_line.specs.Room.{lineRoom};
 ghost use Rattle.pair_line.specs.Answers.{withLf};
-ghost use Rattle.pair_input.specs.ByteByByte.{mostHeld, takeByte, atEnd};
-ghost use Rattle.pair_input.specs.Held.{lineAt, linesOf, Holds, Turns, Feeds};
-ghost use Rattle.pair_input.specs.Inner.Held.{Holding};
+ghost use Rattle.held_line.specs.Holding.{lineAt};
+ghost use Rattle.pair_input.specs.ByteByByte.{takeByte, atEnd};
+ghost use Rattle.pair_input.specs.Held.{linesOf, Holds, byteInMemory, Turns, Feeds};
 
 // How many bytes are held: of the first line of a pair; or of the first line and, behind it, of the second.
 pub enum Held {
@@ -32,18 +33,6 @@ pub struct Fed {
     pub at: usize,
 }
 
-// One byte more of the line that starts at `start`. Of a line too long to be a sort only as much is held as shows it.
-fn hold(memory: &mut [u8], start: usize, count: usize, byte: u8) -> usize
-    requires { ⌜ (start ≤ mostHeld) × (count ≤ mostHeld) × (mostHeld + mostHeld ≤ length (now memory)) ⌝ }
-    ensures { λ r. ⌜ Holding (now (memory .entry)) start count byte (now (memory .exit)) r ⌝ }
-{
-    if count < MOST_HELD {
-        memory[start + count] = byte;
-        return count + 1;
-    }
-    count
-}
-
 // The line of output of the pair that is held.
 fn put_held(memory: &[u8], first: usize, second: usize, out: &mut [u8], at: usize) -> usize
     requires { ⌜ (first + second ≤ length (now memory)) × (at + lineRoom ≤ length (now out)) ⌝ }
@@ -60,8 +49,8 @@ fn put_held(memory: &[u8], first: usize, second: usize, out: &mut [u8], at: usiz
 fn take_byte(memory: &mut [u8], held: Held, byte: u8, out: &mut [u8], at: usize) -> Turn
     requires { ⌜ Holds (now memory) held × (at + lineRoom ≤ length (now out)) ⌝ }
     ensures { λ r. ⌜
-        Turns (takeByte (linesOf (now (memory .entry)) held) byte) (now (out .entry)) at
-        (now (memory .exit)) (r .held) (now (out .exit)) (r .at)
+        Turns (takeByte (linesOf (now (memory .entry)) held) byte) (byteInMemory (now (memory .entry)) held byte)
+        (now (out .entry)) at (now (memory .exit)) (r .held) (now (out .exit)) (r .at)
         ⌝ }
 {
     match held {
@@ -72,7 +61,7 @@ fn take_byte(memory: &mut [u8], held: Held, byte: u8, out: &mut [u8], at: usize)
                     at,
                 };
             }
-            let count = hold(memory, 0, first, byte);
+            let count = hold(memory, MOST_HELD, 0, first, byte);
             Turn {
                 held: Held::First(count),
                 at,
@@ -86,7 +75,7 @@ fn take_byte(memory: &mut [u8], held: Held, byte: u8, out: &mut [u8], at: usize)
                     at: next,
                 };
             }
-            let count = hold(memory, first, second, byte);
+            let count = hold(memory, MOST_HELD, first, second, byte);
             Turn {
                 held: Held::Second(first, count),
                 at,

@@ -8,6 +8,7 @@ use Rattle.resolved_sort.specs.Order
 use Rattle.sort_text.specs.Tokens
 use Rattle.sort_text.specs.Text
 use Rattle.sort_text.specs.Reading
+use Rattle.held_line.specs.Lines
 use Rattle.pair_line.specs.PairProgram
 use Rattle.pair_line.specs.PairProgram.{output}
 use Rattle.sort_text.specs.Parse
@@ -40,7 +41,7 @@ inputs-are-answered : map output (
     ∷ (124 ∷ 44 ∷ 32 ∷ 110 ∷ 111 ∷ 110 ∷ 101 ∷ 44 ∷ 32 ∷ 110 ∷ 111 ∷ 110 ∷ 101 ∷ 44 ∷ 32 ∷ 110 ∷ 111 ∷ 110 ∷ 101 ∷ 44 ∷ 32 ∷ 110 ∷ 111 ∷ 10 ∷ [])
     ∷ []
 unfolding output PairProgram.pairs PairProgram.pair PairProgram.lineOf PairProgram.answer PairProgram.smallDecimal
-    PairProgram.lines Reading.shortLine Text.text Text.texts Text.more Order.order Order.le Order.les Order.bound
+    Lines.lines Reading.shortLine Text.text Text.texts Text.more Order.order Order.le Order.les Order.bound
     Order.bounds Order.boundFlat Order.boundOp Order.distance Order.distances Order.materializable Tree.same
     Tree.sames Tree.family Tree.level Tree.familyOp Tree.levelOp line Parse.ending Parse.sort Parse.sortTo Parse.rest
     Parse.restAt Parse.alone Parse.snoc Parse.operand Parse.operandAt Parse.operandOf Parse.bracketed Parse.inBrackets Parse.closing

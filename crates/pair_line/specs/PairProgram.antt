@@ -4,24 +4,16 @@ use mathlib.Core.Bool.{Bool, true, false, cond}
 use mathlib.Core.List.{List, [], _∷_, _++_}
 use mathlib.Core.Option.{Option, none, some}
 use Prim.Native.Nat.{ℕ, _+_, _/_, _%_}
-use lib.Dec.{eqb, ltb}
+use lib.Dec.{ltb}
 use Rattle.resolved_sort.specs.declared.PartialOrder.{PartialOrder}
 use Rattle.resolved_sort.specs.declared.PartialOrder.the-variants.{Unrelated, Equal, Below, Above}
 use Rattle.resolved_sort.specs.Tree.{Tree}
 use Rattle.resolved_sort.specs.Order.{order, join, meet, Steps, distance, materializable}
 use Rattle.text_out.specs.Quoted.{byteOf, bytesOf}
+use Rattle.held_line.specs.Lines.{lines}
 use Rattle.sort_text.specs.Parse.{Parsed, parsed, stuck, line}
 use Rattle.sort_text.specs.Text.{text}
 use Rattle.sort_text.specs.Reading.{shortLine}
-
--- the lines of the input, without their LF
-abbrev pub onto : ℕ → List (List ℕ) → List (List ℕ)
-onto b [] = (b ∷ []) ∷ []
-onto b (l ∷ ls) = (b ∷ l) ∷ ls
-
-unfoldable pub lines : List ℕ → List (List ℕ)
-lines [] = []
-lines (b ∷ bs) = cond (eqb b (byteOf "\n")) ([] ∷ lines bs) (onto b (lines bs))
 
 abbrev pub digitByte : ℕ → ℕ
 digitByte n = byteOf "0" + n

@@ -1,2 +1,3 @@
 -- How a line is recognised.
 mod Ways
+pub mod Cleared

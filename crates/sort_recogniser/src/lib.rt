@@ -16,6 +16,7 @@ ghost use Rattle.resolved_sort.specs.Tree.{primitive};
 ghost use Rattle.resolved_sort.specs.Storage.{kindFlat, kindOp, maxArguments};
 ghost use Rattle.sort_text.specs.Tokens.{isLetter, skip, next};
 ghost use Rattle.sort_recogniser.specs.Inner.Says.{Says, SaysClosing, SaysRest};
+ghost use Rattle.sort_recogniser.specs.Inner.Cleared.{stepsWritten, zeroFrom, LineRecognised};
 ghost use Rattle.sort_text.specs.Parse as Parse;
 
 // The position after a sort and the number of steps written; or where the first token stands that cannot follow.
@@ -163,7 +164,7 @@ fn sort(line: &[u8], at: usize, out: &mut [u8], n: usize) -> Recognised
 }
 
 // A line: a sort and nothing but spaces after it.
-pub fn recognise(line: &[u8], out: &mut [u8]) -> Recognised
+fn whole_line(line: &[u8], out: &mut [u8]) -> Recognised
     requires { ⌜ length (now line) ≤ length (now out) ⌝ }
     ensures { λ r. ⌜
         Says (now (line .entry)) 0 (length (now (line .entry))) [] (Parse.line (now (line .entry)))
@@ -181,4 +182,35 @@ pub fn recognise(line: &[u8], out: &mut [u8]) -> Recognised
         }
         Recognised::Stuck(p) => Recognised::Stuck(p),
     }
+}
+
+// How many steps are written. Of a line that is no sort none count.
+fn steps_written(found: Recognised) -> usize
+    ensures { λ r. ⌜ r ≡ stepsWritten found ⌝ }
+{
+    match found {
+        Recognised::Done(_, n) => n,
+        Recognised::Stuck(_) => 0,
+    }
+}
+
+// The bytes of the buffer from a place on set to zero.
+fn clear_steps(out: &mut [u8], from: usize)
+    ensures { λ _. ⌜ now (out .exit) ≡ zeroFrom from (now (out .entry)) ⌝ }
+{
+    let mut i = from;
+    while i < out.len() {
+        out[i] = 0;
+        i += 1;
+    }
+}
+
+// A line recognised: its steps stand at the front of the buffer, and zeros behind them.
+pub fn recognise(line: &[u8], out: &mut [u8]) -> Recognised
+    requires { ⌜ length (now line) ≤ length (now out) ⌝ }
+    ensures { λ r. ⌜ LineRecognised (now (line .entry)) (length (now (out .entry))) (now (out .exit)) r ⌝ }
+{
+    let found = whole_line(line, out);
+    clear_steps(out, steps_written(found));
+    found
 }

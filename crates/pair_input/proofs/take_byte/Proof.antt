@@ -18,12 +18,7 @@ take-byte-spec =
     (λ c κs.
     let at-held = c .before .before .before in
     let start = at-held .before .before .before .before in
-    let args = start .args in (
-      omega arith,
-      law.first-few (args .memory .now) (args .held) (args .byte) (args .out .now) (args .at)
-          (start .pre .0) _ (at-held .held .given .1),
-      start .pre .0 .long,
-    ))
+    omega (arith, start .pre .0 .long))
     (λ c. search needs)
     (λ c κs.
     let at-held2 = c .before .before .before .before in
@@ -43,11 +38,11 @@ take-byte-spec =
     (λ c κs.
     let at-held2 = c .before .before .before in
     let start = at-held2 .before .before .before .before in
-    let args = start .args in (
+    let args = start .args in
+    omega (
+      arith,
       law.second-few (args .memory .now) (args .held) (args .byte) (args .out .now) (args .at) (start .pre .0) _ _
           (at-held2 .held2 .given .1) .0,
-      law.second-few (args .memory .now) (args .held) (args .byte) (args .out .now)
-          (args .at) (start .pre .0) _ _ (at-held2 .held2 .given .1) .1,
       start .pre .0 .long,
     ))
     (λ c. search needs)
@@ -58,7 +53,7 @@ take-byte-spec =
     let start = at-held .before .before .before .before in
     let args = start .args in
     law.first-goes-on (args .memory .now) (args .held) (args .byte) (args .out .now) (args .at) (start .pre .0) _
-    (at-held .held .given .1) (at-if1 .if1 .left) _ _ (at-hold .hold .kept .0) (at-hold .hold .ensures))
+    (at-held .held .given .1) (at-if1 .if1 .left) _ _ (at-hold .hold .ensures))
     (λ c. search needs)
     (λ c.
     let at-hold2 = c .before .before in
@@ -67,4 +62,4 @@ take-byte-spec =
     let start = at-held2 .before .before .before .before in
     let args = start .args in
     law.second-goes-on (args .memory .now) (args .held) (args .byte) (args .out .now) (args .at) (start .pre .0) _ _
-    (at-held2 .held2 .given .1) (at-if2 .if2 .left) _ _ (at-hold2 .hold2 .kept .0) (at-hold2 .hold2 .ensures)))
+    (at-held2 .held2 .given .1) (at-if2 .if2 .left) _ _ (at-hold2 .hold2 .ensures)))

@@ -2,17 +2,10 @@
 use mathlib.Core.Path.{_≡_}
 use mathlib.Core.Bool.{Bool, true}
 use mathlib.Core.List.{List}
-use Prim.Native.Nat.{ℕ, _≤_}
-use lib.ListN.{take}
+use Prim.Native.Nat.{ℕ}
 use Rattle.pair_input.specs.declared.Held.{Held}
-use Rattle.pair_input.specs.ByteByByte.{mostHeld, holding, takeBytes}
-use Rattle.pair_input.specs.Held.{lineAt, linesOf, Holds}
-
--- a byte more of the line from `start` on; what stands before it stays
-pub record Holding (memory : List ℕ) (start count byte : ℕ) (left : List ℕ) (next : ℕ) : Type 0 where
-  pub line : lineAt left start next ≡ holding (lineAt memory start count) byte
-  pub before : take start left ≡ take start memory
-  pub few : next ≤ mostHeld
+use Rattle.pair_input.specs.ByteByByte.{takeBytes}
+use Rattle.pair_input.specs.Held.{linesOf, Holds}
 
 -- All bytes are taken, unless the program ends before.
 pub record BytesTaken (memory : List ℕ) (held : Held) (bytes : List ℕ) (left-memory : List ℕ) (left-held : Held)

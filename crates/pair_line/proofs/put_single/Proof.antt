@@ -25,7 +25,7 @@ put-single-spec =
     let at-enum-told = at-put-bytes2 .before .before .before in
     let at-recognise = at-enum-told .before .before .before in
     let at-if1 = at-recognise .before .before in
-    law.single-good _ _ _ (at-if1 .if1 .left) _ _ (at-recognise .recognise .ensures) _ _
+    law.single-good _ _ _ (at-if1 .if1 .left) _ _ (at-recognise .recognise .ensures .says) _ _
     (at-enum-told .enum-told .given .1) _ _ (at-put-bytes2 .put-bytes2 .ensures))
     (λ c. search needs)
     (λ c.
@@ -33,4 +33,4 @@ put-single-spec =
     let at-from = at-put-unread .before .before .before in
     let at-recognise = at-from .before .before .before in
     let at-if1 = at-recognise .before .before in
-    law.single-unread _ _ _ (at-if1 .if1 .left) _ _ (at-recognise .recognise .ensures) _ (at-from .from .given .1) _ _ (at-put-unread .put-unread .ensures)))
+    law.single-unread _ _ _ (at-if1 .if1 .left) _ _ (at-recognise .recognise .ensures .says) _ (at-from .from .given .1) _ _ (at-put-unread .put-unread .ensures)))

@@ -25,7 +25,7 @@ read-line-spec =
     omega (
       arith,
       law.few-steps (args .sorts .now) (args .sort-count) (args .entry-count) (args .line .now)
-          (start .pre) _ _ (at-recognise .recognise .ensures) _ _ (at-count .count .given .1),
+          (start .pre) _ _ (at-recognise .recognise .ensures .says) _ _ (at-count .count .given .1),
       at-recognise .recognise .kept .1 .0,
     ))
     (λ c.
@@ -39,7 +39,7 @@ read-line-spec =
       length-take (at-count .count .given .0 .1 .0)
           (at-recognise .recognise .last .1 .0),
       law.few-steps (args .sorts .now) (args .sort-count) (args .entry-count)
-          (args .line .now) (start .pre) _ _ (at-recognise .recognise .ensures) _ _ (at-count .count .given .1),
+          (args .line .now) (start .pre) _ _ (at-recognise .recognise .ensures .says) _ _ (at-count .count .given .1),
       at-recognise .recognise .kept .1 .0,
     ) in sym f)
     (λ c κs.
@@ -48,7 +48,7 @@ read-line-spec =
     let start = at-recognise .before .before .before .before in
     let args = start .args in
     law.runs (args .sorts .now) (args .sort-count) (args .entry-count) (args .line .now) (start .pre) _ _
-    (at-recognise .recognise .ensures) _ _ (at-count .count .given .1) _)
+    (at-recognise .recognise .ensures .says) _ _ (at-count .count .given .1) _)
     (λ c κs.
     let at-run-from = c .before .before .before in
     let start = at-run-from .before .before .before .before .before .before .before .before .before .before
@@ -59,7 +59,7 @@ read-line-spec =
     let start = at-recognise .before .before .before .before in
     let args = start .args in
     law.not-a-sort (args .sorts .now) (args .sort-count) (args .entry-count) (args .line .now) (start .pre) _ _
-    (at-recognise .recognise .ensures) _ (c .before .at .given .1))
+    (at-recognise .recognise .ensures .says) _ (c .before .at .given .1))
     (λ c. search needs)
     (λ c.
     let at-kept-or-no-room = c .before .before in
@@ -69,5 +69,5 @@ read-line-spec =
     let start = at-recognise .before .before .before .before in
     let args = start .args in
     law.read-stored (args .sorts .now) (args .sort-count) (args .entry-count) (args .line .now) (start .pre) _ _
-    (at-recognise .recognise .ensures) _ _ (at-count .count .given .1) _ _ _ (at-run-from .run-from .ensures) _ _
+    (at-recognise .recognise .ensures .says) _ _ (at-count .count .given .1) _ _ _ (at-run-from .run-from .ensures) _ _
     (at-kept-or-no-room .kept-or-no-room .ensures)))

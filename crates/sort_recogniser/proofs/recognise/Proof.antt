@@ -1,13 +1,6 @@
--- A sort, and by the token after it. Assumes nothing.
+-- The steps of the line, and zeros behind them. Assumes nothing.
 use borrow.Author.Needs.{needs}
-use mathlib.Core.Path.{_≡_, refl, sym, _∙_, ap}
-use mathlib.Core.List.{[], _∷_}
-use Prim.Native.Nat.{_+_, _-_, _*_, _≤_}
-use native.Mathlib.Omega.{arith}
-use lib.ListN.{length, length-set}
-use Rattle.sort_lexer.specs.declared.Token.the-variants.{End, Word, Open, Close, Hash, Arrow, Bad}
-use Rattle.sort_lexer.proofs.Tags.{no-other-token}
-use Rattle.sort_recogniser.proofs.Ways as way
+use Rattle.sort_recogniser.proofs.Cleared as law
 use Rattle.sort_recogniser.proofs.recognise.Statement.{statement}
 use Rattle.sort_recogniser.proofs.recognise.Tie as tie
 
@@ -15,32 +8,14 @@ pub recognise-spec : {M : Type 1} → statement M
 recognise-spec =
     tie.close
     (tie.spec
-    (λ c κs. (omega arith, omega (arith, c .before .before .before .pre)))
-    (λ c. search needs)
+    (λ c κs. search needs)
+    (λ c κs. search needs)
     (λ c κs. search needs)
     (λ c. search needs)
-    (λ c. search needs)
-    (λ c. search needs)
     (λ c.
-    let at-token-from = c .before .before in
-    let at-p = at-token-from .before .before in
-    let at-sort = at-p .before .before .before .before in
-    let start = at-sort .before .before .before .before in
-    way.line-done (start .args .line .now) _ (start .args .out .now) _ (at-sort .sort .ensures) _ _
-    (at-p .p .given .1) (at-token-from .token-from .result) (at-token-from .token-from .ensures)
-    (c .enum-told .given .1))
-    (λ c. search needs)
-    (λ c.
-    let at-token-from = c .before in
-    let at-p = at-token-from .before .before in
-    let at-sort = at-p .before .before .before .before in
-    let start = at-sort .before .before .before .before in
-    way.line-stuck (start .args .line .now) _ (start .args .out .now) _ (at-sort .sort .ensures) _ _
-    (at-p .p .given .1) (at-token-from .token-from .result) (at-token-from .token-from .ensures)
-    (no-other-token (1 ∷ 2 ∷ 3 ∷ 4 ∷ 5 ∷ 6 ∷ []) (at-token-from .token-from .result .token) End (c .match2 .keys2)
-    tt))
-    (λ c. search needs)
-    (λ c.
-    let at-sort = c .before .before .before .before .before in
-    let start = at-sort .before .before .before .before in
-    way.line-passes (start .args .line .now) _ (start .args .out .now) _ (at-sort .sort .ensures) _ (c .before .p2 .given .1)))
+    let at-clear-steps = c .before .before in
+    let at-steps-written = at-clear-steps .before in
+    let at-whole-line = at-steps-written .before .before .before .before in
+    let start = at-whole-line .before .before .before .before in
+    law.recognised (start .args .line .now) _ _ _ _ _ (at-whole-line .whole-line .kept .1 .0) (start .pre)
+    (at-whole-line .whole-line .ensures) (at-steps-written .steps-written .ensures) (at-clear-steps .clear-steps .ensures)))
