@@ -27,7 +27,7 @@ ghost use Rattle.resolved_sort.specs.Storage.{maxSorts, maxEntries, maxArgument
 ghost use Rattle.resolved_sort.specs.Storage.{functionKind, resolved, rowAt, entriesOf, wordsAt, kindOp, putRow};
 ghost use Rattle.resolved_sort.specs.Storage.{appendRow, givenBack, trees, lookAll};
 ghost use Rattle.resolved_sort.specs.Rows.{sameWords, sameRow, findRow, storedAt, internRow, Checked, AllBelow};
-ghost use Rattle.sort_interner.specs.Inner.Tests.{isRow};
+ghost use Rattle.sort_interner.specs.Inner.Tests.{isRow, RunAt};
 ghost use Rattle.resolved_sort.specs.Tree.{container, function as functionSort};
 ghost use Rattle.resolved_sort.specs.Interning.{look};
 ghost use Rattle.resolved_sort.specs.Bounds.{internAt};
@@ -127,9 +127,7 @@ fn part_at(sorts: &[u16], i: u16) -> u16
 
 // The run of row i as far as it is looked at: empty where the row is no function, whatever the words there are.
 fn run_at(sorts: &[u16], i: u16) -> Run
-    ensures { λ r. ⌜
-        entriesOf (now (sorts .entry)) (r .start) (r .count) ≡ (wordsAt (now (sorts .entry)) i) .args
-        ⌝ }
+    ensures { λ r. ⌜ RunAt (now (sorts .entry)) i r ⌝ }
 {
     if kind_at(sorts, i) == FUNCTION_KIND {
         let at = ROW_WORDS * (i as usize);
