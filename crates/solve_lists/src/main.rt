@@ -11,9 +11,14 @@ use libc::STDOUT_FILENO;
 use line_input::LineFound;
 use line_input::next_line;
 use line_input::no_input;
+use list_lines::HELD_LINE;
+use list_lines::PRINTED_ROOM;
 use list_lines::finish;
 use list_lines::hear;
 use list_memory::LIST_WORDS;
+ghost use Prim.Native.Nat.{_≤_};
+ghost use lib.ListN.{length};
+ghost use Rattle.list_lines.specs.Longest.{printedRoom, heldLine};
 
 // The number of a line, before what there is to say of it.
 fn write_number(number: u64) {
@@ -37,8 +42,10 @@ fn write_front(out: &[u8], end: usize) -> bool {
     false
 }
 
-// A line of the input, and its output.
-fn say_line(list: &mut [u16; LIST_WORDS], line: &[u8], number: u64, out: &mut [u8]) -> bool {
+// A line of the input, and its output, of which nothing is cut (`nothing-is-cut` of list_lines).
+fn say_line(list: &mut [u16; LIST_WORDS], line: &[u8], number: u64, out: &mut [u8]) -> bool
+    requires { ⌜ (length (now line) ≤ heldLine) × (printedRoom ≤ length (now out)) ⌝ }
+{
     let said = hear(list, line, out);
     if said.numbered {
         write_number(number);
@@ -46,22 +53,25 @@ fn say_line(list: &mut [u16; LIST_WORDS], line: &[u8], number: u64, out: &mut [u
     write_front(out, said.end)
 }
 
-// A line of so many bytes. Of one that is longer than its memory the first bytes are taken.
+// The line of which so many bytes are held.
 fn take_line(
     list: &mut [u16; LIST_WORDS],
     line: &[u8],
-    length: usize,
+    held: usize,
     number: u64,
     out: &mut [u8],
-) -> bool {
-    if line.len() < length {
-        return say_line(list, line, number, out);
-    }
-    say_line(list, &line[..length], number, out)
+) -> bool
+    requires { ⌜
+        (held ≤ length (now line)) × (length (now line) ≤ heldLine) × (printedRoom ≤ length (now out))
+        ⌝ }
+{
+    say_line(list, &line[..held], number, out)
 }
 
 // The end of the input, or a read that failed.
-fn at_end(list: &[u16; LIST_WORDS], found: LineFound, out: &mut [u8]) {
+fn at_end(list: &[u16; LIST_WORDS], found: LineFound, out: &mut [u8])
+    requires { ⌜ printedRoom ≤ length (now out) ⌝ }
+{
     match found {
         LineFound::Failed => {
             io::write_all(STDERR_FILENO, b"solve_lists: the input cannot be read\n");
@@ -74,7 +84,9 @@ fn at_end(list: &[u16; LIST_WORDS], found: LineFound, out: &mut [u8]) {
 
 // All lines. A proved loop has to end, and nothing says that an input does: the loop counts its turns down, from a
 // number that no run uses up.
-fn solve_all(list: &mut [u16; LIST_WORDS], buffer: &mut [u8], line: &mut [u8], out: &mut [u8]) {
+fn solve_all(list: &mut [u16; LIST_WORDS], buffer: &mut [u8], line: &mut [u8], out: &mut [u8])
+    requires { ⌜ (length (now line) ≤ heldLine) × (printedRoom ≤ length (now out)) ⌝ }
+{
     let mut read = no_input();
     let mut turns = u64::MAX;
     while turns > 0 {
@@ -98,12 +110,6 @@ fn main() {
     let mut list = [0u16; LIST_WORDS];
     let mut buffer = io::large_buffer();
     let mut line = [0u8; HELD_LINE];
-    let mut out = [0u8; OUT_BYTES];
+    let mut out = [0u8; PRINTED_ROOM];
     solve_all(&mut list, &mut buffer, &mut line, &mut out);
 }
-
-// So many bytes are looked at of a line: one more than a line may have, which shows that it is too long.
-const HELD_LINE: usize = 201;
-
-// Room for what is printed for one line: the longest answer has some 336,000 bytes, by count.
-const OUT_BYTES: usize = 393216;

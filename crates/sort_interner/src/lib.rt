@@ -28,7 +28,7 @@ ghost use Rattle.resolved_sort.specs.Storage.{functionKind, resolved, rowAt, en
 ghost use Rattle.resolved_sort.specs.Storage.{appendRow, givenBack, trees, lookAll};
 ghost use Rattle.resolved_sort.specs.Rows.{sameWords, sameRow, findRow, storedAt, internRow, Checked, AllBelow};
 ghost use Rattle.resolved_sort.specs.Inner.Storage.{sortNumbers};
-ghost use Rattle.sort_interner.specs.Inner.Tests.{givenRow, isRow};
+ghost use Rattle.sort_interner.specs.Inner.Tests.{givenRow, isRow, RunAt};
 ghost use Rattle.resolved_sort.specs.Tree.{container, function as functionSort};
 ghost use Rattle.resolved_sort.specs.Interning.{look};
 ghost use Rattle.resolved_sort.specs.Bounds.{internAt};
@@ -128,9 +128,7 @@ fn part_at(sorts: &[u16], id: SortId) -> u16
 
 // The run of a sort's row as far as it is looked at: empty where the row is no function, whatever the words there are.
 fn run_at(sorts: &[u16], id: SortId) -> Run
-    ensures { λ r. ⌜
-        entriesOf (now (sorts .entry)) (r .start) (r .count) ≡ (wordsAt (now (sorts .entry)) (id .0)) .args
-        ⌝ }
+    ensures { λ r. ⌜ RunAt (now (sorts .entry)) (id .0) r ⌝ }
 {
     if kind_at(sorts, id) == FUNCTION_KIND {
         let at = ROW_WORDS * (id.0 as usize);

@@ -2,6 +2,7 @@
 -- What `read` and `write` answer is what the C library's contracts say; nothing else is assumed.
 use borrow.Author.Needs.{needs}
 use lib.ListN.{length}
+use Rattle.list_lines.specs.Longest.{printedRoom, heldLine}
 use Prim.Native.Nat.{_≤_}
 use mathlib.Core.Path.{_≡_, refl, _∙_}
 use native.Mathlib.Omega.{arith}
@@ -10,7 +11,8 @@ use Rattle.solve_lists.proofs.solve_all.Tie as tie
 
 abbrev Inv-loop : tie.InvT-loop
 Inv-loop list₀ buffer₀ line₀ out₀ read₀ turns₀ list buffer line out read turns = (length buffer ≡ length buffer₀) ×
-    (length line ≡ length line₀) × (length out ≡ length out₀) × (turns ≤ 18446744073709551615)
+    (length line ≡ length line₀) × (length out ≡ length out₀) × (turns ≤ 18446744073709551615) ×
+    (length line ≤ heldLine) × (printedRoom ≤ length out)
 
 abbrev μ-loop : tie.MeasureT-loop
 μ-loop list₀ buffer₀ line₀ out₀ read₀ turns₀ list buffer line out read turns = turns
@@ -19,7 +21,7 @@ no-input-requires : tie.Need-no-input-requires Inv-loop μ-loop
 no-input-requires c κs = search needs
 
 loop-holds : tie.Need-loop-holds Inv-loop μ-loop
-loop-holds c = (refl, refl, refl, omega arith)
+loop-holds c = (refl, refl, refl, omega arith, omega arith, omega arith)
 
 next-line-requires : tie.Need-next-line-requires Inv-loop μ-loop
 next-line-requires c κs = search needs
@@ -28,7 +30,7 @@ enum-told : tie.Need-enum-told Inv-loop μ-loop
 enum-told c = search needs
 
 at-end-requires : tie.Need-at-end-requires Inv-loop μ-loop
-at-end-requires c κs = search needs
+at-end-requires c κs = omega arith
 
 same-length : tie.Need-same-length Inv-loop μ-loop
 same-length c =
@@ -59,7 +61,13 @@ add-take-line : tie.Need-add-take-line Inv-loop μ-loop
 add-take-line c = omega (arith, c .before .before .before .before .before .before .before .before .before .before .before .before .loop .inv .3)
 
 take-line-requires : tie.Need-take-line-requires Inv-loop μ-loop
-take-line-requires c κs = search needs
+take-line-requires c κs =
+    let at-next-line = c .before .before .before .before .before .before .before .before .before in
+    let at-loop = at-next-line .before .before .before .before in (
+      omega (arith, at-next-line .next-line .ensures .few, at-next-line .next-line .kept .1 .0),
+      omega (arith, at-next-line .next-line .kept .1 .0, at-loop .loop .inv .4),
+      omega (arith, at-loop .loop .inv .5),
+    )
 
 same-length-4 : tie.Need-same-length-4 Inv-loop μ-loop
 same-length-4 c =
@@ -109,6 +117,8 @@ loop-again c =
       at-take-line .take-line .kept .1 .1 .1 .1 .0 ∙ at-loop .loop .inv .2,
       omega
           (arith, at-loop .loop .inv .3),
+      omega (arith, at-next-line .next-line .kept .1 .0, at-loop .loop .inv .4),
+      omega (arith, at-take-line .take-line .kept .1 .1 .1 .1 .0, at-loop .loop .inv .5),
     )
 
 same-length-7 : tie.Need-same-length-7 Inv-loop μ-loop

@@ -23,4 +23,4 @@ is-row-spec =
     let at-if1 = at-part-at .before in
     let at-kind-at = at-if1 .before in
     law.rows-same-by-args _ _ _ _ (at-kind-at .kind-at .ensures) refl _ _ (at-part-at .part-at .ensures) refl
-    (at-if1 .if1 .left) (at-if2 .if2 .left) _ _ (c .before .run-at .ensures) refl _ (c .has-args .ensures)))
+    (at-if1 .if1 .left) (at-if2 .if2 .left) _ _ (c .before .run-at .ensures .entries) refl _ (c .has-args .ensures)))

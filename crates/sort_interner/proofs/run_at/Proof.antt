@@ -15,5 +15,5 @@ run-at-spec =
     (λ c κs. search needs)
     (λ c. search needs)
     (λ c κs. search needs)
-    (λ c. search law.run-is-entries)
-    (λ c. search law.run-is-empty))
+    (λ c. search law.function-run)
+    (λ c. search law.empty-run))
