@@ -50,6 +50,11 @@ use Rattle.related_sorts.specs.Inner.Outcome.{noPlaces, AreThese, IsFunc
 use Rattle.related_sorts.specs.Inner.Ranges.{relatedHead}
 use Rattle.related_sorts.proofs.Laws.{relates-as, no-places}
 
+-- a place under another name
+pub head-of-the-same : (ws ns : List ℕ) (k : Lengths) (up : Bool) (p q : ℕ) → p ≡ q → (vs ms : List ℕ) (b : Related)
+    → Relates vs ms b (relatedHead up p (lent ws ns k)) → Relates vs ms b (relatedHead up q (lent ws ns k))
+head-of-the-same ws ns k up p q e vs ms b u = relates-as vs ms b u (ap (λ (x : ℕ). relatedHead up x (lent ws ns k)) e)
+
 -- by the head
 module _ (ws ns : List ℕ) (k : Lengths) (q : NodesReady ws ns k) (up : Bool) (p : ℕ) (i : Placed k p) where
   abbrev L : Lent

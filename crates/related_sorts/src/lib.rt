@@ -7,6 +7,7 @@ use infer_nodes::node;
 use infer_nodes::part;
 use infer_nodes::part_count;
 use infer_nodes::shallow_normalize;
+use infer_nodes::taken_apart;
 use infer_nodes::with_counts;
 use resolved_sort::ARGUMENT_WORDS;
 use resolved_sort::ComplexSort;
@@ -30,7 +31,7 @@ use unification::MAX_NODE_ENTRIES;
 use unification::MAX_PLACES;
 use unification::NODE_ENTRIES_BEHIND;
 use unification::NODE_NUMBERS;
-use unification::NodeId;
+use unification::Place;
 use unification::Pushed;
 use unification::Related;
 use unification::Three;
@@ -454,16 +455,18 @@ fn related_head(
         (relatedHead up (id .0) (lent (now (sorts .entry)) (now (nodes .entry)) lengths))
         ⌝ }
 {
-    if id.0 < FIRST_NODE {
-        return related_sort(sorts, nodes, lengths, SortId(id.0), up);
-    }
-    match node(nodes, NodeId(id.0 - FIRST_NODE)) {
-        InferSort::Generic { op, subsort } => push_generic(sorts, nodes, lengths, op, subsort, up),
-        InferSort::Function {
-            domain: _,
-            range: _,
-        } => Related::NoList(lengths),
-        InferSort::Var(_) => Related::NoList(lengths),
+    match taken_apart(id) {
+        Place::Sort(sort) => related_sort(sorts, nodes, lengths, sort, up),
+        Place::Node(at) => match node(nodes, at) {
+            InferSort::Generic { op, subsort } => {
+                push_generic(sorts, nodes, lengths, op, subsort, up)
+            }
+            InferSort::Function {
+                domain: _,
+                range: _,
+            } => Related::NoList(lengths),
+            InferSort::Var(_) => Related::NoList(lengths),
+        },
     }
 }
 
