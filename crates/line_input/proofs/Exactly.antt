@@ -13,8 +13,8 @@ use Rattle.held_line.specs.Lines.{lines, whole}
 use Rattle.held_line.specs.Holding.{holding}
 use Rattle.held_line.proofs.Held.{holding-held}
 use Rattle.held_line.proofs.Glued.{glue, glue-none, no-lines, after-lf, after-byte}
-use Rattle.line_input.specs.Taking.{Came, ended, going, takeLine, Reached, reached, goesOn}
-use Rattle.line_input.specs.Taking.{Following, someLine, noLine, nextBy, nextOf, nextLine, lineByLine, thenLines, heldLines}
+use Rattle.line_input.specs.Taking.{Came, lineEnds, going, takeLine, Reached, reached, goesOn}
+use Rattle.line_input.specs.Taking.{Following, someLine, noLine, followingBy, followingOf, nextLine, lineByLine, thenLines, heldLines}
 use Rattle.line_input.proofs.Taking.{taken-lf, taken-byte}
 
 module _ (most : ℕ) where
@@ -32,11 +32,11 @@ module _ (most : ℕ) where
     pub longer : length full ≤ length l + length bs
 
   abbrev Took : List ℕ → List ℕ → Came → Type 0
-  Took l bs (ended m left) = Ends l bs m left
+  Took l bs (lineEnds m left) = Ends l bs m left
   Took l bs (going m) = StaysOpen l bs m
 
   later : (l bs : List ℕ) (b : ℕ) → eqb b 10 ≡ false → (c : Came) → Took (l ++ (b ∷ [])) bs c → Took l (b ∷ bs) c
-  later l bs b e (ended m left) h =
+  later l bs b e (lineEnds m left) h =
       record {
         full = h .full;
         held = h .held;
@@ -80,12 +80,12 @@ module _ (most : ℕ) where
     pub longer : length full ≤ length l + length (bs ++ whole ps)
 
   abbrev Went : List ℕ → List ℕ → List (List ℕ) → Came → List (List ℕ) → Type 0
-  Went l bs ps (ended m left) qs = PartsEnd l bs ps m left qs
+  Went l bs ps (lineEnds m left) qs = PartsEnd l bs ps m left qs
   Went l bs ps (going m) qs = PartsOpen l bs ps m
 
   further : (l bs p : List ℕ) (ps : List (List ℕ)) (m : List ℕ) (s : StaysOpen l bs m) (c : Came) (qs : List (List ℕ))
       → Went (s .full) p ps c qs → Went l bs (p ∷ ps) c qs
-  further l bs p ps m s (ended m′ left) qs h =
+  further l bs p ps m s (lineEnds m′ left) qs h =
       record {
         full = h .full;
         held = h .held;
@@ -121,9 +121,9 @@ module _ (most : ℕ) where
   went : (ps : List (List ℕ)) (l bs : List ℕ) (c : Came) → Took l bs c
       → Went l bs ps (goesOn most ps c .came) (goesOn most ps c .parts)
   unfolding goesOn
-  went [] l bs (ended m left) h = parts-end [] l bs m left h
+  went [] l bs (lineEnds m left) h = parts-end [] l bs m left h
   went [] l bs (going m) h = parts-open l bs m h
-  went (p ∷ ps) l bs (ended m left) h = parts-end (p ∷ ps) l bs m left h
+  went (p ∷ ps) l bs (lineEnds m left) h = parts-end (p ∷ ps) l bs m left h
   went (p ∷ ps) l bs (going m) h =
       let t : Took (h .full) p (takeLine most m p) = subst (λ x. Took (h .full) p (takeLine most x p)) (sym (h .held)) (took p (h .full)) in
       further l bs p ps m h (goesOn most ps (takeLine most m p) .came) (goesOn most ps (takeLine most m p) .parts)
@@ -153,9 +153,9 @@ module _ (most : ℕ) where
     some-bytes : (b : ℕ) (h l : List ℕ) → (b ∷ h) ≡ take most l → 0 < length l
     some-bytes b h l e = omega (arith, ap length e, length-take most l)
 
-    next-by : (bs : List ℕ) (ps : List (List ℕ)) (c : Came) (qs : List (List ℕ)) → Went [] bs ps c qs → IsNext bs ps (nextBy c qs)
-    unfolding nextBy
-    next-by bs ps (ended m left) qs h =
+    next-by : (bs : List ℕ) (ps : List (List ℕ)) (c : Came) (qs : List (List ℕ)) → Went [] bs ps c qs → IsNext bs ps (followingBy c qs)
+    unfolding followingBy
+    next-by bs ps (lineEnds m left) qs h =
         record {
           first =
               ap (map (take most)) (sym (glue-none (lines (bs ++ whole ps))) ∙ h .lines-are)

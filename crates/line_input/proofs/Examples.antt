@@ -5,7 +5,7 @@ use mathlib.Core.List.{List, [], _∷_, map}
 use Prim.Native.Nat.{ℕ}
 use Rattle.text_out.specs.Quoted.{bytesOf}
 use Rattle.held_line.specs.Holding.{holding}
-use Rattle.line_input.specs.Taking.{takeLine, goesOn, nextBy, thenLines, lineByLine}
+use Rattle.line_input.specs.Taking.{takeLine, goesOn, followingBy, thenLines, lineByLine}
 
 inputs-are-taken : map (lineByLine 9 3 [])
     ((bytesOf "a\nb" ∷ bytesOf "cde" ∷ [] ∷ bytesOf "f\n\ng" ∷ [])
@@ -18,5 +18,5 @@ inputs-are-taken : map (lineByLine 9 3 [])
     ∷ ([] ∷ [])
     ∷ []
     ∷ []
-unfolding takeLine goesOn nextBy thenLines lineByLine holding
+unfolding takeLine goesOn followingBy thenLines lineByLine holding
 inputs-are-taken = refl

@@ -9,10 +9,10 @@ use lib.ListN.{length, take, drop, length-append}
 use lib.Dec.{eqb, ltb}
 use borrow.Author.Tests.{ltb-true}
 use Rattle.held_line.specs.Holding.{holding}
-use Rattle.line_input.specs.Taking.{Came, ended, going, takeLine, Reached, reached, goesOn}
+use Rattle.line_input.specs.Taking.{Came, lineEnds, going, takeLine, Reached, reached, goesOn}
 use Rattle.line_input.specs.Inner.Answers.{heldOf}
 
-pub taken-lf : (most : ℕ) (l : List ℕ) (b : ℕ) (bs : List ℕ) → eqb b 10 ≡ true → takeLine most l (b ∷ bs) ≡ ended l bs
+pub taken-lf : (most : ℕ) (l : List ℕ) (b : ℕ) (bs : List ℕ) → eqb b 10 ≡ true → takeLine most l (b ∷ bs) ≡ lineEnds l bs
 unfolding takeLine
 taken-lf most l b bs e = rw e
 
@@ -60,7 +60,7 @@ pub record Last (bs left : List ℕ) : Type 0 where
   pub fewer : length left < length bs
 
 abbrev pub LastOf : List ℕ → Came → Type 0
-LastOf bs (ended l left) = Last bs left
+LastOf bs (lineEnds l left) = Last bs left
 LastOf bs (going l) = Unit
 
 last-later : (b : ℕ) (bs left : List ℕ) → Last bs left → Last (b ∷ bs) left
@@ -74,7 +74,7 @@ last-later b bs left h =
     one-more n m h = omega (arith, h)
 
 last-byte : (b : ℕ) (bs : List ℕ) (c : Came) → LastOf bs c → LastOf (b ∷ bs) c
-last-byte b bs (ended l left) h = last-later b bs left h
+last-byte b bs (lineEnds l left) h = last-later b bs left h
 last-byte b bs (going l) h = tt
 
 last-by : (most : ℕ) (bs l : List ℕ) (b : ℕ) (t : Bool) → eqb b 10 ≡ t
@@ -93,7 +93,7 @@ unfolding takeLine
 last-bytes most [] l = tt
 last-bytes most (b ∷ bs) l = last-by most bs l b (eqb b 10) refl (last-bytes most bs)
 
-pub left-is-last : (most : ℕ) (bs l m left : List ℕ) → takeLine most l bs ≡ ended m left → Last bs left
+pub left-is-last : (most : ℕ) (bs l m left : List ℕ) → takeLine most l bs ≡ lineEnds m left → Last bs left
 left-is-last most bs l m left e = subst (LastOf bs) e (last-bytes most bs l)
 
 -- further parts, where there was no line yet
@@ -101,22 +101,22 @@ pub goes-further : (most : ℕ) (ps qs : List (List ℕ)) (c : Came) (l : List �
     → goesOn most (ps ++ qs) c ≡ goesOn most qs (going l)
 unfolding goesOn
 goes-further most [] qs c l e = ap (λ (r : Reached). goesOn most qs (r .came)) e
-goes-further most (p ∷ ps) qs (ended m bs) l e = absurd (no-line (ap (λ (r : Reached). r .came) e))
+goes-further most (p ∷ ps) qs (lineEnds m bs) l e = absurd (no-line (ap (λ (r : Reached). r .came) e))
   where
-    no-line : ended m bs ≡ going l → ⊥
+    no-line : lineEnds m bs ≡ going l → ⊥
     no-line e = let z : _≡_ {A = ℕ} 0 1 = cc e in omega arith
 goes-further most (p ∷ ps) qs (going m) l e = goes-further most ps qs (takeLine most m p) l e
 
 -- Parts that are not looked at are the next call's.
-pub later-parts : (most : ℕ) (ps qs : List (List ℕ)) (c : Came) (l left : List ℕ) → goesOn most ps c ≡ reached (ended l left) []
-    → goesOn most (ps ++ qs) c ≡ reached (ended l left) qs
+pub later-parts : (most : ℕ) (ps qs : List (List ℕ)) (c : Came) (l left : List ℕ) → goesOn most ps c ≡ reached (lineEnds l left) []
+    → goesOn most (ps ++ qs) c ≡ reached (lineEnds l left) qs
 unfolding goesOn
 later-parts most [] qs c l left e = ap (λ (r : Reached). goesOn most qs (r .came)) e ∙ ended-stays qs
   where
-    ended-stays : (rs : List (List ℕ)) → goesOn most rs (ended l left) ≡ reached (ended l left) rs
+    ended-stays : (rs : List (List ℕ)) → goesOn most rs (lineEnds l left) ≡ reached (lineEnds l left) rs
     ended-stays [] = refl
     ended-stays (r ∷ rs) = refl
-later-parts most (p ∷ ps) qs (ended m bs) l left e = absurd (some-parts (ap (λ (r : Reached). length (r .parts)) e))
+later-parts most (p ∷ ps) qs (lineEnds m bs) l left e = absurd (some-parts (ap (λ (r : Reached). length (r .parts)) e))
   where
     some-parts : length (p ∷ ps) ≡ 0 → ⊥
     some-parts e = omega (arith, e)

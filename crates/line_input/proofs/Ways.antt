@@ -16,9 +16,9 @@ use Rattle.held_line.proofs.Held.{Holding, byte-held}
 use Rattle.line_input.specs.declared.Input.{Input}
 use Rattle.line_input.specs.declared.LineFound.{LineFound}
 use Rattle.line_input.specs.declared.LineFound.the-variants.{Nothing, Line, End, Failed}
-use Rattle.line_input.specs.Taking.{Came, ended, going, takeLine, Reached, reached, goesOn, someLine, noLine, nextBy, nextOf}
+use Rattle.line_input.specs.Taking.{Came, lineEnds, going, takeLine, Reached, reached, goesOn, someLine, noLine, followingBy, followingOf}
 use Rattle.line_input.specs.Answers.{unread, SaysLine, mostReads, NextLine}
-use Rattle.line_input.specs.Inner.Answers.{heldOf, inputOf, Takes, endOf, Got, failed, nothing, bytes, AfterRead, ReadSome}
+use Rattle.line_input.specs.Inner.Answers.{heldOf, inputOf, Takes, endOf, Got, failed, atItsEnd, bytes, AfterRead, ReadSome}
 use Rattle.line_input.proofs.Taking.{taken-lf, taken-byte, taken-none, grows, left-is-last, goes-further}
 
 abbrev input : ℕ → ℕ → ℕ → LineFound → Input
@@ -91,7 +91,7 @@ module _ (buffer line : List ℕ) (from end before : ℕ) (left : List ℕ) (at 
     pub line-ends : getD buffer at 0 ≡ 10 → Takes buffer line from end before left (input (at + 1) end count Line)
     unfolding heldOf inputOf
     line-ends b =
-        let e : takeLine (length line) (take before line) (slice from end buffer) ≡ ended (take count left) rest = t .same ∙
+        let e : takeLine (length line) (take before line) (slice from end buffer) ≡ lineEnds (take count left) rest = t .same ∙
         (ap (takeLine (length line) (take count left)) (byte-from buffer at end i j) ∙ taken-lf (length line)
         (take count left) (getD buffer at 0) rest (eq-eqb (getD buffer at 0) 10 b)) in
         record {
@@ -130,15 +130,15 @@ module _ (buffer line : List ℕ) (from end before : ℕ) (left : List ℕ) (r :
   taken = takeLine (length line) (take before line) (slice from end buffer)
 
   says-by : (c : Came) → taken ≡ c → SaysLine (r .found) (reached c []) (take (r .length) left) (unread buffer r)
-  unfolding SaysLine nextBy heldOf inputOf
-  says-by (ended l bs) e =
+  unfolding SaysLine followingBy heldOf inputOf
+  says-by (lineEnds l bs) e =
       let a : r ≡ input (from + (length (slice from end buffer) - length bs)) end (length l) Line = t .answer ∙ ap
       (inputOf from end (length (slice from end buffer))) e in
       let h : l ≡ take (r .length) left = sym (t .held ∙ ap heldOf e) in
       let k : bs ≡ unread buffer r = sym (ap (unread buffer) a ∙
       (sym (drop-drop (length (slice from end buffer) - length bs) from (take end buffer))
       ∙ left-is-last (length line) (slice from end buffer) (take before line) l bs e .is)) in
-      subst (λ f. SaysLine f (reached (ended l bs) []) (take (r .length) left) (unread buffer r))
+      subst (λ f. SaysLine f (reached (lineEnds l bs) []) (take (r .length) left) (unread buffer r))
       (sym (ap (λ (x : Input). x .found) a)) (ap₂ (λ x y. someLine x y []) h k)
   says-by (going l) e =
       let a : r ≡ input (from + length (slice from end buffer)) end (length l) Nothing = t .answer ∙ ap
@@ -154,7 +154,7 @@ module _ (buffer line : List ℕ) (from end before : ℕ) (left : List ℕ) (r :
 
   length-by : (n : ℕ) (c : Came) → inputOf from end n c .length ≡ length (heldOf c)
   unfolding inputOf heldOf
-  length-by n (ended l bs) = refl
+  length-by n (lineEnds l bs) = refl
   length-by n (going l) = refl
 
   held-count : r .length ≡ length (heldOf taken)
@@ -229,17 +229,17 @@ module _ (buffer₀ line₀ : List ℕ) (current₀ : Input) (buffer line : List
       }
 
   -- the end of the input
-  some-held : (n : ℕ) (l : List ℕ) → length l ≡ suc n → nextBy (going l) [] ≡ someLine l [] []
-  unfolding nextBy
+  some-held : (n : ℕ) (l : List ℕ) → length l ≡ suc n → followingBy (going l) [] ≡ someLine l [] []
+  unfolding followingBy
   some-held n [] e = absurd (omega (arith, e))
   some-held n (b ∷ l) e = refl
 
   ends-by : (n : ℕ) → current .length ≡ n → ReadOn buffer₀ line₀ current₀ buffer′ line (endOf n) (turns - 1)
-  unfolding SaysLine endOf nextBy
+  unfolding SaysLine endOf followingBy
   ends-by zero e =
       record {
         parts = g .parts;
-        says = λ c s. (ap nextOf (so-far c s) ∙ ap (λ (n : ℕ). nextBy (going (take n line)) []) e, refl, refl);
+        says = λ c s. (ap followingOf (so-far c s) ∙ ap (λ (n : ℕ). followingBy (going (take n line)) []) e, refl, refl);
         behind = subst (λ (n : ℕ). drop n line ≡ drop n line₀) e (g .behind);
         longer = omega (arith, g .longer, e);
         few = omega arith;
@@ -250,7 +250,7 @@ module _ (buffer₀ line₀ : List ℕ) (current₀ : Input) (buffer line : List
   ends-by (suc n) e =
       record {
         parts = g .parts;
-        says = λ c s. ap nextOf (so-far c s) ∙ (ap (λ (n : ℕ). nextBy (going (take n line)) []) e
+        says = λ c s. ap followingOf (so-far c s) ∙ (ap (λ (n : ℕ). followingBy (going (take n line)) []) e
             ∙ some-held n (take (suc n) line) (length-take-le (suc n) line (omega (arith, g .few, g .line-long, e))));
         behind = subst (λ (n : ℕ). drop n line ≡ drop n line₀) e (g .behind);
         longer = omega (arith, g .longer, e);
@@ -287,7 +287,7 @@ module _ (buffer₀ line₀ : List ℕ) (current₀ : Input) (buffer line : List
     read-by failed a =
         subst (λ l. ReadOn buffer₀ line₀ current₀ buffer′ l r (turns - 1)) (sym (a .1))
         (subst (λ (x : Input). ReadOn buffer₀ line₀ current₀ buffer′ line x (turns - 1)) (sym (a .0)) read-fails)
-    read-by nothing a =
+    read-by atItsEnd a =
         subst (λ l. ReadOn buffer₀ line₀ current₀ buffer′ l r (turns - 1)) (sym (a .1))
         (subst (λ (x : Input). ReadOn buffer₀ line₀ current₀ buffer′ line x (turns - 1)) (sym (a .0)) (ends-by (current .length) refl))
     read-by (bytes n) a = bytes-read n (a .1)

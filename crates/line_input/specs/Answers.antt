@@ -8,8 +8,8 @@ use lib.Seq.{slice}
 use Rattle.line_input.specs.declared.Input.{Input}
 use Rattle.line_input.specs.declared.LineFound.{LineFound}
 use Rattle.line_input.specs.declared.LineFound.the-variants.{Nothing, Line, End, Failed}
-use Rattle.line_input.specs.Taking.{Came, ended, going, takeLine, Reached, reached, goesOn}
-use Rattle.line_input.specs.Taking.{someLine, noLine, nextOf}
+use Rattle.line_input.specs.Taking.{Came, lineEnds, going, takeLine, Reached, reached, goesOn}
+use Rattle.line_input.specs.Taking.{someLine, noLine, followingOf}
 
 -- the bytes of the buffer that are not taken yet
 abbrev pub unread : List ℕ → Input → List ℕ
@@ -18,8 +18,8 @@ unread buffer i = slice (i .at) (i .end) buffer
 -- What the answer says: a line with the bytes left of the last part; that there is none; or what is held where a read
 -- has failed, or where the turns are used up.
 unfoldable pub SaysLine : LineFound → Reached → (l left : List ℕ) → Type 0
-SaysLine Line g l left = nextOf g ≡ someLine l left []
-SaysLine End g l left = (nextOf g ≡ noLine) × (l ≡ []) × (left ≡ [])
+SaysLine Line g l left = followingOf g ≡ someLine l left []
+SaysLine End g l left = (followingOf g ≡ noLine) × (l ≡ []) × (left ≡ [])
 SaysLine Failed g l left = (g ≡ reached (going l) []) × (left ≡ [])
 SaysLine Nothing g l left = (g ≡ reached (going l) []) × (left ≡ [])
 

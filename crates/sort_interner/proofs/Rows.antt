@@ -8,7 +8,7 @@ use borrow.Author.Tests.{lt-ltb, le-ltb, eq-eqb, ne-eqb}
 use Rattle.resolved_sort.specs.Storage.{partAt, startAt, countAt, entriesOf, Row, wordsAt}
 use Rattle.resolved_sort.specs.Rows.{sameWords, sameRow}
 use Rattle.resolved_sort.specs.declared.Run.{Run}
-use Rattle.sort_interner.specs.Inner.Tests.{runOf, RunAt}
+use Rattle.sort_interner.specs.Inner.Tests.{runWords, RunAt}
 
 abbrev run : ℕ → ℕ → Run
 run s n = record { start = s; count = n }
@@ -29,7 +29,7 @@ module _ (ws : List ℕ) (i k : ℕ) (e : k ≡ (wordsAt ws i) .kind) where
 
 module _ (ws : List ℕ) (i k : ℕ) (e : k ≡ (wordsAt ws i) .kind) where
   pub function-run : k ≡ 11 → (s n : ℕ) → s ≡ getD ws (4 * i + 2) 0 → n ≡ getD ws (4 * i + 3) 0 → RunAt ws i (record { start = s; count = n })
-  unfolding runOf
+  unfolding runWords
   function-run h s n es en =
       record {
         is = ap₂ (λ (a : ℕ) (b : ℕ). run a b) es en ∙ ap (λ t. cond t (run (startAt ws i) (countAt ws i)) (run 0 0)) (sym (rw e at (eq-eqb k 11 h)));
@@ -37,7 +37,7 @@ module _ (ws : List ℕ) (i k : ℕ) (e : k ≡ (wordsAt ws i) .kind) where
       }
 
   pub empty-run : (k ≡ 11 → ⊥) → RunAt ws i (record { start = 0; count = 0 })
-  unfolding runOf
+  unfolding runWords
   empty-run h =
       record {
         is = ap (λ t. cond t (run (startAt ws i) (countAt ws i)) (run 0 0)) (sym (rw e at (ne-eqb k 11 h)));

@@ -2,7 +2,7 @@
 use mathlib.Core.Path.{_≡_, refl, _∙_}
 use native.Mathlib.Omega.{arith}
 use borrow.Author.Needs.{needs}
-use Rattle.line_input.specs.Inner.Answers.{failed, nothing, bytes, AfterRead}
+use Rattle.line_input.specs.Inner.Answers.{failed, atItsEnd, bytes, AfterRead}
 use Rattle.line_input.proofs.read_some.Statement.{statement}
 use Rattle.line_input.proofs.read_some.Tie as tie
 
@@ -24,7 +24,7 @@ same-length-2 c = search needs
 
 returns-2 : tie.Need-returns-2
 unfolding AfterRead
-returns-2 c = record { got = nothing; after = (c .at-end .ensures, refl) }
+returns-2 c = record { got = atItsEnd; after = (c .at-end .ensures, refl) }
 
 count-requires : tie.Need-count-requires
 count-requires c κs = search needs

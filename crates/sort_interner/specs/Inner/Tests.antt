@@ -20,11 +20,11 @@ unfoldable pub isRow : List ℕ → Row → ℕ → Bool
 isRow ws r i = sameRow (wordsAt ws i) r
 
 -- only a function has a run: of every other kind it is empty, whatever the words there are
-unfoldable pub runOf : List ℕ → ℕ → Run
-runOf ws i =
+unfoldable pub runWords : List ℕ → ℕ → Run
+runWords ws i =
     cond (eqb (kindAt ws i) functionKind) (record { start = startAt ws i; count = countAt ws i })
     (record { start = 0; count = 0 })
 
 pub record RunAt (ws : List ℕ) (i : ℕ) (r : Run) : Type 0 where
-  pub is : r ≡ runOf ws i
+  pub is : r ≡ runWords ws i
   pub entries : entriesOf ws (r .start) (r .count) ≡ wordsAt ws i .args
