@@ -20,8 +20,28 @@ related-head-spec =
     (λ c. search needs)
     (λ c. search needs)
     (λ c. search needs)
-    (λ c. law.node-container-related (c .before .before .before .before .before .before .before .before .before .before .before .before .before .before .before .args .sorts .now) (c .before .before .before .before .before .before .before .before .before .before .before .before .before .before .before .args .nodes .now) (c .before .before .before .before .before .before .before .before .before .before .before .before .before .before .before .args .lengths) (c .before .before .before .before .before .before .before .before .before .before .before .before .before .before .before .pre .0) (c .before .before .before .before .before .before .before .before .before .before .before .before .before .before .before .args .up) (c .before .before .before .before .before .before .before .before .before .before .before .before .before .before .before .args .id .0) (c .before .before .before .before .before .before .before .before .before .before .before .before .before .before .before .pre .1) (c .before .before .before .before .before .before .before .before .before .before .before .if1 .left) _ (c .before .before .before .before .before .before .before .before .node .ensures) _ _ (c .before .before .before .before .before .before .op .given .1) _ _ (c .before .before .push-generic .ensures))
+    (λ c.
+    let at-push-generic = c .before .before in
+    let at-op = at-push-generic .before .before .before .before in
+    let at-node = at-op .before .before in
+    let at-if1 = at-node .before .before .before in
+    let start = at-if1 .before .before .before .before in
+    let args = start .args in
+    law.node-container-related (args .sorts .now) (args .nodes .now) (args .lengths) (start .pre .0) (args .up) (args .id .0) (start .pre .1)
+    (at-if1 .if1 .left) _ (at-node .node .ensures) _ _ (at-op .op .given .1) _ _ (at-push-generic .push-generic .ensures))
     (λ c. search needs)
-    (λ c. law.function-node-passed (c .before .before .before .before .before .before .before .before .before .args .sorts .now) (c .before .before .before .before .before .before .before .before .before .args .nodes .now) (c .before .before .before .before .before .before .before .before .before .args .lengths) (c .before .before .before .before .before .before .before .before .before .pre .0) (c .before .before .before .before .before .before .before .before .before .args .up) (c .before .before .before .before .before .before .before .before .before .args .id .0) (c .before .before .before .before .before .before .before .before .before .pre .1) (c .before .before .before .before .before .if1 .left) _ (c .before .before .node .ensures) _ _ (c .enum-told .given .1))
+    (λ c.
+    let at-node = c .before .before in
+    let at-if1 = at-node .before .before .before in
+    let start = at-if1 .before .before .before .before in
+    let args = start .args in
+    law.function-node-passed (args .sorts .now) (args .nodes .now) (args .lengths) (start .pre .0) (args .up) (args .id .0) (start .pre .1)
+    (at-if1 .if1 .left) _ (at-node .node .ensures) _ _ (c .enum-told .given .1))
     (λ c. search needs)
-    (λ c. law.variable-has-no-list (c .before .before .before .before .before .before .before .before .before .args .sorts .now) (c .before .before .before .before .before .before .before .before .before .args .nodes .now) (c .before .before .before .before .before .before .before .before .before .args .lengths) (c .before .before .before .before .before .before .before .before .before .pre .0) (c .before .before .before .before .before .before .before .before .before .args .up) (c .before .before .before .before .before .before .before .before .before .args .id .0) (c .before .before .before .before .before .before .before .before .before .pre .1) (c .before .before .before .before .before .if1 .left) _ (c .before .before .node .ensures) _ (c .enum-told2 .given .1)))
+    (λ c.
+    let at-node = c .before .before in
+    let at-if1 = at-node .before .before .before in
+    let start = at-if1 .before .before .before .before in
+    let args = start .args in
+    law.variable-has-no-list (args .sorts .now) (args .nodes .now) (args .lengths) (start .pre .0) (args .up) (args .id .0) (start .pre .1)
+    (at-if1 .if1 .left) _ (at-node .node .ensures) _ (c .enum-told2 .given .1)))
