@@ -25,7 +25,12 @@ struct Size {
     nested: usize,
     /// Sorts, each over the one before, that are compared with each other.
     sorts: usize,
+    /// Function nodes without arguments, each with the one before as its range and the innermost over Pos, as the left
+    /// side of a widening into Real: their wider sorts are looked for.
+    ranges: usize,
 }
+
+const NONE: Size = Size { comprehensions: 0, subs: 0, sources: 0, nested: 0, sorts: 0, ranges: 0 };
 
 fn problem(size: Size, functions: bool) -> Problem {
     let mut problem = Problem::new();
@@ -57,50 +62,70 @@ fn problem(size: Size, functions: bool) -> Problem {
         let (_, join) = problem.fresh_var();
         problem.join(&[pos.into(), nat.into()], join);
     }
+    if size.ranges > 0 {
+        let mut place = Place::Sort(SortId::POS);
+        for _ in 0..size.ranges {
+            place = problem.add_node(Node::Function { domain: &[], range: place }).into();
+        }
+        problem.sub(place, SortId::REAL);
+    }
     problem
 }
 
-/// Solves each by a thread that has so much stack.
-fn solve_all(problems: Vec<(Size, Problem)>, stack: usize) {
+/// Solves each by a thread that has so much stack, of which the workspace may use `spare`.
+fn solve_all(problems: Vec<(Size, Problem)>, stack: usize, spare: usize) {
     let solve = move || {
         let mut workspace = Workspace::new();
+        workspace.set_stack(spare);
         for (size, problem) in problems {
             let code = workspace.solve(&problem).map_or_else(Refusal::code, |_| 0);
-            assert!(matches!(code, 0 | 15 | 17), "{code} for {size:?}");
+            assert!(matches!(code, 0 | 15 | 16 | 17), "{code} for {size:?}");
         }
     };
     thread::Builder::new().stack_size(stack).spawn(solve).expect("a thread can be had").join().expect("all are solved");
 }
 
-/// At the ceilings, in a thread of the default size.
-#[test]
-fn ceilings() {
+/// The shapes at the ceilings.
+fn at_ceilings() -> Vec<(Size, Problem)> {
     let sizes = [
-        Size { comprehensions: 255, subs: 0, sources: 256, nested: 2_047, sorts: 0 },
-        Size { comprehensions: 0, subs: 256, sources: 0, nested: 2_047, sorts: 0 },
-        Size { comprehensions: 0, subs: 0, sources: 256, nested: 2_047, sorts: 0 },
-        Size { comprehensions: 255, subs: 0, sources: 0, nested: 0, sorts: 1_016 },
-        Size { comprehensions: 250, subs: 0, sources: 250, nested: 1_000, sorts: 1_016 },
+        Size { comprehensions: 255, sources: 256, nested: 2_047, ..NONE },
+        Size { subs: 256, nested: 2_047, ..NONE },
+        Size { sources: 256, nested: 2_047, ..NONE },
+        Size { comprehensions: 255, sorts: 1_016, ..NONE },
+        Size { comprehensions: 250, sources: 250, nested: 1_000, sorts: 1_016, ..NONE },
+        Size { comprehensions: 254, sources: 255, ranges: 2_047, ..NONE },
     ];
     let both = |size: Size| [false, true].map(|functions| (size, problem(size, functions)));
-    solve_all(sizes.into_iter().flat_map(both).collect(), 2 << 20);
+    sizes.into_iter().flat_map(both).collect()
+}
+
+/// At the ceilings, in a thread of the default size: they run elsewhere.
+#[test]
+fn ceilings() {
+    solve_all(at_ceilings(), 2 << 20, 1 << 20);
+}
+
+/// At the ceilings, on a stack that has no more than the documents say that a search takes: 2.4 MB, and the workspace.
+#[test]
+fn no_more_than_measured() {
+    solve_all(at_ceilings(), 2_400 << 10, 64 << 20);
 }
 
 /// Of all sizes, in a thread that has 1 MB and a little: the larger ones run elsewhere, the others take no more.
 #[test]
 fn on_the_stack_of_the_caller() {
-    let none = Size { comprehensions: 0, subs: 0, sources: 0, nested: 0, sorts: 0 };
     let mut problems = Vec::new();
     for (levels, nesting) in (0..=16).flat_map(|levels| (0..=8).map(move |nesting| (15 * levels, 255 * nesting))) {
         let sizes = [
-            Size { comprehensions: levels, nested: nesting, ..none },
-            Size { subs: levels, nested: nesting, ..none },
-            Size { sources: levels, nested: nesting, ..none },
-            Size { comprehensions: levels, sources: levels, nested: nesting, ..none },
-            Size { comprehensions: levels, sorts: nesting * 2 / 5, ..none },
+            Size { comprehensions: levels, nested: nesting, ..NONE },
+            Size { subs: levels, nested: nesting, ..NONE },
+            Size { sources: levels, nested: nesting, ..NONE },
+            Size { comprehensions: levels, sources: levels, nested: nesting, ..NONE },
+            Size { comprehensions: levels, sorts: nesting * 2 / 5, ..NONE },
+            Size { comprehensions: levels, sources: levels, ranges: nesting, ..NONE },
         ];
         let both = |size: Size| [false, true].map(|functions| (size, problem(size, functions)));
         problems.extend(sizes.into_iter().flat_map(both));
     }
-    solve_all(problems, (1 << 20) + (64 << 10));
+    solve_all(problems, (1 << 20) + (64 << 10), 1 << 20);
 }

@@ -53,17 +53,63 @@ part M t =
       with-first-reads.Learnt,
     ) (push-functions-at t) push-functions.Post
     (λ c κs. tt)
-    (λ c. law.none-over (c .before .before .before .before .before .args .sorts .now) (take (c .before .before .before .before .before .args .count) (c .before .before .before .before .before .args .domain)) (c .before .before .before .before .before .args .ranges) (c .before .before .before .before .before .pre .1 .1) (c .before .before .before .before .before .args .nodes .now) (c .before .before .before .before .before .args .lengths) (c .before .if1 .taken) _ (c .none .ensures))
-    (λ c κs. c .before .before .before .before .before .before .pre .1 .0)
+    (λ c.
+    let at-if1 = c .before in
+    let start = at-if1 .before .before .before .before in
+    let args = start .args in
+    law.none-over (args .sorts .now) (take (args .count) (args .domain)) (args .ranges) (start .pre .1 .1) (args .nodes .now) (args .lengths)
+    (at-if1 .if1 .taken) _ (c .none .ensures))
+    (λ c κs.
+    let start = c .before .before .before .before .before .before in
+    start .pre .1 .0)
     (λ c. search needs)
-    (λ c κs. omega (arith, c .before .before .before .before .before .before .before .before .before .if1 .left))
-    (λ c κs. let e = ap (λ (t : Three). t .count) (c .without-first .ensures) in (omega (arith, c .before .before .before .before .before .before .before .before .before .before .before .before .before .before .pre .0, c .before .before .before .before .before .before .before .before .before .before .if1 .left, e), (c .before .before .before .before .before .before .before .before .before .before .before .before .before .before .pre .1 .0, omega (arith, e, c .before .before .before .before .before .before .before .before .before .before .before .before .before .before .pre .1 .1))))
-    (λ c κs. law.rest-few (c .before .before .before .before .before .before .before .before .before .before .before .before .before .before .before .before .before .args .sorts .now) (take (c .before .before .before .before .before .before .before .before .before .before .before .before .before .before .before .before .before .args .count) (c .before .before .before .before .before .before .before .before .before .before .before .before .before .before .before .before .before .args .domain)) (c .before .before .before .before .before .before .before .before .before .before .before .before .before .before .before .before .before .args .ranges) (c .before .before .before .before .before .before .before .before .before .before .before .before .before .before .before .before .before .pre .1 .1) (c .before .before .before .before .before .before .before .before .before .before .before .before .before .before .before .before .before .args .nodes .now) (c .before .before .before .before .before .before .before .before .before .before .before .before .before .before .before .before .before .args .lengths) (c .before .before .before .before .before .before .before .before .before .before .before .before .before .if1 .left) _ (c .before .before .before .before .before .before .before .before .before .before .push .result) (c .before .before .before .before .before .before .before .before .before .before .push .ensures) _ _ _ (c .before .before .before .without-first .ensures) _ (c .before .before .push-functions .ensures))
+    (λ c κs.
+    let at-if1 = c .before .before .before .before .before .before .before .before .before in
+    omega (arith, at-if1 .if1 .left))
+    (λ c κs.
+    let at-if1 = c .before .before .before .before .before .before .before .before .before .before in
+    let start = at-if1 .before .before .before .before in
+    let e = ap (λ (t : Three). t .count) (c .without-first .ensures) in (
+      omega (arith, start .pre .0, at-if1 .if1 .left, e),
+      (
+        start .pre .1 .0,
+        omega (arith, e, start .pre .1 .1),
+      ),
+    ))
+    (λ c κs.
+    let at-push-functions = c .before .before in
+    let at-without-first = at-push-functions .before in
+    let at-push = at-without-first .before .before .before .before .before .before .before in
+    let at-if1 = at-push .before .before .before in
+    let start = at-if1 .before .before .before .before in
+    let args = start .args in
+    law.rest-few (args .sorts .now) (take (args .count) (args .domain)) (args .ranges) (start .pre .1 .1) (args .nodes .now) (args .lengths)
+    (at-if1 .if1 .left) _ (at-push .push .result) (at-push .push .ensures) _ _ _ (at-without-first .without-first .ensures) _ (at-push-functions
+    .push-functions .ensures))
     (λ c. search needs)
-    (λ c. c .before .before .before .push-functions .kept .1 .0 ∙ c .before .before .before .before .before .before .before .before .before .before .before .push .kept .1 .0)
-    (λ c. law.push-goes-on (c .before .before .before .before .before .before .before .before .before .before .before .before .before .before .before .before .before .before .args .sorts .now) (take (c .before .before .before .before .before .before .before .before .before .before .before .before .before .before .before .before .before .before .args .count) (c .before .before .before .before .before .before .before .before .before .before .before .before .before .before .before .before .before .before .args .domain)) (c .before .before .before .before .before .before .before .before .before .before .before .before .before .before .before .before .before .before .args .ranges) (c .before .before .before .before .before .before .before .before .before .before .before .before .before .before .before .before .before .before .pre .1 .1) (c .before .before .before .before .before .before .before .before .before .before .before .before .before .before .before .before .before .before .args .nodes .now) (c .before .before .before .before .before .before .before .before .before .before .before .before .before .before .before .before .before .before .args .lengths) (c .before .before .before .before .before .before .before .before .before .before .before .before .before .before .if1 .left) _ (c .before .before .before .before .before .before .before .before .before .before .before .push .result) (c .before .before .before .before .before .before .before .before .before .before .before .push .ensures) _ _ _ _ (c .before .before .before .before .before .before .before .place .given .1) _ (c .before .before .before .before .without-first .ensures) (c .before .before .before .push-functions .ensures) _ (c .with-first .ensures))
+    (λ c.
+    let at-push-functions = c .before .before .before in
+    let at-push = at-push-functions .before .before .before .before .before .before .before .before in
+    at-push-functions .push-functions .kept .1 .0 ∙ at-push .push .kept .1 .0)
+    (λ c.
+    let at-push-functions = c .before .before .before in
+    let at-without-first = at-push-functions .before in
+    let at-place = at-without-first .before .before .before in
+    let at-push = at-place .before .before .before .before in
+    let at-if1 = at-push .before .before .before in
+    let start = at-if1 .before .before .before .before in
+    let args = start .args in
+    law.push-goes-on (args .sorts .now) (take (args .count) (args .domain)) (args .ranges) (start .pre .1 .1) (args .nodes .now) (args .lengths)
+    (at-if1 .if1 .left) _ (at-push .push .result) (at-push .push .ensures) _ _ _ _ (at-place .place .given .1) _ (at-without-first
+    .without-first .ensures) (at-push-functions .push-functions .ensures) _ (c .with-first .ensures))
     (λ c. search needs)
-    (λ c. law.push-ends (c .before .before .before .before .before .before .before .before .before .before .before .args .sorts .now) (take (c .before .before .before .before .before .before .before .before .before .before .before .args .count) (c .before .before .before .before .before .before .before .before .before .before .before .args .domain)) (c .before .before .before .before .before .before .before .before .before .before .before .args .ranges) (c .before .before .before .before .before .before .before .before .before .before .before .pre .1 .1) (c .before .before .before .before .before .before .before .before .before .before .before .args .nodes .now) (c .before .before .before .before .before .before .before .before .before .before .before .args .lengths) (c .before .before .before .before .before .before .before .if1 .left) _ (c .before .before .before .before .push .result) (c .before .before .before .before .push .ensures) (c .enum-told .given .1))
+    (λ c.
+    let at-push = c .before .before .before .before in
+    let at-if1 = at-push .before .before .before in
+    let start = at-if1 .before .before .before .before in
+    let args = start .args in
+    law.push-ends (args .sorts .now) (take (args .count) (args .domain)) (args .ranges) (start .pre .1 .1) (args .nodes .now) (args .lengths)
+    (at-if1 .if1 .left) _ (at-push .push .result) (at-push .push .ensures) (c .enum-told .given .1))
 
 pub +push-functions-spec : {M : Type 1} → statement M
 +push-functions-spec {M} = close μ-push-functions (part M)

@@ -23,18 +23,124 @@ final-range-spec =
     (tie.spec
     Inv-loop
     μ-loop
-    (λ c κs. (c .before .before .before .before .pre .0 .nodes, c .before .before .before .before .pre .1))
-    (λ c. (law.begun (c .before .before .before .before .before .args .sorts .now) (c .before .before .before .before .before .args .nodes .now) (c .before .before .before .before .before .args .binds .now) (c .before .before .before .before .before .args .lengths) (c .before .before .before .before .before .pre .0) (c .before .before .before .before .before .args .id .0) (c .before .before .before .before .before .pre .1) _ _ (c .kind-at .ensures), refl))
+    (λ c κs.
+    let start = c .before .before .before .before in
+    (start .pre .0 .nodes, start .pre .1))
+    (λ c.
+    let start = c .before .before .before .before .before in
+    let args = start .args in (
+      law.begun (args .sorts .now) (args .nodes .now) (args .binds .now) (args .lengths) (start .pre .0) (args .id .0) (start .pre .1) _ _ (c
+          .kind-at .ensures),
+      refl,
+    ))
     (λ c. omega arith)
-    (λ c. omega (arith, law.room (c .before .before .before .before .before .before .before .args .sorts .now) (c .before .before .before .before .before .before .before .args .nodes .now) (c .before .before .before .before .before .before .before .args .binds .now) (c .before .before .before .before .before .before .before .args .lengths) (c .before .before .before .before .before .before .before .pre .0) (c .before .before .before .before .before .before .before .args .id .0) (c .before .before .before .before .before .before .before .pre .1) (c .before .loop .functions) (c .before .loop .end) (c .before .loop .count) (c .before .loop .kind) (c .before .loop .inv .0) (c .loop-test .taken)))
-    (λ c. omega (arith, law.room (c .before .before .before .before .before .before .before .args .sorts .now) (c .before .before .before .before .before .before .before .args .nodes .now) (c .before .before .before .before .before .before .before .args .binds .now) (c .before .before .before .before .before .before .before .args .lengths) (c .before .before .before .before .before .before .before .pre .0) (c .before .before .before .before .before .before .before .args .id .0) (c .before .before .before .before .before .before .before .pre .1) (c .before .loop .functions) (c .before .loop .end) (c .before .loop .count) (c .before .loop .kind) (c .before .loop .inv .0) (c .loop-test .taken), c .before .loop .inv .1, c .before .before .before .before .before .before .before .pre .2))
-    (λ c. omega (arith, law.room (c .before .before .before .before .before .before .before .args .sorts .now) (c .before .before .before .before .before .before .before .args .nodes .now) (c .before .before .before .before .before .before .before .args .binds .now) (c .before .before .before .before .before .before .before .args .lengths) (c .before .before .before .before .before .before .before .pre .0) (c .before .before .before .before .before .before .before .args .id .0) (c .before .before .before .before .before .before .before .pre .1) (c .before .loop .functions) (c .before .loop .end) (c .before .loop .count) (c .before .loop .kind) (c .before .loop .inv .0) (c .loop-test .taken)))
-    (λ c κs. (c .before .before .before .before .before .before .before .pre .0 .nodes, c .before .loop .inv .0 .placed))
-    (λ c. law.has-range (c .before .before .before .before .before .before .before .before .args .sorts .now) (c .before .before .before .before .before .before .before .before .args .nodes .now) (c .before .before .before .before .before .before .before .before .args .binds .now) (c .before .before .before .before .before .before .before .before .args .lengths) (c .before .before .before .before .before .before .before .before .pre .0) (c .before .before .before .before .before .before .before .before .args .id .0) (c .before .before .before .before .before .before .before .before .pre .1) (c .before .before .loop .functions) (c .before .before .loop .end) (c .before .before .loop .count) (c .before .before .loop .kind) (c .before .before .loop .inv .0) (c .before .loop-test .taken) _ (c .part-count .ensures))
-    (λ c κs. law.range-asked (c .before .before .before .before .before .before .before .before .args .sorts .now) (c .before .before .before .before .before .before .before .before .args .nodes .now) (c .before .before .before .before .before .before .before .before .args .binds .now) (c .before .before .before .before .before .before .before .before .args .lengths) (c .before .before .before .before .before .before .before .before .pre .0) (c .before .before .before .before .before .before .before .before .args .id .0) (c .before .before .before .before .before .before .before .before .pre .1) (c .before .before .loop .functions) (c .before .before .loop .end) (c .before .before .loop .count) (c .before .before .loop .kind) (c .before .before .loop .inv .0) (c .before .loop-test .taken) _ (c .part-count .ensures))
-    (λ c κs. (c .before .before .before .before .before .before .before .before .before .pre .0, law.range-there (c .before .before .before .before .before .before .before .before .before .args .sorts .now) (c .before .before .before .before .before .before .before .before .before .args .nodes .now) (c .before .before .before .before .before .before .before .before .before .args .binds .now) (c .before .before .before .before .before .before .before .before .before .args .lengths) (c .before .before .before .before .before .before .before .before .before .pre .0) (c .before .before .before .before .before .before .before .before .before .args .id .0) (c .before .before .before .before .before .before .before .before .before .pre .1) (c .before .before .before .loop .functions) (c .before .before .before .loop .end) (c .before .before .before .loop .count) (c .before .before .before .loop .kind) (c .before .before .before .loop .inv .0) (c .before .before .loop-test .taken) _ (c .before .part-count .ensures) _ (c .part .ensures)))
-    (λ c κs. (c .before .before .before .before .before .before .before .before .before .before .pre .0 .nodes, law.next-placed (c .before .before .before .before .before .before .before .before .before .before .args .sorts .now) (c .before .before .before .before .before .before .before .before .before .before .args .nodes .now) (c .before .before .before .before .before .before .before .before .before .before .args .binds .now) (c .before .before .before .before .before .before .before .before .before .before .args .lengths) (c .before .before .before .before .before .before .before .before .before .before .pre .0) (c .before .before .before .before .before .before .before .before .before .before .args .id .0) (c .before .before .before .before .before .before .before .before .before .before .pre .1) (c .before .before .before .before .loop .functions) (c .before .before .before .before .loop .end) (c .before .before .before .before .loop .count) (c .before .before .before .before .loop .kind) (c .before .before .before .before .loop .inv .0) (c .before .before .before .loop-test .taken) _ (c .before .before .part-count .ensures) _ (c .before .part .ensures) _ (c .shallow-normalize .ensures)))
-    (λ c. law.next-lower (c .before .before .before .before .before .before .before .before .before .before .before .args .sorts .now) (c .before .before .before .before .before .before .before .before .before .before .before .args .nodes .now) (c .before .before .before .before .before .before .before .before .before .before .before .args .binds .now) (c .before .before .before .before .before .before .before .before .before .before .before .args .lengths) (c .before .before .before .before .before .before .before .before .before .before .before .pre .0) (c .before .before .before .before .before .before .before .before .before .before .before .args .id .0) (c .before .before .before .before .before .before .before .before .before .before .before .pre .1) (c .before .before .before .before .before .loop .functions) (c .before .before .before .before .before .loop .end) (c .before .before .before .before .before .loop .count) (c .before .before .before .before .before .loop .kind) (c .before .before .before .before .before .loop .inv .0) (c .before .before .before .before .loop-test .taken) _ (c .before .before .before .part-count .ensures) _ (c .before .before .part .ensures) _ (c .before .shallow-normalize .ensures))
-    (λ c. (law.one-further (c .before .before .before .before .before .before .before .before .before .before .before .args .sorts .now) (c .before .before .before .before .before .before .before .before .before .before .before .args .nodes .now) (c .before .before .before .before .before .before .before .before .before .before .before .args .binds .now) (c .before .before .before .before .before .before .before .before .before .before .before .args .lengths) (c .before .before .before .before .before .before .before .before .before .before .before .pre .0) (c .before .before .before .before .before .before .before .before .before .before .before .args .id .0) (c .before .before .before .before .before .before .before .before .before .before .before .pre .1) (c .before .before .before .before .before .loop .functions) (c .before .before .before .before .before .loop .end) (c .before .before .before .before .before .loop .count) (c .before .before .before .before .before .loop .kind) (c .before .before .before .before .before .loop .inv .0) (c .before .before .before .before .loop-test .taken) _ (c .before .before .before .part-count .ensures) _ (c .before .before .part .ensures) _ (c .before .shallow-normalize .ensures) (omega (arith, c .before .before .before .before .before .loop .inv .1, c .before .before .before .before .before .before .before .before .before .before .before .pre .2)) _ (c .kind-at2 .ensures), length-set (c .before .before .before .before .before .loop .functions) (c .before .before .before .before .before .loop .count) _ ∙ c .before .before .before .before .before .loop .inv .1))
-    (λ c. c .before .loop .inv .1)
-    (λ c. law.final (c .before .before .before .before .before .before .before .args .sorts .now) (c .before .before .before .before .before .before .before .args .nodes .now) (c .before .before .before .before .before .before .before .args .binds .now) (c .before .before .before .before .before .before .before .args .lengths) (c .before .before .before .before .before .before .before .pre .0) (c .before .before .before .before .before .before .before .args .id .0) (c .before .before .before .before .before .before .before .pre .1) (c .before .loop .functions) (c .before .loop .end) (c .before .loop .count) (c .before .loop .kind) (c .before .loop .inv .0) (c .loop-test .left)))
+    (λ c.
+    let at-loop = c .before in
+    let start = at-loop .before .before .before .before .before .before in
+    let args = start .args in
+    omega (
+      arith,
+      law.room (args .sorts .now) (args .nodes .now) (args .binds .now) (args .lengths) (start .pre .0) (args .id .0) (start .pre
+          .1) (at-loop .loop .functions) (at-loop .loop .end) (at-loop .loop .count) (at-loop .loop .kind) (at-loop .loop .inv .0) (c .loop-test
+          .taken),
+    ))
+    (λ c.
+    let at-loop = c .before in
+    let start = at-loop .before .before .before .before .before .before in
+    let args = start .args in
+    omega (
+      arith,
+      law.room (args .sorts .now) (args .nodes .now) (args .binds .now) (args .lengths) (start .pre .0) (args .id .0) (start .pre
+          .1) (at-loop .loop .functions) (at-loop .loop .end) (at-loop .loop .count) (at-loop .loop .kind) (at-loop .loop .inv .0) (c .loop-test
+          .taken),
+      at-loop .loop .inv .1,
+      start .pre .2,
+    ))
+    (λ c.
+    let at-loop = c .before in
+    let start = at-loop .before .before .before .before .before .before in
+    let args = start .args in
+    omega (
+      arith,
+      law.room (args .sorts .now) (args .nodes .now) (args .binds .now) (args .lengths) (start .pre .0) (args .id .0) (start .pre
+          .1) (at-loop .loop .functions) (at-loop .loop .end) (at-loop .loop .count) (at-loop .loop .kind) (at-loop .loop .inv .0) (c .loop-test
+          .taken),
+    ))
+    (λ c κs.
+    let at-loop = c .before in
+    let start = at-loop .before .before .before .before .before .before in
+    (start .pre .0 .nodes, at-loop .loop .inv .0 .placed))
+    (λ c.
+    let at-loop-test = c .before in
+    let at-loop = at-loop-test .before in
+    let start = at-loop .before .before .before .before .before .before in
+    let args = start .args in
+    law.has-range (args .sorts .now) (args .nodes .now) (args .binds .now) (args .lengths) (start .pre .0) (args .id .0) (start .pre .1)
+    (at-loop .loop .functions) (at-loop .loop .end) (at-loop .loop .count) (at-loop .loop .kind) (at-loop .loop .inv .0) (at-loop-test
+    .loop-test .taken) _ (c .part-count .ensures))
+    (λ c κs.
+    let at-loop-test = c .before in
+    let at-loop = at-loop-test .before in
+    let start = at-loop .before .before .before .before .before .before in
+    let args = start .args in
+    law.range-asked (args .sorts .now) (args .nodes .now) (args .binds .now) (args .lengths) (start .pre .0) (args .id .0) (start .pre .1)
+    (at-loop .loop .functions) (at-loop .loop .end) (at-loop .loop .count) (at-loop .loop .kind) (at-loop .loop .inv .0) (at-loop-test
+    .loop-test .taken) _ (c .part-count .ensures))
+    (λ c κs.
+    let at-part-count = c .before in
+    let at-loop-test = at-part-count .before in
+    let at-loop = at-loop-test .before in
+    let start = at-loop .before .before .before .before .before .before in
+    let args = start .args in (
+      start .pre .0,
+      law.range-there (args .sorts .now) (args .nodes .now) (args .binds .now) (args .lengths) (start .pre .0) (args .id .0)
+          (start .pre .1) (at-loop .loop .functions) (at-loop .loop .end) (at-loop .loop .count) (at-loop .loop .kind) (at-loop .loop .inv .0)
+          (at-loop-test .loop-test .taken) _ (at-part-count .part-count .ensures) _ (c .part .ensures),
+    ))
+    (λ c κs.
+    let at-part = c .before in
+    let at-part-count = at-part .before in
+    let at-loop-test = at-part-count .before in
+    let at-loop = at-loop-test .before in
+    let start = at-loop .before .before .before .before .before .before in
+    let args = start .args in (
+      start .pre .0 .nodes,
+      law.next-placed (args .sorts .now) (args .nodes .now) (args .binds .now) (args .lengths) (start .pre .0) (args .id
+          .0) (start .pre .1) (at-loop .loop .functions) (at-loop .loop .end) (at-loop .loop .count) (at-loop .loop .kind) (at-loop .loop .inv .0)
+          (at-loop-test .loop-test .taken) _ (at-part-count .part-count .ensures) _ (at-part .part .ensures) _ (c .shallow-normalize .ensures),
+    ))
+    (λ c.
+    let at-shallow-normalize = c .before in
+    let at-part = at-shallow-normalize .before in
+    let at-part-count = at-part .before in
+    let at-loop-test = at-part-count .before in
+    let at-loop = at-loop-test .before in
+    let start = at-loop .before .before .before .before .before .before in
+    let args = start .args in
+    law.next-lower (args .sorts .now) (args .nodes .now) (args .binds .now) (args .lengths) (start .pre .0) (args .id .0) (start .pre .1)
+    (at-loop .loop .functions) (at-loop .loop .end) (at-loop .loop .count) (at-loop .loop .kind) (at-loop .loop .inv .0) (at-loop-test
+    .loop-test .taken) _ (at-part-count .part-count .ensures) _ (at-part .part .ensures) _ (at-shallow-normalize .shallow-normalize .ensures))
+    (λ c.
+    let at-shallow-normalize = c .before in
+    let at-part = at-shallow-normalize .before in
+    let at-part-count = at-part .before in
+    let at-loop-test = at-part-count .before in
+    let at-loop = at-loop-test .before in
+    let start = at-loop .before .before .before .before .before .before in
+    let args = start .args in (
+      law.one-further (args .sorts .now) (args .nodes .now) (args .binds .now) (args .lengths) (start .pre .0) (args .id .0) (start .pre .1)
+          (at-loop .loop .functions) (at-loop .loop .end) (at-loop .loop .count) (at-loop .loop .kind) (at-loop .loop .inv .0) (at-loop-test
+          .loop-test .taken) _ (at-part-count .part-count .ensures) _ (at-part .part .ensures) _ (at-shallow-normalize .shallow-normalize .ensures)
+          (omega (arith, at-loop .loop .inv .1, start .pre .2)) _ (c .kind-at2 .ensures),
+      length-set (at-loop .loop .functions) (at-loop .loop .count)
+          _ ∙ at-loop .loop .inv .1,
+    ))
+    (λ c.
+    let at-loop = c .before in
+    at-loop .loop .inv .1)
+    (λ c.
+    let at-loop = c .before in
+    let start = at-loop .before .before .before .before .before .before in
+    let args = start .args in
+    law.final (args .sorts .now) (args .nodes .now) (args .binds .now) (args .lengths) (start .pre .0) (args .id .0) (start .pre .1) (at-loop
+    .loop .functions) (at-loop .loop .end) (at-loop .loop .count) (at-loop .loop .kind) (at-loop .loop .inv .0) (c .loop-test .left)))

@@ -11,4 +11,8 @@ first-of-spec =
     (λ c κs. search needs)
     (λ c κs. search needs)
     (λ c κs. search needs)
-    (λ c. let a = c .before .before .number-place .ensures in let b = c .before .number-place2 .ensures in let d = c .number-place3 .ensures in cc))
+    (λ c.
+    let at-number-place2 = c .before in
+    let at-number-place = at-number-place2 .before in
+    let a = at-number-place .number-place .ensures in let b = at-number-place2 .number-place2 .ensures in let d = c .number-place3 .ensures in
+    cc))

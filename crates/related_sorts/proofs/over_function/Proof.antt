@@ -10,13 +10,56 @@ over-function-spec =
     tie.close
     (tie.spec
     (λ c. search needs)
-    (λ c κs. law.function-placed (c .before .before .before .before .before .before .args .sorts .now) (c .before .before .before .before .before .before .args .nodes .now) (c .before .before .before .before .before .before .args .found) (c .before .before .before .before .before .before .args .id .0) (c .before .before .before .before .before .before .pre) _ _ (c .before .before .found .given .1))
-    (λ c. law.function-counted (c .before .before .before .before .before .before .before .args .sorts .now) (c .before .before .before .before .before .before .before .args .nodes .now) (c .before .before .before .before .before .before .before .args .found) (c .before .before .before .before .before .before .before .args .id .0) (c .before .before .before .before .before .before .before .pre) _ _ (c .before .before .before .found .given .1) _ (c .part-count .ensures) .0)
-    (λ c κs. law.function-counted (c .before .before .before .before .before .before .before .before .args .sorts .now) (c .before .before .before .before .before .before .before .before .args .nodes .now) (c .before .before .before .before .before .before .before .before .args .found) (c .before .before .before .before .before .before .before .before .args .id .0) (c .before .before .before .before .before .before .before .before .pre) _ _ (c .before .before .before .before .found .given .1) _ (c .before .part-count .ensures) .1)
-    (λ c κs. (law.function-counted (c .before .before .before .before .before .before .before .before .before .before .args .sorts .now) (c .before .before .before .before .before .before .before .before .before .before .args .nodes .now) (c .before .before .before .before .before .before .before .before .before .before .args .found) (c .before .before .before .before .before .before .before .before .before .before .args .id .0) (c .before .before .before .before .before .before .before .before .before .before .pre) _ _ (c .before .before .before .before .before .before .found .given .1) _ (c .before .before .before .part-count .ensures) .1 .few, law.few-ranges (c .before .before .before .before .before .before .before .before .before .before .args .sorts .now) (c .before .before .before .before .before .before .before .before .before .before .args .nodes .now) (c .before .before .before .before .before .before .before .before .before .before .args .found) (c .before .before .before .before .before .before .before .before .before .before .args .id .0) (c .before .before .before .before .before .before .before .before .before .before .pre) _ _ (c .before .before .before .before .before .before .found .given .1)))
+    (λ c κs.
+    let at-found = c .before .before in
+    let start = at-found .before .before .before .before in
+    let args = start .args in
+    law.function-placed (args .sorts .now) (args .nodes .now) (args .found) (args .id .0) (start .pre) _ _ (at-found .found .given .1))
+    (λ c.
+    let at-found = c .before .before .before in
+    let start = at-found .before .before .before .before in
+    let args = start .args in
+    law.function-counted (args .sorts .now) (args .nodes .now) (args .found) (args .id .0) (start .pre) _ _ (at-found .found .given .1) _ (c
+    .part-count .ensures) .0)
+    (λ c κs.
+    let at-part-count = c .before in
+    let at-found = at-part-count .before .before .before in
+    let start = at-found .before .before .before .before in
+    let args = start .args in
+    law.function-counted (args .sorts .now) (args .nodes .now) (args .found) (args .id .0) (start .pre) _ _ (at-found .found .given .1) _
+    (at-part-count .part-count .ensures) .1)
+    (λ c κs.
+    let at-part-count = c .before .before .before in
+    let at-found = at-part-count .before .before .before in
+    let start = at-found .before .before .before .before in
+    let args = start .args in (
+      law.function-counted (args .sorts .now) (args .nodes .now) (args .found) (args .id .0) (start .pre) _ _ (at-found .found .given .1) _
+          (at-part-count .part-count .ensures) .1 .few,
+      law.few-ranges (args .sorts .now) (args .nodes .now) (args .found) (args .id .0) (start .pre)
+          _ _ (at-found .found .given .1),
+    ))
     (λ c. search needs)
     (λ c. search needs)
-    (λ c. c .before .before .push-functions .kept .1 .0)
-    (λ c. law.over-pushed (c .before .before .before .before .before .before .before .before .before .before .before .before .before .args .sorts .now) (c .before .before .before .before .before .before .before .before .before .before .before .before .before .args .nodes .now) (c .before .before .before .before .before .before .before .before .before .before .before .before .before .args .found) (c .before .before .before .before .before .before .before .before .before .before .before .before .before .args .id .0) (c .before .before .before .before .before .before .before .before .before .before .before .before .before .pre) _ _ (c .before .before .before .before .before .before .before .before .before .found .given .1) _ (law.function-counted (c .before .before .before .before .before .before .before .before .before .before .before .before .before .args .sorts .now) (c .before .before .before .before .before .before .before .before .before .before .before .before .before .args .nodes .now) (c .before .before .before .before .before .before .before .before .before .before .before .before .before .args .found) (c .before .before .before .before .before .before .before .before .before .before .before .before .before .args .id .0) (c .before .before .before .before .before .before .before .before .before .before .before .before .before .pre) _ _ (c .before .before .before .before .before .before .before .before .before .found .given .1) _ (c .before .before .before .before .before .before .part-count .ensures) .1) _ (c .before .before .before .before .arguments .ensures) _ _ (c .before .before .push-functions .ensures))
-    (λ c. law.no-list-over (c .before .before .before .before .before .args .sorts .now) (c .before .before .before .before .before .args .nodes .now) (c .before .before .before .before .before .args .found) (c .before .before .before .before .before .args .id .0) (c .before .before .before .before .before .pre) _ (c .before .found2 .given .1))
-    (λ c. law.no-room-over (c .before .before .before .before .before .args .sorts .now) (c .before .before .before .before .before .args .nodes .now) (c .before .before .before .before .before .args .found) (c .before .before .before .before .before .args .id .0) (c .before .before .before .before .before .pre) _ _ (c .before .found3 .given .1)))
+    (λ c.
+    let at-push-functions = c .before .before in
+    at-push-functions .push-functions .kept .1 .0)
+    (λ c.
+    let at-push-functions = c .before .before in
+    let at-arguments = at-push-functions .before .before in
+    let at-part-count = at-arguments .before .before in
+    let at-found = at-part-count .before .before .before in
+    let start = at-found .before .before .before .before in
+    let args = start .args in
+    law.over-pushed (args .sorts .now) (args .nodes .now) (args .found) (args .id .0) (start .pre) _ _ (at-found .found .given .1) _
+    (law.function-counted (args .sorts .now) (args .nodes .now) (args .found) (args .id .0) (start .pre) _ _ (at-found .found .given .1) _
+    (at-part-count .part-count .ensures) .1) _ (at-arguments .arguments .ensures) _ _ (at-push-functions .push-functions .ensures))
+    (λ c.
+    let at-found2 = c .before in
+    let start = at-found2 .before .before .before .before in
+    let args = start .args in
+    law.no-list-over (args .sorts .now) (args .nodes .now) (args .found) (args .id .0) (start .pre) _ (at-found2 .found2 .given .1))
+    (λ c.
+    let at-found3 = c .before in
+    let start = at-found3 .before .before .before .before in
+    let args = start .args in
+    law.no-room-over (args .sorts .now) (args .nodes .now) (args .found) (args .id .0) (start .pre) _ _ (at-found3 .found3 .given .1)))

@@ -19,13 +19,48 @@ over-functions-spec =
     (tie.spec
     Inv-loop
     μ-loop
-    (λ c. (law.rise-begins (c .before .before .before .args .sorts .now) (c .before .before .before .args .functions .now) (c .before .before .before .args .count) (c .before .before .before .args .nodes .now) (c .before .before .before .args .found) (c .before .before .before .pre .0) (c .before .before .before .pre .1), refl))
+    (λ c.
+    let start = c .before .before .before in
+    let args = start .args in (
+      law.rise-begins (args .sorts .now) (args .functions .now) (args .count) (args .nodes .now) (args .found) (start .pre .0) (start .pre .1),
+      refl,
+    ))
     (λ c. omega (arith, c .loop-test .taken))
     (λ c. omega arith)
-    (λ c. omega (arith, c .before .before .loop .inv .0 .within))
-    (λ c. omega (arith, c .before .before .before .loop .inv .0 .within, c .before .before .loop-test .taken, c .before .before .before .before .before .before .before .pre .2))
-    (λ c κs. law.function-asked (c .before .before .before .before .before .before .before .args .sorts .now) (c .before .before .before .before .before .before .before .args .functions .now) (c .before .before .before .before .before .before .before .args .count) (c .before .before .before .before .before .before .before .args .nodes .now) (c .before .before .before .before .before .before .before .args .found) (c .before .before .before .loop .nodes) (c .before .before .before .loop .left) (c .before .before .before .loop .over) (c .before .before .before .loop .inv .0) (c .before .before .loop-test .taken))
-    (λ c. omega (arith, c .before .before .before .before .before .loop-test .taken))
-    (λ c. (law.rise-goes-on (c .before .before .before .before .before .before .before .before .before .before .args .sorts .now) (c .before .before .before .before .before .before .before .before .before .before .args .functions .now) (c .before .before .before .before .before .before .before .before .before .before .args .count) (c .before .before .before .before .before .before .before .before .before .before .args .nodes .now) (c .before .before .before .before .before .before .before .before .before .before .args .found) (c .before .before .before .before .before .before .loop .nodes) (c .before .before .before .before .before .before .loop .left) (c .before .before .before .before .before .before .loop .over) (c .before .before .before .before .before .before .loop .inv .0) (c .before .before .before .before .before .loop-test .taken) _ _ (c .before .before .over-function .ensures), c .before .before .over-function .kept .1 .0 ∙ c .before .before .before .before .before .before .loop .inv .1))
-    (λ c. c .before .loop .inv .1)
-    (λ c. law.risen (c .before .before .before .before .before .args .sorts .now) (c .before .before .before .before .before .args .functions .now) (c .before .before .before .before .before .args .count) (c .before .before .before .before .before .args .nodes .now) (c .before .before .before .before .before .args .found) (c .before .loop .nodes) (c .before .loop .left) (c .before .loop .over) (c .before .loop .inv .0) (c .loop-test .left)))
+    (λ c.
+    let at-loop = c .before .before in
+    omega (arith, at-loop .loop .inv .0 .within))
+    (λ c.
+    let at-loop-test = c .before .before in
+    let at-loop = at-loop-test .before in
+    let start = at-loop .before .before .before .before in
+    omega (arith, at-loop .loop .inv .0 .within, at-loop-test .loop-test .taken, start .pre .2))
+    (λ c κs.
+    let at-loop-test = c .before .before in
+    let at-loop = at-loop-test .before in
+    let start = at-loop .before .before .before .before in
+    let args = start .args in
+    law.function-asked (args .sorts .now) (args .functions .now) (args .count) (args .nodes .now) (args .found) (at-loop .loop .nodes) (at-loop
+    .loop .left) (at-loop .loop .over) (at-loop .loop .inv .0) (at-loop-test .loop-test .taken))
+    (λ c.
+    let at-loop-test = c .before .before .before .before .before in
+    omega (arith, at-loop-test .loop-test .taken))
+    (λ c.
+    let at-over-function = c .before .before in
+    let at-loop-test = at-over-function .before .before .before in
+    let at-loop = at-loop-test .before in
+    let start = at-loop .before .before .before .before in
+    let args = start .args in (
+      law.rise-goes-on (args .sorts .now) (args .functions .now) (args .count) (args .nodes .now) (args .found) (at-loop .loop .nodes) (at-loop
+          .loop .left) (at-loop .loop .over) (at-loop .loop .inv .0) (at-loop-test .loop-test .taken) _ _ (at-over-function .over-function .ensures),
+      at-over-function .over-function .kept .1 .0 ∙ at-loop .loop .inv .1,
+    ))
+    (λ c.
+    let at-loop = c .before in
+    at-loop .loop .inv .1)
+    (λ c.
+    let at-loop = c .before in
+    let start = at-loop .before .before .before .before in
+    let args = start .args in
+    law.risen (args .sorts .now) (args .functions .now) (args .count) (args .nodes .now) (args .found) (at-loop .loop .nodes) (at-loop .loop
+    .left) (at-loop .loop .over) (at-loop .loop .inv .0) (c .loop-test .left)))

@@ -11,10 +11,36 @@ related-function-spec =
     tie.close
     (tie.spec
     (λ c. search needs)
-    (λ c κs. (c .before .before .before .before .before .before .pre .0, c .before .before .before .before .before .before .pre .1, omega arith))
-    (λ c κs. (c .before .before .before .before .before .before .before .before .before .before .before .pre .0 .nodes, c .before .before .before .before .final-range .ensures .placed))
+    (λ c κs.
+    let start = c .before .before .before .before .before .before in
+    (start .pre .0, start .pre .1, omega arith))
+    (λ c κs.
+    let at-final-range = c .before .before .before .before in
+    let start = at-final-range .before .before .before .before .before .before .before in
+    (start .pre .0 .nodes, at-final-range .final-range .ensures .placed))
     (λ c. search needs)
-    (λ c κs. (law.functions-stand (c .before .before .before .before .before .before .before .before .before .before .before .before .before .before .before .before .before .before .before .args .sorts .now) (c .before .before .before .before .before .before .before .before .before .before .before .before .before .before .before .before .before .before .before .args .nodes .now) (c .before .before .before .before .before .before .before .before .before .before .before .before .before .before .before .before .before .before .before .args .binds .now) (c .before .before .before .before .before .before .before .before .before .before .before .before .before .before .before .before .before .before .before .args .lengths) (c .before .before .before .before .before .before .before .before .before .before .before .before .before .before .before .before .before .before .before .pre .0) (c .before .before .before .before .before .before .before .before .before .before .before .before .before .before .before .before .before .before .before .args .up) (c .before .before .before .before .before .before .before .before .before .before .before .before .before .before .before .before .before .before .before .pre .2) (c .before .before .before .before .before .before .before .before .before .before .before .before .before .before .before .before .before .before .before .args .id .0) (c .before .before .before .before .before .before .before .before .before .before .before .before .before .before .before .before .before .before .before .pre .3) _ _ (c .before .before .before .before .before .before .before .before .before .before .before .before .final-range .ensures) _ _ _ (c .before .before .before .before .before .before .before .related-head .ensures) .0, law.functions-stand (c .before .before .before .before .before .before .before .before .before .before .before .before .before .before .before .before .before .before .before .args .sorts .now) (c .before .before .before .before .before .before .before .before .before .before .before .before .before .before .before .before .before .before .before .args .nodes .now) (c .before .before .before .before .before .before .before .before .before .before .before .before .before .before .before .before .before .before .before .args .binds .now) (c .before .before .before .before .before .before .before .before .before .before .before .before .before .before .before .before .before .before .before .args .lengths) (c .before .before .before .before .before .before .before .before .before .before .before .before .before .before .before .before .before .before .before .pre .0) (c .before .before .before .before .before .before .before .before .before .before .before .before .before .before .before .before .before .before .before .args .up) (c .before .before .before .before .before .before .before .before .before .before .before .before .before .before .before .before .before .before .before .pre .2) (c .before .before .before .before .before .before .before .before .before .before .before .before .before .before .before .before .before .before .before .args .id .0) (c .before .before .before .before .before .before .before .before .before .before .before .before .before .before .before .before .before .before .before .pre .3) _ _ (c .before .before .before .before .before .before .before .before .before .before .before .before .final-range .ensures) _ _ _ (c .before .before .before .before .before .before .before .related-head .ensures) .1, omega (arith, c .before .before .before .before .before .before .before .before .before .before .before .before .final-range .ensures .few)))
+    (λ c κs.
+    let at-related-head = c .before .before .before .before .before .before .before in
+    let at-final-range = at-related-head .before .before .before .before .before in
+    let start = at-final-range .before .before .before .before .before .before .before in
+    let args = start .args in (
+      law.functions-stand (args .sorts .now) (args .nodes .now) (args .binds .now) (args .lengths) (start .pre .0) (args .up) (start .pre .2)
+          (args .id .0) (start .pre .3) _ _ (at-final-range .final-range .ensures) _ _ _ (at-related-head .related-head .ensures) .0,
+      law.functions-stand (args .sorts .now) (args .nodes .now) (args .binds .now) (args .lengths) (start .pre .0) (args .up) (start .pre .2)
+          (args .id .0) (start .pre .3) _ _ (at-final-range .final-range .ensures) _ _ _ (at-related-head .related-head .ensures) .1,
+      omega (
+        arith,
+        at-final-range .final-range .ensures .few,
+      ),
+    ))
     (λ c. search needs)
     (λ c. search needs)
-    (λ c. law.functions-related (c .before .before .before .before .before .before .before .before .before .before .before .before .before .before .before .before .before .before .before .before .before .before .args .sorts .now) (c .before .before .before .before .before .before .before .before .before .before .before .before .before .before .before .before .before .before .before .before .before .before .args .nodes .now) (c .before .before .before .before .before .before .before .before .before .before .before .before .before .before .before .before .before .before .before .before .before .before .args .binds .now) (c .before .before .before .before .before .before .before .before .before .before .before .before .before .before .before .before .before .before .before .before .before .before .args .lengths) (c .before .before .before .before .before .before .before .before .before .before .before .before .before .before .before .before .before .before .before .before .before .before .pre .0) (c .before .before .before .before .before .before .before .before .before .before .before .before .before .before .before .before .before .before .before .before .before .before .args .up) (c .before .before .before .before .before .before .before .before .before .before .before .before .before .before .before .before .before .before .before .before .before .before .pre .2) (c .before .before .before .before .before .before .before .before .before .before .before .before .before .before .before .before .before .before .before .before .before .before .args .id .0) (c .before .before .before .before .before .before .before .before .before .before .before .before .before .before .before .before .before .before .before .before .before .before .pre .3) _ _ (c .before .before .before .before .before .before .before .before .before .before .before .before .before .before .before .final-range .ensures) _ _ _ (c .before .before .before .before .before .before .before .before .before .before .related-head .ensures) _ _ (c .before .before .over-functions .ensures)))
+    (λ c.
+    let at-over-functions = c .before .before in
+    let at-related-head = at-over-functions .before .before .before .before .before .before .before .before in
+    let at-final-range = at-related-head .before .before .before .before .before in
+    let start = at-final-range .before .before .before .before .before .before .before in
+    let args = start .args in
+    law.functions-related (args .sorts .now) (args .nodes .now) (args .binds .now) (args .lengths) (start .pre .0) (args .up) (start .pre .2)
+    (args .id .0) (start .pre .3) _ _ (at-final-range .final-range .ensures) _ _ _ (at-related-head .related-head .ensures) _ _
+    (at-over-functions .over-functions .ensures)))

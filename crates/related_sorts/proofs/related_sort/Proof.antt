@@ -15,21 +15,63 @@ related-sort-spec =
     (λ c. search needs)
     (λ c κs. search needs)
     (λ c. search needs)
-    (λ c κs. law.container-asked (c .before .before .before .before .before .before .before .before .args .sorts .now) (c .before .before .before .before .before .before .before .before .args .nodes .now) (c .before .before .before .before .before .before .before .before .args .lengths) (c .before .before .before .before .before .before .before .before .pre .0) (c .before .before .before .before .before .before .before .before .args .up) (c .before .before .before .before .before .before .before .before .args .id .0) (c .before .before .before .before .before .before .before .before .pre .1) (c .before .before .before .before .before .before .before .before .pre .2) _ (c .before .before .before .before .get .ensures) _ _ (c .before .before .op .given .1))
+    (λ c κs.
+    let at-op = c .before .before in
+    let at-get = at-op .before .before in
+    let start = at-get .before .before .before .before in
+    let args = start .args in
+    law.container-asked (args .sorts .now) (args .nodes .now) (args .lengths) (start .pre .0) (args .up) (args .id .0) (start .pre .1) (start
+    .pre .2) _ (at-get .get .ensures) _ _ (at-op .op .given .1))
     (λ c. search needs)
     (λ c. search needs)
     (λ c κs. search needs)
     (λ c. search needs)
     (λ c κs. search needs)
     (λ c. search needs)
-    (λ c. law.unit-has-none (c .before .before .before .before .before .before .before .args .sorts .now) (c .before .before .before .before .before .before .before .args .nodes .now) (c .before .before .before .before .before .before .before .args .lengths) (c .before .before .before .before .before .before .before .pre .0) (c .before .before .before .before .before .before .before .args .up) (c .before .before .before .before .before .before .before .args .id .0) (c .before .before .before .before .before .before .before .pre .1) (c .before .before .before .before .before .before .before .pre .2) _ (c .before .before .before .get .ensures) _ (c .none .ensures) (c .before .enum-told .given .1))
+    (λ c.
+    let at-enum-told = c .before in
+    let at-get = at-enum-told .before .before in
+    let start = at-get .before .before .before .before in
+    let args = start .args in
+    law.unit-has-none (args .sorts .now) (args .nodes .now) (args .lengths) (start .pre .0) (args .up) (args .id .0) (start .pre .1) (start .pre
+    .2) _ (at-get .get .ensures) _ (c .none .ensures) (at-enum-told .enum-told .given .1))
     (λ c. search needs)
-    (λ c. law.numbers-related (c .before .before .before .before .before .before .before .before .args .sorts .now) (c .before .before .before .before .before .before .before .before .args .nodes .now) (c .before .before .before .before .before .before .before .before .args .lengths) (c .before .before .before .before .before .before .before .before .pre .0) (c .before .before .before .before .before .before .before .before .args .up) (c .before .before .before .before .before .before .before .before .args .id .0) (c .before .before .before .before .before .before .before .before .pre .1) (c .before .before .before .before .before .before .before .before .pre .2) _ (c .before .before .before .before .get .ensures) _ (c .before .before .sort .given .1) _ (c .related-numbers .ensures))
+    (λ c.
+    let at-sort = c .before .before in
+    let at-get = at-sort .before .before in
+    let start = at-get .before .before .before .before in
+    let args = start .args in
+    law.numbers-related (args .sorts .now) (args .nodes .now) (args .lengths) (start .pre .0) (args .up) (args .id .0) (start .pre .1) (start
+    .pre .2) _ (at-get .get .ensures) _ (at-sort .sort .given .1) _ (c .related-numbers .ensures))
     (λ c. search needs)
-    (λ c. law.container-related (c .before .before .before .before .before .before .before .before .before .before .before .args .sorts .now) (c .before .before .before .before .before .before .before .before .before .before .before .args .nodes .now) (c .before .before .before .before .before .before .before .before .before .before .before .args .lengths) (c .before .before .before .before .before .before .before .before .before .before .before .pre .0) (c .before .before .before .before .before .before .before .before .before .before .before .args .up) (c .before .before .before .before .before .before .before .before .before .before .before .args .id .0) (c .before .before .before .before .before .before .before .before .before .before .before .pre .1) (c .before .before .before .before .before .before .before .before .before .before .before .pre .2) _ (c .before .before .before .before .before .before .before .get .ensures) _ _ (c .before .before .before .before .before .op .given .1) _ _ (c .before .before .related-generic .ensures))
+    (λ c.
+    let at-related-generic = c .before .before in
+    let at-op = at-related-generic .before .before .before in
+    let at-get = at-op .before .before in
+    let start = at-get .before .before .before .before in
+    let args = start .args in
+    law.container-related (args .sorts .now) (args .nodes .now) (args .lengths) (start .pre .0) (args .up) (args .id .0) (start .pre .1) (start
+    .pre .2) _ (at-get .get .ensures) _ _ (at-op .op .given .1) _ _ (at-related-generic .related-generic .ensures))
     (λ c. search needs)
-    (λ c. law.function-sort-passed (c .before .before .before .before .before .before .args .sorts .now) (c .before .before .before .before .before .before .args .nodes .now) (c .before .before .before .before .before .before .args .lengths) (c .before .before .before .before .before .before .pre .0) (c .before .before .before .before .before .before .args .up) (c .before .before .before .before .before .before .args .id .0) (c .before .before .before .before .before .before .pre .1) (c .before .before .before .before .before .before .pre .2) _ (c .before .before .get .ensures) _ _ (c .enum-told2 .given .1))
+    (λ c.
+    let at-get = c .before .before in
+    let start = at-get .before .before .before .before in
+    let args = start .args in
+    law.function-sort-passed (args .sorts .now) (args .nodes .now) (args .lengths) (start .pre .0) (args .up) (args .id .0) (start .pre .1)
+    (start .pre .2) _ (at-get .get .ensures) _ _ (c .enum-told2 .given .1))
     (λ c. search needs)
-    (λ c. law.def-has-none (c .before .before .before .before .before .before .before .args .sorts .now) (c .before .before .before .before .before .before .before .args .nodes .now) (c .before .before .before .before .before .before .before .args .lengths) (c .before .before .before .before .before .before .before .pre .0) (c .before .before .before .before .before .before .before .args .up) (c .before .before .before .before .before .before .before .args .id .0) (c .before .before .before .before .before .before .before .pre .1) (c .before .before .before .before .before .before .before .pre .2) _ (c .before .before .before .get .ensures) _ (c .none2 .ensures) _ (c .before .enum-told3 .given .1))
+    (λ c.
+    let at-enum-told3 = c .before in
+    let at-get = at-enum-told3 .before .before in
+    let start = at-get .before .before .before .before in
+    let args = start .args in
+    law.def-has-none (args .sorts .now) (args .nodes .now) (args .lengths) (start .pre .0) (args .up) (args .id .0) (start .pre .1) (start .pre
+    .2) _ (at-get .get .ensures) _ (c .none2 .ensures) _ (at-enum-told3 .enum-told3 .given .1))
     (λ c. search needs)
-    (λ c. law.typevar-has-none (c .before .before .before .before .before .before .before .args .sorts .now) (c .before .before .before .before .before .before .before .args .nodes .now) (c .before .before .before .before .before .before .before .args .lengths) (c .before .before .before .before .before .before .before .pre .0) (c .before .before .before .before .before .before .before .args .up) (c .before .before .before .before .before .before .before .args .id .0) (c .before .before .before .before .before .before .before .pre .1) (c .before .before .before .before .before .before .before .pre .2) _ (c .before .before .before .get .ensures) _ (c .none3 .ensures) _ (c .before .enum-told4 .given .1)))
+    (λ c.
+    let at-enum-told4 = c .before in
+    let at-get = at-enum-told4 .before .before in
+    let start = at-get .before .before .before .before in
+    let args = start .args in
+    law.typevar-has-none (args .sorts .now) (args .nodes .now) (args .lengths) (start .pre .0) (args .up) (args .id .0) (start .pre .1) (start
+    .pre .2) _ (at-get .get .ensures) _ (c .none3 .ensures) _ (at-enum-told4 .enum-told4 .given .1)))

@@ -11,9 +11,24 @@ with-first-spec =
     tie.close
     (tie.spec
     (λ c. search needs)
-    (λ c. let z = subst (AtMost 2) (c .before .before .before .before .rest .given .1) (c .before .before .before .before .before .before .pre) in omega (arith, z))
+    (λ c.
+    let at-rest = c .before .before .before .before in
+    let start = at-rest .before .before in
+    let z = subst (AtMost 2) (at-rest .rest .given .1) (start .pre) in omega (arith, z))
     (λ c. search needs)
     (λ c. search needs)
-    (λ c. sym (ap (placeBefore (c .before .before .before .before .before .before .args .place)) (c .before .before .before .before .rest .given .1)))
-    (λ c. sym (ap (placeBefore (c .before .before .before .args .place)) (c .before .rest2 .given .1)))
-    (λ c. sym (ap (placeBefore (c .before .before .before .args .place)) (c .before .rest3 .given .1))))
+    (λ c.
+    let at-rest = c .before .before .before .before in
+    let start = at-rest .before .before in
+    let args = start .args in
+    sym (ap (placeBefore (args .place)) (at-rest .rest .given .1)))
+    (λ c.
+    let at-rest2 = c .before in
+    let start = at-rest2 .before .before in
+    let args = start .args in
+    sym (ap (placeBefore (args .place)) (at-rest2 .rest2 .given .1)))
+    (λ c.
+    let at-rest3 = c .before in
+    let start = at-rest3 .before .before in
+    let args = start .args in
+    sym (ap (placeBefore (args .place)) (at-rest3 .rest3 .given .1))))

@@ -9,9 +9,25 @@ as-tries-spec =
     tie.close
     (tie.spec
     (λ c. search needs)
-    (λ c κs. law.few-listed (c .before .before .before .args .up) (c .before .before .before .args .other .0) (c .before .before .before .args .found) (c .before .before .before .pre) _ _ (c .before .found .given .1))
+    (λ c κs.
+    let at-found = c .before in
+    let start = at-found .before .before in
+    let args = start .args in
+    law.few-listed (args .up) (args .other .0) (args .found) (start .pre) _ _ (at-found .found .given .1))
     (λ c. search needs)
     (λ c. search needs)
-    (λ c. law.these-as-tries (c .before .before .before .before .args .up) (c .before .before .before .before .args .other .0) (c .before .before .before .before .args .found) _ _ (c .before .before .found .given .1) _ (c .listed-tries .ensures))
-    (λ c. law.no-list-as-tries (c .before .before .before .args .up) (c .before .before .before .args .other .0) (c .before .before .before .args .found) _ (c .before .found2 .given .1))
-    (λ c. law.no-room-as-tries (c .before .before .before .args .up) (c .before .before .before .args .other .0) (c .before .before .before .args .found) _ _ (c .before .found3 .given .1)))
+    (λ c.
+    let at-found = c .before .before in
+    let start = at-found .before .before in
+    let args = start .args in
+    law.these-as-tries (args .up) (args .other .0) (args .found) _ _ (at-found .found .given .1) _ (c .listed-tries .ensures))
+    (λ c.
+    let at-found2 = c .before in
+    let start = at-found2 .before .before in
+    let args = start .args in
+    law.no-list-as-tries (args .up) (args .other .0) (args .found) _ (at-found2 .found2 .given .1))
+    (λ c.
+    let at-found3 = c .before in
+    let start = at-found3 .before .before in
+    let args = start .args in
+    law.no-room-as-tries (args .up) (args .other .0) (args .found) _ _ (at-found3 .found3 .given .1)))

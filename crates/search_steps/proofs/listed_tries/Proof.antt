@@ -8,4 +8,7 @@ pub listed-tries-spec : {M : Type 1} → statement M
 listed-tries-spec =
     tie.close
     (tie.spec
-    (λ c. law.tries-listed (c .before .before .before .args .up) (c .before .before .before .args .other) (c .before .before .before .args .places) (c .before .before .before .pre)))
+    (λ c.
+    let start = c .before .before .before in
+    let args = start .args in
+    law.tries-listed (args .up) (args .other) (args .places) (start .pre)))
