@@ -5,7 +5,7 @@
  *
  * A slice passes as a pointer and a length in words (of overloads: in records). Words, counts and lengths may be
  * anything: what does not fit is refused by a code. The slices of a call may not overlap, and a pointer has to be valid
- * for its length; of a slice of length 0 it may be NULL. No entry keeps a pointer, allocates, or has memory of its own. The solver calls itself: up to 2.4 MB of
+ * for its length; of a slice of length 0 it may be NULL. No entry keeps a pointer, allocates, or has memory of its own. The solver calls itself: up to 2.8 MB of
  * stack were measured for a list at its ceilings.
  */
 #ifndef JULQETAI_H

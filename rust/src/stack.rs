@@ -1,5 +1,5 @@
 //! Stack for the search, which calls itself: once for each constraint and each source of a Join, and at each of these
-//! levels down through the nesting of a sort. A problem at its ceilings takes up to 2.4 MB, more than a thread of Rust
+//! levels down through the nesting of a sort. A problem at its ceilings takes up to 2.8 MB, more than a thread of Rust
 //! has by default. The numbers here are measured, with room to spare; `tests/stack.rs` holds them to problems of the worst
 //! shapes that were found.
 

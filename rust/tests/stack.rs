@@ -28,9 +28,12 @@ struct Size {
     /// Function nodes without arguments, each with the one before as its range and the innermost over Pos, as the left
     /// side of a widening into Real: their wider sorts are looked for.
     ranges: usize,
+    /// Sorts, each over the one before, and nodes, each over the one before and the innermost over the last of these
+    /// sorts: the outermost node is made equal to the one inside it, which differs only at the end of all.
+    against: [usize; 2],
 }
 
-const NONE: Size = Size { comprehensions: 0, subs: 0, sources: 0, nested: 0, sorts: 0, ranges: 0 };
+const NONE: Size = Size { comprehensions: 0, subs: 0, sources: 0, nested: 0, sorts: 0, ranges: 0, against: [0, 0] };
 
 fn problem(size: Size, functions: bool) -> Problem {
     let mut problem = Problem::new();
@@ -69,6 +72,23 @@ fn problem(size: Size, functions: bool) -> Problem {
         }
         problem.sub(place, SortId::REAL);
     }
+    let [sorts, nodes] = size.against;
+    if nodes > 0 {
+        let mut sort = SortId::BOOL;
+        for _ in 0..sorts {
+            let list = Sort::Container { op: ComplexSort::List, subsort: sort };
+            let function = Sort::Function { domain: &[sort], range: SortId::BOOL };
+            sort = problem.add_sort(if functions { function } else { list });
+        }
+        let (mut place, mut inside) = (Place::Sort(sort), Place::Sort(sort));
+        for _ in 0..nodes {
+            let list = Node::Generic { op: ComplexSort::List, subsort: place };
+            let function = Node::Function { domain: &[place], range: SortId::BOOL.into() };
+            inside = place;
+            place = problem.add_node(if functions { function } else { list }).into();
+        }
+        problem.sub(place, inside);
+    }
     problem
 }
 
@@ -94,6 +114,7 @@ fn at_ceilings() -> Vec<(Size, Problem)> {
         Size { comprehensions: 255, sorts: 1_016, ..NONE },
         Size { comprehensions: 250, sources: 250, nested: 1_000, sorts: 1_016, ..NONE },
         Size { comprehensions: 254, sources: 255, ranges: 2_047, ..NONE },
+        Size { comprehensions: 254, sources: 255, against: [1_016, 2_047], ..NONE },
     ];
     let both = |size: Size| [false, true].map(|functions| (size, problem(size, functions)));
     sizes.into_iter().flat_map(both).collect()
@@ -105,10 +126,10 @@ fn ceilings() {
     solve_all(at_ceilings(), 2 << 20, 1 << 20);
 }
 
-/// At the ceilings, on a stack that has no more than the documents say that a search takes: 2.4 MB, and the workspace.
+/// At the ceilings, on a stack that has no more than the documents say that a search takes: 2.8 MB, and the workspace.
 #[test]
 fn no_more_than_measured() {
-    solve_all(at_ceilings(), 2_400 << 10, 64 << 20);
+    solve_all(at_ceilings(), 2_800 << 10, 64 << 20);
 }
 
 /// Of all sizes, in a thread that has 1 MB and a little: the larger ones run elsewhere, the others take no more.
@@ -123,6 +144,7 @@ fn on_the_stack_of_the_caller() {
             Size { comprehensions: levels, sources: levels, nested: nesting, ..NONE },
             Size { comprehensions: levels, sorts: nesting * 2 / 5, ..NONE },
             Size { comprehensions: levels, sources: levels, ranges: nesting, ..NONE },
+            Size { comprehensions: levels, sources: levels, against: [nesting / 2, nesting], ..NONE },
         ];
         let both = |size: Size| [false, true].map(|functions| (size, problem(size, functions)));
         problems.extend(sizes.into_iter().flat_map(both));
