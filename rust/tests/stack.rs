@@ -144,7 +144,7 @@ fn on_the_stack_of_the_caller() {
             Size { comprehensions: levels, sources: levels, nested: nesting, ..NONE },
             Size { comprehensions: levels, sorts: nesting * 2 / 5, ..NONE },
             Size { comprehensions: levels, sources: levels, ranges: nesting, ..NONE },
-            Size { comprehensions: levels, sources: levels, against: [nesting / 2, nesting], ..NONE },
+            Size { comprehensions: levels, sources: levels, against: [nesting * 2 / 5, nesting], ..NONE },
         ];
         let both = |size: Size| [false, true].map(|functions| (size, problem(size, functions)));
         problems.extend(sizes.into_iter().flat_map(both));
