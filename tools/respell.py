@@ -74,14 +74,16 @@ def main(argv):
         if not p.endswith(".antt"):
             continue
         inside = None
-        for line in t.split("\n"):
+        lines = t.split("\n")
+        for at, line in enumerate(lines):
             code, _ = uncommented(line, "--")
             if re.match(r"^ *(pub +)?record ", code) and code.rstrip().endswith("where"):
                 inside = len(code) - len(code.lstrip())
             elif code.strip() and len(code) - len(code.lstrip()) <= (inside if inside is not None else -1):
                 inside = None
             m = DECLARED.match(code)
-            if m and len(m.group(1)) <= 4:
+            defined = m and at + 1 < len(lines) and lines[at + 1].startswith(m.group(1) + m.group(2) + " ")
+            if m and (len(m.group(1)) <= 4 or re.match(r" *(abbrev |unfoldable )?pub ", code) or defined):
                 if inside is not None and len(m.group(1)) > inside:
                     fields.add(m.group(2))
                 else:
@@ -117,6 +119,11 @@ def main(argv):
             for n in names:
                 a = re.match(r"(\S+) as (\S+)$", n)
                 first, bound = (a.group(1), a.group(2)) if a else (n, n)
+                # a constructor is imported behind its type
+                if mine and "." in first:
+                    al.add(first.split(".")[0])
+                    first = first.split(".")[-1]
+                    bound = a.group(2) if a else first
                 # modules of the repository in a list
                 if module.startswith("Rattle.") and (module + "." + first) in modules:
                     al.add(bound)

@@ -1,4 +1,6 @@
 // A line held in a lent memory as its bytes come. Of a long line only its first bytes are held.
+#![tactic(auto)]
+
 ghost use Rattle.std.specs.Prelude.{◌≡◌, ◌+◌, ◌≤◌, length};
 ghost use Rattle.held_line.specs.Holding.{line_kept, held_at};
 

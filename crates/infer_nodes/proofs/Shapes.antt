@@ -39,9 +39,9 @@ module _ (ws ns : List ℕ) (k : Lengths) (q : NodesReady ws ns k) where
         k.nodes p l e)
 
     module _ (u : SortVar) (x : r ≡ Var u) where
-      pub shape-of-variable : shape p ≡ variable u.0
+      pub shape_of_variable : shape p ≡ variable u.0
       unfolding node_shape
-      shape-of-variable = shape_of_node ∙ ap (node_shape ns) x
+      shape_of_variable = shape_of_node ∙ ap (node_shape ns) x
 
-      pub variable-in-list : u.0 < k.variables
-      variable-in-list = scoped ws k.sorts k.entries ns k.nodes k.arguments k.variables q p u.0 shape-of-variable
+      pub variable_in_list : u.0 < k.variables
+      variable_in_list = scoped ws k.sorts k.entries ns k.nodes k.arguments k.variables q p u.0 shape_of_variable

@@ -36,7 +36,7 @@ use Rattle.unification.proofs.Theorem.{ready_ranked}
 use Rattle.unification.proofs.Enough.{follow_eq, occurs_eq, end_no_higher}
 use Rattle.unification.proofs.Lists.{sort_parts_fine}
 use Rattle.infer_nodes.specs.Inner.Bound.{bound_to, RunPlaced}
-use Rattle.infer_nodes.proofs.Shapes.{at_sort, shape_of_node, parts_fine, shape-of-variable, variable-in-list}
+use Rattle.infer_nodes.proofs.Shapes.{at_sort, shape_of_node, parts_fine, shape_of_variable, variable_in_list}
 
 abbrev ops : List ComplexSort
 ops = ComplexSort.List ∷ ComplexSort.Set ∷ ComplexSort.FSet ∷ ComplexSort.Bag ∷ []
@@ -131,9 +131,9 @@ module _ (ws ns bs : List ℕ) (k : Lengths) (q : Ready ws ns bs k) where
     function_not_bound d s x = sym (ap (λ y. bound_to y B) (shape_of_node ws ns k q.nodes p e l r i ∙ ap (node_shape ns) x))
 
     module _ (u : SortVar) (x : r ≡ Var u) where
-      pub variable-bound : binding_of (get_or bs u.0 0) ≡ bound_to (shape p) B
-      variable-bound = sym (ap (λ y. bound_to y B) (shape-of-variable ws ns k q.nodes p e l r i u x) ∙ binding_word
-          bs k.variables u.0 (variable-in-list ws ns k q.nodes p e l r i u x))
+      pub variable_bound : binding_of (get_or bs u.0 0) ≡ bound_to (shape p) B
+      variable_bound = sym (ap (λ y. bound_to y B) (shape_of_variable ws ns k q.nodes p e l r i u x) ∙ binding_word
+          bs k.variables u.0 (variable_in_list ws ns k q.nodes p e l r i u x))
 
   -- following
   pub begun : (p : ℕ) → Placed k p → Following shape B k p p
@@ -148,17 +148,17 @@ module _ (ws ns bs : List ℕ) (k : Lengths) (q : Ready ws ns bs k) where
       step : (v : ℕ) × ((shape end ≡ variable v) × (binding B v ≡ some next))
       step = step_by next (shape end) refl b
 
-      next-placed : Placed k next
-      next-placed = bound_is_place k.sorts k.nodes B step.0 next q.binds.places step.1.1
+      next_placed : Placed k next
+      next_placed = bound_is_place k.sorts k.nodes B step.0 next q.binds.places step.1.1
 
-      pub next-lower : ρ next < ρ end
-      next-lower = omega (arith, rank_var shape deep B ranked end step.0 next step.1.0 step.1.1)
+      pub next_lower : ρ next < ρ end
+      next_lower = omega (arith, rank_var shape deep B ranked end step.0 next step.1.0 step.1.1)
 
       goes_on : follow shape deep B end ≡ follow shape deep B next
       goes_on = follow_eq shape deep B ranked end ∙ rw step.1.0 (rw step.1.1)
 
       pub one_further : Following shape B k p next
-      one_further = record { same = f.same ∙ goes_on; placed = next-placed }
+      one_further = record { same = f.same ∙ goes_on; placed = next_placed }
 
     ends_by : (s : Shape) → shape end ≡ s → none ≡ bound_to s B → follow_at shape s B end (follow shape deep B) ≡ some end
     ends_by (variable v) x e = rw (sym e)
@@ -227,39 +227,39 @@ module _ (ws ns bs : List ℕ) (k : Lengths) (q : Ready ws ns bs k) where
     occurs_in_sort l = same_there ∙ sort_absent u (suc end) end (omega arith) (sort_below k.sorts k.nodes end l end_placed)
 
     module _ (l : max_sorts ≤ end) (r : InferSort) (i : r ≡ node_at ns (end - max_sorts)) where
-      pub occurs-at-variable : (v : SortVar) → r ≡ Var v → occurs shape deep B u p ≡ of_test (eqb u v.0)
-      occurs-at-variable v x =
-          let s = shape-of-variable ws ns k q.nodes end end_placed l r i v x in
+      pub occurs_at_variable : (v : SortVar) → r ≡ Var v → occurs shape deep B u p ≡ of_test (eqb u v.0)
+      occurs_at_variable v x =
+          let s = shape_of_variable ws ns k q.nodes end end_placed l r i v x in
           same_there ∙ (occurs_eq shape deep B ranked u end ∙ (rw s (rw (follow_end shape B deep p end v.0 f s))))
 
       module _ (op : ComplexSort) (s : InferSortId) (x : r ≡ Generic op s) where
-        pub generic-shape : shape end ≡ over (container_head op) (s.0 ∷ [])
+        pub generic_shape : shape end ≡ over (container_head op) (s.0 ∷ [])
         unfolding node_shape
-        generic-shape = shape_of_node ws ns k q.nodes end end_placed l r i ∙ ap (node_shape ns) x
+        generic_shape = shape_of_node ws ns k q.nodes end end_placed l r i ∙ ap (node_shape ns) x
 
-        pub subsort-placed : Placed k s.0
+        pub subsort_placed : Placed k s.0
         unfolding node_parts_fine
-        subsort-placed =
+        subsort_placed =
             among_fewer (end - max_sorts) s.0 (omega (arith, node_below k.sorts k.nodes end l end_placed))
             (subst (λ y. node_parts_fine ns k.arguments k.sorts k.variables (end - max_sorts) y ≡ true) x
             (parts_fine ws ns k q.nodes end end_placed l r i))
 
-        pub subsort-lower : ρ s.0 < ρ p
-        subsort-lower = omega (arith, end_rank, rank_over shape deep B ranked end (container_head op) (s.0 ∷ []) generic-shape)
+        pub subsort_lower : ρ s.0 < ρ p
+        subsort_lower = omega (arith, end_rank, rank_over shape deep B ranked end (container_head op) (s.0 ∷ []) generic_shape)
 
-        pub occurs-in-subsort : (b : Bool) → occurs shape deep B u s.0 ≡ of_test b → occurs shape deep B u p ≡ of_test b
-        occurs-in-subsort b y = same_there ∙ (occurs_eq shape deep B ranked u end ∙ rw generic-shape (or_absent (occurs shape deep B u s.0) ∙ y))
+        pub occurs_in_subsort : (b : Bool) → occurs shape deep B u s.0 ≡ of_test b → occurs shape deep B u p ≡ of_test b
+        occurs_in_subsort b y = same_there ∙ (occurs_eq shape deep B ranked u end ∙ rw generic_shape (or_absent (occurs shape deep B u s.0) ∙ y))
 
       module _ (d : Run) (s : InferSortId) (x : r ≡ Function d s) where
         abbrev args : List ℕ
         args = node_entries_of ns d.start d.count
 
-        pub function-shape : shape end ≡ over (function_head d.count) (args ++ (s.0 ∷ []))
+        pub function_shape : shape end ≡ over (function_head d.count) (args ++ (s.0 ∷ []))
         unfolding node_shape
-        function-shape = shape_of_node ws ns k q.nodes end end_placed l r i ∙ ap (node_shape ns) x
+        function_shape = shape_of_node ws ns k q.nodes end end_placed l r i ∙ ap (node_shape ns) x
 
-        function-fine : FunctionFine (is_place k.sorts (end - max_sorts)) (node_entry_at ns) k.arguments d s.0
-        function-fine =
+        function_fine : FunctionFine (is_place k.sorts (end - max_sorts)) (node_entry_at ns) k.arguments d s.0
+        function_fine =
             node_function_fine ns k.arguments k.sorts k.variables (end - max_sorts) d s.0
             (subst (λ y. node_parts_fine ns k.arguments k.sorts k.variables (end - max_sorts) y ≡ true) x
             (parts_fine ws ns k q.nodes end end_placed l r i))
@@ -267,35 +267,35 @@ module _ (ws ns bs : List ℕ) (k : Lengths) (q : Ready ws ns bs k) where
         part_placed : (y : ℕ) → is_place k.sorts (end - max_sorts) y ≡ true → Placed k y
         part_placed y = among_fewer (end - max_sorts) y (omega (arith, node_below k.sorts k.nodes end l end_placed))
 
-        pub run-placed : RunPlaced ns k d.start d.count
-        run-placed =
+        pub run_placed : RunPlaced ns k d.start d.count
+        run_placed =
             record {
-              places = λ j h. part_placed (node_entry_at ns (d.start + j)) (function-fine.each_fits j h);
-              short = function-fine.short;
-              inside = function-fine.inside;
+              places = λ j h. part_placed (node_entry_at ns (d.start + j)) (function_fine.each_fits j h);
+              short = function_fine.short;
+              inside = function_fine.inside;
             }
 
-        pub range-placed : Placed k s.0
-        range-placed = part_placed s.0 function-fine.range_fits
+        pub range_placed : Placed k s.0
+        range_placed = part_placed s.0 function_fine.range_fits
 
-        function-rank : ρ end ≡ highest ρ (args ++ (s.0 ∷ []))
-        function-rank = rank_over shape deep B ranked end (function_head d.count) (args ++ (s.0 ∷ [])) function-shape
+        function_rank : ρ end ≡ highest ρ (args ++ (s.0 ∷ []))
+        function_rank = rank_over shape deep B ranked end (function_head d.count) (args ++ (s.0 ∷ [])) function_shape
 
-        pub run-lower : highest ρ args ≤ ρ p
-        run-lower = omega (arith, end_rank, function-rank, highest_front ρ args (s.0 ∷ []))
+        pub run_lower : highest ρ args ≤ ρ p
+        run_lower = omega (arith, end_rank, function_rank, highest_front ρ args (s.0 ∷ []))
 
-        pub range-lower : ρ s.0 < ρ p
-        range-lower = omega (arith, end_rank, function-rank, one_highest ρ (args ++ (s.0 ∷ [])) s.0 (one_last args s.0))
+        pub range_lower : ρ s.0 < ρ p
+        range_lower = omega (arith, end_rank, function_rank, one_highest ρ (args ++ (s.0 ∷ [])) s.0 (one_last args s.0))
 
         by_parts : occurs shape deep B u p ≡ or_else (occurs_any shape (occurs shape deep B u) args) (occurs shape deep B u s.0)
-        by_parts = same_there ∙ (occurs_eq shape deep B ranked u end ∙ rw function-shape (any_last (occurs shape deep B u) args s.0))
+        by_parts = same_there ∙ (occurs_eq shape deep B ranked u end ∙ rw function_shape (any_last (occurs shape deep B u) args s.0))
 
-        pub occurs-in-domain : (b : Bool) → occurs_any shape (occurs shape deep B u) args ≡ of_test b → b ≡ true → occurs shape deep B u p ≡ of_test true
-        occurs-in-domain b y z = by_parts ∙ ap (λ o. or_else o (occurs shape deep B u s.0)) (y ∙ ap of_test z)
+        pub occurs_in_domain : (b : Bool) → occurs_any shape (occurs shape deep B u) args ≡ of_test b → b ≡ true → occurs shape deep B u p ≡ of_test true
+        occurs_in_domain b y z = by_parts ∙ ap (λ o. or_else o (occurs shape deep B u s.0)) (y ∙ ap of_test z)
 
-        pub occurs-in-range : (b c : Bool) → occurs_any shape (occurs shape deep B u) args ≡ of_test b → b ≡ false
+        pub occurs_in_range : (b c : Bool) → occurs_any shape (occurs shape deep B u) args ≡ of_test b → b ≡ false
             → occurs shape deep B u s.0 ≡ of_test c → occurs shape deep B u p ≡ of_test c
-        occurs-in-range b c y z w = by_parts ∙ (ap (λ o. or_else o (occurs shape deep B u s.0)) (y ∙ ap of_test z) ∙ w)
+        occurs_in_range b c y z w = by_parts ∙ (ap (λ o. or_else o (occurs shape deep B u s.0)) (y ∙ ap of_test z) ∙ w)
 
   -- a run of arguments
   module _ (u s c : ℕ) (r : RunPlaced ns k s c) where
@@ -303,15 +303,15 @@ module _ (ws ns bs : List ℕ) (k : Lengths) (q : Ready ws ns bs k) where
     search_begins = record { same = refl; run = r; lower = omega arith }
 
     module _ (d : 0 < c) where
-      pub one-and-rest : node_entries_of ns s c ≡ node_entry_at ns s ∷ node_entries_of ns (s + 1) (c - 1)
+      pub one_and_rest : node_entries_of ns s c ≡ node_entry_at ns s ∷ node_entries_of ns (s + 1) (c - 1)
       unfolding node_entries_of
-      one-and-rest = ap (node_entries_of ns s) (let z : c ≡ suc (c - 1) = omega (arith, d) in z)
+      one_and_rest = ap (node_entries_of ns s) (let z : c ≡ suc (c - 1) = omega (arith, d) in z)
 
-      pub first-placed : Placed k (node_entry_at ns s)
-      first-placed = subst (λ (x : ℕ). Placed k (node_entry_at ns x)) (omega arith) (r.places 0 d)
+      pub first_placed : Placed k (node_entry_at ns s)
+      first_placed = subst (λ (x : ℕ). Placed k (node_entry_at ns x)) (omega arith) (r.places 0 d)
 
-      pub rest-placed : RunPlaced ns k (s + 1) (c - 1)
-      rest-placed =
+      pub rest_placed : RunPlaced ns k (s + 1) (c - 1)
+      rest_placed =
           record {
             places = λ j h. subst (λ (x : ℕ). Placed k (node_entry_at ns x)) (omega arith) (r.places (j + 1) (omega (arith, h)));
             short = omega (arith, r.short);
@@ -334,29 +334,29 @@ module _ (ws ns bs : List ℕ) (k : Lengths) (q : Ready ws ns bs k) where
       abbrev others : List ℕ
       others = node_entries_of ns (at + 1) (left - 1)
 
-      one-and-others : node_entries_of ns at left ≡ x ∷ others
-      one-and-others = one-and-rest u at left g.run some_left ∙ ap (λ (y : ℕ). y ∷ others) (sym e)
+      one_and_others : node_entries_of ns at left ≡ x ∷ others
+      one_and_others = one_and_rest u at left g.run some_left ∙ ap (λ (y : ℕ). y ∷ others) (sym e)
 
       pub one_placed : Placed k x
-      one_placed = subst (Placed k) (sym e) (first-placed u at left g.run some_left)
+      one_placed = subst (Placed k) (sym e) (first_placed u at left g.run some_left)
 
       pub one_lower : ρ x < highest ρ (node_entries_of ns s c)
-      one_lower = let y : ρ x < highest ρ (node_entries_of ns at left) = rw one-and-others (omega arith) in omega (arith, y, g.lower)
+      one_lower = let y : ρ x < highest ρ (node_entries_of ns at left) = rw one_and_others (omega arith) in omega (arith, y, g.lower)
 
-      pub more-inside : at + 1 ≤ k.arguments
-      more-inside = omega (arith, g.run.inside, d)
+      pub more_inside : at + 1 ≤ k.arguments
+      more_inside = omega (arith, g.run.inside, d)
 
       module _ (b : Bool) (o : occurs shape deep B u x ≡ of_test b) where
-        one-then-others : any (node_entries_of ns s c) ≡ or_else (of_test b) (any others)
-        one-then-others = g.same ∙ (ap any one-and-others ∙ ap (λ y. or_else y (any others)) o)
+        one_then_others : any (node_entries_of ns s c) ≡ or_else (of_test b) (any others)
+        one_then_others = g.same ∙ (ap any one_and_others ∙ ap (λ y. or_else y (any others)) o)
 
         pub in_one : b ≡ true → any (node_entries_of ns s c) ≡ of_test true
-        in_one z = one-then-others ∙ rw z
+        in_one z = one_then_others ∙ rw z
 
-        pub search-goes-on : b ≡ false → Searching shape B ns k u s c (at + 1) (left - 1)
-        search-goes-on z =
+        pub search_goes_on : b ≡ false → Searching shape B ns k u s c (at + 1) (left - 1)
+        search_goes_on z =
             record {
-              same = one-then-others ∙ rw z;
-              run = rest-placed u at left g.run some_left;
-              lower = let w : highest ρ others ≤ highest ρ (node_entries_of ns at left) = rw one-and-others (omega arith) in omega (arith, w, g.lower);
+              same = one_then_others ∙ rw z;
+              run = rest_placed u at left g.run some_left;
+              lower = let w : highest ρ others ≤ highest ρ (node_entries_of ns at left) = rw one_and_others (omega arith) in omega (arith, w, g.lower);
             }

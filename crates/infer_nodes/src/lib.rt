@@ -1,4 +1,6 @@
 // Inference nodes in lent storage, and where bindings lead: from merc's unification.rs, shallow_normalize and occurs.
+#![tactic(auto)]
+
 ghost use Rattle.std.specs.Prelude.{◌≡◌, ◌+◌, ◌*◌, ◌<◌, ◌≤◌, length, get_or};
 ghost use Rattle.std.proofs.Math.Option.{some};
 ghost use Rattle.unification.specs.Inner.Term.{head_of, parts_of};

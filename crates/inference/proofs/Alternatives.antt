@@ -45,10 +45,10 @@ use Rattle.inference.specs.Search.{literal_at, literal_end, literal, every_readi
 use Rattle.inference.specs.Names.{overload_in}
 use Rattle.inference.specs.Typing.{Assignment, Has, All, none_left, and_all, ReadAs, as_set, as_bag, as_bag_of_pos}
 use Rattle.inference.proofs.Invariant.{Claim, terms, Sound, FineBest, Leaves, Goes, same_sort}
-use Rattle.inference.proofs.Invariant.{equal_have_one_sort, and-also-leaves, says_leaves, missed_leaves}
-use Rattle.inference.proofs.Invariant.{unifying-leaves}
+use Rattle.inference.proofs.Invariant.{equal_have_one_sort, and_also_leaves, says_leaves, missed_leaves}
+use Rattle.inference.proofs.Invariant.{unifying_leaves}
 use Rattle.inference.proofs.MakingSorts.{container_makes, on_made_leaves}
-use Rattle.inference.proofs.Tries.{Leads, first-found-leaves}
+use Rattle.inference.proofs.Tries.{Leads, first_found_leaves}
 
 at_position : (R : Claim) (x i j : ℕ) → i ≡ j → (ch : List Choice) (ρ : Assignment) (ms : Components)
     → R (ch ++ (record { expr = x; position = i } ∷ [])) ρ ms → R (ch ++ (record { expr = x; position = j } ∷ [])) ρ ms
@@ -67,7 +67,7 @@ module _
       → Leaves W₀ B₀ P Met w.lent (unifying e.binds l r k w)
   given_leaves e w Q s f l r x y ms cs R h =
       let g = s.grown in
-      unifying-leaves W₀ B₀ P Met e w Q s f l r (placed_grown W₀ c₀ w.lent g l x) (placed_grown W₀ c₀ w.lent g r y) ms cs R
+      unifying_leaves W₀ B₀ P Met e w Q s f l r (placed_grown W₀ c₀ w.lent g l x) (placed_grown W₀ c₀ w.lent g r y) ms cs R
       (λ ρ _ i q. let t = place_has_a_sort W₀ c₀ ρ l x in
       h ρ t.0 q t.1 (equal_have_one_sort W₀ c₀ w.lent g ρ l r t.0 x y i t.1))
 
@@ -93,7 +93,7 @@ module _
     unfolding every_overload
     every_overload_goes [] i a h b e w s f = says_leaves W₀ B₀ P Met b w s.grown.checked f
     every_overload_goes (o ∷ os) i a h b e w s f =
-        and-also-leaves W₀ B₀ P Met e w Q s c₀ _ b (λ b. every_overload Met meet P x p os (i + 1) b k e)
+        and_also_leaves W₀ B₀ P Met e w Q s c₀ _ b (λ b. every_overload Met meet P x p os (i + 1) b k e)
         (given_leaves e w Q s f p o.sort.0 y (a 0 (omega arith)) e.measure (e.choices ++ (record { expr = x; position = i } ∷ [])) R
         (λ ρ t q u v. at_position R x (i + 0) i (add-zero i) e.choices ρ e.measure (h 0 (omega arith)
         e.choices ρ e.measure t q u v)) (λ C. k (with_choice e x i C))
@@ -138,9 +138,9 @@ module _
         let M : Claim = λ ch ρ ms. Q ch ρ ms × Has (graph W₀) ρ body (flat (primitive s)) in
         on_made_leaves W₀ B₀ P c₀ Met (IsSort (container o (sort_in w.lent element))) (Unit {0}) e w Q S f (intern_container o element w.lent)
         (container_makes w.lent S.grown.checked o element (omega (arith, l, S.grown.sorts))) _ missed
-        (λ a v g S₁ f₁ i. and-also-leaves W₀ B₀ P Met e v Q S₁ c₀ _ b (λ b. every_reading Met meet P rs body node element b k e)
+        (λ a v g S₁ f₁ i. and_also_leaves W₀ B₀ P Met e v Q S₁ c₀ _ b (λ b. every_reading Met meet P rs body node element b k e)
         (primitive_leaves e v Q S₁ f₁ body x s e.measure e.choices M (λ ρ q u. (q, u)) (λ C. unifying C node a (λ D. k (with_binds e D)))
-        (λ C S₂. unifying-leaves W₀ B₀ P Met (with_binds e C) v M S₂ f₁ node a (placed_grown W₀ c₀ v.lent
+        (λ C S₂. unifying_leaves W₀ B₀ P Met (with_binds e C) v M S₂ f₁ node a (placed_grown W₀ c₀ v.lent
         S₁.grown node y) (sort_placed v.lent S₁.grown.checked a i.0)
         e.measure e.choices R
         (λ ρ _ j m. h e.choices ρ e.measure (flat (primitive s)) (container o (sort_in W₀ element)) m.0 m.1
@@ -171,8 +171,8 @@ module _
       W = w.lent
 
       -- at a number sort that has a component for the kind
-      sort-leads : (s : Sort) (g : ℕ) → lit_component kind s ≡ some g → Leads W e Q R (record { left = p; right = kind_flat (primitive s); component = g })
-      sort-leads s g i =
+      sort_leads : (s : Sort) (g : ℕ) → lit_component kind s ≡ some g → Leads W e Q R (record { left = p; right = kind_flat (primitive s); component = g })
+      sort_leads s g i =
           let y = primitive_placed W₀ c₀ six s in
           record {
             left = placed_grown W₀ c₀ W S.grown p x;
@@ -184,21 +184,21 @@ module _
 
       from-nat-lead : All (Leads W e Q R) (from_nat p)
       unfolding kind_flat lit_component
-      from-nat-lead = and_all _ _ (sort-leads Sort.Nat 1 refl) (and_all _ _ (sort-leads Sort.Int 2 refl) (and_all _ _ (sort-leads Sort.Real 3 refl) none_left))
+      from-nat-lead = and_all _ _ (sort_leads Sort.Nat 1 refl) (and_all _ _ (sort_leads Sort.Int 2 refl) (and_all _ _ (sort_leads Sort.Real 3 refl) none_left))
 
       tries-lead : (kind' : LitKind) → kind ≡ kind' → All (Leads W e Q R) (lit_tries kind' p)
       unfolding kind_flat lit_component
-      tries-lead Positive i = and_all _ _ (sort-leads Sort.Pos 0 (ap (λ z. lit_component z Sort.Pos) i)) from-nat-lead
+      tries-lead Positive i = and_all _ _ (sort_leads Sort.Pos 0 (ap (λ z. lit_component z Sort.Pos) i)) from-nat-lead
       tries-lead Natural i = from-nat-lead
 
-      nothing-found : Leaves W₀ B₀ P Met W (missed w)
-      nothing-found = missed_leaves W₀ B₀ P Met w S.grown.checked f
+      nothing_found : Leaves W₀ B₀ P Met W (missed w)
+      nothing_found = missed_leaves W₀ B₀ P Met w S.grown.checked f
 
       module _ (q : ℕ) (i : follow (graph W) deep e.binds p ≡ some q) where
         at-sort : (s : Sort) → graph W q ≡ over (flat_head (primitive s)) [] → (o : Option ℕ) → lit_component kind s ≡ o
             → Leaves W₀ B₀ P Met W (at_sort Met meet P o k e w)
         unfolding term_of
-        at-sort s j none l = nothing-found
+        at-sort s j none l = nothing_found
         at-sort s j (some g) l =
             let c = S.grown.checked in
             on (with_components e (g ∷ []) e.binds) w
@@ -213,25 +213,25 @@ module _
             })
             f
 
-        at-flat : (a : Flat) → graph W q ≡ over (flat_head a) [] → Leaves W₀ B₀ P Met W (literal_at Met meet P kind p (over (flat_head a) []) k e w)
-        at-flat unit j = nothing-found
-        at-flat (primitive s) j = at-sort s j (lit_component kind s) refl
-        at-flat (def n) j = nothing-found
-        at-flat (typevar n) j = nothing-found
+        at_flat : (a : Flat) → graph W q ≡ over (flat_head a) [] → Leaves W₀ B₀ P Met W (literal_at Met meet P kind p (over (flat_head a) []) k e w)
+        at_flat unit j = nothing_found
+        at_flat (primitive s) j = at-sort s j (lit_component kind s) refl
+        at_flat (def n) j = nothing_found
+        at_flat (typevar n) j = nothing_found
 
-        at-shape : (s : Shape) → graph W q ≡ s → ShapeFormed s → Leaves W₀ B₀ P Met W (literal_at Met meet P kind p s k e w)
-        at-shape _ j (variable_formed v) = first-found-leaves W₀ B₀ P c₀ Met meet e Q R k on (lit_tries kind p) w S f (tries-lead kind refl)
-        at-shape _ j (flat_formed a) = at-flat a j
-        at-shape _ j (container_formed o s) = nothing-found
-        at-shape _ j (function_formed n xs r len few) = nothing-found
+        at_shape : (s : Shape) → graph W q ≡ s → ShapeFormed s → Leaves W₀ B₀ P Met W (literal_at Met meet P kind p s k e w)
+        at_shape _ j (variable_formed v) = first_found_leaves W₀ B₀ P c₀ Met meet e Q R k on (lit_tries kind p) w S f (tries-lead kind refl)
+        at_shape _ j (flat_formed a) = at_flat a j
+        at_shape _ j (container_formed o s) = nothing_found
+        at_shape _ j (function_formed n xs r len few) = nothing_found
 
-      at-end : (o : Option ℕ) → follow (graph W) deep e.binds p ≡ o → Leaves W₀ B₀ P Met W (literal_end Met meet P kind p o k e w)
-      at-end none i = nothing-found
-      at-end (some q) i =
-          at-shape q i (graph W q) refl
+      at_end : (o : Option ℕ) → follow (graph W) deep e.binds p ≡ o → Leaves W₀ B₀ P Met W (literal_end Met meet P kind p o k e w)
+      at_end none i = nothing_found
+      at_end (some q) i =
+          at_shape q i (graph W q) refl
           (placed_formed W S.grown.checked q (follow_names (graph W) e.binds (PlacedIn W) (binds_name_places W
           e.binds S.binds) deep p q (placed_grown W₀ c₀ W S.grown p x) i))
 
     pub literal_goes : Goes W₀ B₀ P Met Q (literal Met meet P kind p k)
     unfolding literal
-    literal_goes e w S f = at-end e w S f (follow (graph w.lent) deep e.binds p) refl
+    literal_goes e w S f = at_end e w S f (follow (graph w.lent) deep e.binds p) refl

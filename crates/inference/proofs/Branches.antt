@@ -269,23 +269,23 @@ module _ (Met : Type 0) (meet : Path → Lent → Met → Met) (P : Problem) (We
           (first_found Met meet P ts k e) (first-found-goes ts)
 
       -- the tries over what was made, whose nodes are given back
-      tried-goes : (w : World Met) (W : Lent) (ts : List Try) → Goes Went w (nodes_returned w.lent (first_found Met meet P ts k e (lending w W)))
-      tried-goes w W ts = given_back_goes w.lent w _ (lent_goes w W (first_found Met meet P ts k e) (first-found-goes ts))
+      tried_goes : (w : World Met) (W : Lent) (ts : List Try) → Goes Went w (nodes_returned w.lent (first_found Met meet P ts k e (lending w W)))
+      tried_goes w W ts = given_back_goes w.lent w _ (lent_goes w W (first_found Met meet P ts k e) (first-found-goes ts))
 
-      narrower-goes : (l r : ℕ) → From (narrower Met meet P l r k e)
-      narrower-goes l r w =
+      narrower_goes : (l r : ℕ) → From (narrower Met meet P l r k e)
+      narrower_goes l r w =
           on_made_goes Any Perhaps (strict_related false e.binds r w.lent) (ends_each _ (no_room_is_15_or_16 w.lent false e.binds r)) w w _ missed
-          (λ ps W u. tried-goes w W (narrower_tries l 1 ps)) (λ W u. missed_goes w W)
+          (λ ps W u. tried_goes w W (narrower_tries l 1 ps)) (λ W u. missed_goes w W)
 
-      wider-goes : (l r : ℕ) → From (wider Met meet P l r k e)
-      wider-goes l r w =
+      wider_goes : (l r : ℕ) → From (wider Met meet P l r k e)
+      wider_goes l r w =
           on_made_goes Any Perhaps (strict_related true e.binds l w.lent)
           (ends_each _ (no_room_is_15_or_16 w.lent true e.binds l)) w w _ (narrower Met meet P l r k e)
-          (λ ps W u. tried-goes w W (wider_tries r 1 ps)) (λ W u. lent_goes w W (narrower Met meet P l r k e) (narrower-goes l r))
+          (λ ps W u. tried_goes w W (wider_tries r 1 ps)) (λ W u. lent_goes w W (narrower Met meet P l r k e) (narrower_goes l r))
 
       widening-goes : (l r : ℕ) → From (widening Met meet P l r k e)
       unfolding widening
-      widening-goes l r w = or_else_goes w _ (unifying_goes e.binds l r _ w (λ C x. h 0 C x w)) (wider Met meet P l r k e) (wider-goes l r)
+      widening-goes l r w = or_else_goes w _ (unifying_goes e.binds l r _ w (λ C x. h 0 C x w)) (wider Met meet P l r k e) (wider_goes l r)
 
       literal-goes : (kind : LitKind) (p : ℕ) → From (literal Met meet P kind p k e)
       unfolding literal

@@ -17,7 +17,7 @@ use Rattle.unification.specs.Unify.{Unifies, yes_with, no_way, too_deep, unify}
 use Rattle.unification.specs.Solutions.{Respects, Equates}
 use Rattle.unification.specs.Making.{Lent, graph, with_nodes_of}
 use Rattle.unification.specs.Growing.{CheckedLent, PlacedIn, Grows, CheckedBinds}
-use Rattle.unification.proofs.Grows.{grows_refl, grows_trans, given_back_grows, placed_grown, term_grown, respects-grown}
+use Rattle.unification.proofs.Grows.{grows_refl, grows_trans, given_back_grows, placed_grown, term_grown, respects_grown}
 use Rattle.unification.proofs.BindsGrow.{binds_name_places, checked_binds_grown}
 use Rattle.unification.proofs.Answers.{Agreeing, yes_agrees}
 use Rattle.inference.specs.declared.Constraint.{Constraint}
@@ -144,7 +144,7 @@ module _ (W₀ : Lent) (B₀ : Binds) (P : Problem) where
   sound_grown W W' e Q c₀ s g =
       let c = s.grown.checked in
       let b = binds_name_places W e.binds s.binds in
-      let back : (σ : ℕ → Term) → Respects (graph W') e.binds σ → Respects (graph W) e.binds σ = λ σ r. (respects-grown W c W' g e.binds b σ).1 r in
+      let back : (σ : ℕ → Term) → Respects (graph W') e.binds σ → Respects (graph W) e.binds σ = λ σ r. (respects_grown W c W' g e.binds b σ).1 r in
       record {
         grown = grows_trans W₀ c₀ W W' s.grown g;
         binds = checked_binds_grown W W' e.binds c s.binds g;
@@ -183,27 +183,27 @@ module _ (W₀ : Lent) (B₀ : Binds) (P : Problem) where
       abbrev pub After : (World Met → Out Met) → Type 0
       After f = (v : World Met) → Grows w.lent v.lent → Sound v.lent e Q → FineBest v.lent v.best → Leaves Met v.lent (f v)
 
-      after-leaves : CheckedLent W₀ → (f : World Met → Out Met) → After f → (v : World Met) → Went Met w.lent v → Leaves Met w.lent (f v)
-      after-leaves c₀ f y v x =
+      after_leaves : CheckedLent W₀ → (f : World Met → Out Met) → After f → (v : World Met) → Went Met w.lent v → Leaves Met w.lent (f v)
+      after_leaves c₀ f y v x =
           leaves_from Met w.lent s.grown.checked v.lent x.only (f v) (y v x.only.grows
           (sound_grown w.lent v.lent e Q c₀ s x.only.grows) x.best)
 
       -- "where nothing was found, what else"
-      pub or-else-leaves : CheckedLent W₀ → (o : Out Met) (f : World Met → Out Met) → Leaves Met w.lent o → After f → Leaves Met w.lent (else_try o f)
+      pub or_else_leaves : CheckedLent W₀ → (o : Out Met) (f : World Met → Out Met) → Leaves Met w.lent o → After f → Leaves Met w.lent (else_try o f)
       unfolding Leaves
-      or-else-leaves c₀ (found v) f x y = x
-      or-else-leaves c₀ (missed v) f x y = after-leaves c₀ f y v x
-      or-else-leaves c₀ (ended b W) f x y = x
+      or_else_leaves c₀ (found v) f x y = x
+      or_else_leaves c₀ (missed v) f x y = after_leaves c₀ f y v x
+      or_else_leaves c₀ (ended b W) f x y = x
 
-      pub and-also-leaves : CheckedLent W₀ → (o : Out Met) (b : Bool) (f : Bool → World Met → Out Met)
+      pub and_also_leaves : CheckedLent W₀ → (o : Out Met) (b : Bool) (f : Bool → World Met → Out Met)
           → Leaves Met w.lent o → ((b : Bool) → After (f b)) → Leaves Met w.lent (and_also o b f)
       unfolding Leaves
-      and-also-leaves c₀ (found v) b f x y = after-leaves c₀ (f true) (y true) v x
-      and-also-leaves c₀ (missed v) b f x y = after-leaves c₀ (f b) (y b) v x
-      and-also-leaves c₀ (ended d W) b f x y = x
+      and_also_leaves c₀ (found v) b f x y = after_leaves c₀ (f true) (y true) v x
+      and_also_leaves c₀ (missed v) b f x y = after_leaves c₀ (f b) (y b) v x
+      and_also_leaves c₀ (ended d W) b f x y = x
 
       -- Two places made equal, and on from there, where R is claimed of every assignment that makes them equal.
-      pub unifying-leaves : FineBest w.lent w.best → (l r : ℕ) → PlacedIn w.lent l → PlacedIn w.lent r
+      pub unifying_leaves : FineBest w.lent w.best → (l r : ℕ) → PlacedIn w.lent l → PlacedIn w.lent r
           → (ms : Components) (cs : List Choice) (R : Claim)
           → ((ρ : Assignment) → Respects (graph w.lent) e.binds (terms ρ) → Equates (graph w.lent) (terms ρ)
           l r → Q e.choices ρ e.measure → R cs ρ ms)
@@ -212,10 +212,10 @@ module _ (W₀ : Lent) (B₀ : Binds) (P : Problem) where
           → Leaves Met w.lent (k C w))
           → Leaves Met w.lent (unifying e.binds l r k w)
       unfolding unifying
-      unifying-leaves f l r x y ms cs R h k on = go (unify (graph w.lent) e.binds l r) refl
+      unifying_leaves f l r x y ms cs R h k on = go (unify (graph w.lent) e.binds l r) refl
         where
-          sound-on : (C : Binds) → Agreeing w.lent e.binds l r C → Sound w.lent (record { binds = C; measure = ms; choices = cs }) R
-          sound-on C a =
+          sound_on : (C : Binds) → Agreeing w.lent e.binds l r C → Sound w.lent (record { binds = C; measure = ms; choices = cs }) R
+          sound_on C a =
               record {
                 grown = s.grown;
                 binds = a.binds;
@@ -224,6 +224,6 @@ module _ (W₀ : Lent) (B₀ : Binds) (P : Problem) where
               }
 
           go : (U : Unifies) → unify (graph w.lent) e.binds l r ≡ U → Leaves Met w.lent (on_yes U k w)
-          go (yes_with C) q = on C (sound-on C (yes_agrees w.lent s.grown.checked e.binds s.binds l r x y C q))
+          go (yes_with C) q = on C (sound_on C (yes_agrees w.lent s.grown.checked e.binds s.binds l r x y C q))
           go no_way q = missed_leaves Met w s.grown.checked f
           go too_deep q = missed_leaves Met w s.grown.checked f

@@ -11,7 +11,7 @@ use Rattle.unification.specs.Related.{each}
 use Rattle.unification.specs.Solutions.{Respects}
 use Rattle.unification.specs.Making.{Lent, graph}
 use Rattle.unification.specs.Growing.{CheckedLent, PlacedIn, Grows}
-use Rattle.unification.proofs.Grows.{placed_grown, respects-grown}
+use Rattle.unification.proofs.Grows.{placed_grown, respects_grown}
 use Rattle.unification.proofs.BindsGrow.{binds_name_places}
 use Rattle.unification.proofs.PlaceTerms.{sort_placed, sort_term}
 use Rattle.inference.specs.Constraints.{Problem}
@@ -19,7 +19,7 @@ use Rattle.inference.specs.Measure.{Components}
 use Rattle.inference.specs.Search.{Path, Choice, Going, with_components, join_of, sort_in, sequence, joining}
 use Rattle.inference.specs.Typing.{Assignment, Has, All, and_all}
 use Rattle.inference.specs.Components.{joins, Heads, no_heads, and_head}
-use Rattle.inference.proofs.Invariant.{Claim, terms, Goes, still_placed, same_sort, or-else-leaves, unifying-leaves}
+use Rattle.inference.proofs.Invariant.{Claim, terms, Goes, still_placed, same_sort, or_else_leaves, unifying_leaves}
 use Rattle.inference.proofs.MakingSorts.{StandAll, all_stand, and_stands, HeadsAre, no_heads as no-heads-are}
 use Rattle.inference.proofs.MakingSorts.{and_head_is, JoinsTo, Agree, join_of_makes, on_made_leaves}
 
@@ -49,12 +49,12 @@ module _ (W₀ : Lent) (B₀ : Binds) (P : Problem) (c₀ : CheckedLent W₀) (M
         on_made_leaves W₀ B₀ P c₀ Met (Agree w.lent e.binds ss) (Unit {0}) e w Q s b (join_of e.binds ss w.lent)
         (join_of_makes w.lent s.grown.checked e.binds s.binds ss (still_placed W₀ c₀ w.lent s.grown ss placed)) _ _
         (λ a v g s' b' q.
-        or-else-leaves W₀ B₀ P Met e v Q s' c₀ _ _
-        (unifying-leaves W₀ B₀ P Met e v Q s' b' t a.sort (placed_grown W₀ c₀ v.lent s'.grown t at)
+        or_else_leaves W₀ B₀ P Met e v Q s' c₀ _ _
+        (unifying_leaves W₀ B₀ P Met e v Q s' b' t a.sort (placed_grown W₀ c₀ v.lent s'.grown t at)
         (sort_placed v.lent s'.grown.checked a.sort q.agreed.number)
         (e.measure ++ a.components) e.choices R
         (λ ρ r eq cl.
-        let r' = (respects-grown w.lent s.grown.checked v.lent g e.binds (binds_name_places w.lent e.binds s.binds) (terms ρ)).1 r in
+        let r' = (respects_grown w.lent s.grown.checked v.lent g e.binds (binds_name_places w.lent e.binds s.binds) (terms ρ)).1 r in
         claimed e.choices ρ e.measure (sort_in v.lent a.sort) (each (sort_in q.lists) q.sorts) a.components cl
         ((same_sort W₀ c₀ v.lent s'.grown ρ t (sort_in v.lent a.sort) at).0 (eq ∙ sort_term v.lent
         s'.grown.checked (terms ρ) a.sort q.agreed.number))

@@ -28,10 +28,10 @@ module _ (W₀ : Lent) (B₀ : Binds) (P : Problem) (c₀ : CheckedLent W₀) (b
 
     module _ (W : Lent) (g : Grows W₀ W) (B : Binds) (W' : Lent) (ρ : Assignment) (r : Respects (graph W) B (terms ρ))
         (free : (u : ℕ) → binding B u ≡ none → terms ρ u ≡ term_of (sort_in W P.default)) where
-      typed-here : (ps ss : List ℕ) → All (PlacedIn W₀) ps → StandAll W B (Is (record { 0 = P.default })) W' ps ss → Typed (graph W₀) (sort_in W') ρ ps ss
-      typed-here _ _ i all_stand = all_typed
-      typed-here _ _ (and_all _ _ i is) (and_stands p s ps ss l f t) =
-          and_typed p s ps ss ((same_sort W₀ c₀ W g ρ p (sort_in W' s) i).0 (f (terms ρ) r free)) (typed-here ps ss is t)
+      typed_here : (ps ss : List ℕ) → All (PlacedIn W₀) ps → StandAll W B (Is (record { 0 = P.default })) W' ps ss → Typed (graph W₀) (sort_in W') ρ ps ss
+      typed_here _ _ i all_stand = all_typed
+      typed_here _ _ (and_all _ _ i is) (and_stands p s ps ss l f t) =
+          and_typed p s ps ss ((same_sort W₀ c₀ W g ρ p (sort_in W' s) i).0 (f (terms ρ) r free)) (typed_here ps ss is t)
 
     replace_leaves : (e : Path) (w : World Met) → Sound W₀ B₀ P w.lent e AllPassed
         → FineBest W₀ B₀ P w.lent w.best → Leaves W₀ B₀ P Met w.lent (replace Met meet P e w)
@@ -52,7 +52,7 @@ module _ (W₀ : Lent) (B₀ : Binds) (P : Problem) (c₀ : CheckedLent W₀) (b
                 numbers = stand_below W e.binds x v.lent P.exprs ss t;
                 assignment = a.0;
                 respects = s.refines (terms a.0) a.1.0;
-                typed = typed-here W s.grown e.binds v.lent a.0 a.1.0 (λ u f. ap term_of (a.1.1 u f)) P.exprs ss placed t;
+                typed = typed_here W s.grown e.binds v.lent a.0 a.1.0 (λ u f. ap term_of (a.1.1 u f)) P.exprs ss placed t;
                 costs = s.costs a.0 a.1.0;
               };
         })

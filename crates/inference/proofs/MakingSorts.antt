@@ -26,7 +26,7 @@ use Rattle.unification.specs.Related.{each}
 use Rattle.unification.specs.Resolve.{value, DefaultBelow, term_resolved}
 use Rattle.unification.specs.Making.{Lent, graph, Makes, made, no_list, no_room, ◌and-then◌, with_sorts, intern_container}
 use Rattle.unification.specs.Growing.{CheckedLent, PlacedIn, Grows, CheckedBinds}
-use Rattle.unification.proofs.Grows.{placed_grown, term_grown, respects-grown}
+use Rattle.unification.proofs.Grows.{placed_grown, term_grown, respects_grown}
 use Rattle.unification.proofs.BindsGrow.{binds_name_places, checked_binds_grown}
 use Rattle.unification.proofs.MakingGrows.{MadeFrom, IsSort, container_grows}
 use Rattle.unification.proofs.SortsLeft.{SortWith, Leaves as LeavesSorts}
@@ -176,7 +176,7 @@ default_grown Nothing n m l h = tt
 module _ (W : Lent) (c : CheckedLent W) (B : Binds) (b : CheckedBinds W B) (x : Default) (l : DefaultBelow W.lengths.sorts x) where
   stands_before : (W' : Lent) → Grows W W' → (p : ℕ) → PlacedIn W p → (t : Tree) → AlwaysStandsFor W' B x p t → AlwaysStandsFor W B x p t
   stands_before W' g p i t f σ r h =
-      ap (substitute σ) (sym (term_grown W c W' g p i)) ∙ f σ ((respects-grown W c W' g B (binds_name_places W B b) σ).0 r) (free_grown W W' B x l g σ h)
+      ap (substitute σ) (sym (term_grown W c W' g p i)) ∙ f σ ((respects_grown W c W' g B (binds_name_places W B b) σ).0 r) (free_grown W W' B x l g σ h)
 
   pub resolve_all_makes : (ps : List ℕ) → All (PlacedIn W) ps → (W₁ : Lent) → SortsOnly W W₁
       → MadeSorts (λ W' ss. StandAll W B x W' ps ss) (NoDefault x) W₁ (resolve_all x B ps W₁)

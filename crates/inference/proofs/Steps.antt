@@ -104,13 +104,13 @@ module _ (W₀ : Lent) (B₀ : Binds) (P : Problem) where
         go false = g e w s f
 
     module _ (below : P.default < W₀.lengths.sorts) (placed : All (PlacedIn W₀) P.exprs) where
-      pub solve-goes : (cs done : List Constraint) → done ++ cs ≡ P.constraints → All (ListedConstraint W₀ P) cs → Goes W₀ B₀ P Met (Passed done) (solve Met meet P cs)
+      pub solve_goes : (cs done : List Constraint) → done ++ cs ≡ P.constraints → All (ListedConstraint W₀ P) cs → Goes W₀ B₀ P Met (Passed done) (solve Met meet P cs)
       unfolding solve
-      solve-goes [] done q l =
+      solve_goes [] done q l =
           unless_goes (leaf Met meet P) (Passed done)
           (weaker_goes W₀ B₀ P Met (Passed done) (Passed P.constraints) (λ ch ρ ms x. subst (λ cs. Cost W₀ B₀ P ch
           ρ cs ms) (sym (append-nil done) ∙ q) x) (leaf Met meet P)
           (leaf_goes W₀ B₀ P c₀ below placed Met meet))
-      solve-goes (c ∷ cs) done q (and_all _ _ l ls) =
+      solve_goes (c ∷ cs) done q (and_all _ _ l ls) =
           unless_goes (step Met meet P c (solve Met meet P cs)) (Passed done)
-          (step_goes done c l (solve Met meet P cs) (solve-goes cs (done ++ (c ∷ [])) (append_assoc done (c ∷ []) cs ∙ q) ls))
+          (step_goes done c l (solve Met meet P cs) (solve_goes cs (done ++ (c ∷ [])) (append_assoc done (c ∷ []) cs ∙ q) ls))

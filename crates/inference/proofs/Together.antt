@@ -44,7 +44,7 @@ use Rattle.inference.proofs.Invariant.{Cost, Fine, FineBest, Leaves}
 use Rattle.inference.proofs.HandedOut.{sort_row, kind_row, name_row, rows_are, choices_read}
 use Rattle.inference.proofs.Choices.{names_and_choices}
 use Rattle.inference.proofs.Accepted.{Accepted, refused_or_searched}
-use Rattle.inference.proofs.Steps.{solve-goes}
+use Rattle.inference.proofs.Steps.{solve_goes}
 use Rattle.inference.specs.Explained.{Explained}
 
 -- what is met at a cost is met
@@ -106,7 +106,7 @@ module _ (I : Call) where
   pub search_leaves : Accepted I → (Met : Type 0) (meet : Path → Lent → Met → Met) (m : Met) → Leaves W₀ B₀ P Met W₀ (searched Met meet m I)
   unfolding FineBest
   search_leaves A Met meet m =
-      solve-goes W₀ B₀ P A.ready.nodes A.six Met meet A.default A.exprs P.constraints [] refl
+      solve_goes W₀ B₀ P A.ready.nodes A.six Met meet A.default A.exprs P.constraints [] refl
       A.constraints (start_path I) (record { lent = W₀; best = none; met = m })
       (record { grown = grows_refl W₀ A.ready.nodes; binds = A.ready.binds; refines = λ σ r. r; costs = λ ρ r. nothing_costs }) tt
 

@@ -16,7 +16,7 @@ use Rattle.unification.specs.Related.{related, Member, first, later}
 use Rattle.unification.specs.Making.{Lent, graph, Makes, made, no_list, no_room, strict_related}
 use Rattle.unification.proofs.Lists.{term_injective}
 use Rattle.unification.specs.Growing.{CheckedLent, PlacedIn, Grows, term_in}
-use Rattle.unification.proofs.Grows.{grows_trans, placed_grown, respects-grown}
+use Rattle.unification.proofs.Grows.{grows_trans, placed_grown, respects_grown}
 use Rattle.unification.proofs.BindsGrow.{binds_name_places}
 use Rattle.unification.proofs.MakingGrows.{MadeFrom, made_grows}
 use Rattle.unification.proofs.Wider.{member_each, each_member, narrower_is_wider}
@@ -30,9 +30,9 @@ use Rattle.inference.specs.Search.{wider_tries, narrower_tries, Going, first_fou
 use Rattle.inference.specs.Search.{sequence}
 use Rattle.inference.specs.Typing.{Assignment, Has, All, none_left, and_all}
 use Rattle.inference.specs.Components.{Widened, equal_to, wider_by, Sequence, no_source, and_source}
-use Rattle.inference.proofs.Tries.{Leads, try-leaves, first-found-leaves}
+use Rattle.inference.proofs.Tries.{Leads, try_leaves, first_found_leaves}
 use Rattle.inference.proofs.Invariant.{Claim, terms, Sound, FineBest, Leaves, Goes, same_sort}
-use Rattle.inference.proofs.Invariant.{equal_have_one_sort, or-else-leaves, missed_leaves, given_back_leaves}
+use Rattle.inference.proofs.Invariant.{equal_have_one_sort, or_else_leaves, missed_leaves, given_back_leaves}
 use Rattle.inference.proofs.Invariant.{sound_grown, fine_grown, weaker_goes}
 
 -- the tries of a list of places: one for each place, with its position in the component
@@ -59,7 +59,7 @@ module _ (W₀ : Lent) (B₀ : Binds) (P : Problem) (c₀ : CheckedLent W₀) (M
         → (t u : Tree) × (Has (graph W₀) ρ p t × Has (graph W') ρ q u × Member u j (related up t))
     related_sort ρ r j q m =
         let t = place_has_a_sort W₀ c₀ ρ p x in
-        let before = (respects-grown W s.grown.checked W' g e.binds (binds_name_places W e.binds s.binds) (terms ρ)).1 r in
+        let before = (respects_grown W s.grown.checked W' g e.binds (binds_name_places W e.binds s.binds) (terms ρ)).1 r in
         let same = a.1 (terms ρ) before t.0 ((same_sort W₀ c₀ W s.grown ρ p t.0 x).1 t.1) in
         let u = each_member term_of (term_in W' (terms ρ) q) j (related up t.0)
         (subst (Member (term_in W' (terms ρ) q) j) same (member_each (term_in W' (terms ρ)) m)) in
@@ -71,8 +71,8 @@ module _ (W₀ : Lent) (B₀ : Binds) (P : Problem) (c₀ : CheckedLent W₀) (M
         → Has (graph W₀) ρ l s → Has (graph W₀) ρ r t → Widened s t n → R ch ρ (ms ++ (n ∷ [])))
         (k : Going Met meet P) (goes : Goes W₀ B₀ P Met R k) (e : Path) where
       module _ (W : Lent) (s : Sound W₀ B₀ P W e Q) where
-        equal-leads : Leads W e Q R (record { left = l; right = r; component = 0 })
-        equal-leads =
+        equal_leads : Leads W e Q R (record { left = l; right = r; component = 0 })
+        equal_leads =
             record {
               left = placed_grown W₀ c₀ W s.grown l x;
               right = placed_grown W₀ c₀ W s.grown r y;
@@ -85,8 +85,8 @@ module _ (W₀ : Lent) (B₀ : Binds) (P : Problem) (c₀ : CheckedLent W₀) (M
           all_grown : Grows W₀ W'
           all_grown = grows_trans W₀ c₀ W W' s.grown g
 
-          wider-lead : StandForRelated true e.binds W l W' ps → All (Leads W' e Q R) (wider_tries r 1 ps)
-          wider-lead a =
+          wider_lead : StandForRelated true e.binds W l W' ps → All (Leads W' e Q R) (wider_tries r 1 ps)
+          wider_lead a =
               wider_each (Leads W' e Q R) r 1 ps
               (λ j p n m i. record {
                 left = a.0 p (member_is_one m);
@@ -97,8 +97,8 @@ module _ (W₀ : Lent) (B₀ : Binds) (P : Problem) (c₀ : CheckedLent W₀) (M
                     (subst (Widened b.0 b.1) (omega (arith, i)) (wider_by b.1 j b.2.2));
               })
 
-          narrower-lead : StandForRelated false e.binds W r W' ps → All (Leads W' e Q R) (narrower_tries l 1 ps)
-          narrower-lead a =
+          narrower_lead : StandForRelated false e.binds W r W' ps → All (Leads W' e Q R) (narrower_tries l 1 ps)
+          narrower_lead a =
               narrower_each (Leads W' e Q R) l 1 ps
               (λ j p n m i. record {
                 left = placed_grown W₀ c₀ W' all_grown l x;
@@ -126,7 +126,7 @@ module _ (W₀ : Lent) (B₀ : Binds) (P : Problem) (c₀ : CheckedLent W₀) (M
             go (made ps W') i m =
                 let g = made_grows (StandForRelated up e.binds w.lent p) w.lent W' ps (made ps W') m refl in
                 given_back_leaves W₀ B₀ P Met w.lent s.grown.checked W' g.0 (first_found Met meet P (tries ps) k e (lending w W'))
-                (first-found-leaves W₀ B₀ P c₀ Met meet e Q R k goes (tries ps) (lending w W') (sound_grown W₀ B₀ P
+                (first_found_leaves W₀ B₀ P c₀ Met meet e Q R k goes (tries ps) (lending w W') (sound_grown W₀ B₀ P
                 w.lent W' e Q c₀ s g.0) (fine_grown W₀ B₀ P w.lent W' g.0 w.best f)
                 (lead ps W' g.0 g.1))
             go (no_list W') i m =
@@ -134,12 +134,12 @@ module _ (W₀ : Lent) (B₀ : Binds) (P : Problem) (c₀ : CheckedLent W₀) (M
                 (sym (no_list_is_free w.lent s.grown.checked e.binds s.binds up p W' i).1) o
             go (no_room b W') i m = m
 
-        narrower-leaves : Leaves W₀ B₀ P Met w.lent (narrower Met meet P l r k e w)
-        narrower-leaves = listed-leaves false r y (narrower_tries l 1) (narrower-lead w.lent s) (λ e. missed)
+        narrower_leaves : Leaves W₀ B₀ P Met w.lent (narrower Met meet P l r k e w)
+        narrower_leaves = listed-leaves false r y (narrower_tries l 1) (narrower_lead w.lent s) (λ e. missed)
             (missed_leaves W₀ B₀ P Met w s.grown.checked f)
 
-        wider-leaves : Leaves W₀ B₀ P Met w.lent (wider Met meet P l r k e w)
-        wider-leaves = listed-leaves true l x (wider_tries r 1) (wider-lead w.lent s) (narrower Met meet P l r k) narrower-leaves
+        wider_leaves : Leaves W₀ B₀ P Met w.lent (wider Met meet P l r k e w)
+        wider_leaves = listed-leaves true l x (wider_tries r 1) (wider_lead w.lent s) (narrower Met meet P l r k) narrower_leaves
 
     -- From Q to R by a widening, where R holds of whatever is widened so.
     pub widening_goes : (l r : ℕ) → PlacedIn W₀ l → PlacedIn W₀ r → (Q R : Claim)
@@ -148,9 +148,9 @@ module _ (W₀ : Lent) (B₀ : Binds) (P : Problem) (c₀ : CheckedLent W₀) (M
         → (k : Going Met meet P) → Goes W₀ B₀ P Met R k → Goes W₀ B₀ P Met Q (widening Met meet P l r k)
     unfolding widening
     widening_goes l r x y Q R h k g e w s f =
-        or-else-leaves W₀ B₀ P Met e w Q s c₀ _ (wider Met meet P l r k e)
-        (try-leaves W₀ B₀ P c₀ Met meet e Q R k g w s f (record { left = l; right = r; component = 0 }) (equal-leads l r x y Q R h k g e w.lent s))
-        (λ v _ s' f'. wider-leaves l r x y Q R h k g e v s' f')
+        or_else_leaves W₀ B₀ P Met e w Q s c₀ _ (wider Met meet P l r k e)
+        (try_leaves W₀ B₀ P c₀ Met meet e Q R k g w s f (record { left = l; right = r; component = 0 }) (equal_leads l r x y Q R h k g e w.lent s))
+        (λ v _ s' f'. wider_leaves l r x y Q R h k g e v s' f')
 
     -- whatever the sources add, R holds with it
     abbrev Adding : ℕ → Claim → List ℕ → Claim

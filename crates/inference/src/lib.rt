@@ -1,5 +1,7 @@
 // The constraints of merc's inference.rs and the solver's outcome: the types that definitions,
 // contracts and code speak of.
+#![tactic(auto)]
+
 use resolved_sort::{Counts, Run, SortId};
 use unification::InferSortId;
 

@@ -3,6 +3,8 @@
 //
 // The work is done by `take`, on the bytes that a read has put into the buffer. For an input in any parts the calls of
 // `next_line` take its lines, each once, the last one without LF too (`every-line-once`).
+#![tactic(auto)]
+
 ghost use Rattle.std.specs.Prelude.{◌≡◌, ◌≤◌, length};
 ghost use Rattle.line_input.specs.Answers.{NextLine};
 ghost use Rattle.line_input.specs.Inner.Answers.{Takes, ReadSome, end_of};

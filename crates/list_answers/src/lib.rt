@@ -1,5 +1,7 @@
 // The solver's answer about a list that stands in one array of words, as text. The slices that a call may change are
 // copied, so that the list stays as it is.
+#![tactic(auto)]
+
 ghost use Rattle.std.specs.Prelude.{◌≡◌, ◌≤◌, length};
 ghost use Rattle.inference.specs.SolveEntry.{solve_entry};
 ghost use Rattle.text_out.specs.Within.{buffer};

@@ -1,5 +1,7 @@
 // A list that stands in one array of words, and the solver asked about it: counts and lent lengths as the list tells
 // them.
+#![tactic(auto)]
+
 ghost use Rattle.std.specs.Prelude.{◌≡◌, ◌+◌, ◌*◌, ◌≤◌, length};
 ghost use Rattle.inference.specs.SolveEntry.{solve_entry};
 ghost use Rattle.list_memory.specs.Memory.{rows_at, most_rows, rows_given};

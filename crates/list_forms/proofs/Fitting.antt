@@ -54,15 +54,15 @@ module _ (t : Tokens) (ps : List ℕ) (i : ℕ) (g : Fitting t ps i) where
     fits_to_the_end z = sym (from_here ∙ none_left t ps (7 - (i + 1)) i z)
 
     module _ (some : get_or ps i 0 ≡ 0 → ⊥) where
-      pub fits-not-so-short : t.count ≤ i → false ≡ fits_from 7 t ps 0
-      fits-not-so-short s = sym (from_here ∙ too_short t ps (7 - (i + 1)) i some s)
+      pub fits_not_so_short : t.count ≤ i → false ≡ fits_from 7 t ps 0
+      fits_not_so_short s = sym (from_here ∙ too_short t ps (7 - (i + 1)) i some s)
 
       module _ (more : i < t.count) (v : ℕ) (e : v ≡ token_at t i) (r : Bool) (f : r ≡ is_of (get_or ps i 0) v) where
-        pub fits-not-this-word : not r ≡ true → false ≡ fits_from 7 t ps 0
-        fits-not-this-word n = sym (from_here ∙ another-word t ps (7 - (i + 1)) i some more v e r f n)
+        pub fits_not_this_word : not r ≡ true → false ≡ fits_from 7 t ps 0
+        fits_not_this_word n = sym (from_here ∙ another-word t ps (7 - (i + 1)) i some more v e r f n)
 
-        pub fits-so-far : not r ≡ false → Fitting t ps (i + 1)
-        fits-so-far n =
+        pub fits_so_far : not r ≡ false → Fitting t ps (i + 1)
+        fits_so_far n =
             record { within = omega arith; same = from_here ∙ this-word t ps (7 - (i + 1)) i some more v e r f n }
 
 -- m words from `from` on, of which those before i are of the item

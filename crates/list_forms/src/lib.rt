@@ -1,5 +1,7 @@
 // What a line of a list gives, by its words and the list so far: rows for lists, words to be set, or what was expected
 // instead. Nothing is stored here.
+#![tactic(auto)]
+
 ghost use Rattle.std.specs.Prelude.{◌≡◌, true, false, ◌≤◌, ◌+◌, ◌-◌, get_or};
 ghost use Rattle.list_tokens.specs.Inner.Tokens.{most_class};
 ghost use Rattle.list_forms.specs.Items.{in_range as within, is_sort_word, is_place_word, is_of, token_at, word_of};

@@ -1,5 +1,7 @@
 // The list program, line by line: what a line of its input makes of the list that is being read, and what is printed
 // for it.
+#![tactic(auto)]
+
 ghost use Rattle.std.specs.Prelude.{◌≡◌, ◌++◌};
 ghost use Rattle.text_out.specs.Quoted.{bytes_of};
 ghost use Rattle.text_out.specs.Within.{PutWithin};

@@ -1,5 +1,7 @@
 // A list of the text format (docs/FORMAT.md) as it is being read: which word of one array is what (specs/Memory.antt
 // says it too), and what comes of a line.
+#![tactic(auto)]
+
 use inference::{
     CHOICE_WORDS, CONSTRAINT_WORDS, MAX_COMPONENTS, MAX_CONSTRAINTS, MAX_EXPRS, MAX_OVERLOADS,
     MAX_SOURCES, NAME_WORDS, OVERLOAD_WORDS, SCRATCH_WORDS, TYPING_WORDS,

@@ -1,4 +1,6 @@
 // What is said of a line that is not of the format (docs/FORMAT.md): what was expected there.
+#![tactic(auto)]
+
 ghost use Rattle.std.specs.Prelude.{◌≡◌, ◌<◌};
 ghost use Rattle.text_out.specs.Within.{PutWithin};
 ghost use Rattle.list_messages.specs.Inner.Messages.{message_number};

@@ -1,4 +1,6 @@
 // A line of the text format, taken into a list.
+#![tactic(auto)]
+
 ghost use Rattle.std.specs.Prelude.{◌≡◌, ◌≤◌, ◌+◌, ◌-◌};
 ghost use Rattle.list_memory.specs.Memory.{taken, list_start, width_of, ceiling_of, list_row_at};
 ghost use Rattle.list_reader.specs.Inner.Taking.{most_place};

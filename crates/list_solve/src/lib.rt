@@ -1,5 +1,7 @@
 // The solver asked about a list that stands in words, with nodes, bindings and scratch that are copies: the list stays
 // as it is.
+#![tactic(auto)]
+
 ghost use Rattle.std.specs.Prelude.{◌≡◌, ◌≤◌, length};
 ghost use Rattle.inference.specs.SolveEntry.{solve_entry};
 ghost use Rattle.list_memory.specs.Memory.{rows_at};

@@ -26,14 +26,14 @@ module _ (w : List ℕ) (i v : ℕ) (g : Going w i v) where
     low_no_number low = sym (g.value ∙ rw (drop-cons w i 0 h, lt-ltb _ _ low))
 
     module _ (low : 48 ≤ get_or w i 0) where
-      pub high-no-number : 57 < get_or w i 0 → no_number ≡ decimal_read 0 w
+      pub high_no_number : 57 < get_or w i 0 → no_number ≡ decimal_read 0 w
       unfolding decimal_read
-      high-no-number high = sym (g.value ∙ rw (drop-cons w i 0 h, le-ltb _ _ low, lt-ltb _ _ high))
+      high_no_number high = sym (g.value ∙ rw (drop-cons w i 0 h, le-ltb _ _ low, lt-ltb _ _ high))
 
       module _ (high : get_or w i 0 ≤ 57) (d : ℕ) (e : d ≡ get_or w i 0 - 48) where
-        pub large-no-number : 65535 < v * 10 + d → no_number ≡ decimal_read 0 w
+        pub large_no_number : 65535 < v * 10 + d → no_number ≡ decimal_read 0 w
         unfolding decimal_read
-        large-no-number large =
+        large_no_number large =
             let l : 65535 < v * 10 + (get_or w i 0 - 48) = omega arith in
             sym (g.value ∙ rw (drop-cons w i 0 h, le-ltb _ _ low, le-ltb _ _ high, lt-ltb _ _ l))
 
@@ -57,13 +57,13 @@ module _ (line : List ℕ) (i : ℕ) (inv : printable_from line ≡ printable_fr
     low_not_printable low = sym (inv ∙ rw (drop-cons line i 0 h, lt-ltb _ _ low))
 
     module _ (low : 32 ≤ get_or line i 0) where
-      pub high-not-printable : 126 < get_or line i 0 → false ≡ printable_from line
+      pub high_not_printable : 126 < get_or line i 0 → false ≡ printable_from line
       unfolding printable_from
-      high-not-printable high = sym (inv ∙ rw (drop-cons line i 0 h, le-ltb _ _ low, lt-ltb _ _ high))
+      high_not_printable high = sym (inv ∙ rw (drop-cons line i 0 h, le-ltb _ _ low, lt-ltb _ _ high))
 
-      pub printable-from-next : get_or line i 0 ≤ 126 → printable_from line ≡ printable_from (drop (i + 1) line)
+      pub printable_from_next : get_or line i 0 ≤ 126 → printable_from line ≡ printable_from (drop (i + 1) line)
       unfolding printable_from
-      printable-from-next high = inv ∙ rw (add-one, drop-cons line i 0 h, le-ltb _ _ low, le-ltb _ _ high)
+      printable_from_next high = inv ∙ rw (add-one, drop-cons line i 0 h, le-ltb _ _ low, le-ltb _ _ high)
 
   pub printable_to_the_end : length line ≤ i → true ≡ printable_from line
   unfolding printable_from
@@ -103,20 +103,20 @@ module _ (w : List ℕ) where
     name_of_sort s e f g = rw (ne_eqb _ _ some, eq-eqb _ _ s) (named 131072 n r u (drop 1 w) e f g)
 
     module _ (not-s : get_or w 0 0 ≡ 115 → ⊥) where
-      pub name-of-node : get_or w 0 0 ≡ 110 → u ≡ drop 1 w → n ≡ number_read u → r ≡ class_of 196608 n → r ≡ name_token w
+      pub name_of_node : get_or w 0 0 ≡ 110 → u ≡ drop 1 w → n ≡ number_read u → r ≡ class_of 196608 n → r ≡ name_token w
       unfolding name_token
-      name-of-node s e f g = rw (ne_eqb _ _ some, ne_eqb _ _ not-s, eq-eqb _ _ s) (named 196608 n r u (drop 1 w) e f g)
+      name_of_node s e f g = rw (ne_eqb _ _ some, ne_eqb _ _ not-s, eq-eqb _ _ s) (named 196608 n r u (drop 1 w) e f g)
 
       module _ (not-n : get_or w 0 0 ≡ 110 → ⊥) where
-        pub name-of-variable : get_or w 0 0 ≡ 118 → u ≡ drop 1 w → n ≡ number_read u → r ≡ class_of 262144 n → r ≡ name_token w
+        pub name_of_variable : get_or w 0 0 ≡ 118 → u ≡ drop 1 w → n ≡ number_read u → r ≡ class_of 262144 n → r ≡ name_token w
         unfolding name_token
-        name-of-variable s e f g =
+        name_of_variable s e f g =
             rw (ne_eqb _ _ some, ne_eqb _ _ not-s, ne_eqb _ _ not-n, eq-eqb _ _ s) (named 262144 n r u (drop 1 w) e f g)
 
         module _ (not-v : get_or w 0 0 ≡ 118 → ⊥) where
-          pub name-of-expression : get_or w 0 0 ≡ 101 → u ≡ drop 1 w → n ≡ number_read u → r ≡ class_of 327680 n → r ≡ name_token w
+          pub name_of_expression : get_or w 0 0 ≡ 101 → u ≡ drop 1 w → n ≡ number_read u → r ≡ class_of 327680 n → r ≡ name_token w
           unfolding name_token
-          name-of-expression s e f g =
+          name_of_expression s e f g =
               rw (ne_eqb _ _ some, ne_eqb _ _ not-s, ne_eqb _ _ not-n, ne_eqb _ _ not-v, eq-eqb _ _ s)
               (named 327680 n r u (drop 1 w) e f g)
 

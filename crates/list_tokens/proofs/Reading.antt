@@ -113,17 +113,17 @@ module _ (line : List ℕ) (from : ℕ) (e : from ≡ offset line (skip (drop 0 
       first_word : token_of (run in_word (skip line)) ≡ t
       first_word = sym (d ∙ ap token_of (the_word line 0 from e to f w g))
 
-      pub line-of-an-answer : t ≡ 25 → Answer ≡ line_start line
+      pub line_of_an_answer : t ≡ 25 → Answer ≡ line_start line
       unfolding line_start
-      line-of-an-answer s = rw (ne_eqb _ _ some_word, ne_eqb _ _ (λ z. c (first_byte ∙ z)), first_word, eq-eqb _ _ s)
+      line_of_an_answer s = rw (ne_eqb _ _ some_word, ne_eqb _ _ (λ z. c (first_byte ∙ z)), first_word, eq-eqb _ _ s)
 
       module _ (n : t ≡ 25 → ⊥) where
-        pub line-of-a-list : t ≡ 1 → NewList ≡ line_start line
+        pub line_of_a_list : t ≡ 1 → NewList ≡ line_start line
         unfolding line_start
-        line-of-a-list s =
+        line_of_a_list s =
             rw (ne_eqb _ _ some_word, ne_eqb _ _ (λ z. c (first_byte ∙ z)), first_word, ne_eqb _ _ n, eq-eqb _ _ s)
 
-        pub line-of-another : (t ≡ 1 → ⊥) → Other ≡ line_start line
+        pub line_of_another : (t ≡ 1 → ⊥) → Other ≡ line_start line
         unfolding line_start
-        line-of-another s =
+        line_of_another s =
             rw (ne_eqb _ _ some_word, ne_eqb _ _ (λ z. c (first_byte ∙ z)), first_word, ne_eqb _ _ n, ne_eqb _ _ s)

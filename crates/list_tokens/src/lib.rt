@@ -1,4 +1,6 @@
 // The words of a line of the text format as numbers.
+#![tactic(auto)]
+
 ghost use Rattle.std.specs.Prelude.{◌≡◌, ◌≤◌, [], drop, get_or};
 ghost use Rattle.sort_text.specs.Parse.{same_bytes};
 ghost use Rattle.sort_text.specs.Tokens.{past};

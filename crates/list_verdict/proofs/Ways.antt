@@ -85,13 +85,13 @@ module _ (ws : List ℕ) (n kind s : ℕ) where
     op_told h = rw (ne_eqb kind 1 a, eq-eqb kind 2 h)
 
     module _ (b : kind ≡ 2 → ⊥) where
-      pub builtin-told : kind ≡ 3 → builtin_text ≡ target_text ws n kind s
+      pub builtin_told : kind ≡ 3 → builtin_text ≡ target_text ws n kind s
       unfolding target_text
-      builtin-told h = rw (ne_eqb kind 1 a, ne_eqb kind 2 b, eq-eqb kind 3 h)
+      builtin_told h = rw (ne_eqb kind 1 a, ne_eqb kind 2 b, eq-eqb kind 3 h)
 
-      pub nothing-told : (kind ≡ 3 → ⊥) → [] ≡ target_text ws n kind s
+      pub nothing_told : (kind ≡ 3 → ⊥) → [] ≡ target_text ws n kind s
       unfolding target_text
-      nothing-told h = rw (ne_eqb kind 1 a, ne_eqb kind 2 b, ne_eqb kind 3 h)
+      nothing_told h = rw (ne_eqb kind 1 a, ne_eqb kind 2 b, ne_eqb kind 3 h)
 
 -- what follows the kind in a row
 module _ (ws : List ℕ) (i k p : ℕ) (ek : k ≡ kind_at ws i) (ep : p ≡ part_at ws i) where
@@ -108,19 +108,19 @@ module _ (ws : List ℕ) (i k p : ℕ) (ek : k ≡ kind_at ws i) (ep : p ≡ par
         rw (le-ltb (kind_at ws i) 6 y, lt-ltb (kind_at ws i) 11 z) (ap (λ (x : ℕ). 32 ∷ sort_name x) ep)
 
     module _ (b : 11 ≤ k) where
-      pub arguments-and-range : k ≡ 11 → (s c : ℕ) → s ≡ start_at ws i → c ≡ count_at ws i
+      pub arguments_and_range : k ≡ 11 → (s c : ℕ) → s ≡ start_at ws i → c ≡ count_at ws i
           → rows_text (argument_text ws) c s ++ (arrow_text ++ sort_name p) ≡ parts ws i
       unfolding parts
-      arguments-and-range h s c es ec =
+      arguments_and_range h s c es ec =
           let x : 6 ≤ kind_at ws i = omega arith in
           let y : 11 ≤ kind_at ws i = omega arith in
           let z : kind_at ws i ≡ 11 = sym ek ∙ h in
           rw (le-ltb (kind_at ws i) 6 x, le-ltb (kind_at ws i) 11 y, eq-eqb (kind_at ws i) 11 z)
           (λ j. rows_text (argument_text ws) (ec j) (es j) ++ (arrow_text ++ sort_name (ep j)))
 
-      pub a-number : (k ≡ 11 → ⊥) → 32 ∷ decimal p ≡ parts ws i
+      pub a_number : (k ≡ 11 → ⊥) → 32 ∷ decimal p ≡ parts ws i
       unfolding parts
-      a-number h =
+      a_number h =
           let x : 6 ≤ kind_at ws i = omega arith in
           let y : 11 ≤ kind_at ws i = omega arith in
           rw (le-ltb (kind_at ws i) 6 x, le-ltb (kind_at ws i) 11 y, ne_eqb (kind_at ws i) 11 (λ q. h (ek ∙ q))) (ap (λ (v : ℕ). 32 ∷ decimal v) ep)
@@ -195,15 +195,15 @@ module _ (ws : List ℕ) (k : Counts) (zs : List ℕ) (s : ℕ) where
       has_room buf l = record { checked = q.checked; below = below; room = omega (arith, fits.1, l) }
 
       module _ (buf : List ℕ) (l : length buf ≡ 200) (left : List ℕ) (end : ℕ) (p : Put buf 0 (text (tree_at ws k.sorts s)) left end) where
-        pub text-ends : end ≤ length left
-        text-ends = omega (arith, fits.1, p.behind, ap length p.bytes, length-sets buf 0 (text (tree_at ws k.sorts s)), l)
+        pub text_ends : end ≤ length left
+        text_ends = omega (arith, fits.1, p.behind, ap length p.bytes, length-sets buf 0 (text (tree_at ws k.sorts s)), l)
 
-        pub text-length : end ≡ length (take end left)
-        text-length = sym (length-take-le end left text-ends)
+        pub text_length : end ≡ length (take end left)
+        text_length = sym (length-take-le end left text_ends)
 
-        pub whole-text : take end left ≡ sort_text ws k.sorts s
+        pub whole_text : take end left ≡ sort_text ws k.sorts s
         unfolding sort_text
-        whole-text =
+        whole_text =
             ap (take end) (p.bytes ∙ sets-eq (text (tree_at ws k.sorts s)) buf 0 (omega (arith, fits.1, l)))
             ∙ (take_at (text (tree_at ws k.sorts s)) _ end (omega (arith, p.behind)) ∙ rw fits.0)
 

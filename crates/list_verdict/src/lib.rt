@@ -1,6 +1,8 @@
 // The text of a verdict of the solver: the line of its code; under a typing a line for each expression, the measure and
 // the choices; and a line for each sort that was made. Text goes into the lent buffer as far as it has room: no length
 // has to be known before.
+#![tactic(auto)]
+
 ghost use Rattle.std.specs.Prelude.{◌+◌, ◌*◌, ◌<◌, ◌≤◌};
 ghost use Rattle.resolved_sort.specs.Rows.{Checked};
 ghost use Rattle.text_out.specs.Quoted.{byte_of};

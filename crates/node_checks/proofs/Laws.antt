@@ -97,13 +97,13 @@ module _ (ns : List ℕ) (d n v i : ℕ) (domain : Run) (range : InferSortId) wh
     run_outside l = sym (rw (le-leb domain.count 16 h, lt-leb (domain.start + domain.count) d l))
 
     module _ (l : domain.start + domain.count ≤ d) (b : Bool) (e : b ≡ is_place n i range.0) where
-      pub range-stray : b ≡ false → false ≡ whole
+      pub range_stray : b ≡ false → false ≡ whole
       unfolding node_parts_fine
-      range-stray x = sym (rw (le-leb domain.count 16 h, le-leb (domain.start + domain.count) d l, sym e ∙ x))
+      range_stray x = sym (rw (le-leb domain.count 16 h, le-leb (domain.start + domain.count) d l, sym e ∙ x))
 
-      pub by-arguments : b ≡ true → (r : Bool) → r ≡ all_below domain.count (arg_placed ns n i domain.start) → r ≡ whole
+      pub by_arguments : b ≡ true → (r : Bool) → r ≡ all_below domain.count (arg_placed ns n i domain.start) → r ≡ whole
       unfolding node_parts_fine
-      by-arguments x r y = y ∙ sym (rw (le-leb domain.count 16 h, le-leb (domain.start + domain.count) d l, sym e ∙ x))
+      by_arguments x r y = y ∙ sym (rw (le-leb domain.count 16 h, le-leb (domain.start + domain.count) d l, sym e ∙ x))
 
 module _ (ns : List ℕ) (d n v i : ℕ) (says : InferSort) where
   pub generic_fine : (op : ComplexSort) (s : InferSortId) (r : Bool) → says ≡ Generic op s → r ≡ is_place n i s.0 → r ≡ node_parts_fine ns d n v i says
@@ -150,11 +150,11 @@ module _ (bs : List ℕ) (v n m : ℕ) where
           ∙ (ap (bindings_fine n m) (drop-cons B i none (omega (arith, l, length_binds bs v)))
           ∙ ap₂ (λ (x : Bool) (j : ℕ). x && bindings_fine n m (drop j B)) (ap (binding_fine n m) (binding_word bs v i l) ∙ sym e) (sym (add-one i)))
 
-      pub bad-binding : b ≡ false → false ≡ bindings_fine n m B
-      bad-binding x = sym (one-and-rest ∙ ap (λ y. y && bindings_fine n m (drop (i + 1) B)) x)
+      pub bad_binding : b ≡ false → false ≡ bindings_fine n m B
+      bad_binding x = sym (one-and-rest ∙ ap (λ y. y && bindings_fine n m (drop (i + 1) B)) x)
 
-      pub one-passed : b ≡ true → Passed (i + 1)
-      one-passed x = record { within = omega (arith, l); left = one-and-rest ∙ ap (λ y. y && bindings_fine n m (drop (i + 1) B)) x }
+      pub one_passed : b ≡ true → Passed (i + 1)
+      one_passed x = record { within = omega (arith, l); left = one-and-rest ∙ ap (λ y. y && bindings_fine n m (drop (i + 1) B)) x }
 
     pub all_passed : v ≤ i → true ≡ bindings_fine n m B
     unfolding bindings_fine

@@ -56,11 +56,11 @@ module _ (ns : List ℕ) (ms : List Bool) (s c : ℕ) where
           ∙ (ap (λ (x : ℕ). all_settled ms (node_entries_of ns (s + j) x)) (let z : c - j ≡ suc (c - (j + 1)) = omega (arith, l) in z)
           ∙ ap₂ (λ (x : Bool) (y : ℕ). x && all_settled ms (node_entries_of ns y (c - (j + 1)))) (sym e) (let z : s + j + 1 ≡ s + (j + 1) = omega arith in z))
 
-      pub argument-open : b ≡ false → false ≡ all_settled ms (node_entries_of ns s c)
-      argument-open x = sym (one-and-rest ∙ ap (λ y. y && all_settled ms (node_entries_of ns (s + (j + 1)) (c - (j + 1)))) x)
+      pub argument_open : b ≡ false → false ≡ all_settled ms (node_entries_of ns s c)
+      argument_open x = sym (one-and-rest ∙ ap (λ y. y && all_settled ms (node_entries_of ns (s + (j + 1)) (c - (j + 1)))) x)
 
-      pub argument-passed : b ≡ true → Run-left (j + 1)
-      argument-passed x = record {
+      pub argument_passed : b ≡ true → Run-left (j + 1)
+      argument_passed x = record {
         within = omega (arith, l);
         left = one-and-rest ∙ ap (λ y. y && all_settled ms
             (node_entries_of ns (s + (j + 1)) (c - (j + 1)))) x;
@@ -91,11 +91,11 @@ module _ (ns : List ℕ) (vs ms : List Bool) (i : ℕ) (r : InferSort) (e : r �
     by_parts = ap (λ z. shape_settled vs ms (node_shape ns z)) (sym e ∙ x) ∙ settled_last ms (node_entries_of ns d.start d.count) s.0
 
     module _ (b : Bool) (eb : b ≡ all_settled ms (node_entries_of ns d.start d.count)) where
-      pub domain-open : b ≡ false → false ≡ whole
-      domain-open y = sym (by_parts ∙ ap (λ z. z && place_settled ms s.0) (sym eb ∙ y))
+      pub domain_open : b ≡ false → false ≡ whole
+      domain_open y = sym (by_parts ∙ ap (λ z. z && place_settled ms s.0) (sym eb ∙ y))
 
-      pub range-decides : b ≡ true → (c : Bool) → c ≡ place_settled ms s.0 → c ≡ whole
-      range-decides y c z = z ∙ sym (by_parts ∙ ap (λ w. w && place_settled ms s.0) (sym eb ∙ y))
+      pub range_decides : b ≡ true → (c : Bool) → c ≡ place_settled ms s.0 → c ≡ whole
+      range_decides y c z = z ∙ sym (by_parts ∙ ap (λ w. w && place_settled ms s.0) (sym eb ∙ y))
 
   pub variable_settled : (u : SortVar) → r ≡ Var u → (b : Bool) → b ≡ get_or vs u.0 false → b ≡ whole
   unfolding node_shape

@@ -2,6 +2,8 @@
 // variable reaches itself: round by round a variable is settled when it is free or when what it is bound to is settled,
 // and a sort when all that stands in it is; as many rounds as there are variables settle all that can be, and where all
 // are settled before, no further round is made.
+#![tactic(auto)]
+
 ghost use Rattle.std.specs.Prelude.{◌≡◌, ◌+◌, ◌<◌, ◌≤◌, false, length, get_or, take};
 ghost use Rattle.resolved_sort.specs.Checks.{all_below, first_failing};
 ghost use Rattle.unification.specs.declared.InferSort.{InferSort};

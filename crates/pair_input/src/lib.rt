@@ -1,5 +1,7 @@
 // The pair program of document 01 over an input that comes in parts: the lines of a pair are held in a bounded memory,
 // and each pair's line of output is put into a bounded buffer.
+#![tactic(auto)]
+
 ghost use Rattle.std.specs.Prelude.{◌+◌, ◌≤◌, length};
 ghost use Rattle.pair_line.specs.PairProgram.{pair as pair_of};
 ghost use Rattle.text_out.specs.Put.{Put};

@@ -108,47 +108,47 @@ module _ (ws : List ℕ) (n e a b : ℕ) (out : List ℕ) (at : ℕ) (q : BothRe
         }
 
     module _ (ws₁ : List ℕ) (n₁ e₁ : ℕ) (out₂ : List ℕ) (at₂ : ℕ) (h₂ : Put out₁ at₁ join_part out₂ at₂) (g₁ : RoomGrows ws n e ws₁ n₁ e₁) where
-      same-lhs : tree_at ws₁ n₁ a ≡ s
-      same-lhs = g₁.same a q.asked.lhs
+      same_lhs : tree_at ws₁ n₁ a ≡ s
+      same_lhs = g₁.same a q.asked.lhs
 
       same_rhs : tree_at ws₁ n₁ b ≡ t
       same_rhs = g₁.same b q.asked.rhs
 
-      meet-part : bound_part false (tree_at ws₁ n₁ a) (tree_at ws₁ n₁ b) ≡ meet_part
-      meet-part = ap₂ (bound_part false) same-lhs same_rhs
+      meet_part_lem : bound_part false (tree_at ws₁ n₁ a) (tree_at ws₁ n₁ b) ≡ meet_part
+      meet_part_lem = ap₂ (bound_part false) same_lhs same_rhs
 
-      pub meet-room : BoundRoom false ws₁ n₁ e₁ a b out₂ at₂
-      meet-room =
+      pub meet_room : BoundRoom false ws₁ n₁ e₁ a b out₂ at₂
+      meet_room =
           record {
             asked = record { checked = g₁.checked; lhs = omega (arith, q.asked.lhs, g₁.longer); rhs = omega (arith, q.asked.rhs, g₁.longer) };
-            of_line = subst OfLine (sym same-lhs) q.of_line;
+            of_line = subst OfLine (sym same_lhs) q.of_line;
             sorts = omega (arith, q.sorts, g₁.sorts);
             entries = omega (arith, q.entries, g₁.entries);
-            room = omega (arith, ap length meet-part, h₁.behind, put_length h₁, h₂.behind, put_length h₂, parts_room, q.room);
+            room = omega (arith, ap length meet_part_lem, h₁.behind, put_length h₁, h₂.behind, put_length h₂, parts_room, q.room);
           }
 
       module _ (ws₂ : List ℕ) (n₂ e₂ : ℕ) (out₃ : List ℕ) (at₃ : ℕ) (h₃ : Put out₂ at₂
           (bound_part false (tree_at ws₁ n₁ a) (tree_at ws₁ n₁ b)) out₃ at₃) (g₂ : RoomGrows ws₁ n₁ e₁ ws₂ n₂ e₂) where
-        pub last-asked : Checked ws₂ n₂ e₂ × (a < n₂) × (b < n₂)
-        last-asked = (g₂.checked, omega (arith, q.asked.lhs, g₁.longer, g₂.longer), omega (arith, q.asked.rhs, g₁.longer, g₂.longer))
+        pub last_asked : Checked ws₂ n₂ e₂ × (a < n₂) × (b < n₂)
+        last_asked = (g₂.checked, omega (arith, q.asked.lhs, g₁.longer, g₂.longer), omega (arith, q.asked.rhs, g₁.longer, g₂.longer))
 
-        same-lhs₂ : tree_at ws₂ n₂ a ≡ s
-        same-lhs₂ = g₂.same a (omega (arith, q.asked.lhs, g₁.longer)) ∙ same-lhs
+        same_lhs₂ : tree_at ws₂ n₂ a ≡ s
+        same_lhs₂ = g₂.same a (omega (arith, q.asked.lhs, g₁.longer)) ∙ same_lhs
 
-        same-rhs₂ : tree_at ws₂ n₂ b ≡ t
-        same-rhs₂ = g₂.same b (omega (arith, q.asked.rhs, g₁.longer)) ∙ same_rhs
+        same_rhs₂ : tree_at ws₂ n₂ b ≡ t
+        same_rhs₂ = g₂.same b (omega (arith, q.asked.rhs, g₁.longer)) ∙ same_rhs
 
         h₃' : Put out₂ at₂ meet_part out₃ at₃
-        h₃' = put_as meet-part h₃
+        h₃' = put_as meet_part_lem h₃
 
         module _ (w : Widening) (ew : w ≡ widening_of (distance true (tree_at ws₂ n₂ a) (tree_at ws₂ n₂ b))) where
-          steps-part : steps_text w ++ comma [] ≡ steps_part
-          steps-part = ap (λ x. steps_text x ++ comma []) (ew ∙ ap₂ (λ x y. widening_of (distance true x y)) same-lhs₂ same-rhs₂)
+          steps_part_lem : steps_text w ++ comma [] ≡ steps_part
+          steps_part_lem = ap (λ x. steps_text x ++ comma []) (ew ∙ ap₂ (λ x y. widening_of (distance true x y)) same_lhs₂ same_rhs₂)
 
-          pub steps-room : at₃ + length (steps_text w ++ comma []) ≤ length out₃
-          steps-room = omega (
+          pub steps_room : at₃ + length (steps_text w ++ comma []) ≤ length out₃
+          steps_room = omega (
             arith,
-            ap length steps-part,
+            ap length steps_part_lem,
             h₁.behind,
             put_length h₁,
             h₂.behind,
@@ -161,17 +161,17 @@ module _ (ws : List ℕ) (n e a b : ℕ) (out : List ℕ) (at : ℕ) (q : BothRe
 
           module _ (out₄ : List ℕ) (at₄ : ℕ) (h₄ : Put out₃ at₃ (steps_text w ++ comma []) out₄ at₄) where
             h₄' : Put out₃ at₃ steps_part out₄ at₄
-            h₄' = put_as steps-part h₄
+            h₄' = put_as steps_part_lem h₄
 
             module _ (y : Bool) (ey : y ≡ materializable (tree_at ws₂ n₂ a) (tree_at ws₂ n₂ b)) where
-              yes-part : with_lf (yes_or_no y) ≡ yes_part
-              yes-part = ap (λ x. with_lf (yes_or_no x)) (ey ∙ ap₂ materializable same-lhs₂ same-rhs₂)
+              yes_part_lem : with_lf (yes_or_no y) ≡ yes_part
+              yes_part_lem = ap (λ x. with_lf (yes_or_no x)) (ey ∙ ap₂ materializable same_lhs₂ same_rhs₂)
 
-              pub yes-room : at₄ + length (with_lf (yes_or_no y)) ≤ length out₄
-              yes-room =
+              pub yes_room : at₄ + length (with_lf (yes_or_no y)) ≤ length out₄
+              yes_room =
                   omega (
                     arith,
-                    ap length yes-part,
+                    ap length yes_part_lem,
                     h₁.behind,
                     put_length h₁,
                     h₂.behind,
@@ -184,6 +184,6 @@ module _ (ws : List ℕ) (n e a b : ℕ) (out : List ℕ) (at : ℕ) (q : BothRe
                     q.room,
                   )
 
-              pub answer-put : (out₅ : List ℕ) (r : ℕ) → Put out₄ at₄ (with_lf (yes_or_no y)) out₅ r → Put out at (with_lf (answer s t)) out₅ r
-              answer-put out₅ r h₅ =
-                  put_as (sym is_parts) (put_then (put_as (ap order_part eo) h₁) (put_then h₂ (put_then h₃' (put_then h₄' (put_as yes-part h₅)))))
+              pub answer_put : (out₅ : List ℕ) (r : ℕ) → Put out₄ at₄ (with_lf (yes_or_no y)) out₅ r → Put out at (with_lf (answer s t)) out₅ r
+              answer_put out₅ r h₅ =
+                  put_as (sym is_parts) (put_then (put_as (ap order_part eo) h₁) (put_then h₂ (put_then h₃' (put_then h₄' (put_as yes_part_lem h₅)))))

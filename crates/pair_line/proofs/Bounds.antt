@@ -75,18 +75,18 @@ module _ (up : Bool) (ws : List ℕ) (n e a b : ℕ) (out : List ℕ) (at : ℕ)
       unfolding Within
       spent = (subst (Within AnyTree (size s) (entries_of s) (sorts_of ws n e)) r.is within).1
 
-      pub bound-grows : RoomGrows ws n e vs K.sorts K.entries
-      bound-grows = grows ws n e q.asked.checked r.sorts r.grown (size s) (entries_of s) spent nodes
+      pub bound_grows : RoomGrows ws n e vs K.sorts K.entries
+      bound_grows = grows ws n e q.asked.checked r.sorts r.grown (size s) (entries_of s) spent nodes
           (omega (arith, nodes, entries_below_size s)) vs K r.words r.counted
 
-      bound-text : text (tree_at vs K.sorts u.0) ≡ sort_or_none (bound up s t)
-      bound-text = ap text (reached_sort ws n e (sorts_of ws n e) O vs u K r) ∙ sym (ap sort_or_none is_bound)
+      bound_text : text (tree_at vs K.sorts u.0) ≡ sort_or_none (bound up s t)
+      bound_text = ap text (reached_sort ws n e (sorts_of ws n e) O vs u K r) ∙ sym (ap sort_or_none is_bound)
 
       room_for : length (text (tree_at vs K.sorts u.0)) + 2 ≡ length (sort_or_none (bound up s t) ++ comma [])
-      room_for = omega (arith, ap length bound-text, length-append (sort_or_none (bound up s t)) (comma []))
+      room_for = omega (arith, ap length bound_text, length-append (sort_or_none (bound up s t)) (comma []))
 
-      pub bound-room : SortRoom vs K.sorts K.entries u.0 out at
-      bound-room =
+      pub bound_room : SortRoom vs K.sorts K.entries u.0 out at
+      bound_room =
           record {
             checked = reached_checked ws n e (sorts_of ws n e) O vs u K r;
             below = reached_below ws n e (sorts_of ws n e) O vs u K r;
@@ -94,11 +94,11 @@ module _ (up : Bool) (ws : List ℕ) (n e a b : ℕ) (out : List ℕ) (at : ℕ)
           }
 
       module _ (out₁ : List ℕ) (p : ℕ) (h : Put out at (text (tree_at vs K.sorts u.0)) out₁ p) where
-        pub comma-room : p + 2 ≤ length out₁
-        comma-room = omega (arith, h.behind, put_length h, room_for, q.room)
+        pub comma_room : p + 2 ≤ length out₁
+        comma_room = omega (arith, h.behind, put_length h, room_for, q.room)
 
-        pub bound-put : (out₂ : List ℕ) (r : ℕ) → Put out₁ p (comma []) out₂ r → Put out at (sort_or_none (bound up s t) ++ comma []) out₂ r
-        bound-put out₂ r k = put_as (ap (λ x. x ++ comma []) bound-text) (put_then h k)
+        pub bound_put : (out₂ : List ℕ) (r : ℕ) → Put out₁ p (comma []) out₂ r → Put out at (sort_or_none (bound up s t) ++ comma []) out₂ r
+        bound_put out₂ r k = put_as (ap (λ x. x ++ comma []) bound_text) (put_then h k)
 
     -- there is none
     module _ (K : Counts) (i : j ≡ Nothing K) where
@@ -117,18 +117,18 @@ module _ (up : Bool) (ws : List ℕ) (n e a b : ℕ) (out : List ℕ) (at : ℕ)
       unfolding SortsKept
       none-grown = (subst (SortsKept ws n e InTree (sorts_of ws n e)) it.1 kept).0
 
-      pub none-grows : RoomGrows ws n e vs K.sorts K.entries
-      none-grows = grows ws n e q.asked.checked it.0 none-grown (size s) (entries_of s) none-spent nodes
+      pub none_grows : RoomGrows ws n e vs K.sorts K.entries
+      none_grows = grows ws n e q.asked.checked it.0 none-grown (size s) (entries_of s) none-spent nodes
           (omega (arith, nodes, entries_below_size s)) vs K it.2 it.3
 
-      is-none-text : none_text ++ comma [] ≡ sort_or_none (bound up s t) ++ comma []
-      is-none-text = sym (ap (λ x. sort_or_none x ++ comma []) is_none)
+      is_none_text : none_text ++ comma [] ≡ sort_or_none (bound up s t) ++ comma []
+      is_none_text = sym (ap (λ x. sort_or_none x ++ comma []) is_none)
 
-      pub none-room : at + 6 ≤ length out
-      none-room = omega (arith, ap length is-none-text, q.room)
+      pub none_room : at + 6 ≤ length out
+      none_room = omega (arith, ap length is_none_text, q.room)
 
-      pub none-put : (out₂ : List ℕ) (r : ℕ) → Put out at (none_text ++ comma []) out₂ r → Put out at (sort_or_none (bound up s t) ++ comma []) out₂ r
-      none-put out₂ r k = put_as is-none-text k
+      pub none_put : (out₂ : List ℕ) (r : ℕ) → Put out at (none_text ++ comma []) out₂ r → Put out at (sort_or_none (bound up s t) ++ comma []) out₂ r
+      none_put out₂ r k = put_as is_none_text k
 
     -- room does not end
     pub not_full : j ≡ Full → ⊥

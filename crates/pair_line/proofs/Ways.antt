@@ -53,11 +53,11 @@ module _ (bs : List ℕ) (p : ℕ) (out : List ℕ) (at : ℕ) (l : length bs �
     unread_room = omega (arith, ap length e, length-drop p bs, l, room, h₁.behind, put_length h₁)
 
     module _ (out₂ : List ℕ) (at₂ : ℕ) (h₂ : Put out₁ at₁ us out₂ at₂) where
-      pub lf-room : at₂ + 1 ≤ length out₂
-      lf-room = omega (arith, ap length e, length-drop p bs, l, room, h₁.behind, put_length h₁, h₂.behind, put_length h₂)
+      pub lf_room : at₂ + 1 ≤ length out₂
+      lf_room = omega (arith, ap length e, length-drop p bs, l, room, h₁.behind, put_length h₁, h₂.behind, put_length h₂)
 
-      pub unread-put : (out₃ : List ℕ) (r : ℕ) → Put out₂ at₂ (10 ∷ []) out₃ r → Put out at (with_lf (50 ∷ 48 ∷ 58 ∷ drop p bs)) out₃ r
-      unread-put out₃ r h₃ = put_then h₁ (put_then (put_as e h₂) h₃)
+      pub unread_put : (out₃ : List ℕ) (r : ℕ) → Put out₂ at₂ (10 ∷ []) out₃ r → Put out at (with_lf (50 ∷ 48 ∷ 58 ∷ drop p bs)) out₃ r
+      unread_put out₃ r h₃ = put_then h₁ (put_then (put_as e h₂) h₃)
 
 -- the second line, the first being read
 module _ (ws : List ℕ) (n e a : ℕ) (second out : List ℕ) (at : ℕ) (q : FirstRead ws n e a out at) where
@@ -88,9 +88,9 @@ module _ (ws : List ℕ) (n e a : ℕ) (second out : List ℕ) (at : ℕ) (q : F
             room = q.room;
           }
 
-      pub second-put : (out₁ : List ℕ) (r : ℕ) → Put out at (with_lf (answer (tree_at vs K.sorts a) (tree_at vs K.sorts u.0))) out₁ r
+      pub second_put : (out₁ : List ℕ) (r : ℕ) → Put out at (with_lf (answer (tree_at vs K.sorts a) (tree_at vs K.sorts u.0))) out₁ r
           → Put out at (with_lf (with_second (tree_at ws n a) (line_of second))) out₁ r
-      second-put = second_as (good (tree_at vs K.sorts u.0)) _ (ap (λ s. answer s (tree_at vs K.sorts u.0)) (sym same)) it.is_good
+      second_put = second_as (good (tree_at vs K.sorts u.0)) _ (ap (λ s. answer s (tree_at vs K.sorts u.0)) (sym same)) it.is_good
 
     pub second_unread : (p : ℕ) → x ≡ NotASort p → (out₁ : List ℕ) (r : ℕ) → Put out at (with_lf (50 ∷ 48 ∷ 58 ∷ drop p second)) out₁ r
         → Put out at (with_lf (with_second (tree_at ws n a) (line_of second))) out₁ r
@@ -108,16 +108,16 @@ module _ (ws first second out : List ℕ) (at : ℕ) (b : Begun ws 6 0 0) (room 
 
   module _ (l : length first ≤ 200) (vs : List ℕ) (x : Read) (f : read_left vs x ≡ read_as_of ws 6 0 first (line first)) where
     module _ (u : SortId) (K : Counts) (i : x ≡ Sort u K) where
-      first-it : ReadSort ws 6 0 0 first b (omega arith) l vs u K
-      first-it = read_sort ws 6 0 0 first b (omega arith) l vs x f u K i
+      first_it : ReadSort ws 6 0 0 first b (omega arith) l vs u K
+      first_it = read_sort ws 6 0 0 first b (omega arith) l vs x f u K i
 
       pub first_read : FirstRead vs K.sorts K.entries u.0 out at
-      first_read = record { begun = first-it.begun; below = first-it.below; of_line = first-it.of_line; room = room }
+      first_read = record { begun = first_it.begun; below = first_it.below; of_line = first_it.of_line; room = room }
 
-      pub first-put : (out₁ : List ℕ) (r : ℕ)
+      pub first_put : (out₁ : List ℕ) (r : ℕ)
           → Put out at (with_lf (with_second (tree_at vs K.sorts u.0) (line_of second))) out₁ r
           → Put out at (with_lf (pair first second)) out₁ r
-      first-put = first_as (good (tree_at vs K.sorts u.0)) _ refl first-it.is_good
+      first_put = first_as (good (tree_at vs K.sorts u.0)) _ refl first_it.is_good
 
     pub first_unread : (p : ℕ) → x ≡ NotASort p → (out₁ : List ℕ) (r : ℕ)
         → Put out at (with_lf (50 ∷ 48 ∷ 58 ∷ drop p first)) out₁ r → Put out at (with_lf (pair first second)) out₁ r
@@ -187,19 +187,19 @@ module _ (steps : Widening) (out : List ℕ) (at : ℕ) (room : at + length (ste
     head_room = omega (arith, lengths)
 
     module _ (out₁ : List ℕ) (at₁ : ℕ) (h₁ : Put out at (small_decimal head) out₁ at₁) where
-      pub space-room : at₁ + 1 ≤ length out₁
-      space-room = omega (arith, lengths, h₁.behind, put_length h₁)
+      pub space_room : at₁ + 1 ≤ length out₁
+      space_room = omega (arith, lengths, h₁.behind, put_length h₁)
 
       module _ (out₂ : List ℕ) (at₂ : ℕ) (h₂ : Put out₁ at₁ (32 ∷ []) out₂ at₂) where
-        pub interior-room : at₂ + length (small_decimal interior) ≤ length out₂
-        interior-room = omega (arith, lengths, h₁.behind, put_length h₁, h₂.behind, put_length h₂)
+        pub interior_room : at₂ + length (small_decimal interior) ≤ length out₂
+        interior_room = omega (arith, lengths, h₁.behind, put_length h₁, h₂.behind, put_length h₂)
 
         module _ (out₃ : List ℕ) (at₃ : ℕ) (h₃ : Put out₂ at₂ (small_decimal interior) out₃ at₃) where
-          pub behind-room : at₃ + 2 ≤ length out₃
-          behind-room = omega (arith, lengths, h₁.behind, put_length h₁, h₂.behind, put_length h₂, h₃.behind, put_length h₃)
+          pub behind_room : at₃ + 2 ≤ length out₃
+          behind_room = omega (arith, lengths, h₁.behind, put_length h₁, h₂.behind, put_length h₂, h₃.behind, put_length h₃)
 
-          pub steps-put : (out₄ : List ℕ) (r : ℕ) → Put out₃ at₃ (comma []) out₄ r → Put out at (steps_text steps ++ comma []) out₄ r
-          steps-put out₄ r h₄ = put_as is_steps (put_then h₁ (put_then h₂ (put_then h₃ h₄)))
+          pub steps_put : (out₄ : List ℕ) (r : ℕ) → Put out₃ at₃ (comma []) out₄ r → Put out at (steps_text steps ++ comma []) out₄ r
+          steps_put out₄ r h₄ = put_as is_steps (put_then h₁ (put_then h₂ (put_then h₃ h₄)))
 
 -- Every line of output has room.
 pub pair_has_room : (first second : List ℕ) → length (with_lf (pair first second)) ≤ line_room

@@ -1,5 +1,7 @@
 // The pair program of document 01, for one pair of lines and for a line alone: each pair is answered on the fixed six
 // sorts alone, in a storage of its own, and its line of output is put into the lent buffer.
+#![tactic(auto)]
+
 ghost use Rattle.std.specs.Prelude.{◌≡◌, true, false, [], ◌∷◌, ◌++◌, ◌+◌, ◌<◌, ◌≤◌, length, drop};
 ghost use Rattle.resolved_sort.specs.Order.{bound as bound_of};
 ghost use Rattle.resolved_sort.specs.Storage.{full_length};

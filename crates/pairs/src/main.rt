@@ -5,6 +5,8 @@
 // The work is done by pair_input: for an input in any parts, what `feed` puts for each part in turn and `finish` at the
 // end is `output` of crates/pair_line/specs/PairProgram.antt (`parts-exactly`). Here bytes are only read and written:
 // that each part is taken whole and once is proved (`take_bytes`), that what was put is what is written is to be seen.
+#![tactic(auto)]
+
 ghost use Rattle.std.specs.Prelude.{◌≤◌, length};
 ghost use Rattle.pair_line.specs.Room.{line_room};
 ghost use Rattle.pair_input.specs.Held.{Holds};

@@ -1,5 +1,7 @@
 // The lists of a problem in lent words: rows of constraints and of names read, and all lists packed
 // into one slice from the caller's.
+#![tactic(auto)]
+
 ghost use Rattle.std.specs.Prelude.{◌≡◌, ◌+◌, drop};
 ghost use Rattle.inference.specs.Constraints.{overload_at, lit_kind, target, constraint, constraint_at};
 ghost use Rattle.search_state.specs.Inner.Memory.{overloads_at, source_at, problem_in};

@@ -43,9 +43,9 @@ module _ (f : Fields) (r : Span) (none : r ≡ no_span) where
     too_many h = nowhere (rw (none, le-ltb _ _ two, lt-ltb _ _ h))
 
     module _ (most : f.count ≤ 18) where
-      pub no-slice : 11 < get_or f.values 0 0 → Standing f r
+      pub no_slice : 11 < get_or f.values 0 0 → Standing f r
       unfolding span_of
-      no-slice h = nowhere (rw (none, le-ltb _ _ two, le-ltb _ _ most, lt-ltb _ _ h))
+      no_slice h = nowhere (rw (none, le-ltb _ _ two, le-ltb _ _ most, lt-ltb _ _ h))
 
       module _ (slice : get_or f.values 0 0 ≤ 11) where
         pub no_word : 34048 < get_or f.values 1 0 → Standing f r
@@ -83,19 +83,19 @@ module _ (vs : List ℕ) where
     no_sorts h = rw (le-ltb _ _ code, lt-ltb _ _ h)
 
     module _ (sorts : get_or vs 1 0 ≤ 65535) where
-      pub no-entries : 65535 < get_or vs 2 0 → Nothing ≡ recorded_of vs
+      pub no_entries : 65535 < get_or vs 2 0 → Nothing ≡ recorded_of vs
       unfolding recorded_of
-      no-entries h = rw (le-ltb _ _ code, le-ltb _ _ sorts, lt-ltb _ _ h)
+      no_entries h = rw (le-ltb _ _ code, le-ltb _ _ sorts, lt-ltb _ _ h)
 
       module _ (entries : get_or vs 2 0 ≤ 65535) where
-        pub no-components : 4095 < get_or vs 3 0 → Nothing ≡ recorded_of vs
+        pub no_components : 4095 < get_or vs 3 0 → Nothing ≡ recorded_of vs
         unfolding recorded_of
-        no-components h = rw (le-ltb _ _ code, le-ltb _ _ sorts, le-ltb _ _ entries, lt-ltb _ _ h)
+        no_components h = rw (le-ltb _ _ code, le-ltb _ _ sorts, le-ltb _ _ entries, lt-ltb _ _ h)
 
         module _ (components : get_or vs 3 0 ≤ 4095) where
-          pub no-choices : 4095 < get_or vs 4 0 → Nothing ≡ recorded_of vs
+          pub no_choices : 4095 < get_or vs 4 0 → Nothing ≡ recorded_of vs
           unfolding recorded_of
-          no-choices h = rw (le-ltb _ _ code, le-ltb _ _ sorts, le-ltb _ _ entries, le-ltb _ _ components, lt-ltb _ _ h)
+          no_choices h = rw (le-ltb _ _ code, le-ltb _ _ sorts, le-ltb _ _ entries, le-ltb _ _ components, lt-ltb _ _ h)
 
           pub all_told :
               get_or vs 4 0 ≤ 4095

@@ -55,9 +55,9 @@ module _ (ws : List ℕ) (f : Fields) where
       unfolding store_of
       give_all t = rw (sym told, not-false p.good good, sym stored, t)
 
-      pub give-some : b ≡ false → words_said us NotOfForm ≡ store_of ws f
+      pub give_some : b ≡ false → words_said us NotOfForm ≡ store_of ws f
       unfolding store_of
-      give-some t = rw (sym told, not-false p.good good, sym stored, t)
+      give_some t = rw (sym told, not-false p.good good, sym stored, t)
 
 module _ (ws us : List ℕ) (f : Fields) where
   pub answer_count : (f.count ≡ 5 → ⊥) → words_said us NotOfForm ≡ ask_line ws us f
@@ -110,11 +110,11 @@ module _ (ws us line : List ℕ) where
     line_comment h = rw (ne_eqb _ _ some, eq-eqb _ _ h)
 
     module _ (says : get_or line 0 0 ≡ 35 → ⊥) (f : Fields) (read : f ≡ fields_of line) where
-      pub line-bad : not f.good ≡ true → stepped ws us NotOfForm ≡ step_of ws us line
+      pub line_bad : not f.good ≡ true → stepped ws us NotOfForm ≡ step_of ws us line
       unfolding step_of
-      line-bad n = rw (ne_eqb _ _ some, ne_eqb _ _ says, sym read, not-true f.good n)
+      line_bad n = rw (ne_eqb _ _ some, ne_eqb _ _ says, sym read, not-true f.good n)
 
-      pub line-well :
+      pub line_well :
           not f.good ≡ false → (l : Letter) → l ≡ letter_of (get_or line 0 0) → (r : Stepped) → r ≡ by_letter l ws us f → r ≡ step_of ws us line
       unfolding step_of
-      line-well n l told r by = rw (by, ne_eqb _ _ some, ne_eqb _ _ says, sym read, not-false f.good n, sym told)
+      line_well n l told r by = rw (by, ne_eqb _ _ some, ne_eqb _ _ says, sym read, not-false f.good n, sym told)

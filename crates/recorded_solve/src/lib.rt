@@ -11,6 +11,8 @@
 // The slices: 0 sorts, 1 nodes, 2 bindings, 3 places of expressions, 4 base names, 5 constraints, 6 overloads, 7
 // sources, 8 typing, 9 measure, 10 choices, 11 scratch. They stand one after another, each as long as
 // its ceiling, and after them the eleven numbers of the line `L`.
+#![tactic(auto)]
+
 ghost use Rattle.std.specs.Prelude.{◌≡◌, ◌≤◌, length};
 ghost use Rattle.replay.specs.Inner.Lines.{max_words, near_enough};
 ghost use Rattle.recorded_solve.specs.Inner.Slices.{held_counts_at, slice_start, count_held, counts_held};

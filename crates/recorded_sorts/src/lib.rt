@@ -3,6 +3,8 @@
 // entries, at most 16; `c a b x`, `d a b x`, `m a b x`, `j a b x` and `k a b x` ask partial_cmp, widening_distance,
 // is_materializable, join and meet of the sorts a and b, and x is the answer, packed; a line that starts with `#` says
 // nothing.
+#![tactic(auto)]
+
 ghost use Rattle.std.specs.Prelude.{◌≡◌, ◌+◌, ◌*◌, ◌≤◌};
 ghost use Rattle.replay.specs.Inner.Lines.{near_enough};
 ghost use Rattle.recorded_sorts.specs.Inner.Lines.{letter_of, complete as is_complete, stepped, keep_of};

@@ -31,20 +31,20 @@ module _ (ws : List ℕ) (f : Fields) (p : Progress) where
     binds_incomplete r bad n = rw (bad, eq-eqb _ _ two, sym told ∙ not-true b n)
 
     module _ (all : not b ≡ false) where
-      pub binds-variable : (r : LineStep) → r ≡ not_of_form p → p.total.variables ≤ field_at f 0 → stepped ws r ≡ binds_line ws f p
+      pub binds_variable : (r : LineStep) → r ≡ not_of_form p → p.total.variables ≤ field_at f 0 → stepped ws r ≡ binds_line ws f p
       unfolding binds_line
-      binds-variable r bad h = rw (bad, eq-eqb _ _ two, sym told ∙ not-false b all, le-leb _ _ h)
+      binds_variable r bad h = rw (bad, eq-eqb _ _ two, sym told ∙ not-false b all, le-leb _ _ h)
 
       module _ (variable : field_at f 0 < p.total.variables) where
-        pub binds-place : (r : LineStep) → r ≡ not_of_form p → 65535 < field_at f 1 → stepped ws r ≡ binds_line ws f p
+        pub binds_place : (r : LineStep) → r ≡ not_of_form p → 65535 < field_at f 1 → stepped ws r ≡ binds_line ws f p
         unfolding binds_line
-        binds-place r bad h = rw (bad, eq-eqb _ _ two, sym told ∙ not-false b all, lt-leb _ _ variable, lt-ltb _ _ h)
+        binds_place r bad h = rw (bad, eq-eqb _ _ two, sym told ∙ not-false b all, lt-leb _ _ variable, lt-ltb _ _ h)
 
-        pub binds-well :
+        pub binds_well :
             field_at f 1 ≤ 65535 → (us : List ℕ) → us ≡ set ws (20992 + field_at f 0) (field_at f 1) → (r : LineStep) → r ≡ line_step p Quiet
             → stepped us r ≡ binds_line ws f p
         unfolding binds_line
-        binds-well h us u r e =
+        binds_well h us u r e =
             rw (eq-eqb _ _ two, sym told ∙ not-false b all, lt-leb _ _ variable, le-ltb _ _ h) (λ i. stepped (u i) (e i))
 
   pub answer_count : (r : LineStep) → r ≡ not_of_form p → (f.count ≡ 3 → ⊥) → stepped ws r ≡ ask_line ws f p
@@ -57,21 +57,21 @@ module _ (ws : List ℕ) (f : Fields) (p : Progress) where
     answer_incomplete r bad n = rw (bad, eq-eqb _ _ three, sym told ∙ not-true b n)
 
     module _ (all : not b ≡ false) where
-      pub answer-lhs : (r : LineStep) → r ≡ not_of_form p → 65535 < field_at f 0 → stepped ws r ≡ ask_line ws f p
+      pub answer_lhs : (r : LineStep) → r ≡ not_of_form p → 65535 < field_at f 0 → stepped ws r ≡ ask_line ws f p
       unfolding ask_line
-      answer-lhs r bad h = rw (bad, eq-eqb _ _ three, sym told ∙ not-false b all, lt-ltb _ _ h)
+      answer_lhs r bad h = rw (bad, eq-eqb _ _ three, sym told ∙ not-false b all, lt-ltb _ _ h)
 
       module _ (lhs : field_at f 0 ≤ 65535) where
-        pub answer-rhs : (r : LineStep) → r ≡ not_of_form p → 65535 < field_at f 1 → stepped ws r ≡ ask_line ws f p
+        pub answer_rhs : (r : LineStep) → r ≡ not_of_form p → 65535 < field_at f 1 → stepped ws r ≡ ask_line ws f p
         unfolding ask_line
-        answer-rhs r bad h = rw (bad, eq-eqb _ _ three, sym told ∙ not-false b all, le-ltb _ _ lhs, lt-ltb _ _ h)
+        answer_rhs r bad h = rw (bad, eq-eqb _ _ three, sym told ∙ not-false b all, le-ltb _ _ lhs, lt-ltb _ _ h)
 
-        pub answer-well :
+        pub answer_well :
             field_at f 1 ≤ 65535 → (bs cs : List ℕ) (got : ℕ) → bs ≡ bindings_in ws
             → packed_binds cs got ≡ unified ws p.total bs (field_at f 0) (field_at f 1) → (v : Verdict) → v ≡ judged_of ws cs got (field_at f 2)
             → (us : List ℕ) → us ≡ renewed ws → stepped us (line_step p v) ≡ ask_line ws f p
         unfolding ask_line
-        answer-well h bs cs got eb eu v ev us u =
+        answer_well h bs cs got eb eu v ev us u =
             let w : packed_binds cs got ≡ unified ws p.total (bindings_in ws) (field_at f 0) (field_at f 1) =
             eu ∙ ap (λ x. unified ws p.total x (field_at f 0) (field_at f 1)) eb in
             let j : v ≡ judged_reply ws (unified ws p.total (bindings_in ws) (field_at f 0) (field_at f 1)) (field_at f 2) =
@@ -115,11 +115,11 @@ module _ (ws line : List ℕ) (p : Progress) where
     line_comment r e h = rw (e, ne_eqb _ _ some, eq-eqb _ _ h)
 
     module _ (says : get_or line 0 0 ≡ 35 → ⊥) (f : Fields) (read : f ≡ fields_of line) where
-      pub line-bad : (r : LineStep) → r ≡ not_of_form p → not f.good ≡ true → stepped ws r ≡ step_of ws line p
+      pub line_bad : (r : LineStep) → r ≡ not_of_form p → not f.good ≡ true → stepped ws r ≡ step_of ws line p
       unfolding step_of
-      line-bad r bad n = rw (bad, ne_eqb _ _ some, ne_eqb _ _ says, sym read, not-true f.good n)
+      line_bad r bad n = rw (bad, ne_eqb _ _ some, ne_eqb _ _ says, sym read, not-true f.good n)
 
-      pub line-well :
+      pub line_well :
           not f.good ≡ false → (l : Letter) → l ≡ letter_of (get_or line 0 0) → (r : Stepped) → r ≡ by_letter l ws f p → r ≡ step_of ws line p
       unfolding step_of
-      line-well n l told r by = rw (by, ne_eqb _ _ some, ne_eqb _ _ says, sym read, not-false f.good n, sym told)
+      line_well n l told r by = rw (by, ne_eqb _ _ some, ne_eqb _ _ says, sym read, not-false f.good n, sym told)

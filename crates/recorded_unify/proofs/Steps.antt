@@ -35,30 +35,30 @@ module _ (f : Fields) (p : Progress) where
     begin_incomplete r bad n = rw (bad, eq-eqb _ _ five, sym told ∙ not-true b n)
 
     module _ (all : not b ≡ false) where
-      pub begin-sorts : (r : LineStep) → r ≡ not_of_form p → 1024 < field_at f 0 → r ≡ begin_line f p
+      pub begin_sorts : (r : LineStep) → r ≡ not_of_form p → 1024 < field_at f 0 → r ≡ begin_line f p
       unfolding begin_line
-      begin-sorts r bad h = rw (bad, eq-eqb _ _ five, sym told ∙ not-false b all, lt-ltb _ _ h)
+      begin_sorts r bad h = rw (bad, eq-eqb _ _ five, sym told ∙ not-false b all, lt-ltb _ _ h)
 
       module _ (sorts : field_at f 0 ≤ 1024) where
-        pub begin-entries : (r : LineStep) → r ≡ not_of_form p → 4096 < field_at f 1 → r ≡ begin_line f p
+        pub begin_entries : (r : LineStep) → r ≡ not_of_form p → 4096 < field_at f 1 → r ≡ begin_line f p
         unfolding begin_line
-        begin-entries r bad h = rw (bad, eq-eqb _ _ five, sym told ∙ not-false b all, le-ltb _ _ sorts, lt-ltb _ _ h)
+        begin_entries r bad h = rw (bad, eq-eqb _ _ five, sym told ∙ not-false b all, le-ltb _ _ sorts, lt-ltb _ _ h)
 
         module _ (entries : field_at f 1 ≤ 4096) where
-          pub begin-nodes : (r : LineStep) → r ≡ not_of_form p → 2048 < field_at f 2 → r ≡ begin_line f p
+          pub begin_nodes : (r : LineStep) → r ≡ not_of_form p → 2048 < field_at f 2 → r ≡ begin_line f p
           unfolding begin_line
-          begin-nodes r bad h = rw (bad, eq-eqb _ _ five, sym told ∙ not-false b all, le-ltb _ _ sorts, le-ltb _ _ entries, lt-ltb _ _ h)
+          begin_nodes r bad h = rw (bad, eq-eqb _ _ five, sym told ∙ not-false b all, le-ltb _ _ sorts, le-ltb _ _ entries, lt-ltb _ _ h)
 
           module _ (nodes : field_at f 2 ≤ 2048) where
-            pub begin-arguments : (r : LineStep) → r ≡ not_of_form p → 4096 < field_at f 3 → r ≡ begin_line f p
+            pub begin_arguments : (r : LineStep) → r ≡ not_of_form p → 4096 < field_at f 3 → r ≡ begin_line f p
             unfolding begin_line
-            begin-arguments r bad h =
+            begin_arguments r bad h =
                 rw (bad, eq-eqb _ _ five, sym told ∙ not-false b all, le-ltb _ _ sorts, le-ltb _ _ entries, le-ltb _ _ nodes, lt-ltb _ _ h)
 
             module _ (arguments : field_at f 3 ≤ 4096) where
-              pub begin-variables : (r : LineStep) → r ≡ not_of_form p → 512 < field_at f 4 → r ≡ begin_line f p
+              pub begin_variables : (r : LineStep) → r ≡ not_of_form p → 512 < field_at f 4 → r ≡ begin_line f p
               unfolding begin_line
-              begin-variables r bad h =
+              begin_variables r bad h =
                   rw (
                     bad,
                     eq-eqb _ _ five,
@@ -70,11 +70,11 @@ module _ (f : Fields) (p : Progress) where
                     lt-ltb _ _ h,
                   )
 
-              pub begin-well :
+              pub begin_well :
                   field_at f 4 ≤ 512 → (none : Lengths) → none ≡ no_lengths → (r : LineStep)
                   → r ≡ line_step (progress_of (lengths (field_at f 0) (field_at f 1) (field_at f 2) (field_at f 3) (field_at f 4)) none) Quiet → r ≡ begin_line f p
               unfolding begin_line
-              begin-well h none z r e =
+              begin_well h none z r e =
                   rw (
                     e,
                     z,

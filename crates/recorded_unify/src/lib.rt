@@ -4,6 +4,8 @@
 // `n kind part start count` its next node, `b w ..` the next entries of nodes; `v w ..` its next bindings;
 // `w v p` is a binding of the variable v to the place p that the next question makes; `u a b x` asks whether the places
 // a and b unify, and x is the answer, packed; a line that starts with `#` says nothing.
+#![tactic(auto)]
+
 ghost use Rattle.std.specs.Prelude.{◌≡◌, ◌≤◌, length};
 ghost use Rattle.unify_entries.specs.Packed.{packed_binds};
 ghost use Rattle.replay.specs.Inner.Lines.{near_enough};

@@ -38,7 +38,7 @@ use Rattle.unification.proofs.Follow.{follow_end}
 use Rattle.unification.proofs.Rank.{rank}
 use Rattle.unification.proofs.Theorem.{ready_ranked}
 use Rattle.unification.proofs.Enough.{follow_eq, end_no_higher}
-use Rattle.unification.proofs.RelatedEq.{function_parts, related_equation, range-lower-than-place}
+use Rattle.unification.proofs.RelatedEq.{function_parts, related_equation, range_lower_than_place}
 use Rattle.unification.proofs.Grows.{parts_placed}
 use Rattle.unification.proofs.Parts.{one_at}
 use Rattle.unification.proofs.PlaceTerms.{placed_formed, sort_part_below}
@@ -75,17 +75,17 @@ module _ (ws ns : List ℕ) (k : Lengths) (q : NodesReady ws ns k) (up : Bool) (
     sort_is y e = at_sort ws ns k q p i l ∙ ap (sort_shape ws) (sym j ∙ e)
 
     module _ (b : Related) (y : b ≡ These no_places k) where
-      pub unit-has-none : r ≡ UnitRow → Relates ws ns b head
+      pub unit_has_none : r ≡ UnitRow → Relates ws ns b head
       unfolding sort_shape
-      unit-has-none e = relates_as ws ns b (no_places_lem ws ns k b y) (by_shape (over (flat_head unit) []) (sort_is UnitRow e))
+      unit_has_none e = relates_as ws ns b (no_places_lem ws ns k b y) (by_shape (over (flat_head unit) []) (sort_is UnitRow e))
 
-      pub def-has-none : (n : ℕ) → r ≡ Def n → Relates ws ns b head
+      pub def_has_none : (n : ℕ) → r ≡ Def n → Relates ws ns b head
       unfolding sort_shape
-      def-has-none n e = relates_as ws ns b (no_places_lem ws ns k b y) (by_shape (over (flat_head (def n)) []) (sort_is (Def n) e))
+      def_has_none n e = relates_as ws ns b (no_places_lem ws ns k b y) (by_shape (over (flat_head (def n)) []) (sort_is (Def n) e))
 
-      pub typevar-has-none : (n : ℕ) → r ≡ TypeVar n → Relates ws ns b head
+      pub typevar_has_none : (n : ℕ) → r ≡ TypeVar n → Relates ws ns b head
       unfolding sort_shape
-      typevar-has-none n e = relates_as ws ns b (no_places_lem ws ns k b y) (by_shape (over (flat_head (typevar n)) []) (sort_is (TypeVar n) e))
+      typevar_has_none n e = relates_as ws ns b (no_places_lem ws ns k b y) (by_shape (over (flat_head (typevar n)) []) (sort_is (TypeVar n) e))
 
     pub numbers_related : (s : Sort) → r ≡ Primitive s → (t : Three) → AreThese t (related_places up (primitive s)) → Relates ws ns (These t k) head
     unfolding sort_shape
@@ -97,11 +97,11 @@ module _ (ws ns : List ℕ) (k : Lengths) (q : NodesReady ws ns k) (up : Bool) (
       unfolding sort_shape
       container-is = sort_is (Container o s) e
 
-      pub container-asked : Checked ws k.sorts k.entries × (s.0 < k.sorts)
-      container-asked = (q.sorts, sort_part_below L q p s.0 (container_head o) (s.0 ∷ []) (lt-ltb p max_sorts l) i container-is (first []))
+      pub container_asked : Checked ws k.sorts k.entries × (s.0 < k.sorts)
+      container_asked = (q.sorts, sort_part_below L q p s.0 (container_head o) (s.0 ∷ []) (lt-ltb p max_sorts l) i container-is (first []))
 
-      pub container-related : (vs : List ℕ) (b : Related) → Relates vs ns b (related_over (related_container up o) true s.0 L) → Relates vs ns b head
-      container-related vs b u =
+      pub container_related : (vs : List ℕ) (b : Related) → Relates vs ns b (related_over (related_container up o) true s.0 L) → Relates vs ns b head
+      container_related vs b u =
           relates_as vs ns b u (ap (λ (c : Bool). related_over (related_container up o) c s.0 L) (sym (lt-ltb p max_sorts l))
           ∙ by_shape (over (container_head o) (s.0 ∷ [])) container-is)
 
@@ -211,11 +211,11 @@ module _ (ws ns bs : List ℕ) (k : Lengths) (q : Ready ws ns bs k) (up : Bool) 
     range_asked = (q.nodes, I.placed, omega (arith, I.many))
 
     module _ (g : ℕ) (e : g ≡ get_or ps n 0) where
-      pub range-placed : Placed k g
-      range-placed = subst (Placed k) (sym e) (parts_placed W q.nodes p (get_or ps n 0) (function_head n) ps
+      pub range_placed : Placed k g
+      range_placed = subst (Placed k) (sym e) (parts_placed W q.nodes p (get_or ps n 0) (function_head n) ps
           I.placed I.stands (one_at ps n (omega (arith, I.many))))
 
-      pub range-lower : rank shape deep B g < rank shape deep B p
-      range-lower =
+      pub range_lower : rank shape deep B g < rank shape deep B p
+      range_lower =
           subst (λ (x : ℕ). rank shape deep B x < rank shape deep B p) (sym e)
-          (range-lower-than-place W bs q up p p (own_end p (function_head n) ps I.stands) n ps I.stands)
+          (range_lower_than_place W bs q up p p (own_end p (function_head n) ps I.stands) n ps I.stands)

@@ -155,8 +155,8 @@ module _ (ws xs : List ℕ) (ranges : Three) (few : ranges.count ≤ 3) (ns : Li
     push_ends z = record { says = sym (first_pushed ∙ ap (λ y. pushed ws ns₁ k y and_then over_rest) z); few = tt }
 
     module _ (ns₂ : List ℕ) (a : Related) where
-      pub rest-few : (t : Three) → t ≡ places_after ranges → (O : Makes (List ℕ)) → ListsAtMost t.count ws ns₂ a O → AtMost 2 a
-      rest-few t et O u = at_most_more t.count 2 a (let z = ap (λ (x : Three). x.count) et in omega (arith, few, z)) u.few
+      pub rest_few : (t : Three) → t ≡ places_after ranges → (O : Makes (List ℕ)) → ListsAtMost t.count ws ns₂ a O → AtMost 2 a
+      rest_few t et O u = at_most_more t.count 2 a (let z = ap (λ (x : Three). x.count) et in omega (arith, few, z)) u.few
 
       placed-before : (q : InferSortId) (b : Related) → AtMost (ranges.count - 1) b
           → (related_made ws ns₂ (place_before q b) ≡ (related_made ws ns₂ b and_then (λ ps W. made (q.0 ∷ ps) W))) × AtMost ranges.count (place_before q b)
@@ -168,10 +168,10 @@ module _ (ws xs : List ℕ) (ranges : Three) (few : ranges.count ≤ 3) (ns : Li
       placed-before q (NoList k') l = (refl, tt)
       placed-before q (Full c k') l = (refl, tt)
 
-      pub push-goes-on : (q : InferSortId) (k' : Lengths) → p ≡ At q k'
+      pub push_goes_on : (q : InferSortId) (k' : Lengths) → p ≡ At q k'
           → (t : Three) → t ≡ places_after ranges → ListsAtMost t.count ws ns₂ a (push_functions xs (three_places t) (lent ws ns₁ k'))
           → (b : Related) → b ≡ place_before q a → ListsAtMost ranges.count ws ns₂ b all
-      push-goes-on q k' z t et v b y =
+      push_goes_on q k' z t et v b y =
           let u = subst (λ (x : Three). ListsAtMost x.count ws ns₂ a (push_functions xs (three_places x) (lent ws ns₁ k'))) et v in
           let w = placed-before q a u.few in
           record {
@@ -244,25 +244,25 @@ module _ (up : Bool) (o : ComplexSort) (b : OpBound) (e : b ≡ op_bound (relate
       unfolding intern_container
       sort-of = ap (λ x. related_over x true s (lent ws ns k)) is_some ∙ ap (λ (r : Stored). with_sorts (lent ws ns k) r r.answer and_then only) interned
 
-      pub container-interned : (id : SortId) (K : Counts) → j ≡ JoinedAt id K → (k' : Lengths) → k' ≡ with_counts k K
+      pub container_interned : (id : SortId) (K : Counts) → j ≡ JoinedAt id K → (k' : Lengths) → k' ≡ with_counts k K
           → (a : Related) → a ≡ These (one (record { 0 = id.0 })) k'
           → Relates ws₁ ns a (related_over (related_container up o) true s (lent ws ns k))
-      container-interned id K x k' ek a y =
+      container_interned id K x k' ek a y =
           relates_as ws₁ ns a (one_place ws₁ ns (record { 0 = id.0 }) k' a y) (ap (λ (l : Lengths). made (id.0 ∷ [])
           (lent ws₁ ns l)) ek ∙ sym (sort-of ∙ ap (λ w. with_sorts (lent ws ns k) (stored_at ws₁ j) w and_then only)
           x))
 
       module _ (ck : Checked ws k.sorts k.entries) where
-        pub no-room-for-sort : j ≡ JoinedFull → Relates ws₁ ns (Full 15 k) (related_over (related_container up o) true s
+        pub no_room_for_sort : j ≡ JoinedFull → Relates ws₁ ns (Full 15 k) (related_over (related_container up o) true s
             (lent ws ns k))
-        no-room-for-sort x =
+        no_room_for_sort x =
             relates_as ws₁ ns (Full 15 k) (record { says = refl; few = tt })
             (ap (λ (ys : List ℕ). no_room 15 (lent ys ns k)) (full_unchanged ws k.sorts k.entries ck
             (container q (look (trees ws k.sorts) s)) ws₁ (ap (stored_at ws₁) (sym x) ∙ sym interned))
             ∙ sym (sort-of ∙ ap (λ w. with_sorts (lent ws ns k) (stored_at ws₁ j) w and_then only) x))
 
-        pub always-interned : (K : Counts) → j ≡ JoinedNothing K → (a : Related) → Relates ws₁ ns a (related_over (related_container up o) true s (lent ws ns k))
-        always-interned K x a = never_none ws k.sorts k.entries ck (container q (look (trees ws k.sorts) s))
+        pub always_interned : (K : Counts) → j ≡ JoinedNothing K → (a : Related) → Relates ws₁ ns a (related_over (related_container up o) true s (lent ws ns k))
+        always_interned K x a = never_none ws k.sorts k.entries ck (container q (look (trees ws k.sorts) s))
             ws₁ K (ap (stored_at ws₁) (sym x) ∙ sym interned)
 
     -- of a node
@@ -273,10 +273,10 @@ module _ (up : Bool) (o : ComplexSort) (b : OpBound) (e : b ≡ op_bound (relate
           ap (λ x. related_over x false s (lent ws ns k)) is_some
           ∙ (ap₂ (λ (c : ℕ) (ys : List ℕ). push_node (row c s ys) (lent ws ns k) and_then only) (sym ek) (sym none-there) ∙ ap (λ O. O and_then only) (sym ep))
 
-      pub container-pushed : (c : InferSortId) (k' : Lengths) → p ≡ At c k' → (a : Related) → a ≡ These (one c) k'
+      pub container_pushed : (c : InferSortId) (k' : Lengths) → p ≡ At c k' → (a : Related) → a ≡ These (one c) k'
           → Relates ws ns₁ a (related_over (related_container up o) false s (lent ws ns k))
-      container-pushed c k' x a y = relates_as ws ns₁ a (one_place ws ns₁ c k' a y) (sym (node_of ∙ ap (λ w. pushed ws ns₁ k w and_then only) x))
+      container_pushed c k' x a y = relates_as ws ns₁ a (one_place ws ns₁ c k' a y) (sym (node_of ∙ ap (λ w. pushed ws ns₁ k w and_then only) x))
 
-      pub no-room-for-container : p ≡ NoRoom → Relates ws ns₁ (Full 16 k) (related_over (related_container up o) false s
+      pub no_room_for_container : p ≡ NoRoom → Relates ws ns₁ (Full 16 k) (related_over (related_container up o) false s
           (lent ws ns k))
-      no-room-for-container x = record { says = sym (node_of ∙ ap (λ w. pushed ws ns₁ k w and_then only) x); few = tt }
+      no_room_for_container x = record { says = sym (node_of ∙ ap (λ w. pushed ws ns₁ k w and_then only) x); few = tt }

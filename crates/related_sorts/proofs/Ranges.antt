@@ -33,7 +33,7 @@ use Rattle.unification.proofs.Cycle.{Walk, stay, step, comes_back}
 use Rattle.unification.proofs.Places.{place_below}
 use Rattle.unification.proofs.PlaceTerms.{placed_formed}
 use Rattle.unification.proofs.Rows.{ShapeFormed, variable_formed, flat_formed, container_formed, function_formed}
-use Rattle.unification.proofs.RelatedEq.{related_at, made-at-function}
+use Rattle.unification.proofs.RelatedEq.{related_at, made_at_function}
 use Rattle.unification.proofs.RelatedPlaced.{related_placed}
 use Rattle.unification.proofs.Grows.{ready_names, placed_grown}
 use Rattle.unification.proofs.MakingGrows.{MadeFrom, made_grows, AllPlaced}
@@ -110,7 +110,7 @@ module _ (ws ns bs : List ℕ) (k : Lengths) (q : Ready ws ns bs k) where
     end_placed _ _ here = x
     end_placed _ _ (deeper i n y d I e) =
         ends.end_placed ws ns bs k q true (range_of (get_or fs i 0) n) y
-        (ends.range-placed ws ns bs k q true (get_or fs i 0) n I (range_of (get_or fs i 0) n) refl) e
+        (ends.range_placed ws ns bs k q true (get_or fs i 0) n I (range_of (get_or fs i 0) n) refl) e
 
     lower : (i n y : ℕ) → IsFunction ws ns k (get_or fs i 0) n → follow shape deep B (range_of (get_or fs i 0) n) ≡ some y → ρ y < ρ (get_or fs i 0)
     lower i n y I e =
@@ -118,7 +118,7 @@ module _ (ws ns bs : List ℕ) (k : Lengths) (q : Ready ws ns bs k) where
         omega (
           arith,
           ends.range_lower ws ns bs k q true (get_or fs i 0) n I g refl,
-          ends.end_rank ws ns bs k q true g y (ends.range-placed ws ns bs k q true (get_or fs i 0) n I g refl) e,
+          ends.end_rank ws ns bs k q true g y (ends.range_placed ws ns bs k q true (get_or fs i 0) n I g refl) e,
         )
 
     below : (y : ℕ) → Placed k y → y < max_places
@@ -156,8 +156,8 @@ module _ (ws ns bs : List ℕ) (k : Lengths) (q : Ready ws ns bs k) where
     final h = record { down = s.down; placed = s.placed; few = s.few; ends = λ e. h (s.is ∙ e) }
 
     module _ (t : kind ≡ function_kind) where
-      pub function-there : FunctionAt ws ns k end
-      function-there = function_by_kind end kind s.placed s.is t
+      pub function_there : FunctionAt ws ns k end
+      function_there = function_by_kind end kind s.placed s.is t
 
       pub room : count < max_places
       room = go (ℕ_discrete count max_places)
@@ -168,28 +168,28 @@ module _ (ws ns bs : List ℕ) (k : Lengths) (q : Ready ws ns bs k) where
 
       module _ (m : ℕ) (em : m ≡ length (parts_of (shape end))) where
         counted : (0 < m) × IsFunction ws ns k end (m - 1)
-        counted = ends.counted ws ns k end function-there m em
+        counted = ends.counted ws ns k end function_there m em
 
-        pub has-range : 0 < m
-        has-range = counted.0
+        pub has_range : 0 < m
+        has_range = counted.0
 
-        pub range-asked : NodesReady ws ns k × Placed k end × (m - 1 < length (parts_of (shape end)))
-        range-asked = ends.range_asked ws ns bs k q true end (m - 1) counted.1
+        pub range_asked : NodesReady ws ns k × Placed k end × (m - 1 < length (parts_of (shape end)))
+        range_asked = ends.range_asked ws ns bs k q true end (m - 1) counted.1
 
         module _ (g : ℕ) (eg : g ≡ range_of end (m - 1)) where
-          pub range-there : Placed k g
-          range-there = ends.range-placed ws ns bs k q true end (m - 1) counted.1 g eg
+          pub range_there : Placed k g
+          range_there = ends.range_placed ws ns bs k q true end (m - 1) counted.1 g eg
 
           module _ (y : ℕ) (ey : follow shape deep B g ≡ some y) where
-            pub next-placed : Placed k y
-            next-placed = ends.end_placed ws ns bs k q true g y range-there ey
+            pub next_placed : Placed k y
+            next_placed = ends.end_placed ws ns bs k q true g y range_there ey
 
-            pub next-lower : ρ y < ρ end
-            next-lower =
+            pub next_lower : ρ y < ρ end
+            next_lower =
                 omega (
                   arith,
                   ends.range_lower ws ns bs k q true end (m - 1) counted.1 g eg,
-                  ends.end_rank ws ns bs k q true g y range-there ey,
+                  ends.end_rank ws ns bs k q true g y range_there ey,
                 )
 
             pub one_further : max_places ≤ length fs → (kind' : ℕ) → kind' ≡ kind_head (head_of (shape y))
@@ -203,7 +203,7 @@ module _ (ws ns bs : List ℕ) (k : Lengths) (q : Ready ws ns bs k) where
                       (subst (Down ws ns bs k p (set fs count end) count) noted (still_down p fs count end count end (omega arith) s.down))
                       (subst (λ (f : ℕ). IsFunction ws ns k f (m - 1)) noted counted.1)
                       (subst (λ (f : ℕ). follow shape deep B (range_of f (m - 1)) ≡ some y) noted (ap (follow shape deep B) (sym eg) ∙ ey)));
-                  placed = next-placed;
+                  placed = next_placed;
                   few = omega (arith, room);
                   is = ek;
                 }
@@ -228,8 +228,8 @@ module _ (ws ns bs : List ℕ) (k : Lengths) (q : Ready ws ns bs k) where
 
     -- in lists that have grown a function stands as before
     module _ (f n : ℕ) (I : IsFunction ws ns k f n) where
-      function-grown : (U : Lent) → Grows W U → FunctionAt U.sorts U.nodes U.lengths f
-      function-grown U g =
+      function_grown : (U : Lent) → Grows W U → FunctionAt U.sorts U.nodes U.lengths f
+      function_grown U g =
           let same : shape f ≡ graph U f = sym (g.same f I.placed) in
           record {
             arguments = n;
@@ -247,7 +247,7 @@ module _ (ws ns bs : List ℕ) (k : Lengths) (q : Ready ws ns bs k) where
           → Stands f O × ((O and_then over_function f) ≡ (O and_then push_functions (take n (parts_of (shape f)))))
       over-grown (made ps U) m =
           let g = (made_grows AllPlaced W U ps (made ps U) m refl).0 in
-          (function-grown U g, ap (λ (s : Shape). push_functions (arguments_of s) ps U) (g.same f I.placed ∙ I.stands))
+          (function_grown U g, ap (λ (s : Shape). push_functions (arguments_of s) ps U) (g.same f I.placed ∙ I.stands))
       over-grown (no_list U) m = (tt, refl)
       over-grown (no_room c U) m = (tt, refl)
 
@@ -265,27 +265,27 @@ module _ (ws ns bs : List ℕ) (k : Lengths) (q : Ready ws ns bs k) where
           let s = over-grown f n I (answer y) m in
           let t : (answer y and_then over_function f) ≡ answer f = s.1
           ∙ (ap (λ O. O and_then push_functions (take n (parts_of (shape f)))) (ends.end_answers ws ns bs k q up (range_of f n) y
-          (ends.range-placed ws ns bs k q up f n I (range_of f n) refl) e)
-          ∙ sym (made-at-function W bs q up f f (ends.own_end ws ns bs k q up f (function_head n) (parts_of (shape f)) I.stands) n (parts_of (shape f)) I.stands)) in
+          (ends.range_placed ws ns bs k q up f n I (range_of f n) refl) e)
+          ∙ sym (made_at_function W bs q up f f (ends.own_end ws ns bs k q up f (function_head n) (parts_of (shape f)) I.stands) n (parts_of (shape f)) I.stands)) in
           let ih = back i f d in
           ((s.0, subst (AllStand fs i) (sym t) ih.0), ap (outwards fs i) t ∙ ih.1)
 
-      reached-end : (i y : ℕ) → Down ws ns bs k p fs i y → follow shape deep B y ≡ some y
-      reached-end _ _ here = ends.own_end ws ns bs k q up p (function_head F.arguments) (parts_of (shape p)) F.function.stands
-      reached-end _ _ (deeper i n y d I e) =
+      reached_end : (i y : ℕ) → Down ws ns bs k p fs i y → follow shape deep B y ≡ some y
+      reached_end _ _ here = ends.own_end ws ns bs k q up p (function_head F.arguments) (parts_of (shape p)) F.function.stands
+      reached_end _ _ (deeper i n y d I e) =
           ends.end_of_end ws ns bs k q up (range_of (get_or fs i 0) n) y
-          (ends.range-placed ws ns bs k q up (get_or fs i 0) n I (range_of (get_or fs i 0) n) refl) e
+          (ends.range_placed ws ns bs k q up (get_or fs i 0) n I (range_of (get_or fs i 0) n) refl) e
 
       module _ (r : Last) (z : FinalRange ws ns bs k p fs r) (ws₁ ns₁ : List ℕ) (a : Related)
           (u : Relates ws₁ ns₁ a (related_head up r.range.0 W)) where
         found : related_made ws₁ ns₁ a ≡ answer r.range.0
-        found = u.says ∙ by_head r.range.0 z.placed (reached-end r.count r.range.0 z.down) z.ends
+        found = u.says ∙ by_head r.range.0 z.placed (reached_end r.count r.range.0 z.down) z.ends
 
-        pub functions-stand : Ranges a × AllStand fs r.count (related_made ws₁ ns₁ a)
-        functions-stand = (u.few, subst (AllStand fs r.count) (sym found) (back r.count r.range.0 z.down).0)
+        pub functions_stand : Ranges a × AllStand fs r.count (related_made ws₁ ns₁ a)
+        functions_stand = (u.few, subst (AllStand fs r.count) (sym found) (back r.count r.range.0 z.down).0)
 
-        pub functions-related : (ns₂ : List ℕ) (b : Related) → Relates ws₁ ns₂ b (outwards fs r.count (related_made ws₁ ns₁ a)) → Relates ws₁ ns₂ b (answer p)
-        functions-related ns₂ b w = relates_as ws₁ ns₂ b w (ap (outwards fs r.count) found ∙ (back r.count r.range.0 z.down).1)
+        pub functions_related : (ns₂ : List ℕ) (b : Related) → Relates ws₁ ns₂ b (outwards fs r.count (related_made ws₁ ns₁ a)) → Relates ws₁ ns₂ b (answer p)
+        functions_related ns₂ b w = relates_as ws₁ ns₂ b w (ap (outwards fs r.count) found ∙ (back r.count r.range.0 z.down).1)
 
 -- functions over what was found, if there is a list
 module _ (ws ns : List ℕ) (a : Related) (f : ℕ) (pre : Ranges a × Stands f (related_made ws ns a)) where
@@ -342,19 +342,19 @@ module _ (ws fs : List ℕ) (count : ℕ) (ns₀ : List ℕ) (a₀ : Related) wh
       abbrev f : ℕ
       f = get_or fs (left - 1) 0
 
-      next-stands : AllStand fs (suc (left - 1)) (related_made ws ns a)
-      next-stands = subst (λ (i : ℕ). AllStand fs i (related_made ws ns a)) one_left s.stand
+      next_stands : AllStand fs (suc (left - 1)) (related_made ws ns a)
+      next_stands = subst (λ (i : ℕ). AllStand fs i (related_made ws ns a)) one_left s.stand
 
-      pub function-asked : Ranges a × Stands f (related_made ws ns a)
+      pub function_asked : Ranges a × Stands f (related_made ws ns a)
       unfolding AllStand
-      function-asked = (s.few, next-stands.0)
+      function_asked = (s.few, next_stands.0)
 
-      pub rise-goes-on : (ns₁ : List ℕ) (b : Related) → Relates ws ns₁ b (related_made ws ns a and_then over_function f) → Rising ws fs count ns₀ a₀ ns₁ (left - 1) b
+      pub rise_goes_on : (ns₁ : List ℕ) (b : Related) → Relates ws ns₁ b (related_made ws ns a and_then over_function f) → Rising ws fs count ns₀ a₀ ns₁ (left - 1) b
       unfolding AllStand outwards
-      rise-goes-on ns₁ b u =
+      rise_goes_on ns₁ b u =
           record {
             few = u.few;
-            stand = subst (AllStand fs (left - 1)) (sym u.says) next-stands.1;
+            stand = subst (AllStand fs (left - 1)) (sym u.says) next_stands.1;
             same = ap (outwards fs (left - 1)) u.says
                 ∙ subst (λ (i : ℕ). outwards fs i (related_made ws ns a) ≡ outwards fs count (related_made ws ns₀ a₀)) one_left s.same;
             within = omega (arith, s.within);

@@ -1,6 +1,8 @@
 // The sorts strictly wider or narrower than the sort at a place: from merc's unification.rs,
 // strict_related_sorts, related_numbers and related_container. Up is the Rust's Direction::Super.
 // Nodes and sorts made for it are appended, inner ones first.
+#![tactic(auto)]
+
 ghost use Rattle.std.specs.Prelude.{◌≡◌, true, false, ◌+◌, ◌<◌, ◌≤◌, length, take};
 ghost use Rattle.resolved_sort.specs.Tree.{primitive};
 ghost use Rattle.resolved_sort.specs.Storage.{max_sorts, max_arguments, kind_flat};

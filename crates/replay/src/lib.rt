@@ -1,5 +1,7 @@
 // What the programs that replay recorded answers share: the numbers of a line, the counts of lines that agree and
 // differ, and what is said of a line and at the end.
+#![tactic(auto)]
+
 ghost use Rattle.std.specs.Prelude.{◌≡◌, ◌+◌, ◌*◌, ◌≤◌};
 ghost use Rattle.replay.specs.Inner.Numbers.{max_fields, number_at, ended_of, fields_of, no_fields};
 ghost use Rattle.replay.specs.Inner.Lines.{near_enough, kept, store_from, one_more, counted_of};

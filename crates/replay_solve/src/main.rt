@@ -5,6 +5,8 @@
 //
 // Its file stdin has the answers of the excerpt of merc. Its first lines say how they were made, and
 // `oracle/compare.sh solve` makes them again and compares.
+#![tactic(auto)]
+
 use line_input::{LineFound, next_line, no_input};
 use recorded_solve::{HELD_WORDS, replay_line};
 use replay::{HELD_LINE, Tally, Verdict, counted, finish, say};

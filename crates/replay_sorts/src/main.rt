@@ -4,6 +4,8 @@
 //
 // Its file stdin has the recorded answers of the excerpt of merc. Its first lines say how they were made, and
 // `oracle/compare.sh sorts` makes them again and compares. The crate recorded_sorts states the form of the lines.
+#![tactic(auto)]
+
 use line_input::{LineFound, next_line, no_input};
 use recorded_sorts::{Progress, complete, replay_line, start};
 use replay::{HELD_LINE, Tally, Verdict, counted, finish, say};

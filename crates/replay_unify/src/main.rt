@@ -4,6 +4,8 @@
 //
 // Its file stdin has the answers of the excerpt of merc and the bindings of a model of document 01. Its first lines say
 // how they were made, and `oracle/compare.sh unify` makes them again and compares.
+#![tactic(auto)]
+
 use line_input::{LineFound, next_line, no_input};
 use recorded_unify::{LIST_WORDS, Progress, complete, replay_line, start};
 use replay::{HELD_LINE, Tally, Verdict, counted, finish, say};

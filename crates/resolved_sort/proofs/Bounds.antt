@@ -129,10 +129,10 @@ module _ (up : Bool) where
   )
 
   pub bound_absorbs : (s t u : Tree) → bound up s t ≡ some u → bound (not up) u s ≡ some s
-  bound_absorbs s t u e = le-exactly-bound-other s u (bound_is_bound up s t u e).0
+  bound_absorbs s t u e = le_exactly_bound_other s u (bound_is_bound up s t u e).0
     where
-      le-exactly-bound-other : (s u : Tree) → le up s u ≡ true → bound (not up) u s ≡ some s
-      le-exactly-bound-other s u h =
+      le_exactly_bound_other : (s u : Tree) → le up s u ≡ true → bound (not up) u s ≡ some s
+      le_exactly_bound_other s u h =
           least_unique (IsLe (not up)) (le_antisym (not up)) _ (bound (not up) u s) (some s) (bound_least (not up) u s)
           ((sym (le_flips up s u) ∙ h, le_refl (not up) s), λ c p. p.1)
 

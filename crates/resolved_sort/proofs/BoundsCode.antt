@@ -87,6 +87,7 @@ make_unlike up (flat a) (flat b) S n (flats f) = rw (other_family up a b f)
 make_unlike up (flat a) (container p t) S n u = refl
 make_unlike up (flat a) (function ts u) S n v = refl
 make_unlike up (container o s) (flat b) S n u = refl
+make_unlike up (container o s) (container p t) S n u = elim u [ ]
 make_unlike up (container o s) (function ts u) S n v = refl
 make_unlike up (function ss r) (flat b) S n u = refl
 make_unlike up (function ss r) (container p t) S n u = refl
@@ -144,9 +145,9 @@ module _ (ws : List ℕ) (C : Counts) (k : Checked ws C.sorts C.entries) where
       differ : look T a.0 ≡ look T b.0 → ⊥
       differ q = d (look_injective T a.0 b.0 (trees_differ ws n e (listed k)) (omega (arith, length_trees ws n)) (omega (arith, length_trees ws n)) q)
 
-      pub bound-unlike : Unlike (look T a.0) (look T b.0) → stored_at ws (Nothing C) ≡ bound_at up ws n e a.0 b.0
+      pub bound_unlike : Unlike (look T a.0) (look T b.0) → stored_at ws (Nothing C) ≡ bound_at up ws n e a.0 b.0
       unfolding bound_at
-      bound-unlike u = answer_none ∙ ap (stored ws n e) (sym (make_unlike up (look T a.0) (look T b.0) S differ u))
+      bound_unlike u = answer_none ∙ ap (stored ws n e) (sym (make_unlike up (look T a.0) (look T b.0) S differ u))
 
       module _ (l r : Sort) (o : OfPrimitives ws n e a.0 b.0 l r) (s : Side) (es : s ≡ side_of up l r) where
         made-number : make up (look T a.0) (look T b.0) S ≡ where_some (bound_flat up (primitive l) (primitive r)) S (λ c. made (flat c) S)
@@ -161,17 +162,17 @@ module _ (ws : List ℕ) (C : Counts) (k : Checked ws C.sorts C.entries) where
             (λ t. stored ws n e (made t S)) o.lhs))
         by_side false g q x er el en = ap (λ y. stored_at ws (x y)) q ∙ (ap (stored_at ws) en ∙ answer_none)
 
-        pub bound-number : stored_at ws (side_answer a b C s) ≡ bound_at up ws n e a.0 b.0
+        pub bound_number : stored_at ws (side_answer a b C s) ≡ bound_at up ws n e a.0 b.0
         unfolding bound_at bound_flat
-        bound-number =
+        bound_number =
             by_side (eqb (family (primitive l)) (family (primitive r))) (le_level up (level (primitive l))
             (level (primitive r))) es (side_answer a b C) refl refl refl
             ∙ ap (stored ws n e) (sym made-number)
 
       module _ (o : ComplexSort) (s : SortId) (p : ComplexSort) (t : SortId) (c : OfContainers ws n e a.0 b.0 o s p t) where
-        pub bound-container : container_at up ws n e o s.0 p t.0 ≡ bound_at up ws n e a.0 b.0
+        pub bound_container : container_at up ws n e o s.0 p t.0 ≡ bound_at up ws n e a.0 b.0
         unfolding container_at bound_at
-        bound-container =
+        bound_container =
             ap (stored ws n e)
             (sym (ap₂ (λ x y. make up x y S) c.lhs c.rhs ∙ make_containers up o p (look T s.0)
             (look T t.0) S (λ q. differ (c.lhs ∙ (q ∙ sym c.rhs)))))
@@ -195,8 +196,8 @@ module _ (ws : List ℕ) (C : Counts) (k : Checked ws C.sorts C.entries) where
       abbrev part : Outcome Tree
       part = make up (look T s.0) (look T t.0) S
 
-      part-kept : SortsKept ws n e InTree S part
-      part-kept = make_kept ws n e up (look T s.0) (look T t.0) S (grown_none ws n e k) (look_whole ws n e k s.0 hs) (look_whole ws n e k t.0 ht)
+      part_kept : SortsKept ws n e InTree S part
+      part_kept = make_kept ws n e up (look T s.0) (look T t.0) S (grown_none ws n e k) (look_whole ws n e k s.0 hs) (look_whole ws n e k t.0 ht)
 
       to_part : stored_at vs r ≡ stored ws n e part
       unfolding bound_at
@@ -206,32 +207,32 @@ module _ (ws : List ℕ) (C : Counts) (k : Checked ws C.sorts C.entries) where
       unfolding container_at
       container-is = rw (is_op (bound_op up o p) q ex xq)
 
-      pub container-stops : (K : Counts) → r ≡ Nothing K → stored_at vs (Nothing K) ≡ container_at up ws n e o s.0 p t.0
-      container-stops K z =
+      pub container_stops : (K : Counts) → r ≡ Nothing K → stored_at vs (Nothing K) ≡ container_at up ws n e o s.0 p t.0
+      container_stops K z =
           let f : stored_at vs (Nothing K) ≡ stored ws n e part = ap (stored_at vs) (sym z) ∙ to_part in
           let g = stopped ws n e part vs K f in
           f ∙ sym (container-is ∙ (ap (λ O. stored ws n e (O then (λ v S. intern (container q v) S))) g.1 ∙ ap (stored ws n e) (sym g.1)))
 
-      pub container-ends : r ≡ Full → stored_at vs Full ≡ container_at up ws n e o s.0 p t.0
-      container-ends z =
+      pub container_ends : r ≡ Full → stored_at vs Full ≡ container_at up ws n e o s.0 p t.0
+      container_ends z =
           let f : stored_at vs Full ≡ stored ws n e part = ap (stored_at vs) (sym z) ∙ to_part in
           let g = ended ws n e part vs f in
           f ∙ sym (container-is ∙ (ap (λ O. stored ws n e (O then (λ v S. intern (container q v) S))) g.1 ∙ ap (stored ws n e) (sym g.1)))
 
       module _ (c : SortId) (K : Counts) (z : r ≡ At c K) where
         there : Reached ws n e S part vs c K
-        there = reached ws n e S part part-kept vs c K (ap (stored_at vs) (sym z) ∙ to_part)
+        there = reached ws n e S part part_kept vs c K (ap (stored_at vs) (sym z) ∙ to_part)
 
-        pub container-checked : Checked vs K.sorts K.entries
-        container-checked = reached_checked ws n e S part vs c K there
+        pub container_checked : Checked vs K.sorts K.entries
+        container_checked = reached_checked ws n e S part vs c K there
 
-        pub container-below : c.0 < K.sorts
-        container-below = reached_below ws n e S part vs c K there
+        pub container_below : c.0 < K.sorts
+        container_below = reached_below ws n e S part vs c K there
 
-        pub container-made : (us : List ℕ) (w : Joined) → stored_at us w ≡ intern_at vs K.sorts K.entries (container q (look (trees vs K.sorts) c.0))
+        pub container_made : (us : List ℕ) (w : Joined) → stored_at us w ≡ intern_at vs K.sorts K.entries (container q (look (trees vs K.sorts) c.0))
             → stored_at us w ≡ container_at up ws n e o s.0 p t.0
         unfolding parts_in need
-        container-made us w f =
+        container_made us w f =
             f ∙ (ap (λ v. intern_at vs K.sorts K.entries (container q v)) (reached_sort ws n e S part vs c K there)
             ∙ (intern_after ws n e S part vs c K there (container q there.sort) there.inside (omega arith)
             ∙ sym (container-is ∙ ap (λ O. stored ws n e (O then (λ v S. intern (container q v) S))) there.is)))

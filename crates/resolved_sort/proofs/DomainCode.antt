@@ -243,16 +243,16 @@ module _ (up : Bool) (ws : List ℕ) (C : Counts) (a b : ℕ) (f : TwoFunctions 
       unfolding bound_at
       to-first = er
 
-      pub domain-stops : (K : Counts) → r ≡ Nothing K → domain_left vs (replicate 16 0) (NotAll K) ≡ bound_domain up ws n e a b i ids
+      pub domain_stops : (K : Counts) → r ≡ Nothing K → domain_left vs (replicate 16 0) (NotAll K) ≡ bound_domain up ws n e a b i ids
       unfolding domain_of
-      domain-stops K z =
+      domain_stops K z =
           let g = stopped ws n e first vs K (ap (stored_at vs) (sym z) ∙ to-first) in
           (let w = g.2 in let c = g.3 in λ j. record { words = w j; ids = replicate 16 0; found = NotAll (c j) })
           ∙ sym (domain_is ∙ ap (λ O. domain_of ws n e i ids (O then (λ v S. rest S then (λ vs S. made (arg v vs) S)))) g.1)
 
-      pub domain-ends : r ≡ Full → domain_left vs (replicate 16 0) NoRoom ≡ bound_domain up ws n e a b i ids
+      pub domain_ends : r ≡ Full → domain_left vs (replicate 16 0) NoRoom ≡ bound_domain up ws n e a b i ids
       unfolding domain_of
-      domain-ends z =
+      domain_ends z =
           let g = ended ws n e first vs (ap (stored_at vs) (sym z) ∙ to-first) in
           (let w = g.2 in λ j. record { words = w j; ids = replicate 16 0; found = NoRoom })
           ∙ sym (domain_is ∙ ap (λ O. domain_of ws n e i ids (O then (λ v S. rest S then (λ vs S. made (arg v vs) S)))) g.1)
@@ -264,41 +264,41 @@ module _ (up : Bool) (ws : List ℕ) (C : Counts) (a b : ℕ) (f : TwoFunctions 
         same_rows : Agrees ws vs n e
         same_rows = subst (λ us. Agrees ws us n e) (sym there.words) (unchanged ws n e k there.sorts there.grown)
 
-        more-sorts : n ≤ K.sorts
-        more-sorts = omega (arith, longer ws n e k there.sorts there.grown, reached_sorts ws n e S first vs c K there)
+        more_sorts : n ≤ K.sorts
+        more_sorts = omega (arith, longer ws n e k there.sorts there.grown, reached_sorts ws n e S first vs c K there)
 
         -- the two are functions in the list that was reached
-        pub domain-next : TwoFunctions vs K.sorts K.entries a b
-        domain-next =
+        pub domain_next : TwoFunctions vs K.sorts K.entries a b
+        domain_next =
             record {
               asked = record {
                 checked = reached_checked ws n e S first vs c K there;
                 lhs = omega
-                    (arith, f.asked.lhs, more-sorts);
-                rhs = omega (arith, f.asked.rhs, more-sorts);
+                    (arith, f.asked.lhs, more_sorts);
+                rhs = omega (arith, f.asked.rhs, more_sorts);
               };
               lhs_function = same_rows.kinds a f.asked.lhs ∙ f.lhs_function;
               rhs_function = same_rows.kinds b f.asked.rhs ∙ f.rhs_function;
               as_many = same_rows.counts a f.asked.lhs ∙ (f.as_many ∙ sym (same_rows.counts b f.asked.rhs));
             }
 
-        pub count-unchanged : count_at vs a ≡ count_at ws a
-        count-unchanged = same_rows.counts a f.asked.lhs
+        pub count_unchanged : count_at vs a ≡ count_at ws a
+        count_unchanged = same_rows.counts a f.asked.lhs
 
         abbrev S₁ : Sorts
         S₁ = there.sorts
 
-        rest-kept : SortsKept (after ws n e S₁) (length S₁.trees) (max_entries - S₁.entries) (InTrees (arity (arguments_from ws n a (i + 1)))) S₁ (rest S₁)
-        rest-kept =
+        rest_kept : SortsKept (after ws n e S₁) (length S₁.trees) (max_entries - S₁.entries) (InTrees (arity (arguments_from ws n a (i + 1)))) S₁ (rest S₁)
+        rest_kept =
             makes_kept (after ws n e S₁) (length S₁.trees) (max_entries - S₁.entries) up (arguments_from ws n a (i + 1)) (arguments_from ws n b (i + 1)) S₁
             (here ws n e S first vs c K there)
             (wholes_extend S S₁ _ there.extends (arguments_whole ws n e k S (grown_none ws n e k) a f.asked.lhs f.lhs_function (i + 1) (omega arith)))
             (wholes_extend S S₁ _ there.extends (arguments_whole ws n e k S (grown_none ws n e k) b f.asked.rhs
             f.rhs_function (i + 1) (omega (arith, f.as_many))))
 
-        pub domain-made : (us : List ℕ) (d : Domain) → stored_domain us d ≡ bound_domain up vs K.sorts K.entries a b (i + 1) (set ids i c.0)
+        pub domain_made : (us : List ℕ) (d : Domain) → stored_domain us d ≡ bound_domain up vs K.sorts K.entries a b (i + 1) (set ids i c.0)
             → stored_domain us d ≡ bound_domain up ws n e a b i ids
-        domain-made us d q =
+        domain_made us d q =
             q ∙ (domain_after up ws n e a b f S₁ there.grown (i + 1) (omega arith) (set ids i c.0) vs K there.words there.counted
-            ∙ (domain_glue ws n e S₁ there.grown there.sort there.inside c.0 there.numbered i ids _ (rest S₁) rest-kept
+            ∙ (domain_glue ws n e S₁ there.grown there.sort there.inside c.0 there.numbered i ids _ (rest S₁) rest_kept
             ∙ sym (domain_is ∙ ap (λ O. domain_of ws n e i ids (O then (λ v S. rest S then (λ vs S. made (arg v vs) S)))) there.is)))

@@ -191,99 +191,99 @@ module _ (up : Bool) (ws : List ℕ) (C : Counts) (a b : ℕ) (f : TwoFunctions 
       abbrev e₁ : ℕ
       e₁ = max_entries - S₁.entries
 
-      grown-here : Grown w₁ n₁ e₁ S₁
-      grown-here = subst (Grown w₁ n₁ e₁) (sorts_again ws n e S₁ there.grown) (grown_none w₁ n₁ e₁ there.grown.checked)
+      grown_here : Grown w₁ n₁ e₁ S₁
+      grown_here = subst (Grown w₁ n₁ e₁) (sorts_again ws n e S₁ there.grown) (grown_none w₁ n₁ e₁ there.grown.checked)
 
       more : n ≤ n₁
       more = longer ws n e k S₁ there.grown
 
       -- what the range's call asks
-      pub range-asked : Asked vs K.sorts K.entries (part_at ws a) (part_at ws b)
-      range-asked = range-asked-at vs K there.words there.counted
+      pub range_asked : Asked vs K.sorts K.entries (part_at ws a) (part_at ws b)
+      range_asked = range_asked_at vs K there.words there.counted
         where
-          range-asked-at : (vs : List ℕ) (K : Counts) → vs ≡ w₁ → K ≡ counts_of S₁ → Asked vs K.sorts K.entries (part_at ws a) (part_at ws b)
-          range-asked-at vs K w c = rw (w, c) (record {
+          range_asked_at : (vs : List ℕ) (K : Counts) → vs ≡ w₁ → K ≡ counts_of S₁ → Asked vs K.sorts K.entries (part_at ws a) (part_at ws b)
+          range_asked_at vs K w c = rw (w, c) (record {
             checked = there.grown.checked;
             lhs = omega
                 (arith, lhs_range, more);
             rhs = omega (arith, rhs_range, more);
           })
 
-      range-kept : SortsKept w₁ n₁ e₁ InTree S₁ (range S₁)
-      range-kept =
-          make_kept w₁ n₁ e₁ up (look T (part_at ws a)) (look T (part_at ws b)) S₁ grown-here
+      range_kept : SortsKept w₁ n₁ e₁ InTree S₁ (range S₁)
+      range_kept =
+          make_kept w₁ n₁ e₁ up (look T (part_at ws a)) (look T (part_at ws b)) S₁ grown_here
           (whole_extends S S₁ _ there.extends (look_whole ws n e k (part_at ws a) lhs_range))
           (whole_extends S S₁ _ there.extends (look_whole ws n e k (part_at ws b) rhs_range))
 
-      function-then : function_at up ws n e a b ≡ stored ws n e (range S₁ then (λ v S. intern (function there.args v) S))
-      function-then = function_is ∙ ap (λ O. stored ws n e (O then whole)) there.is
+      function_then : function_at up ws n e a b ≡ stored ws n e (range S₁ then (λ v S. intern (function there.args v) S))
+      function_then = function_is ∙ ap (λ O. stored ws n e (O then whole)) there.is
 
       module _ (us : List ℕ) (r : Joined) (er : stored_at us r ≡ bound_at up vs K.sorts K.entries (part_at ws a) (part_at ws b)) where
-        to-range : stored_at us r ≡ stored w₁ n₁ e₁ (range S₁)
-        to-range = er ∙ range_after ws n e k S₁ there.grown up (part_at ws a) (part_at ws b) lhs_range rhs_range vs K there.words there.counted
+        to_range : stored_at us r ≡ stored w₁ n₁ e₁ (range S₁)
+        to_range = er ∙ range_after ws n e k S₁ there.grown up (part_at ws a) (part_at ws b) lhs_range rhs_range vs K there.words there.counted
 
-        range-once : stored w₁ n₁ e₁ (range S₁) ≡ stored ws n e (range S₁)
-        range-once = stored_again ws n e S₁ there.grown S₁ (range S₁) range-kept
+        range_once : stored w₁ n₁ e₁ (range S₁) ≡ stored ws n e (range S₁)
+        range_once = stored_again ws n e S₁ there.grown S₁ (range S₁) range_kept
 
-        pub range-stops : (K₂ : Counts) → r ≡ Nothing K₂ → stored_at us (Nothing K₂) ≡ function_at up ws n e a b
-        range-stops K₂ y =
-            let h : stored_at us (Nothing K₂) ≡ stored w₁ n₁ e₁ (range S₁) = ap (stored_at us) (sym y) ∙ to-range in
+        pub range_stops : (K₂ : Counts) → r ≡ Nothing K₂ → stored_at us (Nothing K₂) ≡ function_at up ws n e a b
+        range_stops K₂ y =
+            let h : stored_at us (Nothing K₂) ≡ stored w₁ n₁ e₁ (range S₁) = ap (stored_at us) (sym y) ∙ to_range in
             let g = stopped w₁ n₁ e₁ (range S₁) us K₂ h in
-            h ∙ (range-once ∙ (ap (stored ws n e) g.1
-            ∙ sym (function-then ∙ ap (λ O. stored ws n e (O then (λ v S. intern (function there.args v) S))) g.1)))
+            h ∙ (range_once ∙ (ap (stored ws n e) g.1
+            ∙ sym (function_then ∙ ap (λ O. stored ws n e (O then (λ v S. intern (function there.args v) S))) g.1)))
 
-        pub range-ends : r ≡ Full → stored_at us Full ≡ function_at up ws n e a b
-        range-ends y =
-            let h : stored_at us Full ≡ stored w₁ n₁ e₁ (range S₁) = ap (stored_at us) (sym y) ∙ to-range in
+        pub range_ends : r ≡ Full → stored_at us Full ≡ function_at up ws n e a b
+        range_ends y =
+            let h : stored_at us Full ≡ stored w₁ n₁ e₁ (range S₁) = ap (stored_at us) (sym y) ∙ to_range in
             let g = ended w₁ n₁ e₁ (range S₁) us h in
-            h ∙ (range-once ∙ (ap (stored ws n e) g.1
-            ∙ sym (function-then ∙ ap (λ O. stored ws n e (O then (λ v S. intern (function there.args v) S))) g.1)))
+            h ∙ (range_once ∙ (ap (stored ws n e) g.1
+            ∙ sym (function_then ∙ ap (λ O. stored ws n e (O then (λ v S. intern (function there.args v) S))) g.1)))
 
         module _ (c : SortId) (K₂ : Counts) (y : r ≡ At c K₂) where
-          then-there : Reached w₁ n₁ e₁ S₁ (range S₁) us c K₂
-          then-there = reached w₁ n₁ e₁ S₁ (range S₁) range-kept us c K₂ (ap (stored_at us) (sym y) ∙ to-range)
+          then_there : Reached w₁ n₁ e₁ S₁ (range S₁) us c K₂
+          then_there = reached w₁ n₁ e₁ S₁ (range S₁) range_kept us c K₂ (ap (stored_at us) (sym y) ∙ to_range)
 
           abbrev S₂ : Sorts
-          S₂ = then-there.sorts
+          S₂ = then_there.sorts
 
-          pub function-checked : Checked us K₂.sorts K₂.entries
-          function-checked = reached_checked w₁ n₁ e₁ S₁ (range S₁) us c K₂ then-there
+          pub function_checked : Checked us K₂.sorts K₂.entries
+          function_checked = reached_checked w₁ n₁ e₁ S₁ (range S₁) us c K₂ then_there
 
-          pub function-range-below : c.0 < K₂.sorts
-          function-range-below = reached_below w₁ n₁ e₁ S₁ (range S₁) us c K₂ then-there
+          pub function_range_below : c.0 < K₂.sorts
+          function_range_below = reached_below w₁ n₁ e₁ S₁ (range S₁) us c K₂ then_there
 
-          arguments-count : length (numbers S₁.trees there.args) ≡ count_at ws a
-          arguments-count =
+          arguments_count : length (numbers S₁.trees there.args) ≡ count_at ws a
+          arguments_count =
               length_numbers S₁.trees there.args ∙ (there.as_many ∙ (arity_run ws T (start_at ws a + 0) (count_at ws a - 0) ∙ sub-zero (count_at ws a)))
 
-          ids-are : take (count_at ws a) (sort_numbers d.ids) ≡ numbers S₁.trees there.args
-          ids-are =
-              ap₂ take (sym arguments-count) there.stored_ids
-              ∙ first_ids (numbers S₁.trees there.args) (omega (arith, arguments-count, few_arguments ws n e k a f.asked.lhs f.lhs_function))
+          ids_are : take (count_at ws a) (sort_numbers d.ids) ≡ numbers S₁.trees there.args
+          ids_are =
+              ap₂ take (sym arguments_count) there.stored_ids
+              ∙ first_ids (numbers S₁.trees there.args) (omega (arith, arguments_count, few_arguments ws n e k a f.asked.lhs f.lhs_function))
 
-          sorts-grow : n₁ ≤ K₂.sorts
-          sorts-grow =
+          sorts_grow : n₁ ≤ K₂.sorts
+          sorts_grow =
               omega (
                 arith,
-                reached_sorts w₁ n₁ e₁ S₁ (range S₁) us c K₂ then-there,
+                reached_sorts w₁ n₁ e₁ S₁ (range S₁) us c K₂ then_there,
                 ap length
-                    then-there.extends.1,
-                length-append S₁.trees then-there.extends.0,
+                    then_there.extends.1,
+                length-append S₁.trees then_there.extends.0,
               )
 
-          pub function-ids-below : AllBelow K₂.sorts (take (count_at ws a) (sort_numbers d.ids))
-          function-ids-below =
-              subst (AllBelow K₂.sorts) (sym ids-are)
-              (weaken_all n₁ K₂.sorts (numbers S₁.trees there.args) sorts-grow (numbers_below S₁.trees there.args there.inside))
+          pub function_ids_below : AllBelow K₂.sorts (take (count_at ws a) (sort_numbers d.ids))
+          function_ids_below =
+              subst (AllBelow K₂.sorts) (sym ids_are)
+              (weaken_all n₁ K₂.sorts (numbers S₁.trees there.args) sorts_grow (numbers_below S₁.trees there.args there.inside))
 
-          members-there : members S₂.trees there.args ≡ true
-          members-there = members_extends S₁ S₂ there.args then-there.extends there.inside
+          members_there : members S₂.trees there.args ≡ true
+          members_there = members_extends S₁ S₂ there.args then_there.extends there.inside
 
-          args-there : look_all (trees us K₂.sorts) (take (count_at ws a) (sort_numbers d.ids)) ≡ there.args
-          args-there =
-              ap₂ look_all (reached_trees w₁ n₁ e₁ S₁ (range S₁) us c K₂ then-there)
-              (ids-are ∙ sym (numbers_extend S₁ S₂ there.args then-there.extends there.inside))
-              ∙ look_all_numbers S₂.trees there.args members-there
+          args_there : look_all (trees us K₂.sorts) (take (count_at ws a) (sort_numbers d.ids)) ≡ there.args
+          args_there =
+              ap₂ look_all (reached_trees w₁ n₁ e₁ S₁ (range S₁) us c K₂ then_there)
+              (ids_are ∙ sym (numbers_extend S₁ S₂ there.args then_there.extends there.inside))
+              ∙ look_all_numbers S₂.trees there.args members_there
 
           few : arity there.args ≤ 16
           few =
@@ -296,21 +296,21 @@ module _ (up : Bool) (ws : List ℕ) (C : Counts) (a b : ℕ) (f : TwoFunctions 
                 few_arguments ws n e k a f.asked.lhs f.lhs_function,
               )
 
-          parts-there : parts_in S₂.trees (function there.args then-there.sort) ≡ true
+          parts-there : parts_in S₂.trees (function there.args then_there.sort) ≡ true
           unfolding parts_in
-          parts-there = (and-eq-true_iff (members S₂.trees there.args) (member S₂.trees then-there.sort)).1 (members-there, then-there.inside)
+          parts-there = (and-eq-true_iff (members S₂.trees there.args) (member S₂.trees then_there.sort)).1 (members_there, then_there.inside)
 
-          pub function-made : (zs : List ℕ) (w : Joined)
+          pub function_made : (zs : List ℕ) (w : Joined)
               → stored_at zs w ≡ intern_at us K₂.sorts K₂.entries (function (look_all (trees us K₂.sorts)
               (take (count_at ws a) (sort_numbers d.ids))) (look (trees us K₂.sorts) c.0))
               → stored_at zs w ≡ function_at up ws n e a b
           unfolding need
-          function-made zs w g =
-              g ∙ (ap₂ (λ ts v. intern_at us K₂.sorts K₂.entries (function ts v)) args-there (reached_sort w₁ n₁ e₁ S₁ (range S₁) us c K₂ then-there)
-              ∙ (intern_after w₁ n₁ e₁ S₁ (range S₁) us c K₂ then-there (function there.args then-there.sort) parts-there few
-              ∙ (stored_again ws n e S₁ there.grown S₂ (intern (function there.args then-there.sort) S₂)
-              (intern_kept w₁ n₁ e₁ S₂ then-there.grown (function there.args then-there.sort) parts-there few)
-              ∙ sym (function-then ∙ ap (λ O. stored ws n e (O then (λ v S. intern (function there.args v) S))) then-there.is))))
+          function_made zs w g =
+              g ∙ (ap₂ (λ ts v. intern_at us K₂.sorts K₂.entries (function ts v)) args_there (reached_sort w₁ n₁ e₁ S₁ (range S₁) us c K₂ then_there)
+              ∙ (intern_after w₁ n₁ e₁ S₁ (range S₁) us c K₂ then_there (function there.args then_there.sort) parts-there few
+              ∙ (stored_again ws n e S₁ there.grown S₂ (intern (function there.args then_there.sort) S₂)
+              (intern_kept w₁ n₁ e₁ S₂ then_there.grown (function there.args then_there.sort) parts-there few)
+              ∙ sym (function_then ∙ ap (λ O. stored ws n e (O then (λ v S. intern (function there.args v) S))) then_there.is))))
 
 -- two functions of different numbers: the whole is their join or meet
 pub bound_functions : (up : Bool) (ws : List ℕ) (n e a b : ℕ) → TwoFunctions ws n e a b → (a ≡ b → ⊥) → function_at up ws n e a b ≡ bound_at up ws n e a b

@@ -11,9 +11,9 @@ use Rattle.resolved_sort.specs.Order.{le, les, order, Steps, distance, materiali
 use Rattle.resolved_sort.proofs.Numbers.{true_not_false}
 use Rattle.resolved_sort.proofs.Distance.{distance_exists_exactly}
 use Rattle.resolved_sort.proofs.Materializable.{materializable_below}
-use Rattle.resolved_sort.proofs.Pairs.{Unlike, Unlike.flats, Unlike.flat-container, Unlike.flat-function}
-use Rattle.resolved_sort.proofs.Pairs.{Unlike.container-flat, Unlike.container-function, Unlike.function-flat}
-use Rattle.resolved_sort.proofs.Pairs.{Unlike.function-container, Unlike.functions}
+use Rattle.resolved_sort.proofs.Pairs.{Unlike, Unlike.flats, Unlike.flat_container, Unlike.flat_function}
+use Rattle.resolved_sort.proofs.Pairs.{Unlike.container_flat, Unlike.container_function, Unlike.function_flat}
+use Rattle.resolved_sort.proofs.Pairs.{Unlike.function_container, Unlike.functions}
 
 -- runs of different lengths
 pub les_of_lengths : (up : Bool) (ss ts : Trees) → (arity ss ≡ arity ts → ⊥) → les up ss ts ≡ false
@@ -26,12 +26,12 @@ les_of_lengths up (arg s ss) (arg t ts) h = ap (◌&&◌ (le up s t)) (les_of_le
 pub unlike_le : (up : Bool) {s t : Tree} → Unlike s t → le up s t ≡ false
 unfolding le
 unlike_le up (flats h) = rw (ne_eqb _ _ h)
-unlike_le up flat-container = refl
-unlike_le up flat-function = refl
-unlike_le up container-flat = refl
-unlike_le up container-function = refl
-unlike_le up function-flat = refl
-unlike_le up function-container = refl
+unlike_le up flat_container = refl
+unlike_le up flat_function = refl
+unlike_le up container_flat = refl
+unlike_le up container_function = refl
+unlike_le up function_flat = refl
+unlike_le up function_container = refl
 unlike_le up (functions {ss} {ts} {r} {u} h) = rw (les_of_lengths (not up) ss ts h)
 
 pub unlike_order : {s t : Tree} → Unlike s t → order s t ≡ Unrelated

@@ -3,6 +3,8 @@
 // The number of a sort in the sort list. A type of its own, as the Rust's ResolvedSortId: sort, node, variable and
 // expression numbers do not mix.
 // Sorts are interned: two numbers are equal exactly if their sorts are, so to compare sorts is to compare two numbers.
+#![tactic(auto)]
+
 #[repr(C)]
 #[derive(Drop)]
 pub struct SortId(pub u16);

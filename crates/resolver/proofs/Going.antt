@@ -82,22 +82,22 @@ module _ (ns bs : List ℕ) (x : Default) (s m g : ℕ) (ws₀ : List ℕ) (k₀
     index_fits = omega (arith, h, G.entered.2.short)
 
     module _ (a : ℕ) (ea : a ≡ node_entry_at ns (s + i)) where
-      pub argument-ready : Ready ws ns bs k × DefaultBelow k.sorts x × Placed k a
-      argument-ready = (G.ready.0, G.ready.1, law.first_placed ws ns bs k G.ready.0 x G.ready.1 (s + i) (m - i) i G.ready.2 (sort_numbers ids) left a ea)
+      pub argument_ready : Ready ws ns bs k × DefaultBelow k.sorts x × Placed k a
+      argument_ready = (G.ready.0, G.ready.1, law.first_placed ws ns bs k G.ready.0 x G.ready.1 (s + i) (m - i) i G.ready.2 (sort_numbers ids) left a ea)
 
-      pub argument-falls : size (value_in ws ns bs k a) < size (function_term ws₀ ns bs k₀ s m g)
-      argument-falls = omega (arith, parts, G.smaller, law.first_falls ws ns bs k G.ready.0 x G.ready.1 (s + i) (m - i) i G.ready.2 (sort_numbers ids) left a ea)
+      pub argument_falls : size (value_in ws ns bs k a) < size (function_term ws₀ ns bs k₀ s m g)
+      argument_falls = omega (arith, parts, G.smaller, law.first_falls ws ns bs k G.ready.0 x G.ready.1 (s + i) (m - i) i G.ready.2 (sort_numbers ids) left a ea)
 
       module _ (vs : List ℕ) (w : Joined) (ew : stored_at vs w ≡ term_resolved ws k x (value_in ws ns bs k a)) where
-        pub argument-stops : (K : Counts) → w ≡ Nothing K → stored_at vs (Nothing K) ≡ term_resolved ws₀ k₀ x (function_term ws₀ ns bs k₀ s m g)
-        argument-stops K z =
+        pub argument_stops : (K : Counts) → w ≡ Nothing K → stored_at vs (Nothing K) ≡ term_resolved ws₀ k₀ x (function_term ws₀ ns bs k₀ s m g)
+        argument_stops K z =
             law.function_stops ws₀ ns bs k₀ G.entered.0 x G.entered.1 s m g G.entered.2 G.entered.3 vs
             (record { ids = replicate 16 (record { 0 = 0 }); found = NotAll K })
             (ap (λ l. domain_left vs l (NotAll K)) (zeros_sort_numbers 16) ∙ law.arguments_stop ws ns bs k G.ready.0 x G.ready.1 (s + i) (m - i) i G.ready.2 (sort_numbers ids) left a ea vs w ew K z ∙ G.same)
             K refl
 
-        pub argument-ends : w ≡ Full → stored_at vs Full ≡ term_resolved ws₀ k₀ x (function_term ws₀ ns bs k₀ s m g)
-        argument-ends z =
+        pub argument_ends : w ≡ Full → stored_at vs Full ≡ term_resolved ws₀ k₀ x (function_term ws₀ ns bs k₀ s m g)
+        argument_ends z =
             law.function_ends ws₀ ns bs k₀ G.entered.0 x G.entered.1 s m g G.entered.2 G.entered.3 vs
             (record { ids = replicate 16 (record { 0 = 0 }); found = NoRoom })
             (ap (λ l. domain_left vs l NoRoom) (zeros_sort_numbers 16) ∙ law.arguments_end ws ns bs k G.ready.0 x G.ready.1 (s + i) (m - i) i G.ready.2 (sort_numbers ids) left a ea vs w ew z ∙ G.same) refl
@@ -115,12 +115,12 @@ module _ (ns bs : List ℕ) (x : Default) (s m g : ℕ) (ws₀ : List ℕ) (k₀
           within = omega (arith, h);
           counted = rw ek (ap (λ (y : Lengths). with_counts y K) G.counted);
           long = l ∙ G.long;
-          smaller = omega (arith, G.smaller, ap sizes moved, falls, same-sizes);
+          smaller = omega (arith, G.smaller, ap sizes moved, falls, same_sizes);
           same = ap₂ (λ ts l. arguments_resolved vs k' x ts (i + 1) l) (sym moved) (set_sort_numbers ids i c) ∙ (on ∙ G.same);
         }
           where
             there : Ready vs ns bs k' × DefaultBelow k'.sorts x × RunPlaced ns k' (s + i + 1) (m - i - 1)
-            there = law.rest-ready ws ns bs k G.ready.0 x G.ready.1 (s + i) (m - i) i G.ready.2 (sort_numbers ids) left a ea vs w ew c K z k' ek
+            there = law.rest_ready ws ns bs k G.ready.0 x G.ready.1 (s + i) (m - i) i G.ready.2 (sort_numbers ids) left a ea vs w ew c K z k' ek
 
             further : s + i + 1 ≡ s + (i + 1)
             further = omega arith
@@ -134,12 +134,12 @@ module _ (ns bs : List ℕ) (x : Default) (s m g : ℕ) (ws₀ : List ℕ) (k₀
             falls : size (value_in ws ns bs k a) + sizes (argument_terms ws ns bs k (s + i + 1) (m - i - 1)) ≡ sizes (argument_terms ws ns bs k (s + i) (m - i))
             falls = law.first_falls ws ns bs k G.ready.0 x G.ready.1 (s + i) (m - i) i G.ready.2 (sort_numbers ids) left a ea
 
-            same-sizes : sizes (argument_terms vs ns bs k' (s + i + 1) (m - i - 1)) ≡ sizes (argument_terms ws ns bs k (s + i + 1) (m - i - 1))
-            same-sizes = law.rest_same ws ns bs k G.ready.0 x G.ready.1 (s + i) (m - i) i G.ready.2 (sort_numbers ids) left a ea vs w ew c K z k' ek
+            same_sizes : sizes (argument_terms vs ns bs k' (s + i + 1) (m - i - 1)) ≡ sizes (argument_terms ws ns bs k (s + i + 1) (m - i - 1))
+            same_sizes = law.rest_same ws ns bs k G.ready.0 x G.ready.1 (s + i) (m - i) i G.ready.2 (sort_numbers ids) left a ea vs w ew c K z k' ek
 
             on : arguments_resolved vs k' x (argument_terms vs ns bs k' (s + i + 1) (m - i - 1)) (i + 1)
                 (set (sort_numbers ids) i c.0) ≡ arguments_resolved ws k x (argument_terms ws ns bs k (s + i) (m - i)) i (sort_numbers ids)
-            on = law.arguments-made ws ns bs k G.ready.0 x G.ready.1 (s + i) (m - i) i G.ready.2 (sort_numbers ids) left a ea vs w ew c K z k' ek
+            on = law.arguments_made ws ns bs k G.ready.0 x G.ready.1 (s + i) (m - i) i G.ready.2 (sort_numbers ids) left a ea vs w ew c K z k' ek
 
   -- no argument is left: the range, and the whole
   module _ (h : m ≤ i) where
@@ -163,21 +163,21 @@ module _ (ns bs : List ℕ) (x : Default) (s m g : ℕ) (ws₀ : List ℕ) (k₀
         )
 
     module _ (vs : List ℕ) (w : Joined) (ew : stored_at vs w ≡ term_resolved ws k x (value_in ws ns bs k g)) where
-      pub range-stops : (K : Counts) → w ≡ Nothing K → stored_at vs (Nothing K) ≡ term_resolved ws₀ k₀ x (function_term ws₀ ns bs k₀ s m g)
-      range-stops = law.range-stops ws₀ ns bs k₀ G.entered.0 x G.entered.1 s m g G.entered.2
+      pub range_stops : (K : Counts) → w ≡ Nothing K → stored_at vs (Nothing K) ≡ term_resolved ws₀ k₀ x (function_term ws₀ ns bs k₀ s m g)
+      range_stops = law.range_stops ws₀ ns bs k₀ G.entered.0 x G.entered.1 s m g G.entered.2
           G.entered.3 ws all made (counts_in k) refl k G.counted vs w ew
 
-      pub range-ends : w ≡ Full → stored_at vs Full ≡ term_resolved ws₀ k₀ x (function_term ws₀ ns bs k₀ s m g)
-      range-ends = law.range-ends ws₀ ns bs k₀ G.entered.0 x G.entered.1 s m g G.entered.2 G.entered.3
+      pub range_ends : w ≡ Full → stored_at vs Full ≡ term_resolved ws₀ k₀ x (function_term ws₀ ns bs k₀ s m g)
+      range_ends = law.range_ends ws₀ ns bs k₀ G.entered.0 x G.entered.1 s m g G.entered.2 G.entered.3
           ws all made (counts_in k) refl k G.counted vs w ew
 
       module _ (c : SortId) (K : Counts) (z : w ≡ At c K) where
-        pub function-asked : Checked vs K.sorts K.entries × (c.0 < K.sorts) × (m ≤ 16) × AllBelow K.sorts (take m (sort_numbers ids))
-        function-asked = law.function-asked ws₀ ns bs k₀ G.entered.0 x G.entered.1 s m g G.entered.2
+        pub function_asked : Checked vs K.sorts K.entries × (c.0 < K.sorts) × (m ≤ 16) × AllBelow K.sorts (take m (sort_numbers ids))
+        function_asked = law.function_asked ws₀ ns bs k₀ G.entered.0 x G.entered.1 s m g G.entered.2
             G.entered.3 ws all made (counts_in k) refl k G.counted vs w ew c K z
 
-        pub function-made : (us : List ℕ) (v : Joined)
+        pub function_made : (us : List ℕ) (v : Joined)
             → stored_at us v ≡ intern_at vs K.sorts K.entries (function (look_all (trees vs K.sorts) (take m (sort_numbers ids))) (look (trees vs K.sorts) c.0))
             → stored_at us v ≡ term_resolved ws₀ k₀ x (function_term ws₀ ns bs k₀ s m g)
-        function-made = law.function-made ws₀ ns bs k₀ G.entered.0 x G.entered.1 s m g G.entered.2
+        function_made = law.function_made ws₀ ns bs k₀ G.entered.0 x G.entered.1 s m g G.entered.2
             G.entered.3 ws all made (counts_in k) refl k G.counted vs w ew c K z

@@ -54,7 +54,7 @@ use Rattle.unification.proofs.ResolvedPlaces.{count_terms, terms_formed, value_f
 use Rattle.unification.proofs.Resolved.{value_followed}
 use Rattle.unification.proofs.ResolvedCode as code
 use Rattle.infer_nodes.specs.Inner.Bound.{RunPlaced}
-use Rattle.infer_nodes.proofs.Shapes.{shape-of-variable}
+use Rattle.infer_nodes.proofs.Shapes.{shape_of_variable}
 use Rattle.infer_nodes.proofs.Ways as ways
 
 pub free_is : (c : Counts) (x : Default) (s : SortId) → x ≡ Is s → At s c ≡ free_sort c x
@@ -126,14 +126,14 @@ module _ (ws ns bs : List ℕ) (k : Lengths) (q : Ready ws ns bs k) (x : Default
         ∙ sort_place_is_found ws n e ns k.nodes k.arguments k.variables q.nodes B q.binds S (grown_none ws n e checked) X end b)))
 
     module _ (l : max_sorts ≤ end) (r : InferSort) (j : r ≡ node_at ns (end - max_sorts)) where
-      pub variable-answers : (u : SortVar) → r ≡ Var u → (c : Counts) → c ≡ C → (w : Joined) → w ≡ free_sort c x → stored_at ws w ≡ term_resolved ws k x (val p)
+      pub variable_answers : (u : SortVar) → r ≡ Var u → (c : Counts) → c ≡ C → (w : Joined) → w ≡ free_sort c x → stored_at ws w ≡ term_resolved ws k x (val p)
       unfolding term_resolved resolve_term
-      variable-answers u y c z w v =
+      variable_answers u y c z w v =
           ap (stored_at ws) (v ∙ ap (λ d. free_sort d x) z)
           ∙ (go x dx
           ∙ ap (λ t. stored ws n e (resolve_term X t S))
           (sym (code.value_of_variable ws n e ns k.nodes k.arguments k.variables q.nodes B q.binds p
-          end f u.0 (shape-of-variable ws ns k q.nodes end end_placed l r j u y))))
+          end f u.0 (shape_of_variable ws ns k q.nodes end end_placed l r j u y))))
         where
           go : (y : Default) → DefaultBelow n y → stored_at ws (free_sort C y) ≡ stored ws n e (resolve_term (default_of (trees ws n) y) (var u.0) S)
           go (Is d) b = answer_old ws C checked d b
@@ -143,70 +143,70 @@ module _ (ws ns bs : List ℕ) (k : Lengths) (q : Ready ws ns bs k) (x : Default
         abbrev term : Term
         term = app (container_head o) (part (val s.0) no_part)
 
-        is-container : val p ≡ term
-        is-container =
+        is_container : val p ≡ term
+        is_container =
             code.value_of_container ws n e ns k.nodes k.arguments k.variables q.nodes B q.binds p end f
-            o s.0 (ways.generic-shape ws ns bs k q 0 p end i f l r j o s y)
+            o s.0 (ways.generic_shape ws ns bs k q 0 p end i f l r j o s y)
 
         pub part_placed : Placed k s.0
-        part_placed = ways.subsort-placed ws ns bs k q 0 p end i f l r j o s y
+        part_placed = ways.subsort_placed ws ns bs k q 0 p end i f l r j o s y
 
         pub part_falls : size (val s.0) < size (val p)
         unfolding size sizes
-        part_falls = subst (λ t. size (val s.0) < size t) (sym is-container) (omega arith)
+        part_falls = subst (λ t. size (val s.0) < size t) (sym is_container) (omega arith)
 
         whole : term_resolved ws k x term ≡ term_resolved ws k x (val p)
-        whole = ap (term_resolved ws k x) (sym is-container)
+        whole = ap (term_resolved ws k x) (sym is_container)
 
         module _ (vs : List ℕ) (a : Joined) (ea : stored_at vs a ≡ term_resolved ws k x (val s.0)) where
           ea' : stored_at vs a ≡ stored ws n e (resolve_term X (val s.0) S)
           unfolding term_resolved
           ea' = ea
 
-          pub container-stops : (K : Counts) → a ≡ Nothing K → stored_at vs (Nothing K) ≡ term_resolved ws k x (val p)
+          pub container_stops : (K : Counts) → a ≡ Nothing K → stored_at vs (Nothing K) ≡ term_resolved ws k x (val p)
           unfolding term_resolved
-          container-stops K z = code.container_stops ws C checked X default_in_lem (val s.0) (formed s.0 part_placed) vs a ea' o K z ∙ whole
+          container_stops K z = code.container_stops ws C checked X default_in_lem (val s.0) (formed s.0 part_placed) vs a ea' o K z ∙ whole
 
-          pub container-ends : a ≡ Full → stored_at vs Full ≡ term_resolved ws k x (val p)
+          pub container_ends : a ≡ Full → stored_at vs Full ≡ term_resolved ws k x (val p)
           unfolding term_resolved
-          container-ends z = code.container_ends ws C checked X default_in_lem (val s.0) (formed s.0 part_placed) vs a ea' o z ∙ whole
+          container_ends z = code.container_ends ws C checked X default_in_lem (val s.0) (formed s.0 part_placed) vs a ea' o z ∙ whole
 
           module _ (c : SortId) (K : Counts) (z : a ≡ At c K) where
-            pub container-asked : Checked vs K.sorts K.entries × (c.0 < K.sorts)
-            container-asked = (
-              code.part-checked ws C checked X default_in_lem (val s.0) (formed s.0 part_placed) vs a ea' c K z,
-              code.part-below ws C checked X default_in_lem (val s.0) (formed s.0 part_placed) vs a ea' c K z,
+            pub container_asked : Checked vs K.sorts K.entries × (c.0 < K.sorts)
+            container_asked = (
+              code.part_checked ws C checked X default_in_lem (val s.0) (formed s.0 part_placed) vs a ea' c K z,
+              code.part_below ws C checked X default_in_lem (val s.0) (formed s.0 part_placed) vs a ea' c K z,
             )
 
-            pub container-made : (us : List ℕ) (w : Joined) → stored_at us w ≡ intern_at vs K.sorts K.entries
+            pub container_made : (us : List ℕ) (w : Joined) → stored_at us w ≡ intern_at vs K.sorts K.entries
                 (container o (look (trees vs K.sorts) c.0)) → stored_at us w ≡ term_resolved ws k x (val p)
             unfolding term_resolved
-            container-made us w g = code.container-made ws C checked X default_in_lem (val s.0) (formed s.0 part_placed) vs a ea' c K z o us w g ∙ whole
+            container_made us w g = code.container_made ws C checked X default_in_lem (val s.0) (formed s.0 part_placed) vs a ea' c K z o us w g ∙ whole
 
       module _ (d : Run) (s : InferSortId) (y : r ≡ Function d s) where
-        pub domain-placed : RunPlaced ns k d.start d.count
-        domain-placed = ways.run-placed ws ns bs k q 0 p end i f l r j d s y
+        pub domain_placed : RunPlaced ns k d.start d.count
+        domain_placed = ways.run_placed ws ns bs k q 0 p end i f l r j d s y
 
-        pub range-placed : Placed k s.0
-        range-placed = ways.range-placed ws ns bs k q 0 p end i f l r j d s y
+        pub range_placed : Placed k s.0
+        range_placed = ways.range_placed ws ns bs k q 0 p end i f l r j d s y
 
         abbrev args : List ℕ
         args = node_entries_of ns d.start d.count
 
-        pub is-function : val p ≡ app (function_head d.count) (terms_at val (args ++ (s.0 ∷ [])))
-        is-function =
+        pub is_function : val p ≡ app (function_head d.count) (terms_at val (args ++ (s.0 ∷ [])))
+        is_function =
             code.value_of_function ws n e ns k.nodes k.arguments k.variables q.nodes B q.binds p end f args s.0
-            (ways.function-shape ws ns bs k q 0 p end i f l r j d s y ∙ ap (λ (c : ℕ). over (function_head c)
+            (ways.function_shape ws ns bs k q 0 p end i f l r j d s y ∙ ap (λ (c : ℕ). over (function_head c)
             (args ++ (s.0 ∷ []))) (sym (length_node_entries ns d.start d.count)))
             ∙ ap₂ (λ (c : ℕ) (ts : Terms). app (function_head c) ts) (run_count d.start d.count) (sym (code.terms_with_last val args s.0))
 
-        pub function-size : size (app (function_head d.count) (terms_at val (args ++ (s.0 ∷ [])))) ≡ size (val p)
-        function-size = ap size (sym is-function)
+        pub function_size : size (app (function_head d.count) (terms_at val (args ++ (s.0 ∷ [])))) ≡ size (val p)
+        function_size = ap size (sym is_function)
 
-        pub function-resolved : (vs : List ℕ) (w : Joined) → stored_at vs w ≡ term_resolved ws k x
+        pub function_resolved : (vs : List ℕ) (w : Joined) → stored_at vs w ≡ term_resolved ws k x
             (app (function_head d.count) (terms_at val (args ++ (s.0 ∷ [])))) → stored_at vs w ≡ term_resolved ws k x
             (val p)
-        function-resolved vs w g = g ∙ ap (term_resolved ws k x) (sym is-function)
+        function_resolved vs w g = g ∙ ap (term_resolved ws k x) (sym is_function)
 
   -- from the lists that a call has left
   module _ (S₁ : Sorts) (g : Grown ws n e S₁) (vs : List ℕ) (K : Counts) (w : vs ≡ after ws n e S₁)
@@ -281,21 +281,21 @@ module _ (ws ns bs : List ℕ) (k : Lengths) (q : Ready ws ns bs k) (x : Default
       abbrev rest : Terms
       rest = terms_at val (node_entries_of ns (s + 1) (m - 1))
 
-      first-and-rest : run ≡ part (val a) rest
-      first-and-rest = ap (terms_at val) (ways.one-and-rest ws ns bs k q 0 s m r h)
+      first_and_rest : run ≡ part (val a) rest
+      first_and_rest = ap (terms_at val) (ways.one_and_rest ws ns bs k q 0 s m r h)
 
-      first-here : Placed k a
-      first-here = ways.first_placed ws ns bs k q 0 s m r h
+      first_here : Placed k a
+      first_here = ways.first_placed ws ns bs k q 0 s m r h
 
-      pub first-placed : Placed k a₀
-      first-placed = subst (Placed k) (sym e₀) first-here
+      pub first_placed : Placed k a₀
+      first_placed = subst (Placed k) (sym e₀) first_here
 
-      rest-run : RunPlaced ns k (s + 1) (m - 1)
-      rest-run = ways.rest-placed ws ns bs k q 0 s m r h
+      rest_run : RunPlaced ns k (s + 1) (m - 1)
+      rest_run = ways.rest_placed ws ns bs k q 0 s m r h
 
-      pub first-falls : size (val a₀) + sizes rest ≡ sizes run
+      pub first_falls : size (val a₀) + sizes rest ≡ sizes run
       unfolding sizes
-      first-falls = sym (ap sizes first-and-rest ∙ ap (λ (z : ℕ). size (val z) + sizes rest) (sym e₀))
+      first_falls = sym (ap sizes first_and_rest ∙ ap (λ (z : ℕ). size (val z) + sizes rest) (sym e₀))
 
       module _ (vs : List ℕ) (w : Joined) (ew : stored_at vs w ≡ term_resolved ws k x (val a₀)) where
         ew' : stored_at vs w ≡ stored ws n e (resolve_term X (val a) S)
@@ -303,39 +303,39 @@ module _ (ws ns bs : List ℕ) (k : Lengths) (q : Ready ws ns bs k) (x : Default
         ew' = ew ∙ ap (λ z. term_resolved ws k x (val z)) e₀
 
         back : arguments_resolved ws k x (part (val a) rest) t ids ≡ arguments_resolved ws k x run t ids
-        back = ap (λ ts. arguments_resolved ws k x ts t ids) (sym first-and-rest)
+        back = ap (λ ts. arguments_resolved ws k x ts t ids) (sym first_and_rest)
 
-        pub arguments-stop : (K : Counts) → w ≡ Nothing K
+        pub arguments_stop : (K : Counts) → w ≡ Nothing K
             → domain_left vs (replicate 16 0) (NotAll K) ≡ arguments_resolved ws k x run t ids
         unfolding arguments_resolved
-        arguments-stop K z = code.arguments_stop ws C checked X default_in_lem (val a) (formed a first-here) vs w ew' rest t ids K z ∙ back
+        arguments_stop K z = code.arguments_stop ws C checked X default_in_lem (val a) (formed a first_here) vs w ew' rest t ids K z ∙ back
 
-        pub arguments-end : w ≡ Full → domain_left vs (replicate 16 0) NoRoom ≡ arguments_resolved ws k x run t ids
+        pub arguments_end : w ≡ Full → domain_left vs (replicate 16 0) NoRoom ≡ arguments_resolved ws k x run t ids
         unfolding arguments_resolved
-        arguments-end z = code.arguments_end ws C checked X default_in_lem (val a) (formed a first-here) vs w ew' rest t ids z ∙ back
+        arguments_end z = code.arguments_end ws C checked X default_in_lem (val a) (formed a first_here) vs w ew' rest t ids z ∙ back
 
         module _ (c : SortId) (K : Counts) (z : w ≡ At c K) (k' : Lengths) (ek : k' ≡ with_counts k K) where
           abbrev reached : Reached ws n e S (resolve_term X (val a) S) vs c K
-          reached = code.part-reached ws C checked X default_in_lem (val a) (formed a first-here) vs w ew' c K z
+          reached = code.part_reached ws C checked X default_in_lem (val a) (formed a first_here) vs w ew' c K z
 
-          pub rest-ready : Ready vs ns bs k' × DefaultBelow k'.sorts x × RunPlaced ns k' (s + 1) (m - 1)
-          rest-ready = (
+          pub rest_ready : Ready vs ns bs k' × DefaultBelow k'.sorts x × RunPlaced ns k' (s + 1) (m - 1)
+          rest_ready = (
             ready_left reached.sorts reached.grown vs K reached.words reached.counted k' ek,
             default_left reached.sorts reached.grown vs K reached.words reached.counted k' ek,
-            run_left reached.sorts reached.grown vs K reached.words reached.counted k' ek (s + 1) (m - 1) rest-run,
+            run_left reached.sorts reached.grown vs K reached.words reached.counted k' ek (s + 1) (m - 1) rest_run,
           )
 
-          pub rest-same : sizes (terms_at (value_in vs ns bs k') (node_entries_of ns (s + 1) (m - 1))) ≡ sizes rest
-          rest-same = ap sizes (values_left reached.sorts reached.grown vs K reached.words reached.counted k' ek (s + 1) (m - 1) rest-run)
+          pub rest_same : sizes (terms_at (value_in vs ns bs k') (node_entries_of ns (s + 1) (m - 1))) ≡ sizes rest
+          rest_same = ap sizes (values_left reached.sorts reached.grown vs K reached.words reached.counted k' ek (s + 1) (m - 1) rest_run)
 
-          pub arguments-made : arguments_resolved vs k' x (terms_at (value_in vs ns bs k') (node_entries_of ns (s + 1)
+          pub arguments_made : arguments_resolved vs k' x (terms_at (value_in vs ns bs k') (node_entries_of ns (s + 1)
               (m - 1))) (t + 1) (set ids t c.0) ≡ arguments_resolved ws k x run t ids
           unfolding arguments_resolved
-          arguments-made =
-              code.arguments-made ws C checked X default_in_lem (val a) (formed a first-here) vs w ew' c K z rest
-              (run_formed (s + 1) (m - 1) rest-run) t ids there
+          arguments_made =
+              code.arguments_made ws C checked X default_in_lem (val a) (formed a first_here) vs w ew' c K z rest
+              (run_formed (s + 1) (m - 1) rest_run) t ids there
               (arguments_left reached.sorts reached.grown vs K reached.words reached.counted k' ek (s + 1)
-              (m - 1) rest-run (t + 1) (set ids t c.0))
+              (m - 1) rest_run (t + 1) (set ids t c.0))
               ∙ back
             where
               there : StoredDomain
@@ -368,52 +368,52 @@ module _ (ws ns bs : List ℕ) (k : Lengths) (q : Ready ws ns bs k) (x : Default
       unfolding arguments_resolved
       ed = ea
 
-      pub function-stops : (K : Counts) → a.found ≡ NotAll K → stored_at vs (Nothing K) ≡ term_resolved ws k x term_of_function
-      function-stops K z = code.function_stops ws C checked X default_in_lem ts (run_formed s m r) few (val g) (formed g i) vs a ed K z ∙ to_whole
+      pub function_stops : (K : Counts) → a.found ≡ NotAll K → stored_at vs (Nothing K) ≡ term_resolved ws k x term_of_function
+      function_stops K z = code.function_stops ws C checked X default_in_lem ts (run_formed s m r) few (val g) (formed g i) vs a ed K z ∙ to_whole
 
-      pub function-ends : a.found ≡ NoRoom → stored_at vs Full ≡ term_resolved ws k x term_of_function
-      function-ends z = code.function_ends ws C checked X default_in_lem ts (run_formed s m r) few (val g) (formed g i) vs a ed z ∙ to_whole
+      pub function_ends : a.found ≡ NoRoom → stored_at vs Full ≡ term_resolved ws k x term_of_function
+      function_ends z = code.function_ends ws C checked X default_in_lem ts (run_formed s m r) few (val g) (formed g i) vs a ed z ∙ to_whole
 
       module _ (K : Counts) (z : a.found ≡ All K) (k' : Lengths) (ek : k' ≡ with_counts k K) where
-        abbrev reached-all : ReachedAll ws n e S (count ts) (resolve_arguments X ts S) vs a K
-        reached-all = code.arguments-reached ws C checked X default_in_lem ts (run_formed s m r) few (val g) (formed g i) vs a ed K z
+        abbrev reached_all : ReachedAll ws n e S (count ts) (resolve_arguments X ts S) vs a K
+        reached_all = code.arguments_reached ws C checked X default_in_lem ts (run_formed s m r) few (val g) (formed g i) vs a ed K z
 
-        pub range-ready : Ready vs ns bs k' × DefaultBelow k'.sorts x × Placed k' g
-        range-ready = (
-          ready_left reached-all.sorts reached-all.grown vs K reached-all.words reached-all.counted k' ek,
-          default_left reached-all.sorts reached-all.grown vs K reached-all.words reached-all.counted k' ek,
-          placed_left reached-all.sorts reached-all.grown vs K reached-all.words reached-all.counted k' ek g i,
+        pub range_ready : Ready vs ns bs k' × DefaultBelow k'.sorts x × Placed k' g
+        range_ready = (
+          ready_left reached_all.sorts reached_all.grown vs K reached_all.words reached_all.counted k' ek,
+          default_left reached_all.sorts reached_all.grown vs K reached_all.words reached_all.counted k' ek,
+          placed_left reached_all.sorts reached_all.grown vs K reached_all.words reached_all.counted k' ek g i,
         )
 
         pub range_same : size (value_in vs ns bs k' g) ≡ size (val g)
-        range_same = ap size (value_left reached-all.sorts reached-all.grown vs K reached-all.words reached-all.counted k' ek g i)
+        range_same = ap size (value_left reached_all.sorts reached_all.grown vs K reached_all.words reached_all.counted k' ek g i)
 
         module _ (us : List ℕ) (w : Joined) (ew : stored_at us w ≡ term_resolved vs k' x (value_in vs ns bs k' g)) where
           ew'' : stored_at us w ≡ stored vs K.sorts K.entries (resolve_term X (val g) (sorts_of vs K.sorts K.entries))
-          ew'' = ew ∙ resolved_left reached-all.sorts reached-all.grown vs K reached-all.words reached-all.counted k' ek g i
+          ew'' = ew ∙ resolved_left reached_all.sorts reached_all.grown vs K reached_all.words reached_all.counted k' ek g i
 
-          pub range-stops : (K₂ : Counts) → w ≡ Nothing K₂ → stored_at us (Nothing K₂) ≡ term_resolved ws k x term_of_function
-          range-stops K₂ y = code.range-stops ws C checked X default_in_lem ts (run_formed s m r) few (val g) (formed g i) vs a ed K z us w ew'' K₂ y ∙ to_whole
+          pub range_stops : (K₂ : Counts) → w ≡ Nothing K₂ → stored_at us (Nothing K₂) ≡ term_resolved ws k x term_of_function
+          range_stops K₂ y = code.range_stops ws C checked X default_in_lem ts (run_formed s m r) few (val g) (formed g i) vs a ed K z us w ew'' K₂ y ∙ to_whole
 
-          pub range-ends : w ≡ Full → stored_at us Full ≡ term_resolved ws k x term_of_function
-          range-ends y = code.range-ends ws C checked X default_in_lem ts (run_formed s m r) few (val g) (formed g i) vs a ed K z us w ew'' y ∙ to_whole
+          pub range_ends : w ≡ Full → stored_at us Full ≡ term_resolved ws k x term_of_function
+          range_ends y = code.range_ends ws C checked X default_in_lem ts (run_formed s m r) few (val g) (formed g i) vs a ed K z us w ew'' y ∙ to_whole
 
           module _ (c : SortId) (K₂ : Counts) (y : w ≡ At c K₂) where
-            pub function-asked : Checked us K₂.sorts K₂.entries × (c.0 < K₂.sorts) × (m ≤ 16) × AllBelow K₂.sorts (take m (sort_numbers a.ids))
-            function-asked = (
-              code.function-checked ws C checked X default_in_lem ts (run_formed s m r) few (val g) (formed g i) vs a ed K z us w ew'' c K₂ y,
-              code.function-range-below ws C checked X default_in_lem ts (run_formed s m r) few (val g) (formed g i) vs a ed K z us w ew'' c K₂ y,
+            pub function_asked : Checked us K₂.sorts K₂.entries × (c.0 < K₂.sorts) × (m ≤ 16) × AllBelow K₂.sorts (take m (sort_numbers a.ids))
+            function_asked = (
+              code.function_checked ws C checked X default_in_lem ts (run_formed s m r) few (val g) (formed g i) vs a ed K z us w ew'' c K₂ y,
+              code.function_range_below ws C checked X default_in_lem ts (run_formed s m r) few (val g) (formed g i) vs a ed K z us w ew'' c K₂ y,
               r.short,
               subst (λ (j : ℕ). AllBelow K₂.sorts (take j (sort_numbers a.ids))) (run_count s m)
-                  (code.function-ids-below ws C checked X default_in_lem ts (run_formed s m r) few (val g) (formed g i) vs a ed K z us w ew'' c K₂ y),
+                  (code.function_ids_below ws C checked X default_in_lem ts (run_formed s m r) few (val g) (formed g i) vs a ed K z us w ew'' c K₂ y),
             )
 
-            pub function-made : (zs : List ℕ) (v : Joined)
+            pub function_made : (zs : List ℕ) (v : Joined)
                 → stored_at zs v ≡ intern_at us K₂.sorts K₂.entries (function (look_all (trees us K₂.sorts)
                 (take m (sort_numbers a.ids))) (look (trees us K₂.sorts) c.0))
                 → stored_at zs v ≡ term_resolved ws k x term_of_function
-            function-made zs v h =
-                code.function-made ws C checked X default_in_lem ts (run_formed s m r) few (val g) (formed g i) vs a ed K z us w ew'' c K₂ y zs v
+            function_made zs v h =
+                code.function_made ws C checked X default_in_lem ts (run_formed s m r) few (val g) (formed g i) vs a ed K z us w ew'' c K₂ y zs v
                 (h ∙ ap (λ (j : ℕ). intern_at us K₂.sorts K₂.entries (function (look_all (trees us K₂.sorts)
                 (take j (sort_numbers a.ids))) (look (trees us K₂.sorts) c.0))) (sym (run_count s m)))
                 ∙ to_whole

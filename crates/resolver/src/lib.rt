@@ -1,5 +1,7 @@
 // The sort that a place stands for: from merc's unification.rs, resolve and resolve_or_default. Both are one function
 // here, with what stands for a free variable. New sorts are appended; where the answer is none, what was made stays.
+#![tactic(auto)]
+
 ghost use Rattle.std.specs.Prelude.{◌≡◌, [], ◌∷◌, ◌++◌, ◌<◌};
 ghost use Rattle.resolved_sort.specs.Rows.{stored_at};
 ghost use Rattle.unification.specs.Term.{function_head, app};

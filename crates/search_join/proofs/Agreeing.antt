@@ -91,11 +91,11 @@ module _ (ws : List ℕ) (k : Lengths) (ids : List ℕ) (m : ℕ) (sc : List ℕ
       by x z ns =
           ap (λ y. by_join (made_of vs ns y)) (sym z) ∙ (ap by_join (er ns) ∙ agreed_first (lent ws ns k))
 
-      pub join-stops : (l : Lengths) → r ≡ NoSort l → (ns : List ℕ) → AgreesOn ns sc e m (agreed (take m ids) (lent ws ns k)) vs sc (NoSort l)
-      join-stops l z ns = record { says = by (NoSort l) z ns; changed = unchanged sc (measure_at + e.measure) (measure_at + e.measure + m) }
+      pub join_stops : (l : Lengths) → r ≡ NoSort l → (ns : List ℕ) → AgreesOn ns sc e m (agreed (take m ids) (lent ws ns k)) vs sc (NoSort l)
+      join_stops l z ns = record { says = by (NoSort l) z ns; changed = unchanged sc (measure_at + e.measure) (measure_at + e.measure + m) }
 
-      pub join-ends : (l : Lengths) → r ≡ NoRoom l → (ns : List ℕ) → AgreesOn ns sc e m (agreed (take m ids) (lent ws ns k)) vs sc (NoRoom l)
-      join-ends l z ns = record { says = by (NoRoom l) z ns; changed = unchanged sc (measure_at + e.measure) (measure_at + e.measure + m) }
+      pub join_ends : (l : Lengths) → r ≡ NoRoom l → (ns : List ℕ) → AgreesOn ns sc e m (agreed (take m ids) (lent ws ns k)) vs sc (NoRoom l)
+      join_ends l z ns = record { says = by (NoRoom l) z ns; changed = unchanged sc (measure_at + e.measure) (measure_at + e.measure + m) }
 
       module _ (c : SortId) (l : Lengths) (z : r ≡ Is c l) where
         left : LeavesSort (lent ws [] k) (made c.0 (lent vs [] l))
@@ -108,8 +108,8 @@ module _ (ws : List ℕ) (k : Lengths) (ids : List ℕ) (m : ℕ) (sc : List ℕ
             others : AllBelow k.sorts (drop 1 (take m ids))
             others = (subst (AllBelow k.sorts) (firsts_left ids m long 0 some_left) asked.0.below).1
 
-        pub still-resolved : Resolved vs l ids m × (c.0 < l.sorts)
-        still-resolved =
+        pub still_resolved : Resolved vs l ids m × (c.0 < l.sorts)
+        still_resolved =
             (record { checked = left.0; there = asked.0.there; below = weaken_all k.sorts l.sorts (take m ids) left.2 asked.0.below }, left.1)
 
         module _ (b : Bool) (eb : (ns : List ℕ) → b ≡ all_into (lent vs ns l) c.0 (take m ids)) where
@@ -121,12 +121,12 @@ module _ (ws : List ℕ) (k : Lengths) (ids : List ℕ) (m : ℕ) (sc : List ℕ
           by-test x f ns =
               ap (λ y. cond y (made (record { sort = c.0; components = heads }) (lent vs ns l)) (no_list (lent vs ns l))) (sym f ∙ eb ns) ∙ by (Is c l) z ns
 
-          pub not-materializable : b ≡ false → (ns : List ℕ) → AgreesOn ns sc e m (agreed (take m ids) (lent ws ns k)) vs sc (NoSort l)
-          not-materializable f ns = record { says = by-test false f ns; changed = unchanged sc (measure_at + e.measure) (measure_at + e.measure + m) }
+          pub not_materializable : b ≡ false → (ns : List ℕ) → AgreesOn ns sc e m (agreed (take m ids) (lent ws ns k)) vs sc (NoSort l)
+          not_materializable f ns = record { says = by-test false f ns; changed = unchanged sc (measure_at + e.measure) (measure_at + e.measure + m) }
 
-          pub they-agree : b ≡ true → (sc' : List ℕ) → sc' ≡ sets sc (measure_at + e.measure) heads
+          pub they_agree : b ≡ true → (sc' : List ℕ) → sc' ≡ sets sc (measure_at + e.measure) heads
               → (ns : List ℕ) → AgreesOn ns sc e m (agreed (take m ids) (lent ws ns k)) vs sc' (Is c l)
-          they-agree f sc' es ns =
+          they_agree f sc' es ns =
               let many : length heads ≡ m = length_each (head_to vs l.sorts c.0) (take m ids) ∙ length_first ids m long in
               record {
                 says =
@@ -164,20 +164,20 @@ module _ (ws ns bs sc ls : List ℕ) (k : Lengths) (e : Branch) (run : Run) (ask
       unfolding MadeSorts
       resolved = (
         record {
-          checked = made-sorts.0.grows.checked.sorts;
+          checked = made_sorts.0.grows.checked.sorts;
           there = omega (arith, asked.inside, len);
-          below = stand_below W B Nothing (lent vs ns l) ps (take run.count ids) made-sorts.1;
+          below = stand_below W B Nothing (lent vs ns l) ps (take run.count ids) made_sorts.1;
         },
         asked.long,
         asked.room,
       )
         where
-          made-sorts : MadeSorts (λ U ss. StandAll W B Nothing U ps ss) (NoDefault Nothing) W (made (take run.count ids) (lent vs ns l))
-          made-sorts =
+          made_sorts : MadeSorts (λ U ss. StandAll W B Nothing U ps ss) (NoDefault Nothing) W (made (take run.count ids) (lent vs ns l))
+          made_sorts =
               subst (MadeSorts (λ U ss. StandAll W B Nothing U ps ss) (NoDefault Nothing) W) (sym er ∙ ap (extracted_of vs ns ids 0 run.count) z)
               (resolve_all_makes W asked.ready.nodes B asked.ready.binds Nothing tt ps asked.placed W (sorts_only_refl W asked.ready.nodes))
 
-      pub sources-agree : (us sc' : List ℕ) (x : Made)
+      pub sources_agree : (us sc' : List ℕ) (x : Made)
           → ((os : List ℕ) → AgreesOn os sc e run.count (agreed (take run.count ids) (lent vs os l)) us sc' x)
           → AgreesOn ns sc e run.count (join_of B ps W) us sc' x
-      sources-agree us sc' x a = subst (λ O. AgreesOn ns sc e run.count O us sc' x) (by_sources (All l) z) (a ns)
+      sources_agree us sc' x a = subst (λ O. AgreesOn ns sc e run.count O us sc' x) (by_sources (All l) z) (a ns)

@@ -34,11 +34,11 @@ module _ (W : Lent) (j : ℕ) where
   one_out [] i l e = absurd (omega (arith, l))
   one_out (x ∷ xs) zero l e = ap (λ b. b && all_into W j xs) e
   one_out (x ∷ xs) (suc i) l e = ap (λ b. Into W.sorts W.lengths.sorts j x && b)
-      (one_out xs i (omega (arith, l)) e) ∙ and-false (Into W.sorts W.lengths.sorts j x)
+      (one_out xs i (omega (arith, l)) e) ∙ and_false (Into W.sorts W.lengths.sorts j x)
     where
-      and-false : (b : Bool) → b && false ≡ false
-      and-false true = refl
-      and-false false = refl
+      and_false : (b : Bool) → b && false ≡ false
+      and_false true = refl
+      and_false false = refl
 
 -- the head distance of a sort to another, and those of sorts
 abbrev pub head_to : List ℕ → ℕ → ℕ → ℕ → ℕ
@@ -65,18 +65,18 @@ module _ (ws : List ℕ) (k : Lengths) (ids : List ℕ) (m : ℕ) (j : ℕ) (ask
     two_of_list s es = rw (es, eC) (asked.0.checked, first_below ids m long i h k.sorts asked.0.below, asked.1)
 
     module _ (s : ℕ) (es : s ≡ get_or ids i 0) (b : Bool) (eb : b ≡ Into ws C.sorts j s) where
-      at-word : Into ws C.sorts j (get_or ids i 0) ≡ b
-      at-word = ap (Into ws C.sorts j) (sym es) ∙ sym eb
+      at_word : Into ws C.sorts j (get_or ids i 0) ≡ b
+      at_word = ap (Into ws C.sorts j) (sym es) ∙ sym eb
 
-      pub one-is-not : b ≡ false → (ns : List ℕ) → false ≡ all_into (lent ws ns k) j (take m ids)
-      one-is-not f ns =
+      pub one_is_not : b ≡ false → (ns : List ℕ) → false ≡ all_into (lent ws ns k) j (take m ids)
+      one_is_not f ns =
           sym
           (one_out (lent ws ns k) j (take m ids) i (omega (arith, h, length_first ids m long))
-          (ap (Into ws k.sorts j) (first_at ids m long i h) ∙ (ap (λ (n : ℕ). Into ws n j (get_or ids i 0)) (sym same_sorts) ∙ (at-word ∙ f))))
+          (ap (Into ws k.sorts j) (first_at ids m long i h) ∙ (ap (λ (n : ℕ). Into ws n j (get_or ids i 0)) (sym same_sorts) ∙ (at_word ∙ f))))
 
-      pub one-more-is : b ≡ true → ((x : ℕ) → x < i → Into ws C.sorts j (get_or ids x 0) ≡ true) → (x : ℕ)
+      pub one_more_is : b ≡ true → ((x : ℕ) → x < i → Into ws C.sorts j (get_or ids x 0) ≡ true) → (x : ℕ)
           → x < i + 1 → Into ws C.sorts j (get_or ids x 0) ≡ true
-      one-more-is f g = below_more _ _ g (at-word ∙ f)
+      one_more_is f g = below_more _ _ g (at_word ∙ f)
 
   pub all_are : (i : ℕ) → m ≤ i → ((x : ℕ) → x < i → Into ws C.sorts j (get_or ids x 0) ≡ true) → (ns : List ℕ) → true ≡ all_into (lent ws ns k) j (take m ids)
   all_are i h g ns =
@@ -92,9 +92,9 @@ module _ (ws : List ℕ) (k : Lengths) (ids : List ℕ) (m : ℕ) (j : ℕ) (ask
     heads_start = ap (λ (q : ℕ). sets sc₀ q (heads_to ws C.sorts j (take m ids))) (sym (add-zero p))
 
     module _ (sc : List ℕ) (i : ℕ) (inv : sets sc₀ p (heads_to ws C.sorts j (take m ids)) ≡ stored_from ws C.sorts j ids m sc p i) where
-      pub heads-next : i < m → (s : ℕ) → s ≡ get_or ids i 0 → (h : ℕ) → h ≡ head_to ws C.sorts j s → (sc' : List ℕ) → sc' ≡ set sc (p + i) h
+      pub heads_next : i < m → (s : ℕ) → s ≡ get_or ids i 0 → (h : ℕ) → h ≡ head_to ws C.sorts j s → (sc' : List ℕ) → sc' ≡ set sc (p + i) h
           → sets sc₀ p (heads_to ws C.sorts j (take m ids)) ≡ stored_from ws C.sorts j ids m sc' p (i + 1)
-      heads-next l s es h eh sc' e =
+      heads_next l s es h eh sc' e =
           let n : ℕ = C.sorts in
           let rest : List ℕ = heads_to ws n j (drop (i + 1) (take m ids)) in
           let further : suc (p + i) ≡ p + (i + 1) = omega arith in
@@ -103,8 +103,8 @@ module _ (ws : List ℕ) (k : Lengths) (ids : List ℕ) (m : ℕ) (j : ℕ) (ask
           ∙ (ap (λ (x : ℕ). sets (set sc (p + i) x) (suc (p + i)) rest) (sym (eh ∙ ap (head_to ws C.sorts j) es))
           ∙ (ap (λ (q : ℕ). sets (set sc (p + i) h) q rest) further ∙ ap (λ xs. sets xs (p + (i + 1)) rest) (sym e))))
 
-      pub heads-end : m ≤ i → sc ≡ sets sc₀ p (heads_to ws k.sorts j (take m ids))
-      heads-end l =
+      pub heads_end : m ≤ i → sc ≡ sets sc₀ p (heads_to ws k.sorts j (take m ids))
+      heads_end l =
           let z : length (take m ids) ≤ i = omega (arith, l, length_first ids m long) in
           sym (inv ∙ ap (λ ss. sets sc (p + i) (heads_to ws C.sorts j ss)) (drop_of_length-le (take m ids) z))
           ∙ ap (λ (n : ℕ). sets sc₀ p (heads_to ws n j (take m ids))) same_sorts

@@ -97,8 +97,8 @@ module _ (ns bs ls : List ℕ) (s m : ℕ) (ws₀ ids₀ : List ℕ) (k₀ : Len
     next_fits = omega (arith, h, G.entered.inside)
 
     module _ (p : ℕ) (e : p ≡ source_at ls (s + i)) where
-      pub source-ready : Ready ws ns bs k × Placed k p
-      source-ready = (
+      pub source_ready : Ready ws ns bs k × Placed k p
+      source_ready = (
         ready,
         placed_grown W₀ G.entered.ready.nodes W G.grown.grows p (subst (PlacedIn W₀) (sym e)
             (each_row (PlacedIn W₀) (source_at ls) s m G.entered.placed i h)),
@@ -132,17 +132,17 @@ module _ (ns bs ls : List ℕ) (s m : ℕ) (ws₀ ids₀ : List ℕ) (k₀ : Len
               entered = G.entered;
               within = omega (arith, h);
               many = ap length ex ∙ (length-set ids i c.0 ∙ G.many);
-              grown = sorts_only_trans W₀ W (lent vs ns l) G.entered.ready.nodes G.grown made-sorts.0;
+              grown = sorts_only_trans W₀ W (lent vs ns l) G.entered.ready.nodes G.grown made_sorts.0;
               same =
                   ap (λ ys. before ys (all_of B ls (s + (i + 1)) (m - (i + 1)) (lent vs ns l))) (ap (take (i + 1)) ex ∙
                   one_more ids i c.0 (omega (arith, G.many, G.entered.room, h)))
                   ∙ (before_one (take i ids) c.0 (all_of B ls (s + (i + 1)) (m - (i + 1)) (lent vs ns l)) ∙ by (Is c l) z);
             }
           where
-            made-sorts : MadeSorts (SortWith (AlwaysStandsFor W (binds_of bs k.variables) Nothing p)) (NoDefault Nothing) W (made c.0 (lent vs ns l))
-            made-sorts =
+            made_sorts : MadeSorts (SortWith (AlwaysStandsFor W (binds_of bs k.variables) Nothing p)) (NoDefault Nothing) W (made c.0 (lent vs ns l))
+            made_sorts =
                 subst (MadeSorts (SortWith (AlwaysStandsFor W (binds_of bs k.variables) Nothing p)) (NoDefault Nothing) W) (sym er ∙ ap (made_of vs ns) z)
-                (resolve_makes W ready.nodes (binds_of bs k.variables) ready.binds Nothing tt p source-ready.1)
+                (resolve_makes W ready.nodes (binds_of bs k.variables) ready.binds Nothing tt p source_ready.1)
 
   -- no source is left
   pub all_made : m ≤ i → extracted_of ws ns ids 0 m (All k) ≡ all_of B ls s m W₀

@@ -1,6 +1,8 @@
 // The sort on which the sources of a Join agree: from merc's inference.rs, the first half of
 // solve_join. The sources are resolved and joined from left to right. Where one has no sort or two
 // have no join the answer is none, and what was made stays.
+#![tactic(auto)]
+
 ghost use Rattle.std.specs.Prelude.{◌≡◌, true, List, ℕ, ◌+◌, ◌<◌, ◌≤◌, length, get_or, take, drop};
 ghost use Rattle.std.proofs.lemmas.List.Edits.{sets};
 ghost use Rattle.resolved_sort.specs.Order.{distance};

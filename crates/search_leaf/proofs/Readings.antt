@@ -115,14 +115,14 @@ module _ (ns bs ls : List ℕ) (d : SortId) (n : ℕ) (ws₀ sc₀ : List ℕ) (
       rest W = resolve_all (Is d) B (rows_from (expr_at ls) (i + 1) (n - (i + 1))) W
 
       -- the first of those left, then the rest
-      abbrev afterFirst : Makes ℕ → Makes (List ℕ)
-      afterFirst O = (O and_then (λ s W. rest W and_then (λ ss W. made (s ∷ ss) W))) and_then (λ ss W. made (part best_sorts_at i sc ++ ss) W)
+      abbrev after_first : Makes ℕ → Makes (List ℕ)
+      after_first O = (O and_then (λ s W. rest W and_then (λ ss W. made (s ∷ ss) W))) and_then (λ ss W. made (part best_sorts_at i sc ++ ss) W)
 
-      on : afterFirst (makes_sort W (stored_at vs w) w) ≡ whole
+      on : after_first (makes_sort W (stored_at vs w) w) ≡ whole
       unfolding resolve_all rows_from
       on =
           let e : n - i ≡ suc (n - (i + 1)) = omega (arith, h) in
-          ap afterFirst
+          ap after_first
           (sym (ap (λ (q : ℕ). resolve_in (Is d) B q W) (sym ep) ∙ resolved_in ws ns bs k (Is d) p vs w ew))
           ∙ (ap (λ (m : ℕ). sorts_from bs ls d i m W and_then (λ ss W. made (part best_sorts_at i sc ++ ss) W)) (sym e) ∙ G.same)
 
@@ -134,14 +134,14 @@ module _ (ns bs ls : List ℕ) (d : SortId) (n : ℕ) (ws₀ sc₀ : List ℕ) (
       pub stops : (K : Counts) → w ≡ NotThere K → (k' : Lengths) → k' ≡ with_counts k K → Extracts ns sc₀ best_sorts_at n whole vs sc (Without k')
       stops K z k' ek =
           record {
-            says = ap (λ (j : Lengths). no_list (lent vs ns j)) ek ∙ subst (λ (v : Joined). afterFirst (makes_sort W (stored_at vs v) v) ≡ whole) z on;
+            says = ap (λ (j : Lengths). no_list (lent vs ns j)) ek ∙ subst (λ (v : Joined). after_first (makes_sort W (stored_at vs v) v) ≡ whole) z on;
             changed = G.changed;
           }
 
       pub ends : w ≡ Full → Extracts ns sc₀ best_sorts_at n whole vs sc (NotAll k)
       ends z =
           record {
-            says = subst (λ (v : Joined). afterFirst (makes_sort W (stored_at vs v) v) ≡ whole) z on;
+            says = subst (λ (v : Joined). after_first (makes_sort W (stored_at vs v) v) ≡ whole) z on;
             changed = G.changed;
           }
 
@@ -171,7 +171,7 @@ module _ (ns bs ls : List ℕ) (d : SortId) (n : ℕ) (ws₀ sc₀ : List ℕ) (
                 same =
                     one_before (part best_sorts_at i sc) (part best_sorts_at (i + 1) (set sc (best_sorts_at + i) c.0))
                     c.0 last (rest (lent vs ns (with_counts k K)))
-                    ∙ subst (λ (v : Joined). afterFirst (makes_sort W (stored_at vs v) v) ≡ whole) z on;
+                    ∙ subst (λ (v : Joined). after_first (makes_sort W (stored_at vs v) v) ≡ whole) z on;
               }
 
   pub all_read : n ≤ i → Extracts ns sc₀ best_sorts_at n whole ws sc (All k)

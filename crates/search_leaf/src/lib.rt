@@ -1,6 +1,8 @@
 // The leaves of the search, and which branches are dropped before one: from merc's inference.rs,
 // dominated, leaf and extract. The incumbent stands in the scratch: its sorts at 512, its measure
 // at 1280, the positions that it chose at 1792.
+#![tactic(auto)]
+
 ghost use Rattle.std.specs.Prelude.{◌≡◌, ◌+◌, ◌≤◌, length};
 ghost use Rattle.inference.specs.Constraints.{max_components};
 ghost use Rattle.inference.specs.Search.{replace as replaceLeaf, leaf as leafNext};

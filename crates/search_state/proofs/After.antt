@@ -149,27 +149,27 @@ module _ (ls : List ℕ) (z : Sizes) (ws ns bs sc : List ℕ) (k : State) (e : B
 
     -- "where nothing was found, what else"
     module _ (f : World (Unit {0}) → Out (Unit {0})) where
-      pub or-stops : ((s : State) → r ≡ Missed s → ⊥) → Done ls z ws ns bs sc k e (else_try O f) ws₁ ns₁ bs₁ sc₁ r
-      or-stops n = record { says = go r n ∙ ap (λ x. else_try x f) d.says; grown = d.grown; binds = d.binds; path = d.path }
+      pub or_stops : ((s : State) → r ≡ Missed s → ⊥) → Done ls z ws ns bs sc k e (else_try O f) ws₁ ns₁ bs₁ sc₁ r
+      or_stops n = record { says = go r n ∙ ap (λ x. else_try x f) d.says; grown = d.grown; binds = d.binds; path = d.path }
         where
           go : (r : Answer) → ((s : State) → r ≡ Missed s → ⊥) → out_of ls z ws₁ ns₁ sc₁ r ≡ else_try (out_of ls z ws₁ ns₁ sc₁ r) f
           go (Found s) n = refl
           go (Missed s) n = absurd (n s refl)
           go (Full x l) n = refl
 
-      pub or-missed : (k₁ : State) → r ≡ Missed k₁ → f (world_of ls z ws₁ ns₁ sc₁ k₁) ≡ else_try O f
-      or-missed k₁ q = ap (λ x. else_try x f) (sym (ap (out_of ls z ws₁ ns₁ sc₁) q) ∙ d.says)
+      pub or_missed : (k₁ : State) → r ≡ Missed k₁ → f (world_of ls z ws₁ ns₁ sc₁ k₁) ≡ else_try O f
+      or_missed k₁ q = ap (λ x. else_try x f) (sym (ap (out_of ls z ws₁ ns₁ sc₁) q) ∙ d.says)
 
     pub or_comes : (f : Going (Unit {0}) nothing_met (problem_in ls z)) (k₁ : State) → r ≡ Missed k₁ → (ws₂ ns₂ bs₂ sc₂ : List ℕ) (r₂ : Answer)
         → Comes ls z ws₁ ns₁ bs₁ sc₁ k₁ e f ws₂ ns₂ bs₂ sc₂ r₂ → Done ls z ws ns bs sc k e (else_try O (f path)) ws₂ ns₂ bs₂ sc₂ r₂
     or_comes f k₁ q ws₂ ns₂ bs₂ sc₂ r₂ x =
-        done_as (f path (world_of ls z ws₁ ns₁ sc₁ k₁)) (else_try O (f path)) ws₂ ns₂ bs₂ sc₂ r₂ (or-missed (f path) k₁ q)
+        done_as (f path (world_of ls z ws₁ ns₁ sc₁ k₁)) (else_try O (f path)) ws₂ ns₂ bs₂ sc₂ r₂ (or_missed (f path) k₁ q)
         (comes_after ws₁ ns₁ bs₁ sc₁ k₁ (grown_missed k₁ q) d.binds d.path f ws₂ ns₂ bs₂ sc₂ r₂ x)
 
     -- "whatever was found, what else"
     module _ (b : Bool) (f : Bool → World (Unit {0}) → Out (Unit {0})) (v : Went) (q : v ≡ after_of r b) where
-      pub and-stops : (x : ℕ) (l : Lengths) → v ≡ Stop x l → Done ls z ws ns bs sc k e (and_also O b f) ws₁ ns₁ bs₁ sc₁ (Full x l)
-      and-stops x l y = go r refl d.grown (sym q ∙ y)
+      pub and_stops : (x : ℕ) (l : Lengths) → v ≡ Stop x l → Done ls z ws ns bs sc k e (and_also O b f) ws₁ ns₁ bs₁ sc₁ (Full x l)
+      and_stops x l y = go r refl d.grown (sym q ∙ y)
         where
           go : (s : Answer) → r ≡ s → SearchGrown W ws₁ ns₁ s → after_of s b ≡ Stop x l → Done ls z ws ns bs sc k e (and_also O b f) ws₁ ns₁ bs₁ sc₁ (Full x l)
           go (Found s) e h y = absurd (let z : ◌≡◌ {A = ℕ} 0 1 = cc in omega arith)
@@ -183,8 +183,8 @@ module _ (ls : List ℕ) (z : Sizes) (ws ns bs sc : List ℕ) (k : State) (e : B
                 path = d.path;
               }
 
-      pub and-goes-on : (k₁ : State) (b₁ : Bool) → v ≡ On k₁ b₁ → f b₁ (world_of ls z ws₁ ns₁ sc₁ k₁) ≡ and_also O b f
-      and-goes-on k₁ b₁ y = go r (sym q ∙ y) ∙ ap (λ o. and_also o b f) d.says
+      pub and_goes_on : (k₁ : State) (b₁ : Bool) → v ≡ On k₁ b₁ → f b₁ (world_of ls z ws₁ ns₁ sc₁ k₁) ≡ and_also O b f
+      and_goes_on k₁ b₁ y = go r (sym q ∙ y) ∙ ap (λ o. and_also o b f) d.says
         where
           go : (r : Answer) → after_of r b ≡ On k₁ b₁ → f b₁ (world_of ls z ws₁ ns₁ sc₁ k₁) ≡ and_also (out_of ls z ws₁ ns₁ sc₁ r) b f
           go (Found s) h = cc
@@ -195,5 +195,5 @@ module _ (ls : List ℕ) (z : Sizes) (ws ns bs sc : List ℕ) (k : State) (e : B
         → (ws₂ ns₂ bs₂ sc₂ : List ℕ) (r₂ : Answer) → Comes ls z ws₁ ns₁ bs₁ sc₁ k₁ e (f b₁) ws₂ ns₂ bs₂ sc₂ r₂
         → Done ls z ws ns bs sc k e (and_also O b (λ b. f b path)) ws₂ ns₂ bs₂ sc₂ r₂
     and_comes b f v q k₁ b₁ y ws₂ ns₂ bs₂ sc₂ r₂ x =
-        done_as (f b₁ path (world_of ls z ws₁ ns₁ sc₁ k₁)) (and_also O b (λ b. f b path)) ws₂ ns₂ bs₂ sc₂ r₂ (and-goes-on b (λ b. f b path) v q k₁ b₁ y)
+        done_as (f b₁ path (world_of ls z ws₁ ns₁ sc₁ k₁)) (and_also O b (λ b. f b path)) ws₂ ns₂ bs₂ sc₂ r₂ (and_goes_on b (λ b. f b path) v q k₁ b₁ y)
         (comes_after ws₁ ns₁ bs₁ sc₁ k₁ (grown_on b v q k₁ b₁ y) d.binds d.path (f b₁) ws₂ ns₂ bs₂ sc₂ r₂ x)

@@ -1,4 +1,6 @@
 // The state of the search of merc's inference.rs: the types that its definitions, contracts and code speak of.
+#![tactic(auto)]
+
 ghost use Rattle.std.specs.Prelude.{◌≡◌};
 ghost use Rattle.search_state.specs.Inner.Leaves.{with_lengths};
 

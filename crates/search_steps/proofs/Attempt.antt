@@ -290,7 +290,7 @@ module _ (ls : List ℕ) (z : Sizes) (ws ns bs sc : List ℕ) (k : State) (e : B
     pub tried_no : (d : ℕ) → t ≡ No d → (bs₂ : List ℕ) → bs₂ ≡ undo sc₁ e.trail (d - e.trail) bs₁ → Done ls z ws ns bs sc k e tried ws ns bs₂ sc₁ (Missed k)
     tried_no d q bs₂ b =
         record {
-          says = (λ i. missed-with (best_same ls z sc sc₁ u.rest k.best k.tied i)) ∙ sym
+          says = (λ i. missed_with (best_same ls z sc sc₁ u.rest k.best k.tied i)) ∙ sym
               (ap (λ x. on_yes x (λ C. next_of ls z next (path_after ls z sc e s C)) (world_of ls z ws ns sc k)) no);
           grown = sorts_only_refl (lent ws ns k.lengths) S.ready.nodes;
           binds = b ∙ (ap (λ n. undo sc₁ e.trail (n - e.trail) bs₁) (sym (ap count_of q)) ∙ freed_again sc₁ refl);
@@ -306,8 +306,8 @@ module _ (ls : List ℕ) (z : Sizes) (ws ns bs sc : List ℕ) (k : State) (e : B
         no : U ≡ no_way
         no = u.tries.says ∙ ap (λ r. answer_of r (binds_of bs₁ v)) q
 
-        missed-with : Option Candidate → Out (Unit {0})
-        missed-with b = missed (record { lent = lent ws ns k.lengths; best = b; met = tt })
+        missed_with : Option Candidate → Out (Unit {0})
+        missed_with b = missed (record { lent = lent ws ns k.lengths; best = b; met = tt })
 
     module _ (d : ℕ) (q : t ≡ Yes d) (sc₂ : List ℕ) (e₂ : Branch) (w : sc₂ ≡ step_words s e sc₁) (a : e₂ ≡ branch_after e d s) where
       count : count_of t ≡ d
@@ -349,8 +349,8 @@ module _ (ls : List ℕ) (z : Sizes) (ws ns bs sc : List ℕ) (k : State) (e : B
             (ap (λ xs. best_of ls z xs k.best k.tied) w ∙ step_best ls z S.sized sc sc₁ long₁ u.rest e s room k.best k.tied)
             ∙ sym (ap (λ x. on_yes x (λ C. next_of ls z next (path_after ls z sc e s C)) (world_of ls z ws ns sc k)) yes))
 
-        pub tried-yes : (bs₄ : List ℕ) → bs₄ ≡ undo sc₃ e.trail (d - e.trail) bs₃ → Done ls z ws ns bs sc k e tried ws₃ ns₃ bs₄ sc₃ r
-        tried-yes bs₄ b =
+        pub tried_yes : (bs₄ : List ℕ) → bs₄ ≡ undo sc₃ e.trail (d - e.trail) bs₃ → Done ls z ws ns bs sc k e tried ws₃ ns₃ bs₄ sc₃ r
+        tried_yes bs₄ b =
             record {
               says = says;
               grown = c.grown;
@@ -362,24 +362,24 @@ module _ (ls : List ℕ) (z : Sizes) (ws ns bs sc : List ℕ) (k : State) (e : B
                   record {
                     trail = front₃ e.trail (omega (arith, count, on_the_trail.0)) ∙ front₁ e.trail (omega arith);
                     measure =
-                        sym (take_part measure_at e.measure e₂.measure sc₃ (longer-measure))
+                        sym (take_part measure_at e.measure e₂.measure sc₃ (longer_measure))
                         ∙ (ap (take e.measure) c.path.measure
-                        ∙ (take_part measure_at e.measure e₂.measure sc₂ (longer-measure)
+                        ∙ (take_part measure_at e.measure e₂.measure sc₂ (longer_measure)
                         ∙ (ap (part measure_at e.measure) w ∙ step_measure ls z S.sized sc sc₁ long₁ u.rest e s room)));
                     choices =
-                        sym (take_part choices_at e.choices e₂.choices sc₃ (longer-choices))
+                        sym (take_part choices_at e.choices e₂.choices sc₃ (longer_choices))
                         ∙ (ap (take e.choices) c.path.choices
-                        ∙ (take_part choices_at e.choices e₂.choices sc₂ (longer-choices)
+                        ∙ (take_part choices_at e.choices e₂.choices sc₂ (longer_choices)
                         ∙ (ap (part choices_at e.choices) w ∙ step_choices ls z S.sized sc sc₁ long₁ u.rest e s room)));
                     long = c.path.long ∙ (ap length w ∙ (step_long ls z S.sized sc sc₁ long₁ u.rest e s ∙ u.long));
                   };
             }
           where
-            longer-measure : e.measure ≤ e₂.measure
-            longer-measure = subst (λ (x : Branch). e.measure ≤ x.measure) (sym a) (measure_longer s d)
+            longer_measure : e.measure ≤ e₂.measure
+            longer_measure = subst (λ (x : Branch). e.measure ≤ x.measure) (sym a) (measure_longer s d)
 
-            longer-choices : e.choices ≤ e₂.choices
-            longer-choices = subst (λ (x : Branch). e.choices ≤ x.choices) (sym a) (choices_longer s d)
+            longer_choices : e.choices ≤ e₂.choices
+            longer_choices = subst (λ (x : Branch). e.choices ≤ x.choices) (sym a) (choices_longer s d)
 
   -- the same of the places of a try
   module _ (pairs : Pairs) (bs₁ sc₁ : List ℕ) (t : Tried)
@@ -394,7 +394,7 @@ module _ (ls : List ℕ) (z : Sizes) (ws ns bs sc : List ℕ) (k : State) (e : B
         → Comes ls z ws ns bs₁ sc₂ k e₂ (next_of ls z next) ws₃ ns₃ bs₃ sc₃ r → (bs₄ : List ℕ) → bs₄ ≡ undo sc₃ e.trail (d - e.trail) bs₃
         → Comes ls z ws ns bs sc k e (trying ls z sc e pairs s next) ws₃ ns₃ bs₄ sc₃ r
     unfolding trying
-    attempt_yes = tried-yes _ bs₁ sc₁ t u
+    attempt_yes = tried_yes _ bs₁ sc₁ t u
 
   -- the room that the functions called ask for
   module _ (U : Unifies) (bs₁ sc₁ : List ℕ) (t : Tried) (u : TriesPairs ws ns k.lengths U bs sc e.trail bs₁ sc₁ t) where
@@ -416,5 +416,5 @@ module _ (ls : List ℕ) (z : Sizes) (ws ns bs sc : List ℕ) (k : State) (e : B
       → Done ls z ws ns bs sc k e (next_of ls z next (path_after ls z sc e s (binds_of bs k.lengths.variables)) (world_of ls z ws ns sc k)) ws₃ ns₃ bs₃ sc₃ r
   unfolding undo
   went_with sc₂ e₂ w a ws₃ ns₃ bs₃ sc₃ r c =
-      tried-yes (yes_with (binds_of bs k.lengths.variables)) bs sc (Yes e.trail) nothing_bound e.trail refl sc₂ e₂ w a ws₃ ns₃ bs₃ sc₃ r c bs₃
+      tried_yes (yes_with (binds_of bs k.lengths.variables)) bs sc (Yes e.trail) nothing_bound e.trail refl sc₂ e₂ w a ws₃ ns₃ bs₃ sc₃ r c bs₃
       (sym (ap (λ n. undo sc₃ e.trail n bs₃) (let q : e.trail - e.trail ≡ 0 = omega arith in q)))

@@ -122,15 +122,15 @@ module _ (o : ComplexSort) (s : ℕ) (ws : List ℕ) (k : Lengths) (c : Counts) 
     interned_at id K x k' e ns = ap (λ (l : Lengths). made id.0 (lent ws₁ ns l)) e ∙ (ap (with_sorts (lent ws ns k) (stored_at ws₁ j)) (sym x) ∙ makes ns)
 
     module _ (ck : Checked ws k.sorts k.entries) where
-      pub no-room-for-container : j ≡ JoinedFull → InternsContainer o s ws k ws₁ (NoSortRoom k)
+      pub no_room_for_container : j ≡ JoinedFull → InternsContainer o s ws k ws₁ (NoSortRoom k)
       unfolding InternsContainer
-      no-room-for-container x ns =
+      no_room_for_container x ns =
           ap (λ (ys : List ℕ). no_room 15 (lent ys ns k)) (full_unchanged ws k.sorts k.entries ck
           (container o (look (trees ws k.sorts) s)) ws₁ (ap (stored_at ws₁) (sym x) ∙ interned))
           ∙ (ap (with_sorts (lent ws ns k) (stored_at ws₁ j)) (sym x) ∙ makes ns)
 
-      pub always-interned : (K : Counts) → j ≡ JoinedNothing K → (r : Made) → InternsContainer o s ws k ws₁ r
-      always-interned K x r = never_none ws k.sorts k.entries ck (container o (look (trees ws k.sorts) s)) ws₁ K (ap (stored_at ws₁) (sym x) ∙ interned)
+      pub always_interned : (K : Counts) → j ≡ JoinedNothing K → (r : Made) → InternsContainer o s ws k ws₁ r
+      always_interned K x r = never_none ws k.sorts k.entries ck (container o (look (trees ws k.sorts) s)) ws₁ K (ap (stored_at ws₁) (sym x) ∙ interned)
 
 -- four places of these numbers
 abbrev pub four_of : ℕ → ℕ → ℕ → ℕ → Four

@@ -98,12 +98,12 @@ module _ (s : Sort) (r : Amount) (e : r ≡ amount_of (generality s)) (kind : Li
   pub other_at_no_number : r ≡ Nothing → Other ≡ lit_number (lit_component kind s)
   other_at_no_number z = go kind refl
     where
-      none-there : generality s ≡ none
-      none-there = no_amount (generality s) (sym e ∙ z)
+      none_there : generality s ≡ none
+      none_there = no_amount (generality s) (sym e ∙ z)
 
       go : (k : LitKind) → kind ≡ k → Other ≡ lit_number (lit_component kind s)
-      go Positive i = by_kind Positive none i (positive_component s ∙ none-there)
-      go Natural i = by_kind Natural none i (natural_component s ∙ ap above_zero none-there)
+      go Positive i = by_kind Positive none i (positive_component s ∙ none_there)
+      go Natural i = by_kind Natural none i (natural_component s ∙ ap above_zero none_there)
 
   module _ (g : ℕ) (z : r ≡ Of g) where
     is_number : generality s ≡ some g
@@ -113,11 +113,11 @@ module _ (s : Sort) (r : Amount) (e : r ≡ amount_of (generality s)) (kind : Li
     number_of_positive i = by_kind Positive (some g) i (positive_component s ∙ is_number)
 
     module _ (i : kind ≡ Natural) where
-      pub natural-is-not-pos : g ≡ 0 → Other ≡ lit_number (lit_component kind s)
-      natural-is-not-pos y = by_kind Natural none i (natural_component s ∙ (ap above_zero is_number ∙ ap (λ (x : ℕ). above_zero (some x)) y))
+      pub natural_is_not_pos : g ≡ 0 → Other ≡ lit_number (lit_component kind s)
+      natural_is_not_pos y = by_kind Natural none i (natural_component s ∙ (ap above_zero is_number ∙ ap (λ (x : ℕ). above_zero (some x)) y))
 
-      pub number-of-natural : (g ≡ 0 → ⊥) → Number g ≡ lit_number (lit_component kind s)
-      number-of-natural d = by_kind Natural (some g) i (natural_component s ∙ (ap above_zero is_number ∙ above g d))
+      pub number_of_natural : (g ≡ 0 → ⊥) → Number g ≡ lit_number (lit_component kind s)
+      number_of_natural d = by_kind Natural (some g) i (natural_component s ∙ (ap above_zero is_number ∙ above g d))
         where
           above : (x : ℕ) → (x ≡ 0 → ⊥) → above_zero (some x) ≡ some x
           above zero d = absurd (d refl)

@@ -1,6 +1,8 @@
 // What the search of merc's inference.rs does between its calls of itself. One try: places made equal with a trail at
 // the front of the scratch, and what the try adds to its branch. Answers told apart, and the tries of a widening and of
 // a literal, from solve_widening and solve_lit.
+#![tactic(auto)]
+
 ghost use Rattle.std.specs.Prelude.{◌≡◌, true, false, ◌+◌, ◌<◌, ◌≤◌, get_or, take, length};
 ghost use Rattle.resolved_sort.specs.Rows.{Checked};
 ghost use Rattle.unification.specs.Nodes.{binds_of};

@@ -34,13 +34,13 @@ module _ (g : Given) (kind sort : ℕ) where
     kind_above h = simp (lt-leb kind 3 h, and-false)
 
     module _ (h : kind ≤ 3) where
-      pub operation-by-sort : kind ≡ 2 → ltb sort g.sorts ≡ whole
+      pub operation_by_sort : kind ≡ 2 → ltb sort g.sorts ≡ whole
       unfolding target_fine
-      operation-by-sort e = sym (simp (lt-ltb 0 kind (omega (arith, d)), le-leb kind 3 h, eq-eqb kind 2 e))
+      operation_by_sort e = sym (simp (lt-ltb 0 kind (omega (arith, d)), le-leb kind 3 h, eq-eqb kind 2 e))
 
-      pub other-kind : (kind ≡ 2 → ⊥) → true ≡ whole
+      pub other_kind : (kind ≡ 2 → ⊥) → true ≡ whole
       unfolding target_fine
-      other-kind f = sym (simp (lt-ltb 0 kind (omega (arith, d)), le-leb kind 3 h, ne_eqb kind 2 f))
+      other_kind f = sym (simp (lt-ltb 0 kind (omega (arith, d)), le-leb kind 3 h, ne_eqb kind 2 f))
 
 -- the lists that no constraint looks at make no difference
 pub same_constraint_fine : (g : Given) (cs os ss : List ℕ) (b : ℕ) (c : Constraint)

@@ -107,11 +107,11 @@ module _ (row : ℕ → ℕ) (n : ℕ) where
           ap (fresh_from seen) (one_left row n i l ∙ ap (λ (y : ℕ). y ∷ left row n (i + 1)) (sym e))
           ∙ sym (ap₂ (λ (y : Bool) (ys : List Bool). y && fresh_from ys (left row n (i + 1))) (ap (λ (k : Marked). k.fresh) m) (ap (λ (k : Marked). k.seen) m))
 
-      pub number-twice : b ≡ false → false ≡ no_two numbers
-      number-twice = twice numbers seen (left row n i) p.1 seen₁ b (left row n (i + 1)) number_step u
+      pub number_twice : b ≡ false → false ≡ no_two numbers
+      number_twice = twice numbers seen (left row n i) p.1 seen₁ b (left row n (i + 1)) number_step u
 
-      pub number-once : b ≡ true → length seen₁ ≡ length seen → NumbersMarked seen₁ (i + 1)
-      number-once x s = (omega (arith, l), once numbers seen (left row n i) p.1 seen₁ b (left row n (i + 1)) number_step x s)
+      pub number_once : b ≡ true → length seen₁ ≡ length seen → NumbersMarked seen₁ (i + 1)
+      number_once x s = (omega (arith, l), once numbers seen (left row n i) p.1 seen₁ b (left row n (i + 1)) number_step x s)
 
     pub numbers_differ : n ≤ i → true ≡ no_two numbers
     numbers_differ l = end numbers seen (left row n i) p.1 u (none_left row n i l)
@@ -149,11 +149,11 @@ module _ (row : ℕ → Constraint) (n : ℕ) where
           ∙ sym (ap₂ (λ (y : Bool) (ys : List Bool). y && fresh_from ys (exprs_left (i + 1)))
           (ap (λ (k : Marked). k.fresh) m) (ap (λ (k : Marked). k.seen) m)))
 
-      pub disjunction-twice : b ≡ false → false ≡ no_two exprs
-      disjunction-twice = twice exprs seen (exprs_left i) p.1 seen₁ b (exprs_left (i + 1)) disjunction-step u
+      pub disjunction_twice : b ≡ false → false ≡ no_two exprs
+      disjunction_twice = twice exprs seen (exprs_left i) p.1 seen₁ b (exprs_left (i + 1)) disjunction-step u
 
-      pub disjunction-once : b ≡ true → length seen₁ ≡ length seen → DisjunctionsMarked seen₁ (i + 1)
-      disjunction-once x s = (omega (arith, l), once exprs seen (exprs_left i) p.1 seen₁ b (exprs_left (i + 1)) disjunction-step x s)
+      pub disjunction_once : b ≡ true → length seen₁ ≡ length seen → DisjunctionsMarked seen₁ (i + 1)
+      disjunction_once x s = (omega (arith, l), once exprs seen (exprs_left i) p.1 seen₁ b (exprs_left (i + 1)) disjunction-step x s)
 
     pub disjunctions_differ : n ≤ i → true ≡ no_two exprs
     unfolding disjunctions

@@ -84,11 +84,11 @@ module _ (row : ℕ → Constraint) (n : ℕ) where
       unfolding joins_fine
       one-and-rest = p.left_over ∙ (ap joins_fine (one_left row n i l) ∙ ap (λ (z : Bool). z && joins_fine (left row n (i + 1))) (sym (y ∙ ap has_sources e)))
 
-      pub without-sources : b ≡ false → false ≡ joins_fine (rows_from row 0 n)
-      without-sources x = sym (one-and-rest ∙ ap (λ z. z && joins_fine (left row n (i + 1))) x)
+      pub without_sources : b ≡ false → false ≡ joins_fine (rows_from row 0 n)
+      without_sources x = sym (one-and-rest ∙ ap (λ z. z && joins_fine (left row n (i + 1))) x)
 
-      pub one-joined : b ≡ true → Joined (i + 1)
-      one-joined x = record { within = omega (arith, l); left_over = one-and-rest ∙ ap (λ z. z && joins_fine (left row n (i + 1))) x }
+      pub one_joined : b ≡ true → Joined (i + 1)
+      one_joined x = record { within = omega (arith, l); left_over = one-and-rest ∙ ap (λ z. z && joins_fine (left row n (i + 1))) x }
 
     pub all_joined : n ≤ i → true ≡ joins_fine (rows_from row 0 n)
     unfolding joins_fine

@@ -58,29 +58,29 @@ module _ (I : Call) where
     expr_stray h = first_of_pair x (exprs_fine I) (names_fine I) ex 8 (nine ∷ ten ∷ []) h
 
     module _ (hx : not x ≡ false) (y : Bool) (ey : y ≡ names_fine I) where
-      pub name-stray : not y ≡ true → Refused 8 ≡ tested_of (first_failing rows)
-      name-stray h = second_of_pair x (exprs_fine I) (names_fine I) ex 8 (nine ∷ ten ∷ []) hx y ey h
+      pub name_stray : not y ≡ true → Refused 8 ≡ tested_of (first_failing rows)
+      name_stray h = second_of_pair x (exprs_fine I) (names_fine I) ex 8 (nine ∷ ten ∷ []) hx y ey h
 
       module _ (hy : not y ≡ false) (z : Bool) (ez : z ≡ constraints_fine I) where
-        past-8 : (t : Tested) → t ≡ tested_of (first_failing (nine ∷ ten ∷ [])) → t ≡ tested_of (first_failing rows)
-        past-8 = pair_passes x (exprs_fine I) (names_fine I) ex 8 (nine ∷ ten ∷ []) hx y ey hy
+        past_8 : (t : Tested) → t ≡ tested_of (first_failing (nine ∷ ten ∷ [])) → t ≡ tested_of (first_failing rows)
+        past_8 = pair_passes x (exprs_fine I) (names_fine I) ex 8 (nine ∷ ten ∷ []) hx y ey hy
 
-        pub constraint-stray : not z ≡ true → Refused 9 ≡ tested_of (first_failing rows)
-        constraint-stray h = past-8 (Refused 9) (fails z (constraints_fine I) ez 9 (ten ∷ []) h)
+        pub constraint_stray : not z ≡ true → Refused 9 ≡ tested_of (first_failing rows)
+        constraint_stray h = past_8 (Refused 9) (fails z (constraints_fine I) ez 9 (ten ∷ []) h)
 
         module _ (hz : not z ≡ false) (u : Bool) (eu : u ≡ no_two (disjunctions (given I))) where
-          past-9 : (t : Tested) → t ≡ tested_of (first_failing (ten ∷ [])) → t ≡ tested_of (first_failing rows)
-          past-9 t w = past-8 t (passes z (constraints_fine I) ez 9 (ten ∷ []) hz t w)
+          past_9 : (t : Tested) → t ≡ tested_of (first_failing (ten ∷ [])) → t ≡ tested_of (first_failing rows)
+          past_9 t w = past_8 t (passes z (constraints_fine I) ez 9 (ten ∷ []) hz t w)
 
-          pub two-disjunctions : not u ≡ true → Refused 10 ≡ tested_of (first_failing rows)
-          two-disjunctions h = past-9 (Refused 10) (first_of_pair u (no_two (disjunctions (given I))) (no_two (keys I)) eu 10 [] h)
+          pub two_disjunctions : not u ≡ true → Refused 10 ≡ tested_of (first_failing rows)
+          two_disjunctions h = past_9 (Refused 10) (first_of_pair u (no_two (disjunctions (given I))) (no_two (keys I)) eu 10 [] h)
 
           module _ (hu : not u ≡ false) (v : Bool) (ev : v ≡ no_two (keys I)) where
-            pub two-names : not v ≡ true → Refused 10 ≡ tested_of (first_failing rows)
-            two-names h = past-9 (Refused 10) (second_of_pair u (no_two (disjunctions (given I))) (no_two (keys I)) eu 10 [] hu v ev h)
+            pub two_names : not v ≡ true → Refused 10 ≡ tested_of (first_failing rows)
+            two_names h = past_9 (Refused 10) (second_of_pair u (no_two (disjunctions (given I))) (no_two (keys I)) eu 10 [] hu v ev h)
 
             pub rows_pass : not v ≡ false → Passed ≡ tested_of (first_failing rows)
-            rows_pass h = past-9 Passed (pair_passes u (no_two (disjunctions (given I))) (no_two (keys I)) eu 10 [] hu v ev h Passed none_left)
+            rows_pass h = past_9 Passed (pair_passes u (no_two (disjunctions (given I))) (no_two (keys I)) eu 10 [] hu v ev h Passed none_left)
 
 -- checks 11, 12 and 14
 module _ (I : Call) where
@@ -101,44 +101,44 @@ module _ (I : Call) where
       few : leb n max_components ≡ leb (components (given I)) max_components
       few = ap (λ (k : ℕ). leb k max_components) en
 
-      pub many-components : max_components < n → Refused 11 ≡ tested_of (first_failing last)
-      many-components l =
+      pub many_components : max_components < n → Refused 11 ≡ tested_of (first_failing last)
+      many_components l =
           second_of_pair x (joins_fine (given I)) (leb (components (given I)) max_components) ex 11 (twelve ∷ fourteen ∷
           []) hx (leb n max_components) few (ap not (lt-leb n max_components l))
 
       module _ (m : n ≤ max_components) where
-        past-11 : (t : Tested) → t ≡ tested_of (first_failing (twelve ∷ fourteen ∷ [])) → t ≡ tested_of (first_failing last)
-        past-11 =
+        past_11 : (t : Tested) → t ≡ tested_of (first_failing (twelve ∷ fourteen ∷ [])) → t ≡ tested_of (first_failing last)
+        past_11 =
             pair_passes x (joins_fine (given I)) (leb (components (given I)) max_components) ex 11 (twelve ∷ fourteen ∷
             []) hx (leb n max_components) few (ap not (le-leb n max_components m))
 
-        pub default-stray : I.lengths.sorts ≤ I.default → Refused 12 ≡ tested_of (first_failing last)
-        default-stray l = past-11 (Refused 12) (fails (listed I I.default) _ refl 12 (fourteen ∷ []) (ap not (le-ltb I.default I.lengths.sorts l)))
+        pub default_stray : I.lengths.sorts ≤ I.default → Refused 12 ≡ tested_of (first_failing last)
+        default_stray l = past_11 (Refused 12) (fails (listed I I.default) _ refl 12 (fourteen ∷ []) (ap not (le-ltb I.default I.lengths.sorts l)))
 
         module _ (d : I.default < I.lengths.sorts) where
-          past-12 : (t : Tested) → t ≡ tested_of (first_failing (fourteen ∷ [])) → t ≡ tested_of (first_failing last)
-          past-12 t w = past-11 t (passes (listed I I.default) _ refl 12 (fourteen ∷ []) (ap not (lt-ltb I.default I.lengths.sorts d)) t w)
+          past_12 : (t : Tested) → t ≡ tested_of (first_failing (fourteen ∷ [])) → t ≡ tested_of (first_failing last)
+          past_12 t w = past_11 t (passes (listed I I.default) _ refl 12 (fourteen ∷ []) (ap not (lt-ltb I.default I.lengths.sorts d)) t w)
 
-          short-by : long_enough I ≡ false → Refused 14 ≡ tested_of (first_failing last)
-          short-by f = past-12 (Refused 14) (ap tested_of (sym (first_fails fourteen [] f)))
+          short_by : long_enough I ≡ false → Refused 14 ≡ tested_of (first_failing last)
+          short_by f = past_12 (Refused 14) (ap tested_of (sym (first_fails fourteen [] f)))
 
-          pub sorts-short : length I.sorts < full_length → Refused 14 ≡ tested_of (first_failing last)
+          pub sorts_short : length I.sorts < full_length → Refused 14 ≡ tested_of (first_failing last)
           unfolding long_enough at_ceiling
-          sorts-short l = short-by (rw (lt-leb full_length (length I.sorts) l))
+          sorts_short l = short_by (rw (lt-leb full_length (length I.sorts) l))
 
-          pub nodes-short : length I.nodes < full_nodes → Refused 14 ≡ tested_of (first_failing last)
+          pub nodes_short : length I.nodes < full_nodes → Refused 14 ≡ tested_of (first_failing last)
           unfolding long_enough
-          nodes-short l = short-by (simp (lt-leb full_nodes (length I.nodes) l, and-false))
+          nodes_short l = short_by (simp (lt-leb full_nodes (length I.nodes) l, and-false))
 
           module _ (v : Bool) (ev : v ≡ outputs_long I) where
-            pub outputs-short : not v ≡ true → Refused 14 ≡ tested_of (first_failing last)
+            pub outputs_short : not v ≡ true → Refused 14 ≡ tested_of (first_failing last)
             unfolding long_enough
-            outputs-short h = short-by (simp (sym ev ∙ not-true v h, and-false))
+            outputs_short h = short_by (simp (sym ev ∙ not-true v h, and-false))
 
-            pub last-passes : full_length ≤ length I.sorts → full_nodes ≤ length I.nodes → not v ≡ false → Passed ≡ tested_of (first_failing last)
+            pub last_passes : full_length ≤ length I.sorts → full_nodes ≤ length I.nodes → not v ≡ false → Passed ≡ tested_of (first_failing last)
             unfolding long_enough at_ceiling first_failing
-            last-passes l k h =
-                past-12 Passed
+            last_passes l k h =
+                past_12 Passed
                 (ap tested_of (sym (first_passes fourteen [] (simp (
                   le-leb full_length (length I.sorts) l,
                   le-leb
@@ -205,8 +205,8 @@ module _ (I : Call) where
         unfolding sort_checks
         by-sorts = et ∙ ap tested_of (first_passes _ sorted (within I (sym ex ∙ not-false x h)).0)
 
-        pub sorts-refused : (code : ℕ) → t ≡ Refused code → Refused code ≡ tested_of (first_failing all)
-        sorts-refused code r = past-1 (Refused code) (first_refuses sorted (rest_checks I) t by-sorts code r)
+        pub sorts_refused : (code : ℕ) → t ≡ Refused code → Refused code ≡ tested_of (first_failing all)
+        sorts_refused code r = past-1 (Refused code) (first_refuses sorted (rest_checks I) t by-sorts code r)
 
-        pub rest-decides : t ≡ Passed → (u : Tested) → u ≡ tested_of (first_failing (rest_checks I)) → u ≡ tested_of (first_failing all)
-        rest-decides p u w = past-1 u (second_decides sorted (rest_checks I) t by-sorts p u w)
+        pub rest_decides : t ≡ Passed → (u : Tested) → u ≡ tested_of (first_failing (rest_checks I)) → u ≡ tested_of (first_failing all)
+        rest_decides p u w = past-1 u (second_decides sorted (rest_checks I) t by-sorts p u w)

@@ -1,5 +1,7 @@
 // Checks 1 and 8 to 14 of document 01 over the lists that the solver takes beside sorts, nodes and
 // bindings, and the first failing check of its call.
+#![tactic(auto)]
+
 ghost use Rattle.std.specs.Prelude.{◌≡◌, true, [], ◌+◌, ◌*◌, ◌<◌, ◌≤◌, length};
 ghost use Rattle.unification.specs.Nodes.{is_place};
 ghost use Rattle.inference.specs.declared.Constraint.{Constraint};

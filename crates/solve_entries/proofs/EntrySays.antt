@@ -82,8 +82,8 @@ module _ (I : Call) where
     -- an answer of a search that had room
     module _ (r : Solved) (e : L.answer ≡ r) (k : Counts) (told : counts_told r ≡ some k) (c : ℕ) (code : code_solved r ≡ c)
         (not-15 : c ≡ 15 → ⊥) (not_16 : c ≡ 16 → ⊥) where
-      had-room : SaysSearched I L k
-      had-room =
+      had_room : SaysSearched I L k
+      had_room =
           record {
             passed = f;
             by_leaves = verdict_by_leaves I f (λ x. not-15 (sym code ∙ (sym (ap code_solved e) ∙ x))) (λ x. not_16 (sym code ∙ (sym (ap code_solved e) ∙ x)));
@@ -122,7 +122,7 @@ module _ (I : Call) where
           outputs = k.1;
         }
     by_answer (NoTyping n) e s k =
-        let h = had-room (NoTyping n) e n refl 17 refl (λ x. omega (arith, x)) (λ x. omega (arith, x)) in
+        let h = had_room (NoTyping n) e n refl 17 refl (λ x. omega (arith, x)) (λ x. omega (arith, x)) in
         record {
           searched = h;
           no_leaf = h.by_leaves.none_met.0 (ap code_solved e);
@@ -130,7 +130,7 @@ module _ (I : Call) where
           outputs = k;
         }
     by_answer (Ambiguous n) e s k =
-        let h = had-room (Ambiguous n) e n refl 18 refl (λ x. omega (arith, x)) (λ x. omega (arith, x)) in
+        let h = had_room (Ambiguous n) e n refl 18 refl (λ x. omega (arith, x)) (λ x. omega (arith, x)) in
         record {
           searched = h;
           tied = h.by_leaves.least_met_often.0 (ap code_solved e);
@@ -138,7 +138,7 @@ module _ (I : Call) where
           outputs = k;
         }
     by_answer (Typing o) e s k =
-        let h = had-room (Typing o) e o.counts refl 0 refl (λ x. omega (arith, x)) (λ x. omega (arith, x)) in
+        let h = had_room (Typing o) e o.counts refl 0 refl (λ x. omega (arith, x)) (λ x. omega (arith, x)) in
         let m = least-out o e h.by_leaves in
         record {
           searched = h;

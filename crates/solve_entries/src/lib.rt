@@ -1,6 +1,8 @@
 // The entry solve. It takes the lent sort and node storage, the bindings, the lists of the problem
 // and their counts, scratch and outputs, tests them itself, and has no `requires`: whatever a
 // caller hands in, the answer and all lent memory at exit are the defined ones.
+#![tactic(auto)]
+
 ghost use Rattle.std.specs.Prelude.{◌≡◌, []};
 ghost use Rattle.std.proofs.Math.Option.{none};
 ghost use Rattle.resolved_sort.specs.Checks.{first_failing};

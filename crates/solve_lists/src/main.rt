@@ -6,6 +6,8 @@
 // The work is done by list_lines: what a line makes of the list, and what is printed for it (`hear`). Here lines are
 // only read and written. Memory is bounded whatever the input's length and the length of its lines: of a line longer
 // than 201 bytes only those are looked at, which shows that it is too long.
+#![tactic(auto)]
+
 ghost use Rattle.std.specs.Prelude.{◌≤◌, length};
 ghost use Rattle.list_lines.specs.Longest.{printed_room, held_line};
 

@@ -113,9 +113,9 @@ module _ (sc ls ks : List ℕ) (n : ℕ) (z : Sizes) (ts ms hs : List ℕ) (h : 
       unfolding best_of candidate_of
       tied t = rw (not-false st.best b, t) (ap (λ k. answered (Ambiguous k) ts ms hs) e)
 
-      pub not-tied : st.tied ≡ false → (a : Answered) → a ≡ handed_out (problem_in ls z) names ts ms hs k (candidate_of ls z sc false) → a ≡ judgment
+      pub not_tied : st.tied ≡ false → (a : Answered) → a ≡ handed_out (problem_in ls z) names ts ms hs k (candidate_of ls z sc false) → a ≡ judgment
       unfolding best_of candidate_of
-      not-tied t a q = q ∙ rw (not-false st.best b, t) (ap (λ k. handed_out (problem_in ls z) names ts ms hs k (candidate_of ls z sc false)) e)
+      not_tied t a q = q ∙ rw (not-false st.best b, t) (ap (λ k. handed_out (problem_in ls z) names ts ms hs k (candidate_of ls z sc false)) e)
 
 -- by the answer of the search
 module _ (ws ns sc ls ks : List ℕ) (n : ℕ) (z : Sizes) (ts ms hs : List ℕ) (k : Lengths) (r : Answer) where

@@ -221,32 +221,32 @@ module _ (sc old ls : List ℕ) (z : Sizes) where
         }
 
     module _ (ts : List ℕ) (k i : ℕ) (p : NamesLeft ts k i) where
-      pub names-few : k ≤ max_constraints
-      names-few = omega (arith, p.count, s.few_disjunctions)
+      pub names_few : k ≤ max_constraints
+      names_few = omega (arith, p.count, s.few_disjunctions)
 
       module _ (l : 0 < i) where
         back : i - 1 + 1 ≡ i
         back = omega (arith, l)
 
-        rest-is : rest_from ls z (i - 1) ≡ constraint_at ls (i - 1) ∷ rest_from ls z i
-        rest-is = rows_one_left (constraint_at ls) z.constraints (i - 1) (omega (arith, l, p.within)) ∙ ap
+        rest_is : rest_from ls z (i - 1) ≡ constraint_at ls (i - 1) ∷ rest_from ls z i
+        rest_is = rows_one_left (constraint_at ls) z.constraints (i - 1) (omega (arith, l, p.within)) ∙ ap
             (λ j. constraint_at ls (i - 1) ∷ rest_from ls z j) back
 
         count-is : length (disjunctions (rest_from ls z (i - 1))) ≡ length (disjunction_for (constraint_at ls (i - 1))
             []) + length (disjunctions (rest_from ls z i))
-        count-is = ap (λ cs. length (disjunctions cs)) rest-is ∙ choices_more (constraint_at ls (i - 1)) (rest_from ls z i)
+        count-is = ap (λ cs. length (disjunctions cs)) rest_is ∙ choices_more (constraint_at ls (i - 1)) (rest_from ls z i)
 
-        own-choice : length (disjunction_for (constraint_at ls (i - 1)) []) ≤ k
-        own-choice = omega (arith, p.count, total_left, count-is, fewer_left (i - 1) (omega (arith, p.within)))
+        own_choice : length (disjunction_for (constraint_at ls (i - 1)) []) ≤ k
+        own_choice = omega (arith, p.count, total_left, count-is, fewer_left (i - 1) (omega (arith, p.within)))
 
-        pub names-enough : (c : Constraint) → c ≡ constraint_at ls (i - 1) → length (disjunction_for c []) ≤ k
-        names-enough c e = subst (λ c. length (disjunction_for c []) ≤ k) (sym e) own-choice
+        pub names_enough : (c : Constraint) → c ≡ constraint_at ls (i - 1) → length (disjunction_for c []) ≤ k
+        names_enough c e = subst (λ c. length (disjunction_for c []) ≤ k) (sym e) own_choice
 
-        pub names-go-on : (c : Constraint) → c ≡ constraint_at ls (i - 1) → (ws : List ℕ) (k' : ℕ)
+        pub names_go_on : (c : Constraint) → c ≡ constraint_at ls (i - 1) → (ws : List ℕ) (k' : ℕ)
             → walked ws k' ≡ name_by_of z.exprs overloads sc c ts k → NamesLeft ws k' (i - 1)
-        names-go-on c e ws k' y =
+        names_go_on c e ws k' y =
             let q : walked ws k' ≡ name_by_of z.exprs overloads sc (constraint_at ls (i - 1)) ts k = y ∙ ap (λ c. name_by_of z.exprs overloads sc c ts k) e in
-            let o = one_named z.exprs overloads sc old (rest_from ls z i) ts k p.done (constraint_at ls (i - 1)) own-choice in
+            let o = one_named z.exprs overloads sc old (rest_from ls z i) ts k p.done (constraint_at ls (i - 1)) own_choice in
             let r : ws ≡ chosen_named z.exprs overloads sc (constraint_at ls (i - 1) ∷ rest_from ls z i) k' old =
             subst (λ (w : Walked). w.words ≡ chosen_named z.exprs overloads sc (constraint_at ls (i - 1) ∷ rest_from ls z i) w.count old) (sym q) o.0 in
             let f : k' + length (disjunction_for (constraint_at ls (i - 1)) []) ≡ k = subst (λ (w : Walked). w.count +
@@ -256,11 +256,11 @@ module _ (sc old ls : List ℕ) (z : Sizes) where
               count = omega (arith, f, count-is, p.count);
               long = ap (λ (w : Walked). length w.words) q ∙ (length_by z.exprs overloads sc old
                   (rest_from ls z i) ts k (constraint_at ls (i - 1)) ∙ p.long);
-              done = r ∙ ap (λ cs. chosen_named z.exprs overloads sc cs k' old) (sym rest-is);
+              done = r ∙ ap (λ cs. chosen_named z.exprs overloads sc cs k' old) (sym rest_is);
             }
 
-      pub names-end : i ≤ 0 → ts ≡ chosen_named z.exprs overloads sc (rest_from ls z 0) 0 old
-      names-end l =
+      pub names_end : i ≤ 0 → ts ≡ chosen_named z.exprs overloads sc (rest_from ls z 0) 0 old
+      names_end l =
           let a : i ≡ 0 = omega (arith, l) in
           let b : k ≡ 0 = omega (arith, p.count, total_left, ap (λ i. length (disjunctions (rest_from ls z i))) a) in
           p.done ∙ λ h. chosen_named z.exprs overloads sc (rest_from ls z (a h)) (b h) old

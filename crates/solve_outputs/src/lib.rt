@@ -1,5 +1,7 @@
 // The solver before and after its search: what the search begins with; what it hands out, from the incumbent in the
 // scratch; what it clears, answers and leaves.
+#![tactic(auto)]
+
 ghost use Rattle.std.specs.Prelude.{◌≡◌, [], List, ◌+◌, ◌*◌, ◌≤◌, ℕ, length, drop, false};
 ghost use Rattle.std.proofs.Math.Option.{some};
 ghost use Rattle.std.proofs.lemmas.List.Edits.{sets};

@@ -1,5 +1,7 @@
 // The entry solve over a lent list of overload records, thinly above the core on numbers. The records are unpacked once
 // into words; the functions that meet a slice of records are few, and each is proved by a walk of its own.
+#![tactic(auto)]
+
 ghost use Rattle.std.specs.Prelude.{◌≡◌, ◌<◌, ◌*◌, ◌+◌, ◌^◌, min, length, take};
 ghost use Rattle.std.proofs.lemmas.List.Edits.{sets};
 ghost use Rattle.inference.specs.Constraints.{max_overloads, overload_words};

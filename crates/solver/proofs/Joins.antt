@@ -41,7 +41,7 @@ use Rattle.words.specs.Words.{part}
 use Rattle.search_state.specs.Inner.Leaves.{ChangedOnly, unify_pairs, PairsPlaced, path_after, agreement_of, AgreesOn, with_lengths}
 use Rattle.search_state.specs.Inner.Searching.{Sized, Searching, SourcesFine, Agreeing, SamePath, Done, Comes, trying}
 use Rattle.search_state.proofs.Parts.{part_before, part_after, take_unchanged}
-use Rattle.search_state.proofs.After.{searching_grown, done_as, done_after, same_path, or-stops, or_comes, grown_missed}
+use Rattle.search_state.proofs.After.{searching_grown, done_as, done_after, same_path, or_stops, or_comes, grown_missed}
 use Rattle.solver.proofs.Ways.{sort_placed, after_missed}
 use Rattle.inference.proofs.Members.{rows_one_left, rows_none_left}
 
@@ -155,14 +155,14 @@ module _ (ls : List ℕ) (z : Sizes) (ws ns bs sc : List ℕ) (k : State) (e : B
       grown : SortsOnly W (lent ws₁ ns k₁.lengths)
       grown = subst (λ (y : State). SortsOnly W (lent ws₁ ns y.lengths)) (sym u) only
 
-      pub join-asked : Searching ws₁ ns bs sc₁ ls z k₁ e run.count [] (Solve i)
-      join-asked = searching_grown ls z ws ns bs sc k e run.count [] (Solve i) S ws₁ ns bs sc₁ k₁ grown.grows refl same_words.long
+      pub join_asked : Searching ws₁ ns bs sc₁ ls z k₁ e run.count [] (Solve i)
+      join_asked = searching_grown ls z ws ns bs sc k e run.count [] (Solve i) S ws₁ ns bs sc₁ k₁ grown.grows refl same_words.long
 
-      same-path₁ : path_of ls z (binds_of bs k₁.lengths.variables) sc₁ e ≡ path
-      same-path₁ = same_path ls z ws ns bs sc k e S.ready.nodes ws₁ ns bs sc₁ k₁ grown refl same_words
+      same_path₁ : path_of ls z (binds_of bs k₁.lengths.variables) sc₁ e ≡ path
+      same_path₁ = same_path ls z ws ns bs sc k e S.ready.nodes ws₁ ns bs sc₁ k₁ grown refl same_words
 
-      same-world₁ : world_of ls z ws₁ ns sc₁ k₁ ≡ record { lent = lent ws₁ ns x; best = w.best; met = tt }
-      same-world₁ = ap (world_of ls z ws₁ ns sc₁) u ∙ ap (λ o. record { lent = lent ws₁ ns x; best = o; met = tt }) best_same
+      same_world₁ : world_of ls z ws₁ ns sc₁ k₁ ≡ record { lent = lent ws₁ ns x; best = w.best; met = tt }
+      same_world₁ = ap (world_of ls z ws₁ ns sc₁) u ∙ ap (λ o. record { lent = lent ws₁ ns x; best = o; met = tt }) best_same
 
       from_start : (O : Out (Unit {0})) (ws₂ ns₂ bs₂ sc₂ : List ℕ) (r : Answer) → Done ls z ws₁ ns bs sc₁ k₁ e O ws₂
           ns₂ bs₂ sc₂ r → O ≡ goal path w → Comes ls z ws ns bs sc k e goal ws₂ ns₂ bs₂ sc₂ r
@@ -171,8 +171,8 @@ module _ (ls : List ℕ) (z : Sizes) (ws ns bs sc : List ℕ) (k : State) (e : B
           (done_after ls z ws ns bs sc k e S.ready.nodes ws₁ ns bs sc₁ k₁ grown refl same_words O ws₂ ns₂ bs₂ sc₂ r d)
 
       -- the sources in turn are asked for
-      seq-fine : SourcesFine (lent ws₁ ns k₁.lengths) ls z t.0 run.start (run.start + run.count)
-      seq-fine = record {
+      seq_fine : SourcesFine (lent ws₁ ns k₁.lengths) ls z t.0 run.start (run.start + run.count)
+      seq_fine = record {
         ordered = F.ordered;
         inside = F.inside;
         target = placed_grown W S.ready.nodes
@@ -186,14 +186,14 @@ module _ (ls : List ℕ) (z : Sizes) (ws ns bs sc : List ℕ) (k : State) (e : B
       unfolding MadeSorts
       only_none = (subst (λ y. MadeSorts (Agree W (binds_of bs k.lengths.variables) ps) (Unit {0}) W (agreement_of ws₁ ns sc₁ e run.count y)) q makes).0
 
-      pub none-asked : Searching ws₁ ns bs sc₁ ls z k₁ e 0 [] (Source t run.start (run.start + run.count) i)
-      none-asked = in_turn ws₁ ns bs sc₁ k₁ (join-asked x only_none k₁ u) (seq-fine x only_none k₁ u)
+      pub none_asked : Searching ws₁ ns bs sc₁ ls z k₁ e 0 [] (Source t run.start (run.start + run.count) i)
+      none_asked = in_turn ws₁ ns bs sc₁ k₁ (join_asked x only_none k₁ u) (seq_fine x only_none k₁ u)
 
-      pub join-none : (ws₂ ns₂ bs₂ sc₂ : List ℕ) (r : Answer) → Comes ls z ws₁ ns bs sc₁ k₁ e seq_from ws₂ ns₂ bs₂ sc₂
+      pub join_none : (ws₂ ns₂ bs₂ sc₂ : List ℕ) (r : Answer) → Comes ls z ws₁ ns bs sc₁ k₁ e seq_from ws₂ ns₂ bs₂ sc₂
           r → Comes ls z ws ns bs sc k e goal ws₂ ns₂ bs₂ sc₂ r
-      join-none ws₂ ns₂ bs₂ sc₂ r d =
+      join_none ws₂ ns₂ bs₂ sc₂ r d =
           from_start x only_none k₁ u _ ws₂ ns₂ bs₂ sc₂ r d
-          ((λ j. seq_same j (same-path₁ x only_none k₁ u j) (same-world₁ x only_none k₁ u j)) ∙
+          ((λ j. seq_same j (same_path₁ x only_none k₁ u j) (same_world₁ x only_none k₁ u j)) ∙
           (sym (ap (λ y. on_made (agreement_of ws₁ ns sc₁ e run.count y) after (seq path) w) q) ∙ by_agreement))
 
     pub join_full : (x : Lengths) → m ≡ NoSortRoom x → Comes ls z ws ns bs sc k e goal ws₁ ns bs sc₁ (Full 15 x)
@@ -216,13 +216,13 @@ module _ (ls : List ℕ) (z : Sizes) (ws ns bs sc : List ℕ) (k : State) (e : B
       abbrev only : SortsOnly W (lent ws₁ ns x)
       only = made_so.0
 
-      pub lub-asked : Searching ws₁ ns bs sc₁ ls z k₁ e run.count [] (Solve i)
-      lub-asked = join-asked x only k₁ u
+      pub lub_asked : Searching ws₁ ns bs sc₁ ls z k₁ e run.count [] (Solve i)
+      lub_asked = join_asked x only k₁ u
 
-      pub lub-placed : PairsPlaced k₁.lengths (One t (record { 0 = s.0 }))
-      lub-placed = (
-        (seq-fine x only k₁ u).target,
-        sort_placed k₁.lengths lub-asked.ready.nodes.sorts.sorts s.0
+      pub lub_placed : PairsPlaced k₁.lengths (One t (record { 0 = s.0 }))
+      lub_placed = (
+        (seq_fine x only k₁ u).target,
+        sort_placed k₁.lengths lub_asked.ready.nodes.sorts.sorts s.0
             (subst (λ (y : State). s.0 < y.lengths.sorts) (sym u) made_so.1.agreed.number),
       )
 
@@ -241,36 +241,36 @@ module _ (ls : List ℕ) (z : Sizes) (ws ns bs sc : List ℕ) (k : State) (e : B
         unfolding trying unify_pairs unifying path_after next_of
         to-or =
             (λ j. else_try
-            (unifying (same-path₁ x only k₁ u j).binds t.0 s.0 (λ C. solve_from ls z i
-            (with_components (same-path₁ x only k₁ u j) (part (measure_at + e.measure) run.count sc₁) C))
-            (same-world₁ x only k₁ u j))
-            (seq_same j (same-path₁ x only k₁ u j)))
+            (unifying (same_path₁ x only k₁ u j).binds t.0 s.0 (λ C. solve_from ls z i
+            (with_components (same_path₁ x only k₁ u j) (part (measure_at + e.measure) run.count sc₁) C))
+            (same_world₁ x only k₁ u j))
+            (seq_same j (same_path₁ x only k₁ u j)))
             ∙ (sym (ap (λ y. on_made (agreement_of ws₁ ns sc₁ e run.count y) after (seq path) w) q) ∙ by_agreement)
 
-        pub join-stop : ((y : State) → r ≡ Missed y → ⊥) → Comes ls z ws ns bs sc k e goal ws₂ ns₂ bs₂ sc₂ r
-        join-stop n = from_start x only k₁ u _ ws₂ ns₂ bs₂ sc₂ r (or-stops ls z ws₁ ns bs sc₁ k₁ e
-            lub-asked.ready.nodes first ws₂ ns₂ bs₂ sc₂ r d (seq_from path₁) n) to-or
+        pub join_stop : ((y : State) → r ≡ Missed y → ⊥) → Comes ls z ws ns bs sc k e goal ws₂ ns₂ bs₂ sc₂ r
+        join_stop n = from_start x only k₁ u _ ws₂ ns₂ bs₂ sc₂ r (or_stops ls z ws₁ ns bs sc₁ k₁ e
+            lub_asked.ready.nodes first ws₂ ns₂ bs₂ sc₂ r d (seq_from path₁) n) to-or
 
         module _ (k₂ : State) (v : r ≡ Missed k₂) where
           grown₂ : Grows (lent ws₁ ns k₁.lengths) (lent ws₂ ns₂ k₂.lengths)
-          grown₂ = (grown_missed ls z ws₁ ns bs sc₁ k₁ e lub-asked.ready.nodes first ws₂ ns₂ bs₂ sc₂ r d k₂ v).grows
+          grown₂ = (grown_missed ls z ws₁ ns bs sc₁ k₁ e lub_asked.ready.nodes first ws₂ ns₂ bs₂ sc₂ r d k₂ v).grows
 
-          pub seq-asked : Searching ws₂ ns₂ bs₂ sc₂ ls z k₂ e 0 [] (Source t run.start (run.start + run.count) i)
-          seq-asked =
-              in_turn ws₂ ns₂ bs₂ sc₂ k₂ (after_missed ls z ws₁ ns bs sc₁ k₁ e run.count [] (Solve i) lub-asked first ws₂ ns₂ bs₂ sc₂ r d k₂ v)
+          pub seq_asked : Searching ws₂ ns₂ bs₂ sc₂ ls z k₂ e 0 [] (Source t run.start (run.start + run.count) i)
+          seq_asked =
+              in_turn ws₂ ns₂ bs₂ sc₂ k₂ (after_missed ls z ws₁ ns bs sc₁ k₁ e run.count [] (Solve i) lub_asked first ws₂ ns₂ bs₂ sc₂ r d k₂ v)
               (record {
                 ordered = F.ordered;
                 inside = F.inside;
-                target = placed_grown (lent ws₁ ns k₁.lengths) lub-asked.ready.nodes
-                    (lent ws₂ ns₂ k₂.lengths) grown₂ t.0 (seq-fine x only k₁ u).target;
-                placed = still_placed (lent ws₁ ns k₁.lengths) lub-asked.ready.nodes
-                    (lent ws₂ ns₂ k₂.lengths) grown₂ _ (seq-fine x only k₁ u).placed;
+                target = placed_grown (lent ws₁ ns k₁.lengths) lub_asked.ready.nodes
+                    (lent ws₂ ns₂ k₂.lengths) grown₂ t.0 (seq_fine x only k₁ u).target;
+                placed = still_placed (lent ws₁ ns k₁.lengths) lub_asked.ready.nodes
+                    (lent ws₂ ns₂ k₂.lengths) grown₂ _ (seq_fine x only k₁ u).placed;
               })
 
-          pub join-next : (ws₃ ns₃ bs₃ sc₃ : List ℕ) (a : Answer) → Comes ls z ws₂ ns₂ bs₂ sc₂ k₂ e seq_from ws₃ ns₃
+          pub join_next : (ws₃ ns₃ bs₃ sc₃ : List ℕ) (a : Answer) → Comes ls z ws₂ ns₂ bs₂ sc₂ k₂ e seq_from ws₃ ns₃
               bs₃ sc₃ a → Comes ls z ws ns bs sc k e goal ws₃ ns₃ bs₃ sc₃ a
-          join-next ws₃ ns₃ bs₃ sc₃ a y =
-              from_start x only k₁ u _ ws₃ ns₃ bs₃ sc₃ a (or_comes ls z ws₁ ns bs sc₁ k₁ e lub-asked.ready.nodes
+          join_next ws₃ ns₃ bs₃ sc₃ a y =
+              from_start x only k₁ u _ ws₃ ns₃ bs₃ sc₃ a (or_comes ls z ws₁ ns bs sc₁ k₁ e lub_asked.ready.nodes
               first ws₂ ns₂ bs₂ sc₂ r d seq_from k₂ v ws₃ ns₃ bs₃ sc₃ a y) to-or
 
 -- One source after another.

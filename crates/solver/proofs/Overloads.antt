@@ -33,7 +33,7 @@ use Rattle.search_state.specs.Inner.Memory.{overloads_at, problem_in, chosen_exp
 use Rattle.search_state.specs.Inner.Leaves.{unify_pairs, PairsPlaced, path_after, after_of}
 use Rattle.search_state.specs.Inner.Searching.{Searching, SamePath, Done, Comes, trying}
 use Rattle.search_state.proofs.Parts.{same_path_refl, same_path_trans}
-use Rattle.search_state.proofs.After.{searching_grown, done_as, done_after, same_path, and-stops, and-goes-on, grown_on}
+use Rattle.search_state.proofs.After.{searching_grown, done_as, done_after, same_path, and_stops, and_goes_on, grown_on}
 use Rattle.search_steps.specs.Inner.Steps.{says_of}
 use Rattle.solver.specs.Inner.Asked.{OverloadsFine}
 use Rattle.solver.proofs.Readings.{says_so}
@@ -114,11 +114,11 @@ module _ (ls : List ℕ) (z : Sizes) (ws₀ ns₀ bs₀ sc₀ : List ℕ) (k₀ 
         (let y : run.count - i ≡ 0 = omega (arith, l) in y))) ws ns bs sc r (says_so ls z ws ns bs sc k e G.searching.ready.nodes b r q)
 
     module _ (l : i < run.count) (o : InferSortId) (v : o.0 ≡ place (run.start + i)) where
-      pub overload-placed : PairsPlaced k.lengths (One p o)
-      overload-placed = (G.fine.place, subst (Placed k.lengths) (sym v) (G.fine.placed i l))
+      pub overload_placed : PairsPlaced k.lengths (One p o)
+      overload_placed = (G.fine.place, subst (Placed k.lengths) (sym v) (G.fine.placed i l))
 
-      pub overload-asked : Searching ws ns bs sc ls z k e 0 (get_or (chosen_exprs ls z) e.choices 0 ∷ []) next
-      overload-asked = subst (λ y. Searching ws ns bs sc ls z k e 0 (y ∷ []) next)
+      pub overload_asked : Searching ws ns bs sc ls z k e 0 (get_or (chosen_exprs ls z) e.choices 0 ∷ []) next
+      overload_asked = subst (λ y. Searching ws ns bs sc ls z k e 0 (y ∷ []) next)
           (sym (next_expr ls z ws ns bs sc k e x.0 next G.searching)) G.searching
 
       module _ (ws₂ ns₂ bs₂ sc₂ : List ℕ) (r : Answer) (d : Comes ls z ws ns bs sc k e (trying ls z sc e (One p o)
@@ -145,13 +145,13 @@ module _ (ls : List ℕ) (z : Sizes) (ws₀ ns₀ bs₀ sc₀ : List ℕ) (k₀ 
             ∙ sym (ap (λ os. every_overload (Unit {0}) nothing_met P x.0 p.0 os i b (next_of ls z next) path w₁)
             (run_one_left (overload_at (drop overloads_at ls)) run.start run.count i l)))
 
-        pub overloads-stop : (c : ℕ) (n : Lengths) → g ≡ Stop c n → Comes ls z ws₀ ns₀ bs₀ sc₀ k₀ e goal ws₂ ns₂ bs₂ sc₂ (Full c n)
-        overloads-stop c n h =
+        pub overloads_stop : (c : ℕ) (n : Lengths) → g ≡ Stop c n → Comes ls z ws₀ ns₀ bs₀ sc₀ k₀ e goal ws₂ ns₂ bs₂ sc₂ (Full c n)
+        overloads_stop c n h =
             from_start (and_also first b (λ b. from (i + 1) b path)) to-and ws₂ ns₂ bs₂ sc₂ (Full c n)
-            (and-stops ls z ws ns bs sc k e G.searching.ready.nodes first ws₂ ns₂ bs₂ sc₂ r d b (λ b. from (i + 1) b path) g y c n h)
+            (and_stops ls z ws ns bs sc k e G.searching.ready.nodes first ws₂ ns₂ bs₂ sc₂ r d b (λ b. from (i + 1) b path) g y c n h)
 
-        pub overloads-on : (k₂ : State) (b₂ : Bool) → g ≡ On k₂ b₂ → Going-on ws₂ ns₂ bs₂ sc₂ k₂ (i + 1) b₂
-        overloads-on k₂ b₂ h =
+        pub overloads_on : (k₂ : State) (b₂ : Bool) → g ≡ On k₂ b₂ → Going-on ws₂ ns₂ bs₂ sc₂ k₂ (i + 1) b₂
+        overloads_on k₂ b₂ h =
             let only₂ = grown_on ls z ws ns bs sc k e G.searching.ready.nodes first ws₂ ns₂ bs₂ sc₂ r d b g y k₂ b₂ h in
             let up : (q : ℕ) → Placed k.lengths q → Placed k₂.lengths q =
             placed_grown (lent ws ns k.lengths) G.searching.ready.nodes (lent ws₂ ns₂ k₂.lengths) only₂.grows in
@@ -164,7 +164,7 @@ module _ (ls : List ℕ) (z : Sizes) (ws₀ ns₀ bs₀ sc₀ : List ℕ) (k₀ 
               binds = d.binds ∙ G.binds;
               path = same_path_trans e sc₀ sc sc₂ G.path d.path;
               left =
-                  and-goes-on ls z ws ns bs sc k e G.searching.ready.nodes first ws₂ ns₂ bs₂ sc₂ r d b
+                  and_goes_on ls z ws ns bs sc k e G.searching.ready.nodes first ws₂ ns₂ bs₂ sc₂ r d b
                   (λ b. from (i + 1) b path) g y k₂ b₂ h ∙ (to-and ∙ G.left);
             }
 

@@ -34,7 +34,7 @@ use Rattle.search_state.specs.Inner.Memory.{problem_in, path_of, world_of, next_
 use Rattle.search_state.specs.Inner.Leaves.{PairsPlaced, path_after, made_of, after_of, with_lengths}
 use Rattle.search_state.specs.Inner.Searching.{Searching, Done, Comes, trying}
 use Rattle.search_state.proofs.Parts.{same_path_refl}
-use Rattle.search_state.proofs.After.{searching_grown, misses, finds, done_as, done_after, and-stops, and_comes, grown_on}
+use Rattle.search_state.proofs.After.{searching_grown, misses, finds, done_as, done_after, and_stops, and_comes, grown_on}
 use Rattle.search_state.proofs.Ways.{two_pairs, container_is_sort, no_room_for_container_is_15, container_always_listed}
 use Rattle.search_steps.specs.Inner.Steps.{says_of, InternsContainer}
 use Rattle.solver.specs.Inner.Asked.{reading_body, reading_op, reading_at, readings_from}
@@ -106,21 +106,21 @@ module _ (ls : List ℕ) (z : Sizes) (ws ns bs sc : List ℕ) (k : State) (e : B
     readings_none x q = container_always_listed W S.ready.nodes (reading_op i) element.0 he (lent ws₁ ns x) (sym interned ∙ ap (made_of ws₁ ns) q)
 
     module _ (s : SortId) (x : Lengths) (q : m ≡ At s x) (k₁ : State) (u : k₁ ≡ with_lengths k x) where
-      is-sort : SortsOnly W (lent ws₁ ns x) × (s.0 < x.sorts)
-      is-sort = container_is_sort W S.ready.nodes (reading_op i) element.0 he s.0 (lent ws₁ ns x) (sym interned ∙ ap (made_of ws₁ ns) q)
+      is_sort : SortsOnly W (lent ws₁ ns x) × (s.0 < x.sorts)
+      is_sort = container_is_sort W S.ready.nodes (reading_op i) element.0 he s.0 (lent ws₁ ns x) (sym interned ∙ ap (made_of ws₁ ns) q)
 
       grown : SortsOnly W (lent ws₁ ns k₁.lengths)
-      grown = subst (λ (y : State). SortsOnly W (lent ws₁ ns y.lengths)) (sym u) is-sort.0
+      grown = subst (λ (y : State). SortsOnly W (lent ws₁ ns y.lengths)) (sym u) is_sort.0
 
-      pub reading-asked : Searching ws₁ ns bs sc ls z k₁ e 0 [] next
-      reading-asked = searching_grown ls z ws ns bs sc k e 0 [] next S ws₁ ns bs sc k₁ grown.grows refl refl
+      pub reading_asked : Searching ws₁ ns bs sc ls z k₁ e 0 [] next
+      reading_asked = searching_grown ls z ws ns bs sc k e 0 [] next S ws₁ ns bs sc k₁ grown.grows refl refl
 
-      pub reading-placed : (rb : InferSortId) → rb.0 ≡ reading_body i → PairsPlaced k₁.lengths (Two body rb node (record { 0 = s.0 }))
-      reading-placed rb v = (
+      pub reading_placed : (rb : InferSortId) → rb.0 ≡ reading_body i → PairsPlaced k₁.lengths (Two body rb node (record { 0 = s.0 }))
+      reading_placed rb v = (
         placed_grown W S.ready.nodes (lent ws₁ ns k₁.lengths) grown.grows body.0 hb,
-        subst (Placed k₁.lengths) (sym v) (fixed_placed k₁.lengths reading-asked.suits.six (reading_body i) (below i)),
+        subst (Placed k₁.lengths) (sym v) (fixed_placed k₁.lengths reading_asked.suits.six (reading_body i) (below i)),
         placed_grown W S.ready.nodes (lent ws₁ ns k₁.lengths) grown.grows node.0 hn,
-        sort_placed k₁.lengths reading-asked.ready.nodes.sorts.sorts s.0 (subst (λ (y : State). s.0 < y.lengths.sorts) (sym u) is-sort.1),
+        sort_placed k₁.lengths reading_asked.ready.nodes.sorts.sorts s.0 (subst (λ (y : State). s.0 < y.lengths.sorts) (sym u) is_sort.1),
       )
         where
           below : (n : ℕ) → reading_body n < 6
@@ -136,8 +136,8 @@ module _ (ls : List ℕ) (z : Sizes) (ws ns bs sc : List ℕ) (k : State) (e : B
         abbrev w₁ : World (Unit {0})
         w₁ = world_of ls z ws₁ ns sc k₁
 
-        same-path-here : path₁ ≡ path
-        same-path-here = ap (λ n. path_of ls z (binds_of bs n) sc e) grown.grows.variables
+        same_path_here : path₁ ≡ path
+        same_path_here = ap (λ n. path_of ls z (binds_of bs n) sc e) grown.grows.variables
 
         abbrev first : Out (Unit {0})
         first = trying ls z sc e (Two body rb node (record { 0 = s.0 })) Nothing next path₁ w₁
@@ -151,7 +151,7 @@ module _ (ls : List ℕ) (z : Sizes) (ws ns bs sc : List ℕ) (k : State) (e : B
             ∙ (ap (λ n. and_also (unifying path₁.binds body.0 n (λ C. unifying C node.0 s.0
             (λ D. next_of ls z next (with_binds path₁ D))) w₁) b (λ b. rest (readings_from (i + 1)) b path₁)) v
             ∙ (ap₂ (λ p y. and_also (unifying p.binds body.0 (reading_body i) (λ C. unifying C node.0 s.0
-            (λ D. next_of ls z next (with_binds p D))) y) b (λ b. rest (readings_from (i + 1)) b p)) same-path-here
+            (λ D. next_of ls z next (with_binds p D))) y) b (λ b. rest (readings_from (i + 1)) b p)) same_path_here
             (ap (world_of ls z ws₁ ns sc) u)
             ∙ (sym (ap (λ y. on_made (made_of ws₁ ns y) reads missed w) q) ∙ by_made)))
 
@@ -164,29 +164,29 @@ module _ (ls : List ℕ) (z : Sizes) (ws ns bs sc : List ℕ) (k : State) (e : B
             (done_after ls z ws ns bs sc k e S.ready.nodes ws₁ ns bs sc k₁ grown refl (same_path_refl e sc) _ ws₃ ns₃ bs₃ sc₃ a y)
 
         module _ (g : Went) (y : g ≡ after_of r b) where
-          pub readings-stop : (c : ℕ) (n : Lengths) → g ≡ Stop c n → Comes ls z ws ns bs sc k e goal ws₂ ns₂ bs₂ sc₂ (Full c n)
-          readings-stop c n h =
+          pub readings_stop : (c : ℕ) (n : Lengths) → g ≡ Stop c n → Comes ls z ws ns bs sc k e goal ws₂ ns₂ bs₂ sc₂ (Full c n)
+          readings_stop c n h =
               from_start ws₂ ns₂ bs₂ sc₂ (Full c n)
-              (and-stops ls z ws₁ ns bs sc k₁ e reading-asked.ready.nodes first ws₂ ns₂ bs₂ sc₂ r d b (λ b. rest (readings_from (i + 1)) b path₁) g y c n h)
+              (and_stops ls z ws₁ ns bs sc k₁ e reading_asked.ready.nodes first ws₂ ns₂ bs₂ sc₂ r d b (λ b. rest (readings_from (i + 1)) b path₁) g y c n h)
 
           module _ (k₂ : State) (b₂ : Bool) (h : g ≡ On k₂ b₂) where
             grown₂ : SortsOnly (lent ws₁ ns k₁.lengths) (lent ws₂ ns₂ k₂.lengths)
-            grown₂ = grown_on ls z ws₁ ns bs sc k₁ e reading-asked.ready.nodes first ws₂ ns₂ bs₂ sc₂ r d b g y k₂ b₂ h
+            grown₂ = grown_on ls z ws₁ ns bs sc k₁ e reading_asked.ready.nodes first ws₂ ns₂ bs₂ sc₂ r d b g y k₂ b₂ h
 
-            pub readings-asked : Searching ws₂ ns₂ bs₂ sc₂ ls z k₂ e 0 [] next
-            readings-asked = searching_grown ls z ws₁ ns bs sc k₁ e 0 [] next reading-asked ws₂ ns₂ bs₂ sc₂ k₂ grown₂.grows d.binds d.path.long
+            pub readings_asked : Searching ws₂ ns₂ bs₂ sc₂ ls z k₂ e 0 [] next
+            readings_asked = searching_grown ls z ws₁ ns bs sc k₁ e 0 [] next reading_asked ws₂ ns₂ bs₂ sc₂ k₂ grown₂.grows d.binds d.path.long
 
-            pub reading-places : Placed k₂.lengths body.0 × Placed k₂.lengths node.0 × (element.0 < k₂.lengths.sorts)
-            reading-places =
+            pub reading_places : Placed k₂.lengths body.0 × Placed k₂.lengths node.0 × (element.0 < k₂.lengths.sorts)
+            reading_places =
                 let up : (p : ℕ) → Placed k.lengths p → Placed k₂.lengths p =
-                λ p h. placed_grown (lent ws₁ ns k₁.lengths) reading-asked.ready.nodes
+                λ p h. placed_grown (lent ws₁ ns k₁.lengths) reading_asked.ready.nodes
                 (lent ws₂ ns₂ k₂.lengths) grown₂.grows p (placed_grown W S.ready.nodes
                 (lent ws₁ ns k₁.lengths) grown.grows p h) in
                 (up body.0 hb, up node.0 hn, omega (arith, he, grown.grows.sorts, grown₂.grows.sorts))
 
-            pub readings-on : (ws₃ ns₃ bs₃ sc₃ : List ℕ) (a : Answer) → Comes ls z ws₂ ns₂ bs₂ sc₂ k₂ e (rest (readings_from (i + 1)) b₂) ws₃ ns₃ bs₃ sc₃ a
+            pub readings_on : (ws₃ ns₃ bs₃ sc₃ : List ℕ) (a : Answer) → Comes ls z ws₂ ns₂ bs₂ sc₂ k₂ e (rest (readings_from (i + 1)) b₂) ws₃ ns₃ bs₃ sc₃ a
                 → Comes ls z ws ns bs sc k e goal ws₃ ns₃ bs₃ sc₃ a
-            readings-on ws₃ ns₃ bs₃ sc₃ a x =
+            readings_on ws₃ ns₃ bs₃ sc₃ a x =
                 from_start ws₃ ns₃ bs₃ sc₃ a
-                (and_comes ls z ws₁ ns bs sc k₁ e reading-asked.ready.nodes first ws₂ ns₂ bs₂ sc₂ r d b
+                (and_comes ls z ws₁ ns bs sc k₁ e reading_asked.ready.nodes first ws₂ ns₂ bs₂ sc₂ r d b
                 (rest (readings_from (i + 1))) g y k₂ b₂ h ws₃ ns₃ bs₃ sc₃ a x)

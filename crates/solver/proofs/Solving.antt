@@ -81,18 +81,18 @@ module _ (ls : List ℕ) (z : Sizes) (ws ns bs sc : List ℕ) (k : State) (e : B
       on : (cs : List Constraint) → body cs path w ≡ solve (Unit {0}) nothing_met P cs path w
       on cs = ap (λ x. cond x (missed w) (body cs path w)) (sym f) ∙ to_cond cs
 
-      pub solve-leaf : z.constraints ≤ i → (ws₁ ns₁ bs₁ sc₁ : List ℕ) (r : Answer)
+      pub solve_leaf : z.constraints ≤ i → (ws₁ ns₁ bs₁ sc₁ : List ℕ) (r : Answer)
           → Comes ls z ws ns bs sc k e (leaf (Unit {0}) nothing_met P) ws₁ ns₁ bs₁ sc₁ r
           → Comes ls z ws ns bs sc k e (solve_from ls z i) ws₁ ns₁ bs₁ sc₁ r
-      solve-leaf l ws₁ ns₁ bs₁ sc₁ r d =
+      solve_leaf l ws₁ ns₁ bs₁ sc₁ r d =
           done_as ls z ws ns bs sc k e S.ready.nodes _ _ ws₁ ns₁ bs₁ sc₁ r
           (on [] ∙ ap (λ cs. solve (Unit {0}) nothing_met P cs path w) (sym (rows_none_left (constraint_at ls)
           z.constraints i l))) d
 
-      pub solve-on : i < z.constraints → (c : Constraint) → c ≡ constraint_at ls i → (ws₁ ns₁ bs₁ sc₁ : List ℕ) (r : Answer)
+      pub solve_on : i < z.constraints → (c : Constraint) → c ≡ constraint_at ls i → (ws₁ ns₁ bs₁ sc₁ : List ℕ) (r : Answer)
           → Comes ls z ws ns bs sc k e (step (Unit {0}) nothing_met P c (solve_from ls z (i + 1))) ws₁ ns₁ bs₁ sc₁ r
           → Comes ls z ws ns bs sc k e (solve_from ls z i) ws₁ ns₁ bs₁ sc₁ r
-      solve-on l c h ws₁ ns₁ bs₁ sc₁ r d =
+      solve_on l c h ws₁ ns₁ bs₁ sc₁ r d =
           done_as ls z ws ns bs sc k e S.ready.nodes _ _ ws₁ ns₁ bs₁ sc₁ r
           (ap (λ x. step (Unit {0}) nothing_met P x (solve_from ls z (i + 1)) path w) h
           ∙ (on (constraint_at ls i ∷ rest_from ls z (i + 1)) ∙ ap (λ cs. solve (Unit {0}) nothing_met P cs path w)

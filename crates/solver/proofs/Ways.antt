@@ -31,7 +31,7 @@ use Rattle.search_state.specs.declared.Tries.{Tries}
 use Rattle.search_state.specs.Inner.Memory.{problem_in, path_of, world_of, solve_from, next_of, source_at}
 use Rattle.search_state.specs.Inner.Leaves.{unify_pairs, PairsPlaced, path_after, try_at, tries_from}
 use Rattle.search_state.specs.Inner.Searching.{Searching, Done, Comes, trying}
-use Rattle.search_state.proofs.After.{searching_grown, misses, done_as, grown_missed, or-stops, or_comes}
+use Rattle.search_state.proofs.After.{searching_grown, misses, done_as, grown_missed, or_stops, or_comes}
 use Rattle.search_state.specs.Inner.Placed.{TryPlaced, TriesPlaced}
 use Rattle.search_steps.specs.Inner.Steps.{pairs_of}
 use Rattle.resolved_sort.specs.declared.ComplexSort.{ComplexSort}
@@ -110,12 +110,12 @@ module _ (ls : List ℕ) (z : Sizes) (ws ns bs sc : List ℕ) (k : State) (e : B
           (first_found (Unit {0}) nothing_met P (tries_from t (j + 1)) (next_of ls z next) path)) q h
           ∙ sym (ap (λ ts. first_found (Unit {0}) nothing_met P ts (next_of ls z next) path w) (rows_one_left (try_at t) t.count j l))
 
-      pub tries-stop : ((s : State) → r ≡ Missed s → ⊥) → Comes ls z ws ns bs sc k e goal ws₁ ns₁ bs₁ sc₁ r
-      tries-stop n = done_as ls z ws ns bs sc k e S.ready.nodes _ _ ws₁ ns₁ bs₁ sc₁ r to-or (or-stops ls z ws ns
+      pub tries_stop : ((s : State) → r ≡ Missed s → ⊥) → Comes ls z ws ns bs sc k e goal ws₁ ns₁ bs₁ sc₁ r
+      tries_stop n = done_as ls z ws ns bs sc k e S.ready.nodes _ _ ws₁ ns₁ bs₁ sc₁ r to-or (or_stops ls z ws ns
           bs sc k e S.ready.nodes first ws₁ ns₁ bs₁ sc₁ r d _ n)
 
-      pub tries-fine : (k₁ : State) → r ≡ Missed k₁ → TriesFine (lent ws₁ ns₁ k₁.lengths) t (j + 1)
-      tries-fine k₁ x = record { few = F.few; first = F.first; placed = all_grown (tries_from t (j + 1)) placed_here.1 }
+      pub tries_fine : (k₁ : State) → r ≡ Missed k₁ → TriesFine (lent ws₁ ns₁ k₁.lengths) t (j + 1)
+      tries_fine k₁ x = record { few = F.few; first = F.first; placed = all_grown (tries_from t (j + 1)) placed_here.1 }
         where
           grown : Grows (lent ws ns k.lengths) (lent ws₁ ns₁ k₁.lengths)
           grown = (grown_missed ls z ws ns bs sc k e S.ready.nodes first ws₁ ns₁ bs₁ sc₁ r d k₁ x).grows
@@ -129,10 +129,10 @@ module _ (ls : List ℕ) (z : Sizes) (ws ns bs sc : List ℕ) (k : State) (e : B
                     S.ready.nodes _ grown u.right a.1,
               ) (all_grown us rest)
 
-      pub tries-next : (k₁ : State) → r ≡ Missed k₁ → (ws₂ ns₂ bs₂ sc₂ : List ℕ) (r₂ : Answer)
+      pub tries_next : (k₁ : State) → r ≡ Missed k₁ → (ws₂ ns₂ bs₂ sc₂ : List ℕ) (r₂ : Answer)
           → Comes ls z ws₁ ns₁ bs₁ sc₁ k₁ e (first_found (Unit {0}) nothing_met P (tries_from t (j + 1)) (next_of ls z next)) ws₂ ns₂ bs₂ sc₂ r₂
           → Comes ls z ws ns bs sc k e goal ws₂ ns₂ bs₂ sc₂ r₂
-      tries-next k₁ x ws₂ ns₂ bs₂ sc₂ r₂ y =
+      tries_next k₁ x ws₂ ns₂ bs₂ sc₂ r₂ y =
           done_as ls z ws ns bs sc k e S.ready.nodes _ _ ws₂ ns₂ bs₂ sc₂ r₂ to-or
           (or_comes ls z ws ns bs sc k e S.ready.nodes first ws₁ ns₁ bs₁ sc₁ r d (first_found (Unit {0}) nothing_met
           P (tries_from t (j + 1)) (next_of ls z next)) k₁ x ws₂ ns₂ bs₂ sc₂ r₂ y)

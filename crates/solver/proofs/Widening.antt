@@ -32,7 +32,7 @@ use Rattle.search_state.specs.Inner.Memory.{problem_in, path_of, world_of, out_o
 use Rattle.search_state.specs.Inner.Leaves.{unify_pairs, path_after, tries_from, widenings, widened, FewTries, FindsWidenings, with_lengths, given_back_to}
 use Rattle.search_state.specs.Inner.Searching.{Searching, SearchGrown, Comes, trying}
 use Rattle.search_state.proofs.Parts.{same_path_refl}
-use Rattle.search_state.proofs.After.{searching_grown, done_as, or-stops, or_comes, grown_missed}
+use Rattle.search_state.proofs.After.{searching_grown, done_as, or_stops, or_comes, grown_missed}
 use Rattle.search_state.proofs.Ways.{tried, wider_by_widenings, given_back_in_answer, tries_are_placed, no_tries_makes_nothing, no_room_for_tries_grows}
 use Rattle.solver.specs.Inner.Asked.{TriesFine}
 use Rattle.solver.proofs.Ways.{after_missed}
@@ -84,12 +84,12 @@ module _ (ls : List ℕ) (z : Sizes) (ws ns bs sc : List ℕ) (k : State) (e : B
         }
 
     module _ (k₁ : State) (u : k₁ ≡ with_lengths k m) where
-      pub tries-asked : Searching ws₁ ns₁ bs sc ls z k₁ e 1 [] next
-      tries-asked = subst (λ (s : State). Searching ws₁ ns₁ bs sc ls z s e 1 [] next) (sym u) (searching_grown ls z ws
+      pub tries_asked : Searching ws₁ ns₁ bs sc ls z k₁ e 1 [] next
+      tries_asked = subst (λ (s : State). Searching ws₁ ns₁ bs sc ls z s e 1 [] next) (sym u) (searching_grown ls z ws
           ns bs sc k e 1 [] next S ws₁ ns₁ bs sc (with_lengths k m) grown refl refl)
 
-      pub tries-fine-here : TriesFine (lent ws₁ ns₁ k₁.lengths) t 0
-      tries-fine-here = subst (λ (s : State). TriesFine (lent ws₁ ns₁ s.lengths) t 0) (sym u) tries_fine_first
+      pub tries_fine_here : TriesFine (lent ws₁ ns₁ k₁.lengths) t 0
+      tries_fine_here = subst (λ (s : State). TriesFine (lent ws₁ ns₁ s.lengths) t 0) (sym u) tries_fine_first
 
       module _ (ws₂ ns₂ bs₂ sc₂ : List ℕ) (a : Answer) (d : Comes ls z ws₁ ns₁ bs sc k₁ e (first_found (Unit {0})
           nothing_met P (tries_from t 0) (next_of ls z next)) ws₂ ns₂ bs₂ sc₂ a) where
@@ -113,17 +113,17 @@ module _ (ls : List ℕ) (z : Sizes) (ws ns bs sc : List ℕ) (k : State) (e : B
             }
         back (Full c n) g = grows_trans W S.ready.nodes (lent ws₁ ns₁ m) (lent ws₂ ns₂ n) grown g
 
-        same-path-there : path_of ls z (binds_of bs m.variables) sc e ≡ path
-        same-path-there = ap (λ v. path_of ls z (binds_of bs v) sc e) grown.variables
+        same_path_there : path_of ls z (binds_of bs m.variables) sc e ≡ path
+        same_path_there = ap (λ v. path_of ls z (binds_of bs v) sc e) grown.variables
 
-        pub widen-tries : (o : Answer) → o ≡ given_back_to k.lengths a → Comes ls z ws ns bs sc k e goal ws₂ ns₂ bs₂ sc₂ o
-        widen-tries o v =
+        pub widen_tries : (o : Answer) → o ≡ given_back_to k.lengths a → Comes ls z ws ns bs sc k e goal ws₂ ns₂ bs₂ sc₂ o
+        widen_tries o v =
             record {
               says =
                   ap (out_of ls z ws₂ ns₂ sc₂) v
                   ∙ (given_back_in_answer ls z ws₂ ns₂ sc₂ a ws ns k.lengths
                   ∙ (ap (nodes_returned W) (d₁.says ∙ ap (λ p. first_found (Unit {0}) nothing_met P (tries_from t 0)
-                  (next_of ls z next) p (world_of ls z ws₁ ns₁ sc (with_lengths k m))) same-path-there)
+                  (next_of ls z next) p (world_of ls z ws₁ ns₁ sc (with_lengths k m))) same_path_there)
                   ∙ (ap (λ j. on_made (widened ws₁ ns₁ j) (tried (Unit {0}) nothing_met P (next_of ls z next) path w
                   l.0 r.0) missed w) (sym i) ∙ by_tries)));
               grown = subst (SearchGrown W ws₂ ns₂) (sym v) (back a d₁.grown);
@@ -176,7 +176,7 @@ module _ (ls : List ℕ) (z : Sizes) (ws ns bs sc : List ℕ) (k : State) (e : B
   to_or = refl
 
   pub widen_stop : ((s : State) → a ≡ Missed s → ⊥) → Comes ls z ws ns bs sc k e whole ws₁ ns₁ bs₁ sc₁ a
-  widen_stop n = done_as ls z ws ns bs sc k e S.ready.nodes _ _ ws₁ ns₁ bs₁ sc₁ a to_or (or-stops ls z ws ns bs sc
+  widen_stop n = done_as ls z ws ns bs sc k e S.ready.nodes _ _ ws₁ ns₁ bs₁ sc₁ a to_or (or_stops ls z ws ns bs sc
       k e S.ready.nodes equal ws₁ ns₁ bs₁ sc₁ a d _ n)
 
   module _ (k₁ : State) (q : a ≡ Missed k₁) where

@@ -6,6 +6,8 @@
 // Earlier components matter more (the arguments of an application come before the whole equation), so measures
 // compare from the front, and the least is the most specific typing. Disjunctions and comprehensions add none and are
 // tried exhaustively, so that a tie through different overloads is still seen as ambiguity.
+#![tactic(auto)]
+
 ghost use Rattle.std.specs.Prelude.{◌≡◌, false, [], ◌∷◌, ◌+◌, ◌-◌, ◌<◌, drop};
 ghost use Rattle.inference.specs.Constraints.{overload_at, rows_from};
 ghost use Rattle.inference.specs.Search.{widening, first_found, literal, every_reading, every_overload, sequence};

@@ -20,17 +20,17 @@ module _ {A : Type 0} (up : Bool) (f g l m : ℕ) (far near neither : A) where
     picks_neither n = rw (ne_eqb f g (λ e. n (ex ∙ (e ∙ sym ey))))
 
     module _ (e : x ≡ y) (b : Bool) (u v : ℕ) (eu : u ≡ l) (ev : v ≡ m) (eb : b ≡ le_level up u v) where
-      same-family : eqb f g ≡ true
-      same-family = eq-eqb f g (sym ex ∙ (e ∙ ey))
+      same_family : eqb f g ≡ true
+      same_family = eq-eqb f g (sym ex ∙ (e ∙ ey))
 
-      test-is : le_level up l m ≡ b
-      test-is = rw (eb, eu, ev)
+      test_is : le_level up l m ≡ b
+      test_is = rw (eb, eu, ev)
 
-      pub picks-far : b ≡ true → far ≡ picked
-      picks-far h = rw (same-family, test-is, h)
+      pub picks_far : b ≡ true → far ≡ picked
+      picks_far h = rw (same_family, test_is, h)
 
-      pub picks-near : b ≡ false → near ≡ picked
-      picks-near h = rw (same-family, test-is, h)
+      pub picks_near : b ≡ false → near ≡ picked
+      picks_near h = rw (same_family, test_is, h)
 
 by_tests : (f b : Bool) (o p : ComplexSort) → cond f (cond b (Is p) (Is o)) Nothing ≡ op_bound (cond f (some (cond b p o)) none)
 by_tests true true o p = refl

@@ -42,7 +42,7 @@ module _ (ws : List ℕ) (C : Counts) (up : Bool) (a b : SortId) (q : Asked ws C
 
     pub other : x ≡ Other → stored_at ws (Nothing C) ≡ bound_at up ws C.sorts C.entries a.0 b.0
     unfolding SortsSay
-    other e = law.bound-unlike ws C q.checked up a b q.lhs q.rhs d (say Other e)
+    other e = law.bound_unlike ws C q.checked up a b q.lhs q.rhs d (say Other e)
 
     module _ (l r : Sort) (e : x ≡ Primitives l r) where
       primitives : OfPrimitives ws C.sorts C.entries a.0 b.0 l r
@@ -52,7 +52,7 @@ module _ (ws : List ℕ) (C : Counts) (up : Bool) (a b : SortId) (q : Asked ws C
       pub number : (s : Side) → s ≡ side_of up l r → (y : Side) → s ≡ y → stored_at ws (law.side_answer a b C y) ≡
           bound_at up ws C.sorts C.entries a.0 b.0
       number s es y h =
-          ap (λ z. stored_at ws (law.side_answer a b C z)) (sym h) ∙ law.bound-number ws C q.checked up a b q.lhs q.rhs d l r primitives s es
+          ap (λ z. stored_at ws (law.side_answer a b C z)) (sym h) ∙ law.bound_number ws C q.checked up a b q.lhs q.rhs d l r primitives s es
 
     module _ (o : ComplexSort) (s : SortId) (p : ComplexSort) (t : SortId) (e : x ≡ Containers o s p t) where
       containers : OfContainers ws C.sorts C.entries a.0 b.0 o s p t
@@ -60,23 +60,23 @@ module _ (ws : List ℕ) (C : Counts) (up : Bool) (a b : SortId) (q : Asked ws C
       containers = say (Containers o s p t) e
 
       -- the parts are numbers of the list, below the containers
-      pub parts-asked : Asked ws C.sorts C.entries s.0 t.0
-      parts-asked = record { checked = q.checked; lhs = omega (arith, containers.lhs_below, q.lhs); rhs = omega (arith, containers.rhs_below, q.rhs) }
+      pub parts_asked : Asked ws C.sorts C.entries s.0 t.0
+      parts_asked = record { checked = q.checked; lhs = omega (arith, containers.lhs_below, q.lhs); rhs = omega (arith, containers.rhs_below, q.rhs) }
 
       pub parts_below : s.0 + t.0 + 2 ≤ a.0 + b.0
       parts_below = omega (arith, containers.lhs_below, containers.rhs_below)
 
       pub container : (vs : List ℕ) (r : Joined) → stored_at vs r ≡ container_at up ws C.sorts C.entries o s.0
           p t.0 → stored_at vs r ≡ bound_at up ws C.sorts C.entries a.0 b.0
-      container vs r h = h ∙ law.bound-container ws C q.checked up a b q.lhs q.rhs d o s p t containers
+      container vs r h = h ∙ law.bound_container ws C q.checked up a b q.lhs q.rhs d o s p t containers
 
     module _ (c ls : ℕ) (lr : SortId) (rs : ℕ) (rr : SortId) (e : x ≡ Functions c ls lr rs rr) where
-      pub functions-asked : TwoFunctions ws C.sorts C.entries a.0 b.0
-      functions-asked = domain.two_functions ws C.sorts C.entries a.0 b.0 q c ls lr rs rr (sym ex ∙ e)
+      pub functions_asked : TwoFunctions ws C.sorts C.entries a.0 b.0
+      functions_asked = domain.two_functions ws C.sorts C.entries a.0 b.0 q c ls lr rs rr (sym ex ∙ e)
 
       pub function : (vs : List ℕ) (r : Joined) → stored_at vs r ≡ function_at up ws C.sorts C.entries a.0
           b.0 → stored_at vs r ≡ bound_at up ws C.sorts C.entries a.0 b.0
-      function vs r h = h ∙ functions.bound_functions up ws C.sorts C.entries a.0 b.0 functions-asked d
+      function vs r h = h ∙ functions.bound_functions up ws C.sorts C.entries a.0 b.0 functions_asked d
 
 -- The arguments of two functions from the i-th on, as `bound_domain` reads them.
 module _ (ws : List ℕ) (C : Counts) (up : Bool) (a b : ℕ) (f : TwoFunctions ws C.sorts C.entries a b) (i : ℕ)
@@ -92,37 +92,37 @@ module _ (ws : List ℕ) (C : Counts) (up : Bool) (a b : ℕ) (f : TwoFunctions 
     few_left = omega (arith, one_left, domain.few_arguments ws C.sorts C.entries f.asked.checked a f.asked.lhs f.lhs_function)
 
     module _ (l r : SortId) (el : l.0 ≡ entry_at ws (start_at ws a + i)) (er : r.0 ≡ entry_at ws (start_at ws b + i)) where
-      pub arguments-asked : Asked ws C.sorts C.entries l.0 r.0
-      arguments-asked = rw (el, er) (domain.arguments_asked (not up) ws C a b f i (sort_numbers ids) one_left)
+      pub arguments_asked : Asked ws C.sorts C.entries l.0 r.0
+      arguments_asked = rw (el, er) (domain.arguments_asked (not up) ws C a b f i (sort_numbers ids) one_left)
 
-      pub arguments-smaller : l.0 + r.0 + 2 ≤ a + b
-      arguments-smaller =
+      pub arguments_smaller : l.0 + r.0 + 2 ≤ a + b
+      arguments_smaller =
           omega (arith, el, er, domain.x_below (not up) ws C a b f i (sort_numbers ids) one_left, domain.y_below (not up) ws C a b f i (sort_numbers ids) one_left)
 
       module _ (vs : List ℕ) (j : Joined) (ej : stored_at vs j ≡ bound_at (not up) ws C.sorts C.entries l.0 r.0) where
         by_entries : stored_at vs j ≡ bound_at (not up) ws C.sorts C.entries (entry_at ws (start_at ws a + i)) (entry_at ws (start_at ws b + i))
         by_entries = ej ∙ ap₂ (bound_at (not up) ws C.sorts C.entries) el er
 
-        pub domain-stops : (K : Counts) → j ≡ Nothing K
+        pub domain_stops : (K : Counts) → j ≡ Nothing K
             → stored_domain vs (record { ids = replicate 16 (record { 0 = 0 }); found = NotAll K }) ≡ bound_domain (not up) ws C.sorts
             C.entries a b i (sort_numbers ids)
-        domain-stops K z = ap (λ l. domain_left vs l (NotAll K)) (zeros_sort_numbers 16) ∙ domain.domain-stops (not up) ws C a b f i (sort_numbers ids) one_left vs j by_entries K z
+        domain_stops K z = ap (λ l. domain_left vs l (NotAll K)) (zeros_sort_numbers 16) ∙ domain.domain_stops (not up) ws C a b f i (sort_numbers ids) one_left vs j by_entries K z
 
-        pub domain-ends : j ≡ Full → stored_domain vs (record { ids = replicate 16 (record { 0 = 0 }); found = NoRoom }) ≡ bound_domain
+        pub domain_ends : j ≡ Full → stored_domain vs (record { ids = replicate 16 (record { 0 = 0 }); found = NoRoom }) ≡ bound_domain
             (not up) ws C.sorts C.entries a b i (sort_numbers ids)
-        domain-ends z = ap (λ l. domain_left vs l NoRoom) (zeros_sort_numbers 16) ∙ domain.domain-ends (not up) ws C a b f i (sort_numbers ids) one_left vs j by_entries z
+        domain_ends z = ap (λ l. domain_left vs l NoRoom) (zeros_sort_numbers 16) ∙ domain.domain_ends (not up) ws C a b f i (sort_numbers ids) one_left vs j by_entries z
 
         module _ (c : SortId) (K : Counts) (z : j ≡ At c K) where
-          pub domain-next : TwoFunctions vs K.sorts K.entries a b × (i + 1 ≤ count_at vs a)
-          domain-next = (
-            domain.domain-next (not up) ws C a b f i (sort_numbers ids) one_left vs j by_entries c K z,
-            omega (arith, one_left, domain.count-unchanged (not up) ws C a b f i (sort_numbers ids) one_left vs j by_entries c K z),
+          pub domain_next : TwoFunctions vs K.sorts K.entries a b × (i + 1 ≤ count_at vs a)
+          domain_next = (
+            domain.domain_next (not up) ws C a b f i (sort_numbers ids) one_left vs j by_entries c K z,
+            omega (arith, one_left, domain.count_unchanged (not up) ws C a b f i (sort_numbers ids) one_left vs j by_entries c K z),
           )
 
-          pub domain-made : (us : List ℕ) (d : Domain) → stored_domain us d ≡ bound_domain (not up) vs K.sorts K.entries a b (i + 1) (sort_numbers (set ids i c))
+          pub domain_made : (us : List ℕ) (d : Domain) → stored_domain us d ≡ bound_domain (not up) vs K.sorts K.entries a b (i + 1) (sort_numbers (set ids i c))
               → stored_domain us d ≡ bound_domain (not up) ws C.sorts C.entries a b i (sort_numbers ids)
-          domain-made us d q =
-              domain.domain-made (not up) ws C a b f i (sort_numbers ids) one_left vs j by_entries c K z us d
+          domain_made us d q =
+              domain.domain_made (not up) ws C a b f i (sort_numbers ids) one_left vs j by_entries c K z us d
               (q ∙ ap (bound_domain (not up) vs K.sorts K.entries a b (i + 1)) (set_sort_numbers ids i c))
 
 -- Two functions, as `bound_function` reads them.
@@ -156,26 +156,26 @@ module _ (ws : List ℕ) (C : Counts) (up : Bool) (a b : ℕ) (f : TwoFunctions 
       by_parts : stored_at us j ≡ bound_at up vs K.sorts K.entries (part_at ws a) (part_at ws b)
       by_parts = ej ∙ ap₂ (bound_at up vs K.sorts K.entries) ea eb
 
-      pub range-stops : (K₂ : Counts) → j ≡ Nothing K₂ → stored_at us (Nothing K₂) ≡ function_at up ws C.sorts C.entries a b
-      range-stops = functions.range-stops up ws C a b f vs d q K z us j by_parts
+      pub range_stops : (K₂ : Counts) → j ≡ Nothing K₂ → stored_at us (Nothing K₂) ≡ function_at up ws C.sorts C.entries a b
+      range_stops = functions.range_stops up ws C a b f vs d q K z us j by_parts
 
-      pub range-ends : j ≡ Full → stored_at us Full ≡ function_at up ws C.sorts C.entries a b
-      range-ends = functions.range-ends up ws C a b f vs d q K z us j by_parts
+      pub range_ends : j ≡ Full → stored_at us Full ≡ function_at up ws C.sorts C.entries a b
+      range_ends = functions.range_ends up ws C a b f vs d q K z us j by_parts
 
       module _ (c : SortId) (K₂ : Counts) (y : j ≡ At c K₂) where
-        pub whole-asked : Checked us K₂.sorts K₂.entries × (c.0 < K₂.sorts) × (count ≤ 16) × AllBelow K₂.sorts (take count (sort_numbers d.ids))
-        whole-asked = (
-          functions.function-checked up ws C a b f vs d q K z us j by_parts c K₂ y,
-          functions.function-range-below up ws C a b f vs d q K z us j by_parts c K₂ y,
+        pub whole_asked : Checked us K₂.sorts K₂.entries × (c.0 < K₂.sorts) × (count ≤ 16) × AllBelow K₂.sorts (take count (sort_numbers d.ids))
+        whole_asked = (
+          functions.function_checked up ws C a b f vs d q K z us j by_parts c K₂ y,
+          functions.function_range_below up ws C a b f vs d q K z us j by_parts c K₂ y,
           omega (arith, ec, domain.few_arguments ws C.sorts C.entries f.asked.checked a f.asked.lhs f.lhs_function),
-          rw ec (functions.function-ids-below up ws C a b f vs d q K z us j by_parts c K₂ y),
+          rw ec (functions.function_ids_below up ws C a b f vs d q K z us j by_parts c K₂ y),
         )
 
-        pub whole-made : (zs : List ℕ) (w : Joined)
+        pub whole_made : (zs : List ℕ) (w : Joined)
             → stored_at zs w ≡ intern_at us K₂.sorts K₂.entries (functionSort (look_all (trees us K₂.sorts)
             (take count (sort_numbers d.ids))) (look (trees us K₂.sorts) c.0))
             → stored_at zs w ≡ function_at up ws C.sorts C.entries a b
-        whole-made zs w h =
-            functions.function-made up ws C a b f vs d q K z us j by_parts c K₂ y zs w
+        whole_made zs w h =
+            functions.function_made up ws C a b f vs d q K z us j by_parts c K₂ y zs w
             (h ∙ ap (λ m. intern_at us K₂.sorts K₂.entries (functionSort (look_all (trees us K₂.sorts)
             (take m (sort_numbers d.ids))) (look (trees us K₂.sorts) c.0))) ec)

@@ -1,6 +1,8 @@
 // Join and meet of merc's resolved sorts over lent storage. They call each other: the join of two functions takes the
 // meet of their arguments, and the meet their join. New sorts are appended; where the answer is
 // none, what was made stays.
+#![tactic(auto)]
+
 ghost use Rattle.std.specs.Prelude.{◌≡◌, true, false, not, ◌+◌, ◌*◌, ◌≤◌};
 ghost use Rattle.resolved_sort.specs.Tree.{primitive, family, level, family_op, level_op};
 ghost use Rattle.resolved_sort.specs.Order.{le_level, bound_op as boundOfOps};

@@ -1,4 +1,6 @@
 // Checks 1 to 4 of document 01 over the lent sort storage, and the first of them that fails.
+#![tactic(auto)]
+
 ghost use Rattle.std.specs.Prelude.{◌≡◌, ◌+◌, ◌≤◌};
 ghost use Rattle.resolved_sort.specs.Storage.{max_sorts};
 ghost use Rattle.resolved_sort.specs.Checks.{first_failing, sort_checks, within_lent, fixed_six, parts_below, row_fine_of};

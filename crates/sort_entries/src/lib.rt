@@ -1,5 +1,7 @@
 // The entries of the sorts layer. Each takes the lent sort storage and its counts, tests them itself, and has no
 // `requires`: whatever a caller hands in, the answer and the storage at exit are the defined ones.
+#![tactic(auto)]
+
 ghost use Rattle.std.specs.Prelude.{◌≡◌, true, false, ◌+◌, ◌*◌, ◌<◌, ◌≤◌, length};
 ghost use Rattle.resolved_sort.specs.Storage.{max_sorts, max_entries, full_length};
 ghost use Rattle.resolved_sort.specs.Checks.{first_failing, pair_checks};

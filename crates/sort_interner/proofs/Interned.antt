@@ -29,14 +29,14 @@ module _ (kind : ℕ) (part : SortId) (ids : List SortId) (count : ℕ) (len : l
     intern_is_found h = rw (← found, lt-ltb at.0 c.sorts h)
 
     module _ (none : c.sorts ≤ at.0) where
-      pub intern-is-full-by-rows : 1024 ≤ c.sorts → stored_at ws Full ≡ intern_row ws c.sorts c.entries (given_row kind part ids count)
+      pub intern_is_full_by_rows : 1024 ≤ c.sorts → stored_at ws Full ≡ intern_row ws c.sorts c.entries (given_row kind part ids count)
       unfolding intern_row
-      intern-is-full-by-rows h = rw (← found, le-ltb at.0 c.sorts none, le-ltb c.sorts 1024 h)
+      intern_is_full_by_rows h = rw (← found, le-ltb at.0 c.sorts none, le-ltb c.sorts 1024 h)
 
       module _ (h : c.sorts < 1024) where
-        pub intern-is-full-by-entries : 4096 < c.entries + count → stored_at ws Full ≡ intern_row ws c.sorts c.entries (given_row kind part ids count)
+        pub intern_is_full_by_entries : 4096 < c.entries + count → stored_at ws Full ≡ intern_row ws c.sorts c.entries (given_row kind part ids count)
         unfolding intern_row
-        intern-is-full-by-entries k = rw (
+        intern_is_full_by_entries k = rw (
           ← found,
           le-ltb at.0 c.sorts none,
           lt-ltb c.sorts 1024 h,
@@ -44,14 +44,14 @@ module _ (kind : ℕ) (part : SortId) (ids : List SortId) (count : ℕ) (len : l
           lt-leb (c.entries + count) 4096 k,
         )
 
-        pub intern-is-appended : c.entries + count ≤ 4096 → (vs : List ℕ) → vs ≡ append_row ws c.sorts c.entries (given_row kind part ids count)
+        pub intern_is_appended : c.entries + count ≤ 4096 → (vs : List ℕ) → vs ≡ append_row ws c.sorts c.entries (given_row kind part ids count)
             → stored_at vs (At (record { 0 = c.sorts }) (record {
               sorts = c.sorts + 1;
               entries = c.entries +
                   count;
             })) ≡ intern_row ws c.sorts c.entries (given_row kind part ids count)
         unfolding intern_row
-        intern-is-appended k vs e = rw (
+        intern_is_appended k vs e = rw (
           ← found,
           le-ltb at.0 c.sorts none,
           lt-ltb c.sorts 1024 h,

@@ -111,9 +111,9 @@ module _ (ws : List ℕ) (ids : List SortId) (s n : ℕ) (len : length ids ≡ 1
       at : (get_or ids k (record { 0 = 0 })).0 ≡ get_or given k 0
       at = get_d_sort_numbers ids k ∙ sym (get_or-take n (sort_numbers ids) k 0 h)
 
-      pub args-same-from-next : x ≡ (get_or ids k (record { 0 = 0 })).0
+      pub args_same_from_next : x ≡ (get_or ids k (record { 0 = 0 })).0
           → same_words (entries_of ws s n) (take n (sort_numbers ids)) ≡ same_from (k + 1) (entries_of ws s n) (take n (sort_numbers ids))
-      args-same-from-next e = run_same_from_next ws given s n k (length_ids ids n len few) _ inv h x _ ex at e
+      args_same_from_next e = run_same_from_next ws given s n k (length_ids ids n len few) _ inv h x _ ex at e
 
-      pub args-differ : (x ≡ (get_or ids k (record { 0 = 0 })).0 → ⊥) → (m : ℕ) → m ≡ n → false ≡ same_words (entries_of ws s m) (take n (sort_numbers ids))
-      args-differ e m same = rw same (run_differs ws given s n k (length_ids ids n len few) _ inv h x _ ex at e)
+      pub args_differ : (x ≡ (get_or ids k (record { 0 = 0 })).0 → ⊥) → (m : ℕ) → m ≡ n → false ≡ same_words (entries_of ws s m) (take n (sort_numbers ids))
+      args_differ e m same = rw same (run_differs ws given s n k (length_ids ids n len few) _ inv h x _ ex at e)

@@ -1,5 +1,7 @@
 // Merc's SortInterner over lent storage: one slice of 16-bit words, rows of four words first and argument entries
 // behind them. A row is read, found or appended, and sorts made are given back. Interning stands here alone.
+#![tactic(auto)]
+
 ghost use Rattle.std.specs.Prelude.{◌≡◌, cond, ◌+◌, ◌≤◌, ◌<◌, length, take, eqb};
 ghost use Rattle.std.proofs.lemmas.List.Edits.{sets};
 ghost use Rattle.resolved_sort.specs.Storage.{max_sorts, max_entries, max_arguments, entries_at, full_length};

@@ -74,38 +74,38 @@ module _ (l : List ℕ) (at from : ℕ) (skipped : from ≡ offset l (skip (drop
           (omega arith)))
 
       module _ (no : q ≡ false) where
-        pub an-open-bracket : get_or l from 0 ≡ 40 → found Open from (from + 1) ≡ lexeme_of l at
+        pub an_open_bracket : get_or l from 0 ≡ 40 → found Open from (from + 1) ≡ lexeme_of l at
         unfolding lexeme
-        an-open-bracket b = sym (token_from _ (start_open is_letter _ _ (sym e ∙ no) b) ∙ at_positions Open (from + 1) (omega arith))
+        an_open_bracket b = sym (token_from _ (start_open is_letter _ _ (sym e ∙ no) b) ∙ at_positions Open (from + 1) (omega arith))
 
-        pub a-close-bracket : get_or l from 0 ≡ 41 → found Close from (from + 1) ≡ lexeme_of l at
+        pub a_close_bracket : get_or l from 0 ≡ 41 → found Close from (from + 1) ≡ lexeme_of l at
         unfolding lexeme
-        a-close-bracket b = sym (token_from _ (start_close is_letter _ _ (sym e ∙ no) b) ∙ at_positions Close (from + 1) (omega arith))
+        a_close_bracket b = sym (token_from _ (start_close is_letter _ _ (sym e ∙ no) b) ∙ at_positions Close (from + 1) (omega arith))
 
-        pub a-hash : get_or l from 0 ≡ 35 → found Hash from (from + 1) ≡ lexeme_of l at
+        pub a_hash : get_or l from 0 ≡ 35 → found Hash from (from + 1) ≡ lexeme_of l at
         unfolding lexeme
-        a-hash b = sym (token_from _ (start_hash is_letter _ _ (sym e ∙ no) b) ∙ at_positions Hash (from + 1) (omega arith))
+        a_hash b = sym (token_from _ (start_hash is_letter _ _ (sym e ∙ no) b) ∙ at_positions Hash (from + 1) (omega arith))
 
         bad-token : start is_letter (get_or l from 0) (drop (from + 1) l) ≡ bad → found Bad from from ≡ lexeme_of l at
         unfolding lexeme
         bad-token b = sym (token_from bad b ∙ at_positions Bad from (omega arith))
 
-        pub no-token : (get_or l from 0 ≡ 40 → ⊥) → (get_or l from 0 ≡ 41 → ⊥) → (get_or l from 0 ≡ 35 → ⊥)
+        pub no_token : (get_or l from 0 ≡ 40 → ⊥) → (get_or l from 0 ≡ 41 → ⊥) → (get_or l from 0 ≡ 35 → ⊥)
             → (get_or l from 0 ≡ 45 → ⊥) → found Bad from from ≡ lexeme_of l at
-        no-token a b c d = bad-token (start_bad is_letter _ _ (sym e ∙ no) a b c d)
+        no_token a b c d = bad-token (start_bad is_letter _ _ (sym e ∙ no) a b c d)
 
         module _ (b : get_or l from 0 ≡ 45) where
-          pub a-dash-at-the-end : length l ≤ from + 1 → found Bad from from ≡ lexeme_of l at
-          a-dash-at-the-end k = bad-token (start_dash is_letter _ _ (sym e ∙ no) b ∙ ap dash (drop_of_length-le l k))
+          pub a_dash_at_the_end : length l ≤ from + 1 → found Bad from from ≡ lexeme_of l at
+          a_dash_at_the_end k = bad-token (start_dash is_letter _ _ (sym e ∙ no) b ∙ ap dash (drop_of_length-le l k))
 
           module _ (k : from + 1 < length l) where
-            after-dash : drop (from + 1) l ≡ get_or l (from + 1) 0 ∷ drop (from + 2) l
-            after-dash = let two : suc (from + 1) ≡ from + 2 = omega arith in drop-cons l (from + 1) 0 k ∙ ap (λ (i : ℕ). get_or l (from + 1) 0 ∷ drop i l) two
+            after_dash : drop (from + 1) l ≡ get_or l (from + 1) 0 ∷ drop (from + 2) l
+            after_dash = let two : suc (from + 1) ≡ from + 2 = omega arith in drop-cons l (from + 1) 0 k ∙ ap (λ (i : ℕ). get_or l (from + 1) 0 ∷ drop i l) two
 
-            pub a-dash-alone : (get_or l (from + 1) 0 ≡ 62 → ⊥) → found Bad from from ≡ lexeme_of l at
-            a-dash-alone f = bad-token (start_dash is_letter _ _ (sym e ∙ no) b ∙ ap dash after-dash ∙ rw (ne_eqb (get_or l (from + 1) 0) 62 f))
+            pub a_dash_alone : (get_or l (from + 1) 0 ≡ 62 → ⊥) → found Bad from from ≡ lexeme_of l at
+            a_dash_alone f = bad-token (start_dash is_letter _ _ (sym e ∙ no) b ∙ ap dash after_dash ∙ rw (ne_eqb (get_or l (from + 1) 0) 62 f))
 
-            pub an-arrow : get_or l (from + 1) 0 ≡ 62 → found Arrow from (from + 2) ≡ lexeme_of l at
+            pub an_arrow : get_or l (from + 1) 0 ≡ 62 → found Arrow from (from + 2) ≡ lexeme_of l at
             unfolding lexeme
-            an-arrow f = sym (token_from (arrow (drop (from + 2) l)) (start_dash is_letter _ _ (sym e ∙ no) b ∙ ap dash
-                after-dash ∙ rw (eq-eqb (get_or l (from + 1) 0) 62 f)) ∙ at_positions Arrow (from + 2) (omega arith))
+            an_arrow f = sym (token_from (arrow (drop (from + 2) l)) (start_dash is_letter _ _ (sym e ∙ no) b ∙ ap dash
+                after_dash ∙ rw (eq-eqb (get_or l (from + 1) 0) 62 f)) ∙ at_positions Arrow (from + 2) (omega arith))

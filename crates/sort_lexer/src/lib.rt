@@ -1,5 +1,7 @@
 // Tokens of a line of sort text, over the line's bytes and a position. A position past the end counts as the end, so no
 // function here has a precondition.
+#![tactic(auto)]
+
 ghost use Rattle.std.specs.Prelude.{◌≡◌, ◌-◌, take, drop};
 ghost use Rattle.sort_text.specs.Tokens.{is_letter, skip, past};
 ghost use Rattle.sort_text.specs.Parse.{same_bytes, meaning};

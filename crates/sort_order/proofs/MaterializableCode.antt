@@ -65,16 +65,16 @@ module _ (ws : List ℕ) (n : ℕ) where
           ap₂ materializable h.lhs h.rhs
           ∙ ap (◌&&◌ (le_op true o p)) (same_by_number k (omega (arith, h.lhs_below)) (omega (arith, h.rhs_below)))
 
-      pub materializable-of-containers : {x : PartialOrder} {y : Bool} → s.0 ≡ t.0 → x ≡ order_of (le_op true o p) (le_op false o p) → y ≡ is_below x
+      pub materializable_of_containers : {x : PartialOrder} {y : Bool} → s.0 ≡ t.0 → x ≡ order_of (le_op true o p) (le_op false o p) → y ≡ is_below x
           → y ≡ materializable (tree_at ws n a) (tree_at ws n b)
-      materializable-of-containers q f g =
+      materializable_of_containers q f g =
           g
           ∙ (ap is_below f
           ∙ (below_of_ops o p (λ r. differ h.lhs h.rhs (ap₂ container r (ap (tree_at ws n) q)))
           ∙ sym (by_parts ∙ (ap (◌&&◌ (le_op true o p)) (eq-eqb _ _ q) ∙ and-true (le_op true o p)))))
 
-      pub not-materializable-containers : (s.0 ≡ t.0 → ⊥) → false ≡ materializable (tree_at ws n a) (tree_at ws n b)
-      not-materializable-containers q = sym (by_parts ∙ (ap (◌&&◌ (le_op true o p)) (ne_eqb _ _ q) ∙ and-false (le_op true o p)))
+      pub not_materializable_containers : (s.0 ≡ t.0 → ⊥) → false ≡ materializable (tree_at ws n a) (tree_at ws n b)
+      not_materializable_containers q = sym (by_parts ∙ (ap (◌&&◌ (le_op true o p)) (ne_eqb _ _ q) ∙ and-false (le_op true o p)))
 
     module _ {c ls rs : ℕ} {lr rr : SortId} (h : OfFunctions ws n e a b c ls lr rs rr) {x : Bool} (f : x ≡ same_words
         (entries_of ws ls c) (entries_of ws rs c)) where
@@ -85,9 +85,9 @@ module _ (ws : List ℕ) (n : ℕ) where
           ∙ ap (λ (z : Bool). z && materializable (tree_at ws n lr.0) (tree_at ws n rr.0))
           (sames_by_entries k (omega arith) (omega arith) (entries_of ws ls c) (entries_of ws rs c) h.lhs_args h.rhs_args ∙ sym f)
 
-      pub materializable-of-functions : {y : Bool} → x ≡ true → y ≡ materializable (tree_at ws n lr.0)
+      pub materializable_of_functions : {y : Bool} → x ≡ true → y ≡ materializable (tree_at ws n lr.0)
           (tree_at ws n rr.0) → y ≡ materializable (tree_at ws n a) (tree_at ws n b)
-      materializable-of-functions q g = g ∙ sym (by_entries ∙ ap (λ (z : Bool). z && materializable (tree_at ws n lr.0) (tree_at ws n rr.0)) q)
+      materializable_of_functions q g = g ∙ sym (by_entries ∙ ap (λ (z : Bool). z && materializable (tree_at ws n lr.0) (tree_at ws n rr.0)) q)
 
-      pub not-materializable-functions : x ≡ false → false ≡ materializable (tree_at ws n a) (tree_at ws n b)
-      not-materializable-functions q = sym (by_entries ∙ ap (λ (z : Bool). z && materializable (tree_at ws n lr.0) (tree_at ws n rr.0)) q)
+      pub not_materializable_functions : x ≡ false → false ≡ materializable (tree_at ws n a) (tree_at ws n b)
+      not_materializable_functions q = sym (by_entries ∙ ap (λ (z : Bool). z && materializable (tree_at ws n lr.0) (tree_at ws n rr.0)) q)

@@ -1,4 +1,6 @@
 // The order of merc's resolved sorts over lent storage: partial_cmp, widening_distance and is_materializable.
+#![tactic(auto)]
+
 ghost use Rattle.std.specs.Prelude.{◌≡◌, true, false, ◌-◌, ◌<◌, leb};
 ghost use Rattle.std.proofs.Math.Option.{some};
 ghost use Rattle.resolved_sort.specs.Tree.{primitive, flat};

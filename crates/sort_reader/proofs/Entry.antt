@@ -70,7 +70,7 @@ module _ (ws : List ℕ) (n e : ℕ) (bs : List ℕ) (t : Tested) (et : t ≡ te
 
       pub line_long : 200 < length bs → Refused 19 ≡ tested_of (first_failing (read_checks ws n e bs))
       unfolding short_line
-      line-long l = ap tested_of (sym (past-14 ∙ first_fails nineteen _ (lt-leb (length bs) 200 l)))
+      line_long l = ap tested_of (sym (past-14 ∙ first_fails nineteen _ (lt-leb (length bs) 200 l)))
 
       pub all_pass : length bs ≤ 200 → Passed ≡ tested_of (first_failing (read_checks ws n e bs))
       unfolding short_line first_failing
@@ -181,11 +181,11 @@ module _ (ws : List ℕ) (n e : ℕ) (bs : List ℕ) (q : Passes ws n e bs) wher
       abbrev it : Recognises m
       it = recognises_at (line bs) refl p m (subst (Says bs 0 (length bs) [] (line bs) out) i s)
 
-      pub few-steps : m ≤ 200
-      few-steps = omega (arith, it.few, q.short)
+      pub few_steps : m ≤ 200
+      few_steps = omega (arith, it.few, q.short)
 
-      short-steps : Short (postfix it.sort)
-      short-steps = line_steps_short bs it.left it.sort it.is
+      short_steps : Short (postfix it.sort)
+      short_steps = line_steps_short bs it.left it.sort it.is
 
       pub runs : (ids : List SortId) → Running ws n e (take m out) 0 ids 0
       runs ids =
@@ -194,8 +194,8 @@ module _ (ws : List ℕ) (n e : ℕ) (bs : List ℕ) (q : Passes ws n e bs) wher
             has_six = has_six;
             six = look_six;
             numbers = λ d l. absurd (omega (arith, l));
-            room = omega (arith, few-steps, length-take m out);
-            steps_left = subst Short (sym it.written) short-steps;
+            room = omega (arith, few_steps, length-take m out);
+            steps_left = subst Short (sym it.written) short_steps;
           }
 
       run_is : (ids : List SortId) → run_at ws n e (drop 0 (take m out)) ids 0 ≡ stored ws n e (store it.sort (sorts_of ws n e))
@@ -209,11 +209,11 @@ module _ (ws : List ℕ) (n e : ℕ) (bs : List ℕ) (q : Passes ws n e bs) wher
       by-outcome (nothing S) h = ap (λ us. read_left us NoRoom) (made_is_given_back ws n e q.checked S h.0)
       by-outcome (full S) h = ap (λ us. read_left us NoRoom) (made_is_given_back ws n e q.checked S h.0)
 
-      pub read-stored : (ids : List SortId) (vs : List ℕ) (j : Joined) → stored_at vs j ≡ run_at ws n e (drop 0 (take m out)) ids 0
+      pub read_stored : (ids : List SortId) (vs : List ℕ) (j : Joined) → stored_at vs j ≡ run_at ws n e (drop 0 (take m out)) ids 0
           → (us : List ℕ) (a : Read) → read_left us a ≡ kept_or_no_room vs n e j
           → read_left us a ≡ read_as_of ws n e bs (line bs)
       unfolding read_as_of
-      read-stored ids vs j f us a g =
+      read_stored ids vs j f us a g =
           g ∙ (ap (λ x. kept_or_no_room x.words n e x.answer) (f ∙ run_is ids) ∙
           (by-outcome (store it.sort (sorts_of ws n e)) (store_kept it.left it.sort it.is) ∙ sym
           (ap (read_as_of ws n e bs) it.is)))

@@ -217,9 +217,9 @@ module _ (ws : List ℕ) (C : Counts) (ops : List ℕ) (i : ℕ) (ids : List Sor
             steps_left = short_left.1;
           }
 
-      pub push-goes-on : (vs : List ℕ) (r : Joined) → stored_at vs r ≡ run_at ws n e later (set ids depth (record { 0 = op })) (depth + 1) → stored_at vs r ≡ whole
+      pub push_goes_on : (vs : List ℕ) (r : Joined) → stored_at vs r ≡ run_at ws n e later (set ids depth (record { 0 = op })) (depth + 1) → stored_at vs r ≡ whole
       unfolding run_at
-      push-goes-on vs r g =
+      push_goes_on vs r g =
           g ∙ (ap (λ st. stored ws n e (steps later st S)) (stack_top T ids depth (record { 0 = op }) (omega (arith, len, q.room)) ∙
           ap (λ t. t ∷ stack_of T ids depth) (q.six op l))
           ∙ sym (whole_is ∙ ap (λ O. stored ws n e (O then (λ st S. steps later st S))) (push_step op (stack_of T ids depth) S l)))
@@ -227,8 +227,8 @@ module _ (ws : List ℕ) (C : Counts) (ops : List ℕ) (i : ℕ) (ids : List Sor
     -- a sort interned, and then on the stack at base
     module _ (t : Tree) (base : ℕ) (hb : base < depth) (p : parts_in T t ≡ true) (few : need t ≤ 16)
         (is : whole ≡ stored ws n e (intern t S then (λ u S. steps later (u ∷ stack_of T ids base) S))) (vs : List ℕ) where
-      interned-kept : SortsKept ws n e InTree S (intern t S)
-      interned-kept = intern_kept ws n e S (grown_none ws n e q.checked) t p few
+      interned_kept : SortsKept ws n e InTree S (intern t S)
+      interned_kept = intern_kept ws n e S (grown_none ws n e q.checked) t p few
 
       module _ (c : SortId) (K : Counts) (ej : stored_at vs (At c K) ≡ intern_at ws n e t) where
         to-intern : stored_at vs (At c K) ≡ stored ws n e (intern t S)
@@ -236,10 +236,10 @@ module _ (ws : List ℕ) (C : Counts) (ops : List ℕ) (i : ℕ) (ids : List Sor
         to-intern = ej
 
         there : Reached ws n e S (intern t S) vs c K
-        there = reached ws n e S (intern t S) interned-kept vs c K to-intern
+        there = reached ws n e S (intern t S) interned_kept vs c K to-intern
 
-        look-there : (x : ℕ) → x < n → look (trees vs K.sorts) x ≡ look T x
-        look-there x l =
+        look_there : (x : ℕ) → x < n → look (trees vs K.sorts) x ≡ look T x
+        look_there x l =
             ap (λ U. look U x) (reached_trees ws n e S (intern t S) vs c K there ∙ there.extends.1) ∙ look_grows T
             there.extends.0 x (omega (arith, length_trees ws n))
 
@@ -251,7 +251,7 @@ module _ (ws : List ℕ) (C : Counts) (ops : List ℕ) (i : ℕ) (ids : List Sor
             record {
               checked = reached_checked ws n e S (intern t S) vs c K there;
               has_six = omega (arith, q.has_six, more);
-              six = λ k l. look-there k (omega (arith, q.has_six)) ∙ q.six k l;
+              six = λ k l. look_there k (omega (arith, q.has_six)) ∙ q.six k l;
               numbers = λ j m. set_below ids base c K.sorts (omega (arith, len, q.room)) (reached_below ws n e S (intern t S) vs c K there)
                   (λ j l. omega (arith, q.numbers j (omega arith), more)) j m (ℕ_discrete j base);
               room = omega (arith, q.room);
@@ -265,7 +265,7 @@ module _ (ws : List ℕ) (C : Counts) (ops : List ℕ) (i : ℕ) (ids : List Sor
             ap₂ (λ st L. stored vs K.sorts K.entries (steps later st L))
             (stack_top (trees vs K.sorts) ids base c (omega (arith, len, q.room))
             ∙ ap₂ ◌∷◌ (reached_sort ws n e S (intern t S) vs c K there)
-            (stack_agrees (trees vs K.sorts) T ids base n (λ j l. q.numbers j (omega arith)) look-there))
+            (stack_agrees (trees vs K.sorts) T ids base n (λ j l. q.numbers j (omega arith)) look_there))
             (reached_list ws n e S (intern t S) vs c K there)
 
         after_is : stored vs K.sorts K.entries (steps later (there.sort ∷ stack_of T ids base) there.sorts)
@@ -300,15 +300,15 @@ module _ (ws : List ℕ) (C : Counts) (ops : List ℕ) (i : ℕ) (ids : List Sor
       unfolding intern_at
       to-stored j f = f
 
-      pub gone-on : (j : Joined) → stored_at vs j ≡ intern_at ws n e t → (us : List ℕ) (r : Joined)
+      pub gone_on : (j : Joined) → stored_at vs j ≡ intern_at ws n e t → (us : List ℕ) (r : Joined)
           → stored_at us r ≡ go_on vs ops i ids base j → stored_at us r ≡ whole
       unfolding go_on
-      gone-on (At c K) f us r g = made-goes-on c K f us r g
-      gone-on (Nothing K) f us r g =
+      gone_on (At c K) f us r g = made-goes-on c K f us r g
+      gone_on (Nothing K) f us r g =
           let x = stopped ws n e (intern t S) vs K (to-stored (Nothing K) f) in
           g ∙ (to-stored (Nothing K) f ∙ (ap (stored ws n e) x.1 ∙ sym
           (is ∙ ap (λ O. stored ws n e (O then (λ u S. steps later (u ∷ stack_of T ids base) S))) x.1)))
-      gone-on Full f us r g =
+      gone_on Full f us r g =
           let x = ended ws n e (intern t S) vs (to-stored Full f) in
           g ∙ (to-stored Full f ∙ (ap (stored ws n e) x.1 ∙ sym
           (is ∙ ap (λ O. stored ws n e (O then (λ u S. steps later (u ∷ stack_of T ids base) S))) x.1)))
@@ -318,11 +318,11 @@ module _ (ws : List ℕ) (C : Counts) (ops : List ℕ) (i : ℕ) (ids : List Sor
       abbrev last : ℕ
       last = id_at ids (depth - 1)
 
-      pub last-below : last < n
-      last-below = q.numbers (depth - 1) (omega arith)
+      pub last_below : last < n
+      last_below = q.numbers (depth - 1) (omega arith)
 
-      pub container-is : whole ≡ stored ws n e (intern (container (op_of (op - 6)) (look T last)) S then (λ u S. steps later (u ∷ stack_of T ids (depth - 1)) S))
-      container-is =
+      pub container_is : whole ≡ stored ws n e (intern (container (op_of (op - 6)) (look T last)) S then (λ u S. steps later (u ∷ stack_of T ids (depth - 1)) S))
+      container_is =
           whole_is ∙ (ap (λ st. stored ws n e (step_on op st S then (λ st S. steps later st S))) (stack_cons (depth - 1) (omega arith))
           ∙ (ap (λ O. stored ws n e (O then (λ st S. steps later st S))) (over_step op (look T last) (stack_of T ids (depth - 1)) S l m)
           ∙ ap (stored ws n e) (then_then (intern (container (op_of (op - 6)) (look T last)) S)
@@ -330,20 +330,20 @@ module _ (ws : List ℕ) (C : Counts) (ops : List ℕ) (i : ℕ) (ids : List Sor
 
       container-parts : parts_in T (container (op_of (op - 6)) (look T last)) ≡ true
       unfolding parts_in
-      container-parts = member_look T last (omega (arith, length_trees ws n, last-below))
+      container-parts = member_look T last (omega (arith, length_trees ws n, last_below))
 
       container-few : need (container (op_of (op - 6)) (look T last)) ≤ 16
       unfolding need
       container-few = omega arith
 
-      pub container-goes-on : (vs : List ℕ) (j : Joined) → stored_at vs j ≡ intern_at ws n e (container (op_of (op - 6))
+      pub container_goes_on : (vs : List ℕ) (j : Joined) → stored_at vs j ≡ intern_at ws n e (container (op_of (op - 6))
           (look T last)) → GoesOn vs ops i ids (depth - 1) j
-      container-goes-on vs = goes_on (container (op_of (op - 6)) (look T last)) (depth - 1) (omega arith) container-parts container-few container-is vs
+      container_goes_on vs = goes_on (container (op_of (op - 6)) (look T last)) (depth - 1) (omega arith) container-parts container-few container_is vs
 
-      pub container-gone-on : (vs : List ℕ) (j : Joined) → stored_at vs j ≡ intern_at ws n e (container (op_of (op - 6))
+      pub container_gone_on : (vs : List ℕ) (j : Joined) → stored_at vs j ≡ intern_at ws n e (container (op_of (op - 6))
           (look T last)) → (us : List ℕ) (r : Joined)
           → stored_at us r ≡ go_on vs ops i ids (depth - 1) j → stored_at us r ≡ whole
-      container-gone-on vs = gone-on (container (op_of (op - 6)) (look T last)) (depth - 1) (omega arith) container-parts container-few container-is vs
+      container_gone_on vs = gone_on (container (op_of (op - 6)) (look T last)) (depth - 1) (omega arith) container-parts container-few container_is vs
 
     -- a function step
     module _ (l : 11 ≤ op) (z : depth ≡ 0 → ⊥) (k : ℕ) (ek : k ≡ arguments_of op) (enough : k < depth) where
@@ -359,23 +359,23 @@ module _ (ws : List ℕ) (C : Counts) (ops : List ℕ) (i : ℕ) (ids : List Sor
       abbrev arrow : Tree
       arrow = function (look_all T numbers) (look T range)
 
-      pub few-arguments : k ≤ 16
-      few-arguments = omega (arith, ek, step_small)
+      pub few_arguments : k ≤ 16
+      few_arguments = omega (arith, ek, step_small)
 
-      pub base-small : base + k < 256
-      base-small = omega (arith, q.room)
+      pub base_small : base + k < 256
+      base_small = omega (arith, q.room)
 
-      pub range-below : range < n
-      range-below = q.numbers (depth - 1) (omega arith)
+      pub range_below : range < n
+      range_below = q.numbers (depth - 1) (omega arith)
 
-      pub numbers-below : AllBelow n numbers
-      numbers-below =
+      pub numbers_below : AllBelow n numbers
+      numbers_below =
           all_below n numbers
           (λ j m. let b : j < k = omega (arith, length-take k (drop base (sort_numbers ids))) in
           subst (λ x. x < n) (sym (get_or-take k (drop base (sort_numbers ids)) j 0 b ∙ (get_or-drop base (sort_numbers ids) j 0 ∙ sym (get_d_sort_numbers ids (base + j))))) (q.numbers (base + j) (omega arith)))
 
-      function-is : whole ≡ stored ws n e (intern arrow S then (λ u S. steps later (u ∷ stack_of T ids base) S))
-      function-is =
+      function_is : whole ≡ stored ws n e (intern arrow S then (λ u S. steps later (u ∷ stack_of T ids base) S))
+      function_is =
           let d : depth - 1 ≡ base + k = omega arith in
           whole_is ∙ (ap (λ st. stored ws n e (step_on op st S then (λ st S. steps later st S))) (stack_cons (depth - 1) (omega arith))
           ∙ (ap (λ O. stored ws n e (O then (λ st S. steps later st S)))
@@ -388,18 +388,18 @@ module _ (ws : List ℕ) (C : Counts) (ops : List ℕ) (i : ℕ) (ids : List Sor
       unfolding parts_in
       function-parts =
           (and-eq-true_iff (members T (look_all T numbers)) (member T (look T range))).1
-          (members_below ws C q.checked numbers numbers-below, member_look T range (omega (arith, length_trees ws n, range-below)))
+          (members_below ws C q.checked numbers numbers_below, member_look T range (omega (arith, length_trees ws n, range_below)))
 
       function-few : need arrow ≤ 16
       unfolding need
-      function-few = omega (arith, few-arguments, arity_look_all T numbers, length-take k (drop base (sort_numbers ids)))
+      function-few = omega (arith, few_arguments, arity_look_all T numbers, length-take k (drop base (sort_numbers ids)))
 
-      pub function-goes-on : (vs : List ℕ) (j : Joined) → stored_at vs j ≡ intern_at ws n e arrow → GoesOn vs ops i ids base j
-      function-goes-on vs = goes_on arrow base (omega arith) function-parts function-few function-is vs
+      pub function_goes_on : (vs : List ℕ) (j : Joined) → stored_at vs j ≡ intern_at ws n e arrow → GoesOn vs ops i ids base j
+      function_goes_on vs = goes_on arrow base (omega arith) function-parts function-few function_is vs
 
-      pub function-gone-on : (vs : List ℕ) (j : Joined) → stored_at vs j ≡ intern_at ws n e arrow
+      pub function_gone_on : (vs : List ℕ) (j : Joined) → stored_at vs j ≡ intern_at ws n e arrow
           → (us : List ℕ) (r : Joined) → stored_at us r ≡ go_on vs ops i ids base j → stored_at us r ≡ whole
-      function-gone-on vs = gone-on arrow base (omega arith) function-parts function-few function-is vs
+      function_gone_on vs = gone_on arrow base (omega arith) function-parts function-few function_is vs
 
     pub too_few : 11 ≤ op → (depth ≡ 0 → ⊥) → (k : ℕ) → k ≡ arguments_of op → depth ≤ k → stored_at ws (Nothing C) ≡ whole
     too_few l z k ek h =

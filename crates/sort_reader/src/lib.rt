@@ -1,5 +1,7 @@
 // A line read into the sort storage. The steps that recognising it wrote are carried out on a stack of sort numbers;
 // the entry tests all it is lent, recognises the line, and only then stores.
+#![tactic(auto)]
+
 ghost use Rattle.std.specs.Prelude.{◌≡◌, ◌+◌, ◌-◌, ◌<◌, ◌≤◌, length, drop, take, get_or};
 ghost use Rattle.resolved_sort.specs.Rows.{stored_at};
 ghost use Rattle.resolved_sort.specs.Inner.Storage.{sort_numbers};

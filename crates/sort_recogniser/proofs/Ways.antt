@@ -158,8 +158,8 @@ module _ (l : List ℕ) where
   record Did (lo room : ℕ) (front : List ℕ) (P : Parsed) (out : List ℕ) (p m : ℕ) : Type 0 where
     sort_read : Tree
     left : List ℕ
-    is : P ≡ parsed sort-read left
-    wrote : Wrote l lo room front sort-read left out p m
+    is : P ≡ parsed sort_read left
+    wrote : Wrote l lo room front sort_read left out p m
 
   did_at : (lo room : ℕ) (front : List ℕ) (P : Parsed) (out : List ℕ) (p m : ℕ) → Says l lo room front P out (Done p m) → Did lo room front P out p m
   unfolding Says
@@ -265,20 +265,20 @@ module _ (l : List ℕ) where
       unfolding bracketed
       bracketed-is = ap (bracketed sort op (skip (drop at l))) (next_is_open l at r e f)
 
-      pub bracketed-passes : (p : ℕ) → q ≡ Stuck p → Says l at room (take n old) (bracketed sort op (skip (drop at l))
+      pub bracketed_passes : (p : ℕ) → q ≡ Stuck p → Says l at room (take n old) (bracketed sort op (skip (drop at l))
           (next is_letter (drop at l))) out (Stuck p)
-      bracketed-passes p i = rw bracketed-is (stuck_then (r.next + 1) (n + (length l - r.next)) (take n old)
+      bracketed_passes p i = rw bracketed-is (stuck_then (r.next + 1) (n + (length l - r.next)) (take n old)
           (in_brackets sort (drop r.next l)) out q p _ at room (take n old) out s i)
 
-      pub bracketed-room : (p m : ℕ) → q ≡ Done p m → m < length out
-      bracketed-room p m i =
+      pub bracketed_room : (p m : ℕ) → q ≡ Done p m → m < length out
+      bracketed_room p m i =
           let d = done_room (r.next + 1) (n + (length l - r.next)) (take n old) (in_brackets sort (drop r.next l)) out q p m s i in
           omega (arith, d.2, d.1, d.0, goes_at_least_from l at r e Open f h, fit, same)
 
-      pub bracketed-done : (p m v : ℕ) → q ≡ Done p m → v ≡ kind_op op
+      pub bracketed_done : (p m v : ℕ) → q ≡ Done p m → v ≡ kind_op op
           → Says l at room (take n old) (bracketed sort op (skip (drop at l)) (next is_letter (drop at l))) (set out m v) (Done p (m + 1))
       unfolding postfix
-      bracketed-done p m v i ev =
+      bracketed_done p m v i ev =
           let d = did (r.next + 1) (n + (length l - r.next)) (take n old) (in_brackets sort (drop r.next l)) out q p m s i in
           let g : at + 1 ≤ r.next = goes_at_least_from l at r e Open f h in
           said_done at room (take n old) (set out m v) _ p (m + 1) (container op d.sort_read) d.left
@@ -288,7 +288,7 @@ module _ (l : List ℕ) where
             within = d.wrote.within;
             goes_on = d.wrote.goes_on;
             fits = omega (arith, d.wrote.fits, d.wrote.further, d.wrote.within);
-            written = one_more out m v (bracketed-room p m i)
+            written = one_more out m v (bracketed_room p m i)
                 ∙ (ap₂ (λ xs x. xs ++ (x ∷ [])) d.wrote.written ev ∙ append_assoc (take n old) (postfix d.sort_read) (kind_op op ∷ []));
           }
 
@@ -307,20 +307,20 @@ module _ (l : List ℕ) where
       unfolding operand operand_at
       operand-word = ap (operand_at sort (skip (drop at l))) (next_is_word l at r e f)
 
-      word-is : (m : Meant) → w ≡ m → operand sort (drop at l) ≡ operand_of sort (skip (drop at l)) (unmeant m) (drop r.next l)
-      word-is m g = operand-word ∙ ap (λ x. operand_of sort (skip (drop at l)) x (drop r.next l))
+      word_is : (m : Meant) → w ≡ m → operand sort (drop at l) ≡ operand_of sort (skip (drop at l)) (unmeant m) (drop r.next l)
+      word_is m g = operand-word ∙ ap (λ x. operand_of sort (skip (drop at l)) x (drop r.next l))
           (sym (unmeant_meant (meaning (take (r.next - r.at) (drop r.at l)))) ∙ ap unmeant (sym i ∙ g))
 
       abbrev after : ℕ
       after = n + (length l - r.next)
 
-      pub operand-basic : (s : Sort) → w ≡ Basic s → (v : ℕ) → v ≡ kind_flat (primitive s)
+      pub operand_basic : (s : Sort) → w ≡ Basic s → (v : ℕ) → v ≡ kind_flat (primitive s)
           → Says l (at + 1) room (take n old) (operand sort (drop at l)) (set old n v) (Done r.next (n + 1))
       unfolding operand_of postfix
-      operand-basic s g v ev =
+      operand_basic s g v ev =
           let x : at + 1 ≤ r.next = goes_at_least_from l at r e Word f h in
           let d : r.next ≤ length l = ends_within l at r e in
-          said_done (at + 1) room (take n old) (set old n v) _ r.next (n + 1) (flat (primitive s)) (drop r.next l) (word-is (Basic s) g)
+          said_done (at + 1) room (take n old) (set old n v) _ r.next (n + 1) (flat (primitive s)) (drop r.next l) (word_is (Basic s) g)
           record {
             further = x;
             within = d;
@@ -330,19 +330,19 @@ module _ (l : List ℕ) where
                 (omega (arith, fit, x, d)) ∙ ap (λ y. take n old ++ (y ∷ [])) ev;
           }
 
-      pub operand-over : (o : ComplexSort) → w ≡ Over o → (out : List ℕ) (q : Recognised)
+      pub operand_over : (o : ComplexSort) → w ≡ Over o → (out : List ℕ) (q : Recognised)
           → Says l r.next after (take n old) (bracketed sort o (skip (drop r.next l))
           (next is_letter (drop r.next l))) out q → Says l (at + 1) room (take n old) (operand sort (drop at l))
           out q
       unfolding operand_of
-      operand-over o g out q s =
+      operand_over o g out q s =
           let x : at + 1 ≤ r.next = goes_at_least_from l at r e Word f h in
-          rw (word-is (Over o) g) (wider r.next (at + 1) after room (take n old)
+          rw (word_is (Over o) g) (wider r.next (at + 1) after room (take n old)
           (bracketed sort o (skip (drop r.next l)) (next is_letter (drop r.next l))) out q x (omega arith) s)
 
-      pub operand-unknown : w ≡ Unknown → Says l (at + 1) room (take n old) (operand sort (drop at l)) old (Stuck r.at)
+      pub operand_unknown : w ≡ Unknown → Says l (at + 1) room (take n old) (operand sort (drop at l)) old (Stuck r.at)
       unfolding operand_of
-      operand-unknown g = said_stuck (at + 1) room (take n old) old _ r.at (skip (drop at l)) (word-is Unknown g)
+      operand_unknown g = said_stuck (at + 1) room (take n old) old _ r.at (skip (drop at l)) (word_is Unknown g)
           starts_within (starts_without_spaces l at r e)
 
     -- after the operands
@@ -371,23 +371,23 @@ module _ (l : List ℕ) where
     -- `#` and another operand
     module _ (f : r.token ≡ Hash) (k : ℕ) (z : k ≡ 16 → ⊥) (few : k ≤ 16) (out : List ℕ) (q : Recognised)
         (s : Says l (r.next + 1) (n + (length l - r.next)) (take n old) (operand sort (drop r.next l)) out q) where
-      hash-is : (ts : Trees) → rest sort (16 - k) ts (drop at l) ≡ (operand sort (drop r.next l) then-read (λ t ds. rest sort (16 - (k + 1)) (snoc ts t) ds))
-      hash-is ts = rest_at_hash (16 - k) (16 - (k + 1)) ts (drop at l) (drop r.next l) (omega arith) (next_is_hash l at r e f)
+      hash_is : (ts : Trees) → rest sort (16 - k) ts (drop at l) ≡ (operand sort (drop r.next l) then-read (λ t ds. rest sort (16 - (k + 1)) (snoc ts t) ds))
+      hash_is ts = rest_at_hash (16 - k) (16 - (k + 1)) ts (drop at l) (drop r.next l) (omega arith) (next_is_hash l at r e f)
 
-      pub rest-passes : (p : ℕ) → q ≡ Stuck p → SaysRest l at old n k out (Stuck p)
+      pub rest_passes : (p : ℕ) → q ≡ Stuck p → SaysRest l at old n k out (Stuck p)
       unfolding SaysRest
-      rest-passes p i front ts w a = rw (hash-is ts) (stuck_then (r.next + 1) (n + (length l - r.next)) (take n old)
+      rest_passes p i front ts w a = rw (hash_is ts) (stuck_then (r.next + 1) (n + (length l - r.next)) (take n old)
           (operand sort (drop r.next l)) out q p _ at room front out s i)
 
-      pub rest-goes-on : (p m : ℕ) → q ≡ Done p m → (out' : List ℕ) (q' : Recognised) → SaysRest l p out m (k + 1) out' q' → SaysRest l at old n k out' q'
+      pub rest_goes_on : (p m : ℕ) → q ≡ Done p m → (out' : List ℕ) (q' : Recognised) → SaysRest l p out m (k + 1) out' q' → SaysRest l at old n k out' q'
       unfolding SaysRest
-      rest-goes-on p m i out' q' c front ts w a =
+      rest_goes_on p m i out' q' c front ts w a =
           let d = did (r.next + 1) (n + (length l - r.next)) (take n old) (operand sort (drop r.next l)) out q p m s i in
           let g : at + 1 ≤ r.next = goes_at_least_from l at r e Hash f h in
           let now-written : take m out ≡ front ++ postfixes (snoc ts d.sort_read) =
           d.wrote.written ∙ (ap (λ x. x ++ postfix d.sort_read) w ∙ (append_assoc front (postfixes ts)
           (postfix d.sort_read) ∙ ap (λ x. front ++ x) (sym (postfixes_snoc ts d.sort_read)))) in
-          rw (hash-is ts, d.is, sym d.wrote.goes_on)
+          rw (hash_is ts, d.is, sym d.wrote.goes_on)
           (wider p at (m + (length l - p)) room front (rest sort (16 - (k + 1)) (snoc ts d.sort_read) (drop p l))
           out' q' (omega (arith, d.wrote.further)) (omega (arith, d.wrote.fits))
           (c front (snoc ts d.sort_read) now-written (arity_snoc ts d.sort_read ∙ ap (λ x. x + 1) a)))
@@ -395,32 +395,32 @@ module _ (l : List ℕ) where
     -- `->` and the range
     module _ (f : r.token ≡ Arrow) (k : ℕ) (out : List ℕ) (same : length out ≡ length old) (q : Recognised)
         (s : Says l (r.next + 1) (n + (length l - r.next)) (take n old) (sort (drop r.next l)) out q) where
-      arrow-is : (ts : Trees) → rest sort (16 - k) ts (drop at l) ≡ (sort (drop r.next l) then-read (λ t ds. parsed (function ts t) ds))
-      arrow-is ts = rest_at_arrow (16 - k) ts (drop at l) (drop r.next l) (next_is_arrow l at r e f)
+      arrow_is : (ts : Trees) → rest sort (16 - k) ts (drop at l) ≡ (sort (drop r.next l) then-read (λ t ds. parsed (function ts t) ds))
+      arrow_is ts = rest_at_arrow (16 - k) ts (drop at l) (drop r.next l) (next_is_arrow l at r e f)
 
-      pub range-passes : (p : ℕ) → q ≡ Stuck p → SaysRest l at old n k out (Stuck p)
+      pub range_passes : (p : ℕ) → q ≡ Stuck p → SaysRest l at old n k out (Stuck p)
       unfolding SaysRest
-      range-passes p i front ts w a = rw (arrow-is ts) (stuck_then (r.next + 1) (n + (length l - r.next))
+      range_passes p i front ts w a = rw (arrow_is ts) (stuck_then (r.next + 1) (n + (length l - r.next))
           (take n old) (sort (drop r.next l)) out q p _ at room front out s i)
 
-      pub range-room : (p m : ℕ) → q ≡ Done p m → m < length out
-      range-room p m i =
+      pub range_room : (p m : ℕ) → q ≡ Done p m → m < length out
+      range_room p m i =
           let d = done_room (r.next + 1) (n + (length l - r.next)) (take n old) (sort (drop r.next l)) out q p m s i in
           omega (arith, d.2, d.1, d.0, goes_at_least_from l at r e Arrow f h, fit, same)
 
-      pub range-done : (p m v : ℕ) → q ≡ Done p m → v ≡ 16 + k → SaysRest l at old n k (set out m v) (Done p (m + 1))
+      pub range_done : (p m v : ℕ) → q ≡ Done p m → v ≡ 16 + k → SaysRest l at old n k (set out m v) (Done p (m + 1))
       unfolding SaysRest postfix
-      range-done p m v i ev front ts w a =
+      range_done p m v i ev front ts w a =
           let d = did (r.next + 1) (n + (length l - r.next)) (take n old) (sort (drop r.next l)) out q p m s i in
           let g : at + 2 ≤ r.next = goes_at_least_from l at r e Arrow f h in
           said_done at room front (set out m v) _ p (m + 1) (function ts d.sort_read) d.left
-          (arrow-is ts ∙ ap (λ x. x then-read (λ t ds. parsed (function ts t) ds)) d.is)
+          (arrow_is ts ∙ ap (λ x. x then-read (λ t ds. parsed (function ts t) ds)) d.is)
           record {
             further = omega (arith, d.wrote.further);
             within = d.wrote.within;
             goes_on = d.wrote.goes_on;
             fits = omega (arith, d.wrote.fits, d.wrote.further, d.wrote.within);
-            written = one_more out m v (range-room p m i)
+            written = one_more out m v (range_room p m i)
                 ∙ (ap₂ (λ xs x. xs ++ (x ∷ [])) (d.wrote.written ∙ ap (λ x. x ++ postfix d.sort_read) w) (ev ∙ ap (λ x. 16 + x) (sym a))
                 ∙ (append_assoc (front ++ postfixes ts) (postfix d.sort_read) ((16 + arity ts) ∷ []) ∙ append_assoc
                 front (postfixes ts) (postfix d.sort_read ++ ((16 + arity ts) ∷ []))));
@@ -461,9 +461,9 @@ module _ (l : List ℕ) where
       line-is = ap (λ x. x then-read (λ t cs. ending t (skip cs) (next is_letter cs))) d.is ∙ ap
           (λ cs. ending d.sort_read (skip cs) (next is_letter cs)) (sym d.wrote.goes_on)
 
-      pub line-done : r.token ≡ End → Says l 0 (length l) [] (line l) out (Done (length l) m)
+      pub line_done : r.token ≡ End → Says l 0 (length l) [] (line l) out (Done (length l) m)
       unfolding ending
-      line-done f =
+      line_done f =
           said_done 0 (length l) [] out _ (length l) m d.sort_read [] (line-is ∙ ap (ending d.sort_read (skip (drop p l))) (next_is_end l p r e f))
           record {
             further = omega arith;
@@ -474,8 +474,8 @@ module _ (l : List ℕ) where
             written = d.wrote.written;
           }
 
-      pub line-stuck : (r.token ≡ End → ⊥) → Says l 0 (length l) [] (line l) out (Stuck r.at)
-      line-stuck z =
+      pub line_stuck : (r.token ≡ End → ⊥) → Says l 0 (length l) [] (line l) out (Stuck r.at)
+      line_stuck z =
           said_stuck 0 (length l) [] out _ r.at (skip (drop p l))
           (line-is ∙ (ap (ending d.sort_read (skip (drop p l))) (next_is_said l p r e) ∙ ending_other l
           d.sort_read (skip (drop p l)) r.token r.at r.next z))

@@ -1,5 +1,7 @@
 // Recognising a line as a sort: nothing is stored, the steps of the sort are written into a buffer, parts first. The
 // tokens are those of a reader that holds the line (`token_from`).
+#![tactic(auto)]
+
 ghost use Rattle.std.specs.Prelude.{◌≡◌, [], ◌+◌, ◌-◌, ◌≤◌, length, drop, take};
 ghost use Rattle.resolved_sort.specs.Tree.{primitive};
 ghost use Rattle.resolved_sort.specs.Storage.{kind_flat, kind_op, max_arguments};

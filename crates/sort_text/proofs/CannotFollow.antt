@@ -27,7 +27,7 @@ use Rattle.sort_text.specs.Parse.{Parsed, parsed, stuck, ◌then-read◌, WordMe
 use Rattle.sort_text.specs.Parse.{sort_word, closing, in_brackets, bracketed, operand_of, operand_at, operand, snoc, alone}
 use Rattle.sort_text.specs.Parse.{rest_at, rest, sort, ending, line}
 use Rattle.sort_text.specs.Grammar.{Operand, basic_sort, container_of, SortOf, one_operand, function_of, Operands, first, another, LineOf}
-use Rattle.sort_text.specs.CannotFollow.{BareToken, bare_word, bare-open, bare-close, bare-hash, bare-arrow, no-token, no_more}
+use Rattle.sort_text.specs.CannotFollow.{BareToken, bare_word, bare-open, bare-close, bare-hash, bare-arrow, no_token, no_more}
 use Rattle.sort_text.specs.CannotFollow.{bare, beyond, after_tokens, SameTokens, CanBegin, FirstThatCannotFollow}
 use Rattle.sort_text.proofs.Suffix.{sort_suffix, unread_end}
 use Rattle.sort_text.proofs.Progress.{word_takes, open_bracket_takes, hash_takes, arrow_takes, operand_takes}
@@ -44,7 +44,7 @@ rebuilt bare-open bs = open-bracket bs
 rebuilt bare-close bs = close-bracket bs
 rebuilt bare-hash bs = hash bs
 rebuilt bare-arrow bs = arrow bs
-rebuilt no-token bs = bad
+rebuilt no_token bs = bad
 rebuilt no_more bs = end
 
 rebuilt_is : (n : NextToken) → n ≡ rebuilt (bare n) (beyond n)

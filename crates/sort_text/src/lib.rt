@@ -1,5 +1,7 @@
 // Sort text in mCRL2 spelling: what reading a line and writing a sort answer. A refusal is the code of the first
 // failing check of document 01.
+#![tactic(auto)]
+
 use resolved_sort::{Counts, SortId};
 
 // What reading a line answers: the sort of the line, stored, with the counts after it; that the line is no sort, with

@@ -125,37 +125,37 @@ module _ (ws : List ℕ) (n e a : ℕ) (out : List ℕ) (t : Tested) (et : t ≡
       no_text z = ap tested_of (sym (past-12 ∙ first_fails thirteen _ (size_none _ _ (text_some (tree_at ws n a)) (sym size_is ∙ z))))
 
       module _ (z : size ≡ 0 → ⊥) where
-        written-size : (writable (tree_at ws n a) ≡ true) × (size ≡ capped (length (text (tree_at ws n a))))
-        written-size = let w = size_some _ _ (λ q. z (size_is ∙ q)) in (w.0, size_is ∙ w.1)
+        written_size : (writable (tree_at ws n a) ≡ true) × (size ≡ capped (length (text (tree_at ws n a))))
+        written_size = let w = size_some _ _ (λ q. z (size_is ∙ q)) in (w.0, size_is ∙ w.1)
 
-        past-13 : first_failing (write_checks ws n e a out) ≡ first_failing (fourteen ∷ [])
-        past-13 = past-12 ∙ first_passes thirteen _ written-size.0
+        past_13 : first_failing (write_checks ws n e a out) ≡ first_failing (fourteen ∷ [])
+        past_13 = past-12 ∙ first_passes thirteen _ written_size.0
 
-        pub storage-short : length ws < full_length → Refused 14 ≡ tested_of (first_failing (write_checks ws n e a out))
+        pub storage_short : length ws < full_length → Refused 14 ≡ tested_of (first_failing (write_checks ws n e a out))
         unfolding at_ceiling
-        storage-short h = ap tested_of (sym (past-13 ∙ first_fails fourteen _ (rw (lt-leb full_length (length ws) h))))
+        storage_short h = ap tested_of (sym (past_13 ∙ first_fails fourteen _ (rw (lt-leb full_length (length ws) h))))
 
         module _ (hw : full_length ≤ length ws) where
-          pub text-long : length out < size → Refused 14 ≡ tested_of (first_failing (write_checks ws n e a out))
+          pub text_long : length out < size → Refused 14 ≡ tested_of (first_failing (write_checks ws n e a out))
           unfolding at_ceiling
-          text-long h =
+          text_long h =
               ap tested_of
               (sym
-              (past-13
+              (past_13
               ∙ first_fails fourteen _
-              (rw (le-leb full_length (length ws) hw, lt-leb (length (text (tree_at ws n a))) (length out) (capped_above _ _ (omega (arith, written-size.1)))))))
+              (rw (le-leb full_length (length ws) hw, lt-leb (length (text (tree_at ws n a))) (length out) (capped_above _ _ (omega (arith, written_size.1)))))))
 
           pub all_pass : size ≤ length out → length out < most_size → Passed ≡ tested_of (first_failing (write_checks ws n e a out))
           unfolding at_ceiling first_failing
           all_pass h m =
               ap tested_of
               (sym
-              (past-13
+              (past_13
               ∙ first_passes fourteen []
               (rw (
                 le-leb full_length (length ws) hw,
                 le-leb (length (text (tree_at ws n a))) (length out)
-                    (capped_within _ _ m (omega (arith, written-size.1))),
+                    (capped_within _ _ m (omega (arith, written_size.1))),
               ))))
 
 -- what the entry answers

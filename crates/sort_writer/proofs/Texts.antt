@@ -103,21 +103,21 @@ module _ {ws : List ℕ} {n e a : ℕ} {out : List ℕ} {at : ℕ} (k : SortRoom
     op_room = room_first at (length out) open_word (part_text ++ (41 ∷ [])) whole_room
 
     module _ {mid : List ℕ} {p : ℕ} (h : Put out at (op_word o ++ (40 ∷ [])) mid p) where
-      inside-room : p + length (part_text ++ (41 ∷ [])) ≤ length mid
-      inside-room = room_behind (part_text ++ (41 ∷ [])) h whole_room
+      inside_room : p + length (part_text ++ (41 ∷ [])) ≤ length mid
+      inside_room = room_behind (part_text ++ (41 ∷ [])) h whole_room
 
       pub part_falls : {m : ℕ} → sort_left a ≡ m → SortCall m ws n e s.0 mid p
       unfolding Below
       part_falls f =
           let b : s.0 < a = parts (Container o s) t in
-          (omega arith, record { checked = k.checked; below = omega (arith, k.below); room = room_first p (length mid) part_text (41 ∷ []) inside-room })
+          (omega arith, record { checked = k.checked; below = omega (arith, k.below); room = room_first p (length mid) part_text (41 ∷ []) inside_room })
 
       module _ {mid₂ : List ℕ} {p₂ : ℕ} (h₂ : Put mid p (text (tree_at ws n s.0)) mid₂ p₂) where
-        pub bracket-room : p₂ + 1 ≤ length mid₂
-        bracket-room = room_behind (41 ∷ []) h₂ inside-room
+        pub bracket_room : p₂ + 1 ≤ length mid₂
+        bracket_room = room_behind (41 ∷ []) h₂ inside_room
 
-        pub container-put : {left : List ℕ} {r : ℕ} → Put mid₂ p₂ (41 ∷ []) left r → Put out at (text (tree_at ws n a)) left r
-        container-put h₃ = put_as (sym container_is) (put_then h (put_then h₂ h₃))
+        pub container_put : {left : List ℕ} {r : ℕ} → Put mid₂ p₂ (41 ∷ []) left r → Put out at (text (tree_at ws n a)) left r
+        container_put h₃ = put_as (sym container_is) (put_then h (put_then h₂ h₃))
 
   -- a function
   module _ {d : Run} {g : SortId} (t : R ≡ Function d g) where
@@ -148,21 +148,21 @@ module _ {ws : List ℕ} {n e a : ℕ} {out : List ℕ} {at : ℕ} (k : SortRoom
         )
 
     module _ {mid : List ℕ} {p : ℕ} (h : Put out at (texts (args_at ws n d.start d.count)) mid p) where
-      after-room : p + length (arrow_text ++ range_text) ≤ length mid
-      after-room = room_behind (arrow_text ++ range_text) h all_room
+      after_room : p + length (arrow_text ++ range_text) ≤ length mid
+      after_room = room_behind (arrow_text ++ range_text) h all_room
 
-      pub arrow-room : p + 4 ≤ length mid
-      arrow-room = room_first p (length mid) arrow_text range_text after-room
+      pub arrow_room : p + 4 ≤ length mid
+      arrow_room = room_first p (length mid) arrow_text range_text after_room
 
       module _ {mid₂ : List ℕ} {p₂ : ℕ} (h₂ : Put mid p arrow_text mid₂ p₂) where
-        pub range-falls : {m : ℕ} → sort_left a ≡ m → SortCall m ws n e g.0 mid₂ p₂
+        pub range_falls : {m : ℕ} → sort_left a ≡ m → SortCall m ws n e g.0 mid₂ p₂
         unfolding Below
-        range-falls f =
+        range_falls f =
             let b = parts (Function d g) t in
-            (omega (arith, b.0), record { checked = k.checked; below = omega (arith, b.0, k.below); room = room_behind range_text h₂ after-room })
+            (omega (arith, b.0), record { checked = k.checked; below = omega (arith, b.0, k.below); room = room_behind range_text h₂ after_room })
 
-        pub function-put : {left : List ℕ} {r : ℕ} → Put mid₂ p₂ (text (tree_at ws n g.0)) left r → Put out at (text (tree_at ws n a)) left r
-        function-put h₃ = put_as (sym function_is) (put_then h (put_then h₂ h₃))
+        pub function_put : {left : List ℕ} {r : ℕ} → Put mid₂ p₂ (text (tree_at ws n g.0)) left r → Put out at (text (tree_at ws n a)) left r
+        function_put h₃ = put_as (sym function_is) (put_then h (put_then h₂ h₃))
 
 -- the arguments of a run by the first and the rest
 args_by_first : (ws : List ℕ) (n s c : ℕ) → (c ≡ 0 → ⊥) → args_at ws n s c ≡ arg (tree_at ws n (entry_at ws s)) (args_at ws n (s + 1) (c - 1))
@@ -212,33 +212,33 @@ module _ {ws : List ℕ} {n e s c : ℕ} {out : List ℕ} {at : ℕ} (k : RunRoo
         )
 
     module _ {mid : List ℕ} {p : ℕ} (f : Put out at (text (tree_at ws n x)) mid p) where
-      pub one-put : c ≤ 1 → Put out at (texts (args_at ws n s c)) mid p
-      one-put z = put_as (ap (λ (i : ℕ). text (tree_at ws n i)) q ∙ sym (one_text ws n s c (omega (arith, h)))) f
+      pub one_put : c ≤ 1 → Put out at (texts (args_at ws n s c)) mid p
+      one_put z = put_as (ap (λ (i : ℕ). text (tree_at ws n i)) q ∙ sym (one_text ws n s c (omega (arith, h)))) f
 
       module _ (g : 1 < c) where
-        abbrev rest-text : List ℕ
-        rest-text = texts (args_at ws n (s + 1) (c - 1))
+        abbrev rest_text : List ℕ
+        rest_text = texts (args_at ws n (s + 1) (c - 1))
 
-        all-texts : texts (args_at ws n s c) ≡ text (tree_at ws n x) ++ (between_text ++ rest-text)
-        all-texts = more_texts ws n s c h g ∙ ap (λ (i : ℕ). text (tree_at ws n i) ++ (between_text ++ rest-text)) (sym q)
+        all_texts : texts (args_at ws n s c) ≡ text (tree_at ws n x) ++ (between_text ++ rest_text)
+        all_texts = more_texts ws n s c h g ∙ ap (λ (i : ℕ). text (tree_at ws n i) ++ (between_text ++ rest_text)) (sym q)
 
-        later-room : p + length (between_text ++ rest-text) ≤ length mid
-        later-room = room_behind (between_text ++ rest-text) f (as_room at (length out) all-texts k.room)
+        later_room : p + length (between_text ++ rest_text) ≤ length mid
+        later_room = room_behind (between_text ++ rest_text) f (as_room at (length out) all_texts k.room)
 
-        pub between-room : p + 3 ≤ length mid
-        between-room = room_first p (length mid) between_text rest-text later-room
+        pub between_room : p + 3 ≤ length mid
+        between_room = room_first p (length mid) between_text rest_text later_room
 
         module _ {mid₂ : List ℕ} {p₂ : ℕ} (b : Put mid p between_text mid₂ p₂) where
-          pub rest-falls : {m : ℕ} → run_left ws s c ≡ m → RunCall m ws n e (s + 1) (c - 1) mid₂ p₂
-          rest-falls w = (
+          pub rest_falls : {m : ℕ} → run_left ws s c ≡ m → RunCall m ws n e (s + 1) (c - 1) mid₂ p₂
+          rest_falls w = (
             omega (arith, h, rest_below_top ws s c h),
             record {
               checked = k.checked;
               inside = omega (arith, h, k.inside);
               args = λ j l. subst (λ (i : ℕ). entry_at ws i < n) (omega arith) (k.args (j + 1) (omega arith));
-              room = room_behind rest-text b later-room;
+              room = room_behind rest_text b later_room;
             },
           )
 
-          pub more-put : {left : List ℕ} {r : ℕ} → Put mid₂ p₂ (texts (args_at ws n (s + 1) (c - 1))) left r → Put out at (texts (args_at ws n s c)) left r
-          more-put d = put_as (sym all-texts) (put_then f (put_then b d))
+          pub more_put : {left : List ℕ} {r : ℕ} → Put mid₂ p₂ (texts (args_at ws n (s + 1) (c - 1))) left r → Put out at (texts (args_at ws n s c)) left r
+          more_put d = put_as (sym all_texts) (put_then f (put_then b d))

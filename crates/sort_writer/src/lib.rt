@@ -1,5 +1,7 @@
 // Writing a sort of the lent sort list as text in mCRL2 spelling. All sizes are found first, in rising sort number, so
 // that shared parts are looked at once; then the text is put into the lent buffer, or nothing is.
+#![tactic(auto)]
+
 ghost use Rattle.std.specs.Prelude.{◌≡◌, ◌++◌, ◌+◌, ◌<◌, ◌≤◌, length, get_or, replicate};
 ghost use Rattle.resolved_sort.specs.Storage.{max_sorts, entry_at, entries_of};
 ghost use Rattle.resolved_sort.specs.Inner.Storage.{args_at};

@@ -1,5 +1,7 @@
 // Bytes, texts and numbers put into a lent buffer: where the caller has shown that there is room, or as far as there is
 // room.
+#![tactic(auto)]
+
 ghost use Rattle.std.specs.Prelude.{[], ◌∷◌, ◌+◌, ◌<◌, ◌≤◌, length};
 ghost use Rattle.text_out.specs.Within.{PutWithin};
 ghost use Rattle.text_out.specs.Decimal.{digit, decimal};

@@ -149,19 +149,19 @@ module _ (W : Lent) (c : CheckedLent W) where
 
     -- and all else that bindings of W make of it
     module _ (B : Binds) (b : Names (PlacedIn W) B) where
-      pub value-grown : (p : ℕ) → PlacedIn W p → value (graph W') B p ≡ value (graph W) B p
-      value-grown = value_agrees (PlacedIn W) (graph W) (graph W') agree_grown B b var deep
+      pub value_grown : (p : ℕ) → PlacedIn W p → value (graph W') B p ≡ value (graph W) B p
+      value_grown = value_agrees (PlacedIn W) (graph W) (graph W') agree_grown B b var deep
 
-      pub respects-grown : (σ : ℕ → Term) → Respects (graph W) B σ ↔ Respects (graph W') B σ
-      respects-grown = respects_agrees (PlacedIn W) (graph W) (graph W') agree_grown B b
+      pub respects_grown : (σ : ℕ → Term) → Respects (graph W) B σ ↔ Respects (graph W') B σ
+      respects_grown = respects_agrees (PlacedIn W) (graph W) (graph W') agree_grown B b
 
-      pub unify-grown : (l r : ℕ) → PlacedIn W l → PlacedIn W r → unify (graph W') B l r ≡ unify (graph W) B l r
+      pub unify_grown : (l r : ℕ) → PlacedIn W l → PlacedIn W r → unify (graph W') B l r ≡ unify (graph W) B l r
       unfolding unify
-      unify-grown = unify_agrees (PlacedIn W) (graph W) (graph W') agree_grown B b deep deeper
+      unify_grown = unify_agrees (PlacedIn W) (graph W) (graph W') agree_grown B b deep deeper
 
-      pub binds-grown : BindsChecked (lists_of W.sorts n W.nodes m) W.lengths.variables B
+      pub binds_grown : BindsChecked (lists_of W.sorts n W.nodes m) W.lengths.variables B
           → BindsChecked (lists_of W'.sorts W'.lengths.sorts W'.nodes W'.lengths.nodes) W.lengths.variables B
-      binds-grown r =
+      binds_grown r =
           record {
             many = r.many;
             places = bindings_longer n W'.lengths.sorts m W'.lengths.nodes B g.sorts g.nodes r.places;
@@ -200,7 +200,7 @@ ready_grown W W' bs r g =
       nodes = g.checked;
       binds =
           subst (λ v. BindsChecked (lists_of W'.sorts W'.lengths.sorts W'.nodes W'.lengths.nodes) v (binds_of bs v)) (sym g.variables)
-          (binds-grown W r.nodes W' g (binds_of bs W.lengths.variables) (ready_names W bs r) r.binds);
+          (binds_grown W r.nodes W' g (binds_of bs W.lengths.variables) (ready_names W bs r) r.binds);
       long = omega (arith, r.long, g.variables);
     }
 

@@ -123,18 +123,18 @@ module _ (W : Lent) (bs : List ℕ) (R : Ready W.sorts W.nodes bs W.lengths) whe
 
     -- a container
     module _ (o : ComplexSort) (s : ℕ) (i : graph W q ≡ over (container_head o) (s ∷ [])) where
-      pub made-at-sort-container : q < max_sorts → strict_related up bound p W ≡ related_over (related_container up o) true s W
-      made-at-sort-container l = related_at (over (container_head o) (s ∷ [])) i ∙ ap (λ (b : Bool). related_over
+      pub made_at_sort_container : q < max_sorts → strict_related up bound p W ≡ related_over (related_container up o) true s W
+      made_at_sort_container l = related_at (over (container_head o) (s ∷ [])) i ∙ ap (λ (b : Bool). related_over
           (related_container up o) b s W) (lt-ltb q max_sorts l)
 
-      pub made-at-node-container : max_sorts ≤ q → strict_related up bound p W ≡ related_over (related_container up o) false s W
-      made-at-node-container l = related_at (over (container_head o) (s ∷ [])) i ∙ ap (λ (b : Bool). related_over
+      pub made_at_node_container : max_sorts ≤ q → strict_related up bound p W ≡ related_over (related_container up o) false s W
+      made_at_node_container l = related_at (over (container_head o) (s ∷ [])) i ∙ ap (λ (b : Bool). related_over
           (related_container up o) b s W) (le-ltb q max_sorts l)
 
     -- a function
     module _ (n : ℕ) (ps : List ℕ) (i : graph W q ≡ over (function_head n) ps) where
-      pub range-lower-than-place : rank (graph W) deep bound (get_or ps n 0) < rank (graph W) deep bound p
-      range-lower-than-place = omega (arith, range_lower W bound ranked q n ps i, end_no_higher (graph W) deep bound ranked deep p q e)
+      pub range_lower_than_place : rank (graph W) deep bound (get_or ps n 0) < rank (graph W) deep bound p
+      range_lower_than_place = omega (arith, range_lower W bound ranked q n ps i, end_no_higher (graph W) deep bound ranked deep p q e)
 
-      pub made-at-function : strict_related up bound p W ≡ (strict_related up bound (get_or ps n 0) W and_then (push_functions (take n ps)))
-      made-at-function = related_at (over (function_head n) ps) i
+      pub made_at_function : strict_related up bound p W ≡ (strict_related up bound (get_or ps n 0) W and_then (push_functions (take n ps)))
+      made_at_function = related_at (over (function_head n) ps) i

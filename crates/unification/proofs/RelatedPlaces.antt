@@ -141,8 +141,8 @@ module _ (W : Lent) (c : CheckedLent W) (six : fixed_six W.sorts W.lengths.sorts
     )
 
     module _ (o : ComplexSort) (s : ℕ) (f : graph W q ≡ over (container_head o) (s ∷ [])) where
-      part-term : (σ : ℕ → Term) (t : Tree) → term_in W σ q ≡ term_of t → (u : Tree) × (t ≡ container o u) × (term_in W σ s ≡ term_of u)
-      part-term σ t e = container_tree o (term_in W σ s) t (sym (ap (shape_val σ (term_in W σ)) f) ∙ (sym (term_by_shape W c σ q) ∙ e))
+      part_term : (σ : ℕ → Term) (t : Tree) → term_in W σ q ≡ term_of t → (u : Tree) × (t ≡ container o u) × (term_in W σ s ≡ term_of u)
+      part_term σ t e = container_tree o (term_in W σ s) t (sym (ap (shape_val σ (term_in W σ)) f) ∙ (sym (term_by_shape W c σ q) ∙ e))
 
       -- where p stands for the container of o over what s stands for
       container-answer : (y : Option ComplexSort) → related_container up o ≡ y → (W' : Lent) (qs : List ℕ) → AllPlaced W' qs
@@ -150,7 +150,7 @@ module _ (W : Lent) (c : CheckedLent W) (six : fixed_six W.sorts W.lengths.sorts
       unfolding related
       container-answer y i W' qs p h = (
         p,
-        λ σ r t e. let z = part-term σ t e in
+        λ σ r t e. let z = part_term σ t e in
             h σ z.0 z.2 ∙ (ap (λ w. each term_of (over_part w z.0)) (sym i) ∙ ap (λ w. each term_of (related up w)) (sym z.1)),
       )
 

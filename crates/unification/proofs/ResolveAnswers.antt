@@ -105,16 +105,16 @@ module _ (W : Lent) (c : CheckedLent W) (B : Binds) (b : CheckedBinds W B) (p : 
     resolve_answers_none K q = leaves_none W (AlwaysStandsFor W B Nothing p) (ReachesFree W B Nothing p) (answer Nothing) (resolve_leaves Nothing tt) us K q
 
     module _ (x : SortId) (l : x.0 < n) where
-      pub resolve-or-default-answers : (id : SortId) (K : Counts) → answer (Is x) ≡ stored_at us (At id K)
+      pub resolve_or_default_answers : (id : SortId) (K : Counts) → answer (Is x) ≡ stored_at us (At id K)
           → Grows W (with_sort_words W us K.sorts K.entries)
           × ((id.0 < K.sorts)
           × ((σ : ℕ → Term) → Respects (graph W) B σ → ((u : ℕ) → binding B u ≡ none → σ u ≡ term_of (look (trees ws n) x.0))
           → substitute σ (term_at (graph W) p) ≡ term_of (look (trees us K.sorts) id.0)))
-      resolve-or-default-answers id K q = leaves_sort W (AlwaysStandsFor W B (Is x) p) (ReachesFree W B (Is x) p)
+      resolve_or_default_answers id K q = leaves_sort W (AlwaysStandsFor W B (Is x) p) (ReachesFree W B (Is x) p)
           (answer (Is x)) (resolve_leaves (Is x) l) us id K q
 
-      pub resolve-or-default-answers-a-sort : (K : Counts) → answer (Is x) ≡ stored_at us (NotFound K) → ⊥
-      resolve-or-default-answers-a-sort K q = (leaves_none W (AlwaysStandsFor W B (Is x) p) (ReachesFree W B (Is x) p)
+      pub resolve_or_default_answers_a_sort : (K : Counts) → answer (Is x) ≡ stored_at us (NotFound K) → ⊥
+      resolve_or_default_answers_a_sort K q = (leaves_none W (AlwaysStandsFor W B (Is x) p) (ReachesFree W B (Is x) p)
           (answer (Is x)) (resolve_leaves (Is x) l) us K q).1
 
     pub resolve_has_no_room : (x : Default) → DefaultBelow n x → answer x ≡ stored_at us Full → Grows W (with_sort_words W us n e) × ReadsAs W us

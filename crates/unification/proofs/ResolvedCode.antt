@@ -241,43 +241,43 @@ module _ (ws : List ℕ) (C : Counts) (k : Checked ws C.sorts C.entries) (x : Op
 
     module _ (c : SortId) (K : Counts) (z : r ≡ At c K) where
       -- what the call has left
-      pub part-reached : Reached ws n e S one vs c K
-      part-reached = reached ws n e S one one_is_kept vs c K (ap (stored_at vs) (sym z) ∙ er)
+      pub part_reached : Reached ws n e S one vs c K
+      part_reached = reached ws n e S one one_is_kept vs c K (ap (stored_at vs) (sym z) ∙ er)
 
       abbrev S' : Sorts
-      S' = part-reached.sorts
+      S' = part_reached.sorts
 
-      pub part-checked : Checked vs K.sorts K.entries
-      part-checked = reached_checked ws n e S one vs c K part-reached
+      pub part_checked : Checked vs K.sorts K.entries
+      part_checked = reached_checked ws n e S one vs c K part_reached
 
-      pub part-below : c.0 < K.sorts
-      part-below = reached_below ws n e S one vs c K part-reached
+      pub part_below : c.0 < K.sorts
+      part_below = reached_below ws n e S one vs c K part_reached
 
       -- a container is interned over it
-      pub container-made : (o : ComplexSort) (us : List ℕ) (w : Joined) → stored_at us w ≡ intern_at vs K.sorts
+      pub container_made : (o : ComplexSort) (us : List ℕ) (w : Joined) → stored_at us w ≡ intern_at vs K.sorts
           K.entries (container o (look (trees vs K.sorts) c.0))
           → stored_at us w ≡ stored ws n e (resolve_term x (app (container_head o) (part t no_part)) S)
       unfolding parts_in need
-      container-made o us w q =
-          q ∙ (ap (λ u. intern_at vs K.sorts K.entries (container o u)) (reached_sort ws n e S one vs c K part-reached)
-          ∙ (intern_after ws n e S one vs c K part-reached (container o part-reached.sort) part-reached.inside (omega arith)
-          ∙ ap (stored ws n e) (sym (resolve_container x o t S ∙ ap (λ O. O then (λ u S. intern (container o u) S)) part-reached.is))))
+      container_made o us w q =
+          q ∙ (ap (λ u. intern_at vs K.sorts K.entries (container o u)) (reached_sort ws n e S one vs c K part_reached)
+          ∙ (intern_after ws n e S one vs c K part_reached (container o part_reached.sort) part_reached.inside (omega arith)
+          ∙ ap (stored ws n e) (sym (resolve_container x o t S ∙ ap (λ O. O then (λ u S. intern (container o u) S)) part_reached.is))))
 
       -- it is the first argument, and the others follow
-      pub arguments-made : (ts : Terms) → AllFormed ts → (j : ℕ) (ids : List ℕ) (d : StoredDomain)
+      pub arguments_made : (ts : Terms) → AllFormed ts → (j : ℕ) (ids : List ℕ) (d : StoredDomain)
           → d ≡ domain_of vs K.sorts K.entries (j + 1) (set ids j c.0) (resolve_arguments x ts (sorts_of vs K.sorts K.entries))
           → d ≡ domain_of ws n e j ids (resolve_arguments x (part t ts) S)
       unfolding resolve_arguments
-      arguments-made ts fs j ids d q =
+      arguments_made ts fs j ids d q =
           q ∙ (ap (λ U. domain_of vs K.sorts K.entries (j + 1) (set ids j c.0) (resolve_arguments x ts U))
-          (reached_list ws n e S one vs c K part-reached)
+          (reached_list ws n e S one vs c K part_reached)
           ∙ (ap₂ (λ ys D. domain_of ys D.sorts D.entries (j + 1) (set ids j c.0) (resolve_arguments x ts S'))
-          part-reached.words part-reached.counted
-          ∙ (domain_glue ws n e S' part-reached.grown part-reached.sort part-reached.inside c.0
-          part-reached.numbered j ids (count ts) (resolve_arguments x ts S')
+          part_reached.words part_reached.counted
+          ∙ (domain_glue ws n e S' part_reached.grown part_reached.sort part_reached.inside c.0
+          part_reached.numbered j ids (count ts) (resolve_arguments x ts S')
           (arguments_kept (after ws n e S') (length S'.trees) (max_entries - S'.entries) x ts S'
-          (grown_there ws n e S' part-reached.grown) (default_extends x S S' part-reached.extends i) fs)
-          ∙ sym (ap (λ O. domain_of ws n e j ids (O then (λ u S. resolve_arguments x ts S then (λ us S. made (arg u us) S)))) part-reached.is))))
+          (grown_there ws n e S' part_reached.grown) (default_extends x S S' part_reached.extends i) fs)
+          ∙ sym (ap (λ O. domain_of ws n e j ids (O then (λ u S. resolve_arguments x ts S then (λ us S. made (arg u us) S)))) part_reached.is))))
 
   -- a function: the arguments, then the range, then the whole
   module _ (ts : Terms) (fs : AllFormed ts) (few : count ts ≤ 16) (t : Term) (f : Formed t) where
@@ -297,23 +297,23 @@ module _ (ws : List ℕ) (C : Counts) (k : Checked ws C.sorts C.entries) (x : Op
     arguments_are_kept = arguments_kept ws n e x ts S (grown_none ws n e k) i fs
 
     module _ (vs : List ℕ) (a : Domain) (q : stored_domain vs a ≡ domain_of ws n e 0 (replicate 16 0) arguments) where
-      pub function-stops : (K : Counts) → a.found ≡ NotAll K → stored_at vs (Nothing K) ≡ stored ws n e (resolve_term x function_term S)
-      function-stops K z =
+      pub function_stops : (K : Counts) → a.found ≡ NotAll K → stored_at vs (Nothing K) ≡ stored ws n e (resolve_term x function_term S)
+      function_stops K z =
           let g = stopped_all ws n e arguments vs a K q z in
           stored_nothing ws n e g.0 vs K g.2 g.3 ∙ ap (stored ws n e) (sym (resolve_function x ts t S ∙ ap (λ O. O then whole) g.1))
 
-      pub function-ends : a.found ≡ NoRoom → stored_at vs Full ≡ stored ws n e (resolve_term x function_term S)
-      function-ends z =
+      pub function_ends : a.found ≡ NoRoom → stored_at vs Full ≡ stored ws n e (resolve_term x function_term S)
+      function_ends z =
           let g = ended_all ws n e arguments vs a q z in
           stored_full ws n e g.0 vs g.2 ∙ ap (stored ws n e) (sym (resolve_function x ts t S ∙ ap (λ O. O then whole) g.1))
 
       module _ (K : Counts) (z : a.found ≡ All K) where
         -- what the arguments' call has left
-        pub arguments-reached : ReachedAll ws n e S (count ts) arguments vs a K
-        arguments-reached = reached_all ws n e S (count ts) arguments arguments_are_kept vs a K q z
+        pub arguments_reached : ReachedAll ws n e S (count ts) arguments vs a K
+        arguments_reached = reached_all ws n e S (count ts) arguments arguments_are_kept vs a K q z
 
         abbrev S₁ : Sorts
-        S₁ = arguments-reached.sorts
+        S₁ = arguments_reached.sorts
 
         abbrev w₁ : List ℕ
         w₁ = after ws n e S₁
@@ -324,109 +324,109 @@ module _ (ws : List ℕ) (C : Counts) (k : Checked ws C.sorts C.entries) (x : Op
         abbrev e₁ : ℕ
         e₁ = max_entries - S₁.entries
 
-        grown-here : Grown w₁ n₁ e₁ S₁
-        grown-here = grown_there ws n e S₁ arguments-reached.grown
+        grown_here : Grown w₁ n₁ e₁ S₁
+        grown_here = grown_there ws n e S₁ arguments_reached.grown
 
-        default-here : DefaultIn x S₁
-        default-here = default_extends x S S₁ arguments-reached.extends i
+        default_here : DefaultIn x S₁
+        default_here = default_extends x S S₁ arguments_reached.extends i
 
-        arguments-list : sorts_of vs K.sorts K.entries ≡ S₁
-        arguments-list = left_reads ws n e S₁ arguments-reached.grown vs K arguments-reached.words arguments-reached.counted
+        arguments_list : sorts_of vs K.sorts K.entries ≡ S₁
+        arguments_list = left_reads ws n e S₁ arguments_reached.grown vs K arguments_reached.words arguments_reached.counted
 
-        range-kept : SortsKept w₁ n₁ e₁ InTree S₁ (range S₁)
-        range-kept = resolve_kept w₁ n₁ e₁ x t S₁ grown-here default-here f
+        range_kept : SortsKept w₁ n₁ e₁ InTree S₁ (range S₁)
+        range_kept = resolve_kept w₁ n₁ e₁ x t S₁ grown_here default_here f
 
-        function-then : resolve_term x function_term S ≡ (range S₁ then (λ u S. intern (function arguments-reached.args u) S))
-        function-then = resolve_function x ts t S ∙ ap (λ O. O then whole) arguments-reached.is
+        function_then : resolve_term x function_term S ≡ (range S₁ then (λ u S. intern (function arguments_reached.args u) S))
+        function_then = resolve_function x ts t S ∙ ap (λ O. O then whole) arguments_reached.is
 
         module _ (us : List ℕ) (r : Joined) (er : stored_at us r ≡ stored vs K.sorts K.entries
             (resolve_term x t (sorts_of vs K.sorts K.entries))) where
-          to-range : stored_at us r ≡ stored w₁ n₁ e₁ (range S₁)
-          to-range =
-              er ∙ (ap (λ U. stored vs K.sorts K.entries (resolve_term x t U)) arguments-list
-              ∙ ap₂ (λ ys D. stored ys D.sorts D.entries (range S₁)) arguments-reached.words arguments-reached.counted)
+          to_range : stored_at us r ≡ stored w₁ n₁ e₁ (range S₁)
+          to_range =
+              er ∙ (ap (λ U. stored vs K.sorts K.entries (resolve_term x t U)) arguments_list
+              ∙ ap₂ (λ ys D. stored ys D.sorts D.entries (range S₁)) arguments_reached.words arguments_reached.counted)
 
-          range-once : stored w₁ n₁ e₁ (range S₁) ≡ stored ws n e (range S₁)
-          range-once = stored_again ws n e S₁ arguments-reached.grown S₁ (range S₁) range-kept
+          range_once : stored w₁ n₁ e₁ (range S₁) ≡ stored ws n e (range S₁)
+          range_once = stored_again ws n e S₁ arguments_reached.grown S₁ (range S₁) range_kept
 
-          pub range-stops : (K₂ : Counts) → r ≡ Nothing K₂ → stored_at us (Nothing K₂) ≡ stored ws n e (resolve_term x function_term S)
-          range-stops K₂ y =
-              let h : stored_at us (Nothing K₂) ≡ stored w₁ n₁ e₁ (range S₁) = ap (stored_at us) (sym y) ∙ to-range in
+          pub range_stops : (K₂ : Counts) → r ≡ Nothing K₂ → stored_at us (Nothing K₂) ≡ stored ws n e (resolve_term x function_term S)
+          range_stops K₂ y =
+              let h : stored_at us (Nothing K₂) ≡ stored w₁ n₁ e₁ (range S₁) = ap (stored_at us) (sym y) ∙ to_range in
               let g = stopped w₁ n₁ e₁ (range S₁) us K₂ h in
-              h ∙ (range-once ∙ (ap (stored ws n e) g.1
-              ∙ ap (stored ws n e) (sym (function-then ∙ ap (λ O. O then (λ u S. intern (function arguments-reached.args u) S)) g.1))))
+              h ∙ (range_once ∙ (ap (stored ws n e) g.1
+              ∙ ap (stored ws n e) (sym (function_then ∙ ap (λ O. O then (λ u S. intern (function arguments_reached.args u) S)) g.1))))
 
-          pub range-ends : r ≡ Full → stored_at us Full ≡ stored ws n e (resolve_term x function_term S)
-          range-ends y =
-              let h : stored_at us Full ≡ stored w₁ n₁ e₁ (range S₁) = ap (stored_at us) (sym y) ∙ to-range in
+          pub range_ends : r ≡ Full → stored_at us Full ≡ stored ws n e (resolve_term x function_term S)
+          range_ends y =
+              let h : stored_at us Full ≡ stored w₁ n₁ e₁ (range S₁) = ap (stored_at us) (sym y) ∙ to_range in
               let g = ended w₁ n₁ e₁ (range S₁) us h in
-              h ∙ (range-once ∙ (ap (stored ws n e) g.1
-              ∙ ap (stored ws n e) (sym (function-then ∙ ap (λ O. O then (λ u S. intern (function arguments-reached.args u) S)) g.1))))
+              h ∙ (range_once ∙ (ap (stored ws n e) g.1
+              ∙ ap (stored ws n e) (sym (function_then ∙ ap (λ O. O then (λ u S. intern (function arguments_reached.args u) S)) g.1))))
 
           module _ (c : SortId) (K₂ : Counts) (y : r ≡ At c K₂) where
-            range-reached : Reached w₁ n₁ e₁ S₁ (range S₁) us c K₂
-            range-reached = reached w₁ n₁ e₁ S₁ (range S₁) range-kept us c K₂ (ap (stored_at us) (sym y) ∙ to-range)
+            range_reached : Reached w₁ n₁ e₁ S₁ (range S₁) us c K₂
+            range_reached = reached w₁ n₁ e₁ S₁ (range S₁) range_kept us c K₂ (ap (stored_at us) (sym y) ∙ to_range)
 
             abbrev S₂ : Sorts
-            S₂ = range-reached.sorts
+            S₂ = range_reached.sorts
 
             abbrev args : Trees
-            args = arguments-reached.args
+            args = arguments_reached.args
 
-            pub function-checked : Checked us K₂.sorts K₂.entries
-            function-checked = reached_checked w₁ n₁ e₁ S₁ (range S₁) us c K₂ range-reached
+            pub function_checked : Checked us K₂.sorts K₂.entries
+            function_checked = reached_checked w₁ n₁ e₁ S₁ (range S₁) us c K₂ range_reached
 
-            pub function-range-below : c.0 < K₂.sorts
-            function-range-below = reached_below w₁ n₁ e₁ S₁ (range S₁) us c K₂ range-reached
+            pub function_range_below : c.0 < K₂.sorts
+            function_range_below = reached_below w₁ n₁ e₁ S₁ (range S₁) us c K₂ range_reached
 
-            arguments-count : length (numbers S₁.trees args) ≡ count ts
-            arguments-count = length_numbers S₁.trees args ∙ arguments-reached.as_many
+            arguments_count : length (numbers S₁.trees args) ≡ count ts
+            arguments_count = length_numbers S₁.trees args ∙ arguments_reached.as_many
 
-            ids-are : take (count ts) (sort_numbers a.ids) ≡ numbers S₁.trees args
-            ids-are = ap₂ take (sym arguments-count) arguments-reached.stored_ids ∙ first_ids (numbers S₁.trees
-                args) (omega (arith, arguments-count, few))
+            ids_are : take (count ts) (sort_numbers a.ids) ≡ numbers S₁.trees args
+            ids_are = ap₂ take (sym arguments_count) arguments_reached.stored_ids ∙ first_ids (numbers S₁.trees
+                args) (omega (arith, arguments_count, few))
 
-            sorts-grow : n₁ ≤ K₂.sorts
-            sorts-grow = omega (
+            sorts_grow : n₁ ≤ K₂.sorts
+            sorts_grow = omega (
               arith,
-              reached_sorts w₁ n₁ e₁ S₁ (range S₁) us c K₂ range-reached,
+              reached_sorts w₁ n₁ e₁ S₁ (range S₁) us c K₂ range_reached,
               ap length
-                  range-reached.extends.1,
-              length-append S₁.trees range-reached.extends.0,
+                  range_reached.extends.1,
+              length-append S₁.trees range_reached.extends.0,
             )
 
-            pub function-ids-below : AllBelow K₂.sorts (take (count ts) (sort_numbers a.ids))
-            function-ids-below =
-                subst (AllBelow K₂.sorts) (sym ids-are) (weaken_all n₁ K₂.sorts (numbers S₁.trees args)
-                sorts-grow (numbers_below S₁.trees args arguments-reached.inside))
+            pub function_ids_below : AllBelow K₂.sorts (take (count ts) (sort_numbers a.ids))
+            function_ids_below =
+                subst (AllBelow K₂.sorts) (sym ids_are) (weaken_all n₁ K₂.sorts (numbers S₁.trees args)
+                sorts_grow (numbers_below S₁.trees args arguments_reached.inside))
 
-            members-there : members S₂.trees args ≡ true
-            members-there = members_extends S₁ S₂ args range-reached.extends arguments-reached.inside
+            members_there : members S₂.trees args ≡ true
+            members_there = members_extends S₁ S₂ args range_reached.extends arguments_reached.inside
 
-            args-there : look_all (trees us K₂.sorts) (take (count ts) (sort_numbers a.ids)) ≡ args
-            args-there =
-                ap₂ look_all (reached_trees w₁ n₁ e₁ S₁ (range S₁) us c K₂ range-reached)
-                (ids-are ∙ sym (numbers_extend S₁ S₂ args range-reached.extends arguments-reached.inside))
-                ∙ look_all_numbers S₂.trees args members-there
+            args_there : look_all (trees us K₂.sorts) (take (count ts) (sort_numbers a.ids)) ≡ args
+            args_there =
+                ap₂ look_all (reached_trees w₁ n₁ e₁ S₁ (range S₁) us c K₂ range_reached)
+                (ids_are ∙ sym (numbers_extend S₁ S₂ args range_reached.extends arguments_reached.inside))
+                ∙ look_all_numbers S₂.trees args members_there
 
-            few-args : arity args ≤ 16
-            few-args = omega (arith, arguments-reached.as_many, few)
+            few_args : arity args ≤ 16
+            few_args = omega (arith, arguments_reached.as_many, few)
 
-            parts-there : parts_in S₂.trees (function args range-reached.sort) ≡ true
+            parts-there : parts_in S₂.trees (function args range_reached.sort) ≡ true
             unfolding parts_in
-            parts-there = (and-eq-true_iff (members S₂.trees args) (member S₂.trees range-reached.sort)).1 (members-there, range-reached.inside)
+            parts-there = (and-eq-true_iff (members S₂.trees args) (member S₂.trees range_reached.sort)).1 (members_there, range_reached.inside)
 
-            pub function-made : (zs : List ℕ) (w : Joined)
+            pub function_made : (zs : List ℕ) (w : Joined)
                 → stored_at zs w ≡ intern_at us K₂.sorts K₂.entries (function (look_all (trees us K₂.sorts)
                 (take (count ts) (sort_numbers a.ids))) (look (trees us K₂.sorts) c.0))
                 → stored_at zs w ≡ stored ws n e (resolve_term x function_term S)
             unfolding need
-            function-made zs w g =
-                g ∙ (ap₂ (λ vs u. intern_at us K₂.sorts K₂.entries (function vs u)) args-there (reached_sort w₁ n₁ e₁ S₁ (range S₁) us c K₂ range-reached)
-                ∙ (intern_after w₁ n₁ e₁ S₁ (range S₁) us c K₂ range-reached (function args range-reached.sort) parts-there few-args
-                ∙ (stored_again ws n e S₁ arguments-reached.grown S₂ (intern (function args range-reached.sort) S₂)
-                (intern_kept w₁ n₁ e₁ S₂ range-reached.grown (function args range-reached.sort) parts-there few-args)
-                ∙ ap (stored ws n e) (sym (function-then ∙ ap (λ O. O then (λ u S. intern (function args u) S)) range-reached.is)))))
+            function_made zs w g =
+                g ∙ (ap₂ (λ vs u. intern_at us K₂.sorts K₂.entries (function vs u)) args_there (reached_sort w₁ n₁ e₁ S₁ (range S₁) us c K₂ range_reached)
+                ∙ (intern_after w₁ n₁ e₁ S₁ (range S₁) us c K₂ range_reached (function args range_reached.sort) parts-there few_args
+                ∙ (stored_again ws n e S₁ arguments_reached.grown S₂ (intern (function args range_reached.sort) S₂)
+                (intern_kept w₁ n₁ e₁ S₂ range_reached.grown (function args range_reached.sort) parts-there few_args)
+                ∙ ap (stored ws n e) (sym (function_then ∙ ap (λ O. O then (λ u S. intern (function args u) S)) range_reached.is)))))
 
 -- places in what a call has left
 module _ (ws : List ℕ) (n e : ℕ) (ns : List ℕ) (m d v : ℕ) (c : NodesChecked ws n e ns m d v) (B : Binds) (b : BindsChecked (lists_of ws n ns m) v B)
@@ -480,18 +480,18 @@ module _ (ws : List ℕ) (n e : ℕ) (ns : List ℕ) (m d v : ℕ) (c : NodesChe
 
     -- where the place is one of the lists, the parts are formed as they should be
     module _ (i : is_place n m p ≡ true) where
-      parts-formed : (h : Head) (ps : List ℕ) → graph q ≡ over h ps → AllFormed (terms_at val ps)
-      parts-formed h ps y =
+      parts_formed : (h : Head) (ps : List ℕ) → graph q ≡ over h ps → AllFormed (terms_at val ps)
+      parts_formed h ps y =
           terms_formed val ps (λ r o. value_formed ws n e ns m d v c B b r (part_is_place ws n e ns m d v c q r h ps (followed_is_place deep p q i f) y o))
 
-      pub container-formed : (o : ComplexSort) (s : ℕ) → graph q ≡ over (container_head o) (s ∷ []) → Formed (val s)
+      pub container_formed : (o : ComplexSort) (s : ℕ) → graph q ≡ over (container_head o) (s ∷ []) → Formed (val s)
       unfolding AllFormed
-      container-formed o s y = (parts-formed (container_head o) (s ∷ []) y).0
+      container_formed o s y = (parts_formed (container_head o) (s ∷ []) y).0
 
-      pub function-formed : (xs : List ℕ) (r : ℕ) → graph q ≡ over (function_head (length xs)) (xs ++ (r ∷ []))
+      pub function_formed : (xs : List ℕ) (r : ℕ) → graph q ≡ over (function_head (length xs)) (xs ++ (r ∷ []))
           → AllFormed (terms_at val xs) × Formed (val r) × (count (terms_at val xs) ≤ 16)
-      function-formed xs r y =
+      function_formed xs r y =
           let z = formed_split (terms_at val xs) (val r) (subst AllFormed (terms_with_last val xs r)
-          (parts-formed (function_head (length xs)) (xs ++ (r ∷ [])) y)) in
+          (parts_formed (function_head (length xs)) (xs ++ (r ∷ [])) y)) in
           let o = subst ShapeOver y (place_over ws n e ns m d v c q (followed_is_place deep p q i f)) in
           (z.0, z.1, omega (arith, o.1, count_terms val xs))

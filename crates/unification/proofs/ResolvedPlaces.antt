@@ -28,7 +28,7 @@ use Rattle.unification.proofs.Rows.{ShapeFormed, variable_formed, flat_formed, c
 use Rattle.unification.proofs.Lists.{part_is_place, place_formed, sort_value_lem}
 use Rattle.unification.proofs.Theorem.{checked_ranked}
 use Rattle.unification.specs.Growing.{Names, PlacedIn, Grows}
-use Rattle.unification.proofs.Grows.{placed_grown, value-grown}
+use Rattle.unification.proofs.Grows.{placed_grown, value_grown}
 use Rattle.unification.proofs.SortsGrow.{with_more_sorts, sorts_grow}
 use Rattle.unification.proofs.ResolvedSorts.{count, HeadOver, Formed, AllFormed, sort_is_found}
 
@@ -117,4 +117,4 @@ module _ (ws : List ℕ) (n e : ℕ) (ns : List ℕ) (m d v : ℕ) (c : NodesChe
 
     -- a place stands for what it stood for
     pub value_there : (p : ℕ) → is_place n m p ≡ true → value (shape_at there) B p ≡ value (shape_at (lists_of ws n ns m)) B p
-    value_there = value-grown before c (with_more_sorts before S) grows B names
+    value_there = value_grown before c (with_more_sorts before S) grows B names

@@ -34,16 +34,16 @@ module _ (shape : ℕ → Shape) (B : Binds) (l r : ℕ) where
     pub free_variables_can_differ : Robinson shape B l r (yes_with C) → (v w : ℕ) → binding C v ≡ none → binding C w ≡ none → v ≢ w
         → (t u : Term) → (σ : ℕ → Term) × Solves shape B l r σ × (σ v ≡ t) × (σ w ≡ u)
     free_variables_can_differ (says_yes C to from acyclic ex) v w f g n t u =
-        ((ex given).0, to _ (ex given).1.0, (ex given).1.1 v f ∙ at-v, (ex given).1.1 w g ∙ at-w)
+        ((ex given).0, to _ (ex given).1.0, (ex given).1.1 v f ∙ at_v, (ex given).1.1 w g ∙ at_w)
       where
         given : ℕ → Term
         given x = cond (eqb x v) t u
 
-        at-v : given v ≡ t
-        at-v = rw (eq-eqb v v refl)
+        at_v : given v ≡ t
+        at_v = rw (eq-eqb v v refl)
 
-        at-w : given w ≡ u
-        at-w = rw (ne_eqb w v (λ e. n (sym e)))
+        at_w : given w ≡ u
+        at_w = rw (ne_eqb w v (λ e. n (sym e)))
 
 -- Two answers that say the same are both no, or both yes.
 pub same_answer_no_exactly : (shape shape' : ℕ → Shape) (a a' : Unifies) → SameAnswer shape shape' a a' → (a ≡ no_way) ↔ (a' ≡ no_way)

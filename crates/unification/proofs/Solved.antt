@@ -74,13 +74,13 @@ module _ (shape : ℕ → Shape) (K : ℕ) (lower : Lower shape K) where
       ρ = rank shape w B
 
       -- what v is bound to stands no lower than what v occurs in
-      reaches-down : (v q p : ℕ) → binding B v ≡ some q → Reaches shape B v p → ρ q < ρ p
-      reaches-down v q _ e (here p s) = omega (arith, rank_var shape w B A p v q s e)
-      reaches-down v q _ e (inside p r h ps s o t) = omega (arith, reaches-down v q r e t, rank_over shape w B A p h ps s, one_highest ρ ps r o)
-      reaches-down v q _ e (beyond p u r s b t) = omega (arith, reaches-down v q r e t, rank_var shape w B A p u r s b)
+      reaches_down : (v q p : ℕ) → binding B v ≡ some q → Reaches shape B v p → ρ q < ρ p
+      reaches_down v q _ e (here p s) = omega (arith, rank_var shape w B A p v q s e)
+      reaches_down v q _ e (inside p r h ps s o t) = omega (arith, reaches_down v q r e t, rank_over shape w B A p h ps s, one_highest ρ ps r o)
+      reaches_down v q _ e (beyond p u r s b t) = omega (arith, reaches_down v q r e t, rank_var shape w B A p u r s b)
 
-      pub numbered-acyclic : Acyclic shape B
-      numbered-acyclic v q e t = let x = reaches-down v q q e t in omega (arith, x)
+      pub numbered_acyclic : Acyclic shape B
+      numbered_acyclic v q e t = let x = reaches_down v q q e t in omega (arith, x)
 
     -- whatever the free variables stand for, there is a solution
     pub solution : (C : Binds) → Numbering shape n C → (free : ℕ → Term) → (σ : ℕ → Term) × (Respects shape C σ × ((v : ℕ) → binding C v ≡ none → σ v ≡ free v))
@@ -101,5 +101,5 @@ module _ (shape : ℕ → Shape) (K : ℕ) (lower : Lower shape K) where
           go (yes_with C) e k z =
               says_yes C (λ σ m. let y = e.1 σ (value σ) (model_of C σ m) in (respects_of B σ y.0, y.1))
               (λ σ m q. respects_of C σ (e.2 σ (value σ) (model_of B σ m) q))
-              (numbered-acyclic C k.numbering)
+              (numbered_acyclic C k.numbering)
               (λ free. solution C k.numbering free)

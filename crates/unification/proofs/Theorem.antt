@@ -20,7 +20,7 @@ use Rattle.unification.proofs.FineLists as fine
 use Rattle.unification.proofs.Lists.{lower, scoped}
 use Rattle.unification.proofs.Settles.{acyclic_numbered}
 use Rattle.unification.proofs.Cycle.{refused_cyclic}
-use Rattle.unification.proofs.Solved.{robinson, numbered-acyclic}
+use Rattle.unification.proofs.Solved.{robinson, numbered_acyclic}
 
 deep_for : (v : ℕ) → v ≤ max_vars → suc v * 3073 + 3072 < deep
 deep_for v l = omega (arith, l)
@@ -30,7 +30,7 @@ module _ (ws : List ℕ) (n e : ℕ) (ns : List ℕ) (m d v : ℕ) (c : ListsFin
   -- Bindings that pass check 7: no variable reaches itself.
   pub check_7_acyclic : (B : Binds) → acyclic ns m B ≡ true → Acyclic (shape_at (lists_of ws n ns m)) B
   check_7_acyclic B a =
-      numbered-acyclic (shape_at (lists_of ws n ns m)) 3072 (fine.lower ws n e ns m d v c) v (fine.scoped ws n e ns m d
+      numbered_acyclic (shape_at (lists_of ws n ns m)) 3072 (fine.lower ws n e ns m d v c) v (fine.scoped ws n e ns m d
       v c) deep (deep_for v c.variables) B (acyclic_numbered ws n e ns m d v c B a)
 
   -- Check 7 passes exactly where no variable reaches itself, and refuses exactly where one does.

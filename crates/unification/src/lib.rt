@@ -1,4 +1,6 @@
 // The unifier of merc's unification.rs: the types that definitions, contracts and code speak of.
+#![tactic(auto)]
+
 use resolved_sort::{ComplexSort, Run, SortId};
 
 // A place, the Rust's InferSortId: an interned sort (below 1,024) or a node. The port has no Resolved node.

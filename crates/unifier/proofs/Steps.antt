@@ -108,19 +108,19 @@ module _ (ws ns bs ts : List ℕ) (k : Lengths) (c : ℕ) (t : Trying ws ns bs t
     left_end_rank = end_no_higher shape deep B (ready_ranked ws ns bs k q) deep l l' fl
 
     module _ (d : l' ≡ r' → ⊥) where
-      by-shapes : unify shape B l r ≡ unify_shapes shape deep (unify shape) B l' (shape l') r' (shape r')
-      by-shapes = at_ends ∙ rw (ne_eqb l' r' d)
+      by_shapes : unify shape B l r ≡ unify_shapes shape deep (unify shape) B l' (shape l') r' (shape r')
+      by_shapes = at_ends ∙ rw (ne_eqb l' r' d)
 
-      left-free : (v : SortVar) → Is v ≡ var_at (shape l') → Free bs k v.0
-      left-free v x = let s = is_variable (shape l') v x in record {
+      left_free : (v : SortVar) → Is v ≡ var_at (shape l') → Free bs k v.0
+      left_free v x = let s = is_variable (shape l') v x in record {
         listed = scoped ws k.sorts k.entries ns
             k.nodes k.arguments k.variables q.nodes l' v.0 s;
         free = follow_end shape B deep l l' v.0
             fl s;
       }
 
-      right-free : (u : SortVar) → Is u ≡ var_at (shape r') → Free bs k u.0
-      right-free u x = let s = is_variable (shape r') u x in record {
+      right_free : (u : SortVar) → Is u ≡ var_at (shape r') → Free bs k u.0
+      right_free u x = let s = is_variable (shape r') u x in record {
         listed = scoped ws k.sorts k.entries ns
             k.nodes k.arguments k.variables q.nodes r' u.0 s;
         free = follow_end shape B deep r r' u.0
@@ -129,47 +129,47 @@ module _ (ws ns bs ts : List ℕ) (k : Lengths) (c : ℕ) (t : Trying ws ns bs t
 
       module _ (v : SortVar) (xv : Is v ≡ var_at (shape l')) where
         module _ (u : SortVar) (xu : Is u ≡ var_at (shape r')) where
-          pub two-variables : Trying ws ns bs ts k c × Free bs k v.0 × Free bs k u.0 × Placed k r' × VariableAt ws ns k r' u.0
-          two-variables = (t, left-free v xv, right-free u xu, right_end_placed, record { stands = is_variable (shape r') u xu })
+          pub two_variables : Trying ws ns bs ts k c × Free bs k v.0 × Free bs k u.0 × Placed k r' × VariableAt ws ns k r' u.0
+          two_variables = (t, left_free v xv, right_free u xu, right_end_placed, record { stands = is_variable (shape r') u xu })
 
-          pub variables-tried : (bs₁ ts₁ : List ℕ) (a : Tried)
+          pub variables_tried : (bs₁ ts₁ : List ℕ) (a : Tried)
               → TryLeaves ws ns k (unify_variables shape (eqb v.0 u.0) B v.0 r') bs ts c bs₁ ts₁ a
               → TryLeaves ws ns k (unify shape B l r) bs ts c bs₁ ts₁ a
-          variables-tried bs₁ ts₁ a = tries_as ws ns k _ _ bs ts c bs₁ ts₁ a
-              (sym (by-shapes ∙ rw (is_variable (shape l') v xv, is_variable (shape r') u xu)))
+          variables_tried bs₁ ts₁ a = tries_as ws ns k _ _ bs ts c bs₁ ts₁ a
+              (sym (by_shapes ∙ rw (is_variable (shape l') v xv, is_variable (shape r') u xu)))
 
         module _ (xr : Nothing ≡ var_at (shape r')) where
-          pub left-variable : Trying ws ns bs ts k c × Free bs k v.0 × Placed k r'
-          left-variable = (t, left-free v xv, right_end_placed)
+          pub left_variable : Trying ws ns bs ts k c × Free bs k v.0 × Placed k r'
+          left_variable = (t, left_free v xv, right_end_placed)
 
-          pub left-tried : (bs₁ ts₁ : List ℕ) (a : Tried)
+          pub left_tried : (bs₁ ts₁ : List ℕ) (a : Tried)
               → TryLeaves ws ns k (bind_unless shape (occurs shape deep B v.0 r') B v.0 r') bs ts c bs₁ ts₁ a
               → TryLeaves ws ns k (unify shape B l r) bs ts c bs₁ ts₁ a
-          left-tried bs₁ ts₁ a = tries_as ws ns k _ _ bs ts c bs₁ ts₁ a
-              (sym (by-shapes ∙ rw (is_variable (shape l') v xv) (rw (is_solid (shape r') xr))))
+          left_tried bs₁ ts₁ a = tries_as ws ns k _ _ bs ts c bs₁ ts₁ a
+              (sym (by_shapes ∙ rw (is_variable (shape l') v xv) (rw (is_solid (shape r') xr))))
 
       module _ (xl : Nothing ≡ var_at (shape l')) where
         module _ (u : SortVar) (xu : Is u ≡ var_at (shape r')) where
-          pub right-variable : Trying ws ns bs ts k c × Free bs k u.0 × Placed k l'
-          right-variable = (t, right-free u xu, left_end_placed)
+          pub right_variable : Trying ws ns bs ts k c × Free bs k u.0 × Placed k l'
+          right_variable = (t, right_free u xu, left_end_placed)
 
-          pub right-tried : (bs₁ ts₁ : List ℕ) (a : Tried)
+          pub right_tried : (bs₁ ts₁ : List ℕ) (a : Tried)
               → TryLeaves ws ns k (bind_unless shape (occurs shape deep B u.0 l') B u.0 l') bs ts c bs₁ ts₁ a
               → TryLeaves ws ns k (unify shape B l r) bs ts c bs₁ ts₁ a
-          right-tried bs₁ ts₁ a = tries_as ws ns k _ _ bs ts c bs₁ ts₁ a
-              (sym (by-shapes ∙ rw (is_variable (shape r') u xu) (rw (is_solid (shape l') xl))))
+          right_tried bs₁ ts₁ a = tries_as ws ns k _ _ bs ts c bs₁ ts₁ a
+              (sym (by_shapes ∙ rw (is_variable (shape r') u xu) (rw (is_solid (shape l') xl))))
 
         module _ (xr : Nothing ≡ var_at (shape r')) where
-          pub left-solid : Solid ws ns k l'
-          left-solid = record { placed = left_end_placed; solid = is_solid (shape l') xl }
+          pub left_solid : Solid ws ns k l'
+          left_solid = record { placed = left_end_placed; solid = is_solid (shape l') xl }
 
-          pub right-solid : Solid ws ns k r'
-          right-solid = record { placed = right_end_placed; solid = is_solid (shape r') xr }
+          pub right_solid : Solid ws ns k r'
+          right_solid = record { placed = right_end_placed; solid = is_solid (shape r') xr }
 
-          pub parts-tried : (bs₁ ts₁ : List ℕ) (a : Tried)
+          pub parts_tried : (bs₁ ts₁ : List ℕ) (a : Tried)
               → TryLeaves ws ns k (unify_shapes shape deep (unify shape) B l' (shape l') r' (shape r')) bs ts c bs₁
               ts₁ a → TryLeaves ws ns k (unify shape B l r) bs ts c bs₁ ts₁ a
-          parts-tried bs₁ ts₁ a = tries_as ws ns k _ _ bs ts c bs₁ ts₁ a (sym by-shapes)
+          parts_tried bs₁ ts₁ a = tries_as ws ns k _ _ bs ts c bs₁ ts₁ a (sym by_shapes)
 
   -- two ends at which no variable stands
   module _ (l r : ℕ) (sl : Solid ws ns k l) (sr : Solid ws ns k r) where
@@ -180,17 +180,17 @@ module _ (ws ns bs ts : List ℕ) (k : Lengths) (c : ℕ) (t : Trying ws ns bs t
     by_heads = ap₂ (λ (y z : Shape). unify_shapes shape deep (unify shape) B l y r z) sl.solid sr.solid
 
     module _ (h : Bool) (eh : h ≡ same_head (head_of (shape l)) (head_of (shape r))) where
-      pub other-heads : h ≡ false → TryLeaves ws ns k whole bs ts c bs ts (No c)
-      other-heads y =
+      pub other_heads : h ≡ false → TryLeaves ws ns k whole bs ts c bs ts (No c)
+      other_heads y =
           tries_as ws ns k no_way whole bs ts c bs ts (No c)
           (sym (by_heads ∙ ap (λ z. unify_heads shape z (unify shape) B (parts_of (shape l)) (parts_of (shape r))) (sym eh ∙ y))) (no_try ws ns k bs ts c q)
 
       module _ (y : h ≡ true) where
-        same-heads : whole ≡ unify_all shape (unify shape) B (parts_of (shape l)) (parts_of (shape r))
-        same-heads = by_heads ∙ ap (λ z. unify_heads shape z (unify shape) B (parts_of (shape l)) (parts_of (shape r))) (sym eh ∙ y)
+        same_heads : whole ≡ unify_all shape (unify shape) B (parts_of (shape l)) (parts_of (shape r))
+        same_heads = by_heads ∙ ap (λ z. unify_heads shape z (unify shape) B (parts_of (shape l)) (parts_of (shape r))) (sym eh ∙ y)
 
-        pub parts-begin : (n : ℕ) → n ≡ length (parts_of (shape l)) → Unifying ws ns k l r n whole bs ts c bs ts c 0
-        parts-begin n en =
+        pub parts_begin : (n : ℕ) → n ≡ length (parts_of (shape l)) → Unifying ws ns k l r n whole bs ts c bs ts c 0
+        parts_begin n en =
             record {
               trying = t;
               alike = record {
@@ -200,7 +200,7 @@ module _ (ws ns bs ts : List ℕ) (k : Lengths) (c : ℕ) (t : Trying ws ns bs t
                 as_many = en ∙ same_count ws ns k
                     q.nodes l r sl.placed sr.placed (sym eh ∙ y);
               };
-              rest = λ bs₁ ts₁ w. tries_as ws ns k _ _ bs ts c bs₁ ts₁ w (sym same-heads);
+              rest = λ bs₁ ts₁ w. tries_as ws ns k _ _ bs ts c bs₁ ts₁ w (sym same_heads);
               work = omega arith;
               same_binds = refl;
               same_trail = refl;
@@ -234,37 +234,37 @@ module _ (ws ns bs ts : List ℕ) (k : Lengths) (c : ℕ) (t : Trying ws ns bs t
         (binds_nothing ws ns k bs ts c q))
 
     module _ (d : i < n) where
-      left-inside : i < length ps
-      left-inside = omega (arith, g.alike.many, d)
+      left_inside : i < length ps
+      left_inside = omega (arith, g.alike.many, d)
 
-      right-inside : i < length qs
-      right-inside = omega (arith, g.alike.as_many, d)
+      right_inside : i < length qs
+      right_inside = omega (arith, g.alike.as_many, d)
 
-      pub left-part : NodesReady ws ns k × Placed k l × (i < length ps)
-      left-part = (q.nodes, g.alike.left, left-inside)
+      pub left_part : NodesReady ws ns k × Placed k l × (i < length ps)
+      left_part = (q.nodes, g.alike.left, left_inside)
 
-      pub right-part : NodesReady ws ns k × Placed k r × (i < length qs)
-      right-part = (q.nodes, g.alike.right, right-inside)
+      pub right_part : NodesReady ws ns k × Placed k r × (i < length qs)
+      right_part = (q.nodes, g.alike.right, right_inside)
 
       module _ (x y : ℕ) (ex : x ≡ get_or ps i 0) (ey : y ≡ get_or qs i 0) where
-        abbrev one-x : One x ps
-        one-x = subst (λ (z : ℕ). One z ps) (sym ex) (one_at ps i left-inside)
+        abbrev one_x : One x ps
+        one_x = subst (λ (z : ℕ). One z ps) (sym ex) (one_at ps i left_inside)
 
-        pub left-placed : Placed k x
-        left-placed = part_placed l x (head_of (shape l)) ps g.alike.left (by_parts (shape l) i left-inside) one-x
+        pub left_placed : Placed k x
+        left_placed = part_placed l x (head_of (shape l)) ps g.alike.left (by_parts (shape l) i left_inside) one_x
 
-        pub right-placed : Placed k y
-        right-placed = part_placed r y (head_of (shape r)) qs g.alike.right (by_parts (shape r) i right-inside)
-            (subst (λ (z : ℕ). One z qs) (sym ey) (one_at qs i right-inside))
+        pub right_placed : Placed k y
+        right_placed = part_placed r y (head_of (shape r)) qs g.alike.right (by_parts (shape r) i right_inside)
+            (subst (λ (z : ℕ). One z qs) (sym ey) (one_at qs i right_inside))
 
-        pub part-lower : work_of ws ns bs k x < work_of ws ns bs₀ k l
-        part-lower =
+        pub part_lower : work_of ws ns bs k x < work_of ws ns bs₀ k l
+        part_lower =
             omega (
               arith,
               g.work,
               rank_over shape deep B (ready_ranked ws ns bs k q) l (head_of (shape l)) ps
-                  (by_parts (shape l) i left-inside),
-              one_highest (rank shape deep B) ps x one-x,
+                  (by_parts (shape l) i left_inside),
+              one_highest (rank shape deep B) ps x one_x,
             )
 
         others : Binds → Unifies
@@ -275,20 +275,20 @@ module _ (ws ns bs ts : List ℕ) (k : Lengths) (c : ℕ) (t : Trying ws ns bs t
         parts-split =
             sym
             (ap₂ (λ (xs ys : List ℕ). unify_all shape (unify shape) B xs ys)
-            (drop-cons ps i 0 left-inside ∙ ap₂ (λ (z j : ℕ). z ∷ drop j ps) (sym ex) (sym (add-one i)))
-            (drop-cons qs i 0 right-inside ∙ ap₂ (λ (z j : ℕ). z ∷ drop j qs) (sym ey) (sym (add-one i))))
+            (drop-cons ps i 0 left_inside ∙ ap₂ (λ (z j : ℕ). z ∷ drop j ps) (sym ex) (sym (add-one i)))
+            (drop-cons qs i 0 right_inside ∙ ap₂ (λ (z j : ℕ). z ∷ drop j qs) (sym ey) (sym (add-one i))))
 
         module _ (bs₁ ts₁ : List ℕ) where
-          pub part-fails : (m : ℕ) (z : Tried) → z ≡ No m → TryLeaves ws ns k (unify shape B x y) bs ts c bs₁ ts₁ z
+          pub part_fails : (m : ℕ) (z : Tried) → z ≡ No m → TryLeaves ws ns k (unify shape B x y) bs ts c bs₁ ts₁ z
               → TryLeaves ws ns k U bs₀ ts₀ c₀ bs₁ ts₁ (No m)
-          part-fails m z e u =
+          part_fails m z e u =
               g.rest bs₁ ts₁ (No m)
               (tries_as ws ns k _ _ bs ts c bs₁ ts₁ (No m) parts-split
               (then_no ws ns k (unify shape B x y) others bs ts c bs₁ ts₁ m (subst (TryLeaves ws ns k (unify shape B x y) bs ts c bs₁ ts₁) e u)))
 
           module _ (m : ℕ) (z : Tried) (e : z ≡ Yes m) (u : TryLeaves ws ns k (unify shape B x y) bs ts c bs₁ ts₁ z) where
-            abbrev yes-tried : TryLeaves ws ns k (unify shape B x y) bs ts c bs₁ ts₁ (Yes m)
-            yes-tried = subst (TryLeaves ws ns k (unify shape B x y) bs ts c bs₁ ts₁) e u
+            abbrev yes_tried : TryLeaves ws ns k (unify shape B x y) bs ts c bs₁ ts₁ (Yes m)
+            yes_tried = subst (TryLeaves ws ns k (unify shape B x y) bs ts c bs₁ ts₁) e u
 
             next-by : (X : Unifies) → BindsKept shape k.variables B X → X ≡ yes_with (binds_of bs₁ k.variables)
                 → YesLeaves shape k.variables B (binds_of bs₁ k.variables)
@@ -304,27 +304,27 @@ module _ (ws ns bs ts : List ℕ) (k : Lengths) (c : ℕ) (t : Trying ws ns bs t
                 (scoped ws k.sorts k.entries ns k.nodes k.arguments k.variables q.nodes) deep
                 (deep_enough ws k.sorts k.entries ns k.nodes k.arguments k.variables q.nodes) deeper
                 B x y q.binds.many q.binds.numbered)
-                yes-tried.says
+                yes_tried.says
 
             -- fewer variables are free, or the bindings are as before
-            work-falls : work_of ws ns bs₁ k l ≤ work_of ws ns bs k l
-            work-falls = go next.fewer
+            work_falls : work_of ws ns bs₁ k l ≤ work_of ws ns bs k l
+            work_falls = go next.fewer
               where
                 go : (binds_of bs₁ k.variables ≡ B) ⊎ (frees (binds_of bs₁ k.variables) < frees B) → work_of ws ns bs₁ k l ≤ work_of ws ns bs k l
                 go (inl j) = rw j (omega arith)
                 go (inr j) =
-                    let s = (ready_ranked ws ns bs₁ k yes-tried.ready).short l in
+                    let s = (ready_ranked ws ns bs₁ k yes_tried.ready).short l in
                     omega (arith, s, mul-le-mul_right deep j)
 
-            pub parts-go-on : length bs₁ ≡ length bs → length ts₁ ≡ length ts → Unifying ws ns k l r n U bs₀ ts₀ c₀ bs₁ ts₁ m (i + 1)
+            pub parts_go_on : length bs₁ ≡ length bs → length ts₁ ≡ length ts → Unifying ws ns k l r n U bs₀ ts₀ c₀ bs₁ ts₁ m (i + 1)
             unfolding others
-            parts-go-on lb lt =
+            parts_go_on lb lt =
                 record {
-                  trying = trying_on ws ns k (unify shape B x y) bs ts c bs₁ ts₁ m t lt yes-tried;
+                  trying = trying_on ws ns k (unify shape B x y) bs ts c bs₁ ts₁ m t lt yes_tried;
                   alike = g.alike;
                   rest = λ bs₂ ts₂ w s. g.rest bs₂ ts₂ w (tries_as ws ns k _ _ bs ts c bs₂ ts₂ w parts-split
-                      (then_on ws ns k (unify shape B x y) others bs ts c bs₁ ts₁ m yes-tried bs₂ ts₂ w s));
-                  work = omega (arith, g.work, work-falls);
+                      (then_on ws ns k (unify shape B x y) others bs ts c bs₁ ts₁ m yes_tried bs₂ ts₂ w s));
+                  work = omega (arith, g.work, work_falls);
                   same_binds = lb ∙ g.same_binds;
                   same_trail = lt ∙ g.same_trail;
                 }

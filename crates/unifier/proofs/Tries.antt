@@ -161,38 +161,38 @@ module _ (ws ns : List ℕ) (k : Lengths) where
         (set ts c v) (Yes (c + 1)) e (one_bound bs ts c t v w f p o))
 
     module _ (b : Bool) (e : occurs (graph_of ws ns k) deep old v w ≡ of_test b) where
-      pub occurs-no : b ≡ true → TryLeaves ws ns k checked bs ts c bs ts (No c)
-      occurs-no x = tries_as no_way checked bs ts c bs ts (No c)
+      pub occurs_no : b ≡ true → TryLeaves ws ns k checked bs ts c bs ts (No c)
+      occurs_no x = tries_as no_way checked bs ts c bs ts (No c)
           (sym (ap (λ o. bind_unless (graph_of ws ns k) o old v w) (e ∙ ap of_test x))) (no_try bs ts c t.ready)
 
       module _ (x : b ≡ false) where
-        is-absent : occurs (graph_of ws ns k) deep old v w ≡ absent
-        is-absent = e ∙ ap of_test x
+        is_absent : occurs (graph_of ws ns k) deep old v w ≡ absent
+        is_absent = e ∙ ap of_test x
 
-        pub room-to-bind : (v < length bs) × (c < length ts)
-        room-to-bind = bind_room bs ts c t v w f p is-absent
+        pub room_to_bind : (v < length bs) × (c < length ts)
+        room_to_bind = bind_room bs ts c t v w f p is_absent
 
-        pub bound-yes : (bs₁ ts₁ : List ℕ) → bs₁ ≡ set bs v w → ts₁ ≡ set ts c v → TryLeaves ws ns k checked bs ts c bs₁ ts₁ (Yes (c + 1))
-        bound-yes = set_yes checked is-absent (sym (ap (λ o. bind_unless (graph_of ws ns k) o old v w) is-absent))
+        pub bound_yes : (bs₁ ts₁ : List ℕ) → bs₁ ≡ set bs v w → ts₁ ≡ set ts c v → TryLeaves ws ns k checked bs ts c bs₁ ts₁ (Yes (c + 1))
+        bound_yes = set_yes checked is_absent (sym (ap (λ o. bind_unless (graph_of ws ns k) o old v w) is_absent))
 
     module _ (u : ℕ) (g : Free bs k u) (s : VariableAt ws ns k w u) where
       abbrev variables : Unifies
       variables = unify_variables (graph_of ws ns k) (eqb v u) old v w
 
-      pub one-variable : v ≡ u → TryLeaves ws ns k variables bs ts c bs ts (Yes c)
-      one-variable e = tries_as (yes_with old) variables bs ts c bs ts (Yes c)
+      pub one_variable : v ≡ u → TryLeaves ws ns k variables bs ts c bs ts (Yes c)
+      one_variable e = tries_as (yes_with old) variables bs ts c bs ts (Yes c)
           (sym (ap (λ b. unify_variables (graph_of ws ns k) b old v w) (eq-eqb v u e))) (binds_nothing bs ts c
           t.ready)
 
       module _ (d : v ≡ u → ⊥) where
-        other-absent : occurs (graph_of ws ns k) deep old v w ≡ absent
-        other-absent = occurs_eq (graph_of ws ns k) deep old (ready_ranked ws ns bs k t.ready) v w ∙ rw s.stands (rw g.free (ap of_test (ne_eqb v u d)))
+        other_absent : occurs (graph_of ws ns k) deep old v w ≡ absent
+        other_absent = occurs_eq (graph_of ws ns k) deep old (ready_ranked ws ns bs k t.ready) v w ∙ rw s.stands (rw g.free (ap of_test (ne_eqb v u d)))
 
-        pub room-for-variable : (v < length bs) × (c < length ts)
-        room-for-variable = bind_room bs ts c t v w f p other-absent
+        pub room_for_variable : (v < length bs) × (c < length ts)
+        room_for_variable = bind_room bs ts c t v w f p other_absent
 
-        pub variable-yes : (bs₁ ts₁ : List ℕ) → bs₁ ≡ set bs v w → ts₁ ≡ set ts c v → TryLeaves ws ns k variables bs ts c bs₁ ts₁ (Yes (c + 1))
-        variable-yes = set_yes variables other-absent (sym (ap (λ b. unify_variables (graph_of ws ns k) b old v w) (ne_eqb v u d)))
+        pub variable_yes : (bs₁ ts₁ : List ℕ) → bs₁ ≡ set bs v w → ts₁ ≡ set ts c v → TryLeaves ws ns k variables bs ts c bs₁ ts₁ (Yes (c + 1))
+        variable_yes = set_yes variables other_absent (sym (ap (λ b. unify_variables (graph_of ws ns k) b old v w) (ne_eqb v u d)))
 
 -- undoing, one at a time
 module _ (ts : List ℕ) (base count : ℕ) where

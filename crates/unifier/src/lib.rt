@@ -1,5 +1,7 @@
 // Unification over lent storage: from merc's unification.rs, unify and bind. A trail of the variables bound stands in
 // for the snapshots of ena, and undoing it for rollback_to.
+#![tactic(auto)]
+
 ghost use Rattle.std.specs.Prelude.{◌≡◌, ◌+◌, ◌-◌, ◌<◌, ◌≤◌, length, set, eqb};
 ghost use Rattle.unification.specs.Nodes.{binds_of};
 ghost use Rattle.unification.specs.Unify.{occurs as occursIn, bind_unless, unify_variables, unify_shapes};

@@ -83,11 +83,11 @@ module _ (ws : List ℕ) (n e : ℕ) (ns : List ℕ) (m d : ℕ) (bs : List ℕ)
       fine : bindings_fine n m C ≡ true
       fine = named_places_fine n m C (names C y)
 
-      solved-by : Robinson shape B l r (yes_with C)
-      solved-by = subst (Robinson shape B l r) y is_robinson
+      solved_by : Robinson shape B l r (yes_with C)
+      solved_by = subst (Robinson shape B l r) y is_robinson
 
       settled : acyclic ns m C ≡ true
-      settled = go C solved-by many fine
+      settled = go C solved_by many fine
         where
           go : (C : Binds) → Robinson shape B l r (yes_with C) → length C ≡ v → bindings_fine n m C ≡ true → acyclic ns m C ≡ true
           go C (says_yes _ sound complete a solution) k p = (check_7_exactly ws n e ns m d v (fine_of ws n e ns m d v checked.nodes) C k p).0.1 a
@@ -96,13 +96,13 @@ module _ (ws : List ℕ) (n e : ℕ) (ns : List ℕ) (m d : ℕ) (bs : List ℕ)
       unfolding unify_checks node_checks bindings_within_lent
       same-checks = rw (held, as_long, fine, settled, (chain ws n e ns m d bs v l r f).6, (chain ws n e ns m d bs v l r f).7)
 
-      left-yes : LeftYes ws n e ns m d bs v l r words
-      left-yes = record { passed = f; solved = rw held solved-by; long = as_long; past = rest; again = ap first_failing same-checks ∙ f }
+      left_yes : LeftYes ws n e ns m d bs v l r words
+      left_yes = record { passed = f; solved = rw held solved_by; long = as_long; past = rest; again = ap first_failing same-checks ∙ f }
 
     by_answer : (a : Unifies) → unify shape B l r ≡ a → Robinson shape B l r a → (vs : List ℕ) (u : Unified)
         → binds_left vs u ≡ binds_left_by bs v a → LeftSays ws n e ns m d bs v l r vs u
     unfolding binds_left_by
-    by_answer (yes_with C) y x vs u w = subst (λ (z : BindsLeft). LeftSays ws n e ns m d bs v l r z.words z.answer) (sym w) (left-yes C y)
+    by_answer (yes_with C) y x vs u w = subst (λ (z : BindsLeft). LeftSays ws n e ns m d bs v l r z.words z.answer) (sym w) (left_yes C y)
     by_answer no_way y (says_no h) vs u w = subst (λ (z : BindsLeft). LeftSays ws n e ns m d bs v l r z.words
         z.answer) (sym w) (record { passed = f; given = refl; no_solution = h })
 

@@ -55,23 +55,23 @@ module _ (ws : List ℕ) (n : ℕ) (ns : List ℕ) (m l r : ℕ) where
       unfolding place_checks
       past-12 t z = passes (x && y) _ same_places 12 _ (both_of_two x y h k) t z
 
-      pub sorts-short : length ws < full_length → Refused 14 ≡ tested_of (first_failing places)
+      pub sorts_short : length ws < full_length → Refused 14 ≡ tested_of (first_failing places)
       unfolding at_ceiling
-      sorts-short q = past-12 (Refused 14) (ap tested_of (sym (first_fails fourteen [] (rw (lt-leb full_length (length ws) q)))))
+      sorts_short q = past-12 (Refused 14) (ap tested_of (sym (first_fails fourteen [] (rw (lt-leb full_length (length ws) q)))))
 
       module _ (q : full_length ≤ length ws) where
-        pub nodes-short : length ns < full_nodes → Refused 14 ≡ tested_of (first_failing places)
+        pub nodes_short : length ns < full_nodes → Refused 14 ≡ tested_of (first_failing places)
         unfolding at_ceiling
-        nodes-short z = past-12 (Refused 14)
+        nodes_short z = past-12 (Refused 14)
             (ap tested_of (sym (first_fails fourteen [] (rw (
               le-leb full_length (length ws) q,
               lt-leb full_nodes
                   (length ns) z,
             )))))
 
-        pub all-in-place : full_nodes ≤ length ns → Passed ≡ tested_of (first_failing places)
+        pub all_in_place : full_nodes ≤ length ns → Passed ≡ tested_of (first_failing places)
         unfolding at_ceiling first_failing
-        all-in-place z = past-12 Passed (ap tested_of (sym (first_passes fourteen [] (rw (le-leb full_length (length ws) q, le-leb full_nodes (length ns) z)))))
+        all_in_place z = past-12 Passed (ap tested_of (sym (first_passes fourteen [] (rw (le-leb full_length (length ws) q, le-leb full_nodes (length ns) z)))))
 
   pub lhs_stray : (x : Bool) → x ≡ is_place n m l → not x ≡ true → Refused 12 ≡ tested_of (first_failing places)
   unfolding place_checks
@@ -92,17 +92,17 @@ module _ (ws : List ℕ) (n e : ℕ) (ns : List ℕ) (m d : ℕ) (bs : List ℕ)
     sorts_outside h = fails _ _ refl 1 _ (ap (λ z. not (z && nodes_within_lent ns m d && bindings_within_lent bs v)) (sym ea ∙ not-true a h))
 
     module _ (ha : not a ≡ false) (b : Bool) (eb : b ≡ nodes_within_lent ns m d) where
-      pub nodes-outside : not b ≡ true → Refused 1 ≡ tested_of (first_failing all)
+      pub nodes_outside : not b ≡ true → Refused 1 ≡ tested_of (first_failing all)
       unfolding unify_checks
-      nodes-outside h = fails _ _ refl 1 _ (ap₂ (λ y z. not (y && z && bindings_within_lent bs v)) (sym ea ∙ not-false a ha) (sym eb ∙ not-true b h))
+      nodes_outside h = fails _ _ refl 1 _ (ap₂ (λ y z. not (y && z && bindings_within_lent bs v)) (sym ea ∙ not-false a ha) (sym eb ∙ not-true b h))
 
       module _ (hb : not b ≡ false) (c : Bool) (ec : c ≡ bindings_within_lent bs v) where
-        two-within : (within_lent ws n e && nodes_within_lent ns m d) ≡ true
-        two-within = ap₂ (λ (y z : Bool). y && z) (sym ea ∙ not-false a ha) (sym eb ∙ not-false b hb)
+        two_within : (within_lent ws n e && nodes_within_lent ns m d) ≡ true
+        two_within = ap₂ (λ (y z : Bool). y && z) (sym ea ∙ not-false a ha) (sym eb ∙ not-false b hb)
 
-        pub bindings-outside : not c ≡ true → Refused 1 ≡ tested_of (first_failing all)
+        pub bindings_outside : not c ≡ true → Refused 1 ≡ tested_of (first_failing all)
         unfolding unify_checks
-        bindings-outside h = fails _ _ refl 1 _ (ap₂ (λ (y z : Bool). not (y && z)) two-within (sym ec ∙ not-true c h))
+        bindings_outside h = fails _ _ refl 1 _ (ap₂ (λ (y z : Bool). not (y && z)) two_within (sym ec ∙ not-true c h))
 
         module _ (hc : not c ≡ false) where
           pub ceilings : (m ≤ max_nodes) × (v ≤ max_vars)
@@ -119,18 +119,18 @@ module _ (ws : List ℕ) (n e : ℕ) (ns : List ℕ) (m d : ℕ) (bs : List ℕ)
 
           past-1 : (t : Tested) → t ≡ tested_of (first_failing (sorted ++ rest)) → t ≡ tested_of (first_failing all)
           unfolding unify_checks
-          past-1 t z = passes _ _ refl 1 _ (ap₂ (λ (y z : Bool). not (y && z)) two-within (sym ec ∙ not-false c hc)) t z
+          past-1 t z = passes _ _ refl 1 _ (ap₂ (λ (y z : Bool). not (y && z)) two_within (sym ec ∙ not-false c hc)) t z
 
           module _ (t : Tested) (et : t ≡ tested_of (first_failing (sort_checks ws n e))) where
             by-sorts : t ≡ tested_of (first_failing sorted)
             unfolding sort_checks
             by-sorts = et ∙ ap tested_of (first_passes _ sorted (sym ea ∙ not-false a ha))
 
-            pub sorts-refused : (code : ℕ) → t ≡ Refused code → Refused code ≡ tested_of (first_failing all)
-            sorts-refused code x = past-1 (Refused code) (first_refuses sorted rest t by-sorts code x)
+            pub sorts_refused : (code : ℕ) → t ≡ Refused code → Refused code ≡ tested_of (first_failing all)
+            sorts_refused code x = past-1 (Refused code) (first_refuses sorted rest t by-sorts code x)
 
-            pub rest-decides : t ≡ Passed → (u : Tested) → u ≡ tested_of (first_failing rest) → u ≡ tested_of (first_failing all)
-            rest-decides p u y = past-1 u (second_decides sorted rest t by-sorts p u y)
+            pub rest_decides : t ≡ Passed → (u : Tested) → u ≡ tested_of (first_failing rest) → u ≡ tested_of (first_failing all)
+            rest_decides p u y = past-1 u (second_decides sorted rest t by-sorts p u y)
 
   -- no check fails
   module _ (x : first_failing all ≡ none) where
@@ -203,15 +203,15 @@ module _ (ws ns bs : List ℕ) (k : Lengths) (q : Ready ws ns bs k) where
             ∙ take-append-drop k.variables bs₁
 
     module _ (c : ℕ) (e : t ≡ TriedNo c) where
-      pub trail-long : length ts₁ ≡ 512 → (0 ≤ c) × (c ≤ length ts₁)
-      trail-long g = (omega arith, omega (arith, g, ends, frees_few (binds_of bs k.variables), length_binds bs k.variables, q.nodes.variables))
+      pub trail_long : length ts₁ ≡ 512 → (0 ≤ c) × (c ≤ length ts₁)
+      trail_long g = (omega arith, omega (arith, g, ends, frees_few (binds_of bs k.variables), length_binds bs k.variables, q.nodes.variables))
         where
           ends : c + frees (binds_of bs₁ k.variables) ≡ 0 + frees (binds_of bs k.variables)
           ends = (subst (λ z. TryLeaves ws ns k U bs ts 0 bs₁ ts₁ z) e x).spent
 
-      pub no-leaves : (bs₂ : List ℕ) → bs₂ ≡ undo ts₁ 0 (c - 0) bs₁ → binds_left bs₂ No ≡ binds_left_by bs k.variables U
+      pub no_leaves : (bs₂ : List ℕ) → bs₂ ≡ undo ts₁ 0 (c - 0) bs₁ → binds_left bs₂ No ≡ binds_left_by bs k.variables U
       unfolding binds_left_by
-      no-leaves bs₂ u = sym (ap (binds_left_by bs k.variables) y.says ∙ ap (λ xs. binds_left xs No) (sym (u ∙ y.undone)))
+      no_leaves bs₂ u = sym (ap (binds_left_by bs k.variables) y.says ∙ ap (λ xs. binds_left xs No) (sym (u ∙ y.undone)))
         where
           y : TryLeaves ws ns k U bs ts 0 bs₁ ts₁ (TriedNo c)
           y = subst (λ z. TryLeaves ws ns k U bs ts 0 bs₁ ts₁ z) e x

@@ -1,5 +1,7 @@
 // The entry unify. It takes the lent sort and node storage, the bindings and their counts, tests them itself, and has
 // no `requires`: whatever a caller hands in, the answer and the bindings at exit are the defined ones.
+#![tactic(auto)]
+
 ghost use Rattle.std.specs.Prelude.{◌≡◌, ◌++◌, ◌≤◌};
 ghost use Rattle.resolved_sort.specs.Checks.{first_failing};
 ghost use Rattle.resolved_sort.specs.Inner.Entries.{tested_of};

@@ -1,5 +1,5 @@
 -- Lists of words: a part of one, and a part of one zero.
-use Rattle.std.specs.Prelude.{List, ◌++◌, ℕ, zero, ◌-◌, take, drop, replicate}
+use Rattle.std.specs.Prelude.{List, ◌++◌, ℕ, ◌-◌, take, drop, replicate}
 
 -- Words a up to b zero.
 unfoldable pub zeros : ℕ → ℕ → List ℕ → List ℕ

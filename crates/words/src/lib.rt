@@ -1,5 +1,7 @@
 // Lent lists of 16-bit words: a word read, put, cleared, copied. A word past the end counts as 0,
 // so no read needs a check before it.
+#![tactic(auto)]
+
 ghost use Rattle.std.specs.Prelude.{◌≡◌, ◌+◌, ◌≤◌, length, get_or, set};
 ghost use Rattle.std.proofs.lemmas.List.Edits.{sets};
 ghost use Rattle.words.specs.Words.{part, zeros};

@@ -68,14 +68,14 @@ part M t =
       omega (
         arith,
         start.requires.0,
-        law.subsort-lower args.sorts.now args.nodes.now args.binds.now
+        law.subsort_lower args.sorts.now args.nodes.now args.binds.now
             args.lengths start.requires.1.0 args.var.0 args.id.0 _ start.requires.1.1
             at-shallow-normalize.shallow-normalize.ensures n.0 _ (at-node.node.ensures ∙ ap (node_at args.nodes.now) n.1) _ _
             c.before.subsort.given.1,
       ),
       (
         start.requires.1.0,
-        law.subsort-placed args.sorts.now args.nodes.now
+        law.subsort_placed args.sorts.now args.nodes.now
             args.binds.now args.lengths start.requires.1.0 args.var.0 args.id.0 _ start.requires.1.1
             at-shallow-normalize.shallow-normalize.ensures n.0 _ (at-node.node.ensures ∙ ap (node_at args.nodes.now) n.1) _ _
             c.before.subsort.given.1,
@@ -93,14 +93,14 @@ part M t =
       omega (
         arith,
         start.requires.0,
-        law.run-lower args.sorts.now args.nodes.now args.binds.now
+        law.run_lower args.sorts.now args.nodes.now args.binds.now
             args.lengths start.requires.1.0 args.var.0 args.id.0 _ start.requires.1.1
             at-shallow-normalize.shallow-normalize.ensures n.0 _ (at-node.node.ensures ∙ ap (node_at args.nodes.now) n.1) _ _
             c.before.domain.given.1,
       ),
       (
         start.requires.1.0,
-        law.run-placed args.sorts.now args.nodes.now
+        law.run_placed args.sorts.now args.nodes.now
             args.binds.now args.lengths start.requires.1.0 args.var.0 args.id.0 _ start.requires.1.1
             at-shallow-normalize.shallow-normalize.ensures n.0 _ (at-node.node.ensures ∙ ap (node_at args.nodes.now) n.1) _ _
             c.before.domain.given.1,
@@ -115,7 +115,7 @@ part M t =
     let start = at-shallow-normalize.before.before.before.before in
     let args = start.args in
     let n = apart.is_node _ _ at-taken.taken-apart.ensures _ at_at.at.given.1 in
-    law.occurs-in-domain args.sorts.now args.nodes.now args.binds.now args.lengths start.requires.1.0
+    law.occurs_in_domain args.sorts.now args.nodes.now args.binds.now args.lengths start.requires.1.0
     args.var.0 args.id.0 _ start.requires.1.1 at-shallow-normalize.shallow-normalize.ensures
     n.0 _ (at-node.node.ensures ∙ ap (node_at args.nodes.now) n.1) _ _ at-domain.domain.given.1
     c.before.occurs-any.result c.before.occurs-any.ensures c.if1.true)
@@ -138,7 +138,7 @@ part M t =
       ),
       (
         start.requires.1.0,
-        law.range-placed args.sorts.now args.nodes.now
+        law.range_placed args.sorts.now args.nodes.now
             args.binds.now args.lengths start.requires.1.0 args.var.0 args.id.0 _ start.requires.1.1
             at-shallow-normalize.shallow-normalize.ensures n.0 _ (at-node.node.ensures ∙ ap (node_at args.nodes.now) n.1) _ _
             at-domain.domain.given.1,
@@ -163,7 +163,7 @@ part M t =
     let start = at-shallow-normalize.before.before.before.before in
     let args = start.args in
     let n = apart.is_node _ _ at-taken.taken-apart.ensures _ at_at.at.given.1 in
-    law.occurs-in-subsort args.sorts.now args.nodes.now args.binds.now args.lengths start.requires.1.0
+    law.occurs_in_subsort args.sorts.now args.nodes.now args.binds.now args.lengths start.requires.1.0
     args.var.0 args.id.0 _ start.requires.1.1 at-shallow-normalize.shallow-normalize.ensures
     n.0 _ (at-node.node.ensures ∙ ap (node_at args.nodes.now) n.1) _ _ at-subsort.subsort.given.1 c.occurs.result
     c.occurs.ensures)
@@ -177,7 +177,7 @@ part M t =
     let start = at-shallow-normalize.before.before.before.before in
     let args = start.args in
     let n = apart.is_node _ _ at-taken.taken-apart.ensures _ at_at.at.given.1 in
-    law.occurs-in-range args.sorts.now args.nodes.now args.binds.now args.lengths start.requires.1.0
+    law.occurs_in_range args.sorts.now args.nodes.now args.binds.now args.lengths start.requires.1.0
     args.var.0 args.id.0 _ start.requires.1.1 at-shallow-normalize.shallow-normalize.ensures
     n.0 _ (at-node.node.ensures ∙ ap (node_at args.nodes.now) n.1) _ _ at-domain.domain.given.1
     at-occurs-any.occurs-any.result c.occurs2.result at-occurs-any.occurs-any.ensures
@@ -191,6 +191,6 @@ part M t =
     let start = at-shallow-normalize.before.before.before.before in
     let args = start.args in
     let n = apart.is_node _ _ at-taken.taken-apart.ensures _ at_at.at.given.1 in
-    law.occurs-at-variable args.sorts.now args.nodes.now args.binds.now args.lengths start.requires.1.0
+    law.occurs_at_variable args.sorts.now args.nodes.now args.binds.now args.lengths start.requires.1.0
     args.var.0 args.id.0 _ start.requires.1.1 at-shallow-normalize.shallow-normalize.ensures
     n.0 _ (at-node.node.ensures ∙ ap (node_at args.nodes.now) n.1) _ at_other.other.given.1)

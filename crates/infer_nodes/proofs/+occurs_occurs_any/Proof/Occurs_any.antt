@@ -79,7 +79,7 @@ part M t =
     let args = start.args in
     omega (
       arith,
-      law.more-inside args.sorts.now args.nodes.now args.binds.now args.lengths
+      law.more_inside args.sorts.now args.nodes.now args.binds.now args.lengths
           start.requires.1.0 _ _ _ _ _ at-loop.loop.invariant at-loop-test.loop-test.true _
           at-argument.argument.ensures,
       start.requires.1.0.nodes.entries,
@@ -92,7 +92,7 @@ part M t =
     let at-loop = at-loop-test.before in
     let start = at-loop.before.before.before.before in
     let args = start.args in
-    law.search-goes-on args.sorts.now args.nodes.now args.binds.now args.lengths start.requires.1.0 _ _
+    law.search_goes_on args.sorts.now args.nodes.now args.binds.now args.lengths start.requires.1.0 _ _
     _ _ _ at-loop.loop.invariant at-loop-test.loop-test.true _ at-argument.argument.ensures
     c.before.occurs.result c.before.occurs.ensures c.if1.false)
     (λ c.

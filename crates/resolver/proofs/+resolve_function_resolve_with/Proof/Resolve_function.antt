@@ -54,10 +54,10 @@ part M t =
       omega (
         arith,
         start.requires.0,
-        going.argument-falls _ _ _ _ _ _ _ _ _ _ _ _ at-loop.loop.invariant
+        going.argument_falls _ _ _ _ _ _ _ _ _ _ _ _ at-loop.loop.invariant
             at-loop-test.loop-test.true _ c.before.argument.ensures,
       ),
-      going.argument-ready _ _ _ _ _ _ _ _ _ _ _
+      going.argument_ready _ _ _ _ _ _ _ _ _ _ _
           _ at-loop.loop.invariant at-loop-test.loop-test.true _ c.before.argument.ensures,
     ))
     (λ c. search rules)
@@ -84,7 +84,7 @@ part M t =
     let at-argument = at-resolve-with.before.before in
     let at-loop-test = at-argument.before in
     let at-loop = at-loop-test.before in
-    going.argument-stops _ _ _ _ _ _ _ _ _ _ _ _ at-loop.loop.invariant at-loop-test.loop-test.true _
+    going.argument_stops _ _ _ _ _ _ _ _ _ _ _ _ at-loop.loop.invariant at-loop-test.loop-test.true _
     at-argument.argument.ensures _ at-resolve-with.resolve-with.result
     at-resolve-with.resolve-with.ensures _ c.before.made.given.1)
     (λ c. search rules)
@@ -97,7 +97,7 @@ part M t =
     let at-argument = at-resolve-with.before.before in
     let at-loop-test = at-argument.before in
     let at-loop = at-loop-test.before in
-    going.argument-ends _ _ _ _ _ _ _ _ _ _ _ _ at-loop.loop.invariant at-loop-test.loop-test.true _
+    going.argument_ends _ _ _ _ _ _ _ _ _ _ _ _ at-loop.loop.invariant at-loop-test.loop-test.true _
     at-argument.argument.ensures _ at-resolve-with.resolve-with.result
     at-resolve-with.resolve-with.ensures c.enum_told.given.1)
     (λ c.
@@ -133,7 +133,7 @@ part M t =
     let at-resolve-with2 = at-id2.before.before.before.before in
     let at-loop-test = at-resolve-with2.before.before in
     let at-loop = at-loop-test.before in
-    going.function-asked _ _ _ _ _ _ _ _ _ _ _ _ at-loop.loop.invariant at-loop-test.loop-test.false _
+    going.function_asked _ _ _ _ _ _ _ _ _ _ _ _ at-loop.loop.invariant at-loop-test.loop-test.false _
     at-resolve-with2.resolve-with2.result at-resolve-with2.resolve-with2.ensures _ _
     at-id2.id2.given.1)
     (λ c. search rules)
@@ -149,7 +149,7 @@ part M t =
     let at-resolve-with2 = at-id2.before.before.before.before in
     let at-loop-test = at-resolve-with2.before.before in
     let at-loop = at-loop-test.before in
-    going.function-made _ _ _ _ _ _ _ _ _ _ _ _ at-loop.loop.invariant at-loop-test.loop-test.false _
+    going.function_made _ _ _ _ _ _ _ _ _ _ _ _ at-loop.loop.invariant at-loop-test.loop-test.false _
     at-resolve-with2.resolve-with2.result at-resolve-with2.resolve-with2.ensures _ _
     at-id2.id2.given.1 _ _ at-function.function.ensures)
     (λ c.
@@ -160,7 +160,7 @@ part M t =
     let at-resolve-with2 = c.before.before.before.before.before in
     let at-loop-test = at-resolve-with2.before.before in
     let at-loop = at-loop-test.before in
-    going.range-stops _ _ _ _ _ _ _ _ _ _ _ _ at-loop.loop.invariant at-loop-test.loop-test.false _
+    going.range_stops _ _ _ _ _ _ _ _ _ _ _ _ at-loop.loop.invariant at-loop-test.loop-test.false _
     at-resolve-with2.resolve-with2.result at-resolve-with2.resolve-with2.ensures _
     c.before.made2.given.1)
     (λ c.
@@ -171,6 +171,6 @@ part M t =
     let at-resolve-with2 = c.before.before.before.before in
     let at-loop-test = at-resolve-with2.before.before in
     let at-loop = at-loop-test.before in
-    going.range-ends _ _ _ _ _ _ _ _ _ _ _ _ at-loop.loop.invariant at-loop-test.loop-test.false _
+    going.range_ends _ _ _ _ _ _ _ _ _ _ _ _ at-loop.loop.invariant at-loop-test.loop-test.false _
     at-resolve-with2.resolve-with2.result at-resolve-with2.resolve-with2.ensures
     c.enum-told2.given.1)

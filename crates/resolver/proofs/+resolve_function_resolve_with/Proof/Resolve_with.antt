@@ -121,7 +121,7 @@ part M t =
       omega (
         arith,
         start.requires.0,
-        law.function-size args.sorts.now args.nodes.now args.binds.now
+        law.function_size args.sorts.now args.nodes.now args.binds.now
             args.lengths start.requires.1.0 args.default start.requires.1.1 args.id.0 _ start.requires.1.2
             at-shallow-normalize.shallow-normalize.ensures n.0 _ (at-node.node.ensures ∙ ap (node_at args.nodes.now) n.1) _ _
             at-domain.domain.given.1,
@@ -129,10 +129,10 @@ part M t =
       (
         start.requires.1.0,
         start.requires.1.1,
-        law.domain-placed args.sorts.now
+        law.domain_placed args.sorts.now
             args.nodes.now args.binds.now args.lengths start.requires.1.0 args.default start.requires.1.1
             args.id.0 _ start.requires.1.2 at-shallow-normalize.shallow-normalize.ensures n.0 _ (at-node.node.ensures ∙ ap (node_at args.nodes.now) n.1) _ _ at-domain.domain.given.1,
-        law.range-placed args.sorts.now
+        law.range_placed args.sorts.now
             args.nodes.now args.binds.now args.lengths start.requires.1.0 args.default start.requires.1.1
             args.id.0 _ start.requires.1.2 at-shallow-normalize.shallow-normalize.ensures n.0 _ (at-node.node.ensures ∙ ap (node_at args.nodes.now) n.1) _ _ at-domain.domain.given.1,
       ),
@@ -164,7 +164,7 @@ part M t =
     let start = at-shallow-normalize.before.before.before.before.before in
     let args = start.args in
     let n = apart.is_node _ _ at-taken.taken-apart.ensures _ at_at.at.given.1 in
-    law.container-made args.sorts.now args.nodes.now args.binds.now args.lengths start.requires.1.0
+    law.container_made args.sorts.now args.nodes.now args.binds.now args.lengths start.requires.1.0
     args.default start.requires.1.1 args.id.0 _ start.requires.1.2
     at-shallow-normalize.shallow-normalize.ensures n.0 _ (at-node.node.ensures ∙ ap (node_at args.nodes.now) n.1) _ _
     at_op.op.given.1 _ at-resolve-with.resolve-with.result at-resolve-with.resolve-with.ensures _ _
@@ -212,7 +212,7 @@ part M t =
     let start = at-shallow-normalize.before.before.before.before.before in
     let args = start.args in
     let n = apart.is_node _ _ at-taken.taken-apart.ensures _ at_at.at.given.1 in
-    law.function-resolved args.sorts.now args.nodes.now args.binds.now args.lengths start.requires.1.0
+    law.function_resolved args.sorts.now args.nodes.now args.binds.now args.lengths start.requires.1.0
     args.default start.requires.1.1 args.id.0 _ start.requires.1.2
     at-shallow-normalize.shallow-normalize.ensures n.0 _ (at-node.node.ensures ∙ ap (node_at args.nodes.now) n.1) _ _
     at-domain.domain.given.1 _ _ at-resolve-function.resolve-function.ensures)
@@ -226,7 +226,7 @@ part M t =
     let start = at-shallow-normalize.before.before.before.before.before in
     let args = start.args in
     let n = apart.is_node _ _ at-taken.taken-apart.ensures _ at_at.at.given.1 in
-    law.variable-answers args.sorts.now args.nodes.now args.binds.now args.lengths start.requires.1.0
+    law.variable_answers args.sorts.now args.nodes.now args.binds.now args.lengths start.requires.1.0
     args.default start.requires.1.1 args.id.0 _ start.requires.1.2
     at-shallow-normalize.shallow-normalize.ensures n.0 _ (at-node.node.ensures ∙ ap (node_at args.nodes.now) n.1) _
     at-enum-told2.enum-told2.given.1 _ c.before.counts-of2.ensures _ c.free-sort.ensures)

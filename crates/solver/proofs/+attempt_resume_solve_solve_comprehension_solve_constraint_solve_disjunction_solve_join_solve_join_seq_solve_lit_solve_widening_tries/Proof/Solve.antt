@@ -55,7 +55,7 @@ part M t =
     let at-if1 = at-if2.before.before in
     let at-dominated = at-if1.before in
     let start = at-dominated.before.before.before.before.before.before.before in
-    sv.solve-leaf _ _ _ _ _ _ _ _ _ start.requires.1 _ (at-dominated.dominated.ensures _) at-if1.if1.false
+    sv.solve_leaf _ _ _ _ _ _ _ _ _ start.requires.1 _ (at-dominated.dominated.ensures _) at-if1.if1.false
     at-if2.if2.true _ _ _ _ _ at_leaf.leaf.ensures)
     (λ c κs. tt)
     (λ c.
@@ -85,6 +85,6 @@ part M t =
     let at-if1 = at-if2.before.before in
     let at-dominated = at-if1.before in
     let start = at-dominated.before.before.before.before.before.before.before in
-    sv.solve-on _ _ _ _ _ _ _ _ _ start.requires.1 _ (at-dominated.dominated.ensures _) at-if1.if1.false
+    sv.solve_on _ _ _ _ _ _ _ _ _ start.requires.1 _ (at-dominated.dominated.ensures _) at-if1.if1.false
     at-if2.if2.false _ at-constraint-at.constraint-at.ensures _ _ _ _ _
     at-solve-constraint.solve-constraint.ensures)

@@ -73,11 +73,11 @@ part M t =
     let start = at-if1.before.before.before.before.before.before in (
       omega (arith, start.requires.0, at-if1.if1.false),
       (
-        re.reading-asked _ _ _ _ _ _ _ _ _ _ _ _ start.args.found _
+        re.reading_asked _ _ _ _ _ _ _ _ _ _ _ _ start.args.found _
             start.requires.1.0 start.requires.1.1 start.requires.1.2 start.requires.1.3 at-if1.if1.false _ _
             (rw at-reading-op.reading-op.ensures at at-intern-container.intern-container.ensures) _ _
             at-container.container.given.1 _ c.before.with-lengths.ensures,
-        re.reading-placed _ _ _ _ _ _ _ _ _
+        re.reading_placed _ _ _ _ _ _ _ _ _
             _ _ _ start.args.found _ start.requires.1.0 start.requires.1.1 start.requires.1.2 start.requires.1.3
             at-if1.if1.false _ _ (rw at-reading-op.reading-op.ensures at
             at-intern-container.intern-container.ensures) _ _ at-container.container.given.1 _
@@ -103,25 +103,25 @@ part M t =
     let args = start.args in (
       omega (arith, start.requires.0, at-if1.if1.false),
       (
-        re.readings-asked _ _ _ _ _ _ _ _ _ _ _ _ args.found _
+        re.readings_asked _ _ _ _ _ _ _ _ _ _ _ _ args.found _
             start.requires.1.0 start.requires.1.1 start.requires.1.2 start.requires.1.3 at-if1.if1.false _ _
             (rw at-reading-op.reading-op.ensures at at-intern-container.intern-container.ensures) _ _
             at-container.container.given.1 _ at-with-lengths.with-lengths.ensures _
             at-reading-body.reading-body.ensures _ _ _ _ _ at-attempt.attempt.ensures _ at_after.after.ensures
             _ _ at-s.s.given.1,
-        (re.reading-places _ _ _ _ _ _ _ _ _ _ _ _ args.found _ start.requires.1.0
+        (re.reading_places _ _ _ _ _ _ _ _ _ _ _ _ args.found _ start.requires.1.0
             start.requires.1.1 start.requires.1.2 start.requires.1.3 at-if1.if1.false _ _
             (rw at-reading-op.reading-op.ensures at at-intern-container.intern-container.ensures) _ _
             at-container.container.given.1 _ at-with-lengths.with-lengths.ensures _
             at-reading-body.reading-body.ensures _ _ _ _ _ at-attempt.attempt.ensures _ at_after.after.ensures
             _ _ at-s.s.given.1).0,
-        (re.reading-places _ _ _ _ _ _ _ _ _ _ _ _ args.found _ start.requires.1.0
+        (re.reading_places _ _ _ _ _ _ _ _ _ _ _ _ args.found _ start.requires.1.0
             start.requires.1.1 start.requires.1.2 start.requires.1.3 at-if1.if1.false _ _
             (rw at-reading-op.reading-op.ensures at at-intern-container.intern-container.ensures) _ _
             at-container.container.given.1 _ at-with-lengths.with-lengths.ensures _
             at-reading-body.reading-body.ensures _ _ _ _ _ at-attempt.attempt.ensures _ at_after.after.ensures
             _ _ at-s.s.given.1).1,
-        (re.reading-places _ _ _ _ _ _ _ _ _ _ _ _ args.found _ start.requires.1.0
+        (re.reading_places _ _ _ _ _ _ _ _ _ _ _ _ args.found _ start.requires.1.0
             start.requires.1.1 start.requires.1.2 start.requires.1.3 at-if1.if1.false _ _
             (rw at-reading-op.reading-op.ensures at at-intern-container.intern-container.ensures) _ _
             at-container.container.given.1 _ at-with-lengths.with-lengths.ensures _
@@ -162,7 +162,7 @@ part M t =
     let at-reading-op = at-intern-container.before in
     let at-if1 = at-reading-op.before.before.before in
     let start = at-if1.before.before.before.before.before.before in
-    re.readings-on _ _ _ _ _ _ _ _ _ _ _ _ start.args.found _ start.requires.1.0 start.requires.1.1
+    re.readings_on _ _ _ _ _ _ _ _ _ _ _ _ start.args.found _ start.requires.1.0 start.requires.1.1
     start.requires.1.2 start.requires.1.3 at-if1.if1.false _ _ (rw at-reading-op.reading-op.ensures at
     at-intern-container.intern-container.ensures) _ _ at-container.container.given.1 _
     at-with-lengths.with-lengths.ensures _ at-reading-body.reading-body.ensures _ _ _ _ _
@@ -185,7 +185,7 @@ part M t =
     let at-reading-op = at-intern-container.before in
     let at-if1 = at-reading-op.before.before.before in
     let start = at-if1.before.before.before.before.before.before in
-    re.readings-stop _ _ _ _ _ _ _ _ _ _ _ _ start.args.found _ start.requires.1.0 start.requires.1.1
+    re.readings_stop _ _ _ _ _ _ _ _ _ _ _ _ start.args.found _ start.requires.1.0 start.requires.1.1
     start.requires.1.2 start.requires.1.3 at-if1.if1.false _ _ (rw at-reading-op.reading-op.ensures at
     at-intern-container.intern-container.ensures) _ _ at-container.container.given.1 _
     at-with-lengths.with-lengths.ensures _ at-reading-body.reading-body.ensures _ _ _ _ _

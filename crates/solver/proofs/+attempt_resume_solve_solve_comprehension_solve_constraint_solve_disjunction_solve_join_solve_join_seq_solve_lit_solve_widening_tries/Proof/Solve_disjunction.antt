@@ -66,7 +66,7 @@ part M t =
     let start = at-loop.before.before.before.before.before.before in (
       omega (arith, start.requires.0),
       (
-        ov.overload-asked _ _ _ _ _ _ _ _ _ _ _ _ _ _ _ _ _ _ _ at-loop.loop.invariant
+        ov.overload_asked _ _ _ _ _ _ _ _ _ _ _ _ _ _ _ _ _ _ _ at-loop.loop.invariant
             at-loop-test.loop-test.true _ at-overload-place.overload-place.ensures,
         ov.overload_placed _ _ _ _ _
             _ _ _ _ _ _ _ _ _ _ _ _ _ _ at-loop.loop.invariant at-loop-test.loop-test.true _
@@ -99,7 +99,7 @@ part M t =
     let at-loop-test = at-overload-place.before in
     let at-loop = at-loop-test.before in
     let start = at-loop.before.before.before.before.before.before in
-    ov.for_its_expr _ _ _ _ _ _ _ _ _ _ _ _ start.requires.1.0 _ _ _ _ _ (ov.overloads-stop _ _ _ _ _ _ _ _ _ _ _ _ _
+    ov.for_its_expr _ _ _ _ _ _ _ _ _ _ _ _ start.requires.1.0 _ _ _ _ _ (ov.overloads_stop _ _ _ _ _ _ _ _ _ _ _ _ _
     _ _ _ _ _ _ at-loop.loop.invariant at-loop-test.loop-test.true _
     at-overload-place.overload-place.ensures _ _ _ _ _ at-attempt.attempt.ensures _
     at_after.after.ensures _ _ c.before.code.given.1))
@@ -117,7 +117,7 @@ part M t =
     let at-overload-place = at-attempt.before.before.before.before.before in
     let at-loop-test = at-overload-place.before in
     let at-loop = at-loop-test.before in
-    ov.overloads-on _ _ _ _ _ _ _ _ _ _ _ _ _ _ _ _ _ _ _ at-loop.loop.invariant at-loop-test.loop-test.true _
+    ov.overloads_on _ _ _ _ _ _ _ _ _ _ _ _ _ _ _ _ _ _ _ at-loop.loop.invariant at-loop-test.loop-test.true _
     at-overload-place.overload-place.ensures _ _ _ _ _ at-attempt.attempt.ensures _
     at_after.after.ensures _ _ c.before.then.given.1)
     (λ c κs. tt)

@@ -46,9 +46,9 @@ part M t =
     let start = at-agreed.before.before.before.before.before.before.before.before.before.before.before in (
       omega (arith, start.pre.0),
       (
-        jo.lub-asked _ _ _ _ _ _ _ _ _ _ _ start.pre.1.0 start.pre.1.1 _ _ _
+        jo.lub_asked _ _ _ _ _ _ _ _ _ _ _ start.pre.1.0 start.pre.1.1 _ _ _
             at-agreed.agreed.ensures _ _ at-lub.lub.given.1 _ c.with-lengths.ensures,
-        jo.lub-placed _ _ _ _ _
+        jo.lub_placed _ _ _ _ _
             _ _ _ _ _ _ start.pre.1.0 start.pre.1.1 _ _ _ at-agreed.agreed.ensures _ _
             at-lub.lub.given.1 _ c.with-lengths.ensures,
       ),
@@ -70,7 +70,7 @@ part M t =
     let at-lub = at-with-lengths.before.before.before.before.before.before in
     let at-agreed = at-lub.before.before.before.before.before.before in
     let start = at-agreed.before.before.before.before.before.before.before.before.before.before.before in
-    jo.join-stop _ _ _ _ _ _ _ _ _ _ _ start.pre.1.0 start.pre.1.1 _ _ _ at-agreed.agreed.ensures _ _
+    jo.join_stop _ _ _ _ _ _ _ _ _ _ _ start.pre.1.0 start.pre.1.1 _ _ _ at-agreed.agreed.ensures _ _
     at-lub.lub.given.1 _ at-with-lengths.with-lengths.ensures _ _ _ _ _ at-attempt.attempt.ensures
     (not_missed c.match2.keys2))
     (λ c.
@@ -84,7 +84,7 @@ part M t =
     let at-agreed = at-lub.before.before.before.before.before.before in
     let start = at-agreed.before.before.before.before.before.before.before.before.before.before.before in (
       omega (arith, start.pre.0, start.pre.1.1.inside, start.pre.1.0.sized.sources),
-      jo.seq-asked _ _ _ _ _
+      jo.seq_asked _ _ _ _ _
           _ _ _ _ _ _ start.pre.1.0 start.pre.1.1 _ _ _ at-agreed.agreed.ensures _ _
           at-lub.lub.given.1 _ at-with-lengths.with-lengths.ensures _ _ _ _ _ at-attempt.attempt.ensures _
           at_first.first.given.1,
@@ -99,7 +99,7 @@ part M t =
     let at-agreed = at-made.before.before.before.before.before.before in
     let start = at-agreed.before.before.before.before.before.before.before.before.before.before.before in (
       omega (arith, start.pre.0, start.pre.1.1.inside, start.pre.1.0.sized.sources),
-      jo.none-asked _ _ _ _ _
+      jo.none_asked _ _ _ _ _
           _ _ _ _ _ _ start.pre.1.0 start.pre.1.1 _ _ _ at-agreed.agreed.ensures _
           at-made.made.given.1 _ c.with-lengths2.ensures,
     ))
@@ -130,7 +130,7 @@ part M t =
     let at-lub = at-with-lengths.before.before.before.before.before.before in
     let at-agreed = at-lub.before.before.before.before.before.before in
     let start = at-agreed.before.before.before.before.before.before.before.before.before.before.before in
-    jo.join-next _ _ _ _ _ _ _ _ _ _ _ start.pre.1.0 start.pre.1.1 _ _ _ at-agreed.agreed.ensures _ _
+    jo.join_next _ _ _ _ _ _ _ _ _ _ _ start.pre.1.0 start.pre.1.1 _ _ _ at-agreed.agreed.ensures _ _
     at-lub.lub.given.1 _ at-with-lengths.with-lengths.ensures _ _ _ _ _ at-attempt.attempt.ensures _
     at_first.first.given.1 _ _ _ _ _ at-solve-join-seq.solve-join-seq.ensures)
     (λ c.
@@ -149,7 +149,7 @@ part M t =
     let at-made = at-with-lengths2.before.before.before.before.before.before in
     let at-agreed = at-made.before.before.before.before.before.before in
     let start = at-agreed.before.before.before.before.before.before.before.before.before.before.before in
-    jo.join-none _ _ _ _ _ _ _ _ _ _ _ start.pre.1.0 start.pre.1.1 _ _ _ at-agreed.agreed.ensures _
+    jo.join_none _ _ _ _ _ _ _ _ _ _ _ start.pre.1.0 start.pre.1.1 _ _ _ at-agreed.agreed.ensures _
     at-made.made.given.1 _ at-with-lengths2.with-lengths2.ensures _ _ _ _ _
     at-solve-join-seq2.solve-join-seq2.ensures)
     (λ c. c.before.before.before.before.before.before.before.agreed.auto.0)

@@ -77,7 +77,7 @@ part M t =
       omega (
         arith,
         start.requires.0,
-        (wi.tries-fine-here _ _ _ _ _ _ _ _ _ _ _ (wi.asked_again _ _ _ _ _ _ _ _ _ _ _
+        (wi.tries_fine_here _ _ _ _ _ _ _ _ _ _ _ (wi.asked_again _ _ _ _ _ _ _ _ _ _ _
             start.requires.1.0 _ _ _ _ _ at-attempt.attempt.ensures _ at_first.first.given.1) (wi.still_there _ _
             _ _ _ _ _ _ _ _ _ start.requires.1.0 _ _ _ _ _ at-attempt.attempt.ensures _ at_first.first.given.1 _
             start.requires.1.1) (wi.still_there _ _ _ _ _ _ _ _ _ _ _ start.requires.1.0 _ _ _ _ _
@@ -85,13 +85,13 @@ part M t =
             at-widenings-of.widenings-of.ensures _ _ at-t.t.given.1 _ c.with-lengths.ensures).few,
       ),
       (
-        wi.tries-asked _ _ _ _ _ _ _ _ _ _ _ (wi.asked_again _ _ _ _ _ _ _ _ _ _ _ start.requires.1.0 _ _ _ _ _
+        wi.tries_asked _ _ _ _ _ _ _ _ _ _ _ (wi.asked_again _ _ _ _ _ _ _ _ _ _ _ start.requires.1.0 _ _ _ _ _
             at-attempt.attempt.ensures _ at_first.first.given.1) (wi.still_there _ _ _ _ _ _ _ _ _ _ _
             start.requires.1.0 _ _ _ _ _ at-attempt.attempt.ensures _ at_first.first.given.1 _
             start.requires.1.1) (wi.still_there _ _ _ _ _ _ _ _ _ _ _ start.requires.1.0 _ _ _ _ _
             at-attempt.attempt.ensures _ at_first.first.given.1 _ start.requires.1.2) _ _ _
             at-widenings-of.widenings-of.ensures _ _ at-t.t.given.1 _ c.with-lengths.ensures,
-        wi.tries-fine-here _ _ _ _ _ _ _ _ _ _ _ (wi.asked_again _ _ _ _ _ _ _ _ _ _ _ start.requires.1.0 _ _ _ _ _
+        wi.tries_fine_here _ _ _ _ _ _ _ _ _ _ _ (wi.asked_again _ _ _ _ _ _ _ _ _ _ _ start.requires.1.0 _ _ _ _ _
             at-attempt.attempt.ensures _ at_first.first.given.1) (wi.still_there _ _ _ _ _ _ _ _ _ _ _
             start.requires.1.0 _ _ _ _ _ at-attempt.attempt.ensures _ at_first.first.given.1 _
             start.requires.1.1) (wi.still_there _ _ _ _ _ _ _ _ _ _ _ start.requires.1.0 _ _ _ _ _
@@ -130,7 +130,7 @@ part M t =
     let at-attempt = at_first.before.before.before.before.before.before.before.before.before.before in
     let start = at-attempt.before.before.before.before.before.before.before.before.before.before in
     wi.widen_on _ _ _ _ _ _ _ _ _ _ _ start.requires.1.0 _ _ _ _ _ at-attempt.attempt.ensures _
-    at_first.first.given.1 _ _ _ _ _ (wi.widen-tries _ _ _ _ _ _ _ _ _ _ _ (wi.asked_again _ _ _ _ _ _ _ _ _
+    at_first.first.given.1 _ _ _ _ _ (wi.widen_tries _ _ _ _ _ _ _ _ _ _ _ (wi.asked_again _ _ _ _ _ _ _ _ _
     _ _ start.requires.1.0 _ _ _ _ _ at-attempt.attempt.ensures _ at_first.first.given.1)
     (wi.still_there _ _ _ _ _ _ _ _ _ _ _ start.requires.1.0 _ _ _ _ _ at-attempt.attempt.ensures _
     at_first.first.given.1 _ start.requires.1.1) (wi.still_there _ _ _ _ _ _ _ _ _ _ _ start.requires.1.0 _ _

@@ -65,7 +65,7 @@ part M t =
     let at-try-pairs = at-try-component.before in
     let at-if1 = at-try-pairs.before.before.before.before.before in
     let start = at-if1.before.before.before.before.before.before.before in
-    law.tries-stop _ _ _ _ _ _ _ _ _ _ _ start.requires.1.0 start.requires.1.1 at-if1.if1.false _
+    law.tries_stop _ _ _ _ _ _ _ _ _ _ _ start.requires.1.0 start.requires.1.1 at-if1.if1.false _
     at-try-pairs.try-pairs.ensures _ at-try-component.try-component.ensures _ _ _ _ _
     at-attempt.attempt.ensures (not_missed c.match.keys2))
     (λ c.
@@ -83,7 +83,7 @@ part M t =
       (
         law.after_missed _ _ _ _ _ _ _ _ _ _ _ start.requires.1.0 _ _ _
             _ _ _ at-attempt.attempt.ensures _ at-r.r.given.1,
-        law.tries-fine _ _ _ _ _ _ _ _ _ _ _
+        law.tries_fine _ _ _ _ _ _ _ _ _ _ _
             start.requires.1.0 start.requires.1.1 at-if1.if1.false _ at-try-pairs.try-pairs.ensures _
             at-try-component.try-component.ensures _ _ _ _ _ at-attempt.attempt.ensures _ at-r.r.given.1,
       ),
@@ -112,6 +112,6 @@ part M t =
     let at-try-pairs = at-try-component.before in
     let at-if1 = at-try-pairs.before.before.before.before.before in
     let start = at-if1.before.before.before.before.before.before.before in
-    law.tries-next _ _ _ _ _ _ _ _ _ _ _ start.requires.1.0 start.requires.1.1 at-if1.if1.false _
+    law.tries_next _ _ _ _ _ _ _ _ _ _ _ start.requires.1.0 start.requires.1.1 at-if1.if1.false _
     at-try-pairs.try-pairs.ensures _ at-try-component.try-component.ensures _ _ _ _ _
     at-attempt.attempt.ensures _ at-r.r.given.1 _ _ _ _ _ at-tries.tries.ensures)

@@ -99,7 +99,7 @@ part M t =
             start.requires.1 at-if1.if1.false at_pair.pair.result at_pair.pair.ensures _ _ _ _
             at-lhs-op.lhs-op.given.1,
       ),
-      way.parts-asked args.sorts.now args.counts args.up args.lhs
+      way.parts_asked args.sorts.now args.counts args.up args.lhs
           args.rhs start.requires.1 at-if1.if1.false at_pair.pair.result at_pair.pair.ensures _ _ _ _
           at-lhs-op.lhs-op.given.1,
     ))
@@ -110,7 +110,7 @@ part M t =
     let start = at-if1.before.before.before.before in
     let args = start.args in (
       omega (arith, start.requires.0),
-      way.functions-asked args.sorts.now args.counts args.up args.lhs
+      way.functions_asked args.sorts.now args.counts args.up args.lhs
           args.rhs start.requires.1 at-if1.if1.false at_pair.pair.result at_pair.pair.ensures _ _ _ _ _
           c.before.enum-told4.given.1,
     ))

@@ -84,11 +84,11 @@ part M t =
     let at-bound-op = at_op.before.before in
     let start = at-bound-op.before.before in
     let args = start.args in (
-      law.container-checked args.sorts.now args.counts start.requires.1.checked args.up args.lhs-op
+      law.container_checked args.sorts.now args.counts start.requires.1.checked args.up args.lhs-op
           args.lhs-sub args.rhs-op args.rhs-sub start.requires.1.lhs start.requires.1.rhs
           at-bound-op.bound-op.result at-bound-op.bound-op.ensures _ at_op.op.given.1 _
           at_bound.bound.result at_bound.bound.ensures _ _ at-subsort.subsort.given.1,
-      law.container-below
+      law.container_below
           args.sorts.now args.counts start.requires.1.checked args.up args.lhs-op args.lhs-sub
           args.rhs-op args.rhs-sub start.requires.1.lhs start.requires.1.rhs at-bound-op.bound-op.result
           at-bound-op.bound-op.ensures _ at_op.op.given.1 _ at_bound.bound.result
@@ -106,7 +106,7 @@ part M t =
     let at-bound-op = at_op.before.before in
     let start = at-bound-op.before.before in
     let args = start.args in
-    law.container-made args.sorts.now args.counts start.requires.1.checked args.up args.lhs-op
+    law.container_made args.sorts.now args.counts start.requires.1.checked args.up args.lhs-op
     args.lhs-sub args.rhs-op args.rhs-sub start.requires.1.lhs start.requires.1.rhs
     at-bound-op.bound-op.result at-bound-op.bound-op.ensures _ at_op.op.given.1 _
     at_bound.bound.result at_bound.bound.ensures _ _ at-subsort.subsort.given.1 _ _

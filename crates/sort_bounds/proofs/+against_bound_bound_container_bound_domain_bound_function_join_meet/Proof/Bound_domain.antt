@@ -94,7 +94,7 @@ part M t =
       omega (
         arith,
         start.requires.0,
-        way.arguments-smaller args.sorts.now args.counts args.up args.lhs.0
+        way.arguments_smaller args.sorts.now args.counts args.up args.lhs.0
             args.rhs.0 start.requires.1.0 args.i start.requires.1.1 args.ids at-arguments.arguments.result
             at-arguments.arguments.ensures at-if1.if1.false at-argument.argument.result
             at-argument2.argument2.result at-argument.argument.ensures at-argument2.argument2.ensures,
@@ -144,7 +144,7 @@ part M t =
             args.rhs.0 start.requires.1.0 args.i start.requires.1.1 args.ids at-arguments.arguments.result
             at-arguments.arguments.ensures at-if1.if1.false,
       ),
-      way.domain-next args.sorts.now args.counts
+      way.domain_next args.sorts.now args.counts
           args.up args.lhs.0 args.rhs.0 start.requires.1.0 args.i start.requires.1.1 args.ids
           at-arguments.arguments.result at-arguments.arguments.ensures at-if1.if1.false
           at-argument.argument.result at-argument2.argument2.result at-argument.argument.ensures
@@ -164,7 +164,7 @@ part M t =
     let at-arguments = at-if1.before in
     let start = at-arguments.before.before.before in
     let args = start.args in
-    way.domain-made args.sorts.now args.counts args.up args.lhs.0 args.rhs.0 start.requires.1.0
+    way.domain_made args.sorts.now args.counts args.up args.lhs.0 args.rhs.0 start.requires.1.0
     args.i start.requires.1.1 args.ids at-arguments.arguments.result at-arguments.arguments.ensures
     at-if1.if1.false at-argument.argument.result at-argument2.argument2.result
     at-argument.argument.ensures at-argument2.argument2.ensures _ at-against.against.result
@@ -178,7 +178,7 @@ part M t =
     let at-arguments = at-if1.before in
     let start = at-arguments.before.before.before in
     let args = start.args in
-    way.domain-stops args.sorts.now args.counts args.up args.lhs.0 args.rhs.0 start.requires.1.0
+    way.domain_stops args.sorts.now args.counts args.up args.lhs.0 args.rhs.0 start.requires.1.0
     args.i start.requires.1.1 args.ids at-arguments.arguments.result at-arguments.arguments.ensures
     at-if1.if1.false at-argument.argument.result at-argument2.argument2.result
     at-argument.argument.ensures at-argument2.argument2.ensures _ at-against.against.result
@@ -192,7 +192,7 @@ part M t =
     let at-arguments = at-if1.before in
     let start = at-arguments.before.before.before in
     let args = start.args in
-    way.domain-ends args.sorts.now args.counts args.up args.lhs.0 args.rhs.0 start.requires.1.0
+    way.domain_ends args.sorts.now args.counts args.up args.lhs.0 args.rhs.0 start.requires.1.0
     args.i start.requires.1.1 args.ids at-arguments.arguments.result at-arguments.arguments.ensures
     at-if1.if1.false at-argument.argument.result at-argument2.argument2.result
     at-argument.argument.ensures at-argument2.argument2.ensures _ at-against.against.result

@@ -118,7 +118,7 @@ part M t =
     let at_part = at-part2.before.before in
     let start = at_part.before.before.before in
     let args = start.args in
-    way.whole-asked args.sorts.now args.counts args.up args.lhs.0 args.rhs.0 start.requires.1
+    way.whole_asked args.sorts.now args.counts args.up args.lhs.0 args.rhs.0 start.requires.1
     at_part.part.result at-part2.part2.result at_part.part.ensures at-part2.part2.ensures
     at-arguments.arguments.result at-arguments.arguments.ensures _ at-bound-domain.bound-domain.result
     at-bound-domain.bound-domain.ensures _ at-found.found.given.1 _ at_bound.bound.result
@@ -143,7 +143,7 @@ part M t =
     let at_part = at-part2.before.before in
     let start = at_part.before.before.before in
     let args = start.args in
-    way.whole-made args.sorts.now args.counts args.up args.lhs.0 args.rhs.0 start.requires.1
+    way.whole_made args.sorts.now args.counts args.up args.lhs.0 args.rhs.0 start.requires.1
     at_part.part.result at-part2.part2.result at_part.part.ensures at-part2.part2.ensures
     at-arguments.arguments.result at-arguments.arguments.ensures _ at-bound-domain.bound-domain.result
     at-bound-domain.bound-domain.ensures _ at-found.found.given.1 _ at_bound.bound.result
@@ -161,7 +161,7 @@ part M t =
     let at_part = at-part2.before.before in
     let start = at_part.before.before.before in
     let args = start.args in
-    way.range-stops args.sorts.now args.counts args.up args.lhs.0 args.rhs.0 start.requires.1
+    way.range_stops args.sorts.now args.counts args.up args.lhs.0 args.rhs.0 start.requires.1
     at_part.part.result at-part2.part2.result at_part.part.ensures at-part2.part2.ensures
     at-arguments.arguments.result at-arguments.arguments.ensures _ at-bound-domain.bound-domain.result
     at-bound-domain.bound-domain.ensures _ at-found.found.given.1 _ at_bound.bound.result
@@ -179,7 +179,7 @@ part M t =
     let at_part = at-part2.before.before in
     let start = at_part.before.before.before in
     let args = start.args in
-    way.range-ends args.sorts.now args.counts args.up args.lhs.0 args.rhs.0 start.requires.1
+    way.range_ends args.sorts.now args.counts args.up args.lhs.0 args.rhs.0 start.requires.1
     at_part.part.result at-part2.part2.result at_part.part.ensures at-part2.part2.ensures
     at-arguments.arguments.result at-arguments.arguments.ensures _ at-bound-domain.bound-domain.result
     at-bound-domain.bound-domain.ensures _ at-found.found.given.1 _ at_bound.bound.result

@@ -91,7 +91,7 @@ part M t =
           c.before.if3.true,
     ))
     (λ c. search rules)
-    (λ c. way.push-goes-on
+    (λ c. way.push_goes_on
     c.before.before.before.before.before.before.before.before.before.args.sorts.now
     c.before.before.before.before.before.before.before.before.before.args.counts
     c.before.before.before.before.before.before.before.before.before.args.steps.now
@@ -123,7 +123,7 @@ part M t =
     omega (arith, at-if4.if4.false, start.requires.1.room))
     (λ c κs. (
       c.before.before.before.before.before.before.before.before.before.before.requires.1.checked,
-      way.last-below c.before.before.before.before.before.before.before.before.before.before.args.sorts.now
+      way.last_below c.before.before.before.before.before.before.before.before.before.before.args.sorts.now
           c.before.before.before.before.before.before.before.before.before.before.args.counts
           c.before.before.before.before.before.before.before.before.before.before.args.steps.now
           c.before.before.before.before.before.before.before.before.before.before.args.i
@@ -140,7 +140,7 @@ part M t =
         c.before.before.before.before.before.before.before.before.before.before.before.before.before.before.requires.0,
       ),
       (
-        way.container-goes-on
+        way.container_goes_on
             c.before.before.before.before.before.before.before.before.before.before.before.before.before.before.args.sorts.now
             c.before.before.before.before.before.before.before.before.before.before.before.before.before.before.args.counts
             c.before.before.before.before.before.before.before.before.before.before.before.before.before.before.args.steps.now
@@ -170,7 +170,7 @@ part M t =
       ),
     ))
     (λ c. c.before.before.go_on.auto.0 ∙ c.before.before.before.before.before.before.generic.auto.0)
-    (λ c. way.container-gone-on
+    (λ c. way.container_gone_on
     c.before.before.before.before.before.before.before.before.before.before.before.before.before.before.before.before.before.args.sorts.now
     c.before.before.before.before.before.before.before.before.before.before.before.before.before.before.before.before.before.args.counts
     c.before.before.before.before.before.before.before.before.before.before.before.before.before.before.before.before.before.args.steps.now

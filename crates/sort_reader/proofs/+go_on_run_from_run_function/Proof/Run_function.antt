@@ -80,7 +80,7 @@ part M t =
           c.if1.false,
       omega (
         arith,
-        way.base-small c.before.before.before.before.args.sorts.now
+        way.base_small c.before.before.before.before.args.sorts.now
             c.before.before.before.before.args.counts c.before.before.before.before.args.steps.now
             c.before.before.before.before.args.i c.before.before.before.before.args.t5 (search rules)
             c.before.before.before.before.args.depth c.before.before.before.before.requires.1.0
@@ -157,7 +157,7 @@ part M t =
         c.before.before.before.before.before.before.before.before.before.before.before.requires.0,
       ),
       (
-        way.function-goes-on
+        way.function_goes_on
             c.before.before.before.before.before.before.before.before.before.before.before.args.sorts.now
             c.before.before.before.before.before.before.before.before.before.before.before.args.counts
             c.before.before.before.before.before.before.before.before.before.before.before.args.steps.now
@@ -194,7 +194,7 @@ part M t =
       ),
     ))
     (λ c. c.before.before.go_on.auto.0 ∙ c.before.before.before.before.before.before.function.auto.0)
-    (λ c. way.function-gone-on
+    (λ c. way.function_gone_on
     c.before.before.before.before.before.before.before.before.before.before.before.before.before.before.args.sorts.now
     c.before.before.before.before.before.before.before.before.before.before.before.before.before.before.args.counts
     c.before.before.before.before.before.before.before.before.before.before.before.before.before.before.args.steps.now

@@ -84,7 +84,7 @@ part M t =
     let at-token-from = at-enum-told.before.before in
     let start = at-token-from.before.before.before in
     let args = start.args in
-    way.bracketed-room args.line.now args.at start.requires.1.0 args.out.now args.n start.requires.1.1
+    way.bracketed_room args.line.now args.at start.requires.1.0 args.out.now args.n start.requires.1.1
     at-token-from.token-from.result at-token-from.token-from.ensures
     at-enum-told.enum_told.given.1 args.op _ at-sort.sort.auto.1.1.0 _
     (way.in_brackets_goes_on args.line.now _ args.out.now args.n _ _ at-sort.sort.ensures _ _
@@ -98,7 +98,7 @@ part M t =
     let at-token-from = at-enum-told.before.before in
     let start = at-token-from.before.before.before in
     let args = start.args in
-    let y = way.bracketed-room args.line.now args.at start.requires.1.0 args.out.now args.n start.requires.1.1
+    let y = way.bracketed_room args.line.now args.at start.requires.1.0 args.out.now args.n start.requires.1.1
     at-token-from.token-from.result at-token-from.token-from.ensures
     at-enum-told.enum_told.given.1 args.op _ at-sort.sort.auto.1.1.0 _
     (way.in_brackets_goes_on args.line.now _ args.out.now args.n _ _ at-sort.sort.ensures _ _
@@ -116,7 +116,7 @@ part M t =
     let at-token-from = at-enum-told.before.before in
     let start = at-token-from.before.before.before in
     let args = start.args in
-    way.bracketed-done args.line.now args.at start.requires.1.0 args.out.now args.n start.requires.1.1
+    way.bracketed_done args.line.now args.at start.requires.1.0 args.out.now args.n start.requires.1.1
     at-token-from.token-from.result at-token-from.token-from.ensures
     at-enum-told.enum_told.given.1 args.op _ at-sort.sort.auto.1.1.0 _
     (way.in_brackets_goes_on args.line.now _ args.out.now args.n _ _ at-sort.sort.ensures _ _
@@ -131,7 +131,7 @@ part M t =
     let at-token-from = at-enum-told.before.before in
     let start = at-token-from.before.before.before in
     let args = start.args in
-    way.bracketed-passes args.line.now args.at start.requires.1.0 args.out.now args.n start.requires.1.1
+    way.bracketed_passes args.line.now args.at start.requires.1.0 args.out.now args.n start.requires.1.1
     at-token-from.token-from.result at-token-from.token-from.ensures
     at-enum-told.enum_told.given.1 args.op _ at-sort.sort.auto.1.1.0 _
     (way.in_brackets_goes_on args.line.now _ args.out.now args.n _ _ at-sort.sort.ensures _ _
@@ -143,7 +143,7 @@ part M t =
     let at-token-from = at-enum-told.before.before in
     let start = at-token-from.before.before.before in
     let args = start.args in
-    way.bracketed-passes args.line.now args.at start.requires.1.0 args.out.now args.n start.requires.1.1
+    way.bracketed_passes args.line.now args.at start.requires.1.0 args.out.now args.n start.requires.1.1
     at-token-from.token-from.result at-token-from.token-from.ensures
     at-enum-told.enum_told.given.1 args.op _ at-sort.sort.auto.1.1.0 _
     (way.in_brackets_passes args.line.now _ args.out.now args.n _ _ at-sort.sort.ensures _

@@ -91,7 +91,7 @@ part M t =
     let at-token-from = at-enum-told.before.before in
     let start = at-token-from.before.before.before in
     let args = start.args in
-    way.operand-basic args.line.now args.at start.requires.1.0 args.out.now args.n start.requires.1.1
+    way.operand_basic args.line.now args.at start.requires.1.0 args.out.now args.n start.requires.1.1
     at-token-from.token-from.result at-token-from.token-from.ensures at-enum-told.enum_told.given.1 _
     at-word-meaning.word-meaning.ensures _ at-s.s.given.1 _ c.step-of-sort.ensures)
     (λ c. search rules)
@@ -112,7 +112,7 @@ part M t =
     let at-token-from = at-enum-told.before.before in
     let start = at-token-from.before.before.before in
     let args = start.args in
-    way.operand-unknown args.line.now args.at start.requires.1.0 args.out.now args.n start.requires.1.1
+    way.operand_unknown args.line.now args.at start.requires.1.0 args.out.now args.n start.requires.1.1
     at-token-from.token-from.result at-token-from.token-from.ensures at-enum-told.enum_told.given.1 _
     at-word-meaning.word-meaning.ensures c.enum-told2.given.1)
     (λ c.

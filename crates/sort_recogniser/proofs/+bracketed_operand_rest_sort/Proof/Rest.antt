@@ -123,7 +123,7 @@ part M t =
     let at-token-from = at-enum-told2.before.before in
     let start = at-token-from.before.before.before in
     let args = start.args in
-    way.range-room args.line.now args.at start.requires.1.0 args.out.now args.n start.requires.1.1
+    way.range_room args.line.now args.at start.requires.1.0 args.out.now args.n start.requires.1.1
     at-token-from.token-from.result at-token-from.token-from.ensures at-enum-told2.enum-told2.given.1
     args.k _ at-sort.sort.auto.1.1.0 _ at-sort.sort.ensures _ _ c.before.p3.given.1)
     (λ c.
@@ -132,7 +132,7 @@ part M t =
     let at-token-from = at-enum-told2.before.before in
     let start = at-token-from.before.before.before in
     let args = start.args in
-    let y = way.range-room args.line.now args.at start.requires.1.0 args.out.now args.n
+    let y = way.range_room args.line.now args.at start.requires.1.0 args.out.now args.n
     start.requires.1.1 at-token-from.token-from.result at-token-from.token-from.ensures
     at-enum-told2.enum-told2.given.1 args.k _ at-sort.sort.auto.1.1.0 _ at-sort.sort.ensures _
     _ c.before.p3.given.1 in search rules)
@@ -156,7 +156,7 @@ part M t =
     let at-token-from = at-enum-told.before.before in
     let start = at-token-from.before.before.before in
     let args = start.args in
-    way.rest-goes-on args.line.now args.at start.requires.1.0 args.out.now args.n start.requires.1.1
+    way.rest_goes_on args.line.now args.at start.requires.1.0 args.out.now args.n start.requires.1.1
     at-token-from.token-from.result at-token-from.token-from.ensures at-enum-told.enum_told.given.1 _
     at-if1.if1.false start.requires.1.3 _ _ at-operand.operand.ensures _ _ at_p.p.given.1 _ _
     at_rest.rest.ensures)
@@ -168,7 +168,7 @@ part M t =
     let at-token-from = at-enum-told.before.before in
     let start = at-token-from.before.before.before in
     let args = start.args in
-    way.rest-passes args.line.now args.at start.requires.1.0 args.out.now args.n start.requires.1.1
+    way.rest_passes args.line.now args.at start.requires.1.0 args.out.now args.n start.requires.1.1
     at-token-from.token-from.result at-token-from.token-from.ensures at-enum-told.enum_told.given.1 _
     at-if1.if1.false start.requires.1.3 _ _ at-operand.operand.ensures _ c.before.p2.given.1)
     (λ c. search rules)
@@ -178,7 +178,7 @@ part M t =
     let at-token-from = at-enum-told2.before.before in
     let start = at-token-from.before.before.before in
     let args = start.args in
-    way.range-done args.line.now args.at start.requires.1.0 args.out.now args.n start.requires.1.1
+    way.range_done args.line.now args.at start.requires.1.0 args.out.now args.n start.requires.1.1
     at-token-from.token-from.result at-token-from.token-from.ensures at-enum-told2.enum-told2.given.1
     args.k _ at-sort.sort.auto.1.1.0 _ at-sort.sort.ensures _ _ _ c.before.p3.given.1 refl)
     (λ c. search rules)
@@ -188,7 +188,7 @@ part M t =
     let at-token-from = at-enum-told2.before.before in
     let start = at-token-from.before.before.before in
     let args = start.args in
-    way.range-passes args.line.now args.at start.requires.1.0 args.out.now args.n start.requires.1.1
+    way.range_passes args.line.now args.at start.requires.1.0 args.out.now args.n start.requires.1.1
     at-token-from.token-from.result at-token-from.token-from.ensures at-enum-told2.enum-told2.given.1
     args.k _ at-sort.sort.auto.1.1.0 _ at-sort.sort.ensures _ c.before.p4.given.1)
     (λ c.

@@ -102,7 +102,7 @@ part M t =
     let at-shallow-normalize = at-shallow-normalize2.before.before in
     let start = at-shallow-normalize.before.before.before.before.before.before in
     let args = start.args in
-    law.two-variables args.sorts.now args.nodes.now args.binds.now args.trail.now args.lengths
+    law.two_variables args.sorts.now args.nodes.now args.binds.now args.trail.now args.lengths
     args.count start.requires.1.0 args.lhs.0 args.rhs.0 _ _ start.requires.1.1 start.requires.1.2
     at-shallow-normalize.shallow-normalize.ensures at-shallow-normalize2.shallow-normalize2.ensures
     at-if1.if1.false _ (sym at_left.left.given.1 ∙ at-variable-at.variable-at.ensures) _
@@ -118,7 +118,7 @@ part M t =
     let at-shallow-normalize = at-shallow-normalize2.before.before in
     let start = at-shallow-normalize.before.before.before.before.before.before in
     let args = start.args in
-    law.left-variable args.sorts.now args.nodes.now args.binds.now args.trail.now args.lengths
+    law.left_variable args.sorts.now args.nodes.now args.binds.now args.trail.now args.lengths
     args.count start.requires.1.0 args.lhs.0 args.rhs.0 _ _ start.requires.1.1 start.requires.1.2
     at-shallow-normalize.shallow-normalize.ensures at-shallow-normalize2.shallow-normalize2.ensures
     at-if1.if1.false _ (sym at_left.left.given.1 ∙ at-variable-at.variable-at.ensures)
@@ -146,7 +146,7 @@ part M t =
     let at-shallow-normalize = at-shallow-normalize2.before.before in
     let start = at-shallow-normalize.before.before.before.before.before.before in
     let args = start.args in
-    law.right-variable args.sorts.now args.nodes.now args.binds.now args.trail.now args.lengths
+    law.right_variable args.sorts.now args.nodes.now args.binds.now args.trail.now args.lengths
     args.count start.requires.1.0 args.lhs.0 args.rhs.0 _ _ start.requires.1.1 start.requires.1.2
     at-shallow-normalize.shallow-normalize.ensures at-shallow-normalize2.shallow-normalize2.ensures
     at-if1.if1.false (sym at-enum-told2.enum-told2.given.1 ∙ at-variable-at.variable-at.ensures) _
@@ -172,13 +172,13 @@ part M t =
       ),
       (
         start.requires.1.0,
-        law.left-solid args.sorts.now
+        law.left_solid args.sorts.now
             args.nodes.now args.binds.now args.trail.now args.lengths args.count start.requires.1.0
             args.lhs.0 args.rhs.0 _ _ start.requires.1.1 start.requires.1.2
             at-shallow-normalize.shallow-normalize.ensures at-shallow-normalize2.shallow-normalize2.ensures
             at-if1.if1.false (sym at-enum-told2.enum-told2.given.1 ∙ at-variable-at.variable-at.ensures)
             (sym at-enum-told3.enum-told3.given.1 ∙ at-variable-at3.variable-at3.ensures),
-        law.right-solid
+        law.right_solid
             args.sorts.now args.nodes.now args.binds.now args.trail.now args.lengths args.count
             start.requires.1.0 args.lhs.0 args.rhs.0 _ _ start.requires.1.1 start.requires.1.2
             at-shallow-normalize.shallow-normalize.ensures at-shallow-normalize2.shallow-normalize2.ensures
@@ -199,7 +199,7 @@ part M t =
     let at-shallow-normalize = at-shallow-normalize2.before.before in
     let start = at-shallow-normalize.before.before.before.before.before.before in
     let args = start.args in
-    law.variables-tried args.sorts.now args.nodes.now args.binds.now args.trail.now args.lengths
+    law.variables_tried args.sorts.now args.nodes.now args.binds.now args.trail.now args.lengths
     args.count start.requires.1.0 args.lhs.0 args.rhs.0 _ _ start.requires.1.1 start.requires.1.2
     at-shallow-normalize.shallow-normalize.ensures at-shallow-normalize2.shallow-normalize2.ensures
     at-if1.if1.false _ (sym at_left.left.given.1 ∙ at-variable-at.variable-at.ensures) _
@@ -237,7 +237,7 @@ part M t =
     let at-shallow-normalize = at-shallow-normalize2.before.before in
     let start = at-shallow-normalize.before.before.before.before.before.before in
     let args = start.args in
-    law.right-tried args.sorts.now args.nodes.now args.binds.now args.trail.now args.lengths
+    law.right_tried args.sorts.now args.nodes.now args.binds.now args.trail.now args.lengths
     args.count start.requires.1.0 args.lhs.0 args.rhs.0 _ _ start.requires.1.1 start.requires.1.2
     at-shallow-normalize.shallow-normalize.ensures at-shallow-normalize2.shallow-normalize2.ensures
     at-if1.if1.false (sym at-enum-told2.enum-told2.given.1 ∙ at-variable-at.variable-at.ensures) _
@@ -255,7 +255,7 @@ part M t =
     let at-shallow-normalize = at-shallow-normalize2.before.before in
     let start = at-shallow-normalize.before.before.before.before.before.before in
     let args = start.args in
-    law.parts-tried args.sorts.now args.nodes.now args.binds.now args.trail.now args.lengths
+    law.parts_tried args.sorts.now args.nodes.now args.binds.now args.trail.now args.lengths
     args.count start.requires.1.0 args.lhs.0 args.rhs.0 _ _ start.requires.1.1 start.requires.1.2
     at-shallow-normalize.shallow-normalize.ensures at-shallow-normalize2.shallow-normalize2.ensures
     at-if1.if1.false (sym at-enum-told2.enum-told2.given.1 ∙ at-variable-at.variable-at.ensures)

@@ -66,7 +66,7 @@ part M t =
     (λ c.
     let start = c.before.before.before.before.before.before in
     let args = start.args in
-    law.other-heads args.sorts.now args.nodes.now args.binds.now args.trail.now args.lengths
+    law.other_heads args.sorts.now args.nodes.now args.binds.now args.trail.now args.lengths
     args.count start.requires.1.0 args.l.0 args.r.0 start.requires.1.1 start.requires.1.2 _
     c.before.same_head.ensures (not-true c.before.same_head.result c.if1.true))
     (λ c κs.
@@ -76,12 +76,12 @@ part M t =
     let at-same-head = c.before.before in
     let start = at-same-head.before.before.before.before.before in
     let args = start.args in
-    law.parts-begin args.sorts.now args.nodes.now args.binds.now args.trail.now args.lengths
+    law.parts_begin args.sorts.now args.nodes.now args.binds.now args.trail.now args.lengths
     args.count start.requires.1.0 args.l.0 args.r.0 start.requires.1.1 start.requires.1.2 _
     at-same-head.same_head.ensures (not-false at-same-head.same_head.result c.before.if1.false) _
     c.part_count.ensures)
-    (λ c κs. law.left-part _ _ _ _ _ _ c.before.loop.invariant.trying _ _ _ _ _ _ _ _ c.before.loop.invariant c.loop-test.true)
-    (λ c κs. law.right-part _ _ _ _ _ _ c.before.before.loop.invariant.trying _ _ _ _ _ _ _ _ c.before.before.loop.invariant c.before.loop-test.true)
+    (λ c κs. law.left_part _ _ _ _ _ _ c.before.loop.invariant.trying _ _ _ _ _ _ _ _ c.before.loop.invariant c.loop-test.true)
+    (λ c κs. law.right_part _ _ _ _ _ _ c.before.before.loop.invariant.trying _ _ _ _ _ _ _ _ c.before.before.loop.invariant c.before.loop-test.true)
     (λ c κs.
     let at-part2 = c.before.before in
     let at_part = at-part2.before in
@@ -91,16 +91,16 @@ part M t =
       omega (
         arith,
         start.requires.0,
-        law.part-lower _ _ _ _ _ _ at-loop.loop.invariant.trying _ _ _ _ _ _ _ _
+        law.part_lower _ _ _ _ _ _ at-loop.loop.invariant.trying _ _ _ _ _ _ _ _
             at-loop.loop.invariant at-loop-test.loop-test.true _ _ at_part.part.ensures
             at-part2.part2.ensures,
       ),
       (
         at-loop.loop.invariant.trying,
-        law.left-placed _ _ _ _ _ _
+        law.left_placed _ _ _ _ _ _
             at-loop.loop.invariant.trying _ _ _ _ _ _ _ _ at-loop.loop.invariant at-loop-test.loop-test.true _ _
             at_part.part.ensures at-part2.part2.ensures,
-        law.right-placed _ _ _ _ _ _ at-loop.loop.invariant.trying
+        law.right_placed _ _ _ _ _ _ at-loop.loop.invariant.trying
             _ _ _ _ _ _ _ _ at-loop.loop.invariant at-loop-test.loop-test.true _ _ at_part.part.ensures
             at-part2.part2.ensures,
       ),
@@ -117,7 +117,7 @@ part M t =
     let at_part = at-part2.before in
     let at-loop-test = at_part.before in
     let at-loop = at-loop-test.before in
-    law.parts-go-on _ _ _ _ _ _ at-loop.loop.invariant.trying _ _ _ _ _ _ _ _ at-loop.loop.invariant
+    law.parts_go_on _ _ _ _ _ _ at-loop.loop.invariant.trying _ _ _ _ _ _ _ _ at-loop.loop.invariant
     at-loop-test.loop-test.true _ _ at_part.part.ensures at-part2.part2.ensures _ _ _ _
     c.before.more.given.1 at-unify.unify.ensures at-unify.unify.auto.1.1.0
     at-unify.unify.auto.1.1.1.0)
@@ -136,7 +136,7 @@ part M t =
     let at_part = at-part2.before in
     let at-loop-test = at_part.before in
     let at-loop = at-loop-test.before in
-    law.part-fails _ _ _ _ _ _ at-loop.loop.invariant.trying _ _ _ _ _ _ _ _ at-loop.loop.invariant
+    law.part_fails _ _ _ _ _ _ at-loop.loop.invariant.trying _ _ _ _ _ _ _ _ at-loop.loop.invariant
     at-loop-test.loop-test.true _ _ at_part.part.ensures at-part2.part2.ensures _ _ _ _
     c.before.more2.given.1 at-unify.unify.ensures)
     (λ c. c.before.loop.invariant.same_binds)
