@@ -50,7 +50,7 @@ MadeSorts In N W (no_room c W') = SortsOnly W W' × (c ≡ 15)
 -- one after the other
 pub sorts_then : {A B : Type 0} (In : Lent → A → Type 0) (On : Lent → B → Type 0) (N : Type 0) (W : Lent)
     → CheckedLent W → (O : Makes A) (f : A → Lent → Makes B) → MadeSorts In N W O
-    → ((a : A) (W' : Lent) → SortsOnly W W' → In W' a → MadeSorts On N W' (f a W')) → MadeSorts On N W (O and_then f)
+    → ((a : A) (W' : Lent) → SortsOnly W W' → In W' a → MadeSorts On N W' (f a W')) → MadeSorts On N W (O and-then f)
 unfolding MadeSorts
 sorts_then In On N W c (made a W') f h k = after (f a W') (k a W' h.0 h.1)
   where

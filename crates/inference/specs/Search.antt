@@ -51,7 +51,7 @@ join_in a b W =
 unfoldable pub resolve_all : Default → Binds → List ℕ → Lent → Makes (List ℕ)
 resolve_all x B [] W = made [] W
 resolve_all x B (p ∷ ps) W =
-    resolve_in x B p W and_then (λ s W. resolve_all x B ps W and_then (λ ss W. made (s ∷ ss) W))
+    resolve_in x B p W and-then (λ s W. resolve_all x B ps W and-then (λ ss W. made (s ∷ ss) W))
 
 -- "Join: if all sources resolve, their join exists and each is equal to or materializable into it": the join of the
 -- sources, and the head distances as components `join` also relates sorts that cannot be materialized (containers by
@@ -62,7 +62,7 @@ pub record Agreed : Type 0 where
 
 unfoldable pub join_all : ℕ → List ℕ → Lent → Makes ℕ
 join_all a [] W = made a W
-join_all a (b ∷ bs) W = join_in a b W and_then (λ j W. join_all j bs W)
+join_all a (b ∷ bs) W = join_in a b W and-then (λ j W. join_all j bs W)
 
 abbrev pub sort_in : Lent → ℕ → Tree
 sort_in W s = tree_at W.sorts W.lengths.sorts s
@@ -84,10 +84,10 @@ agreed_by W ss j =
 
 unfoldable pub agreed : List ℕ → Lent → Makes Agreed
 agreed [] W = no_list W
-agreed (s ∷ ss) W = join_all s ss W and_then (λ j W. agreed_by W (s ∷ ss) j)
+agreed (s ∷ ss) W = join_all s ss W and-then (λ j W. agreed_by W (s ∷ ss) j)
 
 unfoldable pub join_of : Binds → List ℕ → Lent → Makes Agreed
-join_of B ps W = resolve_all Nothing B ps W and_then agreed
+join_of B ps W = resolve_all Nothing B ps W and-then agreed
 
 -- the expression of a disjunction and the position, from 0, of its overload that was chosen
 pub record Choice : Type 0 where

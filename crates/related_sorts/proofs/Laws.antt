@@ -140,26 +140,26 @@ module _ (ws xs : List ℕ) (ranges : Three) (few : ranges.count ≤ 3) (ns : Li
   module _ (h : ranges.count ≡ 0 → ⊥) (ns₁ : List ℕ) (p : Pushed)
       (e : pushed ws ns₁ k p ≡ push_node (row function_kind ranges.first.0 xs) (lent ws ns k)) where
     abbrev over_rest : ℕ → Lent → Makes (List ℕ)
-    over_rest q W = push_functions xs (three_places (places_after ranges)) W and_then (λ ps W. made (q ∷ ps) W)
+    over_rest q W = push_functions xs (three_places (places_after ranges)) W and-then (λ ps W. made (q ∷ ps) W)
 
     split : three_places ranges ≡ ranges.first.0 ∷ three_places (places_after ranges)
     split =
         one_and_two ranges.count (ranges.count - 1) ranges.first.0 ranges.second.0 ranges.third.0 ranges.third.0
         (omega (arith, h)) (omega (arith, few))
 
-    first_pushed : all ≡ (pushed ws ns₁ k p and_then over_rest)
+    first_pushed : all ≡ (pushed ws ns₁ k p and-then over_rest)
     unfolding push_functions
-    first_pushed = ap (λ (ys : List ℕ). push_functions xs ys (lent ws ns k)) split ∙ ap (λ O. O and_then over_rest) (sym e)
+    first_pushed = ap (λ (ys : List ℕ). push_functions xs ys (lent ws ns k)) split ∙ ap (λ O. O and-then over_rest) (sym e)
 
     pub push_ends : p ≡ NoRoom → ListsAtMost ranges.count ws ns₁ (Full 16 k) all
-    push_ends z = record { says = sym (first_pushed ∙ ap (λ y. pushed ws ns₁ k y and_then over_rest) z); few = tt }
+    push_ends z = record { says = sym (first_pushed ∙ ap (λ y. pushed ws ns₁ k y and-then over_rest) z); few = tt }
 
     module _ (ns₂ : List ℕ) (a : Related) where
       pub rest_few : (t : Three) → t ≡ places_after ranges → (O : Makes (List ℕ)) → ListsAtMost t.count ws ns₂ a O → AtMost 2 a
       rest_few t et O u = at_most_more t.count 2 a (let z = ap (λ (x : Three). x.count) et in omega (arith, few, z)) u.few
 
       placed-before : (q : InferSortId) (b : Related) → AtMost (ranges.count - 1) b
-          → (related_made ws ns₂ (place_before q b) ≡ (related_made ws ns₂ b and_then (λ ps W. made (q.0 ∷ ps) W))) × AtMost ranges.count (place_before q b)
+          → (related_made ws ns₂ (place_before q b) ≡ (related_made ws ns₂ b and-then (λ ps W. made (q.0 ∷ ps) W))) × AtMost ranges.count (place_before q b)
       placed-before q (These t k') l = (
         ap (λ (ys : List ℕ). made ys (lent ws ns₂ k'))
             (one_and_two (t.count + 1) t.count q.0 t.first.0 t.second.0 t.third.0 (add-one t.count) (omega (arith, l, few))),
@@ -176,8 +176,8 @@ module _ (ws xs : List ℕ) (ranges : Three) (few : ranges.count ≤ 3) (ns : Li
           let w = placed-before q a u.few in
           record {
             says =
-                ap (related_made ws ns₂) y ∙ (w.0 ∙ (ap (λ O. O and_then (λ ps W. made (q.0 ∷ ps) W)) u.says
-                ∙ sym (first_pushed ∙ ap (λ v. pushed ws ns₁ k v and_then over_rest) z)));
+                ap (related_made ws ns₂) y ∙ (w.0 ∙ (ap (λ O. O and-then (λ ps W. made (q.0 ∷ ps) W)) u.says
+                ∙ sym (first_pushed ∙ ap (λ v. pushed ws ns₁ k v and-then over_rest) z)));
             few = subst (AtMost ranges.count) (sym y) w.1;
           }
 
@@ -240,16 +240,16 @@ module _ (up : Bool) (o : ComplexSort) (b : OpBound) (e : b ≡ op_bound (relate
       interned : intern_at ws k.sorts k.entries (container q (look (trees ws k.sorts) s)) ≡ stored_at ws₁ j
       interned = sym (ej ∙ ap (λ (y : Counts). intern_at ws y.sorts y.entries (container q (look (trees ws y.sorts) s))) ec)
 
-      sort-of : related_over (related_container up o) true s (lent ws ns k) ≡ (with_sorts (lent ws ns k) (stored_at ws₁ j) j and_then only)
+      sort-of : related_over (related_container up o) true s (lent ws ns k) ≡ (with_sorts (lent ws ns k) (stored_at ws₁ j) j and-then only)
       unfolding intern_container
-      sort-of = ap (λ x. related_over x true s (lent ws ns k)) is_some ∙ ap (λ (r : Stored). with_sorts (lent ws ns k) r r.answer and_then only) interned
+      sort-of = ap (λ x. related_over x true s (lent ws ns k)) is_some ∙ ap (λ (r : Stored). with_sorts (lent ws ns k) r r.answer and-then only) interned
 
       pub container_interned : (id : SortId) (K : Counts) → j ≡ JoinedAt id K → (k' : Lengths) → k' ≡ with_counts k K
           → (a : Related) → a ≡ These (one (record { 0 = id.0 })) k'
           → Relates ws₁ ns a (related_over (related_container up o) true s (lent ws ns k))
       container_interned id K x k' ek a y =
           relates_as ws₁ ns a (one_place ws₁ ns (record { 0 = id.0 }) k' a y) (ap (λ (l : Lengths). made (id.0 ∷ [])
-          (lent ws₁ ns l)) ek ∙ sym (sort-of ∙ ap (λ w. with_sorts (lent ws ns k) (stored_at ws₁ j) w and_then only)
+          (lent ws₁ ns l)) ek ∙ sym (sort-of ∙ ap (λ w. with_sorts (lent ws ns k) (stored_at ws₁ j) w and-then only)
           x))
 
       module _ (ck : Checked ws k.sorts k.entries) where
@@ -259,7 +259,7 @@ module _ (up : Bool) (o : ComplexSort) (b : OpBound) (e : b ≡ op_bound (relate
             relates_as ws₁ ns (Full 15 k) (record { says = refl; few = tt })
             (ap (λ (ys : List ℕ). no_room 15 (lent ys ns k)) (full_unchanged ws k.sorts k.entries ck
             (container q (look (trees ws k.sorts) s)) ws₁ (ap (stored_at ws₁) (sym x) ∙ sym interned))
-            ∙ sym (sort-of ∙ ap (λ w. with_sorts (lent ws ns k) (stored_at ws₁ j) w and_then only) x))
+            ∙ sym (sort-of ∙ ap (λ w. with_sorts (lent ws ns k) (stored_at ws₁ j) w and-then only) x))
 
         pub always_interned : (K : Counts) → j ≡ JoinedNothing K → (a : Related) → Relates ws₁ ns a (related_over (related_container up o) true s (lent ws ns k))
         always_interned K x a = never_none ws k.sorts k.entries ck (container q (look (trees ws k.sorts) s))
@@ -268,15 +268,15 @@ module _ (up : Bool) (o : ComplexSort) (b : OpBound) (e : b ≡ op_bound (relate
     -- of a node
     module _ (ns₁ : List ℕ) (p : Pushed) (kind : ℕ) (ek : kind ≡ kind_op q) (xs : List ℕ) (none-there : xs ≡ [])
         (ep : pushed ws ns₁ k p ≡ push_node (row kind s xs) (lent ws ns k)) where
-      node_of : related_over (related_container up o) false s (lent ws ns k) ≡ (pushed ws ns₁ k p and_then only)
+      node_of : related_over (related_container up o) false s (lent ws ns k) ≡ (pushed ws ns₁ k p and-then only)
       node_of =
           ap (λ x. related_over x false s (lent ws ns k)) is_some
-          ∙ (ap₂ (λ (c : ℕ) (ys : List ℕ). push_node (row c s ys) (lent ws ns k) and_then only) (sym ek) (sym none-there) ∙ ap (λ O. O and_then only) (sym ep))
+          ∙ (ap₂ (λ (c : ℕ) (ys : List ℕ). push_node (row c s ys) (lent ws ns k) and-then only) (sym ek) (sym none-there) ∙ ap (λ O. O and-then only) (sym ep))
 
       pub container_pushed : (c : InferSortId) (k' : Lengths) → p ≡ At c k' → (a : Related) → a ≡ These (one c) k'
           → Relates ws ns₁ a (related_over (related_container up o) false s (lent ws ns k))
-      container_pushed c k' x a y = relates_as ws ns₁ a (one_place ws ns₁ c k' a y) (sym (node_of ∙ ap (λ w. pushed ws ns₁ k w and_then only) x))
+      container_pushed c k' x a y = relates_as ws ns₁ a (one_place ws ns₁ c k' a y) (sym (node_of ∙ ap (λ w. pushed ws ns₁ k w and-then only) x))
 
       pub no_room_for_container : p ≡ NoRoom → Relates ws ns₁ (Full 16 k) (related_over (related_container up o) false s
           (lent ws ns k))
-      no_room_for_container x = record { says = sym (node_of ∙ ap (λ w. pushed ws ns₁ k w and_then only) x); few = tt }
+      no_room_for_container x = record { says = sym (node_of ∙ ap (λ w. pushed ws ns₁ k w and-then only) x); few = tt }

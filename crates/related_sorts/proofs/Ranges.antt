@@ -244,7 +244,7 @@ module _ (ws ns bs : List ℕ) (k : Lengths) (q : Ready ws ns bs k) where
           }
 
       over-grown : (O : Makes (List ℕ)) → MadeFrom AllPlaced W O
-          → Stands f O × ((O and_then over_function f) ≡ (O and_then push_functions (take n (parts_of (shape f)))))
+          → Stands f O × ((O and-then over_function f) ≡ (O and-then push_functions (take n (parts_of (shape f)))))
       over-grown (made ps U) m =
           let g = (made_grows AllPlaced W U ps (made ps U) m refl).0 in
           (function_grown U g, ap (λ (s : Shape). push_functions (arguments_of s) ps U) (g.same f I.placed ∙ I.stands))
@@ -263,8 +263,8 @@ module _ (ws ns bs : List ℕ) (k : Lengths) (q : Ready ws ns bs k) where
           let f = get_or fs i 0 in
           let m = related_placed W q.nodes six up B (ready_names W bs q) y (end_placed p x fs (suc i) y (deeper i n y d I e)) in
           let s = over-grown f n I (answer y) m in
-          let t : (answer y and_then over_function f) ≡ answer f = s.1
-          ∙ (ap (λ O. O and_then push_functions (take n (parts_of (shape f)))) (ends.end_answers ws ns bs k q up (range_of f n) y
+          let t : (answer y and-then over_function f) ≡ answer f = s.1
+          ∙ (ap (λ O. O and-then push_functions (take n (parts_of (shape f)))) (ends.end_answers ws ns bs k q up (range_of f n) y
           (ends.range_placed ws ns bs k q up f n I (range_of f n) refl) e)
           ∙ sym (made_at_function W bs q up f f (ends.own_end ws ns bs k q up f (function_head n) (parts_of (shape f)) I.stands) n (parts_of (shape f)) I.stands)) in
           let ih = back i f d in
@@ -289,11 +289,11 @@ module _ (ws ns bs : List ℕ) (k : Lengths) (q : Ready ws ns bs k) where
 
 -- functions over what was found, if there is a list
 module _ (ws ns : List ℕ) (a : Related) (f : ℕ) (pre : Ranges a × Stands f (related_made ws ns a)) where
-  pub no_list_over : (k : Lengths) → a ≡ NoList k → Relates ws ns (NoList k) (related_made ws ns a and_then over_function f)
-  no_list_over k e = record { says = sym (ap (λ (b : Related). related_made ws ns b and_then over_function f) e); few = tt }
+  pub no_list_over : (k : Lengths) → a ≡ NoList k → Relates ws ns (NoList k) (related_made ws ns a and-then over_function f)
+  no_list_over k e = record { says = sym (ap (λ (b : Related). related_made ws ns b and-then over_function f) e); few = tt }
 
-  pub no_room_over : (c : ℕ) (k : Lengths) → a ≡ Full c k → Relates ws ns (Full c k) (related_made ws ns a and_then over_function f)
-  no_room_over c k e = record { says = sym (ap (λ (b : Related). related_made ws ns b and_then over_function f) e); few = tt }
+  pub no_room_over : (c : ℕ) (k : Lengths) → a ≡ Full c k → Relates ws ns (Full c k) (related_made ws ns a and-then over_function f)
+  no_room_over c k e = record { says = sym (ap (λ (b : Related). related_made ws ns b and-then over_function f) e); few = tt }
 
   module _ (t : Three) (k : Lengths) (e : a ≡ These t k) where
     stands : FunctionAt ws ns k f
@@ -310,12 +310,12 @@ module _ (ws ns : List ℕ) (a : Related) (f : ℕ) (pre : Ranges a × Stands f 
 
     pub over_pushed : (n : ℕ) → IsFunction ws ns k f n → (xs : List ℕ) → take n xs ≡ take n (parts_of (graph_of ws ns k f))
         → (ns₂ : List ℕ) (b : Related) → ListsAtMost t.count ws ns₂ b (push_functions (take n xs) (three_places t) (lent ws ns k))
-        → Relates ws ns₂ b (related_made ws ns a and_then over_function f)
+        → Relates ws ns₂ b (related_made ws ns a and-then over_function f)
     over_pushed n I xs x ns₂ b u =
         record {
           says =
               u.says ∙ (ap (λ (ys : List ℕ). push_functions ys (three_places t) (lent ws ns k)) (x ∙ sym (ap arguments_of I.stands))
-              ∙ sym (ap (λ (d : Related). related_made ws ns d and_then over_function f) e));
+              ∙ sym (ap (λ (d : Related). related_made ws ns d and-then over_function f) e));
           few = at_most_more t.count 3 b few_ranges u.few;
         }
 
@@ -349,7 +349,7 @@ module _ (ws fs : List ℕ) (count : ℕ) (ns₀ : List ℕ) (a₀ : Related) wh
       unfolding AllStand
       function_asked = (s.few, next_stands.0)
 
-      pub rise_goes_on : (ns₁ : List ℕ) (b : Related) → Relates ws ns₁ b (related_made ws ns a and_then over_function f) → Rising ws fs count ns₀ a₀ ns₁ (left - 1) b
+      pub rise_goes_on : (ns₁ : List ℕ) (b : Related) → Relates ws ns₁ b (related_made ws ns a and-then over_function f) → Rising ws fs count ns₀ a₀ ns₁ (left - 1) b
       unfolding AllStand outwards
       rise_goes_on ns₁ b u =
           record {

@@ -78,12 +78,12 @@ module _ (ws : List ℕ) (k : Lengths) (ids : List ℕ) (m : ℕ) (sc : List ℕ
     some_left = omega (arith, not_None)
 
     abbrev by_join : Makes ℕ → Makes Agreed
-    by_join O = O and_then (λ j U. agreed_by U (take m ids) j)
+    by_join O = O and-then (λ j U. agreed_by U (take m ids) j)
 
     agreed_first : (W : Lent) → by_join (join_all (get_or ids 0 0) (drop 1 (take m ids)) W) ≡ agreed (take m ids) W
     unfolding agreed
     agreed_first W =
-        ap (λ ss. join_all (get_or ids 0 0) (drop 1 (take m ids)) W and_then (λ j U. agreed_by U ss j)) (firsts_left ids m long 0 some_left)
+        ap (λ ss. join_all (get_or ids 0 0) (drop 1 (take m ids)) W and-then (λ j U. agreed_by U ss j)) (firsts_left ids m long 0 some_left)
         ∙ ap (λ ss. agreed ss W) (sym (firsts_left ids m long 0 some_left))
 
     module _ (vs : List ℕ) (r : Made) (er : (ns : List ℕ) → made_of vs ns r ≡ join_all (get_or ids 0 0) (drop 1 (take m ids)) (lent ws ns k)) where
@@ -149,9 +149,9 @@ module _ (ws ns bs sc ls : List ℕ) (k : Lengths) (e : Branch) (run : Run) (ask
   ps = rows_from (source_at ls) run.start run.count
 
   module _ (vs ids : List ℕ) (r : Extracted) (er : extracted_of vs ns ids 0 run.count r ≡ resolve_all Nothing B ps W) where
-    by_sources : (x : Extracted) → r ≡ x → extracted_of vs ns ids 0 run.count x and_then agreed ≡ join_of B ps W
+    by_sources : (x : Extracted) → r ≡ x → extracted_of vs ns ids 0 run.count x and-then agreed ≡ join_of B ps W
     unfolding join_of
-    by_sources x z = ap (λ O. O and_then agreed) (ap (extracted_of vs ns ids 0 run.count) (sym z) ∙ er)
+    by_sources x z = ap (λ O. O and-then agreed) (ap (extracted_of vs ns ids 0 run.count) (sym z) ∙ er)
 
     pub sources_stop : (l : Lengths) → r ≡ Without l → AgreesOn ns sc e run.count (join_of B ps W) vs sc (NoSort l)
     sources_stop l z = record { says = by_sources (Without l) z; changed = unchanged sc (measure_at + e.measure) (measure_at + e.measure + run.count) }

@@ -82,7 +82,7 @@ module _ (W : Lent) (a b : ℕ) (q : AskedIn W a b) where
 
 leaves_then : (W : Lent) (O : Makes ℕ) (f : ℕ → Lent → Makes ℕ) → LeavesSort W O
     → ((c : ℕ) (U : Lent) → Checked U.sorts U.lengths.sorts U.lengths.entries → c < U.lengths.sorts
-    → W.lengths.sorts ≤ U.lengths.sorts → LeavesSort U (f c U)) → LeavesSort W (O and_then f)
+    → W.lengths.sorts ≤ U.lengths.sorts → LeavesSort U (f c U)) → LeavesSort W (O and-then f)
 leaves_then W (made c U) f x g = on (f c U) (g c U x.0 x.1 x.2)
   where
     on : (Q : Makes ℕ) → LeavesSort U Q → LeavesSort W Q
@@ -136,14 +136,14 @@ module _ (ids : List ℕ) (m : ℕ) (ws₀ : List ℕ) (k₀ : Lengths) (ws : Li
       abbrev rest : ℕ → Lent → Makes ℕ
       rest j U = join_all j (drop (i + 1) (take m ids)) U
 
-      first : (ns : List ℕ) → join_in lub b (lent ws ns k) and_then rest ≡ join_all (get_or ids 0 0) (drop 1 (take m ids)) (lent ws₀ ns k₀)
+      first : (ns : List ℕ) → join_in lub b (lent ws ns k) and-then rest ≡ join_all (get_or ids 0 0) (drop 1 (take m ids)) (lent ws₀ ns k₀)
       unfolding join_all
       first ns =
-          ap (λ x. join_in lub x (lent ws ns k) and_then rest) eb ∙ (ap (λ xs. join_all lub xs (lent ws ns k)) (sym (firsts_left ids m long i h)) ∙ G.same ns)
+          ap (λ x. join_in lub x (lent ws ns k) and-then rest) eb ∙ (ap (λ xs. join_all lub xs (lent ws ns k)) (sym (firsts_left ids m long i h)) ∙ G.same ns)
 
       module _ (vs : List ℕ) (r : Made) (er : (ns : List ℕ) → made_of vs ns r ≡ join_in lub b (lent ws ns k)) where
-        by : (x : Made) → r ≡ x → (ns : List ℕ) → made_of vs ns x and_then rest ≡ join_all (get_or ids 0 0) (drop 1 (take m ids)) (lent ws₀ ns k₀)
-        by x z ns = ap (λ y. made_of vs ns y and_then rest) (sym z) ∙ (ap (λ O. O and_then rest) (er ns) ∙ first ns)
+        by : (x : Made) → r ≡ x → (ns : List ℕ) → made_of vs ns x and-then rest ≡ join_all (get_or ids 0 0) (drop 1 (take m ids)) (lent ws₀ ns k₀)
+        by x z ns = ap (λ y. made_of vs ns y and-then rest) (sym z) ∙ (ap (λ O. O and-then rest) (er ns) ∙ first ns)
 
         pub stops : (l : Lengths) → r ≡ NoSort l → (ns : List ℕ) → made_of vs ns (NoSort l) ≡ join_all (get_or ids 0 0) (drop 1 (take m ids)) (lent ws₀ ns k₀)
         stops l z = by (NoSort l) z

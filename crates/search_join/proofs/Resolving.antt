@@ -34,14 +34,14 @@ use Rattle.inference.proofs.Members.{each_row, run_one_left}
 
 -- sorts before those that are made
 abbrev before : List ℕ → Makes (List ℕ) → Makes (List ℕ)
-before xs O = O and_then (λ ss W. made (xs ++ ss) W)
+before xs O = O and-then (λ ss W. made (xs ++ ss) W)
 
 before_none : (O : Makes (List ℕ)) → before [] O ≡ O
 before_none (made ss W) = refl
 before_none (no_list W) = refl
 before_none (no_room c W) = refl
 
-before_one : (xs : List ℕ) (x : ℕ) (O : Makes (List ℕ)) → before (xs ++ (x ∷ [])) O ≡ before xs (O and_then (λ ss W. made (x ∷ ss) W))
+before_one : (xs : List ℕ) (x : ℕ) (O : Makes (List ℕ)) → before (xs ++ (x ∷ [])) O ≡ before xs (O and-then (λ ss W. made (x ∷ ss) W))
 before_one xs x (made ss W) = ap (λ ys. made ys W) (append_assoc xs (x ∷ []) ss)
 before_one xs x (no_list W) = refl
 before_one xs x (no_room c W) = refl
@@ -105,19 +105,19 @@ module _ (ns bs ls : List ℕ) (s m : ℕ) (ws₀ ids₀ : List ℕ) (k₀ : Len
       )
 
       abbrev rest : ℕ → Lent → Makes (List ℕ)
-      rest c U = all_of B ls (s + (i + 1)) (m - (i + 1)) U and_then (λ ss W. made (c ∷ ss) W)
+      rest c U = all_of B ls (s + (i + 1)) (m - (i + 1)) U and-then (λ ss W. made (c ∷ ss) W)
 
       -- the first of what is left
-      first : before (take i ids) (resolve_in Nothing (binds_of bs k.variables) p W and_then rest) ≡ all_of B ls s m W₀
+      first : before (take i ids) (resolve_in Nothing (binds_of bs k.variables) p W and-then rest) ≡ all_of B ls s m W₀
       unfolding resolve_all
       first =
-          ap (λ C. before (take i ids) (resolve_in Nothing C p W and_then rest)) binds_now
-          ∙ (ap (λ q. before (take i ids) (resolve_in Nothing B q W and_then rest)) e
+          ap (λ C. before (take i ids) (resolve_in Nothing C p W and-then rest)) binds_now
+          ∙ (ap (λ q. before (take i ids) (resolve_in Nothing B q W and-then rest)) e
           ∙ (ap (λ ps. before (take i ids) (resolve_all Nothing B ps W)) (sym (run_one_left (source_at ls) s m i h)) ∙ G.same))
 
       module _ (vs : List ℕ) (r : Made) (er : made_of vs ns r ≡ resolve_in Nothing (binds_of bs k.variables) p W) where
-        by : (x : Made) → r ≡ x → before (take i ids) (made_of vs ns x and_then rest) ≡ all_of B ls s m W₀
-        by x z = ap (λ y. before (take i ids) (made_of vs ns y and_then rest)) (sym z) ∙ (ap (λ O. before (take i ids) (O and_then rest)) er ∙ first)
+        by : (x : Made) → r ≡ x → before (take i ids) (made_of vs ns x and-then rest) ≡ all_of B ls s m W₀
+        by x z = ap (λ y. before (take i ids) (made_of vs ns y and-then rest)) (sym z) ∙ (ap (λ O. before (take i ids) (O and-then rest)) er ∙ first)
 
         pub stops : (l : Lengths) → r ≡ NoSort l → extracted_of vs ns ids 0 m (Without l) ≡ all_of B ls s m W₀
         stops l z = by (NoSort l) z

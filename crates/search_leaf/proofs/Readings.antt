@@ -51,15 +51,15 @@ pub record Extracting (ns bs ls : List ℕ) (d : SortId) (n : ℕ) (ws₀ sc₀ 
   pub within : i ≤ n
   pub only : SortsOnly (lent ws₀ ns k₀) (lent ws ns k)
   pub changed : ChangedOnly best_sorts_at (best_sorts_at + n) sc₀ sc
-  pub same : sorts_from bs ls d i (n - i) (lent ws ns k) and_then (λ ss W. made (part best_sorts_at i sc ++ ss) W) ≡ sorts_from bs ls d 0 n (lent ws₀ ns k₀)
+  pub same : sorts_from bs ls d i (n - i) (lent ws ns k) and-then (λ ss W. made (part best_sorts_at i sc ++ ss) W) ≡ sorts_from bs ls d 0 n (lent ws₀ ns k₀)
 
-nothing_before : (O : Makes (List ℕ)) → O and_then (λ ss W. made ([] ++ ss) W) ≡ O
+nothing_before : (O : Makes (List ℕ)) → O and-then (λ ss W. made ([] ++ ss) W) ≡ O
 nothing_before (made ss W) = refl
 nothing_before (no_list W) = refl
 nothing_before (no_room c W) = refl
 
 one_before : (xs ys : List ℕ) (s : ℕ) → ys ≡ xs ++ (s ∷ []) → (O : Makes (List ℕ))
-    → O and_then (λ ss W. made (ys ++ ss) W) ≡ (O and_then (λ ss W. made (s ∷ ss) W)) and_then
+    → O and-then (λ ss W. made (ys ++ ss) W) ≡ (O and-then (λ ss W. made (s ∷ ss) W)) and-then
     (λ ss W. made (xs ++ ss) W)
 one_before xs ys s e (made ss W) = ap (λ (zs : List ℕ). made zs W) (ap (λ (zs : List ℕ). zs ++ ss) e ∙ append_assoc xs (s ∷ []) ss)
 one_before xs ys s e (no_list W) = refl
@@ -116,7 +116,7 @@ module _ (ns bs ls : List ℕ) (d : SortId) (n : ℕ) (ws₀ sc₀ : List ℕ) (
 
       -- the first of those left, then the rest
       abbrev after_first : Makes ℕ → Makes (List ℕ)
-      after_first O = (O and_then (λ s W. rest W and_then (λ ss W. made (s ∷ ss) W))) and_then (λ ss W. made (part best_sorts_at i sc ++ ss) W)
+      after_first O = (O and-then (λ s W. rest W and-then (λ ss W. made (s ∷ ss) W))) and-then (λ ss W. made (part best_sorts_at i sc ++ ss) W)
 
       on : after_first (makes_sort W (stored_at vs w) w) ≡ whole
       unfolding resolve_all rows_from
@@ -124,7 +124,7 @@ module _ (ns bs ls : List ℕ) (d : SortId) (n : ℕ) (ws₀ sc₀ : List ℕ) (
           let e : n - i ≡ suc (n - (i + 1)) = omega (arith, h) in
           ap after_first
           (sym (ap (λ (q : ℕ). resolve_in (Is d) B q W) (sym ep) ∙ resolved_in ws ns bs k (Is d) p vs w ew))
-          ∙ (ap (λ (m : ℕ). sorts_from bs ls d i m W and_then (λ ss W. made (part best_sorts_at i sc ++ ss) W)) (sym e) ∙ G.same)
+          ∙ (ap (λ (m : ℕ). sorts_from bs ls d i m W and-then (λ ss W. made (part best_sorts_at i sc ++ ss) W)) (sym e) ∙ G.same)
 
       makes : MadeSorts (SortWith (AlwaysStandsFor W B (Is d) p)) ⊥ W (makes_sort W (stored_at vs w) w)
       makes =
@@ -183,6 +183,6 @@ module _ (ns bs ls : List ℕ) (d : SortId) (n : ℕ) (ws₀ sc₀ : List ℕ) (
         says =
             ap (λ (j : ℕ). made (part best_sorts_at j sc) W) f
             ∙ (ap (λ (xs : List ℕ). made xs W) (sym (append-nil (part best_sorts_at i sc)))
-            ∙ (ap (λ (m : ℕ). sorts_from bs ls d i m W and_then (λ ss W. made (part best_sorts_at i sc ++ ss) W)) (sym e) ∙ G.same));
+            ∙ (ap (λ (m : ℕ). sorts_from bs ls d i m W and-then (λ ss W. made (part best_sorts_at i sc ++ ss) W)) (sym e) ∙ G.same));
         changed = G.changed;
       }

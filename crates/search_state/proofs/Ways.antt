@@ -68,7 +68,7 @@ module _ (Met : Type 0) (meet : Path → Lent → Met → Met) (P : Problem) (k 
     tried ts v = nodes_returned w.lent (first_found Met meet P ts k e v)
 
     by_narrower : (O : Makes (List ℕ))
-        → on_made O (λ ps. tried (narrower_tries l 1 ps)) missed w ≡ on_made (O and_then (λ ps X. made (narrower_tries l 1 ps) X)) tried missed w
+        → on_made O (λ ps. tried (narrower_tries l 1 ps)) missed w ≡ on_made (O and-then (λ ps X. made (narrower_tries l 1 ps) X)) tried missed w
     by_narrower (made ps X) = refl
     by_narrower (no_list X) = refl
     by_narrower (no_room c X) = refl
@@ -80,13 +80,13 @@ module _ (Met : Type 0) (meet : Path → Lent → Met → Met) (P : Problem) (k 
       where
         go : (O : Makes (List ℕ)) → ((U : Lent) → O ≡ no_list U → U ≡ w.lent)
             → on_made O (λ ps. tried (wider_tries r 1 ps)) (narrower Met meet P l r k e) w
-            ≡ on_made (where_no_list (O and_then (λ ps X. made (wider_tries r 1 ps) X)) (λ U. strict_related false
-            e.binds r U and_then (λ ps X. made (narrower_tries l 1 ps) X))) tried missed w
+            ≡ on_made (where_no_list (O and-then (λ ps X. made (wider_tries r 1 ps) X)) (λ U. strict_related false
+            e.binds r U and-then (λ ps X. made (narrower_tries l 1 ps) X))) tried missed w
         go (made ps X) h = refl
         go (no_list U) h =
             ap (λ X. narrower Met meet P l r k e (lending w X)) (h U refl)
             ∙ (by_narrower (strict_related false e.binds r w.lent)
-            ∙ ap (λ X. on_made (strict_related false e.binds r X and_then (λ ps Y. made (narrower_tries l 1 ps) Y)) tried missed w) (sym (h U refl)))
+            ∙ ap (λ X. on_made (strict_related false e.binds r X and-then (λ ps Y. made (narrower_tries l 1 ps) Y)) tried missed w) (sym (h U refl)))
         go (no_room d X) h = refl
 
   -- a literal by what stands at its place
@@ -133,11 +133,11 @@ module _ (W : Lent) (c : CheckedLent W) (six : 6 ≤ W.lengths.sorts) (B : Binds
 
   listed : (up : Bool) (p : ℕ) → PlacedIn W p → (tries : List ℕ → List Try) → ((ps : List ℕ) (W' : Lent) → Grows W W'
       → AllPlaced W' ps → TriesPlaced W' (tries ps))
-      → Leaves (strict_related up B p W and_then (λ ps X. made (tries ps) X))
+      → Leaves (strict_related up B p W and-then (λ ps X. made (tries ps) X))
   unfolding MadeFrom
   listed up p at tries h = go (strict_related up B p W) (related_placed W c six up B (binds_name_places W B b) p at) (λ U i. (no_list_is_free W c B b up p U i).1)
     where
-      go : (O : Makes (List ℕ)) → MadeFrom AllPlaced W O → ((U : Lent) → O ≡ no_list U → U ≡ W) → Leaves (O and_then (λ ps X. made (tries ps) X))
+      go : (O : Makes (List ℕ)) → MadeFrom AllPlaced W O → ((U : Lent) → O ≡ no_list U → U ≡ W) → Leaves (O and-then (λ ps X. made (tries ps) X))
       go (made ps W') m n = (m.0, h ps W' m.0 m.1)
       go (no_list W') m n = n W' refl
       go (no_room d W') m n = m
@@ -145,13 +145,13 @@ module _ (W : Lent) (c : CheckedLent W) (six : 6 ≤ W.lengths.sorts) (B : Binds
   widenings_leave : Leaves (widenings B l r W)
   unfolding widenings
   widenings_leave =
-      go (strict_related true B l W and_then (λ ps X. made (wider_tries r 1 ps) X))
+      go (strict_related true B l W and-then (λ ps X. made (wider_tries r 1 ps) X))
       (listed true l x (wider_tries r 1) (λ ps W' g a. wider_placed W' r 1 ps (placed_grown W c W' g r y) a))
     where
-      go : (O : Makes (List Try)) → Leaves O → Leaves (where_no_list O (λ U. strict_related false B r U and_then (λ ps X. made (narrower_tries l 1 ps) X)))
+      go : (O : Makes (List Try)) → Leaves O → Leaves (where_no_list O (λ U. strict_related false B r U and-then (λ ps X. made (narrower_tries l 1 ps) X)))
       go (made ts W') m = m
       go (no_list W') m =
-          subst (λ U. Leaves (strict_related false B r U and_then (λ ps X. made (narrower_tries l 1 ps) X))) (sym m)
+          subst (λ U. Leaves (strict_related false B r U and-then (λ ps X. made (narrower_tries l 1 ps) X))) (sym m)
           (listed false r y (narrower_tries l 1) (λ ps W'' g a. narrower_placed W'' l 1 ps (placed_grown W c W'' g l x) a))
       go (no_room d W') m = m
 

@@ -162,8 +162,8 @@ module _ (up : Bool) (o : ℕ) (a : Related) where
   abbrev in_turn : List ℕ → Lent → Makes (List Try)
   in_turn ps W = made (tries_against up o 1 ps) W
 
-  as_listed : (x : Related) → a ≡ x → (ws ns : List ℕ) → (related_made ws ns x and_then in_turn) ≡ (related_made ws ns a and_then in_turn)
-  as_listed x e ws ns = sym (ap (λ (y : Related). related_made ws ns y and_then in_turn) e)
+  as_listed : (x : Related) → a ≡ x → (ws ns : List ℕ) → (related_made ws ns x and-then in_turn) ≡ (related_made ws ns a and-then in_turn)
+  as_listed x e ws ns = sym (ap (λ (y : Related). related_made ws ns y and-then in_turn) e)
 
   pub few_listed : Ranges a → (p : Three) (k : Lengths) → a ≡ Related.These p k → p.count ≤ 3
   few_listed r p k e = subst Ranges e r
@@ -189,13 +189,13 @@ module _ (ws ns bs : List ℕ) (k : Lengths) (q : Ready ws ns bs k) (l r : ℕ) 
   B = binds_of bs k.variables
 
   abbrev of_left : Makes (List Try)
-  of_left = strict_related true B l W and_then (λ ps X. made (wider_tries r 1 ps) X)
+  of_left = strict_related true B l W and-then (λ ps X. made (wider_tries r 1 ps) X)
 
   abbrev of_right : Lent → Makes (List Try)
-  of_right U = strict_related false B r U and_then (λ ps X. made (narrower_tries l 1 ps) X)
+  of_right U = strict_related false B r U and-then (λ ps X. made (narrower_tries l 1 ps) X)
 
   left_tried : widened ws₁ ns₁ x ≡ of_left
-  left_tried = t.says ws₁ ns₁ ∙ ap (λ O. O and_then (λ ps X. made (wider_tries r 1 ps) X)) h.says
+  left_tried = t.says ws₁ ns₁ ∙ ap (λ O. O and-then (λ ps X. made (wider_tries r 1 ps) X)) h.says
 
   from_left : (y : Widenings) → x ≡ y → where_no_list (widened ws₁ ns₁ y) of_right ≡ widenings B l r W
   unfolding widenings
@@ -208,7 +208,7 @@ module _ (ws ns bs : List ℕ) (k : Lengths) (q : Ready ws ns bs k) (l r : ℕ) 
   wider_no_room c k' e = record { says = from_left (NoRoom c k') e; few = tt }
 
   module _ (k' : Lengths) (e : x ≡ NoList k') where
-    not_listed : (O : Makes (List ℕ)) → no_list (lent ws₁ ns₁ k') ≡ (O and_then (λ ps X. made (wider_tries r 1 ps) X)) → O ≡ no_list (lent ws₁ ns₁ k')
+    not_listed : (O : Makes (List ℕ)) → no_list (lent ws₁ ns₁ k') ≡ (O and-then (λ ps X. made (wider_tries r 1 ps) X)) → O ≡ no_list (lent ws₁ ns₁ k')
     not_listed (made ps X) z = no_confusion (cc)
     not_listed (no_list X) z = cc
     not_listed (no_room c X) z = no_confusion (cc)
@@ -232,8 +232,8 @@ module _ (ws ns bs : List ℕ) (k : Lengths) (q : Ready ws ns bs k) (l r : ℕ) 
         record {
           says =
               t₂.says ws₂ ns₂
-              ∙ (ap (λ O. O and_then (λ ps X. made (narrower_tries l 1 ps) X)) h₂.says
-              ∙ (ap (λ (n : ℕ). strict_related false (binds_of bs n) r (lent ws₁ ns₁ k') and_then
+              ∙ (ap (λ O. O and-then (λ ps X. made (narrower_tries l 1 ps) X)) h₂.says
+              ∙ (ap (λ (n : ℕ). strict_related false (binds_of bs n) r (lent ws₁ ns₁ k') and-then
               (λ ps X. made (narrower_tries l 1 ps) X)) (ap (λ (U : Lent). U.lengths.variables) nothing_made)
               ∙ from_left (NoList k') e));
           few = t₂.few;

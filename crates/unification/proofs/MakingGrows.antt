@@ -44,7 +44,7 @@ made_before In W W' c g (no_room e W'') h = grows_trans W c W' W'' g h
 
 -- one after the other
 pub made_then : {A B : Type 0} (In : Lent → A → Type 0) (On : Lent → B → Type 0) (W : Lent) → CheckedLent W → (O : Makes A) (f : A → Lent → Makes B)
-    → MadeFrom In W O → ((a : A) (W' : Lent) → Grows W W' → In W' a → MadeFrom On W' (f a W')) → MadeFrom On W (O and_then f)
+    → MadeFrom In W O → ((a : A) (W' : Lent) → Grows W W' → In W' a → MadeFrom On W' (f a W')) → MadeFrom On W (O and-then f)
 unfolding MadeFrom
 made_then In On W c (made a W') f h k = made_before On W W' c h.0 (f a W') (k a W' h.0 h.1)
 made_then In On W c (no_list W') f h k = h

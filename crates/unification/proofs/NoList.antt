@@ -52,7 +52,7 @@ module _ (W : Lent) (B : Binds) (A : Ranked (graph W) deep B) (up : Bool) where
 
   -- by the outcome for the range
   functions : (p r : ℕ) (xs : List ℕ) → (FreeEnd (graph W) B r → FreeEnd (graph W) B p) → (x : Makes (List ℕ))
-      → OnlyFree r x → OnlyFree p (x and_then (push_functions xs))
+      → OnlyFree r x → OnlyFree p (x and-then (push_functions xs))
   functions p r xs f (made rs W') h =
       each_weaker (λ ps W''. length ps ≡ length rs) Any (Free p) Any (push_functions xs rs W') (λ ps W'' e. tt) (each_functions (Free p) Any (λ W''. tt) xs rs W')
   functions p r xs f (no_list W') h = (f h.0, h.1)

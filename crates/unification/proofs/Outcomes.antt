@@ -32,7 +32,7 @@ Any a W = Unit {0}
 
 pub each_then : {A D : Type 0} (P : A → Lent → Type 0) (Q : D → Lent → Type 0) (N : Lent → Type 0) (C : ℕ → Lent
     → Type 0) (x : Makes A) (k : A → Lent → Makes D)
-    → Each P N C x → ((a : A) (W : Lent) → P a W → Each Q N C (k a W)) → Each Q N C (x and_then k)
+    → Each P N C x → ((a : A) (W : Lent) → P a W → Each Q N C (k a W)) → Each Q N C (x and-then k)
 each_then P Q N C (made a W) k h then = then a W h
 each_then P Q N C (no_list W) k h then = h
 each_then P Q N C (no_room c W) k h then = h

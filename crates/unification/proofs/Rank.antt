@@ -34,9 +34,12 @@ pub record Ranked (shape : ℕ → Shape) (w : ℕ) (B : Binds) : Type 0 where
   pub short : (p : ℕ) → rank shape w B p < w
 
 -- each part is below the rank of its list, and functions that agree on each part agree on the list
+highest_of_one : (g : ℕ → ℕ) (q : ℕ) (ps : List ℕ) → One q ps → g q < highest g ps
+highest_of_one g q _ (first ps) = omega arith
+highest_of_one g q _ (later p ps o) = omega (arith, highest_of_one g q ps o)
+
 pub one_highest : (g : ℕ → ℕ) (ps : List ℕ) (q : ℕ) → One q ps → g q < highest g ps
-one_highest g _ q (first ps) = omega arith
-one_highest g _ q (later p ps o) = omega (arith, one_highest g ps q o)
+one_highest g ps q o = highest_of_one g q ps o
 
 pub highest_agree : (f g : ℕ → ℕ) (ps : List ℕ) → ((q : ℕ) → One q ps → f q ≡ g q) → highest f ps ≡ highest g ps
 highest_agree f g [] h = refl

@@ -81,7 +81,7 @@ module _ (W : Lent) (B : Binds) (A : Ranked (graph W) deep B) where
     agree f g q h b (variable v) e = refl
     agree f g q h b (over (flat_head a) ps) e = refl
     agree f g q h b (over (container_head o) ps) e = refl
-    agree f g q h b (over (function_head n) ps) e = ap (λ (x : Makes (List ℕ)). x and_then (push_functions (take n ps))) (h (get_or ps n 0) (range_lower q n ps e))
+    agree f g q h b (over (function_head n) ps) e = ap (λ (x : Makes (List ℕ)). x and-then (push_functions (take n ps))) (h (get_or ps n 0) (range_lower q n ps e))
     agree f g q h b (over (stray_head x) ps) e = refl
 
     stable : (k p : ℕ) → ρ p < k → related_to up B (suc k) p W ≡ related_to up B k p W
@@ -136,5 +136,5 @@ module _ (W : Lent) (bs : List ℕ) (R : Ready W.sorts W.nodes bs W.lengths) whe
       pub range_lower_than_place : rank (graph W) deep bound (get_or ps n 0) < rank (graph W) deep bound p
       range_lower_than_place = omega (arith, range_lower W bound ranked q n ps i, end_no_higher (graph W) deep bound ranked deep p q e)
 
-      pub made_at_function : strict_related up bound p W ≡ (strict_related up bound (get_or ps n 0) W and_then (push_functions (take n ps)))
+      pub made_at_function : strict_related up bound p W ≡ (strict_related up bound (get_or ps n 0) W and-then (push_functions (take n ps)))
       made_at_function = related_at (over (function_head n) ps) i

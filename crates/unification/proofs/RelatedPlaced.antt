@@ -49,6 +49,7 @@ functions_placed W xs _ _ (one_function r p rs ps x s f) q (later _ _ o) = funct
 
 module _ (W : Lent) (c : CheckedLent W) (six : 6 ≤ W.lengths.sorts) (up : Bool) where
   numbers_placed : (rs : List Sort) → AllPlaced W (each (λ r. kind_flat (primitive r)) rs)
+  numbers_placed [] q x' = elim x' [ ]
   numbers_placed (r ∷ rs) _ (first _) = sort_placed W c (kind_flat (primitive r)) (omega (arith, primitive_fixed r, six))
   numbers_placed (r ∷ rs) q (later _ _ o) = numbers_placed rs q o
 
@@ -76,7 +77,7 @@ module _ (W : Lent) (c : CheckedLent W) (six : 6 ≤ W.lengths.sorts) (up : Bool
 
     at_function : (n : ℕ) (xs : List ℕ) (r : ℕ) → length xs ≡ n → n ≤ 16 → graph W q ≡ over (function_head n)
         (xs ++ (r ∷ [])) → (O : Makes (List ℕ)) → MadeFrom AllPlaced W O
-        → MadeFrom AllPlaced W (O and_then (push_functions xs))
+        → MadeFrom AllPlaced W (O and-then (push_functions xs))
     at_function n xs r len few f O ih =
         made_then AllPlaced AllPlaced W c O (push_functions xs) ih
         (λ rs W₁ g h. made_so (λ W' ps. Functions W' xs rs ps) AllPlaced W₁ (push_functions xs rs W₁)

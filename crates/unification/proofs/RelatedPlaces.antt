@@ -75,6 +75,7 @@ parts_split val (a ∷ xs) r (arg t ts) x l e =
 -- the primitive sorts among the answers
 module _ (W : Lent) (c : CheckedLent W) (six : fixed_six W.sorts W.lengths.sorts ≡ true) where
   numbers_placed : (rs : List Sort) → AllPlaced W (each (λ r. kind_flat (primitive r)) rs)
+  numbers_placed [] q o = elim o [ ]
   numbers_placed (r ∷ rs) _ (first _) = primitive_placed W c six r
   numbers_placed (r ∷ rs) q (later _ _ o) = numbers_placed rs q o
 
@@ -182,7 +183,7 @@ module _ (W : Lent) (c : CheckedLent W) (six : fixed_six W.sorts W.lengths.sorts
 
     at_function : (n : ℕ) (xs : List ℕ) (r : ℕ) → length xs ≡ n → n ≤ 16 → graph W q ≡ over (function_head n)
         (xs ++ (r ∷ [])) → (O : Makes (List ℕ)) → MadeFrom (Answer r) W O
-        → MadeFrom (Answer q) W (O and_then (push_functions xs))
+        → MadeFrom (Answer q) W (O and-then (push_functions xs))
     unfolding related
     at_function n xs r len few f O ih =
         let y : AllPlaced W xs = λ z o. parts_placed W c q z (function_head n) (xs ++ (r ∷ [])) x f (one_front z xs (r ∷ []) o) in

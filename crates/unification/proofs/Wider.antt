@@ -32,6 +32,7 @@ member_each f first = first
 member_each f (later h) = later (member_each f h)
 
 pub each_member : {A B : Type 0} (f : A → B) (u : B) (i : ℕ) (xs : List A) → Member u i (each f xs) → (x : A) × (u ≡ f x) × Member x i xs
+each_member {A = A} {B = B} f u i [] x' = elim x' [ ]
 each_member f u i (x ∷ xs) first = (x, refl, first)
 each_member f u i (x ∷ xs) (later h) = let r = each_member f u _ xs h in (r.0, r.1, later r.2)
 
@@ -70,6 +71,22 @@ flat_tables = record { fits = fits; enough = enough; turned = turned }
   where
     fits : (up : Bool) (a : Flat) (u : Tree) (i : ℕ) → Member u i (related up (flat a))
         → (b : Flat) × (u ≡ flat b) × (le_flat up a b ≡ true) × (apart up (level a) (level b) ≡ suc i)
+    fits false unit u i x'' = elim x'' [ ]
+    fits false (primitive Sort.Bool) u i x5 = elim x5 [ ]
+    fits false (primitive Sort.Pos) u i x6 = elim x6 [ ]
+    fits false (primitive Sort.Nat) u _ (later {i = i} x15) = elim x15 [ ]
+    fits false (primitive Sort.Int) u _ (later (later {i = i} x24)) = elim x24 [ ]
+    fits false (primitive Sort.Real) u _ (later (later (later {i = i} x33))) = elim x33 [ ]
+    fits false (def _) u i x5 = elim x5 [ ]
+    fits false (typevar _) u i x6 = elim x6 [ ]
+    fits true unit u i x3 = elim x3 [ ]
+    fits true (primitive Sort.Bool) u i x6 = elim x6 [ ]
+    fits true (primitive Sort.Pos) u _ (later (later (later {i = i} x31))) = elim x31 [ ]
+    fits true (primitive Sort.Nat) u _ (later (later {i = i} x24)) = elim x24 [ ]
+    fits true (primitive Sort.Int) u _ (later {i = i} x17) = elim x17 [ ]
+    fits true (primitive Sort.Real) u i x10 = elim x10 [ ]
+    fits true (def _) u i x6 = elim x6 [ ]
+    fits true (typevar _) u i x7 = elim x7 [ ]
     fits true (primitive Sort.Pos) _ _ first = (primitive Sort.Nat, refl, refl, refl)
     fits true (primitive Sort.Pos) _ _ (later first) = (primitive Sort.Int, refl, refl, refl)
     fits true (primitive Sort.Pos) _ _ (later (later first)) = (primitive Sort.Real, refl, refl, refl)
@@ -94,6 +111,14 @@ flat_tables = record { fits = fits; enough = enough; turned = turned }
     enough (typevar n) = omega arith
 
     turned : (a b : Flat) (i : ℕ) → Member (flat a) i (related false (flat b)) → Member (flat b) i (related true (flat a))
+    turned a unit i x' = elim x' [ ]
+    turned a (primitive Sort.Bool) i x4 = elim x4 [ ]
+    turned a (primitive Sort.Pos) i x5 = elim x5 [ ]
+    turned a (primitive Sort.Nat) _ (later {i = i} x14) = elim x14 [ ]
+    turned a (primitive Sort.Int) _ (later (later {i = i} x23)) = elim x23 [ ]
+    turned a (primitive Sort.Real) _ (later (later (later {i = i} x32))) = elim x32 [ ]
+    turned a (def _) i x4 = elim x4 [ ]
+    turned a (typevar _) i x5 = elim x5 [ ]
     turned _ (primitive Sort.Nat) _ first = first
     turned _ (primitive Sort.Int) _ first = first
     turned _ (primitive Sort.Int) _ (later first) = later first
@@ -107,6 +132,16 @@ operator_tables s = record { fits = fits; enough = enough; turned = turned }
   where
     fits : (up : Bool) (o : ComplexSort) (u : Tree) (i : ℕ) → Member u i (related up (container o s))
         → (p : ComplexSort) × (u ≡ container p s) × (le_op up o p ≡ true) × (apart up (level_op o) (level_op p) ≡ suc i)
+    fits false ComplexSort.List u i x'' = elim x'' [ ]
+    fits false ComplexSort.Set u _ (later {i = i} x11) = elim x11 [ ]
+    fits false ComplexSort.FSet u i x4 = elim x4 [ ]
+    fits false ComplexSort.Bag u _ (later {i = i} x13) = elim x13 [ ]
+    fits false ComplexSort.FBag u i x6 = elim x6 [ ]
+    fits true ComplexSort.List u i x3 = elim x3 [ ]
+    fits true ComplexSort.Set u i x4 = elim x4 [ ]
+    fits true ComplexSort.FSet u _ (later {i = i} x13) = elim x13 [ ]
+    fits true ComplexSort.Bag u i x6 = elim x6 [ ]
+    fits true ComplexSort.FBag u _ (later {i = i} x15) = elim x15 [ ]
     fits true ComplexSort.FSet _ _ first = (ComplexSort.Set, refl, refl, refl)
     fits true ComplexSort.FBag _ _ first = (ComplexSort.Bag, refl, refl, refl)
     fits false ComplexSort.Set _ _ first = (ComplexSort.FSet, refl, refl, refl)
@@ -119,9 +154,19 @@ operator_tables s = record { fits = fits; enough = enough; turned = turned }
     enough ComplexSort.Bag = omega arith
     enough ComplexSort.FBag = omega arith
 
+    -- a list of one operator q over s, which q's own list leads back from
+    turned_one : (q p : ComplexSort) → Member (container p s) zero (related true (container q s))
+        → (o : ComplexSort) (u : Tree) (i : ℕ) → u ≡ container o s → Member u i (container q s ∷ []) → Member (container p s) i (related true (container o s))
+    turned_one q p back o _ _ e first =
+        let h : q ≡ o = cc in subst (λ (r : ComplexSort). Member (container p s) zero (related true (container r s))) h back
+    turned_one q p back o u _ e (later h) = elim h [ ]
+
     turned : (o p : ComplexSort) (i : ℕ) → Member (container o s) i (related false (container p s)) → Member (container p s) i (related true (container o s))
-    turned _ ComplexSort.Set _ first = first
-    turned _ ComplexSort.Bag _ first = first
+    turned o ComplexSort.List i x' = elim x' [ ]
+    turned o ComplexSort.FSet i x3 = elim x3 [ ]
+    turned o ComplexSort.FBag i x5 = elim x5 [ ]
+    turned o ComplexSort.Set i h = turned_one ComplexSort.FSet ComplexSort.Set first o (container o s) i refl h
+    turned o ComplexSort.Bag i h = turned_one ComplexSort.FBag ComplexSort.Bag first o (container o s) i refl h
 
 -- The i-th is i + 1 steps away, and what is i + 1 steps away is the i-th.
 member_away : (up : Bool) (t u : Tree) (i : ℕ) → Member u i (related up t) → Away up t u (suc i)

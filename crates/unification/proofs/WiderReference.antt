@@ -102,6 +102,7 @@ narrowest (container ComplexSort.FBag s) f = inl refl
 narrowest (function ss r) f = absurd (false≢true (sym f))
 
 not_in_none : {A : Type 0} (u : Tree) (i : ℕ) (xs : List Tree) → xs ≡ [] → Member u i xs → A
+not_in_none {A = A} u i [] e x'' = elim x'' [ ]
 not_in_none u _ (x ∷ xs) e first = absurd (let z : ◌≡◌ {A = ℕ} 0 1 = cc in omega arith)
 not_in_none u _ (x ∷ xs) e (later h) = absurd (let z : ◌≡◌ {A = ℕ} 0 1 = cc in omega arith)
 

@@ -51,9 +51,9 @@ pub data Makes (A : Type 0) : Type 0 where
   no_room : ℕ → Lent → Makes A
 
 abbrev pub ◌and-then◌ : {A B : Type 0} → Makes A → (A → Lent → Makes B) → Makes B
-(made a W) and_then k = k a W
-(no_list W) and_then k = no_list W
-(no_room c W) and_then k = no_room c W
+(made a W) and-then k = k a W
+(no_list W) and-then k = no_list W
+(no_room c W) and-then k = no_room c W
 
 infixl 20 ◌and-then◌
 -- one more node: its row, and its argument entries after those in use
@@ -111,15 +111,15 @@ only p W = made (p ∷ []) W
 -- For a container of sorts a sort is interned, for a node a node is made.
 abbrev pub related_over : Option ComplexSort → Bool → ℕ → Lent → Makes (List ℕ)
 related_over none sort s W = made [] W
-related_over (some o) true s W = intern_container o s W and_then only
-related_over (some o) false s W = push_node (record { kind = kind_op o; part = s; args = [] }) W and_then only
+related_over (some o) true s W = intern_container o s W and-then only
+related_over (some o) false s W = push_node (record { kind = kind_op o; part = s; args = [] }) W and-then only
 
 -- functions of the same arguments over each of the ranges
 unfoldable pub push_functions : List ℕ → List ℕ → Lent → Makes (List ℕ)
 push_functions xs [] W = made [] W
 push_functions xs (r ∷ rs) W =
     push_node (record { kind = function_kind; part = r; args = xs }) W
-    and_then (λ p W. push_functions xs rs W and_then (λ ps W. made (p ∷ ps) W))
+    and-then (λ p W. push_functions xs rs W and-then (λ ps W. made (p ∷ ps) W))
 
 -- the fixed sorts have their kinds as numbers
 abbrev pub related_places : Bool → Flat → List ℕ
@@ -134,7 +134,7 @@ related_shape up f sort (variable v) W = no_list W
 related_shape up f sort (over (flat_head a) ps) W = made (related_places up a) W
 related_shape up f sort (over (container_head o) ps) W =
     related_over (related_container up o) sort (get_or ps 0 0) W
-related_shape up f sort (over (function_head n) ps) W = f (get_or ps n 0) W and_then (push_functions (take n ps))
+related_shape up f sort (over (function_head n) ps) W = f (get_or ps n 0) W and-then (push_functions (take n ps))
 related_shape up f sort (over (stray_head n) ps) W = made [] W
 
 abbrev pub related_end : Bool → (ℕ → Lent → Makes (List ℕ)) → Option ℕ → Lent → Makes (List ℕ)

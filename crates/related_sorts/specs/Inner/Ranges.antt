@@ -51,7 +51,7 @@ over_function f ps W = push_functions (arguments_of (graph W f)) ps W
 -- over the first i of the functions fs, the last of them first
 unfoldable pub outwards : List ℕ → ℕ → Makes (List ℕ) → Makes (List ℕ)
 outwards fs zero O = O
-outwards fs (suc i) O = outwards fs i (O and_then over_function (get_or fs i 0))
+outwards fs (suc i) O = outwards fs i (O and-then over_function (get_or fs i 0))
 
 -- a function stands at f in the lists as they then are
 abbrev pub Stands : ℕ → Makes (List ℕ) → Type 0
@@ -62,4 +62,4 @@ Stands f (no_room c W) = Unit {0}
 -- so it does for each of them on the way
 unfoldable pub AllStand : List ℕ → ℕ → Makes (List ℕ) → Type 0
 AllStand fs zero O = Unit {0}
-AllStand fs (suc i) O = Stands (get_or fs i 0) O × AllStand fs i (O and_then over_function (get_or fs i 0))
+AllStand fs (suc i) O = Stands (get_or fs i 0) O × AllStand fs i (O and-then over_function (get_or fs i 0))

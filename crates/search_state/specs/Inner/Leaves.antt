@@ -117,8 +117,8 @@ where_no_list (no_room c W) f = no_room c W
 
 unfoldable pub widenings : Binds → ℕ → ℕ → Lent → Makes (List Try)
 widenings B l r W =
-    where_no_list (strict_related true B l W and_then (λ ps X. made (wider_tries r 1 ps) X))
-    (λ U. strict_related false B r U and_then (λ ps X. made (narrower_tries l 1 ps) X))
+    where_no_list (strict_related true B l W and-then (λ ps X. made (wider_tries r 1 ps) X))
+    (λ U. strict_related false B r U and-then (λ ps X. made (narrower_tries l 1 ps) X))
 
 abbrev pub widened : List ℕ → List ℕ → Widenings → Makes (List Try)
 widened ws ns (These t k) = made (tries_from t 0) (lent ws ns k)

@@ -68,5 +68,5 @@ pub record ListedTries (up : Bool) (other : ℕ) (ps : List ℕ) (r : Tries) : T
 -- of whatever was listed, in any lists
 pub record AsTries (up : Bool) (other : ℕ) (found : Related) (r : Widenings) : Type 0 where
   pub says : (ws ns : List ℕ)
-      → widened ws ns r ≡ (related_made ws ns found and_then (λ ps W. made (tries_against up other 1 ps) W))
+      → widened ws ns r ≡ (related_made ws ns found and-then (λ ps W. made (tries_against up other 1 ps) W))
   pub few : FewTries r
