@@ -143,6 +143,7 @@ module _ (shape : ℕ → Shape) (look : ℕ → Tree) (P : Problem) (ch : List 
   heads_are_distances : (t : Tree) (ps : List ℕ) (ss : List Tree) (ns : Components) → Heads shape σ t ps ss ns → (p n i : ℕ) (s : Tree)
       → Member p i ps → Member n i ns → Has shape σ p s
       → (materializable s t ≡ true) × ((d : Steps) × (distance true s t ≡ some d) × (n ≡ d.head))
+  heads_are_distances t _ _ _ no_heads p n i s x13 _ g = elim x13 [ ]
   heads_are_distances t _ _ _ (and_head _ r d ps ss ns h m e x) p _ _ s first first g =
       let q = one_sort shape look P σ p s r g h in rw q (m, (d, e, refl))
   heads_are_distances t _ _ _ (and_head _ r d ps ss ns h m e x) p n _ s (later a) (later b) g = heads_are_distances t ps ss ns x p n _ s a b g
@@ -150,6 +151,7 @@ module _ (shape : ℕ → Shape) (look : ℕ → Tree) (P : Problem) (ch : List 
   -- the sorts that are joined are those of the sources
   heads_sorts : (t : Tree) (ps : List ℕ) (ss : List Tree) (ns : Components) → Heads shape σ t ps ss ns → (s : Tree) (i : ℕ) → Member s i ss
       → (p : ℕ) × Member p i ps × Has shape σ p s
+  heads_sorts t _ _ _ no_heads s i x5 = elim x5 [ ]
   heads_sorts t _ _ _ (and_head p _ d ps ss ns h m e x) s _ first = (p, first, h)
   heads_sorts t _ _ _ (and_head p _ d ps ss ns h m e x) s _ (later a) = let r = heads_sorts t ps ss ns x s _ a in (r.0, later r.1, r.2)
 
@@ -159,6 +161,7 @@ module _ (shape : ℕ → Shape) (look : ℕ → Tree) (P : Problem) (ch : List 
 
   sequence_widens : (t : Tree) (ps : List ℕ) (ns : Components) → Sequence shape σ t ps ns → (p n i : ℕ) (s : Tree)
       → Member p i ps → Member n i ns → Has shape σ p s → Widened s t n
+  sequence_widens t _ _ no_source p n i s x10 _ g = elim x10 [ ]
   sequence_widens t _ _ (and_source _ r _ ps ns h w x) p n _ s first first g = let q = one_sort shape look P σ p s r g h in rw q w
   sequence_widens t _ _ (and_source _ r _ ps ns h w x) p n _ s (later a) (later b) g = sequence_widens t ps ns x p n _ s a b g
 

@@ -29,6 +29,7 @@ module _ {A : Type 0} where
   in_left x _ ys (there y xs i) = there y (xs ++ ys) (in_left x xs ys i)
 
   pub in_all : (P : A → Type 0) (x : A) (xs : List A) → All P xs → In x xs → P x
+  in_all P x _ none_left x4 = elim x4 [ ]
   in_all P x _ (and_all _ xs p a) (here _) = p
   in_all P x _ (and_all y xs p a) (there _ _ i) = in_all P x xs a i
 

@@ -70,6 +70,7 @@ typed_long shape look σ _ _ (and_typed p s ps ss h t) = ap suc (typed_long shap
 
 pub each_place_has_its_sort : (shape : ℕ → Shape) (look : ℕ → Tree) (σ : Assignment) (ps ss : List ℕ) → Typed shape look σ ps ss
     → (p s i : ℕ) → Member p i ps → Member s i ss → Has shape σ p (look s)
+each_place_has_its_sort shape look σ _ _ all_typed p s i x7 _ = elim x7 [ ]
 each_place_has_its_sort shape look σ _ _ (and_typed _ _ ps ss h t) p s _ first first = h
 each_place_has_its_sort shape look σ _ _ (and_typed _ _ ps ss h t) p s _ (later m) (later n) = each_place_has_its_sort shape look σ ps ss t p s _ m n
 
