@@ -6,7 +6,7 @@
 #![tactic(auto)]
 
 #[repr(C)]
-#[derive(Drop)]
+#[derive(Clone, Copy, Drop)]
 pub struct SortId(pub u16);
 
 // The built-in primitive sorts, merc_syntax::Sort.
@@ -68,7 +68,7 @@ pub enum Widening {
 }
 
 // How much of the sort storage is in use: rows, and argument entries.
-#[derive(Drop)]
+#[derive(Clone, Copy, Drop)]
 pub struct Counts {
     pub sorts: u16,
     pub entries: u16,

@@ -6,15 +6,15 @@ use resolved_sort::{ComplexSort, Run, SortId};
 // A place, the Rust's InferSortId: an interned sort (below 1,024) or a node. The port has no Resolved node.
 // Nodes, unlike sorts, are not interned: two may denote the same sort, and whether they do is for unify to decide.
 #[repr(C)]
-#[derive(Drop)]
+#[derive(Clone, Copy, Drop)]
 pub struct InferSortId(pub u16);
 
 // The number of an inference node.
-#[derive(Drop)]
+#[derive(Clone, Copy, Drop)]
 pub struct NodeId(pub u16);
 
 // The number of a unification variable.
-#[derive(Drop)]
+#[derive(Clone, Copy, Drop)]
 pub struct SortVar(pub u16);
 
 // A place taken apart.
@@ -50,7 +50,7 @@ pub enum Unified {
 
 // How much of the lent lists is in use: sorts and their argument entries, nodes and their argument
 // entries, and variables.
-#[derive(Drop)]
+#[derive(Clone, Copy, Drop)]
 pub struct Lengths {
     pub sorts: u16,
     pub entries: u16,
