@@ -10,7 +10,7 @@
 pub struct SortId(pub u16);
 
 // The built-in primitive sorts, merc_syntax::Sort.
-#[derive(Drop)]
+#[derive(Clone, Copy, Drop)]
 pub enum Sort {
     Bool,
     Pos,
@@ -20,7 +20,7 @@ pub enum Sort {
 }
 
 // The container constructors, merc_syntax::ComplexSort.
-#[derive(Drop)]
+#[derive(Clone, Copy, Drop)]
 pub enum ComplexSort {
     List,
     Set,
@@ -30,7 +30,7 @@ pub enum ComplexSort {
 }
 
 // A run of argument entries: where it starts in the entry list, and how many it has.
-#[derive(Drop)]
+#[derive(Clone, Copy, Drop)]
 pub struct Run {
     pub start: u16,
     pub count: u16,
@@ -41,7 +41,7 @@ pub struct Run {
 // surface syntax, so it is none of the primitive sorts. Def is nominal, by its declaration: two are equal only where
 // that is the same, and else unrelated. TypeVar is bound by the polymorphic specification that introduces it; one
 // number is one variable.
-#[derive(Drop)]
+#[derive(Clone, Copy, Drop)]
 pub enum ResolvedSort {
     Unit,
     Primitive(Sort),
@@ -52,7 +52,7 @@ pub enum ResolvedSort {
 }
 
 // How two sorts are ordered: Option<Ordering> in the Rust. Below: the first is below the second.
-#[derive(Drop)]
+#[derive(Clone, Copy, Drop)]
 pub enum PartialOrder {
     Unrelated,
     Equal,
@@ -61,7 +61,7 @@ pub enum PartialOrder {
 }
 
 // How far the first sort is below the second: Option<(u8, u8)> in the Rust.
-#[derive(Drop)]
+#[derive(Clone, Copy, Drop)]
 pub enum Widening {
     Distance { head: u8, interior: u8 },
     Nothing,
@@ -76,7 +76,7 @@ pub struct Counts {
 
 // What interning a sort, and what join and meet answer: the sort and the counts after it, none (with what was made on
 // the way kept), or no room for a new sort.
-#[derive(Drop)]
+#[derive(Clone, Copy, Drop)]
 pub enum Joined {
     At(SortId, Counts),
     Nothing(Counts),
@@ -84,13 +84,13 @@ pub enum Joined {
 }
 
 // What the entries answer. A refusal is the code of the first failing check of document 01; nothing is changed.
-#[derive(Drop)]
+#[derive(Clone, Copy, Drop)]
 pub enum Compared {
     Refused(u16),
     Ordered(PartialOrder),
 }
 
-#[derive(Drop)]
+#[derive(Clone, Copy, Drop)]
 pub enum Bounded {
     Refused(u16),
     Sort(SortId, Counts),
@@ -98,13 +98,13 @@ pub enum Bounded {
     NoRoom,
 }
 
-#[derive(Drop)]
+#[derive(Clone, Copy, Drop)]
 pub enum Measured {
     Refused(u16),
     Steps(Widening),
 }
 
-#[derive(Drop)]
+#[derive(Clone, Copy, Drop)]
 pub enum Materialized {
     Refused(u16),
     Answer(bool),
@@ -112,7 +112,7 @@ pub enum Materialized {
 
 // Two rows side by side, as the Rust's `match (self.get(lhs), self.get(rhs))` takes them apart. Functions: with as many
 // arguments on both sides, where the domains start and what the ranges are.
-#[derive(Drop)]
+#[derive(Clone, Copy, Drop)]
 pub enum Pair {
     Primitives(Sort, Sort),
     Containers {
@@ -132,7 +132,7 @@ pub enum Pair {
 }
 
 // Which of two number sorts is farther in a direction; neither where one is no number.
-#[derive(Drop)]
+#[derive(Clone, Copy, Drop)]
 pub enum Side {
     Lhs,
     Rhs,
@@ -140,14 +140,14 @@ pub enum Side {
 }
 
 // The container constructor of a join or meet: Option<ComplexSort> in the Rust.
-#[derive(Drop)]
+#[derive(Clone, Copy, Drop)]
 pub enum OpBound {
     Is(ComplexSort),
     Nothing,
 }
 
 // How the joins or meets of two domains ended.
-#[derive(Drop)]
+#[derive(Clone, Copy, Drop)]
 pub enum Found {
     All(Counts),
     Nothing(Counts),
@@ -155,14 +155,14 @@ pub enum Found {
 }
 
 // The joins or meets of two domains, where there are all of them.
-#[derive(Drop)]
+#[derive(Clone, Copy, Drop)]
 pub struct Domain {
     pub ids: [SortId; ARGUMENT_WORDS],
     pub found: Found,
 }
 
 // What the checks of a call found: the code of the first that fails, or none.
-#[derive(Drop)]
+#[derive(Clone, Copy, Drop)]
 pub enum Tested {
     Refused(u16),
     Passed,
