@@ -1,4 +1,4 @@
-//! Links the proved solver, which `rt staticlib solve_records` writes. Another folder can be named by JULQETAI_LIB_DIR.
+//! Links the proved solver, which `tools/build.sh solve_records` writes. Another folder can be named by JULQETAI_LIB_DIR.
 
 use std::env;
 use std::path::PathBuf;
@@ -16,7 +16,7 @@ fn main() {
     println!("cargo:rerun-if-changed={}", library.display());
     if !library.exists() {
         eprintln!(
-            "The proved library {} is not there: run `rt staticlib solve_records` at the root of the repository, \
+            "The proved library {} is not there: run `tools/build.sh solve_records` at the root of the repository, \
              or name the folder that has libsolve_records.a in JULQETAI_LIB_DIR.",
             library.display()
         );

@@ -53,7 +53,7 @@ prove() {
     for name in $(stands_on "$1"); do [ ! -d "../crates/$name" ] || sources+=("../crates/$name"); done
     if [ ! -f "$library" ] || [ -n "$(find "${sources[@]}" -newer "$library" -print -quit)" ]; then
         step "the proved library $1"
-        (cd .. && rt staticlib "$1")
+        (cd .. && tools/build.sh "$1")
     fi
 }
 

@@ -1,6 +1,6 @@
 /* The entries of the proved libraries, for C.
  *
- * `rt staticlib NAME` at the root of the repository writes target/staticlib/libNAME.a, which has the functions below its
+ * `tools/build.sh NAME` at the root of the repository writes target/staticlib/libNAME.a, which has the functions below its
  * name here and no others. All words have 16 bits; docs/FORMAT.md, "In memory", says what they mean.
  *
  * A slice passes as a pointer and a length in words (of overloads: in records). Words, counts and lengths may be

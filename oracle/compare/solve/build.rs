@@ -1,4 +1,4 @@
-//! Links the proved solver, whose entries `rt staticlib solve_entries` and `rt staticlib solve_records` write, unless the
+//! Links the proved solver, whose entries `tools/build.sh solve_entries` and `tools/build.sh solve_records` write, unless the
 //! stand-in is asked.
 
 use std::env;
@@ -17,7 +17,7 @@ fn main() {
         println!("cargo:rerun-if-changed={}", library.display());
         if !library.exists() {
             eprintln!("target/staticlib/lib{name}.a is not there.");
-            eprintln!("Run `rt staticlib {name}` at the root of the repository first, or give `--features stand-in`.");
+            eprintln!("Run `tools/build.sh {name}` at the root of the repository first, or give `--features stand-in`.");
             exit(1);
         }
         println!("cargo:rustc-link-lib=static={name}");

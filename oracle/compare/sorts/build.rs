@@ -1,4 +1,4 @@
-//! Links the proved sorts layer, which `rt staticlib sort_entries` writes.
+//! Links the proved sorts layer, which `tools/build.sh sort_entries` writes.
 
 use std::path::Path;
 use std::process::exit;
@@ -9,7 +9,7 @@ fn main() {
     println!("cargo:rerun-if-changed={}", library.display());
     if !library.exists() {
         eprintln!("target/staticlib/libsort_entries.a is not there.");
-        eprintln!("Run `rt staticlib sort_entries` at the root of the repository first (about 3 minutes).");
+        eprintln!("Run `tools/build.sh sort_entries` at the root of the repository first (about 3 minutes).");
         exit(1);
     }
     println!("cargo:rustc-link-search=native={}", folder.display());

@@ -1,4 +1,4 @@
-//! Links the proved unifier, which `rt staticlib unify_entries` writes, unless the stand-in is asked.
+//! Links the proved unifier, which `tools/build.sh unify_entries` writes, unless the stand-in is asked.
 
 use std::env;
 use std::path::Path;
@@ -15,7 +15,7 @@ fn main() {
     if !library.exists() {
         eprintln!("target/staticlib/libunify_entries.a is not there.");
         eprintln!(
-            "Run `rt staticlib unify_entries` at the root of the repository first, or give `--features stand-in`."
+            "Run `tools/build.sh unify_entries` at the root of the repository first, or give `--features stand-in`."
         );
         exit(1);
     }
