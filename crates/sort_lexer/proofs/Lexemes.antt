@@ -8,7 +8,7 @@ use native.Mathlib.Omega.{arith}
 use lib.ListN.{length, take, drop, length-drop}
 use lib.Seq.{drop-drop, drop_at, take_at}
 use lib.Dec.{eqb}
-use Rattle.sort_text.specs.Tokens.{is_letter, NextToken, end, word, open-bracket, close-bracket, hash, arrow, bad, run, past, skip, start, dash, next_at, next}
+use Rattle.sort_text.specs.Tokens.{is_letter, NextToken, end, word, open_bracket, close_bracket, hash, arrow, bad, run, past, skip, start, dash, next_at, next}
 use Rattle.sort_lexer.specs.declared.Token.{Token}
 use Rattle.sort_lexer.specs.declared.Token.TheVariants.{End, Word, Open, Close, Hash, Arrow, Bad}
 use Rattle.sort_lexer.specs.declared.Lexeme.{Lexeme}
@@ -65,13 +65,13 @@ module _ (p : ℕ → Bool) (l : List ℕ) (b : ℕ) (bs : List ℕ) (e : Ends l
         within = omega arith;
       }
 
-  right_open : Right l (b ∷ bs) (open-bracket bs)
+  right_open : Right l (b ∷ bs) (open_bracket bs)
   unfolding lexeme said_by
-  right_open = record { says = ap open-bracket (sym ends_after_byte); starts = refl; goes = omega (arith, no_longer l (b ∷ bs) e); within = omega arith }
+  right_open = record { says = ap open_bracket (sym ends_after_byte); starts = refl; goes = omega (arith, no_longer l (b ∷ bs) e); within = omega arith }
 
-  right_close : Right l (b ∷ bs) (close-bracket bs)
+  right_close : Right l (b ∷ bs) (close_bracket bs)
   unfolding lexeme said_by
-  right_close = record { says = ap close-bracket (sym ends_after_byte); starts = refl; goes = omega (arith, no_longer l (b ∷ bs) e); within = omega arith }
+  right_close = record { says = ap close_bracket (sym ends_after_byte); starts = refl; goes = omega (arith, no_longer l (b ∷ bs) e); within = omega arith }
 
   right_hash : Right l (b ∷ bs) (hash bs)
   unfolding lexeme said_by
@@ -150,11 +150,11 @@ module _ (l : List ℕ) (at : ℕ) (r : Lexeme) (e : r ≡ lexeme_of l at) where
   unfolding said_by
   next_is_word = next_is Word
 
-  pub next_is_open : r.token ≡ Open → next is_letter (drop at l) ≡ open-bracket (drop r.next l)
+  pub next_is_open : r.token ≡ Open → next is_letter (drop at l) ≡ open_bracket (drop r.next l)
   unfolding said_by
   next_is_open = next_is Open
 
-  pub next_is_close : r.token ≡ Close → next is_letter (drop at l) ≡ close-bracket (drop r.next l)
+  pub next_is_close : r.token ≡ Close → next is_letter (drop at l) ≡ close_bracket (drop r.next l)
   unfolding said_by
   next_is_close = next_is Close
 

@@ -8,7 +8,7 @@ use native.Mathlib.Numerals.{add-one}
 use lib.ListN.{length, get_or, drop, length-drop, drop_of_length-le}
 use lib.Seq.{drop-cons}
 use borrow.Author.Tests.{eq-eqb, ne_eqb}
-use Rattle.sort_text.specs.Tokens.{is_letter, NextToken, word, open-bracket, close-bracket, hash, arrow, bad, run, past, skip, start, dash, next_at, next}
+use Rattle.sort_text.specs.Tokens.{is_letter, NextToken, word, open_bracket, close_bracket, hash, arrow, bad, run, past, skip, start, dash, next_at, next}
 use Rattle.sort_lexer.specs.declared.Token.{Token}
 use Rattle.sort_lexer.specs.declared.Token.TheVariants.{End, Word, Open, Close, Hash, Arrow, Bad}
 use Rattle.sort_lexer.specs.declared.Lexeme.{Lexeme}
@@ -22,11 +22,11 @@ module _ (p : ℕ → Bool) (b : ℕ) (bs : List ℕ) where
   start_word e = rw e
 
   module _ (no : p b ≡ false) where
-    start_open : b ≡ 40 → start p b bs ≡ open-bracket bs
+    start_open : b ≡ 40 → start p b bs ≡ open_bracket bs
     unfolding start
     start_open e = rw (no, eq-eqb b 40 e)
 
-    start_close : b ≡ 41 → start p b bs ≡ close-bracket bs
+    start_close : b ≡ 41 → start p b bs ≡ close_bracket bs
     unfolding start
     start_close e = rw (no, ne_eqb b 40 (λ f. omega arith), eq-eqb b 41 e)
 
@@ -86,24 +86,24 @@ module _ (l : List ℕ) (at from : ℕ) (skipped : from ≡ offset l (skip (drop
         unfolding lexeme
         a_hash b = sym (token_from _ (start_hash is_letter _ _ (sym e ∙ no) b) ∙ at_positions Hash (from + 1) (omega arith))
 
-        bad-token : start is_letter (get_or l from 0) (drop (from + 1) l) ≡ bad → found Bad from from ≡ lexeme_of l at
+        bad_token : start is_letter (get_or l from 0) (drop (from + 1) l) ≡ bad → found Bad from from ≡ lexeme_of l at
         unfolding lexeme
-        bad-token b = sym (token_from bad b ∙ at_positions Bad from (omega arith))
+        bad_token b = sym (token_from bad b ∙ at_positions Bad from (omega arith))
 
         pub no_token : (get_or l from 0 ≡ 40 → ⊥) → (get_or l from 0 ≡ 41 → ⊥) → (get_or l from 0 ≡ 35 → ⊥)
             → (get_or l from 0 ≡ 45 → ⊥) → found Bad from from ≡ lexeme_of l at
-        no_token a b c d = bad-token (start_bad is_letter _ _ (sym e ∙ no) a b c d)
+        no_token a b c d = bad_token (start_bad is_letter _ _ (sym e ∙ no) a b c d)
 
         module _ (b : get_or l from 0 ≡ 45) where
           pub a_dash_at_the_end : length l ≤ from + 1 → found Bad from from ≡ lexeme_of l at
-          a_dash_at_the_end k = bad-token (start_dash is_letter _ _ (sym e ∙ no) b ∙ ap dash (drop_of_length-le l k))
+          a_dash_at_the_end k = bad_token (start_dash is_letter _ _ (sym e ∙ no) b ∙ ap dash (drop_of_length-le l k))
 
           module _ (k : from + 1 < length l) where
             after_dash : drop (from + 1) l ≡ get_or l (from + 1) 0 ∷ drop (from + 2) l
             after_dash = let two : suc (from + 1) ≡ from + 2 = omega arith in drop-cons l (from + 1) 0 k ∙ ap (λ (i : ℕ). get_or l (from + 1) 0 ∷ drop i l) two
 
             pub a_dash_alone : (get_or l (from + 1) 0 ≡ 62 → ⊥) → found Bad from from ≡ lexeme_of l at
-            a_dash_alone f = bad-token (start_dash is_letter _ _ (sym e ∙ no) b ∙ ap dash after_dash ∙ rw (ne_eqb (get_or l (from + 1) 0) 62 f))
+            a_dash_alone f = bad_token (start_dash is_letter _ _ (sym e ∙ no) b ∙ ap dash after_dash ∙ rw (ne_eqb (get_or l (from + 1) 0) 62 f))
 
             pub an_arrow : get_or l (from + 1) 0 ≡ 62 → found Arrow from (from + 2) ≡ lexeme_of l at
             unfolding lexeme

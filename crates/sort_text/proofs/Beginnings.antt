@@ -9,24 +9,24 @@ use native.Mathlib.Omega.{arith}
 use lib.Dec.{eqb}
 use borrow.Author.Tests.{eqb-true}
 use Rattle.resolved_sort.specs.Tree.{Tree}
-use Rattle.sort_text.specs.Tokens.{is_letter, NextToken, end, word, open-bracket, close-bracket, hash, arrow, bad}
+use Rattle.sort_text.specs.Tokens.{is_letter, NextToken, end, word, open_bracket, close_bracket, hash, arrow, bad}
 use Rattle.sort_text.specs.Tokens.{run, past, skip, dash, start, next_at, next}
 use Rattle.sort_text.specs.Parse.{Parsed, parsed, stuck, line}
 use Rattle.sort_text.specs.Grammar.{LineOf}
-use Rattle.sort_text.specs.CannotFollow.{bare, beyond, after_tokens, SameTokens, CanBegin, BeginsASort}
+use Rattle.sort_text.specs.CannotFollow.{bare, beyond, after_tokens, SameTokens, BeginsASort}
 use Rattle.sort_text.proofs.Suffix.{run_past}
 use Rattle.sort_text.proofs.Grammar.{line_derived}
 use Rattle.sort_text.proofs.Exactly.{line_exactly}
 use Rattle.sort_text.proofs.RoundTrip.{no_letter, next_word}
-use Rattle.sort_text.proofs.CannotFollow.{rebuilt, IsToken, AllTokens, both, both_is, same_refl, same_fewer, same_append, run_is_letters, spaced}
+use Rattle.sort_text.proofs.CannotFollow.{rebuilt, IsToken, AllTokens, both_is, same_refl, same_fewer, same_append, run_is_letters, spaced}
 use Rattle.sort_text.proofs.CannotFollow.{next_open, next_close, next_hash, next_arrow, stop, stops_at_the_first_token_that_cannot_follow}
 
 -- what may follow a token
 abbrev Apart : NextToken → List ℕ → Type 0
 Apart end ds = Unit {0}
 Apart (word w bs) ds = no_letter ds ≡ true
-Apart (open-bracket bs) ds = Unit {0}
-Apart (close-bracket bs) ds = Unit {0}
+Apart (open_bracket bs) ds = Unit {0}
+Apart (close_bracket bs) ds = Unit {0}
 Apart (hash bs) ds = Unit {0}
 Apart (arrow bs) ds = Unit {0}
 Apart bad ds = Unit {0}
@@ -38,8 +38,8 @@ no_letter_front (b ∷ f) rs ds h n = h
 apart_front : (n : NextToken) (f rs ds : List ℕ) → Apart n (f ++ rs) → no_letter ds ≡ true → Apart n (f ++ ds)
 apart_front end f rs ds h n = tt
 apart_front (word w bs) f rs ds h n = no_letter_front f rs ds h n
-apart_front (open-bracket bs) f rs ds h n = tt
-apart_front (close-bracket bs) f rs ds h n = tt
+apart_front (open_bracket bs) f rs ds h n = tt
+apart_front (close_bracket bs) f rs ds h n = tt
 apart_front (hash bs) f rs ds h n = tt
 apart_front (arrow bs) f rs ds h n = tt
 apart_front bad f rs ds h n = tt
@@ -78,10 +78,10 @@ unfolding start
 start_spelt b bs s t = go (is_letter b) refl (eqb b 40) refl (eqb b 41) refl (eqb b 35) refl (eqb b 45) refl t
   where
     go : (l : Bool) → is_letter b ≡ l → (o : Bool) → eqb b 40 ≡ o → (c : Bool) → eqb b 41 ≡ c → (h : Bool) → eqb b 35 ≡ h → (d : Bool) → eqb b 45 ≡ d
-        → IsToken (cond l (word (b ∷ run is_letter bs) (past is_letter bs)) (cond o (open-bracket bs)
-        (cond c (close-bracket bs) (cond h (hash bs) (cond d (dash bs) bad)))))
-        → Spelt (b ∷ bs) (cond l (word (b ∷ run is_letter bs) (past is_letter bs)) (cond o (open-bracket bs)
-        (cond c (close-bracket bs) (cond h (hash bs) (cond d (dash bs) bad)))))
+        → IsToken (cond l (word (b ∷ run is_letter bs) (past is_letter bs)) (cond o (open_bracket bs)
+        (cond c (close_bracket bs) (cond h (hash bs) (cond d (dash bs) bad)))))
+        → Spelt (b ∷ bs) (cond l (word (b ∷ run is_letter bs) (past is_letter bs)) (cond o (open_bracket bs)
+        (cond c (close_bracket bs) (cond h (hash bs) (cond d (dash bs) bad)))))
     go true l o ol c cl h hl d dl u = record {
       front = b ∷ run is_letter bs;
       whole = ap (λ x. b ∷ x) (run_past is_letter bs);
@@ -118,8 +118,8 @@ next_spelt (b ∷ bs) t = go (next_spelt bs) (eqb 32 b) refl t
 bare_rebuilt : (n : NextToken) (ds : List ℕ) → bare (rebuilt (bare n) ds) ≡ bare n
 bare_rebuilt end ds = refl
 bare_rebuilt (word w bs) ds = refl
-bare_rebuilt (open-bracket bs) ds = refl
-bare_rebuilt (close-bracket bs) ds = refl
+bare_rebuilt (open_bracket bs) ds = refl
+bare_rebuilt (close_bracket bs) ds = refl
 bare_rebuilt (hash bs) ds = refl
 bare_rebuilt (arrow bs) ds = refl
 bare_rebuilt bad ds = refl
@@ -127,8 +127,8 @@ bare_rebuilt bad ds = refl
 beyond_rebuilt : (n : NextToken) → IsToken n → (ds : List ℕ) → beyond (rebuilt (bare n) ds) ≡ ds
 beyond_rebuilt end t ds = absurd t
 beyond_rebuilt (word w bs) t ds = refl
-beyond_rebuilt (open-bracket bs) t ds = refl
-beyond_rebuilt (close-bracket bs) t ds = refl
+beyond_rebuilt (open_bracket bs) t ds = refl
+beyond_rebuilt (close_bracket bs) t ds = refl
 beyond_rebuilt (hash bs) t ds = refl
 beyond_rebuilt (arrow bs) t ds = refl
 beyond_rebuilt bad t ds = absurd t

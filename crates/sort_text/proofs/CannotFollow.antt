@@ -3,7 +3,7 @@
 -- run along are put one after another, or after a token; `sort` goes by induction on the bytes of the line. Assumes nothing.
 use mathlib.Core.Path.{◌≡◌, refl, sym, ◌∙◌, ap, subst}
 use mathlib.Core.Logic.{◌↔◌}
-use mathlib.Core.Bool.{Bool, true, false, cond, not, ◌&&◌}
+use mathlib.Core.Bool.{Bool, true, false, cond}
 use mathlib.Core.List.{List, [], ◌∷◌, ◌++◌}
 use mathlib.Core.Option.{Option, none, some}
 use Prim.Native.Nat.{ℕ, zero, suc, ◌+◌, ◌-◌, ◌≤◌, ◌<◌}
@@ -21,13 +21,13 @@ use Rattle.resolved_sort.specs.Checks.{first_failing}
 use Rattle.resolved_sort.specs.Entries.{refused_or, Stored, stored}
 use Rattle.sort_text.specs.declared.Read.TheVariants.{Refused, NotASort}
 use Rattle.sort_text.specs.Reading.{store, read_checks, read_left, stored_by, read_as_of, reading}
-use Rattle.sort_text.specs.Tokens.{is_letter, NextToken, end, word, open-bracket, close-bracket, hash, arrow, bad}
+use Rattle.sort_text.specs.Tokens.{is_letter, NextToken, end, word, open_bracket, close_bracket, hash, arrow, bad}
 use Rattle.sort_text.specs.Tokens.{run, past, skip, dash, start, next_at, next}
 use Rattle.sort_text.specs.Parse.{Parsed, parsed, stuck, ◌then-read◌, WordMeaning, basic, operator, unknown, meaning}
 use Rattle.sort_text.specs.Parse.{sort_word, closing, in_brackets, bracketed, operand_of, operand_at, operand, snoc, alone}
 use Rattle.sort_text.specs.Parse.{rest_at, rest, sort, ending, line}
 use Rattle.sort_text.specs.Grammar.{Operand, basic_sort, container_of, SortOf, one_operand, function_of, Operands, first, another, LineOf}
-use Rattle.sort_text.specs.CannotFollow.{BareToken, bare_word, bare-open, bare-close, bare-hash, bare-arrow, no_token, no_more}
+use Rattle.sort_text.specs.CannotFollow.{BareToken, bare_word, bare_open, bare_close, bare_hash, bare_arrow, no_token, no_more}
 use Rattle.sort_text.specs.CannotFollow.{bare, beyond, after_tokens, SameTokens, CanBegin, FirstThatCannotFollow}
 use Rattle.sort_text.proofs.Suffix.{sort_suffix, unread_end}
 use Rattle.sort_text.proofs.Progress.{word_takes, open_bracket_takes, hash_takes, arrow_takes, operand_takes}
@@ -40,18 +40,18 @@ use Rattle.sort_text.proofs.RoundTrip.{no_letter, letters, next_word, next_sort_
 -- tokens by themselves
 abbrev pub rebuilt : BareToken → List ℕ → NextToken
 rebuilt (bare_word w) bs = word w bs
-rebuilt bare-open bs = open-bracket bs
-rebuilt bare-close bs = close-bracket bs
-rebuilt bare-hash bs = hash bs
-rebuilt bare-arrow bs = arrow bs
+rebuilt bare_open bs = open_bracket bs
+rebuilt bare_close bs = close_bracket bs
+rebuilt bare_hash bs = hash bs
+rebuilt bare_arrow bs = arrow bs
 rebuilt no_token bs = bad
 rebuilt no_more bs = end
 
 rebuilt_is : (n : NextToken) → n ≡ rebuilt (bare n) (beyond n)
 rebuilt_is end = refl
 rebuilt_is (word w bs) = refl
-rebuilt_is (open-bracket bs) = refl
-rebuilt_is (close-bracket bs) = refl
+rebuilt_is (open_bracket bs) = refl
+rebuilt_is (close_bracket bs) = refl
 rebuilt_is (hash bs) = refl
 rebuilt_is (arrow bs) = refl
 rebuilt_is bad = refl
@@ -75,8 +75,8 @@ same_next bs cs a = a.0
 abbrev pub IsToken : NextToken → Type 0
 IsToken end = ⊥
 IsToken (word w bs) = Unit {0}
-IsToken (open-bracket bs) = Unit {0}
-IsToken (close-bracket bs) = Unit {0}
+IsToken (open_bracket bs) = Unit {0}
+IsToken (close_bracket bs) = Unit {0}
 IsToken (hash bs) = Unit {0}
 IsToken (arrow bs) = Unit {0}
 IsToken bad = ⊥
@@ -364,8 +364,8 @@ record WordBytes (w : List ℕ) : Type 0 where
 abbrev IfWord : NextToken → Type 0
 IfWord end = Unit {0}
 IfWord (word w bs) = WordBytes w
-IfWord (open-bracket bs) = Unit {0}
-IfWord (close-bracket bs) = Unit {0}
+IfWord (open_bracket bs) = Unit {0}
+IfWord (close_bracket bs) = Unit {0}
 IfWord (hash bs) = Unit {0}
 IfWord (arrow bs) = Unit {0}
 IfWord bad = Unit {0}
@@ -392,8 +392,8 @@ unfolding start
 start_word b bs = go (is_letter b) refl (eqb b 40) (eqb b 41) (eqb b 35) (eqb b 45)
   where
     go : (l : Bool) → is_letter b ≡ l → (o c h d : Bool)
-        → IfWord (cond l (word (b ∷ run is_letter bs) (past is_letter bs)) (cond o (open-bracket bs)
-        (cond c (close-bracket bs) (cond h (hash bs) (cond d (dash bs) bad)))))
+        → IfWord (cond l (word (b ∷ run is_letter bs) (past is_letter bs)) (cond o (open_bracket bs)
+        (cond c (close_bracket bs) (cond h (hash bs) (cond d (dash bs) bad)))))
     go true e o c h d = record { head = b; tail = run is_letter bs; is = refl; letter = e; all = run_is_letters bs }
     go false e true c h d = tt
     go false e false true h d = tt
@@ -427,11 +427,11 @@ word_again bs w cs ds e n =
     ∙ (next_word x.head x.tail ds (letter_no_space x.head x.letter) x.letter x.all n ∙ ap (λ v. word v ds) (sym x.is)))
 
 -- the other tokens
-pub next_open : (bs : List ℕ) → next is_letter (40 ∷ bs) ≡ open-bracket bs
+pub next_open : (bs : List ℕ) → next is_letter (40 ∷ bs) ≡ open_bracket bs
 unfolding next skip past start
 next_open bs = refl
 
-pub next_close : (bs : List ℕ) → next is_letter (41 ∷ bs) ≡ close-bracket bs
+pub next_close : (bs : List ℕ) → next is_letter (41 ∷ bs) ≡ close_bracket bs
 unfolding next skip past start
 next_close bs = refl
 
@@ -450,7 +450,7 @@ module _ (P R : Relation) (bs cs ds fs : List ℕ) (u : Tree) (n : no_letter ds 
       let x = word_again bs w cs ds e n in
       record { bytes = 32 ∷ (w ++ ds); derived = d; apart = refl; same = ap bare e ∙ sym (ap bare x); goes_on = ap beyond x }
 
-  front_open : next is_letter bs ≡ open-bracket cs → R (40 ∷ ds) u fs → Fronted R bs ds u fs
+  front_open : next is_letter bs ≡ open_bracket cs → R (40 ∷ ds) u fs → Fronted R bs ds u fs
   front_open e d = record { bytes = 40 ∷ ds; derived = d; apart = refl; same = ap bare e ∙ sym (ap bare (next_open ds)); goes_on = ap beyond (next_open ds) }
 
   front_hash : next is_letter bs ≡ hash cs → R (35 ∷ ds) u fs → Fronted R bs ds u fs
@@ -469,7 +469,7 @@ operand_ahead ds n = record { bytes = 32 ∷ (sort_word Sort.Nat ++ ds); tree = 
 
 -- `)`
 data Closes : Tree → List ℕ → Tree → List ℕ → Type 0 where
-  closes : {t : Tree} {bs cs : List ℕ} → next is_letter bs ≡ close-bracket cs → Closes t bs t cs
+  closes : {t : Tree} {bs cs : List ℕ} → next is_letter bs ≡ close_bracket cs → Closes t bs t cs
 
 abbrev closed : Tree → List ℕ → Parsed
 closed t bs = closing t (skip bs) (next is_letter bs)
@@ -480,7 +480,7 @@ close_onward ds n = record { bytes = 41 ∷ ds; tree = λ t. t; derived = λ t. 
 close_ahead : (t : Tree) (ds : List ℕ) → no_letter ds ≡ true → Ahead (Closes t) ds
 close_ahead t ds n = record { bytes = 41 ∷ ds; tree = t; derived = closes (next_close ds); apart = refl }
 
-close_front : (bs cs : List ℕ) {t u : Tree} {ds fs : List ℕ} → next is_letter bs ≡ close-bracket cs → Pure t ds u fs → Fronted (Closes t) bs ds u fs
+close_front : (bs cs : List ℕ) {t u : Tree} {ds fs : List ℕ} → next is_letter bs ≡ close_bracket cs → Pure t ds u fs → Fronted (Closes t) bs ds u fs
 close_front bs cs e (pure {bs = ds}) = record {
   bytes = 41 ∷ ds;
   derived = closes (next_close ds);
@@ -497,12 +497,12 @@ not_closing t bs n e s =
 
 closing_runs : (t : Tree) (bs : List ℕ) (n : NextToken) → next is_letter bs ≡ n → Runs (Closes t) (closed t) bs (closing t (skip bs) n)
 unfolding closing
-closing_runs t bs (close-bracket cs) e =
+closing_runs t bs (close_bracket cs) e =
     token_runs (Pure t) (Closes t) (parsed t) (closed t) bs cs (ap beyond e) (subst IsToken (sym e) tt) (λ ds fs u n p. close_front bs cs e p)
-    (λ es a. ap (closing t (skip es)) (again bs es (close-bracket cs) e a)) (parsed t cs) (pure_runs t cs)
+    (λ es a. ap (closing t (skip es)) (again bs es (close_bracket cs) e a)) (parsed t cs) (pure_runs t cs)
 closing_runs t bs end e = not_closing t bs end e (λ at ds. tt)
 closing_runs t bs (word w cs) e = not_closing t bs (word w cs) e (λ at ds. tt)
-closing_runs t bs (open-bracket cs) e = not_closing t bs (open-bracket cs) e (λ at ds. tt)
+closing_runs t bs (open_bracket cs) e = not_closing t bs (open_bracket cs) e (λ at ds. tt)
 closing_runs t bs (hash cs) e = not_closing t bs (hash cs) e (λ at ds. tt)
 closing_runs t bs (arrow cs) e = not_closing t bs (arrow cs) e (λ at ds. tt)
 closing_runs t bs bad e = not_closing t bs bad e (λ at ds. tt)
@@ -522,7 +522,7 @@ data Over : ComplexSort → List ℕ → Tree → List ℕ → Type 0 where
   over : {o : ComplexSort} {t : Tree} {bs cs : List ℕ} → Closed bs t cs → Over o bs (container o t) cs
 
 data Opens : ComplexSort → List ℕ → Tree → List ℕ → Type 0 where
-  opens : {o : ComplexSort} {u : Tree} {bs ds fs : List ℕ} → next is_letter bs ≡ open-bracket ds → Over o ds u fs → Opens o bs u fs
+  opens : {o : ComplexSort} {u : Tree} {bs ds fs : List ℕ} → next is_letter bs ≡ open_bracket ds → Over o ds u fs → Opens o bs u fs
 
 abbrev contained : ComplexSort → List ℕ → Parsed
 contained o bs = in_brackets sort bs then-read (λ t cs. parsed (container o t) cs)
@@ -560,14 +560,14 @@ Below n = (bs : List ℕ) → length bs < n → Runs SortOf sort bs (sort bs)
 bracketed_runs : (m : ℕ) → Below m → (o : ComplexSort) (bs : List ℕ) → length bs ≤ m → (n : NextToken) → next is_letter bs ≡ n
     → Runs (Opens o) (opened o) bs (bracketed sort o (skip bs) n)
 unfolding bracketed
-bracketed_runs m below o bs l (open-bracket cs) e =
+bracketed_runs m below o bs l (open_bracket cs) e =
     token_runs (Over o) (Opens o) (contained o) (opened o) bs cs (ap beyond e) (subst IsToken (sym e) tt)
     (λ ds fs u n p. front_open (Over o) (Opens o) bs cs ds fs u n e (opens (next_open ds) p))
-    (λ es a. ap (bracketed sort o (skip es)) (again bs es (open-bracket cs) e a)) (contained o cs)
+    (λ es a. ap (bracketed sort o (skip es)) (again bs es (open_bracket cs) e a)) (contained o cs)
     (over_runs o cs (below cs (omega (arith, l, open_bracket_takes is_letter bs cs e))))
 bracketed_runs m below o bs l end e = not_opening o bs end e (λ at ds. tt)
 bracketed_runs m below o bs l (word w cs) e = not_opening o bs (word w cs) e (λ at ds. tt)
-bracketed_runs m below o bs l (close-bracket cs) e = not_opening o bs (close-bracket cs) e (λ at ds. tt)
+bracketed_runs m below o bs l (close_bracket cs) e = not_opening o bs (close_bracket cs) e (λ at ds. tt)
 bracketed_runs m below o bs l (hash cs) e = not_opening o bs (hash cs) e (λ at ds. tt)
 bracketed_runs m below o bs l (arrow cs) e = not_opening o bs (arrow cs) e (λ at ds. tt)
 bracketed_runs m below o bs l bad e = not_opening o bs bad e (λ at ds. tt)
@@ -617,8 +617,8 @@ operand_at_runs : (m : ℕ) → Below m → (bs : List ℕ) → length bs ≤ m 
 unfolding operand_at
 operand_at_runs m below bs l (word w cs) e = operand_of_runs m below bs l w cs e (meaning w) refl
 operand_at_runs m below bs l end e = no_operand bs end e (λ at ds. tt)
-operand_at_runs m below bs l (open-bracket cs) e = no_operand bs (open-bracket cs) e (λ at ds. tt)
-operand_at_runs m below bs l (close-bracket cs) e = no_operand bs (close-bracket cs) e (λ at ds. tt)
+operand_at_runs m below bs l (open_bracket cs) e = no_operand bs (open_bracket cs) e (λ at ds. tt)
+operand_at_runs m below bs l (close_bracket cs) e = no_operand bs (close_bracket cs) e (λ at ds. tt)
 operand_at_runs m below bs l (hash cs) e = no_operand bs (hash cs) e (λ at ds. tt)
 operand_at_runs m below bs l (arrow cs) e = no_operand bs (arrow cs) e (λ at ds. tt)
 operand_at_runs m below bs l bad e = no_operand bs bad e (λ at ds. tt)
@@ -672,8 +672,8 @@ rest_at_alone : (ts : Trees) (at bs : List ℕ) (m : List ℕ → Parsed) (n : N
 unfolding rest_at
 rest_at_alone ts at bs m end h = refl
 rest_at_alone ts at bs m (word w cs) h = refl
-rest_at_alone ts at bs m (open-bracket cs) h = refl
-rest_at_alone ts at bs m (close-bracket cs) h = refl
+rest_at_alone ts at bs m (open_bracket cs) h = refl
+rest_at_alone ts at bs m (close_bracket cs) h = refl
 rest_at_alone ts at bs m (hash cs) h = absurd h
 rest_at_alone ts at bs m (arrow cs) h = absurd h
 rest_at_alone ts at bs m bad h = refl
@@ -690,8 +690,8 @@ rest_full ts bs cs e = ap (rest_at sort ts (skip bs) bs _) e
 stops_again : (n : NextToken) (bs : List ℕ) → Stops n → Stops (rebuilt (bare n) bs)
 stops_again end bs h = tt
 stops_again (word w cs) bs h = tt
-stops_again (open-bracket cs) bs h = tt
-stops_again (close-bracket cs) bs h = tt
+stops_again (open_bracket cs) bs h = tt
+stops_again (close_bracket cs) bs h = tt
 stops_again (hash cs) bs h = h
 stops_again (arrow cs) bs h = h
 stops_again bad bs h = tt
@@ -737,8 +737,8 @@ by_token m below k ts bs a l h (hash cs) e = h cs e
 by_token m below k ts bs a l h (arrow cs) e = arrow_runs m below k ts bs cs a l e
 by_token m below k ts bs a l h end e = stopping_runs k ts bs a (subst Stops (sym e) tt)
 by_token m below k ts bs a l h (word w cs) e = stopping_runs k ts bs a (subst Stops (sym e) tt)
-by_token m below k ts bs a l h (open-bracket cs) e = stopping_runs k ts bs a (subst Stops (sym e) tt)
-by_token m below k ts bs a l h (close-bracket cs) e = stopping_runs k ts bs a (subst Stops (sym e) tt)
+by_token m below k ts bs a l h (open_bracket cs) e = stopping_runs k ts bs a (subst Stops (sym e) tt)
+by_token m below k ts bs a l h (close_bracket cs) e = stopping_runs k ts bs a (subst Stops (sym e) tt)
 by_token m below k ts bs a l h bad e = stopping_runs k ts bs a (subst Stops (sym e) tt)
 
 rest_runs : (m : ℕ) → Below m → (k : ℕ) (ts : Trees) → arity ts + k ≡ 16 → (bs : List ℕ) → length bs ≤ m → Runs (After ts) (rest sort k ts) bs (rest sort k ts bs)
@@ -843,8 +843,8 @@ ending_stops : (bs cs : List ℕ) (t : Tree) → Through SortOf sort bs t cs →
 unfolding ending
 ending_stops bs cs t r end e = tt
 ending_stops bs cs t r (word w ds) e = not_ending bs cs t r (word w ds) e (λ at xs. tt)
-ending_stops bs cs t r (open-bracket ds) e = not_ending bs cs t r (open-bracket ds) e (λ at xs. tt)
-ending_stops bs cs t r (close-bracket ds) e = not_ending bs cs t r (close-bracket ds) e (λ at xs. tt)
+ending_stops bs cs t r (open_bracket ds) e = not_ending bs cs t r (open_bracket ds) e (λ at xs. tt)
+ending_stops bs cs t r (close_bracket ds) e = not_ending bs cs t r (close_bracket ds) e (λ at xs. tt)
 ending_stops bs cs t r (hash ds) e = not_ending bs cs t r (hash ds) e (λ at xs. tt)
 ending_stops bs cs t r (arrow ds) e = not_ending bs cs t r (arrow ds) e (λ at xs. tt)
 ending_stops bs cs t r bad e = not_ending bs cs t r bad e (λ at xs. tt)

@@ -7,7 +7,7 @@ use native.Mathlib.Omega.{arith}
 use lib.ListN.{length}
 use Rattle.resolved_sort.specs.declared.ComplexSort.{ComplexSort}
 use Rattle.resolved_sort.specs.Tree.{Tree, container, function, Trees, no_args, arg}
-use Rattle.sort_text.specs.Tokens.{is_letter, NextToken, end, word, open-bracket, close-bracket, hash, arrow, bad, skip, next}
+use Rattle.sort_text.specs.Tokens.{is_letter, NextToken, end, word, open_bracket, close_bracket, hash, arrow, bad, skip, next}
 use Rattle.sort_text.specs.Parse.{Parsed, parsed, stuck, ◌then-read◌, WordMeaning, basic, operator, unknown}
 use Rattle.sort_text.specs.Parse.{meaning, closing, in_brackets, bracketed, operand_of, operand_at, operand, snoc, rest_at}
 use Rattle.sort_text.specs.Parse.{rest, sort_to, sort, left, Leaves}
@@ -31,11 +31,11 @@ module _ (f g : List ℕ → Parsed) (n : ℕ) (a : Agree n f g) where
 
   bracketed_same : (o : ComplexSort) (at bs : List ℕ) (m : NextToken) → next is_letter bs ≡ m → length bs ≤ n → bracketed f o at m ≡ bracketed g o at m
   unfolding bracketed
-  bracketed_same o at bs (open-bracket cs) e h =
+  bracketed_same o at bs (open_bracket cs) e h =
       ap (λ p. p then-read (λ t ds. parsed (container o t) ds)) (in_brackets_same cs (omega (arith, open_bracket_takes is_letter bs cs e)))
   bracketed_same o at bs end e h = refl
   bracketed_same o at bs (word w cs) e h = refl
-  bracketed_same o at bs (close-bracket cs) e h = refl
+  bracketed_same o at bs (close_bracket cs) e h = refl
   bracketed_same o at bs (hash cs) e h = refl
   bracketed_same o at bs (arrow cs) e h = refl
   bracketed_same o at bs bad e h = refl
@@ -50,8 +50,8 @@ module _ (f g : List ℕ → Parsed) (n : ℕ) (a : Agree n f g) where
   unfolding operand_at
   operand_at_same at bs (word w cs) e h = operand_of_same at cs (meaning w) (omega (arith, (word_takes is_letter bs w cs e).0))
   operand_at_same at bs end e h = refl
-  operand_at_same at bs (open-bracket cs) e h = refl
-  operand_at_same at bs (close-bracket cs) e h = refl
+  operand_at_same at bs (open_bracket cs) e h = refl
+  operand_at_same at bs (close_bracket cs) e h = refl
   operand_at_same at bs (hash cs) e h = refl
   operand_at_same at bs (arrow cs) e h = refl
   operand_at_same at bs bad e h = refl
@@ -68,8 +68,8 @@ module _ (f g : List ℕ → Parsed) (n : ℕ) (a : Agree n f g) where
   rest_at_same ts at bs k l (arrow cs) e h i = ap (λ p. p then-read (λ r ds. parsed (function ts r) ds)) (a cs (omega (arith, arrow_takes is_letter bs cs e)))
   rest_at_same ts at bs k l end e h i = refl
   rest_at_same ts at bs k l (word w cs) e h i = refl
-  rest_at_same ts at bs k l (open-bracket cs) e h i = refl
-  rest_at_same ts at bs k l (close-bracket cs) e h i = refl
+  rest_at_same ts at bs k l (open_bracket cs) e h i = refl
+  rest_at_same ts at bs k l (close_bracket cs) e h i = refl
   rest_at_same ts at bs k l bad e h i = refl
 
   module _ (c : Leaves f) where

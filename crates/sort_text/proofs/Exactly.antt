@@ -6,7 +6,7 @@ use mathlib.Core.List.{List, []}
 use Prim.Native.Nat.{ℕ, zero, suc, ◌+◌, ◌-◌, ◌≤◌}
 use native.Mathlib.Omega.{arith}
 use Rattle.resolved_sort.specs.Tree.{Tree, container, function, Trees, no_args, arg, arity}
-use Rattle.sort_text.specs.Tokens.{is_letter, NextToken, end, word, open-bracket, close-bracket, hash, arrow, bad, skip, next}
+use Rattle.sort_text.specs.Tokens.{is_letter, NextToken, end, word, open_bracket, close_bracket, hash, arrow, bad, skip, next}
 use Rattle.sort_text.specs.Parse.{Parsed, parsed, ◌then-read◌, closing, in_brackets, bracketed, operand_of, operand_at}
 use Rattle.sort_text.specs.Parse.{operand, snoc, alone, rest_at, rest, sort, ending, line}
 use Rattle.sort_text.proofs.Depth.{sort_is}
@@ -17,8 +17,8 @@ use Rattle.sort_text.proofs.Grammar.{arity_snoc, line_derived}
 abbrev pub Stops : NextToken → Type 0
 Stops end = Unit {0}
 Stops (word w bs) = Unit {0}
-Stops (open-bracket bs) = Unit {0}
-Stops (close-bracket bs) = Unit {0}
+Stops (open_bracket bs) = Unit {0}
+Stops (close_bracket bs) = Unit {0}
 Stops (hash bs) = ⊥
 Stops (arrow bs) = ⊥
 Stops bad = Unit {0}
@@ -28,8 +28,8 @@ stops_at : (t : Tree) (at bs : List ℕ) (m : List ℕ → Parsed) (n : NextToke
 unfolding rest_at alone
 stops_at t at bs m end h = refl
 stops_at t at bs m (word w cs) h = refl
-stops_at t at bs m (open-bracket cs) h = refl
-stops_at t at bs m (close-bracket cs) h = refl
+stops_at t at bs m (open_bracket cs) h = refl
+stops_at t at bs m (close_bracket cs) h = refl
 stops_at t at bs m (hash cs) h = absurd h
 stops_at t at bs m (arrow cs) h = absurd h
 stops_at t at bs m bad h = refl
@@ -59,7 +59,7 @@ one_fits t k e = omega arith
 room : (ts : Trees) → arity ts ≤ 16 → (k : ℕ) × (arity ts + k ≡ 16)
 room ts l = (16 - arity ts, omega arith)
 
-closed_is_read : (ds es fs : List ℕ) (t : Tree) → sort ds ≡ parsed t es → next is_letter es ≡ close-bracket fs → in_brackets sort ds ≡ parsed t fs
+closed_is_read : (ds es fs : List ℕ) (t : Tree) → sort ds ≡ parsed t es → next is_letter es ≡ close_bracket fs → in_brackets sort ds ≡ parsed t fs
 unfolding in_brackets closing
 closed_is_read ds es fs t h c = ap (λ p. p then-read (λ u gs. closing u (skip gs) (next is_letter gs))) h ∙ ap (closing t (skip es)) c
 

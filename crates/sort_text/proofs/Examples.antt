@@ -8,10 +8,8 @@ use Rattle.text_out.specs.Quoted.{bytes_of}
 use Rattle.resolved_sort.specs.declared.Sort.{Sort}
 use Rattle.resolved_sort.specs.declared.ComplexSort.{ComplexSort}
 use Rattle.resolved_sort.specs.Tree.{unit, primitive, def, typevar, Tree, flat, container, function, no_args, arg}
-use Rattle.resolved_sort.specs.Tree
-use Rattle.resolved_sort.specs.Order
 use Rattle.sort_text.specs.Tokens
-use Rattle.sort_text.specs.Tokens.{is_letter, NextToken, end, word, open-bracket, close-bracket, hash, arrow, bad, next}
+use Rattle.sort_text.specs.Tokens.{is_letter, NextToken, end, word, open_bracket, close_bracket, hash, arrow, bad, next}
 use Rattle.sort_text.specs.Text
 use Rattle.sort_text.specs.Reading
 use Rattle.sort_text.specs.Writing
@@ -126,8 +124,8 @@ passing p (b ∷ bs) = kept (p b) b (passing p bs)
 abbrev is_token : NextToken → Bool
 is_token end = false
 is_token (word w bs) = true
-is_token (open-bracket bs) = true
-is_token (close-bracket bs) = true
+is_token (open_bracket bs) = true
+is_token (close_bracket bs) = true
 is_token (hash bs) = true
 is_token (arrow bs) = true
 is_token bad = false
@@ -135,8 +133,8 @@ is_token bad = false
 abbrev is_end : NextToken → Bool
 is_end end = true
 is_end (word w bs) = false
-is_end (open-bracket bs) = false
-is_end (close-bracket bs) = false
+is_end (open_bracket bs) = false
+is_end (close_bracket bs) = false
 is_end (hash bs) = false
 is_end (arrow bs) = false
 is_end bad = false
@@ -158,7 +156,7 @@ spaces_are = refl
 tokens_are : map (next is_letter) (
     bytes_of " aZ1" ∷ bytes_of "( x" ∷ bytes_of ")x" ∷ bytes_of "#x" ∷ bytes_of "  ->x" ∷ bytes_of "-" ∷ bytes_of "- >" ∷ bytes_of "-?" ∷ bytes_of "-<"
     ∷ bytes_of ">" ∷ bytes_of "  " ∷ [] ∷ [])
-    ≡ word (bytes_of "aZ") (bytes_of "1") ∷ open-bracket (bytes_of " x") ∷ close-bracket (bytes_of "x") ∷ hash (bytes_of "x") ∷ arrow (bytes_of "x")
+    ≡ word (bytes_of "aZ") (bytes_of "1") ∷ open_bracket (bytes_of " x") ∷ close_bracket (bytes_of "x") ∷ hash (bytes_of "x") ∷ arrow (bytes_of "x")
     ∷ bad ∷ bad ∷ bad ∷ bad ∷ bad ∷ end ∷ end ∷ []
 unfolding Tokens.next Tokens.start Tokens.skip Tokens.run Tokens.past
 tokens_are = refl

@@ -6,7 +6,7 @@ use Prim.Native.Nat.{ℕ, zero, suc, ◌+◌, ◌≤◌}
 use native.Mathlib.Omega.{arith}
 use Rattle.resolved_sort.specs.declared.ComplexSort.{ComplexSort}
 use Rattle.resolved_sort.specs.Tree.{Tree, Trees, no_args, arg, arity}
-use Rattle.sort_text.specs.Tokens.{is_letter, NextToken, end, word, open-bracket, close-bracket, hash, arrow, bad, skip, next}
+use Rattle.sort_text.specs.Tokens.{is_letter, NextToken, end, word, open_bracket, close_bracket, hash, arrow, bad, skip, next}
 use Rattle.sort_text.specs.Parse.{Parsed, parsed, ◌then-read◌, WordMeaning, basic, operator, unknown, meaning}
 use Rattle.sort_text.specs.Parse.{closing, in_brackets, bracketed, operand_of, operand_at, operand, snoc, alone, rest_at, rest}
 use Rattle.sort_text.specs.Parse.{sort_to, sort, ending, line}
@@ -41,14 +41,14 @@ arity_snoc (arg s ts) t = rw (arity_snoc ts t)
 
 -- a sort and `)`
 abbrev pub Closed : List ℕ → Tree → List ℕ → Type 0
-Closed ds t fs = (es : List ℕ) × SortOf ds t es × (next is_letter es ≡ close-bracket fs)
+Closed ds t fs = (es : List ℕ) × SortOf ds t es × (next is_letter es ≡ close_bracket fs)
 
 closing_read : {ds es : List ℕ} {t : Tree} → SortOf ds t es → (at : List ℕ) (n : NextToken) → next is_letter es ≡ n → IfRead (Closed ds) (closing t at n)
 unfolding closing
-closing_read {es = es} d at (close-bracket fs) e = (es, d, e)
+closing_read {es = es} d at (close_bracket fs) e = (es, d, e)
 closing_read d at end e = tt
 closing_read d at (word w fs) e = tt
-closing_read d at (open-bracket fs) e = tt
+closing_read d at (open_bracket fs) e = tt
 closing_read d at (hash fs) e = tt
 closing_read d at (arrow fs) e = tt
 closing_read d at bad e = tt
@@ -61,11 +61,11 @@ module _ (f : List ℕ → Parsed) (g : Reads f) where
   bracketed_read : (bs : List ℕ) {w cs : List ℕ} {o : ComplexSort} → next is_letter bs ≡ word w cs → meaning w ≡ operator o
       → (at : List ℕ) (n : NextToken) → next is_letter cs ≡ n → IfRead (Operand bs) (bracketed f o at n)
   unfolding bracketed
-  bracketed_read bs a b at (open-bracket ds) e =
+  bracketed_read bs a b at (open_bracket ds) e =
       then_if_read (Closed ds) (Operand bs) (in_brackets f ds) _ (in_brackets_read ds) (λ t fs h. container_of a b e h.1 h.2)
   bracketed_read bs a b at end e = tt
   bracketed_read bs a b at (word w ds) e = tt
-  bracketed_read bs a b at (close-bracket ds) e = tt
+  bracketed_read bs a b at (close_bracket ds) e = tt
   bracketed_read bs a b at (hash ds) e = tt
   bracketed_read bs a b at (arrow ds) e = tt
   bracketed_read bs a b at bad e = tt
@@ -81,8 +81,8 @@ module _ (f : List ℕ → Parsed) (g : Reads f) where
   unfolding operand_at
   operand_at_read bs at (word w cs) e = operand_of_read bs e at (meaning w) refl
   operand_at_read bs at end e = tt
-  operand_at_read bs at (open-bracket cs) e = tt
-  operand_at_read bs at (close-bracket cs) e = tt
+  operand_at_read bs at (open_bracket cs) e = tt
+  operand_at_read bs at (close_bracket cs) e = tt
   operand_at_read bs at (hash cs) e = tt
   operand_at_read bs at (arrow cs) e = tt
   operand_at_read bs at bad e = tt
@@ -98,14 +98,14 @@ module _ (f : List ℕ → Parsed) (g : Reads f) where
   rest_at_read {bs} a b at m (arrow ds) e k = then_if_read (SortOf ds) (SortOf bs) (f ds) _ (g ds) (λ r es h. function_of a b e h)
   rest_at_read a b at m end e k = alone_read a at
   rest_at_read a b at m (word w ds) e k = alone_read a at
-  rest_at_read a b at m (open-bracket ds) e k = alone_read a at
-  rest_at_read a b at m (close-bracket ds) e k = alone_read a at
+  rest_at_read a b at m (open_bracket ds) e k = alone_read a at
+  rest_at_read a b at m (close_bracket ds) e k = alone_read a at
   rest_at_read a b at m bad e k = alone_read a at
 
-  pub rest_read : {bs cs : List ℕ} (k : ℕ) {ts : Trees} → Operands bs ts cs → arity ts + k ≡ 16 → IfRead (SortOf bs) (rest f k ts cs)
+  pub rest_read : {bs : List ℕ} (k : ℕ) {cs : List ℕ} {ts : Trees} → Operands bs ts cs → arity ts + k ≡ 16 → IfRead (SortOf bs) (rest f k ts cs)
   unfolding rest
-  rest_read {cs = cs} zero a b = rest_at_read a (omega arith) (skip cs) _ (next is_letter cs) refl (λ ds e. tt)
-  rest_read {bs} {cs} (suc k) {ts} a b =
+  rest_read zero {cs} a b = rest_at_read a (omega arith) (skip cs) _ (next is_letter cs) refl (λ ds e. tt)
+  rest_read {bs} (suc k) {cs} {ts} a b =
       rest_at_read a (omega arith) (skip cs) _ (next is_letter cs) refl
       (λ ds e. then_if_read (Operand ds) (SortOf bs) (operand f ds) _ (operand_read ds) (λ t es h. rest_read k
       (another a e h refl) (omega (arith, arity_snoc ts t))))
@@ -128,8 +128,8 @@ ending_read : {bs cs : List ℕ} {t : Tree} → SortOf bs t cs → (at : List �
 unfolding ending
 ending_read {cs} h at end e = (cs, h, e, refl)
 ending_read h at (word w ds) e = tt
-ending_read h at (open-bracket ds) e = tt
-ending_read h at (close-bracket ds) e = tt
+ending_read h at (open_bracket ds) e = tt
+ending_read h at (close_bracket ds) e = tt
 ending_read h at (hash ds) e = tt
 ending_read h at (arrow ds) e = tt
 ending_read h at bad e = tt

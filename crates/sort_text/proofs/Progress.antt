@@ -8,7 +8,7 @@ use native.Mathlib.Omega.{arith}
 use lib.ListN.{length, length-append}
 use lib.Dec.{eqb}
 use Rattle.resolved_sort.specs.Tree.{Tree, no_args, arg}
-use Rattle.sort_text.specs.Tokens.{is_letter, NextToken, end, word, open-bracket, close-bracket, hash, arrow}
+use Rattle.sort_text.specs.Tokens.{is_letter, NextToken, end, word, open_bracket, close_bracket, hash, arrow}
 use Rattle.sort_text.specs.Tokens.{bad, run, past, skip, dash, start, next_at, next}
 use Rattle.sort_text.specs.Parse.{Parsed, parsed, stuck, ◌then-read◌, WordMeaning, basic, operator, unknown}
 use Rattle.sort_text.specs.Parse.{meaning, bracketed, operand_of, operand_at, operand, rest, sort_to, sort, left}
@@ -19,8 +19,8 @@ use Rattle.sort_text.proofs.Suffix.{after, suffix_length, skip_suffix, next_suff
 abbrev pub width : NextToken → ℕ
 width end = 0
 width (word w bs) = length w
-width (open-bracket bs) = 1
-width (close-bracket bs) = 1
+width (open_bracket bs) = 1
+width (close_bracket bs) = 1
 width (hash bs) = 1
 width (arrow bs) = 2
 width bad = 0
@@ -28,8 +28,8 @@ width bad = 0
 abbrev pub there : NextToken → ℕ
 there end = 0
 there (word w bs) = 1
-there (open-bracket bs) = 1
-there (close-bracket bs) = 1
+there (open_bracket bs) = 1
+there (close_bracket bs) = 1
 there (hash bs) = 1
 there (arrow bs) = 1
 there bad = 0
@@ -51,8 +51,8 @@ unfolding start
 start_takes p b bs = go (p b) (eqb b 40) (eqb b 41) (eqb b 35) (eqb b 45)
   where
     go : (l o c h d : Bool)
-        → Takes (suc (length bs)) (b ∷ bs) (cond l (word (b ∷ run p bs) (past p bs)) (cond o (open-bracket bs)
-        (cond c (close-bracket bs) (cond h (hash bs) (cond d (dash bs) bad)))))
+        → Takes (suc (length bs)) (b ∷ bs) (cond l (word (b ∷ run p bs) (past p bs)) (cond o (open_bracket bs)
+        (cond c (close_bracket bs) (cond h (hash bs) (cond d (dash bs) bad)))))
     go true o c h d = (omega (arith, simp length-append at (ap length (run_past p bs))), omega arith)
     go false true c h d = omega arith
     go false false true h d = omega arith
@@ -77,11 +77,11 @@ next_is p bs n e = subst (Takes (length bs) (skip bs)) e (next_takes p bs)
 pub word_takes : (p : ℕ → Bool) (bs w cs : List ℕ) → next p bs ≡ word w cs → (length cs + length w ≤ length bs) × (0 < length w)
 word_takes p bs w cs e = next_is p bs (word w cs) e
 
-pub open_bracket_takes : (p : ℕ → Bool) (bs cs : List ℕ) → next p bs ≡ open-bracket cs → length cs + 1 ≤ length bs
-open_bracket_takes p bs cs e = (next_is p bs (open-bracket cs) e).0
+pub open_bracket_takes : (p : ℕ → Bool) (bs cs : List ℕ) → next p bs ≡ open_bracket cs → length cs + 1 ≤ length bs
+open_bracket_takes p bs cs e = (next_is p bs (open_bracket cs) e).0
 
-pub close_bracket_takes : (p : ℕ → Bool) (bs cs : List ℕ) → next p bs ≡ close-bracket cs → length cs + 1 ≤ length bs
-close_bracket_takes p bs cs e = (next_is p bs (close-bracket cs) e).0
+pub close_bracket_takes : (p : ℕ → Bool) (bs cs : List ℕ) → next p bs ≡ close_bracket cs → length cs + 1 ≤ length bs
+close_bracket_takes p bs cs e = (next_is p bs (close_bracket cs) e).0
 
 pub hash_takes : (p : ℕ → Bool) (bs cs : List ℕ) → next p bs ≡ hash cs → length cs + 1 ≤ length bs
 hash_takes p bs cs e = (next_is p bs (hash cs) e).0
@@ -127,8 +127,8 @@ module _ (f : List ℕ → Parsed) (g : Leaves f) where
   unfolding operand_at
   operand_at_fewer at bs (word w cs) e = let h = word_takes is_letter bs w cs e in operand_of_fewer at bs cs (meaning w) (omega (arith, h.0, h.1))
   operand_at_fewer at bs end e = tt
-  operand_at_fewer at bs (open-bracket cs) e = tt
-  operand_at_fewer at bs (close-bracket cs) e = tt
+  operand_at_fewer at bs (open_bracket cs) e = tt
+  operand_at_fewer at bs (close_bracket cs) e = tt
   operand_at_fewer at bs (hash cs) e = tt
   operand_at_fewer at bs (arrow cs) e = tt
   operand_at_fewer at bs bad e = tt

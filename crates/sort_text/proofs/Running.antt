@@ -9,7 +9,7 @@ use lib.Dec.{ltb}
 use borrow.Author.Tests.{ltb-true}
 use Rattle.resolved_sort.specs.declared.ComplexSort.{ComplexSort}
 use Rattle.resolved_sort.specs.Tree.{Tree, container, function, Trees, no_args, arg, arity}
-use Rattle.resolved_sort.specs.Interning.{Sorts, member, made, nothing, ◌then◌, intern}
+use Rattle.resolved_sort.specs.Interning.{Sorts, member, made, nothing, intern}
 use Rattle.resolved_sort.specs.Growing.{members, Grown, SortsExtend, SortsKept, InTree}
 use Rattle.resolved_sort.proofs.Kept.{extends_refl, member_extends, kept_then, container_interned, function_interned}
 use Rattle.sort_text.specs.Postfix.{Short, sixth, op_of, containing, Popped, popped, not_enough, take_arguments}

@@ -10,7 +10,7 @@ use lib.Seq.{drop-append_seam}
 use lib.Dec.{eqb}
 use Rattle.resolved_sort.specs.declared.ComplexSort.{ComplexSort}
 use Rattle.resolved_sort.specs.Tree.{Tree, Trees, no_args, arg}
-use Rattle.sort_text.specs.Tokens.{is_letter, NextToken, end, word, open-bracket, close-bracket, hash, arrow}
+use Rattle.sort_text.specs.Tokens.{is_letter, NextToken, end, word, open_bracket, close_bracket, hash, arrow}
 use Rattle.sort_text.specs.Tokens.{bad, run, past, skip, dash, start, next_at, next}
 use Rattle.sort_text.specs.Parse.{Parsed, parsed, stuck, ◌then-read◌, WordMeaning, basic, operator, unknown}
 use Rattle.sort_text.specs.Parse.{meaning, closing, in_brackets, bracketed, operand_of, operand_at, operand, snoc, alone}
@@ -60,8 +60,8 @@ run_past p (b ∷ bs) = split_by p b bs (p b) (run_past p bs)
 abbrev pub after : List ℕ → NextToken → List ℕ
 after at end = at
 after at (word w bs) = bs
-after at (open-bracket bs) = bs
-after at (close-bracket bs) = bs
+after at (open_bracket bs) = bs
+after at (close_bracket bs) = bs
 after at (hash bs) = bs
 after at (arrow bs) = bs
 after at bad = at
@@ -82,8 +82,8 @@ start_suffix p b bs = go (p b) (eqb b 40) (eqb b 41) (eqb b 35) (eqb b 45)
     one = suffix_cons b bs bs (suffix_refl bs)
 
     go : (l o c h d : Bool)
-        → Suffix (after (b ∷ bs) (cond l (word (b ∷ run p bs) (past p bs)) (cond o (open-bracket bs)
-        (cond c (close-bracket bs) (cond h (hash bs) (cond d (dash bs) bad)))))) (b ∷ bs)
+        → Suffix (after (b ∷ bs) (cond l (word (b ∷ run p bs) (past p bs)) (cond o (open_bracket bs)
+        (cond c (close_bracket bs) (cond h (hash bs) (cond d (dash bs) bad)))))) (b ∷ bs)
     go true o c h d = suffix_cons b (past p bs) bs (past_suffix p bs)
     go false true c h d = one
     go false false true h d = one
@@ -107,10 +107,10 @@ then_suffix (stuck cs) k bs h f = h
 -- the readers, each from what its token leaves
 closing_suffix : (t : Tree) (at bs : List ℕ) (n : NextToken) → Suffix at bs → Suffix (after at n) bs → Suffix (left (closing t at n)) bs
 unfolding closing
-closing_suffix t at bs (close-bracket cs) h k = k
+closing_suffix t at bs (close_bracket cs) h k = k
 closing_suffix t at bs end h k = h
 closing_suffix t at bs (word w cs) h k = h
-closing_suffix t at bs (open-bracket cs) h k = h
+closing_suffix t at bs (open_bracket cs) h k = h
 closing_suffix t at bs (hash cs) h k = h
 closing_suffix t at bs (arrow cs) h k = h
 closing_suffix t at bs bad h k = h
@@ -118,9 +118,9 @@ closing_suffix t at bs bad h k = h
 ending_suffix : (t : Tree) (at bs : List ℕ) (n : NextToken) → Suffix at bs → Suffix (left (ending t at n)) bs
 unfolding ending
 ending_suffix t at bs end h = suffix_nil bs
-ending_suffix t at bs (close-bracket cs) h = h
+ending_suffix t at bs (close_bracket cs) h = h
 ending_suffix t at bs (word w cs) h = h
-ending_suffix t at bs (open-bracket cs) h = h
+ending_suffix t at bs (open_bracket cs) h = h
 ending_suffix t at bs (hash cs) h = h
 ending_suffix t at bs (arrow cs) h = h
 ending_suffix t at bs bad h = h
@@ -139,11 +139,11 @@ module _ (f : List ℕ → Parsed) (g : Leaves f) where
 
   pub bracketed_suffix : (o : ComplexSort) (at bs : List ℕ) (n : NextToken) → Suffix at bs → Suffix (after at n) bs → Suffix (left (bracketed f o at n)) bs
   unfolding bracketed
-  bracketed_suffix o at bs (open-bracket cs) h k =
+  bracketed_suffix o at bs (open_bracket cs) h k =
       then_suffix (in_brackets f cs) _ bs (suffix_trans (left (in_brackets f cs)) cs bs (in_brackets_suffix cs) k) (λ t ds. suffix_refl ds)
   bracketed_suffix o at bs end h k = h
   bracketed_suffix o at bs (word w cs) h k = h
-  bracketed_suffix o at bs (close-bracket cs) h k = h
+  bracketed_suffix o at bs (close_bracket cs) h k = h
   bracketed_suffix o at bs (hash cs) h k = h
   bracketed_suffix o at bs (arrow cs) h k = h
   bracketed_suffix o at bs bad h k = h
@@ -159,8 +159,8 @@ module _ (f : List ℕ → Parsed) (g : Leaves f) where
   unfolding operand_at
   operand_at_suffix at bs (word w cs) h k = operand_of_suffix at bs cs (meaning w) h k
   operand_at_suffix at bs end h k = h
-  operand_at_suffix at bs (open-bracket cs) h k = h
-  operand_at_suffix at bs (close-bracket cs) h k = h
+  operand_at_suffix at bs (open_bracket cs) h k = h
+  operand_at_suffix at bs (close_bracket cs) h k = h
   operand_at_suffix at bs (hash cs) h k = h
   operand_at_suffix at bs (arrow cs) h k = h
   operand_at_suffix at bs bad h k = h
@@ -176,8 +176,8 @@ module _ (f : List ℕ → Parsed) (g : Leaves f) where
   rest_at_suffix ts at bs m (arrow cs) h k l = then_suffix (f cs) _ bs (suffix_trans (left (f cs)) cs bs (g cs) k) (λ r ds. suffix_refl ds)
   rest_at_suffix ts at bs m end h k l = alone_suffix ts at bs h
   rest_at_suffix ts at bs m (word w cs) h k l = alone_suffix ts at bs h
-  rest_at_suffix ts at bs m (open-bracket cs) h k l = alone_suffix ts at bs h
-  rest_at_suffix ts at bs m (close-bracket cs) h k l = alone_suffix ts at bs h
+  rest_at_suffix ts at bs m (open_bracket cs) h k l = alone_suffix ts at bs h
+  rest_at_suffix ts at bs m (close_bracket cs) h k l = alone_suffix ts at bs h
   rest_at_suffix ts at bs m bad h k l = alone_suffix ts at bs h
 
   pub rest_suffix : (k : ℕ) (ts : Trees) (bs : List ℕ) → Suffix (left (rest f k ts bs)) bs

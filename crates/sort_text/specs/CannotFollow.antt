@@ -4,30 +4,30 @@
 -- there none does.
 use Rattle.std.specs.Prelude.{◌≡◌, List, [], ◌++◌, ℕ, zero, suc}
 use Rattle.resolved_sort.specs.Tree.{Tree}
-use Rattle.sort_text.specs.Tokens.{is_letter, NextToken, end, word, open-bracket, close-bracket, hash, arrow}
+use Rattle.sort_text.specs.Tokens.{is_letter, NextToken, end, word, open_bracket, close_bracket, hash, arrow}
 use Rattle.sort_text.specs.Tokens.{bad, skip, next}
 use Rattle.sort_text.specs.Grammar.{LineOf}
 
 -- A token without the bytes after it. A byte that starts none, and the end of the line, count as tokens.
 pub data BareToken : Type 0 where
   bare_word : List ℕ → BareToken
-  bare-open bare-close bare-hash bare-arrow no-token no_more : BareToken
+  bare_open bare_close bare_hash bare_arrow no_token no_more : BareToken
 
 abbrev pub bare : NextToken → BareToken
 bare end = no_more
 bare (word w bs) = bare_word w
-bare (open-bracket bs) = bare-open
-bare (close-bracket bs) = bare-close
-bare (hash bs) = bare-hash
-bare (arrow bs) = bare-arrow
-bare bad = no-token
+bare (open_bracket bs) = bare_open
+bare (close_bracket bs) = bare_close
+bare (hash bs) = bare_hash
+bare (arrow bs) = bare_arrow
+bare bad = no_token
 
 -- the bytes after it
 abbrev pub beyond : NextToken → List ℕ
 beyond end = []
 beyond (word w bs) = bs
-beyond (open-bracket bs) = bs
-beyond (close-bracket bs) = bs
+beyond (open_bracket bs) = bs
+beyond (close_bracket bs) = bs
 beyond (hash bs) = bs
 beyond (arrow bs) = bs
 beyond bad = []

@@ -3,7 +3,7 @@ use Rattle.std.specs.Prelude.{◌≡◌, List, [], ℕ, ◌≤◌}
 use Rattle.resolved_sort.specs.declared.Sort.{Sort}
 use Rattle.resolved_sort.specs.declared.ComplexSort.{ComplexSort}
 use Rattle.resolved_sort.specs.Tree.{primitive, Tree, flat, container, function, Trees, no_args, arg, arity}
-use Rattle.sort_text.specs.Tokens.{is_letter, end, word, open-bracket, close-bracket, hash, arrow, next}
+use Rattle.sort_text.specs.Tokens.{is_letter, end, word, open_bracket, close_bracket, hash, arrow, next}
 use Rattle.sort_text.specs.Parse.{basic, operator, meaning, snoc}
 
 -- the sort, operand or operands that the bytes begin with, and the bytes after it
@@ -13,7 +13,7 @@ mutual
         → Operand bs (flat (primitive s)) cs
     container_of : {bs w cs ds es fs : List ℕ} {o : ComplexSort} {t : Tree} → next is_letter bs ≡ word w cs
         → meaning w ≡ operator o
-        → next is_letter cs ≡ open-bracket ds → SortOf ds t es → next is_letter es ≡ close-bracket fs
+        → next is_letter cs ≡ open_bracket ds → SortOf ds t es → next is_letter es ≡ close_bracket fs
         → Operand bs (container o t) fs
 
   pub data SortOf : List ℕ → Tree → List ℕ → Type 0 where

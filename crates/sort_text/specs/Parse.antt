@@ -6,7 +6,7 @@ use Rattle.text_out.specs.Quoted.{bytes_of}
 use Rattle.resolved_sort.specs.declared.Sort.{Sort}
 use Rattle.resolved_sort.specs.declared.ComplexSort.{ComplexSort}
 use Rattle.resolved_sort.specs.Tree.{primitive, Tree, flat, container, function, Trees, no_args, arg}
-use Rattle.sort_text.specs.Tokens.{is_letter, NextToken, end, word, open-bracket, close-bracket, hash, arrow}
+use Rattle.sort_text.specs.Tokens.{is_letter, NextToken, end, word, open_bracket, close_bracket, hash, arrow}
 use Rattle.sort_text.specs.Tokens.{bad, skip, next}
 use Rattle.resolved_sort.specs.Storage.{max_arguments}
 
@@ -61,10 +61,10 @@ meaning w =
 
 -- `)` after the sort in brackets
 unfoldable pub closing : Tree → List ℕ → NextToken → Parsed
-closing t at (close-bracket bs) = parsed t bs
+closing t at (close_bracket bs) = parsed t bs
 closing t at end = stuck at
 closing t at (word w bs) = stuck at
-closing t at (open-bracket bs) = stuck at
+closing t at (open_bracket bs) = stuck at
 closing t at (hash bs) = stuck at
 closing t at (arrow bs) = stuck at
 closing t at bad = stuck at
@@ -75,10 +75,10 @@ in_brackets sort bs = sort bs then-read (λ t cs. closing t (skip cs) (next is_l
 
 -- `(` after a container word, the sort in it, and `)`
 unfoldable pub bracketed : (List ℕ → Parsed) → ComplexSort → List ℕ → NextToken → Parsed
-bracketed sort o at (open-bracket bs) = in_brackets sort bs then-read (λ t cs. parsed (container o t) cs)
+bracketed sort o at (open_bracket bs) = in_brackets sort bs then-read (λ t cs. parsed (container o t) cs)
 bracketed sort o at end = stuck at
 bracketed sort o at (word w bs) = stuck at
-bracketed sort o at (close-bracket bs) = stuck at
+bracketed sort o at (close_bracket bs) = stuck at
 bracketed sort o at (hash bs) = stuck at
 bracketed sort o at (arrow bs) = stuck at
 bracketed sort o at bad = stuck at
@@ -92,8 +92,8 @@ operand_of sort at unknown bs = stuck at
 unfoldable pub operand_at : (List ℕ → Parsed) → List ℕ → NextToken → Parsed
 operand_at sort at (word w bs) = operand_of sort at (meaning w) bs
 operand_at sort at end = stuck at
-operand_at sort at (open-bracket bs) = stuck at
-operand_at sort at (close-bracket bs) = stuck at
+operand_at sort at (open_bracket bs) = stuck at
+operand_at sort at (close_bracket bs) = stuck at
 operand_at sort at (hash bs) = stuck at
 operand_at sort at (arrow bs) = stuck at
 operand_at sort at bad = stuck at
@@ -117,8 +117,8 @@ rest_at sort ts at bs more (hash cs) = more cs
 rest_at sort ts at bs more (arrow cs) = sort cs then-read (λ r ds. parsed (function ts r) ds)
 rest_at sort ts at bs more end = alone ts at bs
 rest_at sort ts at bs more (word w cs) = alone ts at bs
-rest_at sort ts at bs more (open-bracket cs) = alone ts at bs
-rest_at sort ts at bs more (close-bracket cs) = alone ts at bs
+rest_at sort ts at bs more (open_bracket cs) = alone ts at bs
+rest_at sort ts at bs more (close_bracket cs) = alone ts at bs
 rest_at sort ts at bs more bad = alone ts at bs
 
 -- of operands k more may come; a seventeenth argument's `#` cannot follow
@@ -141,8 +141,8 @@ sort bs = sort_to (suc (length bs)) bs
 unfoldable pub ending : Tree → List ℕ → NextToken → Parsed
 ending t at end = parsed t []
 ending t at (word w bs) = stuck at
-ending t at (open-bracket bs) = stuck at
-ending t at (close-bracket bs) = stuck at
+ending t at (open_bracket bs) = stuck at
+ending t at (close_bracket bs) = stuck at
 ending t at (hash bs) = stuck at
 ending t at (arrow bs) = stuck at
 ending t at bad = stuck at

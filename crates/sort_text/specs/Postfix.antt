@@ -1,6 +1,6 @@
 -- A sort as a list of steps, parts first: the order in which a line's sorts are stored. Recognising a line writes the
 -- steps, storing carries them out on a stack, so that a line which is no sort stores nothing.
-use Rattle.std.specs.Prelude.{Bool, true, cond, List, [], ◌∷◌, ◌++◌, ℕ, zero, suc, ◌+◌, ◌-◌, ◌≤◌, ◌<◌, get_or, ltb, ◌≡◌}
+use Rattle.std.specs.Prelude.{true, cond, List, [], ◌∷◌, ◌++◌, ℕ, zero, suc, ◌+◌, ◌-◌, ◌≤◌, ◌<◌, get_or, ltb, ◌≡◌}
 use Rattle.resolved_sort.specs.declared.Sort.{Sort}
 use Rattle.resolved_sort.specs.declared.ComplexSort.{ComplexSort}
 use Rattle.resolved_sort.specs.Tree.{unit, primitive, Tree, flat, container, function, Trees, no_args, arg, arity}

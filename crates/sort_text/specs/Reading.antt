@@ -1,10 +1,9 @@
 -- Reading a line into the sort storage: which sorts are stored, in which order, and what the entry answers and leaves.
-use Rattle.std.specs.Prelude.{Bool, true, false, List, [], ◌∷◌, ◌++◌, ℕ, ◌-◌, length, leb}
-use Rattle.std.proofs.Math.Option.{Option, none, some}
+use Rattle.std.specs.Prelude.{Bool, List, [], ◌∷◌, ◌++◌, ℕ, ◌-◌, length, leb}
 use Rattle.resolved_sort.specs.declared.Joined.{Joined}
 use Rattle.resolved_sort.specs.declared.Joined.TheVariants.{At, Nothing, Full}
 use Rattle.resolved_sort.specs.Tree.{Tree, flat, container, function, Trees, no_args, arg}
-use Rattle.resolved_sort.specs.Interning.{Sorts, Outcome, made, nothing, full, ◌then◌, intern}
+use Rattle.resolved_sort.specs.Interning.{Sorts, Outcome, made, ◌then◌, intern}
 use Rattle.resolved_sort.specs.Storage.{sorts_of, given_back}
 use Rattle.resolved_sort.specs.Checks.{Check, first_failing, sort_checks, at_ceiling}
 use Rattle.resolved_sort.specs.Entries.{refused_or, Stored, stored}

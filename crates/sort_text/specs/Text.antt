@@ -1,6 +1,6 @@
 -- Writing a sort: "the writer joins argument texts by ` # `, then ` -> ` and the range". Unit, Def, TypeVar and
 -- functions without arguments have no text (13).
-use Rattle.std.specs.Prelude.{Bool, true, false, ◌&&◌, List, [], ◌∷◌, ◌++◌, ℕ}
+use Rattle.std.specs.Prelude.{Bool, true, false, ◌&&◌, List, [], ◌++◌, ℕ}
 use Rattle.text_out.specs.Quoted.{bytes_of}
 use Rattle.resolved_sort.specs.Tree.{Flat, unit, primitive, def, typevar, Tree, flat, container, function, Trees}
 use Rattle.resolved_sort.specs.Tree.{no_args, arg}

@@ -1,7 +1,7 @@
 -- Tokens of a line: "a longest run of letters, `(`, `)`, `#`, `->`; a byte that starts none of these counts as a token
 -- that cannot follow"; "spaces may stand before, between and after tokens, never inside one". Only the byte 32 is a
 -- space.
-use Rattle.std.specs.Prelude.{Bool, true, false, cond, ◌&&◌, ◌||◌, List, [], ◌∷◌, ℕ, eqb, leb}
+use Rattle.std.specs.Prelude.{Bool, cond, ◌&&◌, ◌||◌, List, [], ◌∷◌, ℕ, eqb, leb}
 use Rattle.text_out.specs.Quoted.{byte_of}
 
 -- the bytes of words: ASCII letters (a later request has another class)
@@ -12,7 +12,7 @@ is_letter b = leb (byte_of "A") b && leb b (byte_of "Z") || leb (byte_of "a") b 
 pub data NextToken : Type 0 where
   end : NextToken
   word : List ℕ → List ℕ → NextToken
-  open-bracket close-bracket hash arrow : List ℕ → NextToken
+  open_bracket close_bracket hash arrow : List ℕ → NextToken
   bad : NextToken
 
 -- the run of word bytes at the front, and what follows it
@@ -37,8 +37,8 @@ dash (b ∷ bs) = cond (eqb b (byte_of ">")) (arrow bs) bad
 unfoldable pub start : (ℕ → Bool) → ℕ → List ℕ → NextToken
 start p b bs =
     cond (p b) (word (b ∷ run p bs) (past p bs))
-    (cond (eqb b (byte_of "(")) (open-bracket bs)
-    (cond (eqb b (byte_of ")")) (close-bracket bs)
+    (cond (eqb b (byte_of "(")) (open_bracket bs)
+    (cond (eqb b (byte_of ")")) (close_bracket bs)
     (cond (eqb b (byte_of "#")) (hash bs)
     (cond (eqb b (byte_of "-")) (dash bs) bad))))
 

@@ -1,6 +1,5 @@
 -- Writing a sort as text: what the entry answers, and what it leaves in the lent text buffer.
-use Rattle.std.specs.Prelude.{Bool, ◌&&◌, List, [], ◌∷◌, ◌++◌, ℕ, length, drop, leb}
-use Rattle.std.proofs.Math.Option.{Option, none, some}
+use Rattle.std.specs.Prelude.{◌&&◌, List, [], ◌∷◌, ◌++◌, ℕ, length, drop, leb}
 use Rattle.resolved_sort.specs.Checks.{Check, first_failing, sort_checks, in_list, at_ceiling}
 use Rattle.resolved_sort.specs.Entries.{refused_or, tree_at}
 use Rattle.sort_text.specs.declared.Written.{Written}

@@ -1,7 +1,7 @@
 -- A token with positions in place of what is left of the line: a position i stands for `drop i line`, and what is left
 -- of the line for its place.
 use Rattle.std.specs.Prelude.{List, ℕ, ◌-◌, length, take, drop}
-use Rattle.sort_text.specs.Tokens.{is_letter, NextToken, end, word, open-bracket, close-bracket, hash, arrow, bad}
+use Rattle.sort_text.specs.Tokens.{is_letter, NextToken, end, word, open_bracket, close_bracket, hash, arrow, bad}
 use Rattle.sort_text.specs.Tokens.{skip, next}
 use Rattle.sort_lexer.specs.declared.Token.{Token}
 use Rattle.sort_lexer.specs.declared.Token.TheVariants.{End, Word, Open, Close, Hash, Arrow, Bad}
@@ -15,8 +15,8 @@ offset line bs = length line - length bs
 unfoldable pub lexeme : List ℕ → List ℕ → NextToken → Lexeme
 lexeme line bs end = record { token = End; at = offset line bs; next = offset line bs }
 lexeme line bs (word w cs) = record { token = Word; at = offset line bs; next = offset line cs }
-lexeme line bs (open-bracket cs) = record { token = Open; at = offset line bs; next = offset line cs }
-lexeme line bs (close-bracket cs) = record { token = Close; at = offset line bs; next = offset line cs }
+lexeme line bs (open_bracket cs) = record { token = Open; at = offset line bs; next = offset line cs }
+lexeme line bs (close_bracket cs) = record { token = Close; at = offset line bs; next = offset line cs }
 lexeme line bs (hash cs) = record { token = Hash; at = offset line bs; next = offset line cs }
 lexeme line bs (arrow cs) = record { token = Arrow; at = offset line bs; next = offset line cs }
 lexeme line bs bad = record { token = Bad; at = offset line bs; next = offset line bs }
@@ -28,8 +28,8 @@ lexeme_of line at = lexeme line (skip (drop at line)) (next is_letter (drop at l
 unfoldable pub said_by : List ℕ → Token → ℕ → ℕ → NextToken
 said_by line End i j = end
 said_by line Word i j = word (take (j - i) (drop i line)) (drop j line)
-said_by line Open i j = open-bracket (drop j line)
-said_by line Close i j = close-bracket (drop j line)
+said_by line Open i j = open_bracket (drop j line)
+said_by line Close i j = close_bracket (drop j line)
 said_by line Hash i j = hash (drop j line)
 said_by line Arrow i j = arrow (drop j line)
 said_by line Bad i j = bad
