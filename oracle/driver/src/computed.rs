@@ -19,16 +19,16 @@ const WORTH_REPEATING: usize = 8;
 const HEAD: &str = "\
 -- Lists with the answers of the excerpt of merc, computed by the definition that the solver's contract cites: code, sorts and names of the
 -- expressions, measure, choices, and the sorts that are kept. Written by oracle/computed.sh. By computation. Assumes nothing.
-use mathlib.Core.Path.{_≡_, refl}
-use mathlib.Core.List.{List, [], _∷_, _++_, map}
-use Prim.Native.Nat.{ℕ, zero, suc, _+_, _*_, _-_}
+use mathlib.Core.Path.{◌≡◌, refl}
+use mathlib.Core.List.{List, [], ◌∷◌, ◌++◌, map}
+use Prim.Native.Nat.{ℕ, zero, suc, ◌+◌, ◌*◌, ◌-◌}
 use lib.ListN.{length, replicate, take, drop}
-use Rattle·resolved_sort.specs.declared.Counts.{Counts}
-use Rattle·inference·specs.specs.declared.Solved.{Solved}
-use Rattle·inference·specs.specs.declared.Solved.the-variants.{Refused, NoRoom, NoTyping, Ambiguous, Typing}
-use Rattle·inference·specs.specs.Search.{Choice}
-use Rattle·inference·specs.specs.SolveEntry.{SolveLeft, codeSolved, measureOut, choicesOut}
-use Rattle·inference·specs.specs.Situations.{GivenList, solvedList, fourWords, rowSub, rowLit, rowDisjunction, rowComprehension, rowJoin}
+use Rattle.resolved_sort.specs.declared.Counts.{Counts}
+use Rattle.inference.specs.declared.Solved.{Solved}
+use Rattle.inference.specs.declared.Solved.TheVariants.{Refused, NoRoom, NoTyping, Ambiguous, Typing}
+use Rattle.inference.specs.Search.{Choice}
+use Rattle.inference.specs.SolveEntry.{SolveLeft, code_solved, measure_out, choices_out}
+use Rattle.inference.specs.Situations.{GivenList, solved_list, four_words, row_sub, row_lit, row_disjunction, row_comprehension, row_join}
 
 given : List ℕ → List ℕ → List ℕ → List ℕ → List ℕ → List ℕ → List ℕ → List ℕ → List ℕ → List ℕ → ℕ → GivenList
 given sorts entries nodes arguments binds exprs names constraints overloads sources default =
@@ -66,18 +66,18 @@ between a b ws = take (b - a) (drop a ws)
 -- k counts the sorts that are kept
 keeping : GivenList → SolveLeft → Counts → List ℕ → List ℕ → List Choice → Outcome
 keeping G L k typing measure choices =
-    outcome (codeSolved (L .answer)) typing measure choices (between (24 + length (G .sorts)) (4 * k .sorts) (L .sorts))
-    (between (4096 + length (G .entries)) (4096 + k .entries) (L .sorts))
+    outcome (code_solved L.answer) typing measure choices (between (24 + length G.sorts) (4 * k.sorts) L.sorts)
+    (between (4096 + length G.entries) (4096 + k.entries) L.sorts)
 
-abbrev outcomeBy : GivenList → SolveLeft → Solved → Outcome
-outcomeBy G L (Refused c) = outcome c [] [] [] [] []
-outcomeBy G L (NoRoom c) = outcome c [] [] [] [] []
-outcomeBy G L (NoTyping k) = keeping G L k [] [] []
-outcomeBy G L (Ambiguous k) = keeping G L k [] [] []
-outcomeBy G L (Typing o) = keeping G L (o .counts) (take (3 * length (G .exprs)) (L .typing)) (measureOut L o) (choicesOut L o)
+abbrev outcome_by : GivenList → SolveLeft → Solved → Outcome
+outcome_by G L (Refused c) = outcome c [] [] [] [] []
+outcome_by G L (NoRoom c) = outcome c [] [] [] [] []
+outcome_by G L (NoTyping k) = keeping G L k [] [] []
+outcome_by G L (Ambiguous k) = keeping G L k [] [] []
+outcome_by G L (Typing o) = keeping G L o.counts (take (3 * length G.exprs) L.typing) (measure_out L o) (choices_out L o)
 
-pub outcomeOf : GivenList → Outcome
-outcomeOf G = outcomeBy G (solvedList G) (solvedList G .answer)
+pub outcome_of : GivenList → Outcome
+outcome_of G = outcome_by G (solved_list G) (solved_list G).answer
 
 -- an expression of a typing: its sort, kind of name and sort of name
 expr : ℕ → ℕ → ℕ → List ℕ → List ℕ
@@ -93,7 +93,7 @@ Case = GivenList × Outcome
 
 /// What the proof opens of [HEAD] and of the builders.
 const OPENED: &str =
-    "solvedList fourWords rowSub rowLit rowDisjunction rowComprehension rowJoin given outcome between keeping outcomeOf expr choice";
+    "solved_list four_words row_sub row_lit row_disjunction row_comprehension row_join given outcome between keeping outcome_of expr choice";
 
 /// Builders for padded lists.
 const DEFS: &str = "defs ";
@@ -102,12 +102,12 @@ const PADDING: &str = "\
 -- n sorts more, Def i, Def (i + 1) and so on
 defs : ℕ → ℕ → List ℕ → List ℕ
 defs i zero ws = ws
-defs i (suc n) ws = fourWords 12 i 0 0 (defs (i + 1) n ws)
+defs i (suc n) ws = four_words 12 i 0 0 (defs (i + 1) n ws)
 
 -- n times the row of a kind and a part
 repeated : ℕ → ℕ → ℕ → List ℕ → List ℕ
 repeated zero kind part ws = ws
-repeated (suc n) kind part ws = fourWords kind part 0 0 (repeated n kind part ws)
+repeated (suc n) kind part ws = four_words kind part 0 0 (repeated n kind part ws)
 
 ";
 const PADDING_OPENED: &str = " defs repeated";
@@ -139,7 +139,7 @@ pub fn module(cases: &[Case], each: usize) -> String {
         (padding, opened) = ("", "");
     }
     if !cases.iter().any(|case| case.given.contains(" ++")) {
-        head = head.replacen("_++_, ", "", 1);
+        head = head.replacen("◌++◌, ", "", 1);
     }
     let groups: Vec<&[Case]> = cases.chunks(each).collect();
     let number = |index: usize| if groups.len() == 1 { String::new() } else { (index + 1).to_string() };
@@ -158,7 +158,7 @@ fn proof(number: &str, cases: &[Case], opened: &str) -> String {
 cases{number} =
 {list}    ∷ []
 
-pub compared{number} : map (λ (c : Case). outcomeOf (c .0)) cases{number} ≡ map (λ (c : Case). c .1) cases{number}
+pub compared{number} : map (λ (c : Case). outcome_of c.0) cases{number} ≡ map (λ (c : Case). c.1) cases{number}
 unfolding {OPENED}{opened} cases{number}
 compared{number} = refl
 "
@@ -258,7 +258,7 @@ fn rows(rows: &[Row], first: Option<usize>) -> String {
             builders.push(format!("{REPEATED}{same} {} {}", row.kind, row.part));
             at += same;
         } else {
-            builders.push(format!("fourWords {} {} {} {}", row.kind, row.part, row.start, row.count));
+            builders.push(format!("four_words {} {} {} {}", row.kind, row.part, row.start, row.count));
             at += 1;
         }
     }
@@ -272,11 +272,11 @@ fn count<T: Copy>(list: &[T], passes: impl Fn(usize, T) -> bool) -> usize {
 
 fn constraints(rows: &[[u16; CONSTRAINT]]) -> String {
     let builders = rows.iter().map(|&[kind, a, b, c, d]| match kind {
-        constraint::SUB => format!("rowSub {a} {b}"),
-        constraint::LIT => format!("rowLit {a} {b}"),
-        constraint::DISJUNCTION => format!("rowDisjunction {a} {b} {c} {d}"),
-        constraint::COMPREHENSION => format!("rowComprehension {a} {b} {c}"),
-        constraint::JOIN => format!("rowJoin {a} {b} {c}"),
+        constraint::SUB => format!("row_sub {a} {b}"),
+        constraint::LIT => format!("row_lit {a} {b}"),
+        constraint::DISJUNCTION => format!("row_disjunction {a} {b} {c} {d}"),
+        constraint::COMPREHENSION => format!("row_comprehension {a} {b} {c}"),
+        constraint::JOIN => format!("row_join {a} {b} {c}"),
         _ => format!("({kind} ∷ {a} ∷ {b} ∷ {c} ∷ {d} ∷ []) ++"),
     });
     nested(builders.collect())
