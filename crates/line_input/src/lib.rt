@@ -2,7 +2,7 @@
 // passed over up to its LF.
 //
 // The work is done by `take`, on the bytes that a read has put into the buffer. For an input in any parts the calls of
-// `next_line` take its lines, each once, the last one without LF too (`every-line-once`).
+// `next_line` take its lines, each once, the last one without LF too (`every_line_once`).
 #![tactic(auto)]
 
 ghost use Rattle.std.specs.Prelude.{◌≡◌, ◌≤◌, length};

@@ -93,7 +93,7 @@ pub fn finish(list: &[u16; LIST_WORDS], out: &mut [u8]) -> usize
     put_unasked(list[STAGE_AT], out, 0)
 }
 
-// Room for whatever is printed for one line (`printed-fits`).
+// Room for whatever is printed for one line (`printed_fits`).
 pub const PRINTED_ROOM: usize = 393216;
 
 // So many bytes are looked at of a line: one more than a line may have, which shows that it is too long.

@@ -11,7 +11,7 @@ use Rattle.sort_text.specs.Parse.{parsed, line}
 use Rattle.sort_text.specs.Reading.{max_line}
 use Rattle.pair_line.specs.PairProgram.{sort_or_none, comma}
 
--- Room enough for every line of output with its LF (`pair-has-room`); no line is that long.
+-- Room enough for every line of output with its LF (`pair_has_room`); no line is that long.
 abbrev pub line_room : ℕ
 line_room = 816
 

@@ -214,7 +214,7 @@ fn put_second(
     ) {
         Read::Sort(rhs, made) => put_answer(sorts, made, lhs, rhs, out, at),
         Read::NotASort(from) => put_unread(second, from, out, at),
-        // cannot be: `not-refused`, `has_room`
+        // cannot be: `not_refused`, `has_room`
         Read::Refused(_) => at,
         Read::NoRoom => at,
     }
@@ -232,7 +232,7 @@ fn put_first(sorts: &mut [u16], first: &[u8], second: &[u8], out: &mut [u8], at:
     match read_line(sorts, 6, 0, first) {
         Read::Sort(lhs, made) => put_second(sorts, made, lhs, second, out, at),
         Read::NotASort(from) => put_unread(first, from, out, at),
-        // cannot be: `not-refused`, `has_room`
+        // cannot be: `not_refused`, `has_room`
         Read::Refused(_) => at,
         Read::NoRoom => at,
     }

@@ -3,7 +3,7 @@
 // writes standard output, in bounded memory whatever the input's length and the length of its lines.
 //
 // The work is done by pair_input: for an input in any parts, what `feed` puts for each part in turn and `finish` at the
-// end is `output` of crates/pair_line/specs/PairProgram.antt (`parts-exactly`). Here bytes are only read and written:
+// end is `output` of crates/pair_line/specs/PairProgram.antt (`parts_exactly`). Here bytes are only read and written:
 // that each part is taken whole and once is proved (`take_bytes`), that what was put is what is written is to be seen.
 #![tactic(auto)]
 

@@ -38,7 +38,7 @@ fn write_front(out: &[u8], end: usize) -> bool {
     false
 }
 
-// A line of the input, and its output, of which nothing is cut (`nothing-is-cut` of list_lines).
+// A line of the input, and its output, of which nothing is cut (`nothing_is_cut` of list_lines).
 fn say_line(list: &mut [u16; LIST_WORDS], line: &[u8], number: u64, out: &mut [u8]) -> bool
     requires { (length line.now ≤ held_line) × (printed_room ≤ length out.old) }
 {

@@ -1,6 +1,6 @@
 -- What the entries join and meet answer and leave, whatever they are given, over the direction: a refusal names the first failing check and
 -- leaves the words; else the number answered stands for the join or meet in the words left, none is answered exactly if there is none, and
--- room ended at a sort that did not fit. By what making answers (`make-answers`), keeps (`make-kept`) and ends at (`make-ends`). Assumes
+-- room ended at a sort that did not fit. By what making answers (`make_answers`), keeps (`make_kept`) and ends at (`make_ends`). Assumes
 -- nothing.
 use mathlib.Core.Path.{◌≡◌, refl, sym, ◌∙◌, ap, subst}
 use mathlib.Core.Bool.{Bool, true}

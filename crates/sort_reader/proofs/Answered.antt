@@ -1,6 +1,6 @@
 -- What the entry read answers and leaves, whatever it is given: a refusal names the first failing check and leaves the words; so does 20, with the
 -- unread end; a sort's number stands for the line's sort in the words left; room ended at a sort that did not fit. By what storing answers
--- (`store-stores`), keeps (`store_kept`) and ends at. Assumes nothing.
+-- (`store_stores`), keeps (`store_kept`) and ends at. Assumes nothing.
 use mathlib.Core.Path.{◌≡◌, refl, sym, ◌∙◌, ap, subst}
 use mathlib.Core.List.{List, []}
 use mathlib.Core.Option.{Option, none, some}

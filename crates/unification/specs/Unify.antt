@@ -97,7 +97,7 @@ module _ (shape : ℕ → Shape) where
   unify_shapes k f B l (over h ps) r (over g qs) = unify_heads (same_head h g) f B ps qs
 
   -- "The same end twice .. is a yes that binds nothing." So two sorts that differ are gone down by their one part that
-  -- differs first, and never unify: `different-sorts-do-not-unify`.
+  -- differs first, and never unify: `different_sorts_do_not_unify`.
   abbrev pub unify_ends : Bool → ℕ → (Binds → ℕ → ℕ → Unifies) → Binds → ℕ → ℕ → Unifies
   unify_ends true k f B l r = yes_with B
   unify_ends false k f B l r = unify_shapes k f B l (shape l) r (shape r)

@@ -1,6 +1,6 @@
 -- Robinson's theorem about the entry, whatever it is given: a refusal names the first failing check and leaves the words; a no means that there is
 -- no solution, and leaves the words; a yes leaves words whose bindings are the most general solution, with the words past the variables as they
--- were, and these words pass every check again. Checks that pass make the lists and bindings those of `unify-is-robinson`, so depth never
+-- were, and these words pass every check again. Checks that pass make the lists and bindings those of `unify_is_robinson`, so depth never
 -- ends; the bindings of a yes name places, all below 65,535, so the words left hold exactly them. Assumes nothing.
 use mathlib.Core.Path.{◌≡◌, refl, ap, sym, ◌∙◌, subst}
 use mathlib.Core.List.{List, ◌++◌}
