@@ -14,7 +14,7 @@ import sys
 ROOT = os.path.join(os.path.dirname(os.path.abspath(__file__)), "..")
 # Paths are given from the file's own folder, from the root, or from one of these.
 BASES = ["", "crates", "oracle", "oracle/lists", "oracle/compare"]
-SKIPPED = {".git", "target"}
+SKIPPED = {".git", "target", "out"}
 # Parts of paths that every crate has, and paths that a build writes.
 GENERIC = re.compile(r"(src|specs|proofs|must-fail)(/(Inner/?|lib\.rt)?)?|(\.\./)?target/.*|.*/target/release|crate/.*|crates/crate/.*")
 FILE = r"`([\w/]+\.(?:antt|rt))`"
