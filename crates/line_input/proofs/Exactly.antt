@@ -3,7 +3,7 @@
 -- call. Assumes nothing.
 use mathlib.Core.Path.{◌≡◌, refl, sym, ◌∙◌, ap, subst}
 use mathlib.Core.Bool.{Bool, true, false}
-use mathlib.Core.List.{List, [], ◌∷◌, ◌++◌, map, append_assoc, append-nil}
+use mathlib.Core.List.{List, [], ◌∷◌, ◌++◌, map}
 use Prim.Native.Nat.{ℕ, zero, suc, ◌+◌, ◌<◌, ◌≤◌}
 use native.Mathlib.Omega.{arith}
 use lib.ListN.{length, take, length-append, length-take}
@@ -13,8 +13,8 @@ use Rattle.held_line.specs.Lines.{lines, whole}
 use Rattle.held_line.specs.Holding.{holding}
 use Rattle.held_line.proofs.Held.{holding_held}
 use Rattle.held_line.proofs.Glued.{glue, glue_none, no_lines, after_lf, after_byte}
-use Rattle.line_input.specs.Taking.{Came, line_ends, going, take_line, Reached, reached, goes_on}
-use Rattle.line_input.specs.Taking.{Following, some_line, no_line, following_by, following_of, next_line, line_by_line, then_lines, held_lines}
+use Rattle.line_input.specs.Taking.{Came, line_ends, going, take_line, goes_on}
+use Rattle.line_input.specs.Taking.{Following, some_line, no_line, following_by, next_line, line_by_line, then_lines, held_lines}
 use Rattle.line_input.proofs.Taking.{taken_lf, taken_byte}
 
 module _ (most : ℕ) where

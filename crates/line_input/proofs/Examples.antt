@@ -1,8 +1,7 @@
 -- Lines taken, computed: an input in four parts, with a line that goes over three of them and is longer than the three bytes held,
 -- an empty line, and a last line without LF; and no input. Assumes nothing.
 use mathlib.Core.Path.{◌≡◌, refl}
-use mathlib.Core.List.{List, [], ◌∷◌, map}
-use Prim.Native.Nat.{ℕ}
+use mathlib.Core.List.{[], ◌∷◌, map}
 use Rattle.text_out.specs.Quoted.{bytes_of}
 use Rattle.held_line.specs.Holding.{holding}
 use Rattle.line_input.specs.Taking.{take_line, goes_on, following_by, then_lines, line_by_line}

@@ -1,7 +1,6 @@
 -- What each function of the crate leaves, from what its callees leave: what is left of the bytes comes to what the whole comes
 -- to, and a read is one part more. Assumes nothing.
 use mathlib.Core.Path.{◌≡◌, refl, sym, ◌∙◌, ap, ap₂, subst}
-use mathlib.Core.Bool.{true, false}
 use mathlib.Core.List.{List, [], ◌∷◌, ◌++◌}
 use Prim.Native.Nat.{ℕ, zero, suc, ◌+◌, ◌-◌, ◌<◌, ◌≤◌}
 use native.Mathlib.Omega.{arith}
@@ -9,14 +8,13 @@ use native.Mathlib.Numerals.{add-one}
 use native.Mathlib.Nat.{zero-add}
 use lib.ListN.{length, take, drop, get_or, length-append, length-take, length-drop, drop_of_length-le}
 use lib.Seq.{slice, drop-cons, drop-drop, get_or-take, length-take-le}
-use lib.Dec.{eqb}
 use borrow.Author.Tests.{eq-eqb, ne_eqb}
 use Rattle.held_line.specs.Holding.{holding, line_kept, held_at}
-use Rattle.held_line.proofs.Held.{Holding, byte_held}
+use Rattle.held_line.proofs.Held.{byte_held}
 use Rattle.line_input.specs.declared.Input.{Input}
 use Rattle.line_input.specs.declared.LineFound.{LineFound}
 use Rattle.line_input.specs.declared.LineFound.TheVariants.{Nothing, Line, End, Failed}
-use Rattle.line_input.specs.Taking.{Came, line_ends, going, take_line, Reached, reached, goes_on, some_line, no_line, following_by, following_of}
+use Rattle.line_input.specs.Taking.{Came, line_ends, going, take_line, reached, goes_on, some_line, following_by, following_of}
 use Rattle.line_input.specs.Answers.{unread, SaysLine, most_reads, NextLine}
 use Rattle.line_input.specs.Inner.Answers.{held_of, input_of, Takes, end_of, Got, failed, at_its_end, bytes, AfterRead, ReadSome}
 use Rattle.line_input.proofs.Taking.{taken_lf, taken_byte, taken_none, grows, left_is_last, goes_further}

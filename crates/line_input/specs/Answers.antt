@@ -5,7 +5,7 @@ use Rattle.std.proofs.Math.Seq.{slice}
 use Rattle.line_input.specs.declared.Input.{Input}
 use Rattle.line_input.specs.declared.LineFound.{LineFound}
 use Rattle.line_input.specs.declared.LineFound.TheVariants.{Nothing, Line, End, Failed}
-use Rattle.line_input.specs.Taking.{Came, line_ends, going, take_line, Reached, reached, goes_on}
+use Rattle.line_input.specs.Taking.{going, take_line, Reached, reached, goes_on}
 use Rattle.line_input.specs.Taking.{some_line, no_line, following_of}
 
 -- the bytes of the buffer that are not taken yet

@@ -1,4 +1,4 @@
-// Standard input line by line. Of a line longer than its memory only as much is held as the memory has bytes, and it is
+// An input line by line. Of a line longer than its memory only as much is held as the memory has bytes, and it is
 // passed over up to its LF.
 //
 // The work is done by `take`, on the bytes that a read has put into the buffer. For an input in any parts the calls of
@@ -10,10 +10,10 @@ ghost use Rattle.line_input.specs.Answers.{NextLine};
 ghost use Rattle.line_input.specs.Inner.Answers.{Takes, ReadSome, end_of};
 
 use held_line::hold;
-use libc::STDIN_FILENO;
+use std::io::Read;
 
 // What the search for a line came to: more bytes are needed, a line, no further line, or a read that failed.
-#[derive(Drop)]
+#[derive(Clone, Copy, Drop)]
 pub enum LineFound {
     Nothing,
     Line,
@@ -22,7 +22,7 @@ pub enum LineFound {
 }
 
 // The bytes of the buffer from `at` up to `end` are not taken yet, and so many bytes of the line are held.
-#[derive(Drop)]
+#[derive(Clone, Copy, Drop)]
 pub struct Input {
     pub at: usize,
     pub end: usize,
@@ -100,29 +100,25 @@ fn at_end(held: usize) -> Input
 }
 
 // Reads once, and goes on with a line of which there are some bytes.
-fn read_some(buffer: &mut [u8], line: &mut [u8], held: usize) -> Input
+fn read_some<R: Read>(reader: &mut R, buffer: &mut [u8], line: &mut [u8], held: usize) -> Input
     requires { held ≤ length line.old }
     ensures { ReadSome buffer.new line.old held line.new result }
 {
-    let got = libc::read(STDIN_FILENO, buffer);
-    if got < 0 {
-        return Input {
+    match reader.read(buffer) {
+        Err(_) => Input {
             at: 0,
             end: 0,
             length: held,
             found: LineFound::Failed,
-        };
+        },
+        Ok(0) => at_end(held),
+        Ok(end) => take(buffer, line, 0, end, held),
     }
-    if got == 0 {
-        return at_end(held);
-    }
-    let end = io::count(got, buffer);
-    take(buffer, line, 0, end, held)
 }
 
-// The next line of standard input. A proved loop has to end, and nothing says that an input does: the loop counts its
+// The next line of the input. A proved loop has to end, and nothing says that an input does: the loop counts its
 // turns down, from a number that no run uses up.
-pub fn next_line(buffer: &mut [u8], line: &mut [u8], input: Input) -> Input
+pub fn next_line<R: Read>(reader: &mut R, buffer: &mut [u8], line: &mut [u8], input: Input) -> Input
     ensures { NextLine buffer.old line.old input buffer.new line.new result }
 {
     let mut current = take(buffer, line, input.at, input.end, 0);
@@ -133,7 +129,7 @@ pub fn next_line(buffer: &mut [u8], line: &mut [u8], input: Input) -> Input
             LineFound::Nothing => {}
             _ => return current,
         }
-        current = read_some(buffer, line, current.length);
+        current = read_some(reader, buffer, line, current.length);
         turns -= 1;
     }
     current
