@@ -8,7 +8,7 @@ use resolved_sort::SortId;
 use unification::{InferSortId, Lengths};
 
 // How many rows the lists of a problem have, how many components and choices a leaf has, and the default sort.
-#[derive(Drop)]
+#[derive(Clone, Copy, Drop)]
 pub struct Sizes {
     pub exprs: u16,
     pub constraints: u16,
@@ -23,7 +23,7 @@ pub struct Sizes {
 // another leaf had its measure. The Rust's `best`, whose measure, sorts and choices stand in the scratch.
 // They are read out at the leaf, because backtracking takes back the bindings that they are read from. An incumbent
 // that is tied and never beaten means that the list is ambiguous.
-#[derive(Drop)]
+#[derive(Clone, Copy, Drop)]
 pub struct State {
     pub lengths: Lengths,
     pub best: bool,
@@ -43,7 +43,7 @@ pub fn with_lengths(st: State, lengths: Lengths) -> State
 
 // What a branch has taken on: how many variables are on the trail, and how many components and choices there are.
 // It goes by value: what a try adds is gone when the try is over, and no push needs a pop.
-#[derive(Drop)]
+#[derive(Clone, Copy, Drop)]
 pub struct Branch {
     pub trail: u16,
     pub measure: u16,
@@ -51,7 +51,7 @@ pub struct Branch {
 }
 
 // Whether a leaf was found; or the room that ended, 15 or 16, with the lengths then.
-#[derive(Drop)]
+#[derive(Clone, Copy, Drop)]
 pub enum Answer {
     Found(State),
     Missed(State),
@@ -60,7 +60,7 @@ pub enum Answer {
 
 // What comes next, where the Rust hands a closure to solve_widening: the constraints from a number on; or the sources
 // `from` .. `to` of a Join, widened to its target, and then the constraints from `then` on.
-#[derive(Drop)]
+#[derive(Clone, Copy, Drop)]
 pub enum Next {
     Solve(u16),
     Source {
@@ -72,7 +72,7 @@ pub enum Next {
 }
 
 // The places that a try makes equal: two, or two and then two more.
-#[derive(Drop)]
+#[derive(Clone, Copy, Drop)]
 pub enum Pairs {
     One(InferSortId, InferSortId),
     Two(InferSortId, InferSortId, InferSortId, InferSortId),
@@ -80,7 +80,7 @@ pub enum Pairs {
 
 // What a try adds to its branch: nothing; a component; components that stand in the scratch
 // already; the position of an overload.
-#[derive(Drop)]
+#[derive(Clone, Copy, Drop)]
 pub enum Step {
     Nothing,
     Component(u16),
@@ -89,7 +89,7 @@ pub enum Step {
 }
 
 // Up to four places.
-#[derive(Drop)]
+#[derive(Clone, Copy, Drop)]
 pub struct Four(
     pub InferSortId,
     pub InferSortId,
@@ -99,7 +99,7 @@ pub struct Four(
 
 // Tries one after another: each of the places against another one, on its left (up) or on its right, the first with the
 // component `first`, each next with one more.
-#[derive(Drop)]
+#[derive(Clone, Copy, Drop)]
 pub struct Tries {
     pub ids: Four,
     pub count: u16,
@@ -109,7 +109,7 @@ pub struct Tries {
 }
 
 // The tries of a widening, with the lengths then; none where neither side has a list; or no room.
-#[derive(Drop)]
+#[derive(Clone, Copy, Drop)]
 pub enum Widenings {
     These(Tries, Lengths),
     NoList(Lengths),
@@ -118,7 +118,7 @@ pub enum Widenings {
 
 // What stands at the place of a literal: a number sort that it may have, with its component; a free
 // variable; or anything else.
-#[derive(Drop)]
+#[derive(Clone, Copy, Drop)]
 pub enum LitAt {
     Number(u16),
     Free,
@@ -126,7 +126,7 @@ pub enum LitAt {
 }
 
 // A sort that was made or found, with the lengths then; none; or no room for a sort.
-#[derive(Drop)]
+#[derive(Clone, Copy, Drop)]
 pub enum Made {
     At(SortId, Lengths),
     Nothing(Lengths),
@@ -134,7 +134,7 @@ pub enum Made {
 }
 
 // How reading the sorts of all expressions out ended: all are there; one has none; or no room.
-#[derive(Drop)]
+#[derive(Clone, Copy, Drop)]
 pub enum Extracted {
     All(Lengths),
     Nothing(Lengths),
@@ -142,7 +142,7 @@ pub enum Extracted {
 }
 
 // How two measures compare: Ordering in the Rust.
-#[derive(Drop)]
+#[derive(Clone, Copy, Drop)]
 pub enum Ordering {
     Less,
     Equal,
@@ -150,7 +150,7 @@ pub enum Ordering {
 }
 
 // Whether to go on after one of several alternatives, told whether a leaf was found so far; or room ended.
-#[derive(Drop)]
+#[derive(Clone, Copy, Drop)]
 pub enum Went {
     On(State, bool),
     Stop(u16, Lengths),
