@@ -6,13 +6,13 @@ use resolved_sort::{Counts, Run, SortId};
 use unification::InferSortId;
 
 // The number of an expression.
-#[derive(Drop)]
+#[derive(Clone, Copy, Drop)]
 pub struct ExprId(pub u16);
 
 // What a name resolved to: a variable in scope, an operation with its sort, or a built-in.
 // A variable is one of the equation's, a parameter or global of the process, or a binder. An operation is a declared
 // constructor or mapping. A built-in is polymorphic: its sort follows from the inferred sorts of its arguments.
-#[derive(Drop)]
+#[derive(Clone, Copy, Drop)]
 pub enum NameTarget {
     Variable,
     Op(SortId),
@@ -20,14 +20,14 @@ pub enum NameTarget {
 }
 
 // The kind of a number literal: `0` is natural, every other literal positive.
-#[derive(Drop)]
+#[derive(Clone, Copy, Drop)]
 pub enum LitKind {
     Positive,
     Natural,
 }
 
 // One overload of a name: what it resolves to, and the place of its sort.
-#[derive(Drop)]
+#[derive(Clone, Copy, Drop)]
 pub struct Overload {
     pub target: NameTarget,
     pub sort: InferSortId,
@@ -46,7 +46,7 @@ pub struct Overload {
 // variable, since one at a time they depend on their order: the first source binds the variable by equality, so that a
 // set literal's FSet fixes it before a source is typed that admits only Set. The Join finds the common supersort in one
 // step.
-#[derive(Drop)]
+#[derive(Clone, Copy, Drop)]
 pub enum Constraint {
     Sub {
         lhs: InferSortId,
@@ -73,7 +73,7 @@ pub enum Constraint {
 }
 
 // How many rows the lists beside sorts, nodes and bindings have. Base names have no ceiling.
-#[derive(Drop)]
+#[derive(Clone, Copy, Drop)]
 pub struct Rows {
     pub exprs: u16,
     pub names: usize,
@@ -83,7 +83,7 @@ pub struct Rows {
 }
 
 // How many sorts and argument entries there are after a call, and how many components and choices it handed out.
-#[derive(Drop)]
+#[derive(Clone, Copy, Drop)]
 pub struct Outputs {
     pub counts: Counts,
     pub components: u16,
@@ -91,7 +91,7 @@ pub struct Outputs {
 }
 
 // What the solver answers. A refusal is the code of the first failing check; no room is 15 or 16.
-#[derive(Drop)]
+#[derive(Clone, Copy, Drop)]
 pub enum Solved {
     Refused(u16),
     NoRoom(u16),

@@ -18,7 +18,7 @@ pub struct NodeId(pub u16);
 pub struct SortVar(pub u16);
 
 // A place taken apart.
-#[derive(Drop)]
+#[derive(Clone, Copy, Drop)]
 pub enum Place {
     Sort(SortId),
     Node(NodeId),
@@ -27,7 +27,7 @@ pub enum Place {
 // What a node says. Its parts are places, and the domain of a function is a run of places where the Rust has a Vec.
 // A sort that may still hold variables. What is fully known is a sort number, a leaf; structure is spelled out only
 // around the variables that inference has to solve, such as `List(?t)` for an empty list.
-#[derive(Drop)]
+#[derive(Clone, Copy, Drop)]
 pub enum InferSort {
     Generic {
         op: ComplexSort,
@@ -41,7 +41,7 @@ pub enum InferSort {
 }
 
 // What unify answers as an entry.
-#[derive(Drop)]
+#[derive(Clone, Copy, Drop)]
 pub enum Unified {
     Refused(u16),
     Yes,
@@ -60,42 +60,42 @@ pub struct Lengths {
 }
 
 // How a try of unify ended, with how many variables are on the trail then.
-#[derive(Drop)]
+#[derive(Clone, Copy, Drop)]
 pub enum Tried {
     Yes(u16),
     No(u16),
 }
 
 // What a variable is bound to.
-#[derive(Drop)]
+#[derive(Clone, Copy, Drop)]
 pub enum Bound {
     To(InferSortId),
     Free,
 }
 
 // The variable that stands at a place, where one does.
-#[derive(Drop)]
+#[derive(Clone, Copy, Drop)]
 pub enum VarAt {
     Is(SortVar),
     Nothing,
 }
 
 // What stands for a variable that is free: a sort of the list, or nothing.
-#[derive(Drop)]
+#[derive(Clone, Copy, Drop)]
 pub enum Default {
     Is(SortId),
     Nothing,
 }
 
 // Whether a node was made: its place and the lengths then, or no room.
-#[derive(Drop)]
+#[derive(Clone, Copy, Drop)]
 pub enum Pushed {
     At(InferSortId, Lengths),
     Full,
 }
 
 // So many of three places: at most three count.
-#[derive(Drop)]
+#[derive(Clone, Copy, Drop)]
 pub struct Three {
     pub first: InferSortId,
     pub second: InferSortId,
@@ -105,7 +105,7 @@ pub struct Three {
 
 // How listing the strictly wider or narrower sorts of a place ended, with the lengths then: their places, nearest
 // first; no list; or no room, with its code.
-#[derive(Drop)]
+#[derive(Clone, Copy, Drop)]
 pub enum Related {
     These(Three, Lengths),
     NoList(Lengths),
