@@ -1,6 +1,5 @@
 -- `generic` interns the row of its kind and part, which is the row of the container. Assumes nothing.
 use Rattle.std.proofs.Common.{◌∙◌, ap, []}
-use Rattle.resolved_sort.specs.Storage.{Row}
 use Rattle.resolved_sort.specs.Rows.{intern_row}
 use Rattle.resolved_sort.proofs.BoundsCode as law
 use Rattle.sort_interner.proofs.generic.Goals as goal

@@ -6,7 +6,6 @@ use Rattle.resolved_sort.specs.declared.ComplexSort.{ComplexSort}
 use Rattle.resolved_sort.specs.declared.Run.{Run}
 use Rattle.resolved_sort.specs.declared.ResolvedSort.TheVariants.{Unit, Primitive, Container, Function, Def, TypeVar}
 use Rattle.resolved_sort.specs.Storage.{resolved}
-use Rattle.sort_interner.proofs.Apart.{none_below}
 use Rattle.sort_interner.proofs.row_of.Goals as goal
 
 typevar_past : (kind part : ℕ) (run : Run) → 13 ≤ kind → TypeVar part ≡ resolved kind part run

@@ -1,5 +1,5 @@
 -- One more number is put at each turn, and after the last all of them are. Assumes nothing.
-use Rattle.std.proofs.Common.{arith, ◌∙◌, length-set}
+use Rattle.std.proofs.Common.{arith, length-set}
 use Rattle.sort_interner.proofs.Stores as law
 use Rattle.sort_interner.proofs.words_of.Goals as goal
 
