@@ -23,13 +23,14 @@ use sort_interner::get;
 use words::word;
 
 // A number that may be missing: Option<u32> and Option<u8> in the Rust.
-#[derive(Drop)]
+#[derive(Clone, Copy, Drop)]
 pub enum Amount {
     Of(u8),
     Nothing,
 }
 
 // The pair that a primitive sort makes with a row. Only another primitive sort makes one.
+#[tactic(auto, unfolding(resolved_sort::specs::Inner::Pairs::with_primitive))]
 fn with_primitive(lhs: Sort, rhs: ResolvedSort) -> Pair
     ensures { result ≡ with_primitive lhs rhs }
 {
@@ -47,6 +48,7 @@ fn with_primitive(lhs: Sort, rhs: ResolvedSort) -> Pair
 }
 
 // The pair that a container makes with a row. Two containers make one whatever their operators.
+#[tactic(auto, unfolding(resolved_sort::specs::Inner::Pairs::with_container))]
 fn with_container(lhs_op: ComplexSort, lhs_sub: SortId, rhs: ResolvedSort) -> Pair
     ensures { result ≡ with_container lhs_op lhs_sub rhs }
 {
@@ -69,6 +71,7 @@ fn with_container(lhs_op: ComplexSort, lhs_sub: SortId, rhs: ResolvedSort) -> Pa
 }
 
 // The pair of two functions. With different numbers of arguments they make none.
+#[tactic(auto, unfolding(resolved_sort::specs::Inner::Pairs::with_function))]
 fn functions(lhs: Run, lhs_range: SortId, rhs: Run, rhs_range: SortId) -> Pair
     ensures { result ≡ with_function lhs lhs_range (ResolvedSort.Function rhs rhs_range) }
 {
@@ -86,6 +89,7 @@ fn functions(lhs: Run, lhs_range: SortId, rhs: Run, rhs_range: SortId) -> Pair
 }
 
 // The pair that a function makes with a row.
+#[tactic(auto, unfolding(resolved_sort::specs::Inner::Pairs::with_function))]
 fn with_function(lhs: Run, lhs_range: SortId, rhs: ResolvedSort) -> Pair
     ensures { result ≡ with_function lhs lhs_range rhs }
 {
@@ -100,6 +104,7 @@ fn with_function(lhs: Run, lhs_range: SortId, rhs: ResolvedSort) -> Pair
 }
 
 // Two rows side by side: the Rust's `match (self.get(lhs), self.get(rhs))`. Any two of different forms are Other.
+#[tactic(auto, using(crate::proofs::Rows::pair_of_read), unfolding(resolved_sort::specs::Inner::Pairs::pair_of))]
 pub fn pair(sorts: &[u16], lhs: SortId, rhs: SortId) -> Pair
     ensures { result ≡ pair_at sorts.now lhs.0 rhs.0 }
 {
@@ -118,6 +123,7 @@ pub fn pair(sorts: &[u16], lhs: SortId, rhs: SortId) -> Pair
 // So the sub-sort relation of the mCRL2 book (Definition 15.1.8) combines positions: Equal is the unit, since a
 // position that agrees contributes nothing; two that say the same stay; a clash, or one side Unrelated, makes the whole
 // Unrelated.
+#[tactic(auto, using(crate::proofs::Orders::combined_equal), unfolding(crate::specs::Inner::Answers::combined))]
 fn combine(lhs: PartialOrder, rhs: PartialOrder) -> PartialOrder
     ensures { result ≡ combined lhs rhs }
 {
@@ -140,6 +146,7 @@ fn combine(lhs: PartialOrder, rhs: PartialOrder) -> PartialOrder
 }
 
 // How general a number sort is, Pos 0 to Real 3. Bool is no number.
+#[tactic(auto, unfolding(crate::specs::Inner::Answers::generality, resolved_sort::specs::Tree::family, resolved_sort::specs::Tree::level))]
 pub fn number_generality(sort: Sort) -> Amount
     ensures { result ≡ amount_of (generality sort) }
 {
@@ -166,6 +173,7 @@ fn compare(lhs: u8, rhs: u8) -> PartialOrder
 }
 
 // The order of two primitive sorts. Bool is related to no number.
+#[tactic(auto, using(crate::proofs::Orders::order_of_primitives))]
 fn primitive_partial_cmp(lhs: Sort, rhs: Sort) -> PartialOrder
     ensures { result ≡ order (flat (primitive lhs)) (flat (primitive rhs)) }
 {
@@ -183,6 +191,7 @@ fn primitive_partial_cmp(lhs: Sort, rhs: Sort) -> PartialOrder
 
 // The order of two container operators, FSet below Set and FBag below Bag. A set and a bag are Unrelated.
 // Only the finiteness marker orders them: a finite set is a set, and a finite bag a bag. List has none.
+#[tactic(auto, unfolding(resolved_sort::specs::Tree::family_op, resolved_sort::specs::Tree::level_op))]
 fn generic_op_partial_cmp(lhs: ComplexSort, rhs: ComplexSort) -> PartialOrder
     ensures { result ≡ order_of (le_op true lhs rhs) (le_op false lhs rhs) }
 {
@@ -321,6 +330,7 @@ fn number_distance(from: u8, to: u8) -> Widening
 }
 
 // The steps from one primitive sort up to another, all at the head. Down from a wider one there are none.
+#[tactic(auto, using(crate::proofs::Orders::distance_of_primitives))]
 fn primitive_distance(from: Sort, to: Sort) -> Widening
     ensures { result ≡ widening_of (distance true (flat (primitive from)) (flat (primitive to))) }
 {
@@ -340,6 +350,7 @@ fn primitive_distance(from: Sort, to: Sort) -> Widening
 }
 
 // The step from one container operator up to another, 0 or 1. From Set to FSet there is none.
+#[tactic(auto, using(crate::proofs::Orders::steps_of_ops))]
 fn op_distance(from: ComplexSort, to: ComplexSort) -> Amount
     ensures { result ≡ amount_of (op_steps from to) }
 {
@@ -353,6 +364,7 @@ fn op_distance(from: ComplexSort, to: ComplexSort) -> Amount
 
 // The distance of sorts with head steps of their own, with the steps of parts before, and with the distance of a part:
 // the part's head and interior are both interior.
+#[tactic(auto, unfolding(crate::specs::Inner::Answers::beneath))]
 fn within(head: u8, before: u8, part: Widening) -> Widening
     ensures { result ≡ beneath head before part }
 {
@@ -369,6 +381,7 @@ fn within(head: u8, before: u8, part: Widening) -> Widening
 }
 
 // The steps of a first argument and those of the rest.
+#[tactic(auto, unfolding(crate::specs::Inner::Answers::more_steps))]
 fn plus(first: u8, rest: Amount) -> Amount
     ensures { result ≡ more_steps first rest }
 {
