@@ -1,6 +1,6 @@
 -- Bytes set to zero one after another: what is left to clear comes to what the whole comes to. What the steps say holds of the
 -- cleared buffer too, since they stand before it. Assumes nothing.
-use mathlib.Core.Path.{◌≡◌, refl, sym, ◌∙◌, ap, subst}
+use mathlib.Core.Path.{◌≡◌, ◌∙◌, ap}
 use mathlib.Core.List.{List, [], ◌∷◌, ◌++◌, append_assoc, append-nil}
 use Prim.Native.Nat.{ℕ, suc, ◌+◌, ◌-◌, ◌<◌, ◌≤◌}
 use native.Mathlib.Omega.{arith}
@@ -11,7 +11,7 @@ use Rattle.sort_text.specs.Parse as Parse
 use Rattle.sort_text.specs.Parse.{Parsed, parsed, stuck}
 use Rattle.sort_recogniser.specs.declared.Recognised.{Recognised}
 use Rattle.sort_recogniser.specs.declared.Recognised.TheVariants.{Done, Stuck}
-use Rattle.sort_recogniser.specs.Inner.Says.{Says, Wrote}
+use Rattle.sort_recogniser.specs.Inner.Says.{Says}
 use Rattle.sort_recogniser.specs.Inner.Cleared.{steps_written, zero_from, LineRecognised}
 
 -- one byte more

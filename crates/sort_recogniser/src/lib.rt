@@ -15,13 +15,14 @@ use sort_lexer::{Meaning, Token, token_from, word_meaning};
 use sort_text::{FUNCTION_STEP, MOST_ARGUMENTS};
 
 // The position after a sort and the number of steps written; or where the first token stands that cannot follow.
-#[derive(Drop)]
+#[derive(Clone, Copy, Drop)]
 pub enum Recognised {
     Done(usize, usize),
     Stuck(usize),
 }
 
 // The step of a basic sort.
+#[tactic(auto, unfolding(resolved_sort::specs::Storage::kind_flat))]
 fn step_of_sort(sort: Sort) -> u8
     ensures { result ≡ kind_flat (primitive sort) }
 {
@@ -35,6 +36,7 @@ fn step_of_sort(sort: Sort) -> u8
 }
 
 // The step of a container.
+#[tactic(auto, unfolding(resolved_sort::specs::Storage::kind_op))]
 fn step_of_op(op: ComplexSort) -> u8
     ensures { result ≡ kind_op op }
 {
@@ -175,6 +177,7 @@ fn whole_line(line: &[u8], out: &mut [u8]) -> Recognised
 }
 
 // How many steps are written. Of a line that is no sort none count.
+#[tactic(auto, unfolding(crate::specs::Inner::Cleared::steps_written))]
 fn steps_written(found: Recognised) -> usize
     ensures { result ≡ steps_written found }
 {
