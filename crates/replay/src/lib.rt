@@ -6,8 +6,8 @@ ghost use Rattle.std.specs.Prelude.{◌≡◌, ◌+◌, ◌*◌, ◌≤◌};
 ghost use Rattle.replay.specs.Inner.Numbers.{max_fields, number_at, ended_of, fields_of, no_fields};
 ghost use Rattle.replay.specs.Inner.Lines.{near_enough, kept, store_from, one_more, counted_of};
 
-use libc::STDOUT_FILENO;
 use line_input::LineFound;
+use std::io;
 use words::{MOST_WORD, put};
 
 // How many numbers a line has at most, how many words of a list it gives at most, and the largest count.
@@ -24,7 +24,7 @@ pub const HELD_LINE: usize = 257;
 const MOST_VALUE: u64 = 999999999999999999;
 
 // A number that stands at a position of a line: its value, and the position past its digits.
-#[derive(Drop)]
+#[derive(Clone, Copy, Drop)]
 pub enum Number {
     Is(u64, usize),
     Nothing,
@@ -40,7 +40,7 @@ pub struct Fields {
 
 // What came of a line: nothing to say, an answer as recorded, another answer, another binding of a variable than the
 // one recorded, another word left than the one recorded, or no line of the form.
-#[derive(Drop)]
+#[derive(Clone, Copy, Drop)]
 pub enum Verdict {
     Quiet,
     Agrees,
@@ -52,7 +52,7 @@ pub enum Verdict {
 
 // How many lines were read, how many of them had an answer to check (of a question, or words left), and how many lines
 // do not agree. Each stops at the largest number.
-#[derive(Drop)]
+#[derive(Clone, Copy, Drop)]
 pub struct Tally {
     pub lines: u64,
     pub questions: u64,
@@ -216,61 +216,58 @@ pub fn counted(tally: Tally, verdict: Verdict) -> Tally
 }
 
 // The number of a line, before what there is to say of it.
-fn say_line(number: u64) {
-    io::write_all(STDOUT_FILENO, b"line ");
-    io::print_decimal(STDOUT_FILENO, number);
+fn say_line(out: &impl Print, number: u64) -> io::Result<()> {
+    print!(out; "line {number}")
 }
 
-fn say_bad(number: u64) {
-    say_line(number);
-    io::write_all(STDOUT_FILENO, b" is not of the form\n");
+fn say_bad(out: &impl Print, number: u64) -> io::Result<()> {
+    say_line(out, number)?;
+    println!(out; " is not of the form")
 }
 
 // A line whose answer is another: what is another, and its number.
-fn say_other(number: u64, text: &[u8], what: &[u8], got: u64) {
-    say_line(number);
-    io::write_all(STDOUT_FILENO, b": ");
-    io::write_all(STDOUT_FILENO, text);
-    io::write_all(STDOUT_FILENO, what);
-    io::print_decimal(STDOUT_FILENO, got);
-    io::write_all(STDOUT_FILENO, b"\n");
+fn say_other(out: &impl Print, number: u64, text: &[u8], what: &[u8], got: u64) -> io::Result<()> {
+    say_line(out, number)?;
+    out.write_all(b": ")?;
+    out.write_all(text)?;
+    out.write_all(what)?;
+    println!(out; "{got}")
 }
 
 // What there is to say of a line.
-pub fn say(number: u64, text: &[u8], verdict: Verdict) {
+pub fn say(out: &impl Print, number: u64, text: &[u8], verdict: Verdict) -> io::Result<()> {
     match verdict {
-        Verdict::Quiet => {}
-        Verdict::Agrees => {}
-        Verdict::Differs(got) => say_other(number, text, b": got ", got),
+        Verdict::Quiet => Ok(()),
+        Verdict::Agrees => Ok(()),
+        Verdict::Differs(got) => say_other(out, number, text, b": got ", got),
         Verdict::BindsOther(variable) => say_other(
+            out,
             number,
             text,
             b": another binding of variable ",
             variable as u64,
         ),
-        Verdict::LeavesOther(word) => say_other(number, text, b": left ", word as u64),
-        Verdict::NotOfForm => say_bad(number),
+        Verdict::LeavesOther(word) => say_other(out, number, text, b": left ", word as u64),
+        Verdict::NotOfForm => say_bad(out, number),
     }
 }
 
 // How many answers were checked and how many lines do not agree. A read that failed and a last list
 // that is not complete count as a line each.
-pub fn finish(tally: Tally, found: LineFound, complete: bool) {
+pub fn finish(out: &impl Print, tally: Tally, found: LineFound, complete: bool) -> io::Result<()> {
     let mut all = tally;
     match found {
         LineFound::Failed => {
-            io::write_all(STDOUT_FILENO, b"the input cannot be read\n");
+            println!(out; "the input cannot be read")?;
             all = counted(all, Verdict::NotOfForm);
         }
         _ => {}
     }
     if !complete {
-        io::write_all(STDOUT_FILENO, b"the last list is not complete\n");
+        println!(out; "the last list is not complete")?;
         all = counted(all, Verdict::NotOfForm);
     }
-    io::write_all(STDOUT_FILENO, b"checked ");
-    io::print_decimal(STDOUT_FILENO, all.questions);
-    io::write_all(STDOUT_FILENO, b" answers, ");
-    io::print_decimal(STDOUT_FILENO, all.differ);
-    io::write_all(STDOUT_FILENO, b" differ\n");
+    let questions = all.questions;
+    let differ = all.differ;
+    println!(out; "checked {questions} answers, {differ} differ")
 }
