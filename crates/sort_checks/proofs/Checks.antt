@@ -52,6 +52,9 @@ module _ (ws : List ℕ) (n e : ℕ) where
               (length ws - 4096) (λ x. omega arith) (λ x. omega arith),
         )
 
+-- check 1, each way
+pub ruleset lent = (lent_false_by_sorts, lent_false_by_entries, lent_false_by_words, lent_true_without_entries, lent_is_by_entries)
+
 module _ (ws : List ℕ) (n : ℕ) where
   pub six_false_by_count : n < 6 → false ≡ fixed_six ws n
   unfolding fixed_six

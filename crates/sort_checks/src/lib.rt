@@ -16,7 +16,7 @@ use sort_interner::{get, same_rows};
 use words::word;
 
 // Check 1: n sorts and e entries are within the ceilings and within what was lent. Neither may be past the slice's end.
-#[tactic(auto, using(crate::proofs::Checks::lent_false_by_sorts, crate::proofs::Checks::lent_false_by_entries, crate::proofs::Checks::lent_false_by_words, crate::proofs::Checks::lent_true_without_entries, crate::proofs::Checks::lent_is_by_entries,))]
+#[tactic(auto, using(crate::proofs::Checks::lent))]
 pub fn within_lent(sorts: &[u16], n: usize, e: usize) -> bool
     ensures { result ≡ within_lent sorts.now n e }
 {
