@@ -163,3 +163,20 @@ module _ (bs : List ℕ) (v n m : ℕ) where
 pub variable_fine : (ns : List ℕ) (d n v i : ℕ) (says : InferSort) (u : SortVar) → says ≡ Var u → ltb u.0 v ≡ node_parts_fine ns d n v i says
 unfolding node_parts_fine
 variable_fine ns d n v i says u e = sym (ap (node_parts_fine ns d n v i) e)
+
+-- each way through the code of a check
+pub ruleset nodes_lent = (nodes_above, entries_above, words_short, no_entries, by_entries)
+
+pub ruleset variables_lent = (variables_above, variables_by_words)
+
+pub ruleset kinds = (variable_kind, low_kind, known_kind)
+
+pub ruleset functions = (many_arguments, run_outside, range_stray, by_arguments)
+
+pub ruleset says = (generic_fine, function_is, variable_fine)
+
+pub ruleset kind_and_parts = (unknown_kind, kind_then_parts)
+
+pub ruleset bindings = (free_fine, bound_fine)
+
+pub ruleset bindings_passed = (none_passed, bad_binding, one_passed, all_passed)

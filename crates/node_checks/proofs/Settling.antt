@@ -171,3 +171,12 @@ pub rounds_over : (ns bs : List ℕ) (m v r : ℕ) (vs : List Bool) → r ≡ v 
     → (b : Bool) → b ≡ all_true (take v vs) → b ≡ acyclic ns m (binds_of bs v)
 unfolding acyclic
 rounds_over ns bs m v r vs i e b x = x ∙ (ap all_true e ∙ ap (λ (n : ℕ). all_true (rounds ns m (binds_of bs v) n)) (i ∙ sym (length_binds bs v)))
+
+-- each way through the code
+pub ruleset bindings = (free_settled, bound_settled)
+
+pub ruleset arguments = (run_begins, argument_open, argument_passed, run_ends)
+
+pub ruleset node_ways = (generic_settled, domain_open, range_decides, variable_settled)
+
+pub ruleset flags = (flag_open, flag_passed, flags_all)

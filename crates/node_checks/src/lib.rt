@@ -25,6 +25,7 @@ use unification::{
 use words::word;
 
 // Check 1: m nodes and d entries are within the ceilings and within what was lent.
+#[tactic(auto, using(crate::proofs::Laws::nodes_lent))]
 pub fn nodes_within_lent(nodes: &[u16], m: usize, d: usize) -> bool
     ensures { result ≡ nodes_within_lent nodes.now m d }
 {
@@ -44,6 +45,7 @@ pub fn nodes_within_lent(nodes: &[u16], m: usize, d: usize) -> bool
 }
 
 // Check 1: v bindings likewise.
+#[tactic(auto, using(crate::proofs::Laws::variables_lent))]
 pub fn bindings_within_lent(binds: &[u16], v: usize) -> bool
     ensures { result ≡ bindings_within_lent binds.now v }
 {
@@ -82,6 +84,7 @@ fn arguments_placed(nodes: &[u16], n: usize, m: usize, start: u16, count: u16) -
 }
 
 // Whether a node has a known kind: a container, a function or a variable.
+#[tactic(auto, using(crate::proofs::Laws::kinds))]
 fn kind_fine(kind: u16) -> bool
     ensures { result ≡ node_kind_fine kind }
 {
@@ -96,6 +99,7 @@ fn kind_fine(kind: u16) -> bool
 
 // Whether a node that is a function has at most 16 arguments, a run inside the d entries, and parts that are places
 // below it.
+#[tactic(auto, using(crate::proofs::Laws::functions))]
 fn function_fine(
     nodes: &[u16],
     d: usize,
@@ -122,6 +126,7 @@ fn function_fine(
 }
 
 // Whether the parts of a node are fine: places below it, and a variable below v.
+#[tactic(auto, using(crate::proofs::Laws::says))]
 fn parts_fine(nodes: &[u16], d: usize, n: usize, v: usize, id: NodeId, says: InferSort) -> bool
     ensures { result ≡ node_parts_fine nodes.now d n v id.0 says }
 {
@@ -148,6 +153,7 @@ fn nodes_fine(nodes: &[u16], m: usize, d: usize, n: usize, v: usize) -> bool
 }
 
 // Whether a node is fine.
+#[tactic(auto, using(crate::proofs::Laws::kind_and_parts))]
 fn node_fine(nodes: &[u16], d: usize, n: usize, v: usize, id: NodeId) -> bool
     ensures { result ≡ node_fine nodes.now d n v id.0 }
 {
@@ -158,6 +164,7 @@ fn node_fine(nodes: &[u16], d: usize, n: usize, v: usize, id: NodeId) -> bool
 }
 
 // Check 6: each of the v bindings is free or names a place.
+#[tactic(auto, using(crate::proofs::Laws::bindings_passed))]
 fn bindings_fine(binds: &[u16], v: usize, n: usize, m: usize) -> bool
     ensures { result ≡ bindings_fine n m (binds_of binds.now v) }
 {
@@ -171,6 +178,7 @@ fn bindings_fine(binds: &[u16], v: usize, n: usize, m: usize) -> bool
     true
 }
 
+#[tactic(auto, using(crate::proofs::Laws::bindings))]
 fn binding_fine(n: usize, m: usize, w: u16) -> bool
     ensures { result ≡ binding_fine n m (binding_of w) }
 {
@@ -198,6 +206,7 @@ fn place_settled(flags: &[bool], place: InferSortId) -> bool
 }
 
 // Whether each of a run of arguments is settled.
+#[tactic(auto, using(crate::proofs::Settling::arguments))]
 fn arguments_settled(nodes: &[u16], flags: &[bool], start: u16, count: u16) -> bool
     ensures { result ≡ all_settled flags.now (node_entries_of nodes.now start count) }
 {
@@ -215,6 +224,7 @@ fn arguments_settled(nodes: &[u16], flags: &[bool], start: u16, count: u16) -> b
 }
 
 // Whether a node is settled, by the variables and the nodes below it.
+#[tactic(auto, using(crate::proofs::Settling::node_ways))]
 fn node_settled(nodes: &[u16], vars: &[bool], flags: &[bool], id: NodeId) -> bool
     ensures { result
         ≡ shape_settled vars.now flags.now
@@ -245,6 +255,7 @@ fn settle_nodes(nodes: &[u16], m: usize, vars: &[bool], flags: &mut [bool])
     }
 }
 
+#[tactic(auto, using(crate::proofs::Settling::bindings))]
 fn binding_settled(flags: &[bool], w: u16) -> bool
     ensures { result ≡ binding_settled flags.now (binding_of w) }
 {
@@ -268,6 +279,7 @@ fn settle_vars(binds: &[u16], v: usize, flags: &[bool], vars: &mut [bool])
 }
 
 // Whether all flags are set.
+#[tactic(auto, using(crate::proofs::Settling::flags))]
 fn all_set(flags: &[bool]) -> bool
     ensures { result ≡ all_true flags.now }
 {
