@@ -4,8 +4,8 @@
 usage: docs/weaken.py [--laws A,B] NAME LIST [LABEL..]
 
 LIST has a block for each weakening: a line `= LABEL`, then lines as a must-fail edit has them (`file:`, `old:`, `new:`; a `file:` line holds for the
-pairs after it, an `old:` text stands once in its file). Each block is applied to a copy of crates/NAME below target/weaken/ and checked by `rt dev`
-(the environment's RT instead, where set), over an incremental folder of its own. With --laws only those files of proofs/ are checked, and those that they
+pairs after it, an `old:` text stands once in its file). Each block is applied to a copy of crates/NAME below target/weaken/ and checked by `rt check`
+(the environment's RT instead, where set), which keeps its work in that copy's out/. With --laws only those files of proofs/ are checked, and those that they
 import: quicker, for laws about definitions alone. Printed for each: the places of the first errors, or NOT REFUSED, or BAD where the edit could not be applied. The log is target/weaken/NAME/logs/LABEL. The status is 0 if all were refused.
 
 Where something refuses, read the log: a definition is pinned if a fact no longer holds, not if the text of a proof no longer fits.
@@ -60,7 +60,7 @@ def only(name, crate, laws):
         if law not in left:
             left.add(law)
             text = (crate / "proofs" / f"{law}.antt").read_text()
-            todo += re.findall(rf"^use Rattle·{name}·proofs\.proofs\.(\w+)", text, re.M)
+            todo += re.findall(rf"^use Rattle\.{name}\.proofs\.(\w+)", text, re.M)
     lib = crate / "proofs" / "Lib.antt"
     declared = re.findall(r"^pub mod (\w+)$", lib.read_text(), re.M)
     lib.write_text("".join(f"pub mod {law}\n" for law in declared if law in left))
@@ -77,28 +77,22 @@ def main():
         sys.exit(__doc__)
     name, wanted = words[0], words[2:]
     scratch = ROOT / "target" / "weaken" / name
-    (scratch / "target" / "inc").mkdir(parents=True, exist_ok=True)
-    (scratch / "logs").mkdir(exist_ok=True)
+    (scratch / "logs").mkdir(parents=True, exist_ok=True)
     (scratch / "crates").mkdir(exist_ok=True)
     shutil.copy(ROOT / "crates.txt", scratch / "crates.txt")
-    for part in ("rlib", "stamp", "log"):
-        link = scratch / "target" / part
-        if not link.is_symlink():
-            link.symlink_to(ROOT / "target" / part)
     for crate in (ROOT / "crates").iterdir():
-        link = scratch / "crates" / crate.name
-        if crate.name != name and not link.is_symlink():
-            link.symlink_to(crate)
-    warm = scratch / "target" / "inc" / name
-    if not warm.exists() and (ROOT / "target" / "inc" / name).exists():
-        shutil.copytree(ROOT / "target" / "inc" / name, warm)
+        below = scratch / "crates" / crate.name
+        for part in ("src", "specs", "proofs"):
+            if crate.name != name and (crate / part).exists():
+                shutil.rmtree(below / part, ignore_errors=True)
+                shutil.copytree(crate / part, below / part)
     copy = scratch / "crates" / name
     all_refused = True
     for label, lines in blocks(Path(words[1])).items():
         if wanted and label not in wanted:
             continue
-        shutil.rmtree(copy, ignore_errors=True)
         for part in ("src", "specs", "proofs"):
+            shutil.rmtree(copy / part, ignore_errors=True)
             if (ROOT / "crates" / name / part).exists():
                 shutil.copytree(ROOT / "crates" / name / part, copy / part)
         wrong = applied(copy, lines)
@@ -109,7 +103,7 @@ def main():
         if laws:
             only(name, copy, laws)
         began = time.time()
-        run = subprocess.run([os.environ.get("RT", "rt"), "dev", name], cwd=scratch, capture_output=True, text=True)
+        run = subprocess.run([os.environ.get("RT", "rt"), "check"], cwd=copy, capture_output=True, text=True)
         said = run.stdout + run.stderr
         (scratch / "logs" / label).write_text(said)
         took = f"{time.time() - began:.0f} s"
@@ -118,7 +112,7 @@ def main():
             print(f"{label}: NOT REFUSED ({took})", flush=True)
             all_refused = False
         elif errors:
-            places = dict.fromkeys(place.removeprefix(str(copy) + "/") for place, _ in errors)
+            places = dict.fromkeys(place.removeprefix("./") for place, _ in errors)
             print(f"{label}: refused at {', '.join(list(places)[:6])} ({took})", flush=True)
         else:
             print(f"{label}: refused, see its log ({took})", flush=True)
