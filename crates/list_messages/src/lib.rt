@@ -17,6 +17,7 @@ const STARTS: [usize; 34] = [
 ];
 
 // The number of a message.
+#[tactic(auto, unfolding(crate::specs::Inner::Messages::message_number))]
 fn place_of(form: Form) -> usize
     ensures { (result ≡ message_number form) × (result < 33) }
 {
