@@ -91,12 +91,12 @@ operand-returns-in_default t c =
 pub rest-returns-then-k-eq-MOST_ARGUMENTS : goal.rest-returns-then-k-eq-MOST_ARGUMENTS
 rest-returns-then-k-eq-MOST_ARGUMENTS t c =
     way.rest_full c.args.line.now c.args.at c.requires.0 c.args.out.now c.args.n c.requires.1
-    c.token_from-found.result c.token_from-found.ensures c.in-Hash.is _ c.if-k-eq-MOST_ARGUMENTS.true
+    c.token_from-found.result c.token_from-found.ensures (search rules) _ c.if-k-eq-MOST_ARGUMENTS.true
 
 pub rest-operand-requires : goal.rest-operand-requires
 rest-operand-requires t c =
     let g = way.later c.args.line.now c.args.at c.requires.0 c.args.out.now c.args.n c.requires.1
-    c.token_from-found.result c.token_from-found.ensures Hash c.in-Hash.is in
+    c.token_from-found.result c.token_from-found.ensures Hash (search rules) in
     let d = way.later_within c.args.line.now c.args.at c.requires.0 c.args.out.now c.args.n c.requires.1
     c.token_from-found.result c.token_from-found.ensures in
     (omega (arith, g, d), (d, omega (arith, g, d)))
@@ -104,7 +104,7 @@ rest-operand-requires t c =
 pub rest-rest-requires : goal.rest-rest-requires
 rest-rest-requires t c =
     let g = way.later c.args.line.now c.args.at c.requires.0 c.args.out.now c.args.n c.requires.1
-    c.token_from-found.result c.token_from-found.ensures Hash c.in-Hash.is in
+    c.token_from-found.result c.token_from-found.ensures Hash (search rules) in
     let d = way.later_within c.args.line.now c.args.at c.requires.0 c.args.out.now c.args.n c.requires.1
     c.token_from-found.result c.token_from-found.ensures in
     let x = way.done_room c.args.line.now _ _ _ _ _ _ _ _ c.operand.ensures c.in-Done.is in
@@ -116,7 +116,7 @@ rest-rest-requires t c =
 pub rest-sort-requires : goal.rest-sort-requires
 rest-sort-requires t c =
     let g = way.later c.args.line.now c.args.at c.requires.0 c.args.out.now c.args.n c.requires.1
-    c.token_from-found.result c.token_from-found.ensures Arrow c.in-Arrow.is in
+    c.token_from-found.result c.token_from-found.ensures Arrow (search rules) in
     let d = way.later_within c.args.line.now c.args.at c.requires.0 c.args.out.now c.args.n c.requires.1
     c.token_from-found.result c.token_from-found.ensures in
     (omega (arith, g, d), (d, omega (arith, g, d)))
@@ -124,12 +124,12 @@ rest-sort-requires t c =
 pub rest-bounds-out-m : goal.rest-bounds-out-m
 rest-bounds-out-m t c =
     way.range_room c.args.line.now c.args.at c.requires.0 c.args.out.now c.args.n c.requires.1
-    c.token_from-found.result c.token_from-found.ensures c.in-Arrow.is c.args.k _ c.sort.auto.out _ c.sort.ensures _ _ c.in-Done-sort.is
+    c.token_from-found.result c.token_from-found.ensures (search rules) c.args.k _ c.sort.auto.out _ c.sort.ensures _ _ c.in-Done-sort.is
 
 pub rest-overflow_add-result : goal.rest-overflow_add-result
 rest-overflow_add-result t c =
     let y = way.range_room c.args.line.now c.args.at c.requires.0 c.args.out.now c.args.n c.requires.1
-    c.token_from-found.result c.token_from-found.ensures c.in-Arrow.is c.args.k _ c.sort.auto.out _ c.sort.ensures _ _ c.in-Done-sort.is in
+    c.token_from-found.result c.token_from-found.ensures (search rules) c.args.k _ c.sort.auto.out _ c.sort.ensures _ _ c.in-Done-sort.is in
     search rules
 
 pub rest-returns-then-k-eq1 : goal.rest-returns-then-k-eq1
@@ -140,24 +140,24 @@ rest-returns-then-k-eq1 t c =
 pub rest-returns-in-Done : goal.rest-returns-in-Done
 rest-returns-in-Done t c =
     way.rest_goes_on c.args.line.now c.args.at c.requires.0 c.args.out.now c.args.n c.requires.1
-    c.token_from-found.result c.token_from-found.ensures c.in-Hash.is _ c.if-k-eq-MOST_ARGUMENTS.false c.requires.3 _ _
+    c.token_from-found.result c.token_from-found.ensures (search rules) _ c.if-k-eq-MOST_ARGUMENTS.false c.requires.3 _ _
     c.operand.ensures _ _ c.in-Done.is _ _ c.rest.ensures
 
 pub rest-returns-in-Stuck : goal.rest-returns-in-Stuck
 rest-returns-in-Stuck t c =
     way.rest_passes c.args.line.now c.args.at c.requires.0 c.args.out.now c.args.n c.requires.1
-    c.token_from-found.result c.token_from-found.ensures c.in-Hash.is _ c.if-k-eq-MOST_ARGUMENTS.false c.requires.3 _ _
+    c.token_from-found.result c.token_from-found.ensures (search rules) _ c.if-k-eq-MOST_ARGUMENTS.false c.requires.3 _ _
     c.operand.ensures _ c.in-Stuck.is
 
 pub rest-returns-in-Done-sort : goal.rest-returns-in-Done-sort
 rest-returns-in-Done-sort t c =
     way.range_done c.args.line.now c.args.at c.requires.0 c.args.out.now c.args.n c.requires.1
-    c.token_from-found.result c.token_from-found.ensures c.in-Arrow.is c.args.k _ c.sort.auto.out _ c.sort.ensures _ _ _ c.in-Done-sort.is refl
+    c.token_from-found.result c.token_from-found.ensures (search rules) c.args.k _ c.sort.auto.out _ c.sort.ensures _ _ _ c.in-Done-sort.is refl
 
 pub rest-returns-in-Stuck-sort : goal.rest-returns-in-Stuck-sort
 rest-returns-in-Stuck-sort t c =
     way.range_passes c.args.line.now c.args.at c.requires.0 c.args.out.now c.args.n c.requires.1
-    c.token_from-found.result c.token_from-found.ensures c.in-Arrow.is c.args.k _ c.sort.auto.out _ c.sort.ensures _ c.in-Stuck-sort.is
+    c.token_from-found.result c.token_from-found.ensures (search rules) c.args.k _ c.sort.auto.out _ c.sort.ensures _ c.in-Stuck-sort.is
 
 pub rest-returns-else-k-eq1 : goal.rest-returns-else-k-eq1
 rest-returns-else-k-eq1 t c =
