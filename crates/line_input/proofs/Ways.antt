@@ -1,7 +1,7 @@
 -- What each function of the crate leaves, from what its callees leave: what is left of the bytes comes to what the whole comes
 -- to, and a read is one part more. Assumes nothing.
 use mathlib.Core.Path.{◌≡◌, refl, sym, ◌∙◌, ap, ap₂, subst}
-use mathlib.Core.List.{List, [], ◌∷◌, ◌++◌}
+use mathlib.Core.List.{List, [], ◌∷◌, ◌++◌, append_assoc, append-nil}
 use Prim.Native.Nat.{ℕ, zero, suc, ◌+◌, ◌-◌, ◌<◌, ◌≤◌}
 use native.Mathlib.Omega.{arith}
 use native.Mathlib.Numerals.{add-one}
@@ -9,14 +9,17 @@ use native.Mathlib.Nat.{zero-add}
 use lib.ListN.{length, take, drop, get_or, length-append, length-take, length-drop, drop_of_length-le}
 use lib.Seq.{slice, drop-cons, drop-drop, get_or-take, length-take-le}
 use borrow.Author.Tests.{eq-eqb, ne_eqb}
+use Rattle.std.specs.Prelude.{Option, Some, None}
+use Rattle.std.specs.Io.KnownBytes.{Keeps, Consumes, IsAtEnd}
+use Rattle.held_line.specs.Lines.{whole}
 use Rattle.held_line.specs.Holding.{holding, line_kept, held_at}
 use Rattle.held_line.proofs.Held.{byte_held}
 use Rattle.line_input.specs.declared.Input.{Input}
 use Rattle.line_input.specs.declared.LineFound.{LineFound}
 use Rattle.line_input.specs.declared.LineFound.TheVariants.{Nothing, Line, End, Failed}
-use Rattle.line_input.specs.Taking.{Came, line_ends, going, take_line, reached, goes_on, some_line, following_by, following_of}
-use Rattle.line_input.specs.Answers.{unread, SaysLine, most_reads, NextLine}
-use Rattle.line_input.specs.Inner.Answers.{held_of, input_of, Takes, end_of, Got, failed, at_its_end, bytes, AfterRead, ReadSome}
+use Rattle.line_input.specs.Taking.{Came, line_ends, going, take_line, Reached, reached, goes_on, some_line, following_by, following_of}
+use Rattle.line_input.specs.Answers.{unread, SaysLine, most_reads, EndsInput, NextLineFrom}
+use Rattle.line_input.specs.Inner.Answers.{held_of, input_of, Takes, end_of, Got, failed, at_its_end, bytes, AfterRead, GivenBy, ReadSomeFrom}
 use Rattle.line_input.proofs.Taking.{taken_lf, taken_byte, taken_none, grows, left_is_last, goes_further}
 
 abbrev input : ℕ → ℕ → ℕ → LineFound → Input
@@ -167,8 +170,40 @@ module _ (buffer line : List ℕ) (from end before : ℕ) (left : List ℕ) (r :
         let f = (grows (length line) (slice from end buffer) (take before line)).few (omega (arith, length-take-le before line b, b)) in
         omega (arith, held_count, f)
 
--- reading on: one part more each time
-pub record ReadOn (buffer₀ line₀ : List ℕ) (current₀ : Input) (buffer line : List ℕ) (current : Input) (turns : ℕ) : Type 0 where
+  -- bytes say nothing of the end of the input
+  end_by : (n : ℕ) (c : Came) → EndsInput (input_of from end n c).found c → ⊥
+  unfolding input_of EndsInput
+  end_by n (line_ends l bs) e = e
+  end_by n (going l) e = e
+
+  pub takes_no_end : EndsInput r.found taken → ⊥
+  takes_no_end e =
+      end_by (length (slice from end buffer)) taken (subst (λ (x : Input). EndsInput x.found taken) t.answer e)
+
+-- the bytes that a reader has given
+nothing_given : (a : Option (List ℕ)) → Consumes a a []
+nothing_given None = tt
+nothing_given (Some xs) = refl
+
+given_more : (a b c : Option (List ℕ)) (bs cs : List ℕ) → Consumes a b bs → Consumes b c cs → Consumes a c (bs ++ cs)
+given_more None b c bs cs p q = tt
+given_more (Some xs) None c bs cs p q = absurd p
+given_more (Some xs) (Some ys) None bs cs p q = absurd q
+given_more (Some xs) (Some ys) (Some zs) bs cs p q = p ∙ (ap (λ l. bs ++ l) q ∙ sym (append_assoc bs cs zs))
+
+given_still : (a b c : Option (List ℕ)) (bs : List ℕ) → Consumes a b bs → Keeps b c → Consumes a c bs
+given_still None b c bs p q = tt
+given_still (Some xs) None c bs p q = absurd p
+given_still (Some xs) (Some ys) None bs p q = absurd q
+given_still (Some xs) (Some ys) (Some zs) bs p q = p ∙ ap (λ l. bs ++ l) (sym q)
+
+whole_more : (ps : List (List ℕ)) (p : List ℕ) → whole (ps ++ (p ∷ [])) ≡ whole ps ++ p
+whole_more [] p = append-nil p
+whole_more (q ∷ ps) p = ap (λ l. q ++ l) (whole_more ps p) ∙ sym (append_assoc q (whole ps) p)
+
+-- reading on: one part more each time. The bytes c₀ came before the first read.
+pub record ReadOn (buffer₀ line₀ : List ℕ) (current₀ : Input) (buffer line : List ℕ) (current : Input) (turns : ℕ)
+    (c₀ : Came) (known₀ known : Option (List ℕ)) : Type 0 where
   pub parts : List (List ℕ)
   pub says : (c : Came) → SaysLine current₀.found (reached c []) (take current₀.length line₀) (unread buffer₀ current₀)
       → SaysLine current.found (goes_on (length line₀) parts c) (take current.length line) (unread buffer current)
@@ -178,10 +213,13 @@ pub record ReadOn (buffer₀ line₀ : List ℕ) (current₀ : Input) (buffer li
   pub line_long : length line ≡ length line₀
   pub buffer_long : length buffer ≡ length buffer₀
   pub reads : current.found ≡ Nothing → length parts + turns ≡ most_reads
+  pub given : Consumes known₀ known (whole parts)
+  pub ended : EndsInput current.found (goes_on (length line₀) parts c₀).came → 0 < length buffer₀ → IsAtEnd known
 
-pub nothing_read : (buffer line : List ℕ) (current : Input) → current.length ≤ length line → ReadOn buffer line current buffer line current most_reads
+pub nothing_read : (buffer line : List ℕ) (current : Input) (c₀ : Came) (known : Option (List ℕ)) → current.length ≤ length line
+    → (EndsInput current.found c₀ → ⊥) → ReadOn buffer line current buffer line current most_reads c₀ known known
 unfolding goes_on
-nothing_read buffer line current f =
+nothing_read buffer line current c₀ known f n =
     record {
       parts = [];
       says = λ c s. s;
@@ -191,6 +229,8 @@ nothing_read buffer line current f =
       line_long = refl;
       buffer_long = refl;
       reads = λ e. omega arith;
+      given = nothing_given known;
+      ended = λ e p. absurd (n e);
     }
 
 failed_is_something : Failed ≡ Nothing → ⊥
@@ -203,8 +243,9 @@ line_is_something : Line ≡ Nothing → ⊥
 line_is_something e = let z : ◌≡◌ {A = ℕ} 0 1 = cc e in omega arith
 
 module _ (buffer₀ line₀ : List ℕ) (current₀ : Input) (buffer line : List ℕ) (current : Input) (turns : ℕ)
-    (g : ReadOn buffer₀ line₀ current₀ buffer line current turns) (f : current.found ≡ Nothing)
-    (buffer' : List ℕ) (k : length buffer' ≡ length buffer) where
+    (c₀ : Came) (known₀ known : Option (List ℕ))
+    (g : ReadOn buffer₀ line₀ current₀ buffer line current turns c₀ known₀ known) (f : current.found ≡ Nothing)
+    (buffer' : List ℕ) (k : length buffer' ≡ length buffer) (known' : Option (List ℕ)) where
   -- no line so far
   so_far : (c : Came) → SaysLine current₀.found (reached c []) (take current₀.length line₀) (unread buffer₀ current₀)
       → goes_on (length line₀) g.parts c ≡ reached (going (take current.length line)) []
@@ -212,9 +253,9 @@ module _ (buffer₀ line₀ : List ℕ) (current₀ : Input) (buffer line : List
   so_far c s = (subst (λ x. SaysLine x (goes_on (length line₀) g.parts c) (take current.length line) (unread buffer current)) f (g.says c s)).0
 
   -- a read that fails
-  read_fails : ReadOn buffer₀ line₀ current₀ buffer' line (input 0 0 current.length Failed) (turns - 1)
-  unfolding SaysLine
-  read_fails =
+  read_fails : Keeps known known' → ReadOn buffer₀ line₀ current₀ buffer' line (input 0 0 current.length Failed) (turns - 1) c₀ known₀ known'
+  unfolding SaysLine EndsInput
+  read_fails h =
       record {
         parts = g.parts;
         says = λ c s. (so_far c s, refl);
@@ -224,6 +265,8 @@ module _ (buffer₀ line₀ : List ℕ) (current₀ : Input) (buffer line : List
         line_long = g.line_long;
         buffer_long = k ∙ g.buffer_long;
         reads = λ e. absurd (failed_is_something e);
+        given = given_still known₀ known known' (whole g.parts) g.given h;
+        ended = λ e p. absurd e;
       }
 
   -- the end of the input
@@ -232,44 +275,65 @@ module _ (buffer₀ line₀ : List ℕ) (current₀ : Input) (buffer line : List
   some_held n [] e = absurd (omega (arith, e))
   some_held n (b ∷ l) e = refl
 
-  ends_by : (n : ℕ) → current.length ≡ n → ReadOn buffer₀ line₀ current₀ buffer' line (end_of n) (turns - 1)
-  unfolding SaysLine end_of following_by
-  ends_by zero e =
-      record {
-        parts = g.parts;
-        says = λ c s. (ap following_of (so_far c s) ∙ ap (λ (n : ℕ). following_by (going (take n line)) []) e, refl, refl);
-        behind = subst (λ (n : ℕ). drop n line ≡ drop n line₀) e g.behind;
-        longer = omega (arith, g.longer, e);
-        few = omega arith;
-        line_long = g.line_long;
-        buffer_long = k ∙ g.buffer_long;
-        reads = λ x. absurd (end_is_something x);
-      }
-  ends_by (suc n) e =
-      record {
-        parts = g.parts;
-        says = λ c s. ap following_of (so_far c s) ∙ (ap (λ (n : ℕ). following_by (going (take n line)) []) e
-            ∙ some_held n (take (suc n) line) (length-take-le (suc n) line (omega (arith, g.few, g.line_long, e))));
-        behind = subst (λ (n : ℕ). drop n line ≡ drop n line₀) e g.behind;
-        longer = omega (arith, g.longer, e);
-        few = omega (arith, g.few, e);
-        line_long = g.line_long;
-        buffer_long = k ∙ g.buffer_long;
-        reads = λ x. absurd (line_is_something x);
-      }
+  module _ (at_end : Consumes known known' [] × (0 < length buffer' → IsAtEnd known')) where
+    still_given : Consumes known₀ known' (whole g.parts)
+    still_given =
+        subst (Consumes known₀ known') (append-nil (whole g.parts))
+        (given_more known₀ known known' (whole g.parts) [] g.given at_end.0)
 
-  module _ (positive : 0 < turns) (line' : List ℕ) (long : length line' ≡ length line) (r : Input) where
+    none_left : 0 < length buffer₀ → IsAtEnd known'
+    none_left p = at_end.1 (omega (arith, p, k, g.buffer_long))
+
+    ends_by : (n : ℕ) → current.length ≡ n → ReadOn buffer₀ line₀ current₀ buffer' line (end_of n) (turns - 1) c₀ known₀ known'
+    unfolding SaysLine end_of following_by
+    ends_by zero e =
+        record {
+          parts = g.parts;
+          says = λ c s. (ap following_of (so_far c s) ∙ ap (λ (n : ℕ). following_by (going (take n line)) []) e, refl, refl);
+          behind = subst (λ (n : ℕ). drop n line ≡ drop n line₀) e g.behind;
+          longer = omega (arith, g.longer, e);
+          few = omega arith;
+          line_long = g.line_long;
+          buffer_long = k ∙ g.buffer_long;
+          reads = λ x. absurd (end_is_something x);
+          given = still_given;
+          ended = λ x p. none_left p;
+        }
+    ends_by (suc n) e =
+        record {
+          parts = g.parts;
+          says = λ c s. ap following_of (so_far c s) ∙ (ap (λ (n : ℕ). following_by (going (take n line)) []) e
+              ∙ some_held n (take (suc n) line) (length-take-le (suc n) line (omega (arith, g.few, g.line_long, e))));
+          behind = subst (λ (n : ℕ). drop n line ≡ drop n line₀) e g.behind;
+          longer = omega (arith, g.longer, e);
+          few = omega (arith, g.few, e);
+          line_long = g.line_long;
+          buffer_long = k ∙ g.buffer_long;
+          reads = λ x. absurd (line_is_something x);
+          given = still_given;
+          ended = λ x p. none_left p;
+        }
+
+  module _ (s₀ : SaysLine current₀.found (reached c₀ []) (take current₀.length line₀) (unread buffer₀ current₀))
+      (positive : 0 < turns) (line' : List ℕ) (long : length line' ≡ length line) (r : Input) where
     -- bytes
-    bytes_read : (n : ℕ) → Takes buffer' line 0 n current.length line' r → ReadOn buffer₀ line₀ current₀ buffer' line' r (turns - 1)
+    one_part_more : (part : List ℕ) (c : Came)
+        → SaysLine current₀.found (reached c []) (take current₀.length line₀) (unread buffer₀ current₀)
+        → goes_on (length line₀) (g.parts ++ (part ∷ [])) c ≡ reached (take_line (length line) (take current.length line) part) []
     unfolding goes_on
-    bytes_read n t =
+    one_part_more part c s =
+        goes_further (length line₀) g.parts (part ∷ []) c (take current.length line) (so_far c s)
+        ∙ ap (λ (m : ℕ). reached (take_line m (take current.length line) part) []) (sym g.line_long)
+
+    bytes_read : (n : ℕ) → Takes buffer' line 0 n current.length line' r → Consumes known known' (take n buffer')
+        → ReadOn buffer₀ line₀ current₀ buffer' line' r (turns - 1) c₀ known₀ known'
+    bytes_read n t h =
         let inside : current.length ≤ length line = omega (arith, g.few, g.line_long) in
         let part = slice 0 n buffer' in
         record {
           parts = g.parts ++ (part ∷ []);
           says = λ c s. subst (λ x. SaysLine r.found x (take r.length line') (unread buffer' r))
-              (sym (goes_further (length line₀) g.parts (part ∷ []) c (take current.length line) (so_far c s)
-              ∙ ap (λ (m : ℕ). reached (take_line m (take current.length line) part) []) (sym g.line_long)))
+              (sym (one_part_more part c s))
               (takes_says buffer' line 0 n current.length line' r t);
           behind = t.behind ∙ drop_later current.length r.length line line₀
               (longer buffer' line 0 n current.length line' r t inside) g.behind;
@@ -278,35 +342,57 @@ module _ (buffer₀ line₀ : List ℕ) (current₀ : Input) (buffer line : List
           line_long = long ∙ g.line_long;
           buffer_long = k ∙ g.buffer_long;
           reads = λ e. omega (arith, length-append g.parts (part ∷ []), g.reads f, positive);
+          given = subst (Consumes known₀ known') (sym (whole_more g.parts part))
+              (given_more known₀ known known' (whole g.parts) part g.given h);
+          ended = λ e p. absurd (takes_no_end buffer' line 0 n current.length line' r t
+              (subst (λ (x : Reached). EndsInput r.found x.came) (one_part_more part c₀ s₀) e));
         }
 
-    read_by : (x : Got) → AfterRead x buffer' line current.length line' r → ReadOn buffer₀ line₀ current₀ buffer' line' r (turns - 1)
-    unfolding AfterRead
-    read_by failed a =
-        subst (λ l. ReadOn buffer₀ line₀ current₀ buffer' l r (turns - 1)) (sym a.1)
-        (subst (λ (x : Input). ReadOn buffer₀ line₀ current₀ buffer' line x (turns - 1)) (sym a.0) read_fails)
-    read_by at_its_end a =
-        subst (λ l. ReadOn buffer₀ line₀ current₀ buffer' l r (turns - 1)) (sym a.1)
-        (subst (λ (x : Input). ReadOn buffer₀ line₀ current₀ buffer' line x (turns - 1)) (sym a.0) (ends_by current.length refl))
-    read_by (bytes n) a = bytes_read n a.1
+    read_by : (x : Got) → AfterRead x buffer' line current.length line' r → GivenBy x known known' buffer'
+        → ReadOn buffer₀ line₀ current₀ buffer' line' r (turns - 1) c₀ known₀ known'
+    unfolding AfterRead GivenBy
+    read_by failed a h =
+        subst (λ l. ReadOn buffer₀ line₀ current₀ buffer' l r (turns - 1) c₀ known₀ known') (sym a.1)
+        (subst (λ (x : Input). ReadOn buffer₀ line₀ current₀ buffer' line x (turns - 1) c₀ known₀ known') (sym a.0) (read_fails h))
+    read_by at_its_end a h =
+        subst (λ l. ReadOn buffer₀ line₀ current₀ buffer' l r (turns - 1) c₀ known₀ known') (sym a.1)
+        (subst (λ (x : Input). ReadOn buffer₀ line₀ current₀ buffer' line x (turns - 1) c₀ known₀ known') (sym a.0)
+        (ends_by h current.length refl))
+    read_by (bytes n) a h = bytes_read n a.1 h
 
-    pub read_once : ReadSome buffer' line current.length line' r → ReadOn buffer₀ line₀ current₀ buffer' line' r (turns - 1)
-    read_once s = read_by s.got s.after
+    pub read_once : ReadSomeFrom known known' buffer' line current.length line' r
+        → ReadOn buffer₀ line₀ current₀ buffer' line' r (turns - 1) c₀ known₀ known'
+    read_once s = read_by s.some.got s.some.after s.given
 
 -- what `next_line` answers
 module _ (buffer line : List ℕ) (i : Input) (line₁ : List ℕ) (first : Input) (t : Takes buffer line i.at i.end 0 line₁ first)
     (long : length line₁ ≡ length line) where
-  pub starts : ReadOn buffer line₁ first buffer line₁ first most_reads
-  starts = nothing_read buffer line₁ first (omega (arith, long, not_too_long buffer line i.at i.end 0 line₁ first t (omega arith)))
+  -- what the bytes that are not taken yet come to
+  abbrev pub came_before : Came
+  came_before = take_line (length line) [] (unread buffer i)
 
-  module _ (buffer' line' : List ℕ) (r : Input) (turns : ℕ) (g : ReadOn buffer line₁ first buffer' line' r turns) where
-    pub line_is_next : (r.found ≡ Nothing → turns ≡ 0) → NextLine buffer line i buffer' line' r
+  pub says_before : SaysLine first.found (reached came_before []) (take first.length line₁) (unread buffer first)
+  says_before = takes_says buffer line i.at i.end 0 line₁ first t
+
+  pub starts : (known : Option (List ℕ)) → ReadOn buffer line₁ first buffer line₁ first most_reads came_before known known
+  starts known =
+      nothing_read buffer line₁ first came_before known
+      (omega (arith, long, not_too_long buffer line i.at i.end 0 line₁ first t (omega arith)))
+      (takes_no_end buffer line i.at i.end 0 line₁ first t)
+
+  module _ (buffer' line' : List ℕ) (r : Input) (turns : ℕ) (known known' : Option (List ℕ))
+      (g : ReadOn buffer line₁ first buffer' line' r turns came_before known known') where
+    pub line_is_next : (r.found ≡ Nothing → turns ≡ 0) → NextLineFrom known known' buffer line i buffer' line' r
     line_is_next used =
         record {
-          parts = g.parts;
-          says = subst (λ (m : ℕ). SaysLine r.found (goes_on m g.parts (take_line (length line) [] (unread buffer i))) (take r.length line') (unread buffer' r))
-              long (g.says (take_line (length line) [] (unread buffer i)) (takes_says buffer line i.at i.end 0 line₁ first t));
-          behind = g.behind ∙ drop_later first.length r.length line₁ line g.longer t.behind;
-          few = omega (arith, g.few, long);
-          turns = λ e. omega (arith, g.reads e, used e);
+          next = record {
+            parts = g.parts;
+            says = subst (λ (m : ℕ). SaysLine r.found (goes_on m g.parts came_before) (take r.length line') (unread buffer' r))
+                long (g.says came_before says_before);
+            behind = g.behind ∙ drop_later first.length r.length line₁ line g.longer t.behind;
+            few = omega (arith, g.few, long);
+            turns = λ e. omega (arith, g.reads e, used e);
+          };
+          given = g.given;
+          ended = λ e p. g.ended (subst (λ (m : ℕ). EndsInput r.found (goes_on m g.parts came_before).came) (sym long) e) p;
         }

@@ -1,11 +1,13 @@
--- What `next_line` answers and leaves, by the bytes that were read. The C library says how many bytes a read has put
--- into the buffer and not which, so these are given as the parts that the reads have put there.
-use Rattle.std.specs.Prelude.{◌≡◌, List, [], ℕ, ◌≤◌, length, take, drop}
+-- What `next_line` answers and leaves, by the bytes that were read, given as the parts that the reads have put into the
+-- buffer. A reader may say which bytes it has left: the parts are those that it gave. Standard input does not say it.
+use Rattle.std.specs.Prelude.{◌≡◌, List, [], ℕ, ◌<◌, ◌≤◌, length, take, drop, Option, ⊤}
+use Rattle.std.specs.Io.KnownBytes.{Consumes, IsAtEnd}
 use Rattle.std.proofs.Math.Seq.{slice}
 use Rattle.line_input.specs.declared.Input.{Input}
 use Rattle.line_input.specs.declared.LineFound.{LineFound}
 use Rattle.line_input.specs.declared.LineFound.TheVariants.{Nothing, Line, End, Failed}
-use Rattle.line_input.specs.Taking.{going, take_line, Reached, reached, goes_on}
+use Rattle.held_line.specs.Lines.{whole}
+use Rattle.line_input.specs.Taking.{Came, line_ends, going, take_line, Reached, reached, goes_on}
 use Rattle.line_input.specs.Taking.{some_line, no_line, following_of}
 
 -- the bytes of the buffer that are not taken yet
@@ -32,3 +34,20 @@ pub record NextLine (buffer line : List ℕ) (input : Input) (buffer-left line-l
   pub behind : drop r.length line-left ≡ drop r.length line
   pub few : r.length ≤ length line
   pub turns : r.found ≡ Nothing → length parts ≡ most_reads
+
+-- Whether an answer says that the input is at its end: it has no further line, or its last line has no LF.
+unfoldable pub EndsInput : LineFound → Came → Type 0
+EndsInput End c = ⊤
+EndsInput Line (going l) = ⊤
+EndsInput Line (line_ends l bs) = ⊥
+EndsInput Failed c = ⊥
+EndsInput Nothing c = ⊥
+
+-- The same of a reader by the bytes that it has left before and after, where those are known: the parts are what it gave,
+-- and none is left where the answer says that the input is at its end. A buffer without room says nothing of the end.
+pub record NextLineFrom (known known-left : Option (List ℕ)) (buffer line : List ℕ) (input : Input)
+    (buffer-left line-left : List ℕ) (r : Input) : Type 0 where
+  pub next : NextLine buffer line input buffer-left line-left r
+  pub given : Consumes known known-left (whole next.parts)
+  pub ended : EndsInput r.found (goes_on (length line) next.parts (take_line (length line) [] (unread buffer input))).came
+      → 0 < length buffer → IsAtEnd known-left

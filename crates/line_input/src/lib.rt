@@ -6,8 +6,8 @@
 #![tactic(auto)]
 
 ghost use Rattle.std.specs.Prelude.{◌≡◌, ◌≤◌, length};
-ghost use Rattle.line_input.specs.Answers.{NextLine};
-ghost use Rattle.line_input.specs.Inner.Answers.{Takes, ReadSome, end_of};
+ghost use Rattle.line_input.specs.Answers.{NextLineFrom};
+ghost use Rattle.line_input.specs.Inner.Answers.{Takes, ReadSomeFrom, end_of};
 
 use held_line::hold;
 use std::io::Read;
@@ -102,7 +102,7 @@ fn at_end(held: usize) -> Input
 // Reads once, and goes on with a line of which there are some bytes.
 fn read_some<R: Read>(reader: &mut R, buffer: &mut [u8], line: &mut [u8], held: usize) -> Input
     requires { held ≤ length line.old }
-    ensures { ReadSome buffer.new line.old held line.new result }
+    ensures { ReadSomeFrom (R.remaining reader.old) (R.remaining reader.new) buffer.new line.old held line.new result }
 {
     match reader.read(buffer) {
         Err(_) => Input {
@@ -119,7 +119,7 @@ fn read_some<R: Read>(reader: &mut R, buffer: &mut [u8], line: &mut [u8], held: 
 // The next line of the input. A proved loop has to end, and nothing says that an input does: the loop counts its
 // turns down, from a number that no run uses up.
 pub fn next_line<R: Read>(reader: &mut R, buffer: &mut [u8], line: &mut [u8], input: Input) -> Input
-    ensures { NextLine buffer.old line.old input buffer.new line.new result }
+    ensures { NextLineFrom (R.remaining reader.old) (R.remaining reader.new) buffer.old line.old input buffer.new line.new result }
 {
     let mut current = take(buffer, line, input.at, input.end, 0);
     let mut turns = u64::MAX;
