@@ -1,5 +1,4 @@
 -- Each answer is what the pair says of the two sorts, by a law, and the call falls by a law. Assumes nothing.
-use Rattle.std.proofs.Common.{arith}
 use Rattle.resolved_sort.proofs.Said as said
 use Rattle.sort_order.proofs.Falls as falling
 use Rattle.sort_order.proofs.MaterializableCode as code
