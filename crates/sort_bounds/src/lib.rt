@@ -49,6 +49,7 @@ fn reaches(up: bool, l: u16, m: u16) -> bool
 }
 
 // The family of a primitive sort, and its level there: the number sorts by generality, Bool alone.
+#[tactic(auto, unfolding(resolved_sort::specs::Tree::family))]
 fn number_family(sort: Sort) -> u16
     ensures { result ≡ family (primitive sort) }
 {
@@ -61,6 +62,7 @@ fn number_family(sort: Sort) -> u16
     }
 }
 
+#[tactic(auto, unfolding(resolved_sort::specs::Tree::level))]
 fn number_level(sort: Sort) -> u16
     ensures { result ≡ level (primitive sort) }
 {
@@ -87,6 +89,7 @@ fn number_side(up: bool, lhs: Sort, rhs: Sort) -> Side
 }
 
 // The family of a container constructor, and its level there: the finite form below the infinite one.
+#[tactic(auto, unfolding(resolved_sort::specs::Tree::family_op))]
 fn op_family(op: ComplexSort) -> u16
     ensures { result ≡ family_op op }
 {
@@ -99,6 +102,7 @@ fn op_family(op: ComplexSort) -> u16
     }
 }
 
+#[tactic(auto, unfolding(resolved_sort::specs::Tree::level_op))]
 fn op_level(op: ComplexSort) -> u16
     ensures { result ≡ level_op op }
 {
