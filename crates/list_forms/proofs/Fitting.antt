@@ -33,13 +33,13 @@ module _ (t : Tokens) (ps : List ℕ) (m i : ℕ) where
       told : is_of (get_or ps i 0) (token_at t i) ≡ r
       told = sym (f ∙ ap (is_of (get_or ps i 0)) e)
 
-      another-word : not r ≡ true → fits_from (suc m) t ps i ≡ false
+      another_word : not r ≡ true → fits_from (suc m) t ps i ≡ false
       unfolding fits_from
-      another-word n = rw (ne_eqb _ _ some, lt-leb _ _ more, told, not-true r n)
+      another_word n = rw (ne_eqb _ _ some, lt-leb _ _ more, told, not-true r n)
 
-      this-word : not r ≡ false → fits_from (suc m) t ps i ≡ fits_from m t ps (i + 1)
+      this_word : not r ≡ false → fits_from (suc m) t ps i ≡ fits_from m t ps (i + 1)
       unfolding fits_from
-      this-word n = rw (ne_eqb _ _ some, lt-leb _ _ more, told, not-false r n)
+      this_word n = rw (ne_eqb _ _ some, lt-leb _ _ more, told, not-false r n)
 
 module _ (t : Tokens) (ps : List ℕ) (i : ℕ) (g : Fitting t ps i) where
   pub fits_in_full : 7 ≤ i → eqb t.count i ≡ fits_from 7 t ps 0
@@ -59,11 +59,11 @@ module _ (t : Tokens) (ps : List ℕ) (i : ℕ) (g : Fitting t ps i) where
 
       module _ (more : i < t.count) (v : ℕ) (e : v ≡ token_at t i) (r : Bool) (f : r ≡ is_of (get_or ps i 0) v) where
         pub fits_not_this_word : not r ≡ true → false ≡ fits_from 7 t ps 0
-        fits_not_this_word n = sym (from_here ∙ another-word t ps (7 - (i + 1)) i some more v e r f n)
+        fits_not_this_word n = sym (from_here ∙ another_word t ps (7 - (i + 1)) i some more v e r f n)
 
         pub fits_so_far : not r ≡ false → Fitting t ps (i + 1)
         fits_so_far n =
-            record { within = omega arith; same = from_here ∙ this-word t ps (7 - (i + 1)) i some more v e r f n }
+            record { within = omega arith; same = from_here ∙ this_word t ps (7 - (i + 1)) i some more v e r f n }
 
 -- m words from `from` on, of which those before i are of the item
 pub record Alike (t : Tokens) (item from to i : ℕ) : Type 0 where

@@ -1,3 +1,3 @@
 -- The laws that the proofs of this crate cite. Assumes nothing.
-mod Fitting
-mod Examples
+pub mod Fitting
+pub mod Examples

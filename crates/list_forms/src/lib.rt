@@ -92,6 +92,7 @@ const NODE_PLACES: u32 = NODE_NAME - (FIRST_NODE as u32);
 
 const NODE_PLACES_END: u32 = NODE_PLACES + CLASS;
 
+#[tactic(auto, unfolding(crate::specs::Items::in_range))]
 fn in_range(lo: u32, hi: u32, t: u32) -> bool
     ensures { result ≡ within lo hi t }
 {
@@ -101,6 +102,7 @@ fn in_range(lo: u32, hi: u32, t: u32) -> bool
     t < hi
 }
 
+#[tactic(auto, unfolding(crate::specs::Items::is_sort_word))]
 fn is_sort(t: u32) -> bool
     ensures { result ≡ is_sort_word t }
 {
@@ -110,6 +112,7 @@ fn is_sort(t: u32) -> bool
     in_range(FIXED, FIXED_END, t)
 }
 
+#[tactic(auto, unfolding(crate::specs::Items::is_place_word))]
 fn is_place(t: u32) -> bool
     ensures { result ≡ is_place_word t }
 {
@@ -123,6 +126,7 @@ fn is_place(t: u32) -> bool
 }
 
 // Whether a word is of an item.
+#[tactic(auto, unfolding(crate::specs::Items::is_of))]
 fn is_of(item: u32, t: u32) -> bool
     ensures { result ≡ is_of item t }
 {
@@ -169,6 +173,7 @@ pub fn token_at(t: Tokens, i: usize) -> u32
 }
 
 // What a word stands for in memory.
+#[tactic(auto, unfolding(crate::specs::Items::word_of))]
 fn word_of(t: u32) -> u16
     ensures { result ≡ word_of t }
 {
@@ -181,6 +186,7 @@ fn word_of(t: u32) -> u16
     (t % CLASS) as u16
 }
 
+#[tactic(auto, unfolding(crate::specs::Items::word_at))]
 pub fn word_at(t: Tokens, i: usize) -> u16
     ensures { result ≡ word_at t i }
 {
@@ -231,6 +237,7 @@ fn minus(a: u16, b: u16) -> u16
 }
 
 // At least one word after the first, all of an item.
+#[tactic(auto, unfolding(crate::specs::Items::list_fits))]
 fn list_fits(t: Tokens, item: u32) -> bool
     ensures { result ≡ list_fits t item }
 {
@@ -241,6 +248,7 @@ fn list_fits(t: Tokens, item: u32) -> bool
 }
 
 // `fn X ... -> X` after a keyword and a name.
+#[tactic(auto, unfolding(crate::specs::Items::function_fits))]
 fn function_fits(t: Tokens, item: u32) -> bool
     ensures { result ≡ function_fits t item }
 {
@@ -261,6 +269,7 @@ fn function_fits(t: Tokens, item: u32) -> bool
 }
 
 // A line not of the format.
+#[tactic(auto, unfolding(crate::specs::Plans::expected))]
 fn expected(form: Form) -> Plan
     ensures { result ≡ expectedOf form }
 {
@@ -283,6 +292,7 @@ fn expected(form: Form) -> Plan
 }
 
 // A line that gives nothing.
+#[tactic(auto, unfolding(crate::specs::Plans::empty_plan))]
 fn nothing() -> Plan
     ensures { result ≡ nothingGiven }
 {
@@ -305,6 +315,7 @@ fn nothing() -> Plan
 }
 
 // So many rows of a list.
+#[tactic(auto, unfolding(crate::specs::Plans::rows_plan))]
 fn rows_plan(list: u16, times: u16, rising: bool, row: [u16; 5]) -> Plan
     ensures { result ≡ rows_plan list times rising row }
 {
@@ -332,6 +343,7 @@ fn row_plan(list: u16, row: [u16; 5]) -> Plan
     rows_plan(list, 1, false, row)
 }
 
+#[tactic(auto, unfolding(crate::specs::Plans::with_free))]
 fn with_free(free: u16, plan: Plan) -> Plan
     ensures { result ≡ with_free free plan }
 {
@@ -340,6 +352,7 @@ fn with_free(free: u16, plan: Plan) -> Plan
     p
 }
 
+#[tactic(auto, unfolding(crate::specs::Plans::with_run))]
 fn with_run(plan: Plan, run: u16, from: usize, to: u16) -> Plan
     ensures { result ≡ with_run plan run from to }
 {
@@ -350,6 +363,7 @@ fn with_run(plan: Plan, run: u16, from: usize, to: u16) -> Plan
     p
 }
 
+#[tactic(auto, unfolding(crate::specs::Plans::with_puts))]
 fn with_puts(plan: Plan, at: usize, value: u16, at2: usize, value2: u16) -> Plan
     ensures { result ≡ with_puts plan at value at2 value2 }
 {
@@ -368,6 +382,7 @@ fn with_put(plan: Plan, at: usize, value: u16) -> Plan
 }
 
 // A sum that stops where counts of rows do.
+#[tactic(auto, unfolding(crate::specs::Plans::add_up))]
 fn add_up(a: u16, n: u16) -> u16
     ensures { result ≡ add_up a n }
 {
@@ -379,6 +394,7 @@ fn add_up(a: u16, n: u16) -> u16
 }
 
 // Word i of the last constraint's row grows by n, where its line is of a kind and the row is kept.
+#[tactic(auto, unfolding(crate::specs::Plans::grown))]
 fn grown(list: &[u16; LIST_WORDS], last: u16, i: usize, n: u16, plan: Plan) -> Plan
     requires { i ≤ 4 }
     ensures { result ≡ grownOf list.now last i n plan }
@@ -398,6 +414,7 @@ fn grown(list: &[u16; LIST_WORDS], last: u16, i: usize, n: u16, plan: Plan) -> P
 }
 
 // Word i of the line is the next name of list k.
+#[tactic(auto, unfolding(crate::specs::Lines::is_next))]
 fn is_next(list: &[u16; LIST_WORDS], t: Tokens, i: usize, class: u32, k: u16) -> bool
     requires { class ≤ most_class }
     ensures { result ≡ is_next list.now t i class k }
@@ -406,6 +423,7 @@ fn is_next(list: &[u16; LIST_WORDS], t: Tokens, i: usize, class: u32, k: u16) ->
 }
 
 // A function row of list k, with its arguments in list e.
+#[tactic(auto, unfolding(crate::specs::Lines::function_plan))]
 fn function_plan(list: &[u16; LIST_WORDS], t: Tokens, k: u16, e: u16) -> Plan
     ensures { result ≡ function_plan list.now t k e }
 {
@@ -423,6 +441,7 @@ fn function_plan(list: &[u16; LIST_WORDS], t: Tokens, k: u16, e: u16) -> Plan
 }
 
 // `sort sK ..`
+#[tactic(auto, unfolding(crate::specs::Lines::sort_plan))]
 fn sort_plan(list: &[u16; LIST_WORDS], t: Tokens) -> Plan
     ensures { result ≡ sort_plan list.now t }
 {
@@ -432,6 +451,7 @@ fn sort_plan(list: &[u16; LIST_WORDS], t: Tokens) -> Plan
     expected(Form::Next)
 }
 
+#[tactic(auto, unfolding(crate::specs::Lines::sort_row))]
 fn sort_row(list: &[u16; LIST_WORDS], t: Tokens) -> Plan
     ensures { result ≡ sort_row list.now t }
 {
@@ -475,6 +495,7 @@ fn sort_row(list: &[u16; LIST_WORDS], t: Tokens) -> Plan
 }
 
 // `var vK nJ`
+#[tactic(auto, unfolding(crate::specs::Lines::var_plan))]
 fn var_plan(list: &[u16; LIST_WORDS], t: Tokens) -> Plan
     ensures { result ≡ var_plan list.now t }
 {
@@ -494,6 +515,7 @@ fn var_plan(list: &[u16; LIST_WORDS], t: Tokens) -> Plan
 }
 
 // `vars N`
+#[tactic(auto, unfolding(crate::specs::Lines::vars_plan))]
 fn vars_plan(t: Tokens) -> Plan
     ensures { result ≡ vars_plan t }
 {
@@ -504,6 +526,7 @@ fn vars_plan(t: Tokens) -> Plan
 }
 
 // The binding of a variable that has none yet; one past the ceiling has no word.
+#[tactic(auto, unfolding(crate::specs::Lines::bound_plan))]
 fn bound_plan(list: &[u16; LIST_WORDS], var: SortVar, place: InferSortId) -> Plan
     ensures { result ≡ bound_plan list.now var.0 place.0 }
 {
@@ -522,6 +545,7 @@ fn bound_plan(list: &[u16; LIST_WORDS], var: SortVar, place: InferSortId) -> Pla
 }
 
 // `bind v_n P`
+#[tactic(auto, unfolding(crate::specs::Lines::bind_plan))]
 fn bind_plan(list: &[u16; LIST_WORDS], t: Tokens) -> Plan
     ensures { result ≡ bind_plan list.now t }
 {
@@ -532,6 +556,7 @@ fn bind_plan(list: &[u16; LIST_WORDS], t: Tokens) -> Plan
 }
 
 // `node nK ..`
+#[tactic(auto, unfolding(crate::specs::Lines::node_plan))]
 fn node_plan(list: &[u16; LIST_WORDS], t: Tokens) -> Plan
     ensures { result ≡ node_plan list.now t }
 {
@@ -541,6 +566,7 @@ fn node_plan(list: &[u16; LIST_WORDS], t: Tokens) -> Plan
     expected(Form::Next)
 }
 
+#[tactic(auto, unfolding(crate::specs::Lines::node_row))]
 fn node_row(list: &[u16; LIST_WORDS], t: Tokens) -> Plan
     ensures { result ≡ node_row list.now t }
 {
@@ -578,6 +604,7 @@ fn node_row(list: &[u16; LIST_WORDS], t: Tokens) -> Plan
 }
 
 // `expr eK P`
+#[tactic(auto, unfolding(crate::specs::Lines::expr_plan))]
 fn expr_plan(list: &[u16; LIST_WORDS], t: Tokens) -> Plan
     ensures { result ≡ expr_plan list.now t }
 {
@@ -591,6 +618,7 @@ fn expr_plan(list: &[u16; LIST_WORDS], t: Tokens) -> Plan
 }
 
 // `name e_n ..`
+#[tactic(auto, unfolding(crate::specs::Lines::name_plan))]
 fn name_plan(list: &[u16; LIST_WORDS], t: Tokens) -> Plan
     ensures { result ≡ name_plan list.now t }
 {
@@ -600,6 +628,7 @@ fn name_plan(list: &[u16; LIST_WORDS], t: Tokens) -> Plan
     expected(Form::Names)
 }
 
+#[tactic(auto, unfolding(crate::specs::Lines::name_row))]
 fn name_row(t: Tokens) -> Plan
     ensures { result ≡ name_row t }
 {
@@ -622,6 +651,7 @@ fn name_row(t: Tokens) -> Plan
 }
 
 // `default S`
+#[tactic(auto, unfolding(crate::specs::Lines::default_plan))]
 fn default_plan(t: Tokens) -> Plan
     ensures { result ≡ default_plan t }
 {
@@ -639,6 +669,7 @@ fn constraint_row(row: [u16; 5], last: u16) -> Plan
 }
 
 // `sub P P`
+#[tactic(auto, unfolding(crate::specs::Lines::sub_plan))]
 fn sub_plan(t: Tokens) -> Plan
     ensures { result ≡ sub_plan t }
 {
@@ -649,6 +680,7 @@ fn sub_plan(t: Tokens) -> Plan
 }
 
 // `lit P positive`, `lit P natural`
+#[tactic(auto, unfolding(crate::specs::Lines::lit_plan))]
 fn lit_plan(t: Tokens) -> Plan
     ensures { result ≡ lit_plan t }
 {
@@ -659,6 +691,7 @@ fn lit_plan(t: Tokens) -> Plan
 }
 
 // `comprehension P P S`
+#[tactic(auto, unfolding(crate::specs::Lines::comprehension_plan))]
 fn comprehension_plan(t: Tokens) -> Plan
     ensures { result ≡ comprehension_plan t }
 {
@@ -669,6 +702,7 @@ fn comprehension_plan(t: Tokens) -> Plan
 }
 
 // `disjunction e_n P`
+#[tactic(auto, unfolding(crate::specs::Lines::disjunction_plan))]
 fn disjunction_plan(list: &[u16; LIST_WORDS], t: Tokens) -> Plan
     ensures { result ≡ disjunction_plan list.now t }
 {
@@ -695,6 +729,7 @@ fn overload_row(list: &[u16; LIST_WORDS], row: [u16; 5]) -> Plan
 }
 
 // `overload ..`
+#[tactic(auto, unfolding(crate::specs::Lines::overload_plan))]
 fn overload_plan(list: &[u16; LIST_WORDS], t: Tokens) -> Plan
     ensures { result ≡ overload_plan list.now t }
 {
@@ -714,6 +749,7 @@ fn overload_plan(list: &[u16; LIST_WORDS], t: Tokens) -> Plan
 }
 
 // `join P P ...`
+#[tactic(auto, unfolding(crate::specs::Lines::join_plan))]
 fn join_plan(list: &[u16; LIST_WORDS], t: Tokens) -> Plan
     ensures { result ≡ join_plan list.now t }
 {
@@ -731,6 +767,7 @@ fn join_plan(list: &[u16; LIST_WORDS], t: Tokens) -> Plan
 }
 
 // `sources P ...`
+#[tactic(auto, unfolding(crate::specs::Lines::sources_plan))]
 fn sources_plan(list: &[u16; LIST_WORDS], t: Tokens) -> Plan
     ensures { result ≡ sources_plan list.now t }
 {
@@ -747,6 +784,7 @@ fn sources_plan(list: &[u16; LIST_WORDS], t: Tokens) -> Plan
 }
 
 // `entries N ...`, `node-entries N ...`
+#[tactic(auto, unfolding(crate::specs::Lines::entries_plan))]
 fn entries_plan(t: Tokens, k: u16, form: Form) -> Plan
     ensures { result ≡ entries_plan t k form }
 {
@@ -757,6 +795,7 @@ fn entries_plan(t: Tokens, k: u16, form: Form) -> Plan
 }
 
 // `constraint KIND A B C D`
+#[tactic(auto, unfolding(crate::specs::Lines::constraint_plan))]
 fn constraint_plan(t: Tokens) -> Plan
     ensures { result ≡ constraint_plan t }
 {
@@ -776,6 +815,7 @@ fn constraint_plan(t: Tokens) -> Plan
 }
 
 // `pad WHAT N`
+#[tactic(auto, unfolding(crate::specs::Lines::pad_plan))]
 fn pad_plan(list: &[u16; LIST_WORDS], t: Tokens) -> Plan
     ensures { result ≡ pad_plan list.now t }
 {
@@ -806,6 +846,7 @@ fn pad_plan(list: &[u16; LIST_WORDS], t: Tokens) -> Plan
 
 // The list that a word of `count` names, by the numbers of `sorts`, `entries`, `nodes`, `node-entries`, `vars`,
 // `exprs`, `names`, `constraints`, `overloads` and `sources`; 10 where it names none.
+#[tactic(auto, unfolding(crate::specs::Lines::counted_by))]
 fn counted_by(what: u16) -> usize
     ensures { result ≡ counted_by what }
 {
@@ -825,6 +866,7 @@ fn counted_by(what: u16) -> usize
 }
 
 // `count WHAT N`
+#[tactic(auto, unfolding(crate::specs::Lines::count_plan))]
 fn count_plan(t: Tokens) -> Plan
     ensures { result ≡ count_plan t }
 {
@@ -845,6 +887,7 @@ fn count_plan(t: Tokens) -> Plan
 }
 
 // `lend WHAT N`
+#[tactic(auto, unfolding(crate::specs::Lines::lend_plan))]
 fn lend_plan(t: Tokens) -> Plan
     ensures { result ≡ lend_plan t }
 {
@@ -856,6 +899,7 @@ fn lend_plan(t: Tokens) -> Plan
 }
 
 // Lines of damaged and unusual lists.
+#[tactic(auto, unfolding(crate::specs::Lines::unusual_plan))]
 fn unusual_plan(list: &[u16; LIST_WORDS], t: Tokens) -> Plan
     ensures { result ≡ unusual_plan list.now t }
 {
@@ -885,6 +929,7 @@ fn unusual_plan(list: &[u16; LIST_WORDS], t: Tokens) -> Plan
 }
 
 // Lines of constraints.
+#[tactic(auto, unfolding(crate::specs::Lines::constraints_plan))]
 fn constraints_plan(list: &[u16; LIST_WORDS], t: Tokens) -> Plan
     ensures { result ≡ constraints_plan list.now t }
 {
@@ -914,6 +959,7 @@ fn constraints_plan(list: &[u16; LIST_WORDS], t: Tokens) -> Plan
 }
 
 // What a line of a list gives, by its first word; `bare` gives no rows and is not among these.
+#[tactic(auto, unfolding(crate::specs::Lines::plan_of))]
 pub fn plan_of(list: &[u16; LIST_WORDS], t: Tokens) -> Plan
     ensures { result ≡ plan_of list.now t }
 {
@@ -946,6 +992,7 @@ pub fn plan_of(list: &[u16; LIST_WORDS], t: Tokens) -> Plan
 }
 
 // Whether `?` has one of the questions other than `solve`.
+#[tactic(auto, unfolding(crate::specs::Lines::asks_other))]
 pub fn asks_other(t: Tokens) -> bool
     ensures { result ≡ asks_other t }
 {

@@ -1,3 +1,3 @@
 -- The laws that the proofs of this crate cite. Assumes nothing.
-mod Rows
-mod Examples
+pub mod Rows
+pub mod Examples

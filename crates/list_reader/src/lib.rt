@@ -53,18 +53,21 @@ const CEILINGS: [u16; LISTS] = [
 
 const LISTS: usize = 10;
 
+#[tactic(auto, unfolding(list_memory::specs::Memory::list_start))]
 fn start_word(k: usize) -> u16
     ensures { result ≡ list_start k }
 {
     if k < LISTS { STARTS[k] } else { 0 }
 }
 
+#[tactic(auto, unfolding(list_memory::specs::Memory::width_of))]
 fn width_of(k: usize) -> u16
     ensures { (result ≡ width_of k) × (result ≤ 5) }
 {
     if k < LISTS { WIDTHS[k] } else { 0 }
 }
 
+#[tactic(auto, unfolding(list_memory::specs::Memory::ceiling_of))]
 fn ceiling_of(k: usize) -> u16
     ensures { result ≡ ceiling_of k }
 {
@@ -92,6 +95,7 @@ fn put_words(list: &mut [u16; LIST_WORDS], at: usize, row: [u16; 5], width: u16)
     }
 }
 
+#[tactic(auto, unfolding(crate::specs::Taking::one_more_word))]
 fn one_more(n: u16) -> u16
     ensures { result ≡ one_more_word n }
 {
@@ -102,6 +106,7 @@ fn one_more(n: u16) -> u16
 }
 
 // One more row of list k: kept below the ceiling, counted in any case.
+#[tactic(auto, unfolding(crate::specs::Taking::appended))]
 fn append(list: &mut [u16; LIST_WORDS], k: u16, row: [u16; 5])
     ensures { list.new ≡ appended list.old k row }
 {
@@ -116,6 +121,7 @@ fn append(list: &mut [u16; LIST_WORDS], k: u16, row: [u16; 5])
 }
 
 // The number after a number, where numbers rise.
+#[tactic(auto, unfolding(crate::specs::Taking::next_number))]
 fn next_number(rising: bool, n: u16) -> u16
     ensures { result ≡ next_number rising n }
 {
@@ -157,6 +163,7 @@ fn append_run(list: &mut [u16; LIST_WORDS], k: u16, t: Tokens, from: usize, to: 
 }
 
 // What a line gives, put into the words.
+#[tactic(auto, unfolding(crate::specs::Taking::carried))]
 fn carry_out(list: &mut [u16; LIST_WORDS], t: Tokens, plan: Plan)
     ensures { list.new ≡ carried list.old t plan }
 {
@@ -169,6 +176,7 @@ fn carry_out(list: &mut [u16; LIST_WORDS], t: Tokens, plan: Plan)
 }
 
 // A line not of the format.
+#[tactic(auto, unfolding(crate::specs::Taking::bad_line))]
 fn bad(list: &mut [u16; LIST_WORDS], form: Form) -> Heard
     ensures { taken list.new result ≡ bad_line list.old form }
 {
@@ -177,6 +185,7 @@ fn bad(list: &mut [u16; LIST_WORDS], form: Form) -> Heard
 }
 
 // A new list: the fixed six sorts, the default sort Bool, and nothing else.
+#[tactic(auto, unfolding(crate::specs::Taking::begun))]
 fn begin(list: &mut [u16; LIST_WORDS])
     ensures { list.new ≡ begun list.old }
 {
@@ -192,6 +201,7 @@ fn begin(list: &mut [u16; LIST_WORDS])
 }
 
 // `bare`
+#[tactic(auto, unfolding(crate::specs::Taking::bare_taken))]
 fn bare(list: &mut [u16; LIST_WORDS], t: Tokens) -> Heard
     ensures { taken list.new result ≡ bare_taken list.old t }
 {
@@ -210,6 +220,7 @@ fn bare(list: &mut [u16; LIST_WORDS], t: Tokens) -> Heard
 }
 
 // A line that gives rows or words of the list.
+#[tactic(auto, unfolding(crate::specs::Taking::plan_taken))]
 fn give(list: &mut [u16; LIST_WORDS], t: Tokens, plan: Plan) -> Heard
     ensures { taken list.new result ≡ plan_taken list.old t plan }
 {
@@ -222,6 +233,7 @@ fn give(list: &mut [u16; LIST_WORDS], t: Tokens, plan: Plan) -> Heard
 }
 
 // `? ..`
+#[tactic(auto, unfolding(crate::specs::Taking::question_taken))]
 fn question(list: &mut [u16; LIST_WORDS], t: Tokens) -> Heard
     ensures { taken list.new result ≡ question_taken list.old t }
 {
@@ -237,6 +249,7 @@ fn question(list: &mut [u16; LIST_WORDS], t: Tokens) -> Heard
 }
 
 // A line of words, where a list has begun.
+#[tactic(auto, unfolding(crate::specs::Taking::words_taken))]
 fn take_words(list: &mut [u16; LIST_WORDS], t: Tokens) -> Heard
     ensures { taken list.new result ≡ words_taken list.old t }
 {
@@ -255,6 +268,7 @@ fn take_words(list: &mut [u16; LIST_WORDS], t: Tokens) -> Heard
 }
 
 // A line that is no comment, no answer and no `list`.
+#[tactic(auto, unfolding(crate::specs::Taking::other_taken))]
 fn take_other(list: &mut [u16; LIST_WORDS], line: &[u8]) -> Heard
     ensures { taken list.new result ≡ other_taken list.old line.now }
 {
@@ -275,6 +289,7 @@ fn take_other(list: &mut [u16; LIST_WORDS], line: &[u8]) -> Heard
 }
 
 // An answer, which is not looked at.
+#[tactic(auto, unfolding(crate::specs::Taking::answer_taken))]
 fn take_answer(list: &mut [u16; LIST_WORDS], line: &[u8]) -> Heard
     ensures { taken list.new result ≡ answer_taken list.old line.now }
 {
@@ -292,6 +307,7 @@ fn take_answer(list: &mut [u16; LIST_WORDS], line: &[u8]) -> Heard
 }
 
 // `list TEXT`
+#[tactic(auto, unfolding(crate::specs::Taking::list_taken))]
 fn take_list(list: &mut [u16; LIST_WORDS], line: &[u8]) -> Heard
     ensures { taken list.new result ≡ list_taken list.old line.now }
 {
@@ -306,6 +322,7 @@ fn take_list(list: &mut [u16; LIST_WORDS], line: &[u8]) -> Heard
 }
 
 // What one line, without its LF, makes of the list.
+#[tactic(auto, unfolding(crate::specs::Taking::line_taken, crate::specs::Taking::by_start))]
 pub fn take_line(list: &mut [u16; LIST_WORDS], line: &[u8]) -> Heard
     ensures { taken list.new result ≡ line_taken list.old line.now }
 {

@@ -6,7 +6,6 @@ use Prim.Native.String.{String}
 use lib.ListN.{take}
 use Rattle.sort_text.specs.Parse.{same_bytes}
 use Rattle.sort_text.specs.Tokens.{run, past, skip}
-use Rattle.list_tokens.specs.declared.Start.{Start}
 use Rattle.list_tokens.specs.declared.Start.TheVariants.{Skipped, Answer, NewList, Other}
 use Rattle.list_tokens.specs.Words.{words, position_in, keyword_of}
 use Rattle.text_out.specs.Quoted.{bytes_of}

@@ -1,5 +1,5 @@
 -- The laws that the proofs of this crate cite. Assumes nothing.
-mod Finding
-mod Digits
-mod Reading
-mod Examples
+pub mod Finding
+pub mod Digits
+pub mod Reading
+pub mod Examples

@@ -13,7 +13,7 @@ ghost use Rattle.list_tokens.specs.Tokens.{tokens_of, printable_from, line_start
 use sort_lexer::{between, same_bytes, skip_spaces, unread};
 
 // The words of a line, each as a number, and how many there are.
-#[derive(Drop)]
+#[derive(Clone, Copy, Drop)]
 pub struct Tokens {
     pub values: [u32; MOST_WORDS],
     pub count: u16,

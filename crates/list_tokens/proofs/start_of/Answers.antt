@@ -1,0 +1,18 @@
+-- By the first byte that is no space, then by the first word. Assumes nothing.
+use Rattle.list_tokens.proofs.Reading as law
+use Rattle.list_tokens.proofs.start_of.Goals as goal
+
+pub returns-then-line-from : goal.returns-then-line-from
+returns-then-line-from c = search law.line_without_words
+
+pub returns-then-line-from-eq35 : goal.returns-then-line-from-eq35
+returns-then-line-from-eq35 c = search law.line_of_a_comment
+
+pub returns-then-word-eq-K_ANSWER : goal.returns-then-word-eq-K_ANSWER
+returns-then-word-eq-K_ANSWER c = search law.line_of_an_answer
+
+pub returns-then-word-eq-K_LIST : goal.returns-then-word-eq-K_LIST
+returns-then-word-eq-K_LIST c = search law.line_of_a_list
+
+pub returns : goal.returns
+returns c = search law.line_of_another
