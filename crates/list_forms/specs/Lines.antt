@@ -1,6 +1,6 @@
 -- What each line of a list gives, in the order of the tables of docs/FORMAT.md. ws are the words of the list so far, t
 -- the words of the line.
-use Rattle.std.specs.Prelude.{Bool, true, false, cond, List, [], ◌∷◌, ℕ, ◌+◌, ◌-◌, ltb, leb, eqb, get_or}
+use Rattle.std.specs.Prelude.{Bool, true, false, cond, List, [], ◌∷◌, ℕ, ◌+◌, ◌-◌, ltb, eqb, get_or}
 use Rattle.list_memory.specs.declared.Form.{Form}
 use Rattle.resolved_sort.specs.Storage.{function_kind, def_kind}
 use Rattle.unification.specs.Nodes.{max_vars, variable_kind, free_word}

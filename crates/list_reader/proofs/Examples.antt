@@ -10,7 +10,7 @@ use Rattle.sort_text.specs.Parse.{same_bytes}
 use Rattle.sort_text.specs.Tokens.{run, past, skip}
 use Rattle.list_memory.specs.declared.Form.{Form}
 use Rattle.list_memory.specs.declared.Heard.{Heard}
-use Rattle.list_memory.specs.declared.Heard.TheVariants.{Quiet, Begins, Asks, AsksOther, Bad}
+use Rattle.list_memory.specs.declared.Heard.TheVariants.{Quiet, Begins, Bad}
 use Rattle.list_memory.specs.Memory as Memory
 use Rattle.list_memory.specs.Memory.{Taken, taken}
 use Rattle.list_tokens.specs.Words as Words
