@@ -12,8 +12,8 @@ ghost use Rattle.pair_line.specs.Room.{line_room};
 ghost use Rattle.pair_input.specs.Held.{Holds};
 ghost use Rattle.pair_input.specs.Inner.Held.{BytesTaken};
 
-use libc::{STDERR_FILENO, STDIN_FILENO, STDOUT_FILENO};
 use pair_input::{HELD_BYTES, Held, feed, finish};
+use std::io::Read;
 
 // The lines that are held, and whether the program goes on.
 #[derive(Drop)]
@@ -23,7 +23,13 @@ struct State {
 }
 
 // Bytes that were read: the output for them is written each time that the buffer is full.
-fn take_bytes(memory: &mut [u8], held: Held, bytes: &[u8], out: &mut [u8]) -> State
+fn take_bytes(
+    rt: &(impl Print + Eprint),
+    memory: &mut [u8],
+    held: Held,
+    bytes: &[u8],
+    out: &mut [u8],
+) -> State
     requires { Holds memory.old held × (line_room ≤ length out.old) }
     ensures { BytesTaken memory.old held bytes.now memory.new result.held result.more }
 {
@@ -33,8 +39,8 @@ fn take_bytes(memory: &mut [u8], held: Held, bytes: &[u8], out: &mut [u8]) -> St
         let fed = feed(memory, current, &bytes[from..], out);
         current = fed.held;
         from += fed.used;
-        if !io::write_all(STDOUT_FILENO, &out[..fed.at]) {
-            io::write_all(STDERR_FILENO, b"pairs: the output cannot be written\n");
+        if rt.write_all(&out[..fed.at]).is_err() {
+            let _ = eprintln!(rt; "pairs: the output cannot be written");
             return State {
                 held: current,
                 more: false,
@@ -48,37 +54,43 @@ fn take_bytes(memory: &mut [u8], held: Held, bytes: &[u8], out: &mut [u8]) -> St
 }
 
 // The end of the input.
-fn at_end(memory: &[u8], held: Held, out: &mut [u8])
+fn at_end(rt: &(impl Print + Eprint), memory: &[u8], held: Held, out: &mut [u8])
     requires { Holds memory.now held × (line_room ≤ length out.old) }
 {
     let n = finish(memory, held, out);
-    if !io::write_all(STDOUT_FILENO, &out[..n]) {
-        io::write_all(STDERR_FILENO, b"pairs: the output cannot be written\n");
+    if rt.write_all(&out[..n]).is_err() {
+        let _ = eprintln!(rt; "pairs: the output cannot be written");
     }
 }
 
 // Reads once.
-fn read_some(memory: &mut [u8], held: Held, out: &mut [u8]) -> State
+fn read_some<R: Read>(
+    rt: &(impl Print + Eprint),
+    reader: &mut R,
+    memory: &mut [u8],
+    held: Held,
+    out: &mut [u8],
+) -> State
     requires { Holds memory.old held × (line_room ≤ length out.old) }
     ensures { Holds memory.new result.held }
 {
-    let mut buffer = io::large_buffer();
-    let got = libc::read(STDIN_FILENO, &mut buffer);
-    if got < 0 {
-        io::write_all(STDERR_FILENO, b"pairs: the input cannot be read\n");
-        return State { held, more: false };
+    let mut buffer = [0u8; BUFFER_BYTES];
+    match reader.read(&mut buffer) {
+        Err(_) => {
+            let _ = eprintln!(rt; "pairs: the input cannot be read");
+            State { held, more: false }
+        }
+        Ok(0) => {
+            at_end(rt, memory, held, out);
+            State { held, more: false }
+        }
+        Ok(n) => take_bytes(rt, memory, held, &buffer[..n], out),
     }
-    if got == 0 {
-        at_end(memory, held, out);
-        return State { held, more: false };
-    }
-    let n = io::count(got, &buffer);
-    take_bytes(memory, held, &buffer[..n], out)
 }
 
 // A proved loop has to end, and nothing says that an input does: the loop counts its turns down, from a number that no
 // run uses up.
-fn read_all(memory: &mut [u8], out: &mut [u8])
+fn read_all<R: Read>(rt: &(impl Print + Eprint), reader: &mut R, memory: &mut [u8], out: &mut [u8])
     requires { Holds memory.old (Held.First 0) × (line_room ≤ length out.old) }
 {
     let mut state = State {
@@ -91,16 +103,20 @@ fn read_all(memory: &mut [u8], out: &mut [u8])
             return;
         }
         let held = state.held;
-        state = read_some(memory, held, out);
+        state = read_some(rt, reader, memory, held, out);
         turns -= 1;
     }
 }
 
-fn main() {
+fn main(rt: HostRuntime) {
+    let mut reader = rt.stdin();
     let mut memory = [0u8; HELD_BYTES];
     let mut out = [0u8; OUT_BYTES];
-    read_all(&mut memory, &mut out);
+    read_all(&rt, &mut reader, &mut memory, &mut out);
 }
 
 // The output is written in parts of about so many bytes.
 const OUT_BYTES: usize = 16384;
+
+// The input is read in parts of at most so many bytes.
+const BUFFER_BYTES: usize = 65536;

@@ -10,6 +10,8 @@
 use line_input::{LineFound, next_line, no_input};
 use recorded_solve::{HELD_WORDS, replay_line};
 use replay::{HELD_LINE, Tally, Verdict, counted, finish, say};
+use std::io;
+use std::io::Read;
 
 // The counts, and how the search for the last line ended.
 #[derive(Drop)]
@@ -20,61 +22,76 @@ struct State {
 
 // A line of the input, of so many bytes. One that fills its memory is too long, and not of the form.
 fn take_line(
+    out: &impl Print,
     given: &mut [u16; HELD_WORDS],
     left: &mut [u16; HELD_WORDS],
     line: &[u8],
     length: usize,
     before: Tally,
-) -> Tally {
+) -> io::Result<Tally> {
     if line.len() <= length {
         let tally = counted(before, Verdict::NotOfForm);
-        say(tally.lines, line, Verdict::NotOfForm);
-        return tally;
+        say(out, tally.lines, line, Verdict::NotOfForm)?;
+        return Ok(tally);
     }
     let verdict = replay_line(given, left, &line[..length]);
     let tally = counted(before, verdict);
-    say(tally.lines, &line[..length], verdict);
-    tally
+    say(out, tally.lines, &line[..length], verdict)?;
+    Ok(tally)
 }
 
 // All lines; the turns count down as in next_line.
-fn replay_all(
+fn replay_all<R: Read>(
+    out: &impl Print,
+    reader: &mut R,
     given: &mut [u16; HELD_WORDS],
     left: &mut [u16; HELD_WORDS],
     buffer: &mut [u8],
     line: &mut [u8],
     before: Tally,
-) -> State {
+) -> io::Result<State> {
     let mut tally = before;
     let mut read = no_input();
     let mut turns = u64::MAX;
     while turns > 0 {
-        read = next_line(buffer, line, read);
+        read = next_line(reader, buffer, line, read);
         let found = read.found;
         match found {
             LineFound::Line => {}
-            _ => return State { tally, found },
+            _ => return Ok(State { tally, found }),
         }
-        tally = take_line(given, left, line, read.length, tally);
+        tally = take_line(out, given, left, line, read.length, tally)?;
         turns -= 1;
     }
-    State {
+    Ok(State {
         tally,
         found: LineFound::Line,
-    }
+    })
 }
 
-fn main() {
+fn main(rt: HostRuntime) -> io::Result<()> {
+    let mut reader = rt.stdin();
     let mut given = [0u16; HELD_WORDS];
     let mut left = [0u16; HELD_WORDS];
-    let mut buffer = io::buffer();
+    let mut buffer = [0u8; BUFFER_BYTES];
     let mut line = [0u8; HELD_LINE];
     let tally = Tally {
         lines: 0,
         questions: 0,
         differ: 0,
     };
-    let end = replay_all(&mut given, &mut left, &mut buffer, &mut line, tally);
+    let end = replay_all(
+        &rt,
+        &mut reader,
+        &mut given,
+        &mut left,
+        &mut buffer,
+        &mut line,
+        tally,
+    )?;
     let found = end.found;
-    finish(end.tally, found, true);
+    finish(&rt, end.tally, found, true)
 }
+
+// The input is read in parts of at most so many bytes.
+const BUFFER_BYTES: usize = 4096;

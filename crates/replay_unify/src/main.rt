@@ -9,6 +9,8 @@
 use line_input::{LineFound, next_line, no_input};
 use recorded_unify::{LIST_WORDS, Progress, complete, replay_line, start};
 use replay::{HELD_LINE, Tally, Verdict, counted, finish, say};
+use std::io;
+use std::io::Read;
 
 // How far the list was read, the counts, and how the search for the last line ended.
 #[derive(Drop)]
@@ -19,64 +21,73 @@ struct State {
 }
 
 // A line of the input, of so many bytes. One that fills its memory is too long, and not of the form.
-fn take_line(words: &mut [u16; LIST_WORDS], line: &[u8], length: usize, state: State) -> State {
+fn take_line(
+    out: &impl Print,
+    words: &mut [u16; LIST_WORDS],
+    line: &[u8],
+    length: usize,
+    state: State,
+) -> io::Result<State> {
     let progress = state.progress;
     let before = state.tally;
     if line.len() <= length {
         let tally = counted(before, Verdict::NotOfForm);
-        say(tally.lines, line, Verdict::NotOfForm);
-        return State {
+        say(out, tally.lines, line, Verdict::NotOfForm)?;
+        return Ok(State {
             progress,
             tally,
             found: LineFound::Line,
-        };
+        });
     }
     let step = replay_line(words, &line[..length], progress);
     let verdict = step.verdict;
     let next = step.progress;
     let tally = counted(before, verdict);
-    say(tally.lines, &line[..length], verdict);
-    State {
+    say(out, tally.lines, &line[..length], verdict)?;
+    Ok(State {
         progress: next,
         tally,
         found: LineFound::Line,
-    }
+    })
 }
 
 // All lines; the turns count down as in next_line.
-fn replay_all(
+fn replay_all<R: Read>(
+    out: &impl Print,
+    reader: &mut R,
     words: &mut [u16; LIST_WORDS],
     buffer: &mut [u8],
     line: &mut [u8],
     state: State,
-) -> State {
+) -> io::Result<State> {
     let mut current = state;
     let mut read = no_input();
     let mut turns = u64::MAX;
     while turns > 0 {
-        read = next_line(buffer, line, read);
+        read = next_line(reader, buffer, line, read);
         let found = read.found;
         match found {
             LineFound::Line => {}
             _ => {
                 let progress = current.progress;
                 let tally = current.tally;
-                return State {
+                return Ok(State {
                     progress,
                     tally,
                     found,
-                };
+                });
             }
         }
-        current = take_line(words, line, read.length, current);
+        current = take_line(out, words, line, read.length, current)?;
         turns -= 1;
     }
-    current
+    Ok(current)
 }
 
-fn main() {
+fn main(rt: HostRuntime) -> io::Result<()> {
+    let mut reader = rt.stdin();
     let mut words = [0u16; LIST_WORDS];
-    let mut buffer = io::buffer();
+    let mut buffer = [0u8; BUFFER_BYTES];
     let mut line = [0u8; HELD_LINE];
     let tally = Tally {
         lines: 0,
@@ -88,8 +99,11 @@ fn main() {
         tally,
         found: LineFound::Nothing,
     };
-    let end = replay_all(&mut words, &mut buffer, &mut line, state);
+    let end = replay_all(&rt, &mut reader, &mut words, &mut buffer, &mut line, state)?;
     let progress = end.progress;
     let found = end.found;
-    finish(end.tally, found, complete(progress));
+    finish(&rt, end.tally, found, complete(progress))
 }
+
+// The input is read in parts of at most so many bytes.
+const BUFFER_BYTES: usize = 4096;
