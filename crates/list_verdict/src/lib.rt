@@ -36,6 +36,7 @@ fn put_expr_name(expr: ExprId, out: &mut [u8], at: usize) -> usize
 }
 
 // The word of a kind below 6: of the fixed six sorts.
+#[tactic(auto, unfolding(crate::specs::Words::kind_word))]
 fn put_six(kind: u16, out: &mut [u8], at: usize) -> usize
     requires { kind < 6 }
     ensures { PutWithin out.old at (kind_word kind) out.new result }
@@ -51,6 +52,7 @@ fn put_six(kind: u16, out: &mut [u8], at: usize) -> usize
 }
 
 // The word of a kind of sorts.
+#[tactic(auto, unfolding(crate::specs::Words::kind_word))]
 fn put_kind(kind: u16, out: &mut [u8], at: usize) -> usize
     ensures { PutWithin out.old at (kind_word kind) out.new result }
 {
@@ -70,6 +72,7 @@ fn put_kind(kind: u16, out: &mut [u8], at: usize) -> usize
 }
 
 // What the codes below 7 say.
+#[tactic(auto, unfolding(crate::specs::Words::message))]
 fn put_early(code: u16, out: &mut [u8], at: usize) -> usize
     requires { code < 7 }
     ensures { PutWithin out.old at (message code) out.new result }
@@ -103,6 +106,7 @@ fn put_early(code: u16, out: &mut [u8], at: usize) -> usize
 }
 
 // What the codes from 7 to 12 say.
+#[tactic(auto, unfolding(crate::specs::Words::message))]
 fn put_late(code: u16, out: &mut [u8], at: usize) -> usize
     requires { (7 ≤ code) × (code < 13) }
     ensures { PutWithin out.old at (message code) out.new result }
@@ -134,6 +138,7 @@ fn put_late(code: u16, out: &mut [u8], at: usize) -> usize
 }
 
 // What a code says.
+#[tactic(auto, unfolding(crate::specs::Words::message))]
 fn put_message(code: u16, out: &mut [u8], at: usize) -> usize
     ensures { PutWithin out.old at (message code) out.new result }
 {
@@ -168,6 +173,7 @@ pub fn put_verdict(code: u16, out: &mut [u8], at: usize) -> usize
 }
 
 // A sort as the text format names it.
+#[tactic(auto, unfolding(crate::specs::Text::sort_name))]
 fn put_sort_name(id: SortId, out: &mut [u8], at: usize) -> usize
     ensures { PutWithin out.old at (sort_name id.0) out.new result }
 {
@@ -178,6 +184,7 @@ fn put_sort_name(id: SortId, out: &mut [u8], at: usize) -> usize
 }
 
 // A comma and a space before all but the first.
+#[tactic(auto, unfolding(crate::specs::Text::separator))]
 fn put_comma(i: u16, out: &mut [u8], at: usize) -> usize
     ensures { PutWithin out.old at (separator i) out.new result }
 {
@@ -235,6 +242,7 @@ fn put_choice_rows(choices: &[u16], count: u16, out: &mut [u8], at: usize) -> us
 }
 
 // The chosen overloads, or that there are none.
+#[tactic(auto, unfolding(crate::specs::Text::choice_list))]
 fn put_choice_list(choices: &[u16], count: u16, out: &mut [u8], at: usize) -> usize
     ensures { PutWithin out.old at (choice_list choices.now count) out.new result }
 {
@@ -344,6 +352,7 @@ fn put_sort_text(
 }
 
 // What a name resolved to.
+#[tactic(auto, unfolding(crate::specs::Text::target_text))]
 fn put_target(
     sorts: &[u16],
     counts: Counts,

@@ -1,0 +1,14 @@
+-- Putting the choices left comes to putting all.
+use Rattle.std.proofs.Common.{◌≡◌, ◌+◌, ◌-◌, length}
+use Rattle.text_out.specs.Within.{puts}
+use Rattle.list_verdict.specs.Text.{rows_text, choice_text}
+use Rattle.list_verdict.proofs.put_choice_rows.Given as goal
+
+abbrev pub invariant-loop-i : goal.invariant-loop-i
+invariant-loop-i l =
+    (length l.out ≡ length l.fn.out)
+    × (puts l.fn.out l.fn.at (rows_text (choice_text l.fn.choices) (l.fn.count) (0))
+    ≡ puts l.out l.cursor (rows_text (choice_text l.fn.choices) (l.fn.count - l.i) l.i))
+
+abbrev pub decreases-loop-i : goal.decreases-loop-i
+decreases-loop-i l = l.fn.count - l.i
