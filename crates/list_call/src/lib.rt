@@ -28,6 +28,7 @@ pub fn rows_given(list: &[u16], k: usize) -> usize
 }
 
 // The count of a list in the call.
+#[tactic(auto, unfolding(crate::specs::Lists::call_count))]
 pub fn count_of(list: &[u16], k: usize) -> u16
     requires { k ≤ 9 }
     ensures { result ≡ call_count list.now k }
@@ -58,6 +59,7 @@ pub fn given_of(list: &[u16]) -> Given
 }
 
 // How many words are told to be lent of a slice; n where none are.
+#[tactic(auto, unfolding(crate::specs::Lists::told_or))]
 fn told_or(list: &[u16], j: usize, n: usize) -> usize
     requires { j ≤ 11 }
     ensures { result ≡ told_or list.now j n }
@@ -69,6 +71,7 @@ fn told_or(list: &[u16], j: usize, n: usize) -> usize
 }
 
 // How many words are lent of a slice: its ceiling at most.
+#[tactic(auto, unfolding(crate::specs::Lists::length_lent))]
 pub fn length_of(list: &[u16], j: usize, n: usize, top: usize) -> usize
     requires { j ≤ 11 }
     ensures { (result ≡ length_lent list.now j n top) × (result ≤ top) }
