@@ -1,5 +1,5 @@
 -- The words of a line held against a form: "In the tables below S is a sort (sN or one of the six words), P a place: a
--- sort below s1024, or a node n_n. N is a number." A place can name any word, so n_n goes up to n64511.
+-- sort below s1024, or a node nN. N is a number." A place can name any word, so nN goes up to n64511.
 use Rattle.std.specs.Prelude.{Bool, true, false, cond, List, [], ◌∷◌, ℕ, zero, suc, ◌+◌, ◌-◌, ◌%◌, ltb, leb, eqb, get_or}
 use Rattle.list_tokens.specs.declared.Tokens.{Tokens}
 use Rattle.resolved_sort.specs.Storage.{max_sorts}
@@ -45,7 +45,7 @@ slice_word = 655360
 abbrev pub any_word : ℕ
 any_word = 720896
 
--- how many words a class has; the place of node n_n is n_n less node_places
+-- how many words a class has; the place of node nN is nN less node_places
 abbrev pub class_size : ℕ
 class_size = 65536
 

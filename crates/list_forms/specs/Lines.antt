@@ -86,12 +86,12 @@ bound_plan ws v p =
     empty_plan)
     (expected Form.Unbound)
 
--- bind v_n P
+-- bind vN P
 unfoldable pub bind_plan : List ℕ → Tokens → Plan
 bind_plan ws t =
     cond (fits_form t (form word.k_bind v_n P 0 0 0 0)) (bound_plan ws (word_at t 1) (word_at t 2)) (expected Form.Bind)
 
--- node nK List P, node nK fn P ... -> P, node nK var v_n, node nK raw KIND PART START COUNT
+-- node nK List P, node nK fn P ... -> P, node nK var vN, node nK raw KIND PART START COUNT
 unfoldable pub node_row : List ℕ → Tokens → Plan
 node_row ws t =
     cond (fits_form t (form word.k_node n_n container_word P 0 0 0))
@@ -114,7 +114,7 @@ expr_plan ws t =
     (expected Form.Expr))
     (expected Form.Next)
 
--- name e_n variable, name e_n builtin, name e_n op S, name e_n raw KIND SORT; the program holds max_names base names
+-- name eN variable, name eN builtin, name eN op S, name eN raw KIND SORT; the program holds max_names base names
 unfoldable pub name_row : Tokens → Plan
 name_row t =
     cond (fits_form t (form word.k_name e_n word.k_variable 0 0 0 0)) (row_plan name_list (five_words (word_at t 1) 1 0 0 0))
@@ -157,7 +157,7 @@ comprehension_plan t =
     (constraint_row (five_words 3 (word_at t 1) (word_at t 2) (word_at t 3) 0) 0)
     (expected Form.Comprehension)
 
--- disjunction e_n P
+-- disjunction eN P
 unfoldable pub disjunction_plan : List ℕ → Tokens → Plan
 disjunction_plan ws t =
     cond (fits_form t (form word.k_disjunction e_n P 0 0 0 0))

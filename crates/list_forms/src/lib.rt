@@ -544,7 +544,7 @@ fn bound_plan(list: &[u16; LIST_WORDS], var: SortVar, place: InferSortId) -> Pla
     expected(Form::Unbound)
 }
 
-// `bind v_n P`
+// `bind vN P`
 #[tactic(auto, unfolding(crate::specs::Lines::bind_plan))]
 fn bind_plan(list: &[u16; LIST_WORDS], t: Tokens) -> Plan
     ensures { result ≡ bind_plan list.now t }
@@ -617,7 +617,7 @@ fn expr_plan(list: &[u16; LIST_WORDS], t: Tokens) -> Plan
     expected(Form::Next)
 }
 
-// `name e_n ..`
+// `name eN ..`
 #[tactic(auto, unfolding(crate::specs::Lines::name_plan))]
 fn name_plan(list: &[u16; LIST_WORDS], t: Tokens) -> Plan
     ensures { result ≡ name_plan list.now t }
@@ -701,7 +701,7 @@ fn comprehension_plan(t: Tokens) -> Plan
     expected(Form::Comprehension)
 }
 
-// `disjunction e_n P`
+// `disjunction eN P`
 #[tactic(auto, unfolding(crate::specs::Lines::disjunction_plan))]
 fn disjunction_plan(list: &[u16; LIST_WORDS], t: Tokens) -> Plan
     ensures { result ≡ disjunction_plan list.now t }

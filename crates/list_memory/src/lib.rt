@@ -30,7 +30,7 @@ pub enum Form {
     Bare,
     // `sort sK List S`, `sort sK fn S ... -> S`, `sort sK Def N`, `sort sK unit`, `sort sK raw N N N N`
     Sort,
-    // `node nK List P`, `node nK fn P ... -> P`, `node nK var v_n`, `node nK raw N N N N`
+    // `node nK List P`, `node nK fn P ... -> P`, `node nK var vN`, `node nK raw N N N N`
     Node,
     // `entries N ...`
     Entries,
@@ -42,13 +42,13 @@ pub enum Form {
     Var,
     // `vars N`
     Vars,
-    // `bind v_n P`
+    // `bind vN P`
     Bind,
     // a variable of a `var` or `vars` line above, with no `bind` line yet
     Unbound,
     // `expr eK P`
     Expr,
-    // `name e_n variable`, `name e_n builtin`, `name e_n op S`, `name e_n raw N N`
+    // `name eN variable`, `name eN builtin`, `name eN op S`, `name eN raw N N`
     Name,
     // at most 512 base names
     Names,
@@ -60,7 +60,7 @@ pub enum Form {
     Lit,
     // `comprehension P P S`
     Comprehension,
-    // `disjunction e_n P`
+    // `disjunction eN P`
     Disjunction,
     // `overload variable P`, `overload builtin P`, `overload op S P`, `overload raw N N N`
     Overload,

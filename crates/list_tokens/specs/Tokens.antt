@@ -10,7 +10,7 @@ use Rattle.list_tokens.specs.declared.Start.TheVariants.{Skipped, Answer, NewLis
 use Rattle.list_tokens.specs.Words.{k_list, k_answer, k_unit, keyword_of}
 
 -- Below 65,536 a token is a word by its place in the list of words, 0 where it is not there. Above, a class and a
--- number: N, sN, n_n, v_n, e_n, and one of the fixed six.
+-- number: N, sN, nN, vN, eN, and one of the fixed six.
 abbrev pub number_class : ℕ
 number_class = 65536
 

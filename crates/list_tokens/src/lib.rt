@@ -132,7 +132,7 @@ fn classed(class: u32, n: u32) -> u32
     if n < NO_NUMBER { class + n } else { 0 }
 }
 
-// The number of a name: `sN`, `n_n`, `v_n`, `e_n` or a number alone.
+// The number of a name: `sN`, `nN`, `vN`, `eN` or a number alone.
 fn name_of(w: &[u8]) -> u32
     ensures { result ≡ name_token w.now }
 {
