@@ -1,6 +1,6 @@
 -- The tests of a line, one after another; what the recognised steps store; and what stays of it. Assumes nothing.
 use mathlib.Core.Path.{◌≡◌, refl, sym, ◌∙◌, ap, subst}
-use mathlib.Core.Bool.{Bool, true, ◌&&◌, and-eq-true_iff}
+use mathlib.Core.Bool.{true, ◌&&◌, and-eq-true_iff}
 use mathlib.Core.List.{List, [], ◌∷◌}
 use Prim.Native.Nat.{ℕ, zero, suc, ◌-◌, ◌*◌, ◌≤◌, ◌<◌}
 use native.Mathlib.Omega.{arith}
@@ -28,7 +28,7 @@ use Rattle.resolved_sort.proofs.GivenBack.{made_is_given_back}
 use Rattle.resolved_sort.proofs.FirstFailing.{first_fails, first_passes, append_fails, append_passes, cons_passes}
 use Rattle.resolved_sort.proofs.Testing.{refused_is, passed_is}
 use Rattle.sort_text.specs.declared.Read.{Read}
-use Rattle.sort_text.specs.declared.Read.TheVariants.{Refused as NotRead, NotASort, Sort, NoRoom}
+use Rattle.sort_text.specs.declared.Read.TheVariants.{Refused as NotRead, NotASort, NoRoom}
 use Rattle.sort_text.specs.Parse.{Parsed, parsed, stuck, line}
 use Rattle.sort_text.specs.Postfix.{Short, sixth, postfix, steps, HasPrimitives, HasSix, InStack}
 use Rattle.sort_text.specs.Reading.{store, short_line, read_checks, read_left, stored_by, read_as_of, reading}

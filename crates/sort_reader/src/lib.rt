@@ -148,6 +148,7 @@ fn go_on(
 }
 
 // Checks 1 to 4, 14 and 19: the first that fails.
+#[tactic(auto, using(crate::proofs::Entry::storage_short, crate::proofs::Entry::line_long, crate::proofs::Entry::sorts_fail, crate::proofs::Entry::all_pass))]
 fn test_read(sorts: &[u16], sort_count: usize, entry_count: usize, line: &[u8]) -> Tested
     ensures { result
         ≡ tested_of
@@ -168,6 +169,7 @@ fn test_read(sorts: &[u16], sort_count: usize, entry_count: usize, line: &[u8]) 
 }
 
 // What was stored stays; where room ended it is given back.
+#[tactic(auto, unfolding(crate::specs::Inner::Tested::kept_or_no_room))]
 fn kept_or_no_room(sorts: &mut [u16], sort_count: usize, entry_count: usize, stored: Joined) -> Read
     requires { (sort_count ≤ max_sorts) × (entry_count ≤ max_entries) × (full_length ≤ length sorts.old) }
     ensures { read_left sorts.new result ≡ kept_or_no_room sorts.old sort_count entry_count stored }
