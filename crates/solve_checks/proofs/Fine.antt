@@ -47,3 +47,6 @@ pub same_constraint_fine : (g : Given) (cs os ss : List ℕ) (b : ℕ) (c : Cons
     → constraint_fine (problem_call g [] [] [] os ss) b c ≡ constraint_fine (problem_call g [] [] cs os ss) b c
 unfolding overload_fine target_fine
 same_constraint_fine g cs os ss b c = refl
+
+-- each way through the code
+pub ruleset targets = (no_kind, kind_above, operation_by_sort, other_kind)

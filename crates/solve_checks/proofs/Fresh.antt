@@ -3,7 +3,7 @@
 use mathlib.Core.Path.{◌≡◌, refl, sym, ap, ap₂, ◌∙◌}
 use mathlib.Core.Bool.{Bool, true, false, not, cond, ◌&&◌, and-false, and_assoc, and-eq-true_iff}
 use mathlib.Core.List.{List, [], ◌∷◌}
-use Prim.Native.Nat.{ℕ, ◌+◌, ◌-◌, ◌<◌, ◌≤◌}
+use Prim.Native.Nat.{ℕ, ◌+◌, ◌<◌, ◌≤◌}
 use native.Mathlib.Omega.{arith}
 use lib.Dec.{eqb, ltb}
 use lib.ListN.{length, get_or, set, length-set, replicate, length-replicate}
@@ -158,3 +158,8 @@ module _ (row : ℕ → Constraint) (n : ℕ) where
     pub disjunctions_differ : n ≤ i → true ≡ no_two exprs
     unfolding disjunctions
     disjunctions_differ l = end exprs seen (exprs_left i) p.1 u (ap disjunctions (none_left row n i l))
+
+-- each way through the code
+pub ruleset names_once = (no_number_marked, number_twice, number_once, numbers_differ)
+
+pub ruleset disjunctions_once = (no_disjunction_marked, disjunction_twice, disjunction_once, disjunctions_differ)

@@ -63,3 +63,6 @@ module _ (g : Given) (xs ks cs os ss : List ℕ) where
         le-leb (3 * g.overloads) (length os) h,
         le-leb g.sources 256 i,
       ))
+
+-- each way through the code
+pub ruleset rows_lent = (exprs_above, exprs_short, names_short, constraints_above, constraints_short, overloads_above, overloads_short, sources_above, by_sources)

@@ -93,3 +93,6 @@ module _ (row : ℕ → Constraint) (n : ℕ) where
     pub all_joined : n ≤ i → true ≡ joins_fine (rows_from row 0 n)
     unfolding joins_fine
     all_joined l = sym (p.left_over ∙ ap joins_fine (none_left row n i l))
+
+-- each way through the code
+pub ruleset joins = (none_joined, without_sources, one_joined, all_joined)

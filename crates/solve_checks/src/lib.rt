@@ -31,7 +31,7 @@ use unification::{InferSortId, NODE_WORDS};
 use words::word;
 
 // How many rows of each list a call gives, as the caller says it, and the default sort.
-#[derive(Drop)]
+#[derive(Clone, Copy, Drop)]
 pub struct Given {
     pub sorts: usize,
     pub entries: usize,
@@ -47,7 +47,7 @@ pub struct Given {
 }
 
 // How many words are lent for scratch and for each output.
-#[derive(Drop)]
+#[derive(Clone, Copy, Drop)]
 pub struct Room {
     pub scratch: usize,
     pub typing: usize,
@@ -57,6 +57,7 @@ pub struct Room {
 
 // Check 1: expressions, base names, constraints, overloads and sources are within their ceilings
 // and within what was lent. Base names have no ceiling.
+#[tactic(auto, using(crate::proofs::Lent::rows_lent))]
 fn rows_within_lent(
     exprs: &[u16],
     names: &[u16],
@@ -119,6 +120,7 @@ fn exprs_fine(exprs: &[u16], given: Given) -> bool
 }
 
 // Whether a name target has a known kind and, where it is an operation, a sort of the list.
+#[tactic(auto, using(crate::proofs::Fine::targets))]
 fn target_fine(given: Given, kind: u16, sort: SortId) -> bool
     ensures { result ≡ target_fine (problem_call given [] [] [] [] []) kind sort.0 }
 {
@@ -386,6 +388,7 @@ fn mark_by(seen: &mut [bool], says: Constraint) -> bool
 }
 
 // Check 10: no two disjunctions are for one expression.
+#[tactic(auto, using(crate::proofs::Fresh::disjunctions_once))]
 fn one_disjunction_each(constraints: &[u16], count: u16) -> bool
     requires { all_under max_exprs (disjunctions (constraint_rows constraints.now count)) ≡ true }
     ensures { result ≡ no_two (disjunctions (constraint_rows constraints.now count)) }
@@ -402,6 +405,7 @@ fn one_disjunction_each(constraints: &[u16], count: u16) -> bool
 }
 
 // Check 10: no two base names are for one expression.
+#[tactic(auto, using(crate::proofs::Fresh::names_once))]
 fn one_name_each(names: &[u16], given: Given) -> bool
     requires { (name_words * given.names ≤ length names.now)
         × (all_under max_exprs (keys (problem_call given [] names.now [] [] [])) ≡ true) }
@@ -441,6 +445,7 @@ fn has_sources(says: Constraint) -> bool
 }
 
 // Check 11: no Join is without sources.
+#[tactic(auto, using(crate::proofs::RowsLeft::joins))]
 fn joins_fine(constraints: &[u16], count: u16) -> bool
     ensures { result ≡ joins_fine (constraint_rows constraints.now count) }
 {

@@ -1,0 +1,13 @@
+-- The loop's invariant: every source passed is a place. Assumes nothing.
+use Rattle.std.proofs.Common.{◌+◌, ◌-◌, ◌≡◌, ◌≤◌, [], true}
+use Rattle.resolved_sort.specs.Checks.{all_below}
+use Rattle.solve_checks.specs.Inner.Calls.{problem_call}
+use Rattle.solve_checks.specs.Inner.Tests.{source_fine}
+use Rattle.solve_checks.proofs.sources_fine.Given as goal
+
+abbrev pub invariant-loop-j : goal.invariant-loop-j
+invariant-loop-j l =
+    (l.j ≤ l.count) × (all_below l.j (λ k. source_fine (problem_call l.given [] [] [] [] l.sources) (l.start + k)) ≡ true)
+
+abbrev pub decreases-loop-j : goal.decreases-loop-j
+decreases-loop-j l = l.count - l.j
