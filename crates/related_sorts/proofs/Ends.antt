@@ -1,6 +1,6 @@
 -- The definition, as the code meets it: by the head of a sort or a node, by the end of a place, and at a function. A function's range has a lower rank than
 -- the function, and the end of a place no higher one. Assumes nothing.
-use mathlib.Core.Path.{◌≡◌, refl, ap, ap₂, sym, ◌∙◌, subst}
+use mathlib.Core.Path.{◌≡◌, refl, ap, sym, ◌∙◌, subst}
 use mathlib.Core.List.{List, [], ◌∷◌, ◌++◌}
 use mathlib.Core.Option.{some}
 use mathlib.Core.Bool.{Bool, true, false}
@@ -14,7 +14,7 @@ use Rattle.resolved_sort.specs.declared.ComplexSort.{ComplexSort}
 use Rattle.resolved_sort.specs.declared.SortId.{SortId}
 use Rattle.resolved_sort.specs.declared.ResolvedSort.{ResolvedSort}
 use Rattle.resolved_sort.specs.declared.ResolvedSort.TheVariants.{Unit as UnitRow, Primitive, Container, Function as SortFunction, Def, TypeVar}
-use Rattle.resolved_sort.specs.Tree.{Flat, unit, primitive, def, typevar}
+use Rattle.resolved_sort.specs.Tree.{unit, primitive, def, typevar}
 use Rattle.resolved_sort.specs.Storage.{max_sorts, entries_of, row_at}
 use Rattle.resolved_sort.specs.Rows.{Checked}
 use Rattle.unification.specs.declared.Lengths.{Lengths}

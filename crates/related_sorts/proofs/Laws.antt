@@ -35,7 +35,7 @@ use Rattle.unification.specs.declared.Related.{Related}
 use Rattle.unification.specs.declared.Related.TheVariants.{These, NoList, Full}
 use Rattle.unification.specs.Nodes.{max_nodes, max_node_entries, node_entries_at}
 use Rattle.unification.specs.Related.{related_container}
-use Rattle.unification.specs.Making.{Lent, Makes, made, no_list, no_room, ◌and-then◌, only, with_sorts, push_node}
+use Rattle.unification.specs.Making.{Lent, Makes, made, no_room, ◌and-then◌, only, with_sorts, push_node}
 use Rattle.unification.specs.Making.{append_node, intern_container, related_over, push_functions}
 use Rattle.unification.specs.Inner.Making.{lent}
 use Rattle.unification.specs.Resolve.{with_counts}

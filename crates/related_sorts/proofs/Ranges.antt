@@ -2,10 +2,10 @@
 -- more than places. What is found at the end of a range is what the definition has for the range; the lists have grown by then, and the functions on the way
 -- stand in them as before. So, outwards, each function over what was found is what the definition has for that function. Assumes nothing.
 use mathlib.Core.Path.{◌≡◌, refl, ap, sym, ◌∙◌, subst}
-use mathlib.Core.List.{List, [], ◌∷◌}
+use mathlib.Core.List.{List}
 use mathlib.Core.Option.{some}
-use mathlib.Core.Bool.{Bool, true, false}
-use Prim.Native.Nat.{ℕ, zero, suc, ◌+◌, ◌-◌, ◌<◌, ◌≤◌}
+use mathlib.Core.Bool.{Bool, true}
+use Prim.Native.Nat.{ℕ, suc, ◌+◌, ◌-◌, ◌<◌, ◌≤◌}
 use native.Mathlib.Omega.{arith}
 use native.Mathlib.Numerals.{add-one}
 use native.Mathlib.Decide.{ℕ_discrete}
@@ -19,7 +19,7 @@ use Rattle.unification.specs.declared.Lengths.{Lengths}
 use Rattle.unification.specs.declared.Three.{Three}
 use Rattle.unification.specs.declared.Related.{Related}
 use Rattle.unification.specs.declared.Related.TheVariants.{These, NoList, Full}
-use Rattle.unification.specs.Term.{flat_head, container_head, function_head, stray_head, Shape, variable, over, kind_head}
+use Rattle.unification.specs.Term.{function_head, Shape, over, kind_head}
 use Rattle.unification.specs.Inner.Term.{head_of, parts_of}
 use Rattle.unification.specs.Nodes.{max_places, is_sort, Binds, binds_of}
 use Rattle.unification.specs.Unify.{follow, deep}

@@ -535,7 +535,7 @@ fn over_functions(
 fn over_function(sorts: &[u16], nodes: &mut [u16], id: InferSortId, found: Related) -> Related
     requires { Ranges found × Stands id.0 (related_made sorts.now nodes.old found) }
     ensures { Relates sorts.now nodes.new result
-        (related_made sorts.now nodes.old found and_then over_function id.0) }
+        (related_made sorts.now nodes.old found and-then over_function id.0) }
 {
     match found {
         Related::These(ranges, lengths) => {

@@ -1,0 +1,19 @@
+-- The parts of a place, one after another. Assumes nothing.
+use Rattle.std.proofs.Common.{arith, length-set, ◌∙◌}
+use Rattle.related_sorts.proofs.Laws as law
+use Rattle.related_sorts.proofs.arguments.Goals as goal
+
+pub part-requires : goal.part-requires
+part-requires c = (c.requires.nodes, c.requires.placed, omega (arith, c.loop-i-test.true, c.requires.many))
+
+pub loop-i-preserved : goal.loop-i-preserved
+loop-i-preserved c = (
+  omega (arith, c.loop-i-test.true),
+  length-set c.loop-i.words c.loop-i.i _ ∙ c.loop-i.invariant.1,
+  law.one_more_part _ c.loop-i.words c.loop-i.i
+      (omega (arith, c.loop-i-test.true, c.requires.few, c.loop-i.invariant.1))
+      (omega (arith, c.loop-i-test.true, c.requires.many)) c.loop-i.invariant.2 _ c.part.ensures,
+)
+
+pub returns : goal.returns
+returns c = law.parts_stored _ _ c.loop-i.i c.args.count (omega (arith, c.loop-i-test.false, c.loop-i.invariant.0)) c.loop-i.invariant.2
