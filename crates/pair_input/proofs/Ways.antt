@@ -42,7 +42,7 @@ module _ (memory : List ℕ) (held : Held) (byte : ℕ) (out : List ℕ) (at : �
         (λ h. take_byte h byte) lines_first ∙ rw (eq-eqb byte 10 e) in
         record {
           holds = record { fits = (first_few, omega arith); long = q.long };
-          is-stored = sym (ap (λ h. byte_in_memory memory h byte) i ∙ rw (eq-eqb byte 10 e));
+          is_stored = sym (ap (λ h. byte_in_memory memory h byte) i ∙ rw (eq-eqb byte 10 e));
           lines = sym (ap (λ x. x.lines)
               t);
           put = put_as (sym (ap (λ x. x.output) t)) (put_none out at);
@@ -57,7 +57,7 @@ module _ (memory : List ℕ) (held : Held) (byte : ℕ) (out : List ℕ) (at : �
         (λ x. take_byte x byte) lines_first ∙ rw (ne_eqb byte 10 d) in
         record {
           holds = record { fits = h.few; long = omega (arith, h.long, q.long) };
-          is-stored = ap first_in_memory k ∙ sym (ap (λ x. byte_in_memory memory x byte) i ∙ rw (ne_eqb byte 10 d));
+          is_stored = ap first_in_memory k ∙ sym (ap (λ x. byte_in_memory memory x byte) i ∙ rw (ne_eqb byte 10 d));
           lines = ap first h.line ∙ sym (ap (λ x. x.lines) t);
           put = put_as (sym (ap (λ x. x.output) t)) (put_none out at);
         }
@@ -83,7 +83,7 @@ module _ (memory : List ℕ) (held : Held) (byte : ℕ) (out : List ℕ) (at : �
         rw (eq-eqb byte 10 e) in
         record {
           holds = record { fits = omega arith; long = q.long };
-          is-stored = sym (ap (λ x. byte_in_memory memory x byte) i ∙ rw (eq-eqb byte 10 e));
+          is_stored = sym (ap (λ x. byte_in_memory memory x byte) i ∙ rw (eq-eqb byte 10 e));
           lines = sym (ap (λ x. x.lines) t);
           put = put_as (sym (ap (λ x. x.output) t)) h;
         }
@@ -97,7 +97,7 @@ module _ (memory : List ℕ) (held : Held) (byte : ℕ) (out : List ℕ) (at : �
         byte)) [] = ap (λ x. take_byte x byte) lines_second ∙ rw (ne_eqb byte 10 d) in
         record {
           holds = record { fits = (second_few.0, h.few); long = omega (arith, h.long, q.long) };
-          is-stored = ap (second_in_memory n) k ∙ sym (ap (λ x. byte_in_memory memory x byte) i ∙ rw (ne_eqb byte 10 d));
+          is_stored = ap (second_in_memory n) k ∙ sym (ap (λ x. byte_in_memory memory x byte) i ∙ rw (ne_eqb byte 10 d));
           lines = ap₂ second h.before h.line ∙ sym (ap (λ x. x.lines) t);
           put = put_as (sym (ap (λ x. x.output) t)) (put_none out at);
         }
@@ -132,7 +132,7 @@ pub nothing_fed : (memory : List ℕ) (held : Held) (bytes out : List ℕ) → H
 unfolding take_bytes bytes_in_memory
 nothing_fed memory held bytes out q =
     record {
-      turns = record { holds = q; is-stored = refl; lines = refl; put = put_none out 0 };
+      turns = record { holds = q; is_stored = refl; lines = refl; put = put_none out 0 };
       within = omega arith;
       fits = omega
           arith;
@@ -166,7 +166,7 @@ module _ (memory : List ℕ) (held : Held) (bytes out memory₁ : List ℕ) (hel
 
     next_stored : byte_in_memory memory₁ held₁ (get_or bytes used 0) ≡ bytes_in_memory memory held (take (used + 1) bytes)
     next_stored =
-        ap (λ (s : InMemory). byte_in_memory s.memory s.held (get_or bytes used 0)) f.turns.is-stored
+        ap (λ (s : InMemory). byte_in_memory s.memory s.held (get_or bytes used 0)) f.turns.is_stored
         ∙ sym (ap (λ (k : ℕ). bytes_in_memory memory held (take k bytes)) (add-one used)
         ∙ (ap (bytes_in_memory memory held) (take-suc bytes used 0 u) ∙ stored_then (take used bytes) memory held (get_or bytes used 0)))
 
@@ -186,7 +186,7 @@ module _ (memory : List ℕ) (held : Held) (bytes out memory₁ : List ℕ) (hel
         let g' = subst (λ x. Turns (take_byte x (get_or bytes used 0)) (byte_in_memory memory₁ held₁ (get_or bytes used 0)) out₁ at memory₂ held₂ out₂ next) f.turns.lines g in
         record {
           turns = subst (λ x. Turns x (bytes_in_memory memory held (take (used + 1) bytes)) out 0 memory₂ held₂ out₂ next) (sym next_byte)
-              (record { holds = g'.holds; is-stored = g'.is-stored ∙ next_stored; lines = g'.lines; put = put_then f.turns.put g'.put });
+              (record { holds = g'.holds; is_stored = g'.is_stored ∙ next_stored; lines = g'.lines; put = put_then f.turns.put g'.put });
           within = omega (arith, u);
           fits = omega (arith, h, f.out_long, g'.put.behind, byte_output t₁.lines (get_or bytes used 0), put_length g'.put);
           goes = λ j l. goes_on h j (ltb j used) refl l;

@@ -51,7 +51,7 @@ bytes_in_memory memory held (b ∷ bs) =
 pub record Turns (t : Turned) (s : InMemory) (out : List ℕ) (at : ℕ) (memory : List ℕ) (held : Held)
     (left : List ℕ) (next : ℕ) : Type 0 where
   pub holds : Holds memory held
-  pub is_stored_lem : in_memory memory held ≡ s
+  pub is_stored : in_memory memory held ≡ s
   pub lines : lines_of memory held ≡ t.lines
   pub put : Put out at t.output left next
 

@@ -2,12 +2,15 @@
 // differ, and what is said of a line and at the end.
 #![tactic(auto)]
 
-ghost use Rattle.std.specs.Prelude.{◌≡◌, ◌+◌, ◌*◌, ◌≤◌};
+ghost use Rattle.std.specs.Prelude.{◌≡◌, ◌+◌, ◌*◌, ◌≤◌, OnOk, IfOk};
 ghost use Rattle.replay.specs.Inner.Numbers.{max_fields, number_at, ended_of, fields_of, no_fields};
+ghost use Rattle.std.specs.Io.KnownBytes.{Appends};
+ghost use Rattle.replay.specs.Said.{line_said, bad_said, other_said, said_of, found_said, counted_found, last_said, counted_last, end_said};
 ghost use Rattle.replay.specs.Inner.Lines.{near_enough, kept, store_from, one_more, counted_of};
 
 use line_input::LineFound;
 use std::io;
+use std::io::Write;
 use words::{MOST_WORD, put};
 
 // How many numbers a line has at most, how many words of a list it gives at most, and the largest count.
@@ -216,26 +219,41 @@ pub fn counted(tally: Tally, verdict: Verdict) -> Tally
 }
 
 // The number of a line, before what there is to say of it.
-fn say_line(out: &impl Print, number: u64) -> io::Result<()> {
-    print!(out; "line {number}")
+fn say_line<W: Write>(out: &mut W, number: u64) -> io::Result<()>
+    ensures { OnOk result (Appends (W.contents out.old) (W.contents out.new) (line_said number)) }
+{
+    write!(out, "line {number}")
 }
 
-fn say_bad(out: &impl Print, number: u64) -> io::Result<()> {
+fn say_bad<W: Write>(out: &mut W, number: u64) -> io::Result<()>
+    ensures { OnOk result (Appends (W.contents out.old) (W.contents out.new) (bad_said number)) }
+{
     say_line(out, number)?;
-    println!(out; " is not of the form")
+    out.write_all(b" is not of the form\n")
 }
 
 // A line whose answer is another: what is another, and its number.
-fn say_other(out: &impl Print, number: u64, text: &[u8], what: &[u8], got: u64) -> io::Result<()> {
+fn say_other<W: Write>(
+    out: &mut W,
+    number: u64,
+    text: &[u8],
+    what: &[u8],
+    got: u64,
+) -> io::Result<()>
+    ensures { OnOk result (Appends (W.contents out.old) (W.contents out.new) (other_said number text.now what.now got)) }
+{
     say_line(out, number)?;
     out.write_all(b": ")?;
     out.write_all(text)?;
     out.write_all(what)?;
-    println!(out; "{got}")
+    writeln!(out, "{got}")
 }
 
 // What there is to say of a line.
-pub fn say(out: &impl Print, number: u64, text: &[u8], verdict: Verdict) -> io::Result<()> {
+#[tactic(auto, unfolding(crate::specs::Said::said_of))]
+pub fn say<W: Write>(out: &mut W, number: u64, text: &[u8], verdict: Verdict) -> io::Result<()>
+    ensures { OnOk result (Appends (W.contents out.old) (W.contents out.new) (said_of number text.now verdict)) }
+{
     match verdict {
         Verdict::Quiet => Ok(()),
         Verdict::Agrees => Ok(()),
@@ -252,22 +270,49 @@ pub fn say(out: &impl Print, number: u64, text: &[u8], verdict: Verdict) -> io::
     }
 }
 
-// How many answers were checked and how many lines do not agree. A read that failed and a last list
-// that is not complete count as a line each.
-pub fn finish(out: &impl Print, tally: Tally, found: LineFound, complete: bool) -> io::Result<()> {
-    let mut all = tally;
+// A read that failed counts as a line that does not agree.
+#[tactic(auto, unfolding(crate::specs::Said::found_said, crate::specs::Said::counted_found))]
+fn finish_read<W: Write>(out: &mut W, tally: Tally, found: LineFound) -> io::Result<Tally>
+    ensures said { OnOk result (Appends (W.contents out.old) (W.contents out.new) (found_said found)) }
+    ensures counted { IfOk result (λ t. t ≡ counted_found found tally) }
+{
     match found {
         LineFound::Failed => {
-            println!(out; "the input cannot be read")?;
-            all = counted(all, Verdict::NotOfForm);
+            out.write_all(b"the input cannot be read\n")?;
+            Ok(counted(tally, Verdict::NotOfForm))
         }
-        _ => {}
+        LineFound::Nothing => Ok(tally),
+        LineFound::Line => Ok(tally),
+        LineFound::End => Ok(tally),
     }
-    if !complete {
-        println!(out; "the last list is not complete")?;
-        all = counted(all, Verdict::NotOfForm);
+}
+
+// A last list that is not complete counts as a line too.
+#[tactic(auto, unfolding(crate::specs::Said::last_said, crate::specs::Said::counted_last))]
+fn finish_last<W: Write>(out: &mut W, tally: Tally, complete: bool) -> io::Result<Tally>
+    ensures said { OnOk result (Appends (W.contents out.old) (W.contents out.new) (last_said complete)) }
+    ensures counted { IfOk result (λ t. t ≡ counted_last complete tally) }
+{
+    if complete {
+        return Ok(tally);
     }
+    out.write_all(b"the last list is not complete\n")?;
+    Ok(counted(tally, Verdict::NotOfForm))
+}
+
+// How many answers were checked and how many lines do not agree. A read that failed and a last list
+// that is not complete count as a line each.
+pub fn finish<W: Write>(
+    out: &mut W,
+    tally: Tally,
+    found: LineFound,
+    complete: bool,
+) -> io::Result<()>
+    ensures { OnOk result (Appends (W.contents out.old) (W.contents out.new) (end_said tally found complete)) }
+{
+    let read = finish_read(out, tally, found)?;
+    let all = finish_last(out, read, complete)?;
     let questions = all.questions;
     let differ = all.differ;
-    println!(out; "checked {questions} answers, {differ} differ")
+    writeln!(out, "checked {questions} answers, {differ} differ")
 }

@@ -11,7 +11,7 @@ use line_input::{LineFound, next_line, no_input};
 use recorded_solve::{HELD_WORDS, replay_line};
 use replay::{HELD_LINE, Tally, Verdict, counted, finish, say};
 use std::io;
-use std::io::Read;
+use std::io::{Read, Write};
 
 // The counts, and how the search for the last line ended.
 #[derive(Drop)]
@@ -21,8 +21,8 @@ struct State {
 }
 
 // A line of the input, of so many bytes. One that fills its memory is too long, and not of the form.
-fn take_line(
-    out: &impl Print,
+fn take_line<W: Write>(
+    out: &mut W,
     given: &mut [u16; HELD_WORDS],
     left: &mut [u16; HELD_WORDS],
     line: &[u8],
@@ -41,9 +41,9 @@ fn take_line(
 }
 
 // All lines; the turns count down as in next_line.
-fn replay_all<R: Read>(
-    out: &impl Print,
+fn replay_all<R: Read, W: Write>(
     reader: &mut R,
+    out: &mut W,
     given: &mut [u16; HELD_WORDS],
     left: &mut [u16; HELD_WORDS],
     buffer: &mut [u8],
@@ -71,6 +71,7 @@ fn replay_all<R: Read>(
 
 fn main(rt: HostRuntime) -> io::Result<()> {
     let mut reader = rt.stdin();
+    let mut out = rt.stdout();
     let mut given = [0u16; HELD_WORDS];
     let mut left = [0u16; HELD_WORDS];
     let mut buffer = [0u8; BUFFER_BYTES];
@@ -90,7 +91,7 @@ fn main(rt: HostRuntime) -> io::Result<()> {
         tally,
     )?;
     let found = end.found;
-    finish(&rt, end.tally, found, true)
+    finish(&mut out, end.tally, found, true)
 }
 
 // The input is read in parts of at most so many bytes.

@@ -11,7 +11,7 @@ use recorded_sorts::{Progress, complete, replay_line, start};
 use replay::{HELD_LINE, Tally, Verdict, counted, finish, say};
 use resolved_sort::SORT_WORDS;
 use std::io;
-use std::io::Read;
+use std::io::{Read, Write};
 
 // How far the list was read, the counts, and how the search for the last line ended.
 #[derive(Drop)]
@@ -22,8 +22,8 @@ struct State {
 }
 
 // A line of the input, of so many bytes. One that fills its memory is too long, and not of the form.
-fn take_line(
-    out: &impl Print,
+fn take_line<W: Write>(
+    out: &mut W,
     list: &mut [u16; SORT_WORDS],
     line: &[u8],
     length: usize,
@@ -53,9 +53,9 @@ fn take_line(
 }
 
 // All lines; the turns count down as in next_line.
-fn replay_all<R: Read>(
-    out: &impl Print,
+fn replay_all<R: Read, W: Write>(
     reader: &mut R,
+    out: &mut W,
     list: &mut [u16; SORT_WORDS],
     buffer: &mut [u8],
     line: &mut [u8],
@@ -87,6 +87,7 @@ fn replay_all<R: Read>(
 
 fn main(rt: HostRuntime) -> io::Result<()> {
     let mut reader = rt.stdin();
+    let mut out = rt.stdout();
     let mut list = [0u16; SORT_WORDS];
     let mut buffer = [0u8; BUFFER_BYTES];
     let mut line = [0u8; HELD_LINE];
@@ -100,10 +101,17 @@ fn main(rt: HostRuntime) -> io::Result<()> {
         tally,
         found: LineFound::Nothing,
     };
-    let end = replay_all(&rt, &mut reader, &mut list, &mut buffer, &mut line, state)?;
+    let end = replay_all(
+        &mut reader,
+        &mut out,
+        &mut list,
+        &mut buffer,
+        &mut line,
+        state,
+    )?;
     let progress = end.progress;
     let found = end.found;
-    finish(&rt, end.tally, found, complete(progress))
+    finish(&mut out, end.tally, found, complete(progress))
 }
 
 // The input is read in parts of at most so many bytes.

@@ -1,0 +1,57 @@
+-- What is said of a line, and what is said at the end.
+use Rattle.std.specs.Prelude.{Bool, true, false, List, [], ◌++◌, ℕ, codes, decimal}
+use Rattle.line_input.specs.declared.LineFound.{LineFound}
+use Rattle.line_input.specs.declared.LineFound.TheVariants.{Nothing, Line, End, Failed}
+use Rattle.replay.specs.Inner.Lines.{counted_of}
+use Rattle.replay.specs.declared.Verdict.{Verdict}
+use Rattle.replay.specs.declared.Verdict.TheVariants.{Quiet, Agrees, Differs, BindsOther, LeavesOther, NotOfForm}
+use Rattle.replay.specs.declared.Tally.{Tally}
+
+-- the number of a line
+abbrev pub line_said : ℕ → List ℕ
+line_said number = codes "line " ++ decimal number
+
+abbrev pub bad_said : ℕ → List ℕ
+bad_said number = line_said number ++ codes " is not of the form\n"
+
+-- a line whose answer is another
+abbrev pub other_said : ℕ → (text what : List ℕ) → ℕ → List ℕ
+other_said number text what got =
+    line_said number ++ (codes ": " ++ (text ++ (what ++ (decimal got ++ codes "\n"))))
+
+unfoldable pub said_of : ℕ → List ℕ → Verdict → List ℕ
+said_of number text Quiet = []
+said_of number text Agrees = []
+said_of number text (Differs got) = other_said number text (codes ": got ") got
+said_of number text (BindsOther variable) = other_said number text (codes ": another binding of variable ") variable
+said_of number text (LeavesOther word) = other_said number text (codes ": left ") word
+said_of number text NotOfForm = bad_said number
+
+-- a read that failed, and a last list that is not complete
+unfoldable pub found_said : LineFound → List ℕ
+found_said Failed = codes "the input cannot be read\n"
+found_said Nothing = []
+found_said Line = []
+found_said End = []
+
+unfoldable pub counted_found : LineFound → Tally → Tally
+counted_found Failed t = counted_of t NotOfForm
+counted_found Nothing t = t
+counted_found Line t = t
+counted_found End t = t
+
+unfoldable pub last_said : Bool → List ℕ
+last_said true = []
+last_said false = codes "the last list is not complete\n"
+
+unfoldable pub counted_last : Bool → Tally → Tally
+counted_last true t = t
+counted_last false t = counted_of t NotOfForm
+
+abbrev pub checked_said : Tally → List ℕ
+checked_said t =
+    codes "checked " ++ (decimal t.questions ++ (codes " answers, " ++ (decimal t.differ ++ codes " differ\n")))
+
+abbrev pub end_said : Tally → LineFound → Bool → List ℕ
+end_said t found complete =
+    found_said found ++ (last_said complete ++ checked_said (counted_last complete (counted_found found t)))
