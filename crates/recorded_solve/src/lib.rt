@@ -120,6 +120,7 @@ pub enum Expected {
 }
 
 // What a line says by its letter.
+#[tactic(auto, unfolding(crate::specs::Inner::Lines::letter_of))]
 fn letter_of(letter: u8) -> Letter
     ensures { result ≡ letter_of letter }
 {
@@ -133,6 +134,7 @@ fn letter_of(letter: u8) -> Letter
 }
 
 // The word at which a slice starts, and past the last one the first count.
+#[tactic(auto, unfolding(crate::specs::Inner::Slices::slice_start))]
 fn start_of(slice: usize) -> usize
     requires { slice ≤ 12 }
     ensures { (result ≡ slice_start slice) × (result ≤ held_counts_at) }
@@ -256,6 +258,7 @@ fn compare_left(left: &[u16; HELD_WORDS], fields: Fields) -> Verdict
 }
 
 // The packed answer of a line: its code, and the numbers of sorts, entries, components and choices.
+#[tactic(auto, unfolding(crate::specs::Inner::Lines::recorded_of))]
 fn recorded(values: [u64; MAX_FIELDS]) -> Expected
     ensures { result ≡ recorded_of values }
 {
