@@ -30,56 +30,56 @@ module _ (f : Fields) (p : Progress) (r : LineStep) (bad : r ≡ not_of_form p) 
   unfolding begin_line
   begin_count h = rw (bad, ne_eqb _ _ h)
 
-  pub begin_incomplete : f.count ≡ 2 → (b : Bool) → b ≡ complete p → not b ≡ true → r ≡ begin_line f p
+  pub begin_incomplete : f.count ≡ 2 → (b : Bool) → b ≡ complete p → b ≡ false → r ≡ begin_line f p
   unfolding begin_line
-  begin_incomplete h b e n = rw (bad, eq-eqb _ _ h, sym e ∙ not-true b n)
+  begin_incomplete h b e n = rw (bad, eq-eqb _ _ h, sym e ∙ n)
 
-  pub begin_sorts : f.count ≡ 2 → (b : Bool) → b ≡ complete p → not b ≡ false → 1024 < get_or f.values 0 0 → r ≡ begin_line f p
+  pub begin_sorts : f.count ≡ 2 → (b : Bool) → b ≡ complete p → b ≡ true → 1024 < get_or f.values 0 0 → r ≡ begin_line f p
   unfolding begin_line
-  begin_sorts h b e n s = rw (bad, eq-eqb _ _ h, sym e ∙ not-false b n, lt-ltb _ _ s)
+  begin_sorts h b e n s = rw (bad, eq-eqb _ _ h, sym e ∙ n, lt-ltb _ _ s)
 
   pub begin_entries :
-      f.count ≡ 2 → (b : Bool) → b ≡ complete p → not b ≡ false → get_or f.values 0 0 ≤ 1024 → 4096 < get_or f.values 1 0 → r ≡ begin_line f p
+      f.count ≡ 2 → (b : Bool) → b ≡ complete p → b ≡ true → get_or f.values 0 0 ≤ 1024 → 4096 < get_or f.values 1 0 → r ≡ begin_line f p
   unfolding begin_line
-  begin_entries h b e n s t = rw (bad, eq-eqb _ _ h, sym e ∙ not-false b n, le-ltb _ _ s, lt-ltb _ _ t)
+  begin_entries h b e n s t = rw (bad, eq-eqb _ _ h, sym e ∙ n, le-ltb _ _ s, lt-ltb _ _ t)
 
 pub begin_well :
-    (f : Fields) (p : Progress) → f.count ≡ 2 → (b : Bool) → b ≡ complete p → not b ≡ false → get_or f.values 0 0 ≤ 1024 → get_or f.values 1 0 ≤ 4096
+    (f : Fields) (p : Progress) → f.count ≡ 2 → (b : Bool) → b ≡ complete p → b ≡ true → get_or f.values 0 0 ≤ 1024 → get_or f.values 1 0 ≤ 4096
     → line_step (record { sorts = get_or f.values 0 0; entries = get_or f.values 1 0; rows = 0; filled = 0 }) Quiet ≡ begin_line f p
 unfolding begin_line
-begin_well f p h b e n s t = rw (eq-eqb _ _ h, sym e ∙ not-false b n, le-ltb _ _ s, le-ltb _ _ t)
+begin_well f p h b e n s t = rw (eq-eqb _ _ h, sym e ∙ n, le-ltb _ _ s, le-ltb _ _ t)
 
 module _ (ws : List ℕ) (q : Question) (f : Fields) (p : Progress) (r : LineStep) (bad : r ≡ not_of_form p) where
   pub question_count : (f.count ≡ 3 → ⊥) → r ≡ ask_line ws q f p
   unfolding ask_line
   question_count h = rw (bad, ne_eqb _ _ h)
 
-  pub question_incomplete : f.count ≡ 3 → (b : Bool) → b ≡ complete p → not b ≡ true → r ≡ ask_line ws q f p
+  pub question_incomplete : f.count ≡ 3 → (b : Bool) → b ≡ complete p → b ≡ false → r ≡ ask_line ws q f p
   unfolding ask_line
-  question_incomplete h b e n = rw (bad, eq-eqb _ _ h, sym e ∙ not-true b n)
+  question_incomplete h b e n = rw (bad, eq-eqb _ _ h, sym e ∙ n)
 
-  pub question_lhs : f.count ≡ 3 → (b : Bool) → b ≡ complete p → not b ≡ false → 65535 < get_or f.values 0 0 → r ≡ ask_line ws q f p
+  pub question_lhs : f.count ≡ 3 → (b : Bool) → b ≡ complete p → b ≡ true → 65535 < get_or f.values 0 0 → r ≡ ask_line ws q f p
   unfolding ask_line
-  question_lhs h b e n s = rw (bad, eq-eqb _ _ h, sym e ∙ not-false b n, lt-ltb _ _ s)
+  question_lhs h b e n s = rw (bad, eq-eqb _ _ h, sym e ∙ n, lt-ltb _ _ s)
 
   pub question_rhs :
-      f.count ≡ 3 → (b : Bool) → b ≡ complete p → not b ≡ false → get_or f.values 0 0 ≤ 65535 → 65535 < get_or f.values 1 0
+      f.count ≡ 3 → (b : Bool) → b ≡ complete p → b ≡ true → get_or f.values 0 0 ≤ 65535 → 65535 < get_or f.values 1 0
       → r ≡ ask_line ws q f p
   unfolding ask_line
-  question_rhs h b e n s t = rw (bad, eq-eqb _ _ h, sym e ∙ not-false b n, le-ltb _ _ s, lt-ltb _ _ t)
+  question_rhs h b e n s t = rw (bad, eq-eqb _ _ h, sym e ∙ n, le-ltb _ _ s, lt-ltb _ _ t)
 
-module _ (ws : List ℕ) (q : Question) (f : Fields) (p : Progress) (three : f.count ≡ 3) (b : Bool) (told : b ≡ complete p) (all : not b ≡ false)
+module _ (ws : List ℕ) (q : Question) (f : Fields) (p : Progress) (three : f.count ≡ 3) (b : Bool) (told : b ≡ complete p) (all : b ≡ true)
     (lhs : get_or f.values 0 0 ≤ 65535) (rhs : get_or f.values 1 0 ≤ 65535) (got : ℕ)
     (answered : got ≡ packed_answer q ws p.sorts p.entries (get_or f.values 0 0) (get_or f.values 1 0)) where
   pub agrees : got ≡ get_or f.values 2 0 → line_step p Agrees ≡ ask_line ws q f p
   unfolding ask_line
   agrees e =
-      rw (eq-eqb _ _ three, sym told ∙ not-false b all, le-ltb _ _ lhs, le-ltb _ _ rhs, sym answered, eq-eqb _ _ e)
+      rw (eq-eqb _ _ three, sym told ∙ all, le-ltb _ _ lhs, le-ltb _ _ rhs, sym answered, eq-eqb _ _ e)
 
   pub differs : (got ≡ get_or f.values 2 0 → ⊥) → line_step p (Differs got) ≡ ask_line ws q f p
   unfolding ask_line
   differs e =
-      rw (eq-eqb _ _ three, sym told ∙ not-false b all, le-ltb _ _ lhs, le-ltb _ _ rhs, sym answered, ne_eqb _ _ e)
+      rw (eq-eqb _ _ three, sym told ∙ all, le-ltb _ _ lhs, le-ltb _ _ rhs, sym answered, ne_eqb _ _ e)
 
 module _ (ws : List ℕ) (base : ℕ) (f : Fields) (p next : Progress) where
   pub keep_count : (r : LineStep) → r ≡ not_of_form p → 16 < f.count → stepped ws r ≡ keep_of ws base f p next

@@ -24,7 +24,7 @@ const SORTS: u64 = 1024;
 const ENTRIES: u64 = 4096;
 
 // What is asked of two sorts.
-#[derive(Drop)]
+#[derive(Clone, Copy, Drop)]
 pub enum Question {
     PartialCmp,
     WideningDistance,
@@ -34,7 +34,7 @@ pub enum Question {
 }
 
 // What a line says by its letter.
-#[derive(Drop)]
+#[derive(Clone, Copy, Drop)]
 pub enum Letter {
     List,
     Row,
@@ -44,7 +44,7 @@ pub enum Letter {
 }
 
 // How much a list has by its first line, and how much of it was read.
-#[derive(Drop)]
+#[derive(Clone, Copy, Drop)]
 pub struct Progress {
     pub sorts: u16,
     pub entries: u16,
@@ -52,7 +52,7 @@ pub struct Progress {
     pub filled: u16,
 }
 
-#[derive(Drop)]
+#[derive(Clone, Copy, Drop)]
 pub struct LineStep {
     pub progress: Progress,
     pub verdict: Verdict,
