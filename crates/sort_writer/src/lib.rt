@@ -27,6 +27,7 @@ use text_out::put_bytes;
 use words::{BIT_63, word};
 
 // The size of two texts one after the other. It stops at 2^63, and where one has no text there is none.
+#[tactic(auto, using(crate::proofs::Sizes::joined_none, crate::proofs::Sizes::joined_with_none, crate::proofs::Sizes::joined_far, crate::proofs::Sizes::joined_whole))]
 fn join_sizes(a: usize, b: usize) -> usize
     ensures { result ≡ joined a b }
 {
@@ -54,6 +55,7 @@ pub fn size_at(sizes: &[usize], id: SortId) -> usize
 }
 
 // How long the word of a basic sort is.
+#[tactic(auto, unfolding(sort_text::specs::Parse::sort_word))]
 fn word_size(sort: Sort) -> usize
     ensures { result ≡ length (sort_word sort) }
 {
@@ -67,6 +69,7 @@ fn word_size(sort: Sort) -> usize
 }
 
 // How long the word of a container is, with the two brackets.
+#[tactic(auto, unfolding(sort_text::specs::Parse::op_word))]
 fn op_size(op: ComplexSort) -> usize
     ensures { result ≡ length (op_word op) + 2 }
 {
@@ -108,6 +111,7 @@ fn arguments_size(sorts: &[u16], sizes: &[usize], start: u16, count: u16) -> usi
 }
 
 // The size of the sort that a row says, by the sizes of its parts. Unit, Def and TypeVar have no text.
+#[tactic(auto, unfolding(crate::specs::Inner::Sizes::row_size))]
 fn row_size(sorts: &[u16], sizes: &[usize], row: ResolvedSort) -> usize
     ensures { result ≡ row_size sorts.now sizes.now row }
 {
@@ -149,6 +153,7 @@ fn text_size(sorts: &[u16], n: usize, id: SortId) -> usize
 }
 
 // The word of a basic sort.
+#[tactic(auto, unfolding(sort_text::specs::Parse::sort_word))]
 fn put_word(sort: Sort, out: &mut [u8], at: usize) -> usize
     requires { at + length (sort_word sort) ≤ length out.old }
     ensures { Put out.old at (sort_word sort) out.new result }
@@ -163,6 +168,7 @@ fn put_word(sort: Sort, out: &mut [u8], at: usize) -> usize
 }
 
 // The word of a container and the bracket after it.
+#[tactic(auto, unfolding(sort_text::specs::Parse::op_word))]
 fn put_op(op: ComplexSort, out: &mut [u8], at: usize) -> usize
     requires { at + length (op_word op ++ bytes_of "(") ≤ length out.old }
     ensures { Put out.old at (op_word op ++ bytes_of "(") out.new result }
@@ -228,6 +234,7 @@ fn put_arguments(
 }
 
 // Checks 1 to 4, 12, 13 and 14 of writing a sort: the first that fails.
+#[tactic(auto, using(crate::proofs::Checks::sorts_fail, crate::proofs::Checks::few_sorts, crate::proofs::Checks::not_in_list, crate::proofs::Checks::no_text, crate::proofs::Checks::storage_short, crate::proofs::Checks::text_long, crate::proofs::Checks::all_pass))]
 fn test_write(
     sorts: &[u16],
     sort_count: usize,
@@ -285,6 +292,7 @@ pub fn write(
 }
 
 // An answer as one number: the length of the text, or 2^63 and the code of a refusal.
+#[tactic(auto, unfolding(sort_text::specs::Writing::code_written))]
 fn pack_written(answer: Written) -> u64
     ensures { result ≡ pack_written answer }
 {

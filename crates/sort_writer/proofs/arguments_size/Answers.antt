@@ -1,0 +1,23 @@
+-- The last argument, one more before it, and all of them. Assumes nothing.
+use Rattle.std.proofs.Common.{arith, ◌-◌}
+use Rattle.sort_writer.proofs.Fills as law
+use Rattle.sort_writer.proofs.arguments_size.Goals as goal
+
+pub returns-then-count-eq0 : goal.returns-then-count-eq0
+returns-then-count-eq0 c = law.no_arguments c.args.sizes.now c.args.sorts.now c.args.start c.args.count c.if-count-eq0.true
+
+pub loop-j-init : goal.loop-j-init
+loop-j-init c = (
+  omega arith,
+  law.last_argument c.args.sizes.now c.args.sorts.now c.args.start c.args.count (c.args.count - 1) _ (omega arith) c.argument_size-size.ensures,
+)
+
+pub loop-j-preserved : goal.loop-j-preserved
+loop-j-preserved c = (
+  omega arith,
+  law.one_argument_more c.args.sizes.now c.args.sorts.now c.args.start c.args.count c.loop-j.j (c.loop-j.j - 1) _ _ _ _ (omega arith) c.loop-j.invariant.0
+      c.loop-j.invariant.1 c.argument_size-first.ensures c.join_sizes.ensures c.join_sizes-size.ensures,
+)
+
+pub returns : goal.returns
+returns c = law.all_arguments c.args.sizes.now c.args.sorts.now c.args.start c.args.count c.loop-j.j _ (omega arith) c.loop-j.invariant.1
