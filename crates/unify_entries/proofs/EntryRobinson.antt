@@ -6,7 +6,7 @@ use mathlib.Core.Path.{◌≡◌, refl, ap, sym, ◌∙◌, subst}
 use mathlib.Core.List.{List, ◌++◌}
 use mathlib.Core.Option.{Option, none, some}
 use mathlib.Core.Bool.{true}
-use Prim.Native.Nat.{ℕ, ◌+◌, ◌<◌}
+use Prim.Native.Nat.{ℕ, ◌<◌}
 use native.Mathlib.Omega.{arith}
 use lib.ListN.{length, drop, length-append, length-drop}
 use lib.Seq.{drop_at}
@@ -16,7 +16,7 @@ use Rattle.unification.specs.declared.Unified.{Unified}
 use Rattle.unification.specs.declared.Unified.TheVariants.{Refused}
 use Rattle.unification.specs.Term.{Shape}
 use Rattle.unification.specs.Nodes.{shape_at, free_word, Binds, binding, binds_of}
-use Rattle.unification.specs.Unify.{Unifies, yes_with, no_way, unify, deep, deeper}
+use Rattle.unification.specs.Unify.{Unifies, yes_with, no_way, too_deep, unify, deep, deeper}
 use Rattle.unification.specs.Acyclic.{acyclic}
 use Rattle.unification.specs.NodeChecks.{bindings_within_lent, bindings_fine, node_checks, unify_checks}
 use Rattle.unification.specs.Checked.{fine_of, lists_of, Ready}
@@ -102,6 +102,7 @@ module _ (ws : List ℕ) (n e : ℕ) (ns : List ℕ) (m d : ℕ) (bs : List ℕ)
     by_answer : (a : Unifies) → unify shape B l r ≡ a → Robinson shape B l r a → (vs : List ℕ) (u : Unified)
         → binds_left vs u ≡ binds_left_by bs v a → LeftSays ws n e ns m d bs v l r vs u
     unfolding binds_left_by
+    by_answer too_deep y x vs u w = elim x [ ]
     by_answer (yes_with C) y x vs u w = subst (λ (z : BindsLeft). LeftSays ws n e ns m d bs v l r z.words z.answer) (sym w) (left_yes C y)
     by_answer no_way y (says_no h) vs u w = subst (λ (z : BindsLeft). LeftSays ws n e ns m d bs v l r z.words
         z.answer) (sym w) (record { passed = f; given = refl; no_solution = h })

@@ -1,0 +1,28 @@
+-- Check 1 of all lists, then the sorts, then the rest. Assumes nothing.
+use Rattle.std.proofs.Common.{refl}
+use Rattle.unify_entries.proofs.Laws as law
+use Rattle.unify_entries.proofs.test_unify.Goals as goal
+
+pub returns-then-not-within_lent : goal.returns-then-not-within_lent
+returns-then-not-within_lent c = law.sorts_outside c.args.sorts.now c.args.sort_count c.args.entry_count c.args.nodes.now c.args.node_count c.args.node_entry_count
+    c.args.binds.now c.args.var_count c.args.lhs.0 c.args.rhs.0 _ c.if-not-within_lent.ensures refl
+
+pub returns-then-not-nodes_within_lent : goal.returns-then-not-nodes_within_lent
+returns-then-not-nodes_within_lent c = law.nodes_outside c.args.sorts.now c.args.sort_count c.args.entry_count c.args.nodes.now c.args.node_count c.args.node_entry_count
+    c.args.binds.now c.args.var_count c.args.lhs.0 c.args.rhs.0 _ c.if-not-within_lent.ensures refl _ c.if-not-nodes_within_lent.ensures refl
+
+pub returns-then-not-bindings_within_lent : goal.returns-then-not-bindings_within_lent
+returns-then-not-bindings_within_lent c = law.bindings_outside c.args.sorts.now c.args.sort_count c.args.entry_count c.args.nodes.now c.args.node_count c.args.node_entry_count
+    c.args.binds.now c.args.var_count c.args.lhs.0 c.args.rhs.0 _ c.if-not-within_lent.ensures refl _ c.if-not-nodes_within_lent.ensures refl _ c.if-not-bindings_within_lent.ensures refl
+
+pub test_rest-requires : goal.test_rest-requires
+test_rest-requires c = law.ceilings c.args.sorts.now c.args.sort_count c.args.entry_count c.args.nodes.now c.args.node_count c.args.node_entry_count
+    c.args.binds.now c.args.var_count c.args.lhs.0 c.args.rhs.0 _ c.if-not-within_lent.ensures refl _ c.if-not-nodes_within_lent.ensures refl _ c.if-not-bindings_within_lent.ensures refl
+
+pub returns-in-Refused : goal.returns-in-Refused
+returns-in-Refused c = law.sorts_refused c.args.sorts.now c.args.sort_count c.args.entry_count c.args.nodes.now c.args.node_count c.args.node_entry_count
+    c.args.binds.now c.args.var_count c.args.lhs.0 c.args.rhs.0 _ c.if-not-within_lent.ensures refl _ c.if-not-nodes_within_lent.ensures refl _ c.if-not-bindings_within_lent.ensures refl c.test_sorts.result c.test_sorts.ensures _ c.in-Refused.is
+
+pub returns-in-Passed : goal.returns-in-Passed
+returns-in-Passed c = law.rest_decides c.args.sorts.now c.args.sort_count c.args.entry_count c.args.nodes.now c.args.node_count c.args.node_entry_count
+    c.args.binds.now c.args.var_count c.args.lhs.0 c.args.rhs.0 _ c.if-not-within_lent.ensures refl _ c.if-not-nodes_within_lent.ensures refl _ c.if-not-bindings_within_lent.ensures refl c.test_sorts.result c.test_sorts.ensures c.in-Passed.is _ c.test_rest.ensures
