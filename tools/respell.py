@@ -188,6 +188,8 @@ def main(argv):
     def turn(p, t):
         antt = p.endswith(".antt")
         here = {n for n in visible[p] if n in rename and n not in foreign[p]}
+        # the words of infix operators stay
+        here -= {w for o in re.findall(r"◌([^\s◌]+)◌", t) for w in [o]}
         out = []
         for line in t.split("\n"):
             code, comment = uncommented(line, "--" if antt else "//")
@@ -218,7 +220,7 @@ def main(argv):
             code = TOKEN.sub(one, code)
             code = re.sub(r'"(\d+)"', lambda m: strings[int(m.group(1))], code) if strings else code
             if comment:
-                comment = TOKEN.sub(lambda m: rename.get(m.group(0), m.group(0)) if re.search(r"[a-z][A-Z]", m.group(0)) else m.group(0), comment)
+                comment = TOKEN.sub(lambda m: rename.get(m.group(0), m.group(0)) if len(m.group(0)) > 2 and re.search(r"[a-z][A-Z]", m.group(0)) else m.group(0), comment)
             out.append(code + comment)
         return "\n".join(out)
 
@@ -234,7 +236,7 @@ def main(argv):
         if not os.path.exists(d):
             continue
         t = open(d, encoding="utf-8").read()
-        t2 = re.sub(r"`([^`\n]*)`", lambda m: "`" + TOKEN.sub(lambda k: rename.get(k.group(0), k.group(0)), m.group(1)) + "`", t)
+        t2 = re.sub(r"`([^`\n]*)`", lambda m: "`" + TOKEN.sub(lambda k: rename.get(k.group(0), k.group(0)) if len(k.group(0)) > 2 else k.group(0), m.group(1)) + "`", t)
         if t2 != t:
             open(d, "w", encoding="utf-8").write(t2)
             n += 1
