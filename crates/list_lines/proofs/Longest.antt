@@ -1,6 +1,6 @@
 -- What is printed for a line has room, so that nothing of it is lost: an answer by its longest text, every other line by its
 -- words. Assumes nothing.
-use mathlib.Core.Path.{◌≡◌, refl, sym, ◌∙◌, ap}
+use mathlib.Core.Path.{◌≡◌, ◌∙◌, ap}
 use mathlib.Core.Bool.{Bool, true, false, cond}
 use mathlib.Core.List.{List, [], ◌++◌}
 use Prim.Native.Nat.{ℕ, ◌+◌, ◌≤◌}
@@ -9,7 +9,7 @@ use lib.ListN.{length, length-append}
 use lib.Seq.{sets}
 use lib.Dec.{eqb}
 use Rattle.text_out.specs.Quoted.{bytes_of}
-use Rattle.text_out.specs.Within.{buffer, puts}
+use Rattle.text_out.specs.Within.{buffer}
 use Rattle.text_out.proofs.Within.{whole_where_room}
 use Rattle.list_memory.specs.declared.Heard.{Heard}
 use Rattle.list_memory.specs.declared.Heard.TheVariants.{Quiet, Begins, Asks, AsksOther, Bad}
@@ -19,7 +19,7 @@ use Rattle.list_memory.specs.declared.Form.TheVariants.{Keyword, Next, Bare, Sor
 use Rattle.list_memory.specs.declared.Form.TheVariants.{Pad, Var, Vars, Bind, Unbound, Expr, Name, Names, Default}
 use Rattle.list_memory.specs.declared.Form.TheVariants.{Sub, Lit, Comprehension, Disjunction, Overload, Join}
 use Rattle.list_memory.specs.declared.Form.TheVariants.{Sources, Constraint, Count, Lend, Ceilings, Asks as FormAsks}
-use Rattle.list_memory.specs.Memory.{reading_stage, Taken}
+use Rattle.list_memory.specs.Memory.{reading_stage}
 use Rattle.list_messages.specs.Messages.{form_text, bad_text}
 use Rattle.list_reader.specs.Taking.{line_taken}
 use Rattle.list_answers.proofs.Longest.{answer_fits}

@@ -21,6 +21,7 @@ pub struct Said {
 }
 
 // What is said of a list that ended before any question, by its stage.
+#[tactic(auto, unfolding(crate::specs::Lines::unasked_text), using(crate::proofs::Ways::nothing_put))]
 fn put_unasked(stage: u16, out: &mut [u8], at: usize) -> usize
     ensures { PutWithin out.old at (unasked_text stage) out.new result }
 {
