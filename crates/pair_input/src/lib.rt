@@ -15,21 +15,21 @@ use held_line::hold;
 use pair_line::{LINE_ROOM, put_pair, put_single};
 
 // How many bytes are held: of the first line of a pair; or of the first line and, behind it, of the second.
-#[derive(Drop)]
+#[derive(Clone, Copy, Drop)]
 pub enum Held {
     First(usize),
     Second(usize, usize),
 }
 
 // What is held after a byte, and where in the buffer the next byte of output goes.
-#[derive(Drop)]
+#[derive(Clone, Copy, Drop)]
 struct Turn {
     held: Held,
     at: usize,
 }
 
 // What is held after bytes of the input, how many of them were taken, and how many bytes of output there are.
-#[derive(Drop)]
+#[derive(Clone, Copy, Drop)]
 pub struct Fed {
     pub held: Held,
     pub used: usize,
