@@ -1,0 +1,9 @@
+-- The loop's invariant: the base names from the i-th on are stored. Assumes nothing.
+use Rattle.solve_outputs.proofs.Naming.{BaseLeft}
+use Rattle.solve_outputs.proofs.write_base_names.Given as goal
+
+abbrev pub invariant-loop-i : goal.invariant-loop-i
+invariant-loop-i l = BaseLeft l.names l.initial.typing l.exprs l.name_count l.typing l.i
+
+abbrev pub decreases-loop-i : goal.decreases-loop-i
+decreases-loop-i l = l.i

@@ -1,0 +1,10 @@
+-- The loop's invariant: storing the rows of what is left comes to storing all. Assumes nothing.
+use Rattle.std.proofs.Common.{◌-◌}
+use Rattle.solve_outputs.proofs.Choosing.{ChoicesLeft}
+use Rattle.solve_outputs.proofs.write_choices.Given as goal
+
+abbrev pub invariant-loop-i : goal.invariant-loop-i
+invariant-loop-i l = ChoicesLeft l.scratch l.initial.choices l.lists l.count l.choices l.k l.i
+
+abbrev pub decreases-loop-i : goal.decreases-loop-i
+decreases-loop-i l = l.count - l.i
