@@ -1,6 +1,6 @@
 -- No piece of a verdict's text is longer than specs/Longest.antt says: by the pieces that it is made of, rows by induction, words
 -- and messages by looking through their lists. Assumes nothing.
-use mathlib.Core.Path.{◌≡◌, refl, sym, ◌∙◌, ap, subst}
+use mathlib.Core.Path.{◌≡◌, refl, subst}
 use mathlib.Core.Bool.{Bool, true, false, cond, ◌&&◌, and-eq-true_iff}
 use mathlib.Core.List.{List, [], ◌∷◌, ◌++◌}
 use Prim.Native.Nat.{ℕ, zero, suc, ◌+◌, ◌-◌, ◌*◌, ◌/◌, ◌%◌, ◌<◌, ◌≤◌}
@@ -20,7 +20,7 @@ use Rattle.resolved_sort.proofs.Below.{below_each}
 use Rattle.resolved_sort.proofs.Fine.{run_inside}
 use Rattle.sort_text.specs.Text.{writable, text, arrow_text}
 use Rattle.list_verdict.specs.Words.{kind_words, kind_word, verdict_messages, message, variable_text, builtin_text, op_text, measure_text, choices_text, no_choices_text, new_text}
-use Rattle.list_verdict.specs.Text.{rows_text, name, sort_name, short, text_or, sort_text, target_text, expr_line, separator, component, measure_line}
+use Rattle.list_verdict.specs.Text.{rows_text, name, sort_name, short, sort_text, target_text, expr_line, separator, component, measure_line}
 use Rattle.list_verdict.specs.Text.{choice_text, choice_list, choices_line, argument_text, parts, new_line, verdict_line, new_lines, typing_text}
 use Rattle.list_verdict.specs.Longest.{most_verdict_line, most_expr_line, most_measure_line, most_choices_line, most_new_line, most_typing}
 

@@ -1,5 +1,5 @@
 -- Putting the choices left comes to putting all.
-use Rattle.std.proofs.Common.{◌≡◌, ◌+◌, ◌-◌, length}
+use Rattle.std.proofs.Common.{◌≡◌, ◌-◌, length}
 use Rattle.text_out.specs.Within.{puts}
 use Rattle.list_verdict.specs.Text.{rows_text, choice_text}
 use Rattle.list_verdict.proofs.put_choice_rows.Given as goal

@@ -1,5 +1,5 @@
 -- Putting the components left comes to putting all.
-use Rattle.std.proofs.Common.{◌≡◌, ◌+◌, ◌-◌, length}
+use Rattle.std.proofs.Common.{◌≡◌, ◌-◌, length}
 use Rattle.text_out.specs.Within.{puts}
 use Rattle.list_verdict.specs.Text.{rows_text, component}
 use Rattle.list_verdict.proofs.put_components.Given as goal

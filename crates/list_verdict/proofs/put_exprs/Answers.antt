@@ -1,6 +1,5 @@
 -- The loop's invariant: putting the lines left comes to putting all. Assumes nothing.
 use Rattle.std.proofs.Common.{rules, refl}
-use Rattle.text_out.proofs.Within as law
 use Rattle.list_verdict.proofs.RowsPut as rows
 use Rattle.list_verdict.proofs.Ways as way
 use Rattle.list_verdict.specs.Text.{expr_line}
