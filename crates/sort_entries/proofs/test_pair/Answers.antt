@@ -1,4 +1,5 @@
 -- After checks 1 to 4 the numbers are held against the list, then the storage against its ceiling. Assumes nothing.
+use Rattle.std.proofs.Common.{arith}
 use Rattle.sort_entries.proofs.Laws as law
 use Rattle.sort_entries.proofs.test_pair.Goals as goal
 
@@ -18,7 +19,7 @@ pub returns-then-sorts-lt-SORT_WORDS : goal.returns-then-sorts-lt-SORT_WORDS
 returns-then-sorts-lt-SORT_WORDS c =
     let a = c.args in
     law.length_fails a.sorts.now a.sort_count a.entry_count a.lhs.0 a.rhs.0 c.test_sorts.result c.test_sorts.ensures
-    c.in-Passed.is c.if-sort_count-lhs.false c.if-sort_count-rhs.false c.if-sorts-lt-SORT_WORDS.true
+    c.in-Passed.is c.if-sort_count-lhs.false c.if-sort_count-rhs.false (omega arith)
 
 pub returns-in-Refused : goal.returns-in-Refused
 returns-in-Refused c =
@@ -30,4 +31,4 @@ pub returns-else-sorts-lt-SORT_WORDS : goal.returns-else-sorts-lt-SORT_WORDS
 returns-else-sorts-lt-SORT_WORDS c =
     let a = c.args in
     law.all_pass a.sorts.now a.sort_count a.entry_count a.lhs.0 a.rhs.0 c.test_sorts.result c.test_sorts.ensures
-    c.in-Passed.is c.if-sort_count-lhs.false c.if-sort_count-rhs.false c.if-sorts-lt-SORT_WORDS.false
+    c.in-Passed.is c.if-sort_count-lhs.false c.if-sort_count-rhs.false (omega arith)

@@ -1,4 +1,5 @@
 -- Each answer is what the pair says of the two sorts, by a law, and each call falls by a law. Assumes nothing.
+use Rattle.std.proofs.Common.{arith}
 use Rattle.resolved_sort.proofs.Said as said
 use Rattle.sort_order.proofs.Falls as falling
 use Rattle.sort_order.proofs.OrderCode as code
@@ -11,7 +12,8 @@ domain_cmp-returns-then-count-eq0 t c =
 
 pub domain_cmp-partial_cmp-first-requires : goal.domain_cmp-partial_cmp-first-requires
 domain_cmp-partial_cmp-first-requires t c =
-    falling.first_falls c.decreases c.if-count-eq0.false c.requires c.word-lhs.ensures c.word-rhs.ensures
+    let h = falling.first_falls c.decreases c.if-count-eq0.false c.requires c.word-lhs.ensures c.word-rhs.ensures in
+    (omega (arith, h.0), (h.1.0, omega (arith, h.1.1, h.1.2), omega (arith, h.1.1, h.1.2)))
 
 pub domain_cmp-domain_cmp-requires : goal.domain_cmp-domain_cmp-requires
 domain_cmp-domain_cmp-requires t c = falling.rest_falls c.decreases c.if-count-eq0.false c.requires

@@ -1,4 +1,5 @@
 -- Each answer is what the pair says of the two sorts, by a law, and the call falls by a law. Assumes nothing.
+use Rattle.std.proofs.Common.{arith}
 use Rattle.resolved_sort.proofs.Said as said
 use Rattle.sort_order.proofs.Falls as falling
 use Rattle.sort_order.proofs.MaterializableCode as code
@@ -12,7 +13,7 @@ returns-then-lhs_sub-rhs_sub t c =
     let r = c.requires in
     code.not_materializable_containers c.args.sorts.now c.args.counts.sorts r.0 r.1 r.2 c.if-from-to.false
     (said.containers_said r.0 r.1 r.2 c.if-from-to.false c.pair.ensures c.in-Containers.is)
-    c.if-lhs_sub-rhs_sub.true
+    (λ q. omega arith)
 
 pub returns-then-not-same_arguments : goal.returns-then-not-same_arguments
 returns-then-not-same_arguments t c =
@@ -39,7 +40,7 @@ returns-else-lhs_sub-rhs_sub t c =
     let r = c.requires in
     code.materializable_of_containers c.args.sorts.now c.args.counts.sorts r.0 r.1 r.2 c.if-from-to.false
     (said.containers_said r.0 r.1 r.2 c.if-from-to.false c.pair.ensures c.in-Containers.is)
-    c.if-lhs_sub-rhs_sub.false c.generic_op_partial_cmp.ensures c.is_below-in-Containers.ensures
+    (omega arith) c.generic_op_partial_cmp.ensures c.is_below-in-Containers.ensures
 
 pub returns-else-not-same_arguments : goal.returns-else-not-same_arguments
 returns-else-not-same_arguments t c =
