@@ -45,7 +45,7 @@ const ARGUMENTS: u64 = 4096;
 const VARIABLES: u64 = 512;
 
 // A part of a list.
-#[derive(Drop)]
+#[derive(Clone, Copy, Drop)]
 pub enum Part {
     Sorts,
     Entries,
@@ -55,7 +55,7 @@ pub enum Part {
 }
 
 // What a line says by its letter.
-#[derive(Drop)]
+#[derive(Clone, Copy, Drop)]
 pub enum Letter {
     List,
     Row(Part),
@@ -66,13 +66,13 @@ pub enum Letter {
 }
 
 // How much a list has by its first line, and how much of it was read.
-#[derive(Drop)]
+#[derive(Clone, Copy, Drop)]
 pub struct Progress {
     pub total: Lengths,
     pub read: Lengths,
 }
 
-#[derive(Drop)]
+#[derive(Clone, Copy, Drop)]
 pub struct LineStep {
     pub progress: Progress,
     pub verdict: Verdict,

@@ -1,0 +1,23 @@
+-- By the part. Assumes nothing.
+use Rattle.recorded_unify.specs.Inner.Lines.{with_length}
+use Rattle.recorded_unify.proofs.with_length.Goals as goal
+
+pub returns-in-Sorts : goal.returns-in-Sorts
+unfolding with_length
+returns-in-Sorts c = rw c.in-Sorts.is
+
+pub returns-in-Entries : goal.returns-in-Entries
+unfolding with_length
+returns-in-Entries c = rw c.in-Entries.is
+
+pub returns-in-Nodes : goal.returns-in-Nodes
+unfolding with_length
+returns-in-Nodes c = rw c.in-Nodes.is
+
+pub returns-in-Arguments : goal.returns-in-Arguments
+unfolding with_length
+returns-in-Arguments c = rw c.in-Arguments.is
+
+pub returns-in-Bindings : goal.returns-in-Bindings
+unfolding with_length
+returns-in-Bindings c = rw c.in-Bindings.is
