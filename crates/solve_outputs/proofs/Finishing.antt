@@ -114,7 +114,7 @@ module _ (sc ls ks : List ℕ) (n : ℕ) (z : Sizes) (ts ms hs : List ℕ) (h : 
       tied t = rw (not-false st.best b, t) (ap (λ k. answered (Ambiguous k) ts ms hs) e)
 
       pub not_tied : st.tied ≡ false → (a : Answered) → a ≡ handed_out (problem_in ls z) names ts ms hs k (candidate_of ls z sc false) → a ≡ judgment
-      unfolding best_of candidate_of
+      unfolding best_of candidate_of handed_out
       not_tied t a q = q ∙ rw (not-false st.best b, t) (ap (λ k. handed_out (problem_in ls z) names ts ms hs k (candidate_of ls z sc false)) e)
 
 -- by the answer of the search
