@@ -10,7 +10,7 @@ use lib.Dec.{eqb, leb}
 use borrow.Author.Tests.{leb-true, le-leb}
 use Rattle.resolved_sort.specs.declared.Counts.{Counts}
 use Rattle.resolved_sort.specs.Interning.{Sorts}
-use Rattle.resolved_sort.specs.Storage.{max_entries, kind_at, trees, sorts_of}
+use Rattle.resolved_sort.specs.Storage.{max_entries, kind_at, sorts_of}
 use Rattle.resolved_sort.specs.Checks.{all_below, fixed_six}
 use Rattle.resolved_sort.specs.Entries.{counts_of, after}
 use Rattle.resolved_sort.specs.Rows.{Checked}

@@ -1,14 +1,14 @@
 -- What a line comes to, by its length and by what it reads as. By the clauses of `line_of`. Assumes nothing.
-use mathlib.Core.Path.{◌≡◌, refl, sym, ◌∙◌, ap}
-use mathlib.Core.Bool.{true, false, cond}
+use mathlib.Core.Path.{◌≡◌, ◌∙◌, ap}
+use mathlib.Core.Bool.{cond}
 use mathlib.Core.List.{List, [], ◌∷◌}
 use Prim.Native.Nat.{ℕ, ◌<◌, ◌≤◌}
 use lib.ListN.{length}
 use borrow.Author.Tests.{le-leb, lt-leb}
 use Rattle.resolved_sort.specs.Tree.{Tree}
-use Rattle.sort_text.specs.Parse.{Parsed, parsed, stuck, line}
+use Rattle.sort_text.specs.Parse.{parsed, stuck, line}
 use Rattle.sort_text.specs.Reading.{short_line}
-use Rattle.pair_line.specs.PairProgram.{Line, good, wrong, read, line_of}
+use Rattle.pair_line.specs.PairProgram.{good, wrong, read, line_of}
 
 pub line_long : (bs : List ℕ) → 200 < length bs → line_of bs ≡ wrong (49 ∷ 57 ∷ [])
 unfolding line_of short_line

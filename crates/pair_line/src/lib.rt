@@ -36,6 +36,7 @@ struct Used {
 }
 
 // The fixed six sorts.
+#[tactic(auto, unfolding(crate::specs::Inner::Room::put_six))]
 fn six(sorts: &mut [u16])
     requires { full_length ≤ length sorts.old }
     ensures { sorts.new ≡ put_six sorts.old }
