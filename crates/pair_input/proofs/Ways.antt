@@ -286,3 +286,21 @@ all_taken h bytes from l = ap (λ us. (take_bytes h us).lines) (take_all from by
 pub none_taken : (h : Lines) (bytes : List ℕ) → h ≡ (take_bytes h (take 0 bytes)).lines
 unfolding take_bytes
 none_taken h bytes = refl
+
+-- what is printed for a part of the input, and for the next part of it
+pub fed_output : (h : Lines) (bytes : List ℕ) (from used : ℕ) → from + used ≤ length bytes
+    → (take_bytes h (take (from + used) bytes)).output
+    ≡ (take_bytes h (take from bytes)).output
+    ++ (take_bytes (take_bytes h (take from bytes)).lines (take used (take (length bytes - from) (drop from bytes)))).output
+fed_output h bytes from used l =
+    ap (λ us. (take_bytes h us).output) (take-add from used bytes)
+    ∙ (ap (λ (x : Turned). x.output) (in_parts h (take from bytes) (take used (drop from bytes)))
+    ∙ ap (λ us. (take_bytes h (take from bytes)).output ++ (take_bytes (take_bytes h (take from bytes)).lines us).output)
+    (sym (take-take used (length bytes - from) (drop from bytes) (omega (arith, l)))))
+
+pub all_printed : (h : Lines) (bytes : List ℕ) (from : ℕ) → length bytes ≤ from → (take_bytes h (take from bytes)).output ≡ (take_bytes h bytes).output
+all_printed h bytes from l = ap (λ us. (take_bytes h us).output) (take_all from bytes l)
+
+pub none_printed : (h : Lines) (bytes : List ℕ) → [] ≡ (take_bytes h (take 0 bytes)).output
+unfolding take_bytes
+none_printed h bytes = refl

@@ -1,0 +1,2 @@
+-- What the reads and writes of the pair program come to.
+pub mod Runs

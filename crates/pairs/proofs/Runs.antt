@@ -1,0 +1,177 @@
+-- What the reads and writes of the pair program come to: parts of the input one after another, and its end. Assumes nothing.
+use mathlib.Core.Path.{◌≡◌, refl, sym, ◌∙◌, ap, subst}
+use mathlib.Core.Bool.{Bool, true, false}
+use mathlib.Core.List.{List, [], ◌∷◌, ◌++◌, append_assoc, append-nil}
+use Prim.Native.Nat.{ℕ, ◌+◌, ◌-◌, ◌<◌, ◌≤◌}
+use native.Mathlib.Omega.{arith}
+use lib.ListN.{length, take, drop, length-take, length-drop}
+use lib.Seq.{sets, sets-eq, take-append_seam}
+use Rattle.std.specs.Prelude.{Option, Some, None, ⊤}
+use Rattle.std.specs.Io.KnownBytes.{Consumes, Appends, IsAtEnd}
+use Rattle.text_out.specs.Put.{Put}
+use Rattle.pair_line.specs.PairProgram.{output}
+use Rattle.pair_input.specs.declared.Held.{Held}
+use Rattle.pair_input.specs.ByteByByte.{Lines, first, Turned, take_bytes, at_end}
+use Rattle.pair_input.specs.Held.{lines_of, Holds, Feeds}
+use Rattle.pair_input.proofs.Exactly.{in_parts, byte_by_byte_exactly}
+use Rattle.pair_input.proofs.Ways.{fed_further, fed_output, all_taken, all_printed, none_taken, none_printed}
+use Rattle.pairs.specs.Printed.{PartPrinted, EndPrinted, AfterRead, AllPrinted}
+
+-- known bytes
+nothing_shown : (a : Option (List ℕ)) → Appends a a []
+nothing_shown None = tt
+nothing_shown (Some xs) = sym (append-nil xs)
+
+shown_more : (a b c : Option (List ℕ)) (bs cs : List ℕ) → Appends a b bs → Appends b c cs → Appends a c (bs ++ cs)
+shown_more None b c bs cs p q = tt
+shown_more (Some xs) None c bs cs p q = absurd p
+shown_more (Some xs) (Some ys) None bs cs p q = absurd q
+shown_more (Some xs) (Some ys) (Some zs) bs cs p q = q ∙ (ap (λ l. l ++ cs) p ∙ append_assoc xs bs cs)
+
+nothing_read : (a : Option (List ℕ)) → Consumes a a []
+nothing_read None = tt
+nothing_read (Some xs) = refl
+
+read_more : (a b c : Option (List ℕ)) (bs cs : List ℕ) → Consumes a b bs → Consumes b c cs → Consumes a c (bs ++ cs)
+read_more None b c bs cs p q = tt
+read_more (Some xs) None c bs cs p q = absurd p
+read_more (Some xs) (Some ys) None bs cs p q = absurd q
+read_more (Some xs) (Some ys) (Some zs) bs cs p q = p ∙ (ap (λ l. bs ++ l) q ∙ sym (append_assoc bs cs zs))
+
+-- bytes put at the front of a buffer are its front
+pub front_of : (out : List ℕ) (bs left : List ℕ) (r : ℕ) → Put out 0 bs left r → r ≤ length out → take r left ≡ bs
+front_of out bs left r h l =
+    let n : r ≡ length bs = h.behind in
+    ap (take r) (h.bytes ∙ sets-eq bs out 0 (omega (arith, n, l)))
+    ∙ (ap (λ (k : ℕ). take k (bs ++ drop (0 + length bs) out)) n ∙ take-append_seam bs (drop (0 + length bs) out))
+
+-- taking bytes: what is taken so far is held, and what it prints is written
+pub record Taking (memory₀ : List ℕ) (held₀ : Held) (bytes out₀ : List ℕ) (shown₀ : Option (List ℕ)) (memory : List ℕ) (held : Held)
+    (out : List ℕ) (shown : Option (List ℕ)) (from : ℕ) : Type 0 where
+  pub holds : Holds memory held
+  pub within : from ≤ length bytes
+  pub out_long : length out ≡ length out₀
+  pub memory_long : length memory ≡ length memory₀
+  pub lines : lines_of memory held ≡ (take_bytes (lines_of memory₀ held₀) (take from bytes)).lines
+  pub written : Appends shown₀ shown (take_bytes (lines_of memory₀ held₀) (take from bytes)).output
+
+pub none_taken_yet : (memory : List ℕ) (held : Held) (bytes out : List ℕ) (shown : Option (List ℕ)) → Holds memory held
+    → Taking memory held bytes out shown memory held out shown 0
+none_taken_yet memory held bytes out shown h =
+    record {
+      holds = h;
+      within = omega arith;
+      out_long = refl;
+      memory_long = refl;
+      lines = none_taken (lines_of memory held) bytes;
+      written = subst (Appends shown shown) (none_printed (lines_of memory held) bytes) (nothing_shown shown);
+    }
+
+module _ (memory₀ : List ℕ) (held₀ : Held) (bytes out₀ : List ℕ) (shown₀ : Option (List ℕ)) (memory : List ℕ) (held : Held)
+    (out : List ℕ) (shown : Option (List ℕ)) (from : ℕ)
+    (t : Taking memory₀ held₀ bytes out₀ shown₀ memory held out shown from) where
+  abbrev rest : List ℕ
+  rest = take (length bytes - from) (drop from bytes)
+
+  rest_long : length rest ≡ length bytes - from
+  rest_long = omega (arith, length-take (length bytes - from) (drop from bytes), length-drop from bytes)
+
+  module _ (inside : from < length bytes) (memory' : List ℕ) (held' : Held) (out' : List ℕ) (used at : ℕ)
+      (f : Feeds memory held rest out memory' held' out' used at) where
+    pub fed_within : from + used ≤ length bytes
+    fed_within = omega (arith, f.within, rest_long, inside)
+
+    pub part_taken : (shown' : Option (List ℕ)) → length memory' ≡ length memory → length out' ≡ length out
+        → Appends shown shown' (take at out') → Taking memory₀ held₀ bytes out₀ shown₀ memory' held' out' shown' (from + used)
+    part_taken shown' m o w =
+        record {
+          holds = f.turns.holds;
+          within = fed_within;
+          out_long = o ∙ t.out_long;
+          memory_long = m ∙ t.memory_long;
+          lines = f.turns.lines ∙ (ap (λ h. (take_bytes h (take used rest)).lines) t.lines
+              ∙ fed_further (lines_of memory₀ held₀) bytes from used fed_within);
+          written = subst (Appends shown₀ shown')
+              (sym (fed_output (lines_of memory₀ held₀) bytes from used fed_within
+              ∙ ap (λ h. (take_bytes (lines_of memory₀ held₀) (take from bytes)).output ++ (take_bytes h (take used rest)).output) (sym t.lines)))
+              (shown_more shown₀ shown shown' _ _ t.written
+              (subst (Appends shown shown') (front_of out (take_bytes (lines_of memory held) (take used rest)).output out' at f.turns.put f.fits) w));
+        }
+
+  pub all_lines : length bytes ≤ from → lines_of memory held ≡ (take_bytes (lines_of memory₀ held₀) bytes).lines
+  all_lines l = t.lines ∙ all_taken (lines_of memory₀ held₀) bytes from l
+
+  pub all_written : length bytes ≤ from → Appends shown₀ shown (take_bytes (lines_of memory₀ held₀) bytes).output
+  all_written l = subst (Appends shown₀ shown) (all_printed (lines_of memory₀ held₀) bytes from l) t.written
+
+-- after a read
+module _ (known known' shown shown' : Option (List ℕ)) (h : Lines) where
+  pub part_after : (more good : Bool) (left : Lines) (part : List ℕ) → good ≡ more → Consumes known known' part
+      → (more ≡ true → left ≡ (take_bytes h part).lines) → (more ≡ true → Appends shown shown' (take_bytes h part).output)
+      → AfterRead more good known known' shown shown' h left
+  unfolding AfterRead
+  part_after true true left part e r l w = record { part = part; read = r; lines = l refl; written = w refl }
+  part_after true false left part e r l w = absurd (let z : ◌≡◌ {A = ℕ} 0 1 = cc e in omega arith)
+  part_after false true left part e r l w = absurd (let z : ◌≡◌ {A = ℕ} 0 1 = cc e in omega arith)
+  part_after false false left part e r l w = tt
+
+  pub end_after : (good : Bool) (left : Lines) → Consumes known known' [] → IsAtEnd known' → (good ≡ true → Appends shown shown' (at_end h))
+      → AfterRead false good known known' shown shown' h left
+  unfolding AfterRead
+  end_after true left r e w = record { read = r; ended = e; written = w refl }
+  end_after false left r e w = tt
+
+  pub failed_after : (left : Lines) → AfterRead false false known known' shown shown' h left
+  unfolding AfterRead
+  failed_after left = tt
+
+-- The program so far: the part that was read, or all of the input.
+unfoldable pub Run : (more good : Bool) → (known₀ known shown₀ shown : Option (List ℕ)) → Lines → Type 0
+Run true true known₀ known shown₀ shown h = PartPrinted known₀ known shown₀ shown (first []) h
+Run true false known₀ known shown₀ shown h = ⊥
+Run false true known₀ known shown₀ shown h = AllPrinted known₀ known shown₀ shown
+Run false false known₀ known shown₀ shown h = ⊤
+
+pub run_starts : (known shown : Option (List ℕ)) (h : Lines) → h ≡ first [] → Run true true known known shown shown h
+unfolding Run take_bytes
+run_starts known shown h e = record { part = []; read = nothing_read known; lines = e; written = nothing_shown shown }
+
+module _ (known₀ known known' shown₀ shown shown' : Option (List ℕ)) (h : Lines) where
+  goes_on_by : (more' good' : Bool) (left : Lines) → PartPrinted known₀ known shown₀ shown (first []) h
+      → AfterRead more' good' known known' shown shown' h left → Run more' good' known₀ known' shown₀ shown' left
+  unfolding Run AfterRead
+  goes_on_by true true left p a =
+      let e = in_parts (first []) p.part a.part in
+      record {
+        part = p.part ++ a.part;
+        read = read_more known₀ known known' p.part a.part p.read a.read;
+        lines = a.lines ∙ (ap (λ x. (take_bytes x a.part).lines) p.lines ∙ sym (ap (λ (x : Turned). x.lines) e));
+        written = subst (Appends shown₀ shown')
+            (ap (λ x. (take_bytes (first []) p.part).output ++ (take_bytes x a.part).output) p.lines ∙ sym (ap (λ (x : Turned). x.output) e))
+            (shown_more shown₀ shown shown' _ _ p.written a.written);
+      }
+  goes_on_by true false left p a = a
+  goes_on_by false true left p a =
+      record {
+        input = p.part;
+        read = subst (Consumes known₀ known') (append-nil p.part) (read_more known₀ known known' p.part [] p.read a.read);
+        ended = a.ended;
+        written = subst (Appends shown₀ shown')
+            (ap (λ x. (take_bytes (first []) p.part).output ++ at_end x) p.lines ∙ byte_by_byte_exactly p.part)
+            (shown_more shown₀ shown shown' _ _ p.written a.written);
+      }
+  goes_on_by false false left p a = tt
+
+  pub run_goes_on : (more good : Bool) → more ≡ true → Run more good known₀ known shown₀ shown h → (more' good' : Bool) (left : Lines)
+      → AfterRead more' good' known known' shown shown' h left → Run more' good' known₀ known' shown₀ shown' left
+  unfolding Run
+  run_goes_on true true e r more' good' left a = goes_on_by more' good' left r a
+  run_goes_on true false e r more' good' left a = absurd r
+  run_goes_on false good e r more' good' left a = absurd (let z : ◌≡◌ {A = ℕ} 0 1 = cc e in omega arith)
+
+pub run_ends : (more good : Bool) (known₀ known shown₀ shown : Option (List ℕ)) (h : Lines) → more ≡ false → good ≡ true
+    → Run more good known₀ known shown₀ shown h → AllPrinted known₀ known shown₀ shown
+unfolding Run
+run_ends true good known₀ known shown₀ shown h e g r = absurd (let z : ◌≡◌ {A = ℕ} 0 1 = cc e in omega arith)
+run_ends false true known₀ known shown₀ shown h e g r = r
+run_ends false false known₀ known shown₀ shown h e g r = absurd (let z : ◌≡◌ {A = ℕ} 0 1 = cc g in omega arith)

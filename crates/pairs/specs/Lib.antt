@@ -1,0 +1,2 @@
+-- What the pair program reads and prints.
+pub mod Printed
