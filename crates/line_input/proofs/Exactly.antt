@@ -134,7 +134,7 @@ module _ (most : ℕ) where
     pub first : held_lines most (bs ++ whole ps) ≡ m ∷ held_lines most (left ++ whole qs)
     pub fewer : length (left ++ whole qs) < length (bs ++ whole ps)
 
-  abbrev IsNext : List ℕ → List (List ℕ) → Following → Type 0
+  abbrev pub IsNext : List ℕ → List (List ℕ) → Following → Type 0
   IsNext bs ps (some_line m left qs) = First bs ps m left qs
   IsNext bs ps no_line = lines (bs ++ whole ps) ≡ []
 

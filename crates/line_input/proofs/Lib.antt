@@ -3,3 +3,4 @@ pub mod Taking
 pub mod Exactly
 pub mod Examples
 pub mod Ways
+pub mod Streams
