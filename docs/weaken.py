@@ -80,6 +80,8 @@ def main():
     (scratch / "logs").mkdir(parents=True, exist_ok=True)
     (scratch / "crates").mkdir(exist_ok=True)
     shutil.copy(ROOT / "crates.txt", scratch / "crates.txt")
+    # with this file it is a repository of its own, which rt at the top here passes over
+    (scratch / "MODULE.bazel").touch()
     for crate in (ROOT / "crates").iterdir():
         below = scratch / "crates" / crate.name
         for part in ("src", "specs", "proofs"):
