@@ -5,5 +5,4 @@ pub mod Tokens
 pub mod Parts
 pub mod Compare
 pub mod Lexemes
-pub mod Tags
 pub mod Examples
