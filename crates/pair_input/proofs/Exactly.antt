@@ -1,12 +1,12 @@
 -- The pair program byte by byte prints what the pair program prints: a line held as far as 201 bytes comes to what the whole line comes
 -- to, and by induction on the input. An input that comes in parts is taken part by part. Assumes nothing.
 use mathlib.Core.Path.{◌≡◌, refl, sym, ◌∙◌, ap, ap₂}
-use mathlib.Core.Bool.{Bool, true, false, cond}
-use mathlib.Core.List.{List, [], ◌∷◌, ◌++◌, append_assoc, append-nil}
-use Prim.Native.Nat.{ℕ, ◌+◌}
+use mathlib.Core.Bool.{Bool, true, false}
+use mathlib.Core.List.{List, [], ◌∷◌, ◌++◌, append_assoc}
+use Prim.Native.Nat.{ℕ}
 use native.Mathlib.Omega.{arith}
-use lib.ListN.{length, take, length-append, length-take}
-use lib.Seq.{take_all, take-append-le}
+use lib.ListN.{length, take, length-take}
+use lib.Seq.{take_all}
 use lib.Dec.{eqb, ltb}
 use borrow.Author.Tests.{ltb-true, ltb-false}
 use Rattle.held_line.specs.Lines.{lines, whole}

@@ -10,7 +10,7 @@ use lib.Seq.{take_all, take-take, take-add, take-suc, length-take-le}
 use lib.Dec.{eqb, ltb}
 use borrow.Author.Tests.{ltb-true, ltb-false, eq-eqb, ne_eqb}
 use Rattle.held_line.specs.Holding.{holding, line_at, line_kept, held_at}
-use Rattle.held_line.proofs.Held.{Holding, byte_held}
+use Rattle.held_line.proofs.Held.{byte_held}
 use Rattle.pair_line.specs.PairProgram.{line_of, single, pair}
 use Rattle.text_out.specs.Put.{Put}
 use Rattle.text_out.proofs.Put.{put_none, put_then, put_as, put_length}
@@ -20,7 +20,7 @@ use Rattle.pair_line.proofs.Ways.{pair_has_room, single_has_room}
 use Rattle.pair_input.specs.declared.Held.{Held}
 use Rattle.pair_input.specs.declared.Held.TheVariants.{First, Second}
 use Rattle.pair_input.specs.ByteByByte.{Lines, first, second, most_held, Turned, turned, take_byte, take_bytes, at_end}
-use Rattle.pair_input.specs.Held.{lines_of, Fits, Holds, InMemory, in_memory, first_in_memory, second_in_memory, byte_in_memory, bytes_in_memory, Turns, Feeds}
+use Rattle.pair_input.specs.Held.{lines_of, Fits, Holds, InMemory, first_in_memory, second_in_memory, byte_in_memory, bytes_in_memory, Turns, Feeds}
 use Rattle.pair_input.proofs.Exactly.{in_parts}
 
 -- a byte of the input, by what is held

@@ -1,4 +1,6 @@
 -- By what is held. Assumes nothing.
+use Rattle.std.proofs.Common.{sym, arith}
+use lib.Seq.{length-take-le}
 use Rattle.pair_input.proofs.Ways as law
 use Rattle.pair_input.proofs.finish.Goals as goal
 
@@ -7,8 +9,8 @@ returns-then-first-eq0 c =
     let a = c.args in
     law.none_left a.memory.now a.held a.out.now c.requires.0 _ c.in-First.is c.if-first-eq0.true
 
-pub returns-in-First : goal.returns-in-First
-returns-in-First c =
+pub returns-else-first-eq0 : goal.returns-else-first-eq0
+returns-else-first-eq0 c =
     let a = c.args in
     law.one_left a.memory.now a.held a.out.now c.requires.0 _ c.in-First.is c.if-first-eq0.false _ _ c.put_single.ensures
 
@@ -22,7 +24,17 @@ put_held-requires c =
     let a = c.args in
     (law.pair_inside a.memory.now a.held a.out.now c.requires.0 _ _ c.in-Second.is, c.requires.1)
 
-pub returns-in-Second : goal.returns-in-Second
-returns-in-Second c =
+pub returns-else-second-eq0 : goal.returns-else-second-eq0
+returns-else-second-eq0 c =
     let a = c.args in
     law.pair_left a.memory.now a.held a.out.now c.requires.0 _ _ c.in-Second.is c.if-second-eq0.false _ _ c.put_held.ensures
+
+pub slice_bounds-put_single-end : goal.slice_bounds-put_single-end
+slice_bounds-put_single-end c =
+    let a = c.args in
+    sym (length-take-le _ a.memory.now (law.first_inside a.memory.now a.held a.out.now c.requires.0 _ c.in-First.is))
+
+pub slice_bounds-put_single-end-then-second-eq0 : goal.slice_bounds-put_single-end-then-second-eq0
+slice_bounds-put_single-end-then-second-eq0 c =
+    let a = c.args in
+    sym (length-take-le _ a.memory.now (omega (arith, law.pair_inside a.memory.now a.held a.out.now c.requires.0 _ _ c.in-Second.is)))

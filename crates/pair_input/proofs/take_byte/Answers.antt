@@ -11,8 +11,8 @@ returns-then-byte-eq10 c =
 pub hold-count-requires : goal.hold-count-requires
 hold-count-requires c = omega (arith, c.requires.0.long)
 
-pub returns-in-First : goal.returns-in-First
-returns-in-First c =
+pub returns-else-byte-eq10 : goal.returns-else-byte-eq10
+returns-else-byte-eq10 c =
     let a = c.args in
     law.first_goes_on a.memory.now a.held a.byte a.out.now a.at c.requires.0 _ c.in-First.is c.if-byte-eq10.false _ _ c.hold-count.ensures
 
@@ -26,12 +26,12 @@ returns-then-byte-eq10-2 c =
     let a = c.args in
     law.second_ends a.memory.now a.held a.byte a.out.now a.at c.requires.0 _ _ c.in-Second.is c.if-byte-eq10-2.true _ _ c.put_held-next.ensures
 
-pub hold-count-requires-2 : goal.hold-count-requires-2
-hold-count-requires-2 c =
+pub hold-count-requires-in-Second : goal.hold-count-requires-in-Second
+hold-count-requires-in-Second c =
     let a = c.args in
     omega (arith, (law.second_few a.memory.now a.held a.byte a.out.now a.at c.requires.0 _ _ c.in-Second.is).0, c.requires.0.long)
 
-pub returns-in-Second : goal.returns-in-Second
-returns-in-Second c =
+pub returns-else-byte-eq10-2 : goal.returns-else-byte-eq10-2
+returns-else-byte-eq10-2 c =
     let a = c.args in
-    law.second_goes_on a.memory.now a.held a.byte a.out.now a.at c.requires.0 _ _ c.in-Second.is c.if-byte-eq10-2.false _ _ c.hold-count-2.ensures
+    law.second_goes_on a.memory.now a.held a.byte a.out.now a.at c.requires.0 _ _ c.in-Second.is c.if-byte-eq10-2.false _ _ c.hold-count-in-Second.ensures
