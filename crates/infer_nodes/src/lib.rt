@@ -66,6 +66,7 @@ fn op_of_kind(kind: u16) -> ComplexSort
 }
 
 // Takes a place apart: a sort below FIRST_NODE, else a node, counted from there. No other function does so.
+#[tactic(auto, unfolding(crate::specs::Inner::Apart::TakenApart))]
 pub fn taken_apart(id: InferSortId) -> Place
     ensures { TakenApart id.0 result }
 {
@@ -287,6 +288,7 @@ fn count_in(words: &[u16], row: usize) -> u16
     0
 }
 
+#[tactic(auto, unfolding(crate::specs::Inner::Parts::part_in))]
 fn part_in(words: &[u16], entries: usize, row: usize, i: u16) -> InferSortId
     requires { (row ≤ node_entries_at) × (entries ≤ node_entries_at) }
     ensures { result.0 ≡ part_in words.now entries row i }

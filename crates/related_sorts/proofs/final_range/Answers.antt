@@ -20,8 +20,10 @@ overflow_sub-arguments c = law.has_range c.args.sorts.now c.args.nodes.now c.arg
     c.loop-kind.functions c.loop-kind.end c.loop-kind.count c.loop-kind.kind c.loop-kind.invariant.0 c.loop-kind-test.true _ c.part_count-arguments.ensures
 
 pub part-range-requires : goal.part-range-requires
-part-range-requires c = law.range_asked c.args.sorts.now c.args.nodes.now c.args.binds.now c.args.lengths c.requires.0 c.args.id.0 c.requires.1
-    c.loop-kind.functions c.loop-kind.end c.loop-kind.count c.loop-kind.kind c.loop-kind.invariant.0 c.loop-kind-test.true _ c.part_count-arguments.ensures
+part-range-requires c =
+    let a = law.range_asked c.args.sorts.now c.args.nodes.now c.args.binds.now c.args.lengths c.requires.0 c.args.id.0 c.requires.1
+    c.loop-kind.functions c.loop-kind.end c.loop-kind.count c.loop-kind.kind c.loop-kind.invariant.0 c.loop-kind-test.true _ c.part_count-arguments.ensures in
+    (a.0, a.1, omega (arith, a.2))
 
 pub shallow_normalize-end-requires : goal.shallow_normalize-end-requires
 shallow_normalize-end-requires c = (

@@ -1,6 +1,6 @@
 -- Both sides at their ends; by what stands there `unify` binds, says yes or no, or asks the parts: from the left, each under the bindings of those
 -- before. Assumes nothing.
-use Rattle.std.proofs.Common.{arith, refl}
+use Rattle.std.proofs.Common.{rules, arith, refl}
 use Rattle.unifier.proofs.Steps as law
 use Rattle.unifier.proofs.+unify_unify_parts.Goals as goal
 
@@ -27,8 +27,11 @@ unify-bind_variables-requires t c = law.two_variables c.args.sorts.now c.args.no
     c.args.lhs.0 c.args.rhs.0 _ _ c.requires.1 c.requires.2 c.shallow_normalize-l.ensures c.shallow_normalize-r.ensures c.if-l-r.false _ c.in-Is.ensures _ c.in-Is-variable_at.ensures
 
 pub unify-bind-requires : goal.unify-bind-requires
-unify-bind-requires t c = law.left_variable c.args.sorts.now c.args.nodes.now c.args.binds.now c.args.trail.now c.args.lengths c.args.count c.requires.0
-    c.args.lhs.0 c.args.rhs.0 _ _ c.requires.1 c.requires.2 c.shallow_normalize-l.ensures c.shallow_normalize-r.ensures c.if-l-r.false _ c.in-Is.ensures c.in-Nothing-variable_at.ensures
+unify-bind-requires t c =
+    let a = law.left_variable c.args.sorts.now c.args.nodes.now c.args.binds.now c.args.trail.now c.args.lengths c.args.count c.requires.0
+    c.args.lhs.0 c.args.rhs.0 _ _ c.requires.1 c.requires.2 c.shallow_normalize-l.ensures c.shallow_normalize-r.ensures c.if-l-r.false _ c.in-Is.ensures c.in-Nothing-variable_at.ensures in
+    let placed = a.2 in
+    (a.0, a.1, search rules)
 
 pub unify-variable_at-requires-in-Nothing : goal.unify-variable_at-requires-in-Nothing
 unify-variable_at-requires-in-Nothing t c = (
