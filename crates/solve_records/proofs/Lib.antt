@@ -1,7 +1,4 @@
--- The laws of a list of records as words, steps that the walks by hand share, that records past the ceiling change nothing, and what is said of the entry.
+-- The laws of a list of records as words, that records past the ceiling change nothing, and what is said of the entry.
 pub mod Unpacked
-pub mod Again
-pub mod Frames
-pub mod Arrays
 pub mod PastCeiling
 pub mod RecordsSay

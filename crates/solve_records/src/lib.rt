@@ -1,5 +1,5 @@
 // The entry solve over a lent list of overload records, thinly above the core on numbers. The records are unpacked once
-// into words; the functions that meet a slice of records are few, and each is proved by a walk of its own.
+// into words; the functions that meet a slice of records are few.
 #![tactic(auto)]
 
 ghost use Rattle.std.specs.Prelude.{◌≡◌, ◌<◌, ◌*◌, ◌+◌, ◌^◌, min, length, take};
@@ -23,7 +23,7 @@ use words::put;
 // What a name resolved to, as the caller says it: kind 1 a variable, 2 an operation with its sort, 3 a built-in. Any
 // other kind is refused with 9, so the kind is a word: of an enum such a word would be no value.
 #[repr(C)]
-#[derive(Drop)]
+#[derive(Clone, Copy, Drop)]
 pub struct TargetRecord {
     pub kind: u16,
     pub sort: SortId,
@@ -32,7 +32,7 @@ pub struct TargetRecord {
 // One overload of a name, as the caller says it: what it resolves to, and the place of its sort.
 // Three words of 16 bits in C's layout.
 #[repr(C)]
-#[derive(Drop)]
+#[derive(Clone, Copy, Drop)]
 pub struct OverloadRecord {
     pub target: TargetRecord,
     pub sort: InferSortId,
