@@ -1,10 +1,9 @@
 // The sorts of merc's resolved_sort.rs: the types that definitions, contracts and code speak of.
+#![tactic(auto)]
 
 // The number of a sort in the sort list. A type of its own, as the Rust's ResolvedSortId: sort, node, variable and
 // expression numbers do not mix.
 // Sorts are interned: two numbers are equal exactly if their sorts are, so to compare sorts is to compare two numbers.
-#![tactic(auto)]
-
 #[repr(C)]
 #[derive(Clone, Copy, Drop)]
 pub struct SortId(pub u16);
