@@ -74,16 +74,14 @@ def main(argv):
         if not p.endswith(".antt"):
             continue
         inside = None
-        lines = t.split("\n")
-        for at, line in enumerate(lines):
+        for line in t.split("\n"):
             code, _ = uncommented(line, "--")
             if re.match(r"^ *(pub +)?record ", code) and code.rstrip().endswith("where"):
                 inside = len(code) - len(code.lstrip())
             elif code.strip() and len(code) - len(code.lstrip()) <= (inside if inside is not None else -1):
                 inside = None
             m = DECLARED.match(code)
-            defined = m and at + 1 < len(lines) and lines[at + 1].startswith(m.group(1) + m.group(2) + " ")
-            if m and (len(m.group(1)) <= 4 or re.match(r" *(abbrev |unfoldable )?pub ", code) or defined):
+            if m:
                 if inside is not None and len(m.group(1)) > inside:
                     fields.add(m.group(2))
                 else:

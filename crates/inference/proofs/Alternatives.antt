@@ -182,24 +182,24 @@ module _
                 (equal_have_one_sort W₀ c₀ W S.grown ρ (kind_flat (primitive s)) p (flat (primitive s)) y x (sym j) (primitive_term W₀ c₀ six (terms ρ) s)) i;
           }
 
-      from-nat-lead : All (Leads W e Q R) (from_nat p)
+      from_nat_lead : All (Leads W e Q R) (from_nat p)
       unfolding kind_flat lit_component
-      from-nat-lead = and_all _ _ (sort_leads Sort.Nat 1 refl) (and_all _ _ (sort_leads Sort.Int 2 refl) (and_all _ _ (sort_leads Sort.Real 3 refl) none_left))
+      from_nat_lead = and_all _ _ (sort_leads Sort.Nat 1 refl) (and_all _ _ (sort_leads Sort.Int 2 refl) (and_all _ _ (sort_leads Sort.Real 3 refl) none_left))
 
-      tries-lead : (kind' : LitKind) → kind ≡ kind' → All (Leads W e Q R) (lit_tries kind' p)
+      tries_lead : (kind' : LitKind) → kind ≡ kind' → All (Leads W e Q R) (lit_tries kind' p)
       unfolding kind_flat lit_component
-      tries-lead Positive i = and_all _ _ (sort_leads Sort.Pos 0 (ap (λ z. lit_component z Sort.Pos) i)) from-nat-lead
-      tries-lead Natural i = from-nat-lead
+      tries_lead Positive i = and_all _ _ (sort_leads Sort.Pos 0 (ap (λ z. lit_component z Sort.Pos) i)) from_nat_lead
+      tries_lead Natural i = from_nat_lead
 
       nothing_found : Leaves W₀ B₀ P Met W (missed w)
       nothing_found = missed_leaves W₀ B₀ P Met w S.grown.checked f
 
       module _ (q : ℕ) (i : follow (graph W) deep e.binds p ≡ some q) where
-        at-sort : (s : Sort) → graph W q ≡ over (flat_head (primitive s)) [] → (o : Option ℕ) → lit_component kind s ≡ o
+        at_sort_lem : (s : Sort) → graph W q ≡ over (flat_head (primitive s)) [] → (o : Option ℕ) → lit_component kind s ≡ o
             → Leaves W₀ B₀ P Met W (at_sort Met meet P o k e w)
         unfolding term_of
-        at-sort s j none l = nothing_found
-        at-sort s j (some g) l =
+        at_sort_lem s j none l = nothing_found
+        at_sort_lem s j (some g) l =
             let c = S.grown.checked in
             on (with_components e (g ∷ []) e.binds) w
             (record {
@@ -215,12 +215,12 @@ module _
 
         at_flat : (a : Flat) → graph W q ≡ over (flat_head a) [] → Leaves W₀ B₀ P Met W (literal_at Met meet P kind p (over (flat_head a) []) k e w)
         at_flat unit j = nothing_found
-        at_flat (primitive s) j = at-sort s j (lit_component kind s) refl
+        at_flat (primitive s) j = at_sort_lem s j (lit_component kind s) refl
         at_flat (def n) j = nothing_found
         at_flat (typevar n) j = nothing_found
 
         at_shape : (s : Shape) → graph W q ≡ s → ShapeFormed s → Leaves W₀ B₀ P Met W (literal_at Met meet P kind p s k e w)
-        at_shape _ j (variable_formed v) = first_found_leaves W₀ B₀ P c₀ Met meet e Q R k on (lit_tries kind p) w S f (tries-lead kind refl)
+        at_shape _ j (variable_formed v) = first_found_leaves W₀ B₀ P c₀ Met meet e Q R k on (lit_tries kind p) w S f (tries_lead kind refl)
         at_shape _ j (flat_formed a) = at_flat a j
         at_shape _ j (container_formed o s) = nothing_found
         at_shape _ j (function_formed n xs r len few) = nothing_found

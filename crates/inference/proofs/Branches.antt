@@ -261,16 +261,16 @@ module _ (Met : Type 0) (meet : Path → Lent → Met → Met) (P : Problem) (We
 
   module _ (k : Path → World Met → Out Met) (e : Path) where
     module _ (h : (n : ℕ) (C : Binds) → BindsExtend e.binds C → From (k (with_components e (n ∷ []) C))) where
-      first-found-goes : (ts : List Try) → From (first_found Met meet P ts k e)
+      first_found_goes : (ts : List Try) → From (first_found Met meet P ts k e)
       unfolding first_found
-      first-found-goes [] w = missed_goes w w.lent
-      first-found-goes (t ∷ ts) w =
+      first_found_goes [] w = missed_goes w w.lent
+      first_found_goes (t ∷ ts) w =
           or_else_goes w _ (unifying_goes e.binds t.left t.right _ w (λ C x. h t.component C x w))
-          (first_found Met meet P ts k e) (first-found-goes ts)
+          (first_found Met meet P ts k e) (first_found_goes ts)
 
       -- the tries over what was made, whose nodes are given back
       tried_goes : (w : World Met) (W : Lent) (ts : List Try) → Goes Went w (nodes_returned w.lent (first_found Met meet P ts k e (lending w W)))
-      tried_goes w W ts = given_back_goes w.lent w _ (lent_goes w W (first_found Met meet P ts k e) (first-found-goes ts))
+      tried_goes w W ts = given_back_goes w.lent w _ (lent_goes w W (first_found Met meet P ts k e) (first_found_goes ts))
 
       narrower_goes : (l r : ℕ) → From (narrower Met meet P l r k e)
       narrower_goes l r w =
@@ -283,20 +283,20 @@ module _ (Met : Type 0) (meet : Path → Lent → Met → Met) (P : Problem) (We
           (ends_each _ (no_room_is_15_or_16 w.lent true e.binds l)) w w _ (narrower Met meet P l r k e)
           (λ ps W u. tried_goes w W (wider_tries r 1 ps)) (λ W u. lent_goes w W (narrower Met meet P l r k e) (narrower_goes l r))
 
-      widening-goes : (l r : ℕ) → From (widening Met meet P l r k e)
+      widening_goes : (l r : ℕ) → From (widening Met meet P l r k e)
       unfolding widening
-      widening-goes l r w = or_else_goes w _ (unifying_goes e.binds l r _ w (λ C x. h 0 C x w)) (wider Met meet P l r k e) (wider_goes l r)
+      widening_goes l r w = or_else_goes w _ (unifying_goes e.binds l r _ w (λ C x. h 0 C x w)) (wider Met meet P l r k e) (wider_goes l r)
 
-      literal-goes : (kind : LitKind) (p : ℕ) → From (literal Met meet P kind p k e)
+      literal_goes : (kind : LitKind) (p : ℕ) → From (literal Met meet P kind p k e)
       unfolding literal
-      literal-goes kind p w = go (follow (graph w.lent) deep e.binds p)
+      literal_goes kind p w = go (follow (graph w.lent) deep e.binds p)
         where
           at : (g : Option ℕ) → Goes Went w (at_sort Met meet P g k e w)
           at none = missed_goes w w.lent
           at (some g) = h g e.binds (extends_refl e.binds) w
 
           by : (s : Shape) → Goes Went w (literal_at Met meet P kind p s k e w)
-          by (variable v) = first-found-goes (lit_tries kind p) w
+          by (variable v) = first_found_goes (lit_tries kind p) w
           by (over (flat_head unit) ps) = missed_goes w w.lent
           by (over (flat_head (primitive s)) ps) = at (lit_component kind s)
           by (over (flat_head (def n)) ps) = missed_goes w w.lent
@@ -339,7 +339,7 @@ module _ (Met : Type 0) (meet : Path → Lent → Met → Met) (P : Problem) (We
   unfolding sequence
   sequence_goes [] t k e h = h e (adds_nothing e NoChoice refl e.binds (extends_refl e.binds))
   sequence_goes (s ∷ ss) t k e h =
-      widening-goes (sequence Met meet P ss t k) e
+      widening_goes (sequence Met meet P ss t k) e
       (λ n C x.
       sequence_goes ss t k (with_components e (n ∷ []) C)
       (λ e' a. h e' (adds_after e _ e' 1 (length ss) _ NoChoice NoChoice NoChoice (adds_components e (n ∷ []) 1 refl C
@@ -373,8 +373,8 @@ module _ (Met : Type 0) (meet : Path → Lent → Met → Met) (P : Problem) (We
   step_goes : (c : Constraint) (k : Path → World Met → Out Met) (e : Path)
       → ((e' : Path) → Adds e (width_of P c) (Chooses c) e' → From (k e')) → From (step Met meet P c k e)
   unfolding step width_of Chooses
-  step_goes (Sub l r) k e h = widening-goes k e (λ n C x. h _ (adds_components e (n ∷ []) 1 refl C x)) l.0 r.0
-  step_goes (Lit p kind) k e h = literal-goes k e (λ n C x. h _ (adds_components e (n ∷ []) 1 refl C x)) kind p.0
+  step_goes (Sub l r) k e h = widening_goes k e (λ n C x. h _ (adds_components e (n ∷ []) 1 refl C x)) l.0 r.0
+  step_goes (Lit p kind) k e h = literal_goes k e (λ n C x. h _ (adds_components e (n ∷ []) 1 refl C x)) kind p.0
   step_goes (Disjunction x p run) k e h = disjunction_goes x p run k e h
   step_goes (Comprehension body node element) k e h =
       λ w. every_reading_goes k e (λ D x. h _ (adds_nothing e NoChoice refl D x)) readings body.0 node.0 element.0 false w w (stays w w.lent)

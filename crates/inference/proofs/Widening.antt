@@ -111,13 +111,13 @@ module _ (W₀ : Lent) (B₀ : Binds) (P : Problem) (c₀ : CheckedLent W₀) (M
 
       module _ (w : World Met) (s : Sound W₀ B₀ P w.lent e Q) (f : FineBest W₀ B₀ P w.lent w.best) where
         -- the tries of a list, with nodes given back; or, where there is none and so nothing was made, what else
-        listed-leaves : (up : Bool) (p : ℕ) → PlacedIn W₀ p → (tries : List ℕ → List Try)
+        listed_leaves : (up : Bool) (p : ℕ) → PlacedIn W₀ p → (tries : List ℕ → List Try)
             → ((ps : List ℕ) (W' : Lent) → Grows w.lent W' → StandForRelated up e.binds w.lent p W' ps → All (Leads W' e Q R) (tries ps))
             → (else : Going Met meet P) → Leaves W₀ B₀ P Met w.lent (else e w)
             → Leaves W₀ B₀ P Met w.lent
             (on_made (strict_related up e.binds p w.lent) (λ ps v. nodes_returned w.lent (first_found Met meet P (tries ps) k e v)) (else e) w)
         unfolding Leaves MadeFrom
-        listed-leaves up p at tries lead else o =
+        listed_leaves up p at tries lead else o =
             go (strict_related up e.binds p w.lent) refl
             (related_makes w.lent s.grown.checked e.binds s.binds up p (s.grown.fixed six) (placed_grown W₀ c₀ w.lent s.grown p at))
           where
@@ -135,11 +135,11 @@ module _ (W₀ : Lent) (B₀ : Binds) (P : Problem) (c₀ : CheckedLent W₀) (M
             go (no_room b W') i m = m
 
         narrower_leaves : Leaves W₀ B₀ P Met w.lent (narrower Met meet P l r k e w)
-        narrower_leaves = listed-leaves false r y (narrower_tries l 1) (narrower_lead w.lent s) (λ e. missed)
+        narrower_leaves = listed_leaves false r y (narrower_tries l 1) (narrower_lead w.lent s) (λ e. missed)
             (missed_leaves W₀ B₀ P Met w s.grown.checked f)
 
         wider_leaves : Leaves W₀ B₀ P Met w.lent (wider Met meet P l r k e w)
-        wider_leaves = listed-leaves true l x (wider_tries r 1) (wider_lead w.lent s) (narrower Met meet P l r k) narrower_leaves
+        wider_leaves = listed_leaves true l x (wider_tries r 1) (wider_lead w.lent s) (narrower Met meet P l r k) narrower_leaves
 
     -- From Q to R by a widening, where R holds of whatever is widened so.
     pub widening_goes : (l r : ℕ) → PlacedIn W₀ l → PlacedIn W₀ r → (Q R : Claim)

@@ -143,18 +143,18 @@ module _ (bs : List ℕ) (v n m : ℕ) where
 
   module _ (i : ℕ) (p : Passed i) where
     module _ (l : i < v) (b : Bool) (e : b ≡ binding_fine n m (binding_of (get_or bs i 0))) where
-      one-and-rest : bindings_fine n m B ≡ (b && bindings_fine n m (drop (i + 1) B))
+      one_and_rest : bindings_fine n m B ≡ (b && bindings_fine n m (drop (i + 1) B))
       unfolding bindings_fine
-      one-and-rest =
+      one_and_rest =
           p.left
           ∙ (ap (bindings_fine n m) (drop-cons B i none (omega (arith, l, length_binds bs v)))
           ∙ ap₂ (λ (x : Bool) (j : ℕ). x && bindings_fine n m (drop j B)) (ap (binding_fine n m) (binding_word bs v i l) ∙ sym e) (sym (add-one i)))
 
       pub bad_binding : b ≡ false → false ≡ bindings_fine n m B
-      bad_binding x = sym (one-and-rest ∙ ap (λ y. y && bindings_fine n m (drop (i + 1) B)) x)
+      bad_binding x = sym (one_and_rest ∙ ap (λ y. y && bindings_fine n m (drop (i + 1) B)) x)
 
       pub one_passed : b ≡ true → Passed (i + 1)
-      one_passed x = record { within = omega (arith, l); left = one-and-rest ∙ ap (λ y. y && bindings_fine n m (drop (i + 1) B)) x }
+      one_passed x = record { within = omega (arith, l); left = one_and_rest ∙ ap (λ y. y && bindings_fine n m (drop (i + 1) B)) x }
 
     pub all_passed : v ≤ i → true ≡ bindings_fine n m B
     unfolding bindings_fine

@@ -49,20 +49,20 @@ module _ (ns : List ℕ) (ms : List Bool) (s c : ℕ) where
 
   module _ (j : ℕ) (p : Run-left j) where
     module _ (l : j < c) (b : Bool) (e : b ≡ place_settled ms (node_entry_at ns (s + j))) where
-      one-and-rest : all_settled ms (node_entries_of ns s c) ≡ (b && all_settled ms (node_entries_of ns (s + (j + 1)) (c - (j + 1))))
+      one_and_rest : all_settled ms (node_entries_of ns s c) ≡ (b && all_settled ms (node_entries_of ns (s + (j + 1)) (c - (j + 1))))
       unfolding all_settled node_entries_of
-      one-and-rest =
+      one_and_rest =
           p.left
           ∙ (ap (λ (x : ℕ). all_settled ms (node_entries_of ns (s + j) x)) (let z : c - j ≡ suc (c - (j + 1)) = omega (arith, l) in z)
           ∙ ap₂ (λ (x : Bool) (y : ℕ). x && all_settled ms (node_entries_of ns y (c - (j + 1)))) (sym e) (let z : s + j + 1 ≡ s + (j + 1) = omega arith in z))
 
       pub argument_open : b ≡ false → false ≡ all_settled ms (node_entries_of ns s c)
-      argument_open x = sym (one-and-rest ∙ ap (λ y. y && all_settled ms (node_entries_of ns (s + (j + 1)) (c - (j + 1)))) x)
+      argument_open x = sym (one_and_rest ∙ ap (λ y. y && all_settled ms (node_entries_of ns (s + (j + 1)) (c - (j + 1)))) x)
 
       pub argument_passed : b ≡ true → Run-left (j + 1)
       argument_passed x = record {
         within = omega (arith, l);
-        left = one-and-rest ∙ ap (λ y. y && all_settled ms
+        left = one_and_rest ∙ ap (λ y. y && all_settled ms
             (node_entries_of ns (s + (j + 1)) (c - (j + 1)))) x;
       }
 

@@ -109,16 +109,16 @@ module _ (up : Bool) (ws : List ℕ) (n e a b : ℕ) (out : List ℕ) (at : ℕ)
       unfolding Answers
       is_none = subst (Answers (bound up s t)) it.1 (make_answers up s t (sorts_of ws n e))
 
-      none-spent : Spent (size s) (entries_of s) (sorts_of ws n e) it.0
+      none_spent : Spent (size s) (entries_of s) (sorts_of ws n e) it.0
       unfolding Within
-      none-spent = subst (Within AnyTree (size s) (entries_of s) (sorts_of ws n e)) it.1 within
+      none_spent = subst (Within AnyTree (size s) (entries_of s) (sorts_of ws n e)) it.1 within
 
-      none-grown : Grown ws n e it.0
+      none_grown : Grown ws n e it.0
       unfolding SortsKept
-      none-grown = (subst (SortsKept ws n e InTree (sorts_of ws n e)) it.1 kept).0
+      none_grown = (subst (SortsKept ws n e InTree (sorts_of ws n e)) it.1 kept).0
 
       pub none_grows : RoomGrows ws n e vs K.sorts K.entries
-      none_grows = grows ws n e q.asked.checked it.0 none-grown (size s) (entries_of s) none-spent nodes
+      none_grows = grows ws n e q.asked.checked it.0 none_grown (size s) (entries_of s) none_spent nodes
           (omega (arith, nodes, entries_below_size s)) vs K it.2 it.3
 
       is_none_text : none_text ++ comma [] ≡ sort_or_none (bound up s t) ++ comma []

@@ -93,17 +93,17 @@ module _ (ws ns : List ℕ) (k : Lengths) (q : NodesReady ws ns k) (up : Bool) (
         record { says = ap (λ (xs : List ℕ). made xs L) a.says ∙ by_shape (over (flat_head (primitive s)) []) (sort_is (Primitive s) e); few = a.few }
 
     module _ (o : ComplexSort) (s : SortId) (e : r ≡ Container o s) where
-      container-is : graph_of ws ns k p ≡ over (container_head o) (s.0 ∷ [])
+      container_is : graph_of ws ns k p ≡ over (container_head o) (s.0 ∷ [])
       unfolding sort_shape
-      container-is = sort_is (Container o s) e
+      container_is = sort_is (Container o s) e
 
       pub container_asked : Checked ws k.sorts k.entries × (s.0 < k.sorts)
-      container_asked = (q.sorts, sort_part_below L q p s.0 (container_head o) (s.0 ∷ []) (lt-ltb p max_sorts l) i container-is (first []))
+      container_asked = (q.sorts, sort_part_below L q p s.0 (container_head o) (s.0 ∷ []) (lt-ltb p max_sorts l) i container_is (first []))
 
       pub container_related : (vs : List ℕ) (b : Related) → Relates vs ns b (related_over (related_container up o) true s.0 L) → Relates vs ns b head
       container_related vs b u =
           relates_as vs ns b u (ap (λ (c : Bool). related_over (related_container up o) c s.0 L) (sym (lt-ltb p max_sorts l))
-          ∙ by_shape (over (container_head o) (s.0 ∷ [])) container-is)
+          ∙ by_shape (over (container_head o) (s.0 ∷ [])) container_is)
 
     pub function_sort_passed : (d : Run) (g : SortId) → r ≡ SortFunction d g → Relates ws ns (NoList k) head
     unfolding sort_shape

@@ -158,22 +158,22 @@ module _ (ws xs : List ℕ) (ranges : Three) (few : ranges.count ≤ 3) (ns : Li
       pub rest_few : (t : Three) → t ≡ places_after ranges → (O : Makes (List ℕ)) → ListsAtMost t.count ws ns₂ a O → AtMost 2 a
       rest_few t et O u = at_most_more t.count 2 a (let z = ap (λ (x : Three). x.count) et in omega (arith, few, z)) u.few
 
-      placed-before : (q : InferSortId) (b : Related) → AtMost (ranges.count - 1) b
+      placed_before : (q : InferSortId) (b : Related) → AtMost (ranges.count - 1) b
           → (related_made ws ns₂ (place_before q b) ≡ (related_made ws ns₂ b and-then (λ ps W. made (q.0 ∷ ps) W))) × AtMost ranges.count (place_before q b)
-      placed-before q (These t k') l = (
+      placed_before q (These t k') l = (
         ap (λ (ys : List ℕ). made ys (lent ws ns₂ k'))
             (one_and_two (t.count + 1) t.count q.0 t.first.0 t.second.0 t.third.0 (add-one t.count) (omega (arith, l, few))),
         omega (arith, l, h),
       )
-      placed-before q (NoList k') l = (refl, tt)
-      placed-before q (Full c k') l = (refl, tt)
+      placed_before q (NoList k') l = (refl, tt)
+      placed_before q (Full c k') l = (refl, tt)
 
       pub push_goes_on : (q : InferSortId) (k' : Lengths) → p ≡ At q k'
           → (t : Three) → t ≡ places_after ranges → ListsAtMost t.count ws ns₂ a (push_functions xs (three_places t) (lent ws ns₁ k'))
           → (b : Related) → b ≡ place_before q a → ListsAtMost ranges.count ws ns₂ b all
       push_goes_on q k' z t et v b y =
           let u = subst (λ (x : Three). ListsAtMost x.count ws ns₂ a (push_functions xs (three_places x) (lent ws ns₁ k'))) et v in
-          let w = placed-before q a u.few in
+          let w = placed_before q a u.few in
           record {
             says =
                 ap (related_made ws ns₂) y ∙ (w.0 ∙ (ap (λ O. O and-then (λ ps W. made (q.0 ∷ ps) W)) u.says
@@ -240,16 +240,16 @@ module _ (up : Bool) (o : ComplexSort) (b : OpBound) (e : b ≡ op_bound (relate
       interned : intern_at ws k.sorts k.entries (container q (look (trees ws k.sorts) s)) ≡ stored_at ws₁ j
       interned = sym (ej ∙ ap (λ (y : Counts). intern_at ws y.sorts y.entries (container q (look (trees ws y.sorts) s))) ec)
 
-      sort-of : related_over (related_container up o) true s (lent ws ns k) ≡ (with_sorts (lent ws ns k) (stored_at ws₁ j) j and-then only)
+      sort_of : related_over (related_container up o) true s (lent ws ns k) ≡ (with_sorts (lent ws ns k) (stored_at ws₁ j) j and-then only)
       unfolding intern_container
-      sort-of = ap (λ x. related_over x true s (lent ws ns k)) is_some ∙ ap (λ (r : Stored). with_sorts (lent ws ns k) r r.answer and-then only) interned
+      sort_of = ap (λ x. related_over x true s (lent ws ns k)) is_some ∙ ap (λ (r : Stored). with_sorts (lent ws ns k) r r.answer and-then only) interned
 
       pub container_interned : (id : SortId) (K : Counts) → j ≡ JoinedAt id K → (k' : Lengths) → k' ≡ with_counts k K
           → (a : Related) → a ≡ These (one (record { 0 = id.0 })) k'
           → Relates ws₁ ns a (related_over (related_container up o) true s (lent ws ns k))
       container_interned id K x k' ek a y =
           relates_as ws₁ ns a (one_place ws₁ ns (record { 0 = id.0 }) k' a y) (ap (λ (l : Lengths). made (id.0 ∷ [])
-          (lent ws₁ ns l)) ek ∙ sym (sort-of ∙ ap (λ w. with_sorts (lent ws ns k) (stored_at ws₁ j) w and-then only)
+          (lent ws₁ ns l)) ek ∙ sym (sort_of ∙ ap (λ w. with_sorts (lent ws ns k) (stored_at ws₁ j) w and-then only)
           x))
 
       module _ (ck : Checked ws k.sorts k.entries) where
@@ -259,7 +259,7 @@ module _ (up : Bool) (o : ComplexSort) (b : OpBound) (e : b ≡ op_bound (relate
             relates_as ws₁ ns (Full 15 k) (record { says = refl; few = tt })
             (ap (λ (ys : List ℕ). no_room 15 (lent ys ns k)) (full_unchanged ws k.sorts k.entries ck
             (container q (look (trees ws k.sorts) s)) ws₁ (ap (stored_at ws₁) (sym x) ∙ sym interned))
-            ∙ sym (sort-of ∙ ap (λ w. with_sorts (lent ws ns k) (stored_at ws₁ j) w and-then only) x))
+            ∙ sym (sort_of ∙ ap (λ w. with_sorts (lent ws ns k) (stored_at ws₁ j) w and-then only) x))
 
         pub always_interned : (K : Counts) → j ≡ JoinedNothing K → (a : Related) → Relates ws₁ ns a (related_over (related_container up o) true s (lent ws ns k))
         always_interned K x a = never_none ws k.sorts k.entries ck (container q (look (trees ws k.sorts) s))

@@ -243,13 +243,13 @@ module _ (ws ns bs : List ℕ) (k : Lengths) (q : Ready ws ns bs k) where
                 };
           }
 
-      over-grown : (O : Makes (List ℕ)) → MadeFrom AllPlaced W O
+      over_grown : (O : Makes (List ℕ)) → MadeFrom AllPlaced W O
           → Stands f O × ((O and-then over_function f) ≡ (O and-then push_functions (take n (parts_of (shape f)))))
-      over-grown (made ps U) m =
+      over_grown (made ps U) m =
           let g = (made_grows AllPlaced W U ps (made ps U) m refl).0 in
           (function_grown U g, ap (λ (s : Shape). push_functions (arguments_of s) ps U) (g.same f I.placed ∙ I.stands))
-      over-grown (no_list U) m = (tt, refl)
-      over-grown (no_room c U) m = (tt, refl)
+      over_grown (no_list U) m = (tt, refl)
+      over_grown (no_room c U) m = (tt, refl)
 
     module _ (six : SixThere k) (p : ℕ) (F : FunctionAt ws ns k p) (fs : List ℕ) where
       abbrev x : Placed k p
@@ -262,7 +262,7 @@ module _ (ws ns bs : List ℕ) (k : Lengths) (q : Ready ws ns bs k) where
       back _ _ (deeper i n y d I e) =
           let f = get_or fs i 0 in
           let m = related_placed W q.nodes six up B (ready_names W bs q) y (end_placed p x fs (suc i) y (deeper i n y d I e)) in
-          let s = over-grown f n I (answer y) m in
+          let s = over_grown f n I (answer y) m in
           let t : (answer y and-then over_function f) ≡ answer f = s.1
           ∙ (ap (λ O. O and-then push_functions (take n (parts_of (shape f)))) (ends.end_answers ws ns bs k q up (range_of f n) y
           (ends.range_placed ws ns bs k q up f n I (range_of f n) refl) e)

@@ -150,9 +150,9 @@ module _ (ws : List ℕ) (C : Counts) (k : Checked ws C.sorts C.entries) where
       bound_unlike u = answer_none ∙ ap (stored ws n e) (sym (make_unlike up (look T a.0) (look T b.0) S differ u))
 
       module _ (l r : Sort) (o : OfPrimitives ws n e a.0 b.0 l r) (s : Side) (es : s ≡ side_of up l r) where
-        made-number : make up (look T a.0) (look T b.0) S ≡ where_some (bound_flat up (primitive l) (primitive r)) S (λ c. made (flat c) S)
+        made_number : make up (look T a.0) (look T b.0) S ≡ where_some (bound_flat up (primitive l) (primitive r)) S (λ c. made (flat c) S)
         unfolding make
-        made-number = ap₂ (λ x y. make up x y S) o.lhs o.rhs
+        made_number = ap₂ (λ x y. make up x y S) o.lhs o.rhs
 
         by_side : (f g : Bool) → s ≡ cond f (cond g Rhs Lhs) Neither
             → (x : Side → Joined) → x Rhs ≡ At b C → x Lhs ≡ At a C → x Neither ≡ Nothing C
@@ -167,7 +167,7 @@ module _ (ws : List ℕ) (C : Counts) (k : Checked ws C.sorts C.entries) where
         bound_number =
             by_side (eqb (family (primitive l)) (family (primitive r))) (le_level up (level (primitive l))
             (level (primitive r))) es (side_answer a b C) refl refl refl
-            ∙ ap (stored ws n e) (sym made-number)
+            ∙ ap (stored ws n e) (sym made_number)
 
       module _ (o : ComplexSort) (s : SortId) (p : ComplexSort) (t : SortId) (c : OfContainers ws n e a.0 b.0 o s p t) where
         pub bound_container : container_at up ws n e o s.0 p t.0 ≡ bound_at up ws n e a.0 b.0
@@ -203,21 +203,21 @@ module _ (ws : List ℕ) (C : Counts) (k : Checked ws C.sorts C.entries) where
       unfolding bound_at
       to_part = er
 
-      container-is : container_at up ws n e o s.0 p t.0 ≡ stored ws n e (part then (λ v S. intern (container q v) S))
+      container_is : container_at up ws n e o s.0 p t.0 ≡ stored ws n e (part then (λ v S. intern (container q v) S))
       unfolding container_at
-      container-is = rw (is_op (bound_op up o p) q ex xq)
+      container_is = rw (is_op (bound_op up o p) q ex xq)
 
       pub container_stops : (K : Counts) → r ≡ Nothing K → stored_at vs (Nothing K) ≡ container_at up ws n e o s.0 p t.0
       container_stops K z =
           let f : stored_at vs (Nothing K) ≡ stored ws n e part = ap (stored_at vs) (sym z) ∙ to_part in
           let g = stopped ws n e part vs K f in
-          f ∙ sym (container-is ∙ (ap (λ O. stored ws n e (O then (λ v S. intern (container q v) S))) g.1 ∙ ap (stored ws n e) (sym g.1)))
+          f ∙ sym (container_is ∙ (ap (λ O. stored ws n e (O then (λ v S. intern (container q v) S))) g.1 ∙ ap (stored ws n e) (sym g.1)))
 
       pub container_ends : r ≡ Full → stored_at vs Full ≡ container_at up ws n e o s.0 p t.0
       container_ends z =
           let f : stored_at vs Full ≡ stored ws n e part = ap (stored_at vs) (sym z) ∙ to_part in
           let g = ended ws n e part vs f in
-          f ∙ sym (container-is ∙ (ap (λ O. stored ws n e (O then (λ v S. intern (container q v) S))) g.1 ∙ ap (stored ws n e) (sym g.1)))
+          f ∙ sym (container_is ∙ (ap (λ O. stored ws n e (O then (λ v S. intern (container q v) S))) g.1 ∙ ap (stored ws n e) (sym g.1)))
 
       module _ (c : SortId) (K : Counts) (z : r ≡ At c K) where
         there : Reached ws n e S part vs c K
@@ -235,7 +235,7 @@ module _ (ws : List ℕ) (C : Counts) (k : Checked ws C.sorts C.entries) where
         container_made us w f =
             f ∙ (ap (λ v. intern_at vs K.sorts K.entries (container q v)) (reached_sort ws n e S part vs c K there)
             ∙ (intern_after ws n e S part vs c K there (container q there.sort) there.inside (omega arith)
-            ∙ sym (container-is ∙ ap (λ O. stored ws n e (O then (λ v S. intern (container q v) S))) there.is)))
+            ∙ sym (container_is ∙ ap (λ O. stored ws n e (O then (λ v S. intern (container q v) S))) there.is)))
 
   -- interning a container and a function by the numbers of their parts
   member_at : (i : ℕ) → i < n → member T (look T i) ≡ true

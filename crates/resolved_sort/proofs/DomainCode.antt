@@ -239,27 +239,27 @@ module _ (up : Bool) (ws : List ℕ) (C : Counts) (a b : ℕ) (f : TwoFunctions 
         (look_whole ws n e k x arguments_asked.lhs) (look_whole ws n e k y arguments_asked.rhs)
 
     module _ (vs : List ℕ) (r : Joined) (er : stored_at vs r ≡ bound_at up ws n e x y) where
-      to-first : stored_at vs r ≡ stored ws n e first
+      to_first : stored_at vs r ≡ stored ws n e first
       unfolding bound_at
-      to-first = er
+      to_first = er
 
       pub domain_stops : (K : Counts) → r ≡ Nothing K → domain_left vs (replicate 16 0) (NotAll K) ≡ bound_domain up ws n e a b i ids
       unfolding domain_of
       domain_stops K z =
-          let g = stopped ws n e first vs K (ap (stored_at vs) (sym z) ∙ to-first) in
+          let g = stopped ws n e first vs K (ap (stored_at vs) (sym z) ∙ to_first) in
           (let w = g.2 in let c = g.3 in λ j. record { words = w j; ids = replicate 16 0; found = NotAll (c j) })
           ∙ sym (domain_is ∙ ap (λ O. domain_of ws n e i ids (O then (λ v S. rest S then (λ vs S. made (arg v vs) S)))) g.1)
 
       pub domain_ends : r ≡ Full → domain_left vs (replicate 16 0) NoRoom ≡ bound_domain up ws n e a b i ids
       unfolding domain_of
       domain_ends z =
-          let g = ended ws n e first vs (ap (stored_at vs) (sym z) ∙ to-first) in
+          let g = ended ws n e first vs (ap (stored_at vs) (sym z) ∙ to_first) in
           (let w = g.2 in λ j. record { words = w j; ids = replicate 16 0; found = NoRoom })
           ∙ sym (domain_is ∙ ap (λ O. domain_of ws n e i ids (O then (λ v S. rest S then (λ vs S. made (arg v vs) S)))) g.1)
 
       module _ (c : SortId) (K : Counts) (z : r ≡ At c K) where
         there : Reached ws n e S first vs c K
-        there = reached ws n e S first first_kept vs c K (ap (stored_at vs) (sym z) ∙ to-first)
+        there = reached ws n e S first first_kept vs c K (ap (stored_at vs) (sym z) ∙ to_first)
 
         same_rows : Agrees ws vs n e
         same_rows = subst (λ us. Agrees ws us n e) (sym there.words) (unchanged ws n e k there.sorts there.grown)

@@ -296,9 +296,9 @@ module _ (up : Bool) (ws : List ℕ) (C : Counts) (a b : ℕ) (f : TwoFunctions 
                 few_arguments ws n e k a f.asked.lhs f.lhs_function,
               )
 
-          parts-there : parts_in S₂.trees (function there.args then_there.sort) ≡ true
+          parts_there : parts_in S₂.trees (function there.args then_there.sort) ≡ true
           unfolding parts_in
-          parts-there = (and-eq-true_iff (members S₂.trees there.args) (member S₂.trees then_there.sort)).1 (members_there, then_there.inside)
+          parts_there = (and-eq-true_iff (members S₂.trees there.args) (member S₂.trees then_there.sort)).1 (members_there, then_there.inside)
 
           pub function_made : (zs : List ℕ) (w : Joined)
               → stored_at zs w ≡ intern_at us K₂.sorts K₂.entries (function (look_all (trees us K₂.sorts)
@@ -307,9 +307,9 @@ module _ (up : Bool) (ws : List ℕ) (C : Counts) (a b : ℕ) (f : TwoFunctions 
           unfolding need
           function_made zs w g =
               g ∙ (ap₂ (λ ts v. intern_at us K₂.sorts K₂.entries (function ts v)) args_there (reached_sort w₁ n₁ e₁ S₁ (range S₁) us c K₂ then_there)
-              ∙ (intern_after w₁ n₁ e₁ S₁ (range S₁) us c K₂ then_there (function there.args then_there.sort) parts-there few
+              ∙ (intern_after w₁ n₁ e₁ S₁ (range S₁) us c K₂ then_there (function there.args then_there.sort) parts_there few
               ∙ (stored_again ws n e S₁ there.grown S₂ (intern (function there.args then_there.sort) S₂)
-              (intern_kept w₁ n₁ e₁ S₂ then_there.grown (function there.args then_there.sort) parts-there few)
+              (intern_kept w₁ n₁ e₁ S₂ then_there.grown (function there.args then_there.sort) parts_there few)
               ∙ sym (function_then ∙ ap (λ O. stored ws n e (O then (λ v S. intern (function there.args v) S))) then_there.is))))
 
 -- two functions of different numbers: the whole is their join or meet

@@ -116,13 +116,13 @@ module _ (ws : List ℕ) (k : Lengths) (ids : List ℕ) (m : ℕ) (sc : List ℕ
           abbrev heads : List ℕ
           heads = heads_to vs l.sorts c.0 (take m ids)
 
-          by-test : (x : Bool) → b ≡ x → (ns : List ℕ) → cond x (made (record { sort = c.0; components = heads })
+          by_test : (x : Bool) → b ≡ x → (ns : List ℕ) → cond x (made (record { sort = c.0; components = heads })
               (lent vs ns l)) (no_list (lent vs ns l)) ≡ agreed (take m ids) (lent ws ns k)
-          by-test x f ns =
+          by_test x f ns =
               ap (λ y. cond y (made (record { sort = c.0; components = heads }) (lent vs ns l)) (no_list (lent vs ns l))) (sym f ∙ eb ns) ∙ by (Is c l) z ns
 
           pub not_materializable : b ≡ false → (ns : List ℕ) → AgreesOn ns sc e m (agreed (take m ids) (lent ws ns k)) vs sc (NoSort l)
-          not_materializable f ns = record { says = by-test false f ns; changed = unchanged sc (measure_at + e.measure) (measure_at + e.measure + m) }
+          not_materializable f ns = record { says = by_test false f ns; changed = unchanged sc (measure_at + e.measure) (measure_at + e.measure + m) }
 
           pub they_agree : b ≡ true → (sc' : List ℕ) → sc' ≡ sets sc (measure_at + e.measure) heads
               → (ns : List ℕ) → AgreesOn ns sc e m (agreed (take m ids) (lent ws ns k)) vs sc' (Is c l)
@@ -132,7 +132,7 @@ module _ (ws : List ℕ) (k : Lengths) (ids : List ℕ) (m : ℕ) (sc : List ℕ
                 says =
                     ap (λ cs. made (record { sort = c.0; components = cs }) (lent vs ns l))
                     (ap (part (measure_at + e.measure) m) es ∙ part_sets heads sc (measure_at + e.measure) m many (omega (arith, asked.1, asked.2)))
-                    ∙ by-test true f ns;
+                    ∙ by_test true f ns;
                 changed = subst (ChangedOnly (measure_at + e.measure) (measure_at + e.measure + m) sc) (sym es)
                     (stored_changes_only heads sc (measure_at + e.measure) m many);
               }

@@ -141,19 +141,19 @@ module _ (row : ℕ → Constraint) (n : ℕ) where
 
   module _ (u : all_under max_exprs exprs ≡ true) (seen : List Bool) (i : ℕ) (p : DisjunctionsMarked seen i) where
     module _ (l : i < n) (c : Constraint) (e : c ≡ row i) (seen₁ : List Bool) (b : Bool) (m : marked seen₁ b ≡ mark_by seen c) where
-      disjunction-step : fresh_from seen (exprs_left i) ≡ (b && fresh_from seen₁ (exprs_left (i + 1)))
+      disjunction_step : fresh_from seen (exprs_left i) ≡ (b && fresh_from seen₁ (exprs_left (i + 1)))
       unfolding disjunctions
-      disjunction-step =
+      disjunction_step =
           ap (λ cs. fresh_from seen (disjunctions cs)) (one_left row n i l ∙ ap (λ d. d ∷ left row n (i + 1)) (sym e))
           ∙ (mark_steps seen c (exprs_left (i + 1))
           ∙ sym (ap₂ (λ (y : Bool) (ys : List Bool). y && fresh_from ys (exprs_left (i + 1)))
           (ap (λ (k : Marked). k.fresh) m) (ap (λ (k : Marked). k.seen) m)))
 
       pub disjunction_twice : b ≡ false → false ≡ no_two exprs
-      disjunction_twice = twice exprs seen (exprs_left i) p.1 seen₁ b (exprs_left (i + 1)) disjunction-step u
+      disjunction_twice = twice exprs seen (exprs_left i) p.1 seen₁ b (exprs_left (i + 1)) disjunction_step u
 
       pub disjunction_once : b ≡ true → length seen₁ ≡ length seen → DisjunctionsMarked seen₁ (i + 1)
-      disjunction_once x s = (omega (arith, l), once exprs seen (exprs_left i) p.1 seen₁ b (exprs_left (i + 1)) disjunction-step x s)
+      disjunction_once x s = (omega (arith, l), once exprs seen (exprs_left i) p.1 seen₁ b (exprs_left (i + 1)) disjunction_step x s)
 
     pub disjunctions_differ : n ≤ i → true ≡ no_two exprs
     unfolding disjunctions

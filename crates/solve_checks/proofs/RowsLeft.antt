@@ -80,15 +80,15 @@ module _ (row : ℕ → Constraint) (n : ℕ) where
 
   module _ (i : ℕ) (p : Joined i) where
     module _ (l : i < n) (c : Constraint) (e : c ≡ row i) (b : Bool) (y : b ≡ has_sources c) where
-      one-and-rest : joins_fine (rows_from row 0 n) ≡ (b && joins_fine (left row n (i + 1)))
+      one_and_rest : joins_fine (rows_from row 0 n) ≡ (b && joins_fine (left row n (i + 1)))
       unfolding joins_fine
-      one-and-rest = p.left_over ∙ (ap joins_fine (one_left row n i l) ∙ ap (λ (z : Bool). z && joins_fine (left row n (i + 1))) (sym (y ∙ ap has_sources e)))
+      one_and_rest = p.left_over ∙ (ap joins_fine (one_left row n i l) ∙ ap (λ (z : Bool). z && joins_fine (left row n (i + 1))) (sym (y ∙ ap has_sources e)))
 
       pub without_sources : b ≡ false → false ≡ joins_fine (rows_from row 0 n)
-      without_sources x = sym (one-and-rest ∙ ap (λ z. z && joins_fine (left row n (i + 1))) x)
+      without_sources x = sym (one_and_rest ∙ ap (λ z. z && joins_fine (left row n (i + 1))) x)
 
       pub one_joined : b ≡ true → Joined (i + 1)
-      one_joined x = record { within = omega (arith, l); left_over = one-and-rest ∙ ap (λ z. z && joins_fine (left row n (i + 1))) x }
+      one_joined x = record { within = omega (arith, l); left_over = one_and_rest ∙ ap (λ z. z && joins_fine (left row n (i + 1))) x }
 
     pub all_joined : n ≤ i → true ≡ joins_fine (rows_from row 0 n)
     unfolding joins_fine

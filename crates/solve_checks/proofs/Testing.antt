@@ -196,17 +196,17 @@ module _ (I : Call) where
     outside h = fails x (all_within_lent I) ex 1 (sorted ++ rest_checks I) h
 
     module _ (h : not x ≡ false) where
-      past-1 : (t : Tested) → t ≡ tested_of (first_failing (sorted ++ rest_checks I)) → t ≡ tested_of (first_failing all)
+      past_1 : (t : Tested) → t ≡ tested_of (first_failing (sorted ++ rest_checks I)) → t ≡ tested_of (first_failing all)
       unfolding solve_checks
-      past-1 t w = passes x (all_within_lent I) ex 1 (sorted ++ rest_checks I) h t w
+      past_1 t w = passes x (all_within_lent I) ex 1 (sorted ++ rest_checks I) h t w
 
       module _ (t : Tested) (et : t ≡ tested_of (first_failing (sort_checks I.sorts I.lengths.sorts I.lengths.entries))) where
-        by-sorts : t ≡ tested_of (first_failing sorted)
+        by_sorts : t ≡ tested_of (first_failing sorted)
         unfolding sort_checks
-        by-sorts = et ∙ ap tested_of (first_passes _ sorted (within I (sym ex ∙ not-false x h)).0)
+        by_sorts = et ∙ ap tested_of (first_passes _ sorted (within I (sym ex ∙ not-false x h)).0)
 
         pub sorts_refused : (code : ℕ) → t ≡ Refused code → Refused code ≡ tested_of (first_failing all)
-        sorts_refused code r = past-1 (Refused code) (first_refuses sorted (rest_checks I) t by-sorts code r)
+        sorts_refused code r = past_1 (Refused code) (first_refuses sorted (rest_checks I) t by_sorts code r)
 
         pub rest_decides : t ≡ Passed → (u : Tested) → u ≡ tested_of (first_failing (rest_checks I)) → u ≡ tested_of (first_failing all)
-        rest_decides p u w = past-1 u (second_decides sorted (rest_checks I) t by-sorts p u w)
+        rest_decides p u w = past_1 u (second_decides sorted (rest_checks I) t by_sorts p u w)

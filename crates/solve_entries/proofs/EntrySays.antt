@@ -100,9 +100,9 @@ module _ (I : Call) where
           sym (take-append_seam m (drop (length m) I.measure))
           ∙ (ap (λ (x : List ℕ). take (length m) x) (sym h.measure) ∙ ap (λ (n : ℕ). take n L.measure) many)
 
-      least-out : Least (measure_out L o) (leaves_met I) × (times (measure_out L o) (leaves_met I) ≡ 1)
+      least_out : Least (measure_out L o) (leaves_met I) × (times (measure_out L o) (leaves_met I) ≡ 1)
       unfolding code_solved
-      least-out =
+      least_out =
           let z = ap code_solved e in
           let x = B.least_met_once.0 z in
           let i = handed_out x.0 (B.least_handed_out z x.0 x.1) in
@@ -139,7 +139,7 @@ module _ (I : Call) where
         }
     by_answer (Typing o) e s k =
         let h = had_room (Typing o) e o.counts refl 0 refl (λ x. omega (arith, x)) (λ x. omega (arith, x)) in
-        let m = least-out o e h.by_leaves in
+        let m = least_out o e h.by_leaves in
         record {
           searched = h;
           together = typing_holds_together I o e;

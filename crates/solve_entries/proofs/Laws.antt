@@ -102,24 +102,24 @@ module _ (g : Given) (ws ns bs xs ks cs os ss sc ts ms hs : List ℕ) where
         }
 
     module _ (z : Sizes) (q : z ≡ sizes_of (problem_call g [] [] cs [] [])) where
-      same-sizes : z ≡ sizes_of I
+      same_sizes : z ≡ sizes_of I
       unfolding sizes_of
-      same-sizes = q
+      same_sizes = q
 
       pub can_be_packed : (ls : List ℕ) → problem_words ≤ length ls → Packable ls xs cs os ss z
-      can_be_packed ls l = subst (Packable ls xs cs os ss) (sym same-sizes) (packable I f ls l)
+      can_be_packed ls l = subst (Packable ls xs cs os ss) (sym same_sizes) (packable I f ls l)
 
       module _ (ls : List ℕ) (p : problem_in ls z ≡ problem_from xs cs os ss z) where
         says_problem : problem_in ls (sizes_of I) ≡ problem_of I
-        says_problem = subst (λ y. problem_in ls y ≡ problem_from xs cs os ss y) same-sizes p ∙ packed_problem I
+        says_problem = subst (λ y. problem_in ls y ≡ problem_from xs cs os ss y) same_sizes p ∙ packed_problem I
 
         module _ (k : Lengths) (v : k ≡ lengths_of g) where
           pub search_asked : Searching ws ns bs sc ls z (no_incumbent k) nothing_taken 0 [] (Solve 0) × Handable sc ls ks g.names z ts ms hs
           search_asked = (
-            subst (λ (y : Sizes). Searching ws ns bs sc ls y (no_incumbent k) nothing_taken 0 [] (Solve 0)) (sym same-sizes)
+            subst (λ (y : Sizes). Searching ws ns bs sc ls y (no_incumbent k) nothing_taken 0 [] (Solve 0)) (sym same_sizes)
                 (subst (λ (m : Lengths). Searching ws ns bs sc ls (sizes_of I) (no_incumbent m) nothing_taken 0 []
                 (Solve 0)) (sym v) (begins I f ls says_problem)),
-            subst (λ (y : Sizes). Handable sc ls ks g.names y ts ms hs) (sym same-sizes) (handable I f ls says_problem sc refl),
+            subst (λ (y : Sizes). Handable sc ls ks g.names y ts ms hs) (sym same_sizes) (handable I f ls says_problem sc refl),
           )
 
           pub is_outcome : (L : SolveLeft)
@@ -130,9 +130,9 @@ module _ (g : Given) (ws ns bs xs ks cs os ss sc ts ms hs : List ℕ) where
           is_outcome L e =
               e
               ∙ ((λ i. solve_left_by (v i) ns bs sc
-              (settled_by (problem_in ls (same-sizes i)) (rows_from (base_name_at ks) 0 g.names) ts ms hs (v i)
-              (solve_from ls (same-sizes i) 0 (path_of ls (same-sizes i) (binds_of bs (v i).variables) sc nothing_taken)
-              (world_of ls (same-sizes i) ws ns sc (no_incumbent (v i))))))
+              (settled_by (problem_in ls (same_sizes i)) (rows_from (base_name_at ks) 0 g.names) ts ms hs (v i)
+              (solve_from ls (same_sizes i) 0 (path_of ls (same_sizes i) (binds_of bs (v i).variables) sc nothing_taken)
+              (world_of ls (same_sizes i) ws ns sc (no_incumbent (v i))))))
               ∙ left_is_outcome I f ls says_problem)
 
 -- The answer as one number.

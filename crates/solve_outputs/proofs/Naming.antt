@@ -232,12 +232,12 @@ module _ (sc old ls : List ℕ) (z : Sizes) where
         rest_is = rows_one_left (constraint_at ls) z.constraints (i - 1) (omega (arith, l, p.within)) ∙ ap
             (λ j. constraint_at ls (i - 1) ∷ rest_from ls z j) back
 
-        count-is : length (disjunctions (rest_from ls z (i - 1))) ≡ length (disjunction_for (constraint_at ls (i - 1))
+        count_is : length (disjunctions (rest_from ls z (i - 1))) ≡ length (disjunction_for (constraint_at ls (i - 1))
             []) + length (disjunctions (rest_from ls z i))
-        count-is = ap (λ cs. length (disjunctions cs)) rest_is ∙ choices_more (constraint_at ls (i - 1)) (rest_from ls z i)
+        count_is = ap (λ cs. length (disjunctions cs)) rest_is ∙ choices_more (constraint_at ls (i - 1)) (rest_from ls z i)
 
         own_choice : length (disjunction_for (constraint_at ls (i - 1)) []) ≤ k
-        own_choice = omega (arith, p.count, total_left, count-is, fewer_left (i - 1) (omega (arith, p.within)))
+        own_choice = omega (arith, p.count, total_left, count_is, fewer_left (i - 1) (omega (arith, p.within)))
 
         pub names_enough : (c : Constraint) → c ≡ constraint_at ls (i - 1) → length (disjunction_for c []) ≤ k
         names_enough c e = subst (λ c. length (disjunction_for c []) ≤ k) (sym e) own_choice
@@ -253,7 +253,7 @@ module _ (sc old ls : List ℕ) (z : Sizes) where
             length (disjunction_for (constraint_at ls (i - 1)) []) ≡ k) (sym q) o.1 in
             record {
               within = omega (arith, p.within);
-              count = omega (arith, f, count-is, p.count);
+              count = omega (arith, f, count_is, p.count);
               long = ap (λ (w : Walked). length w.words) q ∙ (length_by z.exprs overloads sc old
                   (rest_from ls z i) ts k (constraint_at ls (i - 1)) ∙ p.long);
               done = r ∙ ap (λ cs. chosen_named z.exprs overloads sc cs k' old) (sym rest_is);

@@ -237,9 +237,9 @@ module _ (ls : List ℕ) (z : Sizes) (ws ns bs sc : List ℕ) (k : State) (e : B
         abbrev first : Out (Unit {0})
         first = trying ls z sc₁ e (One t (record { 0 = s.0 })) (Written run.count) (Solve i) path₁ w₁
 
-        to-or : else_try first (seq_from path₁) ≡ goal path w
+        to_or : else_try first (seq_from path₁) ≡ goal path w
         unfolding trying unify_pairs unifying path_after next_of
-        to-or =
+        to_or =
             (λ j. else_try
             (unifying (same_path₁ x only k₁ u j).binds t.0 s.0 (λ C. solve_from ls z i
             (with_components (same_path₁ x only k₁ u j) (part (measure_at + e.measure) run.count sc₁) C))
@@ -249,7 +249,7 @@ module _ (ls : List ℕ) (z : Sizes) (ws ns bs sc : List ℕ) (k : State) (e : B
 
         pub join_stop : ((y : State) → r ≡ Missed y → ⊥) → Comes ls z ws ns bs sc k e goal ws₂ ns₂ bs₂ sc₂ r
         join_stop n = from_start x only k₁ u _ ws₂ ns₂ bs₂ sc₂ r (or_stops ls z ws₁ ns bs sc₁ k₁ e
-            lub_asked.ready.nodes first ws₂ ns₂ bs₂ sc₂ r d (seq_from path₁) n) to-or
+            lub_asked.ready.nodes first ws₂ ns₂ bs₂ sc₂ r d (seq_from path₁) n) to_or
 
         module _ (k₂ : State) (v : r ≡ Missed k₂) where
           grown₂ : Grows (lent ws₁ ns k₁.lengths) (lent ws₂ ns₂ k₂.lengths)
@@ -271,7 +271,7 @@ module _ (ls : List ℕ) (z : Sizes) (ws ns bs sc : List ℕ) (k : State) (e : B
               bs₃ sc₃ a → Comes ls z ws ns bs sc k e goal ws₃ ns₃ bs₃ sc₃ a
           join_next ws₃ ns₃ bs₃ sc₃ a y =
               from_start x only k₁ u _ ws₃ ns₃ bs₃ sc₃ a (or_comes ls z ws₁ ns bs sc₁ k₁ e lub_asked.ready.nodes
-              first ws₂ ns₂ bs₂ sc₂ r d seq_from k₂ v ws₃ ns₃ bs₃ sc₃ a y) to-or
+              first ws₂ ns₂ bs₂ sc₂ r d seq_from k₂ v ws₃ ns₃ bs₃ sc₃ a y) to_or
 
 -- One source after another.
 module _ (ls : List ℕ) (z : Sizes) (ws ns bs sc : List ℕ) (k : State) (e : Branch) (t : InferSortId) (j n i : ℕ)

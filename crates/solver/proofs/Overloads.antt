@@ -135,9 +135,9 @@ module _ (ls : List ℕ) (z : Sizes) (ws₀ ns₀ bs₀ sc₀ : List ℕ) (k₀ 
         abbrev first : Out (Unit {0})
         first = trying ls z sc e (One p o) (Choice i) next path₁ w₁
 
-        to-and : and_also first b (λ b. from (i + 1) b path) ≡ from i b path w₁
+        to_and : and_also first b (λ b. from (i + 1) b path) ≡ from i b path w₁
         unfolding trying unify_pairs unifying path_after every_overload
-        to-and =
+        to_and =
             ap₂ (λ n u. and_also (unifying path₁.binds p.0 n (λ C. next_of ls z next (with_choice path₁ u i C)) w₁)
             b (λ b. from (i + 1) b path)) v (next_expr ls z ws ns bs sc k e x.0 next G.searching)
             ∙ (ap (λ q. and_also (unifying q.binds p.0 (place (run.start + i)) (λ C. next_of ls z next
@@ -147,7 +147,7 @@ module _ (ls : List ℕ) (z : Sizes) (ws₀ ns₀ bs₀ sc₀ : List ℕ) (k₀ 
 
         pub overloads_stop : (c : ℕ) (n : Lengths) → g ≡ Stop c n → Comes ls z ws₀ ns₀ bs₀ sc₀ k₀ e goal ws₂ ns₂ bs₂ sc₂ (Full c n)
         overloads_stop c n h =
-            from_start (and_also first b (λ b. from (i + 1) b path)) to-and ws₂ ns₂ bs₂ sc₂ (Full c n)
+            from_start (and_also first b (λ b. from (i + 1) b path)) to_and ws₂ ns₂ bs₂ sc₂ (Full c n)
             (and_stops ls z ws ns bs sc k e G.searching.ready.nodes first ws₂ ns₂ bs₂ sc₂ r d b (λ b. from (i + 1) b path) g y c n h)
 
         pub overloads_on : (k₂ : State) (b₂ : Bool) → g ≡ On k₂ b₂ → Going-on ws₂ ns₂ bs₂ sc₂ k₂ (i + 1) b₂
@@ -165,7 +165,7 @@ module _ (ls : List ℕ) (z : Sizes) (ws₀ ns₀ bs₀ sc₀ : List ℕ) (k₀ 
               path = same_path_trans e sc₀ sc sc₂ G.path d.path;
               left =
                   and_goes_on ls z ws ns bs sc k e G.searching.ready.nodes first ws₂ ns₂ bs₂ sc₂ r d b
-                  (λ b. from (i + 1) b path) g y k₂ b₂ h ∙ (to-and ∙ G.left);
+                  (λ b. from (i + 1) b path) g y k₂ b₂ h ∙ (to_and ∙ G.left);
             }
 
 -- The expression of the disjunction is that of the next choice.

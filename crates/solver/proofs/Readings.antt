@@ -143,9 +143,9 @@ module _ (ls : List ℕ) (z : Sizes) (ws ns bs sc : List ℕ) (k : State) (e : B
         first = trying ls z sc e (Two body rb node (record { 0 = s.0 })) Nothing next path₁ w₁
 
         -- the rest, from here and from the start
-        to-and : and_also first b (λ b. rest (readings_from (i + 1)) b path₁) ≡ goal path w
+        to_and : and_also first b (λ b. rest (readings_from (i + 1)) b path₁) ≡ goal path w
         unfolding trying path_after
-        to-and =
+        to_and =
             ap (λ o. and_also o b (λ b. rest (readings_from (i + 1)) b path₁)) (sym (two_pairs path₁.binds body rb w₁
             node (record { 0 = s.0 }) (λ D. next_of ls z next (with_binds path₁ D))))
             ∙ (ap (λ n. and_also (unifying path₁.binds body.0 n (λ C. unifying C node.0 s.0
@@ -160,7 +160,7 @@ module _ (ls : List ℕ) (z : Sizes) (ws ns bs sc : List ℕ) (k : State) (e : B
             a
             → Comes ls z ws ns bs sc k e goal ws₃ ns₃ bs₃ sc₃ a
         from_start ws₃ ns₃ bs₃ sc₃ a y =
-            done_as ls z ws ns bs sc k e S.ready.nodes _ _ ws₃ ns₃ bs₃ sc₃ a to-and
+            done_as ls z ws ns bs sc k e S.ready.nodes _ _ ws₃ ns₃ bs₃ sc₃ a to_and
             (done_after ls z ws ns bs sc k e S.ready.nodes ws₁ ns bs sc k₁ grown refl (same_path_refl e sc) _ ws₃ ns₃ bs₃ sc₃ a y)
 
         module _ (g : Went) (y : g ≡ after_of r b) where

@@ -102,16 +102,16 @@ module _ (ls : List ℕ) (z : Sizes) (ws ns bs sc : List ℕ) (k : State) (e : B
       abbrev first : Out (Unit {0})
       first = trying ls z sc e pairs (Component g) next path w
 
-      to-or : else_try first (first_found (Unit {0}) nothing_met P (tries_from t (j + 1)) (next_of ls z next) path) ≡ goal path w
+      to_or : else_try first (first_found (Unit {0}) nothing_met P (tries_from t (j + 1)) (next_of ls z next) path) ≡ goal path w
       unfolding first_found trying unify_pairs unifying path_after
-      to-or =
+      to_or =
           ap₂ (λ p c. else_try (on_yes (unify_pairs (graph (lent ws ns k.lengths)) p
           (binds_of bs k.lengths.variables)) (λ C. next_of ls z next (path_after ls z sc e (Component c) C)) w)
           (first_found (Unit {0}) nothing_met P (tries_from t (j + 1)) (next_of ls z next) path)) q h
           ∙ sym (ap (λ ts. first_found (Unit {0}) nothing_met P ts (next_of ls z next) path w) (rows_one_left (try_at t) t.count j l))
 
       pub tries_stop : ((s : State) → r ≡ Missed s → ⊥) → Comes ls z ws ns bs sc k e goal ws₁ ns₁ bs₁ sc₁ r
-      tries_stop n = done_as ls z ws ns bs sc k e S.ready.nodes _ _ ws₁ ns₁ bs₁ sc₁ r to-or (or_stops ls z ws ns
+      tries_stop n = done_as ls z ws ns bs sc k e S.ready.nodes _ _ ws₁ ns₁ bs₁ sc₁ r to_or (or_stops ls z ws ns
           bs sc k e S.ready.nodes first ws₁ ns₁ bs₁ sc₁ r d _ n)
 
       pub tries_fine : (k₁ : State) → r ≡ Missed k₁ → TriesFine (lent ws₁ ns₁ k₁.lengths) t (j + 1)
@@ -133,7 +133,7 @@ module _ (ls : List ℕ) (z : Sizes) (ws ns bs sc : List ℕ) (k : State) (e : B
           → Comes ls z ws₁ ns₁ bs₁ sc₁ k₁ e (first_found (Unit {0}) nothing_met P (tries_from t (j + 1)) (next_of ls z next)) ws₂ ns₂ bs₂ sc₂ r₂
           → Comes ls z ws ns bs sc k e goal ws₂ ns₂ bs₂ sc₂ r₂
       tries_next k₁ x ws₂ ns₂ bs₂ sc₂ r₂ y =
-          done_as ls z ws ns bs sc k e S.ready.nodes _ _ ws₂ ns₂ bs₂ sc₂ r₂ to-or
+          done_as ls z ws ns bs sc k e S.ready.nodes _ _ ws₂ ns₂ bs₂ sc₂ r₂ to_or
           (or_comes ls z ws ns bs sc k e S.ready.nodes first ws₁ ns₁ bs₁ sc₁ r d (first_found (Unit {0}) nothing_met
           P (tries_from t (j + 1)) (next_of ls z next)) k₁ x ws₂ ns₂ bs₂ sc₂ r₂ y)
 

@@ -49,17 +49,17 @@ module _ (ws : List ℕ) (n e : ℕ) where
           ((and-eq-true_iff (leb n max_sorts && leb e max_entries) (leb (4 * n) (length ws))).0
           ((and-eq-true_iff (leb n max_sorts && leb e max_entries && leb (4 * n) (length ws)) (leb e (length ws - entries_at))).0 (passing b₁ _ e₁ h₁)).0).0).0
 
-      past-1 : first_failing (sort_checks ws n e) ≡ first_failing (two ∷ three ∷ four ∷ [])
+      past_1 : first_failing (sort_checks ws n e) ≡ first_failing (two ∷ three ∷ four ∷ [])
       unfolding sort_checks
-      past-1 = first_passes one _ (passing b₁ _ e₁ h₁)
+      past_1 = first_passes one _ (passing b₁ _ e₁ h₁)
 
       module _ (b₂ : Bool) (e₂ : b₂ ≡ fixed_six ws n) where
         pub fails_2 : not b₂ ≡ true → Refused 2 ≡ tested_of (first_failing (sort_checks ws n e))
-        fails_2 h = ap tested_of (sym (past-1 ∙ first_fails two _ (failing b₂ _ e₂ h)))
+        fails_2 h = ap tested_of (sym (past_1 ∙ first_fails two _ (failing b₂ _ e₂ h)))
 
         module _ (h₂ : not b₂ ≡ false) (b₃ : Bool) (e₃ : b₃ ≡ rows_fine ws n e) where
           past_2 : first_failing (sort_checks ws n e) ≡ first_failing (three ∷ four ∷ [])
-          past_2 = past-1 ∙ first_passes two _ (passing b₂ _ e₂ h₂)
+          past_2 = past_1 ∙ first_passes two _ (passing b₂ _ e₂ h₂)
 
           pub fails_3 : not b₃ ≡ true → Refused 3 ≡ tested_of (first_failing (sort_checks ws n e))
           fails_3 h = ap tested_of (sym (past_2 ∙ first_fails three _ (failing b₃ _ e₃ h)))
@@ -68,13 +68,13 @@ module _ (ws : List ℕ) (n e : ℕ) where
             past_3 : first_failing (sort_checks ws n e) ≡ first_failing (four ∷ [])
             past_3 = past_2 ∙ first_passes three _ (passing b₃ _ e₃ h₃)
 
-            by-structure : b₄ ≡ no_two_equal ws n
+            by_structure : b₄ ≡ no_two_equal ws n
             unfolding no_same_rows new_row other_row
-            by-structure = e₄ ∙ rows_differ_exactly ws e n (passing b₃ _ e₃ h₃)
+            by_structure = e₄ ∙ rows_differ_exactly ws e n (passing b₃ _ e₃ h₃)
 
             pub fails_4 : not b₄ ≡ true → Refused 4 ≡ tested_of (first_failing (sort_checks ws n e))
-            fails_4 h = ap tested_of (sym (past_3 ∙ first_fails four _ (failing b₄ _ by-structure h)))
+            fails_4 h = ap tested_of (sym (past_3 ∙ first_fails four _ (failing b₄ _ by_structure h)))
 
             pub passes_4 : not b₄ ≡ false → Passed ≡ tested_of (first_failing (sort_checks ws n e))
             unfolding first_failing
-            passes_4 h = ap tested_of (sym (past_3 ∙ first_passes four [] (passing b₄ _ by-structure h)))
+            passes_4 h = ap tested_of (sym (past_3 ∙ first_passes four [] (passing b₄ _ by_structure h)))

@@ -57,17 +57,17 @@ module _ (ws : List ℕ) (n e a b : ℕ) (t : Tested) (et : t ≡ tested_of (fir
       rhs_fails h = ap tested_of (sym (past_sorts ∙ first_fails twelve _ (rw (lt-ltb a n ha, le-ltb b n h))))
 
       module _ (hb : b < n) where
-        past-12 : first_failing (pair_checks ws n e a b) ≡ first_failing (fourteen ∷ [])
+        past_12 : first_failing (pair_checks ws n e a b) ≡ first_failing (fourteen ∷ [])
         unfolding in_list
-        past-12 = past_sorts ∙ first_passes twelve _ (rw (lt-ltb a n ha, lt-ltb b n hb))
+        past_12 = past_sorts ∙ first_passes twelve _ (rw (lt-ltb a n ha, lt-ltb b n hb))
 
         pub length_fails : length ws < full_length → Refused 14 ≡ tested_of (first_failing (pair_checks ws n e a b))
         unfolding at_ceiling
-        length_fails h = ap tested_of (sym (past-12 ∙ first_fails fourteen _ (lt-leb full_length (length ws) h)))
+        length_fails h = ap tested_of (sym (past_12 ∙ first_fails fourteen _ (lt-leb full_length (length ws) h)))
 
         pub all_pass : full_length ≤ length ws → Passed ≡ tested_of (first_failing (pair_checks ws n e a b))
         unfolding at_ceiling first_failing
-        all_pass h = ap tested_of (sym (past-12 ∙ first_passes fourteen [] (le-leb full_length (length ws) h)))
+        all_pass h = ap tested_of (sym (past_12 ∙ first_passes fourteen [] (le-leb full_length (length ws) h)))
 
 -- what it means that no check fails
 module _ (ws : List ℕ) (n e a b : ℕ) (x : first_failing (pair_checks ws n e a b) ≡ none) where

@@ -64,17 +64,17 @@ module _ (ws : List ℕ) (n e : ℕ) (bs : List ℕ) (t : Tested) (et : t ≡ te
     storage_short h = ap tested_of (sym (past_sorts ∙ first_fails fourteen _ (lt-leb full_length (length ws) h)))
 
     module _ (h : full_length ≤ length ws) where
-      past-14 : first_failing (read_checks ws n e bs) ≡ first_failing (nineteen ∷ [])
+      past_14 : first_failing (read_checks ws n e bs) ≡ first_failing (nineteen ∷ [])
       unfolding at_ceiling
-      past-14 = past_sorts ∙ first_passes fourteen _ (le-leb full_length (length ws) h)
+      past_14 = past_sorts ∙ first_passes fourteen _ (le-leb full_length (length ws) h)
 
       pub line_long : 200 < length bs → Refused 19 ≡ tested_of (first_failing (read_checks ws n e bs))
       unfolding short_line
-      line_long l = ap tested_of (sym (past-14 ∙ first_fails nineteen _ (lt-leb (length bs) 200 l)))
+      line_long l = ap tested_of (sym (past_14 ∙ first_fails nineteen _ (lt-leb (length bs) 200 l)))
 
       pub all_pass : length bs ≤ 200 → Passed ≡ tested_of (first_failing (read_checks ws n e bs))
       unfolding short_line first_failing
-      all_pass l = ap tested_of (sym (past-14 ∙ first_passes nineteen [] (le-leb (length bs) 200 l)))
+      all_pass l = ap tested_of (sym (past_14 ∙ first_passes nineteen [] (le-leb (length bs) 200 l)))
 
 -- what it means that no check fails
 module _ (ws : List ℕ) (n e : ℕ) (bs : List ℕ) (t : Tested) (et : t ≡ tested_of (first_failing (read_checks ws n e bs))) where
@@ -202,12 +202,12 @@ module _ (ws : List ℕ) (n e : ℕ) (bs : List ℕ) (q : Passes ws n e bs) wher
       unfolding run_at stack_of
       run_is ids = ap (λ ops. stored ws n e (steps ops [] (sorts_of ws n e))) it.written ∙ ap (stored ws n e) (store_is it.left it.sort it.is)
 
-      by-outcome : (O : Outcome Tree) → SortsKept ws n e InTree (sorts_of ws n e) O
+      by_outcome : (O : Outcome Tree) → SortsKept ws n e InTree (sorts_of ws n e) O
           → kept_or_no_room (stored ws n e O).words n e (stored ws n e O).answer ≡ stored_by ws n e (stored ws n e O) (stored ws n e O).answer
       unfolding SortsKept stored kept_or_no_room stored_by
-      by-outcome (made v S) h = refl
-      by-outcome (nothing S) h = ap (λ us. read_left us NoRoom) (made_is_given_back ws n e q.checked S h.0)
-      by-outcome (full S) h = ap (λ us. read_left us NoRoom) (made_is_given_back ws n e q.checked S h.0)
+      by_outcome (made v S) h = refl
+      by_outcome (nothing S) h = ap (λ us. read_left us NoRoom) (made_is_given_back ws n e q.checked S h.0)
+      by_outcome (full S) h = ap (λ us. read_left us NoRoom) (made_is_given_back ws n e q.checked S h.0)
 
       pub read_stored : (ids : List SortId) (vs : List ℕ) (j : Joined) → stored_at vs j ≡ run_at ws n e (drop 0 (take m out)) ids 0
           → (us : List ℕ) (a : Read) → read_left us a ≡ kept_or_no_room vs n e j
@@ -215,5 +215,5 @@ module _ (ws : List ℕ) (n e : ℕ) (bs : List ℕ) (q : Passes ws n e bs) wher
       unfolding read_as_of
       read_stored ids vs j f us a g =
           g ∙ (ap (λ x. kept_or_no_room x.words n e x.answer) (f ∙ run_is ids) ∙
-          (by-outcome (store it.sort (sorts_of ws n e)) (store_kept it.left it.sort it.is) ∙ sym
+          (by_outcome (store it.sort (sorts_of ws n e)) (store_kept it.left it.sort it.is) ∙ sym
           (ap (read_as_of ws n e bs) it.is)))

@@ -231,12 +231,12 @@ module _ (ws : List ℕ) (C : Counts) (ops : List ℕ) (i : ℕ) (ids : List Sor
       interned_kept = intern_kept ws n e S (grown_none ws n e q.checked) t p few
 
       module _ (c : SortId) (K : Counts) (ej : stored_at vs (At c K) ≡ intern_at ws n e t) where
-        to-intern : stored_at vs (At c K) ≡ stored ws n e (intern t S)
+        to_intern : stored_at vs (At c K) ≡ stored ws n e (intern t S)
         unfolding intern_at
-        to-intern = ej
+        to_intern = ej
 
         there : Reached ws n e S (intern t S) vs c K
-        there = reached ws n e S (intern t S) interned_kept vs c K to-intern
+        there = reached ws n e S (intern t S) interned_kept vs c K to_intern
 
         look_there : (x : ℕ) → x < n → look (trees vs K.sorts) x ≡ look T x
         look_there x l =
@@ -272,21 +272,21 @@ module _ (ws : List ℕ) (C : Counts) (ops : List ℕ) (i : ℕ) (ids : List Sor
             ≡ stored ws n e (steps later (there.sort ∷ stack_of T ids base) there.sorts)
         after_is =
             ap₂ (λ us k. stored us k.sorts k.entries (steps later (there.sort ∷ stack_of T ids base) there.sorts)) there.words there.counted
-            ∙ stored_again ws n e there.sorts there.grown there.sorts (steps later (there.sort ∷ stack_of T ids base) there.sorts) later-kept
+            ∙ stored_again ws n e there.sorts there.grown there.sorts (steps later (there.sort ∷ stack_of T ids base) there.sorts) later_kept
           where
-            later-kept : SortsKept (after ws n e there.sorts) (length there.sorts.trees)
+            later_kept : SortsKept (after ws n e there.sorts) (length there.sorts.trees)
                 (max_entries - there.sorts.entries) InTree there.sorts (steps later (there.sort ∷ stack_of T ids
                 base) there.sorts)
-            later-kept =
+            later_kept =
                 steps_kept (after ws n e there.sorts) (length there.sorts.trees)
                 (max_entries - there.sorts.entries) later (there.sort ∷ stack_of T ids base) there.sorts
                 short_left.1 (here ws n e S (intern t S) vs c K there) (six_extends S there.sorts there.extends six_in)
                 (on_top there.sorts there.sort (stack_of T ids base) there.inside
                 (stack_extends S there.sorts (stack_of T ids base) there.extends (stack_in ws n e ids base (λ j l. q.numbers j (omega arith)))))
 
-        made-goes-on : (us : List ℕ) (r : Joined) → stored_at us r ≡ run_at vs K.sorts K.entries later
+        made_goes_on : (us : List ℕ) (r : Joined) → stored_at us r ≡ run_at vs K.sorts K.entries later
             (set ids base c) (base + 1) → stored_at us r ≡ whole
-        made-goes-on us r g =
+        made_goes_on us r g =
             g ∙ (on_stack ∙ (after_is ∙ sym (is ∙ ap (λ O. stored ws n e (O then (λ u S. steps later (u ∷ stack_of T ids base) S))) there.is)))
 
       -- by the three answers of interning
@@ -296,21 +296,21 @@ module _ (ws : List ℕ) (C : Counts) (ops : List ℕ) (i : ℕ) (ids : List Sor
       goes_on (Nothing K) f = tt
       goes_on Full f = tt
 
-      to-stored : (j : Joined) → stored_at vs j ≡ intern_at ws n e t → stored_at vs j ≡ stored ws n e (intern t S)
+      to_stored : (j : Joined) → stored_at vs j ≡ intern_at ws n e t → stored_at vs j ≡ stored ws n e (intern t S)
       unfolding intern_at
-      to-stored j f = f
+      to_stored j f = f
 
       pub gone_on : (j : Joined) → stored_at vs j ≡ intern_at ws n e t → (us : List ℕ) (r : Joined)
           → stored_at us r ≡ go_on vs ops i ids base j → stored_at us r ≡ whole
       unfolding go_on
-      gone_on (At c K) f us r g = made-goes-on c K f us r g
+      gone_on (At c K) f us r g = made_goes_on c K f us r g
       gone_on (Nothing K) f us r g =
-          let x = stopped ws n e (intern t S) vs K (to-stored (Nothing K) f) in
-          g ∙ (to-stored (Nothing K) f ∙ (ap (stored ws n e) x.1 ∙ sym
+          let x = stopped ws n e (intern t S) vs K (to_stored (Nothing K) f) in
+          g ∙ (to_stored (Nothing K) f ∙ (ap (stored ws n e) x.1 ∙ sym
           (is ∙ ap (λ O. stored ws n e (O then (λ u S. steps later (u ∷ stack_of T ids base) S))) x.1)))
       gone_on Full f us r g =
-          let x = ended ws n e (intern t S) vs (to-stored Full f) in
-          g ∙ (to-stored Full f ∙ (ap (stored ws n e) x.1 ∙ sym
+          let x = ended ws n e (intern t S) vs (to_stored Full f) in
+          g ∙ (to_stored Full f ∙ (ap (stored ws n e) x.1 ∙ sym
           (is ∙ ap (λ O. stored ws n e (O then (λ u S. steps later (u ∷ stack_of T ids base) S))) x.1)))
 
     -- a container step
@@ -328,22 +328,22 @@ module _ (ws : List ℕ) (C : Counts) (ops : List ℕ) (i : ℕ) (ids : List Sor
           ∙ ap (stored ws n e) (then_then (intern (container (op_of (op - 6)) (look T last)) S)
           (λ u S. made (u ∷ stack_of T ids (depth - 1)) S) (λ st S. steps later st S))))
 
-      container-parts : parts_in T (container (op_of (op - 6)) (look T last)) ≡ true
+      container_parts : parts_in T (container (op_of (op - 6)) (look T last)) ≡ true
       unfolding parts_in
-      container-parts = member_look T last (omega (arith, length_trees ws n, last_below))
+      container_parts = member_look T last (omega (arith, length_trees ws n, last_below))
 
-      container-few : need (container (op_of (op - 6)) (look T last)) ≤ 16
+      container_few : need (container (op_of (op - 6)) (look T last)) ≤ 16
       unfolding need
-      container-few = omega arith
+      container_few = omega arith
 
       pub container_goes_on : (vs : List ℕ) (j : Joined) → stored_at vs j ≡ intern_at ws n e (container (op_of (op - 6))
           (look T last)) → GoesOn vs ops i ids (depth - 1) j
-      container_goes_on vs = goes_on (container (op_of (op - 6)) (look T last)) (depth - 1) (omega arith) container-parts container-few container_is vs
+      container_goes_on vs = goes_on (container (op_of (op - 6)) (look T last)) (depth - 1) (omega arith) container_parts container_few container_is vs
 
       pub container_gone_on : (vs : List ℕ) (j : Joined) → stored_at vs j ≡ intern_at ws n e (container (op_of (op - 6))
           (look T last)) → (us : List ℕ) (r : Joined)
           → stored_at us r ≡ go_on vs ops i ids (depth - 1) j → stored_at us r ≡ whole
-      container_gone_on vs = gone_on (container (op_of (op - 6)) (look T last)) (depth - 1) (omega arith) container-parts container-few container_is vs
+      container_gone_on vs = gone_on (container (op_of (op - 6)) (look T last)) (depth - 1) (omega arith) container_parts container_few container_is vs
 
     -- a function step
     module _ (l : 11 ≤ op) (z : depth ≡ 0 → ⊥) (k : ℕ) (ek : k ≡ arguments_of op) (enough : k < depth) where
@@ -384,22 +384,22 @@ module _ (ws : List ℕ) (C : Counts) (ops : List ℕ) (i : ℕ) (ids : List Sor
           takes_all T ids base k (omega (arith, len, q.room))))
           ∙ ap (stored ws n e) (then_then (intern arrow S) (λ u S. made (u ∷ stack_of T ids base) S) (λ st S. steps later st S))))
 
-      function-parts : parts_in T arrow ≡ true
+      function_parts : parts_in T arrow ≡ true
       unfolding parts_in
-      function-parts =
+      function_parts =
           (and-eq-true_iff (members T (look_all T numbers)) (member T (look T range))).1
           (members_below ws C q.checked numbers numbers_below, member_look T range (omega (arith, length_trees ws n, range_below)))
 
-      function-few : need arrow ≤ 16
+      function_few : need arrow ≤ 16
       unfolding need
-      function-few = omega (arith, few_arguments, arity_look_all T numbers, length-take k (drop base (sort_numbers ids)))
+      function_few = omega (arith, few_arguments, arity_look_all T numbers, length-take k (drop base (sort_numbers ids)))
 
       pub function_goes_on : (vs : List ℕ) (j : Joined) → stored_at vs j ≡ intern_at ws n e arrow → GoesOn vs ops i ids base j
-      function_goes_on vs = goes_on arrow base (omega arith) function-parts function-few function_is vs
+      function_goes_on vs = goes_on arrow base (omega arith) function_parts function_few function_is vs
 
       pub function_gone_on : (vs : List ℕ) (j : Joined) → stored_at vs j ≡ intern_at ws n e arrow
           → (us : List ℕ) (r : Joined) → stored_at us r ≡ go_on vs ops i ids base j → stored_at us r ≡ whole
-      function_gone_on vs = gone_on arrow base (omega arith) function-parts function-few function_is vs
+      function_gone_on vs = gone_on arrow base (omega arith) function_parts function_few function_is vs
 
     pub too_few : 11 ≤ op → (depth ≡ 0 → ⊥) → (k : ℕ) → k ≡ arguments_of op → depth ≤ k → stored_at ws (Nothing C) ≡ whole
     too_few l z k ek h =

@@ -260,14 +260,14 @@ module _ (l : List ℕ) where
 
     module _ (f : r.token ≡ Open) (op : ComplexSort) (out : List ℕ) (same : length out ≡ length old) (q : Recognised)
         (s : Says l (r.next + 1) (n + (length l - r.next)) (take n old) (in_brackets sort (drop r.next l)) out q) where
-      bracketed-is : bracketed sort op (skip (drop at l)) (next is_letter (drop at l)) ≡ (in_brackets sort (drop r.next l)
+      bracketed_is : bracketed sort op (skip (drop at l)) (next is_letter (drop at l)) ≡ (in_brackets sort (drop r.next l)
           then-read (λ t cs. parsed (container op t) cs))
       unfolding bracketed
-      bracketed-is = ap (bracketed sort op (skip (drop at l))) (next_is_open l at r e f)
+      bracketed_is = ap (bracketed sort op (skip (drop at l))) (next_is_open l at r e f)
 
       pub bracketed_passes : (p : ℕ) → q ≡ Stuck p → Says l at room (take n old) (bracketed sort op (skip (drop at l))
           (next is_letter (drop at l))) out (Stuck p)
-      bracketed_passes p i = rw bracketed-is (stuck_then (r.next + 1) (n + (length l - r.next)) (take n old)
+      bracketed_passes p i = rw bracketed_is (stuck_then (r.next + 1) (n + (length l - r.next)) (take n old)
           (in_brackets sort (drop r.next l)) out q p _ at room (take n old) out s i)
 
       pub bracketed_room : (p m : ℕ) → q ≡ Done p m → m < length out
@@ -282,7 +282,7 @@ module _ (l : List ℕ) where
           let d = did (r.next + 1) (n + (length l - r.next)) (take n old) (in_brackets sort (drop r.next l)) out q p m s i in
           let g : at + 1 ≤ r.next = goes_at_least_from l at r e Open f h in
           said_done at room (take n old) (set out m v) _ p (m + 1) (container op d.sort_read) d.left
-          (bracketed-is ∙ ap (λ x. x then-read (λ t cs. parsed (container op t) cs)) d.is)
+          (bracketed_is ∙ ap (λ x. x then-read (λ t cs. parsed (container op t) cs)) d.is)
           record {
             further = omega (arith, d.wrote.further);
             within = d.wrote.within;
@@ -303,12 +303,12 @@ module _ (l : List ℕ) where
         (skip (drop at l)) r.token r.at r.next z) starts_within (starts_without_spaces l at r e)
 
     module _ (f : r.token ≡ Word) (w : Meant) (i : w ≡ meant (meaning (take (r.next - r.at) (drop r.at l)))) where
-      operand-word : operand sort (drop at l) ≡ operand_of sort (skip (drop at l)) (meaning (take (r.next - r.at) (drop r.at l))) (drop r.next l)
+      operand_word : operand sort (drop at l) ≡ operand_of sort (skip (drop at l)) (meaning (take (r.next - r.at) (drop r.at l))) (drop r.next l)
       unfolding operand operand_at
-      operand-word = ap (operand_at sort (skip (drop at l))) (next_is_word l at r e f)
+      operand_word = ap (operand_at sort (skip (drop at l))) (next_is_word l at r e f)
 
       word_is : (m : Meant) → w ≡ m → operand sort (drop at l) ≡ operand_of sort (skip (drop at l)) (unmeant m) (drop r.next l)
-      word_is m g = operand-word ∙ ap (λ x. operand_of sort (skip (drop at l)) x (drop r.next l))
+      word_is m g = operand_word ∙ ap (λ x. operand_of sort (skip (drop at l)) x (drop r.next l))
           (sym (unmeant_meant (meaning (take (r.next - r.at) (drop r.at l)))) ∙ ap unmeant (sym i ∙ g))
 
       abbrev after : ℕ
@@ -456,15 +456,15 @@ module _ (l : List ℕ) where
       abbrev d : Did 1 (length l) [] (sort l) out p m
       d = did 1 (length l) [] (sort l) out q p m whole i
 
-      line-is : line l ≡ ending d.sort_read (skip (drop p l)) (next is_letter (drop p l))
+      line_is : line l ≡ ending d.sort_read (skip (drop p l)) (next is_letter (drop p l))
       unfolding line
-      line-is = ap (λ x. x then-read (λ t cs. ending t (skip cs) (next is_letter cs))) d.is ∙ ap
+      line_is = ap (λ x. x then-read (λ t cs. ending t (skip cs) (next is_letter cs))) d.is ∙ ap
           (λ cs. ending d.sort_read (skip cs) (next is_letter cs)) (sym d.wrote.goes_on)
 
       pub line_done : r.token ≡ End → Says l 0 (length l) [] (line l) out (Done (length l) m)
       unfolding ending
       line_done f =
-          said_done 0 (length l) [] out _ (length l) m d.sort_read [] (line-is ∙ ap (ending d.sort_read (skip (drop p l))) (next_is_end l p r e f))
+          said_done 0 (length l) [] out _ (length l) m d.sort_read [] (line_is ∙ ap (ending d.sort_read (skip (drop p l))) (next_is_end l p r e f))
           record {
             further = omega arith;
             within = omega arith;
@@ -477,6 +477,6 @@ module _ (l : List ℕ) where
       pub line_stuck : (r.token ≡ End → ⊥) → Says l 0 (length l) [] (line l) out (Stuck r.at)
       line_stuck z =
           said_stuck 0 (length l) [] out _ r.at (skip (drop p l))
-          (line-is ∙ (ap (ending d.sort_read (skip (drop p l))) (next_is_said l p r e) ∙ ending_other l
+          (line_is ∙ (ap (ending d.sort_read (skip (drop p l))) (next_is_said l p r e) ∙ ending_other l
           d.sort_read (skip (drop p l)) r.token r.at r.next z))
           (omega (arith, goes_on l p r e, ends_within l p r e)) (starts_without_spaces l p r e)

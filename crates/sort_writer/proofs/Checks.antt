@@ -111,9 +111,9 @@ module _ (ws : List ℕ) (n e a : ℕ) (out : List ℕ) (t : Tested) (et : t ≡
     not_in_list h = ap tested_of (sym (past_sorts ∙ first_fails twelve _ (le-ltb a n h)))
 
     module _ (ha : a < n) {size : ℕ} (es : size ≡ get_or (sizes_to ws (replicate 1024 0) n) a 0) where
-      past-12 : first_failing (write_checks ws n e a out) ≡ first_failing (thirteen ∷ fourteen ∷ [])
+      past_12 : first_failing (write_checks ws n e a out) ≡ first_failing (thirteen ∷ fourteen ∷ [])
       unfolding in_list
-      past-12 = past_sorts ∙ first_passes twelve _ (lt-ltb a n ha)
+      past_12 = past_sorts ∙ first_passes twelve _ (lt-ltb a n ha)
 
       size_is : size ≡ size_if (writable (tree_at ws n a)) (length (text (tree_at ws n a)))
       unfolding sized
@@ -122,14 +122,14 @@ module _ (ws : List ℕ) (n e a : ℕ) (out : List ℕ) (t : Tested) (et : t ≡
           (omega (arith, few_sorts, length-replicate {A = ℕ} 1024 0)) n (omega arith) a ha
 
       pub no_text : size ≡ 0 → Refused 13 ≡ tested_of (first_failing (write_checks ws n e a out))
-      no_text z = ap tested_of (sym (past-12 ∙ first_fails thirteen _ (size_none _ _ (text_some (tree_at ws n a)) (sym size_is ∙ z))))
+      no_text z = ap tested_of (sym (past_12 ∙ first_fails thirteen _ (size_none _ _ (text_some (tree_at ws n a)) (sym size_is ∙ z))))
 
       module _ (z : size ≡ 0 → ⊥) where
         written_size : (writable (tree_at ws n a) ≡ true) × (size ≡ capped (length (text (tree_at ws n a))))
         written_size = let w = size_some _ _ (λ q. z (size_is ∙ q)) in (w.0, size_is ∙ w.1)
 
         past_13 : first_failing (write_checks ws n e a out) ≡ first_failing (fourteen ∷ [])
-        past_13 = past-12 ∙ first_passes thirteen _ written_size.0
+        past_13 = past_12 ∙ first_passes thirteen _ written_size.0
 
         pub storage_short : length ws < full_length → Refused 14 ≡ tested_of (first_failing (write_checks ws n e a out))
         unfolding at_ceiling

@@ -146,35 +146,35 @@ module _ (W : Lent) (c : CheckedLent W) (six : fixed_six W.sorts W.lengths.sorts
       part_term σ t e = container_tree o (term_in W σ s) t (sym (ap (shape_val σ (term_in W σ)) f) ∙ (sym (term_by_shape W c σ q) ∙ e))
 
       -- where p stands for the container of o over what s stands for
-      container-answer : (y : Option ComplexSort) → related_container up o ≡ y → (W' : Lent) (qs : List ℕ) → AllPlaced W' qs
+      container_answer : (y : Option ComplexSort) → related_container up o ≡ y → (W' : Lent) (qs : List ℕ) → AllPlaced W' qs
           → ((σ : ℕ → Term) (u : Tree) → term_in W σ s ≡ term_of u → each (term_in W' σ) qs ≡ each term_of (over_part y u)) → Answer q W' qs
       unfolding related
-      container-answer y i W' qs p h = (
+      container_answer y i W' qs p h = (
         p,
         λ σ r t e. let z = part_term σ t e in
             h σ z.0 z.2 ∙ (ap (λ w. each term_of (over_part w z.0)) (sym i) ∙ ap (λ w. each term_of (related up w)) (sym z.1)),
       )
 
-      at-container : (y : Option ComplexSort) → related_container up o ≡ y → (sort : Bool) → is_sort q ≡ sort → MadeFrom (Answer q) W (related_over y sort s W)
+      at_container : (y : Option ComplexSort) → related_container up o ≡ y → (sort : Bool) → is_sort q ≡ sort → MadeFrom (Answer q) W (related_over y sort s W)
       unfolding MadeFrom term_of
-      at-container none i sort j = (grows_refl W c, container-answer none i W [] (λ z o. none_of z [] o refl) (λ σ u e. refl))
-      at-container (some p) i true j =
+      at_container none i sort j = (grows_refl W c, container_answer none i W [] (λ z o. none_of z [] o refl) (λ σ u e. refl))
+      at_container (some p) i true j =
           let l : s < W.lengths.sorts = sort_part_below W c q s (container_head o) (s ∷ []) j x f (first []) in
           made_then (IsSort (container p (look (trees W.sorts W.lengths.sorts) s))) (Answer q) W c
           (intern_container p s W) only (container_grows W c p s l)
           (λ a W₁ g h. (
             grows_refl W₁ g.checked,
-            container-answer (some p) i W₁ (a ∷ []) (one_placed W₁ a (sort_placed W₁ g.checked a h.0))
+            container_answer (some p) i W₁ (a ∷ []) (one_placed W₁ a (sort_placed W₁ g.checked a h.0))
                 (λ σ u e. ap (λ w. w ∷ []) (sort_term W₁ g.checked σ a h.0 ∙ (ap term_of h.1 ∙ ap
                 (λ w. app (container_head p) (part w no_part)) (sym (sort_term W c σ s l) ∙ e)))),
           ))
-      at-container (some p) i false j =
+      at_container (some p) i false j =
           made_then (HasShape (over (container_head p) (s ∷ []))) (Answer q) W c (push_node (record { kind = kind_op p; part = s; args = [] }) W) only
           (push_grows W c (record { kind = kind_op p; part = s; args = [] }) (over (container_head p) (s ∷ []))
           (container_row p s (parts_placed W c q s (container_head o) (s ∷ []) x f (first []))))
           (λ a W₁ g h. (
             grows_refl W₁ g.checked,
-            container-answer (some p) i W₁ (a ∷ []) (one_placed W₁ a h.0)
+            container_answer (some p) i W₁ (a ∷ []) (one_placed W₁ a h.0)
                 (λ σ u e. ap (λ w. w ∷ [])
                 (term_by_shape W₁ g.checked σ a ∙ (ap (shape_val σ (term_in W₁ σ)) h.1
                 ∙ ap (λ w. app (container_head p) (part w no_part)) (ap (substitute σ) (term_grown W c W₁ g s
@@ -209,7 +209,7 @@ module _ (W : Lent) (c : CheckedLent W) (six : fixed_six W.sorts W.lengths.sorts
           → MadeFrom (Answer q) W (related_shape up (related_to up B k) (is_sort q) s W)
       shapes q y _ f (variable_formed v) ih = grows_refl W c
       shapes q y _ f (flat_formed a) ih = (grows_refl W c, at_flat q y a f)
-      shapes q y _ f (container_formed o s) ih = at-container q y o s f (related_container up o) refl (is_sort q) refl
+      shapes q y _ f (container_formed o s) ih = at_container q y o s f (related_container up o) refl (is_sort q) refl
       shapes q y _ f (function_formed n xs r len few) ih =
           rw (get_or_at xs r [] 0 n len, take_at xs (r ∷ []) n len)
           (at_function q y n xs r len few f (related_to up B k r W) (ih r (parts_placed W c q r (function_head n) (xs ++ (r ∷ [])) y f (one_last xs r))))

@@ -412,9 +412,9 @@ module _ (ws : List ℕ) (C : Counts) (k : Checked ws C.sorts C.entries) (x : Op
             few_args : arity args ≤ 16
             few_args = omega (arith, arguments_reached.as_many, few)
 
-            parts-there : parts_in S₂.trees (function args range_reached.sort) ≡ true
+            parts_there : parts_in S₂.trees (function args range_reached.sort) ≡ true
             unfolding parts_in
-            parts-there = (and-eq-true_iff (members S₂.trees args) (member S₂.trees range_reached.sort)).1 (members_there, range_reached.inside)
+            parts_there = (and-eq-true_iff (members S₂.trees args) (member S₂.trees range_reached.sort)).1 (members_there, range_reached.inside)
 
             pub function_made : (zs : List ℕ) (w : Joined)
                 → stored_at zs w ≡ intern_at us K₂.sorts K₂.entries (function (look_all (trees us K₂.sorts)
@@ -423,9 +423,9 @@ module _ (ws : List ℕ) (C : Counts) (k : Checked ws C.sorts C.entries) (x : Op
             unfolding need
             function_made zs w g =
                 g ∙ (ap₂ (λ vs u. intern_at us K₂.sorts K₂.entries (function vs u)) args_there (reached_sort w₁ n₁ e₁ S₁ (range S₁) us c K₂ range_reached)
-                ∙ (intern_after w₁ n₁ e₁ S₁ (range S₁) us c K₂ range_reached (function args range_reached.sort) parts-there few_args
+                ∙ (intern_after w₁ n₁ e₁ S₁ (range S₁) us c K₂ range_reached (function args range_reached.sort) parts_there few_args
                 ∙ (stored_again ws n e S₁ arguments_reached.grown S₂ (intern (function args range_reached.sort) S₂)
-                (intern_kept w₁ n₁ e₁ S₂ range_reached.grown (function args range_reached.sort) parts-there few_args)
+                (intern_kept w₁ n₁ e₁ S₂ range_reached.grown (function args range_reached.sort) parts_there few_args)
                 ∙ ap (stored ws n e) (sym (function_then ∙ ap (λ O. O then (λ u S. intern (function args u) S)) range_reached.is)))))
 
 -- places in what a call has left

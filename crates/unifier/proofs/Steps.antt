@@ -270,9 +270,9 @@ module _ (ws ns bs ts : List ℕ) (k : Lengths) (c : ℕ) (t : Trying ws ns bs t
         others : Binds → Unifies
         others C = unify_all shape (unify shape) C (drop (i + 1) ps) (drop (i + 1) qs)
 
-        parts-split : and_then (unify shape B x y) others ≡ rest
+        parts_split : and_then (unify shape B x y) others ≡ rest
         unfolding others
-        parts-split =
+        parts_split =
             sym
             (ap₂ (λ (xs ys : List ℕ). unify_all shape (unify shape) B xs ys)
             (drop-cons ps i 0 left_inside ∙ ap₂ (λ (z j : ℕ). z ∷ drop j ps) (sym ex) (sym (add-one i)))
@@ -283,23 +283,23 @@ module _ (ws ns bs ts : List ℕ) (k : Lengths) (c : ℕ) (t : Trying ws ns bs t
               → TryLeaves ws ns k U bs₀ ts₀ c₀ bs₁ ts₁ (No m)
           part_fails m z e u =
               g.rest bs₁ ts₁ (No m)
-              (tries_as ws ns k _ _ bs ts c bs₁ ts₁ (No m) parts-split
+              (tries_as ws ns k _ _ bs ts c bs₁ ts₁ (No m) parts_split
               (then_no ws ns k (unify shape B x y) others bs ts c bs₁ ts₁ m (subst (TryLeaves ws ns k (unify shape B x y) bs ts c bs₁ ts₁) e u)))
 
           module _ (m : ℕ) (z : Tried) (e : z ≡ Yes m) (u : TryLeaves ws ns k (unify shape B x y) bs ts c bs₁ ts₁ z) where
             abbrev yes_tried : TryLeaves ws ns k (unify shape B x y) bs ts c bs₁ ts₁ (Yes m)
             yes_tried = subst (TryLeaves ws ns k (unify shape B x y) bs ts c bs₁ ts₁) e u
 
-            next-by : (X : Unifies) → BindsKept shape k.variables B X → X ≡ yes_with (binds_of bs₁ k.variables)
+            next_by : (X : Unifies) → BindsKept shape k.variables B X → X ≡ yes_with (binds_of bs₁ k.variables)
                 → YesLeaves shape k.variables B (binds_of bs₁ k.variables)
-            next-by (yes_with C) n' s = let w : C ≡ binds_of bs₁ k.variables = cc in subst (YesLeaves shape k.variables B) w n'
-            next-by no_way n' s = no_confusion (cc)
-            next-by too_deep n' s = no_confusion (cc)
+            next_by (yes_with C) n' s = let w : C ≡ binds_of bs₁ k.variables = cc in subst (YesLeaves shape k.variables B) w n'
+            next_by no_way n' s = no_confusion (cc)
+            next_by too_deep n' s = no_confusion (cc)
 
             next : YesLeaves shape k.variables B (binds_of bs₁ k.variables)
             unfolding unify
             next =
-                next-by (unify shape B x y)
+                next_by (unify shape B x y)
                 (unify_kept shape 3072 (lower ws k.sorts k.entries ns k.nodes k.arguments k.variables q.nodes) k.variables
                 (scoped ws k.sorts k.entries ns k.nodes k.arguments k.variables q.nodes) deep
                 (deep_enough ws k.sorts k.entries ns k.nodes k.arguments k.variables q.nodes) deeper
@@ -322,7 +322,7 @@ module _ (ws ns bs ts : List ℕ) (k : Lengths) (c : ℕ) (t : Trying ws ns bs t
                 record {
                   trying = trying_on ws ns k (unify shape B x y) bs ts c bs₁ ts₁ m t lt yes_tried;
                   alike = g.alike;
-                  rest = λ bs₂ ts₂ w s. g.rest bs₂ ts₂ w (tries_as ws ns k _ _ bs ts c bs₂ ts₂ w parts-split
+                  rest = λ bs₂ ts₂ w s. g.rest bs₂ ts₂ w (tries_as ws ns k _ _ bs ts c bs₂ ts₂ w parts_split
                       (then_on ws ns k (unify shape B x y) others bs ts c bs₁ ts₁ m yes_tried bs₂ ts₂ w s));
                   work = omega (arith, g.work, work_falls);
                   same_binds = lb ∙ g.same_binds;

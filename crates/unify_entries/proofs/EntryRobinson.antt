@@ -92,12 +92,12 @@ module _ (ws : List ℕ) (n e : ℕ) (ns : List ℕ) (m d : ℕ) (bs : List ℕ)
           go : (C : Binds) → Robinson shape B l r (yes_with C) → length C ≡ v → bindings_fine n m C ≡ true → acyclic ns m C ≡ true
           go C (says_yes _ sound complete a solution) k p = (check_7_exactly ws n e ns m d v (fine_of ws n e ns m d v checked.nodes) C k p).0.1 a
 
-      same-checks : unify_checks ws n e ns m d words v l r ≡ unify_checks ws n e ns m d bs v l r
+      same_checks : unify_checks ws n e ns m d words v l r ≡ unify_checks ws n e ns m d bs v l r
       unfolding unify_checks node_checks bindings_within_lent
-      same-checks = rw (held, as_long, fine, settled, (chain ws n e ns m d bs v l r f).6, (chain ws n e ns m d bs v l r f).7)
+      same_checks = rw (held, as_long, fine, settled, (chain ws n e ns m d bs v l r f).6, (chain ws n e ns m d bs v l r f).7)
 
       left_yes : LeftYes ws n e ns m d bs v l r words
-      left_yes = record { passed = f; solved = rw held solved_by; long = as_long; past = rest; again = ap first_failing same-checks ∙ f }
+      left_yes = record { passed = f; solved = rw held solved_by; long = as_long; past = rest; again = ap first_failing same_checks ∙ f }
 
     by_answer : (a : Unifies) → unify shape B l r ≡ a → Robinson shape B l r a → (vs : List ℕ) (u : Unified)
         → binds_left vs u ≡ binds_left_by bs v a → LeftSays ws n e ns m d bs v l r vs u

@@ -51,18 +51,18 @@ module _ (ws : List ℕ) (n : ℕ) (ns : List ℕ) (m l r : ℕ) where
     rhs_stray h k = fails (x && y) _ same_places 12 _ (second_of_two x y h k)
 
     module _ (h : not x ≡ false) (k : not y ≡ false) where
-      past-12 : (t : Tested) → t ≡ tested_of (first_failing (fourteen ∷ [])) → t ≡ tested_of (first_failing places)
+      past_12 : (t : Tested) → t ≡ tested_of (first_failing (fourteen ∷ [])) → t ≡ tested_of (first_failing places)
       unfolding place_checks
-      past-12 t z = passes (x && y) _ same_places 12 _ (both_of_two x y h k) t z
+      past_12 t z = passes (x && y) _ same_places 12 _ (both_of_two x y h k) t z
 
       pub sorts_short : length ws < full_length → Refused 14 ≡ tested_of (first_failing places)
       unfolding at_ceiling
-      sorts_short q = past-12 (Refused 14) (ap tested_of (sym (first_fails fourteen [] (rw (lt-leb full_length (length ws) q)))))
+      sorts_short q = past_12 (Refused 14) (ap tested_of (sym (first_fails fourteen [] (rw (lt-leb full_length (length ws) q)))))
 
       module _ (q : full_length ≤ length ws) where
         pub nodes_short : length ns < full_nodes → Refused 14 ≡ tested_of (first_failing places)
         unfolding at_ceiling
-        nodes_short z = past-12 (Refused 14)
+        nodes_short z = past_12 (Refused 14)
             (ap tested_of (sym (first_fails fourteen [] (rw (
               le-leb full_length (length ws) q,
               lt-leb full_nodes
@@ -71,7 +71,7 @@ module _ (ws : List ℕ) (n : ℕ) (ns : List ℕ) (m l r : ℕ) where
 
         pub all_in_place : full_nodes ≤ length ns → Passed ≡ tested_of (first_failing places)
         unfolding at_ceiling first_failing
-        all_in_place z = past-12 Passed (ap tested_of (sym (first_passes fourteen [] (rw (le-leb full_length (length ws) q, le-leb full_nodes (length ns) z)))))
+        all_in_place z = past_12 Passed (ap tested_of (sym (first_passes fourteen [] (rw (le-leb full_length (length ws) q, le-leb full_nodes (length ns) z)))))
 
   pub lhs_stray : (x : Bool) → x ≡ is_place n m l → not x ≡ true → Refused 12 ≡ tested_of (first_failing places)
   unfolding place_checks
@@ -117,20 +117,20 @@ module _ (ws : List ℕ) (n e : ℕ) (ns : List ℕ) (m d : ℕ) (bs : List ℕ)
           abbrev sorted : List Check
           sorted = sort_row_checks ws n e
 
-          past-1 : (t : Tested) → t ≡ tested_of (first_failing (sorted ++ rest)) → t ≡ tested_of (first_failing all)
+          past_1 : (t : Tested) → t ≡ tested_of (first_failing (sorted ++ rest)) → t ≡ tested_of (first_failing all)
           unfolding unify_checks
-          past-1 t z = passes _ _ refl 1 _ (ap₂ (λ (y z : Bool). not (y && z)) two_within (sym ec ∙ not-false c hc)) t z
+          past_1 t z = passes _ _ refl 1 _ (ap₂ (λ (y z : Bool). not (y && z)) two_within (sym ec ∙ not-false c hc)) t z
 
           module _ (t : Tested) (et : t ≡ tested_of (first_failing (sort_checks ws n e))) where
-            by-sorts : t ≡ tested_of (first_failing sorted)
+            by_sorts : t ≡ tested_of (first_failing sorted)
             unfolding sort_checks
-            by-sorts = et ∙ ap tested_of (first_passes _ sorted (sym ea ∙ not-false a ha))
+            by_sorts = et ∙ ap tested_of (first_passes _ sorted (sym ea ∙ not-false a ha))
 
             pub sorts_refused : (code : ℕ) → t ≡ Refused code → Refused code ≡ tested_of (first_failing all)
-            sorts_refused code x = past-1 (Refused code) (first_refuses sorted rest t by-sorts code x)
+            sorts_refused code x = past_1 (Refused code) (first_refuses sorted rest t by_sorts code x)
 
             pub rest_decides : t ≡ Passed → (u : Tested) → u ≡ tested_of (first_failing rest) → u ≡ tested_of (first_failing all)
-            rest_decides p u y = past-1 u (second_decides sorted rest t by-sorts p u y)
+            rest_decides p u y = past_1 u (second_decides sorted rest t by_sorts p u y)
 
   -- no check fails
   module _ (x : first_failing all ≡ none) where
