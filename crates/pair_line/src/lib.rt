@@ -29,7 +29,7 @@ use sort_writer::put_sort;
 use text_out::put_bytes;
 
 // How much of the sort storage is in use, and where in the buffer the next byte goes.
-#[derive(Drop)]
+#[derive(Clone, Copy, Drop)]
 struct Used {
     counts: Counts,
     at: usize,

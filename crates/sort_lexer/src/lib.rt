@@ -11,7 +11,7 @@ ghost use Rattle.sort_lexer.specs.Inner.Meant.{meant, container_meaning};
 use resolved_sort::{ComplexSort, Sort};
 
 // A token of a line: a longest run of letters, `(`, `)`, `#`, `->`; any other byte starts a token that cannot follow.
-#[derive(Drop)]
+#[derive(Clone, Copy, Drop)]
 pub enum Token {
     End,
     Word,
@@ -23,7 +23,7 @@ pub enum Token {
 }
 
 // A token, where it starts, and the position after it: for End and Bad where they start.
-#[derive(Drop)]
+#[derive(Clone, Copy, Drop)]
 pub struct Lexeme {
     pub token: Token,
     pub at: usize,
@@ -31,7 +31,7 @@ pub struct Lexeme {
 }
 
 // What a word says: a basic sort, a container, or nothing.
-#[derive(Drop)]
+#[derive(Clone, Copy, Drop)]
 pub enum Meaning {
     Basic(Sort),
     Over(ComplexSort),
@@ -240,7 +240,7 @@ pub fn word_meaning(line: &[u8], from: usize, to: usize) -> Meaning
 }
 
 // A line and a position in it.
-#[derive(Drop)]
+#[derive(Clone, Copy, Drop)]
 pub struct Reader<'a> {
     pub line: &'a [u8],
     pub at: usize,

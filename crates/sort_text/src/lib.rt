@@ -6,7 +6,7 @@ use resolved_sort::{Counts, SortId};
 
 // What reading a line answers: the sort of the line, stored, with the counts after it; that the line is no sort, with
 // the position of its unread end (20); or that a new sort had no room (15).
-#[derive(Drop)]
+#[derive(Clone, Copy, Drop)]
 pub enum Read {
     Refused(u16),
     NotASort(usize),
@@ -15,7 +15,7 @@ pub enum Read {
 }
 
 // What writing a sort answers: the number of bytes of its text.
-#[derive(Drop)]
+#[derive(Clone, Copy, Drop)]
 pub enum Written {
     Refused(u16),
     Text(usize),
