@@ -1,21 +1,23 @@
 -- What the reads and writes of the pair program come to: parts of the input one after another, and its end. Assumes nothing.
 use mathlib.Core.Path.{◌≡◌, refl, sym, ◌∙◌, ap, subst}
-use mathlib.Core.Bool.{Bool, true, false}
-use mathlib.Core.List.{List, [], ◌∷◌, ◌++◌, append_assoc, append-nil}
+use mathlib.Core.Bool.{Bool, true, false, not}
+use mathlib.Core.List.{List, [], ◌++◌, append_assoc, append-nil}
 use Prim.Native.Nat.{ℕ, ◌+◌, ◌-◌, ◌<◌, ◌≤◌}
 use native.Mathlib.Omega.{arith}
 use lib.ListN.{length, take, drop, length-take, length-drop}
-use lib.Seq.{sets, sets-eq, take-append_seam}
+use lib.Seq.{sets-eq, take-append_seam}
 use Rattle.std.specs.Prelude.{Option, Some, None, ⊤}
 use Rattle.std.specs.Io.KnownBytes.{Consumes, Appends, IsAtEnd}
 use Rattle.text_out.specs.Put.{Put}
-use Rattle.pair_line.specs.PairProgram.{output}
+use Rattle.text_out.proofs.Put.{put_length}
 use Rattle.pair_input.specs.declared.Held.{Held}
+use Rattle.pair_input.specs.declared.Held.TheVariants.{First}
 use Rattle.pair_input.specs.ByteByByte.{Lines, first, Turned, take_bytes, at_end}
 use Rattle.pair_input.specs.Held.{lines_of, Holds, Feeds}
 use Rattle.pair_input.proofs.Exactly.{in_parts, byte_by_byte_exactly}
-use Rattle.pair_input.proofs.Ways.{fed_further, fed_output, all_taken, all_printed, none_taken, none_printed}
-use Rattle.pairs.specs.Printed.{PartPrinted, EndPrinted, AfterRead, AllPrinted}
+use Rattle.pair_line.specs.Room.{line_room}
+use Rattle.pair_input.proofs.Ways.{feeds_some, fed_further, fed_output, all_taken, all_printed, none_taken, none_printed}
+use Rattle.pairs.specs.Printed.{PartPrinted, AfterRead, AllPrinted}
 
 -- known bytes
 nothing_shown : (a : Option (List ℕ)) → Appends a a []
@@ -39,10 +41,10 @@ read_more (Some xs) (Some ys) None bs cs p q = absurd q
 read_more (Some xs) (Some ys) (Some zs) bs cs p q = p ∙ (ap (λ l. bs ++ l) q ∙ sym (append_assoc bs cs zs))
 
 -- bytes put at the front of a buffer are its front
-pub front_of : (out : List ℕ) (bs left : List ℕ) (r : ℕ) → Put out 0 bs left r → r ≤ length out → take r left ≡ bs
+pub front_of : (out : List ℕ) (bs left : List ℕ) (r : ℕ) → Put out 0 bs left r → r ≤ length left → take r left ≡ bs
 front_of out bs left r h l =
-    let n : r ≡ length bs = h.behind in
-    ap (take r) (h.bytes ∙ sets-eq bs out 0 (omega (arith, n, l)))
+    let n : r ≡ length bs = omega (arith, h.behind) in
+    ap (take r) (h.bytes ∙ sets-eq bs out 0 (omega (arith, n, l, put_length h)))
     ∙ (ap (λ (k : ℕ). take k (bs ++ drop (0 + length bs) out)) n ∙ take-append_seam bs (drop (0 + length bs) out))
 
 -- taking bytes: what is taken so far is held, and what it prints is written
@@ -70,16 +72,21 @@ none_taken_yet memory held bytes out shown h =
 module _ (memory₀ : List ℕ) (held₀ : Held) (bytes out₀ : List ℕ) (shown₀ : Option (List ℕ)) (memory : List ℕ) (held : Held)
     (out : List ℕ) (shown : Option (List ℕ)) (from : ℕ)
     (t : Taking memory₀ held₀ bytes out₀ shown₀ memory held out shown from) where
-  abbrev rest : List ℕ
+  abbrev pub rest : List ℕ
   rest = take (length bytes - from) (drop from bytes)
 
-  rest_long : length rest ≡ length bytes - from
+  pub rest_long : length rest ≡ length bytes - from
   rest_long = omega (arith, length-take (length bytes - from) (drop from bytes), length-drop from bytes)
 
   module _ (inside : from < length bytes) (memory' : List ℕ) (held' : Held) (out' : List ℕ) (used at : ℕ)
       (f : Feeds memory held rest out memory' held' out' used at) where
     pub fed_within : from + used ≤ length bytes
     fed_within = omega (arith, f.within, rest_long, inside)
+
+    -- each turn takes at least one byte
+    pub less_left : line_room ≤ length out → length bytes - (from + used) < length bytes - from
+    less_left l =
+        omega (arith, inside, fed_within, feeds_some memory held rest out memory' held' out' used at f (omega (arith, rest_long, inside)) l)
 
     pub part_taken : (shown' : Option (List ℕ)) → length memory' ≡ length memory → length out' ≡ length out
         → Appends shown shown' (take at out') → Taking memory₀ held₀ bytes out₀ shown₀ memory' held' out' shown' (from + used)
@@ -95,7 +102,7 @@ module _ (memory₀ : List ℕ) (held₀ : Held) (bytes out₀ : List ℕ) (show
               (sym (fed_output (lines_of memory₀ held₀) bytes from used fed_within
               ∙ ap (λ h. (take_bytes (lines_of memory₀ held₀) (take from bytes)).output ++ (take_bytes h (take used rest)).output) (sym t.lines)))
               (shown_more shown₀ shown shown' _ _ t.written
-              (subst (Appends shown shown') (front_of out (take_bytes (lines_of memory held) (take used rest)).output out' at f.turns.put f.fits) w));
+              (subst (Appends shown shown') (front_of out (take_bytes (lines_of memory held) (take used rest)).output out' at f.turns.put (omega (arith, f.fits, put_length f.turns.put))) w));
         }
 
   pub all_lines : length bytes ≤ from → lines_of memory held ≡ (take_bytes (lines_of memory₀ held₀) bytes).lines
@@ -162,16 +169,24 @@ module _ (known₀ known known' shown₀ shown shown' : Option (List ℕ)) (h : 
       }
   goes_on_by false false left p a = tt
 
-  pub run_goes_on : (more good : Bool) → more ≡ true → Run more good known₀ known shown₀ shown h → (more' good' : Bool) (left : Lines)
+  pub run_goes_on : (more good : Bool) → not more ≡ false → Run more good known₀ known shown₀ shown h → (more' good' : Bool) (left : Lines)
       → AfterRead more' good' known known' shown shown' h left → Run more' good' known₀ known' shown₀ shown' left
   unfolding Run
   run_goes_on true true e r more' good' left a = goes_on_by more' good' left r a
   run_goes_on true false e r more' good' left a = absurd r
   run_goes_on false good e r more' good' left a = absurd (let z : ◌≡◌ {A = ℕ} 0 1 = cc e in omega arith)
 
-pub run_ends : (more good : Bool) (known₀ known shown₀ shown : Option (List ℕ)) (h : Lines) → more ≡ false → good ≡ true
+pub run_ends : (more good : Bool) (known₀ known shown₀ shown : Option (List ℕ)) (h : Lines) → not more ≡ true → good ≡ true
     → Run more good known₀ known shown₀ shown h → AllPrinted known₀ known shown₀ shown
 unfolding Run
 run_ends true good known₀ known shown₀ shown h e g r = absurd (let z : ◌≡◌ {A = ℕ} 0 1 = cc e in omega arith)
 run_ends false true known₀ known shown₀ shown h e g r = r
 run_ends false false known₀ known shown₀ shown h e g r = absurd (let z : ◌≡◌ {A = ℕ} 0 1 = cc g in omega arith)
+
+-- no byte is read, and none is held
+pub no_bytes : (n : ℕ) (a b : Option (List ℕ)) (buffer : List ℕ) → n ≡ 0 → Consumes a b (take n buffer) → Consumes a b []
+no_bytes n a b buffer e h = subst (λ (k : ℕ). Consumes a b (take k buffer)) e h
+
+pub nothing_held : (memory : List ℕ) → lines_of memory (First 0) ≡ first []
+unfolding lines_of
+nothing_held memory = refl
