@@ -61,7 +61,8 @@ fn take(buffer: &[u8], line: &mut [u8], from: usize, end: usize, before: usize) 
         }
         let byte = buffer[at];
         at += 1;
-        if byte == b'\n' {
+        let ends = byte == b'\n';
+        if ends {
             return Input {
                 at,
                 end,

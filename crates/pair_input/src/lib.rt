@@ -126,7 +126,8 @@ pub fn finish(memory: &[u8], held: Held, out: &mut [u8]) -> usize
             put_single(&memory[..first], out, 0)
         }
         Held::Second(first, second) => {
-            if second == 0 {
+            let alone = second == 0;
+            if alone {
                 return put_single(&memory[..first], out, 0);
             }
             put_held(memory, first, second, out, 0)
