@@ -17,13 +17,7 @@ pub extern "C" fn sort_partial_cmp(
 ) -> u64
     ensures { result ≡ pack_compared (compared sorts.now sort_count entry_count lhs rhs) }
 {
-    sort_entries::sort_partial_cmp(
-        sorts,
-        sort_count,
-        entry_count,
-        lhs,
-        rhs,
-    )
+    sort_entries::sort_partial_cmp(sorts, sort_count, entry_count, lhs, rhs)
 }
 
 #[unsafe(no_mangle)]
@@ -36,13 +30,7 @@ pub extern "C" fn sort_widening_distance(
 ) -> u64
     ensures { result ≡ pack_measured (measured sorts.now sort_count entry_count from to) }
 {
-    sort_entries::sort_widening_distance(
-        sorts,
-        sort_count,
-        entry_count,
-        from,
-        to,
-    )
+    sort_entries::sort_widening_distance(sorts, sort_count, entry_count, from, to)
 }
 
 #[unsafe(no_mangle)]
@@ -55,13 +43,7 @@ pub extern "C" fn sort_is_materializable(
 ) -> u64
     ensures { result ≡ pack_materialized (materialized sorts.now sort_count entry_count from to) }
 {
-    sort_entries::sort_is_materializable(
-        sorts,
-        sort_count,
-        entry_count,
-        from,
-        to,
-    )
+    sort_entries::sort_is_materializable(sorts, sort_count, entry_count, from, to)
 }
 
 #[unsafe(no_mangle)]
@@ -75,13 +57,7 @@ pub extern "C" fn sort_join(
     ensures { packed_sorts sorts.new result
         ≡ pack_sorts_left (bounded true sorts.old sort_count entry_count lhs rhs) }
 {
-    sort_entries::sort_join(
-        sorts,
-        sort_count,
-        entry_count,
-        lhs,
-        rhs,
-    )
+    sort_entries::sort_join(sorts, sort_count, entry_count, lhs, rhs)
 }
 
 #[unsafe(no_mangle)]
@@ -95,11 +71,5 @@ pub extern "C" fn sort_meet(
     ensures { packed_sorts sorts.new result
         ≡ pack_sorts_left (bounded false sorts.old sort_count entry_count lhs rhs) }
 {
-    sort_entries::sort_meet(
-        sorts,
-        sort_count,
-        entry_count,
-        lhs,
-        rhs,
-    )
+    sort_entries::sort_meet(sorts, sort_count, entry_count, lhs, rhs)
 }

@@ -17,11 +17,5 @@ pub extern "C" fn sort_write(
     ensures { packed_write out.new result
         ≡ pack_write_left (writing sorts.now sort_count entry_count id out.old) }
 {
-    sort_writer::sort_write(
-        sorts,
-        sort_count,
-        entry_count,
-        id,
-        out,
-    )
+    sort_writer::sort_write(sorts, sort_count, entry_count, id, out)
 }
