@@ -27,7 +27,6 @@ use Rattle.search_state.specs.declared.Answer.{Answer}
 use Rattle.search_state.specs.declared.Answer.TheVariants.{Missed, Full}
 use Rattle.resolved_sort.specs.declared.Run.{Run}
 use Rattle.resolved_sort.specs.declared.SortId.{SortId}
-use Rattle.inference.specs.SolveChecks.{components}
 use Rattle.inference.proofs.MakingSorts.{MadeSorts, Agree, join_of_makes}
 use Rattle.search_state.specs.declared.Made.{Made}
 use Rattle.search_state.specs.declared.Made.TheVariants.{At, Nothing as NoSort, Full as NoSortRoom}

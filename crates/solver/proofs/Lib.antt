@@ -6,4 +6,3 @@ pub mod Readings
 pub mod Overloads
 pub mod Joins
 pub mod Solving
-pub mod Told
