@@ -48,9 +48,11 @@ stands_on() {
 
 # The library of a crate is proved and built where it is not there or older than a crate that it stands on.
 prove() {
-    local library=../target/staticlib/lib$1.a sources=() name
+    local library=../target/staticlib/lib$1.a sources=("../crates/${1}_c/src") name part
     grep -q "^$1:" ../crates.txt || fail "crates.txt has no $1; --stand-in asks the stand-in"
-    for name in $(stands_on "$1"); do [ ! -d "../crates/$name" ] || sources+=("../crates/$name"); done
+    for name in $(stands_on "$1"); do
+        for part in src specs proofs; do [ ! -d "../crates/$name/$part" ] || sources+=("../crates/$name/$part"); done
+    done
     if [ ! -f "$library" ] || [ -n "$(find "${sources[@]}" -newer "$library" -print -quit)" ]; then
         step "the proved library $1"
         (cd .. && tools/build.sh "$1")

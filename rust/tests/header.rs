@@ -107,21 +107,26 @@ fn of_library(path: &Path) -> Vec<String> {
     names
 }
 
-/// Every export of every crate is in the header under its library, with its parameters, and nothing else is.
+/// Every export of every crate is in the header under its library, with its parameters, and nothing else is. It stands in
+/// the crate and, the same, in the crate `_c` of its archive.
 #[test]
 fn header_and_sources() {
     let header = of_header();
-    let mut sources = BTreeMap::new();
+    let (mut sources, mut archives) = (BTreeMap::new(), BTreeMap::new());
     for folder in fs::read_dir(root().join("crates")).expect("the crates are there") {
         let folder = folder.expect("the crates can be read").path();
         let source = folder.join("src/lib.rt");
         let functions = if source.exists() { of_source(&source) } else { Functions::new() };
         if !functions.is_empty() {
             let name = folder.file_name().expect("a crate has a name").to_string_lossy().into_owned();
-            sources.insert(name, functions);
+            match name.strip_suffix("_c") {
+                Some(library) => archives.insert(library.to_string(), functions),
+                None => sources.insert(name, functions),
+            };
         }
     }
     assert_eq!(header, sources);
+    assert_eq!(header, archives);
     let mut named: Vec<&str> = header.keys().map(String::as_str).collect();
     named.sort_by_key(|name| LIBRARIES.iter().position(|other| other == name));
     assert_eq!(named, LIBRARIES);
