@@ -21,7 +21,7 @@ use Rattle.inference.specs.declared.Overload.{Overload}
 use Rattle.inference.specs.declared.Constraint.{Constraint}
 use Rattle.inference.specs.declared.Constraint.TheVariants.{Sub, Lit, Disjunction, Comprehension, Join}
 use Rattle.inference.specs.declared.Solved.TheVariants.{Typing}
-use Rattle.inference.specs.Constraints.{max_overloads, max_components, target, constraint_at, overload_at, rows_from, Problem}
+use Rattle.inference.specs.Constraints.{max_overloads, max_components, target, constraint_at, overload_at, Problem}
 use Rattle.inference.specs.Search.{Candidate, Out, found, missed, ended, solve}
 use Rattle.inference.specs.SolveChecks.{Call, placed, listed, given, disjunctions, no_two, keys, joins_fine}
 use Rattle.inference.specs.SolveChecks.{components, rows_within_lent, all_within_lent, target_fine, exprs_fine, names_fine}

@@ -1,8 +1,4 @@
 -- The record at i, and then those from i + 1 on; past the ceiling or the end, nothing. Assumes nothing.
-use Rattle.std.proofs.Common.{ap, sym, ℕ, ◌*◌, ◌∙◌}
-use Rattle.std.proofs.lemmas.List.Edits.{sets}
-use Rattle.solve_records.specs.Records.{words_of}
-use Rattle.solve_records.specs.Inner.Records.{words_from}
 use Rattle.solve_records.proofs.Unpacked.{none_past_the_ceiling, none_past_the_end, one_record_more}
 use Rattle.solve_records.proofs.+unpack_from.Goals as goal
 
