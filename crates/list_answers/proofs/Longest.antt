@@ -2,8 +2,8 @@
 -- so that there are at most 512 expressions, 256 components and a choice for each constraint; and where sorts are told they are
 -- checked. Assumes nothing.
 use mathlib.Core.Path.{◌≡◌, refl, sym, ◌∙◌, ap}
-use mathlib.Core.Bool.{Bool, true, ◌&&◌, and-eq-true_iff}
-use mathlib.Core.List.{List, [], ◌∷◌, ◌++◌, map}
+use mathlib.Core.Bool.{and-eq-true_iff}
+use mathlib.Core.List.{List, [], ◌∷◌}
 use mathlib.Core.Option.{Option, none, some}
 use Prim.Native.Nat.{ℕ, ◌+◌, ◌*◌, ◌≤◌}
 use native.Mathlib.Omega.{arith}
@@ -34,7 +34,7 @@ use Rattle.inference.proofs.Members.{length_rows}
 use Rattle.list_memory.specs.Memory.{sort_list, expr_list}
 use Rattle.list_call.specs.Lists.{call_count, call_in}
 use Rattle.list_verdict.specs.Text.{verdict_line, new_lines, typing_text}
-use Rattle.list_verdict.specs.Longest.{most_verdict_line, most_typing, most_new_line}
+use Rattle.list_verdict.specs.Longest.{most_typing, most_new_line}
 use Rattle.list_verdict.proofs.Longest.{verdict_length, typing_length, new_lines_length}
 use Rattle.list_answers.specs.Answer.{lines_under, told_text, answer_text}
 use Rattle.list_answers.specs.Longest.{most_answer}
