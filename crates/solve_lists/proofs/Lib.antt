@@ -1,0 +1,2 @@
+-- What the reads and writes of the list program come to.
+pub mod Runs

@@ -1,0 +1,2 @@
+-- What the list program prints for an input.
+pub mod Printed
