@@ -1,7 +1,6 @@
 -- What the reads and writes of the list program come to: line after line, and the end. Assumes nothing.
 use mathlib.Core.Path.{◌≡◌, refl, sym, ◌∙◌, ap, subst}
-use mathlib.Core.Bool.{Bool, true, false}
-use mathlib.Core.List.{List, [], ◌∷◌, ◌++◌, append_assoc, append-nil}
+use mathlib.Core.List.{List, [], ◌++◌, append_assoc, append-nil}
 use Prim.Native.Nat.{ℕ, ◌+◌, ◌<◌, ◌≤◌}
 use native.Mathlib.Omega.{arith}
 use lib.ListN.{length, take, drop}
@@ -20,7 +19,7 @@ use Rattle.list_lines.specs.declared.Said.{Said}
 use Rattle.list_lines.specs.Lines.{unasked_text, stage_of, printed, numbered, LineLeft, line_left, heard_line}
 use Rattle.list_lines.specs.Longest.{printed_room, held_line}
 use Rattle.list_lines.proofs.Longest.{printed_fits, nothing_is_cut, end_fits}
-use Rattle.solve_lists.specs.Printed.{number_text, line_printed, all_printed, InputPrinted}
+use Rattle.solve_lists.specs.Printed.{number_text, line_printed, all_printed}
 
 -- known bytes
 nothing_shown : (a : Option (List ℕ)) → Appends a a []
@@ -79,9 +78,21 @@ pub record Solving (xs : List ℕ) (most : ℕ) (known shown₀ shown : Option (
   pub written : Appends shown₀ shown text
   pub same : all_printed 1 ws₀ (held_lines most xs) ≡ text ++ all_printed n ws (held_lines most (left ++ rest))
 
-pub none_solved : (xs : List ℕ) (most : ℕ) (known shown : Option (List ℕ)) (ws : List ℕ) → known ≡ Some xs
-    → Solving xs most known shown shown ws ws [] 1
-none_solved xs most known shown ws e = record { rest = xs; is = e; text = []; written = nothing_shown shown; same = refl }
+pub nothing_unread : (buffer : List ℕ) (r : Input) → r.at ≡ 0 → r.end ≡ 0 → unread buffer r ≡ []
+nothing_unread buffer r a e = ap (λ (k : ℕ). drop r.at (take k buffer)) e ∙ ap (λ (k : ℕ). drop k []) a
+
+pub none_solved : (xs : List ℕ) (most : ℕ) (known shown : Option (List ℕ)) (ws left : List ℕ) → left ≡ [] → known ≡ Some xs
+    → Solving xs most known shown shown ws ws left 1
+none_solved xs most known shown ws left z e =
+    record { rest = xs; is = e; text = []; written = nothing_shown shown; same = ap (λ u. all_printed 1 ws (held_lines most (u ++ xs))) (sym z) }
+
+pub moved : (xs : List ℕ) (most most' : ℕ) (known shown₀ shown : Option (List ℕ)) (ws₀ ws ws' left : List ℕ) (n n' : ℕ)
+    → Solving xs most known shown₀ shown ws₀ ws left n → most ≡ most' → ws ≡ ws' → n ≡ n'
+    → Solving xs most' known shown₀ shown ws₀ ws' left n'
+moved xs most most' known shown₀ shown ws₀ ws ws' left n n' s e f h =
+    subst (λ (m : ℕ). Solving xs m known shown₀ shown ws₀ ws' left n') e
+    (subst (λ us. Solving xs most known shown₀ shown ws₀ us left n') f
+    (subst (λ (m : ℕ). Solving xs most known shown₀ shown ws₀ ws left m) h s))
 
 module _ (xs : List ℕ) (known shown₀ shown : Option (List ℕ)) (ws₀ ws : List ℕ) (n : ℕ)
     (known' : Option (List ℕ)) (buffer line : List ℕ) (input : Input) (buffer' line' : List ℕ) (r : Input)
