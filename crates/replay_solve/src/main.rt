@@ -82,8 +82,8 @@ fn main(rt: HostRuntime) -> io::Result<()> {
         differ: 0,
     };
     let end = replay_all(
-        &rt,
         &mut reader,
+        &mut out,
         &mut given,
         &mut left,
         &mut buffer,
