@@ -36,18 +36,18 @@ bound_settled ms w d r x = x ∙ sym (ap (λ b. binding_settled ms (cond b none 
 
 -- a run of arguments
 module _ (ns : List ℕ) (ms : List Bool) (s c : ℕ) where
-  pub record Run-left (j : ℕ) : Type 0 where
+  pub record RunLeft (j : ℕ) : Type 0 where
     pub within : j ≤ c
     pub left : all_settled ms (node_entries_of ns s c) ≡ all_settled ms (node_entries_of ns (s + j) (c - j))
 
-  pub run_begins : Run-left 0
+  pub run_begins : RunLeft 0
   run_begins = record {
     within = omega arith;
     left = ap₂ (λ (x y : ℕ). all_settled ms (node_entries_of ns x y))
         (let z : s ≡ s + 0 = omega arith in z) (let z : c ≡ c - 0 = omega arith in z);
   }
 
-  module _ (j : ℕ) (p : Run-left j) where
+  module _ (j : ℕ) (p : RunLeft j) where
     module _ (l : j < c) (b : Bool) (e : b ≡ place_settled ms (node_entry_at ns (s + j))) where
       one_and_rest : all_settled ms (node_entries_of ns s c) ≡ (b && all_settled ms (node_entries_of ns (s + (j + 1)) (c - (j + 1))))
       unfolding all_settled node_entries_of
@@ -59,7 +59,7 @@ module _ (ns : List ℕ) (ms : List Bool) (s c : ℕ) where
       pub argument_open : b ≡ false → false ≡ all_settled ms (node_entries_of ns s c)
       argument_open x = sym (one_and_rest ∙ ap (λ y. y && all_settled ms (node_entries_of ns (s + (j + 1)) (c - (j + 1)))) x)
 
-      pub argument_passed : b ≡ true → Run-left (j + 1)
+      pub argument_passed : b ≡ true → RunLeft (j + 1)
       argument_passed x = record {
         within = omega (arith, l);
         left = one_and_rest ∙ ap (λ y. y && all_settled ms

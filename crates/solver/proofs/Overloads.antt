@@ -65,7 +65,7 @@ module _ (ls : List ℕ) (z : Sizes) (ws₀ ns₀ bs₀ sc₀ : List ℕ) (k₀ 
   abbrev goal : Going (Unit {0}) nothing_met P
   goal = every_overload (Unit {0}) nothing_met P x.0 p.0 (rows_from (overload_at (drop overloads_at ls)) run.start run.count) 0 false (next_of ls z next)
 
-  pub record Going-on (ws ns bs sc : List ℕ) (k : State) (i : ℕ) (b : Bool) : Type 0 where
+  pub record GoingOn (ws ns bs sc : List ℕ) (k : State) (i : ℕ) (b : Bool) : Type 0 where
     pub checked : CheckedLent (lent ws₀ ns₀ k₀.lengths)
     pub searching : Searching ws ns bs sc ls z k e 0 (x.0 ∷ []) next
     pub fine : OverloadsFine (lent ws ns k.lengths) ls z p.0 run.start run.count
@@ -78,7 +78,7 @@ module _ (ls : List ℕ) (z : Sizes) (ws₀ ns₀ bs₀ sc₀ : List ℕ) (k₀ 
 
   pub overloads_begin : Searching ws₀ ns₀ bs₀ sc₀ ls z k₀ e 0 (x.0 ∷ []) next
       → OverloadsFine (lent ws₀ ns₀ k₀.lengths) ls z p.0 run.start run.count
-      → Going-on ws₀ ns₀ bs₀ sc₀ k₀ 0 false
+      → GoingOn ws₀ ns₀ bs₀ sc₀ k₀ 0 false
   overloads_begin S f =
       record {
         checked = S.ready.nodes;
@@ -95,7 +95,7 @@ module _ (ls : List ℕ) (z : Sizes) (ws₀ ns₀ bs₀ sc₀ : List ℕ) (k₀ 
             (let q : run.start + 0 ≡ run.start = omega arith in q) (let q : run.count - 0 ≡ run.count = omega arith in q);
       }
 
-  module _ (ws ns bs sc : List ℕ) (k : State) (i : ℕ) (b : Bool) (G : Going-on ws ns bs sc k i b) where
+  module _ (ws ns bs sc : List ℕ) (k : State) (i : ℕ) (b : Bool) (G : GoingOn ws ns bs sc k i b) where
     -- what is done from here is done from the start
     from_start : (O : Out (Unit {0})) → O ≡ from i b path (world_of ls z ws ns sc k)
         → (ws₂ ns₂ bs₂ sc₂ : List ℕ) (r : Answer) → Done ls z ws ns bs sc k e O ws₂ ns₂ bs₂ sc₂ r
@@ -150,7 +150,7 @@ module _ (ls : List ℕ) (z : Sizes) (ws₀ ns₀ bs₀ sc₀ : List ℕ) (k₀ 
             from_start (and_also first b (λ b. from (i + 1) b path)) to_and ws₂ ns₂ bs₂ sc₂ (Full c n)
             (and_stops ls z ws ns bs sc k e G.searching.ready.nodes first ws₂ ns₂ bs₂ sc₂ r d b (λ b. from (i + 1) b path) g y c n h)
 
-        pub overloads_on : (k₂ : State) (b₂ : Bool) → g ≡ On k₂ b₂ → Going-on ws₂ ns₂ bs₂ sc₂ k₂ (i + 1) b₂
+        pub overloads_on : (k₂ : State) (b₂ : Bool) → g ≡ On k₂ b₂ → GoingOn ws₂ ns₂ bs₂ sc₂ k₂ (i + 1) b₂
         overloads_on k₂ b₂ h =
             let only₂ = grown_on ls z ws ns bs sc k e G.searching.ready.nodes first ws₂ ns₂ bs₂ sc₂ r d b g y k₂ b₂ h in
             let up : (q : ℕ) → Placed k.lengths q → Placed k₂.lengths q =
@@ -175,7 +175,7 @@ module _ (ls : List ℕ) (z : Sizes) (ws ns bs sc : List ℕ) (k : State) (e : B
   next_choice = record { 0 = get_or (chosen_exprs ls z) e.choices 0 }
 
   pub overloads_begin_here : OverloadsFine (lent ws ns k.lengths) ls z p.0 run.start run.count
-      → Going-on ls z ws ns bs sc k e next_choice p run next ws ns bs sc k 0 false
+      → GoingOn ls z ws ns bs sc k e next_choice p run next ws ns bs sc k 0 false
   overloads_begin_here f =
       overloads_begin ls z ws ns bs sc k e next_choice p run next (subst (λ y. Searching ws ns bs sc ls z k e 0
       (y ∷ []) next) (sym (next_expr ls z ws ns bs sc k e x.0 next S)) S) f

@@ -1,10 +1,10 @@
 -- The loop's invariant: the arguments passed are settled, and the rest decides. Assumes nothing.
 use Rattle.std.proofs.Common.{◌-◌}
-use Rattle.node_checks.proofs.Settling.{Run-left}
+use Rattle.node_checks.proofs.Settling.{RunLeft}
 use Rattle.node_checks.proofs.arguments_settled.Given as goal
 
 abbrev pub invariant-loop-j : goal.invariant-loop-j
-invariant-loop-j l = Run-left l.nodes l.flags l.start l.count l.j
+invariant-loop-j l = RunLeft l.nodes l.flags l.start l.count l.j
 
 abbrev pub decreases-loop-j : goal.decreases-loop-j
 decreases-loop-j l = l.count - l.j

@@ -2,7 +2,7 @@
 -- definition on the rest. Assumes nothing.
 use Rattle.std.proofs.Common.{◌+◌, ◌*◌, ◌-◌}
 use Rattle.solver.proofs.Ways.{work}
-use Rattle.solver.proofs.Overloads.{Going-on}
+use Rattle.solver.proofs.Overloads.{GoingOn}
 use Rattle.solver.proofs.+attempt_resume_solve_solve_comprehension_solve_constraint_solve_disjunction_solve_join_solve_join_seq_solve_lit_solve_widening_tries.Given as goal
 
 abbrev pub decreases-attempt : goal.decreases-attempt
@@ -40,7 +40,7 @@ decreases-tries l = work l.sizes.constraints l.next + 3 + (l.t.count - l.j)
 
 abbrev pub invariant-solve_disjunction-loop-i : goal.invariant-solve_disjunction-loop-i
 invariant-solve_disjunction-loop-i l =
-    Going-on l.lists l.sizes l.initial.sorts l.initial.nodes l.initial.binds l.initial.scratch l.initial.s l.at l.fn.expr l.sort
+    GoingOn l.lists l.sizes l.initial.sorts l.initial.nodes l.initial.binds l.initial.scratch l.initial.s l.at l.fn.expr l.sort
     (record { start = l.start; count = l.count }) l.next l.sorts l.nodes l.binds l.scratch l.s l.i l.found
 
 abbrev pub decreases-solve_disjunction-loop-i : goal.decreases-solve_disjunction-loop-i
