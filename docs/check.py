@@ -84,7 +84,8 @@ def names_of(file, number, line):
 
 def main():
     os.chdir(ROOT)
-    files = sorted(file for file in walk() if file.endswith(".md") or file == "./NOTICE")
+    # docs/PORT.md names what is gone
+    files = sorted(file for file in walk() if (file.endswith(".md") or file == "./NOTICE") and file != "./docs/PORT.md")
     all_names = {os.path.basename(file) for file in walk()}
     checked = 0
     for file in files:
