@@ -1,6 +1,7 @@
-//! How busy the machine is with other work, from the kernel's counters.
+//! How busy the machine is with other work, from the kernel's counters, and what the libraries were made with.
 
 use std::fs;
+use std::process::Command;
 use std::thread::sleep;
 use std::time::Duration;
 use std::time::Instant;
@@ -48,6 +49,13 @@ pub fn processor() -> String {
         .map_or("an unknown processor", |(_, name)| name)
         .trim()
         .to_string()
+}
+
+/// The name of the Rattle toolchain, the first word that `rt version` prints.
+pub fn toolchain() -> String {
+    let output = Command::new("rt").arg("version").output();
+    let text = output.map_or(String::new(), |output| String::from_utf8_lossy(&output.stdout).into_owned());
+    text.split_whitespace().next().unwrap_or("an unknown toolchain").to_string()
 }
 
 /// Ticks of all cores that were not idle: of the first line of /proc/stat all but idle and waiting.

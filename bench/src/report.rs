@@ -48,7 +48,7 @@ fn head(asked: &Asked, others: f64, tables: &[Table]) -> String {
     format!(
         "# Speed beside merc
 
-Written by `bench/run.sh`, tables and plot (`bench.svg`) alike. On {}, one core. {machine}
+Written by `bench/run.sh`, tables and plot (`bench.svg`) alike. On {}, one core. {machine} The libraries are those of {}.
 
 The proved libraries and the plain excerpt of merc (release, without debug assertions and overflow checks, as merc is built for
 use) are linked into one program, which asks both the same inputs and times each call alone. A row has {} inputs, each
@@ -64,6 +64,7 @@ from the same words in the time, which is what a call costs there from the same 
 ![growth with sorts, constraints and overloads, and all ratios](bench.svg)
 ",
         machine::processor(),
+        machine::toolchain(),
         asked.lists,
         asked.repeats,
         tables.iter().map(summary).collect::<String>()
