@@ -54,8 +54,13 @@ pub fn processor() -> String {
 /// The name of the Rattle toolchain, the first word that `rt version` prints.
 pub fn toolchain() -> String {
     let output = Command::new("rt").arg("version").output();
-    let text = output.map_or(String::new(), |output| String::from_utf8_lossy(&output.stdout).into_owned());
-    text.split_whitespace().next().unwrap_or("an unknown toolchain").to_string()
+    let text = output.map_or(String::new(), |output| {
+        String::from_utf8_lossy(&output.stdout).into_owned()
+    });
+    text.split_whitespace()
+        .next()
+        .unwrap_or("an unknown toolchain")
+        .to_string()
 }
 
 /// Ticks of all cores that were not idle: of the first line of /proc/stat all but idle and waiting.

@@ -17,7 +17,9 @@ fn main() {
         println!("cargo:rerun-if-changed={}", library.display());
         if !library.exists() {
             eprintln!("target/staticlib/lib{name}.a is not there.");
-            eprintln!("Run `tools/build.sh {name}` at the root of the repository first, or give `--features stand-in`.");
+            eprintln!(
+                "Run `tools/build.sh {name}` at the root of the repository first, or give `--features stand-in`."
+            );
             exit(1);
         }
         println!("cargo:rustc-link-lib=static={name}");

@@ -92,8 +92,7 @@ Case = GivenList × Outcome
 ";
 
 /// What the proof opens of [HEAD] and of the builders.
-const OPENED: &str =
-    "solved_list four_words row_sub row_lit row_disjunction row_comprehension row_join given outcome between keeping outcome_of expr choice";
+const OPENED: &str = "solved_list four_words row_sub row_lit row_disjunction row_comprehension row_join given outcome between keeping outcome_of expr choice";
 
 /// Builders for padded lists.
 const DEFS: &str = "defs ";
