@@ -5,4 +5,5 @@ pub mod Tokens
 pub mod Parts
 pub mod Compare
 pub mod Lexemes
+pub mod Tags
 pub mod Examples
