@@ -1,15 +1,18 @@
 // The sorts of merc's resolved_sort.rs: the types that definitions, contracts and code speak of.
 #![tactic(auto)]
 
+ghost use Rattle.std.specs.Prelude.{◌≡◌};
+ghost use Rattle.resolved_sort.specs.declared.Refusal.TheVariants.{SortsFull};
+
 // The number of a sort in the sort list. A type of its own, as the Rust's ResolvedSortId: sort, node, variable and
 // expression numbers do not mix.
 // Sorts are interned: two numbers are equal exactly if their sorts are, so to compare sorts is to compare two numbers.
 #[repr(C)]
-#[derive(Clone, Copy, Drop)]
+#[derive(Clone, Copy, Debug, PartialEq, Eq)]
 pub struct SortId(pub u16);
 
 // The built-in primitive sorts, merc_syntax::Sort.
-#[derive(Clone, Copy, Drop)]
+#[derive(Clone, Copy, Debug, PartialEq, Eq)]
 pub enum Sort {
     Bool,
     Pos,
@@ -19,7 +22,7 @@ pub enum Sort {
 }
 
 // The container constructors, merc_syntax::ComplexSort.
-#[derive(Clone, Copy, Drop)]
+#[derive(Clone, Copy, Debug, PartialEq, Eq)]
 pub enum ComplexSort {
     List,
     Set,
@@ -29,7 +32,7 @@ pub enum ComplexSort {
 }
 
 // A run of argument entries: where it starts in the entry list, and how many it has.
-#[derive(Clone, Copy, Drop)]
+#[derive(Clone, Copy, Debug, PartialEq, Eq)]
 pub struct Run {
     pub start: u16,
     pub count: u16,
@@ -40,7 +43,7 @@ pub struct Run {
 // surface syntax, so it is none of the primitive sorts. Def is nominal, by its declaration: two are equal only where
 // that is the same, and else unrelated. TypeVar is bound by the polymorphic specification that introduces it; one
 // number is one variable.
-#[derive(Clone, Copy, Drop)]
+#[derive(Clone, Copy, Debug, PartialEq, Eq)]
 pub enum ResolvedSort {
     Unit,
     Primitive(Sort),
@@ -48,6 +51,67 @@ pub enum ResolvedSort {
     Function { domain: Run, range: SortId },
     Def(u16),
     TypeVar(u16),
+}
+
+// How far the first sort is below the second: the steps at the sorts' own head, and those beneath it.
+#[derive(Clone, Copy, Debug, PartialEq, Eq)]
+pub struct Steps {
+    pub head: u8,
+    pub interior: u8,
+}
+
+// A new sort would exceed the ceilings of document 01: code 15.
+#[derive(Clone, Copy, Debug, PartialEq, Eq)]
+pub struct NoRoom;
+
+// Why an entry gives no answer: a check that fails, by its number in document 01, or the room that ended.
+#[derive(Clone, Copy, Debug, PartialEq, Eq)]
+pub enum Refusal {
+    // A given list is above its ceiling or longer than the storage lent for it.
+    NotLent = 1,
+    // The first six sorts are not the fixed six in order.
+    NotFixedSix = 2,
+    // A sort has an unknown kind or container, more than 16 arguments, a run leaving its list, or a part not numbered
+    // below it.
+    BadSort = 3,
+    // Two sorts of the list are equal.
+    EqualSorts = 4,
+    // A node has an unknown kind, more than 16 arguments, a run leaving its list, a variable not below the variable
+    // count, or a part that is neither a sort nor a lower node.
+    BadNode = 5,
+    // A binding names neither a sort nor a node.
+    BadBinding = 6,
+    // Some variable reaches itself through bindings and node parts.
+    Cyclic = 7,
+    // An expression's place, a base name's key, kind or sort names nothing.
+    BadExpression = 8,
+    // A constraint has an unknown kind, literal kind or overload kind, a run leaving its list, or a place, expression,
+    // element sort, overload place or target sort that names nothing.
+    BadConstraint = 9,
+    // Two disjunctions, or two base names, are for one expression.
+    TwoForOne = 10,
+    // A Join has no sources, or there would be more than 256 measure components.
+    BadJoin = 11,
+    // The default sort, or a sort or place asked about, is not in its list.
+    NotInList = 12,
+    // A sort to be written as text holds unit, Def, TypeVar or a function without arguments.
+    NoText = 13,
+    // An output or the scratch is too short.
+    TooShort = 14,
+    // A new distinct sort would exceed 1,024 sorts or 4,096 entries.
+    SortsFull = 15,
+    // In the search a new node would exceed 2,048 nodes or 4,096 entries.
+    NodesFull = 16,
+    // A text line is above 200 bytes, its LF not counted.
+    LongLine = 19,
+}
+
+impl From<NoRoom> for Refusal {
+    ghost from_gives = { λ _ e. e ≡ SortsFull };
+
+    fn from(_no_room: NoRoom) -> Self {
+        Refusal::SortsFull
+    }
 }
 
 // How two sorts are ordered: Option<Ordering> in the Rust. Below: the first is below the second.
@@ -67,7 +131,7 @@ pub enum Widening {
 }
 
 // How much of the sort storage is in use: rows, and argument entries.
-#[derive(Clone, Copy, Drop)]
+#[derive(Clone, Copy, Debug, PartialEq, Eq)]
 pub struct Counts {
     pub sorts: u16,
     pub entries: u16,
