@@ -1,2 +1,0 @@
--- The messages in their table.
-pub mod Table
