@@ -5,6 +5,7 @@ pub mod Unify
 pub mod Acyclic
 pub mod NodeChecks
 pub mod Checked
+pub mod Full
 pub mod UnifyEntry
 pub mod Trail
 pub mod Solutions

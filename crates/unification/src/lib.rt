@@ -1,24 +1,28 @@
 // The unifier of merc's unification.rs: the types that definitions, contracts and code speak of.
 #![tactic(auto)]
 
-use resolved_sort::{ComplexSort, Run, SortId};
+ghost use Rattle.std.specs.Prelude.{◌≡◌};
+ghost use Rattle.unification.specs.declared.Full.TheVariants.{Sorts, Nodes};
+ghost use Rattle.unification.specs.Full.{refusal_of};
+
+use resolved_sort::{ComplexSort, NoRoom, Refusal, Run, SortId};
 
 // A place, the Rust's InferSortId: an interned sort (below 1,024) or a node. The port has no Resolved node.
 // Nodes, unlike sorts, are not interned: two may denote the same sort, and whether they do is for unify to decide.
 #[repr(C)]
-#[derive(Clone, Copy, Drop)]
+#[derive(Clone, Copy, Debug, PartialEq, Eq)]
 pub struct InferSortId(pub u16);
 
 // The number of an inference node.
-#[derive(Clone, Copy, Drop)]
+#[derive(Clone, Copy, Debug, PartialEq, Eq)]
 pub struct NodeId(pub u16);
 
 // The number of a unification variable.
-#[derive(Clone, Copy, Drop)]
+#[derive(Clone, Copy, Debug, PartialEq, Eq)]
 pub struct SortVar(pub u16);
 
 // A place taken apart.
-#[derive(Clone, Copy, Drop)]
+#[derive(Clone, Copy, Debug, PartialEq, Eq)]
 pub enum Place {
     Sort(SortId),
     Node(NodeId),
@@ -27,7 +31,7 @@ pub enum Place {
 // What a node says. Its parts are places, and the domain of a function is a run of places where the Rust has a Vec.
 // A sort that may still hold variables. What is fully known is a sort number, a leaf; structure is spelled out only
 // around the variables that inference has to solve, such as `List(?t)` for an empty list.
-#[derive(Clone, Copy, Drop)]
+#[derive(Clone, Copy, Debug, PartialEq, Eq)]
 pub enum InferSort {
     Generic {
         op: ComplexSort,
@@ -50,13 +54,39 @@ pub enum Unified {
 
 // How much of the lent lists is in use: sorts and their argument entries, nodes and their argument
 // entries, and variables.
-#[derive(Clone, Copy, Drop)]
+#[derive(Clone, Copy, Debug, PartialEq, Eq)]
 pub struct Lengths {
     pub sorts: u16,
     pub entries: u16,
     pub nodes: u16,
     pub arguments: u16,
     pub variables: u16,
+}
+
+// A new sort, or a new node, would exceed the ceilings of document 01: codes 15 and 16.
+#[derive(Clone, Copy, Debug, PartialEq, Eq)]
+pub enum Full {
+    Sorts,
+    Nodes,
+}
+
+impl From<NoRoom> for Full {
+    ghost from_gives = { λ _ e. e ≡ Sorts };
+
+    fn from(_no_room: NoRoom) -> Self {
+        Full::Sorts
+    }
+}
+
+impl From<Full> for Refusal {
+    ghost from_gives = { λ full e. e ≡ refusal_of full };
+
+    fn from(full: Full) -> Self {
+        match full {
+            Full::Sorts => Refusal::SortsFull,
+            Full::Nodes => Refusal::NodesFull,
+        }
+    }
 }
 
 // How a try of unify ended, with how many variables are on the trail then.
