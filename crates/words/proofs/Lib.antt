@@ -1,4 +1,3 @@
--- What reading, putting, clearing and copying words leave.
-pub mod Zeros
-pub mod Copying
+-- What clearing and copying words leave, and parts of a list of words.
+pub mod Stored
 pub mod Parts

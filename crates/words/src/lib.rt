@@ -10,7 +10,7 @@ ghost use Rattle.words.specs.Words.{part, zeros};
 pub fn word(s: &[u16], i: usize) -> u16
     ensures { result ≡ get_or s.now i 0 }
 {
-    if i < s.len() { s[i] } else { 0 }
+    s.get(i).copied().unwrap_or(0)
 }
 
 // The word at i set to v. Past the end nothing changes, and no other word ever does.
@@ -23,45 +23,39 @@ pub fn put(s: &mut [u16], i: usize, v: u16)
 }
 
 // The words from one place up to another set to zero, and no others.
+#[tactic(auto, using(crate::proofs::Stored::cleared))]
 pub fn clear(s: &mut [u16], from: usize, to: usize)
     requires { (from ≤ to) × (to ≤ length s.old) }
     ensures { s.new ≡ zeros from to s.old }
 {
-    let mut i = from;
-    while i < to {
-        s[i] = 0;
-        i += 1;
-    }
+    s[from..to].fill(0);
 }
 
 // Copies n words of one slice, from `from` on, to another, from `at` on. No other word changes.
+#[tactic(auto, using(crate::proofs::Stored::copied))]
 pub fn copy(to: &mut [u16], at: usize, words: &[u16], from: usize, n: usize)
     requires { (at + n ≤ length to.old) × (from + n ≤ length words.now) }
     ensures { to.new ≡ sets to.old at (part from n words.now) }
 {
-    let mut j: usize = 0;
-    while j < n {
-        to[at + j] = words[from + j];
-        j += 1;
-    }
+    to[at..at + n].copy_from_slice(&words[from..from + n]);
 }
 
 // The largest word.
-pub const MOST_WORD: u64 = 65535;
+pub const MOST_WORD: u64 = u16::MAX as u64;
 
 // The bits at which the fields of packed answers begin.
-pub const BIT_8: u64 = 256;
+pub const BIT_8: u64 = 1 << 8;
 
-pub const BIT_16: u64 = 65536;
+pub const BIT_16: u64 = 1 << 16;
 
-pub const BIT_24: u64 = 16777216;
+pub const BIT_24: u64 = 1 << 24;
 
-pub const BIT_32: u64 = 4294967296;
+pub const BIT_32: u64 = 1 << 32;
 
-pub const BIT_40: u64 = 1099511627776;
+pub const BIT_40: u64 = 1 << 40;
 
-pub const BIT_48: u64 = 281474976710656;
+pub const BIT_48: u64 = 1 << 48;
 
-pub const BIT_52: u64 = 4503599627370496;
+pub const BIT_52: u64 = 1 << 52;
 
-pub const BIT_63: u64 = 9223372036854775808;
+pub const BIT_63: u64 = 1 << 63;
