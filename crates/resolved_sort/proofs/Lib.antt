@@ -9,6 +9,7 @@ pub mod Distance
 pub mod Materializable
 pub mod Reference
 pub mod Below
+pub mod ByAll
 pub mod Numbers
 pub mod Trees
 pub mod RowTrees
