@@ -1,12 +1,11 @@
 -- Bytes put one after another: what is put behind the first bytes comes to putting all of them. Assumes nothing.
-use mathlib.Core.Path.{◌≡◌, refl, sym, ◌∙◌, ap, ap₂}
+use mathlib.Core.Path.{◌≡◌, refl, ◌∙◌, ap, ap₂}
 use mathlib.Core.List.{List, [], ◌∷◌, ◌++◌}
-use Prim.Native.Nat.{ℕ, suc, ◌+◌, ◌<◌, ◌≤◌}
+use Prim.Native.Nat.{ℕ, suc, ◌+◌}
 use native.Mathlib.Omega.{arith}
 use native.Mathlib.Nat.{add-zero}
-use native.Mathlib.Numerals.{add-one}
-use lib.ListN.{length, get_or, drop, set, length-append, drop_of_length-le}
-use lib.Seq.{sets, length-sets, drop-cons}
+use lib.ListN.{length, set, length-append}
+use lib.Seq.{sets, length-sets}
 use Rattle.text_out.specs.Put.{Put}
 
 sets_append : (l : List ℕ) (i : ℕ) (xs ys : List ℕ) → sets (sets l i xs) (i + length xs) ys ≡ sets l i (xs ++ ys)
@@ -29,19 +28,3 @@ put_as {out} {at} {xs} {ys} e h = record { bytes = h.bytes ∙ ap (sets out at) 
 
 pub put_length : {out : List ℕ} {at : ℕ} {xs left : List ℕ} {r : ℕ} → Put out at xs left r → length left ≡ length out
 put_length {out} {at} {xs} h = ap length h.bytes ∙ length-sets out at xs
-
--- the loop that puts bytes: putting what is left comes to putting the whole
-module _ (bytes : List ℕ) (at : ℕ) (whole : List ℕ) (out : List ℕ) (i : ℕ) where
-  pub one_byte_more : whole ≡ sets out (at + i) (drop i bytes) → i < length bytes
-      → whole ≡ sets (set out (at + i) (get_or bytes i 0)) (at + (i + 1)) (drop (i + 1) bytes)
-  one_byte_more e h =
-      e
-      ∙ (ap (sets out (at + i)) (drop-cons bytes i 0 h)
-      ∙ (ap (λ (k : ℕ). sets (set out (at + i) (get_or bytes i 0)) k (drop (suc i) bytes)) (omega arith)
-      ∙ ap (λ (k : ℕ). sets (set out (at + i) (get_or bytes i 0)) (at + (i + 1)) (drop k bytes)) (sym (add-one i))))
-
-  pub all_bytes : whole ≡ sets out (at + i) (drop i bytes) → length bytes ≤ i → out ≡ whole
-  all_bytes e h = sym (e ∙ ap (sets out (at + i)) (drop_of_length-le bytes h))
-
-pub first_byte : (out : List ℕ) (at : ℕ) (bytes : List ℕ) → sets out at bytes ≡ sets out (at + 0) (drop 0 bytes)
-first_byte out at bytes = ap (λ (k : ℕ). sets out k bytes) (sym (add-zero at))

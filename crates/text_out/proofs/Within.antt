@@ -2,17 +2,16 @@
 use mathlib.Core.Path.{◌≡◌, refl, sym, ◌∙◌, ap, ap₂}
 use mathlib.Core.Bool.{cond}
 use mathlib.Core.List.{List, [], ◌∷◌, ◌++◌}
-use Prim.Native.Nat.{ℕ, suc, ◌+◌, ◌/◌, ◌%◌, ◌<◌, ◌≤◌}
+use Prim.Native.Nat.{ℕ, ◌+◌, ◌<◌, ◌≤◌}
 use native.Mathlib.Omega.{arith}
 use native.Mathlib.Nat.{add-zero}
 use native.Mathlib.Numerals.{add-one}
 use lib.Dec.{ltb}
-use lib.ListN.{length, get_or, drop, set, length-set, drop_of_length-le}
-use lib.Seq.{sets, set_out, drop-cons}
+use lib.ListN.{length, set, length-set}
+use lib.Seq.{sets, set_out}
 use borrow.Author.Tests.{lt-ltb, le-ltb}
 use Rattle.text_out.specs.Within.{Buffer, buffer, puts}
 use Rattle.text_out.specs.Within.{PutWithin}
-use Rattle.text_out.specs.Decimal.{digit}
 
 pub puts_append : (out : List ℕ) (at : ℕ) (xs ys : List ℕ) → puts out at (xs ++ ys) ≡ puts (puts out at xs).bytes (puts out at xs).at ys
 unfolding puts
@@ -39,30 +38,6 @@ byte_kept out at b h = record { is = rw (lt-ltb at (length out) h) }
 pub byte_lost : (out : List ℕ) (at b : ℕ) → length out ≤ at → PutWithin out at (b ∷ []) out at
 unfolding puts
 byte_lost out at b h = record { is = rw (le-ltb at (length out) h, set_out out at b h) }
-
--- a digit of a number
-pub no_digit : (n unit : ℕ) → n < unit → (out : List ℕ) (at : ℕ) → PutWithin out at (digit unit n) out at
-unfolding digit puts
-no_digit n unit h out at = record { is = rw (lt-ltb n unit h) }
-
-pub a_digit : (n unit : ℕ) → unit ≤ n → {out : List ℕ} {at : ℕ} {left : List ℕ} {r : ℕ}
-    → PutWithin out at ((48 + n / unit % 10) ∷ []) left r → PutWithin out at (digit unit n) left r
-unfolding digit
-a_digit n unit h p = put_as (rw (le-ltb n unit h)) p
-
--- The loop that puts bytes: putting what is left comes to putting the whole.
-module _ (bytes : List ℕ) (whole : Buffer) (out : List ℕ) (at i : ℕ) where
-  pub one_byte_more : whole ≡ puts out at (drop i bytes) → i < length bytes → {left : List ℕ} {r : ℕ} → PutWithin out at (get_or bytes i 0 ∷ []) left r
-      → whole ≡ puts left r (drop (i + 1) bytes)
-  one_byte_more e h {left} {r} p =
-      e
-      ∙ (ap (puts out at) (drop-cons bytes i 0 h)
-      ∙ (puts_append out at (get_or bytes i 0 ∷ []) (drop (suc i) bytes)
-      ∙ (sym (ap (λ (b : Buffer). puts b.bytes b.at (drop (suc i) bytes)) p.is) ∙ ap (λ (k : ℕ). puts left r (drop k bytes)) (sym (add-one i)))))
-
-  pub all_bytes : whole ≡ puts out at (drop i bytes) → length bytes ≤ i → buffer out at ≡ whole
-  unfolding puts
-  all_bytes e h = sym (e ∙ ap (puts out at) (drop_of_length-le bytes h))
 
 -- Bytes that have room stand whole in the buffer, and the place is behind them.
 pub whole_where_room : (out : List ℕ) (at : ℕ) (bs : List ℕ) → at + length bs ≤ length out → puts out at bs ≡ buffer (sets out at bs) (at + length bs)

@@ -3,3 +3,4 @@ pub mod Quoted
 pub mod Decimal
 pub mod Put
 pub mod Within
+pub mod Outs

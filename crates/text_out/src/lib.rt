@@ -2,69 +2,109 @@
 // room.
 #![tactic(auto)]
 
-ghost use Rattle.std.specs.Prelude.{[], ◌∷◌, ◌+◌, ◌<◌, ◌≤◌, length};
+ghost use Rattle.std.specs.Prelude.{[], ◌∷◌, ◌+◌, ◌≤◌, length, ◌≡◌};
 ghost use Rattle.text_out.specs.Within.{PutWithin};
 ghost use Rattle.text_out.specs.Decimal.{digit, decimal};
 ghost use Rattle.text_out.specs.Put.{Put};
+ghost use Rattle.text_out.specs.Outs.{then_put};
+
+// A lent buffer, and the place where the next byte goes.
+#[derive(Drop)]
+pub struct Out<'a> {
+    pub bytes: &'a mut [u8],
+    pub at: usize,
+}
+
+impl<'a> Out<'a> {
+    // Bytes, where there is room for them. No other byte changes.
+    #[tactic(auto, using(crate::proofs::Outs::room_put))]
+    pub fn put_bytes(&mut self, bytes: &[u8])
+        requires { self.old.at + length bytes.now ≤ length self.old.bytes.now }
+        ensures { self.new ≡ then_put self.old bytes.now }
+    {
+        let end = self.at + bytes.len();
+        self.bytes[self.at..end].copy_from_slice(bytes);
+        self.at = end;
+    }
+
+    // One byte. Past the end of the buffer it is lost, and the place stays.
+    #[tactic(auto, using(crate::proofs::Outs::byte_put, crate::proofs::Outs::no_room))]
+    pub fn put_byte(&mut self, byte: u8)
+        ensures { self.new ≡ then_put self.old (byte ∷ []) }
+    {
+        if self.at < self.bytes.len() {
+            self.bytes[self.at] = byte;
+            self.at += 1;
+        }
+    }
+
+    // Bytes, as far as there is room.
+    #[tactic(auto, using(crate::proofs::Outs::then_put_both, crate::proofs::Outs::then_put_nothing))]
+    pub fn put_text(&mut self, bytes: &[u8])
+        ensures { self.new ≡ then_put self.old bytes.now }
+    {
+        for &byte in bytes {
+            self.put_byte(byte);
+        }
+    }
+
+    // The digit of a number for a unit that it reaches.
+    #[tactic(auto, using(crate::proofs::Outs::no_digit, crate::proofs::Outs::a_digit))]
+    fn put_digit(&mut self, n: u16, unit: u16)
+        requires { 1 ≤ unit }
+        ensures { self.new ≡ then_put self.old (digit unit n) }
+    {
+        if unit <= n {
+            self.put_byte(b'0' + (n / unit % 10) as u8);
+        }
+    }
+
+    // A number in decimal, as far as there is room.
+    #[tactic(auto, using(crate::proofs::Outs::then_put_both), unfolding(crate::specs::Decimal::decimal))]
+    pub fn put_number(&mut self, n: u16)
+        ensures { self.new ≡ then_put self.old (decimal n) }
+    {
+        self.put_digit(n, 10000);
+        self.put_digit(n, 1000);
+        self.put_digit(n, 100);
+        self.put_digit(n, 10);
+        self.put_byte(b'0' + (n % 10) as u8);
+    }
+}
 
 // Bytes put into the buffer from a place on; the place behind them. No other byte changes.
 pub fn put_bytes(bytes: &[u8], out: &mut [u8], at: usize) -> usize
     requires { at + length bytes.now ≤ length out.old }
     ensures { Put out.old at bytes.now out.new result }
 {
-    let mut i: usize = 0;
-    while i < bytes.len() {
-        out[at + i] = bytes[i];
-        i += 1;
-    }
-    at + i
+    let mut to = Out { bytes: out, at };
+    to.put_bytes(bytes);
+    to.at
 }
 
 // One byte. Past the end of the buffer it is lost, and the place stays.
 pub fn put_byte(byte: u8, out: &mut [u8], at: usize) -> usize
     ensures { PutWithin out.old at (byte ∷ []) out.new result }
 {
-    if at < out.len() {
-        out[at] = byte;
-        return at + 1;
-    }
-    at
+    let mut to = Out { bytes: out, at };
+    to.put_byte(byte);
+    to.at
 }
 
 // Bytes, as far as there is room; the place behind them.
 pub fn put_text(bytes: &[u8], out: &mut [u8], at: usize) -> usize
     ensures { PutWithin out.old at bytes.now out.new result }
 {
-    let mut cursor = at;
-    let mut i: usize = 0;
-    while i < bytes.len() {
-        cursor = put_byte(bytes[i], out, cursor);
-        i += 1;
-    }
-    cursor
-}
-
-// The digit of a number for a unit that it reaches.
-fn put_digit(n: u16, unit: u16, out: &mut [u8], at: usize) -> usize
-    requires { 1 ≤ unit }
-    ensures { PutWithin out.old at (digit unit n) out.new result }
-{
-    if n < unit {
-        return at;
-    }
-    put_byte((DIGIT_0 + (n / unit) % 10) as u8, out, at)
+    let mut to = Out { bytes: out, at };
+    to.put_text(bytes);
+    to.at
 }
 
 // A number in decimal.
 pub fn put_number(n: u16, out: &mut [u8], at: usize) -> usize
     ensures { PutWithin out.old at (decimal n) out.new result }
 {
-    let thousands = put_digit(n, 10000, out, at);
-    let hundreds = put_digit(n, 1000, out, thousands);
-    let tens = put_digit(n, 100, out, hundreds);
-    let ones = put_digit(n, 10, out, tens);
-    put_byte((DIGIT_0 + n % 10) as u8, out, ones)
+    let mut to = Out { bytes: out, at };
+    to.put_number(n);
+    to.at
 }
-
-// The byte of the digit 0; the others follow it.
-const DIGIT_0: u16 = 48;
