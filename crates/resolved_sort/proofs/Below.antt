@@ -1,8 +1,8 @@
 -- A test over all numbers below a bound passes exactly if it passes at each, by induction on the bound; and each of two tests passes where both do. Assumes
 -- nothing.
-use mathlib.Core.Path.{◌≡◌, refl, sym, ◌∙◌, ap}
-use mathlib.Core.Bool.{Bool, true, false, ◌&&◌, and-eq-true_iff}
-use Prim.Native.Nat.{ℕ, zero, suc, ◌<◌, ◌≤◌}
+use mathlib.Core.Path.{◌≡◌, refl}
+use mathlib.Core.Bool.{Bool, true, ◌&&◌, and-eq-true_iff}
+use Prim.Native.Nat.{ℕ, zero, suc, ◌<◌}
 use native.Mathlib.Omega.{arith}
 use native.Mathlib.Decide.{ℕ_discrete}
 use Rattle.resolved_sort.specs.Checks.{all_below}

@@ -1,7 +1,7 @@
 -- Document 01's pair examples and further ones of the lattice, computed from the definitions: one test over a
 -- list of cases. Assumes nothing.
 use mathlib.Core.Path.{◌≡◌, refl}
-use mathlib.Core.Bool.{Bool, true, false, cond, not, ◌&&◌, ◌||◌}
+use mathlib.Core.Bool.{Bool, true, false}
 use mathlib.Core.List.{List, [], ◌∷◌, ◌++◌, map}
 use mathlib.Core.Option.{Option, none, some}
 use Prim.Native.Nat.{ℕ}
@@ -13,7 +13,7 @@ use Rattle.resolved_sort.specs.Tree
 use Rattle.resolved_sort.specs.Tree.{Flat, unit, primitive, def, typevar, Tree, flat, container, function, Trees, no_args, arg}
 use Rattle.resolved_sort.specs.Order
 use Rattle.resolved_sort.specs.Order.{order, bound, Steps, distance, materializable}
-use Rattle.resolved_sort.specs.Interning.{Sorts, Outcome, made, nothing, full, make, makes, intern, member, need}
+use Rattle.resolved_sort.specs.Interning.{Outcome, nothing, full, make, makes, intern, member, need}
 
 abbrev bool : Tree
 bool = flat (primitive Sort.Bool)

@@ -1,18 +1,17 @@
 -- Check 3 of a row, as facts: its parts are below it, and a function's run is short and inside the entries. Both ways, by
 -- the fourteen kinds. Assumes nothing.
-use mathlib.Core.Path.{◌≡◌, refl, sym, ◌∙◌, ap, subst}
-use mathlib.Core.Bool.{Bool, true, false, cond, ◌&&◌, and-eq-true_iff}
-use mathlib.Core.Logic.{◌↔◌}
-use mathlib.Core.List.{List, [], ◌∷◌}
-use Prim.Native.Nat.{ℕ, zero, suc, ◌+◌, ◌*◌, ◌<◌, ◌≤◌}
+use mathlib.Core.Path.{◌≡◌, refl, sym, subst}
+use mathlib.Core.Bool.{true, ◌&&◌, and-eq-true_iff}
+use mathlib.Core.List.{List}
+use Prim.Native.Nat.{ℕ, zero, suc, ◌+◌, ◌<◌, ◌≤◌}
 use native.Mathlib.Omega.{arith}
 use native.Mathlib.Nat.{add-zero}
-use lib.Dec.{eqb, leb, ltb}
-use borrow.Author.Tests.{ltb-true, leb-true, lt-ltb, le-leb}
-use Rattle.resolved_sort.specs.Storage.{last_kind, function_kind, kind_at, part_at, start_at, count_at, entry_at, entries_of, Row, words_at, resolved, row_at}
+use lib.Dec.{leb, ltb}
+use borrow.Author.Tests.{leb-true, lt-ltb, le-leb}
+use Rattle.resolved_sort.specs.Storage.{last_kind, function_kind, kind_at, part_at, start_at, count_at, entry_at, entries_of, words_at, resolved, row_at}
 use Rattle.resolved_sort.specs.Checks.{all_below, parts_below, row_fine_of}
 use Rattle.resolved_sort.proofs.Below.{each_below}
-use Rattle.resolved_sort.proofs.RowTrees.{AllBelow, Within, by_kind, row_within, read}
+use Rattle.resolved_sort.proofs.RowTrees.{AllBelow, Within, by_kind, read}
 
 -- a function's run has at most 16 arguments and stays inside the entries
 pub record RunInside (ws : List ℕ) (e i : ℕ) : Type 0 where

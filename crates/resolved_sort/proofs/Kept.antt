@@ -13,7 +13,7 @@ use Rattle.resolved_sort.specs.declared.ComplexSort.{ComplexSort}
 use Rattle.resolved_sort.specs.Tree.{Flat, Tree, flat, container, function, Trees, no_args, arg, arity, family, level, same}
 use Rattle.resolved_sort.specs.Order.{le_level, bound_flat, bound_op}
 use Rattle.resolved_sort.specs.Interning.{Sorts, member, need, Outcome, made, nothing, full, ◌then◌, where_some, fits, intern, make, makes}
-use Rattle.resolved_sort.specs.Storage.{max_sorts, max_entries, trees}
+use Rattle.resolved_sort.specs.Storage.{max_sorts, max_entries}
 use Rattle.resolved_sort.specs.Entries.{after}
 use Rattle.resolved_sort.proofs.Numbers.{member_grows, member_snoc_last}
 use Rattle.resolved_sort.specs.Growing.{parts_in, members, Fresh, Grown, SortsExtend, Whole, Wholes, InTree, SortsKept}

@@ -1,7 +1,7 @@
 -- Materializable is a partial order inside "equal to or below", and how far a materializable pair is apart. The test is read
 -- as a relation with a rule for each kind of sort. Assumes nothing.
 use mathlib.Core.Path.{◌≡◌, refl, sym, ap}
-use mathlib.Core.Bool.{Bool, true, false, and-eq-true_iff, false≢true}
+use mathlib.Core.Bool.{true, false, and-eq-true_iff, false≢true}
 use mathlib.Core.Option.{some}
 use mathlib.Core.Logic.{◌↔◌}
 use Prim.Native.Nat.{ℕ, ◌-◌}

@@ -1,12 +1,12 @@
 -- Numbers and sorts of a list in which no two sorts are equal: each determines the other. By induction on the list.
 -- Assumes nothing.
 use mathlib.Core.Path.{◌≡◌, refl, sym, ◌∙◌, ap}
-use mathlib.Core.Bool.{Bool, true, false, cond, not, ◌&&◌, ◌||◌, and-eq-true_iff}
+use mathlib.Core.Bool.{Bool, true, false, cond, not, ◌||◌, and-eq-true_iff}
 use mathlib.Core.List.{List, [], ◌∷◌, ◌++◌}
-use Prim.Native.Nat.{ℕ, zero, suc, ◌+◌, ◌<◌, ◌≤◌}
+use Prim.Native.Nat.{ℕ, zero, suc, ◌+◌, ◌<◌}
 use native.Mathlib.Omega.{arith}
 use native.Mathlib.Numerals.{add-one}
-use lib.ListN.{length, get_or, length-append, get_or-append}
+use lib.ListN.{length, get_or-append}
 use borrow.Author.Tests.{not-true}
 use Rattle.resolved_sort.specs.Tree.{Tree, flat, unit, same}
 use Rattle.resolved_sort.specs.Interning.{look, number, member, distinct}

@@ -1,7 +1,7 @@
 -- Rows and sorts over a list in which no two sorts are equal: a row whose parts have numbers in the list is the row of
 -- its sort, and a sort whose parts are in the list is the sort of its row. By the fourteen kinds. Assumes nothing.
 use mathlib.Core.Path.{◌≡◌, refl, sym, ap, ap₂, subst}
-use mathlib.Core.Bool.{Bool, true, cond, ◌&&◌, and-eq-true_iff}
+use mathlib.Core.Bool.{true, cond, ◌&&◌, and-eq-true_iff}
 use mathlib.Core.List.{List, [], ◌∷◌}
 use Prim.Native.Nat.{ℕ, zero, suc, ◌+◌, ◌<◌, ◌≤◌}
 use native.Mathlib.Omega.{arith}

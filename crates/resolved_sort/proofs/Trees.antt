@@ -1,13 +1,13 @@
 -- What the rows of a storage denote, number by number: the trees of the first n rows are a prefix of those of the first
 -- m, and the sort of a number is that of its row over the sorts below. By induction on n. Assumes nothing.
-use mathlib.Core.Path.{◌≡◌, refl, sym, ◌∙◌, ap}
-use mathlib.Core.List.{List, [], ◌∷◌, ◌++◌}
-use Prim.Native.Nat.{ℕ, zero, suc, ◌+◌, ◌*◌, ◌<◌, ◌≤◌}
+use mathlib.Core.Path.{◌≡◌, refl, ◌∙◌, ap}
+use mathlib.Core.List.{List, []}
+use Prim.Native.Nat.{ℕ, zero, suc, ◌<◌, ◌≤◌}
 use native.Mathlib.Omega.{arith}
 use native.Mathlib.Decide.{dec_le}
-use lib.ListN.{length, get_or, length-append, get_or-append}
+use lib.ListN.{length, length-append, get_or-append}
 use lib.Seq.{get_or_at}
-use Rattle.resolved_sort.specs.Tree.{Tree, flat, unit}
+use Rattle.resolved_sort.specs.Tree.{flat, unit}
 use Rattle.resolved_sort.specs.Interning.{look}
 use Rattle.resolved_sort.specs.Storage.{words_at, tree_of, trees}
 

@@ -1,9 +1,8 @@
 -- The sort list as a list of trees with the room that is left, and what interning, join and meet make of it, in the
 -- Rust's order of making.
-use Rattle.std.specs.Prelude.{Bool, true, false, cond, not, ◌&&◌, ◌||◌, List, [], ◌∷◌, ◌++◌, ℕ, zero, suc, ◌+◌, ◌-◌, get_or, eqb, leb, ltb}
+use Rattle.std.specs.Prelude.{Bool, true, false, cond, not, ◌&&◌, ◌||◌, List, [], ◌∷◌, ◌++◌, ℕ, ◌+◌, ◌-◌, get_or, eqb, leb, ltb}
 use Rattle.std.proofs.Math.Option.{Option, none, some}
-use Rattle.resolved_sort.specs.declared.ComplexSort.{ComplexSort}
-use Rattle.resolved_sort.specs.Tree.{Flat, unit, Tree, flat, container, function, Trees, no_args, arg, arity}
+use Rattle.resolved_sort.specs.Tree.{unit, Tree, flat, container, function, Trees, no_args, arg, arity}
 use Rattle.resolved_sort.specs.Tree.{same}
 use Rattle.resolved_sort.specs.Order.{bound_flat, bound_op}
 

@@ -1,8 +1,12 @@
 -- Interning as the code does it, on rows: a scan for an equal row, else one more row. The law that this is interning by
 -- structure stands in proofs/.
 use Rattle.std.specs.Prelude.{Bool, true, false, cond, ◌&&◌, not, List, [], ◌∷◌, ℕ, zero, suc, ◌+◌, ◌<◌, ◌≤◌, length, eqb, leb, ltb, ◌≡◌}
+use Rattle.std.specs.Prelude.{Option, Some, None, Result, Ok, Err}
+use Rattle.resolved_sort.specs.declared.SortId.{SortId}
+use Rattle.resolved_sort.specs.declared.Counts.{Counts}
+use Rattle.resolved_sort.specs.declared.NoRoom.{NoRoom}
 use Rattle.resolved_sort.specs.declared.Joined.{Joined}
-use Rattle.resolved_sort.specs.declared.Joined.TheVariants.{At, Full}
+use Rattle.resolved_sort.specs.declared.Joined.TheVariants.{At, Nothing, Full}
 use Rattle.resolved_sort.specs.Storage.{max_sorts, max_entries, full_length, Row, words_at, append_row}
 use Rattle.resolved_sort.specs.Checks.{rows_fine, no_two_equal, all_below}
 use Rattle.resolved_sort.specs.Entries.{Stored}
@@ -40,6 +44,17 @@ find_row ws n r = first_from (λ i. same_row (words_at ws i) r) n 0
 
 abbrev pub stored_at : List ℕ → Joined → Stored
 stored_at ws r = record { words = ws; answer = r }
+
+-- The words and counts that interning has left, and what it answered.
+abbrev pub interned_at : List ℕ → Counts → Result SortId NoRoom → Stored
+interned_at ws k (Ok id) = stored_at ws (At id k)
+interned_at ws k (Err e) = stored_at ws Full
+
+-- the same for join and meet, which may answer none
+abbrev pub left_at : List ℕ → Counts → Result (Option SortId) NoRoom → Stored
+left_at ws k (Ok (Some id)) = stored_at ws (At id k)
+left_at ws k (Ok None) = stored_at ws (Nothing k)
+left_at ws k (Err e) = stored_at ws Full
 
 abbrev pub joined_at : ℕ → ℕ → ℕ → Joined
 joined_at i n e = At (record { 0 = i }) (record { sorts = n; entries = e })

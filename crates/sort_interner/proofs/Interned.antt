@@ -1,61 +1,64 @@
 -- A row appended, and a row interned, at each way through the code. Assumes nothing.
-use mathlib.Core.Path.{◌≡◌}
-use mathlib.Core.Bool.{cond}
+use mathlib.Core.Path.{◌≡◌, refl, sym, ap, ◌∙◌}
+use mathlib.Core.Bool.{Bool, true, false, cond}
 use mathlib.Core.List.{List}
 use Prim.Native.Nat.{ℕ, ◌+◌, ◌<◌, ◌≤◌}
-use lib.ListN.{length, take}
+use lib.ListN.{length}
 use lib.Seq.{sets}
 use lib.Dec.{eqb}
 use borrow.Author.Tests.{lt-ltb, le-ltb, le-leb, lt-leb}
+use Rattle.std.specs.Prelude.{Option, Some, None, Ok}
 use Rattle.resolved_sort.specs.declared.SortId.{SortId}
 use Rattle.resolved_sort.specs.declared.Counts.{Counts}
+use Rattle.resolved_sort.specs.declared.Joined.{Joined}
 use Rattle.resolved_sort.specs.declared.Joined.TheVariants.{At, Full}
-use Rattle.resolved_sort.specs.Storage.{function_kind, entries_at, put_row, append_row}
-use Rattle.resolved_sort.specs.Rows.{find_row, stored_at, intern_row}
+use Rattle.resolved_sort.specs.Entries.{Stored}
+use Rattle.resolved_sort.specs.Storage.{function_kind, entries_at, put_row, append_row, Row}
+use Rattle.resolved_sort.specs.Rows.{stored_at, interned_at, intern_row}
 use Rattle.resolved_sort.specs.Inner.Storage.{sort_numbers}
-use Rattle.sort_interner.specs.Inner.Tests.{given_row}
-use Rattle.sort_interner.proofs.Runs.{length_ids}
+use Rattle.resolved_sort.proofs.SortNumbers.{length_sort_numbers}
+use Rattle.resolved_sort.proofs.Reached.{no_confusion}
+use Rattle.sort_interner.specs.Inner.Tests.{given_row, found_row}
 
-module _ (kind : ℕ) (part : SortId) (ids : List SortId) (count : ℕ) (len : length ids ≡ 16) (few : count ≤ 16) where
-  pub row_appended : (ws : List ℕ) (n e s : ℕ) → s ≡ cond (eqb kind function_kind) e 0 → (vs : List ℕ) → vs ≡ put_row ws n kind part.0 s count
-      → (words : List ℕ) → words ≡ sort_numbers ids → (us : List ℕ) → us ≡ sets vs (entries_at + e) (take count words)
-      → us ≡ append_row ws n e (given_row kind part ids count)
+was_found : (b : Bool) (s : SortId) (o : Option SortId) (at : SortId) → o ≡ cond b (Some s) None → o ≡ Some at → (b ≡ true) × (s ≡ at)
+was_found true s o at e f = let g : Some s ≡ Some at = sym e ∙ f in (refl, cc)
+was_found false s o at e f = let g : None ≡ Some at = sym e ∙ f in no_confusion (cc)
+
+was_not_found : (b : Bool) (s : SortId) (o : Option SortId) → o ≡ cond b (Some s) None → o ≡ None → b ≡ false
+was_not_found true s o e f = let g : Some s ≡ None = sym e ∙ f in no_confusion (cc)
+was_not_found false s o e f = refl
+
+module _ (kind : ℕ) (part : SortId) (args : List SortId) where
+  abbrev row : Row
+  row = given_row kind part args
+
+  pub row_appended : (ws : List ℕ) (n e s c : ℕ) → s ≡ cond (eqb kind function_kind) e 0 → c ≡ length args
+      → (vs : List ℕ) → vs ≡ put_row ws n kind part.0 s c → (us : List ℕ) → us ≡ sets vs (entries_at + e) (sort_numbers args)
+      → us ≡ append_row ws n e row
   unfolding append_row
-  row_appended ws n e s es vs ev words ew us eu = rw (length_ids ids count len few, ← es, ← ev, ← ew) eu
+  row_appended ws n e s c es ec vs ev us eu = rw (length_sort_numbers args, ← es, ← ec, ← ev) eu
 
-  module _ (ws : List ℕ) (c : Counts) (at : SortId) (found : at.0 ≡ find_row ws c.sorts (given_row kind part ids count)) where
-    pub intern_is_found : at.0 < c.sorts → stored_at ws (At at c) ≡ intern_row ws c.sorts c.entries (given_row kind part ids count)
+  module _ (ws : List ℕ) (k : Counts) (o : Option SortId) (e : o ≡ found_row ws k.sorts row) where
+    pub interned_found : (at : SortId) → o ≡ Some at → interned_at ws k (Ok at) ≡ intern_row ws k.sorts k.entries row
     unfolding intern_row
-    intern_is_found h = rw (← found, lt-ltb at.0 c.sorts h)
+    interned_found at f = let h = was_found _ _ o at e f in rw h.0 (ap (λ i. stored_at ws (At i k)) (sym h.1))
 
-    module _ (none : c.sorts ≤ at.0) where
-      pub intern_is_full_by_rows : 1024 ≤ c.sorts → stored_at ws Full ≡ intern_row ws c.sorts c.entries (given_row kind part ids count)
+    module _ (none : o ≡ None) where
+      pub no_room_for_rows : 1024 ≤ k.sorts → stored_at ws Full ≡ intern_row ws k.sorts k.entries row
       unfolding intern_row
-      intern_is_full_by_rows h = rw (← found, le-ltb at.0 c.sorts none, le-ltb c.sorts 1024 h)
+      no_room_for_rows h = rw (was_not_found _ _ o e none, le-ltb k.sorts 1024 h)
 
-      module _ (h : c.sorts < 1024) where
-        pub intern_is_full_by_entries : 4096 < c.entries + count → stored_at ws Full ≡ intern_row ws c.sorts c.entries (given_row kind part ids count)
+      module _ (h : k.sorts < 1024) where
+        pub no_room_for_entries : 4096 < k.entries + length args → stored_at ws Full ≡ intern_row ws k.sorts k.entries row
         unfolding intern_row
-        intern_is_full_by_entries k = rw (
-          ← found,
-          le-ltb at.0 c.sorts none,
-          lt-ltb c.sorts 1024 h,
-          length_ids ids count len few,
-          lt-leb (c.entries + count) 4096 k,
-        )
+        no_room_for_entries l = rw (was_not_found _ _ o e none, lt-ltb k.sorts 1024 h, length_sort_numbers args, lt-leb (k.entries + length args) 4096 l)
 
-        pub intern_is_appended : c.entries + count ≤ 4096 → (vs : List ℕ) → vs ≡ append_row ws c.sorts c.entries (given_row kind part ids count)
-            → stored_at vs (At (record { 0 = c.sorts }) (record {
-              sorts = c.sorts + 1;
-              entries = c.entries +
-                  count;
-            })) ≡ intern_row ws c.sorts c.entries (given_row kind part ids count)
+        pub interned_new : k.entries + length args ≤ 4096 → (vs : List ℕ) → vs ≡ append_row ws k.sorts k.entries row
+            → stored_at vs (At (record { 0 = k.sorts }) (record { sorts = k.sorts + 1; entries = k.entries + length args }))
+            ≡ intern_row ws k.sorts k.entries row
         unfolding intern_row
-        intern_is_appended k vs e = rw (
-          ← found,
-          le-ltb at.0 c.sorts none,
-          lt-ltb c.sorts 1024 h,
-          length_ids ids count len few,
-          le-leb (c.entries + count) 4096 k,
-          e,
-        )
+        interned_new l vs a = rw (was_not_found _ _ o e none, lt-ltb k.sorts 1024 h, length_sort_numbers args, le-leb (k.entries + length args) 4096 l, a)
+
+-- what the lent words end as is what the interner held last
+pub stored_in : {us vs : List ℕ} {r : Joined} {s : Stored} → vs ≡ us → stored_at us r ≡ s → stored_at vs r ≡ s
+stored_in {r = r} e f = ap (λ ws. stored_at ws r) e ∙ f

@@ -1,5 +1,4 @@
 -- How rows are found and appended.
-pub mod Apart
 pub mod Runs
 pub mod Rows
 pub mod Find

@@ -1,27 +1,21 @@
 -- Laws of runs of entries: their length and elements, and comparing two lists of words from the front, as the loops that
 -- do so meet it. Assumes nothing.
 use mathlib.Core.Path.{◌≡◌, refl, sym, ap, ◌∙◌}
-use mathlib.Core.Bool.{Bool, true, false, and-false}
+use mathlib.Core.Bool.{Bool, true, false, not, and-false}
 use mathlib.Core.List.{List, [], ◌∷◌}
 use Prim.Native.Nat.{ℕ, zero, suc, ◌+◌, ◌<◌, ◌≤◌}
 use native.Mathlib.Omega.{arith}
 use native.Mathlib.Nat.{add-zero}
 use native.Mathlib.Numerals.{add-one}
 use lib.ListN.{length, get_or, take, drop, drop_of_length-le}
-use lib.Seq.{drop-cons, get_or-take, length-take-le}
+use lib.Seq.{drop-cons, length-take-le}
 use lib.Dec.{eqb}
-use borrow.Author.Tests.{eq-eqb, ne_eqb}
+use borrow.Author.Tests.{eqb-true, eq-eqb, ne_eqb}
 use Rattle.resolved_sort.specs.declared.SortId.{SortId}
 use Rattle.resolved_sort.specs.Storage.{entry_at, entries_of}
 use Rattle.resolved_sort.specs.Inner.Storage.{sort_numbers}
 use Rattle.resolved_sort.proofs.SortNumbers.{length_sort_numbers, get_d_sort_numbers}
 use Rattle.resolved_sort.specs.Rows.{same_words}
-
-pub length_given : (words : List ℕ) (n : ℕ) → length words ≡ 16 → n ≤ 16 → length (take n words) ≡ n
-length_given words n len few = length-take-le n words (omega arith)
-
-pub length_ids : (ids : List SortId) (n : ℕ) → length ids ≡ 16 → n ≤ 16 → length (take n (sort_numbers ids)) ≡ n
-length_ids ids n len few = length_given (sort_numbers ids) n (length_sort_numbers ids ∙ len) few
 
 pub length_entries_of : (ws : List ℕ) (s n : ℕ) → length (entries_of ws s n) ≡ n
 unfolding entries_of
@@ -33,6 +27,20 @@ unfolding entries_of
 get_d_entries_of ws s zero k h = absurd (omega arith)
 get_d_entries_of ws s (suc n) zero h = ap (entry_at ws) (sym (add-zero s))
 get_d_entries_of ws s (suc n) (suc k) h = get_d_entries_of ws (s + 1) n k (omega arith) ∙ ap (entry_at ws) (omega arith)
+
+pub length_given : (words : List ℕ) (n : ℕ) → length words ≡ 16 → n ≤ 16 → length (take n words) ≡ n
+length_given words n len few = length-take-le n words (omega arith)
+
+-- what `!=` says of two numbers
+pub unequal : (x y : ℕ) → not (eqb x y) ≡ true → x ≡ y → ⊥
+unequal x y h e = let z : not true ≡ true = ap not (sym (eq-eqb x y e)) ∙ h in cc
+
+pub equal : (x y : ℕ) → not (eqb x y) ≡ false → x ≡ y
+equal x y h = eqb-true x y (not_false (eqb x y) h)
+  where
+    not_false : (b : Bool) → not b ≡ false → b ≡ true
+    not_false true e = refl
+    not_false false e = cc
 
 words_differ_by_length : (xs ys : List ℕ) → (length xs ≡ length ys → ⊥) → false ≡ same_words xs ys
 unfolding same_words
@@ -95,25 +103,22 @@ module _ (ws : List ℕ) (s t n k : ℕ) (inv : same_words (entries_of ws s n) (
 pub runs_differ_by_count : (ws : List ℕ) (s t n m : ℕ) → (n ≡ m → ⊥) → false ≡ same_words (entries_of ws s n) (entries_of ws t m)
 runs_differ_by_count ws s t n m f = run_differs_by_count ws (entries_of ws t m) s n (λ e. f (e ∙ length_entries_of ws t m))
 
--- a run of the lent words and the first n of sixteen sorts given
-module _ (ws : List ℕ) (ids : List SortId) (s n : ℕ) (len : length ids ≡ 16) (few : n ≤ 16) where
-  abbrev given : List ℕ
-  given = take n (sort_numbers ids)
+-- a run of the lent words and sorts given
+module _ (ws : List ℕ) (args : List SortId) (s n : ℕ) where
+  pub args_differ_by_count : (n ≡ length args → ⊥) → false ≡ same_words (entries_of ws s n) (sort_numbers args)
+  args_differ_by_count f = run_differs_by_count ws (sort_numbers args) s n (λ e. f (e ∙ length_sort_numbers args))
 
-  pub args_differ_by_count : (m : ℕ) → (m ≡ n → ⊥) → false ≡ same_words (entries_of ws s m) (take n (sort_numbers ids))
-  args_differ_by_count m f = run_differs_by_count ws given s m (λ e. f (e ∙ length_ids ids n len few))
+  module _ (l : n ≡ length args) (k : ℕ) (inv : same_words (entries_of ws s n) (sort_numbers args) ≡ same_from k (entries_of ws s n) (sort_numbers args)) where
+    as_long : length (sort_numbers args) ≡ n
+    as_long = length_sort_numbers args ∙ sym l
 
-  module _ (k : ℕ) (inv : same_words (entries_of ws s n) (take n (sort_numbers ids)) ≡ same_from k (entries_of ws s n) (take n (sort_numbers ids))) where
-    pub args_same_at_end : n ≤ k → (m : ℕ) → m ≡ n → true ≡ same_words (entries_of ws s m) (take n (sort_numbers ids))
-    args_same_at_end h m same = rw same (run_same_at_end ws given s n k (length_ids ids n len few) _ inv h)
+    pub args_same_at_end : n ≤ k → true ≡ same_words (entries_of ws s n) (sort_numbers args)
+    args_same_at_end h = run_same_at_end ws (sort_numbers args) s n k as_long _ inv h
 
     module _ (h : k < n) (x : ℕ) (ex : x ≡ entry_at ws (s + k)) where
-      at : (get_or ids k (record { 0 = 0 })).0 ≡ get_or given k 0
-      at = get_d_sort_numbers ids k ∙ sym (get_or-take n (sort_numbers ids) k 0 h)
+      pub args_same_from_next : x ≡ (get_or args k (record { 0 = 0 })).0
+          → same_words (entries_of ws s n) (sort_numbers args) ≡ same_from (k + 1) (entries_of ws s n) (sort_numbers args)
+      args_same_from_next e = run_same_from_next ws (sort_numbers args) s n k as_long _ inv h x _ ex (get_d_sort_numbers args k) e
 
-      pub args_same_from_next : x ≡ (get_or ids k (record { 0 = 0 })).0
-          → same_words (entries_of ws s n) (take n (sort_numbers ids)) ≡ same_from (k + 1) (entries_of ws s n) (take n (sort_numbers ids))
-      args_same_from_next e = run_same_from_next ws given s n k (length_ids ids n len few) _ inv h x _ ex at e
-
-      pub args_differ : (x ≡ (get_or ids k (record { 0 = 0 })).0 → ⊥) → (m : ℕ) → m ≡ n → false ≡ same_words (entries_of ws s m) (take n (sort_numbers ids))
-      args_differ e m same = rw same (run_differs ws given s n k (length_ids ids n len few) _ inv h x _ ex at e)
+      pub args_differ : (x ≡ (get_or args k (record { 0 = 0 })).0 → ⊥) → false ≡ same_words (entries_of ws s n) (sort_numbers args)
+      args_differ e = run_differs ws (sort_numbers args) s n k as_long _ inv h x _ ex (get_d_sort_numbers args k) e

@@ -2,25 +2,50 @@
 // behind them. A row is read, found or appended, and sorts made are given back. Interning stands here alone.
 #![tactic(auto)]
 
-ghost use Rattle.std.specs.Prelude.{◌≡◌, cond, ◌+◌, ◌≤◌, ◌<◌, length, take, eqb};
+ghost use Rattle.std.specs.Prelude.{◌≡◌, cond, ◌+◌, ◌≤◌, ◌<◌, List, ℕ, length, take, eqb};
 ghost use Rattle.std.proofs.lemmas.List.Edits.{sets};
 ghost use Rattle.resolved_sort.specs.Storage.{max_sorts, max_entries, max_arguments, entries_at, full_length};
-ghost use Rattle.resolved_sort.specs.Storage.{function_kind, resolved, row_at, entries_of, words_at, kind_op, put_row};
+ghost use Rattle.resolved_sort.specs.Storage.{function_kind, resolved, row_at, entry_at, entries_of, words_at, kind_op, put_row};
 ghost use Rattle.resolved_sort.specs.Storage.{append_row, given_back, trees, look_all};
-ghost use Rattle.resolved_sort.specs.Rows.{same_words, same_row, find_row, stored_at, intern_row, Checked, AllBelow};
+ghost use Rattle.resolved_sort.specs.Rows.{same_words, same_row, stored_at, interned_at, intern_row, Checked};
+ghost use Rattle.resolved_sort.specs.Rows.{AllBelow};
 ghost use Rattle.resolved_sort.specs.Inner.Storage.{sort_numbers};
-ghost use Rattle.sort_interner.specs.Inner.Tests.{given_row, is_row, RunAt};
+ghost use Rattle.sort_interner.specs.Inner.Tests.{given_row, is_row, found_row, RunAt};
 ghost use Rattle.resolved_sort.specs.Tree.{container, function as functionSort};
 ghost use Rattle.resolved_sort.specs.Interning.{look};
 ghost use Rattle.resolved_sort.specs.Bounds.{intern_at};
 
 use resolved_sort::{
     ARGUMENT_WORDS, ComplexSort, Counts, ENTRIES_AT, FIRST_CONTAINER, FUNCTION_KIND, Joined,
-    MAX_ENTRIES, ROW_WORDS, ResolvedSort, Run, SORT_NUMBERS, Sort, SortId,
+    MAX_ENTRIES, NoRoom, ROW_WORDS, ResolvedSort, Run, SORT_NUMBERS, Sort, SortId,
 };
 use words::{clear, put, word};
 
+// The sorts of a checked list: what the checks before a call have shown of them holds as long as they are lent.
+#[derive(Clone, Copy)]
+pub struct Sorts<'a> {
+    pub words: &'a [u16],
+    pub counts: Counts,
+    ghost checked: { Checked words.now counts.sorts counts.entries },
+}
+
+// The sorts of a checked list, to which new ones are added.
+#[derive(Drop)]
+pub struct SortInterner<'a> {
+    pub words: &'a mut [u16],
+    pub counts: Counts,
+}
+
+// A row that is looked for, or is to be stored.
+#[derive(Clone, Copy)]
+struct Row<'a> {
+    kind: u16,
+    part: SortId,
+    args: &'a [SortId],
+}
+
 // What the words of a row say. Every kind above 12 says TypeVar: that it is 13 is check 3's to show.
+#[tactic(auto, unfolding(resolved_sort::specs::Storage::resolved))]
 fn row_of(kind: u16, part: u16, run: Run) -> ResolvedSort
     ensures { result ≡ resolved kind part run }
 {
@@ -74,16 +99,11 @@ pub fn get(sorts: &[u16], id: SortId) -> ResolvedSort
 }
 
 // The kind word of a container. Two operators never share one.
+#[tactic(auto, unfolding(resolved_sort::specs::Storage::kind_op))]
 pub fn kind_of_op(op: ComplexSort) -> u16
     ensures { result ≡ kind_op op }
 {
-    match op {
-        ComplexSort::List => 6,
-        ComplexSort::Set => 7,
-        ComplexSort::FSet => 8,
-        ComplexSort::Bag => 9,
-        ComplexSort::FBag => 10,
-    }
+    FIRST_CONTAINER + (op as u16)
 }
 
 // What 15 leaves: zero past the n rows and e entries that the call began with, and these as they are.
@@ -127,26 +147,26 @@ fn run_at(sorts: &[u16], id: SortId) -> Run
     Run { start: 0, count: 0 }
 }
 
-// Whether two runs have the same entries. Where they start does not count.
-fn same_run(sorts: &[u16], a: Run, b: Run) -> bool
-    ensures { result
-        ≡ same_words (entries_of sorts.now a.start a.count)
-        (entries_of sorts.now b.start b.count) }
+// The k-th entry of a run.
+fn entry(words: &[u16], run: Run, k: u16) -> SortId
+    ensures { result.0 ≡ entry_at words.now (run.start + k) }
 {
-    let n = a.count;
-    if n != b.count {
+    SortId(word(words, ENTRIES_AT + ((run.start as usize) + (k as usize))))
+}
+
+// Whether two runs have the same entries. Where they start does not count.
+pub fn same_run(words: &[u16], a: Run, b: Run) -> bool
+    ensures { result
+        ≡ same_words (entries_of words.now a.start a.count)
+        (entries_of words.now b.start b.count) }
+{
+    if a.count != b.count {
         return false;
     }
-    let s = a.start as usize;
-    let t = b.start as usize;
-    let mut k: u16 = 0;
-    while k < n {
-        let x = word(sorts, ENTRIES_AT + (s + (k as usize)));
-        let y = word(sorts, ENTRIES_AT + (t + (k as usize)));
-        if x != y {
+    for k in 0..a.count {
+        if entry(words, a, k) != entry(words, b, k) {
             return false;
         }
-        k += 1;
     }
     true
 }
@@ -156,80 +176,37 @@ fn same_run(sorts: &[u16], a: Run, b: Run) -> bool
 pub fn same_rows(sorts: &[u16], lhs: SortId, rhs: SortId) -> bool
     ensures { result ≡ same_row (words_at sorts.now lhs.0) (words_at sorts.now rhs.0) }
 {
-    if kind_at(sorts, lhs) != kind_at(sorts, rhs) {
-        return false;
-    }
-    if part_at(sorts, lhs) != part_at(sorts, rhs) {
-        return false;
-    }
-    same_run(sorts, run_at(sorts, lhs), run_at(sorts, rhs))
+    kind_at(sorts, lhs) == kind_at(sorts, rhs)
+        && part_at(sorts, lhs) == part_at(sorts, rhs)
+        && same_run(sorts, run_at(sorts, lhs), run_at(sorts, rhs))
 }
 
-// Whether a run has the first n of the ids as its entries, and no more.
-fn has_args(sorts: &[u16], a: Run, ids: [SortId; ARGUMENT_WORDS], n: u16) -> bool
-    requires { n ≤ max_arguments }
-    ensures { result ≡ same_words (entries_of sorts.now a.start a.count) (take n (sort_numbers ids)) }
+// Whether a run has these sorts as its entries, and no more.
+fn has_args(words: &[u16], run: Run, args: &[SortId]) -> bool
+    ensures { result ≡ same_words (entries_of words.now run.start run.count) (sort_numbers args.now) }
 {
-    if a.count != n {
+    if (run.count as usize) != args.len() {
         return false;
     }
-    let s = a.start as usize;
-    let mut k: u16 = 0;
-    while k < n {
-        let x = word(sorts, ENTRIES_AT + (s + (k as usize)));
-        let id = ids[k as usize];
-        if x != id.0 {
+    for k in 0..run.count {
+        if entry(words, run, k) != args[k as usize] {
             return false;
         }
-        k += 1;
     }
     true
 }
 
-// Whether a sort's row is of this kind, part and arguments. Words not looked at do not count.
-fn is_row(
-    sorts: &[u16],
-    id: SortId,
-    kind: u16,
-    part: SortId,
-    ids: [SortId; ARGUMENT_WORDS],
-    count: u16,
-) -> bool
-    requires { count ≤ max_arguments }
-    ensures { result ≡ is_row sorts.now (given_row kind part ids count) id.0 }
+// Whether a sort's row is this one. Words not looked at do not count.
+fn is_row(words: &[u16], id: SortId, row: &Row) -> bool
+    ensures { result ≡ is_row words.now (given_row row.now.kind row.now.part row.now.args.now) id.0 }
 {
-    if kind_at(sorts, id) != kind {
-        return false;
-    }
-    if part_at(sorts, id) != part.0 {
-        return false;
-    }
-    has_args(sorts, run_at(sorts, id), ids, count)
-}
-
-// The first sort below n whose row is of this kind, part and arguments, never a later one; n where there is none.
-fn find_row(
-    sorts: &[u16],
-    n: u16,
-    kind: u16,
-    part: SortId,
-    ids: [SortId; ARGUMENT_WORDS],
-    count: u16,
-) -> SortId
-    requires { count ≤ max_arguments }
-    ensures { result.0 ≡ find_row sorts.now n (given_row kind part ids count) }
-{
-    let mut row: u16 = 0;
-    while row < n {
-        if is_row(sorts, SortId(row), kind, part, ids, count) {
-            return SortId(row);
-        }
-        row += 1;
-    }
-    SortId(row)
+    kind_at(words, id) == row.kind
+        && part_at(words, id) == row.part.0
+        && has_args(words, run_at(words, id), row.args)
 }
 
 // Row i set to four words. The part of it that lies past the end is left out.
+#[tactic(auto, unfolding(resolved_sort::specs::Storage::put_row))]
 pub fn put_row(sorts: &mut [u16], i: u16, kind: u16, part: u16, start: u16, count: u16)
     ensures { sorts.new ≡ put_row sorts.old i kind part start count }
 {
@@ -245,14 +222,22 @@ pub fn put_args(sorts: &mut [u16], e: u16, ids: [u16; ARGUMENT_WORDS], n: u16)
     requires { n ≤ max_arguments }
     ensures { sorts.new ≡ sets sorts.old (entries_at + e) (take n ids) }
 {
-    let mut i: u16 = 0;
-    while i < n {
+    for i in 0..n {
         put(
             sorts,
             ENTRIES_AT + (e as usize) + (i as usize),
             ids[i as usize],
         );
-        i += 1;
+    }
+}
+
+// These sorts stored as the entries from e on.
+fn put_sorts(words: &mut [u16], e: u16, args: &[SortId])
+    requires { length args.now ≤ max_arguments }
+    ensures { words.new ≡ sets words.old (entries_at + e) (sort_numbers args.now) }
+{
+    for (i, id) in args.iter().enumerate() {
+        put(words, ENTRIES_AT + (e as usize) + i, id.0);
     }
 }
 
@@ -263,73 +248,152 @@ pub fn start_of(kind: u16, e: u16) -> u16
     if kind == FUNCTION_KIND { e } else { 0 }
 }
 
-// The words of the ids, to be stored.
-fn words_of(ids: [SortId; ARGUMENT_WORDS]) -> [u16; ARGUMENT_WORDS]
-    ensures { result ≡ sort_numbers ids }
-{
-    let mut words = [0u16; ARGUMENT_WORDS];
-    let mut i: usize = 0;
-    while i < ARGUMENT_WORDS {
-        let id = ids[i];
-        words[i] = id.0;
-        i += 1;
-    }
-    words
-}
-
 // A row with its arguments appended to n rows and e entries. Only a function's row names a start; of others it is 0.
-fn append_row(
-    sorts: &mut [u16],
-    n: u16,
-    e: u16,
-    kind: u16,
-    part: SortId,
-    ids: [SortId; ARGUMENT_WORDS],
-    count: u16,
-)
-    requires { count ≤ max_arguments }
-    ensures { sorts.new ≡ append_row sorts.old n e (given_row kind part ids count) }
+fn append_row(words: &mut [u16], counts: Counts, row: &Row)
+    requires { length row.now.args.now ≤ max_arguments }
+    ensures { words.new
+        ≡ append_row words.old counts.sorts counts.entries
+        (given_row row.now.kind row.now.part row.now.args.now) }
 {
-    put_row(sorts, n, kind, part.0, start_of(kind, e), count);
-    put_args(sorts, e, words_of(ids), count);
+    put_row(
+        words,
+        counts.sorts,
+        row.kind,
+        row.part.0,
+        start_of(row.kind, counts.entries),
+        row.args.len() as u16,
+    );
+    put_sorts(words, counts.entries, row.args);
 }
 
-// The row's number: the first row that is the same, else one more row where there is room. Nothing changes where the
-// row is found or there is no room.
-// Each distinct sort is stored once, so that equality of sorts is that of their numbers. The six that merc interns
-// first stand at the front of every list (check 2).
-fn intern(
-    sorts: &mut [u16],
-    counts: Counts,
-    kind: u16,
-    part: SortId,
-    ids: [SortId; ARGUMENT_WORDS],
-    count: u16,
-) -> Joined
-    requires { count ≤ max_arguments }
-    ensures { stored_at sorts.new result
-        ≡ intern_row sorts.old counts.sorts counts.entries (given_row kind part ids count) }
+impl<'a> Sorts<'a> {
+    // The sort of a number, as its row says it.
+    pub fn get(&self, id: SortId) -> ResolvedSort
+        ensures { result ≡ row_at self.now.words.now id.0 }
+    {
+        get(self.words, id)
+    }
+}
+
+impl<'a> SortInterner<'a> {
+    // The sorts as they are, to be read.
+    pub fn sorts(&self) -> Sorts<'_>
+        requires { Checked self.now.words.now self.now.counts.sorts self.now.counts.entries }
+        ensures { (result.words.now ≡ self.now.words.now) × (result.counts ≡ self.now.counts) }
+    {
+        let words = &*self.words;
+        Sorts {
+            words,
+            counts: self.counts,
+        }
+    }
+
+    // The sort of a number, as its row says it. A number without a row reads as Unit.
+    pub fn get(&self, id: SortId) -> ResolvedSort
+        ensures { result ≡ row_at self.now.words.now id.0 }
+    {
+        get(self.words, id)
+    }
+
+    // The first sort whose row is this one, never a later one.
+    fn find_row(&self, row: &Row) -> Option<SortId>
+        ensures { result
+            ≡ found_row self.now.words.now self.now.counts.sorts
+            (given_row row.now.kind row.now.part row.now.args.now) }
+    {
+        for i in 0..self.counts.sorts {
+            if is_row(self.words, SortId(i), row) {
+                return Some(SortId(i));
+            }
+        }
+        None
+    }
+
+    // The row's number: the first row that is the same, else one more row where there is room. Nothing changes where
+    // the row is found or there is no room.
+    // Each distinct sort is stored once, so that equality of sorts is that of their numbers. The six that merc interns
+    // first stand at the front of every list (check 2).
+    fn intern(&mut self, row: &Row) -> Result<SortId, NoRoom>
+        requires { length row.now.args.now ≤ max_arguments }
+        ensures same_reference { self.new.words.ghost_name ≡ self.old.words.ghost_name }
+        ensures interned { interned_at self.new.words.now self.new.counts result
+            ≡ intern_row self.old.words.now self.old.counts.sorts self.old.counts.entries
+            (given_row row.now.kind row.now.part row.now.args.now) }
+    {
+        let Counts { sorts, entries } = self.counts;
+        if let Some(id) = self.find_row(row) {
+            return Ok(id);
+        }
+        let count = row.args.len() as u16;
+        if SORT_NUMBERS <= sorts || MAX_ENTRIES < (entries as usize) + (count as usize) {
+            return Err(NoRoom);
+        }
+        append_row(self.words, self.counts, row);
+        self.counts = Counts {
+            sorts: sorts + 1,
+            entries: entries + count,
+        };
+        Ok(SortId(sorts))
+    }
+
+    // Interns the container sort `op(subsort)`.
+    pub fn generic(&mut self, op: ComplexSort, subsort: SortId) -> Result<SortId, NoRoom>
+        requires { Checked self.old.words.now self.old.counts.sorts self.old.counts.entries
+            × (subsort.0 < self.old.counts.sorts) }
+        ensures same_reference { self.new.words.ghost_name ≡ self.old.words.ghost_name }
+        ensures interned { interned_at self.new.words.now self.new.counts result
+            ≡ intern_at self.old.words.now self.old.counts.sorts self.old.counts.entries
+            (container op (look (trees self.old.words.now self.old.counts.sorts) subsort.0)) }
+    {
+        self.intern(&Row {
+            kind: kind_of_op(op),
+            part: subsort,
+            args: &[],
+        })
+    }
+
+    // Interns the function sort `domain -> range`.
+    pub fn function(&mut self, domain: &[SortId], range: SortId) -> Result<SortId, NoRoom>
+        requires { Checked self.old.words.now self.old.counts.sorts self.old.counts.entries
+            × (range.0 < self.old.counts.sorts)
+            × (length domain.now ≤ max_arguments)
+            × AllBelow self.old.counts.sorts (sort_numbers domain.now) }
+        ensures same_reference { self.new.words.ghost_name ≡ self.old.words.ghost_name }
+        ensures interned { interned_at self.new.words.now self.new.counts result
+            ≡ intern_at self.old.words.now self.old.counts.sorts self.old.counts.entries
+            (functionSort
+            (look_all (trees self.old.words.now self.old.counts.sorts) (sort_numbers domain.now))
+            (look (trees self.old.words.now self.old.counts.sorts) range.0)) }
+    {
+        self.intern(&Row {
+            kind: FUNCTION_KIND,
+            part: range,
+            args: domain,
+        })
+    }
+
+    // What 15 leaves: zero past the counts that the call began with, and the sorts before them as they are.
+    pub fn give_back(&mut self, counts: Counts)
+        requires { (counts.sorts ≤ max_sorts)
+            × (counts.entries ≤ max_entries)
+            × (full_length ≤ length self.old.words.now) }
+        ensures same_reference { self.new.words.ghost_name ≡ self.old.words.ghost_name }
+        ensures given_back { self.new.words.now ≡ given_back counts.sorts counts.entries self.old.words.now }
+        ensures counts { self.new.counts ≡ counts }
+    {
+        give_back(self.words, counts.sorts as usize, counts.entries as usize);
+        self.counts = counts;
+    }
+}
+
+// What interning answers, with the counts after it.
+fn joined(made: Result<SortId, NoRoom>, counts: Counts) -> Joined
+    ensures { (ws : List ℕ) → stored_at ws result ≡ interned_at ws counts made }
 {
-    let n = counts.sorts;
-    let e = counts.entries;
-    let found = find_row(sorts, n, kind, part, ids, count);
-    if found.0 < n {
-        return Joined::At(found, counts);
+    match made {
+        Ok(id) => Joined::At(id, counts),
+        Err(_) => Joined::Full,
     }
-    if SORT_NUMBERS <= n {
-        return Joined::Full;
-    }
-    if MAX_ENTRIES < (e as usize) + (count as usize) {
-        return Joined::Full;
-    }
-    append_row(sorts, n, e, kind, part, ids, count);
-    Joined::At(
-        SortId(n),
-        Counts {
-            sorts: n + 1,
-            entries: e + count,
-        },
-    )
 }
 
 // Interns the container sort `op(subsort)`.
@@ -339,14 +403,12 @@ pub fn generic(sorts: &mut [u16], counts: Counts, op: ComplexSort, subsort: Sort
         ≡ intern_at sorts.old counts.sorts counts.entries
         (container op (look (trees sorts.old counts.sorts) subsort.0)) }
 {
-    intern(
-        sorts,
+    let mut interner = SortInterner {
+        words: sorts,
         counts,
-        kind_of_op(op),
-        subsort,
-        [SortId(0); ARGUMENT_WORDS],
-        0,
-    )
+    };
+    let made = interner.generic(op, subsort);
+    joined(made, interner.counts)
 }
 
 // Interns the function sort `domain -> range`, the domain being the first count of the ids.
@@ -367,5 +429,10 @@ pub fn function(
         (look_all (trees sorts.old counts.sorts) (take count (sort_numbers ids)))
         (look (trees sorts.old counts.sorts) range.0)) }
 {
-    intern(sorts, counts, FUNCTION_KIND, range, ids, count)
+    let mut interner = SortInterner {
+        words: sorts,
+        counts,
+    };
+    let made = interner.function(&ids[..count as usize], range);
+    joined(made, interner.counts)
 }

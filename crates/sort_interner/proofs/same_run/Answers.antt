@@ -1,24 +1,24 @@
 -- Two runs differ by their count, or at the turn where their entries differ, or else are the same at the end.
 -- Assumes nothing.
-use Rattle.std.proofs.Common.{arith}
+use Rattle.std.proofs.Common.{sym, ◌∙◌}
 use Rattle.sort_interner.proofs.Runs as law
 use Rattle.sort_interner.proofs.same_run.Goals as goal
 
-pub returns-then-n-b : goal.returns-then-n-b
-returns-then-n-b c = search law.runs_differ_by_count
+pub returns-then-a-b : goal.returns-then-a-b
+returns-then-a-b c = law.runs_differ_by_count _ _ _ _ _ c.if-a-b.true
 
 pub loop-k-init : goal.loop-k-init
-loop-k-init c = (omega arith, law.words_same_from_start _ _)
+loop-k-init c = law.words_same_from_start _ _
 
-pub returns-then-x-y : goal.returns-then-x-y
-returns-then-x-y c = search law.runs_differ
+pub returns-then-ne : goal.returns-then-ne
+returns-then-ne c =
+    law.runs_differ _ _ _ _ c.loop-k.k c.loop-k.invariant c.loop-k-test.true _ _ c.entry.ensures c.entry-in-loop-k.ensures
+    (law.unequal _ _ (sym c.ne.ensures ∙ c.if-ne.true)) _ c.if-a-b.false
 
 pub loop-k-preserved : goal.loop-k-preserved
-loop-k-preserved c = (
-  omega arith,
-  law.runs_same_from_next _ _ _ _ c.loop-k.k c.loop-k.invariant.1
-      c.loop-k-test.true _ _ c.word-x.ensures c.word-y.ensures c.if-x-y.false,
-)
+loop-k-preserved c =
+    law.runs_same_from_next _ _ _ _ c.loop-k.k c.loop-k.invariant c.loop-k-test.true _ _ c.entry.ensures c.entry-in-loop-k.ensures
+    (law.equal _ _ (sym c.ne.ensures ∙ c.if-ne.false))
 
 pub returns : goal.returns
-returns c = search law.runs_same_at_end
+returns c = law.runs_same_at_end _ _ _ _ c.loop-k.k c.loop-k.invariant c.loop-k-test.false _ c.if-a-b.false

@@ -1,5 +1,5 @@
 -- The loop's invariant: comparing what is left comes to comparing the whole. Assumes nothing.
-use Rattle.std.proofs.Common.{◌≡◌, ◌-◌, ◌≤◌}
+use Rattle.std.proofs.Common.{◌≡◌}
 use Rattle.resolved_sort.specs.Storage.{entries_of}
 use Rattle.resolved_sort.specs.Rows.{same_words}
 use Rattle.sort_interner.proofs.Runs.{same_from}
@@ -7,9 +7,5 @@ use Rattle.sort_interner.proofs.same_run.Given as goal
 
 abbrev pub invariant-loop-k : goal.invariant-loop-k
 invariant-loop-k l =
-    (l.k ≤ l.n)
-    × (same_words (entries_of l.sorts l.s l.n) (entries_of l.sorts l.t l.n)
-    ≡ same_from l.k (entries_of l.sorts l.s l.n) (entries_of l.sorts l.t l.n))
-
-abbrev pub decreases-loop-k : goal.decreases-loop-k
-decreases-loop-k l = l.n - l.k
+    same_words (entries_of l.words l.a.start l.a.count) (entries_of l.words l.b.start l.a.count)
+    ≡ same_from l.k (entries_of l.words l.a.start l.a.count) (entries_of l.words l.b.start l.a.count)
