@@ -4,3 +4,4 @@ pub mod Exactly
 pub mod Examples
 pub mod Ways
 pub mod Streams
+pub mod Reading

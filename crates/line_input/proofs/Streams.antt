@@ -5,12 +5,17 @@ use mathlib.Core.List.{List, [], ◌∷◌, ◌++◌, map, append_assoc, append-
 use Prim.Native.Nat.{ℕ, ◌<◌}
 use native.Mathlib.Omega.{arith}
 use lib.ListN.{length, take}
-use Rattle.std.specs.Prelude.{Option, Some, None}
+use Rattle.std.specs.Prelude.{Option, Some, None, Result, Ok, IsErr, IsErrAnd}
+use Rattle.std.specs.IoError.{error_kind}
+use Rattle.std.specs.declared.io.Error.{Error}
+use Rattle.std.specs.declared.io.ErrorKind.TheVariants.{TimedOut}
 use Rattle.std.specs.Io.KnownBytes.{Consumes, IsAtEnd}
 use Rattle.held_line.specs.Lines.{whole}
 use Rattle.line_input.specs.declared.Input.{Input}
 use Rattle.line_input.specs.declared.LineFound.{LineFound}
-use Rattle.line_input.specs.declared.LineFound.TheVariants.{Line, End}
+use Rattle.line_input.specs.declared.LineFound.TheVariants.{Nothing, Line, End, Failed}
+use Rattle.line_input.specs.declared.Lines.{Lines}
+use Rattle.line_input.specs.Lines.{LineRead, Answers, seen}
 use Rattle.line_input.specs.Taking.{Came, line_ends, going, take_line, Reached, reached, goes_on, some_line, no_line, following_by, following_of, next_line, held_lines}
 use Rattle.line_input.specs.Answers.{unread, SaysLine, EndsInput, NextLineFrom}
 use Rattle.line_input.proofs.Taking.{later_parts}
@@ -120,3 +125,36 @@ module _ (known known' : Option (List ℕ)) (buffer line : List ℕ) (input : In
       ∙ (ap (λ xs. taken ++ held_lines (length line) (unread buffer input ++ xs)) (v.whole_is ∙ (ap (λ xs. whole n.next.parts ++ xs) z ∙ append-nil (whole n.next.parts)))
       ∙ (ap (λ ls. taken ++ ls) (no_line_left (length line) some (unread buffer input) n.next.parts (said End e).0)
       ∙ append-nil taken))
+
+-- The same of a call of `next_line` of `Lines`, by its answer.
+found_line : (f : LineFound) (n m : ℕ) (r : Result (Option ℕ) Error) → Answers f n r → r ≡ Ok (Some m) → (f ≡ Line) × (m ≡ n)
+unfolding Answers
+found_line Line n m r a e = (refl, let z : ◌≡◌ {A = Result (Option ℕ) Error} (Ok (Some m)) (Ok (Some n)) = sym e ∙ a in cc z)
+found_line End n m r a e = absurd (let z : ◌≡◌ {A = Result (Option ℕ) Error} (Ok (Some m)) (Ok None) = sym e ∙ a in cc z)
+found_line Failed n m r a e = absurd (let z = subst IsErr e a in cc z)
+found_line Nothing n m r a e = absurd (subst (λ x. IsErrAnd x (λ k. error_kind k ≡ TimedOut)) e a)
+
+found_end : (f : LineFound) (n : ℕ) (r : Result (Option ℕ) Error) → Answers f n r → r ≡ Ok None → f ≡ End
+unfolding Answers
+found_end Line n r a e = absurd (let z : ◌≡◌ {A = Result (Option ℕ) Error} (Ok None) (Ok (Some n)) = sym e ∙ a in cc z)
+found_end End n r a e = refl
+found_end Failed n r a e = absurd (let z = subst IsErr e a in cc z)
+found_end Nothing n r a e = absurd (subst (λ x. IsErrAnd x (λ k. error_kind k ≡ TimedOut)) e a)
+
+module _ (known known' : Option (List ℕ)) (before after : Lines) (r : Result (Option ℕ) Error) (l : LineRead known known' before after r)
+    (room : 0 < length before.buffer.now) (some : 0 < length before.line.bytes.now)
+    (all : List ℕ) (taken : List (List ℕ))
+    (s : LinesLeft (length before.line.bytes.now) all (unread before.buffer.now (seen before Nothing)) known taken) where
+  pub line_read : (n : ℕ) → r ≡ Ok (Some n)
+      → LinesLeft (length before.line.bytes.now) all (unread after.buffer.now (seen after Nothing)) known' (taken ++ (take n after.line.bytes.now ∷ []))
+  line_read n e =
+      let f = found_line l.found after.line.at n r l.answer e in
+      subst (λ (k : ℕ). LinesLeft (length before.line.bytes.now) all (unread after.buffer.now (seen after Nothing)) known' (taken ++ (take k after.line.bytes.now ∷ [])))
+      (sym f.1)
+      (one_line_more known known' before.buffer.now before.line.bytes.now (seen before Nothing) after.buffer.now after.line.bytes.now
+      (seen after l.found) l.next room some all taken s f.0)
+
+  pub all_lines_read : r ≡ Ok None → held_lines (length before.line.bytes.now) all ≡ taken
+  all_lines_read e =
+      all_lines_taken known known' before.buffer.now before.line.bytes.now (seen before Nothing) after.buffer.now after.line.bytes.now
+      (seen after l.found) l.next room some all taken s (found_end l.found after.line.at r l.answer e)

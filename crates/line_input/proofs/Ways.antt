@@ -233,13 +233,13 @@ nothing_read buffer line current c₀ known f n =
       ended = λ e p. absurd (n e);
     }
 
-failed_is_something : Failed ≡ Nothing → ⊥
+pub failed_is_something : Failed ≡ Nothing → ⊥
 failed_is_something e = let z : ◌≡◌ {A = ℕ} 0 1 = cc e in omega arith
 
-end_is_something : End ≡ Nothing → ⊥
+pub end_is_something : End ≡ Nothing → ⊥
 end_is_something e = let z : ◌≡◌ {A = ℕ} 0 1 = cc e in omega arith
 
-line_is_something : Line ≡ Nothing → ⊥
+pub line_is_something : Line ≡ Nothing → ⊥
 line_is_something e = let z : ◌≡◌ {A = ℕ} 0 1 = cc e in omega arith
 
 module _ (buffer₀ line₀ : List ℕ) (current₀ : Input) (buffer line : List ℕ) (current : Input) (turns : ℕ)

@@ -2,3 +2,4 @@
 pub mod Taking
 pub mod Answers
 pub mod Inner
+pub mod Lines

@@ -7,10 +7,92 @@
 
 ghost use Rattle.std.specs.Prelude.{◌≡◌, ◌≤◌, length};
 ghost use Rattle.line_input.specs.Answers.{NextLineFrom};
+ghost use Rattle.line_input.specs.Lines.{LineRead, SameMemory, seen};
 ghost use Rattle.line_input.specs.Inner.Answers.{Takes, ReadSomeFrom, end_of};
+ghost use Rattle.line_input.specs.Inner.Lines.{FilledBy, found_where};
 
 use held_line::hold;
+use std::io;
 use std::io::Read;
+use text_out::Out;
+
+// An input line by line. The bytes of the buffer from `at` up to `end` are not taken yet, and what is held of a line
+// stands at the front of its memory.
+#[derive(Drop)]
+pub struct Lines<'a> {
+    pub buffer: &'a mut [u8],
+    pub at: usize,
+    pub end: usize,
+    pub line: Out<'a>,
+}
+
+impl<'a> Lines<'a> {
+    // Where reading starts.
+    pub fn new(buffer: &'a mut [u8], line: &'a mut [u8]) -> Lines<'a>
+        ensures same_memory { (result.buffer ≡ buffer.entry) × (result.line.bytes ≡ line.entry) }
+        ensures nothing_read { (result.at ≡ 0) × (result.end ≡ 0) × (result.line.at ≡ 0) }
+    {
+        Lines {
+            buffer,
+            at: 0,
+            end: 0,
+            line: Out { bytes: line, at: 0 },
+        }
+    }
+
+    // Takes bytes of the buffer, at most those of one line; whether it has ended.
+    fn take(&mut self) -> bool
+        requires { self.old.line.at ≤ length self.old.line.bytes.now }
+        ensures same_memory { SameMemory self.old self.new }
+        ensures buffer { self.new.buffer.now ≡ self.old.buffer.now }
+        ensures taken { Takes self.old.buffer.now self.old.line.bytes.now self.old.at self.old.end self.old.line.at
+            self.new.line.bytes.now (seen self.new (found_where result)) }
+    {
+        for at in self.at..self.end.min(self.buffer.len()) {
+            let byte = self.buffer[at];
+            self.at = at + 1;
+            if byte == b'\n' {
+                return true;
+            }
+            self.line.put_byte(byte);
+        }
+        false
+    }
+
+    // Reads once, over bytes that are taken.
+    fn fill<R: Read>(&mut self, reader: &mut R) -> io::Result<usize>
+        ensures same_memory { SameMemory self.old self.new }
+        ensures line { self.new.line ≡ self.old.line }
+        ensures filled { FilledBy (R.remaining reader.old) (R.remaining reader.new) self.new result }
+    {
+        self.at = 0;
+        self.end = 0;
+        self.end = reader.read(self.buffer)?;
+        Ok(self.end)
+    }
+
+    // The next line, of which so many bytes are held, or none at the end of the input. A last line needs no LF.
+    //
+    // A proved loop has to end, and nothing says that an input does: so many reads are an error.
+    pub fn next_line<R: Read>(&mut self, reader: &mut R) -> io::Result<Option<usize>>
+        ensures same_memory { SameMemory self.old self.new }
+        ensures line { LineRead (R.remaining reader.old) (R.remaining reader.new) self.old self.new result }
+    {
+        self.line.at = 0;
+        if self.take() {
+            return Ok(Some(self.line.at));
+        }
+        for _ in 0..u64::MAX {
+            if self.fill(reader)? == 0 {
+                return Ok((0 < self.line.at).then_some(self.line.at));
+            }
+            if self.take() {
+                return Ok(Some(self.line.at));
+            }
+        }
+        Err(io::Error::from(io::ErrorKind::TimedOut))
+    }
+}
 
 // What the search for a line came to: more bytes are needed, a line, no further line, or a read that failed.
 #[derive(Clone, Copy, Drop)]

@@ -1,0 +1,303 @@
+-- What the methods of `Lines` leave, from what their callees leave. Assumes nothing.
+use mathlib.Core.Path.{◌≡◌, refl, sym, ◌∙◌, ap, subst, transport}
+use mathlib.Core.Bool.{Bool, true, false, cond}
+use mathlib.Core.List.{List, [], ◌∷◌}
+use Prim.Native.Nat.{ℕ, min, zero, suc, ◌+◌, ◌-◌, ◌<◌, ◌≤◌}
+use native.Mathlib.Omega.{arith}
+use native.Mathlib.Nat.{zero-add}
+use lib.ListN.{length, take, set, get_or, length-take}
+use lib.Seq.{set_out}
+use lib.Dec.{ltb}
+use borrow.Author.Tests.{ltb-false, lt-ltb}
+use Rattle.text_out.specs.declared.Out.{Out}
+use Rattle.text_out.specs.Within.{puts}
+use Rattle.text_out.specs.Outs.{then_put}
+use Rattle.text_out.proofs.Outs.{then_put_length}
+use Rattle.std.specs.Prelude.{Option, Some, Result, Ok, Err, IsErr}
+use Rattle.std.specs.Bool.{then_some}
+use Rattle.std.specs.Io.KnownBytes.{ReadConsumes, Consumes, IsAtEnd}
+use Rattle.std.specs.Io.{ReadsAtMost}
+use Rattle.std.specs.Result.{result_unwrap_or}
+use Rattle.std.specs.IoError.{error_kind}
+use Rattle.std.specs.declared.io.Error.{Error}
+use Rattle.std.specs.declared.io.ErrorKind.TheVariants.{TimedOut}
+use Rattle.held_line.specs.Holding.{line_kept, held_at}
+use Rattle.line_input.specs.declared.Input.{Input}
+use Rattle.line_input.specs.declared.Lines.{Lines}
+use Rattle.line_input.specs.declared.LineFound.{LineFound}
+use Rattle.line_input.specs.declared.LineFound.TheVariants.{Nothing, Line, End, Failed}
+use Rattle.line_input.specs.Taking.{take_line}
+use Rattle.line_input.specs.Answers.{unread, most_reads}
+use Rattle.line_input.specs.Inner.Answers.{Takes, end_of, failed, at_its_end, bytes, AfterRead, GivenBy, ReadSomeFrom}
+use Rattle.line_input.specs.Lines.{SameMemory, LineRead, Answers, seen}
+use Rattle.line_input.specs.Inner.Lines.{FilledBy, found_where}
+use Rattle.line_input.proofs.Ways.{Taking, byte_taken, line_ends_lem, stays_going, ReadOn, starts, read_once, says_before, line_is_next, failed_is_something, end_is_something, line_is_something}
+
+-- a byte put behind a line is held of it
+byte_held_by : (out : List ℕ) (at b : ℕ) (t : Bool) → ltb at (length out) ≡ t
+    → line_kept (set out at b) (cond t (at + 1) at) ≡ cond t (line_kept (set out (0 + at) b) (at + 1)) (line_kept out at)
+byte_held_by out at b true e = ap (λ (k : ℕ). line_kept (set out k b) (at + 1)) (sym (zero-add at))
+byte_held_by out at b false e = ap (λ us. line_kept us at) (set_out out at b (ltb-false at (length out) e))
+
+pub byte_held_of : (o n : Out) (b : ℕ) → n ≡ then_put o (b ∷ []) → line_kept n.bytes.now n.at ≡ held_at (length o.bytes.now) o.bytes.now 0 o.at b
+unfolding then_put puts held_at
+byte_held_of o n b e = ap (λ (m : Out). line_kept m.bytes.now m.at) e ∙ byte_held_by o.bytes.now o.at b (ltb o.at (length o.bytes.now)) refl
+
+same_memory : (o n : Out) (bs : List ℕ) → n ≡ then_put o bs → n.bytes.ghost_name ≡ o.bytes.ghost_name
+unfolding then_put
+same_memory o n bs e = ap (λ (m : Out). m.bytes.ghost_name) e
+
+same_length : (o n : Out) (bs : List ℕ) → n ≡ then_put o bs → length n.bytes.now ≡ length o.bytes.now
+same_length o n bs e = ap (λ (m : Out). length m.bytes.now) e ∙ then_put_length o bs
+
+-- the loop that takes bytes
+pub record TakingOn (before now : Lines) (at : ℕ) : Type 0 where
+  pub taking : Taking before.buffer.now before.line.bytes.now before.at before.end before.line.at now.line.bytes.now now.at now.line.at
+  pub memory : SameMemory before now
+  pub buffer : now.buffer.now ≡ before.buffer.now
+  pub end : now.end ≡ before.end
+  pub place : now.at ≡ at
+
+module _ (before now : Lines) (at : ℕ) (t : TakingOn before now at) where
+  abbrev Takes_to : Input → Type 0
+  Takes_to r = Takes before.buffer.now before.line.bytes.now before.at before.end before.line.at now.line.bytes.now r
+
+  pub line_taken : at < before.end → at < length before.buffer.now → get_or now.buffer.now at 0 ≡ 10
+      → Takes_to (record { at = at + 1; end = now.end; length = now.line.at; found = Line })
+  line_taken e l b =
+      let p = t.place in
+      let q = sym t.end in
+      let u = sym t.buffer in
+      let b' : get_or before.buffer.now now.at 0 ≡ 10 = (λ i. get_or (u i) (p i) 0) ∙ b in
+      subst Takes_to (λ i. record { at = p i + 1; end = q i; length = now.line.at; found = Line })
+      (line_ends_lem _ _ _ _ _ _ _ _ t.taking (omega (arith, l, p)) (omega (arith, e, p)) b')
+
+  pub all_taken : min before.end (length before.buffer.now) ≤ at → Takes_to (seen now Nothing)
+  all_taken h =
+      let q = sym t.end in
+      subst Takes_to (λ i. record { at = now.at; end = q i; length = now.line.at; found = Nothing })
+      (stays_going _ _ _ _ _ _ _ _ t.taking (omega (arith, h, t.place, length-take before.end before.buffer.now)))
+
+  pub one_byte_taken : at < before.end → at < length before.buffer.now → (get_or now.buffer.now at 0 ≡ 10 → ⊥) → (line : Out)
+      → line ≡ then_put now.line (get_or now.buffer.now at 0 ∷ [])
+      → TakingOn before (record { buffer = now.buffer; at = at + 1; end = now.end; line = line }) (at + 1)
+  one_byte_taken e l b line k =
+      let p = t.place in
+      let u = sym t.buffer in
+      let same : get_or before.buffer.now now.at 0 ≡ get_or now.buffer.now at 0 = λ i. get_or (u i) (p i) 0 in
+      let held = byte_held_of now.line line (get_or now.buffer.now at 0) k in
+      record {
+        taking = subst (λ (n : ℕ). Taking before.buffer.now before.line.bytes.now before.at before.end before.line.at line.bytes.now n line.at)
+            (ap (λ (n : ℕ). n + 1) p)
+            (byte_taken _ _ _ _ _ _ _ _ t.taking (omega (arith, l, p)) (omega (arith, e, p)) (λ z. b (sym same ∙ z))
+            (length now.line.bytes.now) t.taking.long line.bytes.now line.at
+            (held ∙ ap (held_at (length now.line.bytes.now) now.line.bytes.now 0 now.line.at) (sym same)));
+        memory = record {
+          buffer = t.memory.buffer;
+          line = same_memory now.line line _ k ∙ t.memory.line;
+          buffer_long = t.memory.buffer_long;
+          line_long = same_length now.line line _ k ∙ t.memory.line_long;
+        };
+        buffer = t.buffer;
+        end = t.end;
+        place = refl;
+      }
+
+-- where a line is begun, nothing of it is held
+abbrev from_start : Lines → Lines
+from_start s = record s { line = record s.line { at = 0 } }
+
+same_from_start : (before after : Lines) → SameMemory (from_start before) after → SameMemory before after
+same_from_start before after m = record { buffer = m.buffer; line = m.line; buffer_long = m.buffer_long; line_long = m.line_long }
+
+-- a line that stands in the buffer
+pub line_at_once : (before first : Lines) (found : Bool) → found ≡ true → SameMemory (from_start before) first → first.buffer.now ≡ before.buffer.now
+    → Takes before.buffer.now before.line.bytes.now before.at before.end 0 first.line.bytes.now (seen first (found_where found))
+    → (known : Option (List ℕ)) → LineRead known known before first (Ok (Some first.line.at))
+unfolding Answers
+line_at_once before first found e m' b t' known =
+    let m = same_from_start before first m' in
+    let t = subst (λ f. Takes before.buffer.now before.line.bytes.now before.at before.end 0 first.line.bytes.now (seen first (found_where f))) e t' in
+    record {
+      found = Line;
+      answer = refl;
+      next = line_is_next before.buffer.now before.line.bytes.now (seen before Nothing) first.line.bytes.now (seen first Line) t m.line_long
+          first.buffer.now first.line.bytes.now (seen first Line) most_reads known known
+          (subst (λ bs. ReadOn before.buffer.now first.line.bytes.now (seen first Line) bs first.line.bytes.now (seen first Line) most_reads
+          (take_line (length before.line.bytes.now) [] (unread before.buffer.now (seen before Nothing))) known known) (sym b)
+          (starts before.buffer.now before.line.bytes.now (seen before Nothing) first.line.bytes.now (seen first Line) t m.line_long known))
+          (λ x. absurd (line_is_something x));
+    }
+
+-- the loop that reads: so many reads have brought no line to its end
+pub record ReadingOn (before first now : Lines) (reads : ℕ) (known₀ known : Option (List ℕ)) : Type 0 where
+  pub taken : Takes before.buffer.now before.line.bytes.now before.at before.end 0 first.line.bytes.now (seen first Nothing)
+  pub first_same : SameMemory before first
+  pub on : ReadOn before.buffer.now first.line.bytes.now (seen first Nothing) now.buffer.now now.line.bytes.now (seen now Nothing) (most_reads - reads)
+      (take_line (length before.line.bytes.now) [] (unread before.buffer.now (seen before Nothing))) known₀ known
+  pub same : SameMemory before now
+
+pub none_read_yet : (before first : Lines) (found : Bool) → found ≡ false → SameMemory (from_start before) first → first.buffer.now ≡ before.buffer.now
+    → Takes before.buffer.now before.line.bytes.now before.at before.end 0 first.line.bytes.now (seen first (found_where found))
+    → (known : Option (List ℕ)) → ReadingOn before first first 0 known known
+none_read_yet before first found e m' b t' known =
+    let m = same_from_start before first m' in
+    let t = subst (λ f. Takes before.buffer.now before.line.bytes.now before.at before.end 0 first.line.bytes.now (seen first (found_where f))) e t' in
+    record {
+      taken = t;
+      first_same = m;
+      on = subst (λ bs. ReadOn before.buffer.now first.line.bytes.now (seen first Nothing) bs first.line.bytes.now (seen first Nothing) most_reads
+          (take_line (length before.line.bytes.now) [] (unread before.buffer.now (seen before Nothing))) known known) (sym b)
+          (starts before.buffer.now before.line.bytes.now (seen before Nothing) first.line.bytes.now (seen first Nothing) t m.line_long known);
+      same = m;
+    }
+
+pub same_then : (a b c : Lines) → SameMemory a b → SameMemory b c → SameMemory a c
+same_then a b c m n =
+    record {
+      buffer = n.buffer ∙ m.buffer;
+      line = n.line ∙ m.line;
+      buffer_long = n.buffer_long ∙ m.buffer_long;
+      line_long = n.line_long ∙ m.line_long;
+    }
+
+none_got : (known known' : Option (List ℕ)) (buffer : List ℕ) (e : ℕ) → ReadConsumes {E = Error} known known' (Ok e) buffer → e ≡ 0
+    → Consumes known known' [] × (0 < length buffer → IsAtEnd known')
+none_got known known' buffer e h z = (subst (λ (k : ℕ). Consumes known known' (take k buffer)) z h.0, h.1 z)
+
+module _ (before first now : Lines) (reads : ℕ) (known₀ known : Option (List ℕ)) (g : ReadingOn before first now reads known₀ known) where
+  pub room_for_line : (line : Out) → line ≡ now.line → line.at ≤ length line.bytes.now
+  room_for_line line e = subst (λ (o : Out). o.at ≤ length o.bytes.now) (sym e) (omega (arith, g.on.few, g.on.line_long))
+
+  -- the reads are used up
+  pub reads_used_up : most_reads ≤ reads → (e : Error) → error_kind e ≡ TimedOut → LineRead known₀ known before now (Err e)
+  unfolding Answers
+  reads_used_up used e a =
+      record {
+        found = Nothing;
+        answer = a;
+        next = line_is_next before.buffer.now before.line.bytes.now (seen before Nothing) first.line.bytes.now (seen first Nothing) g.taken
+            g.first_same.line_long now.buffer.now now.line.bytes.now (seen now Nothing) (most_reads - reads) known₀ known g.on
+            (λ x. omega (arith, used));
+      }
+
+  module _ (more : reads < most_reads) (after : Lines) (f : LineFound) (known' : Option (List ℕ)) (m : SameMemory now after)
+      (s : ReadSomeFrom known known' after.buffer.now now.line.bytes.now now.line.at after.line.bytes.now (seen after f)) where
+    step : ReadOn before.buffer.now first.line.bytes.now (seen first Nothing) after.buffer.now after.line.bytes.now (seen after f) (most_reads - reads - 1)
+        (take_line (length before.line.bytes.now) [] (unread before.buffer.now (seen before Nothing))) known₀ known'
+    step =
+        read_once before.buffer.now first.line.bytes.now (seen first Nothing) now.buffer.now now.line.bytes.now (seen now Nothing)
+        (most_reads - reads) (take_line (length before.line.bytes.now) [] (unread before.buffer.now (seen before Nothing))) known₀ known g.on refl
+        after.buffer.now m.buffer_long known'
+        (says_before before.buffer.now before.line.bytes.now (seen before Nothing) first.line.bytes.now (seen first Nothing) g.taken g.first_same.line_long)
+        (omega (arith, more)) after.line.bytes.now m.line_long (seen after f) s
+
+    answered : (f ≡ Nothing → ⊥) → (r : Result (Option ℕ) Error) → Answers f after.line.at r → LineRead known₀ known' before after r
+    answered n r a =
+        record {
+          found = f;
+          answer = a;
+          next = line_is_next before.buffer.now before.line.bytes.now (seen before Nothing) first.line.bytes.now (seen first Nothing) g.taken
+              g.first_same.line_long after.buffer.now after.line.bytes.now (seen after f) (most_reads - reads - 1) known₀ known' step
+              (λ x. absurd (n x));
+        }
+
+  module _ (more : reads < most_reads) (filled : Lines) (known' : Option (List ℕ)) (n : Result ℕ Error) (m : SameMemory now filled)
+      (l : filled.line ≡ now.line) (h : FilledBy known known' filled n) where
+    seen_filled : (e : ℕ) (f : LineFound) → result_unwrap_or n 0 ≡ e
+        → ◌≡◌ {A = Input} (seen filled f) (record { at = 0; end = e; length = now.line.at; found = f })
+    seen_filled e f x =
+        let a = h.at in
+        let y = h.end ∙ x in
+        λ i. record { at = a i; end = y i; length = (l i).at; found = f }
+
+    -- a read that failed
+    pub read_failed : (e : Error) → n ≡ Err e → (r : Result (Option ℕ) Error) → IsErr r → LineRead known₀ known' before filled r
+    unfolding AfterRead GivenBy Answers
+    read_failed e is r a =
+        answered more filled Failed known' m
+        (record {
+          some = record { got = failed; after = (seen_filled 0 Failed (ap (λ x. result_unwrap_or x 0) is), ap (λ (o : Out). o.bytes.now) l) };
+          given = subst (λ x. ReadConsumes known known' x filled.buffer.now) is h.bytes;
+        })
+        failed_is_something r a
+
+    -- the end of the input
+    ends_by : (e : ℕ) → n ≡ Ok e → e ≡ 0 → (count : ℕ) → now.line.at ≡ count → (o : Option ℕ) → o ≡ then_some (ltb 0 count) count
+        → LineRead known₀ known' before filled (Ok o)
+    unfolding AfterRead GivenBy Answers end_of
+    ends_by e is z zero c o a =
+        answered more filled End known' m
+        (record {
+          some = record {
+            got = at_its_end;
+            after = (
+              seen_filled 0 End (ap (λ x. result_unwrap_or x 0) is ∙ z)
+                  ∙ (ap (λ (k : ℕ). record { at = 0; end = 0; length = k; found = End }) c ∙ ap end_of (sym c)),
+              ap (λ (o : Out). o.bytes.now) l,
+            );
+          };
+          given = none_got known known' filled.buffer.now e (subst (λ x. ReadConsumes known known' x filled.buffer.now) is h.bytes) z;
+        })
+        end_is_something (Ok o) (ap Ok a)
+    ends_by e is z (suc count) c o a =
+        answered more filled Line known' m
+        (record {
+          some = record {
+            got = at_its_end;
+            after = (
+              seen_filled 0 Line (ap (λ x. result_unwrap_or x 0) is ∙ z)
+                  ∙ (ap (λ (k : ℕ). record { at = 0; end = 0; length = k; found = Line }) c ∙ ap end_of (sym c)),
+              ap (λ (o : Out). o.bytes.now) l,
+            );
+          };
+          given = none_got known known' filled.buffer.now e (subst (λ x. ReadConsumes known known' x filled.buffer.now) is h.bytes) z;
+        })
+        line_is_something (Ok o) (ap Ok (a ∙ ap (λ b. then_some b (suc count)) (lt-ltb 0 (suc count) (omega arith)) ∙ ap Some (sym c ∙ ap (λ (o : Out). o.at) (sym l))))
+
+    pub ends : (e : ℕ) → n ≡ Ok e → e ≡ 0 → (o : Option ℕ) → o ≡ then_some (ltb 0 filled.line.at) filled.line.at
+        → LineRead known₀ known' before filled (Ok o)
+    ends e is z o a = ends_by e is z filled.line.at (ap (λ (o : Out). o.at) (sym l)) o a
+
+    -- bytes that were read, and some of them taken
+    bytes_taken : (e : ℕ) → n ≡ Ok e → (after : Lines) (f : LineFound) → SameMemory filled after → after.buffer.now ≡ filled.buffer.now
+        → Takes filled.buffer.now filled.line.bytes.now filled.at filled.end filled.line.at after.line.bytes.now (seen after f)
+        → ReadSomeFrom known known' after.buffer.now now.line.bytes.now now.line.at after.line.bytes.now (seen after f)
+    unfolding AfterRead GivenBy
+    bytes_taken e is after f s b t =
+        let a = h.at in
+        let y = h.end ∙ ap (λ x. result_unwrap_or x 0) is in
+        let c = sym b in
+        record {
+          some = record {
+            got = bytes e;
+            after = (
+              subst (λ bs. e ≤ length bs) c (subst (λ x. ReadsAtMost x filled.buffer.now) is h.few).0,
+              transport (λ i. Takes (c i) (l i).bytes.now (a i) (y i) (l i).at after.line.bytes.now (seen after f)) t,
+            );
+          };
+          given = subst (λ bs. Consumes known known' (take e bs)) c (subst (λ x. ReadConsumes known known' x filled.buffer.now) is h.bytes).0;
+        }
+
+    module _ (e : ℕ) (is : n ≡ Ok e) (after : Lines) (found : Bool) (s : SameMemory filled after) (b : after.buffer.now ≡ filled.buffer.now)
+        (t : Takes filled.buffer.now filled.line.bytes.now filled.at filled.end filled.line.at after.line.bytes.now (seen after (found_where found))) where
+      pub line_came : found ≡ true → LineRead known₀ known' before after (Ok (Some after.line.at))
+      unfolding Answers
+      line_came x =
+          let t' = subst (λ f. Takes filled.buffer.now filled.line.bytes.now filled.at filled.end filled.line.at after.line.bytes.now (seen after (found_where f))) x t in
+          answered more after Line known' (same_then now filled after m s) (bytes_taken e is after Line s b t') line_is_something (Ok (Some after.line.at)) refl
+
+      pub none_came : found ≡ false → ReadingOn before first after (reads + 1) known₀ known'
+      none_came x =
+          let t' = subst (λ f. Takes filled.buffer.now filled.line.bytes.now filled.at filled.end filled.line.at after.line.bytes.now (seen after (found_where f))) x t in
+          record {
+            taken = g.taken;
+            first_same = g.first_same;
+            on = subst (λ (k : ℕ). ReadOn before.buffer.now first.line.bytes.now (seen first Nothing) after.buffer.now after.line.bytes.now (seen after Nothing) k
+                (take_line (length before.line.bytes.now) [] (unread before.buffer.now (seen before Nothing))) known₀ known')
+                (fewer reads) (step more after Nothing known' (same_then now filled after m s) (bytes_taken e is after Nothing s b t'));
+            same = same_then before now after g.same (same_then now filled after m s);
+          }
+        where
+          fewer : (k : ℕ) → most_reads - k - 1 ≡ most_reads - (k + 1)
+          fewer k = omega arith

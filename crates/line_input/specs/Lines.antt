@@ -1,0 +1,35 @@
+-- What `next_line` of `Lines` answers and leaves.
+use Rattle.std.specs.Prelude.{◌≡◌, ℕ, List, Option, Some, None, Result, Ok, IsErr, IsErrAnd, length}
+use Rattle.std.specs.IoError.{error_kind}
+use Rattle.std.specs.declared.io.ErrorKind.TheVariants.{TimedOut}
+use Rattle.std.specs.declared.io.Error.{Error}
+use Rattle.line_input.specs.declared.Input.{Input}
+use Rattle.line_input.specs.declared.Lines.{Lines}
+use Rattle.line_input.specs.declared.LineFound.{LineFound}
+use Rattle.line_input.specs.declared.LineFound.TheVariants.{Nothing, Line, End, Failed}
+use Rattle.line_input.specs.Answers.{NextLineFrom}
+
+abbrev pub seen : Lines → LineFound → Input
+seen s f = record { at = s.at; end = s.end; length = s.line.at; found = f }
+
+-- The buffer and the line's memory are those that they were, and as long.
+pub record SameMemory (before after : Lines) : Type 0 where
+  pub buffer : after.buffer.ghost_name ≡ before.buffer.ghost_name
+  pub line : after.line.bytes.ghost_name ≡ before.line.bytes.ghost_name
+  pub buffer_long : length after.buffer.now ≡ length before.buffer.now
+  pub line_long : length after.line.bytes.now ≡ length before.line.bytes.now
+
+-- the answer as a reader's result: so many bytes of a line are held; the end; or an error, of this kind where the reads
+-- are used up
+unfoldable pub Answers : LineFound → ℕ → Result (Option ℕ) Error → Type 0
+Answers Line n r = r ≡ Ok (Some n)
+Answers End n r = r ≡ Ok None
+Answers Failed n r = IsErr r
+Answers Nothing n r = IsErrAnd r (λ e. error_kind e ≡ TimedOut)
+
+-- What a call of `next_line` answers and leaves; after an error too.
+pub record LineRead (known known-left : Option (List ℕ)) (before after : Lines) (r : Result (Option ℕ) Error) : Type 0 where
+  pub found : LineFound
+  pub answer : Answers found after.line.at r
+  pub next : NextLineFrom known known-left before.buffer.now before.line.bytes.now (seen before Nothing)
+      after.buffer.now after.line.bytes.now (seen after found)
