@@ -3,3 +3,4 @@ pub mod Apart
 pub mod Shapes
 pub mod Ways
 pub mod Parts
+pub mod Passing

@@ -17,9 +17,10 @@ use Rattle.resolved_sort.proofs.Numbers.{true_not_false}
 use Rattle.resolved_sort.proofs.RowTrees.{by_kind}
 use Rattle.resolved_sort.proofs.Fine.{run_inside}
 use Rattle.unification.specs.declared.Lengths.{Lengths}
-use Rattle.unification.specs.declared.InferSort.TheVariants.{Function}
+use Rattle.unification.specs.declared.InferSort.{InferSort}
+use Rattle.unification.specs.declared.InferSort.TheVariants.{Generic, Function, Var}
 use Rattle.unification.specs.declared.SortVar.{SortVar}
-use Rattle.unification.specs.declared.VarAt.TheVariants.{Is, Nothing}
+use Rattle.std.specs.Prelude.{Some, None}
 use Rattle.unification.specs.Term.{Head, Shape, variable, over, kind_head, number_head, same_head}
 use Rattle.unification.specs.Inner.Term.{head_of, parts_of}
 use Rattle.unification.specs.Nodes.{node_kind_at, node_part_at, node_start_at, node_count_at, node_entry_at, node_entries_of, inferred, node_at, sort_shape, node_shape}
@@ -29,51 +30,8 @@ use Rattle.unification.proofs.Parts.{Runs, sort_runs, node_runs, run_length}
 use Rattle.unification.proofs.Places.{sort_below, node_below}
 use Rattle.unification.proofs.Rows.{node_function_fine, sort_no_variable, node_fine_parts}
 use Rattle.unification.proofs.Lists.{sort_fine, node_fine_lem}
-use Rattle.infer_nodes.specs.Inner.Parts.{NodesReady, var_at, number_in, count_in, part_in, SmallCount}
-use Rattle.infer_nodes.proofs.Shapes.{at_sort, at_node}
-
--- the functions on a row of words
-module _ (ws : List ℕ) (row kind : ℕ) (e : kind ≡ get_or ws row 0) where
-  pub number_of_function : (r : ℕ) → kind ≡ 11 → r ≡ get_or ws (row + 3) 0 → r ≡ number_in ws row
-  unfolding number_in
-  number_of_function r k x = x ∙ rw (sym e, eq-eqb kind 11 k)
-
-  pub number_of_name : (r : ℕ) → (kind ≡ 11 → ⊥) → 12 ≤ kind → r ≡ get_or ws (row + 1) 0 → r ≡ number_in ws row
-  unfolding number_in
-  number_of_name r d l x = x ∙ rw (sym e, ne_eqb kind 11 d, le-leb 12 kind l)
-
-  pub no_number : (kind ≡ 11 → ⊥) → kind < 12 → 0 ≡ number_in ws row
-  unfolding number_in
-  no_number d l = rw (sym e, ne_eqb kind 11 d, lt-leb 12 kind l)
-
-  pub count_of_function : (r : ℕ) → kind ≡ 11 → r ≡ get_or ws (row + 3) 0 → r + 1 ≡ count_in ws row
-  unfolding count_in
-  count_of_function r k x = ap (λ (y : ℕ). y + 1) x ∙ rw (sym e, eq-eqb kind 11 k)
-
-  pub count_of_flat : (kind ≡ 11 → ⊥) → kind < 6 → 0 ≡ count_in ws row
-  unfolding count_in
-  count_of_flat d l = rw (sym e, ne_eqb kind 11 d, lt-ltb kind 6 l)
-
-  pub count_of_container : (kind ≡ 11 → ⊥) → 6 ≤ kind → kind < 11 → 1 ≡ count_in ws row
-  unfolding count_in
-  count_of_container d l m = rw (sym e, ne_eqb kind 11 d, le-ltb kind 6 l, lt-ltb kind 11 m)
-
-  pub count_of_name : (kind ≡ 11 → ⊥) → 6 ≤ kind → 11 ≤ kind → 0 ≡ count_in ws row
-  unfolding count_in
-  count_of_name d l m = rw (sym e, ne_eqb kind 11 d, le-ltb kind 6 l, le-ltb kind 11 m)
-
-  pub part_argument : (at i start count r : ℕ) → kind ≡ 11 → count ≡ get_or ws (row + 3) 0 → i < count
-      → start ≡ get_or ws (row + 2) 0 → r ≡ get_or ws (at + (start + i)) 0 → r ≡ part_in ws at row i
-  unfolding part_in
-  part_argument at i start count r k c l s x = x ∙ rw (sym e, eq-eqb kind 11 k, sym c, lt-ltb i count l, sym s)
-
-  pub part_range : (at i count r : ℕ) → kind ≡ 11 → count ≡ get_or ws (row + 3) 0 → count ≤ i → r ≡ get_or ws (row + 1) 0 → r ≡ part_in ws at row i
-  unfolding part_in
-  part_range at i count r k c l x = x ∙ rw (sym e, eq-eqb kind 11 k, sym c, le-ltb i count l)
-
-  pub part_only : (at i r : ℕ) → (kind ≡ 11 → ⊥) → r ≡ get_or ws (row + 1) 0 → r ≡ part_in ws at row i
-  unfolding part_in
-  part_only at i r d x = x ∙ rw (sym e, ne_eqb kind 11 d)
+use Rattle.infer_nodes.specs.Inner.Parts.{NodesReady, var_at, number_by, count_by, part_by, entry_in, SmallCount, RowAt, Says}
+use Rattle.infer_nodes.proofs.Shapes.{at_sort, at_node, shape_of_node, shape_of_variable}
 
 -- a run and the range behind it
 module _ (entry : ℕ → ℕ) (entries : ℕ → ℕ → List ℕ) (R : Runs entry entries) where
@@ -88,22 +46,6 @@ module _ (entry : ℕ → ℕ) (entries : ℕ → ℕ → List ℕ) (R : Runs en
 
   pub range_of : (s c r : ℕ) → get_or (entries s c ++ (r ∷ [])) c 0 ≡ r
   range_of s c r = ap (λ (j : ℕ). get_or (entries s c ++ (r ∷ [])) j 0) (sym (run_length entry entries R s c)) ∙ get_or-append_seam (entries s c) r [] 0
-
--- what a row of these words says of head and parts
-abbrev number_by : ℕ → ℕ → ℕ → ℕ
-number_by k part count = cond (eqb k 11) count (cond (leb 12 k) part 0)
-
-abbrev count_by : ℕ → ℕ → ℕ
-count_by k count = cond (eqb k 11) (count + 1) (cond (ltb k 6) 0 (cond (ltb k 11) 1 0))
-
-abbrev part_by : (ℕ → ℕ) → ℕ → ℕ → ℕ → ℕ → ℕ → ℕ
-part_by entry k part start count i = cond (eqb k 11) (cond (ltb i count) (entry (start + i)) part) part
-
-pub record Says (s : Shape) (entry : ℕ → ℕ) (k part start count : ℕ) : Type 0 where
-  pub kind : k ≡ kind_head (head_of s)
-  pub number : number_by k part count ≡ number_head (head_of s)
-  pub many : count_by k count ≡ length (parts_of s)
-  pub each : (i : ℕ) → i < length (parts_of s) → part_by entry k part start count i ≡ get_or (parts_of s) i 0
 
 one_part : (entry : ℕ → ℕ) (part x : ℕ) → part ≡ x → (i : ℕ) → i < 1 → part ≡ get_or (x ∷ []) i 0
 one_part entry part x e zero l = e
@@ -195,10 +137,10 @@ module _ (ws : List ℕ) (part start count : ℕ) where
       go false e (yes i) = subst NodeSays (sym i) variable_says
       go false e (no i) = λ f. not_known k (leb-false k 13 e) i f
 
-sort_no_var : (ws : List ℕ) (r : ResolvedSort) → var_at (sort_shape ws r) ≡ Nothing
+sort_no_var : (ws : List ℕ) (r : ResolvedSort) → var_at (sort_shape ws r) ≡ None
 sort_no_var ws r = go (sort_shape ws r) refl
   where
-    go : (s : Shape) → sort_shape ws r ≡ s → var_at s ≡ Nothing
+    go : (s : Shape) → sort_shape ws r ≡ s → var_at s ≡ None
     go (variable v) e = sort_no_variable ws v r e
     go (over h ps) e = refl
 
@@ -219,7 +161,7 @@ module _ (ws ns : List ℕ) (k : Lengths) (q : NodesReady ws ns k) (p : ℕ) (e 
   row_is_fine l = sort_fine ws k.sorts k.entries ns k.nodes k.arguments k.variables q p (sort_below k.sorts k.nodes p l e)
 
   module _ (l : p < max_sorts) where
-    says_sort : Says s (entry_at ws) (kind_at ws p) (part_at ws p) (start_at ws p) (count_at ws p)
+    pub says_sort : Says s (entry_at ws) (kind_at ws p) (part_at ws p) (start_at ws p) (count_at ws p)
     unfolding row_fine_of
     says_sort =
         subst (λ x. Says x (entry_at ws) (kind_at ws p) (part_at ws p) (start_at ws p) (count_at ws p)) (sym (at_sort ws ns k q p e l))
@@ -227,28 +169,14 @@ module _ (ws ns : List ℕ) (k : Lengths) (q : NodesReady ws ns k) (p : ℕ) (e 
         ((and-eq-true_iff (leb (kind_at ws p) 13) (parts_below ws k.entries p (row_at ws p))).0
         (row_is_fine l)).0))
 
-    pub kind_of_sort : (r : ℕ) → r ≡ get_or ws (4 * p) 0 → r ≡ kind_head (head_of s)
-    kind_of_sort r x = x ∙ says_sort.kind
-
-    pub number_of_sort : (r : ℕ) → r ≡ number_in ws (4 * p) → r ≡ number_head (head_of s)
-    unfolding number_in
-    number_of_sort r x = x ∙ says_sort.number
-
-    pub count_of_sort : (r : ℕ) → r ≡ count_in ws (4 * p) → r ≡ length (parts_of s)
-    unfolding count_in
-    count_of_sort r x = x ∙ says_sort.many
-
     pub small_sort : SmallCount ws (4 * p)
     small_sort f = (run_inside ws k.entries p (row_is_fine l) f).short
 
-    pub part_of_sort : (i r : ℕ) → i < length (parts_of s) → r ≡ part_in ws 4096 (4 * p) i → r ≡ get_or (parts_of s) i 0
-    unfolding part_in
-    part_of_sort i r m x = x ∙ says_sort.each i m
+    pub row_of_sort : (x : ℕ) → x ≡ p → (a b c d : ℕ) (us : List ℕ) (at : ℕ) → RowAt ws (4 * x) 4096 a b c d us at
+        → Says s (entry_in us at) a b c d
+    row_of_sort x y a b c d us at r = rw (r.is_kind, r.is_part, r.is_start, r.is_count, r.is_words, r.is_at, y) says_sort
 
-    pub sort_row : 4 * p ≤ 8192
-    sort_row = omega (arith, l)
-
-    pub no_variable : Nothing ≡ var_at s
+    pub no_variable : None ≡ var_at s
     no_variable = sym (ap var_at (at_sort ws ns k q p e l) ∙ sort_no_var ws (row_at ws p))
 
   module _ (l : max_sorts ≤ p) where
@@ -258,47 +186,40 @@ module _ (ws ns : List ℕ) (k : Lengths) (q : NodesReady ws ns k) (p : ℕ) (e 
     node_is_fine : node_fine ns k.arguments k.sorts k.variables j ≡ true
     node_is_fine = node_fine_lem ws k.sorts k.entries ns k.nodes k.arguments k.variables q j (node_below k.sorts k.nodes p l e)
 
-    says_node : Says s (node_entry_at ns) (node_kind_at ns j) (node_part_at ns j) (node_start_at ns j) (node_count_at ns j)
+    pub says_node : Says s (node_entry_at ns) (node_kind_at ns j) (node_part_at ns j) (node_start_at ns j) (node_count_at ns j)
     says_node =
         subst (λ x. Says x (node_entry_at ns) (node_kind_at ns j) (node_part_at ns j) (node_start_at ns j) (node_count_at ns j)) (sym (at_node ws ns k q p e l))
         (node_says ns (node_part_at ns j) (node_start_at ns j) (node_count_at ns j) (node_kind_at ns j) (node_fine_parts ns
         k.arguments k.sorts k.variables j node_is_fine).0)
-
-    pub kind_of_node : (r : ℕ) → r ≡ get_or ns (4 * j) 0 → r ≡ kind_head (head_of s)
-    kind_of_node r x = x ∙ says_node.kind
-
-    pub number_of_node : (r : ℕ) → r ≡ number_in ns (4 * j) → r ≡ number_head (head_of s)
-    unfolding number_in
-    number_of_node r x = x ∙ says_node.number
-
-    pub count_of_node : (r : ℕ) → r ≡ count_in ns (4 * j) → r ≡ length (parts_of s)
-    unfolding count_in
-    count_of_node r x = x ∙ says_node.many
 
     pub small_node : SmallCount ns (4 * j)
     small_node f =
         function_small ns k.arguments k.sorts k.variables j f
         (node_fine_parts ns k.arguments k.sorts k.variables j node_is_fine).1
 
-    pub part_of_node : (i r : ℕ) → i < length (parts_of s) → r ≡ part_in ns 8192 (4 * j) i → r ≡ get_or (parts_of s) i 0
-    unfolding part_in
-    part_of_node i r m x = x ∙ says_node.each i m
+    pub row_of_node : (x : ℕ) → x ≡ j → (a b c d : ℕ) (us : List ℕ) (at : ℕ) → RowAt ns (4 * x) 8192 a b c d us at
+        → Says s (entry_in us at) a b c d
+    row_of_node x y a b c d us at r = rw (r.is_kind, r.is_part, r.is_start, r.is_count, r.is_words, r.is_at, y) says_node
 
-    pub node_row : 4 * j ≤ 8192
-    node_row = omega (arith, node_below k.sorts k.nodes p l e, q.nodes)
+  -- a node that is a variable, and one that is none
+  module _ (l : max_sorts ≤ p) (r : InferSort) (i : r ≡ node_at ns (p - max_sorts)) where
+    pub node_variable : (v : SortVar) → r ≡ Var v → Some v ≡ var_at s
+    node_variable v x = sym (ap var_at (shape_of_variable ws ns k q p e l r i v x))
 
--- a node that is no variable, and one that is
-pub node_not_variable : (s : Shape) (h : Head) (ps : List ℕ) → s ≡ over h ps → Nothing ≡ var_at s
-node_not_variable s h ps x = sym (ap var_at x)
-
-pub node_variable : (s : Shape) (v : SortVar) → s ≡ variable v.0 → Is v ≡ var_at s
-node_variable s v x = sym (ap var_at x)
+    pub node_not_variable : ((v : SortVar) → r ≡ Var v → ⊥) → None ≡ var_at s
+    unfolding node_shape
+    node_not_variable d = sym (ap var_at (shape_of_node ws ns k q p e l r i) ∙ go r d)
+      where
+        go : (t : InferSort) → ((v : SortVar) → t ≡ Var v → ⊥) → var_at (node_shape ns t) ≡ None
+        go (Generic op t) h = refl
+        go (Function d t) h = refl
+        go (Var v) h = absurd (h v refl)
 
 -- equal kinds and equal numbers
 module _ (h g : Head) (a b : ℕ) (ea : a ≡ kind_head h) (eb : b ≡ kind_head g) where
-  pub other_kind : (a ≡ b → ⊥) → false ≡ same_head h g
+  pub other_kinds : (a ≡ b → ⊥) → eqb a b ≡ same_head h g
   unfolding same_head
-  other_kind d = rw (sym ea, sym eb, ne_eqb a b d)
+  other_kinds d = ne_eqb a b d ∙ rw (sym ea, sym eb, ne_eqb a b d)
 
   pub by_number : (x y : ℕ) → a ≡ b → x ≡ number_head h → y ≡ number_head g → eqb x y ≡ same_head h g
   unfolding same_head

@@ -1,6 +1,6 @@
 -- Where bindings lead, and whether a variable occurs: what the code meets, by the equations of `follow` and `occurs` on checked lists. Ranks fall
 -- from a variable to what it is bound to and from a node to its parts. Assumes nothing.
-use mathlib.Core.Path.{◌≡◌, refl, ap, sym, ◌∙◌, subst}
+use mathlib.Core.Path.{◌≡◌, refl, ap, ap₂, sym, ◌∙◌, subst}
 use mathlib.Core.List.{List, [], ◌∷◌, ◌++◌}
 use mathlib.Core.Option.{none, some}
 use mathlib.Core.Bool.{Bool, true, false}
@@ -14,12 +14,14 @@ use Rattle.resolved_sort.specs.declared.ComplexSort.{ComplexSort}
 use Rattle.resolved_sort.specs.declared.ResolvedSort.{ResolvedSort}
 use Rattle.resolved_sort.specs.Storage.{max_sorts, row_at}
 use Rattle.resolved_sort.proofs.Reached.{no_confusion}
+use Rattle.std.specs.Prelude.{Option as Found, Some, None}
 use Rattle.unification.specs.declared.Lengths.{Lengths}
 use Rattle.unification.specs.declared.InferSortId.{InferSortId}
 use Rattle.unification.specs.declared.SortVar.{SortVar}
 use Rattle.unification.specs.declared.InferSort.{InferSort}
 use Rattle.unification.specs.declared.InferSort.TheVariants.{Generic, Function, Var}
 use Rattle.unification.specs.Term.{container_head, function_head, Shape, variable, over}
+use Rattle.unification.specs.Inner.Term.{head_of, parts_of}
 use Rattle.unification.specs.Nodes.{node_kind_at, node_part_at, node_start_at, node_count_at, node_entry_at, node_entries_of}
 use Rattle.unification.specs.Nodes.{op_of_kind, inferred, node_at, sort_shape, node_shape, is_place, Binds, binding}
 use Rattle.unification.specs.Nodes.{binding_of, binds_of}
@@ -34,12 +36,10 @@ use Rattle.unification.proofs.Rows.{FunctionFine, node_function_fine, sort_parts
 use Rattle.unification.proofs.Follow.{follow_holds, follow_end, follow_names}
 use Rattle.unification.proofs.Theorem.{ready_ranked}
 use Rattle.unification.proofs.Enough.{follow_eq, occurs_eq, end_no_higher}
-use Rattle.unification.proofs.Lists.{sort_parts_fine}
+use Rattle.unification.proofs.Lists.{sort_parts_fine, scoped}
 use Rattle.infer_nodes.specs.Inner.Bound.{bound_to, RunPlaced}
+use Rattle.infer_nodes.specs.Inner.Parts.{var_at}
 use Rattle.infer_nodes.proofs.Shapes.{at_sort, shape_of_node, parts_fine, shape_of_variable, variable_in_list}
-
-abbrev ops : List ComplexSort
-ops = ComplexSort.List ∷ ComplexSort.Set ∷ ComplexSort.FSet ∷ ComplexSort.Bag ∷ []
 
 -- bindings as words
 pub binding_word : (bs : List ℕ) (n v : ℕ) → v < n → binding (binds_of bs n) v ≡ binding_of (get_or bs v 0)
@@ -62,34 +62,27 @@ or_absent absent = refl
 or_absent present = refl
 or_absent unknown = refl
 
+-- the variable that was found at a place stands there
+pub is_variable : (s : Shape) (v : SortVar) → Some v ≡ var_at s → s ≡ variable v.0
+is_variable (variable u) v e = let z : v.0 ≡ u = cc in ap variable (sym z)
+is_variable (over h ps) v e = no_confusion (cc)
+
+pub is_solid : (s : Shape) → None ≡ var_at s → s ≡ over (head_of s) (parts_of s)
+is_solid (variable u) e = no_confusion (cc)
+is_solid (over h ps) e = refl
+
 -- bindings were followed from p to `end`
 pub record Following (shape : ℕ → Shape) (B : Binds) (k : Lengths) (p end : ℕ) : Type 0 where
   pub same : follow shape deep B p ≡ follow shape deep B end
   pub placed : Placed k end
 
--- of the c arguments from s on, those before `at` do not hold the variable u; `left` of them are left
-pub record Searching (shape : ℕ → Shape) (B : Binds) (ns : List ℕ) (k : Lengths) (u s c at left : ℕ) : Type 0 where
-  pub same : occurs_any shape (occurs shape deep B u) (node_entries_of ns s c) ≡ occurs_any shape (occurs shape deep B u) (node_entries_of ns at left)
-  pub run : RunPlaced ns k at left
-  pub lower : highest (rank shape deep B) (node_entries_of ns at left) ≤ highest (rank shape deep B) (node_entries_of ns s c)
+-- of the c arguments from s on, the first i do not hold the variable u
+pub record Searching (shape : ℕ → Shape) (B : Binds) (ns : List ℕ) (k : Lengths) (u s c i : ℕ) : Type 0 where
+  pub same : occurs_any shape (occurs shape deep B u) (node_entries_of ns s c) ≡ occurs_any shape (occurs shape deep B u) (node_entries_of ns (s + i) (c - i))
+  pub run : RunPlaced ns k (s + i) (c - i)
+  pub lower : highest (rank shape deep B) (node_entries_of ns (s + i) (c - i)) ≤ highest (rank shape deep B) (node_entries_of ns s c)
 
 -- a node by its kind
-pub op_first : (kind : ℕ) → kind ≤ 6 → ComplexSort.List ≡ op_of_kind kind
-op_first kind l = ap (λ (j : ℕ). get_or ops j ComplexSort.FBag) (let z : 0 ≡ kind - 6 = omega (arith, l) in z)
-
-pub op_at : (j kind : ℕ) → kind ≡ 6 + j → get_or ops j ComplexSort.FBag ≡ op_of_kind kind
-op_at j kind e = ap (λ (i : ℕ). get_or ops i ComplexSort.FBag) (let z : j ≡ kind - 6 = omega (arith, e) in z)
-
-past_ops : (j : ℕ) → 4 ≤ j → ComplexSort.FBag ≡ get_or ops j ComplexSort.FBag
-past_ops zero l = absurd (omega (arith, l))
-past_ops (suc zero) l = absurd (omega (arith, l))
-past_ops (suc (suc zero)) l = absurd (omega (arith, l))
-past_ops (suc (suc (suc zero))) l = absurd (omega (arith, l))
-past_ops (suc (suc (suc (suc j)))) l = refl
-
-pub op_last : (kind : ℕ) → 10 ≤ kind → ComplexSort.FBag ≡ op_of_kind kind
-op_last kind l = past_ops (kind - 6) (omega (arith, l))
-
 module _ (ns : List ℕ) (i kind part : ℕ) (ek : kind ≡ node_kind_at ns i) (ep : part ≡ node_part_at ns i) where
   pub says_function : (start count : ℕ) → start ≡ node_start_at ns i → count ≡ node_count_at ns i → kind ≡ 11
       → Function (record { start = start; count = count }) (record { 0 = part }) ≡ node_at ns i
@@ -118,22 +111,11 @@ module _ (ws ns bs : List ℕ) (k : Lengths) (q : Ready ws ns bs k) where
   ρ = rank shape deep B
 
   -- what the variable at a place is bound to
-  pub sort_not_bound : (p : ℕ) → Placed k p → p < max_sorts → none ≡ bound_to (shape p) B
-  sort_not_bound p e l = sym (ap (λ s. bound_to s B) (at_sort ws ns k q.nodes p e l) ∙ sort_bound ws (row_at ws p) B)
-
-  module _ (p : ℕ) (e : Placed k p) (l : max_sorts ≤ p) (r : InferSort) (i : r ≡ node_at ns (p - max_sorts)) where
-    pub generic_not_bound : (op : ComplexSort) (s : InferSortId) → r ≡ Generic op s → none ≡ bound_to (shape p) B
-    unfolding node_shape
-    generic_not_bound op s x = sym (ap (λ y. bound_to y B) (shape_of_node ws ns k q.nodes p e l r i ∙ ap (node_shape ns) x))
-
-    pub function_not_bound : (d : Run) (s : InferSortId) → r ≡ Function d s → none ≡ bound_to (shape p) B
-    unfolding node_shape
-    function_not_bound d s x = sym (ap (λ y. bound_to y B) (shape_of_node ws ns k q.nodes p e l r i ∙ ap (node_shape ns) x))
-
-    module _ (u : SortVar) (x : r ≡ Var u) where
-      pub variable_bound : binding_of (get_or bs u.0 0) ≡ bound_to (shape p) B
-      variable_bound = sym (ap (λ y. bound_to y B) (shape_of_variable ws ns k q.nodes p e l r i u x) ∙ binding_word
-          bs k.variables u.0 (variable_in_list ws ns k q.nodes p e l r i u x))
+  pub variable_bound : (p : ℕ) (x : Found SortVar) (u : SortVar) → x ≡ var_at (shape p) → x ≡ Some u
+      → binding_of (get_or bs u.0 0) ≡ bound_to (shape p) B
+  variable_bound p x u e f =
+      let s = is_variable (shape p) u (sym f ∙ e) in
+      sym (ap (λ y. bound_to y B) s ∙ binding_word bs k.variables u.0 (scoped ws k.sorts k.entries ns k.nodes k.arguments k.variables q.nodes p u.0 s))
 
   -- following
   pub begun : (p : ℕ) → Placed k p → Following shape B k p p
@@ -298,9 +280,17 @@ module _ (ws ns bs : List ℕ) (k : Lengths) (q : Ready ws ns bs k) where
         occurs_in_range b c y z w = by_parts ∙ (ap (λ o. or_else o (occurs shape deep B u s.0)) (y ∙ ap of_test z) ∙ w)
 
   -- a run of arguments
-  module _ (u s c : ℕ) (r : RunPlaced ns k s c) where
-    pub search_begins : Searching shape B ns k u s c s c
-    search_begins = record { same = refl; run = r; lower = omega arith }
+  module _ (s c : ℕ) (r : RunPlaced ns k s c) where
+    pub search_begins : (u : ℕ) → Searching shape B ns k u s c 0
+    search_begins u =
+        let z : s ≡ s + 0 = omega arith in
+        let y : c ≡ c - 0 = omega arith in
+        record {
+          same = ap₂ (λ (x j : ℕ). occurs_any shape (occurs shape deep B u) (node_entries_of ns x j)) z y;
+          run = subst (λ (j : ℕ). RunPlaced ns k (s + 0) j) y (subst (λ (x : ℕ). RunPlaced ns k x c) z r);
+          lower = let w : highest ρ (node_entries_of ns s c) ≡ highest ρ (node_entries_of ns (s + 0) (c - 0)) = ap₂
+              (λ (x j : ℕ). highest ρ (node_entries_of ns x j)) z y in omega (arith, w);
+        }
 
     module _ (d : 0 < c) where
       pub one_and_rest : node_entries_of ns s c ≡ node_entry_at ns s ∷ node_entries_of ns (s + 1) (c - 1)
@@ -319,44 +309,47 @@ module _ (ws ns bs : List ℕ) (k : Lengths) (q : Ready ws ns bs k) where
           }
 
   -- a search through a run
-  module _ (u s c at left : ℕ) (g : Searching shape B ns k u s c at left) where
+  module _ (u s c i : ℕ) (g : Searching shape B ns k u s c i) where
     abbrev any : List ℕ → Occurs
     any = occurs_any shape (occurs shape deep B u)
 
-    pub none_in_run : left ≡ 0 → any (node_entries_of ns s c) ≡ absent
+    pub none_in_run : c ≤ i → any (node_entries_of ns s c) ≡ absent
     unfolding node_entries_of
-    none_in_run e = g.same ∙ rw e
+    none_in_run e = g.same ∙ ap (λ (j : ℕ). any (node_entries_of ns (s + i) j)) (let z : c - i ≡ 0 = omega (arith, e) in z)
 
-    module _ (d : left ≡ 0 → ⊥) (x : ℕ) (e : x ≡ node_entry_at ns at) where
-      some_left : 0 < left
-      some_left = omega (arith, d)
+    module _ (d : i < c) where
+      pub inside : s + i < k.arguments
+      inside = omega (arith, g.run.inside, d)
 
-      abbrev others : List ℕ
-      others = node_entries_of ns (at + 1) (left - 1)
+      module _ (x : ℕ) (e : x ≡ node_entry_at ns (s + i)) where
+        abbrev others : List ℕ
+        others = node_entries_of ns (s + (i + 1)) (c - (i + 1))
 
-      one_and_others : node_entries_of ns at left ≡ x ∷ others
-      one_and_others = one_and_rest u at left g.run some_left ∙ ap (λ (y : ℕ). y ∷ others) (sym e)
+        one_and_others : node_entries_of ns (s + i) (c - i) ≡ x ∷ others
+        one_and_others =
+            let a : s + (i + 1) ≡ s + i + 1 = omega arith in
+            let b : c - (i + 1) ≡ c - i - 1 = omega arith in
+            one_and_rest (s + i) (c - i) g.run (omega (arith, d)) ∙ rw (sym e, a, b)
 
-      pub one_placed : Placed k x
-      one_placed = subst (Placed k) (sym e) (first_placed u at left g.run some_left)
+        pub one_placed : Placed k x
+        one_placed = subst (Placed k) (sym e) (first_placed (s + i) (c - i) g.run (omega (arith, d)))
 
-      pub one_lower : ρ x < highest ρ (node_entries_of ns s c)
-      one_lower = let y : ρ x < highest ρ (node_entries_of ns at left) = rw one_and_others (omega arith) in omega (arith, y, g.lower)
+        pub one_lower : ρ x < highest ρ (node_entries_of ns s c)
+        one_lower = let y : ρ x < highest ρ (node_entries_of ns (s + i) (c - i)) = rw one_and_others (omega arith) in omega (arith, y, g.lower)
 
-      pub more_inside : at + 1 ≤ k.arguments
-      more_inside = omega (arith, g.run.inside, d)
+        module _ (b : Bool) (o : occurs shape deep B u x ≡ of_test b) where
+          one_then_others : any (node_entries_of ns s c) ≡ or_else (of_test b) (any others)
+          one_then_others = g.same ∙ (ap any one_and_others ∙ ap (λ y. or_else y (any others)) o)
 
-      module _ (b : Bool) (o : occurs shape deep B u x ≡ of_test b) where
-        one_then_others : any (node_entries_of ns s c) ≡ or_else (of_test b) (any others)
-        one_then_others = g.same ∙ (ap any one_and_others ∙ ap (λ y. or_else y (any others)) o)
+          pub in_one : b ≡ true → any (node_entries_of ns s c) ≡ of_test true
+          in_one z = one_then_others ∙ rw z
 
-        pub in_one : b ≡ true → any (node_entries_of ns s c) ≡ of_test true
-        in_one z = one_then_others ∙ rw z
-
-        pub search_goes_on : b ≡ false → Searching shape B ns k u s c (at + 1) (left - 1)
-        search_goes_on z =
-            record {
-              same = one_then_others ∙ rw z;
-              run = rest_placed u at left g.run some_left;
-              lower = let w : highest ρ others ≤ highest ρ (node_entries_of ns at left) = rw one_and_others (omega arith) in omega (arith, w, g.lower);
-            }
+          pub search_goes_on : b ≡ false → Searching shape B ns k u s c (i + 1)
+          search_goes_on z =
+              record {
+                same = one_then_others ∙ rw z;
+                run = let a : s + (i + 1) ≡ s + i + 1 = omega arith in
+                    let h : c - (i + 1) ≡ c - i - 1 = omega arith in
+                    rw (a, h) (rest_placed (s + i) (c - i) g.run (omega (arith, d)));
+                lower = let w : highest ρ others ≤ highest ρ (node_entries_of ns (s + i) (c - i)) = rw one_and_others (omega arith) in omega (arith, w, g.lower);
+              }

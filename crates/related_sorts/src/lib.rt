@@ -22,9 +22,7 @@ ghost use Rattle.related_sorts.specs.Inner.Outcome.{place_before, places_after, 
 ghost use Rattle.related_sorts.specs.Inner.Ranges.{related_head, over_function, outwards, Stands, AllStand};
 ghost use Rattle.related_sorts.specs.Inner.Ranges.{FinalRange, SixThere};
 
-use infer_nodes::{
-    counts_of, kind_at, node, part, part_count, shallow_normalize, taken_apart, with_counts,
-};
+use infer_nodes::{Bindings, Places, counts_of, node, taken_apart, with_counts};
 use resolved_sort::{
     ARGUMENT_WORDS, ComplexSort, FUNCTION_KIND, Joined, OpBound, ResolvedSort, Sort, SortId,
 };
@@ -160,22 +158,15 @@ fn push(
 }
 
 // The first count parts of the sort at a place, as words to be stored.
-fn arguments(
-    sorts: &[u16],
-    nodes: &[u16],
-    lengths: Lengths,
-    id: InferSortId,
-    count: u16,
-) -> [u16; ARGUMENT_WORDS]
-    requires { IsFunction sorts.now nodes.now lengths id.0 count }
+fn arguments(places: &Places, id: InferSortId, count: u16) -> [u16; ARGUMENT_WORDS]
+    requires { IsFunction places.now.sorts.now places.now.nodes.now places.now.lengths id.0 count }
     ensures { take count result
-        ≡ take count (parts_of (graph_of sorts.now nodes.now lengths id.0)) }
+        ≡ take count (parts_of (graph_of places.now.sorts.now places.now.nodes.now
+        places.now.lengths id.0)) }
 {
     let mut words = [0u16; ARGUMENT_WORDS];
-    let mut i: u16 = 0;
-    while i < count {
-        words[i as usize] = part(sorts, nodes, lengths, id, i).0;
-        i += 1;
+    for i in 0..count {
+        words[i as usize] = places.part(id, i).0;
     }
     words
 }
@@ -385,8 +376,14 @@ fn strict_related_sorts(
         (strict_related up (binds_of binds.now lengths.variables) id.0
         (lent sorts.old nodes.old lengths)) }
 {
-    let end = shallow_normalize(sorts, nodes, binds, lengths, id);
-    if kind_at(sorts, nodes, lengths, end) == FUNCTION_KIND {
+    let places = Places {
+        sorts: &*sorts,
+        nodes: &*nodes,
+        lengths,
+    };
+    let bindings = Bindings { places, binds };
+    let end = bindings.shallow_normalize(id);
+    if places.kind_at(end) == FUNCTION_KIND {
         return related_function(sorts, nodes, binds, lengths, end, up);
     }
     related_head(sorts, nodes, lengths, end, up)
@@ -462,7 +459,12 @@ fn related_function(
         (lent sorts.old nodes.old lengths)) }
 {
     let mut functions = [0u16; MAX_PLACES];
-    let last = final_range(sorts, nodes, binds, lengths, id, &mut functions);
+    let places = Places {
+        sorts: &*sorts,
+        nodes: &*nodes,
+        lengths,
+    };
+    let last = final_range(&Bindings { places, binds }, id, &mut functions);
     let range = last.range;
     let found = related_head(sorts, nodes, lengths, range, up);
     over_functions(sorts, nodes, &functions, last.count, found)
@@ -476,35 +478,22 @@ struct Last {
     range: InferSortId,
 }
 
-fn final_range(
-    sorts: &[u16],
-    nodes: &[u16],
-    binds: &[u16],
-    lengths: Lengths,
-    id: InferSortId,
-    functions: &mut [u16],
-) -> Last
-    requires { Ready sorts.now nodes.now binds.now lengths
-        × Placed lengths id.0
-        × (max_places ≤ length functions.old) }
-    ensures { FinalRange sorts.now nodes.now binds.now lengths id.0
+fn final_range(bindings: &Bindings, id: InferSortId, functions: &mut [u16]) -> Last
+    requires { Placed bindings.now.places.lengths id.0 × (max_places ≤ length functions.old) }
+    ensures { FinalRange bindings.now.places.sorts.now bindings.now.places.nodes.now
+        bindings.now.binds.now bindings.now.places.lengths id.0
         functions.new result }
 {
-    let mut end = id.0;
+    let places = bindings.places;
+    let mut range = id;
     let mut count: u16 = 0;
-    let mut kind = kind_at(sorts, nodes, lengths, InferSortId(end));
-    while kind == FUNCTION_KIND {
-        functions[count as usize] = end;
+    while places.kind_at(range) == FUNCTION_KIND {
+        functions[count as usize] = range.0;
         count += 1;
-        let arguments = part_count(sorts, nodes, lengths, InferSortId(end)) - 1;
-        let range = part(sorts, nodes, lengths, InferSortId(end), arguments);
-        end = shallow_normalize(sorts, nodes, binds, lengths, range).0;
-        kind = kind_at(sorts, nodes, lengths, InferSortId(end));
+        let last = places.part_count(range) - 1;
+        range = bindings.shallow_normalize(places.part(range, last));
     }
-    Last {
-        count,
-        range: InferSortId(end),
-    }
+    Last { count, range }
 }
 
 // The functions over what was found for their final range, the innermost first.
@@ -539,8 +528,13 @@ fn over_function(sorts: &[u16], nodes: &mut [u16], id: InferSortId, found: Relat
 {
     match found {
         Related::These(ranges, lengths) => {
-            let count = part_count(sorts, nodes, lengths, id) - 1;
-            let domain = arguments(sorts, nodes, lengths, id, count);
+            let places = Places {
+                sorts,
+                nodes: &*nodes,
+                lengths,
+            };
+            let count = places.part_count(id) - 1;
+            let domain = arguments(&places, id, count);
             push_functions(sorts, nodes, lengths, ranges, domain, count)
         }
         Related::NoList(lengths) => Related::NoList(lengths),

@@ -282,16 +282,16 @@ module _ (ws ns bs : List ℕ) (k : Lengths) (q : Ready ws ns bs k) (x : Default
       rest = terms_at val (node_entries_of ns (s + 1) (m - 1))
 
       first_and_rest : run ≡ part (val a) rest
-      first_and_rest = ap (terms_at val) (ways.one_and_rest ws ns bs k q 0 s m r h)
+      first_and_rest = ap (terms_at val) (ways.one_and_rest ws ns bs k q s m r h)
 
       first_here : Placed k a
-      first_here = ways.first_placed ws ns bs k q 0 s m r h
+      first_here = ways.first_placed ws ns bs k q s m r h
 
       pub first_placed : Placed k a₀
       first_placed = subst (Placed k) (sym e₀) first_here
 
       rest_run : RunPlaced ns k (s + 1) (m - 1)
-      rest_run = ways.rest_placed ws ns bs k q 0 s m r h
+      rest_run = ways.rest_placed ws ns bs k q s m r h
 
       pub first_falls : size (val a₀) + sizes rest ≡ sizes run
       unfolding sizes

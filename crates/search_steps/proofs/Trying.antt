@@ -13,7 +13,7 @@ use Rattle.unification.specs.Nodes.{Binds, binds_of}
 use Rattle.unification.specs.Unify.{Unifies, and_then as after-yes, unify}
 use Rattle.unification.specs.Checked.{graph_of, Placed}
 use Rattle.unification.specs.declared.InferSortId.{InferSortId}
-use Rattle.unification.specs.Trail.{TryLeaves}
+use Rattle.unification.specs.Trail.{TryLeaves, count_of, is_yes}
 use Rattle.unifier.specs.Inner.Trying.{Trying}
 use Rattle.unifier.proofs.Tries.{then_no, then_on, trying_on}
 use Rattle.search_state.specs.declared.Branch.{Branch}
@@ -54,7 +54,7 @@ module _ (ws ns : List ℕ) (k : Lengths) (U : Unifies) (bs sc : List ℕ) (c : 
         → TriesPairs ws ns k (after-yes U g) bs sc c bs₂ sc₂ r
     then_also d t bs₂ sc₂ r u =
         record {
-          tries = then_on ws ns k U g bs (take trail_words sc) c bs₁ (take trail_words sc₁) d t.tries bs₂ (take trail_words sc₂) r u.tries;
+          tries = then_on ws ns k U g bs (take trail_words sc) c bs₁ (take trail_words sc₁) d t.tries bs₂ (take trail_words sc₂) (count_of r) (is_yes r) u.tries;
           rest = u.rest ∙ t.rest;
           long = u.long ∙ t.long;
         }

@@ -1,5 +1,5 @@
 -- The trail: the variables bound, one after another, and how they are freed again, the last one first.
-use Rattle.std.specs.Prelude.{◌≡◌, List, [], ◌∷◌, ℕ, zero, suc, ◌+◌, ◌-◌, ◌≤◌, get_or, set, take, drop}
+use Rattle.std.specs.Prelude.{◌≡◌, Bool, true, false, List, [], ◌∷◌, ℕ, zero, suc, ◌+◌, ◌-◌, ◌≤◌, get_or, set, take, drop}
 use Rattle.std.proofs.Math.Option.{Option, none, some}
 use Rattle.unification.specs.declared.Lengths.{Lengths}
 use Rattle.unification.specs.declared.Tried.{Tried}
@@ -22,23 +22,35 @@ abbrev pub frees : Binds → ℕ
 frees [] = 0
 frees (o ∷ B) = frees_at o (frees B)
 
+-- what the answer and the bindings left say
+abbrev pub answer_by : Bool → Binds → Unifies
+answer_by true B = yes_with B
+answer_by false B = no_way
+
+-- A try with the answer U, from the bindings bs and c variables on the trail: what it leaves, where d variables are on
+-- the trail and it answers r. After a yes the bindings are those of U; after either answer undoing the trail gives back
+-- what was there before, each variable on the trail has been free, and the words past the variables are as they were.
+pub record UnifyLeaves (ws ns : List ℕ) (k : Lengths) (U : Unifies) (bs ts : List ℕ) (c : ℕ)
+    (left-bs left-ts : List ℕ) (d : ℕ) (r : Bool) : Type 0 where
+  pub says : U ≡ answer_by r (binds_of left-bs k.variables)
+  pub undone : undo left-ts c (d - c) left-bs ≡ bs
+  pub front : take c left-ts ≡ take c ts
+  pub longer : c ≤ d
+  pub spent : d + frees (binds_of left-bs k.variables) ≡ c + frees (binds_of bs k.variables)
+  pub past : drop k.variables left-bs ≡ drop k.variables bs
+  pub ready : Ready ws ns left-bs k
+
+-- the same of an answer that holds how many variables are on the trail
 abbrev pub count_of : Tried → ℕ
 count_of (Yes c) = c
 count_of (No c) = c
 
-abbrev pub answer_of : Tried → Binds → Unifies
-answer_of (Yes c) B = yes_with B
-answer_of (No c) B = no_way
+abbrev pub is_yes : Tried → Bool
+is_yes (Yes c) = true
+is_yes (No c) = false
 
--- A try with the answer U, from the bindings bs and c variables on the trail: what it leaves. After a yes the bindings
--- are those of U; after either answer undoing the trail gives back what was there before, each variable on the trail
--- has been free, and the words past the variables are as they were.
-pub record TryLeaves (ws ns : List ℕ) (k : Lengths) (U : Unifies) (bs ts : List ℕ) (c : ℕ)
-    (left-bs left-ts : List ℕ) (r : Tried) : Type 0 where
-  pub says : U ≡ answer_of r (binds_of left-bs k.variables)
-  pub undone : undo left-ts c (count_of r - c) left-bs ≡ bs
-  pub front : take c left-ts ≡ take c ts
-  pub longer : c ≤ count_of r
-  pub spent : count_of r + frees (binds_of left-bs k.variables) ≡ c + frees (binds_of bs k.variables)
-  pub past : drop k.variables left-bs ≡ drop k.variables bs
-  pub ready : Ready ws ns left-bs k
+abbrev pub answer_of : Tried → Binds → Unifies
+answer_of r B = answer_by (is_yes r) B
+
+abbrev pub TryLeaves : List ℕ → List ℕ → Lengths → Unifies → List ℕ → List ℕ → ℕ → List ℕ → List ℕ → Tried → Type 0
+TryLeaves ws ns k U bs ts c left-bs left-ts r = UnifyLeaves ws ns k U bs ts c left-bs left-ts (count_of r) (is_yes r)

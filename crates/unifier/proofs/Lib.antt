@@ -3,3 +3,4 @@ pub mod Words
 pub mod Tries
 pub mod Steps
 pub mod TrailVariables
+pub mod Bound

@@ -15,9 +15,7 @@ use borrow.Author.Tests.{eq-eqb, ne_eqb}
 use Rattle.resolved_sort.proofs.Reached.{no_confusion}
 use Rattle.unification.specs.declared.Lengths.{Lengths}
 use Rattle.unification.specs.declared.SortVar.{SortVar}
-use Rattle.unification.specs.declared.VarAt.TheVariants.{Is, Nothing}
-use Rattle.unification.specs.declared.Tried.{Tried}
-use Rattle.unification.specs.declared.Tried.TheVariants.{Yes, No}
+use Rattle.std.specs.Prelude.{Some, None}
 use Rattle.unification.specs.Term.{Head, Shape, variable, over, same_head}
 use Rattle.unification.specs.Inner.Term.{head_of, parts_of}
 use Rattle.unification.specs.Nodes.{Binds, binds_of}
@@ -26,7 +24,7 @@ use Rattle.unification.specs.Unify.{unify_all, unify_heads, unify_variables, uni
 use Rattle.unification.specs.Unify.{unify_followed, unify, deep, deeper}
 use Rattle.unification.specs.Acyclic.{One}
 use Rattle.unification.specs.Checked.{graph_of, Ready, Placed}
-use Rattle.unification.specs.Trail.{frees, TryLeaves}
+use Rattle.unification.specs.Trail.{frees, UnifyLeaves}
 use Rattle.unification.proofs.Rank.{rank, rank_over, one_highest}
 use Rattle.unification.proofs.Parts.{one_at}
 use Rattle.unification.proofs.Follow.{follow_end}
@@ -37,19 +35,10 @@ use Rattle.unification.proofs.Robinson.{unify_kept}
 use Rattle.unification.proofs.Equations.{unify_eq}
 use Rattle.unification.proofs.Theorem.{deep_enough, deeper_enough, ready_ranked}
 use Rattle.infer_nodes.specs.Inner.Parts.{NodesReady, var_at}
-use Rattle.infer_nodes.proofs.Ways.{end_is_placed}
+use Rattle.infer_nodes.proofs.Ways.{is_variable, is_solid, end_is_placed}
 use Rattle.infer_nodes.proofs.Parts.{same_count}
 use Rattle.unifier.specs.Inner.Trying.{Trying, Free, Solid, VariableAt}
 use Rattle.unifier.proofs.Tries.{tries_as, binds_nothing, no_try, then_no, then_on, trying_on}
-
--- what stands at a place, by what was found there
-is_variable : (s : Shape) (v : SortVar) → Is v ≡ var_at s → s ≡ variable v.0
-is_variable (variable u) v e = let z : v.0 ≡ u = cc in ap variable (sym z)
-is_variable (over h ps) v e = no_confusion (cc)
-
-is_solid : (s : Shape) → Nothing ≡ var_at s → s ≡ over (head_of s) (parts_of s)
-is_solid (variable u) e = no_confusion (cc)
-is_solid (over h ps) e = refl
 
 -- two places of as many parts
 pub record Alike (ws ns : List ℕ) (k : Lengths) (l r n : ℕ) : Type 0 where
@@ -66,9 +55,9 @@ work_of ws ns bs k p = frees (binds_of bs k.variables) * deep + rank (graph_of w
 pub record Unifying (ws ns : List ℕ) (k : Lengths) (l r n : ℕ) (U : Unifies) (bs₀ ts₀ : List ℕ) (c₀ : ℕ) (bs ts : List ℕ) (c i : ℕ) : Type 0 where
   pub trying : Trying ws ns bs ts k c
   pub alike : Alike ws ns k l r n
-  pub rest : (bs₁ ts₁ : List ℕ) (w : Tried) → TryLeaves ws ns k (unify_all (graph_of ws ns k) (unify (graph_of ws ns k))
+  pub rest : (bs₁ ts₁ : List ℕ) (d : ℕ) (w : Bool) → UnifyLeaves ws ns k (unify_all (graph_of ws ns k) (unify (graph_of ws ns k))
       (binds_of bs k.variables) (drop i (parts_of (graph_of ws ns k l))) (drop i (parts_of (graph_of ws ns k r)))) bs ts
-      c bs₁ ts₁ w → TryLeaves ws ns k U bs₀ ts₀ c₀ bs₁ ts₁ w
+      c bs₁ ts₁ d w → UnifyLeaves ws ns k U bs₀ ts₀ c₀ bs₁ ts₁ d w
   pub work : work_of ws ns bs k l ≤ work_of ws ns bs₀ k l
   pub same_binds : length bs ≡ length bs₀
   pub same_trail : length ts ≡ length ts₀
@@ -95,8 +84,8 @@ module _ (ws ns bs ts : List ℕ) (k : Lengths) (c : ℕ) (t : Trying ws ns bs t
     at_ends : unify shape B l r ≡ unify_ends shape (eqb l' r') deep (unify shape) B l' r'
     at_ends = unify_step l r ∙ rw (fl, fr)
 
-    pub same_end : l' ≡ r' → TryLeaves ws ns k (unify shape B l r) bs ts c bs ts (Yes c)
-    same_end e = tries_as ws ns k (yes_with B) (unify shape B l r) bs ts c bs ts (Yes c) (sym (at_ends ∙ rw (eq-eqb l' r' e))) (binds_nothing ws ns k bs ts c q)
+    pub same_end : l' ≡ r' → UnifyLeaves ws ns k (unify shape B l r) bs ts c bs ts c true
+    same_end e = tries_as ws ns k (yes_with B) (unify shape B l r) bs ts c bs ts c true (sym (at_ends ∙ rw (eq-eqb l' r' e))) (binds_nothing ws ns k bs ts c q)
 
     pub left_end_placed : Placed k l'
     left_end_placed = end_is_placed ws ns bs k q l l' pl fl
@@ -111,7 +100,7 @@ module _ (ws ns bs ts : List ℕ) (k : Lengths) (c : ℕ) (t : Trying ws ns bs t
       by_shapes : unify shape B l r ≡ unify_shapes shape deep (unify shape) B l' (shape l') r' (shape r')
       by_shapes = at_ends ∙ rw (ne_eqb l' r' d)
 
-      left_free : (v : SortVar) → Is v ≡ var_at (shape l') → Free bs k v.0
+      left_free : (v : SortVar) → Some v ≡ var_at (shape l') → Free bs k v.0
       left_free v x = let s = is_variable (shape l') v x in record {
         listed = scoped ws k.sorts k.entries ns
             k.nodes k.arguments k.variables q.nodes l' v.0 s;
@@ -119,7 +108,7 @@ module _ (ws ns bs ts : List ℕ) (k : Lengths) (c : ℕ) (t : Trying ws ns bs t
             fl s;
       }
 
-      right_free : (u : SortVar) → Is u ≡ var_at (shape r') → Free bs k u.0
+      right_free : (u : SortVar) → Some u ≡ var_at (shape r') → Free bs k u.0
       right_free u x = let s = is_variable (shape r') u x in record {
         listed = scoped ws k.sorts k.entries ns
             k.nodes k.arguments k.variables q.nodes r' u.0 s;
@@ -127,49 +116,49 @@ module _ (ws ns bs ts : List ℕ) (k : Lengths) (c : ℕ) (t : Trying ws ns bs t
             fr s;
       }
 
-      module _ (v : SortVar) (xv : Is v ≡ var_at (shape l')) where
-        module _ (u : SortVar) (xu : Is u ≡ var_at (shape r')) where
+      module _ (v : SortVar) (xv : Some v ≡ var_at (shape l')) where
+        module _ (u : SortVar) (xu : Some u ≡ var_at (shape r')) where
           pub two_variables : Trying ws ns bs ts k c × Free bs k v.0 × Free bs k u.0 × Placed k r' × VariableAt ws ns k r' u.0
           two_variables = (t, left_free v xv, right_free u xu, right_end_placed, record { stands = is_variable (shape r') u xu })
 
-          pub variables_tried : (bs₁ ts₁ : List ℕ) (a : Tried)
-              → TryLeaves ws ns k (unify_variables shape (eqb v.0 u.0) B v.0 r') bs ts c bs₁ ts₁ a
-              → TryLeaves ws ns k (unify shape B l r) bs ts c bs₁ ts₁ a
-          variables_tried bs₁ ts₁ a = tries_as ws ns k _ _ bs ts c bs₁ ts₁ a
+          pub variables_tried : (bs₁ ts₁ : List ℕ) (d : ℕ) (a : Bool)
+              → UnifyLeaves ws ns k (unify_variables shape (eqb v.0 u.0) B v.0 r') bs ts c bs₁ ts₁ d a
+              → UnifyLeaves ws ns k (unify shape B l r) bs ts c bs₁ ts₁ d a
+          variables_tried bs₁ ts₁ d a = tries_as ws ns k _ _ bs ts c bs₁ ts₁ d a
               (sym (by_shapes ∙ rw (is_variable (shape l') v xv, is_variable (shape r') u xu)))
 
-        module _ (xr : Nothing ≡ var_at (shape r')) where
+        module _ (xr : None ≡ var_at (shape r')) where
           pub left_variable : Trying ws ns bs ts k c × Free bs k v.0 × Placed k r'
           left_variable = (t, left_free v xv, right_end_placed)
 
-          pub left_tried : (bs₁ ts₁ : List ℕ) (a : Tried)
-              → TryLeaves ws ns k (bind_unless shape (occurs shape deep B v.0 r') B v.0 r') bs ts c bs₁ ts₁ a
-              → TryLeaves ws ns k (unify shape B l r) bs ts c bs₁ ts₁ a
-          left_tried bs₁ ts₁ a = tries_as ws ns k _ _ bs ts c bs₁ ts₁ a
+          pub left_tried : (bs₁ ts₁ : List ℕ) (d : ℕ) (a : Bool)
+              → UnifyLeaves ws ns k (bind_unless shape (occurs shape deep B v.0 r') B v.0 r') bs ts c bs₁ ts₁ d a
+              → UnifyLeaves ws ns k (unify shape B l r) bs ts c bs₁ ts₁ d a
+          left_tried bs₁ ts₁ d a = tries_as ws ns k _ _ bs ts c bs₁ ts₁ d a
               (sym (by_shapes ∙ rw (is_variable (shape l') v xv) (rw (is_solid (shape r') xr))))
 
-      module _ (xl : Nothing ≡ var_at (shape l')) where
-        module _ (u : SortVar) (xu : Is u ≡ var_at (shape r')) where
+      module _ (xl : None ≡ var_at (shape l')) where
+        module _ (u : SortVar) (xu : Some u ≡ var_at (shape r')) where
           pub right_variable : Trying ws ns bs ts k c × Free bs k u.0 × Placed k l'
           right_variable = (t, right_free u xu, left_end_placed)
 
-          pub right_tried : (bs₁ ts₁ : List ℕ) (a : Tried)
-              → TryLeaves ws ns k (bind_unless shape (occurs shape deep B u.0 l') B u.0 l') bs ts c bs₁ ts₁ a
-              → TryLeaves ws ns k (unify shape B l r) bs ts c bs₁ ts₁ a
-          right_tried bs₁ ts₁ a = tries_as ws ns k _ _ bs ts c bs₁ ts₁ a
+          pub right_tried : (bs₁ ts₁ : List ℕ) (d : ℕ) (a : Bool)
+              → UnifyLeaves ws ns k (bind_unless shape (occurs shape deep B u.0 l') B u.0 l') bs ts c bs₁ ts₁ d a
+              → UnifyLeaves ws ns k (unify shape B l r) bs ts c bs₁ ts₁ d a
+          right_tried bs₁ ts₁ d a = tries_as ws ns k _ _ bs ts c bs₁ ts₁ d a
               (sym (by_shapes ∙ rw (is_variable (shape r') u xu) (rw (is_solid (shape l') xl))))
 
-        module _ (xr : Nothing ≡ var_at (shape r')) where
+        module _ (xr : None ≡ var_at (shape r')) where
           pub left_solid : Solid ws ns k l'
           left_solid = record { placed = left_end_placed; solid = is_solid (shape l') xl }
 
           pub right_solid : Solid ws ns k r'
           right_solid = record { placed = right_end_placed; solid = is_solid (shape r') xr }
 
-          pub parts_tried : (bs₁ ts₁ : List ℕ) (a : Tried)
-              → TryLeaves ws ns k (unify_shapes shape deep (unify shape) B l' (shape l') r' (shape r')) bs ts c bs₁
-              ts₁ a → TryLeaves ws ns k (unify shape B l r) bs ts c bs₁ ts₁ a
-          parts_tried bs₁ ts₁ a = tries_as ws ns k _ _ bs ts c bs₁ ts₁ a (sym by_shapes)
+          pub parts_tried : (bs₁ ts₁ : List ℕ) (d : ℕ) (a : Bool)
+              → UnifyLeaves ws ns k (unify_shapes shape deep (unify shape) B l' (shape l') r' (shape r')) bs ts c bs₁
+              ts₁ d a → UnifyLeaves ws ns k (unify shape B l r) bs ts c bs₁ ts₁ d a
+          parts_tried bs₁ ts₁ d a = tries_as ws ns k _ _ bs ts c bs₁ ts₁ d a (sym by_shapes)
 
   -- two ends at which no variable stands
   module _ (l r : ℕ) (sl : Solid ws ns k l) (sr : Solid ws ns k r) where
@@ -180,9 +169,9 @@ module _ (ws ns bs ts : List ℕ) (k : Lengths) (c : ℕ) (t : Trying ws ns bs t
     by_heads = ap₂ (λ (y z : Shape). unify_shapes shape deep (unify shape) B l y r z) sl.solid sr.solid
 
     module _ (h : Bool) (eh : h ≡ same_head (head_of (shape l)) (head_of (shape r))) where
-      pub other_heads : h ≡ false → TryLeaves ws ns k whole bs ts c bs ts (No c)
+      pub other_heads : h ≡ false → UnifyLeaves ws ns k whole bs ts c bs ts c false
       other_heads y =
-          tries_as ws ns k no_way whole bs ts c bs ts (No c)
+          tries_as ws ns k no_way whole bs ts c bs ts c false
           (sym (by_heads ∙ ap (λ z. unify_heads shape z (unify shape) B (parts_of (shape l)) (parts_of (shape r))) (sym eh ∙ y))) (no_try ws ns k bs ts c q)
 
       module _ (y : h ≡ true) where
@@ -200,7 +189,7 @@ module _ (ws ns bs ts : List ℕ) (k : Lengths) (c : ℕ) (t : Trying ws ns bs t
                 as_many = en ∙ same_count ws ns k
                     q.nodes l r sl.placed sr.placed (sym eh ∙ y);
               };
-              rest = λ bs₁ ts₁ w. tries_as ws ns k _ _ bs ts c bs₁ ts₁ w (sym same_heads);
+              rest = λ bs₁ ts₁ d w. tries_as ws ns k _ _ bs ts c bs₁ ts₁ d w (sym same_heads);
               work = omega arith;
               same_binds = refl;
               same_trail = refl;
@@ -225,10 +214,10 @@ module _ (ws ns bs ts : List ℕ) (k : Lengths) (c : ℕ) (t : Trying ws ns bs t
     abbrev rest : Unifies
     rest = unify_all shape (unify shape) B (drop i ps) (drop i qs)
 
-    pub all_parts : n ≤ i → TryLeaves ws ns k U bs₀ ts₀ c₀ bs ts (Yes c)
+    pub all_parts : n ≤ i → UnifyLeaves ws ns k U bs₀ ts₀ c₀ bs ts c true
     all_parts e =
-        g.rest bs ts (Yes c)
-        (tries_as ws ns k (yes_with B) rest bs ts c bs ts (Yes c)
+        g.rest bs ts c true
+        (tries_as ws ns k (yes_with B) rest bs ts c bs ts c true
         (sym (ap₂ (λ (xs ys : List ℕ). unify_all shape (unify shape) B xs ys) (drop_of_length-le ps {i = i}
         (omega (arith, e, g.alike.many))) (drop_of_length-le qs {i = i} (omega (arith, e, g.alike.as_many)))))
         (binds_nothing ws ns k bs ts c q))
@@ -240,11 +229,11 @@ module _ (ws ns bs ts : List ℕ) (k : Lengths) (c : ℕ) (t : Trying ws ns bs t
       right_inside : i < length qs
       right_inside = omega (arith, g.alike.as_many, d)
 
-      pub left_part : NodesReady ws ns k × Placed k l × (i < length ps)
-      left_part = (q.nodes, g.alike.left, left_inside)
+      pub left_part : Placed k l × (i < length ps)
+      left_part = (g.alike.left, left_inside)
 
-      pub right_part : NodesReady ws ns k × Placed k r × (i < length qs)
-      right_part = (q.nodes, g.alike.right, right_inside)
+      pub right_part : Placed k r × (i < length qs)
+      right_part = (g.alike.right, right_inside)
 
       module _ (x y : ℕ) (ex : x ≡ get_or ps i 0) (ey : y ≡ get_or qs i 0) where
         abbrev one_x : One x ps
@@ -279,16 +268,16 @@ module _ (ws ns bs ts : List ℕ) (k : Lengths) (c : ℕ) (t : Trying ws ns bs t
             (drop-cons qs i 0 right_inside ∙ ap₂ (λ (z j : ℕ). z ∷ drop j qs) (sym ey) (sym (add-one i))))
 
         module _ (bs₁ ts₁ : List ℕ) where
-          pub part_fails : (m : ℕ) (z : Tried) → z ≡ No m → TryLeaves ws ns k (unify shape B x y) bs ts c bs₁ ts₁ z
-              → TryLeaves ws ns k U bs₀ ts₀ c₀ bs₁ ts₁ (No m)
+          pub part_fails : (m : ℕ) (z : Bool) → z ≡ false → UnifyLeaves ws ns k (unify shape B x y) bs ts c bs₁ ts₁ m z
+              → UnifyLeaves ws ns k U bs₀ ts₀ c₀ bs₁ ts₁ m false
           part_fails m z e u =
-              g.rest bs₁ ts₁ (No m)
-              (tries_as ws ns k _ _ bs ts c bs₁ ts₁ (No m) parts_split
-              (then_no ws ns k (unify shape B x y) others bs ts c bs₁ ts₁ m (subst (TryLeaves ws ns k (unify shape B x y) bs ts c bs₁ ts₁) e u)))
+              g.rest bs₁ ts₁ m false
+              (tries_as ws ns k _ _ bs ts c bs₁ ts₁ m false parts_split
+              (then_no ws ns k (unify shape B x y) others bs ts c bs₁ ts₁ m (subst (UnifyLeaves ws ns k (unify shape B x y) bs ts c bs₁ ts₁ m) e u)))
 
-          module _ (m : ℕ) (z : Tried) (e : z ≡ Yes m) (u : TryLeaves ws ns k (unify shape B x y) bs ts c bs₁ ts₁ z) where
-            abbrev yes_tried : TryLeaves ws ns k (unify shape B x y) bs ts c bs₁ ts₁ (Yes m)
-            yes_tried = subst (TryLeaves ws ns k (unify shape B x y) bs ts c bs₁ ts₁) e u
+          module _ (m : ℕ) (z : Bool) (e : z ≡ true) (u : UnifyLeaves ws ns k (unify shape B x y) bs ts c bs₁ ts₁ m z) where
+            abbrev yes_tried : UnifyLeaves ws ns k (unify shape B x y) bs ts c bs₁ ts₁ m true
+            yes_tried = subst (UnifyLeaves ws ns k (unify shape B x y) bs ts c bs₁ ts₁ m) e u
 
             next_by : (X : Unifies) → BindsKept shape k.variables B X → X ≡ yes_with (binds_of bs₁ k.variables)
                 → YesLeaves shape k.variables B (binds_of bs₁ k.variables)
@@ -322,8 +311,8 @@ module _ (ws ns bs ts : List ℕ) (k : Lengths) (c : ℕ) (t : Trying ws ns bs t
                 record {
                   trying = trying_on ws ns k (unify shape B x y) bs ts c bs₁ ts₁ m t lt yes_tried;
                   alike = g.alike;
-                  rest = λ bs₂ ts₂ w s. g.rest bs₂ ts₂ w (tries_as ws ns k _ _ bs ts c bs₂ ts₂ w parts_split
-                      (then_on ws ns k (unify shape B x y) others bs ts c bs₁ ts₁ m yes_tried bs₂ ts₂ w s));
+                  rest = λ bs₂ ts₂ d w s. g.rest bs₂ ts₂ d w (tries_as ws ns k _ _ bs ts c bs₂ ts₂ d w parts_split
+                      (then_on ws ns k (unify shape B x y) others bs ts c bs₁ ts₁ m yes_tried bs₂ ts₂ d w s));
                   work = omega (arith, g.work, work_falls);
                   same_binds = lb ∙ g.same_binds;
                   same_trail = lt ∙ g.same_trail;

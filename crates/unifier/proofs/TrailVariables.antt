@@ -9,10 +9,10 @@ use native.Mathlib.Decide.{ℕ_discrete}
 use lib.ListN.{length, get_or, set, length-set}
 use lib.Seq.{get_or-set_other}
 use Rattle.unification.specs.declared.Lengths.{Lengths}
-use Rattle.unification.specs.declared.Tried.{Tried}
 use Rattle.unification.specs.Nodes.{free_word, Binds, binding, binding_of, binds_of}
 use Rattle.unification.specs.Unify.{Unifies}
-use Rattle.unification.specs.Trail.{undo, frees, count_of, TryLeaves}
+use Rattle.unification.specs.Trail.{undo, frees, UnifyLeaves}
+use mathlib.Core.Bool.{Bool}
 use Rattle.resolved_sort.proofs.Reached.{no_confusion}
 use Rattle.unification.proofs.Equations.{frees_few}
 use Rattle.unification.proofs.Passed.{length_binds}
@@ -121,7 +121,7 @@ module _ (ts : List ℕ) (base : ℕ) where
           differ i j l m x (no y) (yes z) = absurd ((before i (omega (arith, l, y))).1.0 (x ∙ ap at z))
           differ i j l m x (no y) (no z) = h.differ i j (omega (arith, l, y)) (omega (arith, m, z)) x
 
-module _ (ws ns : List ℕ) (k : Lengths) (U : Unifies) (bs ts : List ℕ) (c : ℕ) (bs₁ ts₁ : List ℕ) (r : Tried) (t : TryLeaves ws ns k U bs ts c bs₁ ts₁ r) where
+module _ (ws ns : List ℕ) (k : Lengths) (U : Unifies) (bs ts : List ℕ) (c : ℕ) (bs₁ ts₁ : List ℕ) (d : ℕ) (r : Bool) (t : UnifyLeaves ws ns k U bs ts c bs₁ ts₁ d r) where
   abbrev B : Binds
   B = binds_of bs k.variables
 
@@ -129,7 +129,7 @@ module _ (ws ns : List ℕ) (k : Lengths) (U : Unifies) (bs ts : List ℕ) (c : 
   C = binds_of bs₁ k.variables
 
   abbrev n : ℕ
-  n = count_of r - c
+  n = d - c
 
   undone : freed ts₁ c n C ≡ B
   undone = sym (binds_undone ts₁ c n bs₁ k.variables t.ready.long) ∙ ap (λ xs. binds_of xs k.variables) t.undone
@@ -141,22 +141,22 @@ module _ (ws ns : List ℕ) (k : Lengths) (U : Unifies) (bs ts : List ℕ) (c : 
   word : (j : ℕ) → c ≤ j → get_or ts₁ (c + (j - c)) 0 ≡ get_or ts₁ j 0
   word j l = ap (λ (i : ℕ). get_or ts₁ i 0) (let z : c + (j - c) ≡ j = omega (arith, l) in z)
 
-  bound : (j : ℕ) → c ≤ j → j < count_of r → (q : ℕ) × (binding C (get_or ts₁ j 0) ≡ some q)
+  bound : (j : ℕ) → c ≤ j → j < d → (q : ℕ) × (binding C (get_or ts₁ j 0) ≡ some q)
   bound j l m = subst (λ (u : ℕ). (q : ℕ) × (binding C u ≡ some q)) (word j l) (told.bound (j - c) (omega (arith, l, m)))
 
-  free : (j : ℕ) → c ≤ j → j < count_of r → binding B (get_or ts₁ j 0) ≡ none
+  free : (j : ℕ) → c ≤ j → j < d → binding B (get_or ts₁ j 0) ≡ none
   free j l m = sym (ap (λ (D : Binds). binding D (get_or ts₁ j 0)) undone) ∙ (ap (binding (freed ts₁ c n C))
       (sym (word j l)) ∙ freed_there ts₁ c n C (j - c) (omega (arith, l, m)))
 
-  once : (i j : ℕ) → c ≤ i → i < count_of r → c ≤ j → j < count_of r → get_or ts₁ i 0 ≡ get_or ts₁ j 0 → i ≡ j
+  once : (i j : ℕ) → c ≤ i → i < d → c ≤ j → j < d → get_or ts₁ i 0 ≡ get_or ts₁ j 0 → i ≡ j
   once i j l m o p x =
       omega (arith, l, o, told.differ (i - c) (j - c) (omega (arith, l, m)) (omega (arith, o, p)) (word i l ∙ (x ∙ sym (word j o))))
 
-  every : (u q : ℕ) → binding B u ≡ none → binding C u ≡ some q → (j : ℕ) × (c ≤ j) × (j < count_of r) × (get_or ts₁ j 0 ≡ u)
+  every : (u q : ℕ) → binding B u ≡ none → binding C u ≡ some q → (j : ℕ) × (c ≤ j) × (j < d) × (get_or ts₁ j 0 ≡ u)
   every u q f e = let x = found ts₁ c n C u q (ap (λ (D : Binds). binding D u) undone ∙ f) e in (c + x.0, omega arith, omega (arith, x.1), x.2)
 
   -- A try, whatever it answers, has on the trail exactly the variables that it bound, each once; what was bound stays bound.
-  pub trail_variables : OnTrail ts₁ c (count_of r) k.variables B C
+  pub trail_variables : OnTrail ts₁ c (d) k.variables B C
   trail_variables =
       record {
         listed = λ j l m. let x = bound j l m in omega (arith, bound_inside C (get_or ts₁ j 0) x.0 x.1, length_binds bs₁ k.variables);

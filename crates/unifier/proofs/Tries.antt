@@ -10,12 +10,10 @@ use lib.Seq.{get_or-set_same, take-set-le, take-take, drop-set-lt}
 use lib.Dec.{eqb}
 use borrow.Author.Tests.{eq-eqb, ne_eqb}
 use Rattle.unification.specs.declared.Lengths.{Lengths}
-use Rattle.unification.specs.declared.Tried.{Tried}
-use Rattle.unification.specs.declared.Tried.TheVariants.{Yes, No}
 use Rattle.unification.specs.Nodes.{free_word, Binds, binds_of}
 use Rattle.unification.specs.Unify.{Unifies, yes_with, no_way, and_then, absent, of_test, occurs, bind_unless, unify_variables, deep}
 use Rattle.unification.specs.Checked.{graph_of, Ready, Placed}
-use Rattle.unification.specs.Trail.{undo, frees, count_of, TryLeaves}
+use Rattle.unification.specs.Trail.{undo, frees, UnifyLeaves}
 use Rattle.unification.proofs.Rank.{frees_set}
 use Rattle.unification.proofs.Binding.{binding_numbered}
 use Rattle.unification.proofs.Enough.{occurs_eq}
@@ -27,9 +25,9 @@ use Rattle.unifier.specs.Inner.Trying.{Trying, Free, VariableAt}
 use Rattle.unifier.proofs.Words.{binds_set, freed, places_set, undo_split, undo_front}
 
 module _ (ws ns : List ℕ) (k : Lengths) where
-  pub tries_as : (U W : Unifies) (bs ts : List ℕ) (c : ℕ) (bs' ts' : List ℕ) (r : Tried) → U ≡ W
-      → TryLeaves ws ns k U bs ts c bs' ts' r → TryLeaves ws ns k W bs ts c bs' ts' r
-  tries_as U W bs ts c bs' ts' r e t = record {
+  pub tries_as : (U W : Unifies) (bs ts : List ℕ) (c : ℕ) (bs' ts' : List ℕ) (d : ℕ) (r : Bool) → U ≡ W
+      → UnifyLeaves ws ns k U bs ts c bs' ts' d r → UnifyLeaves ws ns k W bs ts c bs' ts' d r
+  tries_as U W bs ts c bs' ts' d r e t = record {
     says = sym e ∙ t.says;
     undone = t.undone;
     front = t.front;
@@ -45,10 +43,10 @@ module _ (ws ns : List ℕ) (k : Lengths) where
   unfolding undo
   none_undone bs ts c = ap (λ (x : ℕ). undo ts c x bs) (let z : c - c ≡ 0 = omega arith in z)
 
-  pub binds_nothing : (bs ts : List ℕ) (c : ℕ) → Ready ws ns bs k → TryLeaves ws ns k (yes_with (binds_of bs k.variables)) bs ts c bs ts (Yes c)
+  pub binds_nothing : (bs ts : List ℕ) (c : ℕ) → Ready ws ns bs k → UnifyLeaves ws ns k (yes_with (binds_of bs k.variables)) bs ts c bs ts c true
   binds_nothing bs ts c q = record { says = refl; undone = none_undone bs ts c; front = refl; longer = omega arith; spent = refl; past = refl; ready = q }
 
-  pub no_try : (bs ts : List ℕ) (c : ℕ) → Ready ws ns bs k → TryLeaves ws ns k no_way bs ts c bs ts (No c)
+  pub no_try : (bs ts : List ℕ) (c : ℕ) → Ready ws ns bs k → UnifyLeaves ws ns k no_way bs ts c bs ts c false
   no_try bs ts c q = record { says = refl; undone = none_undone bs ts c; front = refl; longer = omega arith; spent = refl; past = refl; ready = q }
 
   -- a variable is bound
@@ -98,7 +96,7 @@ module _ (ws ns : List ℕ) (k : Lengths) where
         ∙ (ap (λ (x : ℕ). set (set bs v w) (get_or (set ts c v) x 0) free_word) (let z : c + 0 ≡ c = omega arith in z)
         ∙ (ap (λ (x : ℕ). set (set bs v w) x free_word) (get_or-set_same ts c v 0 bind_room.1) ∙ freed bs k.variables v w f.listed f.free))
 
-    pub one_bound : TryLeaves ws ns k (yes_with (set B v (some w))) bs ts c (set bs v w) (set ts c v) (Yes (c + 1))
+    pub one_bound : UnifyLeaves ws ns k (yes_with (set B v (some w))) bs ts c (set bs v w) (set ts c v) (c + 1) true
     one_bound =
         record {
           says = ap yes_with (sym as_binding);
@@ -112,7 +110,7 @@ module _ (ws ns : List ℕ) (k : Lengths) where
 
   -- one after another
   module _ (U : Unifies) (g : Binds → Unifies) (bs ts : List ℕ) (c : ℕ) (bs₁ ts₁ : List ℕ) where
-    pub then_no : (d : ℕ) → TryLeaves ws ns k U bs ts c bs₁ ts₁ (No d) → TryLeaves ws ns k (and_then U g) bs ts c bs₁ ts₁ (No d)
+    pub then_no : (d : ℕ) → UnifyLeaves ws ns k U bs ts c bs₁ ts₁ d false → UnifyLeaves ws ns k (and_then U g) bs ts c bs₁ ts₁ d false
     then_no d t = record {
       says = ap (λ x. and_then x g) t.says;
       undone = t.undone;
@@ -124,16 +122,16 @@ module _ (ws ns : List ℕ) (k : Lengths) where
       ready = t.ready;
     }
 
-    pub then_on : (d : ℕ) → TryLeaves ws ns k U bs ts c bs₁ ts₁ (Yes d) → (bs₂ ts₂ : List ℕ) (r : Tried)
-        → TryLeaves ws ns k (g (binds_of bs₁ k.variables)) bs₁ ts₁ d bs₂ ts₂ r
-        → TryLeaves ws ns k (and_then U g) bs ts c bs₂ ts₂ r
-    then_on d t bs₂ ts₂ r u =
+    pub then_on : (d : ℕ) → UnifyLeaves ws ns k U bs ts c bs₁ ts₁ d true → (bs₂ ts₂ : List ℕ) (e : ℕ) (r : Bool)
+        → UnifyLeaves ws ns k (g (binds_of bs₁ k.variables)) bs₁ ts₁ d bs₂ ts₂ e r
+        → UnifyLeaves ws ns k (and_then U g) bs ts c bs₂ ts₂ e r
+    then_on d t bs₂ ts₂ e r u =
         record {
           says = ap (λ x. and_then x g) t.says ∙ u.says;
           undone =
-              ap (λ (x : ℕ). undo ts₂ c x bs₂) (let z : count_of r - c ≡ (d - c) + (count_of r - d) = omega (arith, t.longer, u.longer) in z)
-              ∙ (undo_split ts₂ c (d - c) (count_of r - d) bs₂
-              ∙ (ap (λ (x : ℕ). undo ts₂ c (d - c) (undo ts₂ x (count_of r - d) bs₂)) (let z : c + (d - c) ≡ d = omega (arith, t.longer) in z)
+              ap (λ (x : ℕ). undo ts₂ c x bs₂) (let z : e - c ≡ (d - c) + (e - d) = omega (arith, t.longer, u.longer) in z)
+              ∙ (undo_split ts₂ c (d - c) (e - d) bs₂
+              ∙ (ap (λ (x : ℕ). undo ts₂ c (d - c) (undo ts₂ x (e - d) bs₂)) (let z : c + (d - c) ≡ d = omega (arith, t.longer) in z)
               ∙ (ap (undo ts₂ c (d - c)) u.undone ∙ (undo_front ts₂ ts₁ c (d - c) d bs₁ (omega (arith, t.longer)) u.front ∙ t.undone))));
           front = sym (take-take c d ts₂ t.longer) ∙ (ap (take c) u.front ∙ (take-take c d ts₁ t.longer ∙ t.front));
           longer = omega (arith, t.longer, u.longer);
@@ -144,7 +142,7 @@ module _ (ws ns : List ℕ) (k : Lengths) where
 
   -- there is room to go on
   pub trying_on : (U : Unifies) (bs ts : List ℕ) (c : ℕ) (bs₁ ts₁ : List ℕ) (d : ℕ) → Trying ws ns bs ts k c
-      → length ts₁ ≡ length ts → TryLeaves ws ns k U bs ts c bs₁ ts₁ (Yes d) → Trying ws ns bs₁ ts₁ k d
+      → length ts₁ ≡ length ts → UnifyLeaves ws ns k U bs ts c bs₁ ts₁ d true → Trying ws ns bs₁ ts₁ k d
   trying_on U bs ts c bs₁ ts₁ d t l u = record { ready = u.ready; room = omega (arith, u.spent, t.room, l); short = omega (arith, t.short, l) }
 
   -- the two ways to bind
@@ -156,13 +154,13 @@ module _ (ws ns : List ℕ) (k : Lengths) where
     checked = bind_unless (graph_of ws ns k) (occurs (graph_of ws ns k) deep old v w) old v w
 
     set_yes : (U : Unifies) → occurs (graph_of ws ns k) deep old v w ≡ absent → yes_with (set old v (some w)) ≡ U
-        → (bs₁ ts₁ : List ℕ) → bs₁ ≡ set bs v w → ts₁ ≡ set ts c v → TryLeaves ws ns k U bs ts c bs₁ ts₁ (Yes (c + 1))
-    set_yes U o e bs₁ ts₁ y z = rw (y, z) (tries_as (yes_with (set old v (some w))) U bs ts c (set bs v w)
-        (set ts c v) (Yes (c + 1)) e (one_bound bs ts c t v w f p o))
+        → (bs₁ ts₁ : List ℕ) (d : ℕ) → bs₁ ≡ set bs v w → ts₁ ≡ set ts c v → d ≡ c + 1 → UnifyLeaves ws ns k U bs ts c bs₁ ts₁ d true
+    set_yes U o e bs₁ ts₁ d y z x = rw (y, z, x) (tries_as (yes_with (set old v (some w))) U bs ts c (set bs v w)
+        (set ts c v) (c + 1) true e (one_bound bs ts c t v w f p o))
 
     module _ (b : Bool) (e : occurs (graph_of ws ns k) deep old v w ≡ of_test b) where
-      pub occurs_no : b ≡ true → TryLeaves ws ns k checked bs ts c bs ts (No c)
-      occurs_no x = tries_as no_way checked bs ts c bs ts (No c)
+      pub occurs_no : b ≡ true → UnifyLeaves ws ns k checked bs ts c bs ts c false
+      occurs_no x = tries_as no_way checked bs ts c bs ts c false
           (sym (ap (λ o. bind_unless (graph_of ws ns k) o old v w) (e ∙ ap of_test x))) (no_try bs ts c t.ready)
 
       module _ (x : b ≡ false) where
@@ -172,15 +170,15 @@ module _ (ws ns : List ℕ) (k : Lengths) where
         pub room_to_bind : (v < length bs) × (c < length ts)
         room_to_bind = bind_room bs ts c t v w f p is_absent
 
-        pub bound_yes : (bs₁ ts₁ : List ℕ) → bs₁ ≡ set bs v w → ts₁ ≡ set ts c v → TryLeaves ws ns k checked bs ts c bs₁ ts₁ (Yes (c + 1))
+        pub bound_yes : (bs₁ ts₁ : List ℕ) (d : ℕ) → bs₁ ≡ set bs v w → ts₁ ≡ set ts c v → d ≡ c + 1 → UnifyLeaves ws ns k checked bs ts c bs₁ ts₁ d true
         bound_yes = set_yes checked is_absent (sym (ap (λ o. bind_unless (graph_of ws ns k) o old v w) is_absent))
 
     module _ (u : ℕ) (g : Free bs k u) (s : VariableAt ws ns k w u) where
       abbrev variables : Unifies
       variables = unify_variables (graph_of ws ns k) (eqb v u) old v w
 
-      pub one_variable : v ≡ u → TryLeaves ws ns k variables bs ts c bs ts (Yes c)
-      one_variable e = tries_as (yes_with old) variables bs ts c bs ts (Yes c)
+      pub one_variable : v ≡ u → UnifyLeaves ws ns k variables bs ts c bs ts c true
+      one_variable e = tries_as (yes_with old) variables bs ts c bs ts c true
           (sym (ap (λ b. unify_variables (graph_of ws ns k) b old v w) (eq-eqb v u e))) (binds_nothing bs ts c
           t.ready)
 
@@ -191,7 +189,7 @@ module _ (ws ns : List ℕ) (k : Lengths) where
         pub room_for_variable : (v < length bs) × (c < length ts)
         room_for_variable = bind_room bs ts c t v w f p other_absent
 
-        pub variable_yes : (bs₁ ts₁ : List ℕ) → bs₁ ≡ set bs v w → ts₁ ≡ set ts c v → TryLeaves ws ns k variables bs ts c bs₁ ts₁ (Yes (c + 1))
+        pub variable_yes : (bs₁ ts₁ : List ℕ) (d : ℕ) → bs₁ ≡ set bs v w → ts₁ ≡ set ts c v → d ≡ c + 1 → UnifyLeaves ws ns k variables bs ts c bs₁ ts₁ d true
         variable_yes = set_yes variables other_absent (sym (ap (λ b. unify_variables (graph_of ws ns k) b old v w) (ne_eqb v u d)))
 
 -- undoing, one at a time

@@ -3,26 +3,17 @@
 #![tactic(auto)]
 
 ghost use Rattle.std.specs.Prelude.{◌≡◌, ◌+◌, ◌-◌, ◌<◌, ◌≤◌, length, set, eqb};
+ghost use Rattle.words.specs.Inner.Bits.{most_word};
 ghost use Rattle.unification.specs.Nodes.{binds_of};
 ghost use Rattle.unification.specs.Unify.{occurs as occursIn, bind_unless, unify_variables, unify_shapes};
 ghost use Rattle.unification.specs.Unify.{unify as unifyOf, deep};
-ghost use Rattle.unification.specs.Checked.{graph_of, Placed};
+ghost use Rattle.unification.specs.Checked.{graph_of, Ready, Placed};
 ghost use Rattle.unification.specs.Trail.{undo as undoOf, TryLeaves};
-ghost use Rattle.unifier.specs.Inner.Trying.{Trying, Free, Solid, VariableAt};
+ghost use Rattle.unifier.specs.Inner.Trying.{Trying, Solid, VariableAt};
 
-use infer_nodes::{occurs, part, part_count, same_head, shallow_normalize, variable_at};
-use unification::{FREE_WORD, InferSortId, Lengths, SortVar, Tried, VarAt};
+use infer_nodes::{Bindings, Places};
+use unification::{FREE_WORD, InferSortId, Lengths, SortVar, Tried};
 use words::put;
-
-// Binds a variable, and puts it on the trail.
-fn put_binding(binds: &mut [u16], trail: &mut [u16], count: u16, var: SortVar, value: InferSortId)
-    requires { (var.0 < length binds.old) × (count < length trail.old) }
-    ensures { (binds.new ≡ set binds.old var.0 value.0)
-        × (trail.new ≡ set trail.old count var.0) }
-{
-    binds[var.0 as usize] = value.0;
-    trail[count as usize] = var.0;
-}
 
 // Frees the last variables on the trail, down to `base`.
 // Tries are undone innermost first. Merc forbids making a variable inside a snapshot, since the rollback would destroy
@@ -31,80 +22,167 @@ pub fn undo(binds: &mut [u16], trail: &[u16], base: u16, count: u16)
     requires { (base ≤ count) × (count ≤ length trail.now) }
     ensures { binds.new ≡ undoOf trail.now base (count - base) binds.old }
 {
-    let mut n = count;
-    while base < n {
-        n -= 1;
-        put(binds, trail[n as usize] as usize, FREE_WORD);
+    for i in (base..count).rev() {
+        put(binds, trail[i as usize] as usize, FREE_WORD);
     }
 }
 
-// Binds `var` to `value` after the occurs check, which rejects the cyclic (infinite) sort that a
-// binding like `?t := List(?t)` would create.
-fn bind(
-    sorts: &[u16],
-    nodes: &[u16],
-    binds: &mut [u16],
-    trail: &mut [u16],
-    lengths: Lengths,
-    count: u16,
-    var: SortVar,
-    value: InferSortId,
-) -> Tried
-    requires { Trying sorts.now nodes.now binds.old trail.old lengths count
-        × Free binds.old lengths var.0
-        × Placed lengths value.0 }
-    ensures { TryLeaves sorts.now nodes.now lengths
-        (bind_unless (graph_of sorts.now nodes.now lengths)
-        (occursIn (graph_of sorts.now nodes.now lengths) deep
-        (binds_of binds.old lengths.variables) var.0 value.0)
-        (binds_of binds.old lengths.variables) var.0 value.0)
-        binds.old trail.old count binds.new trail.new result }
-{
-    if occurs(sorts, nodes, binds, lengths, var, value) {
-        return Tried::No(count);
-    }
-    put_binding(binds, trail, count, var, value);
-    Tried::Yes(count + 1)
+// Places, what the variables there are bound to, and the trail: the variables that were bound, one after another, of
+// which so many count.
+#[derive(Drop)]
+pub struct Unifier<'p, 'b> {
+    pub places: Places<'p>,
+    pub binds: &'b mut [u16],
+    pub trail: &'b mut [u16],
+    pub count: u16,
 }
 
-// Two free variables: the left one is bound to the right end, unless they are one.
-// Both are free after following, so no two bindings can conflict, and there is no structure to compare.
-fn bind_variables(
-    sorts: &[u16],
-    nodes: &[u16],
-    binds: &mut [u16],
-    trail: &mut [u16],
-    lengths: Lengths,
-    count: u16,
-    lhs: SortVar,
-    rhs: SortVar,
-    value: InferSortId,
-) -> Tried
-    requires { Trying sorts.now nodes.now binds.old trail.old lengths count
-        × Free binds.old lengths lhs.0
-        × Free binds.old lengths rhs.0
-        × Placed lengths value.0
-        × VariableAt sorts.now nodes.now lengths value.0 rhs.0 }
-    ensures { TryLeaves sorts.now nodes.now lengths
-        (unify_variables (graph_of sorts.now nodes.now lengths) (eqb lhs.0 rhs.0)
-        (binds_of binds.old lengths.variables) lhs.0 value.0)
-        binds.old trail.old count binds.new trail.new result }
-{
-    if lhs.0 == rhs.0 {
-        return Tried::Yes(count);
+impl Unifier<'_, '_> {
+    ghost use Rattle.unifier.specs.Unifier.{graph, bindings, CanTry, IsFree, Keeps, Leaves};
+
+    // What the variables are bound to by now.
+    fn bindings(&self) -> Bindings<'_, '_>
+        requires { Ready self.now.places.sorts.now self.now.places.nodes.now
+            self.now.binds.now self.now.places.lengths }
+        ensures { (result.places ≡ self.now.places) × (result.binds.now ≡ self.now.binds.now) }
+    {
+        let binds = &*self.binds;
+        Bindings {
+            places: self.places,
+            binds,
+        }
     }
-    put_binding(binds, trail, count, lhs, value);
-    Tried::Yes(count + 1)
+
+    // Binds a variable, and puts it on the trail.
+    fn put_binding(&mut self, var: SortVar, value: InferSortId)
+        requires { (var.0 < length self.old.binds.now)
+            × (self.old.count < length self.old.trail.now)
+            × (length self.old.trail.now ≤ most_word) }
+        ensures keeps { Keeps self.old self.new }
+        ensures leaves { (self.new.binds.now ≡ set self.old.binds.now var.0 value.0)
+            × (self.new.trail.now ≡ set self.old.trail.now self.old.count var.0)
+            × (self.new.count ≡ self.old.count + 1) }
+    {
+        self.binds[var.0 as usize] = value.0;
+        self.trail[self.count as usize] = var.0;
+        self.count += 1;
+    }
+
+    // Binds `var` to `value` after the occurs check, which rejects the cyclic (infinite) sort that a
+    // binding like `?t := List(?t)` would create.
+    fn bind(&mut self, var: SortVar, value: InferSortId) -> bool
+        requires { CanTry self.old × IsFree self.old var.0 × Placed self.old.places.lengths value.0 }
+        ensures keeps { Keeps self.old self.new }
+        ensures leaves { Leaves
+            (bind_unless (graph self.old)
+            (occursIn (graph self.old) deep (bindings self.old) var.0 value.0)
+            (bindings self.old) var.0 value.0)
+            self.old self.new result }
+    {
+        if self.bindings().occurs(var, value) {
+            return false;
+        }
+        self.put_binding(var, value);
+        true
+    }
+
+    // Two free variables: the left one is bound to the right end, unless they are one.
+    // Both are free after following, so no two bindings can conflict, and there is no structure to compare.
+    fn bind_variables(&mut self, lhs: SortVar, rhs: SortVar, value: InferSortId) -> bool
+        requires { CanTry self.old
+            × IsFree self.old lhs.0
+            × IsFree self.old rhs.0
+            × Placed self.old.places.lengths value.0
+            × VariableAt self.old.places.sorts.now self.old.places.nodes.now
+            self.old.places.lengths value.0 rhs.0 }
+        ensures keeps { Keeps self.old self.new }
+        ensures leaves { Leaves
+            (unify_variables (graph self.old) (eqb lhs.0 rhs.0) (bindings self.old) lhs.0 value.0)
+            self.old self.new result }
+    {
+        if lhs == rhs {
+            return true;
+        }
+        self.put_binding(lhs, value);
+        true
+    }
+
+    // Makes `lhs` and `rhs` denote the same sort, binding variables as needed, and answers whether they are unifiable.
+    // On failure bindings made before the mismatch was found remain; callers undo the trail.
+    #[cycle(unify_unify_parts)]
+    pub fn unify(&mut self, lhs: InferSortId, rhs: InferSortId) -> bool
+        requires { CanTry self.old
+            × Placed self.old.places.lengths lhs.0
+            × Placed self.old.places.lengths rhs.0 }
+        ensures keeps { Keeps self.old self.new }
+        ensures leaves { Leaves (unifyOf (graph self.old) (bindings self.old) lhs.0 rhs.0)
+            self.old self.new result }
+    {
+        let places = self.places;
+        let l = self.bindings().shallow_normalize(lhs);
+        let r = self.bindings().shallow_normalize(rhs);
+        if l == r {
+            return true;
+        }
+        match (places.variable_at(l), places.variable_at(r)) {
+            (Some(left), Some(right)) => self.bind_variables(left, right, r),
+            (Some(left), None) => self.bind(left, r),
+            (None, Some(right)) => self.bind(right, l),
+            (None, None) => self.unify_parts(l, r),
+        }
+    }
+
+    // Two ends that are no variables. Parts are unified left to right: arguments, and the range of a function last.
+    // Interning is canonical, so two interned sorts are equal exactly when their numbers are. Equal ones are a yes at
+    // once in unify, so of two that differ only the first parts that differ are gone down.
+    #[cycle(unify_unify_parts)]
+    fn unify_parts(&mut self, l: InferSortId, r: InferSortId) -> bool
+        requires { CanTry self.old
+            × Solid self.old.places.sorts.now self.old.places.nodes.now self.old.places.lengths l.0
+            × Solid self.old.places.sorts.now self.old.places.nodes.now self.old.places.lengths r.0 }
+        ensures keeps { Keeps self.old self.new }
+        ensures leaves { Leaves
+            (unify_shapes (graph self.old) deep (unifyOf (graph self.old)) (bindings self.old)
+            l.0 (graph self.old l.0) r.0 (graph self.old r.0))
+            self.old self.new result }
+    {
+        let places = self.places;
+        if !places.same_head(l, r) {
+            return false;
+        }
+        for i in 0..places.part_count(l) {
+            let p = places.part(l, i);
+            let q = places.part(r, i);
+            if !self.unify(p, q) {
+                return false;
+            }
+        }
+        true
+    }
+
+    // Frees the last variables on the trail, down to `base`.
+    pub fn undo(&mut self, base: u16)
+        requires { (base ≤ self.old.count) × (self.old.count ≤ length self.old.trail.now) }
+        ensures keeps { Keeps self.old self.new }
+        ensures leaves { (self.new.binds.now
+            ≡ undoOf self.old.trail.now base (self.old.count - base) self.old.binds.now)
+            × (self.new.trail.now ≡ self.old.trail.now)
+            × (self.new.count ≡ base) }
+    {
+        for i in (base..self.count).rev() {
+            let var = self.trail[i as usize];
+            put(self.binds, var as usize, FREE_WORD);
+        }
+        self.count = base;
+    }
 }
 
-// Makes `lhs` and `rhs` denote the same sort, binding variables as needed, and answers whether they are unifiable. On
-// failure bindings made before the mismatch was found remain; callers undo the trail.
-#[cycle(unify_unify_parts)]
-pub fn unify(
-    sorts: &[u16],
-    nodes: &[u16],
-    binds: &mut [u16],
-    trail: &mut [u16],
+// Unify, of lists and bindings that passed their checks, with so many variables on the trail.
+pub fn unify<'p, 'b>(
+    sorts: &'p [u16],
+    nodes: &'p [u16],
+    binds: &'b mut [u16],
+    trail: &'b mut [u16],
     lengths: Lengths,
     count: u16,
     lhs: InferSortId,
@@ -118,66 +196,19 @@ pub fn unify(
         (binds_of binds.old lengths.variables) lhs.0 rhs.0)
         binds.old trail.old count binds.new trail.new result }
 {
-    let l = shallow_normalize(sorts, nodes, binds, lengths, lhs);
-    let r = shallow_normalize(sorts, nodes, binds, lengths, rhs);
-    if l.0 == r.0 {
-        return Tried::Yes(count);
+    let places = Places {
+        sorts,
+        nodes,
+        lengths,
+    };
+    let mut unifier = Unifier {
+        places,
+        binds,
+        trail,
+        count,
+    };
+    if unifier.unify(lhs, rhs) {
+        return Tried::Yes(unifier.count);
     }
-    match variable_at(sorts, nodes, lengths, l) {
-        VarAt::Is(left) => match variable_at(sorts, nodes, lengths, r) {
-            VarAt::Is(right) => bind_variables(
-                sorts, nodes, binds, trail, lengths, count, left, right, r,
-            ),
-            VarAt::Nothing => bind(sorts, nodes, binds, trail, lengths, count, left, r),
-        },
-        VarAt::Nothing => match variable_at(sorts, nodes, lengths, r) {
-            VarAt::Is(right) => bind(sorts, nodes, binds, trail, lengths, count, right, l),
-            VarAt::Nothing => unify_parts(sorts, nodes, binds, trail, lengths, count, l, r),
-        },
-    }
-}
-
-// Two ends that are no variables. Parts are unified left to right: arguments, and the range of a function last.
-// Interning is canonical, so two interned sorts are equal exactly when their numbers are. Equal ones are a yes at once
-// in unify, so of two that differ only the first parts that differ are gone down.
-#[cycle(unify_unify_parts)]
-fn unify_parts(
-    sorts: &[u16],
-    nodes: &[u16],
-    binds: &mut [u16],
-    trail: &mut [u16],
-    lengths: Lengths,
-    count: u16,
-    l: InferSortId,
-    r: InferSortId,
-) -> Tried
-    requires { Trying sorts.now nodes.now binds.old trail.old lengths count
-        × Solid sorts.now nodes.now lengths l.0
-        × Solid sorts.now nodes.now lengths r.0 }
-    ensures { TryLeaves sorts.now nodes.now lengths
-        (unify_shapes (graph_of sorts.now nodes.now lengths) deep
-        (unifyOf (graph_of sorts.now nodes.now lengths))
-        (binds_of binds.old lengths.variables)
-        l.0 (graph_of sorts.now nodes.now lengths l.0)
-        r.0 (graph_of sorts.now nodes.now lengths r.0))
-        binds.old trail.old count binds.new trail.new result }
-{
-    if !same_head(sorts, nodes, lengths, l, r) {
-        return Tried::No(count);
-    }
-    let n = part_count(sorts, nodes, lengths, l);
-    let mut done = count;
-    let mut i = 0;
-    while i < n {
-        let p = part(sorts, nodes, lengths, l, i);
-        let q = part(sorts, nodes, lengths, r, i);
-        match unify(sorts, nodes, binds, trail, lengths, done, p, q) {
-            Tried::Yes(more) => {
-                done = more;
-                i += 1;
-            }
-            Tried::No(more) => return Tried::No(more),
-        }
-    }
-    Tried::Yes(done)
+    Tried::No(unifier.count)
 }

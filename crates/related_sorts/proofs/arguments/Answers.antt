@@ -1,10 +1,13 @@
 -- The parts of a place, one after another. Assumes nothing.
-use Rattle.std.proofs.Common.{arith, length-set, ◌∙◌}
+use Rattle.std.proofs.Common.{arith, refl, length-set, ◌∙◌}
 use Rattle.related_sorts.proofs.Laws as law
 use Rattle.related_sorts.proofs.arguments.Goals as goal
 
 pub part-requires : goal.part-requires
-part-requires c = (c.requires.nodes, c.requires.placed, omega (arith, c.loop-i-test.true, c.requires.many))
+part-requires c = (c.requires.placed, omega (arith, c.loop-i-test.true, c.requires.many))
+
+pub loop-i-init : goal.loop-i-init
+loop-i-init c = (omega arith, refl, refl)
 
 pub loop-i-preserved : goal.loop-i-preserved
 loop-i-preserved c = (

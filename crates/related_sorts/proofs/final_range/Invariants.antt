@@ -1,15 +1,17 @@
 -- The functions passed are noted; the rank of the place that was reached falls. Assumes nothing.
 use Rattle.std.proofs.Common.{◌≡◌, length}
-use Rattle.unification.specs.Nodes.{binds_of}
+use Rattle.unification.specs.Term.{kind_head}
+use Rattle.unification.specs.Inner.Term.{head_of}
 use Rattle.unification.specs.Unify.{deep}
-use Rattle.unification.specs.Checked.{graph_of}
 use Rattle.unification.proofs.Rank.{rank}
+use Rattle.infer_nodes.specs.Places.{graph, bindings}
 use Rattle.related_sorts.proofs.Ranges.{Descending}
 use Rattle.related_sorts.proofs.final_range.Given as goal
 
-abbrev pub invariant-loop-kind : goal.invariant-loop-kind
-invariant-loop-kind l =
-    Descending l.sorts l.nodes l.binds l.lengths l.initial.end l.functions l.end l.count l.kind × (length l.functions ≡ length l.initial.functions)
+abbrev pub invariant-loop-places : goal.invariant-loop-places
+invariant-loop-places l =
+    Descending l.bindings.places.sorts.now l.bindings.places.nodes.now l.bindings.binds.now l.bindings.places.lengths l.initial.range.0 l.functions l.range.0 l.count
+    (kind_head (head_of (graph l.bindings.places l.range.0))) × (length l.functions ≡ length l.initial.functions)
 
-abbrev pub decreases-loop-kind : goal.decreases-loop-kind
-decreases-loop-kind l = rank (graph_of l.sorts l.nodes l.lengths) deep (binds_of l.binds l.lengths.variables) l.end
+abbrev pub decreases-loop-places : goal.decreases-loop-places
+decreases-loop-places l = rank (graph l.bindings.places) deep (bindings l.bindings) l.range.0

@@ -2,8 +2,11 @@
 use Rattle.related_sorts.proofs.Ranges as law
 use Rattle.related_sorts.proofs.over_function.Goals as goal
 
+pub invariant_of-places : goal.invariant_of-places
+invariant_of-places c = record { checked = (law.function_placed c.args.sorts.now c.args.nodes.now c.args.found c.args.id.0 c.requires _ _ c.in-These.is).0 }
+
 pub part_count-count-requires : goal.part_count-count-requires
-part_count-count-requires c = law.function_placed c.args.sorts.now c.args.nodes.now c.args.found c.args.id.0 c.requires _ _ c.in-These.is
+part_count-count-requires c = (law.function_placed c.args.sorts.now c.args.nodes.now c.args.found c.args.id.0 c.requires _ _ c.in-These.is).1
 
 pub overflow_sub-count : goal.overflow_sub-count
 overflow_sub-count c = (law.function_counted c.args.sorts.now c.args.nodes.now c.args.found c.args.id.0 c.requires _ _ c.in-These.is _ c.part_count-count.ensures).0

@@ -1,7 +1,11 @@
 -- What is found for the final range, and the functions over it. Assumes nothing.
 use Rattle.std.proofs.Common.{arith}
+use Rattle.infer_nodes.proofs.Passing.{pass_of}
 use Rattle.related_sorts.proofs.Ranges as law
 use Rattle.related_sorts.proofs.related_function.Goals as goal
+
+pub invariant_of-final_range : goal.invariant_of-final_range
+invariant_of-final_range c = record { passed = pass_of _ _ _ _ c.requires.0 }
 
 pub related_head-found-requires : goal.related_head-found-requires
 related_head-found-requires c = (c.requires.0.nodes, c.final_range-last.ensures.placed)
