@@ -1,9 +1,9 @@
 -- How tokens are found in a line.
 pub mod Places
 pub mod Runs
+pub mod RunEnd
 pub mod Tokens
-pub mod Parts
-pub mod Compare
+pub mod Words
 pub mod Lexemes
 pub mod Tags
 pub mod Examples

@@ -1,5 +1,5 @@
 -- A loop over a run of bytes: past the bytes met so far what is left after the run is the same. Assumes nothing.
-use mathlib.Core.Path.{◌≡◌, refl, sym, ap, ◌∙◌}
+use mathlib.Core.Path.{◌≡◌, sym, ap, ◌∙◌}
 use mathlib.Core.Bool.{Bool, true, false}
 use mathlib.Core.List.{List}
 use Prim.Native.Nat.{ℕ, ◌+◌, ◌<◌, ◌≤◌}
@@ -7,9 +7,7 @@ use native.Mathlib.Omega.{arith}
 use native.Mathlib.Numerals.{add-one}
 use lib.ListN.{length, get_or, drop, drop_of_length-le}
 use lib.Seq.{drop-cons}
-use lib.Dec.{eqb}
-use borrow.Author.Tests.{eq-eqb, ne_eqb}
-use Rattle.sort_text.specs.Tokens.{skip, past}
+use Rattle.sort_text.specs.Tokens.{past}
 use Rattle.sort_lexer.specs.Inner.Lexeme.{offset}
 use Rattle.sort_lexer.proofs.Places.{place_drop}
 
@@ -29,18 +27,3 @@ module _ (p : ℕ → Bool) (l : List ℕ) (at i : ℕ) (inv : past p (drop at l
     pub run_from_next : q ≡ true → past p (drop at l) ≡ past p (drop (i + 1) l)
     unfolding past
     run_from_next f = inv ∙ rw (add-one, drop-cons l i 0 h, ← e, f)
-
--- the same for spaces
-module _ (l : List ℕ) (at i : ℕ) (inv : skip (drop at l) ≡ skip (drop i l)) where
-  pub spaces_to_the_end : length l ≤ i → length l ≡ offset l (skip (drop at l))
-  unfolding skip
-  spaces_to_the_end = run_to_the_end (eqb 32) l at i inv
-
-  module _ (h : i < length l) where
-    pub spaces_to_here : (get_or l i 0 ≡ 32 → ⊥) → i ≡ offset l (skip (drop at l))
-    unfolding skip
-    spaces_to_here f = run_to_here (eqb 32) l at i inv h _ refl (ne_eqb 32 (get_or l i 0) (λ e. f (sym e)))
-
-    pub spaces_from_next : get_or l i 0 ≡ 32 → skip (drop at l) ≡ skip (drop (i + 1) l)
-    unfolding skip
-    spaces_from_next f = run_from_next (eqb 32) l at i inv h _ refl (eq-eqb 32 (get_or l i 0) (sym f))

@@ -2,16 +2,19 @@
 // function here has a precondition.
 #![tactic(auto)]
 
-ghost use Rattle.std.specs.Prelude.{◌≡◌, ◌-◌, take, drop};
+ghost use Rattle.std.specs.Prelude.{◌≡◌, ℕ, Bool, ◌-◌, take, drop};
+ghost use Rattle.std.specs.List.{find};
 ghost use Rattle.sort_text.specs.Tokens.{is_letter, skip, past};
 ghost use Rattle.sort_text.specs.Parse.{same_bytes, meaning};
-ghost use Rattle.sort_lexer.specs.Inner.Lexeme.{offset, lexeme_of};
-ghost use Rattle.sort_lexer.specs.Inner.Meant.{meant, container_meaning};
+ghost use Rattle.sort_lexer.specs.Inner.Lexeme.{offset, Tests, lexeme_of};
+ghost use Rattle.sort_lexer.specs.Inner.Meant.{meant, text_of};
 
 use resolved_sort::{ComplexSort, Sort};
+use sort_text::{op_word, sort_word};
 
-// A token of a line: a longest run of letters, `(`, `)`, `#`, `->`; any other byte starts a token that cannot follow.
-#[derive(Clone, Copy, Drop)]
+// A token of a line: a longest run of letters, `(`, `)`, `#`, `->`. The end of the line, and a byte that starts none of
+// these, count as tokens that cannot follow: where they stand is asked for as well.
+#[derive(Clone, Copy, Debug, PartialEq, Eq)]
 pub enum Token {
     End,
     Word,
@@ -23,124 +26,18 @@ pub enum Token {
 }
 
 // A token, where it starts, and the position after it: for End and Bad where they start.
-#[derive(Clone, Copy, Drop)]
+#[derive(Clone, Copy, Debug, PartialEq, Eq)]
 pub struct Lexeme {
     pub token: Token,
     pub at: usize,
     pub next: usize,
 }
 
-// What a word says: a basic sort, a container, or nothing.
-#[derive(Clone, Copy, Drop)]
-pub enum Meaning {
+// What a word says: a basic sort, or a container.
+#[derive(Clone, Copy, Debug, PartialEq, Eq)]
+pub enum Word {
     Basic(Sort),
-    Over(ComplexSort),
-    Unknown,
-}
-
-// A byte of a word: A to Z and a to z, and no byte above 127.
-fn is_letter(b: u8) -> bool
-    ensures { result ≡ is_letter b }
-{
-    if b < b'A' {
-        return false;
-    }
-    if b <= b'Z' {
-        return true;
-    }
-    if b < b'a' {
-        return false;
-    }
-    b <= b'z'
-}
-
-// The first position from `at` on that has no space.
-pub fn skip_spaces(line: &[u8], at: usize) -> usize
-    ensures { result ≡ offset line.now (skip (drop at line.now)) }
-{
-    let mut i = at;
-    while i < line.len() {
-        if line[i] != b' ' {
-            return i;
-        }
-        i += 1;
-    }
-    line.len()
-}
-
-// The end of the run of letters from `at` on.
-fn word_end(line: &[u8], at: usize) -> usize
-    ensures { result ≡ offset line.now (past is_letter (drop at line.now)) }
-{
-    let mut i = at;
-    while i < line.len() {
-        if is_letter(line[i]) {
-            i += 1;
-        } else {
-            return i;
-        }
-    }
-    line.len()
-}
-
-// The token that starts at `at` or after spaces there.
-fn token_at(line: &[u8], at: usize) -> Lexeme
-    ensures { result ≡ lexeme_of line.now at }
-{
-    let from = skip_spaces(line, at);
-    if line.len() <= from {
-        return Lexeme {
-            token: Token::End,
-            at: from,
-            next: from,
-        };
-    }
-    let b = line[from];
-    if is_letter(b) {
-        let to = word_end(line, from + 1);
-        return Lexeme {
-            token: Token::Word,
-            at: from,
-            next: to,
-        };
-    }
-    if b == b'(' {
-        return Lexeme {
-            token: Token::Open,
-            at: from,
-            next: from + 1,
-        };
-    }
-    if b == b')' {
-        return Lexeme {
-            token: Token::Close,
-            at: from,
-            next: from + 1,
-        };
-    }
-    if b == b'#' {
-        return Lexeme {
-            token: Token::Hash,
-            at: from,
-            next: from + 1,
-        };
-    }
-    if b == b'-' {
-        if from + 1 < line.len() {
-            if line[from + 1] == b'>' {
-                return Lexeme {
-                    token: Token::Arrow,
-                    at: from,
-                    next: from + 2,
-                };
-            }
-        }
-    }
-    Lexeme {
-        token: Token::Bad,
-        at: from,
-        next: from,
-    }
+    Container(ComplexSort),
 }
 
 // The end of the caller's own line that starts at `at`; past the end it is empty.
@@ -148,12 +45,7 @@ fn token_at(line: &[u8], at: usize) -> Lexeme
 pub fn unread(line: &[u8], at: usize) -> &[u8]
     ensures { result.now ≡ drop at line.now }
 {
-    if at <= line.len() {
-        &line[at..]
-    } else {
-        let end = line.len();
-        &line[end..]
-    }
+    line.get(at..).unwrap_or(&[])
 }
 
 // The bytes of the line from `from` to `to`, as far as it has them.
@@ -161,108 +53,150 @@ pub fn between(line: &[u8], from: usize, to: usize) -> &[u8]
     ensures { result.now ≡ take (to - from) (drop from line.now) }
 {
     let rest = unread(line, from);
-    if from <= to {
-        let n = to - from;
-        if n <= rest.len() {
-            return &rest[..n];
+    &rest[..rest.len().min(to.saturating_sub(from))]
+}
+
+// The first position from `at` on whose byte does not pass, or the end of the line.
+pub fn run_end<P: Fn(u8) -> bool>(line: &[u8], at: usize, passes: P) -> usize
+    requires { P.IsAlwaysCallable passes }
+    ensures { (p : ℕ → Bool) → Tests (P.post passes) p → result ≡ offset line.now (past p (drop at line.now)) }
+{
+    for (i, byte) in unread(line, at).iter().enumerate() {
+        if !passes(*byte) {
+            return at + i;
         }
-        return rest;
     }
-    &rest[..0]
+    line.len()
+}
+
+// The first position from `at` on that has no space.
+pub fn skip_spaces(line: &[u8], at: usize) -> usize
+    ensures { result ≡ offset line.now (skip (drop at line.now)) }
+{
+    run_end(line, at, |b| b == b' ')
+}
+
+// The end of the run of letters from `at` on.
+fn word_end(line: &[u8], at: usize) -> usize
+    ensures { result ≡ offset line.now (past is_letter (drop at line.now)) }
+{
+    run_end(line, at, |b| b.is_ascii_alphabetic())
+}
+
+// The token that starts at `at` or after spaces there.
+fn token_at(line: &[u8], at: usize) -> Lexeme
+    ensures { result ≡ lexeme_of line.now at }
+{
+    let from = skip_spaces(line, at);
+    let Some(byte) = line.get(from) else {
+        return Lexeme {
+            token: Token::End,
+            at: from,
+            next: from,
+        };
+    };
+    let (token, next) = match *byte {
+        b if b.is_ascii_alphabetic() => (Token::Word, word_end(line, from + 1)),
+        b'(' => (Token::Open, from + 1),
+        b')' => (Token::Close, from + 1),
+        b'#' => (Token::Hash, from + 1),
+        b'-' if unread(line, from).starts_with(b"->") => (Token::Arrow, from + 2),
+        _ => (Token::Bad, from),
+    };
+    Lexeme {
+        token,
+        at: from,
+        next,
+    }
 }
 
 // Two lists of bytes are the same.
 pub fn same_bytes(a: &[u8], b: &[u8]) -> bool
     ensures { result ≡ same_bytes a.now b.now }
 {
-    if a.len() != b.len() {
-        return false;
-    }
-    let mut i = 0;
-    while i < a.len() {
-        if a[i] != b[i] {
-            return false;
+    a == b
+}
+
+impl Word {
+    // How the word is spelled.
+    #[tactic(auto, unfolding(crate::specs::Inner::Meant::text_of))]
+    pub fn text(self) -> &'static [u8]
+        ensures { result.now ≡ text_of self }
+    {
+        match self {
+            Word::Basic(sort) => sort_word(sort),
+            Word::Container(op) => op_word(op),
         }
-        i += 1;
     }
-    true
+
+    // Whether bytes spell the word.
+    fn is_spelled(self, bytes: &[u8]) -> bool
+        ensures { result ≡ same_bytes bytes.now (text_of self) }
+    {
+        same_bytes(bytes, self.text())
+    }
+
+    // The word that bytes spell.
+    pub fn spelled(bytes: &[u8]) -> Option<Word>
+        ensures { result ≡ meant (meaning bytes.now) }
+    {
+        first_spelled(&WORDS, bytes)
+    }
 }
 
-// The container that a word names.
-fn container_word(w: &[u8]) -> Meaning
-    ensures { result ≡ meant (container_meaning w.now) }
+// The first of some words that bytes spell.
+fn first_spelled(words: &[Word], bytes: &[u8]) -> Option<Word>
+    ensures { result ≡ find (λ word. same_bytes bytes.now (text_of word)) words.now }
 {
-    if same_bytes(w, b"List") {
-        return Meaning::Over(ComplexSort::List);
-    }
-    if same_bytes(w, b"Set") {
-        return Meaning::Over(ComplexSort::Set);
-    }
-    if same_bytes(w, b"FSet") {
-        return Meaning::Over(ComplexSort::FSet);
-    }
-    if same_bytes(w, b"Bag") {
-        return Meaning::Over(ComplexSort::Bag);
-    }
-    if same_bytes(w, b"FBag") {
-        return Meaning::Over(ComplexSort::FBag);
-    }
-    Meaning::Unknown
-}
-
-// The basic sort or the container that a word names.
-fn meaning_of(w: &[u8]) -> Meaning
-    ensures { result ≡ meant (meaning w.now) }
-{
-    if same_bytes(w, b"Bool") {
-        return Meaning::Basic(Sort::Bool);
-    }
-    if same_bytes(w, b"Pos") {
-        return Meaning::Basic(Sort::Pos);
-    }
-    if same_bytes(w, b"Nat") {
-        return Meaning::Basic(Sort::Nat);
-    }
-    if same_bytes(w, b"Int") {
-        return Meaning::Basic(Sort::Int);
-    }
-    if same_bytes(w, b"Real") {
-        return Meaning::Basic(Sort::Real);
-    }
-    container_word(w)
-}
-
-// What the word from `from` to `to` says.
-pub fn word_meaning(line: &[u8], from: usize, to: usize) -> Meaning
-    ensures { result ≡ meant (meaning (take (to - from) (drop from line.now))) }
-{
-    meaning_of(between(line, from, to))
+    words.iter().copied().find(|word| word.is_spelled(bytes))
 }
 
 // A line and a position in it.
-#[derive(Clone, Copy, Drop)]
+#[derive(Clone, Copy, Debug)]
 pub struct Reader<'a> {
     pub line: &'a [u8],
     pub at: usize,
 }
 
-// A reader of a line at a position.
-pub fn new<'a>(line: &'a [u8], at: usize) -> Reader<'a>
-    ensures { (result.line ≡ line.entry) × (result.at ≡ at) }
-{
-    Reader { line, at }
-}
+impl<'a> Reader<'a> {
+    // A reader of a line at a position.
+    pub fn new(line: &'a [u8], at: usize) -> Reader<'a>
+        ensures { (result.line ≡ line.entry) × (result.at ≡ at) }
+    {
+        Reader { line, at }
+    }
 
-// The token at a reader's position.
-pub fn next_token<'a>(r: Reader<'a>) -> Lexeme
-    ensures { result ≡ lexeme_of r.entry.line.now r.entry.at }
-{
-    token_at(r.line, r.at)
+    // The token at the position.
+    pub fn next_token(&self) -> Lexeme
+        ensures { result ≡ lexeme_of self.now.line.now self.now.at }
+    {
+        token_at(self.line, self.at)
+    }
+
+    // What the word that a token stands for says.
+    pub fn word(&self, found: Lexeme) -> Option<Word>
+        ensures { result ≡ meant (meaning (take (found.next - found.at) (drop found.at self.now.line.now))) }
+    {
+        Word::spelled(between(self.line, found.at, found.next))
+    }
 }
 
 // The next token of a reader at a position of a line: what the recogniser reads by.
 pub fn token_from(line: &[u8], at: usize) -> Lexeme
     ensures { result ≡ lexeme_of line.now at }
 {
-    next_token(new(line, at))
+    Reader::new(line, at).next_token()
 }
+
+const WORDS: [Word; 10] = [
+    Word::Basic(Sort::Bool),
+    Word::Basic(Sort::Pos),
+    Word::Basic(Sort::Nat),
+    Word::Basic(Sort::Int),
+    Word::Basic(Sort::Real),
+    Word::Container(ComplexSort::List),
+    Word::Container(ComplexSort::Set),
+    Word::Container(ComplexSort::FSet),
+    Word::Container(ComplexSort::Bag),
+    Word::Container(ComplexSort::FBag),
+];

@@ -2,7 +2,38 @@
 // failing check of document 01.
 #![tactic(auto)]
 
-use resolved_sort::{Counts, SortId};
+ghost use Rattle.std.specs.Prelude.{◌≡◌};
+ghost use Rattle.sort_text.specs.Parse.{sort_word, op_word};
+
+use resolved_sort::{ComplexSort, Counts, Sort, SortId};
+
+// The word of a basic sort.
+#[tactic(auto, unfolding(crate::specs::Parse::sort_word))]
+pub fn sort_word(sort: Sort) -> &'static [u8]
+    ensures { result.now ≡ sort_word sort }
+{
+    match sort {
+        Sort::Bool => b"Bool",
+        Sort::Pos => b"Pos",
+        Sort::Nat => b"Nat",
+        Sort::Int => b"Int",
+        Sort::Real => b"Real",
+    }
+}
+
+// The word of a container.
+#[tactic(auto, unfolding(crate::specs::Parse::op_word))]
+pub fn op_word(op: ComplexSort) -> &'static [u8]
+    ensures { result.now ≡ op_word op }
+{
+    match op {
+        ComplexSort::List => b"List",
+        ComplexSort::Set => b"Set",
+        ComplexSort::FSet => b"FSet",
+        ComplexSort::Bag => b"Bag",
+        ComplexSort::FBag => b"FBag",
+    }
+}
 
 // What reading a line answers: the sort of the line, stored, with the counts after it; that the line is no sort, with
 // the position of its unread end (20); or that a new sort had no room (15).

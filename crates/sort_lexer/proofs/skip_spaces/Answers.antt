@@ -1,12 +1,8 @@
--- Each step is one of a run of spaces from the front. Assumes nothing.
-use Rattle.sort_lexer.proofs.Runs as law
+-- A run of spaces. Assumes nothing.
+use Rattle.std.proofs.Common.{eqb, rules}
+use Rattle.sort_text.specs.Tokens.{skip}
 use Rattle.sort_lexer.proofs.skip_spaces.Goals as goal
 
-pub returns-then-line-i-ne32 : goal.returns-then-line-i-ne32
-returns-then-line-i-ne32 c = search law.spaces_to_here
-
-pub loop-i-preserved : goal.loop-i-preserved
-loop-i-preserved c = search law.spaces_from_next
-
 pub returns : goal.returns
-returns c = search law.spaces_to_the_end
+unfolding skip
+returns c = c.run_end.ensures (eqb 32) (λ b r h. search rules)

@@ -1,30 +1,42 @@
--- Each return has found the first byte that is no space, and what it is. Assumes nothing.
+-- The first byte that is no space says which token it is. Assumes nothing.
+use Rattle.std.proofs.Common.{rules, ltb-false, sym}
 use Rattle.sort_lexer.proofs.Tokens as law
 use Rattle.sort_lexer.proofs.token_at.Goals as goal
 
-pub returns-then-line-from : goal.returns-then-line-from
-returns-then-line-from c = search law.no_token_left
+pub returns-in_default : goal.returns-in_default
+returns-in_default c = law.no_token_left _ _ _ c.skip_spaces-from.ensures (ltb-false _ _ (sym c.in_default.ensures.lookup.0))
 
-pub returns-then-is_letter : goal.returns-then-is_letter
-returns-then-is_letter c = search law.a_word
+pub returns-in-40 : goal.returns-in-40
+returns-in-40 c =
+    let f = c.in-Some.ensures.lookup in
+    law.says_open _ _ _ c.skip_spaces-from.ensures _ f.0 f.1 c.in-40.is
 
-pub returns-then-b-eq40 : goal.returns-then-b-eq40
-returns-then-b-eq40 c = search law.an_open_bracket
+pub returns-in-41 : goal.returns-in-41
+returns-in-41 c =
+    let f = c.in-Some.ensures.lookup in
+    law.says_close _ _ _ c.skip_spaces-from.ensures _ f.0 f.1 c.in-41.is
 
-pub returns-then-b-eq41 : goal.returns-then-b-eq41
-returns-then-b-eq41 c = search law.a_close_bracket
+pub returns-in-35 : goal.returns-in-35
+returns-in-35 c =
+    let f = c.in-Some.ensures.lookup in
+    law.says_hash _ _ _ c.skip_spaces-from.ensures _ f.0 f.1 c.in-35.is
 
-pub returns-then-b-eq35 : goal.returns-then-b-eq35
-returns-then-b-eq35 c = search law.a_hash
+pub returns-in-45 : goal.returns-in-45
+returns-in-45 c =
+    let f = c.in-Some.ensures.lookup in
+    law.says_arrow _ _ _ c.skip_spaces-from.ensures _ f.0 f.1 c.in-45.is _ c.unread.ensures _ c.starts_with.ensures.value c.if-starts_with.true
 
-pub returns-then-line-from-eq62 : goal.returns-then-line-from-eq62
-returns-then-line-from-eq62 c = search law.an_arrow
+pub returns-then-is_ascii_alphabetic : goal.returns-then-is_ascii_alphabetic
+returns-then-is_ascii_alphabetic c =
+    let f = c.in-Some.ensures.lookup in
+    law.says_word _ _ _ c.skip_spaces-from.ensures _ f.0 f.1 _ c.is_ascii_alphabetic.ensures.value c.if-is_ascii_alphabetic.true _ c.word_end.ensures
 
-pub returns-else-line-from-eq62 : goal.returns-else-line-from-eq62
-returns-else-line-from-eq62 c = search law.a_dash_alone
+pub returns-in_default-2 : goal.returns-in_default-2
+returns-in_default-2 c =
+    let f = c.in-Some.ensures.lookup in
+    law.says_dash _ _ _ c.skip_spaces-from.ensures _ f.0 f.1 c.in-45.is _ c.unread.ensures _ c.starts_with.ensures.value c.if-starts_with.false
 
-pub returns-else-from-line : goal.returns-else-from-line
-returns-else-from-line c = search law.a_dash_at_the_end
-
-pub returns-else-b-eq45 : goal.returns-else-b-eq45
-returns-else-b-eq45 c = search law.no_token
+pub returns-in_default-2-2 : goal.returns-in_default-2-2
+returns-in_default-2-2 c =
+    let f = c.in-Some.ensures.lookup in
+    law.says_nothing _ _ _ c.skip_spaces-from.ensures _ f.0 f.1 _ c.is_ascii_alphabetic.ensures.value c.if-is_ascii_alphabetic.false (search rules) (search rules) (search rules) (search rules)

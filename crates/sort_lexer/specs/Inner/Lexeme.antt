@@ -1,6 +1,6 @@
 -- A token with positions in place of what is left of the line: a position i stands for `drop i line`, and what is left
 -- of the line for its place.
-use Rattle.std.specs.Prelude.{List, ℕ, ◌-◌, length, take, drop}
+use Rattle.std.specs.Prelude.{◌≡◌, Bool, List, ℕ, ◌-◌, length, take, drop}
 use Rattle.sort_text.specs.Tokens.{is_letter, NextToken, end, word, open_bracket, close_bracket, hash, arrow, bad}
 use Rattle.sort_text.specs.Tokens.{skip, next}
 use Rattle.sort_lexer.specs.declared.Token.{Token}
@@ -10,6 +10,10 @@ use Rattle.sort_lexer.specs.declared.Lexeme.{Lexeme}
 -- where bs starts, the end of the line
 abbrev pub offset : List ℕ → List ℕ → ℕ
 offset line bs = length line - length bs
+
+-- p is what a test of bytes answers, which post says
+abbrev pub Tests : (ℕ → Bool → Type 0) → (ℕ → Bool) → Type 0
+Tests post p = (b : ℕ) (r : Bool) → post b r → r ≡ p b
 
 -- the token at bs, as it was found there
 unfoldable pub lexeme : List ℕ → List ℕ → NextToken → Lexeme

@@ -1,21 +1,15 @@
--- What a word says, as the code answers it.
-use Rattle.std.specs.Prelude.{cond, List, ℕ}
-use Rattle.resolved_sort.specs.declared.ComplexSort.{ComplexSort}
+-- What a word says, as the code answers it, and how it is spelled.
+use Rattle.std.specs.Prelude.{List, ℕ, Option, Some, None}
 use Rattle.sort_text.specs.Parse as Parse
-use Rattle.sort_text.specs.Parse.{basic, operator, unknown, same_bytes, op_word}
-use Rattle.sort_lexer.specs.declared.Meaning.{Meaning}
-use Rattle.sort_lexer.specs.declared.Meaning.TheVariants.{Basic, Over, Unknown}
+use Rattle.sort_text.specs.Parse.{basic, operator, unknown, sort_word, op_word}
+use Rattle.sort_lexer.specs.declared.Word.{Word}
+use Rattle.sort_lexer.specs.declared.Word.TheVariants.{Basic, Container}
 
-unfoldable pub meant : Parse.WordMeaning → Meaning
-meant (basic s) = Basic s
-meant (operator o) = Over o
-meant unknown = Unknown
+unfoldable pub meant : Parse.WordMeaning → Option Word
+meant (basic s) = Some (Basic s)
+meant (operator o) = Some (Container o)
+meant unknown = None
 
--- what a word says that is no basic sort
-unfoldable pub container_meaning : List ℕ → Parse.WordMeaning
-container_meaning w =
-    cond (same_bytes w (op_word ComplexSort.List)) (operator ComplexSort.List)
-    (cond (same_bytes w (op_word ComplexSort.Set)) (operator ComplexSort.Set)
-    (cond (same_bytes w (op_word ComplexSort.FSet)) (operator ComplexSort.FSet)
-    (cond (same_bytes w (op_word ComplexSort.Bag)) (operator ComplexSort.Bag)
-    (cond (same_bytes w (op_word ComplexSort.FBag)) (operator ComplexSort.FBag) unknown))))
+unfoldable pub text_of : Word → List ℕ
+text_of (Basic s) = sort_word s
+text_of (Container o) = op_word o
