@@ -19,9 +19,7 @@ use Rattle.sort_text.specs.Reading.{read_left, read_as_of}
 use Rattle.sort_text.specs.Writing.{write_left}
 use Rattle.pair_line.specs.PairProgram.{none_text, small_decimal, comma, answer, Line, good, wrong, line_of, with_first, with_second, single, pair}
 use Rattle.pair_line.proofs.PairLength.{pair_length, single_length}
-use Rattle.sort_recogniser.specs.declared.Recognised.{Recognised}
-use Rattle.sort_recogniser.specs.declared.Recognised.TheVariants.{Done, Stuck}
-use Rattle.sort_recogniser.specs.Inner.Says.{Says}
+use Rattle.sort_recogniser.specs.Inner.Says.{Recognised, done_at, stuck_at, Says}
 use Rattle.text_out.specs.Put.{Put}
 use Rattle.text_out.proofs.Put.{put_then, put_as, put_length}
 use Rattle.sort_writer.proofs.Front.{put_front}
@@ -132,21 +130,21 @@ module _ (bs out : List ℕ) (at : ℕ) where
   single_long l = single_as (wrong (49 ∷ 57 ∷ [])) (line_long bs l)
 
   module _ (l : length bs ≤ 200) (steps : List ℕ) (x : Recognised) (f : Says bs 0 (length bs) [] (line bs) steps x) where
-    good_by : (P : Parsed) → line bs ≡ P → (p m : ℕ) → Says bs 0 (length bs) [] P steps (Done p m) → (t : Tree) × (line_of bs ≡ good t)
+    good_by : (P : Parsed) → line bs ≡ P → (p m : ℕ) → Says bs 0 (length bs) [] P steps (done_at p m) → (t : Tree) × (line_of bs ≡ good t)
     unfolding Says
     good_by (parsed t cs) i p m w = (t, line_good bs cs t l i)
     good_by (stuck cs) i p m w = absurd w
 
-    wrong_by : (P : Parsed) → line bs ≡ P → (p : ℕ) → Says bs 0 (length bs) [] P steps (Stuck p) → line_of bs ≡ wrong (50 ∷ 48 ∷ 58 ∷ drop p bs)
+    wrong_by : (P : Parsed) → line bs ≡ P → (p : ℕ) → Says bs 0 (length bs) [] P steps (stuck_at p) → line_of bs ≡ wrong (50 ∷ 48 ∷ 58 ∷ drop p bs)
     unfolding Says
     wrong_by (parsed t cs) i p w = absurd w
     wrong_by (stuck cs) i p w = line_wrong bs cs l i ∙ ap (λ y. wrong (50 ∷ 48 ∷ 58 ∷ y)) (sym w.1)
 
-    pub single_good : (p m : ℕ) → x ≡ Done p m → (out₁ : List ℕ) (r : ℕ) → Put out at (with_lf (50 ∷ 49 ∷ [])) out₁ r
+    pub single_good : (p m : ℕ) → x ≡ done_at p m → (out₁ : List ℕ) (r : ℕ) → Put out at (with_lf (50 ∷ 49 ∷ [])) out₁ r
         → Put out at (with_lf (single (line_of bs))) out₁ r
     single_good p m i = let y = good_by (line bs) refl p m (subst (Says bs 0 (length bs) [] (line bs) steps) i f) in single_as (good y.0) y.1
 
-    pub single_unread : (p : ℕ) → x ≡ Stuck p → (out₁ : List ℕ) (r : ℕ)
+    pub single_unread : (p : ℕ) → x ≡ stuck_at p → (out₁ : List ℕ) (r : ℕ)
         → Put out at (with_lf (50 ∷ 48 ∷ 58 ∷ drop p bs)) out₁ r → Put out at (with_lf (single (line_of bs))) out₁ r
     single_unread p i = single_as (wrong (50 ∷ 48 ∷ 58 ∷ drop p bs)) (wrong_by (line bs) refl p (subst (Says bs 0 (length bs) [] (line bs) steps) i f))
 

@@ -23,7 +23,7 @@ use sort_bounds::bound;
 use sort_lexer::unread;
 use sort_order::{is_materializable, partial_cmp, widening_distance};
 use sort_reader::read_line;
-use sort_recogniser::{Recognised, recognise};
+use sort_recogniser::{Stuck, recognise};
 use sort_text::{MAX_LINE, Read, Written};
 use sort_writer::put_sort;
 use text_out::put_bytes;
@@ -260,8 +260,8 @@ pub fn put_single(line: &[u8], out: &mut [u8], at: usize) -> usize
     }
     let mut steps = [0u8; MAX_LINE];
     match recognise(line, &mut steps) {
-        Recognised::Done(_, _) => put_bytes(b"21\n", out, at),
-        Recognised::Stuck(from) => put_unread(line, from, out, at),
+        Ok(_) => put_bytes(b"21\n", out, at),
+        Err(Stuck(from)) => put_unread(line, from, out, at),
     }
 }
 

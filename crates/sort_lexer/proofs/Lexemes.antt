@@ -169,3 +169,25 @@ module _ (l : List ℕ) (at : ℕ) (r : Lexeme) (e : r ≡ lexeme_of l at) where
   pub next_is_bad : r.token ≡ Bad → next is_letter (drop at l) ≡ bad
   unfolding said_by
   next_is_bad = next_is Bad
+
+-- only the end of the line is read as its end
+never_end : (q : Bool) (m n : NextToken) → (m ≡ end → ⊥) → (n ≡ end → ⊥) → cond q m n ≡ end → ⊥
+never_end true m n f g = f
+never_end false m n f g = g
+
+dash_goes_on : (bs : List ℕ) → dash bs ≡ end → ⊥
+dash_goes_on [] = λ e. cc
+dash_goes_on (b ∷ bs) = never_end (eqb b 62) _ _ (λ e. cc) (λ e. cc)
+
+nothing_left : (p : ℕ → Bool) (bs : List ℕ) → next_at p bs ≡ end → bs ≡ []
+unfolding start
+nothing_left p [] = λ e. refl
+nothing_left p (b ∷ bs) = λ e. absurd (never_end (p b) _ _ (λ e. cc)
+    (never_end (eqb b 40) _ _ (λ e. cc) (never_end (eqb b 41) _ _ (λ e. cc) (never_end (eqb b 35) _ _ (λ e. cc)
+    (never_end (eqb b 45) _ _ (dash_goes_on bs) (λ e. cc))))) e)
+
+pub ends_at_the_end : (l : List ℕ) (at : ℕ) (r : Lexeme) → r ≡ lexeme_of l at → r.token ≡ End → r.next ≡ length l
+unfolding lexeme_of lexeme next
+ends_at_the_end l at r e f =
+    ap (λ (x : Lexeme). x.next) (e ∙ ap (lexeme l (skip (drop at l))) (next_is_end l at r e f))
+    ∙ ap (offset l) (nothing_left is_letter (skip (drop at l)) (next_is_end l at r e f)) ∙ omega arith

@@ -36,9 +36,7 @@ use Rattle.sort_text.proofs.Stores.{steps_are_store}
 use Rattle.sort_text.proofs.Running.{steps_kept}
 use Rattle.sort_text.proofs.WhatIsRead.{line_writable}
 use Rattle.sort_text.proofs.LineSteps.{line_steps_short}
-use Rattle.sort_recogniser.specs.declared.Recognised.{Recognised}
-use Rattle.sort_recogniser.specs.declared.Recognised.TheVariants.{Done, Stuck}
-use Rattle.sort_recogniser.specs.Inner.Says.{Says}
+use Rattle.sort_recogniser.specs.Inner.Says.{Recognised, done_at, stuck_at, Says}
 use Rattle.sort_reader.specs.Inner.Run.{stack_of, run_at, Running}
 use Rattle.sort_reader.specs.Inner.Tested.{Passes, kept_or_no_room}
 
@@ -154,14 +152,14 @@ module _ (ws : List ℕ) (n e : ℕ) (bs : List ℕ) (q : Passes ws n e bs) wher
         (sorts_of ws n e) (line_steps_short bs cs t is) (grown_none ws n e q.checked) six_in tt)
 
   -- a line that is no sort
-  not_a_sort_at : (P : Parsed) (out : List ℕ) (p : ℕ) → Says bs 0 (length bs) [] P out (Stuck p) → read_left ws (NotASort p) ≡ read_as_of ws n e bs P
+  not_a_sort_at : (P : Parsed) (out : List ℕ) (p : ℕ) → Says bs 0 (length bs) [] P out (stuck_at p) → read_left ws (NotASort p) ≡ read_as_of ws n e bs P
   unfolding Says read_as_of
   not_a_sort_at (parsed t cs) out p s = absurd s
   not_a_sort_at (stuck cs) out p s =
       let f : p ≡ length bs - length cs = omega (arith, s.0, ap length s.1, length-drop p bs) in ap (λ x. read_left ws (NotASort x)) f
 
   module _ (out : List ℕ) (r : Recognised) (s : Says bs 0 (length bs) [] (line bs) out r) where
-    pub not_a_sort : (p : ℕ) → r ≡ Stuck p → read_left ws (NotASort p) ≡ read_as_of ws n e bs (line bs)
+    pub not_a_sort : (p : ℕ) → r ≡ stuck_at p → read_left ws (NotASort p) ≡ read_as_of ws n e bs (line bs)
     not_a_sort p i = not_a_sort_at (line bs) out p (subst (Says bs 0 (length bs) [] (line bs) out) i s)
 
     -- a sort, and its steps
@@ -172,12 +170,12 @@ module _ (ws : List ℕ) (n e : ℕ) (bs : List ℕ) (q : Passes ws n e bs) wher
       few : m ≤ length bs
       written : take m out ≡ postfix sort
 
-    recognises_at : (P : Parsed) → line bs ≡ P → (p m : ℕ) → Says bs 0 (length bs) [] P out (Done p m) → Recognises m
+    recognises_at : (P : Parsed) → line bs ≡ P → (p m : ℕ) → Says bs 0 (length bs) [] P out (done_at p m) → Recognises m
     unfolding Says
     recognises_at (parsed t cs) f p m w = record { sort = t; left = cs; is = f; few = omega (arith, w.fits); written = w.written }
     recognises_at (stuck cs) f p m w = absurd w
 
-    module _ (p m : ℕ) (i : r ≡ Done p m) where
+    module _ (p m : ℕ) (i : r ≡ done_at p m) where
       abbrev it : Recognises m
       it = recognises_at (line bs) refl p m (subst (Says bs 0 (length bs) [] (line bs) out) i s)
 

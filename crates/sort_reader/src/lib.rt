@@ -17,7 +17,7 @@ ghost use Rattle.sort_reader.specs.Inner.Tested.{Passes, kept_or_no_room};
 use resolved_sort::{ARGUMENT_WORDS, ComplexSort, Counts, Joined, SORT_WORDS, SortId, Tested};
 use sort_checks::test_sorts;
 use sort_interner::{function, generic, give_back};
-use sort_recogniser::{Recognised, recognise};
+use sort_recogniser::{Stuck, recognise};
 use sort_text::{FUNCTION_STEP, MAX_LINE, Read};
 
 // The operator of a container step.
@@ -196,8 +196,8 @@ pub fn read_line(sorts: &mut [u16], sort_count: usize, entry_count: usize, line:
 {
     let mut steps = [0u8; MAX_LINE];
     match recognise(line, &mut steps) {
-        Recognised::Stuck(at) => Read::NotASort(at),
-        Recognised::Done(_, count) => {
+        Err(Stuck(at)) => Read::NotASort(at),
+        Ok(count) => {
             let counts = Counts {
                 sorts: sort_count as u16,
                 entries: entry_count as u16,

@@ -1,3 +1,4 @@
 -- How a line is recognised.
-mod Ways
+pub mod Ways
+pub mod States
 pub mod Cleared

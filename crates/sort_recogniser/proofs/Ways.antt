@@ -21,16 +21,15 @@ use Rattle.sort_text.proofs.Grammar.{arity_snoc}
 use Rattle.sort_lexer.specs.declared.Token.{Token}
 use Rattle.sort_lexer.specs.declared.Token.TheVariants.{End, Word, Open, Close, Hash, Arrow, Bad}
 use Rattle.sort_lexer.specs.declared.Lexeme.{Lexeme}
-use Rattle.sort_lexer.specs.declared.Meaning.{Meaning as Meant}
-use Rattle.sort_lexer.specs.declared.Meaning.TheVariants.{Basic, Over, Unknown}
+use Rattle.std.specs.Prelude.{Option, Some, None}
+use Rattle.sort_lexer.specs.declared.Word.{Word as Said}
+use Rattle.sort_lexer.specs.declared.Word.TheVariants.{Basic, Container}
 use Rattle.sort_lexer.specs.Inner.Lexeme.{lexeme_of, said_by, said, least}
 use Rattle.sort_lexer.specs.Inner.Meant.{meant}
 use Rattle.sort_lexer.proofs.Lexemes.{starts_without_spaces, ends_within, goes_on, goes_at_least_from, next_is_said}
 use Rattle.sort_lexer.proofs.Lexemes.{next_is_word, next_is_open, next_is_close, next_is_hash, next_is_arrow}
 use Rattle.sort_lexer.proofs.Lexemes.{next_is_end}
-use Rattle.sort_recogniser.specs.declared.Recognised.{Recognised}
-use Rattle.sort_recogniser.specs.declared.Recognised.TheVariants.{Done, Stuck}
-use Rattle.sort_recogniser.specs.Inner.Says.{Wrote, Says, SaysClosing, SaysRest}
+use Rattle.sort_recogniser.specs.Inner.Says.{Recognised, done_at, stuck_at, Wrote, Says, SaysRest}
 
 -- one step more
 one_more : (out : List ℕ) (m v : ℕ) → m < length out → take (m + 1) (set out m v) ≡ take m out ++ (v ∷ [])
@@ -95,10 +94,10 @@ ending_other l t at Arrow i j z = refl
 ending_other l t at Bad i j z = refl
 
 -- the reader's meaning of a word, back from the code's
-abbrev unmeant : Meant → WordMeaning
-unmeant (Basic s) = basic s
-unmeant (Over o) = operator o
-unmeant Unknown = unknown
+abbrev unmeant : Option Said → WordMeaning
+unmeant (Some (Basic s)) = basic s
+unmeant (Some (Container o)) = operator o
+unmeant None = unknown
 
 unmeant_meant : (m : WordMeaning) → unmeant (meant m) ≡ m
 unfolding meant
@@ -143,14 +142,20 @@ rest_at_other l zero ts bs w i j e y z = ap (rest_at sort ts (skip bs) bs (λ cs
 rest_at_other l (suc k) ts bs w i j e y z = ap (rest_at sort ts (skip bs) bs (λ cs. operand sort cs then-read
     (λ t ds. rest sort k (snoc ts t) ds))) e ∙ rest_other l ts (skip bs) bs _ w i j y z
 
+-- After the n steps of which the last are those of the sort in brackets: no step is written.
+unfoldable pub SaysClosing : List ℕ → ℕ → ℕ → Recognised → Type 0
+SaysClosing line at n r =
+    (front out : List ℕ) (t : Tree) → take n out ≡ front ++ postfix t
+    → Says line (at + 1) (n + (length line - at)) front (closing t (skip (drop at line)) (next is_letter (drop at line))) out r
+
 module _ (l : List ℕ) where
   said_stuck : (lo room : ℕ) (front out : List ℕ) (P : Parsed) (p : ℕ) (cs : List ℕ) → P ≡ stuck cs → p ≤ length l
-      → drop p l ≡ cs → Says l lo room front P out (Stuck p)
+      → drop p l ≡ cs → Says l lo room front P out (stuck_at p)
   unfolding Says
   said_stuck lo room front out P p cs e h f = rw e (h, f)
 
   said_done : (lo room : ℕ) (front out : List ℕ) (P : Parsed) (p m : ℕ) (t : Tree) (cs : List ℕ) → P ≡ parsed t cs
-      → Wrote l lo room front t cs out p m → Says l lo room front P out (Done p m)
+      → Wrote l lo room front t cs out p m → Says l lo room front P out (done_at p m)
   unfolding Says
   said_done lo room front out P p m t cs e w = rw e w
 
@@ -161,44 +166,44 @@ module _ (l : List ℕ) where
     is : P ≡ parsed sort_read left
     wrote : Wrote l lo room front sort_read left out p m
 
-  did_at : (lo room : ℕ) (front : List ℕ) (P : Parsed) (out : List ℕ) (p m : ℕ) → Says l lo room front P out (Done p m) → Did lo room front P out p m
+  did_at : (lo room : ℕ) (front : List ℕ) (P : Parsed) (out : List ℕ) (p m : ℕ) → Says l lo room front P out (done_at p m) → Did lo room front P out p m
   unfolding Says
   did_at lo room front (parsed t cs) out p m s = record { sort_read = t; left = cs; is = refl; wrote = s }
   did_at lo room front (stuck cs) out p m s = absurd s
 
   did : (lo room : ℕ) (front : List ℕ) (P : Parsed) (out : List ℕ) (q : Recognised) (p m : ℕ)
-      → Says l lo room front P out q → q ≡ Done p m → Did lo room front P out p m
+      → Says l lo room front P out q → q ≡ done_at p m → Did lo room front P out p m
   did lo room front P out q p m s e = did_at lo room front P out p m (subst (Says l lo room front P out) e s)
 
-  stuck_at : (lo room : ℕ) (front : List ℕ) (P : Parsed) (out : List ℕ) (p : ℕ) (K : Tree → List ℕ → Parsed) (lo' room' : ℕ) (front' out' : List ℕ)
-      → Says l lo room front P out (Stuck p) → Says l lo' room' front' (P then-read K) out' (Stuck p)
+  stuck_from : (lo room : ℕ) (front : List ℕ) (P : Parsed) (out : List ℕ) (p : ℕ) (K : Tree → List ℕ → Parsed) (lo' room' : ℕ) (front' out' : List ℕ)
+      → Says l lo room front P out (stuck_at p) → Says l lo' room' front' (P then-read K) out' (stuck_at p)
   unfolding Says
-  stuck_at lo room front (parsed t cs) out p K lo' room' front' out' s = absurd s
-  stuck_at lo room front (stuck cs) out p K lo' room' front' out' s = s
+  stuck_from lo room front (parsed t cs) out p K lo' room' front' out' s = absurd s
+  stuck_from lo room front (stuck cs) out p K lo' room' front' out' s = s
 
   stuck_then : (lo room : ℕ) (front : List ℕ) (P : Parsed) (out : List ℕ) (q : Recognised) (p : ℕ) (K : Tree → List ℕ
       → Parsed) (lo' room' : ℕ) (front' out' : List ℕ)
-      → Says l lo room front P out q → q ≡ Stuck p → Says l lo' room' front' (P then-read K) out' (Stuck p)
-  stuck_then lo room front P out q p K lo' room' front' out' s e = stuck_at lo room front P out p K lo' room' front'
+      → Says l lo room front P out q → q ≡ stuck_at p → Says l lo' room' front' (P then-read K) out' (stuck_at p)
+  stuck_then lo room front P out q p K lo' room' front' out' s e = stuck_from lo room front P out p K lo' room' front'
       out' (subst (Says l lo room front P out) e s)
 
   wider : (lo lo' room room' : ℕ) (front : List ℕ) (P : Parsed) (out : List ℕ) (q : Recognised) → lo' ≤ lo
       → room ≤ room' → Says l lo room front P out q → Says l lo' room' front P out q
   unfolding Says
-  wider lo lo' room room' front (parsed t cs) out (Done p m) a b s =
+  wider lo lo' room room' front (parsed t cs) out (done_at p m) a b s =
       record { further = omega (arith, s.further); within = s.within; goes_on = s.goes_on; fits = omega (arith, s.fits); written = s.written }
-  wider lo lo' room room' front (parsed t cs) out (Stuck p) a b s = s
-  wider lo lo' room room' front (stuck cs) out (Done p m) a b s = s
-  wider lo lo' room room' front (stuck cs) out (Stuck p) a b s = s
+  wider lo lo' room room' front (parsed t cs) out (stuck_at p) a b s = s
+  wider lo lo' room room' front (stuck cs) out (done_at p m) a b s = s
+  wider lo lo' room room' front (stuck cs) out (stuck_at p) a b s = s
 
   -- what a recognised sort leaves for the next call
   pub done_room : (lo room : ℕ) (front : List ℕ) (P : Parsed) (out : List ℕ) (q : Recognised) (p m : ℕ)
-      → Says l lo room front P out q → q ≡ Done p m → (lo ≤ p) × (p ≤ length l) × (m + (length l - p) ≤ room)
+      → Says l lo room front P out q → q ≡ done_at p m → (lo ≤ p) × (p ≤ length l) × (m + (length l - p) ≤ room)
   done_room lo room front P out q p m s e = let d = did lo room front P out q p m s e in (d.wrote.further, d.wrote.within, d.wrote.fits)
 
   -- after the sort in brackets
   module _ (at : ℕ) (h : at ≤ length l) (n : ℕ) (r : Lexeme) (e : r ≡ lexeme_of l at) where
-    pub closing_done : r.token ≡ Close → SaysClosing l at n (Done r.next n)
+    pub closing_done : r.token ≡ Close → SaysClosing l at n (done_at r.next n)
     unfolding SaysClosing closing
     closing_done f front out t w =
         let g : at + 1 ≤ r.next = goes_at_least_from l at r e Close f h in
@@ -207,7 +212,7 @@ module _ (l : List ℕ) where
         (ap (closing t (skip (drop at l))) (next_is_close l at r e f))
         record { further = g; within = d; goes_on = refl; fits = omega arith; written = w }
 
-    pub closing_stuck : (r.token ≡ Close → ⊥) → SaysClosing l at n (Stuck r.at)
+    pub closing_stuck : (r.token ≡ Close → ⊥) → SaysClosing l at n (stuck_at r.at)
     unfolding SaysClosing
     closing_stuck z front out t w =
         said_stuck (at + 1) (n + (length l - at)) front out _ r.at (skip (drop at l))
@@ -221,11 +226,11 @@ module _ (l : List ℕ) where
     unfolding in_brackets
     in_brackets_is = refl
 
-    pub in_brackets_passes : (p : ℕ) → q ≡ Stuck p → Says l (at + 1) (n + (length l - at)) (take n old) (in_brackets sort (drop at l)) out (Stuck p)
+    pub in_brackets_passes : (p : ℕ) → q ≡ stuck_at p → Says l (at + 1) (n + (length l - at)) (take n old) (in_brackets sort (drop at l)) out (stuck_at p)
     in_brackets_passes p i = rw in_brackets_is (stuck_then (at + 1) (n + (length l - at)) (take n old)
         (sort (drop at l)) out q p _ (at + 1) (n + (length l - at)) (take n old) out s i)
 
-    pub in_brackets_goes_on : (p m : ℕ) → q ≡ Done p m → (q' : Recognised) → SaysClosing l p m q'
+    pub in_brackets_goes_on : (p m : ℕ) → q ≡ done_at p m → (q' : Recognised) → SaysClosing l p m q'
         → Says l (at + 1) (n + (length l - at)) (take n old) (in_brackets sort (drop at l)) out q'
     unfolding SaysClosing
     in_brackets_goes_on p m i q' c =
@@ -252,7 +257,7 @@ module _ (l : List ℕ) where
     -- after a container word
     pub bracketed_stuck : (r.token ≡ Open → ⊥) → (op : ComplexSort)
         → Says l at room (take n old) (bracketed sort op (skip (drop at l)) (next is_letter (drop at l))) old
-        (Stuck r.at)
+        (stuck_at r.at)
     bracketed_stuck z op =
         said_stuck at room (take n old) old _ r.at (skip (drop at l)) (ap (bracketed sort op (skip (drop at l)))
         (next_is_said l at r e) ∙ bracketed_other l op (skip (drop at l)) r.token r.at r.next z)
@@ -265,18 +270,18 @@ module _ (l : List ℕ) where
       unfolding bracketed
       bracketed_is = ap (bracketed sort op (skip (drop at l))) (next_is_open l at r e f)
 
-      pub bracketed_passes : (p : ℕ) → q ≡ Stuck p → Says l at room (take n old) (bracketed sort op (skip (drop at l))
-          (next is_letter (drop at l))) out (Stuck p)
+      pub bracketed_passes : (p : ℕ) → q ≡ stuck_at p → Says l at room (take n old) (bracketed sort op (skip (drop at l))
+          (next is_letter (drop at l))) out (stuck_at p)
       bracketed_passes p i = rw bracketed_is (stuck_then (r.next + 1) (n + (length l - r.next)) (take n old)
           (in_brackets sort (drop r.next l)) out q p _ at room (take n old) out s i)
 
-      pub bracketed_room : (p m : ℕ) → q ≡ Done p m → m < length out
+      pub bracketed_room : (p m : ℕ) → q ≡ done_at p m → m < length out
       bracketed_room p m i =
           let d = done_room (r.next + 1) (n + (length l - r.next)) (take n old) (in_brackets sort (drop r.next l)) out q p m s i in
           omega (arith, d.2, d.1, d.0, goes_at_least_from l at r e Open f h, fit, same)
 
-      pub bracketed_done : (p m v : ℕ) → q ≡ Done p m → v ≡ kind_op op
-          → Says l at room (take n old) (bracketed sort op (skip (drop at l)) (next is_letter (drop at l))) (set out m v) (Done p (m + 1))
+      pub bracketed_done : (p m v : ℕ) → q ≡ done_at p m → v ≡ kind_op op
+          → Says l at room (take n old) (bracketed sort op (skip (drop at l)) (next is_letter (drop at l))) (set out m v) (done_at p (m + 1))
       unfolding postfix
       bracketed_done p m v i ev =
           let d = did (r.next + 1) (n + (length l - r.next)) (take n old) (in_brackets sort (drop r.next l)) out q p m s i in
@@ -297,30 +302,30 @@ module _ (l : List ℕ) where
     unfolding operand
     operand_said = ap (operand_at sort (skip (drop at l))) (next_is_said l at r e)
 
-    pub operand_stuck : (r.token ≡ Word → ⊥) → Says l (at + 1) room (take n old) (operand sort (drop at l)) old (Stuck r.at)
+    pub operand_stuck : (r.token ≡ Word → ⊥) → Says l (at + 1) room (take n old) (operand sort (drop at l)) old (stuck_at r.at)
     operand_stuck z =
         said_stuck (at + 1) room (take n old) old _ r.at (skip (drop at l)) (operand_said ∙ operand_other l
         (skip (drop at l)) r.token r.at r.next z) starts_within (starts_without_spaces l at r e)
 
-    module _ (f : r.token ≡ Word) (w : Meant) (i : w ≡ meant (meaning (take (r.next - r.at) (drop r.at l)))) where
+    module _ (f : r.token ≡ Word) (w : Option Said) (i : w ≡ meant (meaning (take (r.next - r.at) (drop r.at l)))) where
       operand_word : operand sort (drop at l) ≡ operand_of sort (skip (drop at l)) (meaning (take (r.next - r.at) (drop r.at l))) (drop r.next l)
       unfolding operand operand_at
       operand_word = ap (operand_at sort (skip (drop at l))) (next_is_word l at r e f)
 
-      word_is : (m : Meant) → w ≡ m → operand sort (drop at l) ≡ operand_of sort (skip (drop at l)) (unmeant m) (drop r.next l)
+      word_is : (m : Option Said) → w ≡ m → operand sort (drop at l) ≡ operand_of sort (skip (drop at l)) (unmeant m) (drop r.next l)
       word_is m g = operand_word ∙ ap (λ x. operand_of sort (skip (drop at l)) x (drop r.next l))
           (sym (unmeant_meant (meaning (take (r.next - r.at) (drop r.at l)))) ∙ ap unmeant (sym i ∙ g))
 
       abbrev after : ℕ
       after = n + (length l - r.next)
 
-      pub operand_basic : (s : Sort) → w ≡ Basic s → (v : ℕ) → v ≡ kind_flat (primitive s)
-          → Says l (at + 1) room (take n old) (operand sort (drop at l)) (set old n v) (Done r.next (n + 1))
+      pub operand_basic : (s : Sort) → w ≡ Some (Basic s) → (v : ℕ) → v ≡ kind_flat (primitive s)
+          → Says l (at + 1) room (take n old) (operand sort (drop at l)) (set old n v) (done_at r.next (n + 1))
       unfolding operand_of postfix
       operand_basic s g v ev =
           let x : at + 1 ≤ r.next = goes_at_least_from l at r e Word f h in
           let d : r.next ≤ length l = ends_within l at r e in
-          said_done (at + 1) room (take n old) (set old n v) _ r.next (n + 1) (flat (primitive s)) (drop r.next l) (word_is (Basic s) g)
+          said_done (at + 1) room (take n old) (set old n v) _ r.next (n + 1) (flat (primitive s)) (drop r.next l) (word_is (Some (Basic s)) g)
           record {
             further = x;
             within = d;
@@ -330,29 +335,29 @@ module _ (l : List ℕ) where
                 (omega (arith, fit, x, d)) ∙ ap (λ y. take n old ++ (y ∷ [])) ev;
           }
 
-      pub operand_over : (o : ComplexSort) → w ≡ Over o → (out : List ℕ) (q : Recognised)
+      pub operand_over : (o : ComplexSort) → w ≡ Some (Container o) → (out : List ℕ) (q : Recognised)
           → Says l r.next after (take n old) (bracketed sort o (skip (drop r.next l))
           (next is_letter (drop r.next l))) out q → Says l (at + 1) room (take n old) (operand sort (drop at l))
           out q
       unfolding operand_of
       operand_over o g out q s =
           let x : at + 1 ≤ r.next = goes_at_least_from l at r e Word f h in
-          rw (word_is (Over o) g) (wider r.next (at + 1) after room (take n old)
+          rw (word_is (Some (Container o)) g) (wider r.next (at + 1) after room (take n old)
           (bracketed sort o (skip (drop r.next l)) (next is_letter (drop r.next l))) out q x (omega arith) s)
 
-      pub operand_unknown : w ≡ Unknown → Says l (at + 1) room (take n old) (operand sort (drop at l)) old (Stuck r.at)
+      pub operand_unknown : w ≡ None → Says l (at + 1) room (take n old) (operand sort (drop at l)) old (stuck_at r.at)
       unfolding operand_of
-      operand_unknown g = said_stuck (at + 1) room (take n old) old _ r.at (skip (drop at l)) (word_is Unknown g)
+      operand_unknown g = said_stuck (at + 1) room (take n old) old _ r.at (skip (drop at l)) (word_is None g)
           starts_within (starts_without_spaces l at r e)
 
     -- after the operands
-    pub rest_full : r.token ≡ Hash → (k : ℕ) → k ≡ 16 → SaysRest l at old n k old (Stuck r.at)
+    pub rest_full : r.token ≡ Hash → (k : ℕ) → k ≡ 16 → SaysRest l at old n k old (stuck_at r.at)
     unfolding SaysRest
     rest_full f k g front ts w a =
         said_stuck at room front old _ r.at (skip (drop at l)) (rest_at_last (16 - k) ts (drop at l)
         (drop r.next l) (omega arith) (next_is_hash l at r e f)) starts_within (starts_without_spaces l at r e)
 
-    pub rest_one : (r.token ≡ Hash → ⊥) → (r.token ≡ Arrow → ⊥) → (k : ℕ) → k ≡ 1 → SaysRest l at old n k old (Done at n)
+    pub rest_one : (r.token ≡ Hash → ⊥) → (r.token ≡ Arrow → ⊥) → (k : ℕ) → k ≡ 1 → SaysRest l at old n k old (done_at at n)
     unfolding SaysRest
     rest_one y z k g front ts w a =
         let o = alone_one ts (skip (drop at l)) (drop at l) (a ∙ g) in
@@ -360,7 +365,7 @@ module _ (l : List ℕ) where
         r.at r.next (next_is_said l at r e) y z ∙ o.1)
         record { further = omega arith; within = h; goes_on = refl; fits = omega arith; written = w ∙ ap (λ x. front ++ x) o.2 }
 
-    pub rest_many : (r.token ≡ Hash → ⊥) → (r.token ≡ Arrow → ⊥) → (k : ℕ) → (k ≡ 1 → ⊥) → SaysRest l at old n k old (Stuck r.at)
+    pub rest_many : (r.token ≡ Hash → ⊥) → (r.token ≡ Arrow → ⊥) → (k : ℕ) → (k ≡ 1 → ⊥) → SaysRest l at old n k old (stuck_at r.at)
     unfolding SaysRest
     rest_many y z k g front ts w a =
         said_stuck at room front old _ r.at (skip (drop at l))
@@ -374,12 +379,12 @@ module _ (l : List ℕ) where
       hash_is : (ts : Trees) → rest sort (16 - k) ts (drop at l) ≡ (operand sort (drop r.next l) then-read (λ t ds. rest sort (16 - (k + 1)) (snoc ts t) ds))
       hash_is ts = rest_at_hash (16 - k) (16 - (k + 1)) ts (drop at l) (drop r.next l) (omega arith) (next_is_hash l at r e f)
 
-      pub rest_passes : (p : ℕ) → q ≡ Stuck p → SaysRest l at old n k out (Stuck p)
+      pub rest_passes : (p : ℕ) → q ≡ stuck_at p → SaysRest l at old n k out (stuck_at p)
       unfolding SaysRest
       rest_passes p i front ts w a = rw (hash_is ts) (stuck_then (r.next + 1) (n + (length l - r.next)) (take n old)
           (operand sort (drop r.next l)) out q p _ at room front out s i)
 
-      pub rest_goes_on : (p m : ℕ) → q ≡ Done p m → (out' : List ℕ) (q' : Recognised) → SaysRest l p out m (k + 1) out' q' → SaysRest l at old n k out' q'
+      pub rest_goes_on : (p m : ℕ) → q ≡ done_at p m → (out' : List ℕ) (q' : Recognised) → SaysRest l p out m (k + 1) out' q' → SaysRest l at old n k out' q'
       unfolding SaysRest
       rest_goes_on p m i out' q' c front ts w a =
           let d = did (r.next + 1) (n + (length l - r.next)) (take n old) (operand sort (drop r.next l)) out q p m s i in
@@ -398,17 +403,17 @@ module _ (l : List ℕ) where
       arrow_is : (ts : Trees) → rest sort (16 - k) ts (drop at l) ≡ (sort (drop r.next l) then-read (λ t ds. parsed (function ts t) ds))
       arrow_is ts = rest_at_arrow (16 - k) ts (drop at l) (drop r.next l) (next_is_arrow l at r e f)
 
-      pub range_passes : (p : ℕ) → q ≡ Stuck p → SaysRest l at old n k out (Stuck p)
+      pub range_passes : (p : ℕ) → q ≡ stuck_at p → SaysRest l at old n k out (stuck_at p)
       unfolding SaysRest
       range_passes p i front ts w a = rw (arrow_is ts) (stuck_then (r.next + 1) (n + (length l - r.next))
           (take n old) (sort (drop r.next l)) out q p _ at room front out s i)
 
-      pub range_room : (p m : ℕ) → q ≡ Done p m → m < length out
+      pub range_room : (p m : ℕ) → q ≡ done_at p m → m < length out
       range_room p m i =
           let d = done_room (r.next + 1) (n + (length l - r.next)) (take n old) (sort (drop r.next l)) out q p m s i in
           omega (arith, d.2, d.1, d.0, goes_at_least_from l at r e Arrow f h, fit, same)
 
-      pub range_done : (p m v : ℕ) → q ≡ Done p m → v ≡ 16 + k → SaysRest l at old n k (set out m v) (Done p (m + 1))
+      pub range_done : (p m v : ℕ) → q ≡ done_at p m → v ≡ 16 + k → SaysRest l at old n k (set out m v) (done_at p (m + 1))
       unfolding SaysRest postfix
       range_done p m v i ev front ts w a =
           let d = did (r.next + 1) (n + (length l - r.next)) (take n old) (sort (drop r.next l)) out q p m s i in
@@ -429,11 +434,11 @@ module _ (l : List ℕ) where
   -- a sort: its first operand, and what comes after it
   module _ (at : ℕ) (old : List ℕ) (n : ℕ) (out : List ℕ) (q : Recognised) (s : Says l (at + 1) (n + (length l - at))
       (take n old) (operand sort (drop at l)) out q) where
-    pub sort_passes : (p : ℕ) → q ≡ Stuck p → Says l (at + 1) (n + (length l - at)) (take n old) (sort (drop at l)) out (Stuck p)
+    pub sort_passes : (p : ℕ) → q ≡ stuck_at p → Says l (at + 1) (n + (length l - at)) (take n old) (sort (drop at l)) out (stuck_at p)
     sort_passes p i = rw (sort_is (drop at l)) (stuck_then (at + 1) (n + (length l - at)) (take n old)
         (operand sort (drop at l)) out q p _ (at + 1) (n + (length l - at)) (take n old) out s i)
 
-    pub sort_goes_on : (p m : ℕ) → q ≡ Done p m → (out' : List ℕ) (q' : Recognised) → SaysRest l p out m 1 out' q'
+    pub sort_goes_on : (p m : ℕ) → q ≡ done_at p m → (out' : List ℕ) (q' : Recognised) → SaysRest l p out m 1 out' q'
         → Says l (at + 1) (n + (length l - at)) (take n old) (sort (drop at l)) out' q'
     unfolding SaysRest postfixes arity
     sort_goes_on p m i out' q' c =
@@ -448,11 +453,11 @@ module _ (l : List ℕ) where
     whole : Says l 1 (length l) [] (sort l) out q
     whole = subst (λ x. Says l 1 x [] (sort l) out q) (omega arith) s
 
-    pub line_passes : (p : ℕ) → q ≡ Stuck p → Says l 0 (length l) [] (line l) out (Stuck p)
+    pub line_passes : (p : ℕ) → q ≡ stuck_at p → Says l 0 (length l) [] (line l) out (stuck_at p)
     unfolding line
     line_passes p i = stuck_then 1 (length l) [] (sort l) out q p _ 0 (length l) [] out whole i
 
-    module _ (p m : ℕ) (i : q ≡ Done p m) (r : Lexeme) (e : r ≡ lexeme_of l p) where
+    module _ (p m : ℕ) (i : q ≡ done_at p m) (r : Lexeme) (e : r ≡ lexeme_of l p) where
       abbrev d : Did 1 (length l) [] (sort l) out p m
       d = did 1 (length l) [] (sort l) out q p m whole i
 
@@ -461,7 +466,7 @@ module _ (l : List ℕ) where
       line_is = ap (λ x. x then-read (λ t cs. ending t (skip cs) (next is_letter cs))) d.is ∙ ap
           (λ cs. ending d.sort_read (skip cs) (next is_letter cs)) (sym d.wrote.goes_on)
 
-      pub line_done : r.token ≡ End → Says l 0 (length l) [] (line l) out (Done (length l) m)
+      pub line_done : r.token ≡ End → Says l 0 (length l) [] (line l) out (done_at (length l) m)
       unfolding ending
       line_done f =
           said_done 0 (length l) [] out _ (length l) m d.sort_read [] (line_is ∙ ap (ending d.sort_read (skip (drop p l))) (next_is_end l p r e f))
@@ -474,7 +479,7 @@ module _ (l : List ℕ) where
             written = d.wrote.written;
           }
 
-      pub line_stuck : (r.token ≡ End → ⊥) → Says l 0 (length l) [] (line l) out (Stuck r.at)
+      pub line_stuck : (r.token ≡ End → ⊥) → Says l 0 (length l) [] (line l) out (stuck_at r.at)
       line_stuck z =
           said_stuck 0 (length l) [] out _ r.at (skip (drop p l))
           (line_is ∙ (ap (ending d.sort_read (skip (drop p l))) (next_is_said l p r e) ∙ ending_other l

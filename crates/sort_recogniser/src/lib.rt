@@ -1,25 +1,23 @@
 // Recognising a line as a sort: nothing is stored, the steps of the sort are written into a buffer, parts first. The
-// tokens are those of a reader that holds the line (`token_from`).
+// tokens are those of a reader that holds the line.
 #![tactic(auto)]
 
-ghost use Rattle.std.specs.Prelude.{◌≡◌, [], ◌+◌, ◌-◌, ◌≤◌, length, drop, take};
+ghost use Rattle.std.specs.Prelude.{OnOk, ◌≡◌, ◌+◌, ◌<◌, ◌≤◌, length, set, [], take, drop};
 ghost use Rattle.resolved_sort.specs.Tree.{primitive};
 ghost use Rattle.resolved_sort.specs.Storage.{kind_flat, kind_op, max_arguments};
 ghost use Rattle.sort_text.specs.Tokens.{is_letter, skip, next};
-ghost use Rattle.sort_recogniser.specs.Inner.Says.{Says, SaysClosing, SaysRest};
-ghost use Rattle.sort_recogniser.specs.Inner.Cleared.{steps_written, zero_from, LineRecognised};
+ghost use Rattle.sort_lexer.specs.Inner.Lexeme.{lexeme_of};
+ghost use Rattle.sort_recogniser.specs.Inner.Says.{Met, HasRoom, Read, ReadRest, same_but_place};
+ghost use Rattle.sort_recogniser.specs.Inner.Cleared.{SaysLine, LineRecognised};
 ghost use Rattle.sort_text.specs.Parse as Parse;
 
 use resolved_sort::{ComplexSort, Sort};
-use sort_lexer::{Meaning, Token, token_from, word_meaning};
+use sort_lexer::{Lexeme, Reader, Token, Word};
 use sort_text::{FUNCTION_STEP, MOST_ARGUMENTS};
 
-// The position after a sort and the number of steps written; or where the first token stands that cannot follow.
-#[derive(Clone, Copy, Drop)]
-pub enum Recognised {
-    Done(usize, usize),
-    Stuck(usize),
-}
+// A line is no sort: where its first token stands that cannot follow.
+#[derive(Clone, Copy, Debug, PartialEq, Eq)]
+pub struct Stuck(pub usize);
 
 // The step of a basic sort.
 #[tactic(auto, unfolding(resolved_sort::specs::Storage::kind_flat))]
@@ -49,161 +47,172 @@ fn step_of_op(op: ComplexSort) -> u8
     }
 }
 
-// `)` after the sort in brackets.
-fn closing(line: &[u8], at: usize, n: usize) -> Recognised
-    requires { at ≤ length line.now }
-    ensures { SaysClosing line.now at n result }
-{
-    let found = token_from(line, at);
-    let token = found.token;
-    match token {
-        Token::Close => Recognised::Done(found.next, n),
-        _ => Recognised::Stuck(found.at),
-    }
+// How far a line is recognised, and the steps of what it said so far.
+#[derive(Drop)]
+struct Recogniser<'a> {
+    line: &'a [u8],
+    at: usize,
+    steps: &'a mut [u8],
+    count: usize,
 }
 
-// The operands so far are k: `#` and another operand, `->` and the range, or the end of the sort.
-#[cycle(bracketed_operand_rest_sort)]
-fn rest(line: &[u8], at: usize, out: &mut [u8], n: usize, k: u8) -> Recognised
-    requires { (at ≤ length line.now) × (n + (length line.now - at) ≤ length out.old) × (1 ≤ k) × (k ≤ max_arguments) }
-    ensures { SaysRest line.now at out.old n k out.new result }
-{
-    let found = token_from(line, at);
-    let token = found.token;
-    match token {
-        Token::Hash => {
-            if k == MOST_ARGUMENTS {
-                return Recognised::Stuck(found.at);
-            }
-            match operand(line, found.next, out, n) {
-                Recognised::Done(p, m) => rest(line, p, out, m, k + 1),
-                Recognised::Stuck(p) => Recognised::Stuck(p),
-            }
+impl<'a> Recogniser<'a> {
+    // The next token, with what reads it.
+    fn reader(&self) -> Reader<'_>
+        ensures { (result.line.now ≡ self.now.line.now) × (result.at ≡ self.now.at) }
+    {
+        Reader::new(self.line, self.at)
+    }
+
+    // The next token.
+    fn peek(&self) -> Lexeme
+        ensures { result ≡ lexeme_of self.now.line.now self.now.at }
+    {
+        self.reader().next_token()
+    }
+
+    // One more step.
+    fn push(&mut self, step: u8)
+        requires { self.old.count < length self.old.steps.now }
+        ensures same_reference { self.new.steps.ghost_name ≡ self.old.steps.ghost_name }
+        ensures pushed { self.new.steps.now ≡ set self.old.steps.now self.old.count step }
+        ensures counted { self.new.count ≡ self.old.count + 1 }
+        ensures read { (self.new.line ≡ self.old.line) × (self.new.at ≡ self.old.at) }
+    {
+        self.steps[self.count] = step;
+        self.count += 1;
+    }
+
+    // A token that has to stand next.
+    fn expect(&mut self, token: Token) -> Result<(), Stuck>
+        ensures same_reference { self.new.steps.ghost_name ≡ self.old.steps.ghost_name }
+        ensures same_steps { same_but_place self.old self.new }
+        ensures met { Met self.old.line.now self.old.at token self.new.at result }
+    {
+        let found = self.peek();
+        if found.token != token {
+            return Err(Stuck(found.at));
         }
-        Token::Arrow => match sort(line, found.next, out, n) {
-            Recognised::Done(p, m) => {
-                out[m] = FUNCTION_STEP + k;
-                Recognised::Done(p, m + 1)
+        self.at = found.next;
+        Ok(())
+    }
+
+    // The operands so far are k: `#` and another operand, `->` and the range, or the end of the sort.
+    #[cycle(bracketed_operand_rest_sort)]
+    fn rest(&mut self, k: u8) -> Result<(), Stuck>
+        requires { HasRoom self.old × (1 ≤ k) × (k ≤ max_arguments) }
+        ensures same_reference { self.new.steps.ghost_name ≡ self.old.steps.ghost_name }
+        ensures says { ReadRest self.old k self.new result }
+    {
+        let found = self.peek();
+        match found.token {
+            Token::Hash if k < MOST_ARGUMENTS => {
+                self.at = found.next;
+                self.operand()?;
+                self.rest(k + 1)
             }
-            Recognised::Stuck(p) => Recognised::Stuck(p),
-        },
-        _ => {
-            if k == 1 {
-                return Recognised::Done(at, n);
+            Token::Hash => Err(Stuck(found.at)),
+            Token::Arrow => {
+                self.at = found.next;
+                self.sort()?;
+                self.push(FUNCTION_STEP + k);
+                Ok(())
             }
-            Recognised::Stuck(found.at)
+            _ if k == 1 => Ok(()),
+            _ => Err(Stuck(found.at)),
         }
     }
-}
 
-// `(` after a container word, the sort in it, and `)`.
-#[cycle(bracketed_operand_rest_sort)]
-fn bracketed(line: &[u8], at: usize, out: &mut [u8], n: usize, op: ComplexSort) -> Recognised
-    requires { (at ≤ length line.now) × (n + (length line.now - at) ≤ length out.old) }
-    ensures { Says line.now at (n + (length line.now - at)) (take n out.old)
-        (Parse.bracketed Parse.sort op (skip (drop at line.now))
-        (next is_letter (drop at line.now)))
-        out.new result }
-{
-    let found = token_from(line, at);
-    let token = found.token;
-    match token {
-        Token::Open => match sort(line, found.next, out, n) {
-            Recognised::Done(p, m) => match closing(line, p, m) {
-                Recognised::Done(q, k) => {
-                    out[k] = step_of_op(op);
-                    Recognised::Done(q, k + 1)
+    // `(` after a container word, the sort in it, and `)`.
+    #[cycle(bracketed_operand_rest_sort)]
+    fn bracketed(&mut self, op: ComplexSort) -> Result<(), Stuck>
+        requires { HasRoom self.old }
+        ensures same_reference { self.new.steps.ghost_name ≡ self.old.steps.ghost_name }
+        ensures says { Read self.old self.old.at
+            (Parse.bracketed Parse.sort op (skip (drop self.old.at self.old.line.now))
+            (next is_letter (drop self.old.at self.old.line.now)))
+            self.new result }
+    {
+        self.expect(Token::Open)?;
+        self.sort()?;
+        self.expect(Token::Close)?;
+        self.push(step_of_op(op));
+        Ok(())
+    }
+
+    // An operand: a basic sort, or a container over a sort in brackets.
+    #[cycle(bracketed_operand_rest_sort)]
+    fn operand(&mut self) -> Result<(), Stuck>
+        requires { HasRoom self.old }
+        ensures same_reference { self.new.steps.ghost_name ≡ self.old.steps.ghost_name }
+        ensures says { Read self.old (self.old.at + 1)
+            (Parse.operand Parse.sort (drop self.old.at self.old.line.now)) self.new result }
+    {
+        let found = self.peek();
+        match found.token {
+            Token::Word => match self.reader().word(found) {
+                Some(Word::Basic(sort)) => {
+                    self.at = found.next;
+                    self.push(step_of_sort(sort));
+                    Ok(())
                 }
-                Recognised::Stuck(q) => Recognised::Stuck(q),
+                Some(Word::Container(op)) => {
+                    self.at = found.next;
+                    self.bracketed(op)
+                }
+                None => Err(Stuck(found.at)),
             },
-            Recognised::Stuck(p) => Recognised::Stuck(p),
-        },
-        _ => Recognised::Stuck(found.at),
-    }
-}
-
-// An operand: a basic sort, or a container over a sort in brackets.
-#[cycle(bracketed_operand_rest_sort)]
-fn operand(line: &[u8], at: usize, out: &mut [u8], n: usize) -> Recognised
-    requires { (at ≤ length line.now) × (n + (length line.now - at) ≤ length out.old) }
-    ensures { Says line.now (at + 1) (n + (length line.now - at)) (take n out.old)
-        (Parse.operand Parse.sort (drop at line.now)) out.new result }
-{
-    let found = token_from(line, at);
-    let token = found.token;
-    match token {
-        Token::Word => match word_meaning(line, found.at, found.next) {
-            Meaning::Basic(s) => {
-                out[n] = step_of_sort(s);
-                Recognised::Done(found.next, n + 1)
-            }
-            Meaning::Over(op) => bracketed(line, found.next, out, n, op),
-            Meaning::Unknown => Recognised::Stuck(found.at),
-        },
-        _ => Recognised::Stuck(found.at),
-    }
-}
-
-// A sort: operands, and what comes after them.
-#[cycle(bracketed_operand_rest_sort)]
-fn sort(line: &[u8], at: usize, out: &mut [u8], n: usize) -> Recognised
-    requires { (at ≤ length line.now) × (n + (length line.now - at) ≤ length out.old) }
-    ensures { Says line.now (at + 1) (n + (length line.now - at)) (take n out.old)
-        (Parse.sort (drop at line.now)) out.new result }
-{
-    match operand(line, at, out, n) {
-        Recognised::Done(p, m) => rest(line, p, out, m, 1),
-        Recognised::Stuck(p) => Recognised::Stuck(p),
-    }
-}
-
-// A line: a sort and nothing but spaces after it.
-fn whole_line(line: &[u8], out: &mut [u8]) -> Recognised
-    requires { length line.now ≤ length out.old }
-    ensures { Says line.now 0 (length line.now) [] (Parse.line line.now)
-        out.new result }
-{
-    match sort(line, 0, out, 0) {
-        Recognised::Done(p, m) => {
-            let found = token_from(line, p);
-            let token = found.token;
-            match token {
-                Token::End => Recognised::Done(line.len(), m),
-                _ => Recognised::Stuck(found.at),
-            }
+            _ => Err(Stuck(found.at)),
         }
-        Recognised::Stuck(p) => Recognised::Stuck(p),
+    }
+
+    // A sort: operands, and what comes after them.
+    #[cycle(bracketed_operand_rest_sort)]
+    fn sort(&mut self) -> Result<(), Stuck>
+        requires { HasRoom self.old }
+        ensures same_reference { self.new.steps.ghost_name ≡ self.old.steps.ghost_name }
+        ensures says { Read self.old (self.old.at + 1)
+            (Parse.sort (drop self.old.at self.old.line.now)) self.new result }
+    {
+        self.operand()?;
+        self.rest(1)
+    }
+
+    // A line: a sort and nothing but spaces after it.
+    fn whole_line(&mut self) -> Result<(), Stuck>
+        requires { HasRoom self.old × (self.old.at ≡ 0) × (self.old.count ≡ 0) }
+        ensures same_reference { self.new.steps.ghost_name ≡ self.old.steps.ghost_name }
+        ensures says { Read self.old 0 (Parse.line self.old.line.now) self.new result }
+        ensures to_its_end { OnOk result (self.new.at ≡ length self.old.line.now) }
+    {
+        self.sort()?;
+        self.expect(Token::End)
     }
 }
 
-// How many steps are written. Of a line that is no sort none count.
-#[tactic(auto, unfolding(crate::specs::Inner::Cleared::steps_written))]
-fn steps_written(found: Recognised) -> usize
-    ensures { result ≡ steps_written found }
+// The steps of a line at the front of the buffer, and how many they are.
+fn steps_of(line: &[u8], steps: &mut [u8]) -> Result<usize, Stuck>
+    requires { length line.now ≤ length steps.old }
+    ensures same_room { length steps.new ≡ length steps.old }
+    ensures says { SaysLine line.now steps.new result }
 {
-    match found {
-        Recognised::Done(_, n) => n,
-        Recognised::Stuck(_) => 0,
-    }
+    let mut recogniser = Recogniser {
+        line,
+        at: 0,
+        steps,
+        count: 0,
+    };
+    recogniser.whole_line()?;
+    Ok(recogniser.count)
 }
 
-// The bytes of the buffer from a place on set to zero.
-fn clear_steps(out: &mut [u8], from: usize)
-    ensures { out.new ≡ zero_from from out.old }
+// A line recognised: how many steps stand at the front of the buffer, with zeros behind them. Of a line that is no sort
+// none stand there.
+pub fn recognise(line: &[u8], steps: &mut [u8]) -> Result<usize, Stuck>
+    requires { length line.now ≤ length steps.old }
+    ensures { LineRecognised line.now (length steps.old) steps.new result }
 {
-    let mut i = from;
-    while i < out.len() {
-        out[i] = 0;
-        i += 1;
-    }
-}
-
-// A line recognised: its steps stand at the front of the buffer, and zeros behind them.
-pub fn recognise(line: &[u8], out: &mut [u8]) -> Recognised
-    requires { length line.now ≤ length out.old }
-    ensures { LineRecognised line.now (length out.old) out.new result }
-{
-    let found = whole_line(line, out);
-    clear_steps(out, steps_written(found));
+    let found = steps_of(line, steps);
+    steps[found.unwrap_or(0)..].fill(0);
     found
 }

@@ -1,12 +1,23 @@
 -- What recognising says of a line: a position i stands for `drop i line`.
-use Rattle.std.specs.Prelude.{◌≡◌, List, ◌++◌, ℕ, ◌+◌, ◌-◌, ◌≤◌, length, take, drop}
+use Rattle.std.specs.Prelude.{◌≡◌, List, ◌++◌, ℕ, ◌+◌, ◌-◌, ◌≤◌, length, take, drop, Result, Ok, Err}
 use Rattle.resolved_sort.specs.Tree.{Tree, Trees, arity}
-use Rattle.sort_text.specs.Tokens.{is_letter, skip, next}
-use Rattle.sort_text.specs.Parse.{Parsed, parsed, stuck, closing, rest, sort}
+use Rattle.sort_text.specs.Parse.{Parsed, parsed, stuck, rest, sort}
 use Rattle.sort_text.specs.Postfix.{postfix, postfixes}
-use Rattle.sort_recogniser.specs.declared.Recognised.{Recognised}
-use Rattle.sort_recogniser.specs.declared.Recognised.TheVariants.{Done, Stuck}
+use Rattle.sort_lexer.specs.declared.Token.{Token}
+use Rattle.sort_lexer.specs.Inner.Lexeme.{lexeme_of}
+use Rattle.sort_recogniser.specs.declared.Stuck.{Stuck}
+use Rattle.sort_recogniser.specs.declared.Recogniser.{Recogniser}
 use Rattle.resolved_sort.specs.Storage.{max_arguments}
+
+-- how recognising ended: the position after what was read and the number of steps; or where the first token stands
+-- that cannot follow
+pub data Recognised : Type 0 where
+  done_at : ℕ → ℕ → Recognised
+  stuck_at : ℕ → Recognised
+
+abbrev pub ended : ℕ → ℕ → Result (Unit {0}) Stuck → Recognised
+ended p m (Ok u) = done_at p m
+ended p m (Err s) = stuck_at s.0
 
 -- The steps of t stand after front, m steps in all; at p, no earlier than lowest, the line goes on with cs; and the
 -- steps with what is left of the line take no more than room.
@@ -19,20 +30,46 @@ pub record Wrote (line : List ℕ) (lowest room : ℕ) (front : List ℕ) (t : T
   pub written : take m out ≡ front ++ postfix t
 
 unfoldable pub Says : List ℕ → ℕ → ℕ → List ℕ → Parsed → List ℕ → Recognised → Type 0
-Says line lowest room front (parsed t cs) out (Done p m) = Wrote line lowest room front t cs out p m
-Says line lowest room front (parsed t cs) out (Stuck p) = ⊥
-Says line lowest room front (stuck cs) out (Done p m) = ⊥
-Says line lowest room front (stuck cs) out (Stuck p) = (p ≤ length line) × (drop p line ≡ cs)
-
--- After the n steps of which the last are those of the sort in brackets: no step is written.
-unfoldable pub SaysClosing : List ℕ → ℕ → ℕ → Recognised → Type 0
-SaysClosing line at n r =
-    (front out : List ℕ) (t : Tree) → take n out ≡ front ++ postfix t
-    → Says line (at + 1) (n + (length line - at)) front
-    (closing t (skip (drop at line)) (next is_letter (drop at line))) out r
+Says line lowest room front (parsed t cs) out (done_at p m) = Wrote line lowest room front t cs out p m
+Says line lowest room front (parsed t cs) out (stuck_at p) = ⊥
+Says line lowest room front (stuck cs) out (done_at p m) = ⊥
+Says line lowest room front (stuck cs) out (stuck_at p) = (p ≤ length line) × (drop p line ≡ cs)
 
 -- After the n steps of which the last are those of the k operands.
 unfoldable pub SaysRest : List ℕ → ℕ → List ℕ → ℕ → ℕ → List ℕ → Recognised → Type 0
 SaysRest line at old n k out r =
     (front : List ℕ) (ts : Trees) → take n old ≡ front ++ postfixes ts → arity ts ≡ k
     → Says line at (n + (length line - at)) front (rest sort (max_arguments - k) ts (drop at line)) out r
+
+-- the steps written, with one for each byte that is left
+abbrev pub needed : Recogniser → ℕ
+needed r = r.count + (length r.line.now - r.at)
+
+abbrev pub HasRoom : Recogniser → Type 0
+HasRoom r = (r.at ≤ length r.line.now) × (needed r ≤ length r.steps.now)
+
+-- The line stays, and so does the length of the buffer.
+abbrev pub Same : Recogniser → Recogniser → Type 0
+Same old new = (new.line.now ≡ old.line.now) × (length new.steps.now ≡ length old.steps.now)
+
+-- Reading goes on from old to new by P, at lowest or later.
+pub record Read (old : Recogniser) (lowest : ℕ) (P : Parsed) (new : Recogniser) (r : Result (Unit {0}) Stuck)
+    : Type 0 where
+  pub same : Same old new
+  pub says : Says old.line.now lowest (needed old) (take old.count old.steps.now) P new.steps.now
+      (ended new.at new.count r)
+
+pub record ReadRest (old : Recogniser) (k : ℕ) (new : Recogniser) (r : Result (Unit {0}) Stuck) : Type 0 where
+  pub same : Same old new
+  pub says : SaysRest old.line.now old.at old.steps.now old.count k new.steps.now
+      (ended new.at new.count r)
+
+-- all but the position
+abbrev pub same_but_place : Recogniser → Recogniser → Type 0
+same_but_place old new =
+    (new.line.now ≡ old.line.now) × (new.steps.now ≡ old.steps.now) × (new.count ≡ old.count)
+
+-- the next token is the one that is expected, and the position is then behind it; or it stands where reading is stuck
+abbrev pub Met : List ℕ → ℕ → Token → ℕ → Result (Unit {0}) Stuck → Type 0
+Met line at t p (Ok u) = ((lexeme_of line at).token ≡ t) × (p ≡ (lexeme_of line at).next)
+Met line at t p (Err s) = ((lexeme_of line at).token ≡ t → ⊥) × (s.0 ≡ (lexeme_of line at).at)

@@ -1,15 +1,15 @@
 -- Each call is further along the line, or the first operand at the start of a sort. Assumes nothing.
 use Rattle.std.proofs.Common.{◌+◌, ◌-◌, ◌*◌, length}
-use Rattle.sort_recogniser.proofs.+bracketed_operand_rest_sort.Given as goal
+use Rattle.sort_recogniser.proofs.Recogniser.+bracketed_operand_rest_sort.Given as goal
 
 abbrev pub decreases-bracketed : goal.decreases-bracketed
-decreases-bracketed l = (length l.line.now - l.at) * 2
+decreases-bracketed l = (length l.self.now.line.now - l.self.now.at) * 2
 
 abbrev pub decreases-operand : goal.decreases-operand
-decreases-operand l = (length l.line.now - l.at) * 2
+decreases-operand l = (length l.self.now.line.now - l.self.now.at) * 2
 
 abbrev pub decreases-rest : goal.decreases-rest
-decreases-rest l = (length l.line.now - l.at) * 2
+decreases-rest l = (length l.self.now.line.now - l.self.now.at) * 2
 
 abbrev pub decreases-sort : goal.decreases-sort
-decreases-sort l = (length l.line.now - l.at) * 2 + 1
+decreases-sort l = (length l.self.now.line.now - l.self.now.at) * 2 + 1
