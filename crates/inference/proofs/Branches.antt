@@ -17,8 +17,8 @@ use Rattle.resolved_sort.specs.Tree.{unit, primitive, def, typevar}
 use Rattle.resolved_sort.specs.Order.{distance}
 use Rattle.resolved_sort.specs.Entries.{Stored}
 use Rattle.resolved_sort.specs.Bounds.{bound_at}
-use Rattle.unification.specs.declared.Default.{Default}
-use Rattle.unification.specs.declared.Default.TheVariants.{Is, Nothing}
+use Rattle.unification.specs.Default.{Default}
+use Rattle.std.specs.Prelude.{Some as Is, None as Nothing}
 use Rattle.unification.specs.Term.{flat_head, container_head, function_head, stray_head, Shape, variable, over}
 use Rattle.unification.specs.Nodes.{Binds}
 use Rattle.unification.specs.Unify.{Unifies, yes_with, no_way, too_deep, deep, follow, unify}

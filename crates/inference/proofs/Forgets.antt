@@ -8,7 +8,7 @@ use mathlib.Core.Option.{Option, none, some}
 use Prim.Native.Nat.{ℕ, ◌+◌}
 use lib.ListN.{take, drop}
 use Rattle.resolved_sort.specs.Tree.{unit, primitive, def, typevar}
-use Rattle.unification.specs.declared.Default.TheVariants.{Is}
+use Rattle.std.specs.Prelude.{Some as Is}
 use Rattle.unification.specs.Term.{flat_head, container_head, function_head, stray_head, Shape, variable, over}
 use Rattle.unification.specs.Nodes.{Binds}
 use Rattle.unification.specs.Unify.{Unifies, yes_with, no_way, too_deep, deep, follow, unify}

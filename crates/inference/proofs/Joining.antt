@@ -5,7 +5,7 @@ use mathlib.Core.List.{List, [], ◌∷◌, ◌++◌}
 use mathlib.Core.Option.{some}
 use Prim.Native.Nat.{ℕ}
 use Rattle.resolved_sort.specs.Tree.{Tree}
-use Rattle.unification.specs.declared.Default.TheVariants.{Nothing}
+use Rattle.std.specs.Prelude.{None as Nothing}
 use Rattle.unification.specs.Nodes.{Binds}
 use Rattle.unification.specs.Related.{each}
 use Rattle.unification.specs.Solutions.{Respects}

@@ -5,7 +5,7 @@ use mathlib.Core.List.{List}
 use mathlib.Core.Option.{Option, none, some}
 use Prim.Native.Nat.{ℕ, ◌<◌}
 use native.Mathlib.Omega.{arith}
-use Rattle.unification.specs.declared.Default.TheVariants.{Is}
+use Rattle.std.specs.Prelude.{Some as Is}
 use Rattle.unification.specs.Term.{term_of}
 use Rattle.unification.specs.Nodes.{Binds, binding}
 use Rattle.unification.specs.Solutions.{Respects}

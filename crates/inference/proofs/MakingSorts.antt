@@ -18,8 +18,8 @@ use Rattle.resolved_sort.specs.Bounds.{bound_at, intern_at}
 use Rattle.resolved_sort.proofs.RowTrees.{weaken_all}
 use Rattle.resolved_sort.proofs.Distance.{distance_exists_exactly}
 use Rattle.resolved_sort.proofs.Materializable.{materializable_below}
-use Rattle.unification.specs.declared.Default.{Default}
-use Rattle.unification.specs.declared.Default.TheVariants.{Is, Nothing}
+use Rattle.unification.specs.Default.{Default}
+use Rattle.std.specs.Prelude.{Some as Is, None as Nothing}
 use Rattle.unification.specs.Term.{Term, term_of, substitute}
 use Rattle.unification.specs.Nodes.{Binds}
 use Rattle.unification.specs.Related.{each}

@@ -7,7 +7,7 @@ use mathlib.Core.Option.{none}
 use mathlib.Core.Logic.{inl, inr}
 use Prim.Native.Nat.{ℕ}
 use Rattle.resolved_sort.specs.Checks.{first_failing}
-use Rattle.unification.specs.declared.Default.TheVariants.{Is}
+use Rattle.std.specs.Prelude.{Some as Is}
 use Rattle.unification.specs.Making.{Lent, Makes, made, no_list, no_room}
 use Rattle.inference.specs.declared.Constraint.{Constraint}
 use Rattle.inference.specs.declared.Solved.TheVariants.{NoRoom}

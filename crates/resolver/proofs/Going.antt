@@ -6,7 +6,8 @@ use mathlib.Core.List.{List, [], ◌∷◌, ◌++◌}
 use Prim.Native.Nat.{ℕ, ◌+◌, ◌-◌, ◌<◌, ◌≤◌}
 use native.Mathlib.Numerals.{unary_clauses}
 use native.Mathlib.Omega.{arith}
-use lib.ListN.{length, set, take, replicate}
+use lib.ListN.{length, set, take, replicate, length-set}
+use lib.Seq.{length-take-le}
 use Rattle.resolved_sort.specs.declared.SortId.{SortId}
 use Rattle.resolved_sort.specs.declared.Counts.{Counts}
 use Rattle.resolved_sort.specs.declared.Joined.{Joined}
@@ -20,9 +21,9 @@ use Rattle.resolved_sort.specs.Rows.{Checked, AllBelow, stored_at}
 use Rattle.resolved_sort.specs.Bounds.{intern_at}
 use Rattle.resolved_sort.specs.Inner.Storage.{sort_numbers}
 use Rattle.resolved_sort.specs.Inner.Bounds.{domain_left, stored_domain}
-use Rattle.resolved_sort.proofs.SortNumbers.{set_sort_numbers, zeros_sort_numbers}
+use Rattle.resolved_sort.proofs.SortNumbers.{set_sort_numbers, zeros_sort_numbers, take_sort_numbers}
 use Rattle.unification.specs.declared.Lengths.{Lengths}
-use Rattle.unification.specs.declared.Default.{Default}
+use Rattle.unification.specs.Default.{Default}
 use Rattle.unification.specs.Term.{function_head, Term, app, Terms}
 use Rattle.unification.specs.Nodes.{node_entry_at, node_entries_of}
 use Rattle.unification.specs.Checked.{Ready, Placed}
@@ -48,8 +49,8 @@ pub record Going (ns bs : List ℕ) (x : Default) (s m g : ℕ) (ws₀ : List �
   pub entered : Ready ws₀ ns bs k₀ × DefaultBelow k₀.sorts x × RunPlaced ns k₀ s m × Placed k₀ g
   pub ready : Ready ws ns bs k × DefaultBelow k.sorts x × RunPlaced ns k (s + i) (m - i)
   pub within : i ≤ m
+  pub stored : length ids ≡ 16
   pub counted : k ≡ with_counts k₀ (record { sorts = k.sorts; entries = k.entries })
-  pub long : length ws ≡ length ws₀
   pub smaller : sizes (argument_terms ws ns bs k (s + i) (m - i)) ≤ sizes (argument_terms ws₀ ns bs k₀ s m)
   pub same : arguments_resolved ws k x (argument_terms ws ns bs k (s + i) (m - i)) i (sort_numbers ids) ≡ arguments_resolved ws₀ k₀ x
       (argument_terms ws₀ ns bs k₀ s m) 0 (replicate 16 0)
@@ -60,8 +61,8 @@ start ws ns bs k x s m g p = record {
   entered = p;
   ready = (p.0, p.1, simp unary_clauses p.2);
   within = omega arith;
+  stored = refl;
   counted = refl;
-  long = refl;
   smaller = simp unary_clauses (omega arith);
   same = rw (zeros_sort_numbers 16) (simp unary_clauses);
 }
@@ -102,9 +103,9 @@ module _ (ns bs : List ℕ) (x : Default) (s m g : ℕ) (ws₀ : List ℕ) (k₀
             (record { ids = replicate 16 (record { 0 = 0 }); found = NoRoom })
             (ap (λ l. domain_left vs l NoRoom) (zeros_sort_numbers 16) ∙ law.arguments_end ws ns bs k G.ready.0 x G.ready.1 (s + i) (m - i) i G.ready.2 (sort_numbers ids) left a ea vs w ew z ∙ G.same) refl
 
-        pub next : length vs ≡ length ws → (c : SortId) (K : Counts) → w ≡ At c K → (k' : Lengths)
+        pub next : (c : SortId) (K : Counts) → w ≡ At c K → (k' : Lengths)
             → k' ≡ with_counts k K → Going ns bs x s m g ws₀ k₀ vs (set ids i c) k' (i + 1)
-        next l c K z k' ek = record {
+        next c K z k' ek = record {
           entered = G.entered;
           ready = (
             there.0,
@@ -113,8 +114,8 @@ module _ (ns bs : List ℕ) (x : Default) (s m g : ℕ) (ws₀ : List ℕ) (k₀
                 (subst (λ (j : ℕ). RunPlaced ns k' (s + i + 1) j) fewer there.2),
           );
           within = omega (arith, h);
+          stored = length-set ids i c ∙ G.stored;
           counted = rw ek (ap (λ (y : Lengths). with_counts y K) G.counted);
-          long = l ∙ G.long;
           smaller = omega (arith, G.smaller, ap sizes moved, falls, same_sizes);
           same = ap₂ (λ ts l. arguments_resolved vs k' x ts (i + 1) l) (sym moved) (set_sort_numbers ids i c) ∙ (on ∙ G.same);
         }
@@ -149,6 +150,9 @@ module _ (ns bs : List ℕ) (x : Default) (s m g : ℕ) (ws₀ : List ℕ) (k₀
     made : stored_domain ws all ≡ arguments_resolved ws₀ k₀ x (argument_terms ws₀ ns bs k₀ s m) 0 (replicate 16 0)
     made = law.no_arguments ws ns bs k G.ready.0 x G.ready.1 (s + i) (m - i) i G.ready.2 (sort_numbers ids) (omega (arith, h)) (counts_in k) refl ∙ G.same
 
+    pub ids_fit : m ≤ length ids
+    ids_fit = omega (arith, G.stored, G.entered.2.short)
+
     pub range_ready : Ready ws ns bs k × DefaultBelow k.sorts x × Placed k g
     range_ready = law.range_ready ws₀ ns bs k₀ G.entered.0 x G.entered.1 s m g G.entered.2 G.entered.3
         ws all made (counts_in k) refl k G.counted
@@ -172,12 +176,21 @@ module _ (ns bs : List ℕ) (x : Default) (s m g : ℕ) (ws₀ : List ℕ) (k₀
           ws all made (counts_in k) refl k G.counted vs w ew
 
       module _ (c : SortId) (K : Counts) (z : w ≡ At c K) where
-        pub function_asked : Checked vs K.sorts K.entries × (c.0 < K.sorts) × (m ≤ 16) × AllBelow K.sorts (take m (sort_numbers ids))
-        function_asked = law.function_asked ws₀ ns bs k₀ G.entered.0 x G.entered.1 s m g G.entered.2
+        asked : Checked vs K.sorts K.entries × (c.0 < K.sorts) × (m ≤ 16) × AllBelow K.sorts (take m (sort_numbers ids))
+        asked = law.function_asked ws₀ ns bs k₀ G.entered.0 x G.entered.1 s m g G.entered.2
             G.entered.3 ws all made (counts_in k) refl k G.counted vs w ew c K z
 
+        pub function_asked : Checked vs K.sorts K.entries × (c.0 < K.sorts) × (length (take m ids) ≤ 16) × AllBelow K.sorts (sort_numbers (take m ids))
+        function_asked = (
+          asked.0,
+          asked.1,
+          omega (arith, length-take-le m ids (omega (arith, asked.2, G.stored)), asked.2),
+          subst (AllBelow K.sorts) (sym (take_sort_numbers m ids)) asked.3,
+        )
+
         pub function_made : (us : List ℕ) (v : Joined)
-            → stored_at us v ≡ intern_at vs K.sorts K.entries (function (look_all (trees vs K.sorts) (take m (sort_numbers ids))) (look (trees vs K.sorts) c.0))
+            → stored_at us v ≡ intern_at vs K.sorts K.entries (function (look_all (trees vs K.sorts) (sort_numbers (take m ids))) (look (trees vs K.sorts) c.0))
             → stored_at us v ≡ term_resolved ws₀ k₀ x (function_term ws₀ ns bs k₀ s m g)
-        function_made = law.function_made ws₀ ns bs k₀ G.entered.0 x G.entered.1 s m g G.entered.2
-            G.entered.3 ws all made (counts_in k) refl k G.counted vs w ew c K z
+        function_made us v f = law.function_made ws₀ ns bs k₀ G.entered.0 x G.entered.1 s m g G.entered.2
+            G.entered.3 ws all made (counts_in k) refl k G.counted vs w ew c K z us v
+            (f ∙ ap (λ l. intern_at vs K.sorts K.entries (function (look_all (trees vs K.sorts) l) (look (trees vs K.sorts) c.0))) (take_sort_numbers m ids))

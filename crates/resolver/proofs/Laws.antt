@@ -3,6 +3,7 @@
 use mathlib.Core.Path.{◌≡◌, refl, ap, ap₂, sym, ◌∙◌, subst}
 use mathlib.Core.List.{List, [], ◌∷◌, ◌++◌}
 use mathlib.Core.Option.{Option, some}
+use mathlib.Core.Bool.{false}
 use Prim.Native.Nat.{ℕ, suc, ◌+◌, ◌-◌, ◌<◌, ◌≤◌}
 use native.Mathlib.Omega.{arith}
 use lib.ListN.{set, take, replicate}
@@ -17,12 +18,15 @@ use Rattle.resolved_sort.specs.declared.Domain.{Domain}
 use Rattle.resolved_sort.specs.Tree.{Tree, container, function}
 use Rattle.resolved_sort.specs.Interning.{Sorts, look}
 use Rattle.resolved_sort.specs.Storage.{max_sorts, trees, sorts_of, look_all}
-use Rattle.resolved_sort.specs.Entries.{counts_of, after, stored}
-use Rattle.resolved_sort.specs.Rows.{Checked, AllBelow, stored_at}
+use Rattle.resolved_sort.specs.Entries.{Stored, counts_of, after, stored}
+use Rattle.std.specs.Prelude.{Option as Found, Result, Ok, Err}
+use Rattle.std.specs.Result.{IsErr}
+use Rattle.resolved_sort.specs.declared.NoRoom.{NoRoom as NoRoomLeft}
+use Rattle.resolved_sort.specs.Rows.{Checked, AllBelow, stored_at, interned_at, left_at}
 use Rattle.resolved_sort.specs.Bounds.{intern_at}
 use Rattle.resolved_sort.specs.Inner.Storage.{sort_numbers}
 use Rattle.resolved_sort.specs.Inner.Bounds.{StoredDomain, domain_left, stored_domain, domain_of}
-use Rattle.resolved_sort.proofs.Numbers.{member_look}
+use Rattle.resolved_sort.proofs.Numbers.{member_look, true_not_false}
 use Rattle.resolved_sort.proofs.Trees.{length_trees}
 use Rattle.resolved_sort.specs.Growing.{Grown}
 use Rattle.resolved_sort.proofs.Grown.{grown_none}
@@ -31,8 +35,8 @@ use Rattle.resolved_sort.proofs.BoundsCode.{answer_old, answer_none}
 use Rattle.resolved_sort.proofs.Reached.{Reached}
 use Rattle.resolved_sort.proofs.FunctionCode.{ReachedAll}
 use Rattle.unification.specs.declared.Lengths.{Lengths}
-use Rattle.unification.specs.declared.Default.{Default}
-use Rattle.unification.specs.declared.Default.TheVariants.{Is, Nothing as NoDefault}
+use Rattle.unification.specs.Default.{Default}
+use Rattle.std.specs.Prelude.{Some as Is, None as NoDefault}
 use Rattle.unification.specs.declared.InferSortId.{InferSortId}
 use Rattle.unification.specs.declared.SortVar.{SortVar}
 use Rattle.unification.specs.declared.InferSort.{InferSort}
@@ -57,11 +61,21 @@ use Rattle.infer_nodes.specs.Inner.Bound.{RunPlaced}
 use Rattle.infer_nodes.proofs.Shapes.{shape_of_variable}
 use Rattle.infer_nodes.proofs.Ways as ways
 
-pub free_is : (c : Counts) (x : Default) (s : SortId) → x ≡ Is s → At s c ≡ free_sort c x
-free_is c x s e = sym (ap (free_sort c) e)
+-- what was left, by what the answer was
+pub left_as : (ws : List ℕ) (K : Counts) (a b : Result (Found SortId) NoRoomLeft) {T : Stored} → a ≡ b → left_at ws K a ≡ T → left_at ws K b ≡ T
+left_as ws K a b {T} e = subst (λ r. left_at ws K r ≡ T) e
 
-pub free_none : (c : Counts) (x : Default) → x ≡ NoDefault → Nothing c ≡ free_sort c x
-free_none c x e = sym (ap (free_sort c) e)
+pub interned_as : (ws : List ℕ) (K : Counts) (a b : Result SortId NoRoomLeft) {T : Stored} → a ≡ b → interned_at ws K a ≡ T → interned_at ws K b ≡ T
+interned_as ws K a b {T} e = subst (λ r. interned_at ws K r ≡ T) e
+
+-- an answer that is an error, whatever the error says
+pub left_err : (ws : List ℕ) (K : Counts) (r : Result (Found SortId) NoRoomLeft) {T : Stored} → IsErr r → stored_at ws Full ≡ T → left_at ws K r ≡ T
+left_err ws K (Ok x) i t = absurd (true_not_false false i refl)
+left_err ws K (Err e) i t = t
+
+pub default_left_at : (ws : List ℕ) (K : Counts) (x : Default) → left_at ws K (Ok x) ≡ stored_at ws (free_sort K x)
+default_left_at ws K (Is d) = refl
+default_left_at ws K NoDefault = refl
 
 sizes_last : (f : ℕ → Term) (xs : List ℕ) (y : ℕ) → sizes (terms_at f (xs ++ (y ∷ []))) ≡ sizes (terms_at f xs) + size (f y)
 unfolding sizes
@@ -203,10 +217,8 @@ module _ (ws ns bs : List ℕ) (k : Lengths) (q : Ready ws ns bs k) (x : Default
         pub function_size : size (app (function_head d.count) (terms_at val (args ++ (s.0 ∷ [])))) ≡ size (val p)
         function_size = ap size (sym is_function)
 
-        pub function_resolved : (vs : List ℕ) (w : Joined) → stored_at vs w ≡ term_resolved ws k x
-            (app (function_head d.count) (terms_at val (args ++ (s.0 ∷ [])))) → stored_at vs w ≡ term_resolved ws k x
-            (val p)
-        function_resolved vs w g = g ∙ ap (term_resolved ws k x) (sym is_function)
+        pub whole_function : term_resolved ws k x (app (function_head d.count) (terms_at val (args ++ (s.0 ∷ [])))) ≡ term_resolved ws k x (val p)
+        whole_function = ap (term_resolved ws k x) (sym is_function)
 
   -- from the lists that a call has left
   module _ (S₁ : Sorts) (g : Grown ws n e S₁) (vs : List ℕ) (K : Counts) (w : vs ≡ after ws n e S₁)

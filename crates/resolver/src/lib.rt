@@ -2,23 +2,127 @@
 // here, with what stands for a free variable. New sorts are appended; where the answer is none, what was made stays.
 #![tactic(auto)]
 
-ghost use Rattle.std.specs.Prelude.{◌≡◌, [], ◌∷◌, ◌++◌, ◌<◌};
-ghost use Rattle.resolved_sort.specs.Rows.{stored_at};
+ghost use Rattle.std.specs.Prelude.{◌≡◌, [], ◌∷◌, ◌++◌, ◌<◌, Some, None, List, ℕ};
+ghost use Rattle.resolved_sort.specs.Rows.{stored_at, left_at, Checked};
 ghost use Rattle.unification.specs.Term.{function_head, app};
-ghost use Rattle.unification.specs.Nodes.{node_entries_of};
-ghost use Rattle.unification.specs.Checked.{Ready, Placed};
+ghost use Rattle.unification.specs.Nodes.{binds_of, node_entries_of};
+ghost use Rattle.unification.specs.Unify.{follow, deep};
+ghost use Rattle.unification.specs.Checked.{graph_of, Ready, Placed};
 ghost use Rattle.unification.specs.Solutions.{terms_at};
-ghost use Rattle.unification.specs.Inner.Resolve.{free_sort, value_in};
+ghost use Rattle.unification.specs.Inner.Resolve.{value_in};
 ghost use Rattle.unification.specs.Resolve.{DefaultBelow, term_resolved};
 ghost use Rattle.infer_nodes.specs.Inner.Bound.{RunPlaced};
+ghost use Rattle.std.proofs.Math.Option.{some};
 
 use infer_nodes::{argument, counts_of, node, shallow_normalize, taken_apart, with_counts};
-use resolved_sort::{ARGUMENT_WORDS, Counts, Joined, Run, SortId};
-use sort_interner::{function, generic};
-use unification::{Default, InferSort, InferSortId, Lengths, Place};
+use resolved_sort::{ARGUMENT_WORDS, Counts, Joined, NoRoom, Run, SortId};
+use sort_interner::SortInterner;
+use unification::{InferSort, InferSortId, Lengths, Place};
 
-// Extracts the resolved sort denoted by `id`, or nothing when a free variable remains, i.e. the
-// sort is underdetermined.
+// What sorts are resolved from: nodes, what their variables are bound to, and what stands for a variable that is free,
+// if anything. How many sorts there are is for the interner to say.
+#[derive(Clone, Copy)]
+pub struct Resolver<'a> {
+    pub nodes: &'a [u16],
+    pub binds: &'a [u16],
+    pub lengths: Lengths,
+    pub default: Option<SortId>,
+}
+
+impl Resolver<'_> {
+    ghost use Rattle.resolver.specs.Resolver.{CanResolve, lengths_in, value_at, resolved, PlacedAt};
+
+    // The end of a place through the bindings.
+    fn end(&self, interner: &SortInterner, id: InferSortId) -> InferSortId
+        requires { CanResolve self.now interner.now × PlacedAt self.now interner.now id.0 }
+        ensures { follow
+            (graph_of interner.now.words.now self.now.nodes.now (lengths_in self.now interner.now))
+            deep (binds_of self.now.binds.now self.now.lengths.variables) id.0
+            ≡ some result.0 }
+    {
+        let sorts = interner.sorts();
+        let lengths = with_counts(self.lengths, sorts.counts);
+        shallow_normalize(sorts.words, self.nodes, self.binds, lengths, id)
+    }
+
+    // Extracts the resolved sort denoted by `id`; where a free variable remains, the default stands for it. Nothing
+    // where there is none, i.e. the sort is underdetermined.
+    // With a default the solver accepts lists whose auxiliary sorts are never constrained, such as the element sort of
+    // the empty list in `n = #[]`.
+    #[cycle(resolve_resolve_function)]
+    pub fn resolve(
+        &self,
+        interner: &mut SortInterner,
+        id: InferSortId,
+    ) -> Result<Option<SortId>, NoRoom>
+        requires { CanResolve self.now interner.old × PlacedAt self.now interner.old id.0 }
+        ensures same_reference { interner.new.words.ghost_name ≡ interner.old.words.ghost_name }
+        ensures resolved { left_at interner.new.words.now interner.new.counts result
+            ≡ resolved self.now interner.old (value_at self.now interner.old id.0) }
+    {
+        match taken_apart(self.end(interner, id)) {
+            Place::Sort(sort) => Ok(Some(sort)),
+            Place::Node(at) => match node(self.nodes, at) {
+                InferSort::Generic { op, subsort } => {
+                    let Some(subsort) = self.resolve(interner, subsort)? else {
+                        return Ok(None);
+                    };
+                    Ok(Some(interner.generic(op, subsort)?))
+                }
+                InferSort::Function { domain, range } => {
+                    self.resolve_function(interner, domain, range)
+                }
+                InferSort::Var(_) => Ok(self.default),
+            },
+        }
+    }
+
+    // A function: its arguments, left to right, then its range, then the whole. One loop goes through the arguments, so
+    // that a level of nesting costs one call of this function, as in merc.
+    #[cycle(resolve_resolve_function)]
+    fn resolve_function(
+        &self,
+        interner: &mut SortInterner,
+        domain: Run,
+        range: InferSortId,
+    ) -> Result<Option<SortId>, NoRoom>
+        requires { CanResolve self.now interner.old
+            × RunPlaced self.now.nodes.now (lengths_in self.now interner.old) domain.start domain.count
+            × PlacedAt self.now interner.old range.0 }
+        ensures same_reference { interner.new.words.ghost_name ≡ interner.old.words.ghost_name }
+        ensures resolved { left_at interner.new.words.now interner.new.counts result
+            ≡ resolved self.now interner.old
+            (app (function_head domain.count)
+            (terms_at (value_at self.now interner.old)
+            (node_entries_of self.now.nodes.now domain.start domain.count ++ (range.0 ∷ [])))) }
+    {
+        let mut ids = [SortId(0); ARGUMENT_WORDS];
+        for i in 0..domain.count {
+            let next = argument(self.nodes, domain.start + i);
+            let Some(id) = self.resolve(interner, next)? else {
+                return Ok(None);
+            };
+            ids[i as usize] = id;
+        }
+        let Some(range) = self.resolve(interner, range)? else {
+            return Ok(None);
+        };
+        Ok(Some(interner.function(&ids[..domain.count as usize], range)?))
+    }
+}
+
+// What was resolved, with the counts after it.
+fn joined(left: Result<Option<SortId>, NoRoom>, counts: Counts) -> Joined
+    ensures { (ws : List ℕ) → stored_at ws result ≡ left_at ws counts left }
+{
+    match left {
+        Ok(Some(id)) => Joined::At(id, counts),
+        Ok(None) => Joined::Nothing(counts),
+        Err(_) => Joined::Full,
+    }
+}
+
+// The sort of a place, or nothing where a free variable remains.
 pub fn resolve(
     sorts: &mut [u16],
     nodes: &[u16],
@@ -28,15 +132,13 @@ pub fn resolve(
 ) -> Joined
     requires { Ready sorts.old nodes.now binds.now lengths × Placed lengths id.0 }
     ensures { stored_at sorts.new result
-        ≡ term_resolved sorts.old lengths Default.Nothing
+        ≡ term_resolved sorts.old lengths None
         (value_in sorts.old nodes.now binds.now lengths id.0) }
 {
-    resolve_with(sorts, nodes, binds, lengths, Default::Nothing, id)
+    resolve_with(sorts, nodes, binds, lengths, None, id)
 }
 
-// Like `resolve` but substitutes any remaining free variable with `default`.
-// With it the solver accepts lists whose auxiliary sorts are never constrained, such as the element sort of the empty
-// list in `n = #[]`.
+// The sort of a place, where the default stands for a free variable.
 pub fn resolve_or_default(
     sorts: &mut [u16],
     nodes: &[u16],
@@ -49,29 +151,18 @@ pub fn resolve_or_default(
         × Placed lengths id.0
         × (default.0 < lengths.sorts) }
     ensures { stored_at sorts.new result
-        ≡ term_resolved sorts.old lengths (Default.Is default)
+        ≡ term_resolved sorts.old lengths (Some default)
         (value_in sorts.old nodes.now binds.now lengths id.0) }
 {
-    resolve_with(sorts, nodes, binds, lengths, Default::Is(default), id)
+    resolve_with(sorts, nodes, binds, lengths, Some(default), id)
 }
 
-// The default, where there is one.
-fn free_sort(counts: Counts, default: Default) -> Joined
-    ensures { result ≡ free_sort counts default }
-{
-    match default {
-        Default::Is(sort) => Joined::At(sort, counts),
-        Default::Nothing => Joined::Nothing(counts),
-    }
-}
-
-#[cycle(resolve_function_resolve_with)]
-fn resolve_with(
+fn resolve_with<'a>(
     sorts: &mut [u16],
-    nodes: &[u16],
-    binds: &[u16],
+    nodes: &'a [u16],
+    binds: &'a [u16],
     lengths: Lengths,
-    default: Default,
+    default: Option<SortId>,
     id: InferSortId,
 ) -> Joined
     requires { Ready sorts.old nodes.now binds.now lengths
@@ -81,71 +172,16 @@ fn resolve_with(
         ≡ term_resolved sorts.old lengths default
         (value_in sorts.old nodes.now binds.now lengths id.0) }
 {
-    let end = shallow_normalize(sorts, nodes, binds, lengths, id);
-    match taken_apart(end) {
-        Place::Sort(sort) => Joined::At(sort, counts_of(lengths)),
-        Place::Node(at) => match node(nodes, at) {
-            InferSort::Generic { op, subsort } => match resolve_with(
-                sorts, nodes, binds, lengths, default, subsort,
-            ) {
-                Joined::At(part, made) => generic(sorts, made, op, part),
-                Joined::Nothing(made) => Joined::Nothing(made),
-                Joined::Full => Joined::Full,
-            },
-            InferSort::Function { domain, range } => resolve_function(
-                sorts, nodes, binds, lengths, default, domain, range,
-            ),
-            InferSort::Var(_) => free_sort(counts_of(lengths), default),
-        },
-    }
-}
-
-// A function: its arguments, left to right, then its range, then the whole. One loop goes through the arguments, so
-// that a level of nesting costs one call of this function, as in merc.
-#[cycle(resolve_function_resolve_with)]
-fn resolve_function(
-    sorts: &mut [u16],
-    nodes: &[u16],
-    binds: &[u16],
-    lengths: Lengths,
-    default: Default,
-    domain: Run,
-    range: InferSortId,
-) -> Joined
-    requires { Ready sorts.old nodes.now binds.now lengths
-        × DefaultBelow lengths.sorts default
-        × RunPlaced nodes.now lengths domain.start domain.count
-        × Placed lengths range.0 }
-    ensures { stored_at sorts.new result
-        ≡ term_resolved sorts.old lengths default
-        (app (function_head domain.count)
-        (terms_at (value_in sorts.old nodes.now binds.now lengths)
-        (node_entries_of nodes.now domain.start domain.count ++ (range.0 ∷ [])))) }
-{
-    let start = domain.start;
-    let count = domain.count;
-    let mut ids = [SortId(0); ARGUMENT_WORDS];
-    let mut here = lengths;
-    let mut i = 0u16;
-    while i < count {
-        let next = argument(nodes, start + i);
-        match resolve_with(sorts, nodes, binds, here, default, next) {
-            Joined::At(id, made) => {
-                ids[i as usize] = id;
-                here = with_counts(here, made);
-            }
-            Joined::Nothing(made) => {
-                return Joined::Nothing(made);
-            }
-            Joined::Full => {
-                return Joined::Full;
-            }
-        }
-        i += 1;
-    }
-    match resolve_with(sorts, nodes, binds, here, default, range) {
-        Joined::At(id, made) => function(sorts, made, ids, count, id),
-        Joined::Nothing(made) => Joined::Nothing(made),
-        Joined::Full => Joined::Full,
-    }
+    let resolver = Resolver {
+        nodes,
+        binds,
+        lengths,
+        default,
+    };
+    let mut interner = SortInterner {
+        words: sorts,
+        counts: counts_of(lengths),
+    };
+    let left = resolver.resolve(&mut interner, id);
+    joined(left, interner.counts)
 }

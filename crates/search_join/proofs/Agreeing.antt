@@ -12,7 +12,7 @@ use Rattle.resolved_sort.specs.declared.Run.{Run}
 use Rattle.resolved_sort.specs.Rows.{AllBelow}
 use Rattle.resolved_sort.proofs.RowTrees.{weaken_all}
 use Rattle.unification.specs.declared.Lengths.{Lengths}
-use Rattle.unification.specs.declared.Default.TheVariants.{Nothing}
+use Rattle.std.specs.Prelude.{None as Nothing}
 use Rattle.unification.specs.Nodes.{Binds, binds_of}
 use Rattle.unification.specs.Making.{Lent, Makes, made, no_list, ◌and-then◌}
 use Rattle.unification.specs.Inner.Making.{lent}

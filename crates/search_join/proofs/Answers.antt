@@ -15,7 +15,7 @@ use Rattle.resolved_sort.specs.Rows.{stored_at}
 use Rattle.resolved_sort.specs.Bounds.{bound_at}
 use Rattle.resolved_sort.proofs.Reached.{no_confusion}
 use Rattle.unification.specs.declared.Lengths.{Lengths}
-use Rattle.unification.specs.declared.Default.TheVariants.{Nothing}
+use Rattle.std.specs.Prelude.{None as Nothing}
 use Rattle.unification.specs.Nodes.{binds_of}
 use Rattle.unification.specs.Inner.Resolve.{value_in}
 use Rattle.unification.specs.Resolve.{term_resolved, with_counts}

@@ -9,7 +9,7 @@ use lib.ListN.{length, take, set, length-set}
 use Rattle.resolved_sort.specs.declared.SortId.{SortId}
 use Rattle.resolved_sort.specs.declared.Run.{Run}
 use Rattle.unification.specs.declared.Lengths.{Lengths}
-use Rattle.unification.specs.declared.Default.TheVariants.{Nothing}
+use Rattle.std.specs.Prelude.{None as Nothing}
 use Rattle.unification.specs.Nodes.{Binds, binds_of}
 use Rattle.unification.specs.Checked.{Ready, Placed}
 use Rattle.unification.specs.Making.{Lent, Makes, made, no_list, no_room, ◌and-then◌}

@@ -9,7 +9,7 @@ ghost use Rattle.resolved_sort.specs.Order.{distance};
 ghost use Rattle.resolved_sort.specs.Entries.{tree_at};
 ghost use Rattle.resolved_sort.specs.Rows.{Checked};
 ghost use Rattle.resolved_sort.specs.Bounds.{Asked};
-ghost use Rattle.unification.specs.declared.Default.{Default};
+ghost use Rattle.std.specs.Prelude.{None};
 ghost use Rattle.unification.specs.Nodes.{binds_of};
 ghost use Rattle.unification.specs.Checked.{Ready, Placed};
 ghost use Rattle.unification.specs.Related.{each};
@@ -54,7 +54,7 @@ fn sort_of(
 ) -> Made
     requires { Ready sorts.old nodes.now binds.now lengths × Placed lengths id.0 }
     ensures { made_of sorts.new nodes.now result
-        ≡ resolve_in Default.Nothing (binds_of binds.now lengths.variables) id.0
+        ≡ resolve_in None (binds_of binds.now lengths.variables) id.0
         (lent sorts.old nodes.now lengths) }
 {
     made_from(lengths, resolve(sorts, nodes, binds, lengths, id))
@@ -81,7 +81,7 @@ fn resolve_sources(
 ) -> Extracted
     requires { Sources sorts.old nodes.now binds.now lists.now ids.old lengths sources }
     ensures { extracted_of sorts.new nodes.now ids.new 0 sources.count result
-        ≡ resolve_all Default.Nothing (binds_of binds.now lengths.variables)
+        ≡ resolve_all None (binds_of binds.now lengths.variables)
         (rows_from (source_at lists.now) sources.start sources.count)
         (lent sorts.old nodes.now lengths) }
 {

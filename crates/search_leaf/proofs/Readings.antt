@@ -13,8 +13,8 @@ use Rattle.resolved_sort.specs.declared.Joined.TheVariants.{At, Nothing as NotTh
 use Rattle.resolved_sort.specs.Entries.{Stored}
 use Rattle.resolved_sort.specs.Rows.{stored_at}
 use Rattle.unification.specs.declared.Lengths.{Lengths}
-use Rattle.unification.specs.declared.Default.{Default}
-use Rattle.unification.specs.declared.Default.TheVariants.{Is}
+use Rattle.unification.specs.Default.{Default}
+use Rattle.std.specs.Prelude.{Some as Is}
 use Rattle.unification.specs.Nodes.{Binds, binds_of}
 use Rattle.unification.specs.Checked.{Ready, Placed}
 use Rattle.unification.specs.Inner.Resolve.{value_in}

@@ -18,8 +18,8 @@ use Rattle.resolved_sort.proofs.Numbers.{member_look}
 use Rattle.resolved_sort.proofs.Trees.{length_trees}
 use Rattle.resolved_sort.proofs.Grown.{grown_none}
 use Rattle.resolved_sort.proofs.Reached.{no_confusion}
-use Rattle.unification.specs.declared.Default.{Default}
-use Rattle.unification.specs.declared.Default.TheVariants.{Is, Nothing}
+use Rattle.unification.specs.Default.{Default}
+use Rattle.std.specs.Prelude.{Some as Is, None as Nothing}
 use Rattle.unification.specs.Term.{Term, term_of, substitute}
 use Rattle.unification.specs.Nodes.{Binds, binding}
 use Rattle.unification.specs.Acyclic.{Reaches}

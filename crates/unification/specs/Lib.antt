@@ -9,6 +9,7 @@ pub mod Full
 pub mod UnifyEntry
 pub mod Trail
 pub mod Solutions
+pub mod Default
 pub mod Resolve
 pub mod Related
 pub mod Making

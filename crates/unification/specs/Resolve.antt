@@ -1,7 +1,7 @@
 -- resolve and resolve_or_default (001): the sort that a place stands for through the bindings. Its parts are made
 -- first, a function's arguments left to right and then its range, and then the whole is interned. A sort of the list,
 -- and each of its parts, is found there, so that nothing is made for it.
-use Rattle.std.specs.Prelude.{List, [], ◌∷◌, ℕ, zero, suc, ◌<◌, get_or, ◌≡◌, false}
+use Rattle.std.specs.Prelude.{List, [], ◌∷◌, ℕ, zero, suc, ◌<◌, get_or, ◌≡◌, false, Some, None}
 use Rattle.std.proofs.Math.Option.{Option, none, some}
 use Rattle.resolved_sort.specs.Tree.{unit, Tree, flat, container, function, Trees, no_args, arg}
 use Rattle.resolved_sort.specs.declared.Counts.{Counts}
@@ -11,8 +11,7 @@ use Rattle.resolved_sort.specs.Storage.{trees, sorts_of}
 use Rattle.resolved_sort.specs.Entries.{Stored, stored}
 use Rattle.resolved_sort.specs.Inner.Bounds.{StoredDomain, domain_of}
 use Rattle.unification.specs.declared.Lengths.{Lengths}
-use Rattle.unification.specs.declared.Default.{Default}
-use Rattle.unification.specs.declared.Default.TheVariants.{Is, Nothing}
+use Rattle.unification.specs.Default.{Default}
 use Rattle.unification.specs.Term.{Head, flat_head, container_head, function_head, stray_head, Term, var, app}
 use Rattle.unification.specs.Term.{Terms, no_part, part, Shape}
 use Rattle.unification.specs.Nodes.{Binds, binding}
@@ -64,12 +63,12 @@ resolve_or_default shape B p d S = resolve_term (some d) (value shape B p) S
 
 -- The same over lent words, with the default by its number.
 abbrev pub default_of : List Tree → Default → Option Tree
-default_of T (Is d) = some (look T d.0)
-default_of T Nothing = none
+default_of T (Some d) = some (look T d.0)
+default_of T None = none
 
 abbrev pub DefaultBelow : ℕ → Default → Type 0
-DefaultBelow n (Is d) = d.0 < n
-DefaultBelow n Nothing = Unit {0}
+DefaultBelow n (Some d) = d.0 < n
+DefaultBelow n None = Unit {0}
 
 -- the default, and the term of a place
 abbrev pub default_in : List ℕ → Lengths → Default → Option Tree

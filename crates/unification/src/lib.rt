@@ -96,27 +96,6 @@ pub enum Tried {
     No(u16),
 }
 
-// What a variable is bound to.
-#[derive(Clone, Copy, Drop)]
-pub enum Bound {
-    To(InferSortId),
-    Free,
-}
-
-// The variable that stands at a place, where one does.
-#[derive(Clone, Copy, Drop)]
-pub enum VarAt {
-    Is(SortVar),
-    Nothing,
-}
-
-// What stands for a variable that is free: a sort of the list, or nothing.
-#[derive(Clone, Copy, Drop)]
-pub enum Default {
-    Is(SortId),
-    Nothing,
-}
-
 // Whether a node was made: its place and the lengths then, or no room.
 #[derive(Clone, Copy, Drop)]
 pub enum Pushed {

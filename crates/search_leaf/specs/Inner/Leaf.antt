@@ -3,7 +3,7 @@ use Rattle.std.specs.Prelude.{◌≡◌, Bool, cond, List, ℕ, ◌<◌, ◌≤�
 use Rattle.std.proofs.Math.Seq.{paste}
 use Rattle.resolved_sort.specs.declared.SortId.{SortId}
 use Rattle.unification.specs.declared.Lengths.{Lengths}
-use Rattle.unification.specs.declared.Default.TheVariants.{Is}
+use Rattle.std.specs.Prelude.{Some as Is}
 use Rattle.unification.specs.Nodes.{binds_of}
 use Rattle.unification.specs.Checked.{Ready}
 use Rattle.unification.specs.Making.{Lent, Makes}
