@@ -20,6 +20,7 @@ pub mod Twice
 pub mod Pairs
 pub mod Unlikes
 pub mod Said
+pub mod RowsSay
 pub mod SameNumbers
 pub mod Grown
 pub mod Unchanged

@@ -3,11 +3,14 @@
 use mathlib.Core.Path.{◌≡◌, refl, sym, ap, ap₂, ◌∙◌}
 use mathlib.Core.Bool.{Bool, true, false, not, ◌&&◌, and-eq-true_iff, true≢false, false≢true}
 use mathlib.Core.Logic.{◌↔◌, ◌≢◌}
+use Rattle.std.specs.Prelude.{Option as Answer, Some, None}
+use Rattle.std.specs.declared.cmp.Ordering.{Ordering}
+use Rattle.std.specs.declared.cmp.Ordering.TheVariants.{Less, Equal as Same, Greater}
 use Rattle.resolved_sort.specs.declared.ComplexSort.{ComplexSort}
 use Rattle.resolved_sort.specs.declared.PartialOrder.{PartialOrder}
 use Rattle.resolved_sort.specs.declared.PartialOrder.TheVariants.{Unrelated, Equal, Below, Above}
 use Rattle.resolved_sort.specs.Tree.{Flat, Tree, flat, container, function, Trees, no_args, arg, family, level, family_op, level_op}
-use Rattle.resolved_sort.specs.Order.{le_flat, le_op, le, les, order, order_of, OrderSays}
+use Rattle.resolved_sort.specs.Order.{le_flat, le_op, le, les, order, order_of, OrderSays, ordering, ordering_of, OrderingSays, partial_order_of}
 use Rattle.resolved_sort.proofs.Heads.{head_refl, head_trans, head_flips, head_antisym, flat_injective, op_injective}
 
 -- The rules: flat sorts by heads, containers by operator and part, functions by arguments the other way and range.
@@ -146,3 +149,37 @@ order_exactly s t answer = (λ e. rw e at (order_says s t), back answer)
     back Below h = order_is s t true false h.0 (strict s t h.0 h.1)
     back Above h = order_is s t false true (strict t s h.0 (λ e. h.1 (sym e))) h.0
     back Unrelated h = order_is s t false false h.0 h.1
+
+-- the same of the answer of the code
+module _ (s t : Tree) where
+  ordering_is : (x y : Bool) → le true s t ≡ x → le true t s ≡ y → ordering s t ≡ ordering_of x y
+  unfolding ordering
+  ordering_is x y e f = ap₂ ordering_of e (le_flips false s t ∙ f)
+
+  pub ordering_says : OrderingSays s t (ordering s t)
+  ordering_says = go (le true s t) refl (le true t s) refl
+    where
+      go : (x : Bool) → le true s t ≡ x → (y : Bool) → le true t s ≡ y → OrderingSays s t (ordering s t)
+      go true e true f = rw (ordering_is true true e f) (le_antisym true s t e f)
+      go true e false f = rw (ordering_is true false e f) (e, λ i. true≢false (sym (rw i (le_refl true t)) ∙ f))
+      go false e true f = rw (ordering_is false true e f) (f, λ i. true≢false (sym (rw i (le_refl true t)) ∙ e))
+      go false e false f = rw (ordering_is false false e f) (e, f)
+
+pub ordering_exactly : (s t : Tree) (answer : Answer Ordering) → (ordering s t ≡ answer) ↔ OrderingSays s t answer
+ordering_exactly s t answer = (λ e. rw e at (ordering_says s t), back answer)
+  where
+    back : (answer : Answer Ordering) → OrderingSays s t answer → ordering s t ≡ answer
+    back (Some Same) e = ordering_is s t true true (rw e (le_refl true t)) (rw e (le_refl true t))
+    back (Some Less) h = ordering_is s t true false h.0 (strict s t h.0 h.1)
+    back (Some Greater) h = ordering_is s t false true (strict t s h.0 (λ e. h.1 (sym e))) h.0
+    back None h = ordering_is s t false false h.0 h.1
+
+pub order_by_ordering : (s t : Tree) → partial_order_of (ordering s t) ≡ order s t
+unfolding order ordering
+order_by_ordering s t = go (le true s t) (le false s t)
+  where
+    go : (x y : Bool) → partial_order_of (ordering_of x y) ≡ order_of x y
+    go true true = refl
+    go true false = refl
+    go false true = refl
+    go false false = refl

@@ -5,9 +5,10 @@ use mathlib.Core.Bool.{Bool, true, false, not, ◌&&◌, and-false}
 use mathlib.Core.Option.{Option, none, some}
 use Prim.Native.Nat.{ℕ, ◌+◌}
 use borrow.Author.Tests.{ne_eqb}
+use Rattle.std.specs.Prelude.{None}
 use Rattle.resolved_sort.specs.declared.PartialOrder.TheVariants.{Unrelated}
 use Rattle.resolved_sort.specs.Tree.{Tree, Trees, no_args, arg, arity}
-use Rattle.resolved_sort.specs.Order.{le, les, order, Steps, distance, materializable}
+use Rattle.resolved_sort.specs.Order.{le, les, order, ordering, Steps, distance, materializable}
 use Rattle.resolved_sort.proofs.Numbers.{true_not_false}
 use Rattle.resolved_sort.proofs.Distance.{distance_exists_exactly}
 use Rattle.resolved_sort.proofs.Materializable.{materializable_below}
@@ -37,6 +38,10 @@ unlike_le up (functions {ss} {ts} {r} {u} h) = rw (les_of_lengths (not up) ss ts
 pub unlike_order : {s t : Tree} → Unlike s t → order s t ≡ Unrelated
 unfolding order
 unlike_order h = rw (unlike_le true h, unlike_le false h)
+
+pub unlike_ordering : {s t : Tree} → Unlike s t → ordering s t ≡ None
+unfolding ordering
+unlike_ordering h = rw (unlike_le true h, unlike_le false h)
 
 pub unlike_distance : (up : Bool) {s t : Tree} → Unlike s t → distance up s t ≡ none
 unlike_distance up {s} {t} h = go (distance up s t) refl

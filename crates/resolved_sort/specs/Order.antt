@@ -1,6 +1,10 @@
 -- Order, join, meet, distance and materializable, on trees: document 01, "Sorts (002)".
 use Rattle.std.specs.Prelude.{Bool, true, false, cond, not, ◌&&◌, ℕ, ◌+◌, ◌-◌, min, eqb, leb, ◌≡◌, ◌≢◌}
+use Rattle.std.specs.Prelude.{Option as Answer, Some, None}
+use Rattle.std.specs.declared.cmp.Ordering.{Ordering}
+use Rattle.std.specs.declared.cmp.Ordering.TheVariants.{Less, Equal as Same, Greater}
 use Rattle.std.proofs.Math.Option.{Option, none, some}
+use Rattle.resolved_sort.specs.declared.Steps.{Steps as StepsAnswer}
 use Rattle.resolved_sort.specs.declared.ComplexSort.{ComplexSort}
 use Rattle.resolved_sort.specs.declared.PartialOrder.{PartialOrder}
 use Rattle.resolved_sort.specs.declared.PartialOrder.TheVariants.{Unrelated, Equal, Below, Above}
@@ -48,6 +52,23 @@ order_of false false = Unrelated
 
 unfoldable pub order : Tree → Tree → PartialOrder
 order s t = order_of (le true s t) (le false s t)
+
+-- the same as the code answers it: Less where the first is below the second, None where neither is equal to or below
+-- the other
+abbrev pub ordering_of : Bool → Bool → Answer Ordering
+ordering_of true true = Some Same
+ordering_of true false = Some Less
+ordering_of false true = Some Greater
+ordering_of false false = None
+
+unfoldable pub ordering : Tree → Tree → Answer Ordering
+ordering s t = ordering_of (le true s t) (le false s t)
+
+abbrev pub partial_order_of : Answer Ordering → PartialOrder
+partial_order_of (Some Same) = Equal
+partial_order_of (Some Less) = Below
+partial_order_of (Some Greater) = Above
+partial_order_of None = Unrelated
 
 -- Of two heads of one family the one farther in the direction.
 unfoldable pub bound_flat : Bool → Flat → Flat → Option Flat
@@ -102,6 +123,11 @@ stopped_sum a b = min most_steps (a + b)
 pub record Steps : Type 0 where
   pub head : ℕ
   pub interior : ℕ
+
+-- the same as the code answers it
+abbrev pub steps_of : Option Steps → Answer StepsAnswer
+steps_of none = None
+steps_of (some d) = Some (record { head = d.head; interior = d.interior })
 
 -- the steps between two levels, of which the second is the farther
 abbrev pub apart : Bool → ℕ → ℕ → ℕ
@@ -162,6 +188,13 @@ OrderSays s t Equal = s ≡ t
 OrderSays s t Below = (le true s t ≡ true) × (s ≢ t)
 OrderSays s t Above = (le true t s ≡ true) × (s ≢ t)
 OrderSays s t Unrelated = (le true s t ≡ false) × (le true t s ≡ false)
+
+-- What each answer of `ordering` says.
+abbrev pub OrderingSays : Tree → Tree → Answer Ordering → Type 0
+OrderingSays s t (Some Same) = s ≡ t
+OrderingSays s t (Some Less) = (le true s t ≡ true) × (s ≢ t)
+OrderingSays s t (Some Greater) = (le true t s ≡ true) × (s ≢ t)
+OrderingSays s t None = (le true s t ≡ false) × (le true t s ≡ false)
 
 -- How far a materializable pair is apart.
 abbrev pub is_function : Tree → Bool

@@ -14,9 +14,9 @@ use Rattle.resolved_sort.specs.declared.ResolvedSort.TheVariants.{Unit as UnitRo
 use Rattle.resolved_sort.specs.Tree.{family, level}
 use Rattle.resolved_sort.specs.Storage.{max_sorts, row_at}
 use Rattle.resolved_sort.proofs.Reached.{no_confusion}
-use Rattle.sort_order.specs.declared.Amount.{Amount}
-use Rattle.sort_order.specs.declared.Amount.TheVariants.{Of, Nothing}
-use Rattle.sort_order.specs.Inner.Answers.{amount_of, generality}
+use Rattle.sort_order.specs.declared.lent.Amount.{Amount}
+use Rattle.sort_order.specs.declared.lent.Amount.TheVariants.{Of, Nothing}
+use Rattle.sort_order.specs.Older.{amount_of, generality}
 use Rattle.unification.specs.declared.InferSortId.{InferSortId}
 use Rattle.unification.specs.declared.SortVar.{SortVar}
 use Rattle.unification.specs.declared.Lengths.{Lengths}

@@ -31,7 +31,7 @@ use search_state::{
     Widenings, with_lengths,
 };
 use sort_interner::{generic, get};
-use sort_order::{Amount, number_generality};
+use sort_order::lent::{Amount, number_generality};
 use unification::{InferSort, InferSortId, Lengths, Place, Related, Three, Tried};
 use unifier::unify;
 

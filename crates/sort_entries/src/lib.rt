@@ -67,7 +67,7 @@ pub fn partial_cmp(
                 sorts: sort_count as u16,
                 entries: entry_count as u16,
             };
-            Compared::Ordered(sort_order::partial_cmp(sorts, counts, lhs, rhs))
+            Compared::Ordered(sort_order::lent::partial_cmp(sorts, counts, lhs, rhs))
         }
     }
 }
@@ -90,7 +90,7 @@ pub fn widening_distance(
                 sorts: sort_count as u16,
                 entries: entry_count as u16,
             };
-            Measured::Steps(sort_order::widening_distance(sorts, counts, from, to))
+            Measured::Steps(sort_order::lent::widening_distance(sorts, counts, from, to))
         }
     }
 }
@@ -113,7 +113,7 @@ pub fn is_materializable(
                 sorts: sort_count as u16,
                 entries: entry_count as u16,
             };
-            Materialized::Answer(sort_order::is_materializable(sorts, counts, from, to))
+            Materialized::Answer(sort_order::lent::is_materializable(sorts, counts, from, to))
         }
     }
 }

@@ -155,7 +155,7 @@ fn entry(words: &[u16], run: Run, k: u16) -> SortId
 }
 
 // Whether two runs have the same entries. Where they start does not count.
-pub fn same_run(words: &[u16], a: Run, b: Run) -> bool
+fn same_run(words: &[u16], a: Run, b: Run) -> bool
     ensures { result
         ≡ same_words (entries_of words.now a.start a.count)
         (entries_of words.now b.start b.count) }
@@ -272,6 +272,22 @@ impl<'a> Sorts<'a> {
         ensures { result ≡ row_at self.now.words.now id.0 }
     {
         get(self.words, id)
+    }
+
+    // The k-th argument of a function with this domain.
+    pub fn argument(&self, domain: Run, k: u16) -> SortId
+        ensures { result.0 ≡ entry_at self.now.words.now (domain.start + k) }
+    {
+        entry(self.words, domain, k)
+    }
+
+    // Whether two functions with these domains have the same arguments in the same order.
+    pub fn same_arguments(&self, lhs: Run, rhs: Run) -> bool
+        ensures { result
+            ≡ same_words (entries_of self.now.words.now lhs.start lhs.count)
+            (entries_of self.now.words.now rhs.start rhs.count) }
+    {
+        same_run(self.words, lhs, rhs)
     }
 }
 

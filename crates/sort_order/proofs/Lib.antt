@@ -1,9 +1,8 @@
 -- The laws as the code meets them: premises are the tests and what calls have answered, the conclusion is the definition.
 pub mod Rows
+pub mod Heads
 pub mod Orders
-pub mod Runs
 pub mod Falls
-pub mod OrderCode
-pub mod DistanceCode
-pub mod Entries
-pub mod MaterializableCode
+pub mod Distances
+pub mod Materializing
+pub mod Older

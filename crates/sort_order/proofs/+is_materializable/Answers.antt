@@ -1,56 +1,97 @@
--- Each answer is what the pair says of the two sorts, by a law, and the call falls by a law. Assumes nothing.
-use Rattle.std.proofs.Common.{arith}
-use Rattle.resolved_sort.proofs.Said as said
+-- Each answer is what the rows say of the two sorts, by a law, and the call falls by a law. Assumes nothing.
+use Rattle.std.proofs.Common.{refl, ◌∙◌}
+use Rattle.resolved_sort.proofs.RowsSay as say
 use Rattle.sort_order.proofs.Falls as falling
-use Rattle.sort_order.proofs.MaterializableCode as code
+use Rattle.sort_order.proofs.Materializing as law
 use Rattle.sort_order.proofs.+is_materializable.Goals as goal
 
-pub returns-then-from-to : goal.returns-then-from-to
-returns-then-from-to t c = code.materializable_of_equal c.args.sorts.now c.args.counts.sorts _ _ c.if-from-to.true
-
-pub returns-then-lhs_sub-rhs_sub : goal.returns-then-lhs_sub-rhs_sub
-returns-then-lhs_sub-rhs_sub t c =
-    let r = c.requires in
-    code.not_materializable_containers c.args.sorts.now c.args.counts.sorts r.0 r.1 r.2 c.if-from-to.false
-    (said.containers_said r.0 r.1 r.2 c.if-from-to.false c.pair.ensures c.in-Containers.is)
-    (λ q. omega arith)
-
-pub returns-then-not-same_arguments : goal.returns-then-not-same_arguments
-returns-then-not-same_arguments t c =
-    let r = c.requires in
-    code.not_materializable_functions c.args.sorts.now c.args.counts.sorts r.0 r.1 r.2 c.if-from-to.false
-    (said.functions_said r.0 r.1 r.2 c.if-from-to.false c.pair.ensures c.in-Functions.is)
-    c.same_arguments.ensures c.if-not-same_arguments.true
+pub returns-then-eq : goal.returns-then-eq
+returns-then-eq t c =
+    law.materializable_of_equal _ _ _ _ (say.numbers_same _ _ c.eq.ensures c.if-eq.true)
 
 pub is_materializable-requires : goal.is_materializable-requires
 is_materializable-requires t c =
+    let s = c.args.sorts.now in
     let r = c.requires in
-    falling.ranges_fall c.decreases r.0 r.1 r.2
-    (said.functions_said r.0 r.1 r.2 c.if-from-to.false c.pair.ensures c.in-Functions.is)
+    let i = c.in-Function-Function in
+    falling.ranges_fall c.decreases r.0 r.1 (say.functions s.checked r.0 r.1
+    (say.numbers_differ _ _ c.eq.ensures c.if-eq.false) c.get.ensures c.get-2.ensures
+    i.is-0 i.is-1 (law.counts_same _ _ _ c.same_arguments.ensures c.if-same_arguments.true))
 
-pub returns-in-Primitives : goal.returns-in-Primitives
-returns-in-Primitives t c =
+pub returns-in-Primitive-Primitive : goal.returns-in-Primitive-Primitive
+returns-in-Primitive-Primitive t c =
+    let s = c.args.sorts.now in
     let r = c.requires in
-    code.materializable_of_primitive c.args.sorts.now c.args.counts.sorts r.0 r.1 r.2 c.if-from-to.false
-    (said.primitives_said r.0 r.1 r.2 c.if-from-to.false c.pair.ensures c.in-Primitives.is)
-    c.primitive_partial_cmp.ensures c.is_below.ensures
+    let i = c.in-Primitive-Primitive in
+    law.materializable_of_primitive _ _ s.checked r.0 r.1 (say.numbers_differ _ _ c.eq.ensures c.if-eq.false)
+    (say.primitives s.checked r.0 r.1
+    (say.numbers_differ _ _ c.eq.ensures c.if-eq.false) c.get.ensures c.get-2.ensures i.is-0 i.is-1)
+    c.heads_partial_cmp.ensures (law.less_tested _ _ c.eq-in-Primitive-Primitive.ensures refl refl refl)
 
-pub returns-else-lhs_sub-rhs_sub : goal.returns-else-lhs_sub-rhs_sub
-returns-else-lhs_sub-rhs_sub t c =
+pub returns-then-eq-2 : goal.returns-then-eq-2
+returns-then-eq-2 t c =
+    let s = c.args.sorts.now in
     let r = c.requires in
-    code.materializable_of_containers c.args.sorts.now c.args.counts.sorts r.0 r.1 r.2 c.if-from-to.false
-    (said.containers_said r.0 r.1 r.2 c.if-from-to.false c.pair.ensures c.in-Containers.is)
-    (omega arith) c.generic_op_partial_cmp.ensures c.is_below-in-Containers.ensures
+    let i = c.in-Container-Container in
+    law.materializable_of_containers _ _ s.checked r.0 r.1 (say.numbers_differ _ _ c.eq.ensures c.if-eq.false)
+    (say.containers s.checked r.0 r.1
+    (say.numbers_differ _ _ c.eq.ensures c.if-eq.false) c.get.ensures c.get-2.ensures i.is-0 i.is-1)
+    (say.numbers_same _ _ c.eq-in-Container-Container.ensures c.if-eq-2.true) c.heads_partial_cmp-then-eq-2.ensures (law.less_tested _ _ c.eq-then-eq-2.ensures refl refl refl)
 
-pub returns-else-not-same_arguments : goal.returns-else-not-same_arguments
-returns-else-not-same_arguments t c =
+pub returns-else-eq-2 : goal.returns-else-eq-2
+returns-else-eq-2 t c =
+    let s = c.args.sorts.now in
     let r = c.requires in
-    code.materializable_of_functions c.args.sorts.now c.args.counts.sorts r.0 r.1 r.2 c.if-from-to.false
-    (said.functions_said r.0 r.1 r.2 c.if-from-to.false c.pair.ensures c.in-Functions.is)
-    c.same_arguments.ensures c.if-not-same_arguments.false c.is_materializable.ensures
+    let i = c.in-Container-Container in
+    c.if-eq-2.false ∙ law.not_materializable_containers _ _ s.checked r.0 r.1 (say.numbers_differ _ _ c.eq.ensures c.if-eq.false)
+    (say.containers s.checked r.0 r.1
+    (say.numbers_differ _ _ c.eq.ensures c.if-eq.false) c.get.ensures c.get-2.ensures i.is-0 i.is-1)
+    (say.numbers_differ _ _ c.eq-in-Container-Container.ensures c.if-eq-2.false)
 
-pub returns-in-Other : goal.returns-in-Other
-returns-in-Other t c =
+pub returns-then-same_arguments : goal.returns-then-same_arguments
+returns-then-same_arguments t c =
+    let s = c.args.sorts.now in
     let r = c.requires in
-    code.materializable_of_unlike c.args.sorts.now c.args.counts.sorts _ _
-    (said.other_said r.0 r.1 r.2 c.if-from-to.false c.pair.ensures c.in-Other.is)
+    let i = c.in-Function-Function in
+    let q = law.counts_same _ _ _ c.same_arguments.ensures c.if-same_arguments.true in
+    law.materializable_of_functions _ _ s.checked r.0 r.1 (say.numbers_differ _ _ c.eq.ensures c.if-eq.false)
+    (say.functions s.checked r.0 r.1
+    (say.numbers_differ _ _ c.eq.ensures c.if-eq.false) c.get.ensures c.get-2.ensures
+    i.is-0 i.is-1 q) (law.by_count _ _ _ c.same_arguments.ensures q) c.if-same_arguments.true c.is_materializable.ensures
+
+pub returns-else-same_arguments : goal.returns-else-same_arguments
+returns-else-same_arguments t c =
+    let s = c.args.sorts.now in
+    let r = c.requires in
+    let i = c.in-Function-Function in
+    c.if-same_arguments.false ∙ law.not_same_arguments _ _ s.checked r.0 r.1 (say.numbers_differ _ _ c.eq.ensures c.if-eq.false)
+    c.get.ensures c.get-2.ensures i.is-0 i.is-1 c.same_arguments.ensures c.if-same_arguments.false
+
+pub returns-in_default : goal.returns-in_default
+returns-in_default t c =
+    let s = c.args.sorts.now in
+    let r = c.requires in
+    law.materializable_of_unlike _ _ _ _ (say.unlike_primitive s.checked r.0 r.1
+    (say.numbers_differ _ _ c.eq.ensures c.if-eq.false) c.get.ensures c.get-2.ensures c.in_default.is-0 c.in_default.not-Primitive-1)
+
+pub returns-in_default-2 : goal.returns-in_default-2
+returns-in_default-2 t c =
+    let s = c.args.sorts.now in
+    let r = c.requires in
+    law.materializable_of_unlike _ _ _ _ (say.unlike_container s.checked r.0 r.1
+    (say.numbers_differ _ _ c.eq.ensures c.if-eq.false) c.get.ensures c.get-2.ensures c.in_default.is-0 c.in_default.not-Container-1)
+
+pub returns-in_default-3 : goal.returns-in_default-3
+returns-in_default-3 t c =
+    let s = c.args.sorts.now in
+    let r = c.requires in
+    law.materializable_of_unlike _ _ _ _ (say.unlike_function s.checked r.0 r.1
+    (say.numbers_differ _ _ c.eq.ensures c.if-eq.false) c.get.ensures c.get-2.ensures c.in_default.is-0 c.in_default.not-Function-1)
+
+pub returns-in_default-4 : goal.returns-in_default-4
+returns-in_default-4 t c =
+    let s = c.args.sorts.now in
+    let r = c.requires in
+    law.materializable_of_unlike _ _ _ _ (say.unlike_rest s.checked r.0 r.1
+    (say.numbers_differ _ _ c.eq.ensures c.if-eq.false) c.get.ensures c.get-2.ensures
+    c.in_default.not-Primitive-0 c.in_default.not-Container-0 c.in_default.not-Function-0)
