@@ -1,32 +1,47 @@
 -- What sample lines give to a list without rows, computed from the definitions: one line for each form of docs/FORMAT.md, and
 -- lines that are not of the format. Assumes nothing.
 use mathlib.Core.Path.{◌≡◌, refl}
-use mathlib.Core.Bool.{cond}
 use mathlib.Core.List.{List, [], ◌∷◌, map, ◌++◌}
 use Prim.Native.Nat.{ℕ}
 use Prim.Native.String.{String}
-use lib.ListN.{replicate}
+use Rattle.std.specs.Prelude.{Option, Some, None, Result, Ok, Err}
 use Rattle.sort_text.specs.Parse.{same_bytes}
 use Rattle.sort_text.specs.Tokens.{run, past, skip}
+use Rattle.list_memory.specs.declared.Form.{Form}
+use Rattle.list_memory.specs.Layouts.{table_number}
 use Rattle.list_tokens.specs.Words as Words
 use Rattle.text_out.specs.Quoted.{bytes_of}
 use Rattle.list_tokens.specs.Tokens as Tokens
 use Rattle.list_tokens.specs.Tokens.{tokens_from}
+use Rattle.list_forms.specs.declared.Run.{Run}
+use Rattle.list_forms.specs.declared.Rows.{Rows}
+use Rattle.list_forms.specs.declared.Put.{Put}
 use Rattle.list_forms.specs.declared.Plan.{Plan}
 use Rattle.list_forms.specs.Items as Items
 use Rattle.list_forms.specs.Plans as Plans
 use Rattle.list_forms.specs.Lines as Lines
 use Rattle.list_forms.specs.Lines.{plan_of}
 
--- free variables; words of the line: list, from, to; rows: list, times, row; words set: at, value, at, value. [] where not of the format
-summary : Plan → List ℕ
-summary p =
-    cond p.good
-    ((p.free ∷ p.run ∷ p.from ∷ p.to ∷ p.list ∷ p.times ∷ p.row) ++ (p.at ∷ p.value ∷ p.at2 ∷ p.value2 ∷ []))
-    []
+told_run : Option Run → List ℕ
+told_run None = 0 ∷ 0 ∷ 0 ∷ []
+told_run (Some r) = table_number r.table ∷ r.from ∷ r.to ∷ []
+
+told_rows : Option Rows → List ℕ
+told_rows None = 0 ∷ 0 ∷ 0 ∷ 0 ∷ 0 ∷ 0 ∷ 0 ∷ []
+told_rows (Some r) = table_number r.table ∷ r.times ∷ r.row
+
+told_put : Option Put → List ℕ
+told_put None = 34112 ∷ 0 ∷ []
+told_put (Some p) = p.at ∷ p.value ∷ []
+
+-- Free variables; words of the line: table, from, to; rows: table, times, row; words set: at, value, at, value, at 34112
+-- where none is. [] where not of the format.
+summary : Result Plan Form → List ℕ
+summary (Err f) = []
+summary (Ok p) = p.free ∷ (told_run p.run ++ (told_rows p.rows ++ (told_put p.put ++ told_put p.told)))
 
 planned : String → List ℕ
-planned text = summary (plan_of [] (tokens_from 8 (bytes_of text) (replicate 8 0) 0))
+planned text = summary (plan_of [] (tokens_from 8 (bytes_of text)))
 
 lines_of_rows :
     map planned
@@ -94,15 +109,13 @@ lines_of_rows :
     ∷ (0 ∷ 0 ∷ 0 ∷ 0 ∷ 0 ∷ 0 ∷ 0 ∷ 0 ∷ 0 ∷ 0 ∷ 0 ∷ 34058 ∷ 65535 ∷ 34112 ∷ 0 ∷ [])
     ∷ []
     ∷ []
-unfolding planned summary Items.in_range Items.is_sort_word Items.is_place_word Items.is_of Items.word_of Items.word_at
-    Items.fits_from Items.all_from Items.list_fits Items.function_fits Plans.expected Plans.empty_plan Plans.rows_plan
-    Plans.with_free Plans.with_run Plans.with_puts Plans.add_up Plans.grown Lines.is_next Lines.function_plan Lines.sort_row
-    Lines.sort_plan Lines.var_plan Lines.vars_plan Lines.bound_plan Lines.bind_plan Lines.node_row Lines.node_plan
-    Lines.expr_plan Lines.name_row Lines.name_plan Lines.default_plan Lines.sub_plan Lines.lit_plan Lines.comprehension_plan
+unfolding planned summary told_run told_rows told_put Items.is_of Items.word_of Items.word_at Items.fits Items.list_fits
+    Items.function_fits Plans.grown Lines.is_next Lines.function_plan Lines.parts_row Lines.sort_row Lines.sort_plan
+    Lines.var_plan Lines.vars_plan Lines.bound_plan Lines.bind_plan Lines.node_row Lines.node_plan Lines.expr_plan
+    Lines.name_row Lines.name_plan Lines.default_plan Lines.sub_plan Lines.lit_plan Lines.comprehension_plan
     Lines.disjunction_plan Lines.overload_plan Lines.join_plan Lines.sources_plan Lines.entries_plan Lines.constraint_plan
-    Lines.pad_plan Lines.counted_by Lines.count_plan Lines.lend_plan Lines.unusual_plan Lines.constraints_plan Lines.plan_of
-    Words.words Words.position_in Words.keyword_of Tokens.decimal_read Tokens.number_read Tokens.class_of
-    Tokens.name_token Tokens.token_of Tokens.tokens_from same_bytes run past skip
+    Lines.pad_plan Lines.count_plan Lines.lend_plan Lines.plan_of Words.spelling Words.place_of Words.keyword_of
+    Tokens.decimal_read Tokens.number_read Tokens.name_token Tokens.token_of Tokens.tokens_from same_bytes run past skip
 lines_of_rows = refl
 
 lines_of_constraints :
@@ -181,13 +194,11 @@ lines_of_constraints :
     ∷ []
     ∷ []
     ∷ []
-unfolding planned summary Items.in_range Items.is_sort_word Items.is_place_word Items.is_of Items.word_of Items.word_at
-    Items.fits_from Items.all_from Items.list_fits Items.function_fits Plans.expected Plans.empty_plan Plans.rows_plan
-    Plans.with_free Plans.with_run Plans.with_puts Plans.add_up Plans.grown Lines.is_next Lines.function_plan Lines.sort_row
-    Lines.sort_plan Lines.var_plan Lines.vars_plan Lines.bound_plan Lines.bind_plan Lines.node_row Lines.node_plan
-    Lines.expr_plan Lines.name_row Lines.name_plan Lines.default_plan Lines.sub_plan Lines.lit_plan Lines.comprehension_plan
+unfolding planned summary told_run told_rows told_put Items.is_of Items.word_of Items.word_at Items.fits Items.list_fits
+    Items.function_fits Plans.grown Lines.is_next Lines.function_plan Lines.parts_row Lines.sort_row Lines.sort_plan
+    Lines.var_plan Lines.vars_plan Lines.bound_plan Lines.bind_plan Lines.node_row Lines.node_plan Lines.expr_plan
+    Lines.name_row Lines.name_plan Lines.default_plan Lines.sub_plan Lines.lit_plan Lines.comprehension_plan
     Lines.disjunction_plan Lines.overload_plan Lines.join_plan Lines.sources_plan Lines.entries_plan Lines.constraint_plan
-    Lines.pad_plan Lines.counted_by Lines.count_plan Lines.lend_plan Lines.unusual_plan Lines.constraints_plan Lines.plan_of
-    Words.words Words.position_in Words.keyword_of Tokens.decimal_read Tokens.number_read Tokens.class_of
-    Tokens.name_token Tokens.token_of Tokens.tokens_from same_bytes run past skip
+    Lines.pad_plan Lines.count_plan Lines.lend_plan Lines.plan_of Words.spelling Words.place_of Words.keyword_of
+    Tokens.decimal_read Tokens.number_read Tokens.name_token Tokens.token_of Tokens.tokens_from same_bytes run past skip
 lines_of_constraints = refl

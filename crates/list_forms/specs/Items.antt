@@ -1,122 +1,165 @@
 -- The words of a line held against a form: "In the tables below S is a sort (sN or one of the six words), P a place: a
 -- sort below s1024, or a node nN. N is a number." A place can name any word, so nN goes up to n64511.
-use Rattle.std.specs.Prelude.{Bool, true, false, cond, List, [], ◌∷◌, ℕ, zero, suc, ◌+◌, ◌-◌, ◌%◌, ltb, leb, eqb, get_or}
-use Rattle.list_tokens.specs.declared.Tokens.{Tokens}
+use Rattle.std.specs.Prelude.{Bool, true, false, cond, ◌&&◌, List, ℕ, ◌+◌, ◌-◌, ltb, eqb, length, get_or, take, drop, Option, Some, None}
+use Rattle.std.specs.List.{list_all, zip}
+use Rattle.list_tokens.specs.declared.Keyword.{Keyword}
+use Rattle.list_tokens.specs.declared.Token.{Token}
+use Rattle.list_tokens.specs.Words.{same_word}
 use Rattle.resolved_sort.specs.Storage.{max_sorts}
-use Rattle.list_tokens.specs.Words.{k_list_of, k_fn, k_arrow, k_positive, k_sorts, k_solve}
-use Rattle.list_tokens.specs.Tokens.{number_class, sort_class, node_class, var_class, expr_class, fixed_class}
+use Rattle.list_memory.specs.declared.Table.{Table}
+use Rattle.list_memory.specs.declared.Slice.{Slice}
+use Rattle.list_forms.specs.declared.Item.{Item}
 
--- An item of a form: below 65,536 that very word by its number, 0 the end of the line, and above one of these classes.
-abbrev pub N : ℕ
-N = number_class
+-- the six words of the fixed sorts; List, Set, FSet, Bag, FBag; positive, natural
+abbrev pub is_fixed_sort : Keyword → Bool
+is_fixed_sort Keyword.Unit = true
+is_fixed_sort Keyword.Bool = true
+is_fixed_sort Keyword.Pos = true
+is_fixed_sort Keyword.Nat = true
+is_fixed_sort Keyword.Int = true
+is_fixed_sort Keyword.Real = true
+is_fixed_sort k = false
 
-abbrev pub S : ℕ
-S = sort_class
+abbrev pub is_container : Keyword → Bool
+is_container Keyword.ListOf = true
+is_container Keyword.SetOf = true
+is_container Keyword.FSetOf = true
+is_container Keyword.BagOf = true
+is_container Keyword.FBagOf = true
+is_container k = false
 
-abbrev pub n_n : ℕ
-n_n = node_class
+abbrev pub is_literal : Keyword → Bool
+is_literal Keyword.Positive = true
+is_literal Keyword.Natural = true
+is_literal k = false
 
-abbrev pub v_n : ℕ
-v_n = var_class
+-- the table that a word of `count` names, and the slice that a word of `lend` names
+abbrev pub table_of : Token → Option Table
+table_of (Token.Keyword Keyword.Sorts) = Some Table.Sorts
+table_of (Token.Keyword Keyword.Entries) = Some Table.Entries
+table_of (Token.Keyword Keyword.Nodes) = Some Table.Nodes
+table_of (Token.Keyword Keyword.NodeEntries) = Some Table.NodeEntries
+table_of (Token.Keyword Keyword.Vars) = Some Table.Vars
+table_of (Token.Keyword Keyword.Exprs) = Some Table.Exprs
+table_of (Token.Keyword Keyword.Names) = Some Table.Names
+table_of (Token.Keyword Keyword.Constraints) = Some Table.Constraints
+table_of (Token.Keyword Keyword.Overloads) = Some Table.Overloads
+table_of (Token.Keyword Keyword.Sources) = Some Table.Sources
+table_of t = None
 
-abbrev pub e_n : ℕ
-e_n = expr_class
+abbrev pub slice_of : Token → Option Slice
+slice_of (Token.Keyword Keyword.Sorts) = Some Slice.Sorts
+slice_of (Token.Keyword Keyword.Nodes) = Some Slice.Nodes
+slice_of (Token.Keyword Keyword.Bindings) = Some Slice.Bindings
+slice_of (Token.Keyword Keyword.Exprs) = Some Slice.Exprs
+slice_of (Token.Keyword Keyword.Names) = Some Slice.Names
+slice_of (Token.Keyword Keyword.Constraints) = Some Slice.Constraints
+slice_of (Token.Keyword Keyword.Overloads) = Some Slice.Overloads
+slice_of (Token.Keyword Keyword.Sources) = Some Slice.Sources
+slice_of (Token.Keyword Keyword.Scratch) = Some Slice.Scratch
+slice_of (Token.Keyword Keyword.OutTyping) = Some Slice.Typing
+slice_of (Token.Keyword Keyword.OutMeasure) = Some Slice.Measure
+slice_of (Token.Keyword Keyword.OutChoices) = Some Slice.Choices
+slice_of t = None
 
--- one of the six words
-abbrev pub fixed_word : ℕ
-fixed_word = fixed_class
-
-abbrev pub P : ℕ
-P = 458752
-
--- List, Set, FSet, Bag, FBag
-abbrev pub container_word : ℕ
-container_word = 524288
-
--- positive, natural
-abbrev pub literal_word : ℕ
-literal_word = 589824
-
--- the slices of `lend`, `sorts` to `out-choices`
-abbrev pub slice_word : ℕ
-slice_word = 655360
-
--- any word that is no number and no name
-abbrev pub any_word : ℕ
-any_word = 720896
-
--- how many words a class has; the place of node nN is nN less node_places
-abbrev pub class_size : ℕ
-class_size = 65536
-
+-- the places of nodes are words: the greatest is max_sorts above the greatest node
 abbrev pub node_places : ℕ
-node_places = node_class - max_sorts
+node_places = 65536 - max_sorts
 
-unfoldable pub in_range : ℕ → ℕ → ℕ → Bool
-in_range lo hi t = cond (ltb t lo) false (ltb t hi)
+-- whether a word of the format, or another word, is of an item
+abbrev pub keyword_is : Item → Keyword → Bool
+keyword_is (Item.Word expected) k = same_word k expected
+keyword_is Item.Sort k = is_fixed_sort k
+keyword_is Item.Place k = is_fixed_sort k
+keyword_is Item.FixedSort k = is_fixed_sort k
+keyword_is Item.Container k = is_container k
+keyword_is Item.Literal k = is_literal k
+keyword_is Item.AnyWord k = true
+keyword_is i k = false
 
-unfoldable pub is_sort_word : ℕ → Bool
-is_sort_word t = cond (in_range S (S + class_size) t) true (in_range fixed_word (fixed_word + class_size) t)
+abbrev pub sort_is : Item → ℕ → Bool
+sort_is Item.Sort n = true
+sort_is Item.Place n = ltb n max_sorts
+sort_is i n = false
 
-unfoldable pub is_place_word : ℕ → Bool
-is_place_word t =
-    cond (in_range S (S + max_sorts) t) true
-    (cond (in_range n_n (node_places + class_size) t) true (in_range fixed_word (fixed_word + class_size) t))
+abbrev pub node_is : Item → ℕ → Bool
+node_is Item.Node n = true
+node_is Item.Place n = ltb n node_places
+node_is i n = false
 
--- whether a word is of an item
-unfoldable pub is_of : ℕ → ℕ → Bool
-is_of item t =
-    cond (ltb item class_size) (eqb t item)
-    (cond (eqb item S) (is_sort_word t)
-    (cond (eqb item P) (is_place_word t)
-    (cond (eqb item container_word) (in_range k_list_of k_fn t)
-    (cond (eqb item literal_word) (in_range k_positive k_sorts t)
-    (cond (eqb item slice_word) (in_range k_sorts k_solve t)
-    (cond (eqb item any_word) (ltb t class_size)
-    (cond (ltb t item) false (ltb (t - item) class_size))))))))
+abbrev pub number_is : Item → Bool
+number_is Item.Number = true
+number_is i = false
+
+abbrev pub var_is : Item → Bool
+var_is Item.Var = true
+var_is i = false
+
+abbrev pub expr_is : Item → Bool
+expr_is Item.Expr = true
+expr_is i = false
+
+unfoldable pub is_of : Item → Token → Bool
+is_of i (Token.Keyword k) = keyword_is i k
+is_of i (Token.Number n) = number_is i
+is_of i (Token.Sort n) = sort_is i n
+is_of i (Token.Node n) = node_is i n
+is_of i (Token.Var n) = var_is i
+is_of i (Token.Expr n) = expr_is i
+is_of i Token.Other = false
 
 -- word i of a line
-abbrev pub token_at : Tokens → ℕ → ℕ
-token_at t i = get_or t.values i 0
+abbrev pub token_at : List Token → ℕ → Token
+token_at t i = get_or t i Token.Other
+
+-- what a word of the format stands for in memory: the kind of a container, the number of a fixed sort, the kind of a
+-- literal
+abbrev pub keyword_word : Keyword → ℕ
+keyword_word Keyword.Unit = 0
+keyword_word Keyword.Bool = 1
+keyword_word Keyword.Pos = 2
+keyword_word Keyword.Nat = 3
+keyword_word Keyword.Int = 4
+keyword_word Keyword.Real = 5
+keyword_word Keyword.ListOf = 6
+keyword_word Keyword.SetOf = 7
+keyword_word Keyword.FSetOf = 8
+keyword_word Keyword.BagOf = 9
+keyword_word Keyword.FBagOf = 10
+keyword_word Keyword.Positive = 0
+keyword_word Keyword.Natural = 1
+keyword_word k = 0
 
 -- what a word stands for in memory: a node's place is max_sorts above its number; of all others the number
-unfoldable pub word_of : ℕ → ℕ
-word_of t =
-    cond (ltb t n_n) (t % class_size) (cond (ltb t (node_places + class_size)) (t - node_places) (t % class_size))
+unfoldable pub word_of : Token → ℕ
+word_of (Token.Keyword k) = keyword_word k
+word_of (Token.Number n) = n
+word_of (Token.Sort n) = n
+word_of (Token.Node n) = cond (ltb n node_places) (n + max_sorts) n
+word_of (Token.Var n) = n
+word_of (Token.Expr n) = n
+word_of Token.Other = 0
 
-unfoldable pub word_at : Tokens → ℕ → ℕ
+unfoldable pub word_at : List Token → ℕ → ℕ
 word_at t i = word_of (token_at t i)
 
--- the words from i on are of the items, one for one, and no more; m items are left
-unfoldable pub fits_from : ℕ → Tokens → List ℕ → ℕ → Bool
-fits_from zero t ps i = eqb t.count i
-fits_from (suc m) t ps i =
-    cond (eqb (get_or ps i 0) 0) (eqb t.count i)
-    (cond (leb t.count i) false
-    (cond (is_of (get_or ps i 0) (token_at t i)) (fits_from m t ps (i + 1)) false))
+-- the words of a line are of the items, one for one, and no more
+unfoldable pub fits : List Token → List Item → Bool
+fits t form = eqb (length t) (length form) && list_all (λ p. is_of p.0 p.1) (zip form t)
 
--- a form of at most seven words
-abbrev pub form : (a b c d e f g : ℕ) → List ℕ
-form a b c d e f g = a ∷ b ∷ c ∷ d ∷ e ∷ f ∷ g ∷ []
-
-abbrev pub fits_form : Tokens → List ℕ → Bool
-fits_form t ps = fits_from 7 t ps 0
-
--- m words from i on are all of an item
-unfoldable pub all_from : ℕ → Tokens → ℕ → ℕ → Bool
-all_from zero t item i = true
-all_from (suc m) t item i = cond (is_of item (token_at t i)) (all_from m t item (i + 1)) false
+abbrev pub all_of : Item → List Token → Bool
+all_of item ts = list_all (is_of item) ts
 
 -- `KEYWORD X ...`: at least one word after the first, all of an item
-unfoldable pub list_fits : Tokens → ℕ → Bool
-list_fits t item = cond (ltb t.count 2) false (all_from (t.count - 1) t item 1)
+unfoldable pub list_fits : List Token → Item → Bool
+list_fits t item = cond (ltb (length t) 2) false (all_of item (drop 1 t))
 
 -- `KEYWORD NAME fn X ... -> X`
-unfoldable pub function_fits : Tokens → ℕ → Bool
+unfoldable pub function_fits : List Token → Item → Bool
 function_fits t item =
-    cond (ltb t.count 5) false
-    (cond (eqb (token_at t 2) k_fn)
-    (cond (eqb (token_at t (t.count - 2)) k_arrow)
-    (cond (is_of item (token_at t (t.count - 1))) (all_from ((t.count - 2) - 3) t item 3) false)
+    cond (ltb (length t) 5) false
+    (cond (is_of (Item.Word Keyword.Fn) (token_at t 2))
+    (cond (is_of (Item.Word Keyword.Arrow) (token_at t (length t - 2)))
+    (cond (is_of item (token_at t (length t - 1))) (all_of item (take ((length t - 2) - 3) (drop 3 t))) false)
     false)
     false)

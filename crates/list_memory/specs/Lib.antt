@@ -1,2 +1,3 @@
 -- A list as it is being read.
 pub mod Memory
+pub mod Layouts

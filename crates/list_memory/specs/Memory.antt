@@ -1,8 +1,8 @@
 -- A list as it is being read: the slices of a call at their ceilings, one behind the other, then what the lines told
 -- besides.
-use Rattle.std.specs.Prelude.{List, [], ◌∷◌, ℕ, ◌+◌, ◌*◌, get_or}
-use Rattle.resolved_sort.specs.Storage.{max_sorts, max_entries, entries_at, full_length}
-use Rattle.unification.specs.Nodes.{max_nodes, max_node_entries, max_vars, node_entries_at, full_nodes}
+use Rattle.std.specs.Prelude.{List, ℕ, ◌+◌, ◌*◌, get_or}
+use Rattle.resolved_sort.specs.Storage.{full_length}
+use Rattle.unification.specs.Nodes.{max_vars, full_nodes}
 use Rattle.inference.specs.Constraints.{max_exprs, max_constraints, max_overloads, max_sources, max_components}
 use Rattle.inference.specs.Constraints.{constraint_words, overload_words, name_words}
 use Rattle.inference.specs.SolveChecks.{scratch_words, typing_words, choice_words}
@@ -95,33 +95,6 @@ overload_list = 8
 
 abbrev pub source_list : ℕ
 source_list = 9
-
--- where the rows of each list begin, how many words a row has, and how many rows are kept
-abbrev pub list_starts : List ℕ
-list_starts =
-    list_sorts_at ∷ (list_sorts_at + entries_at) ∷ list_nodes_at ∷ (list_nodes_at + node_entries_at) ∷ list_binds_at ∷ list_exprs_at
-    ∷ list_names_at ∷ list_constraints_at ∷ list_overloads_at ∷ list_sources_at ∷ []
-
-abbrev pub widths : List ℕ
-widths = 4 ∷ 1 ∷ 4 ∷ 1 ∷ 1 ∷ 1 ∷ 3 ∷ 5 ∷ 3 ∷ 1 ∷ []
-
-abbrev pub ceilings : List ℕ
-ceilings =
-    max_sorts ∷ max_entries ∷ max_nodes ∷ max_node_entries ∷ max_vars ∷ max_exprs ∷ max_names ∷ max_constraints ∷ max_overloads
-    ∷ max_sources ∷ []
-
-unfoldable pub list_start : ℕ → ℕ
-list_start k = get_or list_starts k 0
-
-unfoldable pub width_of : ℕ → ℕ
-width_of k = get_or widths k 0
-
-unfoldable pub ceiling_of : ℕ → ℕ
-ceiling_of k = get_or ceilings k 0
-
--- the first word of row n of list k
-abbrev pub list_row_at : ℕ → ℕ → ℕ
-list_row_at k n = list_start k + width_of k * n
 
 -- rows given of list k: one word for each list, which stops at most_rows
 abbrev pub rows_at : ℕ

@@ -2,15 +2,18 @@
 // says it too), and what comes of a line.
 #![tactic(auto)]
 
+ghost use Rattle.std.specs.Prelude.{◌≡◌, ◌≤◌};
+ghost use Rattle.list_memory.specs.Layouts.{table_number, slice_number, stage_number, last_number, layout_of};
+
 use inference::{
     CHOICE_WORDS, CONSTRAINT_WORDS, MAX_COMPONENTS, MAX_CONSTRAINTS, MAX_EXPRS, MAX_OVERLOADS,
     MAX_SOURCES, NAME_WORDS, OVERLOAD_WORDS, SCRATCH_WORDS, TYPING_WORDS,
 };
-use resolved_sort::SORT_WORDS;
-use unification::{MAX_VARS, NODE_WORDS};
+use resolved_sort::{ENTRIES_AT, MAX_ENTRIES, MAX_SORTS, SORT_WORDS};
+use unification::{MAX_NODE_ENTRIES, MAX_NODES, MAX_VARS, NODE_ENTRIES_AT, NODE_WORDS};
 
 // What was expected of a line that is not of the format.
-#[derive(Drop)]
+#[derive(Clone, Copy, Debug, PartialEq, Eq)]
 pub enum Form {
     // printable ASCII
     Printable,
@@ -82,13 +85,128 @@ pub enum Form {
 
 // What comes of a line: nothing to say, a new list, the question `? solve`, another question, or a line not of the
 // format.
-#[derive(Drop)]
+#[derive(Clone, Copy, Debug, PartialEq, Eq)]
 pub enum Heard {
     Quiet,
     Begins,
     Asks,
     AsksOther,
     Bad(Form),
+}
+
+// The tables of rows that a list has.
+#[derive(Clone, Copy, Debug, PartialEq, Eq)]
+pub enum Table {
+    Sorts,
+    Entries,
+    Nodes,
+    NodeEntries,
+    Vars,
+    Exprs,
+    Names,
+    Constraints,
+    Overloads,
+    Sources,
+}
+
+// The slices that a call of the solver is lent.
+#[derive(Clone, Copy, Debug, PartialEq, Eq)]
+pub enum Slice {
+    Sorts,
+    Nodes,
+    Bindings,
+    Exprs,
+    Names,
+    Constraints,
+    Overloads,
+    Sources,
+    Scratch,
+    Typing,
+    Measure,
+    Choices,
+}
+
+// How far a list is read: no list yet, lines of the list may come, a question was asked, a line was not of the format.
+#[derive(Clone, Copy, Debug, PartialEq, Eq)]
+pub enum Stage {
+    NoList,
+    Reading,
+    Asked,
+    Bad,
+}
+
+// The last constraint line: overloads may follow a disjunction, and sources a join.
+#[derive(Clone, Copy, Debug, PartialEq, Eq)]
+pub enum LastConstraint {
+    Other,
+    Disjunction,
+    Join,
+}
+
+// Where the rows of a table begin, how many words a row has, and how many rows are kept.
+#[derive(Clone, Copy, Debug, PartialEq, Eq)]
+pub struct Layout {
+    pub start: u16,
+    pub width: u16,
+    pub ceiling: u16,
+}
+
+impl Table {
+    pub fn number(self) -> usize
+        ensures number { result ≡ table_number self }
+        ensures within { result ≤ 9 }
+    {
+        self as usize
+    }
+
+    #[tactic(auto, unfolding(crate::specs::Layouts::layout_of))]
+    pub fn layout(self) -> Layout
+        ensures layout { result ≡ layout_of self }
+        ensures narrow { result.width ≤ 5 }
+    {
+        let (start, width, ceiling) = match self {
+            Table::Sorts => (LIST_SORTS_AT, 4, MAX_SORTS),
+            Table::Entries => (LIST_SORTS_AT + ENTRIES_AT, 1, MAX_ENTRIES),
+            Table::Nodes => (LIST_NODES_AT, 4, MAX_NODES),
+            Table::NodeEntries => (LIST_NODES_AT + NODE_ENTRIES_AT, 1, MAX_NODE_ENTRIES),
+            Table::Vars => (LIST_BINDS_AT, 1, MAX_VARS),
+            Table::Exprs => (LIST_EXPRS_AT, 1, MAX_EXPRS),
+            Table::Names => (LIST_NAMES_AT, 3, MAX_NAMES),
+            Table::Constraints => (LIST_CONSTRAINTS_AT, 5, MAX_CONSTRAINTS),
+            Table::Overloads => (LIST_OVERLOADS_AT, 3, MAX_OVERLOADS),
+            Table::Sources => (LIST_SOURCES_AT, 1, MAX_SOURCES),
+        };
+        Layout {
+            start: start as u16,
+            width,
+            ceiling: ceiling as u16,
+        }
+    }
+}
+
+impl Slice {
+    pub fn number(self) -> usize
+        ensures number { result ≡ slice_number self }
+        ensures within { result ≤ 11 }
+    {
+        self as usize
+    }
+}
+
+impl Stage {
+    pub fn number(self) -> u16
+        ensures { result ≡ stage_number self }
+    {
+        self as u16
+    }
+}
+
+impl LastConstraint {
+    pub fn number(self) -> u16
+        ensures { result ≡ last_number self }
+    {
+        self as u16
+    }
 }
 
 // The program holds so many base names.
@@ -106,6 +224,8 @@ pub const LIST_TYPING_WORDS: usize = TYPING_WORDS * MAX_EXPRS;
 pub const LIST_CHOICE_WORDS: usize = CHOICE_WORDS * MAX_CONSTRAINTS;
 
 // Where the slices of a call begin, one behind the other.
+// kept: one array of fixed memory and not a field for each table, since a row goes to a table that is chosen as the
+// program runs, and a `&mut` of one field or another is not covered by the borrow checker.
 pub const LIST_SORTS_AT: usize = 0;
 
 pub const LIST_NODES_AT: usize = LIST_SORTS_AT + SORT_WORDS;
@@ -151,40 +271,8 @@ pub const LAST_AT: usize = STAGE_AT + 1;
 
 pub const LIST_WORDS: usize = 34112;
 
-// The lists by number.
-pub const SORT_LIST: u16 = 0;
-
-pub const ENTRY_LIST: u16 = 1;
-
-pub const NODE_LIST: u16 = 2;
-
-pub const NODE_ENTRY_LIST: u16 = 3;
-
-pub const VAR_LIST: u16 = 4;
-
-pub const EXPR_LIST: u16 = 5;
-
-pub const NAME_LIST: u16 = 6;
-
-pub const CONSTRAINT_LIST: u16 = 7;
-
-pub const OVERLOAD_LIST: u16 = 8;
-
-pub const SOURCE_LIST: u16 = 9;
-
-// How far a list is read: no list yet, lines of the list may come, a question was asked, a line was not of the format.
-pub const NO_LIST: u16 = 0;
-
+// A new list is being read: what STAGE_AT says then.
 pub const READING_STAGE: u16 = 1;
-
-pub const ASKED_STAGE: u16 = 2;
-
-pub const BAD_STAGE: u16 = 3;
-
-// The last constraint line, where overloads or sources may follow it.
-pub const A_DISJUNCTION: u16 = 1;
-
-pub const A_JOIN: u16 = 2;
 
 // Counts of rows stop here.
 pub const MOST_ROWS: u16 = 65535;

@@ -11,8 +11,7 @@ use Rattle.sort_text.specs.Tokens.{run, past, skip}
 use Rattle.list_memory.specs.declared.Form.{Form}
 use Rattle.list_memory.specs.declared.Heard.{Heard}
 use Rattle.list_memory.specs.declared.Heard.TheVariants.{Quiet, Begins, Bad}
-use Rattle.list_memory.specs.Memory as Memory
-use Rattle.list_memory.specs.Memory.{Taken, taken}
+use Rattle.list_memory.specs.Layouts as Layouts
 use Rattle.list_tokens.specs.Words as Words
 use Rattle.text_out.specs.Quoted.{bytes_of}
 use Rattle.list_tokens.specs.Tokens as Tokens
@@ -45,19 +44,16 @@ lines_of_a_list :
       heards = Quiet ∷ Quiet ∷ [];
       words = 2 ∷ 0 ∷ 1024 ∷ 0 ∷ 1 ∷ 0 ∷ 2 ∷ 3 ∷ 1024 ∷ 0 ∷ 0 ∷ 0 ∷ 0 ∷ 0 ∷ 0 ∷ 0 ∷ 0 ∷ 1 ∷ 1 ∷ 0 ∷ 1 ∷ 1 ∷ [];
     }
-unfolding told first zeros Memory.list_start Memory.width_of Memory.ceiling_of Words.words Words.position_in
-    Words.keyword_of Tokens.decimal_read Tokens.number_read Tokens.class_of Tokens.name_token Tokens.token_of
-    Tokens.tokens_from Tokens.tokens_of Tokens.printable_from Tokens.line_start same_bytes run past skip Items.in_range
-    Items.is_sort_word Items.is_place_word Items.is_of Items.word_of Items.word_at Items.fits_from Items.all_from
-    Items.list_fits Items.function_fits Plans.expected Plans.empty_plan Plans.rows_plan Plans.with_free Plans.with_run
-    Plans.with_puts Plans.add_up Plans.grown Lines.is_next Lines.function_plan Lines.sort_row Lines.sort_plan Lines.var_plan
-    Lines.vars_plan Lines.bound_plan Lines.bind_plan Lines.node_row Lines.node_plan Lines.expr_plan Lines.name_row
-    Lines.name_plan Lines.default_plan Lines.sub_plan Lines.lit_plan Lines.comprehension_plan Lines.disjunction_plan
-    Lines.overload_plan Lines.join_plan Lines.sources_plan Lines.entries_plan Lines.constraint_plan Lines.pad_plan
-    Lines.counted_by Lines.count_plan Lines.lend_plan Lines.unusual_plan Lines.constraints_plan Lines.plan_of
-    Lines.asks_other Taking.put_words Taking.one_more_word Taking.appended Taking.next_number Taking.append_times
-    Taking.append_run Taking.carried Taking.bad_line Taking.begun Taking.bare_taken Taking.plan_taken Taking.question_taken
-    Taking.words_taken Taking.other_taken Taking.answer_taken Taking.list_taken Taking.by_start Taking.line_taken
+unfolding told first zeros Layouts.layout_of Words.spelling Words.place_of Words.keyword_of Tokens.decimal_read
+    Tokens.number_read Tokens.name_token Tokens.token_of Tokens.tokens_from Tokens.tokens_of Tokens.line_start same_bytes run
+    past skip Items.is_of Items.word_of Items.word_at Items.fits Items.list_fits Items.function_fits Plans.grown Lines.is_next
+    Lines.function_plan Lines.parts_row Lines.sort_row Lines.sort_plan Lines.var_plan Lines.vars_plan Lines.bound_plan
+    Lines.bind_plan Lines.node_row Lines.node_plan Lines.expr_plan Lines.name_row Lines.name_plan Lines.default_plan
+    Lines.sub_plan Lines.lit_plan Lines.comprehension_plan Lines.disjunction_plan Lines.overload_plan Lines.join_plan
+    Lines.sources_plan Lines.entries_plan Lines.constraint_plan Lines.pad_plan Lines.count_plan Lines.lend_plan Lines.plan_of
+    Lines.asks_other Taking.put_words Taking.one_more_word Taking.kept Taking.appended Taking.next_number Taking.append_times
+    Taking.append_run Taking.carried Taking.bad_line Taking.begun Taking.bare_taken Taking.question_taken Taking.words_taken
+    Taking.other_taken Taking.answer_taken Taking.list_taken Taking.by_start Taking.line_taken
 lines_of_a_list = refl
 
 -- before any list
@@ -65,17 +61,14 @@ lines_before_a_list :
     map (λ (text : String). (line_taken [] (bytes_of text)).heard)
     ("" ∷ "  # sub" ∷ "sub n0 n1" ∷ "? solve" ∷ "= 0" ∷ "list" ∷ [])
     ≡ Quiet ∷ Quiet ∷ Bad Form.List ∷ Bad Form.List ∷ Bad Form.Question ∷ Begins ∷ []
-unfolding told first zeros Memory.list_start Memory.width_of Memory.ceiling_of Words.words Words.position_in
-    Words.keyword_of Tokens.decimal_read Tokens.number_read Tokens.class_of Tokens.name_token Tokens.token_of
-    Tokens.tokens_from Tokens.tokens_of Tokens.printable_from Tokens.line_start same_bytes run past skip Items.in_range
-    Items.is_sort_word Items.is_place_word Items.is_of Items.word_of Items.word_at Items.fits_from Items.all_from
-    Items.list_fits Items.function_fits Plans.expected Plans.empty_plan Plans.rows_plan Plans.with_free Plans.with_run
-    Plans.with_puts Plans.add_up Plans.grown Lines.is_next Lines.function_plan Lines.sort_row Lines.sort_plan Lines.var_plan
-    Lines.vars_plan Lines.bound_plan Lines.bind_plan Lines.node_row Lines.node_plan Lines.expr_plan Lines.name_row
-    Lines.name_plan Lines.default_plan Lines.sub_plan Lines.lit_plan Lines.comprehension_plan Lines.disjunction_plan
-    Lines.overload_plan Lines.join_plan Lines.sources_plan Lines.entries_plan Lines.constraint_plan Lines.pad_plan
-    Lines.counted_by Lines.count_plan Lines.lend_plan Lines.unusual_plan Lines.constraints_plan Lines.plan_of
-    Lines.asks_other Taking.put_words Taking.one_more_word Taking.appended Taking.next_number Taking.append_times
-    Taking.append_run Taking.carried Taking.bad_line Taking.begun Taking.bare_taken Taking.plan_taken Taking.question_taken
-    Taking.words_taken Taking.other_taken Taking.answer_taken Taking.list_taken Taking.by_start Taking.line_taken
+unfolding told first zeros Layouts.layout_of Words.spelling Words.place_of Words.keyword_of Tokens.decimal_read
+    Tokens.number_read Tokens.name_token Tokens.token_of Tokens.tokens_from Tokens.tokens_of Tokens.line_start same_bytes run
+    past skip Items.is_of Items.word_of Items.word_at Items.fits Items.list_fits Items.function_fits Plans.grown Lines.is_next
+    Lines.function_plan Lines.parts_row Lines.sort_row Lines.sort_plan Lines.var_plan Lines.vars_plan Lines.bound_plan
+    Lines.bind_plan Lines.node_row Lines.node_plan Lines.expr_plan Lines.name_row Lines.name_plan Lines.default_plan
+    Lines.sub_plan Lines.lit_plan Lines.comprehension_plan Lines.disjunction_plan Lines.overload_plan Lines.join_plan
+    Lines.sources_plan Lines.entries_plan Lines.constraint_plan Lines.pad_plan Lines.count_plan Lines.lend_plan Lines.plan_of
+    Lines.asks_other Taking.put_words Taking.one_more_word Taking.kept Taking.appended Taking.next_number Taking.append_times
+    Taking.append_run Taking.carried Taking.bad_line Taking.begun Taking.bare_taken Taking.question_taken Taking.words_taken
+    Taking.other_taken Taking.answer_taken Taking.list_taken Taking.by_start Taking.line_taken
 lines_before_a_list = refl

@@ -6,27 +6,10 @@ use Prim.Native.Nat.{ℕ, zero, suc, ◌+◌, ◌*◌, ◌-◌, ◌<◌, ◌≤�
 use native.Mathlib.Nat.{mul-le-mul}
 use native.Mathlib.Omega.{arith}
 use lib.ListN.{get_or, set}
-use Rattle.list_memory.specs.Memory.{widths, width_of}
-use Rattle.list_tokens.specs.declared.Tokens.{Tokens}
+use Rattle.list_memory.specs.declared.Table.{Table}
+use Rattle.list_tokens.specs.declared.Token.{Token}
 use Rattle.list_forms.specs.Items.{word_at}
-use Rattle.list_reader.specs.Taking.{put_words, appended, next_number, append_times, append_run}
-
-width_at_most : (k : ℕ) → get_or widths k 0 ≤ 5
-width_at_most zero = omega arith
-width_at_most (suc zero) = omega arith
-width_at_most (suc (suc zero)) = omega arith
-width_at_most (suc (suc (suc zero))) = omega arith
-width_at_most (suc (suc (suc (suc zero)))) = omega arith
-width_at_most (suc (suc (suc (suc (suc zero))))) = omega arith
-width_at_most (suc (suc (suc (suc (suc (suc zero)))))) = omega arith
-width_at_most (suc (suc (suc (suc (suc (suc (suc zero))))))) = omega arith
-width_at_most (suc (suc (suc (suc (suc (suc (suc (suc zero)))))))) = omega arith
-width_at_most (suc (suc (suc (suc (suc (suc (suc (suc (suc zero))))))))) = omega arith
-width_at_most (suc (suc (suc (suc (suc (suc (suc (suc (suc (suc k)))))))))) = omega arith
-
-pub width_small : (k : ℕ) → width_of k ≤ 5
-unfolding width_of
-width_small k = width_at_most k
+use Rattle.list_reader.specs.Taking.{put_words, appended, next_number, next_row, append_times, append_run}
 
 -- a row of 5 words at most, of 65,535 rows at most
 pub row_within : (width n : ℕ) → width ≤ 5 → n ≤ 65535 → width * n ≤ 327675
@@ -63,71 +46,66 @@ module _ (start : List ℕ) (at : ℕ) (row : List ℕ) (w : ℕ) (ws : List ℕ
   pub putting_all : w ≤ i → ws ≡ put_words w start at row 0
   putting_all h = sym (g.same ∙ ap (λ (m : ℕ). put_words m ws at row i) (omega arith) ∙ no_word ws at row i)
 
--- i of n rows are appended, and b is the second word of the next
-pub record Adding (n : ℕ) (start : List ℕ) (k : ℕ) (rising : Bool) (row : List ℕ) (first : ℕ) (ws : List ℕ) (b i : ℕ) : Type 0 where
+-- i of n rows are appended, and `next` is the next of them
+pub record Adding (n : ℕ) (start : List ℕ) (k : Table) (rising : Bool) (row ws next : List ℕ) (i : ℕ) : Type 0 where
   pub within : i ≤ n
-  pub same : append_times n start k rising row first ≡ append_times (n - i) ws k rising row b
+  pub same : append_times n start k rising row ≡ append_times (n - i) ws k rising next
 
-pub adding_none : (n : ℕ) (ws : List ℕ) (k : ℕ) (rising : Bool) (row : List ℕ) (b : ℕ) → Adding n ws k rising row b ws b 0
-adding_none n ws k rising row b =
-    record { within = omega arith; same = ap (λ (m : ℕ). append_times m ws k rising row b) (omega arith) }
-
-abbrev pub row_with : List ℕ → ℕ → List ℕ
-row_with row b = get_or row 0 0 ∷ b ∷ get_or row 2 0 ∷ get_or row 3 0 ∷ get_or row 4 0 ∷ []
+pub adding_none : (n : ℕ) (ws : List ℕ) (k : Table) (rising : Bool) (row : List ℕ) → Adding n ws k rising row ws row 0
+adding_none n ws k rising row =
+    record { within = omega arith; same = ap (λ (m : ℕ). append_times m ws k rising row) (omega arith) }
 
 next_of_many :
-    (m : ℕ) (ws : List ℕ) (k : ℕ) (rising : Bool) (row : List ℕ) (b : ℕ)
-    → append_times (suc m) ws k rising row b ≡ append_times m (appended ws k (row_with row b)) k rising row (next_number rising b)
+    (m : ℕ) (ws : List ℕ) (k : Table) (rising : Bool) (row : List ℕ)
+    → append_times (suc m) ws k rising row ≡ append_times m (appended ws k row) k rising (next_row rising row)
 unfolding append_times
-next_of_many m ws k rising row b = refl
+next_of_many m ws k rising row = refl
 
-none_of_many : (ws : List ℕ) (k : ℕ) (rising : Bool) (row : List ℕ) (b : ℕ) → append_times zero ws k rising row b ≡ ws
+none_of_many : (ws : List ℕ) (k : Table) (rising : Bool) (row : List ℕ) → append_times zero ws k rising row ≡ ws
 unfolding append_times
-none_of_many ws k rising row b = refl
+none_of_many ws k rising row = refl
 
-module _ (n : ℕ) (start : List ℕ) (k : ℕ) (rising : Bool) (row : List ℕ) (first : ℕ) (ws : List ℕ) (b i : ℕ)
-    (g : Adding n start k rising row first ws b i) where
+module _ (n : ℕ) (start : List ℕ) (k : Table) (rising : Bool) (row ws next : List ℕ) (i : ℕ)
+    (g : Adding n start k rising row ws next i) where
   pub adding_more :
-      i < n → (us : List ℕ) → us ≡ appended ws k (row_with row b) → (after : ℕ) → after ≡ next_number rising b
-      → Adding n start k rising row first us after (i + 1)
-  adding_more h us e after f =
+      i < n → (us : List ℕ) → us ≡ appended ws k next → (v : ℕ) → v ≡ next_number rising (get_or next 1 0)
+      → Adding n start k rising row us (set next 1 v) (i + 1)
+  adding_more h us e v f =
       record {
         within = omega arith;
         same =
             g.same
-            ∙ ap (λ (m : ℕ). append_times m ws k rising row b) (omega arith)
-            ∙ next_of_many (n - (i + 1)) ws k rising row b
-            ∙ ap (λ (l : List ℕ). append_times (n - (i + 1)) l k rising row (next_number rising b)) (sym e)
-            ∙ ap (append_times (n - (i + 1)) us k rising row) (sym f);
+            ∙ ap (λ (m : ℕ). append_times m ws k rising next) (omega arith)
+            ∙ next_of_many (n - (i + 1)) ws k rising next
+            ∙ ap (λ (l : List ℕ). append_times (n - (i + 1)) l k rising (next_row rising next)) (sym e)
+            ∙ ap (λ (b : ℕ). append_times (n - (i + 1)) us k rising (set next 1 b)) (sym f);
       }
 
-  pub adding_all : n ≤ i → ws ≡ append_times n start k rising row first
-  adding_all h = sym (g.same ∙ ap (λ (m : ℕ). append_times m ws k rising row b) (omega arith) ∙ none_of_many ws k rising row b)
+  pub adding_all : n ≤ i → ws ≡ append_times n start k rising row
+  adding_all h = sym (g.same ∙ ap (λ (m : ℕ). append_times m ws k rising next) (omega arith) ∙ none_of_many ws k rising next)
 
 -- the words of the line before i are appended
-pub record Running (start : List ℕ) (k : ℕ) (t : Tokens) (from to : ℕ) (ws : List ℕ) (i : ℕ) : Type 0 where
-  pub after : from ≤ i
+pub record Running (start : List ℕ) (k : Table) (t : List Token) (from to : ℕ) (ws : List ℕ) (i : ℕ) : Type 0 where
   pub same : append_run (to - from) start k t from ≡ append_run (to - i) ws k t i
 
-pub running_none : (ws : List ℕ) (k : ℕ) (t : Tokens) (from to : ℕ) → Running ws k t from to ws from
-running_none ws k t from to = record { after = omega arith; same = refl }
+pub running_none : (ws : List ℕ) (k : Table) (t : List Token) (from to : ℕ) → Running ws k t from to ws from
+running_none ws k t from to = record { same = refl }
 
 next_of_run :
-    (m : ℕ) (ws : List ℕ) (k : ℕ) (t : Tokens) (i : ℕ)
+    (m : ℕ) (ws : List ℕ) (k : Table) (t : List Token) (i : ℕ)
     → append_run (suc m) ws k t i ≡ append_run m (appended ws k (word_at t i ∷ 0 ∷ 0 ∷ 0 ∷ 0 ∷ [])) k t (i + 1)
 unfolding append_run
 next_of_run m ws k t i = refl
 
-none_of_run : (ws : List ℕ) (k : ℕ) (t : Tokens) (i : ℕ) → append_run zero ws k t i ≡ ws
+none_of_run : (ws : List ℕ) (k : Table) (t : List Token) (i : ℕ) → append_run zero ws k t i ≡ ws
 unfolding append_run
 none_of_run ws k t i = refl
 
-module _ (start : List ℕ) (k : ℕ) (t : Tokens) (from to : ℕ) (ws : List ℕ) (i : ℕ) (g : Running start k t from to ws i) where
+module _ (start : List ℕ) (k : Table) (t : List Token) (from to : ℕ) (ws : List ℕ) (i : ℕ) (g : Running start k t from to ws i) where
   pub running_more :
       i < to → (v : ℕ) → v ≡ word_at t i → (us : List ℕ) → us ≡ appended ws k (v ∷ 0 ∷ 0 ∷ 0 ∷ 0 ∷ []) → Running start k t from to us (i + 1)
   running_more h v d us e =
       record {
-        after = omega arith;
         same =
             g.same
             ∙ ap (λ (m : ℕ). append_run m ws k t i) (omega arith)

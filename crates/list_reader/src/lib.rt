@@ -1,86 +1,30 @@
 // A line of the text format, taken into a list.
 #![tactic(auto)]
 
-ghost use Rattle.std.specs.Prelude.{◌≡◌, ◌≤◌, ◌+◌, ◌-◌};
-ghost use Rattle.list_memory.specs.Memory.{taken, list_start, width_of, ceiling_of, list_row_at};
+ghost use Rattle.std.specs.Prelude.{◌≡◌, ◌≤◌, ◌-◌, Some};
+ghost use Rattle.list_memory.specs.Memory.{taken};
+ghost use Rattle.list_memory.specs.Layouts.{list_row_at};
 ghost use Rattle.list_reader.specs.Inner.Taking.{most_place};
-ghost use Rattle.list_reader.specs.Taking.{put_words, one_more_word, appended, next_number, append_times, append_run};
-ghost use Rattle.list_reader.specs.Taking.{carried, bad_line, begun, bare_taken, plan_taken, question_taken};
-ghost use Rattle.list_reader.specs.Taking.{words_taken, other_taken, answer_taken, list_taken, line_taken};
+ghost use Rattle.list_reader.specs.Taking.{put_words, one_more_word, kept, appended, next_number, append_times, rows_taken};
+ghost use Rattle.list_reader.specs.Taking.{append_run, run_taken, put_taken, carried, bad_line, begun, bare_taken};
+ghost use Rattle.list_reader.specs.Taking.{plan_taken, question_taken, stage_is, row_by, words_by, words_taken, other_taken};
+ghost use Rattle.list_reader.specs.Taking.{answer_taken, list_taken, line_taken};
 
-use inference::{MAX_CONSTRAINTS, MAX_EXPRS, MAX_OVERLOADS, MAX_SOURCES};
-use list_forms::{Plan, asks_other, fits, plan_of, token_at, word_at};
-use list_memory::{
-    ASKED_STAGE, BAD_STAGE, DEFAULT_AT, ENTRY_LIST, Form, Heard, LIST_BINDS_AT,
-    LIST_CONSTRAINTS_AT, LIST_EXPRS_AT, LIST_NAMES_AT, LIST_NODES_AT, LIST_OVERLOADS_AT,
-    LIST_SORTS_AT, LIST_SOURCES_AT, LIST_WORDS, MAX_NAMES, MOST_ROWS, NO_LIST, READING_STAGE,
-    ROWS_AT, STAGE_AT, VAR_LIST,
-};
-use list_tokens::{K_ASK, K_BARE, K_SOLVE, Start, Tokens, printable, start_of, tokens_of};
-use resolved_sort::{ENTRIES_AT, MAX_ENTRIES, MAX_SORTS};
+use list_forms::{Item, Plan, Put, Rows, Run, asks_other, fits, plan_of, token_at, word_at};
+use list_memory::{DEFAULT_AT, Form, Heard, LIST_WORDS, ROWS_AT, STAGE_AT, Stage, Table};
+use list_tokens::{Keyword, MOST_WORDS, Start, Token, printable, start_of, tokens_of};
 use sort_text::MAX_LINE;
-use unification::{FREE_WORD, MAX_NODE_ENTRIES, MAX_NODES, MAX_VARS, NODE_ENTRIES_AT};
+use unification::FREE_WORD;
 use words::{clear, put, word};
 
-// Where the rows of each list begin, how many words a row has, and how many rows are kept.
-const STARTS: [u16; LISTS] = [
-    LIST_SORTS_AT as u16,
-    (LIST_SORTS_AT + ENTRIES_AT) as u16,
-    LIST_NODES_AT as u16,
-    (LIST_NODES_AT + NODE_ENTRIES_AT) as u16,
-    LIST_BINDS_AT as u16,
-    LIST_EXPRS_AT as u16,
-    LIST_NAMES_AT as u16,
-    LIST_CONSTRAINTS_AT as u16,
-    LIST_OVERLOADS_AT as u16,
-    LIST_SOURCES_AT as u16,
-];
-
-const WIDTHS: [u16; LISTS] = [4, 1, 4, 1, 1, 1, 3, 5, 3, 1];
-
-const CEILINGS: [u16; LISTS] = [
-    MAX_SORTS as u16,
-    MAX_ENTRIES as u16,
-    MAX_NODES as u16,
-    MAX_NODE_ENTRIES as u16,
-    MAX_VARS as u16,
-    MAX_EXPRS as u16,
-    MAX_NAMES as u16,
-    MAX_CONSTRAINTS as u16,
-    MAX_OVERLOADS as u16,
-    MAX_SOURCES as u16,
-];
-
-const LISTS: usize = 10;
-
-#[tactic(auto, unfolding(list_memory::specs::Memory::list_start))]
-fn start_word(k: usize) -> u16
-    ensures { result ≡ list_start k }
+// The first word of row n of a table.
+#[tactic(auto, using(crate::proofs::Rows::row_within))]
+fn row_at(table: Table, n: u16) -> usize
+    ensures at { result ≡ list_row_at table n }
+    ensures within { result ≤ most_place }
 {
-    if k < LISTS { STARTS[k] } else { 0 }
-}
-
-#[tactic(auto, unfolding(list_memory::specs::Memory::width_of))]
-fn width_of(k: usize) -> u16
-    ensures { (result ≡ width_of k) × (result ≤ 5) }
-{
-    if k < LISTS { WIDTHS[k] } else { 0 }
-}
-
-#[tactic(auto, unfolding(list_memory::specs::Memory::ceiling_of))]
-fn ceiling_of(k: usize) -> u16
-    ensures { result ≡ ceiling_of k }
-{
-    if k < LISTS { CEILINGS[k] } else { 0 }
-}
-
-// The first word of row n of list k.
-fn row_at(k: usize, n: u16) -> usize
-    ensures { (result ≡ list_row_at k n) × (result ≤ most_place) }
-{
-    let start = start_word(k) as usize;
-    let width = width_of(k) as usize;
-    start + width * (n as usize)
+    let layout = table.layout();
+    (layout.start as usize) + (layout.width as usize) * (n as usize)
 }
 
 // So many words of a row, put from a word on.
@@ -88,10 +32,8 @@ fn put_words(list: &mut [u16; LIST_WORDS], at: usize, row: [u16; 5], width: u16)
     requires { (at ≤ most_place) × (width ≤ 5) }
     ensures { list.new ≡ put_words width list.old at row 0 }
 {
-    let mut i: usize = 0;
-    while i < (width as usize) {
+    for i in 0..(width as usize) {
         put(list, at + i, row[i]);
-        i += 1;
     }
 }
 
@@ -99,25 +41,29 @@ fn put_words(list: &mut [u16; LIST_WORDS], at: usize, row: [u16; 5], width: u16)
 fn one_more(n: u16) -> u16
     ensures { result ≡ one_more_word n }
 {
-    if n < MOST_ROWS {
-        return n + 1;
-    }
-    n
+    n.saturating_add(1)
 }
 
-// One more row of list k: kept below the ceiling, counted in any case.
-#[tactic(auto, unfolding(crate::specs::Taking::appended))]
-fn append(list: &mut [u16; LIST_WORDS], k: u16, row: [u16; 5])
-    ensures { list.new ≡ appended list.old k row }
+// A row put where the next row of a table is, below its ceiling.
+#[tactic(auto, unfolding(crate::specs::Taking::kept))]
+fn keep(list: &mut [u16; LIST_WORDS], table: Table, row: [u16; 5])
+    ensures { list.new ≡ kept list.old table row }
 {
-    let j = k as usize;
-    let n = word(list, ROWS_AT + j);
-    if n < ceiling_of(j) {
-        put_words(list, row_at(j, n), row, width_of(j));
-        put(list, ROWS_AT + j, one_more(n));
-        return;
+    let layout = table.layout();
+    let n = word(list, ROWS_AT + table.number());
+    if n < layout.ceiling {
+        put_words(list, row_at(table, n), row, layout.width);
     }
-    put(list, ROWS_AT + j, one_more(n));
+}
+
+// One more row of a table: kept below the ceiling, counted in any case.
+#[tactic(auto, unfolding(crate::specs::Taking::appended))]
+fn append(list: &mut [u16; LIST_WORDS], table: Table, row: [u16; 5])
+    ensures { list.new ≡ appended list.old table row }
+{
+    let n = word(list, ROWS_AT + table.number());
+    keep(list, table, row);
+    put(list, ROWS_AT + table.number(), one_more(n));
 }
 
 // The number after a number, where numbers rise.
@@ -125,54 +71,71 @@ fn append(list: &mut [u16; LIST_WORDS], k: u16, row: [u16; 5])
 fn next_number(rising: bool, n: u16) -> u16
     ensures { result ≡ next_number rising n }
 {
-    if rising {
-        return one_more(n);
-    }
-    n
+    if rising { one_more(n) } else { n }
 }
 
-// So many more rows of list k, of which the first has the given second word.
-fn append_times(
-    list: &mut [u16; LIST_WORDS],
-    k: u16,
-    rising: bool,
-    row: [u16; 5],
-    second: u16,
-    times: u16,
-)
-    ensures { list.new ≡ append_times times list.old k rising row second }
+// More rows of a table.
+fn append_rows(list: &mut [u16; LIST_WORDS], rows: Rows)
+    ensures { list.new ≡ rows_taken list.old (Some rows) }
 {
-    let mut next = second;
-    let mut i: u16 = 0;
-    while i < times {
-        append(list, k, [row[0], next, row[2], row[3], row[4]]);
-        next = next_number(rising, next);
-        i += 1;
+    let mut row = rows.row;
+    for _i in 0..rows.times {
+        append(list, rows.table, row);
+        row[1] = next_number(rows.rising, row[1]);
     }
 }
 
-// Words of the line, each a row of list k.
-fn append_run(list: &mut [u16; LIST_WORDS], k: u16, t: Tokens, from: usize, to: usize)
-    ensures { list.new ≡ append_run (to - from) list.old k t from }
+fn take_rows(list: &mut [u16; LIST_WORDS], rows: Option<Rows>)
+    ensures { list.new ≡ rows_taken list.old rows }
 {
-    let mut i = from;
-    while i < to {
-        append(list, k, [word_at(t, i), 0, 0, 0, 0]);
-        i += 1;
+    if let Some(rows) = rows {
+        append_rows(list, rows);
+    }
+}
+
+// Words of the line, each a row of a table.
+fn append_run(list: &mut [u16; LIST_WORDS], t: &[Token], run: Run)
+    ensures { list.new ≡ append_run (run.to - run.from) list.old run.table t.now run.from }
+{
+    for i in run.from..run.to {
+        append(list, run.table, [word_at(t, i), 0, 0, 0, 0]);
+    }
+}
+
+fn take_run(list: &mut [u16; LIST_WORDS], t: &[Token], run: Option<Run>)
+    ensures { list.new ≡ run_taken list.old t.now run }
+{
+    if let Some(run) = run {
+        append_run(list, t, run);
+    }
+}
+
+fn take_put(list: &mut [u16; LIST_WORDS], word: Option<Put>)
+    ensures { list.new ≡ put_taken list.old word }
+{
+    if let Some(word) = word {
+        put(list, word.at, word.value);
     }
 }
 
 // What a line gives, put into the words.
 #[tactic(auto, unfolding(crate::specs::Taking::carried))]
-fn carry_out(list: &mut [u16; LIST_WORDS], t: Tokens, plan: Plan)
-    ensures { list.new ≡ carried list.old t plan }
+fn carry_out(list: &mut [u16; LIST_WORDS], t: &[Token], plan: Plan)
+    ensures { list.new ≡ carried list.old t.now plan }
 {
-    let row = plan.row;
-    append_times(list, VAR_LIST, false, [FREE_WORD, 0, 0, 0, 0], 0, plan.free);
-    append_run(list, plan.run, t, plan.from, plan.to as usize);
-    append_times(list, plan.list, plan.rising, row, row[1], plan.times);
-    put(list, plan.at, plan.value);
-    put(list, plan.at2, plan.value2);
+    append_rows(
+        list,
+        Rows {
+            table: Table::Vars,
+            times: plan.free,
+            rising: false,
+            row: [FREE_WORD, 0, 0, 0, 0],
+        },
+    );
+    take_run(list, t, plan.run);
+    take_rows(list, plan.rows);
+    take_put(list, plan.put);
+    take_put(list, plan.told);
 }
 
 // A line not of the format.
@@ -180,7 +143,7 @@ fn carry_out(list: &mut [u16; LIST_WORDS], t: Tokens, plan: Plan)
 fn bad(list: &mut [u16; LIST_WORDS], form: Form) -> Heard
     ensures { taken list.new result ≡ bad_line list.old form }
 {
-    put(list, STAGE_AT, BAD_STAGE);
+    put(list, STAGE_AT, Stage::Bad.number());
     Heard::Bad(form)
 }
 
@@ -197,74 +160,94 @@ fn begin(list: &mut [u16; LIST_WORDS])
     put(list, 20, 5);
     put(list, ROWS_AT, 6);
     put(list, DEFAULT_AT, 1);
-    put(list, STAGE_AT, READING_STAGE);
+    put(list, STAGE_AT, Stage::Reading.number());
 }
 
 // `bare`
 #[tactic(auto, unfolding(crate::specs::Taking::bare_taken))]
-fn bare(list: &mut [u16; LIST_WORDS], t: Tokens) -> Heard
-    ensures { taken list.new result ≡ bare_taken list.old t }
+fn bare(list: &mut [u16; LIST_WORDS], t: &[Token]) -> Heard
+    ensures { taken list.new result ≡ bare_taken list.old t.now }
 {
-    if t.count == 1 {
-        if word(list, ROWS_AT) == 6 {
-            if word(list, ENTRY_ROWS_AT) == 0 {
-                clear(list, 0, 24);
-                put(list, ROWS_AT, 0);
-                return Heard::Quiet;
-            }
-            return bad(list, Form::Bare);
-        }
-        return bad(list, Form::Bare);
+    let sorts = word(list, ROWS_AT + Table::Sorts.number());
+    let entries = word(list, ROWS_AT + Table::Entries.number());
+    if t.len() == 1 && sorts == 6 && entries == 0 {
+        clear(list, 0, 24);
+        put(list, ROWS_AT, 0);
+        return Heard::Quiet;
     }
     bad(list, Form::Bare)
 }
 
 // A line that gives rows or words of the list.
-#[tactic(auto, unfolding(crate::specs::Taking::plan_taken))]
-fn give(list: &mut [u16; LIST_WORDS], t: Tokens, plan: Plan) -> Heard
-    ensures { taken list.new result ≡ plan_taken list.old t plan }
+fn give(list: &mut [u16; LIST_WORDS], t: &[Token], plan: Result<Plan, Form>) -> Heard
+    ensures { taken list.new result ≡ plan_taken list.old t.now plan }
 {
-    if plan.good {
-        carry_out(list, t, plan);
-        return Heard::Quiet;
+    match plan {
+        Ok(plan) => {
+            carry_out(list, t, plan);
+            Heard::Quiet
+        }
+        Err(form) => bad(list, form),
     }
-    let form = plan.form;
-    bad(list, form)
 }
 
 // `? ..`
 #[tactic(auto, unfolding(crate::specs::Taking::question_taken))]
-fn question(list: &mut [u16; LIST_WORDS], t: Tokens) -> Heard
-    ensures { taken list.new result ≡ question_taken list.old t }
+fn question(list: &mut [u16; LIST_WORDS], t: &[Token]) -> Heard
+    ensures { taken list.new result ≡ question_taken list.old t.now }
 {
-    if fits(t, [K_ASK, K_SOLVE, 0, 0, 0, 0, 0]) {
-        put(list, STAGE_AT, ASKED_STAGE);
+    if fits(t, &[Item::Word(Keyword::Ask), Item::Word(Keyword::Solve)]) {
+        put(list, STAGE_AT, Stage::Asked.number());
         return Heard::Asks;
     }
     if asks_other(t) {
-        put(list, STAGE_AT, ASKED_STAGE);
+        put(list, STAGE_AT, Stage::Asked.number());
         return Heard::AsksOther;
     }
     bad(list, Form::Asks)
 }
 
+// Whether the list is read so far.
+fn stage_is(list: &[u16; LIST_WORDS], stage: Stage) -> bool
+    ensures { result ≡ stage_is list.now stage }
+{
+    word(list, STAGE_AT) == stage.number()
+}
+
+// A line of words before any question, by the first of them.
+fn take_row(list: &mut [u16; LIST_WORDS], first: Token, t: &[Token]) -> Heard
+    ensures { taken list.new result ≡ row_by first list.old t.now }
+{
+    match first {
+        Token::Keyword(Keyword::Bare) => bare(list, t),
+        _ => {
+            let plan = plan_of(list, t);
+            give(list, t, plan)
+        }
+    }
+}
+
+// A line of words, by the first of them.
+fn take_by(list: &mut [u16; LIST_WORDS], first: Token, t: &[Token]) -> Heard
+    ensures { taken list.new result ≡ words_by first list.old t.now }
+{
+    match first {
+        Token::Keyword(Keyword::Ask) => question(list, t),
+        _ => {
+            if stage_is(list, Stage::Asked) {
+                return bad(list, Form::Asked);
+            }
+            take_row(list, first, t)
+        }
+    }
+}
+
 // A line of words, where a list has begun.
 #[tactic(auto, unfolding(crate::specs::Taking::words_taken))]
-fn take_words(list: &mut [u16; LIST_WORDS], t: Tokens) -> Heard
-    ensures { taken list.new result ≡ words_taken list.old t }
+fn take_words(list: &mut [u16; LIST_WORDS], t: &[Token]) -> Heard
+    ensures { taken list.new result ≡ words_taken list.old t.now }
 {
-    let first = token_at(t, 0);
-    if first == K_ASK {
-        return question(list, t);
-    }
-    if word(list, STAGE_AT) == ASKED_STAGE {
-        return bad(list, Form::Asked);
-    }
-    if first == K_BARE {
-        return bare(list, t);
-    }
-    let plan = plan_of(list, t);
-    give(list, t, plan)
+    take_by(list, token_at(t, 0), t)
 }
 
 // A line that is no comment, no answer and no `list`.
@@ -272,20 +255,20 @@ fn take_words(list: &mut [u16; LIST_WORDS], t: Tokens) -> Heard
 fn take_other(list: &mut [u16; LIST_WORDS], line: &[u8]) -> Heard
     ensures { taken list.new result ≡ other_taken list.old line.now }
 {
-    let stage = word(list, STAGE_AT);
-    if stage == BAD_STAGE {
+    if stage_is(list, Stage::Bad) {
         return Heard::Quiet;
     }
-    if printable(line) {
-        if MAX_LINE < line.len() {
-            return bad(list, Form::Length);
-        }
-        if stage == NO_LIST {
-            return bad(list, Form::List);
-        }
-        return take_words(list, tokens_of(line));
+    if !printable(line) {
+        return bad(list, Form::Printable);
     }
-    bad(list, Form::Printable)
+    if MAX_LINE < line.len() {
+        return bad(list, Form::Length);
+    }
+    if stage_is(list, Stage::NoList) {
+        return bad(list, Form::List);
+    }
+    let mut words = [Token::Other; MOST_WORDS];
+    take_words(list, tokens_of(line, &mut words))
 }
 
 // An answer, which is not looked at.
@@ -293,17 +276,16 @@ fn take_other(list: &mut [u16; LIST_WORDS], line: &[u8]) -> Heard
 fn take_answer(list: &mut [u16; LIST_WORDS], line: &[u8]) -> Heard
     ensures { taken list.new result ≡ answer_taken list.old line.now }
 {
-    let stage = word(list, STAGE_AT);
-    if stage == BAD_STAGE {
+    if stage_is(list, Stage::Bad) {
         return Heard::Quiet;
     }
-    if printable(line) {
-        if stage == ASKED_STAGE {
-            return Heard::Quiet;
-        }
-        return bad(list, Form::Question);
+    if !printable(line) {
+        return bad(list, Form::Printable);
     }
-    bad(list, Form::Printable)
+    if stage_is(list, Stage::Asked) {
+        return Heard::Quiet;
+    }
+    bad(list, Form::Question)
 }
 
 // `list TEXT`
@@ -311,14 +293,14 @@ fn take_answer(list: &mut [u16; LIST_WORDS], line: &[u8]) -> Heard
 fn take_list(list: &mut [u16; LIST_WORDS], line: &[u8]) -> Heard
     ensures { taken list.new result ≡ list_taken list.old line.now }
 {
-    if printable(line) {
-        if MAX_LINE < line.len() {
-            return bad(list, Form::Length);
-        }
-        begin(list);
-        return Heard::Begins;
+    if !printable(line) {
+        return bad(list, Form::Printable);
     }
-    bad(list, Form::Printable)
+    if MAX_LINE < line.len() {
+        return bad(list, Form::Length);
+    }
+    begin(list);
+    Heard::Begins
 }
 
 // What one line, without its LF, makes of the list.
@@ -333,6 +315,3 @@ pub fn take_line(list: &mut [u16; LIST_WORDS], line: &[u8]) -> Heard
         Start::Other => take_other(list, line),
     }
 }
-
-// Where the rows given of the entries are counted.
-const ENTRY_ROWS_AT: usize = ROWS_AT + (ENTRY_LIST as usize);

@@ -1,18 +1,23 @@
 -- Reading words one by one comes to the words of the line. Assumes nothing.
 use mathlib.Core.Path.{◌≡◌, refl, sym, ap, ◌∙◌}
 use mathlib.Core.Bool.{not}
-use mathlib.Core.List.{List}
+use mathlib.Core.List.{List, [], ◌∷◌, ◌++◌}
 use Prim.Native.Nat.{ℕ, zero, suc, ◌+◌, ◌-◌, ◌<◌, ◌≤◌}
+use native.Mathlib.Numerals.{add-one}
 use native.Mathlib.Omega.{arith}
-use lib.ListN.{length, get_or, set, take, drop, replicate, length-drop, length-set}
-use lib.Seq.{get_or-drop}
+use lib.ListN.{length, get_or, set, take, drop, length-drop, length-set}
+use lib.Seq.{get_or-drop, take-suc-set}
 use borrow.Author.Tests.{eq-eqb, ne_eqb}
+use Rattle.std.proofs.Common.{append_assoc}
+use Rattle.std.proofs.lemmas.List.{append-nil}
 use Rattle.sort_text.specs.Tokens.{run, past, skip}
 use Rattle.sort_lexer.specs.Inner.Lexeme.{offset}
 use Rattle.sort_lexer.proofs.Places as places
 use Rattle.sort_lexer.proofs.Runs as runs
-use Rattle.list_tokens.specs.declared.Start.TheVariants.{Skipped, Answer, NewList, Other}
-use Rattle.list_tokens.specs.Tokens.{in_word, token_of, tokens_read, tokens_from, tokens_of, line_start}
+use Rattle.list_tokens.specs.declared.Token.{Token}
+use Rattle.list_tokens.specs.declared.Start.{Start}
+use Rattle.list_tokens.specs.declared.Start.TheVariants.{Skipped}
+use Rattle.list_tokens.specs.Tokens.{in_word, token_of, tokens_from, tokens_of, start_by, line_start}
 
 module _ (l : List ℕ) (at i : ℕ) (inv : past in_word (drop at l) ≡ past in_word (drop i l)) where
   pub word_to_the_end : length l ≤ i → length l ≡ offset l (past in_word (drop at l))
@@ -41,51 +46,61 @@ module _ (l : List ℕ) (at from : ℕ) (e : from ≡ offset l (skip (drop at l)
     the_word : (w : List ℕ) → w ≡ take (to - from) (drop from l) → w ≡ run in_word (skip (drop at l))
     the_word w g = g ∙ places.bytes_of_run in_word l from to f ∙ ap (run in_word) (places.left_without_spaces l at from e)
 
-ended : (m : ℕ) (bs values : List ℕ) (k : ℕ) → length (skip bs) ≡ 0 → tokens_read values k ≡ tokens_from m bs values k
+ended : (m : ℕ) (bs : List ℕ) → length (skip bs) ≡ 0 → tokens_from m bs ≡ []
 unfolding tokens_from
-ended zero bs values k h = refl
-ended (suc m) bs values k h = rw (eq-eqb _ _ h)
+ended zero bs h = refl
+ended (suc m) bs h = rw (eq-eqb _ _ h)
 
 more :
-    (m : ℕ) (bs cs values w : List ℕ) (k t : ℕ) → (length (skip bs) ≡ 0 → ⊥) → cs ≡ past in_word (skip bs) → w ≡ run in_word (skip bs) → t ≡ token_of w
-    → tokens_from (suc m) bs values k ≡ tokens_from m cs (set values k t) (k + 1)
+    (m : ℕ) (bs cs w : List ℕ) (t : Token) → (length (skip bs) ≡ 0 → ⊥) → cs ≡ past in_word (skip bs) → w ≡ run in_word (skip bs) → t ≡ token_of w
+    → tokens_from (suc m) bs ≡ t ∷ tokens_from m cs
 unfolding tokens_from
-more m bs cs values w k t h e f g = rw (ne_eqb _ _ h, g, f, e)
+more m bs cs w t h e f g = rw (ne_eqb _ _ h, g, f, e)
 
--- the words from a position on are those left of the line
-pub record Going (line values : List ℕ) (k at : ℕ) : Type 0 where
+-- the words put, and those of the line from a position on, are those of the line
+pub record Going (line : List ℕ) (words : List Token) (k at : ℕ) : Type 0 where
   pub within : k ≤ 100
-  pub room : length values ≡ 100
-  pub same : tokens_from (100 - k) (drop at line) values k ≡ tokens_of line
+  pub room : length words ≡ 100
+  pub same : take k words ++ tokens_from (100 - k) (drop at line) ≡ tokens_of line
 
-pub going_start : (line : List ℕ) → Going line (replicate 100 0) 0 0
+pub going_start : (line : List ℕ) (words : List Token) → length words ≡ 100 → Going line words 0 0
 unfolding tokens_of
-going_start line = record { within = omega arith; room = refl; same = refl }
+going_start line words r = record { within = omega arith; room = r; same = refl }
 
-module _ (line values : List ℕ) (k at : ℕ) (g : Going line values k at) where
-  pub all_taken : 100 ≤ k → tokens_read values k ≡ tokens_of line
+module _ (line : List ℕ) (words : List Token) (k at : ℕ) (g : Going line words k at) where
+  pub all_taken : 100 ≤ k → take 100 words ≡ tokens_of line
   unfolding tokens_from
-  all_taken h = let z : 100 - k ≡ zero = omega arith in sym (ap (λ (m : ℕ). tokens_from m (drop at line) values k) z) ∙ g.same
+  all_taken h =
+      let z : 100 - k ≡ zero = omega arith in
+      let e : k ≡ 100 = omega arith in
+      ap (λ (n : ℕ). take n words) (sym e) ∙ sym (append-nil (take k words))
+      ∙ ap (λ (m : ℕ). take k words ++ tokens_from m (drop at line)) (sym z) ∙ g.same
 
   module _ (from : ℕ) (e : from ≡ offset line (skip (drop at line))) where
-    pub no_more_words : length line ≤ from → tokens_read values k ≡ tokens_of line
-    no_more_words h = ended (100 - k) (drop at line) values k (nothing_left line at from e h) ∙ g.same
+    pub no_more_words : length line ≤ from → take k words ≡ tokens_of line
+    no_more_words h =
+        sym (append-nil (take k words))
+        ∙ ap (λ (ts : List Token). take k words ++ ts) (sym (ended (100 - k) (drop at line) (nothing_left line at from e h)))
+        ∙ g.same
 
     pub one_more_word :
         k < 100 → from < length line → (to : ℕ) → to ≡ offset line (past in_word (drop from line))
-        → (w : List ℕ) → w ≡ take (to - from) (drop from line) → (t : ℕ) → t ≡ token_of w → Going line (set values k t) (k + 1) to
+        → (w : List ℕ) → w ≡ take (to - from) (drop from line) → (t : Token) → t ≡ token_of w → Going line (set words k t) (k + 1) to
     one_more_word h r to f w c t d =
         let m : 100 - k ≡ suc (100 - (k + 1)) = omega arith in
         record {
           within = omega arith;
           room = simp length-set g.room;
           same =
-              sym
-              (ap (λ (n : ℕ). tokens_from n (drop at line) values k) m
-              ∙ more (100 - (k + 1)) (drop at line) (drop to line) values w k t (something_left line at from e r)
+              ap (λ (ts : List Token). ts ++ tokens_from (100 - (k + 1)) (drop to line)) (rw (add-one) (take-suc-set words k t (omega (arith, g.room))))
+              ∙ append_assoc (take k words) (t ∷ []) (tokens_from (100 - (k + 1)) (drop to line))
+              ∙ ap (λ (ts : List Token). take k words ++ ts)
+              (sym
+              (ap (λ (n : ℕ). tokens_from n (drop at line)) m
+              ∙ more (100 - (k + 1)) (drop at line) (drop to line) w t (something_left line at from e r)
               (after_the_word line at from e to f)
               (the_word line at from e to f w c)
-              d)
+              d))
               ∙ g.same;
         }
 
@@ -109,21 +124,10 @@ module _ (line : List ℕ) (from : ℕ) (e : from ≡ offset line (skip (drop 0 
     line_of_a_comment c = rw (ne_eqb _ _ some_word, eq-eqb _ _ (sym first_byte ∙ c))
 
     module _ (c : get_or line from 0 ≡ 35 → ⊥) (to : ℕ) (f : to ≡ offset line (past in_word (drop from line)))
-        (w : List ℕ) (g : w ≡ take (to - from) (drop from line)) (t : ℕ) (d : t ≡ token_of w) where
+        (w : List ℕ) (g : w ≡ take (to - from) (drop from line)) (t : Token) (d : t ≡ token_of w) where
       first_word : token_of (run in_word (skip line)) ≡ t
       first_word = sym (d ∙ ap token_of (the_word line 0 from e to f w g))
 
-      pub line_of_an_answer : t ≡ 25 → Answer ≡ line_start line
+      pub line_of_a_word : (s : Start) → s ≡ start_by t → s ≡ line_start line
       unfolding line_start
-      line_of_an_answer s = rw (ne_eqb _ _ some_word, ne_eqb _ _ (λ z. c (first_byte ∙ z)), first_word, eq-eqb _ _ s)
-
-      module _ (n : t ≡ 25 → ⊥) where
-        pub line_of_a_list : t ≡ 1 → NewList ≡ line_start line
-        unfolding line_start
-        line_of_a_list s =
-            rw (ne_eqb _ _ some_word, ne_eqb _ _ (λ z. c (first_byte ∙ z)), first_word, ne_eqb _ _ n, eq-eqb _ _ s)
-
-        pub line_of_another : (t ≡ 1 → ⊥) → Other ≡ line_start line
-        unfolding line_start
-        line_of_another s =
-            rw (ne_eqb _ _ some_word, ne_eqb _ _ (λ z. c (first_byte ∙ z)), first_word, ne_eqb _ _ n, ne_eqb _ _ s)
+      line_of_a_word s b = rw (ne_eqb _ _ some_word, ne_eqb _ _ (λ z. c (first_byte ∙ z)), first_word) b

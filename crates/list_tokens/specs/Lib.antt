@@ -1,4 +1,3 @@
--- A line of the text format as numbers, one for each word.
+-- The words of a line of the text format.
 pub mod Words
 pub mod Tokens
-pub mod Inner

@@ -1,174 +1,151 @@
--- The words of the format that are no number and no name with one. A word is known by its place from 1 on in this list.
-use Rattle.std.specs.Prelude.{cond, List, [], ◌∷◌, map, ℕ, ◌+◌}
+-- The words of the format that are no number and no name with one.
+use Rattle.std.specs.Prelude.{Bool, List, [], ◌∷◌, ℕ, eqb, Option}
+use Rattle.std.specs.List.{find}
 use Rattle.sort_text.specs.Parse.{same_bytes}
 use Rattle.text_out.specs.Quoted.{bytes_of}
+use Rattle.list_tokens.specs.declared.Keyword.{Keyword}
 
-abbrev pub k_list : ℕ
-k_list = 1
+-- each word as it is written
+unfoldable pub spelling : Keyword → List ℕ
+spelling Keyword.List = bytes_of "list"
+spelling Keyword.Bare = bytes_of "bare"
+spelling Keyword.Sort = bytes_of "sort"
+spelling Keyword.Entries = bytes_of "entries"
+spelling Keyword.Node = bytes_of "node"
+spelling Keyword.NodeEntries = bytes_of "node-entries"
+spelling Keyword.Pad = bytes_of "pad"
+spelling Keyword.Var = bytes_of "var"
+spelling Keyword.Vars = bytes_of "vars"
+spelling Keyword.Bind = bytes_of "bind"
+spelling Keyword.Expr = bytes_of "expr"
+spelling Keyword.Name = bytes_of "name"
+spelling Keyword.Default = bytes_of "default"
+spelling Keyword.Ceilings = bytes_of "ceilings"
+spelling Keyword.Count = bytes_of "count"
+spelling Keyword.Lend = bytes_of "lend"
+spelling Keyword.Sub = bytes_of "sub"
+spelling Keyword.Lit = bytes_of "lit"
+spelling Keyword.Comprehension = bytes_of "comprehension"
+spelling Keyword.Disjunction = bytes_of "disjunction"
+spelling Keyword.Join = bytes_of "join"
+spelling Keyword.Constraint = bytes_of "constraint"
+spelling Keyword.Overload = bytes_of "overload"
+spelling Keyword.Ask = bytes_of "?"
+spelling Keyword.Answer = bytes_of "="
+spelling Keyword.ListOf = bytes_of "List"
+spelling Keyword.SetOf = bytes_of "Set"
+spelling Keyword.FSetOf = bytes_of "FSet"
+spelling Keyword.BagOf = bytes_of "Bag"
+spelling Keyword.FBagOf = bytes_of "FBag"
+spelling Keyword.Fn = bytes_of "fn"
+spelling Keyword.Def = bytes_of "Def"
+spelling Keyword.TypeVar = bytes_of "TypeVar"
+spelling Keyword.Raw = bytes_of "raw"
+spelling Keyword.Arrow = bytes_of "->"
+spelling Keyword.Variable = bytes_of "variable"
+spelling Keyword.Op = bytes_of "op"
+spelling Keyword.Builtin = bytes_of "builtin"
+spelling Keyword.Positive = bytes_of "positive"
+spelling Keyword.Natural = bytes_of "natural"
+spelling Keyword.Sorts = bytes_of "sorts"
+spelling Keyword.Nodes = bytes_of "nodes"
+spelling Keyword.Bindings = bytes_of "bindings"
+spelling Keyword.Exprs = bytes_of "exprs"
+spelling Keyword.Names = bytes_of "names"
+spelling Keyword.Constraints = bytes_of "constraints"
+spelling Keyword.Overloads = bytes_of "overloads"
+spelling Keyword.Sources = bytes_of "sources"
+spelling Keyword.Scratch = bytes_of "scratch"
+spelling Keyword.OutTyping = bytes_of "out-typing"
+spelling Keyword.OutMeasure = bytes_of "out-measure"
+spelling Keyword.OutChoices = bytes_of "out-choices"
+spelling Keyword.Solve = bytes_of "solve"
+spelling Keyword.Unify = bytes_of "unify"
+spelling Keyword.PartialCmp = bytes_of "partial_cmp"
+spelling Keyword.Meet = bytes_of "meet"
+spelling Keyword.WideningDistance = bytes_of "widening_distance"
+spelling Keyword.IsMaterializable = bytes_of "is_materializable"
+spelling Keyword.Unit = bytes_of "unit"
+spelling Keyword.Bool = bytes_of "Bool"
+spelling Keyword.Pos = bytes_of "Pos"
+spelling Keyword.Nat = bytes_of "Nat"
+spelling Keyword.Int = bytes_of "Int"
+spelling Keyword.Real = bytes_of "Real"
 
-abbrev pub k_bare : ℕ
-k_bare = 2
+-- its place among them, which no two share
+unfoldable pub place_of : Keyword → ℕ
+place_of Keyword.List = 0
+place_of Keyword.Bare = 1
+place_of Keyword.Sort = 2
+place_of Keyword.Entries = 3
+place_of Keyword.Node = 4
+place_of Keyword.NodeEntries = 5
+place_of Keyword.Pad = 6
+place_of Keyword.Var = 7
+place_of Keyword.Vars = 8
+place_of Keyword.Bind = 9
+place_of Keyword.Expr = 10
+place_of Keyword.Name = 11
+place_of Keyword.Default = 12
+place_of Keyword.Ceilings = 13
+place_of Keyword.Count = 14
+place_of Keyword.Lend = 15
+place_of Keyword.Sub = 16
+place_of Keyword.Lit = 17
+place_of Keyword.Comprehension = 18
+place_of Keyword.Disjunction = 19
+place_of Keyword.Join = 20
+place_of Keyword.Constraint = 21
+place_of Keyword.Overload = 22
+place_of Keyword.Ask = 23
+place_of Keyword.Answer = 24
+place_of Keyword.ListOf = 25
+place_of Keyword.SetOf = 26
+place_of Keyword.FSetOf = 27
+place_of Keyword.BagOf = 28
+place_of Keyword.FBagOf = 29
+place_of Keyword.Fn = 30
+place_of Keyword.Def = 31
+place_of Keyword.TypeVar = 32
+place_of Keyword.Raw = 33
+place_of Keyword.Arrow = 34
+place_of Keyword.Variable = 35
+place_of Keyword.Op = 36
+place_of Keyword.Builtin = 37
+place_of Keyword.Positive = 38
+place_of Keyword.Natural = 39
+place_of Keyword.Sorts = 40
+place_of Keyword.Nodes = 41
+place_of Keyword.Bindings = 42
+place_of Keyword.Exprs = 43
+place_of Keyword.Names = 44
+place_of Keyword.Constraints = 45
+place_of Keyword.Overloads = 46
+place_of Keyword.Sources = 47
+place_of Keyword.Scratch = 48
+place_of Keyword.OutTyping = 49
+place_of Keyword.OutMeasure = 50
+place_of Keyword.OutChoices = 51
+place_of Keyword.Solve = 52
+place_of Keyword.Unify = 53
+place_of Keyword.PartialCmp = 54
+place_of Keyword.Meet = 55
+place_of Keyword.WideningDistance = 56
+place_of Keyword.IsMaterializable = 57
+place_of Keyword.Unit = 58
+place_of Keyword.Bool = 59
+place_of Keyword.Pos = 60
+place_of Keyword.Nat = 61
+place_of Keyword.Int = 62
+place_of Keyword.Real = 63
 
-abbrev pub k_sort : ℕ
-k_sort = 3
+abbrev pub same_word : Keyword → Keyword → Bool
+same_word a b = eqb (place_of a) (place_of b)
 
-abbrev pub k_entries : ℕ
-k_entries = 4
+abbrev pub keywords : List Keyword
+keywords =
+    Keyword.List ∷ Keyword.Bare ∷ Keyword.Sort ∷ Keyword.Entries ∷ Keyword.Node ∷ Keyword.NodeEntries ∷ Keyword.Pad ∷ Keyword.Var ∷ Keyword.Vars ∷ Keyword.Bind ∷ Keyword.Expr ∷ Keyword.Name ∷ Keyword.Default ∷ Keyword.Ceilings ∷ Keyword.Count ∷ Keyword.Lend ∷ Keyword.Sub ∷ Keyword.Lit ∷ Keyword.Comprehension ∷ Keyword.Disjunction ∷ Keyword.Join ∷ Keyword.Constraint ∷ Keyword.Overload ∷ Keyword.Ask ∷ Keyword.Answer ∷ Keyword.ListOf ∷ Keyword.SetOf ∷ Keyword.FSetOf ∷ Keyword.BagOf ∷ Keyword.FBagOf ∷ Keyword.Fn ∷ Keyword.Def ∷ Keyword.TypeVar ∷ Keyword.Raw ∷ Keyword.Arrow ∷ Keyword.Variable ∷ Keyword.Op ∷ Keyword.Builtin ∷ Keyword.Positive ∷ Keyword.Natural ∷ Keyword.Sorts ∷ Keyword.Nodes ∷ Keyword.Bindings ∷ Keyword.Exprs ∷ Keyword.Names ∷ Keyword.Constraints ∷ Keyword.Overloads ∷ Keyword.Sources ∷ Keyword.Scratch ∷ Keyword.OutTyping ∷ Keyword.OutMeasure ∷ Keyword.OutChoices ∷ Keyword.Solve ∷ Keyword.Unify ∷ Keyword.PartialCmp ∷ Keyword.Meet ∷ Keyword.WideningDistance ∷ Keyword.IsMaterializable ∷ Keyword.Unit ∷ Keyword.Bool ∷ Keyword.Pos ∷ Keyword.Nat ∷ Keyword.Int ∷ Keyword.Real ∷ []
 
-abbrev pub k_node : ℕ
-k_node = 5
-
-abbrev pub k_node_entries : ℕ
-k_node_entries = 6
-
-abbrev pub k_pad : ℕ
-k_pad = 7
-
-abbrev pub k_var : ℕ
-k_var = 8
-
-abbrev pub k_vars : ℕ
-k_vars = 9
-
-abbrev pub k_bind : ℕ
-k_bind = 10
-
-abbrev pub k_expr : ℕ
-k_expr = 11
-
-abbrev pub k_name : ℕ
-k_name = 12
-
-abbrev pub k_default : ℕ
-k_default = 13
-
-abbrev pub k_ceilings : ℕ
-k_ceilings = 14
-
-abbrev pub k_count : ℕ
-k_count = 15
-
-abbrev pub k_lend : ℕ
-k_lend = 16
-
-abbrev pub k_sub : ℕ
-k_sub = 17
-
-abbrev pub k_lit : ℕ
-k_lit = 18
-
-abbrev pub k_comprehension : ℕ
-k_comprehension = 19
-
-abbrev pub k_disjunction : ℕ
-k_disjunction = 20
-
-abbrev pub k_join : ℕ
-k_join = 21
-
-abbrev pub k_constraint : ℕ
-k_constraint = 22
-
-abbrev pub k_overload : ℕ
-k_overload = 23
-
-abbrev pub k_ask : ℕ
-k_ask = 24
-
-abbrev pub k_answer : ℕ
-k_answer = 25
-
-abbrev pub k_list_of : ℕ
-k_list_of = 26
-
-abbrev pub k_fn : ℕ
-k_fn = 31
-
-abbrev pub k_def : ℕ
-k_def = 32
-
-abbrev pub k_type_var : ℕ
-k_type_var = 33
-
-abbrev pub k_raw : ℕ
-k_raw = 34
-
-abbrev pub k_arrow : ℕ
-k_arrow = 35
-
-abbrev pub k_variable : ℕ
-k_variable = 36
-
-abbrev pub k_op : ℕ
-k_op = 37
-
-abbrev pub k_builtin : ℕ
-k_builtin = 38
-
-abbrev pub k_positive : ℕ
-k_positive = 39
-
-abbrev pub k_sorts : ℕ
-k_sorts = 41
-
-abbrev pub k_nodes : ℕ
-k_nodes = 42
-
-abbrev pub k_exprs : ℕ
-k_exprs = 44
-
-abbrev pub k_names : ℕ
-k_names = 45
-
-abbrev pub k_constraints : ℕ
-k_constraints = 46
-
-abbrev pub k_overloads : ℕ
-k_overloads = 47
-
-abbrev pub k_sources : ℕ
-k_sources = 48
-
-abbrev pub k_solve : ℕ
-k_solve = 53
-
-abbrev pub k_unify : ℕ
-k_unify = 54
-
-abbrev pub k_partial_cmp : ℕ
-k_partial_cmp = 55
-
-abbrev pub k_meet : ℕ
-k_meet = 56
-
-abbrev pub k_widening_distance : ℕ
-k_widening_distance = 57
-
-abbrev pub k_is_materializable : ℕ
-k_is_materializable = 58
-
--- the words of the fixed six sorts begin here
-abbrev pub k_unit : ℕ
-k_unit = 59
-
-unfoldable pub words : List (List ℕ)
-words =
-    map bytes_of
-    ("list" ∷ "bare" ∷ "sort" ∷ "entries" ∷ "node" ∷ "node-entries" ∷ "pad" ∷ "var"
-    ∷ "vars" ∷ "bind" ∷ "expr" ∷ "name" ∷ "default" ∷ "ceilings" ∷ "count" ∷ "lend"
-    ∷ "sub" ∷ "lit" ∷ "comprehension" ∷ "disjunction" ∷ "join" ∷ "constraint" ∷ "overload" ∷ "?" ∷ "="
-    ∷ "List" ∷ "Set" ∷ "FSet" ∷ "Bag" ∷ "FBag" ∷ "fn" ∷ "Def" ∷ "TypeVar" ∷ "raw" ∷ "->"
-    ∷ "variable" ∷ "op" ∷ "builtin" ∷ "positive" ∷ "natural"
-    ∷ "sorts" ∷ "nodes" ∷ "bindings" ∷ "exprs" ∷ "names" ∷ "constraints" ∷ "overloads" ∷ "sources"
-    ∷ "scratch" ∷ "out-typing" ∷ "out-measure" ∷ "out-choices" ∷ "solve" ∷ "unify"
-    ∷ "partial_cmp" ∷ "meet" ∷ "widening_distance" ∷ "is_materializable"
-    ∷ "unit" ∷ "Bool" ∷ "Pos" ∷ "Nat" ∷ "Int" ∷ "Real"
-    ∷ [])
-
--- the place of a word in a list of them, counted from k on; 0 where it is none of them
-unfoldable pub position_in : List (List ℕ) → List ℕ → ℕ → ℕ
-position_in [] w k = 0
-position_in (x ∷ xs) w k = cond (same_bytes w x) k (position_in xs w (k + 1))
-
-unfoldable pub keyword_of : List ℕ → ℕ
-keyword_of w = position_in words w 1
+-- the word of the format that bytes are
+unfoldable pub keyword_of : List ℕ → Option Keyword
+keyword_of w = find (λ k. same_bytes w (spelling k)) keywords

@@ -1,26 +1,99 @@
-// The words of a line of the text format as numbers.
+// The words of a line of the text format.
 #![tactic(auto)]
 
-ghost use Rattle.std.specs.Prelude.{◌≡◌, ◌≤◌, [], drop, get_or};
-ghost use Rattle.sort_text.specs.Parse.{same_bytes};
+ghost use Rattle.std.specs.Prelude.{◌≡◌, ◌≤◌, drop, take};
+ghost use Rattle.std.specs.List.{list_all};
 ghost use Rattle.sort_text.specs.Tokens.{past};
 ghost use Rattle.sort_lexer.specs.Inner.Lexeme.{offset};
-ghost use Rattle.list_tokens.specs.Words.{words, keyword_of};
-ghost use Rattle.list_tokens.specs.Inner.Tokens.{most_class};
-ghost use Rattle.list_tokens.specs.Tokens.{decimal_read, number_read, class_of, name_token, token_of, in_word};
-ghost use Rattle.list_tokens.specs.Tokens.{tokens_of, printable_from, line_start};
+ghost use Rattle.list_tokens.specs.Words.{spelling, same_word, keyword_of};
+ghost use Rattle.list_tokens.specs.Tokens.{decimal_read, number_read, numbered, name_token, token_of, in_word};
+ghost use Rattle.list_tokens.specs.Tokens.{tokens_of, is_printable, start_by, line_start};
 
 use sort_lexer::{between, same_bytes, skip_spaces, unread};
 
-// The words of a line, each as a number, and how many there are.
-#[derive(Clone, Copy, Drop)]
-pub struct Tokens {
-    pub values: [u32; MOST_WORDS],
-    pub count: u16,
+// The words of the format that are no number and no name with one.
+#[derive(Clone, Copy, Debug, PartialEq, Eq)]
+pub enum Keyword {
+    List,
+    Bare,
+    Sort,
+    Entries,
+    Node,
+    NodeEntries,
+    Pad,
+    Var,
+    Vars,
+    Bind,
+    Expr,
+    Name,
+    Default,
+    Ceilings,
+    Count,
+    Lend,
+    Sub,
+    Lit,
+    Comprehension,
+    Disjunction,
+    Join,
+    Constraint,
+    Overload,
+    Ask,
+    Answer,
+    ListOf,
+    SetOf,
+    FSetOf,
+    BagOf,
+    FBagOf,
+    Fn,
+    Def,
+    TypeVar,
+    Raw,
+    Arrow,
+    Variable,
+    Op,
+    Builtin,
+    Positive,
+    Natural,
+    Sorts,
+    Nodes,
+    Bindings,
+    Exprs,
+    Names,
+    Constraints,
+    Overloads,
+    Sources,
+    Scratch,
+    OutTyping,
+    OutMeasure,
+    OutChoices,
+    Solve,
+    Unify,
+    PartialCmp,
+    Meet,
+    WideningDistance,
+    IsMaterializable,
+    Unit,
+    Bool,
+    Pos,
+    Nat,
+    Int,
+    Real,
+}
+
+// A word of a line: a word of the format, a number, a name (`sN`, `nN`, `vN`, `eN`) by its number, or none of these.
+#[derive(Clone, Copy, Debug, PartialEq, Eq)]
+pub enum Token {
+    Keyword(Keyword),
+    Number(u16),
+    Sort(u16),
+    Node(u16),
+    Var(u16),
+    Expr(u16),
+    Other,
 }
 
 // What a line begins with: nothing or a comment, `=`, `list`, or another word.
-#[derive(Drop)]
+#[derive(Clone, Copy, Debug, PartialEq, Eq)]
 pub enum Start {
     Skipped,
     Answer,
@@ -28,145 +101,215 @@ pub enum Start {
     Other,
 }
 
-// Where each word begins in the bytes of all, and the last one ends.
-const STARTS: [usize; WORDS + 1] = [
-    0, 4, 8, 12, 19, 23, 35, 38, 41, 45, 49, 53, 57, 64, 72, 77, 81, 84, 87, 100, 111, 115, 125,
-    133, 134, 135, 139, 142, 146, 149, 153, 155, 158, 165, 168, 170, 178, 180, 187, 195, 202, 207,
-    212, 220, 225, 230, 241, 250, 257, 264, 274, 285, 296, 301, 306, 317, 321, 338, 355, 359, 363,
-    366, 369, 372, 376,
+// The words of the format, in the order in which a word is looked up.
+const KEYWORDS: [Keyword; 64] = [
+    Keyword::List,
+    Keyword::Bare,
+    Keyword::Sort,
+    Keyword::Entries,
+    Keyword::Node,
+    Keyword::NodeEntries,
+    Keyword::Pad,
+    Keyword::Var,
+    Keyword::Vars,
+    Keyword::Bind,
+    Keyword::Expr,
+    Keyword::Name,
+    Keyword::Default,
+    Keyword::Ceilings,
+    Keyword::Count,
+    Keyword::Lend,
+    Keyword::Sub,
+    Keyword::Lit,
+    Keyword::Comprehension,
+    Keyword::Disjunction,
+    Keyword::Join,
+    Keyword::Constraint,
+    Keyword::Overload,
+    Keyword::Ask,
+    Keyword::Answer,
+    Keyword::ListOf,
+    Keyword::SetOf,
+    Keyword::FSetOf,
+    Keyword::BagOf,
+    Keyword::FBagOf,
+    Keyword::Fn,
+    Keyword::Def,
+    Keyword::TypeVar,
+    Keyword::Raw,
+    Keyword::Arrow,
+    Keyword::Variable,
+    Keyword::Op,
+    Keyword::Builtin,
+    Keyword::Positive,
+    Keyword::Natural,
+    Keyword::Sorts,
+    Keyword::Nodes,
+    Keyword::Bindings,
+    Keyword::Exprs,
+    Keyword::Names,
+    Keyword::Constraints,
+    Keyword::Overloads,
+    Keyword::Sources,
+    Keyword::Scratch,
+    Keyword::OutTyping,
+    Keyword::OutMeasure,
+    Keyword::OutChoices,
+    Keyword::Solve,
+    Keyword::Unify,
+    Keyword::PartialCmp,
+    Keyword::Meet,
+    Keyword::WideningDistance,
+    Keyword::IsMaterializable,
+    Keyword::Unit,
+    Keyword::Bool,
+    Keyword::Pos,
+    Keyword::Nat,
+    Keyword::Int,
+    Keyword::Real,
 ];
 
-// Whether bytes are the word at a place of the list of words, from 0 on.
-fn is_word(w: &[u8], k: usize) -> bool
-    ensures { result ≡ same_bytes w.now (get_or words k []) }
-{
-    if k < WORDS {
-        let from = STARTS[k];
-        let to = STARTS[k + 1];
-        return same_bytes(
-            w,
-            between(
-                b"listbare\
-                  sortentriesnodenode-entriespadvarvarsbindexprnamedefaultceilingscountlend\
-                  sublitcomprehensiondisjunctionjoinconstraintoverload\
-                  ?=\
-                  ListSetFSetBagFBagfnDefTypeVarraw->\
-                  variableopbuiltinpositivenatural\
-                  sortsnodesbindingsexprsnamesconstraintsoverloadssources\
-                  scratchout-typingout-measureout-choices\
-                  solveunifypartial_cmpmeetwidening_distanceis_materializable\
-                  unitBoolPosNatIntReal",
-                from,
-                to,
-            ),
-        );
+impl Keyword {
+    // The word as it is written.
+    #[tactic(auto, unfolding(crate::specs::Words::spelling))]
+    pub fn spelling(self) -> &'static [u8]
+        ensures { result.now ≡ spelling self }
+    {
+        match self {
+            Keyword::List => b"list",
+            Keyword::Bare => b"bare",
+            Keyword::Sort => b"sort",
+            Keyword::Entries => b"entries",
+            Keyword::Node => b"node",
+            Keyword::NodeEntries => b"node-entries",
+            Keyword::Pad => b"pad",
+            Keyword::Var => b"var",
+            Keyword::Vars => b"vars",
+            Keyword::Bind => b"bind",
+            Keyword::Expr => b"expr",
+            Keyword::Name => b"name",
+            Keyword::Default => b"default",
+            Keyword::Ceilings => b"ceilings",
+            Keyword::Count => b"count",
+            Keyword::Lend => b"lend",
+            Keyword::Sub => b"sub",
+            Keyword::Lit => b"lit",
+            Keyword::Comprehension => b"comprehension",
+            Keyword::Disjunction => b"disjunction",
+            Keyword::Join => b"join",
+            Keyword::Constraint => b"constraint",
+            Keyword::Overload => b"overload",
+            Keyword::Ask => b"?",
+            Keyword::Answer => b"=",
+            Keyword::ListOf => b"List",
+            Keyword::SetOf => b"Set",
+            Keyword::FSetOf => b"FSet",
+            Keyword::BagOf => b"Bag",
+            Keyword::FBagOf => b"FBag",
+            Keyword::Fn => b"fn",
+            Keyword::Def => b"Def",
+            Keyword::TypeVar => b"TypeVar",
+            Keyword::Raw => b"raw",
+            Keyword::Arrow => b"->",
+            Keyword::Variable => b"variable",
+            Keyword::Op => b"op",
+            Keyword::Builtin => b"builtin",
+            Keyword::Positive => b"positive",
+            Keyword::Natural => b"natural",
+            Keyword::Sorts => b"sorts",
+            Keyword::Nodes => b"nodes",
+            Keyword::Bindings => b"bindings",
+            Keyword::Exprs => b"exprs",
+            Keyword::Names => b"names",
+            Keyword::Constraints => b"constraints",
+            Keyword::Overloads => b"overloads",
+            Keyword::Sources => b"sources",
+            Keyword::Scratch => b"scratch",
+            Keyword::OutTyping => b"out-typing",
+            Keyword::OutMeasure => b"out-measure",
+            Keyword::OutChoices => b"out-choices",
+            Keyword::Solve => b"solve",
+            Keyword::Unify => b"unify",
+            Keyword::PartialCmp => b"partial_cmp",
+            Keyword::Meet => b"meet",
+            Keyword::WideningDistance => b"widening_distance",
+            Keyword::IsMaterializable => b"is_materializable",
+            Keyword::Unit => b"unit",
+            Keyword::Bool => b"Bool",
+            Keyword::Pos => b"Pos",
+            Keyword::Nat => b"Nat",
+            Keyword::Int => b"Int",
+            Keyword::Real => b"Real",
+        }
     }
-    w.len() == 0
 }
 
-// The place of a word in the list of words, from 1 on; 0 where it is none of them.
-fn keyword_of(w: &[u8]) -> u8
+// Whether two words of the format are the same.
+#[tactic(auto, using(crate::proofs::Places::same_words))]
+pub fn same_word(a: Keyword, b: Keyword) -> bool
+    ensures { result ≡ same_word a b }
+{
+    a == b
+}
+
+// The word of the format that bytes are.
+fn keyword_of(w: &[u8]) -> Option<Keyword>
     ensures { result ≡ keyword_of w.now }
 {
-    let mut k: usize = 0;
-    while k < WORDS {
-        if is_word(w, k) {
-            return (k as u8) + 1;
-        }
-        k += 1;
-    }
-    0
+    KEYWORDS
+        .iter()
+        .find(|keyword| same_bytes(w, keyword.spelling()))
+        .copied()
 }
 
-fn wide(d: u8) -> u32
-    ensures { result ≡ d }
-{
-    d as u32
-}
-
-// The number that digits say, up to 65,535; else 65,536.
-fn digits_of(w: &[u8]) -> u32
+// The number that digits say, up to 65,535.
+fn digits_of(w: &[u8]) -> Option<u16>
     ensures { result ≡ decimal_read 0 w.now }
 {
-    let mut i: usize = 0;
-    let mut value: u32 = 0;
-    while i < w.len() {
-        let b = w[i];
-        if b < b'0' {
-            return NO_NUMBER;
+    let mut value: u16 = 0;
+    for b in w {
+        if !b.is_ascii_digit() {
+            return None;
         }
-        if b'9' < b {
-            return NO_NUMBER;
-        }
-        let next = value * 10 + wide(b - b'0');
-        if MOST_NUMBER < next {
-            return NO_NUMBER;
-        }
-        value = next;
-        i += 1;
+        value = value.checked_mul(10)?.checked_add(u16::from(*b - b'0'))?;
     }
-    value
+    Some(value)
 }
 
 // The number that a word says: at least one digit, and no zero before another one.
-fn number_of(w: &[u8]) -> u32
+#[tactic(auto, unfolding(crate::specs::Tokens::number_read))]
+fn number_of(w: &[u8]) -> Option<u16>
     ensures { result ≡ number_read w.now }
 {
-    if w.len() == 0 {
-        return NO_NUMBER;
+    match w {
+        [] | [b'0', _, ..] => None,
+        _ => digits_of(w),
     }
-    if w.len() <= 1 {
-        return digits_of(w);
-    }
-    if w[0] == b'0' {
-        return NO_NUMBER;
-    }
-    digits_of(w)
 }
 
-// A number of a class.
-fn classed(class: u32, n: u32) -> u32
-    requires { class ≤ most_class }
-    ensures { result ≡ class_of class n }
-{
-    if n < NO_NUMBER { class + n } else { 0 }
-}
-
-// The number of a name: `sN`, `nN`, `vN`, `eN` or a number alone.
-fn name_of(w: &[u8]) -> u32
+// A number alone, or a name: `sN`, `nN`, `vN` or `eN`.
+#[tactic(auto, unfolding(crate::specs::Tokens::name_token))]
+fn name_of(w: &[u8]) -> Token
     ensures { result ≡ name_token w.now }
 {
-    if w.len() == 0 {
-        return 0;
+    match w {
+        [b's', digits @ ..] => number_of(digits).map_or(Token::Other, Token::Sort),
+        [b'n', digits @ ..] => number_of(digits).map_or(Token::Other, Token::Node),
+        [b'v', digits @ ..] => number_of(digits).map_or(Token::Other, Token::Var),
+        [b'e', digits @ ..] => number_of(digits).map_or(Token::Other, Token::Expr),
+        _ => number_of(w).map_or(Token::Other, Token::Number),
     }
-    let letter = w[0];
-    if letter == b's' {
-        return classed(SORT_NAME, number_of(unread(w, 1)));
-    }
-    if letter == b'n' {
-        return classed(NODE_NAME, number_of(unread(w, 1)));
-    }
-    if letter == b'v' {
-        return classed(VAR_NAME, number_of(unread(w, 1)));
-    }
-    if letter == b'e' {
-        return classed(EXPR_NAME, number_of(unread(w, 1)));
-    }
-    classed(NUMBER, number_of(w))
 }
 
-// The number of a word.
-fn token_of(w: &[u8]) -> u32
+// A word by its bytes.
+#[tactic(auto, unfolding(crate::specs::Tokens::token_of))]
+fn token_of(w: &[u8]) -> Token
     ensures { result ≡ token_of w.now }
 {
-    let k = wide(keyword_of(w));
-    if k == 0 {
-        return name_of(w);
+    match keyword_of(w) {
+        Some(keyword) => Token::Keyword(keyword),
+        None => name_of(w),
     }
-    if k < K_UNIT {
-        return k;
-    }
-    FIXED_SORT + (k - K_UNIT)
 }
 
 // The end of the word from `at` on.
@@ -183,48 +326,48 @@ fn word_end(line: &[u8], at: usize) -> usize
     line.len()
 }
 
-// The words of a line, MOST_WORDS at most.
-pub fn tokens_of(line: &[u8]) -> Tokens
-    ensures { result ≡ tokens_of line.now }
+// The words of a line, put at the front of the room lent for them, as far as it has room; how many they are.
+fn put_words(line: &[u8], words: &mut [Token; MOST_WORDS]) -> usize
+    ensures words { take result words.new ≡ tokens_of line.now }
+    ensures within { result ≤ 100 }
 {
-    let mut values = [0u32; MOST_WORDS];
-    let mut count: usize = 0;
     let mut at: usize = 0;
-    while count < MOST_WORDS {
+    for count in 0..MOST_WORDS {
         let from = skip_spaces(line, at);
         if line.len() <= from {
-            return Tokens {
-                values,
-                count: count as u16,
-            };
+            return count;
         }
         let to = word_end(line, from);
-        values[count] = token_of(between(line, from, to));
-        count += 1;
+        words[count] = token_of(between(line, from, to));
         at = to;
     }
-    Tokens {
-        values,
-        count: count as u16,
-    }
+    MOST_WORDS
+}
+
+// The words of a line, in the room lent for them, MOST_WORDS at most.
+pub fn tokens_of<'a>(line: &[u8], words: &'a mut [Token; MOST_WORDS]) -> &'a [Token]
+    ensures { result.now ≡ tokens_of line.now }
+{
+    let count = put_words(line, words);
+    &words[..count]
 }
 
 // Whether all bytes are printable ASCII.
 pub fn printable(line: &[u8]) -> bool
-    ensures { result ≡ printable_from line.now }
+    ensures { result ≡ list_all is_printable line.now }
 {
-    let mut i: usize = 0;
-    while i < line.len() {
-        let b = line[i];
-        if b < b' ' {
-            return false;
-        }
-        if b'~' < b {
-            return false;
-        }
-        i += 1;
+    line.iter().all(|b| (b' '..=b'~').contains(b))
+}
+
+// What a line with words begins with, by the first of them.
+fn start_by(word: Token) -> Start
+    ensures { result ≡ start_by word }
+{
+    match word {
+        Token::Keyword(Keyword::Answer) => Start::Answer,
+        Token::Keyword(Keyword::List) => Start::NewList,
+        _ => Start::Other,
     }
-    true
 }
 
 // What a line begins with.
@@ -239,128 +382,8 @@ pub fn start_of(line: &[u8]) -> Start
         return Start::Skipped;
     }
     let to = word_end(line, from);
-    let word = token_of(between(line, from, to));
-    if word == K_ANSWER {
-        return Start::Answer;
-    }
-    if word == K_LIST {
-        return Start::NewList;
-    }
-    Start::Other
+    start_by(token_of(between(line, from, to)))
 }
 
 // A line of at most MAX_LINE bytes has at most so many words.
-const MOST_WORDS: usize = 100;
-
-// The classes of words that are a number or a name with one. Below them a word is known by its place in the list of
-// words, from 1 on.
-pub const NUMBER: u32 = 65536;
-
-pub const SORT_NAME: u32 = 131072;
-
-pub const NODE_NAME: u32 = 196608;
-
-pub const VAR_NAME: u32 = 262144;
-
-pub const EXPR_NAME: u32 = 327680;
-
-pub const FIXED_SORT: u32 = 393216;
-
-// The greatest number, and what stands for none.
-const MOST_NUMBER: u32 = 65535;
-
-const NO_NUMBER: u32 = 65536;
-
-// How many words there are in the list of words.
-const WORDS: usize = 64;
-
-// Words of the list by their place; those of the fixed six sorts begin at K_UNIT.
-const K_LIST: u32 = 1;
-
-pub const K_BARE: u32 = 2;
-
-pub const K_SORT: u32 = 3;
-
-pub const K_ENTRIES: u32 = 4;
-
-pub const K_NODE: u32 = 5;
-
-pub const K_NODE_ENTRIES: u32 = 6;
-
-pub const K_PAD: u32 = 7;
-
-pub const K_VAR: u32 = 8;
-
-pub const K_VARS: u32 = 9;
-
-pub const K_BIND: u32 = 10;
-
-pub const K_EXPR: u32 = 11;
-
-pub const K_NAME: u32 = 12;
-
-pub const K_DEFAULT: u32 = 13;
-
-pub const K_CEILINGS: u32 = 14;
-
-pub const K_COUNT: u32 = 15;
-
-pub const K_LEND: u32 = 16;
-
-pub const K_SUB: u32 = 17;
-
-pub const K_LIT: u32 = 18;
-
-pub const K_COMPREHENSION: u32 = 19;
-
-pub const K_DISJUNCTION: u32 = 20;
-
-pub const K_JOIN: u32 = 21;
-
-pub const K_CONSTRAINT: u32 = 22;
-
-pub const K_OVERLOAD: u32 = 23;
-
-pub const K_ASK: u32 = 24;
-
-const K_ANSWER: u32 = 25;
-
-pub const K_LIST_OF: u32 = 26;
-
-pub const K_FN: u32 = 31;
-
-pub const K_DEF: u32 = 32;
-
-pub const K_TYPE_VAR: u32 = 33;
-
-pub const K_RAW: u32 = 34;
-
-pub const K_ARROW: u32 = 35;
-
-pub const K_VARIABLE: u32 = 36;
-
-pub const K_OP: u32 = 37;
-
-pub const K_BUILTIN: u32 = 38;
-
-pub const K_POSITIVE: u32 = 39;
-
-pub const K_SORTS: u32 = 41;
-
-pub const K_NODES: u32 = 42;
-
-pub const K_SOURCES: u32 = 48;
-
-pub const K_SOLVE: u32 = 53;
-
-pub const K_UNIFY: u32 = 54;
-
-pub const K_PARTIAL_CMP: u32 = 55;
-
-pub const K_MEET: u32 = 56;
-
-pub const K_WIDENING_DISTANCE: u32 = 57;
-
-pub const K_IS_MATERIALIZABLE: u32 = 58;
-
-const K_UNIT: u32 = 59;
+pub const MOST_WORDS: usize = 100;

@@ -1,12 +1,15 @@
--- Word after word. Assumes nothing.
-use Rattle.list_tokens.proofs.Finding as law
+-- The first word that is the same. Assumes nothing.
+use Rattle.std.proofs.Common.{rules, tests, ◌∙◌}
+use Rattle.std.proofs.lemmas.Iterator.{YieldsList-from_slice}
+use Rattle.std.proofs.lemmas.Iterator.Search.{find_from_yields_List}
+use Rattle.sort_text.specs.Parse.{same_bytes}
+use Rattle.list_tokens.specs.Words.{spelling, keywords, keyword_of}
 use Rattle.list_tokens.proofs.keyword_of.Goals as goal
 
-pub returns-then-is_word : goal.returns-then-is_word
-returns-then-is_word c = search law.found_here
-
-pub loop-k-preserved : goal.loop-k-preserved
-loop-k-preserved c = search law.not_here
-
 pub returns : goal.returns
-returns c = search law.found_nowhere
+unfolding keyword_of
+returns c =
+    c.copied.ensures
+    ∙ find_from_yields_List (λ k. same_bytes c.args.w.now (spelling k)) _ _ c.find.result c.find.ensures.ran
+    (YieldsList-from_slice keywords cc)
+    (λ x b q k. search (rules, tests))

@@ -8,11 +8,5 @@ returns-then-line-from c = search law.line_without_words
 pub returns-then-line-from-eq35 : goal.returns-then-line-from-eq35
 returns-then-line-from-eq35 c = search law.line_of_a_comment
 
-pub returns-then-word-eq-K_ANSWER : goal.returns-then-word-eq-K_ANSWER
-returns-then-word-eq-K_ANSWER c = search law.line_of_an_answer
-
-pub returns-then-word-eq-K_LIST : goal.returns-then-word-eq-K_LIST
-returns-then-word-eq-K_LIST c = search law.line_of_a_list
-
 pub returns : goal.returns
-returns c = search law.line_of_another
+returns c = search law.line_of_a_word

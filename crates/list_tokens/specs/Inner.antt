@@ -1,2 +1,0 @@
--- What only contracts of inner functions cite.
-pub mod Tokens
