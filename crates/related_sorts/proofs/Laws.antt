@@ -13,8 +13,7 @@ use borrow.Author.Tests.{lt-ltb, le-ltb, le-leb, lt-leb}
 use Rattle.resolved_sort.specs.declared.ComplexSort.{ComplexSort}
 use Rattle.resolved_sort.specs.declared.SortId.{SortId}
 use Rattle.resolved_sort.specs.declared.Counts.{Counts}
-use Rattle.resolved_sort.specs.declared.OpBound.{OpBound}
-use Rattle.resolved_sort.specs.declared.OpBound.TheVariants.{Is, Nothing as NoOp}
+use Rattle.std.specs.Prelude.{Option as Found, Some, None}
 use Rattle.resolved_sort.specs.declared.Joined.{Joined}
 use Rattle.resolved_sort.specs.declared.Joined.TheVariants.{At as JoinedAt, Nothing as JoinedNothing, Full as JoinedFull}
 use Rattle.resolved_sort.specs.Tree.{Tree, container}
@@ -23,8 +22,8 @@ use Rattle.resolved_sort.specs.Storage.{function_kind, Row, kind_op, put_row, tr
 use Rattle.resolved_sort.specs.Entries.{Stored, stored}
 use Rattle.resolved_sort.specs.Rows.{Checked, stored_at}
 use Rattle.resolved_sort.specs.Bounds.{intern_at}
-use Rattle.resolved_sort.specs.Inner.Bounds.{op_bound}
 use Rattle.resolved_sort.proofs.Grown.{after_none, more}
+use Rattle.resolved_sort.proofs.Reached.{no_confusion}
 use Rattle.sort_interner.proofs.Runs.{length_given}
 use Rattle.unification.specs.declared.Lengths.{Lengths}
 use Rattle.unification.specs.declared.Pushed.{Pushed}
@@ -39,7 +38,7 @@ use Rattle.unification.specs.Making.{Lent, Makes, made, no_room, ◌and-then◌,
 use Rattle.unification.specs.Making.{append_node, intern_container, related_over, push_functions}
 use Rattle.unification.specs.Inner.Making.{lent}
 use Rattle.unification.specs.Resolve.{with_counts}
-use Rattle.related_sorts.specs.Inner.Outcome.{row, pushed, three_places, no_places, related_made, place_before, places_after, AreThese, AtMost, Ranges, ListsAtMost, Relates}
+use Rattle.related_sorts.specs.Inner.Outcome.{found_op, row, pushed, three_places, no_places, related_made, place_before, places_after, AreThese, AtMost, Ranges, ListsAtMost, Relates}
 
 -- numbers
 pub are_these : (r t : Three) → r ≡ t → (ps : List ℕ) → three_places t ≡ ps → t.count ≤ 3 → AreThese r ps
@@ -216,21 +215,21 @@ one_place : (ws ns : List ℕ) (p : InferSortId) (k : Lengths) (a : Related) →
 one_place ws ns p k a y = record { says = ap (related_made ws ns) y; few = subst Ranges (sym y) (omega arith) }
 
 -- containers
-module _ (up : Bool) (o : ComplexSort) (b : OpBound) (e : b ≡ op_bound (related_container up o)) where
-  op_is : (x : Option ComplexSort) (q : ComplexSort) → op_bound x ≡ Is q → x ≡ some q
-  op_is none q z = absurd (let w : ◌≡◌ {A = ℕ} 0 1 = cc in omega arith)
+module _ (up : Bool) (o : ComplexSort) (b : Found ComplexSort) (e : b ≡ found_op (related_container up o)) where
+  op_is : (x : Option ComplexSort) (q : ComplexSort) → found_op x ≡ Some q → x ≡ some q
+  op_is none q z = no_confusion (cc)
   op_is (some p) q z = cc
 
-  op_none : (x : Option ComplexSort) → op_bound x ≡ NoOp → x ≡ none
+  op_none : (x : Option ComplexSort) → found_op x ≡ None → x ≡ none
   op_none none z = refl
-  op_none (some p) z = absurd (let w : ◌≡◌ {A = ℕ} 0 1 = cc in omega arith)
+  op_none (some p) z = no_confusion (cc)
 
-  pub no_container : b ≡ NoOp → (sort : Bool) (s : ℕ) (ws ns : List ℕ) (k : Lengths) (a : Related) → a ≡ These no_places k
+  pub no_container : b ≡ None → (sort : Bool) (s : ℕ) (ws ns : List ℕ) (k : Lengths) (a : Related) → a ≡ These no_places k
       → Relates ws ns a (related_over (related_container up o) sort s (lent ws ns k))
   no_container z sort s ws ns k a y = relates_as ws ns a (no_places_lem ws ns k a y)
       (sym (ap (λ x. related_over x sort s (lent ws ns k)) (op_none (related_container up o) (sym e ∙ z))))
 
-  module _ (q : ComplexSort) (z : b ≡ Is q) (s : ℕ) (ws ns : List ℕ) (k : Lengths) where
+  module _ (q : ComplexSort) (z : b ≡ Some q) (s : ℕ) (ws ns : List ℕ) (k : Lengths) where
     is_some : related_container up o ≡ some q
     is_some = op_is (related_container up o) q (sym e ∙ z)
 

@@ -6,7 +6,6 @@
 ghost use Rattle.std.specs.Prelude.{◌≡◌, true, false, ◌+◌, ◌<◌, ◌≤◌, length, take};
 ghost use Rattle.resolved_sort.specs.Tree.{primitive};
 ghost use Rattle.resolved_sort.specs.Storage.{max_sorts, max_arguments, kind_flat};
-ghost use Rattle.resolved_sort.specs.Inner.Bounds.{op_bound};
 ghost use Rattle.resolved_sort.specs.Rows.{Checked};
 ghost use Rattle.unification.specs.Inner.Term.{parts_of};
 ghost use Rattle.unification.specs.Nodes.{max_places, binds_of};
@@ -16,7 +15,7 @@ ghost use Rattle.unification.specs.Making.{◌and-then◌, push_node, related_ov
 ghost use Rattle.unification.specs.Making.{strict_related};
 ghost use Rattle.unification.specs.Inner.Making.{lent};
 ghost use Rattle.infer_nodes.specs.Inner.Parts.{NodesReady};
-ghost use Rattle.related_sorts.specs.Inner.Outcome.{pushed, three_places, related_made, row, AreThese, AtMost};
+ghost use Rattle.related_sorts.specs.Inner.Outcome.{found_op, pushed, three_places, related_made, row, AreThese, AtMost};
 ghost use Rattle.related_sorts.specs.Inner.Outcome.{ListsAtMost, Ranges, Relates, IsFunction, FunctionAt};
 ghost use Rattle.related_sorts.specs.Inner.Outcome.{place_before, places_after, no_places};
 ghost use Rattle.related_sorts.specs.Inner.Ranges.{related_head, over_function, outwards, Stands, AllStand};
@@ -24,7 +23,7 @@ ghost use Rattle.related_sorts.specs.Inner.Ranges.{FinalRange, SixThere};
 
 use infer_nodes::{Bindings, Places, counts_of, node, taken_apart, with_counts};
 use resolved_sort::{
-    ARGUMENT_WORDS, ComplexSort, FUNCTION_KIND, Joined, OpBound, ResolvedSort, Sort, SortId,
+    ARGUMENT_WORDS, ComplexSort, FUNCTION_KIND, Joined, ResolvedSort, Sort, SortId,
 };
 use sort_interner::{generic, get, kind_of_op, put_args, put_row, start_of};
 use unification::{
@@ -33,36 +32,18 @@ use unification::{
 };
 
 // The numbers strictly above or below `sort`, in ascending distance.
+#[tactic(auto, unfolding(unification::specs::Related::related_numbers))]
 fn related_numbers(sort: Sort, up: bool) -> Three
     ensures { AreThese result (related_places up (primitive sort)) }
 {
-    if up {
-        return wider_numbers(sort);
-    }
-    narrower_numbers(sort)
-}
-
-fn wider_numbers(sort: Sort) -> Three
-    ensures { AreThese result (related_places true (primitive sort)) }
-{
-    match sort {
-        Sort::Bool => first_of(0, Sort::Bool, Sort::Bool, Sort::Bool),
-        Sort::Pos => first_of(3, Sort::Nat, Sort::Int, Sort::Real),
-        Sort::Nat => first_of(2, Sort::Int, Sort::Real, Sort::Real),
-        Sort::Int => first_of(1, Sort::Real, Sort::Real, Sort::Real),
-        Sort::Real => first_of(0, Sort::Real, Sort::Real, Sort::Real),
-    }
-}
-
-fn narrower_numbers(sort: Sort) -> Three
-    ensures { AreThese result (related_places false (primitive sort)) }
-{
-    match sort {
-        Sort::Bool => first_of(0, Sort::Bool, Sort::Bool, Sort::Bool),
-        Sort::Pos => first_of(0, Sort::Pos, Sort::Pos, Sort::Pos),
-        Sort::Nat => first_of(1, Sort::Pos, Sort::Pos, Sort::Pos),
-        Sort::Int => first_of(2, Sort::Nat, Sort::Pos, Sort::Pos),
-        Sort::Real => first_of(3, Sort::Int, Sort::Nat, Sort::Pos),
+    match (sort, up) {
+        (Sort::Pos, true) => first_of(3, Sort::Nat, Sort::Int, Sort::Real),
+        (Sort::Nat, true) => first_of(2, Sort::Int, Sort::Real, Sort::Real),
+        (Sort::Int, true) => first_of(1, Sort::Real, Sort::Real, Sort::Real),
+        (Sort::Nat, false) => first_of(1, Sort::Pos, Sort::Pos, Sort::Pos),
+        (Sort::Int, false) => first_of(2, Sort::Nat, Sort::Pos, Sort::Pos),
+        (Sort::Real, false) => first_of(3, Sort::Int, Sort::Nat, Sort::Pos),
+        _ => first_of(0, sort, sort, sort),
     }
 }
 
@@ -85,37 +66,24 @@ fn first_of(count: u16, first: Sort, second: Sort, third: Sort) -> Three
 }
 
 // The place of a fixed sort: Bool, Pos, Nat, Int and Real are the sorts 1 to 5.
+#[tactic(auto, unfolding(resolved_sort::specs::Storage::kind_flat))]
 fn number_place(sort: Sort) -> InferSortId
     ensures { result ≡ record { 0 = kind_flat (primitive sort) } }
 {
-    match sort {
-        Sort::Bool => InferSortId(1),
-        Sort::Pos => InferSortId(2),
-        Sort::Nat => InferSortId(3),
-        Sort::Int => InferSortId(4),
-        Sort::Real => InferSortId(5),
-    }
+    InferSortId(1 + sort as u16)
 }
 
 // The container constructor strictly above or below `op` in the finiteness ordering `FSet <= Set`, `FBag <= Bag`.
-fn related_container(op: ComplexSort, up: bool) -> OpBound
-    ensures { result ≡ op_bound (related_container up op) }
+#[tactic(auto, unfolding(unification::specs::Related::related_container))]
+fn related_container(op: ComplexSort, up: bool) -> Option<ComplexSort>
+    ensures { result ≡ found_op (related_container up op) }
 {
-    if up {
-        return match op {
-            ComplexSort::List => OpBound::Nothing,
-            ComplexSort::Set => OpBound::Nothing,
-            ComplexSort::FSet => OpBound::Is(ComplexSort::Set),
-            ComplexSort::Bag => OpBound::Nothing,
-            ComplexSort::FBag => OpBound::Is(ComplexSort::Bag),
-        };
-    }
-    match op {
-        ComplexSort::List => OpBound::Nothing,
-        ComplexSort::Set => OpBound::Is(ComplexSort::FSet),
-        ComplexSort::FSet => OpBound::Nothing,
-        ComplexSort::Bag => OpBound::Is(ComplexSort::FBag),
-        ComplexSort::FBag => OpBound::Nothing,
+    match (op, up) {
+        (ComplexSort::FSet, true) => Some(ComplexSort::Set),
+        (ComplexSort::FBag, true) => Some(ComplexSort::Bag),
+        (ComplexSort::Set, false) => Some(ComplexSort::FSet),
+        (ComplexSort::Bag, false) => Some(ComplexSort::FBag),
+        _ => None,
     }
 }
 
@@ -284,14 +252,14 @@ fn related_generic(
         (lent sorts.old nodes.now lengths)) }
 {
     match related_container(op, up) {
-        OpBound::Is(related_op) => {
+        Some(related_op) => {
             match generic(sorts, counts_of(lengths), related_op, subsort) {
                 Joined::At(id, made) => only(InferSortId(id.0), with_counts(lengths, made)),
                 Joined::Nothing(_) => Related::NoList(lengths),
                 Joined::Full => Related::Full(15, lengths),
             }
         }
-        OpBound::Nothing => none(lengths),
+        None => none(lengths),
     }
 }
 
@@ -309,7 +277,7 @@ fn push_generic(
         (lent sorts.now nodes.old lengths)) }
 {
     match related_container(op, up) {
-        OpBound::Is(related_op) => {
+        Some(related_op) => {
             match push(
                 sorts,
                 nodes,
@@ -323,7 +291,7 @@ fn push_generic(
                 Pushed::Full => Related::Full(16, lengths),
             }
         }
-        OpBound::Nothing => none(lengths),
+        None => none(lengths),
     }
 }
 

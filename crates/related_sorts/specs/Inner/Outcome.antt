@@ -1,5 +1,7 @@
 -- What the code of this crate answers and leaves, as the definition has it.
-use Rattle.std.specs.Prelude.{◌≡◌, List, [], ◌∷◌, ℕ, suc, ◌+◌, ◌-◌, ◌≤◌, length, take}
+use Rattle.std.specs.Prelude.{Option as Found, Some, None, ◌≡◌, List, [], ◌∷◌, ℕ, suc, ◌+◌, ◌-◌, ◌≤◌, length, take}
+use Rattle.std.proofs.Math.Option.{Option, none, some}
+use Rattle.resolved_sort.specs.declared.ComplexSort.{ComplexSort}
 use Rattle.resolved_sort.specs.Storage.{max_arguments, Row}
 use Rattle.unification.specs.declared.InferSortId.{InferSortId}
 use Rattle.unification.specs.declared.Lengths.{Lengths}
@@ -13,6 +15,11 @@ use Rattle.unification.specs.Inner.Term.{parts_of}
 use Rattle.unification.specs.Checked.{NodesChecked, graph_of, Placed}
 use Rattle.unification.specs.Making.{Makes, made, no_list, no_room}
 use Rattle.unification.specs.Inner.Making.{lent}
+
+-- a container constructor, where there is one
+abbrev pub found_op : Option ComplexSort → Found ComplexSort
+found_op none = None
+found_op (some o) = Some o
 
 abbrev pub row : ℕ → ℕ → List ℕ → Row
 row kind part args = record { kind = kind; part = part; args = args }
