@@ -127,14 +127,14 @@ module _ (known known' : Option (List ℕ)) (buffer line : List ℕ) (input : In
       ∙ append-nil taken))
 
 -- The same of a call of `next_line` of `Lines`, by its answer.
-found_line : (f : LineFound) (n m : ℕ) (r : Result (Option ℕ) Error) → Answers f n r → r ≡ Ok (Some m) → (f ≡ Line) × (m ≡ n)
+pub found_line : (f : LineFound) (n m : ℕ) (r : Result (Option ℕ) Error) → Answers f n r → r ≡ Ok (Some m) → (f ≡ Line) × (m ≡ n)
 unfolding Answers
 found_line Line n m r a e = (refl, let z : ◌≡◌ {A = Result (Option ℕ) Error} (Ok (Some m)) (Ok (Some n)) = sym e ∙ a in cc z)
 found_line End n m r a e = absurd (let z : ◌≡◌ {A = Result (Option ℕ) Error} (Ok (Some m)) (Ok None) = sym e ∙ a in cc z)
 found_line Failed n m r a e = absurd (let z = subst IsErr e a in cc z)
 found_line Nothing n m r a e = absurd (subst (λ x. IsErrAnd x (λ k. error_kind k ≡ TimedOut)) e a)
 
-found_end : (f : LineFound) (n : ℕ) (r : Result (Option ℕ) Error) → Answers f n r → r ≡ Ok None → f ≡ End
+pub found_end : (f : LineFound) (n : ℕ) (r : Result (Option ℕ) Error) → Answers f n r → r ≡ Ok None → f ≡ End
 unfolding Answers
 found_end Line n r a e = absurd (let z : ◌≡◌ {A = Result (Option ℕ) Error} (Ok None) (Ok (Some n)) = sym e ∙ a in cc z)
 found_end End n r a e = refl

@@ -11,38 +11,13 @@ use Rattle.inference.specs.SolveChecks.{Call}
 use Rattle.inference.specs.SolveEntry.{solve_entry, code_solved}
 use Rattle.inference.specs.ListsLeft.{counts_told}
 use Rattle.inference.proofs.ListsLeft.{sorts_only_grow}
-use Rattle.text_out.specs.Within.{buffer, puts}
-use Rattle.text_out.specs.Within.{PutWithin}
+use Rattle.text_out.specs.declared.Out.{Out}
+use Rattle.text_out.specs.Outs.{then_put}
 use Rattle.list_verdict.specs.Text.{verdict_line, new_lines, typing_text}
 use Rattle.list_call.specs.Lists.{call_count, sorts_in, typing_in, measure_in, choices_in, call_on}
 use Rattle.list_solve.specs.Inner.Asked.{ListAnswer, list_answer, list_answer_of}
-use Rattle.list_answers.specs.Answer.{lines_under, told_text, answer_text, answer_left}
-use Rattle.list_answers.specs.Inner.Answer.{Tellable, Told, told, told_of}
-
--- by the case of the answer
-module _ (g x : ℕ) (r : Solved) (ss ts ms cs : List ℕ) where
-  pub refused_told : (c : ℕ) → r ≡ Refused c → verdict_line c ≡ told_text g x r ss ts ms cs
-  unfolding told_text code_solved lines_under
-  refused_told c e = sym (append-nil (verdict_line c)) ∙ ap (λ (a : Solved). told_text g x a ss ts ms cs) (sym e)
-
-  pub no_room_told : (c : ℕ) → r ≡ NoRoom c → verdict_line c ≡ told_text g x r ss ts ms cs
-  unfolding told_text code_solved lines_under
-  no_room_told c e = sym (append-nil (verdict_line c)) ∙ ap (λ (a : Solved). told_text g x a ss ts ms cs) (sym e)
-
-  pub no_typing_told : (k : Counts) → r ≡ NoTyping k → verdict_line 17 ++ new_lines ss g k.sorts ≡ told_text g x r ss ts ms cs
-  unfolding told_text code_solved lines_under
-  no_typing_told k e = ap (λ (a : Solved). told_text g x a ss ts ms cs) (sym e)
-
-  pub ambiguous_told : (k : Counts) → r ≡ Ambiguous k → verdict_line 18 ++ new_lines ss g k.sorts ≡ told_text g x r ss ts ms cs
-  unfolding told_text code_solved lines_under
-  ambiguous_told k e = ap (λ (a : Solved). told_text g x a ss ts ms cs) (sym e)
-
-  pub typing_told :
-      (o : Outputs) → r ≡ Typing o
-      → verdict_line 0 ++ (typing_text ss o.counts.sorts ts ms cs x o.components o.choices ++ new_lines ss g
-      o.counts.sorts) ≡ told_text g x r ss ts ms cs
-  unfolding told_text code_solved lines_under
-  typing_told o e = ap (λ (a : Solved). told_text g x a ss ts ms cs) (sym e)
+use Rattle.list_answers.specs.Answer.{lines_under, told_text, answer_text}
+use Rattle.list_answers.specs.Inner.Answer.{Tellable, told_of}
 
 pub checked_to_tell : (r : Solved) (ss : List ℕ) → Tellable r ss → (o : Outputs) → r ≡ Typing o → Checked ss o.counts.sorts o.counts.entries
 checked_to_tell r ss t o e = subst (λ (a : Solved). Tellable a ss) e t
@@ -64,17 +39,16 @@ module _ (I : Call) (r : Solved) (ss ts ms cs : List ℕ) (e : list_answer r ss 
   answer_tellable = subst (λ (A : ListAnswer). Tellable A.answer A.sorts) (sym e) (left_tellable I)
 
   pub asked_and_told :
-      (ws out : List ℕ) (g x : ℕ) → g ≡ call_count ws 0 → x ≡ call_count ws 5 → {left : List ℕ} {n : ℕ} → PutWithin out 0 (told_text g x r ss ts ms cs) left n
-      → told (buffer left n) ss ts ms cs ≡ told_of ws out (solve_entry I)
-  asked_and_told ws out g x eg ex p =
-      (λ i. told (p.is i) ss ts ms cs)
-      ∙ (λ i. told (puts out 0 (told_text (eg i) (ex i) (e i).answer (e i).sorts (e i).typing (e i).measure
-      (e i).choices)) (e i).sorts (e i).typing (e i).measure (e i).choices)
+      (ws : List ℕ) (out left : Out) (g x : ℕ) → g ≡ call_count ws 0 → x ≡ call_count ws 5
+      → left ≡ then_put out (told_text g x r ss ts ms cs) → left ≡ told_of ws out (solve_entry I)
+  asked_and_told ws out left g x eg ex p =
+      p
+      ∙ (λ i. then_put out (told_text (eg i) (ex i) (e i).answer (e i).sorts (e i).typing (e i).measure
+      (e i).choices))
 
 -- the slices that are told, as the list lends them
 pub all_lent :
-    (ws out ss ts ms cs : List ℕ) → ss ≡ sorts_in ws → ts ≡ typing_in ws → ms ≡ measure_in ws → cs ≡ choices_in ws
-    → (T : Told) → T ≡ told_of ws out (solve_entry (call_on ws ss ts ms cs)) → T.text ≡ answer_left ws out
-unfolding answer_left answer_text
-all_lent ws out ss ts ms cs es et em ec T h =
-    ap (λ (t : Told). t.text) h ∙ (λ i. (told_of ws out (solve_entry (call_on ws (es i) (et i) (em i) (ec i)))).text)
+    (ws : List ℕ) (out left : Out) (ss ts ms cs : List ℕ) → ss ≡ sorts_in ws → ts ≡ typing_in ws → ms ≡ measure_in ws → cs ≡ choices_in ws
+    → left ≡ told_of ws out (solve_entry (call_on ws ss ts ms cs)) → left ≡ then_put out (answer_text ws)
+unfolding answer_text
+all_lent ws out left ss ts ms cs es et em ec h = h ∙ (λ i. told_of ws out (solve_entry (call_on ws (es i) (et i) (em i) (ec i))))

@@ -1,9 +1,8 @@
--- What the solver answers about a list, as text, and what is left of the buffer that it goes into.
+-- What the solver answers about a list, as text.
 use Rattle.std.specs.Prelude.{List, [], ◌++◌, ℕ}
 use Rattle.inference.specs.declared.Solved.{Solved}
 use Rattle.inference.specs.declared.Solved.TheVariants.{Refused, NoRoom, NoTyping, Ambiguous, Typing}
 use Rattle.inference.specs.SolveEntry.{SolveLeft, solve_entry, code_solved}
-use Rattle.text_out.specs.Within.{Buffer, puts}
 use Rattle.list_verdict.specs.Text.{verdict_line, new_lines, typing_text}
 use Rattle.list_memory.specs.Memory.{sort_list, expr_list}
 use Rattle.list_call.specs.Lists.{call_count, call_in}
@@ -24,9 +23,6 @@ told_text g x r ss ts ms cs = verdict_line (code_solved r) ++ lines_under g x r 
 abbrev pub left_text : ℕ → ℕ → SolveLeft → List ℕ
 left_text g x L = told_text g x L.answer L.sorts L.typing L.measure L.choices
 
--- The answer about a list, from byte 0 on; what finds no room is lost.
+-- the answer about a list
 unfoldable pub answer_text : List ℕ → List ℕ
 answer_text ws = left_text (call_count ws sort_list) (call_count ws expr_list) (solve_entry (call_in ws))
-
-unfoldable pub answer_left : List ℕ → List ℕ → Buffer
-answer_left ws out = puts out 0 (answer_text ws)

@@ -4,98 +4,77 @@
 
 ghost use Rattle.std.specs.Prelude.{◌≡◌, ◌≤◌, length};
 ghost use Rattle.inference.specs.SolveEntry.{solve_entry};
-ghost use Rattle.text_out.specs.Within.{buffer};
-ghost use Rattle.text_out.specs.Within.{PutWithin};
+ghost use Rattle.text_out.specs.Outs.{then_put};
 ghost use Rattle.list_memory.specs.Memory.{rows_at};
 ghost use Rattle.list_call.specs.Lists.{call_on};
-ghost use Rattle.list_answers.specs.Answer.{told_text, answer_left};
-ghost use Rattle.list_answers.specs.Inner.Answer.{Tellable, told as toldLeft, told_of};
+ghost use Rattle.list_answers.specs.Answer.{told_text, answer_text};
+ghost use Rattle.list_answers.specs.Inner.Answer.{Tellable, told_of};
 
 use inference::{MAX_COMPONENTS, Solved};
-use list_call::{count_of, length_of};
+use list_call::{Told, count_of, length_of};
 use list_memory::{
     LIST_CHOICE_WORDS, LIST_CHOICES_AT, LIST_MEASURE_AT, LIST_SORTS_AT, LIST_TYPING_AT,
     LIST_TYPING_WORDS, LIST_WORDS,
 };
 use list_solve::ask;
-use list_verdict::{put_new_sorts, put_typing, put_verdict};
+use list_verdict::{Typing, put_new_sorts, put_typing, put_verdict};
 use resolved_sort::SORT_WORDS;
+use text_out::Out;
 use words::copy;
 
 // An answer of the solver as text.
-fn tell(
-    answer: Solved,
-    given: u16,
-    exprs: u16,
-    sorts: &[u16],
-    typing: &[u16],
-    measure: &[u16],
-    choices: &[u16],
-    out: &mut [u8],
-) -> usize
-    requires { Tellable answer sorts.now }
-    ensures { PutWithin out.old 0
-        (told_text given exprs answer sorts.now typing.now measure.now
-        choices.now)
-        out.new result }
+#[tactic(auto, using(text_out::proofs::Outs::put_parts), unfolding(crate::specs::Answer::told_text, crate::specs::Answer::lines_under, inference::specs::SolveEntry::code_solved))]
+fn tell(answer: Solved, given: u16, exprs: u16, told: &Told<'_>, out: &mut Out<'_>)
+    requires { Tellable answer told.now.sorts.now }
+    ensures { out.new
+        ≡ then_put out.old
+        (told_text given exprs answer told.now.sorts.now told.now.typing.now told.now.measure.now
+        told.now.choices.now) }
 {
     match answer {
-        Solved::Refused(code) => put_verdict(code, out, 0),
-        Solved::NoRoom(code) => put_verdict(code, out, 0),
+        Solved::Refused(code) => put_verdict(code, out),
+        Solved::NoRoom(code) => put_verdict(code, out),
         Solved::NoTyping(counts) => {
-            let next = put_verdict(17, out, 0);
-            put_new_sorts(sorts, given, counts.sorts, out, next)
+            put_verdict(17, out);
+            put_new_sorts(told.sorts, given, counts.sorts, out);
         }
         Solved::Ambiguous(counts) => {
-            let next = put_verdict(18, out, 0);
-            put_new_sorts(sorts, given, counts.sorts, out, next)
+            put_verdict(18, out);
+            put_new_sorts(told.sorts, given, counts.sorts, out);
         }
         Solved::Typing(made) => {
-            let counts = made.counts;
-            let first = put_verdict(0, out, 0);
-            let next = put_typing(
-                sorts,
-                counts,
-                typing,
+            let typing = Typing {
+                rows: told.typing,
                 exprs,
-                measure,
-                made.components,
-                choices,
-                made.choices,
-                out,
-                first,
-            );
-            put_new_sorts(sorts, given, counts.sorts, out, next)
+                measure: told.measure,
+                components: made.components,
+                choices: told.choices,
+                chosen: made.choices,
+            };
+            put_verdict(0, out);
+            put_typing(told.sorts, made.counts, &typing, out);
+            put_new_sorts(told.sorts, given, made.counts.sorts, out);
         }
     }
 }
 
-// The solver asked about a list, and its answer as text at the front of the buffer.
-fn ask_and_tell(
-    list: &[u16],
-    sorts: &mut [u16],
-    typing: &mut [u16],
-    measure: &mut [u16],
-    choices: &mut [u16],
-    out: &mut [u8],
-) -> usize
+// The solver asked about a list, and its answer as text.
+fn ask_and_tell(list: &[u16], told: &mut Told<'_>, out: &mut Out<'_>)
     requires { rows_at ≤ length list.now }
-    ensures { toldLeft (buffer out.new result) sorts.new typing.new measure.new
-        choices.new
+    ensures { out.new
         ≡ told_of list.now out.old
-        (solve_entry (call_on list.now sorts.old typing.old measure.old
-        choices.old)) }
+        (solve_entry
+        (call_on list.now told.old.sorts.now told.old.typing.now told.old.measure.now
+        told.old.choices.now)) }
 {
-    let given = count_of(list, 0);
-    let exprs = count_of(list, 5);
-    let answer = ask(list, sorts, typing, measure, choices);
-    tell(answer, given, exprs, sorts, typing, measure, choices, out)
+    let answer = ask(list, told);
+    tell(answer, count_of(list, 0), count_of(list, 5), told, out);
 }
 
-// The solver's answer about a list as text, from byte 0 on, as far as the buffer has room; the number of bytes. Ruled
-// out: an answer about other lengths than the list tells, or one that leaves out a sort that was made.
-pub fn answer(list: &[u16; LIST_WORDS], out: &mut [u8]) -> usize
-    ensures { buffer out.new result ≡ answer_left list.now out.old }
+// The solver's answer about a list as text, as far as the buffer has room. Ruled out: an answer about other lengths than
+// the list tells, or one that leaves out a sort that was made.
+pub fn answer(list: &[u16; LIST_WORDS], out: &mut Out<'_>)
+    ensures { out.new ≡ then_put out.old (answer_text list.now) }
 {
     let mut sorts = [0u16; SORT_WORDS];
     let mut typing = [0u16; LIST_TYPING_WORDS];
@@ -109,12 +88,11 @@ pub fn answer(list: &[u16; LIST_WORDS], out: &mut [u8]) -> usize
     let typing_end = length_of(list, 9, LIST_TYPING_WORDS, LIST_TYPING_WORDS);
     let measure_end = length_of(list, 10, MAX_COMPONENTS, MAX_COMPONENTS);
     let choices_end = length_of(list, 11, LIST_CHOICE_WORDS, LIST_CHOICE_WORDS);
-    ask_and_tell(
-        list,
-        &mut sorts[..sorts_end],
-        &mut typing[..typing_end],
-        &mut measure[..measure_end],
-        &mut choices[..choices_end],
-        out,
-    )
+    let mut told = Told {
+        sorts: &mut sorts[..sorts_end],
+        typing: &mut typing[..typing_end],
+        measure: &mut measure[..measure_end],
+        choices: &mut choices[..choices_end],
+    };
+    ask_and_tell(list, &mut told, out);
 }

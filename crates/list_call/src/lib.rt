@@ -19,6 +19,15 @@ use solve_checks::Given;
 use solve_entries::solve;
 use words::word;
 
+// The slices that an answer of the solver is told from, which a call changes.
+#[derive(Drop)]
+pub struct Told<'a> {
+    pub sorts: &'a mut [u16],
+    pub typing: &'a mut [u16],
+    pub measure: &'a mut [u16],
+    pub choices: &'a mut [u16],
+}
+
 // The rows given of a list.
 pub fn rows_given(list: &[u16], k: usize) -> usize
     requires { k ≤ 9 }
@@ -98,20 +107,17 @@ fn lend(list: &[u16], start: usize, j: usize, k: usize, width: usize, top: usize
 pub fn solve_list(
     list: &[u16],
     given: Given,
-    sorts: &mut [u16],
     nodes: &mut [u16],
     binds: &mut [u16],
     scratch: &mut [u16],
-    typing: &mut [u16],
-    measure: &mut [u16],
-    choices: &mut [u16],
+    told: &mut Told<'_>,
 ) -> Solved
     requires { rows_at ≤ length list.now }
-    ensures { solve_left result sorts.new nodes.new binds.new scratch.new
-        typing.new measure.new choices.new
+    ensures { solve_left result told.new.sorts.now nodes.new binds.new scratch.new
+        told.new.typing.now told.new.measure.now told.new.choices.now
         ≡ solve_entry
-        (call_by list.now given sorts.old nodes.old binds.old
-        scratch.old typing.old measure.old choices.old) }
+        (call_by list.now given told.old.sorts.now nodes.old binds.old scratch.old
+        told.old.typing.now told.old.measure.now told.old.choices.now) }
 {
     let exprs = lend(list, LIST_EXPRS_AT, 3, 5, 1, MAX_EXPRS);
     let names = lend(list, LIST_NAMES_AT, 4, 6, 3, LIST_NAME_WORDS);
@@ -119,7 +125,7 @@ pub fn solve_list(
     let overloads = lend(list, LIST_OVERLOADS_AT, 6, 8, 3, LIST_OVERLOAD_WORDS);
     let sources = lend(list, LIST_SOURCES_AT, 7, 9, 1, MAX_SOURCES);
     solve(
-        sorts,
+        told.sorts,
         nodes,
         binds,
         exprs,
@@ -129,8 +135,8 @@ pub fn solve_list(
         sources,
         given,
         scratch,
-        typing,
-        measure,
-        choices,
+        told.typing,
+        told.measure,
+        told.choices,
     )
 }

@@ -9,8 +9,10 @@ use lib.ListN.{length, length-append}
 use lib.Seq.{sets}
 use lib.Dec.{eqb}
 use Rattle.text_out.specs.Quoted.{bytes_of}
+use Rattle.text_out.specs.declared.Out.{Out}
 use Rattle.text_out.specs.Within.{buffer}
-use Rattle.text_out.proofs.Within.{whole_where_room}
+use Rattle.text_out.specs.Outs.{at_buffer}
+use Rattle.text_out.proofs.Outs.{then_put_room}
 use Rattle.list_memory.specs.declared.Heard.{Heard}
 use Rattle.list_memory.specs.declared.Heard.TheVariants.{Quiet, Begins, Asks, AsksOther, Bad}
 use Rattle.list_memory.specs.declared.Form.{Form}
@@ -92,18 +94,14 @@ printed_fits (Bad f) line ws vs l =
       form_length f,
     )
 
--- Nothing of it is cut: a buffer of that room has all of it at its front.
-pub nothing_is_cut : (ws line out : List ℕ) → length line ≤ held_line → printed_room ≤ length out
+-- Nothing of it is cut: a buffer that has that room left has all of it there.
+pub nothing_is_cut : (ws line : List ℕ) (out : Out) → length line ≤ held_line → out.at + printed_room ≤ length out.bytes.now
     → let text : List ℕ = printed (line_taken ws line).heard line ws (line_taken ws line).words in
-    (heard_line ws line out).buffer ≡ buffer (sets out 0 text) (length text)
+    (heard_line ws line out).out ≡ at_buffer out (buffer (sets out.bytes.now out.at text) (out.at + length text))
 unfolding heard_line
 nothing_is_cut ws line out l r =
     let t = line_taken ws line in
-    let text = printed t.heard line ws t.words in
-    whole_where_room out 0 text (omega (arith, printed_fits t.heard line ws t.words l, r)) ∙ ap (buffer (sets out 0 text)) (zero_plus (length text))
-  where
-    zero_plus : (n : ℕ) → 0 + n ≡ n
-    zero_plus n = omega arith
+    then_put_room out (printed t.heard line ws t.words) (omega (arith, printed_fits t.heard line ws t.words l, r))
 
 pub end_fits : (stage : ℕ) → length (unasked_text stage) ≤ printed_room
 end_fits stage = omega (arith, unasked_length stage)

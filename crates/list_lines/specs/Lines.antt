@@ -7,8 +7,8 @@ use Rattle.text_out.specs.Quoted.{bytes_of}
 use Rattle.list_messages.specs.Messages.{bad_text}
 use Rattle.list_reader.specs.Taking.{line_taken}
 use Rattle.list_answers.specs.Answer.{answer_text}
-use Rattle.text_out.specs.Within.{Buffer, puts}
-use Rattle.list_lines.specs.declared.Said.{Said}
+use Rattle.text_out.specs.declared.Out.{Out}
+use Rattle.text_out.specs.Outs.{then_put}
 
 -- said of a list that ended before any question, by its stage
 unfoldable pub unasked_text : ℕ → List ℕ
@@ -33,23 +33,19 @@ numbered Asks = false
 numbered AsksOther = true
 numbered (Bad f) = true
 
--- the words of the list after a line, the buffer, and what is said about it
+-- the words of the list after a line, the output, and whether the line's number stands before it
 pub record LineLeft : Type 0 where
   pub words : List ℕ
-  pub buffer : Buffer
+  pub out : Out
   pub numbered : Bool
 
-abbrev pub line_left : List ℕ → List ℕ → Said → LineLeft
-line_left ws out s = record { words = ws; buffer = record { bytes = out; at = s.end }; numbered = s.numbered }
+abbrev pub line_left : List ℕ → Out → Bool → LineLeft
+line_left ws out b = record { words = ws; out = out; numbered = b }
 
--- what a line came to, and its output at the front of the buffer
-abbrev pub line_left_by : List ℕ → List ℕ → List ℕ → Taken → LineLeft
+-- what a line came to, and its output behind what the buffer has
+abbrev pub line_left_by : List ℕ → List ℕ → Out → Taken → LineLeft
 line_left_by ws line out t =
-    record {
-      words = t.words;
-      buffer = puts out 0 (printed t.heard line ws t.words);
-      numbered = numbered t.heard;
-    }
+    line_left t.words (then_put out (printed t.heard line ws t.words)) (numbered t.heard)
 
-unfoldable pub heard_line : List ℕ → List ℕ → List ℕ → LineLeft
+unfoldable pub heard_line : List ℕ → List ℕ → Out → LineLeft
 heard_line ws line out = line_left_by ws line out (line_taken ws line)

@@ -2,11 +2,11 @@
 #![tactic(auto)]
 
 ghost use Rattle.std.specs.Prelude.{◌≡◌};
-ghost use Rattle.text_out.specs.Within.{PutWithin};
+ghost use Rattle.text_out.specs.Outs.{then_put};
 ghost use Rattle.list_messages.specs.Messages.{form_text, bad_text};
 
 use list_memory::Form;
-use text_out::put_text;
+use text_out::Out;
 
 // What was expected, by the form.
 #[tactic(auto, unfolding(crate::specs::Messages::form_text))]
@@ -60,11 +60,10 @@ fn expected(form: Form) -> &'static [u8]
 }
 
 // The line, but for the number of the line that it speaks of.
-#[tactic(auto, unfolding(crate::specs::Messages::bad_text))]
-pub fn put_bad(form: Form, out: &mut [u8], at: usize) -> usize
-    ensures { PutWithin out.old at (bad_text form) out.new result }
+pub fn put_bad(form: Form, out: &mut Out<'_>)
+    ensures { out.new ≡ then_put out.old (bad_text form) }
 {
-    let what = put_text(b"expected ", out, at);
-    let end = put_text(expected(form), out, what);
-    put_text(b"\n", out, end)
+    out.put_text(b"expected ");
+    out.put_text(expected(form));
+    out.put_byte(b'\n');
 }

@@ -9,24 +9,19 @@ ghost use Rattle.list_call.specs.Lists.{call_on};
 ghost use Rattle.list_solve.specs.Inner.Asked.{list_answer, list_answer_of};
 
 use inference::{SCRATCH_WORDS, Solved};
-use list_call::{given_of, length_of, rows_given, solve_list};
+use list_call::{Told, given_of, length_of, rows_given, solve_list};
 use list_memory::{LIST_BINDS_AT, LIST_NODES_AT, LIST_SCRATCH_AT};
 use unification::{MAX_VARS, NODE_WORDS};
 use words::copy;
 
 // The solver asked about a list, with nodes, bindings and scratch of its own.
-pub fn ask(
-    list: &[u16],
-    sorts: &mut [u16],
-    typing: &mut [u16],
-    measure: &mut [u16],
-    choices: &mut [u16],
-) -> Solved
+pub fn ask(list: &[u16], told: &mut Told<'_>) -> Solved
     requires { rows_at ≤ length list.now }
-    ensures { list_answer result sorts.new typing.new measure.new choices.new
+    ensures { list_answer result told.new.sorts.now told.new.typing.now told.new.measure.now told.new.choices.now
         ≡ list_answer_of
-        (solve_entry (call_on list.now sorts.old typing.old measure.old
-        choices.old)) }
+        (solve_entry
+        (call_on list.now told.old.sorts.now told.old.typing.now told.old.measure.now
+        told.old.choices.now)) }
 {
     let mut nodes = [0u16; NODE_WORDS];
     let mut binds = [0u16; MAX_VARS];
@@ -37,16 +32,12 @@ pub fn ask(
     let nodes_end = length_of(list, 1, NODE_WORDS, NODE_WORDS);
     let binds_end = length_of(list, 2, rows_given(list, 4), MAX_VARS);
     let scratch_end = length_of(list, 8, SCRATCH_WORDS, SCRATCH_WORDS);
-    let given = given_of(list);
     solve_list(
         list,
-        given,
-        sorts,
+        given_of(list),
         &mut nodes[..nodes_end],
         &mut binds[..binds_end],
         &mut scratch[..scratch_end],
-        typing,
-        measure,
-        choices,
+        told,
     )
 }

@@ -1,5 +1,5 @@
 -- The laws of text put into a buffer as far as it has room.
 pub mod Pieces
 pub mod Ways
-pub mod RowsPut
+pub mod Rows
 pub mod Longest

@@ -1,2 +1,3 @@
 -- What only contracts of inner functions cite.
 pub mod Room
+pub mod Row

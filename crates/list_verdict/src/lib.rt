@@ -1,462 +1,321 @@
 // The text of a verdict of the solver: the line of its code; under a typing a line for each expression, the measure and
 // the choices; and a line for each sort that was made. Text goes into the lent buffer as far as it has room: no length
 // has to be known before.
-#![tactic(auto)]
+#![tactic(auto, using(text_out::proofs::Outs::put_parts))]
 
-ghost use Rattle.std.specs.Prelude.{◌+◌, ◌*◌, ◌<◌, ◌≤◌};
+ghost use Rattle.std.specs.Prelude.{◌≡◌, ◌-◌};
 ghost use Rattle.resolved_sort.specs.Rows.{Checked};
+ghost use Rattle.resolved_sort.specs.Entries.{tree_at};
 ghost use Rattle.text_out.specs.Quoted.{byte_of};
-ghost use Rattle.text_out.specs.Within.{PutWithin};
-ghost use Rattle.list_verdict.specs.Words.{kind_word, message};
-ghost use Rattle.list_verdict.specs.Text.{rows_text, name, sort_name, sort_text, target_text, expr_line, separator};
-ghost use Rattle.list_verdict.specs.Text.{component, measure_line, choice_text, choice_list, choices_line};
-ghost use Rattle.list_verdict.specs.Text.{argument_text, parts, new_line, verdict_line, new_lines, typing_text};
+ghost use Rattle.text_out.specs.Outs.{then_put};
+ghost use Rattle.list_verdict.specs.Words.{message};
+ghost use Rattle.list_verdict.specs.Text.{name, sort_name, short, sort_text, target_text, expr_line, separator};
+ghost use Rattle.list_verdict.specs.Text.{component, choice_text, measure_line, choices_line, verdict_line, new_line, new_lines, typing_text};
+ghost use Rattle.list_verdict.specs.Text.{rows_text, argument_text};
 ghost use Rattle.list_verdict.specs.Inner.Room.{SizesOf};
+ghost use Rattle.list_verdict.specs.Inner.Row.{row_text};
 
 use inference::ExprId;
-use resolved_sort::{Counts, ENTRIES_AT, FUNCTION_KIND, MAX_SORTS, SortId};
-use sort_text::MAX_LINE;
+use resolved_sort::{Counts, ENTRIES_AT, MAX_SORTS, ResolvedSort, Run, SortId};
+use sort_interner::get;
+use sort_text::{MAX_LINE, op_word, sort_word};
 use sort_writer::{fill_sizes, put_sort, size_at};
-use text_out::{put_byte, put_number, put_text};
+use text_out::Out;
 use words::word;
 
-// A sort by its number, and an expression: a letter and the number.
-fn put_numbered(id: SortId, out: &mut [u8], at: usize) -> usize
-    ensures { PutWithin out.old at (name (byte_of "s") id.0) out.new result }
-{
-    let digits = put_byte(b's', out, at);
-    put_number(id.0, out, digits)
+// What a typing hands out: the rows of its expressions, the components of its measure, and the chosen overloads.
+#[derive(Clone, Copy)]
+pub struct Typing<'a> {
+    pub rows: &'a [u16],
+    pub exprs: u16,
+    pub measure: &'a [u16],
+    pub components: u16,
+    pub choices: &'a [u16],
+    pub chosen: u16,
 }
 
-fn put_expr_name(expr: ExprId, out: &mut [u8], at: usize) -> usize
-    ensures { PutWithin out.old at (name (byte_of "e") expr.0) out.new result }
-{
-    let digits = put_byte(b'e', out, at);
-    put_number(expr.0, out, digits)
-}
-
-// The word of a kind below 6: of the fixed six sorts.
-#[tactic(auto, unfolding(crate::specs::Words::kind_word))]
-fn put_six(kind: u16, out: &mut [u8], at: usize) -> usize
-    requires { kind < 6 }
-    ensures { PutWithin out.old at (kind_word kind) out.new result }
-{
-    match kind {
-        0 => put_text(b"unit", out, at),
-        1 => put_text(b"Bool", out, at),
-        2 => put_text(b"Pos", out, at),
-        3 => put_text(b"Nat", out, at),
-        4 => put_text(b"Int", out, at),
-        _ => put_text(b"Real", out, at),
-    }
-}
-
-// The word of a kind of sorts.
-#[tactic(auto, unfolding(crate::specs::Words::kind_word))]
-fn put_kind(kind: u16, out: &mut [u8], at: usize) -> usize
-    ensures { PutWithin out.old at (kind_word kind) out.new result }
-{
-    if kind < 6 {
-        return put_six(kind, out, at);
-    }
-    match kind {
-        6 => put_text(b"List", out, at),
-        7 => put_text(b"Set", out, at),
-        8 => put_text(b"FSet", out, at),
-        9 => put_text(b"Bag", out, at),
-        10 => put_text(b"FBag", out, at),
-        11 => put_text(b"fn", out, at),
-        12 => put_text(b"Def", out, at),
-        _ => put_text(b"TypeVar", out, at),
-    }
-}
-
-// What the codes below 7 say.
-#[tactic(auto, unfolding(crate::specs::Words::message))]
-fn put_early(code: u16, out: &mut [u8], at: usize) -> usize
-    requires { code < 7 }
-    ensures { PutWithin out.old at (message code) out.new result }
-{
-    match code {
-        0 => put_text(b"a typing", out, at),
-        1 => put_text(
-            b"a list is above its ceiling or longer than what is lent for it",
-            out,
-            at,
-        ),
-        2 => put_text(
-            b"the first six sorts are not unit, Bool, Pos, Nat, Int, Real",
-            out,
-            at,
-        ),
-        3 => put_text(
-            b"a sort has an unknown kind, above 16 arguments, a run off its list or a part not below it",
-            out,
-            at,
-        ),
-        4 => put_text(b"two sorts are equal", out, at),
-        5 => put_text(
-            b"a node has an unknown kind, above 16 arguments, a run off its list, or a part or variable that is \
-              not there",
-            out,
-            at,
-        ),
-        _ => put_text(b"a binding names neither a sort nor a node", out, at),
-    }
-}
-
-// What the codes from 7 to 12 say.
-#[tactic(auto, unfolding(crate::specs::Words::message))]
-fn put_late(code: u16, out: &mut [u8], at: usize) -> usize
-    requires { (7 ≤ code) × (code < 13) }
-    ensures { PutWithin out.old at (message code) out.new result }
-{
-    match code {
-        7 => put_text(b"a variable reaches itself", out, at),
-        8 => put_text(
-            b"a place of an expression, or a base name, names nothing",
-            out,
-            at,
-        ),
-        9 => put_text(
-            b"a constraint has an unknown kind, a run off its list, or names what is not there",
-            out,
-            at,
-        ),
-        10 => put_text(
-            b"two disjunctions, or two base names, are for one expression",
-            out,
-            at,
-        ),
-        11 => put_text(
-            b"a join has no sources, or there are more than 256 components",
-            out,
-            at,
-        ),
-        _ => put_text(b"the default sort is not in the list", out, at),
-    }
+// Checked sorts, and the sizes of their texts.
+#[derive(Clone, Copy)]
+struct SortTexts<'a> {
+    sorts: &'a [u16],
+    counts: Counts,
+    sizes: &'a [usize],
+    ghost sized: { SizesOf sorts.now counts sizes.now },
 }
 
 // What a code says.
-#[tactic(auto, unfolding(crate::specs::Words::message))]
-fn put_message(code: u16, out: &mut [u8], at: usize) -> usize
-    ensures { PutWithin out.old at (message code) out.new result }
+#[tactic(auto, using(crate::proofs::Ways::no_message), unfolding(crate::specs::Words::message))]
+fn message(code: u16) -> &'static [u8]
+    ensures { result.now ≡ message code }
 {
-    if code < 7 {
-        return put_early(code, out, at);
-    }
-    if code < 13 {
-        return put_late(code, out, at);
-    }
     match code {
-        14 => put_text(
-            b"an output, the scratch, or the storage of sorts or nodes is too short",
-            out,
-            at,
-        ),
-        15 => put_text(b"the search has no room for a new sort", out, at),
-        16 => put_text(b"the search has no room for a new node", out, at),
-        17 => put_text(b"no typing found", out, at),
-        18 => put_text(b"ambiguous: several leaves have the least measure", out, at),
-        _ => at,
+        0 => b"a typing",
+        1 => b"a list is above its ceiling or longer than what is lent for it",
+        2 => b"the first six sorts are not unit, Bool, Pos, Nat, Int, Real",
+        3 =>
+            b"a sort has an unknown kind, above 16 arguments, a run off its list or a part not below it",
+        4 => b"two sorts are equal",
+        5 =>
+            b"a node has an unknown kind, above 16 arguments, a run off its list, or a part or variable that is \
+            not there",
+        6 => b"a binding names neither a sort nor a node",
+        7 => b"a variable reaches itself",
+        8 => b"a place of an expression, or a base name, names nothing",
+        9 => b"a constraint has an unknown kind, a run off its list, or names what is not there",
+        10 => b"two disjunctions, or two base names, are for one expression",
+        11 => b"a join has no sources, or there are more than 256 components",
+        12 => b"the default sort is not in the list",
+        14 => b"an output, the scratch, or the storage of sorts or nodes is too short",
+        15 => b"the search has no room for a new sort",
+        16 => b"the search has no room for a new node",
+        17 => b"no typing found",
+        18 => b"ambiguous: several leaves have the least measure",
+        _ => b"",
     }
 }
 
 // The line of a code.
-pub fn put_verdict(code: u16, out: &mut [u8], at: usize) -> usize
-    ensures { PutWithin out.old at (verdict_line code) out.new result }
+#[tactic(auto, using(text_out::proofs::Outs::put_parts), unfolding(crate::specs::Text::verdict_line))]
+pub fn put_verdict(code: u16, out: &mut Out<'_>)
+    ensures { out.new ≡ then_put out.old (verdict_line code) }
 {
-    let space = put_number(code, out, at);
-    let words = put_byte(b' ', out, space);
-    let end = put_message(code, out, words);
-    put_byte(b'\n', out, end)
+    out.put_number(code);
+    out.put_byte(b' ');
+    out.put_text(message(code));
+    out.put_byte(b'\n');
 }
 
-// A sort as the text format names it.
-#[tactic(auto, unfolding(crate::specs::Text::sort_name))]
-fn put_sort_name(id: SortId, out: &mut [u8], at: usize) -> usize
-    ensures { PutWithin out.old at (sort_name id.0) out.new result }
+// A sort by its number, and an expression: a letter and the number.
+#[tactic(auto, using(text_out::proofs::Outs::put_parts), unfolding(crate::specs::Text::name))]
+fn put_number_of(letter: u8, number: u16, out: &mut Out<'_>)
+    ensures { out.new ≡ then_put out.old (name letter number) }
 {
-    if id.0 < 6 {
-        return put_six(id.0, out, at);
+    out.put_byte(letter);
+    out.put_number(number);
+}
+
+fn put_expr_name(expr: ExprId, out: &mut Out<'_>)
+    ensures { out.new ≡ then_put out.old (name (byte_of "e") expr.0) }
+{
+    put_number_of(b'e', expr.0, out);
+}
+
+// A sort as the text format names it: one of the fixed six by its word.
+#[tactic(auto, using(crate::proofs::Ways::plain_name), unfolding(crate::specs::Text::sort_name, crate::specs::Words::kind_word))]
+fn put_sort_name(id: SortId, out: &mut Out<'_>)
+    ensures { out.new ≡ then_put out.old (sort_name id.0) }
+{
+    match id.0 {
+        0 => out.put_text(b"unit"),
+        1 => out.put_text(b"Bool"),
+        2 => out.put_text(b"Pos"),
+        3 => out.put_text(b"Nat"),
+        4 => out.put_text(b"Int"),
+        5 => out.put_text(b"Real"),
+        _ => put_number_of(b's', id.0, out),
     }
-    put_numbered(id, out, at)
 }
 
 // A comma and a space before all but the first.
-#[tactic(auto, unfolding(crate::specs::Text::separator))]
-fn put_comma(i: u16, out: &mut [u8], at: usize) -> usize
-    ensures { PutWithin out.old at (separator i) out.new result }
+#[tactic(auto, using(text_out::proofs::Outs::put_parts), unfolding(crate::specs::Text::separator))]
+fn put_comma(i: u16, out: &mut Out<'_>)
+    ensures { out.new ≡ then_put out.old (separator i) }
 {
-    if i == 0 {
-        return at;
+    if 0 < i {
+        out.put_text(b", ");
     }
-    put_text(b", ", out, at)
 }
 
-// The measure so far, from its first component on.
-fn put_components(measure: &[u16], count: u16, out: &mut [u8], at: usize) -> usize
-    ensures { PutWithin out.old at (rows_text (component measure.now) count 0) out.new result }
+// A component of a measure.
+#[tactic(auto, using(text_out::proofs::Outs::put_parts), unfolding(crate::specs::Text::component))]
+fn put_component(typing: &Typing<'_>, i: u16, out: &mut Out<'_>)
+    ensures { out.new ≡ then_put out.old (component typing.now.measure.now i) }
 {
-    let mut cursor = at;
-    let mut i: u16 = 0;
-    while i < count {
-        let after = put_comma(i, out, cursor);
-        cursor = put_number(word(measure, i as usize), out, after);
-        i += 1;
-    }
-    cursor
+    put_comma(i, out);
+    out.put_number(word(typing.measure, i as usize));
 }
 
 // The line of a measure.
-fn put_measure(measure: &[u16], count: u16, out: &mut [u8], at: usize) -> usize
-    ensures { PutWithin out.old at (measure_line measure.now count) out.new result }
+#[tactic(auto, using(text_out::proofs::Outs::put_parts), unfolding(crate::specs::Text::measure_line, crate::specs::Text::rows_text))]
+fn put_measure(typing: &Typing<'_>, out: &mut Out<'_>)
+    ensures { out.new ≡ then_put out.old (measure_line typing.now.measure.now typing.now.components) }
 {
-    let first = put_text(b"measure [", out, at);
-    let end = put_components(measure, count, out, first);
-    put_text(b"]\n", out, end)
+    out.put_text(b"measure [");
+    for i in 0..typing.components {
+        put_component(typing, i, out);
+    }
+    out.put_text(b"]\n");
 }
 
 // A chosen overload: its expression and its position.
-fn put_choice(choices: &[u16], i: u16, out: &mut [u8], at: usize) -> usize
-    ensures { PutWithin out.old at (choice_text choices.now i) out.new result }
+#[tactic(auto, using(text_out::proofs::Outs::put_parts), unfolding(crate::specs::Text::choice_text))]
+fn put_choice(typing: &Typing<'_>, i: u16, out: &mut Out<'_>)
+    ensures { out.new ≡ then_put out.old (choice_text typing.now.choices.now i) }
 {
     let row = 2 * (i as usize);
-    let expr = put_comma(i, out, at);
-    let space = put_expr_name(ExprId(word(choices, row)), out, expr);
-    let position = put_byte(b' ', out, space);
-    put_number(word(choices, row + 1), out, position)
+    put_comma(i, out);
+    put_expr_name(ExprId(word(typing.choices, row)), out);
+    out.put_byte(b' ');
+    out.put_number(word(typing.choices, row + 1));
 }
 
-// The chosen overloads, in the order handed out.
-fn put_choice_rows(choices: &[u16], count: u16, out: &mut [u8], at: usize) -> usize
-    ensures { PutWithin out.old at (rows_text (choice_text choices.now) count 0) out.new result }
+// The line of the choices, in the order handed out.
+#[tactic(auto, using(text_out::proofs::Outs::put_parts), unfolding(crate::specs::Text::choices_line, crate::specs::Text::choice_list, crate::specs::Text::rows_text))]
+fn put_choices(typing: &Typing<'_>, out: &mut Out<'_>)
+    ensures { out.new ≡ then_put out.old (choices_line typing.now.choices.now typing.now.chosen) }
 {
-    let mut cursor = at;
-    let mut i: u16 = 0;
-    while i < count {
-        cursor = put_choice(choices, i, out, cursor);
-        i += 1;
+    out.put_text(b"choices ");
+    if typing.chosen == 0 {
+        out.put_text(b"none");
     }
-    cursor
-}
-
-// The chosen overloads, or that there are none.
-#[tactic(auto, unfolding(crate::specs::Text::choice_list))]
-fn put_choice_list(choices: &[u16], count: u16, out: &mut [u8], at: usize) -> usize
-    ensures { PutWithin out.old at (choice_list choices.now count) out.new result }
-{
-    if count == 0 {
-        return put_text(b"none", out, at);
+    for i in 0..typing.chosen {
+        put_choice(typing, i, out);
     }
-    put_choice_rows(choices, count, out, at)
-}
-
-// The line of the choices.
-fn put_choices(choices: &[u16], count: u16, out: &mut [u8], at: usize) -> usize
-    ensures { PutWithin out.old at (choices_line choices.now count) out.new result }
-{
-    let first = put_text(b"choices ", out, at);
-    let end = put_choice_list(choices, count, out, first);
-    put_byte(b'\n', out, end)
+    out.put_byte(b'\n');
 }
 
 // The arguments of a function, a space before each.
-fn put_arguments(sorts: &[u16], start: u16, count: u16, out: &mut [u8], at: usize) -> usize
-    ensures { PutWithin out.old at (rows_text (argument_text sorts.now) count start) out.new result }
+#[tactic(auto, using(text_out::proofs::Outs::put_parts), unfolding(crate::specs::Text::argument_text, crate::specs::Text::rows_text))]
+fn put_arguments(sorts: &[u16], domain: Run, out: &mut Out<'_>)
+    ensures { out.new ≡ then_put out.old
+        (rows_text (argument_text sorts.now) domain.count domain.start) }
 {
-    let mut cursor = at;
-    let mut i: usize = start as usize;
-    let end = (start as usize) + (count as usize);
-    while i < end {
-        let after = put_byte(b' ', out, cursor);
-        cursor = put_sort_name(SortId(word(sorts, ENTRIES_AT + i)), out, after);
-        i += 1;
+    let start = domain.start as usize;
+    for i in start..start + domain.count as usize {
+        out.put_byte(b' ');
+        put_sort_name(SortId(word(sorts, ENTRIES_AT + i)), out);
     }
-    cursor
 }
 
-// What follows the kind in the row of a sort.
-fn put_parts(sorts: &[u16], id: SortId, out: &mut [u8], at: usize) -> usize
-    ensures { PutWithin out.old at (parts sorts.now id.0) out.new result }
+// A row in the words of a `sort` line.
+#[tactic(auto, using(text_out::proofs::Outs::put_parts), unfolding(crate::specs::Inner::Row::row_text))]
+fn put_row(sorts: &[u16], row: ResolvedSort, out: &mut Out<'_>)
+    ensures { out.new ≡ then_put out.old (row_text sorts.now row) }
 {
-    let row = 4 * (id.0 as usize);
-    let kind = word(sorts, row);
-    let part = word(sorts, row + 1);
-    if kind < 6 {
-        return at;
+    match row {
+        ResolvedSort::Unit => out.put_text(b"unit"),
+        ResolvedSort::Primitive(sort) => out.put_text(sort_word(sort)),
+        ResolvedSort::Container { op, subsort } => {
+            out.put_text(op_word(op));
+            out.put_byte(b' ');
+            put_sort_name(subsort, out);
+        }
+        ResolvedSort::Function { domain, range } => {
+            out.put_text(b"fn");
+            put_arguments(sorts, domain, out);
+            out.put_text(b" -> ");
+            put_sort_name(range, out);
+        }
+        ResolvedSort::Def(number) => {
+            out.put_text(b"Def ");
+            out.put_number(number);
+        }
+        ResolvedSort::TypeVar(number) => {
+            out.put_text(b"TypeVar ");
+            out.put_number(number);
+        }
     }
-    if kind < FUNCTION_KIND {
-        let next = put_byte(b' ', out, at);
-        return put_sort_name(SortId(part), out, next);
-    }
-    if kind == FUNCTION_KIND {
-        let arrow = put_arguments(sorts, word(sorts, row + 2), word(sorts, row + 3), out, at);
-        let range = put_text(b" -> ", out, arrow);
-        return put_sort_name(SortId(part), out, range);
-    }
-    let next = put_byte(b' ', out, at);
-    put_number(part, out, next)
 }
 
 // The line of a sort that was made.
-fn put_new(sorts: &[u16], id: SortId, out: &mut [u8], at: usize) -> usize
-    ensures { PutWithin out.old at (new_line sorts.now id.0) out.new result }
+#[tactic(auto, using(text_out::proofs::Outs::put_parts, crate::proofs::Rows::row_is), unfolding(crate::specs::Text::new_line))]
+fn put_new(sorts: &[u16], id: SortId, out: &mut Out<'_>)
+    ensures { out.new ≡ then_put out.old (new_line sorts.now id.0) }
 {
-    let number = put_text(b"new ", out, at);
-    let space = put_numbered(id, out, number);
-    let kind = put_byte(b' ', out, space);
-    let rest = put_kind(word(sorts, 4 * (id.0 as usize)), out, kind);
-    let end = put_parts(sorts, id, out, rest);
-    put_byte(b'\n', out, end)
+    out.put_text(b"new ");
+    put_number_of(b's', id.0, out);
+    out.put_byte(b' ');
+    put_row(sorts, get(sorts, id), out);
+    out.put_byte(b'\n');
 }
 
 // The lines of the sorts from the given ones up to those kept.
-pub fn put_new_sorts(sorts: &[u16], given: u16, count: u16, out: &mut [u8], at: usize) -> usize
-    ensures { PutWithin out.old at (new_lines sorts.now given count) out.new result }
+#[tactic(auto, using(text_out::proofs::Outs::put_parts), unfolding(crate::specs::Text::new_lines, crate::specs::Text::rows_text))]
+pub fn put_new_sorts(sorts: &[u16], given: u16, count: u16, out: &mut Out<'_>)
+    ensures { out.new ≡ then_put out.old (new_lines sorts.now given count) }
 {
-    let mut cursor = at;
-    let mut i = given;
-    while i < count {
-        cursor = put_new(sorts, SortId(i), out, cursor);
-        i += 1;
+    for i in given..count {
+        put_new(sorts, SortId(i), out);
     }
-    cursor
 }
 
-// A sort in mCRL2 spelling, by way of a text of its own; its number where it has none, or one above MAX_LINE bytes.
-fn put_sort_text(
-    sorts: &[u16],
-    counts: Counts,
-    sizes: &[usize],
-    id: SortId,
-    out: &mut [u8],
-    at: usize,
-) -> usize
-    requires { SizesOf sorts.now counts sizes.now }
-    ensures { PutWithin out.old at (sort_text sorts.now counts.sorts id.0) out.new result }
-{
-    if counts.sorts <= id.0 {
-        return put_numbered(id, out, at);
+impl SortTexts<'_> {
+    // Whether a sort has a text as long as a line may be.
+    fn is_short(&self, id: SortId) -> bool
+        ensures { result ≡ short (tree_at self.now.sorts.now self.now.counts.sorts id.0) }
+    {
+        let size = size_at(self.sizes, id);
+        0 < size && size <= MAX_LINE
     }
-    let size = size_at(sizes, id);
-    if size == 0 {
-        return put_numbered(id, out, at);
-    }
-    if MAX_LINE < size {
-        return put_numbered(id, out, at);
-    }
-    let mut text = [0u8; MAX_LINE];
-    let end = put_sort(sorts, counts, id, &mut text, 0);
-    put_text(&text[..end], out, at)
-}
 
-// What a name resolved to.
-#[tactic(auto, unfolding(crate::specs::Text::target_text))]
-fn put_target(
-    sorts: &[u16],
-    counts: Counts,
-    sizes: &[usize],
-    kind: u16,
-    id: SortId,
-    out: &mut [u8],
-    at: usize,
-) -> usize
-    requires { SizesOf sorts.now counts sizes.now }
-    ensures { PutWithin out.old at (target_text sorts.now counts.sorts kind id.0)
-        out.new result }
-{
-    if kind == 1 {
-        return put_text(b", variable", out, at);
+    // A sort in mCRL2 spelling, by way of a text of its own; its number where it has none, or one above MAX_LINE bytes.
+    #[tactic(auto, unfolding(crate::specs::Text::sort_text))]
+    fn put_sort_text(&self, id: SortId, out: &mut Out<'_>)
+        ensures { out.new ≡ then_put out.old (sort_text self.now.sorts.now self.now.counts.sorts id.0) }
+    {
+        if self.is_short(id) {
+            let mut text = [0u8; MAX_LINE];
+            let end = put_sort(self.sorts, self.counts, id, &mut text, 0);
+            out.put_text(&text[..end]);
+        } else {
+            put_number_of(b's', id.0, out);
+        }
     }
-    if kind == 2 {
-        let sort = put_text(b", op ", out, at);
-        return put_sort_text(sorts, counts, sizes, id, out, sort);
-    }
-    if kind == 3 {
-        return put_text(b", builtin", out, at);
-    }
-    at
-}
 
-// The line of an expression: its sort, and what its name resolved to.
-fn put_expr(
-    sorts: &[u16],
-    counts: Counts,
-    sizes: &[usize],
-    typing: &[u16],
-    expr: ExprId,
-    out: &mut [u8],
-    at: usize,
-) -> usize
-    requires { SizesOf sorts.now counts sizes.now }
-    ensures { PutWithin out.old at
-        (expr_line sorts.now counts.sorts typing.now expr.0)
-        out.new result }
-{
-    let row = 3 * (expr.0 as usize);
-    let colon = put_expr_name(expr, out, at);
-    let sort = put_text(b": ", out, colon);
-    let target = put_sort_text(sorts, counts, sizes, SortId(word(typing, row)), out, sort);
-    let kind = word(typing, row + 1);
-    let end = put_target(
-        sorts,
-        counts,
-        sizes,
-        kind,
-        SortId(word(typing, row + 2)),
-        out,
-        target,
-    );
-    put_byte(b'\n', out, end)
-}
-
-// The lines of the expressions.
-fn put_exprs(
-    sorts: &[u16],
-    counts: Counts,
-    sizes: &[usize],
-    typing: &[u16],
-    count: u16,
-    out: &mut [u8],
-    at: usize,
-) -> usize
-    requires { SizesOf sorts.now counts sizes.now }
-    ensures { PutWithin out.old at
-        (rows_text (expr_line sorts.now counts.sorts typing.now) count 0)
-        out.new result }
-{
-    let mut cursor = at;
-    let mut i: u16 = 0;
-    while i < count {
-        cursor = put_expr(sorts, counts, sizes, typing, ExprId(i), out, cursor);
-        i += 1;
+    // What a name resolved to.
+    #[tactic(auto, using(text_out::proofs::Outs::put_parts), unfolding(crate::specs::Text::target_text))]
+    fn put_target(&self, kind: u16, id: SortId, out: &mut Out<'_>)
+        ensures { out.new ≡ then_put out.old
+            (target_text self.now.sorts.now self.now.counts.sorts kind id.0) }
+    {
+        match kind {
+            1 => out.put_text(b", variable"),
+            2 => {
+                out.put_text(b", op ");
+                self.put_sort_text(id, out);
+            }
+            3 => out.put_text(b", builtin"),
+            _ => {}
+        }
     }
-    cursor
+
+    // The line of an expression: its sort, and what its name resolved to.
+    #[tactic(auto, using(text_out::proofs::Outs::put_parts), unfolding(crate::specs::Text::expr_line))]
+    fn put_expr(&self, typing: &Typing<'_>, expr: ExprId, out: &mut Out<'_>)
+        ensures { out.new ≡ then_put out.old
+            (expr_line self.now.sorts.now self.now.counts.sorts typing.now.rows.now expr.0) }
+    {
+        let row = 3 * (expr.0 as usize);
+        put_expr_name(expr, out);
+        out.put_text(b": ");
+        self.put_sort_text(SortId(word(typing.rows, row)), out);
+        self.put_target(
+            word(typing.rows, row + 1),
+            SortId(word(typing.rows, row + 2)),
+            out,
+        );
+        out.put_byte(b'\n');
+    }
 }
 
 // The lines of a typing. The sizes of all sorts are found once.
-pub fn put_typing(
-    sorts: &[u16],
-    counts: Counts,
-    typing: &[u16],
-    exprs: u16,
-    measure: &[u16],
-    components: u16,
-    choices: &[u16],
-    chosen: u16,
-    out: &mut [u8],
-    at: usize,
-) -> usize
+#[tactic(auto, using(text_out::proofs::Outs::put_parts), unfolding(crate::specs::Text::typing_text, crate::specs::Text::rows_text))]
+pub fn put_typing(sorts: &[u16], counts: Counts, typing: &Typing<'_>, out: &mut Out<'_>)
     requires { Checked sorts.now counts.sorts counts.entries }
-    ensures { PutWithin out.old at
-        (typing_text sorts.now counts.sorts typing.now measure.now
-        choices.now exprs components chosen)
-        out.new result }
+    ensures { out.new ≡ then_put out.old
+        (typing_text sorts.now counts.sorts typing.now.rows.now typing.now.measure.now
+        typing.now.choices.now typing.now.exprs typing.now.components typing.now.chosen) }
 {
     let mut sizes = [0usize; MAX_SORTS];
     fill_sizes(sorts, counts.sorts as usize, &mut sizes);
-    let measured = put_exprs(sorts, counts, &sizes, typing, exprs, out, at);
-    let chosen_at = put_measure(measure, components, out, measured);
-    put_choices(choices, chosen, out, chosen_at)
+    let texts = SortTexts {
+        sorts,
+        counts,
+        sizes: &sizes,
+    };
+    for i in 0..typing.exprs {
+        texts.put_expr(typing, ExprId(i), out);
+    }
+    put_measure(typing, out);
+    put_choices(typing, out);
 }

@@ -1,24 +1,29 @@
 -- What the reads and writes of the list program come to: line after line, and the end. Assumes nothing.
-use mathlib.Core.Path.{◌≡◌, refl, sym, ◌∙◌, ap, subst}
+use mathlib.Core.Path.{◌≡◌, refl, sym, ◌∙◌, ap, ap₂, subst}
+use mathlib.Core.Bool.{Bool}
 use mathlib.Core.List.{List, [], ◌++◌, append_assoc, append-nil}
 use Prim.Native.Nat.{ℕ, ◌+◌, ◌<◌, ◌≤◌}
 use native.Mathlib.Omega.{arith}
 use lib.ListN.{length, take, drop}
-use lib.Seq.{sets, sets-eq, take-append_seam}
-use Rattle.std.specs.Prelude.{Option, Some, None, IfSome}
+use lib.Seq.{sets, sets-eq, length-sets, take-append_seam}
+use Rattle.std.specs.Prelude.{Option, Some, None, IfSome, Result, Ok}
+use Rattle.std.specs.declared.io.Error.{Error}
 use Rattle.std.specs.Io.KnownBytes.{Appends}
-use Rattle.text_out.specs.Within.{Buffer, buffer, PutWithin}
-use Rattle.text_out.proofs.Within.{whole_where_room}
+use Rattle.text_out.specs.declared.Out.{Out}
+use Rattle.text_out.specs.Within.{Buffer, buffer}
+use Rattle.text_out.specs.Outs.{then_put}
+use Rattle.text_out.proofs.Outs.{then_put_room}
 use Rattle.line_input.specs.declared.Input.{Input}
-use Rattle.line_input.specs.declared.LineFound.TheVariants.{Line, End}
+use Rattle.line_input.specs.declared.LineFound.TheVariants.{Nothing, Line, End}
+use Rattle.line_input.specs.declared.Lines.{Lines}
+use Rattle.line_input.specs.Lines.{LineRead, seen}
 use Rattle.line_input.specs.Taking.{held_lines}
 use Rattle.line_input.specs.Answers.{unread, NextLineFrom}
-use Rattle.line_input.proofs.Streams.{LinesLeft, one_line_more, all_lines_taken}
+use Rattle.line_input.proofs.Streams.{LinesLeft, one_line_more, all_lines_taken, found_line, found_end}
 use Rattle.list_reader.specs.Taking.{line_taken}
-use Rattle.list_lines.specs.declared.Said.{Said}
 use Rattle.list_lines.specs.Lines.{unasked_text, stage_of, printed, numbered, LineLeft, line_left, heard_line}
 use Rattle.list_lines.specs.Longest.{printed_room, held_line}
-use Rattle.list_lines.proofs.Longest.{printed_fits, nothing_is_cut, end_fits}
+use Rattle.list_lines.proofs.Longest.{printed_fits, end_fits}
 use Rattle.solve_lists.specs.Printed.{number_text, line_printed, all_printed}
 
 -- known bytes
@@ -40,35 +45,62 @@ front_of out bs l =
 front_by : (out bs left : List ℕ) (end : ℕ) → length bs ≤ length out → buffer left end ≡ buffer (sets out 0 bs) (length bs) → take end left ≡ bs
 front_by out bs left end l e = ap (λ (b : Buffer). take b.at b.bytes) e ∙ front_of out bs l
 
+-- what was put into an empty buffer that has room for it is its front
+module _ (o n : Out) (bs : List ℕ) (z : o.at ≡ 0) (room : length bs ≤ length o.bytes.now) (e : n ≡ then_put o bs) where
+  put_is : buffer n.bytes.now n.at ≡ buffer (sets o.bytes.now 0 bs) (length bs)
+  put_is =
+      ap (λ (p : Out). buffer p.bytes.now p.at) (e ∙ then_put_room o bs (omega (arith, z, room)))
+      ∙ ap₂ buffer (ap (λ (k : ℕ). sets o.bytes.now k bs) z) (omega (arith, z))
+
+  pub put_within : n.at ≤ length n.bytes.now
+  put_within =
+      omega (
+        arith,
+        ap (λ (b : Buffer). b.at) put_is,
+        ap (λ (b : Buffer). length b.bytes) put_is,
+        length-sets o.bytes.now 0 bs,
+        room,
+      )
+
+  pub put_front : take n.at n.bytes.now ≡ bs
+  put_front = front_by o.bytes.now bs n.bytes.now n.at room put_is
+
 -- a line that was heard
-module _ (ws line out ws' out' : List ℕ) (s : Said) (e : line_left ws' out' s ≡ heard_line ws line out) where
+module _ (ws line ws' : List ℕ) (o n : Out) (b : Bool) (e : line_left ws' n b ≡ heard_line ws line o) where
   pub words_heard : ws' ≡ (line_taken ws line).words
   unfolding heard_line
   words_heard = ap (λ (x : LineLeft). x.words) e
 
-  numbered_heard : s.numbered ≡ numbered (line_taken ws line).heard
+  pub numbered_heard : b ≡ numbered (line_taken ws line).heard
   unfolding heard_line
   numbered_heard = ap (λ (x : LineLeft). x.numbered) e
 
-  front_heard : length line ≤ held_line → printed_room ≤ length out
-      → take s.end out' ≡ printed (line_taken ws line).heard line ws (line_taken ws line).words
-  front_heard l r =
-      let t = line_taken ws line in
-      front_by out (printed t.heard line ws t.words) out' s.end (omega (arith, printed_fits t.heard line ws t.words l, r))
-      (ap (λ (x : LineLeft). x.buffer) e ∙ nothing_is_cut ws line out l r)
+  out_heard : n ≡ then_put o (printed (line_taken ws line).heard line ws (line_taken ws line).words)
+  unfolding heard_line
+  out_heard = ap (λ (x : LineLeft). x.out) e
 
-  pub line_written : (n : ℕ) (a b c : Option (List ℕ)) → length line ≤ held_line → printed_room ≤ length out
-      → Appends a b (number_text s.numbered n) → Appends b c (take s.end out') → Appends a c (line_printed n ws line)
-  line_written n a b c l r p q =
-      shown_more a b c _ _ (subst (λ x. Appends a b (number_text x n)) numbered_heard p) (subst (Appends b c) (front_heard l r) q)
+  module _ (z : o.at ≡ 0) (l : length line ≤ held_line) (r : printed_room ≤ length o.bytes.now) where
+    fits : length (printed (line_taken ws line).heard line ws (line_taken ws line).words) ≤ length o.bytes.now
+    fits = let t = line_taken ws line in omega (arith, printed_fits t.heard line ws t.words l, r)
 
-pub end_written : (ws out out' : List ℕ) (end : ℕ) (a b : Option (List ℕ)) → printed_room ≤ length out
-    → PutWithin out 0 (unasked_text (stage_of ws)) out' end → Appends a b (take end out') → Appends a b (unasked_text (stage_of ws))
-end_written ws out out' end a b r p q =
-    let text = unasked_text (stage_of ws) in
-    let fits : length text ≤ length out = omega (arith, end_fits (stage_of ws), r) in
-    subst (Appends a b)
-    (front_by out text out' end fits (p.is ∙ (whole_where_room out 0 text (omega (arith, fits)) ∙ ap (buffer (sets out 0 text)) (omega arith)))) q
+    pub heard_within : n.at ≤ length n.bytes.now
+    heard_within = put_within o n _ z fits out_heard
+
+    pub front_heard : take n.at n.bytes.now ≡ printed (line_taken ws line).heard line ws (line_taken ws line).words
+    front_heard = put_front o n _ z fits out_heard
+
+    pub line_written : (k : ℕ) (a c d : Option (List ℕ)) → Appends a c (number_text b k) → Appends c d (take n.at n.bytes.now)
+        → Appends a d (line_printed k ws line)
+    line_written k a c d p q =
+        shown_more a c d _ _ (subst (λ x. Appends a c (number_text x k)) numbered_heard p) (subst (Appends c d) front_heard q)
+
+-- the end
+module _ (stage : ℕ) (o n : Out) (z : o.at ≡ 0) (r : printed_room ≤ length o.bytes.now) (e : n ≡ then_put o (unasked_text stage)) where
+  pub end_within : n.at ≤ length n.bytes.now
+  end_within = put_within o n _ z (omega (arith, end_fits stage, r)) e
+
+  pub end_written : (a b : Option (List ℕ)) → Appends a b (take n.at n.bytes.now) → Appends a b (unasked_text stage)
+  end_written a b q = subst (Appends a b) (put_front o n _ z (omega (arith, end_fits stage, r)) e) q
 
 -- The lines so far: what was printed for them is written, and what is left is printed from line n on.
 pub record Solving (xs : List ℕ) (most : ℕ) (known shown₀ shown : Option (List ℕ)) (ws₀ ws left : List ℕ) (n : ℕ) : Type 0 where
@@ -125,6 +157,34 @@ module _ (xs : List ℕ) (known shown₀ shown : Option (List ℕ)) (ws₀ ws : 
       let t = all_lines_taken known known' buffer line input buffer' line' r next room some (unread buffer input ++ s.rest) [] here e in
       subst (Appends shown₀ shown') (sym (s.same ∙ ap (λ ls. s.text ++ all_printed n ws ls) t))
       (shown_more shown₀ shown shown' s.text (unasked_text (stage_of ws)) s.written w)
+
+-- The same of a call of `next_line`, by its answer.
+module _ (xs : List ℕ) (known shown₀ shown : Option (List ℕ)) (ws₀ ws : List ℕ) (n : ℕ) (known' : Option (List ℕ)) (before after : Lines)
+    (r : Result (Option ℕ) Error) (l : LineRead known known' before after r)
+    (room : 0 < length before.buffer.now) (some : 0 < length before.line.bytes.now)
+    (s : Solving xs (length before.line.bytes.now) known shown₀ shown ws₀ ws (unread before.buffer.now (seen before Nothing)) n) where
+  pub line_solved : (held : ℕ) → r ≡ Ok (Some held) → length after.line.bytes.now ≡ length before.line.bytes.now
+      → (shown' : Option (List ℕ)) (ws' : List ℕ) → ws' ≡ (line_taken ws (take held after.line.bytes.now)).words
+      → Appends shown shown' (line_printed n ws (take held after.line.bytes.now))
+      → Solving xs (length after.line.bytes.now) known' shown₀ shown' ws₀ ws' (unread after.buffer.now (seen after Nothing)) (n + 1)
+  line_solved held e long shown' ws' we w =
+      let f = found_line l.found after.line.at held r l.answer e in
+      moved xs _ _ known' shown₀ shown' ws₀ _ ws' _ _ _
+      (one_solved xs known shown₀ shown ws₀ ws n known' before.buffer.now before.line.bytes.now (seen before Nothing)
+      after.buffer.now after.line.bytes.now (seen after l.found) l.next room some s f.0 shown'
+      (subst (λ (k : ℕ). Appends shown shown' (line_printed n ws (take k after.line.bytes.now))) f.1 w))
+      (sym long) (ap (λ (k : ℕ). (line_taken ws (take k after.line.bytes.now)).words) (sym f.1) ∙ sym we) refl
+
+  pub all_read : r ≡ Ok None → (shown' : Option (List ℕ)) → Appends shown shown' (unasked_text (stage_of ws))
+      → Appends shown₀ shown' (all_printed 1 ws₀ (held_lines (length before.line.bytes.now) xs))
+  all_read e shown' w =
+      all_solved xs known shown₀ shown ws₀ ws n known' before.buffer.now before.line.bytes.now (seen before Nothing)
+      after.buffer.now after.line.bytes.now (seen after l.found) l.next room some s (found_end l.found after.line.at r l.answer e) shown' w
+
+pub held_within : (known known' : Option (List ℕ)) (before after : Lines) (r : Result (Option ℕ) Error) → LineRead known known' before after r
+    → length after.line.bytes.now ≡ length before.line.bytes.now → (held : ℕ) → r ≡ Ok (Some held) → held ≤ length after.line.bytes.now
+held_within known known' before after r l long held e =
+    omega (arith, (found_line l.found after.line.at held r l.answer e).1, l.next.next.few, long)
 
 -- what holds of the known bytes, if any are known
 pub if_known : (k : Option (List ℕ)) (P : List ℕ → Type 0) → ((xs : List ℕ) → k ≡ Some xs → P xs) → IfSome k P

@@ -9,21 +9,36 @@
 // the length of its lines: of a line longer than 201 bytes only those are looked at, which shows that it is too long.
 #![tactic(auto)]
 
-ghost use Rattle.std.specs.Prelude.{◌≡◌, true, ◌<◌, ◌≤◌, length, take, OnOk};
+ghost use Rattle.std.specs.Prelude.{◌≡◌, ◌<◌, ◌≤◌, length, take, OnOk};
 ghost use Rattle.std.specs.Io.KnownBytes.{Appends};
 ghost use Rattle.list_reader.specs.Taking.{line_taken};
 ghost use Rattle.list_lines.specs.Lines.{unasked_text, stage_of};
 ghost use Rattle.list_lines.specs.Longest.{printed_room, held_line};
 ghost use Rattle.solve_lists.specs.Printed.{number_text, line_printed, InputPrinted};
 
-use line_input::{LineFound, next_line, no_input};
+use line_input::Lines;
 use list_lines::{HELD_LINE, PRINTED_ROOM, finish, hear};
 use list_memory::LIST_WORDS;
 use std::io;
 use std::io::{Read, Write};
 use std::process::ExitCode;
+use text_out::Out;
 
-// The number of a line, before what there is to say of it.
+// The input cannot be read, or the output cannot be written: it is told where that is found.
+#[derive(Clone, Copy, Debug)]
+struct Failed;
+
+fn unread(rt: &impl Eprint) -> Failed {
+    let _ = eprintln!(rt; "solve_lists: the input cannot be read");
+    Failed
+}
+
+fn unwritten(rt: &impl Eprint) -> Failed {
+    let _ = eprintln!(rt; "solve_lists: the output cannot be written");
+    Failed
+}
+
+// The number of a line, where it is to stand before what there is to say of it.
 #[tactic(auto, unfolding(crate::specs::Printed::number_text))]
 fn write_number<W: Write>(to: &mut W, numbered: bool, number: u64) -> io::Result<()>
     ensures { OnOk result (Appends (W.contents to.old) (W.contents to.new) (number_text numbered number)) }
@@ -34,103 +49,51 @@ fn write_number<W: Write>(to: &mut W, numbered: bool, number: u64) -> io::Result
     Ok(())
 }
 
-fn say_unwritten(rt: &impl Eprint) {
-    let _ = eprintln!(rt; "solve_lists: the output cannot be written");
-}
-
-// The first bytes of a buffer are written; false where that fails.
-fn write_front<W: Write>(rt: &impl Eprint, to: &mut W, out: &[u8], end: usize) -> bool
-    ensures { result ≡ true → Appends (W.contents to.old) (W.contents to.new) (take end out.now) }
-{
-    if out.len() < end {
-        return false;
-    }
-    match to.write_all(&out[..end]) {
-        Ok(()) => true,
-        Err(_) => {
-            say_unwritten(rt);
-            false
-        }
-    }
-}
-
 // A line of the input, and its output, of which nothing is cut (`nothing_is_cut` of list_lines).
-fn say_line<W: Write>(
-    rt: &impl Eprint,
+fn write_line<W: Write>(
     to: &mut W,
     list: &mut [u16; LIST_WORDS],
     line: &[u8],
     number: u64,
-    out: &mut [u8],
-) -> bool
-    requires { (length line.now ≤ held_line) × (printed_room ≤ length out.old) }
+    memory: &mut [u8],
+) -> io::Result<()>
+    requires { (length line.now ≤ held_line) × (printed_room ≤ length memory.old) }
     ensures words { list.new ≡ (line_taken list.old line.now).words }
-    ensures written { result ≡ true → Appends (W.contents to.old) (W.contents to.new) (line_printed number list.old line.now) }
+    ensures written { OnOk result (Appends (W.contents to.old) (W.contents to.new) (line_printed number list.old line.now)) }
 {
-    let said = hear(list, line, out);
-    match write_number(to, said.numbered, number) {
-        Ok(()) => write_front(rt, to, out, said.end),
-        Err(_) => {
-            say_unwritten(rt);
-            false
-        }
-    }
+    let mut out = Out {
+        bytes: memory,
+        at: 0,
+    };
+    let numbered = hear(list, line, &mut out);
+    write_number(to, numbered, number)?;
+    let end = out.at;
+    to.write_all(&out.bytes[..end])
 }
 
-// The line of which so many bytes are held.
-fn take_line<W: Write>(
-    rt: &impl Eprint,
-    to: &mut W,
-    list: &mut [u16; LIST_WORDS],
-    line: &[u8],
-    held: usize,
-    number: u64,
-    out: &mut [u8],
-) -> bool
-    requires { (held ≤ length line.now) × (length line.now ≤ held_line) × (printed_room ≤ length out.old) }
-    ensures words { list.new ≡ (line_taken list.old (take held line.now)).words }
-    ensures written { result ≡ true → Appends (W.contents to.old) (W.contents to.new) (line_printed number list.old (take held line.now)) }
+// What is held of a line.
+fn held_of<'a>(lines: &'a Lines<'_>, held: usize) -> &'a [u8]
+    requires { held ≤ length lines.now.line.bytes.now }
+    ensures { result.now ≡ take held lines.now.line.bytes.now }
 {
-    say_line(rt, to, list, &line[..held], number, out)
+    &lines.line.bytes[..held]
 }
 
-// Whether the search for a line came to the end of the input. A read that failed is said.
-fn is_end(rt: &impl Eprint, found: LineFound) -> bool
-    ensures { result ≡ true → found ≡ LineFound.End }
+// What there is to say at the end of the input.
+fn write_end<W: Write>(to: &mut W, list: &[u16; LIST_WORDS], memory: &mut [u8]) -> io::Result<()>
+    requires { printed_room ≤ length memory.old }
+    ensures { OnOk result (Appends (W.contents to.old) (W.contents to.new) (unasked_text (stage_of list.now))) }
 {
-    match found {
-        LineFound::End => true,
-        LineFound::Failed => {
-            let _ = eprintln!(rt; "solve_lists: the input cannot be read");
-            false
-        }
-        LineFound::Line => false,
-        LineFound::Nothing => false,
-    }
+    let mut out = Out {
+        bytes: memory,
+        at: 0,
+    };
+    finish(list, &mut out);
+    let end = out.at;
+    to.write_all(&out.bytes[..end])
 }
 
-// The end of the input, or a read that failed; false then, or where the output cannot be written.
-fn at_end<W: Write>(
-    rt: &impl Eprint,
-    to: &mut W,
-    list: &[u16; LIST_WORDS],
-    found: LineFound,
-    out: &mut [u8],
-) -> bool
-    requires { printed_room ≤ length out.old }
-    ensures found { result ≡ true → found ≡ LineFound.End }
-    ensures written { result ≡ true → Appends (W.contents to.old) (W.contents to.new) (unasked_text (stage_of list.now)) }
-{
-    let ended = is_end(rt, found);
-    let end = finish(list, out);
-    if write_front(rt, to, out, end) {
-        return ended;
-    }
-    false
-}
-
-// All lines; false where the input cannot be read or the output cannot be written. A proved loop has to end, and nothing
-// says that an input does: the loop counts its turns down, from a number that no run uses up.
+// All lines. A proved loop has to end, and nothing says that an input does: so many lines no run takes.
 fn solve_all<R: Read, W: Write>(
     rt: &impl Eprint,
     reader: &mut R,
@@ -139,26 +102,34 @@ fn solve_all<R: Read, W: Write>(
     buffer: &mut [u8],
     line: &mut [u8],
     out: &mut [u8],
-) -> bool
+) -> Result<(), Failed>
     requires { (length line.old ≤ held_line) × (printed_room ≤ length out.old) }
-    ensures { result ≡ true → 0 < length buffer.old → 0 < length line.old
-        → InputPrinted (R.remaining reader.old) (W.contents to.old) (W.contents to.new) list.old (length line.old) }
+    ensures { OnOk result (0 < length buffer.old → 0 < length line.old
+        → InputPrinted (R.remaining reader.old) (W.contents to.old) (W.contents to.new) list.old (length line.old)) }
 {
-    let mut read = no_input();
-    let mut turns = u64::MAX;
-    while turns > 0 {
-        read = next_line(reader, buffer, line, read);
-        let found = read.found;
-        match found {
-            LineFound::Line => {}
-            _ => return at_end(rt, to, list, found, out),
+    let mut lines = Lines::new(buffer, line);
+    for number in 1..=u64::MAX {
+        match lines.next_line(reader) {
+            Ok(Some(held)) => match write_line(to, list, held_of(&lines, held), number, out) {
+                Ok(()) => {}
+                Err(_) => return Err(unwritten(rt)),
+            },
+            Ok(None) => {
+                return match write_end(to, list, out) {
+                    Ok(()) => Ok(()),
+                    Err(_) => Err(unwritten(rt)),
+                };
+            }
+            Err(_) => {
+                let failed = unread(rt);
+                return match write_end(to, list, out) {
+                    Ok(()) => Err(failed),
+                    Err(_) => Err(unwritten(rt)),
+                };
+            }
         }
-        if !take_line(rt, to, list, line, read.length, u64::MAX - turns + 1, out) {
-            return false;
-        }
-        turns -= 1;
     }
-    false
+    Err(Failed)
 }
 
 // A read or a write that failed ends the program with status 1.
@@ -169,7 +140,7 @@ fn main(rt: HostRuntime) -> ExitCode {
     let mut buffer = [0u8; BUFFER_BYTES];
     let mut line = [0u8; HELD_LINE];
     let mut out = [0u8; PRINTED_ROOM];
-    if solve_all(
+    match solve_all(
         &rt,
         &mut reader,
         &mut to,
@@ -178,9 +149,8 @@ fn main(rt: HostRuntime) -> ExitCode {
         &mut line,
         &mut out,
     ) {
-        ExitCode::SUCCESS
-    } else {
-        ExitCode::FAILURE
+        Ok(()) => ExitCode::SUCCESS,
+        Err(Failed) => ExitCode::FAILURE,
     }
 }
 

@@ -80,3 +80,12 @@ pub left_whole : (o n : Out) {bs left : List ℕ} → o.at + length bs ≤ lengt
 left_whole o n {bs} {left} room e h =
     let is = (left_within o n e h).is ∙ whole_where_room o.bytes.now o.at bs room in
     record { bytes = ap (λ (b : Buffer). b.bytes) is; behind = ap (λ (b : Buffer). b.at) is }
+
+-- a text put by its parts
+pub then_put_first : (o : Out) (x : ℕ) (xs : List ℕ) → then_put o (x ∷ xs) ≡ then_put (then_put o (x ∷ [])) xs
+then_put_first o x xs = then_put_both o (x ∷ []) xs
+
+pub ruleset put_parts = (then_put_both, then_put_nothing, then_put_first)
+
+pub put_then : (o n : Out) (xs ys : List ℕ) → n ≡ then_put o xs → {m : Out} → m ≡ then_put n ys → m ≡ then_put o (xs ++ ys)
+put_then o n xs ys e f = f ∙ (ap (λ (p : Out). then_put p ys) e ∙ sym (then_put_both o xs ys))

@@ -7,5 +7,5 @@ tell-requires c = law.answer_tellable _ _ _ _ _ _ c.ask-answer.ensures
 
 pub returns : goal.returns
 returns c =
-    law.asked_and_told _ _ _ _ _ _ c.ask-answer.ensures c.args.list.now _ _ _ c.count_of-given.ensures c.count_of-exprs.ensures
+    law.asked_and_told _ _ _ _ _ _ c.ask-answer.ensures c.args.list.now _ _ _ _ c.count_of.ensures c.count_of-2.ensures
     c.tell.ensures

@@ -22,7 +22,7 @@ slice_bounds-solve_list-end-3 c =
 
 pub returns : goal.returns
 returns c =
-    law.asked_alone c.args.list.now _ _ _ _ _ _ _ _ c.given_of-given.ensures
+    law.asked_alone c.args.list.now _ _ _ _ _ _ _ _ c.given_of.ensures
     (list.front_lent c.args.list.now 8192 12288 _ _ (omega arith) (length-replicate {A = ℕ} 12288 0) c.copy.ensures _ _ _ c.length_of-nodes_end.ensures.0 c.length_of-nodes_end.ensures.1)
     (list.rows_lent c.args.list.now _ 20480 2 4 512 _
     (list.front_lent c.args.list.now 20480 512 _ _ (omega arith) (length-replicate {A = ℕ} 512 0) c.copy-2.ensures _ _ _ c.length_of-binds_end.ensures.0 c.length_of-binds_end.ensures.1)

@@ -1,29 +1,59 @@
 -- No line is taken at first, each turn takes one and prints it, and at the end all are printed. Assumes nothing.
-use Rattle.std.proofs.Common.{ℕ, sym, subst, arith}
+use Rattle.std.proofs.Common.{ℕ, List, ◌≤◌, ◌≡◌, ◌∙◌, ap, subst, arith, length, take}
+use Rattle.std.proofs.Math.Seq.{length-take-le}
+use Rattle.std.specs.Prelude.{Ok}
 use Rattle.std.specs.Io.KnownBytes.{Appends}
+use Rattle.line_input.specs.declared.LineFound.TheVariants.{Nothing}
+use Rattle.line_input.specs.Lines.{seen}
 use Rattle.line_input.specs.Taking.{held_lines}
-use Rattle.solve_lists.specs.Printed.{all_printed}
+use Rattle.list_reader.specs.Taking.{line_taken}
+use Rattle.solve_lists.specs.Printed.{all_printed, line_printed}
 use Rattle.solve_lists.proofs.Runs as law
 use Rattle.solve_lists.proofs.solve_all.Goals as goal
 
-pub loop-turns-init : goal.loop-turns-init
-loop-turns-init g c xs k b n =
-    law.none_solved xs _ _ _ _ _ (law.nothing_unread c.args.buffer.now c.no_input-read.result c.no_input-read.ensures.0 c.no_input-read.ensures.1) k
+pub loop-number-init : goal.loop-number-init
+loop-number-init g c =
+    record {
+      buffer_long = ap (λ m. length m.now) c.new-lines.ensures.same_memory.0;
+      line_long = ap (λ m. length m.now) c.new-lines.ensures.same_memory.1;
+      solving = λ xs k b n. law.none_solved xs _ _ _ _ _ (law.nothing_unread _ (seen c.new-lines.result Nothing) c.new-lines.ensures.nothing_read.0 c.new-lines.ensures.nothing_read.1) k;
+    }
 
-pub returns-in_default : goal.returns-in_default
-returns-in_default g c e b n =
+pub held_of-requires : goal.held_of-requires
+held_of-requires g c =
+    law.held_within _ _ _ _ _ c.next_line.ensures.line c.next_line.ensures.same_memory.line_long _ (c.in-Ok-Some.is ∙ ap Ok c.in-Ok-Some.field-0-is)
+
+pub write_line-requires : goal.write_line-requires
+write_line-requires g c =
+    let within : c.in-Ok-Some.held ≤ length c.next_line.new.self.line.bytes.now =
+    law.held_within _ _ _ _ _ c.next_line.ensures.line c.next_line.ensures.same_memory.line_long _ (c.in-Ok-Some.is ∙ ap Ok c.in-Ok-Some.field-0-is) in
+    let long : length c.held_of.result.now ≡ c.in-Ok-Some.held = ap length c.held_of.ensures ∙ length-take-le _ _ within in (
+      omega (arith, long, within, c.next_line.ensures.same_memory.line_long, c.loop-number.invariant.line_long, c.requires.0),
+      omega (arith, c.loop-number.auto.out, c.requires.1),
+    )
+
+pub returns-in-Ok-write_end : goal.returns-in-Ok-write_end
+returns-in-Ok-write_end g c b n =
     law.if_known _ _ (λ xs k.
     subst
-    (λ (m : ℕ). Appends (g.W.Write.contents c.args.to.now) (g.W.Write.contents c.at_end.new.to) (all_printed 1 c.args.list.now (held_lines m xs)))
-    c.loop-turns.auto.line
-    (law.all_solved xs _ _ _ _ _ _ _ _ _ _ _ _ _ c.next_line-read.ensures
-    (omega (arith, b, c.loop-turns.auto.buffer)) (omega (arith, n, c.loop-turns.auto.line))
-    (c.loop-turns.invariant xs k b n) (c.at_end.ensures.found e) _ (c.at_end.ensures.written e)))
+    (λ (m : ℕ). Appends (g.W.Write.contents c.args.to.now) (g.W.Write.contents c.write_end.new.to) (all_printed 1 c.args.list.now (held_lines m xs)))
+    c.loop-number.invariant.line_long
+    (law.all_read xs _ _ _ _ _ _ _ _ _ _ c.next_line.ensures.line (omega (arith, b, c.loop-number.invariant.buffer_long))
+    (omega (arith, n, c.loop-number.invariant.line_long)) (c.loop-number.invariant.solving xs k b n)
+    (c.in-Ok-None.is ∙ ap Ok c.in-Ok-None.field-0-is) _ c.in-Ok-write_end.ensures))
 
-pub loop-turns-preserved : goal.loop-turns-preserved
-loop-turns-preserved g c xs k b n =
-    law.moved xs _ _ _ _ _ _ _ _ _ _ _
-    (law.one_solved xs _ _ _ _ _ _ _ _ _ _ _ _ _ c.next_line-read.ensures
-    (omega (arith, b, c.loop-turns.auto.buffer)) (omega (arith, n, c.loop-turns.auto.line))
-    (c.loop-turns.invariant xs k b n) c.in-Line.is _ (c.take_line.ensures.written c.if-not-take_line.false))
-    (sym c.next_line-read.auto.line) (sym c.take_line.ensures.words) (omega (arith, c.loop-turns-test.true, c.loop-turns.auto.turns-fits))
+pub loop-number-preserved : goal.loop-number-preserved
+loop-number-preserved g c =
+    record {
+      buffer_long = c.next_line.ensures.same_memory.buffer_long ∙ c.loop-number.invariant.buffer_long;
+      line_long = c.next_line.ensures.same_memory.line_long ∙ c.loop-number.invariant.line_long;
+      solving =
+          λ xs k b n.
+          law.line_solved xs _ _ _ _ _ _ _ _ _ _ c.next_line.ensures.line (omega (arith, b, c.loop-number.invariant.buffer_long))
+          (omega (arith, n, c.loop-number.invariant.line_long)) (c.loop-number.invariant.solving xs k b n) _
+          (c.in-Ok-Some.is ∙ ap Ok c.in-Ok-Some.field-0-is) c.next_line.ensures.same_memory.line_long _ _
+          (c.in-Ok.ensures.words ∙ ap (λ (l : List ℕ). (line_taken c.loop-number.list l).words) c.held_of.ensures)
+          (subst
+          (λ (l : List ℕ). Appends (g.W.Write.contents c.loop-number.to) (g.W.Write.contents c.write_line.new.to) (line_printed c.loop-number.number c.loop-number.list l))
+          c.held_of.ensures c.in-Ok.ensures.written);
+    }
