@@ -2,7 +2,7 @@
 // instead. Nothing is stored here.
 #![tactic(auto)]
 
-ghost use Rattle.std.specs.Prelude.{◌≡◌, ◌≤◌, [], ◌∷◌, length};
+ghost use Rattle.std.specs.Prelude.{get_or, ◌≡◌, ◌≤◌, [], ◌∷◌, length};
 ghost use Rattle.list_memory.specs.Memory.{rows_given};
 ghost use Rattle.list_memory.specs.Layouts.{table_number};
 ghost use Rattle.list_tokens.specs.declared.Keyword.{Keyword};
@@ -60,6 +60,13 @@ pub struct Plan {
     pub rows: Option<Rows>,
     pub put: Option<Put>,
     pub told: Option<Put>,
+}
+
+// A line of a list: the list so far, and the words of the line.
+#[derive(Clone, Copy)]
+pub struct Line<'a> {
+    pub list: &'a [u16; LIST_WORDS],
+    pub words: &'a [Token],
 }
 
 // Items of a form: a word of the format, or what a word may be. A place is a sort below s1024, a node whose place is a
@@ -341,199 +348,6 @@ fn capped(n: usize) -> u16
     u16::try_from(n).unwrap_or(u16::MAX)
 }
 
-// The rows given of a table.
-fn rows_given(list: &[u16; LIST_WORDS], table: Table) -> u16
-    ensures { result ≡ rows_given list.now (table_number table) }
-{
-    word(list, ROWS_AT + table.number())
-}
-
-// Word i of the last constraint's row grows by n, where its line is of a kind and the row is kept.
-#[tactic(auto, unfolding(crate::specs::Plans::grown))]
-fn grown(list: &[u16; LIST_WORDS], last: LastConstraint, i: usize, n: u16) -> Option<Put>
-    requires { i ≤ 4 }
-    ensures { result ≡ grown list.now last i n }
-{
-    if word(list, LAST_AT) == last.number() {
-        let rows = rows_given(list, Table::Constraints) as usize;
-        if rows == 0 {
-            return None;
-        }
-        if MAX_CONSTRAINTS < rows {
-            return None;
-        }
-        let at = BEFORE_CONSTRAINTS + 5 * rows + i;
-        let value = capped((word(list, at) as usize) + (n as usize));
-        return Some(Put { at, value });
-    }
-    None
-}
-
-// A word is the next name of a table.
-#[tactic(auto, unfolding(crate::specs::Lines::is_next))]
-fn is_next(list: &[u16; LIST_WORDS], token: Token, table: Table) -> bool
-    ensures { result ≡ is_next list.now token table }
-{
-    match (token, table) {
-        (Token::Sort(n), Table::Sorts) => n == rows_given(list, Table::Sorts),
-        (Token::Node(n), Table::Nodes) => n == rows_given(list, Table::Nodes),
-        (Token::Var(n), Table::Vars) => n == rows_given(list, Table::Vars),
-        (Token::Expr(n), Table::Exprs) => n == rows_given(list, Table::Exprs),
-        _ => false,
-    }
-}
-
-// A function row of a table, with its arguments in another.
-#[tactic(auto, unfolding(crate::specs::Lines::function_plan))]
-fn function_plan(list: &[u16; LIST_WORDS], t: &[Token], table: Table, entries: Table) -> Plan
-    ensures { result ≡ function_plan list.now t.now table entries }
-{
-    let range = word_at(t, t.len().saturating_sub(1));
-    let start = rows_given(list, entries);
-    let arguments = capped(t.len().saturating_sub(5));
-    Plan {
-        run: Some(Run {
-            table: entries,
-            from: 3,
-            to: t.len().saturating_sub(2),
-        }),
-        ..row_plan(table, [FUNCTION_KIND, range, start, arguments, 0])
-    }
-}
-
-// The lines that sorts and nodes share: a container, a function, a raw row.
-#[tactic(auto, unfolding(crate::specs::Lines::parts_row))]
-fn parts_row(
-    list: &[u16; LIST_WORDS],
-    t: &[Token],
-    keyword: Keyword,
-    name: Item,
-    part: Item,
-    table: Table,
-    entries: Table,
-) -> Option<Plan>
-    ensures { result ≡ parts_row list.now t.now keyword name part table entries }
-{
-    if fits(t, &[Item::Word(keyword), name, Item::Container, part]) {
-        return Some(row_plan(table, [word_at(t, 2), word_at(t, 3), 0, 0, 0]));
-    }
-    if function_fits(t, part) {
-        return Some(function_plan(list, t, table, entries));
-    }
-    if fits(
-        t,
-        &[
-            Item::Word(keyword),
-            name,
-            Item::Word(Keyword::Raw),
-            Item::Number,
-            Item::Number,
-            Item::Number,
-            Item::Number,
-        ],
-    ) {
-        return Some(row_plan(
-            table,
-            [
-                word_at(t, 3),
-                word_at(t, 4),
-                word_at(t, 5),
-                word_at(t, 6),
-                0,
-            ],
-        ));
-    }
-    None
-}
-
-// `sort sK ..`
-#[tactic(auto, unfolding(crate::specs::Lines::sort_plan))]
-fn sort_plan(list: &[u16; LIST_WORDS], t: &[Token]) -> Result<Plan, Form>
-    ensures { result ≡ sort_plan list.now t.now }
-{
-    if is_next(list, token_at(t, 1), Table::Sorts) {
-        return sort_row(list, t);
-    }
-    Err(Form::Next)
-}
-
-#[tactic(auto, unfolding(crate::specs::Lines::sort_row))]
-fn sort_row(list: &[u16; LIST_WORDS], t: &[Token]) -> Result<Plan, Form>
-    ensures { result ≡ sort_row list.now t.now }
-{
-    if let Some(plan) = parts_row(
-        list,
-        t,
-        Keyword::Sort,
-        Item::Sort,
-        Item::Sort,
-        Table::Sorts,
-        Table::Entries,
-    ) {
-        return Ok(plan);
-    }
-    if fits(
-        t,
-        &[
-            Item::Word(Keyword::Sort),
-            Item::Sort,
-            Item::Word(Keyword::Def),
-            Item::Number,
-        ],
-    ) {
-        return Ok(row_plan(Table::Sorts, [DEF_KIND, word_at(t, 3), 0, 0, 0]));
-    }
-    if fits(
-        t,
-        &[
-            Item::Word(Keyword::Sort),
-            Item::Sort,
-            Item::Word(Keyword::TypeVar),
-            Item::Number,
-        ],
-    ) {
-        return Ok(row_plan(Table::Sorts, [LAST_KIND, word_at(t, 3), 0, 0, 0]));
-    }
-    if fits(t, &[Item::Word(Keyword::Sort), Item::Sort, Item::FixedSort]) {
-        return Ok(row_plan(Table::Sorts, [word_at(t, 2), 0, 0, 0, 0]));
-    }
-    Err(Form::Sort)
-}
-
-// `var vK nJ`
-#[tactic(auto, unfolding(crate::specs::Lines::var_plan))]
-fn var_plan(list: &[u16; LIST_WORDS], t: &[Token]) -> Result<Plan, Form>
-    ensures { result ≡ var_plan list.now t.now }
-{
-    if fits(t, &[Item::Word(Keyword::Var), Item::Var, Item::Node]) {
-        if is_next(list, token_at(t, 1), Table::Vars) {
-            if is_next(list, token_at(t, 2), Table::Nodes) {
-                return Ok(Plan {
-                    free: 1,
-                    ..row_plan(Table::Nodes, [VARIABLE_KIND, word_at(t, 1), 0, 0, 0])
-                });
-            }
-            return Err(Form::Next);
-        }
-        return Err(Form::Next);
-    }
-    Err(Form::Var)
-}
-
-// `vars N`
-#[tactic(auto, unfolding(crate::specs::Lines::vars_plan))]
-fn vars_plan(t: &[Token]) -> Result<Plan, Form>
-    ensures { result ≡ vars_plan t.now }
-{
-    if fits(t, &[Item::Word(Keyword::Vars), Item::Number]) {
-        return Ok(Plan {
-            free: word_at(t, 1),
-            ..NOTHING
-        });
-    }
-    Err(Form::Vars)
-}
-
 // A word that is set, and nothing else.
 fn put_plan(at: usize, value: u16) -> Plan
     ensures { result ≡ with_put nothing (put_at at value) }
@@ -542,173 +356,6 @@ fn put_plan(at: usize, value: u16) -> Plan
         put: Some(Put { at, value }),
         ..NOTHING
     }
-}
-
-// The binding of a variable that has none yet; one past the ceiling has no word.
-#[tactic(auto, unfolding(crate::specs::Lines::bound_plan))]
-fn bound_plan(list: &[u16; LIST_WORDS], var: SortVar, place: InferSortId) -> Result<Plan, Form>
-    ensures { result ≡ bound_plan list.now var.0 place.0 }
-{
-    if var.0 < rows_given(list, Table::Vars) {
-        if var.0 < VARS {
-            let at = LIST_BINDS_AT + (var.0 as usize);
-            if word(list, at) == FREE_WORD {
-                return Ok(put_plan(at, place.0));
-            }
-            return Err(Form::Unbound);
-        }
-        return Ok(NOTHING);
-    }
-    Err(Form::Unbound)
-}
-
-// `bind vN P`
-#[tactic(auto, unfolding(crate::specs::Lines::bind_plan))]
-fn bind_plan(list: &[u16; LIST_WORDS], t: &[Token]) -> Result<Plan, Form>
-    ensures { result ≡ bind_plan list.now t.now }
-{
-    if fits(t, &[Item::Word(Keyword::Bind), Item::Var, Item::Place]) {
-        return bound_plan(list, SortVar(word_at(t, 1)), InferSortId(word_at(t, 2)));
-    }
-    Err(Form::Bind)
-}
-
-// `node nK ..`
-#[tactic(auto, unfolding(crate::specs::Lines::node_plan))]
-fn node_plan(list: &[u16; LIST_WORDS], t: &[Token]) -> Result<Plan, Form>
-    ensures { result ≡ node_plan list.now t.now }
-{
-    if is_next(list, token_at(t, 1), Table::Nodes) {
-        return node_row(list, t);
-    }
-    Err(Form::Next)
-}
-
-#[tactic(auto, unfolding(crate::specs::Lines::node_row))]
-fn node_row(list: &[u16; LIST_WORDS], t: &[Token]) -> Result<Plan, Form>
-    ensures { result ≡ node_row list.now t.now }
-{
-    if let Some(plan) = parts_row(
-        list,
-        t,
-        Keyword::Node,
-        Item::Node,
-        Item::Place,
-        Table::Nodes,
-        Table::NodeEntries,
-    ) {
-        return Ok(plan);
-    }
-    if fits(
-        t,
-        &[
-            Item::Word(Keyword::Node),
-            Item::Node,
-            Item::Word(Keyword::Var),
-            Item::Var,
-        ],
-    ) {
-        return Ok(row_plan(Table::Nodes, [VARIABLE_KIND, word_at(t, 3), 0, 0, 0]));
-    }
-    Err(Form::Node)
-}
-
-// `expr eK P`
-#[tactic(auto, unfolding(crate::specs::Lines::expr_plan))]
-fn expr_plan(list: &[u16; LIST_WORDS], t: &[Token]) -> Result<Plan, Form>
-    ensures { result ≡ expr_plan list.now t.now }
-{
-    if is_next(list, token_at(t, 1), Table::Exprs) {
-        if fits(t, &[Item::Word(Keyword::Expr), Item::Expr, Item::Place]) {
-            return Ok(row_plan(Table::Exprs, [word_at(t, 2), 0, 0, 0, 0]));
-        }
-        return Err(Form::Expr);
-    }
-    Err(Form::Next)
-}
-
-// `name eN ..`
-#[tactic(auto, unfolding(crate::specs::Lines::name_plan))]
-fn name_plan(list: &[u16; LIST_WORDS], t: &[Token]) -> Result<Plan, Form>
-    ensures { result ≡ name_plan list.now t.now }
-{
-    if rows_given(list, Table::Names) < NAMES {
-        return name_row(t);
-    }
-    Err(Form::Names)
-}
-
-#[tactic(auto, unfolding(crate::specs::Lines::name_row))]
-fn name_row(t: &[Token]) -> Result<Plan, Form>
-    ensures { result ≡ name_row t.now }
-{
-    if fits(
-        t,
-        &[
-            Item::Word(Keyword::Name),
-            Item::Expr,
-            Item::Word(Keyword::Variable),
-        ],
-    ) {
-        return Ok(row_plan(
-            Table::Names,
-            [word_at(t, 1), Target::Variable as u16, 0, 0, 0],
-        ));
-    }
-    if fits(
-        t,
-        &[
-            Item::Word(Keyword::Name),
-            Item::Expr,
-            Item::Word(Keyword::Builtin),
-        ],
-    ) {
-        return Ok(row_plan(
-            Table::Names,
-            [word_at(t, 1), Target::Builtin as u16, 0, 0, 0],
-        ));
-    }
-    if fits(
-        t,
-        &[
-            Item::Word(Keyword::Name),
-            Item::Expr,
-            Item::Word(Keyword::Op),
-            Item::Sort,
-        ],
-    ) {
-        return Ok(row_plan(
-            Table::Names,
-            [word_at(t, 1), Target::Op as u16, word_at(t, 3), 0, 0],
-        ));
-    }
-    if fits(
-        t,
-        &[
-            Item::Word(Keyword::Name),
-            Item::Expr,
-            Item::Word(Keyword::Raw),
-            Item::Number,
-            Item::Number,
-        ],
-    ) {
-        return Ok(row_plan(
-            Table::Names,
-            [word_at(t, 1), word_at(t, 3), word_at(t, 4), 0, 0],
-        ));
-    }
-    Err(Form::Name)
-}
-
-// `default S`
-#[tactic(auto, unfolding(crate::specs::Lines::default_plan))]
-fn default_plan(t: &[Token]) -> Result<Plan, Form>
-    ensures { result ≡ default_plan t.now }
-{
-    if fits(t, &[Item::Word(Keyword::Default), Item::Sort]) {
-        return Ok(put_plan(DEFAULT_AT, word_at(t, 1)));
-    }
-    Err(Form::Default)
 }
 
 // A constraint row, and what kind of line it is of.
@@ -724,289 +371,6 @@ fn constraint_row(row: [u16; 5], last: LastConstraint) -> Plan
     }
 }
 
-// `sub P P`
-#[tactic(auto, unfolding(crate::specs::Lines::sub_plan))]
-fn sub_plan(t: &[Token]) -> Result<Plan, Form>
-    ensures { result ≡ sub_plan t.now }
-{
-    if fits(t, &[Item::Word(Keyword::Sub), Item::Place, Item::Place]) {
-        let row = [
-            ConstraintKind::Sub as u16,
-            word_at(t, 1),
-            word_at(t, 2),
-            0,
-            0,
-        ];
-        return Ok(constraint_row(row, LastConstraint::Other));
-    }
-    Err(Form::Sub)
-}
-
-// `lit P positive`, `lit P natural`
-#[tactic(auto, unfolding(crate::specs::Lines::lit_plan))]
-fn lit_plan(t: &[Token]) -> Result<Plan, Form>
-    ensures { result ≡ lit_plan t.now }
-{
-    if fits(t, &[Item::Word(Keyword::Lit), Item::Place, Item::Literal]) {
-        let row = [
-            ConstraintKind::Lit as u16,
-            word_at(t, 1),
-            word_at(t, 2),
-            0,
-            0,
-        ];
-        return Ok(constraint_row(row, LastConstraint::Other));
-    }
-    Err(Form::Lit)
-}
-
-// `comprehension P P S`
-#[tactic(auto, unfolding(crate::specs::Lines::comprehension_plan))]
-fn comprehension_plan(t: &[Token]) -> Result<Plan, Form>
-    ensures { result ≡ comprehension_plan t.now }
-{
-    if fits(
-        t,
-        &[
-            Item::Word(Keyword::Comprehension),
-            Item::Place,
-            Item::Place,
-            Item::Sort,
-        ],
-    ) {
-        let kind = ConstraintKind::Comprehension as u16;
-        let row = [kind, word_at(t, 1), word_at(t, 2), word_at(t, 3), 0];
-        return Ok(constraint_row(row, LastConstraint::Other));
-    }
-    Err(Form::Comprehension)
-}
-
-// `disjunction eN P`
-#[tactic(auto, unfolding(crate::specs::Lines::disjunction_plan))]
-fn disjunction_plan(list: &[u16; LIST_WORDS], t: &[Token]) -> Result<Plan, Form>
-    ensures { result ≡ disjunction_plan list.now t.now }
-{
-    if fits(
-        t,
-        &[Item::Word(Keyword::Disjunction), Item::Expr, Item::Place],
-    ) {
-        let kind = ConstraintKind::Disjunction as u16;
-        let first = rows_given(list, Table::Overloads);
-        let row = [kind, word_at(t, 1), word_at(t, 2), first, 0];
-        return Ok(constraint_row(row, LastConstraint::Disjunction));
-    }
-    Err(Form::Disjunction)
-}
-
-// An overload; its disjunction has one more.
-fn overload_row(list: &[u16; LIST_WORDS], row: [u16; 5]) -> Plan
-    ensures { result ≡ overload_row list.now row }
-{
-    Plan {
-        put: grown(list, LastConstraint::Disjunction, 4, 1),
-        ..row_plan(Table::Overloads, row)
-    }
-}
-
-// `overload ..`
-#[tactic(auto, unfolding(crate::specs::Lines::overload_plan))]
-fn overload_plan(list: &[u16; LIST_WORDS], t: &[Token]) -> Result<Plan, Form>
-    ensures { result ≡ overload_plan list.now t.now }
-{
-    if fits(
-        t,
-        &[
-            Item::Word(Keyword::Overload),
-            Item::Word(Keyword::Variable),
-            Item::Place,
-        ],
-    ) {
-        return Ok(overload_row(list, [Target::Variable as u16, 0, word_at(t, 2), 0, 0]));
-    }
-    if fits(
-        t,
-        &[
-            Item::Word(Keyword::Overload),
-            Item::Word(Keyword::Builtin),
-            Item::Place,
-        ],
-    ) {
-        return Ok(overload_row(list, [Target::Builtin as u16, 0, word_at(t, 2), 0, 0]));
-    }
-    if fits(
-        t,
-        &[
-            Item::Word(Keyword::Overload),
-            Item::Word(Keyword::Op),
-            Item::Sort,
-            Item::Place,
-        ],
-    ) {
-        return Ok(overload_row(
-            list,
-            [Target::Op as u16, word_at(t, 2), word_at(t, 3), 0, 0],
-        ));
-    }
-    if fits(
-        t,
-        &[
-            Item::Word(Keyword::Overload),
-            Item::Word(Keyword::Raw),
-            Item::Number,
-            Item::Number,
-            Item::Number,
-        ],
-    ) {
-        return Ok(overload_row(list, [word_at(t, 2), word_at(t, 3), word_at(t, 4), 0, 0]));
-    }
-    Err(Form::Overload)
-}
-
-// `join P P ...`
-#[tactic(auto, unfolding(crate::specs::Lines::join_plan))]
-fn join_plan(list: &[u16; LIST_WORDS], t: &[Token]) -> Result<Plan, Form>
-    ensures { result ≡ join_plan list.now t.now }
-{
-    if list_fits(t, Item::Place) {
-        let first = rows_given(list, Table::Sources);
-        let sources = capped(t.len().saturating_sub(2));
-        let row = [
-            ConstraintKind::Join as u16,
-            word_at(t, 1),
-            first,
-            sources,
-            0,
-        ];
-        return Ok(Plan {
-            run: Some(Run {
-                table: Table::Sources,
-                from: 2,
-                to: t.len(),
-            }),
-            ..constraint_row(row, LastConstraint::Join)
-        });
-    }
-    Err(Form::Join)
-}
-
-// The words of a line after its first, as rows of a table.
-fn run_plan(t: &[Token], table: Table) -> Plan
-    ensures { result ≡ with_run nothing table 1 (length t.now) }
-{
-    Plan {
-        run: Some(Run {
-            table,
-            from: 1,
-            to: t.len(),
-        }),
-        ..NOTHING
-    }
-}
-
-// `sources P ...`
-#[tactic(auto, unfolding(crate::specs::Lines::sources_plan))]
-fn sources_plan(list: &[u16; LIST_WORDS], t: &[Token]) -> Result<Plan, Form>
-    ensures { result ≡ sources_plan list.now t.now }
-{
-    if list_fits(t, Item::Place) {
-        let more = capped(t.len().saturating_sub(1));
-        return Ok(Plan {
-            put: grown(list, LastConstraint::Join, 3, more),
-            ..run_plan(t, Table::Sources)
-        });
-    }
-    Err(Form::Sources)
-}
-
-// `entries N ...`, `node-entries N ...`
-#[tactic(auto, unfolding(crate::specs::Lines::entries_plan))]
-fn entries_plan(t: &[Token], table: Table, form: Form) -> Result<Plan, Form>
-    ensures { result ≡ entries_plan t.now table form }
-{
-    if list_fits(t, Item::Number) {
-        return Ok(run_plan(t, table));
-    }
-    Err(form)
-}
-
-// `constraint KIND A B C D`
-#[tactic(auto, unfolding(crate::specs::Lines::constraint_plan))]
-fn constraint_plan(t: &[Token]) -> Result<Plan, Form>
-    ensures { result ≡ constraint_plan t.now }
-{
-    if fits(
-        t,
-        &[
-            Item::Word(Keyword::Constraint),
-            Item::Number,
-            Item::Number,
-            Item::Number,
-            Item::Number,
-            Item::Number,
-        ],
-    ) {
-        let row = [
-            word_at(t, 1),
-            word_at(t, 2),
-            word_at(t, 3),
-            word_at(t, 4),
-            word_at(t, 5),
-        ];
-        return Ok(constraint_row(row, LastConstraint::Other));
-    }
-    Err(Form::Constraint)
-}
-
-// `pad WHAT N`
-#[tactic(auto, unfolding(crate::specs::Lines::pad_plan))]
-fn pad_plan(list: &[u16; LIST_WORDS], t: &[Token]) -> Result<Plan, Form>
-    ensures { result ≡ pad_plan list.now t.now }
-{
-    if fits(
-        t,
-        &[
-            Item::Word(Keyword::Pad),
-            Item::Word(Keyword::Sorts),
-            Item::Number,
-        ],
-    ) {
-        let row = [DEF_KIND, rows_given(list, Table::Sorts), 0, 0, 0];
-        return Ok(rows_plan(Table::Sorts, word_at(t, 2), true, row));
-    }
-    if fits(
-        t,
-        &[
-            Item::Word(Keyword::Pad),
-            Item::Word(Keyword::Nodes),
-            Item::Number,
-        ],
-    ) {
-        let row = [LIST_KIND, BOOL_SORT, 0, 0, 0];
-        return Ok(rows_plan(Table::Nodes, word_at(t, 2), false, row));
-    }
-    if fits(
-        t,
-        &[
-            Item::Word(Keyword::Pad),
-            Item::Word(Keyword::Entries),
-            Item::Number,
-        ],
-    ) {
-        return Ok(rows_plan(Table::Entries, word_at(t, 2), false, [0; 5]));
-    }
-    if fits(
-        t,
-        &[
-            Item::Word(Keyword::Pad),
-            Item::Word(Keyword::NodeEntries),
-            Item::Number,
-        ],
-    ) {
-        return Ok(rows_plan(Table::NodeEntries, word_at(t, 2), false, [0; 5]));
-    }
-    Err(Form::Pad)
-}
-
 // The count of a table as a line tells it.
 fn counted(table: Option<Table>, n: u16) -> Result<Plan, Form>
     ensures { result ≡ counted table n }
@@ -1018,20 +382,6 @@ fn counted(table: Option<Table>, n: u16) -> Result<Plan, Form>
         }
         None => Err(Form::Count),
     }
-}
-
-// `count WHAT N`
-#[tactic(auto, unfolding(crate::specs::Lines::count_plan))]
-fn count_plan(t: &[Token]) -> Result<Plan, Form>
-    ensures { result ≡ count_plan t.now }
-{
-    if fits(
-        t,
-        &[Item::Word(Keyword::Count), Item::AnyWord, Item::Number],
-    ) {
-        return counted(table_of(token_at(t, 1)), word_at(t, 2));
-    }
-    Err(Form::Count)
 }
 
 // The length lent of a slice as a line tells it.
@@ -1047,48 +397,683 @@ fn lent(slice: Option<Slice>, n: u16) -> Result<Plan, Form>
     }
 }
 
-// `lend WHAT N`
-#[tactic(auto, unfolding(crate::specs::Lines::lend_plan))]
-fn lend_plan(t: &[Token]) -> Result<Plan, Form>
-    ensures { result ≡ lend_plan t.now }
-{
-    if fits(t, &[Item::Word(Keyword::Lend), Item::AnyWord, Item::Number]) {
-        return lent(slice_of(token_at(t, 1)), word_at(t, 2));
+impl<'a> Line<'a> {
+    fn token_at(&self, i: usize) -> Token
+        ensures { result ≡ token_at self.now.words.now i }
+    {
+        token_at(self.words, i)
     }
-    Err(Form::Lend)
-}
 
-// What a line of a list gives, by its first word; `bare` gives no rows and is not among these.
-#[tactic(auto, unfolding(crate::specs::Lines::plan_of))]
-pub fn plan_of(list: &[u16; LIST_WORDS], t: &[Token]) -> Result<Plan, Form>
-    ensures { result ≡ plan_of list.now t.now }
-{
-    match token_at(t, 0) {
-        Token::Keyword(Keyword::Sort) => sort_plan(list, t),
-        Token::Keyword(Keyword::Var) => var_plan(list, t),
-        Token::Keyword(Keyword::Vars) => vars_plan(t),
-        Token::Keyword(Keyword::Bind) => bind_plan(list, t),
-        Token::Keyword(Keyword::Node) => node_plan(list, t),
-        Token::Keyword(Keyword::Expr) => expr_plan(list, t),
-        Token::Keyword(Keyword::Name) => name_plan(list, t),
-        Token::Keyword(Keyword::Default) => default_plan(t),
-        Token::Keyword(Keyword::Sub) => sub_plan(t),
-        Token::Keyword(Keyword::Lit) => lit_plan(t),
-        Token::Keyword(Keyword::Comprehension) => comprehension_plan(t),
-        Token::Keyword(Keyword::Disjunction) => disjunction_plan(list, t),
-        Token::Keyword(Keyword::Overload) => overload_plan(list, t),
-        Token::Keyword(Keyword::Join) => join_plan(list, t),
-        Token::Keyword(Keyword::Sources) => sources_plan(list, t),
-        Token::Keyword(Keyword::Entries) => entries_plan(t, Table::Entries, Form::Entries),
-        Token::Keyword(Keyword::NodeEntries) => {
-            entries_plan(t, Table::NodeEntries, Form::NodeEntries)
+    fn word_at(&self, i: usize) -> u16
+        ensures { result ≡ word_at self.now.words.now i }
+    {
+        word_at(self.words, i)
+    }
+
+    fn fits(&self, form: &[Item]) -> bool
+        ensures { result ≡ fits self.now.words.now form.now }
+    {
+        fits(self.words, form)
+    }
+
+    fn list_fits(&self, item: Item) -> bool
+        ensures { result ≡ list_fits self.now.words.now item }
+    {
+        list_fits(self.words, item)
+    }
+
+    fn function_fits(&self, item: Item) -> bool
+        ensures { result ≡ function_fits self.now.words.now item }
+    {
+        function_fits(self.words, item)
+    }
+
+    // The word at i of the list.
+    fn list_word(&self, i: usize) -> u16
+        ensures { result ≡ get_or self.now.list.now i 0 }
+    {
+        let list = self.list;
+        word(list, i)
+    }
+
+    // The rows given of a table.
+    fn rows_given(&self, table: Table) -> u16
+        ensures { result ≡ rows_given self.now.list.now (table_number table) }
+    {
+        self.list_word(ROWS_AT + table.number())
+    }
+
+    // Word i of the last constraint's row grows by n, where its line is of a kind and the row is kept.
+    #[tactic(auto, unfolding(crate::specs::Plans::grown))]
+    fn grown(&self, last: LastConstraint, i: usize, n: u16) -> Option<Put>
+        requires { i ≤ 4 }
+        ensures { result ≡ grown self.now.list.now last i n }
+    {
+        if self.list_word(LAST_AT) == last.number() {
+            let rows = self.rows_given(Table::Constraints) as usize;
+            if rows == 0 {
+                return None;
+            }
+            if MAX_CONSTRAINTS < rows {
+                return None;
+            }
+            let at = BEFORE_CONSTRAINTS + 5 * rows + i;
+            let value = capped((self.list_word(at) as usize) + (n as usize));
+            return Some(Put { at, value });
         }
-        Token::Keyword(Keyword::Constraint) => constraint_plan(t),
-        Token::Keyword(Keyword::Pad) => pad_plan(list, t),
-        Token::Keyword(Keyword::Count) => count_plan(t),
-        Token::Keyword(Keyword::Lend) => lend_plan(t),
-        Token::Keyword(Keyword::Ceilings) => Err(Form::Ceilings),
-        _ => Err(Form::Keyword),
+        None
+    }
+
+    // A word is the next name of a table.
+    #[tactic(auto, unfolding(crate::specs::Lines::is_next))]
+    fn is_next(&self, token: Token, table: Table) -> bool
+        ensures { result ≡ is_next self.now.list.now token table }
+    {
+        match (token, table) {
+            (Token::Sort(n), Table::Sorts) => n == self.rows_given(Table::Sorts),
+            (Token::Node(n), Table::Nodes) => n == self.rows_given(Table::Nodes),
+            (Token::Var(n), Table::Vars) => n == self.rows_given(Table::Vars),
+            (Token::Expr(n), Table::Exprs) => n == self.rows_given(Table::Exprs),
+            _ => false,
+        }
+    }
+
+    // A function row of a table, with its arguments in another.
+    #[tactic(auto, unfolding(crate::specs::Lines::function_plan))]
+    fn function_plan(&self, table: Table, entries: Table) -> Plan
+        ensures { result ≡ function_plan self.now.list.now self.now.words.now table entries }
+    {
+        let range = self.word_at(self.words.len().saturating_sub(1));
+        let start = self.rows_given(entries);
+        let arguments = capped(self.words.len().saturating_sub(5));
+        Plan {
+            run: Some(Run {
+                table: entries,
+                from: 3,
+                to: self.words.len().saturating_sub(2),
+            }),
+            ..row_plan(table, [FUNCTION_KIND, range, start, arguments, 0])
+        }
+    }
+
+    // The lines that sorts and nodes share: a container, a function, a raw row.
+    #[tactic(auto, unfolding(crate::specs::Lines::parts_row))]
+    fn parts_row(
+        &self,
+        keyword: Keyword,
+        name: Item,
+        part: Item,
+        table: Table,
+        entries: Table,
+    ) -> Option<Plan>
+        ensures { result ≡ parts_row self.now.list.now self.now.words.now keyword name part table entries }
+    {
+        if self.fits(&[Item::Word(keyword), name, Item::Container, part]) {
+            return Some(row_plan(table, [self.word_at(2), self.word_at(3), 0, 0, 0]));
+        }
+        if self.function_fits(part) {
+            return Some(self.function_plan(table, entries));
+        }
+        if self.fits(&[
+            Item::Word(keyword),
+            name,
+            Item::Word(Keyword::Raw),
+            Item::Number,
+            Item::Number,
+            Item::Number,
+            Item::Number,
+        ]) {
+            return Some(row_plan(
+                table,
+                [
+                    self.word_at(3),
+                    self.word_at(4),
+                    self.word_at(5),
+                    self.word_at(6),
+                    0,
+                ],
+            ));
+        }
+        None
+    }
+
+    // `sort sK ..`
+    #[tactic(auto, unfolding(crate::specs::Lines::sort_plan))]
+    fn sort_plan(&self) -> Result<Plan, Form>
+        ensures { result ≡ sort_plan self.now.list.now self.now.words.now }
+    {
+        if self.is_next(self.token_at(1), Table::Sorts) {
+            return self.sort_row();
+        }
+        Err(Form::Next)
+    }
+
+    #[tactic(auto, unfolding(crate::specs::Lines::sort_row))]
+    fn sort_row(&self) -> Result<Plan, Form>
+        ensures { result ≡ sort_row self.now.list.now self.now.words.now }
+    {
+        if let Some(plan) = self.parts_row(
+            Keyword::Sort,
+            Item::Sort,
+            Item::Sort,
+            Table::Sorts,
+            Table::Entries,
+        ) {
+            return Ok(plan);
+        }
+        if self.fits(&[
+            Item::Word(Keyword::Sort),
+            Item::Sort,
+            Item::Word(Keyword::Def),
+            Item::Number,
+        ]) {
+            return Ok(row_plan(Table::Sorts, [DEF_KIND, self.word_at(3), 0, 0, 0]));
+        }
+        if self.fits(&[
+            Item::Word(Keyword::Sort),
+            Item::Sort,
+            Item::Word(Keyword::TypeVar),
+            Item::Number,
+        ]) {
+            return Ok(row_plan(Table::Sorts, [LAST_KIND, self.word_at(3), 0, 0, 0]));
+        }
+        if self.fits(&[Item::Word(Keyword::Sort), Item::Sort, Item::FixedSort]) {
+            return Ok(row_plan(Table::Sorts, [self.word_at(2), 0, 0, 0, 0]));
+        }
+        Err(Form::Sort)
+    }
+
+    // `var vK nJ`
+    #[tactic(auto, unfolding(crate::specs::Lines::var_plan))]
+    fn var_plan(&self) -> Result<Plan, Form>
+        ensures { result ≡ var_plan self.now.list.now self.now.words.now }
+    {
+        if self.fits(&[Item::Word(Keyword::Var), Item::Var, Item::Node]) {
+            if self.is_next(self.token_at(1), Table::Vars) {
+                if self.is_next(self.token_at(2), Table::Nodes) {
+                    return Ok(Plan {
+                        free: 1,
+                        ..row_plan(Table::Nodes, [VARIABLE_KIND, self.word_at(1), 0, 0, 0])
+                    });
+                }
+                return Err(Form::Next);
+            }
+            return Err(Form::Next);
+        }
+        Err(Form::Var)
+    }
+
+    // `vars N`
+    #[tactic(auto, unfolding(crate::specs::Lines::vars_plan))]
+    fn vars_plan(&self) -> Result<Plan, Form>
+        ensures { result ≡ vars_plan self.now.words.now }
+    {
+        if self.fits(&[Item::Word(Keyword::Vars), Item::Number]) {
+            return Ok(Plan {
+                free: self.word_at(1),
+                ..NOTHING
+            });
+        }
+        Err(Form::Vars)
+    }
+
+    // The binding of a variable that has none yet; one past the ceiling has no word.
+    #[tactic(auto, unfolding(crate::specs::Lines::bound_plan))]
+    fn bound_plan(&self, var: SortVar, place: InferSortId) -> Result<Plan, Form>
+        ensures { result ≡ bound_plan self.now.list.now var.0 place.0 }
+    {
+        if var.0 < self.rows_given(Table::Vars) {
+            if var.0 < VARS {
+                let at = LIST_BINDS_AT + (var.0 as usize);
+                if self.list_word(at) == FREE_WORD {
+                    return Ok(put_plan(at, place.0));
+                }
+                return Err(Form::Unbound);
+            }
+            return Ok(NOTHING);
+        }
+        Err(Form::Unbound)
+    }
+
+    // `bind vN P`
+    #[tactic(auto, unfolding(crate::specs::Lines::bind_plan))]
+    fn bind_plan(&self) -> Result<Plan, Form>
+        ensures { result ≡ bind_plan self.now.list.now self.now.words.now }
+    {
+        if self.fits(&[Item::Word(Keyword::Bind), Item::Var, Item::Place]) {
+            return self.bound_plan(SortVar(self.word_at(1)), InferSortId(self.word_at(2)));
+        }
+        Err(Form::Bind)
+    }
+
+    // `node nK ..`
+    #[tactic(auto, unfolding(crate::specs::Lines::node_plan))]
+    fn node_plan(&self) -> Result<Plan, Form>
+        ensures { result ≡ node_plan self.now.list.now self.now.words.now }
+    {
+        if self.is_next(self.token_at(1), Table::Nodes) {
+            return self.node_row();
+        }
+        Err(Form::Next)
+    }
+
+    #[tactic(auto, unfolding(crate::specs::Lines::node_row))]
+    fn node_row(&self) -> Result<Plan, Form>
+        ensures { result ≡ node_row self.now.list.now self.now.words.now }
+    {
+        if let Some(plan) = self.parts_row(
+            Keyword::Node,
+            Item::Node,
+            Item::Place,
+            Table::Nodes,
+            Table::NodeEntries,
+        ) {
+            return Ok(plan);
+        }
+        if self.fits(&[
+            Item::Word(Keyword::Node),
+            Item::Node,
+            Item::Word(Keyword::Var),
+            Item::Var,
+        ]) {
+            return Ok(row_plan(Table::Nodes, [VARIABLE_KIND, self.word_at(3), 0, 0, 0]));
+        }
+        Err(Form::Node)
+    }
+
+    // `expr eK P`
+    #[tactic(auto, unfolding(crate::specs::Lines::expr_plan))]
+    fn expr_plan(&self) -> Result<Plan, Form>
+        ensures { result ≡ expr_plan self.now.list.now self.now.words.now }
+    {
+        if self.is_next(self.token_at(1), Table::Exprs) {
+            if self.fits(&[Item::Word(Keyword::Expr), Item::Expr, Item::Place]) {
+                return Ok(row_plan(Table::Exprs, [self.word_at(2), 0, 0, 0, 0]));
+            }
+            return Err(Form::Expr);
+        }
+        Err(Form::Next)
+    }
+
+    // `name eN ..`
+    #[tactic(auto, unfolding(crate::specs::Lines::name_plan))]
+    fn name_plan(&self) -> Result<Plan, Form>
+        ensures { result ≡ name_plan self.now.list.now self.now.words.now }
+    {
+        if self.rows_given(Table::Names) < NAMES {
+            return self.name_row();
+        }
+        Err(Form::Names)
+    }
+
+    #[tactic(auto, unfolding(crate::specs::Lines::name_row))]
+    fn name_row(&self) -> Result<Plan, Form>
+        ensures { result ≡ name_row self.now.words.now }
+    {
+        if self.fits(&[
+            Item::Word(Keyword::Name),
+            Item::Expr,
+            Item::Word(Keyword::Variable),
+        ]) {
+            return Ok(row_plan(
+                Table::Names,
+                [self.word_at(1), Target::Variable as u16, 0, 0, 0],
+            ));
+        }
+        if self.fits(&[
+            Item::Word(Keyword::Name),
+            Item::Expr,
+            Item::Word(Keyword::Builtin),
+        ]) {
+            return Ok(row_plan(
+                Table::Names,
+                [self.word_at(1), Target::Builtin as u16, 0, 0, 0],
+            ));
+        }
+        if self.fits(&[
+            Item::Word(Keyword::Name),
+            Item::Expr,
+            Item::Word(Keyword::Op),
+            Item::Sort,
+        ]) {
+            return Ok(row_plan(
+                Table::Names,
+                [self.word_at(1), Target::Op as u16, self.word_at(3), 0, 0],
+            ));
+        }
+        if self.fits(&[
+            Item::Word(Keyword::Name),
+            Item::Expr,
+            Item::Word(Keyword::Raw),
+            Item::Number,
+            Item::Number,
+        ]) {
+            return Ok(row_plan(
+                Table::Names,
+                [self.word_at(1), self.word_at(3), self.word_at(4), 0, 0],
+            ));
+        }
+        Err(Form::Name)
+    }
+
+    // `default S`
+    #[tactic(auto, unfolding(crate::specs::Lines::default_plan))]
+    fn default_plan(&self) -> Result<Plan, Form>
+        ensures { result ≡ default_plan self.now.words.now }
+    {
+        if self.fits(&[Item::Word(Keyword::Default), Item::Sort]) {
+            return Ok(put_plan(DEFAULT_AT, self.word_at(1)));
+        }
+        Err(Form::Default)
+    }
+
+    // `sub P P`
+    #[tactic(auto, unfolding(crate::specs::Lines::sub_plan))]
+    fn sub_plan(&self) -> Result<Plan, Form>
+        ensures { result ≡ sub_plan self.now.words.now }
+    {
+        if self.fits(&[Item::Word(Keyword::Sub), Item::Place, Item::Place]) {
+            let row = [
+                ConstraintKind::Sub as u16,
+                self.word_at(1),
+                self.word_at(2),
+                0,
+                0,
+            ];
+            return Ok(constraint_row(row, LastConstraint::Other));
+        }
+        Err(Form::Sub)
+    }
+
+    // `lit P positive`, `lit P natural`
+    #[tactic(auto, unfolding(crate::specs::Lines::lit_plan))]
+    fn lit_plan(&self) -> Result<Plan, Form>
+        ensures { result ≡ lit_plan self.now.words.now }
+    {
+        if self.fits(&[Item::Word(Keyword::Lit), Item::Place, Item::Literal]) {
+            let row = [
+                ConstraintKind::Lit as u16,
+                self.word_at(1),
+                self.word_at(2),
+                0,
+                0,
+            ];
+            return Ok(constraint_row(row, LastConstraint::Other));
+        }
+        Err(Form::Lit)
+    }
+
+    // `comprehension P P S`
+    #[tactic(auto, unfolding(crate::specs::Lines::comprehension_plan))]
+    fn comprehension_plan(&self) -> Result<Plan, Form>
+        ensures { result ≡ comprehension_plan self.now.words.now }
+    {
+        if self.fits(&[
+            Item::Word(Keyword::Comprehension),
+            Item::Place,
+            Item::Place,
+            Item::Sort,
+        ]) {
+            let kind = ConstraintKind::Comprehension as u16;
+            let row = [kind, self.word_at(1), self.word_at(2), self.word_at(3), 0];
+            return Ok(constraint_row(row, LastConstraint::Other));
+        }
+        Err(Form::Comprehension)
+    }
+
+    // `disjunction eN P`
+    #[tactic(auto, unfolding(crate::specs::Lines::disjunction_plan))]
+    fn disjunction_plan(&self) -> Result<Plan, Form>
+        ensures { result ≡ disjunction_plan self.now.list.now self.now.words.now }
+    {
+        if self.fits(&[Item::Word(Keyword::Disjunction), Item::Expr, Item::Place]) {
+            let kind = ConstraintKind::Disjunction as u16;
+            let first = self.rows_given(Table::Overloads);
+            let row = [kind, self.word_at(1), self.word_at(2), first, 0];
+            return Ok(constraint_row(row, LastConstraint::Disjunction));
+        }
+        Err(Form::Disjunction)
+    }
+
+    // An overload; its disjunction has one more.
+    fn overload_row(&self, row: [u16; 5]) -> Plan
+        ensures { result ≡ overload_row self.now.list.now row }
+    {
+        Plan {
+            put: self.grown(LastConstraint::Disjunction, 4, 1),
+            ..row_plan(Table::Overloads, row)
+        }
+    }
+
+    // `overload ..`
+    #[tactic(auto, unfolding(crate::specs::Lines::overload_plan))]
+    fn overload_plan(&self) -> Result<Plan, Form>
+        ensures { result ≡ overload_plan self.now.list.now self.now.words.now }
+    {
+        if self.fits(&[
+            Item::Word(Keyword::Overload),
+            Item::Word(Keyword::Variable),
+            Item::Place,
+        ]) {
+            return Ok(self.overload_row([Target::Variable as u16, 0, self.word_at(2), 0, 0]));
+        }
+        if self.fits(&[
+            Item::Word(Keyword::Overload),
+            Item::Word(Keyword::Builtin),
+            Item::Place,
+        ]) {
+            return Ok(self.overload_row([Target::Builtin as u16, 0, self.word_at(2), 0, 0]));
+        }
+        if self.fits(&[
+            Item::Word(Keyword::Overload),
+            Item::Word(Keyword::Op),
+            Item::Sort,
+            Item::Place,
+        ]) {
+            return Ok(self.overload_row([
+                Target::Op as u16,
+                self.word_at(2),
+                self.word_at(3),
+                0,
+                0,
+            ]));
+        }
+        if self.fits(&[
+            Item::Word(Keyword::Overload),
+            Item::Word(Keyword::Raw),
+            Item::Number,
+            Item::Number,
+            Item::Number,
+        ]) {
+            return Ok(self.overload_row([self.word_at(2), self.word_at(3), self.word_at(4), 0, 0]));
+        }
+        Err(Form::Overload)
+    }
+
+    // `join P P ...`
+    #[tactic(auto, unfolding(crate::specs::Lines::join_plan))]
+    fn join_plan(&self) -> Result<Plan, Form>
+        ensures { result ≡ join_plan self.now.list.now self.now.words.now }
+    {
+        if self.list_fits(Item::Place) {
+            let first = self.rows_given(Table::Sources);
+            let sources = capped(self.words.len().saturating_sub(2));
+            let row = [
+                ConstraintKind::Join as u16,
+                self.word_at(1),
+                first,
+                sources,
+                0,
+            ];
+            return Ok(Plan {
+                run: Some(Run {
+                    table: Table::Sources,
+                    from: 2,
+                    to: self.words.len(),
+                }),
+                ..constraint_row(row, LastConstraint::Join)
+            });
+        }
+        Err(Form::Join)
+    }
+
+    // The words of a line after its first, as rows of a table.
+    fn run_plan(&self, table: Table) -> Plan
+        ensures { result ≡ with_run nothing table 1 (length self.now.words.now) }
+    {
+        Plan {
+            run: Some(Run {
+                table,
+                from: 1,
+                to: self.words.len(),
+            }),
+            ..NOTHING
+        }
+    }
+
+    // `sources P ...`
+    #[tactic(auto, unfolding(crate::specs::Lines::sources_plan))]
+    fn sources_plan(&self) -> Result<Plan, Form>
+        ensures { result ≡ sources_plan self.now.list.now self.now.words.now }
+    {
+        if self.list_fits(Item::Place) {
+            let more = capped(self.words.len().saturating_sub(1));
+            return Ok(Plan {
+                put: self.grown(LastConstraint::Join, 3, more),
+                ..self.run_plan(Table::Sources)
+            });
+        }
+        Err(Form::Sources)
+    }
+
+    // `entries N ...`, `node-entries N ...`
+    #[tactic(auto, unfolding(crate::specs::Lines::entries_plan))]
+    fn entries_plan(&self, table: Table, form: Form) -> Result<Plan, Form>
+        ensures { result ≡ entries_plan self.now.words.now table form }
+    {
+        if self.list_fits(Item::Number) {
+            return Ok(self.run_plan(table));
+        }
+        Err(form)
+    }
+
+    // `constraint KIND A B C D`
+    #[tactic(auto, unfolding(crate::specs::Lines::constraint_plan))]
+    fn constraint_plan(&self) -> Result<Plan, Form>
+        ensures { result ≡ constraint_plan self.now.words.now }
+    {
+        if self.fits(&[
+            Item::Word(Keyword::Constraint),
+            Item::Number,
+            Item::Number,
+            Item::Number,
+            Item::Number,
+            Item::Number,
+        ]) {
+            let row = [
+                self.word_at(1),
+                self.word_at(2),
+                self.word_at(3),
+                self.word_at(4),
+                self.word_at(5),
+            ];
+            return Ok(constraint_row(row, LastConstraint::Other));
+        }
+        Err(Form::Constraint)
+    }
+
+    // `pad WHAT N`
+    #[tactic(auto, unfolding(crate::specs::Lines::pad_plan))]
+    fn pad_plan(&self) -> Result<Plan, Form>
+        ensures { result ≡ pad_plan self.now.list.now self.now.words.now }
+    {
+        if self.fits(&[
+            Item::Word(Keyword::Pad),
+            Item::Word(Keyword::Sorts),
+            Item::Number,
+        ]) {
+            let row = [DEF_KIND, self.rows_given(Table::Sorts), 0, 0, 0];
+            return Ok(rows_plan(Table::Sorts, self.word_at(2), true, row));
+        }
+        if self.fits(&[
+            Item::Word(Keyword::Pad),
+            Item::Word(Keyword::Nodes),
+            Item::Number,
+        ]) {
+            let row = [LIST_KIND, BOOL_SORT, 0, 0, 0];
+            return Ok(rows_plan(Table::Nodes, self.word_at(2), false, row));
+        }
+        if self.fits(&[
+            Item::Word(Keyword::Pad),
+            Item::Word(Keyword::Entries),
+            Item::Number,
+        ]) {
+            return Ok(rows_plan(Table::Entries, self.word_at(2), false, [0; 5]));
+        }
+        if self.fits(&[
+            Item::Word(Keyword::Pad),
+            Item::Word(Keyword::NodeEntries),
+            Item::Number,
+        ]) {
+            return Ok(rows_plan(Table::NodeEntries, self.word_at(2), false, [0; 5]));
+        }
+        Err(Form::Pad)
+    }
+
+    // `count WHAT N`
+    #[tactic(auto, unfolding(crate::specs::Lines::count_plan))]
+    fn count_plan(&self) -> Result<Plan, Form>
+        ensures { result ≡ count_plan self.now.words.now }
+    {
+        if self.fits(&[Item::Word(Keyword::Count), Item::AnyWord, Item::Number]) {
+            return counted(table_of(self.token_at(1)), self.word_at(2));
+        }
+        Err(Form::Count)
+    }
+
+    // `lend WHAT N`
+    #[tactic(auto, unfolding(crate::specs::Lines::lend_plan))]
+    fn lend_plan(&self) -> Result<Plan, Form>
+        ensures { result ≡ lend_plan self.now.words.now }
+    {
+        if self.fits(&[Item::Word(Keyword::Lend), Item::AnyWord, Item::Number]) {
+            return lent(slice_of(self.token_at(1)), self.word_at(2));
+        }
+        Err(Form::Lend)
+    }
+
+    // What a line of a list gives, by its first word; `bare` gives no rows and is not among these.
+    #[tactic(auto, unfolding(crate::specs::Lines::plan_of))]
+    pub fn plan(&self) -> Result<Plan, Form>
+        ensures { result ≡ plan_of self.now.list.now self.now.words.now }
+    {
+        match self.token_at(0) {
+            Token::Keyword(Keyword::Sort) => self.sort_plan(),
+            Token::Keyword(Keyword::Var) => self.var_plan(),
+            Token::Keyword(Keyword::Vars) => self.vars_plan(),
+            Token::Keyword(Keyword::Bind) => self.bind_plan(),
+            Token::Keyword(Keyword::Node) => self.node_plan(),
+            Token::Keyword(Keyword::Expr) => self.expr_plan(),
+            Token::Keyword(Keyword::Name) => self.name_plan(),
+            Token::Keyword(Keyword::Default) => self.default_plan(),
+            Token::Keyword(Keyword::Sub) => self.sub_plan(),
+            Token::Keyword(Keyword::Lit) => self.lit_plan(),
+            Token::Keyword(Keyword::Comprehension) => self.comprehension_plan(),
+            Token::Keyword(Keyword::Disjunction) => self.disjunction_plan(),
+            Token::Keyword(Keyword::Overload) => self.overload_plan(),
+            Token::Keyword(Keyword::Join) => self.join_plan(),
+            Token::Keyword(Keyword::Sources) => self.sources_plan(),
+            Token::Keyword(Keyword::Entries) => self.entries_plan(Table::Entries, Form::Entries),
+            Token::Keyword(Keyword::NodeEntries) => {
+                self.entries_plan(Table::NodeEntries, Form::NodeEntries)
+            }
+            Token::Keyword(Keyword::Constraint) => self.constraint_plan(),
+            Token::Keyword(Keyword::Pad) => self.pad_plan(),
+            Token::Keyword(Keyword::Count) => self.count_plan(),
+            Token::Keyword(Keyword::Lend) => self.lend_plan(),
+            Token::Keyword(Keyword::Ceilings) => Err(Form::Ceilings),
+            _ => Err(Form::Keyword),
+        }
     }
 }
 

@@ -52,7 +52,7 @@ unfolding told first zeros Layouts.layout_of Words.spelling Words.place_of Words
     Lines.sub_plan Lines.lit_plan Lines.comprehension_plan Lines.disjunction_plan Lines.overload_plan Lines.join_plan
     Lines.sources_plan Lines.entries_plan Lines.constraint_plan Lines.pad_plan Lines.count_plan Lines.lend_plan Lines.plan_of
     Lines.asks_other Taking.put_words Taking.one_more_word Taking.kept Taking.appended Taking.next_number Taking.append_times
-    Taking.append_run Taking.carried Taking.bad_line Taking.begun Taking.bare_taken Taking.question_taken Taking.words_taken
+    Taking.append_run Taking.carried Taking.bad_line Taking.fixed_rows Taking.begun Taking.bare_taken Taking.question_taken Taking.words_taken
     Taking.other_taken Taking.answer_taken Taking.list_taken Taking.by_start Taking.line_taken
 lines_of_a_list = refl
 
@@ -69,6 +69,6 @@ unfolding told first zeros Layouts.layout_of Words.spelling Words.place_of Words
     Lines.sub_plan Lines.lit_plan Lines.comprehension_plan Lines.disjunction_plan Lines.overload_plan Lines.join_plan
     Lines.sources_plan Lines.entries_plan Lines.constraint_plan Lines.pad_plan Lines.count_plan Lines.lend_plan Lines.plan_of
     Lines.asks_other Taking.put_words Taking.one_more_word Taking.kept Taking.appended Taking.next_number Taking.append_times
-    Taking.append_run Taking.carried Taking.bad_line Taking.begun Taking.bare_taken Taking.question_taken Taking.words_taken
+    Taking.append_run Taking.carried Taking.bad_line Taking.fixed_rows Taking.begun Taking.bare_taken Taking.question_taken Taking.words_taken
     Taking.other_taken Taking.answer_taken Taking.list_taken Taking.by_start Taking.line_taken
 lines_before_a_list = refl

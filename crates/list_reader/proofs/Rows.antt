@@ -4,12 +4,15 @@ use mathlib.Core.Bool.{Bool}
 use mathlib.Core.List.{List, [], ◌∷◌}
 use Prim.Native.Nat.{ℕ, zero, suc, ◌+◌, ◌*◌, ◌-◌, ◌<◌, ◌≤◌}
 use native.Mathlib.Nat.{mul-le-mul}
+use native.Mathlib.Numerals.{add-one}
 use native.Mathlib.Omega.{arith}
 use lib.ListN.{get_or, set}
+use Rattle.resolved_sort.specs.Storage.{row_words}
 use Rattle.list_memory.specs.declared.Table.{Table}
+use Rattle.list_memory.specs.Memory.{list_sorts_at}
 use Rattle.list_tokens.specs.declared.Token.{Token}
 use Rattle.list_forms.specs.Items.{word_at}
-use Rattle.list_reader.specs.Taking.{put_words, appended, next_number, next_row, append_times, append_run}
+use Rattle.list_reader.specs.Taking.{put_words, appended, next_number, next_row, append_times, append_run, fixed_rows}
 
 -- a row of 5 words at most, of 65,535 rows at most
 pub row_within : (width n : ℕ) → width ≤ 5 → n ≤ 65535 → width * n ≤ 327675
@@ -116,3 +119,14 @@ module _ (start : List ℕ) (k : Table) (t : List Token) (from to : ℕ) (ws : L
 
   pub running_all : to ≤ i → ws ≡ append_run (to - from) start k t from
   running_all h = sym (g.same ∙ ap (λ (m : ℕ). append_run m ws k t i) (omega arith) ∙ none_of_run ws k t i)
+
+-- the first i of the fixed sorts stand there
+pub next_fixed :
+    (start ws : List ℕ) (i : ℕ) → ws ≡ fixed_rows i start → (us : List ℕ) → us ≡ set ws (list_sorts_at + row_words * i) i
+    → us ≡ fixed_rows (i + 1) start
+unfolding fixed_rows
+next_fixed start ws i g us e = e ∙ ap (λ (l : List ℕ). set l (list_sorts_at + row_words * i) i) g ∙ rw (add-one) refl
+
+pub none_fixed : (start : List ℕ) → start ≡ fixed_rows 0 start
+unfolding fixed_rows
+none_fixed start = refl

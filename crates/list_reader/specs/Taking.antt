@@ -3,16 +3,17 @@
 -- reader: a line not of the format ends its list and not the program; an answer is not looked at, and a question may
 -- have more than one; counts of rows stop at 65,535, where the oracle stops the program; a 513th base name is a line
 -- not of the format, and so is a line `ceilings`.
-use Rattle.std.specs.Prelude.{Bool, false, cond, List, [], ◌∷◌, ℕ, zero, suc, ◌+◌, ◌-◌, ltb, eqb, length, get_or, set, Option, Some, None, Result, Ok, Err}
+use Rattle.std.specs.Prelude.{Bool, false, cond, List, [], ◌∷◌, ℕ, zero, suc, ◌+◌, ◌*◌, ◌-◌, ltb, eqb, length, get_or, set, Option, Some, None, Result, Ok, Err}
 use Rattle.std.specs.List.{list_all}
 use Rattle.words.specs.Words.{zeros}
 use Rattle.sort_text.specs.Reading.{max_line}
+use Rattle.resolved_sort.specs.Storage.{row_words}
 use Rattle.unification.specs.Nodes.{free_word}
 use Rattle.list_memory.specs.declared.Form.{Form}
 use Rattle.list_memory.specs.declared.Heard.{Heard}
 use Rattle.list_memory.specs.declared.Table.{Table}
 use Rattle.list_memory.specs.declared.Stage.{Stage}
-use Rattle.list_memory.specs.Memory.{most_rows, list_words, rows_at, rows_given, sort_list, entry_list, default_at, stage_at}
+use Rattle.list_memory.specs.Memory.{most_rows, list_sorts_at, list_words, rows_at, rows_given, sort_list, entry_list, default_at, stage_at}
 use Rattle.list_memory.specs.Memory.{Taken, taken}
 use Rattle.list_memory.specs.Layouts.{table_number, stage_number, layout_of, list_row_at}
 use Rattle.list_tokens.specs.declared.Keyword.{Keyword}
@@ -93,18 +94,26 @@ carried ws t p =
 unfoldable pub bad_line : List ℕ → Form → Taken
 bad_line ws f = taken (set ws stage_at (stage_number Stage.Bad)) (Heard.Bad f)
 
+-- the rows of the fixed six sorts, each of the kind that is its number: the first n of them
+abbrev pub fixed_sorts : ℕ
+fixed_sorts = 6
+
+unfoldable pub fixed_rows : ℕ → List ℕ → List ℕ
+fixed_rows zero ws = ws
+fixed_rows (suc n) ws = set (fixed_rows n ws) (list_sorts_at + row_words * n) n
+
 -- "The list has the fixed six sorts, the default sort Bool, and nothing else."
 unfoldable pub begun : List ℕ → List ℕ
 begun ws =
-    let six = set (set (set (set (set (zeros 0 list_words ws) 4 1) 8 2) 12 3) 16 4) 20 5 in
-    set (set (set six rows_at 6) default_at 1) stage_at (stage_number Stage.Reading)
+    let six = fixed_rows fixed_sorts (zeros 0 list_words ws) in
+    set (set (set six rows_at fixed_sorts) default_at 1) stage_at (stage_number Stage.Reading)
 
 -- `bare` "takes the fixed six sorts away; while there are six sorts and no entries"
 unfoldable pub bare_taken : List ℕ → List Token → Taken
 bare_taken ws t =
     cond (eqb (length t) 1)
-    (cond (eqb (rows_given ws sort_list) 6)
-    (cond (eqb (rows_given ws entry_list) 0) (taken (set (zeros 0 24 ws) rows_at 0) Heard.Quiet) (bad_line ws Form.Bare))
+    (cond (eqb (rows_given ws sort_list) fixed_sorts)
+    (cond (eqb (rows_given ws entry_list) 0) (taken (set (zeros 0 (row_words * fixed_sorts) ws) rows_at 0) Heard.Quiet) (bad_line ws Form.Bare))
     (bad_line ws Form.Bare))
     (bad_line ws Form.Bare)
 

@@ -6,13 +6,16 @@ ghost use Rattle.list_memory.specs.Memory.{taken};
 ghost use Rattle.list_memory.specs.Layouts.{list_row_at};
 ghost use Rattle.list_reader.specs.Inner.Taking.{most_place};
 ghost use Rattle.list_reader.specs.Taking.{put_words, one_more_word, kept, appended, next_number, append_times, rows_taken};
-ghost use Rattle.list_reader.specs.Taking.{append_run, run_taken, put_taken, carried, bad_line, begun, bare_taken};
+ghost use Rattle.list_reader.specs.Taking.{append_run, run_taken, put_taken, carried, bad_line, fixed_sorts, fixed_rows, begun, bare_taken};
 ghost use Rattle.list_reader.specs.Taking.{plan_taken, question_taken, stage_is, row_by, words_by, words_taken, other_taken};
 ghost use Rattle.list_reader.specs.Taking.{answer_taken, list_taken, line_taken};
 
-use list_forms::{Item, Plan, Put, Rows, Run, asks_other, fits, plan_of, token_at, word_at};
-use list_memory::{DEFAULT_AT, Form, Heard, LIST_WORDS, ROWS_AT, STAGE_AT, Stage, Table};
+use list_forms::{Item, Line, Plan, Put, Rows, Run, asks_other, fits, token_at, word_at};
+use list_memory::{
+    DEFAULT_AT, Form, Heard, LIST_SORTS_AT, LIST_WORDS, ROWS_AT, STAGE_AT, Stage, Table,
+};
 use list_tokens::{Keyword, MOST_WORDS, Start, Token, printable, start_of, tokens_of};
+use resolved_sort::ROW_WORDS;
 use sort_text::MAX_LINE;
 use unification::FREE_WORD;
 use words::{clear, put, word};
@@ -147,19 +150,24 @@ fn bad(list: &mut [u16; LIST_WORDS], form: Form) -> Heard
     Heard::Bad(form)
 }
 
+// The rows of the fixed six sorts, each of the kind that is its number.
+fn put_fixed_sorts(list: &mut [u16; LIST_WORDS])
+    ensures { list.new ≡ fixed_rows fixed_sorts list.old }
+{
+    for sort in 0..FIXED_SORTS {
+        put(list, LIST_SORTS_AT + ROW_WORDS * (sort as usize), sort);
+    }
+}
+
 // A new list: the fixed six sorts, the default sort Bool, and nothing else.
 #[tactic(auto, unfolding(crate::specs::Taking::begun))]
 fn begin(list: &mut [u16; LIST_WORDS])
     ensures { list.new ≡ begun list.old }
 {
     clear(list, 0, LIST_WORDS);
-    put(list, 4, 1);
-    put(list, 8, 2);
-    put(list, 12, 3);
-    put(list, 16, 4);
-    put(list, 20, 5);
-    put(list, ROWS_AT, 6);
-    put(list, DEFAULT_AT, 1);
+    put_fixed_sorts(list);
+    put(list, ROWS_AT, FIXED_SORTS);
+    put(list, DEFAULT_AT, BOOL_SORT);
     put(list, STAGE_AT, Stage::Reading.number());
 }
 
@@ -170,8 +178,8 @@ fn bare(list: &mut [u16; LIST_WORDS], t: &[Token]) -> Heard
 {
     let sorts = word(list, ROWS_AT + Table::Sorts.number());
     let entries = word(list, ROWS_AT + Table::Entries.number());
-    if t.len() == 1 && sorts == 6 && entries == 0 {
-        clear(list, 0, 24);
+    if t.len() == 1 && sorts == FIXED_SORTS && entries == 0 {
+        clear(list, 0, ROW_WORDS * (FIXED_SORTS as usize));
         put(list, ROWS_AT, 0);
         return Heard::Quiet;
     }
@@ -221,7 +229,7 @@ fn take_row(list: &mut [u16; LIST_WORDS], first: Token, t: &[Token]) -> Heard
     match first {
         Token::Keyword(Keyword::Bare) => bare(list, t),
         _ => {
-            let plan = plan_of(list, t);
+            let plan = Line { list, words: t }.plan();
             give(list, t, plan)
         }
     }
@@ -315,3 +323,8 @@ pub fn take_line(list: &mut [u16; LIST_WORDS], line: &[u8]) -> Heard
         Start::Other => take_other(list, line),
     }
 }
+
+// Every list begins with so many sorts, of which Bool is the default.
+const FIXED_SORTS: u16 = 6;
+
+const BOOL_SORT: u16 = 1;

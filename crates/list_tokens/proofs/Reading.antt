@@ -1,6 +1,5 @@
 -- Reading words one by one comes to the words of the line. Assumes nothing.
 use mathlib.Core.Path.{◌≡◌, refl, sym, ap, ◌∙◌}
-use mathlib.Core.Bool.{not}
 use mathlib.Core.List.{List, [], ◌∷◌, ◌++◌}
 use Prim.Native.Nat.{ℕ, zero, suc, ◌+◌, ◌-◌, ◌<◌, ◌≤◌}
 use native.Mathlib.Numerals.{add-one}
@@ -13,22 +12,10 @@ use Rattle.std.proofs.lemmas.List.{append-nil}
 use Rattle.sort_text.specs.Tokens.{run, past, skip}
 use Rattle.sort_lexer.specs.Inner.Lexeme.{offset}
 use Rattle.sort_lexer.proofs.Places as places
-use Rattle.sort_lexer.proofs.Runs as runs
 use Rattle.list_tokens.specs.declared.Token.{Token}
 use Rattle.list_tokens.specs.declared.Start.{Start}
 use Rattle.list_tokens.specs.declared.Start.TheVariants.{Skipped}
 use Rattle.list_tokens.specs.Tokens.{in_word, token_of, tokens_from, tokens_of, start_by, line_start}
-
-module _ (l : List ℕ) (at i : ℕ) (inv : past in_word (drop at l) ≡ past in_word (drop i l)) where
-  pub word_to_the_end : length l ≤ i → length l ≡ offset l (past in_word (drop at l))
-  word_to_the_end = runs.run_to_the_end in_word l at i inv
-
-  module _ (h : i < length l) where
-    pub word_to_here : get_or l i 0 ≡ 32 → i ≡ offset l (past in_word (drop at l))
-    word_to_here e = runs.run_to_here in_word l at i inv h _ refl (ap not (eq-eqb (get_or l i 0) 32 e))
-
-    pub word_from_next : (get_or l i 0 ≡ 32 → ⊥) → past in_word (drop at l) ≡ past in_word (drop (i + 1) l)
-    word_from_next e = runs.run_from_next in_word l at i inv h _ refl (ap not (ne_eqb (get_or l i 0) 32 e))
 
 -- from: the first position from `at` on that has no space
 module _ (l : List ℕ) (at from : ℕ) (e : from ≡ offset l (skip (drop at l))) where

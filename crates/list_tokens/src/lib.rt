@@ -9,7 +9,7 @@ ghost use Rattle.list_tokens.specs.Words.{spelling, same_word, keyword_of};
 ghost use Rattle.list_tokens.specs.Tokens.{decimal_read, number_read, numbered, name_token, token_of, in_word};
 ghost use Rattle.list_tokens.specs.Tokens.{tokens_of, is_printable, start_by, line_start};
 
-use sort_lexer::{between, same_bytes, skip_spaces, unread};
+use sort_lexer::{between, run_end, skip_spaces};
 
 // The words of the format that are no number and no name with one.
 #[derive(Clone, Copy, Debug, PartialEq, Eq)]
@@ -258,7 +258,7 @@ fn keyword_of(w: &[u8]) -> Option<Keyword>
 {
     KEYWORDS
         .iter()
-        .find(|keyword| same_bytes(w, keyword.spelling()))
+        .find(|keyword| w == keyword.spelling())
         .copied()
 }
 
@@ -316,14 +316,7 @@ fn token_of(w: &[u8]) -> Token
 fn word_end(line: &[u8], at: usize) -> usize
     ensures { result ≡ offset line.now (past in_word (drop at line.now)) }
 {
-    let mut i = at;
-    while i < line.len() {
-        if line[i] == b' ' {
-            return i;
-        }
-        i += 1;
-    }
-    line.len()
+    run_end(line, at, |b| b != b' ')
 }
 
 // The words of a line, put at the front of the room lent for them, as far as it has room; how many they are.
