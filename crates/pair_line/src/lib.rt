@@ -19,7 +19,7 @@ ghost use Rattle.pair_line.specs.Inner.Answers.{steps_text};
 ghost use Rattle.pair_line.specs.Answers.{with_lf, pair_left, single_left};
 
 use resolved_sort::{Counts, Joined, PartialOrder, SORT_WORDS, SortId, Widening};
-use sort_bounds::bound;
+use sort_bounds::lent::bound;
 use sort_lexer::unread;
 use sort_order::lent::{is_materializable, partial_cmp, widening_distance};
 use sort_reader::read_line;

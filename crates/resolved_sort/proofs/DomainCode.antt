@@ -61,7 +61,7 @@ function_kind_lem p run k l =
     (λ d r q. let z : ◌≡◌ {A = ℕ} 0 1 = cc in absurd (omega arith))
     k l
 
-function_says : (ws : List ℕ) (i : ℕ) → kind_at ws i ≡ function_kind
+pub function_says : (ws : List ℕ) (i : ℕ) → kind_at ws i ≡ function_kind
     → row_at ws i ≡ Function (record { start = start_at ws i; count = count_at ws i }) (record { 0 = part_at ws i })
 unfolding resolved
 function_says ws i h = rw h
@@ -285,6 +285,12 @@ module _ (up : Bool) (ws : List ℕ) (C : Counts) (a b : ℕ) (f : TwoFunctions 
         pub count_unchanged : count_at vs a ≡ count_at ws a
         count_unchanged = same_rows.counts a f.asked.lhs
 
+        pub lhs_start_unchanged : start_at vs a ≡ start_at ws a
+        lhs_start_unchanged = same_rows.starts a f.asked.lhs
+
+        pub rhs_start_unchanged : start_at vs b ≡ start_at ws b
+        rhs_start_unchanged = same_rows.starts b f.asked.rhs
+
         abbrev S₁ : Sorts
         S₁ = there.sorts
 
@@ -296,9 +302,13 @@ module _ (up : Bool) (ws : List ℕ) (C : Counts) (a b : ℕ) (f : TwoFunctions 
             (wholes_extend S S₁ _ there.extends (arguments_whole ws n e k S (grown_none ws n e k) b f.asked.rhs
             f.rhs_function (i + 1) (omega (arith, f.as_many))))
 
+        -- the arguments from the next on come to those from this one on
+        pub domain_goes_on : bound_domain up vs K.sorts K.entries a b (i + 1) (set ids i c.0) ≡ bound_domain up ws n e a b i ids
+        domain_goes_on =
+            domain_after up ws n e a b f S₁ there.grown (i + 1) (omega arith) (set ids i c.0) vs K there.words there.counted
+            ∙ (domain_glue ws n e S₁ there.grown there.sort there.inside c.0 there.numbered i ids _ (rest S₁) rest_kept
+            ∙ sym (domain_is ∙ ap (λ O. domain_of ws n e i ids (O then (λ v S. rest S then (λ vs S. made (arg v vs) S)))) there.is))
+
         pub domain_made : (us : List ℕ) (d : Domain) → stored_domain us d ≡ bound_domain up vs K.sorts K.entries a b (i + 1) (set ids i c.0)
             → stored_domain us d ≡ bound_domain up ws n e a b i ids
-        domain_made us d q =
-            q ∙ (domain_after up ws n e a b f S₁ there.grown (i + 1) (omega arith) (set ids i c.0) vs K there.words there.counted
-            ∙ (domain_glue ws n e S₁ there.grown there.sort there.inside c.0 there.numbered i ids _ (rest S₁) rest_kept
-            ∙ sym (domain_is ∙ ap (λ O. domain_of ws n e i ids (O then (λ v S. rest S then (λ vs S. made (arg v vs) S)))) there.is)))
+        domain_made us d q = q ∙ domain_goes_on

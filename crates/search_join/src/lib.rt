@@ -28,7 +28,7 @@ use problem_words::source_at;
 use resolved_sort::{Counts, Joined, Run, SortId, Widening};
 use resolver::resolve;
 use search_state::{Branch, Extracted, MEASURE_AT, Made};
-use sort_bounds::join;
+use sort_bounds::lent::join;
 use sort_order::lent::{is_materializable, widening_distance};
 use unification::{InferSortId, Lengths};
 use words::{put, word};

@@ -1,3 +1,3 @@
 -- How join and meet go through rows.
-mod Farther
-mod Ways
+pub mod Ways
+pub mod Picks

@@ -1,181 +1,350 @@
--- The laws of join and meet with the premises that `bound` has at each of its ways: what the pair of rows is, and what
--- the callee left. Assumes nothing.
-use mathlib.Core.Path.{◌≡◌, sym, ◌∙◌, ap, ap₂, subst}
-use mathlib.Core.Bool.{Bool, not}
+-- The laws of join and meet with the premises that `bound` has at each of its ways: what the rows are, and what a call has
+-- left. Assumes nothing.
+use mathlib.Core.Path.{◌≡◌, refl, sym, ◌∙◌, ap, ap₂, subst}
+use mathlib.Core.Bool.{Bool, true, false, cond, not, false≢true}
 use mathlib.Core.List.{List}
+use mathlib.Core.Option.{none, some}
 use Prim.Native.Nat.{ℕ, ◌+◌, ◌<◌, ◌≤◌}
 use native.Mathlib.Omega.{arith}
-use lib.ListN.{set, take, replicate}
+use lib.ListN.{set, take, replicate, length, length-set}
+use lib.Seq.{length-take-le}
+use lib.Dec.{eqb}
+use borrow.Author.Tests.{eq-eqb}
+use Rattle.std.specs.Prelude.{Option, Some, None, Result, Ok, Err}
+use Rattle.std.specs.Result.{IsErr}
 use Rattle.resolved_sort.specs.declared.SortId.{SortId}
 use Rattle.resolved_sort.specs.declared.Sort.{Sort}
 use Rattle.resolved_sort.specs.declared.ComplexSort.{ComplexSort}
 use Rattle.resolved_sort.specs.declared.Counts.{Counts}
+use Rattle.resolved_sort.specs.declared.NoRoom.{NoRoom}
+use Rattle.resolved_sort.specs.declared.Run.{Run}
+use Rattle.resolved_sort.specs.declared.ResolvedSort.{ResolvedSort}
+use Rattle.resolved_sort.specs.declared.ResolvedSort.TheVariants.{Function}
 use Rattle.resolved_sort.specs.declared.Joined.{Joined}
 use Rattle.resolved_sort.specs.declared.Joined.TheVariants.{At, Nothing, Full}
-use Rattle.resolved_sort.specs.declared.Side.{Side}
-use Rattle.resolved_sort.specs.declared.Pair.{Pair}
-use Rattle.resolved_sort.specs.declared.Pair.TheVariants.{Primitives, Containers, Functions, Other}
-use Rattle.resolved_sort.specs.declared.Found.TheVariants.{All, Nothing as NotAll, Full as NoRoom}
+use Rattle.resolved_sort.specs.declared.Side.TheVariants.{Lhs, Rhs, Neither}
+use Rattle.resolved_sort.specs.declared.OpBound.{OpBound}
+use Rattle.resolved_sort.specs.declared.OpBound.TheVariants.{Is, Nothing as NoOp}
+use Rattle.resolved_sort.specs.declared.Pair.TheVariants.{Functions}
+use Rattle.resolved_sort.specs.declared.Found.TheVariants.{All, Nothing as NotAll, Full as NoneFits}
 use Rattle.resolved_sort.specs.declared.Domain.{Domain}
-use Rattle.resolved_sort.specs.Tree.{function as functionSort}
+use Rattle.resolved_sort.specs.Tree.{primitive, container, function as functionSort, family, level, family_op, level_op}
+use Rattle.resolved_sort.specs.Order.{le_level, bound_op}
 use Rattle.resolved_sort.specs.Interning.{look}
-use Rattle.resolved_sort.specs.Storage.{trees, look_all, count_at, start_at, part_at, entry_at}
-use Rattle.resolved_sort.specs.Rows.{Checked, AllBelow, stored_at}
-use Rattle.resolved_sort.specs.Inner.Pairs.{pair_at}
+use Rattle.resolved_sort.specs.Storage.{trees, look_all, row_at, count_at, start_at, part_at, entry_at}
+use Rattle.resolved_sort.specs.Rows.{Checked, AllBelow, stored_at, left_at, interned_at}
+use Rattle.resolved_sort.specs.Inner.Pairs.{pair_of, with_function, pair_at}
 use Rattle.resolved_sort.specs.Bounds.{Asked, bound_at, intern_at}
-use Rattle.resolved_sort.specs.Inner.Bounds.{container_at, function_at, side_of, TwoFunctions, domain_left, stored_domain, bound_domain}
+use Rattle.resolved_sort.specs.Inner.Bounds.{container_at, op_bound, side_of, TwoFunctions, domain_left, stored_domain, bound_domain}
 use Rattle.resolved_sort.specs.Inner.Storage.{sort_numbers}
-use Rattle.resolved_sort.proofs.SortNumbers.{set_sort_numbers, zeros_sort_numbers}
-use Rattle.resolved_sort.proofs.Pairs.{SortsSay, OfPrimitives, OfContainers, pair_of_sorts}
+use Rattle.resolved_sort.proofs.SortNumbers.{set_sort_numbers, zeros_sort_numbers, take_sort_numbers}
+use Rattle.resolved_sort.proofs.Pairs.{Unlike, OfPrimitives, OfContainers}
 use Rattle.resolved_sort.proofs.BoundsCode as law
 use Rattle.resolved_sort.proofs.DomainCode as domain
 use Rattle.resolved_sort.proofs.FunctionCode as functions
+use Rattle.sort_bounds.specs.Farther.{farther}
+
+-- what a call has left and answered, by the forms that the laws speak of
+abbrev joined : Counts → Result (Option SortId) NoRoom → Joined
+joined K (Ok (Some i)) = At i K
+joined K (Ok None) = Nothing K
+joined K (Err e) = Full
+
+left_is : (ws : List ℕ) (K : Counts) (r : Result (Option SortId) NoRoom) → stored_at ws (joined K r) ≡ left_at ws K r
+left_is ws K (Ok (Some i)) = refl
+left_is ws K (Ok None) = refl
+left_is ws K (Err e) = refl
+
+abbrev interned : Counts → Result SortId NoRoom → Joined
+interned K (Ok i) = At i K
+interned K (Err e) = Full
+
+interned_is : (ws : List ℕ) (K : Counts) (r : Result SortId NoRoom) → stored_at ws (interned K r) ≡ interned_at ws K r
+interned_is ws K (Ok i) = refl
+interned_is ws K (Err e) = refl
+
+pub err_left : (ws : List ℕ) (K : Counts) (r : Result (Option SortId) NoRoom) → IsErr r → left_at ws K r ≡ stored_at ws Full
+err_left ws K (Ok x) h = absurd (false≢true h)
+err_left ws K (Err e) h = refl
+
+pub full_of : (ws : List ℕ) (K : Counts) (r : Result SortId NoRoom) {e : NoRoom} → r ≡ Err e → stored_at ws Full ≡ interned_at ws K r
+full_of ws K r z = ap (interned_at ws K) (sym z)
+
+pub made_of : (ws : List ℕ) (K : Counts) (r : Result SortId NoRoom) {i : SortId} → r ≡ Ok i → stored_at ws (At i K) ≡ interned_at ws K r
+made_of ws K r z = ap (interned_at ws K) (sym z)
+
+abbrev as_op : Option ComplexSort → OpBound
+as_op None = NoOp
+as_op (Some o) = Is o
+
+op_is : (up : Bool) (o p : ComplexSort) → as_op (farther family_op level_op up o p o p) ≡ op_bound (bound_op up o p)
+unfolding farther bound_op
+op_is up o p = go (eqb (family_op o) (family_op p)) (le_level up (level_op o) (level_op p))
+  where
+    go : (f g : Bool) → as_op (cond f (Some (cond g p o)) None) ≡ op_bound (cond f (some (cond g p o)) none)
+    go true true = refl
+    go true false = refl
+    go false g = refl
+
+run_is : (d c : Run) (r u : SortId) → Function d r ≡ Function c u → d ≡ c
+run_is d c r u e = cc
+
+part_is : (d c : Run) (r u : SortId) → Function d r ≡ Function c u → r ≡ u
+part_is d c r u e = cc
+
+-- What is known before the k-th arguments of two functions with these domains: the list has grown, the two are as they were,
+-- and the rest of the arguments comes to the whole.
+pub record Going (up : Bool) (ws : List ℕ) (C : Counts) (a b : ℕ) (x y : Run) (now : List ℕ) (K : Counts) (k : ℕ) (ids : List SortId) : Type 0 where
+  pub functions : TwoFunctions now K.sorts K.entries a b
+  pub lhs_start : start_at now a ≡ x.start
+  pub rhs_start : start_at now b ≡ y.start
+  pub lhs_count : count_at now a ≡ x.count
+  pub same : bound_domain (not up) now K.sorts K.entries a b k (sort_numbers ids) ≡ bound_domain (not up) ws C.sorts C.entries a b 0 (replicate 16 0)
+  pub long : length ids ≡ 16
 
 module _ (ws : List ℕ) (C : Counts) (up : Bool) (a b : SortId) (q : Asked ws C.sorts C.entries a.0 b.0) where
   pub itself : a.0 ≡ b.0 → stored_at ws (At a C) ≡ bound_at up ws C.sorts C.entries a.0 b.0
   itself e = law.bound_itself ws C q.checked up a b q.lhs q.rhs e
 
-  module _ (d : a.0 ≡ b.0 → ⊥) (x : Pair) (ex : x ≡ pair_at ws a.0 b.0) where
-    say : (y : Pair) → x ≡ y → SortsSay ws C.sorts C.entries a.0 b.0 y
-    say y e = subst (SortsSay ws C.sorts C.entries a.0 b.0) (sym ex ∙ e) (pair_of_sorts ws C.sorts
-        C.entries a.0 b.0 q.checked q.lhs q.rhs d)
+  module _ (d : a.0 ≡ b.0 → ⊥) where
+    pub other : Unlike (look (trees ws C.sorts) a.0) (look (trees ws C.sorts) b.0) → stored_at ws (Nothing C) ≡ bound_at up ws C.sorts C.entries a.0 b.0
+    other u = law.bound_unlike ws C q.checked up a b q.lhs q.rhs d u
 
-    pub other : x ≡ Other → stored_at ws (Nothing C) ≡ bound_at up ws C.sorts C.entries a.0 b.0
-    unfolding SortsSay
-    other e = law.bound_unlike ws C q.checked up a b q.lhs q.rhs d (say Other e)
+    by_side : (f g : Bool) → left_at ws C (Ok (cond f (Some (cond g b a)) None)) ≡ stored_at ws (law.side_answer a b C (cond f (cond g Rhs Lhs) Neither))
+    by_side true true = refl
+    by_side true false = refl
+    by_side false g = refl
 
-    module _ (l r : Sort) (e : x ≡ Primitives l r) where
-      primitives : OfPrimitives ws C.sorts C.entries a.0 b.0 l r
-      unfolding SortsSay
-      primitives = say (Primitives l r) e
+    pub number : {l r : Sort} → OfPrimitives ws C.sorts C.entries a.0 b.0 l r → (x : Option SortId)
+        → x ≡ farther (λ s. family (primitive s)) (λ s. level (primitive s)) up l r a b → left_at ws C (Ok x) ≡ bound_at up ws C.sorts C.entries a.0 b.0
+    unfolding farther
+    number {l} {r} o x e =
+        ap (λ y. left_at ws C (Ok y)) e
+        ∙ (by_side (eqb (family (primitive l)) (family (primitive r))) (le_level up (level (primitive l)) (level (primitive r)))
+        ∙ law.bound_number ws C q.checked up a b q.lhs q.rhs d l r o (side_of up l r) refl)
 
-      pub number : (s : Side) → s ≡ side_of up l r → (y : Side) → s ≡ y → stored_at ws (law.side_answer a b C y) ≡
-          bound_at up ws C.sorts C.entries a.0 b.0
-      number s es y h =
-          ap (λ z. stored_at ws (law.side_answer a b C z)) (sym h) ∙ law.bound_number ws C q.checked up a b q.lhs q.rhs d l r primitives s es
-
-    module _ (o : ComplexSort) (s : SortId) (p : ComplexSort) (t : SortId) (e : x ≡ Containers o s p t) where
-      containers : OfContainers ws C.sorts C.entries a.0 b.0 o s p t
-      unfolding SortsSay
-      containers = say (Containers o s p t) e
-
+    module _ {o p : ComplexSort} {s t : SortId} (h : OfContainers ws C.sorts C.entries a.0 b.0 o s p t) where
       -- the parts are numbers of the list, below the containers
-      pub parts_asked : Asked ws C.sorts C.entries s.0 t.0
-      parts_asked = record { checked = q.checked; lhs = omega (arith, containers.lhs_below, q.lhs); rhs = omega (arith, containers.rhs_below, q.rhs) }
-
-      pub parts_below : s.0 + t.0 + 2 ≤ a.0 + b.0
-      parts_below = omega (arith, containers.lhs_below, containers.rhs_below)
-
-      pub container : (vs : List ℕ) (r : Joined) → stored_at vs r ≡ container_at up ws C.sorts C.entries o s.0
-          p t.0 → stored_at vs r ≡ bound_at up ws C.sorts C.entries a.0 b.0
-      container vs r h = h ∙ law.bound_container ws C q.checked up a b q.lhs q.rhs d o s p t containers
-
-    module _ (c ls : ℕ) (lr : SortId) (rs : ℕ) (rr : SortId) (e : x ≡ Functions c ls lr rs rr) where
-      pub functions_asked : TwoFunctions ws C.sorts C.entries a.0 b.0
-      functions_asked = domain.two_functions ws C.sorts C.entries a.0 b.0 q c ls lr rs rr (sym ex ∙ e)
-
-      pub function : (vs : List ℕ) (r : Joined) → stored_at vs r ≡ function_at up ws C.sorts C.entries a.0
-          b.0 → stored_at vs r ≡ bound_at up ws C.sorts C.entries a.0 b.0
-      function vs r h = h ∙ functions.bound_functions up ws C.sorts C.entries a.0 b.0 functions_asked d
-
--- The arguments of two functions from the i-th on, as `bound_domain` reads them.
-module _ (ws : List ℕ) (C : Counts) (up : Bool) (a b : ℕ) (f : TwoFunctions ws C.sorts C.entries a b) (i : ℕ)
-    (hi : i ≤ count_at ws a) (ids : List SortId) (count : ℕ) (ec : count ≡ count_at ws a) where
-  pub domain_done : i ≡ count → stored_domain ws (record { ids = ids; found = All C }) ≡ bound_domain (not up) ws C.sorts C.entries a b i (sort_numbers ids)
-  domain_done e = domain.domain_done (not up) ws C a b f i (sort_numbers ids) (e ∙ ec)
-
-  module _ (ne : i ≡ count → ⊥) where
-    pub one_left : i < count_at ws a
-    one_left = omega (arith, hi, ne, ec)
-
-    pub few_left : i < 16
-    few_left = omega (arith, one_left, domain.few_arguments ws C.sorts C.entries f.asked.checked a f.asked.lhs f.lhs_function)
-
-    module _ (l r : SortId) (el : l.0 ≡ entry_at ws (start_at ws a + i)) (er : r.0 ≡ entry_at ws (start_at ws b + i)) where
-      pub arguments_asked : Asked ws C.sorts C.entries l.0 r.0
-      arguments_asked = rw (el, er) (domain.arguments_asked (not up) ws C a b f i (sort_numbers ids) one_left)
-
-      pub arguments_smaller : l.0 + r.0 + 2 ≤ a + b
-      arguments_smaller =
-          omega (arith, el, er, domain.x_below (not up) ws C a b f i (sort_numbers ids) one_left, domain.y_below (not up) ws C a b f i (sort_numbers ids) one_left)
-
-      module _ (vs : List ℕ) (j : Joined) (ej : stored_at vs j ≡ bound_at (not up) ws C.sorts C.entries l.0 r.0) where
-        by_entries : stored_at vs j ≡ bound_at (not up) ws C.sorts C.entries (entry_at ws (start_at ws a + i)) (entry_at ws (start_at ws b + i))
-        by_entries = ej ∙ ap₂ (bound_at (not up) ws C.sorts C.entries) el er
-
-        pub domain_stops : (K : Counts) → j ≡ Nothing K
-            → stored_domain vs (record { ids = replicate 16 (record { 0 = 0 }); found = NotAll K }) ≡ bound_domain (not up) ws C.sorts
-            C.entries a b i (sort_numbers ids)
-        domain_stops K z = ap (λ l. domain_left vs l (NotAll K)) (zeros_sort_numbers 16) ∙ domain.domain_stops (not up) ws C a b f i (sort_numbers ids) one_left vs j by_entries K z
-
-        pub domain_ends : j ≡ Full → stored_domain vs (record { ids = replicate 16 (record { 0 = 0 }); found = NoRoom }) ≡ bound_domain
-            (not up) ws C.sorts C.entries a b i (sort_numbers ids)
-        domain_ends z = ap (λ l. domain_left vs l NoRoom) (zeros_sort_numbers 16) ∙ domain.domain_ends (not up) ws C a b f i (sort_numbers ids) one_left vs j by_entries z
-
-        module _ (c : SortId) (K : Counts) (z : j ≡ At c K) where
-          pub domain_next : TwoFunctions vs K.sorts K.entries a b × (i + 1 ≤ count_at vs a)
-          domain_next = (
-            domain.domain_next (not up) ws C a b f i (sort_numbers ids) one_left vs j by_entries c K z,
-            omega (arith, one_left, domain.count_unchanged (not up) ws C a b f i (sort_numbers ids) one_left vs j by_entries c K z),
-          )
-
-          pub domain_made : (us : List ℕ) (d : Domain) → stored_domain us d ≡ bound_domain (not up) vs K.sorts K.entries a b (i + 1) (sort_numbers (set ids i c))
-              → stored_domain us d ≡ bound_domain (not up) ws C.sorts C.entries a b i (sort_numbers ids)
-          domain_made us d q =
-              domain.domain_made (not up) ws C a b f i (sort_numbers ids) one_left vs j by_entries c K z us d
-              (q ∙ ap (bound_domain (not up) vs K.sorts K.entries a b (i + 1)) (set_sort_numbers ids i c))
-
--- Two functions, as `bound_function` reads them.
-module _ (ws : List ℕ) (C : Counts) (up : Bool) (a b : ℕ) (f : TwoFunctions ws C.sorts C.entries a b)
-    (pa pb : SortId) (ea : pa.0 ≡ part_at ws a) (eb : pb.0 ≡ part_at ws b) (count : ℕ) (ec : count ≡ count_at ws a)
-    (vs : List ℕ) (d : Domain) (q₀ : stored_domain vs d ≡ bound_domain (not up) ws C.sorts C.entries a b 0 (sort_numbers (replicate 16 (record { 0 = 0 })))) where
-  q : stored_domain vs d ≡ bound_domain (not up) ws C.sorts C.entries a b 0 (replicate 16 0)
-  q = q₀ ∙ ap (bound_domain (not up) ws C.sorts C.entries a b 0) (zeros_sort_numbers 16)
-
-  pub function_stops : (K : Counts) → d.found ≡ NotAll K → stored_at vs (Nothing K) ≡ function_at up ws C.sorts C.entries a b
-  function_stops = functions.function_stops up ws C a b f vs d q
-
-  pub function_ends : d.found ≡ NoRoom → stored_at vs Full ≡ function_at up ws C.sorts C.entries a b
-  function_ends = functions.function_ends up ws C a b f vs d q
-
-  pub ranges_smaller : pa.0 + pb.0 + 2 ≤ a + b
-  ranges_smaller =
-      omega (
-        arith,
-        ea,
-        eb,
-        domain.range_below ws C.sorts C.entries f.asked.checked a f.asked.lhs f.lhs_function,
-        domain.range_below ws C.sorts C.entries f.asked.checked b f.asked.rhs f.rhs_function,
+      pub parts_asked : (s.0 + t.0 < a.0 + b.0) × Asked ws C.sorts C.entries s.0 t.0
+      parts_asked = (
+        omega (arith, h.lhs_below, h.rhs_below),
+        record { checked = q.checked; lhs = omega (arith, h.lhs_below, q.lhs); rhs = omega (arith, h.rhs_below, q.rhs) },
       )
 
-  module _ (K : Counts) (z : d.found ≡ All K) where
-    pub ranges_asked : Asked vs K.sorts K.entries pa.0 pb.0
-    ranges_asked = rw (ea, eb) (functions.range_asked up ws C a b f vs d q K z)
+      whole : container_at up ws C.sorts C.entries o s.0 p t.0 ≡ bound_at up ws C.sorts C.entries a.0 b.0
+      whole = law.bound_container ws C q.checked up a b q.lhs q.rhs d o s p t h
 
-    module _ (us : List ℕ) (j : Joined) (ej : stored_at us j ≡ bound_at up vs K.sorts K.entries pa.0 pb.0) where
-      by_parts : stored_at us j ≡ bound_at up vs K.sorts K.entries (part_at ws a) (part_at ws b)
-      by_parts = ej ∙ ap₂ (bound_at up vs K.sorts K.entries) ea eb
+      module _ (x : Option ComplexSort) (e : x ≡ farther family_op level_op up o p o p) where
+        op : as_op x ≡ op_bound (bound_op up o p)
+        op = ap as_op e ∙ op_is up o p
 
-      pub range_stops : (K₂ : Counts) → j ≡ Nothing K₂ → stored_at us (Nothing K₂) ≡ function_at up ws C.sorts C.entries a b
-      range_stops = functions.range_stops up ws C a b f vs d q K z us j by_parts
+        pub no_operator : x ≡ None → stored_at ws (Nothing C) ≡ bound_at up ws C.sorts C.entries a.0 b.0
+        no_operator f =
+            law.container_none ws C q.checked up o s p t parts_asked.1.lhs parts_asked.1.rhs (as_op x) op (ap as_op f) ∙ whole
 
-      pub range_ends : j ≡ Full → stored_at us Full ≡ function_at up ws C.sorts C.entries a b
-      range_ends = functions.range_ends up ws C a b f vs d q K z us j by_parts
+        module _ (y : ComplexSort) (f : x ≡ Some y) (vs : List ℕ) (K : Counts) (r : Result (Option SortId) NoRoom)
+            (left : left_at vs K r ≡ bound_at up ws C.sorts C.entries s.0 t.0) where
+          by_part : stored_at vs (joined K r) ≡ bound_at up ws C.sorts C.entries s.0 t.0
+          by_part = left_is vs K r ∙ left
 
-      module _ (c : SortId) (K₂ : Counts) (y : j ≡ At c K₂) where
-        pub whole_asked : Checked us K₂.sorts K₂.entries × (c.0 < K₂.sorts) × (count ≤ 16) × AllBelow K₂.sorts (take count (sort_numbers d.ids))
-        whole_asked = (
-          functions.function_checked up ws C a b f vs d q K z us j by_parts c K₂ y,
-          functions.function_range_below up ws C a b f vs d q K z us j by_parts c K₂ y,
-          omega (arith, ec, domain.few_arguments ws C.sorts C.entries f.asked.checked a f.asked.lhs f.lhs_function),
-          rw ec (functions.function_ids_below up ws C a b f vs d q K z us j by_parts c K₂ y),
-        )
+          pub part_stops : r ≡ Ok None → stored_at vs (Nothing K) ≡ bound_at up ws C.sorts C.entries a.0 b.0
+          part_stops z =
+              law.container_stops ws C q.checked up o s p t parts_asked.1.lhs parts_asked.1.rhs (as_op x) op y (ap as_op f)
+              vs (joined K r) by_part K (ap (joined K) z) ∙ whole
 
-        pub whole_made : (zs : List ℕ) (w : Joined)
-            → stored_at zs w ≡ intern_at us K₂.sorts K₂.entries (functionSort (look_all (trees us K₂.sorts)
-            (take count (sort_numbers d.ids))) (look (trees us K₂.sorts) c.0))
-            → stored_at zs w ≡ function_at up ws C.sorts C.entries a b
-        whole_made zs w h =
-            functions.function_made up ws C a b f vs d q K z us j by_parts c K₂ y zs w
-            (h ∙ ap (λ m. intern_at us K₂.sorts K₂.entries (functionSort (look_all (trees us K₂.sorts)
-            (take m (sort_numbers d.ids))) (look (trees us K₂.sorts) c.0))) ec)
+          pub part_ends : {w : NoRoom} → r ≡ Err w → stored_at vs Full ≡ bound_at up ws C.sorts C.entries a.0 b.0
+          part_ends z =
+              law.container_ends ws C q.checked up o s p t parts_asked.1.lhs parts_asked.1.rhs (as_op x) op y (ap as_op f)
+              vs (joined K r) by_part (ap (joined K) z) ∙ whole
+
+          module _ (c : SortId) (z : r ≡ Ok (Some c)) where
+            pub generic_asked : Checked vs K.sorts K.entries × (c.0 < K.sorts)
+            generic_asked = (
+              law.container_checked ws C q.checked up o s p t parts_asked.1.lhs parts_asked.1.rhs (as_op x) op y (ap as_op f)
+                  vs (joined K r) by_part c K (ap (joined K) z),
+              law.container_below ws C q.checked up o s p t parts_asked.1.lhs parts_asked.1.rhs (as_op x) op y (ap as_op f)
+                  vs (joined K r) by_part c K (ap (joined K) z),
+            )
+
+            pub container_made : (us : List ℕ) (L : Counts) (w : Result SortId NoRoom)
+                → interned_at us L w ≡ intern_at vs K.sorts K.entries (container y (look (trees vs K.sorts) c.0))
+                → interned_at us L w ≡ bound_at up ws C.sorts C.entries a.0 b.0
+            container_made us L w i =
+                sym (interned_is us L w)
+                ∙ (law.container_made ws C q.checked up o s p t parts_asked.1.lhs parts_asked.1.rhs (as_op x) op y (ap as_op f)
+                vs (joined K r) by_part c K (ap (joined K) z) us (interned L w) (interned_is us L w ∙ i) ∙ whole)
+
+    -- two functions with as many arguments
+    module _ (x y : Run) (u v : SortId) (ex : row_at ws a.0 ≡ Function x u) (ey : row_at ws b.0 ≡ Function y v) (m : x.count ≡ y.count) where
+      pair_is : pair_at ws a.0 b.0 ≡ Functions x.count x.start u y.start v
+      unfolding pair_of with_function
+      pair_is = ap₂ pair_of ex ey ∙ rw (eq-eqb x.count y.count m)
+
+      two : TwoFunctions ws C.sorts C.entries a.0 b.0
+      two = domain.two_functions ws C.sorts C.entries a.0 b.0 q x.count x.start u y.start v pair_is
+
+      abbrev function_at : ℕ → ResolvedSort
+      function_at i = Function (record { start = start_at ws i; count = count_at ws i }) (record { 0 = part_at ws i })
+
+      lhs_says : function_at a.0 ≡ Function x u
+      lhs_says = sym (domain.function_says ws a.0 two.lhs_function) ∙ ex
+
+      rhs_says : function_at b.0 ≡ Function y v
+      rhs_says = sym (domain.function_says ws b.0 two.rhs_function) ∙ ey
+
+      lhs_run : record { start = start_at ws a.0; count = count_at ws a.0 } ≡ x
+      lhs_run = run_is _ x _ u lhs_says
+
+      rhs_run : record { start = start_at ws b.0; count = count_at ws b.0 } ≡ y
+      rhs_run = run_is _ y _ v rhs_says
+
+      lhs_part : part_at ws a.0 ≡ u.0
+      lhs_part = ap (λ (i : SortId). i.0) (part_is _ x _ u lhs_says)
+
+      rhs_part : part_at ws b.0 ≡ v.0
+      rhs_part = ap (λ (i : SortId). i.0) (part_is _ y _ v rhs_says)
+
+      pub going_from_start : Going up ws C a.0 b.0 x y ws C 0 (replicate 16 (record { 0 = 0 }))
+      going_from_start =
+          record {
+            functions = two;
+            lhs_start = ap (λ (r : Run). r.start) lhs_run;
+            rhs_start = ap (λ (r : Run). r.start) rhs_run;
+            lhs_count = ap (λ (r : Run). r.count) lhs_run;
+            same = ap (bound_domain (not up) ws C.sorts C.entries a.0 b.0 0) (zeros_sort_numbers 16);
+            long = refl;
+          }
+
+      module _ (now : List ℕ) (K : Counts) (k : ℕ) (ids : List SortId) (g : Going up ws C a.0 b.0 x y now K k ids) where
+        few : x.count ≤ 16
+        few = omega (arith, g.lhs_count, domain.few_arguments now K.sorts K.entries g.functions.asked.checked a.0 g.functions.asked.lhs g.functions.lhs_function)
+
+        module _ (hk : k < x.count) (l r : SortId) (el : l.0 ≡ entry_at now (x.start + k)) (er : r.0 ≡ entry_at now (y.start + k)) where
+          one_left : k < count_at now a.0
+          one_left = omega (arith, hk, g.lhs_count)
+
+          pub below_sixteen : k < 16
+          below_sixteen = omega (arith, hk, few)
+
+          lhs_is : l.0 ≡ entry_at now (start_at now a.0 + k)
+          lhs_is = el ∙ ap (λ (i : ℕ). entry_at now (i + k)) (sym g.lhs_start)
+
+          rhs_is : r.0 ≡ entry_at now (start_at now b.0 + k)
+          rhs_is = er ∙ ap (λ (i : ℕ). entry_at now (i + k)) (sym g.rhs_start)
+
+          pub arguments_asked : (l.0 + r.0 < a.0 + b.0) × Asked now K.sorts K.entries l.0 r.0
+          arguments_asked = (
+            omega (
+              arith,
+              lhs_is,
+              rhs_is,
+              domain.x_below (not up) now K a.0 b.0 g.functions k (sort_numbers ids) one_left,
+              domain.y_below (not up) now K a.0 b.0 g.functions k (sort_numbers ids) one_left,
+            ),
+            rw (lhs_is, rhs_is) (domain.arguments_asked (not up) now K a.0 b.0 g.functions k (sort_numbers ids) one_left),
+          )
+
+          module _ (vs : List ℕ) (L : Counts) (j : Result (Option SortId) NoRoom) (left : left_at vs L j ≡ bound_at (not up) now K.sorts K.entries l.0 r.0) where
+            by_entries : stored_at vs (joined L j)
+                ≡ bound_at (not up) now K.sorts K.entries (entry_at now (start_at now a.0 + k)) (entry_at now (start_at now b.0 + k))
+            by_entries = left_is vs L j ∙ (left ∙ ap₂ (bound_at (not up) now K.sorts K.entries) lhs_is rhs_is)
+
+            pub arguments_stop : j ≡ Ok None → stored_at vs (Nothing L) ≡ bound_at up ws C.sorts C.entries a.0 b.0
+            arguments_stop z =
+                functions.function_stops up ws C a.0 b.0 two vs (record { ids = replicate 16 (record { 0 = 0 }); found = NotAll L })
+                (ap (λ i. domain_left vs i (NotAll L)) (zeros_sort_numbers 16)
+                ∙ (domain.domain_stops (not up) now K a.0 b.0 g.functions k (sort_numbers ids) one_left vs (joined L j) by_entries L (ap (joined L) z) ∙ g.same)) L refl
+                ∙ functions.bound_functions up ws C.sorts C.entries a.0 b.0 two d
+
+            pub arguments_end : {w : NoRoom} → j ≡ Err w → stored_at vs Full ≡ bound_at up ws C.sorts C.entries a.0 b.0
+            arguments_end z =
+                functions.function_ends up ws C a.0 b.0 two vs (record { ids = replicate 16 (record { 0 = 0 }); found = NoneFits })
+                (ap (λ i. domain_left vs i NoneFits) (zeros_sort_numbers 16)
+                ∙ (domain.domain_ends (not up) now K a.0 b.0 g.functions k (sort_numbers ids) one_left vs (joined L j) by_entries (ap (joined L) z) ∙ g.same)) refl
+                ∙ functions.bound_functions up ws C.sorts C.entries a.0 b.0 two d
+
+            module _ (c : SortId) (z : j ≡ Ok (Some c)) where
+              at : joined L j ≡ At c L
+              at = ap (joined L) z
+
+              pub going_on : Going up ws C a.0 b.0 x y vs L (k + 1) (set ids k c)
+              going_on =
+                  record {
+                    functions = domain.domain_next (not up) now K a.0 b.0 g.functions k (sort_numbers ids) one_left vs (joined L j) by_entries c L at;
+                    lhs_start = domain.lhs_start_unchanged (not up) now K a.0 b.0 g.functions k (sort_numbers ids) one_left vs (joined L j) by_entries c L at ∙ g.lhs_start;
+                    rhs_start = domain.rhs_start_unchanged (not up) now K a.0 b.0 g.functions k (sort_numbers ids) one_left vs (joined L j) by_entries c L at ∙ g.rhs_start;
+                    lhs_count = domain.count_unchanged (not up) now K a.0 b.0 g.functions k (sort_numbers ids) one_left vs (joined L j) by_entries c L at ∙ g.lhs_count;
+                    same = ap (bound_domain (not up) vs L.sorts L.entries a.0 b.0 (k + 1)) (set_sort_numbers ids k c)
+                        ∙ (domain.domain_goes_on (not up) now K a.0 b.0 g.functions k (sort_numbers ids) one_left vs (joined L j) by_entries c L at ∙ g.same);
+                    long = length-set ids k c ∙ g.long;
+                  }
+
+        -- all arguments are made
+        module _ (last : k ≡ x.count) where
+          abbrev made : Domain
+          made = record { ids = ids; found = All K }
+
+          done : stored_domain now made ≡ bound_domain (not up) ws C.sorts C.entries a.0 b.0 0 (replicate 16 0)
+          done = domain.domain_done (not up) now K a.0 b.0 g.functions k (sort_numbers ids) (last ∙ sym g.lhs_count) ∙ g.same
+
+          pub range_asked : (u.0 + v.0 < a.0 + b.0) × Asked now K.sorts K.entries u.0 v.0
+          range_asked = (
+            omega (
+              arith,
+              lhs_part,
+              rhs_part,
+              domain.range_below ws C.sorts C.entries q.checked a.0 q.lhs two.lhs_function,
+              domain.range_below ws C.sorts C.entries q.checked b.0 q.rhs two.rhs_function,
+            ),
+            subst (λ (i : ℕ). Asked now K.sorts K.entries i v.0) lhs_part
+                (subst (λ (i : ℕ). Asked now K.sorts K.entries (part_at ws a.0) i) rhs_part
+                (functions.range_asked up ws C a.0 b.0 two now made done K refl)),
+          )
+
+          pub domain_fits : x.count ≤ length ids
+          domain_fits = omega (arith, few, g.long)
+
+          pub domain_long : x.count ≡ length (take x.count ids)
+          domain_long = sym (length-take-le x.count ids domain_fits)
+
+          module _ (us : List ℕ) (L : Counts) (j : Result (Option SortId) NoRoom) (left : left_at us L j ≡ bound_at up now K.sorts K.entries u.0 v.0) where
+            by_parts : stored_at us (joined L j) ≡ bound_at up now K.sorts K.entries (part_at ws a.0) (part_at ws b.0)
+            by_parts = left_is us L j ∙ (left ∙ ap₂ (bound_at up now K.sorts K.entries) (sym lhs_part) (sym rhs_part))
+
+            pub range_stops : j ≡ Ok None → stored_at us (Nothing L) ≡ bound_at up ws C.sorts C.entries a.0 b.0
+            range_stops z =
+                functions.range_stops up ws C a.0 b.0 two now made done K refl us (joined L j) by_parts L (ap (joined L) z)
+                ∙ functions.bound_functions up ws C.sorts C.entries a.0 b.0 two d
+
+            pub range_ends : {w : NoRoom} → j ≡ Err w → stored_at us Full ≡ bound_at up ws C.sorts C.entries a.0 b.0
+            range_ends z =
+                functions.range_ends up ws C a.0 b.0 two now made done K refl us (joined L j) by_parts (ap (joined L) z)
+                ∙ functions.bound_functions up ws C.sorts C.entries a.0 b.0 two d
+
+            module _ (c : SortId) (z : j ≡ Ok (Some c)) where
+              there : joined L j ≡ At c L
+              there = ap (joined L) z
+
+              by_count : take (count_at ws a.0) (sort_numbers ids) ≡ sort_numbers (take x.count ids)
+              by_count = ap (λ (n : ℕ). take n (sort_numbers ids)) (ap (λ (r : Run). r.count) lhs_run) ∙ sym (take_sort_numbers x.count ids)
+
+              pub function_asked : Checked us L.sorts L.entries × (c.0 < L.sorts) × (length (take x.count ids) ≤ 16)
+                  × AllBelow L.sorts (sort_numbers (take x.count ids))
+              function_asked = (
+                functions.function_checked up ws C a.0 b.0 two now made done K refl us (joined L j) by_parts c L there,
+                functions.function_range_below up ws C a.0 b.0 two now made done K refl us (joined L j) by_parts c L there,
+                omega (arith, few, domain_long),
+                subst (AllBelow L.sorts) by_count
+                    (functions.function_ids_below up ws C a.0 b.0 two now made done K refl us (joined L j) by_parts c L there),
+              )
+
+              pub function_made : (zs : List ℕ) (M : Counts) (w : Result SortId NoRoom)
+                  → interned_at zs M w ≡ intern_at us L.sorts L.entries (functionSort (look_all (trees us L.sorts)
+                  (sort_numbers (take x.count ids))) (look (trees us L.sorts) c.0))
+                  → interned_at zs M w ≡ bound_at up ws C.sorts C.entries a.0 b.0
+              function_made zs M w i =
+                  sym (interned_is zs M w)
+                  ∙ (functions.function_made up ws C a.0 b.0 two now made done K refl us (joined L j) by_parts c L there zs (interned M w)
+                  (interned_is zs M w ∙ (i ∙ ap (λ xs. intern_at us L.sorts L.entries (functionSort (look_all (trees us L.sorts) xs)
+                  (look (trees us L.sorts) c.0))) (sym by_count)))
+                  ∙ functions.bound_functions up ws C.sorts C.entries a.0 b.0 two d)

@@ -158,7 +158,7 @@ pub fn join(
                 sorts: sort_count as u16,
                 entries: entry_count as u16,
             };
-            let joined = sort_bounds::join(sorts, counts, lhs, rhs);
+            let joined = sort_bounds::lent::join(sorts, counts, lhs, rhs);
             kept_or_given_back(sorts, sort_count, entry_count, joined)
         }
     }
@@ -183,7 +183,7 @@ pub fn meet(
                 sorts: sort_count as u16,
                 entries: entry_count as u16,
             };
-            let joined = sort_bounds::meet(sorts, counts, lhs, rhs);
+            let joined = sort_bounds::lent::meet(sorts, counts, lhs, rhs);
             kept_or_given_back(sorts, sort_count, entry_count, joined)
         }
     }

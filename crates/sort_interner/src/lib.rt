@@ -325,6 +325,13 @@ impl<'a> SortInterner<'a> {
         None
     }
 
+    // The k-th argument of a function with this domain.
+    pub fn argument(&self, domain: Run, k: u16) -> SortId
+        ensures { result.0 ≡ entry_at self.now.words.now (domain.start + k) }
+    {
+        entry(self.words, domain, k)
+    }
+
     // The row's number: the first row that is the same, else one more row where there is room. Nothing changes where
     // the row is found or there is no room.
     // Each distinct sort is stored once, so that equality of sorts is that of their numbers. The six that merc interns

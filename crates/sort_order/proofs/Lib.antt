@@ -1,5 +1,4 @@
 -- The laws as the code meets them: premises are the tests and what calls have answered, the conclusion is the definition.
-pub mod Rows
 pub mod Heads
 pub mod Orders
 pub mod Falls

@@ -5,105 +5,14 @@ ghost use Rattle.std.specs.Prelude.{◌≡◌, ◌<◌, ℕ, true};
 ghost use Rattle.resolved_sort.specs.Tree.{primitive, family, level, family_op, level_op};
 ghost use Rattle.resolved_sort.specs.Order.{ordering, distance, steps_of, materializable, stopped_sum};
 ghost use Rattle.resolved_sort.specs.Entries.{tree_at};
-ghost use Rattle.resolved_sort.specs.Inner.Pairs.{with_primitive, with_container, with_function, pair_at};
 ghost use Rattle.sort_order.specs.Heads.{heads_ordering, heads_steps};
 ghost use Rattle.sort_order.specs.Inner.Answers.{combined, generality};
 
 pub mod lent;
 
-use resolved_sort::{ComplexSort, Pair, ResolvedSort, Run, Sort, SortId, Steps};
-use sort_interner::{Sorts, get};
+use resolved_sort::{ComplexSort, ResolvedSort, Sort, SortId, Steps};
+use sort_interner::Sorts;
 use std::cmp::Ordering;
-
-// The pair that a primitive sort makes with a row. Only another primitive sort makes one.
-#[tactic(auto, unfolding(resolved_sort::specs::Inner::Pairs::with_primitive))]
-fn with_primitive(lhs: Sort, rhs: ResolvedSort) -> Pair
-    ensures { result ≡ with_primitive lhs rhs }
-{
-    match rhs {
-        ResolvedSort::Unit => Pair::Other,
-        ResolvedSort::Primitive(sort) => Pair::Primitives(lhs, sort),
-        ResolvedSort::Container { op: _, subsort: _ } => Pair::Other,
-        ResolvedSort::Function {
-            domain: _,
-            range: _,
-        } => Pair::Other,
-        ResolvedSort::Def(_) => Pair::Other,
-        ResolvedSort::TypeVar(_) => Pair::Other,
-    }
-}
-
-// The pair that a container makes with a row. Two containers make one whatever their operators.
-#[tactic(auto, unfolding(resolved_sort::specs::Inner::Pairs::with_container))]
-fn with_container(lhs_op: ComplexSort, lhs_sub: SortId, rhs: ResolvedSort) -> Pair
-    ensures { result ≡ with_container lhs_op lhs_sub rhs }
-{
-    match rhs {
-        ResolvedSort::Unit => Pair::Other,
-        ResolvedSort::Primitive(_) => Pair::Other,
-        ResolvedSort::Container { op, subsort } => Pair::Containers {
-            lhs_op,
-            lhs_sub,
-            rhs_op: op,
-            rhs_sub: subsort,
-        },
-        ResolvedSort::Function {
-            domain: _,
-            range: _,
-        } => Pair::Other,
-        ResolvedSort::Def(_) => Pair::Other,
-        ResolvedSort::TypeVar(_) => Pair::Other,
-    }
-}
-
-// The pair of two functions. With different numbers of arguments they make none.
-#[tactic(auto, unfolding(resolved_sort::specs::Inner::Pairs::with_function))]
-fn functions(lhs: Run, lhs_range: SortId, rhs: Run, rhs_range: SortId) -> Pair
-    ensures { result ≡ with_function lhs lhs_range (ResolvedSort.Function rhs rhs_range) }
-{
-    if lhs.count == rhs.count {
-        Pair::Functions {
-            count: lhs.count,
-            lhs_start: lhs.start,
-            lhs_range,
-            rhs_start: rhs.start,
-            rhs_range,
-        }
-    } else {
-        Pair::Other
-    }
-}
-
-// The pair that a function makes with a row.
-#[tactic(auto, unfolding(resolved_sort::specs::Inner::Pairs::with_function))]
-fn with_function(lhs: Run, lhs_range: SortId, rhs: ResolvedSort) -> Pair
-    ensures { result ≡ with_function lhs lhs_range rhs }
-{
-    match rhs {
-        ResolvedSort::Unit => Pair::Other,
-        ResolvedSort::Primitive(_) => Pair::Other,
-        ResolvedSort::Container { op: _, subsort: _ } => Pair::Other,
-        ResolvedSort::Function { domain, range } => functions(lhs, lhs_range, domain, range),
-        ResolvedSort::Def(_) => Pair::Other,
-        ResolvedSort::TypeVar(_) => Pair::Other,
-    }
-}
-
-// Two rows side by side: the Rust's `match (self.get(lhs), self.get(rhs))`. Any two of different forms are Other.
-#[tactic(auto, using(crate::proofs::Rows::pair_of_read), unfolding(resolved_sort::specs::Inner::Pairs::pair_of))]
-pub fn pair(sorts: &[u16], lhs: SortId, rhs: SortId) -> Pair
-    ensures { result ≡ pair_at sorts.now lhs.0 rhs.0 }
-{
-    let right = get(sorts, rhs);
-    match get(sorts, lhs) {
-        ResolvedSort::Unit => Pair::Other,
-        ResolvedSort::Primitive(sort) => with_primitive(sort, right),
-        ResolvedSort::Container { op, subsort } => with_container(op, subsort, right),
-        ResolvedSort::Function { domain, range } => with_function(domain, range, right),
-        ResolvedSort::Def(_) => Pair::Other,
-        ResolvedSort::TypeVar(_) => Pair::Other,
-    }
-}
 
 // A head that is ordered within a family, by its level there.
 pub trait Graded: Copy {
