@@ -1,52 +1,34 @@
 -- Storing one number and then the rest comes to storing them all. Assumes nothing.
 use mathlib.Core.Path.{◌≡◌, refl, ap, ◌∙◌}
-use mathlib.Core.Bool.{true, false}
+use mathlib.Core.Bool.{Bool, true, false, cond}
 use mathlib.Core.List.{List}
-use Prim.Native.Nat.{ℕ, zero, suc, ◌+◌, ◌-◌, ◌<◌, ◌≤◌}
+use Prim.Native.Nat.{ℕ, min, ◌+◌, ◌<◌, ◌≤◌}
 use native.Mathlib.Omega.{arith}
-use lib.ListN.{get_or, set}
-use borrow.Author.Tests.{lt-ltb, le-ltb}
-use Rattle.replay.specs.Inner.Lines.{kept, store_from}
+use native.Mathlib.Numerals.{add-one}
+use lib.ListN.{length, get_or, set, drop, drop_of_length-le}
+use lib.Seq.{drop-cons}
+use borrow.Author.Tests.{lt-ltb, le-ltb, ltb-true, ltb-false}
+use lib.Dec.{ltb}
+use Rattle.replay.specs.Inner.Lines.{kept, store_from, most_count, one_more}
 
-none_at : (m : ℕ) (ws : List ℕ) (at : ℕ) (values : List ℕ) (i : ℕ) → 65535 < get_or values i 0 → kept ws false ≡ store_from (suc m) ws at values i
-unfolding store_from
-none_at m ws at values i h = rw (lt-ltb _ _ h)
+module _ (values : List ℕ) (i : ℕ) (ws : List ℕ) (at : ℕ) where
+  pub none_more : i < length values → 65535 < get_or values i 0 → kept ws false ≡ store_from ws at (drop i values)
+  unfolding store_from
+  none_more h large = rw (drop-cons values i 0 h, lt-ltb _ _ large)
 
-more_at :
-    (m : ℕ) (ws : List ℕ) (at : ℕ) (values : List ℕ) (i : ℕ) → get_or values i 0 ≤ 65535
-    → store_from (suc m) ws at values i ≡ store_from m (set ws at (get_or values i 0)) (at + 1) values (i + 1)
-unfolding store_from
-more_at m ws at values i h = rw (le-ltb _ _ h)
+  pub one_stored : i < length values → get_or values i 0 ≤ 65535 → (us : List ℕ) → us ≡ set ws at (get_or values i 0)
+      → (next : ℕ) → next ≡ at + 1 → store_from ws at (drop i values) ≡ store_from us next (drop (i + 1) values)
+  unfolding store_from
+  one_stored h small us e next n = rw (e, n, add-one, add-one) (rw (drop-cons values i 0 h, le-ltb _ _ small, add-one) refl)
 
-done_at : (ws : List ℕ) (at : ℕ) (values : List ℕ) (i : ℕ) → kept ws true ≡ store_from zero ws at values i
-unfolding store_from
-done_at ws at values i = refl
+  pub all_stored : length values ≤ i → kept ws true ≡ store_from ws at (drop i values)
+  unfolding store_from
+  all_stored h = rw (drop_of_length-le values h)
 
--- of n numbers from the first-th on, stored from base on, i are stored
-module _ (n : ℕ) (base first : ℕ) (values : List ℕ) where
-  pub start : (ws : List ℕ) → store_from n ws base values first ≡ store_from (n - 0) ws (base + 0) values (first + 0)
-  start ws =
-      let m : n ≡ n - 0 = omega arith in
-      let a : base ≡ base + 0 = omega arith in
-      let f : first ≡ first + 0 = omega arith in
-      λ i. store_from (m i) ws (a i) values (f i)
-
-  module _ (ws : List ℕ) (i : ℕ) where
-    pub none : i < n → 65535 < get_or values (first + i) 0 → kept ws false ≡ store_from (n - i) ws (base + i) values (first + i)
-    none h large =
-        none_at (n - (i + 1)) ws (base + i) values (first + i) large ∙ ap (λ (m : ℕ). store_from m ws (base + i) values (first + i)) (omega arith)
-
-    pub more :
-        i < n → get_or values (first + i) 0 ≤ 65535 → (us : List ℕ) → us ≡ set ws (base + i) (get_or values (first + i) 0)
-        → store_from (n - i) ws (base + i) values (first + i) ≡ store_from (n - (i + 1)) us (base + (i + 1)) values (first + (i + 1))
-    more h small us e =
-        let m : n - i ≡ suc (n - (i + 1)) = omega arith in
-        let a : (base + i) + 1 ≡ base + (i + 1) = omega arith in
-        let f : (first + i) + 1 ≡ first + (i + 1) = omega arith in
-        rw e
-        (ap (λ (k : ℕ). store_from k ws (base + i) values (first + i)) m
-        ∙ more_at (n - (i + 1)) ws (base + i) values (first + i) small
-        ∙ (λ j. store_from (n - (i + 1)) (set ws (base + i) (get_or values (first + i) 0)) (a j) values (f j)))
-
-    pub done : n ≤ i → kept ws true ≡ store_from (n - i) ws (base + i) values (first + i)
-    done h = done_at ws (base + i) values (first + i) ∙ ap (λ (m : ℕ). store_from m ws (base + i) values (first + i)) (omega arith)
+pub one_more_is : (n : ℕ) → n ≤ most_count → min (n + 1) most_count ≡ one_more n
+unfolding one_more
+one_more_is n h = by (ltb n most_count) refl
+  where
+    by : (b : Bool) → ltb n most_count ≡ b → min (n + 1) most_count ≡ cond b (n + 1) n
+    by true e = let l = ltb-true n most_count e in omega (arith, l)
+    by false e = let l = ltb-false n most_count e in omega (arith, l, h)

@@ -2,8 +2,8 @@
 // differ, and what is said of a line and at the end.
 #![tactic(auto)]
 
-ghost use Rattle.std.specs.Prelude.{◌≡◌, ◌+◌, ◌*◌, ◌≤◌, OnOk, IfOk};
-ghost use Rattle.replay.specs.Inner.Numbers.{max_fields, number_at, ended_of, fields_of, no_fields};
+ghost use Rattle.std.specs.Prelude.{◌≡◌, ◌+◌, ◌*◌, ◌≤◌, length, OnOk, IfOk};
+ghost use Rattle.replay.specs.Inner.Numbers.{max_fields, number_at, fields_of, numbers};
 ghost use Rattle.std.specs.Io.KnownBytes.{Appends};
 ghost use Rattle.replay.specs.Said.{line_said, bad_said, other_said, said_of, found_said, counted_found, last_said, counted_last, end_said};
 ghost use Rattle.replay.specs.Inner.Lines.{near_enough, kept, store_from, one_more, counted_of};
@@ -18,32 +18,22 @@ pub const MAX_FIELDS: usize = 18;
 
 pub const MAX_WORDS: usize = 16;
 
-const MOST_COUNT: u64 = 18446744073709551615;
-
 // So many bytes of a line are held: one more than a line may have, which shows that it is too long.
 pub const HELD_LINE: usize = 257;
 
 // Past this a number has one digit too many to take another.
 const MOST_VALUE: u64 = 999999999999999999;
 
-// A number that stands at a position of a line: its value, and the position past its digits.
-#[derive(Clone, Copy, Drop)]
-pub enum Number {
-    Is(u64, usize),
-    Nothing,
-}
-
-// The numbers of a line, where it is a letter and numbers.
-#[derive(Drop)]
+// The numbers of a line.
+#[derive(Clone, Copy, Debug, PartialEq, Eq)]
 pub struct Fields {
     pub values: [u64; MAX_FIELDS],
     pub count: usize,
-    pub good: bool,
 }
 
 // What came of a line: nothing to say, an answer as recorded, another answer, another binding of a variable than the
 // one recorded, another word left than the one recorded, or no line of the form.
-#[derive(Clone, Copy, Drop)]
+#[derive(Clone, Copy, Debug, PartialEq, Eq)]
 pub enum Verdict {
     Quiet,
     Agrees,
@@ -55,116 +45,74 @@ pub enum Verdict {
 
 // How many lines were read, how many of them had an answer to check (of a question, or words left), and how many lines
 // do not agree. Each stops at the largest number.
-#[derive(Clone, Copy, Drop)]
+#[derive(Clone, Copy, Debug, PartialEq, Eq)]
 pub struct Tally {
     pub lines: u64,
     pub questions: u64,
     pub differ: u64,
 }
 
-// The number at a position of a line, by its decimal digits.
-fn number_at(line: &[u8], at: usize) -> Number
+// The number at a position of a line, by its decimal digits, of which it has at least one, and the position past them.
+fn number_at(line: &[u8], at: usize) -> Option<(u64, usize)>
     ensures { result ≡ number_at line.now at }
 {
-    let mut i = at;
     let mut value: u64 = 0;
-    while i < line.len() {
-        let b = line[i];
-        if b < b'0' {
-            return ended(value, at, i);
-        }
-        if b'9' < b {
-            return ended(value, at, i);
-        }
+    let mut end = at;
+    while end < line.len() && line[end].is_ascii_digit() {
         if MOST_VALUE < value {
-            return Number::Nothing;
+            return None;
         }
-        value = value * 10 + wide(b - b'0');
-        i += 1;
+        value = value * 10 + u64::from(line[end] - b'0');
+        end += 1;
     }
-    ended(value, at, i)
+    if end == at { None } else { Some((value, end)) }
 }
 
-fn wide(d: u8) -> u64
-    ensures { result ≡ d }
-{
-    d as u64
-}
-
-// A number that ends at a position: it has at least one digit.
-fn ended(value: u64, at: usize, end: usize) -> Number
-    ensures { result ≡ ended_of value at end }
-{
-    if at == end {
-        return Number::Nothing;
-    }
-    Number::Is(value, end)
-}
-
-// The numbers of a line after its letter: at most 18, each after one space.
-pub fn fields_of(line: &[u8]) -> Fields
+// The numbers of a line after its letter: at most 18, each after one space; none where it is not a letter and numbers.
+pub fn fields_of(line: &[u8]) -> Option<Fields>
     ensures { result ≡ fields_of line.now }
 {
     let mut values = [0u64; MAX_FIELDS];
-    let mut count: usize = 0;
     let mut at: usize = 1;
-    while count < MAX_FIELDS {
+    for count in 0..MAX_FIELDS {
         if line.len() <= at {
-            return Fields {
-                values,
-                count,
-                good: true,
-            };
+            return Some(Fields { values, count });
         }
         if line[at] != b' ' {
-            return no_fields();
+            return None;
         }
-        let Number::Is(value, next) = number_at(line, at + 1) else {
-            return no_fields();
-        };
+        let (value, next) = number_at(line, at + 1)?;
         values[count] = value;
-        count += 1;
         at = next;
     }
-    if line.len() <= at {
-        return Fields {
-            values,
-            count,
-            good: true,
-        };
+    if at < line.len() {
+        return None;
     }
-    no_fields()
+    Some(Fields {
+        values,
+        count: MAX_FIELDS,
+    })
 }
 
-fn no_fields() -> Fields
-    ensures { result ≡ no_fields }
-{
-    Fields {
-        values: [0u64; MAX_FIELDS],
-        count: 0,
-        good: false,
+impl Fields {
+    pub fn numbers(&self) -> &[u64]
+        requires { self.now.count ≤ max_fields }
+        ensures { result.now ≡ numbers self.now }
+    {
+        &self.values[..self.count]
     }
 }
 
-// So many numbers, from the first one of them on, stored as the words from a word on, up to the first that is no word.
-pub fn store(
-    list: &mut [u16],
-    base: usize,
-    values: [u64; MAX_FIELDS],
-    first: usize,
-    count: usize,
-) -> bool
-    requires { (base ≤ near_enough) × (first + count ≤ max_fields) }
-    ensures { kept list.new result ≡ store_from count list.old base values first }
+// Numbers stored as the words from a word on, up to the first that is no word; whether all are words.
+pub fn store(list: &mut [u16], base: usize, values: &[u64]) -> bool
+    requires { (base ≤ near_enough) × (length values.now ≤ max_fields) }
+    ensures { kept list.new result ≡ store_from list.old base values.now }
 {
-    let mut i: usize = 0;
-    while i < count {
-        let value = values[first + i];
+    for (i, &value) in values.iter().enumerate() {
         if MOST_WORD < value {
             return false;
         }
         put(list, base + i, value as u16);
-        i += 1;
     }
     true
 }
@@ -173,48 +121,34 @@ pub fn store(
 fn one_more(n: u64) -> u64
     ensures { result ≡ one_more n }
 {
-    if n < MOST_COUNT {
-        return n + 1;
-    }
-    n
+    n.saturating_add(1)
 }
 
-// The counts after a line. One that is not of the form counts as a line that differs.
-pub fn counted(tally: Tally, verdict: Verdict) -> Tally
-    ensures { result ≡ counted_of tally verdict }
-{
-    let lines = one_more(tally.lines);
-    match verdict {
-        Verdict::Quiet => Tally {
-            lines,
-            questions: tally.questions,
-            differ: tally.differ,
-        },
-        Verdict::Agrees => Tally {
-            lines,
-            questions: one_more(tally.questions),
-            differ: tally.differ,
-        },
-        Verdict::Differs(_) => Tally {
-            lines,
-            questions: one_more(tally.questions),
-            differ: one_more(tally.differ),
-        },
-        Verdict::BindsOther(_) => Tally {
-            lines,
-            questions: one_more(tally.questions),
-            differ: one_more(tally.differ),
-        },
-        Verdict::LeavesOther(_) => Tally {
-            lines,
-            questions: one_more(tally.questions),
-            differ: one_more(tally.differ),
-        },
-        Verdict::NotOfForm => Tally {
-            lines,
-            questions: tally.questions,
-            differ: one_more(tally.differ),
-        },
+impl Tally {
+    // The counts after a line. One that is not of the form counts as a line that differs.
+    #[tactic(auto, unfolding(crate::specs::Inner::Lines::counted_of))]
+    pub fn counted(self, verdict: Verdict) -> Tally
+        ensures { result ≡ counted_of self verdict }
+    {
+        let lines = one_more(self.lines);
+        match verdict {
+            Verdict::Quiet => Tally { lines, ..self },
+            Verdict::Agrees => Tally {
+                lines,
+                questions: one_more(self.questions),
+                ..self
+            },
+            Verdict::Differs(_) | Verdict::BindsOther(_) | Verdict::LeavesOther(_) => Tally {
+                lines,
+                questions: one_more(self.questions),
+                differ: one_more(self.differ),
+            },
+            Verdict::NotOfForm => Tally {
+                lines,
+                differ: one_more(self.differ),
+                ..self
+            },
+        }
     }
 }
 
@@ -255,8 +189,7 @@ pub fn say<W: Write>(out: &mut W, number: u64, text: &[u8], verdict: Verdict) ->
     ensures { OnOk result (Appends (W.contents out.old) (W.contents out.new) (said_of number text.now verdict)) }
 {
     match verdict {
-        Verdict::Quiet => Ok(()),
-        Verdict::Agrees => Ok(()),
+        Verdict::Quiet | Verdict::Agrees => Ok(()),
         Verdict::Differs(got) => say_other(out, number, text, b": got ", got),
         Verdict::BindsOther(variable) => say_other(
             out,
@@ -279,7 +212,7 @@ fn finish_read<W: Write>(out: &mut W, tally: Tally, found: LineFound) -> io::Res
     match found {
         LineFound::Failed => {
             out.write_all(b"the input cannot be read\n")?;
-            Ok(counted(tally, Verdict::NotOfForm))
+            Ok(tally.counted(Verdict::NotOfForm))
         }
         LineFound::Nothing => Ok(tally),
         LineFound::Line => Ok(tally),
@@ -297,7 +230,7 @@ fn finish_last<W: Write>(out: &mut W, tally: Tally, complete: bool) -> io::Resul
         return Ok(tally);
     }
     out.write_all(b"the last list is not complete\n")?;
-    Ok(counted(tally, Verdict::NotOfForm))
+    Ok(tally.counted(Verdict::NotOfForm))
 }
 
 // How many answers were checked and how many lines do not agree. A read that failed and a last list

@@ -6,30 +6,28 @@ use Rattle.replay.proofs.fields_of.Goals as goal
 
 pub loop-count-init : goal.loop-count-init
 unfolding fields_of
-loop-count-init c = (omega arith, refl, refl)
+loop-count-init c = (refl, refl)
 
 pub returns-then-line-at : goal.returns-then-line-at
-returns-then-line-at c = law.fields_ended _ _ _ _ _ c.if-line-at.true ∙ c.loop-count.invariant.2
+returns-then-line-at c = law.fields_ended _ _ _ _ _ c.if-line-at.true ∙ c.loop-count.invariant.1
 
 pub returns-then-line-at-ne32 : goal.returns-then-line-at-ne32
-returns-then-line-at-ne32 c =
-    c.no_fields.ensures ∙ law.fields_no_space _ _ _ _ _ c.if-line-at.false c.if-line-at-ne32.true ∙ c.loop-count.invariant.2
+returns-then-line-at-ne32 c = law.fields_no_space _ _ _ _ _ c.if-line-at.false c.if-line-at-ne32.true ∙ c.loop-count.invariant.1
 
-pub returns-in_default : goal.returns-in_default
-returns-in_default c =
-    c.no_fields-in_default.ensures ∙ law.fields_no_number _ _ _ _ _ c.if-line-at.false c.if-line-at-ne32.false
-    (sym c.number_at.ensures ∙ c.in_default.is) ∙ c.loop-count.invariant.2
+pub returns-in_err-value : goal.returns-in_err-value
+returns-in_err-value c =
+    c.from_residual.ensures ∙ law.fields_no_number _ _ _ _ _ c.if-line-at.false c.if-line-at-ne32.false
+    (sym c.number_at.ensures ∙ c.in_err-value.was) ∙ c.loop-count.invariant.1
 
 pub loop-count-preserved : goal.loop-count-preserved
 loop-count-preserved c = (
-  omega arith,
-  simp length-set c.loop-count.invariant.1,
-  sym (law.fields_more _ _ _ _ _ _ c.loop-count-test.true c.if-line-at.false c.if-line-at-ne32.false (sym c.in-Is.ensures))
-      ∙ c.loop-count.invariant.2,
+  simp length-set c.loop-count.invariant.0,
+  sym (law.fields_more _ _ _ _ _ _ c.loop-count-test.true c.if-line-at.false c.if-line-at-ne32.false
+      (sym c.number_at.ensures ∙ c.in_ok-value.was)) ∙ c.loop-count.invariant.1,
 )
 
-pub returns-then-line-at-2 : goal.returns-then-line-at-2
-returns-then-line-at-2 c = law.fields_ended _ _ _ _ _ c.if-line-at-2.true ∙ c.loop-count.invariant.2
+pub returns-then-at-line : goal.returns-then-at-line
+returns-then-at-line c = law.fields_over _ _ _ _ c.loop-count-test.false c.if-at-line.true ∙ c.loop-count.invariant.1
 
 pub returns : goal.returns
-returns c = c.no_fields-2.ensures ∙ law.fields_over _ _ _ _ c.loop-count-test.false c.if-line-at-2.false ∙ c.loop-count.invariant.2
+returns c = law.fields_full _ _ _ _ c.loop-count-test.false (omega arith) c.if-at-line.false ∙ c.loop-count.invariant.1

@@ -4,8 +4,8 @@ use Rattle.std.proofs.Common.{length, ◌-◌}
 use Rattle.replay.proofs.Numbers as law
 use Rattle.replay.proofs.number_at.Given as goal
 
-abbrev pub invariant-loop-i : goal.invariant-loop-i
-invariant-loop-i l = law.Going l.line l.at l.i l.value
+abbrev pub invariant-loop-end : goal.invariant-loop-end
+invariant-loop-end l = law.Going l.line l.at l.end l.value
 
-abbrev pub decreases-loop-i : goal.decreases-loop-i
-decreases-loop-i l = length l.line - l.i
+abbrev pub decreases-loop-end : goal.decreases-loop-end
+decreases-loop-end l = length l.line - l.end

@@ -1,5 +1,5 @@
 -- What a line of the recorded answers says, and what comes of it.
-use Rattle.std.specs.Prelude.{Bool, true, false, cond, List, ℕ, zero, suc, ◌+◌, ltb, eqb, get_or, set}
+use Rattle.std.specs.Prelude.{Bool, true, false, cond, List, [], ◌∷◌, ℕ, ◌+◌, ltb, eqb, set}
 use Rattle.words.specs.Inner.Bits.{most_word}
 use Rattle.replay.specs.declared.Verdict.{Verdict}
 use Rattle.replay.specs.declared.Verdict.TheVariants.{Quiet, Agrees, Differs, BindsOther, LeavesOther, NotOfForm}
@@ -24,12 +24,10 @@ pub record LineKept : Type 0 where
 abbrev pub kept : List ℕ → Bool → LineKept
 kept ws b = record { words = ws; all = b }
 
--- m numbers from the i-th on stored from a word on, up to the first that is no word
-unfoldable pub store_from : ℕ → List ℕ → ℕ → List ℕ → ℕ → LineKept
-store_from zero ws at values i = kept ws true
-store_from (suc m) ws at values i =
-    cond (ltb most_word (get_or values i 0)) (kept ws false)
-    (store_from m (set ws at (get_or values i 0)) (at + 1) values (i + 1))
+-- numbers stored from a word on, up to the first that is no word
+unfoldable pub store_from : List ℕ → ℕ → List ℕ → LineKept
+store_from ws at [] = kept ws true
+store_from ws at (v ∷ vs) = cond (ltb most_word v) (kept ws false) (store_from (set ws at v) (at + 1) vs)
 
 abbrev pub verdict_of : ℕ → ℕ → Verdict
 verdict_of got expected = cond (eqb got expected) Agrees (Differs got)
