@@ -2,7 +2,7 @@
 -- end comes where none is left. Assumes nothing.
 use mathlib.Core.Path.{◌≡◌, refl, sym, ◌∙◌, ap, subst}
 use mathlib.Core.List.{List, [], ◌∷◌, ◌++◌, map, append_assoc, append-nil}
-use Prim.Native.Nat.{ℕ, ◌<◌}
+use Prim.Native.Nat.{ℕ, ◌<◌, ◌≤◌}
 use native.Mathlib.Omega.{arith}
 use lib.ListN.{length, take}
 use Rattle.std.specs.Prelude.{Option, Some, None, Result, Ok, IsErr, IsErrAnd}
@@ -140,6 +140,13 @@ found_end Line n r a e = absurd (let z : ◌≡◌ {A = Result (Option ℕ) Erro
 found_end End n r a e = refl
 found_end Failed n r a e = absurd (let z = subst IsErr e a in cc z)
 found_end Nothing n r a e = absurd (subst (λ x. IsErrAnd x (λ k. error_kind k ≡ TimedOut)) e a)
+
+-- a line is held in its memory
+pub line_held : (known known' : Option (List ℕ)) (before after : Lines) (r : Result (Option ℕ) Error) → LineRead known known' before after r
+    → (n : ℕ) → r ≡ Ok (Some n) → n ≤ length before.line.bytes.now
+line_held known known' before after r l n e =
+    let f = (found_line l.found after.line.at n r l.answer e).1 in
+    omega (arith, f, l.next.next.few)
 
 module _ (known known' : Option (List ℕ)) (before after : Lines) (r : Result (Option ℕ) Error) (l : LineRead known known' before after r)
     (room : 0 < length before.buffer.now) (some : 0 < length before.line.bytes.now)

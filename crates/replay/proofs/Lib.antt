@@ -1,3 +1,4 @@
 -- The laws that the proofs of this crate cite. Assumes nothing.
 mod Numbers
 mod Stores
+mod Replaying

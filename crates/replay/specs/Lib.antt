@@ -1,3 +1,4 @@
 -- What the contracts of this crate cite.
 pub mod Inner
 pub mod Said
+pub mod Replays

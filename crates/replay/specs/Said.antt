@@ -1,7 +1,5 @@
 -- What is said of a line, and what is said at the end.
 use Rattle.std.specs.Prelude.{Bool, true, false, List, [], ◌++◌, ℕ, codes, decimal}
-use Rattle.line_input.specs.declared.LineFound.{LineFound}
-use Rattle.line_input.specs.declared.LineFound.TheVariants.{Nothing, Line, End, Failed}
 use Rattle.replay.specs.Inner.Lines.{counted_of}
 use Rattle.replay.specs.declared.Verdict.{Verdict}
 use Rattle.replay.specs.declared.Verdict.TheVariants.{Quiet, Agrees, Differs, BindsOther, LeavesOther, NotOfForm}
@@ -27,18 +25,14 @@ said_of number text (BindsOther variable) = other_said number text (codes ": ano
 said_of number text (LeavesOther word) = other_said number text (codes ": left ") word
 said_of number text NotOfForm = bad_said number
 
--- a read that failed, and a last list that is not complete
-unfoldable pub found_said : LineFound → List ℕ
-found_said Failed = codes "the input cannot be read\n"
-found_said Nothing = []
-found_said Line = []
-found_said End = []
+-- an input that cannot be read to its end, and a last list that is not complete
+unfoldable pub read_said : Bool → List ℕ
+read_said true = []
+read_said false = codes "the input cannot be read\n"
 
-unfoldable pub counted_found : LineFound → Tally → Tally
-counted_found Failed t = counted_of t NotOfForm
-counted_found Nothing t = t
-counted_found Line t = t
-counted_found End t = t
+unfoldable pub counted_read : Bool → Tally → Tally
+counted_read true t = t
+counted_read false t = counted_of t NotOfForm
 
 unfoldable pub last_said : Bool → List ℕ
 last_said true = []
@@ -52,6 +46,5 @@ abbrev pub checked_said : Tally → List ℕ
 checked_said t =
     codes "checked " ++ (decimal t.questions ++ (codes " answers, " ++ (decimal t.differ ++ codes " differ\n")))
 
-abbrev pub end_said : Tally → LineFound → Bool → List ℕ
-end_said t found complete =
-    found_said found ++ (last_said complete ++ checked_said (counted_last complete (counted_found found t)))
+abbrev pub end_said : Tally → (read complete : Bool) → List ℕ
+end_said t read complete = read_said read ++ (last_said complete ++ checked_said (counted_last complete (counted_read read t)))

@@ -2,15 +2,16 @@
 // differ, and what is said of a line and at the end.
 #![tactic(auto)]
 
-ghost use Rattle.std.specs.Prelude.{◌≡◌, ◌+◌, ◌*◌, ◌≤◌, length, OnOk, IfOk};
+ghost use Rattle.std.specs.Prelude.{Bool, List, ℕ, ◌≡◌, ◌+◌, ◌*◌, ◌≤◌, length, OnOk, IfOk};
 ghost use Rattle.replay.specs.Inner.Numbers.{max_fields, number_at, fields_of, numbers};
 ghost use Rattle.std.specs.Io.KnownBytes.{Appends};
-ghost use Rattle.replay.specs.Said.{line_said, bad_said, other_said, said_of, found_said, counted_found, last_said, counted_last, end_said};
+ghost use Rattle.replay.specs.Said.{line_said, bad_said, other_said, said_of, read_said, counted_read, last_said, counted_last, end_said};
+ghost use Rattle.replay.specs.Replays.{line_step, line_text, Replayed};
 ghost use Rattle.replay.specs.Inner.Lines.{near_enough, kept, store_from, one_more, counted_of};
 
-use line_input::LineFound;
+use line_input::Lines;
 use std::io;
-use std::io::Write;
+use std::io::{Read, Write};
 use words::{MOST_WORD, put};
 
 // How many numbers a line has at most, how many words of a list it gives at most, and the largest count.
@@ -203,21 +204,17 @@ pub fn say<W: Write>(out: &mut W, number: u64, text: &[u8], verdict: Verdict) ->
     }
 }
 
-// A read that failed counts as a line that does not agree.
-#[tactic(auto, unfolding(crate::specs::Said::found_said, crate::specs::Said::counted_found))]
-fn finish_read<W: Write>(out: &mut W, tally: Tally, found: LineFound) -> io::Result<Tally>
-    ensures said { OnOk result (Appends (W.contents out.old) (W.contents out.new) (found_said found)) }
-    ensures counted { IfOk result (λ t. t ≡ counted_found found tally) }
+// An input that cannot be read to its end counts as a line that does not agree.
+#[tactic(auto, unfolding(crate::specs::Said::read_said, crate::specs::Said::counted_read))]
+fn finish_read<W: Write>(out: &mut W, tally: Tally, read: bool) -> io::Result<Tally>
+    ensures said { OnOk result (Appends (W.contents out.old) (W.contents out.new) (read_said read)) }
+    ensures counted { IfOk result (λ t. t ≡ counted_read read tally) }
 {
-    match found {
-        LineFound::Failed => {
-            out.write_all(b"the input cannot be read\n")?;
-            Ok(tally.counted(Verdict::NotOfForm))
-        }
-        LineFound::Nothing => Ok(tally),
-        LineFound::Line => Ok(tally),
-        LineFound::End => Ok(tally),
+    if read {
+        return Ok(tally);
     }
+    out.write_all(b"the input cannot be read\n")?;
+    Ok(tally.counted(Verdict::NotOfForm))
 }
 
 // A last list that is not complete counts as a line too.
@@ -233,19 +230,90 @@ fn finish_last<W: Write>(out: &mut W, tally: Tally, complete: bool) -> io::Resul
     Ok(tally.counted(Verdict::NotOfForm))
 }
 
-// How many answers were checked and how many lines do not agree. A read that failed and a last list
-// that is not complete count as a line each.
-pub fn finish<W: Write>(
-    out: &mut W,
-    tally: Tally,
-    found: LineFound,
-    complete: bool,
-) -> io::Result<()>
-    ensures { OnOk result (Appends (W.contents out.old) (W.contents out.new) (end_said tally found complete)) }
+// How many answers were checked and how many lines do not agree, where all of the input was read and its last list is
+// complete, or not.
+fn finish<W: Write>(out: &mut W, tally: Tally, read: bool, complete: bool) -> io::Result<()>
+    ensures { OnOk result (Appends (W.contents out.old) (W.contents out.new) (end_said tally read complete)) }
 {
-    let read = finish_read(out, tally, found)?;
-    let all = finish_last(out, read, complete)?;
-    let questions = all.questions;
-    let differ = all.differ;
+    let tally = finish_read(out, tally, read)?;
+    let tally = finish_last(out, tally, complete)?;
+    let questions = tally.questions;
+    let differ = tally.differ;
     writeln!(out, "checked {questions} answers, {differ} differ")
+}
+
+// What is held of recorded answers from line to line: the words of a list, say, and how much of it was read.
+pub trait Recorded {
+    ghost use Rattle.replay.specs.declared.Verdict.{Verdict};
+
+    // what is held after a line, and what came of the line
+    ghost step: { Self → List ℕ → Self × Verdict };
+
+    // whether all of the list that was begun was read
+    ghost complete: { Self → Bool };
+
+    // A line of the recorded answers.
+    fn replay_line(&mut self, line: &[u8]) -> Verdict
+        ensures { (self.new, result) ≡ step self.old line.now };
+
+    fn is_complete(&self) -> bool
+        ensures { result ≡ complete self.now };
+}
+
+// A line asked again. One that fills its memory is too long, and not of the form.
+#[tactic(auto, unfolding(crate::specs::Replays::line_step))]
+fn ask_line<T: Recorded>(recorded: &mut T, line: &[u8], most: usize) -> Verdict
+    ensures { (recorded.new, result) ≡ line_step T.step most recorded.old line.now }
+{
+    if most <= line.len() {
+        return Verdict::NotOfForm;
+    }
+    recorded.replay_line(line)
+}
+
+// A line asked again, and what there is to say of it.
+fn take_line<T: Recorded, W: Write>(
+    recorded: &mut T,
+    out: &mut W,
+    line: &[u8],
+    most: usize,
+    tally: Tally,
+) -> io::Result<Tally>
+    ensures held { recorded.new ≡ (line_step T.step most recorded.old line.now).0 }
+    ensures counted { IfOk result (λ t. t ≡ counted_of tally (line_step T.step most recorded.old line.now).1) }
+    ensures said { OnOk result (Appends (W.contents out.old) (W.contents out.new)
+        (line_text tally line.now (line_step T.step most recorded.old line.now).1)) }
+{
+    let verdict = ask_line(recorded, line, most);
+    let tally = tally.counted(verdict);
+    say(out, tally.lines, line, verdict)?;
+    Ok(tally)
+}
+
+// All lines of the input, asked again one after another. A proved loop has to end, and nothing says that an input does:
+// one with so many lines counts as one that cannot be read.
+pub fn replay_all<T: Recorded, R: Read, W: Write>(
+    recorded: &mut T,
+    lines: &mut Lines,
+    reader: &mut R,
+    out: &mut W,
+) -> io::Result<()>
+    ensures { OnOk result (Replayed T.step T.complete (length lines.old.line.bytes.now) recorded.old (W.contents out.old) (W.contents out.new)) }
+{
+    let most = lines.line.bytes.len();
+    let mut tally = Tally {
+        lines: 0,
+        questions: 0,
+        differ: 0,
+    };
+    for _ in 0..u64::MAX {
+        match lines.next_line(reader) {
+            Ok(Some(length)) => {
+                tally = take_line(recorded, out, &lines.line.bytes[..length], most, tally)?;
+            }
+            Ok(None) => return finish(out, tally, true, recorded.is_complete()),
+            Err(_) => return finish(out, tally, false, recorded.is_complete()),
+        }
+    }
+    finish(out, tally, false, recorded.is_complete())
 }

@@ -20,9 +20,9 @@ pub returns-then-end-at : goal.returns-then-end-at
 returns-then-end-at c =
     let none : digits (drop c.loop-end.end c.args.line.now) ≡ [] =
     elim c.loop-end-test.branch [
-      then-loop-end-test+else-is_ascii_digit w ↦
-        law.digits_other _ _ w.loop-end-test.true (sym w.is_ascii_digit.ensures.value ∙ w.if-is_ascii_digit.false)
-    | else-loop-end-test w ↦ law.digits_end _ _ w.loop-end-test.false
+      | then-loop-end-test+else-is_ascii_digit w ↦
+          law.digits_other _ _ w.loop-end-test.true (sym w.is_ascii_digit.ensures.value ∙ w.if-is_ascii_digit.false)
+      | else-loop-end-test w ↦ law.digits_end _ _ w.loop-end-test.false
     ] in
     law.ends_at_once _ _ _ _ c.loop-end.invariant none c.if-end-at.true
 
@@ -30,8 +30,8 @@ pub returns-else-end-at : goal.returns-else-end-at
 returns-else-end-at c =
     let none : digits (drop c.loop-end.end c.args.line.now) ≡ [] =
     elim c.loop-end-test.branch [
-      then-loop-end-test+else-is_ascii_digit w ↦
-        law.digits_other _ _ w.loop-end-test.true (sym w.is_ascii_digit.ensures.value ∙ w.if-is_ascii_digit.false)
-    | else-loop-end-test w ↦ law.digits_end _ _ w.loop-end-test.false
+      | then-loop-end-test+else-is_ascii_digit w ↦
+          law.digits_other _ _ w.loop-end-test.true (sym w.is_ascii_digit.ensures.value ∙ w.if-is_ascii_digit.false)
+      | else-loop-end-test w ↦ law.digits_end _ _ w.loop-end-test.false
     ] in
     law.going_ends _ _ _ _ c.loop-end.invariant none c.if-end-at.false
