@@ -26,7 +26,7 @@ pub said_of_line : (a b : Option (List ℕ)) (t t' : Tally) (line : List ℕ) (v
 said_of_line a b t t' line v w e f h =
     subst (λ x. Appends a b (line_text t line x)) f (subst (λ (x : Tally). Appends a b (said_of x.lines line v)) e h)
 
-module _ {S : Type 0} (step : S → List ℕ → S × Verdict) (most : ℕ) where
+module _ {S : Type 0} (step : S → ℕ → List ℕ → S × Verdict) (most : ℕ) where
   lines_then : (r : Run S) (ls : List (List ℕ)) (l : List ℕ) → after_lines step most r (ls ++ (l ∷ [])) ≡ after_line step most (after_lines step most r ls) l
   unfolding after_lines
   lines_then r [] l = refl

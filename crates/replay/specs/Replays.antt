@@ -1,15 +1,29 @@
 -- Lines asked again one after another, and what is said of them.
-use Rattle.std.specs.Prelude.{Bool, cond, List, [], ◌∷◌, ◌++◌, ℕ, leb, length, Option}
+use Rattle.std.specs.Prelude.{Bool, cond, List, [], ◌∷◌, ◌++◌, ℕ, leb, eqb, length, get_or, Option, Some, None}
+use Prim.Native.Char.{code}
+use Rattle.replay.specs.declared.Fields.{Fields}
+use Rattle.replay.specs.Inner.Numbers.{fields_of, numbers}
 use Rattle.std.specs.Io.KnownBytes.{Appends}
 use Rattle.replay.specs.declared.Verdict.{Verdict}
-use Rattle.replay.specs.declared.Verdict.TheVariants.{NotOfForm}
+use Rattle.replay.specs.declared.Verdict.TheVariants.{Quiet, NotOfForm}
 use Rattle.replay.specs.declared.Tally.{Tally}
 use Rattle.replay.specs.Inner.Lines.{counted_of}
 use Rattle.replay.specs.Said.{said_of, end_said}
 
--- what is held after a line, and what came of it; a line that fills its memory is too long, and not of the form
-unfoldable pub line_step : {S : Type 0} → (S → List ℕ → S × Verdict) → ℕ → S → List ℕ → S × Verdict
-line_step step most s l = cond (leb most (length l)) (s, NotOfForm) (step s l)
+-- what is held after a line of a letter, and what came of it, where it is a letter and numbers
+unfoldable pub numbers_step : {S : Type 0} → (S → ℕ → List ℕ → S × Verdict) → S → ℕ → Option Fields → S × Verdict
+numbers_step step s letter None = (s, NotOfForm)
+numbers_step step s letter (Some f) = step s letter (numbers f)
+
+-- a line: empty is not of the form, # says nothing, else a letter and numbers
+unfoldable pub step_of : {S : Type 0} → (S → ℕ → List ℕ → S × Verdict) → S → List ℕ → S × Verdict
+step_of step s line =
+    cond (eqb (length line) 0) (s, NotOfForm)
+    (cond (eqb (get_or line 0 0) (code "#")) (s, Quiet) (numbers_step step s (get_or line 0 0) (fields_of line)))
+
+-- a line that fills its memory is too long, and not of the form
+unfoldable pub line_step : {S : Type 0} → (S → ℕ → List ℕ → S × Verdict) → ℕ → S → List ℕ → S × Verdict
+line_step step most s l = cond (leb most (length l)) (s, NotOfForm) (step_of step s l)
 
 -- what is said of a line of which this came
 abbrev pub line_text : Tally → List ℕ → Verdict → List ℕ
@@ -24,19 +38,19 @@ pub record Run (S : Type 0) : Type 0 where
 abbrev pub started : {S : Type 0} → S → Run S
 started s = record { held = s; tally = record { lines = 0; questions = 0; differ = 0 }; said = [] }
 
-unfoldable pub after_line : {S : Type 0} → (S → List ℕ → S × Verdict) → ℕ → Run S → List ℕ → Run S
+unfoldable pub after_line : {S : Type 0} → (S → ℕ → List ℕ → S × Verdict) → ℕ → Run S → List ℕ → Run S
 after_line step most r l = record {
   held = (line_step step most r.held l).0;
   tally = counted_of r.tally (line_step step most r.held l).1;
   said = r.said ++ line_text r.tally l (line_step step most r.held l).1;
 }
 
-unfoldable pub after_lines : {S : Type 0} → (S → List ℕ → S × Verdict) → ℕ → Run S → List (List ℕ) → Run S
+unfoldable pub after_lines : {S : Type 0} → (S → ℕ → List ℕ → S × Verdict) → ℕ → Run S → List (List ℕ) → Run S
 after_lines step most r [] = r
 after_lines step most r (l ∷ ls) = after_lines step most (after_line step most r l) ls
 
 -- What is said of lines, and at the end, is written.
-pub record Replayed {S : Type 0} (step : S → List ℕ → S × Verdict) (complete : S → Bool) (most : ℕ) (s : S)
+pub record Replayed {S : Type 0} (step : S → ℕ → List ℕ → S × Verdict) (complete : S → Bool) (most : ℕ) (s : S)
     (shown shown-left : Option (List ℕ)) : Type 0 where
   pub lines : List (List ℕ)
   pub read : Bool

@@ -2,11 +2,11 @@
 // differ, and what is said of a line and at the end.
 #![tactic(auto)]
 
-ghost use Rattle.std.specs.Prelude.{Bool, List, ℕ, ◌≡◌, ◌+◌, ◌*◌, ◌≤◌, length, OnOk, IfOk};
+ghost use Rattle.std.specs.Prelude.{Bool, List, ℕ, ◌≡◌, ◌+◌, ◌*◌, ◌≤◌, length, OnOk, IfOk, IfSome};
 ghost use Rattle.replay.specs.Inner.Numbers.{max_fields, number_at, fields_of, numbers};
 ghost use Rattle.std.specs.Io.KnownBytes.{Appends};
 ghost use Rattle.replay.specs.Said.{line_said, bad_said, other_said, said_of, read_said, counted_read, last_said, counted_last, end_said};
-ghost use Rattle.replay.specs.Replays.{line_step, line_text, Replayed};
+ghost use Rattle.replay.specs.Replays.{step_of, line_step, line_text, Replayed};
 ghost use Rattle.replay.specs.Inner.Lines.{near_enough, kept, store_from, one_more, counted_of};
 
 use line_input::Lines;
@@ -71,7 +71,8 @@ fn number_at(line: &[u8], at: usize) -> Option<(u64, usize)>
 
 // The numbers of a line after its letter: at most 18, each after one space; none where it is not a letter and numbers.
 pub fn fields_of(line: &[u8]) -> Option<Fields>
-    ensures { result ≡ fields_of line.now }
+    ensures numbers { result ≡ fields_of line.now }
+    ensures few { IfSome result (λ f. f.count ≤ max_fields) }
 {
     let mut values = [0u64; MAX_FIELDS];
     let mut at: usize = 1;
@@ -98,7 +99,8 @@ pub fn fields_of(line: &[u8]) -> Option<Fields>
 impl Fields {
     pub fn numbers(&self) -> &[u64]
         requires { self.now.count ≤ max_fields }
-        ensures { result.now ≡ numbers self.now }
+        ensures numbers { result.now ≡ numbers self.now }
+        ensures few { length result.now ≤ max_fields }
     {
         &self.values[..self.count]
     }
@@ -246,18 +248,37 @@ fn finish<W: Write>(out: &mut W, tally: Tally, read: bool, complete: bool) -> io
 pub trait Recorded {
     ghost use Rattle.replay.specs.declared.Verdict.{Verdict};
 
-    // what is held after a line, and what came of the line
-    ghost step: { Self → List ℕ → Self × Verdict };
+    // what is held after a line of a letter and numbers, and what came of the line
+    ghost step: { Self → ℕ → List ℕ → Self × Verdict };
 
     // whether all of the list that was begun was read
     ghost complete: { Self → Bool };
 
-    // A line of the recorded answers.
-    fn replay_line(&mut self, line: &[u8]) -> Verdict
-        ensures { (self.new, result) ≡ step self.old line.now };
+    // A line of a letter and numbers.
+    fn replay(&mut self, letter: u8, numbers: &[u64]) -> Verdict
+        requires { length numbers.now ≤ max_fields }
+        ensures { (self.new, result) ≡ step self.old letter numbers.now };
 
     fn is_complete(&self) -> bool
         ensures { result ≡ complete self.now };
+}
+
+// A line of recorded answers: an empty one is not of the form, `#` says nothing, else it is a letter and numbers.
+#[tactic(auto, unfolding(crate::specs::Replays::step_of, crate::specs::Replays::numbers_step))]
+pub fn replay_line<T: Recorded>(recorded: &mut T, line: &[u8]) -> Verdict
+    ensures { (recorded.new, result) ≡ step_of T.step recorded.old line.now }
+{
+    if line.len() == 0 {
+        return Verdict::NotOfForm;
+    }
+    let letter = line[0];
+    if letter == b'#' {
+        return Verdict::Quiet;
+    }
+    let Some(fields) = fields_of(line) else {
+        return Verdict::NotOfForm;
+    };
+    recorded.replay(letter, fields.numbers())
 }
 
 // A line asked again. One that fills its memory is too long, and not of the form.
@@ -268,7 +289,7 @@ fn ask_line<T: Recorded>(recorded: &mut T, line: &[u8], most: usize) -> Verdict
     if most <= line.len() {
         return Verdict::NotOfForm;
     }
-    recorded.replay_line(line)
+    replay_line(recorded, line)
 }
 
 // A line asked again, and what there is to say of it.

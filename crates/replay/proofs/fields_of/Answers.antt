@@ -8,14 +8,14 @@ pub loop-count-init : goal.loop-count-init
 unfolding fields_of
 loop-count-init c = (refl, refl)
 
-pub returns-then-line-at : goal.returns-then-line-at
-returns-then-line-at c = law.fields_ended _ _ _ _ _ c.if-line-at.true ∙ c.loop-count.invariant.1
+pub returns-then-line-at-clause-numbers : goal.returns-then-line-at-clause-numbers
+returns-then-line-at-clause-numbers c = law.fields_ended _ _ _ _ _ c.if-line-at.true ∙ c.loop-count.invariant.1
 
-pub returns-then-line-at-ne32 : goal.returns-then-line-at-ne32
-returns-then-line-at-ne32 c = law.fields_no_space _ _ _ _ _ c.if-line-at.false c.if-line-at-ne32.true ∙ c.loop-count.invariant.1
+pub returns-then-line-at-ne32-clause-numbers : goal.returns-then-line-at-ne32-clause-numbers
+returns-then-line-at-ne32-clause-numbers c = law.fields_no_space _ _ _ _ _ c.if-line-at.false c.if-line-at-ne32.true ∙ c.loop-count.invariant.1
 
-pub returns-in_err-value : goal.returns-in_err-value
-returns-in_err-value c =
+pub returns-in_err-value-clause-numbers : goal.returns-in_err-value-clause-numbers
+returns-in_err-value-clause-numbers c =
     c.from_residual.ensures ∙ law.fields_no_number _ _ _ _ _ c.if-line-at.false c.if-line-at-ne32.false
     (sym c.number_at.ensures ∙ c.in_err-value.was) ∙ c.loop-count.invariant.1
 
@@ -26,8 +26,8 @@ loop-count-preserved c = (
       (sym c.number_at.ensures ∙ c.in_ok-value.was)) ∙ c.loop-count.invariant.1,
 )
 
-pub returns-then-at-line : goal.returns-then-at-line
-returns-then-at-line c = law.fields_over _ _ _ _ c.loop-count-test.false c.if-at-line.true ∙ c.loop-count.invariant.1
+pub returns-then-at-line-clause-numbers : goal.returns-then-at-line-clause-numbers
+returns-then-at-line-clause-numbers c = law.fields_over _ _ _ _ c.loop-count-test.false c.if-at-line.true ∙ c.loop-count.invariant.1
 
-pub returns : goal.returns
-returns c = law.fields_full _ _ _ _ c.loop-count-test.false (omega arith) c.if-at-line.false ∙ c.loop-count.invariant.1
+pub returns-clause-numbers : goal.returns-clause-numbers
+returns-clause-numbers c = law.fields_full _ _ _ _ c.loop-count-test.false (omega arith) c.if-at-line.false ∙ c.loop-count.invariant.1
