@@ -5,13 +5,14 @@
 // nothing.
 #![tactic(auto)]
 
-ghost use Rattle.std.specs.Prelude.{◌≡◌, ◌+◌, ◌*◌, ◌≤◌};
+ghost use Rattle.std.specs.Prelude.{◌≡◌, ◌+◌, ◌*◌, ◌≤◌, length};
 ghost use Rattle.replay.specs.Inner.Lines.{near_enough};
-ghost use Rattle.recorded_sorts.specs.Inner.Lines.{letter_of, complete as is_complete, stepped, keep_of};
-ghost use Rattle.recorded_sorts.specs.Inner.Lines.{begin_line, row_line, run_line, packed_answer, ask_line, step_of};
-ghost use Rattle.recorded_sorts.specs.Inner.Lines.{not_of_form, started};
+ghost use Rattle.replay.specs.Inner.Numbers.{max_fields};
+ghost use Rattle.recorded_sorts.specs.Inner.Lines.{letter_of, complete as is_complete, keep_of};
+ghost use Rattle.recorded_sorts.specs.Inner.Lines.{begin_line, row_line, run_line, packed_answer, ask_line};
+ghost use Rattle.recorded_sorts.specs.Inner.Lines.{started};
 
-use replay::{Fields, MAX_WORDS, Verdict, fields_of, store};
+use replay::{MAX_WORDS, Recorded, Verdict, store};
 use resolved_sort::{ENTRIES_AT, ROW_WORDS, SORT_WORDS};
 use sort_entries::{
     sort_is_materializable, sort_join, sort_meet, sort_partial_cmp, sort_widening_distance,
@@ -24,7 +25,7 @@ const SORTS: u64 = 1024;
 const ENTRIES: u64 = 4096;
 
 // What is asked of two sorts.
-#[derive(Clone, Copy, Drop)]
+#[derive(Clone, Copy, Debug, PartialEq, Eq)]
 pub enum Question {
     PartialCmp,
     WideningDistance,
@@ -34,7 +35,7 @@ pub enum Question {
 }
 
 // What a line says by its letter.
-#[derive(Clone, Copy, Drop)]
+#[derive(Clone, Copy, Debug, PartialEq, Eq)]
 pub enum Letter {
     List,
     Row,
@@ -44,7 +45,7 @@ pub enum Letter {
 }
 
 // How much a list has by its first line, and how much of it was read.
-#[derive(Clone, Copy, Drop)]
+#[derive(Clone, Copy, Debug, PartialEq, Eq)]
 pub struct Progress {
     pub sorts: u16,
     pub entries: u16,
@@ -52,13 +53,15 @@ pub struct Progress {
     pub filled: u16,
 }
 
-#[derive(Clone, Copy, Drop)]
-pub struct LineStep {
+// A list of sorts, as far as it was read.
+#[derive(Drop)]
+pub struct RecordedSorts {
+    pub words: [u16; SORT_WORDS],
     pub progress: Progress,
-    pub verdict: Verdict,
 }
 
 // What a line says by its letter.
+#[tactic(auto, unfolding(crate::specs::Inner::Lines::letter_of))]
 fn letter_of(letter: u8) -> Letter
     ensures { result ≡ letter_of letter }
 {
@@ -75,244 +78,179 @@ fn letter_of(letter: u8) -> Letter
     }
 }
 
-// Whether all rows and entries of the list were read.
-pub fn complete(progress: Progress) -> bool
-    ensures { result ≡ is_complete progress }
-{
-    if progress.rows == progress.sorts {
-        progress.filled == progress.entries
-    } else {
-        false
+impl Progress {
+    // Whether all rows and entries of the list were read.
+    #[tactic(auto, unfolding(crate::specs::Inner::Lines::complete))]
+    pub fn complete(&self) -> bool
+        ensures { result ≡ is_complete self.now }
+    {
+        self.rows == self.sorts && self.filled == self.entries
     }
-}
-
-fn not_of_form(progress: Progress) -> LineStep
-    ensures { result ≡ not_of_form progress }
-{
-    LineStep {
-        progress,
-        verdict: Verdict::NotOfForm,
-    }
-}
-
-// The next words of a list, and where reading it then is.
-fn keep(
-    list: &mut [u16; SORT_WORDS],
-    base: usize,
-    fields: Fields,
-    progress: Progress,
-    next: Progress,
-) -> LineStep
-    requires { base ≤ near_enough }
-    ensures { stepped list.new result ≡ keep_of list.old base fields progress next }
-{
-    let values = fields.values;
-    let count = fields.count;
-    if MAX_WORDS < count {
-        return not_of_form(progress);
-    }
-    if store(list, base, values, 0, count) {
-        return LineStep {
-            progress: next,
-            verdict: Verdict::Quiet,
-        };
-    }
-    not_of_form(progress)
-}
-
-// A new list, with no row and no entry yet, after one that is complete.
-fn begin(fields: Fields, progress: Progress) -> LineStep
-    ensures { result ≡ begin_line fields progress }
-{
-    let values = fields.values;
-    if fields.count != 2 {
-        return not_of_form(progress);
-    }
-    if !complete(progress) {
-        return not_of_form(progress);
-    }
-    let sorts = values[0];
-    if SORTS < sorts {
-        return not_of_form(progress);
-    }
-    let entries = values[1];
-    if ENTRIES < entries {
-        return not_of_form(progress);
-    }
-    LineStep {
-        progress: Progress {
-            sorts: sorts as u16,
-            entries: entries as u16,
-            rows: 0,
-            filled: 0,
-        },
-        verdict: Verdict::Quiet,
-    }
-}
-
-// The next row of the list.
-fn row(list: &mut [u16; SORT_WORDS], fields: Fields, progress: Progress) -> LineStep
-    ensures { stepped list.new result ≡ row_line list.old fields progress }
-{
-    if fields.count != 4 {
-        return not_of_form(progress);
-    }
-    let rows = progress.rows;
-    if progress.sorts <= rows {
-        return not_of_form(progress);
-    }
-    let next = Progress {
-        sorts: progress.sorts,
-        entries: progress.entries,
-        rows: rows + 1,
-        filled: progress.filled,
-    };
-    keep(list, ROW_WORDS * (rows as usize), fields, progress, next)
-}
-
-// The next argument entries of the list.
-fn arguments(list: &mut [u16; SORT_WORDS], fields: Fields, progress: Progress) -> LineStep
-    ensures { stepped list.new result ≡ run_line list.old fields progress }
-{
-    let count = fields.count;
-    let filled = progress.filled;
-    if MAX_WORDS < count {
-        return not_of_form(progress);
-    }
-    if (progress.entries as usize) < (filled as usize) + count {
-        return not_of_form(progress);
-    }
-    let next = Progress {
-        sorts: progress.sorts,
-        entries: progress.entries,
-        rows: progress.rows,
-        filled: filled + (count as u16),
-    };
-    keep(list, ENTRIES_AT + (filled as usize), fields, progress, next)
-}
-
-// Join and meet on a list of their own, since they may append to it.
-fn join_on(list: [u16; SORT_WORDS], n: usize, e: usize, lhs: u16, rhs: u16) -> u64
-    ensures { result ≡ packed_answer Question.Join list n e lhs rhs }
-{
-    let mut work = list;
-    sort_join(&mut work, n, e, lhs, rhs)
-}
-
-fn meet_on(list: [u16; SORT_WORDS], n: usize, e: usize, lhs: u16, rhs: u16) -> u64
-    ensures { result ≡ packed_answer Question.Meet list n e lhs rhs }
-{
-    let mut work = list;
-    sort_meet(&mut work, n, e, lhs, rhs)
 }
 
 // What an entry answers on a list, which stays as it is: join and meet work on a copy.
+#[tactic(auto, unfolding(crate::specs::Inner::Lines::packed_answer), using(crate::proofs::Steps::packed_left))]
 fn ask(
     list: &[u16; SORT_WORDS],
-    sorts: u16,
-    entries: u16,
+    sorts: usize,
+    entries: usize,
     question: Question,
     lhs: u16,
     rhs: u16,
 ) -> u64
     ensures { result ≡ packed_answer question list.now sorts entries lhs rhs }
 {
-    let n = sorts as usize;
-    let e = entries as usize;
     match question {
-        Question::PartialCmp => sort_partial_cmp(list, n, e, lhs, rhs),
-        Question::WideningDistance => sort_widening_distance(list, n, e, lhs, rhs),
-        Question::IsMaterializable => sort_is_materializable(list, n, e, lhs, rhs),
+        Question::PartialCmp => sort_partial_cmp(list, sorts, entries, lhs, rhs),
+        Question::WideningDistance => sort_widening_distance(list, sorts, entries, lhs, rhs),
+        Question::IsMaterializable => sort_is_materializable(list, sorts, entries, lhs, rhs),
         Question::Join => {
-            let copy = *list;
-            join_on(copy, n, e, lhs, rhs)
+            let mut copy = *list;
+            sort_join(&mut copy, sorts, entries, lhs, rhs)
         }
         Question::Meet => {
-            let copy = *list;
-            meet_on(copy, n, e, lhs, rhs)
+            let mut copy = *list;
+            sort_meet(&mut copy, sorts, entries, lhs, rhs)
         }
     }
 }
 
-// A question about two sorts of a complete list, compared with the recorded answer.
-fn answer(
-    list: &[u16; SORT_WORDS],
-    question: Question,
-    fields: Fields,
-    progress: Progress,
-) -> LineStep
-    ensures { result ≡ ask_line list.now question fields progress }
-{
-    let values = fields.values;
-    if fields.count != 3 {
-        return not_of_form(progress);
+impl RecordedSorts {
+    // Where reading starts: an empty list, complete.
+    pub fn new() -> RecordedSorts
+        ensures { result ≡ started }
+    {
+        RecordedSorts {
+            words: [0; SORT_WORDS],
+            progress: Progress {
+                sorts: 0,
+                entries: 0,
+                rows: 0,
+                filled: 0,
+            },
+        }
     }
-    if !complete(progress) {
-        return not_of_form(progress);
+
+    // The next words of the list, and where reading it then is.
+    #[tactic(auto, unfolding(crate::specs::Inner::Lines::keep_of))]
+    fn keep(&mut self, base: usize, numbers: &[u64], next: Progress) -> Verdict
+        requires { base ≤ near_enough }
+        ensures { (self.new, result) ≡ keep_of self.old base numbers.now next }
+    {
+        if MAX_WORDS < numbers.len() {
+            return Verdict::NotOfForm;
+        }
+        if !store(&mut self.words, base, numbers) {
+            return Verdict::NotOfForm;
+        }
+        self.progress = next;
+        Verdict::Quiet
     }
-    let lhs = values[0];
-    if MOST_WORD < lhs {
-        return not_of_form(progress);
-    }
-    let rhs = values[1];
-    if MOST_WORD < rhs {
-        return not_of_form(progress);
-    }
-    let got = ask(
-        list,
-        progress.sorts,
-        progress.entries,
-        question,
-        lhs as u16,
-        rhs as u16,
-    );
-    if got == values[2] {
-        return LineStep {
-            progress,
-            verdict: Verdict::Agrees,
+
+    // A new list, with no row and no entry yet, after one that is complete.
+    #[tactic(auto, unfolding(crate::specs::Inner::Lines::begin_line))]
+    fn begin(&mut self, numbers: &[u64]) -> Verdict
+        ensures { (self.new, result) ≡ begin_line self.old numbers.now }
+    {
+        if numbers.len() != 2 || !self.progress.complete() {
+            return Verdict::NotOfForm;
+        }
+        let sorts = numbers[0];
+        let entries = numbers[1];
+        if SORTS < sorts || ENTRIES < entries {
+            return Verdict::NotOfForm;
+        }
+        self.progress = Progress {
+            sorts: sorts as u16,
+            entries: entries as u16,
+            rows: 0,
+            filled: 0,
         };
+        Verdict::Quiet
     }
-    LineStep {
-        progress,
-        verdict: Verdict::Differs(got),
+
+    // The next row of the list.
+    #[tactic(auto, unfolding(crate::specs::Inner::Lines::row_line))]
+    fn row(&mut self, numbers: &[u64]) -> Verdict
+        ensures { (self.new, result) ≡ row_line self.old numbers.now }
+    {
+        let progress = self.progress;
+        if numbers.len() != 4 || progress.sorts <= progress.rows {
+            return Verdict::NotOfForm;
+        }
+        let next = Progress {
+            rows: progress.rows + 1,
+            ..progress
+        };
+        self.keep(ROW_WORDS * (progress.rows as usize), numbers, next)
+    }
+
+    // The next argument entries of the list.
+    #[tactic(auto, unfolding(crate::specs::Inner::Lines::run_line))]
+    fn arguments(&mut self, numbers: &[u64]) -> Verdict
+        ensures { (self.new, result) ≡ run_line self.old numbers.now }
+    {
+        let progress = self.progress;
+        let count = numbers.len();
+        if MAX_WORDS < count || (progress.entries as usize) < (progress.filled as usize) + count {
+            return Verdict::NotOfForm;
+        }
+        let next = Progress {
+            filled: progress.filled + (count as u16),
+            ..progress
+        };
+        self.keep(ENTRIES_AT + (progress.filled as usize), numbers, next)
+    }
+
+    // A question about two sorts of a complete list, compared with the recorded answer.
+    #[tactic(auto, unfolding(crate::specs::Inner::Lines::ask_line))]
+    fn answer(&self, question: Question, numbers: &[u64]) -> Verdict
+        ensures { result ≡ ask_line self.now question numbers.now }
+    {
+        let progress = self.progress;
+        if numbers.len() != 3 || !progress.complete() {
+            return Verdict::NotOfForm;
+        }
+        let lhs = numbers[0];
+        let rhs = numbers[1];
+        if MOST_WORD < lhs || MOST_WORD < rhs {
+            return Verdict::NotOfForm;
+        }
+        let got = ask(
+            &self.words,
+            usize::from(progress.sorts),
+            usize::from(progress.entries),
+            question,
+            lhs as u16,
+            rhs as u16,
+        );
+        if got == numbers[2] {
+            Verdict::Agrees
+        } else {
+            Verdict::Differs(got)
+        }
     }
 }
 
-// Where reading starts: an empty list, complete.
-pub fn start() -> Progress
-    ensures { result ≡ started }
-{
-    Progress {
-        sorts: 0,
-        entries: 0,
-        rows: 0,
-        filled: 0,
-    }
-}
+impl Recorded for RecordedSorts {
+    ghost use Rattle.recorded_sorts.specs.Inner.Lines.{complete, letter_of, by_letter};
 
-// A line of the recorded answers.
-pub fn replay_line(list: &mut [u16; SORT_WORDS], line: &[u8], progress: Progress) -> LineStep
-    ensures { stepped list.new result ≡ step_of list.old line.now progress }
-{
-    if line.len() == 0 {
-        return not_of_form(progress);
+    ghost step = { λ s letter numbers. by_letter (letter_of letter) s numbers };
+
+    ghost complete = { λ s. complete s.progress };
+
+    #[tactic(auto, unfolding(crate::specs::Inner::Lines::by_letter))]
+    fn replay(&mut self, letter: u8, numbers: &[u64]) -> Verdict {
+        match letter_of(letter) {
+            Letter::List => self.begin(numbers),
+            Letter::Row => self.row(numbers),
+            Letter::Arguments => self.arguments(numbers),
+            Letter::Asks(question) => self.answer(question, numbers),
+            Letter::Other => Verdict::NotOfForm,
+        }
     }
-    let letter = line[0];
-    if letter == b'#' {
-        return LineStep {
-            progress,
-            verdict: Verdict::Quiet,
-        };
-    }
-    let read = fields_of(line);
-    if !read.good {
-        return not_of_form(progress);
-    }
-    match letter_of(letter) {
-        Letter::List => begin(read, progress),
-        Letter::Row => row(list, read, progress),
-        Letter::Arguments => arguments(list, read, progress),
-        Letter::Asks(question) => answer(list, question, read, progress),
-        Letter::Other => not_of_form(progress),
+
+    fn is_complete(&self) -> bool {
+        self.progress.complete()
     }
 }

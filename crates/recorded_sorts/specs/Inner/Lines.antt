@@ -1,11 +1,10 @@
 -- What a recorded line about sorts says, and what comes of it.
-use Rattle.std.specs.Prelude.{Bool, true, false, cond, List, ℕ, ◌+◌, ◌*◌, ltb, leb, eqb, length, get_or}
+use Rattle.std.specs.Prelude.{Bool, true, false, cond, List, ℕ, ◌+◌, ◌*◌, ltb, leb, eqb, length, get_or, replicate}
 use Prim.Native.Char.{code}
 use Rattle.words.specs.Inner.Bits.{most_word}
-use Rattle.resolved_sort.specs.Storage.{max_sorts, max_entries, row_words, entries_at}
+use Rattle.resolved_sort.specs.Storage.{max_sorts, max_entries, row_words, entries_at, full_length}
 use Rattle.resolved_sort.specs.Entries.{compared, measured, materialized, bounded}
 use Rattle.sort_entries.specs.Packed.{pack_compared, pack_measured, pack_materialized, pack_bounded}
-use Rattle.replay.specs.declared.Fields.{Fields}
 use Rattle.recorded_sorts.specs.declared.Question.{Question}
 use Rattle.recorded_sorts.specs.declared.Question.TheVariants.{PartialCmp, WideningDistance}
 use Rattle.recorded_sorts.specs.declared.Question.TheVariants.{IsMaterializable, Join, Meet}
@@ -14,8 +13,7 @@ use Rattle.recorded_sorts.specs.declared.Letter.TheVariants.{List as NewList, Ro
 use Rattle.recorded_sorts.specs.declared.Progress.{Progress}
 use Rattle.replay.specs.declared.Verdict.{Verdict}
 use Rattle.replay.specs.declared.Verdict.TheVariants.{Quiet, NotOfForm}
-use Rattle.recorded_sorts.specs.declared.LineStep.{LineStep}
-use Rattle.replay.specs.Inner.Numbers.{fields_of, field_at}
+use Rattle.recorded_sorts.specs.declared.RecordedSorts.{RecordedSorts}
 use Rattle.replay.specs.Inner.Lines.{max_words, LineKept, store_from, verdict_of}
 
 unfoldable pub letter_of : ℕ → Letter
@@ -33,59 +31,50 @@ letter_of b =
 unfoldable pub complete : Progress → Bool
 complete p = cond (eqb p.rows p.sorts) (eqb p.filled p.entries) false
 
-abbrev pub line_step : Progress → Verdict → LineStep
-line_step p v = record { progress = p; verdict = v }
+abbrev pub not_of_form : RecordedSorts → RecordedSorts × Verdict
+not_of_form l = (l, NotOfForm)
 
-abbrev pub not_of_form : Progress → LineStep
-not_of_form p = line_step p NotOfForm
+abbrev pub started : RecordedSorts
+started = record { words = replicate full_length 0; progress = record { sorts = 0; entries = 0; rows = 0; filled = 0 } }
 
-abbrev pub started : Progress
-started = record { sorts = 0; entries = 0; rows = 0; filled = 0 }
+abbrev pub with_progress : RecordedSorts → Progress → RecordedSorts × Verdict
+with_progress l next = (record l { progress = next }, Quiet)
 
--- the words of the list after a line, and what came of it
-pub record Stepped : Type 0 where
-  pub words : List ℕ
-  pub result : LineStep
-
-abbrev pub stepped : List ℕ → LineStep → Stepped
-stepped ws s = record { words = ws; result = s }
-
-abbrev pub kept_step : Progress → Progress → LineKept → Stepped
-kept_step p next k = stepped k.words (cond k.all (line_step next Quiet) (not_of_form p))
+-- words kept, all of them or up to one that is none
+abbrev pub kept_step : RecordedSorts → Progress → LineKept → RecordedSorts × Verdict
+kept_step l next k =
+    cond k.all (with_progress (record l { words = k.words }) next) (not_of_form (record l { words = k.words }))
 
 -- the next words of a list
-unfoldable pub keep_of : List ℕ → ℕ → Fields → Progress → Progress → Stepped
-keep_of ws base f p next =
-    cond (ltb max_words f.count) (stepped ws (not_of_form p))
-    (kept_step p next (store_from f.count ws base f.values 0))
+unfoldable pub keep_of : RecordedSorts → ℕ → List ℕ → Progress → RecordedSorts × Verdict
+keep_of l base ns next =
+    cond (ltb max_words (length ns)) (not_of_form l) (kept_step l next (store_from l.words base ns))
 
 -- a new list: at most 1,024 sorts and 4,096 entries
-unfoldable pub begin_line : Fields → Progress → LineStep
-begin_line f p =
-    cond (eqb f.count 2)
-    (cond (complete p)
-    (cond (ltb max_sorts (field_at f 0)) (not_of_form p)
-    (cond (ltb max_entries (field_at f 1)) (not_of_form p)
-    (line_step (record { sorts = field_at f 0; entries = field_at f 1; rows = 0; filled = 0 }) Quiet)))
-    (not_of_form p))
-    (not_of_form p)
+unfoldable pub begin_line : RecordedSorts → List ℕ → RecordedSorts × Verdict
+begin_line l ns =
+    cond (eqb (length ns) 2)
+    (cond (complete l.progress)
+    (cond (ltb max_sorts (get_or ns 0 0)) (not_of_form l)
+    (cond (ltb max_entries (get_or ns 1 0)) (not_of_form l)
+    (with_progress l (record { sorts = get_or ns 0 0; entries = get_or ns 1 0; rows = 0; filled = 0 }))))
+    (not_of_form l))
+    (not_of_form l)
 
 -- the next row, of four words, where one is missing
-unfoldable pub row_line : List ℕ → Fields → Progress → Stepped
-row_line ws f p =
-    cond (eqb f.count 4)
-    (cond (leb p.sorts p.rows) (stepped ws (not_of_form p))
-    (keep_of ws (row_words * p.rows) f p
-    (record { sorts = p.sorts; entries = p.entries; rows = p.rows + 1; filled = p.filled })))
-    (stepped ws (not_of_form p))
+unfoldable pub row_line : RecordedSorts → List ℕ → RecordedSorts × Verdict
+row_line l ns =
+    cond (eqb (length ns) 4)
+    (cond (leb l.progress.sorts l.progress.rows) (not_of_form l)
+    (keep_of l (row_words * l.progress.rows) ns (record l.progress { rows = l.progress.rows + 1 })))
+    (not_of_form l)
 
 -- the next entries, where that many are missing
-unfoldable pub run_line : List ℕ → Fields → Progress → Stepped
-run_line ws f p =
-    cond (ltb max_words f.count) (stepped ws (not_of_form p))
-    (cond (ltb p.entries (p.filled + f.count)) (stepped ws (not_of_form p))
-    (keep_of ws (entries_at + p.filled) f p
-    (record { sorts = p.sorts; entries = p.entries; rows = p.rows; filled = p.filled + f.count })))
+unfoldable pub run_line : RecordedSorts → List ℕ → RecordedSorts × Verdict
+run_line l ns =
+    cond (ltb max_words (length ns)) (not_of_form l)
+    (cond (ltb l.progress.entries (l.progress.filled + length ns)) (not_of_form l)
+    (keep_of l (entries_at + l.progress.filled) ns (record l.progress { filled = l.progress.filled + length ns })))
 
 -- what an entry answers on a list, packed
 unfoldable pub packed_answer : Question → List ℕ → ℕ → ℕ → ℕ → ℕ → ℕ
@@ -96,29 +85,20 @@ packed_answer Join ws n e a b = pack_bounded (bounded true ws n e a b).answer
 packed_answer Meet ws n e a b = pack_bounded (bounded false ws n e a b).answer
 
 -- a question about two sorts of a complete list, and the recorded answer
-unfoldable pub ask_line : List ℕ → Question → Fields → Progress → LineStep
-ask_line ws q f p =
-    cond (eqb f.count 3)
-    (cond (complete p)
-    (cond (ltb most_word (field_at f 0)) (not_of_form p)
-    (cond (ltb most_word (field_at f 1)) (not_of_form p)
-    (line_step p
-    (verdict_of (packed_answer q ws p.sorts p.entries (field_at f 0) (field_at f 1)) (field_at f 2)))))
-    (not_of_form p))
-    (not_of_form p)
+unfoldable pub ask_line : RecordedSorts → Question → List ℕ → Verdict
+ask_line l q ns =
+    cond (eqb (length ns) 3)
+    (cond (complete l.progress)
+    (cond (ltb most_word (get_or ns 0 0)) NotOfForm
+    (cond (ltb most_word (get_or ns 1 0)) NotOfForm
+    (verdict_of (packed_answer q l.words l.progress.sorts l.progress.entries (get_or ns 0 0) (get_or ns 1 0)) (get_or ns 2 0))))
+    NotOfForm)
+    NotOfForm
 
 -- by the letter of a line
-unfoldable pub by_letter : Letter → List ℕ → Fields → Progress → Stepped
-by_letter NewList ws f p = stepped ws (begin_line f p)
-by_letter Row ws f p = row_line ws f p
-by_letter Arguments ws f p = run_line ws f p
-by_letter (Asks q) ws f p = stepped ws (ask_line ws q f p)
-by_letter Other ws f p = stepped ws (not_of_form p)
-
--- A line: empty is not of the form, # says nothing, else a letter and numbers.
-unfoldable pub step_of : List ℕ → List ℕ → Progress → Stepped
-step_of ws line p =
-    cond (eqb (length line) 0) (stepped ws (not_of_form p))
-    (cond (eqb (get_or line 0 0) (code "#")) (stepped ws (line_step p Quiet))
-    (cond (fields_of line).good (by_letter (letter_of (get_or line 0 0)) ws (fields_of line) p)
-    (stepped ws (not_of_form p))))
+unfoldable pub by_letter : Letter → RecordedSorts → List ℕ → RecordedSorts × Verdict
+by_letter NewList l ns = begin_line l ns
+by_letter Row l ns = row_line l ns
+by_letter Arguments l ns = run_line l ns
+by_letter (Asks q) l ns = (l, ask_line l q ns)
+by_letter Other l ns = not_of_form l
