@@ -1,4 +1,2 @@
--- The laws that the proofs of this crate cite. Assumes nothing.
-mod Judging
-mod Questions
-mod Steps
+-- How a recorded line about unify is asked again.
+pub mod Judging

@@ -10,12 +10,11 @@ ghost use Rattle.std.specs.Prelude.{◌≡◌, ◌≤◌, length};
 ghost use Rattle.unify_entries.specs.Packed.{packed_binds};
 ghost use Rattle.replay.specs.Inner.Lines.{near_enough};
 ghost use Rattle.recorded_unify.specs.Inner.Lines.{bindings_at, letter_of, part_start, part_length, with_length};
-ghost use Rattle.recorded_unify.specs.Inner.Lines.{no_lengths, started, complete as is_complete, line_step};
-ghost use Rattle.recorded_unify.specs.Inner.Lines.{not_of_form, stepped, begin_line, keep_of, row_line, run_line};
+ghost use Rattle.recorded_unify.specs.Inner.Lines.{no_lengths, started, complete as is_complete};
+ghost use Rattle.recorded_unify.specs.Inner.Lines.{begin_line, keep_of, row_line, run_line};
 ghost use Rattle.recorded_unify.specs.Inner.Lines.{renewed, bindings_in, binds_line, unified, judged_of, ask_line};
-ghost use Rattle.recorded_unify.specs.Inner.Lines.{step_of};
 
-use replay::{Fields, MAX_WORDS, Verdict, fields_of, store};
+use replay::{MAX_WORDS, Recorded, Verdict, store};
 use resolved_sort::{ENTRIES_AT, ROW_WORDS, SORT_WORDS};
 use unification::{Lengths, MAX_VARS};
 use unify_entries::sort_unify;
@@ -31,7 +30,7 @@ const BINDINGS_AT: usize = 20480;
 
 const LEFT_AT: usize = 20992;
 
-pub const LIST_WORDS: usize = 21504;
+const LIST_WORDS: usize = 21504;
 
 // The ceilings of a list, as numbers of a line.
 const SORTS: u64 = 1024;
@@ -45,7 +44,7 @@ const ARGUMENTS: u64 = 4096;
 const VARIABLES: u64 = 512;
 
 // A part of a list.
-#[derive(Clone, Copy, Drop)]
+#[derive(Clone, Copy, Debug, PartialEq, Eq)]
 pub enum Part {
     Sorts,
     Entries,
@@ -55,7 +54,7 @@ pub enum Part {
 }
 
 // What a line says by its letter.
-#[derive(Clone, Copy, Drop)]
+#[derive(Clone, Copy, Debug, PartialEq, Eq)]
 pub enum Letter {
     List,
     Row(Part),
@@ -66,37 +65,21 @@ pub enum Letter {
 }
 
 // How much a list has by its first line, and how much of it was read.
-#[derive(Clone, Copy, Drop)]
+#[derive(Clone, Copy, Debug, PartialEq, Eq)]
 pub struct Progress {
     pub total: Lengths,
     pub read: Lengths,
 }
 
-#[derive(Clone, Copy, Drop)]
-pub struct LineStep {
+// A list of sorts, nodes and bindings, as far as it was read.
+#[derive(Drop)]
+pub struct RecordedUnify {
+    pub words: [u16; LIST_WORDS],
     pub progress: Progress,
-    pub verdict: Verdict,
-}
-
-fn not_of_form(progress: Progress) -> LineStep
-    ensures { result ≡ not_of_form progress }
-{
-    LineStep {
-        progress,
-        verdict: Verdict::NotOfForm,
-    }
-}
-
-fn quiet(progress: Progress) -> LineStep
-    ensures { result ≡ line_step progress Verdict.Quiet }
-{
-    LineStep {
-        progress,
-        verdict: Verdict::Quiet,
-    }
 }
 
 // What a line says by its letter.
+#[tactic(auto, unfolding(crate::specs::Inner::Lines::letter_of))]
 fn letter_of(letter: u8) -> Letter
     ensures { result ≡ letter_of letter }
 {
@@ -113,269 +96,85 @@ fn letter_of(letter: u8) -> Letter
     }
 }
 
-// The word at which a part starts.
-fn start_of(part: Part) -> usize
-    ensures { (result ≡ part_start part) × (result ≤ bindings_at) }
-{
-    match part {
-        Part::Sorts => 0,
-        Part::Entries => ENTRIES_AT,
-        Part::Nodes => NODES_AT,
-        Part::Arguments => ARGUMENTS_AT,
-        Part::Bindings => BINDINGS_AT,
+impl Part {
+    // The word at which a part starts.
+    #[tactic(auto, unfolding(crate::specs::Inner::Lines::part_start))]
+    fn start(self) -> usize
+        ensures { (result ≡ part_start self) × (result ≤ bindings_at) }
+    {
+        match self {
+            Part::Sorts => 0,
+            Part::Entries => ENTRIES_AT,
+            Part::Nodes => NODES_AT,
+            Part::Arguments => ARGUMENTS_AT,
+            Part::Bindings => BINDINGS_AT,
+        }
+    }
+
+    // How much of a part there is.
+    #[tactic(auto, unfolding(crate::specs::Inner::Lines::part_length))]
+    fn length(self, lengths: Lengths) -> u16
+        ensures { result ≡ part_length lengths self }
+    {
+        match self {
+            Part::Sorts => lengths.sorts,
+            Part::Entries => lengths.entries,
+            Part::Nodes => lengths.nodes,
+            Part::Arguments => lengths.arguments,
+            Part::Bindings => lengths.variables,
+        }
+    }
+
+    // The same lengths but for one part.
+    #[tactic(auto, unfolding(crate::specs::Inner::Lines::with_length))]
+    fn with_length(self, lengths: Lengths, length: u16) -> Lengths
+        ensures { result ≡ with_length lengths self length }
+    {
+        match self {
+            Part::Sorts => Lengths {
+                sorts: length,
+                ..lengths
+            },
+            Part::Entries => Lengths {
+                entries: length,
+                ..lengths
+            },
+            Part::Nodes => Lengths {
+                nodes: length,
+                ..lengths
+            },
+            Part::Arguments => Lengths {
+                arguments: length,
+                ..lengths
+            },
+            Part::Bindings => Lengths {
+                variables: length,
+                ..lengths
+            },
+        }
     }
 }
 
-// How much of a part there is.
-fn length_of(lengths: Lengths, part: Part) -> u16
-    ensures { result ≡ part_length lengths part }
-{
-    match part {
-        Part::Sorts => lengths.sorts,
-        Part::Entries => lengths.entries,
-        Part::Nodes => lengths.nodes,
-        Part::Arguments => lengths.arguments,
-        Part::Bindings => lengths.variables,
-    }
-}
+const NO_LENGTHS: Lengths = Lengths {
+    sorts: 0,
+    entries: 0,
+    nodes: 0,
+    arguments: 0,
+    variables: 0,
+};
 
-// The same but for one part.
-fn with_length(lengths: Lengths, part: Part, length: u16) -> Lengths
-    ensures { result ≡ with_length lengths part length }
-{
-    let sorts = lengths.sorts;
-    let entries = lengths.entries;
-    let nodes = lengths.nodes;
-    let arguments = lengths.arguments;
-    let variables = lengths.variables;
-    match part {
-        Part::Sorts => Lengths {
-            sorts: length,
-            entries,
-            nodes,
-            arguments,
-            variables,
-        },
-        Part::Entries => Lengths {
-            sorts,
-            entries: length,
-            nodes,
-            arguments,
-            variables,
-        },
-        Part::Nodes => Lengths {
-            sorts,
-            entries,
-            nodes: length,
-            arguments,
-            variables,
-        },
-        Part::Arguments => Lengths {
-            sorts,
-            entries,
-            nodes,
-            arguments: length,
-            variables,
-        },
-        Part::Bindings => Lengths {
-            sorts,
-            entries,
-            nodes,
-            arguments,
-            variables: length,
-        },
+impl Progress {
+    // Whether all of the list was read.
+    #[tactic(auto, unfolding(crate::specs::Inner::Lines::complete))]
+    pub fn complete(&self) -> bool
+        ensures { result ≡ is_complete self.now }
+    {
+        self.read == self.total
     }
-}
-
-fn no_lengths() -> Lengths
-    ensures { result ≡ no_lengths }
-{
-    Lengths {
-        sorts: 0,
-        entries: 0,
-        nodes: 0,
-        arguments: 0,
-        variables: 0,
-    }
-}
-
-// Whether all of the list was read.
-pub fn complete(progress: Progress) -> bool
-    ensures { result ≡ is_complete progress }
-{
-    let total = progress.total;
-    let read = progress.read;
-    if read.sorts != total.sorts {
-        return false;
-    }
-    if read.entries != total.entries {
-        return false;
-    }
-    if read.nodes != total.nodes {
-        return false;
-    }
-    if read.arguments != total.arguments {
-        return false;
-    }
-    read.variables == total.variables
-}
-
-// A new list, of which nothing was read yet, after one that is complete.
-fn begin(fields: Fields, progress: Progress) -> LineStep
-    ensures { result ≡ begin_line fields progress }
-{
-    let values = fields.values;
-    if fields.count != 5 {
-        return not_of_form(progress);
-    }
-    if !complete(progress) {
-        return not_of_form(progress);
-    }
-    if SORTS < values[0] {
-        return not_of_form(progress);
-    }
-    if ENTRIES < values[1] {
-        return not_of_form(progress);
-    }
-    if NODES < values[2] {
-        return not_of_form(progress);
-    }
-    if ARGUMENTS < values[3] {
-        return not_of_form(progress);
-    }
-    if VARIABLES < values[4] {
-        return not_of_form(progress);
-    }
-    let total = Lengths {
-        sorts: values[0] as u16,
-        entries: values[1] as u16,
-        nodes: values[2] as u16,
-        arguments: values[3] as u16,
-        variables: values[4] as u16,
-    };
-    let next = Progress {
-        total,
-        read: no_lengths(),
-    };
-    quiet(next)
-}
-
-// Words of a part stored from a word on, so that it then has a length.
-fn keep(
-    words: &mut [u16; LIST_WORDS],
-    base: usize,
-    fields: Fields,
-    progress: Progress,
-    part: Part,
-    length: u16,
-) -> LineStep
-    requires { base ≤ near_enough }
-    ensures { stepped words.new result ≡ keep_of words.old base fields progress part length }
-{
-    let values = fields.values;
-    let count = fields.count;
-    if MAX_WORDS < count {
-        return not_of_form(progress);
-    }
-    if !store(words, base, values, 0, count) {
-        return not_of_form(progress);
-    }
-    let total = progress.total;
-    let read = progress.read;
-    let next = Progress {
-        total,
-        read: with_length(read, part, length),
-    };
-    quiet(next)
-}
-
-// The next sort or node.
-fn row(words: &mut [u16; LIST_WORDS], part: Part, fields: Fields, progress: Progress) -> LineStep
-    ensures { stepped words.new result ≡ row_line words.old part fields progress }
-{
-    let read = length_of(progress.read, part);
-    let total = length_of(progress.total, part);
-    if fields.count != 4 {
-        return not_of_form(progress);
-    }
-    if total <= read {
-        return not_of_form(progress);
-    }
-    keep(
-        words,
-        start_of(part) + ROW_WORDS * (read as usize),
-        fields,
-        progress,
-        part,
-        read + 1,
-    )
-}
-
-// The next entries or bindings.
-fn run(words: &mut [u16; LIST_WORDS], part: Part, fields: Fields, progress: Progress) -> LineStep
-    ensures { stepped words.new result ≡ run_line words.old part fields progress }
-{
-    let read = length_of(progress.read, part);
-    let total = length_of(progress.total, part);
-    let count = fields.count;
-    if MAX_WORDS < count {
-        return not_of_form(progress);
-    }
-    if (total as usize) < (read as usize) + count {
-        return not_of_form(progress);
-    }
-    keep(
-        words,
-        start_of(part) + (read as usize),
-        fields,
-        progress,
-        part,
-        read + (count as u16),
-    )
-}
-
-// The bindings of the list.
-fn bindings_of(words: &[u16; LIST_WORDS]) -> [u16; MAX_VARS]
-    ensures { result ≡ bindings_in words.now }
-{
-    let mut bindings = [0u16; MAX_VARS];
-    copy(&mut bindings, 0, words, BINDINGS_AT, MAX_VARS);
-    bindings
-}
-
-// The next question leaves the bindings as they are, where no line says otherwise.
-fn renew(words: &mut [u16; LIST_WORDS])
-    ensures { words.new ≡ renewed words.old }
-{
-    let bindings = bindings_of(words);
-    copy(words, LEFT_AT, &bindings, 0, MAX_VARS);
-}
-
-// A binding that the next question makes.
-fn binds(words: &mut [u16; LIST_WORDS], fields: Fields, progress: Progress) -> LineStep
-    ensures { stepped words.new result ≡ binds_line words.old fields progress }
-{
-    let values = fields.values;
-    let total = progress.total;
-    if fields.count != 2 {
-        return not_of_form(progress);
-    }
-    if !complete(progress) {
-        return not_of_form(progress);
-    }
-    let variable = values[0];
-    if (total.variables as u64) <= variable {
-        return not_of_form(progress);
-    }
-    let bound = values[1];
-    if MOST_WORD < bound {
-        return not_of_form(progress);
-    }
-    put(words, LEFT_AT + (variable as usize), bound as u16);
-    quiet(progress)
 }
 
 // What the entry answers on the list, and what it leaves of the bindings.
+#[tactic(auto, unfolding(crate::specs::Inner::Lines::unified))]
 fn ask(words: &[u16], total: Lengths, bindings: &mut [u16], lhs: u16, rhs: u16) -> u64
     requires { bindings_at ≤ length words.now }
     ensures { packed_binds bindings.new result
@@ -402,77 +201,176 @@ fn judge(words: &[u16; LIST_WORDS], bindings: &[u16; MAX_VARS], got: u64, record
     if got != recorded {
         return Verdict::Differs(got);
     }
-    let mut i = 0;
-    while i < MAX_VARS {
+    for i in 0..MAX_VARS {
         if bindings[i] != words[LEFT_AT + i] {
             return Verdict::BindsOther(i as u16);
         }
-        i += 1;
     }
     Verdict::Agrees
 }
 
-// A question about two places of a complete list. The entry works on bindings of its own.
-fn answer(words: &mut [u16; LIST_WORDS], fields: Fields, progress: Progress) -> LineStep
-    ensures { stepped words.new result ≡ ask_line words.old fields progress }
-{
-    let values = fields.values;
-    if fields.count != 3 {
-        return not_of_form(progress);
-    }
-    if !complete(progress) {
-        return not_of_form(progress);
-    }
-    let lhs = values[0];
-    if MOST_WORD < lhs {
-        return not_of_form(progress);
-    }
-    let rhs = values[1];
-    if MOST_WORD < rhs {
-        return not_of_form(progress);
-    }
-    let mut bindings = bindings_of(words);
-    let got = ask(words, progress.total, &mut bindings, lhs as u16, rhs as u16);
-    let verdict = judge(words, &bindings, got, values[2]);
-    renew(words);
-    LineStep { progress, verdict }
-}
-
-// Where reading starts: an empty list, complete.
-pub fn start() -> Progress
-    ensures { result ≡ started }
-{
-    Progress {
-        total: no_lengths(),
-        read: no_lengths(),
-    }
-}
-
-// A line of the recorded answers.
-pub fn replay_line(words: &mut [u16; LIST_WORDS], line: &[u8], progress: Progress) -> LineStep
-    ensures { stepped words.new result ≡ step_of words.old line.now progress }
-{
-    if line.len() == 0 {
-        return not_of_form(progress);
-    }
-    let letter = line[0];
-    if letter == b'#' {
-        return quiet(progress);
-    }
-    let read = fields_of(line);
-    if !read.good {
-        return not_of_form(progress);
-    }
-    match letter_of(letter) {
-        Letter::List => begin(read, progress),
-        Letter::Row(part) => row(words, part, read, progress),
-        Letter::Words(part) => {
-            let next = run(words, part, read, progress);
-            renew(words);
-            next
+impl RecordedUnify {
+    // Where reading starts: an empty list, complete.
+    pub fn new() -> RecordedUnify
+        ensures { result ≡ started }
+    {
+        RecordedUnify {
+            words: [0; LIST_WORDS],
+            progress: Progress {
+                total: NO_LENGTHS,
+                read: NO_LENGTHS,
+            },
         }
-        Letter::Binds => binds(words, read, progress),
-        Letter::Asks => answer(words, read, progress),
-        Letter::Other => not_of_form(progress),
+    }
+
+    // A new list, of which nothing was read yet, after one that is complete.
+    #[tactic(auto, unfolding(crate::specs::Inner::Lines::begin_line))]
+    fn begin(&mut self, numbers: &[u64]) -> Verdict
+        ensures { (self.new, result) ≡ begin_line self.old numbers.now }
+    {
+        if numbers.len() != 5 || !self.progress.complete() {
+            return Verdict::NotOfForm;
+        }
+        if SORTS < numbers[0] || ENTRIES < numbers[1] || NODES < numbers[2] {
+            return Verdict::NotOfForm;
+        }
+        if ARGUMENTS < numbers[3] || VARIABLES < numbers[4] {
+            return Verdict::NotOfForm;
+        }
+        self.progress = Progress {
+            total: Lengths {
+                sorts: numbers[0] as u16,
+                entries: numbers[1] as u16,
+                nodes: numbers[2] as u16,
+                arguments: numbers[3] as u16,
+                variables: numbers[4] as u16,
+            },
+            read: NO_LENGTHS,
+        };
+        Verdict::Quiet
+    }
+
+    // Words of a part stored from a word on, so that it then has a length.
+    #[tactic(auto, unfolding(crate::specs::Inner::Lines::keep_of))]
+    fn keep(&mut self, base: usize, numbers: &[u64], part: Part, length: u16) -> Verdict
+        requires { base ≤ near_enough }
+        ensures { (self.new, result) ≡ keep_of self.old base numbers.now part length }
+    {
+        if MAX_WORDS < numbers.len() {
+            return Verdict::NotOfForm;
+        }
+        if !store(&mut self.words, base, numbers) {
+            return Verdict::NotOfForm;
+        }
+        self.progress.read = part.with_length(self.progress.read, length);
+        Verdict::Quiet
+    }
+
+    // The next sort or node.
+    #[tactic(auto, unfolding(crate::specs::Inner::Lines::row_line))]
+    fn row(&mut self, part: Part, numbers: &[u64]) -> Verdict
+        ensures { (self.new, result) ≡ row_line self.old part numbers.now }
+    {
+        let read = part.length(self.progress.read);
+        if numbers.len() != 4 || part.length(self.progress.total) <= read {
+            return Verdict::NotOfForm;
+        }
+        self.keep(part.start() + ROW_WORDS * (read as usize), numbers, part, read + 1)
+    }
+
+    // The next entries or bindings.
+    #[tactic(auto, unfolding(crate::specs::Inner::Lines::run_line))]
+    fn run(&mut self, part: Part, numbers: &[u64]) -> Verdict
+        ensures { (self.new, result) ≡ run_line self.old part numbers.now }
+    {
+        let read = part.length(self.progress.read);
+        let total = part.length(self.progress.total);
+        let count = numbers.len();
+        if MAX_WORDS < count || (total as usize) < (read as usize) + count {
+            return Verdict::NotOfForm;
+        }
+        self.keep(part.start() + (read as usize), numbers, part, read + (count as u16))
+    }
+
+    // The bindings of the list.
+    fn bindings(&self) -> [u16; MAX_VARS]
+        ensures { result ≡ bindings_in self.now.words }
+    {
+        let mut bindings = [0u16; MAX_VARS];
+        copy(&mut bindings, 0, &self.words, BINDINGS_AT, MAX_VARS);
+        bindings
+    }
+
+    // The next question leaves the bindings as they are, where no line says otherwise.
+    fn renew(&mut self)
+        ensures { self.new ≡ renewed self.old }
+    {
+        let bindings = self.bindings();
+        copy(&mut self.words, LEFT_AT, &bindings, 0, MAX_VARS);
+    }
+
+    // A binding that the next question makes.
+    #[tactic(auto, unfolding(crate::specs::Inner::Lines::binds_line))]
+    fn binds(&mut self, numbers: &[u64]) -> Verdict
+        ensures { (self.new, result) ≡ binds_line self.old numbers.now }
+    {
+        if numbers.len() != 2 || !self.progress.complete() {
+            return Verdict::NotOfForm;
+        }
+        let variable = numbers[0];
+        let bound = numbers[1];
+        if (self.progress.total.variables as u64) <= variable || MOST_WORD < bound {
+            return Verdict::NotOfForm;
+        }
+        put(&mut self.words, LEFT_AT + (variable as usize), bound as u16);
+        Verdict::Quiet
+    }
+
+    // A question about two places of a complete list. The entry works on bindings of its own.
+    #[tactic(auto, unfolding(crate::specs::Inner::Lines::ask_line))]
+    fn answer(&mut self, numbers: &[u64]) -> Verdict
+        ensures { (self.new, result) ≡ ask_line self.old numbers.now }
+    {
+        if numbers.len() != 3 || !self.progress.complete() {
+            return Verdict::NotOfForm;
+        }
+        let lhs = numbers[0];
+        let rhs = numbers[1];
+        if MOST_WORD < lhs || MOST_WORD < rhs {
+            return Verdict::NotOfForm;
+        }
+        let mut bindings = self.bindings();
+        let got = ask(&self.words, self.progress.total, &mut bindings, lhs as u16, rhs as u16);
+        let verdict = judge(&self.words, &bindings, got, numbers[2]);
+        self.renew();
+        verdict
+    }
+}
+
+impl Recorded for RecordedUnify {
+    ghost use Rattle.recorded_unify.specs.Inner.Lines.{complete, letter_of, by_letter};
+
+    ghost step = { λ s letter numbers. by_letter (letter_of letter) s numbers };
+
+    ghost complete = { λ s. complete s.progress };
+
+    #[tactic(auto, unfolding(crate::specs::Inner::Lines::by_letter))]
+    fn replay(&mut self, letter: u8, numbers: &[u64]) -> Verdict {
+        match letter_of(letter) {
+            Letter::List => self.begin(numbers),
+            Letter::Row(part) => self.row(part, numbers),
+            Letter::Words(part) => {
+                let verdict = self.run(part, numbers);
+                self.renew();
+                verdict
+            }
+            Letter::Binds => self.binds(numbers),
+            Letter::Asks => self.answer(numbers),
+            Letter::Other => Verdict::NotOfForm,
+        }
+    }
+
+    fn is_complete(&self) -> bool {
+        self.progress.complete()
     }
 }

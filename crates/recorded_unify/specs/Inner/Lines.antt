@@ -1,5 +1,5 @@
 -- What a line of the recorded answers about unify says, and what comes of it.
-use Rattle.std.specs.Prelude.{Bool, false, cond, List, ℕ, zero, suc, ◌+◌, ◌*◌, ltb, leb, eqb, length, get_or, take, set}
+use Rattle.std.specs.Prelude.{Bool, false, cond, List, ℕ, zero, suc, ◌+◌, ◌*◌, ltb, leb, eqb, length, get_or, take, set, replicate}
 use Prim.Native.Char.{code}
 use Rattle.std.proofs.lemmas.List.Edits.{sets}
 use Rattle.unification.specs.declared.Lengths.{Lengths}
@@ -9,17 +9,15 @@ use Rattle.unification.specs.Nodes.{max_nodes, max_node_entries, max_vars, full_
 use Rattle.unification.specs.UnifyEntry.{unify_entry}
 use Rattle.unify_entries.specs.Packed.{PackedBinds, pack_binds_left}
 use Rattle.words.specs.Words.{part}
-use Rattle.replay.specs.declared.Fields.{Fields}
 use Rattle.replay.specs.declared.Verdict.{Verdict}
 use Rattle.replay.specs.declared.Verdict.TheVariants.{Quiet, Agrees, Differs, BindsOther, NotOfForm}
-use Rattle.replay.specs.Inner.Numbers.{fields_of, field_at}
 use Rattle.replay.specs.Inner.Lines.{max_words, LineKept, store_from}
 use Rattle.recorded_unify.specs.declared.Part.{Part}
 use Rattle.recorded_unify.specs.declared.Part.TheVariants.{Sorts, Entries, Nodes, Arguments, Bindings}
 use Rattle.recorded_unify.specs.declared.Letter.{Letter}
 use Rattle.recorded_unify.specs.declared.Letter.TheVariants.{List as NewList, Row, Words, Binds, Asks, Other}
 use Rattle.recorded_unify.specs.declared.Progress.{Progress}
-use Rattle.recorded_unify.specs.declared.LineStep.{LineStep}
+use Rattle.recorded_unify.specs.declared.RecordedUnify.{RecordedUnify}
 
 -- Where the parts of a list stand in its words, after the sorts: nodes and their argument entries, the bindings, and
 -- the bindings that the next question leaves.
@@ -76,8 +74,11 @@ no_lengths = lengths 0 0 0 0 0
 abbrev pub progress_of : Lengths → Lengths → Progress
 progress_of total read = record { total = total; read = read }
 
-abbrev pub started : Progress
-started = progress_of no_lengths no_lengths
+abbrev pub list_words : ℕ
+list_words = 21504
+
+abbrev pub started : RecordedUnify
+started = record { words = replicate list_words 0; progress = progress_of no_lengths no_lengths }
 
 -- all of the list was read
 unfoldable pub complete : Progress → Bool
@@ -90,77 +91,66 @@ complete p =
     false)
     false
 
-abbrev pub line_step : Progress → Verdict → LineStep
-line_step p v = record { progress = p; verdict = v }
-
-abbrev pub not_of_form : Progress → LineStep
-not_of_form p = line_step p NotOfForm
-
--- the words after a line, and what came of it
-pub record Stepped : Type 0 where
-  pub words : List ℕ
-  pub result : LineStep
-
-abbrev pub stepped : List ℕ → LineStep → Stepped
-stepped ws s = record { words = ws; result = s }
+abbrev pub not_of_form : RecordedUnify → RecordedUnify × Verdict
+not_of_form l = (l, NotOfForm)
 
 -- a new list, after one that is complete, within the ceilings
-unfoldable pub begin_line : Fields → Progress → LineStep
-begin_line f p =
-    cond (eqb f.count 5)
-    (cond (complete p)
-    (cond (ltb max_sorts (field_at f 0)) (not_of_form p)
-    (cond (ltb max_entries (field_at f 1)) (not_of_form p)
-    (cond (ltb max_nodes (field_at f 2)) (not_of_form p)
-    (cond (ltb max_node_entries (field_at f 3)) (not_of_form p)
-    (cond (ltb max_vars (field_at f 4)) (not_of_form p)
-    (line_step
-    (progress_of (lengths (field_at f 0) (field_at f 1) (field_at f 2) (field_at f 3) (field_at f 4)) no_lengths)
-    Quiet))))))
-    (not_of_form p))
-    (not_of_form p)
+unfoldable pub begin_line : RecordedUnify → List ℕ → RecordedUnify × Verdict
+begin_line l ns =
+    cond (eqb (length ns) 5)
+    (cond (complete l.progress)
+    (cond (ltb max_sorts (get_or ns 0 0)) (not_of_form l)
+    (cond (ltb max_entries (get_or ns 1 0)) (not_of_form l)
+    (cond (ltb max_nodes (get_or ns 2 0)) (not_of_form l)
+    (cond (ltb max_node_entries (get_or ns 3 0)) (not_of_form l)
+    (cond (ltb max_vars (get_or ns 4 0)) (not_of_form l)
+    (record l { progress = progress_of
+      (lengths (get_or ns 0 0) (get_or ns 1 0) (get_or ns 2 0) (get_or ns 3 0) (get_or ns 4 0)) no_lengths }, Quiet))))))
+    (not_of_form l))
+    (not_of_form l)
 
-abbrev pub kept_step : Progress → Progress → LineKept → Stepped
-kept_step p next k = stepped k.words (cond k.all (line_step next Quiet) (not_of_form p))
+abbrev pub kept_step : RecordedUnify → Progress → LineKept → RecordedUnify × Verdict
+kept_step l next k =
+    cond k.all (record l { words = k.words; progress = next }, Quiet) (not_of_form (record l { words = k.words }))
 
 -- words of a part stored from a word on, so that it then has a length
-unfoldable pub keep_of : List ℕ → ℕ → Fields → Progress → Part → ℕ → Stepped
-keep_of ws base f p q k =
-    cond (ltb max_words f.count) (stepped ws (not_of_form p))
-    (kept_step p (progress_of p.total (with_length p.read q k)) (store_from f.count ws base f.values 0))
+unfoldable pub keep_of : RecordedUnify → ℕ → List ℕ → Part → ℕ → RecordedUnify × Verdict
+keep_of l base ns q k =
+    cond (ltb max_words (length ns)) (not_of_form l)
+    (kept_step l (progress_of l.progress.total (with_length l.progress.read q k)) (store_from l.words base ns))
 
 -- the next sort or node, where one is missing
-unfoldable pub row_line : List ℕ → Part → Fields → Progress → Stepped
-row_line ws q f p =
-    cond (eqb f.count 4)
-    (cond (leb (part_length p.total q) (part_length p.read q)) (stepped ws (not_of_form p))
-    (keep_of ws (part_start q + row_words * part_length p.read q) f p q (part_length p.read q + 1)))
-    (stepped ws (not_of_form p))
+unfoldable pub row_line : RecordedUnify → Part → List ℕ → RecordedUnify × Verdict
+row_line l q ns =
+    cond (eqb (length ns) 4)
+    (cond (leb (part_length l.progress.total q) (part_length l.progress.read q)) (not_of_form l)
+    (keep_of l (part_start q + row_words * part_length l.progress.read q) ns q (part_length l.progress.read q + 1)))
+    (not_of_form l)
 
 -- the next entries or bindings, where that many are missing
-unfoldable pub run_line : List ℕ → Part → Fields → Progress → Stepped
-run_line ws q f p =
-    cond (ltb max_words f.count) (stepped ws (not_of_form p))
-    (cond (ltb (part_length p.total q) (part_length p.read q + f.count)) (stepped ws (not_of_form p))
-    (keep_of ws (part_start q + part_length p.read q) f p q (part_length p.read q + f.count)))
+unfoldable pub run_line : RecordedUnify → Part → List ℕ → RecordedUnify × Verdict
+run_line l q ns =
+    cond (ltb max_words (length ns)) (not_of_form l)
+    (cond (ltb (part_length l.progress.total q) (part_length l.progress.read q + length ns)) (not_of_form l)
+    (keep_of l (part_start q + part_length l.progress.read q) ns q (part_length l.progress.read q + length ns)))
 
 abbrev pub bindings_in : List ℕ → List ℕ
 bindings_in ws = part bindings_at max_vars ws
 
 -- the next question leaves the bindings as they are, where no line says otherwise
-unfoldable pub renewed : List ℕ → List ℕ
-renewed ws = sets ws left_at (bindings_in ws)
+unfoldable pub renewed : RecordedUnify → RecordedUnify
+renewed l = record l { words = sets l.words left_at (bindings_in l.words) }
 
 -- a binding that the next question makes
-unfoldable pub binds_line : List ℕ → Fields → Progress → Stepped
-binds_line ws f p =
-    cond (eqb f.count 2)
-    (cond (complete p)
-    (cond (leb p.total.variables (field_at f 0)) (stepped ws (not_of_form p))
-    (cond (ltb most_word (field_at f 1)) (stepped ws (not_of_form p))
-    (stepped (set ws (left_at + field_at f 0) (field_at f 1)) (line_step p Quiet))))
-    (stepped ws (not_of_form p)))
-    (stepped ws (not_of_form p))
+unfoldable pub binds_line : RecordedUnify → List ℕ → RecordedUnify × Verdict
+binds_line l ns =
+    cond (eqb (length ns) 2)
+    (cond (complete l.progress)
+    (cond (leb l.progress.total.variables (get_or ns 0 0)) (not_of_form l)
+    (cond (ltb most_word (get_or ns 1 0)) (not_of_form l)
+    (record l { words = set l.words (left_at + get_or ns 0 0) (get_or ns 1 0) }, Quiet)))
+    (not_of_form l))
+    (not_of_form l)
 
 -- what the entry answers on the words of a list, and what it leaves of the bindings
 unfoldable pub unified : List ℕ → Lengths → List ℕ → ℕ → ℕ → PackedBinds
@@ -181,33 +171,25 @@ abbrev pub judged_reply : List ℕ → PackedBinds → ℕ → Verdict
 judged_reply ws a recorded = judged_of ws a.words a.result recorded
 
 -- a question about two places of a complete list, and the recorded answer
-unfoldable pub ask_line : List ℕ → Fields → Progress → Stepped
-ask_line ws f p =
-    cond (eqb f.count 3)
-    (cond (complete p)
-    (cond (ltb most_word (field_at f 0)) (stepped ws (not_of_form p))
-    (cond (ltb most_word (field_at f 1)) (stepped ws (not_of_form p))
-    (stepped (renewed ws) (line_step p (judged_reply ws
-    (unified ws p.total (bindings_in ws) (field_at f 0) (field_at f 1)) (field_at f 2))))))
-    (stepped ws (not_of_form p)))
-    (stepped ws (not_of_form p))
+unfoldable pub ask_line : RecordedUnify → List ℕ → RecordedUnify × Verdict
+ask_line l ns =
+    cond (eqb (length ns) 3)
+    (cond (complete l.progress)
+    (cond (ltb most_word (get_or ns 0 0)) (not_of_form l)
+    (cond (ltb most_word (get_or ns 1 0)) (not_of_form l)
+    (renewed l, judged_reply l.words
+    (unified l.words l.progress.total (bindings_in l.words) (get_or ns 0 0) (get_or ns 1 0)) (get_or ns 2 0))))
+    (not_of_form l))
+    (not_of_form l)
 
-abbrev pub renewed_step : Stepped → Stepped
-renewed_step s = stepped (renewed s.words) s.result
+abbrev pub renewed_step : RecordedUnify × Verdict → RecordedUnify × Verdict
+renewed_step s = (renewed s.0, s.1)
 
 -- by the letter of a line
-unfoldable pub by_letter : Letter → List ℕ → Fields → Progress → Stepped
-by_letter NewList ws f p = stepped ws (begin_line f p)
-by_letter (Row q) ws f p = row_line ws q f p
-by_letter (Words q) ws f p = renewed_step (run_line ws q f p)
-by_letter Binds ws f p = binds_line ws f p
-by_letter Asks ws f p = ask_line ws f p
-by_letter Other ws f p = stepped ws (not_of_form p)
-
--- A line: empty is not of the form, # says nothing, else a letter and numbers.
-unfoldable pub step_of : List ℕ → List ℕ → Progress → Stepped
-step_of ws line p =
-    cond (eqb (length line) 0) (stepped ws (not_of_form p))
-    (cond (eqb (get_or line 0 0) (code "#")) (stepped ws (line_step p Quiet))
-    (cond (fields_of line).good (by_letter (letter_of (get_or line 0 0)) ws (fields_of line) p)
-    (stepped ws (not_of_form p))))
+unfoldable pub by_letter : Letter → RecordedUnify → List ℕ → RecordedUnify × Verdict
+by_letter NewList l ns = begin_line l ns
+by_letter (Row q) l ns = row_line l q ns
+by_letter (Words q) l ns = renewed_step (run_line l q ns)
+by_letter Binds l ns = binds_line l ns
+by_letter Asks l ns = ask_line l ns
+by_letter Other l ns = not_of_form l
