@@ -4,10 +4,9 @@ use mathlib.Core.List.{List}
 use Prim.Native.Nat.{ℕ}
 use lib.Seq.{sets}
 use Rattle.words.specs.Words.{part}
-use Rattle.recorded_solve.specs.declared.HeldCounts.{HeldCounts}
-use Rattle.solve_outputs.specs.Packed.{packed_solve}
+use Rattle.recorded_solve.specs.declared.Slices.{Slices}
 use Rattle.recorded_solve.specs.Inner.Outcome.{solved}
-use Rattle.recorded_solve.specs.Inner.Slices.{slice_start, counts_held, call_held_with, call_held, kept_in, left_held}
+use Rattle.recorded_solve.specs.Inner.Slices.{slice_start, slices_held, packed_of, call_held_in, call_held, kept_in, kept_of, left_held}
 use Rattle.recorded_solve.specs.Inner.Lines.{reply, ask_of}
 
 module _ (us ss ns bs xs ts ms cs : List ℕ) where
@@ -24,16 +23,17 @@ module _ (us ss ns bs xs ts ms cs : List ℕ) where
       (e4
       ∙ ap (λ w. sets w 29952 xs) (e3 ∙ ap (λ w. sets w 20480 bs) (e2 ∙ ap (λ w. sets w 8192 ns) e1)))))
 
-module _ (ws : List ℕ) (k : HeldCounts) (ss ns bs xs ts ms cs : List ℕ) where
-  pub asked :
-      k ≡ counts_held ws → ss ≡ part 0 8192 ws → ns ≡ part 8192 12288 ws → bs ≡ part 20480 512 ws → xs ≡ part 29952 4096 ws
-      → ts ≡ part 27648 1536 ws → ms ≡ part 29184 256 ws → cs ≡ part 29440 512 ws
-      → (ss' ns' bs' xs' ts' ms' cs' : List ℕ) (r : ℕ)
-      → packed_solve r ss' ns' bs' xs' ts' ms' cs' ≡ solved (call_held_with ws k ss ns bs xs ts ms cs)
-      → (us : List ℕ) → us ≡ kept_in ws ss' ns' bs' xs' ts' ms' cs' → reply us r ≡ ask_of ws
-  unfolding ask_of slice_start
-  asked ek es en eb ex et em ec ss' ns' bs' xs' ts' ms' cs' r e us u =
-      let p : packed_solve r ss' ns' bs' xs' ts' ms' cs' ≡ solved (call_held ws) =
-      e ∙ (λ i. solved (call_held_with ws (ek i) (es i) (en i) (eb i) (ex i) (et i) (em i) (ec i))) in
-      let w : us ≡ left_held ws (solved (call_held ws)) = u ∙ ap (left_held ws) p in
-      λ i. reply (w i) (p i).result
+pub sliced : (ws ss ns bs xs ts ms cs : List ℕ) → ss ≡ part 0 8192 ws → ns ≡ part 8192 12288 ws → bs ≡ part 20480 512 ws → xs ≡ part 29952 4096 ws
+    → ts ≡ part 27648 1536 ws → ms ≡ part 29184 256 ws → cs ≡ part 29440 512 ws
+    → ◌≡◌ {A = Slices} (record { sorts = ss; nodes = ns; binds = bs; scratch = xs; typing = ts; measure = ms; choices = cs }) (slices_held ws)
+unfolding slice_start
+sliced ws ss ns bs xs ts ms cs es en eb ex et em ec =
+    λ i. record { sorts = es i; nodes = en i; binds = eb i; scratch = ex i; typing = et i; measure = em i; choices = ec i }
+
+pub asked : (ws : List ℕ) (s s' : Slices) (r : ℕ) (us : List ℕ) → s ≡ slices_held ws → packed_of s' r ≡ solved (call_held_in ws s)
+    → us ≡ kept_of ws s' → reply us r ≡ ask_of ws
+unfolding ask_of
+asked ws s s' r us es e u =
+    let p : packed_of s' r ≡ solved (call_held ws) = e ∙ ap (λ x. solved (call_held_in ws x)) es in
+    let w : us ≡ left_held ws (solved (call_held ws)) = u ∙ ap (left_held ws) p in
+    λ i. reply (w i) (p i).result

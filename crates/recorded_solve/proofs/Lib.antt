@@ -1,5 +1,3 @@
 -- The laws that the proofs of this crate cite. Assumes nothing.
 mod Asking
 mod Compares
-mod Parts
-mod Steps

@@ -13,18 +13,17 @@
 // its ceiling, and after them the eleven numbers of the line `L`.
 #![tactic(auto)]
 
-ghost use Rattle.std.specs.Prelude.{◌≡◌, ◌≤◌, length};
-ghost use Rattle.replay.specs.Inner.Lines.{max_words, near_enough};
+ghost use Rattle.std.specs.Prelude.{◌≡◌, ◌≤◌, length, IfSome};
+ghost use Rattle.replay.specs.Inner.Lines.{near_enough};
+ghost use Rattle.replay.specs.Inner.Numbers.{max_fields};
 ghost use Rattle.recorded_solve.specs.Inner.Slices.{held_counts_at, slice_start, count_held, counts_held};
-ghost use Rattle.recorded_solve.specs.Inner.Slices.{call_held_with, kept_in};
-ghost use Rattle.solve_outputs.specs.Packed.{packed_solve};
+ghost use Rattle.recorded_solve.specs.Inner.Slices.{call_held_in, kept_of, slices_held, packed_of};
 ghost use Rattle.recorded_solve.specs.Inner.Outcome.{solved};
-ghost use Rattle.recorded_solve.specs.Inner.Lines.{letter_of, no_span, Standing, compared_from, recorded_of};
-ghost use Rattle.recorded_solve.specs.Inner.Lines.{words_said, reply, ask_of, begin_line, store_of, compare_of};
-ghost use Rattle.recorded_solve.specs.Inner.Lines.{ask_line, stepped, step_of};
+ghost use Rattle.recorded_solve.specs.Inner.Lines.{letter_of, start_in, compared_from, recorded_of, started};
+ghost use Rattle.recorded_solve.specs.Inner.Lines.{reply, ask_of, begin_line, give_line, compare_line, ask_line};
 
 use inference::{MAX_COMPONENTS, SCRATCH_WORDS};
-use replay::{Fields, MAX_FIELDS, Verdict, fields_of, store};
+use replay::{Recorded, Verdict, store};
 use resolved_sort::SORT_WORDS;
 use solve_entries::sort_solve;
 use unification::{MAX_VARS, NODE_WORDS};
@@ -58,7 +57,7 @@ const COUNTS_AT: usize = 34048;
 
 const DEFAULT_AT: usize = 34058;
 
-pub const HELD_WORDS: usize = 34059;
+const HELD_WORDS: usize = 34059;
 
 // The words for the typing and for the choices.
 const TYPING_ROOM: usize = 1536;
@@ -78,7 +77,7 @@ const MOST_CODE: u64 = 255;
 const MOST_HANDED: u64 = 4095;
 
 // What a line says by its letter.
-#[derive(Drop)]
+#[derive(Clone, Copy, Debug, PartialEq, Eq)]
 pub enum Letter {
     List,
     Gives,
@@ -87,17 +86,8 @@ pub enum Letter {
     Other,
 }
 
-// Where the words of a line stand among those of all slices, and how many they are; good where they
-// are inside their slice.
-#[derive(Drop)]
-pub struct Span {
-    pub start: usize,
-    pub count: usize,
-    pub good: bool,
-}
-
 // The counts of a list, and its default sort.
-#[derive(Drop)]
+#[derive(Clone, Copy, Debug, PartialEq, Eq)]
 pub struct HeldCounts {
     pub sorts: usize,
     pub entries: usize,
@@ -112,11 +102,23 @@ pub struct HeldCounts {
     pub default: u16,
 }
 
-// The packed answer that a line records.
+// The slices that a question may change.
 #[derive(Drop)]
-pub enum Expected {
-    Is(u64),
-    Nothing,
+pub struct Slices {
+    pub sorts: [u16; SORT_WORDS],
+    pub nodes: [u16; NODE_WORDS],
+    pub binds: [u16; MAX_VARS],
+    pub scratch: [u16; SCRATCH_WORDS],
+    pub typing: [u16; TYPING_ROOM],
+    pub measure: [u16; MAX_COMPONENTS],
+    pub choices: [u16; CHOICES_ROOM],
+}
+
+// The words given of a list, and those that the last question left.
+#[derive(Drop)]
+pub struct RecordedSolve {
+    pub given: [u16; HELD_WORDS],
+    pub left: [u16; HELD_WORDS],
 }
 
 // What a line says by its letter.
@@ -157,132 +159,60 @@ fn start_of(slice: usize) -> usize
     starts[slice]
 }
 
-fn no_part() -> Span
-    ensures { result ≡ no_span }
+// Where the words of a line stand, after the number of a slice and of a word of it, where they are inside the slice.
+#[tactic(auto, unfolding(crate::specs::Inner::Lines::start_in))]
+fn start_of_words(numbers: &[u64]) -> Option<usize>
+    requires { length numbers.now ≤ max_fields }
+    ensures start { result ≡ start_in numbers.now }
+    ensures near { IfSome result (λ at. (at ≤ near_enough) × (2 ≤ length numbers.now)) }
 {
-    Span {
-        start: 0,
-        count: 0,
-        good: false,
+    if numbers.len() < 2 {
+        return None;
     }
-}
-
-// The words of a line after the number of a slice and of a word of it.
-fn part_of(fields: Fields) -> Span
-    ensures { Standing fields result }
-{
-    let values = fields.values;
-    let count = fields.count;
-    if count < 2 {
-        return no_part();
-    }
-    if MAX_FIELDS < count {
-        return no_part();
-    }
-    let slice = values[0];
-    if LAST_SLICE < slice {
-        return no_part();
-    }
-    let at = values[1];
-    if SLICE_WORDS < at {
-        return no_part();
+    let slice = numbers[0];
+    let at = numbers[1];
+    if LAST_SLICE < slice || SLICE_WORDS < at {
+        return None;
     }
     let start = start_of(slice as usize) + (at as usize);
-    if start_of((slice as usize) + 1) < start + (count - 2) {
-        return no_part();
+    if start_of((slice as usize) + 1) < start + (numbers.len() - 2) {
+        return None;
     }
-    Span {
-        start,
-        count: count - 2,
-        good: true,
-    }
+    Some(start)
 }
 
-// A new list: all words are zero but its counts.
-fn begin(given: &mut [u16; HELD_WORDS], fields: Fields) -> Verdict
-    ensures { words_said given.new result ≡ begin_line given.old fields }
+// Words, from a word on, compared with those recorded: all agree, or the first that is another.
+fn compare(left: &[u16], start: usize, recorded: &[u64]) -> Verdict
+    requires { (start ≤ near_enough) × (length recorded.now ≤ max_fields) }
+    ensures { result ≡ compared_from left.now start recorded.now }
 {
-    let values = fields.values;
-    if fields.count != COUNTS {
-        return Verdict::NotOfForm;
-    }
-    *given = [0u16; HELD_WORDS];
-    if store(given, COUNTS_AT, values, 0, COUNTS) {
-        return Verdict::Quiet;
-    }
-    Verdict::NotOfForm
-}
-
-// Words of the list.
-fn give(given: &mut [u16; HELD_WORDS], fields: Fields) -> Verdict
-    ensures { words_said given.new result ≡ store_of given.old fields }
-{
-    let values = fields.values;
-    let part = part_of(fields);
-    if !part.good {
-        return Verdict::NotOfForm;
-    }
-    if store(given, part.start, values, 2, part.count) {
-        return Verdict::Quiet;
-    }
-    Verdict::NotOfForm
-}
-
-// So many words, from a word on, compared with the numbers of a line after its first two: all
-// agree, or the first that is another.
-fn compare(left: &[u16], start: usize, values: [u64; MAX_FIELDS], count: usize) -> Verdict
-    requires { (start ≤ near_enough) × (count ≤ max_words) }
-    ensures { result ≡ compared_from count left.now start values 2 }
-{
-    let mut i: usize = 0;
-    while i < count {
+    for (i, &value) in recorded.iter().enumerate() {
         let got = word(left, start + i);
-        if (got as u64) != values[2 + i] {
+        if got as u64 != value {
             return Verdict::LeavesOther(got);
         }
-        i += 1;
     }
     Verdict::Agrees
 }
 
-// Words that the last question left.
-fn compare_left(left: &[u16; HELD_WORDS], fields: Fields) -> Verdict
-    ensures { result ≡ compare_of left.now fields }
-{
-    let values = fields.values;
-    let part = part_of(fields);
-    if !part.good {
-        return Verdict::NotOfForm;
-    }
-    compare(left, part.start, values, part.count)
-}
-
 // The packed answer of a line: its code, and the numbers of sorts, entries, components and choices.
 #[tactic(auto, unfolding(crate::specs::Inner::Lines::recorded_of))]
-fn recorded(values: [u64; MAX_FIELDS]) -> Expected
-    ensures { result ≡ recorded_of values }
+fn recorded(numbers: &[u64]) -> Option<u64>
+    requires { length numbers.now ≡ 5 }
+    ensures { result ≡ recorded_of numbers.now }
 {
-    let code = values[0];
-    if MOST_CODE < code {
-        return Expected::Nothing;
+    let code = numbers[0];
+    let sorts = numbers[1];
+    let entries = numbers[2];
+    let components = numbers[3];
+    let choices = numbers[4];
+    if MOST_CODE < code || MOST_WORD < sorts || MOST_WORD < entries {
+        return None;
     }
-    let sorts = values[1];
-    if MOST_WORD < sorts {
-        return Expected::Nothing;
+    if MOST_HANDED < components || MOST_HANDED < choices {
+        return None;
     }
-    let entries = values[2];
-    if MOST_WORD < entries {
-        return Expected::Nothing;
-    }
-    let components = values[3];
-    if MOST_HANDED < components {
-        return Expected::Nothing;
-    }
-    let choices = values[4];
-    if MOST_HANDED < choices {
-        return Expected::Nothing;
-    }
-    Expected::Is(code + BIT_8 * sorts + BIT_24 * entries + BIT_40 * components + BIT_52 * choices)
+    Some(code + BIT_8 * sorts + BIT_24 * entries + BIT_40 * components + BIT_52 * choices)
 }
 
 // A count of the list.
@@ -312,155 +242,185 @@ fn counts_of(given: &[u16]) -> HeldCounts
     }
 }
 
-// What the solver answers about the list, and what it leaves in the slices that it may change.
-fn call(
-    given: &[u16],
-    counts: HeldCounts,
-    sorts: &mut [u16],
-    nodes: &mut [u16],
-    binds: &mut [u16],
-    scratch: &mut [u16],
-    typing: &mut [u16],
-    measure: &mut [u16],
-    choices: &mut [u16],
-) -> u64
-    requires { held_counts_at ≤ length given.now }
-    ensures { packed_solve result sorts.new nodes.new binds.new scratch.new
-        typing.new measure.new choices.new
-        ≡ solved (call_held_with given.now counts sorts.old nodes.old
-        binds.old scratch.old typing.old measure.old
-        choices.old) }
-{
-    sort_solve(
-        sorts,
-        counts.sorts,
-        counts.entries,
-        nodes,
-        counts.nodes,
-        counts.arguments,
-        binds,
-        counts.variables,
-        &given[EXPRS_AT..NAMES_AT],
-        counts.exprs,
-        &given[NAMES_AT..CONSTRAINTS_AT],
-        counts.names,
-        &given[CONSTRAINTS_AT..OVERLOADS_AT],
-        counts.constraints,
-        &given[OVERLOADS_AT..SOURCES_AT],
-        counts.overloads,
-        &given[SOURCES_AT..TYPING_AT],
-        counts.sources,
-        counts.default,
-        scratch,
-        typing,
-        measure,
-        choices,
-    )
+impl Slices {
+    // The slices among the words given.
+    fn of(given: &[u16; HELD_WORDS]) -> Slices
+        ensures { result ≡ slices_held given.now }
+    {
+        let mut slices = Slices {
+            sorts: [0; SORT_WORDS],
+            nodes: [0; NODE_WORDS],
+            binds: [0; MAX_VARS],
+            scratch: [0; SCRATCH_WORDS],
+            typing: [0; TYPING_ROOM],
+            measure: [0; MAX_COMPONENTS],
+            choices: [0; CHOICES_ROOM],
+        };
+        copy(&mut slices.sorts, 0, given, 0, SORT_WORDS);
+        copy(&mut slices.nodes, 0, given, NODES_AT, NODE_WORDS);
+        copy(&mut slices.binds, 0, given, BINDS_AT, MAX_VARS);
+        copy(&mut slices.scratch, 0, given, SCRATCH_AT, SCRATCH_WORDS);
+        copy(&mut slices.typing, 0, given, TYPING_AT, TYPING_ROOM);
+        copy(&mut slices.measure, 0, given, MEASURE_AT, MAX_COMPONENTS);
+        copy(&mut slices.choices, 0, given, CHOICES_AT, CHOICES_ROOM);
+        slices
+    }
+
+    // What the solver answers about the list, and what it leaves in the slices.
+    fn solve(&mut self, given: &[u16]) -> u64
+        requires { held_counts_at ≤ length given.now }
+        ensures { packed_of self.new result ≡ solved (call_held_in given.now self.old) }
+    {
+        let counts = counts_of(given);
+        sort_solve(
+            &mut self.sorts,
+            counts.sorts,
+            counts.entries,
+            &mut self.nodes,
+            counts.nodes,
+            counts.arguments,
+            &mut self.binds,
+            counts.variables,
+            &given[EXPRS_AT..NAMES_AT],
+            counts.exprs,
+            &given[NAMES_AT..CONSTRAINTS_AT],
+            counts.names,
+            &given[CONSTRAINTS_AT..OVERLOADS_AT],
+            counts.constraints,
+            &given[OVERLOADS_AT..SOURCES_AT],
+            counts.overloads,
+            &given[SOURCES_AT..TYPING_AT],
+            counts.sources,
+            counts.default,
+            &mut self.scratch,
+            &mut self.typing,
+            &mut self.measure,
+            &mut self.choices,
+        )
+    }
+
+    // The slices kept in their places among the words left.
+    fn keep(&self, left: &mut [u16; HELD_WORDS])
+        ensures { left.new ≡ kept_of left.old self.now }
+    {
+        copy(left, 0, &self.sorts, 0, SORT_WORDS);
+        copy(left, NODES_AT, &self.nodes, 0, NODE_WORDS);
+        copy(left, BINDS_AT, &self.binds, 0, MAX_VARS);
+        copy(left, SCRATCH_AT, &self.scratch, 0, SCRATCH_WORDS);
+        copy(left, TYPING_AT, &self.typing, 0, TYPING_ROOM);
+        copy(left, MEASURE_AT, &self.measure, 0, MAX_COMPONENTS);
+        copy(left, CHOICES_AT, &self.choices, 0, CHOICES_ROOM);
+    }
 }
 
-// The slices that a question may change, kept in their places among the words left.
-fn keep(
-    left: &mut [u16; HELD_WORDS],
-    sorts: &[u16; SORT_WORDS],
-    nodes: &[u16; NODE_WORDS],
-    binds: &[u16; MAX_VARS],
-    scratch: &[u16; SCRATCH_WORDS],
-    typing: &[u16; TYPING_ROOM],
-    measure: &[u16; MAX_COMPONENTS],
-    choices: &[u16; CHOICES_ROOM],
-)
-    ensures { left.new
-        ≡ kept_in left.old sorts.now nodes.now binds.now
-        scratch.now typing.now measure.now choices.now }
-{
-    copy(left, 0, sorts, 0, SORT_WORDS);
-    copy(left, NODES_AT, nodes, 0, NODE_WORDS);
-    copy(left, BINDS_AT, binds, 0, MAX_VARS);
-    copy(left, SCRATCH_AT, scratch, 0, SCRATCH_WORDS);
-    copy(left, TYPING_AT, typing, 0, TYPING_ROOM);
-    copy(left, MEASURE_AT, measure, 0, MAX_COMPONENTS);
-    copy(left, CHOICES_AT, choices, 0, CHOICES_ROOM);
+impl RecordedSolve {
+    // Where reading starts: no words.
+    pub fn new() -> RecordedSolve
+        ensures { result ≡ started }
+    {
+        RecordedSolve {
+            given: [0; HELD_WORDS],
+            left: [0; HELD_WORDS],
+        }
+    }
+
+    // A new list: all words are zero but its counts.
+    #[tactic(auto, unfolding(crate::specs::Inner::Lines::begin_line, crate::specs::Inner::Lines::no_words))]
+    fn begin(&mut self, numbers: &[u64]) -> Verdict
+        ensures { (self.new, result) ≡ begin_line self.old numbers.now }
+    {
+        if numbers.len() != COUNTS {
+            return Verdict::NotOfForm;
+        }
+        self.given = [0; HELD_WORDS];
+        if store(&mut self.given, COUNTS_AT, numbers) {
+            Verdict::Quiet
+        } else {
+            Verdict::NotOfForm
+        }
+    }
+
+    // Words of the list.
+    #[tactic(auto, unfolding(crate::specs::Inner::Lines::given_at))]
+    fn give(&mut self, numbers: &[u64]) -> Verdict
+        requires { length numbers.now ≤ max_fields }
+        ensures { (self.new, result) ≡ give_line self.old numbers.now }
+    {
+        let Some(start) = start_of_words(numbers) else {
+            return Verdict::NotOfForm;
+        };
+        if store(&mut self.given, start, &numbers[2..]) {
+            Verdict::Quiet
+        } else {
+            Verdict::NotOfForm
+        }
+    }
+
+    // Words that the last question left.
+    #[tactic(auto, unfolding(crate::specs::Inner::Lines::compared_at))]
+    fn compare_left(&self, numbers: &[u64]) -> Verdict
+        requires { length numbers.now ≤ max_fields }
+        ensures { result ≡ compare_line self.now numbers.now }
+    {
+        let Some(start) = start_of_words(numbers) else {
+            return Verdict::NotOfForm;
+        };
+        compare(&self.left, start, &numbers[2..])
+    }
+
+    // What the solver answers about the list. It works on slices of its own, and what it leaves is kept.
+    fn ask(&mut self) -> u64
+        ensures answer { reply self.new.left result ≡ ask_of self.old.given }
+        ensures given { self.new.given ≡ self.old.given }
+    {
+        let mut slices = Slices::of(&self.given);
+        let answer = slices.solve(&self.given);
+        self.left = self.given;
+        slices.keep(&mut self.left);
+        answer
+    }
+
+    // A question about the list, compared with the recorded answer.
+    #[tactic(auto, unfolding(crate::specs::Inner::Lines::ask_line, crate::specs::Inner::Lines::judged_reply))]
+    fn answer(&mut self, numbers: &[u64]) -> Verdict
+        ensures { (self.new, result) ≡ ask_line self.old numbers.now }
+    {
+        if numbers.len() != 5 {
+            return Verdict::NotOfForm;
+        }
+        let Some(expected) = recorded(numbers) else {
+            return Verdict::NotOfForm;
+        };
+        let got = self.ask();
+        if got == expected {
+            Verdict::Agrees
+        } else {
+            Verdict::Differs(got)
+        }
+    }
 }
 
-// What the solver answers about the list. It works on slices of its own, and what it leaves is kept.
-fn ask(given: &[u16; HELD_WORDS], left: &mut [u16; HELD_WORDS]) -> u64
-    ensures { reply left.new result ≡ ask_of given.now }
-{
-    let mut sorts = [0u16; SORT_WORDS];
-    let mut nodes = [0u16; NODE_WORDS];
-    let mut binds = [0u16; MAX_VARS];
-    let mut scratch = [0u16; SCRATCH_WORDS];
-    let mut typing = [0u16; TYPING_ROOM];
-    let mut measure = [0u16; MAX_COMPONENTS];
-    let mut choices = [0u16; CHOICES_ROOM];
-    copy(&mut sorts, 0, given, 0, SORT_WORDS);
-    copy(&mut nodes, 0, given, NODES_AT, NODE_WORDS);
-    copy(&mut binds, 0, given, BINDS_AT, MAX_VARS);
-    copy(&mut scratch, 0, given, SCRATCH_AT, SCRATCH_WORDS);
-    copy(&mut typing, 0, given, TYPING_AT, TYPING_ROOM);
-    copy(&mut measure, 0, given, MEASURE_AT, MAX_COMPONENTS);
-    copy(&mut choices, 0, given, CHOICES_AT, CHOICES_ROOM);
-    let answer = call(
-        given,
-        counts_of(given),
-        &mut sorts,
-        &mut nodes,
-        &mut binds,
-        &mut scratch,
-        &mut typing,
-        &mut measure,
-        &mut choices,
-    );
-    *left = *given;
-    keep(
-        left, &sorts, &nodes, &binds, &scratch, &typing, &measure, &choices,
-    );
-    answer
-}
+impl Recorded for RecordedSolve {
+    ghost use Rattle.std.specs.Prelude.{true};
+    ghost use Rattle.recorded_solve.specs.Inner.Lines.{letter_of, by_letter};
 
-// A question about the list, compared with the recorded answer.
-fn answer(given: &[u16; HELD_WORDS], left: &mut [u16; HELD_WORDS], fields: Fields) -> Verdict
-    ensures { words_said left.new result ≡ ask_line given.now left.old fields }
-{
-    let values = fields.values;
-    if fields.count != 5 {
-        return Verdict::NotOfForm;
-    }
-    let Expected::Is(expected) = recorded(values) else {
-        return Verdict::NotOfForm;
-    };
-    let got = ask(given, left);
-    if got == expected {
-        return Verdict::Agrees;
-    }
-    Verdict::Differs(got)
-}
+    ghost step = { λ s letter numbers. by_letter (letter_of letter) s numbers };
 
-// A line of the recorded answers: what it makes of the words given and of those left, and what came of it.
-pub fn replay_line(
-    given: &mut [u16; HELD_WORDS],
-    left: &mut [u16; HELD_WORDS],
-    line: &[u8],
-) -> Verdict
-    ensures { stepped given.new left.new result
-        ≡ step_of given.old left.old line.now }
-{
-    if line.len() == 0 {
-        return Verdict::NotOfForm;
+    ghost complete = { λ _. true };
+
+    #[tactic(auto, unfolding(crate::specs::Inner::Lines::by_letter))]
+    fn replay(&mut self, letter: u8, numbers: &[u64]) -> Verdict {
+        match letter_of(letter) {
+            Letter::List => self.begin(numbers),
+            Letter::Gives => self.give(numbers),
+            Letter::Asks => self.answer(numbers),
+            Letter::Left => self.compare_left(numbers),
+            Letter::Other => Verdict::NotOfForm,
+        }
     }
-    let letter = line[0];
-    if letter == b'#' {
-        return Verdict::Quiet;
-    }
-    let read = fields_of(line);
-    if !read.good {
-        return Verdict::NotOfForm;
-    }
-    match letter_of(letter) {
-        Letter::List => begin(given, read),
-        Letter::Gives => give(given, read),
-        Letter::Asks => answer(given, left, read),
-        Letter::Left => compare_left(left, read),
-        Letter::Other => Verdict::NotOfForm,
+
+    // Each question has a list of its own.
+    fn is_complete(&self) -> bool {
+        true
     }
 }

@@ -275,7 +275,12 @@ impl RecordedUnify {
         if numbers.len() != 4 || part.length(self.progress.total) <= read {
             return Verdict::NotOfForm;
         }
-        self.keep(part.start() + ROW_WORDS * (read as usize), numbers, part, read + 1)
+        self.keep(
+            part.start() + ROW_WORDS * (read as usize),
+            numbers,
+            part,
+            read + 1,
+        )
     }
 
     // The next entries or bindings.
@@ -289,7 +294,12 @@ impl RecordedUnify {
         if MAX_WORDS < count || (total as usize) < (read as usize) + count {
             return Verdict::NotOfForm;
         }
-        self.keep(part.start() + (read as usize), numbers, part, read + (count as u16))
+        self.keep(
+            part.start() + (read as usize),
+            numbers,
+            part,
+            read + (count as u16),
+        )
     }
 
     // The bindings of the list.
@@ -340,7 +350,13 @@ impl RecordedUnify {
             return Verdict::NotOfForm;
         }
         let mut bindings = self.bindings();
-        let got = ask(&self.words, self.progress.total, &mut bindings, lhs as u16, rhs as u16);
+        let got = ask(
+            &self.words,
+            self.progress.total,
+            &mut bindings,
+            lhs as u16,
+            rhs as u16,
+        );
         let verdict = judge(&self.words, &bindings, got, numbers[2]);
         self.renew();
         verdict

@@ -1,18 +1,14 @@
 -- What a line of the recorded answers says, and what comes of it.
-use Rattle.std.specs.Prelude.{◌≡◌, Bool, true, false, cond, List, ℕ, zero, suc, ◌+◌, ◌*◌, ◌-◌, ◌≤◌, ltb, eqb, length, get_or, replicate}
+use Rattle.std.specs.Prelude.{Bool, cond, List, [], ◌∷◌, ℕ, ◌+◌, ◌*◌, ◌-◌, ltb, eqb, length, get_or, drop, replicate, Option, Some, None}
 use Prim.Native.Char.{code}
 use Rattle.words.specs.Inner.Bits.{most_word}
 use Rattle.words.specs.Bits.{bit8, bit24, bit40, bit52}
-use Rattle.replay.specs.declared.Fields.{Fields}
 use Rattle.replay.specs.declared.Verdict.{Verdict}
 use Rattle.replay.specs.declared.Verdict.TheVariants.{Quiet, Agrees, LeavesOther, NotOfForm}
-use Rattle.replay.specs.Inner.Numbers.{max_fields, fields_of, field_at}
-use Rattle.replay.specs.Inner.Lines.{max_words, near_enough, LineKept, store_from, verdict_of}
+use Rattle.replay.specs.Inner.Lines.{LineKept, store_from, verdict_of}
 use Rattle.recorded_solve.specs.declared.Letter.{Letter}
 use Rattle.recorded_solve.specs.declared.Letter.TheVariants.{List as NewList, Gives, Asks, Left, Other}
-use Rattle.recorded_solve.specs.declared.Span.{Span}
-use Rattle.recorded_solve.specs.declared.Expected.{Expected}
-use Rattle.recorded_solve.specs.declared.Expected.TheVariants.{Is, Nothing}
+use Rattle.recorded_solve.specs.declared.RecordedSolve.{RecordedSolve}
 use Rattle.recorded_solve.specs.Inner.Outcome.{solved}
 use Rattle.recorded_solve.specs.Inner.Slices.{held_counts_at, slice_start, call_held, left_held}
 
@@ -40,74 +36,61 @@ letter_of b =
     (cond (eqb b (code "Q")) Asks
     (cond (eqb b (code "X")) Left Other)))
 
-abbrev pub no_span : Span
-no_span = record { start = 0; count = 0; good = false }
-
--- the words of a line after the number of a slice and of a word of it, if they are inside the slice
-unfoldable pub span_of : Fields → Span
-span_of f =
-    cond (ltb f.count 2) no_span
-    (cond (ltb max_fields f.count) no_span
-    (cond (ltb last_slice (field_at f 0)) no_span
-    (cond (ltb held_counts_at (field_at f 1)) no_span
-    (cond (ltb (slice_start (field_at f 0 + 1)) (slice_start (field_at f 0) + field_at f 1 + (f.count - 2))) no_span
-    (record { start = slice_start (field_at f 0) + field_at f 1; count = f.count - 2; good = true })))))
-
--- the words of a line, few and near enough for sums not to wrap
-pub record Standing (f : Fields) (r : Span) : Type 0 where
-  pub told : r ≡ span_of f
-  pub near : r.start ≤ near_enough
-  pub few : r.count ≤ max_words
-
--- words, and what came of a line
-pub record WordsSaid : Type 0 where
-  pub words : List ℕ
-  pub verdict : Verdict
-
-abbrev pub words_said : List ℕ → Verdict → WordsSaid
-words_said ws v = record { words = ws; verdict = v }
+-- where the words of a line stand, after the number of a slice and of a word of it, if they are inside the slice
+unfoldable pub start_in : List ℕ → Option ℕ
+start_in ns =
+    cond (ltb (length ns) 2) None
+    (cond (ltb last_slice (get_or ns 0 0)) None
+    (cond (ltb held_counts_at (get_or ns 1 0)) None
+    (cond (ltb (slice_start (get_or ns 0 0 + 1)) (slice_start (get_or ns 0 0) + get_or ns 1 0 + (length ns - 2))) None
+    (Some (slice_start (get_or ns 0 0) + get_or ns 1 0)))))
 
 abbrev pub quiet_if : Bool → Verdict
 quiet_if all = cond all Quiet NotOfForm
 
-abbrev pub words_said_of : LineKept → WordsSaid
-words_said_of k = words_said k.words (quiet_if k.all)
+-- words given
+abbrev pub given_of : RecordedSolve → LineKept → RecordedSolve × Verdict
+given_of s k = (record s { given = k.words }, quiet_if k.all)
 
 unfoldable pub no_words : List ℕ
 no_words = replicate held_words 0
 
+abbrev pub started : RecordedSolve
+started = record { given = replicate held_words 0; left = replicate held_words 0 }
+
 -- a new list: all words are zero but its counts
-unfoldable pub begin_line : List ℕ → Fields → WordsSaid
-begin_line ws f =
-    cond (eqb f.count counts) (words_said_of (store_from counts no_words held_counts_at f.values 0))
-    (words_said ws NotOfForm)
+unfoldable pub begin_line : RecordedSolve → List ℕ → RecordedSolve × Verdict
+begin_line s ns = cond (eqb (length ns) counts) (given_of s (store_from no_words held_counts_at ns)) (s, NotOfForm)
 
--- words given
-unfoldable pub store_of : List ℕ → Fields → WordsSaid
-store_of ws f =
-    cond (span_of f).good (words_said_of (store_from (span_of f).count ws (span_of f).start f.values 2))
-    (words_said ws NotOfForm)
+unfoldable pub given_at : RecordedSolve → List ℕ → Option ℕ → RecordedSolve × Verdict
+given_at s vs None = (s, NotOfForm)
+given_at s vs (Some start) = given_of s (store_from s.given start vs)
 
--- m words compared with the numbers from the i-th on: all agree, or the first that is another
-unfoldable pub compared_from : ℕ → List ℕ → ℕ → List ℕ → ℕ → Verdict
-compared_from zero ws at values i = Agrees
-compared_from (suc m) ws at values i =
-    cond (eqb (get_or ws at 0) (get_or values i 0)) (compared_from m ws (at + 1) values (i + 1)) (LeavesOther (get_or ws at 0))
+abbrev pub give_line : RecordedSolve → List ℕ → RecordedSolve × Verdict
+give_line s ns = given_at s (drop 2 ns) (start_in ns)
+
+-- words compared with numbers: all agree, or the first that is another
+unfoldable pub compared_from : List ℕ → ℕ → List ℕ → Verdict
+compared_from ws at [] = Agrees
+compared_from ws at (v ∷ vs) = cond (eqb (get_or ws at 0) v) (compared_from ws (at + 1) vs) (LeavesOther (get_or ws at 0))
 
 -- words that were left
-unfoldable pub compare_of : List ℕ → Fields → Verdict
-compare_of ws f =
-    cond (span_of f).good (compared_from (span_of f).count ws (span_of f).start f.values 2) NotOfForm
+unfoldable pub compared_at : List ℕ → List ℕ → Option ℕ → Verdict
+compared_at ws vs None = NotOfForm
+compared_at ws vs (Some start) = compared_from ws start vs
+
+abbrev pub compare_line : RecordedSolve → List ℕ → Verdict
+compare_line s ns = compared_at s.left (drop 2 ns) (start_in ns)
 
 -- The packed answer of a line: its code, and the numbers of sorts, entries, components and choices.
-unfoldable pub recorded_of : List ℕ → Expected
+unfoldable pub recorded_of : List ℕ → Option ℕ
 recorded_of vs =
-    cond (ltb most_code (get_or vs 0 0)) Nothing
-    (cond (ltb most_word (get_or vs 1 0)) Nothing
-    (cond (ltb most_word (get_or vs 2 0)) Nothing
-    (cond (ltb most_handed (get_or vs 3 0)) Nothing
-    (cond (ltb most_handed (get_or vs 4 0)) Nothing
-    (Is (get_or vs 0 0 + bit8 * get_or vs 1 0 + bit24 * get_or vs 2 0 + bit40 * get_or vs 3 0 + bit52 * get_or vs 4 0))))))
+    cond (ltb most_code (get_or vs 0 0)) None
+    (cond (ltb most_word (get_or vs 1 0)) None
+    (cond (ltb most_word (get_or vs 2 0)) None
+    (cond (ltb most_handed (get_or vs 3 0)) None
+    (cond (ltb most_handed (get_or vs 4 0)) None
+    (Some (get_or vs 0 0 + bit8 * get_or vs 1 0 + bit24 * get_or vs 2 0 + bit40 * get_or vs 3 0 + bit52 * get_or vs 4 0))))))
 
 -- the words left by a question, and its packed answer
 pub record Reply : Type 0 where
@@ -120,44 +103,21 @@ reply ws r = record { words = ws; answer = r }
 unfoldable pub ask_of : List ℕ → Reply
 ask_of ws = reply (left_held ws (solved (call_held ws))) (solved (call_held ws)).result
 
-abbrev pub answered_by : Reply → ℕ → WordsSaid
-answered_by a expected = words_said a.words (verdict_of a.answer expected)
+abbrev pub answered_by : RecordedSolve → Reply → ℕ → RecordedSolve × Verdict
+answered_by s a expected = (record s { left = a.words }, verdict_of a.answer expected)
 
-abbrev pub judged_reply : List ℕ → Expected → Reply → WordsSaid
-judged_reply us Nothing a = words_said us NotOfForm
-judged_reply us (Is expected) a = answered_by a expected
+unfoldable pub judged_reply : RecordedSolve → Option ℕ → Reply → RecordedSolve × Verdict
+judged_reply s None a = (s, NotOfForm)
+judged_reply s (Some expected) a = answered_by s a expected
 
--- a question about the words given, and what it is recorded to answer; us are the words that the last one left
-unfoldable pub ask_line : List ℕ → List ℕ → Fields → WordsSaid
-ask_line ws us f = cond (eqb f.count 5) (judged_reply us (recorded_of f.values) (ask_of ws)) (words_said us NotOfForm)
-
--- the words given and left after a line, and what came of it
-pub record Stepped : Type 0 where
-  pub given : List ℕ
-  pub left : List ℕ
-  pub verdict : Verdict
-
-abbrev pub stepped : List ℕ → List ℕ → Verdict → Stepped
-stepped ws us v = record { given = ws; left = us; verdict = v }
-
-abbrev pub given_after : List ℕ → WordsSaid → Stepped
-given_after us s = stepped s.words us s.verdict
-
-abbrev pub left_after : List ℕ → WordsSaid → Stepped
-left_after ws s = stepped ws s.words s.verdict
+-- a question about the words given, and what it is recorded to answer
+unfoldable pub ask_line : RecordedSolve → List ℕ → RecordedSolve × Verdict
+ask_line s ns = cond (eqb (length ns) 5) (judged_reply s (recorded_of ns) (ask_of s.given)) (s, NotOfForm)
 
 -- by the letter of a line
-unfoldable pub by_letter : Letter → List ℕ → List ℕ → Fields → Stepped
-by_letter NewList ws us f = given_after us (begin_line ws f)
-by_letter Gives ws us f = given_after us (store_of ws f)
-by_letter Asks ws us f = left_after ws (ask_line ws us f)
-by_letter Left ws us f = stepped ws us (compare_of us f)
-by_letter Other ws us f = stepped ws us NotOfForm
-
--- A line: empty is not of the form, # says nothing, else a letter and numbers.
-unfoldable pub step_of : List ℕ → List ℕ → List ℕ → Stepped
-step_of ws us line =
-    cond (eqb (length line) 0) (stepped ws us NotOfForm)
-    (cond (eqb (get_or line 0 0) (code "#")) (stepped ws us Quiet)
-    (cond (fields_of line).good (by_letter (letter_of (get_or line 0 0)) ws us (fields_of line))
-    (stepped ws us NotOfForm)))
+unfoldable pub by_letter : Letter → RecordedSolve → List ℕ → RecordedSolve × Verdict
+by_letter NewList s ns = begin_line s ns
+by_letter Gives s ns = give_line s ns
+by_letter Asks s ns = ask_line s ns
+by_letter Left s ns = (s, compare_line s ns)
+by_letter Other s ns = (s, NotOfForm)

@@ -4,7 +4,8 @@ use Rattle.std.proofs.lemmas.List.Edits.{sets}
 use Rattle.inference.specs.SolveChecks.{Call}
 use Rattle.words.specs.Words.{part}
 use Rattle.recorded_solve.specs.declared.HeldCounts.{HeldCounts}
-use Rattle.solve_outputs.specs.Packed.{PackedSolve}
+use Rattle.solve_outputs.specs.Packed.{PackedSolve, packed_solve}
+use Rattle.recorded_solve.specs.declared.Slices.{Slices}
 
 -- Where each slice starts: sorts, nodes, bindings, places of expressions, base names, constraints, overloads, sources,
 -- typing, measure, choices, scratch; and where the counts start.
@@ -123,3 +124,25 @@ kept_in ws ss ns bs xs ts ms cs =
 
 abbrev pub left_held : List ℕ → PackedSolve → List ℕ
 left_held ws p = kept_in ws p.sorts p.nodes p.binds p.scratch p.typing p.measure p.choices
+
+-- the slices that a call may change, as one
+abbrev pub slices_held : List ℕ → Slices
+slices_held ws =
+    record {
+      sorts = slice_of 0 ws;
+      nodes = slice_of 1 ws;
+      binds = slice_of 2 ws;
+      scratch = slice_of 11 ws;
+      typing = slice_of 8 ws;
+      measure = slice_of 9 ws;
+      choices = slice_of 10 ws;
+    }
+
+abbrev pub call_held_in : List ℕ → Slices → Call
+call_held_in ws s = call_held_with ws (counts_held ws) s.sorts s.nodes s.binds s.scratch s.typing s.measure s.choices
+
+abbrev pub packed_of : Slices → ℕ → PackedSolve
+packed_of s r = packed_solve r s.sorts s.nodes s.binds s.scratch s.typing s.measure s.choices
+
+abbrev pub kept_of : List ℕ → Slices → List ℕ
+kept_of ws s = kept_in ws s.sorts s.nodes s.binds s.scratch s.typing s.measure s.choices

@@ -103,9 +103,13 @@ begin_line l ns =
     (cond (ltb max_entries (get_or ns 1 0)) (not_of_form l)
     (cond (ltb max_nodes (get_or ns 2 0)) (not_of_form l)
     (cond (ltb max_node_entries (get_or ns 3 0)) (not_of_form l)
-    (cond (ltb max_vars (get_or ns 4 0)) (not_of_form l)
-    (record l { progress = progress_of
-      (lengths (get_or ns 0 0) (get_or ns 1 0) (get_or ns 2 0) (get_or ns 3 0) (get_or ns 4 0)) no_lengths }, Quiet))))))
+    (cond (ltb max_vars (get_or ns 4 0)) (not_of_form l) (
+      record l {
+        progress = progress_of
+            (lengths (get_or ns 0 0) (get_or ns 1 0) (get_or ns 2 0) (get_or ns 3 0) (get_or ns 4 0)) no_lengths;
+      },
+      Quiet,
+    ))))))
     (not_of_form l))
     (not_of_form l)
 
@@ -176,9 +180,11 @@ ask_line l ns =
     cond (eqb (length ns) 3)
     (cond (complete l.progress)
     (cond (ltb most_word (get_or ns 0 0)) (not_of_form l)
-    (cond (ltb most_word (get_or ns 1 0)) (not_of_form l)
-    (renewed l, judged_reply l.words
-    (unified l.words l.progress.total (bindings_in l.words) (get_or ns 0 0) (get_or ns 1 0)) (get_or ns 2 0))))
+    (cond (ltb most_word (get_or ns 1 0)) (not_of_form l) (
+      renewed l,
+      judged_reply l.words
+          (unified l.words l.progress.total (bindings_in l.words) (get_or ns 0 0) (get_or ns 1 0)) (get_or ns 2 0),
+    )))
     (not_of_form l))
     (not_of_form l)
 
