@@ -1,6 +1,7 @@
 -- The definition, as the code meets it: by the head of a sort or a node, by the end of a place, and at a function. A function's range has a lower rank than
 -- the function, and the end of a place no higher one. Assumes nothing.
 use mathlib.Core.Path.{◌≡◌, refl, ap, sym, ◌∙◌, subst}
+use mathlib.Core.Logic.{◌⊎◌, inl, inr}
 use mathlib.Core.List.{List, [], ◌∷◌, ◌++◌}
 use mathlib.Core.Option.{some}
 use mathlib.Core.Bool.{Bool, true, false}
@@ -87,6 +88,11 @@ module _ (ws ns : List ℕ) (k : Lengths) (q : NodesReady ws ns k) (up : Bool) (
       unfolding sort_shape
       typevar_has_none n e = relates_as ws ns b (no_places_lem ws ns k b y) (by_shape (over (flat_head (typevar n)) []) (sort_is (TypeVar n) e))
 
+    pub plain_has_none : (r ≡ UnitRow) ⊎ (((n : ℕ) × (r ≡ Def n)) ⊎ ((n : ℕ) × (r ≡ TypeVar n))) → (t : Three) → t ≡ no_places → Relates ws ns (These t k) head
+    plain_has_none (inl e) t y = unit_has_none (These t k) (ap (λ (x : Three). These x k) y) e
+    plain_has_none (inr (inl e)) t y = def_has_none (These t k) (ap (λ (x : Three). These x k) y) e.0 e.1
+    plain_has_none (inr (inr e)) t y = typevar_has_none (These t k) (ap (λ (x : Three). These x k) y) e.0 e.1
+
     pub numbers_related : (s : Sort) → r ≡ Primitive s → (t : Three) → AreThese t (related_places up (primitive s)) → Relates ws ns (These t k) head
     unfolding sort_shape
     numbers_related s e t a =
@@ -100,9 +106,9 @@ module _ (ws ns : List ℕ) (k : Lengths) (q : NodesReady ws ns k) (up : Bool) (
       pub container_asked : Checked ws k.sorts k.entries × (s.0 < k.sorts)
       container_asked = (q.sorts, sort_part_below L q p s.0 (container_head o) (s.0 ∷ []) (lt-ltb p max_sorts l) i container_is (first []))
 
-      pub container_related : (vs : List ℕ) (b : Related) → Relates vs ns b (related_over (related_container up o) true s.0 L) → Relates vs ns b head
-      container_related vs b u =
-          relates_as vs ns b u (ap (λ (c : Bool). related_over (related_container up o) c s.0 L) (sym (lt-ltb p max_sorts l))
+      pub container_related : (vs ms : List ℕ) (b : Related) → Relates vs ms b (related_over (related_container up o) true s.0 L) → Relates vs ms b head
+      container_related vs ms b u =
+          relates_as vs ms b u (ap (λ (c : Bool). related_over (related_container up o) c s.0 L) (sym (lt-ltb p max_sorts l))
           ∙ by_shape (over (container_head o) (s.0 ∷ [])) container_is)
 
     pub function_sort_passed : (d : Run) (g : SortId) → r ≡ SortFunction d g → Relates ws ns (NoList k) head
@@ -118,11 +124,11 @@ module _ (ws ns : List ℕ) (k : Lengths) (q : NodesReady ws ns k) (up : Bool) (
     node_is : (y : InferSort) → r ≡ y → graph_of ws ns k p ≡ node_shape ns y
     node_is y e = shape_of_node ws ns k q p i l r j ∙ ap (node_shape ns) e
 
-    pub node_container_related : (o : ComplexSort) (s : InferSortId) → r ≡ Generic o s → (ms : List ℕ) (b : Related)
-        → Relates ws ms b (related_over (related_container up o) false s.0 L) → Relates ws ms b head
+    pub node_container_related : (o : ComplexSort) (s : InferSortId) → r ≡ Generic o s → (vs ms : List ℕ) (b : Related)
+        → Relates vs ms b (related_over (related_container up o) false s.0 L) → Relates vs ms b head
     unfolding node_shape
-    node_container_related o s e ms b u =
-        relates_as ws ms b u (ap (λ (c : Bool). related_over (related_container up o) c s.0 L) (sym (le-ltb p max_sorts l))
+    node_container_related o s e vs ms b u =
+        relates_as vs ms b u (ap (λ (c : Bool). related_over (related_container up o) c s.0 L) (sym (le-ltb p max_sorts l))
         ∙ by_shape (over (container_head o) (s.0 ∷ [])) (node_is (Generic o s) e))
 
     pub function_node_passed : (d : Run) (g : InferSortId) → r ≡ Function d g → Relates ws ns (NoList k) head

@@ -13,7 +13,7 @@ use borrow.Author.Tests.{lt-ltb, le-ltb, le-leb, lt-leb}
 use Rattle.resolved_sort.specs.declared.ComplexSort.{ComplexSort}
 use Rattle.resolved_sort.specs.declared.SortId.{SortId}
 use Rattle.resolved_sort.specs.declared.Counts.{Counts}
-use Rattle.std.specs.Prelude.{Option as Found, Some, None}
+use Rattle.std.specs.Prelude.{Option as Found, Some, None, Result, Ok, Err}
 use Rattle.resolved_sort.specs.declared.Joined.{Joined}
 use Rattle.resolved_sort.specs.declared.Joined.TheVariants.{At as JoinedAt, Nothing as JoinedNothing, Full as JoinedFull}
 use Rattle.resolved_sort.specs.Tree.{Tree, container}
@@ -26,8 +26,12 @@ use Rattle.resolved_sort.proofs.Grown.{after_none, more}
 use Rattle.resolved_sort.proofs.Reached.{no_confusion}
 use Rattle.sort_interner.proofs.Runs.{length_given}
 use Rattle.unification.specs.declared.Lengths.{Lengths}
-use Rattle.unification.specs.declared.Pushed.{Pushed}
-use Rattle.unification.specs.declared.Pushed.TheVariants.{At, Full as NoRoom}
+use Rattle.unification.specs.declared.Full.{Full as NoRoomIn}
+use Rattle.std.specs.Result.{IsErr, IsErrAnd}
+use Rattle.resolved_sort.specs.declared.NoRoom.{NoRoom as NoRoomLeft}
+use Rattle.resolved_sort.specs.Rows.{interned_at}
+use Rattle.resolved_sort.proofs.Numbers.{true_not_false}
+use Rattle.related_sorts.specs.Arena.{node_of}
 use Rattle.unification.specs.declared.InferSortId.{InferSortId}
 use Rattle.unification.specs.declared.Three.{Three}
 use Rattle.unification.specs.declared.Related.{Related}
@@ -38,7 +42,7 @@ use Rattle.unification.specs.Making.{Lent, Makes, made, no_room, ◌and-then◌,
 use Rattle.unification.specs.Making.{append_node, intern_container, related_over, push_functions}
 use Rattle.unification.specs.Inner.Making.{lent}
 use Rattle.unification.specs.Resolve.{with_counts}
-use Rattle.related_sorts.specs.Inner.Outcome.{found_op, row, pushed, three_places, no_places, related_made, place_before, places_after, AreThese, AtMost, Ranges, ListsAtMost, Relates}
+use Rattle.related_sorts.specs.Inner.Outcome.{found_op, row, three_places, no_places, one_place, before, after, related_made, as_related, some_related, AreThese, AtMost, Ranges, ListsAtMost, Relates}
 
 -- numbers
 pub are_these : (r t : Three) → r ≡ t → (ps : List ℕ) → three_places t ≡ ps → t.count ≤ 3 → AreThese r ps
@@ -55,18 +59,18 @@ module _ (ws ns : List ℕ) (k : Lengths) (kind part : ℕ) (ids : List ℕ) (co
   many : length (take count ids) ≡ count
   many = length_given ids count len few
 
-  pub no_row : max_nodes ≤ k.nodes → pushed ws ns k NoRoom ≡ push_node r W
+  pub no_row : max_nodes ≤ k.nodes → no_room 16 W ≡ push_node r W
   unfolding push_node
   no_row l = rw (le-ltb k.nodes max_nodes l)
 
   module _ (l : k.nodes < max_nodes) where
-    pub no_entries : max_node_entries < k.arguments + count → pushed ws ns k NoRoom ≡ push_node r W
+    pub no_entries : max_node_entries < k.arguments + count → no_room 16 W ≡ push_node r W
     unfolding push_node
     no_entries h = rw (lt-ltb k.nodes max_nodes l, many, lt-leb (k.arguments + count) max_node_entries h)
 
     pub node_made : k.arguments + count ≤ max_node_entries → (start : ℕ) → start ≡ cond (eqb kind function_kind) k.arguments 0 → (ns₁ ns₂ : List ℕ)
         → ns₁ ≡ put_row ns k.nodes kind part start count → ns₂ ≡ sets ns₁ (4096 + (4096 + k.arguments)) (take count ids)
-        → pushed ws ns₂ k (At (record { 0 = 1024 + k.nodes }) (record {
+        → made (1024 + k.nodes) (lent ws ns₂ (record {
           sorts = k.sorts;
           entries = k.entries;
           nodes = k.nodes +
@@ -112,6 +116,35 @@ at_most_more m n (These t k) l h = omega (arith, l, h)
 at_most_more m n (NoList k) l h = tt
 at_most_more m n (Full c k) l h = tt
 
+-- an answer that is an error
+pub same_err : {A : Type 0} (r : Result A NoRoomIn) (x : NoRoomIn) → IsErr r × IsErrAnd r (λ e. e ≡ x) → r ≡ Err x
+same_err (Ok y) x i = absurd (true_not_false false i.0 refl)
+same_err {A} (Err y) x i = ap {B = Result A NoRoomIn} (λ z. Err z) i.1
+
+pub as_err : (n : ℕ) (ws ns : List ℕ) (k : Lengths) (r : Result Three NoRoomIn) (x : NoRoomIn) {O : Makes (List ℕ)} → r ≡ Err x
+    → ListsAtMost n ws ns (some_related (Err x) k) O → ListsAtMost n ws ns (some_related r k) O
+as_err n ws ns k r x {O} e u = subst (λ (y : Result Three NoRoomIn). ListsAtMost n ws ns (some_related y k) O) (sym e) u
+
+pub as_no_list : (ws ns : List ℕ) (k : Lengths) (r : Result (Found Three) NoRoomIn) (x : NoRoomIn) {O : Makes (List ℕ)} → r ≡ Err x
+    → ListsAtMost 3 ws ns (some_related (Err x) k) O → ListsAtMost 3 ws ns (as_related r k) O
+as_no_list ws ns k r x {O} e u = subst (λ (y : Result (Found Three) NoRoomIn). ListsAtMost 3 ws ns (as_related y k) O) (sym e) u
+
+-- what is known of an answer, by what the answer was
+pub by_answer : (n : ℕ) (ws ns : List ℕ) (k : Lengths) (a b : Result Three NoRoomIn) {O : Makes (List ℕ)} → a ≡ b
+    → ListsAtMost n ws ns (some_related a k) O → ListsAtMost n ws ns (some_related b k) O
+by_answer n ws ns k a b {O} e = subst (λ (y : Result Three NoRoomIn). ListsAtMost n ws ns (some_related y k) O) e
+
+pub by_listed : (ws ns : List ℕ) (k : Lengths) (a b : Result (Found Three) NoRoomIn) {O : Makes (List ℕ)} → a ≡ b
+    → ListsAtMost 3 ws ns (as_related a k) O → ListsAtMost 3 ws ns (as_related b k) O
+by_listed ws ns k a b {O} e = subst (λ (y : Result (Found Three) NoRoomIn). ListsAtMost 3 ws ns (as_related y k) O) e
+
+pub interned_as : (ws : List ℕ) (K : Counts) (a b : Result SortId NoRoomLeft) {T : Stored} → a ≡ b → interned_at ws K a ≡ T → interned_at ws K b ≡ T
+interned_as ws K a b {T} e = subst (λ (r : Result SortId NoRoomLeft). interned_at ws K r ≡ T) e
+
+-- the words that the interner held are the arena's
+pub sorts_moved : {us vs ns : List ℕ} {a : Related} {O : Makes (List ℕ)} → vs ≡ us → Relates us ns a O → Relates vs ns a O
+sorts_moved {ns = ns} {a = a} {O = O} e = subst (λ (ws : List ℕ). Relates ws ns a O) (sym e)
+
 -- functions over ranges: over the first, and then over the rest
 two_of_three : (c x y z : ℕ) → c ≤ 2 → take c (x ∷ y ∷ []) ≡ take c (x ∷ y ∷ z ∷ [])
 two_of_three zero x y z l = refl
@@ -136,49 +169,51 @@ module _ (ws xs : List ℕ) (ranges : Three) (few : ranges.count ≤ 3) (ns : Li
         few = subst (AtMost ranges.count) (sym y) (omega arith);
       }
 
-  module _ (h : ranges.count ≡ 0 → ⊥) (ns₁ : List ℕ) (p : Pushed)
-      (e : pushed ws ns₁ k p ≡ push_node (row function_kind ranges.first.0 xs) (lent ws ns k)) where
+  module _ (h : ranges.count ≡ 0 → ⊥) (ws₁ ns₁ : List ℕ) (k₁ : Lengths) (p : Result InferSortId NoRoomIn)
+      (e : node_of p (lent ws₁ ns₁ k₁) ≡ push_node (row function_kind ranges.first.0 xs) (lent ws ns k)) where
     abbrev over_rest : ℕ → Lent → Makes (List ℕ)
-    over_rest q W = push_functions xs (three_places (places_after ranges)) W and-then (λ ps W. made (q ∷ ps) W)
+    over_rest q W = push_functions xs (three_places (after ranges)) W and-then (λ ps W. made (q ∷ ps) W)
 
-    split : three_places ranges ≡ ranges.first.0 ∷ three_places (places_after ranges)
+    split : three_places ranges ≡ ranges.first.0 ∷ three_places (after ranges)
     split =
         one_and_two ranges.count (ranges.count - 1) ranges.first.0 ranges.second.0 ranges.third.0 ranges.third.0
         (omega (arith, h)) (omega (arith, few))
 
-    first_pushed : all ≡ (pushed ws ns₁ k p and-then over_rest)
+    first_pushed : all ≡ (node_of p (lent ws₁ ns₁ k₁) and-then over_rest)
     unfolding push_functions
     first_pushed = ap (λ (ys : List ℕ). push_functions xs ys (lent ws ns k)) split ∙ ap (λ O. O and-then over_rest) (sym e)
 
-    pub push_ends : p ≡ NoRoom → ListsAtMost ranges.count ws ns₁ (Full 16 k) all
-    push_ends z = record { says = sym (first_pushed ∙ ap (λ y. pushed ws ns₁ k y and-then over_rest) z); few = tt }
+    pub push_ends : (x : NoRoomIn) → p ≡ Err x → ListsAtMost ranges.count ws₁ ns₁ (some_related (Err x) k₁) all
+    push_ends x z = record { says = sym (first_pushed ∙ ap (λ y. node_of y (lent ws₁ ns₁ k₁) and-then over_rest) z); few = tt }
 
-    module _ (ns₂ : List ℕ) (a : Related) where
-      pub rest_few : (t : Three) → t ≡ places_after ranges → (O : Makes (List ℕ)) → ListsAtMost t.count ws ns₂ a O → AtMost 2 a
-      rest_few t et O u = at_most_more t.count 2 a (let z = ap (λ (x : Three). x.count) et in omega (arith, few, z)) u.few
+    module _ (q : InferSortId) (z : p ≡ Ok q) (ws₂ ns₂ : List ℕ) (k₂ : Lengths) (t : Three) (et : t ≡ after ranges)
+        (r : Result Three NoRoomIn) (v : ListsAtMost t.count ws₂ ns₂ (some_related r k₂) (push_functions xs (three_places t) (lent ws₁ ns₁ k₁))) where
+      there : ListsAtMost (after ranges).count ws₂ ns₂ (some_related r k₂) (push_functions xs (three_places (after ranges)) (lent ws₁ ns₁ k₁))
+      there = subst (λ (x : Three). ListsAtMost x.count ws₂ ns₂ (some_related r k₂) (push_functions xs (three_places x) (lent ws₁ ns₁ k₁))) et v
 
-      placed_before : (q : InferSortId) (b : Related) → AtMost (ranges.count - 1) b
-          → (related_made ws ns₂ (place_before q b) ≡ (related_made ws ns₂ b and-then (λ ps W. made (q.0 ∷ ps) W))) × AtMost ranges.count (place_before q b)
-      placed_before q (These t k') l = (
-        ap (λ (ys : List ℕ). made ys (lent ws ns₂ k'))
-            (one_and_two (t.count + 1) t.count q.0 t.first.0 t.second.0 t.third.0 (add-one t.count) (omega (arith, l, few))),
-        omega (arith, l, h),
-      )
-      placed_before q (NoList k') l = (refl, tt)
-      placed_before q (Full c k') l = (refl, tt)
+      on : (related_made ws₂ ns₂ (some_related r k₂) and-then (λ ps W. made (q.0 ∷ ps) W)) ≡ all
+      on = ap (λ O. O and-then (λ ps W. made (q.0 ∷ ps) W)) there.says ∙ sym (first_pushed ∙ ap (λ y. node_of y (lent ws₁ ns₁ k₁) and-then over_rest) z)
 
-      pub push_goes_on : (q : InferSortId) (k' : Lengths) → p ≡ At q k'
-          → (t : Three) → t ≡ places_after ranges → ListsAtMost t.count ws ns₂ a (push_functions xs (three_places t) (lent ws ns₁ k'))
-          → (b : Related) → b ≡ place_before q a → ListsAtMost ranges.count ws ns₂ b all
-      push_goes_on q k' z t et v b y =
-          let u = subst (λ (x : Three). ListsAtMost x.count ws ns₂ a (push_functions xs (three_places x) (lent ws ns₁ k'))) et v in
-          let w = placed_before q a u.few in
-          record {
-            says =
-                ap (related_made ws ns₂) y ∙ (w.0 ∙ (ap (λ O. O and-then (λ ps W. made (q.0 ∷ ps) W)) u.says
-                ∙ sym (first_pushed ∙ ap (λ v. pushed ws ns₁ k v and-then over_rest) z)));
-            few = subst (AtMost ranges.count) (sym y) w.1;
-          }
+      pub rest_ends : (x : NoRoomIn) → r ≡ Err x → ListsAtMost ranges.count ws₂ ns₂ (some_related (Err x) k₂) all
+      rest_ends x y = record { says = subst (λ (w : Result Three NoRoomIn). (related_made ws₂ ns₂ (some_related w k₂) and-then (λ ps W. made (q.0 ∷ ps) W)) ≡ all) y on; few = tt }
+
+      module _ (rest : Three) (y : r ≡ Ok rest) where
+        few_there : rest.count ≤ ranges.count - 1
+        few_there = subst (λ (w : Result Three NoRoomIn). AtMost (ranges.count - 1) (some_related w k₂)) y there.few
+
+        pub rest_few : rest.count ≤ 2
+        rest_few = omega (arith, few_there, few)
+
+        pub push_goes_on : (b : Three) → b ≡ before q rest → ListsAtMost ranges.count ws₂ ns₂ (These b k₂) all
+        push_goes_on b eb =
+            rw eb
+            (record {
+              says =
+                  ap (λ (ys : List ℕ). made ys (lent ws₂ ns₂ k₂))
+                  (one_and_two (rest.count + 1) rest.count q.0 rest.first.0 rest.second.0 rest.third.0 (add-one rest.count) rest_few)
+                  ∙ subst (λ (w : Result Three NoRoomIn). (related_made ws₂ ns₂ (some_related w k₂) and-then (λ ps W. made (q.0 ∷ ps) W)) ≡ all) y on;
+              few = omega (arith, few_there, h);
+            })
 
 -- interning that found no room has changed nothing, and it never answers that there is none
 module _ (ws : List ℕ) (n e : ℕ) (k : Checked ws n e) (t : Tree) (ws₁ : List ℕ) where
@@ -208,11 +243,8 @@ module _ (ws : List ℕ) (n e : ℕ) (k : Checked ws n e) (t : Tree) (ws₁ : Li
 pub no_places_lem : (ws ns : List ℕ) (k : Lengths) (a : Related) → a ≡ These no_places k → Relates ws ns a (made [] (lent ws ns k))
 no_places_lem ws ns k a y = record { says = ap (related_made ws ns) y; few = subst Ranges (sym y) (omega arith) }
 
-abbrev one : InferSortId → Three
-one p = record { first = p; second = p; third = p; count = 1 }
-
-one_place : (ws ns : List ℕ) (p : InferSortId) (k : Lengths) (a : Related) → a ≡ These (one p) k → Relates ws ns a (made (p.0 ∷ []) (lent ws ns k))
-one_place ws ns p k a y = record { says = ap (related_made ws ns) y; few = subst Ranges (sym y) (omega arith) }
+one_place_lem : (ws ns : List ℕ) (p : InferSortId) (k : Lengths) (a : Related) → a ≡ These (one_place p) k → Relates ws ns a (made (p.0 ∷ []) (lent ws ns k))
+one_place_lem ws ns p k a y = record { says = ap (related_made ws ns) y; few = subst Ranges (sym y) (omega arith) }
 
 -- containers
 module _ (up : Bool) (o : ComplexSort) (b : Found ComplexSort) (e : b ≡ found_op (related_container up o)) where
@@ -244,10 +276,10 @@ module _ (up : Bool) (o : ComplexSort) (b : Found ComplexSort) (e : b ≡ found_
       sort_of = ap (λ x. related_over x true s (lent ws ns k)) is_some ∙ ap (λ (r : Stored). with_sorts (lent ws ns k) r r.answer and-then only) interned
 
       pub container_interned : (id : SortId) (K : Counts) → j ≡ JoinedAt id K → (k' : Lengths) → k' ≡ with_counts k K
-          → (a : Related) → a ≡ These (one (record { 0 = id.0 })) k'
+          → (a : Related) → a ≡ These (one_place (record { 0 = id.0 })) k'
           → Relates ws₁ ns a (related_over (related_container up o) true s (lent ws ns k))
       container_interned id K x k' ek a y =
-          relates_as ws₁ ns a (one_place ws₁ ns (record { 0 = id.0 }) k' a y) (ap (λ (l : Lengths). made (id.0 ∷ [])
+          relates_as ws₁ ns a (one_place_lem ws₁ ns (record { 0 = id.0 }) k' a y) (ap (λ (l : Lengths). made (id.0 ∷ [])
           (lent ws₁ ns l)) ek ∙ sym (sort_of ∙ ap (λ w. with_sorts (lent ws ns k) (stored_at ws₁ j) w and-then only)
           x))
 
@@ -265,17 +297,16 @@ module _ (up : Bool) (o : ComplexSort) (b : Found ComplexSort) (e : b ≡ found_
             ws₁ K (ap (stored_at ws₁) (sym x) ∙ sym interned)
 
     -- of a node
-    module _ (ns₁ : List ℕ) (p : Pushed) (kind : ℕ) (ek : kind ≡ kind_op q) (xs : List ℕ) (none-there : xs ≡ [])
-        (ep : pushed ws ns₁ k p ≡ push_node (row kind s xs) (lent ws ns k)) where
-      node_of : related_over (related_container up o) false s (lent ws ns k) ≡ (pushed ws ns₁ k p and-then only)
-      node_of =
+    module _ (ws₁ ns₁ : List ℕ) (k₁ : Lengths) (p : Result InferSortId NoRoomIn) (kind : ℕ) (ek : kind ≡ kind_op q) (xs : List ℕ) (none-there : xs ≡ [])
+        (ep : node_of p (lent ws₁ ns₁ k₁) ≡ push_node (row kind s xs) (lent ws ns k)) where
+      node_over : related_over (related_container up o) false s (lent ws ns k) ≡ (node_of p (lent ws₁ ns₁ k₁) and-then only)
+      node_over =
           ap (λ x. related_over x false s (lent ws ns k)) is_some
           ∙ (ap₂ (λ (c : ℕ) (ys : List ℕ). push_node (row c s ys) (lent ws ns k) and-then only) (sym ek) (sym none-there) ∙ ap (λ O. O and-then only) (sym ep))
 
-      pub container_pushed : (c : InferSortId) (k' : Lengths) → p ≡ At c k' → (a : Related) → a ≡ These (one c) k'
-          → Relates ws ns₁ a (related_over (related_container up o) false s (lent ws ns k))
-      container_pushed c k' x a y = relates_as ws ns₁ a (one_place ws ns₁ c k' a y) (sym (node_of ∙ ap (λ w. pushed ws ns₁ k w and-then only) x))
+      pub container_pushed : (c : InferSortId) → p ≡ Ok c → (t : Three) → t ≡ one_place c → Relates ws₁ ns₁ (These t k₁) (related_over (related_container up o) false s (lent ws ns k))
+      container_pushed c x t y = relates_as ws₁ ns₁ (These t k₁) (one_place_lem ws₁ ns₁ c k₁ (These t k₁) (ap (λ (z : Three). These z k₁) y))
+          (sym (node_over ∙ ap (λ w. node_of w (lent ws₁ ns₁ k₁) and-then only) x))
 
-      pub no_room_for_container : p ≡ NoRoom → Relates ws ns₁ (Full 16 k) (related_over (related_container up o) false s
-          (lent ws ns k))
-      no_room_for_container x = record { says = sym (node_of ∙ ap (λ w. pushed ws ns₁ k w and-then only) x); few = tt }
+      pub no_room_for_container : (x : NoRoomIn) → p ≡ Err x → Relates ws₁ ns₁ (some_related (Err x) k₁) (related_over (related_container up o) false s (lent ws ns k))
+      no_room_for_container x y = record { says = sym (node_over ∙ ap (λ w. node_of w (lent ws₁ ns₁ k₁) and-then only) y); few = tt }

@@ -5,7 +5,7 @@ use mathlib.Core.Path.{◌≡◌, refl, ap, sym, ◌∙◌, subst}
 use mathlib.Core.List.{List}
 use mathlib.Core.Option.{some}
 use mathlib.Core.Bool.{Bool, true}
-use Prim.Native.Nat.{ℕ, suc, ◌+◌, ◌-◌, ◌<◌, ◌≤◌}
+use Prim.Native.Nat.{ℕ, suc, ◌+◌, ◌-◌, ◌<◌, ◌≤◌, zero}
 use native.Mathlib.Omega.{arith}
 use native.Mathlib.Numerals.{add-one}
 use native.Mathlib.Decide.{ℕ_discrete}
@@ -284,78 +284,90 @@ module _ (ws ns bs : List ℕ) (k : Lengths) (q : Ready ws ns bs k) where
         pub functions_stand : Ranges a × AllStand fs r.count (related_made ws₁ ns₁ a)
         functions_stand = (u.few, subst (AllStand fs r.count) (sym found) (back r.count r.range.0 z.down).0)
 
-        pub functions_related : (ns₂ : List ℕ) (b : Related) → Relates ws₁ ns₂ b (outwards fs r.count (related_made ws₁ ns₁ a)) → Relates ws₁ ns₂ b (answer p)
-        functions_related ns₂ b w = relates_as ws₁ ns₂ b w (ap (outwards fs r.count) found ∙ (back r.count r.range.0 z.down).1)
+        pub functions_related : (ws₂ ns₂ : List ℕ) (b : Related) → Relates ws₂ ns₂ b (outwards fs r.count (related_made ws₁ ns₁ a)) → Relates ws₂ ns₂ b (answer p)
+        functions_related ws₂ ns₂ b w = relates_as ws₂ ns₂ b w (ap (outwards fs r.count) found ∙ (back r.count r.range.0 z.down).1)
 
--- functions over what was found, if there is a list
-module _ (ws ns : List ℕ) (a : Related) (f : ℕ) (pre : Ranges a × Stands f (related_made ws ns a)) where
-  pub no_list_over : (k : Lengths) → a ≡ NoList k → Relates ws ns (NoList k) (related_made ws ns a and-then over_function f)
-  no_list_over k e = record { says = sym (ap (λ (b : Related). related_made ws ns b and-then over_function f) e); few = tt }
+-- a function over what was found
+module _ (W : Lent) (f : ℕ) (F : FunctionAt W.sorts W.nodes W.lengths f) (t : Three) (few_ranges : t.count ≤ 3) where
+  pub function_counted : (m : ℕ) → m ≡ length (parts_of (graph W f)) → (0 < m) × IsFunction W.sorts W.nodes W.lengths f (m - 1)
+  function_counted m em = ends.counted W.sorts W.nodes W.lengths f F m em
 
-  pub no_room_over : (c : ℕ) (k : Lengths) → a ≡ Full c k → Relates ws ns (Full c k) (related_made ws ns a and-then over_function f)
-  no_room_over c k e = record { says = sym (ap (λ (b : Related). related_made ws ns b and-then over_function f) e); few = tt }
+  pub over_pushed : (n : ℕ) → IsFunction W.sorts W.nodes W.lengths f n → (xs : List ℕ) → take n xs ≡ take n (parts_of (graph W f))
+      → (ws₂ ns₂ : List ℕ) (b : Related) → ListsAtMost t.count ws₂ ns₂ b (push_functions (take n xs) (three_places t) W)
+      → Relates ws₂ ns₂ b (over_function f (three_places t) W)
+  over_pushed n I xs x ws₂ ns₂ b u =
+      record {
+        says = u.says ∙ ap (λ (ys : List ℕ). push_functions ys (three_places t) W) (x ∙ sym (ap arguments_of I.stands));
+        few = at_most_more t.count 3 b few_ranges u.few;
+      }
 
-  module _ (t : Three) (k : Lengths) (e : a ≡ These t k) where
-    stands : FunctionAt ws ns k f
-    stands = subst (λ (b : Related). Stands f (related_made ws ns b)) e pre.1
+-- over no list, and where there is no room, stands nothing
+outwards_none : (fs : List ℕ) (i : ℕ) (V : Lent) → outwards fs i (no_list V) ≡ no_list V
+unfolding outwards
+outwards_none fs zero V = refl
+outwards_none fs (suc i) V = outwards_none fs i V
 
-    pub function_placed : NodesReady ws ns k × Placed k f
-    function_placed = (stands.function.nodes, stands.function.placed)
+outwards_full : (fs : List ℕ) (i c : ℕ) (V : Lent) → outwards fs i (no_room c V) ≡ no_room c V
+unfolding outwards
+outwards_full fs zero c V = refl
+outwards_full fs (suc i) c V = outwards_full fs i c V
 
-    pub few_ranges : t.count ≤ 3
-    few_ranges = subst Ranges e pre.0
+pub over_no_list : (fs : List ℕ) (i : ℕ) (ws ns : List ℕ) (k : Lengths) → Relates ws ns (NoList k) (outwards fs i (related_made ws ns (NoList k)))
+over_no_list fs i ws ns k = record { says = sym (outwards_none fs i (lent ws ns k)); few = tt }
 
-    pub function_counted : (m : ℕ) → m ≡ length (parts_of (graph_of ws ns k f)) → (0 < m) × IsFunction ws ns k f (m - 1)
-    function_counted m em = ends.counted ws ns k f stands m em
-
-    pub over_pushed : (n : ℕ) → IsFunction ws ns k f n → (xs : List ℕ) → take n xs ≡ take n (parts_of (graph_of ws ns k f))
-        → (ns₂ : List ℕ) (b : Related) → ListsAtMost t.count ws ns₂ b (push_functions (take n xs) (three_places t) (lent ws ns k))
-        → Relates ws ns₂ b (related_made ws ns a and-then over_function f)
-    over_pushed n I xs x ns₂ b u =
-        record {
-          says =
-              u.says ∙ (ap (λ (ys : List ℕ). push_functions ys (three_places t) (lent ws ns k)) (x ∙ sym (ap arguments_of I.stands))
-              ∙ sym (ap (λ (d : Related). related_made ws ns d and-then over_function f) e));
-          few = at_most_more t.count 3 b few_ranges u.few;
-        }
+pub over_no_room : (fs : List ℕ) (i c : ℕ) (ws ns : List ℕ) (k : Lengths) → Relates ws ns (Full c k) (outwards fs i (related_made ws ns (Full c k)))
+over_no_room fs i c ws ns k = record { says = sym (outwards_full fs i c (lent ws ns k)); few = tt }
 
 -- The loop back: over so many functions are left to go.
-pub record Rising (ws : List ℕ) (fs : List ℕ) (count : ℕ) (ns₀ : List ℕ) (a₀ : Related) (ns : List ℕ) (left : ℕ) (a : Related) : Type 0 where
+pub record Rising (fs : List ℕ) (count : ℕ) (W₀ : Lent) (a₀ : Related) (W : Lent) (left : ℕ) (a : Related) : Type 0 where
   pub few : Ranges a
-  pub stand : AllStand fs left (related_made ws ns a)
-  pub same : outwards fs left (related_made ws ns a) ≡ outwards fs count (related_made ws ns₀ a₀)
+  pub stand : AllStand fs left (related_made W.sorts W.nodes a)
+  pub same : outwards fs left (related_made W.sorts W.nodes a) ≡ outwards fs count (related_made W₀.sorts W₀.nodes a₀)
   pub within : left ≤ count
 
-module _ (ws fs : List ℕ) (count : ℕ) (ns₀ : List ℕ) (a₀ : Related) where
-  pub rise_begins : Ranges a₀ → AllStand fs count (related_made ws ns₀ a₀) → Rising ws fs count ns₀ a₀ ns₀ count a₀
+module _ (fs : List ℕ) (count : ℕ) (W₀ : Lent) (a₀ : Related) where
+  pub rise_begins : Ranges a₀ → AllStand fs count (related_made W₀.sorts W₀.nodes a₀) → Rising fs count W₀ a₀ W₀ count a₀
   rise_begins r s = record { few = r; stand = s; same = refl; within = omega arith }
 
-  module _ (ns : List ℕ) (left : ℕ) (a : Related) (s : Rising ws fs count ns₀ a₀ ns left a) where
-    pub risen : left ≡ 0 → Relates ws ns a (outwards fs count (related_made ws ns₀ a₀))
+  module _ (W : Lent) (left : ℕ) (a : Related) (s : Rising fs count W₀ a₀ W left a) where
+    pub risen : left ≡ 0 → Relates W.sorts W.nodes a (outwards fs count (related_made W₀.sorts W₀.nodes a₀))
     unfolding outwards
-    risen e = record { says = subst (λ (i : ℕ). outwards fs i (related_made ws ns a) ≡ outwards fs count (related_made ws ns₀ a₀)) e s.same; few = s.few }
+    risen e = record { says = subst (λ (i : ℕ). outwards fs i (related_made W.sorts W.nodes a) ≡ outwards fs count (related_made W₀.sorts W₀.nodes a₀)) e s.same; few = s.few }
 
-    module _ (h : left ≡ 0 → ⊥) where
+    module _ (h : 0 < left) where
       one_left : left ≡ suc (left - 1)
       one_left = omega (arith, h)
 
       abbrev f : ℕ
       f = get_or fs (left - 1) 0
 
-      next_stands : AllStand fs (suc (left - 1)) (related_made ws ns a)
-      next_stands = subst (λ (i : ℕ). AllStand fs i (related_made ws ns a)) one_left s.stand
+      next_stands : AllStand fs (suc (left - 1)) (related_made W.sorts W.nodes a)
+      next_stands = subst (λ (i : ℕ). AllStand fs i (related_made W.sorts W.nodes a)) one_left s.stand
 
-      pub function_asked : Ranges a × Stands f (related_made ws ns a)
+      pub function_asked : Stands f (related_made W.sorts W.nodes a)
       unfolding AllStand
-      function_asked = (s.few, next_stands.0)
+      function_asked = next_stands.0
 
-      pub rise_goes_on : (ns₁ : List ℕ) (b : Related) → Relates ws ns₁ b (related_made ws ns a and-then over_function f) → Rising ws fs count ns₀ a₀ ns₁ (left - 1) b
-      unfolding AllStand outwards
-      rise_goes_on ns₁ b u =
-          record {
-            few = u.few;
-            stand = subst (AllStand fs (left - 1)) (sym u.says) next_stands.1;
-            same = ap (outwards fs (left - 1)) u.says
-                ∙ subst (λ (i : ℕ). outwards fs i (related_made ws ns a) ≡ outwards fs count (related_made ws ns₀ a₀)) one_left s.same;
-            within = omega (arith, s.within);
-          }
+      module _ (W₁ : Lent) (b : Related) (u : Relates W₁.sorts W₁.nodes b (related_made W.sorts W.nodes a and-then over_function f)) where
+        further : outwards fs (left - 1) (related_made W₁.sorts W₁.nodes b) ≡ outwards fs count (related_made W₀.sorts W₀.nodes a₀)
+        unfolding outwards
+        further = ap (outwards fs (left - 1)) u.says
+            ∙ subst (λ (i : ℕ). outwards fs i (related_made W.sorts W.nodes a) ≡ outwards fs count (related_made W₀.sorts W₀.nodes a₀)) one_left s.same
+
+        pub rise_goes_on : Rising fs count W₀ a₀ W₁ (left - 1) b
+        unfolding AllStand
+        rise_goes_on =
+            record {
+              few = u.few;
+              stand = subst (AllStand fs (left - 1)) (sym u.says) next_stands.1;
+              same = further;
+              within = omega (arith, s.within);
+            }
+
+        pub rise_ends : (c : ℕ) (k : Lengths) → b ≡ Full c k → Relates W₁.sorts W₁.nodes (Full c k) (outwards fs count (related_made W₀.sorts W₀.nodes a₀))
+        rise_ends c k e =
+            record {
+              says = sym (outwards_full fs (left - 1) c (lent W₁.sorts W₁.nodes k))
+                  ∙ subst (λ (d : Related). outwards fs (left - 1) (related_made W₁.sorts W₁.nodes d) ≡ outwards fs count (related_made W₀.sorts W₀.nodes a₀)) e further;
+              few = tt;
+            }

@@ -1,2 +1,3 @@
 -- What the contracts of this crate cite beside the definitions of the unifier.
+pub mod Arena
 pub mod Inner

@@ -5,30 +5,28 @@
 
 ghost use Rattle.std.specs.Prelude.{◌≡◌, true, false, ◌+◌, ◌<◌, ◌≤◌, length, take};
 ghost use Rattle.resolved_sort.specs.Tree.{primitive};
-ghost use Rattle.resolved_sort.specs.Storage.{max_sorts, max_arguments, kind_flat};
+ghost use Rattle.resolved_sort.specs.Storage.{max_sorts, max_arguments, kind_flat, row_at};
 ghost use Rattle.resolved_sort.specs.Rows.{Checked};
 ghost use Rattle.unification.specs.Inner.Term.{parts_of};
-ghost use Rattle.unification.specs.Nodes.{max_places, binds_of};
+ghost use Rattle.unification.specs.Nodes.{max_places, binds_of, node_at};
 ghost use Rattle.unification.specs.Checked.{graph_of, Ready, Placed};
 ghost use Rattle.unification.specs.Related.{related_container};
 ghost use Rattle.unification.specs.Making.{◌and-then◌, push_node, related_over, push_functions, related_places};
-ghost use Rattle.unification.specs.Making.{strict_related};
+ghost use Rattle.unification.specs.Making.{strict_related, made};
 ghost use Rattle.unification.specs.Inner.Making.{lent};
 ghost use Rattle.infer_nodes.specs.Inner.Parts.{NodesReady};
-ghost use Rattle.related_sorts.specs.Inner.Outcome.{found_op, pushed, three_places, related_made, row, AreThese, AtMost};
-ghost use Rattle.related_sorts.specs.Inner.Outcome.{ListsAtMost, Ranges, Relates, IsFunction, FunctionAt};
-ghost use Rattle.related_sorts.specs.Inner.Outcome.{place_before, places_after, no_places};
+ghost use Rattle.related_sorts.specs.Inner.Outcome.{found_op, three_places, row, AreThese, one_place};
+ghost use Rattle.related_sorts.specs.Inner.Outcome.{Relates, IsFunction, FunctionAt, as_related};
+ghost use Rattle.related_sorts.specs.Inner.Outcome.{before, after, no_places};
 ghost use Rattle.related_sorts.specs.Inner.Ranges.{related_head, over_function, outwards, Stands, AllStand};
 ghost use Rattle.related_sorts.specs.Inner.Ranges.{FinalRange, SixThere};
 
 use infer_nodes::{Bindings, Places, counts_of, node, taken_apart, with_counts};
-use resolved_sort::{
-    ARGUMENT_WORDS, ComplexSort, FUNCTION_KIND, Joined, ResolvedSort, Sort, SortId,
-};
-use sort_interner::{generic, get, kind_of_op, put_args, put_row, start_of};
+use resolved_sort::{ARGUMENT_WORDS, ComplexSort, FUNCTION_KIND, ResolvedSort, Sort, SortId};
+use sort_interner::{SortInterner, get, kind_of_op, put_args, put_row, start_of};
 use unification::{
-    FIRST_NODE, InferSort, InferSortId, Lengths, MAX_NODE_ENTRIES, MAX_PLACES, NODE_ENTRIES_BEHIND,
-    NODE_NUMBERS, Place, Pushed, Related, Three,
+    FIRST_NODE, Full, InferSort, InferSortId, Lengths, MAX_NODE_ENTRIES, MAX_PLACES,
+    NODE_ENTRIES_BEHIND, NODE_NUMBERS, NodeId, Place, Related, Three,
 };
 
 // The numbers strictly above or below `sort`, in ascending distance.
@@ -87,44 +85,6 @@ fn related_container(op: ComplexSort, up: bool) -> Option<ComplexSort>
     }
 }
 
-// One more node, where there is room.
-// Merc's arena only grows, and what a branch that is rolled back has made stays as harmless garbage. Here room has an
-// end, and the search gives these nodes back when the tries are over.
-fn push(
-    sorts: &[u16],
-    nodes: &mut [u16],
-    lengths: Lengths,
-    kind: u16,
-    part: InferSortId,
-    words: [u16; ARGUMENT_WORDS],
-    count: u16,
-) -> Pushed
-    requires { count ≤ max_arguments }
-    ensures { pushed sorts.now nodes.new lengths result
-        ≡ push_node (row kind part.0 (take count words)) (lent sorts.now nodes.old lengths) }
-{
-    let n = lengths.nodes;
-    let e = lengths.arguments;
-    if NODE_NUMBERS <= n {
-        return Pushed::Full;
-    }
-    if MAX_NODE_ENTRIES < (e as usize) + (count as usize) {
-        return Pushed::Full;
-    }
-    put_row(nodes, n, kind, part.0, start_of(kind, e), count);
-    put_args(nodes, NODE_ENTRIES_BEHIND + e, words, count);
-    Pushed::At(
-        InferSortId(FIRST_NODE + n),
-        Lengths {
-            sorts: lengths.sorts,
-            entries: lengths.entries,
-            nodes: n + 1,
-            arguments: e + count,
-            variables: lengths.variables,
-        },
-    )
-}
-
 // The first count parts of the sort at a place, as words to be stored.
 fn arguments(places: &Places, id: InferSortId, count: u16) -> [u16; ARGUMENT_WORDS]
     requires { IsFunction places.now.sorts.now places.now.nodes.now places.now.lengths id.0 count }
@@ -139,303 +99,54 @@ fn arguments(places: &Places, id: InferSortId, count: u16) -> [u16; ARGUMENT_WOR
     words
 }
 
-// A place before those listed, if there is a list.
-fn with_first(place: InferSortId, rest: Related) -> Related
-    requires { AtMost 2 rest }
-    ensures { result ≡ place_before place rest }
+// No places.
+fn none() -> Three
+    ensures { result ≡ no_places }
 {
-    match rest {
-        Related::These(places, lengths) => {
-            let second = places.first;
-            let third = places.second;
-            Related::These(
-                Three {
-                    first: place,
-                    second,
-                    third,
-                    count: places.count + 1,
-                },
-                lengths,
-            )
-        }
-        Related::NoList(lengths) => Related::NoList(lengths),
-        Related::Full(code, lengths) => Related::Full(code, lengths),
+    Three {
+        first: InferSortId(0),
+        second: InferSortId(0),
+        third: InferSortId(0),
+        count: 0,
+    }
+}
+
+// One place.
+fn only(place: InferSortId) -> Three
+    ensures { result ≡ one_place place }
+{
+    Three {
+        first: place,
+        second: place,
+        third: place,
+        count: 1,
+    }
+}
+
+// A place before those listed.
+fn with_first(place: InferSortId, rest: Three) -> Three
+    requires { rest.count ≤ 2 }
+    ensures { result ≡ before place rest }
+{
+    Three {
+        first: place,
+        second: rest.first,
+        third: rest.second,
+        count: rest.count + 1,
     }
 }
 
 // The places after the first.
 fn without_first(places: Three) -> Three
     requires { 0 < places.count }
-    ensures { result ≡ places_after places }
+    ensures { result ≡ after places }
 {
-    let first = places.second;
-    let second = places.third;
     Three {
-        first,
-        second,
-        third: second,
+        first: places.second,
+        second: places.third,
+        third: places.third,
         count: places.count - 1,
     }
-}
-
-// Functions of the same arguments over each of the ranges.
-fn push_functions(
-    sorts: &[u16],
-    nodes: &mut [u16],
-    lengths: Lengths,
-    ranges: Three,
-    domain: [u16; ARGUMENT_WORDS],
-    count: u16,
-) -> Related
-    requires { (count ≤ max_arguments) × (ranges.count ≤ 3) }
-    ensures { ListsAtMost ranges.count sorts.now nodes.new result
-        (push_functions (take count domain) (three_places ranges)
-        (lent sorts.now nodes.old lengths)) }
-{
-    if ranges.count == 0 {
-        return none(lengths);
-    }
-    let range = ranges.first;
-    match push(sorts, nodes, lengths, FUNCTION_KIND, range, domain, count) {
-        Pushed::At(place, then) => {
-            with_first(
-                place,
-                push_functions(sorts, nodes, then, without_first(ranges), domain, count),
-            )
-        }
-        Pushed::Full => Related::Full(16, lengths),
-    }
-}
-
-// One place.
-fn only(place: InferSortId, lengths: Lengths) -> Related
-    ensures { result ≡ Related.These (record { first = place; second = place; third = place; count = 1 }) lengths }
-{
-    Related::These(
-        Three {
-            first: place,
-            second: place,
-            third: place,
-            count: 1,
-        },
-        lengths,
-    )
-}
-
-// No places.
-fn none(lengths: Lengths) -> Related
-    ensures { result ≡ Related.These no_places lengths }
-{
-    Related::These(
-        Three {
-            first: InferSortId(0),
-            second: InferSortId(0),
-            third: InferSortId(0),
-            count: 0,
-        },
-        lengths,
-    )
-}
-
-// A container of the list: the related one is interned.
-fn related_generic(
-    sorts: &mut [u16],
-    nodes: &[u16],
-    lengths: Lengths,
-    op: ComplexSort,
-    subsort: SortId,
-    up: bool,
-) -> Related
-    requires { Checked sorts.old lengths.sorts lengths.entries × (subsort.0 < lengths.sorts) }
-    ensures { Relates sorts.new nodes.now result
-        (related_over (related_container up op) true subsort.0
-        (lent sorts.old nodes.now lengths)) }
-{
-    match related_container(op, up) {
-        Some(related_op) => {
-            match generic(sorts, counts_of(lengths), related_op, subsort) {
-                Joined::At(id, made) => only(InferSortId(id.0), with_counts(lengths, made)),
-                Joined::Nothing(_) => Related::NoList(lengths),
-                Joined::Full => Related::Full(15, lengths),
-            }
-        }
-        None => none(lengths),
-    }
-}
-
-// A container node: the related one is a node.
-fn push_generic(
-    sorts: &[u16],
-    nodes: &mut [u16],
-    lengths: Lengths,
-    op: ComplexSort,
-    subsort: InferSortId,
-    up: bool,
-) -> Related
-    ensures { Relates sorts.now nodes.new result
-        (related_over (related_container up op) false subsort.0
-        (lent sorts.now nodes.old lengths)) }
-{
-    match related_container(op, up) {
-        Some(related_op) => {
-            match push(
-                sorts,
-                nodes,
-                lengths,
-                kind_of_op(related_op),
-                subsort,
-                [0u16; ARGUMENT_WORDS],
-                0,
-            ) {
-                Pushed::At(place, then) => only(place, then),
-                Pushed::Full => Related::Full(16, lengths),
-            }
-        }
-        None => none(lengths),
-    }
-}
-
-// The strict supersorts of `id` in ascending distance (`Pos` yields `[Nat, Int, Real]`), or no list for an unbound
-// variable, whose supersorts cannot be enumerated. Only the head constructor is widened: `Nat` has supersorts,
-// `List(Nat)` has none.
-// Nearest first, since the search takes the first that succeeds, and that is to be the least upcast.
-pub fn strict_super_sorts(
-    sorts: &mut [u16],
-    nodes: &mut [u16],
-    binds: &[u16],
-    lengths: Lengths,
-    id: InferSortId,
-) -> Related
-    requires { Ready sorts.old nodes.old binds.now lengths × Placed lengths id.0 × SixThere lengths }
-    ensures { Relates sorts.new nodes.new result
-        (strict_related true (binds_of binds.now lengths.variables) id.0
-        (lent sorts.old nodes.old lengths)) }
-{
-    strict_related_sorts(sorts, nodes, binds, lengths, id, true)
-}
-
-// The strict subsorts of `id` in ascending distance (`Real` yields `[Int, Nat, Pos]`), or no list
-// for an unbound variable.
-pub fn strict_sub_sorts(
-    sorts: &mut [u16],
-    nodes: &mut [u16],
-    binds: &[u16],
-    lengths: Lengths,
-    id: InferSortId,
-) -> Related
-    requires { Ready sorts.old nodes.old binds.now lengths × Placed lengths id.0 × SixThere lengths }
-    ensures { Relates sorts.new nodes.new result
-        (strict_related false (binds_of binds.now lengths.variables) id.0
-        (lent sorts.old nodes.old lengths)) }
-{
-    strict_related_sorts(sorts, nodes, binds, lengths, id, false)
-}
-
-fn strict_related_sorts(
-    sorts: &mut [u16],
-    nodes: &mut [u16],
-    binds: &[u16],
-    lengths: Lengths,
-    id: InferSortId,
-    up: bool,
-) -> Related
-    requires { Ready sorts.old nodes.old binds.now lengths × Placed lengths id.0 × SixThere lengths }
-    ensures { Relates sorts.new nodes.new result
-        (strict_related up (binds_of binds.now lengths.variables) id.0
-        (lent sorts.old nodes.old lengths)) }
-{
-    let places = Places {
-        sorts: &*sorts,
-        nodes: &*nodes,
-        lengths,
-    };
-    let bindings = Bindings { places, binds };
-    let end = bindings.shallow_normalize(id);
-    if places.kind_at(end) == FUNCTION_KIND {
-        return related_function(sorts, nodes, binds, lengths, end, up);
-    }
-    related_head(sorts, nodes, lengths, end, up)
-}
-
-// By the head at the end of a place. Of a function the range is not asked about: that is for `related_function`.
-fn related_head(
-    sorts: &mut [u16],
-    nodes: &mut [u16],
-    lengths: Lengths,
-    id: InferSortId,
-    up: bool,
-) -> Related
-    requires { NodesReady sorts.old nodes.old lengths × Placed lengths id.0 }
-    ensures { Relates sorts.new nodes.new result
-        (related_head up id.0 (lent sorts.old nodes.old lengths)) }
-{
-    match taken_apart(id) {
-        Place::Sort(sort) => related_sort(sorts, nodes, lengths, sort, up),
-        Place::Node(at) => match node(nodes, at) {
-            InferSort::Generic { op, subsort } => {
-                push_generic(sorts, nodes, lengths, op, subsort, up)
-            }
-            InferSort::Function {
-                domain: _,
-                range: _,
-            } => Related::NoList(lengths),
-            InferSort::Var(_) => Related::NoList(lengths),
-        },
-    }
-}
-
-// An interned sort.
-fn related_sort(sorts: &mut [u16], nodes: &[u16], lengths: Lengths, id: SortId, up: bool) -> Related
-    requires { NodesReady sorts.old nodes.now lengths × Placed lengths id.0 × (id.0 < max_sorts) }
-    ensures { Relates sorts.new nodes.now result
-        (related_head up id.0 (lent sorts.old nodes.now lengths)) }
-{
-    match get(sorts, id) {
-        ResolvedSort::Unit => none(lengths),
-        ResolvedSort::Primitive(sort) => Related::These(related_numbers(sort, up), lengths),
-        ResolvedSort::Container { op, subsort } => related_generic(
-            sorts, nodes, lengths, op, subsort, up,
-        ),
-        ResolvedSort::Function {
-            domain: _,
-            range: _,
-        } => Related::NoList(lengths),
-        ResolvedSort::Def(_) => none(lengths),
-        ResolvedSort::TypeVar(_) => none(lengths),
-    }
-}
-
-// A function value coerces to a wider range at the same domain by eta-expansion.
-// So only the range is varied, never an argument. The range of an interned function always has a list; that of a node
-// has none where it is free.
-// Down to the final range and back by loops, so that nesting takes no stack: the functions on the way are noted. None
-// comes twice, so there are no more than there are places.
-fn related_function(
-    sorts: &mut [u16],
-    nodes: &mut [u16],
-    binds: &[u16],
-    lengths: Lengths,
-    id: InferSortId,
-    up: bool,
-) -> Related
-    requires { Ready sorts.old nodes.old binds.now lengths
-        × Placed lengths id.0
-        × SixThere lengths
-        × FunctionAt sorts.old nodes.old lengths id.0 }
-    ensures { Relates sorts.new nodes.new result
-        (strict_related up (binds_of binds.now lengths.variables) id.0
-        (lent sorts.old nodes.old lengths)) }
-{
-    let mut functions = [0u16; MAX_PLACES];
-    let places = Places {
-        sorts: &*sorts,
-        nodes: &*nodes,
-        lengths,
-    };
-    let last = final_range(&Bindings { places, binds }, id, &mut functions);
-    let range = last.range;
-    let found = related_head(sorts, nodes, lengths, range, up);
-    over_functions(sorts, nodes, &functions, last.count, found)
 }
 
 // The final range of a function: what stands at the end of the range of the last of the functions that follow one
@@ -464,48 +175,347 @@ fn final_range(bindings: &Bindings, id: InferSortId, functions: &mut [u16]) -> L
     Last { count, range }
 }
 
-// The functions over what was found for their final range, the innermost first.
-fn over_functions(
-    sorts: &[u16],
-    nodes: &mut [u16],
-    functions: &[u16],
-    count: u16,
-    found: Related,
-) -> Related
-    requires { Ranges found
-        × AllStand functions.now count (related_made sorts.now nodes.old found)
-        × (count ≤ length functions.now) }
-    ensures { Relates sorts.now nodes.new result
-        (outwards functions.now count
-        (related_made sorts.now nodes.old found)) }
-{
-    let mut left = count;
-    let mut over = found;
-    while left != 0 {
-        left -= 1;
-        over = over_function(sorts, nodes, InferSortId(functions[left as usize]), over);
-    }
-    over
+// The sorts and nodes as they grow, and how much of them is in use: what is made is appended.
+#[derive(Drop)]
+pub struct Arena<'a> {
+    pub sorts: &'a mut [u16],
+    pub nodes: &'a mut [u16],
+    pub lengths: Lengths,
 }
 
-// The functions over the ranges found, where there is a list of them.
-fn over_function(sorts: &[u16], nodes: &mut [u16], id: InferSortId, found: Related) -> Related
-    requires { Ranges found × Stands id.0 (related_made sorts.now nodes.old found) }
-    ensures { Relates sorts.now nodes.new result
-        (related_made sorts.now nodes.old found and-then over_function id.0) }
-{
-    match found {
-        Related::These(ranges, lengths) => {
-            let places = Places {
-                sorts,
-                nodes: &*nodes,
-                lengths,
-            };
-            let count = places.part_count(id) - 1;
-            let domain = arguments(&places, id, count);
-            push_functions(sorts, nodes, lengths, ranges, domain, count)
+impl Arena<'_> {
+    ghost use Rattle.related_sorts.specs.Arena.{world, node_of, Keeps, Lists, ListsSome, NodesIn, PlacedIn, ReadyIn, BindingsOf};
+
+    // The places, as they are.
+    fn places(&self) -> Places<'_>
+        requires { NodesIn self.now }
+        ensures { (result.sorts.now ≡ self.now.sorts.now)
+            × (result.nodes.now ≡ self.now.nodes.now)
+            × (result.lengths ≡ self.now.lengths) }
+    {
+        let sorts = &*self.sorts;
+        let nodes = &*self.nodes;
+        Places {
+            sorts,
+            nodes,
+            lengths: self.lengths,
         }
-        Related::NoList(lengths) => Related::NoList(lengths),
-        Related::Full(code, lengths) => Related::Full(code, lengths),
     }
+
+    // One more node, where there is room.
+    // Merc's arena only grows, and what a branch that is rolled back has made stays as harmless garbage. Here room has
+    // an end, and the search gives these nodes back when the tries are over.
+    fn push(
+        &mut self,
+        kind: u16,
+        part: InferSortId,
+        words: [u16; ARGUMENT_WORDS],
+        count: u16,
+    ) -> Result<InferSortId, Full>
+        requires { count ≤ max_arguments }
+        ensures keeps { Keeps self.old self.new }
+        ensures pushed { node_of result (world self.new)
+            ≡ push_node (row kind part.0 (take count words)) (world self.old) }
+    {
+        let n = self.lengths.nodes;
+        let e = self.lengths.arguments;
+        if NODE_NUMBERS <= n {
+            return Err(Full::Nodes);
+        }
+        if MAX_NODE_ENTRIES < (e as usize) + (count as usize) {
+            return Err(Full::Nodes);
+        }
+        put_row(self.nodes, n, kind, part.0, start_of(kind, e), count);
+        put_args(self.nodes, NODE_ENTRIES_BEHIND + e, words, count);
+        self.lengths.nodes = n + 1;
+        self.lengths.arguments = e + count;
+        Ok(InferSortId(FIRST_NODE + n))
+    }
+
+    // Functions of the same arguments over each of the ranges.
+    fn push_functions(
+        &mut self,
+        ranges: Three,
+        domain: [u16; ARGUMENT_WORDS],
+        count: u16,
+    ) -> Result<Three, Full>
+        requires { (count ≤ max_arguments) × (ranges.count ≤ 3) }
+        ensures keeps { Keeps self.old self.new }
+        ensures lists { Lists ranges.count self.new result
+            (push_functions (take count domain) (three_places ranges) (world self.old)) }
+    {
+        if ranges.count == 0 {
+            return Ok(none());
+        }
+        let range = ranges.first;
+        let place = self.push(FUNCTION_KIND, range, domain, count)?;
+        let rest = self.push_functions(without_first(ranges), domain, count)?;
+        Ok(with_first(place, rest))
+    }
+
+    // A container of the list: the related one is interned.
+    fn related_generic(&mut self, op: ComplexSort, subsort: SortId, up: bool) -> Result<Three, Full>
+        requires { Checked self.old.sorts.now self.old.lengths.sorts self.old.lengths.entries
+            × (subsort.0 < self.old.lengths.sorts) }
+        ensures keeps { Keeps self.old self.new }
+        ensures lists { Lists 3 self.new result
+            (related_over (related_container up op) true subsort.0 (world self.old)) }
+    {
+        let Some(related_op) = related_container(op, up) else {
+            return Ok(none());
+        };
+        let mut interner = SortInterner {
+            words: &mut *self.sorts,
+            counts: counts_of(self.lengths),
+        };
+        let id = interner.generic(related_op, subsort)?;
+        self.lengths = with_counts(self.lengths, interner.counts);
+        Ok(only(InferSortId(id.0)))
+    }
+
+    // A container node: the related one is a node.
+    fn push_generic(
+        &mut self,
+        op: ComplexSort,
+        subsort: InferSortId,
+        up: bool,
+    ) -> Result<Three, Full>
+        ensures keeps { Keeps self.old self.new }
+        ensures lists { Lists 3 self.new result
+            (related_over (related_container up op) false subsort.0 (world self.old)) }
+    {
+        let Some(related_op) = related_container(op, up) else {
+            return Ok(none());
+        };
+        let place = self.push(kind_of_op(related_op), subsort, [0u16; ARGUMENT_WORDS], 0)?;
+        Ok(only(place))
+    }
+
+    // An interned sort.
+    fn related_sort(&mut self, id: SortId, up: bool) -> Result<Option<Three>, Full>
+        requires { NodesIn self.old × PlacedIn self.old id.0 × (id.0 < max_sorts) }
+        ensures keeps { Keeps self.old self.new }
+        ensures lists { ListsSome self.new result (related_head up id.0 (world self.old)) }
+    {
+        match self.row(id) {
+            ResolvedSort::Primitive(sort) => Ok(Some(related_numbers(sort, up))),
+            ResolvedSort::Container { op, subsort } => {
+                Ok(Some(self.related_generic(op, subsort, up)?))
+            }
+            ResolvedSort::Function {
+                domain: _,
+                range: _,
+            } => Ok(None),
+            ResolvedSort::Unit | ResolvedSort::Def(_) | ResolvedSort::TypeVar(_) => Ok(Some(
+                none(),
+            )),
+        }
+    }
+
+    // The row of a sort.
+    fn row(&self, id: SortId) -> ResolvedSort
+        ensures { result ≡ row_at self.now.sorts.now id.0 }
+    {
+        get(self.sorts, id)
+    }
+
+    // What a node says.
+    fn node(&self, id: NodeId) -> InferSort
+        ensures { result ≡ node_at self.now.nodes.now id.0 }
+    {
+        node(self.nodes, id)
+    }
+
+    // By the head at the end of a place. Of a function the range is not asked about: that is for `related_function`.
+    fn related_head(&mut self, id: InferSortId, up: bool) -> Result<Option<Three>, Full>
+        requires { NodesIn self.old × PlacedIn self.old id.0 }
+        ensures keeps { Keeps self.old self.new }
+        ensures lists { ListsSome self.new result (related_head up id.0 (world self.old)) }
+    {
+        match taken_apart(id) {
+            Place::Sort(sort) => self.related_sort(sort, up),
+            Place::Node(at) => match self.node(at) {
+                InferSort::Generic { op, subsort } => {
+                    Ok(Some(self.push_generic(op, subsort, up)?))
+                }
+                InferSort::Function {
+                    domain: _,
+                    range: _,
+                } => Ok(None),
+                InferSort::Var(_) => Ok(None),
+            },
+        }
+    }
+
+    // The functions over the ranges found.
+    fn over_function(&mut self, id: InferSortId, ranges: Three) -> Result<Three, Full>
+        requires { FunctionAt self.old.sorts.now self.old.nodes.now self.old.lengths id.0
+            × (ranges.count ≤ 3) }
+        ensures keeps { Keeps self.old self.new }
+        ensures lists { Lists 3 self.new result
+            (over_function id.0 (three_places ranges) (world self.old)) }
+    {
+        let places = self.places();
+        let count = places.part_count(id) - 1;
+        let domain = arguments(&places, id, count);
+        self.push_functions(ranges, domain, count)
+    }
+
+    // The functions over what was found for their final range, the innermost first.
+    fn over_functions(&mut self, functions: &[u16], count: u16, found: Three) -> Result<Three, Full>
+        requires { AllStand functions.now count (made (three_places found) (world self.old))
+            × (found.count ≤ 3)
+            × (count ≤ length functions.now) }
+        ensures keeps { Keeps self.old self.new }
+        ensures lists { Lists 3 self.new result
+            (outwards functions.now count (made (three_places found) (world self.old))) }
+    {
+        let mut over = found;
+        for i in (0..count).rev() {
+            over = self.over_function(InferSortId(functions[i as usize]), over)?;
+        }
+        Ok(over)
+    }
+
+    // A function value coerces to a wider range at the same domain by eta-expansion.
+    // So only the range is varied, never an argument. The range of an interned function always has a list; that of a
+    // node has none where it is free.
+    // Down to the final range and back by loops, so that nesting takes no stack: the functions on the way are noted.
+    // None comes twice, so there are no more than there are places.
+    fn related_function(
+        &mut self,
+        binds: &[u16],
+        id: InferSortId,
+        up: bool,
+    ) -> Result<Option<Three>, Full>
+        requires { ReadyIn self.old binds.now
+            × PlacedIn self.old id.0
+            × SixThere self.old.lengths
+            × FunctionAt self.old.sorts.now self.old.nodes.now self.old.lengths id.0 }
+        ensures keeps { Keeps self.old self.new }
+        ensures lists { ListsSome self.new result
+            (strict_related up (binds_of binds.now self.old.lengths.variables) id.0 (world self.old)) }
+    {
+        let mut functions = [0u16; MAX_PLACES];
+        let last = final_range(&self.bindings(binds), id, &mut functions);
+        let Some(ranges) = self.related_head(last.range, up)? else {
+            return Ok(None);
+        };
+        Ok(Some(self.over_functions(&functions, last.count, ranges)?))
+    }
+
+    // The places, and what the variables there are bound to.
+    fn bindings<'b>(&self, binds: &'b [u16]) -> Bindings<'_, 'b>
+        requires { ReadyIn self.now binds.now }
+        ensures { BindingsOf self.now binds.now result }
+    {
+        let places = self.places();
+        Bindings { places, binds }
+    }
+
+    fn strict_related_sorts(
+        &mut self,
+        binds: &[u16],
+        id: InferSortId,
+        up: bool,
+    ) -> Result<Option<Three>, Full>
+        requires { ReadyIn self.old binds.now × PlacedIn self.old id.0 × SixThere self.old.lengths }
+        ensures keeps { Keeps self.old self.new }
+        ensures lists { ListsSome self.new result
+            (strict_related up (binds_of binds.now self.old.lengths.variables) id.0 (world self.old)) }
+    {
+        let end = self.bindings(binds).shallow_normalize(id);
+        if self.places().kind_at(end) == FUNCTION_KIND {
+            return self.related_function(binds, end, up);
+        }
+        self.related_head(end, up)
+    }
+
+    // The strict supersorts of `id` in ascending distance (`Pos` yields `[Nat, Int, Real]`), or no list for an unbound
+    // variable, whose supersorts cannot be enumerated. Only the head constructor is widened: `Nat` has supersorts,
+    // `List(Nat)` has none.
+    // Nearest first, since the search takes the first that succeeds, and that is to be the least upcast.
+    pub fn strict_super_sorts(
+        &mut self,
+        binds: &[u16],
+        id: InferSortId,
+    ) -> Result<Option<Three>, Full>
+        requires { ReadyIn self.old binds.now × PlacedIn self.old id.0 × SixThere self.old.lengths }
+        ensures keeps { Keeps self.old self.new }
+        ensures lists { ListsSome self.new result
+            (strict_related true (binds_of binds.now self.old.lengths.variables) id.0 (world self.old)) }
+    {
+        self.strict_related_sorts(binds, id, true)
+    }
+
+    // The strict subsorts of `id` in ascending distance (`Real` yields `[Int, Nat, Pos]`), or no list
+    // for an unbound variable.
+    pub fn strict_sub_sorts(
+        &mut self,
+        binds: &[u16],
+        id: InferSortId,
+    ) -> Result<Option<Three>, Full>
+        requires { ReadyIn self.old binds.now × PlacedIn self.old id.0 × SixThere self.old.lengths }
+        ensures keeps { Keeps self.old self.new }
+        ensures lists { ListsSome self.new result
+            (strict_related false (binds_of binds.now self.old.lengths.variables) id.0 (world self.old)) }
+    {
+        self.strict_related_sorts(binds, id, false)
+    }
+}
+
+// What was listed, with the lengths then.
+fn related(listed: Result<Option<Three>, Full>, lengths: Lengths) -> Related
+    ensures { result ≡ as_related listed lengths }
+{
+    match listed {
+        Ok(Some(places)) => Related::These(places, lengths),
+        Ok(None) => Related::NoList(lengths),
+        Err(Full::Sorts) => Related::Full(15, lengths),
+        Err(Full::Nodes) => Related::Full(16, lengths),
+    }
+}
+
+// The sorts strictly wider than that at a place, nearest first.
+pub fn strict_super_sorts(
+    sorts: &mut [u16],
+    nodes: &mut [u16],
+    binds: &[u16],
+    lengths: Lengths,
+    id: InferSortId,
+) -> Related
+    requires { Ready sorts.old nodes.old binds.now lengths × Placed lengths id.0 × SixThere lengths }
+    ensures { Relates sorts.new nodes.new result
+        (strict_related true (binds_of binds.now lengths.variables) id.0
+        (lent sorts.old nodes.old lengths)) }
+{
+    let mut arena = Arena {
+        sorts,
+        nodes,
+        lengths,
+    };
+    let listed = arena.strict_super_sorts(binds, id);
+    related(listed, arena.lengths)
+}
+
+// The sorts strictly narrower, nearest first.
+pub fn strict_sub_sorts(
+    sorts: &mut [u16],
+    nodes: &mut [u16],
+    binds: &[u16],
+    lengths: Lengths,
+    id: InferSortId,
+) -> Related
+    requires { Ready sorts.old nodes.old binds.now lengths × Placed lengths id.0 × SixThere lengths }
+    ensures { Relates sorts.new nodes.new result
+        (strict_related false (binds_of binds.now lengths.variables) id.0
+        (lent sorts.old nodes.old lengths)) }
+{
+    let mut arena = Arena {
+        sorts,
+        nodes,
+        lengths,
+    };
+    let listed = arena.strict_sub_sorts(binds, id);
+    related(listed, arena.lengths)
 }

@@ -1,13 +1,13 @@
 -- What the code of this crate answers and leaves, as the definition has it.
-use Rattle.std.specs.Prelude.{Option as Found, Some, None, ◌≡◌, List, [], ◌∷◌, ℕ, suc, ◌+◌, ◌-◌, ◌≤◌, length, take}
+use Rattle.std.specs.Prelude.{Option as Found, Some, None, Result, Ok, Err, ◌≡◌, List, [], ◌∷◌, ℕ, suc, ◌+◌, ◌-◌, ◌≤◌, length, take}
 use Rattle.std.proofs.Math.Option.{Option, none, some}
 use Rattle.resolved_sort.specs.declared.ComplexSort.{ComplexSort}
 use Rattle.resolved_sort.specs.Storage.{max_arguments, Row}
 use Rattle.unification.specs.declared.InferSortId.{InferSortId}
 use Rattle.unification.specs.declared.Lengths.{Lengths}
-use Rattle.unification.specs.declared.Pushed.{Pushed}
-use Rattle.unification.specs.declared.Pushed.TheVariants.{At, Full as NoRoom}
 use Rattle.unification.specs.declared.Three.{Three}
+use Rattle.unification.specs.declared.Full.{Full as NoRoomIn}
+use Rattle.unification.specs.declared.Full.TheVariants.{Sorts, Nodes}
 use Rattle.unification.specs.declared.Related.{Related}
 use Rattle.unification.specs.declared.Related.TheVariants.{These, NoList, Full}
 use Rattle.unification.specs.Term.{function_head, over}
@@ -24,10 +24,6 @@ found_op (some o) = Some o
 abbrev pub row : ℕ → ℕ → List ℕ → Row
 row kind part args = record { kind = kind; part = part; args = args }
 
-abbrev pub pushed : List ℕ → List ℕ → Lengths → Pushed → Makes ℕ
-pushed ws ns k (At p k') = made p.0 (lent ws ns k')
-pushed ws ns k NoRoom = no_room 16 (lent ws ns k)
-
 -- the places that count
 abbrev pub three_places : Three → List ℕ
 three_places t = take t.count (t.first.0 ∷ t.second.0 ∷ t.third.0 ∷ [])
@@ -40,16 +36,30 @@ related_made ws ns (These t k) = made (three_places t) (lent ws ns k)
 related_made ws ns (NoList k) = no_list (lent ws ns k)
 related_made ws ns (Full c k) = no_room c (lent ws ns k)
 
--- a place before those listed
-abbrev pub place_before : InferSortId → Related → Related
-place_before p (These t k) =
-    These (record { first = p; second = t.first; third = t.second; count = t.count + 1 }) k
-place_before p (NoList k) = NoList k
-place_before p (Full c k) = Full c k
+-- one place; a place before those listed; and the places after the first
+abbrev pub one_place : InferSortId → Three
+one_place p = record { first = p; second = p; third = p; count = 1 }
 
--- the places after the first
-abbrev pub places_after : Three → Three
-places_after t = record { first = t.second; second = t.third; third = t.third; count = t.count - 1 }
+abbrev pub before : InferSortId → Three → Three
+before p t = record { first = p; second = t.first; third = t.second; count = t.count + 1 }
+
+abbrev pub after : Three → Three
+after t = record { first = t.second; second = t.third; third = t.third; count = t.count - 1 }
+
+-- which list has no room, by its code
+abbrev pub no_room_in : NoRoomIn → ℕ
+no_room_in Sorts = 15
+no_room_in Nodes = 16
+
+-- an answer with the lengths then
+abbrev pub as_related : Result (Found Three) NoRoomIn → Lengths → Related
+as_related (Ok (Some t)) k = These t k
+as_related (Ok None) k = NoList k
+as_related (Err e) k = Full (no_room_in e) k
+
+abbrev pub some_related : Result Three NoRoomIn → Lengths → Related
+some_related (Ok t) k = These t k
+some_related (Err e) k = Full (no_room_in e) k
 
 -- these places, at most three
 pub record AreThese (r : Three) (ps : List ℕ) : Type 0 where

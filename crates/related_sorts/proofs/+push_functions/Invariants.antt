@@ -1,6 +1,0 @@
--- Fewer ranges are left. Assumes nothing.
-
-use Rattle.related_sorts.proofs.+push_functions.Given as goal
-
-abbrev pub decreases-push_functions : goal.decreases-push_functions
-decreases-push_functions l = l.ranges.count

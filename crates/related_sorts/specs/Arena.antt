@@ -1,0 +1,48 @@
+-- An arena, and what a call leaves of it.
+use Rattle.std.specs.Prelude.{◌≡◌, Option, Result, Ok, Err, List, ℕ}
+use Rattle.unification.specs.declared.InferSortId.{InferSortId}
+use Rattle.unification.specs.declared.Full.{Full}
+use Rattle.unification.specs.declared.Three.{Three}
+use Rattle.unification.specs.Checked.{Ready, Placed}
+use Rattle.infer_nodes.specs.declared.Bindings.{Bindings}
+use Rattle.unification.specs.Making.{Lent, Makes, made, no_room}
+use Rattle.unification.specs.Inner.Making.{lent}
+use Rattle.infer_nodes.specs.Inner.Parts.{NodesReady}
+use Rattle.related_sorts.specs.declared.Arena.{Arena}
+use Rattle.related_sorts.specs.Inner.Outcome.{no_room_in, as_related, some_related, ListsAtMost}
+
+abbrev pub world : Arena → Lent
+world A = lent A.sorts.now A.nodes.now A.lengths
+
+abbrev pub NodesIn : Arena → Type 0
+NodesIn A = NodesReady A.sorts.now A.nodes.now A.lengths
+
+abbrev pub ReadyIn : Arena → List ℕ → Type 0
+ReadyIn A bs = Ready A.sorts.now A.nodes.now bs A.lengths
+
+-- the places of the arena, and these bindings
+abbrev pub BindingsOf : Arena → List ℕ → Bindings → Type 0
+BindingsOf A bs B =
+    (B.places.sorts.now ≡ A.sorts.now)
+    × (B.places.nodes.now ≡ A.nodes.now)
+    × (B.places.lengths ≡ A.lengths)
+    × (B.binds.now ≡ bs)
+
+abbrev pub PlacedIn : Arena → ℕ → Type 0
+PlacedIn A p = Placed A.lengths p
+
+-- B holds the same words for the sorts and the nodes
+abbrev pub Keeps : Arena → Arena → Type 0
+Keeps A B = (B.sorts.ghost_name ≡ A.sorts.ghost_name) × (B.nodes.ghost_name ≡ A.nodes.ghost_name)
+
+-- a node that was made, or no room, with the lists as they then are
+abbrev pub node_of : Result InferSortId Full → Lent → Makes ℕ
+node_of (Ok p) W = made p.0 W
+node_of (Err e) W = no_room (no_room_in e) W
+
+-- The answer and what was left are those of the definition, and there are at most n places.
+abbrev pub Lists : ℕ → Arena → Result Three Full → Makes (List ℕ) → Type 0
+Lists n A r O = ListsAtMost n A.sorts.now A.nodes.now (some_related r A.lengths) O
+
+abbrev pub ListsSome : Arena → Result (Option Three) Full → Makes (List ℕ) → Type 0
+ListsSome A r O = ListsAtMost 3 A.sorts.now A.nodes.now (as_related r A.lengths) O
