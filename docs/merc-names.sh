@@ -18,7 +18,7 @@ for name in $names; do
     if [ "$item" = '*' ]; then
         [ -d "crates/$crate/src" ] || miss "no crate $crate"
     else
-        grep -qsE "^(pub )?(extern \"C\" )?(fn|struct|enum|const) $item\b" "crates/$crate"/src/*.rt || miss "not here: $name"
+        grep -qsE "^ *(pub )?(extern \"C\" )?(fn|struct|enum|const) $item\b" "crates/$crate"/src/*.rt || miss "not here: $name"
     fi
 done
 

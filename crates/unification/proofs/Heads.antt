@@ -1,7 +1,7 @@
 -- Heads are equal exactly if their kinds and numbers are: a head is read back from the two. Assumes nothing.
 use mathlib.Core.Path.{◌≡◌, refl, sym, ◌∙◌, ap₂}
 use mathlib.Core.Bool.{true, and-eq-true_iff}
-use mathlib.Core.List.{List, [], ◌∷◌}
+use mathlib.Core.List.{[], ◌∷◌}
 use Prim.Native.Nat.{ℕ}
 use lib.ListN.{get_or}
 use lib.Dec.{eqb}

@@ -1,7 +1,7 @@
 -- What the places of checked lists stand for, by their shapes: the shapes are those of rows that passed their checks, the fixed sorts have their kinds
 -- as numbers, and a place stands for what its end stands for. Assumes nothing.
 use mathlib.Core.Path.{◌≡◌, ap, sym, ◌∙◌}
-use mathlib.Core.Bool.{Bool, true}
+use mathlib.Core.Bool.{true}
 use mathlib.Core.List.{List, []}
 use mathlib.Core.Option.{some}
 use Prim.Native.Nat.{ℕ, suc, ◌<◌}

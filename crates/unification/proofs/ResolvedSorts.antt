@@ -11,7 +11,7 @@ use native.Mathlib.Numerals.{add-one}
 use lib.ListN.{length, get_or}
 use Rattle.resolved_sort.specs.Tree.{unit, Tree, flat, container, function, Trees, no_args, arg, arity}
 use Rattle.resolved_sort.specs.Interning.{Sorts, look, number, member, need, made, ◌then◌, intern}
-use Rattle.resolved_sort.specs.Storage.{max_entries, trees}
+use Rattle.resolved_sort.specs.Storage.{max_entries}
 use Rattle.resolved_sort.specs.Entries.{after}
 use Rattle.resolved_sort.proofs.Numbers.{look_number, number_below}
 use Rattle.resolved_sort.specs.Growing.{parts_in, members, Grown, SortsExtend, SortsKept, InTree, Whole, Wholes}

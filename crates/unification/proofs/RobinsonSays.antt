@@ -2,7 +2,7 @@
 -- the bindings of a yes have exactly the solutions; variables that they leave free stand for anything, so two of them can differ. By taking the
 -- statement apart. Assumes nothing.
 use mathlib.Core.Path.{◌≡◌, refl, sym, ◌∙◌}
-use mathlib.Core.Bool.{Bool, true, false, cond}
+use mathlib.Core.Bool.{cond}
 use mathlib.Core.Option.{none}
 use mathlib.Core.Logic.{◌↔◌, ◌≢◌}
 use Prim.Native.Nat.{ℕ}

@@ -96,13 +96,6 @@ pub enum Tried {
     No(u16),
 }
 
-// Whether a node was made: its place and the lengths then, or no room.
-#[derive(Clone, Copy, Drop)]
-pub enum Pushed {
-    At(InferSortId, Lengths),
-    Full,
-}
-
 // So many of three places: at most three count.
 #[derive(Clone, Copy, Drop)]
 pub struct Three {
