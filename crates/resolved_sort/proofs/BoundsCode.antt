@@ -3,7 +3,7 @@
 use mathlib.Core.Path.{◌≡◌, refl, sym, ◌∙◌, ap, ap₂, subst}
 use mathlib.Core.Bool.{Bool, true, false, cond, not, and-eq-true_iff}
 use mathlib.Core.List.{List, [], ◌∷◌}
-use mathlib.Core.Option.{Option, none, some}
+use mathlib.Core.Option.{none, some}
 use Prim.Native.Nat.{ℕ, ◌-◌, ◌<◌}
 use native.Mathlib.Omega.{arith}
 use lib.Dec.{eqb}
@@ -14,10 +14,6 @@ use Rattle.resolved_sort.specs.declared.ComplexSort.{ComplexSort}
 use Rattle.resolved_sort.specs.declared.Counts.{Counts}
 use Rattle.resolved_sort.specs.declared.Joined.{Joined}
 use Rattle.resolved_sort.specs.declared.Joined.TheVariants.{At, Nothing, Full}
-use Rattle.resolved_sort.specs.declared.Side.{Side}
-use Rattle.resolved_sort.specs.declared.Side.TheVariants.{Lhs, Rhs, Neither}
-use Rattle.resolved_sort.specs.declared.OpBound.{OpBound}
-use Rattle.resolved_sort.specs.declared.OpBound.TheVariants.{Is, Nothing as NoOp}
 use Rattle.resolved_sort.specs.Tree.{Flat, primitive, Tree, flat, container, function, Trees, arity, family, level, same}
 use Rattle.resolved_sort.specs.Order.{le_level, bound_flat, bound_op}
 use Rattle.resolved_sort.specs.Interning.{Sorts, look, number, member, need, Outcome, made, nothing, ◌then◌, where_some, intern, make, makes}
@@ -25,7 +21,7 @@ use Rattle.resolved_sort.specs.Storage.{max_entries, kind_op, function_kind, tre
 use Rattle.resolved_sort.specs.Entries.{counts_of, stored}
 use Rattle.resolved_sort.specs.Rows.{Checked, stored_at, intern_row}
 use Rattle.resolved_sort.specs.Bounds.{bound_at, intern_at}
-use Rattle.resolved_sort.specs.Inner.Bounds.{container_at, side_of, op_bound}
+use Rattle.resolved_sort.specs.Inner.Bounds.{container_at}
 use Rattle.resolved_sort.proofs.Same.{same_exactly}
 use Rattle.resolved_sort.proofs.Numbers.{true_not_false, same_refl, number_look, member_look, look_injective}
 use Rattle.resolved_sort.proofs.Trees.{length_trees}
@@ -95,12 +91,6 @@ make_unlike up (function ss r) (function ts u) S n (functions f) =
     when_false (same (function ss r) (function ts u)) _ _ (not_same (function ss r) (function ts u) n _ refl)
     ∙ when_false (eqb (arity ss) (arity ts)) _ _ (ne_eqb (arity ss) (arity ts) f)
 
--- the answer that a side stands for
-abbrev pub side_answer : SortId → SortId → Counts → Side → Joined
-side_answer a b C Lhs = At a C
-side_answer a b C Rhs = At b C
-side_answer a b C Neither = Nothing C
-
 -- the answers of one call
 module _ (ws : List ℕ) (C : Counts) (k : Checked ws C.sorts C.entries) where
   abbrev n : ℕ
@@ -149,24 +139,23 @@ module _ (ws : List ℕ) (C : Counts) (k : Checked ws C.sorts C.entries) where
       unfolding bound_at
       bound_unlike u = answer_none ∙ ap (stored ws n e) (sym (make_unlike up (look T a.0) (look T b.0) S differ u))
 
-      module _ (l r : Sort) (o : OfPrimitives ws n e a.0 b.0 l r) (s : Side) (es : s ≡ side_of up l r) where
+      module _ (l r : Sort) (o : OfPrimitives ws n e a.0 b.0 l r) where
         made_number : make up (look T a.0) (look T b.0) S ≡ where_some (bound_flat up (primitive l) (primitive r)) S (λ c. made (flat c) S)
         unfolding make
         made_number = ap₂ (λ x y. make up x y S) o.lhs o.rhs
 
-        by_side : (f g : Bool) → s ≡ cond f (cond g Rhs Lhs) Neither
-            → (x : Side → Joined) → x Rhs ≡ At b C → x Lhs ≡ At a C → x Neither ≡ Nothing C
-            → stored_at ws (x s) ≡ stored ws n e (where_some (cond f (some (cond g (primitive r) (primitive l))) none) S (λ c. made (flat c) S))
-        by_side true true q x er el en = ap (λ y. stored_at ws (x y)) q ∙ (ap (stored_at ws) er ∙ (answer_old b hb ∙ ap (λ t. stored ws n e (made t S)) o.rhs))
-        by_side true false q x er el en = ap (λ y. stored_at ws (x y)) q ∙ (ap (stored_at ws) el ∙ (answer_old a ha ∙ ap
-            (λ t. stored ws n e (made t S)) o.lhs))
-        by_side false g q x er el en = ap (λ y. stored_at ws (x y)) q ∙ (ap (stored_at ws) en ∙ answer_none)
+        by_farther : (f g : Bool) → stored_at ws (cond f (cond g (At b C) (At a C)) (Nothing C))
+            ≡ stored ws n e (where_some (cond f (some (cond g (primitive r) (primitive l))) none) S (λ c. made (flat c) S))
+        by_farther true true = answer_old b hb ∙ ap (λ t. stored ws n e (made t S)) o.rhs
+        by_farther true false = answer_old a ha ∙ ap (λ t. stored ws n e (made t S)) o.lhs
+        by_farther false g = answer_none
 
-        pub bound_number : stored_at ws (side_answer a b C s) ≡ bound_at up ws n e a.0 b.0
+        -- the farther of two numbers
+        pub bound_number : stored_at ws (cond (eqb (family (primitive l)) (family (primitive r)))
+            (cond (le_level up (level (primitive l)) (level (primitive r))) (At b C) (At a C)) (Nothing C)) ≡ bound_at up ws n e a.0 b.0
         unfolding bound_at bound_flat
         bound_number =
-            by_side (eqb (family (primitive l)) (family (primitive r))) (le_level up (level (primitive l))
-            (level (primitive r))) es (side_answer a b C) refl refl refl
+            by_farther (eqb (family (primitive l)) (family (primitive r))) (le_level up (level (primitive l)) (level (primitive r)))
             ∙ ap (stored ws n e) (sym made_number)
 
       module _ (o : ComplexSort) (s : SortId) (p : ComplexSort) (t : SortId) (c : OfContainers ws n e a.0 b.0 o s p t) where
@@ -178,21 +167,12 @@ module _ (ws : List ℕ) (C : Counts) (k : Checked ws C.sorts C.entries) where
             (look T t.0) S (λ q. differ (c.lhs ∙ (q ∙ sym c.rhs)))))
 
   -- two containers, by operators and parts
-  module _ (up : Bool) (o : ComplexSort) (s : SortId) (p : ComplexSort) (t : SortId) (hs : s.0 < n) (ht : t.0 < n)
-      (x : OpBound) (ex : x ≡ op_bound (bound_op up o p)) where
-    no_op : (y : Option ComplexSort) → x ≡ op_bound y → x ≡ NoOp → y ≡ none
-    no_op none q z = refl
-    no_op (some d) q z = let w : Is d ≡ NoOp = sym q ∙ z in let v : ◌≡◌ {A = ℕ} 0 1 = cc in absurd (omega arith)
-
-    is_op : (y : Option ComplexSort) (d : ComplexSort) → x ≡ op_bound y → x ≡ Is d → y ≡ some d
-    is_op none d q z = let w : NoOp ≡ Is d = sym q ∙ z in let v : ◌≡◌ {A = ℕ} 0 1 = cc in absurd (omega arith)
-    is_op (some c) d q z = let w : Is c ≡ Is d = sym q ∙ z in cc
-
-    pub container_none : x ≡ NoOp → stored_at ws (Nothing C) ≡ container_at up ws n e o s.0 p t.0
+  module _ (up : Bool) (o : ComplexSort) (s : SortId) (p : ComplexSort) (t : SortId) (hs : s.0 < n) (ht : t.0 < n) where
+    pub container_none : bound_op up o p ≡ none → stored_at ws (Nothing C) ≡ container_at up ws n e o s.0 p t.0
     unfolding container_at
-    container_none z = rw (no_op (bound_op up o p) ex z) answer_none
+    container_none z = rw z answer_none
 
-    module _ (q : ComplexSort) (xq : x ≡ Is q) (vs : List ℕ) (r : Joined) (er : stored_at vs r ≡ bound_at up ws n e s.0 t.0) where
+    module _ (q : ComplexSort) (xq : bound_op up o p ≡ some q) (vs : List ℕ) (r : Joined) (er : stored_at vs r ≡ bound_at up ws n e s.0 t.0) where
       abbrev part : Outcome Tree
       part = make up (look T s.0) (look T t.0) S
 
@@ -205,7 +185,7 @@ module _ (ws : List ℕ) (C : Counts) (k : Checked ws C.sorts C.entries) where
 
       container_is : container_at up ws n e o s.0 p t.0 ≡ stored ws n e (part then (λ v S. intern (container q v) S))
       unfolding container_at
-      container_is = rw (is_op (bound_op up o p) q ex xq)
+      container_is = rw xq
 
       pub container_stops : (K : Counts) → r ≡ Nothing K → stored_at vs (Nothing K) ≡ container_at up ws n e o s.0 p t.0
       container_stops K z =

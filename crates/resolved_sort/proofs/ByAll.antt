@@ -1,10 +1,10 @@
 -- A test of every number below n, run by `all` over a range, is the test that `all_below` defines: where every call said yes it passes at each number, and where one said no it fails there. Assumes nothing.
-use mathlib.Core.Path.{◌≡◌, refl, sym, ◌∙◌, ap}
+use mathlib.Core.Path.{◌≡◌, sym, ◌∙◌, ap}
 use mathlib.Core.Logic.{⊎_elim}
 use mathlib.Core.Bool.{Bool, true, false, and-false}
 use mathlib.Core.List.{List}
 use lib.ListN.{length, get_or}
-use Prim.Native.Nat.{ℕ, zero, suc, ◌+◌, ◌<◌, ◌≤◌, ◌-◌}
+use Prim.Native.Nat.{ℕ, zero, suc, ◌<◌}
 use native.Mathlib.Omega.{arith}
 use native.Mathlib.Nat.{eq-or-lt_of_le, le_of_suc-le-suc}
 use denote.Param.Members.{Mut}
@@ -32,9 +32,9 @@ by_cases : (n : ℕ) (p : ℕ → Bool) (r : Bool)
     → r ≡ all_below n p
 by_cases n p true h =
     sym (each_below n p (λ k l.
-      let e : k ≡ get_or (range_with_len 0 n) k 0 = omega (arith, get_or-range_with_len 0 n k 0 l) in
-      ap p e ∙ h k 0 (omega arith) (rw (length-range_with_len 0 n) l)))
-by_cases n p false (k , l , h) =
+    let e : k ≡ get_or (range_with_len 0 n) k 0 = omega (arith, get_or-range_with_len 0 n k 0 l) in
+    ap p e ∙ h k 0 (omega arith) (rw (length-range_with_len 0 n) l)))
+by_cases n p false (k, l, h) =
     let m : k < n = rw (← length-range_with_len 0 n) l in
     let e : k ≡ get_or (range_with_len 0 n) k 0 = omega (arith, get_or-range_with_len 0 n k 0 m) in
     sym (all_below_fails p n k m (ap p e ∙ h 0))
@@ -46,4 +46,4 @@ pub all_below_by_all : {F : Type 0} {g : Mut F (ℕ × Unit {0}) Bool} {s : Rang
     → r ≡ all_below n p
 all_below_by_all u f r n p is ran each =
     by_cases n p r (cases_from_all u f r (λ x. p x ≡ true) (λ x. p x ≡ false) ran (YieldsList-from_range 0 n n is (omega arith))
-      (λ x q k. let e = each x true q k in (e.0, sym e.1)) (λ x q k. sym (each x false q k).1))
+    (λ x q k. let e = each x true q k in (e.0, sym e.1)) (λ x q k. sym (each x false q k).1))

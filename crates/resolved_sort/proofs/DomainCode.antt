@@ -15,9 +15,9 @@ use Rattle.resolved_sort.specs.declared.ResolvedSort.TheVariants.{Function}
 use Rattle.resolved_sort.specs.declared.Counts.{Counts}
 use Rattle.resolved_sort.specs.declared.Joined.{Joined}
 use Rattle.resolved_sort.specs.declared.Joined.TheVariants.{At, Nothing, Full}
-use Rattle.resolved_sort.specs.declared.Found.TheVariants.{All, Nothing as NotAll, Full as NoRoom}
-use Rattle.resolved_sort.specs.declared.Domain.{Domain}
-use Rattle.resolved_sort.specs.declared.Pair.TheVariants.{Functions}
+use Rattle.resolved_sort.specs.Inner.Bounds.{All, Nothing as NotAll, Full as NoRoom}
+use Rattle.resolved_sort.specs.Inner.Bounds.{Domain}
+use Rattle.resolved_sort.specs.Inner.Pairs.{Functions}
 use Rattle.resolved_sort.specs.Tree.{Tree, function, Trees, no_args, arg, arity}
 use Rattle.resolved_sort.specs.Interning.{Sorts, look, number, member, Outcome, made, nothing, full, ◌then◌, make, makes}
 use Rattle.resolved_sort.specs.Storage.{max_entries, last_kind, function_kind, kind_at, part_at, start_at, count_at}

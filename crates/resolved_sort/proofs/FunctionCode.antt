@@ -12,8 +12,8 @@ use Rattle.resolved_sort.specs.declared.SortId.{SortId}
 use Rattle.resolved_sort.specs.declared.Counts.{Counts}
 use Rattle.resolved_sort.specs.declared.Joined.{Joined}
 use Rattle.resolved_sort.specs.declared.Joined.TheVariants.{At, Nothing, Full}
-use Rattle.resolved_sort.specs.declared.Found.TheVariants.{All, Nothing as NotAll, Full as NoRoom}
-use Rattle.resolved_sort.specs.declared.Domain.{Domain}
+use Rattle.resolved_sort.specs.Inner.Bounds.{All, Nothing as NotAll, Full as NoRoom}
+use Rattle.resolved_sort.specs.Inner.Bounds.{Domain}
 use Rattle.resolved_sort.specs.Tree.{Tree, function, Trees, no_args, arg, arity}
 use Rattle.resolved_sort.specs.Interning.{Sorts, look, member, need, Outcome, made, nothing, full, ◌then◌, intern, make, makes}
 use Rattle.resolved_sort.specs.Storage.{max_entries, part_at, start_at, count_at, trees, look_all, numbers, sorts_of}

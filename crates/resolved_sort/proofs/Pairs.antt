@@ -14,8 +14,8 @@ use Rattle.resolved_sort.specs.declared.ComplexSort.{ComplexSort}
 use Rattle.resolved_sort.specs.declared.Run.{Run}
 use Rattle.resolved_sort.specs.declared.ResolvedSort.{ResolvedSort}
 use Rattle.resolved_sort.specs.declared.ResolvedSort.TheVariants.{Unit as UnitRow, Primitive, Container, Function, Def, TypeVar}
-use Rattle.resolved_sort.specs.declared.Pair.{Pair}
-use Rattle.resolved_sort.specs.declared.Pair.TheVariants.{Primitives, Containers, Functions, Other}
+use Rattle.resolved_sort.specs.Inner.Pairs.{Pair}
+use Rattle.resolved_sort.specs.Inner.Pairs.{Primitives, Containers, Functions, Other}
 use Rattle.resolved_sort.specs.Tree.{Flat, unit, primitive, def, typevar, Tree, flat, container, function, Trees, arity, family}
 use Rattle.resolved_sort.specs.Interning.{look}
 use Rattle.resolved_sort.specs.Storage.{last_kind, function_kind, kind_at, part_at, start_at, count_at, entries_of, resolved, row_at, look_all, tree_of, trees}

@@ -12,12 +12,12 @@ use Rattle.resolved_sort.specs.declared.ComplexSort.{ComplexSort}
 use Rattle.resolved_sort.specs.declared.Run.{Run}
 use Rattle.resolved_sort.specs.declared.ResolvedSort.{ResolvedSort}
 use Rattle.resolved_sort.specs.declared.ResolvedSort.TheVariants.{Unit, Primitive, Container, Function, Def, TypeVar}
-use Rattle.resolved_sort.specs.declared.Pair.{Pair}
-use Rattle.resolved_sort.specs.declared.Pair.TheVariants.{Primitives, Containers, Functions, Other}
+use Rattle.resolved_sort.specs.Inner.Pairs.{Pair}
+use Rattle.resolved_sort.specs.Inner.Pairs.{Primitives, Containers, Functions, Other}
 use Rattle.resolved_sort.specs.Interning.{look}
 use Rattle.resolved_sort.specs.Storage.{row_at, trees}
 use Rattle.resolved_sort.specs.Rows.{Checked}
-use Rattle.resolved_sort.specs.Inner.Pairs.{with_primitive, with_container, with_function, pair_of, pair_at}
+use Rattle.resolved_sort.specs.Inner.Pairs.{with_primitive, with_container, with_function, pair_of}
 use Rattle.resolved_sort.proofs.Pairs.{Unlike, OfPrimitives, OfContainers, OfFunctions, SortsSay, pair_of_sorts}
 
 -- what a test of two numbers says

@@ -7,8 +7,8 @@ use native.Mathlib.Omega.{arith}
 use Rattle.resolved_sort.specs.declared.SortId.{SortId}
 use Rattle.resolved_sort.specs.declared.Sort.{Sort}
 use Rattle.resolved_sort.specs.declared.ComplexSort.{ComplexSort}
-use Rattle.resolved_sort.specs.declared.Pair.{Pair}
-use Rattle.resolved_sort.specs.declared.Pair.TheVariants.{Primitives, Containers, Functions, Other}
+use Rattle.resolved_sort.specs.Inner.Pairs.{Pair}
+use Rattle.resolved_sort.specs.Inner.Pairs.{Primitives, Containers, Functions, Other}
 use Rattle.resolved_sort.specs.Interning.{look}
 use Rattle.resolved_sort.specs.Storage.{entry_at, entries_of, trees}
 use Rattle.resolved_sort.specs.Rows.{Checked}

@@ -173,57 +173,6 @@ pub enum Materialized {
     Answer(bool),
 }
 
-// Two rows side by side, as the Rust's `match (self.get(lhs), self.get(rhs))` takes them apart. Functions: with as many
-// arguments on both sides, where the domains start and what the ranges are.
-#[derive(Clone, Copy, Drop)]
-pub enum Pair {
-    Primitives(Sort, Sort),
-    Containers {
-        lhs_op: ComplexSort,
-        lhs_sub: SortId,
-        rhs_op: ComplexSort,
-        rhs_sub: SortId,
-    },
-    Functions {
-        count: u16,
-        lhs_start: u16,
-        lhs_range: SortId,
-        rhs_start: u16,
-        rhs_range: SortId,
-    },
-    Other,
-}
-
-// Which of two number sorts is farther in a direction; neither where one is no number.
-#[derive(Clone, Copy, Drop)]
-pub enum Side {
-    Lhs,
-    Rhs,
-    Neither,
-}
-
-// The container constructor of a join or meet: Option<ComplexSort> in the Rust.
-#[derive(Clone, Copy, Drop)]
-pub enum OpBound {
-    Is(ComplexSort),
-    Nothing,
-}
-
-// How the joins or meets of two domains ended.
-#[derive(Clone, Copy, Drop)]
-pub enum Found {
-    All(Counts),
-    Nothing(Counts),
-    Full,
-}
-
-// The joins or meets of two domains, where there are all of them.
-#[derive(Clone, Copy, Drop)]
-pub struct Domain {
-    pub ids: [SortId; ARGUMENT_WORDS],
-    pub found: Found,
-}
-
 // What the checks of a call found: the code of the first that fails, or none.
 #[derive(Clone, Copy, Drop)]
 pub enum Tested {

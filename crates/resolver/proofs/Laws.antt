@@ -13,8 +13,8 @@ use Rattle.resolved_sort.specs.declared.Run.{Run}
 use Rattle.resolved_sort.specs.declared.Counts.{Counts}
 use Rattle.resolved_sort.specs.declared.Joined.{Joined}
 use Rattle.resolved_sort.specs.declared.Joined.TheVariants.{At, Nothing, Full}
-use Rattle.resolved_sort.specs.declared.Found.TheVariants.{All, Nothing as NotAll, Full as NoRoom}
-use Rattle.resolved_sort.specs.declared.Domain.{Domain}
+use Rattle.resolved_sort.specs.Inner.Bounds.{All, Nothing as NotAll, Full as NoRoom}
+use Rattle.resolved_sort.specs.Inner.Bounds.{Domain}
 use Rattle.resolved_sort.specs.Tree.{Tree, container, function}
 use Rattle.resolved_sort.specs.Interning.{Sorts, look}
 use Rattle.resolved_sort.specs.Storage.{max_sorts, trees, sorts_of, look_all}

@@ -22,23 +22,18 @@ use Rattle.resolved_sort.specs.declared.ResolvedSort.{ResolvedSort}
 use Rattle.resolved_sort.specs.declared.ResolvedSort.TheVariants.{Function}
 use Rattle.resolved_sort.specs.declared.Joined.{Joined}
 use Rattle.resolved_sort.specs.declared.Joined.TheVariants.{At, Nothing, Full}
-use Rattle.resolved_sort.specs.declared.Side.TheVariants.{Lhs, Rhs, Neither}
-use Rattle.resolved_sort.specs.declared.OpBound.{OpBound}
-use Rattle.resolved_sort.specs.declared.OpBound.TheVariants.{Is, Nothing as NoOp}
-use Rattle.resolved_sort.specs.declared.Pair.TheVariants.{Functions}
-use Rattle.resolved_sort.specs.declared.Found.TheVariants.{All, Nothing as NotAll, Full as NoneFits}
-use Rattle.resolved_sort.specs.declared.Domain.{Domain}
 use Rattle.resolved_sort.specs.Tree.{primitive, container, function as functionSort, family, level, family_op, level_op}
 use Rattle.resolved_sort.specs.Order.{le_level, bound_op}
 use Rattle.resolved_sort.specs.Interning.{look}
 use Rattle.resolved_sort.specs.Storage.{trees, look_all, row_at, count_at, start_at, part_at, entry_at}
 use Rattle.resolved_sort.specs.Rows.{Checked, AllBelow, stored_at, left_at, interned_at}
-use Rattle.resolved_sort.specs.Inner.Pairs.{pair_of, with_function, pair_at}
+use Rattle.resolved_sort.specs.Inner.Pairs.{Functions, pair_of, with_function, pair_at}
 use Rattle.resolved_sort.specs.Bounds.{Asked, bound_at, intern_at}
-use Rattle.resolved_sort.specs.Inner.Bounds.{container_at, op_bound, side_of, TwoFunctions, domain_left, stored_domain, bound_domain}
+use Rattle.resolved_sort.specs.Inner.Bounds.{container_at, TwoFunctions, All, Nothing as NotAll, Full as NoneFits, Domain, domain_left, stored_domain, bound_domain}
 use Rattle.resolved_sort.specs.Inner.Storage.{sort_numbers}
 use Rattle.resolved_sort.proofs.SortNumbers.{set_sort_numbers, zeros_sort_numbers, take_sort_numbers}
 use Rattle.resolved_sort.proofs.Pairs.{Unlike, OfPrimitives, OfContainers}
+use Rattle.resolved_sort.proofs.Reached.{no_confusion}
 use Rattle.resolved_sort.proofs.BoundsCode as law
 use Rattle.resolved_sort.proofs.DomainCode as domain
 use Rattle.resolved_sort.proofs.FunctionCode as functions
@@ -73,18 +68,21 @@ full_of ws K r z = ap (interned_at ws K) (sym z)
 pub made_of : (ws : List ℕ) (K : Counts) (r : Result SortId NoRoom) {i : SortId} → r ≡ Ok i → stored_at ws (At i K) ≡ interned_at ws K r
 made_of ws K r z = ap (interned_at ws K) (sym z)
 
-abbrev as_op : Option ComplexSort → OpBound
-as_op None = NoOp
-as_op (Some o) = Is o
+-- the operator of a join or meet, by what the code picks
+as_picked : (f g : Bool) (o p : ComplexSort) {x : Option ComplexSort} → x ≡ cond f (Some (cond g p o)) None
+    → (x ≡ None → cond f (some (cond g p o)) none ≡ none) × ((y : ComplexSort) → x ≡ Some y → cond f (some (cond g p o)) none ≡ some y)
+as_picked false g o p e = (λ z. refl, λ y z. let w : None ≡ Some y = sym e ∙ z in no_confusion (cc))
+as_picked true g o p e =
+    (λ z. let w : Some (cond g p o) ≡ None = sym e ∙ z in no_confusion (cc), λ y z. let w : Some (cond g p o) ≡ Some y = sym e ∙ z in ap some (cc))
 
-op_is : (up : Bool) (o p : ComplexSort) → as_op (farther family_op level_op up o p o p) ≡ op_bound (bound_op up o p)
-unfolding farther bound_op
-op_is up o p = go (eqb (family_op o) (family_op p)) (le_level up (level_op o) (level_op p))
-  where
-    go : (f g : Bool) → as_op (cond f (Some (cond g p o)) None) ≡ op_bound (cond f (some (cond g p o)) none)
-    go true true = refl
-    go true false = refl
-    go false g = refl
+module _ (up : Bool) (o p : ComplexSort) {x : Option ComplexSort} (e : x ≡ farther family_op level_op up o p o p) where
+  none_picked : x ≡ None → bound_op up o p ≡ none
+  unfolding farther bound_op
+  none_picked z = (as_picked (eqb (family_op o) (family_op p)) (le_level up (level_op o) (level_op p)) o p e).0 z
+
+  op_picked : (y : ComplexSort) → x ≡ Some y → bound_op up o p ≡ some y
+  unfolding farther bound_op
+  op_picked y z = (as_picked (eqb (family_op o) (family_op p)) (le_level up (level_op o) (level_op p)) o p e).1 y z
 
 run_is : (d c : Run) (r u : SortId) → Function d r ≡ Function c u → d ≡ c
 run_is d c r u e = cc
@@ -110,7 +108,7 @@ module _ (ws : List ℕ) (C : Counts) (up : Bool) (a b : SortId) (q : Asked ws C
     pub other : Unlike (look (trees ws C.sorts) a.0) (look (trees ws C.sorts) b.0) → stored_at ws (Nothing C) ≡ bound_at up ws C.sorts C.entries a.0 b.0
     other u = law.bound_unlike ws C q.checked up a b q.lhs q.rhs d u
 
-    by_side : (f g : Bool) → left_at ws C (Ok (cond f (Some (cond g b a)) None)) ≡ stored_at ws (law.side_answer a b C (cond f (cond g Rhs Lhs) Neither))
+    by_side : (f g : Bool) → left_at ws C (Ok (cond f (Some (cond g b a)) None)) ≡ stored_at ws (cond f (cond g (At b C) (At a C)) (Nothing C))
     by_side true true = refl
     by_side true false = refl
     by_side false g = refl
@@ -121,7 +119,7 @@ module _ (ws : List ℕ) (C : Counts) (up : Bool) (a b : SortId) (q : Asked ws C
     number {l} {r} o x e =
         ap (λ y. left_at ws C (Ok y)) e
         ∙ (by_side (eqb (family (primitive l)) (family (primitive r))) (le_level up (level (primitive l)) (level (primitive r)))
-        ∙ law.bound_number ws C q.checked up a b q.lhs q.rhs d l r o (side_of up l r) refl)
+        ∙ law.bound_number ws C q.checked up a b q.lhs q.rhs d l r o)
 
     module _ {o p : ComplexSort} {s t : SortId} (h : OfContainers ws C.sorts C.entries a.0 b.0 o s p t) where
       -- the parts are numbers of the list, below the containers
@@ -135,12 +133,9 @@ module _ (ws : List ℕ) (C : Counts) (up : Bool) (a b : SortId) (q : Asked ws C
       whole = law.bound_container ws C q.checked up a b q.lhs q.rhs d o s p t h
 
       module _ (x : Option ComplexSort) (e : x ≡ farther family_op level_op up o p o p) where
-        op : as_op x ≡ op_bound (bound_op up o p)
-        op = ap as_op e ∙ op_is up o p
-
         pub no_operator : x ≡ None → stored_at ws (Nothing C) ≡ bound_at up ws C.sorts C.entries a.0 b.0
         no_operator f =
-            law.container_none ws C q.checked up o s p t parts_asked.1.lhs parts_asked.1.rhs (as_op x) op (ap as_op f) ∙ whole
+            law.container_none ws C q.checked up o s p t parts_asked.1.lhs parts_asked.1.rhs (none_picked up o p e f) ∙ whole
 
         module _ (y : ComplexSort) (f : x ≡ Some y) (vs : List ℕ) (K : Counts) (r : Result (Option SortId) NoRoom)
             (left : left_at vs K r ≡ bound_at up ws C.sorts C.entries s.0 t.0) where
@@ -149,20 +144,20 @@ module _ (ws : List ℕ) (C : Counts) (up : Bool) (a b : SortId) (q : Asked ws C
 
           pub part_stops : r ≡ Ok None → stored_at vs (Nothing K) ≡ bound_at up ws C.sorts C.entries a.0 b.0
           part_stops z =
-              law.container_stops ws C q.checked up o s p t parts_asked.1.lhs parts_asked.1.rhs (as_op x) op y (ap as_op f)
+              law.container_stops ws C q.checked up o s p t parts_asked.1.lhs parts_asked.1.rhs y (op_picked up o p e y f)
               vs (joined K r) by_part K (ap (joined K) z) ∙ whole
 
           pub part_ends : {w : NoRoom} → r ≡ Err w → stored_at vs Full ≡ bound_at up ws C.sorts C.entries a.0 b.0
           part_ends z =
-              law.container_ends ws C q.checked up o s p t parts_asked.1.lhs parts_asked.1.rhs (as_op x) op y (ap as_op f)
+              law.container_ends ws C q.checked up o s p t parts_asked.1.lhs parts_asked.1.rhs y (op_picked up o p e y f)
               vs (joined K r) by_part (ap (joined K) z) ∙ whole
 
           module _ (c : SortId) (z : r ≡ Ok (Some c)) where
             pub generic_asked : Checked vs K.sorts K.entries × (c.0 < K.sorts)
             generic_asked = (
-              law.container_checked ws C q.checked up o s p t parts_asked.1.lhs parts_asked.1.rhs (as_op x) op y (ap as_op f)
+              law.container_checked ws C q.checked up o s p t parts_asked.1.lhs parts_asked.1.rhs y (op_picked up o p e y f)
                   vs (joined K r) by_part c K (ap (joined K) z),
-              law.container_below ws C q.checked up o s p t parts_asked.1.lhs parts_asked.1.rhs (as_op x) op y (ap as_op f)
+              law.container_below ws C q.checked up o s p t parts_asked.1.lhs parts_asked.1.rhs y (op_picked up o p e y f)
                   vs (joined K r) by_part c K (ap (joined K) z),
             )
 
@@ -171,7 +166,7 @@ module _ (ws : List ℕ) (C : Counts) (up : Bool) (a b : SortId) (q : Asked ws C
                 → interned_at us L w ≡ bound_at up ws C.sorts C.entries a.0 b.0
             container_made us L w i =
                 sym (interned_is us L w)
-                ∙ (law.container_made ws C q.checked up o s p t parts_asked.1.lhs parts_asked.1.rhs (as_op x) op y (ap as_op f)
+                ∙ (law.container_made ws C q.checked up o s p t parts_asked.1.lhs parts_asked.1.rhs y (op_picked up o p e y f)
                 vs (joined K r) by_part c K (ap (joined K) z) us (interned L w) (interned_is us L w ∙ i) ∙ whole)
 
     -- two functions with as many arguments

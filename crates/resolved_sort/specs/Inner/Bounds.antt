@@ -1,18 +1,11 @@
 -- What only contracts of inner functions cite, beside `specs/Bounds.antt`.
-use Rattle.std.specs.Prelude.{Bool, cond, not, List, ◌≡◌, ℕ, ◌+◌, ◌-◌, replicate, eqb}
-use Rattle.std.proofs.Math.Option.{Option, none, some}
+use Rattle.std.specs.Prelude.{Bool, not, List, ◌≡◌, ℕ, ◌+◌, ◌-◌, replicate}
 use Rattle.std.proofs.lemmas.List.Edits.{sets}
-use Rattle.resolved_sort.specs.declared.Sort.{Sort}
+use Rattle.resolved_sort.specs.declared.SortId.{SortId}
+use Rattle.resolved_sort.specs.declared.Counts.{Counts}
 use Rattle.resolved_sort.specs.declared.ComplexSort.{ComplexSort}
-use Rattle.resolved_sort.specs.declared.Side.{Side}
-use Rattle.resolved_sort.specs.declared.Side.TheVariants.{Lhs, Rhs, Neither}
-use Rattle.resolved_sort.specs.declared.OpBound.{OpBound}
-use Rattle.resolved_sort.specs.declared.OpBound.TheVariants.{Is, Nothing as NoOp}
-use Rattle.resolved_sort.specs.declared.Found.{Found}
-use Rattle.resolved_sort.specs.declared.Found.TheVariants.{All, Nothing, Full}
-use Rattle.resolved_sort.specs.declared.Domain.{Domain}
-use Rattle.resolved_sort.specs.Tree.{primitive, container, function, Trees, family, level}
-use Rattle.resolved_sort.specs.Order.{le_level, bound_op}
+use Rattle.resolved_sort.specs.Tree.{container, function, Trees}
+use Rattle.resolved_sort.specs.Order.{bound_op}
 use Rattle.resolved_sort.specs.Interning.{look, Outcome, made, nothing, full, ◌then◌, where_some, intern}
 use Rattle.resolved_sort.specs.Interning.{make, makes}
 use Rattle.resolved_sort.specs.Storage.{max_arguments, function_kind, kind_at, part_at, start_at, count_at}
@@ -29,21 +22,23 @@ container_at up ws n e o s p t =
     (λ q. make up (look (trees ws n) s) (look (trees ws n) t) (sorts_of ws n e)
     then (λ v S. intern (container q v) S)))
 
-abbrev pub side_of : Bool → Sort → Sort → Side
-side_of up l r =
-    cond (eqb (family (primitive l)) (family (primitive r)))
-    (cond (le_level up (level (primitive l)) (level (primitive r))) Rhs Lhs) Neither
-
-abbrev pub op_bound : Option ComplexSort → OpBound
-op_bound none = NoOp
-op_bound (some o) = Is o
-
 -- a and b are functions of a checked list with as many arguments
 pub record TwoFunctions (ws : List ℕ) (n e a b : ℕ) : Type 0 where
   pub asked : Asked ws n e a b
   pub lhs_function : kind_at ws a ≡ function_kind
   pub rhs_function : kind_at ws b ≡ function_kind
   pub as_many : count_at ws a ≡ count_at ws b
+
+-- How the joins or meets of two domains ended: all with these counts, one missing, or no room.
+pub data Found : Type 0 where
+  All : Counts → Found
+  Nothing : Counts → Found
+  Full : Found
+
+-- The joins or meets of two domains, where there are all of them.
+pub record Domain : Type 0 where
+  pub ids : List SortId
+  pub found : Found
 
 pub record StoredDomain : Type 0 where
   pub words : List ℕ

@@ -7,9 +7,14 @@ use Rattle.resolved_sort.specs.declared.Run.{Run}
 use Rattle.resolved_sort.specs.declared.ResolvedSort.{ResolvedSort}
 use Rattle.resolved_sort.specs.declared.ResolvedSort.TheVariants.{Unit, Primitive, Container, Function, Def}
 use Rattle.resolved_sort.specs.declared.ResolvedSort.TheVariants.{TypeVar}
-use Rattle.resolved_sort.specs.declared.Pair.{Pair}
-use Rattle.resolved_sort.specs.declared.Pair.TheVariants.{Primitives, Containers, Functions, Other}
 use Rattle.resolved_sort.specs.Storage.{row_at}
+
+-- Of two functions with as many arguments: how many, where the domains start, and what the ranges are.
+pub data Pair : Type 0 where
+  Primitives : Sort → Sort → Pair
+  Containers : ComplexSort → SortId → ComplexSort → SortId → Pair
+  Functions : ℕ → ℕ → SortId → ℕ → SortId → Pair
+  Other : Pair
 
 unfoldable pub with_primitive : Sort → ResolvedSort → Pair
 with_primitive l Unit = Other
