@@ -301,18 +301,10 @@ const NOTHING: Plan = Plan {
 fn row_plan(table: Table, row: [u16; 5]) -> Plan
     ensures { result ≡ row_plan table row }
 {
-    Plan {
-        rows: Some(Rows {
-            table,
-            times: 1,
-            rising: false,
-            row,
-        }),
-        ..NOTHING
-    }
+    rows_plan(table, 1, false, row)
 }
 
-// So many rows of a table, all the same.
+// So many rows of a table, whose second word rises or not.
 fn rows_plan(table: Table, times: u16, rising: bool, row: [u16; 5]) -> Plan
     ensures { result ≡ rows_plan table times rising row }
 {

@@ -253,6 +253,8 @@ pub const LIST_SCRATCH_AT: usize = LIST_CHOICES_AT + LIST_CHOICE_WORDS;
 // Behind the slices: the rows given of each list; the default sort; the count that a `count` line tells of each list,
 // and whether one told it; the length that a `lend` line tells of each slice, and whether one told it; how far the list
 // is read; and the kind of the last constraint line. A few words more are free.
+// kept: a word beside each count and length says whether a line told it, and no Option, since they are words of the one
+// array.
 pub const ROWS_AT: usize = LIST_SCRATCH_AT + SCRATCH_WORDS;
 
 pub const DEFAULT_AT: usize = ROWS_AT + 10;
