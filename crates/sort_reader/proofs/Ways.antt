@@ -8,7 +8,7 @@ use native.Mathlib.Omega.{arith}
 use native.Mathlib.Numerals.{add-one}
 use native.Mathlib.Decide.{ℕ_discrete}
 use lib.ListN.{length, get_or, drop, take, set, drop_of_length-le, length-take, length-drop}
-use lib.Seq.{drop-cons, take-suc, take-suc-set, get_or-set_same, get_or-set_other, get_or-drop, get_or-take}
+use lib.Seq.{drop-cons, length-take-le, take_at, take-suc, take-suc-set, get_or-set_same, get_or-set_other, get_or-drop, get_or-take}
 use lib.Dec.{ltb}
 use borrow.Author.Tests.{lt-ltb, le-ltb}
 use Rattle.resolved_sort.specs.declared.SortId.{SortId}
@@ -424,6 +424,15 @@ pub copied_numbers : (out ids : List SortId) (base k : ℕ) → take k out ≡ t
     → take k (sort_numbers out) ≡ take k (drop base (sort_numbers ids))
 copied_numbers out ids base k e =
     sym (take_sort_numbers k out) ∙ (ap sort_numbers e ∙ (take_sort_numbers k (drop base ids) ∙ ap (take k) (drop_sort_numbers base ids)))
+
+-- a part of the numbers copied to the front of others
+pub copied_part : (ids new ys : List SortId) (from k : ℕ) → from + k ≤ length ids → new ≡ take (from + k - from) (drop from ids)
+    → take k (new ++ ys) ≡ take k (drop from ids)
+copied_part ids new ys from k h f =
+    let z : from + k - from ≡ k = omega arith in
+    let is : new ≡ take k (drop from ids) = f ∙ ap (λ m. take m (drop from ids)) z in
+    let long : k ≡ length new = sym (ap length is ∙ length-take-le k (drop from ids) (omega (arith, length-drop from ids, h))) in
+    take_at new ys k (sym long) ∙ is
 
 -- what going on asks and answers, by what was made
 pub going_at : (vs ops : List ℕ) (i : ℕ) (ids : List SortId) (base : ℕ) (j : Joined) → GoesOn vs ops i ids base j → (c : SortId) (K : Counts) → j ≡ At c K

@@ -40,11 +40,8 @@ fn arguments(ids: [SortId; MAX_STACK], base: usize, k: u16) -> [SortId; ARGUMENT
     ensures { take k (sort_numbers result) ≡ take k (drop base (sort_numbers ids)) }
 {
     let mut out = [SortId(0); ARGUMENT_WORDS];
-    let mut j: u16 = 0;
-    while j < k {
-        out[j as usize] = ids[base + (j as usize)];
-        j += 1;
-    }
+    let count = k as usize;
+    out[..count].copy_from_slice(&ids[base..base + count]);
     out
 }
 
@@ -52,10 +49,7 @@ fn arguments(ids: [SortId; MAX_STACK], base: usize, k: u16) -> [SortId; ARGUMENT
 fn argument_count(step: u8) -> u16
     ensures { result ≡ arguments_of step }
 {
-    if step < FUNCTION_STEP {
-        return 0;
-    }
-    (step - FUNCTION_STEP) as u16
+    u16::from(step.saturating_sub(FUNCTION_STEP))
 }
 
 // Carries out the steps from the i-th on, and answers the sort that is then on top of the stack.
@@ -176,11 +170,7 @@ fn kept_or_no_room(sorts: &mut [u16], sort_count: usize, entry_count: usize, sto
 {
     match stored {
         Joined::At(id, counts) => Read::Sort(id, counts),
-        Joined::Nothing(_) => {
-            give_back(sorts, sort_count, entry_count);
-            Read::NoRoom
-        }
-        Joined::Full => {
+        Joined::Nothing(_) | Joined::Full => {
             give_back(sorts, sort_count, entry_count);
             Read::NoRoom
         }

@@ -53,6 +53,13 @@ module _ (a b : ℕ) (ha : a ≡ 0 → ⊥) (hb : b ≡ 0 → ⊥) where
   pub joined_whole : a + b ≤ most_size → a + b ≡ joined a b
   joined_whole h = sym (joined_both ∙ capped_short (a + b) h)
 
+pub joined_as : (a b r : ℕ) → (a ≡ 0 → ⊥) → (b ≡ 0 → ⊥) → (a + b ≤ most_size → r ≡ a + b) → (most_size < a + b → r ≡ most_size) → r ≡ joined a b
+joined_as a b r ha hb whole far = go (dec_le (a + b) most_size)
+  where
+    go : Dec (a + b ≤ most_size) → r ≡ joined a b
+    go (yes l) = whole l ∙ joined_whole a b ha hb l
+    go (no l) = far (omega arith) ∙ joined_far a b ha hb (omega arith)
+
 -- the sizes of two texts
 joined_capped : (a b : ℕ) → 0 < a → 0 < b → joined (capped a) (capped b) ≡ capped (a + b)
 joined_capped a b ha hb = joined_both (capped a) (capped b) (capped_some a ha) (capped_some b hb) ∙ go (dec_le a most_size) (dec_le b most_size)

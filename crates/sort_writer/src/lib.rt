@@ -22,64 +22,26 @@ use resolved_sort::{
 };
 use sort_checks::test_sorts;
 use sort_interner::get;
-use sort_text::Written;
+use sort_text::{Written, op_word, sort_word};
 use text_out::put_bytes;
 use words::{BIT_63, word};
 
 // The size of two texts one after the other. It stops at 2^63, and where one has no text there is none.
-#[tactic(auto, using(crate::proofs::Sizes::joined_none, crate::proofs::Sizes::joined_with_none, crate::proofs::Sizes::joined_far, crate::proofs::Sizes::joined_whole))]
+#[tactic(auto, using(crate::proofs::Sizes::joined_none, crate::proofs::Sizes::joined_with_none, crate::proofs::Sizes::joined_as))]
 fn join_sizes(a: usize, b: usize) -> usize
     ensures { result ≡ joined a b }
 {
-    if a == 0 {
+    if a == 0 || b == 0 {
         return 0;
     }
-    if b == 0 {
-        return 0;
-    }
-    if MOST_SIZE < a {
-        return MOST_SIZE;
-    }
-    if MOST_SIZE - a < b {
-        return MOST_SIZE;
-    }
-    a + b
+    a.saturating_add(b).min(MOST_SIZE)
 }
 
 // The size found for a sort. A number past the sizes has none.
 pub fn size_at(sizes: &[usize], id: SortId) -> usize
     ensures { result ≡ get_or sizes.now id.0 0 }
 {
-    let i = id.0 as usize;
-    if i < sizes.len() { sizes[i] } else { 0 }
-}
-
-// How long the word of a basic sort is.
-#[tactic(auto, unfolding(sort_text::specs::Parse::sort_word))]
-fn word_size(sort: Sort) -> usize
-    ensures { result ≡ length (sort_word sort) }
-{
-    match sort {
-        Sort::Bool => 4,
-        Sort::Pos => 3,
-        Sort::Nat => 3,
-        Sort::Int => 3,
-        Sort::Real => 4,
-    }
-}
-
-// How long the word of a container is, with the two brackets.
-#[tactic(auto, unfolding(sort_text::specs::Parse::op_word))]
-fn op_size(op: ComplexSort) -> usize
-    ensures { result ≡ length (op_word op) + 2 }
-{
-    match op {
-        ComplexSort::List => 6,
-        ComplexSort::Set => 5,
-        ComplexSort::FSet => 6,
-        ComplexSort::Bag => 5,
-        ComplexSort::FBag => 6,
-    }
+    sizes.get(id.0 as usize).copied().unwrap_or(0)
 }
 
 // The size of the j-th argument of a run.
@@ -97,13 +59,11 @@ fn argument_size(sorts: &[u16], sizes: &[usize], start: u16, j: u16) -> usize
 fn arguments_size(sorts: &[u16], sizes: &[usize], start: u16, count: u16) -> usize
     ensures { result ≡ run_size sizes.now (entries_of sorts.now start count) }
 {
-    if count == 0 {
+    let Some(last) = count.checked_sub(1) else {
         return 0;
-    }
-    let mut j = count - 1;
-    let mut size = argument_size(sorts, sizes, start, j);
-    while 0 < j {
-        j -= 1;
+    };
+    let mut size = argument_size(sorts, sizes, start, last);
+    for j in (0..last).rev() {
         let first = argument_size(sorts, sizes, start, j);
         size = join_sizes(first, join_sizes(3, size));
     }
@@ -117,8 +77,10 @@ fn row_size(sorts: &[u16], sizes: &[usize], row: ResolvedSort) -> usize
 {
     match row {
         ResolvedSort::Unit => 0,
-        ResolvedSort::Primitive(sort) => word_size(sort),
-        ResolvedSort::Container { op, subsort } => join_sizes(op_size(op), size_at(sizes, subsort)),
+        ResolvedSort::Primitive(sort) => sort_word(sort).len(),
+        ResolvedSort::Container { op, subsort } => {
+            join_sizes(op_word(op).len() + 2, size_at(sizes, subsort))
+        }
         ResolvedSort::Function { domain, range } => {
             let arguments = arguments_size(sorts, sizes, domain.start, domain.count);
             join_sizes(arguments, join_sizes(4, size_at(sizes, range)))
@@ -133,12 +95,9 @@ pub fn fill_sizes(sorts: &[u16], n: usize, sizes: &mut [usize])
     requires { (n ≤ max_sorts) × (n ≤ length sizes.old) }
     ensures { sizes.new ≡ sizes_to sorts.now sizes.old n }
 {
-    let mut i: usize = 0;
-    while i < n {
+    for i in 0..n {
         let row = get(sorts, SortId(i as u16));
-        let size = row_size(sorts, sizes, row);
-        sizes[i] = size;
-        i += 1;
+        sizes[i] = row_size(sorts, sizes, row);
     }
 }
 
@@ -153,33 +112,20 @@ fn text_size(sorts: &[u16], n: usize, id: SortId) -> usize
 }
 
 // The word of a basic sort.
-#[tactic(auto, unfolding(sort_text::specs::Parse::sort_word))]
 fn put_word(sort: Sort, out: &mut [u8], at: usize) -> usize
     requires { at + length (sort_word sort) ≤ length out.old }
     ensures { Put out.old at (sort_word sort) out.new result }
 {
-    match sort {
-        Sort::Bool => put_bytes(b"Bool", out, at),
-        Sort::Pos => put_bytes(b"Pos", out, at),
-        Sort::Nat => put_bytes(b"Nat", out, at),
-        Sort::Int => put_bytes(b"Int", out, at),
-        Sort::Real => put_bytes(b"Real", out, at),
-    }
+    put_bytes(sort_word(sort), out, at)
 }
 
 // The word of a container and the bracket after it.
-#[tactic(auto, unfolding(sort_text::specs::Parse::op_word))]
 fn put_op(op: ComplexSort, out: &mut [u8], at: usize) -> usize
     requires { at + length (op_word op ++ bytes_of "(") ≤ length out.old }
     ensures { Put out.old at (op_word op ++ bytes_of "(") out.new result }
 {
-    match op {
-        ComplexSort::List => put_bytes(b"List(", out, at),
-        ComplexSort::Set => put_bytes(b"Set(", out, at),
-        ComplexSort::FSet => put_bytes(b"FSet(", out, at),
-        ComplexSort::Bag => put_bytes(b"Bag(", out, at),
-        ComplexSort::FBag => put_bytes(b"FBag(", out, at),
-    }
+    let bracket = put_bytes(op_word(op), out, at);
+    put_bytes(b"(", out, bracket)
 }
 
 // The text of a sort of a checked list that has room from a place on; the place behind it.

@@ -1,10 +1,9 @@
 -- The numbers copied are the numbers of what was copied. Assumes nothing.
-use Rattle.std.proofs.Common.{arith, ◌≡◌, take, drop, subst}
+use Rattle.std.proofs.Common.{rules}
 use Rattle.sort_reader.proofs.Ways as law
 use Rattle.sort_reader.proofs.arguments.Goals as goal
 
 pub returns : goal.returns
 returns c =
-    let e : c.loop-j.j ≡ c.args.k = omega arith in
-    law.copied_numbers c.loop-j.out c.args.ids c.args.base c.args.k
-    (subst (λ m. take m c.loop-j.out ≡ take m (drop c.args.base c.args.ids)) e c.loop-j.invariant.2)
+    law.copied_numbers _ c.args.ids c.args.base c.args.k
+    (law.copied_part c.args.ids c.copy_from_slice.new.self _ c.args.base c.args.k (search rules) c.copy_from_slice.ensures.after)

@@ -3,13 +3,13 @@ use Rattle.std.proofs.Common.{arith, ◌-◌}
 use Rattle.sort_writer.proofs.Fills as law
 use Rattle.sort_writer.proofs.arguments_size.Goals as goal
 
-pub returns-then-count-eq0 : goal.returns-then-count-eq0
-returns-then-count-eq0 c = law.no_arguments c.args.sizes.now c.args.sorts.now c.args.start c.args.count c.if-count-eq0.true
+pub returns-in_default : goal.returns-in_default
+returns-in_default c = law.no_arguments c.args.sizes.now c.args.sorts.now c.args.start c.args.count (omega (arith, c.in_default.ensures))
 
 pub loop-j-init : goal.loop-j-init
 loop-j-init c = (
-  omega arith,
-  law.last_argument c.args.sizes.now c.args.sorts.now c.args.start c.args.count (c.args.count - 1) _ (omega arith) c.argument_size-size.ensures,
+  omega (arith, c.in-Some.ensures),
+  law.last_argument c.args.sizes.now c.args.sorts.now c.args.start c.args.count c.in-Some.last _ (omega (arith, c.in-Some.ensures)) c.argument_size-size.ensures,
 )
 
 pub loop-j-preserved : goal.loop-j-preserved

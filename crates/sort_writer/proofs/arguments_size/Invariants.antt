@@ -7,6 +7,3 @@ use Rattle.sort_writer.proofs.arguments_size.Given as goal
 abbrev pub invariant-loop-j : goal.invariant-loop-j
 invariant-loop-j l =
     (l.j < l.count) × (l.size ≡ run_size l.sizes (entries_of l.sorts (l.start + l.j) (l.count - l.j)))
-
-abbrev pub decreases-loop-j : goal.decreases-loop-j
-decreases-loop-j l = l.j
