@@ -15,21 +15,21 @@ use held_line::hold;
 use pair_line::{LINE_ROOM, put_pair, put_single};
 
 // How many bytes are held: of the first line of a pair; or of the first line and, behind it, of the second.
-#[derive(Clone, Copy, Drop)]
+#[derive(Clone, Copy, Debug, PartialEq, Eq)]
 pub enum Held {
     First(usize),
     Second(usize, usize),
 }
 
 // What is held after a byte, and where in the buffer the next byte of output goes.
-#[derive(Clone, Copy, Drop)]
+#[derive(Clone, Copy, Debug, PartialEq, Eq)]
 struct Turn {
     held: Held,
     at: usize,
 }
 
 // What is held after bytes of the input, how many of them were taken, and how many bytes of output there are.
-#[derive(Clone, Copy, Drop)]
+#[derive(Clone, Copy, Debug, PartialEq, Eq)]
 pub struct Fed {
     pub held: Held,
     pub used: usize,
@@ -52,35 +52,18 @@ fn take_byte(memory: &mut [u8], held: Held, byte: u8, out: &mut [u8], at: usize)
     ensures { Turns (take_byte (lines_of memory.old held) byte) (byte_in_memory memory.old held byte)
         out.old at memory.new result.held out.new result.at }
 {
-    match held {
-        Held::First(first) => {
-            if byte == b'\n' {
-                return Turn {
-                    held: Held::Second(first, 0),
-                    at,
-                };
-            }
-            let count = hold(memory, MOST_HELD, 0, first, byte);
-            Turn {
-                held: Held::First(count),
-                at,
-            }
+    let (held, at) = match (held, byte) {
+        (Held::First(first), b'\n') => (Held::Second(first, 0), at),
+        (Held::First(first), _) => (Held::First(hold(memory, MOST_HELD, 0, first, byte)), at),
+        (Held::Second(first, second), b'\n') => {
+            (Held::First(0), put_held(memory, first, second, out, at))
         }
-        Held::Second(first, second) => {
-            if byte == b'\n' {
-                let next = put_held(memory, first, second, out, at);
-                return Turn {
-                    held: Held::First(0),
-                    at: next,
-                };
-            }
-            let count = hold(memory, MOST_HELD, first, second, byte);
-            Turn {
-                held: Held::Second(first, count),
-                at,
-            }
-        }
-    }
+        (Held::Second(first, second), _) => (
+            Held::Second(first, hold(memory, MOST_HELD, first, second, byte)),
+            at,
+        ),
+    };
+    Turn { held, at }
 }
 
 // Bytes of the input, as many as the buffer has room for the output of. A buffer of LINE_ROOM bytes takes at least
@@ -90,25 +73,19 @@ pub fn feed(memory: &mut [u8], held: Held, bytes: &[u8], out: &mut [u8]) -> Fed
     ensures { Feeds memory.old held bytes.now out.old
         memory.new result.held out.new result.used result.at }
 {
-    let mut current = held;
-    let mut used = 0;
+    let mut held = held;
     let mut at = 0;
-    while used < bytes.len() {
+    for (used, &byte) in bytes.iter().enumerate() {
         if out.len() - at < LINE_ROOM {
-            return Fed {
-                held: current,
-                used,
-                at,
-            };
+            return Fed { held, used, at };
         }
-        let turn = take_byte(memory, current, bytes[used], out, at);
-        current = turn.held;
+        let turn = take_byte(memory, held, byte, out, at);
+        held = turn.held;
         at = turn.at;
-        used += 1;
     }
     Fed {
-        held: current,
-        used,
+        held,
+        used: bytes.len(),
         at,
     }
 }
@@ -119,19 +96,10 @@ pub fn finish(memory: &[u8], held: Held, out: &mut [u8]) -> usize
     ensures { Put out.old 0 (at_end (lines_of memory.now held)) out.new result }
 {
     match held {
-        Held::First(first) => {
-            if first == 0 {
-                return 0;
-            }
-            put_single(&memory[..first], out, 0)
-        }
-        Held::Second(first, second) => {
-            let alone = second == 0;
-            if alone {
-                return put_single(&memory[..first], out, 0);
-            }
-            put_held(memory, first, second, out, 0)
-        }
+        Held::First(0) => 0,
+        Held::First(first) => put_single(&memory[..first], out, 0),
+        Held::Second(first, 0) => put_single(&memory[..first], out, 0),
+        Held::Second(first, second) => put_held(memory, first, second, out, 0),
     }
 }
 

@@ -6,7 +6,7 @@ use Prim.Native.Nat.{ℕ, ◌+◌, ◌-◌, ◌<◌, ◌≤◌}
 use native.Mathlib.Omega.{arith}
 use lib.ListN.{length, take, drop, length-take, length-drop}
 use lib.Seq.{sets-eq, take-append_seam}
-use Rattle.std.specs.Prelude.{Option, Some, None, ⊤}
+use Rattle.std.specs.Prelude.{Option, Some, None, Result, Ok, Err, ⊤}
 use Rattle.std.specs.Io.KnownBytes.{Consumes, Appends, IsAtEnd}
 use Rattle.text_out.specs.Put.{Put}
 use Rattle.text_out.proofs.Put.{put_length}
@@ -111,54 +111,34 @@ module _ (memory₀ : List ℕ) (held₀ : Held) (bytes out₀ : List ℕ) (show
   pub all_written : length bytes ≤ from → Appends shown₀ shown (take_bytes (lines_of memory₀ held₀) bytes).output
   all_written l = subst (Appends shown₀ shown) (all_printed (lines_of memory₀ held₀) bytes from l) t.written
 
--- after a read
-module _ (known known' shown shown' : Option (List ℕ)) (h : Lines) where
-  pub part_after : (more good : Bool) (left : Lines) (part : List ℕ) → good ≡ more → Consumes known known' part
-      → (more ≡ true → left ≡ (take_bytes h part).lines) → (more ≡ true → Appends shown shown' (take_bytes h part).output)
-      → AfterRead more good known known' shown shown' h left
-  unfolding AfterRead
-  part_after true true left part e r l w = record { part = part; read = r; lines = l refl; written = w refl }
-  part_after true false left part e r l w = absurd (let z : ◌≡◌ {A = ℕ} 0 1 = cc e in omega arith)
-  part_after false true left part e r l w = absurd (let z : ◌≡◌ {A = ℕ} 0 1 = cc e in omega arith)
-  part_after false false left part e r l w = tt
+-- The program so far: the part that was read.
+abbrev pub Run : (known₀ known shown₀ shown : Option (List ℕ)) → Lines → Type 0
+Run known₀ known shown₀ shown h = PartPrinted known₀ known shown₀ shown (first []) h
 
-  pub end_after : (good : Bool) (left : Lines) → Consumes known known' [] → IsAtEnd known' → (good ≡ true → Appends shown shown' (at_end h))
-      → AfterRead false good known known' shown shown' h left
-  unfolding AfterRead
-  end_after true left r e w = record { read = r; ended = e; written = w refl }
-  end_after false left r e w = tt
-
-  pub failed_after : (left : Lines) → AfterRead false false known known' shown shown' h left
-  unfolding AfterRead
-  failed_after left = tt
-
--- The program so far: the part that was read, or all of the input.
-unfoldable pub Run : (more good : Bool) → (known₀ known shown₀ shown : Option (List ℕ)) → Lines → Type 0
-Run true true known₀ known shown₀ shown h = PartPrinted known₀ known shown₀ shown (first []) h
-Run true false known₀ known shown₀ shown h = ⊥
-Run false true known₀ known shown₀ shown h = AllPrinted known₀ known shown₀ shown
-Run false false known₀ known shown₀ shown h = ⊤
-
-pub run_starts : (known shown : Option (List ℕ)) (h : Lines) → h ≡ first [] → Run true true known known shown shown h
-unfolding Run take_bytes
+pub run_starts : (known shown : Option (List ℕ)) (h : Lines) → h ≡ first [] → Run known known shown shown h
+unfolding take_bytes
 run_starts known shown h e = record { part = []; read = nothing_read known; lines = e; written = nothing_shown shown }
 
-module _ (known₀ known known' shown₀ shown shown' : Option (List ℕ)) (h : Lines) where
-  goes_on_by : (more' good' : Bool) (left : Lines) → PartPrinted known₀ known shown₀ shown (first []) h
-      → AfterRead more' good' known known' shown shown' h left → Run more' good' known₀ known' shown₀ shown' left
-  unfolding Run AfterRead
-  goes_on_by true true left p a =
-      let e = in_parts (first []) p.part a.part in
-      record {
-        part = p.part ++ a.part;
-        read = read_more known₀ known known' p.part a.part p.read a.read;
-        lines = a.lines ∙ (ap (λ x. (take_bytes x a.part).lines) p.lines ∙ sym (ap (λ (x : Turned). x.lines) e));
-        written = subst (Appends shown₀ shown')
-            (ap (λ x. (take_bytes (first []) p.part).output ++ (take_bytes x a.part).output) p.lines ∙ sym (ap (λ (x : Turned). x.output) e))
-            (shown_more shown₀ shown shown' _ _ p.written a.written);
-      }
-  goes_on_by true false left p a = a
-  goes_on_by false true left p a =
+module _ (known₀ known known' shown₀ shown shown' : Option (List ℕ)) (h : Lines) (p : Run known₀ known shown₀ shown h) (memory : List ℕ) where
+  pub run_goes_on : (held : Held) → AfterRead (Ok (Some held)) known known' shown shown' h memory
+      → Holds memory held × Run known₀ known' shown₀ shown' (lines_of memory held)
+  unfolding AfterRead
+  run_goes_on held (k, a) =
+      let e = in_parts (first []) p.part a.part in (
+        k,
+        record {
+          part = p.part ++ a.part;
+          read = read_more known₀ known known' p.part a.part p.read a.read;
+          lines = a.lines ∙ (ap (λ x. (take_bytes x a.part).lines) p.lines ∙ sym (ap (λ (x : Turned). x.lines) e));
+          written = subst (Appends shown₀ shown')
+              (ap (λ x. (take_bytes (first []) p.part).output ++ (take_bytes x a.part).output) p.lines ∙ sym (ap (λ (x : Turned). x.output) e))
+              (shown_more shown₀ shown shown' _ _ p.written a.written);
+        },
+      )
+
+  pub run_ends : AfterRead (Ok None) known known' shown shown' h memory → AllPrinted known₀ known' shown₀ shown'
+  unfolding AfterRead
+  run_ends a =
       record {
         input = p.part;
         read = subst (Consumes known₀ known') (append-nil p.part) (read_more known₀ known known' p.part [] p.read a.read);
@@ -167,21 +147,6 @@ module _ (known₀ known known' shown₀ shown shown' : Option (List ℕ)) (h : 
             (ap (λ x. (take_bytes (first []) p.part).output ++ at_end x) p.lines ∙ byte_by_byte_exactly p.part)
             (shown_more shown₀ shown shown' _ _ p.written a.written);
       }
-  goes_on_by false false left p a = tt
-
-  pub run_goes_on : (more good : Bool) → not more ≡ false → Run more good known₀ known shown₀ shown h → (more' good' : Bool) (left : Lines)
-      → AfterRead more' good' known known' shown shown' h left → Run more' good' known₀ known' shown₀ shown' left
-  unfolding Run
-  run_goes_on true true e r more' good' left a = goes_on_by more' good' left r a
-  run_goes_on true false e r more' good' left a = absurd r
-  run_goes_on false good e r more' good' left a = absurd (let z : ◌≡◌ {A = ℕ} 0 1 = cc e in omega arith)
-
-pub run_ends : (more good : Bool) (known₀ known shown₀ shown : Option (List ℕ)) (h : Lines) → not more ≡ true → good ≡ true
-    → Run more good known₀ known shown₀ shown h → AllPrinted known₀ known shown₀ shown
-unfolding Run
-run_ends true good known₀ known shown₀ shown h e g r = absurd (let z : ◌≡◌ {A = ℕ} 0 1 = cc e in omega arith)
-run_ends false true known₀ known shown₀ shown h e g r = r
-run_ends false false known₀ known shown₀ shown h e g r = absurd (let z : ◌≡◌ {A = ℕ} 0 1 = cc g in omega arith)
 
 -- no byte is read, and none is held
 pub no_bytes : (n : ℕ) (a b : Option (List ℕ)) (buffer : List ℕ) → n ≡ 0 → Consumes a b (take n buffer) → Consumes a b []

@@ -8,7 +8,7 @@
 // that say which bytes they have left and hold (`take_bytes`, `read_all`). Standard input and output do not say it.
 #![tactic(auto)]
 
-ghost use Rattle.std.specs.Prelude.{◌≡◌, true, ◌≤◌, length};
+ghost use Rattle.std.specs.Prelude.{IfOk, OnOk, ◌≤◌, length};
 ghost use Rattle.std.specs.Io.KnownBytes.{Appends};
 ghost use Rattle.pair_line.specs.Room.{line_room};
 ghost use Rattle.pair_input.specs.ByteByByte.{take_bytes, at_end};
@@ -17,35 +17,50 @@ ghost use Rattle.pair_input.specs.Inner.Held.{BytesTaken};
 ghost use Rattle.pairs.specs.Printed.{AfterRead, AllPrinted};
 
 use pair_input::{HELD_BYTES, Held, feed, finish};
+use std::fmt;
 use std::io::{Read, Write};
 use std::process::ExitCode;
 
-// The lines that are held, whether the program goes on, and whether all was read and written so far.
-#[derive(Clone, Copy, Drop)]
-struct State {
-    held: Held,
-    more: bool,
-    good: bool,
+// What ends the program before the input ends.
+#[derive(Clone, Copy, Debug, PartialEq, Eq)]
+enum Failed {
+    Input,
+    Output,
+    Endless,
 }
 
-fn say_unwritten(rt: &impl Eprint) {
-    let _ = eprintln!(rt; "pairs: the output cannot be written");
+impl fmt::Display for Failed {
+    fn fmt<W: fmt::Write>(&self, f: &mut fmt::Formatter<W>) -> fmt::Result {
+        match self {
+            Failed::Input => write!(f, "the input cannot be read"),
+            Failed::Output => write!(f, "the output cannot be written"),
+            Failed::Endless => write!(f, "the input does not end"),
+        }
+    }
 }
 
-// Bytes that were read: the output for them is written each time that the buffer is full.
+// Bytes of the output written.
+fn write<W: Write>(to: &mut W, bytes: &[u8]) -> Result<(), Failed>
+    ensures { OnOk result (Appends (W.contents to.old) (W.contents to.new) bytes.now) }
+{
+    match to.write_all(bytes) {
+        Ok(()) => Ok(()),
+        Err(_) => Err(Failed::Output),
+    }
+}
+
+// Bytes that were read: the output for them is written each time that the buffer is full. What is held after them.
 fn take_bytes<W: Write>(
-    rt: &impl Eprint,
     to: &mut W,
     memory: &mut [u8],
     held: Held,
     bytes: &[u8],
     out: &mut [u8],
-) -> State
+) -> Result<Held, Failed>
     requires { Holds memory.old held × (line_room ≤ length out.old) }
-    ensures taken { BytesTaken memory.old held bytes.now memory.new result.held result.more }
-    ensures written { result.more ≡ true → Appends (W.contents to.old) (W.contents to.new)
-        (take_bytes (lines_of memory.old held) bytes.now).output }
-    ensures good { result.good ≡ result.more }
+    ensures taken { IfOk result (λ left. BytesTaken memory.old held bytes.now memory.new left) }
+    ensures written { OnOk result (Appends (W.contents to.old) (W.contents to.new)
+        (take_bytes (lines_of memory.old held) bytes.now).output) }
 {
     let mut current = held;
     let mut from = 0;
@@ -53,104 +68,63 @@ fn take_bytes<W: Write>(
         let fed = feed(memory, current, &bytes[from..], out);
         current = fed.held;
         from += fed.used;
-        match to.write_all(&out[..fed.at]) {
-            Ok(()) => {}
-            Err(_) => {
-                say_unwritten(rt);
-                return State {
-                    held: current,
-                    more: false,
-                    good: false,
-                };
-            }
-        }
+        write(to, &out[..fed.at])?;
     }
-    State {
-        held: current,
-        more: true,
-        good: true,
-    }
+    Ok(current)
 }
 
-// The end of the input; false where the output for it cannot be written.
-fn at_end<W: Write>(rt: &impl Eprint, to: &mut W, memory: &[u8], held: Held, out: &mut [u8]) -> bool
+// The end of the input, and the output for it.
+fn at_end<W: Write>(to: &mut W, memory: &[u8], held: Held, out: &mut [u8]) -> Result<(), Failed>
     requires { Holds memory.now held × (line_room ≤ length out.old) }
-    ensures { result ≡ true → Appends (W.contents to.old) (W.contents to.new) (at_end (lines_of memory.now held)) }
+    ensures { OnOk result (Appends (W.contents to.old) (W.contents to.new) (at_end (lines_of memory.now held))) }
 {
     let n = finish(memory, held, out);
-    match to.write_all(&out[..n]) {
-        Ok(()) => true,
-        Err(_) => {
-            say_unwritten(rt);
-            false
-        }
-    }
+    write(to, &out[..n])
 }
 
-// Reads once.
+// Reads once: what is held then, or None at the end of the input.
 fn read_some<R: Read, W: Write>(
-    rt: &impl Eprint,
     reader: &mut R,
     to: &mut W,
     memory: &mut [u8],
     held: Held,
     out: &mut [u8],
-) -> State
+) -> Result<Option<Held>, Failed>
     requires { Holds memory.old held × (line_room ≤ length out.old) }
-    ensures holds { Holds memory.new result.held }
-    ensures after { AfterRead result.more result.good (R.remaining reader.old) (R.remaining reader.new)
-        (W.contents to.old) (W.contents to.new) (lines_of memory.old held) (lines_of memory.new result.held) }
+    ensures { AfterRead result (R.remaining reader.old) (R.remaining reader.new)
+        (W.contents to.old) (W.contents to.new) (lines_of memory.old held) memory.new }
 {
     let mut buffer = [0u8; BUFFER_BYTES];
     match reader.read(&mut buffer) {
-        Err(_) => {
-            let _ = eprintln!(rt; "pairs: the input cannot be read");
-            State {
-                held,
-                more: false,
-                good: false,
-            }
-        }
+        Err(_) => Err(Failed::Input),
         Ok(0) => {
-            let good = at_end(rt, to, memory, held, out);
-            State {
-                held,
-                more: false,
-                good,
-            }
+            at_end(to, memory, held, out)?;
+            Ok(None)
         }
-        Ok(n) => take_bytes(rt, to, memory, held, &buffer[..n], out),
+        Ok(n) => Ok(Some(take_bytes(to, memory, held, &buffer[..n], out)?)),
     }
 }
 
-// The whole input; false where it cannot be read or its output cannot be written. A proved loop has to end, and nothing
-// says that an input does: the loop counts its turns down, from a number that no run uses up.
+// The whole input. A proved loop has to end, and nothing says that an input does: the loop counts its turns, up to a
+// number that no run uses up.
 fn read_all<R: Read, W: Write>(
-    rt: &impl Eprint,
     reader: &mut R,
     to: &mut W,
     memory: &mut [u8],
     out: &mut [u8],
-) -> bool
+) -> Result<(), Failed>
     requires { Holds memory.old (Held.First 0) × (line_room ≤ length out.old) }
-    ensures { result ≡ true → AllPrinted (R.remaining reader.old) (R.remaining reader.new)
-        (W.contents to.old) (W.contents to.new) }
+    ensures { OnOk result (AllPrinted (R.remaining reader.old) (R.remaining reader.new)
+        (W.contents to.old) (W.contents to.new)) }
 {
-    let mut state = State {
-        held: Held::First(0),
-        more: true,
-        good: true,
-    };
-    let mut turns = u64::MAX;
-    while turns > 0 {
-        if !state.more {
-            return state.good;
+    let mut held = Held::First(0);
+    for _ in 0..u64::MAX {
+        match read_some(reader, to, memory, held, out)? {
+            Some(next) => held = next,
+            None => return Ok(()),
         }
-        let held = state.held;
-        state = read_some(rt, reader, to, memory, held, out);
-        turns -= 1;
     }
-    false
+    Err(Failed::Endless)
 }
 
 // A read or a write that failed ends the program with status 1.
@@ -159,10 +133,12 @@ fn main(rt: HostRuntime) -> ExitCode {
     let mut to = rt.stdout();
     let mut memory = [0u8; HELD_BYTES];
     let mut out = [0u8; OUT_BYTES];
-    if read_all(&rt, &mut reader, &mut to, &mut memory, &mut out) {
-        ExitCode::SUCCESS
-    } else {
-        ExitCode::FAILURE
+    match read_all(&mut reader, &mut to, &mut memory, &mut out) {
+        Ok(()) => ExitCode::SUCCESS,
+        Err(failed) => {
+            let _ = eprintln!(rt; "pairs: {failed}");
+            ExitCode::FAILURE
+        }
     }
 }
 

@@ -3,35 +3,32 @@ use Rattle.std.proofs.Common.{arith}
 use Rattle.pair_input.proofs.Ways as law
 use Rattle.pair_input.proofs.take_byte.Goals as goal
 
-pub returns-then-byte-eq10 : goal.returns-then-byte-eq10
-returns-then-byte-eq10 c =
+pub returns-in-First-eq10 : goal.returns-in-First-eq10
+returns-in-First-eq10 c =
     let a = c.args in
-    law.first_ends a.memory.now a.held a.byte a.out.now a.at c.requires.0 _ c.in-First.is c.if-byte-eq10.true
+    law.first_ends a.memory.now a.held a.byte a.out.now a.at c.requires.0 _ c.in-First-eq10.is-0 c.in-First-eq10.is-1
 
-pub hold-count-requires : goal.hold-count-requires
-hold-count-requires c = omega (arith, c.requires.0.long)
-
-pub returns-else-byte-eq10 : goal.returns-else-byte-eq10
-returns-else-byte-eq10 c =
+pub returns-in-First-default : goal.returns-in-First-default
+returns-in-First-default c =
     let a = c.args in
-    law.first_goes_on a.memory.now a.held a.byte a.out.now a.at c.requires.0 _ c.in-First.is c.if-byte-eq10.false _ _ c.hold-count.ensures
+    law.first_goes_on a.memory.now a.held a.byte a.out.now a.at c.requires.0 _ c.in-First-default.is-0 c.in-First-default.is-1.1 _ _ c.hold.ensures
 
-pub put_held-next-requires : goal.put_held-next-requires
-put_held-next-requires c =
+pub put_held-requires : goal.put_held-requires
+put_held-requires c =
     let a = c.args in
-    (law.both_inside a.memory.now a.held a.byte a.out.now a.at c.requires.0 _ _ c.in-Second.is, c.requires.1)
+    (law.both_inside a.memory.now a.held a.byte a.out.now a.at c.requires.0 _ _ c.in-Second-eq10.is-0, c.requires.1)
 
-pub returns-then-byte-eq10-2 : goal.returns-then-byte-eq10-2
-returns-then-byte-eq10-2 c =
+pub returns-in-Second-eq10 : goal.returns-in-Second-eq10
+returns-in-Second-eq10 c =
     let a = c.args in
-    law.second_ends a.memory.now a.held a.byte a.out.now a.at c.requires.0 _ _ c.in-Second.is c.if-byte-eq10-2.true _ _ c.put_held-next.ensures
+    law.second_ends a.memory.now a.held a.byte a.out.now a.at c.requires.0 _ _ c.in-Second-eq10.is-0 c.in-Second-eq10.is-1 _ _ c.put_held.ensures
 
-pub hold-count-requires-in-Second : goal.hold-count-requires-in-Second
-hold-count-requires-in-Second c =
+pub hold-requires-in-Second-default : goal.hold-requires-in-Second-default
+hold-requires-in-Second-default c =
     let a = c.args in
-    omega (arith, (law.second_few a.memory.now a.held a.byte a.out.now a.at c.requires.0 _ _ c.in-Second.is).0, c.requires.0.long)
+    omega (arith, (law.second_few a.memory.now a.held a.byte a.out.now a.at c.requires.0 _ _ c.in-Second-default.is-0).0, c.requires.0.long)
 
-pub returns-else-byte-eq10-2 : goal.returns-else-byte-eq10-2
-returns-else-byte-eq10-2 c =
+pub returns-in-Second-default : goal.returns-in-Second-default
+returns-in-Second-default c =
     let a = c.args in
-    law.second_goes_on a.memory.now a.held a.byte a.out.now a.at c.requires.0 _ _ c.in-Second.is c.if-byte-eq10-2.false _ _ c.hold-count-in-Second.ensures
+    law.second_goes_on a.memory.now a.held a.byte a.out.now a.at c.requires.0 _ _ c.in-Second-default.is-0 c.in-Second-default.is-1.1 _ _ c.hold-in-Second-default.ensures

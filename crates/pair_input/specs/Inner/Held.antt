@@ -1,11 +1,11 @@
 -- What only contracts of inner functions cite, beside `specs/Held.antt`.
-use Rattle.std.specs.Prelude.{◌≡◌, Bool, true, List, ℕ}
+use Rattle.std.specs.Prelude.{◌≡◌, List, ℕ}
 use Rattle.pair_input.specs.declared.Held.{Held}
 use Rattle.pair_input.specs.ByteByByte.{take_bytes}
 use Rattle.pair_input.specs.Held.{lines_of, Holds}
 
--- All bytes are taken, unless the program ends before.
+-- All bytes are taken.
 pub record BytesTaken (memory : List ℕ) (held : Held) (bytes : List ℕ) (left-memory : List ℕ) (left-held : Held)
-    (more : Bool) : Type 0 where
+    : Type 0 where
   pub holds : Holds left-memory left-held
-  pub lines : more ≡ true → lines_of left-memory left-held ≡ (take_bytes (lines_of memory held) bytes).lines
+  pub lines : lines_of left-memory left-held ≡ (take_bytes (lines_of memory held) bytes).lines

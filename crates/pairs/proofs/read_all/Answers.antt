@@ -2,14 +2,13 @@
 use Rattle.pairs.proofs.Runs as law
 use Rattle.pairs.proofs.read_all.Goals as goal
 
-pub loop-turns-init : goal.loop-turns-init
-loop-turns-init g c = record { holds = c.requires.0; run = law.run_starts _ _ _ (law.nothing_held c.args.memory.now) }
+pub loop-init : goal.loop-init
+loop-init g c = record { holds = c.requires.0; run = law.run_starts _ _ _ (law.nothing_held c.args.memory.now) }
 
-pub loop-turns-preserved : goal.loop-turns-preserved
-loop-turns-preserved g c = record {
-  holds = c.read_some-state.ensures.holds;
-  run = law.run_goes_on _ _ _ _ _ _ _ _ _ c.if-not-state.false c.loop-turns.invariant.run _ _ _ c.read_some-state.ensures.after;
-}
+pub loop-preserved : goal.loop-preserved
+loop-preserved g c =
+    let x = law.run_goes_on _ _ _ _ _ _ _ c.loop.invariant.run c.read_some.new.memory c.in-Some.next (rw c.in-Some.is at c.in_ok-next.ensures) in
+    record { holds = x.0; run = x.1 }
 
-pub returns-then-not-state : goal.returns-then-not-state
-returns-then-not-state g c e = law.run_ends _ _ _ _ _ _ _ c.if-not-state.true e c.loop-turns.invariant.run
+pub returns-in-None : goal.returns-in-None
+returns-in-None g c = law.run_ends _ _ _ _ _ _ _ c.loop.invariant.run c.read_some.new.memory (rw c.in-None.is at c.in_ok-next.ensures)

@@ -14,4 +14,4 @@ loop-from-smaller g c =
 pub loop-from-preserved : goal.loop-from-preserved
 loop-from-preserved g c =
     law.part_taken _ _ _ _ _ _ _ _ _ _ c.loop-from.invariant c.loop-from-test.true _ _ _ _ _ c.feed-fed.ensures _
-    c.feed-fed.auto.memory c.feed-fed.auto.out c.in-Ok.ensures.bytes
+    c.feed-fed.auto.memory c.feed-fed.auto.out c.in_ok-write.ensures
