@@ -1,40 +1,10 @@
--- What a pair that was read says of the sorts of two different numbers, form by form; and the runs of two functions: each
--- entry is a sort of the list, and the highest is below the function. Assumes nothing.
-use mathlib.Core.Path.{◌≡◌, refl, sym, ap, subst, ◌∙◌}
+-- The runs of functions: each entry is a sort of the list, and the highest is below the function. Assumes nothing.
+use mathlib.Core.Path.{◌≡◌, refl, ap, subst}
 use mathlib.Core.List.{List, [], ◌∷◌}
 use Prim.Native.Nat.{ℕ, zero, suc, ◌+◌, ◌-◌, ◌<◌, ◌≤◌, max}
 use native.Mathlib.Omega.{arith}
-use Rattle.resolved_sort.specs.declared.SortId.{SortId}
-use Rattle.resolved_sort.specs.declared.Sort.{Sort}
-use Rattle.resolved_sort.specs.declared.ComplexSort.{ComplexSort}
-use Rattle.resolved_sort.specs.Inner.Pairs.{Pair}
-use Rattle.resolved_sort.specs.Inner.Pairs.{Primitives, Containers, Functions, Other}
-use Rattle.resolved_sort.specs.Interning.{look}
-use Rattle.resolved_sort.specs.Storage.{entry_at, entries_of, trees}
-use Rattle.resolved_sort.specs.Rows.{Checked}
-use Rattle.resolved_sort.specs.Inner.Pairs.{pair_at}
+use Rattle.resolved_sort.specs.Storage.{entry_at, entries_of}
 use Rattle.resolved_sort.proofs.RowTrees.{AllBelow}
-use Rattle.resolved_sort.proofs.Pairs.{Unlike, OfPrimitives, OfContainers, OfFunctions, SortsSay, pair_of_sorts}
-
-module _ {ws : List ℕ} {n e a b : ℕ} (k : Checked ws n e) (ha : a < n) (hb : b < n) (d : a ≡ b → ⊥) {p : Pair} (q : p ≡ pair_at ws a b) where
-  said : (x : Pair) → p ≡ x → SortsSay ws n e a b x
-  said x t = subst (SortsSay ws n e a b) (sym q ∙ t) (pair_of_sorts ws n e a b k ha hb d)
-
-  pub primitives_said : {l r : Sort} → p ≡ Primitives l r → OfPrimitives ws n e a b l r
-  unfolding SortsSay
-  primitives_said {l} {r} t = said (Primitives l r) t
-
-  pub containers_said : {o : ComplexSort} {s : SortId} {o' : ComplexSort} {t : SortId} → p ≡ Containers o s o' t → OfContainers ws n e a b o s o' t
-  unfolding SortsSay
-  containers_said {o} {s} {o'} {t} h = said (Containers o s o' t) h
-
-  pub functions_said : {c ls : ℕ} {lr : SortId} {rs : ℕ} {rr : SortId} → p ≡ Functions c ls lr rs rr → OfFunctions ws n e a b c ls lr rs rr
-  unfolding SortsSay
-  functions_said {c} {ls} {lr} {rs} {rr} h = said (Functions c ls lr rs rr) h
-
-  pub other_said : p ≡ Other → Unlike (look (trees ws n) a) (look (trees ws n) b)
-  unfolding SortsSay
-  other_said t = said Other t
 
 -- the entries of a run below a number
 pub entry_below : (ws : List ℕ) (l s c : ℕ) → AllBelow l (entries_of ws s c) → (j : ℕ) → j < c → entry_at ws (s + j) < l
