@@ -22,7 +22,7 @@ use list_memory::{
     COUNTS_AT, COUNTS_TOLD_AT, DEFAULT_AT, Form, LAST_AT, LENT_AT, LENT_TOLD_AT, LIST_BINDS_AT,
     LIST_CONSTRAINTS_AT, LIST_WORDS, LastConstraint, MAX_NAMES, ROWS_AT, Slice, Table,
 };
-use list_tokens::{Keyword, Token, same_word};
+use list_tokens::{Keyword, Token};
 use resolved_sort::{DEF_KIND, FUNCTION_KIND, LAST_KIND, SORT_NUMBERS};
 use unification::{FIRST_NODE, FREE_WORD, InferSortId, MAX_VARS, SortVar, VARIABLE_KIND};
 use words::word;
@@ -170,12 +170,12 @@ fn slice_of(token: Token) -> Option<Slice>
 
 impl Item {
     // Whether a word is of the item.
-    #[tactic(auto, unfolding(crate::specs::Items::is_of))]
+    #[tactic(auto, using(list_tokens::proofs::Places::same_words), unfolding(crate::specs::Items::is_of))]
     fn is(self, token: Token) -> bool
         ensures { result ≡ is_of self token }
     {
         match (self, token) {
-            (Item::Word(expected), Token::Keyword(keyword)) => same_word(keyword, expected),
+            (Item::Word(expected), Token::Keyword(keyword)) => keyword == expected,
             (Item::AnyWord, Token::Keyword(_)) => true,
             (Item::Number, Token::Number(_)) => true,
             (Item::Sort, Token::Sort(_)) => true,

@@ -5,7 +5,7 @@ ghost use Rattle.std.specs.Prelude.{◌≡◌, ◌≤◌, drop, take};
 ghost use Rattle.std.specs.List.{list_all};
 ghost use Rattle.sort_text.specs.Tokens.{past};
 ghost use Rattle.sort_lexer.specs.Inner.Lexeme.{offset};
-ghost use Rattle.list_tokens.specs.Words.{spelling, same_word, keyword_of};
+ghost use Rattle.list_tokens.specs.Words.{spelling, keyword_of};
 ghost use Rattle.list_tokens.specs.Tokens.{decimal_read, number_read, numbered, name_token, token_of, in_word};
 ghost use Rattle.list_tokens.specs.Tokens.{tokens_of, is_printable, start_by, line_start};
 
@@ -242,14 +242,6 @@ impl Keyword {
             Keyword::Real => b"Real",
         }
     }
-}
-
-// Whether two words of the format are the same.
-#[tactic(auto, using(crate::proofs::Places::same_words))]
-pub fn same_word(a: Keyword, b: Keyword) -> bool
-    ensures { result ≡ same_word a b }
-{
-    a == b
 }
 
 // The word of the format that bytes are.
