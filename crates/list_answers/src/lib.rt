@@ -14,7 +14,7 @@ use inference::{MAX_COMPONENTS, Solved};
 use list_call::{Told, count_of, length_of};
 use list_memory::{
     LIST_CHOICE_WORDS, LIST_CHOICES_AT, LIST_MEASURE_AT, LIST_SORTS_AT, LIST_TYPING_AT,
-    LIST_TYPING_WORDS, LIST_WORDS,
+    LIST_TYPING_WORDS, LIST_WORDS, Slice, Table,
 };
 use list_solve::ask;
 use list_verdict::{Typing, put_new_sorts, put_typing, put_verdict};
@@ -68,7 +68,7 @@ fn ask_and_tell(list: &[u16], told: &mut Told<'_>, out: &mut Out<'_>)
         told.old.choices.now)) }
 {
     let answer = ask(list, told);
-    tell(answer, count_of(list, 0), count_of(list, 5), told, out);
+    tell(answer, count_of(list, Table::Sorts), count_of(list, Table::Exprs), told, out);
 }
 
 // The solver's answer about a list as text, as far as the buffer has room. Ruled out: an answer about other lengths than
@@ -84,10 +84,10 @@ pub fn answer(list: &[u16; LIST_WORDS], out: &mut Out<'_>)
     copy(&mut typing, 0, list, LIST_TYPING_AT, LIST_TYPING_WORDS);
     copy(&mut measure, 0, list, LIST_MEASURE_AT, MAX_COMPONENTS);
     copy(&mut choices, 0, list, LIST_CHOICES_AT, LIST_CHOICE_WORDS);
-    let sorts_end = length_of(list, 0, SORT_WORDS, SORT_WORDS);
-    let typing_end = length_of(list, 9, LIST_TYPING_WORDS, LIST_TYPING_WORDS);
-    let measure_end = length_of(list, 10, MAX_COMPONENTS, MAX_COMPONENTS);
-    let choices_end = length_of(list, 11, LIST_CHOICE_WORDS, LIST_CHOICE_WORDS);
+    let sorts_end = length_of(list, Slice::Sorts, SORT_WORDS, SORT_WORDS);
+    let typing_end = length_of(list, Slice::Typing, LIST_TYPING_WORDS, LIST_TYPING_WORDS);
+    let measure_end = length_of(list, Slice::Measure, MAX_COMPONENTS, MAX_COMPONENTS);
+    let choices_end = length_of(list, Slice::Choices, LIST_CHOICE_WORDS, LIST_CHOICE_WORDS);
     let mut told = Told {
         sorts: &mut sorts[..sorts_end],
         typing: &mut typing[..typing_end],

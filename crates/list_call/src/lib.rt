@@ -5,14 +5,13 @@
 ghost use Rattle.std.specs.Prelude.{◌≡◌, ◌+◌, ◌*◌, ◌≤◌, length};
 ghost use Rattle.inference.specs.SolveEntry.{solve_entry};
 ghost use Rattle.list_memory.specs.Memory.{rows_at, most_rows, rows_given};
+ghost use Rattle.list_memory.specs.Layouts.{table_number, slice_number, layout_of};
 ghost use Rattle.solve_outputs.specs.Finish.{solve_left};
 ghost use Rattle.list_call.specs.Lists.{call_count, told_or, length_lent, slice_lent, given_in, call_by};
 
-use inference::{MAX_EXPRS, MAX_SOURCES, Solved};
+use inference::Solved;
 use list_memory::{
-    COUNTS_AT, COUNTS_TOLD_AT, DEFAULT_AT, LENT_AT, LENT_TOLD_AT, LIST_CONSTRAINT_WORDS,
-    LIST_CONSTRAINTS_AT, LIST_EXPRS_AT, LIST_NAME_WORDS, LIST_NAMES_AT, LIST_OVERLOAD_WORDS,
-    LIST_OVERLOADS_AT, LIST_SOURCES_AT, ROWS_AT,
+    COUNTS_AT, COUNTS_TOLD_AT, DEFAULT_AT, LENT_AT, LENT_TOLD_AT, ROWS_AT, Slice, Table,
 };
 use resolved_sort::SortId;
 use solve_checks::Given;
@@ -28,20 +27,19 @@ pub struct Told<'a> {
     pub choices: &'a mut [u16],
 }
 
-// The rows given of a list.
-pub fn rows_given(list: &[u16], k: usize) -> usize
-    requires { k ≤ 9 }
-    ensures { (result ≡ rows_given list.now k) × (result ≤ most_rows) }
+// The rows given of a table.
+pub fn rows_given(list: &[u16], table: Table) -> usize
+    ensures { (result ≡ rows_given list.now (table_number table)) × (result ≤ most_rows) }
 {
-    word(list, ROWS_AT + k) as usize
+    word(list, ROWS_AT + table.number()) as usize
 }
 
-// The count of a list in the call.
+// The count of a table in the call.
 #[tactic(auto, unfolding(crate::specs::Lists::call_count))]
-pub fn count_of(list: &[u16], k: usize) -> u16
-    requires { k ≤ 9 }
-    ensures { result ≡ call_count list.now k }
+pub fn count_of(list: &[u16], table: Table) -> u16
+    ensures { result ≡ call_count list.now (table_number table) }
 {
+    let k = table.number();
     if word(list, COUNTS_TOLD_AT + k) == 1 {
         return word(list, COUNTS_AT + k);
     }
@@ -53,26 +51,26 @@ pub fn given_of(list: &[u16]) -> Given
     ensures { result ≡ given_in list.now }
 {
     Given {
-        sorts: count_of(list, 0) as usize,
-        entries: count_of(list, 1) as usize,
-        nodes: count_of(list, 2) as usize,
-        arguments: count_of(list, 3) as usize,
-        variables: count_of(list, 4) as usize,
-        exprs: count_of(list, 5) as usize,
-        names: count_of(list, 6) as usize,
-        constraints: count_of(list, 7) as usize,
-        overloads: count_of(list, 8) as usize,
-        sources: count_of(list, 9) as usize,
+        sorts: count_of(list, Table::Sorts) as usize,
+        entries: count_of(list, Table::Entries) as usize,
+        nodes: count_of(list, Table::Nodes) as usize,
+        arguments: count_of(list, Table::NodeEntries) as usize,
+        variables: count_of(list, Table::Vars) as usize,
+        exprs: count_of(list, Table::Exprs) as usize,
+        names: count_of(list, Table::Names) as usize,
+        constraints: count_of(list, Table::Constraints) as usize,
+        overloads: count_of(list, Table::Overloads) as usize,
+        sources: count_of(list, Table::Sources) as usize,
         default: SortId(word(list, DEFAULT_AT)),
     }
 }
 
 // How many words are told to be lent of a slice; n where none are.
 #[tactic(auto, unfolding(crate::specs::Lists::told_or))]
-fn told_or(list: &[u16], j: usize, n: usize) -> usize
-    requires { j ≤ 11 }
-    ensures { result ≡ told_or list.now j n }
+fn told_or(list: &[u16], slice: Slice, n: usize) -> usize
+    ensures { result ≡ told_or list.now (slice_number slice) n }
 {
+    let j = slice.number();
     if word(list, LENT_TOLD_AT + j) == 1 {
         return word(list, LENT_AT + j) as usize;
     }
@@ -81,29 +79,32 @@ fn told_or(list: &[u16], j: usize, n: usize) -> usize
 
 // How many words are lent of a slice: its ceiling at most.
 #[tactic(auto, unfolding(crate::specs::Lists::length_lent))]
-pub fn length_of(list: &[u16], j: usize, n: usize, top: usize) -> usize
-    requires { j ≤ 11 }
-    ensures { (result ≡ length_lent list.now j n top) × (result ≤ top) }
+pub fn length_of(list: &[u16], slice: Slice, n: usize, top: usize) -> usize
+    ensures { (result ≡ length_lent list.now (slice_number slice) n top) × (result ≤ top) }
 {
-    let words = told_or(list, j, n);
-    if top < words {
-        return top;
-    }
-    words
+    told_or(list, slice, n).min(top)
 }
 
 // A slice that a call does not change, as a part of the list: where nothing is told, as many words as the rows given of
-// list k have.
-fn lend(list: &[u16], start: usize, j: usize, k: usize, width: usize, top: usize) -> &[u16]
-    requires { (j ≤ 11) × (k ≤ 9) × (width ≤ 5) × (start + top ≤ length list.now) }
-    ensures { result.now ≡ slice_lent list.now start j (width * rows_given list.now k) top }
+// its table have.
+fn lend(list: &[u16], slice: Slice, table: Table) -> &[u16]
+    requires { (layout_of table).start + (layout_of table).width * (layout_of table).ceiling ≤ length list.now }
+    ensures { result.now
+        ≡ slice_lent list.now (layout_of table).start (slice_number slice)
+        ((layout_of table).width * rows_given list.now (table_number table))
+        ((layout_of table).width * (layout_of table).ceiling) }
 {
-    let rows = rows_given(list, k);
-    let end = start + length_of(list, j, width * rows, top);
+    let layout = table.layout();
+    let start = layout.start as usize;
+    let width = layout.width as usize;
+    let words = width * rows_given(list, table);
+    let top = width * (layout.ceiling as usize);
+    let end = start + length_of(list, slice, words, top);
     &list[start..end]
 }
 
 // The solver asked about a list, with its counts and the slices that it may change.
+#[tactic(auto, unfolding(list_memory::specs::Layouts::layout_of))]
 pub fn solve_list(
     list: &[u16],
     given: Given,
@@ -119,11 +120,11 @@ pub fn solve_list(
         (call_by list.now given told.old.sorts.now nodes.old binds.old scratch.old
         told.old.typing.now told.old.measure.now told.old.choices.now) }
 {
-    let exprs = lend(list, LIST_EXPRS_AT, 3, 5, 1, MAX_EXPRS);
-    let names = lend(list, LIST_NAMES_AT, 4, 6, 3, LIST_NAME_WORDS);
-    let constraints = lend(list, LIST_CONSTRAINTS_AT, 5, 7, 5, LIST_CONSTRAINT_WORDS);
-    let overloads = lend(list, LIST_OVERLOADS_AT, 6, 8, 3, LIST_OVERLOAD_WORDS);
-    let sources = lend(list, LIST_SOURCES_AT, 7, 9, 1, MAX_SOURCES);
+    let exprs = lend(list, Slice::Exprs, Table::Exprs);
+    let names = lend(list, Slice::Names, Table::Names);
+    let constraints = lend(list, Slice::Constraints, Table::Constraints);
+    let overloads = lend(list, Slice::Overloads, Table::Overloads);
+    let sources = lend(list, Slice::Sources, Table::Sources);
     solve(
         told.sorts,
         nodes,

@@ -7,7 +7,7 @@ ghost use Rattle.text_out.specs.Outs.{then_put};
 ghost use Rattle.list_lines.specs.Lines.{unasked_text, stage_of, line_left, heard_line};
 
 use list_answers::answer;
-use list_memory::{Heard, LIST_WORDS, READING_STAGE, STAGE_AT};
+use list_memory::{Heard, LIST_WORDS, STAGE_AT, Stage};
 use list_messages::put_bad;
 use list_reader::take_line;
 use text_out::Out;
@@ -17,7 +17,7 @@ use text_out::Out;
 fn put_unasked(stage: u16, out: &mut Out<'_>)
     ensures { out.new ≡ then_put out.old (unasked_text stage) }
 {
-    if stage == READING_STAGE {
+    if stage == Stage::Reading.number() {
         out.put_text(b"nothing is asked about this list\n");
     }
 }

@@ -10,7 +10,7 @@ ghost use Rattle.list_solve.specs.Inner.Asked.{list_answer, list_answer_of};
 
 use inference::{SCRATCH_WORDS, Solved};
 use list_call::{Told, given_of, length_of, rows_given, solve_list};
-use list_memory::{LIST_BINDS_AT, LIST_NODES_AT, LIST_SCRATCH_AT};
+use list_memory::{LIST_BINDS_AT, LIST_NODES_AT, LIST_SCRATCH_AT, Slice, Table};
 use unification::{MAX_VARS, NODE_WORDS};
 use words::copy;
 
@@ -29,9 +29,9 @@ pub fn ask(list: &[u16], told: &mut Told<'_>) -> Solved
     copy(&mut nodes, 0, list, LIST_NODES_AT, NODE_WORDS);
     copy(&mut binds, 0, list, LIST_BINDS_AT, MAX_VARS);
     copy(&mut scratch, 0, list, LIST_SCRATCH_AT, SCRATCH_WORDS);
-    let nodes_end = length_of(list, 1, NODE_WORDS, NODE_WORDS);
-    let binds_end = length_of(list, 2, rows_given(list, 4), MAX_VARS);
-    let scratch_end = length_of(list, 8, SCRATCH_WORDS, SCRATCH_WORDS);
+    let nodes_end = length_of(list, Slice::Nodes, NODE_WORDS, NODE_WORDS);
+    let binds_end = length_of(list, Slice::Bindings, rows_given(list, Table::Vars), MAX_VARS);
+    let scratch_end = length_of(list, Slice::Scratch, SCRATCH_WORDS, SCRATCH_WORDS);
     solve_list(
         list,
         given_of(list),
