@@ -3,6 +3,7 @@ use mathlib.Core.Path.{◌≡◌, refl, sym, ◌∙◌, ap, subst}
 use mathlib.Core.List.{List, [], ◌∷◌, ◌++◌, append_assoc}
 use Prim.Native.Nat.{ℕ, ◌+◌, ◌/◌, ◌%◌, ◌<◌, ◌≤◌}
 use native.Mathlib.Omega.{arith}
+use native.Mathlib.Decide.{dec_le}
 use lib.ListN.{length, drop, length-append, length-drop}
 use borrow.Author.Tests.{lt-ltb, le-ltb, le-leb, lt-leb}
 use Rattle.resolved_sort.specs.declared.SortId.{SortId}
@@ -25,23 +26,33 @@ use Rattle.text_out.proofs.Put.{put_then, put_as, put_length}
 use Rattle.sort_writer.proofs.Front.{put_front}
 use Rattle.pair_line.specs.Room.{line_room, OfLine, Begun}
 use Rattle.pair_line.specs.Inner.Room.{FirstRead, BothRead}
+use Rattle.text_out.specs.Decimal.{digit, decimal}
+use Rattle.text_out.proofs.Outs.{a_digit}
 use Rattle.pair_line.specs.Inner.Answers.{steps_text}
 use Rattle.pair_line.specs.Answers.{with_lf, output_left}
 use Rattle.pair_line.proofs.Lines.{line_long, line_good, line_wrong}
 use Rattle.pair_line.proofs.LineRead.{ReadSort, read_sort, no_sort}
 
--- a number by its digits
-pub decimal_one : (n : ℕ) → n < 10 → (48 + n) ∷ [] ≡ small_decimal n
-unfolding small_decimal
-decimal_one n h = rw (lt-ltb n 10 h)
+-- a number of one byte, by its digits
+no_digit : (unit n : ℕ) → n < unit → digit unit n ≡ []
+unfolding digit
+no_digit unit n h = rw (lt-ltb n unit h)
 
-pub decimal_two : (n : ℕ) → 10 ≤ n → n < 100 → (48 + n / 10) ∷ (48 + n % 10) ∷ [] ≡ small_decimal n
-unfolding small_decimal
-decimal_two n g h = rw (le-ltb n 10 g, lt-ltb n 100 h)
+module _ (n : ℕ) (byte : n < 256) where
+  from_hundreds : decimal n ≡ digit 100 n ++ (digit 10 n ++ ((48 + n % 10) ∷ []))
+  unfolding decimal
+  from_hundreds = rw (no_digit 10000 n (omega arith), no_digit 1000 n (omega arith))
 
-pub decimal_three : (n : ℕ) → 100 ≤ n → (48 + n / 100) ∷ (48 + n / 10 % 10) ∷ (48 + n % 10) ∷ [] ≡ small_decimal n
-unfolding small_decimal
-decimal_three n g = rw (le-ltb n 10 (omega (arith, g)), le-ltb n 100 g)
+  pub byte_decimal : decimal n ≡ small_decimal n
+  unfolding small_decimal
+  byte_decimal = go (dec_le 10 n) (dec_le 100 n)
+    where
+      go : Dec (10 ≤ n) → Dec (100 ≤ n) → decimal n ≡ small_decimal n
+      go (no a) b = from_hundreds ∙ rw (no_digit 100 n (omega arith), no_digit 10 n (omega arith), lt-ltb n 10 (omega arith)) (ap (λ (k : ℕ). (48 + k) ∷ []) (omega arith))
+      go (yes a) (no b) = from_hundreds ∙ rw (no_digit 100 n (omega arith), a_digit n 10 a, le-ltb n 10 a, lt-ltb n 100 (omega arith))
+          (ap (λ (k : ℕ). (48 + k) ∷ (48 + n % 10) ∷ []) (omega arith))
+      go (yes a) (yes b) = from_hundreds ∙ rw (a_digit n 100 b, a_digit n 10 a, le-ltb n 10 a, le-ltb n 100 b)
+          (ap (λ (k : ℕ). (48 + k) ∷ (48 + n / 10 % 10) ∷ (48 + n % 10) ∷ []) (omega arith))
 
 -- a line that is no sort
 module _ (bs : List ℕ) (p : ℕ) (out : List ℕ) (at : ℕ) (l : length bs ≤ 200) (room : at + 816 ≤ length out)

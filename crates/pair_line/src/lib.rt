@@ -6,7 +6,7 @@ ghost use Rattle.std.specs.Prelude.{◌≡◌, true, false, [], ◌∷◌, ◌++
 ghost use Rattle.resolved_sort.specs.Order.{bound as bound_of};
 ghost use Rattle.resolved_sort.specs.Storage.{full_length};
 ghost use Rattle.resolved_sort.specs.Entries.{tree_at};
-ghost use Rattle.pair_line.specs.PairProgram.{digit_byte as digitOf, small_decimal, sign, sort_or_none, yes_or_no};
+ghost use Rattle.pair_line.specs.PairProgram.{small_decimal, sign, sort_or_none, yes_or_no};
 ghost use Rattle.pair_line.specs.PairProgram.{comma, answer, line_of, with_second, pair as pair_of};
 ghost use Rattle.pair_line.specs.PairProgram.{single as singleOf};
 ghost use Rattle.sort_text.specs.Writing.{write_left};
@@ -26,7 +26,7 @@ use sort_reader::read_line;
 use sort_recogniser::{Stuck, recognise};
 use sort_text::{MAX_LINE, Read, Written};
 use sort_writer::put_sort;
-use text_out::put_bytes;
+use text_out::{Out, put_bytes};
 
 // How much of the sort storage is in use, and where in the buffer the next byte goes.
 #[derive(Clone, Copy, Drop)]
@@ -49,30 +49,14 @@ fn six(sorts: &mut [u16])
     sorts[20] = 5;
 }
 
-// One decimal digit.
-fn put_digit(digit: u8, out: &mut [u8], at: usize) -> usize
-    requires { (digit < 10) × (at < length out.old) }
-    ensures { Put out.old at (digitOf digit ∷ []) out.new result }
-{
-    out[at] = b'0' + digit;
-    at + 1
-}
-
 // A number in decimal.
 fn put_decimal(n: u8, out: &mut [u8], at: usize) -> usize
     requires { at + length (small_decimal n) ≤ length out.old }
     ensures { Put out.old at (small_decimal n) out.new result }
 {
-    if n < 10 {
-        return put_digit(n, out, at);
-    }
-    if n < 100 {
-        let tens = put_digit(n / 10, out, at);
-        return put_digit(n % 10, out, tens);
-    }
-    let hundreds = put_digit(n / 100, out, at);
-    let tens = put_digit((n / 10) % 10, out, hundreds);
-    put_digit(n % 10, out, tens)
+    let mut to = Out { bytes: out, at };
+    to.put_number(u16::from(n));
+    to.at
 }
 
 // The sign of an order, and a comma.
