@@ -22,10 +22,10 @@ use Rattle.std.specs.IoError.{error_kind}
 use Rattle.std.specs.declared.io.Error.{Error}
 use Rattle.std.specs.declared.io.ErrorKind.TheVariants.{TimedOut}
 use Rattle.held_line.specs.Holding.{line_kept, held_at}
-use Rattle.line_input.specs.declared.Input.{Input}
+use Rattle.line_input.specs.Found.{Input}
 use Rattle.line_input.specs.declared.Lines.{Lines}
-use Rattle.line_input.specs.declared.LineFound.{LineFound}
-use Rattle.line_input.specs.declared.LineFound.TheVariants.{Nothing, Line, End, Failed}
+use Rattle.line_input.specs.Found.{LineFound}
+use Rattle.line_input.specs.Found.{Nothing, Line, End, Failed}
 use Rattle.line_input.specs.Taking.{take_line}
 use Rattle.line_input.specs.Answers.{unread, most_reads}
 use Rattle.line_input.specs.Inner.Answers.{Takes, end_of, failed, at_its_end, bytes, AfterRead, GivenBy, ReadSomeFrom}

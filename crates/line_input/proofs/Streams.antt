@@ -11,9 +11,9 @@ use Rattle.std.specs.declared.io.Error.{Error}
 use Rattle.std.specs.declared.io.ErrorKind.TheVariants.{TimedOut}
 use Rattle.std.specs.Io.KnownBytes.{Consumes, IsAtEnd}
 use Rattle.held_line.specs.Lines.{whole}
-use Rattle.line_input.specs.declared.Input.{Input}
-use Rattle.line_input.specs.declared.LineFound.{LineFound}
-use Rattle.line_input.specs.declared.LineFound.TheVariants.{Nothing, Line, End, Failed}
+use Rattle.line_input.specs.Found.{Input}
+use Rattle.line_input.specs.Found.{LineFound}
+use Rattle.line_input.specs.Found.{Nothing, Line, End, Failed}
 use Rattle.line_input.specs.declared.Lines.{Lines}
 use Rattle.line_input.specs.Lines.{LineRead, Answers, seen}
 use Rattle.line_input.specs.Taking.{Came, line_ends, going, take_line, Reached, reached, goes_on, some_line, no_line, following_by, following_of, next_line, held_lines}

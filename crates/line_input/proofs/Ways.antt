@@ -14,9 +14,9 @@ use Rattle.std.specs.Io.KnownBytes.{Keeps, Consumes, IsAtEnd}
 use Rattle.held_line.specs.Lines.{whole}
 use Rattle.held_line.specs.Holding.{holding, line_kept, held_at}
 use Rattle.held_line.proofs.Held.{byte_held}
-use Rattle.line_input.specs.declared.Input.{Input}
-use Rattle.line_input.specs.declared.LineFound.{LineFound}
-use Rattle.line_input.specs.declared.LineFound.TheVariants.{Nothing, Line, End, Failed}
+use Rattle.line_input.specs.Found.{Input}
+use Rattle.line_input.specs.Found.{LineFound}
+use Rattle.line_input.specs.Found.{Nothing, Line, End, Failed}
 use Rattle.line_input.specs.Taking.{Came, line_ends, going, take_line, Reached, reached, goes_on, some_line, following_by, following_of}
 use Rattle.line_input.specs.Answers.{unread, SaysLine, most_reads, EndsInput, NextLineFrom}
 use Rattle.line_input.specs.Inner.Answers.{held_of, input_of, Takes, end_of, Got, failed, at_its_end, bytes, AfterRead, GivenBy, ReadSomeFrom}
@@ -74,12 +74,6 @@ module _ (buffer line : List ℕ) (from end before : ℕ) (left : List ℕ) (at 
         held = sym (ap held_of e);
         behind = t.behind;
       }
-
-  pub all_looked_at : length buffer ≤ at → Takes buffer line from end before left (input at end count Nothing)
-  all_looked_at h = stays_going (omega (arith, h, length-take end buffer))
-
-  pub at_its_end_lem : end ≤ at → Takes buffer line from end before left (input at end count Nothing)
-  at_its_end_lem h = stays_going (omega (arith, h, length-take end buffer))
 
   module _ (i : at < length buffer) (j : at < end) where
     abbrev rest : List ℕ

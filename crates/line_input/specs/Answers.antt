@@ -3,9 +3,9 @@
 use Rattle.std.specs.Prelude.{◌≡◌, List, [], ℕ, ◌<◌, ◌≤◌, length, take, drop, Option, ⊤}
 use Rattle.std.specs.Io.KnownBytes.{Consumes, IsAtEnd}
 use Rattle.std.proofs.Math.Seq.{slice}
-use Rattle.line_input.specs.declared.Input.{Input}
-use Rattle.line_input.specs.declared.LineFound.{LineFound}
-use Rattle.line_input.specs.declared.LineFound.TheVariants.{Nothing, Line, End, Failed}
+use Rattle.line_input.specs.Found.{Input}
+use Rattle.line_input.specs.Found.{LineFound}
+use Rattle.line_input.specs.Found.{Nothing, Line, End, Failed}
 use Rattle.held_line.specs.Lines.{whole}
 use Rattle.line_input.specs.Taking.{Came, line_ends, going, take_line, Reached, reached, goes_on}
 use Rattle.line_input.specs.Taking.{some_line, no_line, following_of}

@@ -1,5 +1,6 @@
 -- A line taken from an input that comes in parts, and what the functions of this crate leave.
 pub mod Taking
+pub mod Found
 pub mod Answers
 pub mod Inner
 pub mod Lines

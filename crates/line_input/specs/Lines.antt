@@ -3,10 +3,10 @@ use Rattle.std.specs.Prelude.{◌≡◌, ℕ, List, Option, Some, None, Result, 
 use Rattle.std.specs.IoError.{error_kind}
 use Rattle.std.specs.declared.io.ErrorKind.TheVariants.{TimedOut}
 use Rattle.std.specs.declared.io.Error.{Error}
-use Rattle.line_input.specs.declared.Input.{Input}
+use Rattle.line_input.specs.Found.{Input}
 use Rattle.line_input.specs.declared.Lines.{Lines}
-use Rattle.line_input.specs.declared.LineFound.{LineFound}
-use Rattle.line_input.specs.declared.LineFound.TheVariants.{Nothing, Line, End, Failed}
+use Rattle.line_input.specs.Found.{LineFound}
+use Rattle.line_input.specs.Found.{Nothing, Line, End, Failed}
 use Rattle.line_input.specs.Answers.{NextLineFrom}
 
 abbrev pub seen : Lines → LineFound → Input

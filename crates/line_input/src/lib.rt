@@ -6,12 +6,10 @@
 #![tactic(auto)]
 
 ghost use Rattle.std.specs.Prelude.{◌≡◌, ◌≤◌, length};
-ghost use Rattle.line_input.specs.Answers.{NextLineFrom};
 ghost use Rattle.line_input.specs.Lines.{LineRead, SameMemory, seen};
-ghost use Rattle.line_input.specs.Inner.Answers.{Takes, ReadSomeFrom, end_of};
+ghost use Rattle.line_input.specs.Inner.Answers.{Takes};
 ghost use Rattle.line_input.specs.Inner.Lines.{FilledBy, found_where};
 
-use held_line::hold;
 use std::io;
 use std::io::Read;
 use text_out::Out;
@@ -92,128 +90,4 @@ impl<'a> Lines<'a> {
         }
         Err(io::Error::from(io::ErrorKind::TimedOut))
     }
-}
-
-// What the search for a line came to: more bytes are needed, a line, no further line, or a read that failed.
-#[derive(Clone, Copy, Drop)]
-pub enum LineFound {
-    Nothing,
-    Line,
-    End,
-    Failed,
-}
-
-// The bytes of the buffer from `at` up to `end` are not taken yet, and so many bytes of the line are held.
-#[derive(Clone, Copy, Drop)]
-pub struct Input {
-    pub at: usize,
-    pub end: usize,
-    pub length: usize,
-    pub found: LineFound,
-}
-
-// Where reading starts.
-pub fn no_input() -> Input
-    ensures { (result.at ≡ 0) × (result.end ≡ 0) × (result.length ≡ 0) × (result.found ≡ LineFound.Nothing) }
-{
-    Input {
-        at: 0,
-        end: 0,
-        length: 0,
-        found: LineFound::Nothing,
-    }
-}
-
-// Takes the bytes of the buffer from `from` up to `end`, at most those of one line, of which `before` are held.
-fn take(buffer: &[u8], line: &mut [u8], from: usize, end: usize, before: usize) -> Input
-    requires { before ≤ length line.old }
-    ensures { Takes buffer.now line.old from end before line.new result }
-{
-    let most = line.len();
-    let mut at = from;
-    let mut held = before;
-    while at < buffer.len() {
-        if end <= at {
-            return Input {
-                at,
-                end,
-                length: held,
-                found: LineFound::Nothing,
-            };
-        }
-        let byte = buffer[at];
-        at += 1;
-        let ends = byte == b'\n';
-        if ends {
-            return Input {
-                at,
-                end,
-                length: held,
-                found: LineFound::Line,
-            };
-        }
-        held = hold(line, most, 0, held, byte);
-    }
-    Input {
-        at,
-        end,
-        length: held,
-        found: LineFound::Nothing,
-    }
-}
-
-// The end of the input: a last nonempty line needs no LF.
-fn at_end(held: usize) -> Input
-    ensures { result ≡ end_of held }
-{
-    if held == 0 {
-        return Input {
-            at: 0,
-            end: 0,
-            length: held,
-            found: LineFound::End,
-        };
-    }
-    Input {
-        at: 0,
-        end: 0,
-        length: held,
-        found: LineFound::Line,
-    }
-}
-
-// Reads once, and goes on with a line of which there are some bytes.
-fn read_some<R: Read>(reader: &mut R, buffer: &mut [u8], line: &mut [u8], held: usize) -> Input
-    requires { held ≤ length line.old }
-    ensures { ReadSomeFrom (R.remaining reader.old) (R.remaining reader.new) buffer.new line.old held line.new result }
-{
-    match reader.read(buffer) {
-        Err(_) => Input {
-            at: 0,
-            end: 0,
-            length: held,
-            found: LineFound::Failed,
-        },
-        Ok(0) => at_end(held),
-        Ok(end) => take(buffer, line, 0, end, held),
-    }
-}
-
-// The next line of the input. A proved loop has to end, and nothing says that an input does: the loop counts its
-// turns down, from a number that no run uses up.
-pub fn next_line<R: Read>(reader: &mut R, buffer: &mut [u8], line: &mut [u8], input: Input) -> Input
-    ensures { NextLineFrom (R.remaining reader.old) (R.remaining reader.new) buffer.old line.old input buffer.new line.new result }
-{
-    let mut current = take(buffer, line, input.at, input.end, 0);
-    let mut turns = u64::MAX;
-    while turns > 0 {
-        let found = current.found;
-        match found {
-            LineFound::Nothing => {}
-            _ => return current,
-        }
-        current = read_some(reader, buffer, line, current.length);
-        turns -= 1;
-    }
-    current
 }

@@ -13,8 +13,8 @@ use Rattle.text_out.specs.declared.Out.{Out}
 use Rattle.text_out.specs.Within.{Buffer, buffer}
 use Rattle.text_out.specs.Outs.{then_put}
 use Rattle.text_out.proofs.Outs.{then_put_room}
-use Rattle.line_input.specs.declared.Input.{Input}
-use Rattle.line_input.specs.declared.LineFound.TheVariants.{Nothing, Line, End}
+use Rattle.line_input.specs.Found.{Input}
+use Rattle.line_input.specs.Found.{Nothing, Line, End}
 use Rattle.line_input.specs.declared.Lines.{Lines}
 use Rattle.line_input.specs.Lines.{LineRead, seen}
 use Rattle.line_input.specs.Taking.{held_lines}

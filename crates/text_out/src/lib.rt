@@ -3,7 +3,6 @@
 #![tactic(auto)]
 
 ghost use Rattle.std.specs.Prelude.{[], ◌∷◌, ◌+◌, ◌≤◌, length, ◌≡◌};
-ghost use Rattle.text_out.specs.Within.{PutWithin};
 ghost use Rattle.text_out.specs.Decimal.{digit, decimal};
 ghost use Rattle.text_out.specs.Put.{Put};
 ghost use Rattle.text_out.specs.Outs.{then_put};
@@ -79,32 +78,5 @@ pub fn put_bytes(bytes: &[u8], out: &mut [u8], at: usize) -> usize
 {
     let mut to = Out { bytes: out, at };
     to.put_bytes(bytes);
-    to.at
-}
-
-// One byte. Past the end of the buffer it is lost, and the place stays.
-pub fn put_byte(byte: u8, out: &mut [u8], at: usize) -> usize
-    ensures { PutWithin out.old at (byte ∷ []) out.new result }
-{
-    let mut to = Out { bytes: out, at };
-    to.put_byte(byte);
-    to.at
-}
-
-// Bytes, as far as there is room; the place behind them.
-pub fn put_text(bytes: &[u8], out: &mut [u8], at: usize) -> usize
-    ensures { PutWithin out.old at bytes.now out.new result }
-{
-    let mut to = Out { bytes: out, at };
-    to.put_text(bytes);
-    to.at
-}
-
-// A number in decimal.
-pub fn put_number(n: u16, out: &mut [u8], at: usize) -> usize
-    ensures { PutWithin out.old at (decimal n) out.new result }
-{
-    let mut to = Out { bytes: out, at };
-    to.put_number(n);
     to.at
 }

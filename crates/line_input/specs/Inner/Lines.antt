@@ -5,8 +5,8 @@ use Rattle.std.specs.Io.KnownBytes.{ReadConsumes}
 use Rattle.std.specs.Result.{result_unwrap_or}
 use Rattle.std.specs.declared.io.Error.{Error}
 use Rattle.line_input.specs.declared.Lines.{Lines}
-use Rattle.line_input.specs.declared.LineFound.{LineFound}
-use Rattle.line_input.specs.declared.LineFound.TheVariants.{Nothing, Line}
+use Rattle.line_input.specs.Found.{LineFound}
+use Rattle.line_input.specs.Found.{Nothing, Line}
 
 -- whether bytes have ended a line
 abbrev pub found_where : Bool → LineFound

@@ -3,7 +3,7 @@ use Rattle.std.proofs.Common.{ℕ, List, ◌≤◌, ◌≡◌, ◌∙◌, ap, su
 use Rattle.std.proofs.Math.Seq.{length-take-le}
 use Rattle.std.specs.Prelude.{Ok}
 use Rattle.std.specs.Io.KnownBytes.{Appends}
-use Rattle.line_input.specs.declared.LineFound.TheVariants.{Nothing}
+use Rattle.line_input.specs.Found.{Nothing}
 use Rattle.line_input.specs.Lines.{seen}
 use Rattle.line_input.specs.Taking.{held_lines}
 use Rattle.list_reader.specs.Taking.{line_taken}

@@ -2,7 +2,7 @@
 -- printed from the next line on.
 use Rattle.std.proofs.Common.{◌≡◌, ℕ, ◌<◌, List, length}
 use Rattle.std.specs.Prelude.{Some}
-use Rattle.line_input.specs.declared.LineFound.TheVariants.{Nothing}
+use Rattle.line_input.specs.Found.{Nothing}
 use Rattle.line_input.specs.Answers.{unread}
 use Rattle.line_input.specs.Lines.{seen}
 use Rattle.solve_lists.proofs.Runs.{Solving}

@@ -1,7 +1,0 @@
--- What the methods of `Out` leave of the buffer. Assumes nothing.
-use Rattle.std.proofs.Common.{rules}
-use Rattle.text_out.proofs.Outs as law
-use Rattle.text_out.proofs.put_byte.Goals as goal
-
-pub returns : goal.returns
-returns c = law.left_within _ _ c.put_byte.ensures (search rules)
