@@ -205,6 +205,7 @@ impl Arena<'_> {
     // One more node, where there is room.
     // Merc's arena only grows, and what a branch that is rolled back has made stays as harmless garbage. Here room has
     // an end, and the search gives these nodes back when the tries are over.
+    // kept: words with a count: put_args stores them so, and asks nothing of how many words are lent.
     fn push(
         &mut self,
         kind: u16,

@@ -97,6 +97,7 @@ pub enum Tried {
 }
 
 // So many of three places: at most three count.
+// kept: an array of three beside the same count is no plainer: `places.first` says more than `places.ids[0]`.
 #[derive(Clone, Copy, Drop)]
 pub struct Three {
     pub first: InferSortId,
