@@ -45,6 +45,7 @@ struct Row<'a> {
 }
 
 // What the words of a row say. Every kind above 12 says TypeVar: that it is 13 is check 3's to show.
+// kept: kinds are numbers, since the layout of the lent words is the C interface.
 #[tactic(auto, unfolding(resolved_sort::specs::Storage::resolved))]
 fn row_of(kind: u16, part: u16, run: Run) -> ResolvedSort
     ensures { result ≡ resolved kind part run }
@@ -182,6 +183,7 @@ pub fn same_rows(sorts: &[u16], lhs: SortId, rhs: SortId) -> bool
 }
 
 // Whether a run has these sorts as its entries, and no more.
+// kept: beside same_run, since these sorts are a slice and no run of the lent words.
 fn has_args(words: &[u16], run: Run, args: &[SortId]) -> bool
     ensures { result ≡ same_words (entries_of words.now run.start run.count) (sort_numbers args.now) }
 {
@@ -218,6 +220,7 @@ pub fn put_row(sorts: &mut [u16], i: u16, kind: u16, part: u16, start: u16, coun
 }
 
 // The first n of the ids stored as the entries from e on. The rest of the ids is not stored.
+// kept: beside put_sorts, since these are places and no sorts.
 pub fn put_args(sorts: &mut [u16], e: u16, ids: [u16; ARGUMENT_WORDS], n: u16)
     requires { n ≤ max_arguments }
     ensures { sorts.new ≡ sets sorts.old (entries_at + e) (take n ids) }
