@@ -1,4 +1,5 @@
 -- The laws of what entries answer and leave.
+pub mod Refusals
 pub mod Packing
 pub mod SortsLeft
 pub mod RanOut

@@ -12,6 +12,7 @@ use lib.Seq.{sets, length-take-le, get_or-set_other, get_or-take, get_or-drop, g
 use lib.Dec.{eqb, leb}
 use native.Mathlib.Decide.{dec_lt}
 use borrow.Author.Tests.{leb-true, le-leb}
+use Rattle.std.specs.Prelude.{Ok}
 use Rattle.words.specs.Words.{zeros}
 use Rattle.resolved_sort.specs.Tree.{Tree}
 use Rattle.resolved_sort.specs.Interning.{Sorts, look, need, distinct}
@@ -70,7 +71,7 @@ past_entries_written ws T e (x ∷ xs) r j h =
     ∙ past_run ws (length T) e (row_of T x) (omega arith) j (omega (arith, length_args T x))
 
 -- a checked list with the fixed six passes checks 1 to 4
-pub checks_pass : (ws : List ℕ) (n e : ℕ) → Checked ws n e → fixed_six ws n ≡ true → first_failing (sort_checks ws n e) ≡ none
+pub checks_pass : (ws : List ℕ) (n e : ℕ) → Checked ws n e → fixed_six ws n ≡ true → first_failing (sort_checks ws n e) ≡ Ok tt
 unfolding sort_checks within_lent first_failing
 checks_pass ws n e k six =
     rw (
@@ -84,7 +85,7 @@ checks_pass ws n e k six =
     )
 
 -- and check 1 bounds the counts
-pub counts_within : (ws : List ℕ) (n e : ℕ) → first_failing (sort_checks ws n e) ≡ none → (n ≤ max_sorts) × (e ≤ max_entries)
+pub counts_within : (ws : List ℕ) (n e : ℕ) → first_failing (sort_checks ws n e) ≡ Ok tt → (n ≤ max_sorts) × (e ≤ max_entries)
 unfolding sort_checks within_lent
 counts_within ws n e x =
     let p = (and-eq-true_iff (leb n max_sorts && leb e max_entries && leb (4 * n) (length ws)) (leb e (length ws - entries_at))).0 (cons_passes _ _ x).0 in

@@ -1,6 +1,9 @@
 -- An answer as document 01 has it, its number and its values, and both as one number for callers in other languages:
 -- the code in the lowest 8 bits, each value above it in a field of its own.
 use Rattle.std.specs.Prelude.{List, [], ◌∷◌, ℕ, ◌+◌, ◌*◌, ◌^◌, ◌<◌}
+use Rattle.std.specs.Prelude.{Result, Ok, Err}
+use Rattle.resolved_sort.specs.declared.Refusal.{Refusal}
+use Rattle.resolved_sort.specs.Checks.{code_of}
 
 -- "Each enum answer has a definition that gives this paper's number and values for each of its cases."
 pub record CodeAndValues : Type 0 where
@@ -31,3 +34,18 @@ FitFields (w ∷ ws) (v ∷ vs) = (v < 2 ^ w) × FitFields ws vs
 
 abbrev pub FitsWidths : List ℕ → CodeAndValues → Type 0
 FitsWidths ws a = FitFields (code_bits ∷ ws) (a.code ∷ a.values)
+
+-- an answer with the values of what it is where it is not refused: 0 and these, or the number of the refusal
+abbrev pub coded_answer : {A : Type 0} → (A → List ℕ) → Result A Refusal → CodeAndValues
+coded_answer values (Ok a) = coded 0 (values a)
+coded_answer values (Err r) = coded (code_of r) []
+
+-- what holds of an answer's refusal, or of what it is
+abbrev pub AnswerWithin : {A : Type 0} → (Refusal → Type 0) → (A → Type 0) → Result A Refusal → Type 0
+AnswerWithin R W (Ok a) = W a
+AnswerWithin R W (Err r) = R r
+
+-- what is packed of an answer whose values are packed above a code of 0
+unfoldable pub pack_number : Result ℕ Refusal → ℕ
+pack_number (Ok values) = values
+pack_number (Err r) = code_of r

@@ -1,6 +1,6 @@
 -- What an entry leaves of the sort storage ws, lent with n sorts and e entries: words vs in which the given sorts stand
 -- as they were, with new ones behind them; or, where room ended, with zeros behind them.
-use Rattle.std.specs.Prelude.{◌≡◌, false, List, ℕ, ◌*◌, ◌<◌, ◌≤◌, length, get_or}
+use Rattle.std.specs.Prelude.{◌≡◌, false, List, ℕ, ◌*◌, ◌<◌, ◌≤◌, length, get_or, Ok}
 use Rattle.std.proofs.Math.Option.{none}
 use Rattle.resolved_sort.specs.declared.Counts.{Counts}
 use Rattle.resolved_sort.specs.Tree.{Tree}
@@ -25,7 +25,7 @@ pub record SortsGrew (ws : List ℕ) (n e : ℕ) (vs : List ℕ) (k : Counts) : 
   pub old : (i : ℕ) → i < n → tree_at vs k.sorts i ≡ tree_at ws n i
   pub past_rows : (i : ℕ) → row_words * k.sorts ≤ i → i < entries_at → get_or vs i 0 ≡ get_or ws i 0
   pub past_entries : (j : ℕ) → k.entries ≤ j → entry_at vs j ≡ entry_at ws j
-  pub again : first_failing (sort_checks vs k.sorts k.entries) ≡ none
+  pub again : first_failing (sort_checks vs k.sorts k.entries) ≡ Ok tt
 
 -- 15 gives back: "rows past the entry lengths are zero".
 pub record SortsPutBack (ws : List ℕ) (n e : ℕ) (vs : List ℕ) : Type 0 where
@@ -33,7 +33,7 @@ pub record SortsPutBack (ws : List ℕ) (n e : ℕ) (vs : List ℕ) : Type 0 whe
   pub old : (i : ℕ) → i < n → tree_at vs n i ≡ tree_at ws n i
   pub zero_rows : (i : ℕ) → row_words * n ≤ i → i < entries_at → get_or vs i 0 ≡ 0
   pub zero_entries : (j : ℕ) → e ≤ j → entry_at vs j ≡ 0
-  pub again : first_failing (sort_checks vs n e) ≡ none
+  pub again : first_failing (sort_checks vs n e) ≡ Ok tt
 
 -- "a new distinct sort would exceed 1,024 sorts or 4,096 entries": a list grown from the given one, and a sort that it
 -- has not and that does not fit.

@@ -10,8 +10,13 @@ use native.Mathlib.Omega.{arith}
 use lib.Dec.{leb, ltb}
 use lib.ListN.{length, get_or, take, drop}
 use borrow.Author.Tests.{ltb-true, leb-true}
+use Rattle.std.specs.Prelude.{Ok, Err}
 use Rattle.resolved_sort.specs.declared.Run.{Run}
-use Rattle.resolved_sort.specs.Checks.{Check, first_failing, within_lent, fixed_six, rows_fine, no_two_equal, at_ceiling}
+use Rattle.resolved_sort.specs.declared.Refusal.{Refusal}
+use Rattle.resolved_sort.specs.declared.Refusal.TheVariants.{NotLent, NotFixedSix, BadSort, EqualSorts, BadNode, BadBinding}
+use Rattle.resolved_sort.specs.declared.Refusal.TheVariants.{Cyclic, BadExpression, BadConstraint, TwoForOne, BadJoin}
+use Rattle.resolved_sort.specs.declared.Refusal.TheVariants.{NotInList, NoText, TooShort, SortsFull, NodesFull, LongLine}
+use Rattle.resolved_sort.specs.Checks.{code_of, first_failing, within_lent, fixed_six, rows_fine, no_two_equal, at_ceiling, Tested}
 use Rattle.resolved_sort.specs.Entries.{refused_or}
 use Rattle.resolved_sort.proofs.Below.{below_each}
 use Rattle.resolved_sort.proofs.Reached.{no_confusion}
@@ -37,22 +42,26 @@ use Rattle.inference.specs.Typing.{All}
 use Rattle.inference.proofs.Members.{length_rows, all_rows, row_at_lem, all_rows_at, run_at}
 use Rattle.inference.specs.Inner.Listed.{ListedConstraint, sub_listed, lit_listed, disjunction_listed, comprehension_listed, join_listed}
 
--- a refusal is the code of a check, and these are not 0
-abbrev above0 : List Check → Bool
-above0 [] = true
-above0 (c ∷ cs) = ltb 0 c.code && above0 cs
-
-refusal_above_0 : (cs : List Check) → above0 cs ≡ true → (n : ℕ) → first_failing cs ≡ some n → 0 < n
-unfolding first_failing
-refusal_above_0 [] a n e = no_confusion (cc)
-refusal_above_0 (d ∷ cs) a n e = go d.passes e (refusal_above_0 cs both.1 n)
-  where
-    both : (ltb 0 d.code ≡ true) × (above0 cs ≡ true)
-    both = (and-eq-true_iff (ltb 0 d.code) (above0 cs)).0 a
-
-    go : (b : Bool) → cond b (first_failing cs) (some d.code) ≡ some n → (first_failing cs ≡ some n → 0 < n) → 0 < n
-    go true e h = h e
-    go false e h = let z : d.code ≡ n = cc in omega (arith, ltb-true 0 d.code both.0, z)
+-- no refusal has the code 0
+refusal_above_0 : (r : Refusal) → 0 < code_of r
+unfolding code_of
+refusal_above_0 NotLent = omega arith
+refusal_above_0 NotFixedSix = omega arith
+refusal_above_0 BadSort = omega arith
+refusal_above_0 EqualSorts = omega arith
+refusal_above_0 BadNode = omega arith
+refusal_above_0 BadBinding = omega arith
+refusal_above_0 Cyclic = omega arith
+refusal_above_0 BadExpression = omega arith
+refusal_above_0 BadConstraint = omega arith
+refusal_above_0 TwoForOne = omega arith
+refusal_above_0 BadJoin = omega arith
+refusal_above_0 NotInList = omega arith
+refusal_above_0 NoText = omega arith
+refusal_above_0 TooShort = omega arith
+refusal_above_0 SortsFull = omega arith
+refusal_above_0 NodesFull = omega arith
+refusal_above_0 LongLine = omega arith
 
 module _ (I : Call) where
   abbrev W : Lent
@@ -149,7 +158,7 @@ module _ (I : Call) where
     pub default : ltb I.default I.lengths.sorts ≡ true
     pub long : long_enough I ≡ true
 
-  pub passing : first_failing (solve_checks I) ≡ none → Passing
+  pub passing : first_failing (solve_checks I) ≡ Ok tt → Passing
   unfolding solve_checks node_checks
   passing x =
       let c₁ = cons_passes _ _ x in
@@ -190,7 +199,7 @@ module _ (I : Call) where
     pub constraints : All (ListedConstraint W P) P.constraints
     pub one_disjunction_each : no_two (disjunctions P.constraints) ≡ true
 
-  pub accepted : first_failing (solve_checks I) ≡ none → Accepted
+  pub accepted : first_failing (solve_checks I) ≡ Ok tt → Accepted
   unfolding solve_checks node_checks all_within_lent exprs_fine constraints_fine long_enough
   accepted x =
       let c = passing x in
@@ -211,20 +220,16 @@ module _ (I : Call) where
         one_disjunction_each = ((and-eq-true_iff (no_two (disjunctions (given I))) (no_two (keys I))).0 c.one_each).0;
       }
 
-  codes_above_0 : above0 (solve_checks I) ≡ true
-  unfolding solve_checks node_checks
-  codes_above_0 = refl
-
   -- By the first check that fails, or where none does.
-  pub refused_or_searched : (T : SolveLeft → Type 0) → ((c : ℕ) → 0 < c → T (refused I c))
+  pub refused_or_searched : (T : SolveLeft → Type 0) → ((c : Refusal) → 0 < code_of c → T (refused I c))
       → (Accepted → T (verdict I (searched (Unit {0}) nothing_met tt I))) → T (solve_entry I)
   unfolding solve_entry
   refused_or_searched T r a = go (first_failing (solve_checks I)) refl
     where
-      go : (x : Option ℕ) → first_failing (solve_checks I) ≡ x → T (refused_or x (refused I) (verdict I (searched (Unit {0}) nothing_met tt I)))
-      go none q = a (accepted q)
-      go (some c) q = r c (refusal_above_0 (solve_checks I) codes_above_0 c q)
+      go : (x : Tested) → first_failing (solve_checks I) ≡ x → T (refused_or x (refused I) (verdict I (searched (Unit {0}) nothing_met tt I)))
+      go (Ok u) q = a (accepted q)
+      go (Err c) q = r c (refusal_above_0 c)
 
-  pub passed_is_searched : first_failing (solve_checks I) ≡ none → solve_entry I ≡ verdict I (searched (Unit {0}) nothing_met tt I)
+  pub passed_is_searched : first_failing (solve_checks I) ≡ Ok tt → solve_entry I ≡ verdict I (searched (Unit {0}) nothing_met tt I)
   unfolding solve_entry
   passed_is_searched e = rw e

@@ -11,6 +11,7 @@ use native.Mathlib.Omega.{arith}
 use lib.Dec.{ltb}
 use lib.ListN.{length}
 use borrow.Author.Tests.{ltb-true, ltb-false, lt-ltb}
+use Rattle.std.specs.Prelude.{Ok}
 use Rattle.resolved_sort.specs.Checks.{first_failing}
 use Rattle.unification.specs.Making.{Lent}
 use Rattle.inference.specs.declared.Constraint.{Constraint}
@@ -229,7 +230,7 @@ searched_by_leaves I w k (missed v) x f s = judged_by_leaves I v.lent v.met v.be
 searched_by_leaves I w k (ended c W) (inl i) f s = absurd (f i)
 searched_by_leaves I w k (ended c W) (inr i) f s = absurd (s i)
 
-pub verdict_by_leaves : (I : Call) → first_failing (solve_checks I) ≡ none → (code_of (solve_entry I) ≡ 15 → ⊥)
+pub verdict_by_leaves : (I : Call) → first_failing (solve_checks I) ≡ Ok tt → (code_of (solve_entry I) ≡ 15 → ⊥)
     → (code_of (solve_entry I) ≡ 16 → ⊥) → ByLeaves I (solve_entry I) (leaves_met I)
 unfolding Kept
 verdict_by_leaves I e f s =

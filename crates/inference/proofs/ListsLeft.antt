@@ -8,6 +8,7 @@ use mathlib.Core.Option.{Option, none, some}
 use Prim.Native.Nat.{ℕ, ◌*◌, ◌≤◌}
 use native.Mathlib.Omega.{arith}
 use lib.ListN.{length}
+use Rattle.std.specs.Prelude.{Ok}
 use Rattle.resolved_sort.specs.declared.Counts.{Counts}
 use Rattle.resolved_sort.specs.Checks.{first_failing}
 use Rattle.resolved_sort.proofs.GivenBack.{zeroed_agrees}
@@ -61,7 +62,7 @@ module _ (I : Call) where
   kept : (W : Lent) → Grows (lent_of I) W → ListsKept I W
   kept W g = record { sorts = g.sort_words; nodes = g.node_words; as_long = g.as_long }
 
-  pub search_gives_nodes_back : first_failing (solve_checks I) ≡ none → (Met : Type 0) (meet : Path → Lent → Met → Met) (m : Met) → Ends I (searched Met meet m I)
+  pub search_gives_nodes_back : first_failing (solve_checks I) ≡ Ok tt → (Met : Type 0) (meet : Path → Lent → Met → Met) (m : Met) → Ends I (searched Met meet m I)
   unfolding Leaves
   search_gives_nodes_back f Met meet m = go (searched Met meet m I) (search_leaves I (accepted I f) Met meet m)
     where

@@ -6,6 +6,7 @@ use mathlib.Core.List.{List, []}
 use mathlib.Core.Option.{none}
 use mathlib.Core.Logic.{inl, inr}
 use Prim.Native.Nat.{ℕ}
+use Rattle.std.specs.Prelude.{Ok}
 use Rattle.resolved_sort.specs.Checks.{first_failing}
 use Rattle.std.specs.Prelude.{Some as Is}
 use Rattle.unification.specs.Making.{Lent, Makes, made, no_list, no_room}
@@ -50,7 +51,7 @@ module _ (I : Call) where
   unfolding rows_from
   none_given e = ap (rows_from (constraint_at I.constraints) 0) e
 
-  pub no_constraints_is_a_typing : first_failing (solve_checks I) ≡ none → I.rows.constraints ≡ 0 → TypingOr15 (solve_entry I).answer
+  pub no_constraints_is_a_typing : first_failing (solve_checks I) ≡ Ok tt → I.rows.constraints ≡ 0 → TypingOr15 (solve_entry I).answer
   no_constraints_is_a_typing f e =
       subst (λ (L : SolveLeft). TypingOr15 L.answer) (sym (passed_is_searched I f))
       (subst (λ (cs : List Constraint). TypingOr15 (verdict I (solve (Unit {0}) nothing_met P cs (start_path I)

@@ -11,13 +11,15 @@ use native.Mathlib.Omega.{arith}
 use lib.Dec.{eqb}
 use lib.ListN.{length, get_or, length-map}
 use lib.Seq.{take-append_seam}
+use Rattle.resolved_sort.specs.declared.Refusal.{Refusal}
+use Rattle.std.specs.Prelude.{Err}
 use Rattle.resolved_sort.specs.declared.Run.{Run}
 use Rattle.resolved_sort.specs.declared.Sort.{Sort}
 use Rattle.resolved_sort.specs.declared.Counts.{Counts}
 use Rattle.resolved_sort.specs.Tree.{Tree, primitive, flat}
 use Rattle.resolved_sort.specs.Storage.{entry_at}
 use Rattle.resolved_sort.specs.Rows.{AllBelow}
-use Rattle.resolved_sort.specs.Checks.{first_failing}
+use Rattle.resolved_sort.specs.Checks.{first_failing, code_of as code_of_refusal}
 use Rattle.resolved_sort.specs.Entries.{tree_at}
 use Rattle.resolved_sort.proofs.SameNumbers.{number_of_tree}
 use Rattle.resolved_sort.proofs.Reached.{no_confusion}
@@ -192,7 +194,7 @@ pub no_leaf_told_without_room : (c : ℕ) (W : Lent) → met_of (ended c W) ≡ 
 no_leaf_told_without_room c W = refl
 
 -- "A refusal names the first failing check"
-pub refused_with_the_first_failing : (I : Call) (c : ℕ) → first_failing (solve_checks I) ≡ some c → code_of (solve_entry I) ≡ c
+pub refused_with_the_first_failing : (I : Call) (c : Refusal) → first_failing (solve_checks I) ≡ Err c → code_of (solve_entry I) ≡ code_of_refusal c
 unfolding solve_entry code_solved
 refused_with_the_first_failing I c e = rw e refl
 

@@ -1,5 +1,6 @@
 -- Checks 8 to 12 and 14 of the solver, each true where the check passes, and the checks of its call in order.
 use Rattle.std.specs.Prelude.{Bool, true, false, cond, not, ◌&&◌, List, [], ◌∷◌, ◌++◌, ℕ, ◌+◌, ◌*◌, eqb, leb, ltb, length, get_or}
+use Rattle.resolved_sort.specs.declared.Refusal.TheVariants.{NotLent, BadExpression, BadConstraint, TwoForOne, BadJoin, NotInList, TooShort}
 use Rattle.resolved_sort.specs.declared.Run.{Run}
 use Rattle.resolved_sort.specs.Checks.{Check, all_below, within_lent, at_ceiling, sort_row_checks}
 use Rattle.unification.specs.declared.Lengths.{Lengths}
@@ -175,17 +176,17 @@ keys I = rows_from (λ i. get_or I.names (name_words * i) 0) 0 I.rows.names
 -- over the rows of the lists: 8 to 10
 abbrev pub row_checks : Call → List Check
 row_checks I =
-    record { code = 8; passes = exprs_fine I && names_fine I }
-    ∷ record { code = 9; passes = constraints_fine I }
-    ∷ record { code = 10; passes = no_two (disjunctions (given I)) && no_two (keys I) }
+    record { refusal = BadExpression; passes = exprs_fine I && names_fine I }
+    ∷ record { refusal = BadConstraint; passes = constraints_fine I }
+    ∷ record { refusal = TwoForOne; passes = no_two (disjunctions (given I)) && no_two (keys I) }
     ∷ []
 
 -- over components, the default sort and lent lengths: 11, 12 and 14
 abbrev pub last_checks : Call → List Check
 last_checks I =
-    record { code = 11; passes = joins_fine (given I) && leb (components (given I)) max_components }
-    ∷ record { code = 12; passes = listed I I.default }
-    ∷ record { code = 14; passes = long_enough I }
+    record { refusal = BadJoin; passes = joins_fine (given I) && leb (components (given I)) max_components }
+    ∷ record { refusal = NotInList; passes = listed I I.default }
+    ∷ record { refusal = TooShort; passes = long_enough I }
     ∷ []
 
 abbrev pub list_checks : Call → List Check
@@ -194,7 +195,7 @@ list_checks I = row_checks I ++ last_checks I
 -- the checks of the solver, in order
 unfoldable pub solve_checks : Call → List Check
 solve_checks I =
-    record { code = 1; passes = all_within_lent I }
+    record { refusal = NotLent; passes = all_within_lent I }
     ∷ sort_row_checks I.sorts I.lengths.sorts I.lengths.entries
     ++ node_checks I.nodes I.lengths.nodes I.lengths.arguments I.lengths.sorts I.binds
     I.lengths.variables

@@ -1,11 +1,12 @@
 -- The solver's outcome for every call: the first failing check, or what the search comes to, with
 -- all lent memory as it is then.
+use Rattle.resolved_sort.specs.declared.Refusal.{Refusal}
 use Rattle.std.specs.Prelude.{Bool, true, false, List, [], ◌∷◌, ◌++◌, ℕ, ◌+◌, ◌*◌, length, get_or, take, drop, replicate, ◌≡◌, ◌⊎◌}
 use Rattle.std.proofs.Math.Option.{Option, none, some}
 use Rattle.resolved_sort.specs.declared.Counts.{Counts}
 use Rattle.resolved_sort.specs.Storage.{row_words, given_back}
 use Rattle.words.specs.Words.{zeros}
-use Rattle.resolved_sort.specs.Checks.{first_failing}
+use Rattle.resolved_sort.specs.Checks.{first_failing, code_of}
 use Rattle.resolved_sort.specs.Entries.{refused_or}
 use Rattle.unification.specs.Nodes.{node_entries_at, binds_of}
 use Rattle.unification.specs.Making.{Lent}
@@ -79,7 +80,7 @@ left_with I r ws ts ms cs =
     }
 
 -- "1 to 14 .. change no lent memory"
-abbrev pub refused : Call → ℕ → SolveLeft
+abbrev pub refused : Call → Refusal → SolveLeft
 refused I c =
     record {
       answer = Refused c;
@@ -144,7 +145,7 @@ solve_entry I =
 
 -- document 01's number of each answer
 unfoldable pub code_solved : Solved → ℕ
-code_solved (Refused c) = c
+code_solved (Refused c) = code_of c
 code_solved (NoRoom c) = c
 code_solved (NoTyping k) = 17
 code_solved (Ambiguous k) = 18

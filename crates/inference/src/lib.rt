@@ -2,7 +2,7 @@
 // contracts and code speak of.
 #![tactic(auto)]
 
-use resolved_sort::{Counts, Run, SortId};
+use resolved_sort::{Counts, Refusal, Run, SortId};
 use unification::InferSortId;
 
 // The number of an expression.
@@ -90,10 +90,10 @@ pub struct Outputs {
     pub choices: u16,
 }
 
-// What the solver answers. A refusal is the code of the first failing check; no room is 15 or 16.
+// What the solver answers. A refusal is the first failing check; no room is 15 or 16.
 #[derive(Clone, Copy, Drop)]
 pub enum Solved {
-    Refused(u16),
+    Refused(Refusal),
     NoRoom(u16),
     NoTyping(Counts),
     Ambiguous(Counts),

@@ -10,9 +10,10 @@ use native.Mathlib.Omega.{arith}
 use lib.ListN.{length, length-append, length-map}
 use lib.Dec.{leb}
 use borrow.Author.Tests.{leb-true}
+use Rattle.std.specs.Prelude.{Ok, Err}
 use Rattle.resolved_sort.specs.declared.Counts.{Counts}
 use Rattle.resolved_sort.specs.Storage.{max_sorts}
-use Rattle.resolved_sort.specs.Checks.{first_failing}
+use Rattle.resolved_sort.specs.Checks.{first_failing, Tested}
 use Rattle.resolved_sort.specs.Entries.{refused_or}
 use Rattle.inference.specs.declared.Constraint.{Constraint}
 use Rattle.inference.specs.declared.Constraint.TheVariants.{Sub, Lit, Disjunction, Comprehension, Join}
@@ -53,14 +54,14 @@ few_disjunctions (c ∷ cs) = omega (arith, one_more c (disjunctions cs), few_di
 
 -- a call that gets a typing has passed all checks
 module _ (I : Call) (o : Outputs) (e : (solve_entry I).answer ≡ Typing o) where
-  none_failed : first_failing (solve_checks I) ≡ none
+  none_failed : first_failing (solve_checks I) ≡ Ok tt
   unfolding solve_entry
   none_failed = go (first_failing (solve_checks I)) refl e
     where
-      go : (x : Option ℕ) → first_failing (solve_checks I) ≡ x
-          → (refused_or x (refused I) (verdict I (searched (Unit {0}) nothing_met tt I))).answer ≡ Typing o → first_failing (solve_checks I) ≡ none
-      go none q f = q
-      go (some c) q f = no_confusion cc
+      go : (x : Tested) → first_failing (solve_checks I) ≡ x
+          → (refused_or x (refused I) (verdict I (searched (Unit {0}) nothing_met tt I))).answer ≡ Typing o → first_failing (solve_checks I) ≡ Ok tt
+      go (Ok u) q f = q
+      go (Err c) q f = no_confusion cc
 
   few_rows : RowsLent I
   few_rows = rows_lent I (within I (passing I none_failed).within_lent).3

@@ -32,7 +32,7 @@ fn tell(answer: Solved, given: u16, exprs: u16, told: &Told<'_>, out: &mut Out<'
         told.now.choices.now) }
 {
     match answer {
-        Solved::Refused(code) => put_verdict(code, out),
+        Solved::Refused(refusal) => put_verdict(refusal.code(), out),
         Solved::NoRoom(code) => put_verdict(code, out),
         Solved::NoTyping(counts) => {
             put_verdict(17, out);

@@ -14,45 +14,30 @@ ghost use Rattle.unification.specs.NodeChecks.{node_fine, nodes_fine, binding_fi
 ghost use Rattle.node_checks.specs.Inner.Tests.{arg_placed};
 ghost use Rattle.unification.specs.Acyclic.{place_settled, all_settled, shape_settled, nodes_settled, binding_settled};
 ghost use Rattle.unification.specs.Acyclic.{vars_settled, all_true, acyclic as acyclicOf};
-ghost use Rattle.resolved_sort.specs.Inner.Entries.{tested_of};
 
 use infer_nodes::{node, taken_apart};
-use resolved_sort::{FIRST_CONTAINER, FUNCTION_KIND, MAX_ARGUMENTS, ROW_WORDS, Run, Tested};
+use resolved_sort::{FIRST_CONTAINER, FUNCTION_KIND, MAX_ARGUMENTS, ROW_WORDS, Refusal, Run};
+use sort_checks::storage_within;
 use unification::{
-    FREE_WORD, InferSort, InferSortId, MAX_NODE_ENTRIES, MAX_NODES, MAX_VARS, NODE_ENTRIES_AT,
-    NodeId, Place, VARIABLE_KIND,
+    FREE_WORD, InferSort, InferSortId, MAX_NODES, MAX_VARS, NODE_ENTRIES_AT, NODE_NUMBERS, NodeId,
+    Place, VARIABLE_KIND,
 };
 use words::word;
 
 // Check 1: m nodes and d entries are within the ceilings and within what was lent.
-#[tactic(auto, using(crate::proofs::Laws::nodes_lent))]
+#[tactic(auto, unfolding(unification::specs::NodeChecks::nodes_within_lent))]
 pub fn nodes_within_lent(nodes: &[u16], m: usize, d: usize) -> bool
     ensures { result ≡ nodes_within_lent nodes.now m d }
 {
-    if MAX_NODES < m {
-        return false;
-    }
-    if MAX_NODE_ENTRIES < d {
-        return false;
-    }
-    if nodes.len() < ROW_WORDS * m {
-        return false;
-    }
-    if d == 0 {
-        return true;
-    }
-    NODE_ENTRIES_AT + d <= nodes.len()
+    storage_within(nodes, m, d, NODE_NUMBERS)
 }
 
 // Check 1: v bindings likewise.
-#[tactic(auto, using(crate::proofs::Laws::variables_lent))]
+#[tactic(auto, unfolding(unification::specs::NodeChecks::bindings_within_lent))]
 pub fn bindings_within_lent(binds: &[u16], v: usize) -> bool
     ensures { result ≡ bindings_within_lent binds.now v }
 {
-    if MAX_VARS < v {
-        return false;
-    }
-    v <= binds.len()
+    v <= MAX_VARS && v <= binds.len()
 }
 
 // Whether a place is a sort below n or a node below m.
@@ -65,41 +50,27 @@ pub fn is_place(n: usize, m: usize, p: InferSortId) -> bool
     }
 }
 
-// Whether each of the count arguments from start on is a place among n sorts and m nodes.
-fn arguments_placed(nodes: &[u16], n: usize, m: usize, start: u16, count: u16) -> bool
-    ensures { result ≡ all_below count (arg_placed nodes.now n m start) }
+// Whether each argument of a run is a place among n sorts and m nodes.
+fn arguments_placed(nodes: &[u16], n: usize, m: usize, run: Run) -> bool
+    ensures { result ≡ all_below run.count (arg_placed nodes.now n m run.start) }
 {
-    let mut j: u16 = 0;
-    while j < count {
-        if !is_place(
-            n,
-            m,
-            InferSortId(word(nodes, NODE_ENTRIES_AT + ((start as usize) + (j as usize)))),
-        ) {
-            return false;
-        }
-        j += 1;
-    }
-    true
+    (0..run.count).all(|j| {
+        let at = NODE_ENTRIES_AT + ((run.start as usize) + (j as usize));
+        is_place(n, m, InferSortId(word(nodes, at)))
+    })
 }
 
 // Whether a node has a known kind: a container, a function or a variable.
-#[tactic(auto, using(crate::proofs::Laws::kinds))]
+#[tactic(auto, unfolding(unification::specs::NodeChecks::node_kind_fine))]
 fn kind_fine(kind: u16) -> bool
     ensures { result ≡ node_kind_fine kind }
 {
-    if kind == VARIABLE_KIND {
-        return true;
-    }
-    if kind < FIRST_CONTAINER {
-        return false;
-    }
-    kind <= FUNCTION_KIND
+    kind == VARIABLE_KIND || (FIRST_CONTAINER <= kind && kind <= FUNCTION_KIND)
 }
 
 // Whether a node that is a function has at most 16 arguments, a run inside the d entries, and parts that are places
 // below it.
-#[tactic(auto, using(crate::proofs::Laws::functions))]
+#[tactic(auto, unfolding(unification::specs::NodeChecks::node_parts_fine))]
 fn function_fine(
     nodes: &[u16],
     d: usize,
@@ -111,22 +82,14 @@ fn function_fine(
 ) -> bool
     ensures { result ≡ node_parts_fine nodes.now d n v id.0 (InferSort.Function domain range) }
 {
-    let start = domain.start;
-    let count = domain.count;
-    if MAX_ARGUMENTS < count {
-        return false;
-    }
-    if d < (start as usize) + (count as usize) {
-        return false;
-    }
-    if !is_place(n, id.0 as usize, range) {
-        return false;
-    }
-    arguments_placed(nodes, n, id.0 as usize, start, count)
+    domain.count <= MAX_ARGUMENTS
+        && (domain.start as usize) + (domain.count as usize) <= d
+        && is_place(n, id.0 as usize, range)
+        && arguments_placed(nodes, n, id.0 as usize, domain)
 }
 
 // Whether the parts of a node are fine: places below it, and a variable below v.
-#[tactic(auto, using(crate::proofs::Laws::says))]
+#[tactic(auto, unfolding(unification::specs::NodeChecks::node_parts_fine))]
 fn parts_fine(nodes: &[u16], d: usize, n: usize, v: usize, id: NodeId, says: InferSort) -> bool
     ensures { result ≡ node_parts_fine nodes.now d n v id.0 says }
 {
@@ -142,25 +105,15 @@ fn nodes_fine(nodes: &[u16], m: usize, d: usize, n: usize, v: usize) -> bool
     requires { m ≤ max_nodes }
     ensures { result ≡ nodes_fine nodes.now m d n v }
 {
-    let mut i: usize = 0;
-    while i < m {
-        if !node_fine(nodes, d, n, v, NodeId(i as u16)) {
-            return false;
-        }
-        i += 1;
-    }
-    true
+    (0..m).all(|i| node_fine(nodes, d, n, v, NodeId(i as u16)))
 }
 
 // Whether a node is fine.
-#[tactic(auto, using(crate::proofs::Laws::kind_and_parts))]
+#[tactic(auto, unfolding(unification::specs::NodeChecks::node_fine))]
 fn node_fine(nodes: &[u16], d: usize, n: usize, v: usize, id: NodeId) -> bool
     ensures { result ≡ node_fine nodes.now d n v id.0 }
 {
-    if !kind_fine(word(nodes, ROW_WORDS * (id.0 as usize))) {
-        return false;
-    }
-    parts_fine(nodes, d, n, v, id, node(nodes, id))
+    kind_fine(word(nodes, ROW_WORDS * (id.0 as usize))) && parts_fine(nodes, d, n, v, id, node(nodes, id))
 }
 
 // Check 6: each of the v bindings is free or names a place.
@@ -168,12 +121,10 @@ fn node_fine(nodes: &[u16], d: usize, n: usize, v: usize, id: NodeId) -> bool
 fn bindings_fine(binds: &[u16], v: usize, n: usize, m: usize) -> bool
     ensures { result ≡ bindings_fine n m (binds_of binds.now v) }
 {
-    let mut i: usize = 0;
-    while i < v {
+    for i in 0..v {
         if !binding_fine(n, m, word(binds, i)) {
             return false;
         }
-        i += 1;
     }
     true
 }
@@ -182,17 +133,14 @@ fn bindings_fine(binds: &[u16], v: usize, n: usize, m: usize) -> bool
 fn binding_fine(n: usize, m: usize, w: u16) -> bool
     ensures { result ≡ binding_fine n m (binding_of w) }
 {
-    if w == FREE_WORD {
-        return true;
-    }
-    is_place(n, m, InferSortId(w))
+    w == FREE_WORD || is_place(n, m, InferSortId(w))
 }
 
 // The flag at an index; past the end there is none.
 fn flag(flags: &[bool], i: usize) -> bool
     ensures { result ≡ get_or flags.now i false }
 {
-    if i < flags.len() { flags[i] } else { false }
+    flags.get(i).copied().unwrap_or(false)
 }
 
 // Whether the sort at a place is settled. An interned sort is.
@@ -259,10 +207,7 @@ fn settle_nodes(nodes: &[u16], m: usize, vars: &[bool], flags: &mut [bool])
 fn binding_settled(flags: &[bool], w: u16) -> bool
     ensures { result ≡ binding_settled flags.now (binding_of w) }
 {
-    if w == FREE_WORD {
-        return true;
-    }
-    place_settled(flags, InferSortId(w))
+    w == FREE_WORD || place_settled(flags, InferSortId(w))
 }
 
 // The variables, by the nodes.
@@ -320,20 +265,20 @@ pub fn test_nodes(
     node_entry_count: usize,
     binds: &[u16],
     var_count: usize,
-) -> Tested
+) -> Result<(), Refusal>
     requires { (node_count ≤ max_nodes) × (var_count ≤ max_vars) }
     ensures { result
-        ≡ tested_of (first_failing (node_checks nodes.now node_count node_entry_count sort_count
-        binds.now var_count)) }
+        ≡ first_failing (node_checks nodes.now node_count node_entry_count sort_count
+        binds.now var_count) }
 {
     if !nodes_fine(nodes, node_count, node_entry_count, sort_count, var_count) {
-        return Tested::Refused(5);
+        return Err(Refusal::BadNode);
     }
     if !bindings_fine(binds, var_count, sort_count, node_count) {
-        return Tested::Refused(6);
+        return Err(Refusal::BadBinding);
     }
     if !acyclic(nodes, node_count, binds, var_count) {
-        return Tested::Refused(7);
+        return Err(Refusal::Cyclic);
     }
-    Tested::Passed
+    Ok(())
 }

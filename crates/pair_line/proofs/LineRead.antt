@@ -6,6 +6,7 @@ use mathlib.Core.List.{List, ◌∷◌}
 use Prim.Native.Nat.{ℕ, ◌+◌, ◌-◌, ◌<◌, ◌≤◌}
 use native.Mathlib.Omega.{arith}
 use lib.ListN.{length, drop}
+use Rattle.resolved_sort.specs.declared.Refusal.{Refusal}
 use Rattle.resolved_sort.specs.declared.SortId.{SortId}
 use Rattle.resolved_sort.specs.declared.Counts.{Counts}
 use Rattle.resolved_sort.specs.declared.Joined.TheVariants.{At}
@@ -133,7 +134,7 @@ module _ (ws : List ℕ) (n e k : ℕ) (bs : List ℕ) (b : Begun ws n e k) (few
       let h : p ≡ length bs - length cs = cc in
       line_wrong bs cs l is ∙ ap (λ x. wrong (50 ∷ 48 ∷ 58 ∷ x)) (sym (ap (λ (i : ℕ). drop i bs) h ∙ unread_end bs cs is))
 
-  refusal_by : (P : Parsed) → line bs ≡ P → (vs : List ℕ) (c : ℕ) → read_left vs (Refused c) ≡ read_as_of ws n e bs P → ⊥
+  refusal_by : (P : Parsed) → line bs ≡ P → (vs : List ℕ) (c : Refusal) → read_left vs (Refused c) ≡ read_as_of ws n e bs P → ⊥
   unfolding read_as_of
   refusal_by (parsed t cs) is vs c q = true_not_false false (is_stored_lem t cs is vs (Refused c) q) refl
   refusal_by (stuck cs) is vs c q = let a : Refused c ≡ NotASort (length bs - length cs) = ap (λ r. r.answer) q in no_confusion (cc)
@@ -151,7 +152,7 @@ module _ (ws : List ℕ) (n e k : ℕ) (bs : List ℕ) (b : Begun ws n e k) (few
     pub no_sort : (p : ℕ) → r ≡ NotASort p → line_of bs ≡ wrong (50 ∷ 48 ∷ 58 ∷ drop p bs)
     no_sort p i = no_sort_by (line bs) refl vs p (ap (read_left vs) (sym i) ∙ f)
 
-    pub not_refused : (c : ℕ) → r ≡ Refused c → ⊥
+    pub not_refused : (c : Refusal) → r ≡ Refused c → ⊥
     not_refused c i = refusal_by (line bs) refl vs c (ap (read_left vs) (sym i) ∙ f)
 
     pub has_room : r ≡ NoRoom → ⊥

@@ -14,6 +14,7 @@ use Rattle.resolved_sort.specs.Tree.{Tree}
 use Rattle.resolved_sort.specs.Entries.{tree_at}
 use Rattle.sort_text.specs.declared.Read.{Read}
 use Rattle.sort_text.specs.declared.Read.TheVariants.{NotASort, Sort}
+use Rattle.resolved_sort.specs.declared.Refusal.TheVariants.{TooShort}
 use Rattle.sort_text.specs.declared.Written.TheVariants.{Refused, Text}
 use Rattle.sort_text.specs.Parse.{Parsed, parsed, stuck, line}
 use Rattle.sort_text.specs.Reading.{read_left, read_as_of}
@@ -160,7 +161,7 @@ module _ (bs out : List ℕ) (at : ℕ) where
     single_unread p i = single_as (wrong (50 ∷ 48 ∷ 58 ∷ drop p bs)) (wrong_by (line bs) refl p (subst (Says bs 0 (length bs) [] (line bs) steps) i f))
 
 -- the entries
-pub buffer_short : (bs out : List ℕ) → length out < line_room → write_left out (Refused 14) ≡ output_left bs out
+pub buffer_short : (bs out : List ℕ) → length out < line_room → write_left out (Refused TooShort) ≡ output_left bs out
 unfolding output_left
 buffer_short bs out h = rw (lt-leb line_room (length out) h)
 

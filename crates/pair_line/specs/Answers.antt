@@ -2,6 +2,7 @@
 -- its length; 14 where the buffer has no room for every line of output.
 use Rattle.std.specs.Prelude.{cond, List, ◌++◌, ℕ, length, drop, leb}
 use Rattle.text_out.specs.Quoted.{bytes_of}
+use Rattle.resolved_sort.specs.declared.Refusal.TheVariants.{TooShort}
 use Rattle.sort_text.specs.declared.Written.TheVariants.{Refused, Text}
 use Rattle.sort_text.specs.Writing.{WriteLeft, write_left}
 use Rattle.pair_line.specs.PairProgram.{line_of, pair, single}
@@ -13,7 +14,7 @@ with_lf bs = bs ++ bytes_of "\n"
 unfoldable pub output_left : List ℕ → List ℕ → WriteLeft
 output_left bs out =
     cond (leb line_room (length out)) (write_left (bs ++ drop (length bs) out) (Text (length bs)))
-    (write_left out (Refused 14))
+    (write_left out (Refused TooShort))
 
 -- a pair, and a line alone at the end of the input
 abbrev pub pair_left : List ℕ → List ℕ → List ℕ → WriteLeft

@@ -18,7 +18,7 @@ ghost use Rattle.pair_line.specs.Inner.Room.{put_six, RoomGrows, FirstRead, Both
 ghost use Rattle.pair_line.specs.Inner.Answers.{steps_text};
 ghost use Rattle.pair_line.specs.Answers.{with_lf, pair_left, single_left};
 
-use resolved_sort::{Counts, Joined, PartialOrder, SORT_WORDS, SortId, Widening};
+use resolved_sort::{Counts, Joined, PartialOrder, Refusal, SORT_WORDS, SortId, Widening};
 use sort_bounds::lent::bound;
 use sort_lexer::unread;
 use sort_order::lent::{is_materializable, partial_cmp, widening_distance};
@@ -255,7 +255,7 @@ pub fn pair(first: &[u8], second: &[u8], out: &mut [u8]) -> Written
     ensures { write_left out.new result ≡ pair_left first.now second.now out.old }
 {
     if out.len() < LINE_ROOM {
-        return Written::Refused(14);
+        return Written::Refused(Refusal::TooShort);
     }
     Written::Text(put_pair(first, second, out, 0))
 }
@@ -266,7 +266,7 @@ pub fn single(line: &[u8], out: &mut [u8]) -> Written
     ensures { write_left out.new result ≡ single_left line.now out.old }
 {
     if out.len() < LINE_ROOM {
-        return Written::Refused(14);
+        return Written::Refused(Refusal::TooShort);
     }
     Written::Text(put_single(line, out, 0))
 }

@@ -21,7 +21,7 @@ use Rattle.std.proofs.lemmas.List.FromFn.{length-range_with_len, get_or-range_wi
 use Rattle.resolved_sort.specs.Checks.{all_below}
 use Rattle.resolved_sort.proofs.Below.{each_below}
 
-all_below_fails : (p : ℕ → Bool) (n i : ℕ) → i < n → p i ≡ false → all_below n p ≡ false
+pub all_below_fails : (p : ℕ → Bool) (n i : ℕ) → i < n → p i ≡ false → all_below n p ≡ false
 unfolding all_below
 all_below_fails p zero i h e = absurd (omega arith)
 all_below_fails p (suc n) i h e =

@@ -2,12 +2,12 @@
 use mathlib.Core.Path.{◌≡◌, refl}
 use mathlib.Core.Bool.{Bool, true, false, cond}
 use mathlib.Core.List.{List, [], ◌∷◌, ◌++◌}
-use mathlib.Core.Option.{Option, none, some}
-use Prim.Native.Nat.{ℕ}
-use native.Mathlib.Omega.{arith}
-use Rattle.resolved_sort.specs.Checks.{Check, first_failing}
+use Rattle.std.specs.Prelude.{Ok, Err}
+use Rattle.resolved_sort.specs.declared.Refusal.{Refusal}
+use Rattle.resolved_sort.specs.Checks.{Check, Tested, first_failing}
+use Rattle.resolved_sort.proofs.Reached.{no_confusion}
 
-pub first_fails : (c : Check) (cs : List Check) → c.passes ≡ false → first_failing (c ∷ cs) ≡ some c.code
+pub first_fails : (c : Check) (cs : List Check) → c.passes ≡ false → first_failing (c ∷ cs) ≡ Err c.refusal
 unfolding first_failing
 first_fails c cs e = rw e
 
@@ -15,28 +15,32 @@ pub first_passes : (c : Check) (cs : List Check) → c.passes ≡ true → first
 unfolding first_failing
 first_passes c cs e = rw e
 
-by_first : (b : Bool) (x y : Option ℕ) (c : ℕ) (f : ℕ) → cond b x (some f) ≡ some c → (x ≡ some c → y ≡ some c) → cond b y (some f) ≡ some c
-by_first true x y c f e h = h e
-by_first false x y c f e h = e
+by_first : (b : Bool) (x y : Tested) (r f : Refusal) → cond b x (Err f) ≡ Err r → (x ≡ Err r → y ≡ Err r)
+    → cond b y (Err f) ≡ Err r
+by_first true x y r f e h = h e
+by_first false x y r f e h = e
 
-pub append_fails : (xs ys : List Check) (c : ℕ) → first_failing xs ≡ some c → first_failing (xs ++ ys) ≡ some c
+pub append_fails : (xs ys : List Check) (r : Refusal) → first_failing xs ≡ Err r → first_failing (xs ++ ys) ≡ Err r
 unfolding first_failing
-append_fails [] ys c e = let z : ◌≡◌ {A = ℕ} 0 1 = cc in absurd (omega arith)
-append_fails (x ∷ xs) ys c e = by_first x.passes (first_failing xs) (first_failing (xs ++ ys)) c x.code e (append_fails xs ys c)
+append_fails [] ys r e = no_confusion cc
+append_fails (x ∷ xs) ys r e =
+    by_first x.passes (first_failing xs) (first_failing (xs ++ ys)) r x.refusal e (append_fails xs ys r)
 
-by_passing : (b : Bool) (x y z : Option ℕ) (f : ℕ) → cond b x (some f) ≡ none → (x ≡ none → y ≡ z) → cond b y (some f) ≡ z
+by_passing : (b : Bool) (x y z : Tested) (f : Refusal) → cond b x (Err f) ≡ Ok tt → (x ≡ Ok tt → y ≡ z)
+    → cond b y (Err f) ≡ z
 by_passing true x y z f e h = h e
-by_passing false x y z f e h = let w : ◌≡◌ {A = ℕ} 0 1 = cc in absurd (omega arith)
+by_passing false x y z f e h = no_confusion cc
 
-pub append_passes : (xs ys : List Check) → first_failing xs ≡ none → first_failing (xs ++ ys) ≡ first_failing ys
+pub append_passes : (xs ys : List Check) → first_failing xs ≡ Ok tt → first_failing (xs ++ ys) ≡ first_failing ys
 unfolding first_failing
 append_passes [] ys e = refl
-append_passes (x ∷ xs) ys e = by_passing x.passes (first_failing xs) (first_failing (xs ++ ys)) (first_failing ys) x.code e (append_passes xs ys)
+append_passes (x ∷ xs) ys e =
+    by_passing x.passes (first_failing xs) (first_failing (xs ++ ys)) (first_failing ys) x.refusal e (append_passes xs ys)
 
-both : (b : Bool) (x : Option ℕ) (f : ℕ) → cond b x (some f) ≡ none → (b ≡ true) × (x ≡ none)
+both : (b : Bool) (x : Tested) (f : Refusal) → cond b x (Err f) ≡ Ok tt → (b ≡ true) × (x ≡ Ok tt)
 both true x f e = (refl, e)
-both false x f e = let w : ◌≡◌ {A = ℕ} 0 1 = cc in absurd (omega arith)
+both false x f e = no_confusion cc
 
-pub cons_passes : (c : Check) (cs : List Check) → first_failing (c ∷ cs) ≡ none → (c.passes ≡ true) × (first_failing cs ≡ none)
+pub cons_passes : (c : Check) (cs : List Check) → first_failing (c ∷ cs) ≡ Ok tt → (c.passes ≡ true) × (first_failing cs ≡ Ok tt)
 unfolding first_failing
-cons_passes c cs e = both c.passes (first_failing cs) c.code e
+cons_passes c cs e = both c.passes (first_failing cs) c.refusal e

@@ -1,73 +1,55 @@
 -- What each entry of the sorts layer answers and leaves in the lent storage, for every input: document 01, "Verdict
 -- codes" and "Sorts (002)".
-use Rattle.std.specs.Prelude.{Bool, true, List, ℕ, ◌-◌, length, drop}
+use Rattle.std.specs.Prelude.{Bool, true, List, ℕ, ◌-◌, length, drop, Result, Ok, Err}
+use Rattle.std.specs.Prelude as Rust
 use Rattle.std.proofs.Math.Option.{Option, none, some}
 use Rattle.resolved_sort.specs.declared.Counts.{Counts}
 use Rattle.resolved_sort.specs.declared.Joined.{Joined}
 use Rattle.resolved_sort.specs.declared.Joined.TheVariants.{At, Nothing, Full}
 use Rattle.resolved_sort.specs.declared.Widening.{Widening}
 use Rattle.resolved_sort.specs.declared.Widening.TheVariants.{Distance, Nothing as NoDistance}
-use Rattle.resolved_sort.specs.declared.Compared.{Compared}
-use Rattle.resolved_sort.specs.declared.Compared.TheVariants.{Refused as NotCompared, Ordered}
-use Rattle.resolved_sort.specs.declared.Bounded.{Bounded}
-use Rattle.resolved_sort.specs.declared.Bounded.TheVariants.{Refused as NotBounded, Sort}
-use Rattle.resolved_sort.specs.declared.Bounded.TheVariants.{Nothing as NoBound, NoRoom}
-use Rattle.resolved_sort.specs.declared.Measured.{Measured}
-use Rattle.resolved_sort.specs.declared.Measured.TheVariants.{Refused as NotMeasured, Steps as StepsOf}
-use Rattle.resolved_sort.specs.declared.Materialized.{Materialized}
-use Rattle.resolved_sort.specs.declared.Materialized.TheVariants.{Refused as NotMaterialized, Answer}
+use Rattle.std.specs.declared.cmp.Ordering.{Ordering}
+use Rattle.resolved_sort.specs.declared.Steps.{Steps as StepsAnswer}
+use Rattle.resolved_sort.specs.declared.Refusal.{Refusal}
+use Rattle.resolved_sort.specs.declared.Refusal.TheVariants.{SortsFull}
+use Rattle.resolved_sort.specs.declared.SortId.{SortId}
 use Rattle.resolved_sort.specs.Tree.{Tree}
-use Rattle.resolved_sort.specs.Order.{order, Steps, distance, materializable}
+use Rattle.resolved_sort.specs.Order.{ordering, Steps, steps_of, distance, materializable}
 use Rattle.resolved_sort.specs.Interning.{Sorts, look, number, Outcome, made, nothing, full, make}
 use Rattle.resolved_sort.specs.Storage.{max_entries, trees, sorts_of, written, given_back}
-use Rattle.resolved_sort.specs.Checks.{first_failing, pair_checks}
+use Rattle.resolved_sort.specs.Checks.{code_of, Tested, first_failing, pair_checks}
 
 -- the sort of number a
 abbrev pub tree_at : List ℕ → ℕ → ℕ → Tree
 tree_at ws n a = look (trees ws n) a
 
--- document 01's number of each answer
-unfoldable pub code_compared : Compared → ℕ
-code_compared (NotCompared c) = c
-code_compared (Ordered o) = 0
-
-unfoldable pub code_bounded : Bounded → ℕ
-code_bounded (NotBounded c) = c
-code_bounded (Sort s k) = 0
-code_bounded (NoBound k) = 0
-code_bounded NoRoom = 15
-
-unfoldable pub code_measured : Measured → ℕ
-code_measured (NotMeasured c) = c
-code_measured (StepsOf d) = 0
-
-unfoldable pub code_materialized : Materialized → ℕ
-code_materialized (NotMaterialized c) = c
-code_materialized (Answer b) = 0
+-- document 01's number of an answer: 0 where it is not refused
+unfoldable pub code_answered : {A : Type 0} → Result A Refusal → ℕ
+code_answered (Ok a) = 0
+code_answered (Err r) = code_of r
 
 -- refused with the first failing check, else answered
-abbrev pub refused_or : {A : Type 0} → Option ℕ → (ℕ → A) → A → A
-refused_or none refuse answer = answer
-refused_or (some c) refuse answer = refuse c
+abbrev pub refused_or : {A : Type 0} → Tested → (Refusal → A) → A → A
+refused_or (Ok u) refuse answer = answer
+refused_or (Err r) refuse answer = refuse r
 
-unfoldable pub compared : List ℕ → ℕ → ℕ → ℕ → ℕ → Compared
+unfoldable pub compared : List ℕ → ℕ → ℕ → ℕ → ℕ → Result (Rust.Option Ordering) Refusal
 compared ws n e a b =
-    refused_or (first_failing (pair_checks ws n e a b)) NotCompared
-    (Ordered (order (tree_at ws n a) (tree_at ws n b)))
+    refused_or (first_failing (pair_checks ws n e a b)) Err (Ok (ordering (tree_at ws n a) (tree_at ws n b)))
 
 abbrev pub widening_of : Option Steps → Widening
 widening_of none = NoDistance
 widening_of (some d) = Distance d.head d.interior
 
-unfoldable pub measured : List ℕ → ℕ → ℕ → ℕ → ℕ → Measured
+unfoldable pub measured : List ℕ → ℕ → ℕ → ℕ → ℕ → Result (Rust.Option StepsAnswer) Refusal
 measured ws n e a b =
-    refused_or (first_failing (pair_checks ws n e a b)) NotMeasured
-    (StepsOf (widening_of (distance true (tree_at ws n a) (tree_at ws n b))))
+    refused_or (first_failing (pair_checks ws n e a b)) Err
+    (Ok (steps_of (distance true (tree_at ws n a) (tree_at ws n b))))
 
-unfoldable pub materialized : List ℕ → ℕ → ℕ → ℕ → ℕ → Materialized
+unfoldable pub materialized : List ℕ → ℕ → ℕ → ℕ → ℕ → Result Bool Refusal
 materialized ws n e a b =
-    refused_or (first_failing (pair_checks ws n e a b)) NotMaterialized
-    (Answer (materializable (tree_at ws n a) (tree_at ws n b)))
+    refused_or (first_failing (pair_checks ws n e a b)) Err
+    (Ok (materializable (tree_at ws n a) (tree_at ws n b)))
 
 -- the counts of a list, its ceilings given
 abbrev pub counts_of : Sorts → Counts
@@ -87,6 +69,10 @@ stored ws n e (made t S) =
 stored ws n e (nothing S) = record { words = after ws n e S; answer = Nothing (counts_of S) }
 stored ws n e (full S) = record { words = after ws n e S; answer = Full }
 
+-- The join or meet of two sorts where there is one, and the counts after it; or why the call is refused.
+abbrev pub Bounded : Type 0
+Bounded = Result (Rust.Option SortId × Counts) Refusal
+
 -- What join (up true) and meet (up false) leave and answer as entries.
 pub record SortsLeft : Type 0 where
   pub words : List ℕ
@@ -97,12 +83,12 @@ sorts_left ws r = record { words = ws; answer = r }
 
 -- "Join and meet keep the sorts the Rust's would make, also where the answer is none"; 15 gives them back.
 unfoldable pub sorts_left_by : List ℕ → ℕ → ℕ → Stored → Joined → SortsLeft
-sorts_left_by ws n e r (At s k) = sorts_left r.words (Sort s k)
-sorts_left_by ws n e r (Nothing k) = sorts_left r.words (NoBound k)
-sorts_left_by ws n e r Full = sorts_left (given_back n e ws) NoRoom
+sorts_left_by ws n e r (At s k) = sorts_left r.words (Ok (Rust.Some s, k))
+sorts_left_by ws n e r (Nothing k) = sorts_left r.words (Ok (Rust.None, k))
+sorts_left_by ws n e r Full = sorts_left (given_back n e ws) (Err SortsFull)
 
 unfoldable pub bounded : Bool → List ℕ → ℕ → ℕ → ℕ → ℕ → SortsLeft
 bounded up ws n e a b =
-    refused_or (first_failing (pair_checks ws n e a b)) (λ c. sorts_left ws (NotBounded c))
+    refused_or (first_failing (pair_checks ws n e a b)) (λ c. sorts_left ws (Err c))
     (let r : Stored = stored ws n e (make up (tree_at ws n a) (tree_at ws n b) (sorts_of ws n e)) in
     sorts_left_by ws n e r r.answer)

@@ -1,5 +1,4 @@
 -- What only contracts of inner functions cite.
 pub mod Bounds
-pub mod Entries
 pub mod Pairs
 pub mod Storage

@@ -3,6 +3,7 @@
 
 ghost use Rattle.std.specs.Prelude.{◌≡◌};
 ghost use Rattle.resolved_sort.specs.declared.Refusal.TheVariants.{SortsFull};
+ghost use Rattle.resolved_sort.specs.Checks.{code_of};
 
 // The number of a sort in the sort list. A type of its own, as the Rust's ResolvedSortId: sort, node, variable and
 // expression numbers do not mix.
@@ -106,6 +107,16 @@ pub enum Refusal {
     LongLine = 19,
 }
 
+impl Refusal {
+    // Its number in document 01.
+    #[tactic(auto, unfolding(crate::specs::Checks::code_of))]
+    pub fn code(self) -> u16
+        ensures { result ≡ code_of self }
+    {
+        self as u16
+    }
+}
+
 impl From<NoRoom> for Refusal {
     ghost from_gives = { λ _ e. e ≡ SortsFull };
 
@@ -144,40 +155,6 @@ pub enum Joined {
     At(SortId, Counts),
     Nothing(Counts),
     Full,
-}
-
-// What the entries answer. A refusal is the code of the first failing check of document 01; nothing is changed.
-#[derive(Clone, Copy, Drop)]
-pub enum Compared {
-    Refused(u16),
-    Ordered(PartialOrder),
-}
-
-#[derive(Clone, Copy, Drop)]
-pub enum Bounded {
-    Refused(u16),
-    Sort(SortId, Counts),
-    Nothing(Counts),
-    NoRoom,
-}
-
-#[derive(Clone, Copy, Drop)]
-pub enum Measured {
-    Refused(u16),
-    Steps(Widening),
-}
-
-#[derive(Clone, Copy, Drop)]
-pub enum Materialized {
-    Refused(u16),
-    Answer(bool),
-}
-
-// What the checks of a call found: the code of the first that fails, or none.
-#[derive(Clone, Copy, Drop)]
-pub enum Tested {
-    Refused(u16),
-    Passed,
 }
 
 // Ceilings of document 01: sorts, argument entries, and arguments of a function. Sort numbers are below SORT_NUMBERS,

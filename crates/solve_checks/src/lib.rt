@@ -2,7 +2,7 @@
 // bindings, and the first failing check of its call.
 #![tactic(auto)]
 
-ghost use Rattle.std.specs.Prelude.{◌≡◌, true, [], ◌+◌, ◌*◌, ◌<◌, ◌≤◌, length};
+ghost use Rattle.std.specs.Prelude.{◌≡◌, true, [], ◌+◌, ◌*◌, ◌<◌, ◌≤◌, leb, length};
 ghost use Rattle.unification.specs.Nodes.{is_place};
 ghost use Rattle.inference.specs.declared.Constraint.{Constraint};
 ghost use Rattle.inference.specs.Constraints.{max_exprs, max_constraints, name_words};
@@ -16,7 +16,6 @@ ghost use Rattle.solve_checks.specs.Inner.Calls.{lists_call};
 ghost use Rattle.solve_checks.specs.Inner.Marks.{marked, mark_of, mark_by, all_under};
 ghost use Rattle.solve_checks.specs.Inner.Tests.{name_fine, source_fine, constraint_row_fine};
 ghost use Rattle.resolved_sort.specs.Checks.{first_failing};
-ghost use Rattle.resolved_sort.specs.Inner.Entries.{tested_of};
 ghost use Rattle.solve_checks.specs.Inner.Parts.{rest_checks};
 
 use inference::{
@@ -25,7 +24,7 @@ use inference::{
 };
 use node_checks::{bindings_within_lent, is_place, nodes_within_lent, test_nodes};
 use problem_words::constraint_at;
-use resolved_sort::{Run, SORT_WORDS, SortId, Tested};
+use resolved_sort::{Refusal, Run, SORT_WORDS, SortId};
 use sort_checks::{test_sorts, within_lent};
 use unification::{InferSortId, NODE_WORDS};
 use words::word;
@@ -108,32 +107,15 @@ fn placed(given: Given, place: InferSortId) -> bool
 fn exprs_fine(exprs: &[u16], given: Given) -> bool
     ensures { result ≡ exprs_fine (problem_call given exprs.now [] [] [] []) }
 {
-    let count = given.exprs;
-    let mut i: usize = 0;
-    while i < count {
-        if !placed(given, InferSortId(word(exprs, i))) {
-            return false;
-        }
-        i += 1;
-    }
-    true
+    (0..given.exprs).all(|i| placed(given, InferSortId(word(exprs, i))))
 }
 
 // Whether a name target has a known kind and, where it is an operation, a sort of the list.
-#[tactic(auto, using(crate::proofs::Fine::targets))]
+#[tactic(auto, unfolding(inference::specs::SolveChecks::target_fine))]
 fn target_fine(given: Given, kind: u16, sort: SortId) -> bool
     ensures { result ≡ target_fine (problem_call given [] [] [] [] []) kind sort.0 }
 {
-    if kind == 0 {
-        return false;
-    }
-    if 3 < kind {
-        return false;
-    }
-    if kind == 2 {
-        return (sort.0 as usize) < given.sorts;
-    }
-    true
+    0 < kind && kind <= 3 && (kind != 2 || (sort.0 as usize) < given.sorts)
 }
 
 // Whether the i-th base name is for an expression and has a fine target.
@@ -155,28 +137,29 @@ fn names_fine(names: &[u16], given: Given) -> bool
     requires { name_words * given.names ≤ length names.now }
     ensures { result ≡ names_fine (problem_call given [] names.now [] [] []) }
 {
-    let count = given.names;
-    let mut i: usize = 0;
-    while i < count {
+    for i in 0..given.names {
         if !name_fine(names, given, i) {
             return false;
         }
-        i += 1;
     }
     true
 }
 
 // Whether an overload of a run has a fine target and a place.
+#[tactic(auto, unfolding(inference::specs::SolveChecks::overload_fine, inference::specs::SolveChecks::target_fine))]
 fn overload_fine(overloads: &[u16], given: Given, start: u16, j: u16) -> bool
     ensures { result ≡ overload_fine (problem_call given [] [] [] overloads.now []) (start + j) }
 {
     let row = OVERLOAD_WORDS * ((start as usize) + (j as usize));
-    let kind = word(overloads, row);
-    let sort = word(overloads, row + 1);
-    if !target_fine(given, kind, SortId(sort)) {
-        return false;
-    }
-    placed(given, InferSortId(word(overloads, row + 2)))
+    target_fine(given, word(overloads, row), SortId(word(overloads, row + 1)))
+        && placed(given, InferSortId(word(overloads, row + 2)))
+}
+
+// Whether a run is inside a list of so many.
+fn run_within(run: Run, count: usize) -> bool
+    ensures { result ≡ leb (run.start + run.count) count }
+{
+    (run.start as usize) + (run.count as usize) <= count
 }
 
 // Whether a run is inside the overloads, and each of it is fine.
@@ -185,19 +168,8 @@ fn overloads_fine(overloads: &[u16], given: Given, run: Run) -> bool
         ≡ run_fine (problem_call given [] [] [] overloads.now []) given.overloads
         (overload_fine (problem_call given [] [] [] overloads.now [])) run }
 {
-    let start = run.start;
-    let count = run.count;
-    if given.overloads < (start as usize) + (count as usize) {
-        return false;
-    }
-    let mut j: u16 = 0;
-    while j < count {
-        if !overload_fine(overloads, given, start, j) {
-            return false;
-        }
-        j += 1;
-    }
-    true
+    run_within(run, given.overloads)
+        && (0..run.count).all(|j| overload_fine(overloads, given, run.start, j))
 }
 
 // Whether a run is inside the sources, and each of it is a place.
@@ -206,42 +178,25 @@ fn sources_fine(sources: &[u16], given: Given, run: Run) -> bool
         ≡ run_fine (problem_call given [] [] [] [] sources.now) given.sources
         (source_fine (problem_call given [] [] [] [] sources.now)) run }
 {
-    let start = run.start;
-    let count = run.count;
-    if given.sources < (start as usize) + (count as usize) {
-        return false;
-    }
-    let mut j: u16 = 0;
-    while j < count {
-        if !placed(
-            given,
-            InferSortId(word(sources, (start as usize) + (j as usize))),
-        ) {
-            return false;
-        }
-        j += 1;
-    }
-    true
+    run_within(run, given.sources)
+        && (0..run.count).all(|j| {
+            let at = (run.start as usize) + (j as usize);
+            placed(given, InferSortId(word(sources, at)))
+        })
 }
 
 // Whether a constraint is fine, by what it says. Sub: both sides are places.
 fn sub_fine(given: Given, lhs: InferSortId, rhs: InferSortId) -> bool
     ensures { result ≡ constraint_fine (problem_call given [] [] [] [] []) 0 (Constraint.Sub lhs rhs) }
 {
-    if !placed(given, lhs) {
-        return false;
-    }
-    placed(given, rhs)
+    placed(given, lhs) && placed(given, rhs)
 }
 
 // Lit: a place, and a known kind of literal.
 fn lit_fine(given: Given, b: u16, sort: InferSortId, kind: LitKind) -> bool
     ensures { result ≡ constraint_fine (problem_call given [] [] [] [] []) b (Constraint.Lit sort kind) }
 {
-    if !placed(given, sort) {
-        return false;
-    }
-    b <= 1
+    placed(given, sort) && b <= 1
 }
 
 // Disjunction: an expression, a place, and a fine run of overloads.
@@ -256,36 +211,21 @@ fn disjunction_fine(
         ≡ constraint_fine (problem_call given [] [] [] overloads.now []) 0
         (Constraint.Disjunction expr sort disjuncts) }
 {
-    if given.exprs <= (expr.0 as usize) {
-        return false;
-    }
-    if !placed(given, sort) {
-        return false;
-    }
-    overloads_fine(overloads, given, disjuncts)
+    (expr.0 as usize) < given.exprs && placed(given, sort) && overloads_fine(overloads, given, disjuncts)
 }
 
 // Comprehension: two places, and a sort of the list.
 fn comprehension_fine(given: Given, body: InferSortId, node: InferSortId, element: SortId) -> bool
     ensures { result ≡ constraint_fine (problem_call given [] [] [] [] []) 0 (Constraint.Comprehension body node element) }
 {
-    if !placed(given, body) {
-        return false;
-    }
-    if !placed(given, node) {
-        return false;
-    }
-    (element.0 as usize) < given.sorts
+    placed(given, body) && placed(given, node) && (element.0 as usize) < given.sorts
 }
 
 // Join: a place, and a fine run of sources.
 fn join_fine(sources: &[u16], given: Given, run: Run, target: InferSortId) -> bool
     ensures { result ≡ constraint_fine (problem_call given [] [] [] [] sources.now) 0 (Constraint.Join run target) }
 {
-    if !placed(given, target) {
-        return false;
-    }
-    sources_fine(sources, given, run)
+    placed(given, target) && sources_fine(sources, given, run)
 }
 
 fn constraint_fine(
@@ -339,15 +279,7 @@ fn constraints_fine(constraints: &[u16], overloads: &[u16], sources: &[u16], giv
         ≡ constraints_fine
         (problem_call given [] [] constraints.now overloads.now sources.now) }
 {
-    let count = given.constraints as u16;
-    let mut i: u16 = 0;
-    while i < count {
-        if !row_fine(constraints, overloads, sources, given, i) {
-            return false;
-        }
-        i += 1;
-    }
-    true
+    (0..given.constraints as u16).all(|i| row_fine(constraints, overloads, sources, given, i))
 }
 
 // Marks an expression, and whether it was not marked yet. Past the end there is nothing to mark.
@@ -551,6 +483,7 @@ fn outputs_long(constraints: &[u16], given: Given, room: Room) -> bool
 }
 
 // Check 1: every list is within its ceiling and within what was lent.
+#[tactic(auto, unfolding(inference::specs::SolveChecks::all_within_lent, inference::specs::SolveChecks::rows_within_lent))]
 fn all_within_lent(
     sorts: &[u16],
     nodes: &[u16],
@@ -567,16 +500,10 @@ fn all_within_lent(
         exprs.now names.now constraints.now overloads.now
         sources.now) }
 {
-    if !within_lent(sorts, given.sorts, given.entries) {
-        return false;
-    }
-    if !nodes_within_lent(nodes, given.nodes, given.arguments) {
-        return false;
-    }
-    if !bindings_within_lent(binds, given.variables) {
-        return false;
-    }
-    rows_within_lent(exprs, names, constraints, overloads, sources, given)
+    within_lent(sorts, given.sorts, given.entries)
+        && nodes_within_lent(nodes, given.nodes, given.arguments)
+        && bindings_within_lent(binds, given.variables)
+        && rows_within_lent(exprs, names, constraints, overloads, sources, given)
 }
 
 // Checks 8 to 10: the first that fails.
@@ -587,59 +514,59 @@ fn test_rows(
     overloads: &[u16],
     sources: &[u16],
     given: Given,
-) -> Tested
+) -> Result<(), Refusal>
     requires { rows_within_lent (problem_call given exprs.now names.now constraints.now overloads.now sources.now)
         ≡ true }
     ensures { result
-        ≡ tested_of (first_failing (row_checks (problem_call given exprs.now names.now
-        constraints.now overloads.now sources.now))) }
+        ≡ first_failing (row_checks (problem_call given exprs.now names.now
+        constraints.now overloads.now sources.now)) }
 {
     if !exprs_fine(exprs, given) {
-        return Tested::Refused(8);
+        return Err(Refusal::BadExpression);
     }
     if !names_fine(names, given) {
-        return Tested::Refused(8);
+        return Err(Refusal::BadExpression);
     }
     if !constraints_fine(constraints, overloads, sources, given) {
-        return Tested::Refused(9);
+        return Err(Refusal::BadConstraint);
     }
     if !one_disjunction_each(constraints, given.constraints as u16) {
-        return Tested::Refused(10);
+        return Err(Refusal::TwoForOne);
     }
     if !one_name_each(names, given) {
-        return Tested::Refused(10);
+        return Err(Refusal::TwoForOne);
     }
-    Tested::Passed
+    Ok(())
 }
 
 // Checks 11, 12 and 14: the first that fails.
-fn test_last(sorts: &[u16], nodes: &[u16], constraints: &[u16], given: Given, room: Room) -> Tested
+fn test_last(sorts: &[u16], nodes: &[u16], constraints: &[u16], given: Given, room: Room) -> Result<(), Refusal>
     requires { (given.exprs ≤ max_exprs) × (given.constraints ≤ max_constraints) }
     ensures { (o : Outs room)
         → result
-        ≡ tested_of (first_failing (last_checks (room_call given sorts.now nodes.now [] [] []
-        constraints.now [] [] room o))) }
+        ≡ first_failing (last_checks (room_call given sorts.now nodes.now [] [] []
+        constraints.now [] [] room o)) }
 {
     let count = given.constraints as u16;
     if !joins_fine(constraints, count) {
-        return Tested::Refused(11);
+        return Err(Refusal::BadJoin);
     }
     if MAX_COMPONENTS < components(constraints, count) {
-        return Tested::Refused(11);
+        return Err(Refusal::BadJoin);
     }
     if given.sorts <= (given.default.0 as usize) {
-        return Tested::Refused(12);
+        return Err(Refusal::NotInList);
     }
     if sorts.len() < SORT_WORDS {
-        return Tested::Refused(14);
+        return Err(Refusal::TooShort);
     }
     if nodes.len() < NODE_WORDS {
-        return Tested::Refused(14);
+        return Err(Refusal::TooShort);
     }
     if !outputs_long(constraints, given, room) {
-        return Tested::Refused(14);
+        return Err(Refusal::TooShort);
     }
-    Tested::Passed
+    Ok(())
 }
 
 // Checks 8 to 14: the first that fails.
@@ -653,19 +580,17 @@ fn test_lists(
     sources: &[u16],
     given: Given,
     room: Room,
-) -> Tested
+) -> Result<(), Refusal>
     requires { rows_within_lent (problem_call given exprs.now names.now constraints.now overloads.now sources.now)
         ≡ true }
     ensures { (o : Outs room)
         → result
-        ≡ tested_of (first_failing (list_checks (room_call given sorts.now nodes.now []
+        ≡ first_failing (list_checks (room_call given sorts.now nodes.now []
         exprs.now names.now constraints.now overloads.now
-        sources.now room o))) }
+        sources.now room o)) }
 {
-    match test_rows(exprs, names, constraints, overloads, sources, given) {
-        Tested::Refused(code) => Tested::Refused(code),
-        Tested::Passed => test_last(sorts, nodes, constraints, given, room),
-    }
+    test_rows(exprs, names, constraints, overloads, sources, given)?;
+    test_last(sorts, nodes, constraints, given, room)
 }
 
 // Checks 5 to 14: the first that fails.
@@ -680,37 +605,35 @@ fn test_rest(
     sources: &[u16],
     given: Given,
     room: Room,
-) -> Tested
+) -> Result<(), Refusal>
     requires { all_within_lent (lists_call given sorts.now nodes.now binds.now exprs.now names.now
         constraints.now overloads.now sources.now)
         ≡ true }
     ensures { (o : Outs room)
         → result
-        ≡ tested_of (first_failing (rest_checks (room_call given sorts.now nodes.now
+        ≡ first_failing (rest_checks (room_call given sorts.now nodes.now
         binds.now exprs.now names.now constraints.now
-        overloads.now sources.now room o))) }
+        overloads.now sources.now room o)) }
 {
-    match test_nodes(
+    test_nodes(
         given.sorts,
         nodes,
         given.nodes,
         given.arguments,
         binds,
         given.variables,
-    ) {
-        Tested::Refused(code) => Tested::Refused(code),
-        Tested::Passed => test_lists(
-            sorts,
-            nodes,
-            exprs,
-            names,
-            constraints,
-            overloads,
-            sources,
-            given,
-            room,
-        ),
-    }
+    )?;
+    test_lists(
+        sorts,
+        nodes,
+        exprs,
+        names,
+        constraints,
+        overloads,
+        sources,
+        given,
+        room,
+    )
 }
 
 // The checks of the solver: the first that fails, whatever stands in scratch and outputs.
@@ -725,12 +648,12 @@ pub fn test_solve(
     sources: &[u16],
     given: Given,
     room: Room,
-) -> Tested
+) -> Result<(), Refusal>
     ensures { (o : Outs room)
         → result
-        ≡ tested_of (first_failing (solve_checks (room_call given sorts.now nodes.now
+        ≡ first_failing (solve_checks (room_call given sorts.now nodes.now
         binds.now exprs.now names.now constraints.now
-        overloads.now sources.now room o))) }
+        overloads.now sources.now room o)) }
 {
     if !all_within_lent(
         sorts,
@@ -743,21 +666,19 @@ pub fn test_solve(
         sources,
         given,
     ) {
-        return Tested::Refused(1);
+        return Err(Refusal::NotLent);
     }
-    match test_sorts(sorts, given.sorts, given.entries) {
-        Tested::Refused(code) => Tested::Refused(code),
-        Tested::Passed => test_rest(
-            sorts,
-            nodes,
-            binds,
-            exprs,
-            names,
-            constraints,
-            overloads,
-            sources,
-            given,
-            room,
-        ),
-    }
+    test_sorts(sorts, given.sorts, given.entries)?;
+    test_rest(
+        sorts,
+        nodes,
+        binds,
+        exprs,
+        names,
+        constraints,
+        overloads,
+        sources,
+        given,
+        room,
+    )
 }

@@ -10,9 +10,10 @@ use Prim.Native.Nat.{ℕ}
 use native.Mathlib.Omega.{arith}
 use lib.ListN.{length, take, drop}
 use lib.Seq.{take-append_seam}
+use Rattle.std.specs.Prelude.{Ok, Err}
 use Rattle.resolved_sort.specs.declared.Counts.{Counts}
 use Rattle.resolved_sort.specs.Storage.{given_back}
-use Rattle.resolved_sort.specs.Checks.{first_failing}
+use Rattle.resolved_sort.specs.Checks.{first_failing, Tested}
 use Rattle.resolved_sort.proofs.Reached.{no_confusion}
 use Rattle.unification.specs.Making.{Lent}
 use Rattle.inference.specs.declared.Outputs.{Outputs}
@@ -67,7 +68,7 @@ module _ (I : Call) where
   L = solve_entry I
 
   -- where every check passes, by the answer
-  module _ (f : first_failing (solve_checks I) ≡ none) where
+  module _ (f : first_failing (solve_checks I) ≡ Ok tt) where
     left : Leaves L
     left = subst Leaves (sym (passed_is_searched I f)) (verdict_leaves (searched (Unit {0}) nothing_met tt I))
 
@@ -154,9 +155,9 @@ module _ (I : Call) where
   unfolding solve_entry
   outcome_says = go (first_failing (solve_checks I)) refl
     where
-      go : (o : Option ℕ) → first_failing (solve_checks I) ≡ o → EntrySays I L
-      go none f = by_answer f L.answer refl (searched_answers I f) (left f).1
-      go (some c) f =
+      go : (o : Tested) → first_failing (solve_checks I) ≡ o → EntrySays I L
+      go (Ok u) f = by_answer f L.answer refl (searched_answers I f) (left f).1
+      go (Err c) f =
           let e : L ≡ refused I c = rw f in
           subst (λ (M : SolveLeft). EntrySays I M) (sym e) (record { first = f; given = refl })
 

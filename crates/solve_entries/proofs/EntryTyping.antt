@@ -8,9 +8,11 @@ use mathlib.Core.Logic.{◌⊎◌, ◌↔◌, inl, inr}
 use Prim.Native.Nat.{ℕ, ◌%◌, ◌<◌}
 use native.Mathlib.Omega.{arith}
 use lib.ListN.{length, replicate}
+use Rattle.resolved_sort.specs.declared.Refusal.{Refusal}
+use Rattle.std.specs.Prelude.{Ok, Err}
 use Rattle.resolved_sort.specs.declared.Counts.{Counts}
 use Rattle.resolved_sort.specs.Storage.{given_back}
-use Rattle.resolved_sort.specs.Checks.{first_failing}
+use Rattle.resolved_sort.specs.Checks.{first_failing, code_of as code_of_refusal}
 use Rattle.resolved_sort.specs.Entries.{tree_at}
 use Rattle.resolved_sort.proofs.Reached.{no_confusion}
 use Rattle.unification.specs.Nodes.{binds_of}
@@ -48,7 +50,7 @@ module _ (I : Call) (L : SolveLeft) (s : EntrySays I L) where
   entry_is_explained o q = ((says_by (Typing o) q).explained, (says_by (Typing o) q).named)
 
   -- Where no check refuses a list without constraints, it answers a typing, or 15.
-  pub entry_without_constraints : first_failing (solve_checks I) ≡ none → I.rows.constraints ≡ 0 → TypingOr15 L.answer
+  pub entry_without_constraints : first_failing (solve_checks I) ≡ Ok tt → I.rows.constraints ≡ 0 → TypingOr15 L.answer
   entry_without_constraints f z = go L.answer s
     where
       go : (r : Solved) → SaysBy I L r → TypingOr15 r
@@ -63,7 +65,7 @@ module _ (I : Call) (L : SolveLeft) (s : EntrySays I L) where
       go (Typing o) x = inl (o, refl)
 
   -- The verdict of a call that passes its checks and has room is by its leaves.
-  pub entry_by_leaves : first_failing (solve_checks I) ≡ none → (code_of L ≡ 15 → ⊥) → (code_of L ≡ 16 → ⊥) → ByLeaves I L (leaves_met I)
+  pub entry_by_leaves : first_failing (solve_checks I) ≡ Ok tt → (code_of L ≡ 15 → ⊥) → (code_of L ≡ 16 → ⊥) → ByLeaves I L (leaves_met I)
   unfolding code_solved
   entry_by_leaves f n m = go L.answer refl s
     where
@@ -93,8 +95,8 @@ module _ (I : Call) (L : SolveLeft) (s : EntrySays I L) where
   no_room_gives_sorts_back c q = (says_by (NoRoom c) q).sorts
 
   -- a refusal changes nothing, and is the first failing check
-  pub refusal_changes_nothing : (c : ℕ) → L.answer ≡ Refused c
-      → (first_failing (solve_checks I) ≡ some c) × (L.sorts ≡ I.sorts) × (L.nodes ≡ I.nodes) × (L.scratch ≡ I.scratch)
+  pub refusal_changes_nothing : (c : Refusal) → L.answer ≡ Refused c
+      → (first_failing (solve_checks I) ≡ Err c) × (L.sorts ≡ I.sorts) × (L.nodes ≡ I.nodes) × (L.scratch ≡ I.scratch)
   refusal_changes_nothing c q =
       let x = says_by (Refused c) q in
       (x.first, ap (λ (M : SolveLeft). M.sorts) x.given, ap (λ (M : SolveLeft). M.nodes) x.given, ap (λ (M : SolveLeft). M.scratch) x.given)
@@ -122,7 +124,7 @@ module _ (I : Call) (L : SolveLeft) (s : EntrySays I L) where
       go (Typing o) e x = absurd (n (ap code_solved e))
 
   -- after a search scratch is zero, and no node is left but those given
-  pub search_clears : first_failing (solve_checks I) ≡ none → (L.scratch ≡ replicate (length I.scratch) 0)
+  pub search_clears : first_failing (solve_checks I) ≡ Ok tt → (L.scratch ≡ replicate (length I.scratch) 0)
       × (L.nodes ≡ nodes_given_back I.lengths.nodes I.lengths.arguments I.nodes)
   search_clears f = go L.answer s
     where
@@ -138,11 +140,11 @@ module _ (I : Call) (L : SolveLeft) (s : EntrySays I L) where
 module _ (I : Call) where
   -- what it says of the answer alone, by the checks and the leaves
   abbrev Tells : Solved → Type 0
-  Tells (Refused c) = first_failing (solve_checks I) ≡ some c
+  Tells (Refused c) = first_failing (solve_checks I) ≡ Err c
   Tells (NoRoom c) = ⊥
-  Tells (NoTyping k) = (first_failing (solve_checks I) ≡ none) × (leaves_met I ≡ [])
-  Tells (Ambiguous k) = (first_failing (solve_checks I) ≡ none) × ((m : Components) × Least m (leaves_met I) × (1 < times m (leaves_met I)))
-  Tells (Typing o) = (first_failing (solve_checks I) ≡ none) × ((m : Components) × Least m (leaves_met I) × (times m (leaves_met I) ≡ 1))
+  Tells (NoTyping k) = (first_failing (solve_checks I) ≡ Ok tt) × (leaves_met I ≡ [])
+  Tells (Ambiguous k) = (first_failing (solve_checks I) ≡ Ok tt) × ((m : Components) × Least m (leaves_met I) × (1 < times m (leaves_met I)))
+  Tells (Typing o) = (first_failing (solve_checks I) ≡ Ok tt) × ((m : Components) × Least m (leaves_met I) × (times m (leaves_met I) ≡ 1))
 
   tells : (L : SolveLeft) → EntrySays I L → (code_of L ≡ 15 → ⊥) → (code_of L ≡ 16 → ⊥) → Tells L.answer
   unfolding code_solved
@@ -167,7 +169,7 @@ module _ (I : Call) where
 
   one_code : (r t : Solved) → Tells r → Tells t → code_solved r ≡ code_solved t
   unfolding code_solved
-  one_code (Refused c) (Refused d) x y = let q : c ≡ d = cc in q
+  one_code (Refused c) (Refused d) x y = let q : c ≡ d = cc in ap code_of_refusal q
   one_code (Refused c) (NoRoom d) x y = absurd y
   one_code (Refused c) (NoTyping l) x y = let z = y.0 in no_confusion (cc)
   one_code (Refused c) (Ambiguous l) x y = let z = y.0 in no_confusion (cc)
@@ -213,7 +215,7 @@ module _ (I : Call) (q : PackedSolve) (s : PackedSays I q) where
       go (Typing o) p w e x = (o, p, x)
 
   -- by the leaves that the search met the low byte is 17, 18 or 0
-  pub low_byte_by_leaves : first_failing (solve_checks I) ≡ none → (q.result % 256 ≡ 15 → ⊥) → (q.result % 256 ≡ 16 → ⊥)
+  pub low_byte_by_leaves : first_failing (solve_checks I) ≡ Ok tt → (q.result % 256 ≡ 15 → ⊥) → (q.result % 256 ≡ 16 → ⊥)
       → ((q.result % 256 ≡ 17) ↔ (leaves_met I ≡ []))
       × ((q.result % 256 ≡ 18) ↔ ((m : Components) × Least m (leaves_met I) × (1 < times m (leaves_met I))))
       × ((q.result % 256 ≡ 0) ↔ ((m : Components) × Least m (leaves_met I) × (times m (leaves_met I) ≡ 1)))

@@ -6,11 +6,10 @@ use mathlib.Core.Option.{none}
 use Prim.Native.Nat.{ℕ, ◌≤◌}
 use native.Mathlib.Omega.{arith}
 use lib.ListN.{length}
-use Rattle.resolved_sort.specs.declared.Tested.{Tested}
-use Rattle.resolved_sort.specs.declared.Tested.TheVariants.{Refused, Passed}
+use Rattle.resolved_sort.specs.declared.Refusal.{Refusal}
+use Rattle.resolved_sort.specs.Checks.{Tested}
+use Rattle.std.specs.Prelude.{Ok, Err}
 use Rattle.resolved_sort.specs.Checks.{first_failing}
-use Rattle.resolved_sort.specs.Inner.Entries.{tested_of}
-use Rattle.resolved_sort.proofs.Testing.{refused_is, passed_is}
 use Rattle.unification.specs.declared.Lengths.{Lengths}
 use Rattle.unification.specs.Nodes.{binds_of}
 use Rattle.inference.specs.declared.Solved.{Solved}
@@ -76,16 +75,16 @@ module _ (g : Given) (ws ns bs xs ks cs os ss sc ts ms hs : List ℕ) where
   I = call_of g ws ns bs xs ks cs os ss sc ts ms hs
 
   -- refused
-  module _ (t : Tested) (e : t ≡ tested_of (first_failing (solve_checks I))) where
-    pub refused_so : (c : ℕ) → t ≡ Refused c → solve_left (Refuses c) ws ns bs sc ts ms hs ≡ solve_entry I
+  module _ (t : Tested) (e : t ≡ first_failing (solve_checks I)) where
+    pub refused_so : (c : Refusal) → t ≡ Err c → solve_left (Refuses c) ws ns bs sc ts ms hs ≡ solve_entry I
     unfolding solve_entry
-    refused_so c h = rw (refused_is (first_failing (solve_checks I)) t c e h)
+    refused_so c h = rw (sym e ∙ h)
 
-    pub passes : t ≡ Passed → first_failing (solve_checks I) ≡ none
-    passes h = passed_is (first_failing (solve_checks I)) t e h
+    pub passes : t ≡ Ok tt → first_failing (solve_checks I) ≡ Ok tt
+    passes h = sym e ∙ h
 
   -- passed
-  module _ (f : first_failing (solve_checks I) ≡ none) where
+  module _ (f : first_failing (solve_checks I) ≡ Ok tt) where
     pub lengths_fit : CountsFit (lengths_of g)
     lengths_fit = counts_fit I f
 

@@ -1,6 +1,7 @@
 -- What the entry solve answers and leaves, whatever it is given: demand 3, and the verdict by the leaves that the
 -- search met, with what becomes of the lent memory.
-use Rattle.std.specs.Prelude.{◌≡◌, ◌⊎◌, ℕ, ◌%◌, ◌<◌, []}
+use Rattle.resolved_sort.specs.declared.Refusal.{Refusal}
+use Rattle.std.specs.Prelude.{◌≡◌, ◌⊎◌, ℕ, ◌%◌, ◌<◌, [], Ok, Err}
 use Rattle.std.proofs.Math.Option.{none, some}
 use Rattle.resolved_sort.specs.declared.Counts.{Counts}
 use Rattle.resolved_sort.specs.Storage.{given_back}
@@ -26,8 +27,8 @@ use Rattle.solve_outputs.specs.Packed.{pack_solved, SolvedWithin, PackedSolve}
 
 module _ (I : Call) (L : SolveLeft) where
   -- 1 to 14: the first failing check, and all lent memory as given
-  pub record SaysRefused (c : ℕ) : Type 0 where
-    pub first : first_failing (solve_checks I) ≡ some c
+  pub record SaysRefused (c : Refusal) : Type 0 where
+    pub first : first_failing (solve_checks I) ≡ Err c
     pub given : L ≡ refused I c
 
   -- after a search: no node but those given, the bindings as given, scratch zero
@@ -46,7 +47,7 @@ module _ (I : Call) (L : SolveLeft) where
 
   -- 15 or 16, and without constraints 15 only: the sorts given, with zeros after them
   pub record SaysNoRoom (c : ℕ) : Type 0 where
-    pub passed : first_failing (solve_checks I) ≡ none
+    pub passed : first_failing (solve_checks I) ≡ Ok tt
     pub room : (c ≡ 15) ⊎ ((c ≡ 16) × Constrained)
     pub sorts : L.sorts ≡ given_back I.lengths.sorts I.lengths.entries I.sorts
     pub memory : Cleared
@@ -54,7 +55,7 @@ module _ (I : Call) (L : SolveLeft) where
 
   -- the search had room: 17, 18 and 0 are exactly by the leaves that it met, and the sorts have grown
   pub record SaysSearched (k : Counts) : Type 0 where
-    pub passed : first_failing (solve_checks I) ≡ none
+    pub passed : first_failing (solve_checks I) ≡ Ok tt
     pub by_leaves : ByLeaves I L (leaves_met I)
     pub sorts : SortsGrown I L.sorts k
     pub memory : Cleared

@@ -3,8 +3,7 @@
 // caller hands in, the answer and all lent memory at exit are the defined ones.
 #![tactic(auto)]
 
-ghost use Rattle.std.specs.Prelude.{◌≡◌, []};
-ghost use Rattle.std.proofs.Math.Option.{none};
+ghost use Rattle.std.specs.Prelude.{◌≡◌, [], Ok};
 ghost use Rattle.resolved_sort.specs.Checks.{first_failing};
 ghost use Rattle.unification.specs.Nodes.{binds_of};
 ghost use Rattle.inference.specs.Constraints.{base_name_at, rows_from};
@@ -22,7 +21,7 @@ ghost use Rattle.solve_entries.specs.Given.{given_of};
 
 use inference::Solved;
 use problem_words::pack;
-use resolved_sort::{SortId, Tested};
+use resolved_sort::SortId;
 use search_state::{PROBLEM_WORDS, Sizes};
 use solve_checks::{Given, Room, test_solve};
 use solve_outputs::{finish, lengths_of, no_incumbent, nothing_taken, pack_solved, sizes_of};
@@ -87,7 +86,7 @@ fn solve_passed(
     requires { first_failing (solve_checks (call_of given sorts.old nodes.old binds.old exprs.now names.now
         constraints.now overloads.now sources.now scratch.old typing.old measure.old
         choices.old))
-        ≡ none }
+        ≡ Ok tt }
     ensures { solve_left result sorts.new nodes.new binds.new scratch.new
         typing.new measure.new choices.new
         ≡ solve_entry (call_of given sorts.old nodes.old binds.old
@@ -160,8 +159,8 @@ pub fn solve(
         given,
         room,
     ) {
-        Tested::Refused(code) => Solved::Refused(code),
-        Tested::Passed => solve_passed(
+        Err(refusal) => Solved::Refused(refusal),
+        Ok(()) => solve_passed(
             sorts,
             nodes,
             binds,

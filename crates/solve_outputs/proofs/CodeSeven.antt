@@ -7,12 +7,13 @@ use mathlib.Core.Path.{◌≡◌, refl, sym, ap, subst, ◌∙◌}
 use mathlib.Core.Bool.{false, true}
 use mathlib.Core.List.{List}
 use mathlib.Core.Logic.{◌↔◌}
-use mathlib.Core.Option.{Option, none, some}
 use Prim.Native.Nat.{ℕ}
-use native.Mathlib.Omega.{arith}
 use lib.ListN.{take, drop}
-use Rattle.resolved_sort.specs.Checks.{Check, first_failing}
+use Rattle.std.specs.Prelude.{Err, Ok}
+use Rattle.resolved_sort.specs.declared.Refusal.TheVariants.{Cyclic as CyclicBindings}
+use Rattle.resolved_sort.specs.Checks.{Check, first_failing, Tested}
 use Rattle.resolved_sort.specs.Entries.{refused_or}
+use Rattle.resolved_sort.proofs.Reached.{no_confusion}
 use Rattle.resolved_sort.proofs.FirstFailing.{cons_passes}
 use Rattle.unification.specs.Nodes.{Binds, shape_at, binds_of}
 use Rattle.unification.specs.Acyclic.{acyclic, Cyclic}
@@ -42,49 +43,49 @@ module _ (I : Call) where
   first_six = take 6 (solve_checks I)
 
   abbrev seventh : Check
-  seventh = record { code = 7; passes = acyclic I.nodes m binds }
+  seventh = record { refusal = CyclicBindings; passes = acyclic I.nodes m binds }
 
-  answers_seven : ((solve_entry I).answer ≡ Refused 7) ↔ (first_failing (solve_checks I) ≡ some 7)
+  answers_seven : ((solve_entry I).answer ≡ Refused CyclicBindings) ↔ (first_failing (solve_checks I) ≡ Err CyclicBindings)
   unfolding solve_entry
   answers_seven = (λ a. go (first_failing (solve_checks I)) refl a, λ f. rw f)
     where
-      go : (o : Option ℕ) → first_failing (solve_checks I) ≡ o → (solve_entry I).answer ≡ Refused 7 → o ≡ some 7
-      go none x a = absurd (subst (Searched I) a (searched_answers I x))
-      go (some c) x a =
-          let z : Refused c ≡ Refused 7 = ap (λ (o : Option ℕ). (refused_or o (refused I)
+      go : (o : Tested) → first_failing (solve_checks I) ≡ o → (solve_entry I).answer ≡ Refused CyclicBindings → o ≡ Err CyclicBindings
+      go (Ok u) x a = absurd (subst (Searched I) a (searched_answers I x))
+      go (Err c) x a =
+          let z : Refused c ≡ Refused CyclicBindings = ap (λ (o : Tested). (refused_or o (refused I)
           (verdict I (searched (Unit {0}) nothing_met tt I))).answer) (sym x) ∙ a in
-          cc
+          let y : c ≡ CyclicBindings = cc in ap Err y
 
-  seventh_fails : (first_failing (solve_checks I) ≡ some 7) ↔ ((first_failing first_six ≡ none) × (acyclic I.nodes m binds ≡ false))
+  seventh_fails : (first_failing (solve_checks I) ≡ Err CyclicBindings) ↔ ((first_failing first_six ≡ Ok tt) × (acyclic I.nodes m binds ≡ false))
   unfolding solve_checks node_checks
   seventh_fails =
       fails_first first_six seventh (drop 7 (solve_checks I)) (
-        (λ x. omega (arith, x)),
+        (λ x. no_confusion cc),
         (
-          (λ x. omega (arith, x)),
+          (λ x. no_confusion cc),
           (
-            (λ x. omega (arith, x)),
+            (λ x. no_confusion cc),
             (
-              (λ x. omega (arith, x)),
-              ((λ x. omega (arith, x)), ((λ x. omega (arith, x)), tt)),
+              (λ x. no_confusion cc),
+              ((λ x. no_confusion cc), ((λ x. no_confusion cc), tt)),
             ),
           ),
         ),
       ) (
-        (λ x. omega (arith, x)),
+        (λ x. no_confusion cc),
         (
-          (λ x. omega (arith, x)),
+          (λ x. no_confusion cc),
           (
-            (λ x. omega (arith, x)),
+            (λ x. no_confusion cc),
             (
-              (λ x. omega (arith, x)),
-              ((λ x. omega (arith, x)), ((λ x. omega (arith, x)), tt)),
+              (λ x. no_confusion cc),
+              ((λ x. no_confusion cc), ((λ x. no_confusion cc), tt)),
             ),
           ),
         ),
       )
 
-  module _ (x : first_failing first_six ≡ none) where
+  module _ (x : first_failing first_six ≡ Ok tt) where
     lists_fine : ListsFine I.sorts n I.lengths.entries I.nodes m I.lengths.arguments I.lengths.variables × (bindings_fine n m binds ≡ true)
     unfolding solve_checks node_checks
     lists_fine =
@@ -107,8 +108,8 @@ module _ (I : Call) where
         lists_fine.1).1
 
   -- Whatever the call is: it is answered by 7 exactly if checks 1 to 6 pass and some variable reaches itself.
-  pub solve_code_7_exactly : ((solve_entry I).answer ≡ Refused 7)
-      ↔ ((first_failing first_six ≡ none) × Cyclic (shape_at (lists_of I.sorts I.lengths.sorts I.nodes
+  pub solve_code_7_exactly : ((solve_entry I).answer ≡ Refused CyclicBindings)
+      ↔ ((first_failing first_six ≡ Ok tt) × Cyclic (shape_at (lists_of I.sorts I.lengths.sorts I.nodes
       I.lengths.nodes)) (binds_of I.binds I.lengths.variables))
   solve_code_7_exactly = (
     λ a. let h = seventh_fails.0 (answers_seven.0 a) in (h.0, (refuses_cyclic h.0).0 h.1),

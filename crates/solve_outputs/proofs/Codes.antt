@@ -9,8 +9,10 @@ use mathlib.Core.Option.{Option, none, some}
 use Prim.Native.Nat.{ℕ, ◌%◌}
 use native.Mathlib.Omega.{arith}
 use lib.ListN.{length, length-map, get_or}
+use Rattle.resolved_sort.specs.declared.Refusal.{Refusal}
+use Rattle.std.specs.Prelude.{Ok, Err}
 use Rattle.resolved_sort.specs.declared.Counts.{Counts}
-use Rattle.resolved_sort.specs.Checks.{first_failing, Numbered}
+use Rattle.resolved_sort.specs.Checks.{first_failing, Numbered, Tested, code_of}
 use Rattle.unification.specs.NodeChecks.{node_checks}
 use Rattle.unification.specs.Making.{Lent}
 use Rattle.resolved_sort.proofs.FailingNumber.{failing_number}
@@ -28,12 +30,13 @@ use Rattle.inference.proofs.Choices.{Fitting, search_fits, names_and_choices}
 use Rattle.inference.specs.Named.{expr_of}
 use Rattle.entry_answers.specs.Packing.{FitFields, FitsWidths}
 use Rattle.entry_answers.proofs.Packing.{codes_told, values_told, code_is_low_byte as low_byte}
+use Rattle.entry_answers.proofs.Refusals.{codes_tell}
 use Rattle.solve_outputs.specs.Packed.{coded_solved, solved_widths, pack_solved, CountsWithin, SolvedWithin}
 use Rattle.solve_outputs.proofs.Passed.{rows_fit}
 
 module _ (I : Call) where
-  refused_by_number : (c : ℕ) → first_failing (solve_checks I) ≡ some c → Numbered c
-  unfolding solve_checks node_checks
+  refused_by_number : (c : Refusal) → first_failing (solve_checks I) ≡ Err c → Numbered c
+  unfolding solve_checks node_checks code_of
   refused_by_number c x = failing_number Numbered (solve_checks I) c (
     (omega arith, omega arith),
     (
@@ -96,7 +99,7 @@ module _ (I : Call) where
   by_out w (ended c W) g = g
 
   -- a call that passed its checks
-  module _ (x : first_failing (solve_checks I) ≡ none) where
+  module _ (x : first_failing (solve_checks I) ≡ Ok tt) where
     pub searched_answers : Searched (solve_entry I).answer
     searched_answers =
         let w : World (Unit {0}) = record { lent = lent_of I; best = none; met = tt } in
@@ -133,9 +136,9 @@ module _ (I : Call) where
   unfolding solve_entry
   entry_told = go (first_failing (solve_checks I)) refl
     where
-      go : (o : Option ℕ) → first_failing (solve_checks I) ≡ o → SolvedWithin (solve_entry I).answer
-      go none x = passed_told x
-      go (some c) x = rw x (refused_by_number c x)
+      go : (o : Tested) → first_failing (solve_checks I) ≡ o → SolvedWithin (solve_entry I).answer
+      go (Ok u) x = passed_told x
+      go (Err c) x = rw x (refused_by_number c x)
 
 -- numbers within their bounds fit their fields
 solved_fits : (r : Solved) → SolvedWithin r → FitsWidths solved_widths (coded_solved r)
@@ -164,7 +167,7 @@ packed_tells r s t u p =
 
     go : (r s : Solved) → SolvedWithin r → SolvedWithin s → (coded_solved r).code ≡ (coded_solved s).code
         → ((i : ℕ) → get_or (coded_solved r).values i 0 ≡ get_or (coded_solved s).values i 0) → r ≡ s
-    go (Refused c) (Refused d) t u e v = ap Refused e
+    go (Refused c) (Refused d) t u e v = ap Refused (codes_tell c d e)
     go (Refused c) (NoRoom d) t u e v = absurd (omega (arith, e, t.1, u.0))
     go (Refused c) (NoTyping l) t u e v = absurd (omega (arith, e, t.1))
     go (Refused c) (Ambiguous l) t u e v = absurd (omega (arith, e, t.1))

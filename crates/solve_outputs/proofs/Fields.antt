@@ -2,6 +2,8 @@
 use mathlib.Core.Path.{◌≡◌}
 use Prim.Native.Nat.{ℕ, ◌+◌}
 use native.Mathlib.Omega.{arith}
+use Rattle.resolved_sort.specs.Checks.{code_of}
+use Rattle.resolved_sort.specs.declared.Refusal.{Refusal}
 use Rattle.resolved_sort.specs.declared.Counts.{Counts}
 use Rattle.inference.specs.declared.Solved.TheVariants.{Refused, NoRoom, NoTyping, Ambiguous}
 use Rattle.inference.specs.SolveEntry.{code_solved}
@@ -9,7 +11,7 @@ use Rattle.entry_answers.specs.Packing.{packed, in_fields}
 use Rattle.solve_outputs.specs.Packed.{pack_solved}
 use Rattle.solve_outputs.specs.Inner.Counts.{pack_counts}
 
-pub solved_refused : (c : ℕ) → c ≡ pack_solved (Refused c)
+pub solved_refused : (c : Refusal) → code_of c ≡ pack_solved (Refused c)
 unfolding pack_solved packed in_fields code_solved
 solved_refused c = omega arith
 

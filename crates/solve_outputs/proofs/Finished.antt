@@ -7,6 +7,7 @@ use mathlib.Core.List.{List, []}
 use mathlib.Core.Option.{Option, none, some}
 use Prim.Native.Nat.{ℕ}
 use lib.ListN.{length, replicate}
+use Rattle.std.specs.Prelude.{Ok}
 use Rattle.resolved_sort.specs.Checks.{first_failing}
 use Rattle.resolved_sort.proofs.GivenBack.{given_back_agrees}
 use Rattle.unification.specs.Nodes.{binds_of}
@@ -68,7 +69,7 @@ module _ (ls : List ℕ) (z : Sizes) (ws ns bs sc : List ℕ) (k : State) (e : B
   left_by_search names ts ms hs L q =
       q ∙ (same_left _ ∙ ap (λ o. solve_left_by k.lengths ns bs sc (settled_by (problem_in ls z) names ts ms hs k.lengths o)) d.says)
 
-module _ (I : Call) (x : first_failing (solve_checks I) ≡ none) where
+module _ (I : Call) (x : first_failing (solve_checks I) ≡ Ok tt) where
   abbrev settles : Out (Unit {0}) → Settled
   settles O = settled_by (problem_of I) (base_names_of I) I.typing I.measure I.choices I.lengths O
 

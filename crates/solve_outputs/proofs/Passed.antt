@@ -10,6 +10,7 @@ use native.Mathlib.Omega.{arith}
 use lib.Dec.{leb, eqb}
 use lib.ListN.{length}
 use borrow.Author.Tests.{leb-true}
+use Rattle.std.specs.Prelude.{Ok}
 use Rattle.resolved_sort.specs.Storage.{kind_at}
 use Rattle.resolved_sort.specs.Checks.{first_failing, all_below, fixed_six, at_ceiling}
 use Rattle.resolved_sort.proofs.Below.{and_left, and_right}
@@ -66,7 +67,7 @@ outputs_lent I f =
       choices = leb-true (2 * length (disjunctions (given I))) (length I.choices) (and_right (a && b && c) d x₄);
     }
 
-module _ (I : Call) (x : first_failing (solve_checks I) ≡ none) where
+module _ (I : Call) (x : first_failing (solve_checks I) ≡ Ok tt) where
   all_pass : Passing I
   all_pass = passing I x
 

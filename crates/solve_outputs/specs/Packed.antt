@@ -5,6 +5,7 @@ use Rattle.std.specs.Prelude.{List, [], ◌∷◌, ℕ, ◌≤◌}
 use Rattle.entry_answers.specs.Packing.{CodeAndValues, coded, packed}
 use Rattle.resolved_sort.specs.declared.Counts.{Counts}
 use Rattle.resolved_sort.specs.Storage.{max_sorts, max_entries}
+use Rattle.resolved_sort.specs.Checks.{Numbered}
 use Rattle.inference.specs.declared.Solved.{Solved}
 use Rattle.inference.specs.declared.Solved.TheVariants.{Refused, NoRoom, NoTyping, Ambiguous, Typing}
 use Rattle.inference.specs.Constraints.{max_constraints, max_components}
@@ -35,7 +36,7 @@ pub record CountsWithin (k : Counts) : Type 0 where
   pub entries : k.entries ≤ max_entries
 
 abbrev pub SolvedWithin : Solved → Type 0
-SolvedWithin (Refused c) = (1 ≤ c) × (c ≤ 14)
+SolvedWithin (Refused c) = Numbered c
 SolvedWithin (NoRoom c) = (15 ≤ c) × (c ≤ 16)
 SolvedWithin (NoTyping k) = CountsWithin k
 SolvedWithin (Ambiguous k) = CountsWithin k

@@ -532,7 +532,7 @@ pub fn pack_solved(answer: Solved) -> u64
     ensures { result ≡ pack_solved answer }
 {
     match answer {
-        Solved::Refused(code) => code as u64,
+        Solved::Refused(refusal) => refusal.code() as u64,
         Solved::NoRoom(code) => code as u64,
         Solved::NoTyping(counts) => 17 + pack_counts(counts),
         Solved::Ambiguous(counts) => 18 + pack_counts(counts),

@@ -12,7 +12,9 @@ use lib.Dec.{leb, ltb}
 use lib.ListN.{length, get_or, take, length-take}
 use lib.Seq.{get_or-take}
 use borrow.Author.Tests.{leb-true, leb-false, le-leb}
-use Rattle.resolved_sort.specs.Checks.{Check, first_failing, all_below, sort_row_checks}
+use Rattle.std.specs.Prelude.{Err}
+use Rattle.resolved_sort.specs.declared.Refusal.TheVariants.{NotLent, BadExpression, BadConstraint, TwoForOne, BadJoin, NotInList, TooShort}
+use Rattle.resolved_sort.specs.Checks.{Check, first_failing, all_below, sort_row_checks, Tested}
 use Rattle.resolved_sort.specs.Entries.{refused_or}
 use Rattle.resolved_sort.proofs.FirstFailing.{first_fails}
 use Rattle.unification.specs.NodeChecks.{node_checks}
@@ -75,15 +77,15 @@ module _ (g : Given) (ws ns bs xs ks cs ss sc ts ms hs : List ℕ) where
   -- the checks that do not look at overloads, with what the two that do come to
   abbrev checks_with : Bool → Bool → List Check
   checks_with a b =
-      record { code = 1; passes = a }
+      record { refusal = NotLent; passes = a }
       ∷ sort_row_checks ws g.sorts g.entries
       ++ node_checks ns g.nodes g.arguments g.sorts bs g.variables
-      ++ record { code = 8; passes = exprs_fine (call []) && names_fine (call []) }
-      ∷ record { code = 9; passes = b }
-      ∷ record { code = 10; passes = no_two (disjunctions (given (call []))) && no_two (keys (call [])) }
-      ∷ record { code = 11; passes = joins_fine (given (call [])) && leb (components (given (call []))) max_components }
-      ∷ record { code = 12; passes = listed (call []) g.default.0 }
-      ∷ record { code = 14; passes = long_enough (call []) }
+      ++ record { refusal = BadExpression; passes = exprs_fine (call []) && names_fine (call []) }
+      ∷ record { refusal = BadConstraint; passes = b }
+      ∷ record { refusal = TwoForOne; passes = no_two (disjunctions (given (call []))) && no_two (keys (call [])) }
+      ∷ record { refusal = BadJoin; passes = joins_fine (given (call [])) && leb (components (given (call []))) max_components }
+      ∷ record { refusal = NotInList; passes = listed (call []) g.default.0 }
+      ∷ record { refusal = TooShort; passes = long_enough (call []) }
       ∷ []
 
   two_look : (os : List ℕ) → solve_checks (call os) ≡ checks_with (all_within_lent (call os)) (constraints_fine (call os))
@@ -91,12 +93,12 @@ module _ (g : Given) (ws ns bs xs ks cs ss sc ts ms hs : List ℕ) where
   two_look os = refl
 
   -- a count above the ceiling
-  refused_by_1 : (os : List ℕ) → max_overloads < n → solve_entry (call os) ≡ refused (call []) 1
+  refused_by_1 : (os : List ℕ) → max_overloads < n → solve_entry (call os) ≡ refused (call []) NotLent
   unfolding solve_entry
-  refused_by_1 os past = ap (λ (o : Option ℕ). refused_or o (refused (call [])) (verdict (call os) (searched (Unit {0})
+  refused_by_1 os past = ap (λ (o : Tested). refused_or o (refused (call [])) (verdict (call os) (searched (Unit {0})
       nothing_met tt (call os)))) (fails (all_within_lent (call os)) refl)
     where
-      fails : (b : Bool) → all_within_lent (call os) ≡ b → first_failing (solve_checks (call os)) ≡ some 1
+      fails : (b : Bool) → all_within_lent (call os) ≡ b → first_failing (solve_checks (call os)) ≡ Err NotLent
       fails true e = absurd (omega (arith, past, (rows_lent (call os) (within (call os) e).3).overloads))
       fails false e = ap first_failing (two_look os) ∙ first_fails _ _ e
 
@@ -182,7 +184,7 @@ module _ (g : Given) (ws ns bs xs ks cs ss sc ts ms hs : List ℕ) where
     entry_same : solve_entry (call os) ≡ solve_entry (call os')
     unfolding solve_entry
     entry_same =
-        ap₂ (λ (o : Option ℕ) (L : SolveLeft). refused_or o (refused (call [])) L) (ap first_failing checks_same)
+        ap₂ (λ (o : Tested) (L : SolveLeft). refused_or o (refused (call [])) L) (ap first_failing checks_same)
         (by_out (searched (Unit {0}) nothing_met tt (call os)) ∙ ap (verdict (call os')) searched_same)
 
 -- the words of the first k records are the first 3 k words

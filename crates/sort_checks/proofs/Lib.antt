@@ -1,5 +1,3 @@
 -- How the checks on sorts go through rows.
 pub mod Below
-pub mod Checks
-pub mod New
 pub mod FirstFour

@@ -1,76 +1,36 @@
 -- The first failing check, as the tests of an entry find it one after another, and what it means that none fails.
 -- Assumes nothing.
-use mathlib.Core.Path.{◌≡◌, refl, sym, ◌∙◌, ap}
+use mathlib.Core.Path.{◌≡◌, refl, sym, ◌∙◌, ap, subst}
 use mathlib.Core.Bool.{Bool, true, ◌&&◌, and-eq-true_iff}
 use mathlib.Core.List.{List, [], ◌∷◌}
-use mathlib.Core.Option.{none}
 use Prim.Native.Nat.{ℕ, ◌-◌, ◌*◌, ◌<◌, ◌≤◌}
 use lib.ListN.{length}
 use lib.Dec.{leb, ltb}
 use borrow.Author.Tests.{ltb-true, leb-true, lt-ltb, le-ltb, le-leb, lt-leb}
-use Rattle.resolved_sort.specs.declared.Tested.{Tested}
-use Rattle.resolved_sort.specs.declared.Tested.TheVariants.{Refused, Passed}
+use Rattle.resolved_sort.specs.declared.Refusal.TheVariants.{NotInList, TooShort}
+use Rattle.resolved_sort.specs.Checks.{Tested}
+use Rattle.std.specs.Prelude.{Result, Ok, Err}
 use Rattle.resolved_sort.specs.declared.Joined.{Joined}
-use Rattle.resolved_sort.specs.declared.Bounded.{Bounded}
-use Rattle.resolved_sort.specs.declared.Bounded.TheVariants.{NoRoom}
+use Rattle.resolved_sort.specs.declared.Refusal.{Refusal}
+use Rattle.resolved_sort.specs.declared.Refusal.TheVariants.{SortsFull}
+use Rattle.resolved_sort.specs.declared.Counts.{Counts}
 use Rattle.resolved_sort.specs.Tree.{Tree}
 use Rattle.resolved_sort.specs.Interning.{Outcome, made, nothing, full, make}
 use Rattle.resolved_sort.specs.Storage.{max_sorts, max_entries, full_length, entries_at, sorts_of}
 use Rattle.resolved_sort.specs.Checks.{within_lent, rows_fine, no_two_equal, in_list, at_ceiling, Check, first_failing, sort_checks, pair_checks}
-use Rattle.resolved_sort.specs.Inner.Entries.{tested_of}
-use Rattle.resolved_sort.specs.Entries.{refused_or, tree_at, stored, sorts_left, sorts_left_by, bounded}
+use Rattle.resolved_sort.specs.Entries.{refused_or, tree_at, stored, Bounded, sorts_left, sorts_left_by, bounded}
 use Rattle.resolved_sort.specs.Rows.{stored_at}
 use Rattle.resolved_sort.specs.Bounds.{Asked, bound_at}
 use Rattle.resolved_sort.proofs.FirstFailing.{first_fails, first_passes, append_fails, append_passes, cons_passes}
+use Rattle.resolved_sort.proofs.Reached.{no_confusion}
 use Rattle.resolved_sort.proofs.Grown.{grown_none}
 use Rattle.resolved_sort.specs.Growing.{SortsKept, InTree}
 use Rattle.resolved_sort.proofs.Kept.{make_kept}
 use Rattle.resolved_sort.proofs.Stored.{look_whole}
 use Rattle.resolved_sort.proofs.GivenBack.{made_is_given_back}
-use Rattle.sort_entries.specs.Inner.Kept.{kept_or_given_back}
-use Rattle.resolved_sort.proofs.Testing.{refused_is, passed_is}
+use Rattle.sort_entries.specs.Inner.Kept.{pair_tested, kept_or_given_back}
 
--- checks 12 and 14
-module _ (ws : List ℕ) (n e a b : ℕ) (t : Tested) (et : t ≡ tested_of (first_failing (sort_checks ws n e))) where
-  abbrev twelve : Check
-  twelve = record { code = 12; passes = in_list n a && in_list n b }
-
-  abbrev fourteen : Check
-  fourteen = record { code = 14; passes = at_ceiling ws }
-
-  pub sorts_fail : (c : ℕ) → t ≡ Refused c → Refused c ≡ tested_of (first_failing (pair_checks ws n e a b))
-  unfolding pair_checks
-  sorts_fail c r = ap tested_of (sym (append_fails (sort_checks ws n e) (twelve ∷ fourteen ∷ []) c (refused_is _ t c et r)))
-
-  module _ (p : t ≡ Passed) where
-    past_sorts : first_failing (pair_checks ws n e a b) ≡ first_failing (twelve ∷ fourteen ∷ [])
-    unfolding pair_checks
-    past_sorts = append_passes (sort_checks ws n e) (twelve ∷ fourteen ∷ []) (passed_is _ t et p)
-
-    pub lhs_fails : n ≤ a → Refused 12 ≡ tested_of (first_failing (pair_checks ws n e a b))
-    unfolding in_list
-    lhs_fails h = ap tested_of (sym (past_sorts ∙ first_fails twelve _ (rw (le-ltb a n h))))
-
-    module _ (ha : a < n) where
-      pub rhs_fails : n ≤ b → Refused 12 ≡ tested_of (first_failing (pair_checks ws n e a b))
-      unfolding in_list
-      rhs_fails h = ap tested_of (sym (past_sorts ∙ first_fails twelve _ (rw (lt-ltb a n ha, le-ltb b n h))))
-
-      module _ (hb : b < n) where
-        past_12 : first_failing (pair_checks ws n e a b) ≡ first_failing (fourteen ∷ [])
-        unfolding in_list
-        past_12 = past_sorts ∙ first_passes twelve _ (rw (lt-ltb a n ha, lt-ltb b n hb))
-
-        pub length_fails : length ws < full_length → Refused 14 ≡ tested_of (first_failing (pair_checks ws n e a b))
-        unfolding at_ceiling
-        length_fails h = ap tested_of (sym (past_12 ∙ first_fails fourteen _ (lt-leb full_length (length ws) h)))
-
-        pub all_pass : full_length ≤ length ws → Passed ≡ tested_of (first_failing (pair_checks ws n e a b))
-        unfolding at_ceiling first_failing
-        all_pass h = ap tested_of (sym (past_12 ∙ first_passes fourteen [] (le-leb full_length (length ws) h)))
-
--- what it means that no check fails
-module _ (ws : List ℕ) (n e a b : ℕ) (x : first_failing (pair_checks ws n e a b) ≡ none) where
+module _ (ws : List ℕ) (n e a b : ℕ) (x : first_failing (pair_checks ws n e a b) ≡ Ok tt) where
   chain : (within_lent ws n e ≡ true) × (rows_fine ws n e ≡ true) × (no_two_equal ws n ≡ true) × ((in_list n a && in_list n b) ≡ true) × (at_ceiling ws ≡ true)
   unfolding pair_checks sort_checks
   chain =
@@ -100,19 +60,98 @@ module _ (ws : List ℕ) (n e a b : ℕ) (x : first_failing (pair_checks ws n e 
         rhs = ltb-true b n i.1;
       }
 
--- the answers of an entry
-module _ (ws : List ℕ) (n e a b : ℕ) (t : Tested) (et : t ≡ tested_of (first_failing (pair_checks ws n e a b))) where
-  pub refused_with : {A : Type 0} (f : ℕ → A) (r : A) (c : ℕ) → t ≡ Refused c → f c ≡ refused_or (first_failing (pair_checks ws n e a b)) f r
-  refused_with f r c h = rw (refused_is (first_failing (pair_checks ws n e a b)) t c et h)
+-- checks 12 and 14, after 1 to 4
+module _ (ws : List ℕ) (n e a b : ℕ) where
+  abbrev twelve : Check
+  twelve = record { refusal = NotInList; passes = in_list n a && in_list n b }
 
-  pub answered : {A : Type 0} (f : ℕ → A) (r : A) → t ≡ Passed → r ≡ refused_or (first_failing (pair_checks ws n e a b)) f r
-  answered f r h = rw (passed_is (first_failing (pair_checks ws n e a b)) t et h)
+  abbrev fourteen : Check
+  fourteen = record { refusal = TooShort; passes = at_ceiling ws }
 
-  pub none_fails : t ≡ Passed → first_failing (pair_checks ws n e a b) ≡ none
-  none_fails h = passed_is _ t et h
+  refused_by : (r : Refusal) → first_failing (pair_checks ws n e a b) ≡ Err r → Err r ≡ pair_tested ws n e a b
+  unfolding pair_tested
+  refused_by r q = rw q
 
-  pub asked : t ≡ Passed → Asked ws n e a b
-  asked h = sorts_asked ws n e a b (passed_is _ t et h)
+  pub sorts_fail : (c : Refusal) → Err c ≡ first_failing (sort_checks ws n e) → Err c ≡ pair_tested ws n e a b
+  unfolding pair_checks
+  sorts_fail c q = refused_by c (append_fails (sort_checks ws n e) (twelve ∷ fourteen ∷ []) c (sym q))
+
+  module _ (p : Ok tt ≡ first_failing (sort_checks ws n e)) where
+    past_sorts : first_failing (pair_checks ws n e a b) ≡ first_failing (twelve ∷ fourteen ∷ [])
+    unfolding pair_checks
+    past_sorts = append_passes (sort_checks ws n e) (twelve ∷ fourteen ∷ []) (sym p)
+
+    pub lhs_fails : n ≤ a → Err NotInList ≡ pair_tested ws n e a b
+    unfolding in_list
+    lhs_fails h = refused_by NotInList (past_sorts ∙ first_fails twelve _ (rw (le-ltb a n h)))
+
+    module _ (ha : a < n) where
+      pub rhs_fails : n ≤ b → Err NotInList ≡ pair_tested ws n e a b
+      unfolding in_list
+      rhs_fails h = refused_by NotInList (past_sorts ∙ first_fails twelve _ (rw (lt-ltb a n ha, le-ltb b n h)))
+
+      module _ (hb : b < n) where
+        past_12 : first_failing (pair_checks ws n e a b) ≡ first_failing (fourteen ∷ [])
+        unfolding in_list
+        past_12 = past_sorts ∙ first_passes twelve _ (rw (lt-ltb a n ha, lt-ltb b n hb))
+
+        pub length_fails : length ws < full_length → Err TooShort ≡ pair_tested ws n e a b
+        unfolding at_ceiling
+        length_fails h = refused_by TooShort (past_12 ∙ first_fails fourteen _ (lt-leb full_length (length ws) h))
+
+        module _ (h : full_length ≤ length ws) where
+          none_failed : first_failing (pair_checks ws n e a b) ≡ Ok tt
+          unfolding at_ceiling first_failing
+          none_failed = past_12 ∙ first_passes fourteen [] (le-leb full_length (length ws) h)
+
+          pub all_pass : Ok (record { sorts = n; entries = e }) ≡ pair_tested ws n e a b
+          unfolding pair_tested
+          all_pass = rw none_failed
+
+          pub counts_fit : (n ≤ max_sorts) × (e ≤ max_entries)
+          counts_fit = let k = sorts_asked ws n e a b none_failed in (k.checked.sorts, k.checked.entries)
+
+-- what the checks of an entry found
+module _ (ws : List ℕ) (n e a b : ℕ) where
+  pub refusal_is : (r : Refusal) → Err r ≡ pair_tested ws n e a b → first_failing (pair_checks ws n e a b) ≡ Err r
+  unfolding pair_tested
+  refusal_is r h = go (first_failing (pair_checks ws n e a b)) h
+    where
+      go : (x : Tested) → ◌≡◌ {A = Result Counts Refusal} (Err r) (refused_or x Err (Ok (record { sorts = n; entries = e }))) → x ≡ Err r
+      go (Ok u) q = no_confusion cc
+      go (Err c) q = let z : r ≡ c = cc in rw z
+
+  passed_with : (k : Counts) → Ok k ≡ pair_tested ws n e a b
+      → (first_failing (pair_checks ws n e a b) ≡ Ok tt) × (record { sorts = n; entries = e } ≡ k)
+  unfolding pair_tested
+  passed_with k h = go (first_failing (pair_checks ws n e a b)) h
+    where
+      go : (x : Tested) → ◌≡◌ {A = Result Counts Refusal} (Ok k) (refused_or x Err (Ok (record { sorts = n; entries = e })))
+          → (x ≡ Ok tt) × (record { sorts = n; entries = e } ≡ k)
+      go (Ok u) q = (refl, let z : k ≡ record { sorts = n; entries = e } = cc in sym z)
+      go (Err c) q = no_confusion cc
+
+  pub refused_with : {A : Type 0} (y : A) (r : Refusal) → Err r ≡ pair_tested ws n e a b
+      → Err r ≡ refused_or (first_failing (pair_checks ws n e a b)) Err (Ok y)
+  refused_with y r h = rw (refusal_is r h)
+
+  module _ (k : Counts) (h : Ok k ≡ pair_tested ws n e a b) where
+    pub none_fails : first_failing (pair_checks ws n e a b) ≡ Ok tt
+    none_fails = (passed_with k h).0
+
+    pub counted : record { sorts = n; entries = e } ≡ k
+    counted = (passed_with k h).1
+
+    pub asked : Asked ws k.sorts k.entries a b
+    asked = subst (λ (c : Counts). Asked ws c.sorts c.entries a b) (passed_with k h).1 (sorts_asked ws n e a b none_fails)
+
+    pub asked_given : Asked ws n e a b
+    asked_given = sorts_asked ws n e a b none_fails
+
+    -- an answer about the list of these counts
+    pub answered : {A : Type 0} (f : ℕ → A) (x : A) → x ≡ f k.sorts
+        → Ok x ≡ refused_or (first_failing (pair_checks ws n e a b)) Err (Ok (f n))
+    answered f x q = ap Ok (q ∙ sym (ap (λ (c : Counts). f c.sorts) (passed_with k h).1)) ∙ rw none_fails
 
 -- join and meet: what was made stays where they answered, and is given back where room ended
 module _ (up : Bool) (ws : List ℕ) (n e a b : ℕ) (k : Asked ws n e a b) where
@@ -129,11 +168,26 @@ module _ (up : Bool) (ws : List ℕ) (n e a b : ℕ) (k : Asked ws n e a b) wher
   unfolding SortsKept stored kept_or_given_back sorts_left_by
   by_outcome (made v S) h = refl
   by_outcome (nothing S) h = refl
-  by_outcome (full S) h = ap (λ us. sorts_left us NoRoom) (made_is_given_back ws n e k.checked S h.0)
+  by_outcome (full S) h = ap (λ us. sorts_left us (Err SortsFull)) (made_is_given_back ws n e k.checked S h.0)
 
   pub bound_answered : (vs : List ℕ) (j : Joined) → stored_at vs j ≡ bound_at up ws n e a b
       → (us : List ℕ) (r : Bounded) → sorts_left us r ≡ kept_or_given_back vs n e j
-      → first_failing (pair_checks ws n e a b) ≡ none → sorts_left us r ≡ bounded up ws n e a b
+      → first_failing (pair_checks ws n e a b) ≡ Ok tt → sorts_left us r ≡ bounded up ws n e a b
   unfolding bound_at bounded
   bound_answered vs j q us r g x =
       g ∙ (ap (λ s. kept_or_given_back s.words n e s.answer) q ∙ (by_outcome outcome outcome_kept ∙ rw x))
+
+-- as the code of both meets them, with the counts that its checks answered
+module _ (up : Bool) (ws : List ℕ) (n e a b : ℕ) where
+  pub bound_refused : (r : Refusal) → Err r ≡ pair_tested ws n e a b → (x : Bounded) → x ≡ Err r
+      → sorts_left ws x ≡ bounded up ws n e a b
+  unfolding bounded
+  bound_refused r h x q = rw (q, refusal_is ws n e a b r h)
+
+  module _ (k : Counts) (h : Ok k ≡ pair_tested ws n e a b) where
+    pub bound_answered_with : (vs : List ℕ) (j : Joined) → stored_at vs j ≡ bound_at up ws k.sorts k.entries a b
+        → (us : List ℕ) (r : Bounded) → sorts_left us r ≡ kept_or_given_back vs n e j → sorts_left us r ≡ bounded up ws n e a b
+    bound_answered_with vs j q us r g =
+        bound_answered up ws n e a b (asked_given ws n e a b k h) vs j
+        (q ∙ sym (ap (λ (c : Counts). bound_at up ws c.sorts c.entries a b) (counted ws n e a b k h))) us r g
+        (none_fails ws n e a b k h)

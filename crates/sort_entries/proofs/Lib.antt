@@ -1,6 +1,5 @@
 -- The laws of the entries of the sorts layer.
 pub mod Laws
-pub mod Fields
 pub mod Codes
 pub mod Answered
 pub mod Packed

@@ -1,14 +1,15 @@
 -- What the entries join (up true) and meet (up false) answer and leave, whatever they are given.
-use Rattle.std.specs.Prelude.{◌≡◌, Bool, List, ℕ, ◌<◌}
+use Rattle.std.specs.Prelude as Rust
+use Rattle.resolved_sort.specs.declared.Refusal.{Refusal}
+use Rattle.resolved_sort.specs.declared.Refusal.TheVariants.{SortsFull}
+use Rattle.std.specs.Prelude.{◌≡◌, ◌⊎◌, Bool, List, ℕ, ◌<◌, Ok, Err}
 use Rattle.std.proofs.Math.Option.{Option, none, some}
 use Rattle.resolved_sort.specs.declared.Counts.{Counts}
 use Rattle.resolved_sort.specs.declared.SortId.{SortId}
-use Rattle.resolved_sort.specs.declared.Bounded.{Bounded}
-use Rattle.resolved_sort.specs.declared.Bounded.TheVariants.{Refused, Sort, Nothing, NoRoom}
 use Rattle.resolved_sort.specs.Tree.{Tree}
 use Rattle.resolved_sort.specs.Order.{bound}
 use Rattle.resolved_sort.specs.Checks.{first_failing, pair_checks}
-use Rattle.resolved_sort.specs.Entries.{tree_at}
+use Rattle.resolved_sort.specs.Entries.{tree_at, Bounded}
 use Rattle.entry_answers.specs.SortsLeft.{SortsGrew, SortsPutBack, RanOut}
 
 module _ (up : Bool) (ws : List ℕ) (n e a b : ℕ) where
@@ -16,14 +17,14 @@ module _ (up : Bool) (ws : List ℕ) (n e a b : ℕ) where
   abbrev pub bound_asked : Option Tree
   bound_asked = bound up (tree_at ws n a) (tree_at ws n b)
 
-  -- A refusal: the first failing check, and the words as given.
-  pub record BoundRefused (vs : List ℕ) (c : ℕ) : Type 0 where
-    pub first : first_failing (pair_checks ws n e a b) ≡ some c
+  -- A refusal by a check: the first that fails, and the words as given.
+  pub record BoundRefused (vs : List ℕ) (c : Refusal) : Type 0 where
+    pub first : first_failing (pair_checks ws n e a b) ≡ Err c
     pub given : vs ≡ ws
 
   -- A sort: in the words left its number stands for the join or meet.
   pub record BoundFound (vs : List ℕ) (s : SortId) (k : Counts) : Type 0 where
-    pub passed : first_failing (pair_checks ws n e a b) ≡ none
+    pub passed : first_failing (pair_checks ws n e a b) ≡ Ok tt
     pub listed : s.0 < k.sorts
     pub is : bound_asked ≡ some (tree_at vs k.sorts s.0)
     pub grew : SortsGrew ws n e vs k
@@ -31,18 +32,17 @@ module _ (up : Bool) (ws : List ℕ) (n e a b : ℕ) where
   -- None: there is no join or meet. "Join and meet keep the sorts the Rust's would make, also where the answer is
   -- none."
   pub record BoundNone (vs : List ℕ) (k : Counts) : Type 0 where
-    pub passed : first_failing (pair_checks ws n e a b) ≡ none
+    pub passed : first_failing (pair_checks ws n e a b) ≡ Ok tt
     pub is : bound_asked ≡ none
     pub grew : SortsGrew ws n e vs k
 
   -- No room: some new sort did not fit, and what was made is given back.
   pub record BoundNoRoom (vs : List ℕ) : Type 0 where
-    pub passed : first_failing (pair_checks ws n e a b) ≡ none
+    pub passed : first_failing (pair_checks ws n e a b) ≡ Ok tt
     pub ran_out : RanOut ws n e
     pub put_back : SortsPutBack ws n e vs
 
   abbrev pub BoundSays : List ℕ → Bounded → Type 0
-  BoundSays vs (Refused c) = BoundRefused vs c
-  BoundSays vs (Sort s k) = BoundFound vs s k
-  BoundSays vs (Nothing k) = BoundNone vs k
-  BoundSays vs NoRoom = BoundNoRoom vs
+  BoundSays vs (Err r) = (BoundRefused vs r × (r ≡ SortsFull → ⊥)) ⊎ (BoundNoRoom vs × (r ≡ SortsFull))
+  BoundSays vs (Ok (Rust.Some s, k)) = BoundFound vs s k
+  BoundSays vs (Ok (Rust.None, k)) = BoundNone vs k

@@ -2,50 +2,41 @@
 // `requires`: whatever a caller hands in, the answer and the storage at exit are the defined ones.
 #![tactic(auto)]
 
-ghost use Rattle.std.specs.Prelude.{◌≡◌, true, false, ◌+◌, ◌*◌, ◌<◌, ◌≤◌, length};
+ghost use Rattle.std.specs.Prelude.{◌≡◌, true, false, Ok, ◌+◌, ◌*◌, ◌<◌, ◌≤◌, length};
 ghost use Rattle.resolved_sort.specs.Storage.{max_sorts, max_entries, full_length};
-ghost use Rattle.resolved_sort.specs.Checks.{first_failing, pair_checks};
-ghost use Rattle.resolved_sort.specs.Inner.Entries.{tested_of};
 ghost use Rattle.resolved_sort.specs.Entries.{compared, measured, materialized, bounded, sorts_left};
-ghost use Rattle.sort_entries.specs.Inner.Kept.{kept_or_given_back};
+ghost use Rattle.sort_entries.specs.Inner.Kept.{pair_tested, kept_or_given_back};
 ghost use Rattle.sort_entries.specs.Packed.{pack_compared, pack_measured, pack_materialized, pack_bounded};
 ghost use Rattle.sort_entries.specs.Packed.{packed_sorts, pack_sorts_left};
 
-use resolved_sort::{
-    Bounded, Compared, Counts, Joined, Materialized, Measured, PartialOrder, SORT_WORDS, SortId,
-    Tested, Widening,
-};
+use entry_answers::pack;
+use resolved_sort::{Counts, Joined, Refusal, SORT_WORDS, SortId, Steps};
 use sort_checks::test_sorts;
-use sort_interner::give_back;
+use sort_interner::{Sorts, give_back};
+use std::cmp::Ordering;
 use words::{BIT_8, BIT_16, BIT_24, BIT_32, BIT_48};
 
-// Checks 1 to 4, 12 and 14 of a question about two sorts: the first that fails.
+// Checks 1 to 4, 12 and 14 of a question about two sorts: the first that fails, or the counts given.
 fn test_pair(
     sorts: &[u16],
     sort_count: usize,
     entry_count: usize,
     lhs: SortId,
     rhs: SortId,
-) -> Tested
-    ensures { result
-        ≡ tested_of
-        (first_failing (pair_checks sorts.now sort_count entry_count lhs.0 rhs.0)) }
+) -> Result<Counts, Refusal>
+    ensures { result ≡ pair_tested sorts.now sort_count entry_count lhs.0 rhs.0 }
 {
-    match test_sorts(sorts, sort_count, entry_count) {
-        Tested::Refused(code) => Tested::Refused(code),
-        Tested::Passed => {
-            if sort_count <= (lhs.0 as usize) {
-                return Tested::Refused(12);
-            }
-            if sort_count <= (rhs.0 as usize) {
-                return Tested::Refused(12);
-            }
-            if sorts.len() < SORT_WORDS {
-                return Tested::Refused(14);
-            }
-            Tested::Passed
-        }
+    test_sorts(sorts, sort_count, entry_count)?;
+    if sort_count <= (lhs.0 as usize) || sort_count <= (rhs.0 as usize) {
+        return Err(Refusal::NotInList);
     }
+    if sorts.len() < SORT_WORDS {
+        return Err(Refusal::TooShort);
+    }
+    Ok(Counts {
+        sorts: sort_count as u16,
+        entries: entry_count as u16,
+    })
 }
 
 // The order of two sorts.
@@ -57,19 +48,15 @@ pub fn partial_cmp(
     entry_count: usize,
     lhs: SortId,
     rhs: SortId,
-) -> Compared
+) -> Result<Option<Ordering>, Refusal>
     ensures { result ≡ compared sorts.now sort_count entry_count lhs.0 rhs.0 }
 {
-    match test_pair(sorts, sort_count, entry_count, lhs, rhs) {
-        Tested::Refused(code) => Compared::Refused(code),
-        Tested::Passed => {
-            let counts = Counts {
-                sorts: sort_count as u16,
-                entries: entry_count as u16,
-            };
-            Compared::Ordered(sort_order::lent::partial_cmp(sorts, counts, lhs, rhs))
-        }
-    }
+    let counts = test_pair(sorts, sort_count, entry_count, lhs, rhs)?;
+    let sorts = Sorts {
+        words: sorts,
+        counts,
+    };
+    Ok(sort_order::partial_cmp(&sorts, lhs, rhs))
 }
 
 // How far the first sort is below the second.
@@ -80,19 +67,15 @@ pub fn widening_distance(
     entry_count: usize,
     from: SortId,
     to: SortId,
-) -> Measured
+) -> Result<Option<Steps>, Refusal>
     ensures { result ≡ measured sorts.now sort_count entry_count from.0 to.0 }
 {
-    match test_pair(sorts, sort_count, entry_count, from, to) {
-        Tested::Refused(code) => Measured::Refused(code),
-        Tested::Passed => {
-            let counts = Counts {
-                sorts: sort_count as u16,
-                entries: entry_count as u16,
-            };
-            Measured::Steps(sort_order::lent::widening_distance(sorts, counts, from, to))
-        }
-    }
+    let counts = test_pair(sorts, sort_count, entry_count, from, to)?;
+    let sorts = Sorts {
+        words: sorts,
+        counts,
+    };
+    Ok(sort_order::widening_distance(&sorts, from, to))
 }
 
 // Whether the first sort converts into the second.
@@ -103,38 +86,35 @@ pub fn is_materializable(
     entry_count: usize,
     from: SortId,
     to: SortId,
-) -> Materialized
+) -> Result<bool, Refusal>
     ensures { result ≡ materialized sorts.now sort_count entry_count from.0 to.0 }
 {
-    match test_pair(sorts, sort_count, entry_count, from, to) {
-        Tested::Refused(code) => Materialized::Refused(code),
-        Tested::Passed => {
-            let counts = Counts {
-                sorts: sort_count as u16,
-                entries: entry_count as u16,
-            };
-            Materialized::Answer(sort_order::lent::is_materializable(sorts, counts, from, to))
-        }
-    }
+    let counts = test_pair(sorts, sort_count, entry_count, from, to)?;
+    let sorts = Sorts {
+        words: sorts,
+        counts,
+    };
+    Ok(sort_order::is_materializable(&sorts, from, to))
 }
 
 // What an entry answers after join or meet: an answered one keeps what was made, one that ran out
 // of room gives it back.
+#[tactic(auto, unfolding(crate::specs::Inner::Kept::kept_or_given_back))]
 fn kept_or_given_back(
     sorts: &mut [u16],
     sort_count: usize,
     entry_count: usize,
     joined: Joined,
-) -> Bounded
+) -> Result<(Option<SortId>, Counts), Refusal>
     requires { (sort_count ≤ max_sorts) × (entry_count ≤ max_entries) × (full_length ≤ length sorts.old) }
     ensures { sorts_left sorts.new result ≡ kept_or_given_back sorts.old sort_count entry_count joined }
 {
     match joined {
-        Joined::At(id, made) => Bounded::Sort(id, made),
-        Joined::Nothing(made) => Bounded::Nothing(made),
+        Joined::At(id, made) => Ok((Some(id), made)),
+        Joined::Nothing(made) => Ok((None, made)),
         Joined::Full => {
             give_back(sorts, sort_count, entry_count);
-            Bounded::NoRoom
+            Err(Refusal::SortsFull)
         }
     }
 }
@@ -147,21 +127,13 @@ pub fn join(
     entry_count: usize,
     lhs: SortId,
     rhs: SortId,
-) -> Bounded
+) -> Result<(Option<SortId>, Counts), Refusal>
     ensures { sorts_left sorts.new result
         ≡ bounded true sorts.old sort_count entry_count lhs.0 rhs.0 }
 {
-    match test_pair(sorts, sort_count, entry_count, lhs, rhs) {
-        Tested::Refused(code) => Bounded::Refused(code),
-        Tested::Passed => {
-            let counts = Counts {
-                sorts: sort_count as u16,
-                entries: entry_count as u16,
-            };
-            let joined = sort_bounds::lent::join(sorts, counts, lhs, rhs);
-            kept_or_given_back(sorts, sort_count, entry_count, joined)
-        }
-    }
+    let counts = test_pair(sorts, sort_count, entry_count, lhs, rhs)?;
+    let joined = sort_bounds::lent::join(sorts, counts, lhs, rhs);
+    kept_or_given_back(sorts, sort_count, entry_count, joined)
 }
 
 // The greatest common subsort of two sorts.
@@ -172,79 +144,57 @@ pub fn meet(
     entry_count: usize,
     lhs: SortId,
     rhs: SortId,
-) -> Bounded
+) -> Result<(Option<SortId>, Counts), Refusal>
     ensures { sorts_left sorts.new result
         ≡ bounded false sorts.old sort_count entry_count lhs.0 rhs.0 }
 {
-    match test_pair(sorts, sort_count, entry_count, lhs, rhs) {
-        Tested::Refused(code) => Bounded::Refused(code),
-        Tested::Passed => {
-            let counts = Counts {
-                sorts: sort_count as u16,
-                entries: entry_count as u16,
-            };
-            let joined = sort_bounds::lent::meet(sorts, counts, lhs, rhs);
-            kept_or_given_back(sorts, sort_count, entry_count, joined)
-        }
+    let counts = test_pair(sorts, sort_count, entry_count, lhs, rhs)?;
+    let joined = sort_bounds::lent::meet(sorts, counts, lhs, rhs);
+    kept_or_given_back(sorts, sort_count, entry_count, joined)
+}
+
+// The values of an answer in their fields, above a code of 0.
+#[tactic(auto, unfolding(entry_answers::specs::Packing::packed, entry_answers::specs::Packing::in_fields))]
+fn pack_order(order: Option<Ordering>) -> u64
+    ensures { result ≡ pack_compared (Ok order) }
+{
+    match order {
+        None => 0,
+        Some(Ordering::Equal) => PACKED_EQUAL,
+        Some(Ordering::Less) => PACKED_BELOW,
+        Some(Ordering::Greater) => PACKED_ABOVE,
     }
 }
 
-// The code of document 01 and the values of an answer as one number, for callers in other languages.
-fn pack_compared(answer: Compared) -> u64
-    ensures { result ≡ pack_compared answer }
+#[tactic(auto, unfolding(entry_answers::specs::Packing::packed, entry_answers::specs::Packing::in_fields))]
+fn pack_distance(steps: Option<Steps>) -> u64
+    ensures { result ≡ pack_measured (Ok steps) }
 {
-    match answer {
-        Compared::Refused(code) => code as u64,
-        Compared::Ordered(order) => match order {
-            PartialOrder::Unrelated => 0,
-            PartialOrder::Equal => PACKED_EQUAL,
-            PartialOrder::Below => PACKED_BELOW,
-            PartialOrder::Above => PACKED_ABOVE,
-        },
+    match steps {
+        Some(Steps { head, interior }) => BIT_8
+            + (head as u64) * BIT_16
+            + (interior as u64) * BIT_24,
+        None => 0,
     }
 }
 
-fn pack_measured(answer: Measured) -> u64
-    ensures { result ≡ pack_measured answer }
+#[tactic(auto, unfolding(entry_answers::specs::Packing::packed, entry_answers::specs::Packing::in_fields))]
+fn pack_yes(yes: bool) -> u64
+    ensures { result ≡ pack_materialized (Ok yes) }
 {
-    match answer {
-        Measured::Refused(code) => code as u64,
-        Measured::Steps(widening) => match widening {
-            Widening::Distance { head, interior } => BIT_8
-                + (head as u64) * BIT_16
-                + (interior as u64) * BIT_24,
-            Widening::Nothing => 0,
-        },
-    }
+    (yes as u64) * BIT_8
 }
 
-fn pack_materialized(answer: Materialized) -> u64
-    ensures { result ≡ pack_materialized answer }
+#[tactic(auto, unfolding(entry_answers::specs::Packing::packed, entry_answers::specs::Packing::in_fields))]
+fn pack_bound(bound: (Option<SortId>, Counts)) -> u64
+    ensures { result ≡ pack_bounded (Ok bound) }
 {
-    match answer {
-        Materialized::Refused(code) => code as u64,
-        Materialized::Answer(yes) => {
-            if yes {
-                return BIT_8;
-            }
-            0
-        }
-    }
-}
-
-fn pack_bounded(answer: Bounded) -> u64
-    ensures { result ≡ pack_bounded answer }
-{
-    match answer {
-        Bounded::Refused(code) => code as u64,
-        Bounded::Sort(id, counts) => BIT_8
-            + (id.0 as u64) * BIT_16
-            + (counts.sorts as u64) * BIT_32
-            + (counts.entries as u64) * BIT_48,
-        Bounded::Nothing(counts) => (counts.sorts as u64) * BIT_32
-            + (counts.entries as u64) * BIT_48,
-        Bounded::NoRoom => 15,
-    }
+    let (sort, counts) = bound;
+    let id = match sort {
+        Some(id) => BIT_8 + (id.0 as u64) * BIT_16,
+        None => 0,
+    };
+    id + (counts.sorts as u64) * BIT_32 + (counts.entries as u64) * BIT_48
 }
 
 // The entries for callers in other languages: a slice is a pointer and a length, sorts are numbers,
@@ -259,7 +209,7 @@ pub extern "C" fn sort_partial_cmp(
 ) -> u64
     ensures { result ≡ pack_compared (compared sorts.now sort_count entry_count lhs rhs) }
 {
-    pack_compared(partial_cmp(sorts, sort_count, entry_count, SortId(lhs), SortId(rhs)))
+    pack(partial_cmp(sorts, sort_count, entry_count, SortId(lhs), SortId(rhs)).map(pack_order))
 }
 
 #[unsafe(no_mangle)]
@@ -272,7 +222,9 @@ pub extern "C" fn sort_widening_distance(
 ) -> u64
     ensures { result ≡ pack_measured (measured sorts.now sort_count entry_count from to) }
 {
-    pack_measured(widening_distance(sorts, sort_count, entry_count, SortId(from), SortId(to)))
+    pack(widening_distance(sorts, sort_count, entry_count, SortId(from), SortId(to)).map(
+        pack_distance,
+    ))
 }
 
 #[unsafe(no_mangle)]
@@ -285,7 +237,7 @@ pub extern "C" fn sort_is_materializable(
 ) -> u64
     ensures { result ≡ pack_materialized (materialized sorts.now sort_count entry_count from to) }
 {
-    pack_materialized(is_materializable(sorts, sort_count, entry_count, SortId(from), SortId(to)))
+    pack(is_materializable(sorts, sort_count, entry_count, SortId(from), SortId(to)).map(pack_yes))
 }
 
 #[unsafe(no_mangle)]
@@ -299,7 +251,7 @@ pub extern "C" fn sort_join(
     ensures { packed_sorts sorts.new result
         ≡ pack_sorts_left (bounded true sorts.old sort_count entry_count lhs rhs) }
 {
-    pack_bounded(join(sorts, sort_count, entry_count, SortId(lhs), SortId(rhs)))
+    pack(join(sorts, sort_count, entry_count, SortId(lhs), SortId(rhs)).map(pack_bound))
 }
 
 #[unsafe(no_mangle)]
@@ -313,7 +265,7 @@ pub extern "C" fn sort_meet(
     ensures { packed_sorts sorts.new result
         ≡ pack_sorts_left (bounded false sorts.old sort_count entry_count lhs rhs) }
 {
-    pack_bounded(meet(sorts, sort_count, entry_count, SortId(lhs), SortId(rhs)))
+    pack(meet(sorts, sort_count, entry_count, SortId(lhs), SortId(rhs)).map(pack_bound))
 }
 
 // The orders in bits 8 to 15 of a packed answer: 0 unrelated, 1 equal, 2 below, 3 above.

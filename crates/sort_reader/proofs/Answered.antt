@@ -6,12 +6,11 @@ use mathlib.Core.List.{List, []}
 use mathlib.Core.Option.{Option, none, some}
 use Prim.Native.Nat.{ℕ}
 use native.Mathlib.Omega.{arith}
-use Rattle.resolved_sort.specs.declared.Tested.TheVariants.{Passed}
+use Rattle.std.specs.Prelude.{Ok, Err}
 use Rattle.resolved_sort.specs.Tree.{Tree, flat, container, function, Trees, no_args, arg}
 use Rattle.resolved_sort.specs.Interning.{Sorts, look, number, Outcome, made, nothing, full}
 use Rattle.resolved_sort.specs.Storage.{sorts_of}
-use Rattle.resolved_sort.specs.Checks.{first_failing}
-use Rattle.resolved_sort.specs.Inner.Entries.{tested_of}
+use Rattle.resolved_sort.specs.Checks.{first_failing, Tested}
 use Rattle.resolved_sort.specs.Entries.{refused_or, stored}
 use Rattle.resolved_sort.specs.Growing.{SortsKept, InTree}
 use Rattle.resolved_sort.proofs.Numbers.{look_number, number_below}
@@ -48,9 +47,9 @@ module _ (ws : List ℕ) (n e : ℕ) (bs : List ℕ) where
   abbrev says : ReadLeft → Type 0
   says z = ReadSays ws n e bs z.words z.answer
 
-  module _ (f : first_failing (read_checks ws n e bs) ≡ none) where
+  module _ (f : first_failing (read_checks ws n e bs) ≡ Ok tt) where
     passed : Passes ws n e bs
-    passed = passes ws n e bs Passed (ap tested_of (sym f)) refl
+    passed = passes ws n e bs (Ok tt) (sym f) refl
 
     by_outcome : (t : Tree) → line bs ≡ parsed t [] → (O : Outcome Tree) → SortsKept ws n e InTree (sorts_of ws n e) O
         → Stores t O → Ends O → says (stored_by ws n e (stored ws n e O) (stored ws n e O).answer)
@@ -85,7 +84,7 @@ module _ (ws : List ℕ) (n e : ℕ) (bs : List ℕ) where
   unfolding reading
   entry_is_line vs r w = go (first_failing (read_checks ws n e bs)) refl w
     where
-      go : (o : Option ℕ) → first_failing (read_checks ws n e bs) ≡ o
+      go : (o : Tested) → first_failing (read_checks ws n e bs) ≡ o
           → read_left vs r ≡ refused_or o (λ c. read_left ws (Refused c)) (read_as_of ws n e bs (line bs)) → ReadSays ws n e bs vs r
-      go none f w = subst says (sym w) (by_line f (line bs) refl)
-      go (some c) f w = subst says (sym w) (record { first = f; given = refl })
+      go (Ok u) f w = subst says (sym w) (by_line f (line bs) refl)
+      go (Err c) f w = subst says (sym w) (record { first = f; given = refl })

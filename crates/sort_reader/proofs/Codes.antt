@@ -7,12 +7,16 @@ use mathlib.Core.Option.{Option, none, some}
 use Prim.Native.Nat.{ℕ}
 use native.Mathlib.Omega.{arith}
 use lib.ListN.{get_or}
+use Rattle.resolved_sort.specs.declared.Refusal.{Refusal}
+use Rattle.std.specs.Prelude.{Err, Ok}
 use Rattle.resolved_sort.specs.declared.Joined.{Joined}
 use Rattle.resolved_sort.specs.declared.Joined.TheVariants.{At, Nothing, Full}
 use Rattle.resolved_sort.specs.Storage.{sorts_of}
-use Rattle.resolved_sort.specs.Checks.{first_failing, sort_checks, Numbered}
+use Rattle.resolved_sort.specs.Checks.{first_failing, sort_checks, Numbered, Tested, code_of}
 use Rattle.resolved_sort.specs.Entries.{refused_or, Stored, stored}
 use Rattle.resolved_sort.proofs.FailingNumber.{failing_number}
+use Rattle.resolved_sort.specs.declared.Refusal.TheVariants.{LongLine}
+use Rattle.entry_answers.proofs.Refusals.{codes_tell, code_in_byte}
 use Rattle.sort_text.specs.declared.Read.{Read}
 use Rattle.sort_text.specs.declared.Read.TheVariants.{Refused, NotASort, Sort, NoRoom}
 use Rattle.sort_text.specs.Parse.{Parsed, parsed, stuck, line}
@@ -32,26 +36,26 @@ unfolding read_as_of code_read
 line_code ws n e bs (parsed t cs) = stored_code ws n e (stored ws n e (store t (sorts_of ws n e))) _
 line_code ws n e bs (stuck cs) = refl
 
-by_check : (x : Option ℕ) (ws : List ℕ) (r : ReadLeft)
-    → code_read (refused_or x (λ c. read_left ws (Refused c)) r).answer ≡ refused_or x (λ c. c) (code_read r.answer)
+by_check : (x : Tested) (ws : List ℕ) (r : ReadLeft)
+    → code_read (refused_or x (λ c. read_left ws (Refused c)) r).answer ≡ refused_or x code_of (code_read r.answer)
 unfolding code_read
-by_check none ws r = refl
-by_check (some c) ws r = refl
+by_check (Ok u) ws r = refl
+by_check (Err c) ws r = refl
 
-else_same : (x : Option ℕ) (m k : ℕ) → m ≡ k → refused_or x (λ c. c) m ≡ refused_or x (λ c. c) k
+else_same : (x : Tested) (m k : ℕ) → m ≡ k → refused_or x code_of m ≡ refused_or x code_of k
 else_same x m k e = rw e
 
 pub code_of_reading : (ws : List ℕ) (n e : ℕ) (bs : List ℕ) → code_read (reading ws n e bs).answer ≡ refused_or
-    (first_failing (read_checks ws n e bs)) (λ c. c) (line_code_of ws n e (line bs))
+    (first_failing (read_checks ws n e bs)) code_of (line_code_of ws n e (line bs))
 unfolding reading
 code_of_reading ws n e bs =
     by_check (first_failing (read_checks ws n e bs)) ws (read_as_of ws n e bs (line bs)) ∙ else_same
     (first_failing (read_checks ws n e bs)) _ _ (line_code ws n e bs (line bs))
 
 -- a refusal is by a check
-refused_by_number : (ws : List ℕ) (n e : ℕ) (bs : List ℕ) (c : ℕ) → first_failing (read_checks ws n e bs) ≡ some c → Numbered c ⊎ (c ≡ 19)
-unfolding read_checks sort_checks
-refused_by_number ws n e bs c x = failing_number (λ c. Numbered c ⊎ (c ≡ 19)) (read_checks ws n e bs) c (
+refused_by_number : (ws : List ℕ) (n e : ℕ) (bs : List ℕ) (c : Refusal) → first_failing (read_checks ws n e bs) ≡ Err c → Numbered c ⊎ (c ≡ LongLine)
+unfolding read_checks sort_checks code_of
+refused_by_number ws n e bs c x = failing_number (λ c. Numbered c ⊎ (c ≡ LongLine)) (read_checks ws n e bs) c (
   inl (omega arith, omega arith),
   (
     inl (omega arith, omega arith),
@@ -71,17 +75,18 @@ pub read_within : (ws : List ℕ) (n e : ℕ) (bs : List ℕ) → ReadWithin (re
 read_within ws n e bs = within_by ws n e bs _ (reading ws n e bs).answer (entry_is_line ws n e bs _ _ refl)
 
 -- a refusal is neither an answer, nor 15, nor 20
-not_zero : (c : ℕ) → Numbered c ⊎ (c ≡ 19) → c ≡ 0 → ⊥
-not_zero c (inl h) e = omega (arith, h.0, e)
-not_zero c (inr h) e = omega (arith, h, e)
+not_zero : (c : Refusal) → Numbered c ⊎ (c ≡ LongLine) → code_of c ≡ 0 → ⊥
+not_zero c h e = omega (arith, (code_in_byte c).0, e)
 
-not_fifteen : (c : ℕ) → Numbered c ⊎ (c ≡ 19) → c ≡ 15 → ⊥
+not_fifteen : (c : Refusal) → Numbered c ⊎ (c ≡ LongLine) → code_of c ≡ 15 → ⊥
+unfolding code_of
 not_fifteen c (inl h) e = omega (arith, h.1, e)
-not_fifteen c (inr h) e = omega (arith, h, e)
+not_fifteen c (inr h) e = omega (arith, ap code_of h, e)
 
-not_twenty : (c : ℕ) → Numbered c ⊎ (c ≡ 19) → c ≡ 20 → ⊥
+not_twenty : (c : Refusal) → Numbered c ⊎ (c ≡ LongLine) → code_of c ≡ 20 → ⊥
+unfolding code_of
 not_twenty c (inl h) e = omega (arith, h.1, e)
-not_twenty c (inr h) e = omega (arith, h, e)
+not_twenty c (inr h) e = omega (arith, ap code_of h, e)
 
 -- number and values tell the answers apart
 pub read_tells : (r s : Read) → ReadWithin r → ReadWithin s → coded_read r ≡ coded_read s → r ≡ s
@@ -90,7 +95,7 @@ read_tells r s x y p = go r s x y (ap (λ z. z.code) p) (λ i. ap (λ z. get_or 
   where
     go : (r s : Read) → ReadWithin r → ReadWithin s → (coded_read r).code ≡ (coded_read s).code
         → ((i : ℕ) → get_or (coded_read r).values i 0 ≡ get_or (coded_read s).values i 0) → r ≡ s
-    go (Refused c) (Refused d) x y k v = ap Refused k
+    go (Refused c) (Refused d) x y k v = ap Refused (codes_tell c d k)
     go (Refused c) (NotASort q) x y k v = absurd (not_twenty c x k)
     go (Refused c) (Sort t l) x y k v = absurd (not_zero c x k)
     go (Refused c) NoRoom x y k v = absurd (not_fifteen c x k)

@@ -7,16 +7,17 @@ use native.Mathlib.Omega.{arith}
 use lib.ListN.{length, take, drop, length-take, length-drop}
 use lib.Dec.{leb, eqb}
 use borrow.Author.Tests.{leb-true, le-leb, lt-leb, eqb-true}
+use Rattle.resolved_sort.specs.declared.Refusal.{Refusal}
+use Rattle.resolved_sort.specs.declared.Refusal.TheVariants.{TooShort, LongLine}
 use Rattle.resolved_sort.specs.declared.SortId.{SortId}
 use Rattle.resolved_sort.specs.declared.Sort as Sorts
-use Rattle.resolved_sort.specs.declared.Tested.{Tested}
-use Rattle.resolved_sort.specs.declared.Tested.TheVariants.{Refused, Passed}
+use Rattle.resolved_sort.specs.Checks.{Tested}
+use Rattle.std.specs.Prelude.{Ok, Err}
 use Rattle.resolved_sort.specs.declared.Joined.{Joined}
 use Rattle.resolved_sort.specs.Tree.{Tree}
 use Rattle.resolved_sort.specs.Interning.{look, member, Outcome, made, nothing, full}
 use Rattle.resolved_sort.specs.Storage.{max_sorts, max_entries, full_length, entries_at, kind_at, words_at, tree_of, Row, trees, sorts_of}
 use Rattle.resolved_sort.specs.Checks.{within_lent, fixed_six, at_ceiling, Check, first_failing, sort_checks}
-use Rattle.resolved_sort.specs.Inner.Entries.{tested_of}
 use Rattle.resolved_sort.specs.Entries.{stored}
 use Rattle.resolved_sort.specs.Rows.{stored_at}
 use Rattle.resolved_sort.proofs.Below.{below_each}
@@ -26,7 +27,6 @@ use Rattle.resolved_sort.proofs.Grown.{grown_none}
 use Rattle.resolved_sort.specs.Growing.{SortsKept, InTree}
 use Rattle.resolved_sort.proofs.GivenBack.{made_is_given_back}
 use Rattle.resolved_sort.proofs.FirstFailing.{first_fails, first_passes, append_fails, append_passes, cons_passes}
-use Rattle.resolved_sort.proofs.Testing.{refused_is, passed_is}
 use Rattle.sort_text.specs.declared.Read.{Read}
 use Rattle.sort_text.specs.declared.Read.TheVariants.{Refused as NotRead, NotASort, NoRoom}
 use Rattle.sort_text.specs.Parse.{Parsed, parsed, stuck, line}
@@ -41,54 +41,54 @@ use Rattle.sort_reader.specs.Inner.Run.{stack_of, run_at, Running}
 use Rattle.sort_reader.specs.Inner.Tested.{Passes, kept_or_no_room}
 
 -- checks 14 and 19
-module _ (ws : List ℕ) (n e : ℕ) (bs : List ℕ) (t : Tested) (et : t ≡ tested_of (first_failing (sort_checks ws n e))) where
+module _ (ws : List ℕ) (n e : ℕ) (bs : List ℕ) where
   abbrev fourteen : Check
-  fourteen = record { code = 14; passes = at_ceiling ws }
+  fourteen = record { refusal = TooShort; passes = at_ceiling ws }
 
   abbrev nineteen : Check
-  nineteen = record { code = 19; passes = short_line bs }
+  nineteen = record { refusal = LongLine; passes = short_line bs }
 
-  pub sorts_fail : (c : ℕ) → t ≡ Refused c → Refused c ≡ tested_of (first_failing (read_checks ws n e bs))
+  pub sorts_fail : (c : Refusal) → Err c ≡ first_failing (sort_checks ws n e) → Err c ≡ first_failing (read_checks ws n e bs)
   unfolding read_checks
-  sorts_fail c r = ap tested_of (sym (append_fails (sort_checks ws n e) (fourteen ∷ nineteen ∷ []) c (refused_is _ t c et r)))
+  sorts_fail c r = sym (append_fails (sort_checks ws n e) (fourteen ∷ nineteen ∷ []) c (sym r))
 
-  module _ (p : t ≡ Passed) where
+  module _ (p : Ok tt ≡ first_failing (sort_checks ws n e)) where
     past_sorts : first_failing (read_checks ws n e bs) ≡ first_failing (fourteen ∷ nineteen ∷ [])
     unfolding read_checks
-    past_sorts = append_passes (sort_checks ws n e) (fourteen ∷ nineteen ∷ []) (passed_is _ t et p)
+    past_sorts = append_passes (sort_checks ws n e) (fourteen ∷ nineteen ∷ []) (sym p)
 
-    pub storage_short : length ws < full_length → Refused 14 ≡ tested_of (first_failing (read_checks ws n e bs))
+    pub storage_short : length ws < full_length → Err TooShort ≡ first_failing (read_checks ws n e bs)
     unfolding at_ceiling
-    storage_short h = ap tested_of (sym (past_sorts ∙ first_fails fourteen _ (lt-leb full_length (length ws) h)))
+    storage_short h = sym (past_sorts ∙ first_fails fourteen _ (lt-leb full_length (length ws) h))
 
     module _ (h : full_length ≤ length ws) where
       past_14 : first_failing (read_checks ws n e bs) ≡ first_failing (nineteen ∷ [])
       unfolding at_ceiling
       past_14 = past_sorts ∙ first_passes fourteen _ (le-leb full_length (length ws) h)
 
-      pub line_long : 200 < length bs → Refused 19 ≡ tested_of (first_failing (read_checks ws n e bs))
+      pub line_long : 200 < length bs → Err LongLine ≡ first_failing (read_checks ws n e bs)
       unfolding short_line
-      line_long l = ap tested_of (sym (past_14 ∙ first_fails nineteen _ (lt-leb (length bs) 200 l)))
+      line_long l = sym (past_14 ∙ first_fails nineteen _ (lt-leb (length bs) 200 l))
 
-      pub all_pass : length bs ≤ 200 → Passed ≡ tested_of (first_failing (read_checks ws n e bs))
+      pub all_pass : length bs ≤ 200 → Ok tt ≡ first_failing (read_checks ws n e bs)
       unfolding short_line first_failing
-      all_pass l = ap tested_of (sym (past_14 ∙ first_passes nineteen [] (le-leb (length bs) 200 l)))
+      all_pass l = sym (past_14 ∙ first_passes nineteen [] (le-leb (length bs) 200 l))
 
 -- what it means that no check fails
-module _ (ws : List ℕ) (n e : ℕ) (bs : List ℕ) (t : Tested) (et : t ≡ tested_of (first_failing (read_checks ws n e bs))) where
-  pub refused : (c : ℕ) → t ≡ Refused c → read_left ws (NotRead c) ≡ reading ws n e bs
+module _ (ws : List ℕ) (n e : ℕ) (bs : List ℕ) (t : Tested) (et : t ≡ first_failing (read_checks ws n e bs)) where
+  pub refused : (c : Refusal) → t ≡ Err c → read_left ws (NotRead c) ≡ reading ws n e bs
   unfolding reading
-  refused c r = rw (refused_is (first_failing (read_checks ws n e bs)) t c et r)
+  refused c r = rw (sym et ∙ r)
 
-  module _ (p : t ≡ Passed) where
+  module _ (p : t ≡ Ok tt) where
     pub answered : (us : List ℕ) (r : Read) → read_left us r ≡ read_as_of ws n e bs (line bs) → read_left us r ≡ reading ws n e bs
     unfolding reading
-    answered us r g = g ∙ rw (passed_is (first_failing (read_checks ws n e bs)) t et p)
+    answered us r g = g ∙ rw (sym et ∙ p)
 
     pub passes : Passes ws n e bs
     unfolding read_checks sort_checks within_lent at_ceiling short_line
     passes =
-        let c₁ = cons_passes _ _ (passed_is (first_failing (read_checks ws n e bs)) t et p) in
+        let c₁ = cons_passes _ _ (sym et ∙ p) in
         let c₂ = cons_passes _ _ c₁.1 in
         let c₃ = cons_passes _ _ c₂.1 in
         let c₄ = cons_passes _ _ c₃.1 in

@@ -1,5 +1,6 @@
 -- What the entry read answers and leaves, whatever it is given.
-use Rattle.std.specs.Prelude.{◌≡◌, List, [], ℕ, ◌<◌, ◌≤◌, length, drop}
+use Rattle.resolved_sort.specs.declared.Refusal.{Refusal}
+use Rattle.std.specs.Prelude.{◌≡◌, List, [], ℕ, ◌<◌, ◌≤◌, length, drop, Ok, Err}
 use Rattle.std.proofs.Math.Option.{none, some}
 use Rattle.resolved_sort.specs.declared.Counts.{Counts}
 use Rattle.resolved_sort.specs.declared.SortId.{SortId}
@@ -14,27 +15,27 @@ use Rattle.sort_text.specs.Reading.{read_checks}
 
 module _ (ws : List ℕ) (n e : ℕ) (bs : List ℕ) where
   -- A refusal: the first failing check, and the words as given.
-  pub record ReadRefused (vs : List ℕ) (c : ℕ) : Type 0 where
-    pub first : first_failing (read_checks ws n e bs) ≡ some c
+  pub record ReadRefused (vs : List ℕ) (c : Refusal) : Type 0 where
+    pub first : first_failing (read_checks ws n e bs) ≡ Err c
     pub given : vs ≡ ws
 
   -- 20: the line is no sort, and from the position on it is unread. Nothing is stored.
   pub record ReadStuck (vs : List ℕ) (at : ℕ) : Type 0 where
-    pub passed : first_failing (read_checks ws n e bs) ≡ none
+    pub passed : first_failing (read_checks ws n e bs) ≡ Ok tt
     pub inside : at ≤ length bs
     pub is : line bs ≡ stuck (drop at bs)
     pub given : vs ≡ ws
 
   -- A sort: in the words left its number stands for the sort of the line.
   pub record ReadSort (vs : List ℕ) (s : SortId) (k : Counts) : Type 0 where
-    pub passed : first_failing (read_checks ws n e bs) ≡ none
+    pub passed : first_failing (read_checks ws n e bs) ≡ Ok tt
     pub listed : s.0 < k.sorts
     pub is : line bs ≡ parsed (tree_at vs k.sorts s.0) []
     pub grew : SortsGrew ws n e vs k
 
   -- No room: the line is a sort, some new sort did not fit, and what was stored is given back.
   pub record ReadNoRoom (vs : List ℕ) : Type 0 where
-    pub passed : first_failing (read_checks ws n e bs) ≡ none
+    pub passed : first_failing (read_checks ws n e bs) ≡ Ok tt
     pub sort : Tree
     pub is : line bs ≡ parsed sort []
     pub ran_out : RanOut ws n e

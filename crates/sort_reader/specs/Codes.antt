@@ -1,6 +1,7 @@
 -- The number and the values of each answer of read: document 01's number (`code_read`), and for each case the values
 -- that come with it.
 use Rattle.std.specs.Prelude.{◌≡◌, ◌⊎◌, List, [], ◌∷◌, ℕ}
+use Rattle.resolved_sort.specs.declared.Refusal.TheVariants.{LongLine}
 use Rattle.resolved_sort.specs.declared.Joined.{Joined}
 use Rattle.resolved_sort.specs.declared.Joined.TheVariants.{At, Nothing, Full}
 use Rattle.resolved_sort.specs.Storage.{sorts_of}
@@ -24,7 +25,7 @@ coded_read r = coded (code_read r) (read_values r)
 
 -- a refusal has the number of a check: 1 to 14, or 19 for a line that is too long
 abbrev pub ReadWithin : Read → Type 0
-ReadWithin (Refused c) = Numbered c ⊎ (c ≡ 19)
+ReadWithin (Refused c) = Numbered c ⊎ (c ≡ LongLine)
 ReadWithin (NotASort at) = Unit {0}
 ReadWithin (Sort s k) = Unit {0}
 ReadWithin NoRoom = Unit {0}

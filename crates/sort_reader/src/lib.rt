@@ -9,12 +9,11 @@ ghost use Rattle.sort_text.specs.Postfix.{op_of};
 ghost use Rattle.sort_reader.specs.Inner.Run.{max_stack, run_at, Running, GoesOn, go_on, arguments_of};
 ghost use Rattle.resolved_sort.specs.Storage.{max_sorts, max_entries, full_length, max_arguments};
 ghost use Rattle.resolved_sort.specs.Checks.{first_failing};
-ghost use Rattle.resolved_sort.specs.Inner.Entries.{tested_of};
 ghost use Rattle.sort_text.specs.Parse.{line as line_of};
 ghost use Rattle.sort_text.specs.Reading.{read_checks, read_left, read_as_of, reading};
 ghost use Rattle.sort_reader.specs.Inner.Tested.{Passes, kept_or_no_room};
 
-use resolved_sort::{ARGUMENT_WORDS, ComplexSort, Counts, Joined, SORT_WORDS, SortId, Tested};
+use resolved_sort::{ARGUMENT_WORDS, ComplexSort, Counts, Joined, Refusal, SORT_WORDS, SortId};
 use sort_checks::test_sorts;
 use sort_interner::{function, generic, give_back};
 use sort_recogniser::{Stuck, recognise};
@@ -142,24 +141,18 @@ fn go_on(
 }
 
 // Checks 1 to 4, 14 and 19: the first that fails.
-#[tactic(auto, using(crate::proofs::Entry::storage_short, crate::proofs::Entry::line_long, crate::proofs::Entry::sorts_fail, crate::proofs::Entry::all_pass))]
-fn test_read(sorts: &[u16], sort_count: usize, entry_count: usize, line: &[u8]) -> Tested
+fn test_read(sorts: &[u16], sort_count: usize, entry_count: usize, line: &[u8]) -> Result<(), Refusal>
     ensures { result
-        ≡ tested_of
-        (first_failing (read_checks sorts.now sort_count entry_count line.now)) }
+        ≡ first_failing (read_checks sorts.now sort_count entry_count line.now) }
 {
-    match test_sorts(sorts, sort_count, entry_count) {
-        Tested::Refused(code) => Tested::Refused(code),
-        Tested::Passed => {
-            if sorts.len() < SORT_WORDS {
-                return Tested::Refused(14);
-            }
-            if MAX_LINE < line.len() {
-                return Tested::Refused(19);
-            }
-            Tested::Passed
-        }
+    test_sorts(sorts, sort_count, entry_count)?;
+    if sorts.len() < SORT_WORDS {
+        return Err(Refusal::TooShort);
     }
+    if MAX_LINE < line.len() {
+        return Err(Refusal::LongLine);
+    }
+    Ok(())
 }
 
 // What was stored stays; where room ended it is given back.
@@ -205,8 +198,8 @@ pub fn read(sorts: &mut [u16], sort_count: usize, entry_count: usize, line: &[u8
         ≡ reading sorts.old sort_count entry_count line.now }
 {
     match test_read(sorts, sort_count, entry_count, line) {
-        Tested::Refused(code) => Read::Refused(code),
-        Tested::Passed => read_line(sorts, sort_count, entry_count, line),
+        Err(refusal) => Read::Refused(refusal),
+        Ok(()) => read_line(sorts, sort_count, entry_count, line),
     }
 }
 

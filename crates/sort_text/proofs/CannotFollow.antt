@@ -11,13 +11,14 @@ use native.Mathlib.Omega.{arith}
 use lib.ListN.{length, drop}
 use lib.Dec.{eqb, ltb}
 use borrow.Author.Tests.{eqb-true, ltb-true, ltb-false}
+use Rattle.std.specs.Prelude.{Ok, Err}
 use Rattle.resolved_sort.specs.declared.Sort.{Sort}
 use Rattle.resolved_sort.specs.declared.ComplexSort.{ComplexSort}
 use Rattle.resolved_sort.specs.Tree.{primitive, Tree, flat, container, function, Trees, no_args, arg, arity}
 use Rattle.resolved_sort.specs.declared.Joined.{Joined}
 use Rattle.resolved_sort.specs.declared.Joined.TheVariants.{At, Nothing, Full}
 use Rattle.resolved_sort.specs.Storage.{sorts_of}
-use Rattle.resolved_sort.specs.Checks.{first_failing}
+use Rattle.resolved_sort.specs.Checks.{first_failing, Tested}
 use Rattle.resolved_sort.specs.Entries.{refused_or, Stored, stored}
 use Rattle.sort_text.specs.declared.Read.TheVariants.{Refused, NotASort}
 use Rattle.sort_text.specs.Reading.{store, read_checks, read_left, stored_by, read_as_of, reading}
@@ -910,10 +911,10 @@ read_as ws n e bs p (stuck cs) f a =
     let z : length bs - length cs ≡ p = cc in
     subst (FirstThatCannotFollow bs) (sym (unread_end bs cs f) ∙ ap (λ k. drop k bs) z) (stops_at_the_first_token_that_cannot_follow bs cs f)
 
-by_checks : (x : Option ℕ) (ws : List ℕ) (n e : ℕ) (bs : List ℕ) (p : ℕ)
+by_checks : (x : Tested) (ws : List ℕ) (n e : ℕ) (bs : List ℕ) (p : ℕ)
     → (refused_or x (λ c. read_left ws (Refused c)) (read_as_of ws n e bs (line bs))).answer ≡ NotASort p → FirstThatCannotFollow bs (drop p bs)
-by_checks none ws n e bs p a = read_as ws n e bs p (line bs) refl a
-by_checks (some c) ws n e bs p a = let z : ◌≡◌ {A = ℕ} 0 1 = cc in absurd (omega arith)
+by_checks (Ok u) ws n e bs p a = read_as ws n e bs p (line bs) refl a
+by_checks (Err c) ws n e bs p a = let z : ◌≡◌ {A = ℕ} 0 1 = cc in absurd (omega arith)
 
 -- With 20 the caller gets back the place where the first token stands that cannot follow.
 pub unread_end_cannot_follow : (ws : List ℕ) (n e : ℕ) (bs : List ℕ) (p : ℕ) → (reading ws n e bs).answer ≡ NotASort p

@@ -191,12 +191,12 @@ unfolding Readable.size Readable.sizes
 nodes_are_counted = refl
 
 -- the checks in their order, and the longest line
-read_checks_are : map (λ (c : Check). c.code) (Reading.read_checks [] 0 0 []) ≡ 1 ∷ 2 ∷ 3 ∷ 4 ∷ 14 ∷ 19 ∷ []
-unfolding Reading.read_checks Checks.sort_checks
+read_checks_are : map (λ (c : Check). Checks.code_of c.refusal) (Reading.read_checks [] 0 0 []) ≡ 1 ∷ 2 ∷ 3 ∷ 4 ∷ 14 ∷ 19 ∷ []
+unfolding Reading.read_checks Checks.sort_checks Checks.code_of
 read_checks_are = refl
 
-write_checks_are : map (λ (c : Check). c.code) (Writing.write_checks [] 0 0 0 []) ≡ 1 ∷ 2 ∷ 3 ∷ 4 ∷ 12 ∷ 13 ∷ 14 ∷ []
-unfolding Writing.write_checks Checks.sort_checks
+write_checks_are : map (λ (c : Check). Checks.code_of c.refusal) (Writing.write_checks [] 0 0 0 []) ≡ 1 ∷ 2 ∷ 3 ∷ 4 ∷ 12 ∷ 13 ∷ 14 ∷ []
+unfolding Writing.write_checks Checks.sort_checks Checks.code_of
 write_checks_are = refl
 
 longest_line : map Reading.short_line (below 200 [] ∷ below 201 [] ∷ []) ≡ true ∷ false ∷ []

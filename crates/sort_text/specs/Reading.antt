@@ -1,11 +1,12 @@
 -- Reading a line into the sort storage: which sorts are stored, in which order, and what the entry answers and leaves.
 use Rattle.std.specs.Prelude.{Bool, List, [], ◌∷◌, ◌++◌, ℕ, ◌-◌, length, leb}
+use Rattle.resolved_sort.specs.declared.Refusal.TheVariants.{TooShort, LongLine}
 use Rattle.resolved_sort.specs.declared.Joined.{Joined}
 use Rattle.resolved_sort.specs.declared.Joined.TheVariants.{At, Nothing, Full}
 use Rattle.resolved_sort.specs.Tree.{Tree, flat, container, function, Trees, no_args, arg}
 use Rattle.resolved_sort.specs.Interning.{Sorts, Outcome, made, ◌then◌, intern}
 use Rattle.resolved_sort.specs.Storage.{sorts_of, given_back}
-use Rattle.resolved_sort.specs.Checks.{Check, first_failing, sort_checks, at_ceiling}
+use Rattle.resolved_sort.specs.Checks.{Check, first_failing, sort_checks, at_ceiling, code_of}
 use Rattle.resolved_sort.specs.Entries.{refused_or, Stored, stored}
 use Rattle.sort_text.specs.declared.Read.{Read}
 use Rattle.sort_text.specs.declared.Read.TheVariants.{Refused, NotASort, Sort, NoRoom}
@@ -32,11 +33,11 @@ short_line bs = leb (length bs) max_line
 unfoldable pub read_checks : List ℕ → ℕ → ℕ → List ℕ → List Check
 read_checks ws n e bs =
     sort_checks ws n e
-    ++ (record { code = 14; passes = at_ceiling ws } ∷ record { code = 19; passes = short_line bs } ∷ [])
+    ++ (record { refusal = TooShort; passes = at_ceiling ws } ∷ record { refusal = LongLine; passes = short_line bs } ∷ [])
 
 -- document 01's number of each answer
 unfoldable pub code_read : Read → ℕ
-code_read (Refused c) = c
+code_read (Refused c) = code_of c
 code_read (NotASort at) = 20
 code_read (Sort s k) = 0
 code_read NoRoom = 15

@@ -1,6 +1,7 @@
 -- Writing a sort as text: what the entry answers, and what it leaves in the lent text buffer.
 use Rattle.std.specs.Prelude.{◌&&◌, List, [], ◌∷◌, ◌++◌, ℕ, length, drop, leb}
-use Rattle.resolved_sort.specs.Checks.{Check, first_failing, sort_checks, in_list, at_ceiling}
+use Rattle.resolved_sort.specs.declared.Refusal.TheVariants.{NotInList, NoText, TooShort}
+use Rattle.resolved_sort.specs.Checks.{Check, first_failing, sort_checks, in_list, at_ceiling, code_of}
 use Rattle.resolved_sort.specs.Entries.{refused_or, tree_at}
 use Rattle.sort_text.specs.declared.Written.{Written}
 use Rattle.sort_text.specs.declared.Written.TheVariants.{Refused, Text}
@@ -10,13 +11,13 @@ use Rattle.sort_text.specs.Text.{writable, text}
 unfoldable pub write_checks : List ℕ → ℕ → ℕ → ℕ → List ℕ → List Check
 write_checks ws n e a out =
     sort_checks ws n e
-    ++ (record { code = 12; passes = in_list n a }
-    ∷ record { code = 13; passes = writable (tree_at ws n a) }
-    ∷ record { code = 14; passes = at_ceiling ws && leb (length (text (tree_at ws n a))) (length out) }
+    ++ (record { refusal = NotInList; passes = in_list n a }
+    ∷ record { refusal = NoText; passes = writable (tree_at ws n a) }
+    ∷ record { refusal = TooShort; passes = at_ceiling ws && leb (length (text (tree_at ws n a))) (length out) }
     ∷ [])
 
 unfoldable pub code_written : Written → ℕ
-code_written (Refused c) = c
+code_written (Refused c) = code_of c
 code_written (Text n) = 0
 
 pub record WriteLeft : Type 0 where

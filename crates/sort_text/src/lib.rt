@@ -1,11 +1,11 @@
-// Sort text in mCRL2 spelling: what reading a line and writing a sort answer. A refusal is the code of the first
-// failing check of document 01.
+// Sort text in mCRL2 spelling: what reading a line and writing a sort answer. A refusal is the first failing
+// check of document 01.
 #![tactic(auto)]
 
 ghost use Rattle.std.specs.Prelude.{◌≡◌};
 ghost use Rattle.sort_text.specs.Parse.{sort_word, op_word};
 
-use resolved_sort::{ComplexSort, Counts, Sort, SortId};
+use resolved_sort::{ComplexSort, Counts, Refusal, Sort, SortId};
 
 // The word of a basic sort.
 #[tactic(auto, unfolding(crate::specs::Parse::sort_word))]
@@ -39,7 +39,7 @@ pub fn op_word(op: ComplexSort) -> &'static [u8]
 // the position of its unread end (20); or that a new sort had no room (15).
 #[derive(Clone, Copy, Drop)]
 pub enum Read {
-    Refused(u16),
+    Refused(Refusal),
     NotASort(usize),
     Sort(SortId, Counts),
     NoRoom,
@@ -48,7 +48,7 @@ pub enum Read {
 // What writing a sort answers: the number of bytes of its text.
 #[derive(Clone, Copy, Drop)]
 pub enum Written {
-    Refused(u16),
+    Refused(Refusal),
     Text(usize),
 }
 

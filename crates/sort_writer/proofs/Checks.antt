@@ -9,15 +9,15 @@ use native.Mathlib.Decide.{dec_le}
 use lib.ListN.{length, get_or, drop, replicate, length-replicate}
 use lib.Dec.{leb}
 use borrow.Author.Tests.{ltb-true, leb-true, lt-ltb, le-ltb, le-leb, lt-leb}
-use Rattle.resolved_sort.specs.declared.Tested.{Tested}
-use Rattle.resolved_sort.specs.declared.Tested.TheVariants.{Refused, Passed}
+use Rattle.resolved_sort.specs.declared.Refusal.{Refusal}
+use Rattle.resolved_sort.specs.declared.Refusal.TheVariants.{NotInList, NoText, TooShort}
+use Rattle.resolved_sort.specs.Checks.{Tested}
+use Rattle.std.specs.Prelude.{Ok, Err}
 use Rattle.resolved_sort.specs.Storage.{max_sorts, max_entries, full_length, entries_at}
 use Rattle.resolved_sort.specs.Checks.{Check, first_failing, sort_checks, within_lent, rows_fine, no_two_equal, in_list, at_ceiling}
-use Rattle.resolved_sort.specs.Inner.Entries.{tested_of}
 use Rattle.resolved_sort.specs.Entries.{refused_or, tree_at}
 use Rattle.resolved_sort.specs.Growing.{ListFine}
 use Rattle.resolved_sort.proofs.FirstFailing.{first_fails, first_passes, append_fails, append_passes, cons_passes}
-use Rattle.resolved_sort.proofs.Testing.{refused_is, passed_is}
 use Rattle.sort_text.specs.declared.Written.TheVariants.{Refused as NotWritten, Text}
 use Rattle.sort_text.specs.Text.{writable, text}
 use Rattle.sort_text.specs.Writing.{write_checks, write_left, writing}
@@ -37,7 +37,7 @@ within ws n e x =
     let r = (and-eq-true_iff (leb n max_sorts) (leb e max_entries)).0 q.0 in
     (leb-true n max_sorts r.0, leb-true e max_entries r.1)
 
-module _ (ws : List ℕ) (n e : ℕ) (x : first_failing (sort_checks ws n e) ≡ none) where
+module _ (ws : List ℕ) (n e : ℕ) (x : first_failing (sort_checks ws n e) ≡ Ok tt) where
   chain : (within_lent ws n e ≡ true) × (rows_fine ws n e ≡ true) × (no_two_equal ws n ≡ true)
   unfolding sort_checks
   chain =
@@ -84,31 +84,31 @@ capped_within l m h g = go (dec_le l most_size)
     go (no d) = absurd (omega (arith, capped_long l (omega arith)))
 
 -- the tests one after another
-module _ (ws : List ℕ) (n e a : ℕ) (out : List ℕ) (t : Tested) (et : t ≡ tested_of (first_failing (sort_checks ws n e))) where
+module _ (ws : List ℕ) (n e a : ℕ) (out : List ℕ) where
   abbrev twelve : Check
-  twelve = record { code = 12; passes = in_list n a }
+  twelve = record { refusal = NotInList; passes = in_list n a }
 
   abbrev thirteen : Check
-  thirteen = record { code = 13; passes = writable (tree_at ws n a) }
+  thirteen = record { refusal = NoText; passes = writable (tree_at ws n a) }
 
   abbrev fourteen : Check
-  fourteen = record { code = 14; passes = at_ceiling ws && leb (length (text (tree_at ws n a))) (length out) }
+  fourteen = record { refusal = TooShort; passes = at_ceiling ws && leb (length (text (tree_at ws n a))) (length out) }
 
-  pub sorts_fail : (c : ℕ) → t ≡ Refused c → Refused c ≡ tested_of (first_failing (write_checks ws n e a out))
+  pub sorts_fail : (c : Refusal) → Err c ≡ first_failing (sort_checks ws n e) → Err c ≡ first_failing (write_checks ws n e a out)
   unfolding write_checks
-  sorts_fail c r = ap tested_of (sym (append_fails (sort_checks ws n e) (twelve ∷ thirteen ∷ fourteen ∷ []) c (refused_is _ t c et r)))
+  sorts_fail c r = sym (append_fails (sort_checks ws n e) (twelve ∷ thirteen ∷ fourteen ∷ []) c (sym r))
 
-  module _ (p : t ≡ Passed) where
+  module _ (p : Ok tt ≡ first_failing (sort_checks ws n e)) where
     pub few_sorts : n ≤ max_sorts
-    few_sorts = (within ws n e (chain ws n e (passed_is _ t et p)).0).0
+    few_sorts = (within ws n e (chain ws n e (sym p)).0).0
 
     past_sorts : first_failing (write_checks ws n e a out) ≡ first_failing (twelve ∷ thirteen ∷ fourteen ∷ [])
     unfolding write_checks
-    past_sorts = append_passes (sort_checks ws n e) (twelve ∷ thirteen ∷ fourteen ∷ []) (passed_is _ t et p)
+    past_sorts = append_passes (sort_checks ws n e) (twelve ∷ thirteen ∷ fourteen ∷ []) (sym p)
 
-    pub not_in_list : n ≤ a → Refused 12 ≡ tested_of (first_failing (write_checks ws n e a out))
+    pub not_in_list : n ≤ a → Err NotInList ≡ first_failing (write_checks ws n e a out)
     unfolding in_list
-    not_in_list h = ap tested_of (sym (past_sorts ∙ first_fails twelve _ (le-ltb a n h)))
+    not_in_list h = sym (past_sorts ∙ first_fails twelve _ (le-ltb a n h))
 
     module _ (ha : a < n) {size : ℕ} (es : size ≡ get_or (sizes_to ws (replicate 1024 0) n) a 0) where
       past_12 : first_failing (write_checks ws n e a out) ≡ first_failing (thirteen ∷ fourteen ∷ [])
@@ -118,11 +118,11 @@ module _ (ws : List ℕ) (n e a : ℕ) (out : List ℕ) (t : Tested) (et : t ≡
       size_is : size ≡ size_if (writable (tree_at ws n a)) (length (text (tree_at ws n a)))
       unfolding sized
       size_is =
-          es ∙ sizes_right ws (replicate 1024 0) n e (in_order ws n e (passed_is _ t et p))
+          es ∙ sizes_right ws (replicate 1024 0) n e (in_order ws n e (sym p))
           (omega (arith, few_sorts, length-replicate {A = ℕ} 1024 0)) n (omega arith) a ha
 
-      pub no_text : size ≡ 0 → Refused 13 ≡ tested_of (first_failing (write_checks ws n e a out))
-      no_text z = ap tested_of (sym (past_12 ∙ first_fails thirteen _ (size_none _ _ (text_some (tree_at ws n a)) (sym size_is ∙ z))))
+      pub no_text : size ≡ 0 → Err NoText ≡ first_failing (write_checks ws n e a out)
+      no_text z = sym (past_12 ∙ first_fails thirteen _ (size_none _ _ (text_some (tree_at ws n a)) (sym size_is ∙ z)))
 
       module _ (z : size ≡ 0 → ⊥) where
         written_size : (writable (tree_at ws n a) ≡ true) × (size ≡ capped (length (text (tree_at ws n a))))
@@ -131,42 +131,40 @@ module _ (ws : List ℕ) (n e a : ℕ) (out : List ℕ) (t : Tested) (et : t ≡
         past_13 : first_failing (write_checks ws n e a out) ≡ first_failing (fourteen ∷ [])
         past_13 = past_12 ∙ first_passes thirteen _ written_size.0
 
-        pub storage_short : length ws < full_length → Refused 14 ≡ tested_of (first_failing (write_checks ws n e a out))
+        pub storage_short : length ws < full_length → Err TooShort ≡ first_failing (write_checks ws n e a out)
         unfolding at_ceiling
-        storage_short h = ap tested_of (sym (past_13 ∙ first_fails fourteen _ (rw (lt-leb full_length (length ws) h))))
+        storage_short h = sym (past_13 ∙ first_fails fourteen _ (rw (lt-leb full_length (length ws) h)))
 
         module _ (hw : full_length ≤ length ws) where
-          pub text_long : length out < size → Refused 14 ≡ tested_of (first_failing (write_checks ws n e a out))
+          pub text_long : length out < size → Err TooShort ≡ first_failing (write_checks ws n e a out)
           unfolding at_ceiling
           text_long h =
-              ap tested_of
-              (sym
+              sym
               (past_13
               ∙ first_fails fourteen _
-              (rw (le-leb full_length (length ws) hw, lt-leb (length (text (tree_at ws n a))) (length out) (capped_above _ _ (omega (arith, written_size.1)))))))
+              (rw (le-leb full_length (length ws) hw, lt-leb (length (text (tree_at ws n a))) (length out) (capped_above _ _ (omega (arith, written_size.1))))))
 
-          pub all_pass : size ≤ length out → length out < most_size → Passed ≡ tested_of (first_failing (write_checks ws n e a out))
+          pub all_pass : size ≤ length out → length out < most_size → Ok tt ≡ first_failing (write_checks ws n e a out)
           unfolding at_ceiling first_failing
           all_pass h m =
-              ap tested_of
-              (sym
+              sym
               (past_13
               ∙ first_passes fourteen []
               (rw (
                 le-leb full_length (length ws) hw,
                 le-leb (length (text (tree_at ws n a))) (length out)
                     (capped_within _ _ m (omega (arith, written_size.1))),
-              ))))
+              )))
 
 -- what the entry answers
-module _ (ws : List ℕ) (n e a : ℕ) (out : List ℕ) (t : Tested) (et : t ≡ tested_of (first_failing (write_checks ws n e a out))) where
-  pub refused : (c : ℕ) → t ≡ Refused c → write_left out (NotWritten c) ≡ writing ws n e a out
+module _ (ws : List ℕ) (n e a : ℕ) (out : List ℕ) (t : Tested) (et : t ≡ first_failing (write_checks ws n e a out)) where
+  pub refused : (c : Refusal) → t ≡ Err c → write_left out (NotWritten c) ≡ writing ws n e a out
   unfolding writing
-  refused c r = rw (refused_is (first_failing (write_checks ws n e a out)) t c et r)
+  refused c r = rw (sym et ∙ r)
 
-  module _ (p : t ≡ Passed) where
-    none_fails : first_failing (write_checks ws n e a out) ≡ none
-    none_fails = passed_is _ t et p
+  module _ (p : t ≡ Ok tt) where
+    none_fails : first_failing (write_checks ws n e a out) ≡ Ok tt
+    none_fails = sym et ∙ p
 
     pub has_room : SortRoom ws n e a out 0
     unfolding write_checks sort_checks in_list at_ceiling
@@ -195,9 +193,9 @@ pub text_fits : (ws : List ℕ) (n e a : ℕ) (out : List ℕ) (l : ℕ) → (wr
 unfolding writing
 text_fits ws n e a out l h = go (first_failing (write_checks ws n e a out)) refl h
   where
-    go : (x : Option ℕ) → first_failing (write_checks ws n e a out) ≡ x
+    go : (x : Tested) → first_failing (write_checks ws n e a out) ≡ x
         → (refused_or x (λ c. write_left out (NotWritten c)) (write_left (text (tree_at ws n a) ++ drop
         (length (text (tree_at ws n a))) out) (Text (length (text (tree_at ws n a)))))).answer ≡ Text l
         → l ≤ length out
-    go none e₁ q = let z : length (text (tree_at ws n a)) ≡ l = cc in omega (arith, (has_room ws n e a out Passed (ap tested_of (sym e₁)) refl).room)
-    go (some c) e₁ q = let z : ◌≡◌ {A = ℕ} 0 1 = cc in absurd (omega arith)
+    go (Ok u) e₁ q = let z : length (text (tree_at ws n a)) ≡ l = cc in omega (arith, (has_room ws n e a out (Ok tt) (sym e₁) refl).room)
+    go (Err c) e₁ q = let z : ◌≡◌ {A = ℕ} 0 1 = cc in absurd (omega arith)

@@ -10,31 +10,34 @@ use native.Mathlib.Omega.{arith}
 use lib.ListN.{length, drop}
 use lib.Dec.{leb}
 use borrow.Author.Tests.{leb-true}
+use Rattle.resolved_sort.specs.declared.Refusal.{Refusal}
+use Rattle.std.specs.Prelude.{Ok, Err}
 use Rattle.words.specs.Bits.{bit63}
-use Rattle.resolved_sort.specs.Checks.{first_failing, sort_checks, at_ceiling, Numbered}
+use Rattle.resolved_sort.specs.Checks.{first_failing, sort_checks, at_ceiling, Numbered, Tested, code_of}
 use Rattle.resolved_sort.specs.Entries.{refused_or, tree_at}
 use Rattle.resolved_sort.proofs.FirstFailing.{cons_passes}
 use Rattle.resolved_sort.proofs.FailingNumber.{failing_number}
+use Rattle.entry_answers.proofs.Refusals.{codes_tell}
 use Rattle.sort_text.specs.declared.Written.{Written}
 use Rattle.sort_text.specs.declared.Written.TheVariants.{Refused, Text}
 use Rattle.sort_text.specs.Text.{text}
 use Rattle.sort_text.specs.Writing.{write_checks, code_written, write_left, writing}
 use Rattle.sort_writer.specs.Packed.{pack_written, WrittenWithin}
 
-by_check : (x : Option ℕ) (out bs : List ℕ) (m : ℕ)
+by_check : (x : Tested) (out bs : List ℕ) (m : ℕ)
     → code_written (refused_or x (λ c. write_left out (Refused c)) (write_left bs (Text m))).answer ≡ refused_or x
-    (λ c. c) 0
+    code_of 0
 unfolding code_written
-by_check none out bs m = refl
-by_check (some c) out bs m = refl
+by_check (Ok u) out bs m = refl
+by_check (Err c) out bs m = refl
 
 pub code_of_written : (ws : List ℕ) (n e a : ℕ) (out : List ℕ) → code_written (writing ws n e a out).answer ≡
-    refused_or (first_failing (write_checks ws n e a out)) (λ c. c) 0
+    refused_or (first_failing (write_checks ws n e a out)) code_of 0
 unfolding writing
 code_of_written ws n e a out = by_check (first_failing (write_checks ws n e a out)) out _ _
 
 -- what check 14 bounds: the text is not longer than the buffer
-in_buffer : (ws : List ℕ) (n e a : ℕ) (out : List ℕ) → first_failing (write_checks ws n e a out) ≡ none
+in_buffer : (ws : List ℕ) (n e a : ℕ) (out : List ℕ) → first_failing (write_checks ws n e a out) ≡ Ok tt
     → length (text (tree_at ws n a)) ≤ length out
 unfolding write_checks sort_checks
 in_buffer ws n e a out x =
@@ -47,8 +50,8 @@ in_buffer ws n e a out x =
     let c₇ = cons_passes _ _ c₆.1 in
     leb-true _ _ ((and-eq-true_iff (at_ceiling ws) (leb (length (text (tree_at ws n a))) (length out))).0 c₇.0).1
 
-refused_by_number : (ws : List ℕ) (n e a : ℕ) (out : List ℕ) (c : ℕ) → first_failing (write_checks ws n e a out) ≡ some c → Numbered c
-unfolding write_checks sort_checks
+refused_by_number : (ws : List ℕ) (n e a : ℕ) (out : List ℕ) (c : Refusal) → first_failing (write_checks ws n e a out) ≡ Err c → Numbered c
+unfolding write_checks sort_checks code_of
 refused_by_number ws n e a out c x = failing_number Numbered (write_checks ws n e a out) c (
   (omega arith, omega arith),
   (
@@ -66,16 +69,16 @@ pub written_within : (ws : List ℕ) (n e a : ℕ) (out : List ℕ) → length o
 unfolding writing
 written_within ws n e a out l = go (first_failing (write_checks ws n e a out)) refl
   where
-    go : (x : Option ℕ) → first_failing (write_checks ws n e a out) ≡ x
+    go : (x : Tested) → first_failing (write_checks ws n e a out) ≡ x
         → WrittenWithin (refused_or x (λ c. write_left out (Refused c))
         (write_left (text (tree_at ws n a) ++ drop (length (text (tree_at ws n a))) out) (Text (length (text (tree_at ws n a)))))).answer
-    go none f = omega (arith, l, in_buffer ws n e a out f)
-    go (some c) f = refused_by_number ws n e a out c f
+    go (Ok u) f = omega (arith, l, in_buffer ws n e a out f)
+    go (Err c) f = refused_by_number ws n e a out c f
 
 -- the packed answer tells the answers apart
 pub written_tells : (r s : Written) → WrittenWithin r → WrittenWithin s → pack_written r ≡ pack_written s → r ≡ s
 unfolding code_written
-written_tells (Refused c) (Refused d) x y p = ap Refused (omega (arith, p))
+written_tells (Refused c) (Refused d) x y p = ap Refused (codes_tell c d (omega (arith, p)))
 written_tells (Refused c) (Text m) x y p = absurd (omega (arith, p, y))
 written_tells (Text n) (Refused d) x y p = absurd (omega (arith, p, x))
 written_tells (Text n) (Text m) x y p = ap Text p

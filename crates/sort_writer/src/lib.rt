@@ -6,7 +6,6 @@ ghost use Rattle.std.specs.Prelude.{◌≡◌, ◌++◌, ◌+◌, ◌<◌, ◌�
 ghost use Rattle.resolved_sort.specs.Storage.{max_sorts, entry_at, entries_of};
 ghost use Rattle.resolved_sort.specs.Inner.Storage.{args_at};
 ghost use Rattle.resolved_sort.specs.Checks.{first_failing};
-ghost use Rattle.resolved_sort.specs.Inner.Entries.{tested_of};
 ghost use Rattle.resolved_sort.specs.Entries.{tree_at};
 ghost use Rattle.sort_text.specs.Parse.{sort_word, op_word};
 ghost use Rattle.sort_text.specs.Text.{text, texts};
@@ -18,7 +17,7 @@ ghost use Rattle.text_out.specs.Quoted.{bytes_of};
 ghost use Rattle.sort_writer.specs.Packed.{pack_written, packed_write, pack_write_left};
 
 use resolved_sort::{
-    ComplexSort, Counts, ENTRIES_AT, MAX_SORTS, ResolvedSort, SORT_WORDS, Sort, SortId, Tested,
+    ComplexSort, Counts, ENTRIES_AT, MAX_SORTS, Refusal, ResolvedSort, SORT_WORDS, Sort, SortId,
 };
 use sort_checks::test_sorts;
 use sort_interner::get;
@@ -180,37 +179,32 @@ fn put_arguments(
 }
 
 // Checks 1 to 4, 12, 13 and 14 of writing a sort: the first that fails.
-#[tactic(auto, using(crate::proofs::Checks::sorts_fail, crate::proofs::Checks::few_sorts, crate::proofs::Checks::not_in_list, crate::proofs::Checks::no_text, crate::proofs::Checks::storage_short, crate::proofs::Checks::text_long, crate::proofs::Checks::all_pass))]
 fn test_write(
     sorts: &[u16],
     sort_count: usize,
     entry_count: usize,
     id: SortId,
     out: &[u8],
-) -> Tested
+) -> Result<(), Refusal>
     ensures { result
-        ≡ tested_of (first_failing
-        (write_checks sorts.now sort_count entry_count id.0 out.now)) }
+        ≡ first_failing
+        (write_checks sorts.now sort_count entry_count id.0 out.now) }
 {
-    match test_sorts(sorts, sort_count, entry_count) {
-        Tested::Refused(code) => Tested::Refused(code),
-        Tested::Passed => {
-            if sort_count <= (id.0 as usize) {
-                return Tested::Refused(12);
-            }
-            let size = text_size(sorts, sort_count, id);
-            if size == 0 {
-                return Tested::Refused(13);
-            }
-            if sorts.len() < SORT_WORDS {
-                return Tested::Refused(14);
-            }
-            if out.len() < size {
-                return Tested::Refused(14);
-            }
-            Tested::Passed
-        }
+    test_sorts(sorts, sort_count, entry_count)?;
+    if sort_count <= (id.0 as usize) {
+        return Err(Refusal::NotInList);
     }
+    let size = text_size(sorts, sort_count, id);
+    if size == 0 {
+        return Err(Refusal::NoText);
+    }
+    if sorts.len() < SORT_WORDS {
+        return Err(Refusal::TooShort);
+    }
+    if out.len() < size {
+        return Err(Refusal::TooShort);
+    }
+    Ok(())
 }
 
 // The text of a sort in the lent buffer, and its length. Not one byte is written on a refusal, and none past the text.
@@ -226,8 +220,8 @@ pub fn write(
         ≡ writing sorts.now sort_count entry_count id.0 out.old }
 {
     match test_write(sorts, sort_count, entry_count, id, out) {
-        Tested::Refused(code) => Written::Refused(code),
-        Tested::Passed => {
+        Err(refusal) => Written::Refused(refusal),
+        Ok(()) => {
             let counts = Counts {
                 sorts: sort_count as u16,
                 entries: entry_count as u16,
@@ -243,7 +237,7 @@ fn pack_written(answer: Written) -> u64
     ensures { result ≡ pack_written answer }
 {
     match answer {
-        Written::Refused(code) => BIT_63 + (code as u64),
+        Written::Refused(refusal) => BIT_63 + (refusal.code() as u64),
         Written::Text(length) => length as u64,
     }
 }

@@ -20,7 +20,9 @@ use Rattle.unification.specs.NodeChecks as NodeChecks
 use Rattle.unification.specs.UnifyEntry.{binds_left, unify_entry}
 use Rattle.unification.specs.Trail.{undo}
 use Rattle.unification.specs.UnifyEntry as UnifyEntry
-use Rattle.unification.specs.declared.Unified.TheVariants.{Refused, Yes, No}
+use Rattle.std.specs.Prelude.{Ok, Err}
+use Rattle.resolved_sort.specs.declared.Refusal.TheVariants.{NotLent, NotFixedSix, BadSort, EqualSorts, BadNode, BadBinding}
+use Rattle.resolved_sort.specs.declared.Refusal.TheVariants.{Cyclic as CyclicBindings, NotInList, TooShort}
 
 -- one row, in front of others
 unfoldable pub row : ℕ → ℕ → ℕ → ℕ → List ℕ → List ℕ
@@ -134,7 +136,7 @@ no_kind = set full_nodes 16 5
 -- A yes binds and leaves the words behind. A no has bound v0 and v1 before it finds Nat for Bool, and gives them back.
 entry_answers : unify_entry full_sorts 8 2 full_nodes 11 5 none_bound 4 1029 7 ∷ unify_entry full_sorts 8 2 full_nodes
     11 5 none_bound 4 6 1028 ∷ unify_entry full_sorts 8 2 full_nodes 11 5 v2_to_nat 4 1029 7 ∷ []
-    ≡ binds_left (3 ∷ 2 ∷ 1 ∷ 65535 ∷ 7 ∷ 9 ∷ []) Yes ∷ binds_left (3 ∷ 65535 ∷ 65535 ∷ 65535 ∷ 7 ∷ 9 ∷ []) Yes ∷ binds_left v2_to_nat No ∷ []
+    ≡ binds_left (3 ∷ 2 ∷ 1 ∷ 65535 ∷ 7 ∷ 9 ∷ []) (Ok true) ∷ binds_left (3 ∷ 65535 ∷ 65535 ∷ 65535 ∷ 7 ∷ 9 ∷ []) (Ok true) ∷ binds_left v2_to_nat (Ok false) ∷ []
 unfolding full_sorts full_nodes none_bound v2_to_nat row sorts nodes unify_entry UnifyEntry.binds_left_by
     UnifyEntry.binding_words Nodes.binds_of NodeChecks.unify_checks Checks.first_failing NodeChecks.nodes_within_lent
     NodeChecks.bindings_within_lent NodeChecks.node_parts_fine NodeChecks.node_kind_fine NodeChecks.node_fine
@@ -162,19 +164,19 @@ refusals : unify_entry full_sorts 1025 2 full_nodes 11 5 none_bound 4 3 6
     ∷ unify_entry sorts 8 2 full_nodes 11 5 none_bound 4 3 6
     ∷ unify_entry full_sorts 8 2 nodes 11 5 none_bound 4 3 6
     ∷ []
-    ≡ binds_left none_bound (Refused 1)
-    ∷ binds_left none_bound (Refused 1)
-    ∷ binds_left none_bound (Refused 1)
-    ∷ binds_left none_bound (Refused 2)
-    ∷ binds_left none_bound (Refused 3)
-    ∷ binds_left none_bound (Refused 4)
-    ∷ binds_left none_bound (Refused 5)
-    ∷ binds_left v3_to_no_place (Refused 6)
-    ∷ binds_left v0_to_its_list (Refused 7)
-    ∷ binds_left none_bound (Refused 12)
-    ∷ binds_left none_bound (Refused 12)
-    ∷ binds_left none_bound (Refused 14)
-    ∷ binds_left none_bound (Refused 14)
+    ≡ binds_left none_bound (Err NotLent)
+    ∷ binds_left none_bound (Err NotLent)
+    ∷ binds_left none_bound (Err NotLent)
+    ∷ binds_left none_bound (Err NotFixedSix)
+    ∷ binds_left none_bound (Err BadSort)
+    ∷ binds_left none_bound (Err EqualSorts)
+    ∷ binds_left none_bound (Err BadNode)
+    ∷ binds_left v3_to_no_place (Err BadBinding)
+    ∷ binds_left v0_to_its_list (Err CyclicBindings)
+    ∷ binds_left none_bound (Err NotInList)
+    ∷ binds_left none_bound (Err NotInList)
+    ∷ binds_left none_bound (Err TooShort)
+    ∷ binds_left none_bound (Err TooShort)
     ∷ []
 unfolding full_sorts full_nodes none_bound v0_to_its_list v3_to_no_place two_pos own_part bool_twice no_kind row sorts
     nodes unify_entry UnifyEntry.binds_left_by UnifyEntry.binding_words Nodes.binds_of NodeChecks.unify_checks
@@ -200,15 +202,15 @@ first_faults : unify_entry two_pos 8 2 full_nodes 11 5 none_bound 513 3 6
     ∷ unify_entry sorts 8 2 nodes 11 5 v0_to_its_list 4 3 6
     ∷ unify_entry sorts 8 2 nodes 11 5 none_bound 4 3 8
     ∷ []
-    ≡ binds_left none_bound (Refused 1)
-    ∷ binds_left none_bound (Refused 2)
-    ∷ binds_left none_bound (Refused 3)
-    ∷ binds_left v0_to_its_list (Refused 4)
-    ∷ binds_left v3_to_no_place (Refused 5)
-    ∷ binds_left v3_to_no_place (Refused 6)
-    ∷ binds_left v0_to_its_list (Refused 7)
-    ∷ binds_left v0_to_its_list (Refused 7)
-    ∷ binds_left none_bound (Refused 12)
+    ≡ binds_left none_bound (Err NotLent)
+    ∷ binds_left none_bound (Err NotFixedSix)
+    ∷ binds_left none_bound (Err BadSort)
+    ∷ binds_left v0_to_its_list (Err EqualSorts)
+    ∷ binds_left v3_to_no_place (Err BadNode)
+    ∷ binds_left v3_to_no_place (Err BadBinding)
+    ∷ binds_left v0_to_its_list (Err CyclicBindings)
+    ∷ binds_left v0_to_its_list (Err CyclicBindings)
+    ∷ binds_left none_bound (Err NotInList)
     ∷ []
 unfolding full_sorts full_nodes none_bound v0_to_its_list v3_to_no_place two_pos own_part bool_twice no_kind row sorts
     nodes unify_entry UnifyEntry.binds_left_by UnifyEntry.binding_words Nodes.binds_of NodeChecks.unify_checks

@@ -6,6 +6,7 @@ use mathlib.Core.List.{List, [], ◌∷◌, ◌++◌, map}
 use mathlib.Core.Option.{none, some}
 use Prim.Native.Nat.{ℕ, zero, suc, ◌+◌, ◌-◌, ◌/◌}
 use lib.ListN.{length, replicate}
+use Rattle.std.specs.Prelude.{Ok}
 use Rattle.resolved_sort.specs.Tree as Tree
 use Rattle.resolved_sort.specs.Interning as Interning
 use Rattle.resolved_sort.specs.Storage as Storage
@@ -91,7 +92,7 @@ given = lent sorts entries nodes arguments
 words : List ℕ
 words = 65535 ∷ 3 ∷ 1033 ∷ 1026 ∷ []
 
-accepted : (first_failing (unify_checks given.sorts 18 5 given.nodes 15 7 words 4 0 1038) ≡ none) × (binds_of words 4 ≡ binds)
+accepted : (first_failing (unify_checks given.sorts 18 5 given.nodes 15 7 words 4 0 1038) ≡ Ok tt) × (binds_of words 4 ≡ binds)
 unfolding row storage lent sorts entries nodes arguments binds given words first_failing unify_checks binds_of
     NodeChecks.nodes_within_lent NodeChecks.bindings_within_lent NodeChecks.node_parts_fine NodeChecks.node_kind_fine
     NodeChecks.node_fine NodeChecks.nodes_fine NodeChecks.bindings_fine NodeChecks.node_checks NodeChecks.place_checks

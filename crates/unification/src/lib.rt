@@ -44,14 +44,6 @@ pub enum InferSort {
     Var(SortVar),
 }
 
-// What unify answers as an entry.
-#[derive(Clone, Copy, Drop)]
-pub enum Unified {
-    Refused(u16),
-    Yes,
-    No,
-}
-
 // How much of the lent lists is in use: sorts and their argument entries, nodes and their argument
 // entries, and variables.
 #[derive(Clone, Copy, Debug, PartialEq, Eq)]

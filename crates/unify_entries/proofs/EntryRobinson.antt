@@ -4,16 +4,16 @@
 -- ends; the bindings of a yes name places, all below 65,535, so the words left hold exactly them. Assumes nothing.
 use mathlib.Core.Path.{◌≡◌, refl, ap, sym, ◌∙◌, subst}
 use mathlib.Core.List.{List, ◌++◌}
-use mathlib.Core.Option.{Option, none, some}
-use mathlib.Core.Bool.{true}
+use mathlib.Core.Option.{some}
+use mathlib.Core.Bool.{Bool, true}
 use Prim.Native.Nat.{ℕ, ◌<◌}
 use native.Mathlib.Omega.{arith}
 use lib.ListN.{length, drop, length-append, length-drop}
 use lib.Seq.{drop_at}
-use Rattle.resolved_sort.specs.Checks.{first_failing}
+use Rattle.resolved_sort.specs.Checks.{Tested, first_failing}
 use Rattle.resolved_sort.specs.Entries.{refused_or}
-use Rattle.unification.specs.declared.Unified.{Unified}
-use Rattle.unification.specs.declared.Unified.TheVariants.{Refused}
+use Rattle.std.specs.Prelude.{Result, Ok, Err}
+use Rattle.resolved_sort.specs.declared.Refusal.{Refusal}
 use Rattle.unification.specs.Term.{Shape}
 use Rattle.unification.specs.Nodes.{shape_at, free_word, Binds, binding, binds_of}
 use Rattle.unification.specs.Unify.{Unifies, yes_with, no_way, too_deep, unify, deep, deeper}
@@ -35,7 +35,7 @@ use Rattle.unify_entries.proofs.Laws.{chain, ready, lhs_placed, rhs_placed}
 use Rattle.unify_entries.specs.Left.{failing, LeftYes, LeftSays}
 
 module _ (ws : List ℕ) (n e : ℕ) (ns : List ℕ) (m d : ℕ) (bs : List ℕ) (v l r : ℕ) where
-  module _ (f : failing ws n e ns m d bs v l r ≡ none) where
+  module _ (f : failing ws n e ns m d bs v l r ≡ Ok tt) where
     abbrev shape : ℕ → Shape
     shape = shape_at (lists_of ws n ns m)
 
@@ -99,7 +99,7 @@ module _ (ws : List ℕ) (n e : ℕ) (ns : List ℕ) (m d : ℕ) (bs : List ℕ)
       left_yes : LeftYes ws n e ns m d bs v l r words
       left_yes = record { passed = f; solved = rw held solved_by; long = as_long; past = rest; again = ap first_failing same_checks ∙ f }
 
-    by_answer : (a : Unifies) → unify shape B l r ≡ a → Robinson shape B l r a → (vs : List ℕ) (u : Unified)
+    by_answer : (a : Unifies) → unify shape B l r ≡ a → Robinson shape B l r a → (vs : List ℕ) (u : Result Bool Refusal)
         → binds_left vs u ≡ binds_left_by bs v a → LeftSays ws n e ns m d bs v l r vs u
     unfolding binds_left_by
     by_answer too_deep y x vs u w = elim x [ ]
@@ -108,13 +108,13 @@ module _ (ws : List ℕ) (n e : ℕ) (ns : List ℕ) (m d : ℕ) (bs : List ℕ)
         z.answer) (sym w) (record { passed = f; given = refl; no_solution = h })
 
   -- Whatever lists, bindings and places the entry is given: what its answer and the words that it leaves say.
-  pub entry_is_robinson : (vs : List ℕ) (u : Unified) → binds_left vs u ≡ unify_entry ws n e ns m d bs v l r → LeftSays ws n e ns m d bs v l r vs u
+  pub entry_is_robinson : (vs : List ℕ) (u : Result Bool Refusal) → binds_left vs u ≡ unify_entry ws n e ns m d bs v l r → LeftSays ws n e ns m d bs v l r vs u
   unfolding unify_entry
   entry_is_robinson vs u w = go (failing ws n e ns m d bs v l r) refl w
     where
-      go : (o : Option ℕ) → failing ws n e ns m d bs v l r ≡ o
-          → binds_left vs u ≡ refused_or o (λ c. binds_left bs (Refused c))
+      go : (o : Tested) → failing ws n e ns m d bs v l r ≡ o
+          → binds_left vs u ≡ refused_or o (λ c. binds_left bs (Err c))
           (binds_left_by bs v (unify (shape_at (lists_of ws n ns m)) (binds_of bs v) l r))
           → LeftSays ws n e ns m d bs v l r vs u
-      go none f w = by_answer f (unify (shape_at (lists_of ws n ns m)) (binds_of bs v) l r) refl (is_robinson f) vs u w
-      go (some c) f w = subst (λ (z : BindsLeft). LeftSays ws n e ns m d bs v l r z.words z.answer) (sym w) (record { first = f; given = refl })
+      go (Ok t) f w = by_answer f (unify (shape_at (lists_of ws n ns m)) (binds_of bs v) l r) refl (is_robinson f) vs u w
+      go (Err c) f w = subst (λ (z : BindsLeft). LeftSays ws n e ns m d bs v l r z.words z.answer) (sym w) (record { first = f; given = refl })

@@ -2,26 +2,24 @@
 -- Assumes nothing.
 use mathlib.Core.Path.{◌≡◌, refl, ap, ap₂, sym, ◌∙◌, subst}
 use mathlib.Core.List.{List, [], ◌∷◌, ◌++◌}
-use mathlib.Core.Option.{none}
 use mathlib.Core.Bool.{Bool, true, false, not, ◌&&◌, and-eq-true_iff}
 use Prim.Native.Nat.{ℕ, ◌+◌, ◌-◌, ◌*◌, ◌<◌, ◌≤◌}
 use native.Mathlib.Omega.{arith}
 use lib.ListN.{length, drop, take-append-drop}
 use lib.Dec.{leb}
 use borrow.Author.Tests.{not-true, not-false, leb-true, le-leb, lt-leb}
-use Rattle.resolved_sort.specs.declared.Tested.{Tested}
-use Rattle.resolved_sort.specs.declared.Tested.TheVariants.{Refused, Passed}
+use Rattle.resolved_sort.specs.declared.Refusal.{Refusal}
+use Rattle.resolved_sort.specs.declared.Refusal.TheVariants.{NotLent, NotInList, TooShort}
+use Rattle.resolved_sort.specs.Checks.{Tested}
+use Rattle.std.specs.Prelude.{Result, Ok, Err}
 use Rattle.resolved_sort.specs.Storage.{max_sorts, max_entries, full_length}
 use Rattle.resolved_sort.specs.Checks.{within_lent, rows_fine, no_two_equal, at_ceiling, Check, first_failing, sort_row_checks, sort_checks}
-use Rattle.resolved_sort.specs.Inner.Entries.{tested_of}
 use Rattle.resolved_sort.specs.Entries.{refused_or}
 use Rattle.resolved_sort.proofs.FirstFailing.{first_fails, first_passes, cons_passes}
-use Rattle.resolved_sort.proofs.Testing.{refused_is, passed_is, fails, passes, first_refuses, second_decides, first_of_two, second_of_two, both_of_two}
+use Rattle.resolved_sort.proofs.Testing.{fails, passes, first_refuses, second_decides, first_of_two, second_of_two, both_of_two}
 use Rattle.unification.specs.declared.Lengths.{Lengths}
 use Rattle.unification.specs.declared.Tried.{Tried}
 use Rattle.unification.specs.declared.Tried.TheVariants.{Yes as TriedYes, No as TriedNo}
-use Rattle.unification.specs.declared.Unified.{Unified}
-use Rattle.unification.specs.declared.Unified.TheVariants.{Refused as NotUnified, Yes, No}
 use Rattle.unification.specs.Nodes.{max_nodes, max_node_entries, max_vars, node_entries_at, full_nodes, is_place, shape_at, binds_of}
 use Rattle.unification.specs.Unify.{Unifies, yes_with, unify}
 use Rattle.unification.specs.Acyclic.{acyclic}
@@ -37,7 +35,7 @@ use Rattle.unifier.specs.Inner.Trying.{Trying}
 
 module _ (ws : List ℕ) (n : ℕ) (ns : List ℕ) (m l r : ℕ) where
   abbrev fourteen : Check
-  fourteen = record { code = 14; passes = at_ceiling ws && leb full_nodes (length ns) }
+  fourteen = record { refusal = TooShort; passes = at_ceiling ws && leb full_nodes (length ns) }
 
   abbrev places : List Check
   places = place_checks ws n ns m l r
@@ -46,36 +44,36 @@ module _ (ws : List ℕ) (n : ℕ) (ns : List ℕ) (m l r : ℕ) where
     same_places : (x && y) ≡ (is_place n m l && is_place n m r)
     same_places = ap₂ (λ (a b : Bool). a && b) ex ey
 
-    pub rhs_stray : not x ≡ false → not y ≡ true → Refused 12 ≡ tested_of (first_failing places)
+    pub rhs_stray : not x ≡ false → not y ≡ true → Err NotInList ≡ first_failing places
     unfolding place_checks
-    rhs_stray h k = fails (x && y) _ same_places 12 _ (second_of_two x y h k)
+    rhs_stray h k = fails (x && y) _ same_places NotInList _ (second_of_two x y h k)
 
     module _ (h : not x ≡ false) (k : not y ≡ false) where
-      past_12 : (t : Tested) → t ≡ tested_of (first_failing (fourteen ∷ [])) → t ≡ tested_of (first_failing places)
+      past_12 : (t : Tested) → t ≡ first_failing (fourteen ∷ []) → t ≡ first_failing places
       unfolding place_checks
-      past_12 t z = passes (x && y) _ same_places 12 _ (both_of_two x y h k) t z
+      past_12 t z = passes (x && y) _ same_places NotInList _ (both_of_two x y h k) t z
 
-      pub sorts_short : length ws < full_length → Refused 14 ≡ tested_of (first_failing places)
+      pub sorts_short : length ws < full_length → Err TooShort ≡ first_failing places
       unfolding at_ceiling
-      sorts_short q = past_12 (Refused 14) (ap tested_of (sym (first_fails fourteen [] (rw (lt-leb full_length (length ws) q)))))
+      sorts_short q = past_12 (Err TooShort) (sym (first_fails fourteen [] (rw (lt-leb full_length (length ws) q))))
 
       module _ (q : full_length ≤ length ws) where
-        pub nodes_short : length ns < full_nodes → Refused 14 ≡ tested_of (first_failing places)
+        pub nodes_short : length ns < full_nodes → Err TooShort ≡ first_failing places
         unfolding at_ceiling
-        nodes_short z = past_12 (Refused 14)
-            (ap tested_of (sym (first_fails fourteen [] (rw (
+        nodes_short z = past_12 (Err TooShort)
+            ((sym (first_fails fourteen [] (rw (
               le-leb full_length (length ws) q,
               lt-leb full_nodes
                   (length ns) z,
             )))))
 
-        pub all_in_place : full_nodes ≤ length ns → Passed ≡ tested_of (first_failing places)
+        pub all_in_place : full_nodes ≤ length ns → Ok tt ≡ first_failing places
         unfolding at_ceiling first_failing
-        all_in_place z = past_12 Passed (ap tested_of (sym (first_passes fourteen [] (rw (le-leb full_length (length ws) q, le-leb full_nodes (length ns) z)))))
+        all_in_place z = past_12 (Ok tt) (sym (first_passes fourteen [] (rw (le-leb full_length (length ws) q, le-leb full_nodes (length ns) z))))
 
-  pub lhs_stray : (x : Bool) → x ≡ is_place n m l → not x ≡ true → Refused 12 ≡ tested_of (first_failing places)
+  pub lhs_stray : (x : Bool) → x ≡ is_place n m l → not x ≡ true → Err NotInList ≡ first_failing places
   unfolding place_checks
-  lhs_stray x ex h = fails (x && is_place n m r) _ (ap (λ z. z && is_place n m r) ex) 12 _ (first_of_two x (is_place n m r) h)
+  lhs_stray x ex h = fails (x && is_place n m r) _ (ap (λ z. z && is_place n m r) ex) NotInList _ (first_of_two x (is_place n m r) h)
 
 -- counts that check 1 passed are within their ceilings
 -- check 1, three tests, and then the rest
@@ -87,22 +85,22 @@ module _ (ws : List ℕ) (n e : ℕ) (ns : List ℕ) (m d : ℕ) (bs : List ℕ)
   rest = node_checks ns m d n bs v ++ place_checks ws n ns m l r
 
   module _ (a : Bool) (ea : a ≡ within_lent ws n e) where
-    pub sorts_outside : not a ≡ true → Refused 1 ≡ tested_of (first_failing all)
+    pub sorts_outside : not a ≡ true → Err NotLent ≡ first_failing all
     unfolding unify_checks
-    sorts_outside h = fails _ _ refl 1 _ (ap (λ z. not (z && nodes_within_lent ns m d && bindings_within_lent bs v)) (sym ea ∙ not-true a h))
+    sorts_outside h = fails _ _ refl NotLent _ (ap (λ z. not (z && nodes_within_lent ns m d && bindings_within_lent bs v)) (sym ea ∙ not-true a h))
 
     module _ (ha : not a ≡ false) (b : Bool) (eb : b ≡ nodes_within_lent ns m d) where
-      pub nodes_outside : not b ≡ true → Refused 1 ≡ tested_of (first_failing all)
+      pub nodes_outside : not b ≡ true → Err NotLent ≡ first_failing all
       unfolding unify_checks
-      nodes_outside h = fails _ _ refl 1 _ (ap₂ (λ y z. not (y && z && bindings_within_lent bs v)) (sym ea ∙ not-false a ha) (sym eb ∙ not-true b h))
+      nodes_outside h = fails _ _ refl NotLent _ (ap₂ (λ y z. not (y && z && bindings_within_lent bs v)) (sym ea ∙ not-false a ha) (sym eb ∙ not-true b h))
 
       module _ (hb : not b ≡ false) (c : Bool) (ec : c ≡ bindings_within_lent bs v) where
         two_within : (within_lent ws n e && nodes_within_lent ns m d) ≡ true
         two_within = ap₂ (λ (y z : Bool). y && z) (sym ea ∙ not-false a ha) (sym eb ∙ not-false b hb)
 
-        pub bindings_outside : not c ≡ true → Refused 1 ≡ tested_of (first_failing all)
+        pub bindings_outside : not c ≡ true → Err NotLent ≡ first_failing all
         unfolding unify_checks
-        bindings_outside h = fails _ _ refl 1 _ (ap₂ (λ (y z : Bool). not (y && z)) two_within (sym ec ∙ not-true c h))
+        bindings_outside h = fails _ _ refl NotLent _ (ap₂ (λ (y z : Bool). not (y && z)) two_within (sym ec ∙ not-true c h))
 
         module _ (hc : not c ≡ false) where
           pub ceilings : (m ≤ max_nodes) × (v ≤ max_vars)
@@ -117,23 +115,23 @@ module _ (ws : List ℕ) (n e : ℕ) (ns : List ℕ) (m d : ℕ) (bs : List ℕ)
           abbrev sorted : List Check
           sorted = sort_row_checks ws n e
 
-          past_1 : (t : Tested) → t ≡ tested_of (first_failing (sorted ++ rest)) → t ≡ tested_of (first_failing all)
+          past_1 : (t : Tested) → t ≡ first_failing (sorted ++ rest) → t ≡ first_failing all
           unfolding unify_checks
-          past_1 t z = passes _ _ refl 1 _ (ap₂ (λ (y z : Bool). not (y && z)) two_within (sym ec ∙ not-false c hc)) t z
+          past_1 t z = passes _ _ refl NotLent _ (ap₂ (λ (y z : Bool). not (y && z)) two_within (sym ec ∙ not-false c hc)) t z
 
-          module _ (t : Tested) (et : t ≡ tested_of (first_failing (sort_checks ws n e))) where
-            by_sorts : t ≡ tested_of (first_failing sorted)
+          module _ (t : Tested) (et : t ≡ first_failing (sort_checks ws n e)) where
+            by_sorts : t ≡ first_failing sorted
             unfolding sort_checks
-            by_sorts = et ∙ ap tested_of (first_passes _ sorted (sym ea ∙ not-false a ha))
+            by_sorts = et ∙ first_passes _ sorted (sym ea ∙ not-false a ha)
 
-            pub sorts_refused : (code : ℕ) → t ≡ Refused code → Refused code ≡ tested_of (first_failing all)
-            sorts_refused code x = past_1 (Refused code) (first_refuses sorted rest t by_sorts code x)
+            pub sorts_refused : (code : Refusal) → t ≡ Err code → Err code ≡ first_failing all
+            sorts_refused code x = past_1 (Err code) (first_refuses sorted rest t by_sorts code x)
 
-            pub rest_decides : t ≡ Passed → (u : Tested) → u ≡ tested_of (first_failing rest) → u ≡ tested_of (first_failing all)
+            pub rest_decides : t ≡ Ok tt → (u : Tested) → u ≡ first_failing rest → u ≡ first_failing all
             rest_decides p u y = past_1 u (second_decides sorted rest t by_sorts p u y)
 
   -- no check fails
-  module _ (x : first_failing all ≡ none) where
+  module _ (x : first_failing all ≡ Ok tt) where
     pub chain : (within_lent ws n e ≡ true) × (nodes_within_lent ns m d ≡ true) × (bindings_within_lent bs v ≡ true) ×
         (rows_fine ws n e ≡ true) × (no_two_equal ws n ≡ true) × (nodes_fine ns m d n v ≡ true)
         × (bindings_fine n m (binds_of bs v) ≡ true) × (acyclic ns m (binds_of bs v) ≡ true) × (is_place n m l ≡ true) ×
@@ -190,9 +188,9 @@ module _ (ws ns bs : List ℕ) (k : Lengths) (q : Ready ws ns bs k) where
   }
 
   module _ (U : Unifies) (ts bs₁ ts₁ : List ℕ) (t : Tried) (x : TryLeaves ws ns k U bs ts 0 bs₁ ts₁ t) where
-    pub yes_leaves : (c : ℕ) → t ≡ TriedYes c → binds_left bs₁ Yes ≡ binds_left_by bs k.variables U
+    pub yes_leaves : (c : ℕ) → t ≡ TriedYes c → binds_left bs₁ (Ok true) ≡ binds_left_by bs k.variables U
     unfolding binds_left_by
-    yes_leaves c e = sym (ap (binds_left_by bs k.variables) (answer c e) ∙ ap (λ xs. binds_left xs Yes) words)
+    yes_leaves c e = sym (ap (binds_left_by bs k.variables) (answer c e) ∙ ap (λ xs. binds_left xs (Ok true)) words)
       where
         answer : (c : ℕ) → t ≡ TriedYes c → U ≡ yes_with (binds_of bs₁ k.variables)
         answer c e = x.says ∙ rw e
@@ -209,30 +207,29 @@ module _ (ws ns bs : List ℕ) (k : Lengths) (q : Ready ws ns bs k) where
           ends : c + frees (binds_of bs₁ k.variables) ≡ 0 + frees (binds_of bs k.variables)
           ends = (subst (λ z. TryLeaves ws ns k U bs ts 0 bs₁ ts₁ z) e x).spent
 
-      pub no_leaves : (bs₂ : List ℕ) → bs₂ ≡ undo ts₁ 0 (c - 0) bs₁ → binds_left bs₂ No ≡ binds_left_by bs k.variables U
+      pub no_leaves : (bs₂ : List ℕ) → bs₂ ≡ undo ts₁ 0 (c - 0) bs₁ → binds_left bs₂ (Ok false) ≡ binds_left_by bs k.variables U
       unfolding binds_left_by
-      no_leaves bs₂ u = sym (ap (binds_left_by bs k.variables) y.says ∙ ap (λ xs. binds_left xs No) (sym (u ∙ y.undone)))
+      no_leaves bs₂ u = sym (ap (binds_left_by bs k.variables) y.says ∙ ap (λ xs. binds_left xs (Ok false)) (sym (u ∙ y.undone)))
         where
           y : TryLeaves ws ns k U bs ts 0 bs₁ ts₁ (TriedNo c)
           y = subst (λ z. TryLeaves ws ns k U bs ts 0 bs₁ ts₁ z) e x
 
 -- the entry, by what the checks found
-module _ (ws : List ℕ) (n e : ℕ) (ns : List ℕ) (m d : ℕ) (bs : List ℕ) (v l r : ℕ) (t : Tested) (et : t ≡ tested_of
-    (first_failing (unify_checks ws n e ns m d bs v l r))) where
-  abbrev refuse : ℕ → BindsLeft
-  refuse c = binds_left bs (NotUnified c)
+module _ (ws : List ℕ) (n e : ℕ) (ns : List ℕ) (m d : ℕ) (bs : List ℕ) (v l r : ℕ) (t : Tested) (et : t ≡ first_failing (unify_checks ws n e ns m d bs v l r)) where
+  abbrev refuse : Refusal → BindsLeft
+  refuse c = binds_left bs (Err c)
 
-  pub refused : (c : ℕ) → t ≡ Refused c → binds_left bs (NotUnified c) ≡ unify_entry ws n e ns m d bs v l r
+  pub refused : (c : Refusal) → t ≡ Err c → binds_left bs (Err c) ≡ unify_entry ws n e ns m d bs v l r
   unfolding unify_entry
   refused c x =
       sym (ap (λ o. refused_or o refuse (binds_left_by bs v (unify (shape_at (lists_of ws n ns m)) (binds_of bs v) l r)))
-      (refused_is (first_failing (unify_checks ws n e ns m d bs v l r)) t c et x))
+      (sym et ∙ x))
 
-  module _ (p : t ≡ Passed) where
-    pub none_fails : first_failing (unify_checks ws n e ns m d bs v l r) ≡ none
-    none_fails = passed_is (first_failing (unify_checks ws n e ns m d bs v l r)) t et p
+  module _ (p : t ≡ Ok tt) where
+    pub none_fails : first_failing (unify_checks ws n e ns m d bs v l r) ≡ Ok tt
+    none_fails = sym et ∙ p
 
-    pub answered : (bs₁ : List ℕ) (u : Unified) → binds_left bs₁ u ≡ binds_left_by bs v
+    pub answered : (bs₁ : List ℕ) (u : Result Bool Refusal) → binds_left bs₁ u ≡ binds_left_by bs v
         (unify (shape_at (lists_of ws n ns m)) (binds_of bs v) l r) → binds_left bs₁ u ≡ unify_entry ws n e ns m d bs v l r
     unfolding unify_entry
     answered bs₁ u x =

@@ -1,23 +1,17 @@
--- The number and the values of each answer of unify: document 01's number (`code_unified`), and for each case the values
--- that come with it.
-use Rattle.std.specs.Prelude.{List, [], ◌∷◌, ℕ}
+-- The values of each answer of unify, beside document 01's number.
+use Rattle.std.specs.Prelude.{Bool, true, false, List, [], ◌∷◌, ℕ, Result}
+use Rattle.resolved_sort.specs.declared.Refusal.{Refusal}
 use Rattle.resolved_sort.specs.Checks.{Numbered}
-use Rattle.entry_answers.specs.Packing.{CodeAndValues, coded}
-use Rattle.unification.specs.declared.Unified.{Unified}
-use Rattle.unification.specs.declared.Unified.TheVariants.{Refused, Yes, No}
-use Rattle.unification.specs.UnifyEntry.{code_unified}
+use Rattle.entry_answers.specs.Packing.{CodeAndValues, coded_answer, AnswerWithin}
 
 -- 1 for a yes
-abbrev pub unified_values : Unified → List ℕ
-unified_values (Refused c) = []
-unified_values Yes = 1 ∷ []
-unified_values No = 0 ∷ []
+abbrev pub unified_values : Bool → List ℕ
+unified_values true = 1 ∷ []
+unified_values false = 0 ∷ []
 
-abbrev pub coded_unified : Unified → CodeAndValues
-coded_unified r = coded (code_unified r) (unified_values r)
+abbrev pub coded_unified : Result Bool Refusal → CodeAndValues
+coded_unified = coded_answer unified_values
 
 -- a refusal has the number of a check
-abbrev pub UnifiedWithin : Unified → Type 0
-UnifiedWithin (Refused c) = Numbered c
-UnifiedWithin Yes = Unit {0}
-UnifiedWithin No = Unit {0}
+abbrev pub UnifiedWithin : Result Bool Refusal → Type 0
+UnifiedWithin = AnswerWithin Numbered (λ b. Unit {0})

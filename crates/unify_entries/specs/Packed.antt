@@ -1,8 +1,8 @@
 -- The answer of unify as one number, for callers in other languages: the code in the lowest 8 bits, 1 above it for a
 -- yes.
-use Rattle.std.specs.Prelude.{List, [], ◌∷◌, ℕ}
+use Rattle.std.specs.Prelude.{Bool, List, [], ◌∷◌, ℕ, Result}
 use Rattle.entry_answers.specs.Packing.{packed}
-use Rattle.unification.specs.declared.Unified.{Unified}
+use Rattle.resolved_sort.specs.declared.Refusal.{Refusal}
 use Rattle.unification.specs.UnifyEntry.{BindsLeft}
 use Rattle.unify_entries.specs.Codes.{coded_unified}
 
@@ -10,7 +10,7 @@ use Rattle.unify_entries.specs.Codes.{coded_unified}
 abbrev pub unified_widths : List ℕ
 unified_widths = 8 ∷ []
 
-abbrev pub pack_unified : Unified → ℕ
+abbrev pub pack_unified : Result Bool Refusal → ℕ
 pack_unified r = packed unified_widths (coded_unified r)
 
 -- the binding words at exit, and the packed answer

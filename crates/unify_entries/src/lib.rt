@@ -2,9 +2,8 @@
 // no `requires`: whatever a caller hands in, the answer and the bindings at exit are the defined ones.
 #![tactic(auto)]
 
-ghost use Rattle.std.specs.Prelude.{◌≡◌, ◌++◌, ◌≤◌};
+ghost use Rattle.std.specs.Prelude.{◌≡◌, ◌++◌, ◌≤◌, Ok};
 ghost use Rattle.resolved_sort.specs.Checks.{first_failing};
-ghost use Rattle.resolved_sort.specs.Inner.Entries.{tested_of};
 ghost use Rattle.unification.specs.Nodes.{max_nodes, max_vars, binds_of};
 ghost use Rattle.unification.specs.Unify.{unify as unifyOf};
 ghost use Rattle.unification.specs.NodeChecks.{node_checks, place_checks, unify_checks};
@@ -12,10 +11,11 @@ ghost use Rattle.unification.specs.Checked.{graph_of, Ready, Placed};
 ghost use Rattle.unification.specs.UnifyEntry.{binds_left, binds_left_by, unify_entry};
 ghost use Rattle.unify_entries.specs.Packed.{pack_unified, packed_binds, pack_binds_left};
 
+use entry_answers::pack;
 use node_checks::{bindings_within_lent, is_place, nodes_within_lent, test_nodes};
-use resolved_sort::{SORT_WORDS, Tested};
+use resolved_sort::{Refusal, SORT_WORDS};
 use sort_checks::{test_sorts, within_lent};
-use unification::{InferSortId, Lengths, MAX_VARS, NODE_WORDS, Tried, Unified};
+use unification::{InferSortId, Lengths, MAX_VARS, NODE_WORDS, Tried};
 use unifier::undo;
 use words::BIT_8;
 
@@ -27,24 +27,24 @@ fn test_places(
     node_count: usize,
     lhs: InferSortId,
     rhs: InferSortId,
-) -> Tested
+) -> Result<(), Refusal>
     ensures { result
-        ≡ tested_of (first_failing
-        (place_checks sorts.now sort_count nodes.now node_count lhs.0 rhs.0)) }
+        ≡ first_failing
+        (place_checks sorts.now sort_count nodes.now node_count lhs.0 rhs.0) }
 {
     if !is_place(sort_count, node_count, lhs) {
-        return Tested::Refused(12);
+        return Err(Refusal::NotInList);
     }
     if !is_place(sort_count, node_count, rhs) {
-        return Tested::Refused(12);
+        return Err(Refusal::NotInList);
     }
     if sorts.len() < SORT_WORDS {
-        return Tested::Refused(14);
+        return Err(Refusal::TooShort);
     }
     if nodes.len() < NODE_WORDS {
-        return Tested::Refused(14);
+        return Err(Refusal::TooShort);
     }
-    Tested::Passed
+    Ok(())
 }
 
 // Checks 5 to 7, 12 and 14: the first that fails.
@@ -58,24 +58,22 @@ fn test_rest(
     var_count: usize,
     lhs: InferSortId,
     rhs: InferSortId,
-) -> Tested
+) -> Result<(), Refusal>
     requires { (node_count ≤ max_nodes) × (var_count ≤ max_vars) }
     ensures { result
-        ≡ tested_of (first_failing (node_checks nodes.now node_count node_entry_count sort_count
+        ≡ first_failing (node_checks nodes.now node_count node_entry_count sort_count
         binds.now var_count
-        ++ place_checks sorts.now sort_count nodes.now node_count lhs.0 rhs.0)) }
+        ++ place_checks sorts.now sort_count nodes.now node_count lhs.0 rhs.0) }
 {
-    match test_nodes(
+    test_nodes(
         sort_count,
         nodes,
         node_count,
         node_entry_count,
         binds,
         var_count,
-    ) {
-        Tested::Refused(code) => Tested::Refused(code),
-        Tested::Passed => test_places(sorts, sort_count, nodes, node_count, lhs, rhs),
-    }
+    )?;
+    test_places(sorts, sort_count, nodes, node_count, lhs, rhs)
 }
 
 // The checks of unify: the first that fails.
@@ -90,35 +88,33 @@ fn test_unify(
     var_count: usize,
     lhs: InferSortId,
     rhs: InferSortId,
-) -> Tested
+) -> Result<(), Refusal>
     ensures { result
-        ≡ tested_of (first_failing (unify_checks sorts.now sort_count entry_count
+        ≡ first_failing (unify_checks sorts.now sort_count entry_count
         nodes.now node_count node_entry_count binds.now var_count lhs.0
-        rhs.0)) }
+        rhs.0) }
 {
     if !within_lent(sorts, sort_count, entry_count) {
-        return Tested::Refused(1);
+        return Err(Refusal::NotLent);
     }
     if !nodes_within_lent(nodes, node_count, node_entry_count) {
-        return Tested::Refused(1);
+        return Err(Refusal::NotLent);
     }
     if !bindings_within_lent(binds, var_count) {
-        return Tested::Refused(1);
+        return Err(Refusal::NotLent);
     }
-    match test_sorts(sorts, sort_count, entry_count) {
-        Tested::Refused(code) => Tested::Refused(code),
-        Tested::Passed => test_rest(
-            sorts,
-            sort_count,
-            nodes,
-            node_count,
-            node_entry_count,
-            binds,
-            var_count,
-            lhs,
-            rhs,
-        ),
-    }
+    test_sorts(sorts, sort_count, entry_count)?;
+    test_rest(
+        sorts,
+        sort_count,
+        nodes,
+        node_count,
+        node_entry_count,
+        binds,
+        var_count,
+        lhs,
+        rhs,
+    )
 }
 
 // Unify on checked lists; a no frees again what was bound.
@@ -129,7 +125,7 @@ fn unify_alone(
     lengths: Lengths,
     lhs: InferSortId,
     rhs: InferSortId,
-) -> Unified
+) -> Result<bool, Refusal>
     requires { Ready sorts.now nodes.now binds.old lengths × Placed lengths lhs.0 × Placed lengths rhs.0 }
     ensures { binds_left binds.new result
         ≡ binds_left_by binds.old lengths.variables
@@ -138,10 +134,10 @@ fn unify_alone(
 {
     let mut trail = [0; MAX_VARS];
     match unifier::unify(sorts, nodes, binds, &mut trail, lengths, 0, lhs, rhs) {
-        Tried::Yes(_) => Unified::Yes,
+        Tried::Yes(_) => Ok(true),
         Tried::No(count) => {
             undo(binds, &trail, 0, count);
-            Unified::No
+            Ok(false)
         }
     }
 }
@@ -161,12 +157,12 @@ pub fn unify(
     var_count: usize,
     lhs: InferSortId,
     rhs: InferSortId,
-) -> Unified
+) -> Result<bool, Refusal>
     ensures { binds_left binds.new result
         ≡ unify_entry sorts.now sort_count entry_count nodes.now node_count
         node_entry_count binds.old var_count lhs.0 rhs.0 }
 {
-    match test_unify(
+    test_unify(
         sorts,
         sort_count,
         entry_count,
@@ -177,30 +173,23 @@ pub fn unify(
         var_count,
         lhs,
         rhs,
-    ) {
-        Tested::Refused(code) => Unified::Refused(code),
-        Tested::Passed => {
-            let lengths = Lengths {
-                sorts: sort_count as u16,
-                entries: entry_count as u16,
-                nodes: node_count as u16,
-                arguments: node_entry_count as u16,
-                variables: var_count as u16,
-            };
-            unify_alone(sorts, nodes, binds, lengths, lhs, rhs)
-        }
-    }
+    )?;
+    let lengths = Lengths {
+        sorts: sort_count as u16,
+        entries: entry_count as u16,
+        nodes: node_count as u16,
+        arguments: node_entry_count as u16,
+        variables: var_count as u16,
+    };
+    unify_alone(sorts, nodes, binds, lengths, lhs, rhs)
 }
 
-// The code of document 01 and the answer as one number, for callers in other languages.
-fn pack_unified(answer: Unified) -> u64
-    ensures { result ≡ pack_unified answer }
+// The values of an answer in their fields, above a code of 0.
+#[tactic(auto, unfolding(entry_answers::specs::Packing::packed, entry_answers::specs::Packing::in_fields))]
+fn pack_yes(yes: bool) -> u64
+    ensures { result ≡ pack_unified (Ok yes) }
 {
-    match answer {
-        Unified::Refused(code) => code as u64,
-        Unified::Yes => BIT_8,
-        Unified::No => 0,
-    }
+    (yes as u64) * BIT_8
 }
 
 // The entry for callers in other languages: a slice is a pointer and a length, places are numbers,
@@ -222,7 +211,7 @@ pub extern "C" fn sort_unify(
         ≡ pack_binds_left (unify_entry sorts.now sort_count entry_count nodes.now
         node_count node_entry_count binds.old var_count lhs rhs) }
 {
-    pack_unified(unify(
+    let answer = unify(
         sorts,
         sort_count,
         entry_count,
@@ -233,5 +222,6 @@ pub extern "C" fn sort_unify(
         var_count,
         InferSortId(lhs),
         InferSortId(rhs),
-    ))
+    );
+    pack(answer.map(pack_yes))
 }

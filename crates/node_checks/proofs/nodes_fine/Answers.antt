@@ -1,19 +1,9 @@
--- Each node tested is one step of check 5. Assumes nothing.
-use Rattle.std.proofs.Common.{arith}
-use Rattle.sort_checks.proofs.Below as below
+-- What `all` ran is what the definition tests. Assumes nothing.
+use Rattle.std.proofs.Common.{of_calls, refl}
 use Rattle.unification.specs.NodeChecks.{nodes_fine}
+use Rattle.resolved_sort.proofs.ByAll.{all_below_by_all}
 use Rattle.node_checks.proofs.nodes_fine.Goals as goal
-
-pub loop-i-init : goal.loop-i-init
-loop-i-init c = (omega arith, below.all_below_zero _)
-
-pub returns-then-not-node_fine : goal.returns-then-not-node_fine
-unfolding nodes_fine
-returns-then-not-node_fine c = search below.tested_not
-
-pub loop-i-preserved : goal.loop-i-preserved
-loop-i-preserved c = (omega arith, search below.tested_more)
 
 pub returns : goal.returns
 unfolding nodes_fine
-returns c = search below.all_below_done
+returns c = all_below_by_all _ _ _ _ _ refl c.all.ensures.ran (λ x b q k. search of_calls)

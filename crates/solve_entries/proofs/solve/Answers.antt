@@ -7,10 +7,10 @@ pub solve_passed-requires : goal.solve_passed-requires
 solve_passed-requires c =
     let a = c.args in
     law.passes _ _ _ _ _ _ _ _ _ _ _ _ _ _
-    (c.test_solve.ensures (outs_of a.scratch.now a.typing.now a.measure.now a.choices.now)) c.in-Passed.is
+    (c.test_solve.ensures (outs_of a.scratch.now a.typing.now a.measure.now a.choices.now)) c.in-Ok.is
 
-pub returns-in-Refused : goal.returns-in-Refused
-returns-in-Refused c =
+pub returns-in-Err : goal.returns-in-Err
+returns-in-Err c =
     let a = c.args in
     law.refused_so _ _ _ _ _ _ _ _ _ _ _ _ _ _
-    (c.test_solve.ensures (outs_of a.scratch.now a.typing.now a.measure.now a.choices.now)) _ c.in-Refused.is
+    (c.test_solve.ensures (outs_of a.scratch.now a.typing.now a.measure.now a.choices.now)) _ c.in-Err.is

@@ -5,7 +5,7 @@ use Rattle.solve_outputs.proofs.Fields.{solved_ambiguous, solved_no_room, solved
 use Rattle.solve_outputs.proofs.pack_solved.Goals as goal
 
 pub returns-in-Refused : goal.returns-in-Refused
-returns-in-Refused c = solved_refused _ ∙ sym (ap pack_solved c.in-Refused.is)
+returns-in-Refused c = c.code.ensures ∙ (solved_refused _ ∙ sym (ap pack_solved c.in-Refused.is))
 
 pub returns-in-NoRoom : goal.returns-in-NoRoom
 returns-in-NoRoom c = solved_no_room _ ∙ sym (ap pack_solved c.in-NoRoom.is)

@@ -1,20 +1,16 @@
--- Each return is check 2 at the rows passed. Assumes nothing.
-use Rattle.std.proofs.Common.{arith}
-use Rattle.sort_checks.proofs.Below as law
-use Rattle.sort_checks.proofs.Checks as check
+-- What `all` ran is what the definition tests of six rows. Assumes nothing.
+use Rattle.std.proofs.Common.{of_calls, refl}
+use borrow.Author.Tests.{le-leb, lt-leb}
+use Rattle.resolved_sort.specs.Checks.{fixed_six}
+use Rattle.resolved_sort.proofs.ByAll.{all_below_by_all}
 use Rattle.sort_checks.proofs.fixed_six.Goals as goal
 
-pub returns-then-n-lt6 : goal.returns-then-n-lt6
-returns-then-n-lt6 c = search check.six_false_by_count
+pub returns-then-n-ge6 : goal.returns-then-n-ge6
+unfolding fixed_six
+returns-then-n-ge6 c =
+    rw (le-leb 6 c.args.n c.if-n-ge6.true)
+    (all_below_by_all _ _ _ _ _ refl c.all.ensures.ran (λ x b q k. search of_calls))
 
-pub loop-i-init : goal.loop-i-init
-loop-i-init c = (omega arith, law.all_below_zero _)
-
-pub returns-then-word-i : goal.returns-then-word-i
-returns-then-word-i c = search check.six_false_by_kind
-
-pub loop-i-preserved : goal.loop-i-preserved
-loop-i-preserved c = (omega arith, search check.six_passed_one_more)
-
-pub returns : goal.returns
-returns c = search check.six_true
+pub returns-else-n-ge6 : goal.returns-else-n-ge6
+unfolding fixed_six
+returns-else-n-ge6 c = rw (lt-leb 6 c.args.n c.if-n-ge6.false)

@@ -1,17 +1,9 @@
--- Each row compared is one step of the definition. Assumes nothing.
-use Rattle.std.proofs.Common.{arith}
-use Rattle.sort_checks.proofs.Below.{all_below_zero}
-use Rattle.sort_checks.proofs.New as law
+-- What `all` ran is what the definition tests. Assumes nothing.
+use Rattle.std.proofs.Common.{of_calls, refl}
+use Rattle.sort_checks.specs.Inner.Tests.{new_row, other_row}
+use Rattle.resolved_sort.proofs.ByAll.{all_below_by_all}
 use Rattle.sort_checks.proofs.new_row.Goals as goal
 
-pub loop-i-init : goal.loop-i-init
-loop-i-init c = (omega arith, all_below_zero _)
-
-pub returns-then-same_rows : goal.returns-then-same_rows
-returns-then-same_rows c = search law.row_is_not_new
-
-pub loop-i-preserved : goal.loop-i-preserved
-loop-i-preserved c = (omega arith, search law.others_passed_one_more)
-
 pub returns : goal.returns
-returns c = search law.row_is_new
+unfolding new_row other_row
+returns c = all_below_by_all _ _ _ _ _ refl c.all.ensures.ran (λ x b q k. search of_calls)

@@ -1,45 +1,21 @@
 -- Refused with the first failing check; else what was made stays or is given back. Assumes nothing.
 use Rattle.std.proofs.Common.{true, arith}
-use Rattle.resolved_sort.specs.declared.Bounded.TheVariants.{Refused}
-use Rattle.resolved_sort.specs.Entries.{sorts_left, bounded}
+use Rattle.resolved_sort.proofs.Testing.{handed_on}
 use Rattle.sort_entries.proofs.Laws as law
 use Rattle.sort_entries.proofs.join.Goals as goal
 
-pub overflow_cast-counts : goal.overflow_cast-counts
-overflow_cast-counts c =
-    let a = c.args in
-    let k = law.asked a.sorts.now a.sort_count a.entry_count a.lhs.0 a.rhs.0 c.test_pair.result c.test_pair.ensures c.in-Passed.is in
-    omega (arith, k.checked.sorts)
-
-pub overflow_cast-counts-in-Passed : goal.overflow_cast-counts-in-Passed
-overflow_cast-counts-in-Passed c =
-    let a = c.args in
-    let k = law.asked a.sorts.now a.sort_count a.entry_count a.lhs.0 a.rhs.0 c.test_pair.result c.test_pair.ensures c.in-Passed.is in
-    omega (arith, k.checked.entries)
+pub returns-in_err-counts : goal.returns-in_err-counts
+returns-in_err-counts c =
+    law.bound_refused _ _ _ _ _ _ _ c.in_err-counts.ensures _ (handed_on _ _ c.from_residual.ensures.1)
 
 pub join-joined-requires : goal.join-joined-requires
-join-joined-requires c =
-    let a = c.args in
-    law.asked a.sorts.now a.sort_count a.entry_count a.lhs.0 a.rhs.0 c.test_pair.result c.test_pair.ensures c.in-Passed.is
+join-joined-requires c = law.asked _ _ _ _ _ _ c.in_ok-counts.ensures
 
 pub kept_or_given_back-requires : goal.kept_or_given_back-requires
 kept_or_given_back-requires c =
-    let a = c.args in
-    let k = law.asked a.sorts.now a.sort_count a.entry_count a.lhs.0 a.rhs.0 c.test_pair.result c.test_pair.ensures c.in-Passed.is in
+    let k = law.asked_given _ _ _ _ _ _ c.in_ok-counts.ensures in
     (k.checked.sorts, k.checked.entries, omega (arith, c.join-joined.auto.sorts, k.checked.long))
 
-pub returns-in-Refused : goal.returns-in-Refused
-unfolding bounded
-returns-in-Refused c =
-    let a = c.args in
-    law.refused_with a.sorts.now a.sort_count a.entry_count a.lhs.0 a.rhs.0 c.test_pair.result c.test_pair.ensures
-    (λ code. sorts_left a.sorts.now (Refused code)) _ _ c.in-Refused.is
-
-pub returns-in-Passed : goal.returns-in-Passed
-unfolding bounded
-returns-in-Passed c =
-    let a = c.args in
-    law.bound_answered true a.sorts.now a.sort_count a.entry_count a.lhs.0 a.rhs.0
-    (law.asked a.sorts.now a.sort_count a.entry_count a.lhs.0 a.rhs.0 c.test_pair.result c.test_pair.ensures c.in-Passed.is)
-    _ _ c.join-joined.ensures _ _ c.kept_or_given_back.ensures
-    (law.none_fails a.sorts.now a.sort_count a.entry_count a.lhs.0 a.rhs.0 c.test_pair.result c.test_pair.ensures c.in-Passed.is)
+pub returns : goal.returns
+returns c =
+    law.bound_answered_with true _ _ _ _ _ _ c.in_ok-counts.ensures _ _ c.join-joined.ensures _ _ c.kept_or_given_back.ensures

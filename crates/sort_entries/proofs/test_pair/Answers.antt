@@ -1,34 +1,38 @@
 -- After checks 1 to 4 the numbers are held against the list, then the storage against its ceiling. Assumes nothing.
-use Rattle.std.proofs.Common.{arith}
+use Rattle.std.proofs.Common.{arith, rules}
 use Rattle.sort_entries.proofs.Laws as law
 use Rattle.sort_entries.proofs.test_pair.Goals as goal
+use Rattle.sort_entries.proofs.test_pair.Goals.{then-sort_count-lhs-via-then-sort_count-lhs}
+use Rattle.sort_entries.proofs.test_pair.Goals.{then-sort_count-lhs-via-else-sort_count-lhs+then-sort_count-rhs}
+
+pub returns-in_err-test_sorts : goal.returns-in_err-test_sorts
+returns-in_err-test_sorts c = search (rules, law.sorts_fail)
 
 pub returns-then-sort_count-lhs : goal.returns-then-sort_count-lhs
 returns-then-sort_count-lhs c =
-    let a = c.args in
-    law.lhs_fails a.sorts.now a.sort_count a.entry_count a.lhs.0 a.rhs.0 c.test_sorts.result c.test_sorts.ensures
-    c.in-Passed.is c.if-sort_count-lhs.true
-
-pub returns-then-sort_count-rhs : goal.returns-then-sort_count-rhs
-returns-then-sort_count-rhs c =
-    let a = c.args in
-    law.rhs_fails a.sorts.now a.sort_count a.entry_count a.lhs.0 a.rhs.0 c.test_sorts.result c.test_sorts.ensures
-    c.in-Passed.is c.if-sort_count-lhs.false c.if-sort_count-rhs.true
+    let p = c.in_ok-test_sorts.ensures in
+    elim c.then-sort_count-lhs.branch [
+      | then-sort_count-lhs-via-then-sort_count-lhs w ↦ law.lhs_fails _ _ _ _ _ p w.if-sort_count-lhs.true
+      | then-sort_count-lhs-via-else-sort_count-lhs+then-sort_count-rhs w ↦
+          law.rhs_fails _ _ _ _ _ p w.if-sort_count-lhs.false w.if-sort_count-rhs.true
+    ]
 
 pub returns-then-sorts-lt-SORT_WORDS : goal.returns-then-sorts-lt-SORT_WORDS
 returns-then-sorts-lt-SORT_WORDS c =
-    let a = c.args in
-    law.length_fails a.sorts.now a.sort_count a.entry_count a.lhs.0 a.rhs.0 c.test_sorts.result c.test_sorts.ensures
-    c.in-Passed.is c.if-sort_count-lhs.false c.if-sort_count-rhs.false (omega arith)
+    law.length_fails _ _ _ _ _ c.in_ok-test_sorts.ensures c.if-sort_count-lhs.false c.if-sort_count-rhs.false (omega arith)
 
-pub returns-in-Refused : goal.returns-in-Refused
-returns-in-Refused c =
-    let a = c.args in
-    law.sorts_fail a.sorts.now a.sort_count a.entry_count a.lhs.0 a.rhs.0 c.test_sorts.result c.test_sorts.ensures _
-    c.in-Refused.is
+pub overflow_cast-result : goal.overflow_cast-result
+overflow_cast-result c =
+    let k = law.counts_fit c.args.sorts.now c.args.sort_count c.args.entry_count c.args.lhs.0 c.args.rhs.0
+    c.in_ok-test_sorts.ensures c.if-sort_count-lhs.false c.if-sort_count-rhs.false (omega arith) in
+    omega (arith, k.0)
 
-pub returns-else-sorts-lt-SORT_WORDS : goal.returns-else-sorts-lt-SORT_WORDS
-returns-else-sorts-lt-SORT_WORDS c =
-    let a = c.args in
-    law.all_pass a.sorts.now a.sort_count a.entry_count a.lhs.0 a.rhs.0 c.test_sorts.result c.test_sorts.ensures
-    c.in-Passed.is c.if-sort_count-lhs.false c.if-sort_count-rhs.false (omega arith)
+pub overflow_cast-result-2 : goal.overflow_cast-result-2
+overflow_cast-result-2 c =
+    let k = law.counts_fit c.args.sorts.now c.args.sort_count c.args.entry_count c.args.lhs.0 c.args.rhs.0
+    c.in_ok-test_sorts.ensures c.if-sort_count-lhs.false c.if-sort_count-rhs.false (omega arith) in
+    omega (arith, k.1)
+
+pub returns : goal.returns
+returns c =
+    law.all_pass _ _ _ _ _ c.in_ok-test_sorts.ensures c.if-sort_count-lhs.false c.if-sort_count-rhs.false (omega arith)

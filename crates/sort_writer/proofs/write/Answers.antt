@@ -9,28 +9,28 @@ overflow_cast-counts c =
     omega (
       arith,
       (law.has_room c.args.sorts.now c.args.sort_count c.args.entry_count c.args.id.0 c.args.out.now
-          c.test_write.result c.test_write.ensures c.in-Passed.is).checked.sorts,
+          c.test_write.result c.test_write.ensures c.in-Ok.is).checked.sorts,
     )
 
-pub overflow_cast-counts-in-Passed : goal.overflow_cast-counts-in-Passed
-overflow_cast-counts-in-Passed c =
+pub overflow_cast-counts-in-Ok : goal.overflow_cast-counts-in-Ok
+overflow_cast-counts-in-Ok c =
     omega (
       arith,
       (law.has_room c.args.sorts.now c.args.sort_count c.args.entry_count c.args.id.0 c.args.out.now
-          c.test_write.result c.test_write.ensures c.in-Passed.is).checked.entries,
+          c.test_write.result c.test_write.ensures c.in-Ok.is).checked.entries,
     )
 
 pub put_sort-requires : goal.put_sort-requires
 put_sort-requires c =
     law.has_room c.args.sorts.now c.args.sort_count c.args.entry_count c.args.id.0 c.args.out.now
-    c.test_write.result c.test_write.ensures c.in-Passed.is
+    c.test_write.result c.test_write.ensures c.in-Ok.is
 
-pub returns-in-Refused : goal.returns-in-Refused
-returns-in-Refused c =
+pub returns-in-Err : goal.returns-in-Err
+returns-in-Err c =
     law.refused c.args.sorts.now c.args.sort_count c.args.entry_count c.args.id.0 c.args.out.now
-    c.test_write.result c.test_write.ensures _ c.in-Refused.is
+    c.test_write.result c.test_write.ensures _ c.in-Err.is
 
-pub returns-in-Passed : goal.returns-in-Passed
-returns-in-Passed c =
+pub returns-in-Ok : goal.returns-in-Ok
+returns-in-Ok c =
     law.answered c.args.sorts.now c.args.sort_count c.args.entry_count c.args.id.0 c.args.out.now
-    c.test_write.result c.test_write.ensures c.in-Passed.is c.put_sort.ensures
+    c.test_write.result c.test_write.ensures c.in-Ok.is c.put_sort.ensures

@@ -1,9 +1,11 @@
 -- One after the other. Assumes nothing.
+use Rattle.std.proofs.Common.{refl, ◌∙◌}
 use Rattle.resolved_sort.proofs.Testing as law
 use Rattle.unify_entries.proofs.test_rest.Goals as goal
 
-pub returns-in-Refused : goal.returns-in-Refused
-returns-in-Refused c = law.first_refuses _ _ c.test_nodes.result c.test_nodes.ensures _ c.in-Refused.is
+pub returns-in_err-test_nodes : goal.returns-in_err-test_nodes
+returns-in_err-test_nodes c =
+    law.handed_on _ _ c.from_residual.ensures.1 ∙ law.first_refuses _ _ _ c.in_err-test_nodes.ensures _ refl
 
-pub returns-in-Passed : goal.returns-in-Passed
-returns-in-Passed c = law.second_decides _ _ c.test_nodes.result c.test_nodes.ensures c.in-Passed.is _ c.test_places.ensures
+pub returns : goal.returns
+returns c = law.second_decides _ _ _ c.in_ok-test_nodes.ensures refl _ c.test_places.ensures

@@ -1,5 +1,6 @@
 -- Check 1 of all lists, then the sorts, then the rest. Assumes nothing.
-use Rattle.std.proofs.Common.{refl}
+use Rattle.std.proofs.Common.{refl, ◌∙◌}
+use Rattle.resolved_sort.proofs.Testing.{handed_on}
 use Rattle.unify_entries.proofs.Laws as law
 use Rattle.unify_entries.proofs.test_unify.Goals as goal
 
@@ -19,10 +20,10 @@ pub test_rest-requires : goal.test_rest-requires
 test_rest-requires c = law.ceilings c.args.sorts.now c.args.sort_count c.args.entry_count c.args.nodes.now c.args.node_count c.args.node_entry_count
     c.args.binds.now c.args.var_count c.args.lhs.0 c.args.rhs.0 _ c.if-not-within_lent.ensures refl _ c.if-not-nodes_within_lent.ensures refl _ c.if-not-bindings_within_lent.ensures refl
 
-pub returns-in-Refused : goal.returns-in-Refused
-returns-in-Refused c = law.sorts_refused c.args.sorts.now c.args.sort_count c.args.entry_count c.args.nodes.now c.args.node_count c.args.node_entry_count
-    c.args.binds.now c.args.var_count c.args.lhs.0 c.args.rhs.0 _ c.if-not-within_lent.ensures refl _ c.if-not-nodes_within_lent.ensures refl _ c.if-not-bindings_within_lent.ensures refl c.test_sorts.result c.test_sorts.ensures _ c.in-Refused.is
+pub returns-in_err-test_sorts : goal.returns-in_err-test_sorts
+returns-in_err-test_sorts c = handed_on _ _ c.from_residual.ensures.1 ∙ law.sorts_refused c.args.sorts.now c.args.sort_count c.args.entry_count c.args.nodes.now c.args.node_count c.args.node_entry_count
+    c.args.binds.now c.args.var_count c.args.lhs.0 c.args.rhs.0 _ c.if-not-within_lent.ensures refl _ c.if-not-nodes_within_lent.ensures refl _ c.if-not-bindings_within_lent.ensures refl _ c.in_err-test_sorts.ensures _ refl
 
-pub returns-in-Passed : goal.returns-in-Passed
-returns-in-Passed c = law.rest_decides c.args.sorts.now c.args.sort_count c.args.entry_count c.args.nodes.now c.args.node_count c.args.node_entry_count
-    c.args.binds.now c.args.var_count c.args.lhs.0 c.args.rhs.0 _ c.if-not-within_lent.ensures refl _ c.if-not-nodes_within_lent.ensures refl _ c.if-not-bindings_within_lent.ensures refl c.test_sorts.result c.test_sorts.ensures c.in-Passed.is _ c.test_rest.ensures
+pub returns : goal.returns
+returns c = law.rest_decides c.args.sorts.now c.args.sort_count c.args.entry_count c.args.nodes.now c.args.node_count c.args.node_entry_count
+    c.args.binds.now c.args.var_count c.args.lhs.0 c.args.rhs.0 _ c.if-not-within_lent.ensures refl _ c.if-not-nodes_within_lent.ensures refl _ c.if-not-bindings_within_lent.ensures refl _ c.in_ok-test_sorts.ensures refl _ c.test_rest.ensures
