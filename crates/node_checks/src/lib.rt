@@ -158,15 +158,11 @@ fn place_settled(flags: &[bool], place: InferSortId) -> bool
 fn arguments_settled(nodes: &[u16], flags: &[bool], start: u16, count: u16) -> bool
     ensures { result ≡ all_settled flags.now (node_entries_of nodes.now start count) }
 {
-    let mut j: u16 = 0;
-    while j < count {
-        if !place_settled(
-            flags,
-            InferSortId(word(nodes, NODE_ENTRIES_AT + ((start as usize) + (j as usize)))),
-        ) {
+    for j in 0..count {
+        let at = NODE_ENTRIES_AT + ((start as usize) + (j as usize));
+        if !place_settled(flags, InferSortId(word(nodes, at))) {
             return false;
         }
-        j += 1;
     }
     true
 }
@@ -181,10 +177,8 @@ fn node_settled(nodes: &[u16], vars: &[bool], flags: &[bool], id: NodeId) -> boo
     match node(nodes, id) {
         InferSort::Generic { op: _, subsort } => place_settled(flags, subsort),
         InferSort::Function { domain, range } => {
-            if !arguments_settled(nodes, flags, domain.start, domain.count) {
-                return false;
-            }
-            place_settled(flags, range)
+            arguments_settled(nodes, flags, domain.start, domain.count)
+                && place_settled(flags, range)
         }
         InferSort::Var(var) => flag(vars, var.0 as usize),
     }
@@ -195,11 +189,9 @@ fn settle_nodes(nodes: &[u16], m: usize, vars: &[bool], flags: &mut [bool])
     requires { (m ≤ max_nodes) × (m ≤ length flags.old) }
     ensures { take m flags.new ≡ nodes_settled nodes.now vars.now m }
 {
-    let mut i: usize = 0;
-    while i < m {
+    for i in 0..m {
         let settled = node_settled(nodes, vars, &flags[..i], NodeId(i as u16));
         flags[i] = settled;
-        i += 1;
     }
 }
 
@@ -215,11 +207,8 @@ fn settle_vars(binds: &[u16], v: usize, flags: &[bool], vars: &mut [bool])
     requires { v ≤ length vars.old }
     ensures { take v vars.new ≡ vars_settled flags.now (binds_of binds.now v) }
 {
-    let mut x: usize = 0;
-    while x < v {
-        let settled = binding_settled(flags, word(binds, x));
-        vars[x] = settled;
-        x += 1;
+    for x in 0..v {
+        vars[x] = binding_settled(flags, word(binds, x));
     }
 }
 
@@ -228,12 +217,10 @@ fn settle_vars(binds: &[u16], v: usize, flags: &[bool], vars: &mut [bool])
 fn all_set(flags: &[bool]) -> bool
     ensures { result ≡ all_true flags.now }
 {
-    let mut i: usize = 0;
-    while i < flags.len() {
+    for i in 0..flags.len() {
         if !flags[i] {
             return false;
         }
-        i += 1;
     }
     true
 }
@@ -245,14 +232,12 @@ fn acyclic(nodes: &[u16], m: usize, binds: &[u16], v: usize) -> bool
 {
     let mut vars = [false; MAX_VARS];
     let mut flags = [false; MAX_NODES];
-    let mut round: usize = 0;
-    while round < v {
+    for _round in 0..v {
         settle_nodes(nodes, m, &vars[..v], &mut flags);
         settle_vars(binds, v, &flags[..m], &mut vars);
         if all_set(&vars[..v]) {
             return true;
         }
-        round += 1;
     }
     all_set(&vars[..v])
 }

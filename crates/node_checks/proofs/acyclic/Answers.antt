@@ -15,9 +15,9 @@ pub returns-then-all_set : goal.returns-then-all_set
 returns-then-all_set c =
     let a = c.args in
     let l = c.loop-round in
-    grows.settled_here a.nodes.now a.m (binds_of a.binds.now a.v) _ l.round a.v
+    grows.settled_here a.nodes.now a.m (binds_of a.binds.now a.v) _ l._round a.v
     (sym (length_binds a.binds.now a.v)) c.loop-round-test.true
-    (law.one_round a.nodes.now a.binds.now a.m a.v l.round l.vars _ _ l.invariant.3 c.settle_nodes.ensures
+    (law.one_round a.nodes.now a.binds.now a.m a.v l._round l.vars _ _ l.invariant.3 c.settle_nodes.ensures
     c.settle_vars.ensures) _ c.all_set.ensures c.if-all_set.true
 
 pub loop-round-preserved : goal.loop-round-preserved
@@ -27,7 +27,7 @@ loop-round-preserved c =
       omega arith,
       c.settle_vars.auto.vars ∙ l.invariant.1,
       c.settle_nodes.auto.flags ∙ l.invariant.2,
-      law.one_round a.nodes.now a.binds.now a.m a.v l.round l.vars _ _ l.invariant.3 c.settle_nodes.ensures
+      law.one_round a.nodes.now a.binds.now a.m a.v l._round l.vars _ _ l.invariant.3 c.settle_nodes.ensures
           c.settle_vars.ensures,
     )
 
@@ -35,4 +35,4 @@ pub returns : goal.returns
 returns c =
     let a = c.args in
     let l = c.loop-round in
-    law.rounds_over a.nodes.now a.binds.now a.m a.v l.round l.vars (omega arith) l.invariant.3 _ c.all_set-2.ensures
+    law.rounds_over a.nodes.now a.binds.now a.m a.v l._round l.vars (omega arith) l.invariant.3 _ c.all_set-2.ensures

@@ -6,8 +6,5 @@ use Rattle.node_checks.proofs.acyclic.Given as goal
 
 abbrev pub invariant-loop-round : goal.invariant-loop-round
 invariant-loop-round l =
-    (l.round ≤ l.v) × (length l.vars ≡ 512) × (length l.flags ≡ 2048)
-    × (take l.v l.vars ≡ rounds l.nodes l.m (binds_of l.binds l.v) l.round)
-
-abbrev pub decreases-loop-round : goal.decreases-loop-round
-decreases-loop-round l = l.v - l.round
+    (l._round ≤ l.v) × (length l.vars ≡ 512) × (length l.flags ≡ 2048)
+    × (take l.v l.vars ≡ rounds l.nodes l.m (binds_of l.binds l.v) l._round)

@@ -5,6 +5,3 @@ use Rattle.node_checks.proofs.all_set.Given as goal
 
 abbrev pub invariant-loop-i : goal.invariant-loop-i
 invariant-loop-i l = all_true l.flags ≡ all_true (drop l.i l.flags)
-
-abbrev pub decreases-loop-i : goal.decreases-loop-i
-decreases-loop-i l = length l.flags - l.i

@@ -5,6 +5,3 @@ use Rattle.node_checks.proofs.arguments_settled.Given as goal
 
 abbrev pub invariant-loop-j : goal.invariant-loop-j
 invariant-loop-j l = RunLeft l.nodes l.flags l.start l.count l.j
-
-abbrev pub decreases-loop-j : goal.decreases-loop-j
-decreases-loop-j l = l.count - l.j

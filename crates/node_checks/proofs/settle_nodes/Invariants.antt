@@ -6,6 +6,3 @@ use Rattle.node_checks.proofs.settle_nodes.Given as goal
 abbrev pub invariant-loop-i : goal.invariant-loop-i
 invariant-loop-i l =
     (l.i ≤ l.m) × (length l.flags ≡ length l.initial.flags) × (take l.i l.flags ≡ nodes_settled l.nodes l.vars l.i)
-
-abbrev pub decreases-loop-i : goal.decreases-loop-i
-decreases-loop-i l = l.m - l.i

@@ -12,7 +12,7 @@ loop-x-preserved c =
       omega arith,
       length-set l.vars l.x _ ∙ l.invariant.1,
       law.one_more_var a.binds.now a.v a.flags.now l.vars l.x c.loop-x-test.true (omega arith) l.invariant.2 _
-          (c.binding_settled-settled.ensures ∙ ap (λ w. binding_settled a.flags.now (binding_of w)) c.word.ensures),
+          (c.binding_settled.ensures ∙ ap (λ w. binding_settled a.flags.now (binding_of w)) c.word.ensures),
     )
 
 pub returns : goal.returns

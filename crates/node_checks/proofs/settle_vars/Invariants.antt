@@ -8,6 +8,3 @@ abbrev pub invariant-loop-x : goal.invariant-loop-x
 invariant-loop-x l =
     (l.x ≤ l.v) × (length l.vars ≡ length l.initial.vars)
     × (take l.x l.vars ≡ take l.x (vars_settled l.flags (binds_of l.binds l.v)))
-
-abbrev pub decreases-loop-x : goal.decreases-loop-x
-decreases-loop-x l = l.v - l.x
