@@ -300,22 +300,8 @@ fn mark_by(seen: &mut [bool], says: Constraint) -> bool
     ensures { marked seen.new result ≡ mark_by seen.old says }
 {
     match says {
-        Constraint::Sub { lhs: _, rhs: _ } => true,
-        Constraint::Lit { sort: _, kind: _ } => true,
-        Constraint::Disjunction {
-            expr,
-            sort: _,
-            disjuncts: _,
-        } => mark(seen, expr),
-        Constraint::Comprehension {
-            body: _,
-            node: _,
-            element: _,
-        } => true,
-        Constraint::Join {
-            sources: _,
-            target: _,
-        } => true,
+        Constraint::Disjunction { expr, .. } => mark(seen, expr),
+        _ => true,
     }
 }
 
@@ -326,12 +312,10 @@ fn one_disjunction_each(constraints: &[u16], count: u16) -> bool
     ensures { result ≡ no_two (disjunctions (constraint_rows constraints.now count)) }
 {
     let mut seen = [false; MAX_EXPRS];
-    let mut i: u16 = 0;
-    while i < count {
+    for i in 0..count {
         if !mark_by(&mut seen, constraint_at(constraints, i)) {
             return false;
         }
-        i += 1;
     }
     true
 }
@@ -344,13 +328,10 @@ fn one_name_each(names: &[u16], given: Given) -> bool
     ensures { result ≡ no_two (keys (problem_call given [] names.now [] [] [])) }
 {
     let mut seen = [false; MAX_EXPRS];
-    let count = given.names;
-    let mut i: usize = 0;
-    while i < count {
+    for i in 0..given.names {
         if !mark(&mut seen, ExprId(word(names, NAME_WORDS * i))) {
             return false;
         }
-        i += 1;
     }
     true
 }
@@ -360,19 +341,8 @@ fn has_sources(says: Constraint) -> bool
     ensures { result ≡ has_sources says }
 {
     match says {
-        Constraint::Sub { lhs: _, rhs: _ } => true,
-        Constraint::Lit { sort: _, kind: _ } => true,
-        Constraint::Disjunction {
-            expr: _,
-            sort: _,
-            disjuncts: _,
-        } => true,
-        Constraint::Comprehension {
-            body: _,
-            node: _,
-            element: _,
-        } => true,
-        Constraint::Join { sources, target: _ } => 0 < sources.count,
+        Constraint::Join { sources, .. } => 0 < sources.count,
+        _ => true,
     }
 }
 
@@ -381,12 +351,10 @@ fn has_sources(says: Constraint) -> bool
 fn joins_fine(constraints: &[u16], count: u16) -> bool
     ensures { result ≡ joins_fine (constraint_rows constraints.now count) }
 {
-    let mut i: u16 = 0;
-    while i < count {
+    for i in 0..count {
         if !has_sources(constraint_at(constraints, i)) {
             return false;
         }
-        i += 1;
     }
     true
 }
@@ -396,19 +364,9 @@ fn components_of(says: Constraint) -> u16
     ensures { result ≡ components_of says }
 {
     match says {
-        Constraint::Sub { lhs: _, rhs: _ } => 1,
-        Constraint::Lit { sort: _, kind: _ } => 1,
-        Constraint::Disjunction {
-            expr: _,
-            sort: _,
-            disjuncts: _,
-        } => 0,
-        Constraint::Comprehension {
-            body: _,
-            node: _,
-            element: _,
-        } => 0,
-        Constraint::Join { sources, target: _ } => sources.count,
+        Constraint::Sub { .. } | Constraint::Lit { .. } => 1,
+        Constraint::Join { sources, .. } => sources.count,
+        Constraint::Disjunction { .. } | Constraint::Comprehension { .. } => 0,
     }
 }
 
@@ -417,11 +375,9 @@ pub fn components(constraints: &[u16], count: u16) -> usize
     ensures { result ≡ componentsIn (constraint_rows constraints.now count) }
 {
     let mut sum: usize = 0;
-    let mut i: u16 = 0;
-    while i < count {
+    for i in 0..count {
         let more = components_of(constraint_at(constraints, i));
         sum += more as usize;
-        i += 1;
     }
     sum
 }
@@ -431,22 +387,8 @@ fn disjunctions_of(says: Constraint) -> u16
     ensures { result ≡ length (disjunction_for says []) }
 {
     match says {
-        Constraint::Sub { lhs: _, rhs: _ } => 0,
-        Constraint::Lit { sort: _, kind: _ } => 0,
-        Constraint::Disjunction {
-            expr: _,
-            sort: _,
-            disjuncts: _,
-        } => 1,
-        Constraint::Comprehension {
-            body: _,
-            node: _,
-            element: _,
-        } => 0,
-        Constraint::Join {
-            sources: _,
-            target: _,
-        } => 0,
+        Constraint::Disjunction { .. } => 1,
+        _ => 0,
     }
 }
 
@@ -455,11 +397,9 @@ pub fn disjunction_count(constraints: &[u16], count: u16) -> usize
     ensures { result ≡ length (disjunctions (constraint_rows constraints.now count)) }
 {
     let mut sum: usize = 0;
-    let mut i: u16 = 0;
-    while i < count {
+    for i in 0..count {
         let more = disjunctions_of(constraint_at(constraints, i));
         sum += more as usize;
-        i += 1;
     }
     sum
 }

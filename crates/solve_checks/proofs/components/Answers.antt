@@ -20,4 +20,4 @@ returns c =
     let a = c.args in
     let l = c.loop-i in
     rows.all_summed components components_of rows.no_components rows.components_more (constraint_at a.constraints.now)
-    a.count l.i l.sum l.invariant.0 c.loop-i-test.false
+    a.count l.i l.sum l.invariant.0 (omega arith)

@@ -10,6 +10,3 @@ invariant-loop-i l =
     rows.Summed components components_of rows.no_components rows.components_more (constraint_at l.constraints) l.count
     l.i l.sum
     × (l.sum ≤ 65535 * l.i)
-
-abbrev pub decreases-loop-i : goal.decreases-loop-i
-decreases-loop-i l = l.count - l.i

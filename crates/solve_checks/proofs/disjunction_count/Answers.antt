@@ -19,4 +19,4 @@ returns c =
     let a = c.args in
     let l = c.loop-i in
     rows.all_summed rows.choice_count rows.choice_count_of rows.no_choices rows.choices_more
-    (constraint_at a.constraints.now) a.count l.i l.sum l.invariant.0 c.loop-i-test.false
+    (constraint_at a.constraints.now) a.count l.i l.sum l.invariant.0 (omega arith)

@@ -9,6 +9,3 @@ invariant-loop-i l =
     rows.Summed rows.choice_count rows.choice_count_of rows.no_choices rows.choices_more (constraint_at l.constraints)
     l.count l.i l.sum
     × (l.sum ≤ 65535 * l.i)
-
-abbrev pub decreases-loop-i : goal.decreases-loop-i
-decreases-loop-i l = l.count - l.i

@@ -6,6 +6,3 @@ use Rattle.solve_checks.proofs.joins_fine.Given as goal
 
 abbrev pub invariant-loop-i : goal.invariant-loop-i
 invariant-loop-i l = rows.Joined (constraint_at l.constraints) l.count l.i
-
-abbrev pub decreases-loop-i : goal.decreases-loop-i
-decreases-loop-i l = l.count - l.i

@@ -6,6 +6,3 @@ use Rattle.solve_checks.proofs.one_disjunction_each.Given as goal
 
 abbrev pub invariant-loop-i : goal.invariant-loop-i
 invariant-loop-i l = fresh.DisjunctionsMarked (constraint_at l.constraints) l.count l.seen l.i
-
-abbrev pub decreases-loop-i : goal.decreases-loop-i
-decreases-loop-i l = l.count - l.i

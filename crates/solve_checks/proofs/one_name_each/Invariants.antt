@@ -4,7 +4,4 @@ use Rattle.solve_checks.proofs.Fresh as fresh
 use Rattle.solve_checks.proofs.one_name_each.Given as goal
 
 abbrev pub invariant-loop-i : goal.invariant-loop-i
-invariant-loop-i l = fresh.NumbersMarked (λ k. get_or l.names (3 * k) 0) l.count l.seen l.i
-
-abbrev pub decreases-loop-i : goal.decreases-loop-i
-decreases-loop-i l = l.count - l.i
+invariant-loop-i l = fresh.NumbersMarked (λ k. get_or l.names (3 * k) 0) l.i-end l.seen l.i
