@@ -113,7 +113,8 @@ fn nodes_fine(nodes: &[u16], m: usize, d: usize, n: usize, v: usize) -> bool
 fn node_fine(nodes: &[u16], d: usize, n: usize, v: usize, id: NodeId) -> bool
     ensures { result ≡ node_fine nodes.now d n v id.0 }
 {
-    kind_fine(word(nodes, ROW_WORDS * (id.0 as usize))) && parts_fine(nodes, d, n, v, id, node(nodes, id))
+    kind_fine(word(nodes, ROW_WORDS * (id.0 as usize)))
+        && parts_fine(nodes, d, n, v, id, node(nodes, id))
 }
 
 // Check 6: each of the v bindings is free or names a place.

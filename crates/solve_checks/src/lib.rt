@@ -151,8 +151,11 @@ fn overload_fine(overloads: &[u16], given: Given, start: u16, j: u16) -> bool
     ensures { result ≡ overload_fine (problem_call given [] [] [] overloads.now []) (start + j) }
 {
     let row = OVERLOAD_WORDS * ((start as usize) + (j as usize));
-    target_fine(given, word(overloads, row), SortId(word(overloads, row + 1)))
-        && placed(given, InferSortId(word(overloads, row + 2)))
+    target_fine(
+        given,
+        word(overloads, row),
+        SortId(word(overloads, row + 1)),
+    ) && placed(given, InferSortId(word(overloads, row + 2)))
 }
 
 // Whether a run is inside a list of so many.
@@ -211,7 +214,9 @@ fn disjunction_fine(
         ≡ constraint_fine (problem_call given [] [] [] overloads.now []) 0
         (Constraint.Disjunction expr sort disjuncts) }
 {
-    (expr.0 as usize) < given.exprs && placed(given, sort) && overloads_fine(overloads, given, disjuncts)
+    (expr.0 as usize) < given.exprs
+        && placed(given, sort)
+        && overloads_fine(overloads, given, disjuncts)
 }
 
 // Comprehension: two places, and a sort of the list.
@@ -480,7 +485,13 @@ fn test_rows(
 }
 
 // Checks 11, 12 and 14: the first that fails.
-fn test_last(sorts: &[u16], nodes: &[u16], constraints: &[u16], given: Given, room: Room) -> Result<(), Refusal>
+fn test_last(
+    sorts: &[u16],
+    nodes: &[u16],
+    constraints: &[u16],
+    given: Given,
+    room: Room,
+) -> Result<(), Refusal>
     requires { (given.exprs ≤ max_exprs) × (given.constraints ≤ max_constraints) }
     ensures { (o : Outs room)
         → result

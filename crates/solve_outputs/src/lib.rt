@@ -47,8 +47,7 @@ use words::{BIT_8, BIT_24, BIT_40, BIT_52, copy, put, word};
 fn clear(words: &mut [u16])
     ensures { words.new ≡ cleared words.old }
 {
-    let end = words.len();
-    words::clear(words, 0, end);
+    words.fill(0);
 }
 
 // Zero past the nodes and argument entries that the call began with, and these as they are.
@@ -79,18 +78,13 @@ fn write_measure(measure: &mut [u16], scratch: &[u16], sizes: Sizes)
 }
 
 // Of a disjunction the row of its choice, after k of them. How many there are then.
+#[tactic(auto, unfolding(crate::specs::Inner::Written::choice_by))]
 fn write_choice(choices: &mut [u16], scratch: &[u16], says: Constraint, k: u16) -> u16
     requires { k ≤ max_constraints }
     ensures { walked choices.new result ≡ choice_by scratch.now says choices.old k }
 {
     match says {
-        Constraint::Sub { lhs: _, rhs: _ } => k,
-        Constraint::Lit { sort: _, kind: _ } => k,
-        Constraint::Disjunction {
-            expr,
-            sort: _,
-            disjuncts: _,
-        } => {
+        Constraint::Disjunction { expr, .. } => {
             let row = CHOICE_WORDS * (k as usize);
             put(choices, row, expr.0);
             put(
@@ -100,15 +94,7 @@ fn write_choice(choices: &mut [u16], scratch: &[u16], says: Constraint, k: u16) 
             );
             k + 1
         }
-        Constraint::Comprehension {
-            body: _,
-            node: _,
-            element: _,
-        } => k,
-        Constraint::Join {
-            sources: _,
-            target: _,
-        } => k,
+        _ => k,
     }
 }
 
@@ -122,12 +108,9 @@ fn write_choices(choices: &mut [u16], scratch: &[u16], lists: &[u16], sizes: Siz
         (part best_choices_at sizes.disjunctions scratch.now)))
         choices.old }
 {
-    let count = sizes.constraints;
     let mut k: u16 = 0;
-    let mut i: u16 = 0;
-    while i < count {
+    for i in 0..sizes.constraints {
         k = write_choice(choices, scratch, constraint_at(lists, i), k);
-        i += 1;
     }
 }
 
@@ -170,13 +153,11 @@ fn write_sorts(typing: &mut [u16], scratch: &[u16], exprs: u16)
     ensures { typing.new
         ≡ sets typing.old 0 (named_rows no_name 0 (part best_sorts_at exprs scratch.now)) }
 {
-    let mut x: u16 = 0;
-    while x < exprs {
+    for x in 0..exprs {
         let row = TYPING_WORDS * (x as usize);
         put(typing, row, word(scratch, BEST_SORTS_AT + (x as usize)));
         put(typing, row + 1, 0);
         put(typing, row + 2, 0);
-        x += 1;
     }
 }
 
@@ -186,9 +167,7 @@ fn write_base_names(typing: &mut [u16], names: &[u16], name_count: usize, exprs:
     ensures { typing.new
         ≡ base_named exprs (rows_from (base_name_at names.now) 0 name_count) typing.old }
 {
-    let mut i = name_count;
-    while 0 < i {
-        i -= 1;
+    for i in (0..name_count).rev() {
         let row = NAME_WORDS * i;
         let kind = word(names, row + 1);
         let sort = word(names, row + 2);
@@ -217,6 +196,7 @@ fn chosen_target(lists: &[u16], overloads: u16, run: Run, i: u16) -> NameTarget
 }
 
 // Of a disjunction the name that its choice gives, which is the last of k. How many come before it.
+#[tactic(auto, unfolding(crate::specs::Inner::Written::name_by_of))]
 fn name_choice(
     typing: &mut [u16],
     scratch: &[u16],
@@ -232,12 +212,10 @@ fn name_choice(
         scratch.now says typing.old k }
 {
     match says {
-        Constraint::Sub { lhs: _, rhs: _ } => k,
-        Constraint::Lit { sort: _, kind: _ } => k,
         Constraint::Disjunction {
             expr,
-            sort: _,
             disjuncts,
+            ..
         } => {
             let before = k - 1;
             let i = word(scratch, BEST_CHOICES_AT + (before as usize));
@@ -249,15 +227,7 @@ fn name_choice(
             );
             before
         }
-        Constraint::Comprehension {
-            body: _,
-            node: _,
-            element: _,
-        } => k,
-        Constraint::Join {
-            sources: _,
-            target: _,
-        } => k,
+        _ => k,
     }
 }
 
@@ -270,9 +240,7 @@ fn write_chosen_names(typing: &mut [u16], scratch: &[u16], lists: &[u16], sizes:
         scratch.now (rest_from lists.now sizes 0) 0 typing.old }
 {
     let mut k = sizes.disjunctions;
-    let mut i = sizes.constraints;
-    while 0 < i {
-        i -= 1;
+    for i in (0..sizes.constraints).rev() {
         k = name_choice(typing, scratch, lists, sizes, constraint_at(lists, i), k);
     }
 }

@@ -1,4 +1,5 @@
 -- An expression more stores its row. Assumes nothing.
+use Rattle.std.proofs.Common.{arith}
 use Rattle.solve_outputs.proofs.Naming.{sorts_begin, sorts_end, sorts_go_on}
 use Rattle.solve_outputs.proofs.write_sorts.Goals as goal
 
@@ -16,4 +17,4 @@ pub returns : goal.returns
 returns c =
     let a = c.args in
     let l = c.loop-x in
-    sorts_end a.scratch.now a.typing.now a.exprs l.typing l.x l.invariant c.loop-x-test.false
+    sorts_end a.scratch.now a.typing.now a.exprs l.typing l.x l.invariant (omega arith)

@@ -5,6 +5,3 @@ use Rattle.solve_outputs.proofs.write_sorts.Given as goal
 
 abbrev pub invariant-loop-x : goal.invariant-loop-x
 invariant-loop-x l = SortsLeft l.scratch l.initial.typing l.exprs l.typing l.x
-
-abbrev pub decreases-loop-x : goal.decreases-loop-x
-decreases-loop-x l = l.exprs - l.x
