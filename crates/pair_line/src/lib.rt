@@ -29,7 +29,7 @@ use sort_writer::put_sort;
 use text_out::{Out, put_bytes};
 
 // How much of the sort storage is in use, and where in the buffer the next byte goes.
-#[derive(Clone, Copy, Drop)]
+#[derive(Clone, Copy, Debug, PartialEq, Eq)]
 struct Used {
     counts: Counts,
     at: usize,

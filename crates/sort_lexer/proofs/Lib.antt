@@ -1,6 +1,5 @@
 -- How tokens are found in a line.
 pub mod Places
-pub mod Runs
 pub mod RunEnd
 pub mod Tokens
 pub mod Words

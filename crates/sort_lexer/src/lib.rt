@@ -110,13 +110,6 @@ fn token_at(line: &[u8], at: usize) -> Lexeme
     }
 }
 
-// Two lists of bytes are the same.
-pub fn same_bytes(a: &[u8], b: &[u8]) -> bool
-    ensures { result ≡ same_bytes a.now b.now }
-{
-    a == b
-}
-
 impl Word {
     // How the word is spelled.
     #[tactic(auto, unfolding(crate::specs::Inner::Meant::text_of))]
@@ -133,7 +126,7 @@ impl Word {
     fn is_spelled(self, bytes: &[u8]) -> bool
         ensures { result ≡ same_bytes bytes.now (text_of self) }
     {
-        same_bytes(bytes, self.text())
+        bytes == self.text()
     }
 
     // The word that bytes spell.

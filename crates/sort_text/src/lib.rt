@@ -37,7 +37,7 @@ pub fn op_word(op: ComplexSort) -> &'static [u8]
 
 // What reading a line answers: the sort of the line, stored, with the counts after it; that the line is no sort, with
 // the position of its unread end (20); or that a new sort had no room (15).
-#[derive(Clone, Copy, Drop)]
+#[derive(Clone, Copy, Debug, PartialEq, Eq)]
 pub enum Read {
     Refused(Refusal),
     NotASort(usize),
@@ -46,7 +46,7 @@ pub enum Read {
 }
 
 // What writing a sort answers: the number of bytes of its text.
-#[derive(Clone, Copy, Drop)]
+#[derive(Clone, Copy, Debug, PartialEq, Eq)]
 pub enum Written {
     Refused(Refusal),
     Text(usize),
