@@ -19,6 +19,7 @@ use list_memory::{
 use list_solve::ask;
 use list_verdict::{Typing, put_new_sorts, put_typing, put_verdict};
 use resolved_sort::SORT_WORDS;
+use sort_interner::Sorts;
 use text_out::Out;
 use words::copy;
 
@@ -52,7 +53,11 @@ fn tell(answer: Solved, given: u16, exprs: u16, told: &Told<'_>, out: &mut Out<'
                 chosen: made.choices,
             };
             put_verdict(0, out);
-            put_typing(told.sorts, made.counts, &typing, out);
+            let sorts = Sorts {
+                words: told.sorts,
+                counts: made.counts,
+            };
+            put_typing(&sorts, &typing, out);
             put_new_sorts(told.sorts, given, made.counts.sorts, out);
         }
     }
@@ -68,7 +73,13 @@ fn ask_and_tell(list: &[u16], told: &mut Told<'_>, out: &mut Out<'_>)
         told.old.choices.now)) }
 {
     let answer = ask(list, told);
-    tell(answer, count_of(list, Table::Sorts), count_of(list, Table::Exprs), told, out);
+    tell(
+        answer,
+        count_of(list, Table::Sorts),
+        count_of(list, Table::Exprs),
+        told,
+        out,
+    );
 }
 
 // The solver's answer about a list as text, as far as the buffer has room. Ruled out: an answer about other lengths than

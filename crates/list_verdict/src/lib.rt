@@ -4,7 +4,6 @@
 #![tactic(auto, using(text_out::proofs::Outs::put_parts))]
 
 ghost use Rattle.std.specs.Prelude.{◌≡◌, ◌-◌};
-ghost use Rattle.resolved_sort.specs.Rows.{Checked};
 ghost use Rattle.resolved_sort.specs.Entries.{tree_at};
 ghost use Rattle.text_out.specs.Quoted.{byte_of};
 ghost use Rattle.text_out.specs.Outs.{then_put};
@@ -16,8 +15,8 @@ ghost use Rattle.list_verdict.specs.Inner.Room.{SizesOf};
 ghost use Rattle.list_verdict.specs.Inner.Row.{row_text};
 
 use inference::ExprId;
-use resolved_sort::{Counts, ENTRIES_AT, MAX_SORTS, ResolvedSort, Run, SortId};
-use sort_interner::get;
+use resolved_sort::{ENTRIES_AT, MAX_SORTS, ResolvedSort, Run, SortId};
+use sort_interner::{Sorts, get};
 use sort_text::{MAX_LINE, op_word, sort_word};
 use sort_writer::{fill_sizes, put_sort, size_at};
 use text_out::Out;
@@ -37,10 +36,9 @@ pub struct Typing<'a> {
 // Checked sorts, and the sizes of their texts.
 #[derive(Clone, Copy)]
 struct SortTexts<'a> {
-    sorts: &'a [u16],
-    counts: Counts,
+    sorts: Sorts<'a>,
     sizes: &'a [usize],
-    ghost sized: { SizesOf sorts.now counts sizes.now },
+    ghost sized: { SizesOf sorts.words.now sorts.counts sizes.now },
 }
 
 // What a code says.
@@ -242,7 +240,7 @@ pub fn put_new_sorts(sorts: &[u16], given: u16, count: u16, out: &mut Out<'_>)
 impl SortTexts<'_> {
     // Whether a sort has a text as long as a line may be.
     fn is_short(&self, id: SortId) -> bool
-        ensures { result ≡ short (tree_at self.now.sorts.now self.now.counts.sorts id.0) }
+        ensures { result ≡ short (tree_at self.now.sorts.words.now self.now.sorts.counts.sorts id.0) }
     {
         let size = size_at(self.sizes, id);
         0 < size && size <= MAX_LINE
@@ -251,11 +249,11 @@ impl SortTexts<'_> {
     // A sort in mCRL2 spelling, by way of a text of its own; its number where it has none, or one above MAX_LINE bytes.
     #[tactic(auto, unfolding(crate::specs::Text::sort_text))]
     fn put_sort_text(&self, id: SortId, out: &mut Out<'_>)
-        ensures { out.new ≡ then_put out.old (sort_text self.now.sorts.now self.now.counts.sorts id.0) }
+        ensures { out.new ≡ then_put out.old (sort_text self.now.sorts.words.now self.now.sorts.counts.sorts id.0) }
     {
         if self.is_short(id) {
             let mut text = [0u8; MAX_LINE];
-            let end = put_sort(self.sorts, self.counts, id, &mut text, 0);
+            let end = put_sort(self.sorts.words, self.sorts.counts, id, &mut text, 0);
             out.put_text(&text[..end]);
         } else {
             put_number_of(b's', id.0, out);
@@ -266,7 +264,7 @@ impl SortTexts<'_> {
     #[tactic(auto, using(text_out::proofs::Outs::put_parts), unfolding(crate::specs::Text::target_text))]
     fn put_target(&self, kind: u16, id: SortId, out: &mut Out<'_>)
         ensures { out.new ≡ then_put out.old
-            (target_text self.now.sorts.now self.now.counts.sorts kind id.0) }
+            (target_text self.now.sorts.words.now self.now.sorts.counts.sorts kind id.0) }
     {
         match kind {
             1 => out.put_text(b", variable"),
@@ -283,7 +281,7 @@ impl SortTexts<'_> {
     #[tactic(auto, using(text_out::proofs::Outs::put_parts), unfolding(crate::specs::Text::expr_line))]
     fn put_expr(&self, typing: &Typing<'_>, expr: ExprId, out: &mut Out<'_>)
         ensures { out.new ≡ then_put out.old
-            (expr_line self.now.sorts.now self.now.counts.sorts typing.now.rows.now expr.0) }
+            (expr_line self.now.sorts.words.now self.now.sorts.counts.sorts typing.now.rows.now expr.0) }
     {
         let row = 3 * (expr.0 as usize);
         put_expr_name(expr, out);
@@ -300,17 +298,15 @@ impl SortTexts<'_> {
 
 // The lines of a typing. The sizes of all sorts are found once.
 #[tactic(auto, using(text_out::proofs::Outs::put_parts), unfolding(crate::specs::Text::typing_text, crate::specs::Text::rows_text))]
-pub fn put_typing(sorts: &[u16], counts: Counts, typing: &Typing<'_>, out: &mut Out<'_>)
-    requires { Checked sorts.now counts.sorts counts.entries }
+pub fn put_typing(sorts: &Sorts<'_>, typing: &Typing<'_>, out: &mut Out<'_>)
     ensures { out.new ≡ then_put out.old
-        (typing_text sorts.now counts.sorts typing.now.rows.now typing.now.measure.now
+        (typing_text sorts.now.words.now sorts.now.counts.sorts typing.now.rows.now typing.now.measure.now
         typing.now.choices.now typing.now.exprs typing.now.components typing.now.chosen) }
 {
     let mut sizes = [0usize; MAX_SORTS];
-    fill_sizes(sorts, counts.sorts as usize, &mut sizes);
+    fill_sizes(sorts.words, sorts.counts.sorts as usize, &mut sizes);
     let texts = SortTexts {
-        sorts,
-        counts,
+        sorts: *sorts,
         sizes: &sizes,
     };
     for i in 0..typing.exprs {

@@ -5,5 +5,5 @@ use Rattle.list_verdict.proofs.put_typing.Given as goal
 
 abbrev pub invariant-loop-i : goal.invariant-loop-i
 invariant-loop-i l =
-    let row = expr_line l.fn.sorts l.fn.counts.sorts l.typing.rows.now in
+    let row = expr_line l.fn.sorts.words.now l.fn.sorts.counts.sorts l.typing.rows.now in
     RowsLeft row (rows_text row l.typing.exprs 0) l.typing.exprs l.initial.out l.out l.i
