@@ -23,6 +23,7 @@ use text_out::Out;
 use words::word;
 
 // What a typing hands out: the rows of its expressions, the components of its measure, and the chosen overloads.
+// kept: counts beside slices, since a count is a word of the call, and what is lent may be shorter.
 #[derive(Clone, Copy)]
 pub struct Typing<'a> {
     pub rows: &'a [u16],
@@ -261,6 +262,7 @@ impl SortTexts<'_> {
     }
 
     // What a name resolved to.
+    // kept: kinds by number, since the row is what the C interface hands out.
     #[tactic(auto, using(text_out::proofs::Outs::put_parts), unfolding(crate::specs::Text::target_text))]
     fn put_target(&self, kind: u16, id: SortId, out: &mut Out<'_>)
         ensures { out.new ≡ then_put out.old
